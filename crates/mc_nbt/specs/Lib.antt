@@ -1,0 +1,4 @@
+pub mod Reading
+pub mod Format
+pub mod Combine
+pub mod Numbers

@@ -1,5 +1,6 @@
-ghost use Rattle.std.specs.Prelude.{◌≡◌};
-ghost use Rattle.mc_nbt.specs.declared.fault.ReadFault.TheVariants.{NoMemory as no_memory, Field as field_fault};
+ghost use Rattle.std.specs.Prelude.{◌≡◌, ◌-◌};
+ghost use Rattle.mc_nbt.specs.declared.fault.ReadFault.TheVariants as read_fault;
+ghost use Rattle.mc_nbt.specs.declared.fault.ReadError.TheVariants as read_error;
 
 use crate::NoMemory;
 
@@ -24,6 +25,53 @@ pub enum Kind {
     BadLength,
 }
 
+/// The first fault of some bytes, with its place counted from their end: what reading in order meets.
+#[derive(Clone, Copy, Debug, PartialEq, Eq)]
+pub struct Stop {
+    /// What is wrong.
+    pub kind: Kind,
+    /// How many bytes are left where the innermost field that fails begins.
+    pub left: usize,
+}
+
+impl Stop {
+    /// The same fault with its place counted from the front, in a list of `len` bytes.
+    pub fn within(self, len: usize) -> FieldFault
+        ensures kind { result.kind ≡ self.kind }
+        ensures at { result.at ≡ len - self.left }
+    {
+        FieldFault {
+            kind: self.kind,
+            at: len.saturating_sub(self.left),
+        }
+    }
+}
+
+/// Why a value that takes memory was not read.
+#[derive(Clone, Copy, Debug, PartialEq, Eq)]
+pub enum ReadError {
+    /// The bytes do not spell it.
+    Stop(Stop),
+    /// There was no memory for it.
+    NoMemory,
+}
+
+impl From<Stop> for ReadError {
+    ghost from_gives = { λ stop error. error ≡ read_error.Stop stop };
+
+    fn from(stop: Stop) -> ReadError {
+        ReadError::Stop(stop)
+    }
+}
+
+impl From<NoMemory> for ReadError {
+    ghost from_gives = { λ _ error. error ≡ read_error.NoMemory };
+
+    fn from(_refusal: NoMemory) -> ReadError {
+        ReadError::NoMemory
+    }
+}
+
 /// The first fault of some bytes.
 #[derive(Clone, Copy, Debug, PartialEq, Eq)]
 pub struct FieldFault {
@@ -43,7 +91,7 @@ pub enum ReadFault {
 }
 
 impl From<NoMemory> for ReadFault {
-    ghost from_gives = { λ _ fault. fault ≡ no_memory };
+    ghost from_gives = { λ _ fault. fault ≡ read_fault.NoMemory };
 
     fn from(_refusal: NoMemory) -> ReadFault {
         ReadFault::NoMemory
@@ -51,7 +99,7 @@ impl From<NoMemory> for ReadFault {
 }
 
 impl From<FieldFault> for ReadFault {
-    ghost from_gives = { λ fault result. result ≡ field_fault fault };
+    ghost from_gives = { λ fault result. result ≡ read_fault.Field fault };
 
     fn from(fault: FieldFault) -> ReadFault {
         ReadFault::Field(fault)

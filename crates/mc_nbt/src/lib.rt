@@ -4,7 +4,9 @@
 mod bytes;
 mod fault;
 mod memory;
+mod reading;
 
 pub use bytes::{Octets, Text};
-pub use fault::{FieldFault, Kind, ReadFault};
+pub use fault::{FieldFault, Kind, ReadError, ReadFault, Stop};
 pub use memory::NoMemory;
+pub use reading::Cursor;
