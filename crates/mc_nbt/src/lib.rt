@@ -5,8 +5,10 @@ mod bytes;
 mod fault;
 mod memory;
 mod reading;
+mod writing;
 
 pub use bytes::{Octets, Text};
 pub use fault::{FieldFault, Kind, ReadError, ReadFault, Stop};
 pub use memory::NoMemory;
 pub use reading::Cursor;
+pub use writing::{write_octets, write_u8, write_u16, write_u32, write_u64};

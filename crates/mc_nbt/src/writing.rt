@@ -1,0 +1,54 @@
+ghost use Rattle.std.specs.Prelude.{◌≡◌, ◌++◌, OnOk, OnErr};
+ghost use Rattle.std.specs.Int.{w8, w16, w32, w64};
+ghost use Rattle.mc_nbt.specs.Numbers.{number_spelling};
+
+use crate::NoMemory;
+
+/// Appends bytes as they are. Without memory `out` is as before.
+pub fn write_octets(bytes: &[u8], out: &mut Vec<u8>) -> Result<(), NoMemory>
+    ensures ok { OnOk result (out.new.items ≡ out.old.items ++ bytes.now) }
+    ensures err { OnErr result (out.new.items ≡ out.old.items) }
+{
+    out.extend_from_slice(bytes)?;
+    Ok(())
+}
+
+/// Appends a number of one byte. Without memory `out` is as before.
+#[tactic(auto, unfolding(crate::specs::Numbers::number_spelling))]
+pub fn write_u8(n: u8, out: &mut Vec<u8>) -> Result<(), NoMemory>
+    ensures ok { OnOk result (out.new.items ≡ out.old.items ++ number_spelling w8 n) }
+    ensures err { OnErr result (out.new.items ≡ out.old.items) }
+{
+    out.extend_from_slice(&n.to_be_bytes())?;
+    Ok(())
+}
+
+/// Appends a number of two bytes, the high one first. Without memory `out` is as before.
+#[tactic(auto, unfolding(crate::specs::Numbers::number_spelling))]
+pub fn write_u16(n: u16, out: &mut Vec<u8>) -> Result<(), NoMemory>
+    ensures ok { OnOk result (out.new.items ≡ out.old.items ++ number_spelling w16 n) }
+    ensures err { OnErr result (out.new.items ≡ out.old.items) }
+{
+    out.extend_from_slice(&n.to_be_bytes())?;
+    Ok(())
+}
+
+/// Appends a number of four bytes, the highest first. Without memory `out` is as before.
+#[tactic(auto, unfolding(crate::specs::Numbers::number_spelling))]
+pub fn write_u32(n: u32, out: &mut Vec<u8>) -> Result<(), NoMemory>
+    ensures ok { OnOk result (out.new.items ≡ out.old.items ++ number_spelling w32 n) }
+    ensures err { OnErr result (out.new.items ≡ out.old.items) }
+{
+    out.extend_from_slice(&n.to_be_bytes())?;
+    Ok(())
+}
+
+/// Appends a number of eight bytes, the highest first. Without memory `out` is as before.
+#[tactic(auto, unfolding(crate::specs::Numbers::number_spelling))]
+pub fn write_u64(n: u64, out: &mut Vec<u8>) -> Result<(), NoMemory>
+    ensures ok { OnOk result (out.new.items ≡ out.old.items ++ number_spelling w64 n) }
+    ensures err { OnErr result (out.new.items ≡ out.old.items) }
+{
+    out.extend_from_slice(&n.to_be_bytes())?;
+    Ok(())
+}
