@@ -24,6 +24,10 @@ ok_is E x y e = cc
 pub Found-is : {A : Type 0} (spells : A → List ℕ → Type 0) (bytes : List ℕ) (x y : A × List ℕ) → x ≡ y → Found spells bytes x → Found spells bytes y
 Found-is {A} spells bytes x y e found = let P : A × List ℕ → Type 0 = λ z. Found spells bytes z in subst P e found
 
+-- two fronts, one behind the other, are one front
+pub joined : (bytes front middle back rest : List ℕ) → bytes ≡ front ++ middle → middle ≡ back ++ rest → bytes ≡ (front ++ back) ++ rest
+joined bytes front middle back rest first second = first ∙ ap (λ (t : List ℕ). front ++ t) second ∙ sym (append_assoc front back rest)
+
 -- ---- one after another; how the second is spelled may depend on the first value
 
 pub record Sequence {A B : Type 0} (first : A → List ℕ → Type 0) (second : A → B → List ℕ → Type 0) (value : A × B) (bytes : List ℕ) : Type 0 where
@@ -32,6 +36,10 @@ pub record Sequence {A B : Type 0} (first : A → List ℕ → Type 0) (second :
   pub parts : bytes ≡ front ++ back
   pub first_spelled : first value.0 front
   pub second_spelled : second value.0 value.1 back
+
+-- two spellings, one behind the other
+pub Sequence-joined : {A B : Type 0} (first : A → List ℕ → Type 0) (second : A → B → List ℕ → Type 0) (a : A) (b : B) (front back : List ℕ) → first a front → second a b back → Sequence first second (a, b) (front ++ back)
+Sequence-joined first second a b front back s t = record { front = front; back = back; parts = refl; first_spelled = s; second_spelled = t }
 
 abbrev pub sequence_read : {A B : Type 0} → (List ℕ → Field A) → (A → List ℕ → Field B) → List ℕ → Field (A × B)
 sequence_read first second bytes = do
@@ -47,8 +55,8 @@ sequence_found {A} {B} fs fr gs gr first second bytes x fits e =
     let g = second p.0.0 p.0.1 q.0 f.rest_fits q.1 in
     Found-is (Sequence fs gs) bytes ((p.0.0, q.0.0), q.0.1) x (ok_is Stop _ _ q.2) (record {
       front = f.front ++ g.front;
-      parts = f.parts ∙ ap (λ (t : List ℕ). f.front ++ t) g.parts ∙ sym (append_assoc f.front g.front q.0.1);
-      spelled = record { front = f.front; back = g.front; parts = refl; first_spelled = f.spelled; second_spelled = g.spelled };
+      parts = joined bytes f.front p.0.1 g.front q.0.1 f.parts g.parts;
+      spelled = Sequence-joined fs gs p.0.0 q.0.0 f.front g.front f.spelled g.spelled;
       rest_fits = g.rest_fits;
     })
 

@@ -10,5 +10,5 @@ mod writing;
 pub use bytes::{Octets, Text};
 pub use fault::{FieldFault, Kind, ReadError, ReadFault, Stop};
 pub use memory::NoMemory;
-pub use reading::Cursor;
+pub use reading::{Cursor, placed};
 pub use writing::{write_octets, write_u8, write_u16, write_u32, write_u64};

@@ -1,9 +1,10 @@
-ghost use Rattle.std.specs.Prelude.{◌≡◌, ◌-◌, length};
+ghost use Rattle.std.specs.Prelude.{◌≡◌, ◌≤◌, length, drop};
 ghost use Rattle.std.specs.Int.{w8, w16, w32, w64};
 ghost use Rattle.mc_nbt.specs.Reading.{Yields, stop_at};
 ghost use Rattle.mc_nbt.specs.Numbers.{octets_read, number_read};
+ghost use Rattle.mc_nbt.specs.Placed.{placed, with_rest};
 
-use crate::{Kind, Stop};
+use crate::{FieldFault, Kind, Stop};
 use std::marker::Model;
 
 /// The bytes that are still to be read, field after field. Contracts see it as their list.
@@ -28,6 +29,16 @@ impl<'a> Cursor<'a> {
         ensures { result ≡ bytes.now }
     {
         Cursor { rest: bytes }
+    }
+
+    /// A cursor at an offset of some bytes.
+    pub fn at(bytes: &'a [u8], at: usize) -> Cursor<'a>
+        requires { at ≤ length bytes.now }
+        ensures { result ≡ drop at bytes.now }
+    {
+        Cursor {
+            rest: bytes.split_at(at).1,
+        }
     }
 
     /// The bytes that are left.
@@ -58,6 +69,14 @@ impl<'a> Cursor<'a> {
         let (front, rest) = self.rest.split_at(n);
         self.rest = rest;
         Ok(front)
+    }
+
+    /// Takes `n` bytes off the front, which are known to be there.
+    pub fn skip(&mut self, n: usize)
+        requires { n ≤ length self.old }
+        ensures { self.new ≡ drop n self.old }
+    {
+        self.rest = &self.rest[n..];
     }
 
     /// A number of one byte. `Short` where none is left.
@@ -106,5 +125,20 @@ impl<'a> Cursor<'a> {
         };
         self.rest = rest;
         Ok(u64::from_be_bytes(*front))
+    }
+}
+
+/// What reading from an offset of some bytes gave, with its places counted from their front: the
+/// value and the offset after it, or the fault.
+pub fn placed<T>(
+    bytes: &[u8],
+    read: Result<T, Stop>,
+    cursor: &Cursor<'_>,
+) -> Result<(T, usize), FieldFault>
+    ensures { result ≡ placed bytes.now (with_rest read cursor.now) }
+{
+    match read {
+        Ok(value) => Ok((value, bytes.len().saturating_sub(cursor.rest.len()))),
+        Err(stop) => Err(stop.within(bytes.len())),
     }
 }
