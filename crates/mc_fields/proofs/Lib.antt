@@ -1,2 +1,3 @@
 pub mod Groups
 pub mod VarintFaults
+pub mod Utf8

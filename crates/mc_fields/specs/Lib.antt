@@ -1,2 +1,5 @@
 pub mod Varint
 pub mod VarintFormat
+pub mod Text
+pub mod TextFormat
+pub mod Integers

@@ -20,6 +20,11 @@ okay E x = Ok x
 pub ok_is : {A : Type 0} (E : Type 0) (x y : A) → okay E x ≡ okay E y → x ≡ y
 ok_is E x y e = cc
 
+-- a test whose one answer is a fault did not fail
+pub passed : {A E : Type 0} (t : Bool) (fault : E) (r : Result A E) (x : A) → (if t then Err fault else r) ≡ Ok x → (t ≡ false) × (r ≡ Ok x)
+passed true fault r x e = absurd cc
+passed false fault r x e = (refl, e)
+
 -- a value that was found is found under each name of it
 pub Found-is : {A : Type 0} (spells : A → List ℕ → Type 0) (bytes : List ℕ) (x y : A × List ℕ) → x ≡ y → Found spells bytes x → Found spells bytes y
 Found-is {A} spells bytes x y e found = let P : A × List ℕ → Type 0 = λ z. Found spells bytes z in subst P e found

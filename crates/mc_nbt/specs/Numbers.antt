@@ -7,9 +7,10 @@ use Rattle.std.proofs.lemmas.Bool.{cases_lt, ltb-false, le-ltb}
 use Rattle.std.proofs.lemmas.List.{take_at, drop_at, take-append-drop, length-append, length-take, get_or-drop, get_or-take, get_or_past}
 use Rattle.std.proofs.lemmas.Nat.{be_bytes_2, be_bytes_4, be_bytes_8, from_be_bytes-to_be_bytes_2, from_be_bytes-to_be_bytes_4, from_be_bytes-to_be_bytes_8}
 use Rattle.mc_nbt.specs.declared.fault.Kind.TheVariants.{Short}
+use Rattle.mc_nbt.specs.declared.fault.Stop.{Stop}
 use Rattle.mc_nbt.specs.Reading.{Field, IsBytes, stop_at}
 use Rattle.mc_nbt.specs.Format.{Format, IsFound, IsOnly}
-use Rattle.mc_nbt.specs.Combine.{ok_is, Found-is}
+use Rattle.mc_nbt.specs.Combine.{ok_is, passed, Found-is}
 
 pub IsBytes-drop : (n : ℕ) (bytes : List ℕ) → IsBytes bytes → IsBytes (drop n bytes)
 IsBytes-drop n bytes h i = rw get_or-drop (h (n + i))
@@ -27,11 +28,6 @@ IsBytes-after bytes front rest parts h =
     let after : drop (length front) bytes ≡ rest = rw parts (drop_at front rest (length front) refl) in
     subst IsBytes after (IsBytes-drop (length front) bytes h)
 
--- a test whose one answer is a fault did not fail
-pub guarded_ok : {A E : Type 0} (b : Bool) (d : E) (x y : A) → (if b then Err d else Ok x) ≡ Ok y → (b ≡ false) × (x ≡ y)
-guarded_ok true d x y e = absurd cc
-guarded_ok {A} {E} false d x y e = (refl, ok_is E x y e)
-
 -- ---- bytes as they are
 
 abbrev pub octets_spells : ℕ → List ℕ → List ℕ → Type 0
@@ -43,9 +39,9 @@ octets_read n bytes = if nat_lt (length bytes) n then Err (stop_at Short bytes) 
 pub octets_found : (n : ℕ) → IsFound (octets_spells n) (octets_read n)
 unfolding octets_read
 octets_found n bytes x fits e =
-    let g = guarded_ok (nat_lt (length bytes) n) (stop_at Short bytes) (take n bytes, drop n bytes) x e in
+    let g = passed (nat_lt (length bytes) n) (stop_at Short bytes) (Ok (take n bytes, drop n bytes)) x e in
     let long : n ≤ length bytes = ltb-false _ _ g.0 in
-    Found-is (octets_spells n) bytes (take n bytes, drop n bytes) x g.1 (record {
+    Found-is (octets_spells n) bytes (take n bytes, drop n bytes) x (ok_is Stop _ _ g.1) (record {
       front = take n bytes;
       parts = sym (take-append-drop n bytes);
       spelled = (refl, omega (arith, length-take n bytes));
@@ -95,12 +91,11 @@ pub record IsWide (w : Width) : Type 0 where
 pub number_found : (w : Width) → IsWide w → IsFound (number_spells w) (number_read w)
 unfolding number_read number_spelling
 number_found w wide bytes x fits e =
-    let front = take (byte_len w) bytes in
-    let g = guarded_ok (nat_lt (length bytes) (byte_len w)) (stop_at Short bytes) (from_be_bytes w (take (byte_len w) bytes), drop (byte_len w) bytes) x e in
+    let g = passed (nat_lt (length bytes) (byte_len w)) (stop_at Short bytes) (Ok (from_be_bytes w (take (byte_len w) bytes), drop (byte_len w) bytes)) x e in
     let long : byte_len w ≤ length bytes = ltb-false _ _ g.0 in
     let front_fits : IsBytes (take (byte_len w) bytes) = IsBytes-take (byte_len w) bytes fits in
     let len : length (take (byte_len w) bytes) ≡ byte_len w = omega (arith, length-take (byte_len w) bytes) in
-    Found-is (number_spells w) bytes (from_be_bytes w (take (byte_len w) bytes), drop (byte_len w) bytes) x g.1 (record {
+    Found-is (number_spells w) bytes (from_be_bytes w (take (byte_len w) bytes), drop (byte_len w) bytes) x (ok_is Stop _ _ g.1) (record {
       front = take (byte_len w) bytes;
       parts = sym (take-append-drop (byte_len w) bytes);
       spelled = (wide.below _ front_fits, sym (wide.back _ len front_fits));
