@@ -1,8 +1,8 @@
 -- Whole numbers, of the page 'Data types' of wiki.vg for protocol 47: so many bytes, the highest first, in two's complement
 -- where there is a sign.
-use Rattle.std.specs.Prelude.{◌≡◌, ℕ, ◌+◌, ◌-◌, ◌^◌, ◌<◌, ◌≤◌, ◌↔◌, Bool, true, false, List, ◌++◌, length, drop, nat_lt, Result, Ok, Err, IfOk, IfErr, IsErrOf, IsOk, refl}
+use Rattle.std.specs.Prelude.{◌≡◌, ℕ, ◌+◌, ◌-◌, ◌^◌, ◌<◌, ◌≤◌, ◌↔◌, List, length, drop, Result, Ok, Err, IfOk, IfErr, IsErrOf, IsOk, refl}
 use Rattle.std.specs.Int.{Width, w8, w16, w64, byte_len, cast_signed, cast_unsigned}
-use Rattle.std.proofs.Common.{sym, ap, ◌∙◌, arith, le-ltb, lt-ltb}
+use Rattle.std.proofs.Common.{sym, ap, ◌∙◌, arith, le-ltb, lt-ltb, inl, inr}
 use Rattle.std.proofs.lemmas.Bool.{cases_lt}
 use Rattle.std.proofs.lemmas.List.{length-drop}
 use Rattle.std.proofs.lemmas.Int.{of_z-to_z, to_z-of_z}
@@ -11,11 +11,10 @@ use lib.IntN.{ℤ}
 use mir.Val.{SFits, Fits, bits}
 use Rattle.mc_nbt.specs.declared.fault.Kind.TheVariants.{Short}
 use Rattle.mc_nbt.specs.declared.fault.FieldFault.{FieldFault}
-use Rattle.mc_nbt.specs.declared.fault.Stop.{Stop}
 use Rattle.mc_nbt.specs.Reading.{Field, IsBytes, stop_at, ◌>>=◌}
 use Rattle.mc_nbt.specs.Format.{Format, IsFound, IsOnly, Anything}
-use Rattle.mc_nbt.specs.Combine.{IsView, via, view_read}
-use Rattle.mc_nbt.specs.Numbers.{IsWide, number, number_read, number_spells, wide_8, wide_16, wide_64}
+use Rattle.mc_nbt.specs.Combine.{IsView, via, view_read, view_spells}
+use Rattle.mc_nbt.specs.Numbers.{IsWide, number, number_read, number_spells, number_found, number_only, wide_8, wide_16, wide_64}
 use Rattle.mc_nbt.specs.Placed.{SpelledAt, placed, fault_at, found_at, placed_only}
 
 -- numbers below 2 ^ bits, seen as those with a sign
@@ -29,6 +28,9 @@ signed_view w = record {
 -- a number with a sign
 abbrev pub signed : {Rest : List ℕ → Type 0} (w : Width) → IsWide w → Format Rest ℤ
 signed {Rest} w wide = via (number {Rest = Rest} w wide) (SFits w) (cast_signed w) (cast_unsigned w) (signed_view w)
+
+abbrev pub signed_spells : Width → ℤ → List ℕ → Type 0
+signed_spells w = view_spells (number_spells w) (SFits w) (cast_unsigned w)
 
 abbrev pub ubyte : {Rest : List ℕ → Type 0} → Format Rest ℕ
 ubyte {Rest} = number {Rest = Rest} w8 wide_8
@@ -53,3 +55,65 @@ pub record ReadsFixed {A : Type 0} (spells : A → List ℕ → Type 0) (len : �
 pub record IsFixed {A : Type 0} (len : ℕ) (read : List ℕ → Field A) : Type 0 where
   pub cut : (bytes : List ℕ) → length bytes < len → read bytes ≡ Err (stop_at Short bytes)
   pub whole : (bytes : List ℕ) → len ≤ length bytes → IsOk (read bytes)
+
+pub number_fixed : (w : Width) → IsFixed (byte_len w) (number_read w)
+unfolding number_read
+number_fixed w = record {
+  cut = λ bytes lt. rw (lt-ltb (length bytes) (byte_len w) lt) refl;
+  whole = λ bytes le. rw (le-ltb (length bytes) (byte_len w) le) refl;
+}
+
+pub view_fixed : {A B : Type 0} (len : ℕ) (read : List ℕ → Field A) (make : A → B) → IsFixed len read → IsFixed len (view_read read make)
+view_fixed {A} {B} len read make fixed = record {
+  cut = λ bytes lt. rw (fixed.cut bytes lt) refl;
+  whole = λ bytes le. kept (read bytes) (fixed.whole bytes le);
+}
+  where
+    kept : (r : Field A) → IsOk r → IsOk {T = B × List ℕ} (r >>= λ x. Ok (make x.0, x.1))
+    kept (Ok x) is = refl
+    kept (Err stop) is = absurd cc
+
+pub reads_fixed : {A : Type 0} (spells : A → List ℕ → Type 0) (read : List ℕ → Field A) → IsFound spells read → IsOnly Anything spells read → (len : ℕ) → IsFixed len read → (bytes : List ℕ) (start : ℕ) (result : Result (A × ℕ) FieldFault) → IsBytes bytes → start ≤ length bytes → result ≡ placed bytes (read (drop start bytes)) → ReadsFixed spells len bytes start result
+reads_fixed {A} spells read found only len fixed bytes start result fits within is = record {
+  found = found_at spells read found bytes start result fits within is;
+  only = λ a end s. is ∙ placed_only spells read only bytes start a end s;
+  short = (there, here);
+  fault = faults result is;
+}
+  where
+    left : length (drop start bytes) ≡ length bytes - start
+    left = length-drop start bytes
+
+    here : length bytes < start + len → result ≡ Err (fault_at Short start)
+    here lt =
+        let few : length (drop start bytes) < len = omega (arith, left) in
+        let place : length bytes - length (drop start bytes) ≡ start = omega (arith, left) in
+        is ∙ ap (placed bytes) (fixed.cut (drop start bytes) few) ∙ ap (λ (n : ℕ). Err (fault_at Short n)) place
+
+    not_both : (r : Field A) (e : FieldFault) → IsOk r → placed bytes r ≡ Err e → ⊥
+    not_both (Ok x) e is_ok h = cc
+    not_both (Err stop) e is_ok h = cc
+
+    failed : (e : FieldFault) → result ≡ Err e → length bytes < start + len
+    failed e h =
+        elim (cases_lt (length bytes) (start + len)) [
+          | inl lt ↦ lt
+          | inr le ↦ absurd (not_both (read (drop start bytes)) e (fixed.whole (drop start bytes) (omega (arith, left))) (sym is ∙ h))
+        ]
+
+    there : result ≡ Err (fault_at Short start) → length bytes < start + len
+    there h = failed (fault_at Short start) h
+
+    faults : (r : Result (A × ℕ) FieldFault) → r ≡ placed bytes (read (drop start bytes)) → IfErr r (λ fault. fault ≡ fault_at Short start)
+    faults (Ok x) e = tt
+    faults (Err d) e =
+        let same : result ≡ Err d = is ∙ sym e in
+        let short : result ≡ Err (fault_at Short start) = here (failed d same) in
+        cc
+
+-- at the widths of this protocol
+pub number_reads : (w : Width) → IsWide w → (bytes : List ℕ) (start : ℕ) (result : Result (ℕ × ℕ) FieldFault) → IsBytes bytes → start ≤ length bytes → result ≡ placed bytes (number_read w (drop start bytes)) → ReadsFixed (number_spells w) (byte_len w) bytes start result
+number_reads w wide = reads_fixed (number_spells w) (number_read w) (number_found w wide) (number_only w wide Anything) (byte_len w) (number_fixed w)
+
+pub signed_reads : (w : Width) (wide : IsWide w) (bytes : List ℕ) (start : ℕ) (result : Result (ℤ × ℕ) FieldFault) → IsBytes bytes → start ≤ length bytes → result ≡ placed bytes (view_read (number_read w) (cast_signed w) (drop start bytes)) → ReadsFixed (signed_spells w) (byte_len w) bytes start result
+signed_reads w wide = reads_fixed (signed_spells w) (view_read (number_read w) (cast_signed w)) (signed {Rest = Anything} w wide).found (signed {Rest = Anything} w wide).only (byte_len w) (view_fixed (byte_len w) (number_read w) (cast_signed w) (number_fixed w))

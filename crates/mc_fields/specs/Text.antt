@@ -1,11 +1,10 @@
 -- Texts, of the page 'Data types' of wiki.vg for protocol 47: the VarInt of the length in bytes, then the bytes in UTF-8.
 -- A field names how many code points its text has at most. The order of the tests is a rule of this project.
-use Rattle.std.specs.Prelude.{◌≡◌, ℕ, ◌*◌, ◌^◌, ◌<◌, ◌≤◌, List, ◌++◌, length, take, drop, nat_lt, not, Result, Ok, Err, if◌then◌else◌}
+use Rattle.std.specs.Prelude.{◌≡◌, ℕ, ◌*◌, ◌≤◌, List, ◌++◌, length, take, drop, nat_lt, not, Result, Ok, Err, if◌then◌else◌}
 use Rattle.std.specs.Str.{IsUtf8, is_utf8, chars}
 use lib.IntN.{ℤ, pos, negsuc}
 use Rattle.mc_nbt.specs.declared.fault.Kind.{Kind}
 use Rattle.mc_nbt.specs.declared.fault.Kind.TheVariants.{Short, BadText, TooLong, BadLength}
-use Rattle.mc_nbt.specs.declared.fault.Stop.{Stop}
 use Rattle.mc_nbt.specs.Reading.{Field, ◌>>=◌, stop_at}
 use Rattle.mc_fields.specs.Varint.{SpellsVarint, varint_read, varint_spelling}
 

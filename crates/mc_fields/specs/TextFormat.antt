@@ -1,17 +1,14 @@
 -- Texts as a format.
-use Rattle.std.specs.Prelude.{◌≡◌, ℕ, ◌+◌, ◌*◌, ◌^◌, ◌<◌, ◌≤◌, Bool, true, false, cond, List, [], ◌∷◌, ◌++◌, length, take, drop, nat_lt, not, Result, Ok, Err, refl, if◌then◌else◌}
-use Rattle.std.specs.Str.{IsUtf8, is_utf8, chars}
-use Rattle.std.specs.Int.{w32, cast_signed, cast_unsigned}
+use Rattle.std.specs.Prelude.{◌≡◌, ℕ, ◌*◌, ◌^◌, ◌<◌, ◌≤◌, Bool, true, false, List, ◌++◌, length, take, drop, nat_lt, not, Result, Ok, Err, refl}
+use Rattle.std.specs.Str.{is_utf8, chars}
 use Rattle.std.proofs.Common.{sym, subst, ap, ◌∙◌, arith, le-ltb, ltb-false, append_assoc}
 use Rattle.std.proofs.lemmas.List.{take_at, drop_at, take-append-drop, length-append, length-take}
 use Rattle.std.proofs.lemmas.Str.{IsUtf8-from_is_utf8, is_utf8-from_IsUtf8}
 use lib.IntN.{ℤ, pos, negsuc}
-use mir.Val.{SFits}
 use Rattle.mc_nbt.specs.declared.fault.Kind.{Kind}
-use Rattle.mc_nbt.specs.declared.fault.Kind.TheVariants.{Short, BadText, TooLong, BadLength}
+use Rattle.mc_nbt.specs.declared.fault.Kind.TheVariants.{Short, BadText, TooLong}
 use Rattle.mc_nbt.specs.declared.fault.Stop.{Stop}
-use Rattle.mc_nbt.specs.Reading.{Field, IsBytes, ◌>>=◌, stop_at}
-use Rattle.mc_nbt.specs.Format.{Format, Found, IsFound, IsOnly, IsAppended, Anything}
+use Rattle.mc_nbt.specs.Format.{Format, IsFound, IsOnly, Anything}
 use Rattle.mc_nbt.specs.Combine.{ok_is, passed, Found-is, bind_ok, joined}
 use Rattle.mc_nbt.specs.Numbers.{IsBytes-drop}
 use Rattle.mc_fields.specs.Varint.{SpellsVarint, varint_read, varint_spelling}

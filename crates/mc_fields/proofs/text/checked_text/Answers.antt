@@ -1,5 +1,4 @@
-use Rattle.std.proofs.Common.{◌≡◌, ◌<◌, ◌≤◌, ◌∙◌, length, Ok, ap, sym}
-use Rattle.std.specs.Str.{chars}
+use Rattle.std.proofs.Common.{◌∙◌, Ok, ap, sym}
 use Rattle.mc_fields.proofs.Utf8.{checked_text-bad, checked_text-long, checked_text-fits}
 use Rattle.mc_fields.proofs.text.checked_text.Goals as goal
 
