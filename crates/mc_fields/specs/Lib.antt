@@ -3,3 +3,4 @@ pub mod VarintFormat
 pub mod Text
 pub mod TextFormat
 pub mod Integers
+pub mod Row

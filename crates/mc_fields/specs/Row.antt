@@ -1,0 +1,238 @@
+-- Packets, of the page 'Protocol' of wiki.vg for protocol 47: a VarInt id, then the packet's fields, and nothing after
+-- them. A packet is one row; the laws of all rows are stated once.
+use Rattle.std.specs.Prelude.{◌≡◌, ℕ, ◌-◌, ◌^◌, ◌<◌, ◌==◌, Bool, true, false, cond, List, [], ◌∷◌, ◌++◌, length, Result, Ok, Err, refl, if◌then◌else◌}
+use Rattle.std.proofs.Common.{sym, subst, ap, ◌∙◌, append_assoc, eqb-true}
+use Rattle.std.proofs.lemmas.List.{append-nil}
+use lib.IntN.{ℤ, pos, negsuc}
+use Rattle.mc_nbt.specs.declared.fault.Stop.{Stop}
+use Rattle.mc_nbt.specs.declared.fault.ReadError.{ReadError}
+use Rattle.mc_nbt.specs.declared.fault.ReadError.TheVariants as read_errors
+use Rattle.mc_nbt.specs.Reading.{Field, IsBytes, ◌>>=◌}
+use Rattle.mc_nbt.specs.Format.{Format, Nothing, Anything}
+use Rattle.mc_nbt.specs.Placed.{fault_at}
+use Rattle.mc_nbt.specs.Combine.{bind_ok, ok_is}
+use Rattle.mc_fields.specs.declared.packet.RowFault.{RowFault}
+use Rattle.mc_fields.specs.declared.packet.RowFault.TheVariants as faults
+use Rattle.mc_fields.specs.declared.packet.RowError.{RowError}
+use Rattle.mc_fields.specs.declared.packet.RowError.TheVariants as row_errors
+use Rattle.mc_fields.specs.declared.packet.PacketFault.{PacketFault}
+use Rattle.mc_fields.specs.declared.packet.PacketFault.TheVariants as packet_faults
+use Rattle.mc_fields.specs.declared.packet.PacketRead.{PacketRead}
+use Rattle.mc_fields.specs.declared.packet.PacketRead.TheVariants as packet_errors
+use Rattle.mc_fields.specs.Varint.{SpellsVarint, varint_read, varint_spelling}
+use Rattle.mc_fields.specs.VarintFormat.{varint_found, varint_only, varint_fit, varint_spelled, varint-fits, five}
+
+-- a packet's row: its id, the format of its fields, and the packet that they make
+pub record Row (P : Type 0) : Type 1 where
+  pub id : ℕ
+  pub Fields : Type 0
+  pub format : Format Nothing Fields
+  pub make : Fields → P
+
+abbrev pub packet : {P F : Type 0} → ℕ → Format Nothing F → (F → P) → Row P
+packet {P} {F} id format make = record { id = id; Fields = F; format = format; make = make }
+
+-- a packet's row and its fields
+pub record Entry (P : Type 0) : Type 1 where
+  pub row : Row P
+  pub fields : row.Fields
+
+abbrev pub of_row : {P : Type 0} (row : Row P) → row.Fields → Entry P
+of_row row fields = record { row = row; fields = fields }
+
+-- the bytes spell the packet: a spelling of its id, then one of its fields, and nothing after them
+pub record Spells {P : Type 0} (entry : Entry P) (bytes : List ℕ) : Type 0 where
+  pub id_bytes : List ℕ
+  pub field_bytes : List ℕ
+  pub parts : bytes ≡ id_bytes ++ field_bytes
+  pub id_spelled : SpellsVarint 5 (pos entry.row.id) id_bytes
+  pub fields_spelled : entry.row.format.spells entry.fields field_bytes
+
+-- the packet has a spelling
+abbrev pub Fits : {P : Type 0} → Entry P → Type 0
+Fits entry = (entry.row.id < 2 ^ 31) × entry.row.format.fits entry.fields
+
+-- the shortest one
+abbrev pub spelling : {P : Type 0} → Entry P → List ℕ
+spelling entry = varint_spelling (pos entry.row.id) ++ entry.row.format.spelling entry.fields
+
+-- the bytes with it at their end
+abbrev pub row_append : {P : Type 0} (row : Row P) → row.Fields → List ℕ → List ℕ
+row_append row fields out = row.format.append fields (out ++ varint_spelling (pos row.id))
+
+abbrev pub append : {P : Type 0} → Entry P → List ℕ → List ℕ
+append entry out = row_append entry.row entry.fields out
+
+pub append_spelling : {P : Type 0} (entry : Entry P) (out : List ℕ) → append entry out ≡ out ++ spelling entry
+append_spelling entry out =
+    entry.row.format.appended entry.fields (out ++ varint_spelling (pos entry.row.id))
+    ∙ append_assoc out (varint_spelling (pos entry.row.id)) (entry.row.format.spelling entry.fields)
+
+pub fits_spelled : {P : Type 0} (entry : Entry P) → Fits entry → Spells entry (spelling entry)
+fits_spelled entry fits = record {
+  id_bytes = varint_spelling (pos entry.row.id);
+  field_bytes = entry.row.format.spelling entry.fields;
+  parts = refl;
+  id_spelled = varint_spelled 5 five (pos entry.row.id) (varint-fits (pos entry.row.id) (record { sfits = fits.0 }));
+  fields_spelled = entry.row.format.spelled entry.fields fits.1;
+}
+
+pub spelled_fits : {P : Type 0} (entry : Entry P) (bytes : List ℕ) → Spells entry bytes → Fits entry
+spelled_fits entry bytes s =
+    ((varint_fit 5 (pos entry.row.id) s.id_bytes s.id_spelled).0.sfits, entry.row.format.fit entry.fields s.field_bytes s.fields_spelled)
+
+-- ---- the table of rows, and reading by it
+
+-- rows, each tied to the packets that it makes
+pub data Rows (P : Type 0) (entry_of : P → Entry P) : Type 1 where
+  no_more : Rows P entry_of
+  row : (r : Row P) → ((fields : r.Fields) (bytes : List ℕ) → Spells (of_row r fields) bytes → Spells (entry_of (r.make fields)) bytes) → Rows P entry_of → Rows P entry_of
+
+-- the fields of one row
+abbrev pub fields_read : {P : Type 0} → Row P → List ℕ → Field P
+fields_read r bytes = r.format.read bytes >>= λ x. Ok (r.make x.0, x.1)
+
+-- a field's fault is a packet's
+abbrev pub lifted : {A : Type 0} → Field A → Result (A × List ℕ) RowFault
+lifted (Ok x) = Ok x
+lifted (Err stop) = Err (faults.Stop stop)
+
+abbrev pub is_id : ℤ → ℕ → Bool
+is_id (pos n) id = n == id
+is_id (negsuc n) id = false
+
+-- the fields of the row of an id
+abbrev pub id_read : {P : Type 0} {entry_of : P → Entry P} → Rows P entry_of → ℤ → List ℕ → Result (P × List ℕ) RowFault
+id_read no_more id bytes = Err (faults.UnknownId id)
+id_read (row r tied rows) id bytes = if is_id id r.id then lifted (fields_read r bytes) else id_read rows id bytes
+
+-- a packet with nothing after it
+abbrev pub whole : {P : Type 0} → P → List ℕ → Result P RowFault
+whole packet [] = Ok packet
+whole packet (b ∷ bytes) = Err (faults.Trailing (length (b ∷ bytes)))
+
+-- the packet of a frame
+unfoldable pub frame_read : {P : Type 0} {entry_of : P → Entry P} → Rows P entry_of → List ℕ → Result P RowFault
+frame_read rows frame = do
+  id ← lifted (varint_read 5 frame)
+  packet ← id_read rows id.0 id.1
+  whole packet.0 packet.1
+
+-- ---- what is read is spelled so
+
+-- the packet that was found by its id: each spelling of the id before these fields spells it
+pub record Picked {P : Type 0} (entry_of : P → Entry P) (id : ℤ) (bytes : List ℕ) (x : P × List ℕ) : Type 0 where
+  pub front : List ℕ
+  pub parts : bytes ≡ front ++ x.1
+  pub spelled : (id_bytes : List ℕ) → SpellsVarint 5 id id_bytes → Spells (entry_of x.0) (id_bytes ++ front)
+
+Picked-is : {P : Type 0} (entry_of : P → Entry P) (id : ℤ) (bytes : List ℕ) (x y : P × List ℕ) → x ≡ y → Picked entry_of id bytes x → Picked entry_of id bytes y
+Picked-is {P} entry_of id bytes x y e h = let Q : P × List ℕ → Type 0 = λ z. Picked entry_of id bytes z in subst Q e h
+
+is_id-true : (id : ℤ) (n : ℕ) → is_id id n ≡ true → id ≡ pos n
+is_id-true (pos m) n e = ap pos (eqb-true m n e)
+is_id-true (negsuc m) n e = absurd cc
+
+lifted_ok : {A : Type 0} (r : Field A) (x : A × List ℕ) → lifted r ≡ Ok x → r ≡ Ok x
+lifted_ok (Ok y) x e = cc
+lifted_ok (Err stop) x e = absurd cc
+
+row_picked : {P : Type 0} (entry_of : P → Entry P) (r : Row P) → ((fields : r.Fields) (bytes : List ℕ) → Spells (of_row r fields) bytes → Spells (entry_of (r.make fields)) bytes) → (bytes : List ℕ) (x : P × List ℕ) → IsBytes bytes → fields_read r bytes ≡ Ok x → Picked entry_of (pos r.id) bytes x
+row_picked {P} entry_of r tied bytes x fits e =
+    let p = bind_ok (r.format.read bytes) (λ (y : r.Fields × List ℕ). Ok (r.make y.0, y.1)) x e in
+    let f = r.format.found bytes p.0 fits p.1 in
+    Picked-is entry_of (pos r.id) bytes (r.make p.0.0, p.0.1) x (ok_is Stop _ _ p.2) (record {
+      front = f.front;
+      parts = f.parts;
+      spelled = λ id_bytes s. tied p.0.0 (id_bytes ++ f.front) (record { id_bytes = id_bytes; field_bytes = f.front; parts = refl; id_spelled = s; fields_spelled = f.spelled });
+    })
+
+id_picked : {P : Type 0} {entry_of : P → Entry P} (rows : Rows P entry_of) (id : ℤ) (bytes : List ℕ) (x : P × List ℕ) → IsBytes bytes → id_read rows id bytes ≡ Ok x → Picked entry_of id bytes x
+id_picked no_more id bytes x fits e = absurd cc
+id_picked {P} {entry_of} (row r tied rows) id bytes x fits e = step (is_id id r.id) refl e (λ h. id_picked rows id bytes x fits h)
+  where
+    step : (t : Bool) → is_id id r.id ≡ t → cond t (lifted (fields_read r bytes)) (id_read rows id bytes) ≡ Ok x → (id_read rows id bytes ≡ Ok x → Picked entry_of id bytes x) → Picked entry_of id bytes x
+    step true t e rest =
+        let Q : ℤ → Type 0 = λ z. Picked entry_of z bytes x in
+        subst Q (sym (is_id-true id r.id t)) (row_picked entry_of r tied bytes x fits (lifted_ok (fields_read r bytes) x e))
+    step false t e rest = rest e
+
+whole_ok : {P : Type 0} (p q : P) (bytes : List ℕ) → whole p bytes ≡ Ok q → (bytes ≡ []) × (p ≡ q)
+whole_ok p q [] e = (refl, ok_is RowFault _ _ e)
+whole_ok p q (b ∷ bytes) e = absurd cc
+
+-- the same packet and the same bytes
+Spells-is : {P : Type 0} (entry_of : P → Entry P) (p q : P) (bytes frame : List ℕ) → p ≡ q → frame ≡ bytes → Spells (entry_of p) bytes → Spells (entry_of q) frame
+Spells-is {P} entry_of p q bytes frame same parts s =
+    let Q : P → Type 0 = λ x. Spells (entry_of x) frame in
+    let R : List ℕ → Type 0 = λ t. Spells (entry_of p) t in
+    subst Q same (subst R (sym parts) s)
+
+ended : (bytes front middle back rest : List ℕ) → bytes ≡ front ++ middle → middle ≡ back ++ rest → rest ≡ [] → bytes ≡ front ++ back
+ended bytes front middle back rest first second nothing =
+    first ∙ ap (λ (t : List ℕ). front ++ t) (second ∙ ap (λ (t : List ℕ). back ++ t) nothing ∙ append-nil back)
+
+pub frame_found : {P : Type 0} {entry_of : P → Entry P} (rows : Rows P entry_of) (frame : List ℕ) (p : P) → IsBytes frame → frame_read rows frame ≡ Ok p → Spells (entry_of p) frame
+unfolding frame_read
+frame_found {P} {entry_of} rows frame p fits e =
+    let a = bind_ok (lifted (varint_read 5 frame)) (λ (id : ℤ × List ℕ). id_read rows id.0 id.1 >>= λ (x : P × List ℕ). whole x.0 x.1) p e in
+    let b = bind_ok (id_read rows a.0.0 a.0.1) (λ (x : P × List ℕ). whole x.0 x.1) p a.2 in
+    let i = varint_found 5 frame a.0 fits (lifted_ok (varint_read 5 frame) a.0 a.1) in
+    let f = id_picked rows a.0.0 a.0.1 b.0 i.rest_fits b.1 in
+    let end = whole_ok b.0.0 p b.0.1 b.2 in
+    let parts : frame ≡ i.front ++ f.front = ended frame i.front a.0.1 f.front b.0.1 i.parts f.parts end.0 in
+    Spells-is entry_of b.0.0 p (i.front ++ f.front) frame end.1 parts (f.spelled i.front i.spelled)
+
+-- ---- what is spelled so is read
+
+-- a packet is found under its own id
+abbrev pub IsTied : {P : Type 0} {entry_of : P → Entry P} → Rows P entry_of → P → Type 0
+IsTied {P} {entry_of} rows p = (bytes : List ℕ) → (entry_of p).row.format.read bytes ≡ Ok ((entry_of p).fields, []) → id_read rows (pos (entry_of p).row.id) bytes ≡ Ok (p, [])
+
+pub frame_only : {P : Type 0} {entry_of : P → Entry P} (rows : Rows P entry_of) (p : P) (frame : List ℕ) → IsTied rows p → Spells (entry_of p) frame → frame_read rows frame ≡ Ok p
+unfolding frame_read
+frame_only {P} {entry_of} rows p frame tied s =
+    let id = varint_only 5 Anything (pos (entry_of p).row.id) s.id_bytes s.field_bytes tt s.id_spelled in
+    let fields = (entry_of p).row.format.only (entry_of p).fields s.field_bytes [] refl s.fields_spelled in
+    let fields' = rw append-nil at fields in
+    rw (s.parts, id, tied s.field_bytes fields') refl
+
+-- ---- what functions answer
+
+-- the error of a function is the fault that reading gives, unless memory ran out
+abbrev pub RowFails : {Y : Type 0} → RowError → Result Y RowFault → Type 0
+RowFails row_errors.NoMemory read = Unit {0}
+RowFails (row_errors.Fault fault) read = read ≡ Err fault
+
+abbrev pub GivesRow : {X Y : Type 0} → (X → Y) → Result X RowError → Result Y RowFault → Type 0
+GivesRow view (Ok x) read = read ≡ Ok (view x)
+GivesRow view (Err e) read = RowFails e read
+
+-- the fault of a frame of so many bytes, with its place counted from the front
+abbrev pub packet_fault : ℕ → RowFault → PacketFault
+packet_fault len (faults.UnknownId id) = packet_faults.UnknownId id
+packet_fault len (faults.Stop stop) = packet_faults.Field (fault_at stop.kind (len - stop.left))
+packet_fault len (faults.Trailing n) = packet_faults.Trailing n
+
+-- the errors of functions, one layer up
+abbrev pub row_error_of : ReadError → RowError
+row_error_of read_errors.NoMemory = row_errors.NoMemory
+row_error_of (read_errors.Stop stop) = row_errors.Fault (faults.Stop stop)
+
+abbrev pub packet_read_of : ℕ → RowError → PacketRead
+packet_read_of len row_errors.NoMemory = packet_errors.NoMemory
+packet_read_of len (row_errors.Fault fault) = packet_errors.Fault (packet_fault len fault)
+
+-- the packet that a frame spells, or the first fault
+abbrev pub packet_of : {P : Type 0} → List ℕ → Result P RowFault → Result P PacketFault
+packet_of frame (Ok packet) = Ok packet
+packet_of frame (Err fault) = Err (packet_fault (length frame) fault)
+
+abbrev pub PacketFails : {Y : Type 0} → PacketRead → Result Y PacketFault → Type 0
+PacketFails packet_errors.NoMemory read = Unit {0}
+PacketFails (packet_errors.Fault fault) read = read ≡ Err fault
+
+-- what a reader of packets answers, unless memory ran out
+abbrev pub GivesPacket : {P : Type 0} → Result P PacketRead → Result P PacketFault → Type 0
+GivesPacket (Ok packet) read = read ≡ Ok packet
+GivesPacket (Err e) read = PacketFails e read

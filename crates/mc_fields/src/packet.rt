@@ -1,0 +1,118 @@
+ghost use Rattle.std.specs.Prelude.{◌≡◌};
+ghost use Rattle.mc_nbt.specs.Reading.{Yields};
+ghost use Rattle.mc_fields.specs.declared.packet.RowError.TheVariants as row_errors;
+ghost use Rattle.mc_fields.specs.Row.{whole, packet_fault, row_error_of, packet_read_of};
+
+use mc_nbt::{Cursor, FieldFault, NoMemory, ReadError, Stop};
+
+/// Why a frame is no packet, with places counted from the frame's end: what reading in order meets.
+#[derive(Clone, Copy, Debug, PartialEq, Eq)]
+pub enum RowFault {
+    /// The id reads and names no packet.
+    UnknownId(i32),
+    /// The id or a field does not read.
+    Stop(Stop),
+    /// So many bytes are left after the last field.
+    Trailing(usize),
+}
+
+impl RowFault {
+    /// The same fault with its place counted from the front of a frame of `len` bytes.
+    pub fn within(self, len: usize) -> PacketFault
+        ensures { result ≡ packet_fault len self }
+    {
+        match self {
+            RowFault::UnknownId(id) => PacketFault::UnknownId(id),
+            RowFault::Stop(stop) => PacketFault::Field(stop.within(len)),
+            RowFault::Trailing(count) => PacketFault::Trailing(count),
+        }
+    }
+}
+
+/// Why a packet was not read.
+#[derive(Clone, Copy, Debug, PartialEq, Eq)]
+pub enum RowError {
+    /// The frame does not spell one.
+    Fault(RowFault),
+    /// There was no memory for it.
+    NoMemory,
+}
+
+impl RowError {
+    /// The same error with its place counted from the front of a frame of `len` bytes.
+    pub fn within(self, len: usize) -> PacketRead
+        ensures { result ≡ packet_read_of len self }
+    {
+        match self {
+            RowError::Fault(fault) => PacketRead::Fault(fault.within(len)),
+            RowError::NoMemory => PacketRead::NoMemory,
+        }
+    }
+}
+
+impl From<RowFault> for RowError {
+    ghost from_gives = { λ fault error. error ≡ row_errors.Fault fault };
+
+    fn from(fault: RowFault) -> RowError {
+        RowError::Fault(fault)
+    }
+}
+
+impl From<Stop> for RowError {
+    ghost use Rattle.mc_fields.specs.declared.packet.RowFault.TheVariants as row_faults;
+
+    ghost from_gives = { λ stop error. error ≡ row_errors.Fault (row_faults.Stop stop) };
+
+    fn from(stop: Stop) -> RowError {
+        RowError::Fault(RowFault::Stop(stop))
+    }
+}
+
+impl From<ReadError> for RowError {
+    ghost from_gives = { λ read error. error ≡ row_error_of read };
+
+    fn from(error: ReadError) -> RowError {
+        match error {
+            ReadError::Stop(stop) => RowError::Fault(RowFault::Stop(stop)),
+            ReadError::NoMemory => RowError::NoMemory,
+        }
+    }
+}
+
+impl From<NoMemory> for RowError {
+    ghost from_gives = { λ _ error. error ≡ row_errors.NoMemory };
+
+    fn from(_refusal: NoMemory) -> RowError {
+        RowError::NoMemory
+    }
+}
+
+/// Why a frame is no packet.
+#[derive(Clone, Copy, Debug, PartialEq, Eq)]
+pub enum PacketFault {
+    /// The id reads and names no packet.
+    UnknownId(i32),
+    /// The id or a field does not read: the first one, and the offset of the field that fails.
+    Field(FieldFault),
+    /// So many bytes are left after the last field.
+    Trailing(usize),
+}
+
+/// Why a packet was not read.
+#[derive(Clone, Copy, Debug, PartialEq, Eq)]
+pub enum PacketRead {
+    /// The frame does not spell one.
+    Fault(PacketFault),
+    /// There was no memory for it.
+    NoMemory,
+}
+
+/// A packet with nothing after it. `Trailing` where bytes are left.
+pub fn whole<P: Drop>(packet: P, cursor: &Cursor<'_>) -> Result<P, RowFault>
+    ensures { Yields (λ read. read) result (whole packet cursor.now) }
+{
+    match cursor.rest() {
+        [] => Ok(packet),
+        rest => Err(RowFault::Trailing(rest.len())),
+    }
+}
