@@ -1,0 +1,3 @@
+/// A device failed in a call: it gave or took nothing.
+#[derive(Clone, Copy, Debug, PartialEq, Eq)]
+pub struct Failed;

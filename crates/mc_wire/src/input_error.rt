@@ -1,0 +1,39 @@
+ghost use Rattle.std.specs.Prelude.{◌≡◌};
+ghost use Rattle.mc_wire.specs.declared.input_error.InputError.TheVariants.{Failed as failed, NoMemory as no_memory};
+
+use crate::Failed;
+use mc_nbt::NoMemory;
+use std::alloc::AllocError;
+
+/// Why a whole input was not read.
+#[derive(Clone, Copy, Debug, PartialEq, Eq)]
+pub enum InputError {
+    /// The source failed.
+    Failed,
+    /// There was no memory for what the source gave.
+    NoMemory,
+}
+
+impl From<Failed> for InputError {
+    ghost from_gives = { λ _ error. error ≡ failed };
+
+    fn from(_failure: Failed) -> InputError {
+        InputError::Failed
+    }
+}
+
+impl From<NoMemory> for InputError {
+    ghost from_gives = { λ _ error. error ≡ no_memory };
+
+    fn from(_refusal: NoMemory) -> InputError {
+        InputError::NoMemory
+    }
+}
+
+impl From<AllocError> for InputError {
+    ghost from_gives = { λ _ error. error ≡ no_memory };
+
+    fn from(_refusal: AllocError) -> InputError {
+        InputError::NoMemory
+    }
+}

@@ -1,0 +1,28 @@
+//! The outside as traits, a source that is read and a sink that is written, and devices in memory
+//! that stand for it. It stands on the byte lists of `mc_nbt`. Its one contract: a call that fails
+//! raises the device's count of failures and moves no byte, and a call that succeeds moves exactly
+//! the bytes that it says.
+#![tactic(auto)]
+
+mod failed;
+mod input_error;
+mod log;
+mod memory_sink;
+mod memory_source;
+mod plan;
+mod sink;
+mod source;
+mod steady_sink;
+mod steady_source;
+#[cfg(test)]
+mod tests;
+
+pub use failed::Failed;
+pub use input_error::InputError;
+pub use log::LogEntry;
+pub use memory_sink::MemorySink;
+pub use memory_source::MemorySource;
+pub use sink::{Sink, write_all};
+pub use source::{Source, read_all};
+pub use steady_sink::SteadySink;
+pub use steady_source::SteadySource;

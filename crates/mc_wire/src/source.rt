@@ -1,0 +1,67 @@
+ghost use Rattle.std.specs.Prelude.{◌≡◌, ◌≢◌, ℕ, ◌<◌, ◌≤◌, Option, List, length, take, IfOk, OnOk, OnErr, IsErrOf, vec_len};
+ghost use Rattle.mc_wire.specs.Count.{Rose, NeverFalls, StandsOrRises};
+ghost use Rattle.mc_wire.specs.Stream.{Consumes, IsAtEnd};
+
+use crate::{Failed, InputError};
+use std::alloc::{AllocError, Global};
+
+/// How many bytes `read_all` asks a source for at a time.
+const PIECE: usize = 65_536;
+
+/// What bytes can be read from: a device of the outside, or one in memory.
+pub trait Source {
+    // What is left to read, where the device tells it.
+    ghost left: { Self → Option (List ℕ) };
+
+    // How many failures it has counted.
+    ghost faults: { Self → ℕ };
+
+    // How many answers with bytes it has still to give, at most.
+    ghost answers: { Self → ℕ };
+
+    /// Reads into the front of the buffer, and says how many bytes it read: 0 only at the end. A
+    /// failure gives nothing.
+    fn read(&mut self, buf: &mut [u8]) -> Result<usize, Failed>
+        requires { 0 < length buf.old }
+        ensures within { IfOk result (λ n. n ≤ length buf.new) }
+        ensures given { IfOk result (λ n. Consumes (left self.old) (left self.new) (take n buf.new)) }
+        ensures end { result ≡ Ok 0 → IsAtEnd (left self.new) }
+        ensures kept { OnErr result (left self.new ≡ left self.old) }
+        ensures failed { OnErr result (Rose (faults self.old) (faults self.new)) }
+        ensures counts { NeverFalls (faults self.old) (faults self.new) }
+        ensures falls { IfOk result (λ n. 0 < n → answers self.new < answers self.old) };
+}
+
+/// All that a source has left. An error leaves some first part of that read.
+pub fn read_all<S: Source>(alloc: Global, source: &mut S) -> Result<Vec<u8>, InputError>
+    ensures all { IfOk result
+        (λ bytes. Consumes (S.left source.old) (S.left source.new) bytes.items) }
+    ensures end { OnOk result (IsAtEnd (S.left source.new)) }
+    ensures part { OnErr result
+        ((bytes : List ℕ) × Consumes (S.left source.old) (S.left source.new) bytes) }
+
+    ensures failed { IsErrOf result InputError.Failed →
+        Rose (S.faults source.old) (S.faults source.new) }
+    ensures counts { StandsOrRises (S.faults source.old) (S.faults source.new) }
+    // Only want of memory may come before the first read.
+    ensures called { result ≢ Err InputError.NoMemory →
+        NeverFalls (S.faults source.old) (S.faults source.new) }
+{
+    let mut room = zeros(alloc, PIECE)?;
+    let piece = room.as_mut_slice();
+    let mut bytes = Vec::new(alloc);
+    loop {
+        let count = source.read(piece)?;
+        if count == 0 {
+            return Ok(bytes);
+        }
+        bytes.extend_from_slice(&piece[..count])?;
+    }
+}
+
+/// So many zeros.
+fn zeros(alloc: Global, count: usize) -> Result<Vec<u8>, AllocError>
+    ensures { IfOk result (λ bytes. vec_len bytes ≡ count) }
+{
+    vec![in alloc; 0u8; count]
+}
