@@ -1,6 +1,6 @@
 -- Packets, of the page 'Protocol' of wiki.vg for protocol 47: a VarInt id, then the packet's fields, and nothing after
 -- them. A packet is one row; the laws of all rows are stated once.
-use Rattle.std.specs.Prelude.{◌≡◌, ℕ, ◌-◌, ◌^◌, ◌<◌, ◌==◌, Bool, true, false, cond, List, [], ◌∷◌, ◌++◌, length, Result, Ok, Err, refl, if◌then◌else◌}
+use Rattle.std.specs.Prelude.{◌≡◌, ℕ, ◌-◌, ◌^◌, ◌<◌, ◌==◌, Bool, true, false, cond, List, [], ◌∷◌, ◌++◌, length, Result, Ok, Err, IfOk, refl, if◌then◌else◌}
 use Rattle.std.proofs.Common.{sym, subst, ap, ◌∙◌, append_assoc, eqb-true}
 use Rattle.std.proofs.lemmas.List.{append-nil}
 use lib.IntN.{ℤ, pos, negsuc}
@@ -189,6 +189,10 @@ frame_found {P} {entry_of} rows frame p fits e =
 abbrev pub IsTied : {P : Type 0} {entry_of : P → Entry P} → Rows P entry_of → P → Type 0
 IsTied {P} {entry_of} rows p = (bytes : List ℕ) → (entry_of p).row.format.read bytes ≡ Ok ((entry_of p).fields, []) → id_read rows (pos (entry_of p).row.id) bytes ≡ Ok (p, [])
 
+-- each row's packets are, by this, where the row is found under its id
+pub row_tied : {P : Type 0} (r : Row P) (fields : r.Fields) (bytes : List ℕ) → r.format.read bytes ≡ Ok (fields, []) → lifted (fields_read r bytes) ≡ Ok (r.make fields, [])
+row_tied r fields bytes h = rw h refl
+
 pub frame_only : {P : Type 0} {entry_of : P → Entry P} (rows : Rows P entry_of) (p : P) (frame : List ℕ) → IsTied rows p → Spells (entry_of p) frame → frame_read rows frame ≡ Ok p
 unfolding frame_read
 frame_only {P} {entry_of} rows p frame tied s =
@@ -236,3 +240,26 @@ PacketFails (packet_errors.Fault fault) read = read ≡ Err fault
 abbrev pub GivesPacket : {P : Type 0} → Result P PacketRead → Result P PacketFault → Type 0
 GivesPacket (Ok packet) read = read ≡ Ok packet
 GivesPacket (Err e) read = PacketFails e read
+
+packet_ok : {P : Type 0} (frame : List ℕ) (read : Result P RowFault) (p : P) → packet_of frame read ≡ Ok p → read ≡ Ok p
+packet_ok frame (Ok q) p e = cc
+packet_ok frame (Err fault) p e = absurd cc
+
+-- a reader of packets that takes no memory answers what the frame spells
+pub packet_found_all : {P : Type 0} {entry_of : P → Entry P} (rows : Rows P entry_of) (Spelled : P → List ℕ → Type 0) → ((p : P) (bytes : List ℕ) → Spells (entry_of p) bytes → Spelled p bytes) → (frame : List ℕ) (result : Result P PacketFault) → IsBytes frame → result ≡ packet_of frame (frame_read rows frame) → IfOk result (λ p. Spelled p frame)
+packet_found_all rows Spelled seen frame (Ok p) fits e = seen p frame (frame_found rows frame p fits (packet_ok frame (frame_read rows frame) p (sym e)))
+packet_found_all rows Spelled seen frame (Err error) fits e = tt
+
+pub packet_only_all : {P : Type 0} {entry_of : P → Entry P} (rows : Rows P entry_of) (p : P) (frame : List ℕ) (result : Result P PacketFault) → IsTied rows p → Spells (entry_of p) frame → result ≡ packet_of frame (frame_read rows frame) → result ≡ Ok p
+packet_only_all rows p frame result tied s e = e ∙ ap (packet_of frame) (frame_only rows p frame tied s)
+
+-- what a reader of packets read is spelled so, and what is spelled so is what it read, unless memory ran out; Spelled is
+-- the relation of one enum, which is that of its rows
+pub packet_found : {P : Type 0} {entry_of : P → Entry P} (rows : Rows P entry_of) (Spelled : P → List ℕ → Type 0) → ((p : P) (bytes : List ℕ) → Spells (entry_of p) bytes → Spelled p bytes) → (frame : List ℕ) (result : Result P PacketRead) → IsBytes frame → GivesPacket result (packet_of frame (frame_read rows frame)) → IfOk result (λ p. Spelled p frame)
+packet_found {P} {entry_of} rows Spelled seen frame (Ok p) fits e = seen p frame (frame_found rows frame p fits (packet_ok frame (frame_read rows frame) p e))
+packet_found rows Spelled seen frame (Err error) fits e = tt
+
+pub packet_only : {P : Type 0} {entry_of : P → Entry P} (rows : Rows P entry_of) (p : P) (frame : List ℕ) (result : Result P PacketRead) → IsTied rows p → Spells (entry_of p) frame → GivesPacket result (packet_of frame (frame_read rows frame)) → GivesPacket result (Ok p)
+packet_only {P} rows p frame result tied s e =
+    let Q : Result P PacketFault → Type 0 = λ r. GivesPacket result r in
+    subst Q (ap (packet_of frame) (frame_only rows p frame tied s)) e

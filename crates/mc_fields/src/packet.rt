@@ -29,6 +29,16 @@ impl RowFault {
     }
 }
 
+impl From<Stop> for RowFault {
+    ghost use Rattle.mc_fields.specs.declared.packet.RowFault.TheVariants as row_faults;
+
+    ghost from_gives = { λ stop fault. fault ≡ row_faults.Stop stop };
+
+    fn from(stop: Stop) -> RowFault {
+        RowFault::Stop(stop)
+    }
+}
+
 /// Why a packet was not read.
 #[derive(Clone, Copy, Debug, PartialEq, Eq)]
 pub enum RowError {

@@ -4,7 +4,7 @@ use Rattle.std.proofs.Common.{sym, subst, ap, ◌∙◌, append_assoc}
 use Rattle.std.proofs.lemmas.List.{append-nil}
 use Rattle.mc_nbt.specs.declared.fault.Kind.{Kind}
 use Rattle.mc_nbt.specs.declared.fault.Stop.{Stop}
-use Rattle.mc_nbt.specs.Reading.{Field, ◌>>=◌, stop_at}
+use Rattle.mc_nbt.specs.Reading.{Field, IsBytes, ◌>>=◌, stop_at}
 use Rattle.mc_nbt.specs.Format.{Format, Found, IsFound, IsOnly, IsAppended, Anything, Nothing}
 
 -- the value of a step that did not fail, and what the next step made of it
@@ -229,3 +229,18 @@ none {Rest} = record {
   spelled = λ value fits. refl;
   appended = none_appended;
 }
+
+-- ---- all of some bytes
+
+-- what is read to the end is spelled by all of the bytes
+pub spelled_whole : {A : Type 0} (f : Format Nothing A) (bytes : List ℕ) (a : A) → IsBytes bytes → f.read bytes ≡ Ok (a, []) → f.spells a bytes
+spelled_whole f bytes a fits e =
+    let found = f.found bytes (a, []) fits e in
+    let all : bytes ≡ found.front = found.parts ∙ append-nil found.front in
+    subst (f.spells a) (sym all) found.spelled
+
+-- what all of the bytes spell is read to the end
+pub read_whole : {A : Type 0} (f : Format Nothing A) (bytes : List ℕ) (a : A) → f.spells a bytes → f.read bytes ≡ Ok (a, [])
+read_whole f bytes a s =
+    let all : bytes ++ [] ≡ bytes = append-nil bytes in
+    sym (ap f.read all) ∙ f.only a bytes [] refl s

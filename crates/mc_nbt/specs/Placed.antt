@@ -1,14 +1,14 @@
 -- Reading from an offset: the value and the offset after it, or the first fault and the offset of the field that fails.
-use Rattle.std.specs.Prelude.{◌≡◌, ℕ, ◌+◌, ◌-◌, ◌≤◌, List, ◌++◌, length, take, drop, slice_range, Result, Ok, Err, IfOk, refl}
+use Rattle.std.specs.Prelude.{◌≡◌, ℕ, ◌+◌, ◌-◌, ◌≤◌, List, ◌++◌, length, drop, slice_range, Result, Ok, Err, IfOk, refl}
 use Rattle.std.proofs.Common.{sym, subst, ap, ◌∙◌, arith}
-use Rattle.std.proofs.lemmas.List.{take_at, drop_at, take-append-drop, length-append, length-drop, length-take}
+use Rattle.std.proofs.lemmas.List.{take_at, take-append-drop, length-append, length-drop}
 use Rattle.mc_nbt.specs.declared.fault.Kind.{Kind}
 use Rattle.mc_nbt.specs.declared.fault.Stop.{Stop}
 use Rattle.mc_nbt.specs.declared.fault.FieldFault.{FieldFault}
 use Rattle.mc_nbt.specs.declared.fault.ReadFault.{ReadFault}
 use Rattle.mc_nbt.specs.declared.fault.ReadFault.TheVariants as faults
 use Rattle.mc_nbt.specs.Reading.{Field, IsBytes, Yields}
-use Rattle.mc_nbt.specs.Format.{Format, Found, IsFound, IsOnly, Anything}
+use Rattle.mc_nbt.specs.Format.{IsFound, IsOnly, Anything}
 use Rattle.mc_nbt.specs.Numbers.{IsBytes-drop}
 use Rattle.mc_nbt.specs.Combine.{ok_is}
 
