@@ -13,7 +13,7 @@ pub trait Sink {
     ghost faults: { Self → ℕ };
 
     /// Writes some first part of the piece, and says how many bytes that is, one at least. A failure
-    /// takes nothing.
+    /// leaves what the sink holds, where it tells that.
     fn write(&mut self, piece: &[u8]) -> Result<usize, Failed>
         requires { 0 < length piece.now }
         ensures took { IfOk result (λ n. (0 < n) × (n ≤ length piece.now)) }
@@ -23,7 +23,8 @@ pub trait Sink {
         ensures counts { NeverFalls (faults self.old) (faults self.new) };
 }
 
-/// Writes a whole piece. A failure leaves some first part of it written. An empty piece does nothing.
+/// Writes a whole piece. A failure leaves some first part of it written, and comes only from the
+/// sink. An empty piece does nothing.
 pub fn write_all<S: Sink>(sink: &mut S, piece: &[u8]) -> Result<(), Failed>
     ensures whole { OnOk result (Grows (S.held sink.old) (S.held sink.new) piece.now) }
     ensures part { OnErr result

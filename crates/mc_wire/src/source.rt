@@ -20,7 +20,7 @@ pub trait Source {
     ghost answers: { Self → ℕ };
 
     /// Reads into the front of the buffer, and says how many bytes it read: 0 only at the end. A
-    /// failure gives nothing.
+    /// failure leaves what is left, where the source tells that.
     fn read(&mut self, buf: &mut [u8]) -> Result<usize, Failed>
         requires { 0 < length buf.old }
         ensures within { IfOk result (λ n. n ≤ length buf.new) }
@@ -32,7 +32,8 @@ pub trait Source {
         ensures falls { IfOk result (λ n. 0 < n → answers self.new < answers self.old) };
 }
 
-/// All that a source has left. An error leaves some first part of that read.
+/// All that a source has left. It fails where the source does, or where there is no memory for the
+/// bytes. An error leaves some first part of them read.
 pub fn read_all<S: Source>(alloc: Global, source: &mut S) -> Result<Vec<u8>, InputError>
     ensures all { IfOk result
         (λ bytes. Consumes (S.left source.old) (S.left source.new) bytes.items) }
