@@ -1,0 +1,5 @@
+pub mod Packets
+pub mod Cuts
+pub mod Exchanges
+pub mod Replies
+pub mod Inputs

@@ -1,0 +1,7 @@
+pub mod Hand
+pub mod Status
+pub mod Frame
+pub mod Lines
+pub mod Exchange
+pub mod Ended
+pub mod Run

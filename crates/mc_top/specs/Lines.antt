@@ -1,0 +1,46 @@
+-- A text of lines of hex, each of which stands for some bytes. Rules of this project: lines are parted by LF, and a line that
+-- is empty or begins with `#` stands for none.
+use Rattle.std.specs.Prelude.{◌≡◌, ℕ, ◌==◌, Bool, true, false, List, [], ◌∷◌, ◌++◌, Option, Some, None, if◌then◌else◌}
+use Rattle.std.specs.List.{slice_split}
+use Rattle.std.specs.Result.{result_ok}
+use Rattle.hex.specs.Hex.{decode_of}
+
+-- whether a byte ends a line
+abbrev pub is_line_end : ℕ → Bool
+is_line_end b = b == 10
+
+-- the lines, without their ends
+abbrev pub lines_of : List ℕ → List (List ℕ)
+lines_of text = slice_split is_line_end text
+
+-- whether a line is left out
+abbrev pub is_skipped : List ℕ → Bool
+is_skipped [] = true
+is_skipped (b ∷ line) = b == 35
+
+-- the bytes of a line, or none where it is no hex
+abbrev pub line_bytes : List ℕ → Option (List ℕ)
+line_bytes line = if is_skipped line then Some [] else result_ok (decode_of line)
+
+-- some bytes before others, where there are any
+abbrev pub behind : List ℕ → Option (List ℕ) → Option (List ℕ)
+behind front None = None
+behind front (Some bytes) = Some (front ++ bytes)
+
+abbrev pub joined_by : Option (List ℕ) → Option (List ℕ) → Option (List ℕ)
+joined_by None rest = None
+joined_by (Some front) rest = behind front rest
+
+-- the bytes of some lines together
+unfoldable pub lines_bytes : List (List ℕ) → Option (List ℕ)
+lines_bytes [] = Some []
+lines_bytes (line ∷ lines) = joined_by (line_bytes line) (lines_bytes lines)
+
+-- the bytes that a text stands for, or none where a line is no hex
+abbrev pub text_bytes : List ℕ → Option (List ℕ)
+text_bytes text = lines_bytes (lines_of text)
+
+-- the bytes of a line were put behind the others, or it was no hex
+abbrev pub PutsLine : Option (List ℕ) → List ℕ → List ℕ → Bool → Type 0
+PutsLine None old new is_hex = is_hex ≡ false
+PutsLine (Some bytes) old new is_hex = (is_hex ≡ true) × (new ≡ old ++ bytes)
