@@ -11,5 +11,7 @@ mod frame;
 mod hand;
 mod lines;
 mod status;
+#[cfg(test)]
+mod tests;
 
 pub use command::run;
