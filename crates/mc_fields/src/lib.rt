@@ -3,6 +3,8 @@
 
 mod integers;
 mod packet;
+#[cfg(test)]
+mod tests;
 mod text;
 mod varint;
 

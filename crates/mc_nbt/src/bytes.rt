@@ -43,6 +43,13 @@ impl Octets {
         })
     }
 
+    /// The bytes as a vector, without copying them.
+    pub fn into_vec(self) -> Vec<u8>
+        ensures { result.items ≡ self }
+    {
+        self.items
+    }
+
     /// The bytes.
     pub fn as_slice(&self) -> &[u8]
         ensures { result.now ≡ self.now }
@@ -78,6 +85,20 @@ impl Text {
         Ok(Text {
             inner: String::from_str(alloc, text)?,
         })
+    }
+
+    /// The text of a string, without copying it.
+    pub fn from_string(inner: String) -> Text
+        ensures { result ≡ string_bytes inner }
+    {
+        Text { inner }
+    }
+
+    /// The text as a string, without copying it.
+    pub fn into_string(self) -> String
+        ensures { string_bytes result ≡ self }
+    {
+        self.inner
     }
 
     /// The text.

@@ -5,6 +5,8 @@ mod bytes;
 mod fault;
 mod memory;
 mod reading;
+#[cfg(test)]
+mod tests;
 mod writing;
 
 pub use bytes::{Octets, Text};

@@ -19,7 +19,7 @@ pub fn write_u8(n: u8, out: &mut Vec<u8>) -> Result<(), NoMemory>
     ensures ok { OnOk result (out.new.items ≡ out.old.items ++ number_spelling w8 n) }
     ensures err { OnErr result (out.new.items ≡ out.old.items) }
 {
-    out.extend_from_slice(&n.to_be_bytes())?;
+    out.extend_from_slice(&u8::to_be_bytes(n))?;
     Ok(())
 }
 
@@ -29,7 +29,7 @@ pub fn write_u16(n: u16, out: &mut Vec<u8>) -> Result<(), NoMemory>
     ensures ok { OnOk result (out.new.items ≡ out.old.items ++ number_spelling w16 n) }
     ensures err { OnErr result (out.new.items ≡ out.old.items) }
 {
-    out.extend_from_slice(&n.to_be_bytes())?;
+    out.extend_from_slice(&u16::to_be_bytes(n))?;
     Ok(())
 }
 
@@ -39,7 +39,7 @@ pub fn write_u32(n: u32, out: &mut Vec<u8>) -> Result<(), NoMemory>
     ensures ok { OnOk result (out.new.items ≡ out.old.items ++ number_spelling w32 n) }
     ensures err { OnErr result (out.new.items ≡ out.old.items) }
 {
-    out.extend_from_slice(&n.to_be_bytes())?;
+    out.extend_from_slice(&u32::to_be_bytes(n))?;
     Ok(())
 }
 
@@ -49,6 +49,6 @@ pub fn write_u64(n: u64, out: &mut Vec<u8>) -> Result<(), NoMemory>
     ensures ok { OnOk result (out.new.items ≡ out.old.items ++ number_spelling w64 n) }
     ensures err { OnErr result (out.new.items ≡ out.old.items) }
 {
-    out.extend_from_slice(&n.to_be_bytes())?;
+    out.extend_from_slice(&u64::to_be_bytes(n))?;
     Ok(())
 }
