@@ -94,6 +94,10 @@ text_spelled points text fits = record {
   fits = fits.fits;
 }
 
+-- the same, for a text whose length fits its VarInt
+pub text_written : (points : ℕ) (text : List ℕ) → FitsText points text → length text < 2 ^ 31 → SpellsText points text (text_spelling text)
+text_written points text fits sized = text_spelled points text (record { fits = fits; sized = sized })
+
 -- a text with so many code points at most
 abbrev pub text : {Rest : List ℕ → Type 0} → ℕ → Format Rest (List ℕ)
 text {Rest} points = record {

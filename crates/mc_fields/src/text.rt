@@ -2,7 +2,7 @@ ghost use Rattle.std.specs.Prelude.{◌≡◌, ◌≤◌, ◌<◌, ◌^◌, ◌+
 ghost use Rattle.std.specs.Str.{chars};
 ghost use Rattle.mc_nbt.specs.Reading.{Yields, Gives};
 ghost use Rattle.mc_nbt.specs.Placed.{SpelledAt, PlacedGives, placed};
-ghost use Rattle.mc_fields.specs.Text.{SpellsText, checked_text, text_front, text_read, text_spelling};
+ghost use Rattle.mc_fields.specs.Text.{FitsText, SpellsText, checked_text, text_front, text_read, text_spelling};
 
 use crate::varint::{take_varint, write_varint};
 use mc_nbt::{Cursor, Kind, NoMemory, ReadError, ReadFault, Stop, Text, placed};
@@ -110,10 +110,12 @@ pub fn read_text(
 }
 
 /// Appends a text, its length as the shortest VarInt. Without memory `out` is as before.
-#[tactic(auto, unfolding(crate::specs::Text::text_spelling))]
+#[tactic(auto, using(crate::specs::TextFormat::text_written), unfolding(crate::specs::Text::text_spelling))]
 pub fn write_text(text: &Text, out: &mut Vec<u8>) -> Result<(), NoMemory>
     requires { length text.now < 2 ^ 31 }
     ensures ok { OnOk result (out.new.items ≡ out.old.items ++ text_spelling text.now) }
+    // The bytes spell it in each field that allows it.
+    ensures spelled { (points : ℕ) → FitsText points text.now → SpellsText points text.now (text_spelling text.now) }
     ensures err { OnErr result (out.new.items ≡ out.old.items) }
 {
     let bytes = text.as_str().as_bytes();
