@@ -15,19 +15,8 @@ use Rattle.mc_nbt.specs.Reading.{Field, IsBytes, stop_at, ◌>>=◌}
 use Rattle.mc_nbt.specs.Format.{Format, IsFound, IsOnly, Anything}
 use Rattle.mc_nbt.specs.Combine.{IsView, via, view_read, view_spells}
 use Rattle.mc_nbt.specs.Numbers.{IsWide, number, number_read, number_spells, number_found, number_only, wide_8, wide_16, wide_64}
+use Rattle.mc_nbt.specs.Signed.{signed}
 use Rattle.mc_nbt.specs.Placed.{SpelledAt, placed, fault_at, found_at, placed_only}
-
--- numbers below 2 ^ bits, seen as those with a sign
-pub signed_view : (w : Width) → IsView {A = ℕ} (λ n. n < 2 ^ bits w) (SFits w) (cast_signed w) (cast_unsigned w)
-signed_view w = record {
-  made = λ n fits. let small : Fits w n = record { fits = fits } in sfits_to_z small;
-  again = λ n fits. of_z-to_z w n fits;
-  same = λ z fits. to_z-of_z w z fits;
-}
-
--- a number with a sign
-abbrev pub signed : {Rest : List ℕ → Type 0} (w : Width) → IsWide w → Format Rest ℤ
-signed {Rest} w wide = via (number {Rest = Rest} w wide) (SFits w) (cast_signed w) (cast_unsigned w) (signed_view w)
 
 abbrev pub signed_spells : Width → ℤ → List ℕ → Type 0
 signed_spells w = view_spells (number_spells w) (SFits w) (cast_unsigned w)

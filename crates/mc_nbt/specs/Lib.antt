@@ -3,3 +3,14 @@ pub mod Format
 pub mod Combine
 pub mod Numbers
 pub mod Placed
+pub mod Signed
+pub mod Times
+pub mod Tree
+pub mod TreeCode
+pub mod TagView
+pub mod TagFalls
+pub mod Nbt
+pub mod NbtReading
+pub mod NbtAgain
+pub mod NbtTakes
+pub mod NbtFormat

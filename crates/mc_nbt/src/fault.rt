@@ -17,7 +17,7 @@ pub enum Kind {
     TooLong,
     /// A number that its field does not allow.
     BadNumber,
-    /// A tag byte that names no kind of tag.
+    /// A tag byte that names no kind of tag, or one that its place does not allow.
     BadTag,
     /// Lists and compounds within one another past the limit.
     Deep,

@@ -1,0 +1,5 @@
+pub mod Loops
+pub mod Kept
+pub mod Alike
+pub mod Fit
+pub mod Written

@@ -1,0 +1,20 @@
+-- Signed numbers, spelled as their two's complement.
+use Rattle.std.specs.Prelude.{ℕ, ℤ, ◌<◌, ◌^◌, List, FitsSigned}
+use Rattle.std.specs.Int.{Width, cast_signed, cast_unsigned}
+use mir.Val.{bits}
+use Rattle.std.proofs.Math.Facts.{sfits_to_z}
+use Rattle.std.proofs.lemmas.Int.{of_z-to_z, to_z-of_z}
+use Rattle.mc_nbt.specs.Format.{Format}
+use Rattle.mc_nbt.specs.Combine.{IsView, via}
+use Rattle.mc_nbt.specs.Numbers.{IsWide, number}
+
+pub signed_view : (w : Width) → IsView (λ (n : ℕ). n < 2 ^ bits w) (FitsSigned w) (cast_signed w) (cast_unsigned w)
+signed_view w = record {
+  made = λ n lt. sfits_to_z {w = w} {n = n} (record { fits = lt });
+  again = λ n lt. of_z-to_z w n lt;
+  same = λ z fits. to_z-of_z w z fits;
+}
+
+-- a signed number
+abbrev pub signed : {Rest : List ℕ → Type 0} (w : Width) → IsWide w → Format Rest ℤ
+signed {Rest} w wide = via (number w wide) (FitsSigned w) (cast_signed w) (cast_unsigned w) (signed_view w)

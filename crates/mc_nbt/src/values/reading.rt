@@ -1,0 +1,305 @@
+ghost use Rattle.std.specs.Prelude.{◌≡◌, ◌+◌, ◌-◌, ◌<◌, ◌≤◌, length, IfOk, OnOk, option_map};
+ghost use Rattle.std.specs.Int.{w8, w16, w32, w64};
+ghost use Rattle.mc_nbt.specs.Reading.{Yields, Gives};
+ghost use Rattle.mc_nbt.specs.Numbers.{number_read};
+ghost use Rattle.mc_nbt.specs.Times.{times_at};
+ghost use Rattle.mc_nbt.specs.NbtReading.{signed_at, kind_at, count_at, name_at, bytes_at, ints_at, leaf_at, list_at, named_at, member_at, members_at, compound_at, value_at, root_at, nbt_at};
+ghost use Rattle.mc_nbt.specs.Nbt.{named};
+ghost use Rattle.mc_nbt.specs.TagView.{tree_of, member_of};
+
+use crate::{Cursor, Entries, Ints, Kind, Octets, ReadError, Stop, Tag, Tags};
+use std::alloc::Global;
+
+/// The largest tag byte.
+const LAST_KIND: u8 = 11;
+
+/// The byte that ends a compound.
+const END: u8 = 0;
+
+/// The tag byte of a compound.
+const COMPOUND: u8 = 10;
+
+/// How many lists and compounds may stand in one another inside the outermost compound.
+const ROOM_INSIDE: usize = 511;
+
+/// The longest list or array.
+const MOST_ITEMS: u32 = 2_147_483_647;
+
+#[tactic(auto, unfolding(crate::specs::NbtReading::kind_at, crate::specs::Numbers::number_read))]
+fn read_kind(input: &mut Cursor<'_>) -> Result<u8, Stop>
+    ensures gives { Yields (λ kind. (kind, input.new)) result (kind_at input.old) }
+    ensures shorter { OnOk result (length input.new < length input.old) }
+{
+    let bad = input.stop(Kind::BadTag);
+    let kind = input.u8()?;
+    if kind > LAST_KIND {
+        return Err(bad);
+    }
+    Ok(kind)
+}
+
+#[tactic(auto, unfolding(crate::specs::NbtReading::count_at, crate::specs::Numbers::number_read))]
+fn read_count(input: &mut Cursor<'_>, kind: u8) -> Result<u32, Stop>
+    ensures gives { Yields (λ count. (count, input.new)) result (count_at kind input.old) }
+    ensures shorter { OnOk result (length input.new < length input.old) }
+{
+    let bad = input.stop(Kind::BadLength);
+    let count = input.u32()?;
+    let most = if kind > END { MOST_ITEMS } else { 0 };
+    if count > most {
+        return Err(bad);
+    }
+    Ok(count)
+}
+
+#[tactic(auto, unfolding(crate::specs::NbtReading::signed_at, crate::specs::Numbers::number_read))]
+fn read_i8(input: &mut Cursor<'_>) -> Result<i8, Stop>
+    ensures gives { Yields (λ number. (number, input.new)) result (signed_at w8 input.old) }
+    ensures shorter { OnOk result (length input.new < length input.old) }
+{
+    Ok(input.u8()?.cast_signed())
+}
+
+#[tactic(auto, unfolding(crate::specs::NbtReading::signed_at, crate::specs::Numbers::number_read))]
+fn read_i16(input: &mut Cursor<'_>) -> Result<i16, Stop>
+    ensures gives { Yields (λ number. (number, input.new)) result (signed_at w16 input.old) }
+    ensures shorter { OnOk result (length input.new < length input.old) }
+{
+    Ok(input.u16()?.cast_signed())
+}
+
+#[tactic(auto, unfolding(crate::specs::NbtReading::signed_at, crate::specs::Numbers::number_read))]
+fn read_i32(input: &mut Cursor<'_>) -> Result<i32, Stop>
+    ensures gives { Yields (λ number. (number, input.new)) result (signed_at w32 input.old) }
+    ensures shorter { OnOk result (length input.new < length input.old) }
+{
+    Ok(input.u32()?.cast_signed())
+}
+
+#[tactic(auto, unfolding(crate::specs::NbtReading::signed_at, crate::specs::Numbers::number_read))]
+fn read_i64(input: &mut Cursor<'_>) -> Result<i64, Stop>
+    ensures gives { Yields (λ number. (number, input.new)) result (signed_at w64 input.old) }
+    ensures shorter { OnOk result (length input.new < length input.old) }
+{
+    Ok(input.u64()?.cast_signed())
+}
+
+#[tactic(auto, unfolding(crate::specs::Numbers::number_read))]
+fn read_u32(input: &mut Cursor<'_>) -> Result<u32, Stop>
+    ensures gives { Yields (λ pattern. (pattern, input.new)) result (number_read w32 input.old) }
+    ensures shorter { OnOk result (length input.new < length input.old) }
+{
+    Ok(input.u32()?)
+}
+
+#[tactic(auto, unfolding(crate::specs::Numbers::number_read))]
+fn read_u64(input: &mut Cursor<'_>) -> Result<u64, Stop>
+    ensures gives { Yields (λ pattern. (pattern, input.new)) result (number_read w64 input.old) }
+    ensures shorter { OnOk result (length input.new < length input.old) }
+{
+    Ok(input.u64()?)
+}
+
+#[tactic(auto, unfolding(crate::specs::NbtReading::name_at, crate::specs::NbtReading::run_at, crate::specs::Numbers::number_read, crate::specs::Numbers::octets_read))]
+fn read_name(alloc: Global, input: &mut Cursor<'_>) -> Result<Octets, ReadError>
+    ensures gives { Gives (λ name. (name, input.new)) result (name_at input.old) }
+    ensures shorter { OnOk result (length input.new < length input.old) }
+{
+    let short = input.stop(Kind::Short);
+    let len = input.u16()?;
+    let Ok(bytes) = input.take(len as usize) else {
+        return Err(ReadError::Stop(short));
+    };
+    Ok(Octets::from_slice(alloc, bytes)?)
+}
+
+#[tactic(auto, unfolding(crate::specs::NbtReading::bytes_at, crate::specs::NbtReading::run_at, crate::specs::Numbers::octets_read))]
+fn read_bytes(alloc: Global, input: &mut Cursor<'_>) -> Result<Octets, ReadError>
+    ensures gives { Gives (λ bytes. (bytes, input.new)) result (bytes_at input.old) }
+    ensures shorter { OnOk result (length input.new < length input.old) }
+{
+    let short = input.stop(Kind::Short);
+    let len = read_count(input, 7)?;
+    let Ok(bytes) = input.take(len as usize) else {
+        return Err(ReadError::Stop(short));
+    };
+    Ok(Octets::from_slice(alloc, bytes)?)
+}
+
+#[tactic(auto, using(crate::proofs::Loops::times_next, crate::proofs::Loops::times_halt, crate::proofs::Loops::times_done, crate::proofs::Loops::times_first))]
+fn read_ints(alloc: Global, input: &mut Cursor<'_>, count: u32) -> Result<Ints, ReadError>
+    ensures gives { Gives (λ ints. (ints, input.new)) result (times_at (signed_at w32) count input.old) }
+    ensures shorter { OnOk result (length input.new ≤ length input.old) }
+{
+    let mut ints = Ints::new(alloc);
+    for _ in 0..count {
+        ints.push(read_i32(input)?)?;
+    }
+    Ok(ints)
+}
+
+#[tactic(auto, unfolding(crate::specs::NbtReading::ints_at))]
+fn read_int_array(alloc: Global, input: &mut Cursor<'_>) -> Result<Ints, ReadError>
+    ensures gives { Gives (λ ints. (ints, input.new)) result (ints_at input.old) }
+    ensures shorter { OnOk result (length input.new ≤ length input.old) }
+{
+    let count = read_count(input, 11)?;
+    let ints = read_ints(alloc, input, count)?;
+    Ok(ints)
+}
+
+/// A value that holds no others. `BadTag` at another kind.
+#[tactic(auto, unfolding(crate::specs::NbtReading::leaf_at))]
+fn read_leaf(alloc: Global, input: &mut Cursor<'_>, kind: u8) -> Result<Tag, ReadError>
+    ensures gives { Gives (λ tag. (tree_of tag, input.new)) result (leaf_at kind input.old) }
+    ensures shorter { OnOk result (length input.new ≤ length input.old) }
+{
+    match kind {
+        1 => Ok(Tag::Byte(read_i8(input)?)),
+        2 => Ok(Tag::Short(read_i16(input)?)),
+        3 => Ok(Tag::Int(read_i32(input)?)),
+        4 => Ok(Tag::Long(read_i64(input)?)),
+        5 => Ok(Tag::Float(read_u32(input)?)),
+        6 => Ok(Tag::Double(read_u64(input)?)),
+        7 => Ok(Tag::ByteArray(read_bytes(alloc, input)?)),
+        8 => Ok(Tag::Str(read_name(alloc, input)?)),
+        11 => Ok(Tag::IntArray(read_int_array(alloc, input)?)),
+        _ => Err(ReadError::Stop(input.stop(Kind::BadTag))),
+    }
+}
+
+/// A value of a kind, where `room` more lists and compounds may be open.
+#[cycle(reading)]
+#[tactic(auto, unfolding(crate::specs::NbtReading::value_at, crate::specs::NbtReading::payload_at, crate::specs::NbtReading::compound_at))]
+fn read_value(
+    alloc: Global,
+    input: &mut Cursor<'_>,
+    kind: u8,
+    room: usize,
+) -> Result<Tag, ReadError>
+    ensures gives { Gives (λ tag. (tree_of tag, input.new)) result (value_at room kind input.old) }
+    ensures shorter { OnOk result (length input.new ≤ length input.old) }
+{
+    if room == 0 {
+        return match kind {
+            9 => Err(ReadError::Stop(input.stop(Kind::Deep))),
+            10 => Err(ReadError::Stop(input.stop(Kind::Deep))),
+            _ => read_leaf(alloc, input, kind),
+        };
+    }
+    match kind {
+        9 => read_list(alloc, input, room - 1),
+        10 => Ok(Tag::Compound(read_entries(alloc, input, room - 1)?)),
+        _ => read_leaf(alloc, input, kind),
+    }
+}
+
+#[cycle(reading)]
+#[tactic(auto, unfolding(crate::specs::NbtReading::list_at))]
+fn read_list(alloc: Global, input: &mut Cursor<'_>, room: usize) -> Result<Tag, ReadError>
+    ensures gives { Gives (λ tag. (tree_of tag, input.new)) result (list_at (value_at room) input.old) }
+    ensures shorter { OnOk result (length input.new ≤ length input.old) }
+{
+    let kind = read_kind(input)?;
+    let count = read_count(input, kind)?;
+    let tags = read_items(alloc, input, kind, room, count)?;
+    Ok(Tag::List(kind, tags))
+}
+
+#[cycle(reading)]
+#[tactic(auto, using(crate::proofs::Loops::times_next, crate::proofs::Loops::times_stop, crate::proofs::Loops::times_done, crate::proofs::Loops::times_first))]
+fn read_items(
+    alloc: Global,
+    input: &mut Cursor<'_>,
+    kind: u8,
+    room: usize,
+    count: u32,
+) -> Result<Tags, ReadError>
+    ensures gives { Gives (λ tags. (tags, input.new)) result (times_at (value_at room kind) count input.old) }
+    ensures shorter { OnOk result (length input.new ≤ length input.old) }
+{
+    let mut tags = Tags::new(alloc);
+    for _ in 0..count {
+        tags.push(read_value(alloc, input, kind, room)?)?;
+    }
+    Ok(tags)
+}
+
+/// The entries of a compound and the byte of its end, where `room` more lists and compounds may be open in them.
+#[cycle(reading)]
+#[tactic(auto, using(crate::proofs::Loops::until_next, crate::proofs::Loops::until_stop, crate::proofs::Loops::until_done, crate::proofs::Loops::until_begins), unfolding(crate::specs::NbtReading::members_at))]
+pub fn read_entries(
+    alloc: Global,
+    input: &mut Cursor<'_>,
+    room: usize,
+) -> Result<Entries, ReadError>
+    ensures gives { Gives (λ entries. (entries, input.new)) result (members_at (value_at room) input.old) }
+    ensures shorter { OnOk result (length input.new ≤ length input.old) }
+{
+    let mut entries = Entries::new(alloc);
+    while let Some(entry) = read_member(alloc, input, room)? {
+        entries.push(entry)?;
+    }
+    Ok(entries)
+}
+
+/// The next entry, or None at the byte of the end.
+#[cycle(reading)]
+#[tactic(auto, unfolding(crate::specs::NbtReading::member_at))]
+fn read_member(
+    alloc: Global,
+    input: &mut Cursor<'_>,
+    room: usize,
+) -> Result<Option<(Octets, Tag)>, ReadError>
+    ensures gives { Gives (λ entry. (option_map member_of entry, input.new)) result (member_at (value_at room) input.old) }
+    ensures shorter { OnOk result (length input.new < length input.old) }
+{
+    let kind = read_kind(input)?;
+    if kind == END {
+        return Ok(None);
+    }
+    let entry = read_named(alloc, input, kind, room)?;
+    Ok(Some(entry))
+}
+
+#[cycle(reading)]
+#[tactic(auto, unfolding(crate::specs::NbtReading::named_at))]
+fn read_named(
+    alloc: Global,
+    input: &mut Cursor<'_>,
+    kind: u8,
+    room: usize,
+) -> Result<(Octets, Tag), ReadError>
+    ensures gives { Gives (λ entry. (member_of entry, input.new)) result (named_at (value_at room kind) input.old) }
+    ensures shorter { OnOk result (length input.new ≤ length input.old) }
+{
+    let name = read_name(alloc, input)?;
+    let tag = read_value(alloc, input, kind, room)?;
+    Ok((name, tag))
+}
+
+/// The byte of a compound. `BadTag` at another one.
+#[tactic(auto, unfolding(crate::specs::NbtReading::root_at, crate::specs::Numbers::number_read))]
+fn read_root(input: &mut Cursor<'_>) -> Result<u8, Stop>
+    ensures gives { Yields (λ kind. (kind, input.new)) result (root_at input.old) }
+    ensures shorter { OnOk result (length input.new < length input.old) }
+{
+    let bad = input.stop(Kind::BadTag);
+    let kind = input.u8()?;
+    if kind != COMPOUND {
+        return Err(bad);
+    }
+    Ok(kind)
+}
+
+/// The name and the entries of a named compound.
+#[tactic(auto, unfolding(crate::specs::NbtReading::nbt_at))]
+pub fn read_parts(alloc: Global, input: &mut Cursor<'_>) -> Result<(Octets, Entries), ReadError>
+    ensures gives { Gives (λ parts. (named parts.0 parts.1, input.new)) result (nbt_at input.old) }
+    ensures shorter { OnOk result (length input.new ≤ length input.old) }
+{
+    read_root(input)?;
+    let name = read_name(alloc, input)?;
+    let entries = read_entries(alloc, input, ROOM_INSIDE)?;
+    Ok((name, entries))
+}
