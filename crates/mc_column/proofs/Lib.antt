@@ -1,0 +1,4 @@
+pub mod Pairs
+pub mod Pieces
+pub mod KeptFacts
+pub mod ColumnFacts

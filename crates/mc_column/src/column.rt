@@ -1,0 +1,149 @@
+ghost use Rattle.std.specs.Prelude.{◌≡◌, ◌+◌, ◌*◌, ◌/◌, ◌%◌, ◌<◌, ◌↔◌, IsNone, IfOk, IfSome, OnOk, OnErr, slice_index, replicate};
+ghost use Rattle.mc_column.specs.Sizes.{section_cells};
+ghost use Rattle.mc_column.specs.Cells.{HasSizes, IsAir, cell_index, square_index, empty_column, with_state, section_of};
+
+use crate::section::Section;
+use crate::sizes::{biomes_of_column, sections_of_column};
+use mc_nbt::NoMemory;
+use std::alloc::Global;
+use std::marker::Model;
+
+/// A column of 16 by 256 by 16 cells with their states, and 16 by 16 biomes. Contracts see it as
+/// the list of its 65,536 states, that of the cell (x, y, z) at `y * 256 + z * 16 + x`, and the
+/// list of its 256 biomes, that of (x, z) at `z * 16 + x`.
+#[derive(Drop)]
+pub struct Column {
+    /// From the bottom up.
+    sections: Vec<Section>,
+    biomes: Vec<u8>,
+}
+
+impl Model for Column {
+    ghost use Rattle.mc_column.specs.Cells.{ColumnValue};
+
+    ghost Value = { ColumnValue };
+
+    ghost use Rattle.mc_column.specs.KeptColumn.{kept_column, IsKeptColumn};
+
+    ghost view = { λ column. kept_column column.sections.items column.biomes.items };
+
+    ghost invariant = { λ column. IsKeptColumn column.sections.items column.biomes.items };
+}
+
+impl Column {
+    /// A column of air with one biome everywhere.
+    pub fn empty(alloc: Global, biome: u8) -> Result<Column, NoMemory>
+        ensures { IfOk result (λ column. column ≡ empty_column biome) }
+    {
+        Ok(Column {
+            sections: sections_of_air(alloc, sections_of_column())?,
+            biomes: copies(alloc, biomes_of_column(), biome)?,
+        })
+    }
+
+    /// The state of a cell.
+    pub fn get(&self, x: u8, y: u8, z: u8) -> u16
+        requires x_inside { x < 16 }
+        requires z_inside { z < 16 }
+        ensures { result ≡ slice_index self.now.states (cell_index x y z) }
+    {
+        let section = &self.sections[section_at(y)];
+        section.get(index_inside(x, y, z))
+    }
+
+    /// Puts a state into a cell and answers the one that was there.
+    ///
+    /// A cell of a section that is there already takes no memory.
+    pub fn set(&mut self, x: u8, y: u8, z: u8, state: u16) -> Result<u16, NoMemory>
+        requires x_inside { x < 16 }
+        requires z_inside { z < 16 }
+        ensures old { IfOk result (λ old. old ≡ slice_index self.old.states (cell_index x y z)) }
+        ensures new { OnOk result (self.new ≡ with_state self.old (cell_index x y z) state) }
+        ensures err { OnErr result (self.new ≡ self.old) }
+    {
+        let section = &mut self.sections[section_at(y)];
+        Ok(section.set(index_inside(x, y, z), state))
+    }
+
+    /// The biome at a place.
+    pub fn biome(&self, x: u8, z: u8) -> u8
+        requires x_inside { x < 16 }
+        requires z_inside { z < 16 }
+        ensures { result ≡ slice_index self.now.biomes (square_index x z) }
+    {
+        self.biomes[usize::from(z) * 16 + usize::from(x)]
+    }
+
+    /// Section `i` from the bottom, unless all its cells are air.
+    pub fn section(&self, i: u8) -> Option<&Section>
+        requires { i < 16 }
+        ensures none { IsNone result ↔ IsAir (section_of self.now.states i) }
+        ensures some { IfSome result (λ section. section.now ≡ section_of self.now.states i) }
+    {
+        let section = &self.sections[usize::from(i)];
+        if section.is_air() {
+            None
+        } else {
+            Some(section)
+        }
+    }
+
+    /// An equal column.
+    pub fn copy(&self) -> Result<Column, NoMemory>
+        ensures equal { IfOk result (λ column. column ≡ self.now) }
+        ensures sizes { HasSizes self.now }
+    {
+        Ok(Column {
+            sections: copies_of(&self.sections)?,
+            biomes: Vec::from_slice(*self.biomes.allocator(), self.biomes.as_slice())?,
+        })
+    }
+}
+
+/// The number of the section that a layer is in.
+fn section_at(y: u8) -> usize
+    ensures { result ≡ y / 16 }
+{
+    usize::from(y / 16)
+}
+
+/// The index of a cell in its section.
+fn index_inside(x: u8, y: u8, z: u8) -> u16
+    requires x_inside { x < 16 }
+    requires z_inside { z < 16 }
+    ensures value { result ≡ y % 16 * 256 + z * 16 + x }
+    ensures inside { result < 4096 }
+{
+    u16::from(y % 16) * 256 + u16::from(z) * 16 + u16::from(x)
+}
+
+/// So many bytes of one value.
+fn copies(alloc: Global, n: usize, byte: u8) -> Result<Vec<u8>, NoMemory>
+    ensures { IfOk result (λ bytes. bytes.items ≡ replicate n byte) }
+{
+    let mut bytes = Vec::new(alloc);
+    bytes.resize(n, byte)?;
+    Ok(bytes)
+}
+
+/// So many sections of air.
+fn sections_of_air(alloc: Global, n: usize) -> Result<Vec<Section>, NoMemory>
+    ensures { IfOk result (λ sections. sections.items ≡ replicate n (replicate section_cells 0)) }
+{
+    let mut sections = Vec::with_capacity(alloc, n)?;
+    for _ in 0..n {
+        sections.push(Section::air(alloc)?)?;
+    }
+    Ok(sections)
+}
+
+/// Equal sections.
+fn copies_of(sections: &Vec<Section>) -> Result<Vec<Section>, NoMemory>
+    ensures { IfOk result (λ copies. copies.items ≡ sections.now.items) }
+{
+    let mut copies = Vec::with_capacity(*sections.allocator(), sections.len())?;
+    for section in sections {
+        copies.push(section.copy()?)?;
+    }
+    Ok(copies)
+}
