@@ -2,3 +2,4 @@ pub mod Pairs
 pub mod Pieces
 pub mod KeptFacts
 pub mod ColumnFacts
+pub mod BodyFacts

@@ -1,9 +1,12 @@
 //! Columns of cells with their biomes, and chunk bodies read and written.
 #![tactic(auto)]
 
+mod body;
 mod column;
+mod mask;
 mod section;
 mod sizes;
 
+pub use body::{Body, read_body};
 pub use column::Column;
 pub use section::Section;

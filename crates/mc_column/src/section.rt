@@ -1,7 +1,7 @@
-ghost use Rattle.std.specs.Prelude.{◌≡◌, ◌<◌, ◌↔◌, IsTrue, IfOk, length, slice_index, slice_set, replicate};
+ghost use Rattle.std.specs.Prelude.{◌≡◌, ◌+◌, ◌*◌, ◌<◌, ◌↔◌, IsTrue, IfOk, length, slice_index, slice_set, replicate};
 ghost use Rattle.mc_column.specs.Sizes.{section_cells};
-ghost use Rattle.mc_column.specs.Cells.{IsAir, wire};
-ghost use Rattle.mc_column.specs.Kept.{block_of};
+ghost use Rattle.mc_column.specs.Cells.{IsAir, paired, wire};
+ghost use Rattle.mc_column.specs.Kept.{block_of, blocks_in};
 
 use crate::sizes::bytes_of_section;
 use mc_nbt::NoMemory;
@@ -47,6 +47,26 @@ fn block(state: u16) -> usize
     if state == 0 { 0 } else { 1 }
 }
 
+/// How many states of a section's bytes are not air.
+fn blocks(bytes: &[u8]) -> usize
+    requires { length bytes.now ≡ 2 * section_cells }
+    ensures { result ≡ blocks_in (paired bytes.now) }
+{
+    let mut count = 0;
+    for i in 0..bytes.len() / 2 {
+        count += block(state_at(bytes, i));
+    }
+    count
+}
+
+/// State `i` of some bytes.
+fn state_at(bytes: &[u8], i: usize) -> u16
+    requires { 2 * i + 1 < length bytes.now }
+    ensures { result ≡ slice_index (paired bytes.now) i }
+{
+    u16::from(bytes[2 * i]) + 256 * u16::from(bytes[2 * i + 1])
+}
+
 impl Section {
     /// A section of air.
     pub(crate) fn air(alloc: Global) -> Result<Section, NoMemory>
@@ -61,8 +81,7 @@ impl Section {
         requires { index < 4096 }
         ensures { result ≡ slice_index self.now index }
     {
-        let at = 2 * index as usize;
-        u16::from(self.bytes[at]) + 256 * u16::from(self.bytes[at + 1])
+        state_at(&self.bytes, index as usize)
     }
 
     /// Puts a state at a cell's index and answers the one that was there.
@@ -77,6 +96,23 @@ impl Section {
         self.bytes[at + 1] = (state / 256) as u8;
         self.filled = self.filled + block(state) - block(old);
         old
+    }
+
+    /// Takes its states from their bytes.
+    pub(crate) fn fill(&mut self, bytes: &[u8])
+        requires { length bytes.now ≡ 2 * section_cells }
+        ensures { self.new ≡ paired bytes.now }
+    {
+        self.bytes.copy_from_slice(bytes);
+        self.filled = blocks(bytes);
+    }
+
+    /// Makes all its cells air.
+    pub(crate) fn clear(&mut self)
+        ensures { self.new ≡ replicate section_cells 0 }
+    {
+        self.bytes.fill(0);
+        self.filled = 0;
     }
 
     /// Whether all its cells are air.

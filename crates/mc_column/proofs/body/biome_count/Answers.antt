@@ -1,0 +1,6 @@
+use Rattle.std.proofs.Common.{sym, refl}
+use Rattle.mc_column.specs.Sizes.{squares-is}
+use Rattle.mc_column.proofs.body.biome_count.Goals as goal
+
+pub returns-then-ground_up-clause-value : goal.returns-then-ground_up-clause-value
+returns-then-ground_up-clause-value c = rw c.if-ground_up.true (sym squares-is)
