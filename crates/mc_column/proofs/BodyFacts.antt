@@ -66,6 +66,7 @@ body_in_spelled mask sky ground_up bytes fits size =
   where
     low_half : (low high : ℕ) → low < 256 → low ≡ (low + 256 * high) % 256
     low_half low high lt = omega arith
+
     high_half : (low high : ℕ) → low < 256 → high ≡ (low + 256 * high) / 256
     high_half low high lt = omega arith
 
@@ -129,6 +130,7 @@ given_found (Ok body) mask sky ground_up bytes fits given =
   where
     ok_same : (a b : BodyValue) → ok_body a ≡ ok_body b → a ≡ b
     ok_same a b e = cc
+
     not_err : (a : BodyValue) (f : FieldFault) → ok_body a ≡ err_body f → ⊥
     not_err a f e = absurd cc
 given_found (Err e) mask sky ground_up bytes fits given = tt
@@ -163,23 +165,25 @@ not_both : (body : BodyValue) (fault : FieldFault) → ok_body body ≡ err_body
 not_both body fault e = absurd cc
 
 pub given_short : (r : Result BodyValue ReadFault) (mask : ℕ) (sky ground_up : Bool) (bytes : List ℕ) → GivesBody r (body_read mask sky ground_up bytes) → (IsErrOf r faults.NoMemory → length bytes ≡ body_size mask sky ground_up) → IsErrOf r (faults.Field (fault_at Short (length bytes))) ↔ (length bytes < body_size mask sky ground_up)
-given_short r mask sky ground_up bytes given memory =
-    (λ e.
-       let read = read_err r (body_read mask sky ground_up bytes) (fault_at Short (length bytes)) given e in
-       elim (cases_order (length bytes) (body_size mask sky ground_up)) [
-         | inl size ↦ absurd (not_both (body_in mask sky ground_up bytes) (fault_at Short (length bytes)) (sym (body_read_whole mask sky ground_up bytes size) ∙ read))
-         | inr (inl short) ↦ short
-         | inr (inr long) ↦ absurd (short_or_long (length bytes) (body_size mask sky ground_up) (sym read ∙ body_read_long mask sky ground_up bytes long))
-       ],
-     λ short. answer_err r (body_read mask sky ground_up bytes) (fault_at Short (length bytes)) given (λ none. let size = memory none in omega arith) (body_read_short mask sky ground_up bytes short))
+given_short r mask sky ground_up bytes given memory = (
+  λ e.
+      let read = read_err r (body_read mask sky ground_up bytes) (fault_at Short (length bytes)) given e in
+      elim (cases_order (length bytes) (body_size mask sky ground_up)) [
+        | inl size ↦ absurd (not_both (body_in mask sky ground_up bytes) (fault_at Short (length bytes)) (sym (body_read_whole mask sky ground_up bytes size) ∙ read))
+        | inr (inl short) ↦ short
+        | inr (inr long) ↦ absurd (short_or_long (length bytes) (body_size mask sky ground_up) (sym read ∙ body_read_long mask sky ground_up bytes long))
+      ],
+  λ short. answer_err r (body_read mask sky ground_up bytes) (fault_at Short (length bytes)) given (λ none. let size = memory none in omega arith) (body_read_short mask sky ground_up bytes short),
+)
 
 pub given_long : (r : Result BodyValue ReadFault) (mask : ℕ) (sky ground_up : Bool) (bytes : List ℕ) → GivesBody r (body_read mask sky ground_up bytes) → (IsErrOf r faults.NoMemory → length bytes ≡ body_size mask sky ground_up) → IsErrOf r (faults.Field (fault_at BadLength (body_size mask sky ground_up))) ↔ (body_size mask sky ground_up < length bytes)
-given_long r mask sky ground_up bytes given memory =
-    (λ e.
-       let read = read_err r (body_read mask sky ground_up bytes) (fault_at BadLength (body_size mask sky ground_up)) given e in
-       elim (cases_order (length bytes) (body_size mask sky ground_up)) [
-         | inl size ↦ absurd (not_both (body_in mask sky ground_up bytes) (fault_at BadLength (body_size mask sky ground_up)) (sym (body_read_whole mask sky ground_up bytes size) ∙ read))
-         | inr (inl short) ↦ absurd (short_or_long (length bytes) (body_size mask sky ground_up) (sym (body_read_short mask sky ground_up bytes short) ∙ read))
-         | inr (inr long) ↦ long
-       ],
-     λ long. answer_err r (body_read mask sky ground_up bytes) (fault_at BadLength (body_size mask sky ground_up)) given (λ none. let size = memory none in omega arith) (body_read_long mask sky ground_up bytes long))
+given_long r mask sky ground_up bytes given memory = (
+  λ e.
+      let read = read_err r (body_read mask sky ground_up bytes) (fault_at BadLength (body_size mask sky ground_up)) given e in
+      elim (cases_order (length bytes) (body_size mask sky ground_up)) [
+        | inl size ↦ absurd (not_both (body_in mask sky ground_up bytes) (fault_at BadLength (body_size mask sky ground_up)) (sym (body_read_whole mask sky ground_up bytes size) ∙ read))
+        | inr (inl short) ↦ absurd (short_or_long (length bytes) (body_size mask sky ground_up) (sym (body_read_short mask sky ground_up bytes short) ∙ read))
+        | inr (inr long) ↦ long
+      ],
+  λ long. answer_err r (body_read mask sky ground_up bytes) (fault_at BadLength (body_size mask sky ground_up)) given (λ none. let size = memory none in omega arith) (body_read_long mask sky ground_up bytes long),
+)

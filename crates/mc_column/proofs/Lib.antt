@@ -3,3 +3,4 @@ pub mod Pieces
 pub mod KeptFacts
 pub mod ColumnFacts
 pub mod BodyFacts
+pub mod PutFacts

@@ -83,19 +83,19 @@ GivesBody (Ok body) read = read ≡ Ok body
 GivesBody (Err faults.NoMemory) read = Unit {0}
 GivesBody (Err (faults.Field fault)) read = read ≡ Err fault
 
--- section i of a column after a body is put into it: as in the body, or else air where the body is ground-up
-abbrev pub put_section : BodyValue → ℕ → List ℕ → List ℕ
-put_section body i old =
-    if is_named body.mask i
-    then section_of body.states (rank (is_named body.mask) i)
-    else if body.ground_up
+-- section i of a column after a body with these states: as in the body, or else air where the body is ground-up
+abbrev pub put_section : ℕ → Bool → List ℕ → ℕ → List ℕ → List ℕ
+put_section mask ground_up states i old =
+    if is_named mask i
+    then section_of states (rank (is_named mask) i)
+    else if ground_up
     then replicate section_cells 0
     else old
 
 -- the column after a body is put into it
 unfoldable pub put_body : ColumnValue → BodyValue → ColumnValue
 put_body column body = record {
-  states = joined (λ i. put_section body i (section_of column.states i)) section_count;
+  states = joined (λ i. put_section body.mask body.ground_up body.states i (section_of column.states i)) section_count;
   biomes = if body.ground_up then body.biomes else column.biomes;
 }
 

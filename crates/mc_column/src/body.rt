@@ -2,6 +2,7 @@ ghost use Rattle.std.specs.Prelude.{◌≡◌, ◌*◌, ◌<◌, ◌≤◌, ◌�
 ghost use Rattle.mc_nbt.specs.declared.fault.Kind.TheVariants.{Short, BadLength};
 ghost use Rattle.mc_nbt.specs.declared.fault.ReadFault.TheVariants as faults;
 ghost use Rattle.mc_column.specs.Sizes.{section_cells, section_count};
+ghost use Rattle.mc_column.specs.Cells.{paired};
 ghost use Rattle.mc_column.specs.Body as spec;
 
 use crate::mask::rank;
@@ -31,6 +32,24 @@ impl Model for Body {
     ghost view = { λ body. kept_body body.mask body.ground_up body.blocks.items body.biomes.items };
 
     ghost invariant = { λ body. IsKeptBody body.mask body.ground_up body.blocks.items body.biomes.items };
+}
+
+impl Body {
+    /// The states as they came, two bytes each.
+    pub(crate) fn blocks(&self) -> &[u8]
+        ensures states { paired result.now ≡ self.now.states }
+        ensures len { length result.now ≡ spec.block_light_at self.now.mask }
+    {
+        self.blocks.as_slice()
+    }
+
+    /// The biomes, none where the body is not ground-up.
+    pub(crate) fn biomes(&self) -> &[u8]
+        ensures value { result.now ≡ self.now.biomes }
+        ensures len { length result.now ≡ spec.biome_count self.now.ground_up }
+    {
+        self.biomes.as_slice()
+    }
 }
 
 /// How many sections a mask names.

@@ -1,7 +1,10 @@
 ghost use Rattle.std.specs.Prelude.{◌≡◌, ◌+◌, ◌*◌, ◌/◌, ◌%◌, ◌<◌, ◌↔◌, IsNone, IfOk, IfSome, OnOk, OnErr, slice_index, replicate};
 ghost use Rattle.mc_column.specs.Sizes.{section_cells};
+ghost use Rattle.mc_column.specs.Body.{put_body};
 ghost use Rattle.mc_column.specs.Cells.{HasSizes, IsAir, cell_index, square_index, empty_column, with_state, section_of};
 
+use crate::body::Body;
+use crate::put::lay_all;
 use crate::section::Section;
 use crate::sizes::{biomes_of_column, sections_of_column};
 use mc_nbt::NoMemory;
@@ -86,6 +89,24 @@ impl Column {
         } else {
             Some(section)
         }
+    }
+
+    /// Puts the states of a body into the sections of its mask. A ground-up body makes the other
+    /// sections air and sets the biomes. The body is one that was read for that mask and that
+    /// `ground_up`.
+    ///
+    /// A column whose sections are all there takes no memory for this.
+    pub fn put(&mut self, body: &Body, mask: u16, ground_up: bool) -> Result<(), NoMemory>
+        requires for_mask { body.now.mask ≡ mask }
+        requires for_ground { body.now.ground_up ≡ ground_up }
+        ensures ok { OnOk result (self.new ≡ put_body self.old body.now) }
+        ensures err { OnErr result (self.new ≡ self.old) }
+    {
+        lay_all(&mut self.sections, body.blocks(), mask, ground_up);
+        if ground_up {
+            self.biomes.copy_from_slice(body.biomes());
+        }
+        Ok(())
     }
 
     /// An equal column.

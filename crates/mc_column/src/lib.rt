@@ -4,6 +4,7 @@
 mod body;
 mod column;
 mod mask;
+mod put;
 mod section;
 mod sizes;
 
