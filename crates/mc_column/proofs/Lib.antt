@@ -4,3 +4,4 @@ pub mod KeptFacts
 pub mod ColumnFacts
 pub mod BodyFacts
 pub mod PutFacts
+pub mod LightFacts

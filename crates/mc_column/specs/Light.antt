@@ -28,6 +28,14 @@ sky_bytes states i n = map (λ j. sky_byte states (i + 2 * j)) (range_with_len 0
 abbrev pub section_sky : List ℕ → ℕ → List ℕ
 section_sky states i = sky_bytes states (i * section_cells) light_bytes
 
+-- a byte of light under two cells of these states, from the byte above them
+abbrev pub dimmed_byte : ℕ → ℕ → ℕ → ℕ
+dimmed_byte above low high = (if low == 0 then above % 16 else 0) + (if high == 0 then above / 16 * 16 else 0)
+
+-- a layer's light, from the light above it and its states
+abbrev pub dimmed : List ℕ → List ℕ → List ℕ
+dimmed above layer = map (λ j. dimmed_byte (slice_index above j) (slice_index layer (2 * j)) (slice_index layer (2 * j + 1))) (range_with_len 0 (length above))
+
 -- the light of the cell at an index, in a byte that holds its light and that of the cell beside it
 abbrev pub half_of : ℕ → ℕ → ℕ
 half_of i byte = if i % 2 == 0 then byte % 16 else byte / 16
