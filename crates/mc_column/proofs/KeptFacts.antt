@@ -1,13 +1,14 @@
 -- How a section is kept stays right through each change.
-use Rattle.std.proofs.Common.{◌≡◌, ℕ, ◌+◌, ◌*◌, ◌-◌, ◌/◌, ◌%◌, ◌<◌, ◌≤◌, Bool, true, false, cond, eqb, zero, suc, List, [], ◌∷◌, ◌++◌, length, get_or, set, take, drop, replicate, refl, sym, ap, ◌∙◌, arith, inl, inr, ◌↔◌, IsTrue, IfOk}
+use Rattle.std.proofs.Common.{◌≡◌, ℕ, ◌+◌, ◌*◌, ◌-◌, ◌/◌, ◌%◌, ◌<◌, ◌≤◌, Bool, true, false, cond, eqb, zero, suc, List, [], ◌∷◌, ◌++◌, length, get_or, set, take, drop, replicate, refl, sym, ap, ◌∙◌, arith, inl, inr, ◌↔◌, IsTrue, IfOk, not}
 use Rattle.std.specs.List.{sum_by, All}
-use Rattle.std.proofs.lemmas.Bool.{cases_lt, cases_eq, eqb-true}
+use Rattle.std.proofs.lemmas.Bool.{cases_lt, cases_eq, cases_Bool, eqb-true, eq-eqb, ne_eqb, false≢true}
 use Rattle.std.proofs.lemmas.List.{ext_get_or, get_or-replicate, length-replicate, get_or_past, length-set, get_or-set_same, get_or-set_other}
 use Rattle.std.proofs.lemmas.List.Sums.{sum_by-set, sum_by-le}
 use Rattle.std.proofs.lemmas.List.Folds.{sum_by-replicate}
 use Rattle.std.proofs.lemmas.List.Elements.{All-replicate}
 use Rattle.mc_column.specs.Sizes.{section_cells, section_cells-is}
 use Rattle.mc_column.specs.Cells.{wire, paired, IsAir}
+use Rattle.mc_column.specs.Sent.{has_block}
 use Rattle.mc_column.specs.Kept.{IsKept, block_of, blocks_in}
 use Rattle.mc_column.proofs.Pairs.{length-paired, get_or-paired, paired-set, paired-zeros}
 
@@ -99,3 +100,33 @@ kept_counts bytes filled i kept lt =
     let len = kept_length bytes filled kept in
     let most = sum_by-le block_of 1 (paired bytes) (λ k d inside. block_at_most (get_or (paired bytes) k d)) in
     (omega (arith, most, kept.counted, len), omega (arith, sum_by-set block_of (paired bytes) i 0 0 (omega (arith, len)), kept.counted))
+
+-- ---- the test whether some state is not air
+
+air_no_block : (xs : List ℕ) → IsAir xs → has_block xs ≡ false
+air_no_block [] air = refl
+air_no_block (x ∷ xs) air = let here : x ≡ 0 = air 0 0 (omega arith) in rw (here, air_no_block xs (λ k d lt. air (suc k) d (omega arith))) refl
+
+no_block_air : (xs : List ℕ) → has_block xs ≡ false → IsAir xs
+no_block_air [] none k d lt = absurd (omega arith)
+no_block_air (x ∷ xs) none zero d lt =
+    elim (cases_Bool (eqb x 0)) [
+      | inl is ↦ eqb-true x 0 is
+      | inr other ↦ let h : true ≡ false = rw other at none in absurd cc
+    ]
+no_block_air (x ∷ xs) none (suc k) d lt =
+    elim (cases_Bool (eqb x 0)) [
+      | inl is ↦ let rest : has_block xs ≡ false = rw is at none in no_block_air xs rest k d (omega arith)
+      | inr other ↦ let h : true ≡ false = rw other at none in absurd cc
+    ]
+
+-- all is air exactly where no state is a block
+pub air_test : (xs : List ℕ) → (has_block xs ≡ false) ↔ IsAir xs
+air_test xs = (no_block_air xs, air_no_block xs)
+
+pub counted_test : (xs : List ℕ) (filled : ℕ) → filled ≡ blocks_in xs → eqb filled 0 ≡ not (has_block xs)
+counted_test xs filled counted =
+    elim (cases_Bool (has_block xs)) [
+      | inl some ↦ rw some (ne_eqb filled 0 (λ none. let test : has_block xs ≡ false = air_no_block xs ((air_counted xs filled counted).0 none) in false≢true (sym test ∙ some)))
+      | inr none ↦ rw none (eq-eqb filled 0 ((air_counted xs filled counted).1 (no_block_air xs none)))
+    ]

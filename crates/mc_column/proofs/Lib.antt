@@ -5,3 +5,5 @@ pub mod ColumnFacts
 pub mod BodyFacts
 pub mod PutFacts
 pub mod LightFacts
+pub mod MaskFacts
+pub mod Parts

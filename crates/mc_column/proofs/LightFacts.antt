@@ -1,14 +1,14 @@
 -- Sky light goes down from the top, a layer at a time.
-use Rattle.std.proofs.Common.{◌≡◌, ℕ, zero, suc, ◌+◌, ◌*◌, ◌-◌, ◌/◌, ◌%◌, ◌<◌, ◌≤◌, Bool, true, false, cond, eqb, ◌&&◌, List, [], ◌∷◌, ◌++◌, length, get_or, map, take, drop, replicate, refl, sym, ap, ◌∙◌, arith, inl, inr, ◌⊎◌}
+use Rattle.std.proofs.Common.{◌≡◌, ℕ, zero, suc, ◌+◌, ◌*◌, ◌-◌, ◌/◌, ◌%◌, ◌<◌, ◌≤◌, Bool, true, false, cond, eqb, ◌&&◌, List, [], ◌∷◌, ◌++◌, length, get_or, set, map, take, drop, replicate, refl, sym, ap, ◌∙◌, arith, inl, inr, ◌⊎◌}
 use Rattle.std.specs.List.{range_with_len, All}
 use Rattle.std.proofs.lemmas.Bool.{cases_lt, cases_eq, cases_Bool, eq-eqb, ne_eqb, eqb-true}
-use Rattle.std.proofs.lemmas.List.{get_or_past, get_or-drop, get_or-take, length-append, ext_get_or, get_or-replicate, length-replicate, get_or_append_left, get_or-append_right}
+use Rattle.std.proofs.lemmas.List.{get_or_past, get_or-drop, get_or-take, length-append, ext_get_or, get_or-replicate, length-replicate, get_or_append_left, get_or-append_right, drop_all, get_or-set_same, get_or-set_other}
 use Rattle.std.proofs.lemmas.Nat.{mul-add-lt}
 use Rattle.std.proofs.Math.Nat.{mul_comm}
-use Rattle.std.proofs.lemmas.List.FromFn.{length-map-range_with_len, get_or-map-range_with_len}
-use Rattle.mc_column.specs.Sizes.{section_count, section_cells, squares, light_bytes, row_bytes, layer_count, squares-is, row_bytes-is, section_cells-is, layer_count-is, section-layers}
+use Rattle.std.proofs.lemmas.List.FromFn.{fill_by_all, length-map-range_with_len, get_or-map-range_with_len}
+use Rattle.mc_column.specs.Sizes.{section_count, section_cells, squares, light_bytes, row_bytes, layer_count, squares-is, row_bytes-is, section_cells-is, layer_count-is, section-layers, light-layers}
 use Rattle.mc_column.specs.Cells.{section_of, IsAir}
-use Rattle.mc_column.specs.Light.{IsOpen, is_open, sky_light, sky_byte, sky_bytes, dimmed_byte, dimmed, half_of}
+use Rattle.mc_column.specs.Light.{IsOpen, is_open, sky_light, sky_byte, sky_bytes, section_sky, dimmed_byte, dimmed, half_of}
 
 and_true_left : (a b : Bool) → (a && b) ≡ true → a ≡ true
 and_true_left true b e = refl
@@ -68,12 +68,12 @@ dimmed_is states c n layer at =
     let above = length-sky_bytes states (c + squares) n in
     let len : length (dimmed (sky_bytes states (c + squares) n) layer) ≡ n = length-map-range_with_len (λ j. dimmed_byte (get_or (sky_bytes states (c + squares) n) j 0) (get_or layer (2 * j) 0) (get_or layer (2 * j + 1) 0)) 0 (length (sky_bytes states (c + squares) n)) ∙ above in
     ext_get_or 0 (dimmed (sky_bytes states (c + squares) n) layer) (sky_bytes states c n) (len ∙ sym (length-sky_bytes states c n)) (λ j lt.
-      let below : j < n = omega arith in
-      let even : c + squares + 2 * j ≡ c + 2 * j + squares = omega arith in
-      let odd : c + (2 * j + 1) ≡ c + 2 * j + 1 = omega arith in
-      get_or-map-range_with_len (λ k. dimmed_byte (get_or (sky_bytes states (c + squares) n) k 0) (get_or layer (2 * k) 0) (get_or layer (2 * k + 1) 0)) 0 (length (sky_bytes states (c + squares) n)) j j 0 (omega arith) (omega arith)
-      ∙ rw (get_or-sky_bytes states (c + squares) n j below, at (2 * j) (omega arith), at (2 * j + 1) (omega arith), even, odd) (dimmed_byte_is states (c + 2 * j))
-      ∙ sym (get_or-sky_bytes states c n j below))
+    let below : j < n = omega arith in
+    let even : c + squares + 2 * j ≡ c + 2 * j + squares = omega arith in
+    let odd : c + (2 * j + 1) ≡ c + 2 * j + 1 = omega arith in
+    get_or-map-range_with_len (λ k. dimmed_byte (get_or (sky_bytes states (c + squares) n) k 0) (get_or layer (2 * k) 0) (get_or layer (2 * k + 1) 0)) 0 (length (sky_bytes states (c + squares) n)) j j 0 (omega arith) (omega arith)
+    ∙ rw (get_or-sky_bytes states (c + squares) n j below, at (2 * j) (omega arith), at (2 * j + 1) (omega arith), even, odd) (dimmed_byte_is states (c + 2 * j))
+    ∙ sym (get_or-sky_bytes states c n j below))
 
 -- light one piece after another
 pub sky_bytes-append : (states : List ℕ) (c a b d : ℕ) → d ≡ c + 2 * a → sky_bytes states c a ++ sky_bytes states d b ≡ sky_bytes states c (a + b)
@@ -82,12 +82,12 @@ sky_bytes-append states c a b d e =
     let second = length-sky_bytes states d b in
     let both = length-append (sky_bytes states c a) (sky_bytes states d b) in
     ext_get_or 0 (sky_bytes states c a ++ sky_bytes states d b) (sky_bytes states c (a + b)) (omega (arith, both, first, second, length-sky_bytes states c (a + b))) (λ j lt.
-      elim (cases_lt j a) [
-        | inl below ↦ get_or_append_left (sky_bytes states c a) (sky_bytes states d b) 0 j (omega arith) ∙ get_or-sky_bytes states c a j below ∙ sym (get_or-sky_bytes states c (a + b) j (omega arith))
-        | inr past ↦
-            let place : d + 2 * (j - a) ≡ c + 2 * j = omega arith in
-            get_or-append_right (sky_bytes states c a) (sky_bytes states d b) a j 0 first past ∙ get_or-sky_bytes states d b (j - a) (omega arith) ∙ rw place (sym (get_or-sky_bytes states c (a + b) j (omega arith)))
-      ])
+    elim (cases_lt j a) [
+      | inl below ↦ get_or_append_left (sky_bytes states c a) (sky_bytes states d b) 0 j (omega arith) ∙ get_or-sky_bytes states c a j below ∙ sym (get_or-sky_bytes states c (a + b) j (omega arith))
+      | inr past ↦
+          let place : d + 2 * (j - a) ≡ c + 2 * j = omega arith in
+          get_or-append_right (sky_bytes states c a) (sky_bytes states d b) a j 0 first past ∙ get_or-sky_bytes states d b (j - a) (omega arith) ∙ rw place (sym (get_or-sky_bytes states c (a + b) j (omega arith)))
+    ])
 
 open_past : (n : ℕ) (states : List ℕ) (i : ℕ) → length states ≤ i → is_open n states i ≡ true
 open_past zero states i past = refl
@@ -97,9 +97,9 @@ open_past (suc n) states i past = rw (get_or_past states i 0 past, open_past n s
 pub sky_bytes_past : (states : List ℕ) (c n : ℕ) → length states ≤ c → sky_bytes states c n ≡ replicate n 255
 sky_bytes_past states c n past =
     ext_get_or 0 (sky_bytes states c n) (replicate n 255) (length-sky_bytes states c n ∙ sym (length-replicate n 255)) (λ j lt.
-      let below : j < n = omega (arith, length-sky_bytes states c n) in
-      get_or-sky_bytes states c n j below
-      ∙ rw (open_past (length states) states (c + 2 * j) (omega arith), open_past (length states) states (c + 2 * j + 1) (omega arith)) (sym (get_or-replicate n j 255 0 below)))
+    let below : j < n = omega (arith, length-sky_bytes states c n) in
+    get_or-sky_bytes states c n j below
+    ∙ rw (open_past (length states) states (c + 2 * j) (omega arith), open_past (length states) states (c + 2 * j + 1) (omega arith)) (sym (get_or-replicate n j 255 0 below)))
 
 -- light goes down through air
 light_through : (states : List ℕ) (c h : ℕ) → ((k : ℕ) → k < h → get_or states (c + k * squares) 0 ≡ 0) → sky_light states c ≡ sky_light states (c + h * squares)
@@ -125,20 +125,20 @@ in_section states i k lt = get_or-take section_cells (drop (i * section_cells) s
 section_through : (states : List ℕ) (i t : ℕ) → t < squares → IsAir (section_of states i) → sky_light states (i * section_cells + t) ≡ sky_light states (i * section_cells + section_cells + t)
 section_through states i t lt air =
     light_through states (i * section_cells + t) layer_count (λ k below.
-      let inside : t + k * squares < section_cells = omega (arith, mul-add-lt k squares t layer_count below lt, mul_comm squares layer_count, section-layers) in
-      let place : i * section_cells + t + k * squares ≡ i * section_cells + (t + k * squares) = omega arith in
-      rw (place, ← in_section states i (t + k * squares) inside) (air_at (section_of states i) (t + k * squares) air))
+    let inside : t + k * squares < section_cells = omega (arith, mul-add-lt k squares t layer_count below lt, mul_comm squares layer_count, section-layers) in
+    let place : i * section_cells + t + k * squares ≡ i * section_cells + (t + k * squares) = omega arith in
+    rw (place, ← in_section states i (t + k * squares) inside) (air_at (section_of states i) (t + k * squares) air))
     ∙ (let place : i * section_cells + t + layer_count * squares ≡ i * section_cells + section_cells + t = omega (arith, section-layers) in rw place refl)
 
 pub row_through : (states : List ℕ) (i : ℕ) → IsAir (section_of states i) → sky_bytes states (i * section_cells + section_cells) row_bytes ≡ sky_bytes states (i * section_cells) row_bytes
 row_through states i air =
     ext_get_or 0 (sky_bytes states (i * section_cells + section_cells) row_bytes) (sky_bytes states (i * section_cells) row_bytes) (length-sky_bytes states (i * section_cells + section_cells) row_bytes ∙ sym (length-sky_bytes states (i * section_cells) row_bytes)) (λ j lt.
-      let below : j < row_bytes = omega (arith, length-sky_bytes states (i * section_cells + section_cells) row_bytes) in
-      let odd : i * section_cells + section_cells + 2 * j + 1 ≡ i * section_cells + section_cells + (2 * j + 1) = omega arith in
-      let odd' : i * section_cells + 2 * j + 1 ≡ i * section_cells + (2 * j + 1) = omega arith in
-      get_or-sky_bytes states (i * section_cells + section_cells) row_bytes j below
-      ∙ rw (odd, ← section_through states i (2 * j) (omega (arith, row_bytes-is, squares-is)) air, ← section_through states i (2 * j + 1) (omega (arith, row_bytes-is, squares-is)) air, ← odd') refl
-      ∙ sym (get_or-sky_bytes states (i * section_cells) row_bytes j below))
+    let below : j < row_bytes = omega (arith, length-sky_bytes states (i * section_cells + section_cells) row_bytes) in
+    let odd : i * section_cells + section_cells + 2 * j + 1 ≡ i * section_cells + section_cells + (2 * j + 1) = omega arith in
+    let odd' : i * section_cells + 2 * j + 1 ≡ i * section_cells + (2 * j + 1) = omega arith in
+    get_or-sky_bytes states (i * section_cells + section_cells) row_bytes j below
+    ∙ rw (odd, ← section_through states i (2 * j) (omega (arith, row_bytes-is, squares-is)) air, ← section_through states i (2 * j + 1) (omega (arith, row_bytes-is, squares-is)) air, ← odd') refl
+    ∙ sym (get_or-sky_bytes states (i * section_cells) row_bytes j below))
 
 -- ---- the light of one cell
 
@@ -179,11 +179,98 @@ pub dark_closed : (states : List ℕ) (i : ℕ) → ¬ (IsOpen states i) → sky
 dark_closed states i closed =
     elim (cases_Bool (is_open (length states) states i)) [
       | inl lit ↦ absurd (closed (λ k. elim (cases_lt k (length states)) [
-          | inl lt ↦ each_open (length states) states i k lit lt
-          | inr past ↦ get_or_past states (i + k * squares) 0 (omega (arith, far k))
-        ]))
+        | inl lt ↦ each_open (length states) states i k lit lt
+        | inr past ↦ get_or_past states (i + k * squares) 0 (omega (arith, far k))
+      ]))
       | inr dark ↦ rw dark refl
     ]
   where
     far : (k : ℕ) → k ≤ k * squares
     far k = rw squares-is (omega arith)
+
+-- ---- a layer's light, a byte at a time
+
+-- the bytes below j are dimmed, those from j on are as they were
+pub record AreDimmed (above layer now : List ℕ) (j : ℕ) : Type 0 where
+  pub done : (k : ℕ) → k < j → get_or now k 0 ≡ dimmed_byte (get_or above k 0) (get_or layer (2 * k) 0) (get_or layer (2 * k + 1) 0)
+  pub left : (k : ℕ) → j ≤ k → get_or now k 0 ≡ get_or above k 0
+
+pub dimmed_none : (above layer : List ℕ) → AreDimmed above layer above 0
+dimmed_none above layer = record { done = λ k lt. absurd (omega arith); left = λ k le. refl }
+
+pub dimmed_more : (above layer now : List ℕ) (j byte : ℕ) → j < length now → AreDimmed above layer now j → byte ≡ dimmed_byte (get_or now j 0) (get_or layer (2 * j) 0) (get_or layer (2 * j + 1) 0) → AreDimmed above layer (set now j byte) (j + 1)
+dimmed_more above layer now j byte lt dims is = record {
+  done = λ k below. elim (cases_eq k j) [
+    | inl e ↦ rw e (get_or-set_same now j byte 0 lt ∙ is ∙ rw (dims.left j (omega arith)) refl)
+    | inr ne ↦ get_or-set_other now j k byte 0 ne ∙ dims.done k (omega arith)
+  ];
+  left = λ k le. get_or-set_other now j k byte 0 (λ e. absurd (omega arith)) ∙ dims.left k (omega arith);
+}
+
+pub dimmed_all : (above layer now : List ℕ) (j : ℕ) → length now ≡ length above → length above ≤ j → AreDimmed above layer now j → now ≡ dimmed above layer
+dimmed_all above layer now j len past dims =
+    fill_by_all (λ k. dimmed_byte (get_or above k 0) (get_or layer (2 * k) 0) (get_or layer (2 * k + 1) 0)) now (length above) 0 len (λ k lt. dims.done k (omega arith))
+
+-- ---- a section's light, a layer at a time
+
+-- the layers from y on are lit, and the light is that of layer y
+pub record AreShaded (section above light sky : List ℕ) (y : ℕ) : Type 0 where
+  pub sky_is : length sky ≡ light_bytes
+  pub light_is : length light ≡ row_bytes
+  pub within : y ≤ layer_count
+  pub now : (states : List ℕ) (i : ℕ) → section ≡ section_of states i → above ≡ sky_bytes states (i * section_cells + section_cells) row_bytes → light ≡ sky_bytes states (i * section_cells + y * squares) row_bytes
+  pub done : (states : List ℕ) (i : ℕ) → section ≡ section_of states i → above ≡ sky_bytes states (i * section_cells + section_cells) row_bytes → drop (y * row_bytes) sky ≡ sky_bytes states (i * section_cells + y * squares) ((layer_count - y) * row_bytes)
+
+pub shaded_none : (section above sky : List ℕ) (y : ℕ) → y ≡ layer_count → length above ≡ row_bytes → length sky ≡ light_bytes → AreShaded section above above sky y
+shaded_none section above sky y top len sized = record {
+  sky_is = sized;
+  light_is = len;
+  within = omega arith;
+  now = λ states i is lit. lit ∙ rw (top, ← section-layers) refl;
+  done = λ states i is lit.
+      let none : layer_count - y ≡ 0 = omega arith in
+      let zero_rows : 0 * row_bytes ≡ 0 = omega arith in
+      let past : length sky ≤ y * row_bytes = rw (top, ← light-layers) (omega (arith, sized)) in
+      rw (none, zero_rows) (drop_all (y * row_bytes) sky past);
+}
+
+pub shaded_more : (section above light sky light' sky' layer : List ℕ) (y z : ℕ) → z ≡ y + 1 → AreShaded section above light sky z → ((t : ℕ) → t < squares → get_or layer t 0 ≡ get_or section (y * squares + t) 0) → light' ≡ dimmed light layer → length sky' ≡ light_bytes → drop (y * row_bytes) sky' ≡ light' ++ drop (y * row_bytes + row_bytes) sky → AreShaded section above light' sky' y
+shaded_more section above light sky light' sky' layer y z step shaded at is len put = record {
+  sky_is = len;
+  light_is = ap length is ∙ length-map-range_with_len (λ j. dimmed_byte (get_or light j 0) (get_or layer (2 * j) 0) (get_or layer (2 * j + 1) 0)) 0 (length light) ∙ shaded.light_is;
+  within = omega (arith, shaded.within);
+  now = λ states i same lit. row states i same lit;
+  done = λ states i same lit.
+      let place : y * row_bytes + row_bytes ≡ z * row_bytes = rw step (next y row_bytes) in
+      let rows : row_bytes + (layer_count - z) * row_bytes ≡ (layer_count - y) * row_bytes = rest_more (layer_count - z) (layer_count - y) row_bytes (omega (arith, shaded.within)) in
+      let after : i * section_cells + z * squares ≡ i * section_cells + y * squares + 2 * row_bytes = omega (arith, ap (λ (k : ℕ). k * squares) step, next y squares, row_bytes-is, squares-is) in
+      put ∙ rw (row states i same lit, place, shaded.done states i same lit, sky_bytes-append states (i * section_cells + y * squares) row_bytes ((layer_count - z) * row_bytes) (i * section_cells + z * squares) after, rows) refl;
+}
+  where
+    next : (a b : ℕ) → a * b + b ≡ (a + 1) * b
+    next a b = grind arith
+
+    turned : (a c : ℕ) → c + a * c ≡ (a + 1) * c
+    turned a c = grind arith
+
+    rest_more : (a b c : ℕ) → b ≡ a + 1 → c + a * c ≡ b * c
+    rest_more a b c e = turned a c ∙ rw e refl
+
+    row : (states : List ℕ) (i : ℕ) → section ≡ section_of states i → above ≡ sky_bytes states (i * section_cells + section_cells) row_bytes → light' ≡ sky_bytes states (i * section_cells + y * squares) row_bytes
+    row states i same lit =
+        let up : i * section_cells + z * squares ≡ i * section_cells + y * squares + squares = omega (arith, ap (λ (k : ℕ). k * squares) step, next y squares) in
+        is ∙ rw (shaded.now states i same lit, up) (dimmed_is states (i * section_cells + y * squares) row_bytes layer (λ t lt.
+        let below : t < squares = omega (arith, row_bytes-is, squares-is) in
+        let inside : y * squares + t < section_cells = omega (arith, mul-add-lt y squares t layer_count (omega (arith, shaded.within)) below, mul_comm squares layer_count, section-layers) in
+        let place : i * section_cells + y * squares + t ≡ i * section_cells + (y * squares + t) = omega arith in
+        at t below ∙ rw (same, place) (in_section states i (y * squares + t) inside)))
+
+-- all layers are lit
+pub shaded_all : (section above light sky : List ℕ) (y : ℕ) → AreShaded section above light sky y → y ≤ 0 → (states : List ℕ) (i : ℕ) → section ≡ section_of states i → above ≡ sky_bytes states (i * section_cells + section_cells) row_bytes → sky ≡ section_sky states i
+shaded_all section above light sky y shaded least states i same lit =
+    let e : y ≡ 0 = omega arith in
+    let start : y * row_bytes ≡ 0 = rw e (omega arith) in
+    let bottom : y * squares ≡ 0 = rw e (omega arith) in
+    let place : i * section_cells + y * squares ≡ i * section_cells = omega arith in
+    let all : layer_count - y ≡ layer_count = omega arith in
+    rw (start, place, all, ← light-layers) at (shaded.done states i same lit)

@@ -1,19 +1,19 @@
 -- What is sent of a column: the mask of its sections, and the bytes of its body.
 use Rattle.std.specs.Prelude.{◌≡◌, ◌≢◌, ℕ, zero, suc, ◌+◌, ◌*◌, ◌/◌, ◌<◌, ◌^◌, Bool, true, false, List, ◌++◌, replicate, slice_index, ◌==◌, not, if◌then◌else◌}
-use Rattle.std.specs.List.{list_all}
+use Rattle.std.specs.List.{list_any}
 use Rattle.mc_column.specs.Sizes.{section_count, section_cells, light_bytes}
 use Rattle.mc_column.specs.Cells.{ColumnValue, IsAir, section_of, joined, picked, rank, wire}
 use Rattle.mc_column.specs.Light.{IsOpen, section_sky, half_of}
 use Rattle.mc_column.specs.Body.{SpellsBody, is_named, named_count, block_light_at, sky_light_at, column_body}
 
--- each state is air
-abbrev pub is_air : List ℕ → Bool
-is_air states = list_all (λ state. state == 0) states
+-- some state is not air
+abbrev pub has_block : List ℕ → Bool
+has_block states = list_any (λ state. not (state == 0)) states
 
--- the bits of the sections from i up to i + n that are not all air, the lowest bit for section i
-abbrev pub filled_mask : List ℕ → ℕ → ℕ → ℕ
-filled_mask states i zero = 0
-filled_mask states i (suc n) = (if is_air (section_of states i) then 0 else 1) + 2 * filled_mask states (suc i) n
+-- the number whose lowest n bits are a test of i, i + 1 and so on
+abbrev pub bits : (ℕ → Bool) → ℕ → ℕ → ℕ
+bits test i zero = 0
+bits test i (suc n) = (if test i then 1 else 0) + 2 * bits test (suc i) n
 
 -- a ground-up body for mask 0 would be an unload: a column with no block names its lowest section
 abbrev pub with_one : ℕ → ℕ
@@ -21,7 +21,7 @@ with_one mask = if mask == 0 then 1 else mask
 
 -- the mask that a column is sent with
 unfoldable pub column_mask : ColumnValue → ℕ
-column_mask column = with_one (filled_mask column.states 0 section_count)
+column_mask column = with_one (bits (λ i. has_block (section_of column.states i)) 0 section_count)
 
 -- The mask names the sections that are not all air, and section 0 alone for a column with no block.
 pub record IsColumnMask (column : ColumnValue) (mask : ℕ) : Type 0 where

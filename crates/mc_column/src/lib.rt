@@ -3,6 +3,7 @@
 
 mod body;
 mod column;
+mod light;
 mod mask;
 mod put;
 mod section;

@@ -1,9 +1,12 @@
-ghost use Rattle.std.specs.Prelude.{◌≡◌, ◌+◌, ◌*◌, ◌<◌, ◌↔◌, IsTrue, IfOk, length, slice_index, slice_set, replicate};
-ghost use Rattle.mc_column.specs.Sizes.{section_cells};
-ghost use Rattle.mc_column.specs.Cells.{IsAir, paired, wire};
+ghost use Rattle.std.specs.Prelude.{◌≡◌, ◌+◌, ◌*◌, ◌<◌, ◌↔◌, IsTrue, IfOk, List, ℕ, not, length, slice_index, slice_set, replicate};
+ghost use Rattle.mc_column.specs.Sizes.{layer_count, light_bytes, row_bytes, section_cells, squares};
+ghost use Rattle.mc_column.specs.Cells.{IsAir, paired, section_of, wire};
+ghost use Rattle.mc_column.specs.Light.{section_sky, sky_bytes};
 ghost use Rattle.mc_column.specs.Kept.{block_of, blocks_in};
+ghost use Rattle.mc_column.specs.Sent.{has_block};
 
-use crate::sizes::bytes_of_section;
+use crate::light::{dim, put_row};
+use crate::sizes::{bytes_of_layer, bytes_of_section, layers_of_section};
 use mc_nbt::NoMemory;
 use std::alloc::Global;
 use std::marker::Model;
@@ -59,8 +62,20 @@ fn blocks(bytes: &[u8]) -> usize
     count
 }
 
+/// The bytes of layer `y` of a section's bytes.
+fn layer(bytes: &[u8], y: usize) -> &[u8]
+    requires inside { y < layer_count }
+    requires whole { length bytes.now ≡ 2 * section_cells }
+    ensures len { length result.now ≡ 2 * squares }
+    ensures states { (t : ℕ) → t < squares → slice_index (paired result.now) t ≡ slice_index (paired bytes.now) (y * squares + t) }
+{
+    let size = bytes_of_layer();
+    let from = y * size;
+    &bytes[from..from + size]
+}
+
 /// State `i` of some bytes.
-fn state_at(bytes: &[u8], i: usize) -> u16
+pub(crate) fn state_at(bytes: &[u8], i: usize) -> u16
     requires { 2 * i + 1 < length bytes.now }
     ensures { result ≡ slice_index (paired bytes.now) i }
 {
@@ -117,7 +132,8 @@ impl Section {
 
     /// Whether all its cells are air.
     pub fn is_air(&self) -> bool
-        ensures { IsTrue result ↔ IsAir self.now }
+        ensures value { IsTrue result ↔ IsAir self.now }
+        ensures test { result ≡ not (has_block self.now) }
     {
         self.filled == 0
     }
@@ -128,6 +144,20 @@ impl Section {
         ensures len { length self.now ≡ section_cells }
     {
         self.bytes.as_slice()
+    }
+
+    /// Makes the light of the layer above the section that of its lowest layer, and writes the
+    /// light of its layers.
+    pub(crate) fn shade(&self, light: &mut [u8], sky: &mut [u8])
+        requires light_is { length light.old ≡ row_bytes }
+        requires sky_is { length sky.old ≡ light_bytes }
+        ensures lowest { (states : List ℕ) (i : ℕ) → self.now ≡ section_of states i → light.old ≡ sky_bytes states (i * section_cells + section_cells) row_bytes → light.new ≡ sky_bytes states (i * section_cells) row_bytes }
+        ensures all { (states : List ℕ) (i : ℕ) → self.now ≡ section_of states i → light.old ≡ sky_bytes states (i * section_cells + section_cells) row_bytes → sky.new ≡ section_sky states i }
+    {
+        for y in (0..layers_of_section()).rev() {
+            dim(light, layer(&self.bytes, y));
+            put_row(sky, y, light);
+        }
     }
 
     /// An equal section.

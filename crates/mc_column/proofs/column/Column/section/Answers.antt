@@ -17,7 +17,7 @@ section_is sections biomes column n i section view kept lt is found =
     get_or_read sections n section there found [] ∙ rw (← view, is) (sym (kept_section sections biomes i kept (omega (arith, section_count-is))))
 
 pub returns-then-is_air-clause-none : goal.returns-then-is_air-clause-none
-returns-then-is_air-clause-none c = (λ _. rw (← section_is c.self.inside.sections.items c.self.inside.biomes.items c.args.self.now c.from.result c.args.i c.index-section.result.now c.self.view_is c.self.invariant c.requires c.from.ensures c.index-section.ensures) (c.is_air.ensures.0 c.if-is_air.true), λ _. refl)
+returns-then-is_air-clause-none c = (λ _. rw (← section_is c.self.inside.sections.items c.self.inside.biomes.items c.args.self.now c.from.result c.args.i c.index-section.result.now c.self.view_is c.self.invariant c.requires c.from.ensures c.index-section.ensures) (c.is_air.ensures.value.0 c.if-is_air.true), λ _. refl)
 
 pub returns-else-is_air-clause-none : goal.returns-else-is_air-clause-none
 returns-else-is_air-clause-none c = (
@@ -25,7 +25,7 @@ returns-else-is_air-clause-none c = (
   λ air.
       let is = section_is c.self.inside.sections.items c.self.inside.biomes.items c.args.self.now c.from.result c.args.i c.index-section.result.now c.self.view_is c.self.invariant c.requires c.from.ensures c.index-section.ensures in
       let here : IsAir c.index-section.result.now = rw is air in
-      absurd (false≢true (sym c.if-is_air.false ∙ c.is_air.ensures.1 here)),
+      absurd (false≢true (sym c.if-is_air.false ∙ c.is_air.ensures.value.1 here)),
 )
 
 pub returns-else-is_air-clause-some : goal.returns-else-is_air-clause-some
