@@ -7,3 +7,4 @@ pub mod PutFacts
 pub mod LightFacts
 pub mod MaskFacts
 pub mod Parts
+pub mod WriteFacts

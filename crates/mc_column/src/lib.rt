@@ -8,6 +8,7 @@ mod mask;
 mod put;
 mod section;
 mod sizes;
+mod write;
 
 pub use body::{Body, read_body};
 pub use column::Column;
