@@ -1,14 +1,14 @@
 -- Bodies and the bytes that spell them.
-use Rattle.std.proofs.Common.{◌≡◌, ℕ, ◌+◌, ◌*◌, ◌-◌, ◌/◌, ◌%◌, ◌<◌, ◌≤◌, Bool, true, false, cond, List, length, get_or, take, drop, refl, sym, ap, subst, ◌∙◌, arith, inl, inr, ◌↔◌, Result, Ok, Err, IfOk, IsErrOf, nat_lt}
-use Rattle.std.proofs.lemmas.Bool.{cases_lt, cases_order, ltb-true, ltb-false, lt-ltb, le-ltb}
+use Rattle.std.proofs.Common.{◌≡◌, ℕ, ◌+◌, ◌*◌, ◌/◌, ◌%◌, ◌<◌, ◌≤◌, Bool, true, false, List, length, get_or, take, drop, refl, sym, ap, subst, ◌∙◌, arith, inl, inr, ◌↔◌, Result, Ok, Err, IfOk, IsErrOf, nat_lt}
+use Rattle.std.proofs.lemmas.Bool.{cases_order, lt-ltb, le-ltb}
 use Rattle.std.proofs.lemmas.List.{length-take, length-drop, get_or-take, get_or-drop, ext_get_or}
 use Rattle.mc_nbt.specs.declared.fault.Kind.TheVariants.{Short, BadLength}
 use Rattle.mc_nbt.specs.declared.fault.ReadFault.{ReadFault}
 use Rattle.mc_nbt.specs.declared.fault.ReadFault.TheVariants as faults
 use Rattle.mc_nbt.specs.declared.fault.FieldFault.{FieldFault}
-use Rattle.mc_column.specs.Sizes.{section_count, section_cells, squares, light_bytes, section_cells-is, light_bytes-is}
+use Rattle.mc_column.specs.Sizes.{section_cells, light_bytes, section_cells-is, light_bytes-is}
 use Rattle.mc_column.specs.Cells.{paired}
-use Rattle.mc_column.specs.Body.{BodyValue, SpellsBody, GivesBody, named_count, block_light_at, sky_light_at, biomes_at, biome_count, body_size, body_in, body_read, fault_at}
+use Rattle.mc_column.specs.Body.{BodyValue, SpellsBody, GivesBody, named_count, block_light_at, biomes_at, body_size, body_in, body_read, fault_at}
 use Rattle.mc_column.proofs.Pairs.{length-paired, get_or-paired}
 
 pub biomes_with_sky : (count : ℕ) → count * 12288 ≡ count * (2 * section_cells) + count * light_bytes + count * light_bytes

@@ -1,9 +1,9 @@
 -- A column that is kept as sections, seen as one list of states.
-use Rattle.std.proofs.Common.{◌≡◌, ℕ, ◌+◌, ◌*◌, ◌-◌, ◌/◌, ◌%◌, ◌<◌, ◌≤◌, List, [], ◌∷◌, length, get_or, set, take, drop, replicate, refl, sym, ap, ◌∙◌, arith, inl, inr}
+use Rattle.std.proofs.Common.{◌≡◌, ℕ, ◌+◌, ◌*◌, ◌/◌, ◌%◌, ◌<◌, List, [], length, get_or, set, replicate, refl, sym, ap, ◌∙◌, arith, inl, inr}
 use Rattle.std.proofs.lemmas.Bool.{cases_eq}
 use Rattle.std.proofs.lemmas.List.{get_or-set_same, get_or-set_other, length-set, get_or-replicate, length-replicate}
-use Rattle.mc_column.specs.Sizes.{section_count, section_cells, cells, squares, section_count-is, section_cells-is, cells-is, cells-sections}
-use Rattle.mc_column.specs.Cells.{ColumnValue, HasSizes, joined, section_of, cell_index, with_state, empty_column}
+use Rattle.mc_column.specs.Sizes.{section_count, section_cells, squares, section_count-is, section_cells-is, cells-sections}
+use Rattle.mc_column.specs.Cells.{HasSizes, section_of, cell_index, with_state, empty_column}
 use Rattle.mc_column.specs.KeptColumn.{nth_section, kept_column, IsKeptColumn}
 use Rattle.mc_column.proofs.Pieces.{AreSized, piece_all, length-joined_all, get_or-joined, joined-set, joined_copies}
 

@@ -1,16 +1,15 @@
 -- How a section is kept stays right through each change.
-use Rattle.std.proofs.Common.{◌≡◌, ℕ, ◌+◌, ◌*◌, ◌-◌, ◌/◌, ◌%◌, ◌<◌, ◌≤◌, Bool, true, false, cond, eqb, zero, suc, List, [], ◌∷◌, ◌++◌, length, get_or, set, take, drop, replicate, refl, sym, ap, ◌∙◌, arith, inl, inr, ◌↔◌, IsTrue, IfOk, not}
-use Rattle.std.specs.List.{sum_by, All}
+use Rattle.std.proofs.Common.{◌≡◌, ℕ, ◌+◌, ◌*◌, ◌-◌, ◌/◌, ◌%◌, ◌<◌, ◌≤◌, true, false, cond, eqb, zero, suc, List, [], ◌∷◌, length, get_or, set, replicate, refl, sym, ap, ◌∙◌, arith, inl, inr, ◌↔◌, not}
 use Rattle.std.proofs.lemmas.Bool.{cases_lt, cases_eq, cases_Bool, eqb-true, eq-eqb, ne_eqb, false≢true}
 use Rattle.std.proofs.lemmas.List.{ext_get_or, get_or-replicate, length-replicate, get_or_past, length-set, get_or-set_same, get_or-set_other}
 use Rattle.std.proofs.lemmas.List.Sums.{sum_by-set, sum_by-le}
 use Rattle.std.proofs.lemmas.List.Folds.{sum_by-replicate}
 use Rattle.std.proofs.lemmas.List.Elements.{All-replicate}
-use Rattle.mc_column.specs.Sizes.{section_cells, section_cells-is}
-use Rattle.mc_column.specs.Cells.{wire, paired, IsAir}
+use Rattle.mc_column.specs.Sizes.{section_cells}
+use Rattle.mc_column.specs.Cells.{paired, IsAir}
 use Rattle.mc_column.specs.Sent.{has_block}
 use Rattle.mc_column.specs.Kept.{IsKept, block_of, blocks_in}
-use Rattle.mc_column.proofs.Pairs.{length-paired, get_or-paired, paired-set, paired-zeros}
+use Rattle.mc_column.proofs.Pairs.{length-paired, paired-set, paired-zeros}
 
 pub get_or-zeros : (n i : ℕ) → get_or (replicate {A = ℕ} n 0) i 0 ≡ 0
 get_or-zeros n i =

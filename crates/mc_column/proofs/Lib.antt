@@ -8,3 +8,4 @@ pub mod LightFacts
 pub mod MaskFacts
 pub mod Parts
 pub mod WriteFacts
+pub mod SentFacts

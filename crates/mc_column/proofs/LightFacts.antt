@@ -1,12 +1,11 @@
 -- Sky light goes down from the top, a layer at a time.
-use Rattle.std.proofs.Common.{◌≡◌, ℕ, zero, suc, ◌+◌, ◌*◌, ◌-◌, ◌/◌, ◌%◌, ◌<◌, ◌≤◌, Bool, true, false, cond, eqb, ◌&&◌, List, [], ◌∷◌, ◌++◌, length, get_or, set, map, take, drop, replicate, refl, sym, ap, ◌∙◌, arith, inl, inr, ◌⊎◌}
-use Rattle.std.specs.List.{range_with_len, All}
+use Rattle.std.proofs.Common.{◌≡◌, ℕ, zero, suc, ◌+◌, ◌*◌, ◌-◌, ◌/◌, ◌%◌, ◌<◌, ◌≤◌, Bool, true, false, cond, eqb, ◌&&◌, List, ◌++◌, length, get_or, set, drop, replicate, refl, sym, ap, ◌∙◌, arith, inl, inr, ◌⊎◌}
 use Rattle.std.proofs.lemmas.Bool.{cases_lt, cases_eq, cases_Bool, eq-eqb, ne_eqb, eqb-true}
 use Rattle.std.proofs.lemmas.List.{get_or_past, get_or-drop, get_or-take, length-append, ext_get_or, get_or-replicate, length-replicate, get_or_append_left, get_or-append_right, drop_all, get_or-set_same, get_or-set_other}
 use Rattle.std.proofs.lemmas.Nat.{mul-add-lt}
 use Rattle.std.proofs.Math.Nat.{mul_comm}
 use Rattle.std.proofs.lemmas.List.FromFn.{fill_by_all, length-map-range_with_len, get_or-map-range_with_len}
-use Rattle.mc_column.specs.Sizes.{section_count, section_cells, squares, light_bytes, row_bytes, layer_count, squares-is, row_bytes-is, section_cells-is, layer_count-is, section-layers, light-layers}
+use Rattle.mc_column.specs.Sizes.{section_cells, squares, light_bytes, row_bytes, layer_count, squares-is, row_bytes-is, section-layers, light-layers}
 use Rattle.mc_column.specs.Cells.{section_of, IsAir}
 use Rattle.mc_column.specs.Light.{IsOpen, is_open, sky_light, sky_byte, sky_bytes, section_sky, dimmed_byte, dimmed, half_of}
 
@@ -115,7 +114,7 @@ light_through states c (suc h) air =
     more : (a b : ℕ) → suc a * b ≡ a * b + b
     more a b = grind arith
 
-air_at : (xs : List ℕ) (k : ℕ) → IsAir xs → get_or xs k 0 ≡ 0
+pub air_at : (xs : List ℕ) (k : ℕ) → IsAir xs → get_or xs k 0 ≡ 0
 air_at xs k air = elim (cases_lt k (length xs)) [ inl lt ↦ air k 0 lt | inr le ↦ get_or_past xs k 0 le ]
 
 pub in_section : (states : List ℕ) (i k : ℕ) → k < section_cells → get_or (section_of states i) k 0 ≡ get_or states (i * section_cells + k) 0

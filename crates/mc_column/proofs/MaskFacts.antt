@@ -1,11 +1,9 @@
 -- The bits of a mask.
-use Rattle.std.proofs.Common.{◌≡◌, ℕ, zero, suc, ◌+◌, ◌*◌, ◌-◌, ◌/◌, ◌%◌, ◌^◌, ◌<◌, ◌≤◌, Bool, true, false, cond, eqb, not, List, refl, sym, ap, ◌∙◌, arith, inl, inr}
+use Rattle.std.proofs.Common.{◌≡◌, ℕ, zero, suc, ◌+◌, ◌*◌, ◌/◌, ◌%◌, ◌^◌, ◌<◌, ◌≤◌, Bool, true, false, cond, eqb, refl, sym, ◌∙◌, arith}
 use Rattle.std.proofs.Math.Nat.{pow-suc, pow-le-pow_right, zero-div}
 use Rattle.std.proofs.lemmas.Nat.{shr-shr}
-use Rattle.std.proofs.lemmas.Bool.{cases_Bool}
-use Rattle.mc_column.specs.Sizes.{section_count, section_count-is}
 use Rattle.mc_column.specs.Body.{is_named}
-use Rattle.mc_column.specs.Sent.{bits, with_one}
+use Rattle.mc_column.specs.Sent.{bits}
 
 pub bits_below : (test : ℕ → Bool) (i n : ℕ) → bits test i n < 2 ^ n
 bits_below test i zero = omega arith

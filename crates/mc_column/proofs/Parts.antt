@@ -1,7 +1,7 @@
 -- Parts of equal size, one after another.
-use Rattle.std.proofs.Common.{◌≡◌, ℕ, ◌+◌, ◌*◌, ◌-◌, ◌<◌, ◌≤◌, List, length, take, drop, get_or, sym, ap, refl, ◌∙◌, arith}
+use Rattle.std.proofs.Common.{◌≡◌, ℕ, ◌+◌, ◌*◌, ◌-◌, ◌<◌, ◌≤◌, List, take, drop, get_or, ◌∙◌, arith}
 use Rattle.std.proofs.lemmas.List.{get_or-take, get_or-drop}
-use Rattle.mc_column.specs.Sizes.{section_cells, squares, layer_count, section-layers, light_bytes, row_bytes}
+use Rattle.mc_column.specs.Sizes.{section_cells, squares, layer_count, section-layers}
 use Rattle.mc_column.specs.Cells.{paired}
 use Rattle.mc_column.proofs.Pairs.{paired-take, paired-drop}
 

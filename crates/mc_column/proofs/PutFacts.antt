@@ -1,15 +1,13 @@
 -- Sections after a body is put into them.
-use Rattle.std.proofs.Common.{◌≡◌, ℕ, ◌+◌, ◌*◌, ◌-◌, ◌<◌, ◌≤◌, Bool, true, false, cond, List, [], length, get_or, set, take, drop, replicate, refl, sym, ap, ◌∙◌, arith, inl, inr}
-use Rattle.std.proofs.lemmas.Bool.{cases_lt, cases_eq}
+use Rattle.std.proofs.Common.{◌≡◌, ℕ, ◌+◌, ◌*◌, ◌<◌, ◌≤◌, Bool, true, false, cond, List, [], length, set, take, drop, replicate, refl, sym, ap, ◌∙◌, arith, inl, inr}
+use Rattle.std.proofs.lemmas.Bool.{cases_eq}
 use Rattle.std.proofs.lemmas.List.{get_or-set_same, get_or-set_other, length-set, length-replicate, length-take, length-drop}
 use Rattle.mc_column.specs.Sizes.{section_count, section_cells, squares}
 use Rattle.mc_column.specs.Cells.{ColumnValue, joined, section_of, rank, paired}
-use Rattle.mc_column.specs.Body.{BodyValue, is_named, named_count, block_light_at, biome_count, put_section, put_body}
+use Rattle.mc_column.specs.Body.{BodyValue, is_named, named_count, put_section, put_body}
 use Rattle.mc_column.specs.KeptColumn.{nth_section, kept_column, IsKeptColumn}
-use Rattle.mc_column.specs.KeptBody.{kept_body, IsKeptBody}
-use Rattle.mc_column.proofs.Pairs.{paired-take, paired-drop, length-paired}
+use Rattle.mc_column.proofs.Pairs.{paired-take, paired-drop}
 use Rattle.mc_column.proofs.Pieces.{rank_below, joined_same}
-use Rattle.mc_column.proofs.BodyFacts.{blocks_even}
 use Rattle.mc_column.proofs.ColumnFacts.{kept_section}
 
 abbrev column_of : List ℕ → List ℕ → ColumnValue

@@ -1,12 +1,12 @@
 -- A body is appended part by part.
-use Rattle.std.proofs.Common.{◌≡◌, ℕ, zero, suc, ◌+◌, ◌*◌, ◌-◌, ◌<◌, ◌≤◌, Bool, true, false, cond, List, [], ◌∷◌, ◌++◌, length, get_or, take, drop, replicate, Vec, Global, vec_len, vec_capacity, refl, sym, ap, ◌∙◌, arith, inl, inr, append_assoc}
+use Rattle.std.proofs.Common.{◌≡◌, ℕ, suc, ◌+◌, ◌*◌, ◌<◌, ◌≤◌, Bool, true, false, cond, List, [], ◌++◌, length, take, drop, replicate, Vec, Global, vec_len, vec_capacity, refl, sym, ap, ◌∙◌, arith, inl, inr, append_assoc}
 use Rattle.std.proofs.lemmas.Bool.{cases_Bool}
 use Rattle.std.proofs.lemmas.List.{append-nil, length-append, drop_all, drop-drop, take-append-drop, length-replicate}
 use Rattle.mc_column.specs.Sizes.{section_count, section_cells, light_bytes, row_bytes}
 use Rattle.mc_column.specs.Cells.{joined, picked, rank, wire}
 use Rattle.mc_column.specs.Light.{sky_bytes, section_sky}
 use Rattle.mc_column.proofs.Pairs.{wire-append, length-wire}
-use Rattle.mc_column.proofs.Pieces.{AreSized, piece, length-joined, rank_below}
+use Rattle.mc_column.proofs.Pieces.{AreSized, piece, length-joined}
 use Rattle.mc_column.proofs.LightFacts.{length-sky_bytes, sky_bytes_past}
 
 -- the states of the sections below i that are named are appended

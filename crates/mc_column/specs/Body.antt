@@ -1,5 +1,5 @@
 -- A chunk body: the states of some sections, their light, and biomes.
-use Rattle.std.specs.Prelude.{◌≡◌, ℕ, ◌+◌, ◌*◌, ◌/◌, ◌%◌, ◌^◌, ◌<◌, Bool, true, false, List, length, take, drop, replicate, slice_index, nat_lt, ◌==◌, Result, Ok, Err, if◌then◌else◌}
+use Rattle.std.specs.Prelude.{◌≡◌, ℕ, ◌+◌, ◌*◌, ◌/◌, ◌%◌, ◌^◌, ◌<◌, Bool, true, List, length, take, drop, replicate, slice_index, nat_lt, ◌==◌, Result, Ok, Err, if◌then◌else◌}
 use Rattle.mc_nbt.specs.declared.fault.Kind.{Kind}
 use Rattle.mc_nbt.specs.declared.fault.Kind.TheVariants.{Short, BadLength}
 use Rattle.mc_nbt.specs.declared.fault.FieldFault.{FieldFault}

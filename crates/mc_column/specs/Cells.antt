@@ -1,7 +1,7 @@
 -- A column of cells, its sections, and the two bytes in which a state is sent.
-use Rattle.std.specs.Prelude.{◌≡◌, ℕ, zero, suc, ◌+◌, ◌*◌, ◌/◌, ◌%◌, Bool, true, false, List, [], ◌∷◌, ◌++◌, length, take, drop, slice_index, slice_set, replicate, ◌==◌, if◌then◌else◌}
+use Rattle.std.specs.Prelude.{◌≡◌, ℕ, zero, suc, ◌+◌, ◌*◌, ◌/◌, ◌%◌, Bool, List, [], ◌∷◌, ◌++◌, length, take, drop, slice_set, replicate, if◌then◌else◌}
 use Rattle.std.specs.List.{All}
-use Rattle.mc_column.specs.Sizes.{section_count, section_cells, cells, squares}
+use Rattle.mc_column.specs.Sizes.{section_cells, cells, squares}
 
 -- a column as contracts see it
 pub record ColumnValue : Type 0 where

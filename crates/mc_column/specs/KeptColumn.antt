@@ -1,5 +1,5 @@
 -- How a column is kept: its sections from the bottom up, and its biomes.
-use Rattle.std.specs.Prelude.{◌≡◌, ℕ, ◌<◌, List, [], length, slice_index, slice_index_or}
+use Rattle.std.specs.Prelude.{◌≡◌, ℕ, ◌<◌, List, [], length, slice_index_or}
 use Rattle.mc_column.specs.Sizes.{section_count, section_cells, squares}
 use Rattle.mc_column.specs.Cells.{ColumnValue, joined}
 

@@ -1,7 +1,7 @@
 ghost use Rattle.std.specs.Prelude.{◌≡◌, ◌*◌, ◌<◌, ◌≤◌, ◌↔◌, Ok, IfOk, IsErrOf, length, take, drop};
 ghost use Rattle.mc_nbt.specs.declared.fault.Kind.TheVariants.{Short, BadLength};
 ghost use Rattle.mc_nbt.specs.declared.fault.ReadFault.TheVariants as faults;
-ghost use Rattle.mc_column.specs.Sizes.{section_cells, section_count};
+ghost use Rattle.mc_column.specs.Sizes.{light_bytes};
 ghost use Rattle.mc_column.specs.Cells.{paired};
 ghost use Rattle.mc_column.specs.Body as spec;
 
@@ -65,6 +65,13 @@ pub(crate) fn block_bytes(mask: u16) -> usize
     ensures { result ≡ spec.block_light_at mask }
 {
     named_count(mask) * 8192
+}
+
+/// How many bytes the block light of the sections in a mask is, and their sky light.
+pub(crate) fn light_size(mask: u16) -> usize
+    ensures { result ≡ spec.named_count mask * light_bytes }
+{
+    named_count(mask) * 2048
 }
 
 /// Where the biomes of a body begin.

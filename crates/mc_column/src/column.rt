@@ -1,12 +1,15 @@
-ghost use Rattle.std.specs.Prelude.{◌≡◌, ◌+◌, ◌*◌, ◌/◌, ◌%◌, ◌<◌, ◌↔◌, IsNone, IfOk, IfSome, OnOk, OnErr, slice_index, replicate};
+ghost use Rattle.std.specs.Prelude.{◌≡◌, ◌+◌, ◌*◌, ◌/◌, ◌%◌, ◌<◌, ◌↔◌, ◌++◌, IsNone, IfOk, IfSome, OnOk, OnErr, slice_index, replicate};
 ghost use Rattle.mc_column.specs.Sizes.{section_cells};
 ghost use Rattle.mc_column.specs.Body.{put_body};
+ghost use Rattle.mc_column.specs.Sent.{IsColumnMask, SpellsColumn, column_bytes, column_mask};
 ghost use Rattle.mc_column.specs.Cells.{HasSizes, IsAir, cell_index, square_index, empty_column, with_state, section_of};
 
-use crate::body::Body;
+use crate::body::{Body, body_size};
+use crate::mask::sent_mask;
 use crate::put::lay_all;
 use crate::section::Section;
 use crate::sizes::{biomes_of_column, sections_of_column};
+use crate::write::append_body;
 use mc_nbt::NoMemory;
 use std::alloc::Global;
 use std::marker::Model;
@@ -107,6 +110,25 @@ impl Column {
             self.biomes.copy_from_slice(body.biomes());
         }
         Ok(())
+    }
+
+    /// Appends the column's body with sky light and biomes, and answers its mask: the sections that
+    /// are not all air, or the lowest alone where no cell has a block. Block light is 0, and sky
+    /// light is 15 where a cell and all cells above it are air, else 0.
+    pub fn write_body(&self, out: &mut Vec<u8>) -> Result<u16, NoMemory>
+        ensures mask { IfOk result (λ mask. mask ≡ column_mask self.now) }
+        ensures ok { OnOk result (out.new.items ≡ out.old.items ++ column_bytes self.now) }
+        ensures err { OnErr result (out.new.items ≡ out.old.items) }
+
+        // The mask and the bytes, said section by section and cell by cell.
+        ensures names { IsColumnMask self.now (column_mask self.now) }
+        ensures spelled { SpellsColumn self.now (column_mask self.now) (column_bytes self.now) }
+        ensures sizes { HasSizes self.now }
+    {
+        let mask = sent_mask(&self.sections);
+        out.reserve(body_size(mask, true, true))?;
+        append_body(&self.sections, &self.biomes, mask, out);
+        Ok(mask)
     }
 
     /// An equal column.

@@ -3,13 +3,17 @@
 
 mod body;
 mod column;
+mod laws;
 mod light;
 mod mask;
 mod put;
 mod section;
 mod sizes;
+#[cfg(test)]
+mod tests;
 mod write;
 
 pub use body::{Body, read_body};
 pub use column::Column;
+pub use laws::bodies_read_back;
 pub use section::Section;

@@ -131,7 +131,7 @@ impl Section {
     }
 
     /// Whether all its cells are air.
-    pub fn is_air(&self) -> bool
+    pub(crate) fn is_air(&self) -> bool
         ensures value { IsTrue result ↔ IsAir self.now }
         ensures test { result ≡ not (has_block self.now) }
     {

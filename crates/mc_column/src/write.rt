@@ -1,10 +1,12 @@
-ghost use Rattle.std.specs.Prelude.{◌≡◌, ◌+◌, ◌*◌, ◌<◌, ◌≤◌, ◌++◌, ℕ, List, [], Bool, false, IsTrue, length, drop, replicate, vec_len, vec_capacity, if◌then◌else◌};
+ghost use Rattle.std.specs.Prelude.{◌≡◌, ◌+◌, ◌*◌, ◌<◌, ◌≤◌, ◌++◌, ℕ, List, [], Bool, false, true, IsTrue, length, drop, replicate, vec_len, vec_capacity, if◌then◌else◌};
 ghost use Rattle.mc_column.specs.Sizes.{light_bytes, row_bytes, section_cells, section_count};
 ghost use Rattle.mc_column.specs.Cells.{IsAir, joined, picked, section_of, wire};
 ghost use Rattle.mc_column.specs.Light.{section_sky, sky_bytes};
-ghost use Rattle.mc_column.specs.Body.{block_light_at, is_named, named_count};
-ghost use Rattle.mc_column.specs.KeptColumn.{nth_section};
+ghost use Rattle.mc_column.specs.Body.{block_light_at, body_size, is_named, named_count};
+ghost use Rattle.mc_column.specs.KeptColumn.{nth_section, kept_column, IsKeptColumn};
+ghost use Rattle.mc_column.specs.Sent.{body_bytes};
 
+use crate::body::light_size;
 use crate::light::full_light;
 use crate::mask::{names, rank};
 use crate::section::Section;
@@ -23,6 +25,7 @@ pub(crate) fn append(out: &mut Vec<u8>, bytes: &[u8])
 pub(crate) fn append_zeros(out: &mut Vec<u8>, n: usize)
     requires { vec_len out.old + n ≤ vec_capacity out.old }
     ensures items { out.new.items ≡ out.old.items ++ replicate n 0 }
+    ensures len { vec_len out.new ≡ vec_len out.old + n }
     ensures room { vec_capacity out.old ≤ vec_capacity out.new }
 {
     let len = out.len() + n;
@@ -46,6 +49,7 @@ pub(crate) fn append_blocks(sections: &Vec<Section>, mask: u16, out: &mut Vec<u8
     requires sized { (i : ℕ) → i < section_count → length (nth_section sections.now.items i) ≡ section_cells }
     requires room { vec_len out.old + block_light_at mask ≤ vec_capacity out.old }
     ensures items { out.new.items ≡ out.old.items ++ wire (joined (picked (is_named mask) (nth_section sections.now.items)) section_count) }
+    ensures len { vec_len out.new ≡ vec_len out.old + block_light_at mask }
     ensures room { vec_capacity out.old ≤ vec_capacity out.new }
 {
     for i in 0..sections.len() {
@@ -95,9 +99,25 @@ pub(crate) fn append_sky(sections: &Vec<Section>, mask: u16, light: usize, out: 
     requires light_is { light ≡ named_count mask * light_bytes }
     requires room { vec_len out.old + light ≤ vec_capacity out.old }
     ensures items { out.new.items ≡ out.old.items ++ joined (picked (is_named mask) (section_sky (joined (nth_section sections.now.items) section_count))) section_count }
+    ensures len { vec_len out.new ≡ vec_len out.old + light }
     ensures room { vec_capacity out.old ≤ vec_capacity out.new }
 {
     let from = out.len();
     append_zeros(out, light);
     write_sky(sections, mask, &mut out[from..]);
+}
+
+/// Appends a body with sky light and biomes for a mask, for which there is room.
+#[tactic(auto, unfolding(crate::specs::Sent::body_bytes))]
+pub(crate) fn append_body(sections: &Vec<Section>, biomes: &[u8], mask: u16, out: &mut Vec<u8>)
+    requires kept { IsKeptColumn sections.now.items biomes.now }
+    requires air { (i : ℕ) → i < section_count → is_named mask i ≡ false → IsAir (nth_section sections.now.items i) }
+    requires room { vec_len out.old + body_size mask true true ≤ vec_capacity out.old }
+    ensures { out.new.items ≡ out.old.items ++ body_bytes (kept_column sections.now.items biomes.now) mask }
+{
+    let light = light_size(mask);
+    append_blocks(sections, mask, out);
+    append_zeros(out, light);
+    append_sky(sections, mask, light, out);
+    append(out, biomes);
 }

@@ -1,4 +1,4 @@
-use Rattle.std.proofs.Common.{sym, refl}
+use Rattle.std.proofs.Common.{sym}
 use Rattle.mc_column.specs.Sizes.{squares-is}
 use Rattle.mc_column.proofs.body.biome_count.Goals as goal
 

@@ -1,4 +1,4 @@
-use Rattle.std.proofs.Common.{◌∙◌, arith}
+use Rattle.std.proofs.Common.{arith}
 use Rattle.mc_column.proofs.BodyFacts.{biomes_with_sky, biomes_without}
 use Rattle.mc_column.proofs.body.biomes_at.Goals as goal
 

@@ -1,6 +1,5 @@
-use Rattle.std.proofs.Common.{◌≡◌, arith}
+use Rattle.std.proofs.Common.{arith}
 use Rattle.mc_column.specs.Sizes.{row_bytes-is, squares-is}
-use Rattle.mc_column.specs.Cells.{paired}
 use Rattle.mc_column.proofs.LightFacts.{dimmed_all}
 use Rattle.mc_column.proofs.light.dim.Goals as goal
 

@@ -1,6 +1,4 @@
-use Rattle.std.proofs.Common.{◌≡◌, ℕ, ◌+◌, ◌*◌, ◌<◌, ◌≤◌, get_or}
 use Rattle.mc_column.specs.Cells.{paired}
-use Rattle.mc_column.specs.Light.{dimmed_byte}
 use Rattle.mc_column.proofs.LightFacts.{AreDimmed}
 use Rattle.mc_column.proofs.light.dim.Given as goal
 

@@ -1,5 +1,5 @@
 use Rattle.std.proofs.Common.{◌∙◌, arith}
-use Rattle.mc_column.specs.Sizes.{layer_count, row_bytes, light_bytes-is, light-layers}
+use Rattle.mc_column.specs.Sizes.{light_bytes-is, light-layers}
 use Rattle.mc_column.proofs.Parts.{part_within}
 use Rattle.mc_column.proofs.light.put_row.Goals as goal
 

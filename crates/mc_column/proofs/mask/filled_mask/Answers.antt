@@ -1,9 +1,9 @@
-use Rattle.std.proofs.Common.{◌≡◌, ℕ, ◌+◌, ◌-◌, ◌<◌, ◌≤◌, not, Bool, true, false, arith, ◌∙◌, sym, ap, refl}
+use Rattle.std.proofs.Common.{◌-◌, ◌≤◌, not, Bool, true, false, arith}
 use mir.Val.{bool_byte}
 use Rattle.mc_column.specs.Sizes.{section_count, section_count-is}
 use Rattle.mc_column.specs.KeptColumn.{nth_section}
-use Rattle.mc_column.specs.Sent.{bits, has_block}
-use Rattle.mc_column.proofs.MaskFacts.{bits_room, bits_more}
+use Rattle.mc_column.specs.Sent.{has_block}
+use Rattle.mc_column.proofs.MaskFacts.{bits_room}
 use Rattle.mc_column.proofs.mask.filled_mask.Goals as goal
 
 one_at_most : (b : Bool) → bool_byte b ≤ 1

@@ -1,7 +1,4 @@
-use Rattle.std.proofs.Common.{◌≡◌, ℕ, ◌<◌, ◌≤◌, length}
 use Rattle.mc_column.specs.Cells.{paired}
-use Rattle.mc_column.specs.Body.{put_section}
-use Rattle.mc_column.specs.KeptColumn.{nth_section}
 use Rattle.mc_column.proofs.PutFacts.{AreLaid}
 use Rattle.mc_column.proofs.put.lay_all.Given as goal
 

@@ -1,7 +1,7 @@
-use Rattle.std.proofs.Common.{◌≡◌, ℕ, ◌+◌, ◌*◌, ◌-◌, ◌<◌, ◌≤◌, length, take, drop, arith, sym, ap, refl, ◌∙◌, Bool, true}
+use Rattle.std.proofs.Common.{◌≡◌, ℕ, ◌+◌, ◌*◌, ◌-◌, ◌<◌, ◌≤◌, arith, true}
 use Rattle.mc_column.specs.Sizes.{section_count, section_cells, section_cells-is, section_count-is}
 use Rattle.mc_column.specs.Cells.{rank}
-use Rattle.mc_column.specs.Body.{is_named, named_count, block_light_at}
+use Rattle.mc_column.specs.Body.{is_named, block_light_at}
 use Rattle.mc_column.proofs.PutFacts.{piece_of_blocks, piece_within}
 use Rattle.mc_column.proofs.put.piece.Goals as goal
 

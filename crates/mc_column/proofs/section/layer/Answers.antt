@@ -1,5 +1,5 @@
 use Rattle.std.proofs.Common.{◌∙◌, arith}
-use Rattle.mc_column.specs.Sizes.{layer_count, squares, section_cells-is}
+use Rattle.mc_column.specs.Sizes.{section_cells-is}
 use Rattle.mc_column.proofs.Parts.{part_within, section_parts, layer_state}
 use Rattle.mc_column.proofs.section.layer.Goals as goal
 

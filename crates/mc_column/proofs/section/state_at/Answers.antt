@@ -1,4 +1,4 @@
-use Rattle.std.proofs.Common.{sym, ◌∙◌}
+use Rattle.std.proofs.Common.{sym}
 use Rattle.mc_column.proofs.Pairs.{get_or-paired}
 use Rattle.mc_column.proofs.section.state_at.Goals as goal
 

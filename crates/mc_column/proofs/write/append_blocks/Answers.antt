@@ -1,10 +1,8 @@
-use Rattle.std.proofs.Common.{◌≡◌, ℕ, ◌*◌, ◌<◌, [], length, ap, sym, ◌∙◌, arith, cond, refl}
+use Rattle.std.proofs.Common.{◌≡◌, ◌*◌, ◌<◌, [], length, sym, ◌∙◌, arith, refl}
 use Rattle.std.proofs.lemmas.List.{get_or_read}
 use Rattle.mc_column.specs.Sizes.{section_count, section_cells}
-use Rattle.mc_column.specs.Cells.{wire}
-use Rattle.mc_column.specs.Body.{is_named}
 use Rattle.mc_column.specs.KeptColumn.{nth_section}
-use Rattle.mc_column.proofs.WriteFacts.{AreAppended, appended_none, appended_more}
+use Rattle.mc_column.proofs.WriteFacts.{appended_more}
 use Rattle.mc_column.proofs.PutFacts.{piece_within}
 use Rattle.mc_column.proofs.write.append_blocks.Goals as goal
 

@@ -1,4 +1,4 @@
-use Rattle.std.proofs.Common.{ap, length, ◌∙◌, arith}
+use Rattle.std.proofs.Common.{ap, length, arith}
 use Rattle.mc_column.proofs.Pairs.{length-wire}
 use Rattle.mc_column.proofs.write.append_states.Goals as goal
 

@@ -1,11 +1,10 @@
-use Rattle.std.proofs.Common.{◌≡◌, ℕ, ◌+◌, ◌*◌, ◌-◌, ◌<◌, ◌≤◌, [], length, ap, sym, ◌∙◌, arith, refl}
+use Rattle.std.proofs.Common.{◌≡◌, ℕ, ◌+◌, ◌*◌, ◌-◌, ◌<◌, ◌≤◌, [], length, ap, sym, ◌∙◌, arith}
 use Rattle.std.proofs.lemmas.List.{get_or_read}
 use Rattle.mc_column.specs.Sizes.{section_count, section_cells, light_bytes, row_bytes, section_count-is, light_bytes-is}
-use Rattle.mc_column.specs.Cells.{joined, section_of, rank, IsAir}
+use Rattle.mc_column.specs.Cells.{joined, section_of}
 use Rattle.mc_column.specs.Light.{sky_bytes}
-use Rattle.mc_column.specs.Body.{is_named}
 use Rattle.mc_column.specs.KeptColumn.{nth_section}
-use Rattle.mc_column.proofs.Pieces.{AreSized, piece_all, length-joined_all}
+use Rattle.mc_column.proofs.Pieces.{piece_all, length-joined_all}
 use Rattle.mc_column.proofs.PutFacts.{piece_within}
 use Rattle.mc_column.proofs.WriteFacts.{sky_none, sky_more}
 use Rattle.mc_column.proofs.write.write_sky.Goals as goal

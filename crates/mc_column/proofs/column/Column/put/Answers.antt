@@ -1,8 +1,8 @@
-use Rattle.std.proofs.Common.{◌≡◌, ℕ, ◌*◌, ◌<◌, Bool, true, false, cond, List, length, sym, refl, ◌∙◌, ap, arith}
+use Rattle.std.proofs.Common.{◌≡◌, ℕ, ◌*◌, ◌<◌, Bool, List, length, refl, ◌∙◌, ap}
 use Rattle.mc_column.specs.Sizes.{section_count, section_cells}
 use Rattle.mc_column.specs.Cells.{paired}
-use Rattle.mc_column.specs.Body.{BodyValue, put_section, put_body, named_count, block_light_at}
-use Rattle.mc_column.specs.KeptColumn.{nth_section, kept_column, IsKeptColumn}
+use Rattle.mc_column.specs.Body.{BodyValue, put_section, named_count, block_light_at}
+use Rattle.mc_column.specs.KeptColumn.{nth_section}
 use Rattle.mc_column.proofs.Pairs.{length-paired}
 use Rattle.mc_column.proofs.BodyFacts.{blocks_even}
 use Rattle.mc_column.proofs.PutFacts.{kept_put, kept_put_keeps}

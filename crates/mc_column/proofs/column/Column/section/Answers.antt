@@ -1,10 +1,10 @@
-use Rattle.std.proofs.Common.{◌≡◌, ℕ, ◌+◌, ◌*◌, ◌/◌, ◌%◌, ◌<◌, ◌≤◌, List, [], length, get_or, set, arith, sym, ap, refl, ◌∙◌, rules}
+use Rattle.std.proofs.Common.{◌≡◌, ℕ, ◌<◌, List, [], length, get_or, arith, sym, refl, ◌∙◌}
 use Rattle.std.proofs.lemmas.List.{get_or_read}
-use Rattle.mc_column.specs.Sizes.{section_cells-is, section_count-is, squares-is, section_cells, section_count, squares}
+use Rattle.mc_column.specs.Sizes.{section_count-is}
 use Rattle.std.proofs.lemmas.Bool.{false≢true}
 use Rattle.mc_column.specs.Cells.{ColumnValue, section_of, IsAir}
-use Rattle.mc_column.specs.KeptColumn.{nth_section, kept_column, IsKeptColumn}
-use Rattle.mc_column.proofs.ColumnFacts.{kept_section, kept_sizes, kept_state, kept_with, kept_with_keeps, kept_air}
+use Rattle.mc_column.specs.KeptColumn.{kept_column, IsKeptColumn}
+use Rattle.mc_column.proofs.ColumnFacts.{kept_section}
 use Rattle.mc_column.proofs.column.Column.section.Goals as goal
 
 pub index-section-requires : goal.index-section-requires

@@ -1,5 +1,4 @@
-use Rattle.std.proofs.Common.{sym, ◌∙◌, ap}
-use Rattle.mc_column.specs.Cells.{wire}
+use Rattle.std.proofs.Common.{sym, ◌∙◌}
 use Rattle.mc_column.specs.Sizes.{section_cells}
 use Rattle.mc_column.proofs.KeptFacts.{kept_length}
 use Rattle.mc_column.proofs.Pairs.{wire-paired}

@@ -1,4 +1,4 @@
-use Rattle.std.proofs.Common.{◌≡◌, ℕ, ◌*◌, ◌∙◌, arith}
+use Rattle.std.proofs.Common.{◌≡◌, ◌*◌, arith}
 use Rattle.mc_column.specs.Sizes.{section_cells}
 use Rattle.mc_column.proofs.KeptFacts.{kept_zeros}
 use Rattle.mc_column.proofs.Pairs.{paired-zeros}

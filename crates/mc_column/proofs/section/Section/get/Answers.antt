@@ -1,4 +1,4 @@
-use Rattle.std.proofs.Common.{◌≡◌, length, ap, arith, ◌∙◌}
+use Rattle.std.proofs.Common.{length, ap, arith}
 use Rattle.mc_column.specs.Sizes.{section_cells-is}
 use Rattle.mc_column.proofs.section.Section.get.Goals as goal
 

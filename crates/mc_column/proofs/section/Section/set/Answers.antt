@@ -1,5 +1,5 @@
-use Rattle.std.proofs.Common.{◌≡◌, ℕ, ◌+◌, ◌*◌, ◌-◌, ◌/◌, ◌%◌, ◌<◌, ◌≤◌, length, get_or, arith, sym, ap, refl, ◌∙◌}
-use Rattle.mc_column.specs.Sizes.{section_cells, section_cells-is}
+use Rattle.std.proofs.Common.{◌≡◌, ◌+◌, ◌*◌, ◌-◌, ◌/◌, ◌%◌, ◌<◌, length, get_or, arith, ap, refl, ◌∙◌}
+use Rattle.mc_column.specs.Sizes.{section_cells-is}
 use Rattle.mc_column.specs.Cells.{paired}
 use Rattle.mc_column.specs.Kept.{block_of}
 use Rattle.mc_column.proofs.KeptFacts.{kept_set, kept_counts, block_at_most}

@@ -1,8 +1,6 @@
-use Rattle.std.proofs.Common.{◌≡◌, ℕ, ◌+◌, ◌*◌, ◌-◌, ◌<◌, List, drop, arith, sym, ap, refl, ◌∙◌}
-use Rattle.mc_column.specs.Sizes.{section_cells, squares, row_bytes, layer_count, light_bytes, light-layers}
-use Rattle.mc_column.specs.Cells.{paired, section_of}
-use Rattle.mc_column.specs.Light.{sky_bytes}
-use Rattle.mc_column.proofs.LightFacts.{AreShaded, shaded_none, shaded_more, shaded_all}
+use Rattle.std.proofs.Common.{◌≡◌, ◌+◌, ◌-◌, arith, refl, ◌∙◌}
+use Rattle.mc_column.specs.Cells.{paired}
+use Rattle.mc_column.proofs.LightFacts.{shaded_none, shaded_more, shaded_all}
 use Rattle.mc_column.proofs.section.Section.shade.Goals as goal
 
 pub loop-y-init : goal.loop-y-init
