@@ -15,9 +15,22 @@ fn is_run(bytes: &[u8], from: usize, to: usize, value: u8) -> bool {
 /// Whether a little-endian state stands at each place of a range.
 fn are_states(bytes: &[u8], from: usize, to: usize, low: u8, high: u8) -> bool {
     match bytes.get(from..to) {
-        Some(run) => run.chunks_exact(2).all(|state| state == [low, high].as_slice()),
+        Some(run) => run
+            .chunks_exact(2)
+            .all(|state| state == [low, high].as_slice()),
         None => false,
     }
+}
+
+/// Fills bytes up to a length with one value.
+fn pad(bytes: &mut Vec<u8>, len: usize, value: u8) -> Result<(), NoMemory> {
+    bytes.resize(len, value)?;
+    Ok(())
+}
+
+/// So many of the bytes.
+fn front(bytes: &[u8], len: usize) -> &[u8] {
+    bytes.get(..len).unwrap_or(bytes)
 }
 
 /// Puts one state into a whole layer.
@@ -114,8 +127,8 @@ fn an_empty_column_is_written_with_mask_1(rt: HostRuntime) -> Result<(), Fail> {
 
 #[test]
 fn a_size_that_is_wrong_by_one_is_refused(rt: HostRuntime) -> Result<(), Fail> {
-    let bytes = vec![in rt.alloc(); 0u8; 40_000]?;
-    let bytes = bytes.as_slice();
+    let mut bytes = Vec::new(rt.alloc());
+    pad(&mut bytes, 40_000, 0)?;
     assert_eq!(rt; bytes.len(), 40_000);
     for (mask, sky, ground_up, size) in [
         (1u16, true, true, 12_544usize),
@@ -124,11 +137,26 @@ fn a_size_that_is_wrong_by_one_is_refused(rt: HostRuntime) -> Result<(), Fail> {
         (0b101, false, false, 20_480),
         (0, true, true, 256),
     ] {
-        let short = read_body(rt.alloc(), &bytes[..size - 1], mask, sky, ground_up);
-        assert_eq!(rt; fault_of(short), Some(fault(Kind::Short, size - 1)));
-        let long = read_body(rt.alloc(), &bytes[..size + 1], mask, sky, ground_up);
+        let short = read_body(
+            rt.alloc(),
+            front(&bytes, size.saturating_sub(1)),
+            mask,
+            sky,
+            ground_up,
+        );
+        assert_eq!(rt;
+            fault_of(short),
+            Some(fault(Kind::Short, size.saturating_sub(1)))
+        );
+        let long = read_body(
+            rt.alloc(),
+            front(&bytes, size.saturating_add(1)),
+            mask,
+            sky,
+            ground_up,
+        );
         assert_eq!(rt; fault_of(long), Some(fault(Kind::BadLength, size)));
-        let whole = read_body(rt.alloc(), &bytes[..size], mask, sky, ground_up);
+        let whole = read_body(rt.alloc(), front(&bytes, size), mask, sky, ground_up);
         assert_eq!(rt; fault_of(whole), None);
     }
     Ok(())
@@ -162,7 +190,7 @@ fn a_body_changes_the_sections_of_its_mask(rt: HostRuntime) -> Result<(), Fail> 
         bytes.push(0x10)?;
         bytes.push(0x01)?;
     }
-    bytes.resize(12_288, 0x5A)?;
+    pad(&mut bytes, 12_288, 0x5A)?;
     let mut column = filled(rt.alloc())?;
     let body = read_body(rt.alloc(), &bytes, 0b100, true, false)?;
     column.put(&body, 0b100, false)?;
@@ -172,7 +200,7 @@ fn a_body_changes_the_sections_of_its_mask(rt: HostRuntime) -> Result<(), Fail> 
     check_layer(&rt, &column, 48);
     assert_eq!(rt; column.biome(0, 0), 3);
     // The same with biomes, ground-up: the other sections are air then.
-    bytes.resize(12_544, 7)?;
+    pad(&mut bytes, 12_544, 7)?;
     let body = read_body(rt.alloc(), &bytes, 0b100, true, true)?;
     column.put(&body, 0b100, true)?;
     assert_eq!(rt; column.get(3, 40, 4), 0x0110);
