@@ -1,12 +1,14 @@
 -- Sky light goes down from the top, a layer at a time.
-use Rattle.std.proofs.Common.{◌≡◌, ℕ, zero, suc, ◌+◌, ◌*◌, ◌-◌, ◌/◌, ◌%◌, ◌<◌, ◌≤◌, Bool, true, false, cond, eqb, ◌&&◌, List, ◌++◌, length, get_or, set, drop, replicate, refl, sym, ap, ◌∙◌, arith, inl, inr, ◌⊎◌}
+use Rattle.std.proofs.Common.{bit_or, ◌≡◌, ℕ, zero, suc, ◌+◌, ◌*◌, ◌-◌, ◌/◌, ◌%◌, ◌<◌, ◌≤◌, Bool, true, false, cond, eqb, ◌&&◌, List, ◌++◌, length, get_or, set, drop, replicate, refl, sym, ap, ◌∙◌, arith, inl, inr, ◌⊎◌}
 use Rattle.std.proofs.lemmas.Bool.{cases_lt, cases_eq, cases_Bool, eq-eqb, ne_eqb, eqb-true}
 use Rattle.std.proofs.lemmas.List.{get_or_past, get_or-drop, get_or-take, length-append, ext_get_or, get_or-replicate, length-replicate, get_or_append_left, get_or-append_right, drop_all, get_or-set_same, get_or-set_other}
-use Rattle.std.proofs.lemmas.Nat.{mul-add-lt}
+use Rattle.std.proofs.lemmas.Nat.{mul-add-lt, le_or_l, le_or_r}
 use Rattle.std.proofs.Math.Nat.{mul_comm}
 use Rattle.std.proofs.lemmas.List.FromFn.{fill_by_all, length-map-range_with_len, get_or-map-range_with_len}
 use Rattle.mc_column.specs.Sizes.{section_cells, squares, light_bytes, row_bytes, layer_count, squares-is, row_bytes-is, section-layers, light-layers}
-use Rattle.mc_column.specs.Cells.{section_of, IsAir}
+use Rattle.mc_column.specs.Cells.{section_of, IsAir, paired}
+use Rattle.mc_column.proofs.Pairs.{paired-zeros}
+use Rattle.mc_column.proofs.KeptFacts.{air_or_zeros, get_or-zeros}
 use Rattle.mc_column.specs.Light.{IsOpen, is_open, sky_light, sky_byte, sky_bytes, section_sky, dimmed_byte, dimmed, half_of}
 
 and_true_left : (a b : Bool) → (a && b) ≡ true → a ≡ true
@@ -273,3 +275,56 @@ shaded_all section above light sky y shaded least states i same lit =
     let place : i * section_cells + y * squares ≡ i * section_cells = omega arith in
     let all : layer_count - y ≡ layer_count = omega arith in
     rw (start, place, all, ← light-layers) at (shaded.done states i same lit)
+
+-- ---- layers that change nothing
+
+-- any is 0 exactly where the bytes below i are
+pub record AreZero (bytes : List ℕ) (any i : ℕ) : Type 0 where
+  pub all : any ≡ 0 → (k : ℕ) → k < i → get_or bytes k 0 ≡ 0
+  pub none : ((k : ℕ) → k < i → get_or bytes k 0 ≡ 0) → any ≡ 0
+
+pub zero_none : (bytes : List ℕ) → AreZero bytes 0 0
+zero_none bytes = record { all = λ e k lt. absurd (omega arith); none = λ each. refl }
+
+pub zero_more : (bytes : List ℕ) (any i : ℕ) → AreZero bytes any i → AreZero bytes (bit_or any (get_or bytes i 0)) (i + 1)
+zero_more bytes any i zero' = record {
+  all = λ e k lt.
+      let left : any ≡ 0 = omega (arith, le_or_l any (get_or bytes i 0)) in
+      let right : get_or bytes i 0 ≡ 0 = omega (arith, le_or_r any (get_or bytes i 0)) in
+      elim (cases_eq k i) [ inl is ↦ rw is right | inr ne ↦ zero'.all left k (omega arith) ];
+  none = λ each.
+      let left : any ≡ 0 = zero'.none (λ k lt. each k (omega arith)) in
+      let right : get_or bytes i 0 ≡ 0 = each i (omega arith) in
+      rw (left, right) refl;
+}
+
+get_or-dimmed : (above layer : List ℕ) (j : ℕ) → j < length above → get_or (dimmed above layer) j 0 ≡ dimmed_byte (get_or above j 0) (get_or layer (2 * j) 0) (get_or layer (2 * j + 1) 0)
+get_or-dimmed above layer j lt = get_or-map-range_with_len (λ k. dimmed_byte (get_or above k 0) (get_or layer (2 * k) 0) (get_or layer (2 * k + 1) 0)) 0 (length above) j j 0 lt (omega arith)
+
+length-dimmed : (above layer : List ℕ) → length (dimmed above layer) ≡ length above
+length-dimmed above layer = length-map-range_with_len (λ k. dimmed_byte (get_or above k 0) (get_or layer (2 * k) 0) (get_or layer (2 * k + 1) 0)) 0 (length above)
+
+-- under darkness all is dark
+pub dimmed_dark : (above layer : List ℕ) → IsAir above → above ≡ dimmed above layer
+dimmed_dark above layer dark =
+    sym (ext_get_or 0 (dimmed above layer) above (length-dimmed above layer) (λ j lt.
+    let zero' : get_or above j 0 ≡ 0 = air_at above j dark in
+    get_or-dimmed above layer j (omega (arith, length-dimmed above layer)) ∙ rw zero' (none (eqb (get_or layer (2 * j) 0) 0) (eqb (get_or layer (2 * j + 1) 0) 0))))
+  where
+    none : (a b : Bool) → ◌≡◌ {A = ℕ} (cond a (0 % 16) 0 + cond b (0 / 16 * 16) 0) 0
+    none true true = refl
+    none true false = refl
+    none false true = refl
+    none false false = refl
+
+-- air takes no light away
+pub dimmed_air : (above bytes : List ℕ) (n : ℕ) → length bytes ≡ 2 * n → IsAir bytes → above ≡ dimmed above (paired bytes)
+dimmed_air above bytes n len air =
+    sym (ext_get_or 0 (dimmed above (paired bytes)) above (length-dimmed above (paired bytes)) (λ j lt.
+    get_or-dimmed above (paired bytes) j (omega (arith, length-dimmed above (paired bytes))) ∙ rw (no_state (2 * j), no_state (2 * j + 1)) (whole (get_or above j 0))))
+  where
+    whole : (byte : ℕ) → byte % 16 + byte / 16 * 16 ≡ byte
+    whole byte = omega arith
+
+    no_state : (i : ℕ) → get_or (paired bytes) i 0 ≡ 0
+    no_state i = rw (air_or_zeros bytes air, len, paired-zeros n) (get_or-zeros n i)

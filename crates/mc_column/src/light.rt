@@ -1,5 +1,6 @@
-ghost use Rattle.std.specs.Prelude.{◌≡◌, ◌+◌, ◌*◌, ◌<◌, ◌++◌, drop, length, replicate, slice_index};
+ghost use Rattle.std.specs.Prelude.{◌≡◌, ◌+◌, ◌*◌, ◌<◌, ◌↔◌, ◌++◌, IsTrue, drop, length, replicate, slice_index};
 ghost use Rattle.mc_column.specs.Sizes.{layer_count, light_bytes, row_bytes, squares};
+ghost use Rattle.std.specs.List.{All};
 ghost use Rattle.mc_column.specs.Cells.{paired};
 ghost use Rattle.mc_column.specs.Light as spec;
 
@@ -33,8 +34,35 @@ fn dimmed_at(above: u8, layer: &[u8], j: usize) -> u8
     dimmed_byte(above, state_at(layer, 2 * j), state_at(layer, 2 * j + 1))
 }
 
-/// Makes the light of the layer above that of this layer, whose states' bytes these are.
+/// Whether all bytes are 0.
+fn are_zero(bytes: &[u8]) -> bool
+    ensures { IsTrue result ↔ All (λ byte. byte ≡ 0) bytes.now }
+{
+    let mut any = 0;
+    for byte in bytes {
+        any |= *byte;
+    }
+    any == 0
+}
+
+/// Makes the light of the layer above that of this layer, whose states' bytes these are. Where all
+/// is dark already, or the layer is all air, it stays.
 pub(crate) fn dim(light: &mut [u8], layer: &[u8])
+    requires light_is { length light.old ≡ row_bytes }
+    requires layer_is { length layer.now ≡ 2 * squares }
+    ensures { light.new ≡ spec.dimmed light.old (paired layer.now) }
+{
+    if are_zero(light) {
+        return;
+    }
+    if are_zero(layer) {
+        return;
+    }
+    dim_cells(light, layer);
+}
+
+/// The same, cell by cell.
+fn dim_cells(light: &mut [u8], layer: &[u8])
     requires light_is { length light.old ≡ row_bytes }
     requires layer_is { length layer.now ≡ 2 * squares }
     ensures { light.new ≡ spec.dimmed light.old (paired layer.now) }

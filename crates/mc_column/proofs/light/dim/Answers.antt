@@ -1,10 +1,9 @@
-use Rattle.std.proofs.Common.{arith}
-use Rattle.mc_column.specs.Sizes.{row_bytes-is, squares-is}
-use Rattle.mc_column.proofs.LightFacts.{dimmed_all}
+use Rattle.mc_column.specs.Sizes.{squares}
+use Rattle.mc_column.proofs.LightFacts.{dimmed_dark, dimmed_air}
 use Rattle.mc_column.proofs.light.dim.Goals as goal
 
-pub dimmed_at-requires : goal.dimmed_at-requires
-dimmed_at-requires c = omega (arith, c.requires.light_is, c.requires.layer_is, row_bytes-is, squares-is, c.loop-j-test.true)
+pub returns-then-are_zero : goal.returns-then-are_zero
+returns-then-are_zero c = dimmed_dark _ _ (c.are_zero.ensures.0 c.if-are_zero.true)
 
-pub returns : goal.returns
-returns c = dimmed_all _ _ _ c.loop-j.j c.loop-j.auto.light (omega (arith, c.loop-j-test.false)) c.loop-j.invariant
+pub returns-then-are_zero-2 : goal.returns-then-are_zero-2
+returns-then-are_zero-2 c = dimmed_air _ _ squares c.requires.layer_is (c.are_zero-2.ensures.0 c.if-are_zero-2.true)
