@@ -23,14 +23,12 @@ fn dimmed_byte(above: u8, low: u16, high: u16) -> u8
     low_half + high_half
 }
 
-/// Byte `j` of the light of a layer. A pair of cells that is covered is not looked at.
+/// Byte `j` of the light of a layer, from that above it. There is no branch, so that the cells of a
+/// layer are taken many at a time.
 fn dimmed_at(above: u8, layer: &[u8], j: usize) -> u8
     requires { 4 * j + 3 < length layer.now }
     ensures { result ≡ spec.dimmed_byte above (slice_index (paired layer.now) (2 * j)) (slice_index (paired layer.now) (2 * j + 1)) }
 {
-    if above == 0 {
-        return 0;
-    }
     dimmed_byte(above, state_at(layer, 2 * j), state_at(layer, 2 * j + 1))
 }
 
