@@ -1,4 +1,5 @@
--- A chunk body: the states of some sections, their light, and biomes.
+-- A chunk body: the states of some sections, their light, and biomes. The layout is that of wiki.vg, 'SMP Map Format'
+-- and 'Chunk Format', for protocol 47.
 use Rattle.std.specs.Prelude.{◌≡◌, ℕ, ◌+◌, ◌*◌, ◌/◌, ◌%◌, ◌^◌, ◌<◌, Bool, true, List, length, take, drop, replicate, slice_index, nat_lt, ◌==◌, Result, Ok, Err, if◌then◌else◌}
 use Rattle.mc_nbt.specs.declared.fault.Kind.{Kind}
 use Rattle.mc_nbt.specs.declared.fault.Kind.TheVariants.{Short, BadLength}

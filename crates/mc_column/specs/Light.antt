@@ -1,4 +1,5 @@
--- Sky light: a cell is lit where it and all cells above it are air.
+-- Sky light: a cell is lit where it and all cells above it are air. That is a rule of this project; half a byte a cell,
+-- the low half for the even index, is wiki.vg's layout for protocol 47.
 use Rattle.std.specs.Prelude.{◌≡◌, ℕ, zero, suc, ◌+◌, ◌*◌, ◌/◌, ◌%◌, Bool, true, List, length, map, slice_index, ◌==◌, ◌&&◌, if◌then◌else◌}
 use Rattle.std.specs.List.{range_with_len}
 use Rattle.mc_column.specs.Sizes.{section_cells, squares, light_bytes}

@@ -137,27 +137,14 @@ fn a_size_that_is_wrong_by_one_is_refused(rt: HostRuntime) -> Result<(), Fail> {
         (0b101, false, false, 20_480),
         (0, true, true, 256),
     ] {
-        let short = read_body(
-            rt.alloc(),
-            front(&bytes, size.saturating_sub(1)),
-            mask,
-            sky,
-            ground_up,
-        );
-        assert_eq!(rt;
-            fault_of(short),
-            Some(fault(Kind::Short, size.saturating_sub(1)))
-        );
-        let long = read_body(
-            rt.alloc(),
-            front(&bytes, size.saturating_add(1)),
-            mask,
-            sky,
-            ground_up,
-        );
-        assert_eq!(rt; fault_of(long), Some(fault(Kind::BadLength, size)));
-        let whole = read_body(rt.alloc(), front(&bytes, size), mask, sky, ground_up);
-        assert_eq!(rt; fault_of(whole), None);
+        let below = size.saturating_sub(1);
+        let short = fault_of(read_body(rt.alloc(), front(&bytes, below), mask, sky, ground_up));
+        assert_eq!(rt; short, Some(fault(Kind::Short, below)));
+        let above = front(&bytes, size.saturating_add(1));
+        let long = fault_of(read_body(rt.alloc(), above, mask, sky, ground_up));
+        assert_eq!(rt; long, Some(fault(Kind::BadLength, size)));
+        let whole = fault_of(read_body(rt.alloc(), front(&bytes, size), mask, sky, ground_up));
+        assert_eq!(rt; whole, None);
     }
     Ok(())
 }
@@ -209,10 +196,8 @@ fn a_body_changes_the_sections_of_its_mask(rt: HostRuntime) -> Result<(), Fail> 
     assert_eq!(rt; column.biome(9, 2), 7);
     assert!(rt; column.section(1).is_none());
     assert!(rt; column.section(15).is_none());
-    match column.section(2) {
-        Some(section) => assert_eq!(rt; section.get(4_095), 0x0110),
-        None => assert!(rt; false),
-    }
+    let section = column.section(2).ok_or("section 2 is air")?;
+    assert_eq!(rt; section.get(4_095), 0x0110);
     Ok(())
 }
 
