@@ -129,3 +129,8 @@ counted_test xs filled counted =
       | inl some ↦ rw some (ne_eqb filled 0 (λ none. let test : has_block xs ≡ false = air_no_block xs ((air_counted xs filled counted).0 none) in false≢true (sym test ∙ some)))
       | inr none ↦ rw none (eq-eqb filled 0 ((air_counted xs filled counted).1 (no_block_air xs none)))
     ]
+
+-- a section without a block is air
+pub kept_air : (bytes : List ℕ) (filled : ℕ) → IsKept bytes filled → filled ≡ 0 → paired bytes ≡ replicate section_cells 0
+kept_air bytes filled kept none =
+    air_or_zeros (paired bytes) ((air_counted (paired bytes) filled kept.counted).0 none) ∙ ap (λ (n : ℕ). replicate {A = ℕ} n 0) (kept_length bytes filled kept)

@@ -126,6 +126,9 @@ impl Section {
     pub(crate) fn clear(&mut self)
         ensures { self.new ≡ replicate section_cells 0 }
     {
+        if self.filled == 0 {
+            return;
+        }
         self.bytes.fill(0);
         self.filled = 0;
     }
