@@ -8,7 +8,8 @@ use Rattle.mc_nbt.specs.declared.fault.ReadFault.TheVariants as faults
 use Rattle.mc_nbt.specs.declared.fault.FieldFault.{FieldFault}
 use Rattle.mc_column.specs.Sizes.{section_cells, light_bytes, section_cells-is, light_bytes-is}
 use Rattle.mc_column.specs.Cells.{paired}
-use Rattle.mc_column.specs.Body.{BodyValue, SpellsBody, GivesBody, named_count, block_light_at, biomes_at, body_size, body_in, body_read, fault_at}
+use Rattle.mc_column.specs.Body.{BodyValue, SpellsBody, GivesBody, named_count, block_light_at, biomes_at, body_size, body_in, body_read}
+use Rattle.mc_nbt.specs.Placed.{fault_at}
 use Rattle.mc_column.proofs.Pairs.{length-paired, get_or-paired}
 
 pub biomes_with_sky : (count : ℕ) → count * 12288 ≡ count * (2 * section_cells) + count * light_bytes + count * light_bytes

@@ -1,11 +1,10 @@
 -- A chunk body: the states of some sections, their light, and biomes. The layout is that of wiki.vg, 'SMP Map Format'
 -- and 'Chunk Format', for protocol 47.
 use Rattle.std.specs.Prelude.{◌≡◌, ℕ, ◌+◌, ◌*◌, ◌/◌, ◌%◌, ◌^◌, ◌<◌, Bool, true, List, length, take, drop, replicate, slice_index, nat_lt, ◌==◌, Result, Ok, Err, if◌then◌else◌}
-use Rattle.mc_nbt.specs.declared.fault.Kind.{Kind}
 use Rattle.mc_nbt.specs.declared.fault.Kind.TheVariants.{Short, BadLength}
 use Rattle.mc_nbt.specs.declared.fault.FieldFault.{FieldFault}
 use Rattle.mc_nbt.specs.declared.fault.ReadFault.{ReadFault}
-use Rattle.mc_nbt.specs.declared.fault.ReadFault.TheVariants as faults
+use Rattle.mc_nbt.specs.Placed.{PlacedGives, fault_at}
 use Rattle.mc_column.specs.Sizes.{section_count, section_cells, squares, light_bytes}
 use Rattle.mc_column.specs.Cells.{ColumnValue, section_of, joined, picked, rank, paired}
 
@@ -66,9 +65,6 @@ body_in mask sky ground_up bytes = record {
   biomes = drop (biomes_at mask sky) bytes;
 }
 
-abbrev pub fault_at : Kind → ℕ → FieldFault
-fault_at kind at = record { kind = kind; at = at }
-
 -- what reading a body gives: its bytes are as many as the mask, the sky and the biomes make
 unfoldable pub body_read : ℕ → Bool → Bool → List ℕ → Result BodyValue FieldFault
 body_read mask sky ground_up bytes =
@@ -80,9 +76,7 @@ body_read mask sky ground_up bytes =
 
 -- what a function answers is what reading gives, unless memory ran out
 abbrev pub GivesBody : Result BodyValue ReadFault → Result BodyValue FieldFault → Type 0
-GivesBody (Ok body) read = read ≡ Ok body
-GivesBody (Err faults.NoMemory) read = Unit {0}
-GivesBody (Err (faults.Field fault)) read = read ≡ Err fault
+GivesBody result read = PlacedGives (λ body. body) result read
 
 -- section i of a column after a body with these states: as in the body, or else air where the body is ground-up
 abbrev pub put_section : ℕ → Bool → List ℕ → ℕ → List ℕ → List ℕ

@@ -1,6 +1,7 @@
 ghost use Rattle.std.specs.Prelude.{◌≡◌, ◌*◌, ◌<◌, ◌≤◌, ◌↔◌, Ok, IfOk, IsErrOf, length, take, drop};
 ghost use Rattle.mc_nbt.specs.declared.fault.Kind.TheVariants.{Short, BadLength};
 ghost use Rattle.mc_nbt.specs.declared.fault.ReadFault.TheVariants as faults;
+ghost use Rattle.mc_nbt.specs.Placed.{fault_at};
 ghost use Rattle.mc_column.specs.Sizes.{light_bytes};
 ghost use Rattle.mc_column.specs.Cells.{paired};
 ghost use Rattle.mc_column.specs.Body as spec;
@@ -110,8 +111,8 @@ pub fn read_body(
 ) -> Result<Body, ReadFault>
     ensures found { IfOk result (λ body. spec.SpellsBody body mask sky ground_up bytes.now) }
     ensures only { (body : spec.BodyValue) → spec.SpellsBody body mask sky ground_up bytes.now → spec.GivesBody result (Ok body) }
-    ensures short { IsErrOf result (faults.Field (spec.fault_at Short (length bytes.now))) ↔ (length bytes.now < spec.body_size mask sky ground_up) }
-    ensures long { IsErrOf result (faults.Field (spec.fault_at BadLength (spec.body_size mask sky ground_up))) ↔ (spec.body_size mask sky ground_up < length bytes.now) }
+    ensures short { IsErrOf result (faults.Field (fault_at Short (length bytes.now))) ↔ (length bytes.now < spec.body_size mask sky ground_up) }
+    ensures long { IsErrOf result (faults.Field (fault_at BadLength (spec.body_size mask sky ground_up))) ↔ (spec.body_size mask sky ground_up < length bytes.now) }
     ensures reads { spec.GivesBody result (spec.body_read mask sky ground_up bytes.now) }
 {
     read_exactly(alloc, bytes, mask, sky, ground_up)
