@@ -3,7 +3,7 @@
 mod tables;
 
 use super::*;
-use crate::values::tests::tables::{EVERY_KIND, REFUSALS, SPELLINGS};
+use crate::values::tests::tables::{every_kind_spelling, refusals, spellings};
 use crate::{FieldFault, Kind, ReadFault};
 use std::alloc::AllocError;
 use std::test::Fail;
@@ -67,7 +67,7 @@ fn is_read_and_written(alloc: Global, bytes: &[u8]) -> Result<bool, NoMemory> {
 
 #[test]
 fn spellings_are_read_and_written_again(rt: HostRuntime) -> Result<(), Fail> {
-    for bytes in SPELLINGS {
+    for bytes in spellings() {
         assert!(rt; is_read_and_written(rt.alloc(), bytes)?, "{bytes:?}");
     }
     Ok(())
@@ -93,7 +93,7 @@ fn is_refused(alloc: Global, bytes: &[u8], kind: Kind, at: usize) -> Result<bool
 
 #[test]
 fn each_fault_has_its_kind_and_place(rt: HostRuntime) -> Result<(), Fail> {
-    for (bytes, kind, at) in REFUSALS {
+    for (bytes, kind, at) in refusals() {
         assert!(rt; is_refused(rt.alloc(), bytes, *kind, *at)?, "{bytes:?}");
     }
     Ok(())
@@ -232,23 +232,42 @@ fn a_value_of_every_kind_is_written_and_read(rt: HostRuntime) -> Result<(), Fail
     let value = named(alloc, b"all", every_kind(alloc)?)?.ok_or("the value fits")?;
     let mut out = Vec::new(alloc);
     write_nbt(&value, &mut out)?;
-    assert_eq!(rt; out.as_slice(), EVERY_KIND);
+    assert_eq!(rt; out.as_slice(), every_kind_spelling());
     let (again, end) = read_nbt(alloc, &out, 0)
         .ok()
         .ok_or("the spelling was refused")?;
-    assert_eq!(rt; end, EVERY_KIND.len());
+    assert_eq!(rt; end, every_kind_spelling().len());
     assert!(rt; same(&value, &again));
     Ok(())
 }
 
+/// The whole compound under a name.
+fn every_kind_named(alloc: Global, name: &[u8]) -> Result<Nbt, Fail> {
+    let value = named(alloc, name, every_kind(alloc)?)?;
+    Ok(value.ok_or("a value of every kind fits")?)
+}
+
 #[test]
-fn copies_are_the_same_and_others_are_not(rt: HostRuntime) -> Result<(), Fail> {
-    let alloc = rt.alloc();
-    let value = named(alloc, b"all", every_kind(alloc)?)?.ok_or("the value fits")?;
-    assert!(rt; same(&value, &value.copy()?));
-    let copy = named(alloc, b"al", every_kind(alloc)?.copy()?)?.ok_or("the copy fits")?;
-    assert!(rt; !same(&value, &copy));
-    let longer = named(alloc, b"all", one_more(alloc)?)?.ok_or("one more entry fits")?;
+fn a_copy_is_the_same(rt: HostRuntime) -> Result<(), Fail> {
+    let value = every_kind_named(rt.alloc(), b"all")?;
+    let copy = value.copy()?;
+    assert!(rt; same(&value, &copy));
+    Ok(())
+}
+
+#[test]
+fn another_name_is_not_the_same(rt: HostRuntime) -> Result<(), Fail> {
+    let value = every_kind_named(rt.alloc(), b"all")?;
+    let other = every_kind_named(rt.alloc(), b"al")?;
+    assert!(rt; !same(&value, &other));
+    Ok(())
+}
+
+#[test]
+fn one_more_entry_is_not_the_same(rt: HostRuntime) -> Result<(), Fail> {
+    let value = every_kind_named(rt.alloc(), b"all")?;
+    let longer = named(rt.alloc(), b"all", one_more(rt.alloc())?)?;
+    let longer = longer.ok_or("one more entry fits")?;
     assert!(rt; !same(&value, &longer));
     Ok(())
 }

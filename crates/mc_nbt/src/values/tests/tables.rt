@@ -3,7 +3,7 @@
 use crate::Kind;
 
 /// Named compounds: each kind of value alone, in lists and within one another.
-pub const SPELLINGS: &[&[u8]] = &[
+const SPELLINGS: &[&[u8]] = &[
     b"\x0a\x00\x00\x00",
     b"\x0a\x00\x02\x68\x69\x00",
     b"\x0a\x00\x01\xff\x00",
@@ -41,7 +41,7 @@ pub const SPELLINGS: &[&[u8]] = &[
 ];
 
 /// What is no named compound: the bytes, the fault and its place.
-pub const REFUSALS: &[(&[u8], Kind, usize)] = &[
+const REFUSALS: &[(&[u8], Kind, usize)] = &[
     (b"", Kind::Short, 0),
     (b"\x00", Kind::BadTag, 0),
     (b"\x01\x00\x00\x05", Kind::BadTag, 0),
@@ -183,5 +183,20 @@ pub const REFUSALS: &[(&[u8], Kind, usize)] = &[
 ];
 
 /// A compound with one value of each kind, under the name `all`.
-pub const EVERY_KIND: &[u8] =
+const EVERY_KIND: &[u8] =
     b"\x0a\x00\x03all\x01\x00\x01b\xff\x02\x00\x01s\xff\xfe\x03\x00\x01i\x00\x00\x01\x2c\x04\x00\x01l\xff\xff\xff\xff\xff\xff\xff\xfd\x05\x00\x01f\x3f\x80\x00\x00\x06\x00\x01d\x40\x00\x00\x00\x00\x00\x00\x00\x07\x00\x01a\x00\x00\x00\x02\x01\xff\x08\x00\x01t\x00\x02hi\x09\x00\x01k\x03\x00\x00\x00\x02\x00\x00\x00\x07\xff\xff\xff\xf8\x0a\x00\x01c\x09\x00\x01x\x0a\x00\x00\x00\x02\x00\x01\x00\x01y\x01\x00\x00\x0b\x00\x01n\x00\x00\x00\x02\xff\xff\xff\xff\x00\x01\x00\x00\x00";
+
+/// The spellings.
+pub fn spellings() -> &'static [&'static [u8]] {
+    SPELLINGS
+}
+
+/// The refusals.
+pub fn refusals() -> &'static [(&'static [u8], Kind, usize)] {
+    REFUSALS
+}
+
+/// The compound with one value of each kind.
+pub fn every_kind_spelling() -> &'static [u8] {
+    EVERY_KIND
+}
