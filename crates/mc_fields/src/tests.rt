@@ -1,6 +1,8 @@
 use crate::{
-    PacketFault, PacketRead, RowError, RowFault, read_i64, read_text, read_u8, read_u16,
-    read_varint, whole, write_i64, write_text, write_u8, write_u16, write_varint,
+    PacketFault, PacketRead, RowError, RowFault, read_bool, read_i8, read_i16, read_i32, read_i64,
+    read_text, read_u8, read_u16, read_u32, read_u64, read_u128, read_varint, whole, write_bool,
+    write_i8, write_i16, write_i32, write_i64, write_text, write_u8, write_u16, write_u32,
+    write_u64, write_u128, write_varint,
 };
 use mc_nbt::{Cursor, FieldFault, Kind, ReadFault, Stop, Text};
 use std::test::Fail;
@@ -155,4 +157,71 @@ fn rows_end_with_their_frame(rt: HostRuntime) {
     let unknown = PacketRead::Fault(PacketFault::UnknownId(4));
     assert_eq!(rt; RowError::Fault(RowFault::UnknownId(4)).within(5), unknown);
     assert_eq!(rt; RowError::NoMemory.within(5), PacketRead::NoMemory);
+}
+
+#[test]
+fn each_byte_but_0_is_true(rt: HostRuntime) {
+    assert_eq!(rt; read_bool(b"\x00", 0), Ok((false, 1)));
+    assert_eq!(rt; read_bool(b"\x01", 0), Ok((true, 1)));
+    assert_eq!(rt; read_bool(b"\xff", 0), Ok((true, 1)));
+    assert_eq!(rt; read_bool(b"\x01", 1), Err(fault(Kind::Short, 1)));
+}
+
+#[test]
+fn numbers_with_a_sign_are_read(rt: HostRuntime) {
+    assert_eq!(rt; read_i8(b"\x80", 0), Ok((-128, 1)));
+    assert_eq!(rt; read_i16(b"\xff\xfe", 0), Ok((-2, 2)));
+    assert_eq!(rt;
+        read_i32(b"\x07\x80\x00\x00\x00", 1),
+        Ok((-2_147_483_648, 5))
+    );
+    assert_eq!(rt; read_i32(b"\x80\x00\x00", 0), Err(fault(Kind::Short, 0)));
+}
+
+#[test]
+fn numbers_without_a_sign_are_read(rt: HostRuntime) {
+    assert_eq!(rt; read_u32(b"\x80\x00\x01\x00", 0), Ok((2_147_483_904, 4)));
+    assert_eq!(rt; read_u64(b"\x01\0\0\0\0\0\0\0", 0), Ok((1 << 56, 8)));
+    assert_eq!(rt;
+        read_u128(b"\x01\0\0\0\0\0\0\0\0\0\0\0\0\0\0\x02", 0),
+        Ok(((1 << 120) + 2, 16))
+    );
+    assert_eq!(rt;
+        read_u128(b"\x01\0\0\0\0\0\0\0\0\0\0\0\0\0\0", 0),
+        Err(fault(Kind::Short, 0))
+    );
+}
+
+#[test]
+fn truth_values_and_numbers_with_a_sign_are_written(rt: HostRuntime) -> Result<(), Fail> {
+    let mut out = Vec::new(rt.alloc());
+    write_bool(true, &mut out)?;
+    write_i8(-1, &mut out)?;
+    write_i16(-2, &mut out)?;
+    write_i32(-3, &mut out)?;
+    assert_eq!(rt;
+        out.as_slice(),
+        b"\x01\xff\xff\xfe\xff\xff\xff\xfd".as_slice()
+    );
+    Ok(())
+}
+
+#[test]
+fn numbers_without_a_sign_are_written(rt: HostRuntime) -> Result<(), Fail> {
+    let mut out = Vec::new(rt.alloc());
+    write_u32(256, &mut out)?;
+    write_u64(1 << 56, &mut out)?;
+    assert_eq!(rt; out.as_slice(), b"\0\0\x01\0\x01\0\0\0\0\0\0\0".as_slice());
+    Ok(())
+}
+
+#[test]
+fn a_number_of_sixteen_bytes_is_written(rt: HostRuntime) -> Result<(), Fail> {
+    let mut out = Vec::new(rt.alloc());
+    write_u128((1 << 120) + 2, &mut out)?;
+    assert_eq!(rt;
+        out.as_slice(),
+        b"\x01\0\0\0\0\0\0\0\0\0\0\0\0\0\0\x02".as_slice()
+    );
+    Ok(())
 }

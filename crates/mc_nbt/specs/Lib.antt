@@ -2,6 +2,7 @@ pub mod Reading
 pub mod Format
 pub mod Combine
 pub mod Numbers
+pub mod Sixteen
 pub mod Placed
 pub mod Signed
 pub mod Times

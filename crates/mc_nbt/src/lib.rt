@@ -19,4 +19,4 @@ pub use fault::{FieldFault, Kind, ReadError, ReadFault, Stop};
 pub use memory::NoMemory;
 pub use reading::{Cursor, placed};
 pub use values::{Entries, Ints, Nbt, Tag, Tags, read_nbt, same, write_nbt};
-pub use writing::{write_octets, write_u8, write_u16, write_u32, write_u64};
+pub use writing::{write_octets, write_u8, write_u16, write_u32, write_u64, write_u128};

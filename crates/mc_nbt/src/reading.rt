@@ -1,5 +1,5 @@
 ghost use Rattle.std.specs.Prelude.{◌≡◌, ◌≤◌, length, drop};
-ghost use Rattle.std.specs.Int.{w8, w16, w32, w64};
+ghost use Rattle.std.specs.Int.{w8, w16, w32, w64, w128};
 ghost use Rattle.mc_nbt.specs.Reading.{Yields, stop_at};
 ghost use Rattle.mc_nbt.specs.Numbers.{octets_read, number_read};
 ghost use Rattle.mc_nbt.specs.Placed.{placed, with_rest};
@@ -125,6 +125,18 @@ impl<'a> Cursor<'a> {
         };
         self.rest = rest;
         Ok(u64::from_be_bytes(*front))
+    }
+
+    /// A number of sixteen bytes, the highest first. `Short` where fewer are left.
+    #[tactic(auto, unfolding(crate::specs::Numbers::number_read))]
+    pub fn u128(&mut self) -> Result<u128, Stop>
+        ensures { Yields (λ n. (n, self.new)) result (number_read w128 self.old) }
+    {
+        let Some((front, rest)) = self.rest.split_first_chunk::<16>() else {
+            return Err(self.stop(Kind::Short));
+        };
+        self.rest = rest;
+        Ok(u128::from_be_bytes(*front))
     }
 }
 

@@ -1,5 +1,5 @@
 ghost use Rattle.std.specs.Prelude.{◌≡◌, ◌++◌, OnOk, OnErr};
-ghost use Rattle.std.specs.Int.{w8, w16, w32, w64};
+ghost use Rattle.std.specs.Int.{w8, w16, w32, w64, w128};
 ghost use Rattle.mc_nbt.specs.Numbers.{number_spelling};
 
 use crate::NoMemory;
@@ -50,5 +50,15 @@ pub fn write_u64(n: u64, out: &mut Vec<u8>) -> Result<(), NoMemory>
     ensures err { OnErr result (out.new.items ≡ out.old.items) }
 {
     out.extend_from_slice(&u64::to_be_bytes(n))?;
+    Ok(())
+}
+
+/// Appends a number of sixteen bytes, the highest first. Without memory `out` is as before.
+#[tactic(auto, unfolding(crate::specs::Numbers::number_spelling))]
+pub fn write_u128(n: u128, out: &mut Vec<u8>) -> Result<(), NoMemory>
+    ensures ok { OnOk result (out.new.items ≡ out.old.items ++ number_spelling w128 n) }
+    ensures err { OnErr result (out.new.items ≡ out.old.items) }
+{
+    out.extend_from_slice(&u128::to_be_bytes(n))?;
     Ok(())
 }

@@ -1,11 +1,7 @@
-use Rattle.std.proofs.Common.{ap, ◌∙◌}
 use Rattle.std.specs.Int.{w8}
-use Rattle.mc_nbt.specs.Numbers.{number_read, wide_8}
-use Rattle.mc_nbt.specs.Placed.{placed, placed-Yields}
+use Rattle.mc_nbt.specs.Numbers.{wide_8}
 use Rattle.mc_fields.specs.Integers.{number_reads}
 use Rattle.mc_fields.proofs.integers.read_u8.Goals as goal
 
 pub returns : goal.returns
-returns c =
-    let is = placed-Yields c.args.bytes.now _ _ c.placed.result _ c.placed.ensures c.u8-value.ensures ∙ ap (λ t. placed c.args.bytes.now (number_read w8 t)) c.at-cursor.ensures in
-    number_reads w8 wide_8 c.args.bytes.now c.args.at c.placed.result (λ i. (c.type_inv.bytes i).fits) c.requires is
+returns c = number_reads w8 wide_8 c.args.bytes.now _ c.args.at _ c.placed.result _ (λ i. (c.type_inv.bytes i).fits) c.requires c.placed.ensures c.u8-value.ensures c.at-cursor.ensures
