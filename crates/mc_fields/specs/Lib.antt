@@ -3,4 +3,5 @@ pub mod VarintFormat
 pub mod Text
 pub mod TextFormat
 pub mod Integers
+pub mod Position
 pub mod Row

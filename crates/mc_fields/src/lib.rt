@@ -7,6 +7,7 @@
 
 mod integers;
 mod packet;
+mod position;
 #[cfg(test)]
 mod tests;
 mod text;
@@ -19,5 +20,6 @@ pub use integers::{
 };
 pub use mc_nbt::{write_u8, write_u16, write_u32, write_u64, write_u128};
 pub use packet::{PacketFault, PacketRead, RowError, RowFault, whole};
+pub use position::{Cell, Spot, pack, take_position, unpack, write_position};
 pub use text::{read_text, take_str, take_text, write_text};
 pub use varint::{VARINT_MAX, read_varint, take_varint, take_varint_within, write_varint};
