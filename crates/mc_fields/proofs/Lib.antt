@@ -1,3 +1,5 @@
+pub mod Patterns
+pub mod Floors
 pub mod Groups
 pub mod VarintFaults
 pub mod Utf8

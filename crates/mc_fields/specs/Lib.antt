@@ -4,4 +4,6 @@ pub mod Text
 pub mod TextFormat
 pub mod Integers
 pub mod Position
+pub mod Pattern
+pub mod PatternLaws
 pub mod Row

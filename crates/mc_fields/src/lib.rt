@@ -5,14 +5,19 @@
 //! or leaves what was there; a table of rows makes the same of whole packets.
 #![tactic(auto)]
 
+mod binary32;
+mod binary64;
 mod integers;
 mod packet;
+mod parts;
 mod position;
 #[cfg(test)]
 mod tests;
 mod text;
 mod varint;
 
+pub use binary32::{angle, degrees};
+pub use binary64::{fixed, pattern};
 pub use integers::{
     read_bool, read_i8, read_i16, read_i32, read_i64, read_u8, read_u16, read_u32, read_u64,
     read_u128, take_bool, take_i8, take_i16, take_i32, take_i64, write_bool, write_i8, write_i16,
