@@ -36,10 +36,10 @@ pub shift_all : (z : ℤ) (right k : ℕ) → SFits w64 z → k ≡ min right 63
 shift_all z right k fits is =
     elim (cases_lt 63 right) [
       | inl more ↦
-        let held : k ≡ 63 = omega (arith, is) in
-        let le : 63 ≤ right = omega arith in
-        let wide : 2 ^ 63 ≤ 2 ^ right = pow-le-pow_right (omega arith) le in
-        ap (λ (n : ℕ). shr_z z (2 ^ n)) held ∙ shift_gone z (2 ^ 63) (2 ^ right) fits.sfits (omega (arith, wide, fits.sfits))
+          let held : k ≡ 63 = omega (arith, is) in
+          let le : 63 ≤ right = omega arith in
+          let wide : 2 ^ 63 ≤ 2 ^ right = pow-le-pow_right (omega arith) le in
+          ap (λ (n : ℕ). shr_z z (2 ^ n)) held ∙ shift_gone z (2 ^ 63) (2 ^ right) fits.sfits (omega (arith, wide, fits.sfits))
       | inr le ↦ let same : k ≡ right = omega (arith, is) in ap (λ (n : ℕ). shr_z z (2 ^ n)) same
     ]
 

@@ -58,15 +58,6 @@ pub stands_positive : (size top sig : ℕ) → 2 ^ 52 ≤ sig → sig < 2 * 2 ^ 
 stands_positive size top sig least most few is =
     stands_made false size top sig _ (omega arith, omega arith, not_under (2 ^ 63) ((1018 + top) * 4503599627370496 + (sig - 4503599627370496)) (omega arith)) least few is
 
-held_small : (n : ℤ) → mag n < 2 ^ 31 → held n ≡ n
-held_small n few = omega (arith, ints, clamps)
-
--- the pattern of n / 32 gives n again
-pub fixes_again : (n m : ℤ) (p : ℕ) → SFits w32 n → StandsFor n p → Fixes p m → m ≡ n
-fixes_again n m p fits stands fixes =
-    let floored = floor_exact n _ (2 ^ 1075) (pow_pos 1075) stands.exact in
-    fixes.held ∙ ap held (floor_one fixes.floor n _ (2 ^ 1075) fixes.floored floored) ∙ held_small n fits.sfits
-
 -- ---- binary32
 
 pub stands_turn : (a top sig : ℕ) → 2 ^ 23 ≤ sig → sig < 2 * 2 ^ 23 → top < 14 → sig ≡ a * 45 * 2 ^ (23 - top) → StandsForTurn a ((122 + top) * 8388608 + (sig - 8388608))
@@ -83,9 +74,6 @@ stands_turn a top sig least most few is =
       ends = omega (arith, at_exponent);
       exact = rw (at_exponent, at_fraction, at_sign, hidden, powered, is, times) refl;
     }
-
-pub stands_zero : StandsForTurn 0 0
-stands_zero = record { ends = omega arith; exact = refl }
 
 -- eight times as much
 scaled : (negative : Bool) (s k : ℕ) → with_sign negative (32 * s) ≡ pos k → with_sign negative (256 * s) ≡ pos (8 * k)

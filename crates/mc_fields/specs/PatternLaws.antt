@@ -81,10 +81,10 @@ pub shift_floor : (negative : Bool) (size m c u t b : ℕ) → 0 < m → 0 < c �
 shift_floor false size m c u t b some_m some_c some_u top bottom =
     let q = quotient size m some_m in
     floor_pos (size / m) t b (low_under (size / m) size m c u t b some_u top bottom q.0) (
-      elim (cases_lt t ((size / m + 1) * b)) [
-        | inl lt ↦ lt
-        | inr le ↦ let more = low_over (size / m + 1) size m c u t b some_c top bottom le in absurd (omega (arith, more, q.1))
-      ])
+    elim (cases_lt t ((size / m + 1) * b)) [
+      | inl lt ↦ lt
+      | inr le ↦ let more = low_over (size / m + 1) size m c u t b some_c top bottom le in absurd (omega (arith, more, q.1))
+    ])
 shift_floor true zero m c u t b some_m some_c some_u top bottom =
     let none : t ≤ 0 * b = high_under 0 0 m c u t b some_u top bottom (omega arith) in
     let nothing : t ≡ 0 = omega (arith, none) in
@@ -95,10 +95,10 @@ shift_floor true zero m c u t b some_m some_c some_u top bottom =
 shift_floor true (suc a) m c u t b some_m some_c some_u top bottom =
     let q = quotient a m some_m in
     floor_neg (a / m) t b (
-      elim (cases_lt (a / m * b) t) [
-        | inl lt ↦ lt
-        | inr le ↦ let more = high_over (a / m) (suc a) m c u t b some_c top bottom le in absurd (omega (arith, more, q.0))
-      ]) (high_under (a / m + 1) (suc a) m c u t b some_u top bottom (omega (arith, q.1)))
+    elim (cases_lt (a / m * b) t) [
+      | inl lt ↦ lt
+      | inr le ↦ let more = high_over (a / m) (suc a) m c u t b some_c top bottom le in absurd (omega (arith, more, q.0))
+    ]) (high_under (a / m + 1) (suc a) m c u t b some_u top bottom (omega (arith, q.1)))
 
 -- ---- shifts
 

@@ -2,7 +2,8 @@
 //!
 //! Stands on the formats of `mc_nbt`. Its one contract: a reader takes exactly the bytes that spell
 //! its field and says of all others the first fault and its place, and a writer appends a spelling
-//! or leaves what was there; a table of rows makes the same of whole packets.
+//! or leaves what was there; a table of rows makes the same of whole packets. Patterns of numbers
+//! with a fraction are whole numbers here, and are mapped to 1/32 blocks and 1/256 turns.
 #![tactic(auto)]
 
 mod binary32;
@@ -10,6 +11,8 @@ mod binary64;
 mod integers;
 mod packet;
 mod parts;
+#[cfg(test)]
+mod pattern_tests;
 mod position;
 #[cfg(test)]
 mod tests;

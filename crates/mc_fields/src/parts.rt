@@ -21,7 +21,11 @@ pub fn with_sign(negative: bool, size: u64) -> i64
     requires { size < 2 ^ 63 }
     ensures { result ≡ with_sign negative size }
 {
-    if negative { -(size as i64) } else { size as i64 }
+    if negative {
+        -(size as i64)
+    } else {
+        size as i64
+    }
 }
 
 /// A number over a power of two, rounded down.

@@ -1,8 +1,9 @@
 use crate::{
-    PacketFault, PacketRead, RowError, RowFault, read_bool, read_i8, read_i16, read_i32, read_i64,
-    read_text, read_u8, read_u16, read_u32, read_u64, read_u128, read_varint, whole, write_bool,
-    write_i8, write_i16, write_i32, write_i64, write_text, write_u8, write_u16, write_u32,
-    write_u64, write_u128, write_varint,
+    Cell, PacketFault, PacketRead, RowError, RowFault, pack, read_bool, read_i8, read_i16,
+    read_i32, read_i64, read_text, read_u8, read_u16, read_u32, read_u64, read_u128, read_varint,
+    take_position, unpack, whole, write_bool, write_i8, write_i16, write_i32, write_i64,
+    write_position, write_text, write_u8, write_u16, write_u32, write_u64, write_u128,
+    write_varint,
 };
 use mc_nbt::{Cursor, FieldFault, Kind, ReadFault, Stop, Text};
 use std::test::Fail;
@@ -223,5 +224,33 @@ fn a_number_of_sixteen_bytes_is_written(rt: HostRuntime) -> Result<(), Fail> {
         out.as_slice(),
         b"\x01\0\0\0\0\0\0\0\0\0\0\0\0\0\0\x02".as_slice()
     );
+    Ok(())
+}
+
+#[test]
+fn positions_are_packed(rt: HostRuntime) {
+    let cases = [
+        (1, 2, 3, 0x0000_0040_0800_0003),
+        (-1, 0, -1, 0xFFFF_FFC0_03FF_FFFF),
+        (-33_554_432, -2_048, -33_554_432, 0x8000_0020_0200_0000),
+        (33_554_431, 2_047, 33_554_431, 0x7FFF_FFDF_FDFF_FFFF),
+    ];
+    for (x, y, z, word) in cases {
+        let cell = Cell { x, y, z };
+        assert_eq!(rt; unpack(word), cell);
+        assert_eq!(rt; pack(unpack(word)), word);
+    }
+}
+
+#[test]
+fn a_position_is_read_and_written(rt: HostRuntime) -> Result<(), Fail> {
+    let mut cursor = Cursor::new(b"\0\0\0\x40\x08\0\0\x03\x07");
+    let cell = take_position(&mut cursor)
+        .ok()
+        .ok_or("eight bytes are there")?;
+    assert_eq!(rt; cell, Cell { x: 1, y: 2, z: 3 });
+    let mut out = Vec::new(rt.alloc());
+    write_position(unpack(0x0000_0040_0800_0003), &mut out)?;
+    assert_eq!(rt; out.as_slice(), b"\0\0\0\x40\x08\0\0\x03".as_slice());
     Ok(())
 }
