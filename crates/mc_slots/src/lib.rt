@@ -8,6 +8,8 @@
 mod chest;
 mod pile;
 mod slot;
+#[cfg(test)]
+mod tests;
 
 pub use chest::Chest;
 pub use pile::{Item, Pile, alike, fits, merge, split};

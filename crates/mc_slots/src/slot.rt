@@ -91,7 +91,9 @@ fn take_tag(alloc: Global, cursor: &mut Cursor<'_>) -> Result<Option<Nbt>, ReadE
 /// a compound; the compound's faults are its own.
 #[tactic(auto, unfolding(crate::specs::SlotFormat::slot_read))]
 pub fn take_slot(alloc: Global, cursor: &mut Cursor<'_>) -> Result<Slot, ReadError>
-    ensures { Gives (λ slot. (slot, cursor.new)) result (slot_read cursor.old) }
+    ensures gives { Gives (λ slot. (slot, cursor.new)) result (slot_read cursor.old) }
+    // What is read can be written.
+    ensures id { IfOk result (λ slot. HasId slot) }
 {
     let id = cursor.u16()?.cast_signed();
     if id < 0 {
@@ -111,7 +113,8 @@ pub fn take_slot(alloc: Global, cursor: &mut Cursor<'_>) -> Result<Slot, ReadErr
 /// What reading a slot from an offset gives.
 fn slot_at(alloc: Global, bytes: &[u8], at: usize) -> Result<(Slot, usize), ReadFault>
     requires { at ≤ length bytes.now }
-    ensures { PlacedGives (λ read. read) result (placed bytes.now (slot_read (drop at bytes.now))) }
+    ensures gives { PlacedGives (λ read. read) result (placed bytes.now (slot_read (drop at bytes.now))) }
+    ensures id { IfOk result (λ read. HasId read.0) }
 {
     let mut cursor = Cursor::at(bytes, at);
     match take_slot(alloc, &mut cursor) {
@@ -131,6 +134,8 @@ pub fn read_slot(alloc: Global, bytes: &[u8], at: usize) -> Result<(Slot, usize)
         PlacedGives (λ read. read) result (Ok (slot, end)) }
     // Which fault it is, and where.
     ensures exact { PlacedGives (λ read. read) result (placed bytes.now (slot_read (drop at bytes.now))) }
+    // What is read can be written.
+    ensures id { IfOk result (λ read. HasId read.0) }
 {
     slot_at(alloc, bytes, at)
 }
