@@ -1,7 +1,7 @@
 -- What stood in a list before a failed write stands there after it.
 use Rattle.std.proofs.Common.{◌≡◌, List, ℕ, ◌++◌, length, take, drop, sym, ap, ◌∙◌, append_assoc, subst}
 use Rattle.std.proofs.lemmas.List.{take-append-drop}
-use Rattle.std.proofs.Math.Seq.{take-append_seam}
+use Rattle.std.proofs.Math.Seq.{take-append_seam, take-length}
 
 -- the bytes before the last part that was written are kept if all before the fault are
 pub kept_before : (old more new : List ℕ) → take (length (old ++ more)) new ≡ old ++ more → take (length old) new ≡ old
@@ -21,3 +21,7 @@ kept_more old now more h =
     let parts : now ≡ old ++ drop (length old) now = sym (take-append-drop (length old) now) ∙ ap (λ (t : List ℕ). t ++ drop (length old) now) h in
     let whole : now ++ more ≡ old ++ (drop (length old) now ++ more) = ap (λ (t : List ℕ). t ++ more) parts ∙ append_assoc old (drop (length old) now) more in
     ap (take (length old)) whole ∙ take-append_seam old (drop (length old) now ++ more)
+
+-- where nothing was written yet
+pub kept_whole : (old : List ℕ) → take (length old) old ≡ old
+kept_whole old = take-length old

@@ -1,0 +1,78 @@
+-- What a splitter is to a caller, what its calls do, and what any list of them comes to.
+use Rattle.std.specs.Prelude.{◌≡◌, ℕ, ◌+◌, ◌-◌, min, List, [], ◌∷◌, ◌++◌, length, take, Option, Some, None}
+use Rattle.mc_frame.specs.declared.fault.FrameFault.{FrameFault}
+use Rattle.mc_frame.specs.declared.fault.Take.{Take}
+use Rattle.mc_frame.specs.declared.fault.Take.TheVariants.{Frame, More, Bad}
+use Rattle.mc_frame.specs.Frame.{SpellsFrame}
+use Rattle.mc_frame.specs.Cut.{IsPart, Ends, Cut, kept_count}
+use Rattle.mc_frame.specs.Held.{Splitting}
+
+-- the most bytes that are held: one less than those of the longest frame, and one
+abbrev pub held_max : ℕ
+held_max = 2097154
+
+-- how many more bytes are taken
+abbrev pub room_for : Option FrameFault → List ℕ → ℕ
+room_for None held = held_max - length held
+room_for (Some fault) held = 0
+
+-- feeding a piece: its first bytes are held, as many as there is room for
+pub record Feeds (old : Splitting) (piece : List ℕ) (count : ℕ) (new : Splitting) : Type 0 where
+  pub counted : count ≡ min (length piece) (room_for old.fault old.held)
+  pub held : new ≡ record old { held = old.held ++ take count piece }
+
+-- the frame at the front of the held bytes goes
+pub record TakesFrame (old : Splitting) (payload : List ℕ) (new : Splitting) : Type 0 where
+  pub front : List ℕ
+  pub spelled : SpellsFrame payload front
+  pub held : old.held ≡ front ++ new.held
+  pub before : new.before ≡ kept_count (old.before + length front)
+  pub fault : new.fault ≡ old.fault
+
+-- taking a frame: what the held bytes begin with, by the definition of a cut, and nothing else
+abbrev pub Takes : Splitting → Take → Splitting → Type 0
+Takes old (Frame payload) new = TakesFrame old payload new
+Takes old More new = IsPart old.held × (new ≡ old)
+Takes old (Bad fault) new = Ends old.before old.held (Some fault) × (new ≡ record old { fault = Some fault })
+
+-- ---- any list of calls
+
+-- a call and what it answered
+pub data Event : Type 0 where
+  fed : List ℕ → ℕ → Event
+  took : Take → Event
+  refused : Event
+
+-- what a call did; want of memory changes nothing
+abbrev pub Steps : Splitting → Event → Splitting → Type 0
+Steps old (fed piece count) new = Feeds old piece count new
+Steps old (took answer) new = Takes old answer new
+Steps old refused new = new ≡ old
+
+-- what the calls did, one after the other
+abbrev pub Runs : Splitting → List Event → Splitting → Type 0
+Runs old [] new = new ≡ old
+Runs old (event ∷ events) new = (middle : Splitting) × Steps old event middle × Runs middle events new
+
+-- the bytes that the feeds took, joined
+abbrev pub fed_bytes : List Event → List ℕ
+fed_bytes [] = []
+fed_bytes (fed piece count ∷ events) = take count piece ++ fed_bytes events
+fed_bytes (took answer ∷ events) = fed_bytes events
+fed_bytes (refused ∷ events) = fed_bytes events
+
+-- the payloads that the takes gave
+abbrev pub taken_frames : List Event → List (List ℕ)
+taken_frames [] = []
+taken_frames (took (Frame payload) ∷ events) = payload ∷ taken_frames events
+taken_frames (took More ∷ events) = taken_frames events
+taken_frames (took (Bad fault) ∷ events) = taken_frames events
+taken_frames (fed piece count ∷ events) = taken_frames events
+taken_frames (refused ∷ events) = taken_frames events
+
+-- what the next take answers, by the cut of all that was fed and the frames that were taken: the next frame, if there is one,
+-- else what the cut ends with
+abbrev pub Answers : Cut → List (List ℕ) → Take → Type 0
+Answers cut frames (Frame payload) = (later : List (List ℕ)) × (cut.frames ≡ frames ++ payload ∷ later)
+Answers cut frames More = (cut.frames ≡ frames) × (cut.fault ≡ None)
+Answers cut frames (Bad fault) = (cut.frames ≡ frames) × (cut.fault ≡ Some fault)

@@ -1,0 +1,136 @@
+ghost use Rattle.std.specs.Prelude.{◌≡◌, ◌-◌, ◌<◌, ◌≤◌, ◌++◌, ℕ, List, Ok, Some, None, IfOk, OnErr, length, take, drop};
+ghost use Rattle.mc_frame.specs.Frame.{SpellsFrame};
+ghost use Rattle.mc_frame.specs.Cut.{IsPart, Ends};
+ghost use Rattle.mc_frame.specs.Held.{nothing_held};
+ghost use Rattle.mc_frame.specs.Splitting.{Feeds, Takes, held_max, room_for};
+
+use crate::frame::front_frame;
+use crate::{FrameFault, Take};
+use mc_nbt::{NoMemory, Octets};
+use std::alloc::Global;
+use std::marker::Model;
+
+/// The most bytes that are held: the longest frame has one more.
+const HELD_MAX: usize = 2_097_154;
+
+/// Cuts a stream into frames, whatever the pieces in which it comes. Contracts see the bytes that it
+/// holds, how many of the stream stand before them, and the fault that it met.
+///
+/// The bytes stand in one buffer, and a place in it rises from frame to frame. The held bytes are
+/// moved to the front only where at least as many have gone, so a stream costs time in its length.
+#[derive(Drop)]
+pub struct Splitter {
+    buffer: Vec<u8>,
+    start: usize,
+    before: u64,
+    fault: Option<FrameFault>,
+}
+
+impl Model for Splitter {
+    ghost use Rattle.std.specs.Prelude.{drop};
+    ghost use Rattle.mc_frame.specs.Held.{Splitting};
+
+    ghost Value = { Splitting };
+
+    ghost use Rattle.mc_frame.specs.Kept.{IsKeptSplitter};
+
+    ghost view = { λ s. record { held = drop s.start s.buffer.items; before = s.before; fault = s.fault } };
+
+    ghost invariant = { λ s. IsKeptSplitter s.buffer.items s.start s.before s.fault };
+}
+
+/// Moves the bytes from `start` on to the front of a buffer, where that copies no more bytes than
+/// have gone, and gives the place where they stand then.
+fn compact(buffer: &mut Vec<u8>, start: usize) -> usize
+    requires { start ≤ length buffer.old.items }
+    ensures within { result ≤ length buffer.new.items }
+    ensures held { drop result buffer.new.items ≡ drop start buffer.old.items }
+{
+    let held = buffer.len() - start;
+    if start < held {
+        return start;
+    }
+    move_to_front(buffer.as_mut_slice(), start);
+    buffer.truncate(held);
+    0
+}
+
+/// Copies the bytes from `start` on to the front, which they don't reach into.
+fn move_to_front(bytes: &mut [u8], start: usize)
+    requires within { start ≤ length bytes.old }
+    requires apart { length bytes.old - start ≤ start }
+    ensures { take (length bytes.old - start) bytes.new ≡ drop start bytes.old }
+{
+    let (front, held) = bytes.split_at_mut(start);
+    front[..held.len()].copy_from_slice(held);
+}
+
+impl Splitter {
+    /// The splitter of a stream of which nothing came yet. It takes no memory.
+    pub fn new(alloc: Global) -> Splitter
+        ensures { result ≡ nothing_held }
+    {
+        Splitter {
+            buffer: Vec::new(alloc),
+            start: 0,
+            before: 0,
+            fault: None,
+        }
+    }
+
+    /// How many more bytes are taken.
+    fn room(&self) -> usize
+        ensures { result ≡ room_for self.now.fault self.now.held }
+    {
+        match self.fault {
+            Some(_) => 0,
+            None => HELD_MAX - (self.buffer.len() - self.start),
+        }
+    }
+
+    /// Takes the first bytes of a piece, at most so many that 2,097,154 are held, and says how many.
+    /// After `Take::Bad` it takes none.
+    pub fn feed(&mut self, piece: &[u8]) -> Result<usize, NoMemory>
+        ensures fed { IfOk result (λ count. Feeds self.old piece.now count self.new) }
+        // After `Take::More` a piece is never refused whole.
+        ensures some { IsPart self.old.held → self.old.fault ≡ None → 0 < length piece.now → IfOk result (λ count. 0 < count) }
+        ensures bounded { length self.new.held ≤ held_max }
+        ensures err { OnErr result (self.new ≡ self.old) }
+    {
+        let count = piece.len().min(self.room());
+        self.start = compact(&mut self.buffer, self.start);
+        self.buffer.extend_from_slice(&piece[..count])?;
+        Ok(count)
+    }
+
+    /// Takes the frame at the front of the held bytes, or says why there is none: `More` exactly where
+    /// they are a part of a frame, `Bad` exactly where no frame begins so, and for good.
+    pub fn take(&mut self) -> Result<Take, NoMemory>
+        // What it answers is so, by the definition of a cut.
+        ensures takes { IfOk result (λ answer. Takes self.old answer self.new) }
+        // What is so, it answers.
+        ensures frame { (payload front rest : List ℕ) → SpellsFrame payload front → self.old.held ≡ front ++ rest →
+            IfOk result (λ answer. answer ≡ Take.Frame payload) }
+        ensures more { IsPart self.old.held → result ≡ Ok Take.More }
+        ensures bad { (fault : FrameFault) → Ends self.old.before self.old.held (Some fault) → result ≡ Ok (Take.Bad fault) }
+        ensures err { OnErr result (self.new ≡ self.old) }
+    {
+        if let Some(fault) = self.fault {
+            return Ok(Take::Bad(fault));
+        }
+        let held = self.buffer.split_at(self.start).1;
+        match front_frame(held, self.before) {
+            Ok((payload, len)) => {
+                let frame = Octets::from_slice(*self.buffer.allocator(), payload)?;
+                self.start += len;
+                self.before = self.before.saturating_add(len as u64);
+                Ok(Take::Frame(frame))
+            }
+            Err(None) => Ok(Take::More),
+            Err(Some(fault)) => {
+                self.fault = Some(fault);
+                Ok(Take::Bad(fault))
+            }
+        }
+    }
+}
