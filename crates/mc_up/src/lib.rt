@@ -9,6 +9,7 @@
 mod handshake;
 mod login_down;
 mod login_up;
+mod play_up;
 mod status_down;
 mod status_up;
 
@@ -16,5 +17,6 @@ pub use handshake::{Hand, read_hand, write_hand};
 pub use login_down::{LoginDown, read_login_down, write_login_down};
 pub use login_up::{LoginUp, read_login_up, write_login_up};
 pub use mc_fields::{PacketFault, PacketRead};
+pub use play_up::{Hit, PlayUp, read_play_up, write_play_up};
 pub use status_down::{StatusDown, read_status_down, write_status_down};
 pub use status_up::{StatusUp, read_status_up, write_status_up};
