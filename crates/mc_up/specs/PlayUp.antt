@@ -14,9 +14,10 @@ use Rattle.mc_fields.specs.declared.position.Cell.{Cell}
 use Rattle.mc_fields.specs.Position.{position as cell}
 use Rattle.mc_fields.specs.Row.{Row, packet, Entry, of_row, Spells, Fits, spelling, append, Rows}
 use Rattle.mc_fields.specs.Row.Rows.{row, no_more}
+use Rattle.mc_slots.specs.SlotFormat.{slot}
 use Rattle.mc_up.specs.declared.play_up.Hit.{Hit}
 use Rattle.mc_up.specs.declared.play_up.PlayUp.{PlayUp}
-use Rattle.mc_up.specs.declared.play_up.PlayUp.TheVariants.{KeepAlive, Chat, UseEntity, Player, Position, Look, PositionLook, Digging, Held, Animation, EntityAction, Steer, CloseWindow, Confirm, Enchant, Sign, Abilities, TabComplete, Settings, ClientStatus, Plugin, Spectate, ResourcePack}
+use Rattle.mc_up.specs.declared.play_up.PlayUp.TheVariants.{KeepAlive, Chat, UseEntity, Player, Position, Look, PositionLook, Digging, Placement, Held, Animation, EntityAction, Steer, CloseWindow, ClickWindow, Confirm, Creative, Enchant, Sign, Abilities, TabComplete, Settings, ClientStatus, Plugin, Spectate, ResourcePack}
 
 -- ---- parts of packets
 
@@ -93,9 +94,13 @@ position_look = packet 6 (double then λ _. double then λ _. double then λ _. 
 abbrev pub digging : Row PlayUp
 digging = packet 7 (byte then λ _. cell then λ _. byte) (λ (status, (place, face)). Digging status place face)
 
+-- 08 Placement
+abbrev pub placement : Row PlayUp
+placement = packet 8 (cell then λ _. byte then λ _. slot then λ _. byte then λ _. byte then λ _. byte) (λ (place, (face, (item, (x, (y, z))))). Placement place face item x y z)
+
 -- 09 Held
 abbrev pub held : Row PlayUp
-held = packet 9 short (λ slot. Held slot)
+held = packet 9 short (λ index. Held index)
 
 -- 0A Animation
 abbrev pub animation : Row PlayUp
@@ -113,9 +118,17 @@ steer = packet 12 (float then λ _. float then λ _. ubyte) (λ (sideways, (forw
 abbrev pub close_window : Row PlayUp
 close_window = packet 13 ubyte (λ window. CloseWindow window)
 
+-- 0E ClickWindow
+abbrev pub click_window : Row PlayUp
+click_window = packet 14 (ubyte then λ _. short then λ _. byte then λ _. short then λ _. byte then λ _. slot) (λ (window, (index, (button, (number, (mode, item))))). ClickWindow window index button number mode item)
+
 -- 0F Confirm
 abbrev pub confirm : Row PlayUp
 confirm = packet 15 (byte then λ _. short then λ _. boolean) (λ (window, (number, accepted)). Confirm window number accepted)
+
+-- 10 Creative
+abbrev pub creative : Row PlayUp
+creative = packet 16 (short then λ _. slot) (λ (index, item). Creative index item)
 
 -- 11 Enchant
 abbrev pub enchant : Row PlayUp
@@ -165,12 +178,15 @@ entry_of (Position x y z on_ground) = of_row position (x, (y, (z, on_ground)))
 entry_of (Look yaw pitch on_ground) = of_row look (yaw, (pitch, on_ground))
 entry_of (PositionLook x y z yaw pitch on_ground) = of_row position_look (x, (y, (z, (yaw, (pitch, on_ground)))))
 entry_of (Digging status place face) = of_row digging (status, (place, face))
-entry_of (Held slot) = of_row held slot
+entry_of (Placement place face item x y z) = of_row placement (place, (face, (item, (x, (y, z)))))
+entry_of (Held index) = of_row held index
 entry_of Animation = of_row animation tt
 entry_of (EntityAction entity action boost) = of_row entity_action (entity, (action, boost))
 entry_of (Steer sideways forward flags) = of_row steer (sideways, (forward, flags))
 entry_of (CloseWindow window) = of_row close_window window
+entry_of (ClickWindow window index button number mode item) = of_row click_window (window, (index, (button, (number, (mode, item)))))
 entry_of (Confirm window number accepted) = of_row confirm (window, (number, accepted))
+entry_of (Creative index item) = of_row creative (index, item)
 entry_of (Enchant window enchantment) = of_row enchant (window, enchantment)
 entry_of (Sign place first second third fourth) = of_row sign (place, (first, (second, (third, fourth))))
 entry_of (Abilities flags flying walking) = of_row abilities (flags, (flying, walking))
@@ -192,12 +208,15 @@ rows =
     row look (λ _ _ s. s) (
     row position_look (λ _ _ s. s) (
     row digging (λ _ _ s. s) (
+    row placement (λ _ _ s. s) (
     row held (λ _ _ s. s) (
     row animation (λ _ _ s. s) (
     row entity_action (λ _ _ s. s) (
     row steer (λ _ _ s. s) (
     row close_window (λ _ _ s. s) (
+    row click_window (λ _ _ s. s) (
     row confirm (λ _ _ s. s) (
+    row creative (λ _ _ s. s) (
     row enchant (λ _ _ s. s) (
     row sign (λ _ _ s. s) (
     row abilities (λ _ _ s. s) (
@@ -207,7 +226,7 @@ rows =
     row plugin (λ _ _ s. s) (
     row spectate (λ _ _ s. s) (
     row resource_pack (λ _ _ s. s) (
-    no_more)))))))))))))))))))))))
+    no_more))))))))))))))))))))))))))
 
 -- these bytes spell the packet; it has a spelling; the shortest one; the bytes with that at their end
 abbrev pub SpellsPlayUp : PlayUp → List ℕ → Type 0

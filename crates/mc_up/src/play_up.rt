@@ -10,9 +10,9 @@ mod talk;
 mod windows;
 
 use self::actions::{
-    read_animation, read_digging, read_entity_action, read_held, read_spectate, read_use_entity,
-    write_animation, write_digging, write_entity_action, write_held, write_spectate,
-    write_use_entity,
+    read_animation, read_digging, read_entity_action, read_held, read_placement, read_spectate,
+    read_use_entity, write_animation, write_digging, write_entity_action, write_held,
+    write_placement, write_spectate, write_use_entity,
 };
 use self::movement::{
     read_abilities, read_look, read_player, read_position, read_position_look, read_steer,
@@ -24,10 +24,12 @@ use self::talk::{
     write_resource_pack, write_settings, write_sign, write_tab_complete,
 };
 use self::windows::{
-    read_close_window, read_confirm, read_enchant, write_close_window, write_confirm, write_enchant,
+    read_click_window, read_close_window, read_confirm, read_creative, read_enchant,
+    write_click_window, write_close_window, write_confirm, write_creative, write_enchant,
 };
 use mc_fields::{Cell, PacketRead, RowError, RowFault, take_varint, whole};
 use mc_nbt::{Cursor, NoMemory, Octets, Text};
+use mc_slots::Slot;
 use std::alloc::Global;
 
 /// Where an entity was hit, from its own place: three patterns of Floats, in blocks.
@@ -62,6 +64,9 @@ pub enum PlayUp {
     /// What is done (0 begun, 1 given up, 2 finished, 3 the stack in hand dropped, 4 one item of it
     /// dropped, 5 its use ended), the block, and its face.
     Digging(i8, Cell, i8),
+    /// The block, its face, what the player holds, and where on the face, in 1/16 blocks. With an x,
+    /// y and z of -1 what is held is used where the player is.
+    Placement(Cell, i8, Slot, i8, i8, i8),
     /// The slot of the hotbar that the player holds.
     Held(i16),
     /// The player's arm swings.
@@ -72,8 +77,13 @@ pub enum PlayUp {
     Steer(u32, u32, u8),
     /// The window that is closed.
     CloseWindow(u8),
+    /// The window, the slot (-999 outside), the button, the click's number, its mode, and the item
+    /// that the client thinks is there.
+    ClickWindow(u8, i16, i8, i16, i8, Slot),
     /// The window, the number of the click that the client confirms, and whether it accepts that.
     Confirm(i8, i16, bool),
+    /// The slot of the inventory, and what the player in creative mode puts there.
+    Creative(i16, Slot),
     /// The window, and which enchantment is taken.
     Enchant(i8, i8),
     /// The sign's block, and its four lines as JSON.
@@ -109,12 +119,15 @@ fn read_fields(alloc: Global, cursor: &mut Cursor<'_>, id: i32) -> Result<PlayUp
         0x05 => Ok(read_look(cursor)?),
         0x06 => Ok(read_position_look(cursor)?),
         0x07 => Ok(read_digging(cursor)?),
+        0x08 => Ok(read_placement(alloc, cursor)?),
         0x09 => Ok(read_held(cursor)?),
         0x0A => Ok(read_animation(cursor)?),
         0x0B => Ok(read_entity_action(cursor)?),
         0x0C => Ok(read_steer(cursor)?),
         0x0D => Ok(read_close_window(cursor)?),
+        0x0E => Ok(read_click_window(alloc, cursor)?),
         0x0F => Ok(read_confirm(cursor)?),
+        0x10 => Ok(read_creative(alloc, cursor)?),
         0x11 => Ok(read_enchant(cursor)?),
         0x12 => Ok(read_sign(alloc, cursor)?),
         0x13 => Ok(read_abilities(cursor)?),
@@ -168,6 +181,9 @@ fn write_fields(packet: &PlayUp, out: &mut Vec<u8>) -> Result<(), NoMemory>
             write_position_look(*x, *y, *z, *yaw, *pitch, *on_ground, out)?
         }
         PlayUp::Digging(status, place, face) => write_digging(*status, *place, *face, out)?,
+        PlayUp::Placement(place, face, held, x, y, z) => {
+            write_placement(*place, *face, held, *x, *y, *z, out)?
+        }
         PlayUp::Held(slot) => write_held(*slot, out)?,
         PlayUp::Animation => write_animation(out)?,
         PlayUp::EntityAction(entity, action, boost) => {
@@ -175,9 +191,13 @@ fn write_fields(packet: &PlayUp, out: &mut Vec<u8>) -> Result<(), NoMemory>
         }
         PlayUp::Steer(sideways, forward, flags) => write_steer(*sideways, *forward, *flags, out)?,
         PlayUp::CloseWindow(window) => write_close_window(*window, out)?,
+        PlayUp::ClickWindow(window, slot, button, number, mode, item) => {
+            write_click_window(*window, *slot, *button, *number, *mode, item, out)?
+        }
         PlayUp::Confirm(window, number, accepted) => {
             write_confirm(*window, *number, *accepted, out)?
         }
+        PlayUp::Creative(place, item) => write_creative(*place, item, out)?,
         PlayUp::Enchant(window, enchantment) => write_enchant(*window, *enchantment, out)?,
         PlayUp::Sign(place, first, second, third, fourth) => {
             write_sign(*place, first, second, third, fourth, out)?

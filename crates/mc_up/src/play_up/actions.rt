@@ -1,18 +1,21 @@
 //! What the player does to blocks and entities.
 
 ghost use Rattle.std.specs.Prelude.{◌≡◌, OnOk, OnErr, take, length};
-ghost use Rattle.mc_nbt.specs.Reading.{Yields};
+ghost use Rattle.mc_nbt.specs.Reading.{Yields, Gives};
 ghost use Rattle.mc_fields.specs.Row.{fields_read, row_append};
 ghost use Rattle.mc_nbt.specs.Optional.{when_read, when_append};
 ghost use Rattle.mc_fields.specs.Position.{FitsCell};
-ghost use Rattle.mc_up.specs.PlayUp.{has_hit, hit_read, hit_append, use_entity, digging, held, animation, entity_action, spectate};
+ghost use Rattle.mc_slots.specs.Slot.{HasId};
+ghost use Rattle.mc_up.specs.PlayUp.{has_hit, hit_read, hit_append, use_entity, digging, placement, held, animation, entity_action, spectate};
 
 use crate::play_up::{Hit, PlayUp};
 use mc_fields::{
     Cell, take_i8, take_i16, take_position, take_varint, write_i8, write_i16,
     write_position as write_cell, write_u32, write_u128, write_varint,
 };
-use mc_nbt::{Cursor, NoMemory, Stop};
+use mc_nbt::{Cursor, NoMemory, ReadError, Stop};
+use mc_slots::{Slot, take_slot, write_slot};
+use std::alloc::Global;
 
 /// Whether a use of this kind says where the entity was hit.
 fn has_hit(kind: i32) -> bool
@@ -97,6 +100,43 @@ pub fn write_digging(status: i8, place: Cell, face: i8, out: &mut Vec<u8>) -> Re
     write_i8(status, out)?;
     write_cell(place, out)?;
     write_i8(face, out)?;
+    Ok(())
+}
+
+pub fn read_placement(alloc: Global, cursor: &mut Cursor<'_>) -> Result<PlayUp, ReadError>
+    ensures { Gives (λ packet. (packet, cursor.new)) result (fields_read placement cursor.old) }
+{
+    let place = take_position(cursor)?;
+    let face = take_i8(cursor)?;
+    let held = take_slot(alloc, cursor)?;
+    let x = take_i8(cursor)?;
+    let y = take_i8(cursor)?;
+    let z = take_i8(cursor)?;
+    Ok(PlayUp::Placement(place, face, held, x, y, z))
+}
+
+#[tactic(auto, using(mc_nbt::proofs::Kept::kept_more, mc_nbt::proofs::Kept::kept_whole))]
+pub fn write_placement(
+    place: Cell,
+    face: i8,
+    held: &Slot,
+    x: i8,
+    y: i8,
+    z: i8,
+    out: &mut Vec<u8>,
+) -> Result<(), NoMemory>
+    requires place { FitsCell place }
+    requires held { HasId held.now }
+    ensures ok { OnOk result (out.new.items ≡ row_append placement (place, (face, (held.now, (x, (y, z))))) out.old.items) }
+    ensures begun { OnErr result (take (length out.old.items) out.new.items ≡ out.old.items) }
+{
+    write_varint(0x08, out)?;
+    write_cell(place, out)?;
+    write_i8(face, out)?;
+    write_slot(held, out)?;
+    write_i8(x, out)?;
+    write_i8(y, out)?;
+    write_i8(z, out)?;
     Ok(())
 }
 

@@ -1,15 +1,18 @@
 //! What the player does in windows.
 
 ghost use Rattle.std.specs.Prelude.{◌≡◌, OnOk, OnErr, take, length};
-ghost use Rattle.mc_nbt.specs.Reading.{Yields};
+ghost use Rattle.mc_nbt.specs.Reading.{Yields, Gives};
 ghost use Rattle.mc_fields.specs.Row.{fields_read, row_append};
-ghost use Rattle.mc_up.specs.PlayUp.{close_window, confirm, enchant};
+ghost use Rattle.mc_slots.specs.Slot.{HasId};
+ghost use Rattle.mc_up.specs.PlayUp.{close_window, click_window, confirm, creative, enchant};
 
 use crate::play_up::PlayUp;
 use mc_fields::{
     take_bool, take_i8, take_i16, write_bool, write_i8, write_i16, write_u8, write_varint,
 };
-use mc_nbt::{Cursor, NoMemory, Stop};
+use mc_nbt::{Cursor, NoMemory, ReadError, Stop};
+use mc_slots::{Slot, take_slot, write_slot};
+use std::alloc::Global;
 
 pub fn read_close_window(cursor: &mut Cursor<'_>) -> Result<PlayUp, Stop>
     ensures { Yields (λ packet. (packet, cursor.new)) result (fields_read close_window cursor.old) }
@@ -24,6 +27,42 @@ pub fn write_close_window(window: u8, out: &mut Vec<u8>) -> Result<(), NoMemory>
 {
     write_varint(0x0D, out)?;
     write_u8(window, out)?;
+    Ok(())
+}
+
+pub fn read_click_window(alloc: Global, cursor: &mut Cursor<'_>) -> Result<PlayUp, ReadError>
+    ensures { Gives (λ packet. (packet, cursor.new)) result (fields_read click_window cursor.old) }
+{
+    let window = cursor.u8()?;
+    let slot = take_i16(cursor)?;
+    let button = take_i8(cursor)?;
+    let number = take_i16(cursor)?;
+    let mode = take_i8(cursor)?;
+    let item = take_slot(alloc, cursor)?;
+    Ok(PlayUp::ClickWindow(window, slot, button, number, mode, item))
+}
+
+#[tactic(auto, using(mc_nbt::proofs::Kept::kept_more, mc_nbt::proofs::Kept::kept_whole))]
+pub fn write_click_window(
+    window: u8,
+    slot: i16,
+    button: i8,
+    number: i16,
+    mode: i8,
+    item: &Slot,
+    out: &mut Vec<u8>,
+) -> Result<(), NoMemory>
+    requires { HasId item.now }
+    ensures ok { OnOk result (out.new.items ≡ row_append click_window (window, (slot, (button, (number, (mode, item.now))))) out.old.items) }
+    ensures begun { OnErr result (take (length out.old.items) out.new.items ≡ out.old.items) }
+{
+    write_varint(0x0E, out)?;
+    write_u8(window, out)?;
+    write_i16(slot, out)?;
+    write_i8(button, out)?;
+    write_i16(number, out)?;
+    write_i8(mode, out)?;
+    write_slot(item, out)?;
     Ok(())
 }
 
@@ -50,6 +89,25 @@ pub fn write_confirm(
     write_i8(window, out)?;
     write_i16(number, out)?;
     write_bool(accepted, out)?;
+    Ok(())
+}
+
+pub fn read_creative(alloc: Global, cursor: &mut Cursor<'_>) -> Result<PlayUp, ReadError>
+    ensures { Gives (λ packet. (packet, cursor.new)) result (fields_read creative cursor.old) }
+{
+    let place = take_i16(cursor)?;
+    let item = take_slot(alloc, cursor)?;
+    Ok(PlayUp::Creative(place, item))
+}
+
+pub fn write_creative(place: i16, item: &Slot, out: &mut Vec<u8>) -> Result<(), NoMemory>
+    requires { HasId item.now }
+    ensures ok { OnOk result (out.new.items ≡ row_append creative (place, item.now) out.old.items) }
+    ensures begun { OnErr result (take (length out.old.items) out.new.items ≡ out.old.items) }
+{
+    write_varint(0x10, out)?;
+    write_i16(place, out)?;
+    write_slot(item, out)?;
     Ok(())
 }
 
