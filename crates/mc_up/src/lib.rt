@@ -12,6 +12,8 @@ mod login_up;
 mod play_up;
 mod status_down;
 mod status_up;
+#[cfg(test)]
+mod tests;
 
 pub use handshake::{Hand, read_hand, write_hand};
 pub use login_down::{LoginDown, read_login_down, write_login_down};
