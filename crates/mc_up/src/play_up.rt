@@ -158,6 +158,8 @@ pub fn read_play_up(alloc: Global, frame: &[u8]) -> Result<PlayUp, PacketRead>
     ensures found { IfOk result (λ packet. SpellsPlayUp packet frame.now) }
     // What is spelled so is read, unless memory runs out.
     ensures only { (packet : PlayUp) → SpellsPlayUp packet frame.now → GivesPacket result (Ok packet) }
+    // A frame spells one packet at most.
+    ensures one { (p q : PlayUp) → SpellsPlayUp p frame.now → SpellsPlayUp q frame.now → p ≡ q }
     // Which fault it is.
     ensures exact { GivesPacket result (packet_of frame.now (frame_read rows frame.now)) }
 {
