@@ -1,0 +1,4 @@
+pub mod Kept
+pub mod Land
+pub mod Places
+pub mod Terrain
