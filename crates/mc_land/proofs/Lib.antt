@@ -1,3 +1,4 @@
 mod Orders
 mod EditsFacts
 mod LandFacts
+mod GrownFacts

@@ -5,7 +5,8 @@ use Rattle.std.specs.declared.cmp.Ordering.{Ordering}
 use Rattle.std.specs.Ordering.{nat_cmp, int_cmp, ordering_then}
 use Rattle.std.specs.Int.{int_div_euclid, int_rem_euclid}
 use Rattle.mc_column.specs.Cells.{cell_index}
-use lib.IntN.{ℤ, pos, ◌+ℤ◌, ◌*ℤ◌}
+use lib.IntN.{ℤ, pos, negsuc, ◌+ℤ◌, ◌*ℤ◌}
+use lib.Signed.{◌≤ℤ◌}
 
 -- a column of cells, by its numbers cx and cz: the cells from 16 cx and 16 cz on
 abbrev pub Place : Type 0
@@ -45,3 +46,10 @@ y_of key = key.1 / 256
 
 abbrev pub z_of : Key → ℤ
 z_of key = key.0.1 *ℤ pos 16 +ℤ pos (key.1 / 16 % 16)
+
+-- columns within 30,000,160 blocks of the middle, of which the calls of a land may be told
+pub record IsPlace (place : Place) : Type 0 where
+  pub cx_low : negsuc 1875009 ≤ℤ place.0
+  pub cx_high : place.0 ≤ℤ pos 1875010
+  pub cz_low : negsuc 1875009 ≤ℤ place.1
+  pub cz_high : place.1 ≤ℤ pos 1875010

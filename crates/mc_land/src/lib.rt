@@ -4,6 +4,9 @@
 //! that it was set to, or else the terrain's, and a column that is ready holds exactly those.
 #![tactic(auto)]
 
+mod growing;
+mod places;
+mod sizes;
 mod terrain;
 
 pub use terrain::Terrain;

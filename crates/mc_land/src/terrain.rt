@@ -81,7 +81,7 @@ fn shifted(value: i32, shift: u64) -> i64
 }
 
 /// How high the grass of the hills stands at a place: 40 to 54.
-pub fn height(seed: u64, x: i32, z: i32) -> u16
+pub(crate) fn height(seed: u64, x: i32, z: i32) -> u16
     ensures is { result ≡ height seed x z }
     ensures low { 40 ≤ result }
     ensures high { result ≤ 54 }
@@ -92,7 +92,7 @@ pub fn height(seed: u64, x: i32, z: i32) -> u16
 }
 
 /// The id at a height of flat land.
-fn flat_id(y: u8) -> u16
+pub(crate) fn flat_id(y: u8) -> u16
     ensures is { result ≡ flat_id y }
     ensures small { result < 256 }
 {
@@ -105,8 +105,7 @@ fn flat_id(y: u8) -> u16
 }
 
 /// The id at a height of hills whose grass stands at `top`.
-fn hills_id(top: u16, y: u8) -> u16
-    requires { top ≤ 54 }
+pub(crate) fn hills_id(top: u16, y: u8) -> u16
     ensures is { result ≡ hills_id top y }
     ensures small { result < 256 }
 {
@@ -127,7 +126,7 @@ fn hills_id(top: u16, y: u8) -> u16
 }
 
 /// The id of a cell of the isle.
-fn isle_id(x: i32, y: u8, z: i32) -> u16
+pub(crate) fn isle_id(x: i32, y: u8, z: i32) -> u16
     ensures is { result ≡ isle_id x y z }
     ensures small { result < 256 }
 {
