@@ -5,6 +5,10 @@
 //! or made.
 #![tactic(auto)]
 
+mod chest;
+mod pile;
 mod slot;
 
+pub use chest::Chest;
+pub use pile::{Item, Pile, alike, fits, merge, split};
 pub use slot::{Slot, Stack, read_slot, take_slot, write_slot};
