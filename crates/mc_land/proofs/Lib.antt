@@ -2,3 +2,5 @@ mod Orders
 mod EditsFacts
 mod LandFacts
 mod GrownFacts
+mod TouchedFacts
+mod TouchFacts

@@ -6,7 +6,9 @@
 
 mod growing;
 mod places;
+mod ready;
 mod sizes;
 mod terrain;
 
+pub use ready::Touched;
 pub use terrain::Terrain;
