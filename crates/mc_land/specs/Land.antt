@@ -2,13 +2,18 @@
 -- it stands for: a cell has the state that it was set to, or else the terrain's.
 use Rattle.std.specs.Prelude.{◌≡◌, ℕ, ◌+◌, ◌*◌, ◌/◌, ◌%◌, ◌==◌, ◌&&◌, ◌||◌, Bool, not, true, false, List, map, Option, if◌then◌else◌, nat_lt}
 use Rattle.std.specs.Option.{unwrap_or}
-use Rattle.std.specs.List.{filter, range_with_len}
-use Rattle.std.specs.FinMap.{FinMap, get, insert, remove, entries}
+use Rattle.std.specs.List.{range_with_len, sum_by}
+use Rattle.std.specs.FinMap.{FinMap, get, insert, remove, entries, empty}
 use Rattle.std.specs.FinSet as set
 use Rattle.mc_column.specs.Sizes.{cells, squares}
 use Rattle.mc_column.specs.Cells.{ColumnValue}
+use Rattle.mc_slots.specs.declared.pile.Pile.{Pile}
 use Rattle.mc_land.specs.declared.terrain.Terrain.{Terrain}
+use Rattle.mc_land.specs.declared.ready.Touched.{Touched}
 use Rattle.mc_land.specs.Places.{Place, Key, place_cmp, key_cmp, key_of, place_of, x_of, y_of, z_of}
+use Rattle.mc_slots.specs.Pile.{count_of}
+use Rattle.mc_slots.specs.Chest.{empty_chest}
+use Rattle.mc_land.specs.Ready.{touched_cells}
 use Rattle.mc_land.specs.Terrain.{terrain_state, terrain_biome}
 use lib.IntN.{ℤ, pos, negsuc, ◌+ℤ◌, ◌*ℤ◌}
 
@@ -18,6 +23,8 @@ pub record LandValue : Type 0 where
   pub edits : FinMap key_cmp ℕ
   -- those at the last settling
   pub settled : FinMap key_cmp ℕ
+  -- the piles of each chest, at its cell
+  pub chests : FinMap key_cmp (List Pile)
   -- the columns that are ready to be looked at
   pub ready : set.FinSet place_cmp
 
@@ -51,18 +58,40 @@ column_of land place = record { states = states_of land.terrain land.edits place
 abbrev pub edited : Terrain → FinMap key_cmp ℕ → Key → ℕ → FinMap key_cmp ℕ
 edited terrain edits key state = if state == terrain_at terrain key then remove edits key else insert edits key state
 
--- the edits at the last settling are those of now
-abbrev pub settle : LandValue → LandValue
-settle land = record land { settled = land.edits }
+-- a chest's state: id 54, with any metadata
+abbrev pub is_chest : ℕ → Bool
+is_chest state = state / 16 == 54
 
-abbrev pub make_ready : LandValue → Place → LandValue
-make_ready land place = record land { ready = set.insert land.ready place }
+-- the chests after a cell that had one state got another: an empty one where it became a chest, none where it ceased to be
+abbrev pub chests_after : FinMap key_cmp (List Pile) → Key → ℕ → ℕ → FinMap key_cmp (List Pile)
+chests_after chests key old new = if is_chest new then (if is_chest old then chests else insert chests key empty_chest) else remove chests key
+
+-- a cell is set: its column is ready then
+abbrev pub with_block : LandValue → Key → ℕ → LandValue
+with_block land key state = record land {
+  edits = edited land.terrain land.edits key state;
+  chests = chests_after land.chests key (state_at land.terrain land.edits key) state;
+  ready = set.insert land.ready key.0;
+}
+
+-- the edits at the last settling are those of now
+abbrev pub settled_land : LandValue → LandValue
+settled_land land = record land { settled = land.edits }
+
+abbrev pub with_ready : LandValue → Place → LandValue
+with_ready land place = record land { ready = set.insert land.ready place }
+
+abbrev pub new_land : Terrain → LandValue
+new_land terrain = record { terrain = terrain; edits = empty; settled = empty; chests = empty; ready = set.empty }
 
 -- ---- what changed since the last settling
 
--- the indices in a column whose states differ, and the states that they had, in rising order
-abbrev pub is_dirty : LandValue → Key → Bool
-is_dirty land key = not (state_at land.terrain land.settled key == state_at land.terrain land.edits key)
+-- the cells of a column whose states differ, in rising index, with the states that they had
+abbrev pub dirty_in : LandValue → Place → List Touched
+dirty_in land place = touched_cells (states_of land.terrain land.settled place) (states_of land.terrain land.edits place)
 
-abbrev pub dirty_in : LandValue → Place → List (ℕ × ℕ)
-dirty_in land place = map (λ i. (i, state_at land.terrain land.settled (place, i))) (filter (λ i. is_dirty land (place, i)) (range_with_len 0 cells))
+-- ---- sums
+
+-- all that lies in chests
+abbrev pub stored_in : LandValue → ℕ
+stored_in land = sum_by (λ e. sum_by count_of e.1) (entries land.chests)

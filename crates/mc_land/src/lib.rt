@@ -5,10 +5,14 @@
 #![tactic(auto)]
 
 mod growing;
+mod land;
 mod places;
 mod ready;
 mod sizes;
+mod steps;
 mod terrain;
 
+pub use land::Land;
 pub use ready::Touched;
+pub use steps::Steps;
 pub use terrain::Terrain;

@@ -1,0 +1,49 @@
+-- How a land is kept: its ready columns and its chests, each in the order of its numbers.
+use Rattle.std.specs.Prelude.{◌≡◌, ℕ, ◌<◌, List, map, Some}
+use Rattle.std.specs.Option.{is_some}
+use Rattle.std.specs.List.Sorted.{IsStrictlySortedBy}
+use Rattle.std.specs.FinMap.{FinMap, find, from_entries}
+use Rattle.std.specs.FinSet as set
+use Rattle.mc_slots.specs.declared.pile.Pile.{Pile}
+use Rattle.mc_column.specs.Sizes.{cells}
+use Rattle.mc_column.specs.Cells.{HasSizes}
+use Rattle.mc_land.specs.declared.terrain.Terrain.{Terrain}
+use Rattle.mc_land.specs.Places.{Place, Key, place_cmp, key_cmp}
+use Rattle.mc_land.specs.Land.{LandValue, biomes_of, state_at, is_chest}
+use Rattle.mc_land.specs.Kept.{kept_edits}
+use Rattle.mc_land.specs.Ready.{ReadyValue}
+
+abbrev pub Columns : Type 0
+Columns = List (Place × ReadyValue)
+
+abbrev pub Chests : Type 0
+Chests = List (Key × List Pile)
+
+-- the states of the columns as they are, and as they were settled
+abbrev pub present_states : Columns → List (Place × List ℕ)
+present_states columns = map (λ e. (e.0, e.1.present.states)) columns
+
+abbrev pub settled_states : Columns → List (Place × List ℕ)
+settled_states columns = map (λ e. (e.0, e.1.settled.states)) columns
+
+abbrev pub kept_land : Terrain → Columns → Chests → LandValue
+kept_land terrain columns chests = record {
+  terrain = terrain;
+  edits = kept_edits terrain (present_states columns);
+  settled = kept_edits terrain (settled_states columns);
+  chests = from_entries chests;
+  ready = set.from_list (map (λ e. e.0) columns);
+}
+
+-- a ready column of its place
+pub record IsOwn (terrain : Terrain) (place : Place) (ready : ReadyValue) : Type 0 where
+  pub present_sizes : HasSizes ready.present
+  pub settled_sizes : HasSizes ready.settled
+  pub biomes : ready.present.biomes ≡ biomes_of terrain place
+
+pub record IsKeptLand (terrain : Terrain) (columns : Columns) (chests : Chests) : Type 0 where
+  pub columns_ordered : IsStrictlySortedBy place_cmp (map (λ e. e.0) columns)
+  pub chests_ordered : IsStrictlySortedBy key_cmp (map (λ e. e.0) chests)
+  pub own : (place : Place) (ready : ReadyValue) → find place_cmp place columns ≡ Some ready → IsOwn terrain place ready
+  -- a chest stands exactly where the state is one's
+  pub chests_are : (place : Place) (i : ℕ) → i < cells → is_some (find key_cmp (place, i) chests) ≡ is_chest (state_at terrain (kept_edits terrain (present_states columns)) (place, i))
