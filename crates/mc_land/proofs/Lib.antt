@@ -4,3 +4,6 @@ mod LandFacts
 mod GrownFacts
 mod TouchedFacts
 mod TouchFacts
+mod KeptLandFacts
+mod PlaceFacts
+mod LookFacts
