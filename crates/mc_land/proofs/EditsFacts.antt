@@ -13,7 +13,7 @@ use Rattle.mc_column.specs.Sizes.{cells}
 use Rattle.mc_land.specs.declared.terrain.Terrain.{Terrain}
 use Rattle.mc_land.specs.Places.{Place, Key, place_cmp, key_cmp}
 use Rattle.mc_land.specs.Land.{terrain_at}
-use Rattle.mc_land.specs.Kept.{is_changed, changes, kept_edits}
+use Rattle.mc_land.specs.Kept.{is_changed, changes, kept_edits, IsApart}
 use Rattle.mc_land.proofs.Orders.{places_total, keys_total, exact_places, exact_keys}
 
 -- looking up in two lists, one after the other
@@ -92,11 +92,6 @@ found_one c test state i a (suc n) le lt passes =
 abbrev pub all_changes : Terrain → List (Place × List ℕ) → List (Key × ℕ)
 all_changes terrain columns = flat_map (λ e. changes terrain e.0 e.1) columns
 
--- no column stands twice
-abbrev pub Apart : List (Place × List ℕ) → Type 0
-Apart [] = Unit {0}
-Apart (e ∷ es) = (find place_cmp e.0 es ≡ None) × Apart es
-
 -- what an edit of a cell is, from the states of its column
 abbrev pub changed_at : Terrain → Place → ℕ → Option (List ℕ) → Option ℕ
 changed_at terrain c i None = None
@@ -133,7 +128,7 @@ found_of_none terrain c i (e ∷ es) none =
     ] refl none
 
 -- an edit is looked up in its column
-pub found_in : (terrain : Terrain) (c : Place) (i : ℕ) (columns : List (Place × List ℕ)) → Apart columns → find key_cmp (c, i) (all_changes terrain columns) ≡ changed_at terrain c i (find place_cmp c columns)
+pub found_in : (terrain : Terrain) (c : Place) (i : ℕ) (columns : List (Place × List ℕ)) → IsApart columns → find key_cmp (c, i) (all_changes terrain columns) ≡ changed_at terrain c i (find place_cmp c columns)
 found_in terrain c i [] apart = refl
 found_in terrain c i (e ∷ es) apart =
     elim (eq_by_cmp place_cmp c e.0) as (λ b. eq_by_cmp place_cmp c e.0 ≡ b → find key_cmp (c, i) (changes terrain e.0 e.1 ++ all_changes terrain es) ≡ changed_at terrain c i (cond b (Some e.1) (find place_cmp c es))) [
@@ -155,5 +150,5 @@ found_in terrain c i (e ∷ es) apart =
     is_equal Equal e = refl
     is_equal Greater e = absurd cc
 
-pub get_kept : (terrain : Terrain) (columns : List (Place × List ℕ)) (c : Place) (i : ℕ) → Apart columns → get (kept_edits terrain columns) (c, i) ≡ changed_at terrain c i (find place_cmp c columns)
+pub get_kept : (terrain : Terrain) (columns : List (Place × List ℕ)) (c : Place) (i : ℕ) → IsApart columns → get (kept_edits terrain columns) (c, i) ≡ changed_at terrain c i (find place_cmp c columns)
 get_kept terrain columns c i apart = get-from_entries keys_total (all_changes terrain columns) (c, i) ∙ found_in terrain c i columns apart

@@ -13,15 +13,15 @@ use Rattle.mc_column.specs.Sizes.{cells}
 use Rattle.mc_land.specs.declared.terrain.Terrain.{Terrain}
 use Rattle.mc_land.specs.Places.{Place, Key, place_cmp, key_cmp}
 use Rattle.mc_land.specs.Land.{terrain_at, state_at, edited}
-use Rattle.mc_land.specs.Kept.{is_changed, kept_edits}
+use Rattle.mc_land.specs.Kept.{is_changed, kept_edits, IsApart}
 use Rattle.mc_land.proofs.Orders.{places_total, keys_total, exact_places, exact_keys}
-use Rattle.mc_land.proofs.EditsFacts.{Apart, changed_at, get_kept, same_column, other_column, nat_cmp_same, nat_cmp_other}
+use Rattle.mc_land.proofs.EditsFacts.{changed_at, get_kept, same_column, other_column, nat_cmp_same, nat_cmp_other}
 
 abbrev Columns : Type 0
 Columns = List (Place × List ℕ)
 
 -- two lists of columns with the same edits at each cell have the same edits
-pub same_edits : (terrain : Terrain) (old new : Columns) → Apart old → Apart new → ((c : Place) (i : ℕ) → changed_at terrain c i (find place_cmp c new) ≡ changed_at terrain c i (find place_cmp c old)) → kept_edits terrain new ≡ kept_edits terrain old
+pub same_edits : (terrain : Terrain) (old new : Columns) → IsApart old → IsApart new → ((c : Place) (i : ℕ) → changed_at terrain c i (find place_cmp c new) ≡ changed_at terrain c i (find place_cmp c old)) → kept_edits terrain new ≡ kept_edits terrain old
 same_edits terrain old new apart apart' same =
     same_map keys_total exact_keys (kept_edits terrain new) (kept_edits terrain old) (λ q. get_kept terrain new q.0 q.1 apart' ∙ same q.0 q.1 ∙ sym (get_kept terrain old q.0 q.1 apart))
 
@@ -34,7 +34,7 @@ none_changed terrain c i states own =
     ] refl
 
 -- the state of a cell is that in its column, where that is ready, else the terrain's
-pub state_ready : (terrain : Terrain) (columns : Columns) (c : Place) (i : ℕ) (states : List ℕ) → Apart columns → find place_cmp c columns ≡ Some states → i < cells → state_at terrain (kept_edits terrain columns) (c, i) ≡ get_or states i 0
+pub state_ready : (terrain : Terrain) (columns : Columns) (c : Place) (i : ℕ) (states : List ℕ) → IsApart columns → find place_cmp c columns ≡ Some states → i < cells → state_at terrain (kept_edits terrain columns) (c, i) ≡ get_or states i 0
 state_ready terrain columns c i states apart found inside =
     let test : nat_lt i cells ≡ true = lt-ltb i cells inside in
     let is : get (kept_edits terrain columns) (c, i) ≡ cond (is_changed terrain c states i) (Some (get_or states i 0)) None = get_kept terrain columns c i apart ∙ rw (found, test) refl in
@@ -43,7 +43,7 @@ state_ready terrain columns c i states apart found inside =
       | false ↦ λ e. refl
     ] refl)
 
-pub state_else : (terrain : Terrain) (columns : Columns) (c : Place) (i : ℕ) → Apart columns → find place_cmp c columns ≡ None → state_at terrain (kept_edits terrain columns) (c, i) ≡ terrain_at terrain (c, i)
+pub state_else : (terrain : Terrain) (columns : Columns) (c : Place) (i : ℕ) → IsApart columns → find place_cmp c columns ≡ None → state_at terrain (kept_edits terrain columns) (c, i) ≡ terrain_at terrain (c, i)
 state_else terrain columns c i apart none =
     let is : get (kept_edits terrain columns) (c, i) ≡ None = get_kept terrain columns c i apart ∙ rw none refl in
     rw is refl
@@ -68,7 +68,7 @@ by_place P old new c d states puts here elsewhere =
     ] refl)
 
 -- making a column ready changes no cell
-pub ready_edits : (terrain : Terrain) (old new : Columns) (c : Place) (states : List ℕ) → Apart old → Apart new → find place_cmp c old ≡ None → Puts old new c states → ((j : ℕ) → j < cells → get_or states j 0 ≡ terrain_at terrain (c, j)) → kept_edits terrain new ≡ kept_edits terrain old
+pub ready_edits : (terrain : Terrain) (old new : Columns) (c : Place) (states : List ℕ) → IsApart old → IsApart new → find place_cmp c old ≡ None → Puts old new c states → ((j : ℕ) → j < cells → get_or states j 0 ≡ terrain_at terrain (c, j)) → kept_edits terrain new ≡ kept_edits terrain old
 ready_edits terrain old new c states apart apart' none puts own =
     same_edits terrain old new apart apart' (λ d i. by_place (λ o. changed_at terrain d i o ≡ changed_at terrain d i (find place_cmp d old)) old new c d states puts
       (λ e. rw (e, none) (none_changed terrain c i states own))
@@ -100,7 +100,7 @@ set_here terrain c i state states inside within =
 set_other : (terrain : Terrain) (c : Place) (i j state : ℕ) (states : List ℕ) → (j ≡ i → ⊥) → changed_at terrain c j (Some (set states i state)) ≡ changed_at terrain c j (Some states)
 set_other terrain c i j state states ne = rw (get_or-set_other states i j state 0 ne) refl
 
-pub set_edits : (terrain : Terrain) (old new : Columns) (c : Place) (i state : ℕ) (states : List ℕ) → Apart old → Apart new → find place_cmp c old ≡ Some states → Puts old new c (set states i state) → i < cells → i < length states → kept_edits terrain new ≡ edited terrain (kept_edits terrain old) (c, i) state
+pub set_edits : (terrain : Terrain) (old new : Columns) (c : Place) (i state : ℕ) (states : List ℕ) → IsApart old → IsApart new → find place_cmp c old ≡ Some states → Puts old new c (set states i state) → i < cells → i < length states → kept_edits terrain new ≡ edited terrain (kept_edits terrain old) (c, i) state
 set_edits terrain old new c i state states apart apart' found puts inside within =
     same_map keys_total exact_keys (kept_edits terrain new) (edited terrain (kept_edits terrain old) (c, i) state) (λ q.
       get_kept terrain new q.0 q.1 apart'

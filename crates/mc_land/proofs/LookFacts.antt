@@ -13,9 +13,9 @@ use Rattle.mc_land.specs.Places.{Place, Key, place_cmp, key_cmp, inside, place_o
 use Rattle.mc_land.specs.Terrain.{terrain_state}
 use Rattle.mc_land.specs.Land.{LandValue, terrain_at, state_at, states_of, biomes_of, block, column_of, dirty_in}
 use Rattle.mc_land.specs.Kept.{kept_edits}
-use Rattle.mc_land.specs.KeptLand.{Columns, Chests, present_states, settled_states, kept_land, IsKeptLand, IsOwn}
+use Rattle.mc_land.specs.KeptLand.{IsIndexed, Columns, Chests, present_states, settled_states, kept_land, IsKeptLand, IsOwn}
 use Rattle.mc_land.specs.Ready.{ReadyValue, touched_cells}
-use Rattle.mc_land.proofs.EditsFacts.{Apart}
+use Rattle.mc_land.specs.Kept.{IsApart}
 use Rattle.mc_land.proofs.LandFacts.{state_ready, state_else}
 use Rattle.mc_land.proofs.KeptLandFacts.{apart, find_map}
 use Rattle.mc_land.proofs.PlaceFacts.{terrain_at_key, key_within}
@@ -46,12 +46,12 @@ settled ready = ready.settled.states
 -- the state of a cell of a ready column, as it is or as it was settled
 pub of_ready : (look : ReadyValue → List ℕ) (terrain : Terrain) (columns : Columns) (chests : Chests) (place : Place) (ready : ReadyValue) (i : ℕ) → IsKeptLand terrain columns chests → find place_cmp place columns ≡ Some ready → i < cells → state_at terrain (kept_edits terrain (map (λ e. (e.0, look e.1)) columns)) (place, i) ≡ get_or (look ready) i 0
 of_ready look terrain columns chests place ready i kept found lt =
-    state_ready terrain (map (λ e. (e.0, look e.1)) columns) place i (look ready) (apart look columns kept.columns_ordered) (find_map look place columns ∙ ap (option_map look) found) lt
+    state_ready terrain (map (λ e. (e.0, look e.1)) columns) place i (look ready) (apart look columns kept.columns_apart) (find_map look place columns ∙ ap (option_map look) found) lt
 
 -- and of one that is not ready
 pub of_none : (look : ReadyValue → List ℕ) (terrain : Terrain) (columns : Columns) (chests : Chests) (place : Place) (i : ℕ) → IsKeptLand terrain columns chests → find place_cmp place columns ≡ None → state_at terrain (kept_edits terrain (map (λ e. (e.0, look e.1)) columns)) (place, i) ≡ terrain_at terrain (place, i)
 of_none look terrain columns chests place i kept none =
-    state_else terrain (map (λ e. (e.0, look e.1)) columns) place i (apart look columns kept.columns_ordered) (find_map look place columns ∙ ap (option_map look) none)
+    state_else terrain (map (λ e. (e.0, look e.1)) columns) place i (apart look columns kept.columns_apart) (find_map look place columns ∙ ap (option_map look) none)
 
 pub block_ready : (terrain : Terrain) (columns : Columns) (chests : Chests) (x z : ℤ) (y : ℕ) (ready : ReadyValue) → IsKeptLand terrain columns chests → find place_cmp (place_of x z) columns ≡ Some ready → y < 256 → get_or ready.present.states (cell_index (inside x) y (inside z)) 0 ≡ block (kept_land terrain columns chests) x (pos y) z
 block_ready terrain columns chests x z y ready kept found lt =
@@ -132,10 +132,17 @@ own_no_chest Isle x z y = isle (eqb y 63 && is_within_16 x && is_within_16 z)
     isle true = refl
     isle false = refl
 
-pub kept_new : (terrain : Terrain) (columns : Columns) (chests : Chests) → columns ≡ [] → chests ≡ [] → IsStrictlySortedBy place_cmp (map (λ e. e.0) columns) → IsStrictlySortedBy key_cmp (map (λ e. e.0) chests) → IsKeptLand terrain columns chests
-kept_new terrain columns chests none empty ordered ordered' = record {
-  columns_ordered = ordered;
+pub kept_new : (terrain : Terrain) (columns : Columns) (chests : Chests) → columns ≡ [] → chests ≡ [] → IsStrictlySortedBy key_cmp (map (λ e. e.0) chests) → IsKeptLand terrain columns chests
+kept_new terrain columns chests none empty ordered' = record {
+  columns_apart = rw none tt;
   chests_ordered = ordered';
   own = λ place ready found. let h : find place_cmp place [] ≡ Some ready = rw none at found in absurd cc;
   chests_are = λ place i lt. rw (empty, none) (sym (ap is_chest (state_else terrain [] place i tt refl) ∙ own_no_chest terrain (x_of (place, i)) (z_of (place, i)) (y_of (place, i))));
+}
+
+pub indexed_new : (columns : List ReadyValue) (index : List (Place × ℕ)) → columns ≡ [] → index ≡ [] → IsIndexed columns index
+indexed_new columns index none empty = record {
+  listed = λ place i found. let h : find place_cmp place [] ≡ Some i = rw empty at found in absurd cc;
+  placed_at = λ place i d found. let h : find place_cmp place [] ≡ Some i = rw empty at found in absurd cc;
+  indexed = λ i d lt. absurd (omega (arith, ap length none));
 }

@@ -7,6 +7,7 @@ use Rattle.std.specs.List.{filter, range_with_len}
 use Rattle.mc_column.specs.Sizes.{cells, cells-is}
 use Rattle.mc_land.specs.declared.ready.Touched.{Touched}
 use Rattle.mc_land.specs.Ready.{IsAround, one_if, has_changed, touched_cell, touched_cells, settled_ready}
+use Rattle.mc_land.specs.Places.{Place}
 use Rattle.mc_land.specs.KeptReady.{kept_ready, IsKeptReady}
 use Rattle.mc_column.specs.Cells.{ColumnValue, HasSizes, with_state, cell_index}
 use Rattle.std.specs.List.Sorted.{IsPartitionedBy}
@@ -92,10 +93,10 @@ untouched_same was now len len' none = ext_get_or 0 was now (len ∙ sym len') (
         ] refl e
 
 -- a column without a touched cell is settled as it is
-pub settled_kept : (present settled : ColumnValue) (touched : List Touched) → IsKeptReady present settled touched → length touched ≡ 0 → kept_ready present settled ≡ settled_ready (kept_ready present settled)
-settled_kept present settled touched kept none =
+pub settled_kept : (place : Place) (present settled : ColumnValue) (touched : List Touched) → IsKeptReady present settled touched → length touched ≡ 0 → kept_ready place present settled ≡ settled_ready (kept_ready place present settled)
+settled_kept place present settled touched kept none =
     let states : settled.states ≡ present.states = untouched_same settled.states present.states kept.settled_sizes.states_are kept.present_sizes.states_are (sym kept.touched_are ∙ nil_from_length touched none) in
-    ap (kept_ready present) (same settled present states kept.biomes)
+    ap (kept_ready place present) (same settled present states kept.biomes)
   where
     same : (a b : ColumnValue) → a.states ≡ b.states → a.biomes ≡ b.biomes → a ≡ b
     same a b e f i = record { states = e i; biomes = f i }

@@ -1,5 +1,5 @@
--- How a land is kept: its ready columns and its chests, each in the order of its numbers.
-use Rattle.std.specs.Prelude.{◌≡◌, ℕ, ◌<◌, List, map, Some}
+-- How a land is kept: its ready columns in the order in which they were made, where each stands, and its chests.
+use Rattle.std.specs.Prelude.{◌≡◌, ℕ, ◌<◌, List, map, length, slice_index_or, Some}
 use Rattle.std.specs.Option.{is_some}
 use Rattle.std.specs.List.Sorted.{IsStrictlySortedBy}
 use Rattle.std.specs.FinMap.{FinMap, find, from_entries}
@@ -10,7 +10,7 @@ use Rattle.mc_column.specs.Cells.{HasSizes}
 use Rattle.mc_land.specs.declared.terrain.Terrain.{Terrain}
 use Rattle.mc_land.specs.Places.{Place, Key, place_cmp, key_cmp}
 use Rattle.mc_land.specs.Land.{LandValue, biomes_of, state_at, is_chest}
-use Rattle.mc_land.specs.Kept.{kept_edits}
+use Rattle.mc_land.specs.Kept.{kept_edits, IsApart}
 use Rattle.mc_land.specs.Ready.{ReadyValue}
 
 abbrev pub Columns : Type 0
@@ -18,6 +18,16 @@ Columns = List (Place × ReadyValue)
 
 abbrev pub Chests : Type 0
 Chests = List (Key × List Pile)
+
+-- a ready column under its place
+abbrev pub placed : List ReadyValue → Columns
+placed columns = map (λ ready. (ready.place, ready)) columns
+
+-- where each column stands
+pub record IsIndexed (columns : List ReadyValue) (index : List (Place × ℕ)) : Type 0 where
+  pub listed : (place : Place) (i : ℕ) → find place_cmp place index ≡ Some i → i < length columns
+  pub placed_at : (place : Place) (i : ℕ) (d : ReadyValue) → find place_cmp place index ≡ Some i → (slice_index_or columns i d).place ≡ place
+  pub indexed : (i : ℕ) (d : ReadyValue) → i < length columns → find place_cmp (slice_index_or columns i d).place index ≡ Some i
 
 -- the states of the columns as they are, and as they were settled
 abbrev pub present_states : Columns → List (Place × List ℕ)
@@ -42,7 +52,7 @@ pub record IsOwn (terrain : Terrain) (place : Place) (ready : ReadyValue) : Type
   pub biomes : ready.present.biomes ≡ biomes_of terrain place
 
 pub record IsKeptLand (terrain : Terrain) (columns : Columns) (chests : Chests) : Type 0 where
-  pub columns_ordered : IsStrictlySortedBy place_cmp (map (λ e. e.0) columns)
+  pub columns_apart : IsApart columns
   pub chests_ordered : IsStrictlySortedBy key_cmp (map (λ e. e.0) chests)
   pub own : (place : Place) (ready : ReadyValue) → find place_cmp place columns ≡ Some ready → IsOwn terrain place ready
   -- a chest stands exactly where the state is one's

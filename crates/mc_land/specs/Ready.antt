@@ -4,9 +4,11 @@ use Rattle.std.specs.List.{filter, range_with_len}
 use Rattle.mc_column.specs.Sizes.{cells}
 use Rattle.mc_column.specs.Cells.{ColumnValue, HasSizes, with_state}
 use Rattle.mc_land.specs.declared.ready.Touched.{Touched}
+use Rattle.mc_land.specs.Places.{Place}
 
 -- a ready column as contracts see it
 pub record ReadyValue : Type 0 where
+  pub place : Place
   pub present : ColumnValue
   -- as it was at the last settling
   pub settled : ColumnValue
@@ -23,10 +25,10 @@ touched_cells was now = map (touched_cell was) (filter (has_changed was now) (ra
 
 -- the column with another state in a cell
 abbrev pub set_cell : ReadyValue → ℕ → ℕ → ReadyValue
-set_cell ready i state = record { present = with_state ready.present i state; settled = ready.settled }
+set_cell ready i state = record { place = ready.place; present = with_state ready.present i state; settled = ready.settled }
 
 abbrev pub settled_ready : ReadyValue → ReadyValue
-settled_ready ready = record { present = ready.present; settled = ready.present }
+settled_ready ready = record { place = ready.place; present = ready.present; settled = ready.present }
 
 -- a cell, or none
 abbrev pub one_if : Bool → Touched → List Touched

@@ -7,6 +7,7 @@ ghost use Rattle.std.specs.Option.{option_copied};
 ghost use Rattle.std.specs.FinMap.{find};
 ghost use Rattle.mc_land.specs.Places.{IsPlace, place_cmp};
 ghost use Rattle.mc_land.specs.Terrain.{terrain_state};
+ghost use Rattle.mc_land.specs.KeptLand.{placed, IsIndexed};
 ghost use Rattle.mc_land.specs.Land.{block, column_of, dirty_in, new_land};
 
 use crate::places::{Place, height_of, place_of, x_inside, z_inside};
@@ -29,7 +30,10 @@ use std::sync::ledger::Ledger;
 #[derive(Drop)]
 pub struct Land {
     terrain: Terrain,
-    columns: BTreeMap<Place, Ready>,
+    /// In the order in which they were made ready.
+    columns: Vec<Ready>,
+    /// Where each of them stands.
+    index: BTreeMap<Place, usize>,
     /// By column, and by index in that.
     chests: BTreeMap<(Place, u16), Chest>,
 }
@@ -37,15 +41,15 @@ pub struct Land {
 impl Model for Land {
     ghost use Rattle.mc_land.specs.Land.{LandValue};
     ghost use Rattle.mc_land.specs.LandCode.{coded_land};
-    ghost use Rattle.mc_land.specs.KeptLand.{kept_land, IsKeptLand};
+    ghost use Rattle.mc_land.specs.KeptLand.{kept_land, placed, IsIndexed, IsKeptLand};
 
     ghost Value = { LandValue };
 
     ghost coded = { coded_land };
 
-    ghost view = { λ land. kept_land land.terrain land.columns.entries land.chests.entries };
+    ghost view = { λ land. kept_land land.terrain (placed land.columns.items) land.chests.entries };
 
-    ghost invariant = { λ land. IsKeptLand land.terrain land.columns.entries land.chests.entries };
+    ghost invariant = { λ land. IsKeptLand land.terrain (placed land.columns.items) land.chests.entries × IsIndexed land.columns.items land.index.entries };
 }
 
 impl Land {
@@ -55,7 +59,8 @@ impl Land {
     {
         Land {
             terrain,
-            columns: BTreeMap::new(alloc),
+            columns: Vec::new(alloc),
+            index: BTreeMap::new(alloc),
             chests: BTreeMap::new(alloc),
         }
     }
@@ -78,7 +83,7 @@ impl Land {
         ensures { result ≡ block self.now cell.now.x cell.now.y cell.now.z }
     {
         let y = height_of(cell);
-        match ready_at(&self.columns, &place_of(cell)) {
+        match ready_at(&self.columns, &self.index, &place_of(cell)) {
             Some(ready) => ready.state(x_inside(cell), y, z_inside(cell)),
             None => own_state(&self.terrain, cell, y),
         }
@@ -100,7 +105,7 @@ impl Land {
         ensures none { IsNone result ↔ set.contains self.now.ready place.now ≡ false }
         ensures some { IfSome result (λ column. column.now ≡ column_of self.now place.now) }
     {
-        match ready_at(&self.columns, place) {
+        match ready_at(&self.columns, &self.index, place) {
             Some(ready) => Some(ready.column()),
             None => None,
         }
@@ -119,7 +124,7 @@ impl Land {
     fn dirty_at(&self, place: &Place) -> &[Touched]
         ensures { result.now ≡ dirty_in self.now place.now }
     {
-        match ready_at(&self.columns, place) {
+        match ready_at(&self.columns, &self.index, place) {
             Some(ready) => ready.touched(),
             None => &[],
         }
@@ -127,10 +132,21 @@ impl Land {
 }
 
 /// The ready column of a place.
-fn ready_at<'a>(columns: &'a BTreeMap<Place, Ready>, place: &Place) -> Option<&'a Ready>
-    ensures { option_copied result ≡ find place_cmp place.now columns.now.entries }
+fn ready_at<'a>(columns: &'a Vec<Ready>, index: &BTreeMap<Place, usize>, place: &Place) -> Option<&'a Ready>
+    requires { IsIndexed columns.now.items index.now.entries }
+    ensures { option_copied result ≡ find place_cmp place.now (placed columns.now.items) }
 {
-    columns.get(place)
+    match index_at(index, place) {
+        Some(i) => Some(&columns[i]),
+        None => None,
+    }
+}
+
+/// Where the column of a place stands.
+fn index_at(index: &BTreeMap<Place, usize>, place: &Place) -> Option<usize>
+    ensures { result ≡ find place_cmp place.now index.now.entries }
+{
+    index.get(place).copied()
 }
 
 /// The terrain's state of a cell.

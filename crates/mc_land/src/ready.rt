@@ -4,6 +4,7 @@ ghost use Rattle.std.specs.List.Sorted.{IsPartitionPoint, IsPartitionedBy};
 ghost use Rattle.mc_column.specs.Cells.{HasSizes, cell_index};
 ghost use Rattle.mc_land.specs.Ready.{IsAround, is_at, one_if, set_cell, settled_ready, touched_cells};
 
+use crate::places::Place;
 use mc_column::Column;
 use mc_nbt::NoMemory;
 use std::alloc::Global;
@@ -21,6 +22,7 @@ pub struct Touched {
 /// A column that is ready to be looked at.
 #[derive(Drop)]
 pub(crate) struct Ready {
+    place: Place,
     present: Column,
     settled: Column,
     /// The cells that differ between the two, in rising index.
@@ -36,19 +38,20 @@ impl Model for Ready {
 
     ghost Value = { ReadyValue };
 
-    ghost view = { λ ready. kept_ready ready.present ready.settled };
+    ghost view = { λ ready. kept_ready ready.place ready.present ready.settled };
 
     ghost invariant = { λ ready. IsKeptReady ready.present ready.settled ready.touched.items };
 }
 
 impl Ready {
     /// A column of the terrain's own cells, and its copy.
-    pub(crate) fn new(alloc: Global, column: Column) -> Result<Ready, NoMemory>
+    pub(crate) fn new(alloc: Global, place: Place, column: Column) -> Result<Ready, NoMemory>
         requires { HasSizes column }
-        ensures { IfOk result (λ ready. ready ≡ record { present = column; settled = column }) }
+        ensures { IfOk result (λ ready. ready ≡ record { place = place; present = column; settled = column }) }
     {
         let settled = column.copy()?;
         Ok(Ready {
+            place,
             present: column,
             settled,
             touched: Vec::new(alloc),

@@ -5,7 +5,7 @@ use Rattle.mc_land.proofs.TouchedFacts.{touched_none, settled_kept}
 use Rattle.mc_land.proofs.ready.Ready.settle.Goals as goal
 
 pub returns-then-is_empty : goal.returns-then-is_empty
-returns-then-is_empty c = rw (← c.self.view_is) (settled_kept _ _ _ c.self.invariant (ap length (sym c.as_slice.ensures.value) ∙ eqb-true _ 0 (sym c.is_empty.ensures ∙ c.if-is_empty.true)))
+returns-then-is_empty c = rw (← c.self.view_is) (settled_kept _ _ _ _ c.self.invariant (ap length (sym c.as_slice.ensures.value) ∙ eqb-true _ 0 (sym c.is_empty.ensures ∙ c.if-is_empty.true)))
 
 pub invariant_of-self : goal.invariant_of-self
 invariant_of-self c = record {
