@@ -7,3 +7,4 @@ mod TouchFacts
 mod KeptLandFacts
 mod PlaceFacts
 mod LookFacts
+mod ChangeFacts
