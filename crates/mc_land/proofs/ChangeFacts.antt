@@ -10,7 +10,7 @@ use Rattle.std.specs.FinMap.{find}
 use Rattle.std.specs.FinMap.Entries.{find-append}
 use Rattle.std.specs.FinSet as set
 use Rattle.std.proofs.lemmas.Bool.{cases_lt, cases_eq, cases_Bool, true≢false}
-use Rattle.std.proofs.lemmas.List.{get_or-map, length-map, map-append, length-append, get_or_append_left, get_or-append_right}
+use Rattle.std.proofs.lemmas.List.{get_or-map, length-map, map-append, length-append, get_or_append_left, get_or_push}
 use Rattle.std.proofs.lemmas.List.FromFn.{get_or-map-range_with_len, length-map-range_with_len}
 use Rattle.mc_column.specs.Sizes.{cells, squares}
 use Rattle.mc_column.specs.Cells.{ColumnValue, HasSizes}
@@ -23,7 +23,7 @@ use Rattle.mc_land.specs.KeptLand.{Columns, Chests, placed, present_states, sett
 use Rattle.mc_land.specs.Ready.{ReadyValue, settled_ready}
 use Rattle.mc_land.proofs.Orders.{places_total, exact_places}
 use Rattle.mc_land.proofs.LandFacts.{Puts, ready_edits}
-use Rattle.mc_land.proofs.KeptLandFacts.{apart, find_map}
+use Rattle.mc_land.proofs.KeptLandFacts.{apart, find_map, found_indexed}
 use Rattle.mc_land.proofs.LookFacts.{present, settled, is_ready}
 
 -- ---- settling
@@ -144,12 +144,15 @@ pub record IsFresh (terrain : Terrain) (place : Place) (ready : ReadyValue) : Ty
   pub present_own : ready.present ≡ own_column terrain place
   pub settled_own : ready.settled ≡ own_column terrain place
 
+pub fresh_new : (terrain : Terrain) (place : Place) (column : ColumnValue) (ready : ReadyValue) → column ≡ own_column terrain place → ready ≡ record { place = place; present = column; settled = column } → IsFresh terrain place ready
+fresh_new terrain place column ready own is = rw is (record { at = refl; present_own = own; settled_own = own })
+
 pub push_land : (terrain : Terrain) (columns new : List ReadyValue) (chests : Chests) (place : Place) (ready : ReadyValue) → new ≡ columns ++ ready ∷ [] → IsFresh terrain place ready → IsKeptLand terrain (placed columns) chests → find place_cmp place (placed columns) ≡ None → kept_land terrain (placed new) chests ≡ with_ready (kept_land terrain (placed columns) chests) place
 push_land terrain columns new chests place ready is fresh kept none =
     let entries : placed new ≡ placed columns ++ (place, ready) ∷ [] = rw (is, placed_push columns ready, fresh.at) refl in
     rw (entries, edits_push present terrain (placed columns) place ready kept.columns_apart none (ap (λ (c : ColumnValue). c.states) fresh.present_own), edits_push settled terrain (placed columns) place ready kept.columns_apart none (ap (λ (c : ColumnValue). c.states) fresh.settled_own), places_push (placed columns) place ready, set.from_list_push places_total exact_places (map (λ e. e.0) (placed columns)) place) refl
 
-own_sizes : (terrain : Terrain) (place : Place) → HasSizes (own_column terrain place)
+pub own_sizes : (terrain : Terrain) (place : Place) → HasSizes (own_column terrain place)
 own_sizes terrain place = record { states_are = length-map-range_with_len (λ i. terrain_at terrain (place, i)) 0 cells; biomes_are = length-map-range_with_len _ 0 squares }
 
 pub push_keeps : (terrain : Terrain) (columns new : List ReadyValue) (chests : Chests) (place : Place) (ready : ReadyValue) → new ≡ columns ++ ready ∷ [] → IsFresh terrain place ready → IsKeptLand terrain (placed columns) chests → find place_cmp place (placed columns) ≡ None → IsKeptLand terrain (placed new) chests
@@ -177,3 +180,48 @@ push_keeps terrain columns new chests place ready is fresh kept none =
           settled_sizes = rw fresh.settled_own (own_sizes terrain place);
           biomes = ap (λ (c : ColumnValue). c.biomes) fresh.present_own;
         })
+
+-- ---- where a new column stands
+
+pub index_push : (columns : List ReadyValue) (index index' : List (Place × ℕ)) (ready : ReadyValue) → IsIndexed columns index → find place_cmp ready.place index ≡ None → ((q : Place) → find place_cmp q index' ≡ cond (eq_by_cmp place_cmp q ready.place) (Some (length columns)) (find place_cmp q index)) → IsIndexed (columns ++ ready ∷ []) index'
+index_push columns index index' ready is none puts = record {
+  listed = λ place i e. by_place place (λ o. o ≡ Some i → i < length (columns ++ ready ∷ [])) (λ same h. let k : length columns ≡ i = same_index (length columns) i h in omega (arith, k, length-append columns (ready ∷ []))) (λ h. let lt = is.listed place i h in omega (arith, lt, length-append columns (ready ∷ []))) e;
+  placed_at = λ place i d e. by_place place (λ o. o ≡ Some i → (get_or (columns ++ ready ∷ []) i d).place ≡ place) (λ same h. ap (λ (r : ReadyValue). r.place) (get_or_push columns ready d i (same_index (length columns) i h)) ∙ sym same) (λ h. ap (λ (r : ReadyValue). r.place) (get_or_append_left columns (ready ∷ []) d i (is.listed place i h)) ∙ is.placed_at place i d h) e;
+  indexed = λ i d lt. elim (cases_lt i (length columns)) [
+    | inl inside ↦
+        let same : (get_or (columns ++ ready ∷ []) i d) ≡ get_or columns i d = get_or_append_left columns (ready ∷ []) d i inside in
+        let old = is.indexed i d inside in
+        rw same (puts (get_or columns i d).place ∙ other (get_or columns i d).place i old)
+    | inr past ↦
+        let last : length columns ≡ i = omega (arith, length-append columns (ready ∷ []), lt) in
+        rw (get_or_push columns ready d i last) (puts ready.place ∙ rw (ap is_eq (tied_itself places_total ready.place), last) refl)
+  ];
+}
+  where
+    same_index : (a b : ℕ) → Some a ≡ Some b → a ≡ b
+    same_index a b e = cc
+    is_equal : (o : Ordering) → is_eq o ≡ true → o ≡ Equal
+    is_equal Less e = absurd cc
+    is_equal Equal e = refl
+    is_equal Greater e = absurd cc
+    by_place : (place : Place) (P : Option ℕ → Type 0) → (place ≡ ready.place → P (Some (length columns))) → P (find place_cmp place index) → P (find place_cmp place index')
+    by_place place P here elsewhere = subst P (sym (puts place)) (elim (eq_by_cmp place_cmp place ready.place) as (λ b. eq_by_cmp place_cmp place ready.place ≡ b → P (cond b (Some (length columns)) (find place_cmp place index))) [
+        | true ↦ λ t. here (exact_places place ready.place (is_equal (place_cmp place ready.place) t))
+        | false ↦ λ t. elsewhere
+      ] refl)
+    other : (place : Place) (i : ℕ) → find place_cmp place index ≡ Some i → cond (eq_by_cmp place_cmp place ready.place) (Some (length columns)) (find place_cmp place index) ≡ Some i
+    other place i old = elim (eq_by_cmp place_cmp place ready.place) as (λ b. eq_by_cmp place_cmp place ready.place ≡ b → cond b (Some (length columns)) (find place_cmp place index) ≡ Some i) [
+        | true ↦ λ t. let clash : None ≡ Some i = sym none ∙ ap (λ (p : Place). find place_cmp p index) (sym (exact_places place ready.place (is_equal (place_cmp place ready.place) t))) ∙ old in absurd cc
+        | false ↦ λ t. old
+      ] refl
+
+-- ---- whether a column is ready
+
+pub ready_there : (columns : List ReadyValue) (index : List (Place × ℕ)) (place : Place) (o : Option ℕ) → IsIndexed columns index → o ≡ find place_cmp place index → is_some o ≡ true → (ready : ReadyValue) × (find place_cmp place (placed columns) ≡ Some ready)
+ready_there columns index place None is e some = absurd cc
+ready_there [] index place (Some i) is e some = absurd (omega (arith, is.listed place i (sym e)))
+ready_there (d ∷ ds) index place (Some i) is e some = (get_or (d ∷ ds) i d, found_indexed place (d ∷ ds) index i d is (sym e))
+
+pub not_there : (o : Option ℕ) → is_some o ≡ false → o ≡ None
+not_there None e = refl
+not_there (Some i) e = absurd cc

@@ -15,7 +15,7 @@ use Rattle.mc_land.specs.Land.{terrain_at, state_at}
 use Rattle.mc_land.specs.KeptLand.{Columns, placed, IsIndexed}
 use Rattle.mc_land.specs.Ready.{ReadyValue}
 use Rattle.mc_land.specs.Kept.{IsApart}
-use Rattle.std.specs.Cmp.{tied_itself}
+use Rattle.std.specs.Cmp.{tied_itself, eq_by_cmp_equiv}
 use Rattle.mc_land.proofs.Orders.{places_total, exact_places}
 
 -- a tree's look-up is the first entry of the key
@@ -84,3 +84,9 @@ found_unindexed q (d ∷ ds) index is e =
     found_nowhere q (d ∷ ds) d (λ j lt same.
       let there : find place_cmp q index ≡ Some j = ap (λ (p : Place). find place_cmp p index) (sym same) ∙ is.indexed j d lt in
       let none : None ≡ Some j = sym e ∙ there in absurd cc)
+
+-- what a tree's insert says of each key
+pub inserted : {X : Type 0} (old new : List (Place × X)) (k key q : Place) (v value : X) → lookup (λ y. is_eq (place_cmp q y)) new ≡ cond (is_eq (place_cmp k q)) (Some v) (lookup (λ y. is_eq (place_cmp q y)) old) → k ≡ key → v ≡ value → find place_cmp q new ≡ cond (eq_by_cmp place_cmp q key) (Some value) (find place_cmp q old)
+inserted {X} old new k key q v value h e f =
+    let turned : eq_by_cmp place_cmp k q ≡ eq_by_cmp place_cmp q key = rw e ((eq_by_cmp_equiv places_total).symm key q) in
+    sym (lookup_is place_cmp q new) ∙ h ∙ rw (turned, f, lookup_is place_cmp q old) refl

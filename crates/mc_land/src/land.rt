@@ -174,7 +174,7 @@ fn push_ready(columns: &mut Vec<Ready>, index: &mut BTreeMap<Place, usize>, read
     ensures err { OnErr result (columns.new.items ≡ columns.old.items) }
 {
     columns.reserve(1)?;
-    let _none = index.insert(*ready.place(), columns.len())?;
+    let _none = index.insert(*ready.place(), columns.as_slice().len())?;
     columns.push(ready).unwrap();
     Ok(())
 }
@@ -183,7 +183,7 @@ fn push_ready(columns: &mut Vec<Ready>, index: &mut BTreeMap<Place, usize>, read
 fn settle_all(columns: &mut Vec<Ready>)
     ensures { columns.new.items ≡ map settled_ready columns.old.items }
 {
-    for i in 0..columns.len() {
+    for i in 0..columns.as_slice().len() {
         let ready = &mut columns[i];
         ready.settle();
     }
