@@ -19,7 +19,7 @@ use Rattle.mc_land.specs.Places.{Place, Key, place_cmp, key_cmp}
 use Rattle.mc_land.specs.Land.{LandValue, terrain_at, state_at, is_chest, settled_land, with_ready}
 use Rattle.mc_land.specs.Grown.{own_column}
 use Rattle.mc_land.specs.Kept.{kept_edits, IsApart}
-use Rattle.mc_land.specs.KeptLand.{Columns, Chests, placed, present_states, settled_states, kept_land, IsIndexed, IsOwn, IsKeptLand}
+use Rattle.mc_land.specs.KeptLand.{Columns, Chests, placed, present_states, settled_states, kept_land, IsFresh, IsIndexed, IsOwn, IsKeptLand}
 use Rattle.mc_land.specs.Ready.{ReadyValue, settled_ready}
 use Rattle.mc_land.proofs.Orders.{places_total, exact_places}
 use Rattle.mc_land.proofs.LandFacts.{Puts, ready_edits}
@@ -137,12 +137,6 @@ edits_push look terrain columns place ready is none own =
 places_push : (columns : Columns) (place : Place) (ready : ReadyValue) → map (λ e. e.0) (columns ++ (place, ready) ∷ []) ≡ map (λ e. e.0) columns ++ place ∷ []
 places_push [] place ready = refl
 places_push (e ∷ es) place ready = ap (λ (t : List Place). e.0 ∷ t) (places_push es place ready)
-
--- a ready column of the terrain's own cells
-pub record IsFresh (terrain : Terrain) (place : Place) (ready : ReadyValue) : Type 0 where
-  pub at : ready.place ≡ place
-  pub present_own : ready.present ≡ own_column terrain place
-  pub settled_own : ready.settled ≡ own_column terrain place
 
 pub fresh_new : (terrain : Terrain) (place : Place) (column : ColumnValue) (ready : ReadyValue) → column ≡ own_column terrain place → ready ≡ record { place = place; present = column; settled = column } → IsFresh terrain place ready
 fresh_new terrain place column ready own is = rw is (record { at = refl; present_own = own; settled_own = own })

@@ -8,3 +8,4 @@ mod KeptLandFacts
 mod PlaceFacts
 mod LookFacts
 mod ChangeFacts
+mod SetFacts

@@ -11,6 +11,8 @@ ghost use Rattle.mc_land.specs.KeptLand.{placed, IsIndexed};
 ghost use Rattle.mc_land.specs.Land.{block, column_of, dirty_in, new_land, settled_land, with_ready};
 ghost use Rattle.mc_land.specs.Ready.{settled_ready};
 
+mod setting;
+
 use crate::growing::grow;
 use crate::places::{Place, height_of, place_of, x_inside, z_inside};
 use crate::ready::{Ready, Touched};
@@ -166,7 +168,7 @@ impl Land {
 }
 
 /// Adds a ready column of a place that has none. Without memory both are as before.
-fn push_ready(columns: &mut Vec<Ready>, index: &mut BTreeMap<Place, usize>, ready: Ready) -> Result<(), NoMemory>
+pub(crate) fn push_ready(columns: &mut Vec<Ready>, index: &mut BTreeMap<Place, usize>, ready: Ready) -> Result<(), NoMemory>
     requires indexed { IsIndexed columns.old.items index.old.entries }
     requires new { find place_cmp ready.place index.old.entries ≡ None }
     ensures ok { OnOk result (columns.new.items ≡ columns.old.items ++ ready ∷ []) }
@@ -201,7 +203,7 @@ fn ready_at<'a>(columns: &'a Vec<Ready>, index: &BTreeMap<Place, usize>, place: 
 }
 
 /// Where the column of a place stands.
-fn index_at(index: &BTreeMap<Place, usize>, place: &Place) -> Option<usize>
+pub(crate) fn index_at(index: &BTreeMap<Place, usize>, place: &Place) -> Option<usize>
     ensures { result ≡ find place_cmp place.now index.now.entries }
 {
     index.get(place).copied()
