@@ -71,8 +71,8 @@ by_place P old new c d states puts here elsewhere =
 pub ready_edits : (terrain : Terrain) (old new : Columns) (c : Place) (states : List ℕ) → IsApart old → IsApart new → find place_cmp c old ≡ None → Puts old new c states → ((j : ℕ) → j < cells → get_or states j 0 ≡ terrain_at terrain (c, j)) → kept_edits terrain new ≡ kept_edits terrain old
 ready_edits terrain old new c states apart apart' none puts own =
     same_edits terrain old new apart apart' (λ d i. by_place (λ o. changed_at terrain d i o ≡ changed_at terrain d i (find place_cmp d old)) old new c d states puts
-      (λ e. rw (e, none) (none_changed terrain c i states own))
-      (λ t. refl))
+    (λ e. rw (e, none) (none_changed terrain c i states own))
+    (λ t. refl))
 
 -- ---- a cell is set
 
@@ -103,14 +103,14 @@ set_other terrain c i j state states ne = rw (get_or-set_other states i j state 
 pub set_edits : (terrain : Terrain) (old new : Columns) (c : Place) (i state : ℕ) (states : List ℕ) → IsApart old → IsApart new → find place_cmp c old ≡ Some states → Puts old new c (set states i state) → i < cells → i < length states → kept_edits terrain new ≡ edited terrain (kept_edits terrain old) (c, i) state
 set_edits terrain old new c i state states apart apart' found puts inside within =
     same_map keys_total exact_keys (kept_edits terrain new) (edited terrain (kept_edits terrain old) (c, i) state) (λ q.
-      get_kept terrain new q.0 q.1 apart'
-      ∙ by_place (λ o. changed_at terrain q.0 q.1 o ≡ cond (eq_by_cmp key_cmp q (c, i)) (becomes terrain (c, i) state) (get (kept_edits terrain old) q)) old new c q.0 (set states i state) puts
-          (λ e. in_column q.0 q.1 e)
-          (λ t. rw (other_column q.0 c q.1 i t) (sym (get_kept terrain old q.0 q.1 apart)))
-      ∙ sym (get_edited terrain (kept_edits terrain old) (c, i) q state))
+    get_kept terrain new q.0 q.1 apart'
+    ∙ by_place (λ o. changed_at terrain q.0 q.1 o ≡ cond (eq_by_cmp key_cmp q (c, i)) (becomes terrain (c, i) state) (get (kept_edits terrain old) q)) old new c q.0 (set states i state) puts
+    (λ e. in_column q.0 q.1 e)
+    (λ t. rw (other_column q.0 c q.1 i t) (sym (get_kept terrain old q.0 q.1 apart)))
+    ∙ sym (get_edited terrain (kept_edits terrain old) (c, i) q state))
   where
     in_column : (d : Place) (j : ℕ) → d ≡ c → changed_at terrain d j (Some (set states i state)) ≡ cond (eq_by_cmp key_cmp (d, j) (c, i)) (becomes terrain (c, i) state) (get (kept_edits terrain old) (d, j))
     in_column d j e = rw (e, same_column c j i) (elim (cases_eq j i) [
-        | inl same ↦ rw (same, nat_cmp_same i) (set_here terrain c i state states inside within)
-        | inr ne ↦ rw (nat_cmp_other j i ne) (set_other terrain c i j state states ne ∙ sym (get_kept terrain old c j apart ∙ rw found refl))
-      ])
+      | inl same ↦ rw (same, nat_cmp_same i) (set_here terrain c i state states inside within)
+      | inr ne ↦ rw (nat_cmp_other j i ne) (set_other terrain c i j state states ne ∙ sym (get_kept terrain old c j apart ∙ rw found refl))
+    ])

@@ -9,3 +9,4 @@ mod PlaceFacts
 mod LookFacts
 mod ChangeFacts
 mod SetFacts
+mod PutFacts

@@ -92,9 +92,9 @@ dirty_none terrain columns chests place kept none =
 among : (q : Place) (columns : Columns) → list_any (eq_by_cmp place_cmp q) (map (λ e. e.0) columns) ≡ is_some (find place_cmp q columns)
 among q [] = refl
 among q (e ∷ es) = elim (eq_by_cmp place_cmp q e.0) as (λ b. (b || list_any (eq_by_cmp place_cmp q) (map (λ e. e.0) es)) ≡ is_some (cond b (Some e.1) (find place_cmp q es))) [
-    | true ↦ refl
-    | false ↦ among q es
-  ]
+  | true ↦ refl
+  | false ↦ among q es
+]
 
 pub is_ready : (terrain : Terrain) (columns : Columns) (chests : Chests) (place : Place) → set.contains (kept_land terrain columns chests).ready place ≡ is_some (find place_cmp place columns)
 is_ready terrain columns chests place = set.contains-from_list places_total (map (λ e. e.0) columns) place ∙ among place columns

@@ -46,7 +46,7 @@ elsewhere place i state ready ne =
       | false ↦ λ t. refl
     ] refl
 
-set_place : (place : Place) (i state : ℕ) (ready : ReadyValue) → (set_at place i state ready).place ≡ ready.place
+pub set_place : (place : Place) (i state : ℕ) (ready : ReadyValue) → (set_at place i state ready).place ≡ ready.place
 set_place place i state ready = elim (eq_by_cmp place_cmp ready.place place) as (λ b. (cond b (set_cell ready i state) ready).place ≡ ready.place) [ true ↦ refl | false ↦ refl ]
 
 set_settled : (place : Place) (i state : ℕ) (ready : ReadyValue) → (set_at place i state ready).settled ≡ ready.settled
@@ -58,11 +58,11 @@ set_is_map [] new index place n i state is e each = absurd (omega (arith, is.lis
 set_is_map (d ∷ ds) new index place n i state is e each =
     let columns : List ReadyValue = d ∷ ds in
     each d ∙ ext_get_or d (set (d ∷ ds) n (set_cell (get_or (d ∷ ds) n d) i state)) (map (set_at place i state) (d ∷ ds)) (length-set (d ∷ ds) n (set_cell (get_or (d ∷ ds) n d) i state) ∙ sym (length-map (d ∷ ds) (set_at place i state))) (λ k lt.
-      let inside : k < length (d ∷ ds) = omega (arith, length-set (d ∷ ds) n (set_cell (get_or (d ∷ ds) n d) i state)) in
-      elim (cases_eq k n) [
-        | inl same ↦ rw same (get_or-set_same (d ∷ ds) n (set_cell (get_or (d ∷ ds) n d) i state) d (is.listed place n e) ∙ sym (at_place place i state (get_or (d ∷ ds) n d) (is.placed_at place n d e)) ∙ sym (get_or-map (set_at place i state) (d ∷ ds) n d d (is.listed place n e)))
-        | inr ne ↦ get_or-set_other (d ∷ ds) n k (set_cell (get_or (d ∷ ds) n d) i state) d ne ∙ sym (elsewhere place i state (get_or (d ∷ ds) k d) (λ same. ne (some_is k n (sym (is.indexed k d inside) ∙ ap (λ (p : Place). find place_cmp p index) same ∙ e)))) ∙ sym (get_or-map (set_at place i state) (d ∷ ds) k d d inside)
-      ])
+    let inside : k < length (d ∷ ds) = omega (arith, length-set (d ∷ ds) n (set_cell (get_or (d ∷ ds) n d) i state)) in
+    elim (cases_eq k n) [
+      | inl same ↦ rw same (get_or-set_same (d ∷ ds) n (set_cell (get_or (d ∷ ds) n d) i state) d (is.listed place n e) ∙ sym (at_place place i state (get_or (d ∷ ds) n d) (is.placed_at place n d e)) ∙ sym (get_or-map (set_at place i state) (d ∷ ds) n d d (is.listed place n e)))
+      | inr ne ↦ get_or-set_other (d ∷ ds) n k (set_cell (get_or (d ∷ ds) n d) i state) d ne ∙ sym (elsewhere place i state (get_or (d ∷ ds) k d) (λ same. ne (some_is k n (sym (is.indexed k d inside) ∙ ap (λ (p : Place). find place_cmp p index) same ∙ e)))) ∙ sym (get_or-map (set_at place i state) (d ∷ ds) k d d inside)
+    ])
   where
     some_is : (a b : ℕ) → Some a ≡ Some b → a ≡ b
     some_is a b e = cc
@@ -106,7 +106,7 @@ put_made terrain place i state old new fresh none is e = record {
 
 -- ---- what a land is then
 
-placed_map : (f : ReadyValue → ReadyValue) (columns : List ReadyValue) → ((ready : ReadyValue) → (f ready).place ≡ ready.place) → placed (map f columns) ≡ map (λ e. (e.0, f e.1)) (placed columns)
+pub placed_map : (f : ReadyValue → ReadyValue) (columns : List ReadyValue) → ((ready : ReadyValue) → (f ready).place ≡ ready.place) → placed (map f columns) ≡ map (λ e. (e.0, f e.1)) (placed columns)
 placed_map f [] keeps = refl
 placed_map f (x ∷ xs) keeps = rw (keeps x, placed_map f xs keeps) refl
 
@@ -122,13 +122,13 @@ found_place q (x ∷ xs) ready e =
     some_is : (a b : ReadyValue) → Some a ≡ Some b → a ≡ b
     some_is a b e = cc
 
-abbrev each : (ReadyValue → ReadyValue) → Columns → Columns
+abbrev pub each : (ReadyValue → ReadyValue) → Columns → Columns
 each f columns = map (λ e. (e.0, f e.1)) columns
 
-abbrev looks : (ReadyValue → List ℕ) → Columns → List (Place × List ℕ)
+abbrev pub looks : (ReadyValue → List ℕ) → Columns → List (Place × List ℕ)
 looks look columns = map (λ e. (e.0, look e.1)) columns
 
-abbrev places : Columns → List Place
+abbrev pub places : Columns → List Place
 places columns = map (λ e. e.0) columns
 
 -- what is looked at stays, where it does in each column
@@ -136,12 +136,12 @@ looked_same : (look : ReadyValue → List ℕ) (f : ReadyValue → ReadyValue) (
 looked_same look f [] same = refl
 looked_same look f (e ∷ es) same = rw (same e.1, looked_same look f es same) refl
 
-places_same : (f : ReadyValue → ReadyValue) (columns : Columns) → places (each f columns) ≡ places columns
+pub places_same : (f : ReadyValue → ReadyValue) (columns : Columns) → places (each f columns) ≡ places columns
 places_same f [] = refl
 places_same f (e ∷ es) = ap (λ (t : List Place). e.0 ∷ t) (places_same f es)
 
 -- the columns with a cell set
-abbrev all_set : Place → ℕ → ℕ → Columns → Columns
+abbrev pub all_set : Place → ℕ → ℕ → Columns → Columns
 all_set place i state columns = map (λ e. (e.0, set_at place i state e.1)) columns
 
 -- its states are those of the column with the cell set; the others stay
@@ -154,26 +154,27 @@ puts_set columns place i state ready found q =
   where
     some_is : (a b : ReadyValue) → Some a ≡ Some b → a ≡ b
     some_is a b e = cc
+
     by : (o : Option ReadyValue) → find place_cmp q (placed columns) ≡ o → option_map present (option_map (set_at place i state) o) ≡ cond (eq_by_cmp place_cmp q place) (Some (set ready.present.states i state)) (option_map present o)
     by None e = elim (eq_by_cmp place_cmp q place) as (λ b. eq_by_cmp place_cmp q place ≡ b → None ≡ cond b (Some (set ready.present.states i state)) None) [
-        | true ↦ λ t. let clash : None ≡ Some ready = sym e ∙ ap (λ (p : Place). find place_cmp p (placed columns)) (exact_places q place (is_equal (place_cmp q place) t)) ∙ found in absurd cc
-        | false ↦ λ t. refl
-      ] refl
+      | true ↦ λ t. let clash : None ≡ Some ready = sym e ∙ ap (λ (p : Place). find place_cmp p (placed columns)) (exact_places q place (is_equal (place_cmp q place) t)) ∙ found in absurd cc
+      | false ↦ λ t. refl
+    ] refl
     by (Some r) e = elim (eq_by_cmp place_cmp q place) as (λ b. eq_by_cmp place_cmp q place ≡ b → Some (set_at place i state r).present.states ≡ cond b (Some (set ready.present.states i state)) (Some r.present.states)) [
-        | true ↦ λ t.
-            let here : q ≡ place = exact_places q place (is_equal (place_cmp q place) t) in
-            let same : r ≡ ready = some_is r ready (sym e ∙ ap (λ (p : Place). find place_cmp p (placed columns)) here ∙ found) in
-            rw (same, at_place place i state ready (found_place place columns ready found)) refl
-        | false ↦ λ t. rw (elsewhere place i state r (λ h. absurd (true≢false (sym (rw (sym h ∙ found_place q columns r e) (ap is_eq (tied_itself places_total q))) ∙ t)))) refl
-      ] refl
+      | true ↦ λ t.
+          let here : q ≡ place = exact_places q place (is_equal (place_cmp q place) t) in
+          let same : r ≡ ready = some_is r ready (sym e ∙ ap (λ (p : Place). find place_cmp p (placed columns)) here ∙ found) in
+          rw (same, at_place place i state ready (found_place place columns ready found)) refl
+      | false ↦ λ t. rw (elsewhere place i state r (λ h. absurd (true≢false (sym (rw (sym h ∙ found_place q columns r e) (ap is_eq (tied_itself places_total q))) ∙ t)))) refl
+    ] refl
 
 -- the edits of a land with a cell of a ready column set
-edits_set : (terrain : Terrain) (columns : List ReadyValue) (place : Place) (i state : ℕ) (ready : ReadyValue) → IsApart (placed columns) → find place_cmp place (placed columns) ≡ Some ready → HasSizes ready.present → i < cells → kept_edits terrain (present_states (all_set place i state (placed columns))) ≡ edited terrain (kept_edits terrain (present_states (placed columns))) (place, i) state
+pub edits_set : (terrain : Terrain) (columns : List ReadyValue) (place : Place) (i state : ℕ) (ready : ReadyValue) → IsApart (placed columns) → find place_cmp place (placed columns) ≡ Some ready → HasSizes ready.present → i < cells → kept_edits terrain (present_states (all_set place i state (placed columns))) ≡ edited terrain (kept_edits terrain (present_states (placed columns))) (place, i) state
 edits_set terrain columns place i state ready is found sizes lt =
     set_edits terrain (present_states (placed columns)) (present_states (all_set place i state (placed columns))) place i state ready.present.states (apart present (placed columns) is) (apart present (all_set place i state (placed columns)) (apart (set_at place i state) (placed columns) is)) (find_map present place (placed columns) ∙ ap (option_map present) found) (puts_set columns place i state ready found) lt (omega (arith, sizes.states_are))
 
 -- and what was settled stays
-settled_set : (terrain : Terrain) (columns : Columns) (place : Place) (i state : ℕ) → settled_states (all_set place i state columns) ≡ settled_states columns
+pub settled_set : (terrain : Terrain) (columns : Columns) (place : Place) (i state : ℕ) → settled_states (all_set place i state columns) ≡ settled_states columns
 settled_set terrain columns place i state = looked_same settled (set_at place i state) columns (λ r. ap (λ (c : ColumnValue). c.states) (set_settled place i state r))
 
 -- ---- the chests
@@ -182,7 +183,7 @@ abbrev chest_edits : LandValue → Key → ℕ → ℕ → FinMap key_cmp (List 
 chest_edits land key old new = chests_after land.chests key old new
 
 -- what a cell of a land is after another or the same was set
-state_edited : (terrain : Terrain) (edits : FinMap key_cmp ℕ) (key q : Key) (state : ℕ) → state_at terrain (edited terrain edits key state) q ≡ cond (eq_by_cmp key_cmp q key) state (state_at terrain edits q)
+pub state_edited : (terrain : Terrain) (edits : FinMap key_cmp ℕ) (key q : Key) (state : ℕ) → state_at terrain (edited terrain edits key state) q ≡ cond (eq_by_cmp key_cmp q key) state (state_at terrain edits q)
 state_edited terrain edits key q state =
     elim (eqb state (terrain_at terrain key)) as (λ b. eqb state (terrain_at terrain key) ≡ b → unwrap_or (get (cond b (remove edits key) (insert edits key state)) q) (terrain_at terrain q) ≡ cond (eq_by_cmp key_cmp q key) state (state_at terrain edits q)) [
       | true ↦ λ same. rw (get-remove keys_total edits key q) (elim (key_cmp q key) as (λ o. key_cmp q key ≡ o → unwrap_or (cond (is_eq o) None (get edits q)) (terrain_at terrain q) ≡ cond (is_eq o) state (state_at terrain edits q)) [
@@ -192,3 +193,20 @@ state_edited terrain edits key q state =
       ] refl)
       | false ↦ λ other. rw (get-insert keys_total edits key state q) (elim (eq_by_cmp key_cmp q key) as (λ b. unwrap_or (cond b (Some state) (get edits q)) (terrain_at terrain q) ≡ cond b state (state_at terrain edits q)) [ true ↦ refl | false ↦ refl ])
     ] refl
+
+-- each column stays of its place
+pub own_set : (terrain : Terrain) (columns : List ReadyValue) (place : Place) (i state : ℕ) (q : Place) (r : ReadyValue) → ((s : ReadyValue) → find place_cmp q (placed columns) ≡ Some s → IsOwn terrain q s) → find place_cmp q (all_set place i state (placed columns)) ≡ Some r → IsOwn terrain q r
+own_set terrain columns place i state q r own e = by (find place_cmp q (placed columns)) refl (sym (find_map (set_at place i state) q (placed columns)) ∙ e)
+  where
+    some_is : (a b : ReadyValue) → Some a ≡ Some b → a ≡ b
+    some_is a b e = cc
+
+    kept : (s : ReadyValue) → IsOwn terrain q s → IsOwn terrain q (set_at place i state s)
+    kept s o = elim (eq_by_cmp place_cmp s.place place) as (λ b. IsOwn terrain q (cond b (set_cell s i state) s)) [
+      | true ↦ record { present_sizes = record { states_are = length-set s.present.states i state ∙ o.present_sizes.states_are; biomes_are = o.present_sizes.biomes_are }; settled_sizes = o.settled_sizes; biomes = o.biomes }
+      | false ↦ o
+    ]
+
+    by : (o : Option ReadyValue) → find place_cmp q (placed columns) ≡ o → option_map (set_at place i state) o ≡ Some r → IsOwn terrain q r
+    by None f h = absurd cc
+    by (Some s) f h = subst (λ x. IsOwn terrain q x) (some_is (set_at place i state s) r h) (kept s (own s f))

@@ -50,6 +50,7 @@ around test was i lt =
   where
     zero_left : (i : ℕ) → 0 + i ≡ i
     zero_left i = omega arith
+
     rest : (b : Bool) → map (touched_cell was) (cond b (i ∷ filter test (range_with_len (i + 1) (cells - i - 1))) (filter test (range_with_len (i + 1) (cells - i - 1)))) ≡ cond b (touched_cell was i ∷ []) [] ++ above test was i
     rest true = refl
     rest false = refl

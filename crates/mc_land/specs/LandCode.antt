@@ -60,5 +60,5 @@ coded_stored = coded× coded_terrain (coded× (map.code coded_key coded_ℕ) (co
 abbrev pub coded_land : Coded LandValue
 coded_land =
     code_by Stored coded_stored (λ land. (land.terrain, (land.edits, (land.settled, (land.chests, land.ready)))))
-      (λ parts. record { terrain = parts.0; edits = parts.1.0; settled = parts.1.1.0; chests = parts.1.1.1.0; ready = parts.1.1.1.1 })
-      (λ land. refl)
+    (λ parts. record { terrain = parts.0; edits = parts.1.0; settled = parts.1.1.0; chests = parts.1.1.1.0; ready = parts.1.1.1.1 })
+    (λ land. refl)

@@ -168,7 +168,11 @@ impl Land {
 }
 
 /// Adds a ready column of a place that has none. Without memory both are as before.
-pub(crate) fn push_ready(columns: &mut Vec<Ready>, index: &mut BTreeMap<Place, usize>, ready: Ready) -> Result<(), NoMemory>
+pub(crate) fn push_ready(
+    columns: &mut Vec<Ready>,
+    index: &mut BTreeMap<Place, usize>,
+    ready: Ready,
+) -> Result<(), NoMemory>
     requires indexed { IsIndexed columns.old.items index.old.entries }
     requires new { find place_cmp ready.place index.old.entries ≡ None }
     ensures ok { OnOk result (columns.new.items ≡ columns.old.items ++ ready ∷ []) }
@@ -192,7 +196,11 @@ fn settle_all(columns: &mut Vec<Ready>)
 }
 
 /// The ready column of a place.
-fn ready_at<'a>(columns: &'a Vec<Ready>, index: &BTreeMap<Place, usize>, place: &Place) -> Option<&'a Ready>
+fn ready_at<'a>(
+    columns: &'a Vec<Ready>,
+    index: &BTreeMap<Place, usize>,
+    place: &Place,
+) -> Option<&'a Ready>
     requires { IsIndexed columns.now.items index.now.entries }
     ensures { option_copied result ≡ find place_cmp place.now (placed columns.now.items) }
 {
