@@ -1,5 +1,5 @@
-ghost use Rattle.std.specs.Prelude.{◌≡◌, ◌+◌, ◌*◌, ◌/◌, ◌%◌, ◌<◌, ◌↔◌, ◌++◌, IsNone, IfOk, IfSome, OnOk, OnErr, slice_index, replicate};
-ghost use Rattle.mc_column.specs.Sizes.{section_cells};
+ghost use Rattle.std.specs.Prelude.{◌≡◌, ◌+◌, ◌*◌, ◌/◌, ◌%◌, ◌<◌, ◌↔◌, ◌++◌, IsNone, IfOk, IfSome, OnOk, OnErr, slice_index, replicate, length};
+ghost use Rattle.mc_column.specs.Sizes.{cells, section_cells, squares};
 ghost use Rattle.mc_column.specs.Body.{put_body};
 ghost use Rattle.mc_column.specs.Sent.{IsColumnMask, SpellsColumn, column_bytes, column_mask};
 ghost use Rattle.mc_column.specs.Cells.{HasSizes, IsAir, cell_index, square_index, empty_column, with_state, section_of};
@@ -9,6 +9,7 @@ use crate::mask::sent_mask;
 use crate::put::lay_all;
 use crate::section::Section;
 use crate::sizes::{biomes_of_column, sections_of_column};
+use crate::states::{assign_all, copy_all};
 use crate::write::append_body;
 use mc_nbt::NoMemory;
 use std::alloc::Global;
@@ -44,6 +45,20 @@ impl Column {
         Ok(Column {
             sections: sections_of_air(alloc, sections_of_column())?,
             biomes: copies(alloc, biomes_of_column(), biome)?,
+        })
+    }
+
+    /// The column with these 65,536 states and 256 biomes.
+    pub fn from_states(alloc: Global, states: &[u16], biomes: &[u8]) -> Result<Column, NoMemory>
+        requires states_are { length states.now ≡ cells }
+        requires biomes_are { length biomes.now ≡ squares }
+        ensures { IfOk result (λ column. column ≡ record { states = states.now; biomes = biomes.now }) }
+    {
+        let mut sections = sections_of_air(alloc, sections_of_column())?;
+        assign_all(&mut sections, states);
+        Ok(Column {
+            sections,
+            biomes: Vec::from_slice(alloc, biomes)?,
         })
     }
 
@@ -129,6 +144,14 @@ impl Column {
         out.reserve(body_size(mask, true, true))?;
         append_body(&self.sections, &self.biomes, mask, out);
         Ok(mask)
+    }
+
+    /// Makes it equal to another. It takes no memory.
+    pub fn copy_from(&mut self, other: &Column)
+        ensures { self.new ≡ other.now }
+    {
+        copy_all(&mut self.sections, &other.sections);
+        self.biomes.copy_from_slice(other.biomes.as_slice());
     }
 
     /// An equal column.

@@ -14,6 +14,7 @@ mod mask;
 mod put;
 mod section;
 mod sizes;
+mod states;
 #[cfg(test)]
 mod tests;
 mod write;

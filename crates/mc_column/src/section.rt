@@ -122,6 +122,25 @@ impl Section {
         self.filled = blocks(bytes);
     }
 
+    /// Takes its states from a list of them.
+    pub(crate) fn assign(&mut self, states: &[u16])
+        requires { length states.now ≡ section_cells }
+        ensures { self.new ≡ states.now }
+    {
+        let _bytes = self.bytes();
+        for i in 0..states.len() {
+            let _old = self.set(i as u16, states[i]);
+        }
+    }
+
+    /// Makes it equal to another. It takes no memory.
+    pub(crate) fn copy_from(&mut self, other: &Section)
+        ensures { self.new ≡ other.now }
+    {
+        self.bytes.copy_from_slice(other.bytes.as_slice());
+        self.filled = other.filled;
+    }
+
     /// Makes all its cells air.
     pub(crate) fn clear(&mut self)
         ensures { self.new ≡ replicate section_cells 0 }

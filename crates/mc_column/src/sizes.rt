@@ -1,6 +1,14 @@
 ghost use Rattle.std.specs.Prelude.{◌≡◌, ◌*◌};
 ghost use Rattle.mc_column.specs.Sizes as sizes;
 
+/// How many cells a section has.
+#[inline(always)]
+pub(crate) fn cells_of_section() -> usize
+    ensures { result ≡ sizes.section_cells }
+{
+    4096
+}
+
 /// How many bytes a section's states are.
 #[inline(always)]
 pub(crate) fn bytes_of_section() -> usize

@@ -1,0 +1,12 @@
+mod Orders
+mod EditsFacts
+mod LandFacts
+mod GrownFacts
+mod TouchedFacts
+mod TouchFacts
+mod KeptLandFacts
+mod PlaceFacts
+mod LookFacts
+mod ChangeFacts
+mod SetFacts
+mod PutFacts

@@ -1,0 +1,121 @@
+-- Where a cell stands among the touched ones.
+use Rattle.std.proofs.Common.{◌≡◌, ℕ, zero, suc, ◌+◌, ◌-◌, ◌<◌, ◌≤◌, nat_lt, Bool, true, false, cond, not, eqb, List, [], ◌∷◌, ◌++◌, length, get_or, refl, sym, ap, ◌∙◌, arith, inl, inr, ◌&&◌}
+use Rattle.std.proofs.lemmas.Bool.{cases_eq, cases_lt, lt-ltb, le-ltb, ltb-true, ltb-false, eq-eqb, ne_eqb, true≢false}
+use Rattle.std.proofs.lemmas.List.{length-append, get_or_append_left, get_or-append_right}
+use Rattle.std.specs.List.Sorted.{IsPartitionPoint, IsPartitionedBy}
+use Rattle.mc_land.specs.declared.ready.Touched.{Touched}
+use Rattle.mc_land.specs.Ready.{one_if, IsAround, is_at}
+use Rattle.std.specs.List.{insert, remove}
+
+-- which of them have a lower index
+abbrev pub is_low : Touched → Touched → Bool
+is_low cell other = nat_lt other.index cell.index
+
+-- those from the cell on have no lower index
+upper : (high : List Touched) (known : Bool) (cell : Touched) (i : ℕ) (d : Touched) → ((k : ℕ) (e : Touched) → k < length high → cell.index < (get_or high k e).index) → i < length (one_if known cell ++ high) → is_low cell (get_or (one_if known cell ++ high) i d) ≡ false
+upper high true cell zero d above lt = le-ltb cell.index cell.index (omega arith)
+upper high true cell (suc i) d above lt = let h = above i d (omega arith) in le-ltb (get_or high i d).index cell.index (omega arith)
+upper high false cell i d above lt = let h = above i d lt in le-ltb (get_or high i d).index cell.index (omega arith)
+
+-- a touched cell has a lower index exactly where it stands before that place
+pub low_at : (touched low high : List Touched) (known : Bool) (cell : Touched) (i : ℕ) (d : Touched) → IsAround touched low high known cell → i < length touched → is_low cell (get_or touched i d) ≡ nat_lt i (length low)
+low_at touched low high known cell i d around lt =
+    elim (cases_lt i (length low)) [
+      | inl inside ↦ rw (around.parts, get_or_append_left low (one_if known cell ++ high) d i inside) (lt-ltb (get_or low i d).index cell.index (around.low_below i d inside) ∙ sym (lt-ltb i (length low) inside))
+      | inr past ↦
+          let len : length touched ≡ length low + length (one_if known cell ++ high) = ap length around.parts ∙ length-append low (one_if known cell ++ high) in
+          rw (around.parts, get_or-append_right low (one_if known cell ++ high) (length low) i d refl past) (upper high known cell (i - length low) d around.high_above (omega (arith, len)) ∙ sym (le-ltb i (length low) past))
+    ]
+
+-- so those with a lower index stand first
+pub around_sorted : (touched low high : List Touched) (known : Bool) (cell : Touched) → IsAround touched low high known cell → IsPartitionedBy (λ other. is_low cell other) touched
+around_sorted touched low high known cell around i j d le lt e =
+    let below : j < length low = ltb-true j (length low) (sym (low_at touched low high known cell j d around lt) ∙ e) in
+    low_at touched low high known cell i d around (omega arith) ∙ lt-ltb i (length low) (omega arith)
+
+-- and the place where they end is that of the cell
+pub rank_low : (touched low high : List Touched) (known : Bool) (cell : Touched) (r : ℕ) → IsAround touched low high known cell → r ≤ length touched → IsPartitionPoint (λ other. is_low cell other ≡ true) (λ other. is_low cell other ≡ false) touched r → r ≡ length low
+rank_low touched low high known cell r around le point =
+    let len : length touched ≡ length low + length (one_if known cell ++ high) = ap length around.parts ∙ length-append low (one_if known cell ++ high) in
+    elim (cases_lt r (length low)) [
+      | inl short ↦
+          let fails = point.1 r cell (omega arith) (omega (arith, len)) in
+          let passes = low_at touched low high known cell r cell around (omega (arith, len)) ∙ lt-ltb r (length low) short in
+          absurd (true≢false (sym passes ∙ fails))
+      | inr long ↦
+          elim (cases_eq r (length low)) [
+            | inl e ↦ e
+            | inr ne ↦
+                let passes = point.0 (length low) cell (omega arith) (omega arith) in
+                let fails = low_at touched low high known cell (length low) cell around (omega arith) ∙ le-ltb (length low) (length low) (omega arith) in
+                absurd (true≢false (sym passes ∙ fails))
+          ]
+    ]
+
+is_at_append : (low rest : List Touched) (index : ℕ) → is_at (low ++ rest) (length low) index ≡ is_at rest 0 index
+is_at_append [] rest index = refl
+is_at_append (x ∷ low) rest index = is_at_append low rest index
+
+-- the cell is touched exactly where it stands there
+pub known_at : (touched low high : List Touched) (known : Bool) (cell : Touched) → IsAround touched low high known cell → is_at touched (length low) cell.index ≡ known
+known_at touched low high known cell around = rw around.parts (is_at_append low (one_if known cell ++ high) cell.index ∙ first known high around.high_above)
+  where
+    first : (b : Bool) (high : List Touched) → ((i : ℕ) (d : Touched) → i < length high → cell.index < (get_or high i d).index) → is_at (one_if b cell ++ high) 0 cell.index ≡ b
+    first true high above = eq-eqb cell.index cell.index refl
+    first false [] above = refl
+    first false (x ∷ high) above = let h = above 0 x (omega arith) in ne_eqb x.index cell.index (λ e. absurd (omega arith))
+
+-- the cell is taken away from there, or put there
+pub taken_away : (low high : List Touched) (cell : Touched) → remove (low ++ (cell ∷ high)) (length low) ≡ low ++ high
+taken_away [] high cell = refl
+taken_away (x ∷ low) high cell = ap (λ (t : List Touched). x ∷ t) (taken_away low high cell)
+
+pub put_there : (low high : List Touched) (cell : Touched) → insert (low ++ high) (length low) cell ≡ low ++ (cell ∷ high)
+put_there [] high cell = refl
+put_there (x ∷ low) high cell = ap (λ (t : List Touched). x ∷ t) (put_there low high cell)
+
+pub is_at_there : (touched : List Touched) (at index : ℕ) (cell : Touched) → at < length touched → cell ≡ get_or touched at cell → eqb cell.index index ≡ is_at touched at index
+is_at_there [] at index cell lt e = absurd (omega arith)
+is_at_there (x ∷ xs) zero index cell lt e = ap (λ (c : Touched). eqb c.index index) e
+is_at_there (x ∷ xs) (suc at) index cell lt e = is_at_there xs at index cell (omega arith) e
+
+pub is_at_past : (touched : List Touched) (at index : ℕ) → length touched ≤ at → false ≡ is_at touched at index
+is_at_past [] at index le = refl
+is_at_past (x ∷ xs) zero index le = absurd (omega arith)
+is_at_past (x ∷ xs) (suc at) index le = is_at_past xs at index (omega arith)
+
+-- ---- what touching does
+
+-- a cell that was not touched is put among them
+pub touch_add : (touched low high new : List Touched) (known : Bool) (cell : Touched) (r : ℕ) → r ≤ length touched → IsPartitionPoint (λ other. is_low cell other ≡ true) (λ other. is_low cell other ≡ false) touched r → is_at touched r cell.index ≡ false → new ≡ insert touched r cell → IsAround touched low high known cell → new ≡ low ++ (cell ∷ high)
+touch_add touched low high new known cell r le point fails is around =
+    let place = rank_low touched low high known cell r around le point in
+    let unknown : known ≡ false = sym (known_at touched low high known cell around) ∙ ap (λ (k : ℕ). is_at touched k cell.index) (sym place) ∙ fails in
+    let parts : touched ≡ low ++ high = around.parts ∙ rw unknown refl in
+    is ∙ rw (parts, place) (put_there low high cell)
+
+-- one that was stays
+pub touch_keep : (touched low high : List Touched) (known : Bool) (cell : Touched) (r : ℕ) → r ≤ length touched → IsPartitionPoint (λ other. is_low cell other ≡ true) (λ other. is_low cell other ≡ false) touched r → is_at touched r cell.index ≡ true → IsAround touched low high known cell → touched ≡ low ++ (cell ∷ high)
+touch_keep touched low high known cell r le point passes around =
+    let place = rank_low touched low high known cell r around le point in
+    let here : known ≡ true = sym (known_at touched low high known cell around) ∙ ap (λ (k : ℕ). is_at touched k cell.index) (sym place) ∙ passes in
+    around.parts ∙ rw here refl
+
+-- or is taken away
+pub touch_gone : (touched low high new : List Touched) (known : Bool) (cell : Touched) (r : ℕ) → r ≤ length touched → IsPartitionPoint (λ other. is_low cell other ≡ true) (λ other. is_low cell other ≡ false) touched r → is_at touched r cell.index ≡ true → new ≡ remove touched r → IsAround touched low high known cell → new ≡ low ++ high
+touch_gone touched low high new known cell r le point passes is around =
+    let place = rank_low touched low high known cell r around le point in
+    is ∙ rw (touch_keep touched low high known cell r le point passes around, place) (taken_away low high cell)
+
+-- and one that was not is not
+pub touch_none : (touched low high : List Touched) (known : Bool) (cell : Touched) (r : ℕ) → r ≤ length touched → IsPartitionPoint (λ other. is_low cell other ≡ true) (λ other. is_low cell other ≡ false) touched r → is_at touched r cell.index ≡ false → IsAround touched low high known cell → touched ≡ low ++ high
+touch_none touched low high known cell r le point fails around =
+    let place = rank_low touched low high known cell r around le point in
+    let unknown : known ≡ false = sym (known_at touched low high known cell around) ∙ ap (λ (k : ℕ). is_at touched k cell.index) (sym place) ∙ fails in
+    around.parts ∙ rw unknown refl
+
+-- a place where a touched cell stands is one of theirs
+pub is_at_within : (touched : List Touched) (at index : ℕ) → is_at touched at index ≡ true → at < length touched
+is_at_within [] at index e = absurd cc
+is_at_within (x ∷ xs) zero index e = omega arith
+is_at_within (x ∷ xs) (suc at) index e = let h = is_at_within xs at index e in omega arith

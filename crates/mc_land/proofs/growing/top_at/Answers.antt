@@ -1,0 +1,6 @@
+use Rattle.std.proofs.Common.{arith}
+use Rattle.mc_column.specs.Sizes.{squares-is}
+use Rattle.mc_land.proofs.growing.top_at.Goals as goal
+
+pub block_at-requires-in-Hills-clause-inside : goal.block_at-requires-in-Hills-clause-inside
+block_at-requires-in-Hills-clause-inside c = omega (arith, c.requires.inside, squares-is)

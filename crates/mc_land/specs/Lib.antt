@@ -1,0 +1,9 @@
+pub mod Grown
+pub mod Kept
+pub mod KeptLand
+pub mod KeptReady
+pub mod Land
+pub mod LandCode
+pub mod Places
+pub mod Ready
+pub mod Terrain

@@ -1,0 +1,78 @@
+ghost use Rattle.std.specs.Prelude.{◌≡◌, ◌<◌};
+ghost use lib.Signed.{◌≤ℤ◌, ◌<ℤ◌};
+ghost use lib.IntN.{pos};
+ghost use Rattle.mc_land.specs.Places.{column_number, inside, is_height, is_inside, is_near, place_of};
+
+use mc_fields::Cell;
+
+/// A column of cells by its numbers: 16 times the first is its lowest x, and 16 times the second
+/// its lowest z.
+pub(crate) type Place = (i32, i32);
+
+/// The number of the sixteen cells along an axis in which one is.
+fn column_number(v: i32) -> i32
+    ensures { result ≡ column_number v }
+{
+    v.div_euclid(16)
+}
+
+/// Which of the sixteen it is.
+fn inside(v: i32) -> u8
+    ensures is { result ≡ inside v }
+    ensures few { result < 16 }
+{
+    v.rem_euclid(16) as u8
+}
+
+/// The column that a cell is in.
+pub(crate) fn place_of(cell: &Cell) -> Place
+    ensures { result ≡ place_of cell.now.x cell.now.z }
+{
+    (column_number(cell.x), column_number(cell.z))
+}
+
+/// Where in its column a cell is, along x.
+pub(crate) fn x_inside(cell: &Cell) -> u8
+    ensures is { result ≡ inside cell.now.x }
+    ensures few { result < 16 }
+{
+    inside(cell.x)
+}
+
+/// Where in its column a cell is, along z.
+pub(crate) fn z_inside(cell: &Cell) -> u8
+    ensures is { result ≡ inside cell.now.z }
+    ensures few { result < 16 }
+{
+    inside(cell.z)
+}
+
+/// How high a cell of the world is.
+pub(crate) fn height_of(cell: &Cell) -> u8
+    requires above { pos 0 ≤ℤ cell.now.y }
+    requires below { cell.now.y <ℤ pos 256 }
+    ensures { pos result ≡ cell.now.y }
+{
+    cell.y as u8
+}
+
+/// Whether a cell can be set: it is at a height of the world and not too far out.
+pub(crate) fn is_inside(cell: &Cell) -> bool
+    ensures { result ≡ is_inside cell.now.x cell.now.y cell.now.z }
+{
+    is_height(cell.y) && is_near(cell.x) && is_near(cell.z)
+}
+
+/// Whether a number is a height of the world.
+fn is_height(y: i32) -> bool
+    ensures { result ≡ is_height y }
+{
+    0 <= y && y < 256
+}
+
+/// Whether a number is not past the border of the world.
+fn is_near(v: i32) -> bool
+    ensures { result ≡ is_near v }
+{
+    v.unsigned_abs() <= 30_000_000
+}
