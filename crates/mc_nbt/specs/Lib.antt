@@ -6,6 +6,8 @@ pub mod Sixteen
 pub mod Placed
 pub mod Signed
 pub mod Times
+pub mod Many
+pub mod Until
 pub mod Tree
 pub mod TreeCode
 pub mod TagView
