@@ -1,6 +1,8 @@
 pub mod Reading
 pub mod Format
 pub mod Combine
+pub mod Optional
+pub mod Making
 pub mod Numbers
 pub mod Sixteen
 pub mod Placed
