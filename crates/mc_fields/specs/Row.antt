@@ -56,6 +56,10 @@ Fits entry = (entry.row.id < 2 ^ 31) × entry.row.format.fits entry.fields
 abbrev pub spelling : {P : Type 0} → Entry P → List ℕ
 spelling entry = varint_spelling (pos entry.row.id) ++ entry.row.format.spelling entry.fields
 
+-- a row's fields have a spelling
+abbrev pub row_fits : {P : Type 0} (row : Row P) → row.Fields → Type 0
+row_fits row fields = row.format.fits fields
+
 -- the bytes with it at their end
 abbrev pub row_append : {P : Type 0} (row : Row P) → row.Fields → List ℕ → List ℕ
 row_append row fields out = row.format.append fields (out ++ varint_spelling (pos row.id))

@@ -1,6 +1,6 @@
 -- What stood in a list before a failed write stands there after it.
-use Rattle.std.proofs.Common.{◌≡◌, List, ℕ, ◌++◌, length, take, drop, sym, ap, ◌∙◌, append_assoc, subst}
-use Rattle.std.proofs.lemmas.List.{take-append-drop}
+use Rattle.std.proofs.Common.{◌≡◌, List, ℕ, ◌++◌, length, take, drop, sym, ap, ◌∙◌, append_assoc, subst, arith}
+use Rattle.std.proofs.lemmas.List.{take-append-drop, take_all}
 use Rattle.std.proofs.Math.Seq.{take-append_seam}
 
 -- the bytes before the last part that was written are kept if all before the fault are
@@ -21,3 +21,13 @@ kept_more old now more h =
     let parts : now ≡ old ++ drop (length old) now = sym (take-append-drop (length old) now) ∙ ap (λ (t : List ℕ). t ++ drop (length old) now) h in
     let whole : now ++ more ≡ old ++ (drop (length old) now ++ more) = ap (λ (t : List ℕ). t ++ more) parts ∙ append_assoc old (drop (length old) now) more in
     ap (take (length old)) whole ∙ take-append_seam old (drop (length old) now ++ more)
+
+-- the same for a writer of several parts: nothing was appended, or the last part was not, or one more was
+pub kept_self : (start : List ℕ) → take (length start) start ≡ start
+kept_self start = take_all (length start) start (omega arith)
+
+pub kept_same : (start now new : List ℕ) → new ≡ now → take (length start) now ≡ start → take (length start) new ≡ start
+kept_same start now new e h = ap (take (length start)) e ∙ h
+
+pub kept_by : (start now new more : List ℕ) → new ≡ now ++ more → take (length start) now ≡ start → take (length start) new ≡ start
+kept_by start now new more e h = ap (take (length start)) e ∙ kept_more start now more h

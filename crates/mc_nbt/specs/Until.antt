@@ -8,16 +8,12 @@ use Rattle.mc_nbt.specs.declared.fault.Stop.{Stop}
 use Rattle.mc_nbt.specs.Reading.{Field, IsBytes, ◌>>=◌}
 use Rattle.mc_nbt.specs.Format.{Format, Found, IsFound, IsOnly, IsAppended, Anything}
 use Rattle.mc_nbt.specs.Combine.{bind_ok, ok_is, Found-is, joined}
+use Rattle.mc_nbt.specs.Optional.{some_read}
 use Rattle.mc_nbt.specs.Numbers.{number_read, number_spells, number_spelling, number_found, number_only, wide_8}
 use Rattle.mc_nbt.specs.Times.{SpelledUntil, until_at, until_found}
 use Rattle.mc_nbt.specs.Many.{AllFit}
 
--- a value behind its byte, or the end
-abbrev pub some_read : {A : Type 0} → (List ℕ → Field A) → List ℕ → Field (Option A)
-some_read read bytes = do
-  x ← read bytes
-  Ok (Some x.0, x.1)
-
+-- the value that a byte announces, or the end
 unfoldable pub headed_read : {A : Type 0} → ℕ → (ℕ → List ℕ → Field A) → List ℕ → Field (Option A)
 headed_read end read bytes = do
   head ← number_read w8 bytes
