@@ -1,0 +1,5 @@
+pub mod Slot
+pub mod SlotFormat
+pub mod Pile
+pub mod PileLaws
+pub mod Chest
