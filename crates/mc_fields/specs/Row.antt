@@ -236,6 +236,10 @@ frame_only {P} {entry_of} rows p frame tied s =
     let fields' = rw append-nil at fields in
     rw (s.parts, id, tied s.field_bytes fields') refl
 
+-- what is written of a packet is read as that packet
+pub spelled_again : {P : Type 0} {entry_of : P → Entry P} (rows : Rows P entry_of) (p : P) → IsTied rows p → Fits (entry_of p) → frame_read rows (spelling (entry_of p)) ≡ Ok p
+spelled_again {P} {entry_of} rows p tied fits = frame_only rows p (spelling (entry_of p)) tied (fits_spelled (entry_of p) fits)
+
 -- ---- what functions answer
 
 -- the error of a function is the fault that reading gives, unless memory ran out

@@ -1,7 +1,7 @@
 -- What stood in a list before a failed write stands there after it.
-use Rattle.std.proofs.Common.{◌≡◌, List, ℕ, ◌++◌, length, take, drop, sym, ap, ◌∙◌, append_assoc, subst, arith}
-use Rattle.std.proofs.lemmas.List.{take-append-drop, take_all}
-use Rattle.std.proofs.Math.Seq.{take-append_seam}
+use Rattle.std.proofs.Common.{◌≡◌, List, ℕ, ◌++◌, length, take, drop, sym, ap, ◌∙◌, append_assoc, subst}
+use Rattle.std.proofs.lemmas.List.{take-append-drop}
+use Rattle.std.proofs.Math.Seq.{take-append_seam, take-length}
 
 -- the bytes before the last part that was written are kept if all before the fault are
 pub kept_before : (old more new : List ℕ) → take (length (old ++ more)) new ≡ old ++ more → take (length old) new ≡ old
@@ -22,10 +22,11 @@ kept_more old now more h =
     let whole : now ++ more ≡ old ++ (drop (length old) now ++ more) = ap (λ (t : List ℕ). t ++ more) parts ∙ append_assoc old (drop (length old) now) more in
     ap (take (length old)) whole ∙ take-append_seam old (drop (length old) now ++ more)
 
--- the same for a writer of several parts: nothing was appended, or the last part was not, or one more was
-pub kept_self : (start : List ℕ) → take (length start) start ≡ start
-kept_self start = take_all (length start) start (omega arith)
+-- where nothing was written yet
+pub kept_whole : (old : List ℕ) → take (length old) old ≡ old
+kept_whole old = take-length old
 
+-- where the last part was not written, and where one more was
 pub kept_same : (start now new : List ℕ) → new ≡ now → take (length start) now ≡ start → take (length start) new ≡ start
 kept_same start now new e h = ap (take (length start)) e ∙ h
 

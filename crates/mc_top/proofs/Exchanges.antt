@@ -11,12 +11,12 @@ use Rattle.mc_fields.specs.declared.packet.PacketFault.{PacketFault}
 use Rattle.mc_fields.specs.declared.packet.PacketRead.{PacketRead}
 use Rattle.mc_fields.specs.declared.packet.PacketRead.TheVariants.{Fault}
 use Rattle.mc_fields.specs.Row.{GivesPacket}
-use Rattle.mc_top.specs.declared.hand.Hand.{Hand}
-use Rattle.mc_top.specs.declared.hand.Hand.TheVariants.{Handshake}
-use Rattle.mc_top.specs.declared.status.StatusUp.{StatusUp}
-use Rattle.mc_top.specs.declared.status.StatusUp.TheVariants.{Request, Ping}
-use Rattle.mc_top.specs.Hand.{SpellsHand, next_of}
-use Rattle.mc_top.specs.Status.{SpellsStatusUp}
+use Rattle.mc_up.specs.declared.handshake.Hand.{Hand}
+use Rattle.mc_up.specs.declared.handshake.Hand.TheVariants.{Handshake}
+use Rattle.mc_up.specs.declared.status_up.StatusUp.{StatusUp}
+use Rattle.mc_up.specs.declared.status_up.StatusUp.TheVariants.{Request, Ping}
+use Rattle.mc_up.specs.Hand.{SpellsHand, next_of}
+use Rattle.mc_up.specs.StatusUp.{SpellsStatusUp}
 use Rattle.mc_top.specs.Exchange.{three_frames, WantsStatus, IsExchange}
 
 -- a packet that was read is spelled

@@ -1,4 +1,3 @@
-pub mod Packets
 pub mod Cuts
 pub mod Exchanges
 pub mod Replies

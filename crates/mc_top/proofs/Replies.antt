@@ -7,8 +7,8 @@ use lib.Utf8.{encode}
 use Rattle.mc_nbt.specs.Numbers.{number_spelling}
 use Rattle.mc_fields.specs.Varint.{varint_spelling, groups_spelling}
 use Rattle.mc_fields.specs.Text.{text_spelling}
-use Rattle.mc_top.specs.declared.status.StatusDown.TheVariants.{Response, Pong}
-use Rattle.mc_top.specs.Status.{FitsStatusDown, spelling_of}
+use Rattle.mc_up.specs.declared.status_down.StatusDown.TheVariants.{Response, Pong}
+use Rattle.mc_up.specs.StatusDown.{FitsStatusDown, spelling_of}
 use Rattle.mc_top.specs.Frame.{IsPayload}
 use Rattle.mc_top.specs.Exchange.{status_json}
 

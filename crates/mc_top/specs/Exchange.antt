@@ -4,11 +4,12 @@ use lib.IntN.{ℤ, pos}
 use Rattle.hex.specs.Hex.{encode_lower}
 use Rattle.mc_nbt.specs.Format.{Format, Nothing}
 use Rattle.mc_nbt.specs.Combine.{◌then◌}
-use Rattle.mc_top.specs.declared.hand.Hand.TheVariants.{Handshake}
-use Rattle.mc_top.specs.declared.status.StatusUp.TheVariants.{Request, Ping}
-use Rattle.mc_top.specs.declared.status.StatusDown.TheVariants.{Response, Pong}
-use Rattle.mc_top.specs.Hand.{SpellsHand}
-use Rattle.mc_top.specs.Status.{SpellsStatusUp, spelling_of}
+use Rattle.mc_up.specs.declared.handshake.Hand.TheVariants.{Handshake}
+use Rattle.mc_up.specs.declared.status_up.StatusUp.TheVariants.{Request, Ping}
+use Rattle.mc_up.specs.declared.status_down.StatusDown.TheVariants.{Response, Pong}
+use Rattle.mc_up.specs.Hand.{SpellsHand}
+use Rattle.mc_up.specs.StatusUp.{SpellsStatusUp}
+use Rattle.mc_up.specs.StatusDown.{spelling_of}
 use Rattle.mc_top.specs.Frame.{frame, frame_spelling}
 use Rattle.mc_top.specs.Lines.{text_bytes}
 

@@ -1,5 +1,3 @@
-pub mod Hand
-pub mod Status
 pub mod Frame
 pub mod Lines
 pub mod Exchange

@@ -2,15 +2,14 @@ ghost use Rattle.std.specs.Prelude.{◌≡◌, ◌↔◌, ◌++◌, ℕ, List, I
 ghost use lib.IntN.{ℤ};
 ghost use Rattle.mc_nbt.specs.Reading.{Yields};
 ghost use Rattle.mc_top.specs.Exchange.{WantsStatus, IsExchange, three_frames, hex_line, status_line, pong_line, reply_lines, status_json};
-ghost use Rattle.mc_top.specs.Status.{SpellsStatusUp, FitsStatusDown, spelling_of};
+ghost use Rattle.mc_up.specs.StatusUp.{SpellsStatusUp};
+ghost use Rattle.mc_up.specs.StatusDown.{FitsStatusDown, spelling_of};
 ghost use Rattle.mc_top.specs.Frame.{IsPayload, frame_spelling};
-ghost use Rattle.mc_top.specs.declared.status.StatusUp.TheVariants.{Request, Ping};
+ghost use Rattle.mc_up.specs.declared.status_up.StatusUp.TheVariants.{Request, Ping};
 
 use crate::frame::{take_frame, write_frame};
-use crate::hand::read_hand;
-use crate::status::{StatusDown, StatusUp, read_status_up, write_status_down};
-use mc_fields::PacketRead;
 use mc_nbt::{Cursor, NoMemory, Stop, Text};
+use mc_up::{PacketRead, StatusDown, StatusUp, read_hand, read_status_up, write_status_down};
 use std::alloc::Global;
 
 /// The status, as JSON.

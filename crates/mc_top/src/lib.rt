@@ -1,5 +1,5 @@
-//! The commands of the program, over the devices that they need. It stands on the fields and packet
-//! rows of `mc_fields`, the devices of `mc_wire` and the hex of the crate `hex`.
+//! The commands of the program, over the devices that they need. It stands on the packets of `mc_up`,
+//! the devices of `mc_wire` and the hex of the crate `hex`.
 //!
 //! Its one contract is `run`: what each status means for the input and the output, and when it comes.
 #![tactic(auto)]
@@ -8,9 +8,7 @@ mod command;
 mod ended;
 mod exchange;
 mod frame;
-mod hand;
 mod lines;
-mod status;
 #[cfg(test)]
 mod tests;
 

@@ -1,5 +1,5 @@
 use Rattle.std.proofs.Common.{Ok, ap, ◌∙◌, refl}
-use Rattle.mc_top.specs.declared.status.StatusUp.TheVariants.{Request}
+use Rattle.mc_up.specs.declared.status_up.StatusUp.TheVariants.{Request}
 use Rattle.mc_top.proofs.Exchanges.{up_is}
 use Rattle.mc_top.proofs.exchange.is_request.Goals as goal
 

@@ -1,7 +1,7 @@
 use Rattle.std.proofs.Common.{Ok, ap, ◌∙◌, rules, w64}
 use Rattle.std.proofs.lemmas.Int.{to_z-of_z}
 use mir.Val.{SFits}
-use Rattle.mc_top.specs.declared.status.StatusUp.TheVariants.{Ping}
+use Rattle.mc_up.specs.declared.status_up.StatusUp.TheVariants.{Ping}
 use Rattle.mc_top.proofs.Exchanges.{up_is}
 use Rattle.mc_top.proofs.exchange.ping_number.Goals as goal
 

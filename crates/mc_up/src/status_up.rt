@@ -1,12 +1,10 @@
-ghost use Rattle.std.specs.Prelude.{◌≡◌, ◌<◌, ◌^◌, ◌++◌, ℕ, List, take, length, IfOk, OnOk, OnErr, Ok};
+ghost use Rattle.std.specs.Prelude.{◌≡◌, ◌++◌, ℕ, List, IfOk, OnOk, OnErr, Ok, take, length};
 ghost use Rattle.mc_nbt.specs.Reading.{Yields};
 ghost use Rattle.mc_fields.specs.Row.{fields_read, id_read, frame_read, packet_of, row_append};
-ghost use Rattle.mc_top.specs.Status.{request, ping, response, pong, up_rows, SpellsStatusUp, SpellsStatusDown, FitsStatusDown, spelling_of, append_of};
+ghost use Rattle.mc_up.specs.StatusUp.{request, ping, rows, SpellsStatusUp, FitsStatusUp, spelling_of, append_of};
 
-use mc_fields::{
-    PacketFault, RowFault, take_i64, take_varint, whole, write_i64, write_text, write_varint,
-};
-use mc_nbt::{Cursor, NoMemory, Stop, Text};
+use mc_fields::{PacketFault, RowFault, take_i64, take_varint, whole, write_i64, write_varint};
+use mc_nbt::{Cursor, NoMemory, Stop};
 
 /// A packet of a client that asks for the status.
 #[derive(Clone, Copy, Debug, PartialEq, Eq)]
@@ -15,15 +13,6 @@ pub enum StatusUp {
     Request,
     /// The client asks for this number again.
     Ping(i64),
-}
-
-/// A packet to a client that asks for the status.
-#[derive(Drop)]
-pub enum StatusDown {
-    /// The status, as JSON.
-    Response(Text),
-    /// The number of the client's ping.
-    Pong(i64),
 }
 
 fn read_request(cursor: &mut Cursor<'_>) -> Result<StatusUp, Stop>
@@ -42,7 +31,7 @@ fn read_ping(cursor: &mut Cursor<'_>) -> Result<StatusUp, Stop>
 
 /// The fields of the packet with this id.
 fn read_fields(cursor: &mut Cursor<'_>, id: i32) -> Result<StatusUp, RowFault>
-    ensures { Yields (λ packet. (packet, cursor.new)) result (id_read up_rows id cursor.old) }
+    ensures { Yields (λ packet. (packet, cursor.new)) result (id_read rows id cursor.old) }
 {
     match id {
         0 => Ok(read_request(cursor)?),
@@ -54,7 +43,7 @@ fn read_fields(cursor: &mut Cursor<'_>, id: i32) -> Result<StatusUp, RowFault>
 /// The packet of a frame, or its first fault, with its place counted from the frame's end.
 #[tactic(auto, unfolding(mc_fields::specs::Row::frame_read))]
 fn packet_in(frame: &[u8]) -> Result<StatusUp, RowFault>
-    ensures { Yields (λ packet. packet) result (frame_read up_rows frame.now) }
+    ensures { Yields (λ packet. packet) result (frame_read rows frame.now) }
 {
     let mut cursor = Cursor::new(frame);
     let id = take_varint(&mut cursor)?;
@@ -69,23 +58,21 @@ pub fn read_status_up(frame: &[u8]) -> Result<StatusUp, PacketFault>
     // What is spelled so is read.
     ensures only { (packet : StatusUp) → SpellsStatusUp packet frame.now → result ≡ Ok packet }
     // Which fault it is.
-    ensures exact { result ≡ packet_of frame.now (frame_read up_rows frame.now) }
+    ensures exact { result ≡ packet_of frame.now (frame_read rows frame.now) }
 {
     packet_in(frame).map_err(|fault| fault.within(frame.len()))
 }
 
-fn write_response(json: &Text, out: &mut Vec<u8>) -> Result<(), NoMemory>
-    requires { length json.now < 2 ^ 31 }
-    ensures ok { OnOk result (out.new.items ≡ row_append response json.now out.old.items) }
+fn write_request(out: &mut Vec<u8>) -> Result<(), NoMemory>
+    ensures ok { OnOk result (out.new.items ≡ row_append request tt out.old.items) }
     ensures begun { OnErr result (take (length out.old.items) out.new.items ≡ out.old.items) }
 {
     write_varint(0, out)?;
-    write_text(json, out)?;
     Ok(())
 }
 
-fn write_pong(number: i64, out: &mut Vec<u8>) -> Result<(), NoMemory>
-    ensures ok { OnOk result (out.new.items ≡ row_append pong number out.old.items) }
+fn write_ping(number: i64, out: &mut Vec<u8>) -> Result<(), NoMemory>
+    ensures ok { OnOk result (out.new.items ≡ row_append ping number out.old.items) }
     ensures begun { OnErr result (take (length out.old.items) out.new.items ≡ out.old.items) }
 {
     write_varint(1, out)?;
@@ -94,24 +81,26 @@ fn write_pong(number: i64, out: &mut Vec<u8>) -> Result<(), NoMemory>
 }
 
 /// The id and the fields of a packet; without memory some first part of them.
-fn write_fields(packet: &StatusDown, out: &mut Vec<u8>) -> Result<(), NoMemory>
-    requires { FitsStatusDown packet.now }
+fn write_fields(packet: &StatusUp, out: &mut Vec<u8>) -> Result<(), NoMemory>
+    requires { FitsStatusUp packet.now }
     ensures ok { OnOk result (out.new.items ≡ append_of packet.now out.old.items) }
     ensures begun { OnErr result (take (length out.old.items) out.new.items ≡ out.old.items) }
 {
     match packet {
-        StatusDown::Response(json) => write_response(json, out)?,
-        StatusDown::Pong(number) => write_pong(*number, out)?,
+        StatusUp::Request => write_request(out)?,
+        StatusUp::Ping(number) => write_ping(*number, out)?,
     }
     Ok(())
 }
 
 /// Appends a packet, with its VarInts the shortest. Without memory `out` is as before.
-pub fn write_status_down(packet: &StatusDown, out: &mut Vec<u8>) -> Result<(), NoMemory>
+pub fn write_status_up(packet: &StatusUp, out: &mut Vec<u8>) -> Result<(), NoMemory>
     // It has a spelling.
-    requires { (bytes : List ℕ) × SpellsStatusDown packet.now bytes }
+    requires { (bytes : List ℕ) × SpellsStatusUp packet.now bytes }
     ensures ok { OnOk result (out.new.items ≡ out.old.items ++ spelling_of packet.now) }
-    ensures spelled { SpellsStatusDown packet.now (spelling_of packet.now) }
+    ensures spelled { SpellsStatusUp packet.now (spelling_of packet.now) }
+    // What is written is read as the same packet.
+    ensures again { frame_read rows (spelling_of packet.now) ≡ Ok packet.now }
     ensures err { OnErr result (out.new.items ≡ out.old.items) }
 {
     let start = out.len();

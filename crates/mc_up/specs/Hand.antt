@@ -6,10 +6,10 @@ use Rattle.mc_nbt.specs.Combine.{◌then◌, tested}
 use Rattle.mc_fields.specs.VarintFormat.{varint}
 use Rattle.mc_fields.specs.TextFormat.{text}
 use Rattle.mc_fields.specs.Integers.{ushort}
-use Rattle.mc_fields.specs.Row.{Row, packet, Entry, of_row, Spells, Rows}
+use Rattle.mc_fields.specs.Row.{Row, packet, Entry, of_row, Spells, Fits, spelling, append, Rows}
 use Rattle.mc_fields.specs.Row.Rows.{row, no_more}
-use Rattle.mc_top.specs.declared.hand.Hand.{Hand}
-use Rattle.mc_top.specs.declared.hand.Hand.TheVariants.{Handshake}
+use Rattle.mc_up.specs.declared.handshake.Hand.{Hand}
+use Rattle.mc_up.specs.declared.handshake.Hand.TheVariants.{Handshake}
 
 -- what a client may want: 1 the status, 2 to log in
 abbrev pub is_next : ℤ → Bool
@@ -28,8 +28,18 @@ entry_of (Handshake protocol address port next) = of_row handshake (protocol, (a
 abbrev pub rows : Rows Hand entry_of
 rows = row handshake (λ _ _ s. s) no_more
 
+-- these bytes spell the packet; it has a spelling; the shortest one; the bytes with that at their end
 abbrev pub SpellsHand : Hand → List ℕ → Type 0
 SpellsHand (Handshake protocol address port next) = Spells (entry_of (Handshake protocol address port next))
+
+abbrev pub FitsHand : Hand → Type 0
+FitsHand (Handshake protocol address port next) = Fits (entry_of (Handshake protocol address port next))
+
+abbrev pub spelling_of : Hand → List ℕ
+spelling_of (Handshake protocol address port next) = spelling (entry_of (Handshake protocol address port next))
+
+abbrev pub append_of : Hand → List ℕ → List ℕ
+append_of (Handshake protocol address port next) = append (entry_of (Handshake protocol address port next))
 
 -- what the client wants next
 abbrev pub next_of : Hand → ℤ

@@ -1,0 +1,5 @@
+pub mod HandLaws
+pub mod StatusUpLaws
+pub mod StatusDownLaws
+pub mod LoginUpLaws
+pub mod LoginDownLaws
