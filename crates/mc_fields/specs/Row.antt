@@ -152,7 +152,7 @@ is_id-true : (id : ℤ) (n : ℕ) → is_id id n ≡ true → id ≡ pos n
 is_id-true (pos m) n e = ap pos (eqb-true m n e)
 is_id-true (negsuc m) n e = absurd cc
 
-is_one_of-true : (is_member : ℕ → Bool) (id : ℤ) → is_one_of is_member id ≡ true → id ≡ pos (size_of id)
+pub is_one_of-true : (is_member : ℕ → Bool) (id : ℤ) → is_one_of is_member id ≡ true → id ≡ pos (size_of id)
 is_one_of-true is_member (pos n) e = refl
 is_one_of-true is_member (negsuc n) e = absurd cc
 

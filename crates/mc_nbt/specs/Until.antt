@@ -71,6 +71,22 @@ headed_only end small head_of spells read only (Some value) front rest ends s =
     let other : (head_of value == end) ≡ false = ne_eqb _ _ s.other in
     rw (regrouped, number_only w8 wide_8 Anything (head_of value) s.front (s.back ++ rest) tt s.head_spelled, other, only (head_of value) value s.back rest tt s.spelled) refl
 
+-- each value and the end take a byte at least
+headed_some : {A : Type 0} (end : ℕ) (head_of : A → ℕ) (spells : ℕ → A → List ℕ → Type 0) (value : Option A) (bytes : List ℕ) → headed_spells end head_of spells value bytes → 0 < length bytes
+unfolding number_spelling
+headed_some end head_of spells None bytes s = let head : length bytes ≡ 1 = ap length s in omega (arith, head)
+headed_some end head_of spells (Some value) bytes s =
+    let head : length s.front ≡ 1 = ap length s.head_spelled.1 in
+    let long : length bytes ≡ length s.front + length s.back = ap length s.parts ∙ length-append s.front s.back in
+    omega (arith, head, long)
+
+pub headed_shorter : {A : Type 0} (end : ℕ) (head_of : A → ℕ) (spells : ℕ → A → List ℕ → Type 0) (read : ℕ → List ℕ → Field A) → ((head : ℕ) → IsFound (spells head) (read head)) → IsHead head_of spells → (bytes : List ℕ) (x : Option A × List ℕ) → IsBytes bytes → headed_read end read bytes ≡ Ok x → length x.1 < length bytes
+headed_shorter end head_of spells read found is_head bytes x fits e =
+    let f = headed_found end head_of spells read found is_head bytes x fits e in
+    let some = headed_some end head_of spells x.0 f.front f.spelled in
+    let long : length bytes ≡ length f.front + length x.1 = ap length f.parts ∙ length-append f.front x.1 in
+    omega (arith, some, long)
+
 -- ---- many of them
 
 -- there are no more values than bytes
