@@ -79,7 +79,7 @@ entry_of (Disconnect reason) = of_row disconnect reason
 entry_of (Difficulty level) = of_row difficulty level
 entry_of (Raw id bytes) = of_row (raw id) bytes
 
--- the row of each id from 1B on that has one of its own
+-- the second half of the rows of ids that have one of their own
 unfoldable pub later_rows : Rows Down entry_of
 later_rows =
     row head_look (λ _ _ s. s) (
@@ -106,7 +106,7 @@ later_rows =
     row difficulty (λ _ _ s. s) (
     no_more))))))))))))))))))))))
 
--- the row of each id that has one of its own
+-- the row of each id that has one of its own, in two halves, so that a search looks into one at a time
 unfoldable pub named_rows : Rows Down entry_of
 named_rows =
     row keep_alive (λ _ _ s. s) (

@@ -9,7 +9,10 @@ ghost use Rattle.mc_down.specs.Entities.{equipment, animation, collect, destroy,
 use crate::counted::{take_varints, write_varints};
 use crate::metadata::{put_metas, take_metas};
 use crate::{Down, Metas, Varints};
-use mc_fields::{take_bool, take_i16, take_i32, take_i8, take_varint, write_bool, write_i16, write_i32, write_i8, write_u8, write_varint};
+use mc_fields::{
+    take_bool, take_i8, take_i16, take_i32, take_varint, write_bool, write_i8, write_i16,
+    write_i32, write_u8, write_varint,
+};
 use mc_nbt::{Cursor, NoMemory, ReadError, Stop};
 use mc_slots::{Slot, take_slot, write_slot};
 use std::alloc::Global;
@@ -115,7 +118,12 @@ pub fn read_attach(cursor: &mut Cursor<'_>) -> Result<Down, Stop>
     Ok(Down::Attach(eid, vehicle, is_leash))
 }
 
-pub fn write_attach(eid: i32, vehicle: i32, is_leash: bool, out: &mut Vec<u8>) -> Result<(), NoMemory>
+pub fn write_attach(
+    eid: i32,
+    vehicle: i32,
+    is_leash: bool,
+    out: &mut Vec<u8>,
+) -> Result<(), NoMemory>
     ensures ok { OnOk result (out.new.items ≡ row_append attach (eid, (vehicle, is_leash)) out.old.items) }
     ensures begun { OnErr result (take (length out.old.items) out.new.items ≡ out.old.items) }
 {

@@ -22,6 +22,8 @@ mod players;
 mod reading;
 mod record;
 mod spawns;
+#[cfg(test)]
+mod tests;
 mod windows;
 mod world;
 mod writing;

@@ -6,8 +6,11 @@ ghost use Rattle.mc_nbt.specs.Reading.{Yields};
 ghost use Rattle.mc_fields.specs.Row.{fields_read, row_append};
 ghost use Rattle.mc_down.specs.Moves.{velocity, entity, step, look, step_look, teleport, head_look};
 
-use crate::{Down};
-use mc_fields::{take_bool, take_i16, take_i32, take_i8, take_varint, write_bool, write_i16, write_i32, write_i8, write_u8, write_varint};
+use crate::Down;
+use mc_fields::{
+    take_bool, take_i8, take_i16, take_i32, take_varint, write_bool, write_i8, write_i16,
+    write_i32, write_u8, write_varint,
+};
 use mc_nbt::{Cursor, NoMemory, Stop};
 
 pub fn read_velocity(cursor: &mut Cursor<'_>) -> Result<Down, Stop>
@@ -20,7 +23,13 @@ pub fn read_velocity(cursor: &mut Cursor<'_>) -> Result<Down, Stop>
     Ok(Down::Velocity(eid, dx, dy, dz))
 }
 
-pub fn write_velocity(eid: i32, dx: i16, dy: i16, dz: i16, out: &mut Vec<u8>) -> Result<(), NoMemory>
+pub fn write_velocity(
+    eid: i32,
+    dx: i16,
+    dy: i16,
+    dz: i16,
+    out: &mut Vec<u8>,
+) -> Result<(), NoMemory>
     ensures ok { OnOk result (out.new.items ≡ row_append velocity (eid, (dx, (dy, dz))) out.old.items) }
     ensures begun { OnErr result (take (length out.old.items) out.new.items ≡ out.old.items) }
 {
@@ -59,7 +68,14 @@ pub fn read_step(cursor: &mut Cursor<'_>) -> Result<Down, Stop>
     Ok(Down::Step(eid, dx, dy, dz, on_ground))
 }
 
-pub fn write_step(eid: i32, dx: i8, dy: i8, dz: i8, on_ground: bool, out: &mut Vec<u8>) -> Result<(), NoMemory>
+pub fn write_step(
+    eid: i32,
+    dx: i8,
+    dy: i8,
+    dz: i8,
+    on_ground: bool,
+    out: &mut Vec<u8>,
+) -> Result<(), NoMemory>
     ensures ok { OnOk result (out.new.items ≡ row_append step (eid, (dx, (dy, (dz, on_ground)))) out.old.items) }
     ensures begun { OnErr result (take (length out.old.items) out.new.items ≡ out.old.items) }
 {
@@ -82,7 +98,13 @@ pub fn read_look(cursor: &mut Cursor<'_>) -> Result<Down, Stop>
     Ok(Down::Look(eid, yaw, pitch, on_ground))
 }
 
-pub fn write_look(eid: i32, yaw: u8, pitch: u8, on_ground: bool, out: &mut Vec<u8>) -> Result<(), NoMemory>
+pub fn write_look(
+    eid: i32,
+    yaw: u8,
+    pitch: u8,
+    on_ground: bool,
+    out: &mut Vec<u8>,
+) -> Result<(), NoMemory>
     ensures ok { OnOk result (out.new.items ≡ row_append look (eid, (yaw, (pitch, on_ground))) out.old.items) }
     ensures begun { OnErr result (take (length out.old.items) out.new.items ≡ out.old.items) }
 {
@@ -107,7 +129,16 @@ pub fn read_step_look(cursor: &mut Cursor<'_>) -> Result<Down, Stop>
     Ok(Down::StepLook(eid, dx, dy, dz, yaw, pitch, on_ground))
 }
 
-pub fn write_step_look(eid: i32, dx: i8, dy: i8, dz: i8, yaw: u8, pitch: u8, on_ground: bool, out: &mut Vec<u8>) -> Result<(), NoMemory>
+pub fn write_step_look(
+    eid: i32,
+    dx: i8,
+    dy: i8,
+    dz: i8,
+    yaw: u8,
+    pitch: u8,
+    on_ground: bool,
+    out: &mut Vec<u8>,
+) -> Result<(), NoMemory>
     ensures ok { OnOk result (out.new.items ≡ row_append step_look (eid, (dx, (dy, (dz, (yaw, (pitch, on_ground)))))) out.old.items) }
     ensures begun { OnErr result (take (length out.old.items) out.new.items ≡ out.old.items) }
 {
@@ -135,7 +166,16 @@ pub fn read_teleport(cursor: &mut Cursor<'_>) -> Result<Down, Stop>
     Ok(Down::Teleport(eid, x, y, z, yaw, pitch, on_ground))
 }
 
-pub fn write_teleport(eid: i32, x: i32, y: i32, z: i32, yaw: u8, pitch: u8, on_ground: bool, out: &mut Vec<u8>) -> Result<(), NoMemory>
+pub fn write_teleport(
+    eid: i32,
+    x: i32,
+    y: i32,
+    z: i32,
+    yaw: u8,
+    pitch: u8,
+    on_ground: bool,
+    out: &mut Vec<u8>,
+) -> Result<(), NoMemory>
     ensures ok { OnOk result (out.new.items ≡ row_append teleport (eid, (x, (y, (z, (yaw, (pitch, on_ground)))))) out.old.items) }
     ensures begun { OnErr result (take (length out.old.items) out.new.items ≡ out.old.items) }
 {

@@ -8,7 +8,7 @@ ghost use Rattle.mc_down.specs.PlayerList.{player_list};
 
 use crate::players::{take_action, take_players, write_players};
 use crate::{Down, Players};
-use mc_fields::{write_varint};
+use mc_fields::write_varint;
 use mc_nbt::{Cursor, NoMemory, ReadError};
 use std::alloc::Global;
 

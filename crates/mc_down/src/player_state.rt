@@ -6,9 +6,12 @@ ghost use Rattle.mc_nbt.specs.Reading.{Yields, Gives};
 ghost use Rattle.mc_fields.specs.Row.{fields_read, row_fits, row_append};
 ghost use Rattle.mc_down.specs.PlayerState.{join_game, health, respawn, position_look, held, experience, abilities};
 
-use crate::parts::{STRING_MAX};
-use crate::{Down};
-use mc_fields::{take_bool, take_i32, take_i8, take_text, take_varint, write_bool, write_i32, write_i8, write_text, write_u32, write_u64, write_u8, write_varint};
+use crate::Down;
+use crate::parts::STRING_MAX;
+use mc_fields::{
+    take_bool, take_i8, take_i32, take_text, take_varint, write_bool, write_i8, write_i32,
+    write_text, write_u8, write_u32, write_u64, write_varint,
+};
 use mc_nbt::{Cursor, NoMemory, ReadError, Stop, Text};
 use std::alloc::Global;
 
@@ -25,7 +28,16 @@ pub fn read_join_game(alloc: Global, cursor: &mut Cursor<'_>) -> Result<Down, Re
     Ok(Down::JoinGame(eid, mode, dimension, hardness, most, level, reduced))
 }
 
-pub fn write_join_game(eid: i32, mode: u8, dimension: i8, hardness: u8, most: u8, level: &Text, reduced: bool, out: &mut Vec<u8>) -> Result<(), NoMemory>
+pub fn write_join_game(
+    eid: i32,
+    mode: u8,
+    dimension: i8,
+    hardness: u8,
+    most: u8,
+    level: &Text,
+    reduced: bool,
+    out: &mut Vec<u8>,
+) -> Result<(), NoMemory>
     requires { row_fits join_game (eid, (mode, (dimension, (hardness, (most, (level.now, reduced)))))) }
     ensures ok { OnOk result (out.new.items ≡ row_append join_game (eid, (mode, (dimension, (hardness, (most, (level.now, reduced)))))) out.old.items) }
     ensures begun { OnErr result (take (length out.old.items) out.new.items ≡ out.old.items) }
@@ -50,7 +62,12 @@ pub fn read_health(cursor: &mut Cursor<'_>) -> Result<Down, Stop>
     Ok(Down::Health(points, food, saturation))
 }
 
-pub fn write_health(points: u32, food: i32, saturation: u32, out: &mut Vec<u8>) -> Result<(), NoMemory>
+pub fn write_health(
+    points: u32,
+    food: i32,
+    saturation: u32,
+    out: &mut Vec<u8>,
+) -> Result<(), NoMemory>
     ensures ok { OnOk result (out.new.items ≡ row_append health (points, (food, saturation)) out.old.items) }
     ensures begun { OnErr result (take (length out.old.items) out.new.items ≡ out.old.items) }
 {
@@ -71,7 +88,13 @@ pub fn read_respawn(alloc: Global, cursor: &mut Cursor<'_>) -> Result<Down, Read
     Ok(Down::Respawn(dimension, hardness, mode, level))
 }
 
-pub fn write_respawn(dimension: i32, hardness: u8, mode: u8, level: &Text, out: &mut Vec<u8>) -> Result<(), NoMemory>
+pub fn write_respawn(
+    dimension: i32,
+    hardness: u8,
+    mode: u8,
+    level: &Text,
+    out: &mut Vec<u8>,
+) -> Result<(), NoMemory>
     requires { row_fits respawn (dimension, (hardness, (mode, level.now))) }
     ensures ok { OnOk result (out.new.items ≡ row_append respawn (dimension, (hardness, (mode, level.now))) out.old.items) }
     ensures begun { OnErr result (take (length out.old.items) out.new.items ≡ out.old.items) }
@@ -96,7 +119,15 @@ pub fn read_position_look(cursor: &mut Cursor<'_>) -> Result<Down, Stop>
     Ok(Down::PositionLook(x, y, z, yaw, pitch, flags))
 }
 
-pub fn write_position_look(x: u64, y: u64, z: u64, yaw: u32, pitch: u32, flags: i8, out: &mut Vec<u8>) -> Result<(), NoMemory>
+pub fn write_position_look(
+    x: u64,
+    y: u64,
+    z: u64,
+    yaw: u32,
+    pitch: u32,
+    flags: i8,
+    out: &mut Vec<u8>,
+) -> Result<(), NoMemory>
     ensures ok { OnOk result (out.new.items ≡ row_append position_look (x, (y, (z, (yaw, (pitch, flags))))) out.old.items) }
     ensures begun { OnErr result (take (length out.old.items) out.new.items ≡ out.old.items) }
 {
@@ -155,7 +186,12 @@ pub fn read_abilities(cursor: &mut Cursor<'_>) -> Result<Down, Stop>
     Ok(Down::Abilities(flags, flying, walking))
 }
 
-pub fn write_abilities(flags: i8, flying: u32, walking: u32, out: &mut Vec<u8>) -> Result<(), NoMemory>
+pub fn write_abilities(
+    flags: i8,
+    flying: u32,
+    walking: u32,
+    out: &mut Vec<u8>,
+) -> Result<(), NoMemory>
     ensures ok { OnOk result (out.new.items ≡ row_append abilities (flags, (flying, walking)) out.old.items) }
     ensures begun { OnErr result (take (length out.old.items) out.new.items ≡ out.old.items) }
 {

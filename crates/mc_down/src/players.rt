@@ -15,7 +15,9 @@ ghost use Rattle.mc_down.specs.PlayerChange.{is_action, property, joining, join_
 
 use crate::parts::{STRING_MAX, take_count, take_text_if, write_text_if};
 use crate::{Player, PlayerChange, Players, Properties, Property};
-use mc_fields::{take_bool, take_text, take_varint, write_bool, write_text, write_u128, write_varint};
+use mc_fields::{
+    take_bool, take_text, take_varint, write_bool, write_text, write_u128, write_varint,
+};
 use mc_nbt::{Cursor, Kind, NoMemory, ReadError, Stop, Text};
 use std::alloc::Global;
 
@@ -113,9 +115,7 @@ fn take_join(alloc: Global, cursor: &mut Cursor<'_>) -> Result<PlayerChange, Rea
     let ping = take_varint(cursor)?;
     let is_shown = take_bool(cursor)?;
     let shown = take_text_if(is_shown, alloc, cursor)?;
-    Ok(PlayerChange::Join(
-        name, properties, mode, ping, is_shown, shown,
-    ))
+    Ok(PlayerChange::Join(name, properties, mode, ping, is_shown, shown))
 }
 
 fn take_shown(alloc: Global, cursor: &mut Cursor<'_>) -> Result<PlayerChange, ReadError>
@@ -195,7 +195,13 @@ fn write_join_head(name: &Text, properties: &Properties, out: &mut Vec<u8>) -> R
 
 /// What follows the properties of a player that joins.
 #[tactic(auto, using(mc_nbt::proofs::Kept::kept_whole, mc_nbt::proofs::Kept::kept_same, mc_nbt::proofs::Kept::kept_by, crate::proofs::Begun::kept_through))]
-fn write_join_tail(mode: i32, ping: i32, is_shown: bool, shown: &Option<Text>, out: &mut Vec<u8>) -> Result<(), NoMemory>
+fn write_join_tail(
+    mode: i32,
+    ping: i32,
+    is_shown: bool,
+    shown: &Option<Text>,
+    out: &mut Vec<u8>,
+) -> Result<(), NoMemory>
     requires { IfSome shown.now (λ bytes. length bytes < 2 ^ 31) }
     ensures ok { OnOk result (out.new.items ≡ shown_parts.append (is_shown, shown.now) ((varint {Rest = Anything}).append ping ((varint {Rest = Anything}).append mode out.old.items))) }
     ensures begun { OnErr result (take (length out.old.items) out.new.items ≡ out.old.items) }

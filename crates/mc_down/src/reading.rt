@@ -7,15 +7,28 @@ ghost use Rattle.mc_down.specs.declared.down.Down.{Down};
 ghost use Rattle.mc_down.specs.Down.{is_raw, raw, later_rows, named_rows, rows, SpellsDown};
 
 use crate::Down;
-use crate::parts::take_rest;
-use crate::entities::{read_animation, read_attach, read_collect, read_destroy, read_equipment, read_meta, read_status};
-use crate::moves::{read_entity, read_head_look, read_look, read_step, read_step_look, read_teleport, read_velocity};
+use crate::entities::{
+    read_animation, read_attach, read_collect, read_destroy, read_equipment, read_meta, read_status,
+};
+use crate::moves::{
+    read_entity, read_head_look, read_look, read_step, read_step_look, read_teleport, read_velocity,
+};
 use crate::others::{read_chat, read_disconnect, read_keep_alive, read_plugin, read_tab_complete};
-use crate::player_list::{read_player_list};
-use crate::player_state::{read_abilities, read_experience, read_health, read_held, read_join_game, read_position_look, read_respawn};
+use crate::parts::take_rest;
+use crate::player_list::read_player_list;
+use crate::player_state::{
+    read_abilities, read_experience, read_health, read_held, read_join_game, read_position_look,
+    read_respawn,
+};
 use crate::spawns::{read_spawn_mob, read_spawn_object, read_spawn_player};
-use crate::windows::{read_close_window, read_confirm, read_open_window, read_set_slot, read_window_items, read_window_property};
-use crate::world::{read_change, read_chunk, read_difficulty, read_game_state, read_multi_change, read_sign_editor, read_spawn_position, read_time};
+use crate::windows::{
+    read_close_window, read_confirm, read_open_window, read_set_slot, read_window_items,
+    read_window_property,
+};
+use crate::world::{
+    read_change, read_chunk, read_difficulty, read_game_state, read_multi_change, read_sign_editor,
+    read_spawn_position, read_time,
+};
 use mc_fields::{PacketRead, RowError, RowFault, take_varint, whole};
 use mc_nbt::{Cursor, Octets, ReadError};
 use std::alloc::Global;

@@ -13,10 +13,13 @@ ghost use Rattle.mc_fields.specs.Row.{fields_read, row_append};
 ghost use Rattle.mc_down.specs.Spawns.{spawn_player, spawn_object, spawn_mob};
 ghost use Rattle.mc_down.specs.Metadata.{FitsMeta, metadata};
 
-use crate::parts::{take_speed_if, write_speed_if};
 use crate::metadata::{put_metas, take_metas};
+use crate::parts::{take_speed_if, write_speed_if};
 use crate::{Down, Metas, Speed};
-use mc_fields::{take_i16, take_i32, take_i8, take_varint, write_i16, write_i32, write_i8, write_u128, write_u8, write_varint};
+use mc_fields::{
+    take_i8, take_i16, take_i32, take_varint, write_i8, write_i16, write_i32, write_u8, write_u128,
+    write_varint,
+};
 use mc_nbt::{Cursor, NoMemory, ReadError, Stop};
 use std::alloc::Global;
 
@@ -36,7 +39,14 @@ pub fn read_spawn_player(alloc: Global, cursor: &mut Cursor<'_>) -> Result<Down,
 }
 
 /// The id of a player's packet, and its fields up to its place.
-fn write_player_head(eid: i32, who: u128, x: i32, y: i32, z: i32, out: &mut Vec<u8>) -> Result<(), NoMemory>
+fn write_player_head(
+    eid: i32,
+    who: u128,
+    x: i32,
+    y: i32,
+    z: i32,
+    out: &mut Vec<u8>,
+) -> Result<(), NoMemory>
     ensures ok { OnOk result (out.new.items ≡ (int {Rest = Anything}).append z ((int {Rest = Anything}).append y ((int {Rest = Anything}).append x ((uuid {Rest = Anything}).append who ((varint {Rest = Anything}).append eid ((varint {Rest = Anything}).append (pos 0x0C) out.old.items)))))) }
     ensures kept { take (length out.old.items) out.new.items ≡ out.old.items }
 {
@@ -50,7 +60,13 @@ fn write_player_head(eid: i32, who: u128, x: i32, y: i32, z: i32, out: &mut Vec<
 }
 
 /// What follows a player's place.
-fn write_player_tail(yaw: u8, pitch: u8, item: i16, metas: &Metas, out: &mut Vec<u8>) -> Result<(), NoMemory>
+fn write_player_tail(
+    yaw: u8,
+    pitch: u8,
+    item: i16,
+    metas: &Metas,
+    out: &mut Vec<u8>,
+) -> Result<(), NoMemory>
     requires { FitsMeta metas.now }
     ensures ok { OnOk result (out.new.items ≡ (metadata {Rest = Anything}).append metas.now ((short {Rest = Anything}).append item ((angle {Rest = Anything}).append pitch ((angle {Rest = Anything}).append yaw out.old.items)))) }
     ensures begun { OnErr result (take (length out.old.items) out.new.items ≡ out.old.items) }
@@ -63,7 +79,18 @@ fn write_player_tail(yaw: u8, pitch: u8, item: i16, metas: &Metas, out: &mut Vec
 }
 
 #[tactic(auto, using(mc_nbt::proofs::Kept::kept_whole, mc_nbt::proofs::Kept::kept_same, mc_nbt::proofs::Kept::kept_by, crate::proofs::Begun::kept_through))]
-pub fn write_spawn_player(eid: i32, who: u128, x: i32, y: i32, z: i32, yaw: u8, pitch: u8, item: i16, metas: &Metas, out: &mut Vec<u8>) -> Result<(), NoMemory>
+pub fn write_spawn_player(
+    eid: i32,
+    who: u128,
+    x: i32,
+    y: i32,
+    z: i32,
+    yaw: u8,
+    pitch: u8,
+    item: i16,
+    metas: &Metas,
+    out: &mut Vec<u8>,
+) -> Result<(), NoMemory>
     requires { FitsMeta metas.now }
     ensures ok { OnOk result (out.new.items ≡ row_append spawn_player (eid, (who, (x, (y, (z, (yaw, (pitch, (item, metas.now)))))))) out.old.items) }
     ensures begun { OnErr result (take (length out.old.items) out.new.items ≡ out.old.items) }
@@ -89,7 +116,14 @@ pub fn read_spawn_object(cursor: &mut Cursor<'_>) -> Result<Down, Stop>
 }
 
 /// The id of an object's packet, and its fields up to its place.
-fn write_object_head(eid: i32, kind: i8, x: i32, y: i32, z: i32, out: &mut Vec<u8>) -> Result<(), NoMemory>
+fn write_object_head(
+    eid: i32,
+    kind: i8,
+    x: i32,
+    y: i32,
+    z: i32,
+    out: &mut Vec<u8>,
+) -> Result<(), NoMemory>
     ensures ok { OnOk result (out.new.items ≡ (int {Rest = Anything}).append z ((int {Rest = Anything}).append y ((int {Rest = Anything}).append x ((byte {Rest = Anything}).append kind ((varint {Rest = Anything}).append eid ((varint {Rest = Anything}).append (pos 0x0E) out.old.items)))))) }
     ensures kept { take (length out.old.items) out.new.items ≡ out.old.items }
 {
@@ -103,7 +137,13 @@ fn write_object_head(eid: i32, kind: i8, x: i32, y: i32, z: i32, out: &mut Vec<u
 }
 
 /// What follows an object's place.
-fn write_object_tail(pitch: u8, yaw: u8, extra: i32, speed_: &Option<Speed>, out: &mut Vec<u8>) -> Result<(), NoMemory>
+fn write_object_tail(
+    pitch: u8,
+    yaw: u8,
+    extra: i32,
+    speed_: &Option<Speed>,
+    out: &mut Vec<u8>,
+) -> Result<(), NoMemory>
     ensures ok { OnOk result (out.new.items ≡ when_append (speed {Rest = Anything}).append speed_.now ((int {Rest = Anything}).append extra ((angle {Rest = Anything}).append yaw ((angle {Rest = Anything}).append pitch out.old.items)))) }
     ensures begun { OnErr result (take (length out.old.items) out.new.items ≡ out.old.items) }
 {
@@ -115,7 +155,18 @@ fn write_object_tail(pitch: u8, yaw: u8, extra: i32, speed_: &Option<Speed>, out
 }
 
 #[tactic(auto, using(mc_nbt::proofs::Kept::kept_whole, mc_nbt::proofs::Kept::kept_same, mc_nbt::proofs::Kept::kept_by, crate::proofs::Begun::kept_through))]
-pub fn write_spawn_object(eid: i32, kind: i8, x: i32, y: i32, z: i32, pitch: u8, yaw: u8, extra: i32, speed_: &Option<Speed>, out: &mut Vec<u8>) -> Result<(), NoMemory>
+pub fn write_spawn_object(
+    eid: i32,
+    kind: i8,
+    x: i32,
+    y: i32,
+    z: i32,
+    pitch: u8,
+    yaw: u8,
+    extra: i32,
+    speed_: &Option<Speed>,
+    out: &mut Vec<u8>,
+) -> Result<(), NoMemory>
     ensures ok { OnOk result (out.new.items ≡ row_append spawn_object (eid, (kind, (x, (y, (z, (pitch, (yaw, (extra, speed_.now)))))))) out.old.items) }
     ensures begun { OnErr result (take (length out.old.items) out.new.items ≡ out.old.items) }
 {
@@ -143,7 +194,14 @@ pub fn read_spawn_mob(alloc: Global, cursor: &mut Cursor<'_>) -> Result<Down, Re
 }
 
 /// The id of a mob's packet, and its fields up to its place.
-fn write_mob_head(eid: i32, kind: u8, x: i32, y: i32, z: i32, out: &mut Vec<u8>) -> Result<(), NoMemory>
+fn write_mob_head(
+    eid: i32,
+    kind: u8,
+    x: i32,
+    y: i32,
+    z: i32,
+    out: &mut Vec<u8>,
+) -> Result<(), NoMemory>
     ensures ok { OnOk result (out.new.items ≡ (int {Rest = Anything}).append z ((int {Rest = Anything}).append y ((int {Rest = Anything}).append x ((ubyte {Rest = Anything}).append kind ((varint {Rest = Anything}).append eid ((varint {Rest = Anything}).append (pos 0x0F) out.old.items)))))) }
     ensures kept { take (length out.old.items) out.new.items ≡ out.old.items }
 {
@@ -157,7 +215,15 @@ fn write_mob_head(eid: i32, kind: u8, x: i32, y: i32, z: i32, out: &mut Vec<u8>)
 }
 
 /// Where a mob looks, and its speed.
-fn write_mob_motion(yaw: u8, pitch: u8, head: u8, dx: i16, dy: i16, dz: i16, out: &mut Vec<u8>) -> Result<(), NoMemory>
+fn write_mob_motion(
+    yaw: u8,
+    pitch: u8,
+    head: u8,
+    dx: i16,
+    dy: i16,
+    dz: i16,
+    out: &mut Vec<u8>,
+) -> Result<(), NoMemory>
     ensures ok { OnOk result (out.new.items ≡ (short {Rest = Anything}).append dz ((short {Rest = Anything}).append dy ((short {Rest = Anything}).append dx ((angle {Rest = Anything}).append head ((angle {Rest = Anything}).append pitch ((angle {Rest = Anything}).append yaw out.old.items)))))) }
     ensures kept { take (length out.old.items) out.new.items ≡ out.old.items }
 {
@@ -171,7 +237,21 @@ fn write_mob_motion(yaw: u8, pitch: u8, head: u8, dx: i16, dy: i16, dz: i16, out
 }
 
 #[tactic(auto, using(mc_nbt::proofs::Kept::kept_whole, mc_nbt::proofs::Kept::kept_same, mc_nbt::proofs::Kept::kept_by, crate::proofs::Begun::kept_through))]
-pub fn write_spawn_mob(eid: i32, kind: u8, x: i32, y: i32, z: i32, yaw: u8, pitch: u8, head: u8, dx: i16, dy: i16, dz: i16, metas: &Metas, out: &mut Vec<u8>) -> Result<(), NoMemory>
+pub fn write_spawn_mob(
+    eid: i32,
+    kind: u8,
+    x: i32,
+    y: i32,
+    z: i32,
+    yaw: u8,
+    pitch: u8,
+    head: u8,
+    dx: i16,
+    dy: i16,
+    dz: i16,
+    metas: &Metas,
+    out: &mut Vec<u8>,
+) -> Result<(), NoMemory>
     requires { FitsMeta metas.now }
     ensures ok { OnOk result (out.new.items ≡ row_append spawn_mob (eid, (kind, (x, (y, (z, (yaw, (pitch, (head, (dx, (dy, (dz, metas.now))))))))))) out.old.items) }
     ensures begun { OnErr result (take (length out.old.items) out.new.items ≡ out.old.items) }

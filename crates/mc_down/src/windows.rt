@@ -9,7 +9,10 @@ ghost use Rattle.mc_down.specs.Windows.{open_window, close_window, set_slot, win
 use crate::counted::{take_slots, write_slots};
 use crate::parts::{STRING_MAX, is_horse, take_horse_if, write_int_if};
 use crate::{Down, Slots};
-use mc_fields::{take_bool, take_i16, take_i8, take_text, write_bool, write_i16, write_i8, write_text, write_u8, write_varint};
+use mc_fields::{
+    take_bool, take_i8, take_i16, take_text, write_bool, write_i8, write_i16, write_text, write_u8,
+    write_varint,
+};
 use mc_nbt::{Cursor, NoMemory, ReadError, Stop, Text};
 use mc_slots::{Slot, take_slot, write_slot};
 use std::alloc::Global;
@@ -26,7 +29,14 @@ pub fn read_open_window(alloc: Global, cursor: &mut Cursor<'_>) -> Result<Down, 
 }
 
 #[tactic(auto, using(mc_nbt::proofs::Kept::kept_whole, mc_nbt::proofs::Kept::kept_same, mc_nbt::proofs::Kept::kept_by, crate::proofs::Begun::kept_through))]
-pub fn write_open_window(window: u8, kind: &Text, title: &Text, slots: u8, horse: &Option<i32>, out: &mut Vec<u8>) -> Result<(), NoMemory>
+pub fn write_open_window(
+    window: u8,
+    kind: &Text,
+    title: &Text,
+    slots: u8,
+    horse: &Option<i32>,
+    out: &mut Vec<u8>,
+) -> Result<(), NoMemory>
     requires kind { length kind.now < 2 ^ 31 }
     requires title { length title.now < 2 ^ 31 }
     ensures ok { OnOk result (out.new.items ≡ row_append open_window (window, (kind.now, (title.now, (slots, horse.now)))) out.old.items) }
@@ -66,7 +76,12 @@ pub fn read_set_slot(alloc: Global, cursor: &mut Cursor<'_>) -> Result<Down, Rea
     Ok(Down::SetSlot(window, index, item))
 }
 
-pub fn write_set_slot(window: i8, index: i16, item: &Slot, out: &mut Vec<u8>) -> Result<(), NoMemory>
+pub fn write_set_slot(
+    window: i8,
+    index: i16,
+    item: &Slot,
+    out: &mut Vec<u8>,
+) -> Result<(), NoMemory>
     requires { row_fits set_slot (window, (index, item.now)) }
     ensures ok { OnOk result (out.new.items ≡ row_append set_slot (window, (index, item.now)) out.old.items) }
     ensures begun { OnErr result (take (length out.old.items) out.new.items ≡ out.old.items) }
@@ -106,7 +121,12 @@ pub fn read_window_property(cursor: &mut Cursor<'_>) -> Result<Down, Stop>
     Ok(Down::WindowProperty(window, property, value))
 }
 
-pub fn write_window_property(window: u8, property: i16, value: i16, out: &mut Vec<u8>) -> Result<(), NoMemory>
+pub fn write_window_property(
+    window: u8,
+    property: i16,
+    value: i16,
+    out: &mut Vec<u8>,
+) -> Result<(), NoMemory>
     ensures ok { OnOk result (out.new.items ≡ row_append window_property (window, (property, value)) out.old.items) }
     ensures begun { OnErr result (take (length out.old.items) out.new.items ≡ out.old.items) }
 {
@@ -126,7 +146,12 @@ pub fn read_confirm(cursor: &mut Cursor<'_>) -> Result<Down, Stop>
     Ok(Down::Confirm(window, number, accepted))
 }
 
-pub fn write_confirm(window: i8, number: i16, accepted: bool, out: &mut Vec<u8>) -> Result<(), NoMemory>
+pub fn write_confirm(
+    window: i8,
+    number: i16,
+    accepted: bool,
+    out: &mut Vec<u8>,
+) -> Result<(), NoMemory>
     ensures ok { OnOk result (out.new.items ≡ row_append confirm (window, (number, accepted)) out.old.items) }
     ensures begun { OnErr result (take (length out.old.items) out.new.items ≡ out.old.items) }
 {

@@ -9,7 +9,10 @@ ghost use Rattle.mc_down.specs.World.{time, spawn_position, chunk, multi_change,
 use crate::counted::{take_records, write_records};
 use crate::parts::{take_sized, write_sized};
 use crate::{Down, Records};
-use mc_fields::{Cell, take_bool, take_i32, take_i64, take_position, take_varint, write_bool, write_i32, write_i64, write_position, write_u16, write_u32, write_u8, write_varint};
+use mc_fields::{
+    Cell, take_bool, take_i32, take_i64, take_position, take_varint, write_bool, write_i32,
+    write_i64, write_position, write_u8, write_u16, write_u32, write_varint,
+};
 use mc_nbt::{Cursor, NoMemory, Octets, ReadError, Stop};
 use std::alloc::Global;
 
@@ -59,7 +62,14 @@ pub fn read_chunk(alloc: Global, cursor: &mut Cursor<'_>) -> Result<Down, ReadEr
     Ok(Down::Chunk(cx, cz, ground_up, mask, body))
 }
 
-pub fn write_chunk(cx: i32, cz: i32, ground_up: bool, mask: u16, body: &Octets, out: &mut Vec<u8>) -> Result<(), NoMemory>
+pub fn write_chunk(
+    cx: i32,
+    cz: i32,
+    ground_up: bool,
+    mask: u16,
+    body: &Octets,
+    out: &mut Vec<u8>,
+) -> Result<(), NoMemory>
     requires { row_fits chunk (cx, (cz, (ground_up, (mask, body.now)))) }
     ensures ok { OnOk result (out.new.items ≡ row_append chunk (cx, (cz, (ground_up, (mask, body.now)))) out.old.items) }
     ensures begun { OnErr result (take (length out.old.items) out.new.items ≡ out.old.items) }
@@ -82,7 +92,12 @@ pub fn read_multi_change(alloc: Global, cursor: &mut Cursor<'_>) -> Result<Down,
     Ok(Down::MultiChange(cx, cz, records))
 }
 
-pub fn write_multi_change(cx: i32, cz: i32, records: &Records, out: &mut Vec<u8>) -> Result<(), NoMemory>
+pub fn write_multi_change(
+    cx: i32,
+    cz: i32,
+    records: &Records,
+    out: &mut Vec<u8>,
+) -> Result<(), NoMemory>
     requires { row_fits multi_change (cx, (cz, records.now)) }
     ensures ok { OnOk result (out.new.items ≡ row_append multi_change (cx, (cz, records.now)) out.old.items) }
     ensures begun { OnErr result (take (length out.old.items) out.new.items ≡ out.old.items) }
