@@ -6,4 +6,5 @@ pub mod Integers
 pub mod Position
 pub mod Pattern
 pub mod PatternLaws
+pub mod Counted
 pub mod Row

@@ -56,6 +56,10 @@ Fits entry = (entry.row.id < 2 ^ 31) × entry.row.format.fits entry.fields
 abbrev pub spelling : {P : Type 0} → Entry P → List ℕ
 spelling entry = varint_spelling (pos entry.row.id) ++ entry.row.format.spelling entry.fields
 
+-- a row's fields have a spelling
+abbrev pub row_fits : {P : Type 0} (row : Row P) → row.Fields → Type 0
+row_fits row fields = row.format.fits fields
+
 -- the bytes with it at their end
 abbrev pub row_append : {P : Type 0} (row : Row P) → row.Fields → List ℕ → List ℕ
 row_append row fields out = row.format.append fields (out ++ varint_spelling (pos row.id))
@@ -83,10 +87,15 @@ spelled_fits entry bytes s =
 
 -- ---- the table of rows, and reading by it
 
--- rows, each tied to the packets that it makes
+-- what a row's fields spell is what the packet that they make spells
+abbrev pub IsRowOf : {P : Type 0} → (P → Entry P) → Row P → Type 0
+IsRowOf entry_of r = (fields : r.Fields) (bytes : List ℕ) → Spells (of_row r fields) bytes → Spells (entry_of (r.make fields)) bytes
+
+-- rows, each tied to the packets that it makes; a family is a row for each of several ids
 pub data Rows (P : Type 0) (entry_of : P → Entry P) : Type 1 where
   no_more : Rows P entry_of
-  row : (r : Row P) → ((fields : r.Fields) (bytes : List ℕ) → Spells (of_row r fields) bytes → Spells (entry_of (r.make fields)) bytes) → Rows P entry_of → Rows P entry_of
+  row : (r : Row P) → IsRowOf entry_of r → Rows P entry_of → Rows P entry_of
+  family : (is_member : ℕ → Bool) (r : ℕ → Row P) → ((id : ℕ) → (r id).id ≡ id) → ((id : ℕ) → IsRowOf entry_of (r id)) → Rows P entry_of → Rows P entry_of
 
 -- the fields of one row
 abbrev pub fields_read : {P : Type 0} → Row P → List ℕ → Field P
@@ -101,10 +110,20 @@ abbrev pub is_id : ℤ → ℕ → Bool
 is_id (pos n) id = n == id
 is_id (negsuc n) id = false
 
+-- an id that a family has
+abbrev pub is_one_of : (ℕ → Bool) → ℤ → Bool
+is_one_of is_member (pos n) = is_member n
+is_one_of is_member (negsuc n) = false
+
+abbrev pub size_of : ℤ → ℕ
+size_of (pos n) = n
+size_of (negsuc n) = n
+
 -- the fields of the row of an id
 abbrev pub id_read : {P : Type 0} {entry_of : P → Entry P} → Rows P entry_of → ℤ → List ℕ → Result (P × List ℕ) RowFault
 id_read no_more id bytes = Err (faults.UnknownId id)
 id_read (row r tied rows) id bytes = if is_id id r.id then lifted (fields_read r bytes) else id_read rows id bytes
+id_read (family is_member r ids tied rows) id bytes = if is_one_of is_member id then lifted (fields_read (r (size_of id)) bytes) else id_read rows id bytes
 
 -- a packet with nothing after it
 abbrev pub whole : {P : Type 0} → P → List ℕ → Result P RowFault
@@ -133,11 +152,15 @@ is_id-true : (id : ℤ) (n : ℕ) → is_id id n ≡ true → id ≡ pos n
 is_id-true (pos m) n e = ap pos (eqb-true m n e)
 is_id-true (negsuc m) n e = absurd cc
 
+pub is_one_of-true : (is_member : ℕ → Bool) (id : ℤ) → is_one_of is_member id ≡ true → id ≡ pos (size_of id)
+is_one_of-true is_member (pos n) e = refl
+is_one_of-true is_member (negsuc n) e = absurd cc
+
 lifted_ok : {A : Type 0} (r : Field A) (x : A × List ℕ) → lifted r ≡ Ok x → r ≡ Ok x
 lifted_ok (Ok y) x e = cc
 lifted_ok (Err stop) x e = absurd cc
 
-row_picked : {P : Type 0} (entry_of : P → Entry P) (r : Row P) → ((fields : r.Fields) (bytes : List ℕ) → Spells (of_row r fields) bytes → Spells (entry_of (r.make fields)) bytes) → (bytes : List ℕ) (x : P × List ℕ) → IsBytes bytes → fields_read r bytes ≡ Ok x → Picked entry_of (pos r.id) bytes x
+row_picked : {P : Type 0} (entry_of : P → Entry P) (r : Row P) → IsRowOf entry_of r → (bytes : List ℕ) (x : P × List ℕ) → IsBytes bytes → fields_read r bytes ≡ Ok x → Picked entry_of (pos r.id) bytes x
 row_picked {P} entry_of r tied bytes x fits e =
     let p = bind_ok (r.format.read bytes) (λ (y : r.Fields × List ℕ). Ok (r.make y.0, y.1)) x e in
     let f = r.format.found bytes p.0 fits p.1 in
@@ -155,6 +178,14 @@ id_picked {P} {entry_of} (row r tied rows) id bytes x fits e = step (is_id id r.
     step true t e rest =
         let Q : ℤ → Type 0 = λ z. Picked entry_of z bytes x in
         subst Q (sym (is_id-true id r.id t)) (row_picked entry_of r tied bytes x fits (lifted_ok (fields_read r bytes) x e))
+    step false t e rest = rest e
+id_picked {P} {entry_of} (family is_member r ids tied rows) id bytes x fits e = step (is_one_of is_member id) refl e (λ h. id_picked rows id bytes x fits h)
+  where
+    step : (t : Bool) → is_one_of is_member id ≡ t → cond t (lifted (fields_read (r (size_of id)) bytes)) (id_read rows id bytes) ≡ Ok x → (id_read rows id bytes ≡ Ok x → Picked entry_of id bytes x) → Picked entry_of id bytes x
+    step true t e rest =
+        let Q : ℤ → Type 0 = λ z. Picked entry_of z bytes x in
+        let same : id ≡ pos (r (size_of id)).id = is_one_of-true is_member id t ∙ ap pos (sym (ids (size_of id))) in
+        subst Q (sym same) (row_picked entry_of (r (size_of id)) (tied (size_of id)) bytes x fits (lifted_ok (fields_read (r (size_of id)) bytes) x e))
     step false t e rest = rest e
 
 whole_ok : {P : Type 0} (p q : P) (bytes : List ℕ) → whole p bytes ≡ Ok q → (bytes ≡ []) × (p ≡ q)
@@ -192,6 +223,10 @@ IsTied {P} {entry_of} rows p = (bytes : List ℕ) → (entry_of p).row.format.re
 -- each row's packets are, by this, where the row is found under its id
 pub row_tied : {P : Type 0} (r : Row P) (fields : r.Fields) (bytes : List ℕ) → r.format.read bytes ≡ Ok (fields, []) → lifted (fields_read r bytes) ≡ Ok (r.make fields, [])
 row_tied r fields bytes h = rw h refl
+
+-- each packet of a family is, where the family has its id
+pub family_tied : {P : Type 0} {entry_of : P → Entry P} (is_member : ℕ → Bool) (r : ℕ → Row P) (ids : (id : ℕ) → (r id).id ≡ id) (tied : (id : ℕ) → IsRowOf entry_of (r id)) (rows : Rows P entry_of) (id : ℕ) (fields : (r id).Fields) (bytes : List ℕ) → is_member id ≡ true → (r id).format.read bytes ≡ Ok (fields, []) → id_read (family is_member r ids tied rows) (pos id) bytes ≡ Ok ((r id).make fields, [])
+family_tied is_member r ids tied rows id fields bytes member h = rw (member, h) refl
 
 pub frame_only : {P : Type 0} {entry_of : P → Entry P} (rows : Rows P entry_of) (p : P) (frame : List ℕ) → IsTied rows p → Spells (entry_of p) frame → frame_read rows frame ≡ Ok p
 unfolding frame_read

@@ -25,3 +25,10 @@ kept_more old now more h =
 -- where nothing was written yet
 pub kept_whole : (old : List ℕ) → take (length old) old ≡ old
 kept_whole old = take-length old
+
+-- where the last part was not written, and where one more was
+pub kept_same : (start now new : List ℕ) → new ≡ now → take (length start) now ≡ start → take (length start) new ≡ start
+kept_same start now new e h = ap (take (length start)) e ∙ h
+
+pub kept_by : (start now new more : List ℕ) → new ≡ now ++ more → take (length start) now ≡ start → take (length start) new ≡ start
+kept_by start now new more e h = ap (take (length start)) e ∙ kept_more start now more h

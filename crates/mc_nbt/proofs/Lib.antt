@@ -3,3 +3,4 @@ pub mod Kept
 pub mod Alike
 pub mod Fit
 pub mod Written
+pub mod Appends

@@ -3,12 +3,15 @@ pub mod Format
 pub mod Combine
 pub mod Optional
 pub mod Making
+pub mod Variant
 pub mod Rest
 pub mod Numbers
 pub mod Sixteen
 pub mod Placed
 pub mod Signed
 pub mod Times
+pub mod Many
+pub mod Until
 pub mod Tree
 pub mod TreeCode
 pub mod TagView

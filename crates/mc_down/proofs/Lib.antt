@@ -1,0 +1,2 @@
+pub mod DownLaws
+pub mod Begun

@@ -1,0 +1,12 @@
+use Rattle.std.proofs.Common.{rules, ◌≡◌, get_or}
+use Rattle.mc_nbt.specs.Format.{Anything}
+use Rattle.mc_nbt.proofs.Appends.{AllFit-at, writing_next, writing_done}
+use Rattle.mc_slots.specs.SlotFormat.{slot}
+use Rattle.mc_down.proofs.counted.append_slots.Goals as goal
+
+pub loop-item-preserved : goal.loop-item-preserved
+loop-item-preserved c =
+    writing_next (slot {Rest = Anything}) c.args.items.now c.loop-item.item-index c.item-item.result c.args.out.now.items c.loop-item.out.items c.write_slot.new.out.items c.loop-item-test.true (search rules) c.loop-item.invariant
+
+pub returns-clause-ok : goal.returns-clause-ok
+returns-clause-ok c = writing_done (slot {Rest = Anything}) c.args.items.now c.loop-item.item-index c.args.out.now.items c.loop-item.out.items c.loop-item-test.false c.loop-item.invariant

@@ -1,0 +1,10 @@
+use Rattle.mc_nbt.specs.Format.{Anything}
+use Rattle.mc_nbt.specs.Placed.{PlacedGives-found, PlacedGives-only}
+use Rattle.mc_down.specs.Metadata.{SpellsMeta, meta_read, metadata}
+use Rattle.mc_down.proofs.metadata.read_meta.Goals as goal
+
+pub returns-clause-found : goal.returns-clause-found
+returns-clause-found c = PlacedGives-found (λ read. read) SpellsMeta meta_read (metadata {Rest = Anything}).found c.args.bytes.now c.args.at c.meta_from.result (λ i. (c.type_inv.bytes i).fits) c.requires c.meta_from.ensures
+
+pub returns-clause-only : goal.returns-clause-only
+returns-clause-only c value end s = PlacedGives-only (λ read. read) SpellsMeta meta_read (metadata {Rest = Anything}).only c.args.bytes.now c.args.at c.meta_from.result value end c.meta_from.ensures s

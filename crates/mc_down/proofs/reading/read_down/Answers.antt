@@ -1,0 +1,11 @@
+use Rattle.std.proofs.Common.{rules}
+use Rattle.mc_fields.specs.Row.{packet_found, packet_only}
+use Rattle.mc_down.specs.Down.{rows, SpellsDown}
+use Rattle.mc_down.proofs.DownLaws.{tied, seen, entry}
+use Rattle.mc_down.proofs.reading.read_down.Goals as goal
+
+pub returns-clause-found : goal.returns-clause-found
+returns-clause-found c = packet_found rows SpellsDown seen c.args.frame.now c.map_err.result (λ i. (c.type_inv.frame i).fits) (search rules)
+
+pub returns-clause-only : goal.returns-clause-only
+returns-clause-only c packet s = packet_only rows packet c.args.frame.now c.map_err.result (tied packet) (entry packet c.args.frame.now s) (search rules)
