@@ -1,5 +1,5 @@
 -- The edits that kept columns stand for, looked up at one cell.
-use Rattle.std.proofs.Common.{◌≡◌, nat_lt, ◌&&◌, ℕ, zero, suc, ◌+◌, ◌<◌, ◌≤◌, Bool, true, false, cond, not, eqb, List, [], ◌∷◌, ◌++◌, map, get_or, Option, Some, None, refl, sym, ap, ◌∙◌, arith, inl, inr}
+use Rattle.std.proofs.Common.{◌≡◌, nat_lt, ◌&&◌, ℕ, zero, suc, ◌+◌, ◌<◌, ◌≤◌, Bool, true, false, cond, List, [], ◌∷◌, ◌++◌, map, get_or, Option, Some, None, refl, sym, ap, ◌∙◌, arith, inl, inr}
 use Rattle.std.specs.declared.cmp.Ordering.TheVariants.{Less, Equal, Greater}
 use Rattle.std.specs.Ordering.{nat_cmp, is_eq, eq_by_cmp, ordering_then}
 use Rattle.std.specs.Cmp.{tied_itself, nat_cmp_total}
@@ -8,21 +8,20 @@ use Rattle.std.specs.declared.cmp.Ordering.{Ordering}
 use Rattle.std.proofs.lemmas.Map.Lookups.{exact_unsigned}
 use Rattle.std.specs.Option.{option_or}
 use Rattle.std.specs.List.{filter, flat_map, range_with_len}
-use Rattle.std.specs.FinMap.{FinMap, find, get, from_entries, get-from_entries}
+use Rattle.std.specs.FinMap.{find, get, get-from_entries}
 use Rattle.mc_column.specs.Sizes.{cells}
 use Rattle.mc_land.specs.declared.terrain.Terrain.{Terrain}
 use Rattle.mc_land.specs.Places.{Place, Key, place_cmp, key_cmp}
-use Rattle.mc_land.specs.Land.{terrain_at}
 use Rattle.mc_land.specs.Kept.{is_changed, changes, kept_edits, IsApart}
-use Rattle.mc_land.proofs.Orders.{places_total, keys_total, exact_places, exact_keys}
+use Rattle.mc_land.proofs.Orders.{places_total, keys_total, exact_places}
 
 -- looking up in two lists, one after the other
 pub find_append : (q : Key) (xs ys : List (Key × ℕ)) → find key_cmp q (xs ++ ys) ≡ option_or (find key_cmp q xs) (find key_cmp q ys)
 find_append q [] ys = refl
 find_append q (x ∷ xs) ys = elim (eq_by_cmp key_cmp q x.0) as (λ b. cond b (Some x.1) (find key_cmp q (xs ++ ys)) ≡ option_or (cond b (Some x.1) (find key_cmp q xs)) (find key_cmp q ys)) [
-    | true ↦ refl
-    | false ↦ find_append q xs ys
-  ]
+  | true ↦ refl
+  | false ↦ find_append q xs ys
+]
 
 key_at : Place → ℕ → Key
 key_at c i = (c, i)
@@ -33,10 +32,10 @@ same_column c i j = ap (λ o. is_eq (ordering_then o (nat_cmp i j))) (tied_itsel
 
 pub other_column : (c d : Place) (i j : ℕ) → eq_by_cmp place_cmp c d ≡ false → eq_by_cmp key_cmp (c, i) (d, j) ≡ false
 other_column c d i j = elim (place_cmp c d) as (λ o. is_eq o ≡ false → is_eq (ordering_then o (nat_cmp i j)) ≡ false) [
-    | Less ↦ λ e. refl
-    | Equal ↦ λ e. absurd cc
-    | Greater ↦ λ e. refl
-  ]
+  | Less ↦ λ e. refl
+  | Equal ↦ λ e. absurd cc
+  | Greater ↦ λ e. refl
+]
 
 -- entries of a column at some of the indices from a on
 abbrev listed : Place → (ℕ → Bool) → (ℕ → ℕ) → List ℕ → List (Key × ℕ)
@@ -46,19 +45,19 @@ listed c test state indices = map (λ i. ((c, i), state i)) (filter test indices
 pub found_elsewhere : (c d : Place) (test : ℕ → Bool) (state : ℕ → ℕ) (i : ℕ) (indices : List ℕ) → eq_by_cmp place_cmp c d ≡ false → find key_cmp (c, i) (listed d test state indices) ≡ None
 found_elsewhere c d test state i [] apart = refl
 found_elsewhere c d test state i (j ∷ js) apart = elim (test j) as (λ b. find key_cmp (c, i) (map (λ k. ((d, k), state k)) (cond b (j ∷ filter test js) (filter test js))) ≡ None) [
-    | true ↦ rw (other_column c d i j apart) (found_elsewhere c d test state i js apart)
-    | false ↦ found_elsewhere c d test state i js apart
-  ]
+  | true ↦ rw (other_column c d i j apart) (found_elsewhere c d test state i js apart)
+  | false ↦ found_elsewhere c d test state i js apart
+]
 
 pub nat_cmp_same : (i : ℕ) → is_eq (nat_cmp i i) ≡ true
 nat_cmp_same i = ap is_eq (tied_itself nat_cmp_total i)
 
 pub nat_cmp_other : (i j : ℕ) → (i ≡ j → ⊥) → is_eq (nat_cmp i j) ≡ false
 nat_cmp_other i j ne = elim (nat_cmp i j) as (λ o. nat_cmp i j ≡ o → is_eq o ≡ false) [
-    | Less ↦ λ e. refl
-    | Equal ↦ λ e. absurd (ne (exact_unsigned i j e))
-    | Greater ↦ λ e. refl
-  ] refl
+  | Less ↦ λ e. refl
+  | Equal ↦ λ e. absurd (ne (exact_unsigned i j e))
+  | Greater ↦ λ e. refl
+] refl
 
 -- of the same column none is found where the index is not listed, or does not pass
 pub found_none : (c : Place) (test : ℕ → Bool) (state : ℕ → ℕ) (i a n : ℕ) → (a ≤ i → i < a + n → test i ≡ false) → find key_cmp (c, i) (listed c test state (range_with_len a n)) ≡ None

@@ -1,15 +1,15 @@
 -- A column that grows layer by layer is the terrain's own.
-use Rattle.std.proofs.Common.{◌≡◌, ℕ, zero, suc, ◌+◌, ◌*◌, ◌-◌, ◌/◌, ◌%◌, ◌<◌, ◌≤◌, Bool, true, false, nat_lt, List, length, map, get_or, refl, sym, ap, ◌∙◌, arith, inl, inr}
+use Rattle.std.proofs.Common.{◌≡◌, ℕ, zero, suc, ◌+◌, ◌*◌, ◌-◌, ◌/◌, ◌%◌, ◌<◌, true, false, List, length, map, get_or, refl, sym, ap, ◌∙◌, arith, inl, inr}
 use Rattle.std.proofs.lemmas.Int.{ints}
 use Rattle.std.proofs.lemmas.List.{ext_get_or}
 use Rattle.std.proofs.lemmas.List.FromFn.{get_or-map-range_with_len, length-map-range_with_len}
-use Rattle.std.proofs.lemmas.Bool.{cases_lt, ltb-false, lt-ltb, le-ltb}
+use Rattle.std.proofs.lemmas.Bool.{cases_lt, lt-ltb, le-ltb}
 use Rattle.std.specs.List.{range_with_len}
 use Rattle.mc_column.specs.Sizes.{cells, squares, squares-is, cells-is}
 use Rattle.mc_land.specs.declared.terrain.Terrain.{Terrain}
 use Rattle.mc_land.specs.declared.terrain.Terrain.TheVariants.{Flat, Hills, Isle}
 use Rattle.mc_land.specs.Places.{Place, x_of, y_of, z_of}
-use Rattle.mc_land.specs.Terrain.{height, flat_id, hills_id, isle_id, is_within_16}
+use Rattle.mc_land.specs.Terrain.{flat_id, hills_id, isle_id, is_within_16}
 use Rattle.mc_land.specs.Land.{terrain_at}
 use Rattle.mc_land.specs.Grown.{AppendsLayer, AreTops, x_at, z_at}
 use lib.IntN.{ℤ, pos, negsuc, ◌+ℤ◌, ◌*ℤ◌}
@@ -43,21 +43,21 @@ flat_layer place y old new layer = layer_same old new (λ _. flat_id y * 16) (λ
 pub hills_layer : (seed : ℕ) (place : Place) (y : ℕ) (tops old new : List ℕ) → AreTops (Hills seed) place tops → AppendsLayer old new (λ i. hills_id (get_or tops i 0) y * 16) → AppendsLayer old new (λ i. terrain_at (Hills seed) (place, y * squares + i))
 hills_layer seed place y tops old new are layer =
     layer_same old new (λ i. hills_id (get_or tops i 0) y * 16) (λ i. terrain_at (Hills seed) (place, y * squares + i)) layer (λ i lt.
-      rw (are.at seed i refl lt, layer_x place y i lt, layer_y place y i lt, layer_z place y i lt) refl)
+    rw (are.at seed i refl lt, layer_x place y i lt, layer_y place y i lt, layer_z place y i lt) refl)
 
 -- ---- all layers
 
 pub layers_more : (terrain : Terrain) (place : Place) (y : ℕ) (old new : List ℕ) → length old ≡ y * squares → ((k : ℕ) → k < length old → get_or old k 0 ≡ terrain_at terrain (place, k)) → AppendsLayer old new (λ i. terrain_at terrain (place, y * squares + i)) → (length new ≡ (y + 1) * squares) × ((k : ℕ) → k < length new → get_or new k 0 ≡ terrain_at terrain (place, k))
 layers_more terrain place y old new len own layer = (
-    more (length new) (length old) y squares layer.len len,
-    λ k lt. elim (cases_lt k (length old)) [
-      | inl below ↦ layer.kept k below ∙ own k below
-      | inr above ↦
-          let there : length old + (k - length old) ≡ k = omega arith in
-          let index : y * squares + (k - length old) ≡ k = ap (λ (n : ℕ). n + (k - length old)) (sym len) ∙ there in
-          ap (λ (n : ℕ). get_or new n 0) (sym there) ∙ layer.layer (k - length old) (omega (arith, layer.len)) ∙ ap (λ (n : ℕ). terrain_at terrain (place, n)) index
-    ],
-  )
+  more (length new) (length old) y squares layer.len len,
+  λ k lt. elim (cases_lt k (length old)) [
+    | inl below ↦ layer.kept k below ∙ own k below
+    | inr above ↦
+        let there : length old + (k - length old) ≡ k = omega arith in
+        let index : y * squares + (k - length old) ≡ k = ap (λ (n : ℕ). n + (k - length old)) (sym len) ∙ there in
+        ap (λ (n : ℕ). get_or new n 0) (sym there) ∙ layer.layer (k - length old) (omega (arith, layer.len)) ∙ ap (λ (n : ℕ). terrain_at terrain (place, n)) index
+  ],
+)
   where
     more : (a b y n : ℕ) → a ≡ b + n → b ≡ y * n → a ≡ (y + 1) * n
     more a b y n e f = grind arith
@@ -91,6 +91,6 @@ isle_same x z v w y e f = rw (e, f) refl
 pub isle_layer : (place : Place) (y : ℕ) (old new : List ℕ) → AppendsLayer old new (λ _. isle_id (place.0 *ℤ pos 16 +ℤ pos 0) y (place.1 *ℤ pos 16 +ℤ pos 0) * 16) → AppendsLayer old new (λ i. terrain_at Isle (place, y * squares + i))
 isle_layer place y old new layer =
     layer_same old new (λ _. isle_id (place.0 *ℤ pos 16 +ℤ pos 0) y (place.1 *ℤ pos 16 +ℤ pos 0) * 16) (λ i. terrain_at Isle (place, y * squares + i)) layer (λ i lt.
-      let small : i < 256 = omega (arith, squares-is) in
-      rw (layer_x place y i lt, layer_y place y i lt, layer_z place y i lt)
-        (isle_same (place.0 *ℤ pos 16 +ℤ pos 0) (place.1 *ℤ pos 16 +ℤ pos 0) (x_at place i) (z_at place i) y (within_all place.0 0 (i % 16) (omega arith) (omega arith)) (within_all place.1 0 (i / 16) (omega arith) (omega arith))))
+    let small : i < 256 = omega (arith, squares-is) in
+    rw (layer_x place y i lt, layer_y place y i lt, layer_z place y i lt)
+    (isle_same (place.0 *ℤ pos 16 +ℤ pos 0) (place.1 *ℤ pos 16 +ℤ pos 0) (x_at place i) (z_at place i) y (within_all place.0 0 (i % 16) (omega arith) (omega arith)) (within_all place.1 0 (i / 16) (omega arith) (omega arith))))

@@ -1,20 +1,18 @@
 -- What happens to the edits where a column is made ready and where a cell of one is set.
-use Rattle.std.proofs.Common.{◌≡◌, ℕ, zero, suc, ◌+◌, ◌<◌, ◌≤◌, nat_lt, ◌&&◌, Bool, true, false, cond, not, eqb, List, [], ◌∷◌, length, map, get_or, set, Option, Some, None, refl, sym, subst, ap, ◌∙◌, arith, inl, inr}
+use Rattle.std.proofs.Common.{◌≡◌, ℕ, ◌<◌, nat_lt, ◌&&◌, Bool, true, false, cond, not, eqb, List, length, get_or, set, Option, Some, None, refl, sym, subst, ◌∙◌, inl, inr}
 use Rattle.std.specs.declared.cmp.Ordering.{Ordering}
 use Rattle.std.specs.declared.cmp.Ordering.TheVariants.{Less, Equal, Greater}
-use Rattle.std.specs.Ordering.{nat_cmp, is_eq, eq_by_cmp, ordering_then}
-use Rattle.std.specs.Cmp.{tied_itself}
+use Rattle.std.specs.Ordering.{is_eq, eq_by_cmp}
 use Rattle.std.specs.Option.{unwrap_or}
-use Rattle.std.specs.List.{range_with_len}
 use Rattle.std.specs.FinMap.{FinMap, find, get, insert, remove, get-insert, get-remove, same_map}
-use Rattle.std.proofs.lemmas.Bool.{cases_eq, ltb-true, ltb-false, lt-ltb, eqb-true, eq-eqb}
+use Rattle.std.proofs.lemmas.Bool.{cases_eq, ltb-true, lt-ltb, eqb-true, eq-eqb}
 use Rattle.std.proofs.lemmas.List.{get_or-set_same, get_or-set_other}
 use Rattle.mc_column.specs.Sizes.{cells}
 use Rattle.mc_land.specs.declared.terrain.Terrain.{Terrain}
 use Rattle.mc_land.specs.Places.{Place, Key, place_cmp, key_cmp}
 use Rattle.mc_land.specs.Land.{terrain_at, state_at, edited}
 use Rattle.mc_land.specs.Kept.{is_changed, kept_edits, IsApart}
-use Rattle.mc_land.proofs.Orders.{places_total, keys_total, exact_places, exact_keys}
+use Rattle.mc_land.proofs.Orders.{keys_total, exact_places, exact_keys}
 use Rattle.mc_land.proofs.EditsFacts.{changed_at, get_kept, same_column, other_column, nat_cmp_same, nat_cmp_other}
 
 abbrev Columns : Type 0
@@ -71,8 +69,8 @@ by_place P old new c d states puts here elsewhere =
 pub ready_edits : (terrain : Terrain) (old new : Columns) (c : Place) (states : List ℕ) → IsApart old → IsApart new → find place_cmp c old ≡ None → Puts old new c states → ((j : ℕ) → j < cells → get_or states j 0 ≡ terrain_at terrain (c, j)) → kept_edits terrain new ≡ kept_edits terrain old
 ready_edits terrain old new c states apart apart' none puts own =
     same_edits terrain old new apart apart' (λ d i. by_place (λ o. changed_at terrain d i o ≡ changed_at terrain d i (find place_cmp d old)) old new c d states puts
-      (λ e. rw (e, none) (none_changed terrain c i states own))
-      (λ t. refl))
+    (λ e. rw (e, none) (none_changed terrain c i states own))
+    (λ t. refl))
 
 -- ---- a cell is set
 
@@ -103,14 +101,14 @@ set_other terrain c i j state states ne = rw (get_or-set_other states i j state 
 pub set_edits : (terrain : Terrain) (old new : Columns) (c : Place) (i state : ℕ) (states : List ℕ) → IsApart old → IsApart new → find place_cmp c old ≡ Some states → Puts old new c (set states i state) → i < cells → i < length states → kept_edits terrain new ≡ edited terrain (kept_edits terrain old) (c, i) state
 set_edits terrain old new c i state states apart apart' found puts inside within =
     same_map keys_total exact_keys (kept_edits terrain new) (edited terrain (kept_edits terrain old) (c, i) state) (λ q.
-      get_kept terrain new q.0 q.1 apart'
-      ∙ by_place (λ o. changed_at terrain q.0 q.1 o ≡ cond (eq_by_cmp key_cmp q (c, i)) (becomes terrain (c, i) state) (get (kept_edits terrain old) q)) old new c q.0 (set states i state) puts
-          (λ e. in_column q.0 q.1 e)
-          (λ t. rw (other_column q.0 c q.1 i t) (sym (get_kept terrain old q.0 q.1 apart)))
-      ∙ sym (get_edited terrain (kept_edits terrain old) (c, i) q state))
+    get_kept terrain new q.0 q.1 apart'
+    ∙ by_place (λ o. changed_at terrain q.0 q.1 o ≡ cond (eq_by_cmp key_cmp q (c, i)) (becomes terrain (c, i) state) (get (kept_edits terrain old) q)) old new c q.0 (set states i state) puts
+    (λ e. in_column q.0 q.1 e)
+    (λ t. rw (other_column q.0 c q.1 i t) (sym (get_kept terrain old q.0 q.1 apart)))
+    ∙ sym (get_edited terrain (kept_edits terrain old) (c, i) q state))
   where
     in_column : (d : Place) (j : ℕ) → d ≡ c → changed_at terrain d j (Some (set states i state)) ≡ cond (eq_by_cmp key_cmp (d, j) (c, i)) (becomes terrain (c, i) state) (get (kept_edits terrain old) (d, j))
     in_column d j e = rw (e, same_column c j i) (elim (cases_eq j i) [
-        | inl same ↦ rw (same, nat_cmp_same i) (set_here terrain c i state states inside within)
-        | inr ne ↦ rw (nat_cmp_other j i ne) (set_other terrain c i j state states ne ∙ sym (get_kept terrain old c j apart ∙ rw found refl))
-      ])
+      | inl same ↦ rw (same, nat_cmp_same i) (set_here terrain c i state states inside within)
+      | inr ne ↦ rw (nat_cmp_other j i ne) (set_other terrain c i j state states ne ∙ sym (get_kept terrain old c j apart ∙ rw found refl))
+    ])

@@ -1,4 +1,5 @@
 mod Orders
+mod ChestFacts
 mod EditsFacts
 mod LandFacts
 mod GrownFacts

@@ -2,7 +2,7 @@
 use Rattle.std.specs.Prelude.{◌≡◌, ℕ, ◌<◌, List, map, length, slice_index_or, Some}
 use Rattle.std.specs.Option.{is_some}
 use Rattle.std.specs.List.Sorted.{IsStrictlySortedBy}
-use Rattle.std.specs.FinMap.{FinMap, find, from_entries}
+use Rattle.std.specs.FinMap.{find, from_entries}
 use Rattle.std.specs.FinSet as set
 use Rattle.mc_slots.specs.declared.pile.Pile.{Pile}
 use Rattle.mc_column.specs.Sizes.{cells}

@@ -4,7 +4,6 @@ use Rattle.std.specs.Coded.{Coded, code_by, coded×, coded_ℕ, coded_ℤ, coded
 use lib.IntN.{ℤ}
 use Rattle.std.specs.FinMap as map
 use Rattle.std.specs.FinSet as set
-use Rattle.mc_slots.specs.declared.pile.Item.{Item}
 use Rattle.mc_slots.specs.declared.pile.Pile.{Pile}
 use Rattle.mc_slots.specs.declared.pile.Pile.TheVariants.{Empty, Full}
 use Rattle.mc_land.specs.declared.terrain.Terrain.{Terrain}
@@ -60,5 +59,5 @@ coded_stored = coded× coded_terrain (coded× (map.code coded_key coded_ℕ) (co
 abbrev pub coded_land : Coded LandValue
 coded_land =
     code_by Stored coded_stored (λ land. (land.terrain, (land.edits, (land.settled, (land.chests, land.ready)))))
-      (λ parts. record { terrain = parts.0; edits = parts.1.0; settled = parts.1.1.0; chests = parts.1.1.1.0; ready = parts.1.1.1.1 })
-      (λ land. refl)
+    (λ parts. record { terrain = parts.0; edits = parts.1.0; settled = parts.1.1.0; chests = parts.1.1.1.0; ready = parts.1.1.1.1 })
+    (λ land. refl)

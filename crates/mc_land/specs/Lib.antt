@@ -1,3 +1,4 @@
+pub mod Chests
 pub mod Grown
 pub mod Kept
 pub mod KeptLand

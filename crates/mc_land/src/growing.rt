@@ -125,7 +125,13 @@ fn isle_state(place: &Place, y: u8) -> u16
 }
 
 /// Appends layer `y` of a column.
-fn push_layer(terrain: &Terrain, tops: &[u16], place: &Place, y: u8, out: &mut Vec<u16>) -> Result<(), NoMemory>
+fn push_layer(
+    terrain: &Terrain,
+    tops: &[u16],
+    place: &Place,
+    y: u8,
+    out: &mut Vec<u16>,
+) -> Result<(), NoMemory>
     requires place { IsPlace place.now }
     requires tops { AreTops terrain.now place.now tops.now }
     ensures { OnOk result (AppendsLayer out.old.items out.new.items (λ i. terrain_at terrain.now (place.now, y * squares + i))) }
@@ -139,7 +145,12 @@ fn push_layer(terrain: &Terrain, tops: &[u16], place: &Place, y: u8, out: &mut V
 }
 
 /// The states of a column, from the lowest layer up.
-fn states_of(alloc: Global, terrain: &Terrain, tops: &[u16], place: &Place) -> Result<Vec<u16>, NoMemory>
+fn states_of(
+    alloc: Global,
+    terrain: &Terrain,
+    tops: &[u16],
+    place: &Place,
+) -> Result<Vec<u16>, NoMemory>
     requires place { IsPlace place.now }
     requires tops { AreTops terrain.now place.now tops.now }
     ensures { IfOk result (λ states. states.items ≡ map (λ i. terrain_at terrain.now (place.now, i)) (range_with_len 0 cells)) }

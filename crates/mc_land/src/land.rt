@@ -10,6 +10,8 @@ ghost use Rattle.mc_land.specs.Terrain.{terrain_state};
 ghost use Rattle.mc_land.specs.KeptLand.{placed, IsIndexed};
 ghost use Rattle.mc_land.specs.Land.{block, column_of, dirty_in, new_land};
 
+mod chests;
+
 use crate::places::{Place, height_of, place_of, x_inside, z_inside};
 use crate::ready::{Ready, Touched};
 use crate::sizes::cells_of_column;
@@ -132,7 +134,11 @@ impl Land {
 }
 
 /// The ready column of a place.
-fn ready_at<'a>(columns: &'a Vec<Ready>, index: &BTreeMap<Place, usize>, place: &Place) -> Option<&'a Ready>
+fn ready_at<'a>(
+    columns: &'a Vec<Ready>,
+    index: &BTreeMap<Place, usize>,
+    place: &Place,
+) -> Option<&'a Ready>
     requires { IsIndexed columns.now.items index.now.entries }
     ensures { option_copied result ≡ find place_cmp place.now (placed columns.now.items) }
 {

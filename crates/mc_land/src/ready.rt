@@ -110,7 +110,7 @@ impl Ready {
 }
 
 /// The index of a cell in its column.
-fn index_of(x: u8, y: u8, z: u8) -> u16
+pub(crate) fn index_of(x: u8, y: u8, z: u8) -> u16
     requires x_inside { x < 16 }
     requires z_inside { z < 16 }
     ensures { result ≡ cell_index x y z }
