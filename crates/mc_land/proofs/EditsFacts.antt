@@ -38,7 +38,7 @@ other_column c d i j = elim (place_cmp c d) as (λ o. is_eq o ≡ false → is_e
 ]
 
 -- entries of a column at some of the indices from a on
-abbrev listed : Place → (ℕ → Bool) → (ℕ → ℕ) → List ℕ → List (Key × ℕ)
+abbrev pub listed : Place → (ℕ → Bool) → (ℕ → ℕ) → List ℕ → List (Key × ℕ)
 listed c test state indices = map (λ i. ((c, i), state i)) (filter test indices)
 
 -- of another column none is found

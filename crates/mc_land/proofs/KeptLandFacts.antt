@@ -1,33 +1,39 @@
 -- What is looked up in a land that is kept as columns.
-use Rattle.std.proofs.Common.{◌≡◌, ℕ, zero, suc, ◌<◌, true, false, cond, List, [], ◌∷◌, length, map, get_or, Some, None, refl, sym, ap, ◌∙◌, arith}
+use Rattle.std.proofs.Common.{◌≡◌, ℕ, zero, suc, ◌+◌, ◌*◌, ◌/◌, ◌%◌, ◌<◌, ◌≤◌, Bool, true, false, cond, not, eqb, List, [], ◌∷◌, length, map, get_or, Option, Some, None, refl, sym, subst, ap, ◌∙◌, arith, inl, inr}
 use Rattle.std.specs.declared.cmp.Ordering.{Ordering}
 use Rattle.std.specs.declared.cmp.Ordering.TheVariants.{Less, Equal, Greater}
 use Rattle.std.specs.Ordering.{is_eq, eq_by_cmp}
-use Rattle.std.specs.Option.{option_map}
+use Rattle.std.specs.Option.{option_map, is_some}
 use Rattle.std.specs.Map.{lookup}
-use Rattle.std.specs.FinMap.{find}
-use Rattle.mc_land.specs.Places.{Place, place_cmp}
-use Rattle.mc_land.specs.KeptLand.{placed, IsIndexed}
+use Rattle.std.specs.List.{AllByRecursion}
+use Rattle.std.specs.List.Sorted.{IsStrictlySortedBy}
+use Rattle.std.specs.FinMap.{FinMap, find}
+use Rattle.mc_column.specs.Sizes.{cells, squares, cells-is}
+use Rattle.mc_land.specs.declared.terrain.Terrain.{Terrain}
+use Rattle.mc_land.specs.Places.{Place, Key, place_cmp, key_cmp}
+use Rattle.mc_land.specs.Land.{terrain_at, state_at}
+use Rattle.mc_land.specs.KeptLand.{Columns, placed, IsIndexed}
 use Rattle.mc_land.specs.Ready.{ReadyValue}
 use Rattle.mc_land.specs.Kept.{IsApart}
-use Rattle.std.specs.Cmp.{tied_itself}
+use Rattle.std.specs.Cmp.{tied_itself, eq_by_cmp_equiv}
 use Rattle.mc_land.proofs.Orders.{places_total, exact_places}
 
 -- a tree's look-up is the first entry of the key
 pub lookup_is : {K X : Type 0} (R : K → K → Ordering) (q : K) (es : List (K × X)) → lookup (λ k. is_eq (R q k)) es ≡ find R q es
 lookup_is R q [] = refl
 lookup_is R q (e ∷ es) = elim (is_eq (R q e.0)) as (λ b. cond b (Some e.1) (lookup (λ k. is_eq (R q k)) es) ≡ cond b (Some e.1) (find R q es)) [
-  | true ↦ refl
-  | false ↦ lookup_is R q es
-]
+    | true ↦ refl
+    | false ↦ lookup_is R q es
+  ]
 
 -- what is looked at in the column that is found
 pub find_map : {X Y : Type 0} (f : X → Y) (q : Place) (es : List (Place × X)) → find place_cmp q (map (λ e. (e.0, f e.1)) es) ≡ option_map f (find place_cmp q es)
 find_map f q [] = refl
 find_map f q (e ∷ es) = elim (eq_by_cmp place_cmp q e.0) as (λ b. cond b (Some (f e.1)) (find place_cmp q (map (λ e. (e.0, f e.1)) es)) ≡ option_map f (cond b (Some e.1) (find place_cmp q es))) [
-  | true ↦ refl
-  | false ↦ find_map f q es
-]
+    | true ↦ refl
+    | false ↦ find_map f q es
+  ]
+
 
 -- columns stay apart, whatever is looked at in them
 pub apart : {X Y : Type 0} (f : X → Y) (es : List (Place × X)) → IsApart es → IsApart (map (λ e. (e.0, f e.1)) es)
@@ -69,12 +75,18 @@ same_index a b e = cc
 pub found_indexed : (q : Place) (columns : List ReadyValue) (index : List (Place × ℕ)) (i : ℕ) (d : ReadyValue) → IsIndexed columns index → find place_cmp q index ≡ Some i → find place_cmp q (placed columns) ≡ Some (get_or columns i d)
 found_indexed q columns index i d is e =
     found_first q columns i d (is.listed q i e) (is.placed_at q i d e) (λ j lt same.
-    let there : find place_cmp q index ≡ Some j = ap (λ (p : Place). find place_cmp p index) (sym same) ∙ is.indexed j d (omega (arith, is.listed q i e)) in
-    absurd (omega (arith, same_index j i (sym there ∙ e))))
+      let there : find place_cmp q index ≡ Some j = ap (λ (p : Place). find place_cmp p index) (sym same) ∙ is.indexed j d (omega (arith, is.listed q i e)) in
+      absurd (omega (arith, same_index j i (sym there ∙ e))))
 
 pub found_unindexed : (q : Place) (columns : List ReadyValue) (index : List (Place × ℕ)) → IsIndexed columns index → find place_cmp q index ≡ None → find place_cmp q (placed columns) ≡ None
 found_unindexed q [] index is e = refl
 found_unindexed q (d ∷ ds) index is e =
     found_nowhere q (d ∷ ds) d (λ j lt same.
-    let there : find place_cmp q index ≡ Some j = ap (λ (p : Place). find place_cmp p index) (sym same) ∙ is.indexed j d lt in
-    let none : None ≡ Some j = sym e ∙ there in absurd cc)
+      let there : find place_cmp q index ≡ Some j = ap (λ (p : Place). find place_cmp p index) (sym same) ∙ is.indexed j d lt in
+      let none : None ≡ Some j = sym e ∙ there in absurd cc)
+
+-- what a tree's insert says of each key
+pub inserted : {X : Type 0} (old new : List (Place × X)) (k key q : Place) (v value : X) → lookup (λ y. is_eq (place_cmp q y)) new ≡ cond (is_eq (place_cmp k q)) (Some v) (lookup (λ y. is_eq (place_cmp q y)) old) → k ≡ key → v ≡ value → find place_cmp q new ≡ cond (eq_by_cmp place_cmp q key) (Some value) (find place_cmp q old)
+inserted {X} old new k key q v value h e f =
+    let turned : eq_by_cmp place_cmp k q ≡ eq_by_cmp place_cmp q key = rw e ((eq_by_cmp_equiv places_total).symm key q) in
+    sym (lookup_is place_cmp q new) ∙ h ∙ rw (turned, f, lookup_is place_cmp q old) refl

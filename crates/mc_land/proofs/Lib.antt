@@ -3,8 +3,10 @@ mod ChestFacts
 mod EditsFacts
 mod LandFacts
 mod GrownFacts
+mod SumFacts
 mod TouchedFacts
 mod TouchFacts
 mod KeptLandFacts
 mod PlaceFacts
 mod LookFacts
+mod ChangeFacts

@@ -34,10 +34,10 @@ use Rattle.mc_land.specs.Places.{x_of, y_of, z_of}
 use Rattle.mc_land.specs.Land.{is_chest}
 use Rattle.mc_land.specs.declared.terrain.Terrain.TheVariants.{Flat, Hills, Isle}
 
-abbrev present : ReadyValue → List ℕ
+abbrev pub present : ReadyValue → List ℕ
 present ready = ready.present.states
 
-abbrev settled : ReadyValue → List ℕ
+abbrev pub settled : ReadyValue → List ℕ
 settled ready = ready.settled.states
 
 -- the state of a cell of a ready column, as it is or as it was settled

@@ -8,7 +8,7 @@ use Rattle.mc_slots.specs.declared.pile.Pile.{Pile}
 use Rattle.mc_column.specs.Sizes.{cells}
 use Rattle.mc_column.specs.Cells.{HasSizes}
 use Rattle.mc_land.specs.declared.terrain.Terrain.{Terrain}
-use Rattle.mc_land.specs.Places.{Place, Key, place_cmp, key_cmp}
+use Rattle.mc_land.specs.Places.{Place, Key, IsPlace, place_cmp, key_cmp}
 use Rattle.mc_land.specs.Land.{LandValue, biomes_of, state_at, is_chest}
 use Rattle.mc_land.specs.Kept.{kept_edits, IsApart}
 use Rattle.mc_land.specs.Ready.{ReadyValue}
@@ -47,6 +47,7 @@ kept_land terrain columns chests = record {
 
 -- a ready column of its place
 pub record IsOwn (terrain : Terrain) (place : Place) (ready : ReadyValue) : Type 0 where
+  pub inside : IsPlace place
   pub present_sizes : HasSizes ready.present
   pub settled_sizes : HasSizes ready.settled
   pub biomes : ready.present.biomes ≡ biomes_of terrain place

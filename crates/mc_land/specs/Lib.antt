@@ -7,4 +7,5 @@ pub mod Land
 pub mod LandCode
 pub mod Places
 pub mod Ready
+pub mod Sums
 pub mod Terrain

@@ -1,4 +1,4 @@
-ghost use Rattle.std.specs.Prelude.{◌≡◌, ◌+◌, ◌↔◌, false, IsNone, IfSome};
+ghost use Rattle.std.specs.Prelude.{◌≡◌, ◌+◌, ◌++◌, ◌∷◌, ◌↔◌, [], None, false, map, IsNone, IfSome, OnOk, OnErr};
 ghost use lib.Signed.{◌≤ℤ◌, ◌<ℤ◌};
 ghost use lib.IntN.{pos};
 ghost use Rattle.std.specs.FinSet as set;
@@ -8,10 +8,13 @@ ghost use Rattle.std.specs.FinMap.{find};
 ghost use Rattle.mc_land.specs.Places.{IsPlace, place_cmp};
 ghost use Rattle.mc_land.specs.Terrain.{terrain_state};
 ghost use Rattle.mc_land.specs.KeptLand.{placed, IsIndexed};
-ghost use Rattle.mc_land.specs.Land.{block, column_of, dirty_in, new_land};
+ghost use Rattle.mc_land.specs.Land.{block, column_of, dirty_in, new_land, settled_land, with_ready};
+ghost use Rattle.mc_land.specs.Ready.{settled_ready};
 
 mod chests;
+mod sums;
 
+use crate::growing::grow;
 use crate::places::{Place, height_of, place_of, x_inside, z_inside};
 use crate::ready::{Ready, Touched};
 use crate::sizes::cells_of_column;
@@ -19,6 +22,7 @@ use crate::steps::Steps;
 use crate::terrain::Terrain;
 use mc_column::Column;
 use mc_fields::Cell;
+use mc_nbt::NoMemory;
 use mc_slots::Chest;
 use std::alloc::Global;
 use std::collections::BTreeMap;
@@ -131,14 +135,65 @@ impl Land {
             None => &[],
         }
     }
+
+    /// Makes a column ready. A ready column stays as it is.
+    pub fn ready(&mut self, cx: i32, cz: i32) -> Result<(), NoMemory>
+        requires { IsPlace (cx, cz) }
+        ensures ok { OnOk result (self.new ≡ with_ready self.old (cx, cz)) }
+        ensures err { OnErr result (self.new ≡ self.old) }
+    {
+        self.ready_place(&(cx, cz))
+    }
+
+    /// The same, of a place.
+    fn ready_place(&mut self, place: &Place) -> Result<(), NoMemory>
+        requires { IsPlace place.now }
+        ensures ok { OnOk result (self.new ≡ with_ready self.old place.now) }
+        ensures err { OnErr result (self.new ≡ self.old) }
+    {
+        if index_at(&self.index, place).is_some() {
+            return Ok(());
+        }
+        let alloc = *self.columns.allocator();
+        let ready = Ready::new(alloc, *place, grow(alloc, &self.terrain, place)?)?;
+        push_ready(&mut self.columns, &mut self.index, ready)?;
+        Ok(())
+    }
+
+    /// Makes the edits of now those of the last settling. It takes no memory.
+    pub fn settle(&mut self)
+        ensures { self.new ≡ settled_land self.old }
+    {
+        settle_all(&mut self.columns);
+    }
+}
+
+/// Adds a ready column of a place that has none. Without memory both are as before.
+fn push_ready(columns: &mut Vec<Ready>, index: &mut BTreeMap<Place, usize>, ready: Ready) -> Result<(), NoMemory>
+    requires indexed { IsIndexed columns.old.items index.old.entries }
+    requires new { find place_cmp ready.place index.old.entries ≡ None }
+    ensures ok { OnOk result (columns.new.items ≡ columns.old.items ++ ready ∷ []) }
+    ensures indexed { IsIndexed columns.new.items index.new.entries }
+    ensures err { OnErr result (columns.new.items ≡ columns.old.items) }
+{
+    columns.reserve(1)?;
+    let _none = index.insert(*ready.place(), columns.as_slice().len())?;
+    columns.push(ready).unwrap();
+    Ok(())
+}
+
+/// Settles each column.
+fn settle_all(columns: &mut Vec<Ready>)
+    ensures { columns.new.items ≡ map settled_ready columns.old.items }
+{
+    for i in 0..columns.as_slice().len() {
+        let ready = &mut columns[i];
+        ready.settle();
+    }
 }
 
 /// The ready column of a place.
-fn ready_at<'a>(
-    columns: &'a Vec<Ready>,
-    index: &BTreeMap<Place, usize>,
-    place: &Place,
-) -> Option<&'a Ready>
+fn ready_at<'a>(columns: &'a Vec<Ready>, index: &BTreeMap<Place, usize>, place: &Place) -> Option<&'a Ready>
     requires { IsIndexed columns.now.items index.now.entries }
     ensures { option_copied result ≡ find place_cmp place.now (placed columns.now.items) }
 {

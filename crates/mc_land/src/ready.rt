@@ -58,6 +58,13 @@ impl Ready {
         })
     }
 
+    /// Which column it is.
+    pub(crate) fn place(&self) -> &Place
+        ensures { result.now ≡ self.now.place }
+    {
+        &self.place
+    }
+
     /// The column.
     pub(crate) fn column(&self) -> &Column
         ensures column { result.now ≡ self.now.present }
