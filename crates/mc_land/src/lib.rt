@@ -11,6 +11,8 @@ mod ready;
 mod sizes;
 mod steps;
 mod terrain;
+#[cfg(test)]
+mod tests;
 
 pub use land::Land;
 pub use ready::Touched;
