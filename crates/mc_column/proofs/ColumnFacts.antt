@@ -64,13 +64,13 @@ kept_air sections biomes biome n m all squared air same =
 -- sections that are the parts of some states are the column of these states
 pub kept_parts : (sections : List (List ℕ)) (biomes states : List ℕ) → length sections ≡ section_count → ((k : ℕ) → k < section_count → nth_section sections k ≡ section_of states k) → length states ≡ cells → length biomes ≡ squares → IsKeptColumn sections biomes × (kept_column sections biomes ≡ column_of states biomes)
 kept_parts sections biomes states all each len squared = (
-    record {
-      all_there = all;
-      sized = λ k lt. ap length (each k lt) ∙ length-take section_cells (drop (k * section_cells) states) ∙ omega (arith, length-drop (k * section_cells) states, part_within k lt, len);
-      biomes_are = squared;
-    },
-    ap (λ (t : List ℕ). column_of t biomes) (joined_same (nth_section sections) (section_of states) section_count each ∙ joined_pieces states section_cells section_count ∙ take_all (section_count * section_cells) states (omega (arith, len, cells-sections))),
-  )
+  record {
+    all_there = all;
+    sized = λ k lt. ap length (each k lt) ∙ length-take section_cells (drop (k * section_cells) states) ∙ omega (arith, length-drop (k * section_cells) states, part_within k lt, len);
+    biomes_are = squared;
+  },
+  ap (λ (t : List ℕ). column_of t biomes) (joined_same (nth_section sections) (section_of states) section_count each ∙ joined_pieces states section_cells section_count ∙ take_all (section_count * section_cells) states (omega (arith, len, cells-sections))),
+)
   where
     part_within : (k : ℕ) → k < section_count → k * section_cells + section_cells ≤ cells
     part_within k lt = rw cells-sections (fits k section_count section_cells lt)

@@ -19,7 +19,7 @@ use Rattle.mc_land.specs.Places.{IsPlace, Place, Key, place_cmp, key_cmp}
 use Rattle.mc_land.specs.Land.{LandValue, terrain_at, state_at, is_chest, settled_land, with_ready}
 use Rattle.mc_land.specs.Grown.{own_column}
 use Rattle.mc_land.specs.Kept.{kept_edits, IsApart}
-use Rattle.mc_land.specs.KeptLand.{Columns, Chests, placed, present_states, settled_states, kept_land, IsIndexed, IsOwn, IsKeptLand}
+use Rattle.mc_land.specs.KeptLand.{Columns, Chests, placed, present_states, settled_states, kept_land, IsFresh, IsIndexed, IsOwn, IsKeptLand}
 use Rattle.mc_land.specs.Ready.{ReadyValue, settled_ready}
 use Rattle.mc_land.proofs.Orders.{places_total, exact_places}
 use Rattle.mc_land.proofs.LandFacts.{Puts, ready_edits}
@@ -95,17 +95,17 @@ ready_stays terrain columns chests place ready found =
   where
     member : (q : Place) → set.contains (kept_land terrain columns chests).ready place ≡ true → (eq_by_cmp place_cmp q place || set.contains (kept_land terrain columns chests).ready q) ≡ set.contains (kept_land terrain columns chests).ready q
     member q there = elim (place_cmp q place) as (λ o. place_cmp q place ≡ o → (is_eq o || set.contains (kept_land terrain columns chests).ready q) ≡ set.contains (kept_land terrain columns chests).ready q) [
-        | Less ↦ λ e. refl
-        | Equal ↦ λ e. sym (ap (λ (p : Place). set.contains (kept_land terrain columns chests).ready p) (exact_places q place e) ∙ there)
-        | Greater ↦ λ e. refl
-      ] refl
+      | Less ↦ λ e. refl
+      | Equal ↦ λ e. sym (ap (λ (p : Place). set.contains (kept_land terrain columns chests).ready p) (exact_places q place e) ∙ there)
+      | Greater ↦ λ e. refl
+    ] refl
 
-placed_push : (columns : List ReadyValue) (ready : ReadyValue) → placed (columns ++ ready ∷ []) ≡ placed columns ++ (ready.place, ready) ∷ []
+pub placed_push : (columns : List ReadyValue) (ready : ReadyValue) → placed (columns ++ ready ∷ []) ≡ placed columns ++ (ready.place, ready) ∷ []
 placed_push [] ready = refl
 placed_push (x ∷ xs) ready = ap (λ (t : Columns). (x.place, x) ∷ t) (placed_push xs ready)
 
 -- a column of a new place is found there, and the others as before
-find_push : {X : Type 0} (columns : List (Place × X)) (place : Place) (x : X) (q : Place) → find place_cmp place columns ≡ None → find place_cmp q (columns ++ (place, x) ∷ []) ≡ cond (eq_by_cmp place_cmp q place) (Some x) (find place_cmp q columns)
+pub find_push : {X : Type 0} (columns : List (Place × X)) (place : Place) (x : X) (q : Place) → find place_cmp place columns ≡ None → find place_cmp q (columns ++ (place, x) ∷ []) ≡ cond (eq_by_cmp place_cmp q place) (Some x) (find place_cmp q columns)
 find_push columns place x q none = find-append place_cmp places_total columns place x q none
 
 apart_push : (columns : Columns) (place : Place) (ready : ReadyValue) → IsApart columns → find place_cmp place columns ≡ None → IsApart (columns ++ (place, ready) ∷ [])
@@ -125,9 +125,9 @@ puts_push look columns place ready none q =
     find_map look q (columns ++ (place, ready) ∷ [])
     ∙ ap (option_map look) (find_push columns place ready q none)
     ∙ elim (eq_by_cmp place_cmp q place) as (λ b. option_map look (cond b (Some ready) (find place_cmp q columns)) ≡ cond b (Some (look ready)) (find place_cmp q (map (λ e. (e.0, look e.1)) columns))) [
-        | true ↦ refl
-        | false ↦ sym (find_map look q columns)
-      ]
+      | true ↦ refl
+      | false ↦ sym (find_map look q columns)
+    ]
 
 -- it has the terrain's own states, so no cell changes
 edits_push : (look : ReadyValue → List ℕ) (terrain : Terrain) (columns : Columns) (place : Place) (ready : ReadyValue) → IsApart columns → find place_cmp place columns ≡ None → look ready ≡ (own_column terrain place).states → kept_edits terrain (map (λ e. (e.0, look e.1)) (columns ++ (place, ready) ∷ [])) ≡ kept_edits terrain (map (λ e. (e.0, look e.1)) columns)
@@ -138,14 +138,8 @@ places_push : (columns : Columns) (place : Place) (ready : ReadyValue) → map (
 places_push [] place ready = refl
 places_push (e ∷ es) place ready = ap (λ (t : List Place). e.0 ∷ t) (places_push es place ready)
 
--- a ready column of the terrain's own cells
-pub record IsFresh (terrain : Terrain) (place : Place) (ready : ReadyValue) : Type 0 where
-  pub at : ready.place ≡ place
-  pub present_own : ready.present ≡ own_column terrain place
-  pub settled_own : ready.settled ≡ own_column terrain place
-
-pub fresh_new : (terrain : Terrain) (place : Place) (column : ColumnValue) (ready : ReadyValue) → column ≡ own_column terrain place → ready ≡ record { place = place; present = column; settled = column } → IsFresh terrain place ready
-fresh_new terrain place column ready own is = rw is (record { at = refl; present_own = own; settled_own = own })
+pub fresh_new : (terrain : Terrain) (place : Place) (column : ColumnValue) (ready : ReadyValue) → IsPlace place → column ≡ own_column terrain place → ready ≡ record { place = place; present = column; settled = column } → IsFresh terrain place ready
+fresh_new terrain place column ready inside own is = rw is (record { inside = inside; at = refl; present_own = own; settled_own = own })
 
 pub push_land : (terrain : Terrain) (columns new : List ReadyValue) (chests : Chests) (place : Place) (ready : ReadyValue) → new ≡ columns ++ ready ∷ [] → IsFresh terrain place ready → IsKeptLand terrain (placed columns) chests → find place_cmp place (placed columns) ≡ None → kept_land terrain (placed new) chests ≡ with_ready (kept_land terrain (placed columns) chests) place
 push_land terrain columns new chests place ready is fresh kept none =
@@ -155,8 +149,8 @@ push_land terrain columns new chests place ready is fresh kept none =
 pub own_sizes : (terrain : Terrain) (place : Place) → HasSizes (own_column terrain place)
 own_sizes terrain place = record { states_are = length-map-range_with_len (λ i. terrain_at terrain (place, i)) 0 cells; biomes_are = length-map-range_with_len _ 0 squares }
 
-pub push_keeps : (terrain : Terrain) (columns new : List ReadyValue) (chests : Chests) (place : Place) (ready : ReadyValue) → new ≡ columns ++ ready ∷ [] → IsFresh terrain place ready → IsKeptLand terrain (placed columns) chests → find place_cmp place (placed columns) ≡ None → IsPlace place → IsKeptLand terrain (placed new) chests
-push_keeps terrain columns new chests place ready is fresh kept none inside =
+pub push_keeps : (terrain : Terrain) (columns new : List ReadyValue) (chests : Chests) (place : Place) (ready : ReadyValue) → new ≡ columns ++ ready ∷ [] → IsFresh terrain place ready → IsKeptLand terrain (placed columns) chests → find place_cmp place (placed columns) ≡ None → IsKeptLand terrain (placed new) chests
+push_keeps terrain columns new chests place ready is fresh kept none =
     let entries : placed new ≡ placed columns ++ (place, ready) ∷ [] = rw (is, placed_push columns ready, fresh.at) refl in
     rw entries (record {
       columns_apart = apart_push (placed columns) place ready kept.columns_apart none;
@@ -167,16 +161,17 @@ push_keeps terrain columns new chests place ready is fresh kept none inside =
   where
     of_push : (q : Place) (r : ReadyValue) → cond (eq_by_cmp place_cmp q place) (Some ready) (find place_cmp q (placed columns)) ≡ Some r → IsOwn terrain q r
     of_push q r e = elim (place_cmp q place) as (λ o. place_cmp q place ≡ o → cond (is_eq o) (Some ready) (find place_cmp q (placed columns)) ≡ Some r → IsOwn terrain q r) [
-        | Less ↦ λ t h. kept.own q r h
-        | Equal ↦ λ t h. fresh_own q r (exact_places q place t) (some_ready ready r h)
-        | Greater ↦ λ t h. kept.own q r h
-      ] refl e
+      | Less ↦ λ t h. kept.own q r h
+      | Equal ↦ λ t h. fresh_own q r (exact_places q place t) (some_ready ready r h)
+      | Greater ↦ λ t h. kept.own q r h
+    ] refl e
       where
         some_ready : (a b : ReadyValue) → Some a ≡ Some b → a ≡ b
         some_ready a b e = cc
+
         fresh_own : (q : Place) (r : ReadyValue) → q ≡ place → ready ≡ r → IsOwn terrain q r
         fresh_own q r e f = rw (e, ← f) (record {
-          inside = inside;
+          inside = fresh.inside;
           present_sizes = rw fresh.present_own (own_sizes terrain place);
           settled_sizes = rw fresh.settled_own (own_sizes terrain place);
           biomes = ap (λ (c : ColumnValue). c.biomes) fresh.present_own;
@@ -201,20 +196,23 @@ index_push columns index index' ready is none puts = record {
   where
     same_index : (a b : ℕ) → Some a ≡ Some b → a ≡ b
     same_index a b e = cc
+
     is_equal : (o : Ordering) → is_eq o ≡ true → o ≡ Equal
     is_equal Less e = absurd cc
     is_equal Equal e = refl
     is_equal Greater e = absurd cc
+
     by_place : (place : Place) (P : Option ℕ → Type 0) → (place ≡ ready.place → P (Some (length columns))) → P (find place_cmp place index) → P (find place_cmp place index')
     by_place place P here elsewhere = subst P (sym (puts place)) (elim (eq_by_cmp place_cmp place ready.place) as (λ b. eq_by_cmp place_cmp place ready.place ≡ b → P (cond b (Some (length columns)) (find place_cmp place index))) [
-        | true ↦ λ t. here (exact_places place ready.place (is_equal (place_cmp place ready.place) t))
-        | false ↦ λ t. elsewhere
-      ] refl)
+      | true ↦ λ t. here (exact_places place ready.place (is_equal (place_cmp place ready.place) t))
+      | false ↦ λ t. elsewhere
+    ] refl)
+
     other : (place : Place) (i : ℕ) → find place_cmp place index ≡ Some i → cond (eq_by_cmp place_cmp place ready.place) (Some (length columns)) (find place_cmp place index) ≡ Some i
     other place i old = elim (eq_by_cmp place_cmp place ready.place) as (λ b. eq_by_cmp place_cmp place ready.place ≡ b → cond b (Some (length columns)) (find place_cmp place index) ≡ Some i) [
-        | true ↦ λ t. let clash : None ≡ Some i = sym none ∙ ap (λ (p : Place). find place_cmp p index) (sym (exact_places place ready.place (is_equal (place_cmp place ready.place) t))) ∙ old in absurd cc
-        | false ↦ λ t. old
-      ] refl
+      | true ↦ λ t. let clash : None ≡ Some i = sym none ∙ ap (λ (p : Place). find place_cmp p index) (sym (exact_places place ready.place (is_equal (place_cmp place ready.place) t))) ∙ old in absurd cc
+      | false ↦ λ t. old
+    ] refl
 
 -- ---- whether a column is ready
 

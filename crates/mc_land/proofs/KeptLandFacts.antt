@@ -22,18 +22,17 @@ use Rattle.mc_land.proofs.Orders.{places_total, exact_places}
 pub lookup_is : {K X : Type 0} (R : K → K → Ordering) (q : K) (es : List (K × X)) → lookup (λ k. is_eq (R q k)) es ≡ find R q es
 lookup_is R q [] = refl
 lookup_is R q (e ∷ es) = elim (is_eq (R q e.0)) as (λ b. cond b (Some e.1) (lookup (λ k. is_eq (R q k)) es) ≡ cond b (Some e.1) (find R q es)) [
-    | true ↦ refl
-    | false ↦ lookup_is R q es
-  ]
+  | true ↦ refl
+  | false ↦ lookup_is R q es
+]
 
 -- what is looked at in the column that is found
 pub find_map : {X Y : Type 0} (f : X → Y) (q : Place) (es : List (Place × X)) → find place_cmp q (map (λ e. (e.0, f e.1)) es) ≡ option_map f (find place_cmp q es)
 find_map f q [] = refl
 find_map f q (e ∷ es) = elim (eq_by_cmp place_cmp q e.0) as (λ b. cond b (Some (f e.1)) (find place_cmp q (map (λ e. (e.0, f e.1)) es)) ≡ option_map f (cond b (Some e.1) (find place_cmp q es))) [
-    | true ↦ refl
-    | false ↦ find_map f q es
-  ]
-
+  | true ↦ refl
+  | false ↦ find_map f q es
+]
 
 -- columns stay apart, whatever is looked at in them
 pub apart : {X Y : Type 0} (f : X → Y) (es : List (Place × X)) → IsApart es → IsApart (map (λ e. (e.0, f e.1)) es)
@@ -75,15 +74,15 @@ same_index a b e = cc
 pub found_indexed : (q : Place) (columns : List ReadyValue) (index : List (Place × ℕ)) (i : ℕ) (d : ReadyValue) → IsIndexed columns index → find place_cmp q index ≡ Some i → find place_cmp q (placed columns) ≡ Some (get_or columns i d)
 found_indexed q columns index i d is e =
     found_first q columns i d (is.listed q i e) (is.placed_at q i d e) (λ j lt same.
-      let there : find place_cmp q index ≡ Some j = ap (λ (p : Place). find place_cmp p index) (sym same) ∙ is.indexed j d (omega (arith, is.listed q i e)) in
-      absurd (omega (arith, same_index j i (sym there ∙ e))))
+    let there : find place_cmp q index ≡ Some j = ap (λ (p : Place). find place_cmp p index) (sym same) ∙ is.indexed j d (omega (arith, is.listed q i e)) in
+    absurd (omega (arith, same_index j i (sym there ∙ e))))
 
 pub found_unindexed : (q : Place) (columns : List ReadyValue) (index : List (Place × ℕ)) → IsIndexed columns index → find place_cmp q index ≡ None → find place_cmp q (placed columns) ≡ None
 found_unindexed q [] index is e = refl
 found_unindexed q (d ∷ ds) index is e =
     found_nowhere q (d ∷ ds) d (λ j lt same.
-      let there : find place_cmp q index ≡ Some j = ap (λ (p : Place). find place_cmp p index) (sym same) ∙ is.indexed j d lt in
-      let none : None ≡ Some j = sym e ∙ there in absurd cc)
+    let there : find place_cmp q index ≡ Some j = ap (λ (p : Place). find place_cmp p index) (sym same) ∙ is.indexed j d lt in
+    let none : None ≡ Some j = sym e ∙ there in absurd cc)
 
 -- what a tree's insert says of each key
 pub inserted : {X : Type 0} (old new : List (Place × X)) (k key q : Place) (v value : X) → lookup (λ y. is_eq (place_cmp q y)) new ≡ cond (is_eq (place_cmp k q)) (Some v) (lookup (λ y. is_eq (place_cmp q y)) old) → k ≡ key → v ≡ value → find place_cmp q new ≡ cond (eq_by_cmp place_cmp q key) (Some value) (find place_cmp q old)

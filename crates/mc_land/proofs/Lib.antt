@@ -10,3 +10,5 @@ mod KeptLandFacts
 mod PlaceFacts
 mod LookFacts
 mod ChangeFacts
+mod SetFacts
+mod PutFacts

@@ -1,5 +1,5 @@
 -- How a land is kept: its ready columns in the order in which they were made, where each stands, and its chests.
-use Rattle.std.specs.Prelude.{◌≡◌, ℕ, ◌<◌, List, map, length, slice_index_or, Some}
+use Rattle.std.specs.Prelude.{◌≡◌, ℕ, ◌<◌, List, map, length, slice_index_or, Some, None, [], ◌∷◌, ◌++◌}
 use Rattle.std.specs.Option.{is_some}
 use Rattle.std.specs.List.Sorted.{IsStrictlySortedBy}
 use Rattle.std.specs.FinMap.{find, from_entries}
@@ -11,7 +11,8 @@ use Rattle.mc_land.specs.declared.terrain.Terrain.{Terrain}
 use Rattle.mc_land.specs.Places.{Place, Key, IsPlace, place_cmp, key_cmp}
 use Rattle.mc_land.specs.Land.{LandValue, biomes_of, state_at, is_chest}
 use Rattle.mc_land.specs.Kept.{kept_edits, IsApart}
-use Rattle.mc_land.specs.Ready.{ReadyValue}
+use Rattle.mc_land.specs.Ready.{ReadyValue, set_at}
+use Rattle.mc_land.specs.Grown.{own_column}
 
 abbrev pub Columns : Type 0
 Columns = List (Place × ReadyValue)
@@ -58,3 +59,15 @@ pub record IsKeptLand (terrain : Terrain) (columns : Columns) (chests : Chests) 
   pub own : (place : Place) (ready : ReadyValue) → find place_cmp place columns ≡ Some ready → IsOwn terrain place ready
   -- a chest stands exactly where the state is one's
   pub chests_are : (place : Place) (i : ℕ) → i < cells → is_some (find key_cmp (place, i) chests) ≡ is_chest (state_at terrain (kept_edits terrain (present_states columns)) (place, i))
+
+-- a ready column of the terrain's own cells
+pub record IsFresh (terrain : Terrain) (place : Place) (ready : ReadyValue) : Type 0 where
+  pub inside : IsPlace place
+  pub at : ready.place ≡ place
+  pub present_own : ready.present ≡ own_column terrain place
+  pub settled_own : ready.settled ≡ own_column terrain place
+
+-- a cell of a place is set, in the column that is ready or in one that is made
+pub record IsPut (terrain : Terrain) (place : Place) (i state : ℕ) (old new : List ReadyValue) : Type 0 where
+  pub there : (ready : ReadyValue) → find place_cmp place (placed old) ≡ Some ready → new ≡ map (set_at place i state) old
+  pub made : find place_cmp place (placed old) ≡ None → (fresh : ReadyValue) × IsFresh terrain place fresh × (new ≡ map (set_at place i state) (old ++ fresh ∷ []))

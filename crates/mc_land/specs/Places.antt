@@ -1,6 +1,6 @@
 -- Where a cell lies: the numbers of its column of cells, and its index in it. The order of places is that of their
 -- numbers, x first.
-use Rattle.std.specs.Prelude.{ℕ, ◌/◌, ◌%◌, unsigned_abs}
+use Rattle.std.specs.Prelude.{Bool, false, nat_lt, nat_le, ◌&&◌, ℕ, ◌+◌, ◌*◌, ◌/◌, ◌%◌, unsigned_abs}
 use Rattle.std.specs.declared.cmp.Ordering.{Ordering}
 use Rattle.std.specs.Ordering.{nat_cmp, int_cmp, ordering_then}
 use Rattle.std.specs.Int.{int_div_euclid, int_rem_euclid}
@@ -53,3 +53,14 @@ pub record IsPlace (place : Place) : Type 0 where
   pub cx_high : place.0 ≤ℤ pos 1875010
   pub cz_low : negsuc 1875009 ≤ℤ place.1
   pub cz_high : place.1 ≤ℤ pos 1875010
+
+-- the world of cells that can be set: y from 0 to 255, and x and z not past 30,000,000 in size
+abbrev pub is_height : ℤ → Bool
+is_height (pos n) = nat_lt n 256
+is_height (negsuc n) = false
+
+abbrev pub is_near : ℤ → Bool
+is_near v = nat_le (unsigned_abs v) 30000000
+
+abbrev pub is_inside : ℤ → ℤ → ℤ → Bool
+is_inside x y z = is_height y && is_near x && is_near z

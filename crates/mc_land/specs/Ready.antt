@@ -4,7 +4,8 @@ use Rattle.std.specs.List.{filter, range_with_len}
 use Rattle.mc_column.specs.Sizes.{cells}
 use Rattle.mc_column.specs.Cells.{ColumnValue, with_state}
 use Rattle.mc_land.specs.declared.ready.Touched.{Touched}
-use Rattle.mc_land.specs.Places.{Place}
+use Rattle.std.specs.Ordering.{eq_by_cmp}
+use Rattle.mc_land.specs.Places.{Place, place_cmp}
 
 -- a ready column as contracts see it
 pub record ReadyValue : Type 0 where
@@ -45,3 +46,7 @@ abbrev pub is_at : List Touched → ℕ → ℕ → Bool
 is_at [] at index = false
 is_at (cell ∷ others) zero index = cell.index == index
 is_at (cell ∷ others) (suc at) index = is_at others at index
+
+-- of all ready columns the one of a place, with another state in a cell
+abbrev pub set_at : Place → ℕ → ℕ → ReadyValue → ReadyValue
+set_at place i state ready = if eq_by_cmp place_cmp ready.place place then set_cell ready i state else ready

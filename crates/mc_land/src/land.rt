@@ -13,6 +13,7 @@ ghost use Rattle.mc_land.specs.Ready.{settled_ready};
 
 mod chests;
 mod sums;
+mod setting;
 
 use crate::growing::grow;
 use crate::places::{Place, height_of, place_of, x_inside, z_inside};
@@ -169,7 +170,11 @@ impl Land {
 }
 
 /// Adds a ready column of a place that has none. Without memory both are as before.
-fn push_ready(columns: &mut Vec<Ready>, index: &mut BTreeMap<Place, usize>, ready: Ready) -> Result<(), NoMemory>
+pub(crate) fn push_ready(
+    columns: &mut Vec<Ready>,
+    index: &mut BTreeMap<Place, usize>,
+    ready: Ready,
+) -> Result<(), NoMemory>
     requires indexed { IsIndexed columns.old.items index.old.entries }
     requires new { find place_cmp ready.place index.old.entries ≡ None }
     ensures ok { OnOk result (columns.new.items ≡ columns.old.items ++ ready ∷ []) }
@@ -193,7 +198,11 @@ fn settle_all(columns: &mut Vec<Ready>)
 }
 
 /// The ready column of a place.
-fn ready_at<'a>(columns: &'a Vec<Ready>, index: &BTreeMap<Place, usize>, place: &Place) -> Option<&'a Ready>
+fn ready_at<'a>(
+    columns: &'a Vec<Ready>,
+    index: &BTreeMap<Place, usize>,
+    place: &Place,
+) -> Option<&'a Ready>
     requires { IsIndexed columns.now.items index.now.entries }
     ensures { option_copied result ≡ find place_cmp place.now (placed columns.now.items) }
 {
@@ -204,7 +213,7 @@ fn ready_at<'a>(columns: &'a Vec<Ready>, index: &BTreeMap<Place, usize>, place: 
 }
 
 /// Where the column of a place stands.
-fn index_at(index: &BTreeMap<Place, usize>, place: &Place) -> Option<usize>
+pub(crate) fn index_at(index: &BTreeMap<Place, usize>, place: &Place) -> Option<usize>
     ensures { result ≡ find place_cmp place.now index.now.entries }
 {
     index.get(place).copied()

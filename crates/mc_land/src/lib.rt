@@ -4,6 +4,7 @@
 //! that it was set to, or else the terrain's, and a column that is ready holds exactly those.
 #![tactic(auto)]
 
+mod fault;
 mod growing;
 mod land;
 mod places;
@@ -14,6 +15,7 @@ mod terrain;
 #[cfg(test)]
 mod tests;
 
+pub use fault::LandFault;
 pub use land::Land;
 pub use ready::Touched;
 pub use steps::Steps;

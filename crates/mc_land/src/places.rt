@@ -1,7 +1,7 @@
 ghost use Rattle.std.specs.Prelude.{◌≡◌, ◌<◌};
 ghost use lib.Signed.{◌≤ℤ◌, ◌<ℤ◌};
 ghost use lib.IntN.{pos};
-ghost use Rattle.mc_land.specs.Places.{column_number, inside, place_of};
+ghost use Rattle.mc_land.specs.Places.{column_number, inside, is_height, is_inside, is_near, place_of};
 
 use mc_fields::Cell;
 
@@ -54,4 +54,25 @@ pub(crate) fn height_of(cell: &Cell) -> u8
     ensures { pos result ≡ cell.now.y }
 {
     cell.y as u8
+}
+
+/// Whether a cell can be set: it is at a height of the world and not too far out.
+pub(crate) fn is_inside(cell: &Cell) -> bool
+    ensures { result ≡ is_inside cell.now.x cell.now.y cell.now.z }
+{
+    is_height(cell.y) && is_near(cell.x) && is_near(cell.z)
+}
+
+/// Whether a number is a height of the world.
+fn is_height(y: i32) -> bool
+    ensures { result ≡ is_height y }
+{
+    0 <= y && y < 256
+}
+
+/// Whether a number is not past the border of the world.
+fn is_near(v: i32) -> bool
+    ensures { result ≡ is_near v }
+{
+    v.unsigned_abs() <= 30_000_000
 }

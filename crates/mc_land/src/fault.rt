@@ -1,0 +1,21 @@
+ghost use Rattle.std.specs.Prelude.{◌≡◌};
+ghost use Rattle.mc_land.specs.declared.fault.LandFault.TheVariants as land_faults;
+
+use mc_nbt::NoMemory;
+
+/// Why a cell was not set.
+#[derive(Clone, Copy, Debug, PartialEq, Eq)]
+pub enum LandFault {
+    /// It is above or below the world, or past its border.
+    Outside,
+    /// There was no memory for its column or its chest.
+    NoMemory,
+}
+
+impl From<NoMemory> for LandFault {
+    ghost from_gives = { λ _ fault. fault ≡ land_faults.NoMemory };
+
+    fn from(_refusal: NoMemory) -> LandFault {
+        LandFault::NoMemory
+    }
+}
