@@ -31,6 +31,7 @@ count_more p a zero = omega (arith, first (p a) ∙ ap (λ (k : ℕ). cond (p k)
     first : (b : Bool) → length (cond b (a ∷ []) []) ≡ cond b 1 0
     first true = refl
     first false = refl
+
     same : (a : ℕ) → a ≡ a + 0
     same a = omega arith
 count_more p a (suc n) =

@@ -12,8 +12,8 @@ ghost use Rattle.mc_land.specs.Land.{block, column_of, dirty_in, new_land, settl
 ghost use Rattle.mc_land.specs.Ready.{settled_ready};
 
 mod chests;
-mod sums;
 mod setting;
+mod sums;
 
 use crate::growing::grow;
 use crate::places::{Place, height_of, place_of, x_inside, z_inside};

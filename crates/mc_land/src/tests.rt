@@ -17,7 +17,11 @@ fn hills_stand_as_high_as_worked_out(rt: HostRuntime) -> Result<(), Fail> {
 #[test]
 fn cells_have_the_states_of_their_terrain(rt: HostRuntime) -> Result<(), Fail> {
     for (terrain, x, y, z, state) in tables::STATES {
-        assert_eq!(rt; terrain.state(*x, *y, *z), *state, "{terrain:?} at {x} {y} {z}");
+        assert_eq!(rt;
+            terrain.state(*x, *y, *z),
+            *state,
+            "{terrain:?} at {x} {y} {z}"
+        );
     }
     Ok(())
 }

@@ -101,6 +101,10 @@ fn is_edited(terrain: &Terrain, ready: &Ready, i: usize) -> bool
     ensures { result ≡ is_changed terrain.now ready.now.place ready.now.present.states i }
 {
     let (x, y, z) = ((i % 16) as u8, (i / 256) as u8, (i / 16 % 16) as u8);
-    let own = terrain.state(block_at(ready.place().0, i % 16), y, block_at(ready.place().1, i / 16 % 16));
+    let own = terrain.state(
+        block_at(ready.place().0, i % 16),
+        y,
+        block_at(ready.place().1, i / 16 % 16),
+    );
     ready.state(x, y, z) != own
 }

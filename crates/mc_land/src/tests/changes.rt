@@ -17,7 +17,12 @@ fn change(i: u8) -> Change
     ensures { result.3 < 4096 }
 {
     let n = i32::from(i);
-    (n * 7 % 20 - 10, i % 9, n * 11 % 17 - 8, u16::from(i % 5) * 16)
+    (
+        n * 7 % 20 - 10,
+        i % 9,
+        n * 11 % 17 - 8,
+        u16::from(i % 5) * 16,
+    )
 }
 
 /// The state of flat land at a height.
@@ -84,8 +89,14 @@ fn make(land: &mut Land, from: u8, to: u8) -> bool {
 
 /// How many cells are dirty in the four columns around the middle.
 fn dirty(land: &Land) -> usize {
-    let west = land.dirty(-1, -1).len().saturating_add(land.dirty(-1, 0).len());
-    let east = land.dirty(0, -1).len().saturating_add(land.dirty(0, 0).len());
+    let west = land
+        .dirty(-1, -1)
+        .len()
+        .saturating_add(land.dirty(-1, 0).len());
+    let east = land
+        .dirty(0, -1)
+        .len()
+        .saturating_add(land.dirty(0, 0).len());
     west.saturating_add(east)
 }
 
@@ -117,7 +128,14 @@ fn a_cell_set_back_is_clean(rt: HostRuntime) -> Result<(), Fail> {
     let mut land = Land::new(rt.alloc(), Terrain::Flat);
     let cell = Cell { x: 0, y: 3, z: 0 };
     assert_eq!(rt; land.set(cell, 0), Ok(32));
-    assert_eq!(rt; land.dirty(0, 0), [Touched { index: 768, was: 32 }].as_slice());
+    assert_eq!(rt;
+        land.dirty(0, 0),
+        [Touched {
+            index: 768,
+            was: 32
+        }]
+        .as_slice()
+    );
     assert_eq!(rt; land.edited(), 1);
     assert_eq!(rt; land.set(cell, 32), Ok(0));
     assert!(rt; land.dirty(0, 0).is_empty());
@@ -138,7 +156,11 @@ fn cells_outside_are_refused(rt: HostRuntime) -> Result<(), Fail> {
     ] {
         assert_eq!(rt; land.set(Cell { x, y, z }, 16), Err(LandFault::Outside));
     }
-    let corner = Cell { x: 30_000_000, y: 0, z: -30_000_000 };
+    let corner = Cell {
+        x: 30_000_000,
+        y: 0,
+        z: -30_000_000,
+    };
     assert_eq!(rt; land.set(corner, 16), Ok(112));
     assert_eq!(rt; land.edited(), 1);
     Ok(())
@@ -148,7 +170,14 @@ fn cells_outside_are_refused(rt: HostRuntime) -> Result<(), Fail> {
 fn fill(chest: Option<&mut Chest>) -> bool {
     match chest {
         Some(chest) => {
-            chest.set(3, Pile::Full(Item { id: 1, damage: 0, count: 5 }));
+            chest.set(
+                3,
+                Pile::Full(Item {
+                    id: 1,
+                    damage: 0,
+                    count: 5,
+                }),
+            );
             true
         }
         None => false,
