@@ -15,7 +15,7 @@ use Rattle.std.proofs.lemmas.List.FromFn.{get_or-map-range_with_len, length-map-
 use Rattle.mc_column.specs.Sizes.{cells, squares}
 use Rattle.mc_column.specs.Cells.{ColumnValue, HasSizes}
 use Rattle.mc_land.specs.declared.terrain.Terrain.{Terrain}
-use Rattle.mc_land.specs.Places.{Place, Key, place_cmp, key_cmp}
+use Rattle.mc_land.specs.Places.{IsPlace, Place, Key, place_cmp, key_cmp}
 use Rattle.mc_land.specs.Land.{LandValue, terrain_at, state_at, is_chest, settled_land, with_ready}
 use Rattle.mc_land.specs.Grown.{own_column}
 use Rattle.mc_land.specs.Kept.{kept_edits, IsApart}
@@ -63,7 +63,7 @@ kept_settled terrain columns chests kept = record {
     of_settled place ready (Some r) own is e =
         let same : settled_ready r ≡ ready = some_is (settled_ready r) ready e in
         let o = own r is in
-        subst (λ x. IsOwn terrain place x) same (record { present_sizes = o.present_sizes; settled_sizes = o.present_sizes; biomes = o.biomes })
+        subst (λ x. IsOwn terrain place x) same (record { inside = o.inside; present_sizes = o.present_sizes; settled_sizes = o.present_sizes; biomes = o.biomes })
       where
         some_is : (a b : ReadyValue) → Some a ≡ Some b → a ≡ b
         some_is a b e = cc
@@ -138,8 +138,8 @@ places_push : (columns : Columns) (place : Place) (ready : ReadyValue) → map (
 places_push [] place ready = refl
 places_push (e ∷ es) place ready = ap (λ (t : List Place). e.0 ∷ t) (places_push es place ready)
 
-pub fresh_new : (terrain : Terrain) (place : Place) (column : ColumnValue) (ready : ReadyValue) → column ≡ own_column terrain place → ready ≡ record { place = place; present = column; settled = column } → IsFresh terrain place ready
-fresh_new terrain place column ready own is = rw is (record { at = refl; present_own = own; settled_own = own })
+pub fresh_new : (terrain : Terrain) (place : Place) (column : ColumnValue) (ready : ReadyValue) → IsPlace place → column ≡ own_column terrain place → ready ≡ record { place = place; present = column; settled = column } → IsFresh terrain place ready
+fresh_new terrain place column ready inside own is = rw is (record { inside = inside; at = refl; present_own = own; settled_own = own })
 
 pub push_land : (terrain : Terrain) (columns new : List ReadyValue) (chests : Chests) (place : Place) (ready : ReadyValue) → new ≡ columns ++ ready ∷ [] → IsFresh terrain place ready → IsKeptLand terrain (placed columns) chests → find place_cmp place (placed columns) ≡ None → kept_land terrain (placed new) chests ≡ with_ready (kept_land terrain (placed columns) chests) place
 push_land terrain columns new chests place ready is fresh kept none =
@@ -171,6 +171,7 @@ push_keeps terrain columns new chests place ready is fresh kept none =
 
         fresh_own : (q : Place) (r : ReadyValue) → q ≡ place → ready ≡ r → IsOwn terrain q r
         fresh_own q r e f = rw (e, ← f) (record {
+          inside = fresh.inside;
           present_sizes = rw fresh.present_own (own_sizes terrain place);
           settled_sizes = rw fresh.settled_own (own_sizes terrain place);
           biomes = ap (λ (c : ColumnValue). c.biomes) fresh.present_own;

@@ -1,5 +1,5 @@
 -- The edits that kept columns stand for, looked up at one cell.
-use Rattle.std.proofs.Common.{◌≡◌, nat_lt, ◌&&◌, ℕ, zero, suc, ◌+◌, ◌<◌, ◌≤◌, Bool, true, false, cond, not, eqb, List, [], ◌∷◌, ◌++◌, map, get_or, Option, Some, None, refl, sym, ap, ◌∙◌, arith, inl, inr}
+use Rattle.std.proofs.Common.{◌≡◌, nat_lt, ◌&&◌, ℕ, zero, suc, ◌+◌, ◌<◌, ◌≤◌, Bool, true, false, cond, List, [], ◌∷◌, ◌++◌, map, get_or, Option, Some, None, refl, sym, ap, ◌∙◌, arith, inl, inr}
 use Rattle.std.specs.declared.cmp.Ordering.TheVariants.{Less, Equal, Greater}
 use Rattle.std.specs.Ordering.{nat_cmp, is_eq, eq_by_cmp, ordering_then}
 use Rattle.std.specs.Cmp.{tied_itself, nat_cmp_total}
@@ -8,13 +8,12 @@ use Rattle.std.specs.declared.cmp.Ordering.{Ordering}
 use Rattle.std.proofs.lemmas.Map.Lookups.{exact_unsigned}
 use Rattle.std.specs.Option.{option_or}
 use Rattle.std.specs.List.{filter, flat_map, range_with_len}
-use Rattle.std.specs.FinMap.{FinMap, find, get, from_entries, get-from_entries}
+use Rattle.std.specs.FinMap.{find, get, get-from_entries}
 use Rattle.mc_column.specs.Sizes.{cells}
 use Rattle.mc_land.specs.declared.terrain.Terrain.{Terrain}
 use Rattle.mc_land.specs.Places.{Place, Key, place_cmp, key_cmp}
-use Rattle.mc_land.specs.Land.{terrain_at}
 use Rattle.mc_land.specs.Kept.{is_changed, changes, kept_edits, IsApart}
-use Rattle.mc_land.proofs.Orders.{places_total, keys_total, exact_places, exact_keys}
+use Rattle.mc_land.proofs.Orders.{places_total, keys_total, exact_places}
 
 -- looking up in two lists, one after the other
 pub find_append : (q : Key) (xs ys : List (Key × ℕ)) → find key_cmp q (xs ++ ys) ≡ option_or (find key_cmp q xs) (find key_cmp q ys)
@@ -39,7 +38,7 @@ other_column c d i j = elim (place_cmp c d) as (λ o. is_eq o ≡ false → is_e
 ]
 
 -- entries of a column at some of the indices from a on
-abbrev listed : Place → (ℕ → Bool) → (ℕ → ℕ) → List ℕ → List (Key × ℕ)
+abbrev pub listed : Place → (ℕ → Bool) → (ℕ → ℕ) → List ℕ → List (Key × ℕ)
 listed c test state indices = map (λ i. ((c, i), state i)) (filter test indices)
 
 -- of another column none is found

@@ -1,15 +1,15 @@
 -- A column that grows layer by layer is the terrain's own.
-use Rattle.std.proofs.Common.{◌≡◌, ℕ, zero, suc, ◌+◌, ◌*◌, ◌-◌, ◌/◌, ◌%◌, ◌<◌, ◌≤◌, Bool, true, false, nat_lt, List, length, map, get_or, refl, sym, ap, ◌∙◌, arith, inl, inr}
+use Rattle.std.proofs.Common.{◌≡◌, ℕ, zero, suc, ◌+◌, ◌*◌, ◌-◌, ◌/◌, ◌%◌, ◌<◌, true, false, List, length, map, get_or, refl, sym, ap, ◌∙◌, arith, inl, inr}
 use Rattle.std.proofs.lemmas.Int.{ints}
 use Rattle.std.proofs.lemmas.List.{ext_get_or}
 use Rattle.std.proofs.lemmas.List.FromFn.{get_or-map-range_with_len, length-map-range_with_len}
-use Rattle.std.proofs.lemmas.Bool.{cases_lt, ltb-false, lt-ltb, le-ltb}
+use Rattle.std.proofs.lemmas.Bool.{cases_lt, lt-ltb, le-ltb}
 use Rattle.std.specs.List.{range_with_len}
 use Rattle.mc_column.specs.Sizes.{cells, squares, squares-is, cells-is}
 use Rattle.mc_land.specs.declared.terrain.Terrain.{Terrain}
 use Rattle.mc_land.specs.declared.terrain.Terrain.TheVariants.{Flat, Hills, Isle}
 use Rattle.mc_land.specs.Places.{Place, x_of, y_of, z_of}
-use Rattle.mc_land.specs.Terrain.{height, flat_id, hills_id, isle_id, is_within_16}
+use Rattle.mc_land.specs.Terrain.{flat_id, hills_id, isle_id, is_within_16}
 use Rattle.mc_land.specs.Land.{terrain_at}
 use Rattle.mc_land.specs.Grown.{AppendsLayer, AreTops, x_at, z_at}
 use lib.IntN.{ℤ, pos, negsuc, ◌+ℤ◌, ◌*ℤ◌}

@@ -1,20 +1,18 @@
 -- What happens to the edits where a column is made ready and where a cell of one is set.
-use Rattle.std.proofs.Common.{◌≡◌, ℕ, zero, suc, ◌+◌, ◌<◌, ◌≤◌, nat_lt, ◌&&◌, Bool, true, false, cond, not, eqb, List, [], ◌∷◌, length, map, get_or, set, Option, Some, None, refl, sym, subst, ap, ◌∙◌, arith, inl, inr}
+use Rattle.std.proofs.Common.{◌≡◌, ℕ, ◌<◌, nat_lt, ◌&&◌, Bool, true, false, cond, not, eqb, List, length, get_or, set, Option, Some, None, refl, sym, subst, ◌∙◌, inl, inr}
 use Rattle.std.specs.declared.cmp.Ordering.{Ordering}
 use Rattle.std.specs.declared.cmp.Ordering.TheVariants.{Less, Equal, Greater}
-use Rattle.std.specs.Ordering.{nat_cmp, is_eq, eq_by_cmp, ordering_then}
-use Rattle.std.specs.Cmp.{tied_itself}
+use Rattle.std.specs.Ordering.{is_eq, eq_by_cmp}
 use Rattle.std.specs.Option.{unwrap_or}
-use Rattle.std.specs.List.{range_with_len}
 use Rattle.std.specs.FinMap.{FinMap, find, get, insert, remove, get-insert, get-remove, same_map}
-use Rattle.std.proofs.lemmas.Bool.{cases_eq, ltb-true, ltb-false, lt-ltb, eqb-true, eq-eqb}
+use Rattle.std.proofs.lemmas.Bool.{cases_eq, ltb-true, lt-ltb, eqb-true, eq-eqb}
 use Rattle.std.proofs.lemmas.List.{get_or-set_same, get_or-set_other}
 use Rattle.mc_column.specs.Sizes.{cells}
 use Rattle.mc_land.specs.declared.terrain.Terrain.{Terrain}
 use Rattle.mc_land.specs.Places.{Place, Key, place_cmp, key_cmp}
 use Rattle.mc_land.specs.Land.{terrain_at, state_at, edited}
 use Rattle.mc_land.specs.Kept.{is_changed, kept_edits, IsApart}
-use Rattle.mc_land.proofs.Orders.{places_total, keys_total, exact_places, exact_keys}
+use Rattle.mc_land.proofs.Orders.{keys_total, exact_places, exact_keys}
 use Rattle.mc_land.proofs.EditsFacts.{changed_at, get_kept, same_column, other_column, nat_cmp_same, nat_cmp_other}
 
 abbrev Columns : Type 0

@@ -1,7 +1,9 @@
 mod Orders
+mod ChestFacts
 mod EditsFacts
 mod LandFacts
 mod GrownFacts
+mod SumFacts
 mod TouchedFacts
 mod TouchFacts
 mod KeptLandFacts

@@ -1,21 +1,18 @@
 -- What looking at a kept land gives.
-use Rattle.std.proofs.Common.{◌≡◌, ℕ, ◌+◌, ◌*◌, ◌/◌, ◌%◌, ◌<◌, ◌≤◌, nat_lt, Bool, true, false, cond, List, [], length, map, get_or, Option, Some, None, refl, sym, ap, ◌∙◌, arith}
+use Rattle.std.proofs.Common.{◌≡◌, ℕ, ◌+◌, ◌*◌, ◌/◌, ◌<◌, Bool, true, false, cond, List, [], length, map, get_or, Some, None, refl, sym, ap, ◌∙◌, arith}
 use Rattle.std.specs.Option.{option_map}
-use Rattle.std.specs.List.{range_with_len}
 use Rattle.std.specs.FinMap.{find}
 use Rattle.std.proofs.lemmas.Bool.{lt-ltb}
-use Rattle.std.proofs.lemmas.List.{ext_get_or}
 use Rattle.std.proofs.lemmas.List.FromFn.{get_or-map-range_with_len, length-map-range_with_len}
 use Rattle.mc_column.specs.Sizes.{cells}
 use Rattle.mc_column.specs.Cells.{ColumnValue, cell_index}
 use Rattle.mc_land.specs.declared.terrain.Terrain.{Terrain}
-use Rattle.mc_land.specs.Places.{Place, Key, place_cmp, key_cmp, inside, place_of, key_of}
+use Rattle.mc_land.specs.Places.{Place, place_cmp, key_cmp, inside, place_of}
 use Rattle.mc_land.specs.Terrain.{terrain_state}
-use Rattle.mc_land.specs.Land.{LandValue, terrain_at, state_at, states_of, biomes_of, block, column_of, dirty_in}
+use Rattle.mc_land.specs.Land.{terrain_at, state_at, states_of, block, column_of, dirty_in}
 use Rattle.mc_land.specs.Kept.{kept_edits}
-use Rattle.mc_land.specs.KeptLand.{IsIndexed, Columns, Chests, present_states, settled_states, kept_land, IsKeptLand, IsOwn}
+use Rattle.mc_land.specs.KeptLand.{IsIndexed, Columns, Chests, present_states, settled_states, kept_land, IsKeptLand}
 use Rattle.mc_land.specs.Ready.{ReadyValue, touched_cells}
-use Rattle.mc_land.specs.Kept.{IsApart}
 use Rattle.mc_land.proofs.LandFacts.{state_ready, state_else}
 use Rattle.mc_land.proofs.KeptLandFacts.{apart, find_map}
 use Rattle.mc_land.proofs.PlaceFacts.{terrain_at_key, key_within}

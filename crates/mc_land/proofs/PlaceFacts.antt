@@ -1,12 +1,10 @@
 -- A cell is where its column and its index in it say.
-use Rattle.std.proofs.Common.{◌≡◌, ℕ, zero, suc, ◌+◌, ◌*◌, ◌-◌, ◌/◌, ◌%◌, ◌<◌, ◌≤◌, refl, sym, ap, ◌∙◌, arith}
+use Rattle.std.proofs.Common.{◌≡◌, ℕ, ◌/◌, ◌%◌, ◌<◌, refl, arith}
 use Rattle.std.proofs.lemmas.Int.{ints}
-use Rattle.std.specs.Int.{int_div_euclid, int_rem_euclid}
-use Rattle.std.specs.Prelude.{unsigned_abs}
 use Rattle.mc_column.specs.Sizes.{cells, cells-is}
 use Rattle.mc_column.specs.Cells.{cell_index}
 use Rattle.mc_land.specs.declared.terrain.Terrain.{Terrain}
-use Rattle.mc_land.specs.Places.{Place, Key, column_number, inside, place_of, key_of, x_of, y_of, z_of}
+use Rattle.mc_land.specs.Places.{column_number, inside, key_of, x_of, y_of, z_of}
 use Rattle.mc_land.specs.Terrain.{terrain_state}
 use Rattle.mc_land.specs.Land.{terrain_at}
 use lib.IntN.{ℤ, pos, negsuc, ◌+ℤ◌, ◌*ℤ◌}

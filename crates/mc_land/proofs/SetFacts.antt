@@ -203,7 +203,7 @@ own_set terrain columns place i state q r own e = by (find place_cmp q (placed c
 
     kept : (s : ReadyValue) → IsOwn terrain q s → IsOwn terrain q (set_at place i state s)
     kept s o = elim (eq_by_cmp place_cmp s.place place) as (λ b. IsOwn terrain q (cond b (set_cell s i state) s)) [
-      | true ↦ record { present_sizes = record { states_are = length-set s.present.states i state ∙ o.present_sizes.states_are; biomes_are = o.present_sizes.biomes_are }; settled_sizes = o.settled_sizes; biomes = o.biomes }
+      | true ↦ record { inside = o.inside; present_sizes = record { states_are = length-set s.present.states i state ∙ o.present_sizes.states_are; biomes_are = o.present_sizes.biomes_are }; settled_sizes = o.settled_sizes; biomes = o.biomes }
       | false ↦ o
     ]
 

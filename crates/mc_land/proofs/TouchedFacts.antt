@@ -1,5 +1,5 @@
 -- The touched cells of a column, around one cell.
-use Rattle.std.proofs.Common.{◌≡◌, ℕ, zero, suc, ◌+◌, ◌-◌, ◌<◌, ◌≤◌, nat_lt, Bool, true, false, cond, not, eqb, List, [], ◌∷◌, ◌++◌, length, map, get_or, set, refl, sym, ap, ◌∙◌, arith, inl, inr, append_assoc}
+use Rattle.std.proofs.Common.{◌≡◌, ℕ, zero, suc, ◌+◌, ◌-◌, ◌<◌, ◌≤◌, nat_lt, Bool, true, false, cond, not, eqb, List, [], ◌∷◌, ◌++◌, length, map, get_or, set, refl, sym, ap, ◌∙◌, arith, inl, inr}
 use Rattle.std.proofs.lemmas.Bool.{cases_eq, eq-eqb, eqb-true}
 use Rattle.std.proofs.lemmas.List.{get_or-set_same, get_or-set_other, map-append, ext_get_or, nil_from_length, length-set}
 use Rattle.std.proofs.lemmas.List.Elements.{filter-append}
@@ -9,7 +9,7 @@ use Rattle.mc_land.specs.declared.ready.Touched.{Touched}
 use Rattle.mc_land.specs.Ready.{IsAround, one_if, has_changed, touched_cell, touched_cells, settled_ready}
 use Rattle.mc_land.specs.Places.{Place}
 use Rattle.mc_land.specs.KeptReady.{kept_ready, IsKeptReady}
-use Rattle.mc_column.specs.Cells.{ColumnValue, HasSizes, with_state, cell_index}
+use Rattle.mc_column.specs.Cells.{ColumnValue, with_state, cell_index}
 use Rattle.std.specs.List.Sorted.{IsPartitionedBy}
 use Rattle.mc_land.proofs.TouchFacts.{around_sorted}
 

@@ -1,10 +1,10 @@
 -- A column of the terrain's own cells, and how it is made: one layer upon another.
-use Rattle.std.specs.Prelude.{◌≡◌, ℕ, ◌+◌, ◌*◌, ◌/◌, ◌%◌, ◌<◌, ◌≤◌, List, map, length, slice_index}
+use Rattle.std.specs.Prelude.{◌≡◌, ℕ, ◌+◌, ◌/◌, ◌%◌, ◌<◌, ◌≤◌, List, map, length, slice_index}
 use Rattle.std.specs.List.{range_with_len}
 use Rattle.mc_column.specs.Sizes.{cells, squares}
 use Rattle.mc_column.specs.Cells.{ColumnValue}
 use Rattle.mc_land.specs.declared.terrain.Terrain.{Terrain}
-use Rattle.mc_land.specs.declared.terrain.Terrain.TheVariants.{Flat, Hills, Isle}
+use Rattle.mc_land.specs.declared.terrain.Terrain.TheVariants.{Hills}
 use Rattle.mc_land.specs.Places.{Place}
 use Rattle.mc_land.specs.Terrain.{height}
 use Rattle.mc_land.specs.Land.{terrain_at, biomes_of}

@@ -2,13 +2,13 @@
 use Rattle.std.specs.Prelude.{◌≡◌, ℕ, ◌<◌, List, map, length, slice_index_or, Some, None, [], ◌∷◌, ◌++◌}
 use Rattle.std.specs.Option.{is_some}
 use Rattle.std.specs.List.Sorted.{IsStrictlySortedBy}
-use Rattle.std.specs.FinMap.{FinMap, find, from_entries}
+use Rattle.std.specs.FinMap.{find, from_entries}
 use Rattle.std.specs.FinSet as set
 use Rattle.mc_slots.specs.declared.pile.Pile.{Pile}
 use Rattle.mc_column.specs.Sizes.{cells}
 use Rattle.mc_column.specs.Cells.{HasSizes}
 use Rattle.mc_land.specs.declared.terrain.Terrain.{Terrain}
-use Rattle.mc_land.specs.Places.{Place, Key, place_cmp, key_cmp}
+use Rattle.mc_land.specs.Places.{Place, Key, IsPlace, place_cmp, key_cmp}
 use Rattle.mc_land.specs.Land.{LandValue, biomes_of, state_at, is_chest}
 use Rattle.mc_land.specs.Kept.{kept_edits, IsApart}
 use Rattle.mc_land.specs.Ready.{ReadyValue, set_at}
@@ -48,6 +48,7 @@ kept_land terrain columns chests = record {
 
 -- a ready column of its place
 pub record IsOwn (terrain : Terrain) (place : Place) (ready : ReadyValue) : Type 0 where
+  pub inside : IsPlace place
   pub present_sizes : HasSizes ready.present
   pub settled_sizes : HasSizes ready.settled
   pub biomes : ready.present.biomes ≡ biomes_of terrain place
@@ -61,6 +62,7 @@ pub record IsKeptLand (terrain : Terrain) (columns : Columns) (chests : Chests) 
 
 -- a ready column of the terrain's own cells
 pub record IsFresh (terrain : Terrain) (place : Place) (ready : ReadyValue) : Type 0 where
+  pub inside : IsPlace place
   pub at : ready.place ≡ place
   pub present_own : ready.present ≡ own_column terrain place
   pub settled_own : ready.settled ≡ own_column terrain place

@@ -1,6 +1,5 @@
 -- How a ready column is kept: as it is, as it was at the last settling, and the cells that differ.
-use Rattle.std.specs.Prelude.{◌≡◌, ℕ, ◌≤◌, List}
-use Rattle.mc_column.specs.Sizes.{cells}
+use Rattle.std.specs.Prelude.{◌≡◌, List}
 use Rattle.mc_column.specs.Cells.{ColumnValue, HasSizes}
 use Rattle.mc_land.specs.declared.ready.Touched.{Touched}
 use Rattle.mc_land.specs.Places.{Place}

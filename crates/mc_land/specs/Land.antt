@@ -1,6 +1,6 @@
 -- The land as contracts see it: a terrain, and what was changed of it. All of it is finite, and the endless world is what
 -- it stands for: a cell has the state that it was set to, or else the terrain's.
-use Rattle.std.specs.Prelude.{◌≡◌, ℕ, ◌+◌, ◌*◌, ◌/◌, ◌%◌, ◌==◌, ◌&&◌, ◌||◌, Bool, not, true, false, List, map, Option, if◌then◌else◌, nat_lt}
+use Rattle.std.specs.Prelude.{ℕ, ◌/◌, ◌%◌, ◌==◌, Bool, List, map, if◌then◌else◌, nat_lt}
 use Rattle.std.specs.Option.{unwrap_or}
 use Rattle.std.specs.List.{range_with_len, sum_by}
 use Rattle.std.specs.FinMap.{FinMap, get, insert, remove, entries, empty}
@@ -10,7 +10,7 @@ use Rattle.mc_column.specs.Cells.{ColumnValue}
 use Rattle.mc_slots.specs.declared.pile.Pile.{Pile}
 use Rattle.mc_land.specs.declared.terrain.Terrain.{Terrain}
 use Rattle.mc_land.specs.declared.ready.Touched.{Touched}
-use Rattle.mc_land.specs.Places.{Place, Key, place_cmp, key_cmp, key_of, place_of, x_of, y_of, z_of}
+use Rattle.mc_land.specs.Places.{Place, Key, place_cmp, key_cmp, key_of, x_of, y_of, z_of}
 use Rattle.mc_slots.specs.Pile.{count_of}
 use Rattle.mc_slots.specs.Chest.{empty_chest}
 use Rattle.mc_land.specs.Ready.{touched_cells}

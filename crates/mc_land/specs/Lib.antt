@@ -1,3 +1,4 @@
+pub mod Chests
 pub mod Grown
 pub mod Kept
 pub mod KeptLand
@@ -6,4 +7,5 @@ pub mod Land
 pub mod LandCode
 pub mod Places
 pub mod Ready
+pub mod Sums
 pub mod Terrain

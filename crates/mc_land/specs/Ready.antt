@@ -2,7 +2,7 @@
 use Rattle.std.specs.Prelude.{◌≡◌, ℕ, zero, suc, false, ◌==◌, ◌<◌, Bool, not, List, [], ◌∷◌, ◌++◌, map, length, slice_index, slice_index_or, if◌then◌else◌}
 use Rattle.std.specs.List.{filter, range_with_len}
 use Rattle.mc_column.specs.Sizes.{cells}
-use Rattle.mc_column.specs.Cells.{ColumnValue, HasSizes, with_state}
+use Rattle.mc_column.specs.Cells.{ColumnValue, with_state}
 use Rattle.mc_land.specs.declared.ready.Touched.{Touched}
 use Rattle.std.specs.Ordering.{eq_by_cmp}
 use Rattle.mc_land.specs.Places.{Place, place_cmp}

@@ -1,7 +1,7 @@
 -- The three terrains: the state that each cell of the endless world has before anybody changed it, and the biome of each
 -- place. Rules of this project. A state is id * 16 + metadata; the ids are those of wiki.vg's list of blocks: 1 stone, 2
 -- grass, 3 dirt, 7 bedrock. x and z are any whole numbers, y is from 0 to 255.
-use Rattle.std.specs.Prelude.{ℕ, unsigned_abs, ◌+◌, ◌*◌, ◌/◌, ◌%◌, ◌==◌, ◌&&◌, Bool, true, false, nat_lt, nat_le, if◌then◌else◌}
+use Rattle.std.specs.Prelude.{ℕ, unsigned_abs, ◌+◌, ◌*◌, ◌/◌, ◌%◌, ◌==◌, ◌&&◌, Bool, false, nat_lt, nat_le, if◌then◌else◌}
 use Rattle.std.specs.Int.{abs_diff, int_rem_euclid}
 use lib.IntN.{ℤ, pos, negsuc, ◌+ℤ◌}
 use Rattle.mc_land.specs.declared.terrain.Terrain.{Terrain}

@@ -34,7 +34,7 @@ pub(crate) fn grow(alloc: Global, terrain: &Terrain, place: &Place) -> Result<Co
 }
 
 /// The block that place `at` of sixteen along an axis is at, in column `c` of that axis.
-fn block_at(c: i32, at: usize) -> i32
+pub(crate) fn block_at(c: i32, at: usize) -> i32
     requires low { negsuc 1875009 ≤ℤ c }
     requires high { c ≤ℤ pos 1875010 }
     requires inside { at < 16 }

@@ -11,7 +11,9 @@ ghost use Rattle.mc_land.specs.KeptLand.{placed, IsIndexed};
 ghost use Rattle.mc_land.specs.Land.{block, column_of, dirty_in, new_land, settled_land, with_ready};
 ghost use Rattle.mc_land.specs.Ready.{settled_ready};
 
+mod chests;
 mod setting;
+mod sums;
 
 use crate::growing::grow;
 use crate::places::{Place, height_of, place_of, x_inside, z_inside};

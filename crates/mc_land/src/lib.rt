@@ -12,6 +12,8 @@ mod ready;
 mod sizes;
 mod steps;
 mod terrain;
+#[cfg(test)]
+mod tests;
 
 pub use fault::LandFault;
 pub use land::Land;

@@ -1,4 +1,4 @@
-use Rattle.std.proofs.Common.{◌≡◌, ℕ, arith, ◌∙◌}
+use Rattle.std.proofs.Common.{arith, ◌∙◌}
 use Rattle.mc_land.proofs.GrownFacts.{listed_by}
 use Rattle.mc_land.proofs.growing.biomes_of.Goals as goal
 

@@ -1,8 +1,3 @@
-use Rattle.std.proofs.Common.{◌≡◌, ℕ, List, ◌*◌, sym, subst}
-use Rattle.mc_land.specs.declared.terrain.Terrain.{Terrain}
-use Rattle.mc_land.specs.declared.terrain.Terrain.TheVariants.{Hills}
-use Rattle.mc_land.specs.Terrain.{isle_id}
-use Rattle.mc_land.specs.Grown.{AreTops, AppendsLayer}
 use Rattle.mc_land.proofs.GrownFacts.{flat_layer, hills_layer, isle_layer}
 use Rattle.mc_land.proofs.growing.push_layer.Goals as goal
 

@@ -1,5 +1,5 @@
-use Rattle.std.proofs.Common.{◌≡◌, ℕ, arith, ◌∙◌, ap}
-use Rattle.mc_column.specs.Sizes.{squares-is, cells-is, cells}
+use Rattle.std.proofs.Common.{arith, ◌∙◌}
+use Rattle.mc_column.specs.Sizes.{squares-is, cells}
 use Rattle.mc_land.proofs.GrownFacts.{listed_by, layers_more, layers_all}
 use Rattle.mc_land.proofs.growing.states_of.Goals as goal
 

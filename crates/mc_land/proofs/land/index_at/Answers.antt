@@ -1,4 +1,4 @@
-use Rattle.std.proofs.Common.{◌≡◌, ◌∙◌}
+use Rattle.std.proofs.Common.{◌∙◌}
 use Rattle.mc_land.specs.Places.{place_cmp}
 use Rattle.mc_land.proofs.KeptLandFacts.{lookup_is}
 use Rattle.mc_land.proofs.land.index_at.Goals as goal

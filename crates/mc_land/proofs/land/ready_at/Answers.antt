@@ -1,5 +1,4 @@
-use Rattle.std.proofs.Common.{◌≡◌, ◌∙◌, sym, ap, Some}
-use Rattle.std.proofs.lemmas.List.{get_or_read}
+use Rattle.std.proofs.Common.{◌∙◌, sym, ap, Some}
 use Rattle.mc_land.proofs.KeptLandFacts.{found_indexed, found_unindexed}
 use Rattle.mc_land.proofs.land.ready_at.Goals as goal
 

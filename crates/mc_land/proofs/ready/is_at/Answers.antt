@@ -1,4 +1,4 @@
-use Rattle.std.proofs.Common.{◌≡◌, arith, sym}
+use Rattle.std.proofs.Common.{sym}
 use Rattle.std.proofs.lemmas.Bool.{ltb-true, ltb-false}
 use Rattle.mc_land.proofs.TouchFacts.{is_at_there, is_at_past}
 use Rattle.mc_land.proofs.ready.is_at.Goals as goal

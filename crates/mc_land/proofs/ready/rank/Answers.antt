@@ -1,4 +1,4 @@
-use Rattle.std.proofs.Common.{rules, ◌≡◌, true, false, nat_lt}
+use Rattle.std.proofs.Common.{rules, nat_lt}
 use Rattle.std.proofs.lemmas.List.Sorted.{IsPartitionPoint-from_clause}
 use Rattle.mc_land.specs.declared.ready.Touched.{Touched}
 use Rattle.mc_land.proofs.ready.rank.Goals as goal

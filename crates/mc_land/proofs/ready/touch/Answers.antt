@@ -1,4 +1,4 @@
-use Rattle.std.proofs.Common.{◌≡◌, length, arith, sym, refl, ap, ◌∙◌}
+use Rattle.std.proofs.Common.{length, arith, sym, refl, ap, ◌∙◌}
 use Rattle.mc_land.proofs.TouchFacts.{touch_add, touch_keep, touch_gone, touch_none, is_at_within}
 use Rattle.mc_land.proofs.ready.touch.Goals as goal
 

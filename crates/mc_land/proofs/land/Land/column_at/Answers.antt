@@ -1,4 +1,4 @@
-use Rattle.std.proofs.Common.{◌≡◌, ℤ, sym, ap, ◌∙◌, arith, refl}
+use Rattle.std.proofs.Common.{sym, ◌∙◌}
 use Rattle.mc_land.proofs.LookFacts.{column_ready, ready_some, ready_none}
 use Rattle.mc_land.proofs.land.Land.column_at.Goals as goal
 

@@ -1,7 +1,5 @@
-use Rattle.std.proofs.Common.{◌≡◌, ℤ, ap, ◌∙◌, refl, w32}
+use Rattle.std.proofs.Common.{◌∙◌, refl, w32}
 use Rattle.std.proofs.lemmas.Int.{to_z-of_z}
-use Rattle.mc_land.specs.Places.{Place}
-use Rattle.mc_land.specs.Land.{dirty_in}
 use Rattle.mc_land.proofs.land.Land.dirty.Goals as goal
 
 pub returns : goal.returns

@@ -1,4 +1,4 @@
-use Rattle.std.proofs.Common.{◌≡◌, sym, ◌∙◌}
+use Rattle.std.proofs.Common.{sym, ◌∙◌}
 use Rattle.mc_land.proofs.LookFacts.{dirty_ready, dirty_none}
 use Rattle.mc_land.proofs.land.Land.dirty_at.Goals as goal
 

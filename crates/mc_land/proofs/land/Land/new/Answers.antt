@@ -1,4 +1,4 @@
-use Rattle.std.proofs.Common.{ap, ◌∙◌, refl}
+use Rattle.std.proofs.Common.{ap}
 use Rattle.mc_land.specs.KeptLand.{placed}
 use Rattle.mc_land.proofs.LookFacts.{kept_new, indexed_new}
 use Rattle.mc_land.proofs.land.Land.new.Goals as goal

@@ -15,9 +15,9 @@ new-requires c = rw c.in_ok-grow.ensures (own_sizes c.self.inside.terrain c.args
 pub invariant_of-self-2 : goal.invariant_of-self-2
 invariant_of-self-2 c =
     let none = found_unindexed c.args.place.now c.self.inside.columns.items c.self.inside.index.entries c.self.invariant.1 (sym c.index_at.ensures ∙ not_there c.index_at.result (sym c.if-is_some.ensures)) in
-    (push_keeps _ c.self.inside.columns.items _ _ c.args.place.now _ c.in_ok-push_ready.ensures.ok (fresh_new _ _ _ _ c.in_ok-grow.ensures c.in_ok-ready.ensures) c.self.invariant.0 none, c.push_ready.ensures.indexed)
+    (push_keeps _ c.self.inside.columns.items _ _ c.args.place.now _ c.in_ok-push_ready.ensures.ok (fresh_new _ _ _ _ c.requires c.in_ok-grow.ensures c.in_ok-ready.ensures) c.self.invariant.0 none, c.push_ready.ensures.indexed)
 
 pub returns-clause-ok : goal.returns-clause-ok
 returns-clause-ok c =
     let none = found_unindexed c.args.place.now c.self.inside.columns.items c.self.inside.index.entries c.self.invariant.1 (sym c.index_at.ensures ∙ not_there c.index_at.result (sym c.if-is_some.ensures)) in
-    rw (← c.self.view_is) (push_land _ c.self.inside.columns.items _ _ c.args.place.now _ c.in_ok-push_ready.ensures.ok (fresh_new _ _ _ _ c.in_ok-grow.ensures c.in_ok-ready.ensures) c.self.invariant.0 none)
+    rw (← c.self.view_is) (push_land _ c.self.inside.columns.items _ _ c.args.place.now _ c.in_ok-push_ready.ensures.ok (fresh_new _ _ _ _ c.requires c.in_ok-grow.ensures c.in_ok-ready.ensures) c.self.invariant.0 none)

@@ -1,4 +1,4 @@
-use Rattle.std.proofs.Common.{◌≡◌, ℤ, sym, ap, ◌∙◌, arith, refl}
+use Rattle.std.proofs.Common.{sym}
 use Rattle.mc_land.proofs.LookFacts.{block_ready, block_else}
 use Rattle.mc_land.proofs.land.Land.state.Goals as goal
 

@@ -1,4 +1,4 @@
-use Rattle.std.proofs.Common.{◌≡◌, ◌++◌, ◌∷◌, [], Some, ◌∙◌, sym, ap, arith, refl}
+use Rattle.std.proofs.Common.{rules, ◌≡◌, ◌++◌, ◌∷◌, [], Some, ◌∙◌, sym, ap, arith, refl}
 use Rattle.std.specs.Prelude.{unsigned_abs}
 use Rattle.mc_land.specs.Ready.{set_cell}
 use Rattle.mc_land.specs.Places.{key_of}
@@ -24,4 +24,4 @@ returns-in_ok-set_ready-in-Some-clause-ok c =
 pub returns-in_ok-push_ready-in-None-clause-ok : goal.returns-in_ok-push_ready-in-None-clause-ok
 returns-in_ok-push_ready-in-None-clause-ok c =
     let none = found_unindexed c.place_of-place.result c.args.columns.now.items c.args.index.now.entries c.requires.indexed (sym c.in-None.ensures) in
-    rw (← c.place_of-place.ensures) (put_made _ _ _ _ _ _ c.in_ok-ready-in-None.ready none (fresh_new _ _ _ _ c.in_ok-grow-in-None.ensures c.in_ok-ready-in-None.ensures) (c.in_ok-push_ready-in-None.ensures.ok ∙ rw c.in_ok-set_in-in-None.ensures.ok refl))
+    rw (← c.place_of-place.ensures) (put_made _ _ _ _ _ _ c.in_ok-ready-in-None.ready none (fresh_new _ _ _ _ (search rules) c.in_ok-grow-in-None.ensures c.in_ok-ready-in-None.ensures) (c.in_ok-push_ready-in-None.ensures.ok ∙ rw c.in_ok-set_in-in-None.ensures.ok refl))

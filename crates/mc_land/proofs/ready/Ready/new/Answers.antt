@@ -1,5 +1,4 @@
-use Rattle.std.proofs.Common.{◌≡◌, ap, sym, refl, ◌∙◌, arith}
-use Rattle.mc_column.specs.Cells.{HasSizes}
+use Rattle.std.proofs.Common.{sym, refl, ◌∙◌}
 use Rattle.mc_land.proofs.TouchedFacts.{touched_none}
 use Rattle.mc_land.proofs.ready.Ready.new.Goals as goal
 

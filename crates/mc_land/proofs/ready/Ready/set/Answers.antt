@@ -1,4 +1,4 @@
-use Rattle.std.proofs.Common.{◌≡◌, arith, sym, refl, ap, ◌∙◌}
+use Rattle.std.proofs.Common.{refl, ◌∙◌}
 use Rattle.mc_land.proofs.TouchedFacts.{sorted_at, kept_set, index_within}
 use Rattle.mc_land.proofs.ready.Ready.set.Goals as goal
 

@@ -1,6 +1,5 @@
-use Rattle.std.proofs.Common.{◌≡◌, length, ap, sym, refl, ◌∙◌}
+use Rattle.std.proofs.Common.{length, ap, sym, refl, ◌∙◌}
 use Rattle.std.proofs.lemmas.Bool.{eqb-true}
-use Rattle.mc_column.specs.Cells.{HasSizes}
 use Rattle.mc_land.proofs.TouchedFacts.{touched_none, settled_kept}
 use Rattle.mc_land.proofs.ready.Ready.settle.Goals as goal
 
