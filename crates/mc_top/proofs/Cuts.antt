@@ -1,11 +1,11 @@
 -- Cutting the first line off a text, and what was put for it.
-use Rattle.std.proofs.Common.{◌≡◌, ℕ, ◌+◌, ◌-◌, ◌<◌, ◌≤◌, Bool, true, false, cond, List, [], ◌∷◌, ◌++◌, length, take, drop, Option, Some, None, refl, sym, subst, ap, ◌∙◌, arith, nat_lt, ltb-true, ltb-false}
+use Rattle.std.proofs.Common.{◌≡◌, ℕ, ◌+◌, ◌<◌, Bool, true, false, cond, List, [], ◌∷◌, ◌++◌, length, take, drop, Option, Some, None, refl, subst, arith, nat_lt, ltb-true, ltb-false}
 use Rattle.std.specs.Prelude.{position}
 use Rattle.std.specs.List.{position_or_len}
 use Rattle.std.proofs.lemmas.List.{length-drop, length-take-le}
 use Rattle.std.proofs.lemmas.List.Splits.{slice_split_first, slice_split_none}
 use Rattle.std.proofs.lemmas.List.Sums.{fails_before_first}
-use Rattle.mc_top.specs.Lines.{is_line_end, lines_of, PutsLine, CutsLine, EndsText}
+use Rattle.mc_top.specs.Lines.{is_line_end, lines_of, PutsLine, CutsLine}
 
 -- a line that ends, and what follows its end
 pub cut-some : (text : List ℕ) (end : ℕ) → position is_line_end text ≡ Some end → (lines_of text ≡ take end text ∷ lines_of (drop (end + 1) text)) × (end < length text)

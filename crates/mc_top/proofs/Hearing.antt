@@ -1,12 +1,11 @@
 -- What a client that was heard piece by piece has said, by the cut of its bytes.
-use Rattle.std.proofs.Common.{◌≡◌, ◌≢◌, ℕ, zero, suc, ◌+◌, ◌-◌, ◌<◌, ◌≤◌, inl, inr, Bool, true, false, List, [], ◌∷◌, ◌++◌, length, take, drop, get_or, Result, Err, Option, Some, None, refl, sym, subst, ap, ◌∙◌, append_assoc, arith}
+use Rattle.std.proofs.Common.{◌≡◌, ◌≢◌, ℕ, ◌+◌, ◌-◌, ◌<◌, inl, inr, Bool, true, false, List, [], ◌∷◌, ◌++◌, length, take, drop, Err, Option, Some, None, refl, sym, subst, ap, ◌∙◌, append_assoc, arith}
 use Rattle.std.proofs.lemmas.List.{nil_from_length, length-append, append-nil, take-append-drop, get_or_append_left, get_or-append_right}
 use Rattle.std.proofs.lemmas.Bool.{cases_lt}
 use Rattle.mc_nbt.specs.Reading.{IsBytes}
 use Rattle.mc_nbt.specs.Numbers.{IsBytes-after, IsBytes-take, IsBytes-drop}
 use Rattle.mc_frame.specs.declared.fault.FrameFault.{FrameFault}
 use Rattle.mc_frame.specs.declared.fault.FrameFault.TheVariants.{LongLength, ZeroLength}
-use Rattle.mc_frame.specs.Frame.{SpellsFrame}
 use Rattle.mc_frame.specs.Cut.{SpellsFrames, IsPart, Ends, Cut, IsCut, IsCutAt, kept_count}
 use Rattle.mc_frame.specs.Held.{Splitting}
 use Rattle.mc_frame.specs.Splitting.{Feeds, TakesFrame}

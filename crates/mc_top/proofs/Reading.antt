@@ -1,11 +1,9 @@
 -- How a text is read line by line, and what that shows of the whole text.
 use Rattle.std.proofs.Common.{◌≡◌, ◌≢◌, ℕ, zero, suc, ◌+◌, ◌-◌, ◌<◌, ◌≤◌, ◌⊎◌, inl, inr, Bool, true, false, cond, List, [], ◌∷◌, ◌++◌, length, take, drop, Option, Some, None, Result, Ok, Err, refl, sym, subst, ap, ◌∙◌, append_assoc, arith, Bor}
-use Rattle.std.proofs.lemmas.List.{nil_from_length, length-append, length-drop, append-nil, take_all}
+use Rattle.std.proofs.lemmas.List.{length-append, length-drop, append-nil}
 use Rattle.std.specs.Prelude.{◌==◌, ◌↔◌, IsTrue, MatchOption, option_map}
 use Rattle.std.proofs.lemmas.List.Splits.{length-slice_split}
 use Rattle.std.proofs.lemmas.Bool.{cases_lt, eqb-true}
-use lib.IntN.{ℤ}
-use Rattle.mc_nbt.specs.Reading.{IsBytes}
 use Rattle.mc_fields.specs.declared.packet.PacketFault.{PacketFault}
 use Rattle.mc_fields.specs.Row.{frame_read, packet_of}
 use Rattle.mc_frame.specs.Cut.{Cut, IsCut, IsPart}
@@ -18,16 +16,15 @@ use Rattle.mc_up.specs.declared.status_up.StatusUp.{StatusUp}
 use Rattle.mc_up.specs.declared.status_up.StatusUp.TheVariants.{Request, Ping}
 use Rattle.mc_up.specs.Hand as hand
 use Rattle.mc_up.specs.StatusUp as up
-use Rattle.mc_top.specs.declared.bad_input.BadInput.{BadInput}
 use Rattle.mc_top.specs.declared.bad_input.InputFault.{InputFault}
 use Rattle.mc_top.specs.declared.bad_input.InputFault.TheVariants as faults
 use Rattle.mc_top.specs.declared.stage.Stage.{Stage}
 use Rattle.mc_top.specs.declared.stage.Stage.TheVariants as stages
 use Rattle.mc_top.specs.Lines.{is_line_end, lines_of, line_bytes, behind, joined_by, lines_bytes, CutsLine, EndsText}
-use Rattle.mc_top.specs.Client.{Talk, Answer, goes, wrong, answer, greeted, asked, is_status, said, reply_lines}
-use Rattle.mc_top.specs.StatusText.{text_max, size_of, HoldsByte, IsWithin, FirstLines, IsFine, AreFineBefore, AreAnswered, EndsInside, IsFirstFault, IsAnswered, IsStatusText}
-use Rattle.mc_top.specs.Heard.{HasHeard, IsIdle, BeginsWrong, IsWrong, HearsLine, IsWrongLine, IsInside, IsTooLong, IsWrongNext, last_line}
-use Rattle.mc_top.proofs.Hearing.{Said, idle_part, waiting_said, over_said, wrong_said}
+use Rattle.mc_top.specs.Client.{goes, wrong, answer, greeted, asked, is_status, said}
+use Rattle.mc_top.specs.StatusText.{text_max, size_of, HoldsByte, IsWithin, FirstLines, IsFine, AreFineBefore, AreAnswered, IsFirstFault, IsStatusText}
+use Rattle.mc_top.specs.Heard.{HasHeard, IsIdle, BeginsWrong, HearsLine, IsWrongLine, IsInside, IsTooLong, IsWrongNext, last_line}
+use Rattle.mc_top.proofs.Hearing.{Said, waiting_said, over_said, wrong_said}
 
 -- ---- lists of lines
 

@@ -1,6 +1,6 @@
 -- A client that asks for the status, over the list of its frames, of the page 'Server List Ping' of wiki.vg for protocol 47: a
 -- handshake, then requests, each of which is answered, then a ping, which is answered and ends it.
-use Rattle.std.specs.Prelude.{◌≡◌, ℕ, ◌==◌, Bool, false, List, [], ◌∷◌, ◌++◌, Option, Some, None, Result, Ok, Err, codes, if◌then◌else◌}
+use Rattle.std.specs.Prelude.{ℕ, ◌==◌, Bool, false, List, [], ◌∷◌, ◌++◌, Option, Some, None, Result, Ok, Err, codes, if◌then◌else◌}
 use Rattle.std.specs.List.{flat_map}
 use lib.IntN.{ℤ, pos, negsuc}
 use Rattle.hex.specs.Hex.{encode_lower}

@@ -1,5 +1,5 @@
 -- What a client that is heard piece by piece stands for: the bytes that it has said.
-use Rattle.std.specs.Prelude.{◌≡◌, ◌≢◌, ℕ, ◌-◌, ◌<◌, ◌⊎◌, ◌==◌, Bool, true, false, if◌then◌else◌, List, [], ◌∷◌, ◌++◌, length, Option, Some, None, Result, Ok, Err}
+use Rattle.std.specs.Prelude.{◌≡◌, ◌≢◌, ℕ, ◌-◌, ◌<◌, ◌⊎◌, ◌==◌, Bool, true, false, if◌then◌else◌, List, ◌++◌, length, Some, None, Result, Ok, Err}
 use Rattle.mc_nbt.specs.Reading.{IsBytes}
 use Rattle.mc_frame.specs.declared.fault.FrameFault.{FrameFault}
 use Rattle.mc_frame.specs.Frame.{SpellsFrame}
@@ -13,7 +13,7 @@ use Rattle.mc_top.specs.declared.client.Unheard.{Unheard}
 use Rattle.mc_top.specs.declared.client.Unheard.TheVariants as unheard
 use Rattle.mc_top.specs.Lines.{line_bytes}
 use Rattle.mc_top.specs.StatusText.{text_max}
-use Rattle.mc_top.specs.Client.{Talk, talk, answer, goes, wrong, reply_lines}
+use Rattle.mc_top.specs.Client.{talk, answer, goes, wrong, reply_lines}
 
 -- what holds of the fault of a function, unless memory ran out
 abbrev pub IfFault : {A : Type 0} → Result A Unheard → (InputFault → Type 0) → Type 0

@@ -2,7 +2,7 @@
 -- devices have counted; left and held are what is left to read and what was written, where the devices tell it.
 use Rattle.std.specs.Prelude.{◌≡◌, ℕ, ◌⊎◌, List, [], ◌∷◌, ◌++◌, take, map, string_bytes, Option, IfSome, Some, None, codes}
 use Rattle.std.specs.declared.string.String.{String}
-use Rattle.mc_wire.specs.Count.{Rose, StandsOrRises}
+use Rattle.mc_wire.specs.Count.{Rose}
 use Rattle.mc_wire.specs.Stream.{Grows, IsAtEnd}
 use Rattle.mc_top.specs.declared.bad_input.BadInput.{BadInput}
 use Rattle.mc_top.specs.declared.ended.Ended.{Ended}

@@ -7,7 +7,7 @@ use Rattle.mc_top.specs.declared.bad_input.InputFault.{InputFault}
 use Rattle.mc_top.specs.declared.bad_input.InputFault.TheVariants as faults
 use Rattle.mc_top.specs.declared.stage.Stage.TheVariants as stages
 use Rattle.mc_top.specs.Lines.{lines_of, lines_bytes}
-use Rattle.mc_top.specs.Client.{Talk, said, reply_lines}
+use Rattle.mc_top.specs.Client.{said, reply_lines}
 
 -- the most bytes that a text has
 abbrev pub text_max : ℕ

@@ -9,6 +9,7 @@ mod client;
 mod command;
 mod ended;
 mod hear;
+mod laws;
 mod lines;
 mod stage;
 mod status_text;
@@ -16,3 +17,4 @@ mod status_text;
 mod tests;
 
 pub use command::run;
+pub use laws::one_status_text;

@@ -1,4 +1,4 @@
-use Rattle.std.proofs.Common.{◌≡◌, ◌≢◌}
+use Rattle.std.proofs.Common.{◌≢◌}
 use Rattle.mc_top.specs.declared.stage.Stage.TheVariants as stages
 use Rattle.mc_top.proofs.Hearing.{next_answered, wrong_length}
 use Rattle.mc_top.proofs.client.answer_next.Goals as goal

@@ -1,9 +1,9 @@
-use Rattle.std.proofs.Common.{rules, ◌≡◌, [], ◌∷◌, ◌++◌, ◌∙◌, Ok, sym, ap, refl, w64}
+use Rattle.std.proofs.Common.{rules, [], ◌∷◌, ◌++◌, ◌∙◌, Ok, sym, ap, w64}
 use Rattle.std.proofs.lemmas.Int.{to_z-of_z}
 use mir.Val.{SFits}
 use Rattle.mc_up.specs.declared.status_down.StatusDown.TheVariants.{Response, Pong}
 use Rattle.mc_top.specs.Client.{asked, reply, status_json}
-use Rattle.mc_top.proofs.Hearing.{reply_one, wrong_said}
+use Rattle.mc_top.proofs.Hearing.{reply_one}
 use Rattle.mc_top.proofs.client.ask.Goals as goal
 
 pub returns-in_ok-write_status_line-in-Ok-Request-clause-ok : goal.returns-in_ok-write_status_line-in-Ok-Request-clause-ok

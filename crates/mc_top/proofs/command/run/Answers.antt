@@ -1,5 +1,4 @@
 use Rattle.std.proofs.Common.{rules}
-use Rattle.mc_top.specs.Run.{IsStatusCommand}
 use Rattle.mc_top.proofs.Inputs.{served, never_served, named, not_named, found_not_fine}
 use Rattle.mc_top.proofs.command.run.Goals as goal
 

@@ -1,7 +1,5 @@
-use Rattle.std.proofs.Common.{rules, ◌≡◌, ◌≢◌, ◌+◌, ◌<◌, ◌++◌, length, take, arith, false}
+use Rattle.std.proofs.Common.{rules, ◌≡◌, ◌<◌, ◌++◌, length, take, arith}
 use Rattle.std.proofs.lemmas.Result.{err_from_is_err_and}
-use Rattle.mc_nbt.specs.Reading.{IsBytes}
-use Rattle.mc_top.specs.declared.stage.Stage.TheVariants as stages
 use Rattle.mc_top.proofs.Hearing.{idle_part, rest_over, part_fed, part_wrong, parts_next, piece_done, fault_follows}
 use Rattle.mc_top.proofs.hear.hear.Goals as goal
 

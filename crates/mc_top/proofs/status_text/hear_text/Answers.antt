@@ -1,6 +1,5 @@
-use Rattle.std.proofs.Common.{◌≡◌, Option, None, List, ℕ, subst}
 use Rattle.mc_top.specs.Heard.{IsInside}
-use Rattle.mc_top.proofs.Reading.{HasRead, nothing_read, read_next, wrong_text, cut_text, fine_text, cuts_next, refused_not, none_left}
+use Rattle.mc_top.proofs.Reading.{nothing_read, read_next, wrong_text, cut_text, fine_text, cuts_next, refused_not, none_left}
 use Rattle.mc_top.proofs.status_text.hear_text.Goals as goal
 
 pub loop-rest-init : goal.loop-rest-init

@@ -1,4 +1,3 @@
-use Rattle.std.proofs.Common.{◌≡◌, ◌≤◌, length}
 use Rattle.std.specs.Prelude.{option_map}
 use Rattle.mc_top.proofs.Reading.{HasRead, left_size}
 use Rattle.mc_top.proofs.status_text.hear_text.Given as goal

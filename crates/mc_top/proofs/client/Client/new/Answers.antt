@@ -1,4 +1,4 @@
-use Rattle.mc_top.proofs.Reading.{nothing_heard, nothing_idle, wrong_text, cut_text}
+use Rattle.mc_top.proofs.Reading.{nothing_heard, nothing_idle}
 use Rattle.mc_top.proofs.client.Client.new.Goals as goal
 
 pub returns-clause-heard : goal.returns-clause-heard
