@@ -20,7 +20,7 @@ pub record Reached (joined : List ℕ) (frames : List (List ℕ)) (now : Splitti
   pub before : now.before ≡ kept_count (length front)
 
 -- one frame more
-framed_more : (frames : List (List ℕ)) (front payload next : List ℕ) → SpellsFrames frames front → SpellsFrame payload next → SpellsFrames (frames ++ payload ∷ []) (front ++ next)
+pub framed_more : (frames : List (List ℕ)) (front payload next : List ℕ) → SpellsFrames frames front → SpellsFrame payload next → SpellsFrames (frames ++ payload ∷ []) (front ++ next)
 framed_more [] front payload next none s = (next, [], ap (λ (t : List ℕ). t ++ next) none ∙ sym (append-nil next), s, refl)
 framed_more (first ∷ frames) front payload next f s = (f.0, f.1 ++ next, ap (λ (t : List ℕ). t ++ next) f.2 ∙ append_assoc f.0 f.1 next, f.3, framed_more frames f.1 payload next f.4 s)
 
@@ -62,7 +62,7 @@ reached (took (Frame payload) ∷ events) joined frames old now run r =
     let P : List (List ℕ) → Type 0 = λ t. Reached (joined ++ fed_bytes events) t now in
     subst P (append_assoc frames (payload ∷ []) (taken_frames events)) after
 reached (took More ∷ events) joined frames old now run r =
-    let same = run.1.1 in
+    let same = run.1.2 in
     reached events joined frames run.0 now run.2 (reached_same joined frames old run.0 (ap (λ (s : Splitting). s.held) same) (ap (λ (s : Splitting). s.before) same) r)
 reached (took (Bad fault) ∷ events) joined frames old now run r =
     let same = run.1.1 in

@@ -36,13 +36,13 @@ zero_reads bytes zero_ = rw (zero_.parts, varint_only 3 Anything (pos 0) zero_.s
 
 -- ---- a cut ends where no frame stands
 
-HasLongLength-more : (bytes more : List ℕ) → HasLongLength bytes → HasLongLength (bytes ++ more)
+pub HasLongLength-more : (bytes more : List ℕ) → HasLongLength bytes → HasLongLength (bytes ++ more)
 HasLongLength-more bytes more long = record {
   there = omega (arith, long.there, length-append bytes more);
   marked = λ k lt. rw (get_or_append_left bytes more 0 k (omega (arith, long.there))) (long.marked k lt);
 }
 
-HasZeroLength-more : (bytes more : List ℕ) → HasZeroLength bytes → HasZeroLength (bytes ++ more)
+pub HasZeroLength-more : (bytes more : List ℕ) → HasZeroLength bytes → HasZeroLength (bytes ++ more)
 HasZeroLength-more bytes more zero_ = record {
   size = zero_.size;
   after = zero_.after ++ more;
@@ -173,11 +173,11 @@ stopped_ends LongVarInt count at bytes is s = (s, is)
 stopped_ends BadLength count at bytes is s = (s, is)
 stopped_ends other count at bytes is s = absurd s
 
-frame_some : (payload bytes : List ℕ) → SpellsFrame payload bytes → 0 < length bytes
+pub frame_some : (payload bytes : List ℕ) → SpellsFrame payload bytes → 0 < length bytes
 frame_some payload bytes s = let len = ap length s.parts in omega (arith, len, s.some, length-append s.size payload)
 
 -- a frame before a cut is a cut
-framed_cut : (count : ℕ) (bytes payload front after : List ℕ) (cut : Cut) → bytes ≡ front ++ after → SpellsFrame payload front → IsCutAt (count + length front) after cut → IsCutAt count bytes (record cut { frames = payload ∷ cut.frames })
+pub framed_cut : (count : ℕ) (bytes payload front after : List ℕ) (cut : Cut) → bytes ≡ front ++ after → SpellsFrame payload front → IsCutAt (count + length front) after cut → IsCutAt count bytes (record cut { frames = payload ∷ cut.frames })
 framed_cut count bytes payload front after cut parts s c =
     let counted : count + length front + length c.front ≡ count + length (front ++ c.front) = omega (arith, length-append front c.front) in
     let P : ℕ → Type 0 = λ n. Ends n cut.rest cut.fault in

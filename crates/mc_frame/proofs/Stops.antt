@@ -62,6 +62,10 @@ length_part bytes fits cut =
       spelled = record { size = bytes ++ 1 ∷ []; sized = spelled.1; some = omega (arith, many, closed-some bytes); parts = sym (append_assoc bytes (1 ∷ []) payload) };
     }
 
+-- nothing is a part of every frame
+pub nothing_part : IsPart []
+nothing_part = length_part [] (λ i. omega arith) (omega arith, record { there = omega arith; marked = λ k less. absurd (omega (arith, less)) })
+
 -- ---- the bytes end inside the payload, or the length is 0
 
 payload_part : (start size after : List ℕ) (len : ℕ) → start ≡ size ++ after → SpellsVarint 3 (pos len) size → 0 < len → length after < len → IsPart start

@@ -32,7 +32,7 @@ pub record TakesFrame (old : Splitting) (payload : List ℕ) (new : Splitting) :
 -- taking a frame: what the held bytes begin with, by the definition of a cut, and nothing else
 abbrev pub Takes : Splitting → Take → Splitting → Type 0
 Takes old (Frame payload) new = TakesFrame old payload new
-Takes old More new = IsPart old.held × (new ≡ old)
+Takes old More new = IsPart old.held × (old.fault ≡ None) × (new ≡ old)
 Takes old (Bad fault) new = Ends old.before old.held (Some fault) × (new ≡ record old { fault = Some fault })
 
 -- ---- any list of calls

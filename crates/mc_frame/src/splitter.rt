@@ -78,13 +78,20 @@ impl Splitter {
         }
     }
 
+    /// How many bytes are held.
+    pub fn len(&self) -> usize
+        ensures { result ≡ length self.now.held }
+    {
+        self.buffer.len() - self.start
+    }
+
     /// How many more bytes are taken.
     fn room(&self) -> usize
         ensures { result ≡ room_for self.now.fault self.now.held }
     {
         match self.fault {
             Some(_) => 0,
-            None => HELD_MAX - (self.buffer.len() - self.start),
+            None => HELD_MAX - self.len(),
         }
     }
 

@@ -1,14 +1,18 @@
 -- What is known of an input that was read whole.
-use Rattle.std.proofs.Common.{◌≡◌, ℕ, ◌<◌, Bool, List, [], ◌∷◌, length, get_or, Option, Some, None, sym, subst, ap, ◌∙◌, arith}
-use Rattle.std.specs.Prelude.{IfSome, IfNone, IsTrue, ◌↔◌, map}
+use Rattle.std.proofs.Common.{◌≡◌, ℕ, ◌<◌, ◌⊎◌, inl, inr, Bool, List, [], ◌∷◌, ◌++◌, length, take, get_or, Option, Some, None, Result, Ok, Err, sym, subst, ap, ◌∙◌, append_assoc, arith, refl}
+use Rattle.std.specs.Prelude.{IfSome, IsTrue, ◌↔◌, map, OnOk, OnErr}
 use Rattle.std.specs.Str.{bytes_eq}
 use Rattle.std.proofs.lemmas.Slice.Eq.{bytes_eq-Decides}
-use Rattle.std.proofs.lemmas.List.{append-nil}
-use lib.IntN.{ℤ}
-use Rattle.mc_wire.specs.Stream.{Consumes, IsAtEnd}
-use Rattle.mc_top.specs.Lines.{text_bytes}
-use Rattle.mc_top.specs.Exchange.{IsExchange}
-use Rattle.mc_top.specs.Run.{IsRefused}
+use Rattle.std.proofs.lemmas.List.{append-nil, take_all}
+use Rattle.mc_wire.specs.Count.{Rose, StandsOrRises}
+use Rattle.mc_wire.specs.Stream.{Grows, Consumes, IsAtEnd}
+use Rattle.mc_top.specs.declared.bad_input.BadInput.{BadInput}
+use Rattle.mc_top.specs.declared.ended.Ended.{Ended}
+use Rattle.mc_top.specs.declared.ended.Ended.TheVariants as ended
+use Rattle.mc_top.specs.Ended.{ended_line, bad_input_line, ended_after, status_of}
+use Rattle.mc_top.specs.StatusText.{IsStatusText}
+use Rattle.mc_top.specs.Run.{RepliedPart, RepliedPartOrNothing, IsKnown, Replied, Found, Refused, WroteLast, WroteTextThenLast, IsFineText, IsBadText, IsNotFine, IsNotBad}
+use Rattle.mc_top.proofs.OneText.{fine_or_bad}
 
 -- what holds of the bytes that were read holds of what was left, where that is told
 pub of_whole : (P : List ℕ → Type 0) (left left' : Option (List ℕ)) (bytes : List ℕ) → Consumes left left' bytes → IsAtEnd left' → P bytes → IfSome left P
@@ -17,21 +21,6 @@ of_whole P (Some xs) None bytes all end p = absurd all
 of_whole P (Some xs) (Some ys) bytes all end p =
     let same : xs ≡ bytes = all ∙ rw end (append-nil bytes) in
     subst P (sym same) p
-
--- an input whose bytes are no exchange is refused
-pub no_exchange : (input bytes : List ℕ) → Some bytes ≡ text_bytes input → ((number : ℤ) → ¬ IsExchange number bytes) → IsRefused input
-no_exchange input bytes is none number x =
-    let same : x.bytes ≡ bytes = some_is x.bytes bytes (sym x.lines ∙ sym is) in
-    let P : List ℕ → Type 0 = λ t. IsExchange number t in
-    none number (subst P same x.exchange)
-  where
-    some_is : (a b : List ℕ) → Some a ≡ Some b → a ≡ b
-    some_is a b e = cc
-
--- what holds where there is no value
-pub at_none : {A : Type 0} (P : Type 0) (o : Option A) → IfNone o P → o ≡ None → P
-at_none P None p e = p
-at_none P (Some x) p e = absurd cc
 
 -- a list of one text is that text where its bytes compare equal to it
 pub one_word : {X : Type 0} (bytes : X → List ℕ) (words : List X) (word : X) (text : List ℕ) (b : Bool) → 0 < length words → length words < 2 → word ≡ get_or words 0 word → b ≡ bytes_eq (bytes word) text → IsTrue b ↔ (map bytes words ≡ text ∷ [])
@@ -47,3 +36,148 @@ one_word {X} bytes (w ∷ []) word text b some few is same = (there, here)
 
     here : map bytes (w ∷ []) ≡ text ∷ [] → IsTrue b
     here e = let first : bytes w ≡ text = cc in same ∙ (bytes_eq-Decides (bytes word) text).1 (of_word ∙ first)
+
+-- a last line was written, or a part of it where the sink failed
+pub wrote_last : {E : Type 0} (r : Result (Unit {0}) E) (held held' : Option (List ℕ)) (faults faults' : ℕ) (piece line : List ℕ) → OnOk r (Grows held held' piece) → OnErr r ((n : ℕ) × Grows held held' (take n piece)) → OnErr r (Rose faults faults') → piece ≡ ended_line line → WroteLast held held' faults faults' line
+wrote_last (Ok x) held held' faults faults' piece line whole part failed is = let P : List ℕ → Type 0 = λ t. Grows held held' t in inl (subst P is whole)
+wrote_last (Err e) held held' faults faults' piece line whole part failed is = let P : List ℕ → Type 0 = λ t. Grows held held' (take part.0 t) in inr (failed, part.0, subst P is part.1)
+
+-- nothing is behind a text
+grows_two : (held middle held' : Option (List ℕ)) (first second : List ℕ) → Grows held middle first → Grows middle held' second → Grows held held' (first ++ second)
+grows_two None None None first second a b = tt
+grows_two None None (Some ys) first second a b = absurd b
+grows_two None (Some xs) held' first second a b = absurd a
+grows_two (Some xs) None None first second a b = tt
+grows_two (Some xs) None (Some zs) first second a b = absurd b
+grows_two (Some xs) (Some ys) None first second a b = tt
+grows_two (Some xs) (Some ys) (Some zs) first second a b = b ∙ ap (λ (t : List ℕ). t ++ second) a ∙ append_assoc xs first second
+
+rose_after : (old middle new : ℕ) → StandsOrRises old middle → Rose middle new → Rose old new
+rose_after old middle new (inl same) (inl less) = inl (omega (arith, same, less))
+rose_after old middle new (inl same) (inr end) = inr end
+rose_after old middle new (inr up) (inl less) = let at_least = up.0 in inl (omega (arith, at_least, less))
+rose_after old middle new (inr up) (inr end) = inr end
+
+-- a last line behind a text
+pub wrote_both : (held middle held' : Option (List ℕ)) (old mid new : ℕ) (text line : List ℕ) → Grows held middle text → StandsOrRises old mid → WroteLast middle held' mid new line → WroteTextThenLast held held' old new text line
+wrote_both held middle held' old mid new text line a counts (inl whole) = inl (grows_two held middle held' text (ended_line line) a whole)
+wrote_both held middle held' old mid new text line a counts (inr part) = inr (rose_after old mid new counts part.0, part.1, grows_two held middle held' text (take part.1 (ended_line line)) a part.2)
+
+-- what was found, and then named in the last line
+pub refused : (bad : BadInput) (left left' held middle held' : Option (List ℕ)) (old mid new : ℕ) → Found bad left left' held middle → StandsOrRises old mid → WroteLast middle held' mid new (bad_input_line bad) → Refused left left' held held' old new
+refused bad left left' held middle held' old mid new f counts last = record {
+  bad = bad;
+  text = f.text;
+  first = f.first;
+  not_fine = f.not_fine;
+  ended = f.ended;
+  wrote = wrote_both held middle held' old mid new f.text (bad_input_line bad) f.wrote counts last;
+}
+
+-- all of a text is some first part of it
+pub found_part : (bad : BadInput) (left left' held held' : Option (List ℕ)) → Found bad left left' held held' → RepliedPart left held held'
+found_part bad left left' held held' f =
+    let P : List ℕ → Type 0 = λ t. Grows held held' t in
+    record { bad = Some bad; text = f.text; is = f.first; len = length f.text; wrote = subst P (sym (take_all (length f.text) f.text (omega arith))) f.wrote }
+
+-- ---- what was read and written whole
+
+pub replied : (left left' held held' : Option (List ℕ)) (bytes text : List ℕ) → Consumes left left' bytes → IsAtEnd left' → IsStatusText bytes None text → Grows held held' text → Replied left left' held held'
+replied left left' held held' bytes text all end is wrote = record {
+  text = text;
+  fine = of_whole (IsFineText text) left left' bytes all end is;
+  not_bad = of_whole IsNotBad left left' bytes all end (λ bad other u. fine_or_bad bytes text other bad is u);
+  ended = end;
+  wrote = wrote;
+}
+
+pub found : (bad : BadInput) (left left' held held' : Option (List ℕ)) (bytes text : List ℕ) → Consumes left left' bytes → IsAtEnd left' → IsStatusText bytes (Some bad) text → Grows held held' text → Found bad left left' held held'
+found bad left left' held held' bytes text all end is wrote = record {
+  text = text;
+  first = of_whole (IsBadText bad text) left left' bytes all end is;
+  not_fine = of_whole IsNotFine left left' bytes all end (λ other u. fine_or_bad bytes other text bad u is);
+  ended = end;
+  wrote = wrote;
+}
+
+pub replied_part : (left left' held held' : Option (List ℕ)) (bytes text : List ℕ) (bad : Option BadInput) → Consumes left left' bytes → IsAtEnd left' → IsStatusText bytes bad text → (n : ℕ) × Grows held held' (take n text) → RepliedPart left held held'
+replied_part left left' held held' bytes text bad all end is wrote = record {
+  bad = bad;
+  text = text;
+  is = of_whole (λ input. IsStatusText input bad text) left left' bytes all end is;
+  len = wrote.0;
+  wrote = wrote.1;
+}
+
+-- ---- how it ended, from the fault
+
+no_bad : (bad : BadInput) → ended.BadInput bad ≡ ended.Done → ⊥
+no_bad bad e = cc
+
+not_bad : (bad : BadInput) → ended.Done ≡ ended.BadInput bad → ⊥
+not_bad bad e = cc
+
+bad_is : (a b : BadInput) → ended.BadInput a ≡ ended.BadInput b → a ≡ b
+bad_is a b e = cc
+
+pub done_replied : (fault : Option BadInput) (result : Ended) (left left' held held' : Option (List ℕ)) (bytes text : List ℕ) → result ≡ ended_after fault → result ≡ ended.Done → Consumes left left' bytes → IsAtEnd left' → IsStatusText bytes fault text → Grows held held' text → Replied left left' held held'
+done_replied None result left left' held held' bytes text is done all end t wrote = replied left left' held held' bytes text all end t wrote
+done_replied (Some bad) result left left' held held' bytes text is done all end t wrote = absurd (no_bad bad (sym is ∙ done))
+
+pub bad_found : (fault : Option BadInput) (result : Ended) (bad : BadInput) (left left' held held' : Option (List ℕ)) (bytes text : List ℕ) → result ≡ ended_after fault → result ≡ ended.BadInput bad → Consumes left left' bytes → IsAtEnd left' → IsStatusText bytes fault text → Grows held held' text → Found bad left left' held held'
+bad_found None result bad left left' held held' bytes text is bad_ all end t wrote = absurd (not_bad bad (sym is ∙ bad_))
+bad_found (Some other) result bad left left' held held' bytes text is bad_ all end t wrote =
+    let P : BadInput → Type 0 = λ b. Found b left left' held held' in
+    subst P (bad_is other bad (sym is ∙ bad_)) (found other left left' held held' bytes text all end t wrote)
+
+-- ---- the status of a run
+
+-- what is known of an input goes against what holds of it
+known_not : (P Q : List ℕ → Type 0) (left : Option (List ℕ)) → IsKnown left P → IfSome left Q → ((input : List ℕ) → P input → Q input → ⊥) → ⊥
+known_not P Q None known holds against = known
+known_not P Q (Some input) known holds against = against input known holds
+
+rose_before : (old middle new : ℕ) → Rose old middle → StandsOrRises middle new → Rose old new
+rose_before old middle new (inl less) (inl same) = inl (omega (arith, less, same))
+rose_before old middle new (inl less) (inr up) = let most = up.0 in inl (omega (arith, less, most))
+rose_before old middle new (inr end) (inl same) = inr (same ∙ end)
+rose_before old middle new (inr end) (inr up) = let most = up.0 in let within = up.1 in inr (omega (arith, end, most, within))
+
+-- a command that found no fault serves an input that is fine
+pub served : (C : Type 0) (result : Ended) (status : ℕ) (in_ in_' out_ mid new : ℕ) → status ≡ status_of result → ((bad : BadInput) → result ≡ ended.BadInput bad → ⊥) → (result ≡ ended.Usage → ¬ C) → (result ≡ ended.ReadFault → Rose in_ in_') → (result ≡ ended.WriteFault → Rose out_ mid) → StandsOrRises mid new → C → ¬ Rose in_ in_' → ¬ Rose out_ new → (status ≡ 0) ⊎ (status ≡ 1)
+served C ended.Done status in_ in_' out_ mid new is not_bad usage read write counts c quiet quiet' = inl is
+served C ended.NoMemory status in_ in_' out_ mid new is not_bad usage read write counts c quiet quiet' = inr is
+served C ended.Usage status in_ in_' out_ mid new is not_bad usage read write counts c quiet quiet' = absurd (usage refl c)
+served C ended.ReadFault status in_ in_' out_ mid new is not_bad usage read write counts c quiet quiet' = absurd (quiet (read refl))
+served C ended.WriteFault status in_ in_' out_ mid new is not_bad usage read write counts c quiet quiet' = absurd (quiet' (rose_before out_ mid new (write refl) counts))
+served C (ended.BadInput bad) status in_ in_' out_ mid new is not_bad usage read write counts c quiet quiet' = absurd (not_bad bad refl)
+
+-- and one that has a fault it does not
+pub never_served : (C : Type 0) (result : Ended) (status : ℕ) (bad : BadInput) (text : List ℕ) (left left' held held' : Option (List ℕ)) (in_ in_' out_ mid new : ℕ) → status ≡ status_of result → ((other : BadInput) → result ≡ ended.BadInput other → ⊥) → (result ≡ ended.Usage → ¬ C) → (result ≡ ended.Done → Replied left left' held held') → (result ≡ ended.ReadFault → Rose in_ in_') → (result ≡ ended.WriteFault → Rose out_ mid) → StandsOrRises mid new → C → IsKnown left (IsBadText bad text) → ¬ Rose in_ in_' → ¬ Rose out_ new → (status ≡ 6) ⊎ (status ≡ 1)
+never_served C ended.Done status bad text left left' held held' in_ in_' out_ mid new is not_bad usage done read write counts c known quiet quiet' = absurd (known_not (IsBadText bad text) IsNotBad left known (done refl).not_bad (λ input b n. n bad text b))
+never_served C ended.NoMemory status bad text left left' held held' in_ in_' out_ mid new is not_bad usage done read write counts c known quiet quiet' = inr is
+never_served C ended.Usage status bad text left left' held held' in_ in_' out_ mid new is not_bad usage done read write counts c known quiet quiet' = absurd (usage refl c)
+never_served C ended.ReadFault status bad text left left' held held' in_ in_' out_ mid new is not_bad usage done read write counts c known quiet quiet' = absurd (quiet (read refl))
+never_served C ended.WriteFault status bad text left left' held held' in_ in_' out_ mid new is not_bad usage done read write counts c known quiet quiet' = absurd (quiet' (rose_before out_ mid new (write refl) counts))
+never_served C (ended.BadInput other) status bad text left left' held held' in_ in_' out_ mid new is not_bad usage done read write counts c known quiet quiet' = absurd (not_bad other refl)
+
+-- where a fault was found, an input is not fine
+pub found_not_fine : (bad : BadInput) (text : List ℕ) (left left' held held' : Option (List ℕ)) → Found bad left left' held held' → IsKnown left (IsFineText text) → ⊥
+found_not_fine bad text left left' held held' f known = known_not (IsFineText text) IsNotFine left known f.not_fine (λ input t n. n text t)
+
+six_is_not_one : (bad : BadInput) (result : Ended) (status : ℕ) → status ≡ status_of result → result ≡ ended.BadInput bad → status ≡ 1 → ⊥
+six_is_not_one bad result status is e one = let six : status ≡ 6 = is ∙ ap status_of e in absurd (omega (arith, six, one))
+
+one_is_not_six : (result : Ended) (status : ℕ) → status ≡ status_of result → result ≡ ended.NoMemory → status ≡ 6 → ⊥
+one_is_not_six result status is e six = let one : status ≡ 1 = is ∙ ap status_of e in absurd (omega (arith, six, one))
+
+-- the last line was named, or there was no memory for it
+pub named : (A : Type 0) (view : A → Option (List ℕ)) (bad : BadInput) (result : Ended) (status : ℕ) (left left' held : Option (List ℕ)) (mid new : A) (old middle after : ℕ) → status ≡ status_of result → (result ≡ ended.BadInput bad) ⊎ ((result ≡ ended.NoMemory) × (new ≡ mid)) → (result ≡ ended.BadInput bad → WroteLast (view mid) (view new) middle after (bad_input_line bad)) → StandsOrRises old middle → Found bad left left' held (view mid) → status ≡ 6 → Refused left left' held (view new) old after
+named A view bad result status left left' held mid new old middle after is (inl e) wrote counts f six = refused bad left left' held (view mid) (view new) old middle after f counts (wrote e)
+named A view bad result status left left' held mid new old middle after is (inr e) wrote counts f six = absurd (one_is_not_six result status is e.0 six)
+
+pub not_named : (A : Type 0) (view : A → Option (List ℕ)) (bad : BadInput) (result : Ended) (status : ℕ) (left left' held : Option (List ℕ)) (mid new : A) → status ≡ status_of result → (result ≡ ended.BadInput bad) ⊎ ((result ≡ ended.NoMemory) × (new ≡ mid)) → Found bad left left' held (view mid) → status ≡ 1 → RepliedPartOrNothing left held (view new)
+not_named A view bad result status left left' held mid new is (inl e) f one = absurd (six_is_not_one bad result status is e one)
+not_named A view bad result status left left' held mid new is (inr e) f one =
+    let P : A → Type 0 = λ a. RepliedPart left held (view a) in
+    inr (subst P (sym e.1) (found_part bad left left' held (view mid) f))

@@ -1,4 +1,6 @@
 pub mod Cuts
-pub mod Exchanges
 pub mod Replies
+pub mod Hearing
+pub mod Reading
+pub mod OneText
 pub mod Inputs

@@ -9,8 +9,8 @@ use Rattle.mc_fields.specs.Varint.{varint_spelling, groups_spelling}
 use Rattle.mc_fields.specs.Text.{text_spelling}
 use Rattle.mc_up.specs.declared.status_down.StatusDown.TheVariants.{Response, Pong}
 use Rattle.mc_up.specs.StatusDown.{FitsStatusDown, spelling_of}
-use Rattle.mc_top.specs.Frame.{IsPayload}
-use Rattle.mc_top.specs.Exchange.{status_json}
+use Rattle.mc_frame.specs.Frame.{IsPayload}
+use Rattle.mc_top.specs.Client.{status_json}
 
 json_utf8 : is_utf8 status_json ≡ true
 unfolding is_utf8 chars encode

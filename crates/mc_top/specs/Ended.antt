@@ -1,15 +1,22 @@
 -- The statuses of the program, and the last line that each has. Rules of this project.
-use Rattle.std.specs.Prelude.{ℕ, List, [], ◌∷◌, ◌++◌, codes}
+use Rattle.std.specs.Prelude.{ℕ, List, [], ◌∷◌, ◌++◌, Option, Some, None, codes, decimal}
+use Rattle.mc_top.specs.declared.bad_input.BadInput.{BadInput}
 use Rattle.mc_top.specs.declared.ended.Ended.{Ended}
-use Rattle.mc_top.specs.declared.ended.Ended.TheVariants.{Done, NoMemory, Usage, ReadFault, WriteFault, BadInput}
+use Rattle.mc_top.specs.declared.ended.Ended.TheVariants as ended
+use Rattle.mc_top.specs.FaultName.{fault_name}
+
+-- how a command ends whose input has this first fault
+abbrev pub ended_after : Option BadInput → Ended
+ended_after None = ended.Done
+ended_after (Some bad) = ended.BadInput bad
 
 abbrev pub status_of : Ended → ℕ
-status_of Done = 0
-status_of NoMemory = 1
-status_of Usage = 2
-status_of ReadFault = 3
-status_of WriteFault = 4
-status_of BadInput = 6
+status_of ended.Done = 0
+status_of ended.NoMemory = 1
+status_of ended.Usage = 2
+status_of ended.ReadFault = 3
+status_of ended.WriteFault = 4
+status_of (ended.BadInput bad) = 6
 
 abbrev pub usage_line : List ℕ
 usage_line = codes "usage: craft47 status, serve, replay, bot, view, show or load"
@@ -17,17 +24,19 @@ usage_line = codes "usage: craft47 status, serve, replay, bot, view, show or loa
 abbrev pub read_fault_line : List ℕ
 read_fault_line = codes "read fault"
 
-abbrev pub bad_input_line : List ℕ
-bad_input_line = codes "bad input"
+-- where the first fault of a text shows, and what it is
+abbrev pub bad_input_line : BadInput → List ℕ
+bad_input_line bad = codes "bad input at " ++ decimal bad.line ++ codes ": " ++ fault_name bad.kind
 
 -- a line and its end
 abbrev pub ended_line : List ℕ → List ℕ
 ended_line line = line ++ 10 ∷ []
 
-abbrev pub last_line_of : Ended → List ℕ
-last_line_of Usage = ended_line usage_line
-last_line_of ReadFault = ended_line read_fault_line
-last_line_of BadInput = ended_line bad_input_line
-last_line_of Done = []
-last_line_of NoMemory = []
-last_line_of WriteFault = []
+-- the last line where it does not depend on the input
+abbrev pub fixed_line_of : Ended → List ℕ
+fixed_line_of ended.Usage = ended_line usage_line
+fixed_line_of ended.ReadFault = ended_line read_fault_line
+fixed_line_of ended.Done = []
+fixed_line_of ended.NoMemory = []
+fixed_line_of ended.WriteFault = []
+fixed_line_of (ended.BadInput bad) = []

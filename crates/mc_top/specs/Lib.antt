@@ -1,5 +1,7 @@
-pub mod Frame
 pub mod Lines
-pub mod Exchange
+pub mod FaultName
 pub mod Ended
+pub mod Client
+pub mod StatusText
+pub mod Heard
 pub mod Run

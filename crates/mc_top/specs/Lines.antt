@@ -1,6 +1,6 @@
 -- A text of lines of hex, each of which stands for some bytes. Rules of this project: lines are parted by LF, and a line that
 -- is empty or begins with `#` stands for none.
-use Rattle.std.specs.Prelude.{◌≡◌, ℕ, ◌==◌, Bool, true, false, List, [], ◌∷◌, ◌++◌, Option, Some, None, if◌then◌else◌}
+use Rattle.std.specs.Prelude.{◌≡◌, ℕ, ◌+◌, length, ◌==◌, Bool, true, false, List, [], ◌∷◌, ◌++◌, Option, Some, None, if◌then◌else◌}
 use Rattle.std.specs.List.{slice_split}
 use Rattle.std.specs.Result.{result_ok}
 use Rattle.hex.specs.Hex.{decode_of}
@@ -36,11 +36,17 @@ unfoldable pub lines_bytes : List (List ℕ) → Option (List ℕ)
 lines_bytes [] = Some []
 lines_bytes (line ∷ lines) = joined_by (line_bytes line) (lines_bytes lines)
 
--- the bytes that a text stands for, or none where a line is no hex
-abbrev pub text_bytes : List ℕ → Option (List ℕ)
-text_bytes text = lines_bytes (lines_of text)
-
 -- the bytes of a line were put behind the others, or it was no hex
 abbrev pub PutsLine : Option (List ℕ) → List ℕ → List ℕ → Bool → Type 0
 PutsLine None old new is_hex = is_hex ≡ false
 PutsLine (Some bytes) old new is_hex = (is_hex ≡ true) × (new ≡ old ++ bytes)
+
+-- a line is the first of a text, and so much follows its end
+pub record CutsLine (text line rest : List ℕ) : Type 0 where
+  pub lines : lines_of text ≡ line ∷ lines_of rest
+  pub size : length line + 1 + length rest ≡ length text
+
+-- a line is all of a text
+pub record EndsText (text line : List ℕ) : Type 0 where
+  pub lines : lines_of text ≡ line ∷ []
+  pub size : length line ≡ length text

@@ -2,50 +2,80 @@
 -- devices have counted; left and held are what is left to read and what was written, where the devices tell it.
 use Rattle.std.specs.Prelude.{◌≡◌, ℕ, ◌⊎◌, List, [], ◌∷◌, ◌++◌, take, map, string_bytes, Option, IfSome, Some, None, codes}
 use Rattle.std.specs.declared.string.String.{String}
-use lib.IntN.{ℤ}
 use Rattle.mc_wire.specs.Count.{Rose}
 use Rattle.mc_wire.specs.Stream.{Grows, IsAtEnd}
+use Rattle.mc_top.specs.declared.bad_input.BadInput.{BadInput}
 use Rattle.mc_top.specs.declared.ended.Ended.{Ended}
-use Rattle.mc_top.specs.Ended.{status_of}
-use Rattle.mc_top.specs.Exchange.{Accepts, reply_lines}
+use Rattle.mc_top.specs.Ended.{status_of, bad_input_line}
+use Rattle.mc_top.specs.StatusText.{IsStatusText}
 
 -- the words are the one word `status`
 abbrev pub IsStatusCommand : {Z : Type 0} → List (String Z) → Type 0
 IsStatusCommand words = map string_bytes words ≡ codes "status" ∷ []
 
--- no exchange about the status
-abbrev pub IsRefused : List ℕ → Type 0
-IsRefused input = (number : ℤ) → ¬ Accepts number input
+-- nothing is wrong with an input, and this is its text
+abbrev pub IsFineText : List ℕ → List ℕ → Type 0
+IsFineText text input = IsStatusText input None text
 
--- the input was read to its end, it is an exchange, and its replies were written
+-- this is the first fault of an input, and the text of what stands before it
+abbrev pub IsBadText : BadInput → List ℕ → List ℕ → Type 0
+IsBadText bad text input = IsStatusText input (Some bad) text
+
+-- an input is not fine, or has no fault
+abbrev pub IsNotFine : List ℕ → Type 0
+IsNotFine input = (text : List ℕ) → ¬ IsFineText text input
+
+abbrev pub IsNotBad : List ℕ → Type 0
+IsNotBad input = (bad : BadInput) (text : List ℕ) → ¬ IsBadText bad text input
+
+-- the input was read to its end, nothing is wrong with it, and its text was written
 pub record Replied (left left' held held' : Option (List ℕ)) : Type 0 where
-  pub number : ℤ
-  pub accepted : IfSome left (Accepts number)
+  pub text : List ℕ
+  pub fine : IfSome left (IsFineText text)
+  pub not_bad : IfSome left IsNotBad
   pub ended : IsAtEnd left'
-  pub wrote : Grows held held' (reply_lines number)
+  pub wrote : Grows held held' text
 
--- some first part of the replies to an exchange was written
+-- some first part of the text of an input was written
 pub record RepliedPart (left held held' : Option (List ℕ)) : Type 0 where
-  pub number : ℤ
-  pub accepted : IfSome left (Accepts number)
+  pub bad : Option BadInput
+  pub text : List ℕ
+  pub is : IfSome left (λ input. IsStatusText input bad text)
   pub len : ℕ
-  pub wrote : Grows held held' (take len (reply_lines number))
+  pub wrote : Grows held held' (take len text)
 
--- the input was read to its end, and is no exchange
-pub record Refused (left left' : Option (List ℕ)) : Type 0 where
-  pub refused : IfSome left IsRefused
+-- the input was read to its end, this is its first fault, and the text of what stands before it was written
+pub record Found (bad : BadInput) (left left' held held' : Option (List ℕ)) : Type 0 where
+  pub text : List ℕ
+  pub first : IfSome left (IsBadText bad text)
+  pub not_fine : IfSome left IsNotFine
   pub ended : IsAtEnd left'
+  pub wrote : Grows held held' text
 
 -- a last line was written, or some first part of it where the sink failed
 abbrev pub WroteLast : Option (List ℕ) → Option (List ℕ) → ℕ → ℕ → List ℕ → Type 0
 WroteLast held held' faults faults' line =
     Grows held held' (line ++ 10 ∷ []) ⊎ (Rose faults faults' × (len : ℕ) × Grows held held' (take len (line ++ 10 ∷ [])))
 
+-- the same behind a text
+abbrev pub WroteTextThenLast : Option (List ℕ) → Option (List ℕ) → ℕ → ℕ → List ℕ → List ℕ → Type 0
+WroteTextThenLast held held' faults faults' text line =
+    Grows held held' (text ++ (line ++ 10 ∷ [])) ⊎ (Rose faults faults' × (len : ℕ) × Grows held held' (text ++ take len (line ++ 10 ∷ [])))
+
+-- the input was read to its end and has a first fault, and the text of what stands before it and the last line were written
+pub record Refused (left left' held held' : Option (List ℕ)) (faults faults' : ℕ) : Type 0 where
+  pub bad : BadInput
+  pub text : List ℕ
+  pub first : IfSome left (IsBadText bad text)
+  pub not_fine : IfSome left IsNotFine
+  pub ended : IsAtEnd left'
+  pub wrote : WroteTextThenLast held held' faults faults' text (bad_input_line bad)
+
 -- the statuses that a run may answer
 abbrev pub IsStatus : ℕ → Type 0
 IsStatus status = (ended : Ended) × (status ≡ status_of ended)
 
--- some first part of the replies, or nothing
+-- some first part of the text, or nothing
 abbrev pub RepliedPartOrNothing : Option (List ℕ) → Option (List ℕ) → Option (List ℕ) → Type 0
 RepliedPartOrNothing left held held' = Grows held held' [] ⊎ RepliedPart left held held'
 

@@ -1,31 +1,16 @@
-ghost use Rattle.std.specs.Prelude.{◌≡◌, ◌↔◌, ◌⊎◌, ℕ, List, Some, IsTrue, IfOk, IfSome, IfNone};
-ghost use lib.IntN.{ℤ};
-ghost use Rattle.mc_wire.specs.Count.{Rose};
-ghost use Rattle.mc_top.specs.Exchange.{Accepts, reply_lines};
+ghost use Rattle.std.specs.Prelude.{◌≡◌, ◌↔◌, ◌⊎◌, List, ℕ, IsTrue, take};
+ghost use Rattle.mc_wire.specs.Count.{Rose, StandsOrRises};
+ghost use Rattle.mc_wire.specs.Stream.{Grows};
+ghost use Rattle.mc_top.specs.declared.bad_input.BadInput.{BadInput};
 ghost use Rattle.mc_top.specs.Ended.{usage_line, read_fault_line, bad_input_line};
-ghost use Rattle.mc_top.specs.Run.{IsStatusCommand, IsStatus, IsRefused, IsKnown, Replied, RepliedPart, RepliedPartOrNothing, Refused, WroteLast};
+ghost use Rattle.mc_top.specs.Run.{IsStatusCommand, IsStatus, IsFineText, IsBadText, IsKnown, Replied, RepliedPart, RepliedPartOrNothing, Found, Refused, WroteLast};
 
+use crate::bad_input::BadInput;
 use crate::ended::Ended;
-use crate::exchange::{ping_of, replies};
-use crate::lines::decode_text;
+use crate::status_text::status_text;
 use mc_nbt::NoMemory;
 use mc_wire::{InputError, Sink, Source, read_all, write_all};
 use std::alloc::Global;
-
-/// The lines of the replies to an input, or `None` where it is no exchange about the status.
-fn replies_to(alloc: Global, input: &[u8]) -> Result<Option<Vec<u8>>, NoMemory>
-    ensures some { IfOk result (λ found. IfSome found (λ lines.
-        (number : ℤ) × Accepts number input.now × (lines.items ≡ reply_lines number))) }
-    ensures none { IfOk result (λ found. IfNone found (IsRefused input.now)) }
-{
-    let Some(bytes) = decode_text(alloc, input)? else {
-        return Ok(None);
-    };
-    let Some(number) = ping_of(alloc, &bytes)? else {
-        return Ok(None);
-    };
-    Ok(Some(replies(alloc, number)?))
-}
 
 /// The command `status`: it reads one client's bytes as lines of hex, and writes each reply frame as
 /// one such line.
@@ -37,20 +22,20 @@ fn status<I: Source, O: Sink>(alloc: Global, input: &mut I, out: &mut O) -> Ende
     ensures read_fault { result ≡ Ended.ReadFault → Rose (I.faults input.old) (I.faults input.new) × (out.new ≡ out.old) }
     ensures write_fault { result ≡ Ended.WriteFault → Rose (O.faults out.old) (O.faults out.new)
         × RepliedPart (I.left input.old) (O.held out.old) (O.held out.new) }
-    ensures bad_input { result ≡ Ended.BadInput → Refused (I.left input.old) (I.left input.new) × (out.new ≡ out.old) }
+    ensures bad_input { (bad : BadInput) → result ≡ Ended.BadInput bad →
+        Found bad (I.left input.old) (I.left input.new) (O.held out.old) (O.held out.new) }
+    ensures counts { StandsOrRises (O.faults out.old) (O.faults out.new) }
 {
     let text = match read_all(alloc, input) {
         Ok(text) => text,
         Err(InputError::Failed) => return Ended::ReadFault,
         Err(InputError::NoMemory) => return Ended::NoMemory,
     };
-    let lines = match replies_to(alloc, &text) {
-        Ok(Some(lines)) => lines,
-        Ok(None) => return Ended::BadInput,
-        Err(NoMemory) => return Ended::NoMemory,
+    let Ok(answer) = status_text(alloc, &text) else {
+        return Ended::NoMemory;
     };
-    match write_all(out, &lines) {
-        Ok(()) => Ended::Done,
+    match write_all(out, &answer.lines) {
+        Ok(()) => Ended::after(answer.fault),
         Err(_) => Ended::WriteFault,
     }
 }
@@ -75,13 +60,30 @@ fn perform<I: Source, O: Sink>(alloc: Global, words: &[String], input: &mut I, o
     ensures read_fault { result ≡ Ended.ReadFault → Rose (I.faults input.old) (I.faults input.new) × (out.new ≡ out.old) }
     ensures write_fault { result ≡ Ended.WriteFault → Rose (O.faults out.old) (O.faults out.new)
         × RepliedPart (I.left input.old) (O.held out.old) (O.held out.new) }
-    ensures bad_input { result ≡ Ended.BadInput → Refused (I.left input.old) (I.left input.new) × (out.new ≡ out.old) }
+    ensures bad_input { (bad : BadInput) → result ≡ Ended.BadInput bad →
+        Found bad (I.left input.old) (I.left input.new) (O.held out.old) (O.held out.new) }
+    ensures counts { StandsOrRises (O.faults out.old) (O.faults out.new) }
 {
     if is_status_command(words) {
         status(alloc, input, out)
     } else {
         Ended::Usage
     }
+}
+
+/// Writes the last line that names the first fault of an input, and says how the command ended then.
+fn write_bad_input<O: Sink>(alloc: Global, bad: BadInput, out: &mut O) -> Ended
+    ensures ended { (result ≡ Ended.BadInput bad) ⊎ ((result ≡ Ended.NoMemory) × (out.new ≡ out.old)) }
+    ensures wrote { result ≡ Ended.BadInput bad →
+        WroteLast (O.held out.old) (O.held out.new) (O.faults out.old) (O.faults out.new) (bad_input_line bad) }
+    ensures counts { StandsOrRises (O.faults out.old) (O.faults out.new) }
+{
+    let Ok(line) = bad.last_line(alloc) else {
+        return Ended::NoMemory;
+    };
+    // Where the last line is not written, the status still says how the command ended.
+    let _ = write_all(out, line.as_bytes());
+    Ended::BadInput(bad)
 }
 
 /// Runs the program: does what the words say, with the devices that it needs, and answers the status
@@ -99,11 +101,11 @@ pub fn run<I: Source, O: Sink>(alloc: Global, words: &[String], input: &mut I, o
     // There is no other status.
     ensures statuses { IsStatus result }
 
-    // 0: the input was read to its end and is an exchange about the status, and its replies were written.
+    // 0: the input was read to its end and nothing is wrong with it, and its text was written.
     ensures done { result ≡ 0 →
         Replied (I.left input.old) (I.left input.new) (O.held out.old) (O.held out.new) }
 
-    // 1: some first part of those replies was written, or nothing.
+    // 1: some first part of its text was written, or nothing.
     ensures no_memory { result ≡ 1 → RepliedPartOrNothing (I.left input.old) (O.held out.old) (O.held out.new) }
 
     // 2: exactly where the words are not the one word `status`; the input is untouched.
@@ -118,27 +120,30 @@ pub fn run<I: Source, O: Sink>(alloc: Global, words: &[String], input: &mut I, o
     ensures read_fault_line { result ≡ 3 →
         WroteLast (O.held out.old) (O.held out.new) (O.faults out.old) (O.faults out.new) read_fault_line }
 
-    // 4: only where the output's count of failures rose; some first part of the replies was written.
+    // 4: only where the output's count of failures rose; some first part of the text was written.
     ensures write_fault { result ≡ 4 → Rose (O.faults out.old) (O.faults out.new) }
     ensures write_fault_part { result ≡ 4 → RepliedPart (I.left input.old) (O.held out.old) (O.held out.new) }
 
-    // 6: only where the input was read to its end and is no such exchange.
-    ensures bad_input { result ≡ 6 → Refused (I.left input.old) (I.left input.new) }
-    ensures bad_input_line { result ≡ 6 →
-        WroteLast (O.held out.old) (O.held out.new) (O.faults out.old) (O.faults out.new) bad_input_line }
+    // 6: only where the input was read to its end and has a first fault; the text of what stands before it and the last
+    // line, which names it, were written.
+    ensures bad_input { result ≡ 6 →
+        Refused (I.left input.old) (I.left input.new) (O.held out.old) (O.held out.new) (O.faults out.old) (O.faults out.new) }
 
-    // An exchange is answered, and any other input is refused, unless memory runs out or a device fails.
-    ensures served { (number : ℤ) → IsStatusCommand words.now →
-        IsKnown (I.left input.old) (Accepts number) →
+    // An input that is fine is served, and one that has a fault is refused, unless memory runs out or a device fails.
+    ensures served { (text : List ℕ) → IsStatusCommand words.now →
+        IsKnown (I.left input.old) (IsFineText text) →
         ¬ Rose (I.faults input.old) (I.faults input.new) → ¬ Rose (O.faults out.old) (O.faults out.new) →
         (result ≡ 0) ⊎ (result ≡ 1) }
-    ensures refused { IsStatusCommand words.now →
-        IsKnown (I.left input.old) IsRefused →
-        ¬ Rose (I.faults input.old) (I.faults input.new) →
+    ensures refused { (bad : BadInput) (text : List ℕ) → IsStatusCommand words.now →
+        IsKnown (I.left input.old) (IsBadText bad text) →
+        ¬ Rose (I.faults input.old) (I.faults input.new) → ¬ Rose (O.faults out.old) (O.faults out.new) →
         (result ≡ 6) ⊎ (result ≡ 1) }
 {
     let ended = perform(alloc, words, input, out);
-    // Where the last line is not written, the status still says how the command ended.
-    let _ = write_all(out, ended.last_line());
-    ended.status()
+    let Ended::BadInput(bad) = ended else {
+        // Where the last line is not written, the status still says how the command ended.
+        let _ = write_all(out, ended.last_line());
+        return ended.status();
+    };
+    write_bad_input(alloc, bad, out).status()
 }

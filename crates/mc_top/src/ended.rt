@@ -1,5 +1,7 @@
 ghost use Rattle.std.specs.Prelude.{◌≡◌};
-ghost use Rattle.mc_top.specs.Ended.{status_of, last_line_of};
+ghost use Rattle.mc_top.specs.Ended.{status_of, fixed_line_of, ended_after};
+
+use crate::bad_input::BadInput;
 
 /// How a command ended.
 #[derive(Clone, Copy, Debug, PartialEq, Eq)]
@@ -15,10 +17,20 @@ pub enum Ended {
     /// The output failed.
     WriteFault,
     /// The input is not what the command reads.
-    BadInput,
+    BadInput(BadInput),
 }
 
 impl Ended {
+    /// How a command ends whose input has this first fault.
+    pub fn after(fault: Option<BadInput>) -> Ended
+        ensures { result ≡ ended_after fault }
+    {
+        match fault {
+            None => Ended::Done,
+            Some(bad) => Ended::BadInput(bad),
+        }
+    }
+
     /// The status of the program.
     pub fn status(self) -> u8
         ensures { result ≡ status_of self }
@@ -29,19 +41,19 @@ impl Ended {
             Ended::Usage => 2,
             Ended::ReadFault => 3,
             Ended::WriteFault => 4,
-            Ended::BadInput => 6,
+            Ended::BadInput(_) => 6,
         }
     }
 
-    /// The last line of the output with its end, or nothing where there is none.
+    /// The last line of the output with its end, or nothing where there is none or where a text's
+    /// fault makes it.
     pub fn last_line(self) -> &'static [u8]
-        ensures { result.now ≡ last_line_of self }
+        ensures { result.now ≡ fixed_line_of self }
     {
         match self {
-            Ended::Done | Ended::NoMemory | Ended::WriteFault => b"",
+            Ended::Done | Ended::NoMemory | Ended::WriteFault | Ended::BadInput(_) => b"",
             Ended::Usage => b"usage: craft47 status, serve, replay, bot, view, show or load\n",
             Ended::ReadFault => b"read fault\n",
-            Ended::BadInput => b"bad input\n",
         }
     }
 }

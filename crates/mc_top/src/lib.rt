@@ -1,15 +1,20 @@
 //! The commands of the program, over the devices that they need. It stands on the packets of `mc_up`,
-//! the devices of `mc_wire` and the hex of the crate `hex`.
+//! the frames of `mc_frame`, the devices of `mc_wire` and the hex of the crate `hex`.
 //!
 //! Its one contract is `run`: what each status means for the input and the output, and when it comes.
 #![tactic(auto)]
 
+mod bad_input;
+mod client;
 mod command;
 mod ended;
-mod exchange;
-mod frame;
+mod hear;
+mod laws;
 mod lines;
+mod stage;
+mod status_text;
 #[cfg(test)]
 mod tests;
 
 pub use command::run;
+pub use laws::one_status_text;

@@ -1,14 +1,20 @@
-use Rattle.std.proofs.Common.{refl}
-use Rattle.mc_top.specs.Run.{IsRefused}
-use Rattle.mc_top.proofs.Inputs.{of_whole, at_none}
+use Rattle.mc_top.proofs.Inputs.{done_replied, bad_found, replied_part}
 use Rattle.mc_top.proofs.command.status.Goals as goal
 
-pub returns-in-Ok-None-clause-bad_input : goal.returns-in-Ok-None-clause-bad_input
-returns-in-Ok-None-clause-bad_input g c _ =
-    let refused = at_none (IsRefused c.deref.result.now) c.in-Ok-None.field-0 c.in-Ok-None.ensures.none c.in-Ok-None.field-0-is in (
-      record {
-        refused = of_whole IsRefused _ _ c.in-Ok.text.items c.in-Ok.ensures.all c.in-Ok.ensures.end (rw c.deref.ensures.value at refused);
-        ended = c.in-Ok.ensures.end;
-      },
-      refl,
-    )
+pub returns-in-Ok-write_all-clause-done : goal.returns-in-Ok-write_all-clause-done
+returns-in-Ok-write_all-clause-done g c done =
+    let text = rw c.deref.ensures.value at c.in-Ok-status_text.ensures in
+    let wrote = rw c.deref-2.ensures.value at c.in-Ok-write_all.ensures.whole in
+    done_replied c.in-Ok-status_text.answer.fault c.after.result _ _ _ _ c.in-Ok.text.items c.in-Ok-status_text.answer.lines.items c.after.ensures done c.in-Ok.ensures.all c.in-Ok.ensures.end text wrote
+
+pub returns-in-Ok-write_all-clause-bad_input : goal.returns-in-Ok-write_all-clause-bad_input
+returns-in-Ok-write_all-clause-bad_input g c bad is =
+    let text = rw c.deref.ensures.value at c.in-Ok-status_text.ensures in
+    let wrote = rw c.deref-2.ensures.value at c.in-Ok-write_all.ensures.whole in
+    bad_found c.in-Ok-status_text.answer.fault c.after.result bad _ _ _ _ c.in-Ok.text.items c.in-Ok-status_text.answer.lines.items c.after.ensures is c.in-Ok.ensures.all c.in-Ok.ensures.end text wrote
+
+pub returns-clause-write_fault : goal.returns-clause-write_fault
+returns-clause-write_fault g c _ =
+    let text = rw c.deref.ensures.value at c.in-Ok-status_text.ensures in
+    let part = rw c.deref-2.ensures.value at c.in-Err.ensures.part in
+    (c.in-Err.ensures.failed, replied_part _ _ _ _ c.in-Ok.text.items c.in-Ok-status_text.answer.lines.items c.in-Ok-status_text.answer.fault c.in-Ok.ensures.all c.in-Ok.ensures.end text part)

@@ -1,0 +1,30 @@
+use Rattle.std.proofs.Common.{rules}
+use Rattle.mc_top.proofs.Inputs.{served, never_served, named, not_named, found_not_fine}
+use Rattle.mc_top.proofs.command.run.Goals as goal
+
+pub returns-in_default : goal.returns-in_default
+returns-in_default g c = record {
+  statuses = search rules;
+  done = search rules;
+  no_memory = search rules;
+  usage = search rules;
+  command = search rules;
+  usage_untouched = search rules;
+  usage_line = search rules;
+  read_fault = search rules;
+  read_fault_line = search rules;
+  write_fault = search rules;
+  write_fault_part = search rules;
+  bad_input = search rules;
+  served = λ text words known quiet quiet'. served _ c.perform-ended.result c.status.result _ _ _ _ _ c.status.ensures c.in_default.not-BadInput (λ e. (c.perform-ended.ensures.usage e).0) (λ e. (c.perform-ended.ensures.read_fault e).0) (λ e. (c.perform-ended.ensures.write_fault e).0) c.write_all.ensures.counts words quiet quiet';
+  refused = λ bad text words known quiet quiet'. never_served _ c.perform-ended.result c.status.result bad text _ _ _ _ _ _ _ _ _ c.status.ensures c.in_default.not-BadInput (λ e. (c.perform-ended.ensures.usage e).0) c.perform-ended.ensures.done (λ e. (c.perform-ended.ensures.read_fault e).0) (λ e. (c.perform-ended.ensures.write_fault e).0) c.write_all.ensures.counts words known quiet quiet';
+}
+
+pub returns-clause-no_memory : goal.returns-clause-no_memory
+returns-clause-no_memory g c is = not_named _ g.O.Sink.held c.in-BadInput.bad c.write_bad_input.result c.status-2.result _ _ _ c.perform-ended.new.out c.write_bad_input.new.out c.status-2.ensures c.write_bad_input.ensures.ended (c.perform-ended.ensures.bad_input c.in-BadInput.bad c.in-BadInput.is) is
+
+pub returns-clause-bad_input : goal.returns-clause-bad_input
+returns-clause-bad_input g c is = named _ g.O.Sink.held c.in-BadInput.bad c.write_bad_input.result c.status-2.result _ _ _ c.perform-ended.new.out c.write_bad_input.new.out _ _ _ c.status-2.ensures c.write_bad_input.ensures.ended c.write_bad_input.ensures.wrote c.perform-ended.ensures.counts (c.perform-ended.ensures.bad_input c.in-BadInput.bad c.in-BadInput.is) is
+
+pub returns-clause-served : goal.returns-clause-served
+returns-clause-served g c text words known quiet quiet' = absurd (found_not_fine c.in-BadInput.bad text _ _ _ _ (c.perform-ended.ensures.bad_input c.in-BadInput.bad c.in-BadInput.is) known)
