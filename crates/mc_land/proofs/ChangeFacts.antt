@@ -1,22 +1,21 @@
 -- A kept land where a column is made ready, and where it is settled.
-use Rattle.std.proofs.Common.{◌≡◌, ℕ, zero, suc, ◌+◌, ◌<◌, ◌≤◌, Bool, true, false, cond, not, List, [], ◌∷◌, ◌++◌, length, map, get_or, Option, Some, None, refl, sym, subst, ap, ◌∙◌, arith, inl, inr, ◌||◌}
+use Rattle.std.proofs.Common.{◌≡◌, ℕ, ◌<◌, true, false, cond, List, [], ◌∷◌, ◌++◌, length, map, get_or, Option, Some, None, refl, sym, subst, ap, ◌∙◌, arith, inl, inr, ◌||◌}
 use Rattle.std.specs.declared.cmp.Ordering.{Ordering}
 use Rattle.std.specs.declared.cmp.Ordering.TheVariants.{Less, Equal, Greater}
 use Rattle.std.specs.Ordering.{is_eq, eq_by_cmp}
 use Rattle.std.specs.Cmp.{tied_itself, eq_by_cmp_equiv}
 use Rattle.std.specs.Option.{option_map, is_some}
-use Rattle.std.specs.List.{range_with_len}
 use Rattle.std.specs.FinMap.{find}
 use Rattle.std.specs.FinMap.Entries.{find-append}
 use Rattle.std.specs.FinSet as set
-use Rattle.std.proofs.lemmas.Bool.{cases_lt, cases_eq, cases_Bool, true≢false}
-use Rattle.std.proofs.lemmas.List.{get_or-map, length-map, map-append, length-append, get_or_append_left, get_or_push}
+use Rattle.std.proofs.lemmas.Bool.{cases_lt}
+use Rattle.std.proofs.lemmas.List.{get_or-map, length-map, length-append, get_or_append_left, get_or_push}
 use Rattle.std.proofs.lemmas.List.FromFn.{get_or-map-range_with_len, length-map-range_with_len}
 use Rattle.mc_column.specs.Sizes.{cells, squares}
 use Rattle.mc_column.specs.Cells.{ColumnValue, HasSizes}
 use Rattle.mc_land.specs.declared.terrain.Terrain.{Terrain}
-use Rattle.mc_land.specs.Places.{IsPlace, Place, Key, place_cmp, key_cmp}
-use Rattle.mc_land.specs.Land.{LandValue, terrain_at, state_at, is_chest, settled_land, with_ready}
+use Rattle.mc_land.specs.Places.{IsPlace, Place, place_cmp}
+use Rattle.mc_land.specs.Land.{terrain_at, settled_land, with_ready}
 use Rattle.mc_land.specs.Grown.{own_column}
 use Rattle.mc_land.specs.Kept.{kept_edits, IsApart}
 use Rattle.mc_land.specs.KeptLand.{Columns, Chests, placed, present_states, settled_states, kept_land, IsFresh, IsIndexed, IsOwn, IsKeptLand}

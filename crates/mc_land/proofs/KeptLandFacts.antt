@@ -1,18 +1,13 @@
 -- What is looked up in a land that is kept as columns.
-use Rattle.std.proofs.Common.{◌≡◌, ℕ, zero, suc, ◌+◌, ◌*◌, ◌/◌, ◌%◌, ◌<◌, ◌≤◌, Bool, true, false, cond, not, eqb, List, [], ◌∷◌, length, map, get_or, Option, Some, None, refl, sym, subst, ap, ◌∙◌, arith, inl, inr}
+use Rattle.std.proofs.Common.{◌≡◌, ℕ, zero, suc, ◌<◌, true, false, cond, List, [], ◌∷◌, length, map, get_or, Some, None, refl, sym, ap, ◌∙◌, arith}
 use Rattle.std.specs.declared.cmp.Ordering.{Ordering}
 use Rattle.std.specs.declared.cmp.Ordering.TheVariants.{Less, Equal, Greater}
 use Rattle.std.specs.Ordering.{is_eq, eq_by_cmp}
-use Rattle.std.specs.Option.{option_map, is_some}
+use Rattle.std.specs.Option.{option_map}
 use Rattle.std.specs.Map.{lookup}
-use Rattle.std.specs.List.{AllByRecursion}
-use Rattle.std.specs.List.Sorted.{IsStrictlySortedBy}
-use Rattle.std.specs.FinMap.{FinMap, find}
-use Rattle.mc_column.specs.Sizes.{cells, squares, cells-is}
-use Rattle.mc_land.specs.declared.terrain.Terrain.{Terrain}
-use Rattle.mc_land.specs.Places.{Place, Key, place_cmp, key_cmp}
-use Rattle.mc_land.specs.Land.{terrain_at, state_at}
-use Rattle.mc_land.specs.KeptLand.{Columns, placed, IsIndexed}
+use Rattle.std.specs.FinMap.{find}
+use Rattle.mc_land.specs.Places.{Place, place_cmp}
+use Rattle.mc_land.specs.KeptLand.{placed, IsIndexed}
 use Rattle.mc_land.specs.Ready.{ReadyValue}
 use Rattle.mc_land.specs.Kept.{IsApart}
 use Rattle.std.specs.Cmp.{tied_itself, eq_by_cmp_equiv}

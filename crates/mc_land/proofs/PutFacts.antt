@@ -1,16 +1,14 @@
 -- A kept land where a cell is set, whole.
-use Rattle.std.proofs.Common.{◌≡◌, ℕ, ◌<◌, ◌+◌, Bool, true, false, cond, not, eqb, List, [], ◌∷◌, ◌++◌, length, map, get_or, set, Option, Some, None, refl, sym, subst, ap, ◌∙◌, arith}
+use Rattle.std.proofs.Common.{◌≡◌, ℕ, ◌<◌, Bool, true, false, cond, List, [], ◌∷◌, ◌++◌, map, Option, Some, None, refl, sym, subst, ap, ◌∙◌}
 use Rattle.std.specs.declared.cmp.Ordering.TheVariants.{Less, Equal, Greater}
 use Rattle.std.specs.Ordering.{is_eq, eq_by_cmp}
 use Rattle.std.specs.Cmp.{tied_itself, eq_by_cmp_equiv}
-use Rattle.std.specs.Option.{option_map, is_some}
+use Rattle.std.specs.Option.{is_some}
 use Rattle.std.specs.List.Sorted.{IsStrictlySortedBy}
 use Rattle.std.specs.FinMap.{FinMap, find, get, insert, remove, from_entries, get-insert, get-remove, get-from_entries, same_map}
 use Rattle.mc_column.specs.Sizes.{cells}
-use Rattle.mc_column.specs.Cells.{ColumnValue, HasSizes}
 use Rattle.mc_slots.specs.declared.pile.Pile.{Pile}
 use Rattle.mc_slots.specs.Chest.{empty_chest}
-use Rattle.std.proofs.lemmas.List.{length-set}
 use Rattle.mc_land.specs.declared.terrain.Terrain.{Terrain}
 use Rattle.mc_land.specs.Places.{Place, Key, place_cmp, key_cmp, key_of, is_inside, is_height, is_near}
 use Rattle.std.specs.Prelude.{unsigned_abs}
@@ -20,11 +18,11 @@ use Rattle.std.proofs.lemmas.Bool.{ltb-true}
 use lib.IntN.{ℤ, pos, negsuc}
 use Rattle.mc_land.proofs.PlaceFacts.{key_within}
 use Rattle.mc_land.specs.Land.{LandValue, block, state_at, edited, is_chest, chests_after, with_block, with_ready}
-use Rattle.mc_land.specs.Kept.{kept_edits, IsApart}
-use Rattle.mc_land.specs.KeptLand.{Columns, Chests, placed, present_states, settled_states, kept_land, IsFresh, IsOwn, IsKeptLand, IsPut}
-use Rattle.mc_land.specs.Ready.{ReadyValue, set_cell, set_at}
-use Rattle.mc_land.proofs.Orders.{places_total, exact_places, keys_total, exact_keys}
-use Rattle.mc_land.proofs.KeptLandFacts.{apart, find_map, lookup_is}
+use Rattle.mc_land.specs.Kept.{kept_edits}
+use Rattle.mc_land.specs.KeptLand.{Chests, placed, present_states, kept_land, IsKeptLand, IsPut}
+use Rattle.mc_land.specs.Ready.{ReadyValue, set_at}
+use Rattle.mc_land.proofs.Orders.{places_total, keys_total, exact_keys}
+use Rattle.mc_land.proofs.KeptLandFacts.{apart, lookup_is}
 use Rattle.mc_land.proofs.ChangeFacts.{ready_stays, push_land, push_keeps, find_push, placed_push}
 use Rattle.mc_land.proofs.SetFacts.{all_set, placed_map, set_place, edits_set, settled_set, places_same, state_edited, own_set}
 

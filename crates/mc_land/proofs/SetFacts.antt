@@ -1,30 +1,26 @@
 -- A kept land where a cell is set.
-use Rattle.std.proofs.Common.{◌≡◌, ℕ, zero, suc, ◌+◌, ◌<◌, ◌≤◌, nat_lt, Bool, true, false, cond, not, eqb, List, [], ◌∷◌, ◌++◌, length, map, get_or, set, Option, Some, None, refl, sym, subst, ap, ◌∙◌, arith, inl, inr, ◌||◌, ◌&&◌}
+use Rattle.std.proofs.Common.{◌≡◌, ℕ, ◌<◌, true, false, cond, eqb, List, [], ◌∷◌, ◌++◌, length, map, get_or, set, Option, Some, None, refl, sym, subst, ap, ◌∙◌, arith, inl, inr}
 use Rattle.std.specs.declared.cmp.Ordering.{Ordering}
 use Rattle.std.specs.declared.cmp.Ordering.TheVariants.{Less, Equal, Greater}
 use Rattle.std.specs.Ordering.{is_eq, eq_by_cmp}
 use Rattle.std.specs.Cmp.{tied_itself, eq_by_cmp_equiv}
-use Rattle.std.specs.Option.{option_map, is_some, unwrap_or}
-use Rattle.std.specs.FinMap.{FinMap, find, get, insert, remove, from_entries, get-insert, get-remove, get-from_entries, same_map}
-use Rattle.std.specs.FinSet as finset
-use Rattle.std.proofs.lemmas.Bool.{cases_lt, cases_eq, true≢false, eqb-true}
+use Rattle.std.specs.Option.{option_map, unwrap_or}
+use Rattle.std.specs.FinMap.{FinMap, find, get, insert, remove, get-insert, get-remove}
+use Rattle.std.proofs.lemmas.Bool.{cases_eq, true≢false, eqb-true}
 use Rattle.std.proofs.lemmas.List.{get_or-map, length-map, length-set, get_or-set_same, get_or-set_other, ext_get_or, map-append}
 use Rattle.mc_column.specs.Sizes.{cells}
 use Rattle.mc_column.specs.Cells.{ColumnValue, HasSizes}
 use Rattle.mc_slots.specs.declared.pile.Pile.{Pile}
-use Rattle.mc_slots.specs.Chest.{empty_chest}
 use Rattle.mc_land.specs.declared.terrain.Terrain.{Terrain}
 use Rattle.mc_land.specs.Places.{Place, Key, place_cmp, key_cmp}
-use Rattle.mc_land.specs.Land.{LandValue, terrain_at, state_at, edited, is_chest, chests_after, with_block, with_ready}
+use Rattle.mc_land.specs.Land.{LandValue, terrain_at, state_at, edited, chests_after}
 use Rattle.mc_land.specs.Kept.{kept_edits, IsApart}
-use Rattle.mc_land.specs.KeptLand.{Columns, Chests, placed, present_states, settled_states, kept_land, IsFresh, IsIndexed, IsOwn, IsKeptLand, IsPut}
+use Rattle.mc_land.specs.KeptLand.{Columns, placed, present_states, settled_states, IsFresh, IsIndexed, IsOwn, IsPut}
 use Rattle.mc_land.specs.Ready.{ReadyValue, set_cell, set_at}
 use Rattle.mc_land.proofs.Orders.{places_total, exact_places, keys_total, exact_keys}
-use Rattle.mc_land.proofs.EditsFacts.{changed_at}
 use Rattle.mc_land.proofs.LandFacts.{Puts, set_edits}
-use Rattle.mc_land.proofs.KeptLandFacts.{apart, find_map, found_indexed}
-use Rattle.mc_land.proofs.LookFacts.{present, settled, is_ready}
-use Rattle.mc_land.proofs.ChangeFacts.{ready_stays, push_land, push_keeps}
+use Rattle.mc_land.proofs.KeptLandFacts.{apart, find_map}
+use Rattle.mc_land.proofs.LookFacts.{present, settled}
 
 is_equal : (o : Ordering) → is_eq o ≡ true → o ≡ Equal
 is_equal Less e = absurd cc

@@ -1,23 +1,21 @@
 -- Sums over a land that is kept: what its edits and its chests come to.
-use Rattle.std.proofs.Common.{◌≡◌, ℕ, zero, suc, ◌+◌, ◌<◌, ◌≤◌, Bool, true, false, cond, ◌&&◌, List, [], ◌∷◌, ◌++◌, map, length, get_or, Option, Some, None, refl, sym, ap, subst, ◌∙◌, arith}
-use Rattle.std.specs.declared.cmp.Ordering.{Ordering}
-use Rattle.std.specs.declared.cmp.Ordering.TheVariants.{Less, Equal, Greater}
-use Rattle.std.specs.Ordering.{is_lt}
-use Rattle.std.specs.List.{filter, flat_map, range_with_len, sum_by, AllByRecursion}
+use Rattle.std.proofs.Common.{◌≡◌, ℕ, zero, suc, ◌+◌, ◌≤◌, Bool, true, false, cond, ◌&&◌, List, [], ◌∷◌, ◌++◌, map, length, get_or, Option, None, refl, sym, ap, ◌∙◌, arith}
+use Rattle.std.specs.declared.cmp.Ordering.TheVariants.{Less}
+use Rattle.std.specs.List.{filter, range_with_len, sum_by, AllByRecursion}
 use Rattle.std.specs.List.Sorted.{IsStrictlySortedBy}
 use Rattle.std.specs.Prelude.{T}
 use mir.Val.{bool_byte}
 use Rattle.std.specs.Option.{is_some, option_or}
-use Rattle.std.specs.FinMap.{FinMap, get, find, len, entries, entries_sorted, get-entries, contains_key, from_entries, get-from_entries, len-insert, len-empty}
+use Rattle.std.specs.FinMap.{find, len, entries, entries_sorted, get-entries, contains_key, from_entries, get-from_entries, len-insert, len-empty}
 use Rattle.std.specs.FinMap.Entries.{same_entries, is_sorted, below_all}
 use Rattle.std.proofs.lemmas.List.{length-map}
 use Rattle.std.proofs.Common.{length-append}
 use Rattle.std.proofs.lemmas.List.Sums.{sum_by-cons}
 use Rattle.mc_column.specs.Sizes.{cells}
 use Rattle.mc_land.specs.declared.terrain.Terrain.{Terrain}
-use Rattle.mc_land.specs.Places.{Place, Key, key_cmp, place_cmp}
+use Rattle.mc_land.specs.Places.{Place, Key, key_cmp}
 use Rattle.mc_land.specs.Kept.{is_changed, changes, kept_edits, IsApart}
-use Rattle.mc_land.specs.KeptLand.{Columns, Chests, placed, present_states, IsIndexed, IsKeptLand}
+use Rattle.mc_land.specs.KeptLand.{Chests, placed, present_states, IsIndexed, IsKeptLand}
 use Rattle.mc_land.specs.Ready.{ReadyValue}
 use Rattle.mc_land.specs.Sums.{changes_in, AreInside}
 use Rattle.mc_land.proofs.Orders.{keys_total, exact_keys}

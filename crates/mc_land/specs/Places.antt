@@ -1,6 +1,6 @@
 -- Where a cell lies: the numbers of its column of cells, and its index in it. The order of places is that of their
 -- numbers, x first.
-use Rattle.std.specs.Prelude.{Bool, false, nat_lt, nat_le, ◌&&◌, ℕ, ◌+◌, ◌*◌, ◌/◌, ◌%◌, unsigned_abs}
+use Rattle.std.specs.Prelude.{Bool, false, nat_lt, nat_le, ◌&&◌, ℕ, ◌/◌, ◌%◌, unsigned_abs}
 use Rattle.std.specs.declared.cmp.Ordering.{Ordering}
 use Rattle.std.specs.Ordering.{nat_cmp, int_cmp, ordering_then}
 use Rattle.std.specs.Int.{int_div_euclid, int_rem_euclid}

@@ -1,5 +1,5 @@
 -- What is counted in a kept land, column by column and chest by chest.
-use Rattle.std.specs.Prelude.{◌≡◌, ℕ, ◌<◌, List, length, slice_index_or}
+use Rattle.std.specs.Prelude.{ℕ, ◌<◌, List, length, slice_index_or}
 use Rattle.mc_land.specs.declared.terrain.Terrain.{Terrain}
 use Rattle.mc_land.specs.Places.{IsPlace}
 use Rattle.mc_land.specs.Ready.{ReadyValue}

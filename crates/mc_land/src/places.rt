@@ -1,8 +1,9 @@
-ghost use Rattle.std.specs.Prelude.{◌≡◌, ◌<◌};
+ghost use Rattle.std.specs.Prelude.{◌≡◌, ◌<◌, ℕ, unsigned_abs};
 ghost use lib.Signed.{◌≤ℤ◌, ◌<ℤ◌};
 ghost use lib.IntN.{pos};
-ghost use Rattle.mc_land.specs.Places.{column_number, inside, is_height, is_inside, is_near, place_of};
+ghost use Rattle.mc_land.specs.Places.{column_number, inside, is_height, is_inside, is_near, key_of, place_of};
 
+use crate::ready::index_of;
 use mc_fields::Cell;
 
 /// A column of cells by its numbers: 16 times the first is its lowest x, and 16 times the second
@@ -54,6 +55,17 @@ pub(crate) fn height_of(cell: &Cell) -> u8
     ensures { pos result ≡ cell.now.y }
 {
     cell.y as u8
+}
+
+/// A cell of the world by its column, and by its index in that.
+pub(crate) fn key_of(cell: &Cell) -> (Place, u16)
+    requires above { pos 0 ≤ℤ cell.now.y }
+    requires below { cell.now.y <ℤ pos 256 }
+    ensures is { result ≡ key_of cell.now.x (unsigned_abs cell.now.y) cell.now.z }
+    ensures at { (y : ℕ) → cell.now.y ≡ pos y → result ≡ key_of cell.now.x y cell.now.z }
+{
+    let index = index_of(x_inside(cell), height_of(cell), z_inside(cell));
+    (place_of(cell), index)
 }
 
 /// Whether a cell can be set: it is at a height of the world and not too far out.

@@ -1,15 +1,11 @@
-ghost use Rattle.std.specs.Prelude.{◌≡◌, ◌<◌, ◌↔◌, ℕ, false, IsNone};
-ghost use lib.Signed.{◌≤ℤ◌, ◌<ℤ◌};
-ghost use lib.IntN.{pos};
+ghost use Rattle.std.specs.Prelude.{◌≡◌, ◌<◌, ◌↔◌, false, IsNone};
 ghost use Rattle.std.specs.Option.{is_some, option_copied, option_copied_mut};
 ghost use Rattle.std.specs.FinMap.{get};
 ghost use Rattle.mc_column.specs.Sizes.{cells};
 ghost use Rattle.mc_land.specs.Land.{block, is_chest, state_at};
-ghost use Rattle.mc_land.specs.Places.{key_of};
 
 use super::Land;
-use crate::places::{Place, height_of, place_of, x_inside, z_inside};
-use crate::ready::index_of;
+use crate::places::{Place, key_of};
 use mc_fields::Cell;
 use mc_slots::Chest;
 
@@ -59,14 +55,4 @@ impl Land {
     {
         self.chests.get_mut(key)
     }
-}
-
-/// A cell by its column, and by its index in that.
-fn key_of(cell: &Cell) -> (Place, u16)
-    requires above { pos 0 ≤ℤ cell.now.y }
-    requires below { cell.now.y <ℤ pos 256 }
-    ensures { (y : ℕ) → cell.now.y ≡ pos y → result ≡ key_of cell.now.x y cell.now.z }
-{
-    let index = index_of(x_inside(cell), height_of(cell), z_inside(cell));
-    (place_of(cell), index)
 }

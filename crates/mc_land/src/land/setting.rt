@@ -9,8 +9,8 @@ ghost use Rattle.mc_land.specs.Land.{block, is_chest, with_block};
 use crate::fault::LandFault;
 use crate::growing::grow;
 use crate::land::{Land, index_at, push_ready};
-use crate::places::{Place, height_of, is_inside, place_of, x_inside, z_inside};
-use crate::ready::{Ready, index_of};
+use crate::places::{Place, height_of, is_inside, key_of, place_of, x_inside, z_inside};
+use crate::ready::Ready;
 use crate::terrain::Terrain;
 use mc_fields::Cell;
 use mc_nbt::NoMemory;
@@ -131,17 +131,6 @@ fn is_chest(state: u16) -> bool
     ensures { result ≡ is_chest state }
 {
     state / 16 == CHEST
-}
-
-/// The key of a cell of the world.
-fn key_of(cell: &Cell) -> (Place, u16)
-    requires { is_inside cell.now.x cell.now.y cell.now.z ≡ true }
-    ensures { result ≡ key_of cell.now.x (unsigned_abs cell.now.y) cell.now.z }
-{
-    (
-        place_of(cell),
-        index_of(x_inside(cell), height_of(cell), z_inside(cell)),
-    )
 }
 
 /// Puts a state into a cell of a column, which is made ready where it is not. Without memory all is

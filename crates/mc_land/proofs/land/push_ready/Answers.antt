@@ -1,5 +1,4 @@
-use Rattle.std.proofs.Common.{length, ◌≡◌, ◌++◌, ◌∷◌, [], ◌∙◌, sym, ap, arith, refl}
-use Rattle.mc_land.specs.Places.{place_cmp}
+use Rattle.std.proofs.Common.{length, ◌≡◌, ◌++◌, ◌∷◌, [], ◌∙◌, ap, refl}
 use Rattle.mc_land.proofs.KeptLandFacts.{inserted}
 use Rattle.mc_land.proofs.ChangeFacts.{index_push}
 use Rattle.mc_land.proofs.land.push_ready.Goals as goal

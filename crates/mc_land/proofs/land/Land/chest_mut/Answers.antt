@@ -6,12 +6,12 @@ use Rattle.mc_land.proofs.land.Land.chest_mut.Goals as goal
 
 pub returns : goal.returns
 returns c =
-    let piles = c.chest_at_mut.ensures.piles ∙ sym (chest_in_is c.args.self.now c.args.cell.x c.args.cell.y c.args.cell.z c.key_of.result (search rules) (search rules) c.key_of.ensures) in (
-      lends_alike c.chest_at_mut.result _ _ _ _ (λ some w. chest_put_is c.args.self.now c.args.cell.x c.args.cell.y c.args.cell.z c.key_of.result w (search rules) (search rules) c.key_of.ensures) (λ none. refl),
+    let piles = c.chest_at_mut.ensures.piles ∙ sym (chest_in_is c.args.self.now c.args.cell.x c.args.cell.y c.args.cell.z c.key_of.result (search rules) (search rules) c.key_of.ensures.at) in (
+      lends_alike c.chest_at_mut.result _ _ _ _ (λ some w. chest_put_is c.args.self.now c.args.cell.x c.args.cell.y c.args.cell.z c.key_of.result w (search rules) (search rules) c.key_of.ensures.at) (λ none. refl),
       record {
         lends = tt;
         none = none_there_mut c.chest_at_mut.result (chest_in c.args.self.now c.args.cell.x c.args.cell.y c.args.cell.z) (is_chest (block c.args.self.now c.args.cell.x c.args.cell.y c.args.cell.z)) piles
-            (chest_there c.args.self.now c.args.cell.x c.args.cell.y c.args.cell.z c.key_of.result (search rules) (search rules) c.key_of.ensures c.chest_at_mut.ensures.there);
+            (chest_there c.args.self.now c.args.cell.x c.args.cell.y c.args.cell.z c.key_of.result (search rules) (search rules) c.key_of.ensures.at c.chest_at_mut.ensures.there);
         piles = piles;
       },
     )

@@ -1,4 +1,4 @@
-use Rattle.std.proofs.Common.{◌≡◌, ◌∙◌}
+use Rattle.std.proofs.Common.{◌∙◌}
 use Rattle.mc_land.proofs.SumFacts.{are_inside, edits_len}
 use Rattle.mc_land.proofs.land.Land.edited.Goals as goal
 

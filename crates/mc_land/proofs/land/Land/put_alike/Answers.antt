@@ -1,4 +1,3 @@
-use Rattle.std.proofs.Common.{◌≡◌, sym, refl}
 use Rattle.mc_land.proofs.PutFacts.{after_alike, chest_at, put_cell}
 use Rattle.mc_land.proofs.land.Land.put_alike.Goals as goal
 

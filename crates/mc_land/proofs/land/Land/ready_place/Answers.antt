@@ -1,5 +1,4 @@
-use Rattle.std.proofs.Common.{◌≡◌, ◌∙◌, sym, ap, arith, refl}
-use Rattle.mc_column.specs.Cells.{HasSizes}
+use Rattle.std.proofs.Common.{◌∙◌, sym}
 use Rattle.mc_land.proofs.ChangeFacts.{ready_stays, push_land, push_keeps, ready_there, not_there, own_sizes, fresh_new}
 use Rattle.mc_land.proofs.KeptLandFacts.{found_unindexed}
 use Rattle.mc_land.proofs.land.Land.ready_place.Goals as goal

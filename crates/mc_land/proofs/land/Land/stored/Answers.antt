@@ -1,4 +1,4 @@
-use Rattle.std.proofs.Common.{◌≡◌, ◌∙◌, sym, ap}
+use Rattle.std.proofs.Common.{◌∙◌, sym, ap}
 use Rattle.std.specs.List.{sum_by}
 use Rattle.mc_slots.specs.Pile.{count_of}
 use Rattle.mc_land.specs.KeptLand.{Chests}

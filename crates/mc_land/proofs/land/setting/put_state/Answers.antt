@@ -1,7 +1,4 @@
-use Rattle.std.proofs.Common.{rules, ◌≡◌, ◌++◌, ◌∷◌, [], Some, ◌∙◌, sym, ap, arith, refl}
-use Rattle.std.specs.Prelude.{unsigned_abs}
-use Rattle.mc_land.specs.Ready.{set_cell}
-use Rattle.mc_land.specs.Places.{key_of}
+use Rattle.std.proofs.Common.{rules, Some, ◌∙◌, sym, refl}
 use Rattle.mc_land.proofs.ChangeFacts.{own_sizes, fresh_new, ready_there}
 use Rattle.mc_land.proofs.KeptLandFacts.{found_unindexed}
 use Rattle.mc_land.proofs.SetFacts.{set_is_map, indexed_set, put_there, put_made}

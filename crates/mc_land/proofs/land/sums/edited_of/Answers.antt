@@ -1,4 +1,4 @@
-use Rattle.std.proofs.Common.{◌≡◌, ◌∙◌, ap, arith}
+use Rattle.std.proofs.Common.{◌∙◌, ap, arith}
 use Rattle.mc_column.specs.Sizes.{cells-is}
 use mir.Val.{bool_byte}
 use Rattle.mc_land.specs.Kept.{is_changed}
