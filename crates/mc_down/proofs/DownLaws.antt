@@ -1,8 +1,7 @@
 -- Each packet is found by its id, and the words of its enum are those of its row.
-use Rattle.std.proofs.Common.{◌≡◌, ℕ, List, [], Ok, true, false, refl, ◌++◌}
+use Rattle.std.proofs.Common.{◌≡◌, ℕ, List, [], Ok, refl, ◌++◌}
 use lib.IntN.{ℤ, pos, negsuc}
 use Rattle.mc_nbt.specs.declared.fault.Kind.TheVariants.{BadNumber}
-use Rattle.mc_nbt.specs.declared.fault.Stop.{Stop}
 use Rattle.mc_nbt.specs.Reading.{stop_at}
 use Rattle.mc_nbt.specs.Combine.{checked_ok}
 use Rattle.mc_fields.specs.Row.{append_spelling, Spells, IsTied, row_tied, family_tied, frame_read, spelled_fits, fits_spelled, spelled_again}

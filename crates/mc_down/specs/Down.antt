@@ -1,6 +1,6 @@
 -- All packets to a client in play, of the page 'Protocol' of wiki.vg for protocol 47: the row of each id.
-use Rattle.std.specs.Prelude.{◌≡◌, ℕ, ◌==◌, ◌||◌, ◌&&◌, Bool, true, false, List, nat_le, refl}
-use lib.IntN.{ℤ, pos, negsuc}
+use Rattle.std.specs.Prelude.{ℕ, ◌==◌, ◌||◌, ◌&&◌, Bool, List, nat_le, refl}
+use lib.IntN.{ℤ, pos}
 use Rattle.mc_nbt.specs.declared.fault.Kind.TheVariants.{BadNumber}
 use Rattle.mc_nbt.specs.Combine.{tested}
 use Rattle.mc_nbt.specs.Rest.{rest}

@@ -1,5 +1,5 @@
 -- Parts of the packets to a client, of the pages 'Protocol' and 'Data types' of wiki.vg for protocol 47.
-use Rattle.std.specs.Prelude.{ℕ, Bool, true, false, List, codes, nat_lt, refl}
+use Rattle.std.specs.Prelude.{ℕ, Bool, false, List, codes, nat_lt, refl}
 use Rattle.std.specs.Str.{bytes_eq}
 use lib.IntN.{ℤ, pos, negsuc}
 use Rattle.mc_nbt.specs.Format.{Format, Anything}

@@ -1,5 +1,5 @@
 -- What the list of players says of each, of the page 'Protocol', packet 'Player List Item', of wiki.vg for protocol 47.
-use Rattle.std.specs.Prelude.{◌≡◌, ℕ, ◌||◌, Bool, true, false, List, [], Option, Some, None, nat_lt, refl}
+use Rattle.std.specs.Prelude.{◌≡◌, ℕ, ◌||◌, Bool, true, false, List, [], Option, None, nat_lt, refl}
 use lib.IntN.{ℤ, pos, negsuc}
 use Rattle.mc_nbt.specs.Reading.{Field}
 use Rattle.mc_nbt.specs.Format.{Format, IsFound, IsOnly, Anything}

@@ -1,6 +1,5 @@
-use Rattle.std.proofs.Common.{rules, ◌≡◌, get_or}
-use Rattle.mc_nbt.specs.Format.{Anything}
-use Rattle.mc_nbt.proofs.Appends.{AllFit-at, writing_next, writing_done}
+use Rattle.std.proofs.Common.{rules}
+use Rattle.mc_nbt.proofs.Appends.{writing_next, writing_done}
 use lib.IntN.{pos}
 use Rattle.mc_down.specs.Fields.{cell_change}
 use Rattle.mc_down.proofs.counted.append_records.Goals as goal

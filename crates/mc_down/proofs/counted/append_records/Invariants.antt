@@ -1,7 +1,5 @@
 use Rattle.std.proofs.Common.{drop}
-use Rattle.mc_nbt.specs.Format.{Anything}
 use Rattle.mc_nbt.proofs.Appends.{IsWriting}
-use lib.IntN.{pos}
 use Rattle.mc_down.specs.Fields.{cell_change}
 use Rattle.mc_down.proofs.counted.append_records.Given as goal
 

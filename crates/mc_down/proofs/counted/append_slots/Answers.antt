@@ -1,6 +1,6 @@
-use Rattle.std.proofs.Common.{rules, ◌≡◌, get_or}
+use Rattle.std.proofs.Common.{rules}
 use Rattle.mc_nbt.specs.Format.{Anything}
-use Rattle.mc_nbt.proofs.Appends.{AllFit-at, writing_next, writing_done}
+use Rattle.mc_nbt.proofs.Appends.{writing_next, writing_done}
 use Rattle.mc_slots.specs.SlotFormat.{slot}
 use Rattle.mc_down.proofs.counted.append_slots.Goals as goal
 

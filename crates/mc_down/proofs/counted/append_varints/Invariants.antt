@@ -1,7 +1,6 @@
 use Rattle.std.proofs.Common.{drop}
 use Rattle.mc_nbt.specs.Format.{Anything}
 use Rattle.mc_nbt.proofs.Appends.{IsWriting}
-use lib.IntN.{pos}
 use Rattle.mc_fields.specs.VarintFormat.{varint}
 use Rattle.mc_down.proofs.counted.append_varints.Given as goal
 

@@ -1,8 +1,6 @@
 use Rattle.std.proofs.Common.{◌≡◌, ◌-◌}
-use Rattle.mc_nbt.specs.Format.{Anything}
 use Rattle.mc_nbt.specs.Times.{times_at}
 use Rattle.mc_nbt.proofs.Loops.{with_front}
-use lib.IntN.{pos}
 use Rattle.mc_down.specs.Fields.{cell_change}
 use Rattle.mc_down.proofs.counted.records_in.Given as goal
 

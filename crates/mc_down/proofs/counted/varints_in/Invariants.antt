@@ -2,7 +2,6 @@ use Rattle.std.proofs.Common.{◌≡◌, ◌-◌}
 use Rattle.mc_nbt.specs.Format.{Anything}
 use Rattle.mc_nbt.specs.Times.{times_at}
 use Rattle.mc_nbt.proofs.Loops.{with_front}
-use lib.IntN.{pos}
 use Rattle.mc_fields.specs.VarintFormat.{varint}
 use Rattle.mc_down.proofs.counted.varints_in.Given as goal
 
