@@ -1,12 +1,12 @@
 -- What the code's shifts give, as the definitions of patterns have it.
-use Rattle.std.specs.Int.{w64, int_max, int_min}
-use Rattle.std.proofs.Common.{◌≡◌, ℕ, zero, suc, ◌+◌, ◌-◌, ◌*◌, ◌^◌, ◌<◌, ◌≤◌, min, Bool, true, false, sym, subst, ap, ◌∙◌, arith, inl, inr, refl}
+use Rattle.std.specs.Int.{w64}
+use Rattle.std.proofs.Common.{◌≡◌, ℕ, zero, suc, ◌+◌, ◌-◌, ◌*◌, ◌^◌, ◌<◌, ◌≤◌, min, Bool, true, false, sym, ap, ◌∙◌, arith, inl, inr, refl}
 use Rattle.std.proofs.Math.Nat.{mul-le-mul_left, mul-le-mul_right, pow-le-pow_right}
 use Rattle.std.proofs.lemmas.Bool.{cases_lt}
 use Rattle.std.proofs.lemmas.Int.{ints, clamps}
 use Rattle.std.proofs.lemmas.Nat.{pow-add, pow_pos}
-use lib.IntN.{ℤ, pos, negsuc, neg_ℤ, ◌*ℤ◌}
-use lib.Signed.{mag, shr_z, mag_shr}
+use lib.IntN.{ℤ, pos, ◌*ℤ◌}
+use lib.Signed.{shr_z, mag_shr}
 use mir.Val.{SFits}
 use Rattle.mc_fields.specs.Pattern.{FixesParts, held, with_sign}
 use Rattle.mc_fields.specs.PatternLaws.{floor_exact, shift_floor, shift_gone}

@@ -1,16 +1,15 @@
 -- The patterns that the code makes stand for their numbers, and the vast ones are told by their exponent.
 use Rattle.std.specs.Prelude.{nat_le, ◌==◌, if◌then◌else◌}
-use Rattle.std.specs.Int.{w32, int_div_euclid, int_rem_euclid}
-use Rattle.std.proofs.Common.{◌≡◌, ℕ, zero, suc, ◌+◌, ◌-◌, ◌*◌, ◌/◌, ◌%◌, ◌^◌, ◌<◌, ◌≤◌, max, Bool, true, false, sym, subst, ap, ◌∙◌, arith, inl, inr, refl, ne_eqb, le-leb}
-use Rattle.std.proofs.Math.Nat.{mul-le-mul, mul-le-mul_left, mul-le-mul_right, pow-le-pow_right}
+use Rattle.std.specs.Int.{int_div_euclid, int_rem_euclid}
+use Rattle.std.proofs.Common.{◌≡◌, ℕ, ◌+◌, ◌-◌, ◌*◌, ◌/◌, ◌%◌, ◌^◌, ◌<◌, ◌≤◌, max, Bool, true, false, sym, ap, ◌∙◌, arith, inl, inr, refl, ne_eqb, le-leb}
+use Rattle.std.proofs.Math.Nat.{mul-le-mul, pow-le-pow_right}
 use Rattle.std.proofs.lemmas.Bool.{cases_lt}
 use Rattle.std.proofs.lemmas.Bool.Decides.{leb_tells}
-use Rattle.std.proofs.lemmas.Int.{ints, clamps}
+use Rattle.std.proofs.lemmas.Int.{ints}
 use Rattle.std.proofs.lemmas.Nat.{pow-add, pow_pos}
-use lib.IntN.{ℤ, pos, negsuc, neg_ℤ, nat_abs, ◌*ℤ◌}
-use lib.Signed.{mag, shr_z}
-use mir.Val.{SFits}
-use Rattle.mc_fields.specs.Pattern.{Fixes, Turns, TurnsParts, IsVast, IsFloor, StandsFor, StandsForTurn, exponent, power, significand, significand_of, is_negative, held, with_sign}
+use lib.IntN.{ℤ, pos, negsuc, nat_abs}
+use lib.Signed.{shr_z}
+use Rattle.mc_fields.specs.Pattern.{Turns, TurnsParts, IsVast, StandsFor, StandsForTurn, exponent, power, significand, significand_of, is_negative, with_sign}
 use Rattle.mc_fields.specs.PatternLaws.{floor_exact, floor_one, shift_floor, shift_then}
 use Rattle.mc_fields.proofs.Floors.{with_sign-times}
 

@@ -1,20 +1,18 @@
 -- Whole numbers, of the page 'Data types' of wiki.vg for protocol 47: so many bytes, the highest first, in two's complement
 -- where there is a sign.
-use Rattle.std.specs.Prelude.{◌≡◌, ℕ, ◌+◌, ◌-◌, ◌^◌, ◌<◌, ◌≤◌, ◌↔◌, Bool, true, false, not, ◌==◌, List, ◌++◌, length, drop, Result, Ok, Err, IfOk, IfErr, IsErrOf, IsOk, refl}
+use Rattle.std.specs.Prelude.{◌≡◌, ℕ, ◌+◌, ◌-◌, ◌<◌, ◌≤◌, ◌↔◌, Bool, true, false, not, ◌==◌, List, ◌++◌, length, drop, Result, Ok, Err, IfOk, IfErr, IsErrOf, IsOk, refl}
 use Rattle.std.specs.Int.{Width, w8, w16, w32, w64, w128, byte_len, cast_signed, cast_unsigned}
 use Rattle.std.proofs.Common.{sym, ap, ◌∙◌, arith, le-ltb, lt-ltb, inl, inr}
 use Rattle.std.proofs.lemmas.Bool.{cases_lt}
 use Rattle.std.proofs.lemmas.List.{length-drop}
-use Rattle.std.proofs.lemmas.Int.{of_z-to_z, to_z-of_z}
-use Rattle.std.proofs.Math.Facts.{sfits_to_z}
 use lib.IntN.{ℤ}
-use mir.Val.{SFits, Fits, bits}
+use mir.Val.{SFits}
 use Rattle.mc_nbt.specs.declared.fault.Kind.TheVariants.{Short}
 use Rattle.mc_nbt.specs.declared.fault.FieldFault.{FieldFault}
 use Rattle.mc_nbt.specs.declared.fault.Stop.{Stop}
 use Rattle.mc_nbt.specs.Reading.{Field, IsBytes, Yields, stop_at, ◌>>=◌}
 use Rattle.mc_nbt.specs.Format.{Format, IsFound, IsOnly, Anything}
-use Rattle.mc_nbt.specs.Combine.{IsView, via, view_read, view_spells, bind_ok, ok_is, Found-is}
+use Rattle.mc_nbt.specs.Combine.{view_read, view_spells, bind_ok, ok_is, Found-is}
 use Rattle.mc_nbt.specs.Numbers.{IsWide, number, number_read, number_spells, number_spelling, number_found, number_only, wide_8, wide_16, wide_32, wide_64}
 use Rattle.mc_nbt.specs.Signed.{signed}
 use Rattle.mc_nbt.specs.Sixteen.{wide_128}

@@ -1,6 +1,6 @@
 -- Patterns of binary64 and binary32 (IEEE 754): from the top a bit for the sign, so many bits of exponent and so many of
 -- fraction. What a pattern stands for is said by whole numbers alone: powers of two are multiplied out.
-use Rattle.std.specs.Prelude.{◌≡◌, ℕ, ◌+◌, ◌*◌, ◌/◌, ◌%◌, ◌^◌, ◌<◌, ◌≤◌, ◌≢◌, ◌⊎◌, max, Bool, true, false, nat_le, ◌==◌, if◌then◌else◌}
+use Rattle.std.specs.Prelude.{◌≡◌, ℕ, ◌+◌, ◌*◌, ◌/◌, ◌%◌, ◌^◌, ◌<◌, ◌≤◌, ◌⊎◌, max, Bool, true, false, nat_le, ◌==◌, if◌then◌else◌}
 use Rattle.std.specs.Int.{int_max, int_min, int_rem_euclid}
 use lib.IntN.{ℤ, pos, negsuc, neg_ℤ, ◌+ℤ◌, ◌*ℤ◌}
 use lib.Signed.{◌≤ℤ◌, ◌<ℤ◌}

@@ -1,7 +1,7 @@
 -- Positions of blocks, of the page 'Data types' of wiki.vg for protocol 47: 64 bits, of which the 26 at the top are x, the
 -- next 12 are y and the 26 at the bottom are z, each in two's complement.
 use Rattle.std.specs.Prelude.{◌≡◌, ℕ, suc, ◌+◌, ◌-◌, ◌*◌, ◌/◌, ◌%◌, ◌^◌, ◌<◌, Bool, true, false, List, nat_lt, if◌then◌else◌, refl}
-use Rattle.std.proofs.Common.{◌∙◌, arith, le-ltb, lt-ltb, ltb-true, ltb-false}
+use Rattle.std.proofs.Common.{arith, le-ltb, lt-ltb, ltb-true, ltb-false}
 use Rattle.std.specs.Int.{w64}
 use lib.IntN.{ℤ, pos, negsuc}
 use Rattle.mc_nbt.specs.Format.{Format}

@@ -1,5 +1,4 @@
-use Rattle.std.proofs.Common.{◌≡◌, ℕ, ◌+◌, ◌-◌, ◌*◌, ◌^◌, ◌<◌, ap, ◌∙◌, arith}
-use Rattle.mc_fields.specs.Pattern.{StandsForTurn}
+use Rattle.std.proofs.Common.{◌≡◌, ℕ, ◌-◌, ◌*◌, ◌^◌, ◌<◌, ap, ◌∙◌, arith}
 use Rattle.mc_fields.proofs.Patterns.{top_below, stands_turn, turns_again}
 use Rattle.mc_fields.proofs.binary32.degrees.Goals as goal
 

@@ -1,4 +1,4 @@
-use Rattle.std.proofs.Common.{◌≡◌, Bool, true, false, ap, arith}
+use Rattle.std.proofs.Common.{arith}
 use Rattle.mc_fields.proofs.Patterns.{top_below, stands_negative, stands_positive}
 use Rattle.mc_fields.proofs.binary64.pattern_of.Goals as goal
 

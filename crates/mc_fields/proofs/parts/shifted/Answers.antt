@@ -1,7 +1,6 @@
 use Rattle.std.specs.Int.{w64}
-use Rattle.std.proofs.Common.{ap, ◌∙◌, ◌^◌}
+use Rattle.std.proofs.Common.{◌∙◌, ◌^◌}
 use Rattle.std.proofs.lemmas.Int.{to_z-of_z}
-use lib.IntN.{ℤ}
 use lib.Signed.{shr_z}
 use Rattle.mc_fields.proofs.Floors.{shift_all, shift_fits}
 use Rattle.mc_fields.proofs.parts.shifted.Goals as goal
