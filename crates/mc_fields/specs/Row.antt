@@ -205,6 +205,10 @@ frame_only {P} {entry_of} rows p frame tied s =
 pub spelled_again : {P : Type 0} {entry_of : P → Entry P} (rows : Rows P entry_of) (p : P) → IsTied rows p → Fits (entry_of p) → frame_read rows (spelling (entry_of p)) ≡ Ok p
 spelled_again {P} {entry_of} rows p tied fits = frame_only rows p (spelling (entry_of p)) tied (fits_spelled (entry_of p) fits)
 
+-- a frame spells one packet at most
+pub spelled_one : {P : Type 0} {entry_of : P → Entry P} (rows : Rows P entry_of) (p q : P) (frame : List ℕ) → IsTied rows p → IsTied rows q → Spells (entry_of p) frame → Spells (entry_of q) frame → p ≡ q
+spelled_one rows p q frame tied others s t = ok_is RowFault p q (sym (frame_only rows p frame tied s) ∙ frame_only rows q frame others t)
+
 -- ---- what functions answer
 
 -- the error of a function is the fault that reading gives, unless memory ran out

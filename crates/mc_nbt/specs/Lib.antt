@@ -3,6 +3,7 @@ pub mod Format
 pub mod Combine
 pub mod Optional
 pub mod Making
+pub mod Rest
 pub mod Numbers
 pub mod Sixteen
 pub mod Placed

@@ -2,7 +2,7 @@
 use Rattle.std.specs.Prelude.{ℕ, ℤ, ◌<◌, ◌^◌, List, FitsSigned}
 use Rattle.std.specs.Int.{Width, cast_signed, cast_unsigned}
 use mir.Val.{bits}
-use Rattle.std.proofs.Math.Facts.{sfits_to_z}
+use Rattle.std.proofs.Math.Facts.{sfits_to_z, Fits-of_z}
 use Rattle.std.proofs.lemmas.Int.{of_z-to_z, to_z-of_z}
 use Rattle.mc_nbt.specs.Format.{Format}
 use Rattle.mc_nbt.specs.Combine.{IsView, via}
@@ -14,6 +14,10 @@ signed_view w = record {
   again = λ n lt. of_z-to_z w n lt;
   same = λ z fits. to_z-of_z w z fits;
 }
+
+-- what fits as a signed number has a spelling
+pub signed_fits : (w : Width) (z : ℤ) → FitsSigned w z → FitsSigned w z × (cast_unsigned w z < 2 ^ bits w)
+signed_fits w z fits = (fits, (Fits-of_z fits).fits)
 
 -- a signed number
 abbrev pub signed : {Rest : List ℕ → Type 0} (w : Width) → IsWide w → Format Rest ℤ

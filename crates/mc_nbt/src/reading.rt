@@ -1,4 +1,4 @@
-ghost use Rattle.std.specs.Prelude.{◌≡◌, ◌≤◌, length, drop};
+ghost use Rattle.std.specs.Prelude.{◌≡◌, ◌≤◌, [], length, drop};
 ghost use Rattle.std.specs.Int.{w8, w16, w32, w64, w128};
 ghost use Rattle.mc_nbt.specs.Reading.{Yields, stop_at};
 ghost use Rattle.mc_nbt.specs.Numbers.{octets_read, number_read};
@@ -77,6 +77,16 @@ impl<'a> Cursor<'a> {
         ensures { self.new ≡ drop n self.old }
     {
         self.rest = &self.rest[n..];
+    }
+
+    /// All bytes that are left, as they are.
+    pub fn take_rest(&mut self) -> &'a [u8]
+        ensures taken { result.now ≡ self.old }
+        ensures end { self.new ≡ [] }
+    {
+        let (all, end) = self.rest.split_at(self.rest.len());
+        self.rest = end;
+        all
     }
 
     /// A number of one byte. `Short` where none is left.

@@ -3,3 +3,4 @@ pub mod StatusUpLaws
 pub mod StatusDownLaws
 pub mod LoginUpLaws
 pub mod LoginDownLaws
+pub mod PlayUpLaws

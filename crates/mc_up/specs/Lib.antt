@@ -3,3 +3,4 @@ pub mod StatusUp
 pub mod StatusDown
 pub mod LoginUp
 pub mod LoginDown
+pub mod PlayUp

@@ -83,6 +83,8 @@ pub fn read_hand(alloc: Global, frame: &[u8]) -> Result<Hand, PacketRead>
     ensures found { IfOk result (λ packet. SpellsHand packet frame.now) }
     // What is spelled so is read, unless memory runs out.
     ensures only { (packet : Hand) → SpellsHand packet frame.now → GivesPacket result (Ok packet) }
+    // A frame spells one packet at most.
+    ensures one { (p q : Hand) → SpellsHand p frame.now → SpellsHand q frame.now → p ≡ q }
     // Which fault it is.
     ensures exact { GivesPacket result (packet_of frame.now (frame_read rows frame.now)) }
 {

@@ -1,6 +1,6 @@
 //! The packets of a connection before it plays, both ways, and the packets of play to the server.
 //!
-//! Stands on the fields and packet rows of `mc_fields`. Its one contract, the same for each of its
+//! Stands on the fields and packet rows of `mc_fields` and the slots of `mc_slots`. Its one contract, the same for each of its
 //! enums: a reader takes exactly the frames that spell a packet, and says of all others the first
 //! fault and its place; a writer appends a spelling that is read as the same packet, or leaves what
 //! was there.
@@ -9,12 +9,16 @@
 mod handshake;
 mod login_down;
 mod login_up;
+mod play_up;
 mod status_down;
 mod status_up;
+#[cfg(test)]
+mod tests;
 
 pub use handshake::{Hand, read_hand, write_hand};
 pub use login_down::{LoginDown, read_login_down, write_login_down};
 pub use login_up::{LoginUp, read_login_up, write_login_up};
 pub use mc_fields::{PacketFault, PacketRead};
+pub use play_up::{Hit, PlayUp, read_play_up, write_play_up};
 pub use status_down::{StatusDown, read_status_down, write_status_down};
 pub use status_up::{StatusUp, read_status_up, write_status_up};

@@ -61,6 +61,8 @@ pub fn read_login_down(alloc: Global, frame: &[u8]) -> Result<LoginDown, PacketR
     ensures found { IfOk result (λ packet. SpellsLoginDown packet frame.now) }
     // What is spelled so is read, unless memory runs out.
     ensures only { (packet : LoginDown) → SpellsLoginDown packet frame.now → GivesPacket result (Ok packet) }
+    // A frame spells one packet at most.
+    ensures one { (p q : LoginDown) → SpellsLoginDown p frame.now → SpellsLoginDown q frame.now → p ≡ q }
     // Which fault it is.
     ensures exact { GivesPacket result (packet_of frame.now (frame_read rows frame.now)) }
 {

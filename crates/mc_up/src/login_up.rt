@@ -50,6 +50,8 @@ pub fn read_login_up(alloc: Global, frame: &[u8]) -> Result<LoginUp, PacketRead>
     ensures found { IfOk result (λ packet. SpellsLoginUp packet frame.now) }
     // What is spelled so is read, unless memory runs out.
     ensures only { (packet : LoginUp) → SpellsLoginUp packet frame.now → GivesPacket result (Ok packet) }
+    // A frame spells one packet at most.
+    ensures one { (p q : LoginUp) → SpellsLoginUp p frame.now → SpellsLoginUp q frame.now → p ≡ q }
     // Which fault it is.
     ensures exact { GivesPacket result (packet_of frame.now (frame_read rows frame.now)) }
 {

@@ -61,6 +61,8 @@ pub fn read_status_down(alloc: Global, frame: &[u8]) -> Result<StatusDown, Packe
     ensures found { IfOk result (λ packet. SpellsStatusDown packet frame.now) }
     // What is spelled so is read, unless memory runs out.
     ensures only { (packet : StatusDown) → SpellsStatusDown packet frame.now → GivesPacket result (Ok packet) }
+    // A frame spells one packet at most.
+    ensures one { (p q : StatusDown) → SpellsStatusDown p frame.now → SpellsStatusDown q frame.now → p ≡ q }
     // Which fault it is.
     ensures exact { GivesPacket result (packet_of frame.now (frame_read rows frame.now)) }
 {

@@ -57,6 +57,8 @@ pub fn read_status_up(frame: &[u8]) -> Result<StatusUp, PacketFault>
     ensures found { IfOk result (λ packet. SpellsStatusUp packet frame.now) }
     // What is spelled so is read.
     ensures only { (packet : StatusUp) → SpellsStatusUp packet frame.now → result ≡ Ok packet }
+    // A frame spells one packet at most.
+    ensures one { (p q : StatusUp) → SpellsStatusUp p frame.now → SpellsStatusUp q frame.now → p ≡ q }
     // Which fault it is.
     ensures exact { result ≡ packet_of frame.now (frame_read rows frame.now) }
 {

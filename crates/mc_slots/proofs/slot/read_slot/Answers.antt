@@ -1,0 +1,10 @@
+use Rattle.mc_nbt.specs.Format.{Anything}
+use Rattle.mc_nbt.specs.Placed.{PlacedGives-found, PlacedGives-only}
+use Rattle.mc_slots.specs.SlotFormat.{SpellsSlot, slot_read, slot_found, slot_only}
+use Rattle.mc_slots.proofs.slot.read_slot.Goals as goal
+
+pub returns-clause-found : goal.returns-clause-found
+returns-clause-found c = PlacedGives-found (λ read. read) SpellsSlot slot_read slot_found c.args.bytes.now c.args.at c.slot_at.result (λ i. (c.type_inv.bytes i).fits) c.requires c.slot_at.ensures
+
+pub returns-clause-only : goal.returns-clause-only
+returns-clause-only c slot end s = PlacedGives-only (λ read. read) SpellsSlot slot_read (slot_only Anything) c.args.bytes.now c.args.at c.slot_at.result slot end c.slot_at.ensures s
