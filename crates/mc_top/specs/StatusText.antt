@@ -40,7 +40,7 @@ pub record IsFine (input : List ℕ) (n : ℕ) : Type 0 where
   pub within : IsWithin input n
   pub no_fault : (said cut).fault ≡ None
 
--- it shows in no fewer lines
+-- no fault shows in fewer than n lines
 abbrev pub AreFineBefore : List ℕ → ℕ → Type 0
 AreFineBefore input n = (m : ℕ) → m < n → IsFine input m
 

@@ -3,7 +3,7 @@ ghost use Rattle.mc_frame.specs.Frame.{IsPayload};
 ghost use Rattle.mc_up.specs.StatusDown.{FitsStatusDown, spelling_of};
 ghost use Rattle.mc_up.specs.declared.status_down.StatusDown.TheVariants.{Response, Pong};
 ghost use Rattle.mc_top.specs.Client.{answer, greeted, goes, wrong, reply, hex_line, reply_lines, status_json};
-ghost use Rattle.mc_top.specs.Heard.{IfFault, Answers, HasHeard, IsIdle, IsWrong, NextAnswered};
+ghost use Rattle.mc_top.specs.Heard.{IfFault, Answers, HasHeard, IsWrong, NextAnswered};
 
 use crate::bad_input::InputFault;
 use crate::stage::Stage;

@@ -1,7 +1,4 @@
-ghost use Rattle.std.specs.Prelude.{◌≡◌, ◌++◌, ◌⊎◌, ◌<◌, ◌↔◌, ℕ, List, [], None, Some, IsTrue, IfOk, OnOk, length};
-ghost use Rattle.mc_nbt.specs.Reading.{IsBytes};
-ghost use Rattle.mc_top.specs.Lines.{line_bytes};
-ghost use Rattle.mc_top.specs.StatusText.{text_max};
+ghost use Rattle.std.specs.Prelude.{◌++◌, ◌↔◌, ℕ, List, [], IsTrue, OnOk};
 ghost use Rattle.mc_top.specs.Heard.{IfFault, HasHeard, IsIdle, IsWrong, HearsLine, IsWrongLine, IsInside};
 
 use crate::bad_input::InputFault;

@@ -1,5 +1,5 @@
-ghost use Rattle.std.specs.Prelude.{◌≡◌, ◌+◌, ◌<◌, ◌≤◌, ◌⊎◌, ◌↔◌, ℕ, List, [], IsTrue, IfOk, OnOk, length};
-ghost use Rattle.mc_top.specs.StatusText.{IsStatusText, text_max};
+ghost use Rattle.std.specs.Prelude.{◌≡◌, ◌↔◌, ℕ, List, [], IsTrue, IfOk, OnOk};
+ghost use Rattle.mc_top.specs.StatusText.{IsStatusText};
 ghost use Rattle.mc_top.specs.Heard.{IfFault, HasHeard, IsIdle, HearsLine, IsWrongLine, IsTooLong, IsWrongNext, last_line};
 
 use crate::bad_input::{BadInput, InputFault};
