@@ -1,0 +1,16 @@
+pub mod Notes
+pub mod Names
+pub mod Texts
+pub mod Numbers
+pub mod Cutting
+pub mod Sight
+pub mod Replica
+pub mod Delta
+pub mod Views
+pub mod World
+pub mod Hearing
+pub mod Acts
+pub mod Talk
+pub mod Step
+pub mod Run
+pub mod Causes

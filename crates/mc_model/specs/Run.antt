@@ -1,0 +1,45 @@
+-- Runs: what a list of events makes of the world, what was handed to a connection in them, and why it was closed.
+use Rattle.std.specs.Prelude.{ℕ, ◌==◌, List, [], ◌∷◌, ◌++◌, Option, Some, None, if◌then◌else◌}
+use Rattle.std.specs.List.{flat_map, fold}
+use Rattle.std.specs.Option.{option_and_then}
+use Rattle.mc_model.specs.declared.cause.Cause.{Cause}
+use Rattle.mc_model.specs.World.{World, Session, found}
+use Rattle.mc_model.specs.Hearing.{Sent, bytes_of}
+use Rattle.mc_nbt.specs.Reading.{IsBytes}
+use Rattle.mc_model.specs.Step.{Event, joined, came, left, ticked, took, forgot, Outcome, step}
+
+-- the world after events
+abbrev pub history : World → List Event → World
+history w events = fold (λ (v : World) (e : Event). (step v e).world) w events
+
+-- what one connection was handed in a step
+abbrev pub to : ℕ → List (ℕ × List Sent) → List Sent
+to k out = flat_map (λ (o : ℕ × List Sent). if o.0 == k then o.1 else []) out
+
+-- and in all steps
+abbrev pub handed : ℕ → World → List Event → List Sent
+handed k w [] = []
+handed k w (e ∷ events) = to k (step w e).out ++ handed k (step w e).world events
+
+-- the same as bytes
+abbrev pub stream : ℕ → World → List Event → List ℕ
+stream k w events = bytes_of (handed k w events)
+
+-- the cause that is kept of a connection
+abbrev pub cause_in : ℕ → World → Option Cause
+cause_in k w = option_and_then (λ (s : Session). s.cause) (found k w.sessions)
+
+abbrev pub first_of : Option Cause → Option Cause → Option Cause
+first_of (Some cause) later = Some cause
+first_of None later = later
+
+-- why a connection was closed: the cause that it had after the first step that closed it
+abbrev pub why : ℕ → World → List Event → Option Cause
+why k w [] = None
+why k w (e ∷ events) = first_of (cause_in k (step w e).world) (why k (step w e).world events)
+
+-- what came are bytes
+abbrev pub AreBytes : List Event → Type 0
+AreBytes [] = Unit {0}
+AreBytes (came k bytes ∷ events) = IsBytes bytes × AreBytes events
+AreBytes (e ∷ events) = AreBytes events

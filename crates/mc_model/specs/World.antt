@@ -1,0 +1,119 @@
+-- The world: what every client is shown a part of, and how far each connection has come. Plain lists and finite maps; no buffer, no
+-- mark and no queue is in it. Rules of this project.
+use Rattle.std.specs.Prelude.{◌≡◌, ℕ, ◌+◌, ◌*◌, ◌==◌, ◌≤◌, Bool, true, false, List, [], ◌∷◌, map, Option, Some, None, if◌then◌else◌}
+use Rattle.std.specs.List.{filter}
+use Rattle.std.specs.FinMap.{FinMap, empty, from_entries}
+use lib.IntN.{ℤ, pos}
+use Rattle.mc_column.specs.Cells.{ColumnValue}
+use Rattle.mc_fields.specs.declared.position.Spot.{Spot}
+use Rattle.mc_land.specs.declared.terrain.Terrain.{Terrain}
+use Rattle.mc_land.specs.declared.terrain.Terrain.TheVariants.{Flat, Hills, Isle}
+use Rattle.mc_land.specs.Places.{Place, key_cmp}
+use Rattle.mc_land.specs.Terrain.{height}
+use Rattle.mc_land.specs.Land.{states_of, biomes_of}
+use Rattle.mc_model.specs.declared.cause.Cause.{Cause}
+use Rattle.mc_model.specs.declared.stage.Stage.{Stage}
+use Rattle.mc_model.specs.declared.stage.Stage.TheVariants as stages
+use Rattle.mc_model.specs.Notes.{Noted, no_notes}
+use Rattle.mc_model.specs.Sight.{Sight}
+use Rattle.mc_model.specs.Views.{view_of, column_of_spot, view_size}
+
+-- one connection
+pub record Session : Type 0 where
+  -- the number that it joined under
+  pub id : ℕ
+  pub stage : Stage
+  -- the bytes that came and were not read, since they are no whole frame yet, and how many came before them
+  pub rest : List ℕ
+  pub before : ℕ
+  -- the protocol that its handshake named
+  pub protocol : ℤ
+  -- its player, in play: name, identifier, entity number, the size of view that it asked for, place and look
+  pub name : List ℕ
+  pub uuid : ℕ
+  pub eid : ℕ
+  pub asked : ℤ
+  pub place : Spot
+  pub notes : Noted
+  -- why it was closed
+  pub cause : Option Cause
+  -- the bytes that were handed out to it and that it has not taken
+  pub owed : List ℕ
+  -- what it was shown at the last tick, none before its first
+  pub shown : Option Sight
+
+pub record World : Type 0 where
+  -- the ticks that came
+  pub age : ℕ
+  pub terrain : Terrain
+  -- the cells whose state is not the terrain's
+  pub edits : FinMap key_cmp ℕ
+  -- how many players may be in play, and how large a view may be
+  pub most : ℕ
+  pub cap : ℕ
+  -- how many entity numbers were given
+  pub eids : ℕ
+  -- the number of the last join
+  pub last : Option ℕ
+  -- in the order in which they joined
+  pub sessions : List Session
+
+-- the numbers that a world can begin with
+pub record AreSettings (most cap : ℕ) : Type 0 where
+  pub some : 1 ≤ most
+  pub few : most ≤ 50
+  pub wide : 2 ≤ cap
+  pub near : cap ≤ 8
+
+abbrev pub new_world : ℕ → ℕ → Terrain → World
+new_world most cap terrain = record { age = 0; terrain = terrain; edits = empty; most = most; cap = cap; eids = 0; last = None; sessions = [] }
+
+-- ---- sessions
+
+abbrev pub is_play : Stage → Bool
+is_play stages.Play = true
+is_play other = false
+
+abbrev pub is_closed : Stage → Bool
+is_closed stages.Closed = true
+is_closed other = false
+
+-- those in play
+abbrev pub players : World → List Session
+players w = filter (λ (s : Session). is_play s.stage) w.sessions
+
+abbrev pub found : ℕ → List Session → Option Session
+found k [] = None
+found k (s ∷ sessions) = if s.id == k then Some s else found k sessions
+
+-- another session in the place of that of the same number
+abbrev pub put : World → Session → World
+put w s = record w { sessions = map (λ (t : Session). if t.id == s.id then s else t) w.sessions }
+
+-- ---- places
+
+-- how high the ground of a world is where players enter
+abbrev pub spawn_height : Terrain → ℕ
+spawn_height Flat = 4
+spawn_height (Hills seed) = height seed (pos 8) (pos 8) + 1
+spawn_height Isle = 64
+
+-- where players enter: the middle of the column (0, 0)
+abbrev pub spawn_spot : Terrain → Spot
+spawn_spot terrain = record { x = pos 272; y = pos (32 * spawn_height terrain); z = pos 272; yaw = 0; pitch = 0 }
+
+-- ---- what a client is to be shown
+
+abbrev pub column_in : World → Place → ColumnValue
+column_in w place = record { states = states_of w.terrain w.edits place; biomes = biomes_of w.terrain place }
+
+-- the columns of its view
+abbrev pub view_in : World → Session → List Place
+view_in w s = view_of (column_of_spot s.place) (view_size w.cap s.asked)
+
+-- the players in play, and the columns of its view as they are
+unfoldable pub project : World → Session → Sight
+project w s = record {
+  pairs = from_entries (map (λ (t : Session). (t.uuid, t.name)) (players w));
+  columns = from_entries (map (λ place. (place, column_in w place)) (view_in w s));
+}

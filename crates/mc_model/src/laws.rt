@@ -1,0 +1,49 @@
+ghost use Rattle.std.specs.Prelude.{◌≡◌, ◌≢◌, ◌++◌, ◌∷◌, ◌↔◌, ◌⊎◌, ℕ, true, false, List, [], map, length, Option, Some, None};
+ghost use Rattle.std.specs.List.{Contains};
+ghost use Rattle.mc_frame.specs.Cut.{IsCutAt};
+ghost use Rattle.mc_nbt.specs.Reading.{IsBytes};
+ghost use Rattle.mc_land.specs.declared.terrain.Terrain.{Terrain};
+ghost use Rattle.mc_land.specs.Places.{Place};
+ghost use Rattle.mc_model.specs.declared.cause.Cause.{Cause};
+ghost use Rattle.mc_model.specs.Cutting.{cut_of};
+ghost use Rattle.mc_model.specs.Sight.{Sight};
+ghost use Rattle.mc_model.specs.Replica.{Shows, new_replica, replay, seeing};
+ghost use Rattle.mc_model.specs.Delta.{Follows, delta};
+ghost use Rattle.mc_model.specs.Views.{IsInView, view_of};
+ghost use Rattle.mc_model.specs.World.{AreSettings, Session, found, is_closed, is_play, new_world, project};
+ghost use Rattle.mc_model.specs.Hearing.{Ear, IsHeard, of_play, played};
+ghost use Rattle.mc_model.specs.Talk.{farewell};
+ghost use Rattle.mc_model.specs.Step.{Event, ticked, at_tick, due, step};
+ghost use Rattle.mc_model.specs.Run.{AreBytes, handed, history, stream, to, why, cause_in};
+ghost use Rattle.mc_model.specs.Causes.{Closes, IsOpen, IsTooMuch};
+
+/// The cut that is worked out frame by frame is the cut of the stream.
+pub fn cuts_are_worked_out()
+    ensures { (count : ℕ) (bytes : List ℕ) → IsBytes bytes → IsCutAt count bytes (cut_of count bytes) }
+{}
+
+/// The columns of a view are those near the middle.
+pub fn views_are_near()
+    ensures { (middle : Place) (d : ℕ) (place : Place) → Contains (view_of middle d) place ↔ IsInView middle d place }
+{}
+
+/// The packets of the difference make of what a client was shown what it is to be shown.
+pub fn difference_leads()
+    ensures { (p q : Sight) → Follows p q → replay (seeing p) (delta p q) ≡ seeing q }
+{}
+
+/// Whatever happens, however bytes are cut: after each tick, what was handed out to a client in play,
+/// folded from an empty replica, shows exactly the world in its view.
+pub fn runs_show_the_world()
+    ensures { (most cap : ℕ) (terrain : Terrain) (events : List Event) (k : ℕ) (s : Session) →
+        found k (history (new_world most cap terrain) (events ++ ticked ∷ [])).sessions ≡ Some s → is_play s.stage ≡ true →
+        Shows (replay new_replica (played (handed k (new_world most cap terrain) (events ++ ticked ∷ []))))
+        (project (at_tick (history (new_world most cap terrain) events)) s) }
+{}
+
+/// What is handed out to a client is bytes that it cuts and reads back as exactly those packets: those of
+/// the status, or those of the login and after Login Success those of play.
+pub fn bytes_are_heard()
+    ensures { (most cap : ℕ) (terrain : Terrain) (events : List Event) (k : ℕ) → AreSettings most cap → AreBytes events →
+        (ear : Ear) × IsHeard ear (stream k (new_world most cap terrain) events) (handed k (new_world most cap terrain) events) }
+{}
