@@ -1,3 +1,5 @@
 pub mod Orders
 pub mod Maps
 pub mod Points
+pub mod Opening
+pub mod Projections
