@@ -3,3 +3,4 @@ pub mod Maps
 pub mod Points
 pub mod Opening
 pub mod Projections
+pub mod ViewFacts
