@@ -34,7 +34,8 @@ mapped_from f (y ∷ ys) z held = elim (Contains-append_cases (f y ∷ []) (map 
 ]
 
 -- likewise of lists that are made one after another
-joined_holds : {X Y : Type 0} (f : X → List Y) (xs : List X) (x : X) (z : Y) → Contains xs x → Contains (f x) z → Contains (flat_map f xs) z
+joined_holds : {X Y : Type 0} (f : X → List Y) (xs : List X) (x : X) (z : Y) →
+    Contains xs x → Contains (f x) z → Contains (flat_map f xs) z
 joined_holds f [] x z (k, lt, is) inner = absurd (omega (arith, lt))
 joined_holds f (y ∷ ys) x z held inner = elim (Contains-append_cases (y ∷ []) ys x held) [
   | inl first ↦ Contains-append_left (f y) (flat_map f ys) z (subst (λ w. Contains (f w) z) (sym (held_by_one y x first)) inner)
@@ -50,12 +51,16 @@ joined_from f (y ∷ ys) z held = elim (Contains-append_cases (f y) (flat_map f 
 
 -- ---- a run of numbers around another
 
+-- a range from 0 holds what is below its length
 range_holds : (n i : ℕ) → i < n → Contains (range_with_len 0 n) i
 range_holds n i lt = (i, omega (arith, lt, length-range_with_len 0 n), get_or-range_with_len 0 n i i lt ∙ omega arith)
 
 range_below : (n i : ℕ) → Contains (range_with_len 0 n) i → i < n
-range_below n i (k, lt, is) = let short : k < n = omega (arith, lt, length-range_with_len 0 n) in omega (arith, short, sym is ∙ get_or-range_with_len 0 n k i short)
+range_below n i (k, lt, is) =
+    let short : k < n = omega (arith, lt, length-range_with_len 0 n) in
+    omega (arith, short, sym is ∙ get_or-range_with_len 0 n k i short)
 
+-- a run of 2 d + 1 numbers from d below another on holds those that are at most d off
 run_near : (middle x : ℤ) (d : ℕ) → Contains (run_of (middle -ℤ pos d) (2 * d + 1)) x → unsigned_abs (x -ℤ middle) ≤ d
 run_near middle x d held =
     let found = mapped_from (λ i. middle -ℤ pos d +ℤ pos i) (range_with_len 0 (2 * d + 1)) x held in
@@ -67,7 +72,8 @@ run_near middle x d held =
 near_run : (middle x : ℤ) (d : ℕ) → unsigned_abs (x -ℤ middle) ≤ d → Contains (run_of (middle -ℤ pos d) (2 * d + 1)) x
 near_run middle x d near =
     subst (Contains (run_of (middle -ℤ pos d) (2 * d + 1))) (is middle x d near)
-      (mapped_holds (λ i. middle -ℤ pos d +ℤ pos i) (range_with_len 0 (2 * d + 1)) (offset middle x d) (range_holds (2 * d + 1) (offset middle x d) (below middle x d near)))
+      (mapped_holds (λ i. middle -ℤ pos d +ℤ pos i) (range_with_len 0 (2 * d + 1)) (offset middle x d)
+        (range_holds (2 * d + 1) (offset middle x d) (below middle x d near)))
   where
     offset : ℤ → ℤ → ℕ → ℕ
     offset middle x d = unsigned_abs (x -ℤ (middle -ℤ pos d))
@@ -80,9 +86,11 @@ near_run middle x d near =
 
 -- ---- the view
 
+-- the places of a view that have this x
 abbrev row : Place → ℕ → ℤ → List Place
 row middle d x = map (λ z. (x, z)) (run_of (middle.1 -ℤ pos d) (2 * d + 1))
 
+-- what a view holds is near its middle
 pub view_near : (middle : Place) (d : ℕ) (place : Place) → Contains (view_of middle d) place → IsInView middle d place
 unfolding view_of
 view_near middle d place held =
@@ -93,6 +101,7 @@ view_near middle d place held =
       near_z = run_near middle.1 place.1 d (subst (Contains (run_of (middle.1 -ℤ pos d) (2 * d + 1))) (ap (λ (p : Place). p.1) inner.2) inner.1);
     }
 
+-- and what is near is held
 pub near_view : (middle : Place) (d : ℕ) (place : Place) → IsInView middle d place → Contains (view_of middle d) place
 unfolding view_of
 near_view middle d place near =
