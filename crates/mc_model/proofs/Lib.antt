@@ -1,1 +1,4 @@
 pub mod Sessions
+pub mod Beside
+pub mod Handing
+pub mod Acting
