@@ -2,3 +2,4 @@ pub mod Sessions
 pub mod Beside
 pub mod Handing
 pub mod Acting
+pub mod Frames
