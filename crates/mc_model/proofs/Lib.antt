@@ -3,3 +3,5 @@ pub mod Beside
 pub mod Handing
 pub mod Acting
 pub mod Frames
+pub mod RunEvents
+pub mod RunTurns
