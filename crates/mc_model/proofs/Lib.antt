@@ -5,3 +5,4 @@ pub mod Acting
 pub mod Frames
 pub mod RunEvents
 pub mod RunTurns
+pub mod RunShown
