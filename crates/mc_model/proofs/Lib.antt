@@ -6,3 +6,9 @@ pub mod Frames
 pub mod RunEvents
 pub mod RunTurns
 pub mod RunShown
+pub mod Orders
+pub mod Maps
+pub mod Points
+pub mod Opening
+pub mod Projections
+pub mod ViewFacts
