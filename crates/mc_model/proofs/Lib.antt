@@ -6,6 +6,8 @@ pub mod Frames
 pub mod RunEvents
 pub mod RunTurns
 pub mod RunShown
+pub mod RunTicks
+pub mod RunOrder
 pub mod Orders
 pub mod Maps
 pub mod Points

@@ -44,9 +44,9 @@ gone_id s = elim (is_closed s.stage) as (λ b. (if b then record s { owed = [] }
 
 pub flush_id : (w : World) (s : Session) → (flush w s).session.id ≡ s.id
 flush_id w s = elim (is_play s.stage) as (λ b. (if b then hand (showing w s) (map of_play (due w s)) else record { session = s; handed = [] }).session.id ≡ s.id) [
-    true ↦ hand_cases (showing w s) (map of_play (due w s)) (λ (h : Handing). h.session.id ≡ s.id) (λ fits. refl) (λ much. refl)
+  | true ↦ hand_cases (showing w s) (map of_play (due w s)) (λ (h : Handing). h.session.id ≡ s.id) (λ fits. refl) (λ much. refl)
   | false ↦ refl
-  ]
+]
 
 -- ---- the order of numbers
 
@@ -63,15 +63,15 @@ orderly_beside k w v b o = record {
 
 orderly_join : (w : World) (k : ℕ) → Orderly w → Orderly (join w k)
 orderly_join w k o = elim (is_new k w.last) as (λ b. is_new k w.last ≡ b → Orderly (if b then record w { last = Some k; sessions = w.sessions ++ joining w k ∷ [] } else w)) [
-    true ↦ λ new. record {
-      apart = apart_more w.sessions (joining w k) o.apart (ap (λ (n : ℕ). found n w.sessions) (joining_id w k) ∙ o.fresh k new);
-      fresh = λ j above.
+  | true ↦ λ new. record {
+    apart = apart_more w.sessions (joining w k) o.apart (ap (λ (n : ℕ). found n w.sessions) (joining_id w k) ∙ o.fresh k new);
+    fresh = λ j above.
         found_behind j w.sessions (joining w k ∷ []) (o.fresh j (later_new j k w.last above new))
         ∙ ap (λ (n : ℕ). cond (n == j) (Some (joining w k)) None) (joining_id w k)
         ∙ ap (λ (b : Bool). cond b (Some (joining w k)) None) (other_number k j (above_other k j above));
-    }
+  }
   | false ↦ λ old. o
-  ] refl
+] refl
 
 pub orderly_step : (w : World) (e : Event) → Orderly w → Orderly (step w e).world
 unfolding step
@@ -97,9 +97,9 @@ pub record Lasts (w v : World) : Type 0 where
 pub lasts_step : (w : World) (e : Event) → Lasts w (step w e).world
 unfolding step
 lasts_step w (joined k) = elim (is_new k w.last) as (λ b. Lasts w (if b then record w { last = Some k; sessions = w.sessions ++ joining w k ∷ [] } else w)) [
-    true ↦ record { terrain = refl; edits = refl }
+  | true ↦ record { terrain = refl; edits = refl }
   | false ↦ record { terrain = refl; edits = refl }
-  ]
+]
 lasts_step w (came k bytes) = let b = bytes_beside k w bytes in record { terrain = b.terrain; edits = b.edits }
 lasts_step w (left k) = record { terrain = refl; edits = refl }
 lasts_step w ticked = record { terrain = refl; edits = refl }
@@ -111,9 +111,9 @@ lasts_step w (forgot k) = record { terrain = refl; edits = refl }
 pub old_step : (k : ℕ) (w : World) (e : Event) → is_new k w.last ≡ false → is_new k (step w e).world.last ≡ false
 unfolding step
 old_step k w (joined j) old = elim (is_new j w.last) as (λ b. is_new j w.last ≡ b → is_new k (if b then record w { last = Some j; sessions = w.sessions ++ joining w j ∷ [] } else w).last ≡ false) [
-    true ↦ λ new. later_old j k w.last old new
+  | true ↦ λ new. later_old j k w.last old new
   | false ↦ λ none. old
-  ] refl
+] refl
 old_step k w (came j bytes) old = ap (λ (last : Option ℕ). is_new k last) (bytes_beside j w bytes).last ∙ old
 old_step k w (left j) old = old
 old_step k w ticked old = old

@@ -78,7 +78,7 @@ shown_waits land s t ps qs waits open_ waits' none h = record {
 shown_enters : (land : World) (s t : Session) (ps qs : List Sent) → s.stage ≡ stages.Login → t.stage ≡ stages.Play → t.shown ≡ None → played qs ≡ [] → IsShown land s ps → IsShown land t (ps ++ qs)
 shown_enters land s t ps qs from into shown none h = record {
   playing = λ playing.
-    ap (replay new_replica) (played_more ps qs none ∙ h.waiting (ap is_play from) (ap is_closed from)) ∙ ap (λ (o : Option Sight). seeing (unwrap_or o nothing_seen)) (sym shown);
+      ap (replay new_replica) (played_more ps qs none ∙ h.waiting (ap is_play from) (ap is_closed from)) ∙ ap (λ (o : Option Sight). seeing (unwrap_or o nothing_seen)) (sym shown);
   drawn = λ playing. subst (IsDrawn land) (sym shown) tt;
   waiting = λ waits. absurd (not_both (is_play t.stage) (ap is_play into) waits);
 }
@@ -106,19 +106,19 @@ same_view w s owed = refl
 
 pub flush_shown : (land w : World) (s : Session) (ps : List Sent) → w.terrain ≡ land.terrain → w.edits ≡ land.edits → IsShown land s ps → IsShown land (flush w s).session (ps ++ (flush w s).handed)
 flush_shown land w s ps terrain edits h = elim (is_play s.stage) as (λ b. is_play s.stage ≡ b → IsShown land (flushed b).session (ps ++ (flushed b).handed)) [
-    true ↦ λ playing. hand_cases (showing w s) (map of_play (due w s)) (λ (h : Handing). IsShown land h.session (ps ++ h.handed))
+  | true ↦ λ playing. hand_cases (showing w s) (map of_play (due w s)) (λ (h : Handing). IsShown land h.session (ps ++ h.handed))
       (λ fits. record {
         playing = λ _.
-          ap (replay new_replica) (filter_map-append in_play ps (map of_play (due w s)) ∙ ap (λ (ds : List Down). played ps ++ ds) (played_all (due w s)))
-          ∙ fold-append apply new_replica (played ps) (due w s)
-          ∙ ap (λ (r : Replica). replay r (due w s)) (h.playing playing)
-          ∙ due_leads w s (drawn_follows land w s s.shown terrain edits (h.drawn playing));
+            ap (replay new_replica) (filter_map-append in_play ps (map of_play (due w s)) ∙ ap (λ (ds : List Down). played ps ++ ds) (played_all (due w s)))
+            ∙ fold-append apply new_replica (played ps) (due w s)
+            ∙ ap (λ (r : Replica). replay r (due w s)) (h.playing playing)
+            ∙ due_leads w s (drawn_follows land w s s.shown terrain edits (h.drawn playing));
         drawn = λ _. record { world = w; session = s; terrain = terrain; edits = edits; is = refl };
         waiting = λ waits. absurd (not_both (is_play s.stage) playing waits);
       })
       (λ much. shown_shut land _ (ps ++ []) refl)
   | false ↦ λ waits. subst (IsShown land s) (sym (append-nil ps)) h
-  ] refl
+] refl
   where
     flushed : Bool → Handing
     flushed b = if b then hand (showing w s) (map of_play (due w s)) else record { session = s; handed = [] }
@@ -126,11 +126,11 @@ flush_shown land w s ps terrain edits h = elim (is_play s.stage) as (λ b. is_pl
 -- after it, a client in play was shown the world
 pub flush_sees : (w : World) (s : Session) → is_play (flush w s).session.stage ≡ true → last_shown (flush w s).session ≡ project w (flush w s).session
 flush_sees w s = elim (is_play s.stage) as (λ b. is_play s.stage ≡ b → is_play (flushed b).session.stage ≡ true → last_shown (flushed b).session ≡ project w (flushed b).session) [
-    true ↦ λ was. hand_cases (showing w s) (map of_play (due w s)) (λ (h : Handing). is_play h.session.stage ≡ true → last_shown h.session ≡ project w h.session)
+  | true ↦ λ was. hand_cases (showing w s) (map of_play (due w s)) (λ (h : Handing). is_play h.session.stage ≡ true → last_shown h.session ≡ project w h.session)
       (λ fits playing. sym (same_view w s _))
       (λ much playing. absurd (not_both true refl (sym playing)))
   | false ↦ λ waits playing. absurd (not_both (is_play s.stage) playing waits)
-  ] refl
+] refl
   where
     flushed : Bool → Handing
     flushed b = if b then hand (showing w s) (map of_play (due w s)) else record { session = s; handed = [] }
@@ -151,31 +151,31 @@ pub record Runs (land : World) (k : ℕ) (w : World) (ps : List Sent) : Type 0 w
 
 shown_joining : (land w : World) (k : ℕ) → IsShown land (joining w k) []
 shown_joining land w k = elim (is_crowded w) as (λ b. IsShown land (if b then shut (new_session k) causes.Crowded else new_session k) []) [
-    true ↦ shown_shut land (shut (new_session k) causes.Crowded) [] refl
+  | true ↦ shown_shut land (shut (new_session k) causes.Crowded) [] refl
   | false ↦ record { playing = λ playing. absurd (not_both true refl (sym playing)); drawn = λ playing. absurd (not_both true refl (sym playing)); waiting = λ _ _. refl }
-  ]
+]
 
 nothing_more : (ps qs : List Sent) → ps ≡ [] → qs ≡ [] → ps ++ qs ≡ []
 nothing_more ps qs e f = ap (λ (rs : List Sent). rs ++ qs) e ∙ f
 
 runs_found : (land : World) (k : ℕ) (w : World) (ps : List Sent) (e : Event) → Runs land k w ps → (o : Option Session) → found k w.sessions ≡ o → (t : Session) → found k (step w e).world.sessions ≡ Some t → IsShown land t (ps ++ to k (step w e).out)
 runs_found land k w ps e r None none t there = elim (arrives k w e none) [
-    away gone ↦ absurd (some_none t _ there gone)
+  | away gone ↦ absurd (some_none t _ there gone)
   | joins is new here ↦
-    subst (λ (v : Session). IsShown land v (ps ++ to k (step w e).out)) (one_some (joining w k) t _ here there)
+      subst (λ (v : Session). IsShown land v (ps ++ to k (step w e).out)) (one_some (joining w k) t _ here there)
       (subst (IsShown land (joining w k)) (sym (nothing_more ps (to k (step w e).out) (r.nobody new) (no_out k w e none))) (shown_joining land w k))
-  ]
+]
 runs_found land k w ps e r (Some s) here t there = elim (is_tick e) [
-    inl is ↦
+  | inl is ↦
       let flushed = flush_shown land (at_tick w) s ps r.terrain r.edits (r.each s here) in
       subst (λ (e : Event). found k (step w e).world.sessions ≡ Some t → IsShown land t (ps ++ to k (step w e).out)) (sym is) (λ there.
-        subst (λ (v : Session). IsShown land v (ps ++ to k (step w ticked).out)) (one_some _ t _ (tick_found k w s here) there)
-          (subst (λ (hs : List Sent). IsShown land (flush (at_tick w) s).session (ps ++ hs)) (sym (tick_hands k w s r.orderly.apart here)) flushed)) there
+      subst (λ (v : Session). IsShown land v (ps ++ to k (step w ticked).out)) (one_some _ t _ (tick_found k w s here) there)
+      (subst (λ (hs : List Sent). IsShown land (flush (at_tick w) s).session (ps ++ hs)) (sym (tick_hands k w s r.orderly.apart here)) flushed)) there
   | inr ne ↦ elim (remains (IsShown land) (shown_kept land) k w e s ps r.orderly.apart ne here (r.each s here)) [
-      went closed gone none ↦ absurd (some_none t _ there gone)
+    | went closed gone none ↦ absurd (some_none t _ there gone)
     | stays v found_ p ↦ subst (λ (u : Session). IsShown land u (ps ++ to k (step w e).out)) (one_some v t _ found_ there) p
-    ]
   ]
+]
 
 runs_step : (land : World) (k : ℕ) (w : World) (ps : List Sent) (e : Event) → Runs land k w ps → Runs land k (step w e).world (ps ++ to k (step w e).out)
 runs_step land k w ps e r = record {
@@ -183,8 +183,8 @@ runs_step land k w ps e r = record {
   terrain = (lasts_step w e).terrain ∙ r.terrain;
   edits = (lasts_step w e).edits ∙ r.edits;
   nobody = λ new. elim (is_new k w.last) as (λ b. is_new k w.last ≡ b → ps ++ to k (step w e).out ≡ []) [
-    true ↦ λ was. nothing_more ps (to k (step w e).out) (r.nobody was) (no_out k w e (r.orderly.fresh k was))
-  | false ↦ λ old. absurd (not_both (is_new k (step w e).world.last) new (old_step k w e old))
+    | true ↦ λ was. nothing_more ps (to k (step w e).out) (r.nobody was) (no_out k w e (r.orderly.fresh k was))
+    | false ↦ λ old. absurd (not_both (is_new k (step w e).world.last) new (old_step k w e old))
   ] refl;
   each = runs_found land k w ps e r (found k w.sessions) refl;
 }
@@ -193,7 +193,7 @@ pub runs : (land : World) (k : ℕ) (events : List Event) (w : World) (ps : List
 runs land k [] w ps r = subst (Runs land k w) (sym (append-nil ps)) r
 runs land k (e ∷ events) w ps r =
     subst (Runs land k (history w (e ∷ events))) (append_assoc ps (to k (step w e).out) (handed k (step w e).world events))
-      (runs land k events (step w e).world (ps ++ to k (step w e).out) (runs_step land k w ps e r))
+    (runs land k events (step w e).world (ps ++ to k (step w e).out) (runs_step land k w ps e r))
 
 pub runs_from_new : (most cap : ℕ) (terrain : Terrain) (events : List Event) (k : ℕ) → Runs (new_world most cap terrain) k (history (new_world most cap terrain) events) (handed k (new_world most cap terrain) events)
 runs_from_new most cap terrain events k = runs (new_world most cap terrain) k events (new_world most cap terrain) [] (record {
@@ -208,9 +208,9 @@ runs_from_new most cap terrain events k = runs (new_world most cap terrain) k ev
 
 ticked_sees : (k : ℕ) (w : World) (s : Session) (o : Option Session) → found k w.sessions ≡ o → found k (step w ticked).world.sessions ≡ Some s → is_play s.stage ≡ true → last_shown s ≡ project (at_tick w) s
 ticked_sees k w s None none there playing = elim (arrives k w ticked none) [
-    away gone ↦ absurd (some_none s _ there gone)
+  | away gone ↦ absurd (some_none s _ there gone)
   | joins is new here ↦ absurd cc
-  ]
+]
 ticked_sees k w s (Some r) here there playing =
     let same = one_some (flush (at_tick w) r).session s _ (tick_found k w r here) there in
     subst (λ (v : Session). is_play v.stage ≡ true → last_shown v ≡ project (at_tick w) v) same (flush_sees (at_tick w) r) playing

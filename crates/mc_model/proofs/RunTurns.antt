@@ -41,9 +41,9 @@ pub no_out : (k : ℕ) (w : World) (e : Event) → found k w.sessions ≡ None �
 unfolding step
 no_out k w (joined j) none = refl
 no_out k w (came j bytes) none = elim (cases_eq j k) [
-    inl same ↦ subst (λ (n : ℕ). to k ((n, (on_bytes w n bytes).handed) ∷ []) ≡ []) (sym same) (to_own k (on_bytes w k bytes).handed ∙ ap (λ (t : Turn). t.handed) (no_bytes k w bytes none))
+  | inl same ↦ subst (λ (n : ℕ). to k ((n, (on_bytes w n bytes).handed) ∷ []) ≡ []) (sym same) (to_own k (on_bytes w k bytes).handed ∙ ap (λ (t : Turn). t.handed) (no_bytes k w bytes none))
   | inr ne ↦ to_other j k (on_bytes w j bytes).handed ne
-  ]
+]
 no_out k w (left j) none = refl
 no_out k w ticked none = to_none k (λ (s : Session). (flush (at_tick w) s).handed) w.sessions none
 no_out k w (took j n) none = refl
@@ -62,22 +62,22 @@ found_joining k w none new =
 
 other_joins : (k j : ℕ) (w : World) → j ≢ k → found k w.sessions ≡ None → found k (join w j).sessions ≡ None
 other_joins k j w ne none = elim (is_new j w.last) as (λ b. found k (if b then record w { last = Some j; sessions = w.sessions ++ joining w j ∷ [] } else w).sessions ≡ None) [
-    true ↦
+  | true ↦
       found_behind k w.sessions (joining w j ∷ []) none
       ∙ ap (λ (n : ℕ). cond (n == k) (Some (joining w j)) None) (joining_id w j)
       ∙ ap (λ (b : Bool). cond b (Some (joining w j)) None) (other_number j k ne)
   | false ↦ none
-  ]
+]
 
 pub arrives : (k : ℕ) (w : World) (e : Event) → found k w.sessions ≡ None → Arrives k w e
 unfolding step
 arrives k w (joined j) none = elim (cases_eq j k) [
-    inl same ↦ subst (λ (n : ℕ). Arrives k w (joined n)) (sym same) (elim (is_new k w.last) as (λ b. is_new k w.last ≡ b → Arrives k w (joined k)) [
-      true ↦ λ new. joins refl new (found_joining k w none new)
+  | inl same ↦ subst (λ (n : ℕ). Arrives k w (joined n)) (sym same) (elim (is_new k w.last) as (λ b. is_new k w.last ≡ b → Arrives k w (joined k)) [
+    | true ↦ λ new. joins refl new (found_joining k w none new)
     | false ↦ λ old. away (ap (λ (b : Bool). found k (if b then record w { last = Some k; sessions = w.sessions ++ joining w k ∷ [] } else w).sessions) old ∙ none)
-    ] refl)
+  ] refl)
   | inr ne ↦ away (other_joins k j w ne none)
-  ]
+]
 arrives k w (came j bytes) none = away ((bytes_beside j w bytes).none k none)
 arrives k w (left j) none = away ((beside_changed j w gone (λ t same. gone_id t)).none k none)
 arrives k w ticked none = away (found_map k (λ (s : Session). (flush (at_tick w) s).session) (flush_id (at_tick w)) w.sessions ∙ ap (option_map (λ (s : Session). (flush (at_tick w) s).session)) none)
@@ -96,35 +96,35 @@ remains_alone P k s t ps qs o kept there hands done p = stays t there (subst (λ
 
 gone_done : (s : Session) → Done s (gone s) []
 gone_done s = elim (is_closed s.stage) as (λ b. is_closed s.stage ≡ b → Done s (if b then record s { owed = [] } else record (shut s causes.Gone) { owed = [] }) []) [
-    true ↦ λ closed. stayed refl refl refl refl
+  | true ↦ λ closed. stayed refl refl refl refl
   | false ↦ λ open_. shut_for causes.Gone open_ refl refl (λ playing. inl refl)
-  ] refl
+] refl
 
 -- a change of one connection by which it is done so
 remains_changed : (P : Session → List Sent → Type 0) (kept : IsKept P) (j k : ℕ) (w : World) (f : Session → Session) (s : Session) (ps : List Sent) → ((t : Session) → (f t).id ≡ t.id) → ((t : Session) → Done t (f t) []) →
     found k w.sessions ≡ Some s → P s ps → Remains P k s ps (record { world = changed w j f; out = [] })
 remains_changed P kept j k w f s ps keeps done there p = elim (cases_eq j k) [
-    inl same ↦ remains_alone P k s (f s) ps [] _ kept (subst (λ (n : ℕ). found k (changed w n f).sessions ≡ Some (f s)) (sym same) (found_changed k w f s (λ t is. keeps t) there)) refl (done s) p
+  | inl same ↦ remains_alone P k s (f s) ps [] _ kept (subst (λ (n : ℕ). found k (changed w n f).sessions ≡ Some (f s)) (sym same) (found_changed k w f s (λ t is. keeps t) there)) refl (done s) p
   | inr ne ↦ remains_alone P k s s ps [] _ kept ((beside_changed j w f (λ t is. keeps t)).others k (λ same. ne (sym same)) ∙ there) refl (stayed refl refl refl refl) p
-  ]
+]
 
 remains_bytes : (P : Session → List Sent → Type 0) (kept : IsKept P) (j k : ℕ) (w : World) (bytes : List ℕ) (s : Session) (ps : List Sent) →
     found k w.sessions ≡ Some s → P s ps → Remains P k s ps (record { world = (on_bytes w j bytes).world; out = (j, (on_bytes w j bytes).handed) ∷ [] })
 remains_bytes P kept j k w bytes s ps there p = elim (cases_eq j k) [
-    inl same ↦ subst (λ (n : ℕ). Remains P k s ps (record { world = (on_bytes w n bytes).world; out = (n, (on_bytes w n bytes).handed) ∷ [] })) (sym same) (
+  | inl same ↦ subst (λ (n : ℕ). Remains P k s ps (record { world = (on_bytes w n bytes).world; out = (n, (on_bytes w n bytes).handed) ∷ [] })) (sym same) (
       let l = bytes_lead P kept k w s ps bytes there p in
       stays l.session l.there (subst (λ (hs : List Sent). P l.session (ps ++ hs)) (sym (to_own k (on_bytes w k bytes).handed)) l.holds))
   | inr ne ↦ remains_alone P k s s ps [] _ kept ((bytes_beside j w bytes).others k (λ same. ne (sym same)) ∙ there) (to_other j k (on_bytes w j bytes).handed ne) (stayed refl refl refl refl) p
-  ]
+]
 
 remains_forgot : (P : Session → List Sent → Type 0) (kept : IsKept P) (j k : ℕ) (w : World) (s : Session) (ps : List Sent) → AreApart w.sessions →
     found k w.sessions ≡ Some s → P s ps → Remains P k s ps (record { world = record w { sessions = filter (λ (s : Session). not (s.id == j && is_done s)) w.sessions }; out = [] })
 remains_forgot P kept j k w s ps apart there p =
     let look = found_filter k (λ (s : Session). not (s.id == j && is_done s)) w.sessions s apart there in
     elim (s.id == j && is_done s) as (λ b. (s.id == j && is_done s) ≡ b → found k (filter (λ (s : Session). not (s.id == j && is_done s)) w.sessions) ≡ cond (not b) (Some s) None →
-      Remains P k s ps (record { world = record w { sessions = filter (λ (s : Session). not (s.id == j && is_done s)) w.sessions }; out = [] })) [
-      true ↦ λ is none. went (both_closed (s.id == j) (is_closed s.stage) _ is) none refl
-    | false ↦ λ is some. remains_alone P k s s ps [] _ kept some refl (stayed refl refl refl refl) p
+    Remains P k s ps (record { world = record w { sessions = filter (λ (s : Session). not (s.id == j && is_done s)) w.sessions }; out = [] })) [
+      | true ↦ λ is none. went (both_closed (s.id == j) (is_closed s.stage) _ is) none refl
+      | false ↦ λ is some. remains_alone P k s s ps [] _ kept some refl (stayed refl refl refl refl) p
     ] refl look
   where
     both_closed : (a b c : Bool) → (a && (b && c)) ≡ true → b ≡ true
@@ -135,9 +135,9 @@ remains_forgot P kept j k w s ps apart there p =
 pub remains : (P : Session → List Sent → Type 0) (kept : IsKept P) (k : ℕ) (w : World) (e : Event) (s : Session) (ps : List Sent) → AreApart w.sessions → e ≢ ticked → found k w.sessions ≡ Some s → P s ps → Remains P k s ps (step w e)
 unfolding step
 remains P kept k w (joined j) s ps apart ne there p = remains_alone P k s s ps [] _ kept (elim (is_new j w.last) as (λ b. found k (if b then record w { last = Some j; sessions = w.sessions ++ joining w j ∷ [] } else w).sessions ≡ Some s) [
-    true ↦ found_before k w.sessions (joining w j ∷ []) s there
+  | true ↦ found_before k w.sessions (joining w j ∷ []) s there
   | false ↦ there
-  ]) refl (stayed refl refl refl refl) p
+]) refl (stayed refl refl refl refl) p
 remains P kept k w (came j bytes) s ps apart ne there p = remains_bytes P kept j k w bytes s ps there p
 remains P kept k w (left j) s ps apart ne there p = remains_changed P kept j k w gone s ps gone_id gone_done there p
 remains P kept k w ticked s ps apart ne there p = absurd (ne refl)
