@@ -8,6 +8,7 @@ pub mod RunTurns
 pub mod RunShown
 pub mod RunTicks
 pub mod RunOrder
+pub mod CauseSound
 pub mod Orders
 pub mod Maps
 pub mod Points

@@ -22,7 +22,7 @@ use Rattle.mc_model.proofs.Sessions.{some_none, one_some}
 use Rattle.mc_model.proofs.Handing.{Done, stayed, answered, greeted, entered, shut_for, hand_cases, not_both}
 use Rattle.mc_model.proofs.Frames.{IsKept}
 use Rattle.mc_model.proofs.RunEvents.{Orderly, orderly_step, lasts_step, old_step}
-use Rattle.mc_model.proofs.RunTurns.{tick_found, tick_hands, no_out, Arrives, away, joins, arrives, Remains, went, stays, remains}
+use Rattle.mc_model.proofs.RunTurns.{tick_found, no_out, Arrives, away, joins, arrives, each_step}
 
 -- ---- packets of play
 
@@ -137,10 +137,6 @@ flush_sees w s = elim (is_play s.stage) as (λ b. is_play s.stage ≡ b → is_p
 
 -- ---- along a run
 
-pub is_tick : (e : Event) → (e ≡ ticked) ⊎ (e ≢ ticked)
-is_tick ticked = inl refl
-is_tick other = inr (λ same. absurd cc)
-
 -- what every event keeps of a world, and of what was handed to one number
 pub record Runs (land : World) (k : ℕ) (w : World) (ps : List Sent) : Type 0 where
   pub orderly : Orderly w
@@ -158,25 +154,6 @@ shown_joining land w k = elim (is_crowded w) as (λ b. IsShown land (if b then s
 nothing_more : (ps qs : List Sent) → ps ≡ [] → qs ≡ [] → ps ++ qs ≡ []
 nothing_more ps qs e f = ap (λ (rs : List Sent). rs ++ qs) e ∙ f
 
-runs_found : (land : World) (k : ℕ) (w : World) (ps : List Sent) (e : Event) → Runs land k w ps → (o : Option Session) → found k w.sessions ≡ o → (t : Session) → found k (step w e).world.sessions ≡ Some t → IsShown land t (ps ++ to k (step w e).out)
-runs_found land k w ps e r None none t there = elim (arrives k w e none) [
-  | away gone ↦ absurd (some_none t _ there gone)
-  | joins is new here ↦
-      subst (λ (v : Session). IsShown land v (ps ++ to k (step w e).out)) (one_some (joining w k) t _ here there)
-      (subst (IsShown land (joining w k)) (sym (nothing_more ps (to k (step w e).out) (r.nobody new) (no_out k w e none))) (shown_joining land w k))
-]
-runs_found land k w ps e r (Some s) here t there = elim (is_tick e) [
-  | inl is ↦
-      let flushed = flush_shown land (at_tick w) s ps r.terrain r.edits (r.each s here) in
-      subst (λ (e : Event). found k (step w e).world.sessions ≡ Some t → IsShown land t (ps ++ to k (step w e).out)) (sym is) (λ there.
-      subst (λ (v : Session). IsShown land v (ps ++ to k (step w ticked).out)) (one_some _ t _ (tick_found k w s here) there)
-      (subst (λ (hs : List Sent). IsShown land (flush (at_tick w) s).session (ps ++ hs)) (sym (tick_hands k w s r.orderly.apart here)) flushed)) there
-  | inr ne ↦ elim (remains (IsShown land) (shown_kept land) k w e s ps r.orderly.apart ne here (r.each s here)) [
-    | went closed gone none ↦ absurd (some_none t _ there gone)
-    | stays v found_ p ↦ subst (λ (u : Session). IsShown land u (ps ++ to k (step w e).out)) (one_some v t _ found_ there) p
-  ]
-]
-
 runs_step : (land : World) (k : ℕ) (w : World) (ps : List Sent) (e : Event) → Runs land k w ps → Runs land k (step w e).world (ps ++ to k (step w e).out)
 runs_step land k w ps e r = record {
   orderly = orderly_step w e r.orderly;
@@ -186,7 +163,8 @@ runs_step land k w ps e r = record {
     | true ↦ λ was. nothing_more ps (to k (step w e).out) (r.nobody was) (no_out k w e (r.orderly.fresh k was))
     | false ↦ λ old. absurd (not_both (is_new k (step w e).world.last) new (old_step k w e old))
   ] refl;
-  each = runs_found land k w ps e r (found k w.sessions) refl;
+  each = each_step (IsShown land) (shown_kept land) k w ps e r.orderly.apart (λ s h. flush_shown land (at_tick w) s ps r.terrain r.edits h)
+    (λ none new. subst (IsShown land (joining w k)) (sym (nothing_more ps [] (r.nobody new) refl)) (shown_joining land w k)) r.each;
 }
 
 pub runs : (land : World) (k : ℕ) (events : List Event) (w : World) (ps : List Sent) → Runs land k w ps → Runs land k (history w events) (ps ++ handed k w events)

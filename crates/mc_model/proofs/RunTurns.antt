@@ -1,6 +1,6 @@
 -- What every event makes of one connection, and what it hands out to it.
 use Rattle.std.proofs.Common.{◌≡◌, ◌≢◌, ℕ, ◌+◌, List, [], ◌∷◌, ◌++◌, length, map, inl, inr, refl, sym, subst, ap, ◌∙◌}
-use Rattle.std.specs.Prelude.{◌==◌, ◌&&◌, drop, not, Bool, true, false, cond, Option, Some, None, option_map, if◌then◌else◌}
+use Rattle.std.specs.Prelude.{◌⊎◌, ◌==◌, ◌&&◌, drop, not, Bool, true, false, cond, Option, Some, None, option_map, if◌then◌else◌}
 use Rattle.std.specs.List.{filter}
 use Rattle.std.proofs.lemmas.Bool.{cases_eq}
 use Rattle.std.proofs.lemmas.List.{append-nil}
@@ -9,7 +9,7 @@ use Rattle.mc_model.specs.World.{World, Session, found, is_closed, is_play}
 use Rattle.mc_model.specs.Hearing.{Sent}
 use Rattle.mc_model.specs.Step.{Event, joined, came, left, ticked, took, forgot, Outcome, Turn, still, shut, joining, join, is_new, gone, changed, is_done, flush, at_tick, on_bytes, step}
 use Rattle.mc_model.specs.Run.{to}
-use Rattle.mc_model.proofs.Sessions.{some_none, other_number, same_number, found_id, found_map, found_before, found_behind, AreApart, none_filtered, found_filter, to_none, to_found}
+use Rattle.mc_model.proofs.Sessions.{some_none, one_some, other_number, same_number, found_id, found_map, found_before, found_behind, AreApart, none_filtered, found_filter, to_none, to_found}
 use Rattle.mc_model.proofs.Beside.{Beside, beside_changed, found_changed}
 use Rattle.mc_model.proofs.Handing.{Done, stayed, shut_for, not_both}
 use Rattle.mc_model.proofs.Acting.{farewell_last}
@@ -143,3 +143,34 @@ remains P kept k w (left j) s ps apart ne there p = remains_changed P kept j k w
 remains P kept k w ticked s ps apart ne there p = absurd (ne refl)
 remains P kept k w (took j n) s ps apart ne there p = remains_changed P kept j k w (λ (s : Session). record s { owed = drop n s.owed }) s ps (λ t. refl) (λ t. stayed refl refl refl refl) there p
 remains P kept k w (forgot j) s ps apart ne there p = remains_forgot P kept j k w s ps apart there p
+
+-- ---- any event
+
+pub is_tick : (e : Event) → (e ≡ ticked) ⊎ (e ≢ ticked)
+is_tick ticked = inl refl
+is_tick other = inr (λ same. absurd cc)
+
+-- what holds of what a tick shows, of a connection that joins, and is kept between two ticks, holds of what is there after any event
+pub each_step : (P : Session → List Sent → Type 0) (kept : IsKept P) (k : ℕ) (w : World) (ps : List Sent) (e : Event) → AreApart w.sessions →
+    ((s : Session) → P s ps → P (flush (at_tick w) s).session (ps ++ (flush (at_tick w) s).handed)) →
+    (found k w.sessions ≡ None → is_new k w.last ≡ true → P (joining w k) (ps ++ [])) →
+    ((s : Session) → found k w.sessions ≡ Some s → P s ps) →
+    (t : Session) → found k (step w e).world.sessions ≡ Some t → P t (ps ++ to k (step w e).out)
+each_step P kept k w ps e apart flushes joining_ each t there = elim (found k w.sessions) as (λ o. found k w.sessions ≡ o → P t (ps ++ to k (step w e).out)) [
+    None ↦ λ none. elim (arrives k w e none) [
+      away gone ↦ absurd (some_none t _ there gone)
+    | joins is new here ↦
+      subst (λ (v : Session). P v (ps ++ to k (step w e).out)) (one_some (joining w k) t _ here there)
+        (subst (λ (hs : List Sent). P (joining w k) (ps ++ hs)) (sym (no_out k w e none)) (joining_ none new))
+    ]
+  | Some s ↦ λ here. elim (is_tick e) [
+      inl is ↦
+        subst (λ (e : Event). found k (step w e).world.sessions ≡ Some t → P t (ps ++ to k (step w e).out)) (sym is) (λ there.
+          subst (λ (v : Session). P v (ps ++ to k (step w ticked).out)) (one_some _ t _ (tick_found k w s here) there)
+            (subst (λ (hs : List Sent). P (flush (at_tick w) s).session (ps ++ hs)) (sym (tick_hands k w s apart here)) (flushes s (each s here)))) there
+    | inr ne ↦ elim (remains P kept k w e s ps apart ne here (each s here)) [
+        went closed gone none ↦ absurd (some_none t _ there gone)
+      | stays v found_ p ↦ subst (λ (u : Session). P u (ps ++ to k (step w e).out)) (one_some v t _ found_ there) p
+      ]
+    ]
+  ] refl
