@@ -9,6 +9,8 @@ pub mod RunShown
 pub mod RunTicks
 pub mod RunOrder
 pub mod CauseSound
+pub mod CauseFrames
+pub mod CauseFirst
 pub mod Orders
 pub mod Maps
 pub mod Points

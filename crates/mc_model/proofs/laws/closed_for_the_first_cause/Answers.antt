@@ -2,10 +2,11 @@ use Rattle.mc_model.specs.World.{new_world}
 use Rattle.mc_model.specs.Run.{history}
 use Rattle.mc_model.proofs.RunOrder.{orderly_run}
 use Rattle.mc_model.proofs.CauseSound.{sound_run, closed_cause, cause_closed, shut_for_good, why_closed, sender_alone}
+use Rattle.mc_model.proofs.CauseFirst.{first_closes}
 use Rattle.mc_model.proofs.laws.closed_for_the_first_cause.Goals as goal
 
 pub returns-clause-first : goal.returns-clause-first
-returns-clause-first c most cap terrain events k cause e = ?
+returns-clause-first c most cap terrain events k cause e = first_closes k (history (new_world most cap terrain) events) cause e (sound_run most cap terrain events)
 
 pub returns-clause-for_good : goal.returns-clause-for_good
 returns-clause-for_good c most cap terrain events k s e = shut_for_good k (history (new_world most cap terrain) events) s e (orderly_run most cap terrain events)
