@@ -17,11 +17,11 @@ use Rattle.mc_model.specs.Run.{cause_in}
 use Rattle.mc_model.specs.Causes.{IsOpen, IsTooMuch, CutCloses, Closes}
 use Rattle.mc_model.proofs.Sessions.{some_none, one_some, found_id, found_before, found_filter}
 use Rattle.mc_model.proofs.Beside.{Beside, beside_changed, found_changed, found_put}
-use Rattle.mc_model.proofs.Handing.{hand_cases, not_both}
+use Rattle.mc_model.proofs.Handing.{flush_cases}
 use Rattle.mc_model.proofs.Frames.{bytes_beside, no_bytes}
 use Rattle.mc_model.proofs.RunEvents.{gone_id}
 use Rattle.mc_model.proofs.RunTurns.{tick_found, found_joining, Arrives, away, joins, arrives}
-use Rattle.mc_model.proofs.RunTicks.{flush_plays, flush_waits, tick_much}
+use Rattle.mc_model.proofs.RunTicks.{tick_much}
 use Rattle.mc_model.proofs.CauseSound.{cause_found, cause_nowhere, Sound}
 use Rattle.mc_model.proofs.CauseFrames.{just, never, no_cause, frames_close, frames_closed}
 
@@ -160,15 +160,10 @@ left_closes j k w c o none = (closes, closed)
 -- ---- a tick
 
 flush_cause : (w : World) (s : Session) (c : Cause) → s.cause ≡ None → (flush w s).session.cause ≡ Some c → (is_play s.stage ≡ true) × IsTooMuch s (map of_play (due w s)) × (c ≡ causes.Backlog)
-flush_cause w s c none = elim (is_play s.stage) as (λ b. is_play s.stage ≡ b → (flushed b).session.cause ≡ Some c → (is_play s.stage ≡ true) × IsTooMuch s (map of_play (due w s)) × (c ≡ causes.Backlog)) [
-    true ↦ λ playing. hand_cases (showing w s) (map of_play (due w s)) (λ (h : Handing). h.session.cause ≡ Some c → (is_play s.stage ≡ true) × IsTooMuch s (map of_play (due w s)) × (c ≡ causes.Backlog))
-      (λ fits is. not_now s.cause c none is)
-      (λ much is. (playing, leb-false _ _ much, (just (Some causes.Backlog) causes.Backlog c refl).0 is))
-  | false ↦ λ waits is. not_now s.cause c none is
-  ] refl
-  where
-    flushed : Bool → Handing
-    flushed b = if b then hand (showing w s) (map of_play (due w s)) else record { session = s; handed = [] }
+flush_cause w s c none = flush_cases w s (λ (h : Handing). h.session.cause ≡ Some c → (is_play s.stage ≡ true) × IsTooMuch s (map of_play (due w s)) × (c ≡ causes.Backlog))
+    (λ waits is. not_now s.cause c none is)
+    (λ playing fits is. not_now s.cause c none is)
+    (λ playing much is. (playing, leb-false _ _ much, (just (Some causes.Backlog) causes.Backlog c refl).0 is))
 
 ticked_closes : (k : ℕ) (w : World) (c : Cause) → Sound w → cause_in k w ≡ None → (cause_in k (step w ticked).world ≡ Some c) ↔ Closes w ticked k c
 ticked_closes k w c o none = (closes, closed)

@@ -14,7 +14,7 @@ use Rattle.mc_model.specs.Step.{Event, came, left, ticked, Handing, hand, shut, 
 use Rattle.mc_model.specs.Run.{history, to, cause_in, why, first_of}
 use Rattle.mc_model.proofs.Sessions.{some_none, one_some}
 use Rattle.mc_model.proofs.Beside.{beside_changed}
-use Rattle.mc_model.proofs.Handing.{Done, stayed, answered, greeted, entered, shut_for, hand_cases, closed_is, not_both}
+use Rattle.mc_model.proofs.Handing.{Done, stayed, answered, greeted, entered, shut_for, closed_is, not_both, not_closed, flush_cases}
 use Rattle.mc_model.proofs.Frames.{IsKept, bytes_beside}
 use Rattle.mc_model.proofs.RunEvents.{gone_id, Orderly, orderly_step, old_step}
 use Rattle.mc_model.proofs.RunTurns.{to_other, tick_found, tick_hands, no_out, Arrives, away, joins, arrives, Remains, went, stays, remains, is_tick, each_step}
@@ -48,13 +48,7 @@ sound_kept s t ps qs (entered from into shown cause none) p = sound_open s t (ap
 sound_kept s t ps qs (shut_for why_ open_ closed cause last) p = ap is_closed closed ∙ ap (λ (o : Option Cause). is_some o) (sym cause)
 
 flush_sound : (w : World) (s : Session) → is_closed s.stage ≡ is_some s.cause → is_closed (flush w s).session.stage ≡ is_some (flush w s).session.cause
-flush_sound w s p = elim (is_play s.stage) as (λ b. is_closed (flushed b).session.stage ≡ is_some (flushed b).session.cause) [
-    true ↦ hand_cases (showing w s) (map of_play (due w s)) (λ (h : Handing). is_closed h.session.stage ≡ is_some h.session.cause) (λ fits. p) (λ much. refl)
-  | false ↦ p
-  ]
-  where
-    flushed : Bool → Handing
-    flushed b = if b then hand (showing w s) (map of_play (due w s)) else record { session = s; handed = [] }
+flush_sound w s p = flush_cases w s (λ (h : Handing). is_closed h.session.stage ≡ is_some h.session.cause) (λ waits. p) (λ playing fits. p) (λ playing much. refl)
 
 joining_sound : (w : World) (k : ℕ) → is_closed (joining w k).stage ≡ is_some (joining w k).cause
 joining_sound w k = elim (is_crowded w) as (λ b. is_closed (joined_as b).stage ≡ is_some (joined_as b).cause) [ true ↦ refl | false ↦ refl ]
@@ -100,9 +94,6 @@ pub record IsShut (s t : Session) (ps : List Sent) : Type 0 where
   pub stage : t.stage ≡ stages.Closed
   pub cause : t.cause ≡ s.cause
   pub nothing : ps ≡ []
-
-not_closed : (stage at : Stage) → stage ≡ stages.Closed → stage ≡ at → is_closed at ≡ false → ⊥
-not_closed stage at closed is open_ = not_both (is_closed stage) (ap is_closed closed) (ap is_closed is ∙ open_)
 
 pub shut_kept : (s : Session) → IsKept (IsShut s)
 shut_kept s a b ps qs (stayed stage shown cause none) p = record { stage = stage ∙ p.stage; cause = cause ∙ p.cause; nothing = ap (λ (rs : List Sent). rs ++ qs) p.nothing ∙ none }

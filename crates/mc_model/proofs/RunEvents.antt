@@ -10,7 +10,7 @@ use Rattle.mc_model.specs.Step.{Event, joined, came, left, ticked, took, forgot,
 use Rattle.mc_model.specs.Run.{to}
 use Rattle.mc_model.proofs.Sessions.{other_number, same_number, found_id, found_map, found_before, found_behind, AreApart, apart_map, apart_more, apart_filter, none_filtered}
 use Rattle.mc_model.proofs.Beside.{Beside, beside_changed}
-use Rattle.mc_model.proofs.Handing.{hand_cases}
+use Rattle.mc_model.proofs.Handing.{flush_cases}
 use Rattle.mc_model.proofs.Frames.{bytes_beside}
 
 -- ---- new numbers
@@ -43,10 +43,7 @@ pub gone_id : (s : Session) → (gone s).id ≡ s.id
 gone_id s = elim (is_closed s.stage) as (λ b. (if b then record s { owed = [] } else record (shut s causes.Gone) { owed = [] }).id ≡ s.id) [ true ↦ refl | false ↦ refl ]
 
 pub flush_id : (w : World) (s : Session) → (flush w s).session.id ≡ s.id
-flush_id w s = elim (is_play s.stage) as (λ b. (if b then hand (showing w s) (map of_play (due w s)) else record { session = s; handed = [] }).session.id ≡ s.id) [
-  | true ↦ hand_cases (showing w s) (map of_play (due w s)) (λ (h : Handing). h.session.id ≡ s.id) (λ fits. refl) (λ much. refl)
-  | false ↦ refl
-]
+flush_id w s = flush_cases w s (λ (h : Handing). h.session.id ≡ s.id) (λ waits. refl) (λ playing fits. refl) (λ playing much. refl)
 
 -- ---- the order of numbers
 

@@ -19,7 +19,7 @@ use Rattle.mc_model.specs.Run.{history, handed, to}
 use Rattle.mc_model.proofs.Opening.{due_leads}
 use Rattle.mc_model.proofs.Projections.{project_follows, nothing_follows}
 use Rattle.mc_model.proofs.Sessions.{some_none, one_some}
-use Rattle.mc_model.proofs.Handing.{Done, stayed, answered, greeted, entered, shut_for, hand_cases, not_both}
+use Rattle.mc_model.proofs.Handing.{Done, stayed, answered, greeted, entered, shut_for, not_both, not_play, flush_cases}
 use Rattle.mc_model.proofs.Frames.{IsKept}
 use Rattle.mc_model.proofs.RunEvents.{Orderly, orderly_step, lasts_step, old_step}
 use Rattle.mc_model.proofs.RunTurns.{tick_found, no_out, Arrives, away, joins, arrives, each_step}
@@ -57,9 +57,6 @@ pub record IsShown (land : World) (s : Session) (ps : List Sent) : Type 0 where
   pub playing : is_play s.stage ≡ true → replay new_replica (played ps) ≡ seeing (last_shown s)
   pub drawn : is_play s.stage ≡ true → IsDrawn land s.shown
   pub waiting : is_play s.stage ≡ false → is_closed s.stage ≡ false → played ps ≡ []
-
-not_play : (stage at : Stage) → stage ≡ at → is_play at ≡ false → is_play stage ≡ true → ⊥
-not_play stage at is waits playing = not_both (is_play stage) playing (ap is_play is ∙ waits)
 
 shown_stayed : (land : World) (s t : Session) (ps qs : List Sent) → t.stage ≡ s.stage → t.shown ≡ s.shown → played qs ≡ [] → IsShown land s ps → IsShown land t (ps ++ qs)
 shown_stayed land s t ps qs stage shown none h = record {
@@ -105,35 +102,25 @@ unfolding project
 same_view w s owed = refl
 
 pub flush_shown : (land w : World) (s : Session) (ps : List Sent) → w.terrain ≡ land.terrain → w.edits ≡ land.edits → IsShown land s ps → IsShown land (flush w s).session (ps ++ (flush w s).handed)
-flush_shown land w s ps terrain edits h = elim (is_play s.stage) as (λ b. is_play s.stage ≡ b → IsShown land (flushed b).session (ps ++ (flushed b).handed)) [
-  | true ↦ λ playing. hand_cases (showing w s) (map of_play (due w s)) (λ (h : Handing). IsShown land h.session (ps ++ h.handed))
-      (λ fits. record {
-        playing = λ _.
-            ap (replay new_replica) (filter_map-append in_play ps (map of_play (due w s)) ∙ ap (λ (ds : List Down). played ps ++ ds) (played_all (due w s)))
-            ∙ fold-append apply new_replica (played ps) (due w s)
-            ∙ ap (λ (r : Replica). replay r (due w s)) (h.playing playing)
-            ∙ due_leads w s (drawn_follows land w s s.shown terrain edits (h.drawn playing));
-        drawn = λ _. record { world = w; session = s; terrain = terrain; edits = edits; is = refl };
-        waiting = λ waits. absurd (not_both (is_play s.stage) playing waits);
-      })
-      (λ much. shown_shut land _ (ps ++ []) refl)
-  | false ↦ λ waits. subst (IsShown land s) (sym (append-nil ps)) h
-] refl
-  where
-    flushed : Bool → Handing
-    flushed b = if b then hand (showing w s) (map of_play (due w s)) else record { session = s; handed = [] }
+flush_shown land w s ps terrain edits h = flush_cases w s (λ (h : Handing). IsShown land h.session (ps ++ h.handed))
+    (λ waits. subst (IsShown land s) (sym (append-nil ps)) h)
+    (λ playing fits. record {
+      playing = λ _.
+        ap (replay new_replica) (filter_map-append in_play ps (map of_play (due w s)) ∙ ap (λ (ds : List Down). played ps ++ ds) (played_all (due w s)))
+        ∙ fold-append apply new_replica (played ps) (due w s)
+        ∙ ap (λ (r : Replica). replay r (due w s)) (h.playing playing)
+        ∙ due_leads w s (drawn_follows land w s s.shown terrain edits (h.drawn playing));
+      drawn = λ _. record { world = w; session = s; terrain = terrain; edits = edits; is = refl };
+      waiting = λ waits. absurd (not_both (is_play s.stage) playing waits);
+    })
+    (λ playing much. shown_shut land _ (ps ++ []) refl)
 
 -- after it, a client in play was shown the world
 pub flush_sees : (w : World) (s : Session) → is_play (flush w s).session.stage ≡ true → last_shown (flush w s).session ≡ project w (flush w s).session
-flush_sees w s = elim (is_play s.stage) as (λ b. is_play s.stage ≡ b → is_play (flushed b).session.stage ≡ true → last_shown (flushed b).session ≡ project w (flushed b).session) [
-  | true ↦ λ was. hand_cases (showing w s) (map of_play (due w s)) (λ (h : Handing). is_play h.session.stage ≡ true → last_shown h.session ≡ project w h.session)
-      (λ fits playing. sym (same_view w s _))
-      (λ much playing. absurd (not_both true refl (sym playing)))
-  | false ↦ λ waits playing. absurd (not_both (is_play s.stage) playing waits)
-] refl
-  where
-    flushed : Bool → Handing
-    flushed b = if b then hand (showing w s) (map of_play (due w s)) else record { session = s; handed = [] }
+flush_sees w s = flush_cases w s (λ (h : Handing). is_play h.session.stage ≡ true → last_shown h.session ≡ project w h.session)
+    (λ waits playing. absurd (not_both (is_play s.stage) playing waits))
+    (λ was fits playing. sym (same_view w s _))
+    (λ was much playing. absurd (not_both true refl (sym playing)))
 
 -- ---- along a run
 

@@ -1,7 +1,7 @@
 -- What a client in play is handed at a tick, and between two ticks.
 use Rattle.std.proofs.Common.{◌≡◌, ◌≢◌, ℕ, ◌+◌, ◌<◌, ◌≤◌, List, [], ◌∷◌, ◌++◌, length, map, inl, inr, refl, sym, subst, ap, ◌∙◌, arith}
 use Rattle.std.specs.Prelude.{◌⊎◌, nat_le, Bool, true, false, Option, Some, None, if◌then◌else◌}
-use Rattle.std.proofs.lemmas.Bool.{leb-true, leb-false}
+use Rattle.std.proofs.lemmas.Bool.{leb-false, lt-leb}
 use Rattle.std.proofs.lemmas.List.{append-nil}
 use Rattle.mc_frame.specs.Kept.{outbox_max}
 use Rattle.mc_model.specs.declared.cause.Cause.{Cause}
@@ -16,41 +16,31 @@ use Rattle.mc_model.specs.Step.{Event, ticked, Handing, hand, due, showing, flus
 use Rattle.mc_model.specs.Run.{to}
 use Rattle.mc_model.specs.Causes.{IsTooMuch}
 use Rattle.mc_model.proofs.Sessions.{some_none, one_some}
-use Rattle.mc_model.proofs.Handing.{Done, stayed, answered, greeted, entered, shut_for, hand_cases, not_both}
+use Rattle.mc_model.proofs.Handing.{Done, stayed, answered, greeted, entered, shut_for, not_both, not_play, not_closed, flush_cases}
 use Rattle.mc_model.proofs.Frames.{IsKept}
 use Rattle.mc_model.proofs.RunEvents.{Orderly}
 use Rattle.mc_model.proofs.RunTurns.{tick_found, tick_hands, no_out, Remains, went, stays, remains}
 
--- ---- handing out, by whether it is too much
-
-pub hand_fits : (s : Session) (packets : List Sent) → (IsTooMuch s packets → ⊥) → hand s packets ≡ record { session = record s { owed = s.owed ++ bytes_of packets }; handed = packets }
-hand_fits s packets few = hand_cases s packets (λ (h : Handing). h ≡ record { session = record s { owed = s.owed ++ bytes_of packets }; handed = packets })
-    (λ fits. refl)
-    (λ much. absurd (few (leb-false _ _ much)))
-
-pub hand_much : (s : Session) (packets : List Sent) → IsTooMuch s packets → hand s packets ≡ record { session = record s { stage = stages.Closed; cause = Some causes.Backlog; owed = [] }; handed = [] }
-hand_much s packets many = hand_cases s packets (λ (h : Handing). h ≡ record { session = record s { stage = stages.Closed; cause = Some causes.Backlog; owed = [] }; handed = [] })
-    (λ fits. absurd (too_many _ _ many (leb-true _ _ fits)))
-    (λ much. refl)
-  where
-    too_many : (a b : ℕ) → b < a → a ≤ b → ⊥
-    too_many a b more less = omega arith
-
 -- ---- a tick
-
-pub flush_plays : (w : World) (s : Session) → is_play s.stage ≡ true → flush w s ≡ hand (showing w s) (map of_play (due w s))
-flush_plays w s playing = ap (λ (b : Bool). if b then hand (showing w s) (map of_play (due w s)) else record { session = s; handed = [] }) playing
 
 pub flush_waits : (w : World) (s : Session) → is_play s.stage ≡ false → flush w s ≡ record { session = s; handed = [] }
 flush_waits w s waits = ap (λ (b : Bool). if b then hand (showing w s) (map of_play (due w s)) else record { session = s; handed = [] }) waits
 
 flush_fits : (w : World) (s : Session) → is_play s.stage ≡ true → (IsTooMuch s (map of_play (due w s)) → ⊥) →
     flush w s ≡ record { session = record (showing w s) { owed = s.owed ++ bytes_of (map of_play (due w s)) }; handed = map of_play (due w s) }
-flush_fits w s playing few = flush_plays w s playing ∙ hand_fits (showing w s) (map of_play (due w s)) few
+flush_fits w s playing few = flush_cases w s
+    (λ (h : Handing). h ≡ record { session = record (showing w s) { owed = s.owed ++ bytes_of (map of_play (due w s)) }; handed = map of_play (due w s) })
+    (λ waits. absurd (not_both (is_play s.stage) playing waits))
+    (λ _ fits. refl)
+    (λ _ much. absurd (few (leb-false _ _ much)))
 
 flush_much : (w : World) (s : Session) → is_play s.stage ≡ true → IsTooMuch s (map of_play (due w s)) →
     flush w s ≡ record { session = record (showing w s) { stage = stages.Closed; cause = Some causes.Backlog; owed = [] }; handed = [] }
-flush_much w s playing many = flush_plays w s playing ∙ hand_much (showing w s) (map of_play (due w s)) many
+flush_much w s playing many = flush_cases w s
+    (λ (h : Handing). h ≡ record { session = record (showing w s) { stage = stages.Closed; cause = Some causes.Backlog; owed = [] }; handed = [] })
+    (λ waits. absurd (not_both (is_play s.stage) playing waits))
+    (λ _ fits. absurd (not_both _ fits (lt-leb _ outbox_max many)))
+    (λ _ much. refl)
 
 pub tick_due : (k : ℕ) (w : World) (s : Session) → Orderly w → found k w.sessions ≡ Some s → is_play s.stage ≡ true → (IsTooMuch s (map of_play (due (at_tick w) s)) → ⊥) →
     to k (step w ticked).out ≡ map of_play (due (at_tick w) s)
@@ -86,12 +76,6 @@ tick_others k w o waits = elim (found k w.sessions) as (λ r. found k w.sessions
 pub data IsBetween (s t : Session) (ps : List Sent) : Type 0 where
   plays : is_play t.stage ≡ true → t.shown ≡ s.shown → ps ≡ [] → IsBetween s t ps
   ended : t.stage ≡ stages.Closed → (ps ≡ []) ⊎ ((cause : Cause) × (ps ≡ farewell stages.Play cause)) → IsBetween s t ps
-
-not_play : (stage at : Stage) → stage ≡ at → is_play at ≡ false → is_play stage ≡ true → ⊥
-not_play stage at is waits playing = not_both (is_play stage) playing (ap is_play is ∙ waits)
-
-not_closed : (stage at : Stage) → stage ≡ stages.Closed → stage ≡ at → is_closed at ≡ false → ⊥
-not_closed stage at closed is open_ = not_both (is_closed stage) (ap is_closed closed) (ap is_closed is ∙ open_)
 
 between_kept : (s : Session) → IsKept (IsBetween s)
 between_kept s a b ps qs (stayed stage shown cause none) (plays playing same before) = plays (ap is_play stage ∙ playing) (shown ∙ same) (ap (λ (rs : List Sent). rs ++ qs) before ∙ none)
