@@ -1,6 +1,6 @@
 -- What a frame comes to, done: what it makes of its connection.
-use Rattle.std.proofs.Common.{◌≡◌, ℕ, ◌+◌, List, [], ◌∷◌, length, inl, inr, refl, sym, subst, ap, ◌∙◌}
-use Rattle.std.specs.Prelude.{◌⊎◌, ◌==◌, Bool, true, false, cond, Option, Some, None, option_map, Result, Ok, Err, if◌then◌else◌}
+use Rattle.std.proofs.Common.{◌≡◌, ℕ, ◌+◌, List, [], ◌∷◌, inl, inr, refl, sym, subst, ap, ◌∙◌}
+use Rattle.std.specs.Prelude.{◌⊎◌, ◌==◌, Bool, true, false, Option, Some, None, Result, Ok, Err, if◌then◌else◌}
 use Rattle.std.specs.Option.{option_and_then}
 use lib.IntN.{ℤ, pos, negsuc}
 use Rattle.mc_fields.specs.declared.packet.PacketFault.{PacketFault}
@@ -28,8 +28,8 @@ use Rattle.mc_model.specs.World.{World, Session, found, put, is_play, is_closed,
 use Rattle.mc_model.specs.Hearing.{Sent, of_status, played}
 use Rattle.mc_model.specs.Acts.{act, arrive, arrived, is_in_range, moved, turned}
 use Rattle.mc_model.specs.Talk.{Said, nothing, greets, replies, ends, enters, acts, wrong, said, in_hand, in_status, in_login, in_play, wanted, farewell, refused, accepted}
-use Rattle.mc_model.specs.Step.{Turn, still, perform, refusal, answer_login, acted, entered as entering}
-use Rattle.mc_model.proofs.Handing.{Done, stayed, answered, greeted, entered, shut_for, IsLast, Goes, goes_still, goes_put, goes_hand, goes_close, play_is, not_both}
+use Rattle.mc_model.specs.Step.{still, perform, refusal, answer_login, acted, entered as entering}
+use Rattle.mc_model.proofs.Handing.{Done, stayed, answered, greeted, entered, IsLast, Goes, goes_still, goes_put, goes_hand, goes_close, play_is, not_both}
 
 -- ---- which answers a stage has
 

@@ -1,5 +1,5 @@
 -- What stays as it was when one connection's part of the world changes.
-use Rattle.std.proofs.Common.{◌≡◌, ◌≢◌, ℕ, map, refl, sym, subst, ap, ◌∙◌}
+use Rattle.std.proofs.Common.{◌≡◌, ◌≢◌, ℕ, refl, sym, subst, ap, ◌∙◌}
 use Rattle.std.specs.Prelude.{◌==◌, Bool, true, false, cond, Option, Some, None, option_map, if◌then◌else◌}
 use Rattle.std.proofs.lemmas.Bool.{eqb-true}
 use Rattle.mc_model.specs.World.{World, Session, found, put}

@@ -1,29 +1,27 @@
 -- A connection is closed by the first thing that closes it, for the cause of that: event by event.
-use Rattle.std.proofs.Common.{◌≡◌, ◌≢◌, ℕ, ◌+◌, List, [], ◌∷◌, ◌++◌, length, map, inl, inr, refl, sym, subst, ap, ◌∙◌}
-use Rattle.std.specs.Prelude.{◌⊎◌, ◌↔◌, ◌==◌, ◌&&◌, not, nat_le, drop, Bool, true, false, cond, Option, Some, None, is_some, option_map, if◌then◌else◌}
+use Rattle.std.proofs.Common.{◌≡◌, ℕ, ◌+◌, List, [], ◌∷◌, ◌++◌, length, map, inl, inr, refl, sym, subst, ap, ◌∙◌}
+use Rattle.std.specs.Prelude.{◌↔◌, ◌==◌, ◌&&◌, not, drop, Bool, true, false, cond, Option, Some, None, is_some, if◌then◌else◌}
 use Rattle.std.specs.List.{filter}
 use Rattle.std.specs.Option.{option_and_then}
 use Rattle.std.proofs.lemmas.Bool.{cases_eq, leb-false}
-use Rattle.mc_frame.specs.Kept.{outbox_max}
 use Rattle.mc_frame.specs.Cut.{Cut}
 use Rattle.mc_model.specs.declared.cause.Cause.{Cause}
 use Rattle.mc_model.specs.declared.cause.Cause.TheVariants as causes
-use Rattle.mc_model.specs.declared.stage.Stage.TheVariants as stages
 use Rattle.mc_model.specs.Cutting.{cut_of}
 use Rattle.mc_model.specs.World.{World, Session, found, put, is_play, is_closed}
-use Rattle.mc_model.specs.Hearing.{Sent, of_play, bytes_of}
-use Rattle.mc_model.specs.Step.{Event, joined, came, left, ticked, took, forgot, Handing, hand, Turn, still, when_open, shut, new_session, joining, join, is_new, is_crowded, gone, changed, is_done, due, showing, flush, at_tick, read_to, on_cut, on_bytes, step}
+use Rattle.mc_model.specs.Hearing.{of_play}
+use Rattle.mc_model.specs.Step.{Event, joined, came, left, ticked, took, forgot, Handing, Turn, still, when_open, shut, new_session, joining, join, is_new, is_crowded, gone, changed, is_done, due, flush, at_tick, read_to, on_cut, on_bytes, step}
 use Rattle.mc_model.specs.Run.{cause_in}
-use Rattle.mc_model.specs.Causes.{IsOpen, IsTooMuch, CutCloses, Closes}
-use Rattle.mc_model.proofs.Sessions.{some_none, one_some, found_id, found_before, found_filter}
-use Rattle.mc_model.proofs.Beside.{Beside, beside_changed, found_changed, found_put}
+use Rattle.mc_model.specs.Causes.{IsTooMuch, CutCloses, Closes}
+use Rattle.mc_model.proofs.Sessions.{some_none, found_id, found_before, found_filter}
+use Rattle.mc_model.proofs.Beside.{beside_changed, found_changed, found_put}
 use Rattle.mc_model.proofs.Handing.{flush_cases}
 use Rattle.mc_model.proofs.Frames.{bytes_beside, no_bytes}
 use Rattle.mc_model.proofs.RunEvents.{gone_id}
-use Rattle.mc_model.proofs.RunTurns.{tick_found, found_joining, Arrives, away, joins, arrives}
+use Rattle.mc_model.proofs.RunTurns.{tick_found, found_joining, away, joins, arrives}
 use Rattle.mc_model.proofs.RunTicks.{tick_much}
 use Rattle.mc_model.proofs.CauseSound.{cause_found, cause_nowhere, Sound}
-use Rattle.mc_model.proofs.CauseFrames.{just, never, no_cause, frames_close, frames_closed}
+use Rattle.mc_model.proofs.CauseFrames.{just, never, frames_close, frames_closed}
 
 -- ---- the cause of a connection that an event leaves as it is
 

@@ -1,6 +1,6 @@
 -- Frames close their connection exactly for the cause of the first of them that closes it.
-use Rattle.std.proofs.Common.{◌≡◌, ◌≢◌, ℕ, ◌+◌, ◌<◌, ◌≤◌, List, [], ◌∷◌, ◌++◌, length, inl, inr, refl, sym, subst, ap, ◌∙◌, arith}
-use Rattle.std.specs.Prelude.{◌⊎◌, ◌↔◌, nat_le, Bool, true, false, cond, Option, Some, None, is_some, if◌then◌else◌}
+use Rattle.std.proofs.Common.{◌≡◌, ℕ, ◌+◌, ◌<◌, List, [], ◌∷◌, ◌++◌, length, inl, inr, refl, sym, subst, ap, ◌∙◌}
+use Rattle.std.specs.Prelude.{◌↔◌, nat_le, Bool, true, false, cond, Option, Some, None, is_some, if◌then◌else◌}
 use Rattle.std.proofs.lemmas.Bool.{leb-false, lt-leb}
 use Rattle.mc_frame.specs.declared.fault.FrameFault.{FrameFault}
 use Rattle.mc_frame.specs.Kept.{outbox_max}
@@ -16,7 +16,7 @@ use Rattle.mc_model.specs.Acts.{act}
 use Rattle.mc_model.specs.Talk.{Said, nothing, greets, replies, ends, enters, acts, wrong, said, farewell, refused, accepted}
 use Rattle.mc_model.specs.Step.{Handing, hand, shut, close, Turn, still, turn, when_open, refusal, entered as entering, answer_login, acted, perform, on_frame, on_frames, on_fault}
 use Rattle.mc_model.specs.Run.{cause_in}
-use Rattle.mc_model.specs.Causes.{IsOpen, IsTooMuch, or_backlog, told_of, EnteringCloses, SaidCloses, NextCloses, FirstCloses}
+use Rattle.mc_model.specs.Causes.{IsTooMuch, or_backlog, told_of, EnteringCloses, SaidCloses, NextCloses, FirstCloses}
 use Rattle.mc_model.proofs.Sessions.{one_some, found_id}
 use Rattle.mc_model.proofs.Beside.{found_put}
 use Rattle.mc_model.proofs.Handing.{hand_cases, not_both}

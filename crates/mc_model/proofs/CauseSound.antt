@@ -1,23 +1,22 @@
 -- A connection is closed exactly where a cause is kept of it, and then it stays so.
-use Rattle.std.proofs.Common.{◌≡◌, ◌≢◌, ℕ, List, [], ◌∷◌, ◌++◌, map, inl, inr, refl, sym, subst, ap, ◌∙◌}
+use Rattle.std.proofs.Common.{◌≡◌, ◌≢◌, ℕ, List, [], ◌∷◌, ◌++◌, inl, inr, refl, sym, subst, ap, ◌∙◌}
 use Rattle.std.specs.Prelude.{◌⊎◌, Bool, true, false, Option, Some, None, is_some, if◌then◌else◌}
 use Rattle.std.specs.Option.{option_and_then}
 use Rattle.std.proofs.lemmas.List.{append-nil}
 use Rattle.mc_land.specs.declared.terrain.Terrain.{Terrain}
 use Rattle.mc_model.specs.declared.cause.Cause.{Cause}
 use Rattle.mc_model.specs.declared.cause.Cause.TheVariants as causes
-use Rattle.mc_model.specs.declared.stage.Stage.{Stage}
 use Rattle.mc_model.specs.declared.stage.Stage.TheVariants as stages
 use Rattle.mc_model.specs.World.{World, Session, new_world, found, is_play, is_closed}
-use Rattle.mc_model.specs.Hearing.{Sent, of_play}
-use Rattle.mc_model.specs.Step.{Event, came, left, ticked, Handing, hand, shut, new_session, joining, is_new, is_crowded, due, showing, flush, at_tick, on_bytes, gone, step}
+use Rattle.mc_model.specs.Hearing.{Sent}
+use Rattle.mc_model.specs.Step.{Event, came, left, Handing, shut, new_session, joining, is_new, is_crowded, flush, at_tick, on_bytes, gone, step}
 use Rattle.mc_model.specs.Run.{history, to, cause_in, why, first_of}
 use Rattle.mc_model.proofs.Sessions.{some_none, one_some}
 use Rattle.mc_model.proofs.Beside.{beside_changed}
-use Rattle.mc_model.proofs.Handing.{Done, stayed, answered, greeted, entered, shut_for, closed_is, not_both, not_closed, flush_cases}
+use Rattle.mc_model.proofs.Handing.{stayed, answered, greeted, entered, shut_for, closed_is, not_both, not_closed, flush_cases}
 use Rattle.mc_model.proofs.Frames.{IsKept, bytes_beside}
 use Rattle.mc_model.proofs.RunEvents.{gone_id, Orderly, orderly_step, old_step}
-use Rattle.mc_model.proofs.RunTurns.{to_other, tick_found, tick_hands, no_out, Arrives, away, joins, arrives, Remains, went, stays, remains, is_tick, each_step}
+use Rattle.mc_model.proofs.RunTurns.{to_other, tick_hands, away, joins, arrives, went, stays, remains, is_tick, each_step}
 use Rattle.mc_model.proofs.RunTicks.{flush_waits}
 use Rattle.mc_model.proofs.RunOrder.{orderly_new}
 

@@ -1,14 +1,11 @@
 -- What every event leaves of the world: numbers of connections stand once, and none is above the last that joined.
-use Rattle.std.proofs.Common.{◌≡◌, ◌≢◌, ℕ, ◌+◌, ◌<◌, ◌≤◌, List, [], ◌∷◌, ◌++◌, length, map, inl, inr, refl, sym, subst, ap, ◌∙◌, arith}
-use Rattle.std.specs.Prelude.{◌⊎◌, ◌==◌, ◌&&◌, not, nat_lt, nat_le, Bool, true, false, cond, Option, Some, None, option_map, if◌then◌else◌}
-use Rattle.std.specs.List.{filter}
+use Rattle.std.proofs.Common.{◌≡◌, ◌≢◌, ℕ, ◌+◌, [], ◌∷◌, ◌++◌, refl, sym, ap, ◌∙◌, arith}
+use Rattle.std.specs.Prelude.{◌==◌, ◌&&◌, not, nat_lt, Bool, true, false, cond, Option, Some, None, option_map, if◌then◌else◌}
 use Rattle.std.proofs.lemmas.Bool.Decides.{nat_tests}
 use Rattle.mc_model.specs.declared.cause.Cause.TheVariants as causes
-use Rattle.mc_model.specs.World.{World, Session, found, is_closed, is_play}
-use Rattle.mc_model.specs.Hearing.{Sent, of_play}
-use Rattle.mc_model.specs.Step.{Event, joined, came, left, ticked, took, forgot, Outcome, Handing, hand, shut, new_session, joining, join, is_new, is_crowded, gone, changed, is_done, showing, flush, due, at_tick, on_bytes, step}
-use Rattle.mc_model.specs.Run.{to}
-use Rattle.mc_model.proofs.Sessions.{other_number, same_number, found_id, found_map, found_before, found_behind, AreApart, apart_map, apart_more, apart_filter, none_filtered}
+use Rattle.mc_model.specs.World.{World, Session, found, is_closed}
+use Rattle.mc_model.specs.Step.{Event, joined, came, left, ticked, took, forgot, Handing, shut, new_session, joining, join, is_new, is_crowded, gone, changed, is_done, flush, at_tick, on_bytes, step}
+use Rattle.mc_model.proofs.Sessions.{other_number, found_map, found_behind, AreApart, apart_map, apart_more, apart_filter, none_filtered}
 use Rattle.mc_model.proofs.Beside.{Beside, beside_changed}
 use Rattle.mc_model.proofs.Handing.{flush_cases}
 use Rattle.mc_model.proofs.Frames.{bytes_beside}

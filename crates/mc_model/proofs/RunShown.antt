@@ -1,28 +1,27 @@
 -- After each tick a client in play was handed packets that show it the world: kept by each event, so true after any of them.
-use Rattle.std.proofs.Common.{◌≡◌, ◌≢◌, ℕ, List, [], ◌∷◌, ◌++◌, map, inl, inr, refl, sym, subst, ap, ◌∙◌, append_assoc}
-use Rattle.std.specs.Prelude.{◌⊎◌, Bool, true, false, Option, Some, None, unwrap_or, if◌then◌else◌}
+use Rattle.std.proofs.Common.{◌≡◌, ℕ, List, [], ◌∷◌, ◌++◌, map, refl, sym, subst, ap, ◌∙◌, append_assoc}
+use Rattle.std.specs.Prelude.{true, false, Option, Some, None, unwrap_or, if◌then◌else◌}
 use Rattle.std.proofs.lemmas.List.{append-nil}
 use Rattle.std.proofs.lemmas.List.Elements.{filter_map-append}
 use Rattle.std.proofs.lemmas.List.Sums.{fold-append}
 use Rattle.mc_land.specs.declared.terrain.Terrain.{Terrain}
 use Rattle.mc_down.specs.declared.down.Down.{Down}
 use Rattle.mc_model.specs.declared.cause.Cause.TheVariants as causes
-use Rattle.mc_model.specs.declared.stage.Stage.{Stage}
 use Rattle.mc_model.specs.declared.stage.Stage.TheVariants as stages
 use Rattle.mc_model.specs.Sight.{Sight, nothing_seen}
 use Rattle.mc_model.specs.Replica.{Replica, Shows, new_replica, apply, replay, seeing}
 use Rattle.mc_model.specs.Delta.{Follows}
 use Rattle.mc_model.specs.World.{World, Session, new_world, found, is_play, is_closed, project}
 use Rattle.mc_model.specs.Hearing.{Sent, of_play, in_play, played}
-use Rattle.mc_model.specs.Step.{Event, ticked, Handing, hand, shut, new_session, joining, is_new, is_crowded, last_shown, due, showing, flush, at_tick, step}
+use Rattle.mc_model.specs.Step.{Event, ticked, Handing, shut, new_session, joining, is_new, is_crowded, last_shown, due, showing, flush, at_tick, step}
 use Rattle.mc_model.specs.Run.{history, handed, to}
 use Rattle.mc_model.proofs.Opening.{due_leads}
 use Rattle.mc_model.proofs.Projections.{project_follows, nothing_follows}
 use Rattle.mc_model.proofs.Sessions.{some_none, one_some}
-use Rattle.mc_model.proofs.Handing.{Done, stayed, answered, greeted, entered, shut_for, not_both, not_play, flush_cases}
+use Rattle.mc_model.proofs.Handing.{stayed, answered, greeted, entered, shut_for, not_both, not_play, flush_cases}
 use Rattle.mc_model.proofs.Frames.{IsKept}
 use Rattle.mc_model.proofs.RunEvents.{Orderly, orderly_step, lasts_step, old_step}
-use Rattle.mc_model.proofs.RunTurns.{tick_found, no_out, Arrives, away, joins, arrives, each_step}
+use Rattle.mc_model.proofs.RunTurns.{tick_found, no_out, away, joins, arrives, each_step}
 
 -- ---- packets of play
 

@@ -1,12 +1,11 @@
 -- What a client in play is handed at a tick, and between two ticks.
-use Rattle.std.proofs.Common.{◌≡◌, ◌≢◌, ℕ, ◌+◌, ◌<◌, ◌≤◌, List, [], ◌∷◌, ◌++◌, length, map, inl, inr, refl, sym, subst, ap, ◌∙◌, arith}
-use Rattle.std.specs.Prelude.{◌⊎◌, nat_le, Bool, true, false, Option, Some, None, if◌then◌else◌}
+use Rattle.std.proofs.Common.{◌≡◌, ◌≢◌, ℕ, ◌+◌, List, [], ◌++◌, map, inl, inr, refl, sym, subst, ap, ◌∙◌}
+use Rattle.std.specs.Prelude.{◌⊎◌, Bool, true, false, Some, None, if◌then◌else◌}
 use Rattle.std.proofs.lemmas.Bool.{leb-false, lt-leb}
 use Rattle.std.proofs.lemmas.List.{append-nil}
 use Rattle.mc_frame.specs.Kept.{outbox_max}
 use Rattle.mc_model.specs.declared.cause.Cause.{Cause}
 use Rattle.mc_model.specs.declared.cause.Cause.TheVariants as causes
-use Rattle.mc_model.specs.declared.stage.Stage.{Stage}
 use Rattle.mc_model.specs.declared.stage.Stage.TheVariants as stages
 use Rattle.mc_model.specs.Notes.{no_notes}
 use Rattle.mc_model.specs.World.{World, Session, found, is_play, is_closed, project}
@@ -16,7 +15,7 @@ use Rattle.mc_model.specs.Step.{Event, ticked, Handing, hand, due, showing, flus
 use Rattle.mc_model.specs.Run.{to}
 use Rattle.mc_model.specs.Causes.{IsTooMuch}
 use Rattle.mc_model.proofs.Sessions.{some_none, one_some}
-use Rattle.mc_model.proofs.Handing.{Done, stayed, answered, greeted, entered, shut_for, not_both, not_play, not_closed, flush_cases}
+use Rattle.mc_model.proofs.Handing.{stayed, answered, greeted, entered, shut_for, not_both, not_play, not_closed, flush_cases}
 use Rattle.mc_model.proofs.Frames.{IsKept}
 use Rattle.mc_model.proofs.RunEvents.{Orderly}
 use Rattle.mc_model.proofs.RunTurns.{tick_found, tick_hands, no_out, Remains, went, stays, remains}

@@ -1,20 +1,19 @@
 -- What every event makes of one connection, and what it hands out to it.
-use Rattle.std.proofs.Common.{◌≡◌, ◌≢◌, ℕ, ◌+◌, List, [], ◌∷◌, ◌++◌, length, map, inl, inr, refl, sym, subst, ap, ◌∙◌}
-use Rattle.std.specs.Prelude.{◌⊎◌, ◌==◌, ◌&&◌, drop, not, Bool, true, false, cond, Option, Some, None, option_map, if◌then◌else◌}
+use Rattle.std.proofs.Common.{◌≡◌, ◌≢◌, ℕ, ◌+◌, List, [], ◌∷◌, ◌++◌, inl, inr, refl, sym, subst, ap, ◌∙◌}
+use Rattle.std.specs.Prelude.{◌⊎◌, ◌==◌, ◌&&◌, drop, not, Bool, true, false, cond, Some, None, option_map, if◌then◌else◌}
 use Rattle.std.specs.List.{filter}
 use Rattle.std.proofs.lemmas.Bool.{cases_eq}
 use Rattle.std.proofs.lemmas.List.{append-nil}
 use Rattle.mc_model.specs.declared.cause.Cause.TheVariants as causes
-use Rattle.mc_model.specs.World.{World, Session, found, is_closed, is_play}
+use Rattle.mc_model.specs.World.{World, Session, found, is_closed}
 use Rattle.mc_model.specs.Hearing.{Sent}
-use Rattle.mc_model.specs.Step.{Event, joined, came, left, ticked, took, forgot, Outcome, Turn, still, shut, joining, join, is_new, gone, changed, is_done, flush, at_tick, on_bytes, step}
+use Rattle.mc_model.specs.Step.{Event, joined, came, left, ticked, took, forgot, Outcome, Turn, shut, joining, join, is_new, gone, changed, is_done, flush, at_tick, on_bytes, step}
 use Rattle.mc_model.specs.Run.{to}
-use Rattle.mc_model.proofs.Sessions.{some_none, one_some, other_number, same_number, found_id, found_map, found_before, found_behind, AreApart, none_filtered, found_filter, to_none, to_found}
-use Rattle.mc_model.proofs.Beside.{Beside, beside_changed, found_changed}
-use Rattle.mc_model.proofs.Handing.{Done, stayed, shut_for, not_both}
-use Rattle.mc_model.proofs.Acting.{farewell_last}
-use Rattle.mc_model.proofs.Frames.{IsKept, Led, bytes_lead, no_bytes, bytes_beside}
-use Rattle.mc_model.proofs.RunEvents.{joining_id, gone_id, flush_id, Orderly}
+use Rattle.mc_model.proofs.Sessions.{some_none, one_some, other_number, same_number, found_map, found_before, found_behind, AreApart, none_filtered, found_filter, to_none, to_found}
+use Rattle.mc_model.proofs.Beside.{beside_changed, found_changed}
+use Rattle.mc_model.proofs.Handing.{Done, stayed, shut_for}
+use Rattle.mc_model.proofs.Frames.{IsKept, bytes_lead, no_bytes, bytes_beside}
+use Rattle.mc_model.proofs.RunEvents.{joining_id, gone_id, flush_id}
 
 -- ---- what is handed to one
 
