@@ -29,7 +29,7 @@ use Rattle.mc_model.specs.Hearing.{Sent, of_status, played}
 use Rattle.mc_model.specs.Acts.{act, arrive, arrived, is_in_range, moved, turned}
 use Rattle.mc_model.specs.Talk.{Said, nothing, greets, replies, ends, enters, acts, wrong, said, in_hand, in_status, in_login, in_play, wanted, farewell, refused, accepted}
 use Rattle.mc_model.specs.Step.{still, perform, refusal, answer_login, acted, entered as entering}
-use Rattle.mc_model.proofs.Handing.{Done, stayed, answered, greeted, entered, IsLast, Goes, goes_still, goes_put, goes_hand, goes_close, play_is, not_both}
+use Rattle.mc_model.proofs.Handing.{stayed, answered, greeted, entered, IsLast, Goes, goes_still, goes_put, goes_hand, goes_close, play_is, not_both}
 
 -- ---- which answers a stage has
 

@@ -1,5 +1,5 @@
 -- A connection is closed by the first thing that closes it, for the cause of that: event by event.
-use Rattle.std.proofs.Common.{◌≡◌, ℕ, ◌+◌, List, [], ◌∷◌, ◌++◌, length, map, inl, inr, refl, sym, subst, ap, ◌∙◌}
+use Rattle.std.proofs.Common.{◌≡◌, ℕ, List, [], ◌∷◌, ◌++◌, length, map, inl, inr, refl, sym, subst, ap, ◌∙◌}
 use Rattle.std.specs.Prelude.{◌↔◌, ◌==◌, ◌&&◌, not, drop, Bool, true, false, cond, Option, Some, None, is_some, if◌then◌else◌}
 use Rattle.std.specs.List.{filter}
 use Rattle.std.specs.Option.{option_and_then}
@@ -40,12 +40,12 @@ open_one k w s o there none =
 
 changed_cause : (j k : ℕ) (w : World) (f : Session → Session) → ((t : Session) → (f t).id ≡ t.id) → ((t : Session) → (f t).cause ≡ t.cause) → cause_in k (changed w j f) ≡ cause_in k w
 changed_cause j k w f keeps same = elim (cases_eq j k) [
-    inl is ↦ subst (λ (n : ℕ). cause_in k (changed w n f) ≡ cause_in k w) (sym is) (elim (found k w.sessions) as (λ o. found k w.sessions ≡ o → cause_in k (changed w k f) ≡ cause_in k w) [
-      None ↦ λ none. same_cause k w (changed w k f) ((beside_changed k w f (λ t e. keeps t)).none k none ∙ sym none)
+  | inl is ↦ subst (λ (n : ℕ). cause_in k (changed w n f) ≡ cause_in k w) (sym is) (elim (found k w.sessions) as (λ o. found k w.sessions ≡ o → cause_in k (changed w k f) ≡ cause_in k w) [
+    | None ↦ λ none. same_cause k w (changed w k f) ((beside_changed k w f (λ t e. keeps t)).none k none ∙ sym none)
     | Some s ↦ λ there. cause_found k (changed w k f) (f s) (found_changed k w f s (λ t e. keeps t) there) ∙ same s ∙ sym (cause_found k w s there)
-    ] refl)
+  ] refl)
   | inr ne ↦ same_cause k w (changed w j f) ((beside_changed j w f (λ t e. keeps t)).others k (λ is. ne (sym is)))
-  ]
+]
 
 -- ---- joining
 
@@ -54,15 +54,15 @@ same_number_of j k e = cc
 
 join_there : (j k : ℕ) (w : World) (s : Session) → found k w.sessions ≡ Some s → found k (join w j).sessions ≡ Some s
 join_there j k w s there = elim (is_new j w.last) as (λ b. found k (if b then record w { last = Some j; sessions = w.sessions ++ joining w j ∷ [] } else w).sessions ≡ Some s) [
-    true ↦ found_before k w.sessions (joining w j ∷ []) s there
+  | true ↦ found_before k w.sessions (joining w j ∷ []) s there
   | false ↦ there
-  ]
+]
 
 joining_cause : (k : ℕ) (w : World) (c : Cause) → (joining w k).cause ≡ Some c → (is_crowded w ≡ true) × (c ≡ causes.Crowded)
 joining_cause k w c = elim (is_crowded w) as (λ b. is_crowded w ≡ b → (if b then shut (new_session k) causes.Crowded else new_session k).cause ≡ Some c → (is_crowded w ≡ true) × (c ≡ causes.Crowded)) [
-    true ↦ λ crowded is. (crowded, (just (Some causes.Crowded) causes.Crowded c refl).0 is)
+  | true ↦ λ crowded is. (crowded, (just (Some causes.Crowded) causes.Crowded c refl).0 is)
   | false ↦ λ free is. not_now None c refl is
-  ] refl
+] refl
 
 joined_closes : (j k : ℕ) (w : World) (c : Cause) → Sound w → cause_in k w ≡ None → (cause_in k (step w (joined j)).world ≡ Some c) ↔ Closes w (joined j) k c
 unfolding step
@@ -70,18 +70,19 @@ joined_closes j k w c o none = (closes, closed)
   where
     closes : cause_in k (join w j) ≡ Some c → Closes w (joined j) k c
     closes is = elim (found k w.sessions) as (λ f. found k w.sessions ≡ f → Closes w (joined j) k c) [
-        None ↦ λ nowhere. elim (arrives k w (joined j) nowhere) [
-          away gone_ ↦ not_now (cause_in k (join w j)) c (cause_nowhere k (join w j) gone_) is
+      | None ↦ λ nowhere. elim (arrives k w (joined j) nowhere) [
+        | away gone_ ↦ not_now (cause_in k (join w j)) c (cause_nowhere k (join w j) gone_) is
         | joins own new here ↦ let crowd = joining_cause k w c (sym (cause_found k (join w j) (joining w k) here) ∙ is) in (same_number_of j k own, new, crowd.0, crowd.1)
-        ]
+      ]
       | Some s ↦ λ there. not_now (cause_in k (join w j)) c (same_cause k w (join w j) (join_there j k w s there ∙ sym there) ∙ none) is
-      ] refl
+    ] refl
+
     closed : Closes w (joined j) k c → cause_in k (join w j) ≡ Some c
     closed h =
         subst (λ (n : ℕ). cause_in k (join w n) ≡ Some c) (sym h.0)
-          (cause_found k (join w k) (joining w k) (found_joining k w (o.orderly.fresh k h.1) h.1)
-          ∙ ap (λ (b : Bool). (if b then shut (new_session k) causes.Crowded else new_session k).cause) h.2
-          ∙ ap (λ (x : Cause). Some x) (sym h.3))
+        (cause_found k (join w k) (joining w k) (found_joining k w (o.orderly.fresh k h.1) h.1)
+        ∙ ap (λ (b : Bool). (if b then shut (new_session k) causes.Crowded else new_session k).cause) h.2
+        ∙ ap (λ (x : Cause). Some x) (sym h.3))
 
 -- ---- bytes
 
@@ -94,16 +95,17 @@ bytes_open k w s bytes e open_ =
 cut_closes : (w : World) (s : Session) (count : ℕ) (cut : Cut) (c : Cause) → found s.id w.sessions ≡ Some s → is_closed s.stage ≡ false → s.cause ≡ None →
     (cause_in s.id (on_cut w s count cut).world ≡ Some c) ↔ CutCloses w s count cut c
 cut_closes w s count cut c e open_ none =
-    let there = found_put s.id w s (read_to s cut count) refl e in
-    (frames_close s.id cut.frames (put w (read_to s cut count)) (read_to s cut count) cut.fault c there open_ none,
-     frames_closed s.id cut.frames (put w (read_to s cut count)) (read_to s cut count) cut.fault c there open_ none)
+    let there = found_put s.id w s (read_to s cut count) refl e in (
+      frames_close s.id cut.frames (put w (read_to s cut count)) (read_to s cut count) cut.fault c there open_ none,
+      frames_closed s.id cut.frames (put w (read_to s cut count)) (read_to s cut count) cut.fault c there open_ none,
+    )
 
 own_closes : (k : ℕ) (w : World) (s : Session) (bytes : List ℕ) (c : Cause) → found k w.sessions ≡ Some s → is_closed s.stage ≡ false → s.cause ≡ None →
     (cause_in k (on_bytes w k bytes).world ≡ Some c) ↔ CutCloses w s (length (s.rest ++ bytes)) (cut_of s.before (s.rest ++ bytes)) c
 own_closes k w s bytes c e open_ none =
     let P : ℕ → Type 0 = λ n. found n w.sessions ≡ Some s → (cause_in n (on_cut w s (length (s.rest ++ bytes)) (cut_of s.before (s.rest ++ bytes))).world ≡ Some c) ↔ CutCloses w s (length (s.rest ++ bytes)) (cut_of s.before (s.rest ++ bytes)) c in
     subst (λ (t : Turn). (cause_in k t.world ≡ Some c) ↔ CutCloses w s (length (s.rest ++ bytes)) (cut_of s.before (s.rest ++ bytes)) c) (sym (bytes_open k w s bytes e open_))
-      (subst P (found_id k w.sessions s e) (λ own. cut_closes w s (length (s.rest ++ bytes)) (cut_of s.before (s.rest ++ bytes)) c own open_ none) e)
+    (subst P (found_id k w.sessions s e) (λ own. cut_closes w s (length (s.rest ++ bytes)) (cut_of s.before (s.rest ++ bytes)) c own open_ none) e)
 
 came_closes : (j k : ℕ) (bytes : List ℕ) (w : World) (c : Cause) → Sound w → cause_in k w ≡ None → (cause_in k (step w (came j bytes)).world ≡ Some c) ↔ Closes w (came j bytes) k c
 unfolding step
@@ -111,16 +113,18 @@ came_closes j k bytes w c o none = (closes, closed)
   where
     own : cause_in k (on_bytes w k bytes).world ≡ Some c → Closes w (came k bytes) k c
     own is = elim (found k w.sessions) as (λ f. found k w.sessions ≡ f → Closes w (came k bytes) k c) [
-        None ↦ λ nowhere. not_now (cause_in k (on_bytes w k bytes).world) c (ap (λ (t : Turn). cause_in k t.world) (no_bytes k w bytes nowhere) ∙ none) is
+      | None ↦ λ nowhere. not_now (cause_in k (on_bytes w k bytes).world) c (ap (λ (t : Turn). cause_in k t.world) (no_bytes k w bytes nowhere) ∙ none) is
       | Some s ↦ λ there.
-        let open_ = open_one k w s o there none in
-        (refl, (s, record { is_there = there; open_ = open_.0 }, (own_closes k w s bytes c there open_.0 open_.1).0 is))
-      ] refl
+          let open_ = open_one k w s o there none in
+          (refl, (s, record { is_there = there; open_ = open_.0 }, (own_closes k w s bytes c there open_.0 open_.1).0 is))
+    ] refl
+
     closes : cause_in k (on_bytes w j bytes).world ≡ Some c → Closes w (came j bytes) k c
     closes is = elim (cases_eq j k) [
-        inl same ↦ subst (λ (n : ℕ). cause_in k (on_bytes w n bytes).world ≡ Some c → Closes w (came n bytes) k c) (sym same) own is
+      | inl same ↦ subst (λ (n : ℕ). cause_in k (on_bytes w n bytes).world ≡ Some c → Closes w (came n bytes) k c) (sym same) own is
       | inr ne ↦ not_now (cause_in k (on_bytes w j bytes).world) c (same_cause k w (on_bytes w j bytes).world ((bytes_beside j w bytes).others k (λ same. ne (sym same))) ∙ none) is
-      ]
+    ]
+
     closed : Closes w (came j bytes) k c → cause_in k (on_bytes w j bytes).world ≡ Some c
     closed h =
         let clean = (open_one k w h.1.0 o h.1.1.is_there none).1 in
@@ -140,20 +144,22 @@ left_closes j k w c o none = (closes, closed)
   where
     own : cause_in k (changed w k gone) ≡ Some c → Closes w (left k) k c
     own is = elim (found k w.sessions) as (λ f. found k w.sessions ≡ f → Closes w (left k) k c) [
-        None ↦ λ nowhere. not_now (cause_in k (changed w k gone)) c (cause_nowhere k (changed w k gone) ((beside_changed k w gone (λ t e. gone_id t)).none k nowhere)) is
+      | None ↦ λ nowhere. not_now (cause_in k (changed w k gone)) c (cause_nowhere k (changed w k gone) ((beside_changed k w gone (λ t e. gone_id t)).none k nowhere)) is
       | Some s ↦ λ there.
-        let open_ = open_one k w s o there none in
-        (refl, (s, record { is_there = there; open_ = open_.0 }), (just _ causes.Gone c (left_own k w s there open_.0)).0 is)
-      ] refl
+          let open_ = open_one k w s o there none in
+          (refl, (s, record { is_there = there; open_ = open_.0 }), (just _ causes.Gone c (left_own k w s there open_.0)).0 is)
+    ] refl
+
     closes : cause_in k (changed w j gone) ≡ Some c → Closes w (left j) k c
     closes is = elim (cases_eq j k) [
-        inl same ↦ subst (λ (n : ℕ). cause_in k (changed w n gone) ≡ Some c → Closes w (left n) k c) (sym same) own is
+      | inl same ↦ subst (λ (n : ℕ). cause_in k (changed w n gone) ≡ Some c → Closes w (left n) k c) (sym same) own is
       | inr ne ↦ not_now (cause_in k (changed w j gone)) c (same_cause k w (changed w j gone) ((beside_changed j w gone (λ t e. gone_id t)).others k (λ same. ne (sym same))) ∙ none) is
-      ]
+    ]
+
     closed : Closes w (left j) k c → cause_in k (changed w j gone) ≡ Some c
     closed h =
         subst (λ (n : ℕ). cause_in k (changed w n gone) ≡ Some c) (sym h.0)
-          (left_own k w h.1.0 h.1.1.is_there h.1.1.open_ ∙ ap (λ (x : Cause). Some x) (sym h.2))
+        (left_own k w h.1.0 h.1.1.is_there h.1.1.open_ ∙ ap (λ (x : Cause). Some x) (sym h.2))
 
 -- ---- a tick
 
@@ -168,15 +174,16 @@ ticked_closes k w c o none = (closes, closed)
   where
     closes : cause_in k (step w ticked).world ≡ Some c → Closes w ticked k c
     closes is = elim (found k w.sessions) as (λ f. found k w.sessions ≡ f → Closes w ticked k c) [
-        None ↦ λ nowhere. elim (arrives k w ticked nowhere) [
-          away gone_ ↦ not_now (cause_in k (step w ticked).world) c (cause_nowhere k (step w ticked).world gone_) is
+      | None ↦ λ nowhere. elim (arrives k w ticked nowhere) [
+        | away gone_ ↦ not_now (cause_in k (step w ticked).world) c (cause_nowhere k (step w ticked).world gone_) is
         | joins own new here ↦ absurd cc
-        ]
+      ]
       | Some s ↦ λ there.
-        let open_ = open_one k w s o there none in
-        let why_ = flush_cause (at_tick w) s c open_.1 (sym (cause_found k (step w ticked).world (flush (at_tick w) s).session (tick_found k w s there)) ∙ is) in
-        ((s, record { is_there = there; open_ = open_.0 }, why_.0, why_.1), why_.2)
-      ] refl
+          let open_ = open_one k w s o there none in
+          let why_ = flush_cause (at_tick w) s c open_.1 (sym (cause_found k (step w ticked).world (flush (at_tick w) s).session (tick_found k w s there)) ∙ is) in
+          ((s, record { is_there = there; open_ = open_.0 }, why_.0, why_.1), why_.2)
+    ] refl
+
     closed : Closes w ticked k c → cause_in k (step w ticked).world ≡ Some c
     closed h =
         let t = tick_much k w h.0.0 o.orderly h.0.1.is_there h.0.2 h.0.3 in
@@ -191,17 +198,17 @@ took_closes j k n w c none = never _ c (changed_cause j k w (λ (s : Session). r
 forgot_closes : (j k : ℕ) (w : World) (c : Cause) → Sound w → cause_in k w ≡ None → (cause_in k (step w (forgot j)).world ≡ Some c) ↔ Closes w (forgot j) k c
 unfolding step
 forgot_closes j k w c o none = never _ c (elim (found k w.sessions) as (λ f. found k w.sessions ≡ f → cause_in k (record w { sessions = filter (λ (s : Session). not (s.id == j && is_done s)) w.sessions }) ≡ None) [
-    None ↦ λ nowhere. elim (arrives k w (forgot j) nowhere) [
-      away gone_ ↦ cause_nowhere k (record w { sessions = filter (λ (s : Session). not (s.id == j && is_done s)) w.sessions }) gone_
+  | None ↦ λ nowhere. elim (arrives k w (forgot j) nowhere) [
+    | away gone_ ↦ cause_nowhere k (record w { sessions = filter (λ (s : Session). not (s.id == j && is_done s)) w.sessions }) gone_
     | joins own new here ↦ absurd cc
-    ]
+  ]
   | Some s ↦ λ there.
-    ap (option_and_then (λ (s : Session). s.cause)) (found_filter k (λ (s : Session). not (s.id == j && is_done s)) w.sessions s o.orderly.apart there)
-    ∙ elim (not (s.id == j && is_done s)) as (λ b. option_and_then (λ (s : Session). s.cause) (cond b (Some s) None) ≡ None) [
-        true ↦ sym (cause_found k w s there) ∙ none
-      | false ↦ refl
+      ap (option_and_then (λ (s : Session). s.cause)) (found_filter k (λ (s : Session). not (s.id == j && is_done s)) w.sessions s o.orderly.apart there)
+      ∙ elim (not (s.id == j && is_done s)) as (λ b. option_and_then (λ (s : Session). s.cause) (cond b (Some s) None) ≡ None) [
+        | true ↦ sym (cause_found k w s there) ∙ none
+        | false ↦ refl
       ]
-  ] refl)
+] refl)
 
 -- ---- every event
 

@@ -47,10 +47,10 @@ hand_cause : (k : ℕ) (w : World) (s t : Session) (packets : List Sent) → fou
 hand_cause k w s t packets e is = hand_cases t packets
     (λ (h : Handing). cause_in k (put w h.session) ≡ cond (nat_le (length t.owed + length (bytes_of packets)) outbox_max) t.cause (Some causes.Backlog))
     (λ fits.
-      cause_found k (put w (record t { owed = t.owed ++ bytes_of packets })) (record t { owed = t.owed ++ bytes_of packets }) (found_put k w s (record t { owed = t.owed ++ bytes_of packets }) is e)
-      ∙ sym (ap (λ (b : Bool). cond b t.cause (Some causes.Backlog)) fits))
+    cause_found k (put w (record t { owed = t.owed ++ bytes_of packets })) (record t { owed = t.owed ++ bytes_of packets }) (found_put k w s (record t { owed = t.owed ++ bytes_of packets }) is e)
+    ∙ sym (ap (λ (b : Bool). cond b t.cause (Some causes.Backlog)) fits))
     (λ much.
-      cause_found k (put w (backlogged t)) (backlogged t) (found_put k w s (backlogged t) is e) ∙ sym (ap (λ (b : Bool). cond b t.cause (Some causes.Backlog)) much))
+    cause_found k (put w (backlogged t)) (backlogged t) (found_put k w s (backlogged t) is e) ∙ sym (ap (λ (b : Bool). cond b t.cause (Some causes.Backlog)) much))
   where
     backlogged : Session → Session
     backlogged t = record t { stage = stages.Closed; cause = Some causes.Backlog; owed = [] }
@@ -61,9 +61,9 @@ pub close_cause : (k : ℕ) (w : World) (s : Session) (cause : Cause) (packets :
 close_cause k w s cause packets e is =
     hand_cause k w s (shut s cause) packets e is
     ∙ elim (nat_le (length s.owed + length (bytes_of packets)) outbox_max) as (λ b. cond b (Some cause) (Some causes.Backlog) ≡ Some (if b then cause else causes.Backlog)) [
-        true ↦ refl
+      | true ↦ refl
       | false ↦ refl
-      ]
+    ]
 
 -- one that is handed packets only where they are too much
 pub hand_closes : (k : ℕ) (w : World) (s t : Session) (packets : List Sent) (c : Cause) → found k w.sessions ≡ Some s → t.id ≡ k → t.cause ≡ None →
@@ -71,13 +71,14 @@ pub hand_closes : (k : ℕ) (w : World) (s t : Session) (packets : List Sent) (c
 hand_closes k w s t packets c e is none =
     let cause = hand_cause k w s t packets e is in
     elim (nat_le (length t.owed + length (bytes_of packets)) outbox_max) as (λ b. nat_le (length t.owed + length (bytes_of packets)) outbox_max ≡ b →
-      cause_in k (put w (hand t packets).session) ≡ cond b t.cause (Some causes.Backlog) →
-      (cause_in k (put w (hand t packets).session) ≡ Some c) ↔ (IsTooMuch t packets × (c ≡ causes.Backlog))) [
-      true ↦ λ fits left.
-        (λ is. absurd ((never _ c (left ∙ none)).0 is),
-         λ both. absurd (not_both _ fits (lt-leb (length t.owed + length (bytes_of packets)) outbox_max both.0)))
-    | false ↦ λ much left.
-        (λ is. (too_many _ _ much, (just _ causes.Backlog c left).0 is), λ both. (just _ causes.Backlog c left).1 both.1)
+    cause_in k (put w (hand t packets).session) ≡ cond b t.cause (Some causes.Backlog) →
+    (cause_in k (put w (hand t packets).session) ≡ Some c) ↔ (IsTooMuch t packets × (c ≡ causes.Backlog))) [
+      | true ↦ λ fits left. (
+        λ is. absurd ((never _ c (left ∙ none)).0 is),
+        λ both. absurd (not_both _ fits (lt-leb (length t.owed + length (bytes_of packets)) outbox_max both.0)),
+      )
+      | false ↦ λ much left.
+          (λ is. (too_many _ _ much, (just _ causes.Backlog c left).0 is), λ both. (just _ causes.Backlog c left).1 both.1)
     ] refl cause
 
 -- ---- what a frame comes to
@@ -89,9 +90,9 @@ entering_closes k w s name None c e is none = hand_closes k (record w { eids = w
 
 acted_cause : (k : ℕ) (w v : World) (s : Session) → found k w.sessions ≡ Some s → s.id ≡ k → s.cause ≡ None → Acted w s v → cause_in k v ≡ None
 acted_cause k w v s e is none a = elim (a.is) [
-    inl same ↦ ap (λ (u : World). cause_in k u) same ∙ cause_found k w s e ∙ none
+  | inl same ↦ ap (λ (u : World). cause_in k u) same ∙ cause_found k w s e ∙ none
   | inr same ↦ ap (λ (u : World). cause_in k u) same ∙ cause_found k (put w a.session) a.session (found_put k w s a.session (a.id ∙ is) e) ∙ a.cause ∙ none
-  ]
+]
 
 acts_closes : (k : ℕ) (w : World) (s : Session) (x : PlayUp) (o : Option World) (c : Cause) → act w s x ≡ o → found k w.sessions ≡ Some s → s.id ≡ k → s.cause ≡ None →
     (cause_in k (acted w s o).world ≡ Some c) ↔ ((o ≡ None) × (c ≡ told_of s causes.BadNumber))
@@ -130,7 +131,7 @@ frame_closes : (k : ℕ) (w : World) (s : Session) (frame : List ℕ) (c : Cause
     (cause_in k (on_frame w k frame).world ≡ Some c) ↔ SaidCloses w s (said s.stage w.most (length (players w)) frame) c
 frame_closes k w s frame c e open_ none =
     subst (λ (t : Turn). (cause_in k t.world ≡ Some c) ↔ SaidCloses w s (said s.stage w.most (length (players w)) frame) c) (sym (frame_open k w s frame e open_))
-      (said_closes k w s (said s.stage w.most (length (players w)) frame) c e (found_id k w.sessions s e) none)
+    (said_closes k w s (said s.stage w.most (length (players w)) frame) c e (found_id k w.sessions s e) none)
 
 -- ---- the length behind them
 
@@ -150,7 +151,7 @@ fault_closes : (k : ℕ) (w : World) (s : Session) (fault : Option FrameFault) (
 fault_closes k w s None c e open_ none = never _ c (cause_found k w s e ∙ none)
 fault_closes k w s (Some fault) c e open_ none =
     subst (λ (t : Turn). (cause_in k t.world ≡ Some c) ↔ (c ≡ told_of s (causes.Frame fault))) (sym (fault_open k w s fault e open_))
-      (just _ _ c (close_cause k w s (causes.Frame fault) (farewell s.stage (causes.Frame fault)) e (found_id k w.sessions s e)))
+    (just _ _ c (close_cause k w s (causes.Frame fault) (farewell s.stage (causes.Frame fault)) e (found_id k w.sessions s e)))
 
 -- ---- all of it
 
@@ -168,7 +169,10 @@ all_shut k frames w s fault e closed = ap (λ (u : World). (on_fault u k fault).
 pub frames_close : (k : ℕ) (frames : List (List ℕ)) (w : World) (s : Session) (fault : Option FrameFault) (c : Cause) → found k w.sessions ≡ Some s → is_closed s.stage ≡ false → s.cause ≡ None →
     cause_in k (all_done w k frames fault) ≡ Some c → FirstCloses w k frames fault c
 frames_close k [] w s fault c e open_ none closed = record {
-  good = []; later = []; parts = refl; session = s;
+  good = [];
+  later = [];
+  parts = refl;
+  session = s;
   still_open = record { is_there = e; open_ = open_ };
   closes = (fault_closes k w s fault c e open_ none).0 closed;
 }
@@ -176,18 +180,24 @@ frames_close k (frame ∷ frames) w s fault c e open_ none closed =
     let g = frame_goes k w s frame e in
     let sound : is_closed g.session.stage ≡ is_some g.session.cause = sound_kept s g.session [] (on_frame w k frame).handed g.done (open_ ∙ ap (λ (o : Option Cause). is_some o) (sym none)) in
     elim (is_closed g.session.stage) as (λ b. is_closed g.session.stage ≡ b → FirstCloses w k (frame ∷ frames) fault c) [
-      true ↦ λ shut_. record {
-        good = []; later = frame ∷ frames; parts = refl; session = s;
+      | true ↦ λ shut_. record {
+        good = [];
+        later = frame ∷ frames;
+        parts = refl;
+        session = s;
         still_open = record { is_there = e; open_ = open_ };
         closes = (frame_closes k w s frame c e open_ none).0 (ap (λ (u : World). cause_in k u) (sym (all_shut k frames (on_frame w k frame).world g.session fault g.there shut_)) ∙ closed);
       }
-    | false ↦ λ still_open.
-      let f = frames_close k frames (on_frame w k frame).world g.session fault c g.there still_open (no_cause g.session.cause (sym sound ∙ still_open)) closed in
-      record {
-        good = frame ∷ f.good; later = f.later; parts = ap (λ (fs : List (List ℕ)). frame ∷ fs) f.parts; session = f.session;
-        still_open = f.still_open;
-        closes = f.closes;
-      }
+      | false ↦ λ still_open.
+          let f = frames_close k frames (on_frame w k frame).world g.session fault c g.there still_open (no_cause g.session.cause (sym sound ∙ still_open)) closed in
+          record {
+            good = frame ∷ f.good;
+            later = f.later;
+            parts = ap (λ (fs : List (List ℕ)). frame ∷ fs) f.parts;
+            session = f.session;
+            still_open = f.still_open;
+            closes = f.closes;
+          }
     ] refl
 
 frames_more : (k : ℕ) (good later : List (List ℕ)) (w : World) → (on_frames w k (good ++ later)).world ≡ (on_frames (on_frames w k good).world k later).world

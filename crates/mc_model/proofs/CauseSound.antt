@@ -113,12 +113,12 @@ shut_stays k w s e o there closed = each_step (IsShut s) (shut_kept s) k w [] e 
 
 pub shut_silent : (k : ℕ) (w : World) (s : Session) (e : Event) → Orderly w → found k w.sessions ≡ Some s → s.stage ≡ stages.Closed → to k (step w e).out ≡ []
 shut_silent k w s e o there closed = elim (is_tick e) [
-    inl is ↦ subst (λ (e : Event). to k (step w e).out ≡ []) (sym is) (tick_hands k w s o.apart there ∙ ap (λ (h : Handing). h.handed) (flush_waits (at_tick w) s (ap is_play closed)))
+  | inl is ↦ subst (λ (e : Event). to k (step w e).out ≡ []) (sym is) (tick_hands k w s o.apart there ∙ ap (λ (h : Handing). h.handed) (flush_waits (at_tick w) s (ap is_play closed)))
   | inr ne ↦ elim (remains (IsShut s) (shut_kept s) k w e s [] o.apart ne there (record { stage = closed; cause = refl; nothing = refl })) [
-      went was gone_ none ↦ none
+    | went was gone_ none ↦ none
     | stays t here p ↦ p.nothing
-    ]
   ]
+]
 
 pub shut_for_good : (k : ℕ) (w : World) (s : Session) (e : Event) → Orderly w → found k w.sessions ≡ Some s → s.stage ≡ stages.Closed →
     (to k (step w e).out ≡ []) × ((t : Session) → found k (step w e).world.sessions ≡ Some t → (t.stage ≡ stages.Closed) × (t.cause ≡ s.cause))
@@ -131,16 +131,16 @@ shut_for_good k w s e o there closed =
 gone_for_good : (k : ℕ) (events : List Event) (w : World) → found k w.sessions ≡ None → is_new k w.last ≡ false → found k (history w events).sessions ≡ None
 gone_for_good k [] w none old = none
 gone_for_good k (e ∷ events) w none old = elim (arrives k w e none) [
-    away gone_ ↦ gone_for_good k events (step w e).world gone_ (old_step k w e old)
+  | away gone_ ↦ gone_for_good k events (step w e).world gone_ (old_step k w e old)
   | joins is new here ↦ absurd (not_both (is_new k w.last) new old)
-  ]
+]
 
 -- a connection that is there has no new number
 there_old : (k : ℕ) (w : World) (s : Session) → Orderly w → found k w.sessions ≡ Some s → is_new k w.last ≡ false
 there_old k w s o there = elim (is_new k w.last) as (λ b. is_new k w.last ≡ b → b ≡ false) [
-    true ↦ λ new. absurd (some_none s _ there (o.fresh k new))
+  | true ↦ λ new. absurd (some_none s _ there (o.fresh k new))
   | false ↦ λ old. refl
-  ] refl
+] refl
 
 -- the first cause that a run keeps is the last one too
 cause_of_run : (k : ℕ) (events : List Event) (w : World) (s : Session) → Sound w → found k (history w events).sessions ≡ Some s → s.cause ≡ first_of (cause_in k w) (why k w events)
@@ -152,18 +152,18 @@ cause_of_run k [] w s o there = ended (cause_in k w) s.cause (cause_found k w s 
 cause_of_run k (e ∷ events) w s o there =
     let later = cause_of_run k events (step w e).world s (sound_step w e o) there in
     elim (cause_in k w) as (λ c. cause_in k w ≡ c → s.cause ≡ first_of c (why k w (e ∷ events))) [
-      None ↦ λ open_. later
-    | Some cause ↦ λ closed. elim (found k w.sessions) as (λ f. found k w.sessions ≡ f → s.cause ≡ Some cause) [
-        None ↦ λ none. absurd (some_none cause (cause_in k w) closed (cause_nowhere k w none))
-      | Some r ↦ λ here.
-        let of_r : r.cause ≡ Some cause = sym (cause_found k w r here) ∙ closed in
-        let shut_ : r.stage ≡ stages.Closed = cause_closed r (o.each k r here) cause of_r in
-        elim (found k (step w e).world.sessions) as (λ f. found k (step w e).world.sessions ≡ f → s.cause ≡ Some cause) [
-          None ↦ λ gone_. absurd (some_none s _ there (gone_for_good k events (step w e).world gone_ (old_step k w e (there_old k w r o.orderly here))))
-        | Some t ↦ λ next.
-          later ∙ ap (λ (c : Option Cause). first_of c (why k (step w e).world events))
-            (cause_found k (step w e).world t next ∙ (shut_stays k w r e o.orderly here shut_ t next).cause ∙ of_r)
-        ] refl
+      | None ↦ λ open_. later
+      | Some cause ↦ λ closed. elim (found k w.sessions) as (λ f. found k w.sessions ≡ f → s.cause ≡ Some cause) [
+        | None ↦ λ none. absurd (some_none cause (cause_in k w) closed (cause_nowhere k w none))
+        | Some r ↦ λ here.
+            let of_r : r.cause ≡ Some cause = sym (cause_found k w r here) ∙ closed in
+            let shut_ : r.stage ≡ stages.Closed = cause_closed r (o.each k r here) cause of_r in
+            elim (found k (step w e).world.sessions) as (λ f. found k (step w e).world.sessions ≡ f → s.cause ≡ Some cause) [
+              | None ↦ λ gone_. absurd (some_none s _ there (gone_for_good k events (step w e).world gone_ (old_step k w e (there_old k w r o.orderly here))))
+              | Some t ↦ λ next.
+                  later ∙ ap (λ (c : Option Cause). first_of c (why k (step w e).world events))
+                  (cause_found k (step w e).world t next ∙ (shut_stays k w r e o.orderly here shut_ t next).cause ∙ of_r)
+            ] refl
       ] refl
     ] refl
 
@@ -182,6 +182,6 @@ left_alone j k w ne = ((beside_changed j w gone (λ t same. gone_id t)).others k
 
 pub sender_alone : (j k : ℕ) (bytes : List ℕ) (w : World) (e : Event) → j ≢ k → (e ≡ came j bytes) ⊎ (e ≡ left j) → (found k (step w e).world.sessions ≡ found k w.sessions) × (to k (step w e).out ≡ [])
 sender_alone j k bytes w e ne is = elim is [
-    inl same ↦ subst (λ (e : Event). (found k (step w e).world.sessions ≡ found k w.sessions) × (to k (step w e).out ≡ [])) (sym same) (came_alone j k bytes w ne)
+  | inl same ↦ subst (λ (e : Event). (found k (step w e).world.sessions ≡ found k w.sessions) × (to k (step w e).out ≡ [])) (sym same) (came_alone j k bytes w ne)
   | inr same ↦ subst (λ (e : Event). (found k (step w e).world.sessions ≡ found k w.sessions) × (to k (step w e).out ≡ [])) (sym same) (left_alone j k w ne)
-  ]
+]

@@ -95,12 +95,12 @@ goes_close k w s cause packets e is open_ last =
 pub flush_cases : (w : World) (s : Session) (P : Handing → Type 0) →
     (is_play s.stage ≡ false → P (record { session = s; handed = [] })) →
     (is_play s.stage ≡ true → nat_le (length s.owed + length (bytes_of (map of_play (due w s)))) outbox_max ≡ true →
-      P (record { session = record (showing w s) { owed = s.owed ++ bytes_of (map of_play (due w s)) }; handed = map of_play (due w s) })) →
+    P (record { session = record (showing w s) { owed = s.owed ++ bytes_of (map of_play (due w s)) }; handed = map of_play (due w s) })) →
     (is_play s.stage ≡ true → nat_le (length s.owed + length (bytes_of (map of_play (due w s)))) outbox_max ≡ false →
-      P (record { session = record (showing w s) { stage = stages.Closed; cause = Some causes.Backlog; owed = [] }; handed = [] })) →
+    P (record { session = record (showing w s) { stage = stages.Closed; cause = Some causes.Backlog; owed = [] }; handed = [] })) →
     P (flush w s)
 flush_cases w s P waits fits much =
     elim (is_play s.stage) as (λ b. is_play s.stage ≡ b → P (if b then hand (showing w s) (map of_play (due w s)) else record { session = s; handed = [] })) [
-      true ↦ λ playing. hand_cases (showing w s) (map of_play (due w s)) P (fits playing) (much playing)
-    | false ↦ waits
+      | true ↦ λ playing. hand_cases (showing w s) (map of_play (due w s)) P (fits playing) (much playing)
+      | false ↦ waits
     ] refl

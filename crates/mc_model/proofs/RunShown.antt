@@ -105,10 +105,10 @@ flush_shown land w s ps terrain edits h = flush_cases w s (λ (h : Handing). IsS
     (λ waits. subst (IsShown land s) (sym (append-nil ps)) h)
     (λ playing fits. record {
       playing = λ _.
-        ap (replay new_replica) (filter_map-append in_play ps (map of_play (due w s)) ∙ ap (λ (ds : List Down). played ps ++ ds) (played_all (due w s)))
-        ∙ fold-append apply new_replica (played ps) (due w s)
-        ∙ ap (λ (r : Replica). replay r (due w s)) (h.playing playing)
-        ∙ due_leads w s (drawn_follows land w s s.shown terrain edits (h.drawn playing));
+          ap (replay new_replica) (filter_map-append in_play ps (map of_play (due w s)) ∙ ap (λ (ds : List Down). played ps ++ ds) (played_all (due w s)))
+          ∙ fold-append apply new_replica (played ps) (due w s)
+          ∙ ap (λ (r : Replica). replay r (due w s)) (h.playing playing)
+          ∙ due_leads w s (drawn_follows land w s s.shown terrain edits (h.drawn playing));
       drawn = λ _. record { world = w; session = s; terrain = terrain; edits = edits; is = refl };
       waiting = λ waits. absurd (not_both (is_play s.stage) playing waits);
     })
@@ -150,7 +150,7 @@ runs_step land k w ps e r = record {
     | false ↦ λ old. absurd (not_both (is_new k (step w e).world.last) new (old_step k w e old))
   ] refl;
   each = each_step (IsShown land) (shown_kept land) k w ps e r.orderly.apart (λ s h. flush_shown land (at_tick w) s ps r.terrain r.edits h)
-    (λ none new. subst (IsShown land (joining w k)) (sym (nothing_more ps [] (r.nobody new) refl)) (shown_joining land w k)) r.each;
+      (λ none new. subst (IsShown land (joining w k)) (sym (nothing_more ps [] (r.nobody new) refl)) (shown_joining land w k)) r.each;
 }
 
 pub runs : (land : World) (k : ℕ) (events : List Event) (w : World) (ps : List Sent) → Runs land k w ps → Runs land k (history w events) (ps ++ handed k w events)

@@ -1,5 +1,5 @@
 -- What every event makes of one connection, and what it hands out to it.
-use Rattle.std.proofs.Common.{◌≡◌, ◌≢◌, ℕ, ◌+◌, List, [], ◌∷◌, ◌++◌, inl, inr, refl, sym, subst, ap, ◌∙◌}
+use Rattle.std.proofs.Common.{◌≡◌, ◌≢◌, ℕ, List, [], ◌∷◌, ◌++◌, inl, inr, refl, sym, subst, ap, ◌∙◌}
 use Rattle.std.specs.Prelude.{◌⊎◌, ◌==◌, ◌&&◌, drop, not, Bool, true, false, cond, Some, None, option_map, if◌then◌else◌}
 use Rattle.std.specs.List.{filter}
 use Rattle.std.proofs.lemmas.Bool.{cases_eq}
@@ -156,20 +156,20 @@ pub each_step : (P : Session → List Sent → Type 0) (kept : IsKept P) (k : �
     ((s : Session) → found k w.sessions ≡ Some s → P s ps) →
     (t : Session) → found k (step w e).world.sessions ≡ Some t → P t (ps ++ to k (step w e).out)
 each_step P kept k w ps e apart flushes joining_ each t there = elim (found k w.sessions) as (λ o. found k w.sessions ≡ o → P t (ps ++ to k (step w e).out)) [
-    None ↦ λ none. elim (arrives k w e none) [
-      away gone ↦ absurd (some_none t _ there gone)
+  | None ↦ λ none. elim (arrives k w e none) [
+    | away gone ↦ absurd (some_none t _ there gone)
     | joins is new here ↦
-      subst (λ (v : Session). P v (ps ++ to k (step w e).out)) (one_some (joining w k) t _ here there)
+        subst (λ (v : Session). P v (ps ++ to k (step w e).out)) (one_some (joining w k) t _ here there)
         (subst (λ (hs : List Sent). P (joining w k) (ps ++ hs)) (sym (no_out k w e none)) (joining_ none new))
-    ]
+  ]
   | Some s ↦ λ here. elim (is_tick e) [
-      inl is ↦
+    | inl is ↦
         subst (λ (e : Event). found k (step w e).world.sessions ≡ Some t → P t (ps ++ to k (step w e).out)) (sym is) (λ there.
-          subst (λ (v : Session). P v (ps ++ to k (step w ticked).out)) (one_some _ t _ (tick_found k w s here) there)
-            (subst (λ (hs : List Sent). P (flush (at_tick w) s).session (ps ++ hs)) (sym (tick_hands k w s apart here)) (flushes s (each s here)))) there
+        subst (λ (v : Session). P v (ps ++ to k (step w ticked).out)) (one_some _ t _ (tick_found k w s here) there)
+        (subst (λ (hs : List Sent). P (flush (at_tick w) s).session (ps ++ hs)) (sym (tick_hands k w s apart here)) (flushes s (each s here)))) there
     | inr ne ↦ elim (remains P kept k w e s ps apart ne here (each s here)) [
-        went closed gone none ↦ absurd (some_none t _ there gone)
+      | went closed gone none ↦ absurd (some_none t _ there gone)
       | stays v found_ p ↦ subst (λ (u : Session). P u (ps ++ to k (step w e).out)) (one_some v t _ found_ there) p
-      ]
     ]
-  ] refl
+  ]
+] refl
