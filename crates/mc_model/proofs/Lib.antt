@@ -1,3 +1,16 @@
+pub mod Sessions
+pub mod Beside
+pub mod Handing
+pub mod Acting
+pub mod Frames
+pub mod RunEvents
+pub mod RunTurns
+pub mod RunShown
+pub mod RunTicks
+pub mod RunOrder
+pub mod CauseSound
+pub mod CauseFrames
+pub mod CauseFirst
 pub mod Orders
 pub mod Maps
 pub mod Points
