@@ -17,3 +17,4 @@ pub mod Points
 pub mod Opening
 pub mod Projections
 pub mod ViewFacts
+pub mod Whole

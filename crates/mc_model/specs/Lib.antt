@@ -14,3 +14,4 @@ pub mod Talk
 pub mod Step
 pub mod Run
 pub mod Causes
+pub mod Headline

@@ -18,6 +18,7 @@ ghost use Rattle.mc_model.specs.Hearing.{Ear, IsHeard, of_play, played};
 ghost use Rattle.mc_model.specs.Talk.{farewell};
 ghost use Rattle.mc_model.specs.Step.{Event, came, left, ticked, at_tick, due, step};
 ghost use Rattle.mc_model.specs.Run.{AreBytes, handed, history, stream, to, why, cause_in};
+ghost use Rattle.mc_model.specs.Headline.{Headline};
 ghost use Rattle.mc_model.specs.Causes.{Closes, IsOpen, IsTooMuch};
 
 /// The cut that is worked out frame by frame is the cut of the stream.
@@ -104,4 +105,9 @@ pub fn closed_for_the_first_cause()
 pub fn bytes_are_heard()
     ensures { (most cap : ℕ) (terrain : Terrain) (events : List Event) (k : ℕ) → AreSettings most cap → AreBytes events →
         (ear : Ear) × IsHeard ear (stream k (new_world most cap terrain) events) (handed k (new_world most cap terrain) events) }
+{}
+
+/// All of it in one promise, for every list of events.
+pub fn headline()
+    ensures { (most cap : ℕ) (terrain : Terrain) (log : List Event) → AreSettings most cap → AreBytes log → Headline most cap terrain log }
 {}
