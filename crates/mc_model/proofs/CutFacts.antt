@@ -1,5 +1,5 @@
 -- The cut that is worked out frame by frame is the cut of the bytes.
-use Rattle.std.proofs.Common.{◌≡◌, ℕ, zero, suc, ◌+◌, ◌-◌, ◌<◌, List, length, Ok, Err, refl, sym, subst, ap, arith}
+use Rattle.std.proofs.Common.{◌≡◌, ℕ, zero, suc, ◌+◌, ◌-◌, ◌<◌, List, [], length, Ok, Err, refl, sym, subst, ap, arith}
 use Rattle.std.proofs.lemmas.List.{length-append}
 use Rattle.mc_nbt.specs.Reading.{Field, IsBytes}
 use Rattle.mc_frame.specs.Frame.{frame_read, frame_found}
