@@ -4,3 +4,8 @@ pub mod FitsText
 pub mod FitsSize
 pub mod FitsTalk
 pub mod FitsPlay
+pub mod Orders
+pub mod Maps
+pub mod Points
+pub mod Opening
+pub mod Projections
