@@ -9,3 +9,8 @@ pub mod Maps
 pub mod Points
 pub mod Opening
 pub mod Projections
+pub mod Sessions
+pub mod Beside
+pub mod Handing
+pub mod Acting
+pub mod Frames
