@@ -18,9 +18,12 @@ AtMost most bytes = length bytes ≤ most
 pub at_most_joined : (a b : ℕ) (xs ys : List ℕ) → AtMost a xs → AtMost b ys → AtMost (a + b) (xs ++ ys)
 at_most_joined a b xs ys x y = omega (arith, x, y, length-append xs ys)
 
+pub at_most_less : (a b : ℕ) (bytes : List ℕ) → a ≤ b → AtMost a bytes → AtMost b bytes
+at_most_less a b bytes le few = omega (arith, le, few)
+
 -- few bytes are not too many
 pub few_bytes : (most : ℕ) (bytes : List ℕ) → most ≤ 2000000 → AtMost most bytes → AtMost 2000000 bytes
-few_bytes most bytes small few = omega (arith, small, few)
+few_bytes most bytes small few = at_most_less most 2000000 bytes small few
 
 pub varint_size : (value : ℤ) → SFits w32 value → (0 < length (varint_spelling value)) × AtMost 5 (varint_spelling value)
 varint_size value fits =

@@ -14,3 +14,5 @@ pub mod Beside
 pub mod Handing
 pub mod Acting
 pub mod Frames
+pub mod FitsNumbers
+pub mod FitsList
