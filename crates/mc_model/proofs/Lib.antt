@@ -16,3 +16,4 @@ pub mod Acting
 pub mod Frames
 pub mod FitsNumbers
 pub mod FitsList
+pub mod FitsChunk
