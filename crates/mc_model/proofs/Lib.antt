@@ -17,3 +17,4 @@ pub mod Frames
 pub mod FitsNumbers
 pub mod FitsList
 pub mod FitsChunk
+pub mod FitsSight
