@@ -18,3 +18,6 @@ pub mod FitsNumbers
 pub mod FitsList
 pub mod FitsChunk
 pub mod FitsSight
+pub mod FitsDue
+pub mod Sound
+pub mod Listens
