@@ -21,3 +21,4 @@ pub mod FitsSight
 pub mod FitsDue
 pub mod Sound
 pub mod Listens
+pub mod SoundPut
