@@ -60,7 +60,7 @@ placing_clear spot at =
     (pattern_fits spot.x (omega (arith, at.x))) (pattern_fits spot.y (omega (arith, at.y))) (pattern_fits spot.z (omega (arith, at.z)))
     (degrees_fit spot.yaw at.yaw) (degrees_fit spot.pitch at.pitch)
 
-rest_below : (v : ℤ) (n : ℕ) → 0 < n → unsigned_abs (int_rem_euclid v (pos n)) < n
+pub rest_below : (v : ℤ) (n : ℕ) → 0 < n → unsigned_abs (int_rem_euclid v (pos n)) < n
 rest_below (pos v) n some = omega (arith, some)
 rest_below (negsuc v) n some = omega (arith, some)
 

@@ -41,7 +41,7 @@ short_joined a b text other s t = record { ascii = IsAscii-append text other s.a
 abbrev pub is_low : ℕ → Bool
 is_low byte = nat_lt byte 128
 
-both_true : (a b : Bool) → (a && b) ≡ true → (a ≡ true) × (b ≡ true)
+pub both_true : (a b : Bool) → (a && b) ≡ true → (a ≡ true) × (b ≡ true)
 both_true true b e = (refl, e)
 both_true false b e = absurd cc
 

@@ -22,3 +22,5 @@ pub mod FitsDue
 pub mod Sound
 pub mod Listens
 pub mod SoundPut
+pub mod FitsBytes
+pub mod SoundActs
