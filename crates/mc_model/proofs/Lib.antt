@@ -24,3 +24,5 @@ pub mod Listens
 pub mod SoundPut
 pub mod FitsBytes
 pub mod SoundActs
+pub mod FitsUuid
+pub mod Heeds
