@@ -1,4 +1,4 @@
--- What one frame, or all frames of some bytes, hand out to their connection is heard, and the world stays sound.
+-- Handing out to a connection, closing it and letting its player in: what was handed to it is heard, and the world stays sound.
 use Rattle.std.proofs.Common.{◌≡◌, ℕ, ◌+◌, ◌-◌, ◌^◌, ◌<◌, ◌≤◌, List, [], ◌∷◌, ◌++◌, length, refl, sym, subst, ap, ◌∙◌, arith, inl, inr}
 use Rattle.std.specs.Prelude.{◌⊎◌, ◌==◌, ◌&&◌, not, nat_lt, nat_le, Bool, true, false, cond, Option, Some, None, if◌then◌else◌}
 use Rattle.std.specs.List.{list_any, AllByRecursion}
@@ -53,7 +53,7 @@ heeds_put k w eids s t packets sound e is fits small room speaks = record {
 }
 
 -- one that is not in play needs no room
-no_room : (w : World) (s t : Session) → is_play t.stage ≡ false → HasRoom w s t
+pub no_room : (w : World) (s t : Session) → is_play t.stage ≡ false → HasRoom w s t
 no_room w s t waits plays = absurd cc
 
 pub heeds_hand : (k : ℕ) (w : World) (eids : ℕ) (s t : Session) (packets : List Sent) → Sound w → found k w.sessions ≡ Some s → t.id ≡ k → SessionFits t → eids ≤ 2147483647 → HasRoom w s t → Speaks s.stage t.stage packets → Heeds k w s (turn (record w { eids = eids }) (hand t packets))
@@ -72,10 +72,10 @@ heeds_farewell k w s cause sound e f = heeds_close k w s cause (farewell s.stage
 -- ---- entering
 
 -- what is known of a player that is not refused
-record IsWelcome (w : World) (name : List ℕ) : Type 0 where
-  named : is_name name ≡ true
-  room : length (players w) < w.most
-  numbers : w.eids < 2147483647
+pub record IsWelcome (w : World) (name : List ℕ) : Type 0 where
+  pub named : is_name name ≡ true
+  pub room : length (players w) < w.most
+  pub numbers : w.eids < 2147483647
 
 passes : (t : Bool) (why : Refusal) (o : Option Refusal) → (if not t then Some why else o) ≡ None → (t ≡ true) × (o ≡ None)
 passes true why o e = (refl, e)
@@ -85,7 +85,7 @@ passed_on : (t : Bool) (why : Refusal) (o : Option Refusal) → (if t then Some 
 passed_on true why o e = absurd cc
 passed_on false why o e = e
 
-welcome_of : (w : World) (protocol : ℤ) (name : List ℕ) → refusal w protocol name ≡ None → IsWelcome w name
+pub welcome_of : (w : World) (protocol : ℤ) (name : List ℕ) → refusal w protocol name ≡ None → IsWelcome w name
 welcome_of w protocol name e =
     let a = passes (is_47 protocol) refusals.Version _ e in
     let b = passes (is_name name) refusals.Name _ a.1 in
@@ -94,7 +94,7 @@ welcome_of w protocol name e =
     let room = both_true (nat_lt (length (players w)) w.most) (nat_lt w.eids 2147483647) d.0 in
     record { named = b.0; room = ltb-true _ _ room.0; numbers = ltb-true _ _ room.1 }
 
-entered_fits : (w : World) (s : Session) (name : List ℕ) → IsWelcome w name → SessionFits s → SessionFits (entered w s name)
+pub entered_fits : (w : World) (s : Session) (name : List ℕ) → IsWelcome w name → SessionFits s → SessionFits (entered w s name)
 entered_fits w s name welcome f = record {
   named = record { uuid = offline_small name; name = name_short name welcome.named };
   eid = omega (arith, welcome.numbers);

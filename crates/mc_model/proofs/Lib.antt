@@ -26,3 +26,4 @@ pub mod FitsBytes
 pub mod SoundActs
 pub mod FitsUuid
 pub mod Heeds
+pub mod HeedsFrames
