@@ -27,3 +27,4 @@ pub mod SoundActs
 pub mod FitsUuid
 pub mod Heeds
 pub mod HeedsFrames
+pub mod HeardRun
