@@ -1,4 +1,4 @@
--- A run of events: what was handed to each connection is heard.
+-- What was handed to each connection up to a world of a run, and that it stays heard where connections change.
 use Rattle.std.proofs.Common.{◌≡◌, ◌≢◌, ℕ, ◌+◌, ◌<◌, ◌≤◌, List, [], ◌∷◌, ◌++◌, map, length, drop, refl, sym, subst, ap, ◌∙◌, append_assoc, arith, inl, inr}
 use Rattle.std.specs.Prelude.{◌⊎◌, ◌==◌, ◌&&◌, nat_lt, not, Bool, true, false, cond, Option, Some, None, option_map, if◌then◌else◌}
 use Rattle.std.specs.List.{filter, flat_map, AllByRecursion}
@@ -40,11 +40,11 @@ pub record Steps (k : ℕ) (v : World) (packets : List Sent) : Type 0 where
 -- ---- each connection changed
 
 -- what holds of all is kept by a change of each
-all_changed : (P : Session → Type 0) (f : Session → Session) → ((s : Session) → P s → P (f s)) → (ss : List Session) → AllByRecursion P ss → AllByRecursion P (map f ss)
+pub all_changed : (P : Session → Type 0) (f : Session → Session) → ((s : Session) → P s → P (f s)) → (ss : List Session) → AllByRecursion P ss → AllByRecursion P (map f ss)
 all_changed P f each [] a = tt
 all_changed P f each (s ∷ ss) a = (each s a.0, all_changed P f each ss a.1)
 
-kept_mapped : (k : ℕ) (w : World) (f : Session → Session) (earlier packets : List Sent) → ((s : Session) → (f s).id ≡ s.id) → ((s : Session) → found k w.sessions ≡ Some s → Speaks s.stage (f s).stage packets) → (found k w.sessions ≡ None → packets ≡ []) → Sound w → Kept k w earlier → Kept k (record w { sessions = map f w.sessions }) (earlier ++ packets)
+pub kept_mapped : (k : ℕ) (w : World) (f : Session → Session) (earlier packets : List Sent) → ((s : Session) → (f s).id ≡ s.id) → ((s : Session) → found k w.sessions ≡ Some s → Speaks s.stage (f s).stage packets) → (found k w.sessions ≡ None → packets ≡ []) → Sound w → Kept k w earlier → Kept k (record w { sessions = map f w.sessions }) (earlier ++ packets)
 kept_mapped k w f earlier packets keeps speaks none sound kept = step (found k w.sessions) refl
   where
     v : World
@@ -97,7 +97,7 @@ changed_steps k j w f earlier keeps stays fits speaks sound kept = record {
     speaks_one s true = speaks s
     speaks_one s false = speaks_same s.stage
 
-gone_steps : (k j : ℕ) (w : World) (earlier : List Sent) → Sound w → Kept k w earlier → Steps k (changed w j gone) (earlier ++ [])
+pub gone_steps : (k j : ℕ) (w : World) (earlier : List Sent) → Sound w → Kept k w earlier → Steps k (changed w j gone) (earlier ++ [])
 gone_steps k j w earlier sound kept = changed_steps k j w gone earlier (λ s. keeps s (is_closed s.stage)) (λ s. stays s (is_closed s.stage)) (λ s f. fits s (is_closed s.stage) f) (λ s. speaks s (is_closed s.stage)) sound kept
   where
     after : Session → Bool → Session
@@ -119,6 +119,6 @@ gone_steps k j w earlier sound kept = changed_steps k j w gone earlier (λ s. ke
     speaks s true = speaks_same s.stage
     speaks s false = speaks_shut s.stage
 
-took_steps : (k j n : ℕ) (w : World) (earlier : List Sent) → Sound w → Kept k w earlier → Steps k (changed w j (λ (s : Session). record s { owed = drop n s.owed })) (earlier ++ [])
+pub took_steps : (k j n : ℕ) (w : World) (earlier : List Sent) → Sound w → Kept k w earlier → Steps k (changed w j (λ (s : Session). record s { owed = drop n s.owed })) (earlier ++ [])
 took_steps k j n w earlier sound kept = changed_steps k j w (λ (s : Session). record s { owed = drop n s.owed }) earlier (λ s. refl) (λ s p. p)
     (λ s f. record { named = f.named; eid = f.eid; spot = f.spot; shown = f.shown; rest = f.rest }) (λ s. speaks_same s.stage) sound kept

@@ -28,3 +28,4 @@ pub mod FitsUuid
 pub mod Heeds
 pub mod HeedsFrames
 pub mod HeardRun
+pub mod HeardEvents

@@ -30,7 +30,7 @@ playing ss = filter (λ (s : Session). is_play s.stage) ss
 abbrev pub one_if : Bool → ℕ
 one_if b = cond b 1 0
 
-playing_more : (s : Session) (ss : List Session) → length (playing (s ∷ ss)) ≡ one_if (is_play s.stage) + length (playing ss)
+pub playing_more : (s : Session) (ss : List Session) → length (playing (s ∷ ss)) ≡ one_if (is_play s.stage) + length (playing ss)
 playing_more s ss = step (is_play s.stage)
   where
     step : (b : Bool) → length (cond b (s ∷ playing ss) (playing ss)) ≡ one_if b + length (playing ss)
