@@ -3,7 +3,7 @@ use Rattle.std.proofs.Common.{◌≡◌, ℕ, zero, suc, ◌+◌, ◌-◌, ◌<�
 use Rattle.std.proofs.lemmas.List.{length-append}
 use Rattle.mc_nbt.specs.Reading.{Field, IsBytes}
 use Rattle.mc_frame.specs.Frame.{frame_read, frame_found}
-use Rattle.mc_frame.specs.Cut.{Cut, IsCutAt, kept_count}
+use Rattle.mc_frame.specs.Cut.{IsCutAt, kept_count}
 use Rattle.mc_frame.proofs.Stops.{frame_stopped}
 use Rattle.mc_frame.proofs.Cuts.{framed_cut, stopped_ends, frame_some}
 use Rattle.mc_model.specs.Cutting.{cut_by, cut_from, cut_of}

@@ -1,18 +1,15 @@
 -- Frames that are cut from bytes are bytes, and so is what is left; what a frame of them comes to can be answered.
-use Rattle.std.proofs.Common.{◌≡◌, ℕ, zero, suc, ◌+◌, ◌<◌, ◌≤◌, Bool, true, false, List, [], ◌∷◌, ◌++◌, length, get_or, Result, Ok, Err, refl, sym, subst, ap, ◌∙◌, arith, inl, inr}
+use Rattle.std.proofs.Common.{◌≡◌, ℕ, zero, suc, ◌≤◌, List, [], ◌∷◌, ◌++◌, Result, Ok, Err, refl, subst, arith}
 use Rattle.std.specs.List.{AllByRecursion}
 use Rattle.std.specs.Int.{w64}
-use Rattle.std.proofs.lemmas.Bool.{cases_lt}
-use Rattle.std.proofs.lemmas.List.{get_or_append_left, get_or_past}
 use lib.IntN.{ℤ}
 use mir.Val.{SFits}
 use Rattle.mc_nbt.specs.Reading.{IsBytes}
 use Rattle.mc_nbt.specs.Numbers.{IsBytes-after}
 use Rattle.mc_fields.specs.declared.packet.RowFault.{RowFault}
 use Rattle.mc_fields.specs.declared.packet.PacketFault.{PacketFault}
-use Rattle.mc_fields.specs.Row.{Spells, frame_read, frame_found, packet_of, spelled_fits}
-use Rattle.mc_frame.specs.Frame.{SpellsFrame}
-use Rattle.mc_frame.specs.Cut.{SpellsFrames, Cut, IsCutAt}
+use Rattle.mc_fields.specs.Row.{frame_read, frame_found, packet_of, spelled_fits}
+use Rattle.mc_frame.specs.Cut.{SpellsFrames}
 use Rattle.mc_up.specs.declared.handshake.Hand.{Hand}
 use Rattle.mc_up.specs.declared.handshake.Hand.TheVariants.{Handshake}
 use Rattle.mc_up.specs.declared.status_up.StatusUp.{StatusUp}

@@ -1,11 +1,11 @@
 -- The packets of columns fit.
-use Rattle.std.proofs.Common.{◌≡◌, ℕ, zero, suc, ◌+◌, ◌*◌, ◌^◌, ◌<◌, ◌≤◌, Bool, true, false, cond, List, [], ◌∷◌, ◌++◌, length, refl, lit<, arith}
+use Rattle.std.proofs.Common.{ℕ, zero, suc, ◌+◌, ◌^◌, ◌<◌, ◌≤◌, Bool, true, false, cond, List, [], length, refl, lit<, arith}
 use Rattle.std.specs.Int.{w8, w16, w32, cast_unsigned}
-use lib.IntN.{ℤ, pos}
+use lib.IntN.{pos}
 use mir.Val.{SFits}
 use Rattle.mc_nbt.specs.Signed.{signed_fits}
 use Rattle.mc_nbt.specs.Numbers.{wide_8, wide_16, wide_32}
-use Rattle.mc_fields.specs.VarintFormat.{FitsVarint, varint-fits}
+use Rattle.mc_fields.specs.VarintFormat.{varint-fits}
 use Rattle.mc_fields.specs.Integers.{bool_byte}
 use Rattle.mc_column.specs.Sizes.{section_count, section_count-is, section_cells-is, light_bytes-is, squares-is}
 use Rattle.mc_column.specs.Cells.{ColumnValue, HasSizes, rank}

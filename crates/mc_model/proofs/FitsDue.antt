@@ -1,9 +1,9 @@
 -- What is due to a client at a tick is packets that it makes out.
-use Rattle.std.proofs.Common.{◌≡◌, ℕ, ◌+◌, ◌*◌, ◌/◌, ◌%◌, ◌^◌, ◌<◌, ◌≤◌, Bool, true, false, cond, List, [], ◌∷◌, ◌++◌, map, length, refl, arith}
-use Rattle.std.specs.Prelude.{unsigned_abs, Option, Some, None, is_some, not}
-use Rattle.std.specs.Int.{abs_diff, int_rem_euclid}
-use Rattle.std.specs.List.{filter, AllByRecursion}
-use Rattle.std.specs.FinMap.{get, entries, keys, contains_key}
+use Rattle.std.proofs.Common.{ℕ, ◌*◌, ◌/◌, ◌%◌, ◌<◌, ◌≤◌, List, [], length, refl, arith}
+use Rattle.std.specs.Prelude.{unsigned_abs, not}
+use Rattle.std.specs.Int.{int_rem_euclid}
+use Rattle.std.specs.List.{AllByRecursion}
+use Rattle.std.specs.FinMap.{get, entries, keys}
 use lib.IntN.{ℤ, pos, negsuc, ◌+ℤ◌}
 use Rattle.mc_column.specs.Cells.{ColumnValue}
 use Rattle.mc_fields.specs.declared.position.Spot.{Spot}
@@ -12,15 +12,15 @@ use Rattle.mc_land.specs.declared.terrain.Terrain.TheVariants.{Flat, Hills, Isle
 use Rattle.mc_land.specs.Places.{Place}
 use Rattle.mc_land.specs.Terrain.{wave}
 use Rattle.mc_down.specs.declared.down.Down.{Down}
-use Rattle.mc_model.specs.Hearing.{of_play, Ear, for_play}
+use Rattle.mc_model.specs.Hearing.{of_play, for_play}
 use Rattle.mc_model.specs.Numbers.{pattern_of, degrees_of}
 use Rattle.mc_model.specs.Sight.{Sight}
 use Rattle.mc_model.specs.Delta.{missing, is_named, leavers_point, joiners_point, unload, unloads_point, load, loads_point, delta}
-use Rattle.mc_model.specs.World.{World, Session, AreSettings, players, spawn_height, spawn_spot, project}
-use Rattle.mc_model.specs.Step.{level, placing, opening, opening_due, notes_due, last_shown, due}
-use Rattle.mc_model.proofs.Hears.{IsClear, Hears}
+use Rattle.mc_model.specs.World.{spawn_height, spawn_spot}
+use Rattle.mc_model.specs.Step.{level, placing}
+use Rattle.mc_model.proofs.Hears.{IsClear}
 use Rattle.mc_model.proofs.FitsText.{IsShort, short_where}
-use Rattle.mc_model.proofs.FitsPlay.{join_clear, spawn_clear, place_clear}
+use Rattle.mc_model.proofs.FitsPlay.{place_clear}
 use Rattle.mc_model.proofs.FitsNumbers.{pattern_fits, degrees_fit}
 use Rattle.mc_model.proofs.FitsList.{PairFits, AreClear, leavers_clear, joiners_clear}
 use Rattle.mc_model.proofs.FitsChunk.{PlaceFits, ColumnFits, load_clear, unload_clear}

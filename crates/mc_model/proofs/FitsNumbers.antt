@@ -1,9 +1,9 @@
 -- The patterns of whole numbers fit their fields.
-use Rattle.std.proofs.Common.{◌≡◌, ℕ, zero, suc, ◌+◌, ◌-◌, ◌*◌, ◌^◌, ◌<◌, ◌≤◌, Bool, true, false, cond, refl, sym, ap, ◌∙◌, arith, inl, inr}
+use Rattle.std.proofs.Common.{◌≡◌, ℕ, zero, suc, ◌+◌, ◌-◌, ◌*◌, ◌^◌, ◌<◌, ◌≤◌, Bool, true, false, cond, refl, arith, inl, inr}
 use Rattle.std.specs.Prelude.{nat_le, ◌==◌, unsigned_abs}
 use Rattle.std.proofs.Math.Nat.{pow-le-pow_right, pow-suc}
 use Rattle.std.proofs.lemmas.Bool.{cases_lt, leb-true, leb-false}
-use lib.IntN.{ℤ, pos, negsuc}
+use lib.IntN.{ℤ}
 use Rattle.mc_fields.proofs.Floors.{raised_high}
 use Rattle.mc_model.specs.Numbers.{top_bit, pattern_with, is_below_0, pattern_of, degrees_of}
 

@@ -1,14 +1,12 @@
 -- The packets of play that are handed out beside the difference fit.
-use Rattle.std.proofs.Common.{◌≡◌, ℕ, ◌+◌, ◌^◌, ◌<◌, ◌≤◌, false, List, [], ◌∷◌, ◌++◌, length, refl, lit<, arith}
+use Rattle.std.proofs.Common.{ℕ, ◌^◌, ◌<◌, ◌≤◌, false, List, lit<, arith}
 use Rattle.std.specs.Int.{w8, w32, w64, cast_unsigned}
-use lib.IntN.{ℤ, pos}
-use mir.Val.{SFits}
+use lib.IntN.{pos}
 use Rattle.mc_nbt.specs.Signed.{signed_fits}
-use Rattle.mc_nbt.specs.Numbers.{wide_8, wide_32, wide_64, number_spelling}
+use Rattle.mc_nbt.specs.Numbers.{wide_8, wide_32, wide_64}
 use Rattle.mc_fields.specs.declared.position.Cell.{Cell}
 use Rattle.mc_fields.specs.Position.{pack}
-use Rattle.mc_fields.specs.Text.{text_spelling}
-use Rattle.mc_fields.specs.Integers.{boolean_spelling, bool_byte}
+use Rattle.mc_fields.specs.Integers.{bool_byte}
 use Rattle.mc_down.specs.declared.down.Down.TheVariants.{JoinGame, SpawnPosition, PositionLook, Disconnect}
 use Rattle.mc_down.specs.Down.{FitsDown, entry_of}
 use Rattle.mc_model.specs.Hearing.{of_play, for_play}

@@ -1,5 +1,5 @@
 -- What can be shown so that its packets fit, and that all that is projected can.
-use Rattle.std.proofs.Common.{◌≡◌, ℕ, zero, suc, ◌+◌, ◌*◌, ◌^◌, ◌<◌, ◌≤◌, max, min, Bool, true, false, cond, not, List, [], ◌∷◌, ◌++◌, map, length, refl, sym, subst, ap, ◌∙◌, arith}
+use Rattle.std.proofs.Common.{◌≡◌, ℕ, zero, suc, ◌+◌, ◌*◌, ◌^◌, ◌<◌, ◌≤◌, Bool, true, false, cond, List, [], ◌∷◌, ◌++◌, map, length, refl, sym, subst, ◌∙◌, arith}
 use Rattle.std.specs.Prelude.{unsigned_abs}
 use Rattle.std.specs.Int.{w32, int_div_euclid}
 use Rattle.std.specs.List.{filter, flat_map, range_with_len, AllByRecursion}
@@ -7,14 +7,13 @@ use Rattle.std.specs.declared.cmp.Ordering.{Ordering}
 use Rattle.std.specs.declared.cmp.Ordering.TheVariants.{Less, Equal, Greater}
 use Rattle.std.specs.Ordering.{nat_cmp}
 use Rattle.std.specs.Cmp.{IsTotalOrder, nat_cmp_total}
-use Rattle.std.specs.FinMap.{FinMap, IsAntisymmetric, nat_cmp-IsAntisymmetric, entries, empty, insert, from_entries, contains_key, len, len-empty, len-entries, len-insert, entries-insert}
+use Rattle.std.specs.FinMap.{FinMap, IsAntisymmetric, nat_cmp-IsAntisymmetric, entries, empty, from_entries, contains_key, len, len-empty, len-entries, len-insert, entries-insert}
 use Rattle.std.specs.FinMap.Entries.{put, by_order}
 use Rattle.std.proofs.lemmas.List.{nil_from_length, length-map}
 use Rattle.std.proofs.lemmas.Int.{ints}
 use lib.IntN.{ℤ, pos, negsuc, ◌+ℤ◌, ◌-ℤ◌}
 use lib.Signed.{◌≤ℤ◌, mag}
 use mir.Val.{SFits}
-use Rattle.mc_column.specs.Cells.{ColumnValue}
 use Rattle.mc_land.specs.Places.{Place, place_cmp}
 use Rattle.mc_fields.specs.declared.position.Spot.{Spot}
 use Rattle.mc_model.specs.Sight.{Sight, nothing_seen}
@@ -22,7 +21,6 @@ use Rattle.mc_model.specs.Views.{run_of, view_of, column_of_spot, view_size}
 use Rattle.mc_model.specs.World.{World, Session, players, column_in, view_in, project}
 use Rattle.mc_model.proofs.Orders.{places_total, exact_places}
 use Rattle.mc_model.proofs.Projections.{column_sizes}
-use Rattle.mc_model.proofs.FitsText.{IsShort}
 use Rattle.mc_model.proofs.FitsList.{PairFits}
 use Rattle.mc_model.proofs.FitsChunk.{PlaceFits, ColumnFits}
 

@@ -1,5 +1,5 @@
 -- How long spellings are at most, and which packets a client so makes out.
-use Rattle.std.proofs.Common.{◌≡◌, ℕ, ◌+◌, ◌^◌, ◌<◌, ◌≤◌, List, [], ◌∷◌, ◌++◌, length, refl, arith}
+use Rattle.std.proofs.Common.{ℕ, ◌+◌, ◌^◌, ◌<◌, ◌≤◌, List, ◌++◌, length, arith}
 use Rattle.std.specs.Int.{Width, byte_len, w32}
 use Rattle.std.proofs.lemmas.List.{length-append}
 use lib.IntN.{ℤ, pos}

@@ -1,16 +1,15 @@
 -- The packets of the status and of the login that are handed out fit.
-use Rattle.std.proofs.Common.{◌≡◌, ℕ, ◌+◌, ◌^◌, ◌<◌, ◌≤◌, true, List, [], ◌∷◌, ◌++◌, length, refl, lit<, arith}
-use Rattle.std.specs.Prelude.{Option, Some, None, codes}
+use Rattle.std.proofs.Common.{ℕ, List, lit<, arith}
 use Rattle.std.specs.Int.{w64, cast_unsigned}
 use lib.IntN.{ℤ}
 use mir.Val.{SFits}
 use Rattle.std.proofs.Math.Facts.{Fits-of_z}
-use Rattle.mc_nbt.specs.Numbers.{wide_64, number_spelling}
+use Rattle.mc_nbt.specs.Numbers.{wide_64}
 use Rattle.mc_up.specs.declared.status_down.StatusDown.TheVariants.{Response, Pong}
 use Rattle.mc_up.specs.declared.login_down.LoginDown.TheVariants.{Disconnect, Success}
 use Rattle.mc_up.specs.StatusDown as status
 use Rattle.mc_up.specs.LoginDown as login
-use Rattle.mc_model.specs.Hearing.{Sent, of_status, of_login, Ear, for_status, for_login, for_play}
+use Rattle.mc_model.specs.Hearing.{of_status, of_login, for_status, for_login}
 use Rattle.mc_model.proofs.Hears.{IsClear}
 use Rattle.mc_model.proofs.FitsText.{IsShort, short_fits, short_less}
 use Rattle.mc_model.proofs.FitsSize.{few_bytes, at_most_joined, text_size, number_size, spelling_payload}

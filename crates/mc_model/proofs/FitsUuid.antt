@@ -1,7 +1,7 @@
 -- The identifier that goes with a name has 128 bits.
-use Rattle.std.proofs.Common.{◌≡◌, ℕ, zero, suc, ◌+◌, ◌*◌, ◌/◌, ◌%◌, ◌^◌, ◌<◌, ◌≤◌, List, [], ◌∷◌, ◌++◌, length, refl, arith}
+use Rattle.std.proofs.Common.{ℕ, zero, suc, ◌/◌, ◌^◌, ◌<◌, List, [], ◌∷◌, ◌++◌, length, arith}
 use Rattle.std.specs.Prelude.{slice_index, slice_set, codes}
-use Rattle.std.specs.Int.{to_le_bytes, w32, w128}
+use Rattle.std.specs.Int.{to_le_bytes, w32}
 use Rattle.md5.specs.Md5.{padded_message, hash_after, digest_bytes, md5}
 use Rattle.uuid.specs.Parts.{with_version, with_variant}
 use Rattle.uuid.specs.declared.Version.TheVariants.{Md5}

@@ -1,30 +1,16 @@
 -- What was handed to each connection up to a world of a run, and that it stays heard where connections change.
-use Rattle.std.proofs.Common.{◌≡◌, ◌≢◌, ℕ, ◌+◌, ◌<◌, ◌≤◌, List, [], ◌∷◌, ◌++◌, map, length, drop, refl, sym, subst, ap, ◌∙◌, append_assoc, arith, inl, inr}
-use Rattle.std.specs.Prelude.{◌⊎◌, ◌==◌, ◌&&◌, nat_lt, not, Bool, true, false, cond, Option, Some, None, option_map, if◌then◌else◌}
-use Rattle.std.specs.List.{filter, flat_map, AllByRecursion}
-use Rattle.std.proofs.lemmas.Bool.{eqb-true, ltb-true, lt-ltb}
+use Rattle.std.proofs.Common.{◌≡◌, ℕ, List, [], ◌∷◌, ◌++◌, map, drop, refl, sym, subst, ap, ◌∙◌}
+use Rattle.std.specs.Prelude.{◌==◌, Bool, true, false, Option, Some, None, option_map, if◌then◌else◌}
+use Rattle.std.specs.List.{AllByRecursion}
 use Rattle.std.proofs.lemmas.List.{append-nil}
-use lib.IntN.{ℤ, pos}
-use Rattle.mc_nbt.specs.Reading.{IsBytes}
-use Rattle.mc_down.specs.declared.down.Down.{Down}
 use Rattle.mc_model.specs.declared.cause.Cause.TheVariants as causes
-use Rattle.mc_model.specs.declared.stage.Stage.{Stage}
-use Rattle.mc_model.specs.declared.stage.Stage.TheVariants as stages
-use Rattle.mc_land.specs.declared.terrain.Terrain.{Terrain}
-use Rattle.mc_model.specs.Hearing.{Sent, of_play, Ear, for_status, for_play, IsHeard, bytes_of}
-use Rattle.mc_model.specs.World.{World, Session, AreSettings, new_world, found, players, is_play, is_closed}
-use Rattle.mc_model.specs.Step.{Event, joined, came, left, ticked, took, forgot, Turn, still, shut, gone, new_session, is_crowded, joining, join, is_new, changed, hand, flush, showing, due, at_tick, is_done, on_bytes, step}
-use Rattle.mc_model.specs.Run.{to, handed, stream, AreBytes}
-use Rattle.mc_model.proofs.Hears.{Hears, heard_so}
-use Rattle.mc_model.proofs.Sessions.{AreApart, found_id, found_map, found_before, found_behind, found_filter, none_filtered, apart_more, apart_filter, to_none, to_found, some_none, one_some, other_number, same_number}
-use Rattle.mc_model.proofs.Frames.{no_bytes}
-use Rattle.mc_model.proofs.Handing.{hand_cases, not_both}
-use Rattle.mc_model.proofs.FitsSight.{SpotFits, all_joined, all_filtered, few_filtered, nothing_fits}
-use Rattle.mc_model.proofs.FitsText.{none_short}
-use Rattle.mc_model.proofs.Sound.{SessionFits, Sound, all_found, sound_sight, due_clear, clear_heard}
-use Rattle.mc_model.proofs.SoundPut.{playing, sound_mapped}
-use Rattle.mc_model.proofs.Listens.{Listens, AreHeard, Speaks, listens_heard, silent_start, speaks_same, speaks_shut, speaks_play}
-use Rattle.mc_model.proofs.HeedsFrames.{bytes_heed}
+use Rattle.mc_model.specs.Hearing.{Sent}
+use Rattle.mc_model.specs.World.{World, Session, found, is_play, is_closed}
+use Rattle.mc_model.specs.Step.{shut, gone, is_new, changed}
+use Rattle.mc_model.proofs.Sessions.{found_map, some_none, one_some}
+use Rattle.mc_model.proofs.Sound.{SessionFits, Sound}
+use Rattle.mc_model.proofs.SoundPut.{sound_mapped}
+use Rattle.mc_model.proofs.Listens.{Listens, AreHeard, Speaks, listens_heard, speaks_same, speaks_shut}
 
 -- what was handed to a connection up to a world of a run
 pub record Kept (k : ℕ) (w : World) (packets : List Sent) : Type 0 where

@@ -1,10 +1,9 @@
 -- What is handed out as frames, one after another, is cut into them again, and heard as those packets.
-use Rattle.std.proofs.Common.{◌≡◌, ℕ, List, [], ◌∷◌, ◌++◌, map, refl, sym, subst, ap, ◌∙◌}
-use Rattle.std.specs.Prelude.{Option, Some, None, Ok}
+use Rattle.std.proofs.Common.{◌≡◌, ℕ, List, [], ◌∷◌, ◌++◌, map, refl, sym, subst, ap}
+use Rattle.std.specs.Prelude.{Some}
 use Rattle.std.proofs.lemmas.List.{append-nil}
-use Rattle.mc_fields.specs.Row.{frame_read}
 use Rattle.mc_frame.specs.Frame.{IsPayload, frame_spelling, frame_spelled}
-use Rattle.mc_frame.specs.Cut.{SpellsFrames, IsCut}
+use Rattle.mc_frame.specs.Cut.{SpellsFrames}
 use Rattle.mc_frame.proofs.Stops.{nothing_part}
 use Rattle.mc_up.specs.StatusDown as status
 use Rattle.mc_up.specs.LoginDown as login
@@ -12,7 +11,7 @@ use Rattle.mc_down.specs.Down as play
 use Rattle.mc_up.proofs.StatusDownLaws as status_laws
 use Rattle.mc_up.proofs.LoginDownLaws as login_laws
 use Rattle.mc_down.proofs.DownLaws as play_laws
-use Rattle.mc_model.specs.Hearing.{Sent, of_status, of_login, of_play, frame_of, bytes_of, Ear, for_status, for_login, for_play, sent_status, sent_login, sent_play, heard_as, ear_after, before_others, heard, IsHeard}
+use Rattle.mc_model.specs.Hearing.{Sent, of_status, of_login, of_play, frame_of, bytes_of, Ear, for_status, for_login, for_play, sent_status, sent_login, sent_play, heard_as, ear_after, heard, IsHeard}
 
 -- what its frame holds
 abbrev pub payload_of : Sent → List ℕ

@@ -1,36 +1,29 @@
 -- Handing out to a connection, closing it and letting its player in: what was handed to it is heard, and the world stays sound.
-use Rattle.std.proofs.Common.{◌≡◌, ℕ, ◌+◌, ◌-◌, ◌^◌, ◌<◌, ◌≤◌, List, [], ◌∷◌, ◌++◌, length, refl, sym, subst, ap, ◌∙◌, arith, inl, inr}
-use Rattle.std.specs.Prelude.{◌⊎◌, ◌==◌, ◌&&◌, not, nat_lt, nat_le, Bool, true, false, cond, Option, Some, None, if◌then◌else◌}
-use Rattle.std.specs.List.{list_any, AllByRecursion}
+use Rattle.std.proofs.Common.{◌≡◌, ℕ, ◌<◌, ◌≤◌, List, [], ◌++◌, length, refl, arith}
+use Rattle.std.specs.Prelude.{◌==◌, ◌&&◌, not, nat_lt, Bool, true, false, Option, Some, None, if◌then◌else◌}
+use Rattle.std.specs.List.{list_any}
 use Rattle.std.proofs.lemmas.Bool.{ltb-true}
-use lib.IntN.{ℤ, pos}
-use Rattle.mc_nbt.specs.Reading.{IsBytes}
-use Rattle.mc_up.specs.declared.play_up.PlayUp.{PlayUp}
+use lib.IntN.{ℤ}
 use Rattle.mc_model.specs.declared.cause.Cause.{Cause}
 use Rattle.mc_model.specs.declared.cause.Cause.TheVariants as causes
 use Rattle.mc_model.specs.declared.cause.Refusal.{Refusal}
 use Rattle.mc_model.specs.declared.cause.Refusal.TheVariants as refusals
-use Rattle.mc_model.specs.declared.stage.Stage.{Stage}
 use Rattle.mc_model.specs.declared.stage.Stage.TheVariants as stages
 use Rattle.mc_model.specs.Names.{is_name, offline_uuid}
-use Rattle.mc_model.specs.World.{World, Session, found, put, players, is_play, is_closed}
-use Rattle.mc_model.specs.Hearing.{Sent, of_status, bytes_of}
-use Rattle.mc_model.specs.Acts.{act}
-use Rattle.mc_model.specs.Talk.{Said, nothing, greets, replies, ends, enters, acts, wrong, said, farewell, refused, accepted}
-use Rattle.mc_model.specs.Step.{Turn, still, turn, after, hand, shut, close, refusal, is_47, entered, answer_login, acted, perform, on_frame, when_open}
+use Rattle.mc_model.specs.World.{World, Session, found, put, players, is_play}
+use Rattle.mc_model.specs.Hearing.{Sent, bytes_of}
+use Rattle.mc_model.specs.Talk.{farewell}
+use Rattle.mc_model.specs.Step.{Turn, still, turn, hand, shut, close, refusal, is_47, entered}
 use Rattle.mc_model.proofs.Beside.{Beside, beside_same, beside_onward, beside_put, found_put}
 use Rattle.mc_model.proofs.Sessions.{found_id}
 use Rattle.mc_model.proofs.Handing.{hand_cases}
-use Rattle.mc_model.proofs.Acting.{Suits, suits}
 use Rattle.mc_model.proofs.FitsText.{both_true, name_short}
-use Rattle.mc_model.proofs.FitsBytes.{IsAnswered, said_answered}
 use Rattle.mc_model.proofs.FitsUuid.{offline_small}
 use Rattle.mc_model.proofs.FitsSight.{nothing_fits}
 use Rattle.mc_model.proofs.FitsDue.{spawn_fits}
-use Rattle.mc_model.proofs.Sound.{SessionFits, Sound, all_found}
+use Rattle.mc_model.proofs.Sound.{SessionFits, Sound}
 use Rattle.mc_model.proofs.SoundPut.{HasRoom, sound_put}
-use Rattle.mc_model.proofs.SoundActs.{ActsFit, act_fits}
-use Rattle.mc_model.proofs.Listens.{Listens, Speaks, speaks_same, speaks_shut, speaks_start, speaks_onward, speaks_status, speaks_done, speaks_welcome, speaks_refusal, speaks_farewell}
+use Rattle.mc_model.proofs.Listens.{Speaks, speaks_same, speaks_shut, speaks_farewell}
 
 -- a turn of a connection: the world stays sound, it is still there, and what was handed to it is heard behind what was before
 pub record Heeds (k : ℕ) (w : World) (s : Session) (t : Turn) : Type 0 where

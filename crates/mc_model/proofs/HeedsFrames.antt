@@ -1,6 +1,6 @@
 -- What one frame, or all frames of some bytes, hand out to their connection is heard, and the world stays sound.
-use Rattle.std.proofs.Common.{◌≡◌, ℕ, ◌+◌, ◌-◌, ◌<◌, ◌≤◌, List, [], ◌∷◌, ◌++◌, length, refl, sym, subst, ap, ◌∙◌, arith, inl, inr}
-use Rattle.std.specs.Prelude.{Bool, true, false, cond, Option, Some, None, if◌then◌else◌}
+use Rattle.std.proofs.Common.{◌≡◌, ℕ, ◌+◌, List, [], ◌∷◌, ◌++◌, length, refl, sym, subst, ◌∙◌, arith, inl, inr}
+use Rattle.std.specs.Prelude.{Bool, true, false, Option, Some, None, if◌then◌else◌}
 use Rattle.std.specs.List.{AllByRecursion}
 use Rattle.mc_nbt.specs.Reading.{IsBytes}
 use Rattle.mc_up.specs.declared.play_up.PlayUp.{PlayUp}
@@ -22,8 +22,7 @@ use Rattle.mc_model.proofs.Sessions.{found_id}
 use Rattle.mc_model.proofs.Acting.{Suits, suits}
 use Rattle.mc_model.proofs.FitsBytes.{bytes_joined, cut_bytes, IsAnswered, said_answered}
 use Rattle.mc_model.proofs.Sound.{SessionFits, Sound, all_found}
-use Rattle.mc_model.proofs.SoundPut.{HasRoom}
-use Rattle.mc_model.proofs.SoundActs.{ActsFit, act_fits}
+use Rattle.mc_model.proofs.SoundActs.{act_fits}
 use Rattle.mc_model.proofs.Listens.{Speaks, speaks_same, speaks_start, speaks_onward, speaks_status, speaks_done, speaks_welcome, speaks_refusal}
 use Rattle.mc_model.proofs.Heeds.{Heeds, heeds_still, heeds_put, heeds_hand, heeds_close, heeds_farewell, no_room, welcome_of, entered_fits}
 

@@ -28,4 +28,6 @@ pub mod FitsUuid
 pub mod Heeds
 pub mod HeedsFrames
 pub mod HeardRun
+pub mod HeardTick
+pub mod HeardJoin
 pub mod HeardEvents

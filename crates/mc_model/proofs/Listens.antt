@@ -1,6 +1,6 @@
 -- What a client hears by the stage of its connection, and what can be handed to it there.
-use Rattle.std.proofs.Common.{◌≡◌, ℕ, List, [], ◌∷◌, ◌++◌, refl, sym, subst, ap, ◌∙◌, append_assoc}
-use Rattle.std.specs.Prelude.{Bool, true, false, Option, Some, None, codes}
+use Rattle.std.proofs.Common.{◌≡◌, ℕ, List, [], ◌∷◌, ◌++◌, refl, sym, subst, append_assoc}
+use Rattle.std.specs.Prelude.{true, false, Option, Some, None}
 use Rattle.std.proofs.lemmas.List.{append-nil}
 use Rattle.mc_model.specs.declared.cause.Cause.{Cause}
 use Rattle.mc_model.specs.declared.cause.Refusal.{Refusal}

@@ -1,11 +1,10 @@
 -- What holds of every world of a run, so that all that is handed out can be told; and that what is due at a tick is so.
-use Rattle.std.proofs.Common.{◌≡◌, ℕ, ◌+◌, ◌*◌, ◌^◌, ◌<◌, ◌≤◌, Bool, true, false, cond, List, [], ◌∷◌, ◌++◌, map, length, refl, subst, arith}
-use Rattle.std.specs.Prelude.{Option, Some, None, is_some, if◌then◌else◌, ◌==◌}
-use Rattle.std.specs.List.{filter, AllByRecursion}
-use lib.IntN.{ℤ, pos}
+use Rattle.std.proofs.Common.{◌≡◌, ℕ, ◌≤◌, Bool, true, false, cond, List, [], ◌∷◌, ◌++◌, map, length, refl, subst, arith}
+use Rattle.std.specs.Prelude.{Some, None, is_some, if◌then◌else◌, ◌==◌}
+use Rattle.std.specs.List.{AllByRecursion}
 use Rattle.mc_nbt.specs.Reading.{IsBytes}
 use Rattle.mc_down.specs.declared.down.Down.{Down}
-use Rattle.mc_model.specs.Hearing.{of_play, Ear, for_play}
+use Rattle.mc_model.specs.Hearing.{of_play, for_play}
 use Rattle.mc_model.specs.Delta.{delta}
 use Rattle.mc_model.specs.World.{World, Session, AreSettings, players, found, is_play, spawn_height, project}
 use Rattle.mc_model.specs.Step.{is_new, placing, level, opening, opening_due, notes_due, last_shown, due}
@@ -13,7 +12,7 @@ use Rattle.mc_model.proofs.Sessions.{AreApart, some_none, one_some}
 use Rattle.mc_model.proofs.Hears.{IsClear, Hears}
 use Rattle.mc_model.proofs.FitsPlay.{join_clear, spawn_clear}
 use Rattle.mc_model.proofs.FitsList.{AreClear}
-use Rattle.mc_model.proofs.FitsSight.{all_joined, all_mapped, all_filtered, SightFits, SpotFits, NamedFits, project_fits}
+use Rattle.mc_model.proofs.FitsSight.{all_joined, all_filtered, SightFits, SpotFits, NamedFits, project_fits}
 use Rattle.mc_model.proofs.FitsDue.{delta_clear, placing_clear, spawn_low, level_short}
 
 -- what is kept of a connection can be told

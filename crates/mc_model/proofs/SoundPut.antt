@@ -1,12 +1,11 @@
 -- Worlds stay sound where connections change.
-use Rattle.std.proofs.Common.{◌≡◌, ℕ, suc, ◌+◌, ◌<◌, ◌≤◌, Bool, true, false, cond, List, [], ◌∷◌, ◌++◌, map, length, refl, sym, subst, ap, ◌∙◌, arith, inl, inr}
-use Rattle.std.specs.Prelude.{◌⊎◌, ◌==◌, Option, Some, None, option_map, if◌then◌else◌}
+use Rattle.std.proofs.Common.{◌≡◌, ℕ, ◌+◌, ◌<◌, ◌≤◌, Bool, true, false, cond, List, [], ◌∷◌, map, length, refl, sym, subst, ap, ◌∙◌, arith, inl, inr}
+use Rattle.std.specs.Prelude.{◌⊎◌, ◌==◌, Some, None, option_map, if◌then◌else◌}
 use Rattle.std.specs.List.{filter, AllByRecursion}
 use Rattle.std.proofs.lemmas.Bool.{eqb-true}
 use Rattle.mc_model.specs.World.{World, Session, players, found, put, is_play}
-use Rattle.mc_model.specs.Step.{is_new}
 use Rattle.mc_model.proofs.Sessions.{AreApart, some_none, one_some, found_map, apart_map}
-use Rattle.mc_model.proofs.Beside.{Beside, beside_put}
+use Rattle.mc_model.proofs.Beside.{beside_put}
 use Rattle.mc_model.proofs.Sound.{SessionFits, Sound}
 
 -- ---- how many are in play
