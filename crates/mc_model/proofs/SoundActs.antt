@@ -1,0 +1,123 @@
+-- What a player does keeps its place one that can be told.
+use Rattle.std.proofs.Common.{◌≡◌, ℕ, suc, ◌<◌, ◌≤◌, Bool, true, false, refl, sym, subst, arith, inl, inr}
+use Rattle.std.specs.Prelude.{◌⊎◌, ◌&&◌, int_le, unsigned_abs, Option, Some, None, if◌then◌else◌}
+use Rattle.std.specs.Int.{int_rem_euclid}
+use Rattle.std.specs.Option.{option_and_then}
+use Rattle.std.proofs.lemmas.Bool.{leb-true}
+use lib.IntN.{ℤ, pos, negsuc}
+use Rattle.mc_fields.specs.declared.position.Spot.{Spot}
+use Rattle.mc_up.specs.declared.play_up.PlayUp.{PlayUp}
+use Rattle.mc_up.specs.declared.play_up.PlayUp.TheVariants.{Position, Look, PositionLook, Settings}
+use Rattle.mc_model.specs.Numbers.{fixed_of, turn_of}
+use Rattle.mc_model.specs.World.{World, Session, put, spawn_spot}
+use Rattle.mc_model.specs.Acts.{both, moved, turned, is_within, is_in_range, arrived, arrive, act}
+use Rattle.mc_model.proofs.FitsText.{both_true}
+use Rattle.mc_model.proofs.FitsSight.{SpotFits}
+use Rattle.mc_model.proofs.FitsDue.{rest_below, spawn_fits}
+use Rattle.mc_model.proofs.Sound.{SessionFits}
+
+-- ---- turns
+
+-- a spot with a look within one turn
+pub record IsTurned (spot : Spot) : Type 0 where
+  pub yaw : spot.yaw < 256
+  pub pitch : spot.pitch < 256
+
+some_is : {A : Type 0} (a b : A) → ◌≡◌ {A = Option A} (Some a) (Some b) → a ≡ b
+some_is a b e = cc
+
+turn_low : (p a : ℕ) → turn_of p ≡ Some a → a < 256
+unfolding turn_of
+turn_low p a e = step _ _ e
+  where
+    step : (t : Bool) (z : ℤ) → (if t then None else Some (unsigned_abs (int_rem_euclid z (pos 256)))) ≡ Some a → a < 256
+    step true z e = absurd cc
+    step false z e = let P : ℕ → Type 0 = λ n. n < 256 in subst P (some_is _ _ e) (rest_below z 256 (omega arith))
+
+turned_so : (spot to : Spot) (a b : Option ℕ) → ((n : ℕ) → a ≡ Some n → n < 256) → ((n : ℕ) → b ≡ Some n → n < 256) → both (λ (about up : ℕ). record spot { yaw = about; pitch = up }) a b ≡ Some to → IsTurned to
+turned_so spot to None b low high e = absurd cc
+turned_so spot to (Some about) None low high e = absurd cc
+turned_so spot to (Some about) (Some up) low high e =
+    subst IsTurned (some_is (record spot { yaw = about; pitch = up }) to e) (record { yaw = low about refl; pitch = high up refl })
+
+turned_turned : (spot to : Spot) (yaw pitch : ℕ) → turned spot yaw pitch ≡ Some to → IsTurned to
+turned_turned spot to yaw pitch e = turned_so spot to (turn_of yaw) (turn_of pitch) (turn_low yaw) (turn_low pitch) e
+
+moved_so : (spot to : Spot) (a b c : Option ℤ) → IsTurned spot → option_and_then (λ (east : ℤ). both (λ (up south : ℤ). record spot { x = east; y = up; z = south }) b c) a ≡ Some to → IsTurned to
+moved_so spot to None b c is e = absurd cc
+moved_so spot to (Some east) None c is e = absurd cc
+moved_so spot to (Some east) (Some up) None is e = absurd cc
+moved_so spot to (Some east) (Some up) (Some south) is e =
+    subst IsTurned (some_is (record spot { x = east; y = up; z = south }) to e) (record { yaw = is.yaw; pitch = is.pitch })
+
+moved_turned : (spot to : Spot) (x y z : ℕ) → IsTurned spot → moved spot x y z ≡ Some to → IsTurned to
+moved_turned spot to x y z is e = moved_so spot to (fixed_of x) (fixed_of y) (fixed_of z) is e
+
+both_turned : (o : Option Spot) (to : Spot) (yaw pitch : ℕ) → option_and_then (λ (spot : Spot). turned spot yaw pitch) o ≡ Some to → IsTurned to
+both_turned None to yaw pitch e = absurd cc
+both_turned (Some spot) to yaw pitch e = turned_turned spot to yaw pitch e
+
+-- ---- places
+
+within_small : (low high : ℕ) (n : ℤ) → suc low ≤ high → is_within (negsuc low) (pos high) n ≡ true → unsigned_abs n ≤ high
+within_small low high (pos n) le t = leb-true n high (both_true (int_le (negsuc low) (pos n)) (int_le (pos n) (pos high)) t).1
+within_small low high (negsuc n) le t =
+    let few = leb-true n low (both_true (int_le (negsuc low) (negsuc n)) (int_le (negsuc n) (pos high)) t).0 in
+    omega (arith, few, le)
+
+range_fits : (spot : Spot) → IsTurned spot → is_in_range spot ≡ true → SpotFits spot
+range_fits spot is t =
+    let x : Bool = is_within (negsuc 959999999) (pos 960000000) spot.x in
+    let y : Bool = is_within (negsuc 2047) (pos 131072) spot.y in
+    let z : Bool = is_within (negsuc 959999999) (pos 960000000) spot.z in
+    let a = both_true (x && y) z t in
+    let b = both_true x y a.0 in
+    record {
+      x = within_small 959999999 960000000 spot.x (omega arith) b.0;
+      y = within_small 2047 131072 spot.y (omega arith) b.1;
+      z = within_small 959999999 960000000 spot.z (omega arith) a.1;
+      yaw = is.yaw;
+      pitch = is.pitch;
+    }
+
+-- ---- acts
+
+-- what becomes of a player's connection: it stays the same but for what can be told of it
+pub record StaysFit (s t : Session) : Type 0 where
+  pub id : t.id ≡ s.id
+  pub stage : t.stage ≡ s.stage
+  pub fits : SessionFits t
+
+-- the world after it: the same, or with another connection in that place
+pub record ActsFit (w : World) (s : Session) (v : World) : Type 0 where
+  pub session : Session
+  pub stays : StaysFit s session
+  pub is : (v ≡ w) ⊎ (v ≡ put w session)
+
+arrived_fits : (w : World) (s : Session) (to : Spot) → SessionFits s → IsTurned to → StaysFit s (arrived w s to)
+arrived_fits w s to f is = step (is_in_range to) refl
+  where
+    step : (b : Bool) → is_in_range to ≡ b → StaysFit s (if b then record s { place = to } else record s { place = spawn_spot w.terrain; notes = record s.notes { placing = true } })
+    step true t = record { id = refl; stage = refl; fits = record { named = f.named; eid = f.eid; spot = range_fits to is t; shown = f.shown; rest = f.rest } }
+    step false t = record { id = refl; stage = refl; fits = record { named = f.named; eid = f.eid; spot = spawn_fits w.terrain; shown = f.shown; rest = f.rest } }
+
+arrive_fits : (w v : World) (s : Session) (o : Option Spot) → SessionFits s → ((to : Spot) → o ≡ Some to → IsTurned to) → arrive w s o ≡ Some v → ActsFit w s v
+arrive_fits w v s None f is e = absurd cc
+arrive_fits w v s (Some to) f is e =
+    let P : World → Type 0 = λ u. ActsFit w s u in
+    subst P (some_is (put w (arrived w s to)) v e) (record { session = arrived w s to; stays = arrived_fits w s to f (is to refl); is = inr refl })
+
+pub act_fits : (w v : World) (s : Session) (packet : PlayUp) → SessionFits s → act w s packet ≡ Some v → ActsFit w s v
+unfolding act
+act_fits w v s (Position x y z on_ground) f e =
+    arrive_fits w v s (moved s.place x y z) f (λ to is. moved_turned s.place to x y z (record { yaw = f.spot.yaw; pitch = f.spot.pitch }) is) e
+act_fits w v s (Look yaw pitch on_ground) f e = arrive_fits w v s (turned s.place yaw pitch) f (λ to is. turned_turned s.place to yaw pitch is) e
+act_fits w v s (PositionLook x y z yaw pitch on_ground) f e =
+    arrive_fits w v s (option_and_then (λ (to : Spot). turned to yaw pitch) (moved s.place x y z)) f (λ to is. both_turned (moved s.place x y z) to yaw pitch is) e
+act_fits w v s (Settings locale view chat_mode colours skin) f e =
+    record {
+      session = record s { asked = view };
+      stays = record { id = refl; stage = refl; fits = record { named = f.named; eid = f.eid; spot = f.spot; shown = f.shown; rest = f.rest } };
+      is = inr (sym (some_is (put w (record s { asked = view })) v e));
+    }
+act_fits w v s other f e = record { session = s; stays = record { id = refl; stage = refl; fits = f }; is = inl (sym (some_is w v e)) }
