@@ -1,0 +1,16 @@
+//! The definitions as a plain slow program; tests compare faster bodies with it.
+
+mod difference;
+mod dues;
+mod numbers;
+mod parts;
+mod projecting;
+mod sight;
+mod views;
+
+pub use difference::delta;
+pub use dues::due;
+pub use parts::the_parts_are_the_whole;
+pub use projecting::project;
+pub use sight::Sight;
+pub use views::{column_of_spot, view_of, view_size};
