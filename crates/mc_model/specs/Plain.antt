@@ -15,7 +15,7 @@ use Rattle.mc_down.specs.declared.down.Down.TheVariants.{JoinGame, SpawnPosition
 use Rattle.mc_model.specs.Notes.{Noted}
 use Rattle.mc_model.specs.Sight.{Sight, nothing_seen}
 use Rattle.mc_model.specs.Delta.{delta}
-use Rattle.mc_model.specs.Views.{view_of}
+use Rattle.mc_model.specs.Views.{run_of, view_of}
 use Rattle.mc_model.specs.World.{World, Session, players, spawn_height}
 use Rattle.mc_model.specs.Step.{level, placing}
 
@@ -25,6 +25,10 @@ pub record IsMiddle (middle : Place) : Type 0 where
   pub cx_high : middle.0 ≤ℤ pos 1875000
   pub cz_low : negsuc 1874999 ≤ℤ middle.1
   pub cz_high : middle.1 ≤ℤ pos 1875000
+
+-- one row of a view, from a place on
+abbrev pub row_of : ℤ → ℕ → ℤ → List Place
+row_of first n x = map (λ z. (x, z)) (run_of first n)
 
 -- the same land, but for which of its columns are ready
 pub record SameWorld (old new : LandValue) : Type 0 where

@@ -30,7 +30,7 @@ pub fn project(
     ensures sight { IfOk result (λ sight. sight ≡ sight_of players.now land.old.terrain land.old.edits (column_of_spot spot.now) (view_size cap asked)) }
     ensures same { SameWorld land.old land.new }
 {
-    let places = view_of(alloc, column_of_spot(spot), view_size(cap, asked))?;
+    let places = view_of(alloc, &column_of_spot(spot), view_size(cap, asked))?;
     let mut sight = Sight::new(alloc);
     add_pairs(players, &mut sight)?;
     add_columns(land, places.as_slice(), &mut sight)?;
