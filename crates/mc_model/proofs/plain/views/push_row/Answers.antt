@@ -1,6 +1,6 @@
 use Rattle.std.proofs.Common.{rules, ◌≡◌, ◌++◌, ◌∷◌, [], ◌∙◌, refl, FitsSigned, w32}
 use Rattle.std.proofs.lemmas.Int.{to_z-of_z}
-use Rattle.mc_model.proofs.Views.{place_added}
+use Rattle.mc_model.proofs.PlainViews.{place_added}
 use Rattle.mc_model.proofs.plain.views.push_row.Goals as goal
 
 pub loop-i-preserved : goal.loop-i-preserved

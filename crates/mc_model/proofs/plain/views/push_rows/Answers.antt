@@ -1,7 +1,7 @@
 use Rattle.std.proofs.Common.{rules, ◌≡◌, ◌++◌, ◌∙◌, refl, FitsSigned, w32}
 use Rattle.std.proofs.lemmas.Int.{to_z-of_z}
 use Rattle.mc_model.specs.Plain.{row_of}
-use Rattle.mc_model.proofs.Views.{row_added}
+use Rattle.mc_model.proofs.PlainViews.{row_added}
 use Rattle.mc_model.proofs.plain.views.push_rows.Goals as goal
 
 pub loop-i-preserved : goal.loop-i-preserved
