@@ -1,7 +1,6 @@
 -- Finite maps that are kept as entries in the order of their keys.
-use Rattle.std.proofs.Common.{◌≡◌, ℕ, Bool, true, false, cond, List, [], ◌∷◌, map, length, Option, Some, None, refl, sym, ap, ◌∙◌}
+use Rattle.std.proofs.Common.{◌≡◌, ℕ, Bool, true, false, cond, List, [], ◌∷◌, map, length, Some, refl, sym, ap, ◌∙◌}
 use Rattle.std.specs.declared.cmp.Ordering.{Ordering}
-use Rattle.std.specs.declared.cmp.Ordering.TheVariants.{Less, Equal, Greater}
 use Rattle.std.specs.Ordering.{nat_cmp, is_eq, eq_by_cmp}
 use Rattle.std.specs.Cmp.{IsTotalOrder, eq_by_cmp_equiv}
 use Rattle.std.specs.Map.{lookup}
@@ -9,7 +8,6 @@ use Rattle.std.specs.List.Sorted.{IsStrictlySortedBy}
 use Rattle.std.specs.FinMap.{FinMap, IsAntisymmetric, empty, empty_of_len, find, put, entries, from_sorted, len-entries, insert, from_entries, get-from_entries, get-insert, entries-insert, entries-from_sorted, same_map}
 use Rattle.mc_column.specs.Cells.{ColumnValue}
 use Rattle.mc_land.specs.Places.{Place, place_cmp}
-use Rattle.mc_model.specs.Sight.{Sight}
 use Rattle.mc_model.specs.PlainSight.{kept_sight}
 
 -- a tree's look-up is the first entry of the key

@@ -1,4 +1,3 @@
-use Rattle.std.proofs.Common.{◌≡◌}
 use Rattle.mc_model.proofs.Orders.{places_total, exact_places}
 use Rattle.mc_model.proofs.PlainMaps.{column_kept, inserted}
 use Rattle.mc_model.proofs.plain.sight.Sight.add_column.Goals as goal
