@@ -1,8 +1,8 @@
 -- What a client is to be shown and what is due to it, from the parts that the plain program is given. That these are the words of
 -- the world is proved: see the law `the_parts_are_the_whole`.
-use Rattle.std.specs.Prelude.{◌≡◌, ℕ, false, List, [], ◌∷◌, ◌++◌, map, Option, is_some, unwrap_or, if◌then◌else◌}
+use Rattle.std.specs.Prelude.{◌≡◌, ℕ, not, Bool, false, List, [], ◌∷◌, ◌++◌, map, Option, is_some, unwrap_or, if◌then◌else◌}
 use Rattle.std.specs.Ordering.{nat_cmp}
-use Rattle.std.specs.FinMap.{FinMap, from_entries, insert}
+use Rattle.std.specs.FinMap.{FinMap, find, from_entries, insert}
 use lib.IntN.{ℤ, pos, negsuc}
 use lib.Signed.{◌≤ℤ◌}
 use Rattle.mc_column.specs.Cells.{ColumnValue}
@@ -14,7 +14,7 @@ use Rattle.mc_down.specs.declared.down.Down.{Down}
 use Rattle.mc_down.specs.declared.down.Down.TheVariants.{JoinGame, SpawnPosition}
 use Rattle.mc_model.specs.Notes.{Noted}
 use Rattle.mc_model.specs.Sight.{Sight, nothing_seen}
-use Rattle.mc_model.specs.Delta.{delta}
+use Rattle.mc_model.specs.Delta.{is_named, delta}
 use Rattle.mc_model.specs.Views.{run_of, view_of}
 use Rattle.mc_model.specs.World.{World, Session, players, spawn_height}
 use Rattle.mc_model.specs.Step.{level, placing}
@@ -76,3 +76,13 @@ notes_of spot notes = if notes.placing then placing spot ∷ [] else []
 abbrev pub due_of : Terrain → ℕ → ℤ → Spot → Noted → Option Sight → Sight → List Down
 due_of terrain most eid spot notes shown now =
     (if is_some shown then [] else opening_of terrain most eid spot) ++ delta (unwrap_or shown nothing_seen) now ++ notes_of spot notes
+
+-- ---- the difference, by entries
+
+-- a pair is not among others
+abbrev pub is_missing : List (ℕ × List ℕ) → ℕ × List ℕ → Bool
+is_missing others e = not (is_named (find nat_cmp e.0 others) e.1)
+
+-- a column is at none of the places of others
+abbrev pub is_unseen : List (Place × ColumnValue) → Place → Bool
+is_unseen others place = not (is_some (find place_cmp place others))
