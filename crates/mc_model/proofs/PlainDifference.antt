@@ -23,6 +23,6 @@ pub unseen_columns : (m n : FinMap place_cmp ColumnValue) (ours theirs : List (P
     map load (filter (λ e. is_unseen theirs e.0) ours) ≡ map load (filter (λ (e : Place × ColumnValue). not (contains_key n e.0)) (entries m))
 unseen_columns m n ours theirs is are = rw (is, are) (λ i. map load (filter (λ (e : Place × ColumnValue). not (is_some (sym (get-entries n e.0) i))) (entries m)))
 
--- four lists appended one after another, from nothing on
-pub four_appended : (l0 l1 l2 l3 l4 a b c d : List Down) → l0 ≡ [] → l1 ≡ l0 ++ a → l2 ≡ l1 ++ b → l3 ≡ l2 ++ c → l4 ≡ l3 ++ d → l4 ≡ a ++ (b ++ (c ++ (d ++ [])))
-four_appended l0 l1 l2 l3 l4 a b c d none first second third fourth = rw (fourth, third, second, first, none, append-nil d) (simp append_assoc)
+-- four lists appended one after another
+pub four_appended : (l0 l1 l2 l3 l4 a b c d : List Down) → l1 ≡ l0 ++ a → l2 ≡ l1 ++ b → l3 ≡ l2 ++ c → l4 ≡ l3 ++ d → l4 ≡ l0 ++ (a ++ (b ++ (c ++ (d ++ []))))
+four_appended l0 l1 l2 l3 l4 a b c d first second third fourth = rw (fourth, third, second, first, append-nil d) (simp append_assoc)

@@ -36,11 +36,24 @@ pub fn delta(alloc: Global, old: &Sight, new: &Sight) -> Result<Vec<Down>, NoMem
     ensures { IfOk result (λ packets. packets.items ≡ delta old.now new.now) }
 {
     let mut packets = Vec::new(alloc);
-    push_leavers(alloc, old, new, &mut packets)?;
-    push_joiners(alloc, old, new, &mut packets)?;
-    push_unloads(alloc, old, new, &mut packets)?;
-    push_loads(alloc, old, new, &mut packets)?;
+    push_delta(alloc, old, new, &mut packets)?;
     Ok(packets)
+}
+
+/// Appends what leads a client from what it was shown to what it is to be shown.
+pub(crate) fn push_delta(
+    alloc: Global,
+    old: &Sight,
+    new: &Sight,
+    packets: &mut Vec<Down>,
+) -> Result<(), NoMemory>
+    ensures { OnOk result (packets.new.items ≡ packets.old.items ++ delta old.now new.now) }
+{
+    push_leavers(alloc, old, new, packets)?;
+    push_joiners(alloc, old, new, packets)?;
+    push_unloads(alloc, old, new, packets)?;
+    push_loads(alloc, old, new, packets)?;
+    Ok(())
 }
 
 /// Whether there is this name under this identifier.
