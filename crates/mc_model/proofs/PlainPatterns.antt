@@ -59,9 +59,9 @@ one_exponent f bias n t sig e least most scaled =
     let from_least : 2 ^ t * 2 ^ (bias + f) ≤ n * 2 ^ (bias + f) = mul-le-mul_right (2 ^ (bias + f)) least in
     let from_most : suc n * 2 ^ (bias + f) ≤ 2 ^ suc t * 2 ^ (bias + f) = mul-le-mul_right (2 ^ (bias + f)) most in
     let low : 2 ^ (5 + (f + e)) < 2 ^ (suc t + (bias + f)) =
-        rw (pow-add 2 5 (f + e), pow-add 2 f e, pow-add 2 (suc t) (bias + f)) (omega arith) in
+    rw (pow-add 2 5 (f + e), pow-add 2 f e, pow-add 2 (suc t) (bias + f)) (omega arith) in
     let high : 2 ^ (t + (bias + f)) < 2 ^ (5 + (suc f + e)) =
-        rw (pow-add 2 5 (suc f + e), pow-add 2 (suc f) e, pow-add 2 t (bias + f)) (omega arith) in
+    rw (pow-add 2 5 (suc f + e), pow-add 2 (suc f) e, pow-add 2 t (bias + f)) (omega arith) in
     omega (arith, below (5 + (f + e)) (suc t + (bias + f)) low, below (t + (bias + f)) (5 + (suc f + e)) high)
 
 one_significand : (f bias n t sig e : ℕ) → t ≤ f → e + 5 ≡ bias + t → IsScaled f bias n sig e → sig ≡ n * 2 ^ (f - t)
@@ -126,7 +126,7 @@ some_one : (n : ℤ) (p : ℕ) → 1 ≤ unsigned_abs n → unsigned_abs n < 2 ^
 unfolding pattern_of
 some_one n p some few fits stands =
     let exact : with_sign (is_negative 52 11 p) (32 * (significand 52 11 p * 2 ^ power 52 11 p)) ≡ with_sign (is_below_0 n) (unsigned_abs n * 2 ^ 1075) =
-        stands.exact ∙ ap (λ (z : ℤ). z *ℤ pos (2 ^ 1075)) (signed_is n) ∙ with_sign-times (is_below_0 n) (unsigned_abs n) (2 ^ 1075) in
+    stands.exact ∙ ap (λ (z : ℤ). z *ℤ pos (2 ^ 1075)) (signed_is n) ∙ with_sign-times (is_below_0 n) (unsigned_abs n) (2 ^ 1075) in
     let size = one_signed (is_negative 52 11 p) (is_below_0 n) (32 * (significand 52 11 p * 2 ^ power 52 11 p)) (unsigned_abs n * 2 ^ 1075) exact in
     let sign = one_sign (is_negative 52 11 p) (is_below_0 n) (32 * (significand 52 11 p * 2 ^ power 52 11 p)) (unsigned_abs n * 2 ^ 1075) (omega arith) exact in
     let unsigned = one_size 52 1023 (unsigned_abs n) (exponent 52 11 p) (p % 2 ^ 52) (omega arith) some few (omega (arith, top_bit_most 32 (unsigned_abs n) 32 some few)) (omega arith) size in
