@@ -15,3 +15,5 @@ pub mod Step
 pub mod Run
 pub mod Causes
 pub mod Headline
+pub mod Plain
+pub mod PlainSight

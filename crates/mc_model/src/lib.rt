@@ -10,7 +10,10 @@ mod cause;
 mod laws;
 mod name;
 mod notes;
+pub mod plain;
 mod stage;
+#[cfg(test)]
+mod tests;
 
 pub use cause::{Cause, Refusal};
 pub use name::Name;
