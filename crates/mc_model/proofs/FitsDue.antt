@@ -69,7 +69,10 @@ wave_within v half some = let below = rest_below v (2 * half) (omega (arith, som
 
 pub spawn_low : (terrain : Terrain) → spawn_height terrain < 100
 spawn_low Flat = omega arith
-spawn_low (Hills seed) = (let x = wave_within (pos 8 +ℤ pos (seed % 128)) 64 (omega arith) in let z = wave_within (pos 8 +ℤ pos (seed / 128 % 96)) 48 (omega arith) in omega (arith, x, z))
+spawn_low (Hills seed) =
+    let x = wave_within (pos 8 +ℤ pos (seed % 128)) 64 (omega arith) in
+    let z = wave_within (pos 8 +ℤ pos (seed / 128 % 96)) 48 (omega arith) in
+    omega (arith, x, z)
 spawn_low Isle = omega arith
 
 pub spawn_fits : (terrain : Terrain) → SpotFits (spawn_spot terrain)

@@ -39,7 +39,8 @@ unfolding text_spelling
 text_size most text small few = at_most_joined 5 most _ text (varint_size (pos (length text)) (record { sfits = omega (arith, few, small) })).1 few
 
 -- a packet whose fields are not too many bytes is a payload
-pub spelling_payload : {P : Type 0} (entry : Entry P) → Fits entry → AtMost 2000000 (entry.row.format.spelling entry.fields) → IsPayload (spelling entry)
+pub spelling_payload : {P : Type 0} (entry : Entry P) → Fits entry → AtMost 2000000 (entry.row.format.spelling entry.fields)
+    → IsPayload (spelling entry)
 spelling_payload entry fits few =
     let id = varint_size (pos entry.row.id) (record { sfits = fits.0 }) in
     let all = length-append (varint_spelling (pos entry.row.id)) (entry.row.format.spelling entry.fields) in

@@ -32,4 +32,5 @@ refusal_clear reason s =
 pub success_clear : (uuid name : List ℕ) → IsShort 36 uuid → IsShort 16 name → IsClear for_login (of_login (Success uuid name))
 success_clear uuid name u n =
     let fits : login.FitsLoginDown (Success uuid name) = (lit< tt, (short_fits 36 uuid (lit< tt) u, short_fits 16 name (lit< tt) n)) in
-    (fits, spelling_payload (login.entry_of (Success uuid name)) fits (few_bytes 62 _ (omega arith) (at_most_joined 41 21 _ _ (text_size 36 uuid (omega arith) u.few) (text_size 16 name (omega arith) n.few))))
+    let size = at_most_joined 41 21 _ _ (text_size 36 uuid (omega arith) u.few) (text_size 16 name (omega arith) n.few) in
+    (fits, spelling_payload (login.entry_of (Success uuid name)) fits (few_bytes 62 _ (omega arith) size))

@@ -69,17 +69,20 @@ status_parts most online = refl
 short_number : (n : ℕ) → n ≤ 50 → IsShort 2 (decimal n)
 short_number n small = record { ascii = IsAscii-decimal n (omega arith); few = length-decimal-le 2 n (omega arith) (omega arith) (omega arith) }
 
-short_around : (most online protocol : List ℕ) → IsShort 2 most → IsShort 2 online → IsShort 2 protocol → IsShort 200 (status_around most online protocol)
+short_around : (most online protocol : List ℕ) → IsShort 2 most → IsShort 2 online → IsShort 2 protocol
+    → IsShort 200 (status_around most online protocol)
 short_around most online protocol m o p =
     short_less _ 200 _ (leb-true 110 200 refl) (
     short_joined 53 57 _ _ (short_where 53 (codes "{\"description\":{\"text\":\"craft47\"},\"players\":{\"max\":") refl) (
     short_joined 15 42 _ _
     (short_joined 2 13 _ _ m (short_joined 10 3 _ _ (short_where 10 (codes ",\"online\":") refl) (short_joined 2 1 _ _ o (short_where 1 (codes "}") refl))))
-    (short_joined 38 4 _ _ (short_where 38 (codes ",\"version\":{\"name\":\"1.8\",\"protocol\":") refl) (short_joined 3 1 _ _ (short_joined 2 1 _ _ p (short_where 1 (codes "}") refl)) (short_where 1 (codes "}") refl)))))
+    (short_joined 38 4 _ _ (short_where 38 (codes ",\"version\":{\"name\":\"1.8\",\"protocol\":") refl)
+    (short_joined 3 1 _ _ (short_joined 2 1 _ _ p (short_where 1 (codes "}") refl)) (short_where 1 (codes "}") refl)))))
 
 pub status_short : (most online : ℕ) → most ≤ 50 → online ≤ 50 → IsShort 200 (status_json most online)
 status_short most online few fewer =
-    subst (IsShort 200) (sym (status_parts most online)) (short_around (decimal most) (decimal online) (decimal 47) (short_number most few) (short_number online fewer) (short_number 47 (leb-true 47 50 refl)))
+    subst (IsShort 200) (sym (status_parts most online))
+    (short_around (decimal most) (decimal online) (decimal 47) (short_number most few) (short_number online fewer) (short_number 47 (leb-true 47 50 refl)))
 
 -- ---- last words
 
@@ -157,15 +160,15 @@ between_low low high n small t = let le = leb-true n high (both_true (nat_le low
 
 name_byte_low : (b : ℕ) → is_name_byte b ≡ true → b < 128
 name_byte_low b t = elim (either (is_between 48 57 b || is_between 65 90 b || is_between 97 122 b) (b == 95) t) [
-      | inr last ↦ (let is = eqb-true b 95 last in omega (arith, is))
-      | inl some ↦ elim (either (is_between 48 57 b || is_between 65 90 b) (is_between 97 122 b) some) [
-          | inr small ↦ between_low 97 122 b (omega arith) small
-          | inl some ↦ elim (either (is_between 48 57 b) (is_between 65 90 b) some) [
-              | inl digit ↦ between_low 48 57 b (omega arith) digit
-              | inr large ↦ between_low 65 90 b (omega arith) large
-            ]
-        ]
+  | inr last ↦ (let is = eqb-true b 95 last in omega (arith, is))
+  | inl some ↦ elim (either (is_between 48 57 b || is_between 65 90 b) (is_between 97 122 b) some) [
+    | inr small ↦ between_low 97 122 b (omega arith) small
+    | inl some ↦ elim (either (is_between 48 57 b) (is_between 65 90 b) some) [
+      | inl digit ↦ between_low 48 57 b (omega arith) digit
+      | inr large ↦ between_low 65 90 b (omega arith) large
     ]
+  ]
+]
 
 name_low : (text : List ℕ) → list_all is_name_byte text ≡ true → IsAscii text
 name_low [] t i = omega arith

@@ -37,7 +37,8 @@ Hears ear [] end = ear ≡ end
 Hears ear (packet ∷ packets) end = IsClear ear packet × Hears (ear_after ear packet) packets end
 
 -- some and then others
-pub hears_more : (ear middle end : Ear) (packets others : List Sent) → Hears ear packets middle → Hears middle others end → Hears ear (packets ++ others) end
+pub hears_more : (ear middle end : Ear) (packets others : List Sent) → Hears ear packets middle → Hears middle others end
+    → Hears ear (packets ++ others) end
 hears_more ear middle end [] others h later = let P : Ear → Type 0 = λ e. Hears e others end in subst P (sym h) later
 hears_more ear middle end (packet ∷ packets) others h later = (h.0, hears_more (ear_after ear packet) middle end packets others h.1 later)
 
@@ -74,7 +75,8 @@ heard_again : (ear end : Ear) (packets : List Sent) → Hears ear packets end �
 heard_again ear end [] h = refl
 heard_again ear end (packet ∷ packets) h = rw (clear_heard ear packet h.0, heard_again (ear_after ear packet) end packets h.1) refl
 
-framed_again : (ear end : Ear) (packets : List Sent) → Hears ear packets end → SpellsFrames (map payload_of packets) (bytes_of packets)
+framed_again : (ear end : Ear) (packets : List Sent) → Hears ear packets end
+    → SpellsFrames (map payload_of packets) (bytes_of packets)
 framed_again ear end [] h = refl
 framed_again ear end (packet ∷ packets) h =
     (frame_of packet, bytes_of packets, refl, rw (framed packet) (frame_spelled (payload_of packet) (clear_payload ear packet h.0)), framed_again (ear_after ear packet) end packets h.1)
