@@ -32,6 +32,7 @@ cut_worked_out (suc fuel) count bytes less fits = step (frame_read bytes) refl (
       ends = stopped_ends stop.kind (count + 0) (kept_count count) bytes (ap kept_count (omega arith)) (frame_stopped bytes stop fits is);
     }
 
+-- with as much as is enough
 pub cut_of_bytes : (count : ℕ) (bytes : List ℕ) → IsBytes bytes → IsCutAt count bytes (cut_of count bytes)
 unfolding cut_of
 cut_of_bytes count bytes fits = cut_worked_out (suc (length bytes)) count bytes (omega arith) fits

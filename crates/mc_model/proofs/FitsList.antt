@@ -31,18 +31,22 @@ pub record PlayerFits (action : ℤ) (p : Player) : Type 0 where
   pub fits : (player_wire action).fits p
   pub few : AtMost 60 ((player_wire action).spelling p)
 
+-- small numbers have a VarInt
 small_varint : (n : ℕ) → n < 100 → FitsVarint 5 (pos n)
 small_varint n small = varint-fits (pos n) (record { sfits = omega (arith, small) })
 
+-- of five bytes at most
 varint_few : (n : ℕ) → n < 100 → AtMost 5 (varint_spelling (pos n))
 varint_few n small = (varint_size (pos n) (record { sfits = omega (arith, small) })).1
 
+-- a player that leaves has a spelling
 leaver_fits : (e : ℕ × List ℕ) → PairFits e → PlayerFits (pos 4) (leaver e)
 leaver_fits e f = record {
   fits = (tt, (f.uuid, (refl, tt)));
   few = at_most_less 16 60 _ (omega arith) (at_most_joined 16 0 _ [] (number_size w128 wide_128 e.0) (omega arith));
 }
 
+-- a player that joins has one
 joiner_fits : (e : ℕ × List ℕ) → PairFits e → PlayerFits (pos 0) (joiner e)
 joiner_fits e f =
     let zero_ = small_varint 0 (omega arith) in
@@ -60,11 +64,13 @@ joiner_fits e f =
 
 -- ---- a packet about some players
 
+-- all of them have one
 all_fit : (action : ℤ) (players : List Player) → AllByRecursion (PlayerFits action) players
     → AllFit (player_wire action).fits players
 all_fit action [] f = tt
 all_fit action (p ∷ players) f = (f.0.fits, all_fit action players f.1)
 
+-- of 60 bytes each at most
 all_few : (action : ℤ) (players : List Player) → AllByRecursion (PlayerFits action) players
     → AtMost (length players * 60) (all_spelling (player_wire action).spelling players)
 all_few action [] f = omega arith
@@ -73,6 +79,7 @@ all_few action (p ∷ players) f =
     let later = all_few action players f.1 in
     omega (arith, here, later, length-append ((player_wire action).spelling p) (all_spelling (player_wire action).spelling players))
 
+-- a packet about 50 players at most
 list_clear : (action : ℕ) (players : List Player) → is_action (pos action) ≡ true → action < 100 → length players ≤ 50
     → AllByRecursion (PlayerFits (pos action)) players → IsClear for_play (of_play (PlayerList (pos action) players))
 list_clear action players is small few f =
@@ -86,20 +93,24 @@ list_clear action players is small few f =
 abbrev pub AreClear : List Down → Type 0
 AreClear packets = AllByRecursion (λ (packet : Down). IsClear for_play (of_play packet)) packets
 
+-- that packet, or none about nobody
 about_clear : (action : ℕ) (players : List Player) → is_action (pos action) ≡ true → action < 100 → length players ≤ 50
     → AllByRecursion (PlayerFits (pos action)) players → AreClear (about (pos action) players)
 about_clear action [] is small few f = tt
 about_clear action (p ∷ players) is small few f = (list_clear action (p ∷ players) is small few f, tt)
 
+-- what holds of all holds of what is made of all
 mapped : (P : ℕ × List ℕ → Type 0) (Q : Player → Type 0) (f : ℕ × List ℕ → Player) → ((e : ℕ × List ℕ) → P e → Q (f e))
     → (es : List (ℕ × List ℕ)) → AllByRecursion P es → AllByRecursion Q (map f es)
 mapped P Q f each [] a = tt
 mapped P Q f each (e ∷ es) a = (each e a.0, mapped P Q f each es a.1)
 
+-- the packet about those that left
 pub leavers_clear : (es : List (ℕ × List ℕ)) → length es ≤ 50 → AllByRecursion PairFits es
     → AreClear (about (pos 4) (map leaver es))
 leavers_clear es few f = about_clear 4 (map leaver es) refl (omega arith) (rw (length-map es leaver) few) (mapped PairFits (PlayerFits (pos 4)) leaver leaver_fits es f)
 
+-- the packet about those that joined
 pub joiners_clear : (es : List (ℕ × List ℕ)) → length es ≤ 50 → AllByRecursion PairFits es
     → AreClear (about (pos 0) (map joiner es))
 joiners_clear es few f = about_clear 0 (map joiner es) refl (omega arith) (rw (length-map es joiner) few) (mapped PairFits (PlayerFits (pos 0)) joiner joiner_fits es f)

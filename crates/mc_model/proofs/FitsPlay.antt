@@ -14,6 +14,7 @@ use Rattle.mc_model.proofs.Hears.{IsClear}
 use Rattle.mc_model.proofs.FitsText.{IsShort, short_fits, short_less}
 use Rattle.mc_model.proofs.FitsSize.{AtMost, few_bytes, at_most_joined, text_size, number_size, spelling_payload}
 
+-- JoinGame
 pub join_clear : (eid most : ℕ) (level : List ℕ) → eid < 2 ^ 31 → most ≤ 50 → IsShort 10 level
     → IsClear for_play (of_play (JoinGame (pos eid) 0 (pos 0) 1 most level false))
 join_clear eid most level small few s =
@@ -29,6 +30,7 @@ join_clear eid most level small few s =
     at_most_joined 15 1 _ _ (text_size 10 level (omega arith) s.few) (number_size w8 wide_8 (bool_byte false))))))) in
     (fits, spelling_payload (entry_of (JoinGame (pos eid) 0 (pos 0) 1 most level false)) fits (few_bytes 24 _ (omega arith) size))
 
+-- SpawnPosition
 pub spawn_clear : (height : ℕ) → height < 2 ^ 11
     → IsClear for_play (of_play (SpawnPosition (record { x = pos 8; y = pos height; z = pos 8 })))
 spawn_clear height small =
@@ -36,6 +38,7 @@ spawn_clear height small =
     let fits : FitsDown (SpawnPosition (record { x = pos 8; y = pos height; z = pos 8 })) = (lit< tt, (record { x = lit< tt; y = small; z = lit< tt }, omega (arith, small))) in
     (fits, spelling_payload (entry_of (SpawnPosition cell)) fits (few_bytes 8 _ (omega arith) (number_size w64 wide_64 (pack cell))))
 
+-- PositionLook
 pub place_clear : (x y z yaw pitch : ℕ) → x < 2 ^ 64 → y < 2 ^ 64 → z < 2 ^ 64 → yaw < 2 ^ 32 → pitch < 2 ^ 32
     → IsClear for_play (of_play (PositionLook x y z yaw pitch (pos 0)))
 place_clear x y z yaw pitch at_x at_y at_z at_yaw at_pitch =
@@ -48,6 +51,7 @@ place_clear x y z yaw pitch at_x at_y at_z at_yaw at_pitch =
     at_most_joined 4 1 _ _ (number_size w32 wide_32 pitch) (number_size w8 wide_8 (cast_unsigned w8 (pos 0))))))) in
     (fits, spelling_payload (entry_of (PositionLook x y z yaw pitch (pos 0))) fits (few_bytes 33 _ (omega arith) size))
 
+-- Disconnect
 pub leave_clear : (reason : List ℕ) → IsShort 200 reason → IsClear for_play (of_play (Disconnect reason))
 leave_clear reason s =
     let fits : FitsDown (Disconnect reason) = (lit< tt, short_fits 32767 reason (lit< tt) (short_less 200 32767 reason (omega arith) s)) in

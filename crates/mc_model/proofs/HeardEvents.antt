@@ -60,6 +60,7 @@ heeded_kept k j w s t earlier e h sound kept = step (j == k) refl
           heard = kept.heard;
         }))
 
+-- bytes that came
 bytes_steps : (k j : ℕ) (w : World) (bytes : List ℕ) (earlier : List Sent) → IsBytes bytes → Sound w → Kept k w earlier
     → Steps k (on_bytes w j bytes).world (earlier ++ to k ((j, (on_bytes w j bytes).handed) ∷ []))
 bytes_steps k j w bytes earlier b sound kept = step (found j w.sessions) refl
@@ -86,6 +87,7 @@ abbrev pub IsEvent : Event → Type 0
 IsEvent (came k bytes) = IsBytes bytes
 IsEvent other = Unit {0}
 
+-- whatever the event is
 pub event_steps : (k : ℕ) (w : World) (e : Event) (earlier : List Sent) → IsEvent e → Sound w → Kept k w earlier
     → Steps k (step w e).world (earlier ++ to k (step w e).out)
 unfolding step
@@ -96,6 +98,7 @@ event_steps k w ticked earlier b sound kept = tick_steps k w earlier sound kept
 event_steps k w (took j n) earlier b sound kept = took_steps k j n w earlier sound kept
 event_steps k w (forgot j) earlier b sound kept = filter_steps k w (λ (s : Session). not (s.id == j && is_done s)) earlier sound kept
 
+-- bytes of all events are bytes of the first and of the others
 first_bytes : (e : Event) (events : List Event) → AreBytes (e ∷ events) → IsEvent e × AreBytes events
 first_bytes (joined j) events b = (tt, b)
 first_bytes (came j bytes) events b = b
@@ -104,6 +107,7 @@ first_bytes ticked events b = (tt, b)
 first_bytes (took j n) events b = (tt, b)
 first_bytes (forgot j) events b = (tt, b)
 
+-- a run
 run_heard : (k : ℕ) (events : List Event) (w : World) (earlier : List Sent) → AreBytes events → Sound w → Kept k w earlier
     → AreHeard (earlier ++ handed k w events)
 run_heard k [] w earlier b sound kept = subst AreHeard (sym (append-nil earlier)) kept.heard
@@ -113,12 +117,15 @@ run_heard k (e ∷ events) w earlier b sound kept =
     subst AreHeard (append_assoc earlier (to k (step w e).out) (handed k (step w e).world events))
     (run_heard k events (step w e).world (earlier ++ to k (step w e).out) parts.1 s.sound s.kept)
 
+-- a new world is sound
 new_sound : (most cap : ℕ) (terrain : Terrain) → AreSettings most cap → Sound (new_world most cap terrain)
 new_sound most cap terrain settings = record { settings = settings; eids = omega arith; apart = tt; fresh = λ k new. refl; few = omega arith; fits = tt }
 
+-- in it nothing was handed to anybody
 new_kept : (k most cap : ℕ) (terrain : Terrain) → Kept k (new_world most cap terrain) []
 new_kept k most cap terrain = record { here = λ s there. absurd (some_none s None there refl); early = λ new. refl; heard = record { ear = for_status; end = for_status; hears = refl } }
 
+-- what was handed to a connection is heard in its bytes
 pub stream_heard : (most cap : ℕ) (terrain : Terrain) (events : List Event) (k : ℕ) → AreSettings most cap → AreBytes events
     → (ear : Ear) × IsHeard ear (stream k (new_world most cap terrain) events) (handed k (new_world most cap terrain) events)
 stream_heard most cap terrain events k settings b =

@@ -26,6 +26,7 @@ record Joins (j : ℕ) (s : Session) : Type 0 where
   waits : is_play s.stage ≡ false
   fits : SessionFits s
 
+-- a connection of which nothing came can be told of
 new_fits : (j : ℕ) → SessionFits (new_session j)
 new_fits j = record {
   named = record { uuid = omega arith; name = none_short 16 };
@@ -35,6 +36,7 @@ new_fits j = record {
   rest = λ i. omega arith;
 }
 
+-- a connection that joined, or was one too many
 joins : (w : World) (j : ℕ) → Joins j (joining w j)
 joins w j = step (is_crowded w)
   where
@@ -47,17 +49,21 @@ new_before : (k j : ℕ) (last : Option ℕ) → is_new j last ≡ true → is_n
 new_before k j None new later = refl
 new_before k j (Some last) new later = lt-ltb last k (let a = ltb-true last j new in let b = ltb-true j k later in omega (arith, a, b))
 
+-- one that does not play changes nothing of how many play
 playing_pushed : (ss : List Session) (s : Session) → is_play s.stage ≡ false
     → length (playing (ss ++ s ∷ [])) ≡ length (playing ss)
 playing_pushed [] s waits = (let one = playing_more s [] in let none : one_if (is_play s.stage) ≡ 0 = ap one_if waits in omega (arith, one, none))
 playing_pushed (x ∷ xs) s waits = (let rest = playing_pushed xs s waits in omega (arith, rest, playing_more x (xs ++ s ∷ []), playing_more x xs))
 
+-- it is found under its own number alone
 found_pushed : (k j : ℕ) (s : Session) → s.id ≡ j → (j == k) ≡ false → found k (s ∷ []) ≡ None
 found_pushed k j s is other = (let P : ℕ → Type 0 = λ n. cond (n == k) (Some s) None ≡ None in subst P (sym is) (ap (λ (b : Bool). cond b (Some s) None) other))
 
+-- a number above it is another
 new_is_other : (k j : ℕ) → is_new k (Some j) ≡ true → (j == k) ≡ false
 new_is_other k j later = other_number j k (λ same. let less = ltb-true j k later in omega (arith, less, same))
 
+-- the world is sound with it
 pushed_sound : (w : World) (j : ℕ) (s : Session) → is_new j w.last ≡ true → Joins j s → Sound w
     → Sound (record w { last = Some j; sessions = w.sessions ++ s ∷ [] })
 pushed_sound w j s new facts sound =
@@ -72,6 +78,7 @@ pushed_sound w j s new facts sound =
       fits = all_joined SessionFits w.sessions (s ∷ []) sound.fits (facts.fits, tt);
     }
 
+-- and what was handed to each stays heard
 pushed_kept : (k : ℕ) (w : World) (j : ℕ) (s : Session) (earlier : List Sent) → is_new j w.last ≡ true → Joins j s → Sound w
     → Kept k w earlier → Kept k (record w { last = Some j; sessions = w.sessions ++ s ∷ [] }) earlier
 pushed_kept k w j s earlier new facts sound kept = record {
@@ -96,6 +103,7 @@ pushed_kept k w j s earlier new facts sound kept = record {
         subst R (one_some u t (found k (w.sessions ++ s ∷ [])) (found_before k w.sessions (s ∷ []) u is) there) (kept.here u is)
     here None is t there = last_one (s.id == k) t refl (sym (found_behind k w.sessions (s ∷ []) is) ∙ there)
 
+-- a join
 pub join_steps : (k j : ℕ) (w : World) (earlier : List Sent) → Sound w → Kept k w earlier → Steps k (join w j) (earlier ++ [])
 join_steps k j w earlier sound kept = subst (Steps k (join w j)) (sym (append-nil earlier)) (step (is_new j w.last) refl)
   where
@@ -106,6 +114,7 @@ join_steps k j w earlier sound kept = subst (Steps k (join w j)) (sym (append-ni
 
 -- ---- going
 
+-- of those that are left no more play
 few_left : (p : Session → Bool) (ss : List Session) → length (playing (filter p ss)) ≤ length (playing ss)
 few_left p [] = omega arith
 few_left p (x ∷ xs) = step (p x) (few_left p xs)
@@ -115,6 +124,7 @@ few_left p (x ∷ xs) = step (p x) (few_left p xs)
     step true le = omega (arith, le, playing_more x (filter p xs), playing_more x xs)
     step false le = omega (arith, le, playing_more x xs)
 
+-- some are taken out
 pub filter_steps : (k : ℕ) (w : World) (p : Session → Bool) (earlier : List Sent) → Sound w → Kept k w earlier
     → Steps k (record w { sessions = filter p w.sessions }) (earlier ++ [])
 filter_steps k w p earlier sound kept = subst (Steps k (record w { sessions = filter p w.sessions })) (sym (append-nil earlier)) (record {

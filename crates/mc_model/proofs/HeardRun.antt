@@ -32,6 +32,7 @@ pub all_changed : (P : Session → Type 0) (f : Session → Session) → ((s : S
 all_changed P f each [] a = tt
 all_changed P f each (s ∷ ss) a = (each s a.0, all_changed P f each ss a.1)
 
+-- each connection changed, and was handed something that it can be
 pub kept_mapped : (k : ℕ) (w : World) (f : Session → Session) (earlier packets : List Sent) → ((s : Session) → (f s).id ≡ s.id)
     → ((s : Session) → found k w.sessions ≡ Some s → Speaks s.stage (f s).stage packets)
     → (found k w.sessions ≡ None → packets ≡ []) → Sound w → Kept k w earlier
@@ -60,6 +61,7 @@ kept_mapped k w f earlier packets keeps speaks none sound kept = step (found k w
 
 -- ---- one connection changed
 
+-- a change of one keeps the numbers
 one_keeps : (j : ℕ) (f : Session → Session) → ((s : Session) → (f s).id ≡ s.id) → (s : Session)
     → (if s.id == j then f s else s).id ≡ s.id
 one_keeps j f keeps s = step (s.id == j)
@@ -92,6 +94,7 @@ changed_steps k j w f earlier keeps stays fits speaks sound kept = record {
     speaks_one s true = speaks s
     speaks_one s false = speaks_same s.stage
 
+-- a client that left
 pub gone_steps : (k j : ℕ) (w : World) (earlier : List Sent) → Sound w → Kept k w earlier
     → Steps k (changed w j gone) (earlier ++ [])
 gone_steps k j w earlier sound kept =
@@ -116,6 +119,7 @@ gone_steps k j w earlier sound kept =
     speaks s true = speaks_same s.stage
     speaks s false = speaks_shut s.stage
 
+-- bytes that were taken
 pub took_steps : (k j n : ℕ) (w : World) (earlier : List Sent) → Sound w → Kept k w earlier
     → Steps k (changed w j (λ (s : Session). record s { owed = drop n s.owed })) (earlier ++ [])
 took_steps k j n w earlier sound kept = changed_steps k j w (λ (s : Session). record s { owed = drop n s.owed }) earlier (λ s. refl) (λ s p. p)

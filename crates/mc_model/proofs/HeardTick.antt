@@ -16,6 +16,7 @@ use Rattle.mc_model.proofs.SoundPut.{sound_mapped}
 use Rattle.mc_model.proofs.Listens.{Speaks, speaks_same, speaks_shut, speaks_play}
 use Rattle.mc_model.proofs.HeardRun.{Kept, Steps, all_changed, kept_mapped}
 
+-- a flush keeps the number
 flush_id : (w : World) (s : Session) → (flush w s).session.id ≡ s.id
 flush_id w s = step (is_play s.stage)
   where
@@ -24,6 +25,7 @@ flush_id w s = step (is_play s.stage)
     step true = hand_cases (showing w s) (map of_play (due w s)) (λ (h : Handing). h.session.id ≡ s.id) (λ fits. refl) (λ much. refl)
     step false = refl
 
+-- who plays after a flush played before it
 flush_stays : (w : World) (s : Session) → is_play (flush w s).session.stage ≡ true → is_play s.stage ≡ true
 flush_stays w s = step (is_play s.stage) refl
   where
@@ -33,6 +35,7 @@ flush_stays w s = step (is_play s.stage) refl
     step true is plays = is
     step false is plays = plays
 
+-- it keeps what can be told
 flush_fits : (w : World) (s : Session) → Sound w → SessionFits s → SessionFits (flush w s).session
 flush_fits w s sound f = step (is_play s.stage)
   where
@@ -46,6 +49,7 @@ flush_fits w s sound f = step (is_play s.stage)
         (λ much. still_fits (showing w s) stages.Closed s.protocol (Some causes.Backlog) [] shown)
     step false = f
 
+-- and what it hands out is heard
 flush_speaks : (w : World) (s : Session) → Sound w → SessionFits s → Speaks s.stage (flush w s).session.stage (flush w s).handed
 flush_speaks w s sound f = step (is_play s.stage) refl
   where
@@ -58,9 +62,11 @@ flush_speaks w s sound f = step (is_play s.stage) refl
         (λ much. speaks_shut s.stage)
     step false is = speaks_same s.stage
 
+-- the world of a tick is sound
 tick_sound : (w : World) → Sound w → Sound (at_tick w)
 tick_sound w sound = record { settings = sound.settings; eids = sound.eids; apart = sound.apart; fresh = sound.fresh; few = sound.few; fits = sound.fits }
 
+-- a tick
 pub tick_steps : (k : ℕ) (w : World) (earlier : List Sent) → Sound w → Kept k w earlier
     → Steps k (tick w).world (earlier ++ to k (tick w).out)
 tick_steps k w earlier sound kept = record {
@@ -69,7 +75,7 @@ tick_steps k w earlier sound kept = record {
   kept = kept_mapped k (at_tick w) (λ (s : Session). (flush (at_tick w) s).session) earlier (to k (tick w).out) (flush_id (at_tick w))
       (λ s e. (let P : List Sent → Type 0 = λ ps. Speaks s.stage (flush (at_tick w) s).session.stage ps in
       subst P (sym (to_found k (λ (t : Session). (flush (at_tick w) t).handed) w.sessions s sound.apart e))
-        (flush_speaks (at_tick w) s (tick_sound w sound) (all_found SessionFits k w.sessions s sound.fits e))))
+      (flush_speaks (at_tick w) s (tick_sound w sound) (all_found SessionFits k w.sessions s sound.fits e))))
       (λ none. to_none k (λ (t : Session). (flush (at_tick w) t).handed) w.sessions none)
       (tick_sound w sound) (record { here = kept.here; early = kept.early; heard = kept.heard });
 }

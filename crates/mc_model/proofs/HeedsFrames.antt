@@ -28,6 +28,7 @@ use Rattle.mc_model.proofs.Heeds.{Heeds, heeds_still, heeds_put, heeds_hand, hee
 
 -- ---- one frame
 
+-- a client that wants to enter
 login_heeds : (k : ℕ) (w : World) (s : Session) (name : List ℕ) (o : Option Refusal) → refusal w s.protocol name ≡ o → Sound w
     → found k w.sessions ≡ Some s → SessionFits s → s.stage ≡ stages.Login → Heeds k w s (answer_login w s name o)
 login_heeds k w s name (Some why) is sound e f at =
@@ -38,6 +39,7 @@ login_heeds k w s name None is sound e f at =
     heeds_hand k w (w.eids + 1) s (entered w s name) (accepted (offline_uuid name) name) sound e (found_id k w.sessions s e) (entered_fits w s name welcome f)
     (omega (arith, welcome.numbers)) (λ plays. inr welcome.room) (subst P (sym at) (speaks_welcome (offline_uuid name) name welcome.named))
 
+-- a player that did something
 acted_heeds : (k : ℕ) (w : World) (s : Session) (packet : PlayUp) (o : Option World) → act w s packet ≡ o → Sound w
     → found k w.sessions ≡ Some s → SessionFits s → Heeds k w s (acted w s o)
 acted_heeds k w s packet None did sound e f = heeds_farewell k w s causes.BadNumber sound e f
@@ -52,6 +54,7 @@ acted_heeds k w s packet (Some v) did sound e f =
           (λ plays. inl (subst R (sym a.stays.stage) (λ p. p) plays)) (subst Q (sym a.stays.stage) (speaks_same s.stage)))
     ]
 
+-- whatever the frame comes to
 pub performed_heeds : (k : ℕ) (w : World) (s : Session) (x : Said) → Sound w → found k w.sessions ≡ Some s → SessionFits s
     → Suits s.stage x → IsAnswered x → Heeds k w s (perform w s x)
 performed_heeds k w s nothing sound e f fit answer = heeds_still k w s sound e
@@ -70,6 +73,7 @@ performed_heeds k w s (enters name) sound e f fit answer = login_heeds k w s nam
 performed_heeds k w s (acts packet) sound e f fit answer = acted_heeds k w s packet (act w s packet) refl sound e f
 performed_heeds k w s (wrong fault) sound e f fit answer = heeds_farewell k w s (causes.Packet fault) sound e f
 
+-- a frame
 frame_heeds : (k : ℕ) (w : World) (s : Session) (frame : List ℕ) → Sound w → found k w.sessions ≡ Some s → IsBytes frame
     → Heeds k w s (on_frame w k frame)
 unfolding on_frame
@@ -83,6 +87,7 @@ frame_heeds k w s frame sound e bytes =
         (suits s.stage w.most (length (players w)) frame)
         (said_answered s.stage w.most (length (players w)) frame sound.settings.few (omega (arith, sound.few, sound.settings.few)) bytes)
 
+-- a length that no frame has
 fault_heeds : (k : ℕ) (w : World) (s : Session) (fault : Option FrameFault) → Sound w → found k w.sessions ≡ Some s
     → Heeds k w s (on_fault w k fault)
 fault_heeds k w s None sound e = heeds_still k w s sound e
@@ -97,6 +102,7 @@ fault_heeds k w s (Some fault) sound e =
 
 -- ---- one after another
 
+-- two turns, one after the other
 heeds_onward : (k : ℕ) (w : World) (s : Session) (t : Turn) (later : World → Turn) → Heeds k w s t
     → ((u : Session) → Sound t.world → found k t.world.sessions ≡ Some u → Heeds k t.world u (later t.world))
     → Heeds k w s (after t later)
@@ -110,6 +116,7 @@ heeds_onward k w s t later first next =
       speaks = speaks_onward s.stage first.session.stage l.session.stage t.handed (later t.world).handed first.speaks l.speaks;
     }
 
+-- frames, one after another
 frames_heed : (k : ℕ) (frames : List (List ℕ)) (w : World) (s : Session) → Sound w → found k w.sessions ≡ Some s
     → AllByRecursion IsBytes frames → Heeds k w s (on_frames w k frames)
 frames_heed k [] w s sound e bytes = heeds_still k w s sound e
@@ -119,18 +126,20 @@ frames_heed k (frame ∷ frames) w s sound e bytes =
 
 -- ---- bytes
 
+-- what bytes were cut into
 cut_heeds : (k : ℕ) (w : World) (s : Session) (count : ℕ) (cut : Cut) → Sound w → found k w.sessions ≡ Some s → SessionFits s
     → AllByRecursion IsBytes cut.frames → IsBytes cut.rest → Heeds k w s (on_cut w s count cut)
 cut_heeds k w s count cut sound e f frames rest =
     let P : ℕ → Type 0 = λ n. Heeds k w s (after (on_frames (put w (read_to s cut count)) n cut.frames) (λ (v : World). on_fault v n cut.fault)) in
     let read = heeds_put k w w.eids s (read_to s cut count) [] sound e (found_id k w.sessions s e)
-      (rest_fits s cut.rest (s.before + (count - length cut.rest)) rest f) sound.eids (λ plays. inl plays) (speaks_same s.stage) in
+    (rest_fits s cut.rest (s.before + (count - length cut.rest)) rest f) sound.eids (λ plays. inl plays) (speaks_same s.stage) in
     subst P (sym (found_id k w.sessions s e))
     (heeds_onward k w s (still (put w (read_to s cut count))) (λ (v : World). after (on_frames v k cut.frames) (λ (u : World). on_fault u k cut.fault)) read
     (λ u sound' there. heeds_onward k (put w (read_to s cut count)) u (on_frames (put w (read_to s cut count)) k cut.frames) (λ (v : World). on_fault v k cut.fault)
     (frames_heed k cut.frames (put w (read_to s cut count)) u sound' there frames)
     (λ t sound'' at. fault_heeds k (on_frames (put w (read_to s cut count)) k cut.frames).world t cut.fault sound'' at)))
 
+-- bytes that came
 pub bytes_heed : (k : ℕ) (w : World) (s : Session) (bytes : List ℕ) → Sound w → found k w.sessions ≡ Some s → IsBytes bytes
     → Heeds k w s (on_bytes w k bytes)
 unfolding on_bytes

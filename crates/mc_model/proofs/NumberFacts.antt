@@ -27,9 +27,11 @@ div_floor negative size bottom some =
     same (pos a) = refl
     same (negsuc a) = refl
 
+-- what is there is one thing
 some_is : {A : Type 0} (a b : A) → ◌≡◌ {A = Option A} (Some a) (Some b) → a ≡ b
 some_is a b e = cc
 
+-- a binary64 pattern
 pub fixes : (p : ℕ) (n : ℤ) → fixed_of p ≡ Some n → Fixes p n
 unfolding fixed_of
 fixes p n e = step (exponent 52 11 p == 2047) e
@@ -45,14 +47,17 @@ fixes p n e = step (exponent 52 11 p == 2047) e
       held = sym (some_is (held floor) n e);
     }
 
+-- where nothing is there, the test passed
 none_where : {A : Type 0} (t : Bool) (a : A) → (if t then None else Some a) ≡ None → t ≡ true
 none_where true a e = refl
 none_where false a e = absurd cc
 
+-- there is none exactly where it stands for no number
 pub endless : (p : ℕ) → fixed_of p ≡ None ↔ IsEndless p
 unfolding fixed_of
 endless p = (λ e. eqb-true (exponent 52 11 p) 2047 (none_where (exponent 52 11 p == 2047) _ e), λ is. rw (eq-eqb (exponent 52 11 p) 2047 is) refl)
 
+-- a binary32 pattern
 pub turns : (p a : ℕ) → turn_of p ≡ Some a → Turns p a
 unfolding turn_of
 turns p a e = step (exponent 23 8 p == 255 || nat_le (2 ^ 31 * 2 ^ 150) (significand 23 8 p * 2 ^ power 23 8 p)) e
@@ -72,10 +77,12 @@ turns p a e = step (exponent 23 8 p == 255 || nat_le (2 ^ 31 * 2 ^ 150) (signifi
       rest = ap pos (sym (some_is (unsigned_abs (int_rem_euclid floor (pos 256))) a e)) ∙ rest_is floor (pos 256);
     }
 
+-- one of two tests passed
 either : (a b : Bool) → (a || b) ≡ true → (a ≡ true) ⊎ (b ≡ true)
 either true b e = inl refl
 either false b e = inr e
 
+-- the second of two tests passed
 or_second : (a b : Bool) → b ≡ true → (a || b) ≡ true
 or_second true b e = refl
 or_second false b e = e
@@ -94,6 +101,7 @@ vast_where e most size a = (
   ]),
 )
 
+-- there is none exactly where it is vast
 pub vast : (p : ℕ) → turn_of p ≡ None ↔ IsVast p
 unfolding turn_of
 vast p = vast_where (exponent 23 8 p) (2 ^ 31 * 2 ^ 150) (significand 23 8 p * 2 ^ power 23 8 p) _
@@ -114,6 +122,7 @@ record IsSignificand (n place top : ℕ) : Type 0 where
   least : 2 ^ place ≤ n * 2 ^ (place - top)
   most : n * 2 ^ (place - top) < 2 * 2 ^ place
 
+-- its highest bit comes to the top of the fraction
 significand_is : (n place most : ℕ) → 0 < n → n < 2 ^ suc most → most ≤ place → most ≤ 32 → IsSignificand n place (top_bit 32 n)
 significand_is n place most some small within few =
     let below = top_bit_below 32 n most small in
@@ -131,10 +140,12 @@ some_pattern : (fraction bias n : ℕ) → 0 < n
     → pattern_with fraction bias n ≡ (bias - 6 + top_bit 32 n) * 2 ^ fraction + n * 2 ^ (fraction - top_bit 32 n)
 some_pattern fraction bias n some = rw (ne_eqb n 0 (omega (arith, some))) refl
 
+-- 0
 zero_stands : StandsFor (pos 0) (pattern_of (pos 0))
 unfolding pattern_of
 zero_stands = record { ends = omega arith; exact = refl }
 
+-- above 0
 positive_stands : (n : ℕ) → 0 < n → n < 2 ^ 31 → StandsFor (pos n) (pattern_with 52 1023 n + 0)
 positive_stands n some small =
     let s = significand_is n 52 30 some small (omega arith) (omega arith) in
@@ -143,6 +154,7 @@ positive_stands n some small =
     omega (arith, some_pattern 52 1023 n some, s.least) in
     subst (StandsFor (pos n)) is (stands_positive n (top_bit 32 n) (n * 2 ^ (52 - top_bit 32 n)) s.least s.most (omega (arith, top)) refl)
 
+-- below 0
 negative_stands : (n : ℕ) → n < 2 ^ 31 → suc n < 2 ^ 31 → StandsFor (negsuc n) (pattern_with 52 1023 (suc n) + 2 ^ 63)
 negative_stands n less small =
     let s = significand_is (suc n) 52 30 (omega arith) small (omega arith) (omega arith) in
@@ -151,16 +163,19 @@ negative_stands n less small =
     omega (arith, some_pattern 52 1023 (suc n) (omega arith), s.least) in
     subst (StandsFor (negsuc n)) is (stands_negative (suc n) (top_bit 32 (suc n)) (suc n * 2 ^ (52 - top_bit 32 (suc n))) s.least s.most (omega (arith, top)) refl)
 
+-- the pattern of a whole number stands for it
 pub pattern_stands : (n : ℤ) → unsigned_abs n < 2 ^ 31 → StandsFor n (pattern_of n)
 unfolding pattern_of
 pattern_stands (pos zero) small = zero_stands
 pattern_stands (pos (suc n)) small = positive_stands (suc n) (omega arith) small
 pattern_stands (negsuc n) small = negative_stands n (omega (arith, small)) small
 
+-- no turn
 no_turn_stands : StandsForTurn 0 (degrees_of 0)
 unfolding degrees_of
 no_turn_stands = record { ends = omega arith; exact = refl }
 
+-- some turn
 some_turn_stands : (a : ℕ) → 0 < a → a < 256 → StandsForTurn a (pattern_with 23 127 (a * 45))
 some_turn_stands a some small =
     let less : a * 45 < 2 ^ suc 13 = omega (arith, small) in
@@ -170,6 +185,7 @@ some_turn_stands a some small =
     omega (arith, some_pattern 23 127 (a * 45) (omega (arith, some)), s.least) in
     subst (StandsForTurn a) is (stands_turn a (top_bit 32 (a * 45)) (a * 45 * 2 ^ (23 - top_bit 32 (a * 45))) s.least s.most (omega (arith, top)) refl)
 
+-- the pattern of an angle stands for it
 pub degrees_stand : (a : ℕ) → a < 256 → StandsForTurn a (degrees_of a)
 unfolding degrees_of
 degrees_stand zero small = no_turn_stands

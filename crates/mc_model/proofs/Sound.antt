@@ -34,10 +34,12 @@ pub still_fits : (s : Session) (stage : Stage) (protocol : ℤ) (cause : Option 
     → SessionFits (record s { stage = stage; protocol = protocol; cause = cause; owed = owed })
 still_fits s stage protocol cause owed f = record { named = f.named; eid = f.eid; spot = f.spot; shown = f.shown; rest = f.rest }
 
+-- after what changes its player's place
 pub place_fits : (s : Session) (asked : ℤ) (place : Spot) (notes : Noted) → SpotFits place → SessionFits s
     → SessionFits (record s { asked = asked; place = place; notes = notes })
 place_fits s asked place notes at f = record { named = f.named; eid = f.eid; spot = at; shown = f.shown; rest = f.rest }
 
+-- after bytes that came
 pub rest_fits : (s : Session) (rest : List ℕ) (before : ℕ) → IsBytes rest → SessionFits s
     → SessionFits (record s { rest = rest; before = before })
 rest_fits s rest before bytes f = record { named = f.named; eid = f.eid; spot = f.spot; shown = f.shown; rest = bytes }
@@ -64,6 +66,7 @@ all_found P k (x ∷ xs) s a e = step (x.id == k) e (λ later. all_found P k xs 
     step true here rest = subst P (one_some x s (Some x) refl here) a.0
     step false later rest = rest later
 
+-- in a sound world a projection fits
 pub sound_sight : (w : World) (s : Session) → Sound w → SessionFits s → SightFits (project w s)
 sound_sight w s sound f =
     project_fits w s
@@ -74,6 +77,7 @@ sound_sight w s sound f =
     kept [] a = tt
     kept (t ∷ ss) a = (a.0.named, kept ss a.1)
 
+-- the opening is clear
 opening_clear : (w : World) (s : Session) → Sound w → SessionFits s → AreClear (opening w s)
 opening_clear w s sound f = (
   join_clear s.eid w.most (level w.terrain) (omega (arith, f.eid)) sound.settings.few (level_short w.terrain),
@@ -100,6 +104,7 @@ due_clear w s sound f =
     noted true = (placing_clear s.place f.spot, tt)
     noted false = tt
 
+-- packets of play that are clear are heard by who plays
 pub clear_heard : (packets : List Down) → AreClear packets → Hears for_play (map of_play packets) for_play
 clear_heard [] a = refl
 clear_heard (packet ∷ packets) a = (a.0, clear_heard packets a.1)

@@ -14,6 +14,7 @@ use Rattle.mc_model.proofs.Sound.{SessionFits, Sound}
 abbrev pub replaced : ℕ → Session → List Session → List Session
 replaced k t ss = map (λ (u : Session). if u.id == k then t else u) ss
 
+-- where none is found none is replaced
 replaced_none : (k : ℕ) (t : Session) (ss : List Session) → found k ss ≡ None → replaced k t ss ≡ ss
 replaced_none k t [] e = refl
 replaced_none k t (x ∷ xs) e = step (x.id == k) e (λ later. replaced_none k t xs later)
@@ -30,6 +31,7 @@ playing ss = filter (λ (s : Session). is_play s.stage) ss
 abbrev pub one_if : Bool → ℕ
 one_if b = cond b 1 0
 
+-- one more connection
 pub playing_more : (s : Session) (ss : List Session) → length (playing (s ∷ ss)) ≡ one_if (is_play s.stage) + length (playing ss)
 playing_more s ss = step (is_play s.stage)
   where
@@ -60,6 +62,7 @@ playing_replaced k t s (x ∷ xs) a e = step (x.id == k) refl e (λ later. playi
 
 -- ---- one connection changed
 
+-- what holds of all and of the other holds then
 all_replaced : (P : Session → Type 0) (k : ℕ) (t : Session) (ss : List Session) → P t → AllByRecursion P ss
     → AllByRecursion P (replaced k t ss)
 all_replaced P k t [] p a = tt
@@ -69,14 +72,11 @@ all_replaced P k t (x ∷ xs) p a = (step (x.id == k), all_replaced P k t xs p a
     step true = p
     step false = a.0
 
-one_less : (b : Bool) → one_if b ≤ 1
-one_less true = omega arith
-one_less false = omega arith
-
 -- who enters play was in play, or there is room
 abbrev pub HasRoom : World → Session → Session → Type 0
 HasRoom w s t = is_play t.stage ≡ true → (is_play s.stage ≡ true) ⊎ (length (players w) < w.most)
 
+-- as many as may be in play
 few_after : (a b n m : ℕ) (old new : Bool) → a + one_if old ≡ b + one_if new → b ≤ m → (new ≡ true → (old ≡ true) ⊎ (b < m))
     → a ≤ m
 few_after a b n m true true e few room = omega (arith, e, few)
@@ -87,6 +87,7 @@ few_after a b n m false true e few room = elim (room refl) [
   | inr less ↦ omega (arith, e, less)
 ]
 
+-- a sound world with another in the place of one is sound
 pub sound_put : (w : World) (eids k : ℕ) (s t : Session) → Sound w → found k w.sessions ≡ Some s → t.id ≡ k → SessionFits t
     → eids ≤ 2147483647 → HasRoom w s t → Sound (put (record w { eids = eids }) t)
 sound_put w eids k s t sound e is fits small room =
@@ -103,6 +104,7 @@ sound_put w eids k s t sound e is fits small room =
 
 -- ---- each connection changed
 
+-- where nobody enters play, no more play
 few_mapped : (f : Session → Session) → ((s : Session) → is_play (f s).stage ≡ true → is_play s.stage ≡ true) → (ss : List Session)
     → length (playing (map f ss)) ≤ length (playing ss)
 few_mapped f stays [] = omega arith
@@ -116,6 +118,7 @@ few_mapped f stays (x ∷ xs) =
     fewer true false h = (let e = h refl in absurd cc)
     fewer false b h = omega arith
 
+-- a sound world with each connection changed is sound
 pub sound_mapped : (w : World) (f : Session → Session) → ((s : Session) → (f s).id ≡ s.id)
     → ((s : Session) → is_play (f s).stage ≡ true → is_play s.stage ≡ true) → AllByRecursion SessionFits (map f w.sessions)
     → Sound w → Sound (record w { sessions = map f w.sessions })
