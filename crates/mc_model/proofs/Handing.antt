@@ -1,15 +1,15 @@
 -- Handing out and closing: what one thing that happens to a connection makes of it.
-use Rattle.std.proofs.Common.{◌≡◌, ℕ, ◌+◌, List, [], ◌∷◌, ◌++◌, length, inl, refl, sym, ◌∙◌}
-use Rattle.std.specs.Prelude.{◌⊎◌, Bool, true, false, cond, nat_le, Option, Some, None, if◌then◌else◌}
+use Rattle.std.proofs.Common.{◌≡◌, ℕ, ◌+◌, List, [], ◌++◌, length, map, inl, refl, sym, ap, ◌∙◌}
+use Rattle.std.specs.Prelude.{◌⊎◌, Bool, true, false, nat_le, Some, None, if◌then◌else◌}
 use Rattle.mc_frame.specs.Kept.{outbox_max}
 use Rattle.mc_model.specs.declared.cause.Cause.{Cause}
 use Rattle.mc_model.specs.declared.cause.Cause.TheVariants as causes
 use Rattle.mc_model.specs.declared.stage.Stage.{Stage}
 use Rattle.mc_model.specs.declared.stage.Stage.TheVariants as stages
 use Rattle.mc_model.specs.World.{World, Session, found, put, is_play, is_closed}
-use Rattle.mc_model.specs.Hearing.{Sent, bytes_of, played}
+use Rattle.mc_model.specs.Hearing.{Sent, of_play, bytes_of, played}
 use Rattle.mc_model.specs.Talk.{farewell}
-use Rattle.mc_model.specs.Step.{Handing, hand, shut, close, Turn, still, turn}
+use Rattle.mc_model.specs.Step.{Handing, hand, shut, close, Turn, still, turn, due, showing, flush}
 use Rattle.mc_model.proofs.Beside.{Beside, beside_same, beside_onward, beside_put, found_put}
 
 -- ---- stages
@@ -24,6 +24,12 @@ closed_is other e = absurd cc
 
 pub not_both : (b : Bool) → b ≡ true → b ≡ false → ⊥
 not_both b t f = let clash : true ≡ false = sym t ∙ f in cc
+
+pub not_play : (stage at : Stage) → stage ≡ at → is_play at ≡ false → is_play stage ≡ true → ⊥
+not_play stage at is waits playing = not_both (is_play stage) playing (ap is_play is ∙ waits)
+
+pub not_closed : (stage at : Stage) → stage ≡ stages.Closed → stage ≡ at → is_closed at ≡ false → ⊥
+not_closed stage at closed is open_ = not_both (is_closed stage) (ap is_closed closed) (ap is_closed is ∙ open_)
 
 -- ---- what a connection comes to
 
@@ -67,8 +73,8 @@ pub hand_cases : (s : Session) (packets : List Sent) (P : Handing → Type 0) �
 unfolding hand
 hand_cases s packets P fits much =
     elim (nat_le (length s.owed + length (bytes_of packets)) outbox_max) as (λ b. nat_le (length s.owed + length (bytes_of packets)) outbox_max ≡ b →
-      P (if b then record { session = record s { owed = s.owed ++ bytes_of packets }; handed = packets }
-         else record { session = record s { stage = stages.Closed; cause = Some causes.Backlog; owed = [] }; handed = [] })) [ true ↦ fits | false ↦ much ] refl
+    P (if b then record { session = record s { owed = s.owed ++ bytes_of packets }; handed = packets }
+    else record { session = record s { stage = stages.Closed; cause = Some causes.Backlog; owed = [] }; handed = [] })) [ true ↦ fits | false ↦ much ] refl
 
 -- handing out to a connection that was open
 pub goes_hand : (k : ℕ) (w : World) (eids : ℕ) (s t : Session) (packets : List Sent) → found k w.sessions ≡ Some s → t.id ≡ k → is_closed s.stage ≡ false →
@@ -82,3 +88,19 @@ pub goes_close : (k : ℕ) (w : World) (s : Session) (cause : Cause) (packets : 
     IsLast s.stage packets → Goes k w s (turn w (close s cause packets))
 goes_close k w s cause packets e is open_ last =
     goes_hand k w w.eids s (shut s cause) packets e is open_ (λ owed. shut_for cause open_ refl refl last)
+
+-- ---- a tick
+
+-- what holds of a client that does not play, and of both ways to end of one that does, holds of what a tick makes of it
+pub flush_cases : (w : World) (s : Session) (P : Handing → Type 0) →
+    (is_play s.stage ≡ false → P (record { session = s; handed = [] })) →
+    (is_play s.stage ≡ true → nat_le (length s.owed + length (bytes_of (map of_play (due w s)))) outbox_max ≡ true →
+    P (record { session = record (showing w s) { owed = s.owed ++ bytes_of (map of_play (due w s)) }; handed = map of_play (due w s) })) →
+    (is_play s.stage ≡ true → nat_le (length s.owed + length (bytes_of (map of_play (due w s)))) outbox_max ≡ false →
+    P (record { session = record (showing w s) { stage = stages.Closed; cause = Some causes.Backlog; owed = [] }; handed = [] })) →
+    P (flush w s)
+flush_cases w s P waits fits much =
+    elim (is_play s.stage) as (λ b. is_play s.stage ≡ b → P (if b then hand (showing w s) (map of_play (due w s)) else record { session = s; handed = [] })) [
+      | true ↦ λ playing. hand_cases (showing w s) (map of_play (due w s)) P (fits playing) (much playing)
+      | false ↦ waits
+    ] refl

@@ -6,6 +6,9 @@ ghost use Rattle.mc_nbt.specs.Reading.{IsBytes};
 ghost use Rattle.mc_land.specs.declared.terrain.Terrain.{Terrain};
 ghost use Rattle.mc_land.specs.Places.{Place};
 ghost use Rattle.mc_model.specs.declared.cause.Cause.{Cause};
+ghost use Rattle.mc_model.specs.declared.cause.Cause.TheVariants as causes;
+ghost use Rattle.mc_model.specs.declared.stage.Stage.TheVariants as stages;
+ghost use Rattle.mc_model.specs.Notes.{no_notes};
 ghost use Rattle.mc_model.specs.Cutting.{cut_of};
 ghost use Rattle.mc_model.specs.Numbers.{fixed_of, turn_of, pattern_of, degrees_of};
 ghost use Rattle.mc_model.specs.Sight.{Sight};
@@ -15,7 +18,7 @@ ghost use Rattle.mc_model.specs.Views.{IsInView, view_of};
 ghost use Rattle.mc_model.specs.World.{AreSettings, Session, found, is_closed, is_play, new_world, project};
 ghost use Rattle.mc_model.specs.Hearing.{Ear, IsHeard, of_play, played};
 ghost use Rattle.mc_model.specs.Talk.{farewell};
-ghost use Rattle.mc_model.specs.Step.{Event, ticked, at_tick, due, step};
+ghost use Rattle.mc_model.specs.Step.{Event, came, left, ticked, at_tick, due, step};
 ghost use Rattle.mc_model.specs.Run.{AreBytes, handed, history, stream, to, why, cause_in};
 ghost use Rattle.mc_model.specs.Causes.{Closes, IsOpen, IsTooMuch};
 
@@ -52,6 +55,61 @@ pub fn runs_show_the_world()
         found k (history (new_world most cap terrain) (events ++ ticked ∷ [])).sessions ≡ Some s → is_play s.stage ≡ true →
         Shows (replay new_replica (played (handed k (new_world most cap terrain) (events ++ ticked ∷ []))))
         (project (at_tick (history (new_world most cap terrain) events)) s) }
+{}
+
+/// What a client in play is handed, and when. At a tick just what is due to it, unless that is more than
+/// its outbox holds, which closes it; then it was shown the world of that tick. Between two ticks nothing,
+/// but for the last packet of a connection that is closed.
+pub fn ticks_hand_what_is_due()
+    ensures due { (most cap : ℕ) (terrain : Terrain) (events : List Event) (k : ℕ) (s : Session) →
+        let w = history (new_world most cap terrain) events in
+        found k w.sessions ≡ Some s → is_play s.stage ≡ true → ¬ IsTooMuch s (map of_play (due (at_tick w) s)) →
+        to k (step w ticked).out ≡ map of_play (due (at_tick w) s) }
+    ensures shown { (most cap : ℕ) (terrain : Terrain) (events : List Event) (k : ℕ) (s : Session) →
+        let w = history (new_world most cap terrain) events in
+        found k w.sessions ≡ Some s → is_play s.stage ≡ true → ¬ IsTooMuch s (map of_play (due (at_tick w) s)) →
+        (t : Session) × (found k (step w ticked).world.sessions ≡ Some t) × (t.stage ≡ s.stage) ×
+        (t.shown ≡ Some (project (at_tick w) s)) × (t.notes ≡ no_notes) }
+    ensures too_much { (most cap : ℕ) (terrain : Terrain) (events : List Event) (k : ℕ) (s : Session) →
+        let w = history (new_world most cap terrain) events in
+        found k w.sessions ≡ Some s → is_play s.stage ≡ true → IsTooMuch s (map of_play (due (at_tick w) s)) →
+        (t : Session) × (to k (step w ticked).out ≡ []) × (found k (step w ticked).world.sessions ≡ Some t) ×
+        (t.stage ≡ stages.Closed) × (t.cause ≡ Some causes.Backlog) × (t.owed ≡ []) }
+    ensures others { (most cap : ℕ) (terrain : Terrain) (events : List Event) (k : ℕ) →
+        let w = history (new_world most cap terrain) events in
+        ((s : Session) → found k w.sessions ≡ Some s → is_play s.stage ≡ false) → to k (step w ticked).out ≡ [] }
+    ensures between { (most cap : ℕ) (terrain : Terrain) (events : List Event) (k : ℕ) (s : Session) (e : Event) →
+        let w = history (new_world most cap terrain) events in
+        found k w.sessions ≡ Some s → is_play s.stage ≡ true → e ≢ ticked →
+        (to k (step w e).out ≡ []) ⊎ ((cause : Cause) × (t : Session) × (to k (step w e).out ≡ farewell stages.Play cause) ×
+        (found k (step w e).world.sessions ≡ Some t) × (t.stage ≡ stages.Closed)) }
+    ensures kept { (most cap : ℕ) (terrain : Terrain) (events : List Event) (k : ℕ) (s t : Session) (e : Event) →
+        let w = history (new_world most cap terrain) events in
+        found k w.sessions ≡ Some s → is_play s.stage ≡ true → e ≢ ticked →
+        found k (step w e).world.sessions ≡ Some t → is_play t.stage ≡ true → t.shown ≡ s.shown }
+{}
+
+/// Why a connection is closed, and that it stays so. It is closed by the first thing that closes it, for the
+/// cause of that, which is the one that is kept; from then on nothing is handed to it. What one client
+/// sends, and its leaving, closes no other, and hands nothing to any other.
+pub fn closed_for_the_first_cause()
+    ensures first { (most cap : ℕ) (terrain : Terrain) (events : List Event) (k : ℕ) (cause : Cause) (e : Event) →
+        let w = history (new_world most cap terrain) events in
+        cause_in k w ≡ None → (cause_in k (step w e).world ≡ Some cause ↔ Closes w e k cause) }
+    ensures for_good { (most cap : ℕ) (terrain : Terrain) (events : List Event) (k : ℕ) (s : Session) (e : Event) →
+        let w = history (new_world most cap terrain) events in
+        found k w.sessions ≡ Some s → s.stage ≡ stages.Closed → (to k (step w e).out ≡ []) ×
+        ((t : Session) → found k (step w e).world.sessions ≡ Some t → (t.stage ≡ stages.Closed) × (t.cause ≡ s.cause)) }
+    ensures closed { (most cap : ℕ) (terrain : Terrain) (events : List Event) (k : ℕ) (s : Session) →
+        found k (history (new_world most cap terrain) events).sessions ≡ Some s →
+        (s.stage ≡ stages.Closed ↔ ((cause : Cause) × (s.cause ≡ Some cause))) }
+    ensures why { (most cap : ℕ) (terrain : Terrain) (events : List Event) (k : ℕ) (s : Session) →
+        found k (history (new_world most cap terrain) events).sessions ≡ Some s →
+        s.cause ≡ why k (new_world most cap terrain) events }
+    ensures only_sender { (most cap : ℕ) (terrain : Terrain) (events : List Event) (j k : ℕ) (bytes : List ℕ) (e : Event) →
+        let w = history (new_world most cap terrain) events in
+        j ≢ k → (e ≡ came j bytes) ⊎ (e ≡ left j) →
+        (found k (step w e).world.sessions ≡ found k w.sessions) × (to k (step w e).out ≡ []) }
 {}
 
 /// What is handed out to a client is bytes that it cuts and reads back as exactly those packets: those of

@@ -1,0 +1,17 @@
+-- In every run numbers of connections stand once, and none is above the last that joined.
+use Rattle.std.proofs.Common.{ℕ, List, [], ◌∷◌, refl}
+use Rattle.mc_land.specs.declared.terrain.Terrain.{Terrain}
+use Rattle.mc_model.specs.World.{World, new_world}
+use Rattle.mc_model.specs.Step.{Event, step}
+use Rattle.mc_model.specs.Run.{history}
+use Rattle.mc_model.proofs.RunEvents.{Orderly, orderly_step}
+
+pub orderly_history : (events : List Event) (w : World) → Orderly w → Orderly (history w events)
+orderly_history [] w o = o
+orderly_history (e ∷ events) w o = orderly_history events (step w e).world (orderly_step w e o)
+
+pub orderly_new : (most cap : ℕ) (terrain : Terrain) → Orderly (new_world most cap terrain)
+orderly_new most cap terrain = record { apart = tt; fresh = λ k new. refl }
+
+pub orderly_run : (most cap : ℕ) (terrain : Terrain) (events : List Event) → Orderly (history (new_world most cap terrain) events)
+orderly_run most cap terrain events = orderly_history events (new_world most cap terrain) (orderly_new most cap terrain)
