@@ -33,23 +33,29 @@ use Rattle.mc_model.proofs.FitsTalk.{response_clear, pong_clear}
 
 -- ---- bytes
 
+-- bytes and then bytes are bytes
 pub bytes_joined : (xs ys : List ℕ) → IsBytes xs → IsBytes ys → IsBytes (xs ++ ys)
 bytes_joined [] ys a b i = b i
 bytes_joined (x ∷ xs) ys a b zero = a 0
 bytes_joined (x ∷ xs) ys a b (suc i) = bytes_joined xs ys (λ j. a (suc j)) b i
 
+-- the front of bytes is bytes
 bytes_before : (xs ys : List ℕ) → IsBytes (xs ++ ys) → IsBytes xs
 bytes_before [] ys a i = omega arith
 bytes_before (x ∷ xs) ys a zero = a 0
 bytes_before (x ∷ xs) ys a (suc i) = bytes_before xs ys (λ j. a (suc j)) i
 
-frames_bytes : (frames : List (List ℕ)) (bytes : List ℕ) → SpellsFrames frames bytes → IsBytes bytes → AllByRecursion IsBytes frames
+-- the payloads of frames that bytes spell are bytes
+frames_bytes : (frames : List (List ℕ)) (bytes : List ℕ) → SpellsFrames frames bytes → IsBytes bytes
+    → AllByRecursion IsBytes frames
 frames_bytes [] bytes s b = tt
 frames_bytes (frame ∷ frames) bytes (front, back, parts, spelled, later) b =
     let all : IsBytes (front ++ back) = subst IsBytes parts b in
     (IsBytes-after front spelled.size frame spelled.parts (bytes_before front back all), frames_bytes frames back later (IsBytes-after bytes front back parts b))
 
-pub cut_bytes : (count : ℕ) (bytes : List ℕ) → IsBytes bytes → AllByRecursion IsBytes (cut_of count bytes).frames × IsBytes (cut_of count bytes).rest
+-- the frames of the cut of bytes are bytes, and so is what is left
+pub cut_bytes : (count : ℕ) (bytes : List ℕ) → IsBytes bytes
+    → AllByRecursion IsBytes (cut_of count bytes).frames × IsBytes (cut_of count bytes).rest
 cut_bytes count bytes b =
     let c = cut_of_bytes count bytes b in
     let all : IsBytes (c.front ++ (cut_of count bytes).rest) = subst IsBytes c.parts b in
@@ -71,24 +77,31 @@ IsAnswered (wrong fault) = Unit {0}
 ping_fits : (frame : List ℕ) (number : ℤ) → IsBytes frame → frame_read status.rows frame ≡ Ok (Ping number) → SFits w64 number
 ping_fits frame number b e = (spelled_fits (status.entry_of (Ping number)) frame (frame_found status.rows frame (Ping number) b e)).1.0
 
-status_answered : (most online : ℕ) (frame : List ℕ) (r : Result StatusUp RowFault) → most ≤ 50 → online ≤ 50 → ((number : ℤ) → r ≡ Ok (Ping number) → SFits w64 number) → IsAnswered (in_status most online (packet_of frame r))
+-- at each stage: the status
+status_answered : (most online : ℕ) (frame : List ℕ) (r : Result StatusUp RowFault) → most ≤ 50 → online ≤ 50
+    → ((number : ℤ) → r ≡ Ok (Ping number) → SFits w64 number) → IsAnswered (in_status most online (packet_of frame r))
 status_answered most online frame (Ok Request) few fewer fits = response_clear _ (status_short most online few fewer)
 status_answered most online frame (Ok (Ping number)) few fewer fits = pong_clear number (fits number refl)
 status_answered most online frame (Err fault) few fewer fits = tt
 
+-- the handshake
 hand_answered : (r : Result Hand PacketFault) → IsAnswered (in_hand r)
 hand_answered (Ok (Handshake protocol address port next)) = tt
 hand_answered (Err fault) = tt
 
+-- the login
 login_answered : (r : Result LoginUp PacketFault) → IsAnswered (in_login r)
 login_answered (Ok (Start name)) = tt
 login_answered (Err fault) = tt
 
+-- play
 play_answered : (r : Result PlayUp PacketFault) → IsAnswered (in_play r)
 play_answered (Ok packet) = tt
 play_answered (Err fault) = tt
 
-pub said_answered : (stage : Stage) (most online : ℕ) (frame : List ℕ) → most ≤ 50 → online ≤ 50 → IsBytes frame → IsAnswered (said stage most online frame)
+-- whatever the frame is
+pub said_answered : (stage : Stage) (most online : ℕ) (frame : List ℕ) → most ≤ 50 → online ≤ 50 → IsBytes frame
+    → IsAnswered (said stage most online frame)
 unfolding said
 said_answered stages.Hand most online frame few fewer b = hand_answered (packet_of frame (frame_read hand.rows frame))
 said_answered stages.Status most online frame few fewer b = status_answered most online frame (frame_read status.rows frame) few fewer (λ number e. ping_fits frame number b e)

@@ -25,19 +25,22 @@ pub record PlaceFits (place : Place) : Type 0 where
   pub x : SFits w32 place.0
   pub z : SFits w32 place.1
 
-chunk_clear : (place : Place) (mask : ℕ) (body : List ℕ) → PlaceFits place → mask < 2 ^ 16 → AtMost 200000 body → IsClear for_play (of_play (Chunk place.0 place.1 true mask body))
+-- a chunk of a place that fits, a mask of 16 bits and not too many bytes
+chunk_clear : (place : Place) (mask : ℕ) (body : List ℕ) → PlaceFits place → mask < 2 ^ 16 → AtMost 200000 body
+    → IsClear for_play (of_play (Chunk place.0 place.1 true mask body))
 chunk_clear place mask body at small few =
     let counted : SFits w32 (pos (length body)) = record { sfits = omega (arith, few) } in
     let fits : FitsDown (Chunk place.0 place.1 true mask body) =
-        (lit< tt, (signed_fits w32 place.0 at.x, (signed_fits w32 place.1 at.z, (tt, (small, (tt, ((tt, (varint-fits (pos (length body)) counted, refl)), refl))))))) in
+    (lit< tt, (signed_fits w32 place.0 at.x, (signed_fits w32 place.1 at.z, (tt, (small, (tt, ((tt, (varint-fits (pos (length body)) counted, refl)), refl))))))) in
     let size : AtMost 200016 _ =
-        at_most_joined 4 200012 _ _ (number_size w32 wide_32 (cast_unsigned w32 place.0)) (
-        at_most_joined 4 200008 _ _ (number_size w32 wide_32 (cast_unsigned w32 place.1)) (
-        at_most_joined 1 200007 _ _ (number_size w8 wide_8 (bool_byte true)) (
-        at_most_joined 2 200005 _ _ (number_size w16 wide_16 mask) (
-        at_most_joined 5 200000 _ _ (varint_size (pos (length body)) counted).1 few)))) in
+    at_most_joined 4 200012 _ _ (number_size w32 wide_32 (cast_unsigned w32 place.0)) (
+    at_most_joined 4 200008 _ _ (number_size w32 wide_32 (cast_unsigned w32 place.1)) (
+    at_most_joined 1 200007 _ _ (number_size w8 wide_8 (bool_byte true)) (
+    at_most_joined 2 200005 _ _ (number_size w16 wide_16 mask) (
+    at_most_joined 5 200000 _ _ (varint_size (pos (length body)) counted).1 few)))) in
     (fits, spelling_payload (entry_of (Chunk place.0 place.1 true mask body)) fits (few_bytes 200016 _ (omega arith) size))
 
+-- no more numbers below n pass a test than there are
 rank_most : (test : ℕ → Bool) (n : ℕ) → rank test n ≤ n
 rank_most test zero = omega arith
 rank_most test (suc n) = step (test n) (rank_most test n)
@@ -54,6 +57,7 @@ column_few column sizes =
     let few = rank_most (is_named (column_mask column)) section_count in
     omega (arith, plain, few, section_count-is)
 
+-- a mask has 16 bits
 mask_small : (column : ColumnValue) → HasSizes column → column_mask column < 2 ^ 16
 mask_small column sizes =
     let below = (column_mask_names column sizes).below in
@@ -64,8 +68,10 @@ pub record ColumnFits (e : Place × ColumnValue) : Type 0 where
   pub place : PlaceFits e.0
   pub sizes : HasSizes e.1
 
+-- a column that comes into view
 pub load_clear : (e : Place × ColumnValue) → ColumnFits e → IsClear for_play (of_play (load e))
 load_clear e f = chunk_clear e.0 (column_mask e.1) (column_bytes e.1) f.place (mask_small e.1 f.sizes) (column_few e.1 f.sizes)
 
+-- one that goes
 pub unload_clear : (place : Place) → PlaceFits place → IsClear for_play (of_play (unload place))
 unload_clear place f = chunk_clear place 0 [] f (lit< tt) (omega arith)

@@ -14,7 +14,8 @@ pub top_bit_above : (k n : ℕ) → n < 2 ^ suc k → n < 2 ^ suc (top_bit k n)
 top_bit_above zero n less = less
 top_bit_above (suc k) n less = step (nat_le (2 ^ suc k) n) refl (λ lower. top_bit_above k n lower)
   where
-    step : (t : Bool) → nat_le (2 ^ suc k) n ≡ t → (n < 2 ^ suc k → n < 2 ^ suc (top_bit k n)) → n < 2 ^ suc (cond t (suc k) (top_bit k n))
+    step : (t : Bool) → nat_le (2 ^ suc k) n ≡ t → (n < 2 ^ suc k → n < 2 ^ suc (top_bit k n))
+        → n < 2 ^ suc (cond t (suc k) (top_bit k n))
     step true t rest = less
     step false t rest = rest (leb-false (2 ^ suc k) n t)
 
@@ -25,9 +26,9 @@ top_bit_below (suc k) n j less = step (nat_le (2 ^ suc k) n) refl (top_bit_below
   where
     step : (t : Bool) → nat_le (2 ^ suc k) n ≡ t → top_bit k n ≤ j → cond t (suc k) (top_bit k n) ≤ j
     step true t rest = elim (cases_lt j (suc k)) [
-        | inl lt ↦ (let wide : 2 ^ suc j ≤ 2 ^ suc k = pow-le-pow_right (omega arith) (omega (arith, lt)) in absurd (omega (arith, less, wide, leb-true _ _ t)))
-        | inr le ↦ le
-      ]
+      | inl lt ↦ (let wide : 2 ^ suc j ≤ 2 ^ suc k = pow-le-pow_right (omega arith) (omega (arith, lt)) in absurd (omega (arith, less, wide, leb-true _ _ t)))
+      | inr le ↦ le
+    ]
     step false t rest = rest
 
 -- ---- patterns
@@ -39,6 +40,7 @@ significand_below n place small within =
     let twice : n < 2 ^ top_bit 32 n * 2 = rw (pow-suc 2 (top_bit 32 n)) at above in
     raised_high n (top_bit 32 n) place (omega (arith, twice)) within
 
+-- a pattern without its sign has 63 bits
 pattern_below : (n : ℕ) → n < 2 ^ 30 → pattern_with 52 1023 n < 2 ^ 63
 pattern_below n small = step (n == 0)
   where
@@ -52,14 +54,17 @@ pattern_below n small = step (n == 0)
     step true = omega arith
     step false = omega (arith, below, top)
 
+-- and with it 64
 signed_below : (p : ℕ) (t : Bool) → p < 2 ^ 63 → p + cond t (2 ^ 63) 0 < 2 ^ 64
 signed_below p true small = omega (arith, small)
 signed_below p false small = omega (arith, small)
 
+-- the pattern of a place has 64 bits
 pub pattern_fits : (n : ℤ) → unsigned_abs n < 2 ^ 30 → pattern_of n < 2 ^ 64
 unfolding pattern_of
 pattern_fits n small = signed_below (pattern_with 52 1023 (unsigned_abs n)) (is_below_0 n) (pattern_below (unsigned_abs n) small)
 
+-- the pattern of an angle has 32
 pub degrees_fit : (a : ℕ) → a < 256 → degrees_of a < 2 ^ 32
 unfolding degrees_of
 degrees_fit a small = step (a * 45 == 0)

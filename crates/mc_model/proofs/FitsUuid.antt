@@ -11,6 +11,7 @@ use Rattle.mc_nbt.specs.Sixteen.{wide_128}
 use Rattle.mc_model.specs.Names.{offline_uuid}
 use Rattle.mc_model.proofs.FitsBytes.{bytes_joined}
 
+-- a number of 32 bits is written as bytes
 word_bytes : (n : ℕ) → IsBytes (to_le_bytes w32 n)
 word_bytes n zero = omega arith
 word_bytes n (suc zero) = omega arith
@@ -18,18 +19,22 @@ word_bytes n (suc (suc zero)) = omega arith
 word_bytes n (suc (suc (suc zero))) = omega arith
 word_bytes n (suc (suc (suc (suc i)))) = omega arith
 
+-- nothing is bytes
 no_bytes : IsBytes []
 no_bytes i = omega arith
 
+-- a digest is bytes
 digest_is_bytes : (h : List ℕ) (n : ℕ) → IsBytes (digest_bytes h n)
 unfolding digest_bytes
 digest_is_bytes h zero = no_bytes
 digest_is_bytes h (suc n) = bytes_joined (digest_bytes h n) (to_le_bytes w32 (slice_index h n)) (digest_is_bytes h n) (word_bytes (slice_index h n))
 
+-- and so is an MD5
 md5_bytes : (m : List ℕ) → IsBytes (md5 m)
 unfolding md5
 md5_bytes m = digest_is_bytes (hash_after (padded_message m) (length (padded_message m) / 64)) 4
 
+-- bytes with a byte set are bytes
 set_bytes : (xs : List ℕ) (k v : ℕ) → v < 256 → IsBytes xs → IsBytes (slice_set xs k v)
 set_bytes [] k v low b i = b i
 set_bytes (x ∷ xs) zero v low b zero = low
@@ -37,10 +42,12 @@ set_bytes (x ∷ xs) zero v low b (suc i) = b (suc i)
 set_bytes (x ∷ xs) (suc k) v low b zero = b 0
 set_bytes (x ∷ xs) (suc k) v low b (suc i) = set_bytes xs k v low (λ j. b (suc j)) i
 
+-- also with the marks of a version and a variant
 marked_bytes : (xs : List ℕ) → IsBytes xs → IsBytes (with_variant (with_version xs Md5) RFC4122)
 marked_bytes xs b =
     set_bytes (with_version xs Md5) 8 _ (omega arith) (set_bytes xs 6 _ (omega arith) b)
 
+-- so the identifier has 128 bits
 pub offline_small : (name : List ℕ) → offline_uuid name < 2 ^ 128
 unfolding offline_uuid
 offline_small name = wide_128.below _ (marked_bytes (md5 (codes "OfflinePlayer:" ++ name)) (md5_bytes (codes "OfflinePlayer:" ++ name)))

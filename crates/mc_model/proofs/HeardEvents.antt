@@ -28,7 +28,8 @@ to_one j k packets true is = ap (λ (t : Bool). cond t packets [] ++ []) is ∙ 
 to_one j k packets false is = ap (λ (t : Bool). cond t packets [] ++ []) is
 
 -- a turn that is heeded
-heeded_kept : (k j : ℕ) (w : World) (s : Session) (t : Turn) (earlier : List Sent) → found j w.sessions ≡ Some s → Heeds j w s t → Sound w → Kept k w earlier → Kept k t.world (earlier ++ to k ((j, t.handed) ∷ []))
+heeded_kept : (k j : ℕ) (w : World) (s : Session) (t : Turn) (earlier : List Sent) → found j w.sessions ≡ Some s → Heeds j w s t
+    → Sound w → Kept k w earlier → Kept k t.world (earlier ++ to k ((j, t.handed) ∷ []))
 heeded_kept k j w s t earlier e h sound kept = step (j == k) refl
   where
     P : List Sent → Type 0
@@ -59,7 +60,9 @@ heeded_kept k j w s t earlier e h sound kept = step (j == k) refl
           heard = kept.heard;
         }))
 
-bytes_steps : (k j : ℕ) (w : World) (bytes : List ℕ) (earlier : List Sent) → IsBytes bytes → Sound w → Kept k w earlier → Steps k (on_bytes w j bytes).world (earlier ++ to k ((j, (on_bytes w j bytes).handed) ∷ []))
+-- bytes that came
+bytes_steps : (k j : ℕ) (w : World) (bytes : List ℕ) (earlier : List Sent) → IsBytes bytes → Sound w → Kept k w earlier
+    → Steps k (on_bytes w j bytes).world (earlier ++ to k ((j, (on_bytes w j bytes).handed) ∷ []))
 bytes_steps k j w bytes earlier b sound kept = step (found j w.sessions) refl
   where
     P : Turn → Type 0
@@ -84,7 +87,9 @@ abbrev pub IsEvent : Event → Type 0
 IsEvent (came k bytes) = IsBytes bytes
 IsEvent other = Unit {0}
 
-pub event_steps : (k : ℕ) (w : World) (e : Event) (earlier : List Sent) → IsEvent e → Sound w → Kept k w earlier → Steps k (step w e).world (earlier ++ to k (step w e).out)
+-- whatever the event is
+pub event_steps : (k : ℕ) (w : World) (e : Event) (earlier : List Sent) → IsEvent e → Sound w → Kept k w earlier
+    → Steps k (step w e).world (earlier ++ to k (step w e).out)
 unfolding step
 event_steps k w (joined j) earlier b sound kept = join_steps k j w earlier sound kept
 event_steps k w (came j bytes) earlier b sound kept = bytes_steps k j w bytes earlier b sound kept
@@ -93,6 +98,7 @@ event_steps k w ticked earlier b sound kept = tick_steps k w earlier sound kept
 event_steps k w (took j n) earlier b sound kept = took_steps k j n w earlier sound kept
 event_steps k w (forgot j) earlier b sound kept = filter_steps k w (λ (s : Session). not (s.id == j && is_done s)) earlier sound kept
 
+-- bytes of all events are bytes of the first and of the others
 first_bytes : (e : Event) (events : List Event) → AreBytes (e ∷ events) → IsEvent e × AreBytes events
 first_bytes (joined j) events b = (tt, b)
 first_bytes (came j bytes) events b = b
@@ -101,20 +107,27 @@ first_bytes ticked events b = (tt, b)
 first_bytes (took j n) events b = (tt, b)
 first_bytes (forgot j) events b = (tt, b)
 
-run_heard : (k : ℕ) (events : List Event) (w : World) (earlier : List Sent) → AreBytes events → Sound w → Kept k w earlier → AreHeard (earlier ++ handed k w events)
+-- a run
+run_heard : (k : ℕ) (events : List Event) (w : World) (earlier : List Sent) → AreBytes events → Sound w → Kept k w earlier
+    → AreHeard (earlier ++ handed k w events)
 run_heard k [] w earlier b sound kept = subst AreHeard (sym (append-nil earlier)) kept.heard
 run_heard k (e ∷ events) w earlier b sound kept =
     let parts = first_bytes e events b in
     let s = event_steps k w e earlier parts.0 sound kept in
-    subst AreHeard (append_assoc earlier (to k (step w e).out) (handed k (step w e).world events)) (run_heard k events (step w e).world (earlier ++ to k (step w e).out) parts.1 s.sound s.kept)
+    subst AreHeard (append_assoc earlier (to k (step w e).out) (handed k (step w e).world events))
+    (run_heard k events (step w e).world (earlier ++ to k (step w e).out) parts.1 s.sound s.kept)
 
+-- a new world is sound
 new_sound : (most cap : ℕ) (terrain : Terrain) → AreSettings most cap → Sound (new_world most cap terrain)
 new_sound most cap terrain settings = record { settings = settings; eids = omega arith; apart = tt; fresh = λ k new. refl; few = omega arith; fits = tt }
 
+-- in it nothing was handed to anybody
 new_kept : (k most cap : ℕ) (terrain : Terrain) → Kept k (new_world most cap terrain) []
 new_kept k most cap terrain = record { here = λ s there. absurd (some_none s None there refl); early = λ new. refl; heard = record { ear = for_status; end = for_status; hears = refl } }
 
-pub stream_heard : (most cap : ℕ) (terrain : Terrain) (events : List Event) (k : ℕ) → AreSettings most cap → AreBytes events → (ear : Ear) × IsHeard ear (stream k (new_world most cap terrain) events) (handed k (new_world most cap terrain) events)
+-- what was handed to a connection is heard in its bytes
+pub stream_heard : (most cap : ℕ) (terrain : Terrain) (events : List Event) (k : ℕ) → AreSettings most cap → AreBytes events
+    → (ear : Ear) × IsHeard ear (stream k (new_world most cap terrain) events) (handed k (new_world most cap terrain) events)
 stream_heard most cap terrain events k settings b =
     let h = run_heard k events (new_world most cap terrain) [] b (new_sound most cap terrain settings) (new_kept k most cap terrain) in
     (h.ear, heard_so h.ear h.end (handed k (new_world most cap terrain) events) h.hears)

@@ -4,14 +4,16 @@ use Rattle.std.specs.Prelude.{◌==◌, Bool, true, false, cond, Option, Some, N
 use Rattle.std.specs.List.{filter}
 use Rattle.std.proofs.lemmas.Bool.{eqb-true, ltb-true, lt-ltb}
 use Rattle.std.proofs.lemmas.List.{append-nil}
+use lib.IntN.{pos}
 use Rattle.mc_model.specs.declared.cause.Cause.TheVariants as causes
+use Rattle.mc_model.specs.declared.stage.Stage.TheVariants as stages
 use Rattle.mc_model.specs.Hearing.{Sent}
 use Rattle.mc_model.specs.World.{World, Session, found, is_play}
 use Rattle.mc_model.specs.Step.{shut, new_session, is_crowded, joining, join, is_new}
 use Rattle.mc_model.proofs.Sessions.{found_before, found_behind, found_filter, none_filtered, apart_more, apart_filter, some_none, one_some, other_number}
 use Rattle.mc_model.proofs.FitsSight.{all_joined, all_filtered, nothing_fits}
 use Rattle.mc_model.proofs.FitsText.{none_short}
-use Rattle.mc_model.proofs.Sound.{SessionFits, Sound}
+use Rattle.mc_model.proofs.Sound.{SessionFits, still_fits, Sound}
 use Rattle.mc_model.proofs.SoundPut.{playing, playing_more, one_if}
 use Rattle.mc_model.proofs.Listens.{Listens, silent_start}
 use Rattle.mc_model.proofs.HeardRun.{Kept, Steps}
@@ -24,6 +26,7 @@ record Joins (j : ℕ) (s : Session) : Type 0 where
   waits : is_play s.stage ≡ false
   fits : SessionFits s
 
+-- a connection of which nothing came can be told of
 new_fits : (j : ℕ) → SessionFits (new_session j)
 new_fits j = record {
   named = record { uuid = omega arith; name = none_short 16 };
@@ -33,11 +36,12 @@ new_fits j = record {
   rest = λ i. omega arith;
 }
 
+-- a connection that joined, or was one too many
 joins : (w : World) (j : ℕ) → Joins j (joining w j)
 joins w j = step (is_crowded w)
   where
     step : (b : Bool) → Joins j (if b then shut (new_session j) causes.Crowded else new_session j)
-    step true = (let f = new_fits j in record { id = refl; waits = refl; fits = record { named = f.named; eid = f.eid; spot = f.spot; shown = f.shown; rest = f.rest } })
+    step true = record { id = refl; waits = refl; fits = still_fits (new_session j) stages.Closed (pos 0) (Some causes.Crowded) [] (new_fits j) }
     step false = record { id = refl; waits = refl; fits = new_fits j }
 
 -- what is new after a join was new before it
@@ -45,17 +49,23 @@ new_before : (k j : ℕ) (last : Option ℕ) → is_new j last ≡ true → is_n
 new_before k j None new later = refl
 new_before k j (Some last) new later = lt-ltb last k (let a = ltb-true last j new in let b = ltb-true j k later in omega (arith, a, b))
 
-playing_pushed : (ss : List Session) (s : Session) → is_play s.stage ≡ false → length (playing (ss ++ s ∷ [])) ≡ length (playing ss)
+-- one that does not play changes nothing of how many play
+playing_pushed : (ss : List Session) (s : Session) → is_play s.stage ≡ false
+    → length (playing (ss ++ s ∷ [])) ≡ length (playing ss)
 playing_pushed [] s waits = (let one = playing_more s [] in let none : one_if (is_play s.stage) ≡ 0 = ap one_if waits in omega (arith, one, none))
 playing_pushed (x ∷ xs) s waits = (let rest = playing_pushed xs s waits in omega (arith, rest, playing_more x (xs ++ s ∷ []), playing_more x xs))
 
+-- it is found under its own number alone
 found_pushed : (k j : ℕ) (s : Session) → s.id ≡ j → (j == k) ≡ false → found k (s ∷ []) ≡ None
 found_pushed k j s is other = (let P : ℕ → Type 0 = λ n. cond (n == k) (Some s) None ≡ None in subst P (sym is) (ap (λ (b : Bool). cond b (Some s) None) other))
 
+-- a number above it is another
 new_is_other : (k j : ℕ) → is_new k (Some j) ≡ true → (j == k) ≡ false
 new_is_other k j later = other_number j k (λ same. let less = ltb-true j k later in omega (arith, less, same))
 
-pushed_sound : (w : World) (j : ℕ) (s : Session) → is_new j w.last ≡ true → Joins j s → Sound w → Sound (record w { last = Some j; sessions = w.sessions ++ s ∷ [] })
+-- the world is sound with it
+pushed_sound : (w : World) (j : ℕ) (s : Session) → is_new j w.last ≡ true → Joins j s → Sound w
+    → Sound (record w { last = Some j; sessions = w.sessions ++ s ∷ [] })
 pushed_sound w j s new facts sound =
     let P : ℕ → Type 0 = λ n. found n w.sessions ≡ None in
     let same = playing_pushed w.sessions s facts.waits in
@@ -68,7 +78,9 @@ pushed_sound w j s new facts sound =
       fits = all_joined SessionFits w.sessions (s ∷ []) sound.fits (facts.fits, tt);
     }
 
-pushed_kept : (k : ℕ) (w : World) (j : ℕ) (s : Session) (earlier : List Sent) → is_new j w.last ≡ true → Joins j s → Sound w → Kept k w earlier → Kept k (record w { last = Some j; sessions = w.sessions ++ s ∷ [] }) earlier
+-- and what was handed to each stays heard
+pushed_kept : (k : ℕ) (w : World) (j : ℕ) (s : Session) (earlier : List Sent) → is_new j w.last ≡ true → Joins j s → Sound w
+    → Kept k w earlier → Kept k (record w { last = Some j; sessions = w.sessions ++ s ∷ [] }) earlier
 pushed_kept k w j s earlier new facts sound kept = record {
   here = λ t there. here (found k w.sessions) refl t there;
   early = λ later. kept.early (new_before k j w.last new later);
@@ -84,30 +96,37 @@ pushed_kept k w j s earlier new facts sound kept = record {
         subst R (one_some s t (Some s) refl e) (subst Q (sym (kept.early (subst P same new))) (silent_start s.stage facts.waits))
     last_one false t is e = absurd (some_none t None e refl)
 
-    here : (o : Option Session) → found k w.sessions ≡ o → (t : Session) → found k (w.sessions ++ s ∷ []) ≡ Some t → Listens t.stage earlier
+    here : (o : Option Session) → found k w.sessions ≡ o → (t : Session) → found k (w.sessions ++ s ∷ []) ≡ Some t
+        → Listens t.stage earlier
     here (Some u) is t there =
         let R : Session → Type 0 = λ v. Listens v.stage earlier in
         subst R (one_some u t (found k (w.sessions ++ s ∷ [])) (found_before k w.sessions (s ∷ []) u is) there) (kept.here u is)
     here None is t there = last_one (s.id == k) t refl (sym (found_behind k w.sessions (s ∷ []) is) ∙ there)
 
+-- a join
 pub join_steps : (k j : ℕ) (w : World) (earlier : List Sent) → Sound w → Kept k w earlier → Steps k (join w j) (earlier ++ [])
 join_steps k j w earlier sound kept = subst (Steps k (join w j)) (sym (append-nil earlier)) (step (is_new j w.last) refl)
   where
-    step : (b : Bool) → is_new j w.last ≡ b → Steps k (if b then record w { last = Some j; sessions = w.sessions ++ joining w j ∷ [] } else w) earlier
+    step : (b : Bool) → is_new j w.last ≡ b
+        → Steps k (if b then record w { last = Some j; sessions = w.sessions ++ joining w j ∷ [] } else w) earlier
     step true new = record { sound = pushed_sound w j (joining w j) new (joins w j) sound; kept = pushed_kept k w j (joining w j) earlier new (joins w j) sound kept }
     step false old = record { sound = sound; kept = kept }
 
 -- ---- going
 
+-- of those that are left no more play
 few_left : (p : Session → Bool) (ss : List Session) → length (playing (filter p ss)) ≤ length (playing ss)
 few_left p [] = omega arith
 few_left p (x ∷ xs) = step (p x) (few_left p xs)
   where
-    step : (b : Bool) → length (playing (filter p xs)) ≤ length (playing xs) → length (playing (cond b (x ∷ filter p xs) (filter p xs))) ≤ length (playing (x ∷ xs))
+    step : (b : Bool) → length (playing (filter p xs)) ≤ length (playing xs)
+        → length (playing (cond b (x ∷ filter p xs) (filter p xs))) ≤ length (playing (x ∷ xs))
     step true le = omega (arith, le, playing_more x (filter p xs), playing_more x xs)
     step false le = omega (arith, le, playing_more x xs)
 
-pub filter_steps : (k : ℕ) (w : World) (p : Session → Bool) (earlier : List Sent) → Sound w → Kept k w earlier → Steps k (record w { sessions = filter p w.sessions }) (earlier ++ [])
+-- some are taken out
+pub filter_steps : (k : ℕ) (w : World) (p : Session → Bool) (earlier : List Sent) → Sound w → Kept k w earlier
+    → Steps k (record w { sessions = filter p w.sessions }) (earlier ++ [])
 filter_steps k w p earlier sound kept = subst (Steps k (record w { sessions = filter p w.sessions })) (sym (append-nil earlier)) (record {
   sound = record {
     settings = sound.settings;
@@ -124,7 +143,8 @@ filter_steps k w p earlier sound kept = subst (Steps k (record w { sessions = fi
     same true u t e = one_some u t (Some u) refl e
     same false u t e = absurd (some_none t None e refl)
 
-    here : (o : Option Session) → found k w.sessions ≡ o → (t : Session) → found k (filter p w.sessions) ≡ Some t → Listens t.stage earlier
+    here : (o : Option Session) → found k w.sessions ≡ o → (t : Session) → found k (filter p w.sessions) ≡ Some t
+        → Listens t.stage earlier
     here None is t there = absurd (some_none t (found k (filter p w.sessions)) there (none_filtered k p w.sessions is))
     here (Some u) is t there =
         let R : Session → Type 0 = λ v. Listens v.stage earlier in

@@ -37,10 +37,12 @@ Hears ear [] end = ear ≡ end
 Hears ear (packet ∷ packets) end = IsClear ear packet × Hears (ear_after ear packet) packets end
 
 -- some and then others
-pub hears_more : (ear middle end : Ear) (packets others : List Sent) → Hears ear packets middle → Hears middle others end → Hears ear (packets ++ others) end
+pub hears_more : (ear middle end : Ear) (packets others : List Sent) → Hears ear packets middle → Hears middle others end
+    → Hears ear (packets ++ others) end
 hears_more ear middle end [] others h later = let P : Ear → Type 0 = λ e. Hears e others end in subst P (sym h) later
 hears_more ear middle end (packet ∷ packets) others h later = (h.0, hears_more (ear_after ear packet) middle end packets others h.1 later)
 
+-- it fits a frame
 clear_payload : (ear : Ear) (packet : Sent) → IsClear ear packet → IsPayload (payload_of packet)
 clear_payload for_status (of_status packet) c = c.1
 clear_payload for_login (of_login packet) c = c.1
@@ -52,6 +54,7 @@ clear_payload for_login (of_play packet) c = absurd c
 clear_payload for_play (of_status packet) c = absurd c
 clear_payload for_play (of_login packet) c = absurd c
 
+-- and is heard in it
 clear_heard : (ear : Ear) (packet : Sent) → IsClear ear packet → heard_as ear (payload_of packet) ≡ Some packet
 clear_heard for_status (of_status packet) c = ap sent_status (status_laws.again packet c.0)
 clear_heard for_login (of_login packet) c = ap sent_login (login_laws.again packet c.0)
@@ -70,15 +73,19 @@ framed (of_status packet) = refl
 framed (of_login packet) = refl
 framed (of_play packet) = refl
 
+-- all are heard in their frames
 heard_again : (ear end : Ear) (packets : List Sent) → Hears ear packets end → heard ear (map payload_of packets) ≡ Some packets
 heard_again ear end [] h = refl
 heard_again ear end (packet ∷ packets) h = rw (clear_heard ear packet h.0, heard_again (ear_after ear packet) end packets h.1) refl
 
-framed_again : (ear end : Ear) (packets : List Sent) → Hears ear packets end → SpellsFrames (map payload_of packets) (bytes_of packets)
+-- the bytes are these frames
+framed_again : (ear end : Ear) (packets : List Sent) → Hears ear packets end
+    → SpellsFrames (map payload_of packets) (bytes_of packets)
 framed_again ear end [] h = refl
 framed_again ear end (packet ∷ packets) h =
     (frame_of packet, bytes_of packets, refl, rw (framed packet) (frame_spelled (payload_of packet) (clear_payload ear packet h.0)), framed_again (ear_after ear packet) end packets h.1)
 
+-- so they are heard in the bytes
 pub heard_so : (ear end : Ear) (packets : List Sent) → Hears ear packets end → IsHeard ear (bytes_of packets) packets
 heard_so ear end packets h = record {
   frames = map payload_of packets;

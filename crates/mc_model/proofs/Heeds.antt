@@ -21,7 +21,7 @@ use Rattle.mc_model.proofs.FitsText.{both_true, name_short}
 use Rattle.mc_model.proofs.FitsUuid.{offline_small}
 use Rattle.mc_model.proofs.FitsSight.{nothing_fits}
 use Rattle.mc_model.proofs.FitsDue.{spawn_fits}
-use Rattle.mc_model.proofs.Sound.{SessionFits, Sound}
+use Rattle.mc_model.proofs.Sound.{SessionFits, still_fits, Sound}
 use Rattle.mc_model.proofs.SoundPut.{HasRoom, sound_put}
 use Rattle.mc_model.proofs.Listens.{Speaks, speaks_same, speaks_shut, speaks_farewell}
 
@@ -33,10 +33,14 @@ pub record Heeds (k : ℕ) (w : World) (s : Session) (t : Turn) : Type 0 where
   pub there : found k t.world.sessions ≡ Some session
   pub speaks : Speaks s.stage session.stage t.handed
 
+-- nothing happens
 pub heeds_still : (k : ℕ) (w : World) (s : Session) → Sound w → found k w.sessions ≡ Some s → Heeds k w s (still w)
 heeds_still k w s sound e = record { sound = sound; beside = beside_same k w w.eids; session = s; there = e; speaks = speaks_same s.stage }
 
-pub heeds_put : (k : ℕ) (w : World) (eids : ℕ) (s t : Session) (packets : List Sent) → Sound w → found k w.sessions ≡ Some s → t.id ≡ k → SessionFits t → eids ≤ 2147483647 → HasRoom w s t → Speaks s.stage t.stage packets → Heeds k w s (record { world = put (record w { eids = eids }) t; handed = packets })
+-- the connection is changed
+pub heeds_put : (k : ℕ) (w : World) (eids : ℕ) (s t : Session) (packets : List Sent) → Sound w → found k w.sessions ≡ Some s
+    → t.id ≡ k → SessionFits t → eids ≤ 2147483647 → HasRoom w s t → Speaks s.stage t.stage packets
+    → Heeds k w s (record { world = put (record w { eids = eids }) t; handed = packets })
 heeds_put k w eids s t packets sound e is fits small room speaks = record {
   sound = sound_put w eids k s t sound e is fits small room;
   beside = beside_onward k w (record w { eids = eids }) (put (record w { eids = eids }) t) (beside_same k w eids) (beside_put k (record w { eids = eids }) t is);
@@ -49,17 +53,27 @@ heeds_put k w eids s t packets sound e is fits small room speaks = record {
 pub no_room : (w : World) (s t : Session) → is_play t.stage ≡ false → HasRoom w s t
 no_room w s t waits plays = absurd cc
 
-pub heeds_hand : (k : ℕ) (w : World) (eids : ℕ) (s t : Session) (packets : List Sent) → Sound w → found k w.sessions ≡ Some s → t.id ≡ k → SessionFits t → eids ≤ 2147483647 → HasRoom w s t → Speaks s.stage t.stage packets → Heeds k w s (turn (record w { eids = eids }) (hand t packets))
+-- packets are handed to it, or are too much
+pub heeds_hand : (k : ℕ) (w : World) (eids : ℕ) (s t : Session) (packets : List Sent) → Sound w → found k w.sessions ≡ Some s
+    → t.id ≡ k → SessionFits t → eids ≤ 2147483647 → HasRoom w s t → Speaks s.stage t.stage packets
+    → Heeds k w s (turn (record w { eids = eids }) (hand t packets))
 heeds_hand k w eids s t packets sound e is f small room speaks = hand_cases t packets (λ h. Heeds k w s (turn (record w { eids = eids }) h))
-    (λ fits. heeds_put k w eids s (record t { owed = t.owed ++ bytes_of packets }) packets sound e is (record { named = f.named; eid = f.eid; spot = f.spot; shown = f.shown; rest = f.rest }) small room speaks)
-    (λ much. heeds_put k w eids s (record t { stage = stages.Closed; cause = Some causes.Backlog; owed = [] }) [] sound e is (record { named = f.named; eid = f.eid; spot = f.spot; shown = f.shown; rest = f.rest }) small
-      (no_room w s (record t { stage = stages.Closed; cause = Some causes.Backlog; owed = [] }) refl) (speaks_shut s.stage))
+    (λ fits. heeds_put k w eids s (record t { owed = t.owed ++ bytes_of packets }) packets sound e is
+    (still_fits t t.stage t.protocol t.cause (t.owed ++ bytes_of packets) f) small room speaks)
+    (λ much. heeds_put k w eids s (record t { stage = stages.Closed; cause = Some causes.Backlog; owed = [] }) [] sound e is
+    (still_fits t stages.Closed t.protocol (Some causes.Backlog) [] f) small
+    (no_room w s (record t { stage = stages.Closed; cause = Some causes.Backlog; owed = [] }) refl) (speaks_shut s.stage))
 
-pub heeds_close : (k : ℕ) (w : World) (s : Session) (cause : Cause) (packets : List Sent) → Sound w → found k w.sessions ≡ Some s → SessionFits s → Speaks s.stage stages.Closed packets → Heeds k w s (turn w (close s cause packets))
+-- it is closed with its last packets
+pub heeds_close : (k : ℕ) (w : World) (s : Session) (cause : Cause) (packets : List Sent) → Sound w → found k w.sessions ≡ Some s
+    → SessionFits s → Speaks s.stage stages.Closed packets → Heeds k w s (turn w (close s cause packets))
 heeds_close k w s cause packets sound e f speaks =
-    heeds_hand k w w.eids s (shut s cause) packets sound e (found_id k w.sessions s e) (record { named = f.named; eid = f.eid; spot = f.spot; shown = f.shown; rest = f.rest }) sound.eids (no_room w s (shut s cause) refl) speaks
+    heeds_hand k w w.eids s (shut s cause) packets sound e (found_id k w.sessions s e)
+    (still_fits s stages.Closed s.protocol (Some cause) s.owed f) sound.eids (no_room w s (shut s cause) refl) speaks
 
-pub heeds_farewell : (k : ℕ) (w : World) (s : Session) (cause : Cause) → Sound w → found k w.sessions ≡ Some s → SessionFits s → Heeds k w s (turn w (close s cause (farewell s.stage cause)))
+-- it is closed with its farewell
+pub heeds_farewell : (k : ℕ) (w : World) (s : Session) (cause : Cause) → Sound w → found k w.sessions ≡ Some s → SessionFits s
+    → Heeds k w s (turn w (close s cause (farewell s.stage cause)))
 heeds_farewell k w s cause sound e f = heeds_close k w s cause (farewell s.stage cause) sound e f (speaks_farewell s.stage cause)
 
 -- ---- entering
@@ -70,14 +84,17 @@ pub record IsWelcome (w : World) (name : List ℕ) : Type 0 where
   pub room : length (players w) < w.most
   pub numbers : w.eids < 2147483647
 
+-- a test that must pass did
 passes : (t : Bool) (why : Refusal) (o : Option Refusal) → (if not t then Some why else o) ≡ None → (t ≡ true) × (o ≡ None)
 passes true why o e = (refl, e)
 passes false why o e = absurd cc
 
+-- a test that must not pass did not
 passed_on : (t : Bool) (why : Refusal) (o : Option Refusal) → (if t then Some why else o) ≡ None → o ≡ None
 passed_on true why o e = absurd cc
 passed_on false why o e = e
 
+-- who is not refused is welcome
 pub welcome_of : (w : World) (protocol : ℤ) (name : List ℕ) → refusal w protocol name ≡ None → IsWelcome w name
 welcome_of w protocol name e =
     let a = passes (is_47 protocol) refusals.Version _ e in
@@ -87,6 +104,7 @@ welcome_of w protocol name e =
     let room = both_true (nat_lt (length (players w)) w.most) (nat_lt w.eids 2147483647) d.0 in
     record { named = b.0; room = ltb-true _ _ room.0; numbers = ltb-true _ _ room.1 }
 
+-- a player that enters can be told of
 pub entered_fits : (w : World) (s : Session) (name : List ℕ) → IsWelcome w name → SessionFits s → SessionFits (entered w s name)
 entered_fits w s name welcome f = record {
   named = record { uuid = offline_small name; name = name_short name welcome.named };

@@ -1,9 +1,15 @@
 -- What holds of every world of a run, so that all that is handed out can be told; and that what is due at a tick is so.
 use Rattle.std.proofs.Common.{◌≡◌, ℕ, ◌≤◌, Bool, true, false, cond, List, [], ◌∷◌, ◌++◌, map, length, refl, subst, arith}
-use Rattle.std.specs.Prelude.{Some, None, is_some, if◌then◌else◌, ◌==◌}
+use Rattle.std.specs.Prelude.{Option, Some, None, is_some, if◌then◌else◌, ◌==◌}
 use Rattle.std.specs.List.{AllByRecursion}
+use lib.IntN.{ℤ}
 use Rattle.mc_nbt.specs.Reading.{IsBytes}
 use Rattle.mc_down.specs.declared.down.Down.{Down}
+use Rattle.mc_fields.specs.declared.position.Spot.{Spot}
+use Rattle.mc_model.specs.declared.cause.Cause.{Cause}
+use Rattle.mc_model.specs.declared.stage.Stage.{Stage}
+use Rattle.mc_model.specs.Notes.{Noted}
+use Rattle.mc_model.specs.Sight.{Sight}
 use Rattle.mc_model.specs.Hearing.{of_play, for_play}
 use Rattle.mc_model.specs.Delta.{delta}
 use Rattle.mc_model.specs.World.{World, Session, AreSettings, players, found, is_play, spawn_height, project}
@@ -23,6 +29,26 @@ pub record SessionFits (s : Session) : Type 0 where
   pub shown : SightFits (last_shown s)
   pub rest : IsBytes s.rest
 
+-- it still can after what changes between two ticks: how far it came and what it is owed; its player's place; its bytes
+pub still_fits : (s : Session) (stage : Stage) (protocol : ℤ) (cause : Option Cause) (owed : List ℕ) → SessionFits s
+    → SessionFits (record s { stage = stage; protocol = protocol; cause = cause; owed = owed })
+still_fits s stage protocol cause owed f = record { named = f.named; eid = f.eid; spot = f.spot; shown = f.shown; rest = f.rest }
+
+-- after what changes its player's place
+pub place_fits : (s : Session) (asked : ℤ) (place : Spot) (notes : Noted) → SpotFits place → SessionFits s
+    → SessionFits (record s { asked = asked; place = place; notes = notes })
+place_fits s asked place notes at f = record { named = f.named; eid = f.eid; spot = at; shown = f.shown; rest = f.rest }
+
+-- after bytes that came
+pub rest_fits : (s : Session) (rest : List ℕ) (before : ℕ) → IsBytes rest → SessionFits s
+    → SessionFits (record s { rest = rest; before = before })
+rest_fits s rest before bytes f = record { named = f.named; eid = f.eid; spot = f.spot; shown = f.shown; rest = bytes }
+
+-- and after a tick, by which it is shown something
+pub shown_fits : (s : Session) (shown : Sight) (notes : Noted) → SightFits shown → SessionFits s
+    → SessionFits (record s { shown = Some shown; notes = notes })
+shown_fits s shown notes sight f = record { named = f.named; eid = f.eid; spot = f.spot; shown = sight; rest = f.rest }
+
 pub record Sound (w : World) : Type 0 where
   pub settings : AreSettings w.most w.cap
   pub eids : w.eids ≤ 2147483647
@@ -40,6 +66,7 @@ all_found P k (x ∷ xs) s a e = step (x.id == k) e (λ later. all_found P k xs 
     step true here rest = subst P (one_some x s (Some x) refl here) a.0
     step false later rest = rest later
 
+-- in a sound world a projection fits
 pub sound_sight : (w : World) (s : Session) → Sound w → SessionFits s → SightFits (project w s)
 sound_sight w s sound f =
     project_fits w s
@@ -50,11 +77,15 @@ sound_sight w s sound f =
     kept [] a = tt
     kept (t ∷ ss) a = (a.0.named, kept ss a.1)
 
+-- the opening is clear
 opening_clear : (w : World) (s : Session) → Sound w → SessionFits s → AreClear (opening w s)
-opening_clear w s sound f =
-    (join_clear s.eid w.most (level w.terrain) (omega (arith, f.eid)) sound.settings.few (level_short w.terrain),
-    (spawn_clear (spawn_height w.terrain) (let low = spawn_low w.terrain in omega (arith, low)),
-    (placing_clear s.place f.spot, tt)))
+opening_clear w s sound f = (
+  join_clear s.eid w.most (level w.terrain) (omega (arith, f.eid)) sound.settings.few (level_short w.terrain),
+  (
+    spawn_clear (spawn_height w.terrain) (let low = spawn_low w.terrain in omega (arith, low)),
+    (placing_clear s.place f.spot, tt),
+  ),
+)
 
 -- what is due is clear
 pub due_clear : (w : World) (s : Session) → Sound w → SessionFits s → AreClear (due w s)
@@ -73,6 +104,7 @@ due_clear w s sound f =
     noted true = (placing_clear s.place f.spot, tt)
     noted false = tt
 
+-- packets of play that are clear are heard by who plays
 pub clear_heard : (packets : List Down) → AreClear packets → Hears for_play (map of_play packets) for_play
 clear_heard [] a = refl
 clear_heard (packet ∷ packets) a = (a.0, clear_heard packets a.1)

@@ -14,7 +14,7 @@ use Rattle.mc_model.specs.Acts.{both, moved, turned, is_within, is_in_range, arr
 use Rattle.mc_model.proofs.FitsText.{both_true}
 use Rattle.mc_model.proofs.FitsSight.{SpotFits}
 use Rattle.mc_model.proofs.FitsDue.{rest_below, spawn_fits}
-use Rattle.mc_model.proofs.Sound.{SessionFits}
+use Rattle.mc_model.proofs.Sound.{SessionFits, place_fits}
 
 -- ---- turns
 
@@ -23,9 +23,11 @@ pub record IsTurned (spot : Spot) : Type 0 where
   pub yaw : spot.yaw < 256
   pub pitch : spot.pitch < 256
 
+-- what is there is one thing
 some_is : {A : Type 0} (a b : A) → ◌≡◌ {A = Option A} (Some a) (Some b) → a ≡ b
 some_is a b e = cc
 
+-- a turn that was worked out is within one turn
 turn_low : (p a : ℕ) → turn_of p ≡ Some a → a < 256
 unfolding turn_of
 turn_low p a e = step _ _ e
@@ -34,37 +36,48 @@ turn_low p a e = step _ _ e
     step true z e = absurd cc
     step false z e = let P : ℕ → Type 0 = λ n. n < 256 in subst P (some_is _ _ e) (rest_below z 256 (omega arith))
 
-turned_so : (spot to : Spot) (a b : Option ℕ) → ((n : ℕ) → a ≡ Some n → n < 256) → ((n : ℕ) → b ≡ Some n → n < 256) → both (λ (about up : ℕ). record spot { yaw = about; pitch = up }) a b ≡ Some to → IsTurned to
+-- so is a look that was worked out
+turned_so : (spot to : Spot) (a b : Option ℕ) → ((n : ℕ) → a ≡ Some n → n < 256) → ((n : ℕ) → b ≡ Some n → n < 256)
+    → both (λ (about up : ℕ). record spot { yaw = about; pitch = up }) a b ≡ Some to → IsTurned to
 turned_so spot to None b low high e = absurd cc
 turned_so spot to (Some about) None low high e = absurd cc
 turned_so spot to (Some about) (Some up) low high e =
     subst IsTurned (some_is (record spot { yaw = about; pitch = up }) to e) (record { yaw = low about refl; pitch = high up refl })
 
+-- a player that looks
 turned_turned : (spot to : Spot) (yaw pitch : ℕ) → turned spot yaw pitch ≡ Some to → IsTurned to
 turned_turned spot to yaw pitch e = turned_so spot to (turn_of yaw) (turn_of pitch) (turn_low yaw) (turn_low pitch) e
 
-moved_so : (spot to : Spot) (a b c : Option ℤ) → IsTurned spot → option_and_then (λ (east : ℤ). both (λ (up south : ℤ). record spot { x = east; y = up; z = south }) b c) a ≡ Some to → IsTurned to
+-- a place keeps the look
+moved_so : (spot to : Spot) (a b c : Option ℤ) → IsTurned spot
+    → option_and_then (λ (east : ℤ). both (λ (up south : ℤ). record spot { x = east; y = up; z = south }) b c) a ≡ Some to
+    → IsTurned to
 moved_so spot to None b c is e = absurd cc
 moved_so spot to (Some east) None c is e = absurd cc
 moved_so spot to (Some east) (Some up) None is e = absurd cc
 moved_so spot to (Some east) (Some up) (Some south) is e =
     subst IsTurned (some_is (record spot { x = east; y = up; z = south }) to e) (record { yaw = is.yaw; pitch = is.pitch })
 
+-- a player that moves
 moved_turned : (spot to : Spot) (x y z : ℕ) → IsTurned spot → moved spot x y z ≡ Some to → IsTurned to
 moved_turned spot to x y z is e = moved_so spot to (fixed_of x) (fixed_of y) (fixed_of z) is e
 
-both_turned : (o : Option Spot) (to : Spot) (yaw pitch : ℕ) → option_and_then (λ (spot : Spot). turned spot yaw pitch) o ≡ Some to → IsTurned to
+-- a player that does both
+both_turned : (o : Option Spot) (to : Spot) (yaw pitch : ℕ) → option_and_then (λ (spot : Spot). turned spot yaw pitch) o ≡ Some to
+    → IsTurned to
 both_turned None to yaw pitch e = absurd cc
 both_turned (Some spot) to yaw pitch e = turned_turned spot to yaw pitch e
 
 -- ---- places
 
+-- what is within a range is not large
 within_small : (low high : ℕ) (n : ℤ) → suc low ≤ high → is_within (negsuc low) (pos high) n ≡ true → unsigned_abs n ≤ high
 within_small low high (pos n) le t = leb-true n high (both_true (int_le (negsuc low) (pos n)) (int_le (pos n) (pos high)) t).1
 within_small low high (negsuc n) le t =
     let few = leb-true n low (both_true (int_le (negsuc low) (negsuc n)) (int_le (negsuc n) (pos high)) t).0 in
     omega (arith, few, le)
 
+-- a place in range fits
 range_fits : (spot : Spot) → IsTurned spot → is_in_range spot ≡ true → SpotFits spot
 range_fits spot is t =
     let x : Bool = is_within (negsuc 959999999) (pos 960000000) spot.x in
@@ -94,19 +107,24 @@ pub record ActsFit (w : World) (s : Session) (v : World) : Type 0 where
   pub stays : StaysFit s session
   pub is : (v ≡ w) ⊎ (v ≡ put w session)
 
+-- who arrives there, or where players enter
 arrived_fits : (w : World) (s : Session) (to : Spot) → SessionFits s → IsTurned to → StaysFit s (arrived w s to)
 arrived_fits w s to f is = step (is_in_range to) refl
   where
-    step : (b : Bool) → is_in_range to ≡ b → StaysFit s (if b then record s { place = to } else record s { place = spawn_spot w.terrain; notes = record s.notes { placing = true } })
-    step true t = record { id = refl; stage = refl; fits = record { named = f.named; eid = f.eid; spot = range_fits to is t; shown = f.shown; rest = f.rest } }
-    step false t = record { id = refl; stage = refl; fits = record { named = f.named; eid = f.eid; spot = spawn_fits w.terrain; shown = f.shown; rest = f.rest } }
+    step : (b : Bool) → is_in_range to ≡ b
+        → StaysFit s (if b then record s { place = to } else record s { place = spawn_spot w.terrain; notes = record s.notes { placing = true } })
+    step true t = record { id = refl; stage = refl; fits = place_fits s s.asked to s.notes (range_fits to is t) f }
+    step false t = record { id = refl; stage = refl; fits = place_fits s s.asked (spawn_spot w.terrain) (record s.notes { placing = true }) (spawn_fits w.terrain) f }
 
-arrive_fits : (w v : World) (s : Session) (o : Option Spot) → SessionFits s → ((to : Spot) → o ≡ Some to → IsTurned to) → arrive w s o ≡ Some v → ActsFit w s v
+-- where all numbers stand for some
+arrive_fits : (w v : World) (s : Session) (o : Option Spot) → SessionFits s → ((to : Spot) → o ≡ Some to → IsTurned to)
+    → arrive w s o ≡ Some v → ActsFit w s v
 arrive_fits w v s None f is e = absurd cc
 arrive_fits w v s (Some to) f is e =
     let P : World → Type 0 = λ u. ActsFit w s u in
     subst P (some_is (put w (arrived w s to)) v e) (record { session = arrived w s to; stays = arrived_fits w s to f (is to refl); is = inr refl })
 
+-- whatever the packet is
 pub act_fits : (w v : World) (s : Session) (packet : PlayUp) → SessionFits s → act w s packet ≡ Some v → ActsFit w s v
 unfolding act
 act_fits w v s (Position x y z on_ground) f e =
@@ -117,7 +135,7 @@ act_fits w v s (PositionLook x y z yaw pitch on_ground) f e =
 act_fits w v s (Settings locale view chat_mode colours skin) f e =
     record {
       session = record s { asked = view };
-      stays = record { id = refl; stage = refl; fits = record { named = f.named; eid = f.eid; spot = f.spot; shown = f.shown; rest = f.rest } };
+      stays = record { id = refl; stage = refl; fits = place_fits s view s.place s.notes f.spot f };
       is = inr (sym (some_is (put w (record s { asked = view })) v e));
     }
 act_fits w v s other f e = record { session = s; stays = record { id = refl; stage = refl; fits = f }; is = inl (sym (some_is w v e)) }

@@ -14,11 +14,13 @@ use Rattle.mc_model.proofs.Sound.{SessionFits, Sound}
 abbrev pub replaced : ℕ → Session → List Session → List Session
 replaced k t ss = map (λ (u : Session). if u.id == k then t else u) ss
 
+-- where none is found none is replaced
 replaced_none : (k : ℕ) (t : Session) (ss : List Session) → found k ss ≡ None → replaced k t ss ≡ ss
 replaced_none k t [] e = refl
 replaced_none k t (x ∷ xs) e = step (x.id == k) e (λ later. replaced_none k t xs later)
   where
-    step : (b : Bool) → cond b (Some x) (found k xs) ≡ None → (found k xs ≡ None → replaced k t xs ≡ xs) → cond b t x ∷ replaced k t xs ≡ x ∷ xs
+    step : (b : Bool) → cond b (Some x) (found k xs) ≡ None → (found k xs ≡ None → replaced k t xs ≡ xs)
+        → cond b t x ∷ replaced k t xs ≡ x ∷ xs
     step true here rest = absurd (some_none x (Some x) refl here)
     step false later rest = ap (λ (v : List Session). x ∷ v) (rest later)
 
@@ -29,6 +31,7 @@ playing ss = filter (λ (s : Session). is_play s.stage) ss
 abbrev pub one_if : Bool → ℕ
 one_if b = cond b 1 0
 
+-- one more connection
 pub playing_more : (s : Session) (ss : List Session) → length (playing (s ∷ ss)) ≡ one_if (is_play s.stage) + length (playing ss)
 playing_more s ss = step (is_play s.stage)
   where
@@ -37,14 +40,17 @@ playing_more s ss = step (is_play s.stage)
     step false = omega arith
 
 -- another in its place changes the count by these two alone
-playing_replaced : (k : ℕ) (t s : Session) (ss : List Session) → AreApart ss → found k ss ≡ Some s → length (playing (replaced k t ss)) + one_if (is_play s.stage) ≡ length (playing ss) + one_if (is_play t.stage)
+playing_replaced : (k : ℕ) (t s : Session) (ss : List Session) → AreApart ss → found k ss ≡ Some s
+    → length (playing (replaced k t ss)) + one_if (is_play s.stage) ≡ length (playing ss) + one_if (is_play t.stage)
 playing_replaced k t s [] a e = absurd (some_none s None e refl)
 playing_replaced k t s (x ∷ xs) a e = step (x.id == k) refl e (λ later. playing_replaced k t s xs a.1 later)
   where
     Same : List Session → Type 0
     Same v = length (playing v) + one_if (is_play s.stage) ≡ length (playing (x ∷ xs)) + one_if (is_play t.stage)
 
-    step : (b : Bool) → (x.id == k) ≡ b → cond b (Some x) (found k xs) ≡ Some s → (found k xs ≡ Some s → length (playing (replaced k t xs)) + one_if (is_play s.stage) ≡ length (playing xs) + one_if (is_play t.stage)) → Same (cond b t x ∷ replaced k t xs)
+    step : (b : Bool) → (x.id == k) ≡ b → cond b (Some x) (found k xs) ≡ Some s
+        → (found k xs ≡ Some s → length (playing (replaced k t xs)) + one_if (is_play s.stage) ≡ length (playing xs) + one_if (is_play t.stage))
+        → Same (cond b t x ∷ replaced k t xs)
     step true is here rest =
         let none : found k xs ≡ None = (let P : ℕ → Type 0 = λ n. found n xs ≡ None in subst P (eqb-true x.id k is) a.0) in
         let P : List Session → Type 0 = λ v. Same (t ∷ v) in
@@ -56,7 +62,9 @@ playing_replaced k t s (x ∷ xs) a e = step (x.id == k) refl e (λ later. playi
 
 -- ---- one connection changed
 
-all_replaced : (P : Session → Type 0) (k : ℕ) (t : Session) (ss : List Session) → P t → AllByRecursion P ss → AllByRecursion P (replaced k t ss)
+-- what holds of all and of the other holds then
+all_replaced : (P : Session → Type 0) (k : ℕ) (t : Session) (ss : List Session) → P t → AllByRecursion P ss
+    → AllByRecursion P (replaced k t ss)
 all_replaced P k t [] p a = tt
 all_replaced P k t (x ∷ xs) p a = (step (x.id == k), all_replaced P k t xs p a.1)
   where
@@ -64,24 +72,24 @@ all_replaced P k t (x ∷ xs) p a = (step (x.id == k), all_replaced P k t xs p a
     step true = p
     step false = a.0
 
-one_less : (b : Bool) → one_if b ≤ 1
-one_less true = omega arith
-one_less false = omega arith
-
 -- who enters play was in play, or there is room
 abbrev pub HasRoom : World → Session → Session → Type 0
 HasRoom w s t = is_play t.stage ≡ true → (is_play s.stage ≡ true) ⊎ (length (players w) < w.most)
 
-few_after : (a b n m : ℕ) (old new : Bool) → a + one_if old ≡ b + one_if new → b ≤ m → (new ≡ true → (old ≡ true) ⊎ (b < m)) → a ≤ m
+-- as many as may be in play
+few_after : (a b n m : ℕ) (old new : Bool) → a + one_if old ≡ b + one_if new → b ≤ m → (new ≡ true → (old ≡ true) ⊎ (b < m))
+    → a ≤ m
 few_after a b n m true true e few room = omega (arith, e, few)
 few_after a b n m true false e few room = omega (arith, e, few)
 few_after a b n m false false e few room = omega (arith, e, few)
 few_after a b n m false true e few room = elim (room refl) [
-      | inl was ↦ absurd cc
-      | inr less ↦ omega (arith, e, less)
-    ]
+  | inl was ↦ absurd cc
+  | inr less ↦ omega (arith, e, less)
+]
 
-pub sound_put : (w : World) (eids k : ℕ) (s t : Session) → Sound w → found k w.sessions ≡ Some s → t.id ≡ k → SessionFits t → eids ≤ 2147483647 → HasRoom w s t → Sound (put (record w { eids = eids }) t)
+-- a sound world with another in the place of one is sound
+pub sound_put : (w : World) (eids k : ℕ) (s t : Session) → Sound w → found k w.sessions ≡ Some s → t.id ≡ k → SessionFits t
+    → eids ≤ 2147483647 → HasRoom w s t → Sound (put (record w { eids = eids }) t)
 sound_put w eids k s t sound e is fits small room =
     let beside = beside_put k (record w { eids = eids }) t is in
     let P : ℕ → Type 0 = λ n. length (playing (replaced n t w.sessions)) + one_if (is_play s.stage) ≡ length (playing w.sessions) + one_if (is_play t.stage) in
@@ -96,7 +104,9 @@ sound_put w eids k s t sound e is fits small room =
 
 -- ---- each connection changed
 
-few_mapped : (f : Session → Session) → ((s : Session) → is_play (f s).stage ≡ true → is_play s.stage ≡ true) → (ss : List Session) → length (playing (map f ss)) ≤ length (playing ss)
+-- where nobody enters play, no more play
+few_mapped : (f : Session → Session) → ((s : Session) → is_play (f s).stage ≡ true → is_play s.stage ≡ true) → (ss : List Session)
+    → length (playing (map f ss)) ≤ length (playing ss)
 few_mapped f stays [] = omega arith
 few_mapped f stays (x ∷ xs) =
     let rest = few_mapped f stays xs in
@@ -108,7 +118,10 @@ few_mapped f stays (x ∷ xs) =
     fewer true false h = (let e = h refl in absurd cc)
     fewer false b h = omega arith
 
-pub sound_mapped : (w : World) (f : Session → Session) → ((s : Session) → (f s).id ≡ s.id) → ((s : Session) → is_play (f s).stage ≡ true → is_play s.stage ≡ true) → AllByRecursion SessionFits (map f w.sessions) → Sound w → Sound (record w { sessions = map f w.sessions })
+-- a sound world with each connection changed is sound
+pub sound_mapped : (w : World) (f : Session → Session) → ((s : Session) → (f s).id ≡ s.id)
+    → ((s : Session) → is_play (f s).stage ≡ true → is_play s.stage ≡ true) → AllByRecursion SessionFits (map f w.sessions)
+    → Sound w → Sound (record w { sessions = map f w.sessions })
 sound_mapped w f keeps stays fits sound =
     let le = few_mapped f stays w.sessions in
     record {

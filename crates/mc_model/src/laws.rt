@@ -1,5 +1,6 @@
-ghost use Rattle.std.specs.Prelude.{◌≡◌, ◌≢◌, ◌++◌, ◌∷◌, ◌↔◌, ◌⊎◌, ℕ, true, false, List, [], map, length, Option, Some, None};
+ghost use Rattle.std.specs.Prelude.{◌≡◌, ◌≢◌, ◌<◌, ◌^◌, ◌++◌, ◌∷◌, ◌↔◌, ◌⊎◌, ℕ, ℤ, true, false, unsigned_abs, List, [], map, length, Option, Some, None};
 ghost use Rattle.std.specs.List.{Contains};
+ghost use Rattle.mc_fields.specs.Pattern.{Fixes, IsEndless, StandsFor, StandsForTurn, Turns, IsVast};
 ghost use Rattle.mc_frame.specs.Cut.{IsCutAt};
 ghost use Rattle.mc_nbt.specs.Reading.{IsBytes};
 ghost use Rattle.mc_land.specs.declared.terrain.Terrain.{Terrain};
@@ -9,6 +10,7 @@ ghost use Rattle.mc_model.specs.declared.cause.Cause.TheVariants as causes;
 ghost use Rattle.mc_model.specs.declared.stage.Stage.TheVariants as stages;
 ghost use Rattle.mc_model.specs.Notes.{no_notes};
 ghost use Rattle.mc_model.specs.Cutting.{cut_of};
+ghost use Rattle.mc_model.specs.Numbers.{fixed_of, turn_of, pattern_of, degrees_of};
 ghost use Rattle.mc_model.specs.Sight.{Sight};
 ghost use Rattle.mc_model.specs.Replica.{Shows, new_replica, replay, seeing};
 ghost use Rattle.mc_model.specs.Delta.{Follows, delta};
@@ -24,6 +26,17 @@ ghost use Rattle.mc_model.specs.Causes.{Closes, IsOpen, IsTooMuch};
 /// The cut that is worked out frame by frame is the cut of the stream.
 pub fn cuts_are_worked_out()
     ensures { (count : ℕ) (bytes : List ℕ) → IsBytes bytes → IsCutAt count bytes (cut_of count bytes) }
+{}
+
+/// The numbers that are worked out of patterns, and the patterns of numbers, are those that `mc_fields`
+/// says by inequalities.
+pub fn numbers_are_worked_out()
+    ensures fixed { (p : ℕ) (n : ℤ) → fixed_of p ≡ Some n → Fixes p n }
+    ensures endless { (p : ℕ) → fixed_of p ≡ None ↔ IsEndless p }
+    ensures turn { (p a : ℕ) → turn_of p ≡ Some a → Turns p a }
+    ensures vast { (p : ℕ) → turn_of p ≡ None ↔ IsVast p }
+    ensures pattern { (n : ℤ) → unsigned_abs n < 2 ^ 31 → StandsFor n (pattern_of n) }
+    ensures degrees { (a : ℕ) → a < 256 → StandsForTurn a (degrees_of a) }
 {}
 
 /// The columns of a view are those near the middle.
