@@ -1,0 +1,54 @@
+ghost use Rattle.std.specs.Prelude.{◌≡◌};
+ghost use Rattle.std.specs.Iterator.{YieldsFirst, item_count};
+ghost use Rattle.mc_view.specs.Sets.{lacking};
+
+use crate::ViewSet;
+use crate::square::Square;
+use std::marker::Model;
+
+/// The columns of one view that another lacks, in rising order. They are not stored.
+#[derive(Drop)]
+pub struct Columns {
+    square: Square,
+    other: ViewSet,
+}
+
+impl Model for Columns {
+    ghost use Rattle.std.specs.Prelude.{List, not};
+    ghost use Rattle.std.specs.List.{filter};
+    ghost use Rattle.mc_land.specs.Places.{Place};
+    ghost use Rattle.mc_view.specs.Sets.{has};
+
+    ghost Value = { List Place };
+
+    ghost view = { λ s. filter (λ (place : Place). not (has s.other place)) s.square };
+}
+
+impl Columns {
+    /// Those of a view that another lacks.
+    pub fn new(view: &ViewSet, other: &ViewSet) -> Columns
+        ensures { result ≡ lacking view.now other.now }
+    {
+        Columns {
+            square: Square::of(view),
+            other: *other,
+        }
+    }
+}
+
+impl Iterator for Columns {
+    type Item = (i32, i32);
+
+    ghost next_gives = { YieldsFirst (λ s. s) };
+
+    ghost remaining = { item_count (λ s. s) };
+
+    fn next(&mut self) -> Option<(i32, i32)> {
+        while let Some((cx, cz)) = self.square.next() {
+            if !self.other.has(cx, cz) {
+                return Some((cx, cz));
+            }
+        }
+        None
+    }
+}
