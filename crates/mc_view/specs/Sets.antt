@@ -1,5 +1,5 @@
 -- Sets of columns around a place: which columns such a set has, and which of one set another lacks. Rules of this project.
-use Rattle.std.specs.Prelude.{ℕ, ◌&&◌, nat_le, not, Bool, unsigned_abs, List}
+use Rattle.std.specs.Prelude.{ℕ, ◌&&◌, nat_le, not, Bool, false, unsigned_abs, List, Option, Some, None}
 use Rattle.std.specs.List.{filter}
 use lib.IntN.{ℤ, ◌-ℤ◌}
 use Rattle.mc_land.specs.Places.{Place}
@@ -12,6 +12,11 @@ is_near cx cz d place = nat_le (unsigned_abs (place.0 -ℤ cx)) d && nat_le (uns
 
 abbrev pub has : ViewSet → Place → Bool
 has view place = is_near view.cx view.cz view.d place
+
+-- there is a set, and it has a column
+abbrev pub is_within : Option ViewSet → Place → Bool
+is_within None place = false
+is_within (Some view) place = has view place
 
 -- all of them, in the order of their places
 abbrev pub all_of : ViewSet → List Place

@@ -125,6 +125,13 @@ fn columns_enter_and_leave_a_view(rt: HostRuntime) -> Result<(), Fail> {
 }
 
 #[test]
+fn all_columns_of_a_view_are_given(rt: HostRuntime) -> Result<(), Fail> {
+    let view = view(&rt, &(-3, 7, 2));
+    assert_eq!(rt; ends(view.all()), (25, Some((-5, 5)), Some((-1, 9))));
+    Ok(())
+}
+
+#[test]
 fn a_view_has_the_columns_up_to_its_edge(rt: HostRuntime) -> Result<(), Fail> {
     let view = ViewSet::of(0, 0, 2);
     for ((cx, cz), want) in EDGES {

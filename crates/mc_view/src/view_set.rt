@@ -19,7 +19,7 @@ pub struct ViewSet {
 impl ViewSet {
     ghost use Rattle.mc_land.specs.Places.{Place};
     ghost use Rattle.mc_model.specs.Views.{IsInView};
-    ghost use Rattle.mc_view.specs.Sets.{lacking};
+    ghost use Rattle.mc_view.specs.Sets.{all_of, lacking};
 
     /// The set around a middle.
     pub fn of(cx: i32, cz: i32, d: u8) -> ViewSet
@@ -40,6 +40,13 @@ impl ViewSet {
         ensures { IsTrue result ↔ IsInView (self.now.cx, self.now.cz) self.now.d (cx, cz) }
     {
         self.cx.abs_diff(cx) <= u32::from(self.d) && self.cz.abs_diff(cz) <= u32::from(self.d)
+    }
+
+    /// All columns of this set, in rising order.
+    pub fn all(&self) -> Columns
+        ensures { result ≡ all_of self.now }
+    {
+        Columns::all(self)
     }
 
     /// The columns of this set that `old` lacks, in rising order.
