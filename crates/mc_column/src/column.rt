@@ -146,6 +146,23 @@ impl Column {
         Ok(mask)
     }
 
+    /// The mask that `write_body` answers.
+    pub fn sent_mask(&self) -> u16
+        ensures mask { result ≡ column_mask self.now }
+        ensures sizes { HasSizes self.now }
+    {
+        sent_mask(&self.sections)
+    }
+
+    /// How many bytes `write_body` appends, where this is its mask.
+    pub fn sent_size(&self, mask: u16) -> usize
+        requires { mask ≡ column_mask self.now }
+        ensures { result ≡ length (column_bytes self.now) }
+    {
+        let _ = &self.sections;
+        body_size(mask, true, true)
+    }
+
     /// Makes it equal to another. It takes no memory.
     pub fn copy_from(&mut self, other: &Column)
         ensures { self.new ≡ other.now }
