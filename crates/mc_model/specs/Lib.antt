@@ -14,3 +14,5 @@ pub mod Talk
 pub mod Step
 pub mod Run
 pub mod Causes
+pub mod SightCode
+pub mod PlainWorld

@@ -10,6 +10,7 @@ mod cause;
 mod laws;
 mod name;
 mod notes;
+pub mod plain;
 mod stage;
 
 pub use cause::{Cause, Refusal};

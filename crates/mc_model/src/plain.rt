@@ -1,0 +1,7 @@
+//! The definitions as a plain slow program; tests compare faster bodies with it.
+
+mod session;
+mod sight;
+
+pub use session::Session;
+pub use sight::Sight;
