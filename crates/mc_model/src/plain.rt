@@ -2,6 +2,8 @@
 
 mod session;
 mod sight;
+mod world;
 
 pub use session::Session;
 pub use sight::Sight;
+pub use world::World;

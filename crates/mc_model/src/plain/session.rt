@@ -1,7 +1,7 @@
 ghost use Rattle.std.specs.Prelude.{◌≡◌, ◌++◌, ◌∷◌, ℕ, List, drop, length, Some, None, IfOk, OnOk};
 ghost use Rattle.mc_model.specs.World.{is_play, is_closed};
 ghost use Rattle.mc_model.specs.Hearing.{Sent, bytes_of};
-ghost use Rattle.mc_model.specs.Step.{new_session, is_kept, shut, gone};
+ghost use Rattle.mc_model.specs.Step.{new_session, is_kept, is_done, shut, gone};
 ghost use Rattle.mc_model.specs.PlainWorld.{Handed};
 
 use crate::plain::Sight;
@@ -154,6 +154,13 @@ impl Session {
         ensures { result ≡ is_kept self.now }
     {
         !self.is_closed() || self.owed.len() > 0
+    }
+
+    /// Whether it is closed and owed nothing.
+    pub fn is_done(&self) -> bool
+        ensures { result ≡ is_done self.now }
+    {
+        self.is_closed() && self.owed.len() == 0
     }
 
     /// Closes it.
