@@ -16,3 +16,4 @@ pub mod Run
 pub mod Causes
 pub mod SightCode
 pub mod PlainWorld
+pub mod PlainTurns

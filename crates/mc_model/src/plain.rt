@@ -1,5 +1,6 @@
 //! The definitions as a plain slow program; tests compare faster bodies with it.
 
+mod hearing;
 mod session;
 mod sight;
 mod world;
