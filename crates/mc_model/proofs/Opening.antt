@@ -33,10 +33,12 @@ unfolding apply
 notes_keep r s = elim s.notes.placing as (λ b. replay r (cond b (placing s.place ∷ []) []) ≡ r) [ true ↦ refl | false ↦ refl ]
 
 -- what is due at a tick makes of the replica the one that sees the world as it is
-pub due_leads : (w : World) (s : Session) → Follows (last_shown s) (project w s) → replay (seeing (last_shown s)) (due w s) ≡ seeing (project w s)
+pub due_leads : (w : World) (s : Session) → Follows (last_shown s) (project w s) →
+    replay (seeing (last_shown s)) (due w s) ≡ seeing (project w s)
 unfolding due
 due_leads w s follows =
     let before : Leads (last_shown s) (opening_due w s) (last_shown s) = record { is = opening_due_keeps (seeing (last_shown s)) w s refl } in
-    let difference : Leads (last_shown s) (delta (last_shown s) (project w s)) (project w s) = record { is = difference_leads (last_shown s) (project w s) follows } in
+    let difference : Leads (last_shown s) (delta (last_shown s) (project w s)) (project w s) =
+      record { is = difference_leads (last_shown s) (project w s) follows } in
     let after : Leads (project w s) (notes_due s) (project w s) = record { is = notes_keep (seeing (project w s)) s } in
     (onward (onward before difference) after).is

@@ -20,7 +20,8 @@ use Rattle.mc_model.proofs.Orders.{places_total, exact_places}
 -- ---- the columns of a projection
 
 -- what is found among entries that are made of their keys is made of the key that is sought
-found_made : {K X : Type 0} (R : K → K → Ordering) → IsAntisymmetric R → (f : K → X) (q : K) (keys : List K) (v : X) → find R q (map (λ k. (k, f k)) keys) ≡ Some v → v ≡ f q
+found_made : {K X : Type 0} (R : K → K → Ordering) → IsAntisymmetric R → (f : K → X) (q : K) (keys : List K) (v : X) →
+    find R q (map (λ k. (k, f k)) keys) ≡ Some v → v ≡ f q
 found_made R same f q [] v found = absurd cc
 found_made {X = X} R same f q (k ∷ ks) v found =
     elim (R q k) as (λ r. R q k ≡ r → cond (is_eq r) (Some (f k)) (find R q (map (λ j. (j, f j)) ks)) ≡ Some v → v ≡ f q) [
@@ -30,17 +31,20 @@ found_made {X = X} R same f q (k ∷ ks) v found =
     ] refl found
 
 -- a column that is shown is that of the world
-pub projected_column : (w : World) (s : Session) (place : Place) (column : ColumnValue) → get (project w s).columns place ≡ Some column → column ≡ column_in w place
+pub projected_column : (w : World) (s : Session) (place : Place) (column : ColumnValue) →
+    get (project w s).columns place ≡ Some column → column ≡ column_in w place
 unfolding project
 projected_column w s place column found =
     found_made place_cmp exact_places (column_in w) place (view_in w s) column
       (sym (get-from_entries places_total (map (λ (p : Place). (p, column_in w p)) (view_in w s)) place) ∙ found)
 
+-- each column of the world has all its cells
 pub column_sizes : (w : World) (place : Place) → HasSizes (column_in w place)
 column_sizes w place = record { states_are = length-map-range_with_len _ 0 cells; biomes_are = length-map-range_with_len _ 0 squares }
 
--- and has all its cells
-pub project_sizes : (w : World) (s : Session) (place : Place) (column : ColumnValue) → get (project w s).columns place ≡ Some column → HasSizes column
+-- and so has one that is shown
+pub project_sizes : (w : World) (s : Session) (place : Place) (column : ColumnValue) →
+    get (project w s).columns place ≡ Some column → HasSizes column
 project_sizes w s place column found = rw (projected_column w s place column found) (column_sizes w place)
 
 -- ---- one after another
@@ -69,7 +73,8 @@ abbrev pub pairs_in : World → List (ℕ × List ℕ)
 pairs_in w = map (λ (t : Session). (t.uuid, t.name)) (players w)
 
 -- the players, the land, how large a view may be, and the player's place and the size that it asked for
-pub project_same : (w v : World) (s t : Session) → pairs_in w ≡ pairs_in v → w.terrain ≡ v.terrain → w.edits ≡ v.edits → w.cap ≡ v.cap → s.place ≡ t.place → s.asked ≡ t.asked → project w s ≡ project v t
+pub project_same : (w v : World) (s t : Session) → pairs_in w ≡ pairs_in v → w.terrain ≡ v.terrain → w.edits ≡ v.edits →
+    w.cap ≡ v.cap → s.place ≡ t.place → s.asked ≡ t.asked → project w s ≡ project v t
 unfolding project
 project_same w v s t pairs terrain edits cap place asked = λ i. record {
   pairs = from_entries (pairs i);

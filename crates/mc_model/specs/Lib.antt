@@ -14,6 +14,7 @@ pub mod Talk
 pub mod Step
 pub mod Run
 pub mod Causes
-pub mod SightCode
 pub mod PlainWorld
 pub mod PlainTurns
+pub mod Plain
+pub mod PlainSight

@@ -35,7 +35,7 @@ impl Model for Session {
     ghost use Rattle.std.specs.Prelude.{[]};
     ghost use Rattle.std.specs.Coded.{codes};
     ghost use Rattle.mc_model.specs.World as spec;
-    ghost use Rattle.mc_model.specs.SightCode.{coded_sight};
+    ghost use Rattle.mc_model.specs.PlainSight.{coded_sight};
 
     ghost Value = { spec.Session };
 

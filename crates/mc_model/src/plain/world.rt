@@ -29,7 +29,7 @@ impl Model for World {
     ghost use Rattle.std.specs.Prelude.{◌≡◌};
     ghost use Rattle.mc_model.specs.World as spec;
     ghost use Rattle.std.specs.Coded.{codes};
-    ghost use Rattle.mc_model.specs.SightCode.{coded_sight};
+    ghost use Rattle.mc_model.specs.PlainSight.{coded_sight};
     ghost use Rattle.mc_model.specs.PlainWorld.{coded_edits, Rise, next_number};
 
     ghost Value = { spec.World };
