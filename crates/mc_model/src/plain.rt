@@ -4,6 +4,7 @@ mod difference;
 mod dues;
 mod hearing;
 mod identity;
+mod moving;
 mod numbers;
 mod parts;
 mod projecting;
