@@ -45,9 +45,9 @@ Suits stage (wrong fault) = Unit {0}
 
 wanted_waits : (n : ℤ) → (is_play (wanted n) ≡ false) × (is_closed (wanted n) ≡ false)
 wanted_waits (pos n) = elim (n == 1) as (λ b. (is_play (if b then stages.Status else stages.Login) ≡ false) × (is_closed (if b then stages.Status else stages.Login) ≡ false)) [
-    true ↦ (refl, refl)
+  | true ↦ (refl, refl)
   | false ↦ (refl, refl)
-  ]
+]
 wanted_waits (negsuc n) = (refl, refl)
 
 hand_suits : (r : Result Hand PacketFault) → Suits stages.Hand (in_hand r)
@@ -119,16 +119,19 @@ act_acted w s (Look yaw pitch on_ground) v e = arrive_acted w s (turned s.place 
 act_acted w s (PositionLook x y z yaw pitch on_ground) v e = arrive_acted w s (option_and_then (λ (to : Spot). turned to yaw pitch) (moved s.place x y z)) v e
 act_acted w s (Settings locale view chat_mode colours skin) v e = record {
   session = record s { asked = view };
-  id = refl; stage = refl; shown = refl; cause = refl;
+  id = refl;
+  stage = refl;
+  shown = refl;
+  cause = refl;
   is = inr (sym (some_is (put w (record s { asked = view })) v e));
 }
 act_acted w s other v e = record { session = s; id = refl; stage = refl; shown = refl; cause = refl; is = inl (sym (some_is w v e)) }
 
 goes_acted : (k : ℕ) (w v : World) (s : Session) → found k w.sessions ≡ Some s → s.id ≡ k → Acted w s v → Goes k w s (still v)
 goes_acted k w v s e is a = elim (a.is) [
-    inl same ↦ subst (λ (u : World). Goes k w s (still u)) (sym same) (goes_still k w s e)
+  | inl same ↦ subst (λ (u : World). Goes k w s (still u)) (sym same) (goes_still k w s e)
   | inr same ↦ subst (λ (u : World). Goes k w s (still u)) (sym same) (goes_put k w w.eids s a.session [] e (a.id ∙ is) (stayed a.stage a.shown a.cause refl))
-  ]
+]
 
 -- ---- a frame done
 
@@ -147,7 +150,7 @@ login_goes : (k : ℕ) (w : World) (s : Session) (name : List ℕ) (o : Option R
 login_goes k w s name (Some why) e is at open_ = goes_close k w s (causes.Refused why) (refused why) e is open_ (last_elsewhere s.stage stages.Login (refused why) refl at)
 login_goes k w s name None e is at open_ =
     goes_hand k w (w.eids + 1) s (entering w s name) (accepted (offline_uuid name) name) e is open_
-      (λ owed. entered at refl refl refl (accepted_played (offline_uuid name) name))
+    (λ owed. entered at refl refl refl (accepted_played (offline_uuid name) name))
 
 acted_goes : (k : ℕ) (w : World) (s : Session) (x : PlayUp) (o : Option World) → act w s x ≡ o → found k w.sessions ≡ Some s → s.id ≡ k → is_closed s.stage ≡ false → Goes k w s (acted w s o)
 acted_goes k w s x (Some v) did e is open_ = goes_acted k w v s e is (act_acted w s x v did)

@@ -20,7 +20,12 @@ pub record Beside (k : ℕ) (w v : World) : Type 0 where
 
 pub beside_same : (k : ℕ) (w : World) (eids : ℕ) → Beside k w (record w { eids = eids })
 beside_same k w eids = record {
-  age = refl; terrain = refl; edits = refl; most = refl; cap = refl; last = refl;
+  age = refl;
+  terrain = refl;
+  edits = refl;
+  most = refl;
+  cap = refl;
+  last = refl;
   others = λ j ne. refl;
   none = λ j e. e;
   apart = λ a. a;
@@ -41,7 +46,6 @@ beside_onward k w v u b c = record {
 
 -- ---- one connection changed
 
-
 at_keeps : (k : ℕ) (f : Session → Session) → ((t : Session) → t.id ≡ k → (f t).id ≡ t.id) → (t : Session) → (if t.id == k then f t else t).id ≡ t.id
 at_keeps k f keeps t = elim (t.id == k) as (λ b. (t.id == k) ≡ b → (cond b (f t) t).id ≡ t.id) [ true ↦ λ e. keeps t (eqb-true t.id k e) | false ↦ λ e. refl ] refl
 
@@ -54,7 +58,12 @@ found_other j k f ne (Some s) has =
 
 pub beside_changed : (k : ℕ) (w : World) (f : Session → Session) → ((t : Session) → t.id ≡ k → (f t).id ≡ t.id) → Beside k w (changed w k f)
 beside_changed k w f keeps = record {
-  age = refl; terrain = refl; edits = refl; most = refl; cap = refl; last = refl;
+  age = refl;
+  terrain = refl;
+  edits = refl;
+  most = refl;
+  cap = refl;
+  last = refl;
   others = λ j ne. found_map j _ (at_keeps k f keeps) w.sessions ∙ found_other j k f ne (found j w.sessions) (found_id j w.sessions);
   none = λ j e. found_map j _ (at_keeps k f keeps) w.sessions ∙ ap (option_map (λ (t : Session). if t.id == k then f t else t)) e;
   apart = apart_map _ (at_keeps k f keeps) w.sessions;

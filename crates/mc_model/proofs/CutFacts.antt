@@ -23,11 +23,11 @@ cut_worked_out (suc fuel) count bytes less fits = step (frame_read bytes) refl (
         framed_cut count bytes x.0 f.front x.1 (cut_from fuel (count + (length bytes - length x.1)) x.1) f.parts f.spelled
         (subst P (ap (λ (n : ℕ). count + n) (sym counted)) (rest (count + (length bytes - length x.1)) x.1 shorter f.rest_fits))
     step (Err stop) is rest = record {
-        front = [];
-        parts = refl;
-        framed = refl;
-        ends = stopped_ends stop.kind (count + 0) (kept_count count) bytes (ap kept_count (omega arith)) (frame_stopped bytes stop fits is);
-      }
+      front = [];
+      parts = refl;
+      framed = refl;
+      ends = stopped_ends stop.kind (count + 0) (kept_count count) bytes (ap kept_count (omega arith)) (frame_stopped bytes stop fits is);
+    }
 
 pub cut_of_bytes : (count : ℕ) (bytes : List ℕ) → IsBytes bytes → IsCutAt count bytes (cut_of count bytes)
 unfolding cut_of

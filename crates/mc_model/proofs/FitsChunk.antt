@@ -29,13 +29,13 @@ chunk_clear : (place : Place) (mask : ℕ) (body : List ℕ) → PlaceFits place
 chunk_clear place mask body at small few =
     let counted : SFits w32 (pos (length body)) = record { sfits = omega (arith, few) } in
     let fits : FitsDown (Chunk place.0 place.1 true mask body) =
-        (lit< tt, (signed_fits w32 place.0 at.x, (signed_fits w32 place.1 at.z, (tt, (small, (tt, ((tt, (varint-fits (pos (length body)) counted, refl)), refl))))))) in
+    (lit< tt, (signed_fits w32 place.0 at.x, (signed_fits w32 place.1 at.z, (tt, (small, (tt, ((tt, (varint-fits (pos (length body)) counted, refl)), refl))))))) in
     let size : AtMost 200016 _ =
-        at_most_joined 4 200012 _ _ (number_size w32 wide_32 (cast_unsigned w32 place.0)) (
-        at_most_joined 4 200008 _ _ (number_size w32 wide_32 (cast_unsigned w32 place.1)) (
-        at_most_joined 1 200007 _ _ (number_size w8 wide_8 (bool_byte true)) (
-        at_most_joined 2 200005 _ _ (number_size w16 wide_16 mask) (
-        at_most_joined 5 200000 _ _ (varint_size (pos (length body)) counted).1 few)))) in
+    at_most_joined 4 200012 _ _ (number_size w32 wide_32 (cast_unsigned w32 place.0)) (
+    at_most_joined 4 200008 _ _ (number_size w32 wide_32 (cast_unsigned w32 place.1)) (
+    at_most_joined 1 200007 _ _ (number_size w8 wide_8 (bool_byte true)) (
+    at_most_joined 2 200005 _ _ (number_size w16 wide_16 mask) (
+    at_most_joined 5 200000 _ _ (varint_size (pos (length body)) counted).1 few)))) in
     (fits, spelling_payload (entry_of (Chunk place.0 place.1 true mask body)) fits (few_bytes 200016 _ (omega arith) size))
 
 rank_most : (test : ℕ → Bool) (n : ℕ) → rank test n ≤ n

@@ -51,12 +51,12 @@ joiner_fits e f =
     record {
       fits = (tt, (f.uuid, (refl, (short_fits 32767 e.1 (lit< tt) (short_less 16 32767 e.1 (omega arith) f.name), ((tt, ((tt, (zero_, refl)), (refl, tt))), (zero_, (zero_, (tt, tt))))))));
       few = at_most_less 53 60 _ (omega arith) (
-        at_most_joined 16 37 _ _ (number_size w128 wide_128 e.0) (
-        at_most_joined 21 16 _ _ (text_size 16 e.1 (omega arith) f.name.few) (
-        at_most_joined 5 11 _ _ (at_most_joined 5 0 _ [] few (omega arith)) (
-        at_most_joined 5 6 _ _ few (
-        at_most_joined 5 1 _ _ few (
-        at_most_joined 1 0 _ [] (number_size w8 wide_8 (bool_byte false)) (omega arith)))))));
+          at_most_joined 16 37 _ _ (number_size w128 wide_128 e.0) (
+          at_most_joined 21 16 _ _ (text_size 16 e.1 (omega arith) f.name.few) (
+          at_most_joined 5 11 _ _ (at_most_joined 5 0 _ [] few (omega arith)) (
+          at_most_joined 5 6 _ _ few (
+          at_most_joined 5 1 _ _ few (
+          at_most_joined 1 0 _ [] (number_size w8 wide_8 (bool_byte false)) (omega arith)))))));
     }
 
 -- ---- a packet about some players
@@ -75,7 +75,7 @@ all_few action (p ∷ players) f =
 list_clear : (action : ℕ) (players : List Player) → is_action (pos action) ≡ true → action < 100 → length players ≤ 50 → AllByRecursion (PlayerFits (pos action)) players → IsClear for_play (of_play (PlayerList (pos action) players))
 list_clear action players is small few f =
     let fits : FitsDown (PlayerList (pos action) players) =
-        (lit< tt, ((small_varint action small, is), (tt, ((tt, (small_varint (length players) (omega (arith, few)), refl)), (refl, all_fit (pos action) players f))))) in
+    (lit< tt, ((small_varint action small, is), (tt, ((tt, (small_varint (length players) (omega (arith, few)), refl)), (refl, all_fit (pos action) players f))))) in
     let many : AtMost 3000 (all_spelling (player_wire (pos action)).spelling players) = (let all = all_few (pos action) players f in omega (arith, all, few)) in
     let size : AtMost 3010 _ = at_most_joined 5 3005 _ _ (varint_few action small) (at_most_joined 5 3000 _ _ (varint_few (length players) (omega (arith, few))) many) in
     (fits, spelling_payload (entry_of (PlayerList (pos action) players)) fits (few_bytes 3010 _ (omega arith) size))

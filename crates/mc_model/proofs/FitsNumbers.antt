@@ -25,9 +25,9 @@ top_bit_below (suc k) n j less = step (nat_le (2 ^ suc k) n) refl (top_bit_below
   where
     step : (t : Bool) → nat_le (2 ^ suc k) n ≡ t → top_bit k n ≤ j → cond t (suc k) (top_bit k n) ≤ j
     step true t rest = elim (cases_lt j (suc k)) [
-        | inl lt ↦ (let wide : 2 ^ suc j ≤ 2 ^ suc k = pow-le-pow_right (omega arith) (omega (arith, lt)) in absurd (omega (arith, less, wide, leb-true _ _ t)))
-        | inr le ↦ le
-      ]
+      | inl lt ↦ (let wide : 2 ^ suc j ≤ 2 ^ suc k = pow-le-pow_right (omega arith) (omega (arith, lt)) in absurd (omega (arith, less, wide, leb-true _ _ t)))
+      | inr le ↦ le
+    ]
     step false t rest = rest
 
 -- ---- patterns

@@ -20,14 +20,14 @@ pub join_clear : (eid most : ℕ) (level : List ℕ) → eid < 2 ^ 31 → most �
 join_clear eid most level small few s =
     let text = short_fits 32767 level (lit< tt) (short_less 10 32767 level (omega arith) s) in
     let fits : FitsDown (JoinGame (pos eid) 0 (pos 0) 1 most level false) =
-        (lit< tt, (signed_fits w32 (pos eid) (record { sfits = small }), (lit< tt, (signed_fits w8 (pos 0) (record { sfits = lit< tt }), (lit< tt, (omega (arith, few), (text, tt))))))) in
+    (lit< tt, (signed_fits w32 (pos eid) (record { sfits = small }), (lit< tt, (signed_fits w8 (pos 0) (record { sfits = lit< tt }), (lit< tt, (omega (arith, few), (text, tt))))))) in
     let size : AtMost 24 _ =
-        at_most_joined 4 20 _ _ (number_size w32 wide_32 (cast_unsigned w32 (pos eid))) (
-        at_most_joined 1 19 _ _ (number_size w8 wide_8 0) (
-        at_most_joined 1 18 _ _ (number_size w8 wide_8 (cast_unsigned w8 (pos 0))) (
-        at_most_joined 1 17 _ _ (number_size w8 wide_8 1) (
-        at_most_joined 1 16 _ _ (number_size w8 wide_8 most) (
-        at_most_joined 15 1 _ _ (text_size 10 level (omega arith) s.few) (number_size w8 wide_8 (bool_byte false))))))) in
+    at_most_joined 4 20 _ _ (number_size w32 wide_32 (cast_unsigned w32 (pos eid))) (
+    at_most_joined 1 19 _ _ (number_size w8 wide_8 0) (
+    at_most_joined 1 18 _ _ (number_size w8 wide_8 (cast_unsigned w8 (pos 0))) (
+    at_most_joined 1 17 _ _ (number_size w8 wide_8 1) (
+    at_most_joined 1 16 _ _ (number_size w8 wide_8 most) (
+    at_most_joined 15 1 _ _ (text_size 10 level (omega arith) s.few) (number_size w8 wide_8 (bool_byte false))))))) in
     (fits, spelling_payload (entry_of (JoinGame (pos eid) 0 (pos 0) 1 most level false)) fits (few_bytes 24 _ (omega arith) size))
 
 pub spawn_clear : (height : ℕ) → height < 2 ^ 11 → IsClear for_play (of_play (SpawnPosition (record { x = pos 8; y = pos height; z = pos 8 })))
@@ -40,11 +40,11 @@ pub place_clear : (x y z yaw pitch : ℕ) → x < 2 ^ 64 → y < 2 ^ 64 → z < 
 place_clear x y z yaw pitch at_x at_y at_z at_yaw at_pitch =
     let fits : FitsDown (PositionLook x y z yaw pitch (pos 0)) = (lit< tt, (at_x, (at_y, (at_z, (at_yaw, (at_pitch, signed_fits w8 (pos 0) (record { sfits = lit< tt }))))))) in
     let size : AtMost 33 _ =
-        at_most_joined 8 25 _ _ (number_size w64 wide_64 x) (
-        at_most_joined 8 17 _ _ (number_size w64 wide_64 y) (
-        at_most_joined 8 9 _ _ (number_size w64 wide_64 z) (
-        at_most_joined 4 5 _ _ (number_size w32 wide_32 yaw) (
-        at_most_joined 4 1 _ _ (number_size w32 wide_32 pitch) (number_size w8 wide_8 (cast_unsigned w8 (pos 0))))))) in
+    at_most_joined 8 25 _ _ (number_size w64 wide_64 x) (
+    at_most_joined 8 17 _ _ (number_size w64 wide_64 y) (
+    at_most_joined 8 9 _ _ (number_size w64 wide_64 z) (
+    at_most_joined 4 5 _ _ (number_size w32 wide_32 yaw) (
+    at_most_joined 4 1 _ _ (number_size w32 wide_32 pitch) (number_size w8 wide_8 (cast_unsigned w8 (pos 0))))))) in
     (fits, spelling_payload (entry_of (PositionLook x y z yaw pitch (pos 0))) fits (few_bytes 33 _ (omega arith) size))
 
 pub leave_clear : (reason : List ℕ) → IsShort 200 reason → IsClear for_play (of_play (Disconnect reason))

@@ -158,15 +158,15 @@ between_low low high n small t = let le = leb-true n high (both_true (nat_le low
 
 name_byte_low : (b : ℕ) → is_name_byte b ≡ true → b < 128
 name_byte_low b t = elim (either (is_between 48 57 b || is_between 65 90 b || is_between 97 122 b) (b == 95) t) [
-      | inr last ↦ (let is = eqb-true b 95 last in omega (arith, is))
-      | inl some ↦ elim (either (is_between 48 57 b || is_between 65 90 b) (is_between 97 122 b) some) [
-          | inr small ↦ between_low 97 122 b (omega arith) small
-          | inl some ↦ elim (either (is_between 48 57 b) (is_between 65 90 b) some) [
-              | inl digit ↦ between_low 48 57 b (omega arith) digit
-              | inr large ↦ between_low 65 90 b (omega arith) large
-            ]
-        ]
+  | inr last ↦ (let is = eqb-true b 95 last in omega (arith, is))
+  | inl some ↦ elim (either (is_between 48 57 b || is_between 65 90 b) (is_between 97 122 b) some) [
+    | inr small ↦ between_low 97 122 b (omega arith) small
+    | inl some ↦ elim (either (is_between 48 57 b) (is_between 65 90 b) some) [
+      | inl digit ↦ between_low 48 57 b (omega arith) digit
+      | inr large ↦ between_low 65 90 b (omega arith) large
     ]
+  ]
+]
 
 name_low : (text : List ℕ) → list_all is_name_byte text ≡ true → IsAscii text
 name_low [] t i = omega arith

@@ -22,8 +22,8 @@ unfolding on_frame
 frame_goes k w s frame e =
     let P : Option Session → Type 0 = λ o. Goes k w s (when_open o w (λ (s : Session). perform w s (said s.stage w.most (length (players w)) frame))) in
     subst P (sym e) (elim (is_closed s.stage) as (λ b. is_closed s.stage ≡ b → Goes k w s (if b then still w else perform w s (said s.stage w.most (length (players w)) frame))) [
-      true ↦ λ shut. goes_still k w s e
-    | false ↦ λ open_. performed k w s (said s.stage w.most (length (players w)) frame) e (found_id k w.sessions s e) open_ (suits s.stage w.most (length (players w)) frame)
+      | true ↦ λ shut. goes_still k w s e
+      | false ↦ λ open_. performed k w s (said s.stage w.most (length (players w)) frame) e (found_id k w.sessions s e) open_ (suits s.stage w.most (length (players w)) frame)
     ] refl)
 
 pub fault_goes : (k : ℕ) (w : World) (s : Session) (fault : Option FrameFault) → found k w.sessions ≡ Some s → Goes k w s (on_fault w k fault)
@@ -31,8 +31,8 @@ fault_goes k w s None e = goes_still k w s e
 fault_goes k w s (Some fault) e =
     let P : Option Session → Type 0 = λ o. Goes k w s (when_open o w (λ (s : Session). turn w (close s (causes.Frame fault) (farewell s.stage (causes.Frame fault))))) in
     subst P (sym e) (elim (is_closed s.stage) as (λ b. is_closed s.stage ≡ b → Goes k w s (if b then still w else turn w (close s (causes.Frame fault) (farewell s.stage (causes.Frame fault))))) [
-      true ↦ λ shut. goes_still k w s e
-    | false ↦ λ open_. goes_close k w s (causes.Frame fault) (farewell s.stage (causes.Frame fault)) e (found_id k w.sessions s e) open_ (farewell_last s.stage (causes.Frame fault))
+      | true ↦ λ shut. goes_still k w s e
+      | false ↦ λ open_. goes_close k w s (causes.Frame fault) (farewell s.stage (causes.Frame fault)) e (found_id k w.sessions s e) open_ (farewell_last s.stage (causes.Frame fault))
     ] refl)
 
 -- ---- many
@@ -69,7 +69,7 @@ pub frames_lead : (P : Session → List Sent → Type 0) (kept : IsKept P) (k : 
 frames_lead P kept k [] w s ps e p = led_still P k w s ps e p
 frames_lead P kept k (frame ∷ frames) w s ps e p =
     led_onward P k w ps (on_frame w k frame) (λ (v : World). on_frames v k frames) (led_goes P k w s ps (on_frame w k frame) kept (frame_goes k w s frame e) p)
-      (λ t there holds. frames_lead P kept k frames (on_frame w k frame).world t (ps ++ (on_frame w k frame).handed) there holds)
+    (λ t there holds. frames_lead P kept k frames (on_frame w k frame).world t (ps ++ (on_frame w k frame).handed) there holds)
 
 -- ---- bytes
 
@@ -84,8 +84,8 @@ led_cut P kept k w s ps count cut e p =
     let start : P read.session ps = subst (P read.session) (append-nil ps) (kept s read.session ps [] read.done p) in
     let framed = frames_lead P kept k cut.frames (put w (read_to s cut count)) read.session ps read.there start in
     let all = led_onward P k (put w (read_to s cut count)) ps (on_frames (put w (read_to s cut count)) k cut.frames) (λ (v : World). on_fault v k cut.fault) framed
-      (λ t there holds. led_goes P k (on_frames (put w (read_to s cut count)) k cut.frames).world t (ps ++ (on_frames (put w (read_to s cut count)) k cut.frames).handed)
-        (on_fault (on_frames (put w (read_to s cut count)) k cut.frames).world k cut.fault) kept (fault_goes k (on_frames (put w (read_to s cut count)) k cut.frames).world t cut.fault there) holds) in
+    (λ t there holds. led_goes P k (on_frames (put w (read_to s cut count)) k cut.frames).world t (ps ++ (on_frames (put w (read_to s cut count)) k cut.frames).handed)
+    (on_fault (on_frames (put w (read_to s cut count)) k cut.frames).world k cut.fault) kept (fault_goes k (on_frames (put w (read_to s cut count)) k cut.frames).world t cut.fault there) holds) in
     subst Q (sym (found_id k w.sessions s e)) (record {
       beside = beside_onward k w (put w (read_to s cut count)) _ read.beside all.beside;
       session = all.session;
@@ -98,8 +98,8 @@ unfolding on_bytes
 bytes_lead P kept k w s ps bytes e p =
     let Q : Option Session → Type 0 = λ o. Led P k w ps (when_open o w (λ (s : Session). on_cut w s (length (s.rest ++ bytes)) (cut_of s.before (s.rest ++ bytes)))) in
     subst Q (sym e) (elim (is_closed s.stage) as (λ b. Led P k w ps (if b then still w else on_cut w s (length (s.rest ++ bytes)) (cut_of s.before (s.rest ++ bytes)))) [
-      true ↦ led_still P k w s ps e p
-    | false ↦ led_cut P kept k w s ps (length (s.rest ++ bytes)) (cut_of s.before (s.rest ++ bytes)) e p
+      | true ↦ led_still P k w s ps e p
+      | false ↦ led_cut P kept k w s ps (length (s.rest ++ bytes)) (cut_of s.before (s.rest ++ bytes)) e p
     ])
 
 -- bytes of a connection that is not there do nothing
@@ -110,6 +110,6 @@ no_bytes k w bytes e = ap (λ (o : Option Session). when_open o w (λ (s : Sessi
 -- bytes change nothing but their own connection's part
 pub bytes_beside : (k : ℕ) (w : World) (bytes : List ℕ) → Beside k w (on_bytes w k bytes).world
 bytes_beside k w bytes = elim (found k w.sessions) as (λ o. found k w.sessions ≡ o → Beside k w (on_bytes w k bytes).world) [
-    None ↦ λ e. subst (λ (t : Turn). Beside k w t.world) (sym (no_bytes k w bytes e)) (beside_same k w w.eids)
+  | None ↦ λ e. subst (λ (t : Turn). Beside k w t.world) (sym (no_bytes k w bytes e)) (beside_same k w w.eids)
   | Some s ↦ λ e. (bytes_lead (λ t ps. Unit {0}) (λ s t ps qs d p. tt) k w s [] bytes e tt).beside
-  ] refl
+] refl

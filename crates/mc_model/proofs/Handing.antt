@@ -67,8 +67,8 @@ pub hand_cases : (s : Session) (packets : List Sent) (P : Handing → Type 0) �
 unfolding hand
 hand_cases s packets P fits much =
     elim (nat_le (length s.owed + length (bytes_of packets)) outbox_max) as (λ b. nat_le (length s.owed + length (bytes_of packets)) outbox_max ≡ b →
-      P (if b then record { session = record s { owed = s.owed ++ bytes_of packets }; handed = packets }
-         else record { session = record s { stage = stages.Closed; cause = Some causes.Backlog; owed = [] }; handed = [] })) [ true ↦ fits | false ↦ much ] refl
+    P (if b then record { session = record s { owed = s.owed ++ bytes_of packets }; handed = packets }
+    else record { session = record s { stage = stages.Closed; cause = Some causes.Backlog; owed = [] }; handed = [] })) [ true ↦ fits | false ↦ much ] refl
 
 -- handing out to a connection that was open
 pub goes_hand : (k : ℕ) (w : World) (eids : ℕ) (s t : Session) (packets : List Sent) → found k w.sessions ≡ Some s → t.id ≡ k → is_closed s.stage ≡ false →

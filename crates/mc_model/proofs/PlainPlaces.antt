@@ -2,6 +2,7 @@
 use Rattle.std.proofs.Common.{◌≡◌, ◌≢◌, ℕ, zero, suc, ◌+◌, ◌≤◌, ◌<◌, List, [], ◌∷◌, ◌++◌, map, length, get_or, set, drop, refl, sym, subst, ap, ◌∙◌, arith, add-one, drop-cons}
 use Rattle.std.specs.Prelude.{◌==◌, Bool, true, false, cond, Option, Some, None, if◌then◌else◌}
 use Rattle.std.specs.List.{filter}
+use Rattle.std.proofs.lemmas.List.{at_drop_all}
 use Rattle.std.proofs.lemmas.Bool.{eqb-true, eq-eqb, ne_eqb, ltb-true}
 use Rattle.mc_model.specs.declared.cause.Cause.TheVariants as causes
 use Rattle.mc_model.specs.World.{World, Session, found, put, is_closed}
@@ -26,9 +27,9 @@ rise_join low high (t ∷ ss) s le r = (r.0, rise_join (t.id + 1) high ss s le r
 pub rise_filter : (p : Session → Bool) (low high : ℕ) (ss : List Session) → Rise low ss high → Rise low (filter p ss) high
 rise_filter p low high [] r = r
 rise_filter p low high (s ∷ ss) r = elim (p s) as (λ b. Rise low (cond b (s ∷ filter p ss) (filter p ss)) high) [
-    true ↦ (r.0, rise_filter p (s.id + 1) high ss r.1)
+  | true ↦ (r.0, rise_filter p (s.id + 1) high ss r.1)
   | false ↦ rise_more (s.id + 1) low high (filter p ss) (omega (arith, r.0)) (rise_filter p (s.id + 1) high ss r.1)
-  ]
+]
 
 -- each is at least the first number
 pub rise_at : (low high : ℕ) (ss : List Session) (i : ℕ) (d : Session) → i < length ss → Rise low ss high → low ≤ (get_or ss i d).id
@@ -47,9 +48,9 @@ rise_set low high (s ∷ ss) (suc i) t d lt e r = (r.0, rise_set (s.id + 1) high
 pub at_none : (k : ℕ) (f : Session → Session) (ss : List Session) → found k ss ≡ None → at k f ss ≡ ss
 at_none k f [] e = refl
 at_none k f (s ∷ ss) e = elim (s.id == k) as (λ b. cond b (Some s) (found k ss) ≡ None → (cond b (f s) s ∷ at k f ss) ≡ s ∷ ss) [
-    true ↦ λ here. absurd cc
+  | true ↦ λ here. absurd cc
   | false ↦ λ none. ap (λ (ts : List Session). s ∷ ts) (at_none k f ss none)
-  ] e
+] e
 
 -- none of higher numbers
 pub at_past : (k : ℕ) (f : Session → Session) (low high : ℕ) (ss : List Session) → k < low → Rise low ss high → at k f ss ≡ ss
@@ -83,8 +84,8 @@ pub found_here : (k i : ℕ) (ss : List Session) → i < length ss → ((d : Ses
 found_here k i ss lt same e = record {
   within = lt;
   is = λ d. let here : drop i ss ≡ get_or ss i d ∷ drop (suc i) ss = drop-cons ss i d lt in
-    let this : found k (get_or ss i d ∷ drop (suc i) ss) ≡ Some (get_or ss i d) = rw (eq-eqb (get_or ss i d).id k (same d)) refl in
-    e ∙ ap (found k) here ∙ this;
+      let this : found k (get_or ss i d ∷ drop (suc i) ss) ≡ Some (get_or ss i d) = rw (eq-eqb (get_or ss i d).id k (same d)) refl in
+      e ∙ ap (found k) here ∙ this;
   named = same;
 }
 
@@ -122,3 +123,37 @@ joined_rise w k last ss s e new r =
     let named : s.id ≡ k = ap (λ (t : Session). t.id) e ∙ joining_id w k in
     let P : ℕ → Type 0 = λ n. Rise 0 (ss ++ s ∷ []) (n + 1) in
     subst P named (rise_join 0 (next_number last) ss s (omega (arith, named, new_number k last new)) r)
+
+-- ---- counting
+
+-- the next one counts where it passes
+pub count_next : (p : Session → Bool) (ss : List Session) (i n all : ℕ) (s : Session) → i < length ss → s ≡ get_or ss i s → n + length (filter p (drop i ss)) ≡ all →
+    cond (p s) (n + 1) n + length (filter p (drop (i + 1) ss)) ≡ all
+count_next p ss i n all s lt is e =
+    let here : drop i ss ≡ s ∷ drop (suc i) ss = drop-cons ss i s lt ∙ ap (λ (t : Session). t ∷ drop (suc i) ss) (sym is) in
+    rw (add-one i) (one (p s) (ap (λ (ts : List Session). n + length (filter p ts)) (sym here) ∙ e))
+  where
+    one : (b : Bool) → n + length (cond b (s ∷ filter p (drop (suc i) ss)) (filter p (drop (suc i) ss))) ≡ all → cond b (n + 1) n + length (filter p (drop (suc i) ss)) ≡ all
+    one true f = omega (arith, f)
+    one false f = f
+
+-- what was counted, and what is left to count, are all
+pub record IsCounting (n i left all : ℕ) : Type 0 where
+  pub few : n ≤ i
+  pub whole : n + left ≡ all
+
+pub counting_next : (p : Session → Bool) (ss : List Session) (i n m all : ℕ) (s : Session) (here : Bool) → i < length ss → s ≡ get_or ss i s →
+    IsCounting n i (length (filter p (drop i ss))) all → here ≡ p s → m ≡ cond here (n + 1) n → IsCounting m (i + 1) (length (filter p (drop (i + 1) ss))) all
+counting_next p ss i n m all s here lt is counting e f =
+    let same : m ≡ cond (p s) (n + 1) n = f ∙ ap (λ (b : Bool). cond b (n + 1) n) e in
+    record {
+      few = at_most (p s) m same;
+      whole = ap (λ (k : ℕ). k + length (filter p (drop (i + 1) ss))) same ∙ count_next p ss i n all s lt is counting.whole;
+    }
+  where
+    at_most : (b : Bool) (k : ℕ) → k ≡ cond b (n + 1) n → k ≤ i + 1
+    at_most true k g = omega (arith, g, counting.few)
+    at_most false k g = omega (arith, g, counting.few)
+
+pub counting_done : (p : Session → Bool) (ss : List Session) (i n : ℕ) → length ss ≤ i → IsCounting n i (length (filter p (drop i ss))) (length (filter p ss)) → n ≡ length (filter p ss)
+counting_done p ss i n past counting = let none = at_drop_all (λ (ts : List Session). length (filter p ts)) ss i past in omega (arith, none, counting.whole)

@@ -1,6 +1,8 @@
 -- Replies of the plain program are the frames of the packets that the definitions hand out.
-use Rattle.std.proofs.Common.{◌≡◌, ℕ, List, [], ◌∷◌, ◌++◌, refl, sym, subst, ap, ◌∙◌, append_assoc}
+use Rattle.std.proofs.Common.{◌≡◌, ℕ, ◌^◌, ◌<◌, arith, List, [], ◌∷◌, ◌++◌, refl, sym, subst, ap, ◌∙◌, append_assoc}
 use Rattle.std.specs.Fmt.{digits}
+use Rattle.std.proofs.lemmas.Fmt.{IsAscii-decimal, length-decimal-le}
+use Rattle.std.proofs.lemmas.Bool.{leb-true}
 use Rattle.serde_json.proofs.OnLiterals.{serde_json_on_literals}
 use Rattle.std.specs.Prelude.{Option, Some, None, option_map, codes, decimal}
 use Rattle.std.proofs.lemmas.List.{append-nil}
@@ -8,7 +10,7 @@ use Rattle.mc_model.specs.declared.cause.Cause.{Cause}
 use Rattle.mc_model.specs.Texts.{chat_json, farewell_text, status_json}
 use Rattle.mc_model.specs.Hearing.{Sent, frame_of, bytes_of}
 use Rattle.mc_model.specs.Talk.{told}
-use Rattle.mc_model.proofs.FitsText.{IsShort, AreShortWords, farewell_short}
+use Rattle.mc_model.proofs.FitsText.{IsShort, AreShortWords, farewell_short, short_joined, short_less, short_where}
 
 -- the bytes of one packet are its frame
 pub one_frame : (packet : Sent) (bytes : List ℕ) → bytes ≡ frame_of packet → bytes ≡ bytes_of (packet ∷ [])
@@ -49,3 +51,18 @@ status_is most online =
 pub status_pieces : (most online : ℕ) (first second third fourth fifth : List ℕ) → first ≡ codes "{\"description\":{\"text\":\"craft47\"},\"players\":{\"max\":" → second ≡ first ++ decimal most →
     third ≡ second ++ codes ",\"online\":" → fourth ≡ third ++ decimal online → fifth ≡ fourth ++ codes "},\"version\":{\"name\":\"1.8\",\"protocol\":47}}" → fifth ≡ status_json most online
 status_pieces most online first second third fourth fifth a b c d e = rw (e, d, c, b, a) (status_is most online)
+
+number_short : (n : ℕ) → n < 2 ^ 64 → IsShort 20 (decimal n)
+number_short n small = record { ascii = IsAscii-decimal n (omega arith); few = length-decimal-le 20 n (omega arith) (omega arith) (omega arith) }
+
+-- it is short, whatever numbers are in it
+pub status_small : (most online : ℕ) → most < 2 ^ 64 → online < 2 ^ 64 → IsShort 200 (status_json most online)
+status_small most online few fewer =
+    subst (IsShort 200) (status_is most online) (short_less 144 200 _ (leb-true 144 200 refl) (
+    short_joined 103 41 _ _ (
+    short_joined 83 20 _ _ (
+    short_joined 73 10 _ _ (
+    short_joined 53 20 _ _ (short_where 53 (codes "{\"description\":{\"text\":\"craft47\"},\"players\":{\"max\":") refl) (number_short most few))
+    (short_where 10 (codes ",\"online\":") refl))
+    (number_short online fewer))
+    (short_where 41 (codes "},\"version\":{\"name\":\"1.8\",\"protocol\":47}}") refl)))

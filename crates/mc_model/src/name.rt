@@ -1,4 +1,5 @@
 ghost use Rattle.std.specs.Prelude.{◌≡◌, false, Ok, None, Some, IfOk, IsTrue};
+ghost use Rattle.std.specs.List.{list_all};
 ghost use Rattle.mc_model.specs.Names.{is_name, is_name_byte};
 
 use mc_nbt::{NoMemory, Text};
@@ -28,11 +29,25 @@ fn is_name_byte(byte: u8) -> bool
     byte.is_ascii_alphanumeric() || byte == b'_'
 }
 
+/// Whether a name may have all of these bytes.
+fn are_name_bytes(text: &[u8]) -> bool
+    ensures { result ≡ list_all is_name_byte text.now }
+{
+    text.iter().all(|byte| is_name_byte(*byte))
+}
+
 /// Whether a text is a name.
-fn is_name(text: &[u8]) -> bool
+#[tactic(auto, unfolding(crate::specs::Names::is_name))]
+pub(crate) fn is_name(text: &[u8]) -> bool
     ensures { result ≡ is_name text.now }
 {
-    !text.is_empty() && text.len() <= 16 && text.iter().all(|byte| is_name_byte(*byte))
+    if text.is_empty() {
+        return false;
+    }
+    if text.len() > 16 {
+        return false;
+    }
+    are_name_bytes(text)
 }
 
 impl Name {

@@ -1,4 +1,4 @@
-ghost use Rattle.std.specs.Prelude.{◌≡◌, ◌≤◌, ◌∷◌, [], IfOk, IsTrue};
+ghost use Rattle.std.specs.Prelude.{◌≡◌, ◌∷◌, [], IfOk, IsTrue};
 ghost use Rattle.mc_frame.specs.Frame.{IsPayload, frame_spelling};
 ghost use Rattle.mc_up.specs.StatusDown as status;
 ghost use Rattle.mc_up.specs.LoginDown as login;
@@ -62,9 +62,7 @@ pub fn play_frame(alloc: Global, packet: &Down) -> Result<Vec<u8>, NoMemory>
 }
 
 /// The status.
-pub fn response(alloc: Global, most: u32, online: u32) -> Result<Vec<u8>, NoMemory>
-    requires most { most ≤ 50 }
-    requires online { online ≤ 50 }
+pub fn response(alloc: Global, most: u32, online: usize) -> Result<Vec<u8>, NoMemory>
     ensures { IfOk result (λ bytes. bytes.items ≡ bytes_of (of_status (Response (status_json most online)) ∷ [])) }
 {
     let packet = StatusDown::Response(status_json(alloc, most, online)?);

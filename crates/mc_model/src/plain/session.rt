@@ -4,6 +4,8 @@ ghost use Rattle.mc_model.specs.Hearing.{Sent, bytes_of};
 ghost use Rattle.mc_model.specs.Step.{new_session, is_kept, is_done, shut, gone};
 ghost use Rattle.mc_model.specs.PlainWorld.{Handed};
 
+mod turning;
+
 use crate::plain::Sight;
 use crate::{Cause, Notes, Stage};
 use mc_fields::Spot;
@@ -42,20 +44,20 @@ impl Model for Session {
     ghost coded = { Prim.hlevel (codes, coded_sight) };
 
     ghost view = { λ s. record {
-        id = s.id;
-        stage = s.stage;
-        rest = [];
-        before = 0;
-        protocol = s.protocol;
-        name = s.name;
-        uuid = s.uuid;
-        eid = s.eid;
-        asked = s.asked;
-        place = s.place;
-        notes = s.notes;
-        cause = s.cause;
-        owed = s.owed.items;
-        shown = s.shown
+      id = s.id;
+      stage = s.stage;
+      rest = [];
+      before = 0;
+      protocol = s.protocol;
+      name = s.name;
+      uuid = s.uuid;
+      eid = s.eid;
+      asked = s.asked;
+      place = s.place;
+      notes = s.notes;
+      cause = s.cause;
+      owed = s.owed.items;
+      shown = s.shown;
     } };
 }
 

@@ -32,7 +32,7 @@ pub fn farewell_json(cause: &Cause) -> Option<&'static str>
 }
 
 /// Appends a number in decimal.
-fn put_number(json: &mut String, n: u32) -> Result<(), NoMemory>
+fn put_number(json: &mut String, n: u64) -> Result<(), NoMemory>
     ensures { OnOk result (string_bytes json.new ≡ string_bytes json.old ++ decimal n) }
 {
     let digits = n.to_string(*json.allocator())?;
@@ -41,16 +41,16 @@ fn put_number(json: &mut String, n: u32) -> Result<(), NoMemory>
 }
 
 /// The status, as JSON: how many players may be in play, and how many are.
-pub fn status_json(alloc: Global, most: u32, online: u32) -> Result<Text, NoMemory>
+pub fn status_json(alloc: Global, most: u32, online: usize) -> Result<Text, NoMemory>
     ensures { IfOk result (λ json. json ≡ status_json most online) }
 {
     let mut json = String::from_str(
         alloc,
         "{\"description\":{\"text\":\"craft47\"},\"players\":{\"max\":",
     )?;
-    put_number(&mut json, most)?;
+    put_number(&mut json, u64::from(most))?;
     json.push_str(",\"online\":")?;
-    put_number(&mut json, online)?;
+    put_number(&mut json, online as u64)?;
     json.push_str("},\"version\":{\"name\":\"1.8\",\"protocol\":47}}")?;
     Ok(Text::from_string(json))
 }

@@ -1,9 +1,12 @@
-ghost use Rattle.std.specs.Prelude.{◌≡◌, ◌++◌, ◌∷◌, ◌<◌, [], ℕ, List, Bool, drop, length, map, Some, None, IfOk, IfSome, OnOk, not, ◌&&◌, ◌==◌};
+ghost use Rattle.std.specs.Prelude.{◌≡◌, ◌++◌, ◌∷◌, ◌<◌, [], ℕ, List, Bool, drop, length, map, Some, None, IfOk, IfSome, OnOk, not, ◌&&◌, ◌==◌, ◌+◌, ◌^◌, if◌then◌else◌};
 ghost use Rattle.std.specs.List.{filter, list_any};
-ghost use Rattle.mc_model.specs.World.{World, is_play, players, found, new_world};
+ghost use Rattle.mc_model.specs.World.{World, AreSettings, is_play, players, found, new_world};
 ghost use Rattle.mc_model.specs.World as spec;
 ghost use Rattle.mc_model.specs.Step.{is_new, is_crowded, is_kept, is_done, joining, join, changed, gone};
 ghost use Rattle.mc_model.specs.PlainWorld.{IsPlaced};
+
+mod logging_in;
+mod turns;
 
 use crate::plain::Session;
 use crate::{Cause, Stage};
@@ -28,6 +31,7 @@ pub struct World {
 impl Model for World {
     ghost use Rattle.std.specs.Prelude.{◌≡◌};
     ghost use Rattle.mc_model.specs.World as spec;
+    ghost use Rattle.mc_model.specs.World.{AreSettings};
     ghost use Rattle.std.specs.Coded.{codes};
     ghost use Rattle.mc_model.specs.PlainSight.{coded_sight};
     ghost use Rattle.mc_model.specs.PlainWorld.{coded_edits, Rise, next_number};
@@ -37,21 +41,21 @@ impl Model for World {
     ghost coded = { Prim.hlevel (codes, coded_sight, coded_edits) };
 
     ghost view = { λ w. record {
-        age = w.age;
-        terrain = w.terrain;
-        edits = w.land.edits;
-        most = w.most;
-        cap = w.cap;
-        eids = w.eids;
-        last = w.last;
-        sessions = w.sessions.items
+      age = w.age;
+      terrain = w.terrain;
+      edits = w.land.edits;
+      most = w.most;
+      cap = w.cap;
+      eids = w.eids;
+      last = w.last;
+      sessions = w.sessions.items;
     } };
 
-    ghost invariant = { λ w. (w.land.terrain ≡ w.terrain) × Rise 0 w.sessions.items (next_number w.last) };
+    ghost invariant = { λ w. (w.land.terrain ≡ w.terrain) × Rise 0 w.sessions.items (next_number w.last) × AreSettings w.most w.cap };
 }
 
 /// Where the session of a number stands.
-fn place_of(sessions: &Vec<Session>, k: u32) -> Option<usize>
+pub(crate) fn place_of(sessions: &Vec<Session>, k: u32) -> Option<usize>
     ensures none { result ≡ None → found k sessions.now.items ≡ None }
     ensures some { IfSome result (λ i. IsPlaced k i sessions.now.items) }
 {
@@ -63,22 +67,38 @@ fn place_of(sessions: &Vec<Session>, k: u32) -> Option<usize>
     None
 }
 
+/// One more, where it is so.
+fn counted(n: usize, here: bool) -> usize
+    requires { n < 2 ^ 63 }
+    ensures { result ≡ (if here then n + 1 else n) }
+{
+    if here { n + 1 } else { n }
+}
+
 /// How many players are in play.
-fn online(sessions: &Vec<Session>) -> usize
+pub(crate) fn online(sessions: &Vec<Session>) -> usize
     ensures { result ≡ length (filter (λ (s : spec.Session). is_play s.stage) sessions.now.items) }
 {
-    sessions.iter().filter(|s| s.is_play()).count()
+    let mut n = 0;
+    for i in 0..sessions.len() {
+        n = counted(n, sessions[i].is_play());
+    }
+    n
 }
 
 /// How many connections are open, or owed bytes still.
 fn kept(sessions: &Vec<Session>) -> usize
     ensures { result ≡ length (filter is_kept sessions.now.items) }
 {
-    sessions.iter().filter(|s| s.is_kept()).count()
+    let mut n = 0;
+    for i in 0..sessions.len() {
+        n = counted(n, sessions[i].is_kept());
+    }
+    n
 }
 
 /// Whether a player in play has an identifier.
-fn is_taken(sessions: &Vec<Session>, uuid: u128) -> bool
+pub(crate) fn is_taken(sessions: &Vec<Session>, uuid: u128) -> bool
     ensures { result ≡ list_any (λ (s : spec.Session). s.uuid == uuid) (filter (λ (s : spec.Session). is_play s.stage) sessions.now.items) }
 {
     sessions
@@ -107,6 +127,7 @@ fn is_new(k: u32, last: Option<u32>) -> bool
 impl World {
     /// A world where nobody came yet.
     pub fn new(alloc: Global, most: u32, cap: u8, terrain: Terrain) -> World
+        requires { AreSettings most cap }
         ensures { result ≡ new_world most cap terrain }
     {
         World {

@@ -9,9 +9,12 @@ pub returns-in_default : goal.returns-in_default
 returns-in_default c = rw (← c.self.view_is) (none_changed _ c.args.k gone (c.in_default.ensures.none refl))
 
 pub invariant_of-self : goal.invariant_of-self
-invariant_of-self c =
-    (c.self.invariant.0, placed_rise c.args.k c.in-Some.i (next_number c.self.inside.last) c.self.inside.sessions.items c.index_mut.result.now c.leave.new.self
-    c.in-Some.ensures.some c.index_mut.ensures.value (ap (λ (s : Session). s.id) c.leave.ensures ∙ gone_id c.index_mut.result.now) c.self.invariant.1)
+invariant_of-self c = (
+  c.self.invariant.0,
+  placed_rise c.args.k c.in-Some.i (next_number c.self.inside.last) c.self.inside.sessions.items c.index_mut.result.now c.leave.new.self
+      c.in-Some.ensures.some c.index_mut.ensures.value (ap (λ (s : Session). s.id) c.leave.ensures ∙ gone_id c.index_mut.result.now) c.self.invariant.1,
+  c.self.invariant.2,
+)
 
 pub returns : goal.returns
 returns c =
