@@ -12,6 +12,8 @@ mod name;
 mod notes;
 pub mod plain;
 mod stage;
+#[cfg(test)]
+mod tests;
 
 pub use cause::{Cause, Refusal};
 pub use name::Name;

@@ -13,7 +13,8 @@ pub struct Name {
 
 impl Model for Name {
     ghost use Rattle.std.specs.Prelude.{List, ℕ, IsTrue};
-    ghost use Rattle.mc_model.specs.Names.{is_name};
+    ghost use Rattle.std.specs.List.{list_all};
+ghost use Rattle.mc_model.specs.Names.{is_name};
 
     ghost Value = { List ℕ };
 
@@ -29,7 +30,7 @@ fn is_name_byte(byte: u8) -> bool
     byte.is_ascii_alphanumeric() || byte == b'_'
 }
 
-/// Whether a name may have all of these bytes.
+/// Whether each byte is one that a name may have.
 fn are_name_bytes(text: &[u8]) -> bool
     ensures { result ≡ list_all is_name_byte text.now }
 {

@@ -210,7 +210,8 @@ fn push_unload(
 ) -> Result<(), NoMemory>
     ensures { OnOk result (packets.new.items ≡ packets.old.items ++ map unload (filter (is_unseen theirs.now.entries) (place.now ∷ []))) }
 {
-    if theirs.contains_key(place) {
+    let stays = theirs.contains_key(place);
+    if stays {
         return Ok(());
     }
     packets.push(Down::Chunk(place.0, place.1, true, 0, Octets::new(alloc)))?;
@@ -257,7 +258,8 @@ fn push_load(
 ) -> Result<(), NoMemory>
     ensures { OnOk result (packets.new.items ≡ packets.old.items ++ map load (filter (λ e. is_unseen theirs.now.entries e.0) ((place.now, column.now) ∷ []))) }
 {
-    if theirs.contains_key(place) {
+    let was_there = theirs.contains_key(place);
+    if was_there {
         return Ok(());
     }
     let mut bytes = Vec::new(alloc);
