@@ -14,7 +14,7 @@ pub struct Name {
 impl Model for Name {
     ghost use Rattle.std.specs.Prelude.{List, ℕ, IsTrue};
     ghost use Rattle.std.specs.List.{list_all};
-ghost use Rattle.mc_model.specs.Names.{is_name};
+    ghost use Rattle.mc_model.specs.Names.{is_name};
 
     ghost Value = { List ℕ };
 

@@ -116,6 +116,20 @@ impl Session {
         self.uuid
     }
 
+    /// The size of view that it asked for.
+    pub fn asked(&self) -> i8
+        ensures { result ≡ self.now.asked }
+    {
+        self.asked
+    }
+
+    /// What is noted for it.
+    pub fn notes(&self) -> &Notes
+        ensures { result.now ≡ self.now.notes }
+    {
+        &self.notes
+    }
+
     /// Where its player is.
     pub fn place(&self) -> &Spot
         ensures { result.now ≡ self.now.place }
