@@ -82,13 +82,13 @@ module _ {K X Y : Type 0} {R : K → K → Ordering} (o : IsTotalOrder R) (same 
   get-changes change f does test q [] m h = refl
   get-changes change f does test q (e ∷ es) m h =
       elim (test e) as (λ b. get (fold change m (cond b (e ∷ filter test es) (filter test es))) q
-        ≡ changed_by test f q (find R q es) (get (cond b (change m e) m) q)) [
+      ≡ changed_by test f q (find R q es) (get (cond b (change m e) m) q)) [
         | true ↦ get-changes change f does test q es (change m e) (second _ _ h)
         | false ↦ get-changes change f does test q es m (second _ _ h)
       ]
       ∙ ap (changed_by test f q (find R q es)) changed
       ∙ change_step test f q e.1 (eq_by_cmp R q e.0) (test e) (find R q es) (get m q)
-        (find_again o q e es h) (λ t. ap (λ k. test (k, e.1)) (same q e.0 (equal _ t)))
+      (find_again o q e es h) (λ t. ap (λ k. test (k, e.1)) (same q e.0 (equal _ t)))
     where
       changed : get (cond (test e) (change m e) m) q ≡ cond (test e) (cond (eq_by_cmp R q e.0) (f e.1) (get m q)) (get m q)
       changed = elim (test e) as (λ b. get (cond b (change m e) m) q ≡ cond b (cond (eq_by_cmp R q e.0) (f e.1) (get m q)) (get m q)) [
@@ -122,11 +122,11 @@ module _ {K X : Type 0} {R : K → K → Ordering} (o : IsTotalOrder R) (same : 
       at : (q : K) → get (fold put_in (fold take_out m (filter gone (entries m))) (filter entered (entries n))) q ≡ remade_at gone entered q (get m q) (get n q)
       at q =
           get-changes o same put_in Some (record { at = λ m e k. get-insert o m e.0 e.1 k }) entered q (entries n)
-            (fold take_out m (filter gone (entries m))) (entries_sorted n)
+          (fold take_out m (filter gone (entries m))) (entries_sorted n)
           ∙ ap (λ (new : Option X). changed_by entered Some q new (get (fold take_out m (filter gone (entries m))) q)) (sym (get-entries n q))
           ∙ ap (changed_by entered Some q (get n q))
-            (get-changes o same take_out none_of (record { at = λ m e k. get-remove o m e.0 k }) gone q (entries m) m (entries_sorted m)
-            ∙ ap (λ (old : Option X). changed_by gone none_of q old (get m q)) (sym (get-entries m q)))
+          (get-changes o same take_out none_of (record { at = λ m e k. get-remove o m e.0 k }) gone q (entries m) m (entries_sorted m)
+          ∙ ap (λ (old : Option X). changed_by gone none_of q old (get m q)) (sym (get-entries m q)))
 
 -- the test of an entry whose key another map has not
 abbrev pub is_without : {K X : Type 0} {R : K → K → Ordering} → FinMap R X → K × X → Bool

@@ -39,6 +39,6 @@ unfolding due
 due_leads w s follows =
     let before : Leads (last_shown s) (opening_due w s) (last_shown s) = record { is = opening_due_keeps (seeing (last_shown s)) w s refl } in
     let difference : Leads (last_shown s) (delta (last_shown s) (project w s)) (project w s) =
-      record { is = difference_leads (last_shown s) (project w s) follows } in
+    record { is = difference_leads (last_shown s) (project w s) follows } in
     let after : Leads (project w s) (notes_due s) (project w s) = record { is = notes_keep (seeing (project w s)) s } in
     (onward (onward before difference) after).is

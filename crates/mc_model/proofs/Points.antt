@@ -90,7 +90,7 @@ unfolding apply
 unloads_lead s test [] = refl
 unloads_lead s test (e ∷ es) =
     elim (test e.0) as (λ b. replay (seeing s) (map unload (cond b (e.0 ∷ filter test (map (λ f. f.0) es)) (filter test (map (λ f. f.0) es))))
-      ≡ seeing (record s { columns = fold take_out s.columns (cond b (e ∷ filter (λ f. test f.0) es) (filter (λ f. test f.0) es)) })) [
+    ≡ seeing (record s { columns = fold take_out s.columns (cond b (e ∷ filter (λ f. test f.0) es) (filter (λ f. test f.0) es)) })) [
       | true ↦ unloads_lead (record s { columns = remove s.columns e.0 }) test es
       | false ↦ unloads_lead s test es
     ]
@@ -133,14 +133,14 @@ unloads_point_leads p q = record { is = unloads_lead p (λ (place : Place). not 
 
 loads_point_leads : (p q : Sight) → Follows p q →
     Leads (record p { columns = fold take_out p.columns (filter (is_without q.columns) (entries p.columns)) }) (loads_point p q)
-      (record p { columns = q.columns })
+    (record p { columns = q.columns })
 loads_point_leads p q follows = record {
   is = loads_lead (record p { columns = fold take_out p.columns (filter (is_without q.columns) (entries p.columns)) })
-        (filter (is_without p.columns) (entries q.columns))
-        (each_found places_total (λ (e : Place × ColumnValue). HasSizes e.1) (is_without p.columns) (entries q.columns)
-          (entries_sorted q.columns) (λ place column found. follows.sizes place column (get-entries q.columns place ∙ found)))
+      (filter (is_without p.columns) (entries q.columns))
+      (each_found places_total (λ (e : Place × ColumnValue). HasSizes e.1) (is_without p.columns) (entries q.columns)
+      (entries_sorted q.columns) (λ place column found. follows.sizes place column (get-entries q.columns place ∙ found)))
       ∙ ap (λ (columns : Columns). seeing (record p { columns = columns }))
-        (remade_by_keys places_total exact_places p.columns q.columns follows.stays);
+      (remade_by_keys places_total exact_places p.columns q.columns follows.stays);
 }
 
 -- the difference makes of what one saw what the other sees

@@ -36,7 +36,7 @@ pub projected_column : (w : World) (s : Session) (place : Place) (column : Colum
 unfolding project
 projected_column w s place column found =
     found_made place_cmp exact_places (column_in w) place (view_in w s) column
-      (sym (get-from_entries places_total (map (λ (p : Place). (p, column_in w p)) (view_in w s)) place) ∙ found)
+    (sym (get-from_entries places_total (map (λ (p : Place). (p, column_in w p)) (view_in w s)) place) ∙ found)
 
 -- each column of the world has all its cells
 pub column_sizes : (w : World) (place : Place) → HasSizes (column_in w place)
@@ -79,5 +79,5 @@ unfolding project
 project_same w v s t pairs terrain edits cap place asked = λ i. record {
   pairs = from_entries (pairs i);
   columns = from_entries (map (λ p. (p, record { states = states_of (terrain i) (edits i) p; biomes = biomes_of (terrain i) p }))
-    (view_of (column_of_spot (place i)) (view_size (cap i) (asked i))));
+      (view_of (column_of_spot (place i)) (view_size (cap i) (asked i))));
 }

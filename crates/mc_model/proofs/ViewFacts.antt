@@ -72,8 +72,8 @@ run_near middle x d held =
 near_run : (middle x : ℤ) (d : ℕ) → unsigned_abs (x -ℤ middle) ≤ d → Contains (run_of (middle -ℤ pos d) (2 * d + 1)) x
 near_run middle x d near =
     subst (Contains (run_of (middle -ℤ pos d) (2 * d + 1))) (is middle x d near)
-      (mapped_holds (λ i. middle -ℤ pos d +ℤ pos i) (range_with_len 0 (2 * d + 1)) (offset middle x d)
-        (range_holds (2 * d + 1) (offset middle x d) (below middle x d near)))
+    (mapped_holds (λ i. middle -ℤ pos d +ℤ pos i) (range_with_len 0 (2 * d + 1)) (offset middle x d)
+    (range_holds (2 * d + 1) (offset middle x d) (below middle x d near)))
   where
     offset : ℤ → ℤ → ℕ → ℕ
     offset middle x d = unsigned_abs (x -ℤ (middle -ℤ pos d))
@@ -106,4 +106,4 @@ pub near_view : (middle : Place) (d : ℕ) (place : Place) → IsInView middle d
 unfolding view_of
 near_view middle d place near =
     joined_holds (row middle d) (run_of (middle.0 -ℤ pos d) (2 * d + 1)) place.0 place (near_run middle.0 place.0 d near.near_x)
-      (mapped_holds (λ (z : ℤ). (place.0, z)) (run_of (middle.1 -ℤ pos d) (2 * d + 1)) place.1 (near_run middle.1 place.1 d near.near_z))
+    (mapped_holds (λ (z : ℤ). (place.0, z)) (run_of (middle.1 -ℤ pos d) (2 * d + 1)) place.1 (near_run middle.1 place.1 d near.near_z))

@@ -15,5 +15,7 @@ pub mod Step
 pub mod Run
 pub mod Causes
 pub mod Headline
+pub mod PlainWorld
+pub mod PlainTurns
 pub mod Plain
 pub mod PlainSight

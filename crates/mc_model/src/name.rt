@@ -14,7 +14,7 @@ pub struct Name {
 impl Model for Name {
     ghost use Rattle.std.specs.Prelude.{List, ℕ, IsTrue};
     ghost use Rattle.std.specs.List.{list_all};
-ghost use Rattle.mc_model.specs.Names.{is_name};
+    ghost use Rattle.mc_model.specs.Names.{is_name};
 
     ghost Value = { List ℕ };
 
@@ -39,7 +39,7 @@ fn are_name_bytes(text: &[u8]) -> bool
 
 /// Whether a text is a name.
 #[tactic(auto, unfolding(crate::specs::Names::is_name))]
-fn is_name(text: &[u8]) -> bool
+pub(crate) fn is_name(text: &[u8]) -> bool
     ensures { result ≡ is_name text.now }
 {
     if text.is_empty() {
