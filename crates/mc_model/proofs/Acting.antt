@@ -1,0 +1,163 @@
+-- What a frame comes to, done: what it makes of its connection.
+use Rattle.std.proofs.Common.{◌≡◌, ℕ, ◌+◌, List, [], ◌∷◌, length, inl, inr, refl, sym, subst, ap, ◌∙◌}
+use Rattle.std.specs.Prelude.{◌⊎◌, ◌==◌, Bool, true, false, cond, Option, Some, None, option_map, Result, Ok, Err, if◌then◌else◌}
+use Rattle.std.specs.Option.{option_and_then}
+use lib.IntN.{ℤ, pos, negsuc}
+use Rattle.mc_fields.specs.declared.packet.PacketFault.{PacketFault}
+use Rattle.mc_fields.specs.declared.position.Spot.{Spot}
+use Rattle.mc_fields.specs.Row.{frame_read, packet_of}
+use Rattle.mc_up.specs.declared.handshake.Hand.{Hand}
+use Rattle.mc_up.specs.declared.handshake.Hand.TheVariants.{Handshake}
+use Rattle.mc_up.specs.declared.status_up.StatusUp.{StatusUp}
+use Rattle.mc_up.specs.declared.status_up.StatusUp.TheVariants.{Request, Ping}
+use Rattle.mc_up.specs.declared.login_up.LoginUp.{LoginUp}
+use Rattle.mc_up.specs.declared.login_up.LoginUp.TheVariants.{Start}
+use Rattle.mc_up.specs.declared.play_up.PlayUp.{PlayUp}
+use Rattle.mc_up.specs.declared.play_up.PlayUp.TheVariants.{Position, Look, PositionLook, Settings}
+use Rattle.mc_up.specs.Hand as hand
+use Rattle.mc_up.specs.StatusUp as status
+use Rattle.mc_up.specs.LoginUp as login
+use Rattle.mc_up.specs.PlayUp as play
+use Rattle.mc_model.specs.declared.cause.Cause.{Cause}
+use Rattle.mc_model.specs.declared.cause.Cause.TheVariants as causes
+use Rattle.mc_model.specs.declared.cause.Refusal.{Refusal}
+use Rattle.mc_model.specs.declared.stage.Stage.{Stage}
+use Rattle.mc_model.specs.declared.stage.Stage.TheVariants as stages
+use Rattle.mc_model.specs.Names.{offline_uuid}
+use Rattle.mc_model.specs.World.{World, Session, found, put, is_play, is_closed, spawn_spot}
+use Rattle.mc_model.specs.Hearing.{Sent, of_status, played}
+use Rattle.mc_model.specs.Acts.{act, arrive, arrived, is_in_range, moved, turned}
+use Rattle.mc_model.specs.Talk.{Said, nothing, greets, replies, ends, enters, acts, wrong, said, in_hand, in_status, in_login, in_play, wanted, farewell, refused, accepted}
+use Rattle.mc_model.specs.Step.{Turn, still, perform, refusal, answer_login, acted, entered as entering}
+use Rattle.mc_model.proofs.Handing.{Done, stayed, answered, greeted, entered, shut_for, IsLast, Goes, goes_still, goes_put, goes_hand, goes_close, play_is, not_both}
+
+-- ---- which answers a stage has
+
+-- what a frame can come to at a stage
+abbrev pub Suits : Stage → Said → Type 0
+Suits stage nothing = Unit {0}
+Suits stage (greets protocol to) = (stage ≡ stages.Hand) × (is_play to ≡ false) × (is_closed to ≡ false)
+Suits stage (replies packet) = stage ≡ stages.Status
+Suits stage (ends packet) = stage ≡ stages.Status
+Suits stage (enters name) = stage ≡ stages.Login
+Suits stage (acts packet) = stage ≡ stages.Play
+Suits stage (wrong fault) = Unit {0}
+
+wanted_waits : (n : ℤ) → (is_play (wanted n) ≡ false) × (is_closed (wanted n) ≡ false)
+wanted_waits (pos n) = elim (n == 1) as (λ b. (is_play (if b then stages.Status else stages.Login) ≡ false) × (is_closed (if b then stages.Status else stages.Login) ≡ false)) [
+    true ↦ (refl, refl)
+  | false ↦ (refl, refl)
+  ]
+wanted_waits (negsuc n) = (refl, refl)
+
+hand_suits : (r : Result Hand PacketFault) → Suits stages.Hand (in_hand r)
+hand_suits (Ok (Handshake protocol address port next)) = let w = wanted_waits next in (refl, w.0, w.1)
+hand_suits (Err fault) = tt
+
+status_suits : (most online : ℕ) (r : Result StatusUp PacketFault) → Suits stages.Status (in_status most online r)
+status_suits most online (Ok Request) = refl
+status_suits most online (Ok (Ping number)) = refl
+status_suits most online (Err fault) = tt
+
+login_suits : (r : Result LoginUp PacketFault) → Suits stages.Login (in_login r)
+login_suits (Ok (Start name)) = refl
+login_suits (Err fault) = tt
+
+play_suits : (r : Result PlayUp PacketFault) → Suits stages.Play (in_play r)
+play_suits (Ok packet) = refl
+play_suits (Err fault) = tt
+
+pub suits : (stage : Stage) (most online : ℕ) (frame : List ℕ) → Suits stage (said stage most online frame)
+unfolding said
+suits stages.Hand most online frame = hand_suits (packet_of frame (frame_read hand.rows frame))
+suits stages.Status most online frame = status_suits most online (packet_of frame (frame_read status.rows frame))
+suits stages.Login most online frame = login_suits (packet_of frame (frame_read login.rows frame))
+suits stages.Asked most online frame = tt
+suits stages.Play most online frame = play_suits (packet_of frame (frame_read play.rows frame))
+suits stages.Closed most online frame = tt
+
+-- ---- what a player does
+
+-- it changes nothing but the player's own place, look, view and notes
+pub record Acted (w : World) (s : Session) (v : World) : Type 0 where
+  pub session : Session
+  pub id : session.id ≡ s.id
+  pub stage : session.stage ≡ s.stage
+  pub shown : session.shown ≡ s.shown
+  pub cause : session.cause ≡ s.cause
+  pub is : (v ≡ w) ⊎ (v ≡ put w session)
+
+arrived_acted : (w : World) (s : Session) (spot : Spot) → Acted w s (put w (arrived w s spot))
+arrived_acted w s spot = record {
+  session = arrived w s spot;
+  id = elim (is_in_range spot) as (λ b. (session_of b).id ≡ s.id) [ true ↦ refl | false ↦ refl ];
+  stage = elim (is_in_range spot) as (λ b. (session_of b).stage ≡ s.stage) [ true ↦ refl | false ↦ refl ];
+  shown = elim (is_in_range spot) as (λ b. (session_of b).shown ≡ s.shown) [ true ↦ refl | false ↦ refl ];
+  cause = elim (is_in_range spot) as (λ b. (session_of b).cause ≡ s.cause) [ true ↦ refl | false ↦ refl ];
+  is = inr refl;
+}
+  where
+    session_of : Bool → Session
+    session_of b = if b then record s { place = spot } else record s { place = spawn_spot w.terrain; notes = record s.notes { placing = true } }
+
+some_is : {A : Type 0} (a b : A) → Some a ≡ Some b → a ≡ b
+some_is a b e = cc
+
+none_some : {A : Type 0} (a : A) → ◌≡◌ {A = Option A} None (Some a) → ⊥
+none_some a e = cc
+
+arrive_acted : (w : World) (s : Session) (o : Option Spot) (v : World) → arrive w s o ≡ Some v → Acted w s v
+arrive_acted w s None v e = absurd (none_some v e)
+arrive_acted w s (Some spot) v e =
+    let P : World → Type 0 = λ u. Acted w s u in
+    subst P (some_is (put w (arrived w s spot)) v e) (arrived_acted w s spot)
+
+pub act_acted : (w : World) (s : Session) (x : PlayUp) (v : World) → act w s x ≡ Some v → Acted w s v
+unfolding act
+act_acted w s (Position x y z on_ground) v e = arrive_acted w s (moved s.place x y z) v e
+act_acted w s (Look yaw pitch on_ground) v e = arrive_acted w s (turned s.place yaw pitch) v e
+act_acted w s (PositionLook x y z yaw pitch on_ground) v e = arrive_acted w s (option_and_then (λ (to : Spot). turned to yaw pitch) (moved s.place x y z)) v e
+act_acted w s (Settings locale view chat_mode colours skin) v e = record {
+  session = record s { asked = view };
+  id = refl; stage = refl; shown = refl; cause = refl;
+  is = inr (sym (some_is (put w (record s { asked = view })) v e));
+}
+act_acted w s other v e = record { session = s; id = refl; stage = refl; shown = refl; cause = refl; is = inl (sym (some_is w v e)) }
+
+goes_acted : (k : ℕ) (w v : World) (s : Session) → found k w.sessions ≡ Some s → s.id ≡ k → Acted w s v → Goes k w s (still v)
+goes_acted k w v s e is a = elim (a.is) [
+    inl same ↦ subst (λ (u : World). Goes k w s (still u)) (sym same) (goes_still k w s e)
+  | inr same ↦ subst (λ (u : World). Goes k w s (still u)) (sym same) (goes_put k w w.eids s a.session [] e (a.id ∙ is) (stayed a.stage a.shown a.cause refl))
+  ]
+
+-- ---- a frame done
+
+-- a farewell is the last packet that it is closed with
+pub farewell_last : (stage : Stage) (cause : Cause) → IsLast stage (farewell stage cause)
+farewell_last stage cause playing = inr (cause, ap (λ (at : Stage). farewell at cause) (play_is stage playing))
+
+last_elsewhere : (stage at : Stage) (ps : List Sent) → is_play at ≡ false → stage ≡ at → IsLast stage ps
+last_elsewhere stage at ps waits is playing = absurd (not_both (is_play stage) playing (ap is_play is ∙ waits))
+
+accepted_played : (uuid : ℕ) (name : List ℕ) → played (accepted uuid name) ≡ []
+unfolding accepted
+accepted_played uuid name = refl
+
+login_goes : (k : ℕ) (w : World) (s : Session) (name : List ℕ) (o : Option Refusal) → found k w.sessions ≡ Some s → s.id ≡ k → s.stage ≡ stages.Login → is_closed s.stage ≡ false → Goes k w s (answer_login w s name o)
+login_goes k w s name (Some why) e is at open_ = goes_close k w s (causes.Refused why) (refused why) e is open_ (last_elsewhere s.stage stages.Login (refused why) refl at)
+login_goes k w s name None e is at open_ =
+    goes_hand k w (w.eids + 1) s (entering w s name) (accepted (offline_uuid name) name) e is open_
+      (λ owed. entered at refl refl refl (accepted_played (offline_uuid name) name))
+
+acted_goes : (k : ℕ) (w : World) (s : Session) (x : PlayUp) (o : Option World) → act w s x ≡ o → found k w.sessions ≡ Some s → s.id ≡ k → is_closed s.stage ≡ false → Goes k w s (acted w s o)
+acted_goes k w s x (Some v) did e is open_ = goes_acted k w v s e is (act_acted w s x v did)
+acted_goes k w s x None did e is open_ = goes_close k w s causes.BadNumber (farewell s.stage causes.BadNumber) e is open_ (farewell_last s.stage causes.BadNumber)
+
+pub performed : (k : ℕ) (w : World) (s : Session) (x : Said) → found k w.sessions ≡ Some s → s.id ≡ k → is_closed s.stage ≡ false → Suits s.stage x → Goes k w s (perform w s x)
+performed k w s nothing e is open_ fit = goes_still k w s e
+performed k w s (greets protocol stage) e is open_ fit = goes_put k w w.eids s (record s { stage = stage; protocol = protocol }) [] e is (greeted fit.0 fit.1 fit.2 refl refl)
+performed k w s (replies packet) e is open_ fit = goes_hand k w w.eids s s (of_status packet ∷ []) e is open_ (λ owed. answered fit refl refl refl)
+performed k w s (ends packet) e is open_ fit = goes_close k w s causes.Done (of_status packet ∷ []) e is open_ (last_elsewhere s.stage stages.Status (of_status packet ∷ []) refl fit)
+performed k w s (enters name) e is open_ fit = login_goes k w s name (refusal w s.protocol name) e is fit open_
+performed k w s (acts packet) e is open_ fit = acted_goes k w s packet (act w s packet) refl e is open_
+performed k w s (wrong fault) e is open_ fit = goes_close k w s (causes.Packet fault) (farewell s.stage (causes.Packet fault)) e is open_ (farewell_last s.stage (causes.Packet fault))

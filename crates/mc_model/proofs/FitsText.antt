@@ -1,0 +1,183 @@
+-- Which texts that are handed out fit: all are ASCII and short.
+use Rattle.std.proofs.Common.{◌≡◌, ℕ, zero, suc, ◌+◌, ◌-◌, ◌*◌, ◌/◌, ◌%◌, ◌^◌, ◌<◌, ◌≤◌, Bool, true, false, cond, List, [], ◌∷◌, ◌++◌, length, get_or, refl, sym, subst, arith, eqb-true, ltb-true, lt-ltb, inl, inr}
+use Rattle.std.specs.Prelude.{nat_lt, nat_le, ◌==◌, ◌&&◌, ◌||◌, ◌⊎◌, slice_index, codes, decimal, Option, Some, None}
+use Rattle.std.specs.List.{list_all}
+use Rattle.std.specs.Int.{to_be_bytes, w128}
+use Rattle.std.specs.Str.{IsAscii}
+use Rattle.std.proofs.lemmas.Bool.{leb-true}
+use Rattle.std.proofs.lemmas.List.{length-append}
+use Rattle.std.proofs.lemmas.Str.{IsUtf8-from_ascii, chars-IsAscii, IsAscii-append}
+use Rattle.std.proofs.lemmas.Fmt.{IsAscii-decimal, length-decimal-le}
+use Rattle.serde_json.proofs.OnLiterals.{serde_json_on_literals}
+use Rattle.mc_fields.specs.Text.{FitsText, text_spelling}
+use Rattle.mc_fields.specs.TextFormat.{SpellableText}
+use Rattle.uuid.specs.Text.{by_index, is_hyphen_place, hyphen, hex_digit, nibble, digit_place, lower}
+use Rattle.mc_model.specs.Names.{is_between, is_name_byte, is_name, uuid_text}
+use Rattle.mc_model.specs.declared.cause.Refusal.{Refusal}
+use Rattle.mc_model.specs.declared.cause.Refusal.TheVariants.{Version, Name, Taken, Full}
+use Rattle.mc_model.specs.declared.cause.Cause.{Cause}
+use Rattle.mc_model.specs.declared.cause.Cause.TheVariants.{Frame, Packet, BadNumber}
+use Rattle.mc_model.specs.Texts.{chat_json, status_json, refusal_text, farewell_text}
+
+-- ASCII, and so many bytes at most
+pub record IsShort (most : ℕ) (text : List ℕ) : Type 0 where
+  pub ascii : IsAscii text
+  pub few : length text ≤ most
+
+pub short_fits : (points : ℕ) (text : List ℕ) → points < 2 ^ 31 → IsShort points text → SpellableText points text
+short_fits points text small s = record {
+  fits = record { utf8 = IsUtf8-from_ascii text s.ascii; few_bytes = omega (arith, s.few); few_points = rw (chars-IsAscii text s.ascii) s.few };
+  sized = omega (arith, s.few, small);
+}
+
+pub short_less : (a b : ℕ) (text : List ℕ) → a ≤ b → IsShort a text → IsShort b text
+short_less a b text le s = record { ascii = s.ascii; few = omega (arith, s.few, le) }
+
+pub short_joined : (a b : ℕ) (text other : List ℕ) → IsShort a text → IsShort b other → IsShort (a + b) (text ++ other)
+short_joined a b text other s t = record { ascii = IsAscii-append text other s.ascii t.ascii; few = omega (arith, s.few, t.few, length-append text other) }
+
+-- ---- tests
+
+abbrev pub is_low : ℕ → Bool
+is_low byte = nat_lt byte 128
+
+both_true : (a b : Bool) → (a && b) ≡ true → (a ≡ true) × (b ≡ true)
+both_true true b e = (refl, e)
+both_true false b e = absurd cc
+
+all_low : (text : List ℕ) → list_all is_low text ≡ true → IsAscii text
+all_low [] t i = omega arith
+all_low (b ∷ text) t zero = ltb-true b 128 (both_true (nat_lt b 128) (list_all is_low text) t).0
+all_low (b ∷ text) t (suc i) = all_low text (both_true (nat_lt b 128) (list_all is_low text) t).1 i
+
+-- a test that computes
+pub short_where : (most : ℕ) (text : List ℕ) → (list_all is_low text && nat_le (length text) most) ≡ true → IsShort most text
+short_where most text t =
+    let parts = both_true (list_all is_low text) (nat_le (length text) most) t in
+    record { ascii = all_low text parts.0; few = leb-true (length text) most parts.1 }
+
+-- ---- the status
+
+abbrev pub status_around : List ℕ → List ℕ → List ℕ → List ℕ
+status_around most online protocol =
+    codes "{\"description\":{\"text\":\"craft47\"},\"players\":{\"max\":"
+    ++ ((most ++ (codes ",\"online\":" ++ (online ++ codes "}"))) ++ (codes ",\"version\":{\"name\":\"1.8\",\"protocol\":" ++ ((protocol ++ codes "}") ++ codes "}")))
+
+status_parts : (most online : ℕ) → status_json most online ≡ status_around (decimal most) (decimal online) (decimal 47)
+unfolding status_json serde_json_on_literals
+status_parts most online = refl
+
+short_number : (n : ℕ) → n ≤ 50 → IsShort 2 (decimal n)
+short_number n small = record { ascii = IsAscii-decimal n (omega arith); few = length-decimal-le 2 n (omega arith) (omega arith) (omega arith) }
+
+short_around : (most online protocol : List ℕ) → IsShort 2 most → IsShort 2 online → IsShort 2 protocol → IsShort 200 (status_around most online protocol)
+short_around most online protocol m o p =
+    short_less _ 200 _ (leb-true 110 200 refl) (
+    short_joined 53 57 _ _ (short_where 53 (codes "{\"description\":{\"text\":\"craft47\"},\"players\":{\"max\":") refl) (
+    short_joined 15 42 _ _
+    (short_joined 2 13 _ _ m (short_joined 10 3 _ _ (short_where 10 (codes ",\"online\":") refl) (short_joined 2 1 _ _ o (short_where 1 (codes "}") refl))))
+    (short_joined 38 4 _ _ (short_where 38 (codes ",\"version\":{\"name\":\"1.8\",\"protocol\":") refl) (short_joined 3 1 _ _ (short_joined 2 1 _ _ p (short_where 1 (codes "}") refl)) (short_where 1 (codes "}") refl)))))
+
+pub status_short : (most online : ℕ) → most ≤ 50 → online ≤ 50 → IsShort 200 (status_json most online)
+status_short most online few fewer =
+    subst (IsShort 200) (sym (status_parts most online)) (short_around (decimal most) (decimal online) (decimal 47) (short_number most few) (short_number online fewer) (short_number 47 (leb-true 47 50 refl)))
+
+-- ---- last words
+
+pub refusal_short : (why : Refusal) → IsShort 200 (chat_json (refusal_text why))
+unfolding chat_json serde_json_on_literals
+refusal_short Version = short_where 200 (chat_json (refusal_text Version)) refl
+refusal_short Name = short_where 200 (chat_json (refusal_text Name)) refl
+refusal_short Taken = short_where 200 (chat_json (refusal_text Taken)) refl
+refusal_short Full = short_where 200 (chat_json (refusal_text Full)) refl
+
+bad_frame : IsShort 200 (chat_json (codes "Bad frame."))
+unfolding chat_json serde_json_on_literals
+bad_frame = short_where 200 (chat_json (codes "Bad frame.")) refl
+
+bad_packet : IsShort 200 (chat_json (codes "Bad packet."))
+unfolding chat_json serde_json_on_literals
+bad_packet = short_where 200 (chat_json (codes "Bad packet.")) refl
+
+bad_number : IsShort 200 (chat_json (codes "Bad number."))
+unfolding chat_json serde_json_on_literals
+bad_number = short_where 200 (chat_json (codes "Bad number.")) refl
+
+abbrev pub AreShortWords : Option (List ℕ) → Type 0
+AreShortWords None = Unit {0}
+AreShortWords (Some text) = IsShort 200 (chat_json text)
+
+pub farewell_short : (cause : Cause) → AreShortWords (farewell_text cause)
+farewell_short (Frame fault) = bad_frame
+farewell_short (Packet fault) = bad_packet
+farewell_short BadNumber = bad_number
+farewell_short other = tt
+
+-- ---- identifiers
+
+by_index_short : (n : ℕ) (f : ℕ → ℕ) → ((k : ℕ) → f k < 128) → IsShort n (by_index n f)
+unfolding by_index
+by_index_short zero f low = short_where 0 [] refl
+by_index_short (suc n) f low =
+    let one : IsShort 1 (f n ∷ []) = record { ascii = all_low (f n ∷ []) (rw (lt-ltb (f n) 128 (low n)) refl); few = leb-true 1 1 refl } in
+    short_less (n + 1) (suc n) _ (omega arith) (short_joined n 1 (by_index n f) (f n ∷ []) (by_index_short n f low) one)
+
+hex_low : (d : ℕ) → d < 16 → hex_digit lower d < 128
+hex_low d small = step (nat_lt d 10) refl
+  where
+    step : (t : Bool) → nat_lt d 10 ≡ t → cond t (48 + d) (97 + d - 10) < 128
+    step true t = omega (arith, small)
+    step false t = omega (arith, small)
+
+nibble_low : (xs : List ℕ) (k : ℕ) → nibble xs k < 16
+nibble_low xs k = step (k % 2 == 0)
+  where
+    step : (t : Bool) → cond t (slice_index xs (k / 2) / 16 % 16) (slice_index xs (k / 2) % 16) < 16
+    step true = omega arith
+    step false = omega arith
+
+place_low : (xs : List ℕ) (k : ℕ) → cond (is_hyphen_place k) hyphen (hex_digit lower (nibble xs (digit_place k))) < 128
+place_low xs k = step (is_hyphen_place k)
+  where
+    step : (t : Bool) → cond t 45 (hex_digit lower (nibble xs (digit_place k))) < 128
+    step true = omega arith
+    step false = hex_low (nibble xs (digit_place k)) (nibble_low xs (digit_place k))
+
+pub uuid_short : (uuid : ℕ) → IsShort 36 (uuid_text uuid)
+unfolding uuid_text
+uuid_short uuid = by_index_short 36 _ (place_low (to_be_bytes w128 uuid))
+
+-- ---- names
+
+either : (a b : Bool) → (a || b) ≡ true → (a ≡ true) ⊎ (b ≡ true)
+either true b e = inl refl
+either false b e = inr e
+
+between_low : (low high n : ℕ) → high < 128 → is_between low high n ≡ true → n < 128
+between_low low high n small t = let le = leb-true n high (both_true (nat_le low n) (nat_le n high) t).1 in omega (arith, le, small)
+
+name_byte_low : (b : ℕ) → is_name_byte b ≡ true → b < 128
+name_byte_low b t = elim (either (is_between 48 57 b || is_between 65 90 b || is_between 97 122 b) (b == 95) t) [
+      | inr last ↦ (let is = eqb-true b 95 last in omega (arith, is))
+      | inl some ↦ elim (either (is_between 48 57 b || is_between 65 90 b) (is_between 97 122 b) some) [
+          | inr small ↦ between_low 97 122 b (omega arith) small
+          | inl some ↦ elim (either (is_between 48 57 b) (is_between 65 90 b) some) [
+              | inl digit ↦ between_low 48 57 b (omega arith) digit
+              | inr large ↦ between_low 65 90 b (omega arith) large
+            ]
+        ]
+    ]
+
+name_low : (text : List ℕ) → list_all is_name_byte text ≡ true → IsAscii text
+name_low [] t i = omega arith
+name_low (b ∷ text) t zero = name_byte_low b (both_true (is_name_byte b) (list_all is_name_byte text) t).0
+name_low (b ∷ text) t (suc i) = name_low text (both_true (is_name_byte b) (list_all is_name_byte text) t).1 i
+
+pub name_short : (name : List ℕ) → is_name name ≡ true → IsShort 16 name
+unfolding is_name
+name_short name t =
+    let a = both_true (nat_lt 0 (length name) && nat_le (length name) 16) (list_all is_name_byte name) t in
+    record { ascii = name_low name a.1; few = leb-true (length name) 16 (both_true (nat_lt 0 (length name)) (nat_le (length name) 16) a.0).1 }
+
+pub none_short : (most : ℕ) → IsShort most []
+none_short most = short_less 0 most [] (omega arith) (short_where 0 [] refl)
