@@ -1,3 +1,2 @@
-pub mod Identifiers
 pub mod Status
 pub mod Sending

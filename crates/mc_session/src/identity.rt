@@ -6,7 +6,7 @@ use mc_model::Name;
 use mc_nbt::{NoMemory, Text};
 use md5::{Digest, Md5};
 use std::alloc::Global;
-use uuid::{Builder, Uuid};
+use uuid::{Builder, Uuid, Variant, Version};
 
 /// The digest that the identifier of a player is made of.
 fn digest(name: &[u8]) -> [u8; 16]
@@ -19,11 +19,15 @@ fn digest(name: &[u8]) -> [u8; 16]
 }
 
 /// The identifier of a player whose account nobody asked about.
+#[tactic(auto, unfolding(mc_model::specs::Names::offline_uuid))]
 pub fn offline_uuid(name: &Name) -> u128
     ensures { result ≡ offline_uuid name.now }
 {
     let digest = digest(name.text().as_str().as_bytes());
-    Builder::from_md5_bytes(digest).into_uuid().as_u128()
+    let marked = Builder::from_bytes(digest)
+        .with_version(Version::Md5)
+        .with_variant(Variant::RFC4122);
+    marked.into_uuid().as_u128()
 }
 
 /// An identifier as a text, with hyphens.
