@@ -1,0 +1,19 @@
+//! What one connection is answered, by its stage alone.
+//!
+//! Stands on the packets of `mc_up` and the definitions of `mc_model`. Its one contract: a `Session`
+//! answers every frame as the definition `said` has it, and what it hands out is exactly the frames of
+//! the packets that `refused`, `accepted` and `farewell` name.
+#![tactic(auto)]
+
+mod identity;
+mod reply;
+mod session;
+mod step;
+#[cfg(test)]
+mod tests;
+mod words;
+
+pub use identity::offline_uuid;
+pub use session::Session;
+pub use step::Step;
+pub use words::chat_json;
