@@ -1,7 +1,6 @@
 -- All laws of a run in one.
-use Rattle.std.proofs.Common.{◌≡◌, ℕ, List, [], ◌∷◌, ◌++◌, subst, ap}
+use Rattle.std.proofs.Common.{ℕ, List, [], ◌∷◌, ◌++◌, subst}
 use Rattle.mc_land.specs.declared.terrain.Terrain.{Terrain}
-use Rattle.mc_nbt.specs.Reading.{IsBytes}
 use Rattle.mc_model.specs.World.{AreSettings, new_world}
 use Rattle.mc_model.specs.Step.{Event, joined, came, left, ticked, took, forgot}
 use Rattle.mc_model.specs.Run.{AreBytes, history}

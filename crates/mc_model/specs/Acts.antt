@@ -1,5 +1,5 @@
 -- What a packet of a player in play does to the world. Rules of this project.
-use Rattle.std.specs.Prelude.{ℕ, ◌&&◌, Bool, true, Option, Some, None, option_map, int_le, if◌then◌else◌}
+use Rattle.std.specs.Prelude.{ℕ, ◌&&◌, Bool, true, Option, Some, option_map, int_le, if◌then◌else◌}
 use Rattle.std.specs.Option.{option_and_then}
 use lib.IntN.{ℤ, pos, negsuc}
 use Rattle.mc_fields.specs.declared.position.Spot.{Spot}

@@ -3,7 +3,7 @@ use Rattle.std.specs.Prelude.{◌≡◌, ◌↔◌, ℕ, true, List, [], ◌∷�
 use Rattle.mc_land.specs.declared.terrain.Terrain.{Terrain}
 use Rattle.mc_model.specs.declared.cause.Cause.{Cause}
 use Rattle.mc_model.specs.Replica.{Shows, new_replica, replay}
-use Rattle.mc_model.specs.World.{Session, World, found, is_play, new_world, project}
+use Rattle.mc_model.specs.World.{Session, found, is_play, new_world, project}
 use Rattle.mc_model.specs.Hearing.{Ear, IsHeard, of_play, played}
 use Rattle.mc_model.specs.Step.{Event, ticked, at_tick, due, step}
 use Rattle.mc_model.specs.Run.{cause_in, handed, history, stream, to}

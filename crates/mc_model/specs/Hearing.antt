@@ -8,7 +8,7 @@ use Rattle.mc_frame.specs.Frame.{frame_spelling}
 use Rattle.mc_frame.specs.Cut.{IsCut}
 use Rattle.mc_up.specs.declared.status_down.StatusDown.{StatusDown}
 use Rattle.mc_up.specs.declared.login_down.LoginDown.{LoginDown}
-use Rattle.mc_up.specs.declared.login_down.LoginDown.TheVariants.{Disconnect, Success}
+use Rattle.mc_up.specs.declared.login_down.LoginDown.TheVariants.{Success}
 use Rattle.mc_up.specs.StatusDown as status
 use Rattle.mc_up.specs.LoginDown as login
 use Rattle.mc_down.specs.declared.down.Down.{Down}

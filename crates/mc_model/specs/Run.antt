@@ -6,7 +6,7 @@ use Rattle.mc_model.specs.declared.cause.Cause.{Cause}
 use Rattle.mc_model.specs.World.{World, Session, found}
 use Rattle.mc_model.specs.Hearing.{Sent, bytes_of}
 use Rattle.mc_nbt.specs.Reading.{IsBytes}
-use Rattle.mc_model.specs.Step.{Event, joined, came, left, ticked, took, forgot, Outcome, step}
+use Rattle.mc_model.specs.Step.{Event, came, step}
 
 -- the world after events
 abbrev pub history : World → List Event → World

@@ -1,6 +1,6 @@
 -- What an event makes of the world, and what it hands out to whom. Rules of this project.
 use Rattle.std.specs.Prelude.{ℕ, ◌+◌, ◌-◌, ◌==◌, ◌&&◌, ◌||◌, not, nat_lt, nat_le, Bool, true, false, List, [], ◌∷◌, ◌++◌, length, map, drop, Option, Some, None, unwrap_or, is_some, if◌then◌else◌, codes}
-use Rattle.std.specs.List.{filter, flat_map, list_any, filter_map}
+use Rattle.std.specs.List.{filter, list_any, filter_map}
 use lib.IntN.{ℤ, pos, negsuc}
 use Rattle.mc_fields.specs.declared.position.Spot.{Spot}
 use Rattle.mc_frame.specs.declared.fault.FrameFault.{FrameFault}
@@ -16,9 +16,8 @@ use Rattle.mc_model.specs.declared.cause.Cause.{Cause}
 use Rattle.mc_model.specs.declared.cause.Cause.TheVariants as causes
 use Rattle.mc_model.specs.declared.cause.Refusal.{Refusal}
 use Rattle.mc_model.specs.declared.cause.Refusal.TheVariants as refusals
-use Rattle.mc_model.specs.declared.stage.Stage.{Stage}
 use Rattle.mc_model.specs.declared.stage.Stage.TheVariants as stages
-use Rattle.mc_model.specs.Notes.{Noted, no_notes}
+use Rattle.mc_model.specs.Notes.{no_notes}
 use Rattle.mc_model.specs.Names.{is_name, offline_uuid}
 use Rattle.mc_model.specs.Numbers.{pattern_of, degrees_of}
 use Rattle.mc_model.specs.Cutting.{cut_of}

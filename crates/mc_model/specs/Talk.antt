@@ -1,6 +1,6 @@
 -- What a frame of a client comes to, by the stage of its connection alone: of the pages 'Protocol' and 'Server List Ping' of wiki.vg
 -- for protocol 47.
-use Rattle.std.specs.Prelude.{ℕ, ◌==◌, Bool, false, List, [], ◌∷◌, Option, Some, None, Result, Ok, Err, if◌then◌else◌}
+use Rattle.std.specs.Prelude.{ℕ, ◌==◌, List, [], ◌∷◌, Option, Some, None, Result, Ok, Err, if◌then◌else◌}
 use lib.IntN.{ℤ, pos, negsuc}
 use Rattle.mc_fields.specs.declared.packet.PacketFault.{PacketFault}
 use Rattle.mc_fields.specs.Row.{frame_read, packet_of}
@@ -25,7 +25,7 @@ use Rattle.mc_model.specs.declared.stage.Stage.{Stage}
 use Rattle.mc_model.specs.declared.stage.Stage.TheVariants as stages
 use Rattle.mc_model.specs.Names.{uuid_text}
 use Rattle.mc_model.specs.Texts.{chat_json, status_json, refusal_text, farewell_text}
-use Rattle.mc_model.specs.Hearing.{Sent, of_status, of_login, of_play}
+use Rattle.mc_model.specs.Hearing.{Sent, of_login, of_play}
 
 -- ---- what a frame comes to
 

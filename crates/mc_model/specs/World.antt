@@ -1,6 +1,6 @@
 -- The world: what every client is shown a part of, and how far each connection has come. Plain lists and finite maps; no buffer, no
 -- mark and no queue is in it. Rules of this project.
-use Rattle.std.specs.Prelude.{◌≡◌, ℕ, ◌+◌, ◌*◌, ◌==◌, ◌≤◌, Bool, true, false, List, [], ◌∷◌, map, Option, Some, None, if◌then◌else◌}
+use Rattle.std.specs.Prelude.{ℕ, ◌+◌, ◌*◌, ◌==◌, ◌≤◌, Bool, true, false, List, [], ◌∷◌, map, Option, Some, None, if◌then◌else◌}
 use Rattle.std.specs.List.{filter}
 use Rattle.std.specs.FinMap.{FinMap, empty, from_entries}
 use lib.IntN.{ℤ, pos}
@@ -14,7 +14,7 @@ use Rattle.mc_land.specs.Land.{states_of, biomes_of}
 use Rattle.mc_model.specs.declared.cause.Cause.{Cause}
 use Rattle.mc_model.specs.declared.stage.Stage.{Stage}
 use Rattle.mc_model.specs.declared.stage.Stage.TheVariants as stages
-use Rattle.mc_model.specs.Notes.{Noted, no_notes}
+use Rattle.mc_model.specs.Notes.{Noted}
 use Rattle.mc_model.specs.Sight.{Sight}
 use Rattle.mc_model.specs.Views.{view_of, column_of_spot, view_size}
 
