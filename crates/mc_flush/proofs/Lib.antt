@@ -1,0 +1,5 @@
+pub mod Loads
+pub mod Lookups
+pub mod Missing
+pub mod Ordered
+pub mod Pieces

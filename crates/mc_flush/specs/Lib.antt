@@ -1,0 +1,5 @@
+pub mod Heads
+pub mod Lists
+pub mod Players
+pub mod Sending
+pub mod Seeing
