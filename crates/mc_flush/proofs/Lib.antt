@@ -3,3 +3,8 @@ pub mod Lookups
 pub mod Missing
 pub mod Ordered
 pub mod Pieces
+pub mod Carries
+pub mod Placings
+pub mod Rising
+pub mod Shown
+pub mod Changes

@@ -13,7 +13,7 @@ use Rattle.std.specs.FinMap.{FinMap, find, get, len, len-empty, len-insert, cont
 
 -- ---- two ways to say that keys are equal
 
-alike : (a b : Bool) → (a ≡ true → b ≡ true) → (b ≡ true → a ≡ true) → a ≡ b
+pub alike : (a b : Bool) → (a ≡ true → b ≡ true) → (b ≡ true → a ≡ true) → a ≡ b
 alike true true f g = refl
 alike true false f g = sym (f refl)
 alike false true f g = g refl

@@ -1,6 +1,6 @@
 -- Bytes that are appended piece after piece.
-use Rattle.std.proofs.Common.{◌≡◌, ℕ, suc, ◌+◌, ◌*◌, List, [], ◌∷◌, ◌++◌, map, length, refl, sym, ap, ◌∙◌, arith, append_assoc}
-use Rattle.std.specs.List.{AllByRecursion}
+use Rattle.std.proofs.Common.{◌≡◌, ℕ, suc, ◌+◌, ◌*◌, ◌≤◌, Bool, true, false, cond, List, [], ◌∷◌, ◌++◌, map, length, refl, sym, ap, ◌∙◌, arith, append_assoc}
+use Rattle.std.specs.List.{AllByRecursion, filter}
 use Rattle.std.proofs.lemmas.List.{map-append, append-nil}
 use Rattle.std.proofs.lemmas.Grind.{flat_map-append}
 use Rattle.mc_down.specs.declared.down.Down.{Down}
@@ -29,3 +29,21 @@ next_cost each now after total left rest x is all put =
     let one : each * suc (length rest) ≡ each + each * length rest = grind arith in
     let whole : now + each * suc (length rest) ≡ total = ap (λ (n : ℕ). now + each * n) (sym (ap length is)) ∙ all in
     omega (arith, one, whole, put)
+
+-- ---- filters
+
+pub all_filtered : {A : Type 0} (P : A → Type 0) (test : A → Bool) (xs : List A) → AllByRecursion P xs → AllByRecursion P (filter test xs)
+all_filtered P test [] a = tt
+all_filtered {A} P test (x ∷ xs) a = step (test x) (all_filtered P test xs a.1)
+  where
+    step : (t : Bool) → AllByRecursion P (filter test xs) → AllByRecursion P (cond t (x ∷ filter test xs) (filter test xs))
+    step true rest = (a.0, rest)
+    step false rest = rest
+
+pub few_filtered : {A : Type 0} (test : A → Bool) (xs : List A) → length (filter test xs) ≤ length xs
+few_filtered test [] = omega arith
+few_filtered {A} test (x ∷ xs) = step (test x) (few_filtered test xs)
+  where
+    step : (t : Bool) → length (filter test xs) ≤ length xs → length (cond t (x ∷ filter test xs) (filter test xs)) ≤ suc (length xs)
+    step true le = omega (arith, le)
+    step false le = omega (arith, le)

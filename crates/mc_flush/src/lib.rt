@@ -8,12 +8,15 @@
 
 mod client_view;
 mod columns;
+mod flushing;
 mod frames;
+mod joining;
 mod mark;
 mod notes;
 mod player_list;
 mod players;
 
 pub use client_view::ClientView;
+pub use flushing::flush;
 pub use mark::Mark;
 pub use player_list::PlayerList;

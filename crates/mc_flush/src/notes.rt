@@ -10,7 +10,7 @@ use mc_model::Notes;
 use mc_nbt::NoMemory;
 
 /// A player's own place and look, none of them relative.
-fn placing(place: &Spot) -> Down
+fn placing_packet(place: &Spot) -> Down
     requires { IsInRange place.now }
     ensures value { result ≡ placing place.now }
     ensures clear { IsClear (placing place.now) }
@@ -31,7 +31,7 @@ pub fn put_notes(notes: &Notes, place: &Spot, out: &mut Vec<u8>) -> Result<(), N
     ensures { OnOk result (out.new.items ≡ out.old.items ++ play_bytes (notes_due_of notes.now place.now)) }
 {
     if notes.placing() {
-        put_packet(&placing(place), out)?;
+        put_packet(&placing_packet(place), out)?;
     }
     Ok(())
 }
