@@ -1,0 +1,10 @@
+pub mod Loads
+pub mod Lookups
+pub mod Missing
+pub mod Ordered
+pub mod Pieces
+pub mod Carries
+pub mod Placings
+pub mod Rising
+pub mod Shown
+pub mod Changes

@@ -1,0 +1,6 @@
+pub mod Carried
+pub mod Heads
+pub mod Lists
+pub mod Players
+pub mod Sending
+pub mod Seeing
