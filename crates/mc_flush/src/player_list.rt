@@ -49,6 +49,13 @@ impl PlayerList {
         self.present.len()
     }
 
+    /// How many players were there at the last settling.
+    pub fn settled(&self) -> usize
+        ensures { result ≡ map.len self.now.last }
+    {
+        self.last.len()
+    }
+
     /// Whether a player is there.
     pub fn has(&self, uuid: u128) -> bool
         ensures { result ≡ map.contains_key self.now.present uuid }
