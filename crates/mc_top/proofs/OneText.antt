@@ -48,6 +48,9 @@ never_both input n faults.Long replies fine outside f = within_or_past input n (
 never_both input n faults.Cut replies fine outside f = outside f.1
 never_both input n faults.Frame replies fine outside f = fault_or_not input n faults.Frame (all_fine input n fine) f.2
 never_both input n faults.Packet replies fine outside f = fault_or_not input n faults.Packet (all_fine input n fine) f.2
+never_both input n faults.Word replies fine outside f = fault_or_not input n faults.Word (all_fine input n fine) f.2
+never_both input n faults.Number replies fine outside f = fault_or_not input n faults.Number (all_fine input n fine) f.2
+never_both input n faults.Order replies fine outside f = fault_or_not input n faults.Order (all_fine input n fine) f.2
 never_both input n faults.Login replies fine outside f = fault_or_not input n faults.Login (all_fine input n fine) f.2
 
 pub fine_or_bad : (input text other : List ℕ) (bad : BadInput) → IsStatusText input None text → IsStatusText input (Some bad) other → ⊥
@@ -73,6 +76,9 @@ seen input n faults.Long replies f = too_long refl f.0 f.1 f.2 f.3
 seen input n faults.Cut replies f = cut_off refl f.0 f.2 f.3
 seen input n faults.Frame replies f = wire f.0 f.1 f.2 f.3
 seen input n faults.Packet replies f = wire f.0 f.1 f.2 f.3
+seen input n faults.Word replies f = wire f.0 f.1 f.2 f.3
+seen input n faults.Number replies f = wire f.0 f.1 f.2 f.3
+seen input n faults.Order replies f = wire f.0 f.1 f.2 f.3
 seen input n faults.Login replies f = wire f.0 f.1 f.2 f.3
 
 -- the line of a fault: the first that is not fine, or that of the last byte

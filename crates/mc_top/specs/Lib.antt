@@ -5,3 +5,6 @@ pub mod Client
 pub mod StatusText
 pub mod Heard
 pub mod Run
+pub mod Digits
+pub mod Script
+pub mod ScriptRead

@@ -7,14 +7,22 @@
 mod bad_input;
 mod client;
 mod command;
+mod digits;
 mod ended;
 mod hear;
 mod laws;
 mod lines;
+mod script;
+mod script_line;
+#[cfg(test)]
+mod script_tests;
 mod stage;
 mod status_text;
 #[cfg(test)]
 mod tests;
 
+pub use bad_input::{BadInput, InputFault};
 pub use command::run;
 pub use laws::one_status_text;
+pub use script::{Script, ScriptError};
+pub use script_line::ScriptEvent;

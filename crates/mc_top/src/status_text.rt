@@ -10,7 +10,7 @@ use mc_nbt::NoMemory;
 use std::alloc::Global;
 
 /// The most bytes that a text has.
-const TEXT_MAX: usize = 67_108_864;
+pub const TEXT_MAX: usize = 67_108_864;
 
 /// What `status` writes for an input.
 #[derive(Drop)]
