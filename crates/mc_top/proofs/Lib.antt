@@ -6,3 +6,4 @@ pub mod OneText
 pub mod Inputs
 pub mod DigitSteps
 pub mod Scripts
+pub mod WordSteps

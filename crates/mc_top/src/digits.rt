@@ -1,4 +1,4 @@
-ghost use Rattle.std.specs.Prelude.{◌≡◌, ◌≤◌, length};
+ghost use Rattle.std.specs.Prelude.{◌≡◌, ◌≤◌, ◌^◌, ◌-◌, length};
 ghost use Rattle.mc_top.specs.Digits.{digits_after, digits_number, within};
 
 /// The number that decimal digits write.
@@ -38,4 +38,11 @@ pub fn ranged_u32(word: &[u8], low: u32, high: u32) -> Option<u32>
     } else {
         None
     }
+}
+
+/// A seed of 1 to 20 digits.
+pub fn seed(word: &[u8]) -> Option<u64>
+    ensures { result ≡ within 0 (2 ^ 64 - 1) (digits_number 20 word.now) }
+{
+    u64::try_from(digits_number(word, 20)?).ok()
 }

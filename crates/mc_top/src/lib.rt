@@ -12,14 +12,17 @@ mod ended;
 mod hear;
 mod laws;
 mod lines;
+mod reply;
 mod script;
 mod script_line;
 #[cfg(test)]
 mod script_tests;
 mod stage;
+mod status;
 mod status_text;
 #[cfg(test)]
 mod tests;
+mod words;
 
 pub use bad_input::{BadInput, InputFault};
 pub use command::run;
