@@ -22,6 +22,8 @@ mod status;
 mod status_text;
 #[cfg(test)]
 mod tests;
+#[cfg(test)]
+mod word_tests;
 mod words;
 
 pub use bad_input::{BadInput, InputFault};
