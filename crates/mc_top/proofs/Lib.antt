@@ -7,3 +7,4 @@ pub mod Inputs
 pub mod DigitSteps
 pub mod Scripts
 pub mod WordSteps
+pub mod LongLines

@@ -28,6 +28,6 @@ mod words;
 
 pub use bad_input::{BadInput, InputFault};
 pub use command::run;
-pub use laws::one_status_text;
+pub use laws::{long_line_of_a_script, one_status_text};
 pub use script::{Script, ScriptError};
 pub use script_line::ScriptEvent;
