@@ -1,14 +1,14 @@
 -- What is known of an input that was read whole.
-use Rattle.std.proofs.Common.{◌≡◌, ℕ, ◌<◌, ◌⊎◌, inl, inr, Bool, List, [], ◌∷◌, ◌++◌, length, take, get_or, Option, Some, None, Result, Ok, Err, sym, subst, ap, ◌∙◌, append_assoc, arith, refl}
-use Rattle.std.specs.Prelude.{IfSome, IsTrue, ◌↔◌, map, OnOk, OnErr}
-use Rattle.std.specs.Str.{bytes_eq}
-use Rattle.std.proofs.lemmas.Slice.Eq.{bytes_eq-Decides}
+use Rattle.std.proofs.Common.{◌≡◌, ℕ, ◌⊎◌, inl, inr, List, ◌++◌, length, take, Option, Some, None, Result, Ok, Err, sym, subst, ap, ◌∙◌, append_assoc, arith, refl}
+use Rattle.std.specs.Prelude.{IfSome, OnOk, OnErr}
 use Rattle.std.proofs.lemmas.List.{append-nil, take_all}
 use Rattle.mc_wire.specs.Count.{Rose, StandsOrRises}
 use Rattle.mc_wire.specs.Stream.{Grows, Consumes, IsAtEnd}
 use Rattle.mc_top.specs.declared.bad_input.BadInput.{BadInput}
 use Rattle.mc_top.specs.declared.ended.Ended.{Ended}
 use Rattle.mc_top.specs.declared.ended.Ended.TheVariants as ended
+use Rattle.mc_top.specs.declared.words.Command.{Command}
+use Rattle.mc_top.specs.declared.words.Command.TheVariants.{Status}
 use Rattle.mc_top.specs.Ended.{ended_line, bad_input_line, ended_after, status_of}
 use Rattle.mc_top.specs.StatusText.{IsStatusText}
 use Rattle.mc_top.specs.Run.{RepliedPart, RepliedPartOrNothing, IsKnown, Replied, Found, Refused, WroteLast, WroteTextThenLast, IsFineText, IsBadText, IsNotFine, IsNotBad}
@@ -22,20 +22,19 @@ of_whole P (Some xs) (Some ys) bytes all end p =
     let same : xs ≡ bytes = all ∙ rw end (append-nil bytes) in
     subst P (sym same) p
 
--- a list of one text is that text where its bytes compare equal to it
-pub one_word : {X : Type 0} (bytes : X → List ℕ) (words : List X) (word : X) (text : List ℕ) (b : Bool) → 0 < length words → length words < 2 → word ≡ get_or words 0 word → b ≡ bytes_eq (bytes word) text → IsTrue b ↔ (map bytes words ≡ text ∷ [])
-one_word bytes [] word text b some few is same = absurd (omega arith)
-one_word bytes (w ∷ v ∷ words) word text b some few is same = absurd (omega arith)
-one_word {X} bytes (w ∷ []) word text b some few is same = (there, here)
-  where
-    of_word : bytes word ≡ bytes w
-    of_word = ap bytes is
+-- words name one command at most
+pub one_status : (command : Option Command) (a b : ℕ) → command ≡ Some (Status a) → command ≡ Some (Status b) → a ≡ b
+one_status command a b is also = cc
 
-    there : IsTrue b → map bytes (w ∷ []) ≡ text ∷ []
-    there t = ap (λ (x : List ℕ). x ∷ []) (sym of_word ∙ (bytes_eq-Decides (bytes word) text).0 (sym same ∙ t))
+-- what was done with so many players was done with as many
+pub replied_same : (a b : ℕ) (left left' held held' : Option (List ℕ)) → a ≡ b → Replied a left left' held held' → Replied b left left' held held'
+replied_same a b left left' held held' same done = let P : ℕ → Type 0 = λ n. Replied n left left' held held' in subst P same done
 
-    here : map bytes (w ∷ []) ≡ text ∷ [] → IsTrue b
-    here e = let first : bytes w ≡ text = cc in same ∙ (bytes_eq-Decides (bytes word) text).1 (of_word ∙ first)
+pub part_same : (a b : ℕ) (left held held' : Option (List ℕ)) → a ≡ b → RepliedPart a left held held' → RepliedPart b left held held'
+part_same a b left held held' same done = let P : ℕ → Type 0 = λ n. RepliedPart n left held held' in subst P same done
+
+pub found_same : (a b : ℕ) (bad : BadInput) (left left' held held' : Option (List ℕ)) → a ≡ b → Found a bad left left' held held' → Found b bad left left' held held'
+found_same a b bad left left' held held' same done = let P : ℕ → Type 0 = λ n. Found n bad left left' held held' in subst P same done
 
 -- a last line was written, or a part of it where the sink failed
 pub wrote_last : {E : Type 0} (r : Result (Unit {0}) E) (held held' : Option (List ℕ)) (faults faults' : ℕ) (piece line : List ℕ) → OnOk r (Grows held held' piece) → OnErr r ((n : ℕ) × Grows held held' (take n piece)) → OnErr r (Rose faults faults') → piece ≡ ended_line line → WroteLast held held' faults faults' line
@@ -64,8 +63,8 @@ wrote_both held middle held' old mid new text line a counts (inl whole) = inl (g
 wrote_both held middle held' old mid new text line a counts (inr part) = inr (rose_after old mid new counts part.0, part.1, grows_two held middle held' text (take part.1 (ended_line line)) a part.2)
 
 -- what was found, and then named in the last line
-pub refused : (bad : BadInput) (left left' held middle held' : Option (List ℕ)) (old mid new : ℕ) → Found bad left left' held middle → StandsOrRises old mid → WroteLast middle held' mid new (bad_input_line bad) → Refused left left' held held' old new
-refused bad left left' held middle held' old mid new f counts last = record {
+pub refused : (most : ℕ) (bad : BadInput) (left left' held middle held' : Option (List ℕ)) (old mid new : ℕ) → Found most bad left left' held middle → StandsOrRises old mid → WroteLast middle held' mid new (bad_input_line bad) → Refused most left left' held held' old new
+refused most bad left left' held middle held' old mid new f counts last = record {
   bad = bad;
   text = f.text;
   first = f.first;
@@ -75,36 +74,36 @@ refused bad left left' held middle held' old mid new f counts last = record {
 }
 
 -- all of a text is some first part of it
-pub found_part : (bad : BadInput) (left left' held held' : Option (List ℕ)) → Found bad left left' held held' → RepliedPart left held held'
-found_part bad left left' held held' f =
+pub found_part : (most : ℕ) (bad : BadInput) (left left' held held' : Option (List ℕ)) → Found most bad left left' held held' → RepliedPart most left held held'
+found_part most bad left left' held held' f =
     let P : List ℕ → Type 0 = λ t. Grows held held' t in
     record { bad = Some bad; text = f.text; is = f.first; len = length f.text; wrote = subst P (sym (take_all (length f.text) f.text (omega arith))) f.wrote }
 
 -- ---- what was read and written whole
 
-pub replied : (left left' held held' : Option (List ℕ)) (bytes text : List ℕ) → Consumes left left' bytes → IsAtEnd left' → IsStatusText bytes None text → Grows held held' text → Replied left left' held held'
-replied left left' held held' bytes text all end is wrote = record {
+pub replied : (most : ℕ) (left left' held held' : Option (List ℕ)) (bytes text : List ℕ) → Consumes left left' bytes → IsAtEnd left' → IsStatusText most bytes None text → Grows held held' text → Replied most left left' held held'
+replied most left left' held held' bytes text all end is wrote = record {
   text = text;
-  fine = of_whole (IsFineText text) left left' bytes all end is;
-  not_bad = of_whole IsNotBad left left' bytes all end (λ bad other u. fine_or_bad bytes text other bad is u);
+  fine = of_whole (IsFineText most text) left left' bytes all end is;
+  not_bad = of_whole (IsNotBad most) left left' bytes all end (λ bad other u. fine_or_bad most bytes text other bad is u);
   ended = end;
   wrote = wrote;
 }
 
-pub found : (bad : BadInput) (left left' held held' : Option (List ℕ)) (bytes text : List ℕ) → Consumes left left' bytes → IsAtEnd left' → IsStatusText bytes (Some bad) text → Grows held held' text → Found bad left left' held held'
-found bad left left' held held' bytes text all end is wrote = record {
+pub found : (most : ℕ) (bad : BadInput) (left left' held held' : Option (List ℕ)) (bytes text : List ℕ) → Consumes left left' bytes → IsAtEnd left' → IsStatusText most bytes (Some bad) text → Grows held held' text → Found most bad left left' held held'
+found most bad left left' held held' bytes text all end is wrote = record {
   text = text;
-  first = of_whole (IsBadText bad text) left left' bytes all end is;
-  not_fine = of_whole IsNotFine left left' bytes all end (λ other u. fine_or_bad bytes other text bad u is);
+  first = of_whole (IsBadText most bad text) left left' bytes all end is;
+  not_fine = of_whole (IsNotFine most) left left' bytes all end (λ other u. fine_or_bad most bytes other text bad u is);
   ended = end;
   wrote = wrote;
 }
 
-pub replied_part : (left left' held held' : Option (List ℕ)) (bytes text : List ℕ) (bad : Option BadInput) → Consumes left left' bytes → IsAtEnd left' → IsStatusText bytes bad text → (n : ℕ) × Grows held held' (take n text) → RepliedPart left held held'
-replied_part left left' held held' bytes text bad all end is wrote = record {
+pub replied_part : (most : ℕ) (left left' held held' : Option (List ℕ)) (bytes text : List ℕ) (bad : Option BadInput) → Consumes left left' bytes → IsAtEnd left' → IsStatusText most bytes bad text → (n : ℕ) × Grows held held' (take n text) → RepliedPart most left held held'
+replied_part most left left' held held' bytes text bad all end is wrote = record {
   bad = bad;
   text = text;
-  is = of_whole (λ input. IsStatusText input bad text) left left' bytes all end is;
+  is = of_whole (λ input. IsStatusText most input bad text) left left' bytes all end is;
   len = wrote.0;
   wrote = wrote.1;
 }
@@ -120,15 +119,15 @@ not_bad bad e = cc
 bad_is : (a b : BadInput) → ended.BadInput a ≡ ended.BadInput b → a ≡ b
 bad_is a b e = cc
 
-pub done_replied : (fault : Option BadInput) (result : Ended) (left left' held held' : Option (List ℕ)) (bytes text : List ℕ) → result ≡ ended_after fault → result ≡ ended.Done → Consumes left left' bytes → IsAtEnd left' → IsStatusText bytes fault text → Grows held held' text → Replied left left' held held'
-done_replied None result left left' held held' bytes text is done all end t wrote = replied left left' held held' bytes text all end t wrote
-done_replied (Some bad) result left left' held held' bytes text is done all end t wrote = absurd (no_bad bad (sym is ∙ done))
+pub done_replied : (most : ℕ) (fault : Option BadInput) (result : Ended) (left left' held held' : Option (List ℕ)) (bytes text : List ℕ) → result ≡ ended_after fault → result ≡ ended.Done → Consumes left left' bytes → IsAtEnd left' → IsStatusText most bytes fault text → Grows held held' text → Replied most left left' held held'
+done_replied most None result left left' held held' bytes text is done all end t wrote = replied most left left' held held' bytes text all end t wrote
+done_replied most (Some bad) result left left' held held' bytes text is done all end t wrote = absurd (no_bad bad (sym is ∙ done))
 
-pub bad_found : (fault : Option BadInput) (result : Ended) (bad : BadInput) (left left' held held' : Option (List ℕ)) (bytes text : List ℕ) → result ≡ ended_after fault → result ≡ ended.BadInput bad → Consumes left left' bytes → IsAtEnd left' → IsStatusText bytes fault text → Grows held held' text → Found bad left left' held held'
-bad_found None result bad left left' held held' bytes text is bad_ all end t wrote = absurd (not_bad bad (sym is ∙ bad_))
-bad_found (Some other) result bad left left' held held' bytes text is bad_ all end t wrote =
-    let P : BadInput → Type 0 = λ b. Found b left left' held held' in
-    subst P (bad_is other bad (sym is ∙ bad_)) (found other left left' held held' bytes text all end t wrote)
+pub bad_found : (most : ℕ) (fault : Option BadInput) (result : Ended) (bad : BadInput) (left left' held held' : Option (List ℕ)) (bytes text : List ℕ) → result ≡ ended_after fault → result ≡ ended.BadInput bad → Consumes left left' bytes → IsAtEnd left' → IsStatusText most bytes fault text → Grows held held' text → Found most bad left left' held held'
+bad_found most None result bad left left' held held' bytes text is bad_ all end t wrote = absurd (not_bad bad (sym is ∙ bad_))
+bad_found most (Some other) result bad left left' held held' bytes text is bad_ all end t wrote =
+    let P : BadInput → Type 0 = λ b. Found most b left left' held held' in
+    subst P (bad_is other bad (sym is ∙ bad_)) (found most other left left' held held' bytes text all end t wrote)
 
 -- ---- the status of a run
 
@@ -153,17 +152,17 @@ served C ended.WriteFault status in_ in_' out_ mid new is not_bad usage read wri
 served C (ended.BadInput bad) status in_ in_' out_ mid new is not_bad usage read write counts c quiet quiet' = absurd (not_bad bad refl)
 
 -- and one that has a fault it does not
-pub never_served : (C : Type 0) (result : Ended) (status : ℕ) (bad : BadInput) (text : List ℕ) (left left' held held' : Option (List ℕ)) (in_ in_' out_ mid new : ℕ) → status ≡ status_of result → ((other : BadInput) → result ≡ ended.BadInput other → ⊥) → (result ≡ ended.Usage → ¬ C) → (result ≡ ended.Done → Replied left left' held held') → (result ≡ ended.ReadFault → Rose in_ in_') → (result ≡ ended.WriteFault → Rose out_ mid) → StandsOrRises mid new → C → IsKnown left (IsBadText bad text) → ¬ Rose in_ in_' → ¬ Rose out_ new → (status ≡ 6) ⊎ (status ≡ 1)
-never_served C ended.Done status bad text left left' held held' in_ in_' out_ mid new is not_bad usage done read write counts c known quiet quiet' = absurd (known_not (IsBadText bad text) IsNotBad left known (done refl).not_bad (λ input b n. n bad text b))
-never_served C ended.NoMemory status bad text left left' held held' in_ in_' out_ mid new is not_bad usage done read write counts c known quiet quiet' = inr is
-never_served C ended.Usage status bad text left left' held held' in_ in_' out_ mid new is not_bad usage done read write counts c known quiet quiet' = absurd (usage refl c)
-never_served C ended.ReadFault status bad text left left' held held' in_ in_' out_ mid new is not_bad usage done read write counts c known quiet quiet' = absurd (quiet (read refl))
-never_served C ended.WriteFault status bad text left left' held held' in_ in_' out_ mid new is not_bad usage done read write counts c known quiet quiet' = absurd (quiet' (rose_before out_ mid new (write refl) counts))
-never_served C (ended.BadInput other) status bad text left left' held held' in_ in_' out_ mid new is not_bad usage done read write counts c known quiet quiet' = absurd (not_bad other refl)
+pub never_served : (most : ℕ) (C : Type 0) (result : Ended) (status : ℕ) (bad : BadInput) (text : List ℕ) (left left' held held' : Option (List ℕ)) (in_ in_' out_ mid new : ℕ) → status ≡ status_of result → ((other : BadInput) → result ≡ ended.BadInput other → ⊥) → (result ≡ ended.Usage → ¬ C) → (result ≡ ended.Done → Replied most left left' held held') → (result ≡ ended.ReadFault → Rose in_ in_') → (result ≡ ended.WriteFault → Rose out_ mid) → StandsOrRises mid new → C → IsKnown left (IsBadText most bad text) → ¬ Rose in_ in_' → ¬ Rose out_ new → (status ≡ 6) ⊎ (status ≡ 1)
+never_served most C ended.Done status bad text left left' held held' in_ in_' out_ mid new is not_bad usage done read write counts c known quiet quiet' = absurd (known_not (IsBadText most bad text) (IsNotBad most) left known (done refl).not_bad (λ input b n. n bad text b))
+never_served most C ended.NoMemory status bad text left left' held held' in_ in_' out_ mid new is not_bad usage done read write counts c known quiet quiet' = inr is
+never_served most C ended.Usage status bad text left left' held held' in_ in_' out_ mid new is not_bad usage done read write counts c known quiet quiet' = absurd (usage refl c)
+never_served most C ended.ReadFault status bad text left left' held held' in_ in_' out_ mid new is not_bad usage done read write counts c known quiet quiet' = absurd (quiet (read refl))
+never_served most C ended.WriteFault status bad text left left' held held' in_ in_' out_ mid new is not_bad usage done read write counts c known quiet quiet' = absurd (quiet' (rose_before out_ mid new (write refl) counts))
+never_served most C (ended.BadInput other) status bad text left left' held held' in_ in_' out_ mid new is not_bad usage done read write counts c known quiet quiet' = absurd (not_bad other refl)
 
 -- where a fault was found, an input is not fine
-pub found_not_fine : (bad : BadInput) (text : List ℕ) (left left' held held' : Option (List ℕ)) → Found bad left left' held held' → IsKnown left (IsFineText text) → ⊥
-found_not_fine bad text left left' held held' f known = known_not (IsFineText text) IsNotFine left known f.not_fine (λ input t n. n text t)
+pub found_not_fine : (most : ℕ) (bad : BadInput) (text : List ℕ) (left left' held held' : Option (List ℕ)) → Found most bad left left' held held' → IsKnown left (IsFineText most text) → ⊥
+found_not_fine most bad text left left' held held' f known = known_not (IsFineText most text) (IsNotFine most) left known f.not_fine (λ input t n. n text t)
 
 six_is_not_one : (bad : BadInput) (result : Ended) (status : ℕ) → status ≡ status_of result → result ≡ ended.BadInput bad → status ≡ 1 → ⊥
 six_is_not_one bad result status is e one = let six : status ≡ 6 = is ∙ ap status_of e in absurd (omega (arith, six, one))
@@ -172,12 +171,12 @@ one_is_not_six : (result : Ended) (status : ℕ) → status ≡ status_of result
 one_is_not_six result status is e six = let one : status ≡ 1 = is ∙ ap status_of e in absurd (omega (arith, six, one))
 
 -- the last line was named, or there was no memory for it
-pub named : (A : Type 0) (view : A → Option (List ℕ)) (bad : BadInput) (result : Ended) (status : ℕ) (left left' held : Option (List ℕ)) (mid new : A) (old middle after : ℕ) → status ≡ status_of result → (result ≡ ended.BadInput bad) ⊎ ((result ≡ ended.NoMemory) × (new ≡ mid)) → (result ≡ ended.BadInput bad → WroteLast (view mid) (view new) middle after (bad_input_line bad)) → StandsOrRises old middle → Found bad left left' held (view mid) → status ≡ 6 → Refused left left' held (view new) old after
-named A view bad result status left left' held mid new old middle after is (inl e) wrote counts f six = refused bad left left' held (view mid) (view new) old middle after f counts (wrote e)
-named A view bad result status left left' held mid new old middle after is (inr e) wrote counts f six = absurd (one_is_not_six result status is e.0 six)
+pub named : (most : ℕ) (A : Type 0) (view : A → Option (List ℕ)) (bad : BadInput) (result : Ended) (status : ℕ) (left left' held : Option (List ℕ)) (mid new : A) (old middle after : ℕ) → status ≡ status_of result → (result ≡ ended.BadInput bad) ⊎ ((result ≡ ended.NoMemory) × (new ≡ mid)) → (result ≡ ended.BadInput bad → WroteLast (view mid) (view new) middle after (bad_input_line bad)) → StandsOrRises old middle → Found most bad left left' held (view mid) → status ≡ 6 → Refused most left left' held (view new) old after
+named most A view bad result status left left' held mid new old middle after is (inl e) wrote counts f six = refused most bad left left' held (view mid) (view new) old middle after f counts (wrote e)
+named most A view bad result status left left' held mid new old middle after is (inr e) wrote counts f six = absurd (one_is_not_six result status is e.0 six)
 
-pub not_named : (A : Type 0) (view : A → Option (List ℕ)) (bad : BadInput) (result : Ended) (status : ℕ) (left left' held : Option (List ℕ)) (mid new : A) → status ≡ status_of result → (result ≡ ended.BadInput bad) ⊎ ((result ≡ ended.NoMemory) × (new ≡ mid)) → Found bad left left' held (view mid) → status ≡ 1 → RepliedPartOrNothing left held (view new)
-not_named A view bad result status left left' held mid new is (inl e) f one = absurd (six_is_not_one bad result status is e one)
-not_named A view bad result status left left' held mid new is (inr e) f one =
-    let P : A → Type 0 = λ a. RepliedPart left held (view a) in
-    inr (subst P (sym e.1) (found_part bad left left' held (view mid) f))
+pub not_named : (most : ℕ) (A : Type 0) (view : A → Option (List ℕ)) (bad : BadInput) (result : Ended) (status : ℕ) (left left' held : Option (List ℕ)) (mid new : A) → status ≡ status_of result → (result ≡ ended.BadInput bad) ⊎ ((result ≡ ended.NoMemory) × (new ≡ mid)) → Found most bad left left' held (view mid) → status ≡ 1 → RepliedPartOrNothing most left held (view new)
+not_named most A view bad result status left left' held mid new is (inl e) f one = absurd (six_is_not_one bad result status is e one)
+not_named most A view bad result status left left' held mid new is (inr e) f one =
+    let P : A → Type 0 = λ a. RepliedPart most left held (view a) in
+    inr (subst P (sym e.1) (found_part most bad left left' held (view mid) f))

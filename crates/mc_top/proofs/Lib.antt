@@ -4,3 +4,7 @@ pub mod Hearing
 pub mod Reading
 pub mod OneText
 pub mod Inputs
+pub mod DigitSteps
+pub mod Scripts
+pub mod WordSteps
+pub mod LongLines

@@ -86,13 +86,13 @@ next_not_hex lines line bytes was is = lines_bytes-append lines (line ∷ []) �
 
 -- ---- what an idle client has said
 
-pub idle_said : (bytes : List ℕ) (splitting : Splitting) (stage : Stage) (lines : List ℕ) → (h : HasHeard bytes splitting stage lines) → IsIdle stage splitting → (s : Said bytes h.replies stage None) × (stage ≢ stages.Over → s.cut.rest ≡ splitting.held)
-idle_said bytes splitting stages.Over lines h idle = (over_said bytes splitting lines h, λ not_over. absurd (not_over refl))
-idle_said bytes splitting stages.Hand lines h idle = let w = waiting_said bytes splitting stages.Hand lines hand_not_over h idle.0 in (w.0, λ _. w.1)
+pub idle_said : (most : ℕ) (bytes : List ℕ) (splitting : Splitting) (stage : Stage) (lines : List ℕ) → (h : HasHeard most bytes splitting stage lines) → IsIdle stage splitting → (s : Said most bytes h.replies stage None) × (stage ≢ stages.Over → s.cut.rest ≡ splitting.held)
+idle_said most bytes splitting stages.Over lines h idle = (over_said most bytes splitting lines h, λ not_over. absurd (not_over refl))
+idle_said most bytes splitting stages.Hand lines h idle = let w = waiting_said most bytes splitting stages.Hand lines hand_not_over h idle.0 in (w.0, λ _. w.1)
   where
     hand_not_over : stages.Hand ≢ stages.Over
     hand_not_over e = cc
-idle_said bytes splitting stages.Status lines h idle = let w = waiting_said bytes splitting stages.Status lines status_not_over h idle.0 in (w.0, λ _. w.1)
+idle_said most bytes splitting stages.Status lines h idle = let w = waiting_said most bytes splitting stages.Status lines status_not_over h idle.0 in (w.0, λ _. w.1)
   where
     status_not_over : stages.Status ≢ stages.Over
     status_not_over e = cc
@@ -100,8 +100,8 @@ idle_said bytes splitting stages.Status lines h idle = let w = waiting_said byte
 -- ---- the loop
 
 -- a client that has said nothing
-pub nothing_heard : (splitting : Splitting) (lines : List ℕ) → splitting ≡ nothing_held → lines ≡ [] → HasHeard [] splitting stages.Hand lines
-nothing_heard splitting lines new none = record {
+pub nothing_heard : (most : ℕ) (splitting : Splitting) (lines : List ℕ) → splitting ≡ nothing_held → lines ≡ [] → HasHeard most [] splitting stages.Hand lines
+nothing_heard most splitting lines new none = record {
   fits = λ i. omega arith;
   frames = [];
   front = [];
@@ -126,17 +126,17 @@ left_size None = 0
 left_size (Some text) = length text + 1
 
 -- the first lines of a text, so many, were heard
-pub record HasRead (input : List ℕ) (count size last : ℕ) (rest : Option (List ℕ)) (splitting : Splitting) (stage : Stage) (lines : List ℕ) : Type 0 where
+pub record HasRead (most : ℕ) (input : List ℕ) (count size last : ℕ) (rest : Option (List ℕ)) (splitting : Splitting) (stage : Stage) (lines : List ℕ) : Type 0 where
   pub left : drop count (lines_of input) ≡ left_lines rest
   pub sized : size ≡ size_of (take count (lines_of input))
   pub total : size + left_size rest ≡ length input + 1
   pub few : count ≤ size
   pub counted : count ≤ length (lines_of input)
   pub ended : 0 < count → size_of (take (count - 1) (lines_of input)) + last + 1 ≡ size
-  pub fine : AreFineBefore input (count + 1)
+  pub fine : AreFineBefore most input (count + 1)
   pub bytes : List ℕ
   pub hex : lines_bytes (take count (lines_of input)) ≡ Some bytes
-  pub heard : HasHeard bytes splitting stage lines
+  pub heard : HasHeard most bytes splitting stage lines
   pub idle : IsIdle stage splitting
 
 -- a number below n + 1 is below n, or n
@@ -148,20 +148,20 @@ below_more P n below at m less =
     ]
 
 -- the lines so far show no fault
-fine_now : (input bytes : List ℕ) (n : ℕ) (splitting : Splitting) (stage : Stage) (lines : List ℕ) → lines_bytes (take n (lines_of input)) ≡ Some bytes → HasHeard bytes splitting stage lines → IsIdle stage splitting → IsWithin input n → IsFine input n
-fine_now input bytes n splitting stage lines hex h idle within =
-    let s = (idle_said bytes splitting stage lines h idle).0 in
+fine_now : (most : ℕ) (input bytes : List ℕ) (n : ℕ) (splitting : Splitting) (stage : Stage) (lines : List ℕ) → lines_bytes (take n (lines_of input)) ≡ Some bytes → HasHeard most bytes splitting stage lines → IsIdle stage splitting → IsWithin input n → IsFine most input n
+fine_now most input bytes n splitting stage lines hex h idle within =
+    let s = (idle_said most bytes splitting stage lines h idle).0 in
     record { cut = s.cut; lines = record { bytes = bytes; hex = hex; is_cut = s.is_cut }; within = within; no_fault = s.fault_is }
 
-pub nothing_read : (input : List ℕ) (splitting : Splitting) (stage : Stage) (lines : List ℕ) → HasHeard [] splitting stage lines → IsIdle stage splitting → HasRead input 0 0 0 (Some input) splitting stage lines
-nothing_read input splitting stage lines h idle = record {
+pub nothing_read : (most : ℕ) (input : List ℕ) (splitting : Splitting) (stage : Stage) (lines : List ℕ) → HasHeard most [] splitting stage lines → IsIdle stage splitting → HasRead most input 0 0 0 (Some input) splitting stage lines
+nothing_read most input splitting stage lines h idle = record {
   left = refl;
   sized = refl;
   total = omega arith;
   few = omega arith;
   counted = omega arith;
   ended = λ some. absurd (omega (arith, some));
-  fine = below_more (IsFine input) 0 (λ m less. absurd (omega (arith, less))) (fine_now input [] 0 splitting stage lines no_lines h idle (inr (omega arith)));
+  fine = below_more (IsFine most input) 0 (λ m less. absurd (omega (arith, less))) (fine_now most input [] 0 splitting stage lines no_lines h idle (inr (omega arith)));
   bytes = [];
   hex = no_lines;
   heard = h;
@@ -181,8 +181,8 @@ pub record CutsNext (text line : List ℕ) (after : Option (List ℕ)) : Type 0 
   pub size : length line + 1 + left_size after ≡ length text + 1
 
 -- one more line was heard
-pub read_next : (input text line : List ℕ) (count size last : ℕ) (after : Option (List ℕ)) (old new : Splitting) (stage stage' : Stage) (lines lines' : List ℕ) → HasRead input count size last (Some text) old stage lines → CutsNext text line after → ¬ IsTooLong (length input) (size + (length line + 1)) → ((bytes : List ℕ) → HasHeard bytes old stage lines → HearsLine bytes line new stage' lines') → IsIdle stage' new → HasRead input (count + 1) (size + (length line + 1)) (length line) after new stage' lines'
-read_next input text line count size last after old new stage stage' lines lines' r cut short hears idle =
+pub read_next : (most : ℕ) (input text line : List ℕ) (count size last : ℕ) (after : Option (List ℕ)) (old new : Splitting) (stage stage' : Stage) (lines lines' : List ℕ) → HasRead most input count size last (Some text) old stage lines → CutsNext text line after → ¬ IsTooLong (length input) (size + (length line + 1)) → ((bytes : List ℕ) → HasHeard most bytes old stage lines → HearsLine most bytes line new stage' lines') → IsIdle stage' new → HasRead most input (count + 1) (size + (length line + 1)) (length line) after new stage' lines'
+read_next most input text line count size last after old new stage stage' lines lines' r cut short hears idle =
     let next = drop_next count (lines_of input) line (left_lines after) (r.left ∙ cut.lines) in
     let h = hears r.bytes r.heard in
     let hex : lines_bytes (take (count + 1) (lines_of input)) ≡ Some (r.bytes ++ h.more) = ap lines_bytes next.0 ∙ next_hex (take count (lines_of input)) line r.bytes h.more r.hex h.hex in
@@ -202,7 +202,7 @@ read_next input text line count size last after old new stage stage' lines lines
       few = omega (arith, r.few);
       counted = omega (arith, next.2);
       ended = λ _. subst Q back here;
-      fine = below_more (IsFine input) (count + 1) r.fine (fine_now input (r.bytes ++ h.more) (count + 1) new stage' lines' hex h.heard idle (subst P sized (not_too_long (length input) (size + (length line + 1)) short)));
+      fine = below_more (IsFine most input) (count + 1) r.fine (fine_now most input (r.bytes ++ h.more) (count + 1) new stage' lines' hex h.heard idle (subst P sized (not_too_long (length input) (size + (length line + 1)) short)));
       bytes = r.bytes ++ h.more;
       hex = hex;
       heard = h.heard;
@@ -221,13 +221,13 @@ first_lines_once input n a b f g =
     unique 0 f.bytes a.frames a.rest a.fault b.frames b.rest b.fault f.is_cut (subst P same g.is_cut)
 
 -- the lines that were heard are answered
-pub answered_now : (input : List ℕ) (count size last : ℕ) (rest : Option (List ℕ)) (splitting : Splitting) (stage : Stage) (lines : List ℕ) → (r : HasRead input count size last rest splitting stage lines) → AreAnswered input count r.heard.replies
-answered_now input count size last rest splitting stage lines r =
-    let s = (idle_said r.bytes splitting stage lines r.heard r.idle).0 in
+pub answered_now : (most : ℕ) (input : List ℕ) (count size last : ℕ) (rest : Option (List ℕ)) (splitting : Splitting) (stage : Stage) (lines : List ℕ) → (r : HasRead most input count size last rest splitting stage lines) → AreAnswered most input count r.heard.replies
+answered_now most input count size last rest splitting stage lines r =
+    let s = (idle_said most r.bytes splitting stage lines r.heard r.idle).0 in
     (s.cut, record { bytes = r.bytes; hex = r.hex; is_cut = s.is_cut }, sym s.replies_are)
 
-all_read : (input : List ℕ) (count size last : ℕ) (splitting : Splitting) (stage : Stage) (lines : List ℕ) → HasRead input count size last None splitting stage lines → count ≡ length (lines_of input)
-all_read input count size last splitting stage lines r =
+all_read : (most : ℕ) (input : List ℕ) (count size last : ℕ) (splitting : Splitting) (stage : Stage) (lines : List ℕ) → HasRead most input count size last None splitting stage lines → count ≡ length (lines_of input)
+all_read most input count size last splitting stage lines r =
     let none = ap length r.left in
     omega (arith, r.counted, none, length-drop count (lines_of input))
 
@@ -248,27 +248,27 @@ inside_parts stages.Status splitting inside = (status_not_over, inside)
 inside_parts stages.Over splitting inside = absurd inside
 
 -- a text that ends inside a frame leaves its bytes with the splitter
-not_inside : (input : List ℕ) (n size last : ℕ) (splitting : Splitting) (stage : Stage) (lines : List ℕ) → HasRead input n size last None splitting stage lines → ¬ IsInside stage splitting → (cut : Cut) → FirstLines input n cut → (said cut).stage ≢ stages.Over → 0 < length cut.rest → ⊥
-not_inside input n size last splitting stage lines r outside cut first not_over some =
-    let s = idle_said r.bytes splitting stage lines r.heard r.idle in
+not_inside : (most : ℕ) (input : List ℕ) (n size last : ℕ) (splitting : Splitting) (stage : Stage) (lines : List ℕ) → HasRead most input n size last None splitting stage lines → ¬ IsInside stage splitting → (cut : Cut) → FirstLines input n cut → (said most cut).stage ≢ stages.Over → 0 < length cut.rest → ⊥
+not_inside most input n size last splitting stage lines r outside cut first not_over some =
+    let s = idle_said most r.bytes splitting stage lines r.heard r.idle in
     let same = first_lines_once input n cut s.0.cut first (record { bytes = r.bytes; hex = r.hex; is_cut = s.0.is_cut }) in
-    let stage_is : (said cut).stage ≡ stage = ap (λ (c : Cut). (said c).stage) same ∙ s.0.stage_is in
+    let stage_is : (said most cut).stage ≡ stage = ap (λ (c : Cut). (said most c).stage) same ∙ s.0.stage_is in
     let open_ : stage ≢ stages.Over = λ over. not_over (stage_is ∙ over) in
     let held : cut.rest ≡ splitting.held = ap (λ (c : Cut). c.rest) same ∙ s.1 open_ in
     let P : List ℕ → Type 0 = λ t. 0 < length t in
     outside (inside_of stage splitting open_ (subst P held some))
 
-pub fine_text : (input : List ℕ) (count size last : ℕ) (splitting : Splitting) (stage : Stage) (lines : List ℕ) → HasRead input count size last None splitting stage lines → ¬ IsInside stage splitting → IsStatusText input None lines
-fine_text input count size last splitting stage lines r outside =
-    let all = all_read input count size last splitting stage lines r in
-    let P : ℕ → Type 0 = λ n. AreFineBefore input (n + 1) in
-    let Q : ℕ → Type 0 = λ n. AreAnswered input n r.heard.replies in
+pub fine_text : (most : ℕ) (input : List ℕ) (count size last : ℕ) (splitting : Splitting) (stage : Stage) (lines : List ℕ) → HasRead most input count size last None splitting stage lines → ¬ IsInside stage splitting → IsStatusText most input None lines
+fine_text most input count size last splitting stage lines r outside =
+    let all = all_read most input count size last splitting stage lines r in
+    let P : ℕ → Type 0 = λ n. AreFineBefore most input (n + 1) in
+    let Q : ℕ → Type 0 = λ n. AreAnswered most input n r.heard.replies in
     record {
       replies = r.heard.replies;
       answered = (
         subst P all r.fine,
-        λ e. not_inside input count size last splitting stage lines r outside e.0 (here e.0 all e.1) e.2 e.3,
-        subst Q all (answered_now input count size last None splitting stage lines r),
+        λ e. not_inside most input count size last splitting stage lines r outside e.0 (here e.0 all e.1) e.2 e.3,
+        subst Q all (answered_now most input count size last None splitting stage lines r),
       );
       lines = r.heard.written;
     }
@@ -320,10 +320,10 @@ last_holds input count size last some more few total sized ended = step (last ==
       within = omega (arith, sized, total);
     }
 
-pub cut_text : (input : List ℕ) (count size last : ℕ) (splitting : Splitting) (stage : Stage) (lines : List ℕ) → HasRead input count size last None splitting stage lines → IsInside stage splitting → IsStatusText input (Some (record { line = last_line count last; kind = faults.Cut })) lines
-cut_text input count size last splitting stage lines r inside =
-    let all = all_read input count size last splitting stage lines r in
-    let s = idle_said r.bytes splitting stage lines r.heard r.idle in
+pub cut_text : (most : ℕ) (input : List ℕ) (count size last : ℕ) (splitting : Splitting) (stage : Stage) (lines : List ℕ) → HasRead most input count size last None splitting stage lines → IsInside stage splitting → IsStatusText most input (Some (record { line = last_line count last; kind = faults.Cut })) lines
+cut_text most input count size last splitting stage lines r inside =
+    let all = all_read most input count size last splitting stage lines r in
+    let s = idle_said most r.bytes splitting stage lines r.heard r.idle in
     let p = inside_parts stage splitting inside in
     let left : s.0.cut.rest ≡ splitting.held = s.1 p.0 in
     let rest = ap length left in
@@ -335,17 +335,17 @@ cut_text input count size last splitting stage lines r inside =
     let sized = r.sized in
     let lines_some : 0 < length (lines_of input) = omega (arith, length-slice_split is_line_end input) in
     let more : 0 < count = omega (arith, all, lines_some) in
-    let P : ℕ → Type 0 = λ n. AreFineBefore input (n + 1) in
-    let Q : ℕ → Type 0 = λ n. AreAnswered input n r.heard.replies in
+    let P : ℕ → Type 0 = λ n. AreFineBefore most input (n + 1) in
+    let Q : ℕ → Type 0 = λ n. AreAnswered most input n r.heard.replies in
     let S : ℕ → Type 0 = λ n. FirstLines input n s.0.cut in
-    let open_ : (said s.0.cut).stage ≢ stages.Over = λ over. p.0 (sym s.0.stage_is ∙ over) in
+    let open_ : (said most s.0.cut).stage ≢ stages.Over = λ over. p.0 (sym s.0.stage_is ∙ over) in
     record {
       replies = r.heard.replies;
       answered = (
         subst P all r.fine,
         (s.0.cut, subst S all (record { bytes = r.bytes; hex = r.hex; is_cut = s.0.is_cut }), open_, some),
         last_holds input count size last some_text more r.counted (omega (arith, total)) (sym sized) (r.ended more),
-        subst Q all (answered_now input count size last None splitting stage lines r),
+        subst Q all (answered_now most input count size last None splitting stage lines r),
       );
       lines = r.heard.written;
     }
@@ -373,28 +373,28 @@ greeted_wire (Ok (Handshake protocol address port next)) kind e = step (is_statu
     step false e = subst IsWire (wrong_is faults.Login kind e) tt
 greeted_wire (Err fault) kind e = subst IsWire (wrong_is faults.Packet kind e) tt
 
-asked_wire : (r : Result StatusUp PacketFault) (kind : InputFault) → asked r ≡ wrong kind → IsWire kind
-asked_wire (Ok Request) kind e = absurd (goes_not_wrong _ _ kind e)
-asked_wire (Ok (Ping number)) kind e = absurd (goes_not_wrong _ _ kind e)
-asked_wire (Err fault) kind e = subst IsWire (wrong_is faults.Packet kind e) tt
+asked_wire : (most : ℕ) (r : Result StatusUp PacketFault) (kind : InputFault) → asked most r ≡ wrong kind → IsWire kind
+asked_wire most (Ok Request) kind e = absurd (goes_not_wrong _ _ kind e)
+asked_wire most (Ok (Ping number)) kind e = absurd (goes_not_wrong _ _ kind e)
+asked_wire most (Err fault) kind e = subst IsWire (wrong_is faults.Packet kind e) tt
 
-answer_wire : (stage : Stage) (payload : List ℕ) (kind : InputFault) → answer stage payload ≡ wrong kind → IsWire kind
-answer_wire stages.Hand payload kind e = greeted_wire (packet_of payload (frame_read hand.rows payload)) kind e
-answer_wire stages.Status payload kind e = asked_wire (packet_of payload (frame_read up.rows payload)) kind e
-answer_wire stages.Over payload kind e = absurd (goes_not_wrong [] stages.Over kind e)
+answer_wire : (most : ℕ) (stage : Stage) (payload : List ℕ) (kind : InputFault) → answer most stage payload ≡ wrong kind → IsWire kind
+answer_wire most stages.Hand payload kind e = greeted_wire (packet_of payload (frame_read hand.rows payload)) kind e
+answer_wire most stages.Status payload kind e = asked_wire most (packet_of payload (frame_read up.rows payload)) kind e
+answer_wire most stages.Over payload kind e = absurd (goes_not_wrong [] stages.Over kind e)
 
-begins_wire : (stage : Stage) (rest : List ℕ) (kind : InputFault) → BeginsWrong stage rest kind → IsWire kind
-begins_wire stage rest kind (inl b) = answer_wire stage b.0 kind b.5
-begins_wire stage rest kind (inr b) = subst IsWire (sym b.0) tt
+begins_wire : (most : ℕ) (stage : Stage) (rest : List ℕ) (kind : InputFault) → BeginsWrong most stage rest kind → IsWire kind
+begins_wire most stage rest kind (inl b) = answer_wire most stage b.0 kind b.5
+begins_wire most stage rest kind (inr b) = subst IsWire (sym b.0) tt
 
-wire_fault : (input : List ℕ) (n : ℕ) (kind : InputFault) (replies : List (List ℕ)) → IsWire kind → AreFineBefore input n → IsWithin input n → ((cut : Cut) × FirstLines input n cut × ((said cut).fault ≡ Some kind)) → AreAnswered input n replies → IsFirstFault input n kind replies
-wire_fault input n faults.Frame replies wire fine within shows answered = (fine, within, shows, answered)
-wire_fault input n faults.Packet replies wire fine within shows answered = (fine, within, shows, answered)
-wire_fault input n faults.Login replies wire fine within shows answered = (fine, within, shows, answered)
-wire_fault input n other replies wire fine within shows answered = absurd wire
+wire_fault : (most : ℕ) (input : List ℕ) (n : ℕ) (kind : InputFault) (replies : List (List ℕ)) → IsWire kind → AreFineBefore most input n → IsWithin input n → ((cut : Cut) × FirstLines input n cut × ((said most cut).fault ≡ Some kind)) → AreAnswered most input n replies → IsFirstFault most input n kind replies
+wire_fault most input n faults.Frame replies wire fine within shows answered = (fine, within, shows, answered)
+wire_fault most input n faults.Packet replies wire fine within shows answered = (fine, within, shows, answered)
+wire_fault most input n faults.Login replies wire fine within shows answered = (fine, within, shows, answered)
+wire_fault most input n other replies wire fine within shows answered = absurd wire
 
-pub wrong_text : (input text line : List ℕ) (count size last : ℕ) (after : Option (List ℕ)) (old : Splitting) (stage : Stage) (lines lines' : List ℕ) (kind : InputFault) → HasRead input count size last (Some text) old stage lines → CutsNext text line after → ((bytes : List ℕ) → HasHeard bytes old stage lines → IsWrongNext (length input) (size + (length line + 1)) bytes line kind lines lines') → IsStatusText input (Some (record { line = count + 1; kind = kind })) lines'
-wrong_text input text line count size last after old stage lines lines' kind r cut shows = cases (shows r.bytes r.heard)
+pub wrong_text : (most : ℕ) (input text line : List ℕ) (count size last : ℕ) (after : Option (List ℕ)) (old : Splitting) (stage : Stage) (lines lines' : List ℕ) (kind : InputFault) → HasRead most input count size last (Some text) old stage lines → CutsNext text line after → ((bytes : List ℕ) → HasHeard most bytes old stage lines → IsWrongNext most (length input) (size + (length line + 1)) bytes line kind lines lines') → IsStatusText most input (Some (record { line = count + 1; kind = kind })) lines'
+wrong_text most input text line count size last after old stage lines lines' kind r cut shows = cases (shows r.bytes r.heard)
   where
     next : (take (count + 1) (lines_of input) ≡ take count (lines_of input) ++ line ∷ []) × (drop (count + 1) (lines_of input) ≡ left_lines after) × (count < length (lines_of input))
     next = drop_next count (lines_of input) line (left_lines after) (r.left ∙ cut.lines)
@@ -406,11 +406,11 @@ wrong_text input text line count size last after old stage lines lines' kind r c
         omega (arith, was, grown)
 
     -- the lines before this one are answered
-    answered : AreAnswered input (count + 1 - 1) r.heard.replies
+    answered : AreAnswered most input (count + 1 - 1) r.heard.replies
     answered =
         let back : count ≡ count + 1 - 1 = omega arith in
-        let P : ℕ → Type 0 = λ n. AreAnswered input n r.heard.replies in
-        subst P back (answered_now input count size last (Some text) old stage lines r)
+        let P : ℕ → Type 0 = λ n. AreAnswered most input n r.heard.replies in
+        subst P back (answered_now most input count size last (Some text) old stage lines r)
 
     before : text_max < length input → size_of (take (count + 1 - 1) (lines_of input)) < text_max + 1
     before long =
@@ -418,11 +418,11 @@ wrong_text input text line count size last after old stage lines lines' kind r c
         let P : ℕ → Type 0 = λ n. size_of (take n (lines_of input)) < text_max + 1 in
         subst P back (elim (r.fine count (omega arith)).within [ inl short ↦ absurd (omega (arith, short, long)) | inr within ↦ omega (arith, within) ])
 
-    wrong_line : ¬ IsTooLong (length input) (size + (length line + 1)) → IsWrongLine r.bytes line kind lines lines' → IsStatusText input (Some (record { line = count + 1; kind = kind })) lines'
+    wrong_line : ¬ IsTooLong (length input) (size + (length line + 1)) → IsWrongLine most r.bytes line kind lines lines' → IsStatusText most input (Some (record { line = count + 1; kind = kind })) lines'
     wrong_line short (inl w) =
         let Q : ℕ → Type 0 = λ n. (length input ≤ text_max) ⊎ (n ≤ text_max) in
         let none : lines_bytes (take (count + 1) (lines_of input)) ≡ None = ap lines_bytes next.0 ∙ next_not_hex (take count (lines_of input)) line r.bytes r.hex w.1 in
-        let P : InputFault → Type 0 = λ k. IsStatusText input (Some (record { line = count + 1; kind = k })) lines' in
+        let P : InputFault → Type 0 = λ k. IsStatusText most input (Some (record { line = count + 1; kind = k })) lines' in
         subst P (sym w.0) (record {
           replies = r.heard.replies;
           answered = (r.fine, subst Q sized (not_too_long (length input) (size + (length line + 1)) short), none, answered);
@@ -431,17 +431,17 @@ wrong_text input text line count size last after old stage lines lines' kind r c
     wrong_line short (inr w) =
         let Q : ℕ → Type 0 = λ n. (length input ≤ text_max) ⊎ (n ≤ text_max) in
         let hex : lines_bytes (take (count + 1) (lines_of input)) ≡ Some (r.bytes ++ w.0) = ap lines_bytes next.0 ∙ next_hex (take count (lines_of input)) line r.bytes w.0 r.hex w.1 in
-        let s = wrong_said (r.bytes ++ w.0) kind lines' w.2 in
+        let s = wrong_said most (r.bytes ++ w.0) kind lines' w.2 in
         let first : FirstLines input (count + 1) s.cut = record { bytes = r.bytes ++ w.0; hex = hex; is_cut = s.is_cut } in
         record {
           replies = w.2.replies;
-          answered = wire_fault input (count + 1) kind w.2.replies (begins_wire w.2.stage w.2.rest kind w.2.begins) r.fine (subst Q sized (not_too_long (length input) (size + (length line + 1)) short)) (s.cut, first, s.fault_is) (s.cut, first, sym s.replies_are);
+          answered = wire_fault most input (count + 1) kind w.2.replies (begins_wire most w.2.stage w.2.rest kind w.2.begins) r.fine (subst Q sized (not_too_long (length input) (size + (length line + 1)) short)) (s.cut, first, s.fault_is) (s.cut, first, sym s.replies_are);
           lines = w.2.written;
         }
 
-    cases : IsWrongNext (length input) (size + (length line + 1)) r.bytes line kind lines lines' → IsStatusText input (Some (record { line = count + 1; kind = kind })) lines'
+    cases : IsWrongNext most (length input) (size + (length line + 1)) r.bytes line kind lines lines' → IsStatusText most input (Some (record { line = count + 1; kind = kind })) lines'
     cases (inl long) =
-        let P : InputFault → Type 0 = λ k. IsStatusText input (Some (record { line = count + 1; kind = k })) lines' in
+        let P : InputFault → Type 0 = λ k. IsStatusText most input (Some (record { line = count + 1; kind = k })) lines' in
         let past = long.0.1 in
         subst P (sym long.1) (record {
           replies = r.heard.replies;

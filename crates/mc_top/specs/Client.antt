@@ -1,6 +1,7 @@
 -- A client that asks for the status, over the list of its frames, of the page 'Server List Ping' of wiki.vg for protocol 47: a
--- handshake, then requests, each of which is answered, then a ping, which is answered and ends it.
-use Rattle.std.specs.Prelude.{ℕ, ◌==◌, Bool, false, List, [], ◌∷◌, ◌++◌, Option, Some, None, Result, Ok, Err, codes, if◌then◌else◌}
+-- handshake, then requests, each of which is answered, then a ping, which is answered and ends it. The status tells of a server
+-- with so many players at most.
+use Rattle.std.specs.Prelude.{ℕ, ◌==◌, Bool, false, List, [], ◌∷◌, ◌++◌, Option, Some, None, Result, Ok, Err, if◌then◌else◌}
 use Rattle.std.specs.List.{flat_map}
 use lib.IntN.{ℤ, pos, negsuc}
 use Rattle.hex.specs.Hex.{encode_lower}
@@ -18,14 +19,11 @@ use Rattle.mc_up.specs.declared.status_down.StatusDown.TheVariants.{Response, Po
 use Rattle.mc_up.specs.Hand as hand
 use Rattle.mc_up.specs.StatusUp as up
 use Rattle.mc_up.specs.StatusDown as down
+use Rattle.mc_top.specs.StatusJson.{status_json}
 use Rattle.mc_top.specs.declared.bad_input.InputFault.{InputFault}
 use Rattle.mc_top.specs.declared.bad_input.InputFault.TheVariants.{Frame, Packet, Login}
 use Rattle.mc_top.specs.declared.stage.Stage.{Stage}
 use Rattle.mc_top.specs.declared.stage.Stage.TheVariants as stages
-
--- the status, as JSON
-abbrev pub status_json : List ℕ
-status_json = codes "{\"description\":{\"text\":\"craft47\"},\"players\":{\"max\":20,\"online\":0},\"version\":{\"name\":\"1.8\",\"protocol\":47}}"
 
 -- the frame of a packet to the client
 abbrev pub reply : StatusDown → List ℕ
@@ -54,16 +52,19 @@ abbrev pub greeted : Result Hand PacketFault → Answer
 greeted (Ok (Handshake protocol address port next)) = if is_status next then goes [] stages.Status else wrong Login
 greeted (Err fault) = wrong Packet
 
-abbrev pub asked : Result StatusUp PacketFault → Answer
-asked (Ok Request) = goes (reply (Response status_json) ∷ []) stages.Status
-asked (Ok (Ping number)) = goes (reply (Pong number) ∷ []) stages.Over
-asked (Err fault) = wrong Packet
+abbrev pub greeting : List ℕ → Answer
+greeting payload = greeted (packet_of payload (frame_read hand.rows payload))
+
+abbrev pub asked : ℕ → Result StatusUp PacketFault → Answer
+asked most (Ok Request) = goes (reply (Response (status_json most)) ∷ []) stages.Status
+asked most (Ok (Ping number)) = goes (reply (Pong number) ∷ []) stages.Over
+asked most (Err fault) = wrong Packet
 
 -- a frame's payload is the packet that it spells in the stage of the client
-abbrev pub answer : Stage → List ℕ → Answer
-answer stages.Hand payload = greeted (packet_of payload (frame_read hand.rows payload))
-answer stages.Status payload = asked (packet_of payload (frame_read up.rows payload))
-answer stages.Over payload = goes [] stages.Over
+abbrev pub answer : ℕ → Stage → List ℕ → Answer
+answer most stages.Hand payload = greeting payload
+answer most stages.Status payload = asked most (packet_of payload (frame_read up.rows payload))
+answer most stages.Over payload = goes [] stages.Over
 
 -- ---- all frames
 
@@ -78,9 +79,9 @@ abbrev pub then_ : Answer → Stage → (Stage → Talk) → Talk
 then_ (goes replies next) stage later = record { replies = replies ++ (later next).replies; stage = (later next).stage; fault = (later next).fault }
 then_ (wrong kind) stage later = record { replies = []; stage = stage; fault = Some kind }
 
-abbrev pub talk : Stage → List (List ℕ) → Talk
-talk stage [] = record { replies = []; stage = stage; fault = None }
-talk stage (payload ∷ later) = then_ (answer stage payload) stage (λ next. talk next later)
+abbrev pub talk : ℕ → Stage → List (List ℕ) → Talk
+talk most stage [] = record { replies = []; stage = stage; fault = None }
+talk most stage (payload ∷ later) = then_ (answer most stage payload) stage (λ next. talk most next later)
 
 -- the first fault: that of a frame, or that of a length behind the frames; behind an answered ping there is none
 abbrev pub first_fault : Stage → Option InputFault → Option FrameFault → Option InputFault
@@ -90,5 +91,5 @@ first_fault stage None (Some fault) = Some Frame
 first_fault stage None None = None
 
 -- what a client says, by the cut of its bytes
-abbrev pub said : cuts.Cut → Talk
-said cut = let frames = talk stages.Hand cut.frames in record frames { fault = first_fault frames.stage frames.fault cut.fault }
+abbrev pub said : ℕ → cuts.Cut → Talk
+said most cut = let frames = talk most stages.Hand cut.frames in record frames { fault = first_fault frames.stage frames.fault cut.fault }

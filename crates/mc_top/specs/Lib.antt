@@ -1,7 +1,12 @@
 pub mod Lines
 pub mod FaultName
 pub mod Ended
+pub mod StatusJson
 pub mod Client
 pub mod StatusText
 pub mod Heard
+pub mod Words
 pub mod Run
+pub mod Digits
+pub mod Script
+pub mod ScriptRead

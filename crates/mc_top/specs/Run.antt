@@ -1,54 +1,60 @@
 -- What a run of the program promises, by the status that it answers. The two counts are those of the failures that the
 -- devices have counted; left and held are what is left to read and what was written, where the devices tell it.
-use Rattle.std.specs.Prelude.{◌≡◌, ℕ, ◌⊎◌, List, [], ◌∷◌, ◌++◌, take, map, string_bytes, Option, IfSome, Some, None, codes}
+use Rattle.std.specs.Prelude.{◌≡◌, ℕ, ◌⊎◌, List, [], ◌∷◌, ◌++◌, take, Option, IfSome, Some, None}
 use Rattle.std.specs.declared.string.String.{String}
 use Rattle.mc_wire.specs.Count.{Rose}
 use Rattle.mc_wire.specs.Stream.{Grows, IsAtEnd}
 use Rattle.mc_top.specs.declared.bad_input.BadInput.{BadInput}
 use Rattle.mc_top.specs.declared.ended.Ended.{Ended}
+use Rattle.mc_top.specs.declared.words.Command.TheVariants.{Status}
 use Rattle.mc_top.specs.Ended.{status_of, bad_input_line}
 use Rattle.mc_top.specs.StatusText.{IsStatusText}
+use Rattle.mc_top.specs.Words.{command_of, bytes_of}
 
--- the words are the one word `status`
-abbrev pub IsStatusCommand : {Z : Type 0} → List (String Z) → Type 0
-IsStatusCommand words = map string_bytes words ≡ codes "status" ∷ []
+-- the words are `status`, with so many players at most
+abbrev pub IsStatusCommand : {Z : Type 0} → ℕ → List (String Z) → Type 0
+IsStatusCommand most words = command_of (bytes_of words) ≡ Some (Status most)
+
+-- the words name a command that is served, with its options
+abbrev pub IsCommand : {Z : Type 0} → List (String Z) → Type 0
+IsCommand words = (most : ℕ) × IsStatusCommand most words
 
 -- nothing is wrong with an input, and this is its text
-abbrev pub IsFineText : List ℕ → List ℕ → Type 0
-IsFineText text input = IsStatusText input None text
+abbrev pub IsFineText : ℕ → List ℕ → List ℕ → Type 0
+IsFineText most text input = IsStatusText most input None text
 
 -- this is the first fault of an input, and the text of what stands before it
-abbrev pub IsBadText : BadInput → List ℕ → List ℕ → Type 0
-IsBadText bad text input = IsStatusText input (Some bad) text
+abbrev pub IsBadText : ℕ → BadInput → List ℕ → List ℕ → Type 0
+IsBadText most bad text input = IsStatusText most input (Some bad) text
 
 -- an input is not fine, or has no fault
-abbrev pub IsNotFine : List ℕ → Type 0
-IsNotFine input = (text : List ℕ) → ¬ IsFineText text input
+abbrev pub IsNotFine : ℕ → List ℕ → Type 0
+IsNotFine most input = (text : List ℕ) → ¬ IsFineText most text input
 
-abbrev pub IsNotBad : List ℕ → Type 0
-IsNotBad input = (bad : BadInput) (text : List ℕ) → ¬ IsBadText bad text input
+abbrev pub IsNotBad : ℕ → List ℕ → Type 0
+IsNotBad most input = (bad : BadInput) (text : List ℕ) → ¬ IsBadText most bad text input
 
 -- the input was read to its end, nothing is wrong with it, and its text was written
-pub record Replied (left left' held held' : Option (List ℕ)) : Type 0 where
+pub record Replied (most : ℕ) (left left' held held' : Option (List ℕ)) : Type 0 where
   pub text : List ℕ
-  pub fine : IfSome left (IsFineText text)
-  pub not_bad : IfSome left IsNotBad
+  pub fine : IfSome left (IsFineText most text)
+  pub not_bad : IfSome left (IsNotBad most)
   pub ended : IsAtEnd left'
   pub wrote : Grows held held' text
 
 -- some first part of the text of an input was written
-pub record RepliedPart (left held held' : Option (List ℕ)) : Type 0 where
+pub record RepliedPart (most : ℕ) (left held held' : Option (List ℕ)) : Type 0 where
   pub bad : Option BadInput
   pub text : List ℕ
-  pub is : IfSome left (λ input. IsStatusText input bad text)
+  pub is : IfSome left (λ input. IsStatusText most input bad text)
   pub len : ℕ
   pub wrote : Grows held held' (take len text)
 
 -- the input was read to its end, this is its first fault, and the text of what stands before it was written
-pub record Found (bad : BadInput) (left left' held held' : Option (List ℕ)) : Type 0 where
+pub record Found (most : ℕ) (bad : BadInput) (left left' held held' : Option (List ℕ)) : Type 0 where
   pub text : List ℕ
-  pub first : IfSome left (IsBadText bad text)
-  pub not_fine : IfSome left IsNotFine
+  pub first : IfSome left (IsBadText most bad text)
+  pub not_fine : IfSome left (IsNotFine most)
   pub ended : IsAtEnd left'
   pub wrote : Grows held held' text
 
@@ -63,11 +69,11 @@ WroteTextThenLast held held' faults faults' text line =
     Grows held held' (text ++ (line ++ 10 ∷ [])) ⊎ (Rose faults faults' × (len : ℕ) × Grows held held' (text ++ take len (line ++ 10 ∷ [])))
 
 -- the input was read to its end and has a first fault, and the text of what stands before it and the last line were written
-pub record Refused (left left' held held' : Option (List ℕ)) (faults faults' : ℕ) : Type 0 where
+pub record Refused (most : ℕ) (left left' held held' : Option (List ℕ)) (faults faults' : ℕ) : Type 0 where
   pub bad : BadInput
   pub text : List ℕ
-  pub first : IfSome left (IsBadText bad text)
-  pub not_fine : IfSome left IsNotFine
+  pub first : IfSome left (IsBadText most bad text)
+  pub not_fine : IfSome left (IsNotFine most)
   pub ended : IsAtEnd left'
   pub wrote : WroteTextThenLast held held' faults faults' text (bad_input_line bad)
 
@@ -76,8 +82,8 @@ abbrev pub IsStatus : ℕ → Type 0
 IsStatus status = (ended : Ended) × (status ≡ status_of ended)
 
 -- some first part of the text, or nothing
-abbrev pub RepliedPartOrNothing : Option (List ℕ) → Option (List ℕ) → Option (List ℕ) → Type 0
-RepliedPartOrNothing left held held' = Grows held held' [] ⊎ RepliedPart left held held'
+abbrev pub RepliedPartOrNothing : ℕ → Option (List ℕ) → Option (List ℕ) → Option (List ℕ) → Type 0
+RepliedPartOrNothing most left held held' = Grows held held' [] ⊎ RepliedPart most left held held'
 
 -- the device tells what is left, and it is so
 abbrev pub IsKnown : Option (List ℕ) → (List ℕ → Type 0) → Type 0

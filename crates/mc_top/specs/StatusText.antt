@@ -34,46 +34,46 @@ pub record FirstLines (input : List ℕ) (n : ℕ) (cut : Cut) : Type 0 where
   pub is_cut : IsCut bytes cut
 
 -- no fault shows in the first n lines
-pub record IsFine (input : List ℕ) (n : ℕ) : Type 0 where
+pub record IsFine (most : ℕ) (input : List ℕ) (n : ℕ) : Type 0 where
   pub cut : Cut
   pub lines : FirstLines input n cut
   pub within : IsWithin input n
-  pub no_fault : (said cut).fault ≡ None
+  pub no_fault : (said most cut).fault ≡ None
 
 -- no fault shows in fewer than n lines
-abbrev pub AreFineBefore : List ℕ → ℕ → Type 0
-AreFineBefore input n = (m : ℕ) → m < n → IsFine input m
+abbrev pub AreFineBefore : ℕ → List ℕ → ℕ → Type 0
+AreFineBefore most input n = (m : ℕ) → m < n → IsFine most input m
 
 -- the first n lines are answered so
-abbrev pub AreAnswered : List ℕ → ℕ → List (List ℕ) → Type 0
-AreAnswered input n replies = (cut : Cut) × FirstLines input n cut × (replies ≡ (said cut).replies)
+abbrev pub AreAnswered : ℕ → List ℕ → ℕ → List (List ℕ) → Type 0
+AreAnswered most input n replies = (cut : Cut) × FirstLines input n cut × (replies ≡ (said most cut).replies)
 
 -- the bytes of all lines end inside a frame
-abbrev pub EndsInside : List ℕ → Type 0
-EndsInside input = (cut : Cut) × FirstLines input (length (lines_of input)) cut × ((said cut).stage ≢ stages.Over) × (0 < length cut.rest)
+abbrev pub EndsInside : ℕ → List ℕ → Type 0
+EndsInside most input = (cut : Cut) × FirstLines input (length (lines_of input)) cut × ((said most cut).stage ≢ stages.Over) × (0 < length cut.rest)
 
 -- a fault of this kind shows at line n, and none before it; what is answered is what stands before the fault
-abbrev pub IsFirstFault : List ℕ → ℕ → InputFault → List (List ℕ) → Type 0
+abbrev pub IsFirstFault : ℕ → List ℕ → ℕ → InputFault → List (List ℕ) → Type 0
 -- the line is no hex: the lines before it
-IsFirstFault input n faults.Hex replies =
-    AreFineBefore input n × IsWithin input n × (lines_bytes (take n (lines_of input)) ≡ None) × AreAnswered input (n - 1) replies
+IsFirstFault most input n faults.Hex replies =
+    AreFineBefore most input n × IsWithin input n × (lines_bytes (take n (lines_of input)) ≡ None) × AreAnswered most input (n - 1) replies
 -- the line holds a byte too many, and is tested for nothing else: the lines before it
-IsFirstFault input n faults.Long replies =
-    AreFineBefore input n × (text_max < length input) × HoldsByte input n (text_max + 1) × AreAnswered input (n - 1) replies
+IsFirstFault most input n faults.Long replies =
+    AreFineBefore most input n × (text_max < length input) × HoldsByte input n (text_max + 1) × AreAnswered most input (n - 1) replies
 -- nothing else is wrong, and the bytes end inside a frame: at the line of the last byte
-IsFirstFault input n faults.Cut replies =
-    AreFineBefore input (length (lines_of input) + 1) × EndsInside input × HoldsByte input n (length input) × AreAnswered input (length (lines_of input)) replies
+IsFirstFault most input n faults.Cut replies =
+    AreFineBefore most input (length (lines_of input) + 1) × EndsInside most input × HoldsByte input n (length input) × AreAnswered most input (length (lines_of input)) replies
 -- a frame or a length is wrong: the frames before it
-IsFirstFault input n kind replies =
-    AreFineBefore input n × IsWithin input n × ((cut : Cut) × FirstLines input n cut × ((said cut).fault ≡ Some kind)) × AreAnswered input n replies
+IsFirstFault most input n kind replies =
+    AreFineBefore most input n × IsWithin input n × ((cut : Cut) × FirstLines input n cut × ((said most cut).fault ≡ Some kind)) × AreAnswered most input n replies
 
 -- the first fault of an input, if it has any, and the frames that answer what stands before it
-abbrev pub IsAnswered : List ℕ → Option BadInput → List (List ℕ) → Type 0
-IsAnswered input None replies = AreFineBefore input (length (lines_of input) + 1) × (¬ EndsInside input) × AreAnswered input (length (lines_of input)) replies
-IsAnswered input (Some bad) replies = IsFirstFault input bad.line bad.kind replies
+abbrev pub IsAnswered : ℕ → List ℕ → Option BadInput → List (List ℕ) → Type 0
+IsAnswered most input None replies = AreFineBefore most input (length (lines_of input) + 1) × (¬ EndsInside most input) × AreAnswered most input (length (lines_of input)) replies
+IsAnswered most input (Some bad) replies = IsFirstFault most input bad.line bad.kind replies
 
 -- what `status` writes for an input before its last line, and the fault that the last line names
-pub record IsStatusText (input : List ℕ) (bad : Option BadInput) (text : List ℕ) : Type 0 where
+pub record IsStatusText (most : ℕ) (input : List ℕ) (bad : Option BadInput) (text : List ℕ) : Type 0 where
   pub replies : List (List ℕ)
-  pub answered : IsAnswered input bad replies
+  pub answered : IsAnswered most input bad replies
   pub lines : text ≡ reply_lines replies

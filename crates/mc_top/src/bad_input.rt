@@ -5,7 +5,7 @@ use mc_nbt::NoMemory;
 use std::alloc::Global;
 use std::fmt;
 
-/// What is wrong with a text of lines of hex. It is printed as its name.
+/// What is wrong with a text that a command reads. It is printed as its name.
 #[derive(Clone, Copy, Debug, PartialEq, Eq)]
 pub enum InputFault {
     /// The line is no hex.
@@ -20,6 +20,12 @@ pub enum InputFault {
     Cut,
     /// The line goes past the most bytes that a text may have.
     Long,
+    /// The line has no form that a script knows.
+    Word,
+    /// A number of the line is not well formed, or out of its range.
+    Number,
+    /// A connection joins whose number is not above all earlier ones.
+    Order,
 }
 
 impl fmt::Display for InputFault {
@@ -36,6 +42,9 @@ impl fmt::Display for InputFault {
             InputFault::Login => "Login",
             InputFault::Cut => "Cut",
             InputFault::Long => "Long",
+            InputFault::Word => "Word",
+            InputFault::Number => "Number",
+            InputFault::Order => "Order",
         })
     }
 }

@@ -1,20 +1,16 @@
 ghost use Rattle.std.specs.Prelude.{◌≡◌, ◌++◌, ℕ, List, [], false, IfOk, OnOk, Ok};
-ghost use Rattle.mc_frame.specs.Frame.{IsPayload};
-ghost use Rattle.mc_up.specs.StatusDown.{FitsStatusDown, spelling_of};
-ghost use Rattle.mc_up.specs.declared.status_down.StatusDown.TheVariants.{Response, Pong};
-ghost use Rattle.mc_top.specs.Client.{answer, greeted, goes, wrong, reply, hex_line, reply_lines, status_json};
+ghost use Rattle.mc_up.specs.declared.status_down.StatusDown.TheVariants.{Pong};
+ghost use Rattle.mc_top.specs.Client.{answer, greeting, greeted, goes, wrong, reply, hex_line};
 ghost use Rattle.mc_top.specs.Heard.{IfFault, Answers, HasHeard, IsWrong, NextAnswered};
 
 use crate::bad_input::InputFault;
+use crate::reply::write_reply;
 use crate::stage::Stage;
-use mc_frame::{Splitter, Take, write_frame};
-use mc_nbt::{NoMemory, Text};
-use mc_up::{Hand, PacketRead, StatusDown, StatusUp, read_hand, read_status_up, write_status_down};
+use crate::status::Status;
+use mc_frame::{Splitter, Take};
+use mc_nbt::NoMemory;
+use mc_up::{Hand, PacketRead, StatusDown, StatusUp, read_hand, read_status_up};
 use std::alloc::Global;
-
-/// The status, as JSON.
-const STATUS_JSON: &str =
-    "{\"description\":{\"text\":\"craft47\"},\"players\":{\"max\":20,\"online\":0},\"version\":{\"name\":\"1.8\",\"protocol\":47}}";
 
 /// Why a client is not heard any further.
 #[derive(Clone, Copy, Debug, PartialEq, Eq)]
@@ -47,46 +43,6 @@ pub struct Client {
     pub lines: Vec<u8>,
 }
 
-/// Appends bytes as a line of lower-case hex. Without memory some first part of it is there.
-fn write_hex_line(alloc: Global, bytes: &[u8], out: &mut Vec<u8>) -> Result<(), NoMemory>
-    ensures { OnOk result (out.new.items ≡ out.old.items ++ hex_line bytes.now) }
-{
-    let digits = hex::encode(alloc, bytes)?;
-    out.extend_from_slice(digits.as_bytes())?;
-    out.push(b'\n')?;
-    Ok(())
-}
-
-/// Appends a packet as the line of its frame. Without memory some first part of it is there.
-fn write_reply(alloc: Global, packet: &StatusDown, out: &mut Vec<u8>) -> Result<(), NoMemory>
-    requires fits { FitsStatusDown packet.now }
-    requires framed { IsPayload (spelling_of packet.now) }
-    ensures { OnOk result (out.new.items ≡ out.old.items ++ hex_line (reply packet.now)) }
-{
-    let mut payload = Vec::new(alloc);
-    write_status_down(packet, &mut payload)?;
-    let mut frame = Vec::new(alloc);
-    write_frame(&payload, &mut frame)?;
-    write_hex_line(alloc, &frame, out)?;
-    Ok(())
-}
-
-/// The status, as JSON.
-fn status_json(alloc: Global) -> Result<Text, NoMemory>
-    ensures { IfOk result (λ json. json ≡ status_json) }
-{
-    Text::from_str(alloc, STATUS_JSON)
-}
-
-/// Appends the line of the status. Without memory some first part of it is there.
-fn write_status_line(alloc: Global, out: &mut Vec<u8>) -> Result<(), NoMemory>
-    ensures { OnOk result (out.new.items ≡ out.old.items ++ hex_line (reply (Response status_json))) }
-{
-    let response = StatusDown::Response(status_json(alloc)?);
-    write_reply(alloc, &response, out)?;
-    Ok(())
-}
-
 /// Appends the line of a ping's answer. Without memory some first part of it is there.
 fn write_pong_line(alloc: Global, number: i64, out: &mut Vec<u8>) -> Result<(), NoMemory>
     ensures { OnOk result (out.new.items ≡ out.old.items ++ hex_line (reply (Pong number))) }
@@ -98,8 +54,8 @@ fn write_pong_line(alloc: Global, number: i64, out: &mut Vec<u8>) -> Result<(), 
 
 /// What a first frame comes to: its client must want the status.
 fn greet(alloc: Global, payload: &[u8]) -> Result<Stage, Unheard>
-    ensures ok { IfOk result (λ next. answer Stage.Hand payload.now ≡ goes [] next) }
-    ensures fault { IfFault result (λ kind. answer Stage.Hand payload.now ≡ wrong kind) }
+    ensures ok { IfOk result (λ next. greeting payload.now ≡ goes [] next) }
+    ensures fault { IfFault result (λ kind. greeting payload.now ≡ wrong kind) }
 {
     match read_hand(alloc, payload) {
         Ok(hand) => greeted(&hand),
@@ -122,13 +78,18 @@ fn greeted(hand: &Hand) -> Result<Stage, Unheard>
 }
 
 /// Answers a frame of a client that wants the status.
-fn ask(alloc: Global, payload: &[u8], lines: &mut Vec<u8>) -> Result<Stage, Unheard>
-    ensures ok { IfOk result (λ next. Answers Stage.Status payload.now lines.old.items lines.new.items next) }
-    ensures fault { IfFault result (λ kind. (answer Stage.Status payload.now ≡ wrong kind) × (lines.new.items ≡ lines.old.items)) }
+fn ask(
+    alloc: Global,
+    status: &Status,
+    payload: &[u8],
+    lines: &mut Vec<u8>,
+) -> Result<Stage, Unheard>
+    ensures ok { IfOk result (λ next. Answers status.now.most Stage.Status payload.now lines.old.items lines.new.items next) }
+    ensures fault { IfFault result (λ kind. (answer status.now.most Stage.Status payload.now ≡ wrong kind) × (lines.new.items ≡ lines.old.items)) }
 {
     match read_status_up(payload) {
         Ok(StatusUp::Request) => {
-            write_status_line(alloc, lines)?;
+            status.write_line(lines)?;
             Ok(Stage::Status)
         }
         Ok(StatusUp::Ping(number)) => {
@@ -142,33 +103,40 @@ fn ask(alloc: Global, payload: &[u8], lines: &mut Vec<u8>) -> Result<Stage, Unhe
 /// Answers a frame, and gives how far the client has come then.
 fn answer(
     alloc: Global,
+    status: &Status,
     stage: Stage,
     payload: &[u8],
     lines: &mut Vec<u8>,
 ) -> Result<Stage, Unheard>
-    ensures ok { IfOk result (λ next. Answers stage payload.now lines.old.items lines.new.items next) }
-    ensures fault { IfFault result (λ kind. (answer stage payload.now ≡ wrong kind) × (lines.new.items ≡ lines.old.items)) }
+    ensures ok { IfOk result (λ next. Answers status.now.most stage payload.now lines.old.items lines.new.items next) }
+    ensures fault { IfFault result (λ kind. (answer status.now.most stage payload.now ≡ wrong kind) × (lines.new.items ≡ lines.old.items)) }
 {
     match stage {
         Stage::Hand => greet(alloc, payload),
-        Stage::Status => ask(alloc, payload, lines),
+        Stage::Status => ask(alloc, status, payload, lines),
         Stage::Over => Ok(Stage::Over),
     }
 }
 
 /// Answers the next frame that is held, and says whether there may be one more.
-fn answer_next(alloc: Global, client: &mut Client) -> Result<bool, Unheard>
-    ensures ok { IfOk result (λ more. NextAnswered more client.old.splitter client.old.stage client.old.lines.items
+fn answer_next(alloc: Global, status: &Status, client: &mut Client) -> Result<bool, Unheard>
+    ensures ok { IfOk result (λ more. NextAnswered status.now.most more client.old.splitter client.old.stage client.old.lines.items
         client.new.splitter client.new.stage client.new.lines.items) }
-    ensures fault { IfFault result (λ kind. (bytes : List ℕ) → HasHeard bytes client.old.splitter client.old.stage client.old.lines.items →
-        IsWrong bytes kind client.new.lines.items) }
+    ensures fault { IfFault result (λ kind. (bytes : List ℕ) → HasHeard status.now.most bytes client.old.splitter client.old.stage client.old.lines.items →
+        IsWrong status.now.most bytes kind client.new.lines.items) }
 {
     if let Stage::Over = client.stage {
         return Ok(false);
     }
     match client.splitter.take()? {
         Take::Frame(payload) => {
-            client.stage = answer(alloc, client.stage, payload.as_slice(), &mut client.lines)?;
+            client.stage = answer(
+                alloc,
+                status,
+                client.stage,
+                payload.as_slice(),
+                &mut client.lines,
+            )?;
             Ok(true)
         }
         Take::More => Ok(false),
@@ -177,12 +145,12 @@ fn answer_next(alloc: Global, client: &mut Client) -> Result<bool, Unheard>
 }
 
 /// Answers the frames that are held.
-pub fn answer_held(alloc: Global, client: &mut Client) -> Result<(), Unheard>
-    ensures ok { OnOk result (NextAnswered false client.old.splitter client.old.stage client.old.lines.items
+pub fn answer_held(alloc: Global, status: &Status, client: &mut Client) -> Result<(), Unheard>
+    ensures ok { OnOk result (NextAnswered status.now.most false client.old.splitter client.old.stage client.old.lines.items
         client.new.splitter client.new.stage client.new.lines.items) }
-    ensures fault { IfFault result (λ kind. (bytes : List ℕ) → HasHeard bytes client.old.splitter client.old.stage client.old.lines.items →
-        IsWrong bytes kind client.new.lines.items) }
+    ensures fault { IfFault result (λ kind. (bytes : List ℕ) → HasHeard status.now.most bytes client.old.splitter client.old.stage client.old.lines.items →
+        IsWrong status.now.most bytes kind client.new.lines.items) }
 {
-    while answer_next(alloc, client)? {}
+    while answer_next(alloc, status, client)? {}
     Ok(())
 }

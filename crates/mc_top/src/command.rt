@@ -1,29 +1,30 @@
-ghost use Rattle.std.specs.Prelude.{◌≡◌, ◌↔◌, ◌⊎◌, List, ℕ, IsTrue, take};
+ghost use Rattle.std.specs.Prelude.{◌≡◌, ◌⊎◌, List, ℕ};
 ghost use Rattle.mc_wire.specs.Count.{Rose, StandsOrRises};
 ghost use Rattle.mc_wire.specs.Stream.{Grows};
 ghost use Rattle.mc_top.specs.declared.bad_input.BadInput.{BadInput};
 ghost use Rattle.mc_top.specs.Ended.{usage_line, read_fault_line, bad_input_line};
-ghost use Rattle.mc_top.specs.Run.{IsStatusCommand, IsStatus, IsFineText, IsBadText, IsKnown, Replied, RepliedPart, RepliedPartOrNothing, Found, Refused, WroteLast};
+ghost use Rattle.mc_top.specs.Run.{IsStatusCommand, IsCommand, IsStatus, IsFineText, IsBadText, IsKnown, Replied, RepliedPart, RepliedPartOrNothing, Found, Refused, WroteLast};
 
 use crate::bad_input::BadInput;
 use crate::ended::Ended;
 use crate::status_text::status_text;
+use crate::words::Command;
 use mc_nbt::NoMemory;
 use mc_wire::{InputError, Sink, Source, read_all, write_all};
 use std::alloc::Global;
 
 /// The command `status`: it reads one client's bytes as lines of hex, and writes each reply frame as
-/// one such line.
-fn status<I: Source, O: Sink>(alloc: Global, input: &mut I, out: &mut O) -> Ended
+/// one such line. `most` is the number of players that it tells.
+fn status<I: Source, O: Sink>(alloc: Global, most: u32, input: &mut I, out: &mut O) -> Ended
     ensures done { result ≡ Ended.Done →
-        Replied (I.left input.old) (I.left input.new) (O.held out.old) (O.held out.new) }
+        Replied most (I.left input.old) (I.left input.new) (O.held out.old) (O.held out.new) }
     ensures no_memory { result ≡ Ended.NoMemory → out.new ≡ out.old }
     ensures never_usage { ¬ (result ≡ Ended.Usage) }
     ensures read_fault { result ≡ Ended.ReadFault → Rose (I.faults input.old) (I.faults input.new) × (out.new ≡ out.old) }
     ensures write_fault { result ≡ Ended.WriteFault → Rose (O.faults out.old) (O.faults out.new)
-        × RepliedPart (I.left input.old) (O.held out.old) (O.held out.new) }
+        × RepliedPart most (I.left input.old) (O.held out.old) (O.held out.new) }
     ensures bad_input { (bad : BadInput) → result ≡ Ended.BadInput bad →
-        Found bad (I.left input.old) (I.left input.new) (O.held out.old) (O.held out.new) }
+        Found most bad (I.left input.old) (I.left input.new) (O.held out.old) (O.held out.new) }
     ensures counts { StandsOrRises (O.faults out.old) (O.faults out.new) }
 {
     let text = match read_all(alloc, input) {
@@ -31,7 +32,7 @@ fn status<I: Source, O: Sink>(alloc: Global, input: &mut I, out: &mut O) -> Ende
         Err(InputError::Failed) => return Ended::ReadFault,
         Err(InputError::NoMemory) => return Ended::NoMemory,
     };
-    let Ok(answer) = status_text(alloc, &text) else {
+    let Ok(answer) = status_text(alloc, most, &text) else {
         return Ended::NoMemory;
     };
     match write_all(out, &answer.lines) {
@@ -40,34 +41,24 @@ fn status<I: Source, O: Sink>(alloc: Global, input: &mut I, out: &mut O) -> Ende
     }
 }
 
-/// Whether the words are the one word `status`.
-fn is_status_command(words: &[String]) -> bool
-    ensures { IsTrue result ↔ IsStatusCommand words.now }
-{
-    match words {
-        [word] => word.as_str() == "status",
-        _ => false,
-    }
-}
-
 /// How the command that the words name ended.
 fn perform<I: Source, O: Sink>(alloc: Global, words: &[String], input: &mut I, out: &mut O) -> Ended
-    ensures usage { result ≡ Ended.Usage → (¬ IsStatusCommand words.now) × (input.new ≡ input.old) × (out.new ≡ out.old) }
-    ensures command { ¬ (result ≡ Ended.Usage) → IsStatusCommand words.now }
-    ensures done { result ≡ Ended.Done →
-        Replied (I.left input.old) (I.left input.new) (O.held out.old) (O.held out.new) }
+    ensures usage { result ≡ Ended.Usage → (¬ IsCommand words.now) × (input.new ≡ input.old) × (out.new ≡ out.old) }
+    ensures command { ¬ (result ≡ Ended.Usage) → IsCommand words.now }
+    ensures done { (most : ℕ) → IsStatusCommand most words.now → result ≡ Ended.Done →
+        Replied most (I.left input.old) (I.left input.new) (O.held out.old) (O.held out.new) }
     ensures no_memory { result ≡ Ended.NoMemory → out.new ≡ out.old }
     ensures read_fault { result ≡ Ended.ReadFault → Rose (I.faults input.old) (I.faults input.new) × (out.new ≡ out.old) }
-    ensures write_fault { result ≡ Ended.WriteFault → Rose (O.faults out.old) (O.faults out.new)
-        × RepliedPart (I.left input.old) (O.held out.old) (O.held out.new) }
-    ensures bad_input { (bad : BadInput) → result ≡ Ended.BadInput bad →
-        Found bad (I.left input.old) (I.left input.new) (O.held out.old) (O.held out.new) }
+    ensures write_fault { result ≡ Ended.WriteFault → Rose (O.faults out.old) (O.faults out.new) }
+    ensures write_fault_part { (most : ℕ) → IsStatusCommand most words.now → result ≡ Ended.WriteFault →
+        RepliedPart most (I.left input.old) (O.held out.old) (O.held out.new) }
+    ensures bad_input { (most : ℕ) (bad : BadInput) → IsStatusCommand most words.now → result ≡ Ended.BadInput bad →
+        Found most bad (I.left input.old) (I.left input.new) (O.held out.old) (O.held out.new) }
     ensures counts { StandsOrRises (O.faults out.old) (O.faults out.new) }
 {
-    if is_status_command(words) {
-        status(alloc, input, out)
-    } else {
-        Ended::Usage
+    match Command::read(words) {
+        Some(Command::Status(most)) => status(alloc, most, input, out),
+        Some(Command::Replay(_)) | None => Ended::Usage,
     }
 }
 
@@ -102,15 +93,16 @@ pub fn run<I: Source, O: Sink>(alloc: Global, words: &[String], input: &mut I, o
     ensures statuses { IsStatus result }
 
     // 0: the input was read to its end and nothing is wrong with it, and its text was written.
-    ensures done { result ≡ 0 →
-        Replied (I.left input.old) (I.left input.new) (O.held out.old) (O.held out.new) }
+    ensures done { (most : ℕ) → IsStatusCommand most words.now → result ≡ 0 →
+        Replied most (I.left input.old) (I.left input.new) (O.held out.old) (O.held out.new) }
 
     // 1: some first part of its text was written, or nothing.
-    ensures no_memory { result ≡ 1 → RepliedPartOrNothing (I.left input.old) (O.held out.old) (O.held out.new) }
+    ensures no_memory { (most : ℕ) → IsStatusCommand most words.now → result ≡ 1 →
+        RepliedPartOrNothing most (I.left input.old) (O.held out.old) (O.held out.new) }
 
-    // 2: exactly where the words are not the one word `status`; the input is untouched.
-    ensures usage { result ≡ 2 → ¬ IsStatusCommand words.now }
-    ensures command { ¬ (result ≡ 2) → IsStatusCommand words.now }
+    // 2: exactly where the words name no command that is served, with its options; the input is untouched.
+    ensures usage { result ≡ 2 → ¬ IsCommand words.now }
+    ensures command { ¬ (result ≡ 2) → IsCommand words.now }
     ensures usage_untouched { result ≡ 2 → input.new ≡ input.old }
     ensures usage_line { result ≡ 2 →
         WroteLast (O.held out.old) (O.held out.new) (O.faults out.old) (O.faults out.new) usage_line }
@@ -122,20 +114,21 @@ pub fn run<I: Source, O: Sink>(alloc: Global, words: &[String], input: &mut I, o
 
     // 4: only where the output's count of failures rose; some first part of the text was written.
     ensures write_fault { result ≡ 4 → Rose (O.faults out.old) (O.faults out.new) }
-    ensures write_fault_part { result ≡ 4 → RepliedPart (I.left input.old) (O.held out.old) (O.held out.new) }
+    ensures write_fault_part { (most : ℕ) → IsStatusCommand most words.now → result ≡ 4 →
+        RepliedPart most (I.left input.old) (O.held out.old) (O.held out.new) }
 
     // 6: only where the input was read to its end and has a first fault; the text of what stands before it and the last
     // line, which names it, were written.
-    ensures bad_input { result ≡ 6 →
-        Refused (I.left input.old) (I.left input.new) (O.held out.old) (O.held out.new) (O.faults out.old) (O.faults out.new) }
+    ensures bad_input { (most : ℕ) → IsStatusCommand most words.now → result ≡ 6 →
+        Refused most (I.left input.old) (I.left input.new) (O.held out.old) (O.held out.new) (O.faults out.old) (O.faults out.new) }
 
     // An input that is fine is served, and one that has a fault is refused, unless memory runs out or a device fails.
-    ensures served { (text : List ℕ) → IsStatusCommand words.now →
-        IsKnown (I.left input.old) (IsFineText text) →
+    ensures served { (most : ℕ) (text : List ℕ) → IsStatusCommand most words.now →
+        IsKnown (I.left input.old) (IsFineText most text) →
         ¬ Rose (I.faults input.old) (I.faults input.new) → ¬ Rose (O.faults out.old) (O.faults out.new) →
         (result ≡ 0) ⊎ (result ≡ 1) }
-    ensures refused { (bad : BadInput) (text : List ℕ) → IsStatusCommand words.now →
-        IsKnown (I.left input.old) (IsBadText bad text) →
+    ensures refused { (most : ℕ) (bad : BadInput) (text : List ℕ) → IsStatusCommand most words.now →
+        IsKnown (I.left input.old) (IsBadText most bad text) →
         ¬ Rose (I.faults input.old) (I.faults input.new) → ¬ Rose (O.faults out.old) (O.faults out.new) →
         (result ≡ 6) ⊎ (result ≡ 1) }
 {

@@ -5,13 +5,14 @@ use crate::bad_input::InputFault;
 use crate::client::{Client, Unheard, answer_held};
 use crate::lines::put_line;
 use crate::stage::Stage;
+use crate::status::Status;
 use mc_frame::Splitter;
 use std::alloc::Global;
 
 impl Client {
     /// A client that has said nothing.
     pub fn new(alloc: Global) -> Client
-        ensures heard { HasHeard [] result.splitter result.stage result.lines.items }
+        ensures heard { (most : ℕ) → HasHeard most [] result.splitter result.stage result.lines.items }
         ensures idle { IsIdle result.stage result.splitter }
     {
         Client {
@@ -33,13 +34,13 @@ impl Client {
 }
 
 /// Hears more bytes of a client, and answers each frame that they make whole.
-fn hear(alloc: Global, client: &mut Client, piece: &[u8]) -> Result<(), Unheard>
+fn hear(alloc: Global, status: &Status, client: &mut Client, piece: &[u8]) -> Result<(), Unheard>
     requires { IsIdle client.old.stage client.old.splitter }
     ensures idle { OnOk result (IsIdle client.new.stage client.new.splitter) }
-    ensures ok { OnOk result ((bytes : List ℕ) → HasHeard bytes client.old.splitter client.old.stage client.old.lines.items →
-        HasHeard (bytes ++ piece.now) client.new.splitter client.new.stage client.new.lines.items) }
-    ensures fault { IfFault result (λ kind. (bytes : List ℕ) → HasHeard bytes client.old.splitter client.old.stage client.old.lines.items →
-        IsWrong (bytes ++ piece.now) kind client.new.lines.items) }
+    ensures ok { OnOk result ((bytes : List ℕ) → HasHeard status.now.most bytes client.old.splitter client.old.stage client.old.lines.items →
+        HasHeard status.now.most (bytes ++ piece.now) client.new.splitter client.new.stage client.new.lines.items) }
+    ensures fault { IfFault result (λ kind. (bytes : List ℕ) → HasHeard status.now.most bytes client.old.splitter client.old.stage client.old.lines.items →
+        IsWrong status.now.most (bytes ++ piece.now) kind client.new.lines.items) }
 {
     let mut rest = piece;
     while !rest.is_empty() {
@@ -48,7 +49,7 @@ fn hear(alloc: Global, client: &mut Client, piece: &[u8]) -> Result<(), Unheard>
         }
         let count = client.splitter.feed(rest)?;
         rest = rest.split_at(count).1;
-        answer_held(alloc, client)?;
+        answer_held(alloc, status, client)?;
     }
     Ok(())
 }
@@ -56,21 +57,22 @@ fn hear(alloc: Global, client: &mut Client, piece: &[u8]) -> Result<(), Unheard>
 /// Hears a line of hex. `piece` is room for its bytes.
 pub fn hear_line(
     alloc: Global,
+    status: &Status,
     client: &mut Client,
     piece: &mut Vec<u8>,
     line: &[u8],
 ) -> Result<(), Unheard>
     requires { IsIdle client.old.stage client.old.splitter }
     ensures idle { OnOk result (IsIdle client.new.stage client.new.splitter) }
-    ensures ok { OnOk result ((bytes : List ℕ) → HasHeard bytes client.old.splitter client.old.stage client.old.lines.items →
-        HearsLine bytes line.now client.new.splitter client.new.stage client.new.lines.items) }
-    ensures fault { IfFault result (λ kind. (bytes : List ℕ) → HasHeard bytes client.old.splitter client.old.stage client.old.lines.items →
-        IsWrongLine bytes line.now kind client.old.lines.items client.new.lines.items) }
+    ensures ok { OnOk result ((bytes : List ℕ) → HasHeard status.now.most bytes client.old.splitter client.old.stage client.old.lines.items →
+        HearsLine status.now.most bytes line.now client.new.splitter client.new.stage client.new.lines.items) }
+    ensures fault { IfFault result (λ kind. (bytes : List ℕ) → HasHeard status.now.most bytes client.old.splitter client.old.stage client.old.lines.items →
+        IsWrongLine status.now.most bytes line.now kind client.old.lines.items client.new.lines.items) }
 {
     piece.clear();
     if !put_line(line, piece)? {
         return Err(Unheard::Fault(InputFault::Hex));
     }
-    hear(alloc, client, piece)?;
+    hear(alloc, status, client, piece)?;
     Ok(())
 }

@@ -1,10 +1,17 @@
-ghost use Rattle.std.specs.Prelude.{◌≡◌, ℕ, List, Option};
+ghost use Rattle.std.specs.Prelude.{◌≡◌, ◌+◌, ℕ, List, Option, Err};
 ghost use Rattle.mc_top.specs.declared.bad_input.BadInput.{BadInput};
-ghost use Rattle.mc_top.specs.StatusText.{IsStatusText};
+ghost use Rattle.mc_top.specs.declared.bad_input.InputFault.TheVariants.{Long};
+ghost use Rattle.mc_top.specs.StatusText.{IsStatusText, HoldsByte, text_max};
+ghost use Rattle.mc_top.specs.Script.{script_of};
 
-/// Every input has one text, and one first fault or none: what `run` writes for `status` is no choice
+/// Every input has one text for each number of players, and one first fault or none: what `run` writes for `status` is no choice
 /// of its own.
 pub fn one_status_text()
-    ensures { (input : List ℕ) (bad other : Option BadInput) (text also : List ℕ) →
-        IsStatusText input bad text → IsStatusText input other also → (bad ≡ other) × (text ≡ also) }
+    ensures { (most : ℕ) (input : List ℕ) (bad other : Option BadInput) (text also : List ℕ) →
+        IsStatusText most input bad text → IsStatusText most input other also → (bad ≡ other) × (text ≡ also) }
+{}
+
+/// The line of a script that is too long is the one that holds the first byte too many.
+pub fn long_line_of_a_script()
+    ensures { (text : List ℕ) (n : ℕ) → script_of text ≡ Err (record { line = n; kind = Long }) → HoldsByte text n (text_max + 1) }
 {}

@@ -7,14 +7,27 @@
 mod bad_input;
 mod client;
 mod command;
+mod digits;
 mod ended;
 mod hear;
 mod laws;
 mod lines;
+mod reply;
+mod script;
+mod script_line;
+#[cfg(test)]
+mod script_tests;
 mod stage;
+mod status;
 mod status_text;
 #[cfg(test)]
 mod tests;
+#[cfg(test)]
+mod word_tests;
+mod words;
 
+pub use bad_input::{BadInput, InputFault};
 pub use command::run;
-pub use laws::one_status_text;
+pub use laws::{long_line_of_a_script, one_status_text};
+pub use script::{Script, ScriptError};
+pub use script_line::ScriptEvent;

@@ -1,5 +1,7 @@
 ghost use Rattle.std.specs.Prelude.{◌≡◌, IfOk, position, MatchOption};
 ghost use Rattle.mc_top.specs.Lines.{is_line_end, is_skipped, line_bytes, PutsLine, EndsText, CutsLine};
+ghost use Rattle.std.specs.Result.{result_ok};
+ghost use Rattle.hex.specs.Hex.{decode_of};
 
 use mc_nbt::NoMemory;
 
@@ -23,13 +25,23 @@ pub fn cut_line(text: &[u8]) -> (&[u8], Option<&[u8]>)
 }
 
 /// Whether a line is left out.
-fn is_skipped(line: &[u8]) -> bool
+pub fn is_skipped(line: &[u8]) -> bool
     ensures { result ≡ is_skipped line.now }
 {
     match line {
         [] => true,
         [first, ..] => *first == b'#',
     }
+}
+
+/// Puts the bytes that hex digits write behind the others, and says whether they were hex.
+pub fn put_hex(digits: &[u8], bytes: &mut Vec<u8>) -> Result<bool, NoMemory>
+    ensures { IfOk result (λ is_hex. PutsLine (result_ok (decode_of digits.now)) bytes.old.items bytes.new.items is_hex) }
+{
+    let start = bytes.len();
+    bytes.resize(start + digits.len() / 2, 0)?;
+    let room = &mut bytes.as_mut_slice()[start..];
+    Ok(hex::decode_to_slice(digits, room).is_ok())
 }
 
 /// Puts the bytes of a line behind the others, and says whether it was hex.
@@ -39,8 +51,5 @@ pub fn put_line(line: &[u8], bytes: &mut Vec<u8>) -> Result<bool, NoMemory>
     if is_skipped(line) {
         return Ok(true);
     }
-    let start = bytes.len();
-    bytes.resize(start + line.len() / 2, 0)?;
-    let room = &mut bytes.as_mut_slice()[start..];
-    Ok(hex::decode_to_slice(line, room).is_ok())
+    put_hex(line, bytes)
 }

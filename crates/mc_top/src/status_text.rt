@@ -6,11 +6,12 @@ use crate::bad_input::{BadInput, InputFault};
 use crate::client::{Client, Unheard};
 use crate::hear::hear_line;
 use crate::lines::cut_line;
+use crate::status::Status;
 use mc_nbt::NoMemory;
 use std::alloc::Global;
 
 /// The most bytes that a text has.
-const TEXT_MAX: usize = 67_108_864;
+pub const TEXT_MAX: usize = 67_108_864;
 
 /// What `status` writes for an input.
 #[derive(Drop)]
@@ -32,6 +33,7 @@ fn is_too_long(len: usize, size: usize) -> bool
 /// line's bytes.
 fn hear_next(
     alloc: Global,
+    status: &Status,
     client: &mut Client,
     piece: &mut Vec<u8>,
     line: &[u8],
@@ -40,15 +42,15 @@ fn hear_next(
 ) -> Result<(), Unheard>
     requires { IsIdle client.old.stage client.old.splitter }
     ensures idle { OnOk result (IsIdle client.new.stage client.new.splitter) }
-    ensures ok { OnOk result ((¬ IsTooLong len size) × ((bytes : List ℕ) → HasHeard bytes client.old.splitter client.old.stage client.old.lines.items →
-        HearsLine bytes line.now client.new.splitter client.new.stage client.new.lines.items)) }
-    ensures fault { IfFault result (λ kind. (bytes : List ℕ) → HasHeard bytes client.old.splitter client.old.stage client.old.lines.items →
-        IsWrongNext len size bytes line.now kind client.old.lines.items client.new.lines.items) }
+    ensures ok { OnOk result ((¬ IsTooLong len size) × ((bytes : List ℕ) → HasHeard status.now.most bytes client.old.splitter client.old.stage client.old.lines.items →
+        HearsLine status.now.most bytes line.now client.new.splitter client.new.stage client.new.lines.items)) }
+    ensures fault { IfFault result (λ kind. (bytes : List ℕ) → HasHeard status.now.most bytes client.old.splitter client.old.stage client.old.lines.items →
+        IsWrongNext status.now.most len size bytes line.now kind client.old.lines.items client.new.lines.items) }
 {
     if is_too_long(len, size) {
         return Err(Unheard::Fault(InputFault::Long));
     }
-    hear_line(alloc, client, piece, line)?;
+    hear_line(alloc, status, client, piece, line)?;
     Ok(())
 }
 
@@ -64,10 +66,15 @@ fn last_line(count: u64, last: usize) -> u64
 }
 
 /// Hears the lines of a text, and gives its first fault.
-fn hear_text(alloc: Global, client: &mut Client, input: &[u8]) -> Result<Option<BadInput>, NoMemory>
-    requires heard { HasHeard [] client.old.splitter client.old.stage client.old.lines.items }
+fn hear_text(
+    alloc: Global,
+    status: &Status,
+    client: &mut Client,
+    input: &[u8],
+) -> Result<Option<BadInput>, NoMemory>
+    requires heard { HasHeard status.now.most [] client.old.splitter client.old.stage client.old.lines.items }
     requires idle { IsIdle client.old.stage client.old.splitter }
-    ensures { IfOk result (λ fault. IsStatusText input.now fault client.new.lines.items) }
+    ensures { IfOk result (λ fault. IsStatusText status.now.most input.now fault client.new.lines.items) }
 {
     let mut piece = Vec::new(alloc);
     let mut count = 0u64;
@@ -79,7 +86,7 @@ fn hear_text(alloc: Global, client: &mut Client, input: &[u8]) -> Result<Option<
         count += 1;
         size += line.len() + 1;
         last = line.len();
-        match hear_next(alloc, client, &mut piece, line, input.len(), size) {
+        match hear_next(alloc, status, client, &mut piece, line, input.len(), size) {
             Ok(()) => {}
             Err(Unheard::Fault(kind)) => return Ok(Some(BadInput { line: count, kind })),
             Err(Unheard::NoMemory) => return Err(NoMemory),
@@ -95,12 +102,14 @@ fn hear_text(alloc: Global, client: &mut Client, input: &[u8]) -> Result<Option<
     }))
 }
 
-/// What `status` writes for an input: the lines of the replies, and the fault that the last line names.
-pub fn status_text(alloc: Global, input: &[u8]) -> Result<StatusText, NoMemory>
-    ensures { IfOk result (λ text. IsStatusText input.now text.fault text.lines.items) }
+/// What `status` writes for an input, of a server with so many players at most: the lines of the
+/// replies, and the fault that the last line names.
+pub fn status_text(alloc: Global, most: u32, input: &[u8]) -> Result<StatusText, NoMemory>
+    ensures { IfOk result (λ text. IsStatusText most input.now text.fault text.lines.items) }
 {
+    let status = Status::new(alloc, most)?;
     let mut client = Client::new(alloc);
-    let fault = hear_text(alloc, &mut client, input)?;
+    let fault = hear_text(alloc, &status, &mut client, input)?;
     Ok(StatusText {
         lines: client.lines,
         fault,

@@ -266,6 +266,29 @@ fn refuses_a_text_that_is_too_long(rt: HostRuntime) -> Result<(), Fail> {
     long_comment(&rt, 67_108_863, "\n0z\n", (6, "bad input at 2: Long\n"))
 }
 
+/// The line of a status with 5 players at most: one digit less, so lengths that are one less.
+const FIVE: &str =
+    "6a00687b226465736372697074696f6e223a7b2274657874223a2263726166743437227d2c22706c6179657273223a7b226d6178223a352c226f6e6c696e65223a307d2c2276657273696f6e223a7b226e616d65223a22312e38222c2270726f746f636f6c223a34377d7d\n";
+
+#[test]
+fn tells_the_most_players(rt: HostRuntime) -> Result<(), Fail> {
+    let input = "0f002f096c6f63616c686f737463dd01\n0100\n";
+    check(
+        &rt,
+        &["status", "players=05"],
+        input,
+        (NONE, NONE),
+        (0, FIVE),
+    )?;
+    check(
+        &rt,
+        &["status", "players=51"],
+        input,
+        (NONE, NONE),
+        (2, USAGE),
+    )
+}
+
 #[test]
 fn refuses_other_words(rt: HostRuntime) -> Result<(), Fail> {
     check(&rt, &[], EXCHANGE, (NONE, NONE), (2, USAGE))?;

@@ -16,15 +16,15 @@ returns-in_default g c = record {
   write_fault = search rules;
   write_fault_part = search rules;
   bad_input = search rules;
-  served = λ text words known quiet quiet'. served _ c.perform-ended.result c.status.result _ _ _ _ _ c.status.ensures c.in_default.not-BadInput (λ e. (c.perform-ended.ensures.usage e).0) (λ e. (c.perform-ended.ensures.read_fault e).0) (λ e. (c.perform-ended.ensures.write_fault e).0) c.write_all.ensures.counts words quiet quiet';
-  refused = λ bad text words known quiet quiet'. never_served _ c.perform-ended.result c.status.result bad text _ _ _ _ _ _ _ _ _ c.status.ensures c.in_default.not-BadInput (λ e. (c.perform-ended.ensures.usage e).0) c.perform-ended.ensures.done (λ e. (c.perform-ended.ensures.read_fault e).0) (λ e. (c.perform-ended.ensures.write_fault e).0) c.write_all.ensures.counts words known quiet quiet';
+  served = λ most text words known quiet quiet'. served _ c.perform-ended.result c.status.result _ _ _ _ _ c.status.ensures c.in_default.not-BadInput (λ e is. (c.perform-ended.ensures.usage e).0 (most, is)) (λ e. (c.perform-ended.ensures.read_fault e).0) c.perform-ended.ensures.write_fault c.write_all.ensures.counts words quiet quiet';
+  refused = λ most bad text words known quiet quiet'. never_served most _ c.perform-ended.result c.status.result bad text _ _ _ _ _ _ _ _ _ c.status.ensures c.in_default.not-BadInput (λ e is. (c.perform-ended.ensures.usage e).0 (most, is)) (c.perform-ended.ensures.done most words) (λ e. (c.perform-ended.ensures.read_fault e).0) c.perform-ended.ensures.write_fault c.write_all.ensures.counts words known quiet quiet';
 }
 
 pub returns-clause-no_memory : goal.returns-clause-no_memory
-returns-clause-no_memory g c is = not_named _ g.O.Sink.held c.in-BadInput.bad c.write_bad_input.result c.status-2.result _ _ _ c.perform-ended.new.out c.write_bad_input.new.out c.status-2.ensures c.write_bad_input.ensures.ended (c.perform-ended.ensures.bad_input c.in-BadInput.bad c.in-BadInput.is) is
+returns-clause-no_memory g c most words is = not_named most _ g.O.Sink.held c.in-BadInput.bad c.write_bad_input.result c.status-2.result _ _ _ c.perform-ended.new.out c.write_bad_input.new.out c.status-2.ensures c.write_bad_input.ensures.ended (c.perform-ended.ensures.bad_input most c.in-BadInput.bad words c.in-BadInput.is) is
 
 pub returns-clause-bad_input : goal.returns-clause-bad_input
-returns-clause-bad_input g c is = named _ g.O.Sink.held c.in-BadInput.bad c.write_bad_input.result c.status-2.result _ _ _ c.perform-ended.new.out c.write_bad_input.new.out _ _ _ c.status-2.ensures c.write_bad_input.ensures.ended c.write_bad_input.ensures.wrote c.perform-ended.ensures.counts (c.perform-ended.ensures.bad_input c.in-BadInput.bad c.in-BadInput.is) is
+returns-clause-bad_input g c most words is = named most _ g.O.Sink.held c.in-BadInput.bad c.write_bad_input.result c.status-2.result _ _ _ c.perform-ended.new.out c.write_bad_input.new.out _ _ _ c.status-2.ensures c.write_bad_input.ensures.ended c.write_bad_input.ensures.wrote c.perform-ended.ensures.counts (c.perform-ended.ensures.bad_input most c.in-BadInput.bad words c.in-BadInput.is) is
 
 pub returns-clause-served : goal.returns-clause-served
-returns-clause-served g c text words known quiet quiet' = absurd (found_not_fine c.in-BadInput.bad text _ _ _ _ (c.perform-ended.ensures.bad_input c.in-BadInput.bad c.in-BadInput.is) known)
+returns-clause-served g c most text words known quiet quiet' = absurd (found_not_fine most c.in-BadInput.bad text _ _ _ _ (c.perform-ended.ensures.bad_input most c.in-BadInput.bad words c.in-BadInput.is) known)

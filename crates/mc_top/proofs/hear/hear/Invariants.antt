@@ -7,7 +7,7 @@ invariant-loop-rest l = record {
   done : List ℕ;
   parts : l.fn.piece ≡ done ++ l.rest;
   idle : IsIdle l.client.stage l.client.splitter;
-  heard : (bytes : List ℕ) → HasHeard bytes l.fn.client.splitter l.fn.client.stage l.fn.client.lines.items → HasHeard (bytes ++ done) l.client.splitter l.client.stage l.client.lines.items;
+  heard : (bytes : List ℕ) → HasHeard l.fn.status.most bytes l.fn.client.splitter l.fn.client.stage l.fn.client.lines.items → HasHeard l.fn.status.most (bytes ++ done) l.client.splitter l.client.stage l.client.lines.items;
 }
 
 abbrev pub decreases-loop-rest : goal.decreases-loop-rest
