@@ -65,7 +65,8 @@ impl Name {
 
     /// The text that was read.
     pub fn text(&self) -> &Text
-        ensures { result.now ≡ self.now }
+        ensures value { result.now ≡ self.now }
+        ensures name { IsTrue (is_name self.now) }
     {
         &self.text
     }

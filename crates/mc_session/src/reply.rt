@@ -1,4 +1,4 @@
-ghost use Rattle.std.specs.Prelude.{◌≡◌, IfOk, IsTrue};
+ghost use Rattle.std.specs.Prelude.{◌≡◌, IfOk};
 ghost use Rattle.mc_frame.specs.Frame.{IsPayload, frame_spelling};
 ghost use Rattle.mc_up.specs.StatusDown as status;
 ghost use Rattle.mc_up.specs.LoginDown as login;
@@ -6,7 +6,7 @@ ghost use Rattle.mc_down.specs.Down as play;
 ghost use Rattle.mc_up.specs.declared.status_down.StatusDown.TheVariants.{Response, Pong};
 ghost use Rattle.mc_up.specs.declared.login_down.LoginDown.TheVariants as login_down;
 ghost use Rattle.mc_down.specs.declared.down.Down.TheVariants as down;
-ghost use Rattle.mc_model.specs.Names.{is_name, offline_uuid};
+ghost use Rattle.mc_model.specs.Names.{offline_uuid};
 ghost use Rattle.mc_model.specs.Texts.{status_json, farewell_text};
 ghost use Rattle.mc_model.specs.Hearing.{frame_of, of_status, of_login, of_play, bytes_of};
 ghost use Rattle.mc_model.specs.Talk.{accepted, refused, told, farewell};
@@ -83,7 +83,6 @@ pub fn pong(alloc: Global, number: i64) -> Result<Octets, NoMemory>
 
 /// What a client is told that may play: its player's identifier and name.
 pub fn success(alloc: Global, name: &Name) -> Result<Octets, NoMemory>
-    requires { IsTrue (is_name name.now) }
     ensures { IfOk result (λ bytes. bytes ≡ bytes_of (accepted (offline_uuid name.now) name.now)) }
 {
     let uuid = uuid_text(alloc, offline_uuid(name))?;

@@ -1,10 +1,10 @@
-ghost use Rattle.std.specs.Prelude.{◌≡◌, ◌≢◌, IfOk, IsTrue, OnOk, OnErr, Result};
+ghost use Rattle.std.specs.Prelude.{◌≡◌, ◌≢◌, IfOk, OnOk, OnErr, Result};
 ghost use Rattle.mc_fields.specs.Row.{frame_read, packet_of};
 ghost use Rattle.mc_up.specs.Hand as hand;
 ghost use Rattle.mc_up.specs.StatusUp as status;
 ghost use Rattle.mc_up.specs.LoginUp as login;
 ghost use Rattle.mc_up.specs.PlayUp as play;
-ghost use Rattle.mc_model.specs.Names.{is_name, offline_uuid};
+ghost use Rattle.mc_model.specs.Names.{offline_uuid};
 ghost use Rattle.mc_model.specs.Hearing.{bytes_of};
 ghost use Rattle.mc_model.specs.Talk.{wanted, in_hand, in_status, in_login, in_play, said, accepted, refused, farewell};
 ghost use Rattle.mc_session.specs.State.{new_state};
@@ -153,9 +153,7 @@ impl Session {
     /// Lets the client play under this name: the bytes to be sent. Without memory the session is as
     /// before.
     pub fn accept(&mut self, alloc: Global, name: &Name) -> Result<Octets, NoMemory>
-        requires asked { self.old.stage ≡ Stage.Asked }
-        // It is a name, as `Name::read` has it.
-        requires named { IsTrue (is_name name.now) }
+        requires { self.old.stage ≡ Stage.Asked }
         ensures bytes { IfOk result (λ bytes. bytes ≡ bytes_of (accepted (offline_uuid name.now) name.now)) }
         ensures next { OnOk result (self.new ≡ record self.old { stage = Stage.Play }) }
         ensures err { OnErr result (self.new ≡ self.old) }
