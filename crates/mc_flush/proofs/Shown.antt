@@ -43,7 +43,7 @@ near_has view place near =
     true_both (nat_le (unsigned_abs (place.0 -ℤ view.cx)) view.d) (nat_le (unsigned_abs (place.1 -ℤ view.cz)) view.d)
     (le-leb (unsigned_abs (place.0 -ℤ view.cx)) view.d near.near_x) (le-leb (unsigned_abs (place.1 -ℤ view.cz)) view.d near.near_z)
 
-same_place : (x y : Place) → eq_by_cmp place_cmp x y ≡ true → x ≡ y
+pub same_place : (x y : Place) → eq_by_cmp place_cmp x y ≡ true → x ≡ y
 same_place x y t = exact_places x y (equal (place_cmp x y) t)
 
 -- a column is among those of a view where the view has it

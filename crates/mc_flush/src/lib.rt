@@ -15,6 +15,8 @@ mod mark;
 mod notes;
 mod player_list;
 mod players;
+#[cfg(test)]
+mod tests;
 
 pub use client_view::ClientView;
 pub use flushing::flush;
