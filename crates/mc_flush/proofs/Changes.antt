@@ -174,3 +174,8 @@ view_ready land view m ready = all_of_list (IsReady land) (all_of view) (λ plac
 -- what holds of all columns of a view holds of those that another lacks
 pub lacking_holds : (P : Place → Type 0) (view other : ViewSet) → AllByRecursion P (all_of view) → AllByRecursion P (lacking view other)
 lacking_holds P view other all = all_filtered P (λ (place : Place). not (has other place)) (all_of view) all
+
+-- where all columns of a view are ready, those are that are loaded
+pub loaded_ready : (land : LandValue) (mark : Option ViewSet) (view : ViewSet) → AllByRecursion (IsReady land) (all_of view) → AllByRecursion (IsReady land) (loaded mark view)
+loaded_ready land None view all = all
+loaded_ready land (Some old) view all = lacking_holds (IsReady land) view old all

@@ -1,13 +1,12 @@
-ghost use Rattle.std.specs.Prelude.{◌≡◌, ◌≤◌, ◌+◌, ◌*◌, ◌++◌, true, None, Some, OnOk, length};
+ghost use Rattle.std.specs.Prelude.{◌≡◌, ◌≤◌, ◌+◌, ◌*◌, ◌++◌, None, Some, OnOk, length};
 ghost use Rattle.std.specs.List.{AllByRecursion};
 ghost use Rattle.std.specs.FinMap as map;
-ghost use Rattle.std.specs.FinSet as set;
 ghost use Rattle.mc_column.specs.Sizes.{cells};
 ghost use Rattle.mc_frame.specs.Kept.{joined};
-ghost use Rattle.mc_land.specs.Places.{Place, IsPlace};
+ghost use Rattle.mc_land.specs.Places.{IsPlace};
 ghost use Rattle.mc_model.specs.Sight.{Sight};
 ghost use Rattle.mc_model.specs.Delta.{delta};
-ghost use Rattle.mc_view.specs.Sets.{has, all_of, lacking};
+ghost use Rattle.mc_view.specs.Sets.{all_of, lacking};
 ghost use Rattle.mc_flush.specs.Sending.{play_bytes, notes_due_of};
 ghost use Rattle.mc_flush.specs.Seeing.{StandsFor, IsInRange, IsNamed, IsReady, seen, loaded, changes, left_packets, came_packets};
 
@@ -111,7 +110,7 @@ fn put_changes<L: Ledger>(
     requires few { map.len view.now.list.now.present ≤ 50 }
     requires few_before { map.len view.now.list.now.last ≤ 50 }
     requires named { AllByRecursion IsNamed (map.entries view.now.list.now.present) }
-    requires ready { (place : Place) → has view.now.view place ≡ true → set.contains view.now.land.now.ready place ≡ true }
+    requires ready { AllByRecursion (IsReady view.now.land.now) (loaded mark.now.shown view.now.view) }
     ensures sent { OnOk result (out.new.items ≡ out.old.items ++ play_bytes (changes view.now.land.now view.now.list.now mark.now.shown view.now.view)) }
     ensures cost { OnOk result (steps.new ≡ steps.old + cells * length (loaded mark.now.shown view.now.view)) }
 {
@@ -146,7 +145,7 @@ pub fn flush<L: Ledger>(
     requires few { map.len view.now.list.now.present ≤ 50 }
     requires few_before { map.len view.now.list.now.last ≤ 50 }
     requires named { AllByRecursion IsNamed (map.entries view.now.list.now.present) }
-    requires ready { (place : Place) → has view.now.view place ≡ true → set.contains view.now.land.now.ready place ≡ true }
+    requires ready { AllByRecursion (IsReady view.now.land.now) (loaded mark.old.shown view.now.view) }
     requires in_range { IsInRange view.now.place }
     ensures sent { (p : Sight) → StandsFor mark.old.shown view.now.list.now.last p
         → OnOk result (joined out.new.items ≡ joined out.old.items ++ play_bytes (delta p (seen view.now.land.now view.now.list.now view.now.view) ++ notes_due_of notes.now view.now.place)) }

@@ -88,6 +88,13 @@ impl PlayerList {
         self.present.shift_remove(&uuid).is_some()
     }
 
+    /// Nobody is there now. Those of the last settling stay. It takes no memory.
+    pub fn clear(&mut self)
+        ensures { self.new ≡ record self.old { present = map.empty } }
+    {
+        self.present = IndexMap::new(*self.present.allocator());
+    }
+
     /// Makes the players of now those of the last settling. Without memory the list is as before.
     pub fn settle(&mut self) -> Result<(), NoMemory>
         ensures ok { OnOk result (self.new ≡ settled_list self.old) }

@@ -14,8 +14,10 @@ pub mod plain;
 mod stage;
 #[cfg(test)]
 mod tests;
+mod wish;
 
 pub use cause::{Cause, Refusal};
 pub use name::Name;
 pub use notes::Notes;
 pub use stage::Stage;
+pub use wish::Wish;

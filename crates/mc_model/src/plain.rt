@@ -4,7 +4,6 @@ mod difference;
 mod dues;
 mod hearing;
 mod identity;
-mod moving;
 mod numbers;
 mod parts;
 mod projecting;

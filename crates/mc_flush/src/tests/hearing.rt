@@ -4,9 +4,9 @@ ghost use Rattle.std.specs.Prelude.{◌≡◌, ◌<◌, true, IfOk};
 ghost use Rattle.std.specs.List.{AllByRecursion};
 ghost use Rattle.std.specs.FinMap as map;
 ghost use Rattle.std.specs.FinSet as set;
-ghost use Rattle.mc_land.specs.Places.{Place, IsPlace};
-ghost use Rattle.mc_view.specs.Sets.{has};
-ghost use Rattle.mc_flush.specs.Seeing.{IsNamed};
+ghost use Rattle.mc_land.specs.Places.{IsPlace};
+ghost use Rattle.mc_view.specs.Sets.{all_of};
+ghost use Rattle.mc_flush.specs.Seeing.{IsNamed, IsReady};
 
 use crate::{ClientView, Mark, PlayerList, flush};
 use bytes::Bytes;
@@ -64,7 +64,7 @@ fn is_there<L: Ledger>(land: &Land, place: &(i32, i32), steps: &mut Steps<L>) ->
 
 /// Whether all columns of a view are ready.
 fn is_ready<L: Ledger>(land: &Land, view: &ViewSet, steps: &mut Steps<L>) -> bool
-    ensures { result ≡ true → (place : Place) → has view.now place ≡ true → set.contains land.now.ready place ≡ true }
+    ensures { result ≡ true → AllByRecursion (IsReady land.now) (all_of view.now) }
 {
     for place in view.all() {
         if !is_there(land, &place, steps) {

@@ -50,6 +50,7 @@ fn login_frame(alloc: Global, packet: &LoginDown) -> Result<Vec<u8>, NoMemory>
     framed(alloc, &payload)
 }
 
+/// The frame of a packet of play.
 #[tactic(auto, unfolding(crate::specs::Hearing::frame_of))]
 pub fn play_frame(alloc: Global, packet: &Down) -> Result<Vec<u8>, NoMemory>
     requires fits { play.FitsDown packet.now }

@@ -12,11 +12,10 @@ ghost use Rattle.mc_model.specs.PlainTurns.{said_of, arrived_at, did, after_act,
 
 use crate::plain::hearing::Heard;
 use crate::plain::identity::offline_uuid;
-use crate::plain::moving::Wish;
 use crate::plain::replies;
 use crate::plain::session::Session;
 use crate::plain::spawn::spawn_spot;
-use crate::{Cause, Notes, Refusal, Stage};
+use crate::{Cause, Notes, Refusal, Stage, Wish};
 use mc_land::Terrain;
 use mc_nbt::{NoMemory, Text};
 use mc_up::PlayUp;

@@ -3,7 +3,7 @@ use Rattle.std.specs.List.{AllByRecursion}
 use Rattle.mc_land.specs.Places.{IsPlace}
 use Rattle.mc_view.specs.Sets.{all_of}
 use Rattle.mc_flush.proofs.Pieces.{next_holds}
-use Rattle.mc_flush.proofs.Changes.{view_places}
+use Rattle.mc_flush.proofs.Changes.{view_places, view_ready}
 use Rattle.mc_flush.proofs.Tried.{IsThere, tried_next, all_there}
 use Rattle.mc_flush.proofs.tests.hearing.is_ready.Goals as goal
 
@@ -25,4 +25,5 @@ loop-place-preserved g c =
     }
 
 pub returns : goal.returns
-returns g c = λ t. all_there c.args.land.now c.args.view.now (c.loop-place.invariant.ready (subst (AllByRecursion (IsThere c.args.land.now)) (sym c.in-None.ensures.steps.0) tt))
+returns g c = λ t. view_ready c.args.land.now c.args.view.now c.args.view.now.in_range
+    (all_there c.args.land.now c.args.view.now (c.loop-place.invariant.ready (subst (AllByRecursion (IsThere c.args.land.now)) (sym c.in-None.ensures.steps.0) tt)))

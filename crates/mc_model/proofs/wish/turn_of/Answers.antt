@@ -1,5 +1,5 @@
 use Rattle.mc_model.proofs.PlainFixed.{turn_is}
-use Rattle.mc_model.proofs.plain.moving.turn_of.Goals as goal
+use Rattle.mc_model.proofs.wish.turn_of.Goals as goal
 
 pub returns : goal.returns
 returns c = turn_is c.args.pattern c.angle.result c.angle.ensures.none c.angle.ensures.some

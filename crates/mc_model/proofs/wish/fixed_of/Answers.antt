@@ -1,5 +1,5 @@
 use Rattle.mc_model.proofs.PlainFixed.{fixed_is}
-use Rattle.mc_model.proofs.plain.moving.fixed_of.Goals as goal
+use Rattle.mc_model.proofs.wish.fixed_of.Goals as goal
 
 pub returns : goal.returns
 returns c = fixed_is c.args.pattern c.fixed.result c.fixed.ensures.none c.fixed.ensures.some
