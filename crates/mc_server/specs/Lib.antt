@@ -1,0 +1,4 @@
+pub mod Halls
+pub mod Bare
+pub mod Stands
+pub mod Inputs

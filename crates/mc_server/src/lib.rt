@@ -1,0 +1,17 @@
+//! The server: what it makes of each event, and what each client is owed.
+//!
+//! Stands on sessions, views, flushes and the land, and on the definitions of `mc_model`. Its one
+//! contract: where a `Server` stands for a world of the definitions, it stands after each event for the
+//! world that follows, and each connection is owed exactly what that says.
+#![tactic(auto)]
+
+mod client;
+mod hall;
+mod input;
+mod line;
+mod server;
+mod settings;
+
+pub use input::Input;
+pub use server::Server;
+pub use settings::Settings;
