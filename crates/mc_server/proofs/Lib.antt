@@ -1,1 +1,3 @@
-
+pub mod ClientPlaces
+pub mod ClientSteps
+pub mod ClientHandings

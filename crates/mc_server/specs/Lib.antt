@@ -2,3 +2,4 @@ pub mod Halls
 pub mod Bare
 pub mod Stands
 pub mod Inputs
+pub mod Hears

@@ -3,6 +3,11 @@ ghost use Rattle.std.specs.Option.{option_copied};
 ghost use Rattle.mc_model.specs.World.{is_play, is_closed};
 ghost use Rattle.mc_model.specs.Step.{new_session, is_kept, is_done, shut, gone};
 
+mod entering;
+mod handing;
+mod hearing;
+mod moving;
+
 use mc_fields::Spot;
 use mc_frame::Outbox;
 use mc_model::{Cause, Notes, Stage};
@@ -15,7 +20,9 @@ use std::marker::Model;
 /// owed.
 #[derive(Drop)]
 pub struct Client {
+    alloc: Global,
     id: u32,
+    /// How far it has come, as long as it has no cause.
     session: Session,
     name: Text,
     uuid: u128,
@@ -23,6 +30,7 @@ pub struct Client {
     asked: i8,
     place: Spot,
     notes: Notes,
+    /// Why it was closed, if it was.
     cause: Option<Cause>,
     outbox: Outbox,
 }
@@ -33,6 +41,7 @@ impl Model for Client {
     ghost use Rattle.mc_model.specs.World as spec;
     ghost use Rattle.mc_model.specs.PlainSight.{coded_sight};
     ghost use Rattle.mc_flush.specs.Seeing.{IsInRange};
+    ghost use Rattle.mc_server.specs.Hears.{stage_of};
 
     ghost Value = { spec.Session };
 
@@ -41,7 +50,7 @@ impl Model for Client {
     // What its line keeps is not said here.
     ghost view = { λ c. record {
       id = c.id;
-      stage = c.session.stage;
+      stage = stage_of c.cause c.session.stage;
       rest = [];
       before = 0;
       protocol = c.session.protocol;
@@ -65,6 +74,7 @@ impl Client {
         ensures { result ≡ new_session id }
     {
         Client {
+            alloc,
             id,
             session: Session::new(),
             name: Text::from_string(String::new(alloc)),
@@ -91,6 +101,16 @@ impl Client {
         self.id
     }
 
+    /// How far it has come.
+    pub fn stage(&self) -> Stage
+        ensures { result ≡ self.now.stage }
+    {
+        match self.cause {
+            Some(_) => Stage::Closed,
+            None => self.session.stage(),
+        }
+    }
+
     /// Its player's identifier.
     pub fn uuid(&self) -> u128
         ensures { result ≡ self.now.uuid }
@@ -109,14 +129,14 @@ impl Client {
     pub fn is_play(&self) -> bool
         ensures { result ≡ is_play self.now.stage }
     {
-        matches!(self.session.stage(), Stage::Play)
+        matches!(self.stage(), Stage::Play)
     }
 
     /// Whether it is closed.
     pub fn is_closed(&self) -> bool
         ensures { result ≡ is_closed self.now.stage }
     {
-        matches!(self.session.stage(), Stage::Closed)
+        matches!(self.stage(), Stage::Closed)
     }
 
     /// Whether it is open, or owed bytes still.
@@ -143,9 +163,37 @@ impl Client {
 
     /// It took bytes of those that it is owed, or all of them where `n` is more.
     pub fn take(&mut self, n: usize)
-        ensures { self.new ≡ record self.old { owed = drop n self.old.owed } }
+        ensures is { self.new ≡ record self.old { owed = drop n self.old.owed } }
+        ensures same { self.new.id ≡ self.old.id }
     {
         let n = n.min(self.outbox.len());
         self.outbox.took(n);
+    }
+
+    /// Closes it.
+    pub fn shut(&mut self, cause: Cause)
+        ensures is { self.new ≡ shut self.old cause }
+        ensures same { self.new.id ≡ self.old.id }
+    {
+        self.cause = Some(cause);
+    }
+
+    /// It left.
+    pub fn leave(&mut self)
+        ensures is { self.new ≡ gone self.old }
+        ensures same { self.new.id ≡ self.old.id }
+    {
+        if !self.is_closed() {
+            self.shut(Cause::Gone);
+        }
+        self.owe_nothing();
+    }
+
+    /// Nothing is owed to it any more.
+    fn owe_nothing(&mut self)
+        ensures is { self.new ≡ record self.old { owed = [] } }
+        ensures same { self.new.id ≡ self.old.id }
+    {
+        self.outbox = Outbox::new(self.alloc);
     }
 }
