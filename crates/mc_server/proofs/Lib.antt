@@ -1,1 +1,3 @@
-
+pub mod HallPlaces
+pub mod HallSteps
+pub mod HallTurns

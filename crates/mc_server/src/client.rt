@@ -3,6 +3,8 @@ ghost use Rattle.std.specs.Option.{option_copied};
 ghost use Rattle.mc_model.specs.World.{is_play, is_closed};
 ghost use Rattle.mc_model.specs.Step.{new_session, is_kept, is_done, shut, gone};
 
+mod stub;
+
 use mc_fields::Spot;
 use mc_frame::Outbox;
 use mc_model::{Cause, Notes, Stage};
@@ -143,7 +145,8 @@ impl Client {
 
     /// It took bytes of those that it is owed, or all of them where `n` is more.
     pub fn take(&mut self, n: usize)
-        ensures { self.new ≡ record self.old { owed = drop n self.old.owed } }
+        ensures is { self.new ≡ record self.old { owed = drop n self.old.owed } }
+        ensures same { self.new.id ≡ self.old.id }
     {
         let n = n.min(self.outbox.len());
         self.outbox.took(n);
