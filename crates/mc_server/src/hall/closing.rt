@@ -1,3 +1,6 @@
+//! What is done to one connection. Where memory runs out it is left closed, so that it is known who is
+//! in play.
+
 ghost use Rattle.std.specs.Prelude.{◌≡◌, true, false, IfOk, OnOk};
 ghost use Rattle.mc_model.specs.declared.cause.Cause.TheVariants as causes;
 ghost use Rattle.mc_model.specs.World.{is_play};
@@ -11,8 +14,6 @@ use crate::client::Client;
 use mc_land::Terrain;
 use mc_model::{Cause, Name, Refusal, Stage};
 use mc_nbt::{NoMemory, Text};
-
-// Each of these leaves a connection closed where memory ran out, so that it is known who is in play.
 
 /// Closes a connection, and says why.
 pub(super) fn dismiss(client: &mut Client, cause: Cause) -> Result<(), NoMemory>
