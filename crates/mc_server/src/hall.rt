@@ -1,5 +1,13 @@
-ghost use Rattle.std.specs.Prelude.{◌≡◌};
+ghost use Rattle.std.specs.Prelude.{◌≡◌, map};
+ghost use Rattle.mc_model.specs.World as spec;
 ghost use Rattle.mc_model.specs.World.{AreSettings, new_world};
+
+mod changing;
+mod closing;
+mod counting;
+mod logging_in;
+mod looking;
+mod turns;
 
 use crate::Settings;
 use crate::client::Client;
@@ -49,4 +57,39 @@ impl Model for Hall {
     } };
 
     ghost invariant = { λ h. IsHall h.land h.terrain h.most h.cap h.eids h.last h.ids.items h.clients.items h.playing };
+}
+
+impl Hall {
+    /// A hall to which nobody came yet.
+    pub fn new(alloc: Global, settings: Settings) -> Hall
+        requires { AreSettings settings.players settings.cap }
+        ensures { result ≡ new_world settings.players settings.cap settings.terrain }
+    {
+        Hall {
+            age: 0,
+            terrain: settings.terrain,
+            land: Land::new(alloc, settings.terrain),
+            most: settings.players,
+            cap: settings.cap,
+            eids: 0,
+            last: None,
+            ids: Vec::new(alloc),
+            clients: Vec::new(alloc),
+            playing: 0,
+        }
+    }
+
+    /// How many ticks came.
+    pub fn age(&self) -> u64
+        ensures { result ≡ self.now.age }
+    {
+        self.age
+    }
+
+    /// The numbers of its connections, in the order in which they joined.
+    pub fn ids(&self) -> &[u32]
+        ensures { result.now ≡ map (λ (s : spec.Session). s.id) self.now.sessions }
+    {
+        self.ids.as_slice()
+    }
 }
