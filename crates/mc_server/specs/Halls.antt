@@ -1,14 +1,19 @@
 -- What a hall keeps beside what contracts see of it.
-use Rattle.std.specs.Prelude.{◌≡◌, ℕ, ◌≤◌, List, length, map, Option}
+use Rattle.std.specs.Prelude.{◌≡◌, ℕ, ◌≤◌, List, length, map, Bool, false, not, Option, Some, None}
 use Rattle.std.specs.List.{filter}
 use Rattle.mc_land.specs.declared.terrain.Terrain.{Terrain}
 use Rattle.mc_land.specs.Land.{LandValue}
-use Rattle.mc_model.specs.World.{Session, AreSettings, is_play}
+use Rattle.mc_model.specs.World.{Session, AreSettings, is_play, is_closed}
 use Rattle.mc_model.specs.PlainWorld.{Rise, next_number}
 
 -- those in play
 abbrev pub playing_of : List Session → List Session
 playing_of sessions = filter (λ (s : Session). is_play s.stage) sessions
+
+-- whether a connection is there and not closed
+abbrev pub is_open : Option Session → Bool
+is_open None = false
+is_open (Some s) = not (is_closed s.stage)
 
 pub record IsHall (land : LandValue) (terrain : Terrain) (most cap eids : ℕ) (last : Option ℕ) (ids : List ℕ) (clients : List Session) (playing : ℕ) : Type 0 where
   pub own : land.terrain ≡ terrain

@@ -1,0 +1,20 @@
+-- What is asked of one connection of a world.
+use Rattle.std.specs.Prelude.{ℕ, Bool, false, List, [], Option, Some, None}
+use Rattle.mc_model.specs.World.{World, Session, found}
+use Rattle.mc_model.specs.Step.{is_done}
+
+abbrev pub owed_of : Option Session → List ℕ
+owed_of None = []
+owed_of (Some s) = s.owed
+
+-- what it is owed
+abbrev pub owed_in : ℕ → World → List ℕ
+owed_in k w = owed_of (found k w.sessions)
+
+abbrev pub done_of : Option Session → Bool
+done_of None = false
+done_of (Some s) = is_done s
+
+-- whether it is closed and owed nothing
+abbrev pub is_done_in : ℕ → World → Bool
+is_done_in k w = done_of (found k w.sessions)
