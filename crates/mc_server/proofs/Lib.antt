@@ -1,1 +1,7 @@
-
+pub mod Cuts
+pub mod Bare
+pub mod Known
+pub mod Standing
+pub mod Bytes
+pub mod Ages
+pub mod Lines

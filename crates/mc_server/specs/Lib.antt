@@ -1,4 +1,6 @@
 pub mod Halls
+pub mod Asking
 pub mod Bare
+pub mod Cuts
 pub mod Stands
 pub mod Inputs
