@@ -12,11 +12,11 @@ use Rattle.mc_model.specs.Delta.{Pairs}
 use Rattle.mc_model.specs.Sight.{Sight, nothing_seen}
 use Rattle.mc_model.specs.World.{World, Session, found, put, is_play, is_closed}
 use Rattle.mc_model.specs.Step.{came, step, on_bytes, on_cut, read_to, still, when_open, changed, Turn}
-use Rattle.mc_model.specs.PlainWorld.{Rise, next_number}
 use Rattle.mc_model.proofs.Sessions.{AreApart, found_id, one_some}
 use Rattle.mc_model.proofs.Beside.{found_put}
 use Rattle.mc_model.proofs.Frames.{bytes_beside}
 use Rattle.mc_model.proofs.PlainPlaces.{at_none}
+use Rattle.mc_model.proofs.RunEvents.{Orderly, orderly_step}
 use Rattle.mc_flush.specs.Seeing.{StandsFor}
 use Rattle.mc_server.specs.declared.line.Line.{Line}
 use Rattle.mc_server.specs.declared.server.Server.{Server}
@@ -26,7 +26,7 @@ use Rattle.mc_server.specs.Halls.{is_open}
 use Rattle.mc_server.specs.Stands.{IsLine, HasLine, Stands}
 use Rattle.mc_server.proofs.Bare.{put_bare, heard_bare}
 use Rattle.mc_server.proofs.Known.{IsKnown, KnownOpen, There, HeardOpen, heard_there}
-use Rattle.mc_server.proofs.Standing.{Fits, AllFit, stands_fit, fit_stands, fits_same, hall_apart, asked_open}
+use Rattle.mc_server.proofs.Standing.{Fits, AllFit, stands_fit, fit_stands, fits_same, asked_open}
 
 -- ---- the bytes of an open connection
 
@@ -125,10 +125,10 @@ bytes_fit old new shown w k s bytes line frames fault e open_ is lc fit j t e' =
 -- ---- the server
 
 came_open : (old new : Server) (w : World) (k : ℕ) (s : Session) (bytes : List ℕ) (frames : List (List ℕ)) (fault : Option FrameFault) → new.failed ≡ old.failed → new.list ≡ old.list → new.hall ≡ heard old.hall k frames fault →
-    Rise 0 old.hall.sessions (next_number old.hall.last) → found k w.sessions ≡ Some s → is_closed s.stage ≡ false →
+    found k w.sessions ≡ Some s → is_closed s.stage ≡ false →
     ((count : ℕ) (line : Line) → find nat_cmp k old.lines.entries ≡ Some line → line.splitter.before ≡ kept_count count → line.splitter.fault ≡ None → IsPart line.splitter.held → IsLineCut k count line bytes frames fault old.lines.entries new.lines.entries) →
-    Stands old w → Stands new (on_bytes w k bytes).world
-came_open old new w k s bytes frames fault failed list hall rise e open_ cut st =
+    Orderly (on_bytes w k bytes).world → Stands old w → Stands new (on_bytes w k bytes).world
+came_open old new w k s bytes frames fault failed list hall e open_ cut orderly st =
     let has = st.lines k s e open_ in
     let P : ℕ → Type 0 = λ n. find nat_cmp n old.lines.entries ≡ Some has.line in
     let lc = cut s.before has.line (subst P (found_id k w.sessions s e) has.there) has.is.before has.is.fine (subst IsPart (sym has.is.held) has.is.part) in
@@ -137,7 +137,7 @@ came_open old new w k s bytes frames fault failed list hall rise e open_ cut st 
     let heard_same : heard (bare_world w) k frames fault ≡ heard (bare_world w) k (cut_of s.before (s.rest ++ bytes)).frames (cut_of s.before (s.rest ++ bytes)).fault =
         ap (λ (fs : List (List ℕ)). heard (bare_world w) k fs fault) into.frames ∙ ap (λ (f : Option FrameFault). heard (bare_world w) k (cut_of s.before (s.rest ++ bytes)).frames f) into.fault in
     fit_stands new (on_bytes w k bytes).world (failed ∙ st.works)
-    (hall ∙ ap (λ (v : World). heard v k frames fault) st.hall ∙ heard_same ∙ sym (bytes_bare w k s bytes (hall_apart old.hall w st.hall rise) e open_))
+    (hall ∙ ap (λ (v : World). heard v k frames fault) st.hall ∙ heard_same ∙ sym (bytes_bare w k s bytes st.orderly.apart e open_)) orderly
     (rw list (bytes_fit old.lines.entries new.lines.entries old.list.present w k s bytes has.line frames fault e open_ has.is lc (stands_fit old w st)))
 
 open_is : (s : Session) → not (is_closed s.stage) ≡ true → is_closed s.stage ≡ false
@@ -151,15 +151,15 @@ none_open : (k : ℕ) (ss : List Session) → found k ss ≡ None → is_open (f
 none_open k ss e is = let clash : false ≡ true = sym (ap is_open e) ∙ is in cc
 
 pub came_stands : (old new : Server) (w : World) (k : ℕ) (bytes : List ℕ) (frames : List (List ℕ)) (fault : Option FrameFault) → new.failed ≡ old.failed → new.list ≡ old.list → new.hall ≡ heard old.hall k frames fault →
-    Rise 0 old.hall.sessions (next_number old.hall.last) → is_open (found k old.hall.sessions) ≡ true →
+    is_open (found k old.hall.sessions) ≡ true →
     ((count : ℕ) (line : Line) → find nat_cmp k old.lines.entries ≡ Some line → line.splitter.before ≡ kept_count count → line.splitter.fault ≡ None → IsPart line.splitter.held → IsLineCut k count line bytes frames fault old.lines.entries new.lines.entries) →
     Stands old w → Stands new (step w (came k bytes)).world
 unfolding step
-came_stands old new w k bytes frames fault failed list hall rise is cut st =
+came_stands old new w k bytes frames fault failed list hall is cut st =
     let there : is_open (found k w.sessions) ≡ true = sym (asked_open old.hall w k st.hall) ∙ is in
     elim (found k w.sessions) as (λ o. found k w.sessions ≡ o → Stands new (on_bytes w k bytes).world) [
       | None ↦ λ e. absurd (none_open k w.sessions e there)
-      | Some s ↦ λ e. came_open old new w k s bytes frames fault failed list hall rise e (open_is s (sym (ap is_open e) ∙ there)) cut st
+      | Some s ↦ λ e. came_open old new w k s bytes frames fault failed list hall e (open_is s (sym (ap is_open e) ∙ there)) cut (orderly_step w (came k bytes) st.orderly) st
     ] refl
 
 -- bytes of a connection that is not open do nothing

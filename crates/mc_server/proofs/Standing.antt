@@ -19,61 +19,21 @@ use Rattle.mc_model.specs.Sight.{Sight, nothing_seen}
 use Rattle.mc_model.specs.World.{World, Session, found, put, is_play, is_closed}
 use Rattle.mc_model.specs.Run.{cause_in}
 use Rattle.mc_model.specs.Step.{joined, came, left, took, forgot, step, on_bytes, on_cut, read_to, still, when_open, gone, shut, changed, is_new, is_crowded, new_session, joining, join, is_done, last_shown, Turn}
-use Rattle.mc_model.specs.PlainWorld.{Rise, next_number}
 use Rattle.mc_model.proofs.Sessions.{AreApart, found_id, found_map, found_before, found_behind, found_filter, none_filtered, one_some, some_none}
 use Rattle.mc_model.proofs.Beside.{Beside, found_put}
 use Rattle.mc_model.proofs.Frames.{bytes_beside}
-use Rattle.mc_model.proofs.PlainPlaces.{at_none, gone_id, joining_id, new_number}
+use Rattle.mc_model.proofs.RunEvents.{Orderly, orderly_step, joining_id, gone_id}
 use Rattle.mc_view.specs.declared.view_set.ViewSet.{ViewSet}
 use Rattle.mc_flush.specs.Seeing.{StandsFor}
 use Rattle.mc_server.specs.declared.line.Line.{Line}
 use Rattle.mc_server.specs.declared.server.Server.{Server}
-use Rattle.mc_server.specs.Asking.{done_of, owed_of}
+use Rattle.mc_server.specs.Asking.{is_over, owed_of}
 use Rattle.mc_server.specs.Bare.{bare, bare_world, heard}
 use Rattle.mc_server.specs.Cuts.{Holds, IsCutInto, IsLineCut}
 use Rattle.mc_server.specs.Halls.{is_open}
 use Rattle.mc_server.specs.Stands.{IsLine, HasLine, Stands}
 use Rattle.mc_server.proofs.Bare.{found_bare, changed_bare, gone_bare, join_bare, forgot_bare, heard_bare}
 use Rattle.mc_server.proofs.Known.{IsKnown, KnownOpen, There, HeardOpen, heard_there}
-
--- ---- numbers that rise stand once
-
-rise_bare : (low high : ℕ) (ss : List Session) → Rise low (map bare ss) high → Rise low ss high
-rise_bare low high [] r = r
-rise_bare low high (s ∷ ss) r = (r.0, rise_bare (s.id + 1) high ss r.1)
-
-rise_order : (low high : ℕ) (ss : List Session) → Rise low ss high → low ≤ high
-rise_order low high [] r = r
-rise_order low high (s ∷ ss) r = let later = rise_order (s.id + 1) high ss r.1 in omega (arith, r.0, later)
-
-none_below : (k low high : ℕ) (ss : List Session) → k < low → Rise low ss high → found k ss ≡ None
-none_below k low high [] lt r = refl
-none_below k low high (s ∷ ss) lt r =
-    let ne : s.id ≢ k = λ e. omega (arith, e, lt, r.0) in
-    rw (ne_eqb s.id k ne) (none_below k (s.id + 1) high ss (omega (arith, lt, r.0)) r.1)
-
-none_above : (k low high : ℕ) (ss : List Session) → high ≤ k → Rise low ss high → found k ss ≡ None
-none_above k low high [] le r = refl
-none_above k low high (s ∷ ss) le r =
-    let order = rise_order (s.id + 1) high ss r.1 in
-    let ne : s.id ≢ k = λ e. omega (arith, e, le, order) in
-    rw (ne_eqb s.id k ne) (none_above k (s.id + 1) high ss le r.1)
-
-rise_apart : (low high : ℕ) (ss : List Session) → Rise low ss high → AreApart ss
-rise_apart low high [] r = tt
-rise_apart low high (s ∷ ss) r = (none_below s.id (s.id + 1) high ss (omega arith) r.1, rise_apart (s.id + 1) high ss r.1)
-
--- the connections of a hall that stands for a world have numbers of their own, and so do those of the world
-pub hall_apart : (hall w : World) → hall ≡ bare_world w → Rise 0 hall.sessions (next_number hall.last) → AreApart w.sessions
-hall_apart hall w is r =
-    let P : World → Type 0 = λ v. Rise 0 v.sessions (next_number v.last) in
-    rise_apart 0 (next_number w.last) w.sessions (rise_bare 0 (next_number w.last) w.sessions (subst P is r))
-
-pub hall_fresh : (hall w : World) (k : ℕ) → hall ≡ bare_world w → Rise 0 hall.sessions (next_number hall.last) → is_new k hall.last ≡ true → found k w.sessions ≡ None
-hall_fresh hall w k is r new =
-    let P : World → Type 0 = λ v. Rise 0 v.sessions (next_number v.last) in
-    let above : is_new k w.last ≡ true = sym (ap (λ (v : World). is_new k v.last) is) ∙ new in
-    none_above k 0 (next_number w.last) w.sessions (new_number k w.last above) (rise_bare 0 (next_number w.last) w.sessions (subst P is r))
 
 -- ---- all that lines say of a connection
 
@@ -87,8 +47,8 @@ AllFit lines shown ss = (k : ℕ) (s : Session) → found k ss ≡ Some s → Fi
 pub stands_fit : (server : Server) (w : World) → Stands server w → AllFit server.lines.entries server.list.present w.sessions
 stands_fit server w st k s e open_ = (st.lines k s e open_, st.unseen k s e open_)
 
-pub fit_stands : (server : Server) (w : World) → server.failed ≡ false → server.hall ≡ bare_world w → AllFit server.lines.entries server.list.present w.sessions → Stands server w
-fit_stands server w works hall fit = record { works = works; hall = hall; lines = λ k s e open_. (fit k s e open_).0; unseen = λ k s e open_. (fit k s e open_).1 }
+pub fit_stands : (server : Server) (w : World) → server.failed ≡ false → server.hall ≡ bare_world w → Orderly w → AllFit server.lines.entries server.list.present w.sessions → Stands server w
+fit_stands server w works hall orderly fit = record { works = works; hall = hall; orderly = orderly; lines = λ k s e open_. (fit k s e open_).0; unseen = λ k s e open_. (fit k s e open_).1 }
 
 not_open : (s : Session) → is_closed s.stage ≡ true → is_closed s.stage ≡ false → ⊥
 not_open s shut open_ = let clash : true ≡ false = sym shut ∙ open_ in cc
@@ -127,8 +87,8 @@ asked f same hall w k is = ap (λ (v : World). f (found k v.sessions)) is ∙ ap
     each None = refl
     each (Some s) = same s
 
-pub asked_done : (hall w : World) (k : ℕ) → hall ≡ bare_world w → done_of (found k hall.sessions) ≡ done_of (found k w.sessions)
-asked_done = asked done_of (λ s. refl)
+pub asked_done : (hall w : World) (k : ℕ) → hall ≡ bare_world w → is_over (found k hall.sessions) ≡ is_over (found k w.sessions)
+asked_done = asked is_over (λ s. refl)
 
 pub asked_open : (hall w : World) (k : ℕ) → hall ≡ bare_world w → is_open (found k hall.sessions) ≡ is_open (found k w.sessions)
 asked_open = asked is_open (λ s. refl)
@@ -170,6 +130,7 @@ pub left_stands : (old new : Server) (w : World) (k : ℕ) → new.failed ≡ ol
 unfolding step
 left_stands old new w k failed lines list hall st =
     fit_stands new (changed w k gone) (failed ∙ st.works) (hall ∙ ap (λ (v : World). changed v k gone) st.hall ∙ sym (changed_bare w k gone gone gone_bare))
+    (orderly_step w (left k) st.orderly)
     (rw (lines, list) (changed_fit old.lines.entries old.list.present w k gone gone_id (λ s fit. closed_fits old.lines.entries old.list.present (gone s) (gone_closed s)) (stands_fit old w st)))
 
 pub took_stands : (old new : Server) (w : World) (k n : ℕ) → new.failed ≡ old.failed → new.lines ≡ old.lines → new.list ≡ old.list → new.hall ≡ changed old.hall k (λ (s : Session). record s { owed = drop n s.owed }) →
@@ -178,6 +139,7 @@ unfolding step
 took_stands old new w k n failed lines list hall st =
     let f : Session → Session = λ s. record s { owed = drop n s.owed } in
     fit_stands new (changed w k f) (failed ∙ st.works) (hall ∙ ap (λ (v : World). changed v k f) st.hall ∙ sym (changed_bare w k f f (λ s. refl)))
+    (orderly_step w (took k n) st.orderly)
     (rw (lines, list) (changed_fit old.lines.entries old.list.present w k f (λ s. refl)
     (λ s fit. fits_same old.lines.entries old.lines.entries old.list.present s (record s { owed = drop n s.owed }) refl refl refl refl refl (λ open_. refl) fit) (stands_fit old w st)))
 
@@ -245,16 +207,16 @@ old_stands server w k old st =
     let is : is_new k w.last ≡ false = sym (ap (λ (v : World). is_new k v.last) st.hall) ∙ old in
     subst (Stands server) (sym (joined_world w k false is)) st
 
-pub joined_stands : (old new : Server) (w : World) (k : ℕ) (line : Line) → new.failed ≡ old.failed → new.list ≡ old.list → new.hall ≡ join old.hall k → is_new k old.hall.last ≡ true → Rise 0 old.hall.sessions (next_number old.hall.last) →
+pub joined_stands : (old new : Server) (w : World) (k : ℕ) (line : Line) → new.failed ≡ old.failed → new.list ≡ old.list → new.hall ≡ join old.hall k → is_new k old.hall.last ≡ true →
     find nat_cmp k new.lines.entries ≡ Some line → IsFresh line → ((j : ℕ) → j ≢ k → find nat_cmp j new.lines.entries ≡ find nat_cmp j old.lines.entries) →
     Stands old w → Stands new (step w (joined k)).world
 unfolding step
-joined_stands old new w k line failed list hall above rise there fresh others st =
-    let none = hall_fresh old.hall w k st.hall rise above in
+joined_stands old new w k line failed list hall above there fresh others st =
     let is : is_new k w.last ≡ true = sym (ap (λ (v : World). is_new k v.last) st.hall) ∙ above in
     let P : World → Type 0 = λ v. AllFit new.lines.entries new.list.present v.sessions in
     fit_stands new (join w k) (failed ∙ st.works) (hall ∙ ap (λ (v : World). join v k) st.hall ∙ sym (join_bare w k))
-    (subst P (sym (joined_world w k true is)) (rw list (more_fit old.lines.entries new.lines.entries old.list.present w.sessions k (joining w k) (joining_id w k) none others
+    (orderly_step w (joined k) st.orderly)
+    (subst P (sym (joined_world w k true is)) (rw list (more_fit old.lines.entries new.lines.entries old.list.present w.sessions k (joining w k) (joining_id w k) (st.orderly.fresh k is) others
     (joining_fits new.lines.entries old.list.present line w k there fresh) (stands_fit old w st))))
 
 -- ---- one less
@@ -274,30 +236,31 @@ filtered_fit old new shown p ss apart same fit j t e = cases (found j ss) refl
         let is : s ≡ t = kept s (p s) (sym (found_filter j p ss s apart e') ∙ e) in
         subst (Fits new shown) is (fits_same old new shown s s refl refl refl refl refl (same j s e') (fit j s e'))
 
-done_closed : (k : ℕ) (ss : List Session) (s : Session) → done_of (found k ss) ≡ true → found k ss ≡ Some s → is_closed s.stage ≡ true
+done_closed : (k : ℕ) (ss : List Session) (s : Session) → is_over (found k ss) ≡ true → found k ss ≡ Some s → is_closed s.stage ≡ true
 done_closed k ss s done e =
-    let is : is_done s ≡ true = sym (ap done_of e) ∙ done in
+    let is : is_done s ≡ true = sym (ap is_over e) ∙ done in
     first (is_closed s.stage) _ is
   where
     first : (a b : Bool) → (a && b) ≡ true → a ≡ true
     first true b e = refl
     first false b e = e
 
-still_open : (k j : ℕ) (s : Session) (ss : List Session) → done_of (found k ss) ≡ true → found j ss ≡ Some s → s.id ≡ k → is_closed s.stage ≡ false → ⊥
+still_open : (k j : ℕ) (s : Session) (ss : List Session) → is_over (found k ss) ≡ true → found j ss ≡ Some s → s.id ≡ k → is_closed s.stage ≡ false → ⊥
 still_open k j s ss over there e open_ =
     let P : ℕ → Type 0 = λ n. found n ss ≡ Some s in
     not_open s (done_closed k ss s over (subst P (sym (found_id j ss s there) ∙ e) there)) open_
 
 -- its line may go where it is done
 pub forgot_stands : (old new : Server) (w : World) (k : ℕ) (done : Bool) → new.failed ≡ old.failed → new.list ≡ old.list → new.hall ≡ record old.hall { sessions = filter (λ (s : Session). not (s.id == k && is_done s)) old.hall.sessions } →
-    Rise 0 old.hall.sessions (next_number old.hall.last) → done ≡ done_of (found k old.hall.sessions) → ((j : ℕ) → (done ≡ true → j ≢ k) → find nat_cmp j new.lines.entries ≡ find nat_cmp j old.lines.entries) →
+    done ≡ is_over (found k old.hall.sessions) → ((j : ℕ) → (done ≡ true → j ≢ k) → find nat_cmp j new.lines.entries ≡ find nat_cmp j old.lines.entries) →
     Stands old w → Stands new (step w (forgot k)).world
 unfolding step
-forgot_stands old new w k done failed list hall rise is others st =
+forgot_stands old new w k done failed list hall is others st =
     let p : Session → Bool = λ s. not (s.id == k && is_done s) in
-    let over : done ≡ true → done_of (found k w.sessions) ≡ true = λ e. sym (asked_done old.hall w k st.hall) ∙ sym is ∙ e in
+    let over : done ≡ true → is_over (found k w.sessions) ≡ true = λ e. sym (asked_done old.hall w k st.hall) ∙ sym is ∙ e in
     let same : (j : ℕ) (s : Session) → found j w.sessions ≡ Some s → is_closed s.stage ≡ false → find nat_cmp s.id new.lines.entries ≡ find nat_cmp s.id old.lines.entries =
         λ j s there open_. others s.id (λ e h. still_open k j s w.sessions (over e) there h open_) in
     fit_stands new (record w { sessions = filter (λ (s : Session). not (s.id == k && is_done s)) w.sessions }) (failed ∙ st.works)
     (hall ∙ ap (λ (v : World). record v { sessions = filter (λ (s : Session). not (s.id == k && is_done s)) v.sessions }) st.hall ∙ sym (forgot_bare w k))
-    (rw list (filtered_fit old.lines.entries new.lines.entries old.list.present (λ (s : Session). not (s.id == k && is_done s)) w.sessions (hall_apart old.hall w st.hall rise) same (stands_fit old w st)))
+    (orderly_step w (forgot k) st.orderly)
+    (rw list (filtered_fit old.lines.entries new.lines.entries old.list.present (λ (s : Session). not (s.id == k && is_done s)) w.sessions st.orderly.apart same (stands_fit old w st)))

@@ -11,10 +11,10 @@ owed_of (Some s) = s.owed
 abbrev pub owed_in : ℕ → World → List ℕ
 owed_in k w = owed_of (found k w.sessions)
 
-abbrev pub done_of : Option Session → Bool
-done_of None = false
-done_of (Some s) = is_done s
+abbrev pub is_over : Option Session → Bool
+is_over None = false
+is_over (Some s) = is_done s
 
 -- whether it is closed and owed nothing
 abbrev pub is_done_in : ℕ → World → Bool
-is_done_in k w = done_of (found k w.sessions)
+is_done_in k w = is_over (found k w.sessions)

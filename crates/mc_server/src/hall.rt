@@ -5,7 +5,6 @@ ghost use Rattle.mc_model.specs.World as spec;
 ghost use Rattle.mc_model.specs.World.{AreSettings, found, new_world};
 ghost use Rattle.mc_model.specs.Run.{cause_in};
 ghost use Rattle.mc_model.specs.Step.{changed, gone, is_done, is_new, join, on_fault, on_frame};
-ghost use Rattle.mc_model.specs.PlainWorld.{Rise, next_number};
 ghost use Rattle.mc_server.specs.Asking.{is_done_in, owed_in};
 ghost use Rattle.mc_server.specs.Halls.{is_open};
 
@@ -94,15 +93,13 @@ impl Hall {
     }
 
     pub fn is_open(&self, k: u32) -> bool
-        ensures is { result ≡ is_open (found k self.now.sessions) }
-        ensures rise { Rise 0 self.now.sessions (next_number self.now.last) }
+        ensures { result ≡ is_open (found k self.now.sessions) }
     {
         k == 0
     }
 
     pub fn is_new(&self, k: u32) -> bool
-        ensures is { result ≡ is_new k self.now.last }
-        ensures rise { Rise 0 self.now.sessions (next_number self.now.last) }
+        ensures { result ≡ is_new k self.now.last }
     {
         k == 0
     }
@@ -136,8 +133,7 @@ impl Hall {
     }
 
     pub fn done(&self, k: u32) -> bool
-        ensures is { result ≡ is_done_in k self.now }
-        ensures rise { Rise 0 self.now.sessions (next_number self.now.last) }
+        ensures { result ≡ is_done_in k self.now }
     {
         k == 0
     }

@@ -6,12 +6,12 @@ use Rattle.mc_server.proofs.Lines.{on_ok_follows}
 use Rattle.mc_server.proofs.server.Server.bytes.Goals as goal
 
 pub returns-then-not-is_open-clause-follows : goal.returns-then-not-is_open-clause-follows
-returns-then-not-is_open-clause-follows c w st = closed_stands c.args.self.now w c.args.k c.args.bytes.now (sym c.if-not-is_open.ensures.is) st
+returns-then-not-is_open-clause-follows c w st = closed_stands c.args.self.now w c.args.k c.args.bytes.now (sym c.if-not-is_open.ensures) st
 
 pub returns-clause-follows : goal.returns-clause-follows
 returns-clause-follows c w st =
     on_ok_follows c.hear.result _ _
-    (λ hall. came_stands c.args.self.now _ w c.args.k c.args.bytes.now c.in_ok-cut.cut.frames.items c.in_ok-cut.cut.fault refl refl hall c.if-not-is_open.ensures.rise (sym c.if-not-is_open.ensures.is) c.in_ok-cut.ensures st)
+    (λ hall. came_stands c.args.self.now _ w c.args.k c.args.bytes.now c.in_ok-cut.cut.frames.items c.in_ok-cut.cut.fault refl refl hall (sym c.if-not-is_open.ensures) c.in_ok-cut.ensures st)
     c.hear.ensures
 
 pub returns-clause-age : goal.returns-clause-age
