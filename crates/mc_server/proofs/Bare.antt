@@ -51,7 +51,7 @@ at_bare : (k : ℕ) (f g : Session → Session) → ((s : Session) → bare (f s
 at_bare k f g same [] = refl
 at_bare k f g same (s ∷ ss) =
     let one : bare (if s.id == k then f s else s) ≡ (if s.id == k then g (bare s) else bare s) =
-        elim (s.id == k) as (λ b. bare (cond b (f s) s) ≡ cond b (g (bare s)) (bare s)) [ true ↦ same s | false ↦ refl ] in
+    elim (s.id == k) as (λ b. bare (cond b (f s) s) ≡ cond b (g (bare s)) (bare s)) [ true ↦ same s | false ↦ refl ] in
     ap (λ (t : Session). t ∷ map bare (map (λ (t : Session). if t.id == k then f t else t) ss)) one
     ∙ ap (λ (ts : List Session). (if s.id == k then g (bare s) else bare s) ∷ ts) (at_bare k f g same ss)
 
@@ -83,13 +83,13 @@ put_bare w s = changed_bare w s.id (λ (t : Session). s) (λ (t : Session). bare
 refusal_bare : (w : World) (protocol : ℤ) (name : List ℕ) → refusal (bare_world w) protocol name ≡ refusal w protocol name
 refusal_bare w protocol name =
     let test : Bool → ℕ → Option Refusal = λ taken online.
-        if not (is_47 protocol) then Some refusals.Version
-        else if not (is_name name) then Some refusals.Name
-        else if taken then Some refusals.Taken
-        else if not (nat_lt online w.most && nat_lt w.eids 2147483647) then Some refusals.Full
-        else None in
+    if not (is_47 protocol) then Some refusals.Version
+    else if not (is_name name) then Some refusals.Name
+    else if taken then Some refusals.Taken
+    else if not (nat_lt online w.most && nat_lt w.eids 2147483647) then Some refusals.Full
+    else None in
     let taken : list_any (λ (s : Session). s.uuid == offline_uuid name) (players (bare_world w)) ≡ list_any (λ (s : Session). s.uuid == offline_uuid name) (players w) =
-        ap (list_any (λ (s : Session). s.uuid == offline_uuid name)) (players_bare w) ∙ any_bare (offline_uuid name) (players w) in
+    ap (list_any (λ (s : Session). s.uuid == offline_uuid name)) (players_bare w) ∙ any_bare (offline_uuid name) (players w) in
     ap (λ (b : Bool). test b (length (players (bare_world w)))) taken
     ∙ ap (test (list_any (λ (s : Session). s.uuid == offline_uuid name) (players w))) (online_bare w)
 
@@ -199,7 +199,7 @@ joining_bare w k =
 pub join_bare : (w : World) (k : ℕ) → bare_world (join w k) ≡ join (bare_world w) k
 join_bare w k =
     let more : map bare (w.sessions ++ joining w k ∷ []) ≡ map bare w.sessions ++ joining (bare_world w) k ∷ [] =
-        append_bare w.sessions (joining w k ∷ []) ∙ ap (λ (s : Session). map bare w.sessions ++ s ∷ []) (joining_bare w k) in
+    append_bare w.sessions (joining w k ∷ []) ∙ ap (λ (s : Session). map bare w.sessions ++ s ∷ []) (joining_bare w k) in
     elim (is_new k w.last) as (λ b. bare_world (if b then record w { last = Some k; sessions = w.sessions ++ joining w k ∷ [] } else w)
     ≡ (if b then record (bare_world w) { last = Some k; sessions = map bare w.sessions ++ joining (bare_world w) k ∷ [] } else bare_world w)) [
       | true ↦ ap (λ (ss : List Session). record w { last = Some k; sessions = ss }) more

@@ -135,7 +135,7 @@ came_open old new w k s bytes frames fault failed list hall e open_ cut orderly 
     let R : List ℕ → Type 0 = λ held. IsCutInto s.before (held ++ bytes) frames fault lc.now in
     let into = subst R has.is.held lc.cut in
     let heard_same : heard (bare_world w) k frames fault ≡ heard (bare_world w) k (cut_of s.before (s.rest ++ bytes)).frames (cut_of s.before (s.rest ++ bytes)).fault =
-        ap (λ (fs : List (List ℕ)). heard (bare_world w) k fs fault) into.frames ∙ ap (λ (f : Option FrameFault). heard (bare_world w) k (cut_of s.before (s.rest ++ bytes)).frames f) into.fault in
+    ap (λ (fs : List (List ℕ)). heard (bare_world w) k fs fault) into.frames ∙ ap (λ (f : Option FrameFault). heard (bare_world w) k (cut_of s.before (s.rest ++ bytes)).frames f) into.fault in
     fit_stands new (on_bytes w k bytes).world (failed ∙ st.works)
     (hall ∙ ap (λ (v : World). heard v k frames fault) st.hall ∙ heard_same ∙ sym (bytes_bare w k s bytes st.orderly.apart e open_)) orderly
     (rw list (bytes_fit old.lines.entries new.lines.entries old.list.present w k s bytes has.line frames fault e open_ has.is lc (stands_fit old w st)))

@@ -70,7 +70,7 @@ part_reads bytes part =
           let split = behind_size bytes part.missing s.size part.payload parts le in
           let all = ap length parts in
           let fewer : length (drop (length s.size) bytes) < length part.payload =
-              omega (arith, all, part.some, le, length-drop (length s.size) bytes, length-append bytes part.missing, length-append s.size part.payload) in
+          omega (arith, all, part.some, le, length-drop (length s.size) bytes, length-append bytes part.missing, length-append s.size part.payload) in
           (drop (length s.size) bytes, ap frame_read split ∙ payload_reads s.size (drop (length s.size) bytes) part.payload s.sized s.some fewer)
     ]
 
@@ -140,7 +140,7 @@ pub underway_fed : (count : ℕ) (all : List ℕ) (frames : List (List ℕ)) (ol
 underway_fed count all frames old new left n fed u =
     let P : Splitting → Type 0 = λ t. IsUnderway count all frames t (drop n left) in
     let same : old.held ++ left ≡ (old.held ++ take n left) ++ drop n left =
-        ap (λ (t : List ℕ). old.held ++ t) (sym (take-append-drop n left)) ∙ sym (append_assoc old.held (take n left) (drop n left)) in
+    ap (λ (t : List ℕ). old.held ++ t) (sym (take-append-drop n left)) ∙ sym (append_assoc old.held (take n left) (drop n left)) in
     subst P (sym fed.held) (record { front = u.front; parts = u.parts ∙ ap (λ (t : List ℕ). u.front ++ t) same; framed = u.framed; before = u.before; fine = u.fine })
 
 pub underway_frame : (count : ℕ) (all : List ℕ) (frames : List (List ℕ)) (payload : List ℕ) (old new : Splitting) (left : List ℕ) → TakesFrame old payload new → IsUnderway count all frames old left → IsUnderway count all (frames ++ payload ∷ []) new left

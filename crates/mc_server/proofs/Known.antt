@@ -148,7 +148,7 @@ frame_there rest before shown k frame w t =
     subst Q (sym t.there) (elim (is_closed t.session.stage) as (λ b. is_closed t.session.stage ≡ b → There (KnownOpen rest before shown) k (if b then still w else f t.session).world) [
       | true ↦ λ shut. t
       | false ↦ λ open_. perform_there rest before shown k w t.session (said t.session.stage w.most (length (players w)) frame) t.there (found_id k w.sessions t.session t.there)
-            (suits t.session.stage w.most (length (players w)) frame) (t.holds open_)
+          (suits t.session.stage w.most (length (players w)) frame) (t.holds open_)
     ] refl)
 
 frames_there : (rest : List ℕ) (before : ℕ) (shown : Option Sight) (k : ℕ) (frames : List (List ℕ)) (w : World) → There (KnownOpen rest before shown) k w → There (KnownOpen rest before shown) k (on_frames w k frames).world
@@ -173,7 +173,7 @@ fault_there rest before shown k (Some fault) w t =
     subst Q (sym t.there) (elim (is_closed t.session.stage) as (λ b. is_closed t.session.stage ≡ b → There P k (if b then still w else f t.session).world) [
       | true ↦ λ over. record { session = t.session; there = t.there; holds = closed_heard (Some fault) rest before shown t.session over }
       | false ↦ λ open_. there_shut P (λ s at. closed_heard (Some fault) rest before shown s (ap is_closed at)) k w t.session (causes.Frame fault) (farewell t.session.stage (causes.Frame fault)) t.there
-            (found_id k w.sessions t.session t.there)
+          (found_id k w.sessions t.session t.there)
     ] refl)
 
 pub heard_there : (rest : List ℕ) (before : ℕ) (shown : Option Sight) (k : ℕ) (frames : List (List ℕ)) (fault : Option FrameFault) (w : World) → There (KnownOpen rest before shown) k w →

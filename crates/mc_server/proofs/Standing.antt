@@ -259,7 +259,7 @@ forgot_stands old new w k done failed list hall is others st =
     let p : Session → Bool = λ s. not (s.id == k && is_done s) in
     let over : done ≡ true → is_over (found k w.sessions) ≡ true = λ e. sym (asked_done old.hall w k st.hall) ∙ sym is ∙ e in
     let same : (j : ℕ) (s : Session) → found j w.sessions ≡ Some s → is_closed s.stage ≡ false → find nat_cmp s.id new.lines.entries ≡ find nat_cmp s.id old.lines.entries =
-        λ j s there open_. others s.id (λ e h. still_open k j s w.sessions (over e) there h open_) in
+    λ j s there open_. others s.id (λ e h. still_open k j s w.sessions (over e) there h open_) in
     fit_stands new (record w { sessions = filter (λ (s : Session). not (s.id == k && is_done s)) w.sessions }) (failed ∙ st.works)
     (hall ∙ ap (λ (v : World). record v { sessions = filter (λ (s : Session). not (s.id == k && is_done s)) v.sessions }) st.hall ∙ sym (forgot_bare w k))
     (orderly_step w (forgot k) st.orderly)

@@ -1,4 +1,4 @@
-ghost use Rattle.std.specs.Prelude.{◌≡◌, ◌++◌, ℕ, List, None, IfOk};
+ghost use Rattle.std.specs.Prelude.{◌≡◌, ◌++◌, [], ℕ, List, None, IfOk};
 ghost use Rattle.mc_frame.specs.Cut.{IsPart, kept_count};
 ghost use Rattle.mc_server.specs.Cuts.{AreTaken, IsCutInto, IsUnderway};
 
@@ -17,7 +17,10 @@ pub struct Frames {
 
 impl Frames {
     /// No bytes came.
-    pub fn none(alloc: Global) -> Frames {
+    pub fn none(alloc: Global) -> Frames
+        ensures frames { result.frames.items ≡ [] }
+        ensures fault { result.fault ≡ None }
+    {
         Frames {
             frames: Vec::new(alloc),
             fault: None,

@@ -112,18 +112,15 @@ impl Hall {
 
     pub fn leave(&mut self, k: u32)
         ensures { self.new ≡ changed self.old k gone }
-    {
-    }
+    {}
 
     pub fn took(&mut self, k: u32, n: usize)
         ensures { self.new ≡ changed self.old k (λ (s : spec.Session). record s { owed = drop n s.owed }) }
-    {
-    }
+    {}
 
     pub fn forget(&mut self, k: u32)
         ensures { self.new ≡ record self.old { sessions = filter (λ (s : spec.Session). not (s.id == k && is_done s)) self.old.sessions } }
-    {
-    }
+    {}
 
     pub fn front(&self, k: u32) -> &[u8]
         ensures first { take (length result.now) (owed_in k self.now) ≡ result.now }

@@ -1,4 +1,4 @@
-use Rattle.std.proofs.Common.{◌≡◌, ◌<◌, length, drop, arith, rules}
+use Rattle.std.proofs.Common.{◌≡◌, ◌<◌, length, arith, rules}
 use Rattle.mc_server.proofs.Cuts.{underway_fed, underway_over}
 use Rattle.mc_server.proofs.cutting.cut.Goals as goal
 use Rattle.mc_server.proofs.cutting.cut.Goals.{else-loop-rest-test, then-loop-rest-test+in_ok-count+then-count-eq0}

@@ -1,5 +1,5 @@
 -- The frames that were taken so far, and the part that is held.
-use Rattle.std.proofs.Common.{◌≡◌, ◌++◌, ℕ, List, length, None}
+use Rattle.std.proofs.Common.{◌≡◌, ◌++◌, ℕ, length, None}
 use Rattle.mc_frame.specs.Cut.{IsPart, kept_count}
 use Rattle.mc_server.specs.Cuts.{IsUnderway}
 use Rattle.mc_server.proofs.cutting.cut.Given as goal

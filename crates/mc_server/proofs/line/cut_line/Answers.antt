@@ -1,5 +1,5 @@
 use Rattle.std.proofs.Common.{sym, subst, ap, ◌∙◌}
-use Rattle.std.specs.Prelude.{Option, is_some}
+use Rattle.std.specs.Prelude.{is_some}
 use Rattle.mc_frame.specs.Cut.{IsPart}
 use Rattle.mc_server.specs.declared.line.Line.{Line}
 use Rattle.mc_server.proofs.Lines.{written, line_is, ok_follows}

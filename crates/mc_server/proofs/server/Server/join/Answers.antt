@@ -1,4 +1,4 @@
-use Rattle.std.proofs.Common.{refl, sym, ◌≢◌, ℕ}
+use Rattle.std.proofs.Common.{refl, sym}
 use Rattle.mc_server.proofs.Lines.{found_line, other_line}
 use Rattle.mc_server.proofs.Standing.{old_stands, joined_stands}
 use Rattle.mc_server.proofs.server.Server.join.Goals as goal
