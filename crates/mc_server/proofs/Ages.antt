@@ -1,11 +1,11 @@
 -- No event but a tick makes a world older.
-use Rattle.std.proofs.Common.{◌≡◌, ℕ, Bool, true, false, List, [], ◌∷◌, ◌++◌, length, refl, ap, ◌∙◌}
+use Rattle.std.proofs.Common.{◌≡◌, ℕ, true, false, List, [], ◌∷◌, ◌++◌, length, refl, ap, ◌∙◌}
 use Rattle.std.specs.Prelude.{Option, Some, None, if◌then◌else◌}
 use Rattle.mc_frame.specs.declared.fault.FrameFault.{FrameFault}
 use Rattle.mc_model.specs.declared.cause.Cause.TheVariants as causes
 use Rattle.mc_model.specs.World.{World, Session, found, players}
 use Rattle.mc_model.specs.Talk.{said, farewell}
-use Rattle.mc_model.specs.Step.{Turn, turn, close, when_open, perform, on_frame, on_frames, on_fault, is_new, joining, join}
+use Rattle.mc_model.specs.Step.{turn, close, when_open, perform, on_frame, on_frames, on_fault, is_new, joining, join}
 use Rattle.mc_model.proofs.Frames.{frame_goes, fault_goes}
 use Rattle.mc_server.specs.Bare.{heard}
 

@@ -3,7 +3,7 @@ use Rattle.std.proofs.Common.{◌≡◌, ◌≢◌, ℕ, ◌+◌, ◌-◌, Bool,
 use Rattle.std.specs.Prelude.{◌==◌, not, is_some, unwrap_or, Option, Some, None, if◌then◌else◌}
 use Rattle.std.specs.FinMap.{find}
 use Rattle.std.specs.Ordering.{nat_cmp}
-use Rattle.std.proofs.lemmas.Bool.{cases_eq, eqb-true, eq-eqb}
+use Rattle.std.proofs.lemmas.Bool.{cases_eq, eqb-true}
 use Rattle.mc_frame.specs.declared.fault.FrameFault.{FrameFault}
 use Rattle.mc_frame.specs.Cut.{Cut, IsPart, kept_count}
 use Rattle.mc_frame.specs.Held.{Splitting}
@@ -11,7 +11,7 @@ use Rattle.mc_model.specs.Cutting.{cut_of}
 use Rattle.mc_model.specs.Delta.{Pairs}
 use Rattle.mc_model.specs.Sight.{Sight, nothing_seen}
 use Rattle.mc_model.specs.World.{World, Session, found, put, is_play, is_closed}
-use Rattle.mc_model.specs.Step.{came, step, on_bytes, on_cut, read_to, still, when_open, changed, Turn}
+use Rattle.mc_model.specs.Step.{came, step, on_bytes, on_cut, read_to, still, when_open, Turn}
 use Rattle.mc_model.proofs.Sessions.{AreApart, found_id, one_some}
 use Rattle.mc_model.proofs.Beside.{found_put}
 use Rattle.mc_model.proofs.Frames.{bytes_beside}
@@ -20,12 +20,12 @@ use Rattle.mc_model.proofs.RunEvents.{Orderly, orderly_step}
 use Rattle.mc_flush.specs.Seeing.{StandsFor}
 use Rattle.mc_server.specs.declared.line.Line.{Line}
 use Rattle.mc_server.specs.declared.server.Server.{Server}
-use Rattle.mc_server.specs.Bare.{bare, bare_world, heard}
+use Rattle.mc_server.specs.Bare.{bare_world, heard}
 use Rattle.mc_server.specs.Cuts.{Holds, IsCutInto, IsLineCut}
 use Rattle.mc_server.specs.Halls.{is_open}
 use Rattle.mc_server.specs.Stands.{IsLine, HasLine, Stands}
 use Rattle.mc_server.proofs.Bare.{put_bare, heard_bare}
-use Rattle.mc_server.proofs.Known.{IsKnown, KnownOpen, There, HeardOpen, heard_there}
+use Rattle.mc_server.proofs.Known.{IsKnown, There, HeardOpen, heard_there}
 use Rattle.mc_server.proofs.Standing.{Fits, AllFit, stands_fit, fit_stands, fits_same, asked_open}
 
 -- ---- the bytes of an open connection

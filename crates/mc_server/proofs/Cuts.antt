@@ -1,5 +1,5 @@
 -- Bytes that a splitter cuts, piece by piece, are cut as the definitions cut them.
-use Rattle.std.proofs.Common.{◌≡◌, ℕ, zero, suc, ◌+◌, ◌-◌, ◌^◌, ◌<◌, ◌≤◌, inl, inr, List, [], ◌∷◌, ◌++◌, length, get_or, take, drop, Ok, Err, refl, sym, subst, ap, ◌∙◌, append_assoc, arith, lt-ltb}
+use Rattle.std.proofs.Common.{◌≡◌, ℕ, zero, suc, ◌+◌, ◌-◌, ◌<◌, ◌≤◌, inl, inr, List, [], ◌∷◌, ◌++◌, length, get_or, take, drop, Err, refl, sym, subst, ap, ◌∙◌, append_assoc, arith, lt-ltb}
 use Rattle.std.specs.Prelude.{Option, Some, None}
 use Rattle.std.proofs.lemmas.Bool.{cases_lt}
 use Rattle.std.proofs.lemmas.List.{length-append, length-drop, append-nil, take-append-drop, take-append-le, take_at, get_or_append_left}
@@ -14,9 +14,9 @@ use Rattle.mc_fields.specs.VarintFormat.{varint_only}
 use Rattle.mc_fields.proofs.VarintFaults.{groups-long, groups-cut}
 use Rattle.mc_frame.specs.declared.fault.FrameFault.{FrameFault}
 use Rattle.mc_frame.specs.declared.fault.FrameFault.TheVariants.{LongLength, ZeroLength}
-use Rattle.mc_frame.specs.declared.fault.Take.TheVariants.{Frame, More, Bad}
+use Rattle.mc_frame.specs.declared.fault.Take.TheVariants.{More, Bad}
 use Rattle.mc_frame.specs.Faults.{fault_of}
-use Rattle.mc_frame.specs.Frame.{SpellsFrame, frame_read}
+use Rattle.mc_frame.specs.Frame.{frame_read}
 use Rattle.mc_frame.specs.Cut.{SpellsFrames, IsPart, HasLongLength, HasZeroLength, kept_count, Ends, Cut, IsCutAt}
 use Rattle.mc_frame.specs.Held.{Splitting}
 use Rattle.mc_frame.specs.Splitting.{Feeds, Takes, TakesFrame}

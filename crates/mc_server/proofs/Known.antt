@@ -1,5 +1,5 @@
 -- What a line keeps of a connection stays, whatever the frames of its client come to.
-use Rattle.std.proofs.Common.{◌≡◌, ℕ, ◌+◌, Bool, true, false, List, [], ◌∷◌, ◌++◌, length, refl, sym, subst, ap, ◌∙◌}
+use Rattle.std.proofs.Common.{◌≡◌, ℕ, ◌+◌, true, false, List, [], ◌∷◌, ◌++◌, length, refl, sym, subst, ap, ◌∙◌}
 use Rattle.std.specs.Prelude.{Option, Some, None, if◌then◌else◌}
 use Rattle.std.specs.Option.{option_and_then}
 use Rattle.mc_fields.specs.declared.position.Spot.{Spot}
@@ -9,7 +9,6 @@ use Rattle.mc_up.specs.declared.play_up.PlayUp.TheVariants.{Position, Look, Posi
 use Rattle.mc_model.specs.declared.cause.Cause.{Cause}
 use Rattle.mc_model.specs.declared.cause.Cause.TheVariants as causes
 use Rattle.mc_model.specs.declared.cause.Refusal.{Refusal}
-use Rattle.mc_model.specs.declared.stage.Stage.{Stage}
 use Rattle.mc_model.specs.declared.stage.Stage.TheVariants as stages
 use Rattle.mc_model.specs.Names.{offline_uuid}
 use Rattle.mc_model.specs.Sight.{Sight}
@@ -17,7 +16,7 @@ use Rattle.mc_model.specs.World.{World, Session, found, put, players, is_play, i
 use Rattle.mc_model.specs.Hearing.{Sent, of_status, bytes_of}
 use Rattle.mc_model.specs.Acts.{act, arrive, arrived, is_in_range, moved, turned}
 use Rattle.mc_model.specs.Talk.{Said, nothing, greets, replies, ends, enters, acts, wrong, said, farewell, refused, accepted}
-use Rattle.mc_model.specs.Step.{Handing, hand, shut, close, Turn, still, turn, when_open, refusal, entered, answer_login, acted, perform, on_frame, on_frames, on_fault}
+use Rattle.mc_model.specs.Step.{hand, shut, close, Turn, still, turn, when_open, refusal, entered, answer_login, acted, perform, on_frame, on_frames, on_fault}
 use Rattle.mc_model.proofs.Sessions.{found_id}
 use Rattle.mc_model.proofs.Beside.{found_put}
 use Rattle.mc_model.proofs.Handing.{hand_cases}

@@ -1,39 +1,30 @@
 -- A server that stands for a world stands for what each event but a tick makes of it.
-use Rattle.std.proofs.Common.{◌≡◌, ◌≢◌, ℕ, ◌+◌, ◌-◌, ◌<◌, ◌≤◌, Bool, true, false, cond, List, [], ◌∷◌, ◌++◌, map, length, refl, sym, subst, ap, ◌∙◌, arith}
+use Rattle.std.proofs.Common.{◌≡◌, ◌≢◌, ℕ, Bool, true, false, cond, List, [], ◌∷◌, ◌++◌, refl, sym, subst, ap, ◌∙◌}
 use Rattle.std.specs.Prelude.{◌==◌, ◌&&◌, not, drop, is_some, unwrap_or, Option, Some, None, option_map, if◌then◌else◌}
 use Rattle.std.specs.List.{filter}
 use Rattle.std.specs.Option.{option_and_then}
 use Rattle.std.specs.FinMap.{find}
 use Rattle.std.specs.Ordering.{nat_cmp}
-use Rattle.std.proofs.lemmas.Bool.{ne_eqb, eqb-true, eq-eqb}
-use Rattle.mc_frame.specs.declared.fault.FrameFault.{FrameFault}
-use Rattle.mc_frame.specs.Cut.{Cut, IsPart, kept_count}
+use Rattle.mc_frame.specs.Cut.{IsPart, kept_count}
 use Rattle.mc_frame.specs.Held.{Splitting, nothing_held}
 use Rattle.mc_frame.proofs.Stops.{nothing_part}
-use Rattle.mc_model.specs.declared.cause.Cause.{Cause}
 use Rattle.mc_model.specs.declared.cause.Cause.TheVariants as causes
-use Rattle.mc_model.specs.declared.stage.Stage.TheVariants as stages
-use Rattle.mc_model.specs.Cutting.{cut_of}
 use Rattle.mc_model.specs.Delta.{Pairs}
 use Rattle.mc_model.specs.Sight.{Sight, nothing_seen}
-use Rattle.mc_model.specs.World.{World, Session, found, put, is_play, is_closed}
+use Rattle.mc_model.specs.World.{World, Session, found, is_play, is_closed}
 use Rattle.mc_model.specs.Run.{cause_in}
-use Rattle.mc_model.specs.Step.{joined, came, left, took, forgot, step, on_bytes, on_cut, read_to, still, when_open, gone, shut, changed, is_new, is_crowded, new_session, joining, join, is_done, last_shown, Turn}
+use Rattle.mc_model.specs.Step.{joined, left, took, forgot, step, gone, shut, changed, is_new, is_crowded, new_session, joining, join, is_done}
 use Rattle.mc_model.proofs.Sessions.{AreApart, found_id, found_map, found_before, found_behind, found_filter, none_filtered, one_some, some_none}
-use Rattle.mc_model.proofs.Beside.{Beside, found_put}
-use Rattle.mc_model.proofs.Frames.{bytes_beside}
 use Rattle.mc_model.proofs.RunEvents.{Orderly, orderly_step, joining_id, gone_id}
 use Rattle.mc_view.specs.declared.view_set.ViewSet.{ViewSet}
 use Rattle.mc_flush.specs.Seeing.{StandsFor}
 use Rattle.mc_server.specs.declared.line.Line.{Line}
 use Rattle.mc_server.specs.declared.server.Server.{Server}
 use Rattle.mc_server.specs.Asking.{is_over, owed_of}
-use Rattle.mc_server.specs.Bare.{bare, bare_world, heard}
-use Rattle.mc_server.specs.Cuts.{Holds, IsCutInto, IsLineCut}
+use Rattle.mc_server.specs.Bare.{bare, bare_world}
 use Rattle.mc_server.specs.Halls.{is_open}
 use Rattle.mc_server.specs.Stands.{IsLine, HasLine, Stands}
-use Rattle.mc_server.proofs.Bare.{found_bare, changed_bare, gone_bare, join_bare, forgot_bare, heard_bare}
-use Rattle.mc_server.proofs.Known.{IsKnown, KnownOpen, There, HeardOpen, heard_there}
+use Rattle.mc_server.proofs.Bare.{found_bare, changed_bare, gone_bare, join_bare, forgot_bare}
 
 -- ---- all that lines say of a connection
 
@@ -256,7 +247,6 @@ pub forgot_stands : (old new : Server) (w : World) (k : ℕ) (done : Bool) → n
     Stands old w → Stands new (step w (forgot k)).world
 unfolding step
 forgot_stands old new w k done failed list hall is others st =
-    let p : Session → Bool = λ s. not (s.id == k && is_done s) in
     let over : done ≡ true → is_over (found k w.sessions) ≡ true = λ e. sym (asked_done old.hall w k st.hall) ∙ sym is ∙ e in
     let same : (j : ℕ) (s : Session) → found j w.sessions ≡ Some s → is_closed s.stage ≡ false → find nat_cmp s.id new.lines.entries ≡ find nat_cmp s.id old.lines.entries =
     λ j s there open_. others s.id (λ e h. still_open k j s w.sessions (over e) there h open_) in

@@ -3,7 +3,7 @@ use Rattle.std.specs.Prelude.{◌≡◌, ◌≢◌, ℕ, ◌+◌, ◌-◌, List,
 use Rattle.std.specs.FinMap.{find}
 use Rattle.std.specs.Ordering.{nat_cmp}
 use Rattle.mc_frame.specs.declared.fault.FrameFault.{FrameFault}
-use Rattle.mc_frame.specs.Cut.{Cut, SpellsFrames, IsPart, kept_count}
+use Rattle.mc_frame.specs.Cut.{SpellsFrames, IsPart, kept_count}
 use Rattle.mc_frame.specs.Held.{Splitting}
 use Rattle.mc_model.specs.Cutting.{cut_of}
 use Rattle.mc_server.specs.declared.line.Line.{Line}

@@ -1,6 +1,5 @@
 -- What a server stands for: a world of the definitions.
-use Rattle.std.specs.Prelude.{◌≡◌, ℕ, false, true, is_some, List, [], Option, Some, None, unwrap_or}
-use Rattle.std.specs.Option.{option_map}
+use Rattle.std.specs.Prelude.{◌≡◌, ℕ, false, true, is_some, List, Some, None}
 use Rattle.std.specs.FinMap.{find}
 use Rattle.std.specs.Ordering.{nat_cmp}
 use Rattle.mc_frame.specs.Cut.{IsPart, kept_count}

@@ -23,7 +23,9 @@ use std::collections::BTreeMap;
 /// A server: who is connected, what each was shown and is owed, and the land.
 #[derive(Drop)]
 pub struct Server {
+    /// Where its memory comes from.
     alloc: Global,
+    /// Who is connected and plays, on which land, and what each is owed.
     hall: Hall,
     /// Of each connection that was not forgotten, by its number.
     lines: BTreeMap<u32, Line>,
