@@ -4,3 +4,10 @@ pub mod ClientHandings
 pub mod HallPlaces
 pub mod HallSteps
 pub mod HallTurns
+pub mod Cuts
+pub mod Bare
+pub mod Known
+pub mod Standing
+pub mod Bytes
+pub mod Ages
+pub mod Lines

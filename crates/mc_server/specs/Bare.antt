@@ -1,9 +1,15 @@
 -- A world without what the lines of its connections keep: the bytes that were not read, and what was shown.
-use Rattle.std.specs.Prelude.{List, [], map, None}
+use Rattle.std.specs.Prelude.{ℕ, List, [], map, Option, None}
+use Rattle.mc_frame.specs.declared.fault.FrameFault.{FrameFault}
 use Rattle.mc_model.specs.World.{World, Session}
+use Rattle.mc_model.specs.Step.{on_frames, on_fault}
 
 abbrev pub bare : Session → Session
 bare s = record s { rest = []; before = 0; shown = None }
 
 abbrev pub bare_world : World → World
 bare_world w = record w { sessions = map bare w.sessions }
+
+-- the world after frames of a connection, and the fault behind them
+abbrev pub heard : World → ℕ → List (List ℕ) → Option FrameFault → World
+heard w k frames fault = (on_fault (on_frames w k frames).world k fault).world

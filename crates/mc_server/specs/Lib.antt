@@ -2,6 +2,6 @@ pub mod Halls
 pub mod Asking
 pub mod Hears
 pub mod Bare
+pub mod Cuts
 pub mod Stands
 pub mod Inputs
-pub mod Hears

@@ -1,12 +1,12 @@
 -- What a server stands for: a world of the definitions.
-use Rattle.std.specs.Prelude.{◌≡◌, ℕ, false, true, is_some, List, [], Option, Some, None, unwrap_or}
-use Rattle.std.specs.Option.{option_map}
+use Rattle.std.specs.Prelude.{◌≡◌, ℕ, false, true, is_some, List, Some, None}
 use Rattle.std.specs.FinMap.{find}
 use Rattle.std.specs.Ordering.{nat_cmp}
 use Rattle.mc_frame.specs.Cut.{IsPart, kept_count}
 use Rattle.mc_model.specs.Delta.{Pairs}
 use Rattle.mc_model.specs.World.{World, Session, found, is_play, is_closed}
 use Rattle.mc_model.specs.Step.{last_shown}
+use Rattle.mc_model.proofs.RunEvents.{Orderly}
 use Rattle.mc_flush.specs.Seeing.{StandsFor}
 use Rattle.mc_server.specs.declared.line.Line.{Line}
 use Rattle.mc_server.specs.declared.server.Server.{Server}
@@ -30,6 +30,8 @@ pub record HasLine (lines : List (ℕ × Line)) (shown : Pairs) (s : Session) : 
 pub record Stands (server : Server) (w : World) : Type 0 where
   pub works : server.failed ≡ false
   pub hall : server.hall ≡ bare_world w
+  -- numbers stand once, and none is above the last that joined
+  pub orderly : Orderly w
   -- each open connection has its line
   pub lines : (k : ℕ) (s : Session) → found k w.sessions ≡ Some s → is_closed s.stage ≡ false → HasLine server.lines.entries server.list.present s
   -- only who is in play was shown anything

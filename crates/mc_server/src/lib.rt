@@ -6,6 +6,7 @@
 #![tactic(auto)]
 
 mod client;
+mod cutting;
 mod hall;
 mod input;
 mod line;
