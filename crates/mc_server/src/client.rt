@@ -7,6 +7,8 @@ mod entering;
 mod handing;
 mod hearing;
 mod moving;
+#[cfg(test)]
+mod tests;
 
 use mc_fields::Spot;
 use mc_frame::Outbox;
