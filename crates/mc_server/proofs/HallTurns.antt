@@ -21,7 +21,7 @@ use Rattle.mc_model.proofs.PlainPlaces.{placed_rise}
 use Rattle.mc_model.proofs.PlainActing.{put_placed, put_same, found_placed, act_is, open_at, absent_frame, closed_frame, fault_turn}
 use Rattle.mc_server.specs.Halls.{playing_of}
 use Rattle.mc_server.specs.Hears.{Hears}
-use Rattle.mc_server.specs.Asking.{IsAsking, IsHeard}
+use Rattle.mc_server.specs.LoggingIn.{IsAsking, IsHeard}
 use Rattle.mc_server.proofs.HallPlaces.{placed_by}
 use Rattle.mc_server.proofs.HallSteps.{hand_calm, close_waits}
 

@@ -1,5 +1,6 @@
 pub mod Halls
 pub mod Asking
+pub mod LoggingIn
 pub mod Hears
 pub mod Bare
 pub mod Cuts

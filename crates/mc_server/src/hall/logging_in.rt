@@ -7,7 +7,7 @@ ghost use Rattle.mc_model.specs.Talk.{refused};
 ghost use Rattle.mc_model.specs.Step.{is_47, close, refusal, answer_login};
 ghost use Rattle.mc_model.specs.PlainWorld.{IsPlaced};
 ghost use Rattle.mc_server.specs.Halls.{playing_of};
-ghost use Rattle.mc_server.specs.Asking.{IsAsked, IsVerdict, has_room};
+ghost use Rattle.mc_server.specs.LoggingIn.{IsAsked, IsVerdict, has_room};
 
 use crate::client::Client;
 use crate::hall::counting::one_more;

@@ -1,6 +1,6 @@
 ghost use Rattle.std.specs.Prelude.{◌≡◌, Some, IfOk, OnOk};
 ghost use Rattle.mc_model.specs.Step.{on_frame, on_fault};
-ghost use Rattle.mc_server.specs.Asking.{IsHeard};
+ghost use Rattle.mc_server.specs.LoggingIn.{IsHeard};
 
 use crate::hall::counting::{one_less, one_more};
 use crate::hall::{Hall, closing};

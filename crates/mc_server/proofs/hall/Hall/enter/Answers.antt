@@ -6,7 +6,7 @@ use Rattle.mc_model.specs.Talk.{accepted}
 use Rattle.mc_model.specs.Step.{hand}
 use Rattle.mc_model.specs.PlainTurns.{entered_as}
 use Rattle.mc_model.specs.PlainWorld.{IsPlaced, next_number}
-use Rattle.mc_server.specs.Asking.{IsAsked, has_room}
+use Rattle.mc_server.specs.LoggingIn.{IsAsked, has_room}
 use Rattle.mc_server.proofs.HallSteps.{hall_enter, asked_waits}
 use Rattle.mc_server.proofs.HallTurns.{placed_put}
 use Rattle.mc_server.proofs.hall.Hall.enter.Goals as goal
