@@ -1,4 +1,4 @@
-ghost use Rattle.std.specs.Prelude.{◌≡◌, ◌↔◌, ◌<◌, [], IfOk, IsErr, OnErr, OnOk, length, map, take};
+ghost use Rattle.std.specs.Prelude.{◌≡◌, ◌↔◌, ◌<◌, [], Err, IfOk, OnErr, OnOk, length, map, take};
 ghost use Rattle.std.specs.Option.{option_copied};
 ghost use Rattle.mc_model.specs.World as spec;
 ghost use Rattle.mc_model.specs.World.{AreSettings, World, new_world};
@@ -56,7 +56,7 @@ impl Server {
         ensures follows { (w : World) → Stands self.old w → OnOk result (Stands self.new (step w (event_of input.entry)).world) }
         ensures age { OnOk result (age_of self.new ≡ age_after input.entry (age_of self.old)) }
         ensures fails { OnErr result (HasFailed self.new) }
-        ensures failed { HasFailed self.old → IsErr result }
+        ensures failed { HasFailed self.old → result ≡ Err (record {}) }
     {
         if self.failed {
             return Err(NoMemory);
