@@ -1,1 +1,9 @@
-
+pub mod ClientFacts
+pub mod LineFacts
+pub mod ReadyFacts
+pub mod RosterFacts
+pub mod SceneFacts
+pub mod Listed
+pub mod Walks
+pub mod TickLaw
+pub mod StandsFacts

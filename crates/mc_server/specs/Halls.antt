@@ -10,10 +10,10 @@ use Rattle.mc_model.specs.PlainWorld.{Rise, next_number}
 abbrev pub playing_of : List Session → List Session
 playing_of sessions = filter (λ (s : Session). is_play s.stage) sessions
 
-pub record IsHall (land : LandValue) (terrain : Terrain) (most cap eids : ℕ) (last : Option ℕ) (ids : List ℕ) (clients : List Session) (playing : ℕ) : Type 0 where
+pub record IsHall (land : LandValue) (terrain : Terrain) (most cap given : ℕ) (last : Option ℕ) (ids : List ℕ) (clients : List Session) (playing : ℕ) : Type 0 where
   pub own : land.terrain ≡ terrain
   pub settings : AreSettings most cap
-  pub eids : eids ≤ 2147483647
+  pub eids : given ≤ 2147483647
   pub rise : Rise 0 clients (next_number last)
   pub named : map (λ (s : Session). s.id) clients ≡ ids
   pub counted : playing ≡ length (playing_of clients)

@@ -3,6 +3,9 @@ ghost use Rattle.std.specs.Option.{option_copied};
 ghost use Rattle.mc_model.specs.World.{is_play, is_closed};
 ghost use Rattle.mc_model.specs.Step.{new_session, is_kept, is_done, shut, gone};
 
+mod shown;
+mod stub;
+
 use mc_fields::Spot;
 use mc_frame::Outbox;
 use mc_model::{Cause, Notes, Stage};
@@ -28,7 +31,7 @@ pub struct Client {
 }
 
 impl Model for Client {
-    ghost use Rattle.std.specs.Prelude.{[], None, ◌≤◌, length};
+    ghost use Rattle.std.specs.Prelude.{[], None, ◌≤◌, ◌<◌, ◌^◌, length};
     ghost use Rattle.std.specs.Coded.{codes};
     ghost use Rattle.mc_model.specs.World as spec;
     ghost use Rattle.mc_model.specs.PlainSight.{coded_sight};
@@ -56,7 +59,7 @@ impl Model for Client {
       shown = None;
     } };
 
-    ghost invariant = { λ c. (length c.name ≤ 64) × IsInRange c.place };
+    ghost invariant = { λ c. (length c.name ≤ 64) × IsInRange c.place × (c.eid < 2 ^ 31) };
 }
 
 impl Client {

@@ -1,6 +1,10 @@
 ghost use Rattle.std.specs.Prelude.{◌≡◌};
 ghost use Rattle.mc_model.specs.World.{AreSettings, new_world};
 
+mod listing;
+mod showing;
+mod ticking;
+
 use crate::Settings;
 use crate::client::Client;
 use mc_land::{Land, Terrain};

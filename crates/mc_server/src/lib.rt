@@ -9,6 +9,8 @@ mod client;
 mod hall;
 mod input;
 mod line;
+mod opening;
+mod roster;
 mod server;
 mod settings;
 

@@ -1,6 +1,8 @@
+mod ticking;
+
 use crate::hall::Hall;
 use crate::line::Line;
-use mc_flush::PlayerList;
+use crate::roster::Roster;
 use std::collections::BTreeMap;
 
 /// A server: who is connected, what each was shown and is owed, and the land.
@@ -10,7 +12,7 @@ pub struct Server {
     /// Of each connection that was not forgotten, by its number.
     lines: BTreeMap<u32, Line>,
     /// The players that were shown at the last tick.
-    list: PlayerList,
+    list: Roster,
     /// Memory ran out before.
     failed: bool,
 }
