@@ -3,6 +3,7 @@ pub mod LineFacts
 pub mod ReadyFacts
 pub mod RosterFacts
 pub mod SceneFacts
+pub mod HallFacts
 pub mod Listed
 pub mod Walks
 pub mod TickLaw

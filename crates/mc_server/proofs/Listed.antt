@@ -1,5 +1,5 @@
 -- The names of those in play, listed one after another.
-use Rattle.std.proofs.Common.{◌≡◌, ℕ, suc, ◌+◌, ◌<◌, ◌≤◌, Bool, true, false, cond, List, [], ◌∷◌, ◌++◌, map, length, take, drop, get_or, Option, Some, None, is_some, refl, sym, subst, ap, ◌∙◌, arith}
+use Rattle.std.proofs.Common.{◌≡◌, ℕ, zero, suc, ◌+◌, ◌<◌, ◌≤◌, Bool, true, false, cond, List, [], ◌∷◌, ◌++◌, map, length, take, drop, get_or, Option, Some, None, is_some, refl, sym, subst, ap, ◌∙◌, arith}
 use Rattle.std.specs.Prelude.{◌==◌, ◌&&◌, if◌then◌else◌}
 use Rattle.std.specs.List.{filter}
 use Rattle.std.specs.Cmp.{nat_cmp_total}
@@ -17,20 +17,17 @@ use Rattle.mc_server.specs.Ticking.{name_after, names_of}
 -- ---- how many are in play
 
 pub playing_more : (xs : List Session) (c : Session) → length (playing_of (xs ++ c ∷ [])) ≡ length (playing_of xs) + length (playing_of (c ∷ []))
-playing_more [] c = refl
+playing_more [] c = omega arith
 playing_more (x ∷ xs) c = elim (is_play x.stage) as (λ b. length (cond b (x ∷ playing_of (xs ++ c ∷ [])) (playing_of (xs ++ c ∷ []))) ≡ length (cond b (x ∷ playing_of xs) (playing_of xs)) + length (playing_of (c ∷ []))) [
-  | true ↦ ap suc (playing_more xs c)
+  | true ↦ (let later = playing_more xs c in omega (arith, later))
   | false ↦ playing_more xs c
 ]
 
 -- those at the front are no more than all
 pub playing_front : (i : ℕ) (xs : List Session) → length (playing_of (take i xs)) ≤ length (playing_of xs)
-playing_front i [] = let none : length (playing_of (take i [])) ≡ 0 = nothing i in omega (arith, none)
-  where
-    nothing : (i : ℕ) → length (playing_of (take i [])) ≡ 0
-    nothing 0 = refl
-    nothing (suc i) = refl
-playing_front 0 (x ∷ xs) = omega arith
+playing_front zero [] = omega arith
+playing_front (suc i) [] = omega arith
+playing_front zero (x ∷ xs) = omega arith
 playing_front (suc i) (x ∷ xs) = elim (is_play x.stage) as (λ b. length (cond b (x ∷ playing_of (take i xs)) (playing_of (take i xs))) ≤ length (cond b (x ∷ playing_of xs) (playing_of xs))) [
   | true ↦ (let later = playing_front i xs in omega (arith, later))
   | false ↦ playing_front i xs
@@ -55,13 +52,13 @@ room_next i xs c n lt is le few plays =
 -- ---- names
 
 pub names_more : (q : ℕ) (xs : List Session) (c : Session) → find nat_cmp q (names_of (xs ++ c ∷ [])) ≡ name_after (find nat_cmp q (names_of xs)) c q
-names_more q [] c = elim (is_play c.stage) as (λ b. find nat_cmp q (map (λ (s : Session). (s.uuid, s.name)) (cond b (c ∷ []) [])) ≡ cond (b && c.uuid == q) (Some c.name) None) [
+names_more q [] c = elim (is_play c.stage) as (λ b. find nat_cmp q (map {B = ℕ × List ℕ} (λ (s : Session). (s.uuid, s.name)) (cond b (c ∷ []) [])) ≡ cond (b && c.uuid == q) (Some c.name) None) [
   | true ↦ ap (λ (b : Bool). cond b (Some c.name) None) (sym (key_turned c.uuid q))
   | false ↦ refl
 ]
 names_more q (x ∷ xs) c =
-    elim (is_play x.stage) as (λ b. find nat_cmp q (map (λ (s : Session). (s.uuid, s.name)) (cond b (x ∷ playing_of (xs ++ c ∷ [])) (playing_of (xs ++ c ∷ []))))
-    ≡ name_after (find nat_cmp q (map (λ (s : Session). (s.uuid, s.name)) (cond b (x ∷ playing_of xs) (playing_of xs)))) c q) [
+    elim (is_play x.stage) as (λ b. find nat_cmp q (map {B = ℕ × List ℕ} (λ (s : Session). (s.uuid, s.name)) (cond b (x ∷ playing_of (xs ++ c ∷ [])) (playing_of (xs ++ c ∷ []))))
+    ≡ name_after (find nat_cmp q (map {B = ℕ × List ℕ} (λ (s : Session). (s.uuid, s.name)) (cond b (x ∷ playing_of xs) (playing_of xs)))) c q) [
       | true ↦ elim (eq_by_cmp nat_cmp q x.uuid) as (λ b. cond b (Some x.name) (find nat_cmp q (names_of (xs ++ c ∷ []))) ≡ name_after (cond b (Some x.name) (find nat_cmp q (names_of xs))) c q) [
         | true ↦ refl
         | false ↦ names_more q xs c
@@ -151,3 +148,8 @@ last_put old new s put =
       | true ↦ λ is. ap (λ (list : ListValue). list.last) is
       | false ↦ λ is. ap (λ (list : ListValue). list.last) is
     ] put
+
+-- the same of an identifier and a name that were copied
+pub copied_put : (old new : ListValue) (s : Session) (uuid : ℕ) (name : List ℕ) → uuid ≡ s.uuid → name ≡ s.name → new ≡ (if contains_key old.present uuid then old else with_name old uuid name) →
+    new ≡ (if contains_key old.present s.uuid then old else with_name old s.uuid s.name)
+copied_put old new s uuid name same copied put = put ∙ (λ i. if contains_key old.present (same i) then old else with_name old (same i) (copied i))

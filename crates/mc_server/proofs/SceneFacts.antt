@@ -1,5 +1,5 @@
 -- What a client is shown of the parts of a world is what the world shows it.
-use Rattle.std.proofs.Common.{◌≡◌, ℕ, Bool, true, false, cond, List, [], ◌∷◌, ◌++◌, map, length, Option, Some, None, is_some, refl, sym, subst, ap, ◌∙◌}
+use Rattle.std.proofs.Common.{◌≡◌, ℕ, Bool, true, false, cond, List, [], ◌∷◌, ◌++◌, map, length, Option, Some, None, is_some, refl, sym, subst, ap, ◌∙◌, append_assoc}
 use Rattle.std.specs.Prelude.{◌+◌, nat_le, unwrap_or, if◌then◌else◌, option_map}
 use Rattle.std.specs.FinMap.{FinMap, empty, from_entries}
 use Rattle.std.specs.FinSet as set
@@ -69,18 +69,18 @@ unfolding StandsFor
 before_stands w last None = refl
 before_stands w last (Some view) = (refl, shown_has (land_in w) view)
 
-some_mapped : {A B : Type 0} (f : A → B) (o : Option A) → is_some o ≡ is_some (option_map f o)
+pub some_mapped : {A B : Type 0} (f : A → B) (o : Option A) → is_some o ≡ is_some (option_map f o)
 some_mapped f None = refl
 some_mapped f (Some a) = refl
 
 -- what a client is sent
 pub told_due : (w : World) (settings : Settings) (land : LandValue) (present last : Pairs) (line : Line) (s : Session) → IsScene w settings land present →
     told settings land present (is_some line.mark.shown) (unwrap_or (option_map (sight_before w last) line.mark.shown) nothing_seen) s ≡ due w (recalled w last line s)
-unfolding due
+unfolding due project
 told_due w settings land present last line s is =
     let p : Sight = unwrap_or (option_map (sight_before w last) line.mark.shown) nothing_seen in
-    λ i. (if some_mapped (sight_before w last) line.mark.shown i then [] else opening_of (is.terrain i) (is.most i) (pos s.eid) s.place)
-    ++ (delta p (scene_shown w settings land present s is i) ++ notes_due_of s.notes s.place)
+    sym (append_assoc (opening_told settings (is_some line.mark.shown) s) (delta p (shown_now settings land present s)) (notes_due_of s.notes s.place))
+    ∙ (λ i. ((if some_mapped (sight_before w last) line.mark.shown i then [] else opening_of (is.terrain i) (is.most i) (pos s.eid) s.place) ++ delta p (scene_shown w settings land present s is i)) ++ notes_due_of s.notes s.place)
 
 -- ---- handing out
 
@@ -90,10 +90,10 @@ pub hand_shown : (s : Session) (shown : Option Sight) (ps : List Sent) →
 unfolding hand
 hand_shown s shown ps = elim (nat_le (length s.owed + length (bytes_of ps)) outbox_max) as (λ b.
     ◌≡◌ {A = Session}
-    (if b then record { session = record s { notes = no_notes; owed = s.owed ++ bytes_of ps }; handed = ps }
-    else record { session = record s { notes = no_notes; stage = stages.Closed; cause = Some causes.Backlog; owed = [] }; handed = [] }).session
-    (record (if b then record { session = record s { notes = no_notes; shown = shown; owed = s.owed ++ bytes_of ps }; handed = ps }
-    else record { session = record s { notes = no_notes; shown = shown; stage = stages.Closed; cause = Some causes.Backlog; owed = [] }; handed = [] }).session { shown = s.shown })) [
+    (cond {A = Handing} b (record { session = record s { notes = no_notes; owed = s.owed ++ bytes_of ps }; handed = ps })
+    (record { session = record s { notes = no_notes; stage = stages.Closed; cause = Some causes.Backlog; owed = [] }; handed = [] })).session
+    (record (cond {A = Handing} b (record { session = record s { notes = no_notes; shown = shown; owed = s.owed ++ bytes_of ps }; handed = ps })
+    (record { session = record s { notes = no_notes; shown = shown; stage = stages.Closed; cause = Some causes.Backlog; owed = [] }; handed = [] })).session { shown = s.shown })) [
       | true ↦ refl
       | false ↦ refl
     ]
@@ -117,4 +117,5 @@ client_ticked w settings land present last line s t is plays handed =
 pub client_stays : (w : World) (last : Pairs) (line : Option Line) (s : Session) → is_play s.stage ≡ false → s ≡ ticked_client w last line s
 client_stays w last None s waits = refl
 client_stays w last (Some line) s waits =
-    ap (λ (b : Bool). record (if b then hand (showing w (recalled w last line s)) (map of_play (due w (recalled w last line s))) else record { session = recalled w last line s; handed = [] }).session { shown = s.shown }) (sym waits)
+    let c : Session = recalled w last line s in
+    ap (λ (b : Bool). record (cond {A = Handing} b (hand (showing w c) (map of_play (due w c))) (record { session = c; handed = [] })).session { shown = s.shown }) (sym waits)

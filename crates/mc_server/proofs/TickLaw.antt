@@ -65,12 +65,12 @@ mark_delta (Some view) last p r q one other =
 -- the same players
 pub names_bare : (ss : List Session) → names_of (map bare ss) ≡ names_of ss
 names_bare [] = refl
-names_bare (s ∷ ss) = elim (is_play s.stage) as (λ b. map (λ (t : Session). (t.uuid, t.name)) (cond b (bare s ∷ playing_of (map bare ss)) (playing_of (map bare ss))) ≡ map (λ (t : Session). (t.uuid, t.name)) (cond b (s ∷ playing_of ss) (playing_of ss))) [
+names_bare (s ∷ ss) = elim (is_play s.stage) as (λ b. map {B = ℕ × List ℕ} (λ (t : Session). (t.uuid, t.name)) (cond b (bare s ∷ playing_of (map bare ss)) (playing_of (map bare ss))) ≡ map {B = ℕ × List ℕ} (λ (t : Session). (t.uuid, t.name)) (cond b (s ∷ playing_of ss) (playing_of ss))) [
   | true ↦ ap (λ (es : List (ℕ × List ℕ)). (s.uuid, s.name) ∷ es) (names_bare ss)
   | false ↦ names_bare ss
 ]
 
-project_bare : (w : World) (s : Session) (shown : Option Sight) → project (bare_world w) (record (bare s) { shown = shown }) ≡ project (at_tick w) s
+pub project_bare : (w : World) (s : Session) (shown : Option Sight) → project (bare_world w) (record (bare s) { shown = shown }) ≡ project (at_tick w) s
 unfolding project
 project_bare w s shown = λ i. record {
   pairs = from_entries (names_bare w.sessions i);
@@ -87,7 +87,7 @@ due_bare w last line s is =
     let changed : delta (last_shown r) (project h r) ≡ delta (last_shown s) (project (at_tick w) s) =
     mark_delta line.mark.shown last (last_shown r) (last_shown s) (project h r) (before_stands h last line.mark.shown) is.shows
     ∙ ap (delta (last_shown s)) (project_bare w s r.shown) in
-    λ i. (if opened i then [] else opening_of w.terrain w.most (pos s.eid) s.place) ++ (changed i ++ notes_due_of s.notes s.place)
+    λ i. ((if opened i then [] else opening_of w.terrain w.most (pos s.eid) s.place) ++ changed i) ++ notes_due_of s.notes s.place
 
 -- ---- handing out
 
@@ -96,10 +96,10 @@ hand_bare : (s : Session) (one other : Option Sight) (ps : List Sent) →
 unfolding hand
 hand_bare s one other ps = elim (nat_le (length s.owed + length (bytes_of ps)) outbox_max) as (λ b.
     ◌≡◌ {A = Session}
-    (record (if b then record { session = record (bare s) { notes = no_notes; shown = one; owed = s.owed ++ bytes_of ps }; handed = ps }
-    else record { session = record (bare s) { notes = no_notes; shown = one; stage = stages.Closed; cause = Some causes.Backlog; owed = [] }; handed = [] }).session { shown = None })
-    (bare (if b then record { session = record s { notes = no_notes; shown = other; owed = s.owed ++ bytes_of ps }; handed = ps }
-    else record { session = record s { notes = no_notes; shown = other; stage = stages.Closed; cause = Some causes.Backlog; owed = [] }; handed = [] }).session)) [
+    (record (cond {A = Handing} b (record { session = record (bare s) { notes = no_notes; shown = one; owed = s.owed ++ bytes_of ps }; handed = ps })
+    (record { session = record (bare s) { notes = no_notes; shown = one; stage = stages.Closed; cause = Some causes.Backlog; owed = [] }; handed = [] })).session { shown = None })
+    (bare (cond {A = Handing} b (record { session = record s { notes = no_notes; shown = other; owed = s.owed ++ bytes_of ps }; handed = ps })
+    (record { session = record s { notes = no_notes; shown = other; stage = stages.Closed; cause = Some causes.Backlog; owed = [] }; handed = [] })).session)) [
       | true ↦ refl
       | false ↦ refl
     ]
@@ -108,7 +108,7 @@ flush_play : (w : World) (s : Session) → is_play s.stage ≡ true → flush w 
 flush_play w s here = ap (λ (b : Bool). if b then hand (showing w s) (map of_play (due w s)) else record { session = s; handed = [] }) here
 
 flush_waits : (w : World) (s : Session) → is_play s.stage ≡ false → (flush w s).session ≡ s
-flush_waits w s waits = ap (λ (b : Bool). (if b then hand (showing w s) (map of_play (due w s)) else record { session = s; handed = [] }).session) waits
+flush_waits w s waits = ap (λ (b : Bool). (cond {A = Handing} b (hand (showing w s) (map of_play (due w s))) (record { session = s; handed = [] })).session) waits
 
 -- ---- one client
 
@@ -141,7 +141,7 @@ client_bare w last lines s known = elim (is_play s.stage) as (λ b. is_play s.st
 
 -- ---- all of them
 
-clients_bare : (w : World) (last : Pairs) (lines : List (ℕ × Line)) (ss : List Session) → AllByRecursion (IsKnown lines last) ss →
+pub clients_bare : (w : World) (last : Pairs) (lines : List (ℕ × Line)) (ss : List Session) → AllByRecursion (IsKnown lines last) ss →
     ticked_clients (bare_world w) last lines (map bare ss) ≡ map bare (map (λ (s : Session). (flush (at_tick w) s).session) ss)
 clients_bare w last lines [] all = refl
 clients_bare w last lines (s ∷ ss) all = λ i. client_bare w last lines s all.0 i ∷ clients_bare w last lines ss all.1 i
@@ -154,7 +154,7 @@ found_low k low high (s ∷ ss) t r e = elim (s.id == k) as (λ b. (s.id == k) �
 ] refl e
 
 -- what holds of each that is found holds of all
-each_found : (P : Session → Type 0) (low high : ℕ) (ss : List Session) → Rise low ss high → ((s : Session) → found s.id ss ≡ Some s → P s) → AllByRecursion P ss
+pub each_found : (P : Session → Type 0) (low high : ℕ) (ss : List Session) → Rise low ss high → ((s : Session) → found s.id ss ≡ Some s → P s) → AllByRecursion P ss
 each_found P low high [] r each = tt
 each_found P low high (s ∷ ss) r each = (
   each s (ap (λ (b : Bool). cond b (Some s) (found s.id ss)) (same_number s.id)),
@@ -164,6 +164,6 @@ each_found P low high (s ∷ ss) r each = (
       each t (ap (λ (b : Bool). cond b (Some s) (found t.id ss)) (ne_eqb s.id t.id ne) ∙ e)),
 )
 
-rise_bare : (low high : ℕ) (ss : List Session) → Rise low (map bare ss) high → Rise low ss high
+pub rise_bare : (low high : ℕ) (ss : List Session) → Rise low (map bare ss) high → Rise low ss high
 rise_bare low high [] r = r
 rise_bare low high (s ∷ ss) r = (r.0, rise_bare (s.id + 1) high ss r.1)

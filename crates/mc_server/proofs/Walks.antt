@@ -133,7 +133,7 @@ line_unchanged w present lines now ss i c high lt is rise so_far =
 
 -- ---- the end
 
-take_past : (i : ℕ) (ss : List Session) → length ss ≤ i → take i ss ≡ ss
+pub take_past : (i : ℕ) (ss : List Session) → length ss ≤ i → take i ss ≡ ss
 take_past zero [] le = refl
 take_past zero (s ∷ ss) le = absurd (omega (arith, le))
 take_past (suc i) [] le = refl

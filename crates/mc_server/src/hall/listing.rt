@@ -17,9 +17,11 @@ fn list_player(client: &Client, list: &mut Roster) -> Result<(), NoMemory>
     ensures few { OnOk result (finmap.len list.new.present ≤ finmap.len list.old.present + length (playing_of (client.now ∷ []))) }
     ensures last { OnOk result (list.new.last ≡ list.old.last) }
 {
-    if client.is_play() {
-        list.add(client.uuid(), client.name()?)?;
+    if !client.is_play() {
+        return Ok(());
     }
+    let name = client.name()?;
+    list.add(client.uuid(), name)?;
     Ok(())
 }
 

@@ -10,29 +10,29 @@ use Rattle.mc_server.proofs.SceneFacts.{before_stands, client_ticked, scene_show
 use Rattle.mc_server.proofs.LineFacts.{IsPut, found_line, line_put, line_absent, put_others}
 use Rattle.mc_server.proofs.hall.showing.show_client.Goals as goal
 
-pub returns-in-Some-clause-client : goal.returns-in-Some-clause-client
-returns-in-Some-clause-client c = λ w scene.
+pub returns-in_ok-show-in-Some-clause-client : goal.returns-in_ok-show-in-Some-clause-client
+returns-in_ok-show-in-Some-clause-client c = λ w scene.
     let s = c.args.client.now in
     let line = c.in-Some.line.now in
     let last = c.args.list.now.last in
     let here : is_play s.stage ≡ true = sym c.is_play.ensures ∙ c.if-not-is_play.false in
     let there : find nat_cmp s.id c.args.lines.now.entries ≡ Some line = found_line c.id.result s.id c.args.lines.now.entries (Some line) c.id.ensures c.in-Some.ensures.value in
-    client_ticked w c.args.settings.now c.args.land.now c.args.list.now.present last line s c.show.new.self scene here (c.in_ok-show.ensures.handed _ (before_stands w last line.mark.shown))
+    client_ticked w c.args.settings.now c.args.land.now c.args.list.now.present last line s c.show.new.self scene here (c.in_ok-show-in-Some.ensures.handed _ (before_stands w last line.mark.shown))
     ∙ ap (λ (o : Option Line). ticked_client w last o s) (sym there)
 
-pub returns-in-Some-clause-line : goal.returns-in-Some-clause-line
-returns-in-Some-clause-line c = λ w scene.
+pub returns-in_ok-show-in-Some-clause-line : goal.returns-in_ok-show-in-Some-clause-line
+returns-in_ok-show-in-Some-clause-line c = λ w scene.
     let s = c.args.client.now in
     let line = c.in-Some.line.now in
     let next : Line = record { splitter = line.splitter; mark = c.show.new.mark } in
     let here : is_play s.stage ≡ true = sym c.is_play.ensures ∙ c.if-not-is_play.false in
     let there : find nat_cmp s.id c.args.lines.now.entries ≡ Some line = found_line c.id.result s.id c.args.lines.now.entries (Some line) c.id.ensures c.in-Some.ensures.value in
     let put : IsPut c.id.result c.args.lines.now.entries (c.get_mut.follows.lender next).entries next = ((c.get_mut.follows.holds next).3 (search rules)).0 in
-    line_put w c.args.list.now.present s c.id.result c.args.lines.now.entries (c.get_mut.follows.lender next).entries line next c.id.ensures there here put refl c.in_ok-show.ensures.opened
-    (subst (λ (p : Sight). StandsFor next.mark.shown c.args.list.now.present p) (scene_shown w c.args.settings.now c.args.land.now c.args.list.now.present s scene) c.in_ok-show.ensures.shows)
+    line_put w c.args.list.now.present s c.id.result c.args.lines.now.entries (c.get_mut.follows.lender next).entries line next c.id.ensures there here put refl c.in_ok-show-in-Some.ensures.opened
+    (subst (λ (p : Sight). StandsFor next.mark.shown c.args.list.now.present p) (scene_shown w c.args.settings.now c.args.land.now c.args.list.now.present s scene) c.in_ok-show-in-Some.ensures.shows)
 
-pub returns-in-Some-clause-others : goal.returns-in-Some-clause-others
-returns-in-Some-clause-others c = λ q ne.
+pub returns-in_ok-show-in-Some-clause-others : goal.returns-in_ok-show-in-Some-clause-others
+returns-in_ok-show-in-Some-clause-others c = λ q ne.
     let next : Line = record { splitter = c.in-Some.line.now.splitter; mark = c.show.new.mark } in
     let put : IsPut c.id.result c.args.lines.now.entries (c.get_mut.follows.lender next).entries next = ((c.get_mut.follows.holds next).3 (search rules)).0 in
     put_others c.id.result c.args.lines.now.entries (c.get_mut.follows.lender next).entries next put q (λ e. ne (e ∙ c.id.ensures))
