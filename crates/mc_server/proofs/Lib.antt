@@ -11,3 +11,13 @@ pub mod Standing
 pub mod Bytes
 pub mod Ages
 pub mod Lines
+pub mod ClientFacts
+pub mod LineFacts
+pub mod ReadyFacts
+pub mod RosterFacts
+pub mod SceneFacts
+pub mod HallFacts
+pub mod Listed
+pub mod Walks
+pub mod TickLaw
+pub mod StandsFacts

@@ -6,3 +6,5 @@ pub mod Bare
 pub mod Cuts
 pub mod Stands
 pub mod Inputs
+pub mod Roster
+pub mod Ticking

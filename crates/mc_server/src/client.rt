@@ -7,6 +7,7 @@ mod entering;
 mod handing;
 mod hearing;
 mod moving;
+mod shown;
 #[cfg(test)]
 mod tests;
 
@@ -38,7 +39,7 @@ pub struct Client {
 }
 
 impl Model for Client {
-    ghost use Rattle.std.specs.Prelude.{[], None, ◌≤◌, length};
+    ghost use Rattle.std.specs.Prelude.{[], None, ◌≤◌, ◌<◌, ◌^◌, length};
     ghost use Rattle.std.specs.Coded.{codes};
     ghost use Rattle.mc_model.specs.World as spec;
     ghost use Rattle.mc_model.specs.PlainSight.{coded_sight};
@@ -67,7 +68,7 @@ impl Model for Client {
       shown = None;
     } };
 
-    ghost invariant = { λ c. (length c.name ≤ 64) × IsInRange c.place };
+    ghost invariant = { λ c. (length c.name ≤ 64) × IsInRange c.place × (c.eid < 2 ^ 31) };
 }
 
 impl Client {

@@ -5,8 +5,11 @@ ghost use Rattle.mc_model.specs.World.{AreSettings, new_world};
 mod changing;
 mod closing;
 mod counting;
+mod listing;
 mod logging_in;
 mod looking;
+mod showing;
+mod ticking;
 mod turns;
 
 use crate::Settings;

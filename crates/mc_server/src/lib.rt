@@ -10,6 +10,8 @@ mod cutting;
 mod hall;
 mod input;
 mod line;
+mod opening;
+mod roster;
 mod server;
 mod settings;
 

@@ -13,8 +13,8 @@ mod ticking;
 
 use crate::hall::Hall;
 use crate::line::{Line, drop_line};
+use crate::roster::Roster;
 use crate::{Input, Settings};
-use mc_flush::PlayerList;
 use mc_model::Cause;
 use mc_nbt::NoMemory;
 use std::alloc::Global;
@@ -30,7 +30,7 @@ pub struct Server {
     /// Of each connection that was not forgotten, by its number.
     lines: BTreeMap<u32, Line>,
     /// The players that were shown at the last tick.
-    list: PlayerList,
+    list: Roster,
     /// Memory ran out before.
     failed: bool,
 }
@@ -45,7 +45,7 @@ impl Server {
             alloc,
             hall: Hall::new(alloc, settings),
             lines: BTreeMap::new(alloc),
-            list: PlayerList::new(alloc),
+            list: Roster::new(alloc),
             failed: false,
         })
     }

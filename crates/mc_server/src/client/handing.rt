@@ -45,6 +45,7 @@ impl Client {
         ensures ok { (packets : List Sent) → joined pieces.items ≡ bytes_of packets →
             OnOk result (self.new ≡ (hand self.old packets).session) }
         ensures same { self.new.id ≡ self.old.id }
+        ensures stays { is_play self.new.stage ≡ true → is_play self.old.stage ≡ true }
     {
         if !have_room(self.outbox.len(), pieces.as_slice()) {
             self.overflow();

@@ -13,6 +13,9 @@ impl Server {
         ensures follows { (w : World) → Stands self.old w → OnOk result (Stands self.new (step w ticked).world) }
         ensures age { OnOk result (age_of self.new ≡ age_of self.old + 1) }
     {
-        Err(NoMemory)
+        self.list.turn()?;
+        self.hall.list_players(&mut self.list)?;
+        self.hall.tick(&self.list, &mut self.lines)?;
+        Ok(())
     }
 }

@@ -1,0 +1,76 @@
+-- A map of lines with another line under a number.
+use Rattle.std.proofs.Common.{◌≡◌, ◌≢◌, ℕ, Bool, true, false, cond, List, Option, Some, None, is_some, refl, sym, subst, ap, ◌∙◌}
+use Rattle.std.specs.Map.{lookup}
+use Rattle.std.specs.FinMap.{find}
+use Rattle.std.specs.Ordering.{nat_cmp, is_eq}
+use Rattle.std.specs.Cmp.{nat_cmp_total, tied_itself}
+use Rattle.mc_model.specs.Delta.{Pairs}
+use Rattle.mc_model.specs.World.{World, Session, is_play, project}
+use Rattle.mc_flush.specs.Seeing.{StandsFor}
+use Rattle.mc_model.proofs.Sessions.{some_none, one_some}
+use Rattle.mc_flush.proofs.Lookups.{tree_found, same_key}
+use Rattle.mc_server.specs.declared.line.Line.{Line}
+use Rattle.mc_server.specs.Ticking.{LineFollows, IsMarked, plays}
+
+-- what look-ups find after a change at k
+abbrev pub IsPut : ℕ → List (ℕ × Line) → List (ℕ × Line) → Line → Type 0
+IsPut k old new line = (q : ℕ) → lookup (λ (x : ℕ). is_eq (nat_cmp q x)) new ≡ cond (is_eq (nat_cmp k q)) (Some line) (lookup (λ (x : ℕ). is_eq (nat_cmp q x)) old)
+
+pub put_here : (k : ℕ) (old new : List (ℕ × Line)) (line : Line) → IsPut k old new line → find nat_cmp k new ≡ Some line
+put_here k old new line put =
+    sym (tree_found k new) ∙ put k ∙ ap (λ (o : Bool). cond o (Some line) (lookup (λ (x : ℕ). is_eq (nat_cmp k x)) old)) (ap is_eq (tied_itself nat_cmp_total k))
+
+pub put_others : (k : ℕ) (old new : List (ℕ × Line)) (line : Line) → IsPut k old new line → (q : ℕ) → q ≢ k → find nat_cmp q new ≡ find nat_cmp q old
+put_others k old new line put q ne =
+    sym (tree_found q new) ∙ put q
+    ∙ elim (is_eq (nat_cmp k q)) as (λ b. is_eq (nat_cmp k q) ≡ b → cond b (Some line) (lookup (λ (x : ℕ). is_eq (nat_cmp q x)) old) ≡ lookup (λ (x : ℕ). is_eq (nat_cmp q x)) old) [
+      | true ↦ λ t. absurd (ne (sym (same_key k q t)))
+      | false ↦ λ f. refl
+    ] refl
+    ∙ tree_found q old
+
+-- the line of one that was not shown anything
+pub line_kept : (w : World) (present : Pairs) (s : Session) (o : Option Line) → is_play s.stage ≡ false → LineFollows w present (Some s) o o
+line_kept w present s o waits = record {
+  stays = λ e. refl;
+  shown = λ c line is here there. absurd (untrue s c (one_some s c (Some s) refl is) waits here);
+}
+  where
+    untrue : (s c : Session) → s ≡ c → is_play s.stage ≡ false → is_play c.stage ≡ true → ⊥
+    untrue s c e f t = let clash : true ≡ false = sym t ∙ ap (λ (x : Session). is_play x.stage) (sym e) ∙ f in cc
+
+-- there is none
+pub line_absent : (w : World) (present : Pairs) (s : Session) (o new : Option Line) → o ≡ None → new ≡ o → LineFollows w present (Some s) o new
+line_absent w present s o new none same = record {
+  stays = λ e. same;
+  shown = λ c line is here there. absurd (some_none line o there none);
+}
+
+-- the line of one that was shown the world
+pub line_marked : (w : World) (present : Pairs) (s : Session) (line : Line) (old new : Option Line) → old ≡ Some line → is_play s.stage ≡ true → IsMarked w present s line new → LineFollows w present (Some s) old new
+line_marked w present s line old new there here marked = record {
+  stays = λ waits. absurd (untrue (is_play s.stage) here waits);
+  shown = λ c other is plays_here found_here.
+      let P : Session → Type 0 = λ x. IsMarked w present x other new in
+      let Q : Line → Type 0 = λ x. IsMarked w present s x new in
+      subst P (one_some s c (Some s) refl is) (subst Q (one_some line other old there found_here) marked);
+}
+  where
+    untrue : (b : Bool) → b ≡ true → b ≡ false → ⊥
+    untrue b t f = let clash : true ≡ false = sym t ∙ f in cc
+
+-- what was lent is found
+pub found_line : (k id : ℕ) (lines : List (ℕ × Line)) (o : Option Line) → k ≡ id → o ≡ lookup (λ (x : ℕ). is_eq (nat_cmp k x)) lines → find nat_cmp id lines ≡ o
+found_line k id lines o same is = ap (λ (n : ℕ). find nat_cmp n lines) (sym same) ∙ sym (tree_found k lines) ∙ sym is
+
+-- the line that was lent, and shown the world
+pub line_put : (w : World) (present : Pairs) (s : Session) (k : ℕ) (old new : List (ℕ × Line)) (line next : Line) → k ≡ s.id → find nat_cmp s.id old ≡ Some line → is_play s.stage ≡ true → IsPut k old new next →
+    next.splitter ≡ line.splitter → is_some next.mark.shown ≡ true → StandsFor next.mark.shown present (project w s) → LineFollows w present (Some s) (find nat_cmp s.id old) (find nat_cmp s.id new)
+line_put w present s k old new line next same there here put splitter opened shows =
+    line_marked w present s line (find nat_cmp s.id old) (find nat_cmp s.id new) there here (record {
+      line = next;
+      is = ap (λ (n : ℕ). find nat_cmp n new) (sym same) ∙ put_here k old new next put;
+      splitter = splitter;
+      opened = opened;
+      shows = shows;
+    })

@@ -1,0 +1,121 @@
+-- What a client is shown of the parts of a world is what the world shows it.
+use Rattle.std.proofs.Common.{◌≡◌, ℕ, Bool, true, false, cond, List, [], ◌∷◌, ◌++◌, map, length, Option, Some, None, is_some, refl, sym, subst, ap, ◌∙◌, append_assoc}
+use Rattle.std.specs.Prelude.{◌+◌, nat_le, unwrap_or, if◌then◌else◌, option_map}
+use Rattle.std.specs.FinMap.{FinMap, empty, from_entries}
+use Rattle.std.specs.FinSet as set
+use lib.IntN.{pos}
+use Rattle.mc_frame.specs.Kept.{outbox_max}
+use Rattle.mc_land.specs.Places.{Place}
+use Rattle.mc_land.specs.Land.{LandValue, states_of, biomes_of}
+use Rattle.mc_down.specs.declared.down.Down.{Down}
+use Rattle.mc_view.specs.declared.view_set.ViewSet.{ViewSet}
+use Rattle.mc_view.specs.Sets.{all_of}
+use Rattle.mc_model.specs.declared.cause.Cause.TheVariants as causes
+use Rattle.mc_model.specs.declared.stage.Stage.TheVariants as stages
+use Rattle.mc_model.specs.Sight.{Sight, nothing_seen}
+use Rattle.mc_model.specs.Delta.{Pairs, delta}
+use Rattle.mc_model.specs.Hearing.{Sent, of_play, bytes_of}
+use Rattle.mc_model.specs.Notes.{no_notes}
+use Rattle.mc_model.specs.Plain.{SameWorld, opening_of}
+use Rattle.mc_model.specs.Views.{view_of, view_size, column_of_spot}
+use Rattle.mc_model.specs.World.{World, Session, is_play, players, project}
+use Rattle.mc_model.specs.Step.{Handing, hand, due, flush, showing}
+use Rattle.mc_flush.specs.Lists.{ListValue}
+use Rattle.mc_flush.specs.Seeing.{StandsFor, seen}
+use Rattle.mc_flush.specs.Sending.{notes_due_of}
+use Rattle.mc_flush.proofs.Shown.{shown_has}
+use Rattle.mc_server.specs.declared.line.Line.{Line}
+use Rattle.mc_server.specs.declared.settings.Settings.{Settings}
+use Rattle.mc_server.specs.Ticking.{IsScene, IsMarked, shown_now, told, opening_told, sight_before, recalled, ticked_client}
+
+-- ---- what is shown of a view
+
+-- the columns of a view of the land are those around the player, also while more of them are made ready
+pub view_shown : (settings : Settings) (old new : LandValue) (list : ListValue) (view : ViewSet) (s : Session) → SameWorld old new →
+    ◌≡◌ {A = Place} (view.cx, view.cz) (column_of_spot s.place) → view.d ≡ view_size settings.cap s.asked → seen new list view ≡ shown_now settings old list.present s
+view_shown settings old new list view s same middle far = λ i. record {
+  pairs = list.present;
+  columns = from_entries (map (λ (place : Place). (place, record { states = states_of (same.terrain i) (same.edits i) place; biomes = biomes_of (same.terrain i) place })) (view_of (middle i) (far i)));
+}
+
+-- ---- of a world
+
+pub scene_shown : (w : World) (settings : Settings) (land : LandValue) (present : Pairs) (s : Session) → IsScene w settings land present → shown_now settings land present s ≡ project w s
+unfolding project
+scene_shown w settings land present s is = λ i. record {
+  pairs = is.listed i;
+  columns = from_entries (map (λ (place : Place). (place, record { states = states_of (is.own i) (is.edits i) place; biomes = biomes_of (is.own i) place })) (view_of (column_of_spot s.place) (view_size (is.cap i) s.asked)));
+}
+
+-- the parts of a world, also while more columns are made ready
+pub scene_same : (w : World) (settings : Settings) (old new : LandValue) (present : Pairs) → SameWorld old new → IsScene w settings old present → IsScene w settings new present
+scene_same w settings old new present same is = record {
+  terrain = is.terrain;
+  own = same.terrain ∙ is.own;
+  edits = same.edits ∙ is.edits;
+  most = is.most;
+  cap = is.cap;
+  listed = is.listed;
+}
+
+-- ---- what a mark keeps
+
+-- a land of the cells of a world
+abbrev land_in : World → LandValue
+land_in w = record { terrain = w.terrain; edits = w.edits; settled = empty; chests = empty; ready = set.empty }
+
+pub before_stands : (w : World) (last : Pairs) (mark : Option ViewSet) → StandsFor mark last (unwrap_or (option_map (sight_before w last) mark) nothing_seen)
+unfolding StandsFor
+before_stands w last None = refl
+before_stands w last (Some view) = (refl, shown_has (land_in w) view)
+
+pub some_mapped : {A B : Type 0} (f : A → B) (o : Option A) → is_some o ≡ is_some (option_map f o)
+some_mapped f None = refl
+some_mapped f (Some a) = refl
+
+-- what a client is sent
+pub told_due : (w : World) (settings : Settings) (land : LandValue) (present last : Pairs) (line : Line) (s : Session) → IsScene w settings land present →
+    told settings land present (is_some line.mark.shown) (unwrap_or (option_map (sight_before w last) line.mark.shown) nothing_seen) s ≡ due w (recalled w last line s)
+unfolding due project
+told_due w settings land present last line s is =
+    let p : Sight = unwrap_or (option_map (sight_before w last) line.mark.shown) nothing_seen in
+    sym (append_assoc (opening_told settings (is_some line.mark.shown) s) (delta p (shown_now settings land present s)) (notes_due_of s.notes s.place))
+    ∙ (λ i. ((if some_mapped (sight_before w last) line.mark.shown i then [] else opening_of (is.terrain i) (is.most i) (pos s.eid) s.place) ++ delta p (scene_shown w settings land present s is i)) ++ notes_due_of s.notes s.place)
+
+-- ---- handing out
+
+-- what was shown has no part in it
+pub hand_shown : (s : Session) (shown : Option Sight) (ps : List Sent) →
+    (hand (record s { notes = no_notes }) ps).session ≡ record (hand (record s { notes = no_notes; shown = shown }) ps).session { shown = s.shown }
+unfolding hand
+hand_shown s shown ps = elim (nat_le (length s.owed + length (bytes_of ps)) outbox_max) as (λ b.
+    ◌≡◌ {A = Session}
+    (cond {A = Handing} b (record { session = record s { notes = no_notes; owed = s.owed ++ bytes_of ps }; handed = ps })
+    (record { session = record s { notes = no_notes; stage = stages.Closed; cause = Some causes.Backlog; owed = [] }; handed = [] })).session
+    (record (cond {A = Handing} b (record { session = record s { notes = no_notes; shown = shown; owed = s.owed ++ bytes_of ps }; handed = ps })
+    (record { session = record s { notes = no_notes; shown = shown; stage = stages.Closed; cause = Some causes.Backlog; owed = [] }; handed = [] })).session { shown = s.shown })) [
+      | true ↦ refl
+      | false ↦ refl
+    ]
+
+-- one that is in play is flushed
+flush_play : (w : World) (s : Session) → is_play s.stage ≡ true → flush w s ≡ hand (showing w s) (map of_play (due w s))
+flush_play w s plays = ap (λ (b : Bool). if b then hand (showing w s) (map of_play (due w s)) else record { session = s; handed = [] }) plays
+
+-- a client in play that was shown the parts
+pub client_ticked : (w : World) (settings : Settings) (land : LandValue) (present last : Pairs) (line : Line) (s t : Session) → IsScene w settings land present → is_play s.stage ≡ true →
+    t ≡ (hand (record s { notes = no_notes }) (map of_play (told settings land present (is_some line.mark.shown) (unwrap_or (option_map (sight_before w last) line.mark.shown) nothing_seen) s))).session →
+    t ≡ ticked_client w last (Some line) s
+client_ticked w settings land present last line s t is plays handed =
+    let c : Session = recalled w last line s in
+    handed
+    ∙ ap (λ (ps : List Down). (hand (record s { notes = no_notes }) (map of_play ps)).session) (told_due w settings land present last line s is)
+    ∙ hand_shown s (Some (project w c)) (map of_play (due w c))
+    ∙ ap (λ (h : Handing). record h.session { shown = s.shown }) (sym (flush_play w c plays))
+
+-- one that is not in play stays
+pub client_stays : (w : World) (last : Pairs) (line : Option Line) (s : Session) → is_play s.stage ≡ false → s ≡ ticked_client w last line s
+client_stays w last None s waits = refl
+client_stays w last (Some line) s waits =
+    let c : Session = recalled w last line s in
+    ap (λ (b : Bool). record (cond {A = Handing} b (hand (showing w c) (map of_play (due w c))) (record { session = c; handed = [] })).session { shown = s.shown }) (sym waits)

@@ -1,0 +1,18 @@
+use Rattle.std.proofs.Common.{◌≡◌, arith}
+use Rattle.mc_model.proofs.PlainPatterns.{degrees_one}
+use Rattle.mc_flush.proofs.Placings.{range_small, pattern_at, placing_is, placing_clear}
+use Rattle.mc_server.proofs.opening.placing_packet.Goals as goal
+
+pub returns-clause-value : goal.returns-clause-value
+returns-clause-value c =
+    let s = c.args.place.now in
+    let small = range_small s c.requires in
+    placing_is s c.pattern.result c.pattern-2.result c.pattern-3.result c.degrees.result c.degrees-2.result
+    (pattern_at s.x c.pattern.result small.x c.pattern.type_inv c.pattern.ensures.zero c.pattern.ensures.stands)
+    (pattern_at s.y c.pattern-2.result small.y c.pattern-2.type_inv c.pattern-2.ensures.zero c.pattern-2.ensures.stands)
+    (pattern_at s.z c.pattern-3.result small.z c.pattern-3.type_inv c.pattern-3.ensures.zero c.pattern-3.ensures.stands)
+    (degrees_one s.yaw c.degrees.result (omega arith) c.degrees.type_inv c.degrees.ensures.zero c.degrees.ensures.stands)
+    (degrees_one s.pitch c.degrees-2.result (omega arith) c.degrees-2.type_inv c.degrees-2.ensures.zero c.degrees-2.ensures.stands)
+
+pub returns-clause-clear : goal.returns-clause-clear
+returns-clause-clear c = placing_clear c.args.place.now c.requires (omega arith) (omega arith)

@@ -1,0 +1,39 @@
+ghost use Rattle.std.specs.Prelude.{◌≡◌, ◌≤◌, ◌<◌, ◌+◌, ◌∷◌, [], ℕ, true, length, OnOk};
+ghost use Rattle.std.specs.FinMap as finmap;
+ghost use Rattle.std.specs.FinMap.{find, get};
+ghost use Rattle.std.specs.Ordering.{nat_cmp};
+ghost use Rattle.mc_model.specs.World.{is_play};
+ghost use Rattle.mc_server.specs.Halls.{playing_of};
+ghost use Rattle.mc_server.specs.Ticking.{name_after, names_of};
+
+use crate::client::Client;
+use crate::roster::Roster;
+use mc_nbt::NoMemory;
+
+/// Lists a player, if it is in play and none of its identifier is listed.
+fn list_player(client: &Client, list: &mut Roster) -> Result<(), NoMemory>
+    requires { is_play client.now.stage ≡ true → finmap.len list.old.present < 50 }
+    ensures names { OnOk result ((q : ℕ) → get list.new.present q ≡ name_after (get list.old.present q) client.now q) }
+    ensures few { OnOk result (finmap.len list.new.present ≤ finmap.len list.old.present + length (playing_of (client.now ∷ []))) }
+    ensures last { OnOk result (list.new.last ≡ list.old.last) }
+{
+    if !client.is_play() {
+        return Ok(());
+    }
+    let name = client.name()?;
+    list.add(client.uuid(), name)?;
+    Ok(())
+}
+
+/// Lists the players that are in play: of those with one identifier the first.
+pub fn list_all(clients: &Vec<Client>, list: &mut Roster) -> Result<(), NoMemory>
+    requires few { length (playing_of clients.now.items) ≤ 50 }
+    requires empty { list.old.present ≡ finmap.empty }
+    ensures names { OnOk result (list.new.present ≡ finmap.from_entries (names_of clients.now.items)) }
+    ensures last { OnOk result (list.new.last ≡ list.old.last) }
+{
+    for i in 0..clients.len() {
+        list_player(&clients[i], list)?;
+    }
+    Ok(())
+}

@@ -1,0 +1,93 @@
+//! What a client is sent before its first difference.
+#![tactic(auto, unfolding(mc_model::specs::Hearing::frame_of))]
+
+ghost use Rattle.std.specs.Prelude.{◌≡◌, ◌≤◌, ◌<◌, ◌^◌, ◌++◌, false, IfOk, OnOk};
+ghost use lib.IntN.{pos};
+ghost use Rattle.mc_down.specs.declared.down.Down.TheVariants.{JoinGame, SpawnPosition};
+ghost use Rattle.mc_model.specs.Hearing.{of_play, frame_of};
+ghost use Rattle.mc_model.specs.World.{spawn_height};
+ghost use Rattle.mc_model.specs.Step.{level, placing};
+ghost use Rattle.mc_model.specs.Plain.{opening_of};
+ghost use Rattle.mc_flush.specs.Sending.{IsClear, play_bytes};
+ghost use Rattle.mc_flush.specs.Seeing.{IsInRange};
+
+use crate::Settings;
+use bytes::Bytes;
+use mc_down::{Down, write_down};
+use mc_fields::{Cell, Spot, degrees, pattern};
+use mc_frame::write_frame;
+use mc_land::Terrain;
+use mc_model::plain::{level, spawn_height};
+use mc_nbt::NoMemory;
+use std::alloc::Global;
+
+/// Appends the frame of a packet.
+fn put_packet(packet: &Down, out: &mut Vec<u8>) -> Result<(), NoMemory>
+    requires { IsClear packet.now }
+    ensures { OnOk result (out.new.items ≡ out.old.items ++ frame_of (of_play packet.now)) }
+{
+    let mut payload = Vec::new(*out.allocator());
+    write_down(packet, &mut payload)?;
+    write_frame(&payload, out)?;
+    Ok(())
+}
+
+/// Which game a client is in: entity number, game mode, dimension, difficulty, and how many may play.
+fn put_join(settings: &Settings, eid: u32, out: &mut Vec<u8>) -> Result<(), NoMemory>
+    requires few { settings.now.players ≤ 50 }
+    requires eid { eid < 2 ^ 31 }
+    ensures { OnOk result (out.new.items ≡ out.old.items
+        ++ frame_of (of_play (JoinGame (pos eid) 0 (pos 0) 1 settings.now.players (level settings.now.terrain) false))) }
+{
+    let level = level(*out.allocator(), &settings.terrain)?;
+    let most = settings.players as u8;
+    let packet = Down::JoinGame(eid as i32, 0, 0, 1, most, level, false);
+    put_packet(&packet, out)
+}
+
+/// Where players enter.
+fn spawn_packet(terrain: &Terrain) -> Down
+    ensures value { result ≡ SpawnPosition (record { x = pos 8; y = pos (spawn_height terrain.now); z = pos 8 }) }
+    ensures clear { IsClear (SpawnPosition (record { x = pos 8; y = pos (spawn_height terrain.now); z = pos 8 })) }
+{
+    Down::SpawnPosition(Cell {
+        x: 8,
+        y: i32::from(spawn_height(terrain)),
+        z: 8,
+    })
+}
+
+/// A player's own place and look, none of them relative.
+fn placing_packet(place: &Spot) -> Down
+    requires { IsInRange place.now }
+    ensures value { result ≡ placing place.now }
+    ensures clear { IsClear (placing place.now) }
+{
+    Down::PositionLook(
+        pattern(place.x),
+        pattern(place.y),
+        pattern(place.z),
+        degrees(place.yaw),
+        degrees(place.pitch),
+        0,
+    )
+}
+
+/// What a client is sent before its first difference, as one piece.
+pub fn opening(
+    alloc: Global,
+    settings: &Settings,
+    eid: u32,
+    place: &Spot,
+) -> Result<Bytes, NoMemory>
+    requires few { settings.now.players ≤ 50 }
+    requires eid { eid < 2 ^ 31 }
+    requires in_range { IsInRange place.now }
+    ensures { IfOk result (λ piece. piece ≡ play_bytes (opening_of settings.now.terrain settings.now.players (pos eid) place.now)) }
+{
+    let mut bytes = Vec::new(alloc);
+    put_join(settings, eid, &mut bytes)?;
+    put_packet(&spawn_packet(&settings.terrain), &mut bytes)?;
+    put_packet(&placing_packet(place), &mut bytes)?;
+    Ok(Bytes::from_vec(bytes)?)
+}
