@@ -42,7 +42,7 @@ wrote_last (Ok x) held held' faults faults' piece line whole part failed is = le
 wrote_last (Err e) held held' faults faults' piece line whole part failed is = let P : List ℕ → Type 0 = λ t. Grows held held' (take part.0 t) in inr (failed, part.0, subst P is part.1)
 
 -- nothing is behind a text
-grows_two : (held middle held' : Option (List ℕ)) (first second : List ℕ) → Grows held middle first → Grows middle held' second → Grows held held' (first ++ second)
+pub grows_two : (held middle held' : Option (List ℕ)) (first second : List ℕ) → Grows held middle first → Grows middle held' second → Grows held held' (first ++ second)
 grows_two None None None first second a b = tt
 grows_two None None (Some ys) first second a b = absurd b
 grows_two None (Some xs) held' first second a b = absurd a
@@ -136,7 +136,7 @@ known_not : (P Q : List ℕ → Type 0) (left : Option (List ℕ)) → IsKnown l
 known_not P Q None known holds against = known
 known_not P Q (Some input) known holds against = against input known holds
 
-rose_before : (old middle new : ℕ) → Rose old middle → StandsOrRises middle new → Rose old new
+pub rose_before : (old middle new : ℕ) → Rose old middle → StandsOrRises middle new → Rose old new
 rose_before old middle new (inl less) (inl same) = inl (omega (arith, less, same))
 rose_before old middle new (inl less) (inr up) = let most = up.0 in inl (omega (arith, less, most))
 rose_before old middle new (inr end) (inl same) = inr (same ∙ end)
@@ -164,10 +164,10 @@ never_served most C (ended.BadInput other) status bad text left left' held held'
 pub found_not_fine : (most : ℕ) (bad : BadInput) (text : List ℕ) (left left' held held' : Option (List ℕ)) → Found most bad left left' held held' → IsKnown left (IsFineText most text) → ⊥
 found_not_fine most bad text left left' held held' f known = known_not (IsFineText most text) (IsNotFine most) left known f.not_fine (λ input t n. n text t)
 
-six_is_not_one : (bad : BadInput) (result : Ended) (status : ℕ) → status ≡ status_of result → result ≡ ended.BadInput bad → status ≡ 1 → ⊥
+pub six_is_not_one : (bad : BadInput) (result : Ended) (status : ℕ) → status ≡ status_of result → result ≡ ended.BadInput bad → status ≡ 1 → ⊥
 six_is_not_one bad result status is e one = let six : status ≡ 6 = is ∙ ap status_of e in absurd (omega (arith, six, one))
 
-one_is_not_six : (result : Ended) (status : ℕ) → status ≡ status_of result → result ≡ ended.NoMemory → status ≡ 6 → ⊥
+pub one_is_not_six : (result : Ended) (status : ℕ) → status ≡ status_of result → result ≡ ended.NoMemory → status ≡ 6 → ⊥
 one_is_not_six result status is e six = let one : status ≡ 1 = is ∙ ap status_of e in absurd (omega (arith, six, one))
 
 -- the last line was named, or there was no memory for it

@@ -8,3 +8,9 @@ pub mod DigitSteps
 pub mod Scripts
 pub mod WordSteps
 pub mod LongLines
+pub mod Taking
+pub mod Playing
+pub mod ScriptFacts
+pub mod Tellings
+pub mod Settings
+pub mod Replays

@@ -10,3 +10,6 @@ pub mod Run
 pub mod Digits
 pub mod Script
 pub mod ScriptRead
+pub mod ReplayText
+pub mod Replaying
+pub mod ReplayRun

@@ -1,6 +1,6 @@
 -- What a run of the program promises, by the status that it answers. The two counts are those of the failures that the
 -- devices have counted; left and held are what is left to read and what was written, where the devices tell it.
-use Rattle.std.specs.Prelude.{◌≡◌, ℕ, ◌⊎◌, List, [], ◌∷◌, ◌++◌, take, Option, IfSome, Some, None}
+use Rattle.std.specs.Prelude.{◌≡◌, ℕ, ◌⊎◌, List, [], ◌∷◌, ◌++◌, take, Option, IsSome, IfSome, Some, None}
 use Rattle.std.specs.declared.string.String.{String}
 use Rattle.mc_wire.specs.Count.{Rose}
 use Rattle.mc_wire.specs.Stream.{Grows, IsAtEnd}
@@ -17,7 +17,7 @@ IsStatusCommand most words = command_of (bytes_of words) ≡ Some (Status most)
 
 -- the words name a command that is served, with its options
 abbrev pub IsCommand : {Z : Type 0} → List (String Z) → Type 0
-IsCommand words = (most : ℕ) × IsStatusCommand most words
+IsCommand words = IsSome (command_of (bytes_of words))
 
 -- nothing is wrong with an input, and this is its text
 abbrev pub IsFineText : ℕ → List ℕ → List ℕ → Type 0

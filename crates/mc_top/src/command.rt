@@ -2,11 +2,15 @@ ghost use Rattle.std.specs.Prelude.{◌≡◌, ◌⊎◌, List, ℕ};
 ghost use Rattle.mc_wire.specs.Count.{Rose, StandsOrRises};
 ghost use Rattle.mc_wire.specs.Stream.{Grows};
 ghost use Rattle.mc_top.specs.declared.bad_input.BadInput.{BadInput};
+ghost use Rattle.mc_top.specs.declared.script_line.ScriptEvent.{ScriptEvent};
+ghost use Rattle.mc_top.specs.declared.words.Options.{Options};
+ghost use Rattle.mc_top.specs.ReplayRun.{IsReplayCommand, IsScriptOf, IsFaultOf, Replayed, ReplayedPart, ReplayedPartOrNothing, FoundFault, Rejected};
 ghost use Rattle.mc_top.specs.Ended.{usage_line, read_fault_line, bad_input_line};
 ghost use Rattle.mc_top.specs.Run.{IsStatusCommand, IsCommand, IsStatus, IsFineText, IsBadText, IsKnown, Replied, RepliedPart, RepliedPartOrNothing, Found, Refused, WroteLast};
 
 use crate::bad_input::BadInput;
 use crate::ended::Ended;
+use crate::replay::replay;
 use crate::status_text::status_text;
 use crate::words::Command;
 use mc_nbt::NoMemory;
@@ -47,18 +51,27 @@ fn perform<I: Source, O: Sink>(alloc: Global, words: &[String], input: &mut I, o
     ensures command { ¬ (result ≡ Ended.Usage) → IsCommand words.now }
     ensures done { (most : ℕ) → IsStatusCommand most words.now → result ≡ Ended.Done →
         Replied most (I.left input.old) (I.left input.new) (O.held out.old) (O.held out.new) }
-    ensures no_memory { result ≡ Ended.NoMemory → out.new ≡ out.old }
+    ensures no_memory { (most : ℕ) → IsStatusCommand most words.now → result ≡ Ended.NoMemory → out.new ≡ out.old }
     ensures read_fault { result ≡ Ended.ReadFault → Rose (I.faults input.old) (I.faults input.new) × (out.new ≡ out.old) }
     ensures write_fault { result ≡ Ended.WriteFault → Rose (O.faults out.old) (O.faults out.new) }
     ensures write_fault_part { (most : ℕ) → IsStatusCommand most words.now → result ≡ Ended.WriteFault →
         RepliedPart most (I.left input.old) (O.held out.old) (O.held out.new) }
     ensures bad_input { (most : ℕ) (bad : BadInput) → IsStatusCommand most words.now → result ≡ Ended.BadInput bad →
         Found most bad (I.left input.old) (I.left input.new) (O.held out.old) (O.held out.new) }
+    ensures replay_done { (options : Options) → IsReplayCommand options words.now → result ≡ Ended.Done →
+        Replayed options (I.left input.old) (I.left input.new) (O.held out.old) (O.held out.new) }
+    ensures replay_no_memory { (options : Options) → IsReplayCommand options words.now → result ≡ Ended.NoMemory →
+        ReplayedPartOrNothing options (I.left input.old) (O.held out.old) (O.held out.new) }
+    ensures replay_write_fault { (options : Options) → IsReplayCommand options words.now → result ≡ Ended.WriteFault →
+        ReplayedPart options (I.left input.old) (O.held out.old) (O.held out.new) }
+    ensures replay_bad_input { (options : Options) (bad : BadInput) → IsReplayCommand options words.now → result ≡ Ended.BadInput bad →
+        FoundFault bad (I.left input.old) (I.left input.new) × (out.new ≡ out.old) }
     ensures counts { StandsOrRises (O.faults out.old) (O.faults out.new) }
 {
     match Command::read(words) {
         Some(Command::Status(most)) => status(alloc, most, input, out),
-        Some(Command::Replay(_)) | None => Ended::Usage,
+        Some(Command::Replay(options)) => replay(alloc, options, input, out),
+        None => Ended::Usage,
     }
 }
 
@@ -129,6 +142,27 @@ pub fn run<I: Source, O: Sink>(alloc: Global, words: &[String], input: &mut I, o
         (result ≡ 0) ⊎ (result ≡ 1) }
     ensures refused { (most : ℕ) (bad : BadInput) (text : List ℕ) → IsStatusCommand most words.now →
         IsKnown (I.left input.old) (IsBadText most bad text) →
+        ¬ Rose (I.faults input.old) (I.faults input.new) → ¬ Rose (O.faults out.old) (O.faults out.new) →
+        (result ≡ 6) ⊎ (result ≡ 1) }
+
+    // The same for `replay`. 0: the input is a script without fault, its text was written, and all that happened keeps the
+    // whole promise about a run.
+    ensures replay_done { (options : Options) → IsReplayCommand options words.now → result ≡ 0 →
+        Replayed options (I.left input.old) (I.left input.new) (O.held out.old) (O.held out.new) }
+    ensures replay_no_memory { (options : Options) → IsReplayCommand options words.now → result ≡ 1 →
+        ReplayedPartOrNothing options (I.left input.old) (O.held out.old) (O.held out.new) }
+    ensures replay_write_fault { (options : Options) → IsReplayCommand options words.now → result ≡ 4 →
+        ReplayedPart options (I.left input.old) (O.held out.old) (O.held out.new) }
+
+    // 6: only where the input is no script; nothing but the last line was written, which names its first fault.
+    ensures replay_bad_input { (options : Options) → IsReplayCommand options words.now → result ≡ 6 →
+        Rejected (I.left input.old) (I.left input.new) (O.held out.old) (O.held out.new) (O.faults out.old) (O.faults out.new) }
+    ensures replay_served { (options : Options) (events : List ScriptEvent) → IsReplayCommand options words.now →
+        IsKnown (I.left input.old) (IsScriptOf events) →
+        ¬ Rose (I.faults input.old) (I.faults input.new) → ¬ Rose (O.faults out.old) (O.faults out.new) →
+        (result ≡ 0) ⊎ (result ≡ 1) }
+    ensures replay_refused { (options : Options) (bad : BadInput) → IsReplayCommand options words.now →
+        IsKnown (I.left input.old) (IsFaultOf bad) →
         ¬ Rose (I.faults input.old) (I.faults input.new) → ¬ Rose (O.faults out.old) (O.faults out.new) →
         (result ≡ 6) ⊎ (result ≡ 1) }
 {

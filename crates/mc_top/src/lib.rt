@@ -12,6 +12,8 @@ mod ended;
 mod hear;
 mod laws;
 mod lines;
+mod replay;
+mod replay_lines;
 mod reply;
 mod script;
 mod script_line;
@@ -28,6 +30,6 @@ mod words;
 
 pub use bad_input::{BadInput, InputFault};
 pub use command::run;
-pub use laws::{long_line_of_a_script, one_status_text};
+pub use laws::{long_line_of_a_script, one_status_text, ticks_of_a_script};
 pub use script::{Script, ScriptError};
 pub use script_line::ScriptEvent;

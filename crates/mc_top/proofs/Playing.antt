@@ -1,0 +1,157 @@
+-- Playing events one after another.
+use Rattle.std.proofs.Common.{◌≡◌, ℕ, ◌+◌, ◌-◌, ◌<◌, ◌≤◌, ◌⊎◌, inl, inr, List, [], ◌∷◌, ◌++◌, length, get_or, take, drop, refl, sym, subst, ap, ◌∙◌, append_assoc, arith}
+use Rattle.std.specs.Prelude.{Option, Some, None, replicate}
+use Rattle.std.specs.List.{flat_map}
+use Rattle.std.proofs.lemmas.List.{append-nil, take_all, take-append-le, take-append-drop, take-replicate, replicate_more, take_more}
+use Rattle.std.proofs.lemmas.List.Sums.{fold-append}
+use Rattle.std.proofs.lemmas.Grind.{flat_map-append}
+use Rattle.std.proofs.Math.Seq.{take-append-add, take-append_seam}
+use Rattle.mc_land.specs.declared.terrain.Terrain.{Terrain}
+use Rattle.mc_wire.specs.Stream.{Grows}
+use Rattle.mc_model.specs.World.{World, new_world}
+use Rattle.mc_model.specs.Step.{Event, ticked, step}
+use Rattle.mc_model.specs.Run.{history}
+use Rattle.mc_model.proofs.Sessions.{AreApart}
+use Rattle.mc_model.proofs.RunOrder.{orderly_run}
+use Rattle.mc_server.specs.declared.server.Server.{Server}
+use Rattle.mc_server.specs.Stands.{Stands}
+use Rattle.mc_top.specs.declared.script_line.ScriptEvent.{ScriptEvent}
+use Rattle.mc_top.specs.ReplayText.{told, takings, settled, replay_text, line_events, events_of}
+use Rattle.mc_top.specs.Replaying.{IsReached, all_taken, all_sent, all_forgotten, all_shut, HasPlayed, HasStopped, replay_world}
+use Rattle.mc_top.proofs.Inputs.{grows_two}
+use Rattle.mc_top.proofs.Taking.{ids_of, all_settled, all_told}
+
+-- ---- worlds that come about
+
+pub reached_new : (most cap : ℕ) (terrain : Terrain) → IsReached (new_world most cap terrain)
+reached_new most cap terrain = record { most = most; cap = cap; terrain = terrain; events = []; is = refl }
+
+reached_history : (w : World) (events : List Event) → IsReached w → IsReached (history w events)
+reached_history w events r = record {
+  most = r.most;
+  cap = r.cap;
+  terrain = r.terrain;
+  events = r.events ++ events;
+  is = ap (λ (v : World). history v events) r.is ∙ sym (fold-append _ (new_world r.most r.cap r.terrain) r.events events);
+}
+
+pub reached_step : (w : World) (e : Event) → IsReached w → IsReached (step w e).world
+reached_step w e r = reached_history w (e ∷ []) r
+
+pub reached_apart : (w : World) → IsReached w → AreApart w.sessions
+reached_apart w r = let P : World → Type 0 = λ v. AreApart v.sessions in subst P (sym r.is) (orderly_run r.most r.cap r.terrain r.events).apart
+
+pub reached_world : (w : World) (events : List Event) → IsReached w → IsReached (replay_world w events)
+reached_world w [] r = r
+reached_world w (e ∷ events) r = reached_world (settled (step w e).world) events (reached_history (step w e).world (takings (step w e).world) (reached_step w e r))
+
+-- ---- the lines of a world
+
+pub lines_put : (w : World) (server : Server) (ids old half new : List ℕ) → IsReached w → ids ≡ ids_of w.sessions → Stands server (all_forgotten ids (all_taken ids w)) →
+    half ≡ old ++ all_sent ids w → new ≡ half ++ all_shut ids (all_taken ids w) → Stands server (settled w) × (new ≡ old ++ told w)
+lines_put w server ids old half new r is stands sent shut =
+    let apart = reached_apart w r in
+    let P : World → Type 0 = λ v. Stands server v in (
+      subst P (ap (λ (ks : List ℕ). all_forgotten ks (all_taken ks w)) is ∙ all_settled w apart) stands,
+      shut ∙ ap (λ (t : List ℕ). t ++ all_shut ids (all_taken ids w)) sent ∙ append_assoc old (all_sent ids w) (all_shut ids (all_taken ids w))
+          ∙ ap (λ (t : List ℕ). old ++ t) (ap (λ (ks : List ℕ). all_sent ks w ++ all_shut ks (all_taken ks w)) is ∙ all_told w apart),
+    )
+
+-- ---- some events and then others
+
+text_more : (w : World) (xs ys : List Event) → replay_text w (xs ++ ys) ≡ replay_text w xs ++ replay_text (replay_world w xs) ys
+text_more w [] ys = refl
+text_more w (e ∷ xs) ys =
+    ap (λ (t : List ℕ). told (step w e).world ++ t) (text_more (settled (step w e).world) xs ys)
+    ∙ sym (append_assoc (told (step w e).world) (replay_text (settled (step w e).world) xs) (replay_text (replay_world (settled (step w e).world) xs) ys))
+
+world_more : (w : World) (xs ys : List Event) → replay_world w (xs ++ ys) ≡ replay_world (replay_world w xs) ys
+world_more w [] ys = refl
+world_more w (e ∷ xs) ys = world_more (settled (step w e).world) xs ys
+
+pub played_two : (xs ys : List Event) (w : World) (middle server : Server) (held half held' : Option (List ℕ)) →
+    HasPlayed xs w middle held half → HasPlayed ys (replay_world w xs) server half held' → HasPlayed (xs ++ ys) w server held held'
+played_two xs ys w middle server held half held' a b =
+    let P : World → Type 0 = λ v. Stands server v in
+    let Q : List ℕ → Type 0 = λ t. Grows held held' t in
+    record {
+      stands = subst P (sym (world_more w xs ys)) b.stands;
+      wrote = subst Q (sym (text_more w xs ys)) (grows_two held half held' (replay_text w xs) (replay_text (replay_world w xs) ys) a.wrote b.wrote);
+    }
+
+pub stopped_two : (xs ys : List Event) (w : World) (middle : Server) (held half held' : Option (List ℕ)) →
+    HasPlayed xs w middle held half → HasStopped ys (replay_world w xs) half held' → HasStopped (xs ++ ys) w held held'
+stopped_two xs ys w middle held half held' a b =
+    let Q : List ℕ → Type 0 = λ t. Grows held held' t in
+    let more : List ℕ = replay_text (replay_world w xs) ys in
+    record {
+      len = length (replay_text w xs) + b.len;
+      wrote = subst Q (sym (ap (take (length (replay_text w xs) + b.len)) (text_more w xs ys) ∙ take-append-add (replay_text w xs) more b.len))
+          (grows_two held half held' (replay_text w xs) (take b.len more) a.wrote b.wrote);
+    }
+
+-- some first part of a text is one of a longer text
+part_of : (n : ℕ) (text more : List ℕ) → (m : ℕ) × (take m (text ++ more) ≡ take n text)
+part_of n text more = elim (cases_le n (length text)) [
+  | inl within ↦ (n, take-append-le n text more within)
+  | inr past ↦ (length text, take-append_seam text more ∙ sym (take_all n text past))
+]
+  where
+    cases_le : (a b : ℕ) → (a ≤ b) ⊎ (b ≤ a)
+    cases_le a b = grind arith
+
+pub stopped_before : (xs ys : List Event) (w : World) (held held' : Option (List ℕ)) → HasStopped xs w held held' → HasStopped (xs ++ ys) w held held'
+stopped_before xs ys w held held' s =
+    let Q : List ℕ → Type 0 = λ t. Grows held held' t in
+    let part = part_of s.len (replay_text w xs) (replay_text (replay_world w xs) ys) in
+    record { len = part.0; wrote = subst Q (sym (ap (take part.0) (text_more w xs ys) ∙ part.1)) s.wrote }
+
+-- ---- nothing was written
+
+grows_none : (held : Option (List ℕ)) → Grows held held []
+grows_none None = tt
+grows_none (Some xs) = sym (append-nil xs)
+
+pub grows_same : (A : Type 0) (view : A → Option (List ℕ)) (old new : A) → new ≡ old → Grows (view old) (view new) []
+grows_same A view old new is = let P : A → Type 0 = λ a. Grows (view old) (view a) [] in subst P (sym is) (grows_none (view old))
+
+pub played_none : (w : World) (server : Server) (held : Option (List ℕ)) → Stands server w → HasPlayed [] w server held held
+played_none w server held stands = record { stands = stands; wrote = grows_none held }
+
+pub stopped_none : (events : List Event) (w : World) (held : Option (List ℕ)) → HasStopped events w held held
+stopped_none events w held = record { len = 0; wrote = grows_none held }
+
+-- ---- one event
+
+pub played_one : (e : Event) (w : World) (server : Server) (held held' : Option (List ℕ)) (text : List ℕ) →
+    Stands server (settled (step w e).world) → text ≡ told (step w e).world → Grows held held' text → HasPlayed (e ∷ []) w server held held'
+played_one e w server held held' text stands is wrote =
+    let Q : List ℕ → Type 0 = λ t. Grows held held' t in
+    record { stands = stands; wrote = subst Q (is ∙ sym (append-nil (told (step w e).world))) wrote }
+
+pub stopped_one : (e : Event) (w : World) (held held' : Option (List ℕ)) (text : List ℕ) → text ≡ told (step w e).world →
+    (n : ℕ) × Grows held held' (take n text) → HasStopped (e ∷ []) w held held'
+stopped_one e w held held' text is part =
+    let Q : List ℕ → Type 0 = λ t. Grows held held' (take part.0 t) in
+    record { len = part.0; wrote = subst Q (is ∙ sym (append-nil (told (step w e).world))) part.1 }
+
+-- ---- ticks
+
+-- one more of them
+pub ticks_next : (n count : ℕ) → n < count → replicate count ticked ≡ (replicate n ticked ++ ticked ∷ []) ++ drop (n + 1) (replicate count ticked)
+ticks_next n count less =
+    sym (take-append-drop (n + 1) (replicate count ticked))
+    ∙ ap (λ (es : List Event). es ++ drop (n + 1) (replicate count ticked)) (take-replicate (n + 1) count ticked (omega (arith, less)) ∙ sym (replicate_more n ticked))
+
+-- ---- lines
+
+-- one more of them
+pub lines_next : (events : List ScriptEvent) (i : ℕ) (e d : ScriptEvent) → i < length events → e ≡ get_or events i d →
+    events_of (take (i + 1) events) ≡ events_of (take i events) ++ line_events e
+lines_next events i e d within is =
+    ap events_of (take_more events i d within ∙ ap (λ (x : ScriptEvent). take i events ++ x ∷ []) (sym is))
+    ∙ flat_map-append line_events (take i events) (e ∷ [])
+    ∙ ap (λ (es : List Event). events_of (take i events) ++ es) (append-nil (line_events e))
+
+pub lines_before : (events : List ScriptEvent) (i : ℕ) → events_of events ≡ events_of (take i events) ++ events_of (drop i events)
+lines_before events i = ap events_of (sym (take-append-drop i events)) ∙ flat_map-append line_events (take i events) (drop i events)

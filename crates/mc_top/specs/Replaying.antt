@@ -1,0 +1,110 @@
+-- What playing events makes of a server, piece by piece, and what it writes.
+use Rattle.std.specs.Prelude.{◌≡◌, ℕ, ◌+◌, ◌≤◌, Bool, true, false, List, [], ◌∷◌, ◌++◌, length, take, Option, codes, decimal, if◌then◌else◌}
+use Rattle.std.specs.List.{sum_by}
+use Rattle.hex.specs.Hex.{encode_lower}
+use Rattle.mc_land.specs.declared.terrain.Terrain.{Terrain}
+use Rattle.mc_wire.specs.Stream.{Grows}
+use Rattle.mc_model.specs.World.{World, new_world}
+use Rattle.mc_model.specs.Step.{Event, took, forgot, step}
+use Rattle.mc_model.specs.Run.{history}
+use Rattle.mc_server.specs.declared.input.Input.{Input}
+use Rattle.mc_server.specs.declared.input.Input.TheVariants.{Tick}
+use Rattle.mc_server.specs.declared.server.Server.{Server}
+use Rattle.mc_server.specs.Stands.{Stands}
+use Rattle.mc_server.specs.Asking.{owed_in, is_done_in}
+use Rattle.mc_top.specs.declared.script_line.ScriptEvent.{ScriptEvent}
+use Rattle.mc_top.specs.declared.script_line.ScriptEvent.TheVariants.{Ticks}
+use Rattle.mc_top.specs.ReplayText.{settled, told, replay_text}
+
+-- a world that some events make of a new one
+pub record IsReached (w : World) : Type 0 where
+  pub most : ℕ
+  pub cap : ℕ
+  pub terrain : Terrain
+  pub events : List Event
+  pub is : w ≡ history (new_world most cap terrain) events
+
+-- ---- one connection after an event
+
+-- it took all that it was owed
+abbrev pub taken : ℕ → World → World
+taken k w = (step w (took k (length (owed_in k w)))).world
+
+-- its line of bytes, where there are any
+abbrev pub sent_by : ℕ → List ℕ → List ℕ
+sent_by k [] = []
+sent_by k (b ∷ bytes) = codes "sent " ++ decimal k ++ codes " " ++ encode_lower (b ∷ bytes) ++ 10 ∷ []
+
+-- its first bytes were taken and put behind the others, or there were none
+abbrev pub TakesFront : ℕ → World → Server → List ℕ → List ℕ → Bool → Type 0
+TakesFront k w server old new false = (owed_in k w ≡ []) × Stands server w × (new ≡ old)
+TakesFront k w server old new true =
+    (n : ℕ) × (n ≤ length (owed_in k w)) × Stands server (step w (took k n)).world × (new ≡ old ++ encode_lower (take n (owed_in k w)))
+
+-- it was forgotten, where it was closed and owed nothing
+abbrev pub forgotten : ℕ → World → World
+forgotten k w = if is_done_in k w then (step w (forgot k)).world else w
+
+-- the line of one that is closed
+abbrev pub shut_by : ℕ → Bool → List ℕ
+shut_by k false = []
+shut_by k true = codes "shut " ++ decimal k ++ 10 ∷ []
+
+-- ---- some connections, one after another
+
+-- what changes make of a world, one for each connection
+abbrev pub each : (ℕ → World → World) → List ℕ → World → World
+each change [] w = w
+each change (k ∷ ks) w = each change ks (change k w)
+
+-- and what is written at each
+abbrev pub each_line : (ℕ → World → World) → (ℕ → World → List ℕ) → List ℕ → World → List ℕ
+each_line change line [] w = []
+each_line change line (k ∷ ks) w = line k w ++ each_line change line ks (change k w)
+
+abbrev pub sent_in : ℕ → World → List ℕ
+sent_in k w = sent_by k (owed_in k w)
+
+abbrev pub shut_in : ℕ → World → List ℕ
+shut_in k w = shut_by k (is_done_in k w)
+
+abbrev pub all_taken : List ℕ → World → World
+all_taken ks w = each taken ks w
+
+abbrev pub all_sent : List ℕ → World → List ℕ
+all_sent ks w = each_line taken sent_in ks w
+
+abbrev pub all_forgotten : List ℕ → World → World
+all_forgotten ks w = each forgotten ks w
+
+abbrev pub all_shut : List ℕ → World → List ℕ
+all_shut ks w = each_line forgotten shut_in ks w
+
+-- ---- events
+
+-- the world after events, when all was taken
+abbrev pub replay_world : World → List Event → World
+replay_world w [] = w
+replay_world w (e ∷ events) = replay_world (settled (step w e).world) events
+
+-- the server stands for the world after events, and their text was written
+pub record HasPlayed (events : List Event) (w : World) (server : Server) (held held' : Option (List ℕ)) : Type 0 where
+  pub stands : Stands server (replay_world w events)
+  pub wrote : Grows held held' (replay_text w events)
+
+-- some first part of the text of events was written
+pub record HasStopped (events : List Event) (w : World) (held held' : Option (List ℕ)) : Type 0 where
+  pub len : ℕ
+  pub wrote : Grows held held' (take len (replay_text w events))
+
+-- how many ticks an input is, a line says, and all lines say
+abbrev pub input_ticks : Input → ℕ
+input_ticks Tick = 1
+input_ticks other = 0
+
+abbrev pub line_ticks : ScriptEvent → ℕ
+line_ticks (Ticks n) = n
+line_ticks other = 0
+
+abbrev pub ticks_of : List ScriptEvent → ℕ
+ticks_of events = sum_by line_ticks events

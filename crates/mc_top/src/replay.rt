@@ -1,0 +1,232 @@
+ghost use Rattle.std.specs.Prelude.{◌≡◌, ◌+◌, ◌≤◌, [], ◌∷◌, IfOk, OnOk, OnErr, IsErrOf, replicate};
+ghost use Rattle.mc_wire.specs.Count.{Rose, StandsOrRises};
+ghost use Rattle.mc_wire.specs.Stream.{Grows};
+ghost use Rattle.mc_model.specs.World.{World, AreSettings};
+ghost use Rattle.mc_model.specs.Step.{ticked};
+ghost use Rattle.mc_server.specs.Stands.{Stands, age_of};
+ghost use Rattle.mc_server.specs.Inputs.{event_of};
+ghost use Rattle.mc_top.specs.declared.bad_input.BadInput.{BadInput};
+ghost use Rattle.mc_top.specs.ReplayText.{line_events, events_of, replay_text};
+ghost use Rattle.mc_top.specs.Replaying.{IsReached, HasPlayed, HasStopped, line_ticks, ticks_of, input_ticks};
+ghost use Rattle.mc_top.specs.ReplayRun.{world_of, Replayed, ReplayedPart, ReplayedPartOrNothing, FoundFault};
+
+use crate::ended::Ended;
+use crate::replay_lines::put_lines;
+use crate::script::{Script, ScriptError};
+use crate::script_line::ScriptEvent;
+use crate::words::Options;
+use mc_nbt::NoMemory;
+use mc_server::{Input, Server, Settings};
+use mc_wire::{Failed, InputError, Sink, Source, read_all, write_all};
+use std::alloc::Global;
+
+/// Why a script was not played to its end.
+#[derive(Clone, Copy, Debug, PartialEq, Eq)]
+pub enum Unplayed {
+    /// The output failed.
+    Failed,
+    /// There was no memory.
+    NoMemory,
+}
+
+impl From<Failed> for Unplayed {
+    ghost use Rattle.mc_top.specs.declared.replay.Unplayed.TheVariants as unplayed;
+
+    ghost from_gives = { λ _ error. error ≡ unplayed.Failed };
+
+    fn from(_failure: Failed) -> Unplayed {
+        Unplayed::Failed
+    }
+}
+
+impl From<NoMemory> for Unplayed {
+    ghost use Rattle.mc_top.specs.declared.replay.Unplayed.TheVariants as unplayed;
+
+    ghost from_gives = { λ _ error. error ≡ unplayed.NoMemory };
+
+    fn from(_refusal: NoMemory) -> Unplayed {
+        Unplayed::NoMemory
+    }
+}
+
+/// A server of a new world.
+fn new_server(alloc: Global, options: Options) -> Result<Server, NoMemory>
+    requires { AreSettings options.players options.view }
+    ensures stands { IfOk result (λ server. Stands server (world_of options)) }
+    ensures age { IfOk result (λ server. age_of server ≡ 0) }
+{
+    let server = Server::new(
+        alloc,
+        Settings {
+            players: options.players,
+            cap: options.view as u8,
+            terrain: options.terrain,
+        },
+    )?;
+    let age = server.age();
+    prove!(age == 0);
+    Ok(server)
+}
+
+/// Plays one event, and writes its lines. `lines` is room for them.
+fn play<O: Sink>(
+    alloc: Global,
+    server: &mut Server,
+    input: Input<'_>,
+    lines: &mut Vec<u8>,
+    out: &mut O,
+) -> Result<(), Unplayed>
+    requires young { age_of server.old + input_ticks input ≤ 1000000000 }
+    ensures played { (w : World) → Stands server.old w → IsReached w → OnOk result
+        (HasPlayed (event_of input.entry ∷ []) w server.new (O.held out.old) (O.held out.new)) }
+    ensures stopped { (w : World) → Stands server.old w → IsReached w → OnErr result
+        (HasStopped (event_of input.entry ∷ []) w (O.held out.old) (O.held out.new)) }
+    ensures age { OnOk result (age_of server.new ≡ age_of server.old + input_ticks input.entry) }
+    ensures failed { IsErrOf result Unplayed.Failed → Rose (O.faults out.old) (O.faults out.new) }
+    ensures counts { StandsOrRises (O.faults out.old) (O.faults out.new) }
+{
+    lines.clear();
+    server.event(input)?;
+    put_lines(alloc, server, lines)?;
+    write_all(out, lines)?;
+    Ok(())
+}
+
+/// Plays so many ticks.
+fn play_ticks<O: Sink>(
+    alloc: Global,
+    server: &mut Server,
+    count: u32,
+    lines: &mut Vec<u8>,
+    out: &mut O,
+) -> Result<(), Unplayed>
+    requires young { age_of server.old + count ≤ 1000000000 }
+    ensures played { (w : World) → Stands server.old w → IsReached w → OnOk result
+        (HasPlayed (replicate count ticked) w server.new (O.held out.old) (O.held out.new)) }
+    ensures stopped { (w : World) → Stands server.old w → IsReached w → OnErr result
+        (HasStopped (replicate count ticked) w (O.held out.old) (O.held out.new)) }
+    ensures age { OnOk result (age_of server.new ≡ age_of server.old + count) }
+    ensures failed { IsErrOf result Unplayed.Failed → Rose (O.faults out.old) (O.faults out.new) }
+    ensures counts { StandsOrRises (O.faults out.old) (O.faults out.new) }
+{
+    for _tick in 0..count {
+        play(alloc, server, Input::Tick, lines, out)?;
+    }
+    Ok(())
+}
+
+/// Plays what a line of a script says.
+fn play_line<O: Sink>(
+    alloc: Global,
+    server: &mut Server,
+    event: &ScriptEvent,
+    lines: &mut Vec<u8>,
+    out: &mut O,
+) -> Result<(), Unplayed>
+    requires young { age_of server.old + line_ticks event.now ≤ 1000000000 }
+    ensures played { (w : World) → Stands server.old w → IsReached w → OnOk result
+        (HasPlayed (line_events event.now) w server.new (O.held out.old) (O.held out.new)) }
+    ensures stopped { (w : World) → Stands server.old w → IsReached w → OnErr result
+        (HasStopped (line_events event.now) w (O.held out.old) (O.held out.new)) }
+    ensures age { OnOk result (age_of server.new ≡ age_of server.old + line_ticks event.now) }
+    ensures failed { IsErrOf result Unplayed.Failed → Rose (O.faults out.old) (O.faults out.new) }
+    ensures counts { StandsOrRises (O.faults out.old) (O.faults out.new) }
+{
+    match event {
+        ScriptEvent::Joined(connection) => {
+            play(alloc, server, Input::Join(*connection), lines, out)
+        }
+        ScriptEvent::Came(connection, bytes) => play(
+            alloc,
+            server,
+            Input::Bytes(*connection, bytes.as_slice()),
+            lines,
+            out,
+        ),
+        ScriptEvent::Gone(connection) => {
+            play(alloc, server, Input::Gone(*connection), lines, out)
+        }
+        ScriptEvent::Ticks(count) => play_ticks(alloc, server, *count, lines, out),
+    }
+}
+
+/// Plays a script.
+fn play_all<O: Sink>(
+    alloc: Global,
+    server: &mut Server,
+    events: &[ScriptEvent],
+    out: &mut O,
+) -> Result<(), Unplayed>
+    requires young { age_of server.old + ticks_of events.now ≤ 1000000000 }
+    ensures played { (w : World) → Stands server.old w → IsReached w → OnOk result
+        (HasPlayed (events_of events.now) w server.new (O.held out.old) (O.held out.new)) }
+    ensures stopped { (w : World) → Stands server.old w → IsReached w → OnErr result
+        (HasStopped (events_of events.now) w (O.held out.old) (O.held out.new)) }
+    ensures failed { IsErrOf result Unplayed.Failed → Rose (O.faults out.old) (O.faults out.new) }
+    ensures counts { StandsOrRises (O.faults out.old) (O.faults out.new) }
+{
+    let mut lines = Vec::new(alloc);
+    for event in events {
+        play_line(alloc, server, event, &mut lines, out)?;
+    }
+    Ok(())
+}
+
+/// Plays a script on a server of a new world.
+fn play_script<O: Sink>(
+    alloc: Global,
+    options: Options,
+    script: &Script,
+    out: &mut O,
+) -> Result<(), Unplayed>
+    requires settings { AreSettings options.players options.view }
+    requires young { ticks_of script.now.events.items ≤ 1000000000 }
+    ensures played { OnOk result (Grows (O.held out.old) (O.held out.new)
+        (replay_text (world_of options) (events_of script.now.events.items))) }
+    ensures stopped { OnErr result
+        (HasStopped (events_of script.now.events.items) (world_of options) (O.held out.old) (O.held out.new)) }
+    ensures failed { IsErrOf result Unplayed.Failed → Rose (O.faults out.old) (O.faults out.new) }
+    ensures counts { StandsOrRises (O.faults out.old) (O.faults out.new) }
+{
+    let mut server = new_server(alloc, options)?;
+    play_all(alloc, &mut server, &script.events, out)?;
+    Ok(())
+}
+
+/// The command `replay`: it reads a script, plays it on a server of a new world, and writes after each
+/// event what each connection is owed.
+pub fn replay<I: Source, O: Sink>(
+    alloc: Global,
+    options: Options,
+    input: &mut I,
+    out: &mut O,
+) -> Ended
+    requires { AreSettings options.players options.view }
+    ensures done { result ≡ Ended.Done →
+        Replayed options (I.left input.old) (I.left input.new) (O.held out.old) (O.held out.new) }
+    ensures no_memory { result ≡ Ended.NoMemory →
+        ReplayedPartOrNothing options (I.left input.old) (O.held out.old) (O.held out.new) }
+    ensures never_usage { ¬ (result ≡ Ended.Usage) }
+    ensures read_fault { result ≡ Ended.ReadFault → Rose (I.faults input.old) (I.faults input.new) × (out.new ≡ out.old) }
+    ensures write_fault { result ≡ Ended.WriteFault → Rose (O.faults out.old) (O.faults out.new)
+        × ReplayedPart options (I.left input.old) (O.held out.old) (O.held out.new) }
+    ensures bad_input { (bad : BadInput) → result ≡ Ended.BadInput bad →
+        FoundFault bad (I.left input.old) (I.left input.new) × (out.new ≡ out.old) }
+    ensures counts { StandsOrRises (O.faults out.old) (O.faults out.new) }
+{
+    let text = match read_all(alloc, input) {
+        Ok(text) => text,
+        Err(InputError::Failed) => return Ended::ReadFault,
+        Err(InputError::NoMemory) => return Ended::NoMemory,
+    };
+    let script = match Script::read(alloc, &text) {
+        Ok(script) => script,
+        Err(ScriptError::Bad(bad)) => return Ended::BadInput(bad),
+        Err(ScriptError::NoMemory) => return Ended::NoMemory,
+    };
+    match play_script(alloc, options, &script, out) {
+        Ok(()) => Ended::Done,
+        Err(Unplayed::Failed) => Ended::WriteFault,
+        Err(Unplayed::NoMemory) => Ended::NoMemory,
+    }
+}
