@@ -1,11 +1,11 @@
 -- Playing events one after another.
-use Rattle.std.proofs.Common.{◌≡◌, ℕ, ◌+◌, ◌-◌, ◌<◌, ◌≤◌, ◌⊎◌, inl, inr, List, [], ◌∷◌, ◌++◌, length, get_or, take, drop, refl, sym, subst, ap, ◌∙◌, append_assoc, arith}
+use Rattle.std.proofs.Common.{◌≡◌, ℕ, suc, ◌+◌, ◌-◌, ◌<◌, ◌≤◌, ◌⊎◌, inl, inr, List, [], ◌∷◌, ◌++◌, length, get_or, take, drop, refl, sym, subst, ap, ◌∙◌, append_assoc, arith}
 use Rattle.std.specs.Prelude.{Option, Some, None, replicate}
 use Rattle.std.specs.List.{flat_map}
 use Rattle.std.proofs.lemmas.List.{append-nil, take_all, take-append-le, take-append-drop, take-replicate, replicate_more, take_more}
-use Rattle.std.proofs.lemmas.List.Sums.{fold-append}
+use Rattle.std.proofs.lemmas.List.Sums.{fold-append, sum_by-cons}
 use Rattle.std.proofs.lemmas.Grind.{flat_map-append}
-use Rattle.std.proofs.Math.Seq.{take-append-add, take-append_seam}
+use Rattle.std.proofs.Math.Seq.{take-append-add, take-append_seam, drop-cons}
 use Rattle.mc_land.specs.declared.terrain.Terrain.{Terrain}
 use Rattle.mc_wire.specs.Stream.{Grows}
 use Rattle.mc_model.specs.World.{World, new_world}
@@ -17,7 +17,7 @@ use Rattle.mc_server.specs.declared.server.Server.{Server}
 use Rattle.mc_server.specs.Stands.{Stands}
 use Rattle.mc_top.specs.declared.script_line.ScriptEvent.{ScriptEvent}
 use Rattle.mc_top.specs.ReplayText.{told, takings, settled, replay_text, line_events, events_of}
-use Rattle.mc_top.specs.Replaying.{IsReached, all_taken, all_sent, all_forgotten, all_shut, HasPlayed, HasStopped, replay_world}
+use Rattle.mc_top.specs.Replaying.{IsReached, all_taken, all_sent, all_forgotten, all_shut, HasPlayed, HasStopped, replay_world, line_ticks, ticks_of}
 use Rattle.mc_top.proofs.Inputs.{grows_two}
 use Rattle.mc_top.proofs.Taking.{ids_of, all_settled, all_told}
 
@@ -138,20 +138,60 @@ stopped_one e w held held' text is part =
 -- ---- ticks
 
 -- one more of them
-pub ticks_next : (n count : ℕ) → n < count → replicate count ticked ≡ (replicate n ticked ++ ticked ∷ []) ++ drop (n + 1) (replicate count ticked)
+ticks_next : (n count : ℕ) → n < count → replicate count ticked ≡ (replicate n ticked ++ ticked ∷ []) ++ drop (n + 1) (replicate count ticked)
 ticks_next n count less =
     sym (take-append-drop (n + 1) (replicate count ticked))
     ∙ ap (λ (es : List Event). es ++ drop (n + 1) (replicate count ticked)) (take-replicate (n + 1) count ticked (omega (arith, less)) ∙ sym (replicate_more n ticked))
 
+pub ticks_played : (n : ℕ) (w : World) (middle server : Server) (held half held' : Option (List ℕ)) → HasPlayed (replicate n ticked) w middle held half →
+    HasPlayed (ticked ∷ []) (replay_world w (replicate n ticked)) server half held' → HasPlayed (replicate (n + 1) ticked) w server held held'
+ticks_played n w middle server held half held' a b =
+    let P : List Event → Type 0 = λ es. HasPlayed es w server held held' in
+    subst P (replicate_more n ticked) (played_two (replicate n ticked) (ticked ∷ []) w middle server held half held' a b)
+
+pub ticks_stopped : (n count : ℕ) (w : World) (middle : Server) (held half held' : Option (List ℕ)) → n < count → HasPlayed (replicate n ticked) w middle held half →
+    HasStopped (ticked ∷ []) (replay_world w (replicate n ticked)) half held' → HasStopped (replicate count ticked) w held held'
+ticks_stopped n count w middle held half held' less a b =
+    let P : List Event → Type 0 = λ es. HasStopped es w held held' in
+    subst P (sym (ticks_next n count less))
+    (stopped_before (replicate n ticked ++ ticked ∷ []) (drop (n + 1) (replicate count ticked)) w held held' (stopped_two (replicate n ticked) (ticked ∷ []) w middle held half held' a b))
+
 -- ---- lines
 
 -- one more of them
-pub lines_next : (events : List ScriptEvent) (i : ℕ) (e d : ScriptEvent) → i < length events → e ≡ get_or events i d →
-    events_of (take (i + 1) events) ≡ events_of (take i events) ++ line_events e
-lines_next events i e d within is =
-    ap events_of (take_more events i d within ∙ ap (λ (x : ScriptEvent). take i events ++ x ∷ []) (sym is))
+lines_next : (events : List ScriptEvent) (i : ℕ) (e : ScriptEvent) → i < length events → e ≡ get_or events i e → events_of (take (i + 1) events) ≡ events_of (take i events) ++ line_events e
+lines_next events i e within is =
+    ap events_of (take_more events i e within ∙ ap (λ (x : ScriptEvent). take i events ++ x ∷ []) (sym is))
     ∙ flat_map-append line_events (take i events) (e ∷ [])
     ∙ ap (λ (es : List Event). events_of (take i events) ++ es) (append-nil (line_events e))
 
-pub lines_before : (events : List ScriptEvent) (i : ℕ) → events_of events ≡ events_of (take i events) ++ events_of (drop i events)
+lines_before : (events : List ScriptEvent) (i : ℕ) → events_of events ≡ events_of (take i events) ++ events_of (drop i events)
 lines_before events i = ap events_of (sym (take-append-drop i events)) ∙ flat_map-append line_events (take i events) (drop i events)
+
+pub lines_played : (events : List ScriptEvent) (i : ℕ) (e : ScriptEvent) (w : World) (middle server : Server) (held half held' : Option (List ℕ)) → i < length events → e ≡ get_or events i e →
+    HasPlayed (events_of (take i events)) w middle held half → HasPlayed (line_events e) (replay_world w (events_of (take i events))) server half held' →
+    HasPlayed (events_of (take (i + 1) events)) w server held held'
+lines_played events i e w middle server held half held' within is a b =
+    let P : List Event → Type 0 = λ es. HasPlayed es w server held held' in
+    subst P (sym (lines_next events i e within is)) (played_two (events_of (take i events)) (line_events e) w middle server held half held' a b)
+
+pub lines_stopped : (events : List ScriptEvent) (i : ℕ) (e : ScriptEvent) (w : World) (middle : Server) (held half held' : Option (List ℕ)) → i < length events → e ≡ get_or events i e →
+    HasPlayed (events_of (take i events)) w middle held half → HasStopped (line_events e) (replay_world w (events_of (take i events))) half held' →
+    HasStopped (events_of events) w held held'
+lines_stopped events i e w middle held half held' within is a b =
+    let P : List Event → Type 0 = λ es. HasStopped es w held held' in
+    let first : HasStopped (events_of (take (i + 1) events)) w held held' =
+        subst P (sym (lines_next events i e within is)) (stopped_two (events_of (take i events)) (line_events e) w middle held half held' a b) in
+    subst P (sym (lines_before events (i + 1))) (stopped_before (events_of (take (i + 1) events)) (events_of (drop (i + 1) events)) w held held' first)
+
+pub lines_done : (events : List ScriptEvent) (i : ℕ) (w : World) (server : Server) (held held' : Option (List ℕ)) → length events ≤ i →
+    HasPlayed (events_of (take i events)) w server held held' → HasPlayed (events_of events) w server held held'
+lines_done events i w server held held' all a =
+    let P : List ScriptEvent → Type 0 = λ es. HasPlayed (events_of es) w server held held' in
+    subst P (take_all i events all) a
+
+-- the ticks that are left, by the next line
+pub ticks_left : (events : List ScriptEvent) (i : ℕ) (e : ScriptEvent) → i < length events → e ≡ get_or events i e → ticks_of (drop i events) ≡ line_ticks e + ticks_of (drop (i + 1) events)
+ticks_left events i e within is =
+    let one : suc i ≡ i + 1 = omega arith in
+    ap ticks_of (drop-cons events i e within ∙ ap (λ (x : ScriptEvent). x ∷ drop (suc i) events) (sym is) ∙ ap (λ (j : ℕ). e ∷ drop j events) one) ∙ sum_by-cons line_ticks e (drop (i + 1) events)

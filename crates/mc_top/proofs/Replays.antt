@@ -50,7 +50,7 @@ found_fault bad left left' bytes all end is = record { first = of_whole (IsFault
 -- ---- words name one command
 
 pub some_command : (o : Option Command) (command : Command) → o ≡ Some command → IsSome o
-some_command o command is = let P : Option Command → Type 0 = λ t. IsSome t in subst P (sym is) tt
+some_command o command is = let P : Option Command → Type 0 = λ t. IsSome t in subst P (sym is) refl
 
 pub status_not_replay : (o : Option Command) (most : ℕ) (options : Options) → o ≡ Some (Status most) → o ≡ Some (Replay options) → ⊥
 status_not_replay o most options is also = cc

@@ -1,5 +1,4 @@
-use Rattle.std.proofs.Common.{rules}
 use Rattle.mc_top.proofs.replay.new_server.Goals as goal
 
 pub prove-unreachable-requires : goal.prove-unreachable-requires
-prove-unreachable-requires c = let a = c.age.ensures.world in let n = c.in_ok-server.ensures in let t = c.if-prove.true in ?
+prove-unreachable-requires c = c.if-prove.true (c.age-age.ensures.world _ c.in_ok-server.ensures)
