@@ -1,7 +1,6 @@
 -- Playing events one after another.
-use Rattle.std.proofs.Common.{◌≡◌, ℕ, suc, ◌+◌, ◌-◌, ◌<◌, ◌≤◌, ◌⊎◌, inl, inr, List, [], ◌∷◌, ◌++◌, length, get_or, take, drop, refl, sym, subst, ap, ◌∙◌, append_assoc, arith}
+use Rattle.std.proofs.Common.{◌≡◌, ℕ, suc, ◌+◌, ◌<◌, ◌≤◌, ◌⊎◌, inl, inr, List, [], ◌∷◌, ◌++◌, length, get_or, take, drop, refl, sym, subst, ap, ◌∙◌, append_assoc, arith}
 use Rattle.std.specs.Prelude.{Option, Some, None, replicate}
-use Rattle.std.specs.List.{flat_map}
 use Rattle.std.proofs.lemmas.List.{append-nil, take_all, take-append-le, take-append-drop, take-replicate, replicate_more, take_more}
 use Rattle.std.proofs.lemmas.List.Sums.{fold-append, sum_by-cons}
 use Rattle.std.proofs.lemmas.Grind.{flat_map-append}
@@ -181,7 +180,7 @@ pub lines_stopped : (events : List ScriptEvent) (i : ℕ) (e : ScriptEvent) (w :
 lines_stopped events i e w middle held half held' within is a b =
     let P : List Event → Type 0 = λ es. HasStopped es w held held' in
     let first : HasStopped (events_of (take (i + 1) events)) w held held' =
-        subst P (sym (lines_next events i e within is)) (stopped_two (events_of (take i events)) (line_events e) w middle held half held' a b) in
+    subst P (sym (lines_next events i e within is)) (stopped_two (events_of (take i events)) (line_events e) w middle held half held' a b) in
     subst P (sym (lines_before events (i + 1))) (stopped_before (events_of (take (i + 1) events)) (events_of (drop (i + 1) events)) w held held' first)
 
 pub lines_done : (events : List ScriptEvent) (i : ℕ) (w : World) (server : Server) (held held' : Option (List ℕ)) → length events ≤ i →

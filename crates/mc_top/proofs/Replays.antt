@@ -1,10 +1,9 @@
 -- What is known of a script that was read whole, and of the status of its replay.
-use Rattle.std.proofs.Common.{◌≡◌, ℕ, ◌⊎◌, inl, inr, List, [], ◌++◌, length, take, Option, Some, None, Result, Ok, Err, sym, subst, ap, ◌∙◌, refl, arith}
+use Rattle.std.proofs.Common.{◌≡◌, ℕ, ◌⊎◌, inl, inr, List, Option, Some, None, Ok, Err, sym, subst, ◌∙◌, refl}
 use Rattle.std.specs.Prelude.{IfSome, IsSome}
 use Rattle.mc_wire.specs.Count.{Rose, StandsOrRises}
 use Rattle.mc_wire.specs.Stream.{Grows, Consumes, IsAtEnd}
 use Rattle.mc_model.specs.World.{AreSettings}
-use Rattle.mc_model.specs.Headline.{Headline}
 use Rattle.mc_model.proofs.Whole.{headline}
 use Rattle.mc_top.specs.declared.bad_input.BadInput.{BadInput}
 use Rattle.mc_top.specs.declared.ended.Ended.{Ended}
@@ -19,7 +18,7 @@ use Rattle.mc_top.specs.Script.{script_of}
 use Rattle.mc_top.specs.ReplayText.{events_of, replay_text, replay_log}
 use Rattle.mc_top.specs.Replaying.{HasStopped}
 use Rattle.mc_top.specs.ReplayRun.{world_of, IsScriptOf, IsFaultOf, Replayed, ReplayedPart, ReplayedPartOrNothing, FoundFault, Rejected}
-use Rattle.mc_top.proofs.Inputs.{of_whole, grows_two, rose_before, six_is_not_one, one_is_not_six}
+use Rattle.mc_top.proofs.Inputs.{of_whole, rose_before, six_is_not_one, one_is_not_six}
 use Rattle.mc_top.proofs.Playing.{grows_same}
 use Rattle.mc_top.proofs.ScriptFacts.{script_bytes}
 

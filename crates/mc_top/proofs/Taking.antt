@@ -1,8 +1,8 @@
 -- What taking and forgetting make of a world, connection by connection.
-use Rattle.std.proofs.Common.{◌≡◌, ℕ, ◌+◌, ◌-◌, ◌<◌, ◌≤◌, Bool, true, false, cond, List, [], ◌∷◌, ◌++◌, length, take, drop, map, refl, sym, subst, ap, ◌∙◌, append_assoc, arith, length-drop}
+use Rattle.std.proofs.Common.{◌≡◌, ℕ, ◌+◌, ◌-◌, ◌≤◌, Bool, true, false, cond, List, [], ◌∷◌, ◌++◌, length, take, drop, map, refl, sym, ap, ◌∙◌, append_assoc, arith, length-drop}
 use Rattle.std.specs.Prelude.{◌==◌, ◌&&◌, ◌/◌, ◌%◌, not, nat_lt, slice_index, Option, Some, None, option_map}
 use Rattle.std.specs.List.{filter, flat_map}
-use Rattle.std.proofs.lemmas.List.{append-nil, drop_all, drop-drop, map-append, take-append-drop}
+use Rattle.std.proofs.lemmas.List.{drop_all, drop-drop, map-append, take-append-drop}
 use Rattle.std.proofs.lemmas.Bool.{eq-eqb, lt-ltb}
 use Rattle.std.proofs.lemmas.List.Sums.{fold-append}
 use Rattle.std.proofs.Math.Bool.{and-true}
@@ -140,10 +140,10 @@ changed_mid : (w : World) (pre rest : List Session) (s : Session) (f : Session �
 changed_mid w pre rest s f none none' =
     let g : Session → Session = λ t. cond (t.id == s.id) (f t) t in
     ap (with_sessions w) (
-        map-append g pre (s ∷ rest)
-        ∙ ap (λ (ts : List Session). ts ++ (g s ∷ map g rest)) (map_past s.id f pre none)
-        ∙ ap (λ (b : Bool). pre ++ (cond b (f s) s ∷ map g rest)) (same_number s.id)
-        ∙ ap (λ (ts : List Session). pre ++ (f s ∷ ts)) (map_past s.id f rest none')
+    map-append g pre (s ∷ rest)
+    ∙ ap (λ (ts : List Session). ts ++ (g s ∷ map g rest)) (map_past s.id f pre none)
+    ∙ ap (λ (b : Bool). pre ++ (cond b (f s) s ∷ map g rest)) (same_number s.id)
+    ∙ ap (λ (ts : List Session). pre ++ (f s ∷ ts)) (map_past s.id f rest none')
     )
 
 taken_mid : (w : World) (pre rest : List Session) (s : Session) → found s.id pre ≡ None → found s.id rest ≡ None →
@@ -160,9 +160,9 @@ filter_past : (k : ℕ) (p : Session → Bool) (ss : List Session) → found k s
 filter_past k p [] none = refl
 filter_past k p (s ∷ ss) none = elim (s.id == k) as (λ b. cond b (Some s) (found k ss) ≡ None →
     cond (not (b && p s)) (s ∷ filter (λ (s : Session). not (s.id == k && p s)) ss) (filter (λ (s : Session). not (s.id == k && p s)) ss) ≡ s ∷ ss) [
-  | true ↦ λ here. absurd (some_none s (Some s) refl here)
-  | false ↦ λ later. ap (λ (ts : List Session). s ∷ ts) (filter_past k p ss later)
-] none
+      | true ↦ λ here. absurd (some_none s (Some s) refl here)
+      | false ↦ λ later. ap (λ (ts : List Session). s ∷ ts) (filter_past k p ss later)
+    ] none
 
 filter_append : (p : Session → Bool) (xs ys : List Session) → filter p (xs ++ ys) ≡ filter p xs ++ filter p ys
 filter_append p [] ys = refl
@@ -182,10 +182,10 @@ forgot_mid w pre rest s none none' done =
     let p : Session → Bool = λ t. not (t.id == s.id && is_done t) in
     let gone : p s ≡ false = ap (λ (b : Bool). not (b && is_done s)) (same_number s.id) ∙ ap (λ (b : Bool). not b) done in
     step_forgot (with_sessions w (pre ++ s ∷ rest)) s.id ∙ ap (with_sessions w) (
-        filter_append p pre (s ∷ rest)
-        ∙ ap (λ (ts : List Session). ts ++ filter p (s ∷ rest)) (filter_past s.id is_done pre none)
-        ∙ ap (λ (b : Bool). pre ++ cond b (s ∷ filter p rest) (filter p rest)) gone
-        ∙ ap (λ (ts : List Session). pre ++ ts) (filter_past s.id is_done rest none')
+    filter_append p pre (s ∷ rest)
+    ∙ ap (λ (ts : List Session). ts ++ filter p (s ∷ rest)) (filter_past s.id is_done pre none)
+    ∙ ap (λ (b : Bool). pre ++ cond b (s ∷ filter p rest) (filter p rest)) gone
+    ∙ ap (λ (ts : List Session). pre ++ ts) (filter_past s.id is_done rest none')
     )
 
 done_mid : (w : World) (pre rest : List Session) (s : Session) → found s.id pre ≡ None → is_done_in s.id (with_sessions w (pre ++ s ∷ rest)) ≡ is_done s
@@ -226,8 +226,8 @@ sends_all w pre [] new apart = refl
 sends_all w pre (s ∷ rest) new apart =
     ap (λ (o : List ℕ). sent_by s.id o ++ all_sent (ids_of rest) (taken s.id (with_sessions w (pre ++ s ∷ rest)))) (owed_mid w pre rest s new.0)
     ∙ ap (λ (t : List ℕ). sent_by s.id s.owed ++ t) (
-        ap (all_sent (ids_of rest)) (taken_next w pre rest s new.0 apart.0)
-        ∙ sends_all w (pre ++ emptied s ∷ []) rest (new_more pre rest (emptied s) new.1 apart.0) apart.1
+    ap (all_sent (ids_of rest)) (taken_next w pre rest s new.0 apart.0)
+    ∙ sends_all w (pre ++ emptied s ∷ []) rest (new_more pre rest (emptied s) new.1 apart.0) apart.1
     )
     ∙ sent_first s (filter owes rest)
 
@@ -257,12 +257,12 @@ forgets_all : (w : World) (pre rest : List Session) → AreNew pre rest → AreA
 forgets_all w pre [] new apart = refl
 forgets_all w pre (s ∷ rest) new apart = elim (is_closed s.stage) as (λ b. is_closed s.stage ≡ b →
     all_forgotten (ids_of rest) (forgotten s.id (with_sessions w (pre ++ emptied s ∷ map emptied rest))) ≡ with_sessions w (pre ++ map emptied (cond (not b) (s ∷ filter is_open rest) (filter is_open rest)))) [
-  | true ↦ λ closed. ap (all_forgotten (ids_of rest)) (forgotten_shut w pre rest s new.0 apart.0 closed) ∙ forgets_all w pre rest new.1 apart.1
-  | false ↦ λ open_.
-      ap (all_forgotten (ids_of rest)) (forgotten_open w pre rest s new.0 open_)
-      ∙ forgets_all w (pre ++ emptied s ∷ []) rest (new_more pre rest (emptied s) new.1 apart.0) apart.1
-      ∙ sym (moved w pre (map emptied (filter is_open rest)) (emptied s))
-] refl
+      | true ↦ λ closed. ap (all_forgotten (ids_of rest)) (forgotten_shut w pre rest s new.0 apart.0 closed) ∙ forgets_all w pre rest new.1 apart.1
+      | false ↦ λ open_.
+          ap (all_forgotten (ids_of rest)) (forgotten_open w pre rest s new.0 open_)
+          ∙ forgets_all w (pre ++ emptied s ∷ []) rest (new_more pre rest (emptied s) new.1 apart.0) apart.1
+          ∙ sym (moved w pre (map emptied (filter is_open rest)) (emptied s))
+    ] refl
 
 shuts_all : (w : World) (pre rest : List Session) → AreNew pre rest → AreApart rest →
     all_shut (ids_of rest) (with_sessions w (pre ++ map emptied rest)) ≡ flat_map shut_line (filter is_shut rest)
@@ -271,7 +271,7 @@ shuts_all w pre (s ∷ rest) new apart =
     let v : World = with_sessions w (pre ++ emptied s ∷ map emptied rest) in
     ap (λ (b : Bool). shut_by s.id b ++ all_shut (ids_of rest) (forgotten s.id v)) (done_mid w pre (map emptied rest) (emptied s) new.0 ∙ done_emptied s)
     ∙ elim (is_closed s.stage) as (λ b. is_closed s.stage ≡ b →
-        shut_by s.id b ++ all_shut (ids_of rest) (forgotten s.id v) ≡ flat_map shut_line (cond b (s ∷ filter is_shut rest) (filter is_shut rest))) [
+    shut_by s.id b ++ all_shut (ids_of rest) (forgotten s.id v) ≡ flat_map shut_line (cond b (s ∷ filter is_shut rest) (filter is_shut rest))) [
       | true ↦ λ closed. ap (λ (t : List ℕ). shut_by s.id true ++ t) (ap (all_shut (ids_of rest)) (forgotten_shut w pre rest s new.0 apart.0 closed) ∙ shuts_all w pre rest new.1 apart.1)
       | false ↦ λ open_.
           ap (all_shut (ids_of rest)) (forgotten_open w pre rest s new.0 open_)
@@ -294,7 +294,7 @@ history_took w pre (s ∷ rest) new apart =
     let events : List Event = map (λ (s : Session). took s.id (length s.owed)) (filter owes rest) in
     let more = history_took w (pre ++ emptied s ∷ []) rest (new_more pre rest (emptied s) new.1 apart.0) apart.1 ∙ sym (moved w pre (map emptied rest) (emptied s)) in
     elim (owes s) as (λ b. owes s ≡ b →
-        history (with_sessions w (pre ++ s ∷ rest)) (map (λ (s : Session). took s.id (length s.owed)) (cond b (s ∷ filter owes rest) (filter owes rest))) ≡ with_sessions w (pre ++ emptied s ∷ map emptied rest)) [
+    history (with_sessions w (pre ++ s ∷ rest)) (map (λ (s : Session). took s.id (length s.owed)) (cond b (s ∷ filter owes rest) (filter owes rest))) ≡ with_sessions w (pre ++ emptied s ∷ map emptied rest)) [
       | true ↦ λ t. ap (λ (v : World). history v events) (taken_mid w pre rest s new.0 apart.0 ∙ moved w pre rest (emptied s)) ∙ more
       | false ↦ λ none. ap (λ (v : World). history v events) (ap (λ (t : Session). with_sessions w (pre ++ t ∷ rest)) (sym (owes_none s none)) ∙ moved w pre rest (emptied s)) ∙ more
     ] refl
@@ -306,7 +306,7 @@ history_forgot w pre (s ∷ rest) new apart =
     let v : World = with_sessions w (pre ++ emptied s ∷ map emptied rest) in
     let events : List Event = map (λ (s : Session). forgot s.id) (filter is_shut rest) in
     elim (is_closed s.stage) as (λ b. is_closed s.stage ≡ b →
-        history v (map (λ (s : Session). forgot s.id) (cond b (s ∷ filter is_shut rest) (filter is_shut rest))) ≡ with_sessions w (pre ++ map emptied (cond (not b) (s ∷ filter is_open rest) (filter is_open rest)))) [
+    history v (map (λ (s : Session). forgot s.id) (cond b (s ∷ filter is_shut rest) (filter is_shut rest))) ≡ with_sessions w (pre ++ map emptied (cond (not b) (s ∷ filter is_open rest) (filter is_open rest)))) [
       | true ↦ λ closed.
           ap (λ (v : World). history v events) (forgot_mid w pre (map emptied rest) (emptied s) new.0 (none_emptied s.id rest apart.0) (done_emptied s ∙ closed))
           ∙ history_forgot w pre rest new.1 apart.1
@@ -335,6 +335,6 @@ unfolding told
 all_told w apart =
     ap (λ (t : List ℕ). t ++ all_shut (ids_of w.sessions) (all_taken (ids_of w.sessions) w)) (sends_all w [] w.sessions (new_first w.sessions) apart)
     ∙ ap (λ (t : List ℕ). flat_map sent_line (filter owes w.sessions) ++ t) (
-        ap (all_shut (ids_of w.sessions)) (takes_all w [] w.sessions (new_first w.sessions) apart)
-        ∙ shuts_all w [] w.sessions (new_first w.sessions) apart
+    ap (all_shut (ids_of w.sessions)) (takes_all w [] w.sessions (new_first w.sessions) apart)
+    ∙ shuts_all w [] w.sessions (new_first w.sessions) apart
     )

@@ -1,5 +1,5 @@
 -- What playing events makes of a server, piece by piece, and what it writes.
-use Rattle.std.specs.Prelude.{◌≡◌, ℕ, ◌+◌, ◌≤◌, Bool, true, false, List, [], ◌∷◌, ◌++◌, length, take, Option, codes, decimal, if◌then◌else◌}
+use Rattle.std.specs.Prelude.{◌≡◌, ℕ, ◌≤◌, Bool, true, false, List, [], ◌∷◌, ◌++◌, length, take, Option, codes, decimal, if◌then◌else◌}
 use Rattle.std.specs.List.{sum_by}
 use Rattle.hex.specs.Hex.{encode_lower}
 use Rattle.mc_land.specs.declared.terrain.Terrain.{Terrain}
@@ -14,7 +14,7 @@ use Rattle.mc_server.specs.Stands.{Stands}
 use Rattle.mc_server.specs.Asking.{owed_in, is_done_in}
 use Rattle.mc_top.specs.declared.script_line.ScriptEvent.{ScriptEvent}
 use Rattle.mc_top.specs.declared.script_line.ScriptEvent.TheVariants.{Ticks}
-use Rattle.mc_top.specs.ReplayText.{settled, told, replay_text}
+use Rattle.mc_top.specs.ReplayText.{settled, replay_text}
 
 -- a world that some events make of a new one
 pub record IsReached (w : World) : Type 0 where

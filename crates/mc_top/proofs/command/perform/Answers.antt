@@ -1,5 +1,4 @@
 use Rattle.std.proofs.Common.{◌≡◌, ℕ, sym, ap, ◌∙◌, Some}
-use Rattle.mc_model.specs.World.{AreSettings}
 use Rattle.mc_top.specs.declared.words.Options.{Options}
 use Rattle.mc_top.specs.declared.words.Command.TheVariants.{Status, Replay}
 use Rattle.mc_top.specs.Words.{command_of, bytes_of}

@@ -1,4 +1,4 @@
-use Rattle.std.proofs.Common.{◌≡◌, ◌+◌, ◌≤◌, take, drop}
+use Rattle.std.proofs.Common.{◌+◌, ◌≤◌, take, drop}
 use Rattle.mc_wire.specs.Count.{StandsOrRises}
 use Rattle.mc_model.specs.World.{World}
 use Rattle.mc_server.specs.Stands.{Stands, age_of}

@@ -1,5 +1,5 @@
 use Rattle.mc_top.proofs.ScriptFacts.{script_ticks}
-use Rattle.mc_top.proofs.Replays.{replayed, replayed_part, found_fault}
+use Rattle.mc_top.proofs.Replays.{replayed}
 use Rattle.mc_top.proofs.replay.replay.Goals as goal
 
 pub play_script-requires-clause-young : goal.play_script-requires-clause-young
