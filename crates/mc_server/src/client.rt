@@ -121,6 +121,13 @@ impl Client {
         self.uuid
     }
 
+    /// The protocol that its handshake named.
+    pub fn protocol(&self) -> i32
+        ensures { result ≡ self.now.protocol }
+    {
+        self.session.protocol()
+    }
+
     /// Why it was closed.
     pub fn cause(&self) -> Option<&Cause>
         ensures { option_copied result ≡ self.now.cause }

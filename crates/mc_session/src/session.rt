@@ -63,6 +63,13 @@ impl Session {
         self.stage
     }
 
+    /// The protocol that its handshake named.
+    pub fn protocol(&self) -> i32
+        ensures { result ≡ self.now.protocol }
+    {
+        self.protocol
+    }
+
     /// Answers a frame, with `max` players at most and `online` in play. Without memory the session is
     /// as before.
     #[tactic(auto, unfolding(mc_model::specs::Talk::said))]
