@@ -1,5 +1,6 @@
-//! The commands of the program, over the devices that they need. It stands on the packets of `mc_up`,
-//! the frames of `mc_frame`, the devices of `mc_wire` and the hex of the crate `hex`.
+//! The commands of the program, over the devices that they need. It stands on the server of `mc_server`,
+//! the packets of `mc_up`, the frames of `mc_frame`, the devices of `mc_wire` and the hex of the crate
+//! `hex`.
 //!
 //! Its one contract is `run`: what each status means for the input and the output, and when it comes.
 #![tactic(auto)]
@@ -14,6 +15,8 @@ mod laws;
 mod lines;
 mod replay;
 mod replay_lines;
+#[cfg(test)]
+mod replay_tests;
 mod reply;
 mod script;
 mod script_line;
