@@ -12,6 +12,7 @@ use std::test::Fail;
 
 /// A handshake that wants to log in, and one that wants the status.
 const HELLO: &[u8] = b"\x0F\x00\x2F\x09localhost\x63\xDD\x02";
+
 const ASKS: &[u8] = b"\x0F\x00\x2F\x09localhost\x63\xDD\x01";
 
 /// The same of protocol 48.
@@ -19,6 +20,7 @@ const HELLO_48: &[u8] = b"\x0F\x00\x30\x09localhost\x63\xDD\x02";
 
 /// Two names.
 const AL: &[u8] = b"\x04\x00\x02Al";
+
 const BO: &[u8] = b"\x04\x00\x02Bo";
 
 const AL_MAY: &[u8] = b"\x29\x02\x2426dcee5c-0987-3dd0-836f-8add3c500050\x02Al";
@@ -71,12 +73,28 @@ fn taken(alloc: Global, server: &mut Server, k: u32, most: usize) -> Result<Vec<
 const CAUSES: [(&[u8], &[u8], Option<Cause>); 12] = [
     (HELLO, b"", None),
     (HELLO, BO, None),
-    (HELLO_48, b"\x05\x00\x03a b", Some(Cause::Refused(Refusal::Version))),
-    (HELLO, b"\x05\x00\x03a b", Some(Cause::Refused(Refusal::Name))),
+    (
+        HELLO_48,
+        b"\x05\x00\x03a b",
+        Some(Cause::Refused(Refusal::Version)),
+    ),
+    (
+        HELLO,
+        b"\x05\x00\x03a b",
+        Some(Cause::Refused(Refusal::Name)),
+    ),
     (HELLO, AL, Some(Cause::Refused(Refusal::Taken))),
     // The length that goes on begins behind 16 bytes, or behind 21.
-    (HELLO, b"\x80\x80\x80", Some(Cause::Frame(FrameFault::LongLength(16)))),
-    (HELLO, b"\x04\x00\x02Bo\x00", Some(Cause::Frame(FrameFault::ZeroLength(21)))),
+    (
+        HELLO,
+        b"\x80\x80\x80",
+        Some(Cause::Frame(FrameFault::LongLength(16))),
+    ),
+    (
+        HELLO,
+        b"\x04\x00\x02Bo\x00",
+        Some(Cause::Frame(FrameFault::ZeroLength(21))),
+    ),
     // A name of seventeen letters, with its length at 1.
     (
         HELLO,
@@ -92,14 +110,22 @@ const CAUSES: [(&[u8], &[u8], Option<Cause>); 12] = [
         b"\x04\x00\x02Bo\x0C\x07\x02\x00\x00\x02\x80\x0C\x00\x00\x08\x01\x00",
         Some(Cause::Packet(PacketFault::Trailing(1))),
     ),
-    (HELLO, b"\x01\x7F", Some(Cause::Packet(PacketFault::UnknownId(127)))),
+    (
+        HELLO,
+        b"\x01\x7F",
+        Some(Cause::Packet(PacketFault::UnknownId(127))),
+    ),
     // A turn by no number.
     (
         HELLO,
         b"\x04\x00\x02Bo\x0A\x05\x7F\xC0\x00\x00\x00\x00\x00\x00\x01",
         Some(Cause::BadNumber),
     ),
-    (ASKS, b"\x01\x00\x09\x01\x00\x00\x00\x00\x00\x00\x00\x07", Some(Cause::Done)),
+    (
+        ASKS,
+        b"\x01\x00\x09\x01\x00\x00\x00\x00\x00\x00\x00\x07",
+        Some(Cause::Done),
+    ),
 ];
 
 #[test]
@@ -207,7 +233,10 @@ fn a_name_is_free_once_its_player_left(rt: HostRuntime) -> Result<(), Fail> {
     hears(&mut server, 1, BO)?;
     joins(&mut server, 2, HELLO)?;
     hears(&mut server, 2, b"\x04\x00\x02Cy")?;
-    assert_eq!(rt; server.cause(2).copied(), Some(Cause::Refused(Refusal::Full)));
+    assert_eq!(rt;
+        server.cause(2).copied(),
+        Some(Cause::Refused(Refusal::Full))
+    );
     server.event(Input::Gone(0))?;
     joins(&mut server, 3, HELLO)?;
     hears(&mut server, 3, AL)?;

@@ -12,11 +12,15 @@ const HELLO_48: &str = "0f0030096c6f63616c686f737463dd02";
 
 /// Who logs in as `Al`, and what is answered: the identifier is the MD5 of `OfflinePlayer:Al`.
 const AL: &str = "040002416c";
-const AL_MAY: &str = "29022432366463656535632d303938372d336464302d383336662d38616464336335303030353002416c";
+
+const AL_MAY: &str =
+    "29022432366463656535632d303938372d336464302d383336662d38616464336335303030353002416c";
 
 /// Likewise `Bo`.
 const BO: &str = "040002426f";
-const BO_MAY: &str = "29022430326265376630312d336532362d336537372d623463342d61353163326434663762353902426f";
+
+const BO_MAY: &str =
+    "29022430326265376630312d336532362d336537372d623463342d61353163326434663762353902426f";
 
 /// The numbers of the calls of a device that fail.
 const NONE: &[u64] = &[];
@@ -61,8 +65,12 @@ fn check<R: Abort + AllocGlobal>(
 #[test]
 fn a_client_logs_in_and_is_closed_for_a_bad_frame(rt: HostRuntime) -> Result<(), Fail> {
     let alloc = rt.alloc();
-    let script = format!(in alloc; "join 0\nbytes 0 {HELLO}\nbytes 0 {AL}\nbytes 0 808080\ntick\n")?;
-    let want = format!(in alloc; "sent 0 {AL_MAY}\nsent 0 1740157b2274657874223a22426164206672616d652e227d\nshut 0\n")?;
+    let script = format!(in alloc;
+        "join 0\nbytes 0 {HELLO}\nbytes 0 {AL}\nbytes 0 808080\ntick\n"
+    )?;
+    let want = format!(in alloc;
+        "sent 0 {AL_MAY}\nsent 0 1740157b2274657874223a22426164206672616d652e227d\nshut 0\n"
+    )?;
     check(&rt, &[], &script, (0, &want))
 }
 
@@ -107,7 +115,9 @@ const REFUSALS: [(&[&str], &str, &str, &str); 5] = [
 #[test]
 fn who_may_not_play_is_told_why(rt: HostRuntime) -> Result<(), Fail> {
     for (words, hello, start, told) in REFUSALS {
-        let script = format!(in rt.alloc(); "join 0\nbytes 0 {HELLO}{AL}\njoin 1\nbytes 1 {hello}{start}\n")?;
+        let script = format!(in rt.alloc();
+            "join 0\nbytes 0 {HELLO}{AL}\njoin 1\nbytes 1 {hello}{start}\n"
+        )?;
         let want = format!(in rt.alloc(); "sent 0 {AL_MAY}\nsent 1 {told}\nshut 1\n")?;
         check(&rt, words, &script, (0, &want))?;
     }
@@ -149,7 +159,10 @@ const ENDS: [(&str, &str); 9] = [
         "sent 0 1740157b2274657874223a22426164206672616d652e227d\nshut 0\n",
     ),
     // A chat text, an answer to a keep-alive and a brand do nothing yet.
-    ("bytes 0 04010268690200071217084d437c4272616e640776616e696c6c61\n", ""),
+    (
+        "bytes 0 04010268690200071217084d437c4272616e640776616e696c6c61\n",
+        "",
+    ),
 ];
 
 #[test]
@@ -166,7 +179,9 @@ fn a_client_is_closed_for_its_own_fault(rt: HostRuntime) -> Result<(), Fail> {
 #[test]
 fn frames_before_a_bad_one_are_done(rt: HostRuntime) -> Result<(), Fail> {
     let script = format!(in rt.alloc(); "join 0\nbytes 0 {HELLO}{AL}808080\n")?;
-    let want = format!(in rt.alloc(); "sent 0 {AL_MAY}1740157b2274657874223a22426164206672616d652e227d\nshut 0\n")?;
+    let want = format!(in rt.alloc();
+        "sent 0 {AL_MAY}1740157b2274657874223a22426164206672616d652e227d\nshut 0\n"
+    )?;
     check(&rt, &[], &script, (0, &want))
 }
 
@@ -178,7 +193,12 @@ fn a_connection_too_many_is_closed_untold(rt: HostRuntime) -> Result<(), Fail> {
         script.push_str(&format!(in rt.alloc(); "join {k}\n")?)?;
     }
     script.push_str("gone 3\njoin 18\njoin 19\n")?;
-    check(&rt, &["players=1"], &script, (0, "shut 17\nshut 3\nshut 19\n"))
+    check(
+        &rt,
+        &["players=1"],
+        &script,
+        (0, "shut 17\nshut 3\nshut 19\n"),
+    )
 }
 
 /// Scripts that are none: nothing is written but the last line.
@@ -187,9 +207,15 @@ const FAULTS: [(&str, &str); 9] = [
     ("tick 100001\n", "bad input at 1: Number\n"),
     ("hop\n", "bad input at 1: Word\n"),
     ("join 0\nbytes 0 0z\n", "bad input at 2: Hex\n"),
-    ("join 0\n\n# a client\nbytes 0 000\n", "bad input at 4: Hex\n"),
+    (
+        "join 0\n\n# a client\nbytes 0 000\n",
+        "bad input at 4: Hex\n",
+    ),
     ("join 0\nbytes 0 808080\nshut 0\n", "bad input at 3: Word\n"),
-    ("join 0\nbytes 0 808080\ngone \n", "bad input at 3: Number\n"),
+    (
+        "join 0\nbytes 0 808080\ngone \n",
+        "bad input at 3: Number\n",
+    ),
     ("tick\ntick  2\n", "bad input at 2: Word\n"),
     ("join 4294967296", "bad input at 1: Number\n"),
 ];
@@ -219,7 +245,9 @@ fn a_device_that_fails_ends_it(rt: HostRuntime) -> Result<(), Fail> {
 fn opening(alloc: Global, level: &str, y: (&str, &str)) -> Result<String, Fail> {
     let (spawn, y) = y;
     let place = "4021000000000000";
-    Ok(format!(in alloc; "{level}{spawn}2208{place}{y}{place}0000000000000000001a38000126dcee5c09873dd0836f8add3c50005002416c00000000")?)
+    Ok(format!(in alloc;
+        "{level}{spawn}2208{place}{y}{place}0000000000000000001a38000126dcee5c09873dd0836f8add3c50005002416c00000000"
+    )?)
 }
 
 /// How many digits the frame of a flat column has.
@@ -260,7 +288,9 @@ fn the_first_tick_opens_and_loads_the_view(rt: HostRuntime) -> Result<(), Fail> 
     let opening = opening(alloc, level, ("09050000020010000008", "4010000000000000"))?;
     for (view, d) in VIEWS {
         let settings = format!(in alloc; "{}{view}{}", ASKS.0, ASKS.1)?;
-        let script = format!(in alloc; "join 0\nbytes 0 {HELLO}{AL}\nbytes 0 {settings}\ntick 3\n")?;
+        let script = format!(in alloc;
+            "join 0\nbytes 0 {HELLO}{AL}\nbytes 0 {settings}\ntick 3\n"
+        )?;
         let head = format!(in alloc; "sent 0 {AL_MAY}\nsent 0 {opening}")?;
         let (status, held) = replayed(&rt, &[], &script, (NONE, NONE))?;
         assert_eq!(rt; status, 0);
@@ -274,7 +304,7 @@ fn the_first_tick_opens_and_loads_the_view(rt: HostRuntime) -> Result<(), Fail> 
 #[test]
 fn the_hills_are_entered_on_their_grass(rt: HostRuntime) -> Result<(), Fail> {
     let alloc = rt.alloc();
-    let level = "1201000000010000011407" ;
+    let level = "1201000000010000011407";
     let level = format!(in alloc; "{level}64656661756c7400")?;
     let opening = opening(alloc, &level, ("090500000200d0000008", "404a000000000000"))?;
     let script = format!(in alloc; "join 0\nbytes 0 {HELLO}{AL}\ntick\n")?;
@@ -315,7 +345,9 @@ const MOVES: [(&str, &str); 4] = [
 #[test]
 fn a_move_out_of_the_range_is_taken_back(rt: HostRuntime) -> Result<(), Fail> {
     for (moves, told) in MOVES {
-        let script = format!(in rt.alloc(); "join 0\nbytes 0 {HELLO}{AL}\ntick\nbytes 0 {moves}\ntick 2\n")?;
+        let script = format!(in rt.alloc();
+            "join 0\nbytes 0 {HELLO}{AL}\ntick\nbytes 0 {moves}\ntick 2\n"
+        )?;
         let (status, held) = replayed(&rt, &["view=2"], &script, (NONE, NONE))?;
         assert_eq!(rt; status, 0);
         assert!(rt; behind(&held, 2) == told.as_bytes(), "at {moves}");
@@ -327,7 +359,9 @@ fn a_move_out_of_the_range_is_taken_back(rt: HostRuntime) -> Result<(), Fail> {
 #[test]
 fn a_client_that_walks_is_sent_what_it_sees_anew(rt: HostRuntime) -> Result<(), Fail> {
     let alloc = rt.alloc();
-    let script = format!(in alloc; "join 0\nbytes 0 {HELLO}{AL}\ntick\nbytes 0 1a0440388000000000004010000000000000402100000000000001\ntick\n")?;
+    let script = format!(in alloc;
+        "join 0\nbytes 0 {HELLO}{AL}\ntick\nbytes 0 1a0440388000000000004010000000000000402100000000000001\ntick\n"
+    )?;
     let (status, held) = replayed(&rt, &["view=2"], &script, (NONE, NONE))?;
     assert_eq!(rt; status, 0);
     let mut head = String::from_str(alloc, "sent 0 ")?;
@@ -351,14 +385,18 @@ fn a_client_that_walks_is_sent_what_it_sees_anew(rt: HostRuntime) -> Result<(), 
 #[test]
 fn players_are_listed_as_they_come_and_go(rt: HostRuntime) -> Result<(), Fail> {
     let alloc = rt.alloc();
-    let script = format!(in alloc; "join 0\nbytes 0 {HELLO}{AL}\ntick\njoin 1\nbytes 1 {HELLO}{BO}\ntick\ngone 0\ntick\n")?;
+    let script = format!(in alloc;
+        "join 0\nbytes 0 {HELLO}{AL}\ntick\njoin 1\nbytes 1 {HELLO}{BO}\ntick\ngone 0\ntick\n"
+    )?;
     let (status, held) = replayed(&rt, &["view=2"], &script, (NONE, NONE))?;
     assert_eq!(rt; status, 0);
     let bo = "02be7f013e263e77b4c4a51c2d4f7b5902426f00000000";
     let first = format!(in alloc; "sent 1 {BO_MAY}\nsent 0 1a380001{bo}\nsent 1 ")?;
     let told = behind(&held, 2);
     assert!(rt; told.starts_with(first.as_bytes()));
-    let both = format!(in alloc; "0f01000000020000011404666c61740009050000020010000008220840210000000000004010000000000000402100000000000000000000000000000031380002{bo}26dcee5c09873dd0836f8add3c50005002416c00000000")?;
+    let both = format!(in alloc;
+        "0f01000000020000011404666c61740009050000020010000008220840210000000000004010000000000000402100000000000000000000000000000031380002{bo}26dcee5c09873dd0836f8add3c50005002416c00000000"
+    )?;
     let rest = told.get(first.len()..).unwrap_or(b"");
     assert!(rt; rest.starts_with(both.as_bytes()));
     let last: &[u8] = b"shut 0\nsent 1 1338040126dcee5c09873dd0836f8add3c500050\n";
@@ -389,7 +427,11 @@ fn clients_are_told_the_same_however_their_bytes_mix(rt: HostRuntime) -> Result<
             let last_is_second = pattern & 512 != 0;
             let al = format!(in rt.alloc(); "sent 0 {AL_MAY}\n")?;
             let bo = format!(in rt.alloc(); "sent 1 {BO_MAY}\n")?;
-            let want = if last_is_second { format!(in rt.alloc(); "{al}{bo}")? } else { format!(in rt.alloc(); "{bo}{al}")? };
+            let want = if last_is_second {
+                format!(in rt.alloc(); "{al}{bo}")?
+            } else {
+                format!(in rt.alloc(); "{bo}{al}")?
+            };
             check(&rt, &[], &script, (0, &want))?;
             count += 1;
         }
