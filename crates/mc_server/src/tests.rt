@@ -25,6 +25,9 @@ const BO: &[u8] = b"\x04\x00\x02Bo";
 
 const AL_MAY: &[u8] = b"\x29\x02\x2426dcee5c-0987-3dd0-836f-8add3c500050\x02Al";
 
+/// `Bad frame.`, told to who logs in.
+const BAD_FRAME: &[u8] = b"\x17\x00\x15{\"text\":\"Bad frame.\"}";
+
 /// A server of flat land for two players.
 fn server(alloc: Global) -> Result<Server, NoMemory> {
     Server::new(
@@ -190,7 +193,7 @@ fn a_closed_connection_may_be_forgotten_once_it_took_all(rt: HostRuntime) -> Res
     server.forget(3);
     assert!(rt; server.connections() == both);
     let told = taken(rt.alloc(), &mut server, 3, 5)?;
-    assert!(rt; told.as_slice() == b"\x17\x00\x15{\"text\":\"Bad frame.\"}");
+    assert!(rt; told.as_slice() == BAD_FRAME);
     assert!(rt; server.done(3));
     assert!(rt; !server.done(8));
     server.forget(8);
