@@ -27,6 +27,10 @@ const NONE: &[u64] = &[];
 
 const FIRST: &[u64] = &[0];
 
+const READ_FAULT: &[u8] = b"read fault\n";
+
+const LINE_END: &[u8] = b"\n";
+
 /// Runs a script with these words and devices that fail at these calls: the status and what was
 /// written.
 fn replayed<R: Abort + AllocGlobal>(
@@ -233,7 +237,7 @@ fn a_device_that_fails_ends_it(rt: HostRuntime) -> Result<(), Fail> {
     let script = format!(in rt.alloc(); "join 0\nbytes 0 {HELLO}{AL}\ngone 0\n")?;
     let unread = replayed(&rt, &[], &script, (FIRST, NONE))?;
     assert_eq!(rt; unread.0, 3);
-    assert!(rt; unread.1.as_slice() == b"read fault\n");
+    assert!(rt; unread.1.as_slice() == READ_FAULT);
     let unwritten = replayed(&rt, &[], &script, (NONE, FIRST))?;
     assert_eq!(rt; unwritten.0, 4);
     assert!(rt; unwritten.1.is_empty());
@@ -270,7 +274,7 @@ fn check_loads<R: Abort + AllocGlobal>(rt: &R, digits: &[u8], d: i32) -> Result<
             rest = rest.get(LOAD_DIGITS..).unwrap_or(b"");
         }
     }
-    assert!(rt; rest == b"\n");
+    assert!(rt; rest == LINE_END);
     Ok(())
 }
 
@@ -377,7 +381,7 @@ fn a_client_that_walks_is_sent_what_it_sees_anew(rt: HostRuntime) -> Result<(), 
         assert!(rt; rest.starts_with(head.as_bytes()), "at {cz}");
         rest = rest.get(LOAD_DIGITS..).unwrap_or(b"");
     }
-    assert!(rt; rest == b"\n");
+    assert!(rt; rest == LINE_END);
     Ok(())
 }
 
