@@ -1,5 +1,6 @@
 -- Taking and telling piece by piece, and connection by connection.
-use Rattle.std.proofs.Common.{◌≡◌, ℕ, suc, ◌+◌, ◌*◌, ◌<◌, ◌≤◌, Bool, true, false, List, ◌∷◌, ◌++◌, length, get_or, take, drop, refl, sym, subst, ap, ◌∙◌, append_assoc, arith, length-take}
+use Rattle.std.proofs.Common.{◌≡◌, ℕ, suc, ◌+◌, ◌*◌, ◌<◌, ◌≤◌, Bool, true, false, List, [], ◌∷◌, ◌++◌, length, get_or, take, drop, refl, sym, subst, ap, ◌∙◌, append_assoc, arith, length-take}
+use Rattle.std.specs.Prelude.{◌↔◌, codes, decimal}
 use Rattle.std.proofs.lemmas.List.{append-nil, drop_all, length-append}
 use Rattle.std.proofs.Math.Seq.{drop-cons}
 use Rattle.hex.specs.Hex.{encode_lower}
@@ -9,7 +10,7 @@ use Rattle.mc_model.specs.Step.{took, step}
 use Rattle.mc_server.specs.declared.server.Server.{Server}
 use Rattle.mc_server.specs.Stands.{Stands}
 use Rattle.mc_server.specs.Asking.{owed_in}
-use Rattle.mc_top.specs.Replaying.{taken, TakesFront, each, each_line}
+use Rattle.mc_top.specs.Replaying.{taken, sent_by, sent_in, TakesFront, each, each_line}
 use Rattle.mc_top.proofs.Taking.{owed_after, taken_after, taken_none, encode_parts, encode_none}
 
 -- ---- one connection, piece by piece
@@ -65,6 +66,35 @@ taking_done k w middle server old half new more is t takes =
       subst P (sym (taken_none t.v k f.0) ∙ t.same) f.1,
       f.2 ∙ sym (append-nil half) ∙ ap (λ (b : List ℕ). half ++ b) (sym (encode_none (owed_in k t.v) f.0)) ∙ t.lines,
     )
+
+-- ---- the line of one connection
+
+no_bytes : (bytes : List ℕ) → length bytes ≡ 0 → bytes ≡ []
+no_bytes [] none = refl
+no_bytes (b ∷ bytes) none = absurd (omega (arith, none))
+
+some_bytes : (bytes : List ℕ) → 0 < length bytes → bytes ≡ [] → ⊥
+some_bytes bytes some none = let zero_ : length bytes ≡ 0 = ap length none in omega (arith, some, zero_)
+
+sent_some : (k : ℕ) (o : List ℕ) → (o ≡ [] → ⊥) → sent_by k o ≡ codes "sent " ++ decimal k ++ codes " " ++ encode_lower o ++ 10 ∷ []
+sent_some k [] some = absurd (some refl)
+sent_some k (b ∷ bytes) some = refl
+
+-- the front, the hex and the end make the line
+pub sent_is : (k : ℕ) (w : World) (front old first half new : List ℕ) → 0 < length front → (front ≡ []) ↔ (owed_in k w ≡ []) →
+    first ≡ old ++ (codes "sent " ++ decimal k ++ codes " ") → half ≡ first ++ encode_lower (owed_in k w) → new ≡ half ++ 10 ∷ [] → new ≡ old ++ sent_in k w
+sent_is k w front old first half new some same a b c =
+    let head : List ℕ = codes "sent " ++ decimal k ++ codes " " in
+    let hex : List ℕ = encode_lower (owed_in k w) in
+    c ∙ ap (λ (t : List ℕ). t ++ 10 ∷ []) (b ∙ ap (λ (t : List ℕ). t ++ hex) a ∙ append_assoc old head hex) ∙ append_assoc old (head ++ hex) (10 ∷ [])
+    ∙ ap (λ (t : List ℕ). old ++ t) (sym (sent_some k (owed_in k w) (λ none. some_bytes front some (same.1 none))))
+
+-- nothing is owed
+pub not_sent : (k : ℕ) (w : World) (server : Server) (front old : List ℕ) → length front ≡ 0 → (front ≡ []) ↔ (owed_in k w ≡ []) → Stands server w → Stands server (taken k w) × (old ≡ old ++ sent_in k w)
+not_sent k w server front old none same stands =
+    let P : World → Type 0 = λ u. Stands server u in
+    let owed = same.0 (no_bytes front none) in
+    (subst P (sym (taken_none w k owed)) stands, sym (append-nil old) ∙ ap (λ (o : List ℕ). old ++ sent_by k o) (sym owed))
 
 -- ---- connection by connection
 
