@@ -1,22 +1,21 @@
 -- One client: its view, and what it is sent in all.
-use Rattle.std.proofs.Common.{◌≡◌, ℕ, ◌≤◌, Bool, true, List, [], ◌∷◌, ◌++◌, map, Option, Some, None, is_some, refl, sym, subst, ap, ◌∙◌, arith, append_assoc}
-use Rattle.std.specs.Prelude.{false, ◌^◌, ◌<◌, unsigned_abs}
+use Rattle.std.proofs.Common.{◌≡◌, ℕ, ◌≤◌, true, List, [], ◌++◌, Option, Some, None, is_some, refl, sym, ap, ◌∙◌, arith, append_assoc}
+use Rattle.std.specs.Prelude.{false, unsigned_abs}
 use Rattle.std.specs.Int.{int_div_euclid}
-use Rattle.std.specs.FinMap.{FinMap, from_entries, contains_key, get, get-empty}
+use Rattle.std.specs.FinMap.{contains_key, get-empty}
 use Rattle.std.proofs.lemmas.Int.{ints}
 use Rattle.std.proofs.lemmas.List.{append-nil}
 use lib.IntN.{ℤ, pos, negsuc, ◌-ℤ◌}
 use lib.Signed.{◌≤ℤ◌}
-use Rattle.mc_frame.specs.Kept.{joined}
 use Rattle.mc_land.specs.Places.{Place, place_cmp}
 use Rattle.mc_land.specs.Land.{LandValue}
 use Rattle.mc_down.specs.declared.down.Down.{Down}
 use Rattle.mc_view.specs.declared.view_set.ViewSet.{ViewSet}
-use Rattle.mc_view.specs.Sets.{has, all_of}
+use Rattle.mc_view.specs.Sets.{has}
 use Rattle.mc_model.specs.Sight.{Sight, nothing_seen}
 use Rattle.mc_model.specs.Delta.{Pairs}
 use Rattle.mc_flush.specs.Lists.{ListValue}
-use Rattle.mc_flush.specs.Seeing.{StandsFor, seen, placed_column}
+use Rattle.mc_flush.specs.Seeing.{StandsFor, seen}
 use Rattle.mc_flush.specs.Sending.{play_bytes}
 use Rattle.mc_flush.proofs.Pieces.{play_bytes-append}
 use Rattle.mc_flush.proofs.Shown.{near_has, shown_has}

@@ -10,7 +10,7 @@ use Rattle.mc_flush.specs.Seeing.{StandsFor}
 use Rattle.mc_model.proofs.Sessions.{some_none, one_some}
 use Rattle.mc_flush.proofs.Lookups.{tree_found, same_key}
 use Rattle.mc_server.specs.declared.line.Line.{Line}
-use Rattle.mc_server.specs.Ticking.{LineFollows, IsMarked, plays}
+use Rattle.mc_server.specs.Ticking.{LineFollows, IsMarked}
 
 -- what look-ups find after a change at k
 abbrev pub IsPut : ℕ → List (ℕ × Line) → List (ℕ × Line) → Line → Type 0

@@ -1,7 +1,7 @@
 -- What a client is shown of the parts of a world is what the world shows it.
-use Rattle.std.proofs.Common.{◌≡◌, ℕ, Bool, true, false, cond, List, [], ◌∷◌, ◌++◌, map, length, Option, Some, None, is_some, refl, sym, subst, ap, ◌∙◌, append_assoc}
+use Rattle.std.proofs.Common.{◌≡◌, Bool, true, false, cond, List, [], ◌++◌, map, length, Option, Some, None, is_some, refl, sym, ap, ◌∙◌, append_assoc}
 use Rattle.std.specs.Prelude.{◌+◌, nat_le, unwrap_or, if◌then◌else◌, option_map}
-use Rattle.std.specs.FinMap.{FinMap, empty, from_entries}
+use Rattle.std.specs.FinMap.{empty, from_entries}
 use Rattle.std.specs.FinSet as set
 use lib.IntN.{pos}
 use Rattle.mc_frame.specs.Kept.{outbox_max}
@@ -9,7 +9,6 @@ use Rattle.mc_land.specs.Places.{Place}
 use Rattle.mc_land.specs.Land.{LandValue, states_of, biomes_of}
 use Rattle.mc_down.specs.declared.down.Down.{Down}
 use Rattle.mc_view.specs.declared.view_set.ViewSet.{ViewSet}
-use Rattle.mc_view.specs.Sets.{all_of}
 use Rattle.mc_model.specs.declared.cause.Cause.TheVariants as causes
 use Rattle.mc_model.specs.declared.stage.Stage.TheVariants as stages
 use Rattle.mc_model.specs.Sight.{Sight, nothing_seen}
@@ -18,7 +17,7 @@ use Rattle.mc_model.specs.Hearing.{Sent, of_play, bytes_of}
 use Rattle.mc_model.specs.Notes.{no_notes}
 use Rattle.mc_model.specs.Plain.{SameWorld, opening_of}
 use Rattle.mc_model.specs.Views.{view_of, view_size, column_of_spot}
-use Rattle.mc_model.specs.World.{World, Session, is_play, players, project}
+use Rattle.mc_model.specs.World.{World, Session, is_play, project}
 use Rattle.mc_model.specs.Step.{Handing, hand, due, flush, showing}
 use Rattle.mc_flush.specs.Lists.{ListValue}
 use Rattle.mc_flush.specs.Seeing.{StandsFor, seen}
@@ -26,7 +25,7 @@ use Rattle.mc_flush.specs.Sending.{notes_due_of}
 use Rattle.mc_flush.proofs.Shown.{shown_has}
 use Rattle.mc_server.specs.declared.line.Line.{Line}
 use Rattle.mc_server.specs.declared.settings.Settings.{Settings}
-use Rattle.mc_server.specs.Ticking.{IsScene, IsMarked, shown_now, told, opening_told, sight_before, recalled, ticked_client}
+use Rattle.mc_server.specs.Ticking.{IsScene, shown_now, told, opening_told, sight_before, recalled, ticked_client}
 
 -- ---- what is shown of a view
 
