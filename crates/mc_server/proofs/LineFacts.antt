@@ -29,16 +29,6 @@ put_others k old new line put q ne =
     ] refl
     ∙ tree_found q old
 
--- the line of one that was not shown anything
-pub line_kept : (w : World) (present : Pairs) (s : Session) (o : Option Line) → is_play s.stage ≡ false → LineFollows w present (Some s) o o
-line_kept w present s o waits = record {
-  stays = λ e. refl;
-  shown = λ c line is here there. absurd (untrue s c (one_some s c (Some s) refl is) waits here);
-}
-  where
-    untrue : (s c : Session) → s ≡ c → is_play s.stage ≡ false → is_play c.stage ≡ true → ⊥
-    untrue s c e f t = let clash : true ≡ false = sym t ∙ ap (λ (x : Session). is_play x.stage) (sym e) ∙ f in cc
-
 -- there is none
 pub line_absent : (w : World) (present : Pairs) (s : Session) (o new : Option Line) → o ≡ None → new ≡ o → LineFollows w present (Some s) o new
 line_absent w present s o new none same = record {

@@ -31,7 +31,7 @@ use Rattle.mc_server.specs.Bare.{bare, bare_world}
 use Rattle.mc_server.specs.Halls.{playing_of}
 use Rattle.mc_server.specs.Stands.{IsLine, HasLine}
 use Rattle.mc_server.specs.Ticking.{names_of, sight_before, recalled, ticked_client, ticked_clients}
-use Rattle.mc_server.proofs.SceneFacts.{before_stands, some_mapped}
+use Rattle.mc_server.proofs.SceneFacts.{before_stands, flush_play, some_mapped}
 
 -- ---- two sights that a difference does not tell apart
 
@@ -101,9 +101,6 @@ hand_bare s one other ps = elim (nat_le (length s.owed + length (bytes_of ps)) o
       | true ↦ refl
       | false ↦ refl
     ]
-
-flush_play : (w : World) (s : Session) → is_play s.stage ≡ true → flush w s ≡ hand (showing w s) (map of_play (due w s))
-flush_play w s here = ap (λ (b : Bool). if b then hand (showing w s) (map of_play (due w s)) else record { session = s; handed = [] }) here
 
 flush_waits : (w : World) (s : Session) → is_play s.stage ≡ false → (flush w s).session ≡ s
 flush_waits w s waits = ap (λ (b : Bool). (cond {A = Handing} b (hand (showing w s) (map of_play (due w s))) (record { session = s; handed = [] })).session) waits

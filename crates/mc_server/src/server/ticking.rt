@@ -1,4 +1,4 @@
-ghost use Rattle.std.specs.Prelude.{◌≡◌, ◌<◌, OnOk};
+ghost use Rattle.std.specs.Prelude.{◌≡◌, ◌+◌, ◌<◌, OnOk};
 ghost use Rattle.mc_model.specs.World.{World};
 ghost use Rattle.mc_model.specs.Step.{step, ticked};
 ghost use Rattle.mc_server.specs.Stands.{Stands, age_of};
@@ -11,6 +11,7 @@ impl Server {
     pub(super) fn tick(&mut self) -> Result<(), NoMemory>
         requires young { age_of self.old < 1000000000 }
         ensures follows { (w : World) → Stands self.old w → OnOk result (Stands self.new (step w ticked).world) }
+        ensures age { OnOk result (age_of self.new ≡ age_of self.old + 1) }
     {
         self.list.turn()?;
         self.hall.list_players(&mut self.list)?;
