@@ -10,7 +10,7 @@ use Rattle.mc_flush.specs.Seeing.{StandsFor}
 use Rattle.mc_model.proofs.Sessions.{some_none, one_some}
 use Rattle.mc_flush.proofs.Lookups.{tree_found, same_key}
 use Rattle.mc_server.specs.declared.line.Line.{Line}
-use Rattle.mc_server.specs.Ticking.{LineFollows, IsMarked, plays}
+use Rattle.mc_server.specs.Ticking.{LineFollows, IsMarked}
 
 -- what look-ups find after a change at k
 abbrev pub IsPut : ℕ → List (ℕ × Line) → List (ℕ × Line) → Line → Type 0
@@ -28,16 +28,6 @@ put_others k old new line put q ne =
       | false ↦ λ f. refl
     ] refl
     ∙ tree_found q old
-
--- the line of one that was not shown anything
-pub line_kept : (w : World) (present : Pairs) (s : Session) (o : Option Line) → is_play s.stage ≡ false → LineFollows w present (Some s) o o
-line_kept w present s o waits = record {
-  stays = λ e. refl;
-  shown = λ c line is here there. absurd (untrue s c (one_some s c (Some s) refl is) waits here);
-}
-  where
-    untrue : (s c : Session) → s ≡ c → is_play s.stage ≡ false → is_play c.stage ≡ true → ⊥
-    untrue s c e f t = let clash : true ≡ false = sym t ∙ ap (λ (x : Session). is_play x.stage) (sym e) ∙ f in cc
 
 -- there is none
 pub line_absent : (w : World) (present : Pairs) (s : Session) (o new : Option Line) → o ≡ None → new ≡ o → LineFollows w present (Some s) o new

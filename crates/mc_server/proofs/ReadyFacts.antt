@@ -1,5 +1,5 @@
 -- Columns that are made ready stay so.
-use Rattle.std.proofs.Common.{◌≡◌, ℕ, true, cond, List, [], ◌∷◌, refl, sym, subst, ap, ◌∙◌}
+use Rattle.std.proofs.Common.{◌≡◌, true, List, [], ◌∷◌, refl, sym, subst, ◌∙◌}
 use Rattle.std.specs.List.{AllByRecursion}
 use Rattle.std.specs.FinSet as set
 use Rattle.std.specs.Ordering.{eq_by_cmp}
@@ -8,7 +8,6 @@ use Rattle.mc_land.specs.Places.{Place, place_cmp}
 use Rattle.mc_land.specs.Land.{LandValue, with_ready}
 use Rattle.mc_model.specs.Plain.{SameWorld}
 use Rattle.mc_model.proofs.Orders.{places_total}
-use Rattle.mc_model.proofs.PlainProjections.{is_ready}
 use Rattle.mc_flush.specs.Seeing.{IsReady}
 
 -- what is ready in one land is in another

@@ -1,15 +1,12 @@
 -- A roster with one more player.
-use Rattle.std.proofs.Common.{◌≡◌, ℕ, ◌+◌, ◌<◌, ◌≤◌, Bool, true, false, cond, List, [], ◌∷◌, length, refl, sym, subst, ap, ◌∙◌, arith}
-use Rattle.std.specs.Prelude.{if◌then◌else◌}
+use Rattle.std.proofs.Common.{◌≡◌, ℕ, ◌+◌, ◌<◌, ◌≤◌, Bool, true, false, cond, List, [], ◌∷◌, length, sym, subst, ◌∙◌, arith}
 use Rattle.std.specs.List.{AllByRecursion}
 use Rattle.std.specs.Cmp.{nat_cmp_total}
-use Rattle.std.specs.declared.cmp.Ordering.{Ordering}
 use Rattle.std.specs.declared.cmp.Ordering.TheVariants.{Less, Equal, Greater}
 use Rattle.std.specs.Ordering.{nat_cmp}
-use Rattle.std.specs.FinMap.{FinMap, entries, entries-insert, empty, insert, len, len-insert, len-empty, len-entries, contains_key, put}
+use Rattle.std.specs.FinMap.{entries, entries-insert, empty, insert, len, len-insert, len-empty, len-entries, contains_key, put}
 use Rattle.std.specs.FinMap.Entries.{by_order}
 use Rattle.std.proofs.lemmas.List.{nil_from_length}
-use Rattle.mc_model.specs.Delta.{Pairs}
 use Rattle.mc_flush.specs.Lists.{ListValue, new_list, with_name}
 use Rattle.mc_flush.specs.Seeing.{IsNamed}
 use Rattle.mc_server.specs.Roster.{IsRoster, turned_page}

@@ -1,7 +1,7 @@
 -- What a client is shown of the parts of a world is what the world shows it.
-use Rattle.std.proofs.Common.{◌≡◌, ℕ, Bool, true, false, cond, List, [], ◌∷◌, ◌++◌, map, length, Option, Some, None, is_some, refl, sym, subst, ap, ◌∙◌, append_assoc}
+use Rattle.std.proofs.Common.{◌≡◌, Bool, true, false, cond, List, [], ◌++◌, map, length, Option, Some, None, is_some, refl, sym, ap, ◌∙◌, append_assoc}
 use Rattle.std.specs.Prelude.{◌+◌, nat_le, unwrap_or, if◌then◌else◌, option_map}
-use Rattle.std.specs.FinMap.{FinMap, empty, from_entries}
+use Rattle.std.specs.FinMap.{empty, from_entries}
 use Rattle.std.specs.FinSet as set
 use lib.IntN.{pos}
 use Rattle.mc_frame.specs.Kept.{outbox_max}
@@ -9,7 +9,6 @@ use Rattle.mc_land.specs.Places.{Place}
 use Rattle.mc_land.specs.Land.{LandValue, states_of, biomes_of}
 use Rattle.mc_down.specs.declared.down.Down.{Down}
 use Rattle.mc_view.specs.declared.view_set.ViewSet.{ViewSet}
-use Rattle.mc_view.specs.Sets.{all_of}
 use Rattle.mc_model.specs.declared.cause.Cause.TheVariants as causes
 use Rattle.mc_model.specs.declared.stage.Stage.TheVariants as stages
 use Rattle.mc_model.specs.Sight.{Sight, nothing_seen}
@@ -18,25 +17,14 @@ use Rattle.mc_model.specs.Hearing.{Sent, of_play, bytes_of}
 use Rattle.mc_model.specs.Notes.{no_notes}
 use Rattle.mc_model.specs.Plain.{SameWorld, opening_of}
 use Rattle.mc_model.specs.Views.{view_of, view_size, column_of_spot}
-use Rattle.mc_model.specs.World.{World, Session, is_play, players, project}
+use Rattle.mc_model.specs.World.{World, Session, is_play, project}
 use Rattle.mc_model.specs.Step.{Handing, hand, due, flush, showing}
-use Rattle.mc_flush.specs.Lists.{ListValue}
-use Rattle.mc_flush.specs.Seeing.{StandsFor, seen}
+use Rattle.mc_flush.specs.Seeing.{StandsFor}
 use Rattle.mc_flush.specs.Sending.{notes_due_of}
 use Rattle.mc_flush.proofs.Shown.{shown_has}
 use Rattle.mc_server.specs.declared.line.Line.{Line}
 use Rattle.mc_server.specs.declared.settings.Settings.{Settings}
-use Rattle.mc_server.specs.Ticking.{IsScene, IsMarked, shown_now, told, opening_told, sight_before, recalled, ticked_client}
-
--- ---- what is shown of a view
-
--- the columns of a view of the land are those around the player, also while more of them are made ready
-pub view_shown : (settings : Settings) (old new : LandValue) (list : ListValue) (view : ViewSet) (s : Session) → SameWorld old new →
-    ◌≡◌ {A = Place} (view.cx, view.cz) (column_of_spot s.place) → view.d ≡ view_size settings.cap s.asked → seen new list view ≡ shown_now settings old list.present s
-view_shown settings old new list view s same middle far = λ i. record {
-  pairs = list.present;
-  columns = from_entries (map (λ (place : Place). (place, record { states = states_of (same.terrain i) (same.edits i) place; biomes = biomes_of (same.terrain i) place })) (view_of (middle i) (far i)));
-}
+use Rattle.mc_server.specs.Ticking.{IsScene, shown_now, told, opening_told, sight_before, recalled, ticked_client}
 
 -- ---- of a world
 
@@ -99,7 +87,7 @@ hand_shown s shown ps = elim (nat_le (length s.owed + length (bytes_of ps)) outb
     ]
 
 -- one that is in play is flushed
-flush_play : (w : World) (s : Session) → is_play s.stage ≡ true → flush w s ≡ hand (showing w s) (map of_play (due w s))
+pub flush_play : (w : World) (s : Session) → is_play s.stage ≡ true → flush w s ≡ hand (showing w s) (map of_play (due w s))
 flush_play w s plays = ap (λ (b : Bool). if b then hand (showing w s) (map of_play (due w s)) else record { session = s; handed = [] }) plays
 
 -- a client in play that was shown the parts
@@ -112,10 +100,3 @@ client_ticked w settings land present last line s t is plays handed =
     ∙ ap (λ (ps : List Down). (hand (record s { notes = no_notes }) (map of_play ps)).session) (told_due w settings land present last line s is)
     ∙ hand_shown s (Some (project w c)) (map of_play (due w c))
     ∙ ap (λ (h : Handing). record h.session { shown = s.shown }) (sym (flush_play w c plays))
-
--- one that is not in play stays
-pub client_stays : (w : World) (last : Pairs) (line : Option Line) (s : Session) → is_play s.stage ≡ false → s ≡ ticked_client w last line s
-client_stays w last None s waits = refl
-client_stays w last (Some line) s waits =
-    let c : Session = recalled w last line s in
-    ap (λ (b : Bool). record (cond {A = Handing} b (hand (showing w c) (map of_play (due w c))) (record { session = c; handed = [] })).session { shown = s.shown }) (sym waits)

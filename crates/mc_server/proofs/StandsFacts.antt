@@ -1,18 +1,17 @@
 -- A server stands for what a tick makes of the world that it stood for.
-use Rattle.std.proofs.Common.{◌≡◌, ℕ, ◌+◌, Bool, true, false, List, [], ◌∷◌, ◌++◌, map, Option, Some, None, is_some, refl, sym, subst, ap, ◌∙◌}
-use Rattle.std.specs.Prelude.{unwrap_or, option_map}
+use Rattle.std.proofs.Common.{◌≡◌, ℕ, ◌+◌, true, false, List, ◌++◌, map, Option, Some, None, is_some, refl, sym, subst, ap, ◌∙◌}
+use Rattle.std.specs.Prelude.{option_map}
 use Rattle.std.specs.FinMap.{find}
 use Rattle.std.specs.Ordering.{nat_cmp}
 use Rattle.mc_view.specs.declared.view_set.ViewSet.{ViewSet}
-use Rattle.mc_model.specs.declared.cause.Cause.TheVariants as causes
 use Rattle.mc_model.specs.declared.stage.Stage.{Stage}
 use Rattle.mc_model.specs.declared.stage.Stage.TheVariants as stages
 use Rattle.mc_model.specs.Hearing.{of_play, bytes_of}
-use Rattle.mc_model.specs.Sight.{Sight, nothing_seen}
+use Rattle.mc_model.specs.Sight.{Sight}
 use Rattle.mc_model.specs.Delta.{Pairs}
 use Rattle.mc_model.specs.PlainWorld.{Rise}
 use Rattle.mc_model.specs.World.{World, Session, found, is_play, is_closed, project}
-use Rattle.mc_model.specs.Step.{Handing, due, flush, showing, at_tick, tick, step, ticked, last_shown}
+use Rattle.mc_model.specs.Step.{due, flush, showing, at_tick, step, ticked, last_shown}
 use Rattle.mc_model.proofs.Handing.{flush_cases, not_both}
 use Rattle.mc_model.proofs.RunEvents.{orderly_step}
 use Rattle.mc_model.proofs.Sessions.{found_id, found_map, some_none, one_some}

@@ -1,30 +1,28 @@
 -- What a tick makes of the hall and of the lines is what it makes of the world.
-use Rattle.std.proofs.Common.{◌≡◌, ◌≢◌, ℕ, suc, ◌+◌, ◌<◌, ◌≤◌, Bool, true, false, cond, not, List, [], ◌∷◌, ◌++◌, map, length, Option, Some, None, is_some, refl, sym, subst, ap, ◌∙◌, arith}
-use Rattle.std.specs.Prelude.{◌==◌, nat_le, unwrap_or, if◌then◌else◌, option_map}
+use Rattle.std.proofs.Common.{◌≡◌, ◌≢◌, ℕ, ◌+◌, ◌≤◌, Bool, true, false, cond, not, List, [], ◌∷◌, ◌++◌, map, length, Option, Some, None, is_some, refl, sym, ap, ◌∙◌, arith}
+use Rattle.std.specs.Prelude.{◌==◌, nat_le, if◌then◌else◌}
 use Rattle.std.specs.List.{AllByRecursion, filter, flat_map}
-use Rattle.std.specs.FinMap.{FinMap, find, from_entries, contains_key, keys, entries}
+use Rattle.std.specs.FinMap.{find, from_entries, contains_key, keys, entries}
 use Rattle.std.specs.Ordering.{nat_cmp}
-use Rattle.std.proofs.lemmas.Bool.{eqb-true, eq-eqb, ne_eqb}
-use lib.IntN.{ℤ, pos}
+use Rattle.std.proofs.lemmas.Bool.{eqb-true, ne_eqb}
+use lib.IntN.{pos}
 use Rattle.mc_column.specs.Cells.{ColumnValue}
 use Rattle.mc_frame.specs.Kept.{outbox_max}
 use Rattle.mc_land.specs.Places.{Place}
 use Rattle.mc_down.specs.declared.down.Down.{Down}
 use Rattle.mc_view.specs.declared.view_set.ViewSet.{ViewSet}
-use Rattle.mc_view.specs.Sets.{has, all_of}
+use Rattle.mc_view.specs.Sets.{has}
 use Rattle.mc_model.specs.declared.cause.Cause.TheVariants as causes
-use Rattle.mc_model.specs.declared.stage.Stage.{Stage}
 use Rattle.mc_model.specs.declared.stage.Stage.TheVariants as stages
 use Rattle.mc_model.specs.Hearing.{Sent, of_play, bytes_of}
 use Rattle.mc_model.specs.Notes.{no_notes}
-use Rattle.mc_model.specs.Sight.{Sight, nothing_seen}
-use Rattle.mc_model.specs.Delta.{Pairs, delta, missing, is_named, leaver, joiner, about, unload, load}
+use Rattle.mc_model.specs.Sight.{Sight}
+use Rattle.mc_model.specs.Delta.{Pairs, delta, missing, leaver, joiner, about, unload, load}
 use Rattle.mc_model.specs.Plain.{opening_of}
 use Rattle.mc_model.specs.PlainWorld.{Rise}
-use Rattle.mc_model.specs.World.{World, Session, found, is_play, is_closed, players, project, column_in, view_in}
-use Rattle.mc_model.specs.Step.{Handing, hand, due, flush, showing, at_tick, tick, step, ticked, last_shown, opening, notes_due}
-use Rattle.mc_model.proofs.Sessions.{found_id, found_map, some_none, one_some, same_number}
-use Rattle.mc_model.proofs.PlainPlaces.{rise_at}
+use Rattle.mc_model.specs.World.{World, Session, found, is_play, project, column_in, view_in}
+use Rattle.mc_model.specs.Step.{Handing, hand, due, flush, showing, at_tick, last_shown}
+use Rattle.mc_model.proofs.Sessions.{some_none, same_number}
 use Rattle.mc_flush.specs.Seeing.{StandsFor}
 use Rattle.mc_flush.specs.Sending.{notes_due_of}
 use Rattle.mc_flush.proofs.Shown.{keys_shown}
@@ -32,8 +30,8 @@ use Rattle.mc_server.specs.declared.line.Line.{Line}
 use Rattle.mc_server.specs.Bare.{bare, bare_world}
 use Rattle.mc_server.specs.Halls.{playing_of}
 use Rattle.mc_server.specs.Stands.{IsLine, HasLine}
-use Rattle.mc_server.specs.Ticking.{LineFollows, IsMarked, names_of, plays, sight_before, recalled, ticked_client, ticked_clients}
-use Rattle.mc_server.proofs.SceneFacts.{before_stands, some_mapped}
+use Rattle.mc_server.specs.Ticking.{names_of, sight_before, recalled, ticked_client, ticked_clients}
+use Rattle.mc_server.proofs.SceneFacts.{before_stands, flush_play, some_mapped}
 
 -- ---- two sights that a difference does not tell apart
 
@@ -103,9 +101,6 @@ hand_bare s one other ps = elim (nat_le (length s.owed + length (bytes_of ps)) o
       | true ↦ refl
       | false ↦ refl
     ]
-
-flush_play : (w : World) (s : Session) → is_play s.stage ≡ true → flush w s ≡ hand (showing w s) (map of_play (due w s))
-flush_play w s here = ap (λ (b : Bool). if b then hand (showing w s) (map of_play (due w s)) else record { session = s; handed = [] }) here
 
 flush_waits : (w : World) (s : Session) → is_play s.stage ≡ false → (flush w s).session ≡ s
 flush_waits w s waits = ap (λ (b : Bool). (cond {A = Handing} b (hand (showing w s) (map of_play (due w s))) (record { session = s; handed = [] })).session) waits

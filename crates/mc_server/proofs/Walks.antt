@@ -10,10 +10,10 @@ use Rattle.mc_model.specs.Delta.{Pairs}
 use Rattle.mc_model.specs.World.{World, Session, found, is_play}
 use Rattle.mc_model.specs.PlainWorld.{Rise}
 use Rattle.mc_model.proofs.PlainPlaces.{rise_at}
-use Rattle.mc_model.proofs.Sessions.{found_before, found_behind, some_none, one_some, same_number, other_number}
+use Rattle.mc_model.proofs.Sessions.{found_before, found_behind, some_none}
 use Rattle.mc_server.specs.declared.line.Line.{Line}
 use Rattle.mc_server.specs.Halls.{playing_of}
-use Rattle.mc_server.specs.Ticking.{LineFollows, IsMarked, plays, ticked_client, ticked_clients}
+use Rattle.mc_server.specs.Ticking.{LineFollows, plays, ticked_client, ticked_clients}
 
 -- ---- one changed at its place
 

@@ -1,5 +1,5 @@
 -- What a roster keeps: few players, of short names.
-use Rattle.std.specs.Prelude.{ℕ, ◌≤◌}
+use Rattle.std.specs.Prelude.{◌≤◌}
 use Rattle.std.specs.List.{AllByRecursion}
 use Rattle.std.specs.FinMap.{empty, entries, len}
 use Rattle.mc_flush.specs.Lists.{ListValue}

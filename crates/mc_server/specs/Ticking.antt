@@ -1,7 +1,6 @@
 -- What a tick makes of each client and its line, from what the line's mark keeps of what the client was shown.
 use Rattle.std.specs.Prelude.{◌≡◌, ℕ, ◌==◌, ◌&&◌, Bool, true, false, is_some, List, [], ◌++◌, map, Option, Some, None, if◌then◌else◌, option_map}
-use Rattle.std.specs.List.{AllByRecursion}
-use Rattle.std.specs.FinMap.{FinMap, from_entries, find, entries, len}
+use Rattle.std.specs.FinMap.{from_entries, find}
 use Rattle.std.specs.Ordering.{nat_cmp}
 use lib.IntN.{pos}
 use Rattle.mc_land.specs.Places.{Place}
@@ -16,7 +15,6 @@ use Rattle.mc_model.specs.World.{World, Session, column_in, is_play, players, pr
 use Rattle.mc_model.specs.Step.{flush}
 use Rattle.mc_model.specs.Plain.{opening_of}
 use Rattle.mc_model.specs.PlainWorld.{Rise}
-use Rattle.mc_flush.specs.Lists.{ListValue}
 use Rattle.mc_flush.specs.Seeing.{StandsFor, placed_column}
 use Rattle.mc_flush.specs.Sending.{notes_due_of}
 use Rattle.mc_server.specs.declared.line.Line.{Line}

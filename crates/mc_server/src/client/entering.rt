@@ -1,4 +1,4 @@
-ghost use Rattle.std.specs.Prelude.{◌≡◌, ◌≤◌, length, IfOk, OnOk};
+ghost use Rattle.std.specs.Prelude.{◌≡◌, ◌≤◌, ◌<◌, ◌^◌, length, IfOk, OnOk};
 ghost use Rattle.mc_model.specs.declared.cause.Cause.TheVariants as causes;
 ghost use Rattle.mc_model.specs.Hearing.{bytes_of};
 ghost use Rattle.mc_model.specs.Names.{offline_uuid};
@@ -16,7 +16,8 @@ use mc_session::offline_uuid;
 impl Client {
     /// Its player enters, with an entity number.
     pub fn enter(&mut self, terrain: &Terrain, eid: u32, name: &Name) -> Result<(), NoMemory>
-        requires { self.old.stage ≡ Stage.Asked }
+        requires stage { self.old.stage ≡ Stage.Asked }
+        requires eid { eid < 2 ^ 31 }
         ensures ok { OnOk result (self.new ≡ (hand (entered_as terrain.now eid self.old name.now) (accepted (offline_uuid name.now) name.now)).session) }
         ensures same { self.new.id ≡ self.old.id }
     {
@@ -37,7 +38,8 @@ impl Client {
 
     /// Its player begins, where players enter.
     fn begin(&mut self, terrain: &Terrain, eid: u32, name: &Name) -> Result<(), NoMemory>
-        requires { self.old.stage ≡ Stage.Play }
+        requires stage { self.old.stage ≡ Stage.Play }
+        requires eid { eid < 2 ^ 31 }
         ensures ok { OnOk result (self.new ≡ entered_as terrain.now eid self.old name.now) }
         ensures same { self.new.id ≡ self.old.id }
     {

@@ -1,7 +1,7 @@
 //! What is done to one connection. Where memory runs out it is left closed, so that it is known who is
 //! in play.
 
-ghost use Rattle.std.specs.Prelude.{◌≡◌, true, false, IfOk, OnOk};
+ghost use Rattle.std.specs.Prelude.{◌≡◌, ◌<◌, ◌^◌, true, false, IfOk, OnOk};
 ghost use Rattle.mc_model.specs.declared.cause.Cause.TheVariants as causes;
 ghost use Rattle.mc_model.specs.World.{is_play};
 ghost use Rattle.mc_model.specs.Names.{offline_uuid};
@@ -49,7 +49,8 @@ pub(super) fn enter(
     eid: u32,
     name: &Name,
 ) -> Result<(), NoMemory>
-    requires { client.old.stage ≡ Stage.Asked }
+    requires stage { client.old.stage ≡ Stage.Asked }
+    requires eid { eid < 2 ^ 31 }
     ensures ok { OnOk result (client.new ≡ (hand (entered_as terrain.now eid client.old name.now) (accepted (offline_uuid name.now) name.now)).session) }
     ensures same { client.new.id ≡ client.old.id }
 {

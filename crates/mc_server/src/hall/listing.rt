@@ -1,7 +1,6 @@
 ghost use Rattle.std.specs.Prelude.{◌≡◌, ◌≤◌, ◌<◌, ◌+◌, ◌∷◌, [], ℕ, true, length, OnOk};
 ghost use Rattle.std.specs.FinMap as finmap;
-ghost use Rattle.std.specs.FinMap.{find, get};
-ghost use Rattle.std.specs.Ordering.{nat_cmp};
+ghost use Rattle.std.specs.FinMap.{get};
 ghost use Rattle.mc_model.specs.World.{is_play};
 ghost use Rattle.mc_server.specs.Halls.{playing_of};
 ghost use Rattle.mc_server.specs.Ticking.{name_after, names_of};

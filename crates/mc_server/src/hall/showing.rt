@@ -1,18 +1,16 @@
-ghost use Rattle.std.specs.Prelude.{◌≡◌, ◌≤◌, ◌<◌, ◌+◌, ◌≢◌, ℕ, List, Some, None, true, map, length, OnOk};
-ghost use Rattle.std.specs.FinMap as finmap;
+ghost use Rattle.std.specs.Prelude.{◌≡◌, ◌≤◌, ◌<◌, ◌≢◌, ℕ, Some, None, true, map, length, OnOk};
 ghost use Rattle.std.specs.FinMap.{find};
 ghost use Rattle.std.specs.Ordering.{nat_cmp};
 ghost use Rattle.mc_model.specs.Plain.{SameWorld};
-ghost use Rattle.mc_model.specs.World.{World, AreSettings, is_play, players, found};
+ghost use Rattle.mc_model.specs.World.{World, AreSettings, is_play, found};
 ghost use Rattle.mc_model.specs.World as spec;
 ghost use Rattle.mc_server.specs.Halls.{playing_of};
-ghost use Rattle.mc_server.specs.Ticking.{AreRising, IsScene, LineFollows, names_of, ticked_client, ticked_clients};
+ghost use Rattle.mc_server.specs.Ticking.{AreRising, IsScene, LineFollows, ticked_client, ticked_clients};
 
 use crate::Settings;
 use crate::client::Client;
 use crate::line::Line;
 use crate::roster::Roster;
-use mc_flush::Mark;
 use mc_land::Land;
 use mc_nbt::NoMemory;
 use std::alloc::Global;

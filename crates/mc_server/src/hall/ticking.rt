@@ -1,10 +1,9 @@
-ghost use Rattle.std.specs.Prelude.{◌≡◌, ◌≤◌, ◌+◌, ◌<◌, ◌^◌, ℕ, length, map, if◌then◌else◌, OnOk};
+ghost use Rattle.std.specs.Prelude.{◌≡◌, ◌≤◌, ◌+◌, ◌<◌, ◌^◌, ℕ, length, if◌then◌else◌, OnOk};
 ghost use Rattle.std.specs.FinMap as finmap;
 ghost use Rattle.std.specs.FinMap.{find};
 ghost use Rattle.std.specs.Ordering.{nat_cmp};
 ghost use Rattle.mc_model.specs.PlainWorld.{Rise, next_number};
 ghost use Rattle.mc_model.specs.World.{found, is_play};
-ghost use Rattle.mc_model.specs.World as spec;
 ghost use Rattle.mc_server.specs.Halls.{playing_of};
 ghost use Rattle.mc_server.specs.Ticking.{LineFollows, names_of, ticked_clients};
 

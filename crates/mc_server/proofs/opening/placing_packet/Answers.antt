@@ -1,4 +1,4 @@
-use Rattle.std.proofs.Common.{◌≡◌, arith}
+use Rattle.std.proofs.Common.{arith}
 use Rattle.mc_model.proofs.PlainPatterns.{degrees_one}
 use Rattle.mc_flush.proofs.Placings.{range_small, pattern_at, placing_is, placing_clear}
 use Rattle.mc_server.proofs.opening.placing_packet.Goals as goal

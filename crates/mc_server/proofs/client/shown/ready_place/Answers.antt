@@ -1,6 +1,5 @@
-use Rattle.std.proofs.Common.{rules, FitsSigned, w32, sym, subst}
+use Rattle.std.proofs.Common.{rules, FitsSigned, w32}
 use Rattle.std.proofs.lemmas.Int.{to_z-of_z}
-use Rattle.mc_flush.specs.Seeing.{IsReady}
 use Rattle.mc_model.proofs.PlainProjections.{is_ready}
 use Rattle.mc_server.proofs.ReadyFacts.{ready_grown}
 use Rattle.mc_server.proofs.client.shown.ready_place.Goals as goal

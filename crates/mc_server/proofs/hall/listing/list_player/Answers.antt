@@ -1,8 +1,5 @@
-use Rattle.std.proofs.Common.{◌≡◌, true, false, sym, ◌∙◌}
-use Rattle.std.specs.Prelude.{if◌then◌else◌}
-use Rattle.std.specs.FinMap.{contains_key}
+use Rattle.std.proofs.Common.{◌≡◌, true, sym, ◌∙◌}
 use Rattle.mc_model.specs.World.{is_play}
-use Rattle.mc_flush.specs.Lists.{ListValue, with_name}
 use Rattle.mc_server.proofs.Listed.{name_put, name_passed, few_put, last_put, copied_put}
 use Rattle.mc_server.proofs.hall.listing.list_player.Goals as goal
 
