@@ -8,7 +8,7 @@ use Rattle.std.specs.Map.{lookup}
 use Rattle.std.proofs.lemmas.Bool.{ne_eqb}
 use Rattle.mc_frame.specs.declared.fault.FrameFault.{FrameFault}
 use Rattle.mc_frame.specs.Held.{Splitting}
-use Rattle.mc_land.proofs.KeptLandFacts.{lookup_is}
+use Rattle.mc_flush.proofs.Lookups.{tree_found}
 use Rattle.mc_server.specs.declared.line.Line.{Line}
 use Rattle.mc_server.specs.Cuts.{IsCutInto, IsLineCut}
 
@@ -20,10 +20,10 @@ pub other_key : (k j : ℕ) → j ≢ k → is_eq (nat_cmp k j) ≡ false
 other_key k j ne = unsigned_tied k j ∙ ne_eqb k j (λ e. ne (sym e))
 
 pub found_line : (k : ℕ) (lines : List (ℕ × Line)) (line : Line) → looked k lines ≡ Some line → find nat_cmp k lines ≡ Some line
-found_line k lines line e = sym (lookup_is nat_cmp k lines) ∙ e
+found_line k lines line e = sym (tree_found k lines) ∙ e
 
 pub other_line : (k j : ℕ) (old new : List (ℕ × Line)) → j ≢ k → ((q : ℕ) → is_eq (nat_cmp k q) ≡ false → looked q new ≡ looked q old) → find nat_cmp j new ≡ find nat_cmp j old
-other_line k j old new ne same = sym (lookup_is nat_cmp j new) ∙ same j (other_key k j ne) ∙ lookup_is nat_cmp j old
+other_line k j old new ne same = sym (tree_found j new) ∙ same j (other_key k j ne) ∙ tree_found j old
 
 -- the line of a connection with another splitter
 pub written : (k count : ℕ) (line at : Line) (bytes : List ℕ) (frames : List (List ℕ)) (fault : Option FrameFault) (now : Splitting) (old new : List (ℕ × Line)) → at ≡ line → looked k new ≡ Some (record at { splitter = now }) →
@@ -39,7 +39,7 @@ written k count line at bytes frames fault now old new is there others cut =
 
 -- the line that is looked at is the one that is found
 pub line_is : (k : ℕ) (lines : List (ℕ × Line)) (line at : Line) → find nat_cmp k lines ≡ Some line → Some at ≡ looked k lines → at ≡ line
-line_is k lines line at e is = let same : Some at ≡ Some line = is ∙ lookup_is nat_cmp k lines ∙ e in cc
+line_is k lines line at e is = let same : Some at ≡ Some line = is ∙ tree_found k lines ∙ e in cc
 
 pub ok_follows : {A E : Type 0} (r : Result A E) (P Q : A → Type 0) → ((x : A) → P x → Q x) → IfOk r P → IfOk r Q
 ok_follows (Ok x) P Q f p = f x p

@@ -1,5 +1,6 @@
-ghost use Rattle.std.specs.Prelude.{◌≡◌, ◌+◌, ◌++◌, ◌≤◌, [], nat_le, List, Some, OnOk, length};
+ghost use Rattle.std.specs.Prelude.{◌≡◌, ◌+◌, ◌++◌, ◌≤◌, [], nat_le, true, List, Some, OnOk, length};
 ghost use Rattle.mc_frame.specs.Kept.{joined, outbox_max};
+ghost use Rattle.mc_model.specs.World.{is_play};
 ghost use Rattle.mc_model.specs.Hearing.{Sent, bytes_of};
 ghost use Rattle.mc_model.specs.Step.{hand, close};
 
