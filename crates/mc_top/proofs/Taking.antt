@@ -11,7 +11,7 @@ use Rattle.mc_model.specs.World.{World, Session, found, is_closed}
 use Rattle.mc_model.specs.Step.{Event, took, forgot, step, changed, is_done}
 use Rattle.mc_model.specs.Run.{history}
 use Rattle.mc_model.proofs.Sessions.{some_none, other_number, same_number, found_map, found_behind, AreApart}
-use Rattle.mc_server.specs.Asking.{owed_of, owed_in, is_done_of, is_done_in}
+use Rattle.mc_server.specs.Asking.{owed_of, owed_in, is_over, is_done_in}
 use Rattle.mc_top.specs.ReplayText.{owes, is_shut, sent_line, shut_line, told, takings, settled}
 use Rattle.mc_top.specs.Replaying.{taken, sent_by, forgotten, shut_by, all_taken, all_sent, all_forgotten, all_shut}
 
@@ -189,7 +189,7 @@ forgot_mid w pre rest s none none' done =
     )
 
 done_mid : (w : World) (pre rest : List Session) (s : Session) → found s.id pre ≡ None → is_done_in s.id (with_sessions w (pre ++ s ∷ rest)) ≡ is_done s
-done_mid w pre rest s none = ap is_done_of (found_mid pre rest s none)
+done_mid w pre rest s none = ap is_over (found_mid pre rest s none)
 
 -- ---- all connections
 
