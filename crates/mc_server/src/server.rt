@@ -120,6 +120,7 @@ impl Server {
     pub fn took(&mut self, k: u32, n: usize)
         ensures follows { (w : World) → Stands self.old w → Stands self.new (step w (took k n)).world }
         ensures age { age_of self.new ≡ age_of self.old }
+        ensures failed { HasFailed self.old → HasFailed self.new }
     {
         self.hall.took(k, n);
     }
@@ -135,6 +136,7 @@ impl Server {
     pub fn forget(&mut self, k: u32)
         ensures follows { (w : World) → Stands self.old w → Stands self.new (step w (forgot k)).world }
         ensures age { age_of self.new ≡ age_of self.old }
+        ensures failed { HasFailed self.old → HasFailed self.new }
     {
         let done = self.hall.done(k);
         drop_line(&mut self.lines, k, done);
