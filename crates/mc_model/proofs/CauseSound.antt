@@ -11,11 +11,12 @@ use Rattle.mc_model.specs.World.{World, Session, new_world, found, is_play, is_c
 use Rattle.mc_model.specs.Hearing.{Sent}
 use Rattle.mc_model.specs.Step.{Event, came, left, Handing, shut, new_session, joining, is_new, is_crowded, flush, at_tick, on_bytes, gone, step}
 use Rattle.mc_model.specs.Run.{history, to, cause_in, why, first_of}
+use Rattle.mc_model.specs.Orderly.{Orderly}
 use Rattle.mc_model.proofs.Sessions.{some_none, one_some}
 use Rattle.mc_model.proofs.Beside.{beside_changed}
 use Rattle.mc_model.proofs.Handing.{stayed, answered, greeted, entered, shut_for, closed_is, not_both, not_closed, flush_cases}
 use Rattle.mc_model.proofs.Frames.{IsKept, bytes_beside}
-use Rattle.mc_model.proofs.RunEvents.{gone_id, Orderly, orderly_step, old_step}
+use Rattle.mc_model.proofs.RunEvents.{gone_id, orderly_step, old_step}
 use Rattle.mc_model.proofs.RunTurns.{to_other, tick_hands, away, joins, arrives, went, stays, remains, is_tick, each_step}
 use Rattle.mc_model.proofs.RunTicks.{flush_waits}
 use Rattle.mc_model.proofs.RunOrder.{orderly_new}

@@ -5,7 +5,8 @@ use Rattle.std.proofs.lemmas.Bool.Decides.{nat_tests}
 use Rattle.mc_model.specs.declared.cause.Cause.TheVariants as causes
 use Rattle.mc_model.specs.World.{World, Session, found, is_closed}
 use Rattle.mc_model.specs.Step.{Event, joined, came, left, ticked, took, forgot, Handing, shut, new_session, joining, join, is_new, is_crowded, gone, changed, is_done, flush, at_tick, on_bytes, step}
-use Rattle.mc_model.proofs.Sessions.{other_number, found_map, found_behind, AreApart, apart_map, apart_more, apart_filter, none_filtered}
+use Rattle.mc_model.specs.Orderly.{Orderly}
+use Rattle.mc_model.proofs.Sessions.{other_number, found_map, found_behind, apart_map, apart_more, apart_filter, none_filtered}
 use Rattle.mc_model.proofs.Beside.{Beside, beside_changed}
 use Rattle.mc_model.proofs.Handing.{flush_cases}
 use Rattle.mc_model.proofs.Frames.{bytes_beside}
@@ -43,11 +44,6 @@ pub flush_id : (w : World) (s : Session) → (flush w s).session.id ≡ s.id
 flush_id w s = flush_cases w s (λ (h : Handing). h.session.id ≡ s.id) (λ waits. refl) (λ playing fits. refl) (λ playing much. refl)
 
 -- ---- the order of numbers
-
--- no two connections have the same number, and none has one that is above the last
-pub record Orderly (w : World) : Type 0 where
-  pub apart : AreApart w.sessions
-  pub fresh : (k : ℕ) → is_new k w.last ≡ true → found k w.sessions ≡ None
 
 pub orderly_beside : (k : ℕ) (w v : World) → Beside k w v → Orderly w → Orderly v
 orderly_beside k w v b o = record {

@@ -4,7 +4,8 @@ use Rattle.mc_land.specs.declared.terrain.Terrain.{Terrain}
 use Rattle.mc_model.specs.World.{World, new_world}
 use Rattle.mc_model.specs.Step.{Event, step}
 use Rattle.mc_model.specs.Run.{history}
-use Rattle.mc_model.proofs.RunEvents.{Orderly, orderly_step}
+use Rattle.mc_model.specs.Orderly.{Orderly}
+use Rattle.mc_model.proofs.RunEvents.{orderly_step}
 
 pub orderly_history : (events : List Event) (w : World) → Orderly w → Orderly (history w events)
 orderly_history [] w o = o

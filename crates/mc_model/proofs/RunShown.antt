@@ -15,12 +15,13 @@ use Rattle.mc_model.specs.World.{World, Session, new_world, found, is_play, is_c
 use Rattle.mc_model.specs.Hearing.{Sent, of_play, in_play, played}
 use Rattle.mc_model.specs.Step.{Event, ticked, Handing, shut, new_session, joining, is_new, is_crowded, last_shown, due, showing, flush, at_tick, step}
 use Rattle.mc_model.specs.Run.{history, handed, to}
+use Rattle.mc_model.specs.Orderly.{Orderly}
 use Rattle.mc_model.proofs.Opening.{due_leads}
 use Rattle.mc_model.proofs.Projections.{project_follows, nothing_follows}
 use Rattle.mc_model.proofs.Sessions.{some_none, one_some}
 use Rattle.mc_model.proofs.Handing.{stayed, answered, greeted, entered, shut_for, not_both, not_play, flush_cases}
 use Rattle.mc_model.proofs.Frames.{IsKept}
-use Rattle.mc_model.proofs.RunEvents.{Orderly, orderly_step, lasts_step, old_step}
+use Rattle.mc_model.proofs.RunEvents.{orderly_step, lasts_step, old_step}
 use Rattle.mc_model.proofs.RunTurns.{tick_found, no_out, away, joins, arrives, each_step}
 
 -- ---- packets of play

@@ -14,10 +14,10 @@ use Rattle.mc_model.specs.Talk.{farewell}
 use Rattle.mc_model.specs.Step.{Event, ticked, Handing, hand, due, showing, flush, at_tick, step}
 use Rattle.mc_model.specs.Run.{to}
 use Rattle.mc_model.specs.Causes.{IsTooMuch}
+use Rattle.mc_model.specs.Orderly.{Orderly}
 use Rattle.mc_model.proofs.Sessions.{some_none, one_some}
 use Rattle.mc_model.proofs.Handing.{stayed, answered, greeted, entered, shut_for, not_both, not_play, not_closed, flush_cases}
 use Rattle.mc_model.proofs.Frames.{IsKept}
-use Rattle.mc_model.proofs.RunEvents.{Orderly}
 use Rattle.mc_model.proofs.RunTurns.{tick_found, tick_hands, no_out, Remains, went, stays, remains}
 
 -- ---- a tick

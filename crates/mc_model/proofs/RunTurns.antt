@@ -9,7 +9,8 @@ use Rattle.mc_model.specs.World.{World, Session, found, is_closed}
 use Rattle.mc_model.specs.Hearing.{Sent}
 use Rattle.mc_model.specs.Step.{Event, joined, came, left, ticked, took, forgot, Outcome, Turn, shut, joining, join, is_new, gone, changed, is_done, flush, at_tick, on_bytes, step}
 use Rattle.mc_model.specs.Run.{to}
-use Rattle.mc_model.proofs.Sessions.{some_none, one_some, other_number, same_number, found_map, found_before, found_behind, AreApart, none_filtered, found_filter, to_none, to_found}
+use Rattle.mc_model.specs.Orderly.{AreApart}
+use Rattle.mc_model.proofs.Sessions.{some_none, one_some, other_number, same_number, found_map, found_before, found_behind, none_filtered, found_filter, to_none, to_found}
 use Rattle.mc_model.proofs.Beside.{beside_changed, found_changed}
 use Rattle.mc_model.proofs.Handing.{Done, stayed, shut_for}
 use Rattle.mc_model.proofs.Frames.{IsKept, bytes_lead, no_bytes, bytes_beside}

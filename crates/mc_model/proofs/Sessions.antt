@@ -7,6 +7,7 @@ use Rattle.std.proofs.lemmas.Bool.{eqb-true, eq-eqb}
 use Rattle.mc_model.specs.World.{Session, found}
 use Rattle.mc_model.specs.Hearing.{Sent}
 use Rattle.mc_model.specs.Run.{to}
+use Rattle.mc_model.specs.Orderly.{AreApart}
 
 -- ---- tests of numbers
 
@@ -60,11 +61,6 @@ found_behind k (x ∷ xs) ys e = elim (x.id == k) as (λ b. cond b (Some x) (fou
 ] e
 
 -- ---- numbers that stand once
-
--- no two have the same number
-abbrev pub AreApart : List Session → Type 0
-AreApart [] = Unit {0}
-AreApart (s ∷ ss) = (found s.id ss ≡ None) × AreApart ss
 
 none_mapped : (k : ℕ) (f : Session → Session) → ((t : Session) → (f t).id ≡ t.id) → (ss : List Session) → found k ss ≡ None → found k (map f ss) ≡ None
 none_mapped k f keeps ss e = found_map k f keeps ss ∙ ap (option_map f) e

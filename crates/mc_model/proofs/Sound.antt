@@ -14,7 +14,8 @@ use Rattle.mc_model.specs.Hearing.{of_play, for_play}
 use Rattle.mc_model.specs.Delta.{delta}
 use Rattle.mc_model.specs.World.{World, Session, AreSettings, players, found, is_play, spawn_height, project}
 use Rattle.mc_model.specs.Step.{is_new, placing, level, opening, opening_due, notes_due, last_shown, due}
-use Rattle.mc_model.proofs.Sessions.{AreApart, some_none, one_some}
+use Rattle.mc_model.specs.Orderly.{AreApart}
+use Rattle.mc_model.proofs.Sessions.{some_none, one_some}
 use Rattle.mc_model.proofs.Hears.{IsClear, Hears}
 use Rattle.mc_model.proofs.FitsPlay.{join_clear, spawn_clear}
 use Rattle.mc_model.proofs.FitsList.{AreClear}

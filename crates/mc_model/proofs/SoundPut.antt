@@ -4,7 +4,8 @@ use Rattle.std.specs.Prelude.{◌⊎◌, ◌==◌, Some, None, option_map, if◌
 use Rattle.std.specs.List.{filter, AllByRecursion}
 use Rattle.std.proofs.lemmas.Bool.{eqb-true}
 use Rattle.mc_model.specs.World.{World, Session, players, found, put, is_play}
-use Rattle.mc_model.proofs.Sessions.{AreApart, some_none, one_some, found_map, apart_map}
+use Rattle.mc_model.specs.Orderly.{AreApart}
+use Rattle.mc_model.proofs.Sessions.{some_none, one_some, found_map, apart_map}
 use Rattle.mc_model.proofs.Beside.{beside_put}
 use Rattle.mc_model.proofs.Sound.{SessionFits, Sound}
 

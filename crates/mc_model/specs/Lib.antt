@@ -12,6 +12,7 @@ pub mod Hearing
 pub mod Acts
 pub mod Talk
 pub mod Step
+pub mod Orderly
 pub mod Run
 pub mod Causes
 pub mod Headline

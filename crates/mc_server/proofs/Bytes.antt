@@ -12,11 +12,12 @@ use Rattle.mc_model.specs.Delta.{Pairs}
 use Rattle.mc_model.specs.Sight.{Sight, nothing_seen}
 use Rattle.mc_model.specs.World.{World, Session, found, put, is_play, is_closed}
 use Rattle.mc_model.specs.Step.{came, step, on_bytes, on_cut, read_to, still, when_open, Turn}
-use Rattle.mc_model.proofs.Sessions.{AreApart, found_id, one_some}
+use Rattle.mc_model.specs.Orderly.{AreApart, Orderly}
+use Rattle.mc_model.proofs.Sessions.{found_id, one_some}
 use Rattle.mc_model.proofs.Beside.{found_put}
 use Rattle.mc_model.proofs.Frames.{bytes_beside}
 use Rattle.mc_model.proofs.PlainPlaces.{at_none}
-use Rattle.mc_model.proofs.RunEvents.{Orderly, orderly_step}
+use Rattle.mc_model.proofs.RunEvents.{orderly_step}
 use Rattle.mc_flush.specs.Seeing.{StandsFor}
 use Rattle.mc_server.specs.declared.line.Line.{Line}
 use Rattle.mc_server.specs.declared.server.Server.{Server}

@@ -6,7 +6,7 @@ use Rattle.mc_frame.specs.Cut.{IsPart, kept_count}
 use Rattle.mc_model.specs.Delta.{Pairs}
 use Rattle.mc_model.specs.World.{World, Session, found, is_play, is_closed}
 use Rattle.mc_model.specs.Step.{last_shown}
-use Rattle.mc_model.proofs.RunEvents.{Orderly}
+use Rattle.mc_model.specs.Orderly.{Orderly}
 use Rattle.mc_flush.specs.Seeing.{StandsFor}
 use Rattle.mc_server.specs.declared.line.Line.{Line}
 use Rattle.mc_server.specs.declared.server.Server.{Server}

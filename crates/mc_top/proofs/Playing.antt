@@ -10,7 +10,7 @@ use Rattle.mc_wire.specs.Stream.{Grows}
 use Rattle.mc_model.specs.World.{World, new_world}
 use Rattle.mc_model.specs.Step.{Event, ticked, step}
 use Rattle.mc_model.specs.Run.{history}
-use Rattle.mc_model.proofs.Sessions.{AreApart}
+use Rattle.mc_model.specs.Orderly.{AreApart}
 use Rattle.mc_model.proofs.RunOrder.{orderly_run}
 use Rattle.mc_server.specs.declared.server.Server.{Server}
 use Rattle.mc_server.specs.Stands.{Stands}

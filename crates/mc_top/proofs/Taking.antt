@@ -10,7 +10,8 @@ use Rattle.hex.specs.Hex.{encode_lower, encode_with}
 use Rattle.mc_model.specs.World.{World, Session, found, is_closed}
 use Rattle.mc_model.specs.Step.{Event, took, forgot, step, changed, is_done}
 use Rattle.mc_model.specs.Run.{history}
-use Rattle.mc_model.proofs.Sessions.{some_none, other_number, same_number, found_map, found_behind, AreApart}
+use Rattle.mc_model.specs.Orderly.{AreApart}
+use Rattle.mc_model.proofs.Sessions.{some_none, other_number, same_number, found_map, found_behind}
 use Rattle.mc_server.specs.Asking.{owed_of, owed_in, is_over, is_done_in}
 use Rattle.mc_top.specs.ReplayText.{owes, is_shut, sent_line, shut_line, told, takings, settled}
 use Rattle.mc_top.specs.Replaying.{taken, sent_by, forgotten, shut_by, all_taken, all_sent, all_forgotten, all_shut}
