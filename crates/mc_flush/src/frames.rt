@@ -1,7 +1,7 @@
 //! Packets of play as frames.
 #![tactic(auto, unfolding(mc_model::specs::Hearing::frame_of))]
 
-ghost use Rattle.std.specs.Prelude.{◌≡◌, ◌++◌, OnOk};
+ghost use Rattle.std.specs.Prelude.{◌≡◌, ◌++◌, OnOk, OnErr};
 ghost use Rattle.mc_model.specs.Hearing.{of_play, frame_of};
 ghost use Rattle.mc_flush.specs.Sending.{IsClear};
 
@@ -9,10 +9,11 @@ use mc_down::{Down, write_down};
 use mc_frame::write_frame;
 use mc_nbt::NoMemory;
 
-/// Appends the frame of a packet.
+/// Appends the frame of a packet of play. Without memory the buffer is as before.
 pub fn put_packet(packet: &Down, out: &mut Vec<u8>) -> Result<(), NoMemory>
     requires { IsClear packet.now }
-    ensures { OnOk result (out.new.items ≡ out.old.items ++ frame_of (of_play packet.now)) }
+    ensures ok { OnOk result (out.new.items ≡ out.old.items ++ frame_of (of_play packet.now)) }
+    ensures err { OnErr result (out.new.items ≡ out.old.items) }
 {
     let mut payload = Vec::new(*out.allocator());
     write_down(packet, &mut payload)?;

@@ -20,5 +20,7 @@ mod tests;
 
 pub use client_view::ClientView;
 pub use flushing::flush;
+pub use frames::put_packet;
 pub use mark::Mark;
+pub use notes::placing_packet;
 pub use player_list::PlayerList;

@@ -10,10 +10,10 @@ use mc_model::Notes;
 use mc_nbt::NoMemory;
 
 /// A player's own place and look, none of them relative.
-fn placing_packet(place: &Spot) -> Down
+pub fn placing_packet(place: &Spot) -> Down
     requires { IsInRange place.now }
     ensures value { result ≡ placing place.now }
-    ensures clear { IsClear (placing place.now) }
+    ensures clear { IsClear result }
 {
     Down::PositionLook(
         pattern(place.x),

@@ -1,6 +1,6 @@
 mod hearing;
 
-use crate::{Mark, PlayerList};
+use crate::{Mark, PlayerList, placing_packet, put_packet};
 use hearing::{Told, made_out};
 use mc_fields::Spot;
 use mc_land::{Land, Terrain};
@@ -74,6 +74,31 @@ fn a_client_is_told_all_once(rt: HostRuntime) -> Result<(), Fail> {
     list.settle()?;
     let again = made_out(&rt, &land, &list, view, spot(272), &mut mark, &Notes::new())?;
     assert!(rt; again.is_empty(), "{again:?}");
+    Ok(())
+}
+
+/// The frame that tells a player's place.
+fn placed<R: Abort + AllocGlobal>(rt: &R, place: &Spot) -> Result<Vec<u8>, NoMemory> {
+    assert!(rt; place.x >= -960_000_000);
+    assert!(rt; place.x <= 960_000_000);
+    assert!(rt; place.y >= -2_048);
+    assert!(rt; place.y <= 131_072);
+    assert!(rt; place.z >= -960_000_000);
+    assert!(rt; place.z <= 960_000_000);
+    let mut frame = Vec::new(rt.alloc());
+    put_packet(&placing_packet(place), &mut frame)?;
+    Ok(frame)
+}
+
+/// The place at 8.5, 4 and 8.5 as three numbers of 64 bits, the turns of 90 and 0 degrees as two of 32.
+const PLACED: &[u8] =
+    b"\x22\x08\x40\x21\x00\x00\x00\x00\x00\x00\x40\x10\x00\x00\x00\x00\x00\x00\x40\x21\x00\x00\x00\x00\x00\x00\x42\xB4\x00\x00\x00\x00\x00\x00\x00";
+
+#[test]
+fn a_place_is_one_frame(rt: HostRuntime) -> Result<(), Fail> {
+    let mut place = spot(272);
+    place.yaw = 64;
+    assert!(rt; placed(&rt, &place)?.as_slice() == PLACED);
     Ok(())
 }
 

@@ -6,31 +6,20 @@ ghost use lib.IntN.{pos};
 ghost use Rattle.mc_down.specs.declared.down.Down.TheVariants.{JoinGame, SpawnPosition};
 ghost use Rattle.mc_model.specs.Hearing.{of_play, frame_of};
 ghost use Rattle.mc_model.specs.World.{spawn_height};
-ghost use Rattle.mc_model.specs.Step.{level, placing};
+ghost use Rattle.mc_model.specs.Step.{level};
 ghost use Rattle.mc_model.specs.Plain.{opening_of};
 ghost use Rattle.mc_flush.specs.Sending.{IsClear, play_bytes};
 ghost use Rattle.mc_flush.specs.Seeing.{IsInRange};
 
 use crate::Settings;
 use bytes::Bytes;
-use mc_down::{Down, write_down};
-use mc_fields::{Cell, Spot, degrees, pattern};
-use mc_frame::write_frame;
+use mc_down::Down;
+use mc_fields::{Cell, Spot};
+use mc_flush::{placing_packet, put_packet};
 use mc_land::Terrain;
 use mc_model::plain::{level, spawn_height};
 use mc_nbt::NoMemory;
 use std::alloc::Global;
-
-/// Appends the frame of a packet.
-fn put_packet(packet: &Down, out: &mut Vec<u8>) -> Result<(), NoMemory>
-    requires { IsClear packet.now }
-    ensures { OnOk result (out.new.items ≡ out.old.items ++ frame_of (of_play packet.now)) }
-{
-    let mut payload = Vec::new(*out.allocator());
-    write_down(packet, &mut payload)?;
-    write_frame(&payload, out)?;
-    Ok(())
-}
 
 /// Which game a client is in: entity number, game mode, dimension, difficulty, and how many may play.
 fn put_join(settings: &Settings, eid: u32, out: &mut Vec<u8>) -> Result<(), NoMemory>
@@ -55,22 +44,6 @@ fn spawn_packet(terrain: &Terrain) -> Down
         y: i32::from(spawn_height(terrain)),
         z: 8,
     })
-}
-
-/// A player's own place and look, none of them relative.
-fn placing_packet(place: &Spot) -> Down
-    requires { IsInRange place.now }
-    ensures value { result ≡ placing place.now }
-    ensures clear { IsClear (placing place.now) }
-{
-    Down::PositionLook(
-        pattern(place.x),
-        pattern(place.y),
-        pattern(place.z),
-        degrees(place.yaw),
-        degrees(place.pitch),
-        0,
-    )
 }
 
 /// What a client is sent before its first difference, as one piece.

@@ -1,5 +1,6 @@
-use Rattle.std.proofs.Common.{◌≡◌, arith}
+use Rattle.std.proofs.Common.{arith, sym, subst}
 use Rattle.mc_model.proofs.PlainPatterns.{degrees_one}
+use Rattle.mc_flush.specs.Sending.{IsClear}
 use Rattle.mc_flush.proofs.Placings.{range_small, pattern_at, placing_is, placing_clear}
 use Rattle.mc_flush.proofs.notes.placing_packet.Goals as goal
 
@@ -15,4 +16,4 @@ returns-clause-value c =
     (degrees_one s.pitch c.degrees-2.result (omega arith) c.degrees-2.type_inv c.degrees-2.ensures.zero c.degrees-2.ensures.stands)
 
 pub returns-clause-clear : goal.returns-clause-clear
-returns-clause-clear c = placing_clear c.args.place.now c.requires (omega arith) (omega arith)
+returns-clause-clear c = subst IsClear (sym (returns-clause-value c)) (placing_clear c.args.place.now c.requires (omega arith) (omega arith))
