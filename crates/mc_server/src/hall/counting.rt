@@ -1,27 +1,30 @@
-ghost use Rattle.std.specs.Prelude.{◌≡◌, ◌≤◌, ◌<◌, ◌+◌, ◌^◌, length, if◌then◌else◌};
+ghost use Rattle.std.specs.Prelude.{◌≡◌, ◌≤◌, ◌+◌, length};
 ghost use Rattle.std.specs.List.{filter};
 ghost use Rattle.mc_model.specs.Step.{is_kept};
-ghost use Rattle.mc_server.specs.Halls.{one_if};
+ghost use Rattle.mc_server.specs.Halls.{one_if, playing_of};
 
 use crate::client::Client;
-
-/// One more, where it is so.
-fn counted(n: usize, here: bool) -> usize
-    requires { n < 2 ^ 63 }
-    ensures { result ≡ (if here then n + 1 else n) }
-{
-    if here { n + 1 } else { n }
-}
 
 /// How many connections are open, or owed bytes still.
 pub(super) fn kept(clients: &Vec<Client>) -> usize
     ensures { result ≡ length (filter is_kept clients.now.items) }
 {
-    let mut n = 0;
-    for i in 0..clients.len() {
-        n = counted(n, clients[i].is_kept());
-    }
-    n
+    clients.iter().filter(|client| client.is_kept()).count()
+}
+
+/// How many are in play.
+fn in_play(clients: &Vec<Client>) -> usize
+    ensures { result ≡ length (playing_of clients.now.items) }
+{
+    clients.iter().filter(|client| client.is_play()).count()
+}
+
+/// How many are in play, where they are few.
+pub(super) fn playing(clients: &Vec<Client>) -> u32
+    requires { length (playing_of clients.now.items) ≤ 50 }
+    ensures { result ≡ length (playing_of clients.now.items) }
+{
+    in_play(clients) as u32
 }
 
 /// How many are left of those in play without one that is, or is not, in play.

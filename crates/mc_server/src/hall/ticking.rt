@@ -1,41 +1,20 @@
-ghost use Rattle.std.specs.Prelude.{◌≡◌, ◌≤◌, ◌+◌, ◌<◌, ◌^◌, ℕ, length, if◌then◌else◌, OnOk};
+ghost use Rattle.std.specs.Prelude.{◌≡◌, ◌+◌, ◌<◌, ℕ, OnOk};
 ghost use Rattle.std.specs.FinMap as finmap;
 ghost use Rattle.std.specs.FinMap.{find};
 ghost use Rattle.std.specs.Ordering.{nat_cmp};
 ghost use Rattle.mc_model.specs.PlainWorld.{Rise, next_number};
-ghost use Rattle.mc_model.specs.World.{found, is_play};
-ghost use Rattle.mc_server.specs.Halls.{playing_of};
+ghost use Rattle.mc_model.specs.World.{found};
 ghost use Rattle.mc_server.specs.Ticking.{LineFollows, names_of, ticked_clients};
 
 use super::Hall;
+use super::counting::playing;
 use super::listing::list_all;
 use super::showing::show_all;
 use crate::Settings;
-use crate::client::Client;
 use crate::line::Line;
 use crate::roster::Roster;
 use mc_nbt::NoMemory;
 use std::collections::BTreeMap;
-
-/// One more, where it is so.
-fn counted(n: u32, here: bool) -> u32
-    requires { n < 2 ^ 31 }
-    ensures { result ≡ (if here then n + 1 else n) }
-{
-    if here { n + 1 } else { n }
-}
-
-/// How many of few players are in play.
-fn count_players(clients: &Vec<Client>) -> u32
-    requires { length (playing_of clients.now.items) ≤ 50 }
-    ensures { result ≡ length (playing_of clients.now.items) }
-{
-    let mut n = 0;
-    for i in 0..clients.len() {
-        n = counted(n, clients[i].is_play());
-    }
-    n
-}
 
 impl Hall {
     /// What it began with.
@@ -78,7 +57,7 @@ impl Hall {
             &mut self.clients,
             lines,
         );
-        self.playing = count_players(&self.clients);
+        self.playing = playing(&self.clients);
         self.age += 1;
         shown
     }
