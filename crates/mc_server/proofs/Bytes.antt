@@ -13,7 +13,7 @@ use Rattle.mc_model.specs.Sight.{Sight, nothing_seen}
 use Rattle.mc_model.specs.World.{World, Session, found, put, is_play, is_closed}
 use Rattle.mc_model.specs.Step.{came, step, on_bytes, on_cut, read_to, still, when_open, Turn}
 use Rattle.mc_model.specs.Orderly.{AreApart, Orderly}
-use Rattle.mc_model.proofs.Sessions.{found_id, one_some}
+use Rattle.mc_model.proofs.Sessions.{found_id, one_some, some_none}
 use Rattle.mc_model.proofs.Beside.{found_put}
 use Rattle.mc_model.proofs.Frames.{bytes_beside}
 use Rattle.mc_model.proofs.PlainPlaces.{at_none}
@@ -27,7 +27,7 @@ use Rattle.mc_server.specs.Halls.{is_open}
 use Rattle.mc_server.specs.Stands.{IsLine, HasLine, Stands}
 use Rattle.mc_server.proofs.Bare.{put_bare, heard_bare}
 use Rattle.mc_server.proofs.Known.{IsKnown, There, HeardOpen, heard_there}
-use Rattle.mc_server.proofs.Standing.{Fits, AllFit, stands_fit, fit_stands, fits_same, asked_open}
+use Rattle.mc_server.proofs.Standing.{Fits, AllFit, NoOther, stands_fit, fit_stands, fits_same, asked_open}
 
 -- ---- the bytes of an open connection
 
@@ -123,6 +123,17 @@ bytes_fit old new shown w k s bytes line frames fault e open_ is lc fit j t e' =
         let holds = cut.holds (cut.fault ∙ known.0) in
         (cut_line k _ _ shown s t line lc.now new (found_id k (on_bytes w k bytes).world.sessions t at_k) lc.there holds known.1 is, known.1.unseen)
 
+-- no connection comes or goes
+bytes_none : (old new : List (ℕ × Line)) (w : World) (k : ℕ) (s : Session) (bytes : List ℕ) → found k w.sessions ≡ Some s → is_closed s.stage ≡ false → (is_play s.stage ≡ false → s.shown ≡ None) →
+    ((j : ℕ) → j ≢ k → find nat_cmp j new ≡ find nat_cmp j old) → NoOther old w.sessions → NoOther new (on_bytes w k bytes).world.sessions
+bytes_none old new w k s bytes e open_ unseen others none j e' = elim (cases_eq j k) [
+  | inl same ↦ (
+      let P : ℕ → Type 0 = λ n. found n (on_bytes w k bytes).world.sessions ≡ None in
+      let there = bytes_there w k s bytes e open_ unseen in
+      absurd (some_none there.session _ there.there (subst P same e')))
+  | inr ne ↦ others j ne ∙ none j (sym ((bytes_beside k w bytes).others j ne) ∙ e')
+]
+
 -- ---- the server
 
 came_open : (old new : Server) (w : World) (k : ℕ) (s : Session) (bytes : List ℕ) (frames : List (List ℕ)) (fault : Option FrameFault) → new.failed ≡ old.failed → new.list ≡ old.list → new.hall ≡ heard old.hall k frames fault →
@@ -140,6 +151,7 @@ came_open old new w k s bytes frames fault failed list hall e open_ cut orderly 
     fit_stands new (on_bytes w k bytes).world (failed ∙ st.works)
     (hall ∙ ap (λ (v : World). heard v k frames fault) st.hall ∙ heard_same ∙ sym (bytes_bare w k s bytes st.orderly.apart e open_)) orderly
     (rw list (bytes_fit old.lines.entries new.lines.entries old.list.present w k s bytes has.line frames fault e open_ has.is lc (stands_fit old w st)))
+    (bytes_none old.lines.entries new.lines.entries w k s bytes e open_ (st.unseen k s e open_) lc.others st.forgotten)
 
 open_is : (s : Session) → not (is_closed s.stage) ≡ true → is_closed s.stage ≡ false
 open_is s e = test (is_closed s.stage) e

@@ -1,6 +1,5 @@
 -- A map of lines with another line under a number.
 use Rattle.std.proofs.Common.{◌≡◌, ◌≢◌, ℕ, Bool, true, false, cond, List, Option, Some, None, is_some, refl, sym, subst, ap, ◌∙◌}
-use Rattle.std.specs.Map.{lookup}
 use Rattle.std.specs.FinMap.{find}
 use Rattle.std.specs.Ordering.{nat_cmp, is_eq}
 use Rattle.std.specs.Cmp.{nat_cmp_total, tied_itself}
@@ -8,26 +7,20 @@ use Rattle.mc_model.specs.Delta.{Pairs}
 use Rattle.mc_model.specs.World.{World, Session, is_play, project}
 use Rattle.mc_flush.specs.Seeing.{StandsFor}
 use Rattle.mc_model.proofs.Sessions.{some_none, one_some}
-use Rattle.mc_flush.proofs.Lookups.{tree_found, same_key}
 use Rattle.mc_server.specs.declared.line.Line.{Line}
 use Rattle.mc_server.specs.Ticking.{LineFollows, IsMarked}
+use Rattle.mc_server.proofs.Lines.{looked, found_line, other_line}
 
 -- what look-ups find after a change at k
 abbrev pub IsPut : ℕ → List (ℕ × Line) → List (ℕ × Line) → Line → Type 0
-IsPut k old new line = (q : ℕ) → lookup (λ (x : ℕ). is_eq (nat_cmp q x)) new ≡ cond (is_eq (nat_cmp k q)) (Some line) (lookup (λ (x : ℕ). is_eq (nat_cmp q x)) old)
+IsPut k old new line = (q : ℕ) → looked q new ≡ cond (is_eq (nat_cmp k q)) (Some line) (looked q old)
 
 pub put_here : (k : ℕ) (old new : List (ℕ × Line)) (line : Line) → IsPut k old new line → find nat_cmp k new ≡ Some line
 put_here k old new line put =
-    sym (tree_found k new) ∙ put k ∙ ap (λ (o : Bool). cond o (Some line) (lookup (λ (x : ℕ). is_eq (nat_cmp k x)) old)) (ap is_eq (tied_itself nat_cmp_total k))
+    found_line k new (Some line) (put k ∙ ap (λ (b : Bool). cond b (Some line) (looked k old)) (ap is_eq (tied_itself nat_cmp_total k)))
 
 pub put_others : (k : ℕ) (old new : List (ℕ × Line)) (line : Line) → IsPut k old new line → (q : ℕ) → q ≢ k → find nat_cmp q new ≡ find nat_cmp q old
-put_others k old new line put q ne =
-    sym (tree_found q new) ∙ put q
-    ∙ elim (is_eq (nat_cmp k q)) as (λ b. is_eq (nat_cmp k q) ≡ b → cond b (Some line) (lookup (λ (x : ℕ). is_eq (nat_cmp q x)) old) ≡ lookup (λ (x : ℕ). is_eq (nat_cmp q x)) old) [
-      | true ↦ λ t. absurd (ne (sym (same_key k q t)))
-      | false ↦ λ f. refl
-    ] refl
-    ∙ tree_found q old
+put_others k old new line put q ne = other_line k q old new ne (λ j f. put j ∙ ap (λ (b : Bool). cond b (Some line) (looked j old)) f)
 
 -- there is none
 pub line_absent : (w : World) (present : Pairs) (s : Session) (o new : Option Line) → o ≡ None → new ≡ o → LineFollows w present (Some s) o new
@@ -50,8 +43,8 @@ line_marked w present s line old new there here marked = record {
     untrue b t f = let clash : true ≡ false = sym t ∙ f in cc
 
 -- what was lent is found
-pub found_line : (k id : ℕ) (lines : List (ℕ × Line)) (o : Option Line) → k ≡ id → o ≡ lookup (λ (x : ℕ). is_eq (nat_cmp k x)) lines → find nat_cmp id lines ≡ o
-found_line k id lines o same is = ap (λ (n : ℕ). find nat_cmp n lines) (sym same) ∙ sym (tree_found k lines) ∙ sym is
+pub lent_line : (k id : ℕ) (lines : List (ℕ × Line)) (o : Option Line) → k ≡ id → o ≡ looked k lines → find nat_cmp id lines ≡ o
+lent_line k id lines o same is = ap (λ (n : ℕ). find nat_cmp n lines) (sym same) ∙ found_line k lines o (sym is)
 
 -- the line that was lent, and shown the world
 pub line_put : (w : World) (present : Pairs) (s : Session) (k : ℕ) (old new : List (ℕ × Line)) (line next : Line) → k ≡ s.id → find nat_cmp s.id old ≡ Some line → is_play s.stage ≡ true → IsPut k old new next →

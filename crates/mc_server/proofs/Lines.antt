@@ -19,8 +19,8 @@ looked k lines = lookup (λ (j : ℕ). is_eq (nat_cmp k j)) lines
 pub other_key : (k j : ℕ) → j ≢ k → is_eq (nat_cmp k j) ≡ false
 other_key k j ne = unsigned_tied k j ∙ ne_eqb k j (λ e. ne (sym e))
 
-pub found_line : (k : ℕ) (lines : List (ℕ × Line)) (line : Line) → looked k lines ≡ Some line → find nat_cmp k lines ≡ Some line
-found_line k lines line e = sym (tree_found k lines) ∙ e
+pub found_line : (k : ℕ) (lines : List (ℕ × Line)) (o : Option Line) → looked k lines ≡ o → find nat_cmp k lines ≡ o
+found_line k lines o e = sym (tree_found k lines) ∙ e
 
 pub other_line : (k j : ℕ) (old new : List (ℕ × Line)) → j ≢ k → ((q : ℕ) → is_eq (nat_cmp k q) ≡ false → looked q new ≡ looked q old) → find nat_cmp j new ≡ find nat_cmp j old
 other_line k j old new ne same = sym (tree_found j new) ∙ same j (other_key k j ne) ∙ tree_found j old
@@ -33,7 +33,7 @@ written k count line at bytes frames fault now old new is there others cut =
     record {
       now = now;
       cut = subst P is cut;
-      there = found_line k new (record at { splitter = now }) there ∙ ap (λ (l : Line). Some (record l { splitter = now })) is;
+      there = found_line k new (Some (record at { splitter = now })) there ∙ ap (λ (l : Line). Some (record l { splitter = now })) is;
       others = λ j ne. other_line k j old new ne others;
     }
 

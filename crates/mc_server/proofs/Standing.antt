@@ -5,6 +5,7 @@ use Rattle.std.specs.List.{filter}
 use Rattle.std.specs.Option.{option_and_then}
 use Rattle.std.specs.FinMap.{find}
 use Rattle.std.specs.Ordering.{nat_cmp}
+use Rattle.std.proofs.lemmas.Bool.{eqb-true, eqb-false}
 use Rattle.mc_frame.specs.Cut.{IsPart, kept_count}
 use Rattle.mc_frame.specs.Held.{Splitting, nothing_held}
 use Rattle.mc_frame.proofs.Stops.{nothing_part}
@@ -39,8 +40,19 @@ AllFit lines shown ss = (k : ℕ) (s : Session) → found k ss ≡ Some s → Fi
 pub stands_fit : (server : Server) (w : World) → Stands server w → AllFit server.lines.entries server.list.present w.sessions
 stands_fit server w st k s e open_ = (st.lines k s e open_, st.unseen k s e open_)
 
-pub fit_stands : (server : Server) (w : World) → server.failed ≡ false → server.hall ≡ bare_world w → Orderly w → AllFit server.lines.entries server.list.present w.sessions → Stands server w
-fit_stands server w works hall orderly fit = record { works = works; hall = hall; orderly = orderly; lines = λ k s e open_. (fit k s e open_).0; unseen = λ k s e open_. (fit k s e open_).1 }
+-- a connection that is not there has no line
+abbrev pub NoOther : List (ℕ × Line) → List Session → Type 0
+NoOther lines ss = (k : ℕ) → found k ss ≡ None → find nat_cmp k lines ≡ None
+
+pub fit_stands : (server : Server) (w : World) → server.failed ≡ false → server.hall ≡ bare_world w → Orderly w → AllFit server.lines.entries server.list.present w.sessions → NoOther server.lines.entries w.sessions → Stands server w
+fit_stands server w works hall orderly fit none = record {
+  works = works;
+  hall = hall;
+  orderly = orderly;
+  lines = λ k s e open_. (fit k s e open_).0;
+  forgotten = none;
+  unseen = λ k s e open_. (fit k s e open_).1;
+}
 
 not_open : (s : Session) → is_closed s.stage ≡ true → is_closed s.stage ≡ false → ⊥
 not_open s shut open_ = let clash : true ≡ false = sym shut ∙ open_ in cc
@@ -115,6 +127,15 @@ changed_fit lines shown w k f named keeps fit j t e =
     let g : Session → Session = λ s. if s.id == k then f s else s in
     mapped_fit lines shown g (found j w.sessions) t (sym (found_map j g (at_id k f named) w.sessions) ∙ e) (λ s there. at_fits lines shown k f keeps s (fit j s there))
 
+pub unmapped : (g : Session → Session) (o : Option Session) → option_map g o ≡ None → o ≡ None
+unmapped g None e = refl
+unmapped g (Some s) e = absurd (none_is (g s) (sym e))
+
+pub changed_none : (lines : List (ℕ × Line)) (w : World) (k : ℕ) (f : Session → Session) → ((s : Session) → (f s).id ≡ s.id) → NoOther lines w.sessions → NoOther lines (changed w k f).sessions
+changed_none lines w k f named none j e =
+    let g : Session → Session = λ s. if s.id == k then f s else s in
+    none j (unmapped g (found j w.sessions) (sym (found_map j g (at_id k f named) w.sessions) ∙ e))
+
 gone_closed : (s : Session) → is_closed (gone s).stage ≡ true
 gone_closed s = elim (is_closed s.stage) as (λ b. is_closed s.stage ≡ b → is_closed (if b then record s { owed = [] } else record (shut s causes.Gone) { owed = [] }).stage ≡ true) [ true ↦ λ e. e | false ↦ λ e. refl ] refl
 
@@ -124,6 +145,7 @@ left_stands old new w k failed lines list hall st =
     fit_stands new (changed w k gone) (failed ∙ st.works) (hall ∙ ap (λ (v : World). changed v k gone) st.hall ∙ sym (changed_bare w k gone gone gone_bare))
     (orderly_step w (left k) st.orderly)
     (rw (lines, list) (changed_fit old.lines.entries old.list.present w k gone gone_id (λ s fit. closed_fits old.lines.entries old.list.present (gone s) (gone_closed s)) (stands_fit old w st)))
+    (rw lines (changed_none old.lines.entries w k gone gone_id st.forgotten))
 
 pub took_stands : (old new : Server) (w : World) (k n : ℕ) → new.failed ≡ old.failed → new.lines ≡ old.lines → new.list ≡ old.list → new.hall ≡ changed old.hall k (λ (s : Session). record s { owed = drop n s.owed }) →
     Stands old w → Stands new (step w (took k n)).world
@@ -134,6 +156,7 @@ took_stands old new w k n failed lines list hall st =
     (orderly_step w (took k n) st.orderly)
     (rw (lines, list) (changed_fit old.lines.entries old.list.present w k f (λ s. refl)
     (λ s fit. fits_same old.lines.entries old.lines.entries old.list.present s (record s { owed = drop n s.owed }) refl refl refl refl refl (λ open_. refl) fit) (stands_fit old w st)))
+    (rw lines (changed_none old.lines.entries w k f (λ s. refl) st.forgotten))
 
 -- ---- one more
 
@@ -189,6 +212,18 @@ more_fit old new shown ss k s is none others here fit j t e = cases (found j ss)
         let ne : u.id ≢ k = λ h. (let P : ℕ → Type 0 = λ n. found n ss ≡ Some u in some_none u (found k ss) (subst P (sym id ∙ h) e') none) in
         subst (Fits new shown) same (fits_same old new shown u u refl refl refl refl refl (λ open_. others u.id ne) (fit j u e'))
 
+-- those without a line have none where one more has its own
+more_none : (old new : List (ℕ × Line)) (ss : List Session) (s : Session) → ((j : ℕ) → j ≢ s.id → find nat_cmp j new ≡ find nat_cmp j old) → NoOther old ss → NoOther new (ss ++ s ∷ [])
+more_none old new ss s others none j e = cases (found j ss) refl
+  where
+    last : (b : Bool) → (s.id == j) ≡ b → cond b (Some s) None ≡ None → found j ss ≡ None → find nat_cmp j new ≡ None
+    last true t e' waits = absurd (none_is s (sym e'))
+    last false f e' waits = others j (λ h. eqb-false s.id j f (sym h)) ∙ none j waits
+
+    cases : (o : Option Session) → found j ss ≡ o → find nat_cmp j new ≡ None
+    cases None e' = last (s.id == j) refl (sym (found_behind j ss (s ∷ []) e') ∙ e) e'
+    cases (Some u) e' = absurd (some_none u (found j (ss ++ s ∷ [])) (found_before j ss (s ∷ []) u e') e)
+
 joined_world : (w : World) (k : ℕ) (b : Bool) → is_new k w.last ≡ b → join w k ≡ (if b then record w { last = Some k; sessions = w.sessions ++ joining w k ∷ [] } else w)
 joined_world w k b e = ap (λ (t : Bool). if t then record w { last = Some k; sessions = w.sessions ++ joining w k ∷ [] } else w) e
 
@@ -210,6 +245,8 @@ joined_stands old new w k line failed list hall above there fresh others st =
     (orderly_step w (joined k) st.orderly)
     (subst P (sym (joined_world w k true is)) (rw list (more_fit old.lines.entries new.lines.entries old.list.present w.sessions k (joining w k) (joining_id w k) (st.orderly.fresh k is) others
     (joining_fits new.lines.entries old.list.present line w k there fresh) (stands_fit old w st))))
+    (subst (λ (v : World). NoOther new.lines.entries v.sessions) (sym (joined_world w k true is))
+    (more_none old.lines.entries new.lines.entries w.sessions (joining w k) (λ j ne. others j (λ e. ne (e ∙ sym (joining_id w k)))) st.forgotten))
 
 -- ---- one less
 
@@ -228,6 +265,45 @@ filtered_fit old new shown p ss apart same fit j t e = cases (found j ss) refl
         let is : s ≡ t = kept s (p s) (sym (found_filter j p ss s apart e') ∙ e) in
         subst (Fits new shown) is (fits_same old new shown s s refl refl refl refl refl (same j s e') (fit j s e'))
 
+filtered_none : (lines : List (ℕ × Line)) (p : Session → Bool) (ss : List Session) → AreApart ss → ((j : ℕ) → found j ss ≡ None → find nat_cmp j lines ≡ None) →
+    ((j : ℕ) (s : Session) → found j ss ≡ Some s → p s ≡ false → find nat_cmp j lines ≡ None) → NoOther lines (filter p ss)
+filtered_none lines p ss apart none out j e = cases (found j ss) refl
+  where
+    passed : (s : Session) (b : Bool) → found j ss ≡ Some s → p s ≡ b → cond b (Some s) None ≡ None → find nat_cmp j lines ≡ None
+    passed s true e' t nothing = absurd (none_is s (sym nothing))
+    passed s false e' f nothing = out j s e' f
+
+    cases : (o : Option Session) → found j ss ≡ o → find nat_cmp j lines ≡ None
+    cases None e' = none j e'
+    cases (Some s) e' = passed s (p s) e' refl (sym (found_filter j p ss s apart e') ∙ e)
+
+-- who is left out by its number, being done
+left_out : (k : ℕ) (s : Session) → not (s.id == k && is_done s) ≡ false → (s.id ≡ k) × (is_done s ≡ true)
+left_out k s e = both (s.id == k) (is_done s) refl refl e
+  where
+    both : (a b : Bool) → (s.id == k) ≡ a → is_done s ≡ b → not (a && b) ≡ false → (s.id ≡ k) × (is_done s ≡ true)
+    both true true at done e' = (eqb-true s.id k at, done)
+    both true false at done e' = absurd cc
+    both false b at done e' = absurd cc
+
+-- the line of who is not there, or is left out, is away
+forgotten_none : (old new : List (ℕ × Line)) (k : ℕ) (done : Bool) (ss : List Session) → AreApart ss → done ≡ is_over (found k ss) → ((j : ℕ) → (done ≡ true → j ≢ k) → find nat_cmp j new ≡ find nat_cmp j old) →
+    (done ≡ true → find nat_cmp k new ≡ None) → NoOther old ss → NoOther new (filter (λ (s : Session). not (s.id == k && is_done s)) ss)
+forgotten_none old new k done ss apart is others gone none = filtered_none new (λ (s : Session). not (s.id == k && is_done s)) ss apart (λ j e. others j (λ d h. absent j e d h) ∙ none j e) out
+  where
+    absent : (j : ℕ) → found j ss ≡ None → done ≡ true → j ≡ k → ⊥
+    absent j e d h =
+        let P : ℕ → Type 0 = λ n. found n ss ≡ None in
+        let clash : true ≡ false = sym d ∙ is ∙ ap is_over (subst P h e) in cc
+
+    out : (j : ℕ) (s : Session) → found j ss ≡ Some s → not (s.id == k && is_done s) ≡ false → find nat_cmp j new ≡ None
+    out j s e fails =
+        let at = left_out k s fails in
+        let same : j ≡ k = sym (found_id j ss s e) ∙ at.0 in
+        let P : ℕ → Type 0 = λ n. found n ss ≡ Some s in
+        let Q : ℕ → Type 0 = λ n. find nat_cmp n new ≡ None in
+        subst Q (sym same) (gone (is ∙ ap is_over (subst P same e) ∙ at.1))
+
 done_closed : (k : ℕ) (ss : List Session) (s : Session) → is_over (found k ss) ≡ true → found k ss ≡ Some s → is_closed s.stage ≡ true
 done_closed k ss s done e =
     let is : is_done s ≡ true = sym (ap is_over e) ∙ done in
@@ -242,16 +318,18 @@ still_open k j s ss over there e open_ =
     let P : ℕ → Type 0 = λ n. found n ss ≡ Some s in
     not_open s (done_closed k ss s over (subst P (sym (found_id j ss s there) ∙ e) there)) open_
 
--- its line may go where it is done
+-- its line goes where it is done
 pub forgot_stands : (old new : Server) (w : World) (k : ℕ) (done : Bool) → new.failed ≡ old.failed → new.list ≡ old.list → new.hall ≡ record old.hall { sessions = filter (λ (s : Session). not (s.id == k && is_done s)) old.hall.sessions } →
     done ≡ is_over (found k old.hall.sessions) → ((j : ℕ) → (done ≡ true → j ≢ k) → find nat_cmp j new.lines.entries ≡ find nat_cmp j old.lines.entries) →
-    Stands old w → Stands new (step w (forgot k)).world
+    (done ≡ true → find nat_cmp k new.lines.entries ≡ None) → Stands old w → Stands new (step w (forgot k)).world
 unfolding step
-forgot_stands old new w k done failed list hall is others st =
-    let over : done ≡ true → is_over (found k w.sessions) ≡ true = λ e. sym (asked_done old.hall w k st.hall) ∙ sym is ∙ e in
+forgot_stands old new w k done failed list hall is others gone st =
+    let asked : done ≡ is_over (found k w.sessions) = is ∙ asked_done old.hall w k st.hall in
+    let over : done ≡ true → is_over (found k w.sessions) ≡ true = λ e. sym asked ∙ e in
     let same : (j : ℕ) (s : Session) → found j w.sessions ≡ Some s → is_closed s.stage ≡ false → find nat_cmp s.id new.lines.entries ≡ find nat_cmp s.id old.lines.entries =
     λ j s there open_. others s.id (λ e h. still_open k j s w.sessions (over e) there h open_) in
     fit_stands new (record w { sessions = filter (λ (s : Session). not (s.id == k && is_done s)) w.sessions }) (failed ∙ st.works)
     (hall ∙ ap (λ (v : World). record v { sessions = filter (λ (s : Session). not (s.id == k && is_done s)) v.sessions }) st.hall ∙ sym (forgot_bare w k))
     (orderly_step w (forgot k) st.orderly)
     (rw list (filtered_fit old.lines.entries new.lines.entries old.list.present (λ (s : Session). not (s.id == k && is_done s)) w.sessions st.orderly.apart same (stands_fit old w st)))
+    (forgotten_none old.lines.entries new.lines.entries k done w.sessions st.orderly.apart asked others gone st.forgotten)

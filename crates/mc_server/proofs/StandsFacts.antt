@@ -21,6 +21,7 @@ use Rattle.mc_server.specs.declared.server.Server.{Server}
 use Rattle.mc_server.specs.Bare.{bare, bare_world}
 use Rattle.mc_server.specs.Stands.{IsLine, HasLine, Stands}
 use Rattle.mc_server.specs.Ticking.{LineFollows, IsMarked, plays, ticked_clients}
+use Rattle.mc_server.proofs.Standing.{unmapped}
 use Rattle.mc_server.proofs.TickLaw.{IsKnown, clients_bare, each_found, rise_bare, project_bare}
 
 -- ---- stages
@@ -109,6 +110,15 @@ module _ (old new : Server) (w : World) (high : ℕ) (stands : Stands old w) whe
       (λ here much open_here. absurd (not_both true refl open_here))
       open_
 
+  -- no connection comes or goes
+  none_after : ((q : ℕ) → LineFollows (bare_world w) new.list.present (found q (bare_world w).sessions) (find nat_cmp q old.lines.entries) (find nat_cmp q new.lines.entries)) →
+      (k : ℕ) → found k (map (λ (s : Session). (flush (at_tick w) s).session) w.sessions) ≡ None → find nat_cmp k new.lines.entries ≡ None
+  none_after follows k e =
+      let f : Session → Session = λ s. (flush (at_tick w) s).session in
+      let none : found k w.sessions ≡ None = unmapped f (found k w.sessions) (sym (found_map k f (ticked_id (at_tick w)) w.sessions) ∙ e) in
+      let bare_none : found k (bare_world w).sessions ≡ None = found_map k bare (λ t. refl) w.sessions ∙ ap (option_map bare) none in
+      (follows k).stays (ap plays bare_none) ∙ stands.forgotten k none
+
   -- who is not in play was shown nothing
   unseen_after : (k : ℕ) (s : Session) → found k w.sessions ≡ Some s → is_closed (flush (at_tick w) s).session.stage ≡ false → is_play (flush (at_tick w) s).session.stage ≡ false → (flush (at_tick w) s).session.shown ≡ None
   unseen_after k s there =
@@ -134,6 +144,7 @@ module _ (old new : Server) (w : World) (high : ℕ) (stands : Stands old w) whe
         lines = λ k t there open_.
             let from = ticked_from (at_tick w) k w.sessions t there in
             subst (HasLine new.lines.entries new.list.present) (sym from.2) (line_after follows k from.0 from.1 (subst (λ (s : Session). is_closed s.stage ≡ false) from.2 open_));
+        forgotten = none_after follows;
         unseen = λ k t there open_ waits.
             let from = ticked_from (at_tick w) k w.sessions t there in
             ap (λ (s : Session). s.shown) from.2 ∙ unseen_after k from.0 from.1 (subst (λ (s : Session). is_closed s.stage ≡ false) from.2 open_) (subst (λ (s : Session). is_play s.stage ≡ false) from.2 waits);

@@ -34,6 +34,8 @@ pub record Stands (server : Server) (w : World) : Type 0 where
   pub orderly : Orderly w
   -- each open connection has its line
   pub lines : (k : ℕ) (s : Session) → found k w.sessions ≡ Some s → is_closed s.stage ≡ false → HasLine server.lines.entries server.list.present s
+  -- one that is not there has none
+  pub forgotten : (k : ℕ) → found k w.sessions ≡ None → find nat_cmp k server.lines.entries ≡ None
   -- only who is in play was shown anything
   pub unseen : (k : ℕ) (s : Session) → found k w.sessions ≡ Some s → is_closed s.stage ≡ false → is_play s.stage ≡ false → s.shown ≡ None
 

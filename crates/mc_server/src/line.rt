@@ -54,7 +54,8 @@ pub fn cut_line(
 
 /// Takes the line of a connection away, where it is done.
 pub fn drop_line(lines: &mut BTreeMap<u32, Line>, k: u32, done: bool)
-    ensures { (j : ℕ) → (done ≡ true → j ≢ k) → find nat_cmp j lines.new.entries ≡ find nat_cmp j lines.old.entries }
+    ensures others { (j : ℕ) → (done ≡ true → j ≢ k) → find nat_cmp j lines.new.entries ≡ find nat_cmp j lines.old.entries }
+    ensures gone { done ≡ true → find nat_cmp k lines.new.entries ≡ None }
 {
     if done {
         let _line = lines.remove(&k);
