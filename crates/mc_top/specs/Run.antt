@@ -1,13 +1,13 @@
 -- What a run of the program promises, by the status that it answers. The two counts are those of the failures that the
 -- devices have counted; left and held are what is left to read and what was written, where the devices tell it.
-use Rattle.std.specs.Prelude.{◌≡◌, ℕ, ◌⊎◌, List, [], ◌∷◌, ◌++◌, take, Option, IsSome, IfSome, Some, None}
+use Rattle.std.specs.Prelude.{◌≡◌, ℕ, ◌⊎◌, List, [], ◌++◌, take, Option, IsSome, IfSome, Some, None}
 use Rattle.std.specs.declared.string.String.{String}
 use Rattle.mc_wire.specs.Count.{Rose}
 use Rattle.mc_wire.specs.Stream.{Grows, IsAtEnd}
 use Rattle.mc_top.specs.declared.bad_input.BadInput.{BadInput}
 use Rattle.mc_top.specs.declared.ended.Ended.{Ended}
 use Rattle.mc_top.specs.declared.words.Command.TheVariants.{Status}
-use Rattle.mc_top.specs.Ended.{status_of, bad_input_line}
+use Rattle.mc_top.specs.Ended.{status_of, bad_input_line, ended_line}
 use Rattle.mc_top.specs.StatusText.{IsStatusText}
 use Rattle.mc_top.specs.Words.{command_of, bytes_of}
 
@@ -61,12 +61,12 @@ pub record Found (most : ℕ) (bad : BadInput) (left left' held held' : Option (
 -- a last line was written, or some first part of it where the sink failed
 abbrev pub WroteLast : Option (List ℕ) → Option (List ℕ) → ℕ → ℕ → List ℕ → Type 0
 WroteLast held held' faults faults' line =
-    Grows held held' (line ++ 10 ∷ []) ⊎ (Rose faults faults' × (len : ℕ) × Grows held held' (take len (line ++ 10 ∷ [])))
+    Grows held held' (ended_line line) ⊎ (Rose faults faults' × (len : ℕ) × Grows held held' (take len (ended_line line)))
 
 -- the same behind a text
 abbrev pub WroteTextThenLast : Option (List ℕ) → Option (List ℕ) → ℕ → ℕ → List ℕ → List ℕ → Type 0
 WroteTextThenLast held held' faults faults' text line =
-    Grows held held' (text ++ (line ++ 10 ∷ [])) ⊎ (Rose faults faults' × (len : ℕ) × Grows held held' (text ++ take len (line ++ 10 ∷ [])))
+    Grows held held' (text ++ ended_line line) ⊎ (Rose faults faults' × (len : ℕ) × Grows held held' (text ++ take len (ended_line line)))
 
 -- the input was read to its end and has a first fault, and the text of what stands before it and the last line were written
 pub record Refused (most : ℕ) (left left' held held' : Option (List ℕ)) (faults faults' : ℕ) : Type 0 where
