@@ -8,8 +8,8 @@ use Rattle.mc_nbt.specs.declared.fault.Kind.TheVariants.{Short, LongVarInt, BadL
 use Rattle.mc_nbt.specs.declared.fault.Stop.{Stop}
 use Rattle.mc_nbt.specs.Reading.{Field, IsBytes, stop_at}
 use Rattle.mc_nbt.specs.Format.{Anything}
-use Rattle.mc_nbt.specs.Combine.{ok_is}
-use Rattle.mc_fields.specs.VarintFormat.{varint_only}
+use Rattle.mc_nbt.specs.CombineLaws.{ok_is}
+use Rattle.mc_fields.specs.VarintLaws.{varint_only}
 use Rattle.mc_fields.proofs.VarintFaults.{groups-long}
 use Rattle.mc_frame.specs.declared.fault.FrameFault.{FrameFault}
 use Rattle.mc_frame.specs.declared.fault.FrameFault.TheVariants.{LongLength, ZeroLength}

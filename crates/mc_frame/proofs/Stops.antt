@@ -10,9 +10,9 @@ use Rattle.mc_nbt.specs.declared.fault.Kind.{Kind}
 use Rattle.mc_nbt.specs.declared.fault.Kind.TheVariants.{Short, LongVarInt, BadLength}
 use Rattle.mc_nbt.specs.declared.fault.Stop.{Stop}
 use Rattle.mc_nbt.specs.Reading.{Field, IsBytes, ◌>>=◌, stop_at}
-use Rattle.mc_nbt.specs.Numbers.{octets_read}
+use Rattle.mc_nbt.specs.NumberBytes.{octets_read}
 use Rattle.mc_fields.specs.Varint.{weighed, IsChain, SpellsVarint, GoesOn, IsCut, groups_read, number_of, varint_read}
-use Rattle.mc_fields.specs.VarintFormat.{IsChain-cons, weighed-below, varint_found, varint_fit}
+use Rattle.mc_fields.specs.VarintLaws.{IsChain-cons, weighed-below, varint_found, varint_fit}
 use Rattle.mc_fields.proofs.VarintFaults.{groups_explained}
 use Rattle.mc_frame.specs.Frame.{payload_read, frame_read}
 use Rattle.mc_frame.specs.Cut.{IsPart, HasLongLength, HasZeroLength}

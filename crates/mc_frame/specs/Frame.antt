@@ -7,10 +7,11 @@ use lib.IntN.{ℤ, pos, negsuc}
 use Rattle.mc_nbt.specs.declared.fault.Kind.TheVariants.{BadLength}
 use Rattle.mc_nbt.specs.Reading.{Field, IsBytes, ◌>>=◌, stop_at}
 use Rattle.mc_nbt.specs.Format.{Format, IsFound, IsOnly, Anything}
-use Rattle.mc_nbt.specs.Combine.{bind_ok, joined}
-use Rattle.mc_nbt.specs.Numbers.{octets_read, octets_found, octets_only}
+use Rattle.mc_nbt.specs.CombineLaws.{bind_ok, joined}
+use Rattle.mc_nbt.specs.NumberBytes.{octets_read}
+use Rattle.mc_nbt.specs.NumberLaws.{octets_found, octets_only}
 use Rattle.mc_fields.specs.Varint.{SpellsVarint, varint_read, varint_spelling}
-use Rattle.mc_fields.specs.VarintFormat.{varint_found, varint_only, varint_fit, varint_spelled, varint-shortest, three}
+use Rattle.mc_fields.specs.VarintLaws.{varint_found, varint_only, varint_fit, varint_spelled, varint-shortest, three}
 
 -- what a frame can hold: one byte at least, and no more than three bytes of length count
 pub record IsPayload (payload : List ℕ) : Type 0 where
@@ -91,6 +92,10 @@ frame_spelled payload fits = record {
   some = fits.some;
   parts = refl;
 }
+
+-- what is written of a frame is read as its payload again, whatever follows
+pub frame_again : (payload : List ℕ) → IsPayload payload → (rest : List ℕ) → frame_read (frame_spelling payload ++ rest) ≡ Ok (payload, rest)
+frame_again payload fits rest = frame_only Anything payload (frame_spelling payload) rest tt (frame_spelled payload fits)
 
 -- no spelling is shorter than the one that is written
 pub frame_shortest : (payload bytes : List ℕ) → SpellsFrame payload bytes → length (frame_spelling payload) ≤ length bytes

@@ -2,6 +2,7 @@
 use Rattle.std.specs.Prelude.{ℕ, ◌+◌, ◌-◌, ◌^◌, ◌<◌, ◌≤◌, ◌≡◌, List, [], ◌∷◌, length, drop, Option, Some, None}
 use Rattle.std.specs.List.{flat_map}
 use Rattle.mc_frame.specs.declared.fault.FrameFault.{FrameFault}
+use Rattle.mc_frame.specs.declared.outbox.TheConstants.{OUTBOX_MAX}
 use Rattle.mc_frame.specs.Cut.{Ends}
 use Rattle.mc_frame.specs.Splitting.{held_max}
 
@@ -21,7 +22,7 @@ pub record IsKeptSplitter (buffer : List ℕ) (start before : ℕ) (fault : Opti
 
 -- the most bytes that an outbox holds
 abbrev pub outbox_max : ℕ
-outbox_max = 67108864
+outbox_max = OUTBOX_MAX
 
 abbrev pub joined : List (List ℕ) → List ℕ
 joined pieces = flat_map (λ piece. piece) pieces

@@ -4,3 +4,4 @@ pub mod Faults
 pub mod Held
 pub mod Splitting
 pub mod Kept
+pub mod FaultText

@@ -3,13 +3,14 @@ use Rattle.std.specs.Prelude.{◌≡◌, ℕ, ◌+◌, ◌-◌, min, List, [], �
 use Rattle.mc_frame.specs.declared.fault.FrameFault.{FrameFault}
 use Rattle.mc_frame.specs.declared.fault.Take.{Take}
 use Rattle.mc_frame.specs.declared.fault.Take.TheVariants.{Frame, More, Bad}
+use Rattle.mc_frame.specs.declared.splitter.TheConstants.{HELD_MAX}
 use Rattle.mc_frame.specs.Frame.{SpellsFrame}
 use Rattle.mc_frame.specs.Cut.{IsPart, Ends, Cut, kept_count}
 use Rattle.mc_frame.specs.Held.{Splitting}
 
--- the most bytes that are held: one less than those of the longest frame, and one
+-- the most bytes that are held: those of the longest frame
 abbrev pub held_max : ℕ
-held_max = 2097154
+held_max = HELD_MAX
 
 -- how many more bytes are taken
 abbrev pub room_for : Option FrameFault → List ℕ → ℕ
@@ -43,7 +44,7 @@ pub data Event : Type 0 where
   took : Take → Event
   refused : Event
 
--- what a call did; want of memory changes nothing
+-- what a call did; a call that found no memory changed nothing
 abbrev pub Steps : Splitting → Event → Splitting → Type 0
 Steps old (fed piece count) new = Feeds old piece count new
 Steps old (took answer) new = Takes old answer new

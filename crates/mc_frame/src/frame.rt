@@ -1,4 +1,5 @@
-ghost use Rattle.std.specs.Prelude.{◌≡◌, ◌≤◌, ◌++◌, ℕ, List, OnOk, OnErr, IfOk, IfErr, length, take};
+ghost use Rattle.std.specs.Prelude.{◌≡◌, ◌≤◌, ◌++◌, ℕ, List, Ok, OnOk, OnErr, IfOk, IfErr, length};
+ghost use Rattle.std.specs.Prelude.{take};
 ghost use Rattle.mc_nbt.specs.Reading.{Yields};
 ghost use Rattle.mc_frame.specs.Frame.{IsPayload, SpellsFrame, frame_read, frame_spelling};
 ghost use Rattle.mc_frame.specs.Cut.{Ends};
@@ -51,14 +52,18 @@ pub fn front_frame(bytes: &[u8], count: u64) -> Result<(&[u8], usize), Option<Fr
     }
 }
 
-/// Appends the one shortest spelling of a frame with this payload, of 1 to 2,097,151 bytes. Without
+/// Appends a frame with this payload of 1 to 2,097,151 bytes, its length as a shortest VarInt. Without
 /// memory `out` is as before.
 #[tactic(auto, using(crate::specs::Frame::frame_spelled), unfolding(crate::specs::Frame::frame_spelling))]
 pub fn write_frame(payload: &[u8], out: &mut Vec<u8>) -> Result<(), NoMemory>
     requires { IsPayload payload.now }
     ensures ok { OnOk result (out.new.items ≡ out.old.items ++ frame_spelling payload.now) }
     ensures spelled { SpellsFrame payload.now (frame_spelling payload.now) }
-    ensures shortest { (bytes : List ℕ) → SpellsFrame payload.now bytes → length (frame_spelling payload.now) ≤ length bytes }
+    ensures shortest { (bytes : List ℕ) → SpellsFrame payload.now bytes →
+        length (frame_spelling payload.now) ≤ length bytes }
+    // What is written is read again, whatever follows.
+    ensures again { (rest : List ℕ) →
+        frame_read (frame_spelling payload.now ++ rest) ≡ Ok (payload.now, rest) }
     ensures err { OnErr result (out.new.items ≡ out.old.items) }
 {
     let start = out.len();

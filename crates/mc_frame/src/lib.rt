@@ -11,11 +11,9 @@ mod frame;
 mod laws;
 mod outbox;
 mod splitter;
-#[cfg(test)]
-mod tests;
 
 pub use fault::{FrameFault, Take};
 pub use frame::write_frame;
 pub use laws::{one_cut, same_frames_in_any_pieces};
-pub use outbox::Outbox;
-pub use splitter::Splitter;
+pub use outbox::{OUTBOX_MAX, Outbox};
+pub use splitter::{HELD_MAX, Splitter};

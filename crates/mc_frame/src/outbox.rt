@@ -7,7 +7,10 @@ use std::alloc::Global;
 use std::collections::VecDeque;
 use std::marker::Model;
 
-/// The bytes that wait to be sent, at most 67,108,864 of them. Contracts see them as one list.
+/// How many bytes an outbox holds at most.
+pub const OUTBOX_MAX: usize = 67_108_864;
+
+/// The bytes that wait to be sent, at most `OUTBOX_MAX` of them. Contracts see them as one list.
 ///
 /// It keeps the pieces as they were pushed, and how many bytes of the first are gone, so it moves no
 /// bytes.

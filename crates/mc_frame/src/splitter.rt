@@ -1,4 +1,5 @@
-ghost use Rattle.std.specs.Prelude.{◌≡◌, ◌-◌, ◌<◌, ◌≤◌, ◌++◌, ℕ, List, Ok, Some, None, IfOk, OnErr, length, take, drop};
+ghost use Rattle.std.specs.Prelude.{◌≡◌, ◌-◌, ◌<◌, ◌≤◌, ◌++◌, ℕ, List, Ok, Some, None, IfOk, OnErr};
+ghost use Rattle.std.specs.Prelude.{length, take, drop};
 ghost use Rattle.mc_frame.specs.Frame.{SpellsFrame};
 ghost use Rattle.mc_frame.specs.Cut.{IsPart, Ends};
 ghost use Rattle.mc_frame.specs.Held.{nothing_held};
@@ -10,8 +11,8 @@ use mc_nbt::{NoMemory, Octets};
 use std::alloc::Global;
 use std::marker::Model;
 
-/// The most bytes that are held: the longest frame has one more.
-const HELD_MAX: usize = 2_097_154;
+/// How many bytes a splitter holds at most: those of the longest frame.
+pub const HELD_MAX: usize = 2_097_154;
 
 /// Cuts a stream into frames, whatever the pieces in which it comes. Contracts see the bytes that it
 /// holds, how many of the stream stand before them, and the fault that it met.

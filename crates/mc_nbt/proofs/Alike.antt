@@ -1,7 +1,8 @@
 -- Two lists whose items are seen alike at each place.
 use Rattle.std.proofs.Common.{◌≡◌, ℕ, zero, suc, ◌+◌, ◌<◌, ◌≤◌, List, [], ◌∷◌, length, get_or, take, map, ap, sym, ◌∙◌, add-one, arith}
 use Rattle.std.proofs.lemmas.List.{take_all, length-map}
-use Rattle.mc_nbt.specs.Tree.{Tree, trees_of, trees_back, trees_back-trees_of, members_of, members_back, members_back-members_of}
+use Rattle.mc_nbt.specs.Tree.{Tree, trees_of, trees_back, members_of, members_back}
+use Rattle.mc_nbt.specs.TreeLaws.{trees_back-trees_of, members_back-members_of}
 
 suc_same : {X Y : Type 0} (f : X → Y) (xs ys : List X) (i : ℕ) (d e : X) → i < length xs → i < length ys → take i (map f xs) ≡ take i (map f ys) → f (get_or xs i d) ≡ f (get_or ys i e) → take (suc i) (map f xs) ≡ take (suc i) (map f ys)
 suc_same f [] ys i d e p q h g = absurd (omega arith)

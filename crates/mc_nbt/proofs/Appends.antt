@@ -1,11 +1,11 @@
 -- Writing one value after another, as a loop does.
-use Rattle.std.proofs.Common.{◌≡◌, ℕ, ◌+◌, ◌≤◌, ◌<◌, zero, suc, ◌++◌, take, List, [], ◌∷◌, length, get_or, drop, ap, sym, ◌∙◌, refl, add-one, arith}
+use Rattle.std.proofs.Common.{◌≡◌, ℕ, ◌+◌, ◌≤◌, ◌<◌, zero, suc, ◌++◌, take, List, [], ◌∷◌, length, get_or, drop, ap, sym, ◌∙◌, add-one, arith}
 use Rattle.std.proofs.Math.Seq.{drop-cons}
 use Rattle.std.proofs.lemmas.List.{drop_all}
 use Rattle.mc_nbt.specs.Format.{Format, Anything}
-use Rattle.mc_nbt.specs.Many.{AllFit, all_append}
-use Rattle.mc_nbt.specs.Until.{until_append}
-use Rattle.mc_nbt.specs.Numbers.{number_spelling}
+use Rattle.mc_nbt.specs.ManyBytes.{AllFit, all_append}
+use Rattle.mc_nbt.specs.UntilBytes.{until_append}
+use Rattle.mc_nbt.specs.NumberBytes.{number_spelling}
 use Rattle.std.specs.Int.{w8}
 use Rattle.mc_nbt.proofs.Kept.{kept_more, kept_by}
 

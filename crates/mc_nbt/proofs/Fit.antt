@@ -2,7 +2,8 @@
 use Rattle.std.proofs.Common.{◌≡◌, ℕ, zero, suc, ◌+◌, ◌<◌, ◌≤◌, ◌^◌, List, [], ◌∷◌, length, get_or, drop, map, add-one, arith, sym, ap, ◌∙◌}
 use Rattle.std.proofs.lemmas.List.{length-map}
 use Rattle.mc_nbt.specs.Tree.{Tree, kind_of, depth, trees_of, trees_depth, members_of, members_depth}
-use Rattle.mc_nbt.specs.Nbt.{Fits, TreesFit, MembersFit, count_of, count_of-trees_of}
+use Rattle.mc_nbt.specs.Nbt.{Fits, TreesFit, MembersFit, count_of}
+use Rattle.mc_nbt.specs.NbtLaws.{count_of-trees_of}
 
 -- an item, and the items
 abbrev pub ItemFits : ℕ → ℕ → Tree → Type 0

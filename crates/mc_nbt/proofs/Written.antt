@@ -3,9 +3,10 @@ use Rattle.std.proofs.Common.{◌≡◌, ℕ, ℤ, ◌+◌, ◌<◌, List, [], �
 use Rattle.std.specs.Prelude.{FitsSigned}
 use Rattle.std.specs.Int.{Width, w8, w16, w32}
 use Rattle.std.proofs.Math.Seq.{drop-cons, take-append_seam}
-use Rattle.mc_nbt.specs.Numbers.{number_spelling}
+use Rattle.mc_nbt.specs.NumberBytes.{number_spelling}
 use Rattle.mc_nbt.specs.Tree.{Tree, list, kind_of, trees_of, members_of}
-use Rattle.mc_nbt.specs.Nbt.{signed_spelling, run_spelling, ints_spelling, payload, trees_payload, members_payload, AllFitSigned, count_of-trees_of}
+use Rattle.mc_nbt.specs.Nbt.{signed_spelling, run_spelling, ints_spelling, payload, trees_payload, members_payload, AllFitSigned}
+use Rattle.mc_nbt.specs.NbtLaws.{count_of-trees_of}
 
 pub AllFitSigned-push : (w : Width) (zs : List ℤ) (z : ℤ) → AllFitSigned w zs → FitsSigned w z → AllFitSigned w (zs ++ z ∷ [])
 AllFitSigned-push w [] z h fits = (fits, tt)

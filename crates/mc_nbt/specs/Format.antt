@@ -1,4 +1,5 @@
--- A format: which bytes spell a value, what reading gives, what writing appends, and the laws that tie the three.
+-- A format: which bytes spell a value, what reading gives, what writing appends, and the laws that
+-- tie the three (a form of this project).
 use Rattle.std.specs.Prelude.{◌≡◌, ℕ, List, [], ◌++◌, Ok}
 use Rattle.mc_nbt.specs.Reading.{Field, IsBytes}
 
@@ -11,7 +12,8 @@ abbrev pub Nothing : List ℕ → Type 0
 Nothing rest = rest ≡ []
 
 -- the value that was read is spelled by the front of the bytes, and the rest is what follows
-pub record Found {A : Type 0} (spells : A → List ℕ → Type 0) (bytes : List ℕ) (x : A × List ℕ) : Type 0 where
+pub record Found {A : Type 0} (spells : A → List ℕ → Type 0) (bytes : List ℕ) (x : A × List ℕ) :
+    Type 0 where
   pub front : List ℕ
   pub parts : bytes ≡ front ++ x.1
   pub spelled : spells x.0 front
@@ -19,13 +21,16 @@ pub record Found {A : Type 0} (spells : A → List ℕ → Type 0) (bytes : List
 
 -- what is read is spelled so
 abbrev pub IsFound : {A : Type 0} → (A → List ℕ → Type 0) → (List ℕ → Field A) → Type 0
-IsFound {A} spells read = (bytes : List ℕ) (x : A × List ℕ) → IsBytes bytes → read bytes ≡ Ok x → Found spells bytes x
+IsFound {A} spells read =
+    (bytes : List ℕ) (x : A × List ℕ) → IsBytes bytes → read bytes ≡ Ok x → Found spells bytes x
 
 -- what is spelled so is read, and nothing else: a spelling has one value
-abbrev pub IsOnly : {A : Type 0} → (List ℕ → Type 0) → (A → List ℕ → Type 0) → (List ℕ → Field A) → Type 0
-IsOnly {A} Rest spells read = (a : A) (front rest : List ℕ) → Rest rest → spells a front → read (front ++ rest) ≡ Ok (a, rest)
+abbrev pub IsOnly : {A : Type 0} → (List ℕ → Type 0) → (A → List ℕ → Type 0) → (List ℕ → Field A)
+    → Type 0
+IsOnly {A} Rest spells read =
+    (a : A) (front rest : List ℕ) → Rest rest → spells a front → read (front ++ rest) ≡ Ok (a, rest)
 
--- writing appends the shortest spelling
+-- writing appends the one spelling that is chosen
 abbrev pub IsAppended : {A : Type 0} → (A → List ℕ) → (A → List ℕ → List ℕ) → Type 0
 IsAppended {A} spelling append = (a : A) (out : List ℕ) → append a out ≡ out ++ spelling a
 
@@ -37,7 +42,7 @@ pub record Format (Rest : List ℕ → Type 0) (A : Type 0) : Type 1 where
   pub read : List ℕ → Field A
   -- the value has a spelling
   pub fits : A → Type 0
-  -- the shortest one
+  -- the one that is written
   pub spelling : A → List ℕ
   -- the bytes with it at their end, put there field by field
   pub append : A → List ℕ → List ℕ

@@ -1,13 +1,17 @@
--- Named binary tags: which bytes spell a value. (The NBT page of wiki.vg; the limit on nesting is a rule of this project.)
-use Rattle.std.specs.Prelude.{◌≡◌, ℕ, ℤ, ◌<◌, ◌≤◌, ◌^◌, suc, List, [], ◌∷◌, ◌++◌, length, FitsSigned, refl}
-use Rattle.std.proofs.Common.{ap}
+-- Named binary tags: which bytes spell a value. (The page 'NBT' of wiki.vg; the limit on nesting is
+-- a rule of this project.)
+use Rattle.std.specs.Prelude.{◌≡◌, ℕ, ℤ, ◌<◌, ◌≤◌, ◌^◌, suc, List, [], ◌∷◌, ◌++◌, length}
+use Rattle.std.specs.Prelude.{FitsSigned}
 use Rattle.std.specs.Int.{Width, w8, w16, w32, w64, cast_unsigned}
-use Rattle.mc_nbt.specs.Numbers.{number_spelling}
-use Rattle.mc_nbt.specs.Tree.{Tree, byte, short, int, long, float, double, byte_array, text, list, compound, int_array, Trees, no_trees, one_tree, trees_of, Members, no_members, one_member, members_of, kind_of, depth}
+use Rattle.mc_nbt.specs.declared.values.limits.TheConstants.{DEPTH_MAX}
+use Rattle.mc_nbt.specs.NumberBytes.{number_spelling}
+use Rattle.mc_nbt.specs.Tree.{Tree, byte, short, int, long, float, double, byte_array, text, list}
+use Rattle.mc_nbt.specs.Tree.{compound, int_array, Trees, no_trees, one_tree, Members, no_members}
+use Rattle.mc_nbt.specs.Tree.{one_member, members_of, kind_of, depth}
 
 -- how many lists and compounds may stand in one another
 abbrev pub deepest : ℕ
-deepest = 512
+deepest = DEPTH_MAX
 
 -- a signed number as its two's complement, the highest byte first
 abbrev pub signed_spelling : Width → ℤ → List ℕ
@@ -25,10 +29,6 @@ abbrev pub count_of : Trees → ℕ
 count_of no_trees = 0
 count_of (one_tree t ts) = suc (count_of ts)
 
-pub count_of-trees_of : (ts : List Tree) → count_of (trees_of ts) ≡ length ts
-count_of-trees_of [] = refl
-count_of-trees_of (t ∷ ts) = ap suc (count_of-trees_of ts)
-
 -- ---- the bytes of a value, without its tag byte and name
 
 abbrev mutual
@@ -41,7 +41,8 @@ abbrev mutual
   payload (double n) = number_spelling w64 n
   payload (byte_array bytes) = run_spelling w32 bytes
   payload (text bytes) = run_spelling w16 bytes
-  payload (list kind ts) = number_spelling w8 kind ++ (number_spelling w32 (count_of ts) ++ trees_payload ts)
+  payload (list kind ts) =
+      number_spelling w8 kind ++ (number_spelling w32 (count_of ts) ++ trees_payload ts)
   payload (compound ms) = members_payload ms
   payload (int_array zs) = number_spelling w32 (length zs) ++ ints_spelling zs
 
@@ -53,7 +54,8 @@ abbrev mutual
   -- each tag byte, name and value of a compound, and the byte of its end
   pub members_payload : Members → List ℕ
   members_payload no_members = number_spelling w8 0
-  members_payload (one_member name t ms) = number_spelling w8 (kind_of t) ++ (run_spelling w16 name ++ (payload t ++ members_payload ms))
+  members_payload (one_member name t ms) =
+      number_spelling w8 (kind_of t) ++ (run_spelling w16 name ++ (payload t ++ members_payload ms))
 
 -- ---- what has a spelling
 
@@ -86,7 +88,8 @@ abbrev mutual
 
 -- ---- the relations
 
--- these bytes spell the value of a tag of that kind, where so many more lists and compounds may be open
+-- these bytes spell the value of a tag of that kind, where so many more lists and compounds may be
+-- open
 pub record Spells (room kind : ℕ) (t : Tree) (bytes : List ℕ) : Type 0 where
   pub is_kind : kind_of t ≡ kind
   pub fits : Fits t
@@ -112,7 +115,8 @@ pub record IsNbt (value : Named) : Type 0 where
 
 -- the tag byte of a compound, its name and its value
 abbrev pub nbt_spelling : Named → List ℕ
-nbt_spelling value = number_spelling w8 10 ++ (run_spelling w16 value.name ++ payload (root_of value))
+nbt_spelling value =
+    number_spelling w8 10 ++ (run_spelling w16 value.name ++ payload (root_of value))
 
 pub record SpellsNbt (value : Named) (bytes : List ℕ) : Type 0 where
   pub is_nbt : IsNbt value

@@ -6,8 +6,8 @@ use Rattle.mc_nbt.specs.Tree.{Tree}
 use Rattle.mc_nbt.specs.TreeCode.{coded_tree}
 use Rattle.mc_nbt.specs.Nbt.{Named, IsNbt, nbt_spelling, SpellsNbt}
 use Rattle.mc_nbt.specs.NbtReading.{nbt_at}
-use Rattle.mc_nbt.specs.NbtAgain.{nbt_only}
-use Rattle.mc_nbt.specs.NbtTakes.{nbt_found}
+use Rattle.mc_nbt.specs.NbtAgainLaws.{nbt_only}
+use Rattle.mc_nbt.specs.NbtTakesLaws.{nbt_found}
 
 abbrev pub nbt : {Rest : List ℕ → Type 0} → Format Rest Named
 nbt {Rest} = record {
@@ -25,4 +25,6 @@ nbt {Rest} = record {
 
 abbrev pub coded_named : Coded Named
 coded_named =
-    code_by (List ℕ × List (List ℕ × Tree)) (coded× (coded_list coded_ℕ) (coded_list (coded× (coded_list coded_ℕ) coded_tree))) (λ value. (value.name, value.entries)) (λ parts. record { name = parts.0; entries = parts.1 }) (λ value. refl)
+    code_by (List ℕ × List (List ℕ × Tree))
+    (coded× (coded_list coded_ℕ) (coded_list (coded× (coded_list coded_ℕ) coded_tree)))
+    (λ value. (value.name, value.entries)) (λ parts. record { name = parts.0; entries = parts.1 }) (λ value. refl)

@@ -1,13 +1,16 @@
--- Reading a value of NBT from the front of some bytes: the value and the bytes after it, or the first fault.
-use Rattle.std.specs.Prelude.{ℕ, ℤ, zero, suc, ◌^◌, Bool, ◌==◌, List, length, take, drop, Option, Some, None, nat_lt, nat_le, Ok, Err, if◌then◌else◌}
+-- Reading a value of NBT from the front of some bytes: the value and the bytes after it, or the
+-- first fault.
+use Rattle.std.specs.Prelude.{ℕ, ℤ, zero, suc, ◌-◌, ◌^◌, Bool, ◌==◌, List, length, take, drop}
+use Rattle.std.specs.Prelude.{Option, Some, None, nat_lt, nat_le, Ok, Err, if◌then◌else◌}
 use Rattle.std.specs.Int.{Width, w8, w16, w32, w64, cast_signed}
 use Rattle.mc_nbt.specs.declared.fault.Kind.TheVariants.{Short, BadTag, BadLength, Deep}
 use Rattle.mc_nbt.specs.Reading.{Field, ◌>>=◌, stop_at}
-use Rattle.mc_nbt.specs.Combine.{tested_read, view_read}
-use Rattle.mc_nbt.specs.Numbers.{number_read}
+use Rattle.mc_nbt.specs.CombineBytes.{tested_read, view_read}
+use Rattle.mc_nbt.specs.NumberBytes.{number_read}
 use Rattle.mc_nbt.specs.Times.{times_at, until_at}
-use Rattle.mc_nbt.specs.Tree.{Tree, byte, short, int, long, float, double, byte_array, text, list, compound, int_array, trees_of, members_of}
-use Rattle.mc_nbt.specs.Nbt.{Named, named}
+use Rattle.mc_nbt.specs.Tree.{Tree, byte, short, int, long, float, double, byte_array, text, list}
+use Rattle.mc_nbt.specs.Tree.{compound, int_array, trees_of, members_of}
+use Rattle.mc_nbt.specs.Nbt.{Named, named, deepest}
 
 -- ---- what values are made of
 
@@ -80,13 +83,15 @@ named_at value bytes = do
 unfoldable pub member_at : (ℕ → List ℕ → Field Tree) → List ℕ → Field (Option (List ℕ × Tree))
 member_at value bytes = do
   kind ← kind_at bytes
-  if kind.0 == 0 then Ok (None, kind.1) else view_read (named_at (value kind.0)) (λ (m : List ℕ × Tree). Some m) kind.1
+  if kind.0 == 0 then Ok (None, kind.1)
+      else view_read (named_at (value kind.0)) (λ (m : List ℕ × Tree). Some m) kind.1
 
 unfoldable pub members_at : (ℕ → List ℕ → Field Tree) → List ℕ → Field (List (List ℕ × Tree))
 members_at value bytes = until_at (member_at value) (suc (length bytes)) bytes
 
 unfoldable pub compound_at : (ℕ → List ℕ → Field Tree) → List ℕ → Field Tree
-compound_at value bytes = view_read (members_at value) (λ (ms : List (List ℕ × Tree)). compound (members_of ms)) bytes
+compound_at value bytes =
+    view_read (members_at value) (λ (ms : List (List ℕ × Tree)). compound (members_of ms)) bytes
 
 -- ---- a value
 
@@ -94,12 +99,16 @@ abbrev pub too_deep : List ℕ → Field Tree
 too_deep bytes = Err (stop_at Deep bytes)
 
 unfoldable pub payload_at : (List ℕ → Field Tree) → (List ℕ → Field Tree) → ℕ → List ℕ → Field Tree
-payload_at list_read compound_read kind bytes = if kind == 9 then list_read bytes else if kind == 10 then compound_read bytes else leaf_at kind bytes
+payload_at list_read compound_read kind bytes =
+    if kind == 9 then list_read bytes
+    else if kind == 10 then compound_read bytes
+    else leaf_at kind bytes
 
 -- room is how many more lists and compounds may be open
 unfoldable pub value_at : ℕ → ℕ → List ℕ → Field Tree
 value_at zero kind bytes = payload_at too_deep too_deep kind bytes
-value_at (suc room) kind bytes = payload_at (list_at (value_at room)) (compound_at (value_at room)) kind bytes
+value_at (suc room) kind bytes =
+    payload_at (list_at (value_at room)) (compound_at (value_at room)) kind bytes
 
 -- ---- a named compound
 
@@ -113,5 +122,5 @@ unfoldable pub nbt_at : List ℕ → Field Named
 nbt_at bytes = do
   kind ← root_at bytes
   name ← name_at kind.1
-  members ← members_at (value_at 511) name.1
+  members ← members_at (value_at (deepest - 1)) name.1
   Ok (named name.0 members.0, members.1)

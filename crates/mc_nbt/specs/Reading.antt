@@ -1,4 +1,5 @@
--- What reading a field from the front of some bytes gives: its value and the bytes after it, or the first fault.
+-- What reading a field from the front of some bytes gives: its value and the bytes after it, or the
+-- first fault.
 use Rattle.std.specs.Prelude.{◌≡◌, ℕ, ◌<◌, List, length, slice_index, Result, Ok, Err}
 use Rattle.mc_nbt.specs.declared.fault.Kind.{Kind}
 use Rattle.mc_nbt.specs.declared.fault.Stop.{Stop}

@@ -1,24 +1,15 @@
--- Signed numbers, spelled as their two's complement.
-use Rattle.std.specs.Prelude.{ℕ, ℤ, ◌<◌, ◌^◌, List, FitsSigned}
+-- Signed numbers, spelled as their two's complement. (The page 'Data types' of wiki.vg for protocol
+-- 47.)
+use Rattle.std.specs.Prelude.{ℕ, ℤ, List, FitsSigned}
 use Rattle.std.specs.Int.{Width, cast_signed, cast_unsigned}
-use mir.Val.{bits}
-use Rattle.std.proofs.Math.Facts.{sfits_to_z, Fits-of_z}
-use Rattle.std.proofs.lemmas.Int.{of_z-to_z, to_z-of_z}
 use Rattle.mc_nbt.specs.Format.{Format}
-use Rattle.mc_nbt.specs.Combine.{IsView, via}
-use Rattle.mc_nbt.specs.Numbers.{IsWide, number}
-
-pub signed_view : (w : Width) → IsView (λ (n : ℕ). n < 2 ^ bits w) (FitsSigned w) (cast_signed w) (cast_unsigned w)
-signed_view w = record {
-  made = λ n lt. sfits_to_z {w = w} {n = n} (record { fits = lt });
-  again = λ n lt. of_z-to_z w n lt;
-  same = λ z fits. to_z-of_z w z fits;
-}
-
--- what fits as a signed number has a spelling
-pub signed_fits : (w : Width) (z : ℤ) → FitsSigned w z → FitsSigned w z × (cast_unsigned w z < 2 ^ bits w)
-signed_fits w z fits = (fits, (Fits-of_z fits).fits)
+use Rattle.mc_nbt.specs.Combine.{via}
+use Rattle.mc_nbt.specs.NumberLaws.{IsWide}
+use Rattle.mc_nbt.specs.Numbers.{number}
+use Rattle.mc_nbt.specs.SignedLaws.{signed_view}
+pub use Rattle.mc_nbt.specs.SignedLaws.{signed_fits}
 
 -- a signed number
 abbrev pub signed : {Rest : List ℕ → Type 0} (w : Width) → IsWide w → Format Rest ℤ
-signed {Rest} w wide = via (number w wide) (FitsSigned w) (cast_signed w) (cast_unsigned w) (signed_view w)
+signed {Rest} w wide =
+    via (number w wide) (FitsSigned w) (cast_signed w) (cast_unsigned w) (signed_view w)

@@ -2,7 +2,8 @@
 use Rattle.std.specs.Prelude.{ℕ, List}
 use Rattle.mc_nbt.specs.declared.values.Tag.{Tag}
 use Rattle.mc_nbt.specs.declared.values.Tag.TheVariants as tags
-use Rattle.mc_nbt.specs.Tree.{Tree, byte, short, int, long, float, double, byte_array, text, list, compound, int_array, trees_of, members_of}
+use Rattle.mc_nbt.specs.Tree.{Tree, byte, short, int, long, float, double, byte_array, text, list}
+use Rattle.mc_nbt.specs.Tree.{compound, int_array, trees_of, members_of}
 
 abbrev pub tree_of : Tag → Tree
 tree_of (tags.Byte z) = byte z

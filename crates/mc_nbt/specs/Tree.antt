@@ -1,6 +1,6 @@
--- A value of NBT as a tree, without where it lies in memory: the eleven cases of a tag.
-use Rattle.std.specs.Prelude.{◌≡◌, ℕ, ℤ, List, [], ◌∷◌, max, suc, refl}
-use Rattle.std.proofs.Common.{ap}
+-- A value of NBT as a tree, without where it lies in memory: the eleven cases of a tag. (The page
+-- 'NBT' of wiki.vg.)
+use Rattle.std.specs.Prelude.{ℕ, ℤ, List, [], ◌∷◌, max, suc}
 
 mutual
   pub data Tree : Type 0 where
@@ -42,22 +42,6 @@ trees_back (one_tree t ts) = t ∷ trees_back ts
 abbrev pub members_back : Members → List (List ℕ × Tree)
 members_back no_members = []
 members_back (one_member name t ms) = (name, t) ∷ members_back ms
-
-pub trees_back-trees_of : (ts : List Tree) → trees_back (trees_of ts) ≡ ts
-trees_back-trees_of [] = refl
-trees_back-trees_of (t ∷ ts) = ap (λ (l : List Tree). t ∷ l) (trees_back-trees_of ts)
-
-pub trees_of-trees_back : (ts : Trees) → trees_of (trees_back ts) ≡ ts
-trees_of-trees_back no_trees = refl
-trees_of-trees_back (one_tree t ts) = ap (one_tree t) (trees_of-trees_back ts)
-
-pub members_back-members_of : (ms : List (List ℕ × Tree)) → members_back (members_of ms) ≡ ms
-members_back-members_of [] = refl
-members_back-members_of (m ∷ ms) = ap (λ (l : List (List ℕ × Tree)). m ∷ l) (members_back-members_of ms)
-
-pub members_of-members_back : (ms : Members) → members_of (members_back ms) ≡ ms
-members_of-members_back no_members = refl
-members_of-members_back (one_member name t ms) = ap (one_member name t) (members_of-members_back ms)
 
 -- the byte that says which case a tree is
 abbrev pub kind_of : Tree → ℕ

@@ -1,9 +1,13 @@
--- A tree is stored as the list of its signs, each before its parts, and read back from the right.
-use Rattle.std.specs.Prelude.{◌≡◌, ℕ, ℤ, pos, negsuc, ◌==◌, List, [], ◌∷◌, ◌++◌, refl, if◌then◌else◌}
+-- How a tree is stored, which the model of a value that holds trees needs, and no statement speaks
+-- of: as the list of its signs, each before its parts, which is read back from the right.
+use Rattle.std.specs.Prelude.{◌≡◌, ℕ, ℤ, pos, negsuc, ◌==◌, List, [], ◌∷◌, ◌++◌, refl}
+use Rattle.std.specs.Prelude.{if◌then◌else◌}
 use Rattle.std.specs.Coded.{Coded, code_by, coded_list, coded×, coded_ℕ, coded_ℤ}
 use Rattle.std.proofs.Common.{ap, ◌∙◌, sym, append_assoc}
 use Rattle.std.proofs.lemmas.List.{append-nil}
-use Rattle.mc_nbt.specs.Tree.{Tree, byte, short, int, long, float, double, byte_array, text, list, compound, int_array, Trees, no_trees, one_tree, Members, no_members, one_member}
+use Rattle.mc_nbt.specs.Tree.{Tree, byte, short, int, long, float, double, byte_array, text, list}
+use Rattle.mc_nbt.specs.Tree.{compound, int_array, Trees, no_trees, one_tree, Members, no_members}
+use Rattle.mc_nbt.specs.Tree.{one_member}
 
 -- which case it is, and what it holds of numbers
 abbrev pub Sign : Type 0
@@ -116,7 +120,8 @@ abbrev tree_back : List Sign → Tree
 tree_back ss = top_tree (parts_of ss)
 
 pub tree_back-signs : (t : Tree) → tree_back (signs t) ≡ t
-tree_back-signs t = ap (λ (ss : List Sign). top_tree (parts_of ss)) (sym (append-nil (signs t))) ∙ ap top_tree (parts_of-signs t [])
+tree_back-signs t =
+    ap (λ (ss : List Sign). top_tree (parts_of ss)) (sym (append-nil (signs t))) ∙ ap top_tree (parts_of-signs t [])
 
 abbrev pub coded_tree : Coded Tree
 coded_tree =

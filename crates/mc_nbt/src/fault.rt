@@ -3,6 +3,8 @@ ghost use Rattle.mc_nbt.specs.declared.fault.ReadFault.TheVariants as read_fault
 ghost use Rattle.mc_nbt.specs.declared.fault.ReadError.TheVariants as read_error;
 
 use crate::NoMemory;
+use std::error::Error;
+use std::fmt;
 
 /// Why bytes are not the field that is asked for.
 #[derive(Clone, Copy, Debug, PartialEq, Eq)]
@@ -23,6 +25,26 @@ pub enum Kind {
     Deep,
     /// A negative length, or one that its field does not allow.
     BadLength,
+}
+
+impl fmt::Display for Kind {
+    ghost use Rattle.std.specs.Prelude.{Some};
+    ghost use Rattle.mc_nbt.specs.FaultText.{kind_text};
+
+    ghost output = { λ kind. Some (kind_text kind) };
+
+    fn fmt<W: fmt::Write>(&self, f: &mut fmt::Formatter<W>) -> fmt::Result {
+        f.write_str(match self {
+            Kind::Short => "the bytes end inside a field",
+            Kind::LongVarInt => "a VarInt has too many bytes",
+            Kind::BadText => "a text is not UTF-8",
+            Kind::TooLong => "a text is too long",
+            Kind::BadNumber => "a number is not one that its field allows",
+            Kind::BadTag => "a tag byte is not one that its place allows",
+            Kind::Deep => "too many lists and compounds stand in one another",
+            Kind::BadLength => "a length is not one that its field allows",
+        })
+    }
 }
 
 /// The first fault of some bytes, with its place counted from their end: what reading in order meets.
@@ -46,6 +68,19 @@ impl Stop {
         }
     }
 }
+
+impl fmt::Display for Stop {
+    ghost use Rattle.std.specs.Prelude.{Some};
+    ghost use Rattle.mc_nbt.specs.FaultText.{stop_text};
+
+    ghost output = { λ stop. Some (stop_text stop) };
+
+    fn fmt<W: fmt::Write>(&self, f: &mut fmt::Formatter<W>) -> fmt::Result {
+        write!(f, "{}, {} bytes before the end", self.kind, self.left)
+    }
+}
+
+impl Error for Stop {}
 
 /// Why a value that takes memory was not read.
 #[derive(Clone, Copy, Debug, PartialEq, Eq)]
@@ -72,6 +107,22 @@ impl From<NoMemory> for ReadError {
     }
 }
 
+impl fmt::Display for ReadError {
+    ghost use Rattle.std.specs.Prelude.{Some};
+    ghost use Rattle.mc_nbt.specs.FaultText.{read_error_text};
+
+    ghost output = { λ error. Some (read_error_text error) };
+
+    fn fmt<W: fmt::Write>(&self, f: &mut fmt::Formatter<W>) -> fmt::Result {
+        match self {
+            ReadError::Stop(stop) => write!(f, "{stop}"),
+            ReadError::NoMemory => write!(f, "{NoMemory}"),
+        }
+    }
+}
+
+impl Error for ReadError {}
+
 /// The first fault of some bytes.
 #[derive(Clone, Copy, Debug, PartialEq, Eq)]
 pub struct FieldFault {
@@ -80,6 +131,19 @@ pub struct FieldFault {
     /// The offset of the first byte of the innermost field that fails.
     pub at: usize,
 }
+
+impl fmt::Display for FieldFault {
+    ghost use Rattle.std.specs.Prelude.{Some};
+    ghost use Rattle.mc_nbt.specs.FaultText.{field_fault_text};
+
+    ghost output = { λ fault. Some (field_fault_text fault) };
+
+    fn fmt<W: fmt::Write>(&self, f: &mut fmt::Formatter<W>) -> fmt::Result {
+        write!(f, "{}, at byte {}", self.kind, self.at)
+    }
+}
+
+impl Error for FieldFault {}
 
 /// Why a field was not read.
 #[derive(Clone, Copy, Debug, PartialEq, Eq)]
@@ -105,3 +169,19 @@ impl From<FieldFault> for ReadFault {
         ReadFault::Field(fault)
     }
 }
+
+impl fmt::Display for ReadFault {
+    ghost use Rattle.std.specs.Prelude.{Some};
+    ghost use Rattle.mc_nbt.specs.FaultText.{read_fault_text};
+
+    ghost output = { λ fault. Some (read_fault_text fault) };
+
+    fn fmt<W: fmt::Write>(&self, f: &mut fmt::Formatter<W>) -> fmt::Result {
+        match self {
+            ReadFault::Field(fault) => write!(f, "{fault}"),
+            ReadFault::NoMemory => write!(f, "{NoMemory}"),
+        }
+    }
+}
+
+impl Error for ReadFault {}

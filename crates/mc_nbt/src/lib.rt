@@ -9,8 +9,6 @@ mod bytes;
 mod fault;
 mod memory;
 mod reading;
-#[cfg(test)]
-mod tests;
 mod values;
 mod writing;
 
@@ -18,5 +16,5 @@ pub use bytes::{Octets, Text};
 pub use fault::{FieldFault, Kind, ReadError, ReadFault, Stop};
 pub use memory::NoMemory;
 pub use reading::{Cursor, placed};
-pub use values::{Entries, Ints, Nbt, Tag, Tags, read_nbt, same, write_nbt};
+pub use values::{DEPTH_MAX, Entries, Ints, Nbt, Tag, Tags, read_nbt, same, write_nbt};
 pub use writing::{write_octets, write_u8, write_u16, write_u32, write_u64, write_u128};

@@ -1,7 +1,7 @@
 ghost use Rattle.std.specs.Prelude.{◌≡◌, ◌≤◌, [], length, drop};
 ghost use Rattle.std.specs.Int.{w8, w16, w32, w64, w128};
 ghost use Rattle.mc_nbt.specs.Reading.{Yields, stop_at};
-ghost use Rattle.mc_nbt.specs.Numbers.{octets_read, number_read};
+ghost use Rattle.mc_nbt.specs.NumberBytes.{octets_read, number_read};
 ghost use Rattle.mc_nbt.specs.Placed.{placed, with_rest};
 
 use crate::{FieldFault, Kind, Stop};
@@ -59,7 +59,7 @@ impl<'a> Cursor<'a> {
     }
 
     /// The next `n` bytes as they are. `Short` where fewer are left.
-    #[tactic(auto, unfolding(crate::specs::Numbers::octets_read))]
+    #[tactic(auto, unfolding(crate::specs::NumberBytes::octets_read))]
     pub fn take(&mut self, n: usize) -> Result<&'a [u8], Stop>
         ensures { Yields (λ octets. (octets.now, self.new)) result (octets_read n self.old) }
     {
@@ -90,7 +90,7 @@ impl<'a> Cursor<'a> {
     }
 
     /// A number of one byte. `Short` where none is left.
-    #[tactic(auto, unfolding(crate::specs::Numbers::number_read))]
+    #[tactic(auto, unfolding(crate::specs::NumberBytes::number_read))]
     pub fn u8(&mut self) -> Result<u8, Stop>
         ensures { Yields (λ n. (n, self.new)) result (number_read w8 self.old) }
     {
@@ -102,7 +102,7 @@ impl<'a> Cursor<'a> {
     }
 
     /// A number of two bytes, the high one first. `Short` where fewer are left.
-    #[tactic(auto, unfolding(crate::specs::Numbers::number_read))]
+    #[tactic(auto, unfolding(crate::specs::NumberBytes::number_read))]
     pub fn u16(&mut self) -> Result<u16, Stop>
         ensures { Yields (λ n. (n, self.new)) result (number_read w16 self.old) }
     {
@@ -114,7 +114,7 @@ impl<'a> Cursor<'a> {
     }
 
     /// A number of four bytes, the highest first. `Short` where fewer are left.
-    #[tactic(auto, unfolding(crate::specs::Numbers::number_read))]
+    #[tactic(auto, unfolding(crate::specs::NumberBytes::number_read))]
     pub fn u32(&mut self) -> Result<u32, Stop>
         ensures { Yields (λ n. (n, self.new)) result (number_read w32 self.old) }
     {
@@ -126,7 +126,7 @@ impl<'a> Cursor<'a> {
     }
 
     /// A number of eight bytes, the highest first. `Short` where fewer are left.
-    #[tactic(auto, unfolding(crate::specs::Numbers::number_read))]
+    #[tactic(auto, unfolding(crate::specs::NumberBytes::number_read))]
     pub fn u64(&mut self) -> Result<u64, Stop>
         ensures { Yields (λ n. (n, self.new)) result (number_read w64 self.old) }
     {
@@ -138,7 +138,7 @@ impl<'a> Cursor<'a> {
     }
 
     /// A number of sixteen bytes, the highest first. `Short` where fewer are left.
-    #[tactic(auto, unfolding(crate::specs::Numbers::number_read))]
+    #[tactic(auto, unfolding(crate::specs::NumberBytes::number_read))]
     pub fn u128(&mut self) -> Result<u128, Stop>
         ensures { Yields (λ n. (n, self.new)) result (number_read w128 self.old) }
     {

@@ -6,13 +6,13 @@ ghost use Rattle.mc_nbt.specs.Nbt.{AllFitSigned};
 mod comparing;
 mod document;
 mod fitting;
+mod limits;
 mod reading;
-#[cfg(test)]
-mod tests;
 mod writing;
 
 use crate::{NoMemory, Octets};
 pub use document::{Nbt, read_nbt, same, write_nbt};
+pub use limits::DEPTH_MAX;
 use std::alloc::Global;
 use std::marker::Model;
 
@@ -80,7 +80,7 @@ impl Model for Tags {
 
     ghost size = { λ trees. trees_depth (trees_of trees) };
 
-    ghost use Rattle.mc_nbt.specs.TagFalls.{at_least, tags_fall};
+    ghost use Rattle.mc_nbt.specs.TagFallsLaws.{at_least, tags_fall};
 
     ghost size_decreases = { λ a h. at_least _ _ (tags_fall a.items.items) };
 }
@@ -101,7 +101,7 @@ impl Model for Entries {
 
     ghost size = { λ members. members_depth (members_of members) };
 
-    ghost use Rattle.mc_nbt.specs.TagFalls.{at_least, entries_fall};
+    ghost use Rattle.mc_nbt.specs.TagFallsLaws.{at_least, entries_fall};
 
     ghost size_decreases = { λ a h. at_least _ _ (entries_fall a.items.items) };
 }

@@ -1,3 +1,4 @@
 pub mod Count
 pub mod Stream
 pub mod State
+pub mod FaultText

@@ -14,8 +14,6 @@ mod sink;
 mod source;
 mod steady_sink;
 mod steady_source;
-#[cfg(test)]
-mod tests;
 
 pub use failed::Failed;
 pub use input_error::InputError;

@@ -1,4 +1,5 @@
-ghost use Rattle.std.specs.Prelude.{◌≡◌, ◌<◌, ◌≤◌, [], ◌++◌, ◌↔◌, length, take, drop, min, IsErr, IfOk, OnErr, Contains};
+ghost use Rattle.std.specs.Prelude.{◌≡◌, ◌<◌, ◌≤◌, [], ◌++◌, ◌↔◌, length, take, drop, min, IsErr};
+ghost use Rattle.std.specs.Prelude.{IfOk, OnErr, Contains};
 ghost use Rattle.mc_wire.specs.Count.{Rose, NeverFalls, raised};
 
 use crate::plan::Plan;

@@ -1,4 +1,5 @@
-ghost use Rattle.std.specs.Prelude.{◌≡◌, ◌≢◌, ℕ, ◌<◌, ◌≤◌, Option, List, length, take, IfOk, OnOk, OnErr, IsErrOf, vec_len};
+ghost use Rattle.std.specs.Prelude.{◌≡◌, ◌≢◌, ℕ, ◌<◌, ◌≤◌, Option, List, length, take, IfOk, OnOk};
+ghost use Rattle.std.specs.Prelude.{OnErr, IsErrOf, vec_len};
 ghost use Rattle.mc_wire.specs.Count.{Rose, NeverFalls, StandsOrRises};
 ghost use Rattle.mc_wire.specs.Stream.{Consumes, IsAtEnd};
 
@@ -44,7 +45,7 @@ pub fn read_all<S: Source>(alloc: Global, source: &mut S) -> Result<Vec<u8>, Inp
     ensures failed { IsErrOf result InputError.Failed →
         Rose (S.faults source.old) (S.faults source.new) }
     ensures counts { StandsOrRises (S.faults source.old) (S.faults source.new) }
-    // Only want of memory may come before the first read.
+    // Out of memory is all that may come before the first read.
     ensures called { result ≢ Err InputError.NoMemory →
         NeverFalls (S.faults source.old) (S.faults source.new) }
 {

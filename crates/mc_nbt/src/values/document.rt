@@ -1,4 +1,5 @@
-ghost use Rattle.std.specs.Prelude.{◌≡◌, ◌++◌, ◌≤◌, ◌↔◌, ℕ, List, drop, length, IsTrue, IsSome, IfOk, IfSome, OnOk, OnErr};
+ghost use Rattle.std.specs.Prelude.{◌≡◌, ◌++◌, ◌≤◌, ◌↔◌, ℕ, List, drop, length, IsTrue, IsSome};
+ghost use Rattle.std.specs.Prelude.{IfOk, IfSome, OnOk, OnErr};
 ghost use Rattle.mc_nbt.specs.Reading.{Gives};
 ghost use Rattle.mc_nbt.specs.Placed.{SpelledAt, PlacedGives, placed};
 ghost use Rattle.mc_nbt.specs.Nbt.{Named, named, IsNbt, nbt_spelling, SpellsNbt};
@@ -6,14 +7,12 @@ ghost use Rattle.mc_nbt.specs.NbtReading.{nbt_at};
 
 use crate::values::comparing::same_entries;
 use crate::values::fitting::{entries_fit, name_fits};
+use crate::values::limits::DEPTH_MAX;
 use crate::values::reading::read_parts;
 use crate::values::writing::write_parts;
 use crate::{Cursor, Entries, NoMemory, Octets, ReadError, ReadFault};
 use std::alloc::Global;
 use std::marker::Model;
-
-/// How many lists and compounds may stand in one another inside the outermost compound.
-const ROOM_INSIDE: usize = 511;
 
 /// A compound with a name, which has a spelling.
 #[derive(Drop)]
@@ -46,7 +45,7 @@ impl Nbt {
         if !name_fits(&name) {
             return None;
         }
-        if !entries_fit(&entries, ROOM_INSIDE) {
+        if !entries_fit(&entries, DEPTH_MAX - 1) {
             return None;
         }
         Some(Nbt { name, entries })
@@ -70,6 +69,7 @@ impl Nbt {
         let bytes = input.rest();
         let (name, entries) = read_parts(alloc, input)?;
         let read = Ok(Nbt { name, entries });
+        // For the prover: reading went forward.
         let left = input.rest().len();
         prove!(left <= bytes.len());
         read

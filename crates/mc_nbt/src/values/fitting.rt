@@ -1,16 +1,12 @@
 ghost use Rattle.std.specs.Prelude.{◌≡◌, ◌↔◌, ◌≤◌, ◌<◌, ◌^◌, length, IsTrue};
-ghost use Rattle.mc_nbt.specs.Tree.{kind_of, list, compound, depth, trees_of, trees_depth, members_of, members_depth};
+ghost use Rattle.mc_nbt.specs.Tree.{kind_of, list, compound, depth, trees_of, trees_depth};
+ghost use Rattle.mc_nbt.specs.Tree.{members_of, members_depth};
 ghost use Rattle.mc_nbt.specs.TagView.{tree_of};
 ghost use Rattle.mc_nbt.specs.Nbt.{Fits, TreesFit, MembersFit};
 
+use crate::values::limits::{ITEMS_MAX, KIND_MAX, NAME_MAX};
 use crate::values::writing::kind;
 use crate::{Entries, Octets, Tag, Tags};
-
-/// The longest name or text.
-const LONGEST_NAME: usize = 65_535;
-
-/// The longest list or array.
-const MOST_ITEMS: usize = 2_147_483_647;
 
 #[cycle(fitting)]
 fn fits(tag: &Tag, room: usize) -> bool
@@ -18,34 +14,34 @@ fn fits(tag: &Tag, room: usize) -> bool
 {
     match tag {
         Tag::Byte(number) => {
-            let _number = *number;
+            let _number = *number; // for the prover: its range
             true
         }
         Tag::Short(number) => {
-            let _number = *number;
+            let _number = *number; // for the prover: its range
             true
         }
         Tag::Int(number) => {
-            let _number = *number;
+            let _number = *number; // for the prover: its range
             true
         }
         Tag::Long(number) => {
-            let _number = *number;
+            let _number = *number; // for the prover: its range
             true
         }
         Tag::Float(pattern) => {
-            let _pattern = *pattern;
+            let _pattern = *pattern; // for the prover: its range
             true
         }
         Tag::Double(pattern) => {
-            let _pattern = *pattern;
+            let _pattern = *pattern; // for the prover: its range
             true
         }
-        Tag::ByteArray(octets) => octets.as_slice().len() <= MOST_ITEMS,
-        Tag::Str(text) => text.as_slice().len() <= LONGEST_NAME,
+        Tag::ByteArray(octets) => octets.as_slice().len() <= ITEMS_MAX as usize,
+        Tag::Str(text) => text.as_slice().len() <= NAME_MAX,
         Tag::List(kind, tags) => list_fits(*kind, tags, room),
         Tag::Compound(entries) => compound_fits(entries, room),
-        Tag::IntArray(numbers) => numbers.as_slice().len() <= MOST_ITEMS,
+        Tag::IntArray(numbers) => numbers.as_slice().len() <= ITEMS_MAX as usize,
     }
 }
 
@@ -53,10 +49,10 @@ fn fits(tag: &Tag, room: usize) -> bool
 fn list_fits(kind: u8, tags: &Tags, room: usize) -> bool
     ensures { IsTrue result ↔ (Fits (list kind (trees_of tags.now)) × (depth (list kind (trees_of tags.now)) ≤ room)) }
 {
-    if kind > 11 {
+    if kind > KIND_MAX {
         return false;
     }
-    if tags.items.as_slice().len() > MOST_ITEMS {
+    if tags.items.as_slice().len() > ITEMS_MAX as usize {
         return false;
     }
     if room == 0 {
@@ -124,5 +120,5 @@ fn entry_fits(name: &Octets, tag: &Tag, room: usize) -> bool
 pub fn name_fits(name: &Octets) -> bool
     ensures { IsTrue result ↔ (length name.now < 2 ^ 16) }
 {
-    name.as_slice().len() <= LONGEST_NAME
+    name.as_slice().len() <= NAME_MAX
 }

@@ -1,58 +1,46 @@
 ghost use Rattle.std.specs.Prelude.{◌≡◌, ◌+◌, ◌-◌, ◌<◌, ◌≤◌, length, IfOk, OnOk, option_map};
 ghost use Rattle.std.specs.Int.{w8, w16, w32, w64};
 ghost use Rattle.mc_nbt.specs.Reading.{Yields, Gives};
-ghost use Rattle.mc_nbt.specs.Numbers.{number_read};
+ghost use Rattle.mc_nbt.specs.NumberBytes.{number_read};
 ghost use Rattle.mc_nbt.specs.Times.{times_at};
-ghost use Rattle.mc_nbt.specs.NbtReading.{signed_at, kind_at, count_at, name_at, bytes_at, ints_at, leaf_at, list_at, named_at, member_at, members_at, compound_at, value_at, root_at, nbt_at};
+ghost use Rattle.mc_nbt.specs.NbtReading.{signed_at, kind_at, count_at, name_at, bytes_at, ints_at};
+ghost use Rattle.mc_nbt.specs.NbtReading.{leaf_at, list_at, named_at, member_at, members_at};
+ghost use Rattle.mc_nbt.specs.NbtReading.{compound_at, value_at, root_at, nbt_at};
 ghost use Rattle.mc_nbt.specs.Nbt.{named};
 ghost use Rattle.mc_nbt.specs.TagView.{tree_of, member_of};
 
+use crate::values::limits::{COMPOUND, DEPTH_MAX, END, ITEMS_MAX, KIND_MAX};
 use crate::{Cursor, Entries, Ints, Kind, Octets, ReadError, Stop, Tag, Tags};
 use std::alloc::Global;
 
-/// The largest tag byte.
-const LAST_KIND: u8 = 11;
-
-/// The byte that ends a compound.
-const END: u8 = 0;
-
-/// The tag byte of a compound.
-const COMPOUND: u8 = 10;
-
-/// How many lists and compounds may stand in one another inside the outermost compound.
-const ROOM_INSIDE: usize = 511;
-
-/// The longest list or array.
-const MOST_ITEMS: u32 = 2_147_483_647;
-
-#[tactic(auto, unfolding(crate::specs::NbtReading::kind_at, crate::specs::Numbers::number_read))]
+#[tactic(auto, unfolding(crate::specs::NbtReading::kind_at, crate::specs::NumberBytes::number_read))]
 fn read_kind(input: &mut Cursor<'_>) -> Result<u8, Stop>
     ensures gives { Yields (λ kind. (kind, input.new)) result (kind_at input.old) }
     ensures shorter { OnOk result (length input.new < length input.old) }
 {
     let bad = input.stop(Kind::BadTag);
     let kind = input.u8()?;
-    if kind > LAST_KIND {
+    if kind > KIND_MAX {
         return Err(bad);
     }
     Ok(kind)
 }
 
-#[tactic(auto, unfolding(crate::specs::NbtReading::count_at, crate::specs::Numbers::number_read))]
+#[tactic(auto, unfolding(crate::specs::NbtReading::count_at, crate::specs::NumberBytes::number_read))]
 fn read_count(input: &mut Cursor<'_>, kind: u8) -> Result<u32, Stop>
     ensures gives { Yields (λ count. (count, input.new)) result (count_at kind input.old) }
     ensures shorter { OnOk result (length input.new < length input.old) }
 {
     let bad = input.stop(Kind::BadLength);
     let count = input.u32()?;
-    let most = if kind > END { MOST_ITEMS } else { 0 };
+    let most = if kind > END { ITEMS_MAX } else { 0 };
     if count > most {
         return Err(bad);
     }
     Ok(count)
 }
 
-#[tactic(auto, unfolding(crate::specs::NbtReading::signed_at, crate::specs::Numbers::number_read))]
+#[tactic(auto, unfolding(crate::specs::NbtReading::signed_at, crate::specs::NumberBytes::number_read))]
 fn read_i8(input: &mut Cursor<'_>) -> Result<i8, Stop>
     ensures gives { Yields (λ number. (number, input.new)) result (signed_at w8 input.old) }
     ensures shorter { OnOk result (length input.new < length input.old) }
@@ -60,7 +48,7 @@ fn read_i8(input: &mut Cursor<'_>) -> Result<i8, Stop>
     Ok(input.u8()?.cast_signed())
 }
 
-#[tactic(auto, unfolding(crate::specs::NbtReading::signed_at, crate::specs::Numbers::number_read))]
+#[tactic(auto, unfolding(crate::specs::NbtReading::signed_at, crate::specs::NumberBytes::number_read))]
 fn read_i16(input: &mut Cursor<'_>) -> Result<i16, Stop>
     ensures gives { Yields (λ number. (number, input.new)) result (signed_at w16 input.old) }
     ensures shorter { OnOk result (length input.new < length input.old) }
@@ -68,7 +56,7 @@ fn read_i16(input: &mut Cursor<'_>) -> Result<i16, Stop>
     Ok(input.u16()?.cast_signed())
 }
 
-#[tactic(auto, unfolding(crate::specs::NbtReading::signed_at, crate::specs::Numbers::number_read))]
+#[tactic(auto, unfolding(crate::specs::NbtReading::signed_at, crate::specs::NumberBytes::number_read))]
 fn read_i32(input: &mut Cursor<'_>) -> Result<i32, Stop>
     ensures gives { Yields (λ number. (number, input.new)) result (signed_at w32 input.old) }
     ensures shorter { OnOk result (length input.new < length input.old) }
@@ -76,7 +64,7 @@ fn read_i32(input: &mut Cursor<'_>) -> Result<i32, Stop>
     Ok(input.u32()?.cast_signed())
 }
 
-#[tactic(auto, unfolding(crate::specs::NbtReading::signed_at, crate::specs::Numbers::number_read))]
+#[tactic(auto, unfolding(crate::specs::NbtReading::signed_at, crate::specs::NumberBytes::number_read))]
 fn read_i64(input: &mut Cursor<'_>) -> Result<i64, Stop>
     ensures gives { Yields (λ number. (number, input.new)) result (signed_at w64 input.old) }
     ensures shorter { OnOk result (length input.new < length input.old) }
@@ -84,7 +72,7 @@ fn read_i64(input: &mut Cursor<'_>) -> Result<i64, Stop>
     Ok(input.u64()?.cast_signed())
 }
 
-#[tactic(auto, unfolding(crate::specs::Numbers::number_read))]
+#[tactic(auto, unfolding(crate::specs::NumberBytes::number_read))]
 fn read_u32(input: &mut Cursor<'_>) -> Result<u32, Stop>
     ensures gives { Yields (λ pattern. (pattern, input.new)) result (number_read w32 input.old) }
     ensures shorter { OnOk result (length input.new < length input.old) }
@@ -92,7 +80,7 @@ fn read_u32(input: &mut Cursor<'_>) -> Result<u32, Stop>
     Ok(input.u32()?)
 }
 
-#[tactic(auto, unfolding(crate::specs::Numbers::number_read))]
+#[tactic(auto, unfolding(crate::specs::NumberBytes::number_read))]
 fn read_u64(input: &mut Cursor<'_>) -> Result<u64, Stop>
     ensures gives { Yields (λ pattern. (pattern, input.new)) result (number_read w64 input.old) }
     ensures shorter { OnOk result (length input.new < length input.old) }
@@ -100,7 +88,7 @@ fn read_u64(input: &mut Cursor<'_>) -> Result<u64, Stop>
     Ok(input.u64()?)
 }
 
-#[tactic(auto, unfolding(crate::specs::NbtReading::name_at, crate::specs::NbtReading::run_at, crate::specs::Numbers::number_read, crate::specs::Numbers::octets_read))]
+#[tactic(auto, unfolding(crate::specs::NbtReading::name_at, crate::specs::NbtReading::run_at, crate::specs::NumberBytes::number_read, crate::specs::NumberBytes::octets_read))]
 fn read_name(alloc: Global, input: &mut Cursor<'_>) -> Result<Octets, ReadError>
     ensures gives { Gives (λ name. (name, input.new)) result (name_at input.old) }
     ensures shorter { OnOk result (length input.new < length input.old) }
@@ -113,7 +101,7 @@ fn read_name(alloc: Global, input: &mut Cursor<'_>) -> Result<Octets, ReadError>
     Ok(Octets::from_slice(alloc, bytes)?)
 }
 
-#[tactic(auto, unfolding(crate::specs::NbtReading::bytes_at, crate::specs::NbtReading::run_at, crate::specs::Numbers::octets_read))]
+#[tactic(auto, unfolding(crate::specs::NbtReading::bytes_at, crate::specs::NbtReading::run_at, crate::specs::NumberBytes::octets_read))]
 fn read_bytes(alloc: Global, input: &mut Cursor<'_>) -> Result<Octets, ReadError>
     ensures gives { Gives (λ bytes. (bytes, input.new)) result (bytes_at input.old) }
     ensures shorter { OnOk result (length input.new < length input.old) }
@@ -279,7 +267,7 @@ fn read_named(
 }
 
 /// The byte of a compound. `BadTag` at another one.
-#[tactic(auto, unfolding(crate::specs::NbtReading::root_at, crate::specs::Numbers::number_read))]
+#[tactic(auto, unfolding(crate::specs::NbtReading::root_at, crate::specs::NumberBytes::number_read))]
 fn read_root(input: &mut Cursor<'_>) -> Result<u8, Stop>
     ensures gives { Yields (λ kind. (kind, input.new)) result (root_at input.old) }
     ensures shorter { OnOk result (length input.new < length input.old) }
@@ -300,6 +288,6 @@ pub fn read_parts(alloc: Global, input: &mut Cursor<'_>) -> Result<(Octets, Entr
 {
     read_root(input)?;
     let name = read_name(alloc, input)?;
-    let entries = read_entries(alloc, input, ROOM_INSIDE)?;
+    let entries = read_entries(alloc, input, DEPTH_MAX - 1)?;
     Ok((name, entries))
 }

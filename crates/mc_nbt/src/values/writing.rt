@@ -1,17 +1,13 @@
 ghost use Rattle.std.specs.Prelude.{◌≡◌, ◌++◌, ◌<◌, ◌^◌, take, length, OnOk, OnErr};
 ghost use Rattle.std.specs.Int.{w8, w16, w32, w64};
-ghost use Rattle.mc_nbt.specs.Numbers.{number_spelling};
+ghost use Rattle.mc_nbt.specs.NumberBytes.{number_spelling};
 ghost use Rattle.mc_nbt.specs.Tree.{Tree, list, compound, kind_of, trees_of, members_of};
 ghost use Rattle.mc_nbt.specs.TagView.{tree_of};
-ghost use Rattle.mc_nbt.specs.Nbt.{signed_spelling, run_spelling, ints_spelling, payload, Fits, named, nbt_spelling};
+ghost use Rattle.mc_nbt.specs.Nbt.{signed_spelling, run_spelling, ints_spelling, payload, Fits};
+ghost use Rattle.mc_nbt.specs.Nbt.{named, nbt_spelling};
 
+use crate::values::limits::{COMPOUND, END};
 use crate::{Entries, NoMemory, Octets, Tag, Tags, write_u8, write_u16, write_u32, write_u64};
-
-/// The byte that ends a compound.
-const END: u8 = 0;
-
-/// The tag byte of a compound.
-const COMPOUND: u8 = 10;
 
 fn write_i32(number: i32, out: &mut Vec<u8>) -> Result<(), NoMemory>
     ensures ok { OnOk result (out.new.items ≡ out.old.items ++ signed_spelling w32 number) }

@@ -1,8 +1,8 @@
-use Rattle.mc_nbt.specs.Placed.{PlacedGives-found, PlacedGives-only}
+use Rattle.mc_nbt.specs.PlacedLaws.{PlacedGives-found, PlacedGives-only}
 use Rattle.mc_nbt.specs.Nbt.{SpellsNbt}
 use Rattle.mc_nbt.specs.NbtReading.{nbt_at}
-use Rattle.mc_nbt.specs.NbtAgain.{nbt_only}
-use Rattle.mc_nbt.specs.NbtTakes.{nbt_found}
+use Rattle.mc_nbt.specs.NbtAgainLaws.{nbt_only}
+use Rattle.mc_nbt.specs.NbtTakesLaws.{nbt_found}
 use Rattle.mc_nbt.proofs.values.document.read_nbt.Goals as goal
 
 pub returns-clause-found : goal.returns-clause-found

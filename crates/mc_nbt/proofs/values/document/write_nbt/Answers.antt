@@ -1,7 +1,7 @@
 use Rattle.std.proofs.Common.{◌≡◌, List, ℕ, ◌++◌, Ok, refl, subst}
 use Rattle.mc_nbt.specs.Nbt.{Named, IsNbt, nbt_spelling}
 use Rattle.mc_nbt.specs.NbtReading.{nbt_at}
-use Rattle.mc_nbt.specs.NbtAgain.{nbt_only}
+use Rattle.mc_nbt.specs.NbtAgainLaws.{nbt_only}
 use Rattle.mc_nbt.proofs.values.document.write_nbt.Goals as goal
 
 read_again : (value : Named) → IsNbt value → (rest : List ℕ) → nbt_at (nbt_spelling value ++ rest) ≡ Ok (value, rest)

@@ -9,8 +9,8 @@ use Rattle.mc_nbt.proofs.values.fitting.+fitting.Goals as goal
 yes : IsTrue true
 yes = search rules
 
-pub list_fits-returns-then-as_slice-gt-MOST_ITEMS : goal.list_fits-returns-then-as_slice-gt-MOST_ITEMS
-list_fits-returns-then-as_slice-gt-MOST_ITEMS t c =
+pub list_fits-returns-then-as_slice : goal.list_fits-returns-then-as_slice
+list_fits-returns-then-as_slice t c =
     let n : length c.as_slice.result.now ≡ count_of (trees_of c.args.tags.now) = items_length tree_of c.as_slice.result.now c.args.tags.now (ap (map tree_of) c.as_slice.ensures.value ∙ c.tags.view_is) in
     (λ h. absurd cc, λ h. absurd (omega (arith, h.0.1)))
 
