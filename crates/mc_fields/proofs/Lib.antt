@@ -3,3 +3,4 @@ pub mod Floors
 pub mod Groups
 pub mod VarintFaults
 pub mod Utf8
+pub mod Again

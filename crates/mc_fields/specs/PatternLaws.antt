@@ -1,7 +1,8 @@
 -- Floors by shifts: what is shifted is the floor, and there is one.
 use Rattle.std.specs.Prelude.{◌≡◌, ℕ, zero, suc, ◌+◌, ◌*◌, ◌/◌, ◌<◌, ◌≤◌, Bool, true, false}
 use Rattle.std.proofs.Common.{ap, arith, inl, inr}
-use Rattle.std.proofs.Math.Nat.{mul-le-mul_left, mul-le-mul_right, le_of_mul-le-mul_left, div-div-eq-div-mul, div-eq_of_lt}
+use Rattle.std.proofs.Math.Nat.{mul-le-mul_left, mul-le-mul_right, le_of_mul-le-mul_left}
+use Rattle.std.proofs.Math.Nat.{div-div-eq-div-mul, div-eq_of_lt}
 use Rattle.std.proofs.lemmas.Bool.{cases_lt}
 use Rattle.std.proofs.lemmas.Int.{ints}
 use lib.IntN.{ℤ, pos, negsuc, neg_ℤ, ◌*ℤ◌}
@@ -30,12 +31,15 @@ floor_one (negsuc n) (negsuc m) top b f g =
     let ge : m ≤ n = under_next m n b (omega (arith, ints, f.least, f.most, g.least, g.most)) in
     let same : n ≡ m = omega arith in
     ap negsuc same
-floor_one (pos n) (negsuc m) top b f g = absurd (omega (arith, ints, f.least, f.most, g.least, g.most))
-floor_one (negsuc n) (pos m) top b f g = absurd (omega (arith, ints, f.least, f.most, g.least, g.most))
+floor_one (pos n) (negsuc m) top b f g =
+    absurd (omega (arith, ints, f.least, f.most, g.least, g.most))
+floor_one (negsuc n) (pos m) top b f g =
+    absurd (omega (arith, ints, f.least, f.most, g.least, g.most))
 
 -- a whole number is its own floor
 pub floor_exact : (n top : ℤ) (b : ℕ) → 0 < b → top ≡ (n *ℤ pos b) → IsFloor n top b
-floor_exact n top b some e = record { least = omega (arith, ints, e); most = omega (arith, ints, e) }
+floor_exact n top b some e =
+    record { least = omega (arith, ints, e); most = omega (arith, ints, e) }
 
 -- ---- the floor of a shift: size / m where top is size * c / u and bottom is c * m / u
 
@@ -43,22 +47,26 @@ floor_exact n top b some e = record { least = omega (arith, ints, e); most = ome
 under : (q m c u b : ℕ) → u * b ≡ c * m → u * (q * b) ≡ c * (q * m)
 under q m c u b e = let times = ap (λ (x : ℕ). q * x) e in omega (arith, times)
 
-low_under : (q size m c u t b : ℕ) → 0 < u → u * t ≡ size * c → u * b ≡ c * m → q * m ≤ size → q * b ≤ t
+low_under : (q size m c u t b : ℕ) → 0 < u → u * t ≡ size * c → u * b ≡ c * m → q * m ≤ size
+    → q * b ≤ t
 low_under q size m c u t b some top bottom le =
     let wide : u * (q * b) ≤ u * t = omega (arith, under q m c u b bottom, mul-le-mul_left c le, top) in
     le_of_mul-le-mul_left wide some
 
-high_under : (q size m c u t b : ℕ) → 0 < u → u * t ≡ size * c → u * b ≡ c * m → size ≤ q * m → t ≤ q * b
+high_under : (q size m c u t b : ℕ) → 0 < u → u * t ≡ size * c → u * b ≡ c * m → size ≤ q * m
+    → t ≤ q * b
 high_under q size m c u t b some top bottom le =
     let wide : u * t ≤ u * (q * b) = omega (arith, under q m c u b bottom, mul-le-mul_left c le, top) in
     le_of_mul-le-mul_left wide some
 
-low_over : (q size m c u t b : ℕ) → 0 < c → u * t ≡ size * c → u * b ≡ c * m → q * b ≤ t → q * m ≤ size
+low_over : (q size m c u t b : ℕ) → 0 < c → u * t ≡ size * c → u * b ≡ c * m → q * b ≤ t
+    → q * m ≤ size
 low_over q size m c u t b some top bottom le =
     let wide : c * (q * m) ≤ c * size = omega (arith, under q m c u b bottom, mul-le-mul_left u le, top) in
     le_of_mul-le-mul_left wide some
 
-high_over : (q size m c u t b : ℕ) → 0 < c → u * t ≡ size * c → u * b ≡ c * m → t ≤ q * b → size ≤ q * m
+high_over : (q size m c u t b : ℕ) → 0 < c → u * t ≡ size * c → u * b ≡ c * m → t ≤ q * b
+    → size ≤ q * m
 high_over q size m c u t b some top bottom le =
     let wide : c * size ≤ c * (q * m) = omega (arith, under q m c u b bottom, mul-le-mul_left u le, top) in
     le_of_mul-le-mul_left wide some
@@ -77,7 +85,8 @@ some_factor : (u b k : ℕ) → u * b ≡ k → 0 < k → 0 < b
 some_factor u zero k e some = absurd (omega (arith, e))
 some_factor u (suc b) k e some = omega arith
 
-pub shift_floor : (negative : Bool) (size m c u t b : ℕ) → 0 < m → 0 < c → 0 < u → u * t ≡ size * c → u * b ≡ c * m → IsFloor (shr_z (with_sign negative size) m) (with_sign negative t) b
+pub shift_floor : (negative : Bool) (size m c u t b : ℕ) → 0 < m → 0 < c → 0 < u → u * t ≡ size * c
+    → u * b ≡ c * m → IsFloor (shr_z (with_sign negative size) m) (with_sign negative t) b
 shift_floor false size m c u t b some_m some_c some_u top bottom =
     let q = quotient size m some_m in
     floor_pos (size / m) t b (low_under (size / m) size m c u t b some_u top bottom q.0) (
@@ -104,8 +113,10 @@ shift_floor true (suc a) m c u t b some_m some_c some_u top bottom =
 
 -- what is shifted by more than it has bits is gone
 pub shift_gone : (z : ℤ) (m k : ℕ) → mag z < m → mag z < k → shr_z z m ≡ shr_z z k
-shift_gone (pos a) m k few more = let e : a / m ≡ a / k = omega (arith, div-eq_of_lt few, div-eq_of_lt more) in ap pos e
-shift_gone (negsuc a) m k few more = let e : a / m ≡ a / k = omega (arith, div-eq_of_lt few, div-eq_of_lt more) in ap negsuc e
+shift_gone (pos a) m k few more =
+    let e : a / m ≡ a / k = omega (arith, div-eq_of_lt few, div-eq_of_lt more) in ap pos e
+shift_gone (negsuc a) m k few more =
+    let e : a / m ≡ a / k = omega (arith, div-eq_of_lt few, div-eq_of_lt more) in ap negsuc e
 
 -- a shift and then a quotient is one quotient
 pub shift_then : (z : ℤ) (m k : ℕ) → int_div_euclid (shr_z z m) (pos k) ≡ shr_z z (m * k)

@@ -1,97 +1,14 @@
--- Positions of blocks, of the page 'Data types' of wiki.vg for protocol 47: 64 bits, of which the 26 at the top are x, the
--- next 12 are y and the 26 at the bottom are z, each in two's complement.
-use Rattle.std.specs.Prelude.{◌≡◌, ℕ, suc, ◌+◌, ◌-◌, ◌*◌, ◌/◌, ◌%◌, ◌^◌, ◌<◌, Bool, true, false, List, nat_lt, if◌then◌else◌, refl}
-use Rattle.std.proofs.Common.{arith, le-ltb, lt-ltb, ltb-true, ltb-false}
+-- The format of positions of blocks, of the page 'Data types' of wiki.vg for protocol 47.
+use Rattle.std.specs.Prelude.{ℕ, List}
 use Rattle.std.specs.Int.{w64}
-use lib.IntN.{ℤ, pos, negsuc}
 use Rattle.mc_nbt.specs.Format.{Format}
-use Rattle.mc_nbt.specs.Combine.{IsView, via}
-use Rattle.mc_nbt.specs.Numbers.{number, wide_64}
+use Rattle.mc_nbt.specs.Combine.{via}
+use Rattle.mc_nbt.specs.Numbers.{number}
+use Rattle.mc_nbt.specs.NumberLaws.{wide_64}
 use Rattle.mc_fields.specs.declared.position.Cell.{Cell}
-
--- numbers from -half to half - 1
-abbrev pub FitsHalf : ℕ → ℤ → Type 0
-FitsHalf half (pos n) = n < half
-FitsHalf half (negsuc n) = n < half
-
--- such a number in two's complement
-abbrev pub low_bits : ℕ → ℤ → ℕ
-low_bits half (pos n) = n
-low_bits half (negsuc n) = 2 * half - suc n
-
--- and back
-abbrev pub signed_bits : ℕ → ℕ → ℤ
-signed_bits half n = if nat_lt n half then pos n else negsuc (2 * half - suc n)
-
--- x and z have 26 bits, y has 12
-pub record FitsCell (cell : Cell) : Type 0 where
-  pub x : FitsHalf (2 ^ 25) cell.x
-  pub y : FitsHalf (2 ^ 11) cell.y
-  pub z : FitsHalf (2 ^ 25) cell.z
-
-abbrev pub pack : Cell → ℕ
-pack cell = low_bits (2 ^ 25) cell.x * 2 ^ 38 + low_bits (2 ^ 11) cell.y * 2 ^ 26 + low_bits (2 ^ 25) cell.z
-
-abbrev pub unpack : ℕ → Cell
-unpack word = record {
-  x = signed_bits (2 ^ 25) (word / 2 ^ 38);
-  y = signed_bits (2 ^ 11) (word / 2 ^ 26 % 2 ^ 12);
-  z = signed_bits (2 ^ 25) (word % 2 ^ 26);
-}
-
--- ---- the two undo one another
-
-pub low_bits-below : (half : ℕ) (z : ℤ) → FitsHalf half z → low_bits half z < 2 * half
-low_bits-below half (pos n) fits = omega (arith, fits)
-low_bits-below half (negsuc n) fits = omega (arith, fits)
-
-pub signed_bits-fits : (half n : ℕ) → n < 2 * half → FitsHalf half (signed_bits half n)
-signed_bits-fits half n below = step (nat_lt n half) refl
-  where
-    step : (t : Bool) → nat_lt n half ≡ t → FitsHalf half (if t then pos n else negsuc (2 * half - suc n))
-    step true t = ltb-true _ _ t
-    step false t = let high = ltb-false _ _ t in omega (arith, high)
-
-pub low_bits-signed : (half n : ℕ) → n < 2 * half → low_bits half (signed_bits half n) ≡ n
-low_bits-signed half n below = step (nat_lt n half)
-  where
-    step : (t : Bool) → low_bits half (if t then pos n else negsuc (2 * half - suc n)) ≡ n
-    step true = refl
-    step false = omega arith
-
-pub signed_bits-low : (half : ℕ) (z : ℤ) → FitsHalf half z → signed_bits half (low_bits half z) ≡ z
-signed_bits-low half (pos n) fits = rw (lt-ltb n half fits) refl
-signed_bits-low half (negsuc n) fits =
-    let high = le-ltb (2 * half - suc n) half (omega (arith, fits)) in
-    let same : 2 * half - suc (2 * half - suc n) ≡ n = omega (arith, fits) in
-    rw (high, same) refl
-
-pub unpack-fits : (word : ℕ) → word < 2 ^ 64 → FitsCell (unpack word)
-unpack-fits word below = record {
-  x = signed_bits-fits (2 ^ 25) (word / 2 ^ 38) (omega arith);
-  y = signed_bits-fits (2 ^ 11) (word / 2 ^ 26 % 2 ^ 12) (omega arith);
-  z = signed_bits-fits (2 ^ 25) (word % 2 ^ 26) (omega arith);
-}
-
-pub pack-unpack : (word : ℕ) → word < 2 ^ 64 → pack (unpack word) ≡ word
-pack-unpack word below =
-    let x = low_bits-signed (2 ^ 25) (word / 2 ^ 38) (omega arith) in
-    let y = low_bits-signed (2 ^ 11) (word / 2 ^ 26 % 2 ^ 12) (omega arith) in
-    let z = low_bits-signed (2 ^ 25) (word % 2 ^ 26) (omega arith) in
-    omega (arith, x, y, z)
-
-pub unpack-pack : (cell : Cell) → FitsCell cell → unpack (pack cell) ≡ cell
-unpack-pack cell fits =
-    let x = low_bits-below (2 ^ 25) cell.x fits.x in
-    let y = low_bits-below (2 ^ 11) cell.y fits.y in
-    let z = low_bits-below (2 ^ 25) cell.z fits.z in
-    let at_x : pack cell / 2 ^ 38 ≡ low_bits (2 ^ 25) cell.x = omega (arith, x, y, z) in
-    let at_y : pack cell / 2 ^ 26 % 2 ^ 12 ≡ low_bits (2 ^ 11) cell.y = omega (arith, x, y, z) in
-    let at_z : pack cell % 2 ^ 26 ≡ low_bits (2 ^ 25) cell.z = omega (arith, x, y, z) in
-    rw (at_x, at_y, at_z, signed_bits-low (2 ^ 25) cell.x fits.x, signed_bits-low (2 ^ 11) cell.y fits.y, signed_bits-low (2 ^ 25) cell.z fits.z) refl
-
-pub cell_view : IsView {A = ℕ} (λ n. n < 2 ^ 64) FitsCell unpack pack
-cell_view = record { made = unpack-fits; again = pack-unpack; same = unpack-pack }
+use Rattle.mc_fields.specs.PositionBits.{FitsCell, pack, unpack}
+use Rattle.mc_fields.specs.PositionLaws.{cell_view}
+pub use Rattle.mc_fields.specs.PositionBits.{FitsHalf, FitsCell, pack, unpack}
 
 -- a position
 abbrev pub position : {Rest : List ℕ → Type 0} → Format Rest Cell

@@ -1,6 +1,8 @@
--- Texts, of the page 'Data types' of wiki.vg for protocol 47: the VarInt of the length in bytes, then the bytes in UTF-8.
--- A field names how many code points its text has at most. The order of the tests is a rule of this project.
-use Rattle.std.specs.Prelude.{◌≡◌, ℕ, ◌*◌, ◌≤◌, List, ◌++◌, length, take, drop, nat_lt, not, Result, Ok, Err, if◌then◌else◌}
+-- Texts, of the page 'Data types' of wiki.vg for protocol 47: the VarInt of the length in bytes,
+-- then the bytes in UTF-8. A field names how many code points its text has at most. The order of
+-- the tests is a rule of this project.
+use Rattle.std.specs.Prelude.{◌≡◌, ℕ, ◌*◌, ◌^◌, ◌<◌, ◌≤◌, List, ◌++◌, length, take, drop, nat_lt}
+use Rattle.std.specs.Prelude.{not, Result, Ok, Err, if◌then◌else◌}
 use Rattle.std.specs.Str.{IsUtf8, is_utf8, chars}
 use lib.IntN.{ℤ, pos, negsuc}
 use Rattle.mc_nbt.specs.declared.fault.Kind.{Kind}
@@ -21,6 +23,11 @@ pub record SpellsText (points : ℕ) (text bytes : List ℕ) : Type 0 where
   pub parts : bytes ≡ size ++ text
   pub fits : FitsText points text
 
+-- what has a spelling: a length fits its VarInt
+pub record SpellableText (points : ℕ) (text : List ℕ) : Type 0 where
+  pub fits : FitsText points text
+  pub sized : length text < 2 ^ 31
+
 -- bytes that are a text of so many code points at most
 abbrev pub checked_text : ℕ → List ℕ → Result (List ℕ) Kind
 checked_text points bytes =
@@ -28,9 +35,9 @@ checked_text points bytes =
     else if nat_lt points (length (chars bytes)) then Err TooLong
     else Ok bytes
 
--- The text of a given length at the front of the bytes after that length. The tests, in order: the length is negative,
--- too long for any text of so many code points, longer than what is left; the bytes are no UTF-8; there are too many
--- code points.
+-- The text of a given length at the front of the bytes after that length. The tests, in order: the
+-- length is negative, too long for any text of so many code points, longer than what is left; the
+-- bytes are no UTF-8; there are too many code points.
 abbrev pub text_front : ℕ → ℤ → List ℕ → Result (List ℕ) Kind
 text_front points (negsuc n) bytes = Err BadLength
 text_front points (pos len) bytes =

@@ -1,8 +1,11 @@
--- VarInts, of the page 'Data types' of wiki.vg for protocol 47: groups of seven bits, the least significant first.
--- A byte's top bit says that another group follows. The sum is a 32-bit number in two's complement.
-use Rattle.std.specs.Prelude.{◌≡◌, ℕ, zero, suc, ◌+◌, ◌*◌, ◌/◌, ◌%◌, ◌^◌, ◌<◌, ◌≤◌, List, [], ◌∷◌, length, slice_index, nat_lt, Result, Ok, Err, if◌then◌else◌}
+-- VarInts, of the page 'Data types' of wiki.vg for protocol 47: groups of seven bits, the least
+-- significant first. A byte's top bit says that another group follows. The sum is a 32-bit number
+-- in two's complement.
+use Rattle.std.specs.Prelude.{◌≡◌, ℕ, zero, suc, ◌+◌, ◌*◌, ◌/◌, ◌%◌, ◌^◌, ◌<◌, ◌≤◌, List, [], ◌∷◌}
+use Rattle.std.specs.Prelude.{length, slice_index, nat_lt, Result, Ok, Err, if◌then◌else◌}
 use Rattle.std.specs.Int.{w32, cast_signed, cast_unsigned}
 use lib.IntN.{ℤ}
+use mir.Val.{SFits}
 use Rattle.mc_nbt.specs.declared.fault.Kind.{Kind}
 use Rattle.mc_nbt.specs.declared.fault.Kind.TheVariants.{Short, LongVarInt}
 use Rattle.mc_nbt.specs.Reading.{Field, ◌>>=◌, stop_at}
@@ -52,7 +55,12 @@ varint_read room bytes = number_of bytes (groups_read room bytes)
 -- the fewest groups of a number, room of them at most
 unfoldable pub groups_spelling : ℕ → ℕ → List ℕ
 groups_spelling zero n = []
-groups_spelling (suc room) n = if nat_lt n 128 then n ∷ [] else (n % 128 + 128) ∷ groups_spelling room (n / 128)
+groups_spelling (suc room) n =
+    if nat_lt n 128 then n ∷ [] else (n % 128 + 128) ∷ groups_spelling room (n / 128)
 
 unfoldable pub varint_spelling : ℤ → List ℕ
 varint_spelling value = groups_spelling 5 (cast_unsigned w32 value)
+
+-- the numbers that room for so many bytes has
+abbrev pub FitsVarint : ℕ → ℤ → Type 0
+FitsVarint room value = SFits w32 value × (cast_unsigned w32 value < 128 ^ room)

@@ -31,8 +31,9 @@ pub fn angle(pattern: u32) -> Option<u8>
 pub fn degrees(a: u8) -> u32
     ensures zero { a ≡ 0 → result ≡ 0 }
     ensures stands { StandsForTurn a result }
-    // It gives the angle again.
-    ensures again { (b : ℕ) → Turns result b → b ≡ a }
+    // It is read as the angle again, and as no other.
+    ensures again { Turns result a }
+    ensures only { (b : ℕ) → Turns result b → b ≡ a }
 {
     if a == 0 {
         return 0;

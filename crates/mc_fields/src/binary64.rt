@@ -55,8 +55,9 @@ fn pattern_of(negative: bool, size: u64) -> u64
 pub fn pattern(n: i32) -> u64
     ensures zero { n ≡ pos 0 → result ≡ 0 }
     ensures stands { StandsFor n result }
-    // It gives the number again.
-    ensures again { (m : ℤ) → Fixes result m → m ≡ n }
+    // It is read as the number again, and as no other.
+    ensures again { Fixes result n }
+    ensures only { (m : ℤ) → Fixes result m → m ≡ n }
 {
     if n == 0 {
         return 0;

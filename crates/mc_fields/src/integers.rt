@@ -1,9 +1,10 @@
-ghost use Rattle.std.specs.Prelude.{◌≡◌, ◌≤◌, ◌++◌, OnOk, OnErr, length};
-ghost use Rattle.std.specs.Int.{w8, w16, w32, w64, w128, cast_signed, cast_unsigned};
+ghost use Rattle.std.specs.Prelude.{◌≡◌, ◌≤◌, ◌++◌, ℕ, List, Ok, OnOk, OnErr, length};
+ghost use Rattle.std.specs.Int.{w8, w16, w32, w64, w128};
 ghost use Rattle.mc_nbt.specs.Reading.{Yields};
-ghost use Rattle.mc_nbt.specs.Combine.{view_read};
-ghost use Rattle.mc_nbt.specs.Numbers.{number_read, number_spells, number_spelling};
-ghost use Rattle.mc_fields.specs.Integers.{ReadsFixed, SpellsBool, boolean_read, boolean_spelling, signed_spells};
+ghost use Rattle.mc_nbt.specs.NumberBytes.{number_spells};
+ghost use Rattle.mc_fields.specs.IntegerBytes.{ReadsFixed, SpellsBool, boolean_read};
+ghost use Rattle.mc_fields.specs.IntegerBytes.{boolean_spelling, signed_read, signed_spelling};
+ghost use Rattle.mc_fields.specs.IntegerBytes.{signed_spells};
 
 use mc_nbt::{
     Cursor, FieldFault, NoMemory, Stop, placed, write_u8, write_u16, write_u32, write_u64,
@@ -19,28 +20,28 @@ pub fn take_bool(cursor: &mut Cursor<'_>) -> Result<bool, Stop>
 
 /// Takes a signed number of one byte. `Short` where none is left.
 pub fn take_i8(cursor: &mut Cursor<'_>) -> Result<i8, Stop>
-    ensures { Yields (λ n. (n, cursor.new)) result (view_read (number_read w8) (cast_signed w8) cursor.old) }
+    ensures { Yields (λ n. (n, cursor.new)) result (signed_read w8 cursor.old) }
 {
     Ok(cursor.u8()?.cast_signed())
 }
 
 /// Takes a signed number of two bytes. `Short` where fewer are left.
 pub fn take_i16(cursor: &mut Cursor<'_>) -> Result<i16, Stop>
-    ensures { Yields (λ n. (n, cursor.new)) result (view_read (number_read w16) (cast_signed w16) cursor.old) }
+    ensures { Yields (λ n. (n, cursor.new)) result (signed_read w16 cursor.old) }
 {
     Ok(cursor.u16()?.cast_signed())
 }
 
 /// Takes a signed number of four bytes. `Short` where fewer are left.
 pub fn take_i32(cursor: &mut Cursor<'_>) -> Result<i32, Stop>
-    ensures { Yields (λ n. (n, cursor.new)) result (view_read (number_read w32) (cast_signed w32) cursor.old) }
+    ensures { Yields (λ n. (n, cursor.new)) result (signed_read w32 cursor.old) }
 {
     Ok(cursor.u32()?.cast_signed())
 }
 
 /// Takes a signed number of eight bytes. `Short` where fewer are left.
 pub fn take_i64(cursor: &mut Cursor<'_>) -> Result<i64, Stop>
-    ensures { Yields (λ n. (n, cursor.new)) result (view_read (number_read w64) (cast_signed w64) cursor.old) }
+    ensures { Yields (λ n. (n, cursor.new)) result (signed_read w64 cursor.old) }
 {
     Ok(cursor.u64()?.cast_signed())
 }
@@ -156,6 +157,10 @@ pub fn read_u128(bytes: &[u8], at: usize) -> Result<(u128, usize), FieldFault>
 /// Appends a truth value as 00 or 01. Without memory `out` is as before.
 pub fn write_bool(value: bool, out: &mut Vec<u8>) -> Result<(), NoMemory>
     ensures ok { OnOk result (out.new.items ≡ out.old.items ++ boolean_spelling value) }
+    ensures spelled { SpellsBool value (boolean_spelling value) }
+    // What is written is read again, whatever follows.
+    ensures again { (rest : List ℕ) →
+        boolean_read (boolean_spelling value ++ rest) ≡ Ok (value, rest) }
     ensures err { OnErr result (out.new.items ≡ out.old.items) }
 {
     write_u8(if value { 1 } else { 0 }, out)
@@ -163,7 +168,11 @@ pub fn write_bool(value: bool, out: &mut Vec<u8>) -> Result<(), NoMemory>
 
 /// Appends one byte with a sign. Without memory `out` is as before.
 pub fn write_i8(value: i8, out: &mut Vec<u8>) -> Result<(), NoMemory>
-    ensures ok { OnOk result (out.new.items ≡ out.old.items ++ number_spelling w8 (cast_unsigned w8 value)) }
+    ensures ok { OnOk result (out.new.items ≡ out.old.items ++ signed_spelling w8 value) }
+    ensures spelled { signed_spells w8 value (signed_spelling w8 value) }
+    // What is written is read again, whatever follows.
+    ensures again { (rest : List ℕ) →
+        signed_read w8 (signed_spelling w8 value ++ rest) ≡ Ok (value, rest) }
     ensures err { OnErr result (out.new.items ≡ out.old.items) }
 {
     write_u8(value.cast_unsigned(), out)
@@ -171,7 +180,11 @@ pub fn write_i8(value: i8, out: &mut Vec<u8>) -> Result<(), NoMemory>
 
 /// Appends two bytes with a sign, the high one first. Without memory `out` is as before.
 pub fn write_i16(value: i16, out: &mut Vec<u8>) -> Result<(), NoMemory>
-    ensures ok { OnOk result (out.new.items ≡ out.old.items ++ number_spelling w16 (cast_unsigned w16 value)) }
+    ensures ok { OnOk result (out.new.items ≡ out.old.items ++ signed_spelling w16 value) }
+    ensures spelled { signed_spells w16 value (signed_spelling w16 value) }
+    // What is written is read again, whatever follows.
+    ensures again { (rest : List ℕ) →
+        signed_read w16 (signed_spelling w16 value ++ rest) ≡ Ok (value, rest) }
     ensures err { OnErr result (out.new.items ≡ out.old.items) }
 {
     write_u16(value.cast_unsigned(), out)
@@ -179,7 +192,11 @@ pub fn write_i16(value: i16, out: &mut Vec<u8>) -> Result<(), NoMemory>
 
 /// Appends four bytes with a sign, the highest first. Without memory `out` is as before.
 pub fn write_i32(value: i32, out: &mut Vec<u8>) -> Result<(), NoMemory>
-    ensures ok { OnOk result (out.new.items ≡ out.old.items ++ number_spelling w32 (cast_unsigned w32 value)) }
+    ensures ok { OnOk result (out.new.items ≡ out.old.items ++ signed_spelling w32 value) }
+    ensures spelled { signed_spells w32 value (signed_spelling w32 value) }
+    // What is written is read again, whatever follows.
+    ensures again { (rest : List ℕ) →
+        signed_read w32 (signed_spelling w32 value ++ rest) ≡ Ok (value, rest) }
     ensures err { OnErr result (out.new.items ≡ out.old.items) }
 {
     write_u32(value.cast_unsigned(), out)
@@ -187,7 +204,11 @@ pub fn write_i32(value: i32, out: &mut Vec<u8>) -> Result<(), NoMemory>
 
 /// Appends eight bytes with a sign, the highest first. Without memory `out` is as before.
 pub fn write_i64(value: i64, out: &mut Vec<u8>) -> Result<(), NoMemory>
-    ensures ok { OnOk result (out.new.items ≡ out.old.items ++ number_spelling w64 (cast_unsigned w64 value)) }
+    ensures ok { OnOk result (out.new.items ≡ out.old.items ++ signed_spelling w64 value) }
+    ensures spelled { signed_spells w64 value (signed_spelling w64 value) }
+    // What is written is read again, whatever follows.
+    ensures again { (rest : List ℕ) →
+        signed_read w64 (signed_spelling w64 value ++ rest) ≡ Ok (value, rest) }
     ensures err { OnErr result (out.new.items ≡ out.old.items) }
 {
     write_u64(value.cast_unsigned(), out)

@@ -4,6 +4,8 @@ ghost use Rattle.mc_fields.specs.declared.packet.RowError.TheVariants as row_err
 ghost use Rattle.mc_fields.specs.Row.{whole, packet_fault, row_error_of, packet_read_of};
 
 use mc_nbt::{Cursor, FieldFault, NoMemory, ReadError, Stop};
+use std::error::Error;
+use std::fmt;
 
 /// Why a frame is no packet, with places counted from the frame's end: what reading in order meets.
 #[derive(Clone, Copy, Debug, PartialEq, Eq)]
@@ -108,6 +110,23 @@ pub enum PacketFault {
     Trailing(usize),
 }
 
+impl fmt::Display for PacketFault {
+    ghost use Rattle.std.specs.Prelude.{Some};
+    ghost use Rattle.mc_fields.specs.PacketText.{packet_fault_text};
+
+    ghost output = { λ fault. Some (packet_fault_text fault) };
+
+    fn fmt<W: fmt::Write>(&self, f: &mut fmt::Formatter<W>) -> fmt::Result {
+        match self {
+            PacketFault::UnknownId(id) => write!(f, "no packet has the id {id}"),
+            PacketFault::Field(fault) => write!(f, "{fault}"),
+            PacketFault::Trailing(count) => write!(f, "{count} bytes follow the last field"),
+        }
+    }
+}
+
+impl Error for PacketFault {}
+
 /// Why a packet was not read.
 #[derive(Clone, Copy, Debug, PartialEq, Eq)]
 pub enum PacketRead {
@@ -116,6 +135,22 @@ pub enum PacketRead {
     /// There was no memory for it.
     NoMemory,
 }
+
+impl fmt::Display for PacketRead {
+    ghost use Rattle.std.specs.Prelude.{Some};
+    ghost use Rattle.mc_fields.specs.PacketText.{packet_read_text};
+
+    ghost output = { λ read. Some (packet_read_text read) };
+
+    fn fmt<W: fmt::Write>(&self, f: &mut fmt::Formatter<W>) -> fmt::Result {
+        match self {
+            PacketRead::Fault(fault) => write!(f, "{fault}"),
+            PacketRead::NoMemory => write!(f, "{NoMemory}"),
+        }
+    }
+}
+
+impl Error for PacketRead {}
 
 /// A packet with nothing after it. `Trailing` where bytes are left.
 pub fn whole<P: Drop>(packet: P, cursor: &Cursor<'_>) -> Result<P, RowFault>

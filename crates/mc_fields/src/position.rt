@@ -1,9 +1,8 @@
-ghost use Rattle.std.specs.Prelude.{◌≡◌, ◌*◌, ◌^◌, ◌<◌, ◌≤◌, ◌++◌, OnOk, OnErr};
-ghost use Rattle.std.specs.Int.{w64};
+ghost use Rattle.std.specs.Prelude.{◌≡◌, ◌*◌, ◌^◌, ◌<◌, ◌≤◌, ◌++◌, ℕ, List, Ok, OnOk, OnErr};
 ghost use Rattle.mc_nbt.specs.Reading.{Yields};
-ghost use Rattle.mc_nbt.specs.Combine.{view_read};
-ghost use Rattle.mc_nbt.specs.Numbers.{number_read, number_spelling};
-ghost use Rattle.mc_fields.specs.Position.{FitsCell, FitsHalf, low_bits, signed_bits, pack, unpack};
+ghost use Rattle.mc_fields.specs.PositionBits.{FitsCell, FitsHalf, low_bits, signed_bits};
+ghost use Rattle.mc_fields.specs.PositionBits.{SpellsPosition, pack, unpack};
+ghost use Rattle.mc_fields.specs.PositionBits.{position_read, position_spelling};
 
 use mc_nbt::{Cursor, NoMemory, Stop, write_u64};
 
@@ -94,7 +93,7 @@ pub fn unpack(word: u64) -> Cell
 
 /// Takes a position. `Short` where fewer than eight bytes are left.
 pub fn take_position(cursor: &mut Cursor<'_>) -> Result<Cell, Stop>
-    ensures { Yields (λ cell. (cell, cursor.new)) result (view_read (number_read w64) unpack cursor.old) }
+    ensures { Yields (λ cell. (cell, cursor.new)) result (position_read cursor.old) }
 {
     Ok(unpack(cursor.u64()?))
 }
@@ -102,7 +101,11 @@ pub fn take_position(cursor: &mut Cursor<'_>) -> Result<Cell, Stop>
 /// Appends a position. Without memory `out` is as before.
 pub fn write_position(cell: Cell, out: &mut Vec<u8>) -> Result<(), NoMemory>
     requires { FitsCell cell }
-    ensures ok { OnOk result (out.new.items ≡ out.old.items ++ number_spelling w64 (pack cell)) }
+    ensures ok { OnOk result (out.new.items ≡ out.old.items ++ position_spelling cell) }
+    ensures spelled { SpellsPosition cell (position_spelling cell) }
+    // What is written is read again, whatever follows.
+    ensures again { (rest : List ℕ) →
+        position_read (position_spelling cell ++ rest) ≡ Ok (cell, rest) }
     ensures err { OnErr result (out.new.items ≡ out.old.items) }
 {
     write_u64(pack(cell), out)

@@ -1,8 +1,10 @@
-ghost use Rattle.std.specs.Prelude.{◌≡◌, ◌≤◌, ◌<◌, ◌^◌, ◌++◌, ℕ, List, Ok, IfOk, OnOk, OnErr, drop, length};
+ghost use Rattle.std.specs.Prelude.{◌≡◌, ◌≤◌, ◌<◌, ◌^◌, ◌++◌, ℕ, List, Ok, IfOk, OnOk, OnErr, drop};
+ghost use Rattle.std.specs.Prelude.{length};
 ghost use Rattle.std.specs.Str.{chars};
 ghost use Rattle.mc_nbt.specs.Reading.{Yields, Gives};
 ghost use Rattle.mc_nbt.specs.Placed.{SpelledAt, PlacedGives, placed};
-ghost use Rattle.mc_fields.specs.Text.{FitsText, SpellsText, checked_text, text_front, text_read, text_spelling};
+ghost use Rattle.mc_fields.specs.Text.{FitsText, SpellsText, checked_text, text_front, text_read};
+ghost use Rattle.mc_fields.specs.Text.{text_spelling};
 
 use crate::varint::{take_varint, write_varint};
 use mc_nbt::{Cursor, Kind, NoMemory, ReadError, ReadFault, Stop, Text, placed};
@@ -109,13 +111,16 @@ pub fn read_text(
     text_at(alloc, bytes, at, n)
 }
 
-/// Appends a text, its length as the shortest VarInt. Without memory `out` is as before.
-#[tactic(auto, using(crate::specs::TextFormat::text_written), unfolding(crate::specs::Text::text_spelling))]
+/// Appends a text, its length as a shortest VarInt. Without memory `out` is as before.
+#[tactic(auto, using(crate::specs::TextLaws::text_written, crate::proofs::Again::text_again), unfolding(crate::specs::Text::text_spelling))]
 pub fn write_text(text: &Text, out: &mut Vec<u8>) -> Result<(), NoMemory>
     requires { length text.now < 2 ^ 31 }
     ensures ok { OnOk result (out.new.items ≡ out.old.items ++ text_spelling text.now) }
-    // The bytes spell it in each field that allows it.
-    ensures spelled { (points : ℕ) → FitsText points text.now → SpellsText points text.now (text_spelling text.now) }
+    // The bytes spell it in each field that allows it, and are read there again, whatever follows.
+    ensures spelled { (points : ℕ) →
+        FitsText points text.now → SpellsText points text.now (text_spelling text.now) }
+    ensures again { (points : ℕ) (rest : List ℕ) → FitsText points text.now →
+        text_read points (text_spelling text.now ++ rest) ≡ Ok (text.now, rest) }
     ensures err { OnErr result (out.new.items ≡ out.old.items) }
 {
     let bytes = text.as_str().as_bytes();

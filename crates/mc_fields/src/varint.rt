@@ -1,11 +1,14 @@
-ghost use Rattle.std.specs.Prelude.{◌≡◌, ◌+◌, ◌-◌, ◌*◌, ◌%◌, ◌^◌, ◌<◌, ◌≤◌, ◌++◌, ◌↔◌, ◌⊎◌, ℕ, List, Ok, IfOk, OnOk, OnErr, IfErr, IsErrOf, take, drop, length};
+ghost use Rattle.std.specs.Prelude.{◌≡◌, ◌+◌, ◌-◌, ◌*◌, ◌%◌, ◌^◌, ◌<◌, ◌≤◌, ◌++◌, ◌↔◌, ◌⊎◌, ℕ};
+ghost use Rattle.std.specs.Prelude.{List, Ok, IfOk, OnOk, OnErr, IfErr, IsErrOf, take, drop};
+ghost use Rattle.std.specs.Prelude.{length};
 ghost use Rattle.std.specs.Int.{w32, cast_signed};
 ghost use lib.IntN.{ℤ};
 ghost use Rattle.mc_nbt.specs.Reading.{Yields};
 ghost use Rattle.mc_nbt.specs.Placed.{SpelledAt, placed, fault_at};
-ghost use Rattle.mc_fields.specs.Varint.{SpellsVarint, GoesOn, IsCut, groups_read, groups_spelling, varint_read, varint_spelling};
+ghost use Rattle.mc_fields.specs.Varint.{SpellsVarint, GoesOn, IsCut, groups_read, groups_spelling};
+ghost use Rattle.mc_fields.specs.Varint.{varint_read, varint_spelling};
 
-use mc_nbt::{Cursor, FieldFault, Kind, NoMemory, Stop, placed};
+use mc_nbt::{Cursor, FieldFault, Kind, NoMemory, Stop, placed, write_octets};
 
 /// The most bytes that a VarInt has.
 pub const VARINT_MAX: usize = 5;
@@ -78,7 +81,7 @@ pub fn read_varint(bytes: &[u8], at: usize) -> Result<(i32, usize), FieldFault>
     placed(bytes, value, &cursor)
 }
 
-/// The bytes of a number's shortest VarInt, and how many they are.
+/// The bytes of a VarInt of a number, none shorter, and how many they are.
 fn groups(value: u32) -> ([u8; 5], usize)
     ensures within { result.1 ≤ 5 }
     ensures spelling { take result.1 result.0 ≡ groups_spelling 5 value }
@@ -95,15 +98,18 @@ fn groups(value: u32) -> ([u8; 5], usize)
     (bytes, len + 1)
 }
 
-/// Appends a number's shortest VarInt. Without memory `out` is as before.
+/// Appends a VarInt of a number, none shorter. Without memory `out` is as before.
 #[tactic(auto, unfolding(crate::specs::Varint::varint_spelling))]
 pub fn write_varint(value: i32, out: &mut Vec<u8>) -> Result<(), NoMemory>
     ensures ok { OnOk result (out.new.items ≡ out.old.items ++ varint_spelling value) }
     ensures spelled { SpellsVarint 5 value (varint_spelling value) }
-    ensures shortest { (bytes : List ℕ) → SpellsVarint 5 value bytes → length (varint_spelling value) ≤ length bytes }
+    ensures shortest { (bytes : List ℕ) →
+        SpellsVarint 5 value bytes → length (varint_spelling value) ≤ length bytes }
+    // What is written is read again, whatever follows.
+    ensures again { (rest : List ℕ) →
+        varint_read 5 (varint_spelling value ++ rest) ≡ Ok (value, rest) }
     ensures err { OnErr result (out.new.items ≡ out.old.items) }
 {
     let (bytes, len) = groups(value.cast_unsigned());
-    out.extend_from_slice(&bytes[..len])?;
-    Ok(())
+    write_octets(&bytes[..len], out)
 }

@@ -1,12 +1,13 @@
 -- The piles of a chest (a rule of this project).
 use Rattle.std.specs.Prelude.{◌≡◌, ℕ, zero, suc, refl, List, length, slice_index_or, replicate}
+use Rattle.mc_slots.specs.declared.chest.TheConstants.{CHEST_PILES}
 use Rattle.mc_slots.specs.declared.pile.Pile.{Pile}
 use Rattle.mc_slots.specs.declared.pile.Pile.TheVariants.{Empty}
 use Rattle.mc_slots.specs.Pile.{IsPile}
 
 -- how many piles a chest has
 abbrev pub chest_size : ℕ
-chest_size = 27
+chest_size = CHEST_PILES
 
 abbrev pub pile_at : List Pile → ℕ → Pile
 pile_at piles i = slice_index_or piles i Empty

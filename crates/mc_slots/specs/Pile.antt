@@ -4,13 +4,14 @@ use Rattle.std.specs.Ordering.{int_eq}
 use lib.IntN.{ℤ, pos}
 use Rattle.mc_slots.specs.declared.slot.Slot.{Slot}
 use Rattle.mc_slots.specs.declared.slot.Slot.TheVariants as slots
+use Rattle.mc_slots.specs.declared.pile.TheConstants.{PILE_MAX}
 use Rattle.mc_slots.specs.declared.pile.Item.{Item}
 use Rattle.mc_slots.specs.declared.pile.Pile.{Pile}
 use Rattle.mc_slots.specs.declared.pile.Pile.TheVariants.{Empty, Full}
 
 -- how many of one item a pile holds at most
 abbrev pub most : ℕ
-most = 64
+most = PILE_MAX
 
 -- an item that the world holds
 pub record IsItem (item : Item) : Type 0 where

@@ -1,9 +1,9 @@
 -- Slots on the wire, of the page 'Slot Data' of wiki.vg for protocol 47.
-use Rattle.std.specs.Prelude.{◌≡◌, ℕ, ◌==◌, Bool, true, false, List, Option, Some, None, Ok, FitsSigned, ◌≤ℤ◌, if◌then◌else◌}
+use Rattle.std.specs.Prelude.{◌≡◌, ℕ, ◌==◌, List, Option, Some, None, Ok, FitsSigned, ◌≤ℤ◌, if◌then◌else◌}
 use Rattle.std.specs.Int.{w8, w16}
 use lib.IntN.{ℤ, pos, negsuc}
 use Rattle.mc_nbt.specs.Reading.{Field, ◌>>=◌}
-use Rattle.mc_nbt.specs.Numbers.{number_read, number_spelling}
+use Rattle.mc_nbt.specs.NumberBytes.{number_read, number_spelling}
 use Rattle.mc_nbt.specs.Nbt.{Named, IsNbt, nbt_spelling, SpellsNbt}
 use Rattle.mc_nbt.specs.NbtReading.{nbt_at}
 use Rattle.mc_slots.specs.declared.slot.Stack.{Stack}
@@ -37,12 +37,7 @@ tag_read bytes = do
 
 -- ---- the slot
 
--- a negative id is that of the empty slot
-abbrev pub is_natural : ℤ → Bool
-is_natural (pos n) = true
-is_natural (negsuc n) = false
-
--- an id, and after one that is not negative a count, a damage and a tag
+-- an id, and after one that is not negative a count, a damage and a tag; a negative id is that of the empty slot
 abbrev pub Parts : Type 0
 Parts = ℤ × Option (ℤ × (ℤ × Option Named))
 

@@ -7,17 +7,23 @@ use lib.IntN.{ℤ, pos, negsuc}
 use Rattle.mc_nbt.specs.declared.fault.Stop.{Stop}
 use Rattle.mc_nbt.specs.Reading.{Field, IsBytes}
 use Rattle.mc_nbt.specs.Format.{Format, Found, IsFound, IsOnly, Anything}
-use Rattle.mc_nbt.specs.Combine.{bind_ok, ok_is, Found-is, ◌then◌}
-use Rattle.mc_nbt.specs.Optional.{when, when_fits}
-use Rattle.mc_nbt.specs.Making.{from, IsMaking}
-use Rattle.mc_nbt.specs.Numbers.{number_read, number_spelling, number_found, number_only, wide_8, wide_16}
-use Rattle.mc_nbt.specs.Signed.{signed, signed_fits}
+use Rattle.mc_nbt.specs.CombineLaws.{bind_ok, ok_is, Found-is}
+use Rattle.mc_nbt.specs.Combine.{◌then◌}
+use Rattle.mc_nbt.specs.Optional.{when}
+use Rattle.mc_nbt.specs.OptionalBytes.{when_fits}
+use Rattle.mc_nbt.specs.Making.{from}
+use Rattle.mc_nbt.specs.MakingLaws.{IsMaking}
+use Rattle.mc_nbt.specs.NumberBytes.{number_read, number_spelling}
+use Rattle.mc_nbt.specs.NumberLaws.{number_found, number_only, wide_8, wide_16}
+use Rattle.mc_nbt.specs.Naturals.{is_natural}
+use Rattle.mc_nbt.specs.Signed.{signed}
+use Rattle.mc_nbt.specs.SignedLaws.{signed_fits}
 use Rattle.mc_nbt.specs.Nbt.{Named, nbt_spelling, run_spelling, payload, root_of}
 use Rattle.mc_nbt.specs.NbtReading.{nbt_at}
 use Rattle.mc_nbt.specs.NbtFormat.{nbt}
 use Rattle.mc_slots.specs.declared.slot.Slot.{Slot}
 use Rattle.mc_slots.specs.declared.slot.Slot.TheVariants.{Empty, Full}
-use Rattle.mc_slots.specs.Slot.{SpellsTag, FitsTag, tag_spelling, compound_read, tag_read, is_natural, Parts, make, pick, FitsSlot}
+use Rattle.mc_slots.specs.Slot.{SpellsTag, FitsTag, tag_spelling, compound_read, tag_read, Parts, make, pick, FitsSlot}
 
 -- ---- the tag
 

@@ -6,12 +6,12 @@ use crate::pile::Pile;
 use std::marker::Model;
 
 /// How many piles a chest has.
-const PILES: usize = 27;
+pub const CHEST_PILES: usize = 27;
 
 /// The 27 piles of a chest. Contracts see it as their list.
 #[derive(Clone, Copy)]
 pub struct Chest {
-    piles: [Pile; PILES],
+    piles: [Pile; CHEST_PILES],
 }
 
 impl Model for Chest {
@@ -35,8 +35,16 @@ impl Chest {
         ensures chest { IsChest result }
     {
         Chest {
-            piles: [Pile::Empty; PILES],
+            piles: [Pile::Empty; CHEST_PILES],
         }
+    }
+
+    /// The 27 piles in their order.
+    pub fn as_slice(&self) -> &[Pile]
+        ensures piles { result.now ≡ self.now }
+        ensures chest { IsChest self.now }
+    {
+        &self.piles
     }
 
     /// The pile at a place from 0 to 26.

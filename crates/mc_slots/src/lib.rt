@@ -6,11 +6,10 @@
 #![tactic(auto)]
 
 mod chest;
+mod field;
 mod pile;
 mod slot;
-#[cfg(test)]
-mod tests;
 
-pub use chest::Chest;
-pub use pile::{Item, Pile, alike, fits, merge, split};
+pub use chest::{CHEST_PILES, Chest};
+pub use pile::{Item, PILE_MAX, Pile, alike, fits, merge, split};
 pub use slot::{Slot, Stack, read_slot, take_slot, write_slot};

@@ -1,12 +1,13 @@
 ghost use Rattle.std.specs.Prelude.{◌≡◌, ◌+◌, ◌↔◌, IsTrue, min};
 ghost use Rattle.mc_slots.specs.declared.pile.Pile.TheVariants.{Full};
 ghost use Rattle.mc_slots.specs.Slot.{HasId};
-ghost use Rattle.mc_slots.specs.Pile.{IsItem, IsPile, IsAlike, Joins, Sort, count_of, held, moved, part, pile_of, slot_of, with_more, without};
+ghost use Rattle.mc_slots.specs.Pile.{IsItem, IsPile, IsAlike, Joins, Sort, count_of, held, moved};
+ghost use Rattle.mc_slots.specs.Pile.{part, pile_of, slot_of, with_more, without};
 
 use crate::slot::{Slot, Stack};
 
 /// How many of one item a pile holds at most.
-const MOST: u8 = 64;
+pub const PILE_MAX: u8 = 64;
 
 /// So many of an item, as the world holds it: id 1 to 255, damage 0 to 15, count 1 to 64, and never a tag.
 #[derive(Clone, Copy, Debug, PartialEq, Eq)]
@@ -83,7 +84,7 @@ pub fn merge(into: &mut Item, from: &mut Pile)
     let Pile::Full(item) = *from else {
         return;
     };
-    let moved = item.count.min(MOST.saturating_sub(into.count));
+    let moved = item.count.min(PILE_MAX.saturating_sub(into.count));
     into.count += moved;
     *from = pile_of(item, item.count - moved);
 }

@@ -1,4 +1,5 @@
-ghost use Rattle.std.specs.Prelude.{◌≡◌, ◌≤◌, ◌++◌, ℕ, List, Ok, IfOk, OnOk, OnErr, take, drop, length};
+ghost use Rattle.std.specs.Prelude.{◌≡◌, ◌≤◌, ◌++◌, ℕ, List, Ok, IfOk, OnOk, OnErr, take, drop};
+ghost use Rattle.std.specs.Prelude.{length};
 ghost use Rattle.mc_nbt.specs.Reading.{Gives};
 ghost use Rattle.mc_nbt.specs.Placed.{SpelledAt, PlacedGives, placed};
 ghost use Rattle.mc_nbt.specs.Format.{Anything};

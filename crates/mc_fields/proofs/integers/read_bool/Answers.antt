@@ -1,4 +1,4 @@
-use Rattle.mc_fields.specs.Integers.{boolean_reads}
+use Rattle.mc_fields.specs.IntegerLaws.{boolean_reads}
 use Rattle.mc_fields.proofs.integers.read_bool.Goals as goal
 
 pub returns : goal.returns

@@ -1,6 +1,6 @@
 use Rattle.std.specs.Int.{w16}
-use Rattle.mc_nbt.specs.Numbers.{wide_16}
-use Rattle.mc_fields.specs.Integers.{signed_reads}
+use Rattle.mc_nbt.specs.NumberLaws.{wide_16}
+use Rattle.mc_fields.specs.IntegerLaws.{signed_reads}
 use Rattle.mc_fields.proofs.integers.read_i16.Goals as goal
 
 pub returns : goal.returns

@@ -1,6 +1,6 @@
 use Rattle.std.specs.Int.{w32}
-use Rattle.mc_nbt.specs.Numbers.{wide_32}
-use Rattle.mc_fields.specs.Integers.{signed_reads}
+use Rattle.mc_nbt.specs.NumberLaws.{wide_32}
+use Rattle.mc_fields.specs.IntegerLaws.{signed_reads}
 use Rattle.mc_fields.proofs.integers.read_i32.Goals as goal
 
 pub returns : goal.returns

@@ -1,6 +1,6 @@
 use Rattle.std.specs.Int.{w64}
-use Rattle.mc_nbt.specs.Numbers.{wide_64}
-use Rattle.mc_fields.specs.Integers.{signed_reads}
+use Rattle.mc_nbt.specs.NumberLaws.{wide_64}
+use Rattle.mc_fields.specs.IntegerLaws.{signed_reads}
 use Rattle.mc_fields.proofs.integers.read_i64.Goals as goal
 
 pub returns : goal.returns

@@ -1,7 +1,7 @@
 use Rattle.mc_nbt.specs.Format.{Anything}
-use Rattle.mc_nbt.specs.Placed.{PlacedGives-found, PlacedGives-only}
+use Rattle.mc_nbt.specs.PlacedLaws.{PlacedGives-found, PlacedGives-only}
 use Rattle.mc_fields.specs.Text.{SpellsText, text_read}
-use Rattle.mc_fields.specs.TextFormat.{text_found, text_only}
+use Rattle.mc_fields.specs.TextLaws.{text_found, text_only}
 use Rattle.mc_fields.proofs.text.read_text.Goals as goal
 
 pub returns-clause-found : goal.returns-clause-found

@@ -1,5 +1,5 @@
 use Rattle.std.proofs.Common.{◌≡◌, suc, ◌+◌, ◌-◌, arith, rules}
-use Rattle.mc_fields.specs.VarintFormat.{high_below, some_room}
+use Rattle.mc_fields.specs.VarintLaws.{high_below, some_room}
 use Rattle.mc_fields.proofs.Groups.{spelled-more, spelled-last}
 use Rattle.mc_fields.proofs.varint.groups.Goals as goal
 

@@ -1,5 +1,5 @@
 use Rattle.mc_nbt.specs.Format.{Anything}
-use Rattle.mc_nbt.specs.Placed.{PlacedGives-found, PlacedGives-only}
+use Rattle.mc_nbt.specs.PlacedLaws.{PlacedGives-found, PlacedGives-only}
 use Rattle.mc_slots.specs.SlotFormat.{SpellsSlot, slot_read, slot_found, slot_only}
 use Rattle.mc_slots.proofs.slot.read_slot.Goals as goal
 

@@ -1,0 +1,10 @@
+use Rattle.std.specs.Int.{w32}
+use Rattle.mc_nbt.specs.NumberLaws.{wide_32}
+use Rattle.mc_fields.proofs.Again.{signed_spelled, signed_again}
+use Rattle.mc_fields.proofs.integers.write_i32.Goals as goal
+
+pub returns-clause-spelled : goal.returns-clause-spelled
+returns-clause-spelled c = signed_spelled w32 wide_32 c.args.value c.ranges.value
+
+pub returns-clause-again : goal.returns-clause-again
+returns-clause-again c = signed_again w32 wide_32 c.args.value c.ranges.value
