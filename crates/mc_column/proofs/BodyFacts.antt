@@ -8,8 +8,8 @@ use Rattle.mc_nbt.specs.declared.fault.ReadFault.TheVariants as faults
 use Rattle.mc_nbt.specs.declared.fault.FieldFault.{FieldFault}
 use Rattle.mc_column.specs.Sizes.{section_cells, light_bytes, section_cells-is, light_bytes-is}
 use Rattle.mc_column.specs.Cells.{paired}
-use Rattle.mc_column.specs.Body.{BodyValue, SpellsBody, GivesBody, named_count, block_light_at, biomes_at, body_size, body_in, body_read}
-use Rattle.mc_nbt.specs.Placed.{fault_at}
+use Rattle.mc_column.specs.Body.{BodyValue, SpellsBody, named_count, block_light_at, biomes_at, body_size, body_in, body_read}
+use Rattle.mc_nbt.specs.Placed.{PlacedGives, fault_at}
 use Rattle.mc_column.proofs.Pairs.{length-paired, get_or-paired}
 
 pub biomes_with_sky : (count : ℕ) → count * 12288 ≡ count * (2 * section_cells) + count * light_bytes + count * light_bytes
@@ -119,7 +119,7 @@ body_read_whole mask sky ground_up bytes size =
 
 -- ---- what a function answers that gives what reading gives
 
-pub given_found : (r : Result BodyValue ReadFault) (mask : ℕ) (sky ground_up : Bool) (bytes : List ℕ) → ((i : ℕ) → get_or bytes i 0 < 256) → GivesBody r (body_read mask sky ground_up bytes) → IfOk r (λ body. SpellsBody body mask sky ground_up bytes)
+pub given_found : (r : Result BodyValue ReadFault) (mask : ℕ) (sky ground_up : Bool) (bytes : List ℕ) → ((i : ℕ) → get_or bytes i 0 < 256) → PlacedGives (λ body. body) r (body_read mask sky ground_up bytes) → IfOk r (λ body. SpellsBody body mask sky ground_up bytes)
 given_found (Ok body) mask sky ground_up bytes fits given =
     elim (cases_order (length bytes) (body_size mask sky ground_up)) [
       | inl size ↦
@@ -136,22 +136,22 @@ given_found (Ok body) mask sky ground_up bytes fits given =
     not_err a f e = absurd cc
 given_found (Err e) mask sky ground_up bytes fits given = tt
 
-pub given_only : (r : Result BodyValue ReadFault) (mask : ℕ) (sky ground_up : Bool) (bytes : List ℕ) → GivesBody r (body_read mask sky ground_up bytes) → (body : BodyValue) → SpellsBody body mask sky ground_up bytes → GivesBody r (Ok body)
+pub given_only : (r : Result BodyValue ReadFault) (mask : ℕ) (sky ground_up : Bool) (bytes : List ℕ) → PlacedGives (λ body. body) r (body_read mask sky ground_up bytes) → (body : BodyValue) → SpellsBody body mask sky ground_up bytes → PlacedGives (λ body. body) r (Ok body)
 given_only r mask sky ground_up bytes given body spells =
-    let P : Result BodyValue FieldFault → Type 0 = λ read. GivesBody r read in
+    let P : Result BodyValue FieldFault → Type 0 = λ read. PlacedGives (λ body. body) r read in
     subst P (body_read_only body mask sky ground_up bytes spells) given
 
 abbrev fault_of : FieldFault → Result BodyValue ReadFault
 fault_of fault = Err (faults.Field fault)
 
 -- where reading gives a fault, the function answers it, unless memory ran out
-answer_err : (r : Result BodyValue ReadFault) (read : Result BodyValue FieldFault) (fault : FieldFault) → GivesBody r read → (IsErrOf r faults.NoMemory → ⊥) → read ≡ err_body fault → r ≡ fault_of fault
+answer_err : (r : Result BodyValue ReadFault) (read : Result BodyValue FieldFault) (fault : FieldFault) → PlacedGives (λ body. body) r read → (IsErrOf r faults.NoMemory → ⊥) → read ≡ err_body fault → r ≡ fault_of fault
 answer_err (Ok body) read fault given memory e = let clash : ok_body body ≡ err_body fault = sym given ∙ e in absurd cc
 answer_err (Err faults.NoMemory) read fault given memory e = absurd (memory refl)
 answer_err (Err (faults.Field other)) read fault given memory e = let same : err_body other ≡ err_body fault = sym given ∙ e in cc
 
 -- a fault that it answers is the one that reading gives
-read_err : (r : Result BodyValue ReadFault) (read : Result BodyValue FieldFault) (fault : FieldFault) → GivesBody r read → r ≡ fault_of fault → read ≡ err_body fault
+read_err : (r : Result BodyValue ReadFault) (read : Result BodyValue FieldFault) (fault : FieldFault) → PlacedGives (λ body. body) r read → r ≡ fault_of fault → read ≡ err_body fault
 read_err (Ok body) read fault given e = absurd cc
 read_err (Err faults.NoMemory) read fault given e = absurd cc
 read_err (Err (faults.Field other)) read fault given e = given ∙ (let same : other ≡ fault = cc in ap err_body same)
@@ -165,7 +165,7 @@ short_or_long a b e =
 not_both : (body : BodyValue) (fault : FieldFault) → ok_body body ≡ err_body fault → ⊥
 not_both body fault e = absurd cc
 
-pub given_short : (r : Result BodyValue ReadFault) (mask : ℕ) (sky ground_up : Bool) (bytes : List ℕ) → GivesBody r (body_read mask sky ground_up bytes) → (IsErrOf r faults.NoMemory → length bytes ≡ body_size mask sky ground_up) → IsErrOf r (faults.Field (fault_at Short (length bytes))) ↔ (length bytes < body_size mask sky ground_up)
+pub given_short : (r : Result BodyValue ReadFault) (mask : ℕ) (sky ground_up : Bool) (bytes : List ℕ) → PlacedGives (λ body. body) r (body_read mask sky ground_up bytes) → (IsErrOf r faults.NoMemory → length bytes ≡ body_size mask sky ground_up) → IsErrOf r (faults.Field (fault_at Short (length bytes))) ↔ (length bytes < body_size mask sky ground_up)
 given_short r mask sky ground_up bytes given memory = (
   λ e.
       let read = read_err r (body_read mask sky ground_up bytes) (fault_at Short (length bytes)) given e in
@@ -177,7 +177,7 @@ given_short r mask sky ground_up bytes given memory = (
   λ short. answer_err r (body_read mask sky ground_up bytes) (fault_at Short (length bytes)) given (λ none. let size = memory none in omega arith) (body_read_short mask sky ground_up bytes short),
 )
 
-pub given_long : (r : Result BodyValue ReadFault) (mask : ℕ) (sky ground_up : Bool) (bytes : List ℕ) → GivesBody r (body_read mask sky ground_up bytes) → (IsErrOf r faults.NoMemory → length bytes ≡ body_size mask sky ground_up) → IsErrOf r (faults.Field (fault_at BadLength (body_size mask sky ground_up))) ↔ (body_size mask sky ground_up < length bytes)
+pub given_long : (r : Result BodyValue ReadFault) (mask : ℕ) (sky ground_up : Bool) (bytes : List ℕ) → PlacedGives (λ body. body) r (body_read mask sky ground_up bytes) → (IsErrOf r faults.NoMemory → length bytes ≡ body_size mask sky ground_up) → IsErrOf r (faults.Field (fault_at BadLength (body_size mask sky ground_up))) ↔ (body_size mask sky ground_up < length bytes)
 given_long r mask sky ground_up bytes given memory = (
   λ e.
       let read = read_err r (body_read mask sky ground_up bytes) (fault_at BadLength (body_size mask sky ground_up)) given e in

@@ -1,11 +1,11 @@
 -- A column that is kept as sections, seen as one list of states.
-use Rattle.std.proofs.Common.{◌≡◌, ℕ, ◌+◌, ◌*◌, ◌/◌, ◌%◌, ◌<◌, ◌≤◌, List, [], length, get_or, set, drop, replicate, refl, sym, ap, ◌∙◌, arith, inl, inr}
+use Rattle.std.proofs.Common.{◌≡◌, ℕ, ◌+◌, ◌*◌, ◌/◌, ◌%◌, ◌<◌, List, [], length, get_or, set, replicate, refl, sym, ap, ◌∙◌, arith, inl, inr}
 use Rattle.std.proofs.lemmas.Bool.{cases_eq}
-use Rattle.std.proofs.lemmas.List.{get_or-set_same, get_or-set_other, length-set, get_or-replicate, length-replicate, length-take, length-drop, take_all}
+use Rattle.std.proofs.lemmas.List.{get_or-set_same, get_or-set_other, length-set, get_or-replicate, length-replicate}
 use Rattle.mc_column.specs.Sizes.{section_count, section_cells, cells, squares, section_count-is, section_cells-is, cells-sections}
-use Rattle.mc_column.specs.Cells.{ColumnValue, HasSizes, section_of, cell_index, with_state, empty_column}
+use Rattle.mc_column.specs.Cells.{ColumnValue, HasSizes, section_of, cell_index, with_section, with_state}
 use Rattle.mc_column.specs.KeptColumn.{nth_section, kept_column, IsKeptColumn}
-use Rattle.mc_column.proofs.Pieces.{AreSized, piece_all, length-joined_all, get_or-joined, joined-set, joined_copies, joined_same, joined_pieces}
+use Rattle.mc_column.proofs.Pieces.{AreSized, piece_all, length-joined_all, get_or-joined, joined-put, joined-set, joined_copies}
 
 abbrev pub column_of : List ℕ → List ℕ → ColumnValue
 column_of states biomes = record { states = states; biomes = biomes }
@@ -50,30 +50,21 @@ kept_with_keeps sections biomes section i kept len = record {
 }
 
 -- sections of air are a column of air
-pub kept_air : (sections : List (List ℕ)) (biomes : List ℕ) (biome n m : ℕ) → n ≡ section_count → m ≡ squares → sections ≡ replicate n (replicate section_cells 0) → biomes ≡ replicate m biome → IsKeptColumn sections biomes × (kept_column sections biomes ≡ empty_column biome)
-kept_air sections biomes biome n m all squared air same =
+pub kept_air : (sections : List (List ℕ)) (biomes : List ℕ) (n : ℕ) → n ≡ section_count → length biomes ≡ squares → sections ≡ replicate n (replicate section_cells 0) → IsKeptColumn sections biomes × (kept_column sections biomes ≡ column_of (replicate cells 0) biomes)
+kept_air sections biomes n all squared air =
     let nth : (k : ℕ) → k < section_count → nth_section sections k ≡ replicate {A = ℕ} section_cells 0 = λ k lt. rw (air) (get_or-replicate n k (replicate {A = ℕ} section_cells 0) [] (omega arith)) in (
       record {
         all_there = rw air (length-replicate n (replicate {A = ℕ} section_cells 0) ∙ all);
         sized = λ k lt. ap length (nth k lt) ∙ length-replicate {A = ℕ} section_cells 0;
-        biomes_are = rw same (length-replicate {A = ℕ} m biome ∙ squared);
+        biomes_are = squared;
       },
-      rw (joined_copies (nth_section sections) section_cells section_count 0 nth, ← cells-sections, same, squared) refl,
+      rw (joined_copies (nth_section sections) section_cells section_count 0 nth, ← cells-sections) refl,
     )
 
--- sections that are the parts of some states are the column of these states
-pub kept_parts : (sections : List (List ℕ)) (biomes states : List ℕ) → length sections ≡ section_count → ((k : ℕ) → k < section_count → nth_section sections k ≡ section_of states k) → length states ≡ cells → length biomes ≡ squares → IsKeptColumn sections biomes × (kept_column sections biomes ≡ column_of states biomes)
-kept_parts sections biomes states all each len squared = (
-  record {
-    all_there = all;
-    sized = λ k lt. ap length (each k lt) ∙ length-take section_cells (drop (k * section_cells) states) ∙ omega (arith, length-drop (k * section_cells) states, part_within k lt, len);
-    biomes_are = squared;
-  },
-  ap (λ (t : List ℕ). column_of t biomes) (joined_same (nth_section sections) (section_of states) section_count each ∙ joined_pieces states section_cells section_count ∙ take_all (section_count * section_cells) states (omega (arith, len, cells-sections))),
-)
-  where
-    part_within : (k : ℕ) → k < section_count → k * section_cells + section_cells ≤ cells
-    part_within k lt = rw cells-sections (fits k section_count section_cells lt)
-      where
-        fits : (a b n : ℕ) → a < b → a * n + n ≤ b * n
-        fits a b n lt = grind arith
+-- a section is put in place of another
+pub kept_put_section : (sections : List (List ℕ)) (biomes section : List ℕ) (i : ℕ) → IsKeptColumn sections biomes → i < section_count → length section ≡ section_cells → kept_column (set sections i section) biomes ≡ with_section (kept_column sections biomes) i section
+kept_put_section sections biomes section i kept lt len =
+    let there : i < length sections = omega (arith, kept.all_there) in
+    let here : nth_section (set sections i section) i ≡ section = get_or-set_same sections i section [] there in
+    let joined' = joined-put (nth_section sections) (nth_section (set sections i section)) section_cells i section_count (are_sized sections biomes kept) lt (ap length here ∙ len) (λ j ne. get_or-set_other sections i j section [] ne) in
+    ap (λ (t : List ℕ). column_of t biomes) (joined' ∙ rw here refl)

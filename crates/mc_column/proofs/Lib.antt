@@ -4,6 +4,7 @@ pub mod KeptFacts
 pub mod ColumnFacts
 pub mod BodyFacts
 pub mod PutFacts
+pub mod SparseFacts
 pub mod LightFacts
 pub mod MaskFacts
 pub mod Parts

@@ -8,8 +8,9 @@ use Rattle.std.proofs.lemmas.List.FromFn.{fill_by_all, length-map-range_with_len
 use Rattle.mc_column.specs.Sizes.{section_cells, squares, light_bytes, row_bytes, layer_count, squares-is, row_bytes-is, section-layers, light-layers}
 use Rattle.mc_column.specs.Cells.{section_of, IsAir, paired}
 use Rattle.mc_column.proofs.Pairs.{paired-zeros}
-use Rattle.mc_column.proofs.KeptFacts.{air_or_zeros, get_or-zeros}
-use Rattle.mc_column.specs.Light.{IsOpen, is_open, sky_light, sky_byte, sky_bytes, section_sky, dimmed_byte, dimmed, half_of}
+use Rattle.mc_column.proofs.KeptFacts.{air_or_zeros, get_or-zeros, zeros_air}
+use Rattle.mc_column.specs.Light.{IsOpen, is_open, sky_light, sky_byte, sky_bytes, section_sky, half_of}
+use Rattle.mc_column.specs.LightCode.{dimmed_byte, dimmed}
 
 and_true_left : (a b : Bool) → (a && b) ≡ true → a ≡ true
 and_true_left true b e = refl
@@ -328,3 +329,10 @@ dimmed_air above bytes n len air =
 
     no_state : (i : ℕ) → get_or (paired bytes) i 0 ≡ 0
     no_state i = rw (air_or_zeros bytes air, len, paired-zeros n) (get_or-zeros n i)
+
+-- a layer of air is lit as the one above it
+pub shaded_air : (above light sky sky' : List ℕ) (y z : ℕ) → z ≡ y + 1 → AreShaded (replicate section_cells 0) above light sky z → length sky' ≡ light_bytes → drop (y * row_bytes) sky' ≡ light ++ drop (y * row_bytes + row_bytes) sky → AreShaded (replicate section_cells 0) above light sky' y
+shaded_air above light sky sky' y z step shaded len put =
+    let air : IsAir (replicate (2 * squares) 0) = zeros_air (2 * squares) in
+    let stays : light ≡ dimmed light (paired (replicate (2 * squares) 0)) = dimmed_air light (replicate (2 * squares) 0) squares (length-replicate {A = ℕ} (2 * squares) 0) air in
+    shaded_more (replicate section_cells 0) above light sky light sky' (paired (replicate (2 * squares) 0)) y z step shaded (λ t lt. rw (paired-zeros squares) (get_or-zeros squares t ∙ sym (get_or-zeros section_cells (y * squares + t)))) stays len put

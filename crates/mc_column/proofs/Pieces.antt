@@ -1,9 +1,9 @@
 -- Lists of equal length, one after another.
-use Rattle.std.proofs.Common.{◌≡◌, ℕ, ◌+◌, ◌*◌, ◌-◌, ◌<◌, ◌≤◌, Bool, true, false, cond, zero, suc, List, [], ◌++◌, length, get_or, set, take, drop, replicate, refl, sym, ap, ◌∙◌, arith, inl, inr}
+use Rattle.std.proofs.Common.{◌≡◌, ℕ, ◌+◌, ◌*◌, ◌-◌, ◌<◌, ◌≤◌, Bool, true, false, cond, zero, suc, List, [], ◌++◌, length, get_or, set, take, drop, replicate, refl, sym, ap, ◌∙◌, arith, inl, inr, append_assoc}
 use Rattle.std.proofs.Math.Nat.{mul_comm}
 use Rattle.std.proofs.Math.Seq.{take-add}
 use Rattle.std.proofs.lemmas.Bool.{cases_eq}
-use Rattle.std.proofs.lemmas.List.{length-append, length-drop, drop_at, take_all, take-append-le, drop-append-le, get_or-take, get_or-drop, set-append_left, set-append_right, replicate-append-replicate}
+use Rattle.std.proofs.lemmas.List.{append-nil, drop_all, length-append, length-drop, drop_at, take_all, take-append-le, drop-append-le, get_or-take, get_or-drop, set-append_left, set-append_right, replicate-append-replicate}
 use Rattle.std.proofs.lemmas.Nat.{mul-add-lt}
 use Rattle.mc_column.specs.Cells.{joined, picked, rank}
 
@@ -113,6 +113,30 @@ joined-set f g n i k v (suc m) sized lt inside changed kept =
           let last : g m ≡ f m = kept m (λ h. ne (sym h)) in
           rw (joined-set f g n i k v m (AreSized-less f n m sized) below inside changed kept, last) (sym (set-append_left (joined f m) (f m) (i * n + k) v there))
     ]
+
+-- another piece in place of one
+pub joined-put : (f g : ℕ → List ℕ) (n i m : ℕ) → AreSized f n m → i < m → length (g i) ≡ n → ((j : ℕ) → (j ≡ i → ⊥) → g j ≡ f j) → joined g m ≡ take (i * n) (joined f m) ++ (g i ++ drop (i * n + n) (joined f m))
+joined-put f g n i zero sized lt len kept = absurd (omega arith)
+joined-put f g n i (suc m) sized lt len kept =
+    let all = length-joined_all f n m (AreSized-less f n m sized) in
+    elim (cases_eq i m) [
+      | inl e ↦
+          let before : joined g m ≡ joined f m = joined_same g f m (λ j below. kept j (λ h. absurd (omega arith))) in
+          let front : take (m * n) (joined f m ++ f m) ≡ joined f m = take-append-le (m * n) (joined f m) (f m) (omega (arith, all)) ∙ take_all (m * n) (joined f m) (omega (arith, all)) in
+          let none : drop (m * n + n) (joined f m ++ f m) ≡ [] = drop_all (m * n + n) (joined f m ++ f m) (omega (arith, all, length-append (joined f m) (f m), sized.at m (omega arith))) in
+          rw (e, before, front, none) (ap (λ (t : List ℕ). joined f m ++ t) (sym (append-nil (g m))))
+      | inr ne ↦
+          let below : i < m = omega arith in
+          let room : (i + 1) * n ≤ m * n = times_le (i + 1) m n (omega arith) in
+          let enough : i * n + n ≤ length (joined f m) = omega (arith, all, room, times_more i n) in
+          let last : g m ≡ f m = kept m (λ h. ne (sym h)) in
+          let front : take (i * n) (joined f m ++ f m) ≡ take (i * n) (joined f m) = take-append-le (i * n) (joined f m) (f m) (omega arith) in
+          let rest : drop (i * n + n) (joined f m ++ f m) ≡ drop (i * n + n) (joined f m) ++ f m = drop-append-le (i * n + n) (joined f m) (f m) enough in
+          rw (joined-put f g n i m (AreSized-less f n m sized) below len kept, last, front, rest) (regroup (take (i * n) (joined f m)) (g i) (drop (i * n + n) (joined f m)) (f m))
+    ]
+  where
+    regroup : (a b c d : List ℕ) → (a ++ (b ++ c)) ++ d ≡ a ++ (b ++ (c ++ d))
+    regroup a b c d = simp append_assoc
 
 -- pieces that are copies of one element are so many copies
 pub joined_copies : (f : ℕ → List ℕ) (n m a : ℕ) → ((k : ℕ) → k < m → f k ≡ replicate n a) → joined f m ≡ replicate (m * n) a

@@ -1,7 +1,6 @@
 -- Sections after a body is put into them.
-use Rattle.std.proofs.Common.{◌≡◌, ℕ, ◌+◌, ◌*◌, ◌<◌, ◌≤◌, Bool, true, false, cond, List, [], length, set, take, drop, replicate, refl, sym, ap, ◌∙◌, arith, inl, inr}
-use Rattle.std.proofs.lemmas.Bool.{cases_eq}
-use Rattle.std.proofs.lemmas.List.{get_or-set_same, get_or-set_other, length-set, length-replicate, length-take, length-drop}
+use Rattle.std.proofs.Common.{◌≡◌, ℕ, ◌+◌, ◌*◌, ◌<◌, ◌≤◌, ◌||◌, Bool, true, false, cond, List, [], length, take, drop, replicate, refl, sym, ap, ◌∙◌, arith}
+use Rattle.std.proofs.lemmas.List.{length-replicate, length-take, length-drop}
 use Rattle.mc_column.specs.Sizes.{section_count, section_cells, squares}
 use Rattle.mc_column.specs.Cells.{ColumnValue, joined, section_of, rank, paired}
 use Rattle.mc_column.specs.Body.{BodyValue, is_named, named_count, put_section, put_body}
@@ -13,24 +12,16 @@ use Rattle.mc_column.proofs.ColumnFacts.{kept_section}
 abbrev column_of : List ℕ → List ℕ → ColumnValue
 column_of states biomes = record { states = states; biomes = biomes }
 
--- the sections below i are as the body makes them, those from i on as they were
-pub record AreLaid (mask : ℕ) (ground_up : Bool) (states : List ℕ) (old new : List (List ℕ)) (i : ℕ) : Type 0 where
-  pub len : length new ≡ length old
-  pub done : (k : ℕ) → k < i → nth_section new k ≡ put_section mask ground_up states k (nth_section old k)
-  pub left : (k : ℕ) → i ≤ k → nth_section new k ≡ nth_section old k
-
-pub laid_none : (mask : ℕ) (ground_up : Bool) (states : List ℕ) (old : List (List ℕ)) → AreLaid mask ground_up states old old 0
-laid_none mask ground_up states old = record { len = refl; done = λ k lt. absurd (omega arith); left = λ k le. refl }
-
-pub laid_more : (mask : ℕ) (ground_up : Bool) (states : List ℕ) (old now : List (List ℕ)) (i : ℕ) (section : List ℕ) → i < length old → AreLaid mask ground_up states old now i → section ≡ put_section mask ground_up states i (nth_section now i) → AreLaid mask ground_up states old (set now i section) (i + 1)
-laid_more mask ground_up states old now i section lt laid is = record {
-  len = length-set now i section ∙ laid.len;
-  done = λ k below. elim (cases_eq k i) [
-    | inl e ↦ rw e (get_or-set_same now i section [] (omega (arith, laid.len)) ∙ is ∙ rw (laid.left i (omega arith)) refl)
-    | inr ne ↦ get_or-set_other now i k section [] ne ∙ laid.done k (omega arith)
-  ];
-  left = λ k le. get_or-set_other now i k section [] (λ e. absurd (omega arith)) ∙ laid.left k (omega arith);
-}
+-- sections that were made for a body, put where the mask names them or the body is ground-up
+pub laid : (mask : ℕ) (ground_up : Bool) (states : List ℕ) (old made new : List (List ℕ)) → ((k : ℕ) → k < section_count → nth_section made k ≡ put_section mask true states k []) → ((k : ℕ) → k < section_count → nth_section new k ≡ cond (ground_up || is_named mask k) (nth_section made k) (nth_section old k)) → (k : ℕ) → k < section_count → nth_section new k ≡ put_section mask ground_up states k (nth_section old k)
+laid mask ground_up states old made new makes puts k lt =
+    puts k lt ∙ rw (makes k lt) (cases ground_up (is_named mask k) (section_of states (rank (is_named mask) k)) (replicate section_cells 0) (nth_section old k))
+  where
+    cases : (g n : Bool) (a b d : List ℕ) → cond (g || n) (cond n a b) d ≡ cond n a (cond g b d)
+    cases true true a b d = refl
+    cases true false a b d = refl
+    cases false true a b d = refl
+    cases false false a b d = refl
 
 -- a piece of the blocks' bytes is a section of their states
 pub piece_of_blocks : (blocks : List ℕ) (r n : ℕ) → paired (take (2 * n) (drop (r * (2 * n)) blocks)) ≡ take n (drop (r * n) (paired blocks))

@@ -3,8 +3,7 @@
 use Rattle.std.specs.Prelude.{◌≡◌, ℕ, ◌+◌, ◌*◌, ◌/◌, ◌%◌, ◌^◌, ◌<◌, Bool, true, List, length, take, drop, replicate, slice_index, nat_lt, ◌==◌, Result, Ok, Err, if◌then◌else◌}
 use Rattle.mc_nbt.specs.declared.fault.Kind.TheVariants.{Short, BadLength}
 use Rattle.mc_nbt.specs.declared.fault.FieldFault.{FieldFault}
-use Rattle.mc_nbt.specs.declared.fault.ReadFault.{ReadFault}
-use Rattle.mc_nbt.specs.Placed.{PlacedGives, fault_at}
+use Rattle.mc_nbt.specs.Placed.{fault_at}
 use Rattle.mc_column.specs.Sizes.{section_count, section_cells, squares, light_bytes}
 use Rattle.mc_column.specs.Cells.{ColumnValue, section_of, joined, picked, rank, paired}
 
@@ -73,10 +72,6 @@ body_read mask sky ground_up bytes =
     else if nat_lt (body_size mask sky ground_up) (length bytes)
     then Err (fault_at BadLength (body_size mask sky ground_up))
     else Ok (body_in mask sky ground_up bytes)
-
--- what a function answers is what reading gives, unless memory ran out
-abbrev pub GivesBody : Result BodyValue ReadFault → Result BodyValue FieldFault → Type 0
-GivesBody result read = PlacedGives (λ body. body) result read
 
 -- section i of a column after a body with these states: as in the body, or else air where the body is ground-up
 abbrev pub put_section : ℕ → Bool → List ℕ → ℕ → List ℕ → List ℕ

@@ -29,6 +29,13 @@ empty_column biome = record { states = replicate cells 0; biomes = replicate squ
 abbrev pub with_state : ColumnValue → ℕ → ℕ → ColumnValue
 with_state column i state = record { states = slice_set column.states i state; biomes = column.biomes }
 
+-- the column with other states in section i
+abbrev pub with_section : ColumnValue → ℕ → List ℕ → ColumnValue
+with_section column i states = record {
+  states = take (i * section_cells) column.states ++ (states ++ drop (i * section_cells + section_cells) column.states);
+  biomes = column.biomes;
+}
+
 -- the states of section i, of all states from the bottom: 4,096 after those of the sections below
 abbrev pub section_of : List ℕ → ℕ → List ℕ
 section_of states i = take section_cells (drop (i * section_cells) states)

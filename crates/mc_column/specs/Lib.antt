@@ -1,8 +1,10 @@
 pub mod Sizes
 pub mod Cells
 pub mod Light
+pub mod LightCode
 pub mod Body
 pub mod Sent
 pub mod Kept
 pub mod KeptColumn
 pub mod KeptBody
+pub mod KeptSparse

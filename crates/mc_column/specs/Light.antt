@@ -1,14 +1,16 @@
--- Sky light: a cell is lit where it and all cells above it are air. That is a rule of this project; half a byte a cell,
--- the low half for the even index, is wiki.vg's layout for protocol 47.
-use Rattle.std.specs.Prelude.{◌≡◌, ℕ, zero, suc, ◌+◌, ◌*◌, ◌/◌, ◌%◌, Bool, true, List, length, map, slice_index, ◌==◌, ◌&&◌, if◌then◌else◌}
+-- Sky light: a cell is lit where it and all cells above it are air. That is a rule of this
+-- project; half a byte a cell, the low half for the even index, is wiki.vg's layout for protocol 47.
+use Rattle.std.specs.Prelude.{◌≡◌, ℕ, zero, suc, ◌+◌, ◌*◌, ◌/◌, ◌%◌, Bool, true}
+use Rattle.std.specs.Prelude.{List, length, map, slice_index, ◌==◌, ◌&&◌, if◌then◌else◌}
 use Rattle.std.specs.List.{range_with_len}
 use Rattle.mc_column.specs.Sizes.{section_cells, squares, light_bytes}
 
--- the cell at an index and all cells above it are air: the cell above is 256 further on, and past the end all is air
+-- the cell at an index and all cells above it are air: the cell above is 256 further on, and past
+-- the end all is air
 abbrev pub IsOpen : List ℕ → ℕ → Type 0
 IsOpen states i = (k : ℕ) → slice_index states (i + k * squares) ≡ 0
 
--- the same as a test of n layers
+-- whether the cell at an index and those above it in n layers are air
 abbrev pub is_open : ℕ → List ℕ → ℕ → Bool
 is_open zero states i = true
 is_open (suc n) states i = (slice_index states i == 0) && is_open n states (i + squares)
@@ -28,14 +30,6 @@ sky_bytes states i n = map (λ j. sky_byte states (i + 2 * j)) (range_with_len 0
 -- the sky light of section i
 abbrev pub section_sky : List ℕ → ℕ → List ℕ
 section_sky states i = sky_bytes states (i * section_cells) light_bytes
-
--- a byte of light under two cells of these states, from the byte above them
-abbrev pub dimmed_byte : ℕ → ℕ → ℕ → ℕ
-dimmed_byte above low high = (if low == 0 then above % 16 else 0) + (if high == 0 then above / 16 * 16 else 0)
-
--- a layer's light, from the light above it and its states
-abbrev pub dimmed : List ℕ → List ℕ → List ℕ
-dimmed above layer = map (λ j. dimmed_byte (slice_index above j) (slice_index layer (2 * j)) (slice_index layer (2 * j + 1))) (range_with_len 0 (length above))
 
 -- the light of the cell at an index, in a byte that holds its light and that of the cell beside it
 abbrev pub half_of : ℕ → ℕ → ℕ

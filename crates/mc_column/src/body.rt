@@ -1,7 +1,7 @@
 ghost use Rattle.std.specs.Prelude.{◌≡◌, ◌*◌, ◌<◌, ◌≤◌, ◌↔◌, Ok, IfOk, IsErrOf, length, take, drop};
 ghost use Rattle.mc_nbt.specs.declared.fault.Kind.TheVariants.{Short, BadLength};
 ghost use Rattle.mc_nbt.specs.declared.fault.ReadFault.TheVariants as faults;
-ghost use Rattle.mc_nbt.specs.Placed.{fault_at};
+ghost use Rattle.mc_nbt.specs.Placed.{PlacedGives, fault_at};
 ghost use Rattle.mc_column.specs.Sizes.{light_bytes};
 ghost use Rattle.mc_column.specs.Cells.{paired};
 ghost use Rattle.mc_column.specs.Body as spec;
@@ -110,15 +110,15 @@ pub fn read_body(
     ground_up: bool,
 ) -> Result<Body, ReadFault>
     ensures found { IfOk result (λ body. spec.SpellsBody body mask sky ground_up bytes.now) }
-    ensures only { (body : spec.BodyValue) → spec.SpellsBody body mask sky ground_up bytes.now → spec.GivesBody result (Ok body) }
+    ensures only { (body : spec.BodyValue) → spec.SpellsBody body mask sky ground_up bytes.now → PlacedGives (λ body. body) result (Ok body) }
     ensures short { IsErrOf result (faults.Field (fault_at Short (length bytes.now))) ↔ (length bytes.now < spec.body_size mask sky ground_up) }
     ensures long { IsErrOf result (faults.Field (fault_at BadLength (spec.body_size mask sky ground_up))) ↔ (spec.body_size mask sky ground_up < length bytes.now) }
-    ensures reads { spec.GivesBody result (spec.body_read mask sky ground_up bytes.now) }
+    ensures reads { PlacedGives (λ body. body) result (spec.body_read mask sky ground_up bytes.now) }
 {
     read_exactly(alloc, bytes, mask, sky, ground_up)
 }
 
-/// The same, stated by the function on lists that reading is.
+/// Reads a body, as the function on lists that reading is says.
 #[tactic(auto, unfolding(crate::specs::Body::body_read))]
 fn read_exactly(
     alloc: Global,
@@ -127,7 +127,7 @@ fn read_exactly(
     sky: bool,
     ground_up: bool,
 ) -> Result<Body, ReadFault>
-    ensures reads { spec.GivesBody result (spec.body_read mask sky ground_up bytes.now) }
+    ensures reads { PlacedGives (λ body. body) result (spec.body_read mask sky ground_up bytes.now) }
     ensures memory { IsErrOf result faults.NoMemory → length bytes.now ≡ spec.body_size mask sky ground_up }
 {
     let size = body_size(mask, sky, ground_up);

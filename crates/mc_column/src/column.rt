@@ -1,15 +1,16 @@
-ghost use Rattle.std.specs.Prelude.{◌≡◌, ◌+◌, ◌*◌, ◌/◌, ◌%◌, ◌<◌, ◌↔◌, ◌++◌, IsNone, IfOk, IfSome, OnOk, OnErr, slice_index, replicate, length};
+ghost use Rattle.std.specs.Prelude.{◌≡◌, ◌+◌, ◌*◌, ◌/◌, ◌%◌, ◌<◌, ◌↔◌, ◌++◌, IsNone, IsTrue, IfOk, IfSome, OnOk, OnErr, slice_index, replicate, length, if◌then◌else◌};
 ghost use Rattle.mc_column.specs.Sizes.{cells, section_cells, squares};
 ghost use Rattle.mc_column.specs.Body.{put_body};
 ghost use Rattle.mc_column.specs.Sent.{IsColumnMask, SpellsColumn, column_bytes, column_mask};
-ghost use Rattle.mc_column.specs.Cells.{HasSizes, IsAir, cell_index, square_index, empty_column, with_state, section_of};
+ghost use Rattle.mc_column.specs.Cells.{HasSizes, IsAir, cell_index, square_index, empty_column, with_section, with_state, section_of};
+ghost use Rattle.mc_column.specs.Kept.{blocks_in};
 
 use crate::body::{Body, body_size};
 use crate::mask::sent_mask;
-use crate::put::lay_all;
+use crate::put::{lay_all, made_all};
 use crate::section::Section;
 use crate::sizes::{biomes_of_column, sections_of_column};
-use crate::states::{assign_all, copy_all};
+use crate::sparse::SparseSection;
 use crate::write::append_body;
 use mc_nbt::NoMemory;
 use std::alloc::Global;
@@ -20,8 +21,8 @@ use std::marker::Model;
 /// list of its 256 biomes, that of (x, z) at `z * 16 + x`.
 #[derive(Drop)]
 pub struct Column {
-    /// From the bottom up.
-    sections: Vec<Section>,
+    /// Sixteen, from the bottom up.
+    sections: Vec<SparseSection>,
     biomes: Vec<u8>,
 }
 
@@ -38,28 +39,36 @@ impl Model for Column {
 }
 
 impl Column {
-    /// A column of air with one biome everywhere.
+    /// Makes a column of air with one biome everywhere.
     pub fn empty(alloc: Global, biome: u8) -> Result<Column, NoMemory>
         ensures { IfOk result (λ column. column ≡ empty_column biome) }
     {
+        Column::with_biomes(copies(alloc, biomes_of_column(), biome)?)
+    }
+
+    /// Makes a column of air with these 256 biomes.
+    pub fn with_biomes(biomes: Vec<u8>) -> Result<Column, NoMemory>
+        requires { length biomes.items ≡ squares }
+        ensures { IfOk result (λ column. column ≡ record { states = replicate cells 0; biomes = biomes.items }) }
+    {
         Ok(Column {
-            sections: sections_of_air(alloc, sections_of_column())?,
-            biomes: copies(alloc, biomes_of_column(), biome)?,
+            sections: sections_of_air(*biomes.allocator(), sections_of_column())?,
+            biomes,
         })
     }
 
-    /// The column with these 65,536 states and 256 biomes.
-    pub fn from_states(alloc: Global, states: &[u16], biomes: &[u8]) -> Result<Column, NoMemory>
-        requires states_are { length states.now ≡ cells }
-        requires biomes_are { length biomes.now ≡ squares }
-        ensures { IfOk result (λ column. column ≡ record { states = states.now; biomes = biomes.now }) }
+    /// Puts the 4,096 states of section `i` from the bottom, so many of which are not air. Where
+    /// that number is 0 it looks at no state, and takes no memory.
+    pub fn put_section(&mut self, i: u8, states: &[u16], filled: u16) -> Result<(), NoMemory>
+        requires inside { i < 16 }
+        requires sized { length states.now ≡ section_cells }
+        requires counted { filled ≡ blocks_in states.now }
+        ensures ok { OnOk result (self.new ≡ with_section self.old i states.now) }
+        ensures err { OnErr result (self.new ≡ self.old) }
     {
-        let mut sections = sections_of_air(alloc, sections_of_column())?;
-        assign_all(&mut sections, states);
-        Ok(Column {
-            sections,
-            biomes: Vec::from_slice(alloc, biomes)?,
-        })
+        let section = SparseSection::from_states(*self.biomes.allocator(), states, filled)?;
+        self.sections[usize::from(i)] = section;
+        Ok(())
     }
 
     /// The state of a cell.
@@ -72,9 +81,8 @@ impl Column {
         section.get(index_inside(x, y, z))
     }
 
-    /// Puts a state into a cell and answers the one that was there.
-    ///
-    /// A cell of a section that is there already takes no memory.
+    /// Puts a state into a cell and answers the one that was there. Only the first block of a
+    /// section takes memory. Without memory the column is as before.
     pub fn set(&mut self, x: u8, y: u8, z: u8, state: u16) -> Result<u16, NoMemory>
         requires x_inside { x < 16 }
         requires z_inside { z < 16 }
@@ -82,8 +90,10 @@ impl Column {
         ensures new { OnOk result (self.new ≡ with_state self.old (cell_index x y z) state) }
         ensures err { OnErr result (self.new ≡ self.old) }
     {
+        let alloc = *self.biomes.allocator();
         let section = &mut self.sections[section_at(y)];
-        Ok(section.set(index_inside(x, y, z), state))
+        let old = section.set(alloc, index_inside(x, y, z), state)?;
+        Ok(old)
     }
 
     /// The biome at a place.
@@ -101,29 +111,21 @@ impl Column {
         ensures none { IsNone result ↔ IsAir (section_of self.now.states i) }
         ensures some { IfSome result (λ section. section.now ≡ section_of self.now.states i) }
     {
-        let section = &self.sections[usize::from(i)];
-        if section.is_air() {
-            None
-        } else {
-            Some(section)
-        }
+        self.sections[usize::from(i)].section()
     }
 
     /// Puts the states of a body into the sections of its mask. A ground-up body makes the other
     /// sections air and sets the biomes. The body is one that was read for that mask and that
-    /// `ground_up`.
-    ///
-    /// A column whose sections are all there takes no memory for this.
+    /// `ground_up`. Without memory the column is as before.
     pub fn put(&mut self, body: &Body, mask: u16, ground_up: bool) -> Result<(), NoMemory>
         requires for_mask { body.now.mask ≡ mask }
         requires for_ground { body.now.ground_up ≡ ground_up }
         ensures ok { OnOk result (self.new ≡ put_body self.old body.now) }
         ensures err { OnErr result (self.new ≡ self.old) }
     {
-        lay_all(&mut self.sections, body.blocks(), mask, ground_up);
-        if ground_up {
-            self.biomes.copy_from_slice(body.biomes());
-        }
+        let mut made = made_all(*self.biomes.allocator(), body.blocks(), mask)?;
+        lay_all(&mut self.sections, &mut made, mask, ground_up);
+        put_biomes(&mut self.biomes, body.biomes(), ground_up);
         Ok(())
     }
 
@@ -163,14 +165,6 @@ impl Column {
         body_size(mask, true, true)
     }
 
-    /// Makes it equal to another. It takes no memory.
-    pub fn copy_from(&mut self, other: &Column)
-        ensures { self.new ≡ other.now }
-    {
-        copy_all(&mut self.sections, &other.sections);
-        self.biomes.copy_from_slice(other.biomes.as_slice());
-    }
-
     /// An equal column.
     pub fn copy(&self) -> Result<Column, NoMemory>
         ensures equal { IfOk result (λ column. column ≡ self.now) }
@@ -200,6 +194,16 @@ fn index_inside(x: u8, y: u8, z: u8) -> u16
     u16::from(y % 16) * 256 + u16::from(z) * 16 + u16::from(x)
 }
 
+/// Takes the biomes of a body that is ground-up.
+fn put_biomes(biomes: &mut Vec<u8>, new: &[u8], ground_up: bool)
+    requires { IsTrue ground_up → length new.now ≡ length biomes.old.items }
+    ensures { biomes.new.items ≡ (if ground_up then new.now else biomes.old.items) }
+{
+    if ground_up {
+        biomes.copy_from_slice(new);
+    }
+}
+
 /// So many bytes of one value.
 fn copies(alloc: Global, n: usize, byte: u8) -> Result<Vec<u8>, NoMemory>
     ensures { IfOk result (λ bytes. bytes.items ≡ replicate n byte) }
@@ -210,18 +214,18 @@ fn copies(alloc: Global, n: usize, byte: u8) -> Result<Vec<u8>, NoMemory>
 }
 
 /// So many sections of air.
-fn sections_of_air(alloc: Global, n: usize) -> Result<Vec<Section>, NoMemory>
+fn sections_of_air(alloc: Global, n: usize) -> Result<Vec<SparseSection>, NoMemory>
     ensures { IfOk result (λ sections. sections.items ≡ replicate n (replicate section_cells 0)) }
 {
     let mut sections = Vec::with_capacity(alloc, n)?;
     for _ in 0..n {
-        sections.push(Section::air(alloc)?)?;
+        sections.push(SparseSection::air())?;
     }
     Ok(sections)
 }
 
 /// Equal sections.
-fn copies_of(sections: &Vec<Section>) -> Result<Vec<Section>, NoMemory>
+fn copies_of(sections: &Vec<SparseSection>) -> Result<Vec<SparseSection>, NoMemory>
     ensures { IfOk result (λ copies. copies.items ≡ sections.now.items) }
 {
     let mut copies = Vec::with_capacity(*sections.allocator(), sections.len())?;

@@ -14,9 +14,7 @@ mod mask;
 mod put;
 mod section;
 mod sizes;
-mod states;
-#[cfg(test)]
-mod tests;
+mod sparse;
 mod write;
 
 pub use body::{Body, read_body};

@@ -2,7 +2,7 @@ ghost use Rattle.std.specs.Prelude.{◌≡◌, ◌+◌, ◌*◌, ◌<◌, ◌↔
 ghost use Rattle.mc_column.specs.Sizes.{layer_count, light_bytes, row_bytes, squares};
 ghost use Rattle.std.specs.List.{All};
 ghost use Rattle.mc_column.specs.Cells.{paired};
-ghost use Rattle.mc_column.specs.Light as spec;
+ghost use Rattle.mc_column.specs.LightCode as spec;
 
 use crate::section::state_at;
 use crate::sizes::bytes_of_row;
@@ -59,7 +59,7 @@ pub(crate) fn dim(light: &mut [u8], layer: &[u8])
     dim_cells(light, layer);
 }
 
-/// The same, cell by cell.
+/// Makes the light of the layer above that of this layer, two cells at a time.
 fn dim_cells(light: &mut [u8], layer: &[u8])
     requires light_is { length light.old ≡ row_bytes }
     requires layer_is { length layer.now ≡ 2 * squares }

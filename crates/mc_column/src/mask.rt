@@ -5,7 +5,7 @@ ghost use Rattle.mc_column.specs.Body.{is_named};
 ghost use Rattle.mc_column.specs.KeptColumn.{nth_section};
 ghost use Rattle.mc_column.specs.Sent.{bits, has_block, with_one};
 
-use crate::section::Section;
+use crate::sparse::SparseSection;
 
 /// Whether the mask names section `i`: bit `i` is set.
 #[inline(always)]
@@ -30,7 +30,7 @@ pub(crate) fn rank(mask: u16, n: usize) -> usize
 }
 
 /// The mask of the sections that are not all air: bit `i` for section `i`.
-fn filled_mask(sections: &Vec<Section>) -> u16
+fn filled_mask(sections: &Vec<SparseSection>) -> u16
     requires { length sections.now.items ≡ section_count }
     ensures { result ≡ bits (λ i. has_block (nth_section sections.now.items i)) 0 section_count }
 {
@@ -44,7 +44,7 @@ fn filled_mask(sections: &Vec<Section>) -> u16
 
 /// The mask that a column with these sections is sent with: a column with no block names its
 /// lowest section, since a ground-up body for mask 0 would be an unload.
-pub(crate) fn sent_mask(sections: &Vec<Section>) -> u16
+pub(crate) fn sent_mask(sections: &Vec<SparseSection>) -> u16
     requires { length sections.now.items ≡ section_count }
     ensures { result ≡ with_one (bits (λ i. has_block (nth_section sections.now.items i)) 0 section_count) }
 {

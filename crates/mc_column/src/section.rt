@@ -18,7 +18,7 @@ pub struct Section {
     /// The states as they are sent: two bytes each, the least significant first.
     bytes: Vec<u8>,
     /// How many of them are not air.
-    filled: usize,
+    filled: u16,
 }
 
 impl Model for Section {
@@ -44,14 +44,14 @@ fn zeros(alloc: Global, n: usize) -> Result<Vec<u8>, NoMemory>
 }
 
 /// One for a state that is not air.
-fn block(state: u16) -> usize
+fn block(state: u16) -> u16
     ensures { result ≡ block_of state }
 {
     if state == 0 { 0 } else { 1 }
 }
 
 /// How many states of a section's bytes are not air.
-fn blocks(bytes: &[u8]) -> usize
+pub(crate) fn blocks(bytes: &[u8]) -> u16
     requires { length bytes.now ≡ 2 * section_cells }
     ensures { result ≡ blocks_in (paired bytes.now) }
 {
@@ -80,6 +80,17 @@ pub(crate) fn state_at(bytes: &[u8], i: usize) -> u16
     ensures { result ≡ slice_index (paired bytes.now) i }
 {
     u16::from(bytes[2 * i]) + 256 * u16::from(bytes[2 * i + 1])
+}
+
+/// Writes states as they are sent, over as many bytes.
+fn put_states(bytes: &mut [u8], states: &[u16])
+    requires { length bytes.old ≡ 2 * length states.now }
+    ensures { bytes.new ≡ wire states.now }
+{
+    for i in 0..states.len() {
+        bytes[2 * i] = (states[i] % 256) as u8;
+        bytes[2 * i + 1] = (states[i] / 256) as u8;
+    }
 }
 
 impl Section {
@@ -113,43 +124,31 @@ impl Section {
         old
     }
 
-    /// Takes its states from their bytes.
-    pub(crate) fn fill(&mut self, bytes: &[u8])
-        requires { length bytes.now ≡ 2 * section_cells }
-        ensures { self.new ≡ paired bytes.now }
+    /// The section whose states are these bytes, so many of which are not air.
+    pub(crate) fn from_bytes(alloc: Global, bytes: &[u8], filled: u16) -> Result<Section, NoMemory>
+        requires sized { length bytes.now ≡ 2 * section_cells }
+        requires counted { filled ≡ blocks_in (paired bytes.now) }
+        ensures { IfOk result (λ section. section ≡ paired bytes.now) }
     {
-        self.bytes.copy_from_slice(bytes);
-        self.filled = blocks(bytes);
+        Ok(Section {
+            bytes: Vec::from_slice(alloc, bytes)?,
+            filled,
+        })
     }
 
-    /// Takes its states from a list of them.
-    pub(crate) fn assign(&mut self, states: &[u16])
-        requires { length states.now ≡ section_cells }
-        ensures { self.new ≡ states.now }
+    /// The section of these states, so many of which are not air.
+    pub(crate) fn from_states(
+        alloc: Global,
+        states: &[u16],
+        filled: u16,
+    ) -> Result<Section, NoMemory>
+        requires sized { length states.now ≡ section_cells }
+        requires counted { filled ≡ blocks_in states.now }
+        ensures { IfOk result (λ section. section ≡ states.now) }
     {
-        let _bytes = self.bytes();
-        for i in 0..states.len() {
-            let _old = self.set(i as u16, states[i]);
-        }
-    }
-
-    /// Makes it equal to another. It takes no memory.
-    pub(crate) fn copy_from(&mut self, other: &Section)
-        ensures { self.new ≡ other.now }
-    {
-        self.bytes.copy_from_slice(other.bytes.as_slice());
-        self.filled = other.filled;
-    }
-
-    /// Makes all its cells air.
-    pub(crate) fn clear(&mut self)
-        ensures { self.new ≡ replicate section_cells 0 }
-    {
-        if self.filled == 0 {
-            return;
-        }
-        self.bytes.fill(0);
-        self.filled = 0;
+        let mut bytes = zeros(alloc, bytes_of_section())?;
+        put_states(&mut bytes, states);
+        Ok(Section { bytes, filled })
     }
 
     /// Whether all its cells are air.

@@ -9,8 +9,8 @@ ghost use Rattle.mc_column.specs.Sent.{body_bytes};
 use crate::body::light_size;
 use crate::light::full_light;
 use crate::mask::{names, rank};
-use crate::section::Section;
 use crate::sizes::light_of_section;
+use crate::sparse::SparseSection;
 
 /// Appends bytes for which there is room.
 pub(crate) fn append(out: &mut Vec<u8>, bytes: &[u8])
@@ -33,18 +33,18 @@ pub(crate) fn append_zeros(out: &mut Vec<u8>, n: usize)
 }
 
 /// Appends the states of a section that the mask names.
-fn append_states(section: &Section, named: bool, out: &mut Vec<u8>)
+fn append_states(section: &SparseSection, named: bool, out: &mut Vec<u8>)
     requires { IsTrue named → vec_len out.old + 2 * section_cells ≤ vec_capacity out.old }
     ensures items { out.new.items ≡ out.old.items ++ wire (if named then section.now else []) }
     ensures room { vec_capacity out.old ≤ vec_capacity out.new }
 {
     if named {
-        append(out, section.bytes());
+        section.append_to(out);
     }
 }
 
 /// Appends the states of the sections that the mask names, from the lowest up.
-pub(crate) fn append_blocks(sections: &Vec<Section>, mask: u16, out: &mut Vec<u8>)
+pub(crate) fn append_blocks(sections: &Vec<SparseSection>, mask: u16, out: &mut Vec<u8>)
     requires all_there { length sections.now.items ≡ section_count }
     requires sized { (i : ℕ) → i < section_count → length (nth_section sections.now.items i) ≡ section_cells }
     requires room { vec_len out.old + block_light_at mask ≤ vec_capacity out.old }
@@ -60,7 +60,7 @@ pub(crate) fn append_blocks(sections: &Vec<Section>, mask: u16, out: &mut Vec<u8
 
 /// Makes the light above a section that of its lowest layer. Where the mask names the section, its
 /// light is written at a place of the sky light; otherwise it is air and takes no light away.
-fn shade_at(section: &Section, named: bool, from: usize, light: &mut [u8], sky: &mut [u8])
+fn shade_at(section: &SparseSection, named: bool, from: usize, light: &mut [u8], sky: &mut [u8])
     requires light_is { length light.old ≡ row_bytes }
     requires air { named ≡ false → IsAir section.now }
     requires room { IsTrue named → from + light_bytes ≤ length sky.old }
@@ -76,7 +76,7 @@ fn shade_at(section: &Section, named: bool, from: usize, light: &mut [u8], sky: 
 
 /// Writes the sky light of the sections that the mask names, from the lowest up. It goes down from
 /// the top, with the light of one layer.
-fn write_sky(sections: &Vec<Section>, mask: u16, sky: &mut [u8])
+fn write_sky(sections: &Vec<SparseSection>, mask: u16, sky: &mut [u8])
     requires all_there { length sections.now.items ≡ section_count }
     requires sized { (i : ℕ) → i < section_count → length (nth_section sections.now.items i) ≡ section_cells }
     requires air { (i : ℕ) → i < section_count → is_named mask i ≡ false → IsAir (nth_section sections.now.items i) }
@@ -92,7 +92,7 @@ fn write_sky(sections: &Vec<Section>, mask: u16, sky: &mut [u8])
 }
 
 /// Appends the sky light of the sections that the mask names.
-pub(crate) fn append_sky(sections: &Vec<Section>, mask: u16, light: usize, out: &mut Vec<u8>)
+pub(crate) fn append_sky(sections: &Vec<SparseSection>, mask: u16, light: usize, out: &mut Vec<u8>)
     requires all_there { length sections.now.items ≡ section_count }
     requires sized { (i : ℕ) → i < section_count → length (nth_section sections.now.items i) ≡ section_cells }
     requires air { (i : ℕ) → i < section_count → is_named mask i ≡ false → IsAir (nth_section sections.now.items i) }
@@ -109,7 +109,12 @@ pub(crate) fn append_sky(sections: &Vec<Section>, mask: u16, light: usize, out: 
 
 /// Appends a body with sky light and biomes for a mask, for which there is room.
 #[tactic(auto, unfolding(crate::specs::Sent::body_bytes))]
-pub(crate) fn append_body(sections: &Vec<Section>, biomes: &[u8], mask: u16, out: &mut Vec<u8>)
+pub(crate) fn append_body(
+    sections: &Vec<SparseSection>,
+    biomes: &[u8],
+    mask: u16,
+    out: &mut Vec<u8>,
+)
     requires kept { IsKeptColumn sections.now.items biomes.now }
     requires air { (i : ℕ) → i < section_count → is_named mask i ≡ false → IsAir (nth_section sections.now.items i) }
     requires room { vec_len out.old + body_size mask true true ≤ vec_capacity out.old }

@@ -1,5 +1,6 @@
-use Rattle.mc_column.proofs.ColumnFacts.{kept_air}
+use Rattle.std.proofs.Common.{ℕ, ap, length, ◌∙◌}
+use Rattle.std.proofs.lemmas.List.{length-replicate}
 use Rattle.mc_column.proofs.column.Column.empty.Goals as goal
 
-pub returns : goal.returns
-returns c = (kept_air _ _ c.args.biome _ _ c.sections_of_column.ensures c.biomes_of_column.ensures c.in_ok-sections_of_air.ensures c.in_ok-copies.ensures).1
+pub with_biomes-requires : goal.with_biomes-requires
+with_biomes-requires c = ap length c.in_ok-copies.ensures ∙ length-replicate {A = ℕ} _ c.args.biome ∙ c.biomes_of_column.ensures

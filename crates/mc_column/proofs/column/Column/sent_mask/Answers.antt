@@ -1,4 +1,4 @@
-use Rattle.std.proofs.Common.{◌≡◌, sym, ◌∙◌}
+use Rattle.std.proofs.Common.{sym, ◌∙◌}
 use Rattle.mc_column.proofs.ColumnFacts.{kept_sizes}
 use Rattle.mc_column.proofs.SentFacts.{kept_mask}
 use Rattle.mc_column.proofs.column.Column.sent_mask.Goals as goal
