@@ -53,6 +53,7 @@ kept_settled : (terrain : Terrain) (columns : Columns) (chests : Chests) → IsK
 kept_settled terrain columns chests kept = record {
   columns_apart = apart settled_ready columns kept.columns_apart;
   chests_ordered = kept.chests_ordered;
+  chests_inside = kept.chests_inside;
   own = λ place ready found. of_settled place ready (find place_cmp place columns) (λ r e. kept.own place r e) refl (sym (find_map settled_ready place columns) ∙ found);
   chests_are = λ place i lt. kept.chests_are place i lt ∙ rw (present_stays columns) refl;
 }
@@ -62,7 +63,7 @@ kept_settled terrain columns chests kept = record {
     of_settled place ready (Some r) own is e =
         let same : settled_ready r ≡ ready = some_is (settled_ready r) ready e in
         let o = own r is in
-        subst (λ x. IsOwn terrain place x) same (record { inside = o.inside; present_sizes = o.present_sizes; settled_sizes = o.present_sizes; biomes = o.biomes })
+        subst (λ x. IsOwn terrain place x) same (record { inside = o.inside; terrain_is = o.terrain_is; present_sizes = o.present_sizes; settled_sizes = o.present_sizes; biomes = o.biomes })
       where
         some_is : (a b : ReadyValue) → Some a ≡ Some b → a ≡ b
         some_is a b e = cc
@@ -137,8 +138,8 @@ places_push : (columns : Columns) (place : Place) (ready : ReadyValue) → map (
 places_push [] place ready = refl
 places_push (e ∷ es) place ready = ap (λ (t : List Place). e.0 ∷ t) (places_push es place ready)
 
-pub fresh_new : (terrain : Terrain) (place : Place) (column : ColumnValue) (ready : ReadyValue) → IsPlace place → column ≡ own_column terrain place → ready ≡ record { place = place; present = column; settled = column } → IsFresh terrain place ready
-fresh_new terrain place column ready inside own is = rw is (record { inside = inside; at = refl; present_own = own; settled_own = own })
+pub fresh_new : (terrain : Terrain) (place : Place) (column : ColumnValue) (ready : ReadyValue) → IsPlace place → column ≡ own_column terrain place → ready ≡ record { place = place; terrain = terrain; present = column; settled = column } → IsFresh terrain place ready
+fresh_new terrain place column ready inside own is = rw is (record { inside = inside; at = refl; terrain_is = refl; present_own = own; settled_own = own })
 
 pub push_land : (terrain : Terrain) (columns new : List ReadyValue) (chests : Chests) (place : Place) (ready : ReadyValue) → new ≡ columns ++ ready ∷ [] → IsFresh terrain place ready → IsKeptLand terrain (placed columns) chests → find place_cmp place (placed columns) ≡ None → kept_land terrain (placed new) chests ≡ with_ready (kept_land terrain (placed columns) chests) place
 push_land terrain columns new chests place ready is fresh kept none =
@@ -154,6 +155,7 @@ push_keeps terrain columns new chests place ready is fresh kept none =
     rw entries (record {
       columns_apart = apart_push (placed columns) place ready kept.columns_apart none;
       chests_ordered = kept.chests_ordered;
+      chests_inside = kept.chests_inside;
       own = λ q r found. of_push q r (sym (find_push (placed columns) place ready q none) ∙ found);
       chests_are = λ q i lt. kept.chests_are q i lt ∙ rw (edits_push present terrain (placed columns) place ready kept.columns_apart none (ap (λ (c : ColumnValue). c.states) fresh.present_own)) refl;
     })
@@ -171,6 +173,7 @@ push_keeps terrain columns new chests place ready is fresh kept none =
         fresh_own : (q : Place) (r : ReadyValue) → q ≡ place → ready ≡ r → IsOwn terrain q r
         fresh_own q r e f = rw (e, ← f) (record {
           inside = fresh.inside;
+          terrain_is = fresh.terrain_is;
           present_sizes = rw fresh.present_own (own_sizes terrain place);
           settled_sizes = rw fresh.settled_own (own_sizes terrain place);
           biomes = ap (λ (c : ColumnValue). c.biomes) fresh.present_own;

@@ -81,6 +81,7 @@ pub kept_piles : (terrain : Terrain) (columns : Columns) (old new : Chests) → 
 kept_piles terrain columns old new kept same = record {
   columns_apart = kept.columns_apart;
   chests_ordered = rw same kept.chests_ordered;
+  chests_inside = λ place i some. kept.chests_inside place i (among (place, i) old ∙ sym (ap (list_any (eq_by_cmp key_cmp (place, i))) same) ∙ sym (among (place, i) new) ∙ some);
   own = kept.own;
   chests_are = λ place i lt. among (place, i) new ∙ ap (list_any (eq_by_cmp key_cmp (place, i))) same ∙ sym (among (place, i) old) ∙ kept.chests_are place i lt;
 }

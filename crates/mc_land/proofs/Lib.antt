@@ -1,9 +1,10 @@
-mod Orders
+pub mod Orders
 mod ChestFacts
 mod EditsFacts
 mod LandFacts
 mod GrownFacts
 mod SumFacts
+mod ShedFacts
 mod TouchedFacts
 mod TouchFacts
 mod KeptLandFacts

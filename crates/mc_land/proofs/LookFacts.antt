@@ -7,7 +7,7 @@ use Rattle.std.proofs.lemmas.List.FromFn.{get_or-map-range_with_len, length-map-
 use Rattle.mc_column.specs.Sizes.{cells}
 use Rattle.mc_column.specs.Cells.{ColumnValue, cell_index}
 use Rattle.mc_land.specs.declared.terrain.Terrain.{Terrain}
-use Rattle.mc_land.specs.Places.{Place, place_cmp, key_cmp, inside, place_of}
+use Rattle.mc_land.specs.Places.{Key, Place, place_cmp, key_cmp, inside, place_of}
 use Rattle.mc_land.specs.Terrain.{terrain_state}
 use Rattle.mc_land.specs.Land.{terrain_at, state_at, states_of, block, column_of, dirty_in}
 use Rattle.mc_land.specs.Kept.{kept_edits}
@@ -129,10 +129,15 @@ own_no_chest Isle x z y = isle (eqb y 63 && is_within_16 x && is_within_16 z)
     isle true = refl
     isle false = refl
 
+none_in : (key : Key) (chests : Chests) → chests ≡ [] → is_some (find key_cmp key chests) ≡ true → ⊥
+none_in key [] e some = absurd cc
+none_in key (x ∷ xs) e some = absurd cc
+
 pub kept_new : (terrain : Terrain) (columns : Columns) (chests : Chests) → columns ≡ [] → chests ≡ [] → IsStrictlySortedBy key_cmp (map (λ e. e.0) chests) → IsKeptLand terrain columns chests
 kept_new terrain columns chests none empty ordered' = record {
   columns_apart = rw none tt;
   chests_ordered = ordered';
+  chests_inside = λ place i some. absurd (none_in (place, i) chests empty some);
   own = λ place ready found. let h : find place_cmp place [] ≡ Some ready = rw none at found in absurd cc;
   chests_are = λ place i lt. rw (empty, none) (sym (ap is_chest (state_else terrain [] place i tt refl) ∙ own_no_chest terrain (x_of (place, i)) (z_of (place, i)) (y_of (place, i))));
 }

@@ -1,5 +1,5 @@
 -- A kept land where a cell is set, whole.
-use Rattle.std.proofs.Common.{◌≡◌, ℕ, ◌<◌, Bool, true, false, cond, List, [], ◌∷◌, ◌++◌, map, Option, Some, None, refl, sym, subst, ap, ◌∙◌}
+use Rattle.std.proofs.Common.{◌≡◌, ℕ, ◌<◌, Bool, true, false, cond, List, [], ◌∷◌, ◌++◌, map, Option, Some, None, refl, sym, subst, ap, ◌∙◌, arith}
 use Rattle.std.specs.declared.cmp.Ordering.TheVariants.{Less, Equal, Greater}
 use Rattle.std.specs.Ordering.{is_eq, eq_by_cmp}
 use Rattle.std.specs.Cmp.{tied_itself, eq_by_cmp_equiv}
@@ -20,7 +20,8 @@ use Rattle.mc_land.proofs.PlaceFacts.{key_within}
 use Rattle.mc_land.specs.Land.{LandValue, block, state_at, edited, is_chest, chests_after, with_block, with_ready}
 use Rattle.mc_land.specs.Kept.{kept_edits}
 use Rattle.mc_land.specs.KeptLand.{Chests, placed, present_states, kept_land, IsKeptLand, IsPut}
-use Rattle.mc_land.specs.Ready.{ReadyValue, set_at}
+use Rattle.mc_land.specs.Ready.{ReadyValue}
+use Rattle.mc_land.specs.ReadyCode.{set_at}
 use Rattle.mc_land.proofs.Orders.{places_total, keys_total, exact_keys}
 use Rattle.mc_land.proofs.KeptLandFacts.{apart, lookup_is}
 use Rattle.mc_land.proofs.ChangeFacts.{ready_stays, push_land, push_keeps, find_push, placed_push}
@@ -76,10 +77,18 @@ set_keeps terrain columns chests after place i state ready kept found lt are =
     rw entries (record {
       columns_apart = apart (set_at place i state) (placed columns) kept.columns_apart;
       chests_ordered = are.ordered;
+      chests_inside = λ q j some. inside_after q j (sym (ap is_some (are.same (q, j)) ∙ chest_there (from_entries {R = key_cmp} chests) (place, i) (q, j) (kept_state terrain columns (place, i)) state (ap is_some (get-from_entries keys_total chests (place, i)) ∙ kept.chests_are place i lt)) ∙ some);
       own = λ q r e. own_set terrain columns place i state q r (λ s f. kept.own q s f) e;
       chests_are = λ q j inside. ap is_some (are.same (q, j)) ∙ chest_there (from_entries {R = key_cmp} chests) (place, i) (q, j) (kept_state terrain columns (place, i)) state (ap is_some (get-from_entries keys_total chests (place, i)) ∙ kept.chests_are place i lt) ∙ rw (edits, state_edited terrain (kept_edits terrain (present_states (placed columns))) (place, i) (q, j) state) (either (eq_by_cmp key_cmp (q, j) (place, i)) state (kept_state terrain columns (q, j)) (is_some (get (from_entries {R = key_cmp} chests) (q, j))) (ap is_some (get-from_entries keys_total chests (q, j)) ∙ kept.chests_are q j inside));
     })
   where
+    inside_after : (q : Place) (j : ℕ) → cond (eq_by_cmp key_cmp (q, j) (place, i)) (is_chest state) (is_some (get (from_entries {R = key_cmp} chests) (q, j))) ≡ true → j < cells
+    inside_after q j h = elim (key_cmp (q, j) (place, i)) as (λ o. key_cmp (q, j) (place, i) ≡ o → cond (is_eq o) (is_chest state) (is_some (get (from_entries {R = key_cmp} chests) (q, j))) ≡ true → j < cells) [
+      | Less ↦ λ e t. kept.chests_inside q j (sym (ap is_some (get-from_entries keys_total chests (q, j))) ∙ t)
+      | Equal ↦ λ e t. let same : (q, j) ≡ (place, i) = exact_keys (q, j) (place, i) e in omega (arith, lt, ap (λ (k : Key). k.1) same)
+      | Greater ↦ λ e t. kept.chests_inside q j (sym (ap is_some (get-from_entries keys_total chests (q, j))) ∙ t)
+    ] refl h
+
     either : (b : Bool) (x y : ℕ) (there : Bool) → there ≡ is_chest y → cond b (is_chest x) there ≡ is_chest (cond b x y)
     either true x y there e = refl
     either false x y there e = e
@@ -166,6 +175,7 @@ same_chests terrain columns new chests after is kept ordered same =
       record {
         columns_apart = kept.columns_apart;
         chests_ordered = ordered;
+        chests_inside = λ place i some. kept.chests_inside place i (sym (ap is_some (same (place, i))) ∙ some);
         own = kept.own;
         chests_are = λ place i lt. ap is_some (same (place, i)) ∙ kept.chests_are place i lt;
       },

@@ -16,7 +16,8 @@ use Rattle.mc_land.specs.Places.{Place, Key, place_cmp, key_cmp}
 use Rattle.mc_land.specs.Land.{LandValue, terrain_at, state_at, edited, chests_after}
 use Rattle.mc_land.specs.Kept.{kept_edits, IsApart}
 use Rattle.mc_land.specs.KeptLand.{Columns, placed, present_states, settled_states, IsFresh, IsIndexed, IsOwn, IsPut}
-use Rattle.mc_land.specs.Ready.{ReadyValue, set_cell, set_at}
+use Rattle.mc_land.specs.Ready.{ReadyValue, set_cell}
+use Rattle.mc_land.specs.ReadyCode.{set_at}
 use Rattle.mc_land.proofs.Orders.{places_total, exact_places, keys_total, exact_keys}
 use Rattle.mc_land.proofs.LandFacts.{Puts, set_edits}
 use Rattle.mc_land.proofs.KeptLandFacts.{apart, find_map}
@@ -107,7 +108,7 @@ placed_map f [] keeps = refl
 placed_map f (x ∷ xs) keeps = rw (keeps x, placed_map f xs keeps) refl
 
 -- a column that is found is of its place
-found_place : (q : Place) (columns : List ReadyValue) (ready : ReadyValue) → find place_cmp q (placed columns) ≡ Some ready → ready.place ≡ q
+pub found_place : (q : Place) (columns : List ReadyValue) (ready : ReadyValue) → find place_cmp q (placed columns) ≡ Some ready → ready.place ≡ q
 found_place q [] ready e = absurd cc
 found_place q (x ∷ xs) ready e =
     elim (eq_by_cmp place_cmp q x.place) as (λ b. eq_by_cmp place_cmp q x.place ≡ b → cond b (Some x) (find place_cmp q (placed xs)) ≡ Some ready → ready.place ≡ q) [
@@ -199,7 +200,7 @@ own_set terrain columns place i state q r own e = by (find place_cmp q (placed c
 
     kept : (s : ReadyValue) → IsOwn terrain q s → IsOwn terrain q (set_at place i state s)
     kept s o = elim (eq_by_cmp place_cmp s.place place) as (λ b. IsOwn terrain q (cond b (set_cell s i state) s)) [
-      | true ↦ record { inside = o.inside; present_sizes = record { states_are = length-set s.present.states i state ∙ o.present_sizes.states_are; biomes_are = o.present_sizes.biomes_are }; settled_sizes = o.settled_sizes; biomes = o.biomes }
+      | true ↦ record { inside = o.inside; terrain_is = o.terrain_is; present_sizes = record { states_are = length-set s.present.states i state ∙ o.present_sizes.states_are; biomes_are = o.present_sizes.biomes_are }; settled_sizes = o.settled_sizes; biomes = o.biomes }
       | false ↦ o
     ]
 

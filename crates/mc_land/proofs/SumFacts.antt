@@ -1,64 +1,26 @@
 -- Sums over a land that is kept: what its edits and its chests come to.
-use Rattle.std.proofs.Common.{◌≡◌, ℕ, zero, suc, ◌+◌, ◌≤◌, Bool, true, false, cond, ◌&&◌, List, [], ◌∷◌, ◌++◌, map, length, get_or, Option, None, refl, sym, ap, ◌∙◌, arith}
+use Rattle.std.proofs.Common.{◌≡◌, ℕ, zero, suc, ◌+◌, ◌<◌, nat_lt, eqb, not, Bool, true, false, cond, ◌&&◌, List, [], ◌∷◌, ◌++◌, map, length, get_or, Option, Some, None, IsSome, refl, sym, ap, ◌∙◌, arith}
+use Rattle.std.proofs.lemmas.Bool.{true≢false, ltb-true, eq-eqb}
 use Rattle.std.specs.declared.cmp.Ordering.TheVariants.{Less}
 use Rattle.std.specs.List.{filter, range_with_len, sum_by, AllByRecursion}
 use Rattle.std.specs.List.Sorted.{IsStrictlySortedBy}
 use Rattle.std.specs.Prelude.{T}
-use mir.Val.{bool_byte}
 use Rattle.std.specs.Option.{is_some, option_or}
-use Rattle.std.specs.FinMap.{find, len, entries, entries_sorted, get-entries, contains_key, from_entries, get-from_entries, len-insert, len-empty}
+use Rattle.std.specs.FinMap.{find, get, len, entries, entries_sorted, get-entries, contains_key, from_entries, get-from_entries, len-insert, len-empty}
 use Rattle.std.specs.FinMap.Entries.{same_entries, is_sorted, below_all}
-use Rattle.std.proofs.lemmas.List.{length-map}
 use Rattle.std.proofs.Common.{length-append}
 use Rattle.std.proofs.lemmas.List.Sums.{sum_by-cons}
 use Rattle.mc_column.specs.Sizes.{cells}
 use Rattle.mc_land.specs.declared.terrain.Terrain.{Terrain}
-use Rattle.mc_land.specs.Places.{Place, Key, key_cmp}
+use Rattle.mc_land.specs.Places.{Place, Key, place_cmp, key_cmp}
 use Rattle.mc_land.specs.Kept.{is_changed, changes, kept_edits, IsApart}
-use Rattle.mc_land.specs.KeptLand.{Chests, placed, present_states, IsIndexed, IsKeptLand}
+use Rattle.mc_land.specs.KeptLand.{Chests, Columns, placed, present_states, kept_land, IsIndexed, IsKeptLand}
 use Rattle.mc_land.specs.Ready.{ReadyValue}
-use Rattle.mc_land.specs.Sums.{changes_in, AreInside}
+use Rattle.mc_land.specs.Sums.{changes_in}
+use Rattle.mc_land.specs.Land.{is_chest, state_at, terrain_at}
 use Rattle.mc_land.proofs.Orders.{keys_total, exact_keys}
 use Rattle.mc_land.proofs.KeptLandFacts.{apart, found_indexed}
-use Rattle.mc_land.proofs.EditsFacts.{find_append, listed, all_changes, found_none, found_of_none}
-
--- one more number is tested
-count_more : (p : ℕ → Bool) (a n : ℕ) → length (filter p (range_with_len a (suc n))) ≡ length (filter p (range_with_len a n)) + cond (p (a + n)) 1 0
-count_more p a zero = omega (arith, first (p a) ∙ ap (λ (k : ℕ). cond (p k) 1 0) (same a))
-  where
-    first : (b : Bool) → length (cond b (a ∷ []) []) ≡ cond b 1 0
-    first true = refl
-    first false = refl
-
-    same : (a : ℕ) → a ≡ a + 0
-    same a = omega arith
-count_more p a (suc n) =
-    let next : length (filter p (range_with_len (a + 1) (suc n))) ≡ length (filter p (range_with_len (a + 1) n)) + cond (p (a + suc n)) 1 0 = count_more p (a + 1) n ∙ ap (λ (k : ℕ). length (filter p (range_with_len (a + 1) n)) + cond (p k) 1 0) (omega arith) in
-    elim (p a) as (λ b. length (cond b (a ∷ filter p (range_with_len (a + 1) (suc n))) (filter p (range_with_len (a + 1) (suc n)))) ≡ length (cond b (a ∷ filter p (range_with_len (a + 1) n)) (filter p (range_with_len (a + 1) n))) + cond (p (a + suc n)) 1 0) [
-      | true ↦ omega (arith, next)
-      | false ↦ next
-    ]
-
-pub count_next : (p : ℕ → Bool) (n : ℕ) → length (filter p (range_with_len 0 (n + 1))) ≡ length (filter p (range_with_len 0 n)) + cond (p n) 1 0
-count_next p n = ap (λ (k : ℕ). length (filter p (range_with_len 0 k))) (next n) ∙ count_more p 0 n ∙ ap (λ (k : ℕ). length (filter p (range_with_len 0 n)) + cond (p k) 1 0) (omega arith)
-  where
-    next : (n : ℕ) → n + 1 ≡ suc n
-    next n = omega arith
-
-pub as_one : (b : Bool) → bool_byte b ≡ cond b 1 0
-as_one true = refl
-as_one false = refl
-
--- a count and one more
-pub counted : (total one old new : ℕ) (b : Bool) (i : ℕ) → total ≡ old → one ≡ cond b 1 0 → new ≡ old + cond b 1 0 → total ≤ i → (total + one ≡ new) × (total + one ≤ i + 1)
-counted total one old new true i e f g le = (omega (arith, e, f, g), omega (arith, e, f, g, le))
-counted total one old new false i e f g le = (omega (arith, e, f, g), omega (arith, e, f, g, le))
-
--- all cells are counted
-pub counted_all : (terrain : Terrain) (place : Place) (states : List ℕ) (total i : ℕ) → total ≡ length (filter (is_changed terrain place states) (range_with_len 0 i)) → i ≡ cells → total ≡ length (changes terrain place states)
-counted_all terrain place states total i e all =
-    e ∙ ap (λ (n : ℕ). length (filter (is_changed terrain place states) (range_with_len 0 n))) all
-    ∙ sym (length-map (filter (is_changed terrain place states) (range_with_len 0 cells)) (λ j. ((place, j), get_or states j 0)))
+use Rattle.mc_land.proofs.EditsFacts.{find_append, listed, all_changes, changed_at, found_none, found_of_none, get_kept}
 
 -- ---- edits
 
@@ -90,21 +52,56 @@ once_all : (terrain : Terrain) (columns : List (Place × List ℕ)) → IsApart 
 once_all terrain [] is = tt
 once_all terrain (e ∷ es) is = once_front e.0 (is_changed terrain e.0 e.1) (λ j. get_or e.1 j 0) 0 cells (all_changes terrain es) (λ i. found_of_none terrain e.0 i es is.0) (once_all terrain es is.1)
 
-length_all : (terrain : Terrain) (columns : List ReadyValue) → length (all_changes terrain (present_states (placed columns))) ≡ sum_by (changes_in terrain) columns
-length_all terrain [] = refl
-length_all terrain (r ∷ rs) =
+-- each column is of one terrain
+abbrev AreOf : Terrain → List ReadyValue → Type 0
+AreOf terrain columns = (i : ℕ) (d : ReadyValue) → i < length columns → (get_or columns i d).terrain ≡ terrain
+
+length_all : (terrain : Terrain) (columns : List ReadyValue) → AreOf terrain columns → length (all_changes terrain (present_states (placed columns))) ≡ sum_by changes_in columns
+length_all terrain [] are = refl
+length_all terrain (r ∷ rs) are =
     length-append (changes terrain r.place r.present.states) (all_changes terrain (present_states (placed rs)))
-    ∙ ap (λ (n : ℕ). changes_in terrain r + n) (length_all terrain rs)
-    ∙ sym (sum_by-cons (changes_in terrain) r rs)
+    ∙ ap (λ (n : ℕ). length (changes terrain r.place r.present.states) + n) (length_all terrain rs (λ i d lt. are (suc i) d (omega arith)))
+    ∙ ap (λ (t : Terrain). length (changes t r.place r.present.states) + sum_by changes_in rs) (sym (are 0 r (omega arith)))
+    ∙ sym (sum_by-cons changes_in r rs)
+
+-- each kept column is of the land's terrain
+are_of : (terrain : Terrain) (columns : List ReadyValue) (chests : Chests) (index : List (Place × ℕ)) → IsKeptLand terrain (placed columns) chests → IsIndexed columns index → AreOf terrain columns
+are_of terrain columns chests index kept is i d lt = (kept.own (get_or columns i d).place (get_or columns i d) (found_indexed (get_or columns i d).place columns index i d is (is.indexed i d lt))).terrain_is
 
 -- the edits are as many as the changed cells of all columns
-pub edits_len : (terrain : Terrain) (columns : List ReadyValue) (chests : Chests) → IsKeptLand terrain (placed columns) chests → sum_by (changes_in terrain) columns ≡ len (kept_edits terrain (present_states (placed columns)))
-edits_len terrain columns chests kept =
-    sym (once_len (all_changes terrain (present_states (placed columns))) (once_all terrain (present_states (placed columns)) (apart (λ r. r.present.states) (placed columns) kept.columns_apart)) ∙ length_all terrain columns)
+pub edits_len : (terrain : Terrain) (columns : List ReadyValue) (chests : Chests) (index : List (Place × ℕ)) → IsKeptLand terrain (placed columns) chests → IsIndexed columns index → sum_by changes_in columns ≡ len (kept_edits terrain (present_states (placed columns)))
+edits_len terrain columns chests index kept is =
+    sym (once_len (all_changes terrain (present_states (placed columns))) (once_all terrain (present_states (placed columns)) (apart (λ r. r.present.states) (placed columns) kept.columns_apart)) ∙ length_all terrain columns (are_of terrain columns chests index kept is))
 
--- each kept column is inside
-pub are_inside : (terrain : Terrain) (columns : List ReadyValue) (chests : Chests) (index : List (Place × ℕ)) → IsKeptLand terrain (placed columns) chests → IsIndexed columns index → AreInside columns
-are_inside terrain columns chests index kept is = λ i d lt. (kept.own (get_or columns i d).place (get_or columns i d) (found_indexed (get_or columns i d).place columns index i d is (is.indexed i d lt))).inside
+-- an edit is a cell of its column, and not the terrain's
+pub edit_is : (terrain : Terrain) (columns : Columns) (chests : Chests) (key : Key) (state : ℕ) → IsKeptLand terrain columns chests → get (kept_edits terrain (present_states columns)) key ≡ Some state → (key.1 < cells) × (state ≡ terrain_at terrain key → ⊥)
+edit_is terrain columns chests key state kept e = of (find place_cmp key.0 (present_states columns)) (sym (get_kept terrain (present_states columns) key.0 key.1 (apart (λ r. r.present.states) columns kept.columns_apart)) ∙ e)
+  where
+    some_is : (a b : ℕ) → Some a ≡ Some b → a ≡ b
+    some_is a b e = cc
+
+    of : (o : Option (List ℕ)) → changed_at terrain key.0 key.1 o ≡ Some state → (key.1 < cells) × (state ≡ terrain_at terrain key → ⊥)
+    of None h = absurd cc
+    of (Some states) h = by (nat_lt key.1 cells) refl (eqb (get_or states key.1 0) (terrain_at terrain key)) refl h
+      where
+        by : (a : Bool) → nat_lt key.1 cells ≡ a → (b : Bool) → eqb (get_or states key.1 0) (terrain_at terrain key) ≡ b → cond (a && not b) (Some (get_or states key.1 0)) None ≡ Some state → (key.1 < cells) × (state ≡ terrain_at terrain key → ⊥)
+        by false ta b tb h = absurd cc
+        by true ta true tb h = absurd cc
+        by true ta false tb h = (ltb-true key.1 cells ta, λ same. true≢false (sym (eq-eqb (get_or states key.1 0) (terrain_at terrain key) (some_is (get_or states key.1 0) state h ∙ same)) ∙ tb))
+
+pub edit_inside : (terrain : Terrain) (columns : Columns) (chests : Chests) (key : Key) → IsKeptLand terrain columns chests → IsSome (get (kept_edits terrain (present_states columns)) key) → key.1 < cells
+edit_inside terrain columns chests key kept some = of (get (kept_edits terrain (present_states columns)) key) refl some
+  where
+    of : (o : Option ℕ) → get (kept_edits terrain (present_states columns)) key ≡ o → IsSome o → key.1 < cells
+    of None e s = absurd cc
+    of (Some state) e s = (edit_is terrain columns chests key state kept e).0
+
+-- a chest is a cell of its column, and its id is a chest's
+pub chest_inside : (terrain : Terrain) (columns : Columns) (chests : Chests) (key : Key) → IsKeptLand terrain columns chests → IsSome (get (kept_land terrain columns chests).chests key) → key.1 < cells
+chest_inside terrain columns chests key kept some = kept.chests_inside key.0 key.1 (ap is_some (sym (get-from_entries keys_total chests key)) ∙ some)
+
+pub chest_is : (terrain : Terrain) (columns : Columns) (chests : Chests) (key : Key) → IsKeptLand terrain columns chests → IsSome (get (kept_land terrain columns chests).chests key) → is_chest (state_at terrain (kept_land terrain columns chests).edits key) ≡ true
+chest_is terrain columns chests key kept some = sym (kept.chests_are key.0 key.1 (chest_inside terrain columns chests key kept some)) ∙ ap is_some (sym (get-from_entries keys_total chests key)) ∙ some
 
 -- ---- chests
 

@@ -1,10 +1,10 @@
 -- Where a cell stands among the touched ones.
-use Rattle.std.proofs.Common.{◌≡◌, ℕ, zero, suc, ◌+◌, ◌-◌, ◌<◌, ◌≤◌, nat_lt, Bool, true, false, eqb, List, [], ◌∷◌, ◌++◌, length, get_or, refl, sym, ap, ◌∙◌, arith, inl, inr}
+use Rattle.std.proofs.Common.{◌≡◌, ℕ, zero, suc, ◌+◌, ◌-◌, ◌<◌, ◌≤◌, nat_lt, Bool, true, false, not, eqb, List, [], ◌∷◌, ◌++◌, length, get_or, refl, sym, subst, ap, ◌∙◌, arith, inl, inr}
 use Rattle.std.proofs.lemmas.Bool.{cases_eq, cases_lt, lt-ltb, le-ltb, ltb-true, eq-eqb, ne_eqb, true≢false}
 use Rattle.std.proofs.lemmas.List.{length-append, get_or_append_left, get_or-append_right}
 use Rattle.std.specs.List.Sorted.{IsPartitionPoint, IsPartitionedBy}
 use Rattle.mc_land.specs.declared.ready.Touched.{Touched}
-use Rattle.mc_land.specs.Ready.{one_if, IsAround, is_at}
+use Rattle.mc_land.specs.ReadyCode.{one_if, IsAround, is_at}
 use Rattle.std.specs.List.{insert, remove}
 
 -- which of them have a lower index
@@ -113,6 +113,71 @@ touch_none touched low high known cell r le point fails around =
     let place = rank_low touched low high known cell r around le point in
     let unknown : known ≡ false = sym (known_at touched low high known cell around) ∙ ap (λ (k : ℕ). is_at touched k cell.index) (sym place) ∙ fails in
     around.parts ∙ rw unknown refl
+
+-- the cell that stands there is the one
+in_middle : (low high : List Touched) (cell d : Touched) → get_or (low ++ (cell ∷ high)) (length low) d ≡ cell
+in_middle [] high cell d = refl
+in_middle (x ∷ low) high cell d = in_middle low high cell d
+
+pub touch_here : (touched low high : List Touched) (known : Bool) (cell d : Touched) (r : ℕ) → r ≤ length touched → IsPartitionPoint (λ other. is_low cell other ≡ true) (λ other. is_low cell other ≡ false) touched r → is_at touched r cell.index ≡ true → IsAround touched low high known cell → get_or touched r d ≡ cell
+touch_here touched low high known cell d r le point passes around =
+    let place = rank_low touched low high known cell r around le point in
+    rw (touch_keep touched low high known cell r le point passes around, place) (in_middle low high cell d)
+
+-- one that is not there is not known
+pub touch_unknown : (touched low high : List Touched) (known : Bool) (cell : Touched) (r : ℕ) → r ≤ length touched → IsPartitionPoint (λ other. is_low cell other ≡ true) (λ other. is_low cell other ≡ false) touched r → is_at touched r cell.index ≡ false → IsAround touched low high known cell → known ≡ false
+touch_unknown touched low high known cell r le point fails around =
+    let place = rank_low touched low high known cell r around le point in
+    sym (known_at touched low high known cell around) ∙ ap (λ (k : ℕ). is_at touched k cell.index) (sym place) ∙ fails
+
+-- a cell is what its index and its state say
+pub same_touched : (cell : Touched) (index was : ℕ) → cell.index ≡ index → cell.was ≡ was → cell ≡ record { index = index; was = was }
+same_touched cell index was e f i = record { index = e i; was = f i }
+
+-- where the list of touched cells ends below an index
+abbrev pub EndsBelow : List Touched → ℕ → ℕ → Type 0
+EndsBelow touched index r = IsPartitionPoint (λ other. nat_lt other.index index ≡ true) (λ other. nat_lt other.index index ≡ false) touched r
+
+-- the states that differ, and the cell that stands for it
+abbrev pub AreAccounted : List Touched → List Touched → ℕ → ℕ → ℕ → Type 0
+AreAccounted touched new index old state = (low high : List Touched) (known : Bool) (cell : Touched) → IsAround touched low high known cell → cell.index ≡ index → (known ≡ false → cell.was ≡ old) → new ≡ low ++ (one_if (not (eqb cell.was state)) cell ++ high)
+
+-- a touched cell that is as it was is taken away
+pub account_gone : (touched new : List Touched) (index old state r : ℕ) (d : Touched) → r ≤ length touched → EndsBelow touched index r → is_at touched r index ≡ true → (get_or touched r d).was ≡ state → new ≡ remove touched r → AreAccounted touched new index old state
+account_gone touched new index old state r d le point passes back is low high known cell around e was =
+    let point' : EndsBelow touched cell.index r = subst (λ (n : ℕ). EndsBelow touched n r) (sym e) point in
+    let passes' : is_at touched r cell.index ≡ true = rw e passes in
+    let there : get_or touched r d ≡ cell = touch_here touched low high known cell d r le point' passes' around in
+    let same : eqb cell.was state ≡ true = eq-eqb cell.was state (ap (λ (t : Touched). t.was) (sym there) ∙ back) in
+    rw same (touch_gone touched low high new known cell r le point' passes' is around)
+
+-- one that is not stays
+pub account_kept : (touched : List Touched) (index old state r : ℕ) (d : Touched) → r ≤ length touched → EndsBelow touched index r → is_at touched r index ≡ true → ((get_or touched r d).was ≡ state → ⊥) → AreAccounted touched touched index old state
+account_kept touched index old state r d le point passes differs low high known cell around e was =
+    let point' : EndsBelow touched cell.index r = subst (λ (n : ℕ). EndsBelow touched n r) (sym e) point in
+    let passes' : is_at touched r cell.index ≡ true = rw e passes in
+    let there : get_or touched r d ≡ cell = touch_here touched low high known cell d r le point' passes' around in
+    let other : eqb cell.was state ≡ false = ne_eqb cell.was state (λ h. differs (ap (λ (t : Touched). t.was) there ∙ h)) in
+    rw other (touch_keep touched low high known cell r le point' passes' around)
+
+-- a cell that was not touched and changes is put there
+pub account_new : (touched new : List Touched) (index old state r : ℕ) → r ≤ length touched → EndsBelow touched index r → is_at touched r index ≡ false → (old ≡ state → ⊥) → new ≡ insert touched r (record { index = index; was = old }) → AreAccounted touched new index old state
+account_new touched new index old state r le point fails differs is low high known cell around e was =
+    let point' : EndsBelow touched cell.index r = subst (λ (n : ℕ). EndsBelow touched n r) (sym e) point in
+    let fails' : is_at touched r cell.index ≡ false = rw e fails in
+    let was' : cell.was ≡ old = was (touch_unknown touched low high known cell r le point' fails' around) in
+    let cell' : cell ≡ record { index = index; was = old } = same_touched cell index old e was' in
+    let other : eqb cell.was state ≡ false = ne_eqb cell.was state (λ h. differs (sym was' ∙ h)) in
+    rw other (touch_add touched low high new known cell r le point' fails' (is ∙ ap (insert touched r) (sym cell')) around)
+
+-- one that does not change is not
+pub account_none : (touched : List Touched) (index old state r : ℕ) → r ≤ length touched → EndsBelow touched index r → is_at touched r index ≡ false → old ≡ state → AreAccounted touched touched index old state
+account_none touched index old state r le point fails same low high known cell around e was =
+    let point' : EndsBelow touched cell.index r = subst (λ (n : ℕ). EndsBelow touched n r) (sym e) point in
+    let fails' : is_at touched r cell.index ≡ false = rw e fails in
+    let was' : cell.was ≡ old = was (touch_unknown touched low high known cell r le point' fails' around) in
+    let alike : eqb cell.was state ≡ true = eq-eqb cell.was state (was' ∙ same) in
+    rw alike (touch_none touched low high known cell r le point' fails' around)
 
 -- a place where a touched cell stands is one of theirs
 pub is_at_within : (touched : List Touched) (at index : ℕ) → is_at touched at index ≡ true → at < length touched

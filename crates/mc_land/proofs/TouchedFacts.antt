@@ -1,17 +1,23 @@
 -- The touched cells of a column, around one cell.
-use Rattle.std.proofs.Common.{◌≡◌, ℕ, zero, suc, ◌+◌, ◌-◌, ◌<◌, ◌≤◌, nat_lt, Bool, true, false, cond, not, eqb, List, [], ◌∷◌, ◌++◌, length, map, get_or, set, refl, sym, ap, ◌∙◌, arith, inl, inr}
-use Rattle.std.proofs.lemmas.Bool.{cases_eq, eq-eqb, eqb-true}
-use Rattle.std.proofs.lemmas.List.{get_or-set_same, get_or-set_other, map-append, ext_get_or, nil_from_length, length-set}
+use Rattle.std.proofs.Common.{◌≡◌, ℕ, zero, suc, ◌+◌, ◌-◌, ◌<◌, ◌≤◌, ◌&&◌, nat_lt, nat_le, Bool, true, false, cond, not, eqb, List, [], ◌∷◌, ◌++◌, length, map, get_or, set, refl, sym, ap, ◌∙◌, arith, inl, inr}
+use Rattle.std.proofs.lemmas.Bool.{cases_eq, cases_lt, eq-eqb, eqb-true, lt-ltb, le-ltb, le-leb, lt-leb}
+use Rattle.std.proofs.lemmas.List.{get_or-set_same, get_or-set_other, map-append, ext_get_or, length-map, length-set}
 use Rattle.std.proofs.lemmas.List.Elements.{filter-append}
 use Rattle.std.specs.List.{filter, range_with_len}
-use Rattle.mc_column.specs.Sizes.{cells, cells-is}
+use Rattle.mc_column.specs.Sizes.{cells, squares, cells-is}
 use Rattle.mc_land.specs.declared.ready.Touched.{Touched}
-use Rattle.mc_land.specs.Ready.{IsAround, one_if, has_changed, touched_cell, touched_cells, settled_ready}
-use Rattle.mc_land.specs.Places.{Place}
-use Rattle.mc_land.specs.KeptReady.{kept_ready, IsKeptReady}
+use Rattle.mc_land.specs.ReadyCode.{IsAround}
+use Rattle.mc_land.specs.Ready.{has_changed, set_cell, settled_ready, touched_cell, touched_cells}
+use Rattle.mc_land.specs.Grown.{own_column}
+use Rattle.std.proofs.lemmas.List.FromFn.{get_or-map-range_with_len, length-map-range_with_len}
+use Rattle.mc_land.specs.Places.{Place, IsPlace}
+use Rattle.mc_land.specs.KeptReady.{bit_of, kept_ready, put_back, IsKeptReady}
+use Rattle.mc_land.specs.Kept.{changes, is_changed}
+use Rattle.mc_land.specs.Land.{terrain_at}
+use Rattle.mc_land.specs.declared.terrain.Terrain.{Terrain}
 use Rattle.mc_column.specs.Cells.{ColumnValue, with_state, cell_index}
 use Rattle.std.specs.List.Sorted.{IsPartitionedBy}
-use Rattle.mc_land.proofs.TouchFacts.{around_sorted}
+use Rattle.mc_land.proofs.TouchFacts.{AreAccounted, around_sorted}
 
 -- a range is what comes before one of its numbers, that number, and what comes after it
 range_parts : (a n i : ℕ) → i < n → range_with_len a n ≡ range_with_len a i ++ ((a + i) ∷ range_with_len (a + i + 1) (n - i - 1))
@@ -93,14 +99,52 @@ untouched_same was now len len' none = ext_get_or 0 was now (len ∙ sym len') (
           | false ↦ λ differs h. absurd cc
         ] refl e
 
--- a column without a touched cell is settled as it is
-pub settled_kept : (place : Place) (present settled : ColumnValue) (touched : List Touched) → IsKeptReady present settled touched → length touched ≡ 0 → kept_ready place present settled ≡ settled_ready (kept_ready place present settled)
-settled_kept place present settled touched kept none =
-    let states : settled.states ≡ present.states = untouched_same settled.states present.states kept.settled_sizes.states_are kept.present_sizes.states_are (sym kept.touched_are ∙ nil_from_length touched none) in
-    ap (kept_ready place present) (same settled present states kept.biomes)
+-- ---- what touched cells had is put back
+
+length-put_back : (touched : List Touched) (states : List ℕ) → length (put_back touched states) ≡ length states
+length-put_back [] states = refl
+length-put_back (cell ∷ cells') states = length-set (put_back cells' states) cell.index cell.was ∙ length-put_back cells' states
+
+-- at a cell of a range it has what it had, and elsewhere what it has
+back_at : (was now : List ℕ) (a n j : ℕ) → a + n ≤ length now → get_or (put_back (map (touched_cell was) (filter (has_changed was now) (range_with_len a n))) now) j 0 ≡ cond (nat_le a j && nat_lt j (a + n)) (get_or was j 0) (get_or now j 0)
+back_at was now a zero j le =
+    elim (cases_lt j a) [
+      | inl below ↦ rw (lt-leb a j below) refl
+      | inr above' ↦ rw (le-leb a j above', le-ltb j (a + 0) (omega arith)) refl
+    ]
+back_at was now a (suc n) j le =
+    let later' = map (touched_cell was) (filter (has_changed was now) (range_with_len (a + 1) n)) in
+    let rest = back_at was now (a + 1) n j (omega arith) in
+    let len = length-put_back (map (touched_cell was) (filter (has_changed was now) (range_with_len (a + 1) n))) now in
+    elim (eqb (get_or was a 0) (get_or now a 0)) as (λ b. eqb (get_or was a 0) (get_or now a 0) ≡ b → get_or (put_back (map (touched_cell was) (cond (not b) (a ∷ filter (has_changed was now) (range_with_len (a + 1) n)) (filter (has_changed was now) (range_with_len (a + 1) n)))) now) j 0 ≡ cond (nat_le a j && nat_lt j (a + suc n)) (get_or was j 0) (get_or now j 0)) [
+      | true ↦ λ same. elim (cases_eq j a) [
+        | inl e ↦ rest ∙ rw (e, lt-leb (a + 1) a (omega arith), le-leb a a (omega arith), lt-ltb a (a + suc n) (omega arith)) (sym (eqb-true (get_or was a 0) (get_or now a 0) same))
+        | inr ne ↦ rest ∙ ap (λ (b : Bool). cond b (get_or was j 0) (get_or now j 0)) (same_range a n j ne)
+      ]
+      | false ↦ λ other. elim (cases_eq j a) [
+        | inl e ↦ rw (e, le-leb a a (omega arith), lt-ltb a (a + suc n) (omega arith)) (get_or-set_same (put_back (map (touched_cell was) (filter (has_changed was now) (range_with_len (a + 1) n))) now) a (get_or was a 0) 0 (omega (arith, len)))
+        | inr ne ↦ get_or-set_other (put_back (map (touched_cell was) (filter (has_changed was now) (range_with_len (a + 1) n))) now) a j (get_or was a 0) 0 ne ∙ rest ∙ ap (λ (b : Bool). cond b (get_or was j 0) (get_or now j 0)) (same_range a n j ne)
+      ]
+    ] refl
   where
-    same : (a b : ColumnValue) → a.states ≡ b.states → a.biomes ≡ b.biomes → a ≡ b
-    same a b e f i = record { states = e i; biomes = f i }
+    same_range : (a n j : ℕ) → (j ≡ a → ⊥) → (nat_le (a + 1) j && nat_lt j (a + 1 + n)) ≡ (nat_le a j && nat_lt j (a + suc n))
+    same_range a n j ne =
+        let end : a + 1 + n ≡ a + suc n = omega arith in
+        elim (cases_lt j a) [
+          | inl below ↦ rw (lt-leb (a + 1) j (omega arith), lt-leb a j below) refl
+          | inr le ↦ rw (le-leb (a + 1) j (omega arith), le-leb a j le, end) refl
+        ]
+
+-- the states that a column had are those that it has, with the touched cells put back
+pub back_again : (was now : List ℕ) → length was ≡ cells → length now ≡ cells → put_back (touched_cells was now) now ≡ was
+back_again was now len len' =
+    ext_get_or 0 (put_back (touched_cells was now) now) was (length-put_back (touched_cells was now) now ∙ len' ∙ sym len) (λ j lt.
+    let inside : j < cells = omega (arith, lt, length-put_back (touched_cells was now) now, len') in
+    back_at was now 0 cells j (omega (arith, len')) ∙ rw (le-leb 0 j (omega arith), lt-ltb j (0 + cells) (omega (arith, inside))) refl)
+
+-- the touched cells of what is put back, for any cells
+pub back_touched : (touched : List Touched) (now : List ℕ) → length now ≡ cells → length (put_back touched now) ≡ cells
+back_touched touched now len = length-put_back touched now ∙ len
 
 abbrev later : (ℕ → Bool) → List ℕ → ℕ → ℕ → List Touched
 later test was a n = map (touched_cell was) (filter test (range_with_len (a + 1) n))
@@ -133,18 +177,124 @@ pub sorted_at : (was now : List ℕ) (touched : List Touched) (i j : ℕ) → i 
 sorted_at was now touched i j lt are e =
     rw (are, e) (around_sorted (touched_cells was now) (below (has_changed was now) was i) (above (has_changed was now) was i) (has_changed was now i) (touched_cell was i) (stand_around was now i lt))
 
-pub kept_set : (present settled new : ColumnValue) (touched before after : List Touched) (cell : Touched) (differs : Bool) (i state : ℕ) → IsKeptReady present settled touched → i < cells → new ≡ with_state present i state → before ≡ touched → cell ≡ touched_cell settled.states i → differs ≡ not (eqb (get_or settled.states i 0) state) → ((low high : List Touched) (known : Bool) → IsAround before low high known cell → after ≡ low ++ (one_if differs cell ++ high)) → IsKeptReady new settled after
-kept_set present settled new touched before after cell differs i state kept lt is same here test does =
-    let within : i < length present.states = omega (arith, kept.present_sizes.states_are) in
-    let was = settled.states in
-    let now = present.states in
-    let around : IsAround before (below (has_changed was now) was i) (above (has_changed was now) was i) (has_changed was now i) cell = rw (same, kept.touched_are, here) (stand_around was now i lt) in
-    record {
-      present_sizes = rw is (record { states_are = length-set present.states i state ∙ kept.present_sizes.states_are; biomes_are = kept.present_sizes.biomes_are });
-      settled_sizes = kept.settled_sizes;
-      biomes = rw is kept.biomes;
-      touched_are = does (below (has_changed was now) was i) (above (has_changed was now) was i) (has_changed was now i) around ∙ rw (is, test, here) (sym (touched_set was now i state lt within));
-    }
+-- what a ready column is after a cell was set and accounted for
+pub kept_set : (place : Place) (terrain : Terrain) (column new : ColumnValue) (touched before after : List Touched) (edits edits' : ℕ) (index old i state : ℕ) → IsKeptReady place terrain column touched edits → i < cells → new ≡ with_state column i state → before ≡ touched → index ≡ i → old ≡ get_or column.states i 0 → edits' ≡ length (changes terrain place (set column.states i state)) → AreAccounted before after index old state → IsKeptReady place terrain new after edits' × (kept_ready place terrain new after ≡ set_cell (kept_ready place terrain column touched) i state)
+kept_set place terrain column new touched before after edits edits' index old i state kept lt is same at' had count does =
+    let now = column.states in
+    let was = put_back touched column.states in
+    let now_len = kept.sizes.states_are in
+    let was_len : length (put_back touched column.states) ≡ cells = back_touched touched column.states now_len in
+    let within : i < length column.states = omega (arith, now_len) in
+    let new_len : length (set column.states i state) ≡ cells = length-set column.states i state ∙ now_len in
+    let around : IsAround before (below (has_changed was now) was i) (above (has_changed was now) was i) (has_changed was now i) (touched_cell was i) = rw (same ∙ kept.touched_are) (stand_around was now i lt) in
+    let same_before : has_changed (put_back touched column.states) column.states i ≡ false → get_or (put_back touched column.states) i 0 ≡ old = λ e. unchanged (put_back touched column.states) column.states i e ∙ sym had in
+    let after_is : after ≡ touched_cells (put_back touched column.states) (set column.states i state) = does (below (has_changed was now) was i) (above (has_changed was now) was i) (has_changed was now i) (touched_cell was i) around (sym at') same_before ∙ sym (touched_set was now i state lt within) in
+    let back : put_back after (set column.states i state) ≡ put_back touched column.states = rw after_is (back_again (put_back touched column.states) (set column.states i state) was_len new_len) in
+    rw is (
+      record {
+        inside = kept.inside;
+        sizes = record { states_are = new_len; biomes_are = kept.sizes.biomes_are };
+        touched_are = rw back after_is;
+        counted = count;
+      },
+      rw back refl,
+    )
+  where
+    unchanged : (was now : List ℕ) (i : ℕ) → has_changed was now i ≡ false → get_or was i 0 ≡ get_or now i 0
+    unchanged was now i e = eqb-true (get_or was i 0) (get_or now i 0) (turned (eqb (get_or was i 0) (get_or now i 0)) e)
+      where
+        turned : (b : Bool) → not b ≡ false → b ≡ true
+        turned true e = refl
+        turned false e = absurd cc
+
+-- ---- how many cells are not the terrain's
+
+-- a test that changes at one number counts one more or less
+pub count_set : (p q : ℕ → Bool) (a n i : ℕ) → a ≤ i → i < a + n → ((k : ℕ) → (k ≡ i → ⊥) → p k ≡ q k) → length (filter q (range_with_len a n)) + bit_of (p i) ≡ length (filter p (range_with_len a n)) + bit_of (q i)
+count_set p q a zero i le lt same = absurd (omega arith)
+count_set p q a (suc n) i le lt same =
+    elim (cases_eq i a) [
+      | inl e ↦
+          let rest : filter p (range_with_len (a + 1) n) ≡ filter q (range_with_len (a + 1) n) = filter_same p q (a + 1) n (λ k le' lt'. same k (λ h. absurd (omega arith))) in
+          rw (e, rest) (one (p a) (q a) a (filter q (range_with_len (a + 1) n)))
+      | inr ne ↦
+          let rest = count_set p q (a + 1) n i (omega arith) (omega arith) same in
+          let here : p a ≡ q a = same a (λ h. ne (sym h)) in
+          rw here (more (q a) a (filter p (range_with_len (a + 1) n)) (filter q (range_with_len (a + 1) n)) (bit_of (p i)) (bit_of (q i)) rest)
+    ]
+  where
+    one : (b d : Bool) (a : ℕ) (xs : List ℕ) → length (cond d (a ∷ xs) xs) + bit_of b ≡ length (cond b (a ∷ xs) xs) + bit_of d
+    one true true a xs = refl
+    one true false a xs = omega arith
+    one false true a xs = omega arith
+    one false false a xs = refl
+
+    more : (b : Bool) (a : ℕ) (xs ys : List ℕ) (m k : ℕ) → length ys + m ≡ length xs + k → length (cond b (a ∷ ys) ys) + m ≡ length (cond b (a ∷ xs) xs) + k
+    more true a xs ys m k e = omega (arith, e)
+    more false a xs ys m k e = e
+
+few_pass : (p : ℕ → Bool) (a n : ℕ) → length (filter p (range_with_len a n)) ≤ n
+few_pass p a zero = omega arith
+few_pass p a (suc n) = elim (p a) as (λ b. length (cond b (a ∷ filter p (range_with_len (a + 1) n)) (filter p (range_with_len (a + 1) n))) ≤ suc n) [
+  | true ↦ omega (arith, few_pass p (a + 1) n)
+  | false ↦ omega (arith, few_pass p (a + 1) n)
+]
+
+pub length-changes : (terrain : Terrain) (place : Place) (states : List ℕ) → length (changes terrain place states) ≡ length (filter (is_changed terrain place states) (range_with_len 0 cells))
+length-changes terrain place states = length-map (filter (is_changed terrain place states) (range_with_len 0 cells)) (λ j. ((place, j), get_or states j 0))
+
+-- no more cells are edits than there are
+pub few_changes : (terrain : Terrain) (place : Place) (states : List ℕ) → length (changes terrain place states) ≤ cells
+few_changes terrain place states = rw (length-changes terrain place states) (few_pass (is_changed terrain place states) 0 cells)
+
+-- the edits of a column one of whose cells was set
+pub changes_set : (terrain : Terrain) (place : Place) (states : List ℕ) (i state : ℕ) → i < cells → length states ≡ cells → length (changes terrain place (set states i state)) + bit_of (not (eqb (get_or states i 0) (terrain_at terrain (place, i)))) ≡ length (changes terrain place states) + bit_of (not (eqb state (terrain_at terrain (place, i))))
+changes_set terrain place states i state lt len =
+    let here : get_or (set states i state) i 0 ≡ state = get_or-set_same states i state 0 (omega (arith, len)) in
+    let count = count_set (is_changed terrain place states) (is_changed terrain place (set states i state)) 0 cells i (omega arith) (omega arith) (λ k ne. rw (get_or-set_other states i k state 0 ne) refl) in
+    rw (length-changes terrain place (set states i state), length-changes terrain place states) (rw here at count)
+
+-- ---- a column is made ready, or settled
+
+-- a column without touched cells is settled as it is
+pub same_ready : (place : Place) (terrain : Terrain) (column : ColumnValue) (touched : List Touched) → touched ≡ [] → kept_ready place terrain column touched ≡ record { place = place; terrain = terrain; present = column; settled = column }
+same_ready place terrain column touched none = rw none refl
+
+pub ready_settled : (place : Place) (terrain : Terrain) (column : ColumnValue) (touched none : List Touched) → none ≡ [] → kept_ready place terrain column none ≡ settled_ready (kept_ready place terrain column touched)
+ready_settled place terrain column touched none is = rw is refl
+
+pub kept_settled : (place : Place) (terrain : Terrain) (column : ColumnValue) (touched none : List Touched) (edits : ℕ) → IsKeptReady place terrain column touched edits → none ≡ [] → IsKeptReady place terrain column none edits
+kept_settled place terrain column touched none edits kept is = rw is (record { inside = kept.inside; sizes = kept.sizes; touched_are = sym (touched_none column.states); counted = kept.counted })
+
+pub kept_own : (place : Place) (terrain : Terrain) (column : ColumnValue) (touched : List Touched) → IsPlace place → column ≡ own_column terrain place → touched ≡ [] → IsKeptReady place terrain column touched 0
+kept_own place terrain column touched inside own none = rw none (record {
+  inside = inside;
+  sizes = rw own (record { states_are = length-map-range_with_len (λ i. terrain_at terrain (place, i)) 0 cells; biomes_are = length-map-range_with_len _ 0 squares });
+  touched_are = sym (touched_none column.states);
+  counted = sym (length-changes terrain place column.states ∙ nothing 0 cells (λ k le lt. rw own (eq-eqb _ _ (get_or-map-range_with_len (λ i. terrain_at terrain (place, i)) 0 cells k k 0 (omega (arith, lt)) (omega arith)))));
+})
+  where
+    nothing : (a n : ℕ) → ((k : ℕ) → a ≤ k → k < a + n → eqb (get_or column.states k 0) (terrain_at terrain (place, k)) ≡ true) → length (filter (is_changed terrain place column.states) (range_with_len a n)) ≡ 0
+    nothing a zero same = refl
+    nothing a (suc n) same = rw (same a (omega arith) (omega arith)) (nothing (a + 1) n (λ k le lt. same k (omega arith) (omega arith)))
+
+-- the count of edits after a cell was set
+pub count_after : (edits now before more less : ℕ) → edits ≡ before → now + less ≡ before + more → (edits + more - less ≡ now) × (less ≤ edits + more)
+count_after edits now before more less e f = (omega (arith, e, f), omega (arith, e, f))
+
+pub bit_at_most : (b : Bool) → bit_of b ≤ 1
+bit_at_most true = omega arith
+bit_at_most false = omega arith
+
+-- and that it can be counted so
+pub set_counts : (place : Place) (terrain : Terrain) (column : ColumnValue) (touched : List Touched) (edits i old own state more less : ℕ) → IsKeptReady place terrain column touched edits → i < cells → old ≡ get_or column.states i 0 → own ≡ terrain_at terrain (place, i) → more ≡ bit_of (not (eqb state own)) → less ≡ bit_of (not (eqb old own)) → (edits + more - less ≡ length (changes terrain place (set column.states i state))) × (less ≤ edits + more) × (edits + more ≤ 65537)
+set_counts place terrain column touched edits i old own state more less kept lt had is up down =
+    let change = changes_set terrain place column.states i state lt kept.sizes.states_are in
+    let told : length (changes terrain place (set column.states i state)) + less ≡ length (changes terrain place column.states) + more = rw (up, down, had, is) change in
+    let both = count_after edits (length (changes terrain place (set column.states i state))) (length (changes terrain place column.states)) more less kept.counted told in
+    let few = few_changes terrain place column.states in
+    let one = bit_at_most (not (eqb state own)) in
+    (both.0, both.1, omega (arith, few, one, up, kept.counted, cells-is))
 
 pub index_within : (x y z : ℕ) → x < 16 → y < 256 → z < 16 → cell_index x y z < cells
 index_within x y z a b c = rw cells-is (omega arith)

@@ -1,5 +1,5 @@
 -- How a land is kept: its ready columns in the order in which they were made, where each stands, and its chests.
-use Rattle.std.specs.Prelude.{◌≡◌, ℕ, ◌<◌, List, map, length, slice_index_or, Some, None, [], ◌∷◌, ◌++◌}
+use Rattle.std.specs.Prelude.{◌≡◌, ℕ, ◌<◌, true, List, map, length, slice_index_or, Some, None, [], ◌∷◌, ◌++◌}
 use Rattle.std.specs.Option.{is_some}
 use Rattle.std.specs.List.Sorted.{IsStrictlySortedBy}
 use Rattle.std.specs.FinMap.{find, from_entries}
@@ -11,7 +11,8 @@ use Rattle.mc_land.specs.declared.terrain.Terrain.{Terrain}
 use Rattle.mc_land.specs.Places.{Place, Key, IsPlace, place_cmp, key_cmp}
 use Rattle.mc_land.specs.Land.{LandValue, biomes_of, state_at, is_chest}
 use Rattle.mc_land.specs.Kept.{kept_edits, IsApart}
-use Rattle.mc_land.specs.Ready.{ReadyValue, set_at}
+use Rattle.mc_land.specs.Ready.{ReadyValue}
+use Rattle.mc_land.specs.ReadyCode.{set_at}
 use Rattle.mc_land.specs.Grown.{own_column}
 
 abbrev pub Columns : Type 0
@@ -49,6 +50,7 @@ kept_land terrain columns chests = record {
 -- a ready column of its place
 pub record IsOwn (terrain : Terrain) (place : Place) (ready : ReadyValue) : Type 0 where
   pub inside : IsPlace place
+  pub terrain_is : ready.terrain ≡ terrain
   pub present_sizes : HasSizes ready.present
   pub settled_sizes : HasSizes ready.settled
   pub biomes : ready.present.biomes ≡ biomes_of terrain place
@@ -57,6 +59,8 @@ pub record IsKeptLand (terrain : Terrain) (columns : Columns) (chests : Chests) 
   pub columns_apart : IsApart columns
   pub chests_ordered : IsStrictlySortedBy key_cmp (map (λ e. e.0) chests)
   pub own : (place : Place) (ready : ReadyValue) → find place_cmp place columns ≡ Some ready → IsOwn terrain place ready
+  -- a chest's cell is one of its column
+  pub chests_inside : (place : Place) (i : ℕ) → is_some (find key_cmp (place, i) chests) ≡ true → i < cells
   -- a chest stands exactly where the state is one's
   pub chests_are : (place : Place) (i : ℕ) → i < cells → is_some (find key_cmp (place, i) chests) ≡ is_chest (state_at terrain (kept_edits terrain (present_states columns)) (place, i))
 
@@ -64,6 +68,7 @@ pub record IsKeptLand (terrain : Terrain) (columns : Columns) (chests : Chests) 
 pub record IsFresh (terrain : Terrain) (place : Place) (ready : ReadyValue) : Type 0 where
   pub inside : IsPlace place
   pub at : ready.place ≡ place
+  pub terrain_is : ready.terrain ≡ terrain
   pub present_own : ready.present ≡ own_column terrain place
   pub settled_own : ready.settled ≡ own_column terrain place
 

@@ -1,5 +1,6 @@
 pub mod Chests
 pub mod Grown
+pub mod GrownCode
 pub mod Kept
 pub mod KeptLand
 pub mod KeptReady
@@ -7,5 +8,8 @@ pub mod Land
 pub mod LandCode
 pub mod Places
 pub mod Ready
+pub mod ReadyCode
+pub mod Shed
+pub mod ShedCode
 pub mod Sums
 pub mod Terrain

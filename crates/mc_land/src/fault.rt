@@ -2,8 +2,10 @@ ghost use Rattle.std.specs.Prelude.{◌≡◌};
 ghost use Rattle.mc_land.specs.declared.fault.LandFault.TheVariants as land_faults;
 
 use mc_nbt::NoMemory;
+use std::error::Error;
+use std::fmt;
 
-/// Why a cell was not set.
+/// Why a cell was not set. It is printed in plain words.
 #[derive(Clone, Copy, Debug, PartialEq, Eq)]
 pub enum LandFault {
     /// It is above or below the world, or past its border.
@@ -19,3 +21,14 @@ impl From<NoMemory> for LandFault {
         LandFault::NoMemory
     }
 }
+
+impl fmt::Display for LandFault {
+    fn fmt<W: fmt::Write>(&self, f: &mut fmt::Formatter<W>) -> fmt::Result {
+        f.write_str(match self {
+            LandFault::Outside => "the cell lies outside the world",
+            LandFault::NoMemory => "out of memory",
+        })
+    }
+}
+
+impl Error for LandFault {}

@@ -13,6 +13,7 @@ ghost use Rattle.mc_land.specs.Ready.{settled_ready};
 
 mod chests;
 mod setting;
+mod shedding;
 mod sums;
 
 use crate::growing::grow;
@@ -83,7 +84,7 @@ impl Land {
         self.state(&cell)
     }
 
-    /// The same, uncounted.
+    /// The state of a cell, without counting a step.
     fn state(&self, cell: &Cell) -> u16
         requires above { pos 0 ≤ℤ cell.now.y }
         requires below { cell.now.y <ℤ pos 256 }
@@ -107,7 +108,7 @@ impl Land {
         self.column_at(&(cx, cz))
     }
 
-    /// The same, uncounted.
+    /// The column of a place, None where it is not ready, without counting steps.
     fn column_at(&self, place: &Place) -> Option<&Column>
         ensures none { IsNone result ↔ set.contains self.now.ready place.now ≡ false }
         ensures some { IfSome result (λ column. column.now ≡ column_of self.now place.now) }
@@ -127,7 +128,7 @@ impl Land {
         self.dirty_at(&(cx, cz))
     }
 
-    /// The same, of a place.
+    /// The dirty cells of the column of a place.
     fn dirty_at(&self, place: &Place) -> &[Touched]
         ensures { result.now ≡ dirty_in self.now place.now }
     {
@@ -146,7 +147,7 @@ impl Land {
         self.ready_place(&(cx, cz))
     }
 
-    /// The same, of a place.
+    /// Makes the column of a place ready.
     fn ready_place(&mut self, place: &Place) -> Result<(), NoMemory>
         requires { IsPlace place.now }
         ensures ok { OnOk result (self.new ≡ with_ready self.old place.now) }
@@ -156,7 +157,8 @@ impl Land {
             return Ok(());
         }
         let alloc = *self.columns.allocator();
-        let ready = Ready::new(alloc, *place, grow(alloc, &self.terrain, place)?)?;
+        let column = grow(alloc, &self.terrain, place)?;
+        let ready = Ready::new(alloc, *place, self.terrain, column);
         push_ready(&mut self.columns, &mut self.index, ready)?;
         Ok(())
     }

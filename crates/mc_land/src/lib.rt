@@ -12,11 +12,9 @@ mod ready;
 mod sizes;
 mod steps;
 mod terrain;
-#[cfg(test)]
-mod tests;
 
 pub use fault::LandFault;
 pub use land::Land;
 pub use ready::Touched;
 pub use steps::Steps;
-pub use terrain::Terrain;
+pub use terrain::{Terrain, height};

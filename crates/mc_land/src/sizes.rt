@@ -16,3 +16,19 @@ pub(crate) fn cells_of_column() -> usize
 {
     65_536
 }
+
+/// How many cells a section has.
+#[inline(always)]
+pub(crate) fn cells_of_section() -> usize
+    ensures { result ≡ sizes.section_cells }
+{
+    4096
+}
+
+/// How many sections a column has.
+#[inline(always)]
+pub(crate) fn sections_of_column() -> usize
+    ensures { result ≡ sizes.section_count }
+{
+    16
+}

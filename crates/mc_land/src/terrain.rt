@@ -26,7 +26,7 @@ const GRASS: u16 = 2;
 const STONE: u16 = 1;
 
 /// The biome of plains.
-const PLAINS: u8 = 1;
+pub(crate) const PLAINS: u8 = 1;
 
 /// The biome of high hills.
 const HIGH_HILLS: u8 = 3;
@@ -40,6 +40,7 @@ impl Terrain {
     pub fn state(&self, x: i32, y: u8, z: i32) -> u16
         ensures { result ≡ terrain_state self.now x y z }
     {
+        // Only the prover needs this line: what the terrain is.
         let _terrain = *self;
         let id = match self {
             Terrain::Flat => flat_id(y),
@@ -53,6 +54,7 @@ impl Terrain {
     pub fn biome(&self, x: i32, z: i32) -> u8
         ensures { result ≡ terrain_biome self.now x z }
     {
+        // Only the prover needs this line: what the terrain is.
         let _terrain = *self;
         match self {
             Terrain::Hills(seed) => hills_biome(height(*seed, x, z)),
@@ -80,8 +82,8 @@ fn shifted(value: i32, shift: u64) -> i64
     i64::from(value) + shift as i64
 }
 
-/// How high the grass of the hills stands at a place: 40 to 54.
-pub(crate) fn height(seed: u64, x: i32, z: i32) -> u16
+/// The y at which the grass of the hills with a seed stands at x and z: 40 to 54.
+pub fn height(seed: u64, x: i32, z: i32) -> u16
     ensures is { result ≡ height seed x z }
     ensures low { 40 ≤ result }
     ensures high { result ≤ 54 }
@@ -143,7 +145,7 @@ pub(crate) fn isle_id(x: i32, y: u8, z: i32) -> u16
 }
 
 /// The biome of hills of a height.
-fn hills_biome(top: u16) -> u8
+pub(crate) fn hills_biome(top: u16) -> u8
     ensures { result ≡ hills_biome top }
 {
     if top < HIGH { PLAINS } else { HIGH_HILLS }

@@ -26,7 +26,7 @@ impl Land {
         self.chest_at(&key_of(&cell))
     }
 
-    /// The same, by its key.
+    /// The chest at a cell's key.
     fn chest_at(&self, key: &(Place, u16)) -> Option<&Chest>
         ensures piles { option_copied result ≡ get self.now.chests key.now }
         ensures there { key.now.1 < cells → is_some (get self.now.chests key.now) ≡ is_chest (state_at self.now.terrain self.now.edits key.now) }
@@ -47,7 +47,7 @@ impl Land {
         self.chest_at_mut(&key_of(&cell))
     }
 
-    /// The same, by its key.
+    /// The chest at a cell's key, to write into.
     fn chest_at_mut(&mut self, key: &(Place, u16)) -> Option<&mut Chest>
         ensures* lends { sem 𝓛 (LendsIf the_row chest_row self.entry result (with_chest self.old key.now) self.old) }
         ensures piles { option_copied_mut result ≡ get self.old.chests key.now }

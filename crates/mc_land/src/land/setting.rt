@@ -33,7 +33,7 @@ impl Land {
         self.set_cell(&cell, state)
     }
 
-    /// The same, of a cell behind a reference.
+    /// Sets a cell, or refuses one that lies outside.
     fn set_cell(&mut self, cell: &Cell, state: u16) -> Result<u16, LandFault>
         ensures outside { IsErrOf result land_faults.Outside ↔ is_inside cell.now.x cell.now.y cell.now.z ≡ false }
         ensures old { IfOk result (λ old. old ≡ block self.old cell.now.x cell.now.y cell.now.z) }
@@ -153,7 +153,8 @@ fn put_state(
         Some(i) => set_ready(columns, i, cell, state)?,
         None => {
             let alloc = *columns.allocator();
-            let mut ready = Ready::new(alloc, place, grow(alloc, terrain, &place)?)?;
+            let column = grow(alloc, terrain, &place)?;
+            let mut ready = Ready::new(alloc, place, *terrain, column);
             set_in(&mut ready, cell, state)?;
             push_ready(columns, index, ready)?;
         }

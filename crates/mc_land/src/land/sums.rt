@@ -1,34 +1,37 @@
-ghost use Rattle.std.specs.Prelude.{◌≡◌, ◌<◌, ◌≤◌, length};
+ghost use Rattle.std.specs.Prelude.{◌≡◌, ◌≢◌, ◌<◌, ◌≤◌, ℕ, true, Some, IsSome};
 ghost use Rattle.std.specs.List.{sum_by};
-ghost use Rattle.std.specs.FinMap.{len};
+ghost use Rattle.std.specs.FinMap.{get, len};
 ghost use Rattle.mc_column.specs.Sizes.{cells};
 ghost use Rattle.mc_slots.specs.Pile.{IsPile, count_of};
-ghost use Rattle.mc_slots.specs.Chest.{IsChest};
-ghost use Rattle.mc_land.specs.Kept.{changes, is_changed};
-ghost use Rattle.mc_land.specs.Land.{stored_in};
-ghost use Rattle.mc_land.specs.Places.{IsPlace};
-ghost use Rattle.mc_land.specs.Sums.{AreInside, changes_in};
+ghost use Rattle.mc_land.specs.Places.{Key};
+ghost use Rattle.mc_land.specs.Land.{is_chest, state_at, stored_in, terrain_at};
+ghost use Rattle.mc_land.specs.Sums.{changes_in};
 
 use super::Land;
-use crate::growing::block_at;
 use crate::places::Place;
 use crate::ready::Ready;
-use crate::sizes::cells_of_column;
-use crate::terrain::Terrain;
 use mc_slots::{Chest, Pile};
 use std::collections::BTreeMap;
 
 impl Land {
-    /// How many cells have a state that is not the terrain's.
+    /// How many cells have a state that is not the terrain's. It looks at no cell.
     pub fn edited(&self) -> u128
-        ensures { result ≡ len self.now.edits }
+        ensures count { result ≡ len self.now.edits }
+
+        // Each edit is a cell of its column, and not the terrain's.
+        ensures inside { (key : Key) → IsSome (get self.now.edits key) → key.1 < cells }
+        ensures differ { (key : Key) (state : ℕ) → get self.now.edits key ≡ Some state → state ≢ terrain_at self.now.terrain key }
     {
-        edited_in(&self.terrain, &self.columns)
+        edited_in(&self.columns)
     }
 
     /// How many items lie in all chests.
     pub fn stored(&self) -> u128
-        ensures { result ≡ stored_in self.now }
+        ensures items { result ≡ stored_in self.now }
+
+        // Each chest is a cell of its column, and its id is a chest's.
+        ensures inside { (key : Key) → IsSome (get self.now.chests key) → key.1 < cells }
+        ensures chests { (key : Key) → IsSome (get self.now.chests key) → is_chest (state_at self.now.terrain self.now.edits key) ≡ true }
     {
         stored_in(&self.chests)
     }
@@ -69,42 +72,13 @@ fn count_of(pile: &Pile) -> u8
     }
 }
 
-/// How many cells of columns have a state that is not the terrain's.
-fn edited_in(terrain: &Terrain, columns: &Vec<Ready>) -> u128
-    requires { AreInside columns.now.items }
-    ensures { result ≡ sum_by (changes_in terrain.now) columns.now.items }
+/// How many cells of columns have a state that is not the terrain's. It looks at no cell.
+fn edited_in(columns: &Vec<Ready>) -> u128
+    ensures { result ≡ sum_by changes_in columns.now.items }
 {
     let mut total: u128 = 0;
     for ready in columns {
-        total += edited_of(terrain, ready) as u128;
+        total += u128::from(ready.edits());
     }
     total
-}
-
-/// How many cells of a column do.
-fn edited_of(terrain: &Terrain, ready: &Ready) -> usize
-    requires { IsPlace ready.now.place }
-    ensures is { result ≡ changes_in terrain.now ready.now }
-    ensures few { result ≤ 65536 }
-{
-    let mut total = 0;
-    for i in 0..cells_of_column() {
-        total += usize::from(is_edited(terrain, ready, i));
-    }
-    total
-}
-
-/// Whether a cell of a column has a state that is not the terrain's.
-fn is_edited(terrain: &Terrain, ready: &Ready, i: usize) -> bool
-    requires place { IsPlace ready.now.place }
-    requires inside { i < cells }
-    ensures { result ≡ is_changed terrain.now ready.now.place ready.now.present.states i }
-{
-    let (x, y, z) = ((i % 16) as u8, (i / 256) as u8, (i / 16 % 16) as u8);
-    let own = terrain.state(
-        block_at(ready.place().0, i % 16),
-        y,
-        block_at(ready.place().1, i / 16 % 16),
-    );
-    ready.state(x, y, z) != own
 }

@@ -1,11 +1,8 @@
 use Rattle.std.proofs.Common.{rules, Some, ◌∙◌, sym, refl}
-use Rattle.mc_land.proofs.ChangeFacts.{own_sizes, fresh_new, ready_there}
+use Rattle.mc_land.proofs.ChangeFacts.{fresh_new, ready_there}
 use Rattle.mc_land.proofs.KeptLandFacts.{found_unindexed}
 use Rattle.mc_land.proofs.SetFacts.{set_is_map, indexed_set, put_there, put_made}
 use Rattle.mc_land.proofs.land.setting.put_state.Goals as goal
-
-pub new-requires : goal.new-requires
-new-requires c = rw c.in_ok-grow-in-None.ensures (own_sizes c.args.terrain.now c.place_of-place.result)
 
 pub returns-in_ok-set_ready-in-Some-clause-indexed : goal.returns-in_ok-set_ready-in-Some-clause-indexed
 returns-in_ok-set_ready-in-Some-clause-indexed c =
@@ -21,4 +18,4 @@ returns-in_ok-set_ready-in-Some-clause-ok c =
 pub returns-in_ok-push_ready-in-None-clause-ok : goal.returns-in_ok-push_ready-in-None-clause-ok
 returns-in_ok-push_ready-in-None-clause-ok c =
     let none = found_unindexed c.place_of-place.result c.args.columns.now.items c.args.index.now.entries c.requires.indexed (sym c.in-None.ensures) in
-    rw (← c.place_of-place.ensures) (put_made _ _ _ _ _ _ c.in_ok-ready-in-None.ready none (fresh_new _ _ _ _ (search rules) c.in_ok-grow-in-None.ensures c.in_ok-ready-in-None.ensures) (c.in_ok-push_ready-in-None.ensures.ok ∙ rw c.in_ok-set_in-in-None.ensures.ok refl))
+    rw (← c.place_of-place.ensures) (put_made _ _ _ _ _ _ c.new-ready.result none (fresh_new _ _ _ _ (search rules) c.in_ok-column-in-None.ensures c.new-ready.ensures) (c.in_ok-push_ready-in-None.ensures.ok ∙ rw c.in_ok-set_in-in-None.ensures.ok refl))

@@ -1,11 +1,8 @@
-use Rattle.std.proofs.Common.{sym, refl, ◌∙◌}
-use Rattle.mc_land.proofs.TouchedFacts.{touched_none}
+use Rattle.mc_land.proofs.TouchedFacts.{kept_own, same_ready}
 use Rattle.mc_land.proofs.ready.Ready.new.Goals as goal
 
 pub invariant_of-result : goal.invariant_of-result
-invariant_of-result c = record {
-  present_sizes = c.requires;
-  settled_sizes = rw c.in_ok-settled.ensures.equal c.requires;
-  biomes = rw c.in_ok-settled.ensures.equal refl;
-  touched_are = c.new.ensures.items ∙ rw c.in_ok-settled.ensures.equal (sym (touched_none c.args.column.states));
-}
+invariant_of-result c = kept_own c.args.place c.args.terrain c.args.column _ c.requires.inside c.requires.own c.new.ensures.items
+
+pub returns : goal.returns
+returns c = same_ready c.args.place c.args.terrain c.args.column _ c.new.ensures.items
