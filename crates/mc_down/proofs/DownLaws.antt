@@ -4,18 +4,22 @@ use lib.IntN.{ℤ, pos, negsuc}
 use Rattle.mc_nbt.specs.declared.fault.Kind.TheVariants.{BadNumber}
 use Rattle.mc_nbt.specs.Reading.{stop_at}
 use Rattle.mc_nbt.specs.Combine.{checked_ok}
-use Rattle.mc_fields.specs.Row.{append_spelling, Spells, IsTied, row_tied, family_tied, frame_read, spelled_fits, fits_spelled, spelled_again}
+use Rattle.mc_fields.specs.RowLaws.{append_spelling, row_tied, family_tied}
+use Rattle.mc_fields.specs.RowLaws.{spelled_fits, fits_spelled, spelled_again}
+use Rattle.mc_fields.specs.Row.{Spells, IsTied, frame_read}
 use Rattle.mc_down.specs.declared.down.Down.{Down}
 use Rattle.mc_down.specs.declared.down.Down.TheVariants.{KeepAlive, Raw}
-use Rattle.mc_down.specs.Down.{is_raw, raw, entry_of, later_rows, named_rows, rows, SpellsDown, FitsDown, spelling_of, append_of}
+use Rattle.mc_down.specs.Down.{is_raw, raw, entry_of, rows_from_00, rows_from_08, rows_from_13}
+use Rattle.mc_down.specs.Down.{rows_from_1B, rows_from_2E, rows_from_3A, rows, SpellsDown, FitsDown}
+use Rattle.mc_down.specs.Down.{spelling_of, append_of}
 
 tied_raw : (id : ℤ) (bytes : List ℕ) → IsTied rows (Raw id bytes)
 unfolding rows
-tied_raw (pos id) bytes given h = family_tied {P = Down} {entry_of = entry_of} is_raw (λ (n : ℕ). raw (pos n)) (λ n. refl) (λ _ _ _ s. s) named_rows id bytes given (checked_ok (is_raw id) (given, []) (bytes, []) (stop_at BadNumber given) h).0 h
+tied_raw (pos id) bytes given h = family_tied {P = Down} {entry_of = entry_of} is_raw (λ (n : ℕ). raw (pos n)) (λ n. refl) (λ _ _ _ s. s) rows_from_00 id bytes given (checked_ok (is_raw id) (given, []) (bytes, []) (stop_at BadNumber given) h).0 h
 tied_raw (negsuc n) bytes given h = absurd cc
 
 pub tied : (p : Down) → IsTied rows p
-unfolding rows named_rows later_rows
+unfolding rows rows_from_00 rows_from_08 rows_from_13 rows_from_1B rows_from_2E rows_from_3A
 tied (KeepAlive number) = row_tied (entry_of (KeepAlive number)).row (entry_of (KeepAlive number)).fields
 tied (Raw id bytes) = tied_raw id bytes
 tied p = row_tied (entry_of p).row (entry_of p).fields

@@ -4,7 +4,8 @@ use Rattle.std.specs.Str.{bytes_eq}
 use lib.IntN.{ℤ, pos, negsuc}
 use Rattle.mc_nbt.specs.Format.{Format, Anything}
 use Rattle.mc_nbt.specs.Combine.{◌then◌, IsView, via}
-use Rattle.mc_fields.specs.VarintFormat.{varint}
+use Rattle.mc_fields.specs.Flat.{tuple3}
+use Rattle.mc_fields.specs.VarintField.{var_int}
 use Rattle.mc_fields.specs.TextFormat.{text}
 use Rattle.mc_fields.specs.Integers.{ubyte, short}
 use Rattle.mc_down.specs.declared.record.Record.{Record}
@@ -39,14 +40,14 @@ speed {Rest} = via (speed_parts {Rest = Rest}) (λ speed. Unit {0}) (λ (x, (y, 
 
 -- ---- a cell of a column that changes
 
-pub record_view : (fits : ℕ × (ℕ × ℤ) → Type 0) → IsView {B = Record} fits (λ r. Unit {0}) (λ (place, (y, state)). record { place = place; y = y; state = state }) (λ r. (r.place, (r.y, r.state)))
+pub record_view : (fits : ℕ × ℕ × ℤ → Type 0) → IsView {B = Record} fits (λ r. Unit {0}) (λ (place, y, state). record { place = place; y = y; state = state }) (λ r. (r.place, r.y, r.state))
 record_view fits = record { made = λ a f. tt; again = λ a f. refl; same = λ r f. refl }
 
-abbrev pub change_parts : Format Anything (ℕ × (ℕ × ℤ))
-change_parts = ubyte then λ _. ubyte then λ _. varint
+abbrev pub change_parts : Format Anything (ℕ × ℕ × ℤ)
+change_parts = tuple3 ubyte ubyte var_int
 
 abbrev pub cell_change : Format Anything Record
-cell_change = via change_parts (λ r. Unit {0}) (λ (place, (y, state)). record { place = place; y = y; state = state }) (λ r. (r.place, (r.y, r.state))) (record_view change_parts.fits)
+cell_change = via change_parts (λ r. Unit {0}) (λ (place, y, state). record { place = place; y = y; state = state }) (λ r. (r.place, r.y, r.state)) (record_view change_parts.fits)
 
 -- ---- the kind of window that names an entity
 

@@ -1,12 +1,4 @@
 pub mod Fields
 pub mod Metadata
 pub mod PlayerChange
-pub mod Spawns
-pub mod Moves
-pub mod Entities
-pub mod World
-pub mod Windows
-pub mod PlayerState
-pub mod PlayerList
-pub mod Others
 pub mod Down

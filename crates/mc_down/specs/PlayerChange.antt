@@ -6,7 +6,7 @@ use Rattle.mc_nbt.specs.Format.{Format, IsFound, IsOnly, Anything}
 use Rattle.mc_nbt.specs.Combine.{◌then◌, IsView, via, none}
 use Rattle.mc_nbt.specs.Optional.{when}
 use Rattle.mc_nbt.specs.Variant.{choose, variant}
-use Rattle.mc_fields.specs.VarintFormat.{varint}
+use Rattle.mc_fields.specs.VarintField.{var_int}
 use Rattle.mc_fields.specs.Integers.{uuid, boolean}
 use Rattle.mc_fields.specs.Counted.{counted}
 use Rattle.mc_fields.specs.Row.{is_id}
@@ -50,7 +50,7 @@ join_back (Join name properties mode ping is_shown shown) = (name, (properties, 
 join_back other = ([], ([], (pos 0, (pos 0, (false, None)))))
 
 abbrev pub join_parts : Format Anything JoinParts
-join_parts = string then λ _. counted property then λ _. varint then λ _. varint then λ _. boolean then λ is_shown. when is_shown chat_text
+join_parts = string then λ _. counted property then λ _. var_int then λ _. var_int then λ _. boolean then λ is_shown. when is_shown chat_text
 
 abbrev pub joining : Format Anything PlayerChange
 joining = variant join_parts join_of join_back (λ parts. refl)
@@ -61,7 +61,7 @@ number_back (Number n) = n
 number_back other = pos 0
 
 abbrev pub numbered : Format Anything PlayerChange
-numbered = variant varint Number number_back (λ n. refl)
+numbered = variant var_int Number number_back (λ n. refl)
 
 -- 3: the name that is shown
 abbrev pub shown_of : Bool × Option (List ℕ) → PlayerChange
@@ -133,13 +133,13 @@ player action = record {
 
 abbrev pub own_fits : PlayerChange → Type 0
 own_fits (Join name properties mode ping is_shown shown) = join_parts.fits (name, (properties, (mode, (ping, (is_shown, shown)))))
-own_fits (Number n) = (varint {Rest = Anything}).fits n
+own_fits (Number n) = (var_int {Rest = Anything}).fits n
 own_fits (Shown is_shown shown) = shown_parts.fits (is_shown, shown)
 own_fits Leave = Unit {0}
 
 abbrev pub own_append : PlayerChange → List ℕ → List ℕ
 own_append (Join name properties mode ping is_shown shown) out = join_parts.append (name, (properties, (mode, (ping, (is_shown, shown))))) out
-own_append (Number n) out = (varint {Rest = Anything}).append n out
+own_append (Number n) out = (var_int {Rest = Anything}).append n out
 own_append (Shown is_shown shown) out = shown_parts.append (is_shown, shown) out
 own_append Leave out = out
 

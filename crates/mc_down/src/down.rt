@@ -8,9 +8,17 @@ use mc_slots::Slot;
 pub enum Down {
     /// The client is to send this number back.
     KeepAlive(i32),
-    /// The client's entity, game mode, dimension, difficulty, how many players there may be, the kind
-    /// of level, and whether less is shown for finding faults.
-    JoinGame(i32, u8, i8, u8, u8, Text, bool),
+    /// The client's entity, how many players there may be, the kind of level, and whether less is
+    /// shown for finding faults.
+    JoinGame {
+        eid: i32,
+        mode: u8,
+        dimension: i8,
+        difficulty: u8,
+        max_players: u8,
+        level_type: Text,
+        reduced_debug_info: bool,
+    },
     /// A message as JSON, and where it is shown.
     Chat(Text, i8),
     /// The world's age and its time of day, in ticks.
@@ -19,42 +27,119 @@ pub enum Down {
     Equipment(i32, i16, Slot),
     /// Where compasses point.
     SpawnPosition(Cell),
-    /// Health, food and saturation.
+    /// Health, food and saturation; the first and the last are bit patterns of binary32 numbers.
     Health(u32, i32, u32),
-    /// Dimension, difficulty, game mode and the kind of level.
-    Respawn(i32, u8, u8, Text),
-    /// Where the player is and looks, and which of these are relative.
-    PositionLook(u64, u64, u64, u32, u32, i8),
+    /// The player's new dimension, and the kind of level.
+    Respawn {
+        dimension: i32,
+        difficulty: u8,
+        mode: u8,
+        level_type: Text,
+    },
+    /// Where the player is in blocks and looks in degrees, as bit patterns of binary64 and binary32
+    /// numbers, and which of these are relative.
+    PositionLook {
+        x: u64,
+        y: u64,
+        z: u64,
+        yaw: u32,
+        pitch: u32,
+        flags: i8,
+    },
     /// Which slot of the hotbar is held.
     Held(i8),
     /// An entity, and how it is animated.
     Animation(i32, u8),
-    /// A player: entity, UUID, x, y and z in 1/32 blocks, yaw and pitch in 1/256 turns, the id of the
-    /// item in its hand or 0, and metadata.
-    SpawnPlayer(i32, u128, i32, i32, i32, u8, u8, i16, Metas),
+    /// A player: its place in 1/32 blocks, its turns in 1/256 turns, and the id of the item in its
+    /// hand or 0.
+    SpawnPlayer {
+        eid: i32,
+        uuid: u128,
+        x: i32,
+        y: i32,
+        z: i32,
+        yaw: u8,
+        pitch: u8,
+        item: i16,
+        metas: Metas,
+    },
     /// An item, and the entity that takes it.
     Collect(i32, i32),
-    /// An object: entity, kind, x, y and z in 1/32 blocks, pitch and yaw in 1/256 turns, a number that
-    /// depends on its kind, and its speed, which is there exactly where that number is above 0.
-    SpawnObject(i32, i8, i32, i32, i32, u8, u8, i32, Option<Speed>),
-    /// A mob: entity, kind, x, y and z in 1/32 blocks, yaw, pitch and the head's yaw in 1/256 turns, its
-    /// speed on x, y and z in 1/8000 blocks a tick, and metadata.
-    SpawnMob(i32, u8, i32, i32, i32, u8, u8, u8, i16, i16, i16, Metas),
-    /// An entity, and its speed on x, y and z in 1/8000 blocks a tick.
-    Velocity(i32, i16, i16, i16),
+    /// An object: its place in 1/32 blocks, its turns in 1/256 turns, a number that depends on its
+    /// kind, and its speed, which is there exactly where that number is above 0.
+    SpawnObject {
+        eid: i32,
+        kind: i8,
+        x: i32,
+        y: i32,
+        z: i32,
+        pitch: u8,
+        yaw: u8,
+        extra: i32,
+        speed: Option<Speed>,
+    },
+    /// A mob: its place in 1/32 blocks, its turns and its head's yaw in 1/256 turns, and its speed
+    /// in 1/8000 blocks a tick.
+    SpawnMob {
+        eid: i32,
+        kind: u8,
+        x: i32,
+        y: i32,
+        z: i32,
+        yaw: u8,
+        pitch: u8,
+        head: u8,
+        dx: i16,
+        dy: i16,
+        dz: i16,
+        metas: Metas,
+    },
+    /// An entity's speed, in 1/8000 blocks a tick.
+    Velocity {
+        eid: i32,
+        dx: i16,
+        dy: i16,
+        dz: i16,
+    },
     /// Entities that are no longer shown.
     Destroy(Varints),
     /// An entity that stays as it is.
     Entity(i32),
-    /// An entity, its move on x, y and z in 1/32 blocks, and whether it is on the ground.
-    Step(i32, i8, i8, i8, bool),
-    /// An entity, its yaw and pitch in 1/256 turns, and whether it is on the ground.
-    Look(i32, u8, u8, bool),
+    /// An entity's move, in 1/32 blocks.
+    Step {
+        eid: i32,
+        dx: i8,
+        dy: i8,
+        dz: i8,
+        on_ground: bool,
+    },
+    /// Where an entity looks, in 1/256 turns.
+    Look {
+        eid: i32,
+        yaw: u8,
+        pitch: u8,
+        on_ground: bool,
+    },
     /// `Step` and `Look` in one.
-    StepLook(i32, i8, i8, i8, u8, u8, bool),
-    /// An entity, its new x, y and z in 1/32 blocks, its yaw and pitch in 1/256 turns, and whether it is
-    /// on the ground.
-    Teleport(i32, i32, i32, i32, u8, u8, bool),
+    StepLook {
+        eid: i32,
+        dx: i8,
+        dy: i8,
+        dz: i8,
+        yaw: u8,
+        pitch: u8,
+        on_ground: bool,
+    },
+    /// An entity's new place in 1/32 blocks, and its turns in 1/256 turns.
+    Teleport {
+        eid: i32,
+        x: i32,
+        y: i32,
+        z: i32,
+        yaw: u8,
+        pitch: u8,
+        on_ground: bool,
+    },
     /// An entity, and its head's yaw in 1/256 turns.
     HeadLook(i32, u8),
     /// An entity, and what happens to it.
@@ -63,20 +148,34 @@ pub enum Down {
     Attach(i32, i32, bool),
     /// An entity, and what changes of its metadata.
     Meta(i32, Metas),
-    /// The bar of experience, the level, and the experience in all.
+    /// How full the bar of experience is from 0 to 1, as the bit pattern of a binary32 number, the
+    /// level, and the experience in all.
     Experience(u32, i32, i32),
-    /// A column: x and z in columns, whether it is all of the column, which sections there are, and the
-    /// bytes of the body.
-    Chunk(i32, i32, bool, u16, Octets),
+    /// A column: its place in columns, whether it is all of the column, and which sections the body
+    /// has, the lowest section at the lowest bit.
+    Chunk {
+        cx: i32,
+        cz: i32,
+        ground_up: bool,
+        mask: u16,
+        body: Octets,
+    },
     /// Cells of one column that change: x and z in columns, and the changes.
     MultiChange(i32, i32, Records),
     /// A cell, and its new state.
     Change(Cell, i32),
-    /// What changes of the game, and a number that depends on it.
+    /// What changes of the game, and a number that depends on it, as the bit pattern of a binary32
+    /// number.
     GameState(u8, u32),
-    /// A window: number, kind, title as JSON, how many slots, and the entity, which is there exactly
+    /// A window: its title as JSON, how many slots it has, and the entity, which is there exactly
     /// where the kind is `EntityHorse`.
-    OpenWindow(u8, Text, Text, u8, Option<i32>),
+    OpenWindow {
+        window: u8,
+        kind: Text,
+        title: Text,
+        slots: u8,
+        horse: Option<i32>,
+    },
     /// The number of a window that closes.
     CloseWindow(u8),
     /// The number of a window, a slot of it, and what is in the slot.
@@ -91,7 +190,8 @@ pub enum Down {
     SignEditor(Cell),
     /// The list of players: what changes of each, from 0 to 4, and the players.
     List(i32, Players),
-    /// What the player may do, how fast it flies, and its field of view.
+    /// What the player may do, how fast it flies, and its field of view; the last two are bit
+    /// patterns of binary32 numbers.
     Abilities(i8, u32, u32),
     /// What a word may be completed to.
     TabComplete(Texts),

@@ -1,6 +1,7 @@
 ghost use Rattle.std.specs.Prelude.{◌≡◌, ◌++◌, ◌∷◌, [], OnOk, OnErr};
 
 use crate::{Player, Property, Record};
+use mc_fields::Listed;
 use mc_nbt::{NoMemory, Text};
 use mc_slots::Slot;
 use std::alloc::Global;
@@ -48,50 +49,12 @@ impl Varints {
 }
 
 /// Texts. Contracts see it as that list.
-#[derive(Drop)]
-pub struct Texts {
-    items: Vec<Text>,
-}
-
-impl Model for Texts {
-    ghost use Rattle.std.specs.Prelude.{List, ℕ};
-
-    ghost Value = { List (List ℕ) };
-
-    ghost view = { λ list. list.items.items };
-}
-
-impl Texts {
-    /// The empty list, which takes no memory.
-    pub fn new(alloc: Global) -> Texts
-        ensures { result ≡ [] }
-    {
-        Texts {
-            items: Vec::new(alloc),
-        }
-    }
-
-    /// One more text at the end. On `NoMemory` the list is as before.
-    pub fn push(&mut self, item: Text) -> Result<(), NoMemory>
-        ensures ok { OnOk result (self.new ≡ self.old ++ item ∷ []) }
-        ensures err { OnErr result (self.new ≡ self.old) }
-    {
-        self.items.push(item)?;
-        Ok(())
-    }
-
-    /// The list.
-    pub fn as_slice(&self) -> &[Text]
-        ensures { result.now ≡ self.now }
-    {
-        self.items.as_slice()
-    }
-}
+pub type Texts = Listed<Text>;
 
 /// Slots of a window. Contracts see it as that list.
 #[derive(Drop)]
 pub struct Slots {
-    items: Vec<Slot>,
+    items: Listed<Slot>,
 }
 
 impl Model for Slots {
@@ -104,7 +67,7 @@ impl Model for Slots {
 
     ghost coded = { Prim.hlevel (codes, coded_tree) };
 
-    ghost view = { λ list. list.items.items };
+    ghost view = { λ list. list.items };
 }
 
 impl Slots {
@@ -113,8 +76,15 @@ impl Slots {
         ensures { result ≡ [] }
     {
         Slots {
-            items: Vec::new(alloc),
+            items: Listed::new(alloc),
         }
+    }
+
+    /// The slots of a list, without copying them.
+    pub(crate) fn of(items: Listed<Slot>) -> Slots
+        ensures { result ≡ items }
+    {
+        Slots { items }
     }
 
     /// One more slot at the end. On `NoMemory` the list is as before.
@@ -122,8 +92,7 @@ impl Slots {
         ensures ok { OnOk result (self.new ≡ self.old ++ item ∷ []) }
         ensures err { OnErr result (self.new ≡ self.old) }
     {
-        self.items.push(item)?;
-        Ok(())
+        self.items.push(item)
     }
 
     /// The list.
@@ -135,88 +104,10 @@ impl Slots {
 }
 
 /// Changes of one column. Contracts see it as that list.
-#[derive(Drop)]
-pub struct Records {
-    items: Vec<Record>,
-}
-
-impl Model for Records {
-    ghost use Rattle.std.specs.Prelude.{List};
-    ghost use Rattle.mc_down.specs.declared.record.Record.{Record};
-
-    ghost Value = { List Record };
-
-    ghost view = { λ list. list.items.items };
-}
-
-impl Records {
-    /// The empty list, which takes no memory.
-    pub fn new(alloc: Global) -> Records
-        ensures { result ≡ [] }
-    {
-        Records {
-            items: Vec::new(alloc),
-        }
-    }
-
-    /// One more change at the end. On `NoMemory` the list is as before.
-    pub fn push(&mut self, item: Record) -> Result<(), NoMemory>
-        ensures ok { OnOk result (self.new ≡ self.old ++ item ∷ []) }
-        ensures err { OnErr result (self.new ≡ self.old) }
-    {
-        self.items.push(item)?;
-        Ok(())
-    }
-
-    /// The list.
-    pub fn as_slice(&self) -> &[Record]
-        ensures { result.now ≡ self.now }
-    {
-        self.items.as_slice()
-    }
-}
+pub type Records = Listed<Record>;
 
 /// Properties of a player. Contracts see it as that list.
-#[derive(Drop)]
-pub struct Properties {
-    items: Vec<Property>,
-}
-
-impl Model for Properties {
-    ghost use Rattle.std.specs.Prelude.{List};
-    ghost use Rattle.mc_down.specs.declared.player.Property.{Property};
-
-    ghost Value = { List Property };
-
-    ghost view = { λ list. list.items.items };
-}
-
-impl Properties {
-    /// The empty list, which takes no memory.
-    pub fn new(alloc: Global) -> Properties
-        ensures { result ≡ [] }
-    {
-        Properties {
-            items: Vec::new(alloc),
-        }
-    }
-
-    /// One more property at the end. On `NoMemory` the list is as before.
-    pub fn push(&mut self, item: Property) -> Result<(), NoMemory>
-        ensures ok { OnOk result (self.new ≡ self.old ++ item ∷ []) }
-        ensures err { OnErr result (self.new ≡ self.old) }
-    {
-        self.items.push(item)?;
-        Ok(())
-    }
-
-    /// The list.
-    pub fn as_slice(&self) -> &[Property]
-        ensures { result.now ≡ self.now }
-    {
-        self.items.as_slice()
-    }
-}
+pub type Properties = Listed<Property>;
 
 /// Players, each with what changes of it. Contracts see it as that list.
 #[derive(Drop)]

@@ -1,7 +1,8 @@
 //! The metadata of entities, read and written.
-#![tactic(auto, using(mc_nbt::proofs::Kept::kept_whole, mc_nbt::proofs::Kept::kept_same, mc_nbt::proofs::Kept::kept_by))]
+#![tactic(auto, using(mc_nbt::proofs::Kept::kept_whole, mc_nbt::proofs::Kept::kept_same, mc_nbt::proofs::Kept::kept_by, mc_nbt::proofs::Kept::kept_past))]
 
-ghost use Rattle.std.specs.Prelude.{◌≡◌, ◌<◌, ◌≤◌, ◌++◌, ℕ, List, Ok, IfOk, OnOk, OnErr, drop, take, length};
+ghost use Rattle.std.specs.Prelude.{◌≡◌, ◌<◌, ◌≤◌, ◌++◌, ℕ, List, Ok, IfOk, OnOk, OnErr, drop};
+ghost use Rattle.std.specs.Prelude.{take, length};
 ghost use Rattle.std.specs.Int.{w8};
 ghost use Rattle.mc_nbt.specs.Reading.{Yields, Gives};
 ghost use Rattle.mc_nbt.specs.Format.{Anything};
@@ -11,13 +12,13 @@ ghost use Rattle.mc_nbt.specs.Many.{AllFit, all_append, times};
 ghost use Rattle.mc_nbt.specs.Until.{headed_fits, until_append};
 ghost use Rattle.mc_fields.specs.Integers.{int, float};
 ghost use Rattle.mc_down.specs.declared.meta.MetaEntry.{MetaEntry};
-ghost use Rattle.mc_down.specs.Metadata.{type_of, value_of, head_of, entry_of_head, entry_read, SpellsMeta, FitsMeta, meta_read, meta_spelling, metadata};
+ghost use Rattle.mc_down.specs.Metadata.{type_of, value_of, head_of, entry_of_head, entry_read};
+ghost use Rattle.mc_down.specs.Metadata.{SpellsMeta, FitsMeta, meta_read, meta_spelling, metadata};
 
-use crate::parts::STRING_MAX;
 use crate::{MetaEntry, MetaValue, Metas};
 use mc_fields::{
-    take_i8, take_i16, take_i32, take_text, write_i8, write_i16, write_i32, write_text, write_u8,
-    write_u32,
+    Field, STRING_MAX, take_i8, take_i16, take_i32, take_text, write_i8, write_i16, write_i32,
+    write_text, write_u8, write_u32,
 };
 use mc_nbt::{Cursor, NoMemory, ReadError, ReadFault, Stop};
 use mc_slots::{take_slot, write_slot};
@@ -128,6 +129,9 @@ pub fn read_meta(alloc: Global, bytes: &[u8], at: usize) -> Result<(Metas, usize
     // What is spelled there is read, unless memory runs out.
     ensures only { (entries : List MetaEntry) (end : ℕ) → SpelledAt (SpellsMeta entries) bytes.now at end →
         PlacedGives (λ read. read) result (Ok (entries, end)) }
+    // From one place on one list is spelled at most, and it has one end.
+    ensures one { (a b : List MetaEntry) (m n : ℕ) → SpelledAt (SpellsMeta a) bytes.now at m →
+        SpelledAt (SpellsMeta b) bytes.now at n → (a ≡ b) × (m ≡ n) }
     // Which fault it is.
     ensures exact { PlacedGives (λ read. read) result (placed bytes.now (meta_read (drop at bytes.now))) }
 {
@@ -137,7 +141,7 @@ pub fn read_meta(alloc: Global, bytes: &[u8], at: usize) -> Result<(Metas, usize
 fn append_ints(numbers: &[i32], out: &mut Vec<u8>) -> Result<(), NoMemory>
     requires { AllFit (int {Rest = Anything}).fits numbers.now }
     ensures ok { OnOk result (out.new.items ≡ all_append (int {Rest = Anything}).append numbers.now out.old.items) }
-    ensures begun { OnErr result (take (length out.old.items) out.new.items ≡ out.old.items) }
+    ensures kept { take (length out.old.items) out.new.items ≡ out.old.items }
 {
     for number in numbers {
         write_i32(*number, out)?;
@@ -147,7 +151,7 @@ fn append_ints(numbers: &[i32], out: &mut Vec<u8>) -> Result<(), NoMemory>
 
 fn append_floats(patterns: &[u32], out: &mut Vec<u8>) -> Result<(), NoMemory>
     ensures ok { OnOk result (out.new.items ≡ all_append (float {Rest = Anything}).append patterns.now out.old.items) }
-    ensures begun { OnErr result (take (length out.old.items) out.new.items ≡ out.old.items) }
+    ensures kept { take (length out.old.items) out.new.items ≡ out.old.items }
 {
     for pattern in patterns {
         write_u32(*pattern, out)?;
@@ -175,7 +179,7 @@ fn type_of(value: &MetaValue) -> u8
 fn append_value(value: &MetaValue, out: &mut Vec<u8>) -> Result<(), NoMemory>
     requires { (value_of (type_of value.now)).fits value.now }
     ensures ok { OnOk result (out.new.items ≡ (value_of (type_of value.now)).append value.now out.old.items) }
-    ensures begun { OnErr result (take (length out.old.items) out.new.items ≡ out.old.items) }
+    ensures kept { take (length out.old.items) out.new.items ≡ out.old.items }
 {
     match value {
         MetaValue::Byte(number) => write_i8(*number, out)?,
@@ -203,7 +207,7 @@ fn append_entry(entry: &MetaEntry, out: &mut Vec<u8>) -> Result<(), NoMemory>
 fn append_entries(entries: &[MetaEntry], out: &mut Vec<u8>) -> Result<(), NoMemory>
     requires { FitsMeta entries.now }
     ensures ok { OnOk result (out.new.items ≡ (metadata {Rest = Anything}).append entries.now out.old.items) }
-    ensures begun { OnErr result (take (length out.old.items) out.new.items ≡ out.old.items) }
+    ensures kept { take (length out.old.items) out.new.items ≡ out.old.items }
 {
     for entry in entries {
         append_entry(entry, out)?;
@@ -216,10 +220,22 @@ fn append_entries(entries: &[MetaEntry], out: &mut Vec<u8>) -> Result<(), NoMemo
 pub fn put_metas(metas: &Metas, out: &mut Vec<u8>) -> Result<(), NoMemory>
     requires { FitsMeta metas.now }
     ensures ok { OnOk result (out.new.items ≡ (metadata {Rest = Anything}).append metas.now out.old.items) }
-    ensures begun { OnErr result (take (length out.old.items) out.new.items ≡ out.old.items) }
+    ensures kept { take (length out.old.items) out.new.items ≡ out.old.items }
 {
     append_entries(metas.as_slice(), out)?;
     Ok(())
+}
+
+impl Field for Metas {
+    ghost format = { metadata };
+
+    fn get(alloc: Global, cursor: &mut Cursor<'_>) -> Result<Metas, ReadError> {
+        take_metas(alloc, cursor)
+    }
+
+    fn put(&self, out: &mut Vec<u8>) -> Result<(), NoMemory> {
+        put_metas(self, out)
+    }
 }
 
 /// Appends metadata, with its VarInts the shortest. Without memory `out` is as before.

@@ -1,72 +1,21 @@
-//! Parts of packets: bytes behind their number, and what is there only sometimes.
+//! Parts of packets that are there only sometimes, and the bytes that are left.
 #![tactic(auto, using(mc_nbt::proofs::Kept::kept_whole, mc_nbt::proofs::Kept::kept_same, mc_nbt::proofs::Kept::kept_by))]
 
-ghost use Rattle.std.specs.Prelude.{◌≡◌, ◌<◌, ◌^◌, take, length, IfSome, OnOk, OnErr};
+ghost use Rattle.std.specs.Prelude.{◌≡◌, ◌<◌, ◌^◌, take, length, IfSome, OnOk};
 ghost use Rattle.mc_nbt.specs.Reading.{Yields, Gives};
 ghost use Rattle.mc_nbt.specs.Format.{Anything};
 ghost use Rattle.mc_nbt.specs.Optional.{when, when_append};
 ghost use Rattle.mc_nbt.specs.Rest.{rest};
 ghost use Rattle.mc_fields.specs.Integers.{int};
-ghost use Rattle.mc_fields.specs.Counted.{count, short_count, sized};
 ghost use Rattle.mc_down.specs.Fields.{chat_text, is_horse, speed};
 
 use crate::Speed;
-use mc_fields::{
-    take_i16, take_i32, take_text, take_varint, write_i16, write_i32, write_text, write_varint,
-};
-use mc_nbt::{Cursor, Kind, NoMemory, Octets, ReadError, Stop, Text, write_octets};
+use mc_fields::{STRING_MAX, take_i16, take_i32, take_text, write_i16, write_i32, write_text};
+use mc_nbt::{Cursor, NoMemory, Octets, ReadError, Stop, Text};
 use std::alloc::Global;
-
-/// How many code points a text has at most.
-pub const STRING_MAX: usize = 32_767;
 
 /// The kind of window that names an entity.
 const HORSE: &str = "EntityHorse";
-
-/// How many follow, as a VarInt. `BadLength` where the number is negative.
-pub fn take_count(cursor: &mut Cursor<'_>) -> Result<usize, Stop>
-    ensures { Yields (λ n. (n, cursor.new)) result (count.read cursor.old) }
-{
-    let start = Cursor::new(cursor.rest());
-    let number = take_varint(cursor)?;
-    if number < 0 {
-        return Err(start.stop(Kind::BadLength));
-    }
-    Ok(number as usize)
-}
-
-/// How many follow, in two bytes. `BadLength` where the number is negative.
-pub fn take_short_count(cursor: &mut Cursor<'_>) -> Result<usize, Stop>
-    ensures { Yields (λ n. (n, cursor.new)) result (short_count.read cursor.old) }
-{
-    let start = Cursor::new(cursor.rest());
-    let number = take_i16(cursor)?;
-    if number < 0 {
-        return Err(start.stop(Kind::BadLength));
-    }
-    Ok(number as usize)
-}
-
-/// Bytes behind their number, copied once. `Short` at the first of them where fewer are left.
-pub fn take_sized(alloc: Global, cursor: &mut Cursor<'_>) -> Result<Octets, ReadError>
-    ensures { Gives (λ bytes. (bytes, cursor.new)) result ((sized {Rest = Anything}).read cursor.old) }
-{
-    let len = take_count(cursor)?;
-    let bytes = cursor.take(len)?;
-    Ok(Octets::from_slice(alloc, bytes)?)
-}
-
-/// The number of some bytes, and the bytes.
-pub fn write_sized(octets: &Octets, out: &mut Vec<u8>) -> Result<(), NoMemory>
-    requires { (sized {Rest = Anything}).fits octets.now }
-    ensures ok { OnOk result (out.new.items ≡ (sized {Rest = Anything}).append octets.now out.old.items) }
-    ensures begun { OnErr result (take (length out.old.items) out.new.items ≡ out.old.items) }
-{
-    let bytes = octets.as_slice();
-    write_varint(bytes.len() as i32, out)?;
-    write_octets(bytes, out)?;
-    Ok(())
-}
 
 /// A text where it is there.
 pub fn take_text_if(
@@ -86,7 +35,7 @@ pub fn take_text_if(
 pub fn write_text_if(text: &Option<Text>, out: &mut Vec<u8>) -> Result<(), NoMemory>
     requires { IfSome text.now (λ bytes. length bytes < 2 ^ 31) }
     ensures ok { OnOk result (out.new.items ≡ when_append (chat_text {Rest = Anything}).append text.now out.old.items) }
-    ensures begun { OnErr result (take (length out.old.items) out.new.items ≡ out.old.items) }
+    ensures kept { take (length out.old.items) out.new.items ≡ out.old.items }
 {
     if let Some(text) = text {
         write_text(text, out)?;
@@ -110,7 +59,7 @@ pub fn take_speed_if(there: bool, cursor: &mut Cursor<'_>) -> Result<Option<Spee
 /// The speed of an object where it is there.
 pub fn write_speed_if(value: &Option<Speed>, out: &mut Vec<u8>) -> Result<(), NoMemory>
     ensures ok { OnOk result (out.new.items ≡ when_append (speed {Rest = Anything}).append value.now out.old.items) }
-    ensures begun { OnErr result (take (length out.old.items) out.new.items ≡ out.old.items) }
+    ensures kept { take (length out.old.items) out.new.items ≡ out.old.items }
 {
     if let Some(speed) = value {
         write_i16(speed.x, out)?;
@@ -140,7 +89,7 @@ pub fn take_horse_if(there: bool, cursor: &mut Cursor<'_>) -> Result<Option<i32>
 /// The entity of a window where it is there.
 pub fn write_int_if(value: &Option<i32>, out: &mut Vec<u8>) -> Result<(), NoMemory>
     ensures ok { OnOk result (out.new.items ≡ when_append (int {Rest = Anything}).append value.now out.old.items) }
-    ensures begun { OnErr result (take (length out.old.items) out.new.items ≡ out.old.items) }
+    ensures kept { take (length out.old.items) out.new.items ≡ out.old.items }
 {
     if let Some(value) = value {
         write_i32(*value, out)?;

@@ -17,9 +17,16 @@ pub struct Property {
 /// What changes of a player in the list of players. The packet's action says which of these it is.
 #[derive(Drop)]
 pub enum PlayerChange {
-    /// Action 0, the player joins: its name, properties, game mode and ping, whether a name to show
-    /// follows, and that name as JSON.
-    Join(Text, Properties, i32, i32, bool, Option<Text>),
+    /// Action 0, the player joins: its ping in milliseconds, whether a name to show follows, and
+    /// that name as JSON.
+    Join {
+        name: Text,
+        properties: Properties,
+        mode: i32,
+        ping: i32,
+        is_shown: bool,
+        shown: Option<Text>,
+    },
     /// Actions 1 and 2: its game mode, or its ping.
     Number(i32),
     /// Action 3: whether a name to show follows, and that name as JSON.

@@ -1,10 +1,10 @@
 //! The list of players.
 #![tactic(auto, using(mc_nbt::proofs::Kept::kept_whole, mc_nbt::proofs::Kept::kept_same, mc_nbt::proofs::Kept::kept_by, mc_nbt::proofs::Kept::kept_past))]
 
-ghost use Rattle.std.specs.Prelude.{◌≡◌, take, length, OnOk, OnErr};
+ghost use Rattle.std.specs.Prelude.{◌≡◌, take, length, OnOk};
 ghost use Rattle.mc_nbt.specs.Reading.{Gives};
 ghost use Rattle.mc_fields.specs.Row.{fields_read, row_fits, row_append};
-ghost use Rattle.mc_down.specs.PlayerList.{player_list};
+ghost use Rattle.mc_down.specs.Down.{player_list};
 
 use crate::players::{take_action, take_players, write_players};
 use crate::{Down, Players};
@@ -23,7 +23,7 @@ pub fn read_player_list(alloc: Global, cursor: &mut Cursor<'_>) -> Result<Down, 
 pub fn write_player_list(action: &i32, changes: &Players, out: &mut Vec<u8>) -> Result<(), NoMemory>
     requires { row_fits player_list (action.now, changes.now) }
     ensures ok { OnOk result (out.new.items ≡ row_append player_list (action.now, changes.now) out.old.items) }
-    ensures begun { OnErr result (take (length out.old.items) out.new.items ≡ out.old.items) }
+    ensures kept { take (length out.old.items) out.new.items ≡ out.old.items }
 {
     write_varint(0x38, out)?;
     write_varint(*action, out)?;

@@ -1,7 +1,7 @@
 //! What the list of players says of each.
 #![tactic(auto, using(mc_nbt::proofs::Loops::times_next, mc_nbt::proofs::Loops::times_stop, mc_nbt::proofs::Loops::times_halt, mc_nbt::proofs::Loops::times_done, mc_nbt::proofs::Loops::times_first, mc_nbt::proofs::Kept::kept_whole, mc_nbt::proofs::Kept::kept_same, mc_nbt::proofs::Kept::kept_by, mc_nbt::proofs::Kept::kept_past))]
 
-ghost use Rattle.std.specs.Prelude.{◌≡◌, ◌<◌, ◌^◌, take, length, IfSome, OnOk, OnErr};
+ghost use Rattle.std.specs.Prelude.{◌≡◌, ◌<◌, ◌^◌, take, length, IfSome, OnOk};
 ghost use Rattle.mc_nbt.specs.Reading.{Yields, Gives};
 ghost use Rattle.mc_nbt.specs.Format.{Anything};
 ghost use Rattle.mc_nbt.specs.Combine.{tested_read};
@@ -11,12 +11,15 @@ ghost use Rattle.mc_fields.specs.Varint.{varint_read};
 ghost use Rattle.mc_fields.specs.VarintFormat.{varint};
 ghost use Rattle.mc_fields.specs.Counted.{counted};
 ghost use Rattle.mc_down.specs.Fields.{string};
-ghost use Rattle.mc_down.specs.PlayerChange.{is_action, property, joining, join_parts, join_back, showing, shown_parts, change, player, own_fits, own_append};
+ghost use Rattle.mc_down.specs.PlayerChange.{is_action, property, joining, join_parts, join_back};
+ghost use Rattle.mc_down.specs.PlayerChange.{showing, shown_parts, change, player, own_fits};
+ghost use Rattle.mc_down.specs.PlayerChange.{own_append};
 
-use crate::parts::{STRING_MAX, take_count, take_text_if, write_text_if};
+use crate::parts::{take_text_if, write_text_if};
 use crate::{Player, PlayerChange, Players, Properties, Property};
 use mc_fields::{
-    take_bool, take_text, take_varint, write_bool, write_text, write_u128, write_varint,
+    Field, STRING_MAX, VarInt, take_bool, take_count, take_text, take_varint, write_bool,
+    write_text, write_u128, write_varint,
 };
 use mc_nbt::{Cursor, Kind, NoMemory, ReadError, Stop, Text};
 use std::alloc::Global;
@@ -52,7 +55,7 @@ fn take_property(alloc: Global, cursor: &mut Cursor<'_>) -> Result<Property, Rea
 fn write_property(value: &Property, out: &mut Vec<u8>) -> Result<(), NoMemory>
     requires { property.fits value.now }
     ensures ok { OnOk result (out.new.items ≡ property.append value.now out.old.items) }
-    ensures begun { OnErr result (take (length out.old.items) out.new.items ≡ out.old.items) }
+    ensures kept { take (length out.old.items) out.new.items ≡ out.old.items }
 {
     write_text(&value.name, out)?;
     write_text(&value.value, out)?;
@@ -61,61 +64,35 @@ fn write_property(value: &Property, out: &mut Vec<u8>) -> Result<(), NoMemory>
     Ok(())
 }
 
-fn properties_in(
-    alloc: Global,
-    cursor: &mut Cursor<'_>,
-    count: usize,
-) -> Result<Properties, ReadError>
-    ensures { Gives (λ list. (list, cursor.new)) result (times_at property.read count cursor.old) }
-{
-    let mut list = Properties::new(alloc);
-    for _ in 0..count {
-        list.push(take_property(alloc, cursor)?)?;
+impl Field for Property {
+    ghost format = { property };
+
+    fn get(alloc: Global, cursor: &mut Cursor<'_>) -> Result<Property, ReadError> {
+        take_property(alloc, cursor)
     }
-    Ok(list)
-}
 
-fn take_properties(alloc: Global, cursor: &mut Cursor<'_>) -> Result<Properties, ReadError>
-    ensures { Gives (λ list. (list, cursor.new)) result ((counted {Rest = Anything} property).read cursor.old) }
-{
-    let count = take_count(cursor)?;
-    let list = properties_in(alloc, cursor, count)?;
-    Ok(list)
-}
-
-fn append_properties(items: &[Property], out: &mut Vec<u8>) -> Result<(), NoMemory>
-    requires { AllFit property.fits items.now }
-    ensures ok { OnOk result (out.new.items ≡ all_append property.append items.now out.old.items) }
-    ensures kept { take (length out.old.items) out.new.items ≡ out.old.items }
-{
-    for item in items {
-        write_property(item, out)?;
+    fn put(&self, out: &mut Vec<u8>) -> Result<(), NoMemory> {
+        write_property(self, out)
     }
-    Ok(())
-}
-
-#[tactic(auto, using(mc_nbt::proofs::Kept::kept_whole, mc_nbt::proofs::Kept::kept_same, mc_nbt::proofs::Kept::kept_by, crate::proofs::Begun::kept_through))]
-fn write_properties(list: &Properties, out: &mut Vec<u8>) -> Result<(), NoMemory>
-    requires { (counted {Rest = Anything} property).fits list.now }
-    ensures ok { OnOk result (out.new.items ≡ (counted {Rest = Anything} property).append list.now out.old.items) }
-    ensures kept { take (length out.old.items) out.new.items ≡ out.old.items }
-{
-    let items = list.as_slice();
-    write_varint(items.len() as i32, out)?;
-    append_properties(items, out)?;
-    Ok(())
 }
 
 fn take_join(alloc: Global, cursor: &mut Cursor<'_>) -> Result<PlayerChange, ReadError>
     ensures { Gives (λ what. (what, cursor.new)) result (joining.read cursor.old) }
 {
     let name = take_text(alloc, cursor, STRING_MAX)?;
-    let properties = take_properties(alloc, cursor)?;
-    let mode = take_varint(cursor)?;
-    let ping = take_varint(cursor)?;
+    let properties = Properties::get(alloc, cursor)?;
+    let VarInt(mode) = Field::get(alloc, cursor)?;
+    let VarInt(ping) = Field::get(alloc, cursor)?;
     let is_shown = take_bool(cursor)?;
     let shown = take_text_if(is_shown, alloc, cursor)?;
-    Ok(PlayerChange::Join(name, properties, mode, ping, is_shown, shown))
+    Ok(PlayerChange::Join {
+        name,
+        properties,
+        mode,
+        ping,
+        is_shown,
+        shown,
+    })
 }
 
 fn take_shown(alloc: Global, cursor: &mut Cursor<'_>) -> Result<PlayerChange, ReadError>
@@ -136,8 +113,8 @@ fn take_change(
 {
     match action {
         0 => take_join(alloc, cursor),
-        1 => Ok(PlayerChange::Number(take_varint(cursor)?)),
-        2 => Ok(PlayerChange::Number(take_varint(cursor)?)),
+        1 => Ok(PlayerChange::Number(VarInt::get(alloc, cursor)?.0)),
+        2 => Ok(PlayerChange::Number(VarInt::get(alloc, cursor)?.0)),
         3 => take_shown(alloc, cursor),
         _ => Ok(PlayerChange::Leave),
     }
@@ -189,7 +166,7 @@ fn write_join_head(name: &Text, properties: &Properties, out: &mut Vec<u8>) -> R
     ensures kept { take (length out.old.items) out.new.items ≡ out.old.items }
 {
     write_text(name, out)?;
-    write_properties(properties, out)?;
+    properties.put(out)?;
     Ok(())
 }
 
@@ -204,7 +181,7 @@ fn write_join_tail(
 ) -> Result<(), NoMemory>
     requires { IfSome shown.now (λ bytes. length bytes < 2 ^ 31) }
     ensures ok { OnOk result (out.new.items ≡ shown_parts.append (is_shown, shown.now) ((varint {Rest = Anything}).append ping ((varint {Rest = Anything}).append mode out.old.items))) }
-    ensures begun { OnErr result (take (length out.old.items) out.new.items ≡ out.old.items) }
+    ensures kept { take (length out.old.items) out.new.items ≡ out.old.items }
 {
     write_varint(mode, out)?;
     write_varint(ping, out)?;
@@ -228,7 +205,7 @@ fn write_join(
     requires properties { (counted {Rest = Anything} property).fits properties.now }
     requires shown { IfSome shown.now (λ bytes. length bytes < 2 ^ 31) }
     ensures ok { OnOk result (out.new.items ≡ join_parts.append (name.now, (properties.now, (mode, (ping, (is_shown, shown.now))))) out.old.items) }
-    ensures begun { OnErr result (take (length out.old.items) out.new.items ≡ out.old.items) }
+    ensures kept { take (length out.old.items) out.new.items ≡ out.old.items }
 {
     write_join_head(name, properties, out)?;
     write_join_tail(mode, ping, is_shown, shown, out)?;
@@ -238,7 +215,7 @@ fn write_join(
 fn write_shown(is_shown: bool, shown: &Option<Text>, out: &mut Vec<u8>) -> Result<(), NoMemory>
     requires { IfSome shown.now (λ bytes. length bytes < 2 ^ 31) }
     ensures ok { OnOk result (out.new.items ≡ shown_parts.append (is_shown, shown.now) out.old.items) }
-    ensures begun { OnErr result (take (length out.old.items) out.new.items ≡ out.old.items) }
+    ensures kept { take (length out.old.items) out.new.items ≡ out.old.items }
 {
     write_bool(is_shown, out)?;
     write_text_if(shown, out)?;
@@ -249,12 +226,17 @@ fn write_shown(is_shown: bool, shown: &Option<Text>, out: &mut Vec<u8>) -> Resul
 fn write_change(what: &PlayerChange, out: &mut Vec<u8>) -> Result<(), NoMemory>
     requires { own_fits what.now }
     ensures ok { OnOk result (out.new.items ≡ own_append what.now out.old.items) }
-    ensures begun { OnErr result (take (length out.old.items) out.new.items ≡ out.old.items) }
+    ensures kept { take (length out.old.items) out.new.items ≡ out.old.items }
 {
     match what {
-        PlayerChange::Join(name, properties, mode, ping, is_shown, shown) => {
-            write_join(name, properties, *mode, *ping, *is_shown, shown, out)?
-        }
+        PlayerChange::Join {
+            name,
+            properties,
+            mode,
+            ping,
+            is_shown,
+            shown,
+        } => { write_join(name, properties, *mode, *ping, *is_shown, shown, out)? }
         PlayerChange::Number(number) => write_varint(*number, out)?,
         PlayerChange::Shown(is_shown, shown) => write_shown(*is_shown, shown, out)?,
         PlayerChange::Leave => (),
@@ -266,7 +248,7 @@ fn write_change(what: &PlayerChange, out: &mut Vec<u8>) -> Result<(), NoMemory>
 fn write_player(item: &Player, action: &i32, out: &mut Vec<u8>) -> Result<(), NoMemory>
     requires { (player action.now).fits item.now }
     ensures ok { OnOk result (out.new.items ≡ (player action.now).append item.now out.old.items) }
-    ensures begun { OnErr result (take (length out.old.items) out.new.items ≡ out.old.items) }
+    ensures kept { take (length out.old.items) out.new.items ≡ out.old.items }
 {
     write_u128(item.uuid, out)?;
     write_change(&item.change, out)?;
@@ -277,7 +259,7 @@ fn write_player(item: &Player, action: &i32, out: &mut Vec<u8>) -> Result<(), No
 fn append_players(items: &[Player], action: &i32, out: &mut Vec<u8>) -> Result<(), NoMemory>
     requires { AllFit (player action.now).fits items.now }
     ensures ok { OnOk result (out.new.items ≡ all_append (player action.now).append items.now out.old.items) }
-    ensures begun { OnErr result (take (length out.old.items) out.new.items ≡ out.old.items) }
+    ensures kept { take (length out.old.items) out.new.items ≡ out.old.items }
 {
     for item in items {
         write_player(item, action, out)?;
@@ -290,7 +272,7 @@ fn append_players(items: &[Player], action: &i32, out: &mut Vec<u8>) -> Result<(
 pub fn write_players(list: &Players, action: &i32, out: &mut Vec<u8>) -> Result<(), NoMemory>
     requires { (counted {Rest = Anything} (player action.now)).fits list.now }
     ensures ok { OnOk result (out.new.items ≡ (counted {Rest = Anything} (player action.now)).append list.now out.old.items) }
-    ensures begun { OnErr result (take (length out.old.items) out.new.items ≡ out.old.items) }
+    ensures kept { take (length out.old.items) out.new.items ≡ out.old.items }
 {
     let items = list.as_slice();
     write_varint(items.len() as i32, out)?;

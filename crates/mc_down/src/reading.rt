@@ -2,35 +2,17 @@
 
 ghost use Rattle.std.specs.Prelude.{◌≡◌, true, List, ℕ, Ok, IfOk};
 ghost use Rattle.mc_nbt.specs.Reading.{Gives};
-ghost use Rattle.mc_fields.specs.Row.{GivesRow, GivesPacket, fields_read, id_read, frame_read, packet_of, is_one_of};
+ghost use Rattle.mc_fields.specs.Row.{GivesRow, GivesPacket, fields_read, id_read, frame_read};
+ghost use Rattle.mc_fields.specs.Row.{packet_of, is_one_of};
 ghost use Rattle.mc_down.specs.declared.down.Down.{Down};
-ghost use Rattle.mc_down.specs.Down.{is_raw, raw, later_rows, named_rows, rows, SpellsDown};
+ghost use Rattle.mc_down.specs.Down.{is_raw, raw, rows_from_00, rows_from_08, rows_from_13};
+ghost use Rattle.mc_down.specs.Down.{rows_from_1B, rows_from_2E, rows_from_3A, rows, SpellsDown};
 
 use crate::Down;
-use crate::entities::{
-    read_animation, read_attach, read_collect, read_destroy, read_equipment, read_meta, read_status,
-};
-use crate::moves::{
-    read_entity, read_head_look, read_look, read_step, read_step_look, read_teleport, read_velocity,
-};
-use crate::others::{read_chat, read_disconnect, read_keep_alive, read_plugin, read_tab_complete};
-use crate::parts::take_rest;
+use crate::parts::{is_horse, take_horse_if, take_rest, take_speed_if};
 use crate::player_list::read_player_list;
-use crate::player_state::{
-    read_abilities, read_experience, read_health, read_held, read_join_game, read_position_look,
-    read_respawn,
-};
-use crate::spawns::{read_spawn_mob, read_spawn_object, read_spawn_player};
-use crate::windows::{
-    read_close_window, read_confirm, read_open_window, read_set_slot, read_window_items,
-    read_window_property,
-};
-use crate::world::{
-    read_change, read_chunk, read_difficulty, read_game_state, read_multi_change, read_sign_editor,
-    read_spawn_position, read_time,
-};
-use mc_fields::{PacketRead, RowError, RowFault, take_varint, whole};
-use mc_nbt::{Cursor, Octets, ReadError};
+use mc_fields::{Field, PacketRead, RowError, RowFault, VarInt, take_varint, whole};
+use mc_nbt::{Cursor, ReadError, Text};
 use std::alloc::Global;
 
 /// Whether a packet's fields are not taken apart.
@@ -63,67 +45,311 @@ fn read_raw(alloc: Global, cursor: &mut Cursor<'_>, id: i32) -> Result<Down, Rea
     Ok(Down::Raw(id, bytes))
 }
 
-/// The fields of the packet with this id, from the second half of the table.
-#[tactic(auto, unfolding(crate::specs::Down::later_rows))]
-fn read_later(alloc: Global, cursor: &mut Cursor<'_>, id: i32) -> Result<Down, RowError>
-    ensures { GivesRow (λ packet. (packet, cursor.new)) result (id_read later_rows id cursor.old) }
+/// The fields of the packet with this id, from 3A on.
+#[tactic(auto, unfolding(crate::specs::Down::rows_from_3A))]
+fn read_from_3a(alloc: Global, cursor: &mut Cursor<'_>, id: i32) -> Result<Down, RowError>
+    ensures { GivesRow (λ read. (read, cursor.new)) result (id_read rows_from_3A id cursor.old) }
 {
     match id {
-        0x19 => Ok(read_head_look(cursor)?),
-        0x1A => Ok(read_status(cursor)?),
-        0x1B => Ok(read_attach(cursor)?),
-        0x1C => Ok(read_meta(alloc, cursor)?),
-        0x1F => Ok(read_experience(cursor)?),
-        0x21 => Ok(read_chunk(alloc, cursor)?),
-        0x22 => Ok(read_multi_change(alloc, cursor)?),
-        0x23 => Ok(read_change(cursor)?),
-        0x2B => Ok(read_game_state(cursor)?),
-        0x2D => Ok(read_open_window(alloc, cursor)?),
-        0x2E => Ok(read_close_window(cursor)?),
-        0x2F => Ok(read_set_slot(alloc, cursor)?),
-        0x30 => Ok(read_window_items(alloc, cursor)?),
-        0x31 => Ok(read_window_property(cursor)?),
-        0x32 => Ok(read_confirm(cursor)?),
-        0x36 => Ok(read_sign_editor(cursor)?),
-        0x38 => Ok(read_player_list(alloc, cursor)?),
-        0x39 => Ok(read_abilities(cursor)?),
-        0x3A => Ok(read_tab_complete(alloc, cursor)?),
-        0x3F => Ok(read_plugin(alloc, cursor)?),
-        0x40 => Ok(read_disconnect(alloc, cursor)?),
-        0x41 => Ok(read_difficulty(cursor)?),
+        0x3A => Ok(Down::TabComplete(Field::get(alloc, cursor)?)),
+        0x3F => {
+            let channel: Text = Field::get(alloc, cursor)?;
+            let content = take_rest(alloc, cursor)?;
+            Ok(Down::Plugin(channel, content))
+        }
+        0x40 => Ok(Down::Disconnect(Field::get(alloc, cursor)?)),
+        0x41 => Ok(Down::Difficulty(Field::get(alloc, cursor)?)),
         _ => Err(RowError::Fault(RowFault::UnknownId(id))),
     }
 }
 
-/// The fields of the packet with this id, where it is taken apart.
-#[tactic(auto, unfolding(crate::specs::Down::named_rows))]
-fn read_named(alloc: Global, cursor: &mut Cursor<'_>, id: i32) -> Result<Down, RowError>
-    ensures { GivesRow (λ packet. (packet, cursor.new)) result (id_read named_rows id cursor.old) }
+/// The fields of the packet with this id, from 2E on.
+#[tactic(auto, unfolding(crate::specs::Down::rows_from_2E))]
+fn read_from_2e(alloc: Global, cursor: &mut Cursor<'_>, id: i32) -> Result<Down, RowError>
+    ensures { GivesRow (λ read. (read, cursor.new)) result (id_read rows_from_2E id cursor.old) }
 {
     match id {
-        0x00 => Ok(read_keep_alive(cursor)?),
-        0x01 => Ok(read_join_game(alloc, cursor)?),
-        0x02 => Ok(read_chat(alloc, cursor)?),
-        0x03 => Ok(read_time(cursor)?),
-        0x04 => Ok(read_equipment(alloc, cursor)?),
-        0x05 => Ok(read_spawn_position(cursor)?),
-        0x06 => Ok(read_health(cursor)?),
-        0x07 => Ok(read_respawn(alloc, cursor)?),
-        0x08 => Ok(read_position_look(cursor)?),
-        0x09 => Ok(read_held(cursor)?),
-        0x0B => Ok(read_animation(cursor)?),
-        0x0C => Ok(read_spawn_player(alloc, cursor)?),
-        0x0D => Ok(read_collect(cursor)?),
-        0x0E => Ok(read_spawn_object(cursor)?),
-        0x0F => Ok(read_spawn_mob(alloc, cursor)?),
-        0x12 => Ok(read_velocity(cursor)?),
-        0x13 => Ok(read_destroy(alloc, cursor)?),
-        0x14 => Ok(read_entity(cursor)?),
-        0x15 => Ok(read_step(cursor)?),
-        0x16 => Ok(read_look(cursor)?),
-        0x17 => Ok(read_step_look(cursor)?),
-        0x18 => Ok(read_teleport(cursor)?),
-        _ => read_later(alloc, cursor, id),
+        0x2E => Ok(Down::CloseWindow(Field::get(alloc, cursor)?)),
+        0x2F => {
+            let (window, index, item) = Field::get(alloc, cursor)?;
+            Ok(Down::SetSlot(window, index, item))
+        }
+        0x30 => {
+            let (window, items) = Field::get(alloc, cursor)?;
+            Ok(Down::WindowItems(window, items))
+        }
+        0x31 => {
+            let (window, property, value) = Field::get(alloc, cursor)?;
+            Ok(Down::WindowProperty(window, property, value))
+        }
+        0x32 => {
+            let (window, number, accepted) = Field::get(alloc, cursor)?;
+            Ok(Down::Confirm(window, number, accepted))
+        }
+        0x36 => Ok(Down::SignEditor(Field::get(alloc, cursor)?)),
+        0x38 => Ok(read_player_list(alloc, cursor)?),
+        0x39 => {
+            let (flags, flying, walking) = Field::get(alloc, cursor)?;
+            Ok(Down::Abilities(flags, flying, walking))
+        }
+        _ => read_from_3a(alloc, cursor, id),
+    }
+}
+
+/// The fields of the packet with this id, from 1B on.
+#[tactic(auto, unfolding(crate::specs::Down::rows_from_1B))]
+fn read_from_1b(alloc: Global, cursor: &mut Cursor<'_>, id: i32) -> Result<Down, RowError>
+    ensures { GivesRow (λ read. (read, cursor.new)) result (id_read rows_from_1B id cursor.old) }
+{
+    match id {
+        0x1B => {
+            let (eid, vehicle, is_leash) = Field::get(alloc, cursor)?;
+            Ok(Down::Attach(eid, vehicle, is_leash))
+        }
+        0x1C => {
+            let (VarInt(eid), metas) = Field::get(alloc, cursor)?;
+            Ok(Down::Meta(eid, metas))
+        }
+        0x1F => {
+            let (bar, VarInt(level), VarInt(total)) = Field::get(alloc, cursor)?;
+            Ok(Down::Experience(bar, level, total))
+        }
+        0x21 => {
+            let (cx, cz, ground_up, mask, body) = Field::get(alloc, cursor)?;
+            Ok(Down::Chunk {
+                cx,
+                cz,
+                ground_up,
+                mask,
+                body,
+            })
+        }
+        0x22 => {
+            let (cx, cz, records) = Field::get(alloc, cursor)?;
+            Ok(Down::MultiChange(cx, cz, records))
+        }
+        0x23 => {
+            let (cell, VarInt(state)) = Field::get(alloc, cursor)?;
+            Ok(Down::Change(cell, state))
+        }
+        0x2B => {
+            let (reason, value) = Field::get(alloc, cursor)?;
+            Ok(Down::GameState(reason, value))
+        }
+        0x2D => {
+            let (window, kind, title, slots): (u8, Text, Text, u8) = Field::get(alloc, cursor)?;
+            let horse = take_horse_if(is_horse(kind.as_str()), cursor)?;
+            Ok(Down::OpenWindow {
+                window,
+                kind,
+                title,
+                slots,
+                horse,
+            })
+        }
+        _ => read_from_2e(alloc, cursor, id),
+    }
+}
+
+/// The fields of the packet with this id, from 13 on.
+#[tactic(auto, unfolding(crate::specs::Down::rows_from_13))]
+fn read_from_13(alloc: Global, cursor: &mut Cursor<'_>, id: i32) -> Result<Down, RowError>
+    ensures { GivesRow (λ read. (read, cursor.new)) result (id_read rows_from_13 id cursor.old) }
+{
+    match id {
+        0x13 => Ok(Down::Destroy(Field::get(alloc, cursor)?)),
+        0x14 => {
+            let VarInt(eid) = Field::get(alloc, cursor)?;
+            Ok(Down::Entity(eid))
+        }
+        0x15 => {
+            let (VarInt(eid), dx, dy, dz, on_ground) = Field::get(alloc, cursor)?;
+            Ok(Down::Step {
+                eid,
+                dx,
+                dy,
+                dz,
+                on_ground,
+            })
+        }
+        0x16 => {
+            let (VarInt(eid), yaw, pitch, on_ground) = Field::get(alloc, cursor)?;
+            Ok(Down::Look {
+                eid,
+                yaw,
+                pitch,
+                on_ground,
+            })
+        }
+        0x17 => {
+            let (VarInt(eid), dx, dy, dz, yaw, pitch, on_ground) = Field::get(alloc, cursor)?;
+            Ok(Down::StepLook {
+                eid,
+                dx,
+                dy,
+                dz,
+                yaw,
+                pitch,
+                on_ground,
+            })
+        }
+        0x18 => {
+            let (VarInt(eid), x, y, z, yaw, pitch, on_ground) = Field::get(alloc, cursor)?;
+            Ok(Down::Teleport {
+                eid,
+                x,
+                y,
+                z,
+                yaw,
+                pitch,
+                on_ground,
+            })
+        }
+        0x19 => {
+            let (VarInt(eid), head) = Field::get(alloc, cursor)?;
+            Ok(Down::HeadLook(eid, head))
+        }
+        0x1A => {
+            let (eid, event) = Field::get(alloc, cursor)?;
+            Ok(Down::Status(eid, event))
+        }
+        _ => read_from_1b(alloc, cursor, id),
+    }
+}
+
+/// The fields of the packet with this id, from 08 on.
+#[tactic(auto, unfolding(crate::specs::Down::rows_from_08))]
+fn read_from_08(alloc: Global, cursor: &mut Cursor<'_>, id: i32) -> Result<Down, RowError>
+    ensures { GivesRow (λ read. (read, cursor.new)) result (id_read rows_from_08 id cursor.old) }
+{
+    match id {
+        0x08 => {
+            let (x, y, z, yaw, pitch, flags) = Field::get(alloc, cursor)?;
+            Ok(Down::PositionLook {
+                x,
+                y,
+                z,
+                yaw,
+                pitch,
+                flags,
+            })
+        }
+        0x09 => Ok(Down::Held(Field::get(alloc, cursor)?)),
+        0x0B => {
+            let (VarInt(eid), motion) = Field::get(alloc, cursor)?;
+            Ok(Down::Animation(eid, motion))
+        }
+        0x0C => {
+            let (VarInt(eid), uuid, (x, y, z), (yaw, pitch), item, metas) = Field::get(
+                alloc, cursor,
+            )?;
+            Ok(Down::SpawnPlayer {
+                eid,
+                uuid,
+                x,
+                y,
+                z,
+                yaw,
+                pitch,
+                item,
+                metas,
+            })
+        }
+        0x0D => {
+            let (VarInt(item), VarInt(collector)) = Field::get(alloc, cursor)?;
+            Ok(Down::Collect(item, collector))
+        }
+        0x0E => {
+            let (VarInt(eid), kind, (x, y, z), (pitch, yaw), extra) = Field::get(alloc, cursor)?;
+            let speed = take_speed_if(extra > 0, cursor)?;
+            Ok(Down::SpawnObject {
+                eid,
+                kind,
+                x,
+                y,
+                z,
+                pitch,
+                yaw,
+                extra,
+                speed,
+            })
+        }
+        0x0F => {
+            let (VarInt(eid), kind, (x, y, z), (yaw, pitch, head), (dx, dy, dz), metas) =
+                Field::get(alloc, cursor)?;
+            Ok(Down::SpawnMob {
+                eid,
+                kind,
+                x,
+                y,
+                z,
+                yaw,
+                pitch,
+                head,
+                dx,
+                dy,
+                dz,
+                metas,
+            })
+        }
+        0x12 => {
+            let (VarInt(eid), dx, dy, dz) = Field::get(alloc, cursor)?;
+            Ok(Down::Velocity { eid, dx, dy, dz })
+        }
+        _ => read_from_13(alloc, cursor, id),
+    }
+}
+
+/// The fields of the packet with this id, from 00 on, where they are taken apart.
+#[tactic(auto, unfolding(crate::specs::Down::rows_from_00))]
+fn read_from_00(alloc: Global, cursor: &mut Cursor<'_>, id: i32) -> Result<Down, RowError>
+    ensures { GivesRow (λ read. (read, cursor.new)) result (id_read rows_from_00 id cursor.old) }
+{
+    match id {
+        0x00 => {
+            let VarInt(number) = Field::get(alloc, cursor)?;
+            Ok(Down::KeepAlive(number))
+        }
+        0x01 => {
+            let (eid, mode, dimension, difficulty, max_players, level_type, reduced_debug_info) =
+                Field::get(alloc, cursor)?;
+            Ok(Down::JoinGame {
+                eid,
+                mode,
+                dimension,
+                difficulty,
+                max_players,
+                level_type,
+                reduced_debug_info,
+            })
+        }
+        0x02 => {
+            let (message, place) = Field::get(alloc, cursor)?;
+            Ok(Down::Chat(message, place))
+        }
+        0x03 => {
+            let (age, daytime) = Field::get(alloc, cursor)?;
+            Ok(Down::Time(age, daytime))
+        }
+        0x04 => {
+            let (VarInt(eid), worn, item) = Field::get(alloc, cursor)?;
+            Ok(Down::Equipment(eid, worn, item))
+        }
+        0x05 => Ok(Down::SpawnPosition(Field::get(alloc, cursor)?)),
+        0x06 => {
+            let (points, VarInt(food), saturation) = Field::get(alloc, cursor)?;
+            Ok(Down::Health(points, food, saturation))
+        }
+        0x07 => {
+            let (dimension, difficulty, mode, level_type) = Field::get(alloc, cursor)?;
+            Ok(Down::Respawn {
+                dimension,
+                difficulty,
+                mode,
+                level_type,
+            })
+        }
+        _ => read_from_08(alloc, cursor, id),
     }
 }
 
@@ -135,7 +361,7 @@ fn read_fields(alloc: Global, cursor: &mut Cursor<'_>, id: i32) -> Result<Down, 
     if is_raw(id) {
         return Ok(read_raw(alloc, cursor, id)?);
     }
-    read_named(alloc, cursor, id)
+    read_from_00(alloc, cursor, id)
 }
 
 /// The packet of a frame, or its first fault, with its place counted from the frame's end.
@@ -159,6 +385,8 @@ pub fn read_down(alloc: Global, frame: &[u8]) -> Result<Down, PacketRead>
     ensures found { IfOk result (λ packet. SpellsDown packet frame.now) }
     // What is spelled so is read, unless memory runs out.
     ensures only { (packet : Down) → SpellsDown packet frame.now → GivesPacket result (Ok packet) }
+    // A frame spells one packet at most.
+    ensures one { (p q : Down) → SpellsDown p frame.now → SpellsDown q frame.now → p ≡ q }
     // Which fault it is.
     ensures exact { GivesPacket result (packet_of frame.now (frame_read rows frame.now)) }
 {

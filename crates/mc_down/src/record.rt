@@ -1,3 +1,7 @@
+use mc_fields::{Field, VarInt, put3};
+use mc_nbt::{Cursor, NoMemory, ReadError};
+use std::alloc::Global;
+
 /// A cell of a column that changes, of a packet of many.
 #[derive(Clone, Copy, Debug, PartialEq, Eq)]
 pub struct Record {
@@ -7,6 +11,21 @@ pub struct Record {
     pub y: u8,
     /// Its new state.
     pub state: i32,
+}
+
+impl Field for Record {
+    ghost use Rattle.mc_down.specs.Fields.{cell_change};
+
+    ghost format = { cell_change };
+
+    fn get(alloc: Global, cursor: &mut Cursor<'_>) -> Result<Record, ReadError> {
+        let (place, y, VarInt(state)) = Field::get(alloc, cursor)?;
+        Ok(Record { place, y, state })
+    }
+
+    fn put(&self, out: &mut Vec<u8>) -> Result<(), NoMemory> {
+        put3(&self.place, &self.y, &VarInt(self.state), out)
+    }
 }
 
 /// How fast a spawned object moves, in 1/8000 blocks a tick.

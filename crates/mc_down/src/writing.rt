@@ -1,46 +1,63 @@
 //! Packets to a client, written.
-#![tactic(auto, using(mc_nbt::proofs::Kept::kept_whole, mc_nbt::proofs::Kept::kept_same, mc_nbt::proofs::Kept::kept_by))]
+#![tactic(auto, using(mc_nbt::proofs::Kept::kept_whole, mc_nbt::proofs::Kept::kept_same, mc_nbt::proofs::Kept::kept_by, mc_nbt::proofs::Kept::kept_past))]
 
 ghost use Rattle.std.specs.Prelude.{◌≡◌, ◌++◌, List, ℕ, Ok, OnOk, OnErr, take, length};
 ghost use Rattle.mc_fields.specs.Row.{frame_read, row_fits, row_append};
-ghost use Rattle.mc_down.specs.Down.{raw, rows, SpellsDown, FitsDown, spelling_of, append_of};
+ghost use Rattle.mc_down.specs.Down.{spawn_object, spawn_mob, rows, SpellsDown, FitsDown, spelling_of, append_of};
 
-use crate::Down;
-use crate::entities::{
-    write_animation, write_attach, write_collect, write_destroy, write_equipment, write_meta,
-    write_status,
-};
-use crate::moves::{
-    write_entity, write_head_look, write_look, write_step, write_step_look, write_teleport,
-    write_velocity,
-};
-use crate::others::{
-    write_chat, write_disconnect, write_keep_alive, write_plugin, write_tab_complete,
-};
+use crate::parts::{write_int_if, write_speed_if};
 use crate::player_list::write_player_list;
-use crate::player_state::{
-    write_abilities, write_experience, write_health, write_held, write_join_game,
-    write_position_look, write_respawn,
+use crate::{Down, Metas, Speed};
+use mc_fields::{
+    VarInt, put_row, put_row2, put_row3, put_row4, put_row5, put_row6, put_row7, write_varint,
 };
-use crate::spawns::{write_spawn_mob, write_spawn_object, write_spawn_player};
-use crate::windows::{
-    write_close_window, write_confirm, write_open_window, write_set_slot, write_window_items,
-    write_window_property,
-};
-use crate::world::{
-    write_change, write_chunk, write_difficulty, write_game_state, write_multi_change,
-    write_sign_editor, write_spawn_position, write_time,
-};
-use mc_fields::write_varint;
-use mc_nbt::{NoMemory, Octets, write_octets};
+use mc_nbt::{NoMemory, write_octets};
 
-fn write_raw(id: i32, bytes: &Octets, out: &mut Vec<u8>) -> Result<(), NoMemory>
-    requires { row_fits (raw id) bytes.now }
-    ensures ok { OnOk result (out.new.items ≡ row_append (raw id) bytes.now out.old.items) }
-    ensures begun { OnErr result (take (length out.old.items) out.new.items ≡ out.old.items) }
+/// An object, with its speed where it is there.
+fn write_object(
+    eid: i32,
+    kind: i8,
+    place: (i32, i32, i32),
+    turns: (u8, u8),
+    extra: i32,
+    speed: &Option<Speed>,
+    out: &mut Vec<u8>,
+) -> Result<(), NoMemory>
+    requires { row_fits spawn_object ((eid, kind, place, turns, extra), speed.now) }
+    ensures ok { OnOk result (out.new.items ≡
+        row_append spawn_object ((eid, kind, place, turns, extra), speed.now) out.old.items) }
+    ensures kept { take (length out.old.items) out.new.items ≡ out.old.items }
 {
-    write_varint(id, out)?;
-    write_octets(bytes.as_slice(), out)?;
+    put_row5(0x0E, &VarInt(eid), &kind, &place, &turns, &extra, out)?;
+    write_speed_if(speed, out)?;
+    Ok(())
+}
+
+/// A mob.
+fn write_mob(
+    eid: i32,
+    kind: u8,
+    place: (i32, i32, i32),
+    turns: (u8, u8, u8),
+    speed: (i16, i16, i16),
+    metas: &Metas,
+    out: &mut Vec<u8>,
+) -> Result<(), NoMemory>
+    requires { row_fits spawn_mob (eid, kind, place, turns, speed, metas.now) }
+    ensures ok { OnOk result (out.new.items ≡
+        row_append spawn_mob (eid, kind, place, turns, speed, metas.now) out.old.items) }
+    ensures kept { take (length out.old.items) out.new.items ≡ out.old.items }
+{
+    put_row6(
+        0x0F,
+        &VarInt(eid),
+        &kind,
+        &place,
+        &turns,
+        &speed,
+        metas,
+        out,
+    )?;
     Ok(())
 }
 
@@ -51,73 +68,201 @@ fn write_fields(packet: &Down, out: &mut Vec<u8>) -> Result<(), NoMemory>
     ensures begun { OnErr result (take (length out.old.items) out.new.items ≡ out.old.items) }
 {
     match packet {
-        Down::KeepAlive(number) => write_keep_alive(*number, out)?,
-        Down::JoinGame(eid, mode, dimension, hardness, most, level, reduced) => write_join_game(
-            *eid, *mode, *dimension, *hardness, *most, level, *reduced, out,
+        Down::KeepAlive(number) => put_row(0x00, &VarInt(*number), out)?,
+        Down::JoinGame {
+            eid,
+            mode,
+            dimension,
+            difficulty,
+            max_players,
+            level_type,
+            reduced_debug_info,
+        } => put_row7(
+            0x01,
+            eid,
+            mode,
+            dimension,
+            difficulty,
+            max_players,
+            level_type,
+            reduced_debug_info,
+            out,
         )?,
-        Down::Chat(message, place) => write_chat(message, *place, out)?,
-        Down::Time(age, daytime) => write_time(*age, *daytime, out)?,
-        Down::Equipment(eid, worn, item) => write_equipment(*eid, *worn, item, out)?,
-        Down::SpawnPosition(cell) => write_spawn_position(*cell, out)?,
-        Down::Health(points, food, saturation) => write_health(*points, *food, *saturation, out)?,
-        Down::Respawn(dimension, hardness, mode, level) => write_respawn(
-            *dimension, *hardness, *mode, level, out,
+        Down::Chat(message, place) => put_row2(0x02, message, place, out)?,
+        Down::Time(age, daytime) => put_row2(0x03, age, daytime, out)?,
+        Down::Equipment(eid, worn, item) => put_row3(0x04, &VarInt(*eid), worn, item, out)?,
+        Down::SpawnPosition(cell) => put_row(0x05, cell, out)?,
+        Down::Health(points, food, saturation) => put_row3(
+            0x06,
+            points,
+            &VarInt(*food),
+            saturation,
+            out,
         )?,
-        Down::PositionLook(x, y, z, yaw, pitch, flags) => write_position_look(
-            *x, *y, *z, *yaw, *pitch, *flags, out,
+        Down::Respawn {
+            dimension,
+            difficulty,
+            mode,
+            level_type,
+        } => put_row4(0x07, dimension, difficulty, mode, level_type, out)?,
+        Down::PositionLook {
+            x,
+            y,
+            z,
+            yaw,
+            pitch,
+            flags,
+        } => put_row6(0x08, x, y, z, yaw, pitch, flags, out)?,
+        Down::Held(index) => put_row(0x09, index, out)?,
+        Down::Animation(eid, motion) => put_row2(0x0B, &VarInt(*eid), motion, out)?,
+        Down::SpawnPlayer {
+            eid,
+            uuid,
+            x,
+            y,
+            z,
+            yaw,
+            pitch,
+            item,
+            metas,
+        } => put_row6(
+            0x0C,
+            &VarInt(*eid),
+            uuid,
+            &(*x, *y, *z),
+            &(*yaw, *pitch),
+            item,
+            metas,
+            out,
         )?,
-        Down::Held(index) => write_held(*index, out)?,
-        Down::Animation(eid, motion) => write_animation(*eid, *motion, out)?,
-        Down::SpawnPlayer(eid, who, x, y, z, yaw, pitch, item, metas) => write_spawn_player(
-            *eid, *who, *x, *y, *z, *yaw, *pitch, *item, metas, out,
+        Down::Collect(item, collector) => put_row2(0x0D, &VarInt(*item), &VarInt(*collector), out)?,
+        Down::SpawnObject {
+            eid,
+            kind,
+            x,
+            y,
+            z,
+            pitch,
+            yaw,
+            extra,
+            speed,
+        } => write_object(
+            *eid,
+            *kind,
+            (*x, *y, *z),
+            (*pitch, *yaw),
+            *extra,
+            speed,
+            out,
         )?,
-        Down::Collect(item, collector) => write_collect(*item, *collector, out)?,
-        Down::SpawnObject(eid, kind, x, y, z, pitch, yaw, extra, speed_) => write_spawn_object(
-            *eid, *kind, *x, *y, *z, *pitch, *yaw, *extra, speed_, out,
+        Down::SpawnMob {
+            eid,
+            kind,
+            x,
+            y,
+            z,
+            yaw,
+            pitch,
+            head,
+            dx,
+            dy,
+            dz,
+            metas,
+        } => write_mob(
+            *eid,
+            *kind,
+            (*x, *y, *z),
+            (*yaw, *pitch, *head),
+            (*dx, *dy, *dz),
+            metas,
+            out,
         )?,
-        Down::SpawnMob(eid, kind, x, y, z, yaw, pitch, head, dx, dy, dz, metas) => write_spawn_mob(
-            *eid, *kind, *x, *y, *z, *yaw, *pitch, *head, *dx, *dy, *dz, metas, out,
+        Down::Velocity { eid, dx, dy, dz } => put_row4(0x12, &VarInt(*eid), dx, dy, dz, out)?,
+        Down::Destroy(eids) => put_row(0x13, eids, out)?,
+        Down::Entity(eid) => put_row(0x14, &VarInt(*eid), out)?,
+        Down::Step {
+            eid,
+            dx,
+            dy,
+            dz,
+            on_ground,
+        } => put_row5(0x15, &VarInt(*eid), dx, dy, dz, on_ground, out)?,
+        Down::Look {
+            eid,
+            yaw,
+            pitch,
+            on_ground,
+        } => put_row4(0x16, &VarInt(*eid), yaw, pitch, on_ground, out)?,
+        Down::StepLook {
+            eid,
+            dx,
+            dy,
+            dz,
+            yaw,
+            pitch,
+            on_ground,
+        } => put_row7(0x17, &VarInt(*eid), dx, dy, dz, yaw, pitch, on_ground, out)?,
+        Down::Teleport {
+            eid,
+            x,
+            y,
+            z,
+            yaw,
+            pitch,
+            on_ground,
+        } => put_row7(0x18, &VarInt(*eid), x, y, z, yaw, pitch, on_ground, out)?,
+        Down::HeadLook(eid, head) => put_row2(0x19, &VarInt(*eid), head, out)?,
+        Down::Status(eid, event) => put_row2(0x1A, eid, event, out)?,
+        Down::Attach(eid, vehicle, is_leash) => put_row3(0x1B, eid, vehicle, is_leash, out)?,
+        Down::Meta(eid, metas) => put_row2(0x1C, &VarInt(*eid), metas, out)?,
+        Down::Experience(bar, level, total) => put_row3(
+            0x1F,
+            bar,
+            &VarInt(*level),
+            &VarInt(*total),
+            out,
         )?,
-        Down::Velocity(eid, dx, dy, dz) => write_velocity(*eid, *dx, *dy, *dz, out)?,
-        Down::Destroy(eids) => write_destroy(eids, out)?,
-        Down::Entity(eid) => write_entity(*eid, out)?,
-        Down::Step(eid, dx, dy, dz, on_ground) => write_step(*eid, *dx, *dy, *dz, *on_ground, out)?,
-        Down::Look(eid, yaw, pitch, on_ground) => write_look(*eid, *yaw, *pitch, *on_ground, out)?,
-        Down::StepLook(eid, dx, dy, dz, yaw, pitch, on_ground) => write_step_look(
-            *eid, *dx, *dy, *dz, *yaw, *pitch, *on_ground, out,
+        Down::Chunk {
+            cx,
+            cz,
+            ground_up,
+            mask,
+            body,
+        } => put_row5(0x21, cx, cz, ground_up, mask, body, out)?,
+        Down::MultiChange(cx, cz, records) => put_row3(0x22, cx, cz, records, out)?,
+        Down::Change(cell, state) => put_row2(0x23, cell, &VarInt(*state), out)?,
+        Down::GameState(reason, value) => put_row2(0x2B, reason, value, out)?,
+        Down::OpenWindow {
+            window,
+            kind,
+            title,
+            slots,
+            horse,
+        } => {
+            put_row4(0x2D, window, kind, title, slots, out)?;
+            write_int_if(horse, out)?
+        }
+        Down::CloseWindow(window) => put_row(0x2E, window, out)?,
+        Down::SetSlot(window, index, item) => put_row3(0x2F, window, index, item, out)?,
+        Down::WindowItems(window, items) => put_row2(0x30, window, items, out)?,
+        Down::WindowProperty(window, property, value) => put_row3(
+            0x31, window, property, value, out,
         )?,
-        Down::Teleport(eid, x, y, z, yaw, pitch, on_ground) => write_teleport(
-            *eid, *x, *y, *z, *yaw, *pitch, *on_ground, out,
-        )?,
-        Down::HeadLook(eid, head) => write_head_look(*eid, *head, out)?,
-        Down::Status(eid, event) => write_status(*eid, *event, out)?,
-        Down::Attach(eid, vehicle, is_leash) => write_attach(*eid, *vehicle, *is_leash, out)?,
-        Down::Meta(eid, metas) => write_meta(*eid, metas, out)?,
-        Down::Experience(bar, level, total) => write_experience(*bar, *level, *total, out)?,
-        Down::Chunk(cx, cz, ground_up, mask, body) => write_chunk(
-            *cx, *cz, *ground_up, *mask, body, out,
-        )?,
-        Down::MultiChange(cx, cz, records) => write_multi_change(*cx, *cz, records, out)?,
-        Down::Change(cell, state) => write_change(*cell, *state, out)?,
-        Down::GameState(reason, value) => write_game_state(*reason, *value, out)?,
-        Down::OpenWindow(window, kind, title, slots, horse) => write_open_window(
-            *window, kind, title, *slots, horse, out,
-        )?,
-        Down::CloseWindow(window) => write_close_window(*window, out)?,
-        Down::SetSlot(window, index, item) => write_set_slot(*window, *index, item, out)?,
-        Down::WindowItems(window, items) => write_window_items(*window, items, out)?,
-        Down::WindowProperty(window, property, value) => write_window_property(
-            *window, *property, *value, out,
-        )?,
-        Down::Confirm(window, number, accepted) => write_confirm(*window, *number, *accepted, out)?,
-        Down::SignEditor(cell) => write_sign_editor(*cell, out)?,
+        Down::Confirm(window, number, accepted) => put_row3(0x32, window, number, accepted, out)?,
+        Down::SignEditor(cell) => put_row(0x36, cell, out)?,
         Down::List(action, changes) => write_player_list(action, changes, out)?,
-        Down::Abilities(flags, flying, walking) => write_abilities(*flags, *flying, *walking, out)?,
-        Down::TabComplete(matches_) => write_tab_complete(matches_, out)?,
-        Down::Plugin(channel, content) => write_plugin(channel, content, out)?,
-        Down::Disconnect(reason) => write_disconnect(reason, out)?,
-        Down::Difficulty(level) => write_difficulty(*level, out)?,
-        Down::Raw(id, bytes) => write_raw(*id, bytes, out)?,
+        Down::Abilities(flags, flying, walking) => put_row3(0x39, flags, flying, walking, out)?,
+        Down::TabComplete(matches) => put_row(0x3A, matches, out)?,
+        Down::Plugin(channel, content) => {
+            put_row(0x3F, channel, out)?;
+            write_octets(content.as_slice(), out)?
+        }
+        Down::Disconnect(reason) => put_row(0x40, reason, out)?,
+        Down::Difficulty(level) => put_row(0x41, level, out)?,
+        Down::Raw(id, bytes) => {
+            write_varint(*id, out)?;
+            write_octets(bytes.as_slice(), out)?
+        }
     }
     Ok(())
 }

@@ -4,3 +4,4 @@ pub mod StatusDownLaws
 pub mod LoginUpLaws
 pub mod LoginDownLaws
 pub mod PlayUpLaws
+pub mod Wider

@@ -1,6 +1,7 @@
 -- Each packet is found by its id, and the words of its enum are those of its row.
 use Rattle.std.proofs.Common.{◌≡◌, ℕ, List, Ok}
-use Rattle.mc_fields.specs.Row.{Spells, IsTied, row_tied, frame_read, spelled_fits, fits_spelled, spelled_again}
+use Rattle.mc_fields.specs.Row.{Spells, IsTied, frame_read}
+use Rattle.mc_fields.specs.RowLaws.{row_tied, spelled_fits, fits_spelled, spelled_again}
 use Rattle.mc_up.specs.declared.login_up.LoginUp.{LoginUp}
 use Rattle.mc_up.specs.declared.login_up.LoginUp.TheVariants.{Start}
 use Rattle.mc_up.specs.LoginUp.{entry_of, rows, SpellsLoginUp, FitsLoginUp, spelling_of}

@@ -2,8 +2,10 @@
 use Rattle.std.specs.Prelude.{ℕ, ◌==◌, ◌||◌, Bool, false, List}
 use lib.IntN.{ℤ, pos, negsuc}
 use Rattle.mc_nbt.specs.declared.fault.Kind.TheVariants.{BadNumber}
-use Rattle.mc_nbt.specs.Combine.{◌then◌, tested}
-use Rattle.mc_fields.specs.VarintFormat.{varint}
+use Rattle.mc_nbt.specs.Format.{Format}
+use Rattle.mc_nbt.specs.Combine.{tested, last}
+use Rattle.mc_fields.specs.VarintField.{var_int}
+use Rattle.mc_fields.specs.Flat.{tuple4}
 use Rattle.mc_fields.specs.TextFormat.{text}
 use Rattle.mc_fields.specs.Integers.{ushort}
 use Rattle.mc_fields.specs.Row.{Row, packet, Entry, of_row, Spells, Fits, spelling, append, Rows}
@@ -16,31 +18,42 @@ abbrev pub is_next : ℤ → Bool
 is_next (pos n) = n == 1 || n == 2
 is_next (negsuc n) = false
 
+abbrev pub next : {Rest : List ℕ → Type 0} → Format Rest ℤ
+next {Rest} = tested (var_int {Rest = Rest}) is_next BadNumber
+
 -- 00 Handshake
 abbrev pub handshake : Row Hand
-handshake = packet 0 (varint then λ _. text 255 then λ _. ushort then λ _. tested varint is_next BadNumber) (λ (protocol, (address, (port, next))). Handshake protocol address port next)
+handshake =
+    packet 0 (last (tuple4 var_int (text 255) ushort next))
+    (λ (protocol, address, port, wanted). Handshake protocol address port wanted)
 
 -- a packet's row and its fields
 abbrev pub entry_of : Hand → Entry Hand
-entry_of (Handshake protocol address port next) = of_row handshake (protocol, (address, (port, next)))
+entry_of (Handshake protocol address port wanted) =
+    of_row handshake (protocol, address, port, wanted)
 
 -- the row of each id
 abbrev pub rows : Rows Hand entry_of
 rows = row handshake (λ _ _ s. s) no_more
 
--- these bytes spell the packet; it has a spelling; the shortest one; the bytes with that at their end
+-- these bytes spell the packet; it has a spelling; the one that is written; the bytes with
+-- that at their end
 abbrev pub SpellsHand : Hand → List ℕ → Type 0
-SpellsHand (Handshake protocol address port next) = Spells (entry_of (Handshake protocol address port next))
+SpellsHand (Handshake protocol address port wanted) =
+    Spells (entry_of (Handshake protocol address port wanted))
 
 abbrev pub FitsHand : Hand → Type 0
-FitsHand (Handshake protocol address port next) = Fits (entry_of (Handshake protocol address port next))
+FitsHand (Handshake protocol address port wanted) =
+    Fits (entry_of (Handshake protocol address port wanted))
 
 abbrev pub spelling_of : Hand → List ℕ
-spelling_of (Handshake protocol address port next) = spelling (entry_of (Handshake protocol address port next))
+spelling_of (Handshake protocol address port wanted) =
+    spelling (entry_of (Handshake protocol address port wanted))
 
 abbrev pub append_of : Hand → List ℕ → List ℕ
-append_of (Handshake protocol address port next) = append (entry_of (Handshake protocol address port next))
+append_of (Handshake protocol address port wanted) =
+    append (entry_of (Handshake protocol address port wanted))
 
 -- what the client wants next
 abbrev pub next_of : Hand → ℤ
-next_of (Handshake protocol address port next) = next
+next_of (Handshake protocol address port wanted) = wanted

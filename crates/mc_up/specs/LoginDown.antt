@@ -1,7 +1,9 @@
--- The packets to a client that logs in, of the page 'Protocol' of wiki.vg for protocol 47, without encryption and compression.
+-- The packets to a client that logs in, of the page 'Protocol' of wiki.vg for protocol 47, without
+-- encryption and compression.
 use Rattle.std.specs.Prelude.{ℕ, List}
-use Rattle.mc_nbt.specs.Combine.{◌then◌}
-use Rattle.mc_fields.specs.TextFormat.{text}
+use Rattle.mc_nbt.specs.Combine.{last}
+use Rattle.mc_fields.specs.TextFormat.{text, string}
+use Rattle.mc_fields.specs.Flat.{tuple2}
 use Rattle.mc_fields.specs.Row.{Row, packet, Entry, of_row, Spells, Fits, spelling, append, Rows}
 use Rattle.mc_fields.specs.Row.Rows.{row, no_more}
 use Rattle.mc_up.specs.declared.login_down.LoginDown.{LoginDown}
@@ -9,11 +11,11 @@ use Rattle.mc_up.specs.declared.login_down.LoginDown.TheVariants.{Disconnect, Su
 
 -- 00 Disconnect
 abbrev pub disconnect : Row LoginDown
-disconnect = packet 0 (text 32767) (λ reason. Disconnect reason)
+disconnect = packet 0 (last string) (λ reason. Disconnect reason)
 
 -- 02 Success
 abbrev pub success : Row LoginDown
-success = packet 2 (text 36 then λ _. text 16) (λ (uuid, name). Success uuid name)
+success = packet 2 (last (tuple2 (text 36) (text 16))) (λ (uuid, name). Success uuid name)
 
 -- a packet's row and its fields
 abbrev pub entry_of : LoginDown → Entry LoginDown
@@ -27,7 +29,8 @@ rows =
     row success (λ _ _ s. s) (
     no_more))
 
--- these bytes spell the packet; it has a spelling; the shortest one; the bytes with that at their end
+-- these bytes spell the packet; it has a spelling; the one that is written; the bytes with
+-- that at their end
 abbrev pub SpellsLoginDown : LoginDown → List ℕ → Type 0
 SpellsLoginDown (Disconnect reason) = Spells (entry_of (Disconnect reason))
 SpellsLoginDown other = Spells (entry_of other)

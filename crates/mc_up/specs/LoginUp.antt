@@ -1,5 +1,7 @@
--- The packet of a client that logs in, of the page 'Protocol' of wiki.vg for protocol 47, without encryption.
+-- The packet of a client that logs in, of the page 'Protocol' of wiki.vg for protocol 47, without
+-- encryption.
 use Rattle.std.specs.Prelude.{ℕ, List}
+use Rattle.mc_nbt.specs.Combine.{last}
 use Rattle.mc_fields.specs.TextFormat.{text}
 use Rattle.mc_fields.specs.Row.{Row, packet, Entry, of_row, Spells, Fits, spelling, append, Rows}
 use Rattle.mc_fields.specs.Row.Rows.{row, no_more}
@@ -8,7 +10,7 @@ use Rattle.mc_up.specs.declared.login_up.LoginUp.TheVariants.{Start}
 
 -- 00 Start
 abbrev pub start : Row LoginUp
-start = packet 0 (text 16) (λ name. Start name)
+start = packet 0 (last (text 16)) (λ name. Start name)
 
 -- a packet's row and its fields
 abbrev pub entry_of : LoginUp → Entry LoginUp
@@ -18,7 +20,8 @@ entry_of (Start name) = of_row start name
 abbrev pub rows : Rows LoginUp entry_of
 rows = row start (λ _ _ s. s) no_more
 
--- these bytes spell the packet; it has a spelling; the shortest one; the bytes with that at their end
+-- these bytes spell the packet; it has a spelling; the one that is written; the bytes with
+-- that at their end
 abbrev pub SpellsLoginUp : LoginUp → List ℕ → Type 0
 SpellsLoginUp (Start name) = Spells (entry_of (Start name))
 

@@ -1,6 +1,8 @@
--- The packets to a client that asks for the status, of the page 'Protocol' of wiki.vg for protocol 47.
+-- The packets to a client that asks for the status, of the page 'Protocol' of wiki.vg for protocol
+-- 47.
 use Rattle.std.specs.Prelude.{ℕ, List}
-use Rattle.mc_fields.specs.TextFormat.{text}
+use Rattle.mc_nbt.specs.Combine.{last}
+use Rattle.mc_fields.specs.TextFormat.{string}
 use Rattle.mc_fields.specs.Integers.{long}
 use Rattle.mc_fields.specs.Row.{Row, packet, Entry, of_row, Spells, Fits, spelling, append, Rows}
 use Rattle.mc_fields.specs.Row.Rows.{row, no_more}
@@ -9,11 +11,11 @@ use Rattle.mc_up.specs.declared.status_down.StatusDown.TheVariants.{Response, Po
 
 -- 00 Response
 abbrev pub response : Row StatusDown
-response = packet 0 (text 32767) (λ json. Response json)
+response = packet 0 (last string) (λ json. Response json)
 
 -- 01 Pong
 abbrev pub pong : Row StatusDown
-pong = packet 1 long (λ number. Pong number)
+pong = packet 1 (last long) (λ number. Pong number)
 
 -- a packet's row and its fields
 abbrev pub entry_of : StatusDown → Entry StatusDown
@@ -27,7 +29,8 @@ rows =
     row pong (λ _ _ s. s) (
     no_more))
 
--- these bytes spell the packet; it has a spelling; the shortest one; the bytes with that at their end
+-- these bytes spell the packet; it has a spelling; the one that is written; the bytes with
+-- that at their end
 abbrev pub SpellsStatusDown : StatusDown → List ℕ → Type 0
 SpellsStatusDown (Pong number) = Spells (entry_of (Pong number))
 SpellsStatusDown other = Spells (entry_of other)

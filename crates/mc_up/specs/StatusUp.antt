@@ -1,6 +1,7 @@
--- The packets of a client that asks for the status, of the page 'Protocol' of wiki.vg for protocol 47.
+-- The packets of a client that asks for the status, of the page 'Protocol' of wiki.vg for protocol
+-- 47.
 use Rattle.std.specs.Prelude.{ℕ, List}
-use Rattle.mc_nbt.specs.Combine.{none}
+use Rattle.mc_nbt.specs.Combine.{last, none}
 use Rattle.mc_fields.specs.Integers.{long}
 use Rattle.mc_fields.specs.Row.{Row, packet, Entry, of_row, Spells, Fits, spelling, append, Rows}
 use Rattle.mc_fields.specs.Row.Rows.{row, no_more}
@@ -13,7 +14,7 @@ request = packet 0 none (λ _. Request)
 
 -- 01 Ping
 abbrev pub ping : Row StatusUp
-ping = packet 1 long (λ number. Ping number)
+ping = packet 1 (last long) (λ number. Ping number)
 
 -- a packet's row and its fields
 abbrev pub entry_of : StatusUp → Entry StatusUp
@@ -27,7 +28,8 @@ rows =
     row ping (λ _ _ s. s) (
     no_more))
 
--- these bytes spell the packet; it has a spelling; the shortest one; the bytes with that at their end
+-- these bytes spell the packet; it has a spelling; the one that is written; the bytes with
+-- that at their end
 abbrev pub SpellsStatusUp : StatusUp → List ℕ → Type 0
 SpellsStatusUp (Ping number) = Spells (entry_of (Ping number))
 SpellsStatusUp other = Spells (entry_of other)

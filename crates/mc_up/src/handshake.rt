@@ -1,23 +1,27 @@
-ghost use Rattle.std.specs.Prelude.{◌≡◌, ◌<◌, ◌^◌, ◌++◌, ◌↔◌, ℕ, List, IsTrue, IfOk, OnOk, OnErr, Ok, take, length};
-ghost use Rattle.mc_nbt.specs.Reading.{Yields, Gives};
-ghost use Rattle.mc_nbt.specs.Combine.{tested_read};
-ghost use Rattle.mc_fields.specs.Varint.{varint_read};
-ghost use Rattle.mc_fields.specs.Row.{GivesRow, GivesPacket, fields_read, id_read, frame_read, packet_of, row_append};
-ghost use Rattle.mc_up.specs.Hand.{handshake, is_next, rows, SpellsHand, FitsHand, spelling_of, append_of};
+ghost use Rattle.std.specs.Prelude.{◌≡◌, ◌++◌, ◌↔◌, ℕ, List, IsTrue, IfOk, OnOk, OnErr, Ok, take};
+ghost use Rattle.std.specs.Prelude.{length};
+ghost use Rattle.mc_fields.specs.Row.{GivesRow, GivesPacket, id_read, frame_read, packet_of};
+ghost use Rattle.mc_up.specs.Hand.{rows, SpellsHand, FitsHand, spelling_of, append_of};
 
 use mc_fields::{
-    PacketRead, RowError, RowFault, take_text, take_varint, whole, write_text, write_u16,
+    Bounded, Field, PacketRead, RowError, RowFault, VarInt, put_row4, take_varint, whole,
     write_varint,
 };
-use mc_nbt::{Cursor, Kind, NoMemory, ReadError, Stop, Text};
+use mc_nbt::{Cursor, Kind, NoMemory, ReadError, Text};
 use std::alloc::Global;
+use std::marker::Model;
 
 /// A packet of a connection that has not said yet what it wants.
 #[derive(Drop)]
 pub enum Hand {
     /// The protocol's number, the address and the port that the client connected to, and what it
     /// wants next: 1 the status, 2 to log in.
-    Handshake(i32, Text, u16, i32),
+    Handshake {
+        protocol: i32,
+        address: Text,
+        port: u16,
+        next: i32,
+    },
 }
 
 impl Hand {
@@ -28,32 +32,44 @@ impl Hand {
     pub fn wants_status(&self) -> bool
         ensures { IsTrue result ↔ (next_of self.now ≡ pos 1) }
     {
-        let Hand::Handshake(_, _, _, next) = self;
+        let Hand::Handshake { next, .. } = self;
         *next == 1
     }
 }
 
-/// What a client wants next. `BadNumber` where it is neither the status nor to log in.
-fn take_next(cursor: &mut Cursor<'_>) -> Result<i32, Stop>
-    ensures { Yields (λ next. (next, cursor.new)) result
-        (tested_read (varint_read 5) is_next Kind.BadNumber cursor.old) }
-{
-    let start = Cursor::new(cursor.rest());
-    let next = take_varint(cursor)?;
-    if next != 1 && next != 2 {
-        return Err(start.stop(Kind::BadNumber));
-    }
-    Ok(next)
+/// What a client wants next. Contracts see it as its number.
+#[derive(Clone, Copy)]
+struct Next(i32);
+
+impl Model for Next {
+    ghost use Rattle.std.specs.Prelude.{ℤ};
+
+    ghost Value = { ℤ };
+
+    ghost view = { λ next. next.0 };
+
+    ghost inverse = { λ next. record { 0 = next } };
 }
 
-fn read_handshake(alloc: Global, cursor: &mut Cursor<'_>) -> Result<Hand, ReadError>
-    ensures { Gives (λ packet. (packet, cursor.new)) result (fields_read handshake cursor.old) }
-{
-    let protocol = take_varint(cursor)?;
-    let address = take_text(alloc, cursor, 255)?;
-    let port = cursor.u16()?;
-    let next = take_next(cursor)?;
-    Ok(Hand::Handshake(protocol, address, port, next))
+impl Field for Next {
+    ghost use Rattle.mc_up.specs.Hand.{next};
+
+    ghost format = { next };
+
+    #[tactic(auto, unfolding(mc_fields::specs::VarintField::var_int_read))]
+    fn get(_alloc: Global, cursor: &mut Cursor<'_>) -> Result<Next, ReadError> {
+        let start = Cursor::new(cursor.rest());
+        let next = take_varint(cursor)?;
+        if next != 1 && next != 2 {
+            return Err(ReadError::Stop(start.stop(Kind::BadNumber)));
+        }
+        Ok(Next(next))
+    }
+
+    fn put(&self, out: &mut Vec<u8>) -> Result<(), NoMemory> {
+        write_varint(self.0, out)?;
+        Ok(())
+    }
 }
 
 /// The fields of the packet with this id.
@@ -61,7 +77,17 @@ fn read_fields(alloc: Global, cursor: &mut Cursor<'_>, id: i32) -> Result<Hand, 
     ensures { GivesRow (λ packet. (packet, cursor.new)) result (id_read rows id cursor.old) }
 {
     match id {
-        0 => Ok(read_handshake(alloc, cursor)?),
+        0 => {
+            let (protocol, address, port, next): (VarInt, Bounded<255>, u16, Next) = Field::get(
+                alloc, cursor,
+            )?;
+            Ok(Hand::Handshake {
+                protocol: protocol.0,
+                address: address.into_text(),
+                port,
+                next: next.0,
+            })
+        }
         _ => Err(RowError::Fault(RowFault::UnknownId(id))),
     }
 }
@@ -82,7 +108,8 @@ pub fn read_hand(alloc: Global, frame: &[u8]) -> Result<Hand, PacketRead>
     // What is read is spelled so.
     ensures found { IfOk result (λ packet. SpellsHand packet frame.now) }
     // What is spelled so is read, unless memory runs out.
-    ensures only { (packet : Hand) → SpellsHand packet frame.now → GivesPacket result (Ok packet) }
+    ensures only { (packet : Hand) → SpellsHand packet frame.now →
+        GivesPacket result (Ok packet) }
     // A frame spells one packet at most.
     ensures one { (p q : Hand) → SpellsHand p frame.now → SpellsHand q frame.now → p ≡ q }
     // Which fault it is.
@@ -91,38 +118,21 @@ pub fn read_hand(alloc: Global, frame: &[u8]) -> Result<Hand, PacketRead>
     packet_in(alloc, frame).map_err(|error| error.within(frame.len()))
 }
 
-#[tactic(auto, using(mc_nbt::proofs::Kept::kept_more, mc_nbt::proofs::Kept::kept_whole))]
-fn write_handshake(
-    protocol: i32,
-    address: &Text,
-    port: u16,
-    next: i32,
-    out: &mut Vec<u8>,
-) -> Result<(), NoMemory>
-    requires { length address.now < 2 ^ 31 }
-    ensures ok { OnOk result (out.new.items ≡ row_append handshake (protocol, (address.now, (port, next))) out.old.items) }
-    ensures begun { OnErr result (take (length out.old.items) out.new.items ≡ out.old.items) }
-{
-    write_varint(0, out)?;
-    write_varint(protocol, out)?;
-    write_text(address, out)?;
-    write_u16(port, out)?;
-    write_varint(next, out)?;
-    Ok(())
-}
-
 /// The id and the fields of a packet; without memory some first part of them.
+#[tactic(auto, using(crate::proofs::Wider::wider_255))]
 fn write_fields(packet: &Hand, out: &mut Vec<u8>) -> Result<(), NoMemory>
     requires { FitsHand packet.now }
     ensures ok { OnOk result (out.new.items ≡ append_of packet.now out.old.items) }
     ensures begun { OnErr result (take (length out.old.items) out.new.items ≡ out.old.items) }
 {
     match packet {
-        Hand::Handshake(protocol, address, port, next) => {
-            write_handshake(*protocol, address, *port, *next, out)?
-        }
+        Hand::Handshake {
+            protocol,
+            address,
+            port,
+            next,
+        } => put_row4(0, &VarInt(*protocol), address, port, &Next(*next), out),
     }
-    Ok(())
 }
 
 /// Appends a packet, with its VarInts the shortest. Without memory `out` is as before.

@@ -1,9 +1,9 @@
 //! The packets of a connection before it plays, both ways, and the packets of play to the server.
 //!
-//! Stands on the fields and packet rows of `mc_fields` and the slots of `mc_slots`. Its one contract, the same for each of its
-//! enums: a reader takes exactly the frames that spell a packet, and says of all others the first
-//! fault and its place; a writer appends a spelling that is read as the same packet, or leaves what
-//! was there.
+//! Stands on the fields and packet rows of `mc_fields` and the slots of `mc_slots`. Its one contract,
+//! the same for each of its enums: a reader takes exactly the frames that spell a packet, and says of
+//! all others the first fault and its place; a writer appends a spelling that is read as the same
+//! packet, or leaves what was there.
 #![tactic(auto)]
 
 mod handshake;
@@ -12,8 +12,6 @@ mod login_up;
 mod play_up;
 mod status_down;
 mod status_up;
-#[cfg(test)]
-mod tests;
 
 pub use handshake::{Hand, read_hand, write_hand};
 pub use login_down::{LoginDown, read_login_down, write_login_down};

@@ -1,12 +1,9 @@
-ghost use Rattle.std.specs.Prelude.{◌≡◌, ◌<◌, ◌^◌, ◌++◌, ℕ, List, IfOk, OnOk, OnErr, Ok, take, length};
-ghost use Rattle.mc_nbt.specs.Reading.{Gives};
-ghost use Rattle.mc_fields.specs.Row.{GivesRow, GivesPacket, fields_read, id_read, frame_read, packet_of, row_append};
-ghost use Rattle.mc_up.specs.LoginUp.{start, rows, SpellsLoginUp, FitsLoginUp, spelling_of, append_of};
+ghost use Rattle.std.specs.Prelude.{◌≡◌, ◌++◌, ℕ, List, IfOk, OnOk, OnErr, Ok, take, length};
+ghost use Rattle.mc_fields.specs.Row.{GivesRow, GivesPacket, id_read, frame_read, packet_of};
+ghost use Rattle.mc_up.specs.LoginUp.{rows, SpellsLoginUp, FitsLoginUp, spelling_of, append_of};
 
-use mc_fields::{
-    PacketRead, RowError, RowFault, take_text, take_varint, whole, write_text, write_varint,
-};
-use mc_nbt::{Cursor, NoMemory, ReadError, Text};
+use mc_fields::{Bounded, Field, PacketRead, RowError, RowFault, put_row, take_varint, whole};
+use mc_nbt::{Cursor, NoMemory, Text};
 use std::alloc::Global;
 
 /// A packet of a client that logs in.
@@ -16,19 +13,15 @@ pub enum LoginUp {
     Start(Text),
 }
 
-fn read_start(alloc: Global, cursor: &mut Cursor<'_>) -> Result<LoginUp, ReadError>
-    ensures { Gives (λ packet. (packet, cursor.new)) result (fields_read start cursor.old) }
-{
-    let name = take_text(alloc, cursor, 16)?;
-    Ok(LoginUp::Start(name))
-}
-
 /// The fields of the packet with this id.
 fn read_fields(alloc: Global, cursor: &mut Cursor<'_>, id: i32) -> Result<LoginUp, RowError>
     ensures { GivesRow (λ packet. (packet, cursor.new)) result (id_read rows id cursor.old) }
 {
     match id {
-        0 => Ok(read_start(alloc, cursor)?),
+        0 => {
+            let name: Bounded<16> = Field::get(alloc, cursor)?;
+            Ok(LoginUp::Start(name.into_text()))
+        }
         _ => Err(RowError::Fault(RowFault::UnknownId(id))),
     }
 }
@@ -49,7 +42,8 @@ pub fn read_login_up(alloc: Global, frame: &[u8]) -> Result<LoginUp, PacketRead>
     // What is read is spelled so.
     ensures found { IfOk result (λ packet. SpellsLoginUp packet frame.now) }
     // What is spelled so is read, unless memory runs out.
-    ensures only { (packet : LoginUp) → SpellsLoginUp packet frame.now → GivesPacket result (Ok packet) }
+    ensures only { (packet : LoginUp) → SpellsLoginUp packet frame.now →
+        GivesPacket result (Ok packet) }
     // A frame spells one packet at most.
     ensures one { (p q : LoginUp) → SpellsLoginUp p frame.now → SpellsLoginUp q frame.now → p ≡ q }
     // Which fault it is.
@@ -58,26 +52,16 @@ pub fn read_login_up(alloc: Global, frame: &[u8]) -> Result<LoginUp, PacketRead>
     packet_in(alloc, frame).map_err(|error| error.within(frame.len()))
 }
 
-fn write_start(name: &Text, out: &mut Vec<u8>) -> Result<(), NoMemory>
-    requires { length name.now < 2 ^ 31 }
-    ensures ok { OnOk result (out.new.items ≡ row_append start name.now out.old.items) }
-    ensures begun { OnErr result (take (length out.old.items) out.new.items ≡ out.old.items) }
-{
-    write_varint(0, out)?;
-    write_text(name, out)?;
-    Ok(())
-}
-
 /// The id and the fields of a packet; without memory some first part of them.
+#[tactic(auto, using(crate::proofs::Wider::wider_16))]
 fn write_fields(packet: &LoginUp, out: &mut Vec<u8>) -> Result<(), NoMemory>
     requires { FitsLoginUp packet.now }
     ensures ok { OnOk result (out.new.items ≡ append_of packet.now out.old.items) }
     ensures begun { OnErr result (take (length out.old.items) out.new.items ≡ out.old.items) }
 {
     match packet {
-        LoginUp::Start(name) => write_start(name, out)?,
+        LoginUp::Start(name) => put_row(0, name, out),
     }
-    Ok(())
 }
 
 /// Appends a packet, with its VarInts the shortest. Without memory `out` is as before.

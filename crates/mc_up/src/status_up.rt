@@ -1,10 +1,11 @@
-ghost use Rattle.std.specs.Prelude.{◌≡◌, ◌++◌, ℕ, List, IfOk, OnOk, OnErr, Ok, take, length};
+ghost use Rattle.std.specs.Prelude.{◌≡◌, ◌≢◌, ◌++◌, ℕ, List, IfOk, IfErr, OnOk, OnErr, Ok, take};
+ghost use Rattle.std.specs.Prelude.{length};
 ghost use Rattle.mc_nbt.specs.Reading.{Yields};
-ghost use Rattle.mc_fields.specs.Row.{fields_read, id_read, frame_read, packet_of, row_append};
-ghost use Rattle.mc_up.specs.StatusUp.{request, ping, rows, SpellsStatusUp, FitsStatusUp, spelling_of, append_of};
+ghost use Rattle.mc_fields.specs.Row.{GivesPacket, id_read, frame_read, packet_of};
+ghost use Rattle.mc_up.specs.StatusUp.{rows, SpellsStatusUp, FitsStatusUp, spelling_of, append_of};
 
-use mc_fields::{PacketFault, RowFault, take_i64, take_varint, whole, write_i64, write_varint};
-use mc_nbt::{Cursor, NoMemory, Stop};
+use mc_fields::{PacketRead, RowFault, put_row, take_i64, take_varint, whole, write_varint};
+use mc_nbt::{Cursor, NoMemory};
 
 /// A packet of a client that asks for the status.
 #[derive(Clone, Copy, Debug, PartialEq, Eq)]
@@ -15,27 +16,13 @@ pub enum StatusUp {
     Ping(i64),
 }
 
-fn read_request(cursor: &mut Cursor<'_>) -> Result<StatusUp, Stop>
-    ensures { Yields (λ packet. (packet, cursor.new)) result (fields_read request cursor.old) }
-{
-    let _nothing = cursor.rest();
-    Ok(StatusUp::Request)
-}
-
-fn read_ping(cursor: &mut Cursor<'_>) -> Result<StatusUp, Stop>
-    ensures { Yields (λ packet. (packet, cursor.new)) result (fields_read ping cursor.old) }
-{
-    let number = take_i64(cursor)?;
-    Ok(StatusUp::Ping(number))
-}
-
 /// The fields of the packet with this id.
 fn read_fields(cursor: &mut Cursor<'_>, id: i32) -> Result<StatusUp, RowFault>
     ensures { Yields (λ packet. (packet, cursor.new)) result (id_read rows id cursor.old) }
 {
     match id {
-        0 => Ok(read_request(cursor)?),
-        1 => Ok(read_ping(cursor)?),
+        0 => Ok(StatusUp::Request),
+        1 => Ok(StatusUp::Ping(take_i64(cursor)?)),
         _ => Err(RowFault::UnknownId(id)),
     }
 }
@@ -52,34 +39,21 @@ fn packet_in(frame: &[u8]) -> Result<StatusUp, RowFault>
 }
 
 /// Reads a packet, whose frame is the bytes after the frame's length. It takes no memory.
-pub fn read_status_up(frame: &[u8]) -> Result<StatusUp, PacketFault>
+pub fn read_status_up(frame: &[u8]) -> Result<StatusUp, PacketRead>
     // What is read is spelled so.
     ensures found { IfOk result (λ packet. SpellsStatusUp packet frame.now) }
     // What is spelled so is read.
-    ensures only { (packet : StatusUp) → SpellsStatusUp packet frame.now → result ≡ Ok packet }
+    ensures only { (packet : StatusUp) → SpellsStatusUp packet frame.now →
+        GivesPacket result (Ok packet) }
     // A frame spells one packet at most.
-    ensures one { (p q : StatusUp) → SpellsStatusUp p frame.now → SpellsStatusUp q frame.now → p ≡ q }
+    ensures one { (p q : StatusUp) → SpellsStatusUp p frame.now →
+        SpellsStatusUp q frame.now → p ≡ q }
     // Which fault it is.
-    ensures exact { result ≡ packet_of frame.now (frame_read rows frame.now) }
+    ensures exact { GivesPacket result (packet_of frame.now (frame_read rows frame.now)) }
+    // It never finds too little memory.
+    ensures memory { IfErr result (λ error. error ≢ PacketRead.NoMemory) }
 {
-    packet_in(frame).map_err(|fault| fault.within(frame.len()))
-}
-
-fn write_request(out: &mut Vec<u8>) -> Result<(), NoMemory>
-    ensures ok { OnOk result (out.new.items ≡ row_append request tt out.old.items) }
-    ensures begun { OnErr result (take (length out.old.items) out.new.items ≡ out.old.items) }
-{
-    write_varint(0, out)?;
-    Ok(())
-}
-
-fn write_ping(number: i64, out: &mut Vec<u8>) -> Result<(), NoMemory>
-    ensures ok { OnOk result (out.new.items ≡ row_append ping number out.old.items) }
-    ensures begun { OnErr result (take (length out.old.items) out.new.items ≡ out.old.items) }
-{
-    write_varint(1, out)?;
-    write_i64(number, out)?;
-    Ok(())
+    packet_in(frame).map_err(|fault| PacketRead::Fault(fault.within(frame.len())))
 }
 
 /// The id and the fields of a packet; without memory some first part of them.
@@ -89,10 +63,9 @@ fn write_fields(packet: &StatusUp, out: &mut Vec<u8>) -> Result<(), NoMemory>
     ensures begun { OnErr result (take (length out.old.items) out.new.items ≡ out.old.items) }
 {
     match packet {
-        StatusUp::Request => write_request(out)?,
-        StatusUp::Ping(number) => write_ping(*number, out)?,
+        StatusUp::Request => write_varint(0, out),
+        StatusUp::Ping(number) => put_row(1, number, out),
     }
-    Ok(())
 }
 
 /// Appends a packet, with its VarInts the shortest. Without memory `out` is as before.

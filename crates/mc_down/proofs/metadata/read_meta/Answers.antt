@@ -1,5 +1,8 @@
+use Rattle.std.proofs.Common.{sym, ap, ◌∙◌}
+use Rattle.mc_nbt.specs.declared.fault.FieldFault.{FieldFault}
 use Rattle.mc_nbt.specs.Format.{Anything}
-use Rattle.mc_nbt.specs.Placed.{PlacedGives-found, PlacedGives-only}
+use Rattle.mc_nbt.specs.CombineLaws.{ok_is}
+use Rattle.mc_nbt.specs.PlacedLaws.{PlacedGives-found, PlacedGives-only, placed_only}
 use Rattle.mc_down.specs.Metadata.{SpellsMeta, meta_read, metadata}
 use Rattle.mc_down.proofs.metadata.read_meta.Goals as goal
 
@@ -8,3 +11,9 @@ returns-clause-found c = PlacedGives-found (λ read. read) SpellsMeta meta_read 
 
 pub returns-clause-only : goal.returns-clause-only
 returns-clause-only c value end s = PlacedGives-only (λ read. read) SpellsMeta meta_read (metadata {Rest = Anything}).only c.args.bytes.now c.args.at c.meta_from.result value end c.meta_from.ensures s
+
+pub returns-clause-one : goal.returns-clause-one
+returns-clause-one c a b m n s t =
+    let only = placed_only SpellsMeta meta_read (metadata {Rest = Anything}).only c.args.bytes.now c.args.at in
+    let same = ok_is FieldFault (a, m) (b, n) (sym (only a m s) ∙ only b n t) in
+    (ap (λ read. read.0) same, ap (λ read. read.1) same)

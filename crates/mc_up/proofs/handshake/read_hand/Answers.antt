@@ -1,5 +1,5 @@
 use Rattle.std.proofs.Common.{rules}
-use Rattle.mc_fields.specs.Row.{packet_found, packet_only, spelled_one}
+use Rattle.mc_fields.specs.RowLaws.{packet_found, packet_only, spelled_one}
 use Rattle.mc_up.specs.Hand.{rows, SpellsHand}
 use Rattle.mc_up.proofs.HandLaws.{tied, seen, entry}
 use Rattle.mc_up.proofs.handshake.read_hand.Goals as goal

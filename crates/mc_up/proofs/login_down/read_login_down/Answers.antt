@@ -1,5 +1,5 @@
 use Rattle.std.proofs.Common.{rules}
-use Rattle.mc_fields.specs.Row.{packet_found, packet_only, spelled_one}
+use Rattle.mc_fields.specs.RowLaws.{packet_found, packet_only, spelled_one}
 use Rattle.mc_up.specs.LoginDown.{rows, SpellsLoginDown}
 use Rattle.mc_up.proofs.LoginDownLaws.{tied, seen, entry}
 use Rattle.mc_up.proofs.login_down.read_login_down.Goals as goal

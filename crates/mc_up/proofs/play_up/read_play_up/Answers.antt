@@ -1,5 +1,5 @@
 use Rattle.std.proofs.Common.{rules}
-use Rattle.mc_fields.specs.Row.{packet_found, packet_only, spelled_one}
+use Rattle.mc_fields.specs.RowLaws.{packet_found, packet_only, spelled_one}
 use Rattle.mc_up.specs.PlayUp.{rows, SpellsPlayUp}
 use Rattle.mc_up.proofs.PlayUpLaws.{tied, seen, entry}
 use Rattle.mc_up.proofs.play_up.read_play_up.Goals as goal

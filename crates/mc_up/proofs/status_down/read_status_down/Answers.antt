@@ -1,5 +1,5 @@
 use Rattle.std.proofs.Common.{rules}
-use Rattle.mc_fields.specs.Row.{packet_found, packet_only, spelled_one}
+use Rattle.mc_fields.specs.RowLaws.{packet_found, packet_only, spelled_one}
 use Rattle.mc_up.specs.StatusDown.{rows, SpellsStatusDown}
 use Rattle.mc_up.proofs.StatusDownLaws.{tied, seen, entry}
 use Rattle.mc_up.proofs.status_down.read_status_down.Goals as goal

@@ -1,8 +1,0 @@
-use Rattle.std.proofs.Common.{drop}
-use Rattle.mc_nbt.specs.Format.{Anything}
-use Rattle.mc_nbt.proofs.Appends.{IsWriting}
-use Rattle.mc_slots.specs.SlotFormat.{slot}
-use Rattle.mc_down.proofs.counted.append_slots.Given as goal
-
-abbrev pub invariant-loop-item : goal.invariant-loop-item
-invariant-loop-item l = IsWriting (slot {Rest = Anything}).append (drop l.item-index l.items) l.items l.fn.out.items l.out.items

@@ -1,9 +1,0 @@
-use Rattle.std.proofs.Common.{◌≡◌, ◌-◌}
-use Rattle.mc_nbt.specs.Format.{Anything}
-use Rattle.mc_nbt.specs.Times.{times_at}
-use Rattle.mc_nbt.proofs.Loops.{with_front}
-use Rattle.mc_down.specs.Fields.{string}
-use Rattle.mc_down.proofs.counted.texts_in.Given as goal
-
-abbrev pub invariant-loop : goal.invariant-loop
-invariant-loop l = with_front l.list (times_at (string {Rest = Anything}).read (l.count - l.counter) l.cursor) ≡ times_at (string {Rest = Anything}).read l.count l.fn.cursor
