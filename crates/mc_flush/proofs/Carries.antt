@@ -7,7 +7,7 @@ use Rattle.std.specs.Str.{IsUtf8, chars, chars_after, continuation_len, lead_bit
 use Rattle.std.proofs.lemmas.List.{length-append, length-map}
 use lib.IntN.{ℤ, pos}
 use Rattle.mc_nbt.specs.Numbers.{wide_8}
-use Rattle.mc_nbt.specs.Sixteen.{wide_128}
+use Rattle.mc_nbt.specs.SixteenLaws.{wide_128}
 use Rattle.mc_nbt.specs.Many.{AllFit, all_spelling}
 use Rattle.mc_fields.specs.Varint.{varint_spelling}
 use Rattle.mc_fields.specs.VarintFormat.{FitsVarint, varint-fits}

@@ -90,7 +90,13 @@ pub fn put_loads<L: Ledger>(
 fn unload(alloc: Global, place: &(i32, i32)) -> Down
     ensures { result ≡ unload place.now }
 {
-    Down::Chunk(place.0, place.1, true, 0, Octets::new(alloc))
+    Down::Chunk {
+        cx: place.0,
+        cz: place.1,
+        ground_up: true,
+        mask: 0,
+        body: Octets::new(alloc),
+    }
 }
 
 /// Appends the frame that takes a column away.

@@ -32,7 +32,14 @@ fn joiner(alloc: Global, uuid: &u128, name: &Text) -> Result<Player, NoMemory>
     let name = Text::from_str(alloc, name.as_str())?;
     Ok(Player {
         uuid: *uuid,
-        change: PlayerChange::Join(name, Properties::new(alloc), 0, 0, false, None),
+        change: PlayerChange::Join {
+            name,
+            properties: Properties::new(alloc),
+            mode: 0,
+            ping: 0,
+            is_shown: false,
+            shown: None,
+        },
     })
 }
 

@@ -15,14 +15,14 @@ pub fn placing_packet(place: &Spot) -> Down
     ensures value { result ≡ placing place.now }
     ensures clear { IsClear result }
 {
-    Down::PositionLook(
-        pattern(place.x),
-        pattern(place.y),
-        pattern(place.z),
-        degrees(place.yaw),
-        degrees(place.pitch),
-        0,
-    )
+    Down::PositionLook {
+        x: pattern(place.x),
+        y: pattern(place.y),
+        z: pattern(place.z),
+        yaw: degrees(place.yaw),
+        pitch: degrees(place.pitch),
+        flags: 0,
+    }
 }
 
 /// Appends what was noted for a client.

@@ -8,7 +8,8 @@ use Rattle.mc_nbt.specs.Reading.{IsBytes}
 use Rattle.mc_nbt.specs.Numbers.{IsBytes-after}
 use Rattle.mc_fields.specs.declared.packet.RowFault.{RowFault}
 use Rattle.mc_fields.specs.declared.packet.PacketFault.{PacketFault}
-use Rattle.mc_fields.specs.Row.{frame_read, frame_found, packet_of, spelled_fits}
+use Rattle.mc_fields.specs.Row.{frame_read, packet_of}
+use Rattle.mc_fields.specs.RowLaws.{frame_found, spelled_fits}
 use Rattle.mc_frame.specs.Cut.{SpellsFrames}
 use Rattle.mc_up.specs.declared.handshake.Hand.{Hand}
 use Rattle.mc_up.specs.declared.handshake.Hand.TheVariants.{Handshake}

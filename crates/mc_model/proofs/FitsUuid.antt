@@ -7,7 +7,7 @@ use Rattle.uuid.specs.Parts.{with_version, with_variant}
 use Rattle.uuid.specs.declared.Version.TheVariants.{Md5}
 use Rattle.uuid.specs.declared.Variant.TheVariants.{RFC4122}
 use Rattle.mc_nbt.specs.Reading.{IsBytes}
-use Rattle.mc_nbt.specs.Sixteen.{wide_128}
+use Rattle.mc_nbt.specs.SixteenLaws.{wide_128}
 use Rattle.mc_model.specs.Names.{offline_uuid}
 use Rattle.mc_model.proofs.FitsBytes.{bytes_joined}
 

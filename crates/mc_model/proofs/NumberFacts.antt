@@ -3,7 +3,7 @@ use Rattle.std.proofs.Common.{◌≡◌, ℕ, zero, suc, ◌+◌, ◌-◌, ◌*�
 use Rattle.std.specs.Prelude.{◌↔◌, ◌⊎◌, ◌||◌, ◌==◌, nat_le, unsigned_abs, Option, Some, None, if◌then◌else◌}
 use Rattle.std.specs.Int.{int_div_euclid, int_rem_euclid}
 use Rattle.std.proofs.Math.Nat.{pow-suc, pow-le-pow_right}
-use Rattle.std.proofs.lemmas.Bool.{eqb-true, eq-eqb, ne_eqb, leb-true, le-leb}
+use Rattle.std.proofs.lemmas.Bool.{eqb-true, eqb-false, eq-eqb, ne_eqb, leb-true, leb-false, le-leb}
 use Rattle.std.proofs.lemmas.Nat.{pow_pos}
 use lib.IntN.{ℤ, pos, negsuc}
 use lib.Signed.{shr_z}
@@ -34,17 +34,20 @@ some_is a b e = cc
 -- a binary64 pattern
 pub fixes : (p : ℕ) (n : ℤ) → fixed_of p ≡ Some n → Fixes p n
 unfolding fixed_of
-fixes p n e = step (exponent 52 11 p == 2047) e
+fixes p n e = step (exponent 52 11 p == 2047) refl e
   where
     floor : ℤ
     floor = int_div_euclid (with_sign (is_negative 52 11 p) (32 * (significand 52 11 p * 2 ^ power 52 11 p))) (pos (2 ^ 1075))
 
-    step : (t : Bool) → (if t then None else Some (held floor)) ≡ Some n → Fixes p n
-    step true e = absurd cc
-    step false e = record {
-      floor = floor;
-      floored = div_floor (is_negative 52 11 p) (32 * (significand 52 11 p * 2 ^ power 52 11 p)) (2 ^ 1075) (pow_pos 1075);
-      held = sym (some_is (held floor) n e);
+    step : (t : Bool) → (exponent 52 11 p == 2047) ≡ t → (if t then None else Some (held floor)) ≡ Some n → Fixes p n
+    step true is e = absurd cc
+    step false is e = record {
+      ends = omega (arith, eqb-false (exponent 52 11 p) 2047 is);
+      parts = record {
+        floor = floor;
+        floored = div_floor (is_negative 52 11 p) (32 * (significand 52 11 p * 2 ^ power 52 11 p)) (2 ^ 1075) (pow_pos 1075);
+        held = sym (some_is (held floor) n e);
+      };
     }
 
 -- where nothing is there, the test passed
@@ -60,7 +63,7 @@ endless p = (λ e. eqb-true (exponent 52 11 p) 2047 (none_where (exponent 52 11 
 -- a binary32 pattern
 pub turns : (p a : ℕ) → turn_of p ≡ Some a → Turns p a
 unfolding turn_of
-turns p a e = step (exponent 23 8 p == 255 || nat_le (2 ^ 31 * 2 ^ 150) (significand 23 8 p * 2 ^ power 23 8 p)) e
+turns p a e = step (exponent 23 8 p == 255 || nat_le (2 ^ 31 * 2 ^ 150) (significand 23 8 p * 2 ^ power 23 8 p)) refl e
   where
     floor : ℤ
     floor = int_div_euclid (with_sign (is_negative 23 8 p) (256 * (significand 23 8 p * 2 ^ power 23 8 p))) (pos (360 * 2 ^ 150))
@@ -69,13 +72,24 @@ turns p a e = step (exponent 23 8 p == 255 || nat_le (2 ^ 31 * 2 ^ 150) (signifi
     rest_is (pos n) d = refl
     rest_is (negsuc n) d = refl
 
-    step : (t : Bool) → (if t then None else Some (unsigned_abs (int_rem_euclid floor (pos 256)))) ≡ Some a → Turns p a
-    step true e = absurd cc
-    step false e = record {
-      floor = floor;
-      floored = div_floor (is_negative 23 8 p) (256 * (significand 23 8 p * 2 ^ power 23 8 p)) (360 * 2 ^ 150) (omega arith);
-      rest = ap pos (sym (some_is (unsigned_abs (int_rem_euclid floor (pos 256))) a e)) ∙ rest_is floor (pos 256);
-    }
+    neither : (s t : Bool) → (s || t) ≡ false → (s ≡ false) × (t ≡ false)
+    neither false false is = (refl, refl)
+    neither false true is = absurd cc
+    neither true t is = absurd cc
+
+    step : (t : Bool) → (exponent 23 8 p == 255 || nat_le (2 ^ 31 * 2 ^ 150) (significand 23 8 p * 2 ^ power 23 8 p)) ≡ t → (if t then None else Some (unsigned_abs (int_rem_euclid floor (pos 256)))) ≡ Some a → Turns p a
+    step true is e = absurd cc
+    step false is e =
+        let both = neither (exponent 23 8 p == 255) (nat_le (2 ^ 31 * 2 ^ 150) (significand 23 8 p * 2 ^ power 23 8 p)) is in
+        record {
+          ends = omega (arith, eqb-false (exponent 23 8 p) 255 both.0);
+          small = leb-false _ _ both.1;
+          parts = record {
+            floor = floor;
+            floored = div_floor (is_negative 23 8 p) (256 * (significand 23 8 p * 2 ^ power 23 8 p)) (360 * 2 ^ 150) (omega arith);
+            rest = ap pos (sym (some_is (unsigned_abs (int_rem_euclid floor (pos 256))) a e)) ∙ rest_is floor (pos 256);
+          };
+        }
 
 -- one of two tests passed
 either : (a b : Bool) → (a || b) ≡ true → (a ≡ true) ⊎ (b ≡ true)

@@ -26,7 +26,7 @@ unfolding fixed_of
 fixed_is p None e f = rw (eq-eqb (exponent 52 11 p) 2047 (e.0 refl)) refl
 fixed_is p (Some n) e f =
     let ne : exponent 52 11 p ≢ 2047 = λ h. absurd (true_false (e.1 h)) in
-    rw (ne_eqb (exponent 52 11 p) 2047 ne) (ap Some (f.held ∙ ap held (floor_is (is_negative 52 11 p) (32 * (significand 52 11 p * 2 ^ power 52 11 p)) (2 ^ 1075) f.floor (omega arith) f.floored)))
+    rw (ne_eqb (exponent 52 11 p) 2047 ne) (ap Some (f.parts.held ∙ ap held (floor_is (is_negative 52 11 p) (32 * (significand 52 11 p * 2 ^ power 52 11 p)) (2 ^ 1075) f.parts.floor (omega arith) f.parts.floored)))
   where
     true_false : true ≡ false → ⊥
     true_false e = cc
@@ -53,8 +53,8 @@ pub turn_is : (p : ℕ) (o : Option ℕ) → (IsNone o ↔ IsVast p) → IfSome 
 unfolding turn_of
 turn_is p None e f = rw (vast p (e.0 refl)) refl
 turn_is p (Some a) e f =
-    let quotient = floor_is (is_negative 23 8 p) (256 * (significand 23 8 p * 2 ^ power 23 8 p)) (360 * 2 ^ 150) f.floor (omega arith) f.floored in
-    rw (not_vast p (λ v. true_false (e.1 v))) (ap (λ (z : ℤ). Some (unsigned_abs z)) (f.rest ∙ ap (λ (z : ℤ). int_rem_euclid z (pos 256)) quotient))
+    let quotient = floor_is (is_negative 23 8 p) (256 * (significand 23 8 p * 2 ^ power 23 8 p)) (360 * 2 ^ 150) f.parts.floor (omega arith) f.parts.floored in
+    rw (not_vast p (λ v. true_false (e.1 v))) (ap (λ (z : ℤ). Some (unsigned_abs z)) (f.parts.rest ∙ ap (λ (z : ℤ). int_rem_euclid z (pos 256)) quotient))
   where
     true_false : true ≡ false → ⊥
     true_false e = cc

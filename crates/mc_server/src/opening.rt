@@ -30,7 +30,15 @@ fn put_join(settings: &Settings, eid: u32, out: &mut Vec<u8>) -> Result<(), NoMe
 {
     let level = level(*out.allocator(), &settings.terrain)?;
     let most = settings.players as u8;
-    let packet = Down::JoinGame(eid as i32, 0, 0, 1, most, level, false);
+    let packet = Down::JoinGame {
+        eid: eid as i32,
+        mode: 0,
+        dimension: 0,
+        difficulty: 1,
+        max_players: most,
+        level_type: level,
+        reduced_debug_info: false,
+    };
     put_packet(&packet, out)
 }
 

@@ -102,7 +102,7 @@ impl Session {
         ensures err { OnErr result (self.new ≡ self.old) }
     {
         match read_hand(alloc, frame) {
-            Ok(Hand::Handshake(protocol, _, _, next)) => {
+            Ok(Hand::Handshake { protocol, next, .. }) => {
                 self.protocol = protocol;
                 self.stage = wanted(next);
                 Ok(Step::Nothing)
@@ -125,7 +125,8 @@ impl Session {
                 self.stage = Stage::Closed;
                 Ok(Step::ReplyClose(pong, Cause::Done))
             }
-            Err(fault) => Ok(Step::Close(Cause::Packet(fault))),
+            Err(PacketRead::Fault(fault)) => Ok(Step::Close(Cause::Packet(fault))),
+            Err(PacketRead::NoMemory) => Err(NoMemory),
         }
     }
 

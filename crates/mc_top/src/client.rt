@@ -69,7 +69,7 @@ fn greeted(hand: &Hand) -> Result<Stage, Unheard>
     ensures ok { IfOk result (λ next. greeted (Ok hand.now) ≡ goes [] next) }
     ensures fault { IfFault result (λ kind. greeted (Ok hand.now) ≡ wrong kind) }
 {
-    let Hand::Handshake(_, _, _, next) = hand;
+    let Hand::Handshake { next, .. } = hand;
     if *next == 1 {
         Ok(Stage::Status)
     } else {
@@ -96,7 +96,8 @@ fn ask(
             write_pong_line(alloc, number, lines)?;
             Ok(Stage::Over)
         }
-        Err(_) => Err(Unheard::Fault(InputFault::Packet)),
+        Err(PacketRead::Fault(_)) => Err(Unheard::Fault(InputFault::Packet)),
+        Err(PacketRead::NoMemory) => Err(Unheard::NoMemory),
     }
 }
 

@@ -87,7 +87,7 @@ fn loading(cx: i32, cz: i32, mask: u16) -> Told {
 fn tell(alloc: Global, frame: &[u8], told: &mut Vec<Told>) -> Result<(), NoMemory> {
     let packet = read_down(alloc, frame);
     match &packet {
-        Ok(Down::Chunk(cx, cz, _, mask, _)) => told.push(loading(*cx, *cz, *mask))?,
+        Ok(Down::Chunk { cx, cz, mask, .. }) => told.push(loading(*cx, *cz, *mask))?,
         Ok(Down::List(action, players)) => {
             for player in players.as_slice() {
                 let uuid = player.uuid;
@@ -98,7 +98,7 @@ fn tell(alloc: Global, frame: &[u8], told: &mut Vec<Told>) -> Result<(), NoMemor
                 })?;
             }
         }
-        Ok(Down::PositionLook(..)) => told.push(Told::Placed(frame.len()))?,
+        Ok(Down::PositionLook { .. }) => told.push(Told::Placed(frame.len()))?,
         _ => told.push(Told::Other)?,
     }
     Ok(())

@@ -163,7 +163,14 @@ fn push_joiner(
     if is_named(theirs, uuid, name) {
         return Ok(());
     }
-    let change = PlayerChange::Join(name.copy()?, Properties::new(alloc), 0, 0, false, None);
+    let change = PlayerChange::Join {
+        name: name.copy()?,
+        properties: Properties::new(alloc),
+        mode: 0,
+        ping: 0,
+        is_shown: false,
+        shown: None,
+    };
     players.push(Player {
         uuid: *uuid,
         change,
@@ -214,7 +221,13 @@ fn push_unload(
     if stays {
         return Ok(());
     }
-    packets.push(Down::Chunk(place.0, place.1, true, 0, Octets::new(alloc)))?;
+    packets.push(Down::Chunk {
+        cx: place.0,
+        cz: place.1,
+        ground_up: true,
+        mask: 0,
+        body: Octets::new(alloc),
+    })?;
     Ok(())
 }
 
@@ -264,6 +277,12 @@ fn push_load(
     }
     let mut bytes = Vec::new(alloc);
     let mask = column.write_body(&mut bytes)?;
-    packets.push(Down::Chunk(place.0, place.1, true, mask, Octets::from_vec(bytes)))?;
+    packets.push(Down::Chunk {
+        cx: place.0,
+        cz: place.1,
+        ground_up: true,
+        mask,
+        body: Octets::from_vec(bytes),
+    })?;
     Ok(())
 }

@@ -43,14 +43,14 @@ pub fn due(
 fn placing(spot: &Spot) -> Down
     ensures { result ≡ placing spot.now }
 {
-    Down::PositionLook(
-        pattern_of(&spot.x),
-        pattern_of(&spot.y),
-        pattern_of(&spot.z),
-        degrees_of(spot.yaw),
-        degrees_of(spot.pitch),
-        0,
-    )
+    Down::PositionLook {
+        x: pattern_of(&spot.x),
+        y: pattern_of(&spot.y),
+        z: pattern_of(&spot.z),
+        yaw: degrees_of(spot.yaw),
+        pitch: degrees_of(spot.pitch),
+        flags: 0,
+    }
 }
 
 /// Appends what a client is sent before its first difference.
@@ -70,7 +70,15 @@ fn push_opening(
         y: i32::from(spawn_height(terrain)),
         z: 8,
     };
-    packets.push(Down::JoinGame(*eid, 0, 0, 1, most, level, false))?;
+    packets.push(Down::JoinGame {
+        eid: *eid,
+        mode: 0,
+        dimension: 0,
+        difficulty: 1,
+        max_players: most,
+        level_type: level,
+        reduced_debug_info: false,
+    })?;
     packets.push(Down::SpawnPosition(spawn))?;
     packets.push(placing(spot))?;
     Ok(())

@@ -49,7 +49,7 @@ fn hear_hand(alloc: Global, frame: &[u8]) -> Result<Heard, NoMemory>
     ensures { (most online : ℕ) → IfOk result (λ heard. said_of most online heard ≡ in_hand (packet_of frame.now (frame_read hand.rows frame.now))) }
 {
     match read_hand(alloc, frame) {
-        Ok(Hand::Handshake(protocol, _, _, next)) => Ok(Heard::Greets(protocol, wanted(next))),
+        Ok(Hand::Handshake { protocol, next, .. }) => Ok(Heard::Greets(protocol, wanted(next))),
         Err(PacketRead::Fault(fault)) => Ok(Heard::Wrong(fault)),
         Err(PacketRead::NoMemory) => Err(NoMemory),
     }
@@ -61,7 +61,8 @@ fn hear_status(frame: &[u8]) -> Result<Heard, NoMemory>
     match read_status_up(frame) {
         Ok(StatusUp::Request) => Ok(Heard::Asks),
         Ok(StatusUp::Ping(number)) => Ok(Heard::Pings(number)),
-        Err(fault) => Ok(Heard::Wrong(fault)),
+        Err(PacketRead::Fault(fault)) => Ok(Heard::Wrong(fault)),
+        Err(PacketRead::NoMemory) => Err(NoMemory),
     }
 }
 

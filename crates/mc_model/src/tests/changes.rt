@@ -82,9 +82,16 @@ fn a_move_by_one_column_exchanges_two_rows(rt: HostRuntime) -> Result<(), Fail> 
 /// The mask and the number of bytes of the column that a packet loads there.
 fn load_of(packets: &[Down], cx: i32, cz: i32) -> Option<(u16, usize)> {
     for packet in packets {
-        if let Down::Chunk(x, z, true, mask, bytes) = packet {
+        if let Down::Chunk {
+            cx: x,
+            cz: z,
+            ground_up: true,
+            mask,
+            body,
+        } = packet
+        {
             if *x == cx && *z == cz {
-                return Some((*mask, bytes.as_slice().len()));
+                return Some((*mask, body.as_slice().len()));
             }
         }
     }

@@ -27,15 +27,33 @@ fn is_same(one: &Down, other: &Down) -> bool {
 }
 
 fn is_same_join(one: &Down, other: &Down) -> bool {
-    if let Down::JoinGame(eid, mode, dimension, hardness, most, level, reduced) = one {
-        if let Down::JoinGame(eid2, mode2, dimension2, hardness2, most2, level2, reduced2) = other {
+    if let Down::JoinGame {
+        eid,
+        mode,
+        dimension,
+        difficulty,
+        max_players,
+        level_type,
+        reduced_debug_info,
+    } = one
+    {
+        if let Down::JoinGame {
+            eid: eid2,
+            mode: mode2,
+            dimension: dimension2,
+            difficulty: difficulty2,
+            max_players: max_players2,
+            level_type: level_type2,
+            reduced_debug_info: reduced_debug_info2,
+        } = other
+        {
             return eid == eid2
                 && mode == mode2
                 && dimension == dimension2
-                && hardness == hardness2
-                && most == most2
-                && level.as_str() == level2.as_str()
-                && reduced == reduced2;
+                && difficulty == difficulty2
+                && max_players == max_players2
+                && level_type.as_str() == level_type2.as_str()
+                && reduced_debug_info == reduced_debug_info2;
         }
     }
     false
@@ -51,14 +69,30 @@ fn is_same_spawn(one: &Down, other: &Down) -> bool {
 }
 
 fn is_same_place(one: &Down, other: &Down) -> bool {
-    if let Down::PositionLook(x, y, z, yaw, pitch, relative) = one {
-        if let Down::PositionLook(x2, y2, z2, yaw2, pitch2, relative2) = other {
+    if let Down::PositionLook {
+        x,
+        y,
+        z,
+        yaw,
+        pitch,
+        flags,
+    } = one
+    {
+        if let Down::PositionLook {
+            x: x2,
+            y: y2,
+            z: z2,
+            yaw: yaw2,
+            pitch: pitch2,
+            flags: flags2,
+        } = other
+        {
             return x == x2
                 && y == y2
                 && z == z2
                 && yaw == yaw2
                 && pitch == pitch2
-                && relative == relative2;
+                && flags == flags2;
         }
     }
     false
@@ -94,8 +128,22 @@ fn is_same_change(one: &PlayerChange, other: &PlayerChange) -> bool {
     match (one, other) {
         (PlayerChange::Leave, PlayerChange::Leave) => true,
         (
-            PlayerChange::Join(name, properties, 0, 0, false, None),
-            PlayerChange::Join(name2, properties2, 0, 0, false, None),
+            PlayerChange::Join {
+                name,
+                properties,
+                mode: 0,
+                ping: 0,
+                is_shown: false,
+                shown: None,
+            },
+            PlayerChange::Join {
+                name: name2,
+                properties: properties2,
+                mode: 0,
+                ping: 0,
+                is_shown: false,
+                shown: None,
+            },
         ) => {
             name.as_str() == name2.as_str()
                 && properties.as_slice().is_empty()
@@ -106,13 +154,27 @@ fn is_same_change(one: &PlayerChange, other: &PlayerChange) -> bool {
 }
 
 fn is_same_chunk(one: &Down, other: &Down) -> bool {
-    if let Down::Chunk(x, z, whole, mask, bytes) = one {
-        if let Down::Chunk(x2, z2, whole2, mask2, bytes2) = other {
-            return x == x2
-                && z == z2
-                && whole == whole2
+    if let Down::Chunk {
+        cx,
+        cz,
+        ground_up,
+        mask,
+        body,
+    } = one
+    {
+        if let Down::Chunk {
+            cx: cx2,
+            cz: cz2,
+            ground_up: ground_up2,
+            mask: mask2,
+            body: body2,
+        } = other
+        {
+            return cx == cx2
+                && cz == cz2
+                && ground_up == ground_up2
                 && mask == mask2
-                && bytes.as_slice() == bytes2.as_slice();
+                && body.as_slice() == body2.as_slice();
         }
     }
     false

@@ -59,9 +59,16 @@ pub(crate) fn unloads(alloc: Global, packets: &[Down]) -> Result<Vec<(i32, i32)>
 
 /// Adds the place of a column that a packet loads or unloads.
 fn push_column(packet: &Down, loaded: bool, places: &mut Vec<(i32, i32)>) -> Result<(), NoMemory> {
-    if let Down::Chunk(x, z, true, mask, _) = packet {
+    if let Down::Chunk {
+        cx,
+        cz,
+        ground_up: true,
+        mask,
+        ..
+    } = packet
+    {
         if (*mask != 0) == loaded {
-            places.push((*x, *z))?;
+            places.push((*cx, *cz))?;
         }
     }
     Ok(())

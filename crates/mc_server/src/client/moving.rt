@@ -29,7 +29,7 @@ impl Client {
         ensures same { self.new.id ≡ self.old.id }
     {
         match packet {
-            PlayUp::Position(x, y, z, _) => {
+            PlayUp::Position { x, y, z, .. } => {
                 let to = self.wish().moved(*x, *y, *z);
                 self.go(terrain, to)
             }
@@ -37,11 +37,18 @@ impl Client {
                 let to = self.wish().turned(*yaw, *pitch);
                 self.go(terrain, to)
             }
-            PlayUp::PositionLook(x, y, z, yaw, pitch, _) => {
+            PlayUp::PositionLook {
+                x,
+                y,
+                z,
+                yaw,
+                pitch,
+                ..
+            } => {
                 let to = self.move_and_turn(*x, *y, *z, *yaw, *pitch);
                 self.go(terrain, to)
             }
-            PlayUp::Settings(_, view, _, _, _) => {
+            PlayUp::Settings { view, .. } => {
                 self.asked = *view;
                 true
             }

@@ -121,7 +121,7 @@ impl Session {
         ensures same { self.new.id ≡ self.old.id }
     {
         match packet {
-            PlayUp::Position(x, y, z, _) => {
+            PlayUp::Position { x, y, z, .. } => {
                 let to = self.wish().moved(*x, *y, *z);
                 self.go(terrain, to)
             }
@@ -129,11 +129,18 @@ impl Session {
                 let to = self.wish().turned(*yaw, *pitch);
                 self.go(terrain, to)
             }
-            PlayUp::PositionLook(x, y, z, yaw, pitch, _) => {
+            PlayUp::PositionLook {
+                x,
+                y,
+                z,
+                yaw,
+                pitch,
+                ..
+            } => {
                 let to = self.move_and_turn(*x, *y, *z, *yaw, *pitch);
                 self.go(terrain, to)
             }
-            PlayUp::Settings(_, view, _, _, _) => {
+            PlayUp::Settings { view, .. } => {
                 self.asked = *view;
                 true
             }
