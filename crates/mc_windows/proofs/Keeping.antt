@@ -1,0 +1,174 @@
+-- No list of moves loses or makes an item, and so no click does.
+use Rattle.std.proofs.Common.{◌≡◌, ℕ, ◌+◌, Bool, true, false, not, ◌&&◌, List, [], ◌∷◌, Option, Some, None, is_some, Result, Ok, Err, refl, arith, ◌∙◌, ap, sym, if◌then◌else◌}
+use Rattle.std.specs.Option.{unwrap_or}
+use Rattle.std.proofs.lemmas.Bool.{and_parts}
+use lib.IntN.{ℤ}
+use Rattle.mc_slots.specs.declared.pile.Pile.{Pile}
+use Rattle.mc_slots.specs.declared.pile.Pile.TheVariants.{Empty}
+use Rattle.mc_slots.specs.Pile.{Sort, held}
+use Rattle.mc_windows.specs.declared.request.Click.{Click}
+use Rattle.mc_windows.specs.declared.request.Why.{Why}
+use Rattle.mc_windows.specs.declared.request.Why.TheVariants.{WrongWindow, Waiting, NoSlot, NoMode, OtherItem, NoRoomToDrop}
+use Rattle.mc_windows.specs.declared.clicking.Clicked.TheVariants.{Refused}
+use Rattle.mc_windows.specs.declared.clicking.Clicked.{Clicked}
+use Rattle.mc_windows.specs.declared.place.Place.{Place}
+use Rattle.mc_windows.specs.declared.row.Row.{Row}
+use Rattle.mc_windows.specs.declared.moves.Move.{Move}
+use Rattle.mc_windows.specs.declared.desk.Desk.{Desk}
+use Rattle.mc_windows.specs.Pack.{PackValue}
+use Rattle.mc_windows.specs.Stock.{in_chest, in_pack}
+use Rattle.mc_windows.specs.Moves.{at, effect, exchanged, is_here, is_possible, made, run, same_place, stock, write}
+use Rattle.mc_windows.specs.Clicks.{admitted, answer_of, chest_after, desk_of, dropped, is_empty, outcome, pack_after, plan, refuse, refused_pack, worked}
+use Rattle.mc_windows.proofs.Effects.{effect_keeps}
+use Rattle.mc_windows.proofs.Desks.{at_other, here_still, shown_still, stock_with}
+
+other : (same : Bool) → not same ≡ true → same ≡ false
+other true e = absurd (cc)
+other false e = refl
+
+-- two piles that hold together what was held at two places
+put_both : (sort : Sort) (desk : Desk) (from to : Place) (left filled : Pile)
+    → is_here desk from ≡ true → is_here desk to ≡ true → same_place from to ≡ false
+    → held sort left + held sort filled ≡ held sort (at desk from) + held sort (at desk to)
+    → stock sort (write (write desk from left) to filled) ≡ stock sort desk
+put_both sort desk from to left filled here there apart whole =
+    let one = stock_with sort desk from left here in
+    let two = stock_with sort (write desk from left) to filled
+    (here_still desk from to left ∙ there) in
+    omega (arith, one, rw (at_other desk from to left apart) at two, whole)
+
+exchanged_keeps : (sort : Sort) (step : Move) (desk : Desk) → is_possible desk step.from step.to
+    ≡ true → stock sort (exchanged step desk) ≡ stock sort desk
+exchanged_keeps sort step desk possible =
+    let here = and_parts (is_here desk step.from)
+    (is_here desk step.to && not (same_place step.from step.to)) possible in
+    let there = and_parts (is_here desk step.to) (not (same_place step.from step.to)) here.1 in
+    put_both sort desk step.from step.to (effect step.how (at desk step.from) (at desk step.to)).0
+    (effect step.how (at desk step.from) (at desk step.to)).1
+    here.0 there.0 (other (same_place step.from step.to) there.1)
+    (effect_keeps sort step.how (at desk step.from) (at desk step.to))
+
+made_if : (sort : Sort) (step : Move) (desk : Desk) (possible : Bool)
+    → (possible ≡ true → is_possible desk step.from step.to ≡ true)
+    → stock sort (if possible then exchanged step desk else desk) ≡ stock sort desk
+made_if sort step desk true is = exchanged_keeps sort step desk (is refl)
+made_if sort step desk false is = refl
+
+made_keeps : (sort : Sort) (step : Move) (desk : Desk) → stock sort (made step desk)
+    ≡ stock sort desk
+unfolding made
+made_keeps sort step desk = made_if sort step desk (is_possible desk step.from step.to) (λ e. e)
+
+pub run_keeps : (sort : Sort) (steps : List Move) (desk : Desk)
+    → stock sort (run steps desk) ≡ stock sort desk
+unfolding run
+run_keeps sort [] desk = refl
+run_keeps sort (step ∷ steps) desk = run_keeps sort steps (made step desk)
+    ∙ made_keeps sort step desk
+
+-- ---- a chest neither comes nor goes
+
+shown_if : (step : Move) (desk : Desk) (possible : Bool) → is_some
+    (if possible then exchanged step desk else desk).chest ≡ is_some desk.chest
+shown_if step desk true =
+    shown_still (write desk step.from
+    (effect step.how (at desk step.from) (at desk step.to)).0) step.to
+    (effect step.how (at desk step.from) (at desk step.to)).1
+    ∙ shown_still desk step.from (effect step.how (at desk step.from) (at desk step.to)).0
+shown_if step desk false = refl
+
+shown_made : (step : Move) (desk : Desk) → is_some (made step desk).chest ≡ is_some desk.chest
+unfolding made
+shown_made step desk = shown_if step desk (is_possible desk step.from step.to)
+
+pub shown_run : (steps : List Move) (desk : Desk) → is_some (run steps desk).chest
+    ≡ is_some desk.chest
+unfolding run
+shown_run [] desk = refl
+shown_run (step ∷ steps) desk = shown_run steps (made step desk) ∙ shown_made step desk
+
+-- ---- clicks
+
+-- what holds of the desk after the moves, and of each refusal, holds of what comes of a click
+worked_cases : (P : Result Desk Why → Type 0) (desk : Desk) (room : Bool) (came : Result Row Why)
+    → ((row : Row) → P (Ok (run (plan desk row) desk))) → ((why : Why) → P (Err why))
+    → P (worked desk room came)
+worked_cases P desk room (Err why) done refused = refused why
+worked_cases P desk room (Ok row) done refused =
+    refuse_cases (not room && not (is_empty (run (plan desk row) desk).floor))
+    (run (plan desk row) desk) (done row)
+  where
+    refuse_cases : (fails : Bool) (end : Desk) → P (Ok end) → P (refuse fails NoRoomToDrop (Ok end))
+    refuse_cases true end is = refused NoRoomToDrop
+    refuse_cases false end is = is
+
+refused_keeps : (sort : Sort) (pack : PackValue) (number : ℤ) (why : Why)
+    → in_pack sort (refused_pack pack number why) ≡ in_pack sort pack
+refused_keeps sort pack number WrongWindow = refl
+refused_keeps sort pack number why = refl
+
+pub click_keeps : (sort : Sort) (pack : PackValue) (chest : Option (List Pile)) (click : Click)
+    (room : Bool) (number : ℤ) →
+    in_pack sort (pack_after pack number (outcome pack chest click room)) +
+    (in_chest sort (chest_after chest (outcome pack chest click room)) + held sort
+    (dropped (answer_of (outcome pack chest click room))))
+    ≡ in_pack sort pack + in_chest sort chest
+click_keeps sort pack chest click room number =
+    worked_cases (λ came. in_pack sort (pack_after pack number came) +
+    (in_chest sort (chest_after chest came) + held sort (dropped (answer_of came)))
+    ≡ in_pack sort pack + in_chest sort chest)
+    (desk_of pack chest) room (admitted (desk_of pack chest) click)
+    (λ row. let keeps = run_keeps sort (plan (desk_of pack chest) row) (desk_of pack chest)
+    in omega (arith, keeps))
+    (λ why. omega (arith, refused_keeps sort pack number why))
+
+-- a chest is left exactly where one was lent
+pub chest_stays : (pack : PackValue) (chest : Option (List Pile)) (click : Click) (room : Bool)
+    → is_some (chest_after chest (outcome pack chest click room)) ≡ is_some chest
+chest_stays pack chest click room =
+    worked_cases (λ came. is_some (chest_after chest came) ≡ is_some chest)
+    (desk_of pack chest) room (admitted (desk_of pack chest) click)
+    (λ row. shown_run (plan (desk_of pack chest) row) (desk_of pack chest)) (λ why. refl)
+
+pub none_left : {A : Type 0} (o : Option A) → is_some o ≡ false → o ≡ None
+none_left None e = refl
+none_left (Some a) e = absurd (cc)
+
+pub some_left : {A : Type 0} (o : Option A) (a : A) → is_some o ≡ true → Some (unwrap_or o a) ≡ o
+some_left None a e = absurd (cc)
+some_left (Some b) a e = refl
+
+-- a refusal leaves the pack, but for the wait, and the chest
+pub refusal : (pack : PackValue) (chest : Option (List Pile)) (number : ℤ) (came : Result Desk Why)
+    (why : Why) → answer_of came ≡ Refused why
+    → (pack_after pack number came ≡ refused_pack pack number why) ×
+    (chest_after chest came ≡ chest)
+refusal pack chest number (Ok end) why e = absurd (cc)
+refusal pack chest number (Err cause) why e = let same : cause ≡ why =
+    cc in (ap (refused_pack pack number) same, refl)
+
+-- what a click left holds what there was
+pub kept_by : (sort : Sort) (pack : PackValue) (chest : Option (List Pile)) (click : Click)
+    (room : Bool) (number : ℤ) (after : PackValue) (left : Option (List Pile)) (answer : Clicked)
+    → after ≡ pack_after pack number (outcome pack chest click room)
+    → left ≡ chest_after chest (outcome pack chest click room)
+    → answer ≡ answer_of (outcome pack chest click room)
+    → in_pack sort after + (in_chest sort left + held sort (dropped answer))
+    ≡ in_pack sort pack + in_chest sort chest
+kept_by sort pack chest click room number after left answer a l d = rw (a, l, d)
+    (click_keeps sort pack chest click room number)
+
+-- the chest after a click that was done
+pub beside_left : (pack : PackValue) (chest new : List Pile) (click : Click) (room : Bool)
+    (end : Desk) → outcome pack (Some chest) click room ≡ Ok end → new ≡ unwrap_or end.chest chest
+    → Some new ≡ chest_after (Some chest) (outcome pack (Some chest) click room)
+beside_left pack chest new click room end came is =
+    let stays : is_some end.chest ≡ true = rw came at (chest_stays pack (Some chest) click room) in
+    rw (came, is) (some_left end.chest chest stays)
+
+-- without a chest none is left
+pub none_stays : (pack : PackValue) (click : Click) (room : Bool)
+    → None ≡ chest_after None (outcome pack None click room)
+none_stays pack click room =
+    sym
+    (none_left (chest_after None (outcome pack None click room)) (chest_stays pack None click room))

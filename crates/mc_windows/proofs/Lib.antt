@@ -1,0 +1,6 @@
+pub mod Steps
+pub mod Effects
+pub mod Desks
+pub mod Keeping
+pub mod Leftovers
+pub mod FirstPack
