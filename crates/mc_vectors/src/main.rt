@@ -1,0 +1,170 @@
+//! A table of rows: each names a call of the ten lowest crates and what it is given, and is
+//! repeated with what the call answers. It stands on those crates and on `hex` and `bytes`.
+//!
+//! It has no contract of its own: the table that it is run on says what each row answers.
+#![tactic(auto)]
+
+/// Puts a name, and behind it each value as the function before it puts it.
+macro_rules! fields {
+    ($answer:ident, $name:literal, $($put:ident $value:expr),+) => {{
+        $answer.word($name);
+        $($put($value, $answer);)+
+    }};
+}
+
+mod answer;
+mod columns;
+mod devices;
+mod down;
+mod fields;
+mod frames;
+mod lands;
+mod marked;
+mod nbt;
+mod packets;
+mod parts;
+mod runs;
+mod slots;
+mod up;
+mod windows;
+mod words;
+
+use answer::Answer;
+use lands::Ground;
+use mc_column::Column;
+use mc_land::Terrain;
+use mc_nbt::NoMemory;
+use std::alloc::Global;
+use std::io;
+use std::io::{BufWriter, Write};
+use words::Words;
+
+/// What rows change, for the rows after them.
+#[derive(Drop)]
+struct Bench {
+    column: Column,
+    ground: Ground,
+}
+
+/// A column of air and the flat land.
+fn new_bench(alloc: Global) -> Result<Bench, NoMemory> {
+    Ok(Bench {
+        column: Column::empty(alloc, 0)?,
+        ground: Ground::new(alloc, Terrain::Flat),
+    })
+}
+
+/// A call of the lowest crates that is no packet and no field.
+#[derive(Clone, Copy)]
+enum Call {
+    Nbt,
+    Same,
+    Make,
+    Slot,
+    Pile,
+    Chest,
+    Window,
+    Frame,
+    Splitter,
+    Pieces,
+    Outbox,
+    Source,
+    Sink,
+    Body,
+    Column,
+    Land,
+    Terrain,
+}
+
+/// The call that a word names.
+fn call_of(name: &str) -> Option<Call> {
+    match name {
+        "nbt" => Some(Call::Nbt),
+        "same" => Some(Call::Same),
+        "make" => Some(Call::Make),
+        "slot" => Some(Call::Slot),
+        "pile" => Some(Call::Pile),
+        "chest" => Some(Call::Chest),
+        "window" => Some(Call::Window),
+        "frame" => Some(Call::Frame),
+        "splitter" => Some(Call::Splitter),
+        "pieces" => Some(Call::Pieces),
+        "outbox" => Some(Call::Outbox),
+        "source" => Some(Call::Source),
+        "sink" => Some(Call::Sink),
+        "body" => Some(Call::Body),
+        "column" => Some(Call::Column),
+        "land" => Some(Call::Land),
+        "terrain" => Some(Call::Terrain),
+        _ => None,
+    }
+}
+
+/// Answers a call.
+fn answer_call(bench: &mut Bench, call: Call, words: &mut Words<'_>, answer: &mut Answer) {
+    match call {
+        Call::Nbt => nbt::read(words, answer),
+        Call::Same => nbt::compare(words, answer),
+        Call::Make => nbt::make(words, answer),
+        Call::Slot => slots::read(words, answer),
+        Call::Pile => slots::pile(words, answer),
+        Call::Chest => slots::chest(words, answer),
+        Call::Window => windows::window(words, answer),
+        Call::Frame => frames::write(words, answer),
+        Call::Splitter => frames::split(words, answer),
+        Call::Pieces => frames::pieces(words, answer),
+        Call::Outbox => frames::outbox(words, answer),
+        Call::Source => devices::source(words, answer),
+        Call::Sink => devices::sink(words, answer),
+        Call::Body => columns::body(words, answer),
+        Call::Column => columns::column(&mut bench.column, words, answer),
+        Call::Land => lands::land(&mut bench.ground, words, answer),
+        Call::Terrain => lands::terrain(words, answer),
+    }
+}
+
+/// Answers a row of a call, a packet or a field.
+fn call_or_other(bench: &mut Bench, name: &str, words: &mut Words<'_>, answer: &mut Answer) {
+    match call_of(name) {
+        Some(named) => answer_call(bench, named, words, answer),
+        None => packet_or_field(name, words, answer),
+    }
+}
+
+/// Answers a row of a packet or of a field.
+fn packet_or_field(name: &str, words: &mut Words<'_>, answer: &mut Answer) {
+    match packets::packet_of(name) {
+        Some(named) => packets::answer_packet(named, words, answer),
+        None => fields::field(name, words, answer),
+    }
+}
+
+/// What a row answers.
+fn answered(bench: &mut Bench, alloc: Global, row: &str) -> Answer {
+    let mut answer = Answer::new(alloc);
+    let mut words = Words::new(alloc, row);
+    let name = words.word();
+    call_or_other(bench, name, &mut words, &mut answer);
+    if words.are_bad() {
+        return Answer::no_such_call(alloc);
+    }
+    answer
+}
+
+fn main(rt: HostRuntime) -> io::Result<()> {
+    let alloc = rt.alloc();
+    let table = io::read_to_string(alloc, rt.reader())?;
+    let Ok(mut bench) = new_bench(alloc) else {
+        return println!(rt; "{NoMemory}");
+    };
+    let mut out = BufWriter::new(alloc, io::writer(&rt))?;
+    for row in table.as_str().trim_end_matches('\n').split('\n') {
+        if row.is_empty() || row.starts_with('#') {
+            writeln!(out, "{row}")?;
+        } else {
+            let answer = answered(&mut bench, alloc, row);
+            writeln!(out, "{row} -> {answer}")?;
+        }
+    }
+    out.flush()
+}
