@@ -7,7 +7,7 @@ ghost use Rattle.mc_nbt.specs.Reading.{Gives};
 ghost use Rattle.mc_nbt.specs.Format.{Anything};
 ghost use Rattle.mc_nbt.specs.Times.{times_at};
 ghost use Rattle.mc_nbt.specs.Many.{AllFit, all_append};
-ghost use Rattle.mc_fields.specs.VarintField.{var_int};
+ghost use Rattle.mc_fields.specs.VarintFormat.{var_int};
 ghost use Rattle.mc_fields.specs.Counted.{counted, listed, short_count};
 ghost use Rattle.mc_slots.specs.SlotFormat.{slot};
 

@@ -32,7 +32,8 @@ const INDICES: u8 = 32;
 
 #[tactic(auto, unfolding(mc_nbt::specs::Times::times_at))]
 fn take_ints(cursor: &mut Cursor<'_>) -> Result<[i32; 3], Stop>
-    ensures { Yields (λ xs. (xs, cursor.new)) result ((times {Rest = Anything} 3 int).read cursor.old) }
+    ensures { Yields (λ xs. (xs, cursor.new)) result ((times {Rest = Anything} 3 int).read
+        cursor.old) }
 {
     let x = take_i32(cursor)?;
     let y = take_i32(cursor)?;
@@ -42,7 +43,8 @@ fn take_ints(cursor: &mut Cursor<'_>) -> Result<[i32; 3], Stop>
 
 #[tactic(auto, unfolding(mc_nbt::specs::Times::times_at))]
 fn take_floats(cursor: &mut Cursor<'_>) -> Result<[u32; 3], Stop>
-    ensures { Yields (λ xs. (xs, cursor.new)) result ((times {Rest = Anything} 3 float).read cursor.old) }
+    ensures { Yields (λ xs. (xs, cursor.new)) result ((times {Rest = Anything} 3 float).read
+        cursor.old) }
 {
     let x = cursor.u32()?;
     let y = cursor.u32()?;
@@ -127,20 +129,23 @@ pub fn read_meta(alloc: Global, bytes: &[u8], at: usize) -> Result<(Metas, usize
     // What is read is spelled there.
     ensures found { IfOk result (λ read. SpelledAt (SpellsMeta read.0) bytes.now at read.1) }
     // What is spelled there is read, unless memory runs out.
-    ensures only { (entries : List MetaEntry) (end : ℕ) → SpelledAt (SpellsMeta entries) bytes.now at end →
+    ensures only { (entries : List MetaEntry) (end : ℕ) →
+        SpelledAt (SpellsMeta entries) bytes.now at end →
         PlacedGives (λ read. read) result (Ok (entries, end)) }
     // From one place on one list is spelled at most, and it has one end.
     ensures one { (a b : List MetaEntry) (m n : ℕ) → SpelledAt (SpellsMeta a) bytes.now at m →
         SpelledAt (SpellsMeta b) bytes.now at n → (a ≡ b) × (m ≡ n) }
     // Which fault it is.
-    ensures exact { PlacedGives (λ read. read) result (placed bytes.now (meta_read (drop at bytes.now))) }
+    ensures exact { PlacedGives (λ read. read) result
+        (placed bytes.now (meta_read (drop at bytes.now))) }
 {
     meta_from(alloc, bytes, at)
 }
 
 fn append_ints(numbers: &[i32], out: &mut Vec<u8>) -> Result<(), NoMemory>
     requires { AllFit (int {Rest = Anything}).fits numbers.now }
-    ensures ok { OnOk result (out.new.items ≡ all_append (int {Rest = Anything}).append numbers.now out.old.items) }
+    ensures ok { OnOk result (out.new.items ≡ all_append (int {Rest = Anything}).append numbers.now
+        out.old.items) }
     ensures kept { take (length out.old.items) out.new.items ≡ out.old.items }
 {
     for number in numbers {
@@ -150,7 +155,8 @@ fn append_ints(numbers: &[i32], out: &mut Vec<u8>) -> Result<(), NoMemory>
 }
 
 fn append_floats(patterns: &[u32], out: &mut Vec<u8>) -> Result<(), NoMemory>
-    ensures ok { OnOk result (out.new.items ≡ all_append (float {Rest = Anything}).append patterns.now out.old.items) }
+    ensures ok { OnOk result (out.new.items ≡ all_append (float {Rest = Anything}).append
+        patterns.now out.old.items) }
     ensures kept { take (length out.old.items) out.new.items ≡ out.old.items }
 {
     for pattern in patterns {
@@ -178,7 +184,8 @@ fn type_of(value: &MetaValue) -> u8
 
 fn append_value(value: &MetaValue, out: &mut Vec<u8>) -> Result<(), NoMemory>
     requires { (value_of (type_of value.now)).fits value.now }
-    ensures ok { OnOk result (out.new.items ≡ (value_of (type_of value.now)).append value.now out.old.items) }
+    ensures ok { OnOk result (out.new.items ≡ (value_of (type_of value.now)).append value.now
+        out.old.items) }
     ensures kept { take (length out.old.items) out.new.items ≡ out.old.items }
 {
     match value {
@@ -196,7 +203,8 @@ fn append_value(value: &MetaValue, out: &mut Vec<u8>) -> Result<(), NoMemory>
 
 fn append_entry(entry: &MetaEntry, out: &mut Vec<u8>) -> Result<(), NoMemory>
     requires { headed_fits 127 head_of (λ head. (entry_of_head head).fits) entry.now }
-    ensures ok { OnOk result (out.new.items ≡ (entry_of_head (head_of entry.now)).append entry.now (out.old.items ++ number_spelling w8 (head_of entry.now))) }
+    ensures ok { OnOk result (out.new.items ≡ (entry_of_head (head_of entry.now)).append entry.now
+        (out.old.items ++ number_spelling w8 (head_of entry.now))) }
     ensures begun { OnErr result (take (length out.old.items) out.new.items ≡ out.old.items) }
 {
     write_u8(type_of(&entry.value) * INDICES + entry.index, out)?;
@@ -206,7 +214,8 @@ fn append_entry(entry: &MetaEntry, out: &mut Vec<u8>) -> Result<(), NoMemory>
 
 fn append_entries(entries: &[MetaEntry], out: &mut Vec<u8>) -> Result<(), NoMemory>
     requires { FitsMeta entries.now }
-    ensures ok { OnOk result (out.new.items ≡ (metadata {Rest = Anything}).append entries.now out.old.items) }
+    ensures ok { OnOk result (out.new.items ≡ (metadata {Rest = Anything}).append entries.now
+        out.old.items) }
     ensures kept { take (length out.old.items) out.new.items ≡ out.old.items }
 {
     for entry in entries {
@@ -219,7 +228,8 @@ fn append_entries(entries: &[MetaEntry], out: &mut Vec<u8>) -> Result<(), NoMemo
 /// Entries and the byte of their end; without memory some first part of them.
 pub fn put_metas(metas: &Metas, out: &mut Vec<u8>) -> Result<(), NoMemory>
     requires { FitsMeta metas.now }
-    ensures ok { OnOk result (out.new.items ≡ (metadata {Rest = Anything}).append metas.now out.old.items) }
+    ensures ok { OnOk result (out.new.items ≡ (metadata {Rest = Anything}).append metas.now
+        out.old.items) }
     ensures kept { take (length out.old.items) out.new.items ≡ out.old.items }
 {
     append_entries(metas.as_slice(), out)?;
@@ -245,7 +255,8 @@ pub fn write_meta(value: &Metas, out: &mut Vec<u8>) -> Result<(), NoMemory>
     ensures ok { OnOk result (out.new.items ≡ out.old.items ++ meta_spelling value.now) }
     ensures spelled { SpellsMeta value.now (meta_spelling value.now) }
     // What is written is read again, whatever follows.
-    ensures again { (rest : List ℕ) → meta_read (meta_spelling value.now ++ rest) ≡ Ok (value.now, rest) }
+    ensures again { (rest : List ℕ) → meta_read (meta_spelling value.now ++ rest) ≡
+        Ok (value.now, rest) }
     ensures err { OnErr result (out.new.items ≡ out.old.items) }
 {
     let start = out.len();

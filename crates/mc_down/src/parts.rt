@@ -23,7 +23,8 @@ pub fn take_text_if(
     alloc: Global,
     cursor: &mut Cursor<'_>,
 ) -> Result<Option<Text>, ReadError>
-    ensures { Gives (λ text. (text, cursor.new)) result ((when {Rest = Anything} there chat_text).read cursor.old) }
+    ensures { Gives (λ text. (text, cursor.new)) result
+        ((when {Rest = Anything} there chat_text).read cursor.old) }
 {
     if !there {
         return Ok(None);
@@ -34,7 +35,8 @@ pub fn take_text_if(
 /// A text where it is there.
 pub fn write_text_if(text: &Option<Text>, out: &mut Vec<u8>) -> Result<(), NoMemory>
     requires { IfSome text.now (λ bytes. length bytes < 2 ^ 31) }
-    ensures ok { OnOk result (out.new.items ≡ when_append (chat_text {Rest = Anything}).append text.now out.old.items) }
+    ensures ok { OnOk result (out.new.items ≡ when_append (chat_text {Rest = Anything}).append
+        text.now out.old.items) }
     ensures kept { take (length out.old.items) out.new.items ≡ out.old.items }
 {
     if let Some(text) = text {
@@ -45,7 +47,8 @@ pub fn write_text_if(text: &Option<Text>, out: &mut Vec<u8>) -> Result<(), NoMem
 
 /// The speed of an object where it is there.
 pub fn take_speed_if(there: bool, cursor: &mut Cursor<'_>) -> Result<Option<Speed>, Stop>
-    ensures { Yields (λ value. (value, cursor.new)) result ((when {Rest = Anything} there speed).read cursor.old) }
+    ensures { Yields (λ value. (value, cursor.new)) result
+        ((when {Rest = Anything} there speed).read cursor.old) }
 {
     if !there {
         return Ok(None);
@@ -58,7 +61,8 @@ pub fn take_speed_if(there: bool, cursor: &mut Cursor<'_>) -> Result<Option<Spee
 
 /// The speed of an object where it is there.
 pub fn write_speed_if(value: &Option<Speed>, out: &mut Vec<u8>) -> Result<(), NoMemory>
-    ensures ok { OnOk result (out.new.items ≡ when_append (speed {Rest = Anything}).append value.now out.old.items) }
+    ensures ok { OnOk result (out.new.items ≡ when_append (speed {Rest = Anything}).append value.now
+        out.old.items) }
     ensures kept { take (length out.old.items) out.new.items ≡ out.old.items }
 {
     if let Some(speed) = value {
@@ -78,7 +82,8 @@ pub fn is_horse(kind: &str) -> bool
 
 /// The entity of a window where it is there.
 pub fn take_horse_if(there: bool, cursor: &mut Cursor<'_>) -> Result<Option<i32>, Stop>
-    ensures { Yields (λ value. (value, cursor.new)) result ((when {Rest = Anything} there int).read cursor.old) }
+    ensures { Yields (λ value. (value, cursor.new)) result ((when {Rest = Anything} there int).read
+        cursor.old) }
 {
     if !there {
         return Ok(None);
@@ -88,7 +93,8 @@ pub fn take_horse_if(there: bool, cursor: &mut Cursor<'_>) -> Result<Option<i32>
 
 /// The entity of a window where it is there.
 pub fn write_int_if(value: &Option<i32>, out: &mut Vec<u8>) -> Result<(), NoMemory>
-    ensures ok { OnOk result (out.new.items ≡ when_append (int {Rest = Anything}).append value.now out.old.items) }
+    ensures ok { OnOk result (out.new.items ≡ when_append (int {Rest = Anything}).append value.now
+        out.old.items) }
     ensures kept { take (length out.old.items) out.new.items ≡ out.old.items }
 {
     if let Some(value) = value {

@@ -12,6 +12,7 @@ use mc_fields::write_varint;
 use mc_nbt::{Cursor, NoMemory, ReadError};
 use std::alloc::Global;
 
+/// Reads an action and what it says of each player.
 pub fn read_player_list(alloc: Global, cursor: &mut Cursor<'_>) -> Result<Down, ReadError>
     ensures { Gives (λ packet. (packet, cursor.new)) result (fields_read player_list cursor.old) }
 {
@@ -20,9 +21,12 @@ pub fn read_player_list(alloc: Global, cursor: &mut Cursor<'_>) -> Result<Down, 
     Ok(Down::List(action, changes))
 }
 
+/// Appends the id, an action and what it says of each player. Without memory some first part of them
+/// may be there.
 pub fn write_player_list(action: &i32, changes: &Players, out: &mut Vec<u8>) -> Result<(), NoMemory>
     requires { row_fits player_list (action.now, changes.now) }
-    ensures ok { OnOk result (out.new.items ≡ row_append player_list (action.now, changes.now) out.old.items) }
+    ensures ok { OnOk result (out.new.items ≡ row_append player_list (action.now, changes.now)
+        out.old.items) }
     ensures kept { take (length out.old.items) out.new.items ≡ out.old.items }
 {
     write_varint(0x38, out)?;

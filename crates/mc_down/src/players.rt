@@ -135,7 +135,8 @@ fn players_in(
     action: &i32,
     count: usize,
 ) -> Result<Players, ReadError>
-    ensures { Gives (λ list. (list, cursor.new)) result (times_at (player action.now).read count cursor.old) }
+    ensures { Gives (λ list. (list, cursor.new)) result (times_at (player action.now).read count
+        cursor.old) }
 {
     let mut list = Players::new(alloc);
     for _ in 0..count {
@@ -150,7 +151,8 @@ pub fn take_players(
     cursor: &mut Cursor<'_>,
     action: i32,
 ) -> Result<Players, ReadError>
-    ensures { Gives (λ list. (list, cursor.new)) result ((counted {Rest = Anything} (player action)).read cursor.old) }
+    ensures { Gives (λ list. (list, cursor.new)) result
+        ((counted {Rest = Anything} (player action)).read cursor.old) }
 {
     let count = take_count(cursor)?;
     let list = players_in(alloc, cursor, &action, count)?;
@@ -162,7 +164,8 @@ pub fn take_players(
 fn write_join_head(name: &Text, properties: &Properties, out: &mut Vec<u8>) -> Result<(), NoMemory>
     requires name { length name.now < 2 ^ 31 }
     requires properties { (counted {Rest = Anything} property).fits properties.now }
-    ensures ok { OnOk result (out.new.items ≡ (counted {Rest = Anything} property).append properties.now ((string {Rest = Anything}).append name.now out.old.items)) }
+    ensures ok { OnOk result (out.new.items ≡ (counted {Rest = Anything} property).append
+        properties.now ((string {Rest = Anything}).append name.now out.old.items)) }
     ensures kept { take (length out.old.items) out.new.items ≡ out.old.items }
 {
     write_text(name, out)?;
@@ -180,7 +183,9 @@ fn write_join_tail(
     out: &mut Vec<u8>,
 ) -> Result<(), NoMemory>
     requires { IfSome shown.now (λ bytes. length bytes < 2 ^ 31) }
-    ensures ok { OnOk result (out.new.items ≡ shown_parts.append (is_shown, shown.now) ((varint {Rest = Anything}).append ping ((varint {Rest = Anything}).append mode out.old.items))) }
+    ensures ok { OnOk result (out.new.items ≡ shown_parts.append (is_shown, shown.now)
+        ((varint {Rest = Anything}).append ping ((varint {Rest = Anything}).append mode
+        out.old.items))) }
     ensures kept { take (length out.old.items) out.new.items ≡ out.old.items }
 {
     write_varint(mode, out)?;
@@ -204,7 +209,10 @@ fn write_join(
     requires name { length name.now < 2 ^ 31 }
     requires properties { (counted {Rest = Anything} property).fits properties.now }
     requires shown { IfSome shown.now (λ bytes. length bytes < 2 ^ 31) }
-    ensures ok { OnOk result (out.new.items ≡ join_parts.append (name.now, (properties.now, (mode, (ping, (is_shown, shown.now))))) out.old.items) }
+    ensures ok { OnOk result (out.new.items ≡ join_parts.append (
+      name.now,
+      (properties.now, (mode, (ping, (is_shown, shown.now)))),
+    ) out.old.items) }
     ensures kept { take (length out.old.items) out.new.items ≡ out.old.items }
 {
     write_join_head(name, properties, out)?;
@@ -214,7 +222,8 @@ fn write_join(
 
 fn write_shown(is_shown: bool, shown: &Option<Text>, out: &mut Vec<u8>) -> Result<(), NoMemory>
     requires { IfSome shown.now (λ bytes. length bytes < 2 ^ 31) }
-    ensures ok { OnOk result (out.new.items ≡ shown_parts.append (is_shown, shown.now) out.old.items) }
+    ensures ok { OnOk result (out.new.items ≡ shown_parts.append (is_shown, shown.now)
+        out.old.items) }
     ensures kept { take (length out.old.items) out.new.items ≡ out.old.items }
 {
     write_bool(is_shown, out)?;
@@ -258,7 +267,8 @@ fn write_player(item: &Player, action: &i32, out: &mut Vec<u8>) -> Result<(), No
 
 fn append_players(items: &[Player], action: &i32, out: &mut Vec<u8>) -> Result<(), NoMemory>
     requires { AllFit (player action.now).fits items.now }
-    ensures ok { OnOk result (out.new.items ≡ all_append (player action.now).append items.now out.old.items) }
+    ensures ok { OnOk result (out.new.items ≡ all_append (player action.now).append items.now
+        out.old.items) }
     ensures kept { take (length out.old.items) out.new.items ≡ out.old.items }
 {
     for item in items {
@@ -271,7 +281,8 @@ fn append_players(items: &[Player], action: &i32, out: &mut Vec<u8>) -> Result<(
 #[tactic(auto, using(mc_nbt::proofs::Kept::kept_whole, mc_nbt::proofs::Kept::kept_same, mc_nbt::proofs::Kept::kept_by, crate::proofs::Begun::kept_through))]
 pub fn write_players(list: &Players, action: &i32, out: &mut Vec<u8>) -> Result<(), NoMemory>
     requires { (counted {Rest = Anything} (player action.now)).fits list.now }
-    ensures ok { OnOk result (out.new.items ≡ (counted {Rest = Anything} (player action.now)).append list.now out.old.items) }
+    ensures ok { OnOk result (out.new.items ≡ (counted {Rest = Anything} (player action.now)).append
+        list.now out.old.items) }
     ensures kept { take (length out.old.items) out.new.items ≡ out.old.items }
 {
     let items = list.as_slice();
