@@ -1,6 +1,8 @@
--- A chunk body: the states of some sections, their light, and biomes. The layout is that of wiki.vg, 'SMP Map Format'
--- and 'Chunk Format', for protocol 47.
-use Rattle.std.specs.Prelude.{◌≡◌, ℕ, ◌+◌, ◌*◌, ◌/◌, ◌%◌, ◌^◌, ◌<◌, Bool, true, List, length, take, drop, replicate, slice_index, nat_lt, ◌==◌, Result, Ok, Err, if◌then◌else◌}
+-- A chunk body: the states of some sections, their light, and biomes. The layout is that of
+-- wiki.vg, 'SMP Map Format' and 'Chunk Format', for protocol 47.
+use Rattle.std.specs.Prelude.{◌≡◌, ℕ, ◌+◌, ◌*◌, ◌/◌, ◌%◌, ◌^◌, ◌<◌, Bool, true, List, length, take}
+use Rattle.std.specs.Prelude.{drop, replicate, slice_index, nat_lt, ◌==◌, Result, Ok, Err}
+use Rattle.std.specs.Prelude.{if◌then◌else◌}
 use Rattle.mc_nbt.specs.declared.fault.Kind.TheVariants.{Short, BadLength}
 use Rattle.mc_nbt.specs.declared.fault.FieldFault.{FieldFault}
 use Rattle.mc_nbt.specs.Placed.{fault_at}
@@ -43,17 +45,22 @@ biome_count ground_up = if ground_up then squares else 0
 abbrev pub body_size : ℕ → Bool → Bool → ℕ
 body_size mask sky ground_up = biomes_at mask sky + biome_count ground_up
 
--- The bytes spell a body for a mask, with or without sky light, ground-up or not. Light may have any value.
-pub record SpellsBody (body : BodyValue) (mask : ℕ) (sky ground_up : Bool) (bytes : List ℕ) : Type 0 where
-  pub for_mask : body.mask ≡ mask
-  pub for_ground : body.ground_up ≡ ground_up
-  pub states_are : length body.states ≡ named_count mask * section_cells
-  pub biomes_are : length body.biomes ≡ biome_count ground_up
-  -- state i is bytes 2i and 2i + 1, the least significant first
-  pub low : (i : ℕ) → i < length body.states → slice_index bytes (2 * i) ≡ slice_index body.states i % 256
-  pub high : (i : ℕ) → i < length body.states → slice_index bytes (2 * i + 1) ≡ slice_index body.states i / 256
-  pub biome : (i : ℕ) → i < length body.biomes → slice_index bytes (biomes_at mask sky + i) ≡ slice_index body.biomes i
-  pub size : length bytes ≡ body_size mask sky ground_up
+-- The bytes spell a body for a mask, with or without sky light, ground-up or not. Light may have
+-- any value.
+pub record SpellsBody (body : BodyValue) (mask : ℕ) (sky ground_up : Bool) (bytes : List ℕ) : Type 0
+  where
+    pub for_mask : body.mask ≡ mask
+    pub for_ground : body.ground_up ≡ ground_up
+    pub states_are : length body.states ≡ named_count mask * section_cells
+    pub biomes_are : length body.biomes ≡ biome_count ground_up
+    -- state i is bytes 2i and 2i + 1, the least significant first
+    pub low : (i : ℕ) → i < length body.states → slice_index bytes (2 * i) ≡
+        slice_index body.states i % 256
+    pub high : (i : ℕ) → i < length body.states → slice_index bytes (2 * i + 1) ≡
+        slice_index body.states i / 256
+    pub biome : (i : ℕ) → i < length body.biomes → slice_index bytes (biomes_at mask sky + i) ≡
+        slice_index body.biomes i
+    pub size : length bytes ≡ body_size mask sky ground_up
 
 -- the body in bytes of the right number
 abbrev pub body_in : ℕ → Bool → Bool → List ℕ → BodyValue
@@ -73,7 +80,8 @@ body_read mask sky ground_up bytes =
     then Err (fault_at BadLength (body_size mask sky ground_up))
     else Ok (body_in mask sky ground_up bytes)
 
--- section i of a column after a body with these states: as in the body, or else air where the body is ground-up
+-- section i of a column after a body with these states: as in the body, or else air where the body
+-- is ground-up
 abbrev pub put_section : ℕ → Bool → List ℕ → ℕ → List ℕ → List ℕ
 put_section mask ground_up states i old =
     if is_named mask i
@@ -85,7 +93,8 @@ put_section mask ground_up states i old =
 -- the column after a body is put into it
 unfoldable pub put_body : ColumnValue → BodyValue → ColumnValue
 put_body column body = record {
-  states = joined (λ i. put_section body.mask body.ground_up body.states i (section_of column.states i)) section_count;
+  states = joined (λ i. put_section body.mask body.ground_up body.states i (section_of column.states
+      i)) section_count;
   biomes = if body.ground_up then body.biomes else column.biomes;
 }
 

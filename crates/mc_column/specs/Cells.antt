@@ -1,11 +1,13 @@
 -- A column of cells, its sections, and the two bytes in which a state is sent.
-use Rattle.std.specs.Prelude.{◌≡◌, ℕ, zero, suc, ◌+◌, ◌*◌, ◌/◌, ◌%◌, Bool, List, [], ◌∷◌, ◌++◌, length, take, drop, slice_set, replicate, if◌then◌else◌}
+use Rattle.std.specs.Prelude.{◌≡◌, ℕ, zero, suc, ◌+◌, ◌*◌, ◌/◌, ◌%◌, Bool, List, [], ◌∷◌, ◌++◌}
+use Rattle.std.specs.Prelude.{length, take, drop, slice_set, replicate, if◌then◌else◌}
 use Rattle.std.specs.List.{All}
 use Rattle.mc_column.specs.Sizes.{section_cells, cells, squares}
 
 -- a column as contracts see it
 pub record ColumnValue : Type 0 where
-  -- 65,536 states, that of (x, y, z) at y * 256 + z * 16 + x: a layer after another, from the bottom
+  -- 65,536 states, that of (x, y, z) at y * 256 + z * 16 + x: a layer after another, from the
+  -- bottom
   pub states : List ℕ
   -- 256 biomes, that of (x, z) at z * 16 + x
   pub biomes : List ℕ
@@ -27,12 +29,16 @@ empty_column biome = record { states = replicate cells 0; biomes = replicate squ
 
 -- the column with another state at an index
 abbrev pub with_state : ColumnValue → ℕ → ℕ → ColumnValue
-with_state column i state = record { states = slice_set column.states i state; biomes = column.biomes }
+with_state column i state = record {
+  states = slice_set column.states i state;
+  biomes = column.biomes;
+}
 
 -- the column with other states in section i
 abbrev pub with_section : ColumnValue → ℕ → List ℕ → ColumnValue
 with_section column i states = record {
-  states = take (i * section_cells) column.states ++ (states ++ drop (i * section_cells + section_cells) column.states);
+  states = take (i * section_cells) column.states ++
+      (states ++ drop (i * section_cells + section_cells) column.states);
   biomes = column.biomes;
 }
 

@@ -8,7 +8,10 @@ abbrev pub nth_section : List (List ℕ) → ℕ → List ℕ
 nth_section sections i = slice_index_or sections i []
 
 abbrev pub kept_column : List (List ℕ) → List ℕ → ColumnValue
-kept_column sections biomes = record { states = joined (nth_section sections) section_count; biomes = biomes }
+kept_column sections biomes = record {
+  states = joined (nth_section sections) section_count;
+  biomes = biomes;
+}
 
 pub record IsKeptColumn (sections : List (List ℕ)) (biomes : List ℕ) : Type 0 where
   pub all_there : length sections ≡ section_count

@@ -1,4 +1,5 @@
 pub mod Sizes
+pub mod SizesLaws
 pub mod Cells
 pub mod Light
 pub mod LightCode

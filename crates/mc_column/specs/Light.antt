@@ -1,5 +1,6 @@
 -- Sky light: a cell is lit where it and all cells above it are air. That is a rule of this
--- project; half a byte a cell, the low half for the even index, is wiki.vg's layout for protocol 47.
+-- project; half a byte a cell, the low half for the even index, is wiki.vg's layout for protocol
+-- 47.
 use Rattle.std.specs.Prelude.{◌≡◌, ℕ, zero, suc, ◌+◌, ◌*◌, ◌/◌, ◌%◌, Bool, true}
 use Rattle.std.specs.Prelude.{List, length, map, slice_index, ◌==◌, ◌&&◌, if◌then◌else◌}
 use Rattle.std.specs.List.{range_with_len}

@@ -1,5 +1,6 @@
--- The sizes of a column, as names that no proof looks into: a list of so many elements is never written out.
-use Rattle.std.specs.Prelude.{◌≡◌, ℕ, ◌*◌, refl}
+-- The sizes of a column, as names that no proof looks into: a list of so many elements is never
+-- written out.
+use Rattle.std.specs.Prelude.{ℕ}
 
 -- sections in a column
 pub section_count : ℕ
@@ -28,47 +29,3 @@ row_bytes = 128
 -- layers in a section
 pub layer_count : ℕ
 layer_count = 16
-
--- ---- the numbers that they are
-
-pub section_count-is : section_count ≡ 16
-unfolding section_count
-section_count-is = refl
-
-pub section_cells-is : section_cells ≡ 4096
-unfolding section_cells
-section_cells-is = refl
-
-pub cells-is : cells ≡ 65536
-unfolding cells
-cells-is = refl
-
-pub squares-is : squares ≡ 256
-unfolding squares
-squares-is = refl
-
-pub light_bytes-is : light_bytes ≡ 2048
-unfolding light_bytes
-light_bytes-is = refl
-
-pub row_bytes-is : row_bytes ≡ 128
-unfolding row_bytes
-row_bytes-is = refl
-
-pub layer_count-is : layer_count ≡ 16
-unfolding layer_count
-layer_count-is = refl
-
--- a column is its sections
-pub cells-sections : cells ≡ section_count * section_cells
-unfolding cells section_count section_cells
-cells-sections = refl
-
--- a section is its layers
-pub section-layers : section_cells ≡ layer_count * squares
-unfolding section_cells layer_count squares
-section-layers = refl
-
-pub light-layers : light_bytes ≡ layer_count * row_bytes
-unfolding light_bytes layer_count row_bytes
-light-layers = refl

@@ -8,7 +8,7 @@ use Rattle.mc_nbt.specs.Combine.{◌then◌, tested}
 use Rattle.mc_nbt.specs.Optional.{when}
 use Rattle.mc_nbt.specs.Rest.{rest}
 use Rattle.mc_fields.specs.Flat.{tuple2, tuple3, tuple4, tuple5, tuple6, tuple7}
-use Rattle.mc_fields.specs.VarintField.{var_int}
+use Rattle.mc_fields.specs.VarintFormat.{var_int}
 use Rattle.mc_fields.specs.VarintFormat.{varint}
 use Rattle.mc_fields.specs.Integers.{byte, ubyte, short, ushort, int, long}
 use Rattle.mc_fields.specs.Integers.{float, double, uuid, boolean}

@@ -1,6 +1,8 @@
--- The metadata of entities, of the page 'Entities' of wiki.vg for protocol 47: entries until the byte 7F. An entry's byte has
--- its type in the top 3 bits and its index in the low 5. So type 3 with index 31 has no spelling: its byte is that of the end.
-use Rattle.std.specs.Prelude.{◌≡◌, ℕ, ◌+◌, ◌*◌, ◌/◌, ◌%◌, ◌<◌, ◌==◌, Bool, true, false, List, [], length, Option, Ok, refl}
+-- The metadata of entities, of the page 'Entities' of wiki.vg for protocol 47: entries until the
+-- byte 7F. An entry's byte has its type in the top 3 bits and its index in the low 5. So type 3
+-- with index 31 has no spelling: its byte is that of the end.
+use Rattle.std.specs.Prelude.{◌≡◌, ℕ, ◌+◌, ◌*◌, ◌/◌, ◌%◌, ◌<◌, ◌==◌, Bool, true, false, List, []}
+use Rattle.std.specs.Prelude.{length, Option, Ok, refl}
 use Rattle.std.proofs.Common.{sym, ap, ◌∙◌, arith, eqb-true, lit<}
 use Rattle.std.proofs.lemmas.Bool.{eqb-false}
 use lib.IntN.{ℤ, pos}
@@ -105,18 +107,28 @@ value_of kind =
 abbrev pub head_of : MetaEntry → ℕ
 head_of entry = type_of entry.value * 32 + entry.index
 
-pub entry_view : (head : ℕ) (fits : MetaValue → Type 0) → IsView {B = MetaEntry} fits (λ entry. entry.index ≡ head % 32) (λ value. record { index = head % 32; value = value }) (λ entry. entry.value)
-entry_view head fits = record { made = λ value f. refl; again = λ value f. refl; same = λ entry index. rw index refl }
+pub entry_view : (head : ℕ) (fits : MetaValue → Type 0) →
+    IsView {B = MetaEntry} fits (λ entry. entry.index ≡ head % 32)
+    (λ value. record { index = head % 32; value = value }) (λ entry. entry.value)
+entry_view head fits = record {
+  made = λ value f. refl;
+  again = λ value f. refl;
+  same = λ entry index. rw index refl;
+}
 
 -- the entry that a byte announces
 abbrev pub entry_of_head : ℕ → Format Anything MetaEntry
-entry_of_head head = via (value_of (head / 32)) (λ entry. entry.index ≡ head % 32) (λ value. record { index = head % 32; value = value }) (λ entry. entry.value) (entry_view head (value_of (head / 32)).fits)
+entry_of_head head = via (value_of (head / 32)) (λ entry. entry.index ≡ head % 32)
+    (λ value. record { index = head % 32; value = value }) (λ entry. entry.value)
+    (entry_view head (value_of (head / 32)).fits)
 
 -- a value of a format of one type has that type
 abbrev pub IsTyped : (MetaValue → List ℕ → Type 0) → ℕ → Type 0
-IsTyped spells kind = (value : MetaValue) (bytes : List ℕ) → spells value bytes → type_of value ≡ kind
+IsTyped spells kind = (value : MetaValue) (bytes : List ℕ) → spells value bytes → type_of value ≡
+    kind
 
-chosen : (kind own : ℕ) (f g : Format Anything MetaValue) → IsTyped f.spells own → ((kind == own) ≡ false → IsTyped g.spells kind) → IsTyped (choose (kind == own) f g).spells kind
+chosen : (kind own : ℕ) (f g : Format Anything MetaValue) → IsTyped f.spells own →
+    ((kind == own) ≡ false → IsTyped g.spells kind) → IsTyped (choose (kind == own) f g).spells kind
 chosen kind own f g first others value bytes s = step (kind == own) refl s
   where
     step : (t : Bool) → (kind == own) ≡ t → (choose t f g).spells value bytes → type_of value ≡ kind
@@ -132,12 +144,23 @@ typed kind few =
     chosen kind 4 texts _ (λ value bytes s. ap type_of s.0) (λ n4.
     chosen kind 5 slots _ (λ value bytes s. ap type_of s.0) (λ n5.
     chosen kind 6 three_ints three_floats (λ value bytes s. ap type_of s.0) (λ n6. λ value bytes s.
-    let last : kind ≡ 7 = omega (arith, few, eqb-false kind 0 n0, eqb-false kind 1 n1, eqb-false kind 2 n2, eqb-false kind 3 n3, eqb-false kind 4 n4, eqb-false kind 5 n5, eqb-false kind 6 n6) in
+    let last : kind ≡ 7 = omega (
+      arith,
+      few,
+      eqb-false kind 0 n0,
+      eqb-false kind 1 n1,
+      eqb-false kind 2 n2,
+      eqb-false kind 3 n3,
+      eqb-false kind 4 n4,
+      eqb-false kind 5 n5,
+      eqb-false kind 6 n6,
+    ) in
     ap type_of s.0 ∙ sym last)))))))
 
 pub is_head : IsHead head_of (λ head. (entry_of_head head).spells)
 is_head head entry bytes small s =
-    let kind : type_of entry.value ≡ head / 32 = typed (head / 32) (omega (arith, small)) entry.value bytes s.1 in
+    let kind : type_of entry.value ≡ head / 32 = typed (head / 32) (omega (arith, small))
+    entry.value bytes s.1 in
     let index : entry.index ≡ head % 32 = s.0 in
     omega (arith, kind, index)
 
@@ -165,9 +188,12 @@ abbrev pub entry_read : List ℕ → Field (Option MetaEntry)
 entry_read = headed_read 127 (λ head. (entry_of_head head).read)
 
 -- an entry that was read took a byte at least
-pub entry_shorter : (bytes : List ℕ) (x : Option MetaEntry × List ℕ) → IsBytes bytes → entry_read bytes ≡ Ok x → length x.1 < length bytes
-entry_shorter = headed_shorter 127 head_of (λ head. (entry_of_head head).spells) (λ head. (entry_of_head head).read) (λ head. (entry_of_head head).found) is_head
+pub entry_shorter : (bytes : List ℕ) (x : Option MetaEntry × List ℕ) → IsBytes bytes →
+    entry_read bytes ≡ Ok x → length x.1 < length bytes
+entry_shorter = headed_shorter 127 head_of (λ head. (entry_of_head head).spells)
+    (λ head. (entry_of_head head).read) (λ head. (entry_of_head head).found) is_head
 
 -- the top bits of an entry's byte are its type, where its index is below 32
-pub head_kind : (entry : MetaEntry) → entry.index ≡ head_of entry % 32 → head_of entry / 32 ≡ type_of entry.value
+pub head_kind : (entry : MetaEntry) → entry.index ≡ head_of entry % 32 → head_of entry / 32 ≡
+    type_of entry.value
 head_kind entry index = omega (arith, index)

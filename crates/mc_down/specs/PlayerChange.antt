@@ -1,4 +1,5 @@
--- What the list of players says of each, of the page 'Protocol', packet 'Player List Item', of wiki.vg for protocol 47.
+-- What the list of players says of each, of the page 'Protocol', packet 'Player List Item', of
+-- wiki.vg for protocol 47.
 use Rattle.std.specs.Prelude.{◌≡◌, ℕ, ◌||◌, Bool, true, false, List, [], Option, None, nat_lt, refl}
 use lib.IntN.{ℤ, pos, negsuc}
 use Rattle.mc_nbt.specs.Reading.{Field}
@@ -6,7 +7,7 @@ use Rattle.mc_nbt.specs.Format.{Format, IsFound, IsOnly, Anything}
 use Rattle.mc_nbt.specs.Combine.{◌then◌, IsView, via, none}
 use Rattle.mc_nbt.specs.Optional.{when}
 use Rattle.mc_nbt.specs.Variant.{choose, variant}
-use Rattle.mc_fields.specs.VarintField.{var_int}
+use Rattle.mc_fields.specs.VarintFormat.{var_int}
 use Rattle.mc_fields.specs.Integers.{uuid, boolean}
 use Rattle.mc_fields.specs.Counted.{counted}
 use Rattle.mc_fields.specs.Row.{is_id}
@@ -22,19 +23,26 @@ abbrev pub PropertyParts : Type 0
 PropertyParts = List ℕ × (List ℕ × (Bool × Option (List ℕ)))
 
 abbrev pub property_of : PropertyParts → Property
-property_of (name, (value, (is_signed, signature))) = record { name = name; value = value; is_signed = is_signed; signature = signature }
+property_of (name, (value, (is_signed, signature))) = record {
+  name = name;
+  value = value;
+  is_signed = is_signed;
+  signature = signature;
+}
 
 abbrev pub property_back : Property → PropertyParts
 property_back p = (p.name, (p.value, (p.is_signed, p.signature)))
 
-pub property_view : (fits : PropertyParts → Type 0) → IsView fits (λ p. Unit {0}) property_of property_back
+pub property_view : (fits : PropertyParts → Type 0) →
+    IsView fits (λ p. Unit {0}) property_of property_back
 property_view fits = record { made = λ a f. tt; again = λ a f. refl; same = λ p f. refl }
 
 abbrev pub property_parts : Format Anything PropertyParts
 property_parts = string then λ _. string then λ _. boolean then λ is_signed. when is_signed string
 
 abbrev pub property : Format Anything Property
-property = via property_parts (λ p. Unit {0}) property_of property_back (property_view property_parts.fits)
+property = via property_parts (λ p. Unit {0}) property_of property_back
+    (property_view property_parts.fits)
 
 -- ---- what changes of a player, by the action
 
@@ -43,14 +51,17 @@ abbrev pub JoinParts : Type 0
 JoinParts = List ℕ × (List Property × (ℤ × (ℤ × (Bool × Option (List ℕ)))))
 
 abbrev pub join_of : JoinParts → PlayerChange
-join_of (name, (properties, (mode, (ping, (is_shown, shown))))) = Join name properties mode ping is_shown shown
+join_of (name, (properties, (mode, (ping, (is_shown, shown))))) =
+    Join name properties mode ping is_shown shown
 
 abbrev pub join_back : PlayerChange → JoinParts
-join_back (Join name properties mode ping is_shown shown) = (name, (properties, (mode, (ping, (is_shown, shown)))))
+join_back (Join name properties mode ping is_shown shown) =
+    (name, (properties, (mode, (ping, (is_shown, shown)))))
 join_back other = ([], ([], (pos 0, (pos 0, (false, None)))))
 
 abbrev pub join_parts : Format Anything JoinParts
-join_parts = string then λ _. counted property then λ _. var_int then λ _. var_int then λ _. boolean then λ is_shown. when is_shown chat_text
+join_parts = string then λ _. counted property then λ _. var_int then λ _. var_int then
+    λ _. boolean then λ is_shown. when is_shown chat_text
 
 abbrev pub joining : Format Anything PlayerChange
 joining = variant join_parts join_of join_back (λ parts. refl)
@@ -94,14 +105,19 @@ change action =
 
 -- ---- a player
 
-pub player_view : (fits : ℕ × PlayerChange → Type 0) → IsView {B = Player} fits (λ p. Unit {0}) (λ (who, what). record { uuid = who; change = what }) (λ p. (p.uuid, p.change))
+pub player_view : (fits : ℕ × PlayerChange → Type 0) →
+    IsView {B = Player} fits (λ p. Unit {0}) (λ (who, what). record { uuid = who; change = what })
+    (λ p. (p.uuid, p.change))
 player_view fits = record { made = λ a f. tt; again = λ a f. refl; same = λ p f. refl }
 
 abbrev pub player_parts : ℤ → Format Anything (ℕ × PlayerChange)
 player_parts action = uuid then λ _. change action
 
 abbrev pub player_wire : ℤ → Format Anything Player
-player_wire action = via (player_parts action) (λ p. Unit {0}) (λ (who, what). record { uuid = who; change = what }) (λ p. (p.uuid, p.change)) (player_view (player_parts action).fits)
+player_wire action = via (player_parts action) (λ p. Unit {0}) (λ (who, what). record {
+  uuid = who;
+  change = what;
+}) (λ p. (p.uuid, p.change)) (player_view (player_parts action).fits)
 
 unfoldable pub player_read : ℤ → List ℕ → Field Player
 player_read action = (player_wire action).read
@@ -132,19 +148,22 @@ player action = record {
 -- ---- what is written of a change is known without the action
 
 abbrev pub own_fits : PlayerChange → Type 0
-own_fits (Join name properties mode ping is_shown shown) = join_parts.fits (name, (properties, (mode, (ping, (is_shown, shown)))))
+own_fits (Join name properties mode ping is_shown shown) =
+    join_parts.fits (name, (properties, (mode, (ping, (is_shown, shown)))))
 own_fits (Number n) = (var_int {Rest = Anything}).fits n
 own_fits (Shown is_shown shown) = shown_parts.fits (is_shown, shown)
 own_fits Leave = Unit {0}
 
 abbrev pub own_append : PlayerChange → List ℕ → List ℕ
-own_append (Join name properties mode ping is_shown shown) out = join_parts.append (name, (properties, (mode, (ping, (is_shown, shown))))) out
+own_append (Join name properties mode ping is_shown shown) out =
+    join_parts.append (name, (properties, (mode, (ping, (is_shown, shown))))) out
 own_append (Number n) out = (var_int {Rest = Anything}).append n out
 own_append (Shown is_shown shown) out = shown_parts.append (is_shown, shown) out
 own_append Leave out = out
 
 abbrev pub IsOwn : Format Anything PlayerChange → Type 0
-IsOwn f = (what : PlayerChange) → f.fits what → own_fits what × ((out : List ℕ) → f.append what out ≡ own_append what out)
+IsOwn f = (what : PlayerChange) → f.fits what → own_fits what × ((out : List ℕ) →
+    f.append what out ≡ own_append what out)
 
 own_joining : IsOwn joining
 own_joining (Join name properties mode ping is_shown shown) fits = (fits.1, λ out. refl)
@@ -170,7 +189,8 @@ own_leaving (Number n) fits = absurd cc
 own_leaving (Shown is_shown shown) fits = absurd cc
 own_leaving Leave fits = (tt, λ out. refl)
 
-own_choice : (b : Bool) (f g : Format Anything PlayerChange) → IsOwn f → IsOwn g → IsOwn (choose b f g)
+own_choice : (b : Bool) (f g : Format Anything PlayerChange) → IsOwn f → IsOwn g →
+    IsOwn (choose b f g)
 own_choice true f g first second = first
 own_choice false f g first second = second
 

@@ -27,7 +27,8 @@ short_count = natural short
 abbrev pub listed : {Rest : List ℕ → Type 0} {A : Type 0} → Format Anything ℕ → Format Anything A
     → Format Rest (List A)
 listed {Rest} {A} count f =
-    via (count then λ n. times {Rest = Rest} n f) (λ xs. Unit {0}) (λ v. v.1) (λ xs. (length xs, xs))
+    via (count then λ n. times {Rest = Rest} n f) (λ xs. Unit {0}) (λ v. v.1)
+    (λ xs. (length xs, xs))
     (listed_view count.fits f.fits)
 
 -- the same, with a VarInt

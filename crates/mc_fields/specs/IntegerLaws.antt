@@ -86,7 +86,8 @@ reads_fixed {A} spells read found only len fixed bytes start result fits within 
     here lt =
         let few : length (drop start bytes) < len = omega (arith, left) in
         let place : length bytes - length (drop start bytes) ≡ start = omega (arith, left) in
-        is ∙ ap (placed bytes) (fixed.cut (drop start bytes) few) ∙ ap (λ (n : ℕ). Err (fault_at Short n)) place
+        is ∙ ap (placed bytes) (fixed.cut (drop start bytes) few) ∙
+        ap (λ (n : ℕ). Err (fault_at Short n)) place
 
     not_both : (r : Field A) (e : FieldFault) → IsOk r → placed bytes r ≡ Err e → ⊥
     not_both (Ok x) e is_ok h = cc
@@ -96,13 +97,15 @@ reads_fixed {A} spells read found only len fixed bytes start result fits within 
     failed e h =
         elim (cases_lt (length bytes) (start + len)) [
           | inl lt ↦ lt
-          | inr le ↦ absurd (not_both (read (drop start bytes)) e (fixed.whole (drop start bytes) (omega (arith, left))) (sym is ∙ h))
+          | inr le ↦ absurd (not_both (read (drop start bytes)) e (fixed.whole (drop start bytes)
+              (omega (arith, left))) (sym is ∙ h))
         ]
 
     there : result ≡ Err (fault_at Short start) → length bytes < start + len
     there h = failed (fault_at Short start) h
 
-    faults : (r : Result (A × ℕ) FieldFault) → r ≡ placed bytes (read (drop start bytes)) → IfErr r (λ fault. fault ≡ fault_at Short start)
+    faults : (r : Result (A × ℕ) FieldFault) → r ≡ placed bytes (read (drop start bytes)) →
+        IfErr r (λ fault. fault ≡ fault_at Short start)
     faults (Ok x) e = tt
     faults (Err d) e =
         let same : result ≡ Err d = is ∙ sym e in
@@ -113,31 +116,42 @@ reads_fixed {A} spells read found only len fixed bytes start result fits within 
 
 pub fixed_at : {A : Type 0} (spells : A → List ℕ → Type 0) (read : List ℕ → Field A)
     → IsFound spells read → IsOnly Anything spells read → (len : ℕ) → IsFixed len read
-    → (bytes rest : List ℕ) (start : ℕ) (value : Result A Stop) (result : Result (A × ℕ) FieldFault) (from : List ℕ)
+    → (bytes rest : List ℕ) (start : ℕ) (value : Result A Stop) (result : Result (A × ℕ) FieldFault)
+    (from : List ℕ)
     → IsBytes bytes → start ≤ length bytes → result ≡ placed bytes (with_rest value rest)
     → Yields (λ a. (a, rest)) value (read from) → from ≡ drop start bytes
     → ReadsFixed spells len bytes start result
-fixed_at spells read found only len fixed bytes rest start value result from fits within is yields there =
-    reads_fixed spells read found only len fixed bytes start result fits within (placed-Yields bytes rest value result (read from) is yields ∙ ap (λ t. placed bytes (read t)) there)
+fixed_at spells read found only len fixed bytes rest start value result from fits within is yields
+    there =
+    reads_fixed spells read found only len fixed bytes start result fits within
+    (placed-Yields bytes rest value result (read from) is yields ∙
+    ap (λ t. placed bytes (read t)) there)
 
 pub number_reads : (w : Width) → IsWide w
-    → (bytes rest : List ℕ) (start : ℕ) (value : Result ℕ Stop) (result : Result (ℕ × ℕ) FieldFault) (from : List ℕ)
+    → (bytes rest : List ℕ) (start : ℕ) (value : Result ℕ Stop) (result : Result (ℕ × ℕ) FieldFault)
+    (from : List ℕ)
     → IsBytes bytes → start ≤ length bytes → result ≡ placed bytes (with_rest value rest)
     → Yields (λ n. (n, rest)) value (number_read w from) → from ≡ drop start bytes
     → ReadsFixed (number_spells w) (byte_len w) bytes start result
 number_reads w wide =
-    fixed_at (number_spells w) (number_read w) (number_found w wide) (number_only w wide Anything) (byte_len w) (number_fixed w)
+    fixed_at (number_spells w) (number_read w) (number_found w wide) (number_only w wide Anything)
+    (byte_len w) (number_fixed w)
 
-pub signed_reads : (w : Width) (wide : IsWide w) (bytes rest : List ℕ) (start : ℕ) (value : Result ℤ Stop) (result : Result (ℤ × ℕ) FieldFault) (from : List ℕ)
+pub signed_reads : (w : Width) (wide : IsWide w) (bytes rest : List ℕ) (start : ℕ)
+    (value : Result ℤ Stop) (result : Result (ℤ × ℕ) FieldFault) (from : List ℕ)
     → IsBytes bytes → start ≤ length bytes → result ≡ placed bytes (with_rest value rest)
     → Yields (λ n. (n, rest)) value (signed_read w from) → from ≡ drop start bytes
     → ReadsFixed (signed_spells w) (byte_len w) bytes start result
 signed_reads w wide =
-    fixed_at (signed_spells w) (signed_read w) (signed {Rest = Anything} w wide).found (signed {Rest = Anything} w wide).only (byte_len w) (view_fixed (byte_len w) (number_read w) (cast_signed w) (number_fixed w))
+    fixed_at (signed_spells w) (signed_read w) (signed {Rest = Anything} w wide).found
+    (signed {Rest = Anything} w wide).only (byte_len w) (view_fixed (byte_len w) (number_read w)
+    (cast_signed w) (number_fixed w))
 
-pub boolean_reads : (bytes rest : List ℕ) (start : ℕ) (value : Result Bool Stop) (result : Result (Bool × ℕ) FieldFault) (from : List ℕ)
+pub boolean_reads : (bytes rest : List ℕ) (start : ℕ) (value : Result Bool Stop)
+    (result : Result (Bool × ℕ) FieldFault) (from : List ℕ)
     → IsBytes bytes → start ≤ length bytes → result ≡ placed bytes (with_rest value rest)
     → Yields (λ n. (n, rest)) value (boolean_read from) → from ≡ drop start bytes
     → ReadsFixed SpellsBool 1 bytes start result
 boolean_reads =
-    fixed_at SpellsBool boolean_read boolean_found (boolean_only Anything) 1 (view_fixed 1 (number_read w8) is_true (number_fixed w8))
+    fixed_at SpellsBool boolean_read boolean_found (boolean_only Anything) 1
+    (view_fixed 1 (number_read w8) is_true (number_fixed w8))

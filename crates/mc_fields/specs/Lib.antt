@@ -1,7 +1,6 @@
 pub mod Varint
 pub mod VarintLaws
 pub mod VarintFormat
-pub mod VarintField
 pub mod Text
 pub mod TextLaws
 pub mod TextFormat
@@ -15,6 +14,8 @@ pub mod Pattern
 pub mod PatternLaws
 pub mod CountedLaws
 pub mod Counted
+pub mod Shape
+pub mod ShapeLaws
 pub mod Flat
 pub mod Row
 pub mod RowLaws

@@ -16,7 +16,8 @@ use Rattle.mc_fields.specs.Pattern.{IsFloor, with_sign}
 under_next : (n m b : ℕ) → n * b < m * b + b → n ≤ m
 under_next n m b lt =
     elim (cases_lt m n) [
-      | inl more ↦ let big : (m + 1) * b ≤ n * b = mul-le-mul_right b (omega arith) in absurd (omega (arith, big))
+      | inl more ↦ let big : (m + 1) * b ≤ n * b = mul-le-mul_right b (omega arith) in
+          absurd (omega (arith, big))
       | inr le ↦ le
     ]
 
@@ -50,25 +51,45 @@ under q m c u b e = let times = ap (λ (x : ℕ). q * x) e in omega (arith, time
 low_under : (q size m c u t b : ℕ) → 0 < u → u * t ≡ size * c → u * b ≡ c * m → q * m ≤ size
     → q * b ≤ t
 low_under q size m c u t b some top bottom le =
-    let wide : u * (q * b) ≤ u * t = omega (arith, under q m c u b bottom, mul-le-mul_left c le, top) in
+    let wide : u * (q * b) ≤ u * t = omega (
+      arith,
+      under q m c u b bottom,
+      mul-le-mul_left c le,
+      top,
+    ) in
     le_of_mul-le-mul_left wide some
 
 high_under : (q size m c u t b : ℕ) → 0 < u → u * t ≡ size * c → u * b ≡ c * m → size ≤ q * m
     → t ≤ q * b
 high_under q size m c u t b some top bottom le =
-    let wide : u * t ≤ u * (q * b) = omega (arith, under q m c u b bottom, mul-le-mul_left c le, top) in
+    let wide : u * t ≤ u * (q * b) = omega (
+      arith,
+      under q m c u b bottom,
+      mul-le-mul_left c le,
+      top,
+    ) in
     le_of_mul-le-mul_left wide some
 
 low_over : (q size m c u t b : ℕ) → 0 < c → u * t ≡ size * c → u * b ≡ c * m → q * b ≤ t
     → q * m ≤ size
 low_over q size m c u t b some top bottom le =
-    let wide : c * (q * m) ≤ c * size = omega (arith, under q m c u b bottom, mul-le-mul_left u le, top) in
+    let wide : c * (q * m) ≤ c * size = omega (
+      arith,
+      under q m c u b bottom,
+      mul-le-mul_left u le,
+      top,
+    ) in
     le_of_mul-le-mul_left wide some
 
 high_over : (q size m c u t b : ℕ) → 0 < c → u * t ≡ size * c → u * b ≡ c * m → t ≤ q * b
     → size ≤ q * m
 high_over q size m c u t b some top bottom le =
-    let wide : c * size ≤ c * (q * m) = omega (arith, under q m c u b bottom, mul-le-mul_left u le, top) in
+    let wide : c * size ≤ c * (q * m) = omega (
+      arith,
+      under q m c u b bottom,
+      mul-le-mul_left u le,
+      top,
+    ) in
     le_of_mul-le-mul_left wide some
 
 -- a floor by the sizes, at each sign
@@ -92,7 +113,8 @@ shift_floor false size m c u t b some_m some_c some_u top bottom =
     floor_pos (size / m) t b (low_under (size / m) size m c u t b some_u top bottom q.0) (
     elim (cases_lt t ((size / m + 1) * b)) [
       | inl lt ↦ lt
-      | inr le ↦ let more = low_over (size / m + 1) size m c u t b some_c top bottom le in absurd (omega (arith, more, q.1))
+      | inr le ↦ let more = low_over (size / m + 1) size m c u t b some_c top bottom le in
+          absurd (omega (arith, more, q.1))
     ])
 shift_floor true zero m c u t b some_m some_c some_u top bottom =
     let none : t ≤ 0 * b = high_under 0 0 m c u t b some_u top bottom (omega arith) in
@@ -106,7 +128,8 @@ shift_floor true (suc a) m c u t b some_m some_c some_u top bottom =
     floor_neg (a / m) t b (
     elim (cases_lt (a / m * b) t) [
       | inl lt ↦ lt
-      | inr le ↦ let more = high_over (a / m) (suc a) m c u t b some_c top bottom le in absurd (omega (arith, more, q.0))
+      | inr le ↦ let more = high_over (a / m) (suc a) m c u t b some_c top bottom le in
+          absurd (omega (arith, more, q.0))
     ]) (high_under (a / m + 1) (suc a) m c u t b some_u top bottom (omega (arith, q.1)))
 
 -- ---- shifts

@@ -16,7 +16,8 @@ low_bits-below half (negsuc n) fits = omega (arith, fits)
 pub signed_bits-fits : (half n : ℕ) → n < 2 * half → FitsHalf half (signed_bits half n)
 signed_bits-fits half n below = step (nat_lt n half) refl
   where
-    step : (t : Bool) → nat_lt n half ≡ t → FitsHalf half (if t then pos n else negsuc (2 * half - suc n))
+    step : (t : Bool) → nat_lt n half ≡ t → FitsHalf half (if t then pos n else
+        negsuc (2 * half - suc n))
     step true t = ltb-true _ _ t
     step false t = let high = ltb-false _ _ t in omega (arith, high)
 
@@ -56,7 +57,15 @@ unpack-pack cell fits =
     let at_x : pack cell / 2 ^ 38 ≡ low_bits (2 ^ 25) cell.x = omega (arith, x, y, z) in
     let at_y : pack cell / 2 ^ 26 % 2 ^ 12 ≡ low_bits (2 ^ 11) cell.y = omega (arith, x, y, z) in
     let at_z : pack cell % 2 ^ 26 ≡ low_bits (2 ^ 25) cell.z = omega (arith, x, y, z) in
-    rw (at_x, at_y, at_z, signed_bits-low (2 ^ 25) cell.x fits.x, signed_bits-low (2 ^ 11) cell.y fits.y, signed_bits-low (2 ^ 25) cell.z fits.z) refl
+    rw (
+      at_x,
+      at_y,
+      at_z,
+      signed_bits-low (2 ^ 25) cell.x fits.x,
+      signed_bits-low (2 ^ 11) cell.y
+          fits.y,
+      signed_bits-low (2 ^ 25) cell.z fits.z,
+    ) refl
 
 pub cell_view : IsView {A = ℕ} (λ n. n < 2 ^ 64) FitsCell unpack pack
 cell_view = record { made = unpack-fits; again = pack-unpack; same = unpack-pack }

@@ -30,13 +30,16 @@ fits_spelled entry fits = record {
   id_bytes = varint_spelling (pos entry.row.id);
   field_bytes = entry.row.format.spelling entry.fields;
   parts = refl;
-  id_spelled = varint_spelled 5 five (pos entry.row.id) (varint-fits (pos entry.row.id) (record { sfits = fits.0 }));
+  id_spelled = varint_spelled 5 five (pos entry.row.id) (varint-fits (pos entry.row.id)
+      (record { sfits = fits.0 }));
   fields_spelled = entry.row.format.spelled entry.fields fits.1;
 }
 
 pub spelled_fits : {P : Type 0} (entry : Entry P) (bytes : List ℕ) → Spells entry bytes → Fits entry
-spelled_fits entry bytes s =
-    ((varint_fit 5 (pos entry.row.id) s.id_bytes s.id_spelled).0.sfits, entry.row.format.fit entry.fields s.field_bytes s.fields_spelled)
+spelled_fits entry bytes s = (
+  (varint_fit 5 (pos entry.row.id) s.id_bytes s.id_spelled).0.sfits,
+  entry.row.format.fit entry.fields s.field_bytes s.fields_spelled,
+)
 
 -- ---- what is read is spelled so
 
@@ -45,7 +48,8 @@ pub record Picked {P : Type 0} (entry_of : P → Entry P) (id : ℤ) (bytes : Li
     Type 0 where
   pub front : List ℕ
   pub parts : bytes ≡ front ++ x.1
-  pub spelled : (id_bytes : List ℕ) → SpellsVarint 5 id id_bytes → Spells (entry_of x.0) (id_bytes ++ front)
+  pub spelled : (id_bytes : List ℕ) → SpellsVarint 5 id id_bytes →
+      Spells (entry_of x.0) (id_bytes ++ front)
 
 Picked-is : {P : Type 0} (entry_of : P → Entry P) (id : ℤ) (bytes : List ℕ) (x y : P × List ℕ)
     → x ≡ y → Picked entry_of id bytes x → Picked entry_of id bytes y
@@ -74,7 +78,13 @@ row_picked {P} entry_of r tied bytes x fits e =
     Picked-is entry_of (pos r.id) bytes (r.make p.0.0, p.0.1) x (ok_is Stop _ _ p.2) (record {
       front = f.front;
       parts = f.parts;
-      spelled = λ id_bytes s. tied p.0.0 (id_bytes ++ f.front) (record { id_bytes = id_bytes; field_bytes = f.front; parts = refl; id_spelled = s; fields_spelled = f.spelled });
+      spelled = λ id_bytes s. tied p.0.0 (id_bytes ++ f.front) (record {
+        id_bytes = id_bytes;
+        field_bytes = f.front;
+        parts = refl;
+        id_spelled = s;
+        fields_spelled = f.spelled;
+      });
     })
 
 id_picked : {P : Type 0} {entry_of : P
@@ -84,19 +94,26 @@ id_picked no_more id bytes x fits e = absurd cc
 id_picked {P} {entry_of} (row r tied rows) id bytes x fits e =
     step (is_id id r.id) refl e (λ h. id_picked rows id bytes x fits h)
   where
-    step : (t : Bool) → is_id id r.id ≡ t → cond t (lifted (fields_read r bytes)) (id_read rows id bytes) ≡ Ok x → (id_read rows id bytes ≡ Ok x → Picked entry_of id bytes x) → Picked entry_of id bytes x
+    step : (t : Bool) → is_id id r.id ≡ t →
+        cond t (lifted (fields_read r bytes)) (id_read rows id bytes) ≡ Ok x →
+        (id_read rows id bytes ≡ Ok x → Picked entry_of id bytes x) → Picked entry_of id bytes x
     step true t e rest =
         let Q : ℤ → Type 0 = λ z. Picked entry_of z bytes x in
-        subst Q (sym (is_id-true id r.id t)) (row_picked entry_of r tied bytes x fits (lifted_ok (fields_read r bytes) x e))
+        subst Q (sym (is_id-true id r.id t)) (row_picked entry_of r tied bytes x fits
+        (lifted_ok (fields_read r bytes) x e))
     step false t e rest = rest e
 id_picked {P} {entry_of} (family is_member r ids tied rows) id bytes x fits e =
     step (is_one_of is_member id) refl e (λ h. id_picked rows id bytes x fits h)
   where
-    step : (t : Bool) → is_one_of is_member id ≡ t → cond t (lifted (fields_read (r (size_of id)) bytes)) (id_read rows id bytes) ≡ Ok x → (id_read rows id bytes ≡ Ok x → Picked entry_of id bytes x) → Picked entry_of id bytes x
+    step : (t : Bool) → is_one_of is_member id ≡ t →
+        cond t (lifted (fields_read (r (size_of id)) bytes)) (id_read rows id bytes) ≡ Ok x →
+        (id_read rows id bytes ≡ Ok x → Picked entry_of id bytes x) → Picked entry_of id bytes x
     step true t e rest =
         let Q : ℤ → Type 0 = λ z. Picked entry_of z bytes x in
-        let same : id ≡ pos (r (size_of id)).id = is_one_of-true is_member id t ∙ ap pos (sym (ids (size_of id))) in
-        subst Q (sym same) (row_picked entry_of (r (size_of id)) (tied (size_of id)) bytes x fits (lifted_ok (fields_read (r (size_of id)) bytes) x e))
+        let same : id ≡ pos (r (size_of id)).id = is_one_of-true is_member id t ∙
+        ap pos (sym (ids (size_of id))) in
+        subst Q (sym same) (row_picked entry_of (r (size_of id)) (tied (size_of id)) bytes x fits
+        (lifted_ok (fields_read (r (size_of id)) bytes) x e))
     step false t e rest = rest e
 
 whole_ok : {P : Type 0} (p q : P) (bytes : List ℕ) → whole p bytes ≡ Ok q → (bytes ≡ []) × (p ≡ q)
@@ -114,19 +131,22 @@ Spells-is {P} entry_of p q bytes frame same parts s =
 ended : (bytes front middle back rest : List ℕ) → bytes ≡ front ++ middle → middle ≡ back ++ rest
     → rest ≡ [] → bytes ≡ front ++ back
 ended bytes front middle back rest first second nothing =
-    first ∙ ap (λ (t : List ℕ). front ++ t) (second ∙ ap (λ (t : List ℕ). back ++ t) nothing ∙ append-nil back)
+    first ∙ ap (λ (t : List ℕ). front ++ t) (second ∙ ap (λ (t : List ℕ). back ++ t) nothing ∙
+    append-nil back)
 
 pub frame_found : {P : Type 0} {entry_of : P
     → Entry P} (rows : Rows P entry_of) (frame : List ℕ) (p : P) → IsBytes frame
     → frame_read rows frame ≡ Ok p → Spells (entry_of p) frame
 unfolding frame_read
 frame_found {P} {entry_of} rows frame p fits e =
-    let a = bind_ok (lifted (varint_read 5 frame)) (λ (id : ℤ × List ℕ). id_read rows id.0 id.1 >>= λ (x : P × List ℕ). whole x.0 x.1) p e in
+    let a = bind_ok (lifted (varint_read 5 frame)) (λ (id : ℤ × List ℕ). id_read rows id.0 id.1 >>=
+    λ (x : P × List ℕ). whole x.0 x.1) p e in
     let b = bind_ok (id_read rows a.0.0 a.0.1) (λ (x : P × List ℕ). whole x.0 x.1) p a.2 in
     let i = varint_found 5 frame a.0 fits (lifted_ok (varint_read 5 frame) a.0 a.1) in
     let f = id_picked rows a.0.0 a.0.1 b.0 i.rest_fits b.1 in
     let end = whole_ok b.0.0 p b.0.1 b.2 in
-    let parts : frame ≡ i.front ++ f.front = ended frame i.front a.0.1 f.front b.0.1 i.parts f.parts end.0 in
+    let parts : frame ≡ i.front ++ f.front = ended frame i.front a.0.1 f.front b.0.1 i.parts f.parts
+    end.0 in
     Spells-is entry_of b.0.0 p (i.front ++ f.front) frame end.1 parts (f.spelled i.front i.spelled)
 
 -- ---- what is spelled so is read
@@ -139,7 +159,8 @@ row_tied r fields bytes h = rw h refl
 -- each packet of a family is, where the family has its id
 pub family_tied : {P : Type 0} {entry_of : P → Entry P} (is_member : ℕ → Bool) (r : ℕ
     → Row P) (ids : (id : ℕ) → (r id).id ≡ id) (tied : (id : ℕ)
-    → IsRowOf entry_of (r id)) (rows : Rows P entry_of) (id : ℕ) (fields : (r id).Fields) (bytes : List ℕ)
+    → IsRowOf entry_of (r id)) (rows : Rows P entry_of) (id : ℕ) (fields : (r id).Fields)
+    (bytes : List ℕ)
     → is_member id ≡ true → (r id).format.read bytes ≡ Ok (fields, [])
     → id_read (family is_member r ids tied rows) (pos id) bytes ≡ Ok ((r id).make fields, [])
 family_tied is_member r ids tied rows id fields bytes member h = rw (member, h) refl
@@ -149,8 +170,10 @@ pub frame_only : {P : Type 0} {entry_of : P
     → Spells (entry_of p) frame → frame_read rows frame ≡ Ok p
 unfolding frame_read
 frame_only {P} {entry_of} rows p frame tied s =
-    let id = varint_only 5 Anything (pos (entry_of p).row.id) s.id_bytes s.field_bytes tt s.id_spelled in
-    let fields = (entry_of p).row.format.only (entry_of p).fields s.field_bytes [] refl s.fields_spelled in
+    let id = varint_only 5 Anything (pos (entry_of p).row.id) s.id_bytes s.field_bytes tt
+    s.id_spelled in
+    let fields = (entry_of p).row.format.only (entry_of p).fields s.field_bytes [] refl
+    s.fields_spelled in
     let fields' = rw append-nil at fields in
     rw (s.parts, id, tied s.field_bytes fields') refl
 

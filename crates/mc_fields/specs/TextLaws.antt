@@ -48,16 +48,22 @@ front_found points (pos len) bytes text e =
     Fronted-is points (pos len) bytes (take len bytes) text (ok_is Kind _ _ d.1) (record {
       sized = ap pos (sym size);
       parts = rw size (sym (take-append-drop len bytes));
-      fits = record { utf8 = IsUtf8-from_is_utf8 _ (not_false _ c.0); few_bytes = omega arith; few_points = ltb-false _ _ d.0 };
+      fits = record {
+        utf8 = IsUtf8-from_is_utf8 _ (not_false _ c.0);
+        few_bytes = omega arith;
+        few_points = ltb-false _ _ d.0;
+      };
     })
 
 front_only : (points : ℕ) (text rest : List ℕ) → FitsText points text
     → text_front points (pos (length text)) (text ++ rest) ≡ Ok text
 front_only points text rest fits =
     let few : nat_lt (4 * points) (length text) ≡ false = le-ltb _ _ fits.few_bytes in
-    let there : nat_lt (length (text ++ rest)) (length text) ≡ false = le-ltb _ _ (omega (arith, length-append text rest)) in
+    let there : nat_lt (length (text ++ rest)) (length text) ≡ false =
+    le-ltb _ _ (omega (arith, length-append text rest)) in
     let short : nat_lt points (length (chars text)) ≡ false = le-ltb _ _ fits.few_points in
-    rw (few, there, take_at text rest (length text) refl, is_utf8-from_IsUtf8 text fits.utf8, short) refl
+    rw (few, there, take_at text rest (length text) refl, is_utf8-from_IsUtf8 text fits.utf8, short)
+    refl
 
 -- a text that was read was read at the front
 text_ok : (start bytes : List ℕ) (read : Result (List ℕ) Kind) (x : List ℕ × List ℕ)
@@ -69,7 +75,8 @@ text_ok start bytes (Err kind) x e = absurd cc
 pub text_found : (points : ℕ) → IsFound (SpellsText points) (text_read points)
 unfolding text_read
 text_found points bytes x fits e =
-    let p = bind_ok (varint_read 5 bytes) (λ (size : ℤ × List ℕ). text_at bytes size.1 (text_front points size.0 size.1)) x e in
+    let p = bind_ok (varint_read 5 bytes) (λ (size : ℤ × List ℕ). text_at bytes size.1
+    (text_front points size.0 size.1)) x e in
     let q = text_ok bytes p.0.1 (text_front points p.0.0 p.0.1) x p.2 in
     let s = varint_found 5 bytes p.0 fits p.1 in
     let f = front_found points p.0.0 p.0.1 q.0 q.1 in
@@ -77,7 +84,12 @@ text_found points bytes x fits e =
     Found-is (SpellsText points) bytes (q.0, drop (length q.0) p.0.1) x q.2 (record {
       front = s.front ++ q.0;
       parts = joined bytes s.front p.0.1 q.0 (drop (length q.0) p.0.1) s.parts f.parts;
-      spelled = record { size = s.front; sized = subst P f.sized s.spelled; parts = refl; fits = f.fits };
+      spelled = record {
+        size = s.front;
+        sized = subst P f.sized s.spelled;
+        parts = refl;
+        fits = f.fits;
+      };
       rest_fits = IsBytes-drop (length q.0) p.0.1 s.rest_fits;
     })
 
@@ -85,8 +97,14 @@ pub text_only : (points : ℕ) (Rest : List ℕ → Type 0)
     → IsOnly Rest (SpellsText points) (text_read points)
 unfolding text_read
 text_only points Rest text front rest ends s =
-    let parts : front ++ rest ≡ s.size ++ (text ++ rest) = ap (λ (t : List ℕ). t ++ rest) s.parts ∙ append_assoc s.size text rest in
-    rw (parts, varint_only 5 Anything (pos (length text)) s.size (text ++ rest) tt s.sized, front_only points text rest s.fits, drop_at text rest (length text) refl) refl
+    let parts : front ++ rest ≡ s.size ++ (text ++ rest) = ap (λ (t : List ℕ). t ++ rest) s.parts ∙
+    append_assoc s.size text rest in
+    rw (
+      parts,
+      varint_only 5 Anything (pos (length text)) s.size (text ++ rest) tt s.sized,
+      front_only points text rest s.fits,
+      drop_at text rest (length text) refl,
+    ) refl
 
 pub text_fit : (points : ℕ) (text bytes : List ℕ) → SpellsText points text bytes
     → SpellableText points text
@@ -98,7 +116,8 @@ pub text_spelled : (points : ℕ) (text : List ℕ) → SpellableText points tex
 unfolding text_spelling
 text_spelled points text fits = record {
   size = varint_spelling (pos (length text));
-  sized = varint_spelled 5 five (pos (length text)) (varint-fits (pos (length text)) (record { sfits = fits.sized }));
+  sized = varint_spelled 5 five (pos (length text)) (varint-fits (pos (length text))
+      (record { sfits = fits.sized }));
   parts = refl;
   fits = fits.fits;
 }

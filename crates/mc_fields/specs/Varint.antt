@@ -64,3 +64,7 @@ varint_spelling value = groups_spelling 5 (cast_unsigned w32 value)
 -- the numbers that room for so many bytes has
 abbrev pub FitsVarint : ℕ → ℤ → Type 0
 FitsVarint room value = SFits w32 value × (cast_unsigned w32 value < 128 ^ room)
+
+-- a VarInt of five bytes at most, as a field: a name that no proof looks into
+unfoldable pub var_int_read : List ℕ → Field ℤ
+var_int_read bytes = varint_read 5 bytes

@@ -3,8 +3,9 @@ use Rattle.std.specs.Prelude.{ℕ, ◌<◌, List, ◌++◌, refl}
 use lib.IntN.{ℤ}
 use Rattle.mc_nbt.specs.Format.{Format}
 use Rattle.mc_fields.specs.Varint.{SpellsVarint, varint_read, varint_spelling}
-use Rattle.mc_fields.specs.Varint.{FitsVarint}
+use Rattle.mc_fields.specs.Varint.{FitsVarint, var_int_read}
 use Rattle.mc_fields.specs.VarintLaws.{varint_found, varint_only, varint_fit, varint_spelled, five}
+use Rattle.mc_fields.specs.VarintLaws.{var_int_found, var_int_only}
 pub use Rattle.mc_fields.specs.Varint.{FitsVarint}
 pub use Rattle.mc_fields.specs.VarintLaws.{IsChain-some, varint_only, varint_spelled, varint-fits}
 pub use Rattle.mc_fields.specs.VarintLaws.{five}
@@ -27,3 +28,18 @@ varint_within {Rest} room some = record {
 -- a VarInt
 abbrev pub varint : {Rest : List ℕ → Type 0} → Format Rest ℤ
 varint {Rest} = varint_within {Rest = Rest} 5 five
+
+-- the same as a field, whose reading stays folded in proofs
+abbrev pub var_int : {Rest : List ℕ → Type 0} → Format Rest ℤ
+var_int {Rest} = record {
+  spells = SpellsVarint 5;
+  read = var_int_read;
+  fits = FitsVarint 5;
+  spelling = varint_spelling;
+  append = λ value out. out ++ varint_spelling value;
+  found = var_int_found;
+  only = var_int_only Rest;
+  fit = varint_fit 5;
+  spelled = varint_spelled 5 five;
+  appended = λ value out. refl;
+}

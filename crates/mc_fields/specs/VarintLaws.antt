@@ -18,7 +18,7 @@ use Rattle.mc_nbt.specs.CombineLaws.{ok_is, Found-is, bind_ok}
 use Rattle.mc_nbt.specs.NumberLaws.{IsBytes-after}
 use Rattle.mc_fields.specs.Varint.{weighed, IsChain, SpellsVarint, groups_read, number_of}
 use Rattle.mc_fields.specs.Varint.{varint_read, groups_spelling, varint_spelling}
-use Rattle.mc_fields.specs.Varint.{FitsVarint}
+use Rattle.mc_fields.specs.Varint.{FitsVarint, var_int_read}
 
 -- ---- chains
 
@@ -59,16 +59,31 @@ groups_found (suc room) [] x fits e = absurd cc
 groups_found (suc room) (b ∷ bytes) x fits e =
     step (nat_lt b 128) refl e (λ y. groups_found room bytes y (λ i. fits (suc i)))
   where
-    step : (t : Bool) → nat_lt b 128 ≡ t → cond t (Ok (b, bytes)) (groups_read room bytes >>= λ high. Ok (b % 128 + 128 * high.0, high.1)) ≡ Ok x → ((y : ℕ × List ℕ) → groups_read room bytes ≡ Ok y → Summed room bytes y) → Summed (suc room) (b ∷ bytes) x
+    step : (t : Bool) → nat_lt b 128 ≡ t →
+        cond t (Ok (b, bytes)) (groups_read room bytes >>= λ high. Ok (
+          b % 128 + 128 * high.0,
+          high.1,
+        )) ≡ Ok x → ((y : ℕ × List ℕ) → groups_read room bytes ≡ Ok y → Summed room bytes y) →
+        Summed (suc room) (b ∷ bytes) x
     step true t e rest =
         let low : b < 128 = ltb-true _ _ t in
-        Summed-is (suc room) (b ∷ bytes) (b, bytes) x (ok_is Kind _ _ e) (record { front = b ∷ []; parts = refl; chain = low; within = omega arith; sum = omega arith })
+        Summed-is (suc room) (b ∷ bytes) (b, bytes) x (ok_is Kind _ _ e) (record {
+          front = b ∷ [];
+          parts = refl;
+          chain = low;
+          within = omega arith;
+          sum = omega arith;
+        })
     step false t e rest =
         let marked : 128 ≤ b = ltb-false _ _ t in
         let small : b < 256 = fits 0 in
-        let p = bind_ok (groups_read room bytes) (λ (high : ℕ × List ℕ). Ok (b % 128 + 128 * high.0, high.1)) x e in
+        let p = bind_ok (groups_read room bytes) (λ (high : ℕ × List ℕ). Ok (
+          b % 128 + 128 * high.0,
+          high.1,
+        )) x e in
         let s = rest p.0 p.1 in
-        Summed-is (suc room) (b ∷ bytes) (b % 128 + 128 * p.0.0, p.0.1) x (ok_is Kind _ _ p.2) (record {
+        Summed-is (suc room) (b ∷ bytes) (b % 128 + 128 * p.0.0, p.0.1) x (ok_is Kind _ _ p.2)
+        (record {
           front = b ∷ s.front;
           parts = ap (λ (t : List ℕ). b ∷ t) s.parts;
           chain = IsChain-cons b s.front marked small s.chain;
@@ -101,7 +116,11 @@ varint_found room bytes x fits e =
     Found-is (SpellsVarint room) bytes (cast_signed w32 (p.0.0 % 2 ^ 32), p.0.1) x p.2 (record {
       front = s.front;
       parts = s.parts;
-      spelled = record { chain = s.chain; within = s.within; sum = ap (λ (n : ℕ). cast_signed w32 (n % 2 ^ 32)) s.sum };
+      spelled = record {
+        chain = s.chain;
+        within = s.within;
+        sum = ap (λ (n : ℕ). cast_signed w32 (n % 2 ^ 32)) s.sum;
+      };
       rest_fits = IsBytes-after bytes s.front p.0.1 s.parts fits;
     })
 
@@ -127,13 +146,19 @@ groups-chain zero n fits some = absurd (omega arith)
 groups-chain (suc room) n fits some =
     step (nat_lt n 128) refl (λ more. groups-chain room (n / 128) (high_below n room fits) more)
   where
-    step : (t : Bool) → nat_lt n 128 ≡ t → (0 < room → IsChain (groups_spelling room (n / 128)) × (weighed (groups_spelling room (n / 128)) ≡ n / 128)) → IsChain (cond t (n ∷ []) ((n % 128 + 128) ∷ groups_spelling room (n / 128))) × (weighed (cond t (n ∷ []) ((n % 128 + 128) ∷ groups_spelling room (n / 128))) ≡ n)
+    step : (t : Bool) → nat_lt n 128 ≡ t → (0 < room → IsChain (groups_spelling room (n / 128)) ×
+        (weighed (groups_spelling room (n / 128)) ≡ n / 128)) →
+        IsChain (cond t (n ∷ []) ((n % 128 + 128) ∷ groups_spelling room (n / 128))) ×
+        (weighed (cond t (n ∷ []) ((n % 128 + 128) ∷ groups_spelling room (n / 128))) ≡ n)
     step true t rest = let low : n < 128 = ltb-true _ _ t in (low, omega arith)
     step false t rest =
         let high : 128 ≤ n = ltb-false _ _ t in
         let r = rest (some_room room n fits high) in
-        let sum = r.1 in
-        (IsChain-cons (n % 128 + 128) (groups_spelling room (n / 128)) (omega arith) (omega arith) r.0, omega (arith, sum))
+        let sum = r.1 in (
+          IsChain-cons (n % 128 + 128) (groups_spelling room (n / 128)) (omega arith) (omega arith)
+              r.0,
+          omega (arith, sum),
+        )
 
 -- a number below so many groups has no more of them
 pub groups-within : (room n k : ℕ) → 0 < k → n < 128 ^ k → length (groups_spelling room n) ≤ k
@@ -143,7 +168,8 @@ groups-within (suc room) n zero some fits = absurd (omega arith)
 groups-within (suc room) n (suc k) some fits =
     step (nat_lt n 128) refl (λ more. groups-within room (n / 128) k more (high_below n k fits))
   where
-    step : (t : Bool) → nat_lt n 128 ≡ t → (0 < k → length (groups_spelling room (n / 128)) ≤ k) → length (cond t (n ∷ []) ((n % 128 + 128) ∷ groups_spelling room (n / 128))) ≤ suc k
+    step : (t : Bool) → nat_lt n 128 ≡ t → (0 < k → length (groups_spelling room (n / 128)) ≤ k) →
+        length (cond t (n ∷ []) ((n % 128 + 128) ∷ groups_spelling room (n / 128))) ≤ suc k
     step true t rest = omega arith
     step false t rest = let r = rest (some_room k n fits (ltb-false _ _ t)) in omega (arith, r)
 
@@ -172,7 +198,8 @@ varint_spelled room some value fits =
     let n = cast_unsigned w32 value in
     let small : cast_unsigned w32 value < 2 ^ 32 = (Fits-of_z fits.0).fits in
     let written = groups-chain 5 (cast_unsigned w32 value) (omega (arith, small)) (omega arith) in
-    let whole : weighed (groups_spelling 5 (cast_unsigned w32 value)) % 2 ^ 32 ≡ cast_unsigned w32 value = omega (arith, small, written.1) in
+    let whole : weighed (groups_spelling 5 (cast_unsigned w32 value)) % 2 ^ 32 ≡
+    cast_unsigned w32 value = omega (arith, small, written.1) in
     record {
       chain = written.0;
       within = groups-within 5 (cast_unsigned w32 value) room some fits.1;
@@ -182,7 +209,8 @@ varint_spelled room some value fits =
 -- each number of 32 bits has a spelling of five bytes at most
 pub varint-fits : (value : ℤ) → SFits w32 value → FitsVarint 5 value
 varint-fits value signed =
-    let small : cast_unsigned w32 value < 2 ^ 32 = (Fits-of_z signed).fits in (signed, omega (arith, small))
+    let small : cast_unsigned w32 value < 2 ^ 32 = (Fits-of_z signed).fits in
+    (signed, omega (arith, small))
 
 -- no spelling is shorter than the one that is written
 pub varint-shortest : (room : ℕ) (value : ℤ) (bytes : List ℕ) → SpellsVarint room value bytes
@@ -191,10 +219,21 @@ unfolding varint_spelling
 varint-shortest room value bytes s =
     let unsigned = unsigned-sum room value bytes s in
     let below = weighed-below bytes in
-    groups-within 5 (cast_unsigned w32 value) (length bytes) (IsChain-some bytes s.chain) (omega (arith, unsigned, below))
+    groups-within 5 (cast_unsigned w32 value) (length bytes) (IsChain-some bytes s.chain)
+    (omega (arith, unsigned, below))
 
 pub three : 0 < 3
 three = lit< tt
 
 pub five : 0 < 5
 five = lit< tt
+
+-- ---- as a field
+
+pub var_int_found : IsFound (SpellsVarint 5) var_int_read
+unfolding var_int_read
+var_int_found = varint_found 5
+
+pub var_int_only : (Rest : List ℕ → Type 0) → IsOnly Rest (SpellsVarint 5) var_int_read
+unfolding var_int_read
+var_int_only = varint_only 5

@@ -7,7 +7,7 @@ ghost use Rattle.mc_nbt.specs.Reading.{Gives};
 ghost use Rattle.mc_nbt.specs.Format.{Format, Anything};
 ghost use Rattle.mc_fields.specs.Integers.{byte, ubyte, short, ushort, int, long};
 ghost use Rattle.mc_fields.specs.Integers.{float, double, uuid, boolean};
-ghost use Rattle.mc_fields.specs.VarintField.{var_int};
+ghost use Rattle.mc_fields.specs.VarintFormat.{var_int};
 ghost use Rattle.mc_fields.specs.TextFormat.{string};
 ghost use Rattle.mc_fields.specs.Position.{position};
 ghost use Rattle.mc_fields.specs.Counted.{sized};
@@ -117,7 +117,7 @@ impl Model for VarInt {
 impl Field for VarInt {
     ghost format = { var_int };
 
-    #[tactic(auto, unfolding(crate::specs::VarintField::var_int_read))]
+    #[tactic(auto, unfolding(crate::specs::Varint::var_int_read))]
     fn get(_alloc: Global, cursor: &mut Cursor<'_>) -> Result<VarInt, ReadError> {
         Ok(VarInt(take_varint(cursor)?))
     }

@@ -1,6 +1,7 @@
--- A stream cut into frames, of the page 'Protocol' of wiki.vg for protocol 47. It speaks of the whole stream: of no buffer, no
--- piece and no position.
-use Rattle.std.specs.Prelude.{◌≡◌, ℕ, ◌+◌, ◌-◌, ◌^◌, ◌<◌, min, List, [], ◌∷◌, ◌++◌, length, Option, Some, None}
+-- A stream cut into frames, of the page 'Protocol' of wiki.vg for protocol 47. It speaks of the
+-- whole stream: of no buffer, no piece and no position.
+use Rattle.std.specs.Prelude.{◌≡◌, ℕ, ◌+◌, ◌-◌, ◌^◌, ◌<◌, min, List, [], ◌∷◌, ◌++◌, length, Option}
+use Rattle.std.specs.Prelude.{Some, None}
 use lib.IntN.{pos}
 use Rattle.mc_fields.specs.Varint.{SpellsVarint, GoesOn}
 use Rattle.mc_frame.specs.declared.fault.FrameFault.{FrameFault}
@@ -10,7 +11,8 @@ use Rattle.mc_frame.specs.Frame.{SpellsFrame}
 -- the bytes spell frames with these payloads, one behind the other
 abbrev pub SpellsFrames : List (List ℕ) → List ℕ → Type 0
 SpellsFrames [] bytes = bytes ≡ []
-SpellsFrames (payload ∷ payloads) bytes = (front : List ℕ) × (back : List ℕ) × (bytes ≡ front ++ back) × SpellsFrame payload front × SpellsFrames payloads back
+SpellsFrames (payload ∷ payloads) bytes = (front : List ℕ) × (back : List ℕ) ×
+    (bytes ≡ front ++ back) × SpellsFrame payload front × SpellsFrames payloads back
 
 -- the bytes are a frame of which some bytes are still missing at the end
 pub record IsPart (bytes : List ℕ) : Type 0 where
@@ -19,7 +21,8 @@ pub record IsPart (bytes : List ℕ) : Type 0 where
   pub some : 0 < length missing
   pub spelled : SpellsFrame payload (bytes ++ missing)
 
--- they begin with a length of more than three bytes: each of the first three says that another follows
+-- they begin with a length of more than three bytes: each of the first three says that another
+-- follows
 abbrev pub HasLongLength : List ℕ → Type 0
 HasLongLength bytes = GoesOn 3 bytes
 
@@ -34,8 +37,8 @@ pub record HasZeroLength (bytes : List ℕ) : Type 0 where
 abbrev pub kept_count : ℕ → ℕ
 kept_count count = min count (2 ^ 64 - 1)
 
--- why there is no whole frame at these bytes, which so many bytes of the stream stand before: a fault, or none of the two, and
--- then more bytes may make one
+-- why there is no whole frame at these bytes, which so many bytes of the stream stand before: a
+-- fault, or none of the two, and then more bytes may make one
 abbrev pub Ends : ℕ → List ℕ → Option FrameFault → Type 0
 Ends count rest None = IsPart rest
 Ends count rest (Some (LongLength at)) = HasLongLength rest × (at ≡ kept_count count)

@@ -4,5 +4,6 @@ use Rattle.mc_frame.specs.declared.fault.FrameFault.{FrameFault}
 use Rattle.mc_frame.specs.declared.fault.FrameFault.TheVariants.{LongLength, ZeroLength}
 
 abbrev pub frame_fault_text : FrameFault → List ℕ
-frame_fault_text (LongLength at) = codes "a frame's length has more than three bytes, at byte " ++ decimal at
+frame_fault_text (LongLength at) = codes "a frame's length has more than three bytes, at byte " ++
+    decimal at
 frame_fault_text (ZeroLength at) = codes "a frame's length is 0, at byte " ++ decimal at

@@ -2,7 +2,8 @@
 use Rattle.std.specs.Prelude.{ℕ, List, [], Option, None}
 use Rattle.mc_frame.specs.declared.fault.FrameFault.{FrameFault}
 
--- the bytes that it holds, how many of the stream stand before them, in 64 bits, and the fault that it met
+-- the bytes that it holds, how many of the stream stand before them, in 64 bits, and the fault that
+-- it met
 pub record Splitting : Type 0 where
   pub held : List ℕ
   pub before : ℕ

@@ -1,5 +1,6 @@
 -- How a splitter and an outbox keep what contracts see.
-use Rattle.std.specs.Prelude.{ℕ, ◌+◌, ◌-◌, ◌^◌, ◌<◌, ◌≤◌, ◌≡◌, List, [], ◌∷◌, length, drop, Option, Some, None}
+use Rattle.std.specs.Prelude.{ℕ, ◌+◌, ◌-◌, ◌^◌, ◌<◌, ◌≤◌, ◌≡◌, List, [], ◌∷◌, length, drop, Option}
+use Rattle.std.specs.Prelude.{Some, None}
 use Rattle.std.specs.List.{flat_map}
 use Rattle.mc_frame.specs.declared.fault.FrameFault.{FrameFault}
 use Rattle.mc_frame.specs.declared.outbox.TheConstants.{OUTBOX_MAX}
@@ -12,11 +13,12 @@ IsMet before held None = Unit {0}
 IsMet before held (Some fault) = Ends before held (Some fault)
 
 -- the held bytes stand in the buffer from a place on
-pub record IsKeptSplitter (buffer : List ℕ) (start before : ℕ) (fault : Option FrameFault) : Type 0 where
-  pub within : start ≤ length buffer
-  pub few : length buffer - start ≤ held_max
-  pub counted : before < 2 ^ 64
-  pub met : IsMet before (drop start buffer) fault
+pub record IsKeptSplitter (buffer : List ℕ) (start before : ℕ) (fault : Option FrameFault) : Type 0
+  where
+    pub within : start ≤ length buffer
+    pub few : length buffer - start ≤ held_max
+    pub counted : before < 2 ^ 64
+    pub met : IsMet before (drop start buffer) fault
 
 -- ---- outboxes
 

@@ -1,4 +1,6 @@
 pub mod Frame
+pub mod FrameLaws
+pub mod FrameFormat
 pub mod Cut
 pub mod Faults
 pub mod Held

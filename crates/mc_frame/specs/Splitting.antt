@@ -1,5 +1,6 @@
 -- What a splitter is to a caller, what its calls do, and what any list of them comes to.
-use Rattle.std.specs.Prelude.{◌≡◌, ℕ, ◌+◌, ◌-◌, min, List, [], ◌∷◌, ◌++◌, length, take, Option, Some, None}
+use Rattle.std.specs.Prelude.{◌≡◌, ℕ, ◌+◌, ◌-◌, min, List, [], ◌∷◌, ◌++◌, length, take, Option}
+use Rattle.std.specs.Prelude.{Some, None}
 use Rattle.mc_frame.specs.declared.fault.FrameFault.{FrameFault}
 use Rattle.mc_frame.specs.declared.fault.Take.{Take}
 use Rattle.mc_frame.specs.declared.fault.Take.TheVariants.{Frame, More, Bad}
@@ -34,7 +35,8 @@ pub record TakesFrame (old : Splitting) (payload : List ℕ) (new : Splitting) :
 abbrev pub Takes : Splitting → Take → Splitting → Type 0
 Takes old (Frame payload) new = TakesFrame old payload new
 Takes old More new = IsPart old.held × (old.fault ≡ None) × (new ≡ old)
-Takes old (Bad fault) new = Ends old.before old.held (Some fault) × (new ≡ record old { fault = Some fault })
+Takes old (Bad fault) new = Ends old.before old.held (Some fault) ×
+    (new ≡ record old { fault = Some fault })
 
 -- ---- any list of calls
 
@@ -53,7 +55,8 @@ Steps old refused new = new ≡ old
 -- what the calls did, one after the other
 abbrev pub Runs : Splitting → List Event → Splitting → Type 0
 Runs old [] new = new ≡ old
-Runs old (event ∷ events) new = (middle : Splitting) × Steps old event middle × Runs middle events new
+Runs old (event ∷ events) new = (middle : Splitting) × Steps old event middle ×
+    Runs middle events new
 
 -- the bytes that the feeds took, joined
 abbrev pub fed_bytes : List Event → List ℕ
@@ -71,9 +74,10 @@ taken_frames (took (Bad fault) ∷ events) = taken_frames events
 taken_frames (fed piece count ∷ events) = taken_frames events
 taken_frames (refused ∷ events) = taken_frames events
 
--- what the next take answers, by the cut of all that was fed and the frames that were taken: the next frame, if there is one,
--- else what the cut ends with
+-- what the next take answers, by the cut of all that was fed and the frames that were taken: the
+-- next frame, if there is one, else what the cut ends with
 abbrev pub Answers : Cut → List (List ℕ) → Take → Type 0
-Answers cut frames (Frame payload) = (later : List (List ℕ)) × (cut.frames ≡ frames ++ payload ∷ later)
+Answers cut frames (Frame payload) = (later : List (List ℕ)) × (cut.frames ≡ frames ++ payload ∷
+    later)
 Answers cut frames More = (cut.frames ≡ frames) × (cut.fault ≡ None)
 Answers cut frames (Bad fault) = (cut.frames ≡ frames) × (cut.fault ≡ Some fault)

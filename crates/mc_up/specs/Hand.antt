@@ -4,7 +4,7 @@ use lib.IntN.{ℤ, pos, negsuc}
 use Rattle.mc_nbt.specs.declared.fault.Kind.TheVariants.{BadNumber}
 use Rattle.mc_nbt.specs.Format.{Format}
 use Rattle.mc_nbt.specs.Combine.{tested, last}
-use Rattle.mc_fields.specs.VarintField.{var_int}
+use Rattle.mc_fields.specs.VarintFormat.{var_int}
 use Rattle.mc_fields.specs.Flat.{tuple4}
 use Rattle.mc_fields.specs.TextFormat.{text}
 use Rattle.mc_fields.specs.Integers.{ushort}

@@ -6,7 +6,7 @@ use Rattle.mc_nbt.specs.Format.{Format}
 use Rattle.mc_nbt.specs.Combine.{◌then◌, via, last, none}
 use Rattle.mc_nbt.specs.Optional.{when}
 use Rattle.mc_nbt.specs.Rest.{rest}
-use Rattle.mc_fields.specs.VarintField.{var_int}
+use Rattle.mc_fields.specs.VarintFormat.{var_int}
 use Rattle.mc_fields.specs.TextFormat.{text, string}
 use Rattle.mc_fields.specs.Integers.{byte, ubyte, short, float, double, uuid, boolean}
 use Rattle.mc_fields.specs.declared.position.Cell.{Cell}

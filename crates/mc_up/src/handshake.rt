@@ -56,7 +56,7 @@ impl Field for Next {
 
     ghost format = { next };
 
-    #[tactic(auto, unfolding(mc_fields::specs::VarintField::var_int_read))]
+    #[tactic(auto, unfolding(mc_fields::specs::Varint::var_int_read))]
     fn get(_alloc: Global, cursor: &mut Cursor<'_>) -> Result<Next, ReadError> {
         let start = Cursor::new(cursor.rest());
         let next = take_varint(cursor)?;

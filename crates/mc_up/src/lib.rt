@@ -1,9 +1,9 @@
 //! The packets of a connection before it plays, both ways, and the packets of play to the server.
 //!
-//! Stands on the fields and packet rows of `mc_fields` and the slots of `mc_slots`. Its one contract,
-//! the same for each of its enums: a reader takes exactly the frames that spell a packet, and says of
-//! all others the first fault and its place; a writer appends a spelling that is read as the same
-//! packet, or leaves what was there.
+//! Stands on the fields and packet rows of `mc_fields` and the slots of `mc_slots`. Its one
+//! contract, the same for each of its enums: a reader takes exactly the frames that spell a packet,
+//! and says of all others the first fault and its place; a writer appends a spelling that is read
+//! as the same packet, or leaves what was there.
 #![tactic(auto)]
 
 mod handshake;

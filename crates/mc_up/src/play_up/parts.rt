@@ -67,7 +67,7 @@ impl Model for Used {
 impl Field for Used {
     ghost format = { used };
 
-    #[tactic(auto, unfolding(mc_fields::specs::VarintField::var_int_read))]
+    #[tactic(auto, unfolding(mc_fields::specs::Varint::var_int_read))]
     fn get(alloc: Global, cursor: &mut Cursor<'_>) -> Result<Used, ReadError> {
         let kind = take_varint(cursor)?;
         if !has_hit(kind) {
