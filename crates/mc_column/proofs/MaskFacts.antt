@@ -1,5 +1,6 @@
 -- The bits of a mask.
-use Rattle.std.proofs.Common.{◌≡◌, ℕ, zero, suc, ◌+◌, ◌*◌, ◌/◌, ◌%◌, ◌^◌, ◌<◌, ◌≤◌, Bool, true, false, cond, eqb, refl, sym, ◌∙◌, arith}
+use Rattle.std.proofs.Common.{◌≡◌, ℕ, zero, suc, ◌+◌, ◌*◌, ◌/◌, ◌%◌, ◌^◌, ◌<◌, ◌≤◌, Bool, true}
+use Rattle.std.proofs.Common.{false, cond, eqb, refl, sym, ◌∙◌, arith}
 use Rattle.std.proofs.Math.Nat.{pow-suc, pow-le-pow_right, zero-div}
 use Rattle.std.proofs.lemmas.Nat.{shr-shr}
 use Rattle.mc_column.specs.Body.{is_named}
@@ -15,16 +16,22 @@ bits_below test i (suc n) =
 
 -- one more bit below leaves room for it in two bytes
 pub bits_room : (test : ℕ → Bool) (i n : ℕ) → n < 16 → bits test i n < 32768
-bits_room test i n lt = let most : 2 ^ n ≤ 2 ^ 15 = pow-le-pow_right {n = 2} (omega arith) {i = n} {j = 15} (omega arith) in omega (arith, bits_below test i n)
+bits_room test i n lt = let most : 2 ^ n ≤ 2 ^ 15 = pow-le-pow_right {n = 2} (omega arith) {i = n}
+    {j = 15} (omega arith) in omega (arith, bits_below test i n)
 
 -- one more bit at the low end
-pub bits_more : (test : ℕ → Bool) (i n m : ℕ) → n ≡ m + 1 → bits test i n ≡ cond (test i) 1 0 + 2 * bits test (suc i) m
+pub bits_more : (test : ℕ → Bool) (i n m : ℕ) → n ≡ m + 1 → bits test i n ≡ cond (test i) 1 0 + 2 *
+    bits test (suc i) m
 bits_more test i zero m e = absurd (omega arith)
 bits_more test i (suc n) m e = let same : n ≡ m = omega arith in rw same refl
 
-pub bits_same : (f g : ℕ → Bool) (i n : ℕ) → ((k : ℕ) → i ≤ k → k < i + n → f k ≡ g k) → bits f i n ≡ bits g i n
+pub bits_same : (f g : ℕ → Bool) (i n : ℕ) → ((k : ℕ) → i ≤ k → k < i + n → f k ≡ g k) →
+    bits f i n ≡ bits g i n
 bits_same f g i zero same = refl
-bits_same f g i (suc n) same = rw (same i (omega arith) (omega arith), bits_same f g (suc i) n (λ k le lt. same k (omega arith) (omega arith))) refl
+bits_same f g i (suc n) same = rw (
+  same i (omega arith) (omega arith),
+  bits_same f g (suc i) n (λ k le lt. same k (omega arith) (omega arith)),
+) refl
 
 -- the bit of a number is the test of it
 pub bits_named : (test : ℕ → Bool) (i n k : ℕ) → k < n → is_named (bits test i n) k ≡ test (i + k)
@@ -37,7 +44,8 @@ bits_named test i (suc n) zero lt =
     ])
 bits_named test i (suc n) (suc k) lt =
     let at : i + suc k ≡ suc i + k = omega arith in
-    rw (at, shifted (cond (test i) 1 0) (bits test (suc i) n) k (small (test i))) (bits_named test (suc i) n k (omega arith))
+    rw (at, shifted (cond (test i) 1 0) (bits test (suc i) n) k (small (test i)))
+    (bits_named test (suc i) n k (omega arith))
   where
     small : (b : Bool) → cond b 1 0 < 2
     small true = omega arith

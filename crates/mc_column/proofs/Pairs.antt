@@ -1,5 +1,6 @@
 -- States and the two bytes that each is sent in.
-use Rattle.std.proofs.Common.{◌≡◌, ℕ, ◌+◌, ◌*◌, ◌/◌, ◌%◌, ◌<◌, zero, suc, List, [], ◌∷◌, ◌++◌, length, get_or, set, take, drop, replicate, refl, ap, arith}
+use Rattle.std.proofs.Common.{◌≡◌, ℕ, ◌+◌, ◌*◌, ◌/◌, ◌%◌, ◌<◌, zero, suc, List, [], ◌∷◌, ◌++◌}
+use Rattle.std.proofs.Common.{length, get_or, set, take, drop, replicate, refl, ap, arith}
 use Rattle.mc_column.specs.Cells.{wire, paired}
 
 double : (n : ℕ) → 2 * suc n ≡ suc (suc (2 * n))
@@ -12,33 +13,42 @@ pub length-paired : (bytes : List ℕ) (n : ℕ) → length bytes ≡ 2 * n → 
 length-paired [] n e = omega arith
 length-paired (low ∷ []) n e = absurd (omega arith)
 length-paired (low ∷ high ∷ bytes) zero e = absurd (omega arith)
-length-paired (low ∷ high ∷ bytes) (suc n) e = ap (λ (k : ℕ). suc k) (length-paired bytes n (omega arith))
+length-paired (low ∷ high ∷ bytes) (suc n) e =
+    ap (λ (k : ℕ). suc k) (length-paired bytes n (omega arith))
 
 -- the state at a place is the two bytes at twice that place
-pub get_or-paired : (bytes : List ℕ) (i : ℕ) → 2 * i + 1 < length bytes → get_or (paired bytes) i 0 ≡ get_or bytes (2 * i) 0 + 256 * get_or bytes (2 * i + 1) 0
+pub get_or-paired : (bytes : List ℕ) (i : ℕ) → 2 * i + 1 < length bytes →
+    get_or (paired bytes) i 0 ≡ get_or bytes (2 * i) 0 + 256 * get_or bytes (2 * i + 1) 0
 get_or-paired [] i lt = absurd (omega arith)
 get_or-paired (low ∷ []) i lt = absurd (omega arith)
 get_or-paired (low ∷ high ∷ bytes) zero lt = refl
-get_or-paired (low ∷ high ∷ bytes) (suc i) lt = rw (double_more i, double i) (get_or-paired bytes i (omega arith))
+get_or-paired (low ∷ high ∷ bytes) (suc i) lt =
+    rw (double_more i, double i) (get_or-paired bytes i (omega arith))
 
 -- a state is written as its two bytes
-pub paired-set : (bytes : List ℕ) (i low high : ℕ) → 2 * i + 1 < length bytes → paired (set (set bytes (2 * i) low) (2 * i + 1) high) ≡ set (paired bytes) i (low + 256 * high)
+pub paired-set : (bytes : List ℕ) (i low high : ℕ) → 2 * i + 1 < length bytes →
+    paired (set (set bytes (2 * i) low) (2 * i + 1) high) ≡ set (paired bytes) i (low + 256 * high)
 paired-set [] i l h lt = absurd (omega arith)
 paired-set (low ∷ []) i l h lt = absurd (omega arith)
 paired-set (low ∷ high ∷ bytes) zero l h lt = refl
-paired-set (low ∷ high ∷ bytes) (suc i) l h lt = rw (double_more i, double i) (ap (λ (t : List ℕ). (low + 256 * high) ∷ t) (paired-set bytes i l h (omega arith)))
+paired-set (low ∷ high ∷ bytes) (suc i) l h lt =
+    rw (double_more i, double i) (ap (λ (t : List ℕ). (low + 256 * high) ∷
+    t) (paired-set bytes i l h (omega arith)))
 
-pub paired-append : (xs ys : List ℕ) (n : ℕ) → length xs ≡ 2 * n → paired (xs ++ ys) ≡ paired xs ++ paired ys
+pub paired-append : (xs ys : List ℕ) (n : ℕ) → length xs ≡ 2 * n → paired (xs ++ ys) ≡ paired xs ++
+    paired ys
 paired-append [] ys n e = refl
 paired-append (low ∷ []) ys n e = absurd (omega arith)
 paired-append (low ∷ high ∷ xs) ys zero e = absurd (omega arith)
-paired-append (low ∷ high ∷ xs) ys (suc n) e = ap (λ (t : List ℕ). (low + 256 * high) ∷ t) (paired-append xs ys n (omega arith))
+paired-append (low ∷ high ∷ xs) ys (suc n) e = ap (λ (t : List ℕ). (low + 256 * high) ∷
+    t) (paired-append xs ys n (omega arith))
 
 pub paired-take : (n : ℕ) (bytes : List ℕ) → paired (take (2 * n) bytes) ≡ take n (paired bytes)
 paired-take zero bytes = refl
 paired-take (suc n) [] = rw (double n) refl
 paired-take (suc n) (low ∷ []) = rw (double n) refl
-paired-take (suc n) (low ∷ high ∷ bytes) = rw (double n) (ap (λ (t : List ℕ). (low + 256 * high) ∷ t) (paired-take n bytes))
+paired-take (suc n) (low ∷ high ∷ bytes) =
+    rw (double n) (ap (λ (t : List ℕ). (low + 256 * high) ∷ t) (paired-take n bytes))
 
 pub paired-drop : (n : ℕ) (bytes : List ℕ) → paired (drop (2 * n) bytes) ≡ drop n (paired bytes)
 paired-drop zero bytes = refl
@@ -66,13 +76,15 @@ wire_low [] i = refl
 wire_low (state ∷ states) zero = refl
 wire_low (state ∷ states) (suc i) = rw (double i) (wire_low states i)
 
-pub wire_high : (states : List ℕ) (i : ℕ) → get_or (wire states) (2 * i + 1) 0 ≡ get_or states i 0 / 256
+pub wire_high : (states : List ℕ) (i : ℕ) → get_or (wire states) (2 * i + 1) 0 ≡ get_or states i 0 /
+    256
 wire_high [] i = refl
 wire_high (state ∷ states) zero = refl
 wire_high (state ∷ states) (suc i) = rw (double_more i) (wire_high states i)
 
 -- bytes that are paired are spelled as they were
-pub wire-paired : (bytes : List ℕ) (n : ℕ) → length bytes ≡ 2 * n → ((i : ℕ) → get_or bytes i 0 < 256) → wire (paired bytes) ≡ bytes
+pub wire-paired : (bytes : List ℕ) (n : ℕ) → length bytes ≡ 2 * n →
+    ((i : ℕ) → get_or bytes i 0 < 256) → wire (paired bytes) ≡ bytes
 wire-paired [] n e fit = refl
 wire-paired (low ∷ []) n e fit = absurd (omega arith)
 wire-paired (low ∷ high ∷ bytes) zero e fit = absurd (omega arith)

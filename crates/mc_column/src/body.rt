@@ -32,7 +32,8 @@ impl Model for Body {
 
     ghost view = { λ body. kept_body body.mask body.ground_up body.blocks.items body.biomes.items };
 
-    ghost invariant = { λ body. IsKeptBody body.mask body.ground_up body.blocks.items body.biomes.items };
+    ghost invariant = { λ body. IsKeptBody body.mask body.ground_up body.blocks.items
+        body.biomes.items };
 }
 
 impl Body {
@@ -110,9 +111,12 @@ pub fn read_body(
     ground_up: bool,
 ) -> Result<Body, ReadFault>
     ensures found { IfOk result (λ body. spec.SpellsBody body mask sky ground_up bytes.now) }
-    ensures only { (body : spec.BodyValue) → spec.SpellsBody body mask sky ground_up bytes.now → PlacedGives (λ body. body) result (Ok body) }
-    ensures short { IsErrOf result (faults.Field (fault_at Short (length bytes.now))) ↔ (length bytes.now < spec.body_size mask sky ground_up) }
-    ensures long { IsErrOf result (faults.Field (fault_at BadLength (spec.body_size mask sky ground_up))) ↔ (spec.body_size mask sky ground_up < length bytes.now) }
+    ensures only { (body : spec.BodyValue) → spec.SpellsBody body mask sky ground_up bytes.now →
+        PlacedGives (λ body. body) result (Ok body) }
+    ensures short { IsErrOf result (faults.Field (fault_at Short (length bytes.now))) ↔
+        (length bytes.now < spec.body_size mask sky ground_up) }
+    ensures long { IsErrOf result (faults.Field (fault_at BadLength (spec.body_size mask sky ground_up))) ↔
+        (spec.body_size mask sky ground_up < length bytes.now) }
     ensures reads { PlacedGives (λ body. body) result (spec.body_read mask sky ground_up bytes.now) }
 {
     read_exactly(alloc, bytes, mask, sky, ground_up)
@@ -128,7 +132,8 @@ fn read_exactly(
     ground_up: bool,
 ) -> Result<Body, ReadFault>
     ensures reads { PlacedGives (λ body. body) result (spec.body_read mask sky ground_up bytes.now) }
-    ensures memory { IsErrOf result faults.NoMemory → length bytes.now ≡ spec.body_size mask sky ground_up }
+    ensures memory { IsErrOf result faults.NoMemory → length bytes.now ≡
+        spec.body_size mask sky ground_up }
 {
     let size = body_size(mask, sky, ground_up);
     if bytes.len() < size {

@@ -1,8 +1,11 @@
-ghost use Rattle.std.specs.Prelude.{◌≡◌, ◌+◌, ◌*◌, ◌/◌, ◌%◌, ◌<◌, ◌↔◌, ◌++◌, IsNone, IsTrue, IfOk, IfSome, OnOk, OnErr, slice_index, replicate, length, if◌then◌else◌};
+ghost use Rattle.std.specs.Prelude.{◌≡◌, ◌+◌, ◌*◌, ◌/◌, ◌%◌, ◌<◌, ◌↔◌, ◌++◌, IsNone, IsTrue, IfOk};
+ghost use Rattle.std.specs.Prelude.{IfSome, OnOk, OnErr, slice_index, replicate, length};
+ghost use Rattle.std.specs.Prelude.{if◌then◌else◌};
 ghost use Rattle.mc_column.specs.Sizes.{cells, section_cells, squares};
 ghost use Rattle.mc_column.specs.Body.{put_body};
 ghost use Rattle.mc_column.specs.Sent.{IsColumnMask, SpellsColumn, column_bytes, column_mask};
-ghost use Rattle.mc_column.specs.Cells.{HasSizes, IsAir, cell_index, square_index, empty_column, with_section, with_state, section_of};
+ghost use Rattle.mc_column.specs.Cells.{HasSizes, IsAir, cell_index, square_index, empty_column};
+ghost use Rattle.mc_column.specs.Cells.{with_section, with_state, section_of};
 ghost use Rattle.mc_column.specs.Kept.{blocks_in};
 
 use crate::body::{Body, body_size};
@@ -49,7 +52,10 @@ impl Column {
     /// Makes a column of air with these 256 biomes.
     pub fn with_biomes(biomes: Vec<u8>) -> Result<Column, NoMemory>
         requires { length biomes.items ≡ squares }
-        ensures { IfOk result (λ column. column ≡ record { states = replicate cells 0; biomes = biomes.items }) }
+        ensures { IfOk result (λ column. column ≡ record {
+          states = replicate cells 0;
+          biomes = biomes.items;
+        }) }
     {
         Ok(Column {
             sections: sections_of_air(*biomes.allocator(), sections_of_column())?,

@@ -1,4 +1,5 @@
-ghost use Rattle.std.specs.Prelude.{◌≡◌, ◌+◌, ◌*◌, ◌<◌, ◌↔◌, ◌++◌, IsTrue, drop, length, replicate, slice_index};
+ghost use Rattle.std.specs.Prelude.{◌≡◌, ◌+◌, ◌*◌, ◌<◌, ◌↔◌, ◌++◌, IsTrue, drop, length, replicate};
+ghost use Rattle.std.specs.Prelude.{slice_index};
 ghost use Rattle.mc_column.specs.Sizes.{layer_count, light_bytes, row_bytes, squares};
 ghost use Rattle.std.specs.List.{All};
 ghost use Rattle.mc_column.specs.Cells.{paired};
@@ -27,7 +28,8 @@ fn dimmed_byte(above: u8, low: u16, high: u16) -> u8
 /// layer are taken many at a time.
 fn dimmed_at(above: u8, layer: &[u8], j: usize) -> u8
     requires { 4 * j + 3 < length layer.now }
-    ensures { result ≡ spec.dimmed_byte above (slice_index (paired layer.now) (2 * j)) (slice_index (paired layer.now) (2 * j + 1)) }
+    ensures { result ≡ spec.dimmed_byte above (slice_index (paired layer.now) (2 * j))
+        (slice_index (paired layer.now) (2 * j + 1)) }
 {
     dimmed_byte(above, state_at(layer, 2 * j), state_at(layer, 2 * j + 1))
 }
@@ -76,7 +78,8 @@ pub(crate) fn put_row(sky: &mut [u8], y: usize, light: &[u8])
     requires sky_is { length sky.old ≡ light_bytes }
     requires light_is { length light.now ≡ row_bytes }
     ensures len { length sky.new ≡ light_bytes }
-    ensures from { drop (y * row_bytes) sky.new ≡ light.now ++ drop (y * row_bytes + row_bytes) sky.old }
+    ensures from { drop (y * row_bytes) sky.new ≡ light.now ++ drop (y * row_bytes + row_bytes)
+        sky.old }
 {
     let size = bytes_of_row();
     let from = y * size;

@@ -46,7 +46,8 @@ fn filled_mask(sections: &Vec<SparseSection>) -> u16
 /// lowest section, since a ground-up body for mask 0 would be an unload.
 pub(crate) fn sent_mask(sections: &Vec<SparseSection>) -> u16
     requires { length sections.now.items ≡ section_count }
-    ensures { result ≡ with_one (bits (λ i. has_block (nth_section sections.now.items i)) 0 section_count) }
+    ensures { result ≡ with_one (bits (λ i. has_block (nth_section sections.now.items i)) 0
+        section_count) }
 {
     let mask = filled_mask(sections);
     if mask == 0 { 1 } else { mask }

@@ -1,4 +1,5 @@
-ghost use Rattle.std.specs.Prelude.{◌≡◌, ◌*◌, ◌<◌, ◌||◌, ℕ, [], true, IsTrue, IfOk, length, if◌then◌else◌};
+ghost use Rattle.std.specs.Prelude.{◌≡◌, ◌*◌, ◌<◌, ◌||◌, ℕ, [], true, IsTrue, IfOk, length};
+ghost use Rattle.std.specs.Prelude.{if◌then◌else◌};
 ghost use Rattle.mc_column.specs.Sizes.{section_cells, section_count};
 ghost use Rattle.mc_column.specs.Cells.{paired, section_of};
 ghost use Rattle.mc_column.specs.Cells as cells;
@@ -18,7 +19,8 @@ fn piece(blocks: &[u8], mask: u16, i: usize) -> &[u8]
     requires whole { length blocks.now ≡ block_light_at mask }
     requires named { IsTrue (is_named mask i) }
     ensures len { length result.now ≡ 2 * section_cells }
-    ensures states { paired result.now ≡ section_of (paired blocks.now) (cells.rank (is_named mask) i) }
+    ensures states { paired result.now ≡ section_of (paired blocks.now) (cells.rank (is_named mask)
+        i) }
 {
     let size = bytes_of_section();
     let from = rank(mask, i) * size;
@@ -46,7 +48,8 @@ pub(crate) fn made_all(
 ) -> Result<Vec<SparseSection>, NoMemory>
     requires whole { length blocks.now ≡ block_light_at mask }
     ensures len { IfOk result (λ sections. length sections.items ≡ section_count) }
-    ensures each { IfOk result (λ sections. (k : ℕ) → k < section_count → nth_section sections.items k ≡ put_section mask true (paired blocks.now) k []) }
+    ensures each { IfOk result (λ sections. (k : ℕ) → k < section_count →
+        nth_section sections.items k ≡ put_section mask true (paired blocks.now) k []) }
 {
     let count = sections_of_column();
     let mut sections = Vec::with_capacity(alloc, count)?;
@@ -84,7 +87,9 @@ pub(crate) fn lay_all(
     requires all_there { length sections.old.items ≡ section_count }
     requires all_made { length made.old.items ≡ section_count }
     ensures len { length sections.new.items ≡ section_count }
-    ensures each { (k : ℕ) → k < section_count → nth_section sections.new.items k ≡ (if ground_up || is_named mask k then nth_section made.old.items k else nth_section sections.old.items k) }
+    ensures each { (k : ℕ) → k < section_count → nth_section sections.new.items k ≡
+        (if ground_up || is_named mask k then nth_section made.old.items k else
+        nth_section sections.old.items k) }
 {
     for i in 0..sections.len() {
         swap_if(&mut sections[i], &mut made[i], is_put(mask, i, ground_up));

@@ -1,5 +1,7 @@
-ghost use Rattle.std.specs.Prelude.{◌≡◌, ◌+◌, ◌*◌, ◌<◌, ◌↔◌, IsTrue, IfOk, List, ℕ, not, length, slice_index, slice_set, replicate};
-ghost use Rattle.mc_column.specs.Sizes.{layer_count, light_bytes, row_bytes, section_cells, squares};
+ghost use Rattle.std.specs.Prelude.{◌≡◌, ◌+◌, ◌*◌, ◌<◌, ◌↔◌, IsTrue, IfOk, List, ℕ, not, length};
+ghost use Rattle.std.specs.Prelude.{slice_index, slice_set, replicate};
+ghost use Rattle.mc_column.specs.Sizes.{layer_count, light_bytes, row_bytes, section_cells};
+ghost use Rattle.mc_column.specs.Sizes.{squares};
 ghost use Rattle.mc_column.specs.Cells.{IsAir, paired, section_of, wire};
 ghost use Rattle.mc_column.specs.Light.{section_sky, sky_bytes};
 ghost use Rattle.mc_column.specs.Kept.{block_of, blocks_in};
@@ -67,7 +69,8 @@ fn layer(bytes: &[u8], y: usize) -> &[u8]
     requires inside { y < layer_count }
     requires whole { length bytes.now ≡ 2 * section_cells }
     ensures len { length result.now ≡ 2 * squares }
-    ensures states { (t : ℕ) → t < squares → slice_index (paired result.now) t ≡ slice_index (paired bytes.now) (y * squares + t) }
+    ensures states { (t : ℕ) → t < squares → slice_index (paired result.now) t ≡
+        slice_index (paired bytes.now) (y * squares + t) }
 {
     let size = bytes_of_layer();
     let from = y * size;
@@ -172,8 +175,12 @@ impl Section {
     pub(crate) fn shade(&self, light: &mut [u8], sky: &mut [u8])
         requires light_is { length light.old ≡ row_bytes }
         requires sky_is { length sky.old ≡ light_bytes }
-        ensures lowest { (states : List ℕ) (i : ℕ) → self.now ≡ section_of states i → light.old ≡ sky_bytes states (i * section_cells + section_cells) row_bytes → light.new ≡ sky_bytes states (i * section_cells) row_bytes }
-        ensures all { (states : List ℕ) (i : ℕ) → self.now ≡ section_of states i → light.old ≡ sky_bytes states (i * section_cells + section_cells) row_bytes → sky.new ≡ section_sky states i }
+        ensures lowest { (states : List ℕ) (i : ℕ) → self.now ≡ section_of states i →
+            light.old ≡ sky_bytes states (i * section_cells + section_cells) row_bytes →
+            light.new ≡ sky_bytes states (i * section_cells) row_bytes }
+        ensures all { (states : List ℕ) (i : ℕ) → self.now ≡ section_of states i →
+            light.old ≡ sky_bytes states (i * section_cells + section_cells) row_bytes →
+            sky.new ≡ section_sky states i }
     {
         for y in (0..layers_of_section()).rev() {
             dim(light, layer(&self.bytes, y));

@@ -1,4 +1,6 @@
-ghost use Rattle.std.specs.Prelude.{◌≡◌, ◌+◌, ◌*◌, ◌<◌, ◌≤◌, ◌↔◌, ◌++◌, List, ℕ, IsNone, IsTrue, IfOk, IfSome, OnOk, OnErr, not, length, replicate, slice_index, slice_set, vec_len, vec_capacity};
+ghost use Rattle.std.specs.Prelude.{◌≡◌, ◌+◌, ◌*◌, ◌<◌, ◌≤◌, ◌↔◌, ◌++◌, List, ℕ, IsNone, IsTrue};
+ghost use Rattle.std.specs.Prelude.{IfOk, IfSome, OnOk, OnErr, not, length, replicate, slice_index};
+ghost use Rattle.std.specs.Prelude.{slice_set, vec_len, vec_capacity};
 ghost use Rattle.mc_column.specs.Sizes.{light_bytes, row_bytes, section_cells};
 ghost use Rattle.mc_column.specs.Cells.{IsAir, paired, section_of, wire};
 ghost use Rattle.mc_column.specs.Light.{section_sky, sky_bytes};
@@ -163,8 +165,12 @@ impl SparseSection {
     pub(crate) fn shade(&self, light: &mut [u8], sky: &mut [u8])
         requires light_is { length light.old ≡ row_bytes }
         requires sky_is { length sky.old ≡ light_bytes }
-        ensures lowest { (states : List ℕ) (i : ℕ) → self.now ≡ section_of states i → light.old ≡ sky_bytes states (i * section_cells + section_cells) row_bytes → light.new ≡ sky_bytes states (i * section_cells) row_bytes }
-        ensures all { (states : List ℕ) (i : ℕ) → self.now ≡ section_of states i → light.old ≡ sky_bytes states (i * section_cells + section_cells) row_bytes → sky.new ≡ section_sky states i }
+        ensures lowest { (states : List ℕ) (i : ℕ) → self.now ≡ section_of states i →
+            light.old ≡ sky_bytes states (i * section_cells + section_cells) row_bytes →
+            light.new ≡ sky_bytes states (i * section_cells) row_bytes }
+        ensures all { (states : List ℕ) (i : ℕ) → self.now ≡ section_of states i →
+            light.old ≡ sky_bytes states (i * section_cells + section_cells) row_bytes →
+            sky.new ≡ section_sky states i }
     {
         match &self.section {
             Some(section) => section.shade(light, sky),
@@ -189,7 +195,9 @@ impl SparseSection {
 fn shade_air(light: &[u8], sky: &mut [u8])
     requires light_is { length light.now ≡ row_bytes }
     requires sky_is { length sky.old ≡ light_bytes }
-    ensures { (states : List ℕ) (i : ℕ) → replicate section_cells 0 ≡ section_of states i → light.now ≡ sky_bytes states (i * section_cells + section_cells) row_bytes → sky.new ≡ section_sky states i }
+    ensures { (states : List ℕ) (i : ℕ) → replicate section_cells 0 ≡ section_of states i →
+        light.now ≡ sky_bytes states (i * section_cells + section_cells) row_bytes →
+        sky.new ≡ section_sky states i }
 {
     for y in (0..layers_of_section()).rev() {
         put_row(sky, y, light);

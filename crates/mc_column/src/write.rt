@@ -1,4 +1,6 @@
-ghost use Rattle.std.specs.Prelude.{◌≡◌, ◌+◌, ◌*◌, ◌<◌, ◌≤◌, ◌++◌, ℕ, List, [], Bool, false, true, IsTrue, length, drop, replicate, vec_len, vec_capacity, if◌then◌else◌};
+ghost use Rattle.std.specs.Prelude.{◌≡◌, ◌+◌, ◌*◌, ◌<◌, ◌≤◌, ◌++◌, ℕ, List, [], Bool, false, true};
+ghost use Rattle.std.specs.Prelude.{IsTrue, length, drop, replicate, vec_len, vec_capacity};
+ghost use Rattle.std.specs.Prelude.{if◌then◌else◌};
 ghost use Rattle.mc_column.specs.Sizes.{light_bytes, row_bytes, section_cells, section_count};
 ghost use Rattle.mc_column.specs.Cells.{IsAir, joined, picked, section_of, wire};
 ghost use Rattle.mc_column.specs.Light.{section_sky, sky_bytes};
@@ -46,9 +48,11 @@ fn append_states(section: &SparseSection, named: bool, out: &mut Vec<u8>)
 /// Appends the states of the sections that the mask names, from the lowest up.
 pub(crate) fn append_blocks(sections: &Vec<SparseSection>, mask: u16, out: &mut Vec<u8>)
     requires all_there { length sections.now.items ≡ section_count }
-    requires sized { (i : ℕ) → i < section_count → length (nth_section sections.now.items i) ≡ section_cells }
+    requires sized { (i : ℕ) → i < section_count → length (nth_section sections.now.items i) ≡
+        section_cells }
     requires room { vec_len out.old + block_light_at mask ≤ vec_capacity out.old }
-    ensures items { out.new.items ≡ out.old.items ++ wire (joined (picked (is_named mask) (nth_section sections.now.items)) section_count) }
+    ensures items { out.new.items ≡ out.old.items ++
+        wire (joined (picked (is_named mask) (nth_section sections.now.items)) section_count) }
     ensures len { vec_len out.new ≡ vec_len out.old + block_light_at mask }
     ensures room { vec_capacity out.old ≤ vec_capacity out.new }
 {
@@ -64,8 +68,12 @@ fn shade_at(section: &SparseSection, named: bool, from: usize, light: &mut [u8],
     requires light_is { length light.old ≡ row_bytes }
     requires air { named ≡ false → IsAir section.now }
     requires room { IsTrue named → from + light_bytes ≤ length sky.old }
-    ensures lowest { (states : List ℕ) (i : ℕ) → section.now ≡ section_of states i → light.old ≡ sky_bytes states (i * section_cells + section_cells) row_bytes → light.new ≡ sky_bytes states (i * section_cells) row_bytes }
-    ensures written { (states : List ℕ) (i : ℕ) → section.now ≡ section_of states i → light.old ≡ sky_bytes states (i * section_cells + section_cells) row_bytes → IsTrue named → drop from sky.new ≡ section_sky states i ++ drop (from + light_bytes) sky.old }
+    ensures lowest { (states : List ℕ) (i : ℕ) → section.now ≡ section_of states i →
+        light.old ≡ sky_bytes states (i * section_cells + section_cells) row_bytes →
+        light.new ≡ sky_bytes states (i * section_cells) row_bytes }
+    ensures written { (states : List ℕ) (i : ℕ) → section.now ≡ section_of states i →
+        light.old ≡ sky_bytes states (i * section_cells + section_cells) row_bytes → IsTrue named →
+        drop from sky.new ≡ section_sky states i ++ drop (from + light_bytes) sky.old }
     ensures left_out { named ≡ false → sky.new ≡ sky.old }
 {
     if named {
@@ -78,10 +86,14 @@ fn shade_at(section: &SparseSection, named: bool, from: usize, light: &mut [u8],
 /// the top, with the light of one layer.
 fn write_sky(sections: &Vec<SparseSection>, mask: u16, sky: &mut [u8])
     requires all_there { length sections.now.items ≡ section_count }
-    requires sized { (i : ℕ) → i < section_count → length (nth_section sections.now.items i) ≡ section_cells }
-    requires air { (i : ℕ) → i < section_count → is_named mask i ≡ false → IsAir (nth_section sections.now.items i) }
+    requires sized { (i : ℕ) → i < section_count → length (nth_section sections.now.items i) ≡
+        section_cells }
+    requires air { (i : ℕ) → i < section_count → is_named mask i ≡ false →
+        IsAir (nth_section sections.now.items i) }
     requires room { length sky.old ≡ named_count mask * light_bytes }
-    ensures { sky.new ≡ joined (picked (is_named mask) (section_sky (joined (nth_section sections.now.items) section_count))) section_count }
+    ensures { sky.new ≡
+        joined (picked (is_named mask) (section_sky (joined (nth_section sections.now.items)
+        section_count))) section_count }
 {
     let mut light = full_light();
     for i in (0..sections.len()).rev() {
@@ -94,11 +106,15 @@ fn write_sky(sections: &Vec<SparseSection>, mask: u16, sky: &mut [u8])
 /// Appends the sky light of the sections that the mask names.
 pub(crate) fn append_sky(sections: &Vec<SparseSection>, mask: u16, light: usize, out: &mut Vec<u8>)
     requires all_there { length sections.now.items ≡ section_count }
-    requires sized { (i : ℕ) → i < section_count → length (nth_section sections.now.items i) ≡ section_cells }
-    requires air { (i : ℕ) → i < section_count → is_named mask i ≡ false → IsAir (nth_section sections.now.items i) }
+    requires sized { (i : ℕ) → i < section_count → length (nth_section sections.now.items i) ≡
+        section_cells }
+    requires air { (i : ℕ) → i < section_count → is_named mask i ≡ false →
+        IsAir (nth_section sections.now.items i) }
     requires light_is { light ≡ named_count mask * light_bytes }
     requires room { vec_len out.old + light ≤ vec_capacity out.old }
-    ensures items { out.new.items ≡ out.old.items ++ joined (picked (is_named mask) (section_sky (joined (nth_section sections.now.items) section_count))) section_count }
+    ensures items { out.new.items ≡ out.old.items ++
+        joined (picked (is_named mask) (section_sky (joined (nth_section sections.now.items)
+        section_count))) section_count }
     ensures len { vec_len out.new ≡ vec_len out.old + light }
     ensures room { vec_capacity out.old ≤ vec_capacity out.new }
 {
@@ -116,9 +132,11 @@ pub(crate) fn append_body(
     out: &mut Vec<u8>,
 )
     requires kept { IsKeptColumn sections.now.items biomes.now }
-    requires air { (i : ℕ) → i < section_count → is_named mask i ≡ false → IsAir (nth_section sections.now.items i) }
+    requires air { (i : ℕ) → i < section_count → is_named mask i ≡ false →
+        IsAir (nth_section sections.now.items i) }
     requires room { vec_len out.old + body_size mask true true ≤ vec_capacity out.old }
-    ensures { out.new.items ≡ out.old.items ++ body_bytes (kept_column sections.now.items biomes.now) mask }
+    ensures { out.new.items ≡ out.old.items ++
+        body_bytes (kept_column sections.now.items biomes.now) mask }
 {
     let light = light_size(mask);
     append_blocks(sections, mask, out);

@@ -15,12 +15,15 @@ use Rattle.mc_down.specs.Down.{spelling_of, append_of}
 
 tied_raw : (id : ℤ) (bytes : List ℕ) → IsTied rows (Raw id bytes)
 unfolding rows
-tied_raw (pos id) bytes given h = family_tied {P = Down} {entry_of = entry_of} is_raw (λ (n : ℕ). raw (pos n)) (λ n. refl) (λ _ _ _ s. s) rows_from_00 id bytes given (checked_ok (is_raw id) (given, []) (bytes, []) (stop_at BadNumber given) h).0 h
+tied_raw (pos id) bytes given h = family_tied {P = Down} {entry_of = entry_of} is_raw (λ (n : ℕ).
+    raw (pos n)) (λ n. refl) (λ _ _ _ s. s) rows_from_00 id bytes given
+    (checked_ok (is_raw id) (given, []) (bytes, []) (stop_at BadNumber given) h).0 h
 tied_raw (negsuc n) bytes given h = absurd cc
 
 pub tied : (p : Down) → IsTied rows p
 unfolding rows rows_from_00 rows_from_08 rows_from_13 rows_from_1B rows_from_2E rows_from_3A
-tied (KeepAlive number) = row_tied (entry_of (KeepAlive number)).row (entry_of (KeepAlive number)).fields
+tied (KeepAlive number) = row_tied (entry_of (KeepAlive number)).row
+    (entry_of (KeepAlive number)).fields
 tied (Raw id bytes) = tied_raw id bytes
 tied p = row_tied (entry_of p).row (entry_of p).fields
 

@@ -12,21 +12,25 @@ use Rattle.mc_fields.specs.Varint.{varint_read, varint_spelling}
 use Rattle.mc_fields.specs.VarintLaws.{varint_only, varint_spelled, varint-fits, five}
 use Rattle.mc_fields.specs.Text.{FitsText, text_read, text_spelling}
 use Rattle.mc_fields.specs.TextLaws.{text_only, text_written}
-use Rattle.mc_fields.specs.IntegerBytes.{signed_spells, signed_read, signed_spelling, boolean_read, boolean_spelling}
+use Rattle.mc_fields.specs.IntegerBytes.{signed_spells, signed_read, signed_spelling, boolean_read}
+use Rattle.mc_fields.specs.IntegerBytes.{boolean_spelling}
 use Rattle.mc_fields.specs.IntegerLaws.{boolean_only, boolean_spelled}
-use Rattle.mc_fields.specs.PositionBits.{FitsCell, SpellsPosition, pack, position_read, position_spelling}
+use Rattle.mc_fields.specs.PositionBits.{FitsCell, SpellsPosition, pack, position_read}
+use Rattle.mc_fields.specs.PositionBits.{position_spelling}
 use Rattle.mc_fields.specs.PositionLaws.{low_bits-below}
 use Rattle.mc_fields.specs.Position.{position}
 
 pub varint_again : (value : ℤ) → SFits w32 value → (rest : List ℕ)
     → varint_read 5 (varint_spelling value ++ rest) ≡ Ok (value, rest)
 varint_again value fits rest =
-    varint_only 5 Anything value (varint_spelling value) rest tt (varint_spelled 5 five value (varint-fits value fits))
+    varint_only 5 Anything value (varint_spelling value) rest tt (varint_spelled 5 five value
+    (varint-fits value fits))
 
 pub text_again : (text : List ℕ) → length text < 2 ^ 31 → (points : ℕ) (rest : List ℕ)
     → FitsText points text → text_read points (text_spelling text ++ rest) ≡ Ok (text, rest)
 text_again text sized points rest fits =
-    text_only points Anything text (text_spelling text) rest tt (text_written points text fits sized)
+    text_only points Anything text (text_spelling text) rest tt (text_written points text fits
+    sized)
 
 pub boolean_again : (value : Bool) (rest : List ℕ)
     → boolean_read (boolean_spelling value ++ rest) ≡ Ok (value, rest)
@@ -41,7 +45,8 @@ signed_spelled w wide value fits =
 pub signed_again : (w : Width) → IsWide w → (value : ℤ) → SFits w value → (rest : List ℕ)
     → signed_read w (signed_spelling w value ++ rest) ≡ Ok (value, rest)
 signed_again w wide value fits rest =
-    (signed {Rest = Anything} w wide).only value (signed_spelling w value) rest tt (signed_spelled w wide value fits)
+    (signed {Rest = Anything} w wide).only value (signed_spelling w value) rest tt
+    (signed_spelled w wide value fits)
 
 -- a packed place has 64 bits
 pack-below : (cell : Cell) → FitsCell cell → pack cell < 2 ^ 64
@@ -57,4 +62,5 @@ position_spelled cell fits = (fits, (pack-below cell fits, refl))
 pub position_again : (cell : Cell) → FitsCell cell → (rest : List ℕ)
     → position_read (position_spelling cell ++ rest) ≡ Ok (cell, rest)
 position_again cell fits rest =
-    (position {Rest = Anything}).only cell (position_spelling cell) rest tt (position_spelled cell fits)
+    (position {Rest = Anything}).only cell (position_spelling cell) rest tt
+    (position_spelled cell fits)

@@ -2,7 +2,8 @@
 -- exponent.
 use Rattle.std.specs.Prelude.{nat_le, ◌==◌, if◌then◌else◌}
 use Rattle.std.specs.Int.{w32, int_div_euclid, int_rem_euclid}
-use Rattle.std.proofs.Common.{◌≡◌, ℕ, ◌+◌, ◌-◌, ◌*◌, ◌/◌, ◌%◌, ◌^◌, ◌<◌, ◌≤◌, max, Bool, true, false, sym, ap, ◌∙◌, arith, inl, inr, refl, ne_eqb, le-leb}
+use Rattle.std.proofs.Common.{◌≡◌, ℕ, ◌+◌, ◌-◌, ◌*◌, ◌/◌, ◌%◌, ◌^◌, ◌<◌, ◌≤◌, max, Bool, true}
+use Rattle.std.proofs.Common.{false, sym, ap, ◌∙◌, arith, inl, inr, refl, ne_eqb, le-leb}
 use Rattle.std.proofs.Math.Nat.{mul-le-mul, pow-le-pow_right}
 use Rattle.std.proofs.lemmas.Bool.{cases_lt}
 use Rattle.std.proofs.lemmas.Bool.Decides.{leb_tells}
@@ -11,7 +12,9 @@ use Rattle.std.proofs.lemmas.Nat.{pow-add, pow_pos}
 use lib.IntN.{ℤ, pos, negsuc, nat_abs, ◌*ℤ◌}
 use lib.Signed.{shr_z, mag}
 use mir.Val.{SFits}
-use Rattle.mc_fields.specs.Pattern.{Fixes, held, Turns, TurnsParts, IsVast, StandsFor, StandsForTurn, exponent, power, significand, significand_of, is_negative, with_sign}
+use Rattle.mc_fields.specs.Pattern.{Fixes, held, Turns, TurnsParts, IsVast, StandsFor}
+use Rattle.mc_fields.specs.Pattern.{StandsForTurn, exponent, power, significand, significand_of}
+use Rattle.mc_fields.specs.Pattern.{is_negative, with_sign}
 use Rattle.mc_fields.specs.PatternLaws.{floor_exact, floor_one, shift_floor, shift_then}
 use Rattle.mc_fields.proofs.Floors.{with_sign-times}
 
@@ -20,7 +23,8 @@ pub top_below : (size top k : ℕ) → 2 ^ top ≤ size → size < 2 ^ k → top
 top_below size top k least most =
     elim (cases_lt top k) [
       | inl lt ↦ lt
-      | inr le ↦ let some : 0 < 2 = omega arith in let wide : 2 ^ k ≤ 2 ^ top = pow-le-pow_right some le in absurd (omega (arith, wide))
+      | inr le ↦ let some : 0 < 2 = omega arith in let wide : 2 ^ k ≤ 2 ^ top =
+          pow-le-pow_right some le in absurd (omega (arith, wide))
     ]
 
 pub not_under : (a b : ℕ) → b < a → nat_le a b ≡ false
@@ -43,27 +47,43 @@ Made negative size top sig p =
 stands_made : (negative : Bool) (size top sig p : ℕ) → Made negative size top sig p → 2 ^ 52 ≤ sig
     → top < 32 → sig ≡ size * 2 ^ (52 - top) → StandsFor (with_sign negative size) p
 stands_made negative size top sig p made least few is =
-    let hidden : significand 52 11 p ≡ sig = rw (made.0, made.1) (significand_hidden 52 (1018 + top) (sig - 2 ^ 52) (omega arith) ∙ omega arith) in
+    let hidden : significand 52 11 p ≡ sig =
+    rw (made.0, made.1) (significand_hidden 52 (1018 + top) (sig - 2 ^ 52) (omega arith) ∙
+    omega arith) in
     let powered : power 52 11 p ≡ 1018 + top = rw made.0 (omega arith) in
     let whole : (52 - top) + (1018 + top) ≡ 1070 = omega arith in
-    let parts : 2 ^ (52 - top) * 2 ^ (1018 + top) ≡ 2 ^ 1070 = sym (pow-add 2 (52 - top) (1018 + top)) ∙ ap (λ (n : ℕ). 2 ^ n) whole in
-    let times : 32 * (size * 2 ^ (52 - top) * 2 ^ (1018 + top)) ≡ size * 2 ^ 1075 = omega (arith, ap (λ (n : ℕ). size * n) parts) in
+    let parts : 2 ^ (52 - top) * 2 ^ (1018 + top) ≡ 2 ^ 1070 =
+    sym (pow-add 2 (52 - top) (1018 + top)) ∙ ap (λ (n : ℕ). 2 ^ n) whole in
+    let times : 32 * (size * 2 ^ (52 - top) * 2 ^ (1018 + top)) ≡ size * 2 ^ 1075 =
+    omega (arith, ap (λ (n : ℕ). size * n) parts) in
     record {
       ends = omega (arith, made.0);
-      exact = rw (hidden, powered, made.2, is, times) (sym (with_sign-times negative size (2 ^ 1075)));
+      exact = rw (hidden, powered, made.2, is, times)
+          (sym (with_sign-times negative size (2 ^ 1075)));
     }
 
 pub stands_negative : (size top sig : ℕ) → 2 ^ 52 ≤ sig → sig < 2 * 2 ^ 52 → top < 32
     → sig ≡ size * 2 ^ (52 - top)
-    → StandsFor (with_sign true size) (9223372036854775808 + (1018 + top) * 4503599627370496 + (sig - 4503599627370496))
+    → StandsFor (with_sign true size) (9223372036854775808 + (1018 + top) * 4503599627370496 +
+    (sig - 4503599627370496))
 stands_negative size top sig least most few is =
-    stands_made true size top sig _ (omega arith, omega arith, le-leb (2 ^ 63) (9223372036854775808 + (1018 + top) * 4503599627370496 + (sig - 4503599627370496)) (omega arith)) least few is
+    stands_made true size top sig _ (
+      omega arith,
+      omega arith,
+      le-leb (2 ^ 63) (9223372036854775808 + (1018 + top) * 4503599627370496 +
+          (sig - 4503599627370496)) (omega arith),
+    ) least few is
 
 pub stands_positive : (size top sig : ℕ) → 2 ^ 52 ≤ sig → sig < 2 * 2 ^ 52 → top < 32
     → sig ≡ size * 2 ^ (52 - top)
     → StandsFor (with_sign false size) ((1018 + top) * 4503599627370496 + (sig - 4503599627370496))
 stands_positive size top sig least most few is =
-    stands_made false size top sig _ (omega arith, omega arith, not_under (2 ^ 63) ((1018 + top) * 4503599627370496 + (sig - 4503599627370496)) (omega arith)) least few is
+    stands_made false size top sig _ (
+      omega arith,
+      omega arith,
+      not_under (2 ^ 63) ((1018 + top) * 4503599627370496 + (sig - 4503599627370496))
+          (omega arith),
+    ) least few is
 
 -- the pattern of a number of 32 bits is read as the number again
 pub fixes_again : (n : ℤ) (p : ℕ) → SFits w32 n → StandsFor n p → Fixes p n
@@ -83,7 +103,8 @@ fixes_again n p fits stands = record {
 pub fixes_only : (n m : ℤ) (p : ℕ) → SFits w32 n → StandsFor n p → Fixes p m → m ≡ n
 fixes_only n m p fits stands fixes =
     let again = fixes_again n p fits stands in
-    let same = floor_one fixes.parts.floor again.parts.floor _ (2 ^ 1075) fixes.parts.floored again.parts.floored in
+    let same = floor_one fixes.parts.floor again.parts.floor _ (2 ^ 1075) fixes.parts.floored
+    again.parts.floored in
     fixes.parts.held ∙ ap held same ∙ sym again.parts.held
 
 -- ---- binary32
@@ -91,14 +112,19 @@ fixes_only n m p fits stands fixes =
 pub stands_turn : (a top sig : ℕ) → 2 ^ 23 ≤ sig → sig < 2 * 2 ^ 23 → top < 14
     → sig ≡ a * 45 * 2 ^ (23 - top) → StandsForTurn a ((122 + top) * 8388608 + (sig - 8388608))
 stands_turn a top sig least most few is =
-    let at_exponent : exponent 23 8 ((122 + top) * 8388608 + (sig - 8388608)) ≡ 122 + top = omega arith in
-    let at_fraction : ((122 + top) * 8388608 + (sig - 8388608)) % 2 ^ 23 ≡ sig - 2 ^ 23 = omega arith in
+    let at_exponent : exponent 23 8 ((122 + top) * 8388608 + (sig - 8388608)) ≡ 122 + top =
+    omega arith in
+    let at_fraction : ((122 + top) * 8388608 + (sig - 8388608)) % 2 ^ 23 ≡ sig - 2 ^ 23 =
+    omega arith in
     let at_sign = not_under (2 ^ 31) ((122 + top) * 8388608 + (sig - 8388608)) (omega arith) in
-    let hidden : significand_of 23 (122 + top) (sig - 2 ^ 23) ≡ sig = significand_hidden 23 (122 + top) (sig - 2 ^ 23) (omega arith) ∙ omega arith in
+    let hidden : significand_of 23 (122 + top) (sig - 2 ^ 23) ≡ sig =
+    significand_hidden 23 (122 + top) (sig - 2 ^ 23) (omega arith) ∙ omega arith in
     let powered : max (122 + top) 1 ≡ 122 + top = omega arith in
     let whole : (23 - top) + (122 + top) ≡ 145 = omega arith in
-    let parts : 2 ^ (23 - top) * 2 ^ (122 + top) ≡ 2 ^ 145 = sym (pow-add 2 (23 - top) (122 + top)) ∙ ap (λ (n : ℕ). 2 ^ n) whole in
-    let times : 32 * (a * 45 * 2 ^ (23 - top) * 2 ^ (122 + top)) ≡ a * 45 * 2 ^ 150 = omega (arith, ap (λ (n : ℕ). a * 45 * n) parts) in
+    let parts : 2 ^ (23 - top) * 2 ^ (122 + top) ≡ 2 ^ 145 = sym (pow-add 2 (23 - top) (122 + top))
+    ∙ ap (λ (n : ℕ). 2 ^ n) whole in
+    let times : 32 * (a * 45 * 2 ^ (23 - top) * 2 ^ (122 + top)) ≡ a * 45 * 2 ^ 150 =
+    omega (arith, ap (λ (n : ℕ). a * 45 * n) parts) in
     record {
       ends = omega (arith, at_exponent);
       exact = rw (at_exponent, at_fraction, at_sign, hidden, powered, is, times) refl;
@@ -112,9 +138,12 @@ scaled true s k e = omega (arith, ints, e)
 
 -- 256/360 of the degrees that the pattern of an angle stands for is the angle
 turns_exact : (a p : ℕ) → StandsForTurn a p
-    → with_sign (is_negative 23 8 p) (256 * (significand 23 8 p * 2 ^ power 23 8 p)) ≡ (pos a *ℤ pos (360 * 2 ^ 150))
+    → with_sign (is_negative 23 8 p) (256 * (significand 23 8 p * 2 ^ power 23 8 p)) ≡
+    (pos a *ℤ pos (360 * 2 ^ 150))
 turns_exact a p stands =
-    let top : with_sign (is_negative 23 8 p) (256 * (significand 23 8 p * 2 ^ power 23 8 p)) ≡ pos (8 * (a * 45 * 2 ^ 150)) = scaled (is_negative 23 8 p) (significand 23 8 p * 2 ^ power 23 8 p) (a * 45 * 2 ^ 150) stands.exact in
+    let top : with_sign (is_negative 23 8 p) (256 * (significand 23 8 p * 2 ^ power 23 8 p)) ≡
+    pos (8 * (a * 45 * 2 ^ 150)) = scaled (is_negative 23 8 p) (significand 23 8 p * 2 ^
+    power 23 8 p) (a * 45 * 2 ^ 150) stands.exact in
     let times : 8 * (a * 45 * 2 ^ 150) ≡ a * (360 * 2 ^ 150) = omega arith in
     top ∙ ap pos times
 
@@ -126,11 +155,17 @@ size_is true s k e = omega (arith, ints, e)
 -- the pattern of an angle is read as the angle again
 pub turns_again : (a p : ℕ) → a < 256 → StandsForTurn a p → Turns p a
 turns_again a p fits stands =
-    let size : 32 * (significand 23 8 p * 2 ^ power 23 8 p) ≡ a * 45 * 2 ^ 150 = size_is (is_negative 23 8 p) _ _ stands.exact in
+    let size : 32 * (significand 23 8 p * 2 ^ power 23 8 p) ≡ a * 45 * 2 ^ 150 =
+    size_is (is_negative 23 8 p) _ _ stands.exact in
     record {
       ends = stands.ends;
       small = omega (arith, size);
-      parts = record { floor = pos a; floored = floor_exact (pos a) _ (360 * 2 ^ 150) (omega arith) (turns_exact a p stands); rest = omega (arith, ints) };
+      parts = record {
+        floor = pos a;
+        floored = floor_exact (pos a) _ (360 * 2 ^ 150) (omega arith)
+            (turns_exact a p stands);
+        rest = omega (arith, ints);
+      };
     }
 
 -- and as no other
@@ -146,18 +181,23 @@ rem_is (pos a) d = refl
 rem_is (negsuc a) d = refl
 
 pub turned : (negative : Bool) (size k a : ℕ) → k ≤ 157
-    → a ≡ nat_abs (int_rem_euclid (int_div_euclid (shr_z (with_sign negative (size * 4096)) (2 ^ (157 - k))) (pos 45)) (pos 256))
+    → a ≡ nat_abs
+    (int_rem_euclid (int_div_euclid (shr_z (with_sign negative (size * 4096)) (2 ^ (157 - k)))
+    (pos 45)) (pos 256))
     → TurnsParts negative size k a
 turned negative size k a low is =
     let whole : 157 ≡ k + (157 - k) = omega arith in
-    let parts : 2 ^ 157 ≡ 2 ^ k * 2 ^ (157 - k) = ap (λ (n : ℕ). 2 ^ n) whole ∙ pow-add 2 k (157 - k) in
+    let parts : 2 ^ 157 ≡ 2 ^ k * 2 ^ (157 - k) = ap (λ (n : ℕ). 2 ^ n) whole ∙
+    pow-add 2 k (157 - k) in
     let top : 16 * (256 * (size * 2 ^ k)) ≡ size * 4096 * 2 ^ k = omega arith in
     let bottom : 16 * (360 * 2 ^ 150) ≡ 2 ^ k * (2 ^ (157 - k) * 45) = omega (arith, parts) in
     let some : 0 < 2 ^ (157 - k) = pow_pos (157 - k) in
     let joined = shift_then (with_sign negative (size * 4096)) (2 ^ (157 - k)) 45 in
     record {
       floor = shr_z (with_sign negative (size * 4096)) (2 ^ (157 - k) * 45);
-      floored = shift_floor negative (size * 4096) (2 ^ (157 - k) * 45) (2 ^ k) 16 (256 * (size * 2 ^ k)) (360 * 2 ^ 150) (omega (arith, some)) (pow_pos k) (omega arith) top bottom;
+      floored = shift_floor negative (size * 4096) (2 ^ (157 - k) * 45) (2 ^ k) 16
+          (256 * (size * 2 ^ k)) (360 * 2 ^ 150) (omega (arith, some)) (pow_pos k) (omega arith) top
+          bottom;
       rest = ap pos is ∙ rem_is _ (pos 256) ∙ ap (λ (z : ℤ). int_rem_euclid z (pos 256)) joined;
     }
 

@@ -14,7 +14,8 @@ fn turn(negative: bool, significand: u64, power: u64) -> u8
 }
 
 /// The angle of so many degrees as a binary32 pattern, in 1/256 turns, rounded down and without
-/// whole turns. None exactly where all exponent bits are 1 or the number has a size of 2^31 or more.
+/// whole turns. None exactly where all exponent bits are 1 or the number has a size of 2^31 or
+/// more.
 pub fn angle(pattern: u32) -> Option<u8>
     ensures none { IsNone result ↔ IsVast pattern }
     ensures some { IfSome result (λ a. Turns pattern a) }

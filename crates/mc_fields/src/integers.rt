@@ -57,7 +57,8 @@ pub fn read_bool(bytes: &[u8], at: usize) -> Result<(bool, usize), FieldFault>
     placed(bytes, value, &cursor)
 }
 
-/// Reads a byte with a sign at an offset: its value and the offset after it. `Short` where none is left.
+/// Reads a byte with a sign at an offset: its value and the offset after it. `Short` where none is
+/// left.
 pub fn read_i8(bytes: &[u8], at: usize) -> Result<(i8, usize), FieldFault>
     requires { at ≤ length bytes.now }
     ensures { ReadsFixed (signed_spells w8) 1 bytes.now at result }

@@ -91,8 +91,8 @@ fn text_at(alloc: Global, bytes: &[u8], at: usize, n: usize) -> Result<(Text, us
 ///
 /// The faults of its length's VarInt come first. After them, in order and all at the text's first
 /// byte: `BadLength` where the length is negative, `TooLong` where it is above `4 * n`, `Short`
-/// where fewer bytes are left, `BadText` where they are not UTF-8, and `TooLong` where they are more
-/// than `n` code points.
+/// where fewer bytes are left, `BadText` where they are not UTF-8, and `TooLong` where they are
+/// more than `n` code points.
 pub fn read_text(
     alloc: Global,
     bytes: &[u8],
@@ -106,7 +106,8 @@ pub fn read_text(
     ensures only { (text : List ℕ) (end : ℕ) → SpelledAt (SpellsText n text) bytes.now at end →
         PlacedGives (λ read. read) result (Ok (text, end)) }
     // Which fault it is.
-    ensures exact { PlacedGives (λ read. read) result (placed bytes.now (text_read n (drop at bytes.now))) }
+    ensures exact { PlacedGives (λ read. read) result
+        (placed bytes.now (text_read n (drop at bytes.now))) }
 {
     text_at(alloc, bytes, at, n)
 }

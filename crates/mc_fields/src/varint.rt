@@ -16,7 +16,8 @@ pub const VARINT_MAX: usize = 5;
 /// The sum of the groups of seven bits at the front of some bytes, and how many bytes they take.
 fn sum_groups(bytes: &[u8], room: usize) -> Result<(u64, usize), Kind>
     requires { room ≤ 5 }
-    ensures gives { Yields (λ sum. (sum.0, drop sum.1 bytes.now)) result (groups_read room bytes.now) }
+    ensures gives { Yields (λ sum. (sum.0, drop sum.1 bytes.now)) result
+        (groups_read room bytes.now) }
     ensures within { IfOk result (λ sum. sum.1 ≤ length bytes.now) }
     ensures fits { IfOk result (λ sum. sum.0 < 2 ^ 35) }
 {
@@ -71,10 +72,12 @@ pub fn take_varint(cursor: &mut Cursor<'_>) -> Result<i32, Stop>
 pub fn read_varint(bytes: &[u8], at: usize) -> Result<(i32, usize), FieldFault>
     requires { at ≤ length bytes.now }
     ensures found { IfOk result (λ read. SpelledAt (SpellsVarint 5 read.0) bytes.now at read.1) }
-    ensures only { (value : ℤ) (end : ℕ) → SpelledAt (SpellsVarint 5 value) bytes.now at end → result ≡ Ok (value, end) }
+    ensures only { (value : ℤ) (end : ℕ) → SpelledAt (SpellsVarint 5 value) bytes.now at end →
+        result ≡ Ok (value, end) }
     ensures long { IsErrOf result (fault_at Kind.LongVarInt at) ↔ GoesOn 5 (drop at bytes.now) }
     ensures short { IsErrOf result (fault_at Kind.Short at) ↔ IsCut 5 (drop at bytes.now) }
-    ensures faults { IfErr result (λ fault. (fault ≡ fault_at Kind.LongVarInt at) ⊎ (fault ≡ fault_at Kind.Short at)) }
+    ensures faults { IfErr result (λ fault. (fault ≡ fault_at Kind.LongVarInt at) ⊎
+        (fault ≡ fault_at Kind.Short at)) }
 {
     let mut cursor = Cursor::at(bytes, at);
     let value = take_varint(&mut cursor);

@@ -1,12 +1,15 @@
 -- What stands at the front of the held bytes, from what reading a frame there gave.
-use Rattle.std.proofs.Common.{◌≡◌, ℕ, ◌+◌, ◌-◌, ◌^◌, ◌<◌, ◌≤◌, List, ◌++◌, length, take, drop, Ok, Err, refl, sym, subst, ap, ◌∙◌, arith}
+use Rattle.std.proofs.Common.{◌≡◌, ℕ, ◌+◌, ◌-◌, ◌^◌, ◌<◌, ◌≤◌, List, ◌++◌, length, take, drop, Ok}
+use Rattle.std.proofs.Common.{Err, refl, sym, subst, ap, ◌∙◌, arith}
 use Rattle.std.specs.Prelude.{Option, Some, None, min}
-use Rattle.std.proofs.lemmas.List.{length-append, length-take-le, take_at, take-append-drop, drop-drop}
+use Rattle.std.proofs.lemmas.List.{length-append, length-take-le, take_at, take-append-drop}
+use Rattle.std.proofs.lemmas.List.{drop-drop}
 use Rattle.mc_nbt.specs.declared.fault.Stop.{Stop}
 use Rattle.mc_nbt.specs.Reading.{IsBytes}
 use Rattle.mc_frame.specs.declared.fault.FrameFault.{FrameFault}
 use Rattle.mc_frame.specs.Faults.{fault_of}
-use Rattle.mc_frame.specs.Frame.{SpellsFrame, frame_read, frame_found, frame_fit}
+use Rattle.mc_frame.specs.Frame.{SpellsFrame, frame_read}
+use Rattle.mc_frame.specs.FrameLaws.{frame_found, frame_fit}
 use Rattle.mc_frame.specs.Cut.{IsPart, kept_count, Ends}
 use Rattle.mc_frame.specs.Held.{Splitting}
 use Rattle.mc_frame.specs.Splitting.{TakesFrame, held_max, room_for}
@@ -15,49 +18,84 @@ use Rattle.mc_frame.proofs.Stops.{frame_stopped}
 use Rattle.mc_frame.proofs.Cuts.{stopped_ends, ends_no_frame, ends_once, one_frame}
 
 -- the frame that was read is the bytes that are gone
-pub read_front : (bytes payload rest : List ℕ) → IsBytes bytes → frame_read bytes ≡ Ok (payload, rest) → (length rest ≤ length bytes) × SpellsFrame payload (take (length bytes - length rest) bytes)
+pub read_front : (bytes payload rest : List ℕ) → IsBytes bytes → frame_read bytes ≡
+    Ok (payload, rest) → (length rest ≤ length bytes) ×
+    SpellsFrame payload (take (length bytes - length rest) bytes)
 read_front bytes payload rest fits is =
     let f = frame_found bytes (payload, rest) fits is in
     let all = ap length f.parts in
-    let len : length f.front ≡ length bytes - length rest = omega (arith, all, length-append f.front rest) in
-    let front : f.front ≡ take (length bytes - length rest) bytes = sym (take_at f.front rest (length bytes - length rest) len) ∙ ap (take (length bytes - length rest)) (sym f.parts) in
+    let len : length f.front ≡ length bytes - length rest =
+    omega (arith, all, length-append f.front rest) in
+    let front : f.front ≡ take (length bytes - length rest) bytes =
+    sym (take_at f.front rest (length bytes - length rest) len) ∙
+    ap (take (length bytes - length rest)) (sym f.parts) in
     (omega (arith, all, length-append f.front rest), subst (SpellsFrame payload) front f.spelled)
 
 -- where reading stopped, the bytes end so
-pub read_ends : (bytes : List ℕ) (stop : Stop) (count : ℕ) → count < 2 ^ 64 → IsBytes bytes → frame_read bytes ≡ Err stop → Ends count bytes (fault_of stop.kind count)
-read_ends bytes stop count small fits is = stopped_ends stop.kind count count bytes (omega (arith, small)) (frame_stopped bytes stop fits is)
+pub read_ends : (bytes : List ℕ) (stop : Stop) (count : ℕ) → count < 2 ^ 64 → IsBytes bytes →
+    frame_read bytes ≡ Err stop → Ends count bytes (fault_of stop.kind count)
+read_ends bytes stop count small fits is = stopped_ends stop.kind count count bytes
+    (omega (arith, small)) (frame_stopped bytes stop fits is)
 
 -- the held bytes, from those of the buffer
-pub held_is : (now : Splitting) (held : List ℕ) (before : ℕ) (fault : Option FrameFault) (P : ℕ → List ℕ → Type 0) → ◌≡◌ {A = Splitting} (record { held = held; before = before; fault = fault }) now → P before held → P now.before now.held
-held_is now held before fault P is p = let Q : Splitting → Type 0 = λ s. P s.before s.held in subst Q is p
+pub held_is : (now : Splitting) (held : List ℕ) (before : ℕ) (fault : Option FrameFault) (P : ℕ →
+    List ℕ → Type 0) → ◌≡◌ {A = Splitting} (record { held = held; before = before; fault = fault })
+    now → P before held → P now.before now.held
+held_is now held before fault P is p = let Q : Splitting → Type 0 = λ s. P s.before s.held in
+    subst Q is p
 
 -- the fault that was met is still that of the held bytes
-pub still_met : (held : List ℕ) (before : ℕ) (met : Option FrameFault) (fault : FrameFault) → met ≡ Some fault → IsMet before held met → Ends before held (Some fault)
-still_met held before met fault is m = let P : Option FrameFault → Type 0 = λ f. IsMet before held f in subst P is m
+pub still_met : (held : List ℕ) (before : ℕ) (met : Option FrameFault) (fault : FrameFault) →
+    met ≡ Some fault → IsMet before held met → Ends before held (Some fault)
+still_met held before met fault is m = let P : Option FrameFault → Type 0 =
+    λ f. IsMet before held f in subst P is m
 
 -- where the held bytes end so, no frame stands at their front
-pub no_frame_where : (count : ℕ) (held payload front rest : List ℕ) (fault : Option FrameFault) → Ends count held fault → SpellsFrame payload front → held ≡ front ++ rest → ⊥
+pub no_frame_where : (count : ℕ) (held payload front rest : List ℕ) (fault : Option FrameFault) →
+    Ends count held fault → SpellsFrame payload front → held ≡ front ++ rest → ⊥
 no_frame_where count held payload front rest fault ends s is =
     let P : List ℕ → Type 0 = λ t. Ends count t fault in
     ends_no_frame count fault payload front rest s (subst P is ends)
 
 -- where a frame of so many bytes does, they don't end so
-pub no_end_where : (count : ℕ) (held payload : List ℕ) (len : ℕ) (fault : Option FrameFault) → SpellsFrame payload (take len held) → Ends count held fault → ⊥
-no_end_where count held payload len fault s ends = no_frame_where count held payload (take len held) (drop len held) fault ends s (sym (take-append-drop len held))
+pub no_end_where : (count : ℕ) (held payload : List ℕ) (len : ℕ) (fault : Option FrameFault) →
+    SpellsFrame payload (take len held) → Ends count held fault → ⊥
+no_end_where count held payload len fault s ends = no_frame_where count held payload (take len held)
+    (drop len held) fault ends s (sym (take-append-drop len held))
 
 -- and there is one such frame
-pub same_payload : (held payload : List ℕ) (len : ℕ) (payload' front rest : List ℕ) → SpellsFrame payload (take len held) → SpellsFrame payload' front → held ≡ front ++ rest → payload ≡ payload'
-same_payload held payload len payload' front rest s s' is = (one_frame payload (take len held) (drop len held) payload' front rest s s' (take-append-drop len held ∙ is)).0
+pub same_payload : (held payload : List ℕ) (len : ℕ) (payload' front rest : List ℕ) →
+    SpellsFrame payload (take len held) → SpellsFrame payload' front → held ≡ front ++ rest →
+    payload ≡ payload'
+same_payload held payload len payload' front rest s s' is =
+    (one_frame payload (take len held) (drop len held) payload' front rest s s'
+    (take-append-drop len held ∙ is)).0
 
 -- a frame goes: the place rises by its bytes
-pub frame_goes : (now : Splitting) (buffer payload : List ℕ) (start len before after : ℕ) (fault : Option FrameFault) → ◌≡◌ {A = Splitting} (record { held = drop start buffer; before = before; fault = fault }) now → len ≤ length (drop start buffer) → SpellsFrame payload (take len (drop start buffer)) → after ≡ kept_count (before + len) → TakesFrame now payload (record { held = drop (start + len) buffer; before = after; fault = fault })
+pub frame_goes : (now : Splitting) (buffer payload : List ℕ) (start len before after : ℕ)
+    (fault : Option FrameFault) →
+    ◌≡◌ {A = Splitting} (record { held = drop start buffer; before = before; fault = fault }) now →
+    len ≤ length (drop start buffer) → SpellsFrame payload (take len (drop start buffer)) →
+    after ≡ kept_count (before + len) →
+    TakesFrame now payload (record {
+      held = drop (start + len) buffer;
+      before = after;
+      fault = fault;
+    })
 frame_goes now buffer payload start len before after fault is within s counted =
-    let P : Splitting → Type 0 = λ t. TakesFrame t payload (record { held = drop (start + len) buffer; before = after; fault = fault }) in
-    let size : length (take len (drop start buffer)) ≡ len = length-take-le len (drop start buffer) within in
+    let P : Splitting → Type 0 =
+    λ t. TakesFrame t payload (record {
+      held = drop (start + len) buffer;
+      before = after;
+      fault = fault;
+    }) in
+    let size : length (take len (drop start buffer)) ≡ len = length-take-le len (drop start buffer)
+    within in
     subst P is (record {
       front = take len (drop start buffer);
       spelled = s;
-      held = sym (take-append-drop len (drop start buffer)) ∙ ap (λ (t : List ℕ). take len (drop start buffer) ++ t) (drop-drop len start buffer);
+      held = sym (take-append-drop len (drop start buffer)) ∙
+          ap (λ (t : List ℕ). take len (drop start buffer) ++ t) (drop-drop len start buffer);
       before = rw size counted;
       fault = refl;
     })
@@ -65,34 +103,64 @@ frame_goes now buffer payload start len before after fault is within s counted =
 -- ---- the same of what the splitter shows
 
 -- what the code holds is what is shown
-pub record Shown (now : Splitting) (buffer deref held : List ℕ) (start before : ℕ) (fault : Option FrameFault) : Type 0 where
-  pub view : ◌≡◌ {A = Splitting} (record { held = drop start buffer; before = before; fault = fault }) now
+pub record Shown (now : Splitting) (buffer deref held : List ℕ) (start before : ℕ)
+    (fault : Option FrameFault) : Type 0 where
+  pub view : ◌≡◌ {A = Splitting} (record {
+    held = drop start buffer;
+    before = before;
+    fault = fault;
+  }) now
   pub borrowed : deref ≡ buffer
   pub split : held ≡ drop start deref
 
-shown_held : (now : Splitting) (buffer deref held : List ℕ) (start before : ℕ) (fault : Option FrameFault) → Shown now buffer deref held start before fault → held ≡ now.held
-shown_held now buffer deref held start before fault s = s.split ∙ ap (λ (t : List ℕ). drop start t) s.borrowed ∙ ap (λ (t : Splitting). t.held) s.view
+shown_held : (now : Splitting) (buffer deref held : List ℕ) (start before : ℕ)
+    (fault : Option FrameFault) → Shown now buffer deref held start before fault → held ≡ now.held
+shown_held now buffer deref held start before fault s = s.split ∙ ap (λ (t : List ℕ). drop start t)
+    s.borrowed ∙ ap (λ (t : Splitting). t.held) s.view
 
-pub met_ends : (now : Splitting) (held : List ℕ) (before : ℕ) (met : Option FrameFault) (fault : FrameFault) → ◌≡◌ {A = Splitting} (record { held = held; before = before; fault = met }) now → IsMet before held met → met ≡ Some fault → Ends now.before now.held (Some fault)
-met_ends now held before met fault view m is = held_is now held before met (λ b h. Ends b h (Some fault)) view (still_met held before met fault is m)
+pub met_ends : (now : Splitting) (held : List ℕ) (before : ℕ) (met : Option FrameFault)
+    (fault : FrameFault) → ◌≡◌ {A = Splitting} (record {
+      held = held;
+      before = before;
+      fault = met;
+    }) now → IsMet before held met → met ≡ Some fault →
+    Ends now.before now.held (Some fault)
+met_ends now held before met fault view m is =
+    held_is now held before met (λ b h. Ends b h (Some fault)) view (still_met held before met fault
+    is m)
 
-pub shown_ends : (now : Splitting) (buffer deref held : List ℕ) (start before : ℕ) (fault ends : Option FrameFault) → Shown now buffer deref held start before fault → Ends before held ends → Ends now.before now.held ends
+pub shown_ends : (now : Splitting) (buffer deref held : List ℕ) (start before : ℕ)
+    (fault ends : Option FrameFault) → Shown now buffer deref held start before fault →
+    Ends before held ends → Ends now.before now.held ends
 shown_ends now buffer deref held start before fault ends s e =
     let P : List ℕ → Type 0 = λ t. Ends before t ends in
     let Q : ℕ → Type 0 = λ n. Ends n now.held ends in
-    subst Q (ap (λ (t : Splitting). t.before) s.view) (subst P (shown_held now buffer deref held start before fault s) e)
+    subst Q (ap (λ (t : Splitting). t.before) s.view)
+    (subst P (shown_held now buffer deref held start before fault s) e)
 
-pub shown_frame : (now : Splitting) (buffer deref held : List ℕ) (start before : ℕ) (fault : Option FrameFault) (payload : List ℕ) (len : ℕ) → Shown now buffer deref held start before fault → SpellsFrame payload (take len held) → SpellsFrame payload (take len now.held)
+pub shown_frame : (now : Splitting) (buffer deref held : List ℕ) (start before : ℕ)
+    (fault : Option FrameFault) (payload : List ℕ) (len : ℕ) →
+    Shown now buffer deref held start before fault → SpellsFrame payload (take len held) →
+    SpellsFrame payload (take len now.held)
 shown_frame now buffer deref held start before fault payload len s f =
     let P : List ℕ → Type 0 = λ t. SpellsFrame payload (take len t) in
     subst P (shown_held now buffer deref held start before fault s) f
 
-pub shown_goes : (now : Splitting) (buffer deref held : List ℕ) (start before : ℕ) (fault : Option FrameFault) (payload : List ℕ) (len after : ℕ) → Shown now buffer deref held start before fault → len ≤ length held → SpellsFrame payload (take len held) → after ≡ kept_count (before + len) → TakesFrame now payload (record { held = drop (start + len) buffer; before = after; fault = fault })
+pub shown_goes : (now : Splitting) (buffer deref held : List ℕ) (start before : ℕ)
+    (fault : Option FrameFault) (payload : List ℕ) (len after : ℕ) →
+    Shown now buffer deref held start before fault → len ≤ length held →
+    SpellsFrame payload (take len held) → after ≡ kept_count (before + len) →
+    TakesFrame now payload (record {
+      held = drop (start + len) buffer;
+      before = after;
+      fault = fault;
+    })
 shown_goes now buffer deref held start before fault payload len after s within f counted =
     let same : held ≡ drop start buffer = s.split ∙ ap (λ (t : List ℕ). drop start t) s.borrowed in
     let P : List ℕ → Type 0 = λ t. SpellsFrame payload (take len t) in
     let Q : List ℕ → Type 0 = λ t. len ≤ length t in
-    frame_goes now buffer payload start len before after fault s.view (subst Q same within) (subst P same f) counted
+    frame_goes now buffer payload start len before after fault s.view (subst Q same within)
+    (subst P same f) counted
 
 -- ---- an end has one reason
 
@@ -102,10 +170,12 @@ some_is a b e = cc
 none_is_not : (a : FrameFault) → ◌≡◌ {A = Option FrameFault} None (Some a) → ⊥
 none_is_not a e = cc
 
-pub one_fault : (count : ℕ) (held : List ℕ) (a b : FrameFault) → Ends count held (Some a) → Ends count held (Some b) → a ≡ b
+pub one_fault : (count : ℕ) (held : List ℕ) (a b : FrameFault) → Ends count held (Some a) →
+    Ends count held (Some b) → a ≡ b
 one_fault count held a b e f = some_is a b (ends_once count held (Some a) (Some b) e f)
 
-pub more_or_fault : (count : ℕ) (held : List ℕ) (a : FrameFault) → Ends count held None → Ends count held (Some a) → ⊥
+pub more_or_fault : (count : ℕ) (held : List ℕ) (a : FrameFault) → Ends count held None →
+    Ends count held (Some a) → ⊥
 more_or_fault count held a e f = none_is_not a (ends_once count held None (Some a) e f)
 
 -- ---- a part of a frame leaves room
@@ -115,8 +185,20 @@ part_few held part =
     let size = part.spelled.sized.within in
     let payload = (frame_fit part.payload (held ++ part.missing) part.spelled).counted in
     let all = ap length part.spelled.parts in
-    omega (arith, size, payload, all, part.some, length-append held part.missing, length-append part.spelled.size part.payload)
+    omega (
+      arith,
+      size,
+      payload,
+      all,
+      part.some,
+      length-append held part.missing,
+      length-append part.spelled.size part.payload,
+    )
 
-pub part_is_fed : (held piece : List ℕ) (fault : Option FrameFault) (room count : ℕ) → room ≡ room_for fault held → count ≡ min (length piece) room → IsPart held → fault ≡ None → 0 < length piece → 0 < count
-part_is_fed held piece (Some fault) room count has is part none some = absurd (none_is_not fault (sym none))
-part_is_fed held piece None room count has is part none some = omega (arith, has, is, some, part_few held part)
+pub part_is_fed : (held piece : List ℕ) (fault : Option FrameFault) (room count : ℕ) →
+    room ≡ room_for fault held → count ≡ min (length piece) room → IsPart held → fault ≡ None →
+    0 < length piece → 0 < count
+part_is_fed held piece (Some fault) room count has is part none some =
+    absurd (none_is_not fault (sym none))
+part_is_fed held piece None room count has is part none some =
+    omega (arith, has, is, some, part_few held part)

@@ -12,8 +12,8 @@ use mc_nbt::{Cursor, Kind, NoMemory, Stop, write_octets};
 /// The most bytes that a frame's length has.
 const LENGTH_MAX: usize = 3;
 
-/// Takes a frame and gives its payload, without copying it. `BadLength` where its length is not 1 at
-/// least.
+/// Takes a frame and gives its payload, without copying it. `BadLength` where its length is not 1
+/// at least.
 #[tactic(auto, unfolding(crate::specs::Frame::frame_read))]
 fn take_frame<'a>(cursor: &mut Cursor<'a>) -> Result<&'a [u8], Stop>
     ensures { Yields (λ payload. (payload.now, cursor.new)) result (frame_read cursor.old) }
@@ -38,8 +38,8 @@ fn fault_of(kind: Kind, count: u64) -> Option<FrameFault>
     }
 }
 
-/// The payload of the frame at the front of some bytes and how many bytes the frame has, or why there
-/// is no whole frame, where `count` bytes of the stream stand before.
+/// The payload of the frame at the front of some bytes and how many bytes the frame has, or why
+/// there is no whole frame, where `count` bytes of the stream stand before.
 pub fn front_frame(bytes: &[u8], count: u64) -> Result<(&[u8], usize), Option<FrameFault>>
     ensures within { IfOk result (λ frame. frame.1 ≤ length bytes.now) }
     ensures found { IfOk result (λ frame. SpellsFrame frame.0.now (take frame.1 bytes.now)) }
@@ -52,9 +52,9 @@ pub fn front_frame(bytes: &[u8], count: u64) -> Result<(&[u8], usize), Option<Fr
     }
 }
 
-/// Appends a frame with this payload of 1 to 2,097,151 bytes, its length as a shortest VarInt. Without
-/// memory `out` is as before.
-#[tactic(auto, using(crate::specs::Frame::frame_spelled), unfolding(crate::specs::Frame::frame_spelling))]
+/// Appends a frame with this payload of 1 to 2,097,151 bytes, its length as a shortest VarInt.
+/// Without memory `out` is as before.
+#[tactic(auto, using(crate::specs::FrameLaws::frame_spelled), unfolding(crate::specs::Frame::frame_spelling))]
 pub fn write_frame(payload: &[u8], out: &mut Vec<u8>) -> Result<(), NoMemory>
     requires { IsPayload payload.now }
     ensures ok { OnOk result (out.new.items ≡ out.old.items ++ frame_spelling payload.now) }

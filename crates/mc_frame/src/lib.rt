@@ -1,9 +1,9 @@
 //! A stream cut into frames, whatever the pieces in which it comes, and the bytes that wait to be
 //! sent.
 //!
-//! Stands on the VarInts of `mc_fields` and the shared buffers of the kit's `bytes`. Its one contract:
-//! there is exactly one cut of every stream, and a `Splitter` gives its frames, and its fault, however
-//! the bytes were fed; an `Outbox` is the list of the bytes that it holds.
+//! Stands on the VarInts of `mc_fields` and the shared buffers of the kit's `bytes`. Its one
+//! contract: there is exactly one cut of every stream, and a `Splitter` gives its frames, and its
+//! fault, however the bytes were fed; an `Outbox` is the list of the bytes that it holds.
 #![tactic(auto)]
 
 mod fault;

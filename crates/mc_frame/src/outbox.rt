@@ -12,8 +12,8 @@ pub const OUTBOX_MAX: usize = 67_108_864;
 
 /// The bytes that wait to be sent, at most `OUTBOX_MAX` of them. Contracts see them as one list.
 ///
-/// It keeps the pieces as they were pushed, and how many bytes of the first are gone, so it moves no
-/// bytes.
+/// It keeps the pieces as they were pushed, and how many bytes of the first are gone, so it moves
+/// no bytes.
 #[derive(Drop)]
 pub struct Outbox {
     pieces: VecDeque<Bytes>,
@@ -33,8 +33,8 @@ impl Model for Outbox {
     ghost invariant = { λ o. IsKeptOutbox o.pieces.items o.at o.len };
 }
 
-/// Drops the pieces that lie before a place in all of them, and gives the place in the first that is
-/// left.
+/// Drops the pieces that lie before a place in all of them, and gives the place in the first that
+/// is left.
 fn drop_before(pieces: &mut VecDeque<Bytes>, place: usize) -> usize
     requires within { place ≤ length (joined pieces.old.items) }
     requires pieces_fit { ArePieces pieces.old.items }

@@ -14,8 +14,8 @@ use std::marker::Model;
 /// How many bytes a splitter holds at most: those of the longest frame.
 pub const HELD_MAX: usize = 2_097_154;
 
-/// Cuts a stream into frames, whatever the pieces in which it comes. Contracts see the bytes that it
-/// holds, how many of the stream stand before them, and the fault that it met.
+/// Cuts a stream into frames, whatever the pieces in which it comes. Contracts see the bytes that
+/// it holds, how many of the stream stand before them, and the fault that it met.
 ///
 /// The bytes stand in one buffer, and a place in it rises from frame to frame. The held bytes are
 /// moved to the front only where at least as many have gone, so a stream costs time in its length.
@@ -35,7 +35,11 @@ impl Model for Splitter {
 
     ghost use Rattle.mc_frame.specs.Kept.{IsKeptSplitter};
 
-    ghost view = { λ s. record { held = drop s.start s.buffer.items; before = s.before; fault = s.fault } };
+    ghost view = { λ s. record {
+      held = drop s.start s.buffer.items;
+      before = s.before;
+      fault = s.fault;
+    } };
 
     ghost invariant = { λ s. IsKeptSplitter s.buffer.items s.start s.before s.fault };
 }
@@ -96,12 +100,13 @@ impl Splitter {
         }
     }
 
-    /// Takes the first bytes of a piece, at most so many that 2,097,154 are held, and says how many.
-    /// After `Take::Bad` it takes none.
+    /// Takes the first bytes of a piece, at most so many that 2,097,154 are held, and says how
+    /// many. After `Take::Bad` it takes none.
     pub fn feed(&mut self, piece: &[u8]) -> Result<usize, NoMemory>
         ensures fed { IfOk result (λ count. Feeds self.old piece.now count self.new) }
         // After `Take::More` a piece is never refused whole.
-        ensures some { IsPart self.old.held → self.old.fault ≡ None → 0 < length piece.now → IfOk result (λ count. 0 < count) }
+        ensures some { IsPart self.old.held → self.old.fault ≡ None → 0 < length piece.now →
+            IfOk result (λ count. 0 < count) }
         ensures bounded { length self.new.held ≤ held_max }
         ensures err { OnErr result (self.new ≡ self.old) }
     {
@@ -111,16 +116,18 @@ impl Splitter {
         Ok(count)
     }
 
-    /// Takes the frame at the front of the held bytes, or says why there is none: `More` exactly where
-    /// they are a part of a frame, `Bad` exactly where no frame begins so, and for good.
+    /// Takes the frame at the front of the held bytes, or says why there is none: `More` exactly
+    /// where they are a part of a frame, `Bad` exactly where no frame begins so, and for good.
     pub fn take(&mut self) -> Result<Take, NoMemory>
         // What it answers is so, by the definition of a cut.
         ensures takes { IfOk result (λ answer. Takes self.old answer self.new) }
         // What is so, it answers.
-        ensures frame { (payload front rest : List ℕ) → SpellsFrame payload front → self.old.held ≡ front ++ rest →
+        ensures frame { (payload front rest : List ℕ) → SpellsFrame payload front → self.old.held ≡
+            front ++ rest →
             IfOk result (λ answer. answer ≡ Take.Frame payload) }
         ensures more { IsPart self.old.held → result ≡ Ok Take.More }
-        ensures bad { (fault : FrameFault) → Ends self.old.before self.old.held (Some fault) → result ≡ Ok (Take.Bad fault) }
+        ensures bad { (fault : FrameFault) → Ends self.old.before self.old.held (Some fault) →
+            result ≡ Ok (Take.Bad fault) }
         ensures err { OnErr result (self.new ≡ self.old) }
     {
         if let Some(fault) = self.fault {

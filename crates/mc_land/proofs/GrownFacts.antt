@@ -1,40 +1,60 @@
 -- A column that grows layer by layer is the terrain's own.
-use Rattle.std.proofs.Common.{◌≡◌, ℕ, zero, suc, ◌+◌, ◌*◌, ◌-◌, ◌/◌, ◌%◌, ◌<◌, ◌≤◌, ◌&&◌, nat_lt, nat_le, eqb, Bool, true, false, cond, List, [], ◌∷◌, ◌++◌, length, map, get_or, take, drop, replicate, refl, sym, subst, ap, ◌∙◌, arith, inl, inr}
+use Rattle.std.proofs.Common.{◌≡◌, ℕ, zero, suc, ◌+◌, ◌*◌, ◌-◌, ◌/◌, ◌%◌, ◌<◌, ◌≤◌, ◌&&◌, nat_lt}
+use Rattle.std.proofs.Common.{nat_le, eqb, Bool, true, false, cond, List, [], ◌∷◌, ◌++◌, length}
+use Rattle.std.proofs.Common.{map, get_or, take, drop, replicate, refl, sym, subst, ap, ◌∙◌, arith}
+use Rattle.std.proofs.Common.{inl, inr}
 use Rattle.std.proofs.lemmas.Int.{ints}
-use Rattle.std.proofs.lemmas.List.{ext_get_or, map-append, length-append, length-take, length-drop, length-replicate, get_or-take, get_or-drop, get_or_append_left, get_or-append_right, get_or_push, take_all}
+use Rattle.std.proofs.lemmas.List.{ext_get_or, map-append, length-append, length-take, length-drop}
+use Rattle.std.proofs.lemmas.List.{length-replicate, get_or-take, get_or-drop, get_or_append_left}
+use Rattle.std.proofs.lemmas.List.{get_or-append_right, get_or_push, take_all}
 use Rattle.std.proofs.lemmas.List.FromFn.{get_or-map-range_with_len, length-map-range_with_len}
 use Rattle.std.proofs.lemmas.List.Sums.{sum_by-cons, sum_by-append}
-use Rattle.std.proofs.lemmas.Bool.{cases_eq, cases_lt, eq-eqb, ne_eqb, lt-ltb, le-ltb, le-leb, lt-leb}
+use Rattle.std.proofs.lemmas.Bool.{cases_eq, cases_lt, eq-eqb, ne_eqb, lt-ltb, le-ltb, le-leb}
+use Rattle.std.proofs.lemmas.Bool.{lt-leb}
 use Rattle.std.specs.List.{range_with_len, sum_by}
-use Rattle.mc_column.specs.Sizes.{cells, section_cells, section_count, squares, squares-is, cells-is, section_cells-is, section_count-is}
+use Rattle.mc_column.specs.Sizes.{cells, section_cells, section_count, squares}
+use Rattle.mc_column.specs.SizesLaws.{squares-is}
+use Rattle.mc_column.specs.SizesLaws.{cells-is, section_cells-is, section_count-is}
 use Rattle.mc_column.specs.Cells.{ColumnValue, with_section}
 use Rattle.mc_column.specs.Kept.{block_of, blocks_in}
 use Rattle.mc_column.proofs.KeptFacts.{air_counted, get_or-zeros}
 use Rattle.mc_land.specs.declared.terrain.Terrain.{Terrain}
 use Rattle.mc_land.specs.declared.terrain.Terrain.TheVariants.{Flat, Hills, Isle}
 use Rattle.mc_land.specs.Places.{Place, x_of, y_of, z_of}
-use Rattle.mc_land.specs.Terrain.{flat_id, hills_biome, hills_id, height, isle_id, is_within_16, terrain_biome}
+use Rattle.mc_land.specs.Terrain.{flat_id, hills_biome, hills_id, height, isle_id, is_within_16}
+use Rattle.mc_land.specs.Terrain.{terrain_biome}
 use Rattle.mc_land.specs.Land.{terrain_at, biomes_of}
 use Rattle.mc_land.specs.Grown.{own_column, x_at, z_at}
-use Rattle.mc_land.specs.GrownCode.{AppendsLayer, AreTops, IsGrown, fills, low_of, lowest, own_section, reach_in}
+use Rattle.mc_land.specs.GrownCode.{AppendsLayer, AreTops, IsGrown, fills, low_of, lowest}
+use Rattle.mc_land.specs.GrownCode.{own_section, reach_in}
 use lib.IntN.{ℤ, pos, negsuc, ◌+ℤ◌, ◌*ℤ◌}
 use lib.Signed.{◌≤ℤ◌, ◌<ℤ◌}
 
 -- a list that is known at each place
-pub listed_by : (f : ℕ → ℕ) (n : ℕ) (xs : List ℕ) → length xs ≡ n → ((k : ℕ) → k < n → get_or xs k 0 ≡ f k) → xs ≡ map f (range_with_len 0 n)
+pub listed_by : (f : ℕ → ℕ) (n : ℕ) (xs : List ℕ) → length xs ≡ n →
+    ((k : ℕ) → k < n → get_or xs k 0 ≡ f k) → xs ≡ map f (range_with_len 0 n)
 listed_by f n xs len each =
-    ext_get_or 0 xs (map f (range_with_len 0 n)) (len ∙ sym (length-map-range_with_len f 0 n)) (λ k lt. each k (omega (arith, len)) ∙ sym (get_or-map-range_with_len f 0 n k k 0 (omega (arith, len)) (omega arith)))
+    ext_get_or 0 xs (map f (range_with_len 0 n)) (len ∙ sym (length-map-range_with_len f 0 n))
+    (λ k lt. each k (omega (arith, len)) ∙
+    sym (get_or-map-range_with_len f 0 n k k 0 (omega (arith, len)) (omega arith)))
 
 -- ---- layers
 
-layer_same : (old new : List ℕ) (f g : ℕ → ℕ) → AppendsLayer old new f → ((i : ℕ) → i < squares → f i ≡ g i) → AppendsLayer old new g
-layer_same old new f g layer same = record { len = layer.len; kept = layer.kept; layer = λ i lt. layer.layer i lt ∙ same i lt }
+layer_same : (old new : List ℕ) (f g : ℕ → ℕ) → AppendsLayer old new f →
+    ((i : ℕ) → i < squares → f i ≡ g i) → AppendsLayer old new g
+layer_same old new f g layer same = record {
+  len = layer.len;
+  kept = layer.kept;
+  layer = λ i lt. layer.layer i lt ∙ same i lt;
+}
 
 layer_y : (place : Place) (y i : ℕ) → i < squares → y_of (place, y * squares + i) ≡ y
-layer_y place y i lt = let small : i < 256 = omega (arith, squares-is) in rw squares-is (omega arith)
+layer_y place y i lt = let small : i < 256 = omega (arith, squares-is) in
+    rw squares-is (omega arith)
 
 layer_x : (place : Place) (y i : ℕ) → i < squares → x_of (place, y * squares + i) ≡ x_at place i
-layer_x place y i lt = let same : (y * squares + i) % 16 ≡ i % 16 = rw squares-is (omega arith) in ap (λ (k : ℕ). place.0 *ℤ pos 16 +ℤ pos k) same
+layer_x place y i lt = let same : (y * squares + i) % 16 ≡ i % 16 = rw squares-is (omega arith) in
+    ap (λ (k : ℕ). place.0 *ℤ pos 16 +ℤ pos k) same
 
 layer_z : (place : Place) (y i : ℕ) → i < squares → z_of (place, y * squares + i) ≡ z_at place i
 layer_z place y i lt =
@@ -42,25 +62,38 @@ layer_z place y i lt =
     let same : (y * squares + i) / 16 % 16 ≡ i / 16 = rw squares-is (omega arith) in
     ap (λ (k : ℕ). place.1 *ℤ pos 16 +ℤ pos k) same
 
-pub flat_layer : (place : Place) (y : ℕ) (old new : List ℕ) → AppendsLayer old new (λ _. flat_id y * 16) → AppendsLayer old new (λ i. terrain_at Flat (place, y * squares + i))
-flat_layer place y old new layer = layer_same old new (λ _. flat_id y * 16) (λ i. terrain_at Flat (place, y * squares + i)) layer (λ i lt. ap (λ (h : ℕ). flat_id h * 16) (sym (layer_y place y i lt)))
+pub flat_layer : (place : Place) (y : ℕ) (old new : List ℕ) →
+    AppendsLayer old new (λ _. flat_id y * 16) →
+    AppendsLayer old new (λ i. terrain_at Flat (place, y * squares + i))
+flat_layer place y old new layer = layer_same old new (λ _. flat_id y * 16)
+    (λ i. terrain_at Flat (place, y * squares + i)) layer (λ i lt. ap (λ (h : ℕ). flat_id h * 16)
+    (sym (layer_y place y i lt)))
 
-pub hills_layer : (seed : ℕ) (place : Place) (y : ℕ) (tops old new : List ℕ) → AreTops (Hills seed) place tops → AppendsLayer old new (λ i. hills_id (get_or tops i 0) y * 16) → AppendsLayer old new (λ i. terrain_at (Hills seed) (place, y * squares + i))
+pub hills_layer : (seed : ℕ) (place : Place) (y : ℕ) (tops old new : List ℕ) →
+    AreTops (Hills seed) place tops → AppendsLayer old new (λ i. hills_id (get_or tops i 0) y * 16)
+    → AppendsLayer old new (λ i. terrain_at (Hills seed) (place, y * squares + i))
 hills_layer seed place y tops old new are layer =
-    layer_same old new (λ i. hills_id (get_or tops i 0) y * 16) (λ i. terrain_at (Hills seed) (place, y * squares + i)) layer (λ i lt.
-    rw (are.at seed i refl lt, layer_x place y i lt, layer_y place y i lt, layer_z place y i lt) refl)
+    layer_same old new (λ i. hills_id (get_or tops i 0) y * 16) (λ i. terrain_at (Hills seed)
+    (place, y * squares + i)) layer (λ i lt.
+    rw (are.at seed i refl lt, layer_x place y i lt, layer_y place y i lt, layer_z place y i lt)
+    refl)
 
 -- ---- a section of layers
 
-pub layers_more : (f : ℕ → ℕ) (y : ℕ) (old new : List ℕ) → length old ≡ y * squares → ((k : ℕ) → k < length old → get_or old k 0 ≡ f k) → AppendsLayer old new (λ i. f (y * squares + i)) → (length new ≡ (y + 1) * squares) × ((k : ℕ) → k < length new → get_or new k 0 ≡ f k)
+pub layers_more : (f : ℕ → ℕ) (y : ℕ) (old new : List ℕ) → length old ≡ y * squares →
+    ((k : ℕ) → k < length old → get_or old k 0 ≡ f k) →
+    AppendsLayer old new (λ i. f (y * squares + i)) → (length new ≡ (y + 1) * squares) × ((k : ℕ) →
+    k < length new → get_or new k 0 ≡ f k)
 layers_more f y old new len own layer = (
   more (length new) (length old) y squares layer.len len,
   λ k lt. elim (cases_lt k (length old)) [
     | inl below ↦ layer.kept k below ∙ own k below
     | inr above ↦
         let there : length old + (k - length old) ≡ k = omega arith in
-        let index : y * squares + (k - length old) ≡ k = ap (λ (n : ℕ). n + (k - length old)) (sym len) ∙ there in
-        ap (λ (n : ℕ). get_or new n 0) (sym there) ∙ layer.layer (k - length old) (omega (arith, layer.len)) ∙ ap f index
+        let index : y * squares + (k - length old) ≡ k = ap (λ (n : ℕ). n + (k - length old))
+        (sym len) ∙ there in
+        ap (λ (n : ℕ). get_or new n 0) (sym there) ∙
+        layer.layer (k - length old) (omega (arith, layer.len)) ∙ ap f index
   ],
 )
   where
@@ -68,80 +101,130 @@ layers_more f y old new len own layer = (
     more a b y n e f = grind arith
 
 -- a layer of the column is one of its section
-pub section_layer : (terrain : Terrain) (place : Place) (i y z : ℕ) (old new : List ℕ) → z ≡ 16 * i + y → AppendsLayer old new (λ t. terrain_at terrain (place, z * squares + t)) → AppendsLayer old new (λ t. terrain_at terrain (place, i * section_cells + (y * squares + t)))
+pub section_layer : (terrain : Terrain) (place : Place) (i y z : ℕ) (old new : List ℕ) →
+    z ≡ 16 * i + y → AppendsLayer old new (λ t. terrain_at terrain (place, z * squares + t)) →
+    AppendsLayer old new (λ t. terrain_at terrain (place, i * section_cells + (y * squares + t)))
 section_layer terrain place i y z old new is layer =
-    layer_same old new (λ t. terrain_at terrain (place, z * squares + t)) (λ t. terrain_at terrain (place, i * section_cells + (y * squares + t))) layer (λ t lt. let there : z * squares + t ≡ i * section_cells + (y * squares + t) = rw (is, section_cells-is, squares-is) (omega arith) in ap (λ (k : ℕ). terrain_at terrain (place, k)) there)
+    layer_same old new (λ t. terrain_at terrain (place, z * squares + t))
+    (λ t. terrain_at terrain (place, i * section_cells + (y * squares + t))) layer
+    (λ t lt. let there : z * squares + t ≡ i * section_cells + (y * squares + t) = rw (
+      is,
+      section_cells-is,
+      squares-is,
+    ) (omega arith) in ap (λ (k : ℕ). terrain_at terrain (place, k))
+    there)
 
-pub section_all : (terrain : Terrain) (place : Place) (i y : ℕ) (states : List ℕ) → y ≡ 16 → length states ≡ y * squares → ((k : ℕ) → k < length states → get_or states k 0 ≡ terrain_at terrain (place, i * section_cells + k)) → states ≡ own_section terrain place i
+pub section_all : (terrain : Terrain) (place : Place) (i y : ℕ) (states : List ℕ) → y ≡ 16 →
+    length states ≡ y * squares → ((k : ℕ) → k < length states → get_or states k 0 ≡
+    terrain_at terrain (place, i * section_cells + k)) → states ≡ own_section terrain place i
 section_all terrain place i y states all len own =
     let whole : length states ≡ section_cells = len ∙ rw (all, squares-is, section_cells-is) refl in
-    listed_by (λ k. terrain_at terrain (place, i * section_cells + k)) section_cells states whole (λ k lt. own k (omega (arith, whole)))
+    listed_by (λ k. terrain_at terrain (place, i * section_cells + k)) section_cells states whole
+    (λ k lt. own k (omega (arith, whole)))
 
 -- ---- how many blocks a section has
 
 -- a range of numbers, from the front
 range_more : (a n m : ℕ) → range_with_len a (n + m) ≡ range_with_len a n ++ range_with_len (a + n) m
-range_more a zero m = let e : a + 0 ≡ a = omega arith in let f : 0 + m ≡ m = omega arith in rw (e, f) refl
+range_more a zero m = let e : a + 0 ≡ a = omega arith in let f : 0 + m ≡ m = omega arith in
+    rw (e, f) refl
 range_more a (suc n) m =
     let e : suc n + m ≡ suc (n + m) = omega arith in
     let f : a + 1 + n ≡ a + suc n = omega arith in
     rw e (ap (λ (t : List ℕ). a ∷ t) (range_more (a + 1) n m ∙ rw f refl))
 
 -- the blocks of a layer, by the tops of its places
-layer_blocks : (g h : ℕ → ℕ) (tops : List ℕ) (a b n : ℕ) → length tops ≡ n → ((t : ℕ) → t < n → block_of (g (a + t)) ≡ h (get_or tops t 0)) → b ≡ a → sum_by block_of (map g (range_with_len b n)) ≡ sum_by h tops
+layer_blocks : (g h : ℕ → ℕ) (tops : List ℕ) (a b n : ℕ) → length tops ≡ n →
+    ((t : ℕ) → t < n → block_of (g (a + t)) ≡ h (get_or tops t 0)) → b ≡ a →
+    sum_by block_of (map g (range_with_len b n)) ≡ sum_by h tops
 layer_blocks g h [] a b zero len each e = refl
 layer_blocks g h [] a b (suc n) len each e = absurd (omega arith)
 layer_blocks g h (x ∷ xs) a b zero len each e = absurd (omega arith)
 layer_blocks g h (x ∷ xs) a b (suc n) len each e =
     let first : b ≡ a + 0 = omega arith in
     let here : block_of (g b) ≡ h x = ap (λ (k : ℕ). block_of (g k)) first ∙ each 0 (omega arith) in
-    let rest : sum_by block_of (map g (range_with_len (b + 1) n)) ≡ sum_by h xs = layer_blocks g h xs (a + 1) (b + 1) n (omega arith) (λ t lt. let next : a + 1 + t ≡ a + suc t = omega arith in rw next (each (suc t) (omega arith))) (omega arith) in
-    sum_by-cons block_of (g b) (map g (range_with_len (b + 1) n)) ∙ rw (here, rest) (sym (sum_by-cons h x xs))
+    let rest : sum_by block_of (map g (range_with_len (b + 1) n)) ≡ sum_by h xs =
+    layer_blocks g h xs (a + 1) (b + 1) n (omega arith) (λ t lt. let next : a + 1 + t ≡
+    a + suc t = omega arith in rw next (each (suc t) (omega arith))) (omega arith) in
+    sum_by-cons block_of (g b) (map g (range_with_len (b + 1) n)) ∙
+    rw (here, rest) (sym (sum_by-cons h x xs))
 
 -- one height more lets each top reach one block further, or not
-reach_more : (terrain : Terrain) (i n top : ℕ) → reach_in (low_of terrain i) (16 * i + n + 1) top ≡ reach_in (low_of terrain i) (16 * i + n) top + fills terrain top (16 * i + n)
+reach_more : (terrain : Terrain) (i n top : ℕ) → reach_in (low_of terrain i) (16 * i + n + 1) top ≡
+    reach_in (low_of terrain i) (16 * i + n) top + fills terrain top (16 * i + n)
 reach_more terrain i n top = by (lowest terrain) (16 * i) (16 * i + n) top (omega arith)
   where
-    by : (low from h top : ℕ) → from ≤ h → cond (nat_lt top (h + 1)) (top + 1) (h + 1) - cond (nat_lt low from) from low ≡ cond (nat_lt top h) (top + 1) h - cond (nat_lt low from) from low + cond (nat_le low h && nat_le h top) 1 0
+    by : (low from h top : ℕ) → from ≤ h → cond (nat_lt top (h + 1)) (top + 1) (h + 1) - cond
+        (nat_lt low from) from low ≡ cond (nat_lt top h) (top + 1) h - cond (nat_lt low from) from
+        low + cond (nat_le low h && nat_le h top) 1 0
     by low from h top le =
         elim (cases_lt low from) [
           | inl below ↦ rw (lt-ltb low from below, le-leb low h (omega arith)) (inner from h top le)
           | inr above ↦ rw (le-ltb low from above) (elim (cases_lt h low) [
             | inl under ↦ rw (lt-leb low h under) (elim (cases_lt top h) [
               | inl t ↦ rw (lt-ltb top (h + 1) (omega arith), lt-ltb top h t) (omega arith)
-              | inr t ↦ rw (le-ltb top h t) (elim (cases_lt top (h + 1)) [ inl s ↦ rw (lt-ltb top (h + 1) s) (omega arith) | inr s ↦ rw (le-ltb top (h + 1) s) (omega arith) ])
+              | inr t ↦ rw (le-ltb top h t) (elim (cases_lt top (h + 1)) [
+                | inl s ↦ rw (lt-ltb top (h + 1) s) (omega arith)
+                | inr s ↦ rw
+                    (le-ltb top (h + 1) s) (omega arith)
+              ])
             ])
             | inr over ↦ rw (le-leb low h over) (inner low h top over)
           ])
         ]
       where
-        inner : (low h top : ℕ) → low ≤ h → cond (nat_lt top (h + 1)) (top + 1) (h + 1) - low ≡ cond (nat_lt top h) (top + 1) h - low + cond (nat_le h top) 1 0
+        inner : (low h top : ℕ) → low ≤ h → cond (nat_lt top (h + 1)) (top + 1) (h + 1) - low ≡
+            cond (nat_lt top h) (top + 1) h - low + cond (nat_le h top) 1 0
         inner low h top le = elim (cases_lt top h) [
-          | inl t ↦ rw (lt-ltb top (h + 1) (omega arith), lt-ltb top h t, lt-leb h top t) (omega arith)
-          | inr t ↦ rw (le-ltb top h t, le-leb h top t) (elim (cases_lt top (h + 1)) [ inl s ↦ rw (lt-ltb top (h + 1) s) (omega arith) | inr s ↦ rw (le-ltb top (h + 1) s) (omega arith) ])
+          | inl t ↦ rw (lt-ltb top (h + 1) (omega arith), lt-ltb top h t, lt-leb h top t)
+              (omega arith)
+          | inr t ↦ rw (le-ltb top h t, le-leb h top t) (elim (cases_lt top (h + 1)) [
+            | inl s ↦ rw (lt-ltb top (h + 1) s) (omega arith)
+            | inr s ↦ rw (le-ltb top (h + 1) s)
+                (omega arith)
+          ])
         ]
 
 -- below the section's first layer none reaches
 reach_none : (terrain : Terrain) (i top : ℕ) → reach_in (low_of terrain i) (16 * i + 0) top ≡ 0
 reach_none terrain i top = by (lowest terrain) (16 * i) top
   where
-    by : (low from top : ℕ) → cond (nat_lt top (from + 0)) (top + 1) (from + 0) - cond (nat_lt low from) from low ≡ 0
+    by : (low from top : ℕ) → cond (nat_lt top (from + 0)) (top + 1) (from + 0) - cond
+        (nat_lt low from) from low ≡ 0
     by low from top =
         elim (cases_lt low from) [
-          | inl below ↦ rw (lt-ltb low from below) (elim (cases_lt top (from + 0)) [ inl s ↦ rw (lt-ltb top (from + 0) s) (omega arith) | inr s ↦ rw (le-ltb top (from + 0) s) (omega arith) ])
-          | inr above ↦ rw (le-ltb low from above) (elim (cases_lt top (from + 0)) [ inl s ↦ rw (lt-ltb top (from + 0) s) (omega arith) | inr s ↦ rw (le-ltb top (from + 0) s) (omega arith) ])
+          | inl below ↦ rw (lt-ltb low from below) (elim (cases_lt top (from + 0)) [
+            | inl s ↦ rw (lt-ltb top (from + 0) s) (omega arith)
+            | inr s ↦ rw
+                (le-ltb top (from + 0) s) (omega arith)
+          ])
+          | inr above ↦ rw (le-ltb low from above) (elim (cases_lt top (from + 0)) [
+            | inl s ↦ rw (lt-ltb top (from + 0) s) (omega arith)
+            | inr s ↦ rw
+                (le-ltb top (from + 0) s) (omega arith)
+          ])
         ]
 
 sum_none : (h : ℕ → ℕ) (xs : List ℕ) → ((x : ℕ) → h x ≡ 0) → sum_by h xs ≡ 0
 sum_none h [] none = refl
 sum_none h (x ∷ xs) none = sum_by-cons h x xs ∙ rw (none x, sum_none h xs none) refl
 
-sum_both : (f g h : ℕ → ℕ) (xs : List ℕ) → ((x : ℕ) → h x ≡ f x + g x) → sum_by h xs ≡ sum_by f xs + sum_by g xs
+sum_both : (f g h : ℕ → ℕ) (xs : List ℕ) → ((x : ℕ) → h x ≡ f x + g x) →
+    sum_by h xs ≡ sum_by f xs + sum_by g xs
 sum_both f g h [] both = refl
-sum_both f g h (x ∷ xs) both = sum_by-cons h x xs ∙ omega (arith, both x, sum_both f g h xs both, sum_by-cons f x xs, sum_by-cons g x xs)
+sum_both f g h (x ∷ xs) both = sum_by-cons h x xs ∙ omega (
+  arith,
+  both x,
+  sum_both f g h xs both,
+  sum_by-cons f x xs,
+  sum_by-cons g x xs,
+)
 
 -- the blocks of the lowest n layers of a section
-pub layers_blocks : (terrain : Terrain) (place : Place) (tops : List ℕ) (i n : ℕ) → AreTops terrain place tops → sum_by block_of (map (λ k. terrain_at terrain (place, i * section_cells + k)) (range_with_len 0 (n * squares))) ≡ sum_by (reach_in (low_of terrain i) (16 * i + n)) tops
+pub layers_blocks : (terrain : Terrain) (place : Place) (tops : List ℕ) (i n : ℕ) →
+    AreTops terrain place tops →
+    sum_by block_of (map (λ k. terrain_at terrain (place, i * section_cells + k))
+    (range_with_len 0 (n * squares))) ≡ sum_by (reach_in (low_of terrain i) (16 * i + n)) tops
 layers_blocks terrain place tops i zero are =
     let none : 0 * squares ≡ 0 = omega arith in
     rw none (sym (sum_none (reach_in (low_of terrain i) (16 * i + 0)) tops (reach_none terrain i)))
@@ -150,29 +233,65 @@ layers_blocks terrain place tops i (suc n) are =
     let more : suc n * squares ≡ n * squares + squares = grind arith in
     let next : 16 * i + suc n ≡ 16 * i + n + 1 = omega arith in
     let zero' : 0 + n * squares ≡ n * squares = omega arith in
-    let one : sum_by block_of (map (λ k. terrain_at terrain (place, i * section_cells + k)) (range_with_len (n * squares) squares)) ≡ sum_by (λ top. fills terrain top (16 * i + n)) tops = layer_blocks (λ k. terrain_at terrain (place, i * section_cells + k)) (λ top. fills terrain top (16 * i + n)) tops (n * squares) (n * squares) squares are.sized (λ t lt. let there : i * section_cells + (n * squares + t) ≡ (16 * i + n) * squares + t = rw (section_cells-is, squares-is) (omega arith) in ap (λ (k : ℕ). block_of (terrain_at terrain (place, k))) there ∙ are.reach (16 * i + n) t lt) refl in
-    rw (more, range_more 0 (n * squares) squares, zero', map-append (λ k. terrain_at terrain (place, i * section_cells + k)) (range_with_len 0 (n * squares)) (range_with_len (n * squares) squares), sum_by-append block_of (map (λ k. terrain_at terrain (place, i * section_cells + k)) (range_with_len 0 (n * squares))) (map (λ k. terrain_at terrain (place, i * section_cells + k)) (range_with_len (n * squares) squares)), layers_blocks terrain place tops i n are, one, next) (sym (sum_both (reach_in (low_of terrain i) (16 * i + n)) (λ top. fills terrain top (16 * i + n)) (reach_in (low_of terrain i) (16 * i + n + 1)) tops (reach_more terrain i n)))
+    let one : sum_by block_of (map (λ k. terrain_at terrain (place, i * section_cells + k))
+    (range_with_len (n * squares) squares)) ≡ sum_by (λ top. fills terrain top (16 * i + n))
+    tops = layer_blocks (λ k. terrain_at terrain (place, i * section_cells + k))
+    (λ top. fills terrain top (16 * i + n)) tops (n * squares) (n * squares) squares are.sized
+    (λ t lt. let there : i * section_cells + (n * squares + t) ≡ (16 * i + n) * squares +
+    t = rw (section_cells-is, squares-is) (omega arith) in
+    ap (λ (k : ℕ). block_of (terrain_at terrain (place, k))) there ∙
+    are.reach (16 * i + n) t lt) refl in
+    rw (
+      more,
+      range_more 0 (n * squares) squares,
+      zero',
+      map-append (λ k. terrain_at terrain (place, i * section_cells + k))
+          (range_with_len 0 (n * squares)) (range_with_len (n * squares) squares),
+      sum_by-append block_of (map (λ k. terrain_at terrain (place, i * section_cells + k))
+          (range_with_len 0 (n * squares)))
+          (map (λ k. terrain_at terrain (place, i * section_cells + k)) (range_with_len (n * squares)
+          squares)),
+      layers_blocks terrain place tops i n are,
+      one,
+      next,
+    )
+    (sym (sum_both (reach_in (low_of terrain i) (16 * i + n)) (λ top. fills terrain top
+    (16 * i + n)) (reach_in (low_of terrain i) (16 * i + n + 1)) tops (reach_more terrain i n)))
 
 -- all blocks of a section
-pub section_blocks : (terrain : Terrain) (place : Place) (tops : List ℕ) (i : ℕ) → AreTops terrain place tops → sum_by (reach_in (low_of terrain i) (16 * i + 16)) tops ≡ blocks_in (own_section terrain place i)
+pub section_blocks : (terrain : Terrain) (place : Place) (tops : List ℕ) (i : ℕ) →
+    AreTops terrain place tops → sum_by (reach_in (low_of terrain i) (16 * i + 16)) tops ≡
+    blocks_in (own_section terrain place i)
 section_blocks terrain place tops i are =
     let all : 16 * squares ≡ section_cells = rw (squares-is, section_cells-is) refl in
-    sym (ap (λ (n : ℕ). sum_by block_of (map (λ k. terrain_at terrain (place, i * section_cells + k)) (range_with_len 0 n))) (sym all) ∙ layers_blocks terrain place tops i 16 are)
+    sym (ap (λ (n : ℕ). sum_by block_of
+    (map (λ k. terrain_at terrain (place, i * section_cells + k)) (range_with_len 0 n)))
+    (sym all) ∙ layers_blocks terrain place tops i 16 are)
 
 -- all places of a section are counted
-pub filled_all : (terrain : Terrain) (place : Place) (tops : List ℕ) (i low high total k : ℕ) → AreTops terrain place tops → low ≡ low_of terrain i → high ≡ 16 * i + 16 → length tops ≤ k → total ≡ sum_by (reach_in low high) (take k tops) → total ≡ blocks_in (own_section terrain place i)
-filled_all terrain place tops i low high total k are l h all is = is ∙ rw (take_all k tops all, l, h) (section_blocks terrain place tops i are)
+pub filled_all : (terrain : Terrain) (place : Place) (tops : List ℕ) (i low high total k : ℕ) →
+    AreTops terrain place tops → low ≡ low_of terrain i → high ≡ 16 * i + 16 → length tops ≤ k →
+    total ≡ sum_by (reach_in low high) (take k tops) →
+    total ≡ blocks_in (own_section terrain place i)
+filled_all terrain place tops i low high total k are l h all is = is ∙ rw (
+  take_all k tops all,
+  l,
+  h,
+) (section_blocks terrain place tops i are)
 
 -- the tops of the places below i
 pub record AreTopsTo (terrain : Terrain) (place : Place) (tops : List ℕ) (i : ℕ) : Type 0 where
   pub sized : length tops ≡ i
-  pub at : (seed k : ℕ) → terrain ≡ Hills seed → k < i → get_or tops k 0 ≡ height seed (x_at place k) (z_at place k)
-  pub reach : (y k : ℕ) → k < i → block_of (terrain_at terrain (place, y * squares + k)) ≡ fills terrain (get_or tops k 0) y
+  pub at : (seed k : ℕ) → terrain ≡ Hills seed → k < i → get_or tops k 0 ≡
+      height seed (x_at place k) (z_at place k)
+  pub reach : (y k : ℕ) → k < i → block_of (terrain_at terrain (place, y * squares + k)) ≡
+      fills terrain (get_or tops k 0) y
   pub small : (k : ℕ) → k < i → get_or tops k 0 < 256
   pub low : (seed k : ℕ) → terrain ≡ Hills seed → k < i → 40 ≤ get_or tops k 0
   pub high : (seed k : ℕ) → terrain ≡ Hills seed → k < i → get_or tops k 0 ≤ 54
 
-pub tops_none : (terrain : Terrain) (place : Place) (tops : List ℕ) → tops ≡ [] → AreTopsTo terrain place tops 0
+pub tops_none : (terrain : Terrain) (place : Place) (tops : List ℕ) → tops ≡ [] →
+    AreTopsTo terrain place tops 0
 tops_none terrain place tops none = record {
   sized = ap length none;
   at = λ seed k e lt. absurd (omega arith);
@@ -182,23 +301,36 @@ tops_none terrain place tops none = record {
   high = λ seed k e lt. absurd (omega arith);
 }
 
-pub tops_more : (terrain : Terrain) (place : Place) (tops new : List ℕ) (i top : ℕ) → AreTopsTo terrain place tops i → new ≡ tops ++ top ∷ [] → ((seed : ℕ) → terrain ≡ Hills seed → top ≡ height seed (x_at place i) (z_at place i)) → ((y : ℕ) → block_of (terrain_at terrain (place, y * squares + i)) ≡ fills terrain top y) → top < 256 → ((seed : ℕ) → terrain ≡ Hills seed → 40 ≤ top) → ((seed : ℕ) → terrain ≡ Hills seed → top ≤ 54) → AreTopsTo terrain place new (i + 1)
+pub tops_more : (terrain : Terrain) (place : Place) (tops new : List ℕ) (i top : ℕ) →
+    AreTopsTo terrain place tops i → new ≡ tops ++ top ∷ [] → ((seed : ℕ) → terrain ≡ Hills seed →
+    top ≡ height seed (x_at place i) (z_at place i)) →
+    ((y : ℕ) → block_of (terrain_at terrain (place, y * squares + i)) ≡ fills terrain top y) →
+    top < 256 → ((seed : ℕ) → terrain ≡ Hills seed → 40 ≤ top) →
+    ((seed : ℕ) → terrain ≡ Hills seed → top ≤ 54) → AreTopsTo terrain place new (i + 1)
 tops_more terrain place tops new i top are is at' reach' small' low' high' = rw is (record {
   sized = omega (arith, length-append tops (top ∷ []), are.sized);
-  at = λ seed k e lt. each k (λ t. t ≡ height seed (x_at place k) (z_at place k)) lt (λ same. rw same (at' seed e)) (λ less. are.at seed k e less);
-  reach = λ y k lt. each k (λ t. block_of (terrain_at terrain (place, y * squares + k)) ≡ fills terrain t y) lt (λ same. rw same (reach' y)) (λ less. are.reach y k less);
+  at = λ seed k e lt. each k (λ t. t ≡ height seed (x_at place k) (z_at place k)) lt
+      (λ same. rw same (at' seed e)) (λ less. are.at seed k e less);
+  reach = λ y k lt. each k (λ t. block_of (terrain_at terrain (place, y * squares + k)) ≡
+      fills terrain t y) lt (λ same. rw same (reach' y)) (λ less. are.reach y k less);
   small = λ k lt. each k (λ t. t < 256) lt (λ same. small') (λ less. are.small k less);
-  low = λ seed k e lt. each k (λ t. 40 ≤ t) lt (λ same. low' seed e) (λ less. are.low seed k e less);
-  high = λ seed k e lt. each k (λ t. t ≤ 54) lt (λ same. high' seed e) (λ less. are.high seed k e less);
+  low = λ seed k e lt. each k (λ t. 40 ≤ t) lt (λ same. low' seed e) (λ less. are.low seed k e
+      less);
+  high = λ seed k e lt. each k (λ t. t ≤ 54) lt (λ same. high' seed e) (λ less. are.high seed k e
+      less);
 })
   where
-    each : (k : ℕ) (P : ℕ → Type 0) → k < i + 1 → (k ≡ i → P top) → (k < i → P (get_or tops k 0)) → P (get_or (tops ++ top ∷ []) k 0)
+    each : (k : ℕ) (P : ℕ → Type 0) → k < i + 1 → (k ≡ i → P top) → (k < i → P (get_or tops k 0)) →
+        P (get_or (tops ++ top ∷ []) k 0)
     each k P lt last before = elim (cases_lt k i) [
-      | inl less ↦ subst P (sym (get_or_append_left tops (top ∷ []) 0 k (omega (arith, are.sized)))) (before less)
-      | inr more ↦ let same : k ≡ i = omega arith in subst P (sym (get_or_push tops top 0 k (are.sized ∙ sym same))) (last same)
+      | inl less ↦ subst P (sym (get_or_append_left tops (top ∷ []) 0 k (omega (arith, are.sized))))
+          (before less)
+      | inr more ↦ let same : k ≡ i = omega arith in
+          subst P (sym (get_or_push tops top 0 k (are.sized ∙ sym same))) (last same)
     ]
 
-pub tops_all : (terrain : Terrain) (place : Place) (tops : List ℕ) (i : ℕ) → i ≡ squares → AreTopsTo terrain place tops i → AreTops terrain place tops
+pub tops_all : (terrain : Terrain) (place : Place) (tops : List ℕ) (i : ℕ) → i ≡ squares →
+    AreTopsTo terrain place tops i → AreTops terrain place tops
 tops_all terrain place tops i all are = record {
   sized = are.sized ∙ all;
   at = λ seed k e lt. are.at seed k e (omega (arith, all));
@@ -217,20 +349,31 @@ next_section : (i n : ℕ) → (i + 1) * n ≡ i * n + n
 next_section i n = grind arith
 
 -- a column of air is grown up to its first section
-pub grown_none : (terrain : Terrain) (place : Place) (column : ColumnValue) (biomes : List ℕ) → biomes ≡ biomes_of terrain place → column ≡ record { states = replicate cells 0; biomes = biomes } → IsGrown terrain place column 0
+pub grown_none : (terrain : Terrain) (place : Place) (column : ColumnValue) (biomes : List ℕ) →
+    biomes ≡ biomes_of terrain place → column ≡ record {
+      states = replicate cells 0;
+      biomes = biomes;
+    } → IsGrown terrain place column 0
 grown_none terrain place column biomes own is = rw (is, own) (record {
-  sizes = record { states_are = length-replicate {A = ℕ} cells 0; biomes_are = length-map-range_with_len _ 0 squares };
+  sizes = record {
+    states_are = length-replicate {A = ℕ} cells 0;
+    biomes_are = length-map-range_with_len _ 0 squares;
+  };
   biomes = refl;
   own = λ k lt. absurd (omega arith);
   air = λ k le. get_or-zeros cells k;
 })
 
 -- a section without a block is air already
-pub grown_air : (terrain : Terrain) (place : Place) (column : ColumnValue) (i filled : ℕ) → filled ≡ blocks_in (own_section terrain place i) → filled ≡ 0 → IsGrown terrain place column i → IsGrown terrain place column (i + 1)
+pub grown_air : (terrain : Terrain) (place : Place) (column : ColumnValue) (i filled : ℕ) →
+    filled ≡ blocks_in (own_section terrain place i) → filled ≡ 0 → IsGrown terrain place column i →
+    IsGrown terrain place column (i + 1)
 grown_air terrain place column i filled count none grown =
     let next = next_section i section_cells in
     let air = (air_counted (own_section terrain place i) filled count).0 none in
-    let len : length (own_section terrain place i) ≡ section_cells = length-map-range_with_len (λ k. terrain_at terrain (place, i * section_cells + k)) 0 section_cells in
+    let len : length (own_section terrain place i) ≡ section_cells =
+    length-map-range_with_len (λ k. terrain_at terrain (place, i * section_cells + k)) 0
+    section_cells in
     record {
       sizes = grown.sizes;
       biomes = grown.biomes;
@@ -239,49 +382,93 @@ grown_air terrain place column i filled count none grown =
         | inr above ↦
             let within : k - i * section_cells < section_cells = omega (arith, next) in
             let there : i * section_cells + (k - i * section_cells) ≡ k = omega arith in
-            grown.air k above ∙ sym (ap (λ (n : ℕ). terrain_at terrain (place, n)) (sym there) ∙ sym (get_or-map-range_with_len (λ n. terrain_at terrain (place, i * section_cells + n)) 0 section_cells (k - i * section_cells) (k - i * section_cells) 0 within (omega arith)) ∙ air (k - i * section_cells) 0 (omega (arith, len)))
+            grown.air k above ∙ sym (ap (λ (n : ℕ). terrain_at terrain (place, n)) (sym there) ∙
+            sym (get_or-map-range_with_len (λ n. terrain_at terrain (
+              place,
+              i * section_cells +
+                  n,
+            )) 0 section_cells (k - i * section_cells) (k - i * section_cells) 0 within
+            (omega arith)) ∙ air (k - i * section_cells) 0 (omega (arith, len)))
       ];
       air = λ k le. grown.air k (omega (arith, next));
     }
 
 -- a section is put upon those below it
-pub grown_more : (terrain : Terrain) (place : Place) (column new : ColumnValue) (i : ℕ) (states : List ℕ) → i < 16 → states ≡ own_section terrain place i → new ≡ with_section column i states → IsGrown terrain place column i → IsGrown terrain place new (i + 1)
+pub grown_more : (terrain : Terrain) (place : Place) (column new : ColumnValue) (i : ℕ)
+    (states : List ℕ) → i < 16 → states ≡ own_section terrain place i →
+    new ≡ with_section column i states → IsGrown terrain place column i →
+    IsGrown terrain place new (i + 1)
 grown_more terrain place column new i states lt own is grown =
     let next = next_section i section_cells in
-    let len : length (own_section terrain place i) ≡ section_cells = length-map-range_with_len (λ k. terrain_at terrain (place, i * section_cells + k)) 0 section_cells in
+    let len : length (own_section terrain place i) ≡ section_cells =
+    length-map-range_with_len (λ k. terrain_at terrain (place, i * section_cells + k)) 0
+    section_cells in
     let all = grown.sizes.states_are in
-    let room : i * section_cells + section_cells ≤ cells = rw (section_cells-is, cells-is) (omega arith) in
-    let front : length (take (i * section_cells) column.states) ≡ i * section_cells = omega (arith, length-take (i * section_cells) column.states, all, room) in
+    let room : i * section_cells + section_cells ≤ cells =
+    rw (section_cells-is, cells-is) (omega arith) in
+    let front : length (take (i * section_cells) column.states) ≡ i * section_cells =
+    omega (arith, length-take (i * section_cells) column.states, all, room) in
     let rest = length-drop (i * section_cells + section_cells) column.states in
-    let both = length-append (own_section terrain place i) (drop (i * section_cells + section_cells) column.states) in
+    let both = length-append (own_section terrain place i) (drop (i * section_cells + section_cells)
+    column.states) in
     rw (is, own) (record {
-      sizes = record { states_are = omega (arith, length-append (take (i * section_cells) column.states) (own_section terrain place i ++ drop (i * section_cells + section_cells) column.states), front, both, rest, len, all, room); biomes_are = grown.sizes.biomes_are };
+      sizes = record {
+        states_are = omega (
+          arith,
+          length-append (take (i * section_cells) column.states) (own_section terrain place i ++
+              drop (i * section_cells + section_cells) column.states),
+          front,
+          both,
+          rest,
+          len,
+          all,
+          room,
+        );
+        biomes_are = grown.sizes.biomes_are;
+      };
       biomes = grown.biomes;
       own = λ k below. elim (cases_lt k (i * section_cells)) [
-        | inl low ↦ get_or_append_left (take (i * section_cells) column.states) (own_section terrain place i ++ drop (i * section_cells + section_cells) column.states) 0 k (omega (arith, front)) ∙ get_or-take (i * section_cells) column.states k 0 low ∙ grown.own k low
+        | inl low ↦ get_or_append_left (take (i * section_cells) column.states)
+            (own_section terrain place i ++ drop (i * section_cells + section_cells) column.states)
+            0 k (omega (arith, front)) ∙ get_or-take (i * section_cells) column.states k 0 low ∙
+            grown.own k low
         | inr high ↦
             let within : k - i * section_cells < section_cells = omega (arith, next) in
             let there : i * section_cells + (k - i * section_cells) ≡ k = omega arith in
-            get_or-append_right (take (i * section_cells) column.states) (own_section terrain place i ++ drop (i * section_cells + section_cells) column.states) (i * section_cells) k 0 front high
-            ∙ get_or_append_left (own_section terrain place i) (drop (i * section_cells + section_cells) column.states) 0 (k - i * section_cells) (omega (arith, len))
-            ∙ get_or-map-range_with_len (λ n. terrain_at terrain (place, i * section_cells + n)) 0 section_cells (k - i * section_cells) (k - i * section_cells) 0 within (omega arith)
+            get_or-append_right (take (i * section_cells) column.states) (own_section terrain place
+            i ++ drop (i * section_cells + section_cells) column.states) (i * section_cells) k 0
+            front high
+            ∙ get_or_append_left (own_section terrain place i)
+            (drop (i * section_cells + section_cells) column.states) 0 (k - i * section_cells)
+            (omega (arith, len))
+            ∙ get_or-map-range_with_len (λ n. terrain_at terrain (place, i * section_cells + n)) 0
+            section_cells (k - i * section_cells) (k - i * section_cells) 0 within (omega arith)
             ∙ ap (λ (n : ℕ). terrain_at terrain (place, n)) there
       ];
       air = λ k past.
           let high : i * section_cells ≤ k = omega (arith, next) in
           let beyond : section_cells ≤ k - i * section_cells = omega (arith, next) in
-          let there : i * section_cells + section_cells + (k - i * section_cells - section_cells) ≡ k = omega arith in
-          get_or-append_right (take (i * section_cells) column.states) (own_section terrain place i ++ drop (i * section_cells + section_cells) column.states) (i * section_cells) k 0 front high
-          ∙ get_or-append_right (own_section terrain place i) (drop (i * section_cells + section_cells) column.states) section_cells (k - i * section_cells) 0 len beyond
-          ∙ get_or-drop (i * section_cells + section_cells) column.states (k - i * section_cells - section_cells) 0
+          let there : i * section_cells + section_cells + (k - i * section_cells - section_cells) ≡
+          k = omega arith in
+          get_or-append_right (take (i * section_cells) column.states) (own_section terrain place i
+          ++ drop (i * section_cells + section_cells) column.states) (i * section_cells) k 0
+          front high
+          ∙ get_or-append_right (own_section terrain place i)
+          (drop (i * section_cells + section_cells) column.states) section_cells
+          (k - i * section_cells) 0 len beyond
+          ∙ get_or-drop (i * section_cells + section_cells) column.states
+          (k - i * section_cells - section_cells) 0
           ∙ ap (λ (n : ℕ). get_or column.states n 0) there
           ∙ grown.air k (omega (arith, next));
     })
 
 -- all sections are the terrain's own column
-pub grown_all : (terrain : Terrain) (place : Place) (column : ColumnValue) (i : ℕ) → i ≡ section_count → IsGrown terrain place column i → column ≡ own_column terrain place
+pub grown_all : (terrain : Terrain) (place : Place) (column : ColumnValue) (i : ℕ) →
+    i ≡ section_count → IsGrown terrain place column i → column ≡ own_column terrain place
 grown_all terrain place column i all grown =
-    same column (own_column terrain place) (listed_by (λ k. terrain_at terrain (place, k)) cells column.states grown.sizes.states_are (λ k lt. grown.own k (omega (arith, sections_all i all)))) grown.biomes
+    same column (own_column terrain place) (listed_by (λ k. terrain_at terrain (place, k)) cells
+    column.states grown.sizes.states_are
+    (λ k lt. grown.own k (omega (arith, sections_all i all)))) grown.biomes
   where
     same : (a b : ColumnValue) → a.states ≡ b.states → a.biomes ≡ b.biomes → a ≡ b
     same a b e f i = record { states = e i; biomes = f i }
@@ -301,33 +488,48 @@ within_some (pos n) le lt = lt-ltb n 16 (omega (arith, ints, lt))
 within_some (negsuc n) le lt = absurd (omega (arith, ints, le))
 
 -- sixteen places along an axis are all within the first sixteen, or none is
-within_all : (c : ℤ) (i j : ℕ) → i < 16 → j < 16 → is_within_16 (c *ℤ pos 16 +ℤ pos i) ≡ is_within_16 (c *ℤ pos 16 +ℤ pos j)
-within_all (pos zero) i j lt lt' = within_some (pos 0 *ℤ pos 16 +ℤ pos i) (omega (arith, ints)) (omega (arith, ints)) ∙ sym (within_some (pos 0 *ℤ pos 16 +ℤ pos j) (omega (arith, ints)) (omega (arith, ints)))
-within_all (pos (suc n)) i j lt lt' = within_past (pos (suc n) *ℤ pos 16 +ℤ pos i) (omega (arith, ints)) ∙ sym (within_past (pos (suc n) *ℤ pos 16 +ℤ pos j) (omega (arith, ints)))
-within_all (negsuc n) i j lt lt' = within_none (negsuc n *ℤ pos 16 +ℤ pos i) (omega (arith, ints)) ∙ sym (within_none (negsuc n *ℤ pos 16 +ℤ pos j) (omega (arith, ints)))
+within_all : (c : ℤ) (i j : ℕ) → i < 16 → j < 16 → is_within_16 (c *ℤ pos 16 +ℤ pos i) ≡
+    is_within_16 (c *ℤ pos 16 +ℤ pos j)
+within_all (pos zero) i j lt lt' = within_some (pos 0 *ℤ pos 16 +ℤ pos i) (omega (arith, ints))
+    (omega (arith, ints)) ∙ sym (within_some (pos 0 *ℤ pos 16 +ℤ pos j) (omega (arith, ints))
+    (omega (arith, ints)))
+within_all (pos (suc n)) i j lt lt' = within_past (pos (suc n) *ℤ pos 16 +ℤ pos i)
+    (omega (arith, ints)) ∙ sym (within_past (pos (suc n) *ℤ pos 16 +ℤ pos j) (omega (arith, ints)))
+within_all (negsuc n) i j lt lt' = within_none (negsuc n *ℤ pos 16 +ℤ pos i) (omega (arith, ints)) ∙
+    sym (within_none (negsuc n *ℤ pos 16 +ℤ pos j) (omega (arith, ints)))
 
-isle_same : (x z v w : ℤ) (y : ℕ) → is_within_16 x ≡ is_within_16 v → is_within_16 z ≡ is_within_16 w → isle_id x y z * 16 ≡ isle_id v y w * 16
+isle_same : (x z v w : ℤ) (y : ℕ) → is_within_16 x ≡ is_within_16 v → is_within_16 z ≡
+    is_within_16 w → isle_id x y z * 16 ≡ isle_id v y w * 16
 isle_same x z v w y e f = rw (e, f) refl
 
-pub isle_layer : (place : Place) (y : ℕ) (old new : List ℕ) → AppendsLayer old new (λ _. isle_id (place.0 *ℤ pos 16 +ℤ pos 0) y (place.1 *ℤ pos 16 +ℤ pos 0) * 16) → AppendsLayer old new (λ i. terrain_at Isle (place, y * squares + i))
+pub isle_layer : (place : Place) (y : ℕ) (old new : List ℕ) →
+    AppendsLayer old new (λ _. isle_id (place.0 *ℤ pos 16 +ℤ pos 0) y (place.1 *ℤ pos 16 +ℤ pos 0) *
+    16) → AppendsLayer old new (λ i. terrain_at Isle (place, y * squares + i))
 isle_layer place y old new layer =
-    layer_same old new (λ _. isle_id (place.0 *ℤ pos 16 +ℤ pos 0) y (place.1 *ℤ pos 16 +ℤ pos 0) * 16) (λ i. terrain_at Isle (place, y * squares + i)) layer (λ i lt.
+    layer_same old new (λ _. isle_id (place.0 *ℤ pos 16 +ℤ pos 0) y (place.1 *ℤ pos 16 +ℤ pos 0) *
+    16) (λ i. terrain_at Isle (place, y * squares + i)) layer (λ i lt.
     let small : i < 256 = omega (arith, squares-is) in
     rw (layer_x place y i lt, layer_y place y i lt, layer_z place y i lt)
-    (isle_same (place.0 *ℤ pos 16 +ℤ pos 0) (place.1 *ℤ pos 16 +ℤ pos 0) (x_at place i) (z_at place i) y (within_all place.0 0 (i % 16) (omega arith) (omega arith)) (within_all place.1 0 (i / 16) (omega arith) (omega arith))))
+    (isle_same (place.0 *ℤ pos 16 +ℤ pos 0) (place.1 *ℤ pos 16 +ℤ pos 0) (x_at place i)
+    (z_at place i) y (within_all place.0 0 (i % 16) (omega arith) (omega arith))
+    (within_all place.1 0 (i / 16) (omega arith) (omega arith))))
 
 -- ---- how high the blocks of each terrain reach
 
 -- a block is no air
 id_block : (id : ℕ) → block_of (id * 16) ≡ cond (eqb id 0) 0 1
 id_block zero = refl
-id_block (suc id) = let e : eqb (suc id * 16) 0 ≡ false = ne_eqb (suc id * 16) 0 (λ h. absurd (omega arith)) in let f : eqb (suc id) 0 ≡ false = ne_eqb (suc id) 0 (λ h. absurd (omega arith)) in rw (e, f) refl
+id_block (suc id) = let e : eqb (suc id * 16) 0 ≡ false =
+    ne_eqb (suc id * 16) 0 (λ h. absurd (omega arith)) in let f : eqb (suc id) 0 ≡ false =
+    ne_eqb (suc id) 0 (λ h. absurd (omega arith)) in rw (e, f) refl
 
 -- no block where each test of a layered terrain fails
-above_all : (z l t g top : Bool) → z ≡ false → l ≡ false → t ≡ false → g ≡ true → top ≡ false → ◌≡◌ {A = ℕ} (cond (eqb (cond z 7 (cond l 3 (cond t 2 0))) 0) 0 1) (cond (g && top) 1 0)
+above_all : (z l t g top : Bool) → z ≡ false → l ≡ false → t ≡ false → g ≡ true → top ≡ false →
+    ◌≡◌ {A = ℕ} (cond (eqb (cond z 7 (cond l 3 (cond t 2 0))) 0) 0 1) (cond (g && top) 1 0)
 above_all z l t g top a b d e f = rw (a, b, d, e, f) refl
 
-pub flat_reach : (place : Place) (i y : ℕ) → i < squares → block_of (terrain_at Flat (place, y * squares + i)) ≡ fills Flat 3 y
+pub flat_reach : (place : Place) (i y : ℕ) → i < squares →
+    block_of (terrain_at Flat (place, y * squares + i)) ≡ fills Flat 3 y
 flat_reach place i y lt = rw (layer_y place y i lt) (id_block (flat_id y) ∙ by y)
   where
     by : (y : ℕ) → ◌≡◌ {A = ℕ} (cond (eqb (flat_id y) 0) 0 1) (cond (nat_le 0 y && nat_le y 3) 1 0)
@@ -339,24 +541,39 @@ flat_reach place i y lt = rw (layer_y place y i lt) (id_block (flat_id y) ∙ by
           | inl e ↦ rw e refl
           | inr n2 ↦ elim (cases_eq y 3) [
             | inl e ↦ rw e refl
-            | inr n3 ↦ above_all (eqb y 0) (nat_le y 2) (eqb y 3) (nat_le 0 y) (nat_le y 3) (ne_eqb y 0 n0) (lt-leb y 2 (omega arith)) (ne_eqb y 3 n3) (le-leb 0 y (omega arith)) (lt-leb y 3 (omega arith))
+            | inr n3 ↦ above_all (eqb y 0) (nat_le y 2) (eqb y 3) (nat_le 0 y) (nat_le y 3)
+                (ne_eqb y 0 n0) (lt-leb y 2 (omega arith)) (ne_eqb y 3 n3)
+                (le-leb 0 y (omega arith)) (lt-leb y 3 (omega arith))
           ]
         ]
       ]
     ]
 
-pub hills_reach : (seed : ℕ) (place : Place) (i y top : ℕ) → i < squares → top ≡ height seed (x_at place i) (z_at place i) → block_of (terrain_at (Hills seed) (place, y * squares + i)) ≡ fills (Hills seed) top y
+pub hills_reach : (seed : ℕ) (place : Place) (i y top : ℕ) → i < squares →
+    top ≡ height seed (x_at place i) (z_at place i) →
+    block_of (terrain_at (Hills seed) (place, y * squares + i)) ≡ fills (Hills seed) top y
 hills_reach seed place i y top lt is =
-    rw (layer_x place y i lt, layer_y place y i lt, layer_z place y i lt, ← is) (id_block (hills_id top y) ∙ by top y)
+    rw (layer_x place y i lt, layer_y place y i lt, layer_z place y i lt, ← is)
+    (id_block (hills_id top y) ∙ by top y)
   where
-    by : (top y : ℕ) → ◌≡◌ {A = ℕ} (cond (eqb (hills_id top y) 0) 0 1) (cond (nat_le 0 y && nat_le y top) 1 0)
+    by : (top y : ℕ) → ◌≡◌ {A = ℕ} (cond (eqb (hills_id top y) 0) 0 1)
+        (cond (nat_le 0 y && nat_le y top) 1 0)
     by top y = rw (le-leb 0 y (omega arith)) (elim (cases_eq y 0) [
       | inl e ↦ rw (e, le-leb 0 top (omega arith)) refl
       | inr ne ↦ rw (ne_eqb y 0 ne) (elim (cases_lt top y) [
-        | inl above ↦ rw (lt-leb y top above, lt-leb (y + 4) top (omega arith), le-ltb y top (omega arith), ne_eqb y top (λ h. absurd (omega arith))) refl
+        | inl above ↦ rw (
+          lt-leb y top above,
+          lt-leb (y + 4) top (omega arith),
+          le-ltb y top (omega arith),
+          ne_eqb y top (λ h. absurd (omega arith)),
+        ) refl
         | inr within ↦ rw (le-leb y top within) (elim (cases_lt y top) [
           | inl below ↦ rw (lt-ltb y top below) (stone (nat_le (y + 4) top))
-          | inr at ↦ let same : y ≡ top = omega arith in rw (lt-leb (y + 4) top (omega arith), le-ltb y top at, eq-eqb y top same) refl
+          | inr at ↦ let same : y ≡ top = omega arith in rw (
+            lt-leb (y + 4) top (omega arith),
+            le-ltb y top at,
+            eq-eqb y top same,
+          ) refl
         ])
       ])
     ])
@@ -365,30 +582,44 @@ hills_reach seed place i y top lt is =
         stone true = refl
         stone false = refl
 
-pub isle_reach : (place : Place) (i y top : ℕ) → i < squares → top ≡ cond (eqb (isle_id (place.0 *ℤ pos 16 +ℤ pos 0) 63 (place.1 *ℤ pos 16 +ℤ pos 0)) 0) 62 63 → block_of (terrain_at Isle (place, y * squares + i)) ≡ fills Isle top y
+pub isle_reach : (place : Place) (i y top : ℕ) → i < squares →
+    top ≡ cond (eqb (isle_id (place.0 *ℤ pos 16 +ℤ pos 0) 63 (place.1 *ℤ pos 16 +ℤ pos 0)) 0) 62 63
+    → block_of (terrain_at Isle (place, y * squares + i)) ≡ fills Isle top y
 isle_reach place i y top lt is =
     let small : i < 256 = omega (arith, squares-is) in
-    rw (layer_x place y i lt, layer_y place y i lt, layer_z place y i lt, is) (id_block (isle_id (x_at place i) y (z_at place i)) ∙ rw (within_all place.0 (i % 16) 0 (omega arith) (omega arith), within_all place.1 (i / 16) 0 (omega arith) (omega arith)) (by y (is_within_16 (place.0 *ℤ pos 16 +ℤ pos 0)) (is_within_16 (place.1 *ℤ pos 16 +ℤ pos 0))))
+    rw (layer_x place y i lt, layer_y place y i lt, layer_z place y i lt, is)
+    (id_block (isle_id (x_at place i) y (z_at place i)) ∙
+    rw (
+      within_all place.0 (i % 16) 0 (omega arith) (omega arith),
+      within_all place.1 (i / 16) 0
+          (omega arith) (omega arith),
+    ) (by y (is_within_16 (place.0 *ℤ pos 16 +ℤ pos 0))
+    (is_within_16 (place.1 *ℤ pos 16 +ℤ pos 0))))
   where
-    by : (y : ℕ) (a b : Bool) → ◌≡◌ {A = ℕ} (cond (eqb (cond (eqb y 63 && a && b) 1 0) 0) 0 1) (cond (nat_le 63 y && nat_le y (cond (eqb (cond (true && a && b) 1 0) 0) 62 63)) 1 0)
+    by : (y : ℕ) (a b : Bool) → ◌≡◌ {A = ℕ} (cond (eqb (cond (eqb y 63 && a && b) 1 0) 0) 0 1)
+        (cond (nat_le 63 y && nat_le y (cond (eqb (cond (true && a && b) 1 0) 0) 62 63)) 1 0)
     by y a b = elim (cases_eq y 63) [
       | inl e ↦ rw e (both a b)
       | inr ne ↦ rw (ne_eqb y 63 ne) (other a b ne)
     ]
       where
-        both : (a b : Bool) → ◌≡◌ {A = ℕ} (cond (eqb (cond (true && a && b) 1 0) 0) 0 1) (cond (nat_le 63 63 && nat_le 63 (cond (eqb (cond (true && a && b) 1 0) 0) 62 63)) 1 0)
+        both : (a b : Bool) → ◌≡◌ {A = ℕ} (cond (eqb (cond (true && a && b) 1 0) 0) 0 1)
+            (cond (nat_le 63 63 && nat_le 63 (cond (eqb (cond (true && a && b) 1 0) 0) 62 63)) 1 0)
         both true true = refl
         both true false = refl
         both false true = refl
         both false false = refl
 
-        outside : (y top : ℕ) → (y ≡ 63 → ⊥) → top ≤ 63 → ◌≡◌ {A = ℕ} 0 (cond (nat_le 63 y && nat_le y top) 1 0)
+        outside : (y top : ℕ) → (y ≡ 63 → ⊥) → top ≤ 63 →
+            ◌≡◌ {A = ℕ} 0 (cond (nat_le 63 y && nat_le y top) 1 0)
         outside y top ne le = elim (cases_lt y 63) [
           | inl below ↦ rw (lt-leb 63 y below) refl
           | inr above ↦ rw (le-leb 63 y above, lt-leb y top (omega arith)) refl
         ]
 
-        other : (a b : Bool) → (y ≡ 63 → ⊥) → ◌≡◌ {A = ℕ} (cond (eqb (cond (false && a && b) 1 0) 0) 0 1) (cond (nat_le 63 y && nat_le y (cond (eqb (cond (true && a && b) 1 0) 0) 62 63)) 1 0)
+        other : (a b : Bool) → (y ≡ 63 → ⊥) →
+            ◌≡◌ {A = ℕ} (cond (eqb (cond (false && a && b) 1 0) 0) 0 1)
+            (cond (nat_le 63 y && nat_le y (cond (eqb (cond (true && a && b) 1 0) 0) 62 63)) 1 0)
         other true true ne = outside y 63 ne (omega arith)
         other true false ne = outside y 62 ne (omega arith)
         other false true ne = outside y 62 ne (omega arith)
@@ -396,7 +627,11 @@ isle_reach place i y top lt is =
 
 -- ---- biomes
 
-pub biome_top : (terrain : Terrain) (place : Place) (tops : List ℕ) (i biome : ℕ) → AreTops terrain place tops → i < squares → ((seed : ℕ) → terrain ≡ Hills seed → biome ≡ hills_biome (get_or tops i 0)) → (terrain ≡ Flat → biome ≡ 1) → (terrain ≡ Isle → biome ≡ 1) → biome ≡ terrain_biome terrain (x_at place i) (z_at place i)
+pub biome_top : (terrain : Terrain) (place : Place) (tops : List ℕ) (i biome : ℕ) →
+    AreTops terrain place tops → i < squares → ((seed : ℕ) → terrain ≡ Hills seed →
+    biome ≡ hills_biome (get_or tops i 0)) → (terrain ≡ Flat → biome ≡ 1) →
+    (terrain ≡ Isle → biome ≡ 1) → biome ≡ terrain_biome terrain (x_at place i) (z_at place i)
 biome_top Flat place tops i biome are lt hills flat isle = flat refl
-biome_top (Hills seed) place tops i biome are lt hills flat isle = hills seed refl ∙ ap hills_biome (are.at seed i refl lt)
+biome_top (Hills seed) place tops i biome are lt hills flat isle = hills seed refl ∙
+    ap hills_biome (are.at seed i refl lt)
 biome_top Isle place tops i biome are lt hills flat isle = isle refl

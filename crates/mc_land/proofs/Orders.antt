@@ -7,10 +7,12 @@ use Rattle.std.proofs.lemmas.Map.Lookups.{exact_pairs, exact_signed, exact_unsig
 use Rattle.mc_land.specs.Places.{Place, Key, place_cmp, key_cmp}
 
 pub places_total : IsTotalOrder place_cmp
-places_total = then_total (on_total (λ (p : Place). p.0) int_cmp_total) (on_total (λ (p : Place). p.1) int_cmp_total)
+places_total = then_total (on_total (λ (p : Place). p.0) int_cmp_total)
+    (on_total (λ (p : Place). p.1) int_cmp_total)
 
 pub keys_total : IsTotalOrder key_cmp
-keys_total = then_total (on_total (λ (k : Key). k.0) places_total) (on_total (λ (k : Key). k.1) nat_cmp_total)
+keys_total = then_total (on_total (λ (k : Key). k.0) places_total) (on_total (λ (k : Key). k.1)
+    nat_cmp_total)
 
 pub exact_places : IsAntisymmetric place_cmp
 exact_places = exact_pairs int_cmp int_cmp exact_signed exact_signed

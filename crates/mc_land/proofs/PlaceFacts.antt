@@ -1,7 +1,8 @@
 -- A cell is where its column and its index in it say.
 use Rattle.std.proofs.Common.{◌≡◌, ℕ, ◌/◌, ◌%◌, ◌<◌, refl, arith}
 use Rattle.std.proofs.lemmas.Int.{ints}
-use Rattle.mc_column.specs.Sizes.{cells, cells-is}
+use Rattle.mc_column.specs.Sizes.{cells}
+use Rattle.mc_column.specs.SizesLaws.{cells-is}
 use Rattle.mc_column.specs.Cells.{cell_index}
 use Rattle.mc_land.specs.declared.terrain.Terrain.{Terrain}
 use Rattle.mc_land.specs.Places.{Place, column_number, inside, key_of, x_of, y_of, z_of}
@@ -37,12 +38,16 @@ pub y_of_key : (x z : ℤ) (y : ℕ) → y_of (key_of x y z) ≡ y
 y_of_key x z y = y_back (inside x) y (inside z) (inside_below x) (inside_below z)
 
 -- the terrain at a cell's key is that at the cell
-pub terrain_at_key : (terrain : Terrain) (x z : ℤ) (y : ℕ) → terrain_at terrain (key_of x y z) ≡ terrain_state terrain x y z
+pub terrain_at_key : (terrain : Terrain) (x z : ℤ) (y : ℕ) → terrain_at terrain (key_of x y z) ≡
+    terrain_state terrain x y z
 terrain_at_key terrain x z y = rw (x_of_key x z y, y_of_key x z y, z_of_key x z y) refl
 
 -- the terrain at a cell of a column, by its place in that
-pub terrain_inside : (terrain : Terrain) (place : Place) (x y z : ℕ) (east south : ℤ) → x < 16 → z < 16 → east ≡ place.0 *ℤ pos 16 +ℤ pos x → south ≡ place.1 *ℤ pos 16 +ℤ pos z → terrain_state terrain east y south ≡ terrain_at terrain (place, cell_index x y z)
-terrain_inside terrain place x y z east south a b e f = rw (e, f, x_back x y z a b, y_back x y z a b, z_back x y z a b) refl
+pub terrain_inside : (terrain : Terrain) (place : Place) (x y z : ℕ) (east south : ℤ) → x < 16 →
+    z < 16 → east ≡ place.0 *ℤ pos 16 +ℤ pos x → south ≡ place.1 *ℤ pos 16 +ℤ pos z →
+    terrain_state terrain east y south ≡ terrain_at terrain (place, cell_index x y z)
+terrain_inside terrain place x y z east south a b e f =
+    rw (e, f, x_back x y z a b, y_back x y z a b, z_back x y z a b) refl
 
 pub key_within : (x z : ℤ) (y : ℕ) → y < 256 → (key_of x y z).1 < cells
 key_within x z y lt = let a = inside_below x in let b = inside_below z in rw cells-is (omega arith)

@@ -10,7 +10,11 @@ use lib.IntN.{ℤ, pos, ◌+ℤ◌, ◌*ℤ◌}
 
 -- the column as nobody has changed it
 abbrev pub own_column : Terrain → Place → ColumnValue
-own_column terrain place = record { states = map (λ i. terrain_at terrain (place, i)) (range_with_len 0 cells); biomes = biomes_of terrain place }
+own_column terrain place =
+    record {
+      states = map (λ i. terrain_at terrain (place, i)) (range_with_len 0 cells);
+      biomes = biomes_of terrain place;
+    }
 
 -- x and z of place i of a layer
 abbrev pub x_at : Place → ℕ → ℤ

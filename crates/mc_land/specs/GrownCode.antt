@@ -1,5 +1,7 @@
--- How the code makes a column of the terrain: section upon section, each of 16 layers. No public contract speaks of this.
-use Rattle.std.specs.Prelude.{◌≡◌, ℕ, ◌+◌, ◌-◌, ◌*◌, ◌<◌, ◌≤◌, ◌&&◌, nat_lt, nat_le, List, map, length, slice_index, if◌then◌else◌}
+-- How the code makes a column of the terrain: section upon section, each of 16 layers. No public
+-- contract speaks of this.
+use Rattle.std.specs.Prelude.{◌≡◌, ℕ, ◌+◌, ◌-◌, ◌*◌, ◌<◌, ◌≤◌, ◌&&◌, nat_lt, nat_le, List, map}
+use Rattle.std.specs.Prelude.{length, slice_index, if◌then◌else◌}
 use Rattle.std.specs.List.{range_with_len}
 use Rattle.mc_column.specs.Sizes.{section_cells, squares}
 use Rattle.mc_column.specs.Cells.{ColumnValue, HasSizes}
@@ -30,13 +32,16 @@ fills terrain top y = if nat_le (lowest terrain) y && nat_le y top then 1 else 0
 -- the tops of the terrain at the places of a column, which of the hills are their heights
 pub record AreTops (terrain : Terrain) (place : Place) (tops : List ℕ) : Type 0 where
   pub sized : length tops ≡ squares
-  pub at : (seed i : ℕ) → terrain ≡ Hills seed → i < squares → slice_index tops i ≡ height seed (x_at place i) (z_at place i)
-  pub reach : (y i : ℕ) → i < squares → block_of (terrain_at terrain (place, y * squares + i)) ≡ fills terrain (slice_index tops i) y
+  pub at : (seed i : ℕ) → terrain ≡ Hills seed → i < squares → slice_index tops i ≡
+      height seed (x_at place i) (z_at place i)
+  pub reach : (y i : ℕ) → i < squares → block_of (terrain_at terrain (place, y * squares + i)) ≡
+      fills terrain (slice_index tops i) y
   pub small : (i : ℕ) → i < squares → slice_index tops i < 256
   pub low : (seed i : ℕ) → terrain ≡ Hills seed → i < squares → 40 ≤ slice_index tops i
   pub high : (seed i : ℕ) → terrain ≡ Hills seed → i < squares → slice_index tops i ≤ 54
 
--- how many blocks stand from one height up to below another, where they reach from the first to the top
+-- how many blocks stand from one height up to below another, where they reach from the first to the
+-- top
 abbrev pub reach_in : ℕ → ℕ → ℕ → ℕ
 reach_in low high top = (if nat_lt top high then top + 1 else high) - low
 
@@ -46,11 +51,13 @@ low_of terrain i = if nat_lt (lowest terrain) (16 * i) then 16 * i else lowest t
 
 -- the states of section i of the terrain's own column
 abbrev pub own_section : Terrain → Place → ℕ → List ℕ
-own_section terrain place i = map (λ k. terrain_at terrain (place, i * section_cells + k)) (range_with_len 0 section_cells)
+own_section terrain place i = map (λ k. terrain_at terrain (place, i * section_cells + k))
+    (range_with_len 0 section_cells)
 
 -- the sections below i are the terrain's own, and the others air
 pub record IsGrown (terrain : Terrain) (place : Place) (column : ColumnValue) (i : ℕ) : Type 0 where
   pub sizes : HasSizes column
   pub biomes : column.biomes ≡ biomes_of terrain place
-  pub own : (k : ℕ) → k < i * section_cells → slice_index column.states k ≡ terrain_at terrain (place, k)
+  pub own : (k : ℕ) → k < i * section_cells → slice_index column.states k ≡
+      terrain_at terrain (place, k)
   pub air : (k : ℕ) → i * section_cells ≤ k → slice_index column.states k ≡ 0

@@ -13,7 +13,8 @@ is_changed terrain place states i = not (slice_index states i == terrain_at terr
 
 -- the cells of a column whose state is not the terrain's
 abbrev pub changes : Terrain → Place → List ℕ → List (Key × ℕ)
-changes terrain place states = map (λ i. ((place, i), slice_index states i)) (filter (is_changed terrain place states) (range_with_len 0 cells))
+changes terrain place states = map (λ i. ((place, i), slice_index states i))
+    (filter (is_changed terrain place states) (range_with_len 0 cells))
 
 -- those of all columns
 abbrev pub kept_edits : Terrain → List (Place × List ℕ) → FinMap key_cmp ℕ

@@ -1,4 +1,5 @@
--- How a ready column is kept: as it is, with the cells that changed and what they were, and the number of its edits.
+-- How a ready column is kept: as it is, with the cells that changed and what they were, and the
+-- number of its edits.
 use Rattle.std.specs.Prelude.{◌≡◌, ℕ, Bool, List, [], ◌∷◌, length, slice_set, if◌then◌else◌}
 use Rattle.mc_column.specs.Cells.{ColumnValue, HasSizes}
 use Rattle.mc_land.specs.declared.ready.Touched.{Touched}
@@ -24,7 +25,8 @@ kept_ready place terrain column touched = record {
   settled = record { states = put_back touched column.states; biomes = column.biomes };
 }
 
-pub record IsKeptReady (place : Place) (terrain : Terrain) (column : ColumnValue) (touched : List Touched) (edits : ℕ) : Type 0 where
+pub record IsKeptReady (place : Place) (terrain : Terrain) (column : ColumnValue)
+    (touched : List Touched) (edits : ℕ) : Type 0 where
   pub inside : IsPlace place
   pub sizes : HasSizes column
   pub touched_are : touched ≡ touched_cells (put_back touched column.states) column.states

@@ -1,5 +1,6 @@
--- The land as contracts see it: a terrain, and what was changed of it. All of it is finite, and the endless world is what
--- it stands for: a cell has the state that it was set to, or else the terrain's.
+-- The land as contracts see it: a terrain, and what was changed of it. All of it is finite, and the
+-- endless world is what it stands for: a cell has the state that it was set to, or else the
+-- terrain's.
 use Rattle.std.specs.Prelude.{ℕ, ◌/◌, ◌%◌, ◌==◌, Bool, List, map, if◌then◌else◌, nat_lt}
 use Rattle.std.specs.Option.{unwrap_or}
 use Rattle.std.specs.List.{range_with_len, sum_by}
@@ -44,27 +45,35 @@ block land x (negsuc y) z = 0
 
 -- a column of cells, all of them
 abbrev pub states_of : Terrain → FinMap key_cmp ℕ → Place → List ℕ
-states_of terrain edits place = map (λ i. state_at terrain edits (place, i)) (range_with_len 0 cells)
+states_of terrain edits place = map (λ i. state_at terrain edits (place, i))
+    (range_with_len 0 cells)
 
 abbrev pub biomes_of : Terrain → Place → List ℕ
-biomes_of terrain place = map (λ i. terrain_biome terrain (place.0 *ℤ pos 16 +ℤ pos (i % 16)) (place.1 *ℤ pos 16 +ℤ pos (i / 16))) (range_with_len 0 squares)
+biomes_of terrain place = map (λ i. terrain_biome terrain (place.0 *ℤ pos 16 +ℤ pos (i % 16))
+    (place.1 *ℤ pos 16 +ℤ pos (i / 16))) (range_with_len 0 squares)
 
 abbrev pub column_of : LandValue → Place → ColumnValue
-column_of land place = record { states = states_of land.terrain land.edits place; biomes = biomes_of land.terrain place }
+column_of land place = record {
+  states = states_of land.terrain land.edits place;
+  biomes = biomes_of land.terrain place;
+}
 
 -- ---- what changes it
 
 -- a cell is set to a state: an edit, unless it is the terrain's own
 abbrev pub edited : Terrain → FinMap key_cmp ℕ → Key → ℕ → FinMap key_cmp ℕ
-edited terrain edits key state = if state == terrain_at terrain key then remove edits key else insert edits key state
+edited terrain edits key state = if state == terrain_at terrain key then remove edits key else
+    insert edits key state
 
 -- a chest's state: id 54, with any metadata
 abbrev pub is_chest : ℕ → Bool
 is_chest state = state / 16 == 54
 
--- the chests after a cell that had one state got another: an empty one where it became a chest, none where it ceased to be
+-- the chests after a cell that had one state got another: an empty one where it became a chest,
+-- none where it ceased to be
 abbrev pub chests_after : FinMap key_cmp (List Pile) → Key → ℕ → ℕ → FinMap key_cmp (List Pile)
-chests_after chests key old new = if is_chest new then (if is_chest old then chests else insert chests key empty_chest) else remove chests key
+chests_after chests key old new = if is_chest new then (if is_chest old then chests else
+    insert chests key empty_chest) else remove chests key
 
 -- a cell is set: its column is ready then
 abbrev pub with_block : LandValue → Key → ℕ → LandValue
@@ -82,13 +91,20 @@ abbrev pub with_ready : LandValue → Place → LandValue
 with_ready land place = record land { ready = set.insert land.ready place }
 
 abbrev pub new_land : Terrain → LandValue
-new_land terrain = record { terrain = terrain; edits = empty; settled = empty; chests = empty; ready = set.empty }
+new_land terrain = record {
+  terrain = terrain;
+  edits = empty;
+  settled = empty;
+  chests = empty;
+  ready = set.empty;
+}
 
 -- ---- what changed since the last settling
 
 -- the cells of a column whose states differ, in rising index, with the states that they had
 abbrev pub dirty_in : LandValue → Place → List Touched
-dirty_in land place = touched_cells (states_of land.terrain land.settled place) (states_of land.terrain land.edits place)
+dirty_in land place = touched_cells (states_of land.terrain land.settled place)
+    (states_of land.terrain land.edits place)
 
 -- ---- sums
 

@@ -27,7 +27,8 @@ terrain_again Isle = refl
 terrain_again (Hills seed) = refl
 
 abbrev pub coded_terrain : Coded Terrain
-coded_terrain = code_by (Option (Option ℕ)) (coded_option (coded_option coded_ℕ)) terrain_stored terrain_back terrain_again
+coded_terrain = code_by (Option (Option ℕ)) (coded_option (coded_option coded_ℕ)) terrain_stored
+    terrain_back terrain_again
 
 abbrev pub pile_stored : Pile → Option (ℤ × (ℤ × ℕ))
 pile_stored Empty = None
@@ -42,7 +43,8 @@ pile_again Empty = refl
 pile_again (Full item) = refl
 
 abbrev pub coded_pile : Coded Pile
-coded_pile = code_by (Option (ℤ × (ℤ × ℕ))) (coded_option (coded× coded_ℤ (coded× coded_ℤ coded_ℕ))) pile_stored pile_back pile_again
+coded_pile = code_by (Option (ℤ × (ℤ × ℕ))) (coded_option (coded× coded_ℤ (coded× coded_ℤ coded_ℕ)))
+    pile_stored pile_back pile_again
 
 abbrev pub coded_place : Coded Place
 coded_place = coded× coded_ℤ coded_ℤ
@@ -51,13 +53,25 @@ abbrev pub coded_key : Coded Key
 coded_key = coded× coded_place coded_ℕ
 
 abbrev pub Stored : Type 0
-Stored = Terrain × (map.FinMap key_cmp ℕ × (map.FinMap key_cmp ℕ × (map.FinMap key_cmp (List Pile) × set.FinSet place_cmp)))
+Stored = Terrain × (map.FinMap key_cmp ℕ × (map.FinMap key_cmp ℕ × (map.FinMap key_cmp (List Pile) ×
+    set.FinSet place_cmp)))
 
 abbrev pub coded_stored : Coded Stored
-coded_stored = coded× coded_terrain (coded× (map.code coded_key coded_ℕ) (coded× (map.code coded_key coded_ℕ) (coded× (map.code coded_key (coded_list coded_pile)) (set.code coded_place))))
+coded_stored =
+    coded× coded_terrain (coded× (map.code coded_key coded_ℕ) (coded× (map.code coded_key coded_ℕ)
+    (coded× (map.code coded_key (coded_list coded_pile)) (set.code coded_place))))
 
 abbrev pub coded_land : Coded LandValue
 coded_land =
-    code_by Stored coded_stored (λ land. (land.terrain, (land.edits, (land.settled, (land.chests, land.ready)))))
-    (λ parts. record { terrain = parts.0; edits = parts.1.0; settled = parts.1.1.0; chests = parts.1.1.1.0; ready = parts.1.1.1.1 })
+    code_by Stored coded_stored (λ land. (
+      land.terrain,
+      (land.edits, (land.settled, (land.chests, land.ready))),
+    ))
+    (λ parts. record {
+      terrain = parts.0;
+      edits = parts.1.0;
+      settled = parts.1.1.0;
+      chests = parts.1.1.1.0;
+      ready = parts.1.1.1.1;
+    })
     (λ land. refl)

@@ -1,5 +1,5 @@
--- Where a cell lies: the numbers of its column of cells, and its index in it. The order of places is that of their
--- numbers, x first.
+-- Where a cell lies: the numbers of its column of cells, and its index in it. The order of places
+-- is that of their numbers, x first.
 use Rattle.std.specs.Prelude.{Bool, false, nat_lt, nat_le, ◌&&◌, ℕ, ◌/◌, ◌%◌, unsigned_abs}
 use Rattle.std.specs.declared.cmp.Ordering.{Ordering}
 use Rattle.std.specs.Ordering.{nat_cmp, int_cmp, ordering_then}

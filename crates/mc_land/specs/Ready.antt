@@ -1,4 +1,5 @@
--- A column that is ready to be looked at, and what changed in it since the last settling. Rules of this project.
+-- A column that is ready to be looked at, and what changed in it since the last settling. Rules of
+-- this project.
 use Rattle.std.specs.Prelude.{ℕ, ◌==◌, Bool, not, List, map, slice_index}
 use Rattle.std.specs.List.{filter, range_with_len}
 use Rattle.mc_column.specs.Sizes.{cells}
@@ -23,7 +24,8 @@ abbrev pub touched_cell : List ℕ → ℕ → Touched
 touched_cell was i = record { index = i; was = slice_index was i }
 
 abbrev pub touched_cells : List ℕ → List ℕ → List Touched
-touched_cells was now = map (touched_cell was) (filter (has_changed was now) (range_with_len 0 cells))
+touched_cells was now =
+    map (touched_cell was) (filter (has_changed was now) (range_with_len 0 cells))
 
 -- the column with another state in a cell
 abbrev pub set_cell : ReadyValue → ℕ → ℕ → ReadyValue

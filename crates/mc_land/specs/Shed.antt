@@ -1,4 +1,5 @@
--- Which columns stay ready when the rest is given up: those with an edit, and those that a view reaches. Rules of this project.
+-- Which columns stay ready when the rest is given up: those with an edit, and those that a view
+-- reaches. Rules of this project.
 use Rattle.std.specs.Prelude.{◌≡◌, ℕ, Bool, ◌&&◌, ◌||◌, nat_le, List, unsigned_abs}
 use Rattle.std.specs.Ordering.{eq_by_cmp}
 use Rattle.std.specs.List.{list_any}
@@ -18,7 +19,8 @@ pub record IsSettled (land : LandValue) : Type 0 where
 
 -- a column is no more off the middle than the view reaches, on both axes
 abbrev pub is_seen : Place → View → Bool
-is_seen place view = nat_le (unsigned_abs (place.0 -ℤ view.0)) view.2 && nat_le (unsigned_abs (place.1 -ℤ view.1)) view.2
+is_seen place view = nat_le (unsigned_abs (place.0 -ℤ view.0)) view.2 &&
+    nat_le (unsigned_abs (place.1 -ℤ view.1)) view.2
 
 -- a cell of the column is not the terrain's
 abbrev pub is_edited : FinMap key_cmp ℕ → Place → Bool

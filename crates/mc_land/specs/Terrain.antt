@@ -1,7 +1,9 @@
--- The three terrains: the state that each cell of the endless world has before anybody changed it, and the biome of each
--- place. Rules of this project. A state is id * 16 + metadata; the ids are those of wiki.vg's list of blocks: 1 stone, 2
--- grass, 3 dirt, 7 bedrock. x and z are any whole numbers, y is from 0 to 255.
-use Rattle.std.specs.Prelude.{ℕ, unsigned_abs, ◌+◌, ◌*◌, ◌/◌, ◌%◌, ◌==◌, ◌&&◌, Bool, false, nat_lt, nat_le, if◌then◌else◌}
+-- The three terrains: the state that each cell of the endless world has before anybody changed it,
+-- and the biome of each place. Rules of this project. A state is id * 16 + metadata; the ids are
+-- those of wiki.vg's list of blocks: 1 stone, 2 grass, 3 dirt, 7 bedrock. x and z are any whole
+-- numbers, y is from 0 to 255.
+use Rattle.std.specs.Prelude.{ℕ, unsigned_abs, ◌+◌, ◌*◌, ◌/◌, ◌%◌, ◌==◌, ◌&&◌, Bool, false, nat_lt}
+use Rattle.std.specs.Prelude.{nat_le, if◌then◌else◌}
 use Rattle.std.specs.Int.{abs_diff, int_rem_euclid}
 use lib.IntN.{ℤ, pos, negsuc, ◌+ℤ◌}
 use Rattle.mc_land.specs.declared.terrain.Terrain.{Terrain}
@@ -11,9 +13,11 @@ use Rattle.mc_land.specs.declared.terrain.Terrain.TheVariants.{Flat, Hills, Isle
 abbrev pub wave : ℤ → ℕ → ℕ
 wave v half = abs_diff (unsigned_abs (int_rem_euclid v (pos (2 * half)))) half
 
--- how high the grass of the hills stands: 40 and two waves, along x and along z, that the seed shifts
+-- how high the grass of the hills stands: 40 and two waves, along x and along z, that the seed
+-- shifts
 abbrev pub height : ℕ → ℤ → ℤ → ℕ
-height seed x z = 40 + wave (x +ℤ pos (seed % 128)) 64 / 8 + wave (z +ℤ pos (seed / 128 % 96)) 48 / 8
+height seed x z = 40 + wave (x +ℤ pos (seed % 128)) 64 / 8 + wave (z +ℤ pos (seed / 128 % 96)) 48 /
+    8
 
 -- bedrock, two layers of dirt, and grass
 abbrev pub flat_id : ℕ → ℕ
@@ -21,7 +25,8 @@ flat_id y = if y == 0 then 7 else if nat_le y 2 then 3 else if y == 3 then 2 els
 
 -- bedrock, stone up to four below the grass, dirt, and the grass
 abbrev pub hills_id : ℕ → ℕ → ℕ
-hills_id top y = if y == 0 then 7 else if nat_le (y + 4) top then 1 else if nat_lt y top then 3 else if y == top then 2 else 0
+hills_id top y = if y == 0 then 7 else if nat_le (y + 4) top then 1 else if nat_lt y top then 3 else
+    if y == top then 2 else 0
 
 -- a number from 0 to 15
 abbrev pub is_within_16 : ℤ → Bool

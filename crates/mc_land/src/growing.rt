@@ -1,4 +1,5 @@
-ghost use Rattle.std.specs.Prelude.{◌≡◌, ◌+◌, ◌*◌, ◌<◌, ◌≤◌, ◌==◌, ℕ, [], IfOk, IfSome, OnOk, length, slice_index, if◌then◌else◌};
+ghost use Rattle.std.specs.Prelude.{◌≡◌, ◌+◌, ◌*◌, ◌<◌, ◌≤◌, ◌==◌, ℕ, [], IfOk, IfSome, OnOk};
+ghost use Rattle.std.specs.Prelude.{length, slice_index, if◌then◌else◌};
 ghost use lib.IntN.{pos, negsuc, ◌+ℤ◌, ◌*ℤ◌};
 ghost use lib.Signed.{◌≤ℤ◌};
 ghost use Rattle.mc_land.specs.declared.terrain.Terrain.TheVariants.{Flat, Hills, Isle};
@@ -8,7 +9,8 @@ ghost use Rattle.mc_land.specs.Terrain.{height, hills_biome, hills_id, isle_id};
 ghost use Rattle.mc_land.specs.Places.{IsPlace};
 ghost use Rattle.mc_land.specs.Land.{terrain_at, biomes_of};
 ghost use Rattle.mc_land.specs.Grown.{own_column, x_at, z_at};
-ghost use Rattle.mc_land.specs.GrownCode.{AppendsLayer, AreTops, IsGrown, fills, low_of, own_section, reach_in};
+ghost use Rattle.mc_land.specs.GrownCode.{AppendsLayer, AreTops, IsGrown, fills, low_of};
+ghost use Rattle.mc_land.specs.GrownCode.{own_section, reach_in};
 
 use crate::places::Place;
 use crate::sizes::{cells_of_layer, cells_of_section, sections_of_column};
@@ -57,7 +59,8 @@ fn grow_section(
     requires inside { i < 16 }
     requires place { IsPlace place.now }
     requires tops { AreTops terrain.now place.now tops.now }
-    ensures { OnOk result (IsGrown terrain.now place.now column.old i → IsGrown terrain.now place.now column.new (i + 1)) }
+    ensures { OnOk result (IsGrown terrain.now place.now column.old i →
+        IsGrown terrain.now place.now column.new (i + 1)) }
 {
     let filled = filled_in(terrain, place, tops, i);
     if filled == 0 {
@@ -144,8 +147,10 @@ pub(crate) fn block_at(c: i32, at: usize) -> i32
 fn top_at(terrain: &Terrain, place: &Place, i: usize) -> u16
     requires place { IsPlace place.now }
     requires inside { i < squares }
-    ensures at { (seed : ℕ) → terrain.now ≡ Hills seed → result ≡ height seed (x_at place.now i) (z_at place.now i) }
-    ensures reach { (y : ℕ) → block_of (terrain_at terrain.now (place.now, y * squares + i)) ≡ fills terrain.now result y }
+    ensures at { (seed : ℕ) → terrain.now ≡ Hills seed →
+        result ≡ height seed (x_at place.now i) (z_at place.now i) }
+    ensures reach { (y : ℕ) → block_of (terrain_at terrain.now (place.now, y * squares + i)) ≡
+        fills terrain.now result y }
     ensures small { result < 256 }
     ensures low { (seed : ℕ) → terrain.now ≡ Hills seed → 40 ≤ result }
     ensures high { (seed : ℕ) → terrain.now ≡ Hills seed → result ≤ 54 }
@@ -160,7 +165,9 @@ fn top_at(terrain: &Terrain, place: &Place, i: usize) -> u16
 /// How high the blocks of the isle reach in a column: below the stone where there is none.
 fn isle_top(place: &Place) -> u16
     requires { IsPlace place.now }
-    ensures { result ≡ (if isle_id (place.now.0 *ℤ pos 16 +ℤ pos 0) 63 (place.now.1 *ℤ pos 16 +ℤ pos 0) == 0 then 62 else 63) }
+    ensures { result ≡
+        (if isle_id (place.now.0 *ℤ pos 16 +ℤ pos 0) 63 (place.now.1 *ℤ pos 16 +ℤ pos 0) == 0 then
+        62 else 63) }
 {
     if isle_id(block_at(place.0, 0), 63, block_at(place.1, 0)) == 0 {
         ISLE_TOP - 1
@@ -209,7 +216,8 @@ fn push_hills(tops: &[u16], y: u8, out: &mut Vec<u16>) -> Result<(), NoMemory>
     requires sized { length tops.now ≡ squares }
     requires low { (i : ℕ) → i < squares → 40 ≤ slice_index tops.now i }
     requires high { (i : ℕ) → i < squares → slice_index tops.now i ≤ 54 }
-    ensures { OnOk result (AppendsLayer out.old.items out.new.items (λ i. hills_id (slice_index tops.now i) y * 16)) }
+    ensures { OnOk result (AppendsLayer out.old.items out.new.items
+        (λ i. hills_id (slice_index tops.now i) y * 16)) }
 {
     match hills_alike(y) {
         Some(state) => push_alike(state, out),
@@ -220,7 +228,8 @@ fn push_hills(tops: &[u16], y: u8, out: &mut Vec<u16>) -> Result<(), NoMemory>
 /// Appends a layer of the hills, cell by cell.
 fn push_tops(tops: &[u16], y: u8, out: &mut Vec<u16>) -> Result<(), NoMemory>
     requires { length tops.now ≡ squares }
-    ensures { OnOk result (AppendsLayer out.old.items out.new.items (λ i. hills_id (slice_index tops.now i) y * 16)) }
+    ensures { OnOk result (AppendsLayer out.old.items out.new.items
+        (λ i. hills_id (slice_index tops.now i) y * 16)) }
 {
     for top in tops {
         out.push(hills_id(*top, y) * 16)?;
@@ -231,7 +240,8 @@ fn push_tops(tops: &[u16], y: u8, out: &mut Vec<u16>) -> Result<(), NoMemory>
 /// The state of layer `y` of a column of the isle, which is alike everywhere.
 fn isle_state(place: &Place, y: u8) -> u16
     requires { IsPlace place.now }
-    ensures { result ≡ isle_id (place.now.0 *ℤ pos 16 +ℤ pos 0) y (place.now.1 *ℤ pos 16 +ℤ pos 0) * 16 }
+    ensures { result ≡ isle_id (place.now.0 *ℤ pos 16 +ℤ pos 0) y (place.now.1 *ℤ pos 16 +ℤ pos 0) *
+        16 }
 {
     isle_id(block_at(place.0, 0), y, block_at(place.1, 0)) * 16
 }
@@ -246,7 +256,8 @@ fn push_layer(
 ) -> Result<(), NoMemory>
     requires place { IsPlace place.now }
     requires tops { AreTops terrain.now place.now tops.now }
-    ensures { OnOk result (AppendsLayer out.old.items out.new.items (λ i. terrain_at terrain.now (place.now, y * squares + i))) }
+    ensures { OnOk result (AppendsLayer out.old.items out.new.items (λ i. terrain_at terrain.now
+        (place.now, y * squares + i))) }
 {
     match terrain {
         Terrain::Flat => push_alike(flat_id(y) * 16, out)?,

@@ -1,4 +1,5 @@
-ghost use Rattle.std.specs.Prelude.{◌≡◌, ◌+◌, ◌++◌, ◌∷◌, ◌↔◌, [], None, false, map, IsNone, IfSome, OnOk, OnErr};
+ghost use Rattle.std.specs.Prelude.{◌≡◌, ◌+◌, ◌++◌, ◌∷◌, ◌↔◌, [], None, false, map, IsNone, IfSome};
+ghost use Rattle.std.specs.Prelude.{OnOk, OnErr};
 ghost use lib.Signed.{◌≤ℤ◌, ◌<ℤ◌};
 ghost use lib.IntN.{pos};
 ghost use Rattle.std.specs.FinSet as set;
@@ -8,7 +9,8 @@ ghost use Rattle.std.specs.FinMap.{find};
 ghost use Rattle.mc_land.specs.Places.{IsPlace, place_cmp};
 ghost use Rattle.mc_land.specs.Terrain.{terrain_state};
 ghost use Rattle.mc_land.specs.KeptLand.{placed, IsIndexed};
-ghost use Rattle.mc_land.specs.Land.{block, column_of, dirty_in, new_land, settled_land, with_ready};
+ghost use Rattle.mc_land.specs.Land.{block, column_of, dirty_in, new_land, settled_land};
+ghost use Rattle.mc_land.specs.Land.{with_ready};
 ghost use Rattle.mc_land.specs.Ready.{settled_ready};
 
 mod chests;
@@ -33,8 +35,8 @@ use std::sync::ledger::Ledger;
 
 /// An endless world of cells: a terrain, and what was changed of it.
 ///
-/// Contracts see it as its terrain, the edits (the cells whose state is not the terrain's), those at
-/// the last settling, the chests, and the columns that are ready to be looked at.
+/// Contracts see it as its terrain, the edits (the cells whose state is not the terrain's), those
+/// at the last settling, the chests, and the columns that are ready to be looked at.
 #[derive(Drop)]
 pub struct Land {
     terrain: Terrain,
@@ -57,7 +59,8 @@ impl Model for Land {
 
     ghost view = { λ land. kept_land land.terrain (placed land.columns.items) land.chests.entries };
 
-    ghost invariant = { λ land. IsKeptLand land.terrain (placed land.columns.items) land.chests.entries × IsIndexed land.columns.items land.index.entries };
+    ghost invariant = { λ land. IsKeptLand land.terrain (placed land.columns.items)
+        land.chests.entries × IsIndexed land.columns.items land.index.entries };
 }
 
 impl Land {
@@ -119,8 +122,8 @@ impl Land {
         }
     }
 
-    /// The cells of a column whose state differs from that at the last settling, in rising index, with
-    /// the states that they had.
+    /// The cells of a column whose state differs from that at the last settling, in rising index,
+    /// with the states that they had.
     pub fn dirty(&self, cx: i32, cz: i32) -> &[Touched]
         requires { IsPlace (cx, cz) }
         ensures { result.now ≡ dirty_in self.now (cx, cz) }

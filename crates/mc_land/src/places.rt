@@ -1,7 +1,8 @@
 ghost use Rattle.std.specs.Prelude.{◌≡◌, ◌<◌, ℕ, unsigned_abs};
 ghost use lib.Signed.{◌≤ℤ◌, ◌<ℤ◌};
 ghost use lib.IntN.{pos};
-ghost use Rattle.mc_land.specs.Places.{column_number, inside, is_height, is_inside, is_near, key_of, place_of};
+ghost use Rattle.mc_land.specs.Places.{column_number, inside, is_height, is_inside, is_near};
+ghost use Rattle.mc_land.specs.Places.{key_of, place_of};
 
 use crate::ready::index_of;
 use mc_fields::Cell;

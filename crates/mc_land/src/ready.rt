@@ -1,4 +1,5 @@
-ghost use Rattle.std.specs.Prelude.{◌≡◌, ◌++◌, ◌<◌, ◌≤◌, ◌==◌, Bool, not, true, false, nat_lt, ℕ, List, OnOk, OnErr, length, slice_index};
+ghost use Rattle.std.specs.Prelude.{◌≡◌, ◌++◌, ◌<◌, ◌≤◌, ◌==◌, Bool, not, true, false, nat_lt, ℕ};
+ghost use Rattle.std.specs.Prelude.{List, OnOk, OnErr, length, slice_index};
 ghost use Rattle.std.specs.Vec.{vec_len, vec_capacity};
 ghost use Rattle.std.specs.List.Sorted.{IsPartitionPoint, IsPartitionedBy};
 ghost use Rattle.mc_column.specs.Cells.{HasSizes, cell_index};
@@ -49,7 +50,8 @@ impl Model for Ready {
 
     ghost view = { λ ready. kept_ready ready.place ready.terrain ready.column ready.touched.items };
 
-    ghost invariant = { λ ready. IsKeptReady ready.place ready.terrain ready.column ready.touched.items ready.edits };
+    ghost invariant = { λ ready. IsKeptReady ready.place ready.terrain ready.column
+        ready.touched.items ready.edits };
 }
 
 impl Ready {
@@ -57,7 +59,12 @@ impl Ready {
     pub(crate) fn new(alloc: Global, place: Place, terrain: Terrain, column: Column) -> Ready
         requires inside { IsPlace place }
         requires own { column ≡ own_column terrain place }
-        ensures { result ≡ record { place = place; terrain = terrain; present = column; settled = column } }
+        ensures { result ≡ record {
+          place = place;
+          terrain = terrain;
+          present = column;
+          settled = column;
+        } }
     {
         Ready {
             place,
@@ -135,7 +142,8 @@ fn own_state(terrain: &Terrain, place: &Place, x: u8, y: u8, z: u8) -> u16
     requires inside { IsPlace place.now }
     requires x_inside { x < 16 }
     requires z_inside { z < 16 }
-    ensures { result ≡ terrain_state terrain.now (place.now.0 *ℤ pos 16 +ℤ pos x) y (place.now.1 *ℤ pos 16 +ℤ pos z) }
+    ensures { result ≡ terrain_state terrain.now (place.now.0 *ℤ pos 16 +ℤ pos x) y
+        (place.now.1 *ℤ pos 16 +ℤ pos z) }
 {
     terrain.state(
         block_at(place.0, usize::from(x)),
@@ -164,7 +172,8 @@ pub(crate) fn index_of(x: u8, y: u8, z: u8) -> u16
 fn rank(touched: &[Touched], index: u16) -> usize
     requires { IsPartitionedBy (λ cell. nat_lt cell.index index) touched.now }
     ensures bound { result ≤ length touched.now }
-    ensures point { IsPartitionPoint (λ cell. nat_lt cell.index index ≡ true) (λ cell. nat_lt cell.index index ≡ false) touched.now result }
+    ensures point { IsPartitionPoint (λ cell. nat_lt cell.index index ≡ true)
+        (λ cell. nat_lt cell.index index ≡ false) touched.now result }
 {
     touched.partition_point(|cell| cell.index < index)
 }
@@ -184,7 +193,10 @@ fn is_at(touched: &[Touched], at: usize, index: u16) -> bool
 fn touch(touched: &mut Vec<Touched>, index: u16, old: u16, state: u16)
     requires sorted { IsPartitionedBy (λ other. nat_lt other.index index) touched.old.items }
     requires room { vec_len touched.old < vec_capacity touched.old }
-    ensures { (low high : List Touched) (known : Bool) (cell : Touched) → IsAround touched.old.items low high known cell → cell.index ≡ index → (known ≡ false → cell.was ≡ old) → touched.new.items ≡ low ++ (one_if (not (cell.was == state)) cell ++ high) }
+    ensures { (low high : List Touched) (known : Bool) (cell : Touched) →
+        IsAround touched.old.items low high known cell → cell.index ≡ index →
+        (known ≡ false → cell.was ≡ old) → touched.new.items ≡ low ++
+        (one_if (not (cell.was == state)) cell ++ high) }
 {
     let at = rank(touched, index);
     if is_at(touched, at, index) {

@@ -1,6 +1,7 @@
 ghost use Rattle.std.specs.Prelude.{◌≡◌, ◌+◌, ◌*◌, ◌<◌, ◌≤◌};
 ghost use lib.IntN.{pos, ◌+ℤ◌};
-ghost use Rattle.mc_land.specs.Terrain.{wave, height, flat_id, hills_id, hills_biome, isle_id, terrain_state, terrain_biome};
+ghost use Rattle.mc_land.specs.Terrain.{wave, height, flat_id, hills_id, hills_biome, isle_id};
+ghost use Rattle.mc_land.specs.Terrain.{terrain_state, terrain_biome};
 
 /// What the world is made of before anybody changed it.
 #[derive(Clone, Copy, Debug, PartialEq, Eq)]

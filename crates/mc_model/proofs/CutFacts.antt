@@ -2,7 +2,8 @@
 use Rattle.std.proofs.Common.{◌≡◌, ℕ, zero, suc, ◌+◌, ◌-◌, ◌<◌, List, [], length, Ok, Err, refl, sym, subst, ap, arith}
 use Rattle.std.proofs.lemmas.List.{length-append}
 use Rattle.mc_nbt.specs.Reading.{Field, IsBytes}
-use Rattle.mc_frame.specs.Frame.{frame_read, frame_found}
+use Rattle.mc_frame.specs.Frame.{frame_read}
+use Rattle.mc_frame.specs.FrameLaws.{frame_found}
 use Rattle.mc_frame.specs.Cut.{IsCutAt, kept_count}
 use Rattle.mc_frame.proofs.Stops.{frame_stopped}
 use Rattle.mc_frame.proofs.Cuts.{framed_cut, stopped_ends, frame_some}

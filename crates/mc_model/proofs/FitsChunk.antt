@@ -7,7 +7,8 @@ use Rattle.mc_nbt.specs.Signed.{signed_fits}
 use Rattle.mc_nbt.specs.Numbers.{wide_8, wide_16, wide_32}
 use Rattle.mc_fields.specs.VarintFormat.{varint-fits}
 use Rattle.mc_fields.specs.Integers.{bool_byte}
-use Rattle.mc_column.specs.Sizes.{section_count, section_count-is, section_cells-is, light_bytes-is, squares-is}
+use Rattle.mc_column.specs.Sizes.{section_count}
+use Rattle.mc_column.specs.SizesLaws.{section_count-is, section_cells-is, light_bytes-is, squares-is}
 use Rattle.mc_column.specs.Cells.{ColumnValue, HasSizes, rank}
 use Rattle.mc_column.specs.Body.{is_named}
 use Rattle.mc_column.specs.Sent.{column_mask, column_bytes}

@@ -2,7 +2,8 @@
 use Rattle.std.proofs.Common.{◌≡◌, ℕ, List, [], ◌∷◌, ◌++◌, map, refl, sym, subst, ap}
 use Rattle.std.specs.Prelude.{Some}
 use Rattle.std.proofs.lemmas.List.{append-nil}
-use Rattle.mc_frame.specs.Frame.{IsPayload, frame_spelling, frame_spelled}
+use Rattle.mc_frame.specs.Frame.{IsPayload, frame_spelling}
+use Rattle.mc_frame.specs.FrameLaws.{frame_spelled}
 use Rattle.mc_frame.specs.Cut.{SpellsFrames}
 use Rattle.mc_frame.proofs.Stops.{nothing_part}
 use Rattle.mc_up.specs.StatusDown as status

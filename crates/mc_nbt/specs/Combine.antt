@@ -23,11 +23,15 @@ abbrev pub ◌then◌ : {Rest : List ℕ → Type 0} {A B : Type 0} → Format A
   fits = λ v. f.fits v.0 × (g v.0).fits v.1;
   spelling = λ v. f.spelling v.0 ++ (g v.0).spelling v.1;
   append = sequence_append f.append (λ a. (g a).append);
-  found = sequence_found f.spells f.read (λ a. (g a).spells) (λ a. (g a).read) f.found (λ a. (g a).found);
-  only = sequence_only Rest f.spells f.read (λ a. (g a).spells) (λ a. (g a).read) f.only (λ a. (g a).only);
+  found = sequence_found f.spells f.read (λ a. (g a).spells) (λ a. (g a).read) f.found
+      (λ a. (g a).found);
+  only = sequence_only Rest f.spells f.read (λ a. (g a).spells) (λ a. (g a).read) f.only
+      (λ a. (g a).only);
   fit = sequence_fit f.spells f.fits (λ a. (g a).spells) (λ a. (g a).fits) f.fit (λ a. (g a).fit);
-  spelled = sequence_spelled f.spells f.fits f.spelling (λ a. (g a).spells) (λ a. (g a).fits) (λ a. (g a).spelling) f.spelled (λ a. (g a).spelled);
-  appended = sequence_appended f.spelling f.append (λ a. (g a).spelling) (λ a. (g a).append) f.appended (λ a. (g a).appended);
+  spelled = sequence_spelled f.spells f.fits f.spelling (λ a. (g a).spells) (λ a. (g a).fits)
+      (λ a. (g a).spelling) f.spelled (λ a. (g a).spelled);
+  appended = sequence_appended f.spelling f.append (λ a. (g a).spelling) (λ a. (g a).append)
+      f.appended (λ a. (g a).appended);
 }
 
 -- ---- a value that passes a test, or else a fault at its place

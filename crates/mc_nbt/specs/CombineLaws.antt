@@ -55,7 +55,8 @@ pub sequence_found : {A B : Type 0} (fs : A → List ℕ → Type 0) (fr : List 
     → List ℕ → Type 0) (gr : A → List ℕ → Field B) → IsFound fs fr → ((a : A)
     → IsFound (gs a) (gr a)) → IsFound (Sequence fs gs) (sequence_read fr gr)
 sequence_found {A} {B} fs fr gs gr first second bytes x fits e =
-    let p = bind_ok (fr bytes) (λ (a : A × List ℕ). gr a.0 a.1 >>= λ (b : B × List ℕ). Ok ((a.0, b.0), b.1)) x e in
+    let p = bind_ok (fr bytes) (λ (a : A × List ℕ). gr a.0 a.1 >>= λ (b : B × List ℕ).
+    Ok ((a.0, b.0), b.1)) x e in
     let q = bind_ok (gr p.0.0 p.0.1) (λ (b : B × List ℕ). Ok ((p.0.0, b.0), b.1)) x p.2 in
     let f = first bytes p.0 fits p.1 in
     let g = second p.0.0 p.0.1 q.0 f.rest_fits q.1 in
@@ -70,8 +71,13 @@ pub sequence_only : {A B : Type 0} (Rest : List ℕ → Type 0) (fs : A → List
     → Field A) (gs : A → B → List ℕ → Type 0) (gr : A → List ℕ → Field B) → IsOnly Anything fs fr
     → ((a : A) → IsOnly Rest (gs a) (gr a)) → IsOnly Rest (Sequence fs gs) (sequence_read fr gr)
 sequence_only {A} {B} Rest fs fr gs gr first second v bytes rest ends s =
-    let regrouped : bytes ++ rest ≡ s.front ++ (s.back ++ rest) = ap (λ (t : List ℕ). t ++ rest) s.parts ∙ append_assoc s.front s.back rest in
-    rw (regrouped, first v.0 s.front (s.back ++ rest) tt s.first_spelled, second v.0 v.1 s.back rest ends s.second_spelled) refl
+    let regrouped : bytes ++ rest ≡ s.front ++ (s.back ++ rest) =
+    ap (λ (t : List ℕ). t ++ rest) s.parts ∙ append_assoc s.front s.back rest in
+    rw (
+      regrouped,
+      first v.0 s.front (s.back ++ rest) tt s.first_spelled,
+      second v.0 v.1 s.back rest ends s.second_spelled,
+    ) refl
 
 pub sequence_fit : {A B : Type 0} (fs : A → List ℕ → Type 0) (ff : A → Type 0) (gs : A → B → List ℕ
     → Type 0) (gf : A → B → Type 0) → ((a : A) (bytes : List ℕ) → fs a bytes → ff a)
@@ -85,14 +91,21 @@ pub sequence_spelled : {A B : Type 0} (fs : A → List ℕ → Type 0) (ff : A �
     → ff a → fs a (fw a)) → ((a : A) (b : B) → gf a b → gs a b (gw a b)) → (v : A × B)
     → ff v.0 × gf v.0 v.1 → Sequence fs gs v (fw v.0 ++ gw v.0 v.1)
 sequence_spelled fs ff fw gs gf gw first second v fits =
-    record { front = fw v.0; back = gw v.0 v.1; parts = refl; first_spelled = first v.0 fits.0; second_spelled = second v.0 v.1 fits.1 }
+    record {
+      front = fw v.0;
+      back = gw v.0 v.1;
+      parts = refl;
+      first_spelled = first v.0 fits.0;
+      second_spelled = second v.0 v.1 fits.1;
+    }
 
 pub sequence_appended : {A B : Type 0} (fw : A → List ℕ) (fa : A → List ℕ → List ℕ) (gw : A → B
     → List ℕ) (ga : A → B → List ℕ → List ℕ) → IsAppended fw fa → ((a : A)
     → IsAppended (gw a) (ga a)) → (v : A × B) (out : List ℕ)
     → sequence_append fa ga v out ≡ out ++ (fw v.0 ++ gw v.0 v.1)
 sequence_appended fw fa gw ga first second v out =
-    second v.0 v.1 (fa v.0 out) ∙ ap (λ (t : List ℕ). t ++ gw v.0 v.1) (first v.0 out) ∙ append_assoc out (fw v.0) (gw v.0 v.1)
+    second v.0 v.1 (fa v.0 out) ∙ ap (λ (t : List ℕ). t ++ gw v.0 v.1) (first v.0 out) ∙
+    append_assoc out (fw v.0) (gw v.0 v.1)
 
 -- ---- a value that passes a test, or else a fault at its place
 
@@ -105,10 +118,16 @@ pub tested_found : {A : Type 0} (spells : A → List ℕ → Type 0) (read : Lis
     → Bool) (kind : Kind) → IsFound spells read
     → IsFound (tested_spells spells test) (tested_read read test kind)
 tested_found {A} spells read test kind found bytes x fits e =
-    let p = bind_ok (read bytes) (λ (y : A × List ℕ). if test y.0 then Ok y else Err (stop_at kind bytes)) x e in
+    let p = bind_ok (read bytes) (λ (y : A × List ℕ). if test y.0 then Ok y else
+    Err (stop_at kind bytes)) x e in
     let q = checked_ok (test p.0.0) p.0 x (stop_at kind bytes) p.2 in
     let f = found bytes p.0 fits p.1 in
-    Found-is (tested_spells spells test) bytes p.0 x q.1 (record { front = f.front; parts = f.parts; spelled = (f.spelled, q.0); rest_fits = f.rest_fits })
+    Found-is (tested_spells spells test) bytes p.0 x q.1 (record {
+      front = f.front;
+      parts = f.parts;
+      spelled = (f.spelled, q.0);
+      rest_fits = f.rest_fits;
+    })
 
 pub tested_only : {A : Type 0} (Rest : List ℕ → Type 0) (spells : A → List ℕ
     → Type 0) (read : List ℕ → Field A) (test : A → Bool) (kind : Kind) → IsOnly Rest spells read
@@ -134,7 +153,8 @@ view_found {A} {B} spells read fits Fits make back view fit found bytes x are_by
     let f = found bytes p.0 are_bytes p.1 in
     let fitting = fit p.0.0 f.front f.spelled in
     let P : A → Type 0 = λ a. spells a f.front in
-    Found-is (view_spells spells Fits back) bytes (make p.0.0, p.0.1) x (ok_is Stop _ _ p.2) (record {
+    Found-is (view_spells spells Fits back) bytes (make p.0.0, p.0.1) x (ok_is Stop _ _ p.2)
+    (record {
       front = f.front;
       parts = f.parts;
       spelled = (view.made p.0.0 fitting, subst P (sym (view.again p.0.0 fitting)) f.spelled);
@@ -152,7 +172,12 @@ view_only {A} {B} Rest spells read fits Fits make back view only b front rest en
 
 pub none_found : IsFound none_spells none_read
 none_found bytes x fits e =
-    Found-is none_spells bytes (tt, bytes) x (ok_is Stop _ _ e) (record { front = []; parts = refl; spelled = refl; rest_fits = fits })
+    Found-is none_spells bytes (tt, bytes) x (ok_is Stop _ _ e) (record {
+      front = [];
+      parts = refl;
+      spelled = refl;
+      rest_fits = fits;
+    })
 
 pub none_only : (Rest : List ℕ → Type 0) → IsOnly Rest none_spells none_read
 none_only Rest value front rest ends s = rw s refl

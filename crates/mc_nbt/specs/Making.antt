@@ -20,6 +20,10 @@ from {Rest} {A} {B} f Fits make pick making = record {
   found = made_found f.spells f.read make f.found;
   only = made_only Rest f.spells f.read make f.only;
   fit = made_fit f.spells f.fits Fits make making.made f.fit;
-  spelled = λ b fits. record { source = pick b; makes = sym (making.same b fits); spelled = f.spelled (pick b) (making.picked b fits) };
+  spelled = λ b fits. record {
+    source = pick b;
+    makes = sym (making.same b fits);
+    spelled = f.spelled (pick b) (making.picked b fits);
+  };
   appended = λ b out. f.appended (pick b) out;
 }

@@ -15,10 +15,19 @@ unfolding times_at
 times_only spells read only Rest zero [] front rest ends s = rw s.1 refl
 times_only spells read only Rest zero (x ∷ xs) front rest ends s = absurd cc
 times_only spells read only Rest (suc n) [] front rest ends s = absurd cc
-times_only spells read only Rest (suc n) (x ∷ xs) front rest ends (len, (first, others, parts, spelled, all)) =
-    let regrouped : front ++ rest ≡ first ++ (others ++ rest) = ap (λ (t : List ℕ). t ++ rest) parts ∙ append_assoc first others rest in
+times_only spells read only Rest (suc n) (x ∷ xs) front rest ends (
+  len,
+  (first, others, parts, spelled, all),
+) =
+    let regrouped : front ++ rest ≡ first ++ (others ++ rest) = ap (λ (t : List ℕ). t ++ rest) parts
+    ∙ append_assoc first others rest in
     let fewer : length xs ≡ n = omega (arith, len) in
-    rw (regrouped, only x first (others ++ rest) tt spelled, times_only spells read only Rest n xs others rest ends (fewer, all)) refl
+    rw (
+      regrouped,
+      only x first (others ++ rest) tt spelled,
+      times_only spells read only Rest n xs
+          others rest ends (fewer, all),
+    ) refl
 
 pub all_fit : {A : Type 0} (spells : A → List ℕ → Type 0) (fits : A → Type 0)
     → ((a : A) (bytes : List ℕ) → spells a bytes → fits a) → (xs : List A) (bytes : List ℕ)
@@ -31,8 +40,14 @@ pub all_spelled : {A : Type 0} (spells : A → List ℕ → Type 0) (fits : A �
     → List ℕ) → ((a : A) → fits a → spells a (spelling a)) → (xs : List A) → AllFit fits xs
     → AllSpelled spells xs (all_spelling spelling xs)
 all_spelled spells fits spelling spelled [] fit = refl
-all_spelled spells fits spelling spelled (x ∷ xs) fit =
-    (spelling x, all_spelling spelling xs, refl, spelled x fit.0, all_spelled spells fits spelling spelled xs fit.1)
+all_spelled spells fits spelling spelled (x ∷ xs) fit = (
+  spelling x,
+  all_spelling spelling xs,
+  refl,
+  spelled x fit.0,
+  all_spelled spells fits spelling
+      spelled xs fit.1,
+)
 
 pub all_appended : {A : Type 0} (spelling : A → List ℕ) (append : A → List ℕ → List ℕ)
     → IsAppended spelling append → IsAppended (all_spelling spelling) (all_append append)

@@ -27,4 +27,5 @@ abbrev pub coded_named : Coded Named
 coded_named =
     code_by (List ℕ × List (List ℕ × Tree))
     (coded× (coded_list coded_ℕ) (coded_list (coded× (coded_list coded_ℕ) coded_tree)))
-    (λ value. (value.name, value.entries)) (λ parts. record { name = parts.0; entries = parts.1 }) (λ value. refl)
+    (λ value. (value.name, value.entries)) (λ parts. record { name = parts.0; entries = parts.1 })
+    (λ value. refl)

@@ -25,14 +25,16 @@ pub IsBytes-take : (n : ℕ) (bytes : List ℕ) → IsBytes bytes → IsBytes (t
 IsBytes-take n bytes h i =
     elim (cases_lt i n) [
       | inl lt ↦ rw (get_or-take n bytes i 0 lt) (h i)
-      | inr le ↦ rw (get_or_past (take n bytes) i 0 (omega (arith, length-take n bytes))) (omega arith)
+      | inr le ↦ rw (get_or_past (take n bytes) i 0 (omega (arith, length-take n bytes)))
+          (omega arith)
     ]
 
 -- the bytes after a front are bytes
 pub IsBytes-after : (bytes front rest : List ℕ) → bytes ≡ front ++ rest → IsBytes bytes
     → IsBytes rest
 IsBytes-after bytes front rest parts h =
-    let after : drop (length front) bytes ≡ rest = rw parts (drop_at front rest (length front) refl) in
+    let after : drop (length front) bytes ≡ rest = rw parts (drop_at front rest (length front) refl)
+    in
     subst IsBytes after (IsBytes-drop (length front) bytes h)
 
 -- ---- bytes as they are
@@ -40,7 +42,8 @@ IsBytes-after bytes front rest parts h =
 pub octets_found : (n : ℕ) → IsFound (octets_spells n) (octets_read n)
 unfolding octets_read
 octets_found n bytes x fits e =
-    let g = passed (nat_lt (length bytes) n) (stop_at Short bytes) (Ok (take n bytes, drop n bytes)) x e in
+    let g = passed (nat_lt (length bytes) n) (stop_at Short bytes) (Ok (take n bytes, drop n bytes))
+    x e in
     let long : n ≤ length bytes = ltb-false _ _ g.0 in
     Found-is (octets_spells n) bytes (take n bytes, drop n bytes) x (ok_is Stop _ _ g.1) (record {
       front = take n bytes;
@@ -53,7 +56,8 @@ pub octets_only : (n : ℕ) (Rest : List ℕ → Type 0) → IsOnly Rest (octets
 unfolding octets_read
 octets_only n Rest value front rest ends s =
     let len : length front ≡ n = ap length s.0 ∙ s.1 in
-    let long : nat_lt (length (front ++ rest)) n ≡ false = le-ltb _ _ (omega (arith, length-append front rest)) in
+    let long : nat_lt (length (front ++ rest)) n ≡ false =
+    le-ltb _ _ (omega (arith, length-append front rest)) in
     rw (long, take_at front rest n len, drop_at front rest n len, s.0) refl
 
 -- ---- whole numbers
@@ -61,18 +65,24 @@ octets_only n Rest value front rest ends s =
 -- what is known of the bytes of a number, at one width
 pub record IsWide (w : Width) : Type 0 where
   pub len : (n : ℕ) → length (to_be_bytes w n) ≡ byte_len w
-  pub back : (bytes : List ℕ) → length bytes ≡ byte_len w → IsBytes bytes → to_be_bytes w (from_be_bytes w bytes) ≡ bytes
+  pub back : (bytes : List ℕ) → length bytes ≡ byte_len w → IsBytes bytes →
+      to_be_bytes w (from_be_bytes w bytes) ≡ bytes
   pub again : (n : ℕ) → n < 2 ^ bits w → from_be_bytes w (to_be_bytes w n) ≡ n
   pub below : (bytes : List ℕ) → IsBytes bytes → from_be_bytes w bytes < 2 ^ bits w
 
 pub number_found : (w : Width) → IsWide w → IsFound (number_spells w) (number_read w)
 unfolding number_read number_spelling
 number_found w wide bytes x fits e =
-    let g = passed (nat_lt (length bytes) (byte_len w)) (stop_at Short bytes) (Ok (from_be_bytes w (take (byte_len w) bytes), drop (byte_len w) bytes)) x e in
+    let g = passed (nat_lt (length bytes) (byte_len w)) (stop_at Short bytes)
+    (Ok (from_be_bytes w (take (byte_len w) bytes), drop (byte_len w) bytes)) x e in
     let long : byte_len w ≤ length bytes = ltb-false _ _ g.0 in
     let front_fits : IsBytes (take (byte_len w) bytes) = IsBytes-take (byte_len w) bytes fits in
-    let len : length (take (byte_len w) bytes) ≡ byte_len w = omega (arith, length-take (byte_len w) bytes) in
-    Found-is (number_spells w) bytes (from_be_bytes w (take (byte_len w) bytes), drop (byte_len w) bytes) x (ok_is Stop _ _ g.1) (record {
+    let len : length (take (byte_len w) bytes) ≡ byte_len w =
+    omega (arith, length-take (byte_len w) bytes) in
+    Found-is (number_spells w) bytes (
+      from_be_bytes w (take (byte_len w) bytes),
+      drop (byte_len w) bytes,
+    ) x (ok_is Stop _ _ g.1) (record {
       front = take (byte_len w) bytes;
       parts = sym (take-append-drop (byte_len w) bytes);
       spelled = (wide.below _ front_fits, sym (wide.back _ len front_fits));
@@ -84,8 +94,16 @@ pub number_only : (w : Width) → IsWide w → (Rest : List ℕ → Type 0)
 unfolding number_read number_spelling
 number_only w wide Rest n front rest ends s =
     let len = wide.len n in
-    let long : nat_lt (length (to_be_bytes w n ++ rest)) (byte_len w) ≡ false = le-ltb _ _ (omega (arith, length-append (to_be_bytes w n) rest)) in
-    rw (s.1, long, take_at (to_be_bytes w n) rest (byte_len w) len, drop_at (to_be_bytes w n) rest (byte_len w) len, wide.again n s.0) refl
+    let long : nat_lt (length (to_be_bytes w n ++ rest)) (byte_len w) ≡ false =
+    le-ltb _ _ (omega (arith, length-append (to_be_bytes w n) rest)) in
+    rw (
+      s.1,
+      long,
+      take_at (to_be_bytes w n) rest (byte_len w) len,
+      drop_at (to_be_bytes w n) rest
+          (byte_len w) len,
+      wide.again n s.0,
+    ) refl
 
 -- what is written of a number is read as it again, whatever follows
 pub number_again : (w : Width) → IsWide w → (n : ℕ) → n < 2 ^ bits w → (rest : List ℕ)
@@ -129,5 +147,15 @@ wide_64 = record {
   len = λ n. refl;
   back = λ bytes len fits. be_bytes_8 bytes _ len fits refl;
   again = λ n lt. from_be_bytes-to_be_bytes_8 n lt;
-  below = λ bytes fits. omega (arith, fits 0, fits 1, fits 2, fits 3, fits 4, fits 5, fits 6, fits 7);
+  below = λ bytes fits. omega (
+    arith,
+    fits 0,
+    fits 1,
+    fits 2,
+    fits 3,
+    fits 4,
+    fits 5,
+    fits 6,
+    fits 7,
+  );
 }

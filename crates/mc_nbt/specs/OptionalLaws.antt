@@ -14,9 +14,11 @@ pub when_found : {A : Type 0} (there : Bool) (spells : A → List ℕ → Type 0
 when_found {A} true spells read found bytes x fits e =
     let p = bind_ok (read bytes) (λ (y : A × List ℕ). Ok (Some y.0, y.1)) x e in
     let f = found bytes p.0 fits p.1 in
-    Found-is (when_spells true spells) bytes (Some p.0.0, p.0.1) x (ok_is Stop _ _ p.2) (record { front = f.front; parts = f.parts; spelled = f.spelled; rest_fits = f.rest_fits })
+    Found-is (when_spells true spells) bytes (Some p.0.0, p.0.1) x (ok_is Stop _ _ p.2)
+    (record { front = f.front; parts = f.parts; spelled = f.spelled; rest_fits = f.rest_fits })
 when_found {A} false spells read found bytes x fits e =
-    Found-is (when_spells false spells) bytes (None, bytes) x (ok_is Stop _ _ e) (record { front = []; parts = refl; spelled = refl; rest_fits = fits })
+    Found-is (when_spells false spells) bytes (None, bytes) x (ok_is Stop _ _ e)
+    (record { front = []; parts = refl; spelled = refl; rest_fits = fits })
 
 pub when_only : {A : Type 0} (Rest : List ℕ → Type 0) (there : Bool) (spells : A → List ℕ
     → Type 0) (read : List ℕ → Field A) → IsOnly Rest spells read

@@ -33,7 +33,8 @@ between : (bytes front rest : List ℕ) (start : ℕ) → start ≤ length bytes
     → drop start bytes ≡ front ++ rest
     → slice_range bytes start (length bytes - length rest) ≡ front
 between bytes front rest start within parts =
-    let left : length bytes - start ≡ length front + length rest = sym (length-drop start bytes) ∙ ap length parts ∙ length-append front rest in
+    let left : length bytes - start ≡ length front + length rest = sym (length-drop start bytes) ∙
+    ap length parts ∙ length-append front rest in
     let len : length front ≡ length bytes - length rest - start = omega (arith, left) in
     rw parts (take_at front rest (length bytes - length rest - start) len)
 
@@ -45,11 +46,13 @@ pub placed_found : {A : Type 0} (spells : A → List ℕ → Type 0) (read : Lis
 placed_found {A} spells read found bytes start r fits within e =
     let p = placed_ok bytes (read (drop start bytes)) r e in
     let f = found (drop start bytes) p.0 (IsBytes-drop start bytes fits) p.1 in
-    let left : length bytes - start ≡ length f.front + length p.0.1 = sym (length-drop start bytes) ∙ ap length f.parts ∙ length-append f.front p.0.1 in
+    let left : length bytes - start ≡ length f.front + length p.0.1 =
+    sym (length-drop start bytes) ∙ ap length f.parts ∙ length-append f.front p.0.1 in
     SpelledAt-is spells bytes start (p.0.0, length bytes - length p.0.1) r p.2 (record {
       order = omega (arith, left);
       within = omega arith;
-      spelled = subst (spells p.0.0) (sym (between bytes f.front p.0.1 start within f.parts)) f.spelled;
+      spelled = subst (spells p.0.0) (sym (between bytes f.front p.0.1 start within f.parts))
+          f.spelled;
     })
 
 -- what is spelled at an offset is read from there
@@ -57,13 +60,26 @@ pub placed_only : {A : Type 0} (spells : A → List ℕ → Type 0) (read : List
     → IsOnly Anything spells read → (bytes : List ℕ) (start : ℕ) (a : A) (end : ℕ)
     → SpelledAt (spells a) bytes start end → placed bytes (read (drop start bytes)) ≡ Ok (a, end)
 placed_only {A} spells read only bytes start a end s =
-    let parts : drop start bytes ≡ slice_range bytes start end ++ drop (end - start) (drop start bytes) = sym (take-append-drop (end - start) (drop start bytes)) in
-    let left : length (drop (end - start) (drop start bytes)) ≡ length bytes - end = omega (arith, s.order, s.within, length-drop (end - start) (drop start bytes), length-drop start bytes) in
-    let place : length bytes - length (drop (end - start) (drop start bytes)) ≡ end = omega (arith, left, s.within) in
-    ap (λ (t : List ℕ). placed bytes (read t)) parts ∙ ap (placed bytes) (only a (slice_range bytes start end) (drop (end - start) (drop start bytes)) tt s.spelled) ∙ ap (λ (n : ℕ). Ok (a, n)) place
+    let parts : drop start bytes ≡ slice_range bytes start end ++
+    drop (end - start) (drop start bytes) =
+    sym (take-append-drop (end - start) (drop start bytes)) in
+    let left : length (drop (end - start) (drop start bytes)) ≡ length bytes - end =
+    omega (
+      arith,
+      s.order,
+      s.within,
+      length-drop (end - start) (drop start bytes),
+      length-drop start bytes,
+    ) in
+    let place : length bytes - length (drop (end - start) (drop start bytes)) ≡ end =
+    omega (arith, left, s.within) in
+    ap (λ (t : List ℕ). placed bytes (read t)) parts ∙
+    ap (placed bytes) (only a (slice_range bytes start end)
+    (drop (end - start) (drop start bytes)) tt s.spelled) ∙ ap (λ (n : ℕ). Ok (a, n)) place
 
 -- what a reader from an offset answers, seen from what its parts answered
-pub placed-Yields : {A : Type 0} (bytes rest : List ℕ) (value : Result A Stop) (result : Result (A × ℕ) FieldFault) (read : Field A)
+pub placed-Yields : {A : Type 0} (bytes rest : List ℕ) (value : Result A Stop) (result : Result (A ×
+    ℕ) FieldFault) (read : Field A)
     → result ≡ placed bytes (with_rest value rest) → Yields (λ x. (x, rest)) value read
     → result ≡ placed bytes read
 placed-Yields bytes rest value result read e y =

@@ -13,7 +13,12 @@ no_bytes i = omega arith
 
 pub rest_found : IsFound rest_spells rest_read
 rest_found bytes x fits e =
-    Found-is rest_spells bytes (bytes, []) x (ok_is Stop _ _ e) (record { front = bytes; parts = sym (append-nil bytes); spelled = refl; rest_fits = no_bytes })
+    Found-is rest_spells bytes (bytes, []) x (ok_is Stop _ _ e) (record {
+      front = bytes;
+      parts = sym (append-nil bytes);
+      spelled = refl;
+      rest_fits = no_bytes;
+    })
 
 pub rest_only : IsOnly Nothing rest_spells rest_read
 rest_only value front rest ends s =

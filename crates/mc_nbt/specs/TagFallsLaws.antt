@@ -32,6 +32,7 @@ tags_fall (t ∷ ts) = omega (arith, deep-tree_of t, tags_fall ts)
 
 -- the values of a compound
 pub entries_fall : (ms : List (List ℕ × Tag))
-    → most ((shapes.weighed-Entries-items-at-2).weight tags.the_data deep-Tag) ms ≤ members_depth (members_of (map member_of ms))
+    → most ((shapes.weighed-Entries-items-at-2).weight tags.the_data deep-Tag) ms ≤
+    members_depth (members_of (map member_of ms))
 entries_fall [] = omega arith
 entries_fall (m ∷ ms) = omega (arith, deep-tree_of m.1, entries_fall ms)

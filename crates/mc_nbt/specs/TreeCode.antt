@@ -82,16 +82,19 @@ push (case, (z, (bytes, zs))) parts =
     else if case == 10 then a_tree (compound (top_members parts)) ∷ below parts
     else if case == 11 then a_tree (int_array zs) ∷ parts
     else if case == 12 then some_trees no_trees ∷ parts
-    else if case == 13 then some_trees (one_tree (top_tree parts) (top_trees (below parts))) ∷ below (below parts)
+    else if case == 13 then some_trees (one_tree (top_tree parts) (top_trees (below parts))) ∷
+    below (below parts)
     else if case == 14 then some_members no_members ∷ parts
-    else some_members (one_member bytes (top_tree parts) (top_members (below parts))) ∷ below (below parts)
+    else some_members (one_member bytes (top_tree parts) (top_members (below parts))) ∷
+    below (below parts)
 
 abbrev pub parts_of : List Sign → List Part
 parts_of [] = []
 parts_of (s ∷ ss) = push s (parts_of ss)
 
 mutual
-  parts_of-signs : (t : Tree) (rest : List Sign) → parts_of (signs t ++ rest) ≡ a_tree t ∷ parts_of rest
+  parts_of-signs : (t : Tree) (rest : List Sign) → parts_of (signs t ++ rest) ≡ a_tree t ∷
+      parts_of rest
   parts_of-signs (byte z) rest = refl
   parts_of-signs (short z) rest = refl
   parts_of-signs (int z) rest = refl
@@ -104,25 +107,35 @@ mutual
   parts_of-signs (compound ms) rest = ap (push (sign 10 (pos 0))) (parts_of-members_signs ms rest)
   parts_of-signs (int_array zs) rest = refl
 
-  parts_of-trees_signs : (ts : Trees) (rest : List Sign) → parts_of (trees_signs ts ++ rest) ≡ some_trees ts ∷ parts_of rest
+  parts_of-trees_signs : (ts : Trees) (rest : List Sign) → parts_of (trees_signs ts ++ rest) ≡
+      some_trees ts ∷ parts_of rest
   parts_of-trees_signs no_trees rest = refl
   parts_of-trees_signs (one_tree t ts) rest =
-      ap (λ (ss : List Sign). push (sign 13 (pos 0)) (parts_of ss)) (append_assoc (signs t) (trees_signs ts) rest)
-      ∙ ap (push (sign 13 (pos 0))) (parts_of-signs t (trees_signs ts ++ rest) ∙ ap (λ (parts : List Part). a_tree t ∷ parts) (parts_of-trees_signs ts rest))
+      ap (λ (ss : List Sign). push (sign 13 (pos 0)) (parts_of ss))
+      (append_assoc (signs t) (trees_signs ts) rest)
+      ∙ ap (push (sign 13 (pos 0))) (parts_of-signs t (trees_signs ts ++ rest) ∙
+      ap (λ (parts : List Part). a_tree t ∷ parts) (parts_of-trees_signs ts rest))
 
-  parts_of-members_signs : (ms : Members) (rest : List Sign) → parts_of (members_signs ms ++ rest) ≡ some_members ms ∷ parts_of rest
+  parts_of-members_signs : (ms : Members) (rest : List Sign) → parts_of (members_signs ms ++ rest) ≡
+      some_members ms ∷ parts_of rest
   parts_of-members_signs no_members rest = refl
   parts_of-members_signs (one_member name t ms) rest =
-      ap (λ (ss : List Sign). push (sign_bytes 15 name) (parts_of ss)) (append_assoc (signs t) (members_signs ms) rest)
-      ∙ ap (push (sign_bytes 15 name)) (parts_of-signs t (members_signs ms ++ rest) ∙ ap (λ (parts : List Part). a_tree t ∷ parts) (parts_of-members_signs ms rest))
+      ap (λ (ss : List Sign). push (sign_bytes 15 name) (parts_of ss))
+      (append_assoc (signs t) (members_signs ms) rest)
+      ∙ ap (push (sign_bytes 15 name)) (parts_of-signs t (members_signs ms ++ rest) ∙
+      ap (λ (parts : List Part). a_tree t ∷ parts) (parts_of-members_signs ms rest))
 
 abbrev tree_back : List Sign → Tree
 tree_back ss = top_tree (parts_of ss)
 
 pub tree_back-signs : (t : Tree) → tree_back (signs t) ≡ t
 tree_back-signs t =
-    ap (λ (ss : List Sign). top_tree (parts_of ss)) (sym (append-nil (signs t))) ∙ ap top_tree (parts_of-signs t [])
+    ap (λ (ss : List Sign). top_tree (parts_of ss)) (sym (append-nil (signs t))) ∙
+    ap top_tree (parts_of-signs t [])
 
 abbrev pub coded_tree : Coded Tree
 coded_tree =
-    code_by (List Sign) (coded_list (coded× coded_ℕ (coded× coded_ℤ (coded× (coded_list coded_ℕ) (coded_list coded_ℤ))))) signs tree_back tree_back-signs
+    code_by (List Sign)
+    (coded_list (coded× coded_ℕ
+    (coded× coded_ℤ (coded× (coded_list coded_ℕ) (coded_list coded_ℤ))))) signs tree_back
+    tree_back-signs

@@ -25,9 +25,19 @@ until {Rest} {A} end small head_of body is_head = record {
   fits = AllFit (headed_fits end head_of (λ head. (body head).fits));
   spelling = until_spelling end head_of (λ head. (body head).spelling);
   append = until_append end head_of (λ head. (body head).append);
-  found = λ bytes. until_found (headed_spells end head_of (λ head. (body head).spells)) (headed_read end (λ head. (body head).read)) (headed_found end head_of (λ head. (body head).spells) (λ head. (body head).read) (λ head. (body head).found) is_head) (suc (length bytes)) bytes;
-  only = λ xs front rest ends s. until_only (headed_spells end head_of (λ head. (body head).spells)) (headed_read end (λ head. (body head).read)) (headed_only end small head_of (λ head. (body head).spells) (λ head. (body head).read) (λ head. (body head).only)) (suc (length (front ++ rest))) xs front rest (until_enough end head_of (λ head. (body head).spells) xs front rest s) s;
-  fit = until_fit end head_of (λ head. (body head).spells) (λ head. (body head).fits) (λ head. (body head).fit);
-  spelled = until_spelled end head_of (λ head. (body head).spells) (λ head. (body head).fits) (λ head. (body head).spelling) (λ head. (body head).spelled);
-  appended = until_appended end head_of (λ head. (body head).spelling) (λ head. (body head).append) (λ head. (body head).appended);
+  found = λ bytes. until_found (headed_spells end head_of (λ head. (body head).spells))
+      (headed_read end (λ head. (body head).read)) (headed_found end head_of
+      (λ head. (body head).spells) (λ head. (body head).read) (λ head. (body head).found) is_head)
+      (suc (length bytes)) bytes;
+  only = λ xs front rest ends s. until_only (headed_spells end head_of (λ head. (body head).spells))
+      (headed_read end (λ head. (body head).read)) (headed_only end small head_of
+      (λ head. (body head).spells) (λ head. (body head).read) (λ head. (body head).only))
+      (suc (length (front ++ rest))) xs front rest (until_enough end head_of
+      (λ head. (body head).spells) xs front rest s) s;
+  fit = until_fit end head_of (λ head. (body head).spells) (λ head. (body head).fits)
+      (λ head. (body head).fit);
+  spelled = until_spelled end head_of (λ head. (body head).spells) (λ head. (body head).fits)
+      (λ head. (body head).spelling) (λ head. (body head).spelled);
+  appended = until_appended end head_of (λ head. (body head).spelling) (λ head. (body head).append)
+      (λ head. (body head).appended);
 }

@@ -23,28 +23,44 @@ headed_is : {A : Type 0} (end : ℕ) (head_of : A → ℕ) (spells : ℕ → A �
     → number_spells w8 head front → head ≢ end → spells head value back
     → Headed end head_of spells value (front ++ back)
 headed_is end head_of spells head value front back is head_spelled other spelled =
-    record { front = front; back = back; parts = refl; head_spelled = rw is head_spelled; other = rw is other; spelled = rw is spelled }
+    record {
+      front = front;
+      back = back;
+      parts = refl;
+      head_spelled = rw is head_spelled;
+      other = rw is other;
+      spelled = rw is spelled;
+    }
 
 pub headed_found : {A : Type 0} (end : ℕ) (head_of : A → ℕ) (spells : ℕ → A → List ℕ
     → Type 0) (read : ℕ → List ℕ → Field A) → ((head : ℕ) → IsFound (spells head) (read head))
     → IsHead head_of spells → IsFound (headed_spells end head_of spells) (headed_read end read)
 unfolding headed_read
 headed_found {A} end head_of spells read found is_head bytes x fits e =
-    let p = bind_ok (number_read w8 bytes) (λ (head : ℕ × List ℕ). if head.0 == end then Ok (None, head.1) else some_read (read head.0) head.1) x e in
+    let p = bind_ok (number_read w8 bytes) (λ (head : ℕ × List ℕ). if head.0 == end then
+    Ok (None, head.1) else some_read (read head.0) head.1) x e in
     let f = number_found w8 wide_8 bytes p.0 fits p.1 in
     step p.0.0 p.0.1 f.front f.parts f.spelled f.rest_fits (p.0.0 == end) refl p.2
   where
-    step : (head : ℕ) (left front : List ℕ) → bytes ≡ front ++ left → number_spells w8 head front → IsBytes left → (t : Bool) → (head == end) ≡ t → cond t (Ok (None, left)) (some_read (read head) left) ≡ Ok x → Found (headed_spells end head_of spells) bytes x
+    step : (head : ℕ) (left front : List ℕ) → bytes ≡ front ++ left → number_spells w8 head front →
+        IsBytes left → (t : Bool) → (head == end) ≡ t →
+        cond t (Ok (None, left)) (some_read (read head) left) ≡ Ok x →
+        Found (headed_spells end head_of spells) bytes x
     step head left front parts spelled left_fits true t e =
-        let same : front ≡ number_spelling w8 end = spelled.1 ∙ ap (number_spelling w8) (eqb-true head end t) in
-        Found-is (headed_spells end head_of spells) bytes (None, left) x (ok_is Stop _ _ e) (record { front = front; parts = parts; spelled = same; rest_fits = left_fits })
+        let same : front ≡ number_spelling w8 end = spelled.1 ∙
+        ap (number_spelling w8) (eqb-true head end t) in
+        Found-is (headed_spells end head_of spells) bytes (None, left) x (ok_is Stop _ _ e)
+        (record { front = front; parts = parts; spelled = same; rest_fits = left_fits })
     step head left front parts spelled left_fits false t e =
         let q = bind_ok (read head left) (λ (y : A × List ℕ). Ok (Some y.0, y.1)) x e in
         let g = found head left q.0 left_fits q.1 in
-        Found-is (headed_spells end head_of spells) bytes (Some q.0.0, q.0.1) x (ok_is Stop _ _ q.2) (record {
+        Found-is (headed_spells end head_of spells) bytes (Some q.0.0, q.0.1) x (ok_is Stop _ _ q.2)
+        (record {
           front = front ++ g.front;
           parts = joined bytes front left g.front q.0.1 parts g.parts;
-          spelled = headed_is end head_of spells head q.0.0 front g.front (is_head head q.0.0 g.front spelled.0 g.spelled) spelled (eqb-false head end t) g.spelled;
+          spelled = headed_is end head_of spells head q.0.0 front g.front
+              (is_head head q.0.0 g.front spelled.0 g.spelled) spelled (eqb-false head end t)
+              g.spelled;
           rest_fits = g.rest_fits;
         })
 
@@ -57,9 +73,16 @@ headed_only end small head_of spells read only None front rest ends s =
     let same : (end == end) ≡ true = eq-eqb end end refl in
     rw (number_only w8 wide_8 Anything end front rest tt (small, s), same) refl
 headed_only end small head_of spells read only (Some value) front rest ends s =
-    let regrouped : front ++ rest ≡ s.front ++ (s.back ++ rest) = ap (λ (t : List ℕ). t ++ rest) s.parts ∙ append_assoc s.front s.back rest in
+    let regrouped : front ++ rest ≡ s.front ++ (s.back ++ rest) =
+    ap (λ (t : List ℕ). t ++ rest) s.parts ∙ append_assoc s.front s.back rest in
     let other : (head_of value == end) ≡ false = ne_eqb _ _ s.other in
-    rw (regrouped, number_only w8 wide_8 Anything (head_of value) s.front (s.back ++ rest) tt s.head_spelled, other, only (head_of value) value s.back rest tt s.spelled) refl
+    rw (
+      regrouped,
+      number_only w8 wide_8 Anything (head_of value) s.front (s.back ++ rest) tt
+          s.head_spelled,
+      other,
+      only (head_of value) value s.back rest tt s.spelled,
+    ) refl
 
 -- each value and the end take a byte at least
 headed_some : {A : Type 0} (end : ℕ) (head_of : A → ℕ) (spells : ℕ → A → List ℕ
@@ -70,7 +93,8 @@ headed_some end head_of spells None bytes s =
     let head : length bytes ≡ 1 = ap length s in omega (arith, head)
 headed_some end head_of spells (Some value) bytes s =
     let head : length s.front ≡ 1 = ap length s.head_spelled.1 in
-    let long : length bytes ≡ length s.front + length s.back = ap length s.parts ∙ length-append s.front s.back in
+    let long : length bytes ≡ length s.front + length s.back = ap length s.parts ∙
+    length-append s.front s.back in
     omega (arith, head, long)
 
 pub headed_shorter : {A : Type 0} (end : ℕ) (head_of : A → ℕ) (spells : ℕ → A → List ℕ
@@ -80,7 +104,8 @@ pub headed_shorter : {A : Type 0} (end : ℕ) (head_of : A → ℕ) (spells : �
 headed_shorter end head_of spells read found is_head bytes x fits e =
     let f = headed_found end head_of spells read found is_head bytes x fits e in
     let some = headed_some end head_of spells x.0 f.front f.spelled in
-    let long : length bytes ≡ length f.front + length x.1 = ap length f.parts ∙ length-append f.front x.1 in
+    let long : length bytes ≡ length f.front + length x.1 = ap length f.parts ∙
+    length-append f.front x.1 in
     omega (arith, some, long)
 
 -- ---- many of them
@@ -93,9 +118,12 @@ unfolding number_spelling
 until_few end head_of spells [] bytes s = omega arith
 until_few end head_of spells (x ∷ xs) bytes (first, others, parts, spelled, all) =
     let few = until_few end head_of spells xs others all in
-    let head : length spelled.front ≡ 1 = ap length spelled.head_spelled.1 ∙ wide_8.len (head_of x) in
-    let long : length first ≡ length spelled.front + length spelled.back = ap length spelled.parts ∙ length-append spelled.front spelled.back in
-    let all_long : length bytes ≡ length first + length others = ap length parts ∙ length-append first others in
+    let head : length spelled.front ≡ 1 = ap length spelled.head_spelled.1 ∙
+    wide_8.len (head_of x) in
+    let long : length first ≡ length spelled.front + length spelled.back = ap length spelled.parts ∙
+    length-append spelled.front spelled.back in
+    let all_long : length bytes ≡ length first + length others = ap length parts ∙
+    length-append first others in
     omega (arith, few, head, long, all_long)
 
 pub until_enough : {A : Type 0} (end : ℕ) (head_of : A → ℕ) (spells : ℕ → A → List ℕ
@@ -114,9 +142,21 @@ pub until_only : {A : Type 0} (spells : Option A → List ℕ → Type 0) (step 
 unfolding until_at
 until_only spells step only zero xs front rest enough s = absurd (omega arith)
 until_only spells step only (suc fuel) [] front rest enough s = rw (only None front rest tt s) refl
-until_only spells step only (suc fuel) (x ∷ xs) front rest enough (first, others, parts, spelled, all) =
-    let regrouped : front ++ rest ≡ first ++ (others ++ rest) = ap (λ (t : List ℕ). t ++ rest) parts ∙ append_assoc first others rest in
-    rw (regrouped, only (Some x) first (others ++ rest) tt spelled, until_only spells step only fuel xs others rest (omega arith) all) refl
+until_only spells step only (suc fuel) (x ∷ xs) front rest enough (
+  first,
+  others,
+  parts,
+  spelled,
+  all,
+) =
+    let regrouped : front ++ rest ≡ first ++ (others ++ rest) = ap (λ (t : List ℕ). t ++ rest) parts
+    ∙ append_assoc first others rest in
+    rw (
+      regrouped,
+      only (Some x) first (others ++ rest) tt spelled,
+      until_only spells step only fuel
+          xs others rest (omega arith) all,
+    ) refl
 
 pub until_fit : {A : Type 0} (end : ℕ) (head_of : A → ℕ) (spells : ℕ → A → List ℕ
     → Type 0) (fits : ℕ → A → Type 0) → ((head : ℕ) (a : A) (bytes : List ℕ) → spells head a bytes
@@ -124,8 +164,10 @@ pub until_fit : {A : Type 0} (end : ℕ) (head_of : A → ℕ) (spells : ℕ →
     → SpelledUntil (headed_spells end head_of spells) xs bytes
     → AllFit (headed_fits end head_of fits) xs
 until_fit end head_of spells fits fit [] bytes s = tt
-until_fit end head_of spells fits fit (x ∷ xs) bytes (first, others, parts, spelled, all) =
-    ((spelled.head_spelled.0, spelled.other, fit (head_of x) x spelled.back spelled.spelled), until_fit end head_of spells fits fit xs others all)
+until_fit end head_of spells fits fit (x ∷ xs) bytes (first, others, parts, spelled, all) = (
+  (spelled.head_spelled.0, spelled.other, fit (head_of x) x spelled.back spelled.spelled),
+  until_fit end head_of spells fits fit xs others all,
+)
 
 pub until_spelled : {A : Type 0} (end : ℕ) (head_of : A → ℕ) (spells : ℕ → A → List ℕ
     → Type 0) (fits : ℕ → A → Type 0) (spelling : ℕ → A → List ℕ) → ((head : ℕ) (a : A)
@@ -134,15 +176,22 @@ pub until_spelled : {A : Type 0} (end : ℕ) (head_of : A → ℕ) (spells : ℕ
     → SpelledUntil (headed_spells end head_of spells) xs (until_spelling end head_of spelling xs)
 until_spelled end head_of spells fits spelling spelled [] fit = refl
 until_spelled end head_of spells fits spelling spelled (x ∷ xs) fit =
-    let head : Headed end head_of spells x (number_spelling w8 (head_of x) ++ spelling (head_of x) x) = record {
+    let head : Headed end head_of spells x (number_spelling w8 (head_of x) ++
+    spelling (head_of x) x) = record {
       front = number_spelling w8 (head_of x);
       back = spelling (head_of x) x;
       parts = refl;
       head_spelled = (fit.0.0, refl);
       other = fit.0.1;
       spelled = spelled (head_of x) x fit.0.2;
-    } in
-    (number_spelling w8 (head_of x) ++ spelling (head_of x) x, until_spelling end head_of spelling xs, refl, head, until_spelled end head_of spells fits spelling spelled xs fit.1)
+    } in (
+      number_spelling w8 (head_of x) ++ spelling (head_of x) x,
+      until_spelling end head_of spelling
+          xs,
+      refl,
+      head,
+      until_spelled end head_of spells fits spelling spelled xs fit.1,
+    )
 
 pub until_appended : {A : Type 0} (end : ℕ) (head_of : A → ℕ) (spelling : ℕ → A
     → List ℕ) (append : ℕ → A → List ℕ → List ℕ) → ((head : ℕ)
@@ -155,5 +204,6 @@ until_appended end head_of spelling append appended (x ∷ xs) out =
     let back = spelling (head_of x) x in
     let others = until_spelling end head_of spelling xs in
     until_appended end head_of spelling append appended xs (append (head_of x) x (out ++ head))
-    ∙ ap (λ (t : List ℕ). t ++ others) (appended (head_of x) x (out ++ head) ∙ append_assoc out head back)
+    ∙ ap (λ (t : List ℕ). t ++ others) (appended (head_of x) x (out ++ head) ∙
+    append_assoc out head back)
     ∙ append_assoc out (head ++ back) others

@@ -47,7 +47,8 @@ impl fmt::Display for Kind {
     }
 }
 
-/// The first fault of some bytes, with its place counted from their end: what reading in order meets.
+/// The first fault of some bytes, with its place counted from their end: what reading in order
+/// meets.
 #[derive(Clone, Copy, Debug, PartialEq, Eq)]
 pub struct Stop {
     /// What is wrong.

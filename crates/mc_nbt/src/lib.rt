@@ -1,8 +1,9 @@
-//! What every other crate of the server stands on: byte lists, the faults of a field and their places, formats, numbers, and NBT.
+//! What every other crate of the server stands on: byte lists, the faults of a field and their
+//! places, formats, numbers, and NBT.
 //!
-//! Stands on the kit's `std` alone. Its one contract: a reader takes exactly the spellings that `SpellsNbt` and the
-//! number formats name, whatever bytes come, and says of all others the first fault and its place; a writer appends
-//! the one spelling of its value, or leaves what was there.
+//! Stands on the kit's `std` alone. Its one contract: a reader takes exactly the spellings that
+//! `SpellsNbt` and the number formats name, whatever bytes come, and says of all others the first
+//! fault and its place; a writer appends the one spelling of its value, or leaves what was there.
 #![tactic(auto)]
 
 mod bytes;

@@ -189,7 +189,8 @@ impl Entries {
         }
     }
 
-    /// One more name and value at the end. On `NoMemory` the list is as before, and the entry is dropped.
+    /// One more name and value at the end. On `NoMemory` the list is as before, and the entry is
+    /// dropped.
     pub fn push(&mut self, entry: (Octets, Tag)) -> Result<(), NoMemory>
         ensures ok { OnOk result (self.new ≡ self.old ++ member_of entry ∷ []) }
         ensures err { OnErr result (self.new ≡ self.old) }

@@ -1,5 +1,6 @@
 -- Items as the world holds them, and piles of them (rules of this project).
-use Rattle.std.specs.Prelude.{◌≡◌, ℕ, zero, suc, ◌+◌, ◌-◌, ◌≤◌, ◌≤ℤ◌, Bool, ◌&&◌, None, min, if◌then◌else◌}
+use Rattle.std.specs.Prelude.{◌≡◌, ℕ, zero, suc, ◌+◌, ◌-◌, ◌≤◌, ◌≤ℤ◌, Bool, ◌&&◌, None, min}
+use Rattle.std.specs.Prelude.{if◌then◌else◌}
 use Rattle.std.specs.Ordering.{int_eq}
 use lib.IntN.{ℤ, pos}
 use Rattle.mc_slots.specs.declared.slot.Slot.{Slot}
@@ -82,4 +83,9 @@ with_more item n = record item { count = item.count + n }
 -- the slot that shows a pile: its id, count and damage, and no tag
 abbrev pub slot_of : Pile → Slot
 slot_of Empty = slots.Empty
-slot_of (Full item) = slots.Full (record { id = item.id; count = pos item.count; damage = item.damage; tag = None })
+slot_of (Full item) = slots.Full (record {
+  id = item.id;
+  count = pos item.count;
+  damage = item.damage;
+  tag = None;
+})

@@ -1,5 +1,6 @@
 -- Slots on the wire, of the page 'Slot Data' of wiki.vg for protocol 47.
-use Rattle.std.specs.Prelude.{◌≡◌, ℕ, ◌==◌, List, Option, Some, None, Ok, FitsSigned, ◌≤ℤ◌, if◌then◌else◌}
+use Rattle.std.specs.Prelude.{◌≡◌, ℕ, ◌==◌, List, Option, Some, None, Ok, FitsSigned, ◌≤ℤ◌}
+use Rattle.std.specs.Prelude.{if◌then◌else◌}
 use Rattle.std.specs.Int.{w8, w16}
 use lib.IntN.{ℤ, pos, negsuc}
 use Rattle.mc_nbt.specs.Reading.{Field, ◌>>=◌}
@@ -29,7 +30,8 @@ compound_read bytes = do
   tag ← nbt_at bytes
   Ok (Some tag.0, tag.1)
 
--- the first byte says which; a byte that is neither 00 nor that of a compound is the compound's fault
+-- the first byte says which; a byte that is neither 00 nor that of a compound is the compound's
+-- fault
 abbrev pub tag_read : List ℕ → Field (Option Named)
 tag_read bytes = do
   first ← number_read w8 bytes
@@ -37,14 +39,20 @@ tag_read bytes = do
 
 -- ---- the slot
 
--- an id, and after one that is not negative a count, a damage and a tag; a negative id is that of the empty slot
+-- an id, and after one that is not negative a count, a damage and a tag; a negative id is that of
+-- the empty slot
 abbrev pub Parts : Type 0
 Parts = ℤ × Option (ℤ × (ℤ × Option Named))
 
 -- the slot of an id and what follows it
 abbrev pub make : Parts → Slot
 make (id, None) = Empty
-make (id, Some (count, (damage, tag))) = Full (record { id = id; count = count; damage = damage; tag = tag })
+make (id, Some (count, (damage, tag))) = Full (record {
+  id = id;
+  count = count;
+  damage = damage;
+  tag = tag;
+})
 
 -- the id and what follows it, as they are written: -1 for the empty slot
 abbrev pub pick : Slot → Parts

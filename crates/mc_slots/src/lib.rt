@@ -1,8 +1,9 @@
-//! What a slot of a window holds: on the wire a stack of any item with a tag or none, in the world a pile of an item.
+//! What a slot of a window holds: on the wire a stack of any item with a tag or none, in the world
+//! a pile of an item.
 //!
-//! Stands on the formats and the NBT of `mc_nbt`. Its one contract: a slot is read exactly where its bytes spell one, with the
-//! first fault and its place for all others, and is written as one spelling; piles are merged and split without an item lost
-//! or made.
+//! Stands on the formats and the NBT of `mc_nbt`. Its one contract: a slot is read exactly where
+//! its bytes spell one, with the first fault and its place for all others, and is written as one
+//! spelling; piles are merged and split without an item lost or made.
 #![tactic(auto)]
 
 mod chest;

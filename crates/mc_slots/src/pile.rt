@@ -9,7 +9,8 @@ use crate::slot::{Slot, Stack};
 /// How many of one item a pile holds at most.
 pub const PILE_MAX: u8 = 64;
 
-/// So many of an item, as the world holds it: id 1 to 255, damage 0 to 15, count 1 to 64, and never a tag.
+/// So many of an item, as the world holds it: id 1 to 255, damage 0 to 15, count 1 to 64, and never
+/// a tag.
 #[derive(Clone, Copy, Debug, PartialEq, Eq)]
 pub struct Item {
     /// What it is.
@@ -77,7 +78,8 @@ pub fn merge(into: &mut Item, from: &mut Pile)
     // No item is lost or made.
     ensures sum { into.new.count + count_of from.new ≡ into.old.count + count_of from.old }
     ensures keeps { (sort : Sort) →
-        held sort (Full into.new) + held sort from.new ≡ held sort (Full into.old) + held sort from.old }
+        held sort (Full into.new) + held sort from.new ≡ held sort (Full into.old) +
+        held sort from.old }
     ensures item { IsItem into.old → IsItem into.new }
     ensures pile { IsPile from.old → IsPile from.new }
 {

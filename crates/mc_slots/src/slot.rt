@@ -15,7 +15,8 @@ const NO_TAG: u8 = 0;
 /// The id that an empty slot is written with.
 const NO_ID: i16 = -1;
 
-/// So many of an item, as the wire says it: any id from 0, any count and damage, and what else there is to it.
+/// So many of an item, as the wire says it: any id from 0, any count and damage, and what else
+/// there is to it.
 #[derive(Drop)]
 pub struct Stack {
     /// What it is, 0 or more.
@@ -73,7 +74,8 @@ fn copy_tag(tag: &Option<Nbt>) -> Result<Option<Nbt>, NoMemory>
     }
 }
 
-/// Takes the tag of a stack: none where the next byte is 00, and else the named compound that begins there.
+/// Takes the tag of a stack: none where the next byte is 00, and else the named compound that
+/// begins there.
 fn take_tag(alloc: Global, cursor: &mut Cursor<'_>) -> Result<Option<Nbt>, ReadError>
     ensures { Gives (λ tag. (tag, cursor.new)) result (tag_read cursor.old) }
 {
@@ -87,9 +89,10 @@ fn take_tag(alloc: Global, cursor: &mut Cursor<'_>) -> Result<Option<Nbt>, ReadE
 
 /// Takes a slot.
 ///
-/// A negative id is the empty slot, and nothing else is taken. After another come its count, its damage and its tag: the byte
-/// 00, or a named compound. `Short` at a number that is not all there, `BadTag` at a byte that is neither 00 nor the first of
-/// a compound; the compound's faults are its own.
+/// A negative id is the empty slot, and nothing else is taken. After another come its count, its
+/// damage and its tag: the byte 00, or a named compound. `Short` at a number that is not all there,
+/// `BadTag` at a byte that is neither 00 nor the first of a compound; the compound's faults are its
+/// own.
 #[tactic(auto, unfolding(crate::specs::SlotFormat::slot_read))]
 pub fn take_slot(alloc: Global, cursor: &mut Cursor<'_>) -> Result<Slot, ReadError>
     ensures gives { Gives (λ slot. (slot, cursor.new)) result (slot_read cursor.old) }
@@ -114,7 +117,8 @@ pub fn take_slot(alloc: Global, cursor: &mut Cursor<'_>) -> Result<Slot, ReadErr
 /// What reading a slot from an offset gives.
 fn slot_at(alloc: Global, bytes: &[u8], at: usize) -> Result<(Slot, usize), ReadFault>
     requires { at ≤ length bytes.now }
-    ensures gives { PlacedGives (λ read. read) result (placed bytes.now (slot_read (drop at bytes.now))) }
+    ensures gives { PlacedGives (λ read. read) result
+        (placed bytes.now (slot_read (drop at bytes.now))) }
     ensures id { IfOk result (λ read. HasId read.0) }
 {
     let mut cursor = Cursor::at(bytes, at);
@@ -134,7 +138,8 @@ pub fn read_slot(alloc: Global, bytes: &[u8], at: usize) -> Result<(Slot, usize)
     ensures only { (slot : Slot) (end : ℕ) → SpelledAt (SpellsSlot slot) bytes.now at end →
         PlacedGives (λ read. read) result (Ok (slot, end)) }
     // Which fault it is, and where.
-    ensures exact { PlacedGives (λ read. read) result (placed bytes.now (slot_read (drop at bytes.now))) }
+    ensures exact { PlacedGives (λ read. read) result
+        (placed bytes.now (slot_read (drop at bytes.now))) }
     // What is read can be written.
     ensures id { IfOk result (λ read. HasId read.0) }
 {
@@ -157,7 +162,8 @@ fn write_tag(tag: &Option<Nbt>, out: &mut Vec<u8>) -> Result<(), NoMemory>
 /// Appends a slot's id and what follows it. Without memory some of that may be there.
 #[tactic(auto, using(mc_nbt::proofs::Kept::kept_before))]
 fn write_parts(slot: &Slot, out: &mut Vec<u8>) -> Result<(), NoMemory>
-    ensures ok { OnOk result (out.new.items ≡ (wire {Rest = Anything}).append slot.now out.old.items) }
+    ensures ok { OnOk result (out.new.items ≡ (wire {Rest = Anything}).append slot.now
+        out.old.items) }
     ensures typed { OnOk result (IsTyped slot.now) }
     ensures err { OnErr result (take (length out.old.items) out.new.items ≡ out.old.items) }
 {
@@ -179,7 +185,8 @@ pub fn write_slot(slot: &Slot, out: &mut Vec<u8>) -> Result<(), NoMemory>
     ensures ok { OnOk result (out.new.items ≡ out.old.items ++ slot_spelling slot.now) }
     ensures spelled { OnOk result (SpellsSlot slot.now (slot_spelling slot.now)) }
     // What is written is read again, whatever follows.
-    ensures again { OnOk result ((rest : List ℕ) → slot_read (slot_spelling slot.now ++ rest) ≡ Ok (slot.now, rest)) }
+    ensures again { OnOk result ((rest : List ℕ) → slot_read (slot_spelling slot.now ++ rest) ≡
+        Ok (slot.now, rest)) }
     ensures err { OnErr result (out.new.items ≡ out.old.items) }
 {
     let start = out.len();

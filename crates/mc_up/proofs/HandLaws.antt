@@ -7,7 +7,9 @@ use Rattle.mc_up.specs.declared.handshake.Hand.TheVariants.{Handshake}
 use Rattle.mc_up.specs.Hand.{entry_of, rows, SpellsHand, FitsHand, spelling_of}
 
 pub tied : (p : Hand) → IsTied rows p
-tied (Handshake protocol address port next) = row_tied (entry_of (Handshake protocol address port next)).row (entry_of (Handshake protocol address port next)).fields
+tied (Handshake protocol address port next) =
+    row_tied (entry_of (Handshake protocol address port next)).row
+    (entry_of (Handshake protocol address port next)).fields
 
 pub seen : (p : Hand) (bytes : List ℕ) → Spells (entry_of p) bytes → SpellsHand p bytes
 seen (Handshake protocol address port next) bytes s = s
@@ -16,10 +18,14 @@ pub entry : (p : Hand) (bytes : List ℕ) → SpellsHand p bytes → Spells (ent
 entry (Handshake protocol address port next) bytes s = s
 
 pub fit : (p : Hand) (bytes : List ℕ) → SpellsHand p bytes → FitsHand p
-fit (Handshake protocol address port next) bytes s = spelled_fits (entry_of (Handshake protocol address port next)) bytes s
+fit (Handshake protocol address port next) bytes s =
+    spelled_fits (entry_of (Handshake protocol address port next)) bytes s
 
 pub spelled : (p : Hand) → FitsHand p → SpellsHand p (spelling_of p)
-spelled (Handshake protocol address port next) fits = fits_spelled (entry_of (Handshake protocol address port next)) fits
+spelled (Handshake protocol address port next) fits =
+    fits_spelled (entry_of (Handshake protocol address port next)) fits
 
 pub again : (p : Hand) → FitsHand p → frame_read rows (spelling_of p) ≡ Ok p
-again (Handshake protocol address port next) fits = spelled_again rows (Handshake protocol address port next) (tied (Handshake protocol address port next)) fits
+again (Handshake protocol address port next) fits =
+    spelled_again rows (Handshake protocol address port next)
+    (tied (Handshake protocol address port next)) fits

@@ -7,7 +7,8 @@ use Rattle.mc_up.specs.declared.login_down.LoginDown.TheVariants.{Disconnect}
 use Rattle.mc_up.specs.LoginDown.{entry_of, rows, SpellsLoginDown, FitsLoginDown, spelling_of}
 
 pub tied : (p : LoginDown) → IsTied rows p
-tied (Disconnect reason) = row_tied (entry_of (Disconnect reason)).row (entry_of (Disconnect reason)).fields
+tied (Disconnect reason) = row_tied (entry_of (Disconnect reason)).row
+    (entry_of (Disconnect reason)).fields
 tied p = row_tied (entry_of p).row (entry_of p).fields
 
 pub seen : (p : LoginDown) (bytes : List ℕ) → Spells (entry_of p) bytes → SpellsLoginDown p bytes
@@ -27,5 +28,6 @@ spelled (Disconnect reason) fits = fits_spelled (entry_of (Disconnect reason)) f
 spelled p fits = fits_spelled (entry_of p) fits
 
 pub again : (p : LoginDown) → FitsLoginDown p → frame_read rows (spelling_of p) ≡ Ok p
-again (Disconnect reason) fits = spelled_again rows (Disconnect reason) (tied (Disconnect reason)) fits
+again (Disconnect reason) fits = spelled_again rows (Disconnect reason) (tied (Disconnect reason))
+    fits
 again p fits = spelled_again rows p (tied p) fits

@@ -4,11 +4,13 @@ use Rattle.mc_fields.specs.Row.{Spells, IsTied, frame_read}
 use Rattle.mc_fields.specs.RowLaws.{row_tied, spelled_fits, fits_spelled, spelled_again}
 use Rattle.mc_up.specs.declared.play_up.PlayUp.{PlayUp}
 use Rattle.mc_up.specs.declared.play_up.PlayUp.TheVariants.{KeepAlive}
-use Rattle.mc_up.specs.PlayUp.{entry_of, rows, rows_08, rows_10, rows_18, SpellsPlayUp, FitsPlayUp, spelling_of}
+use Rattle.mc_up.specs.PlayUp.{entry_of, rows, rows_08, rows_10, rows_18, SpellsPlayUp, FitsPlayUp}
+use Rattle.mc_up.specs.PlayUp.{spelling_of}
 
 pub tied : (p : PlayUp) → IsTied rows p
 unfolding rows rows_08 rows_10 rows_18
-tied (KeepAlive number) = row_tied (entry_of (KeepAlive number)).row (entry_of (KeepAlive number)).fields
+tied (KeepAlive number) = row_tied (entry_of (KeepAlive number)).row
+    (entry_of (KeepAlive number)).fields
 tied p = row_tied (entry_of p).row (entry_of p).fields
 
 pub seen : (p : PlayUp) (bytes : List ℕ) → Spells (entry_of p) bytes → SpellsPlayUp p bytes

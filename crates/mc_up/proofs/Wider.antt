@@ -2,9 +2,14 @@
 use Rattle.std.proofs.Common.{ℕ, ◌≤◌, List, arith}
 use Rattle.mc_fields.specs.Text.{SpellableText}
 
-wider : (few many : ℕ) (text : List ℕ) → few ≤ many → SpellableText few text → SpellableText many text
+wider : (few many : ℕ) (text : List ℕ) → few ≤ many → SpellableText few text →
+    SpellableText many text
 wider few many text le s = record {
-  fits = record { utf8 = s.fits.utf8; few_bytes = omega (arith, s.fits.few_bytes, le); few_points = omega (arith, s.fits.few_points, le) };
+  fits = record {
+    utf8 = s.fits.utf8;
+    few_bytes = omega (arith, s.fits.few_bytes, le);
+    few_points = omega (arith, s.fits.few_points, le);
+  };
   sized = s.sized;
 }
 

@@ -1,5 +1,7 @@
--- A pile put at a place of a desk: what the other places hold, which places there are, and how many items there are.
-use Rattle.std.proofs.Common.{◌≡◌, ℕ, ◌+◌, ◌<◌, ◌==◌, Bool, true, false, nat_lt, List, [], length, slice_set, Option, Some, None, is_some, refl, ap, arith}
+-- A pile put at a place of a desk: what the other places hold, which places there are, and how many
+-- items there are.
+use Rattle.std.proofs.Common.{◌≡◌, ℕ, ◌+◌, ◌<◌, ◌==◌, Bool, true, false, nat_lt, List, [], length}
+use Rattle.std.proofs.Common.{slice_set, Option, Some, None, is_some, refl, ap, arith}
 use Rattle.std.specs.List.{sum_by}
 use Rattle.std.proofs.lemmas.List.{get_or-set_other, length-set}
 use Rattle.std.proofs.lemmas.List.Sums.{sum_by-set}
@@ -43,7 +45,8 @@ pub stock_with : (sort : Sort) (desk : Desk) (place : Place) (pile : Pile)
     ≡ stock sort desk + held sort pile
 stock_with sort desk Cursor pile here = omega arith
 stock_with sort desk Floor pile here = omega arith
-stock_with sort desk (Chested i) pile here = stock_chested sort desk.pack desk.chest desk.floor i pile here
+stock_with sort desk (Chested i) pile here = stock_chested sort desk.pack desk.chest desk.floor i
+    pile here
 stock_with sort desk (Packed i) pile here =
     omega (arith, piles_with sort desk.pack.slots i pile here)
 

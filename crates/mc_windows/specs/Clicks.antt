@@ -1,6 +1,9 @@
--- Clicks in a window: the six tests and the table of rows, of the page 'Protocol' of wiki.vg for protocol 47, section Click
--- Window, as far as this project has them. Each row is a list of moves between places.
-use Rattle.std.specs.Prelude.{ℕ, zero, suc, ◌+◌, ◌-◌, ◌/◌, ◌==◌, Bool, true, false, not, ◌&&◌, ◌||◌, nat_lt, List, [], ◌∷◌, ◌++◌, Option, Some, None, is_some, is_none, Result, Ok, Err, int_le, if◌then◌else◌}
+-- Clicks in a window: the six tests and the table of rows, of the page 'Protocol' of wiki.vg for
+-- protocol 47, section Click Window, as far as this project has them. Each row is a list of moves
+-- between places.
+use Rattle.std.specs.Prelude.{ℕ, zero, suc, ◌+◌, ◌-◌, ◌/◌, ◌==◌, Bool, true, false, not, ◌&&◌, ◌||◌}
+use Rattle.std.specs.Prelude.{nat_lt, List, [], ◌∷◌, ◌++◌, Option, Some, None, is_some, is_none}
+use Rattle.std.specs.Prelude.{Result, Ok, Err, int_le, if◌then◌else◌}
 use Rattle.std.specs.Option.{unwrap_or}
 use Rattle.std.specs.Ordering.{int_eq}
 use lib.IntN.{ℤ, pos, negsuc}
@@ -11,7 +14,8 @@ use Rattle.mc_slots.specs.declared.pile.Pile.TheVariants.{Empty, Full}
 use Rattle.mc_slots.specs.Pile.{count_of, is_sort}
 use Rattle.mc_windows.specs.declared.request.Click.{Click}
 use Rattle.mc_windows.specs.declared.request.Why.{Why}
-use Rattle.mc_windows.specs.declared.request.Why.TheVariants.{WrongWindow, Waiting, NoSlot, NoMode, OtherItem, NoRoomToDrop}
+use Rattle.mc_windows.specs.declared.request.Why.TheVariants.{WrongWindow, Waiting, NoSlot, NoMode}
+use Rattle.mc_windows.specs.declared.request.Why.TheVariants.{OtherItem, NoRoomToDrop}
 use Rattle.mc_windows.specs.declared.clicking.Clicked.{Clicked}
 use Rattle.mc_windows.specs.declared.clicking.Clicked.TheVariants.{Done, Refused}
 use Rattle.mc_windows.specs.declared.place.Place.{Place}
@@ -19,9 +23,11 @@ use Rattle.mc_windows.specs.declared.place.Place.TheVariants.{Cursor, Floor, Che
 use Rattle.mc_windows.specs.declared.row.Target.{Target}
 use Rattle.mc_windows.specs.declared.row.Target.TheVariants.{Outside, On}
 use Rattle.mc_windows.specs.declared.row.Row.{Row}
-use Rattle.mc_windows.specs.declared.row.Row.TheVariants.{Left, Right, Shift, Number, DropOne, DropAll, ThrowAll, ThrowOne, Nothing}
+use Rattle.mc_windows.specs.declared.row.Row.TheVariants.{Left, Right, Shift, Number, DropOne}
+use Rattle.mc_windows.specs.declared.row.Row.TheVariants.{DropAll, ThrowAll, ThrowOne, Nothing}
 use Rattle.mc_windows.specs.declared.order.Order.{Order}
-use Rattle.mc_windows.specs.declared.order.Order.TheVariants.{ToPlayer, ToChest, ToHotbar, ToMain, PickedUp}
+use Rattle.mc_windows.specs.declared.order.Order.TheVariants.{ToPlayer, ToChest, ToHotbar, ToMain}
+use Rattle.mc_windows.specs.declared.order.Order.TheVariants.{PickedUp}
 use Rattle.mc_windows.specs.declared.moves.How.{How}
 use Rattle.mc_windows.specs.declared.moves.How.TheVariants.{Put, Merge, Swap}
 use Rattle.mc_windows.specs.declared.moves.Move.{Move}
@@ -34,7 +40,8 @@ use Rattle.mc_windows.specs.Moves.{at, move, run, sort_of}
 abbrev pub is_within : ℕ → ℕ → ℕ → Bool
 is_within low high n = nat_lt n (high + 1) && not (nat_lt n low)
 
--- the player's own window has the slots 9 to 44 of its pack; a chest's has 0 to 26 of the chest and 27 to 62 of the pack
+-- the player's own window has the slots 9 to 44 of its pack; a chest's has 0 to 26 of the chest and
+-- 27 to 62 of the pack
 abbrev pub place_of : Bool → ℤ → Option Place
 place_of has_chest (negsuc n) = None
 place_of false (pos n) = if is_within 9 44 n then Some (Packed (n - 9)) else None
@@ -109,7 +116,8 @@ abbrev pub sent : Place → Order → List Move
 sent from order = to_each (Merge 64) from order (places order) ++ to_each (Put 64) from order
     (places order)
 
--- with a chest, piles go from it to the player and from the player to it; else from the main part to the hotbar and back
+-- with a chest, piles go from it to the player and from the player to it; else from the main part
+-- to the hotbar and back
 abbrev pub order_from : Bool → Place → Order
 order_from true (Chested i) = ToPlayer
 order_from true place = ToChest

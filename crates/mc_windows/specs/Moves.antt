@@ -1,6 +1,8 @@
--- What moves of piles between the places of a desk do (rules of this project). A desk is a pack, the chest that it shows, and
--- what lies outside the window.
-use Rattle.std.specs.Prelude.{◌≡◌, ℕ, zero, suc, ◌+◌, ◌-◌, ◌==◌, Bool, true, false, not, ◌&&◌, nat_lt, min, List, [], ◌∷◌, ◌++◌, slice_set, length, Option, Some, None, option_map, if◌then◌else◌}
+-- What moves of piles between the places of a desk do (rules of this project). A desk is a pack,
+-- the chest that it shows, and what lies outside the window.
+use Rattle.std.specs.Prelude.{◌≡◌, ℕ, zero, suc, ◌+◌, ◌-◌, ◌==◌, Bool, true, false, not, ◌&&◌}
+use Rattle.std.specs.Prelude.{nat_lt, min, List, [], ◌∷◌, ◌++◌, slice_set, length, Option, Some}
+use Rattle.std.specs.Prelude.{None, option_map, if◌then◌else◌}
 use Rattle.std.specs.Option.{unwrap_or}
 use Rattle.mc_slots.specs.declared.pile.Item.{Item}
 use Rattle.mc_slots.specs.declared.pile.Pile.{Pile}
@@ -27,7 +29,8 @@ poured n from onto =
     let count = min (min n (most - onto.count)) from.count in
     (without (Full from) count, Full (with_more onto count))
 
--- so many at most go onto nothing; so many at most go onto the same sort, up to 64; each goes to the other's place
+-- so many at most go onto nothing; so many at most go onto the same sort, up to 64; each goes to
+-- the other's place
 abbrev pub effect : How → Pile → Pile → Pile × Pile
 effect (Put n) from Empty = (
   without from (min n (count_of from)),
@@ -70,7 +73,8 @@ write desk (Chested i) pile = record desk {
   chest =
       option_map (λ piles. slice_set piles i pile) desk.chest;
 }
-write desk (Packed i) pile = record desk { pack = record desk.pack { slots = slice_set desk.pack.slots i pile } }
+write desk (Packed i) pile =
+    record desk { pack = record desk.pack { slots = slice_set desk.pack.slots i pile } }
 
 -- ---- moves
 

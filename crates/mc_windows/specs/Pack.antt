@@ -1,5 +1,6 @@
 -- A player's pack, and the window that it is shown in (rules of this project).
-use Rattle.std.specs.Prelude.{◌≡◌, ℕ, ◌+◌, ◌%◌, ◌==◌, Bool, false, ◌&&◌, List, [], ◌∷◌, ◌++◌, length, replicate, Option, Some, None, if◌then◌else◌}
+use Rattle.std.specs.Prelude.{◌≡◌, ℕ, ◌+◌, ◌%◌, ◌==◌, Bool, false, ◌&&◌, List, [], ◌∷◌, ◌++◌}
+use Rattle.std.specs.Prelude.{length, replicate, Option, Some, None, if◌then◌else◌}
 use Rattle.std.specs.Ordering.{int_eq}
 use lib.IntN.{ℤ, pos}
 use Rattle.mc_slots.specs.declared.pile.Pile.{Pile}
@@ -11,8 +12,9 @@ use Rattle.mc_slots.specs.Chest.{pile_at}
 abbrev pub pack_size : ℕ
 pack_size = 36
 
--- the piles of the main part and then those of the hotbar, what hangs on the cursor, the number of the shown chest window
--- (0 where none is), that of the last one, and the number of the refused click that is yet to be confirmed
+-- the piles of the main part and then those of the hotbar, what hangs on the cursor, the number of
+-- the shown chest window (0 where none is), that of the last one, and the number of the refused
+-- click that is yet to be confirmed
 pub record PackValue : Type 0 where
   pub slots : List Pile
   pub cursor : Pile
@@ -33,7 +35,8 @@ some_of id count = Full (record { id = pos id; damage = pos 0; count = count })
 -- the pack of who joins for the first time: in the hotbar stone, dirt, planks and chests
 abbrev pub kit_pack : PackValue
 kit_pack = record {
-  slots = replicate 27 Empty ++ some_of 1 64 ∷ some_of 3 64 ∷ some_of 5 64 ∷ some_of 54 4 ∷ replicate 5 Empty;
+  slots = replicate 27 Empty ++ some_of 1 64 ∷ some_of 3 64 ∷ some_of 5 64 ∷ some_of 54 4 ∷
+      replicate 5 Empty;
   cursor = Empty;
   window = 0;
   last = 0;
@@ -53,7 +56,11 @@ answered_pack window number pack =
 
 -- the next chest window is shown: the numbers go from 1 to 100 and begin again
 abbrev pub begun_pack : PackValue → PackValue
-begun_pack pack = record pack { window = pack.last % 100 + 1; last = pack.last % 100 + 1; waiting = None }
+begun_pack pack = record pack {
+  window = pack.last % 100 + 1;
+  last = pack.last % 100 + 1;
+  waiting = None;
+}
 
 -- no chest window is shown any more, and nothing hangs on the cursor
 abbrev pub finished_pack : PackValue → PackValue

@@ -1,4 +1,5 @@
--- How many items of one sort (id and damage) a pack, a chest and a desk hold (rules of this project).
+-- How many items of one sort (id and damage) a pack, a chest and a desk hold (rules of this
+-- project).
 use Rattle.std.specs.Prelude.{ℕ, ◌+◌, List, Option, Some, None}
 use Rattle.std.specs.List.{sum_by}
 use Rattle.mc_slots.specs.declared.pile.Pile.{Pile}

@@ -9,8 +9,8 @@ use Rattle.mc_windows.specs.Pack.{PackValue}
 use Rattle.mc_windows.specs.Moves.{run}
 use Rattle.mc_windows.specs.Clicks.{sent}
 
--- it goes from outside to stacks of the same item and then to the first slot with nothing, the hotbar first; what finds no
--- room stays outside
+-- it goes from outside to stacks of the same item and then to the first slot with nothing, the
+-- hotbar first; what finds no room stays outside
 unfoldable pub stored : PackValue → Item → Desk
 stored pack item = run (sent Floor PickedUp)
     (record { pack = pack; chest = None; floor = Full item })

@@ -4,7 +4,9 @@ ghost use Rattle.mc_windows.specs.declared.clicking.Clicked.TheVariants.{Refused
 ghost use Rattle.mc_windows.specs.declared.row.Row.TheVariants.{Left, Right};
 ghost use Rattle.mc_windows.specs.Moves.{run};
 ghost use Rattle.mc_windows.specs.Stock.{in_chest, in_pack};
-ghost use Rattle.mc_windows.specs.Clicks.{admitted, answer_of, chest_after, desk_of, dropped, fallen, is_no_item, is_other, order_from, outcome, pack_after, plan, refused_pack, shows, worked};
+ghost use Rattle.mc_windows.specs.Clicks.{admitted, answer_of, chest_after, desk_of, dropped};
+ghost use Rattle.mc_windows.specs.Clicks.{fallen, is_no_item, is_other, order_from, outcome};
+ghost use Rattle.mc_windows.specs.Clicks.{pack_after, plan, refused_pack, shows, worked};
 ghost use Rattle.mc_windows.specs.Lent.{left_in, lent};
 
 use crate::desk::Desk;

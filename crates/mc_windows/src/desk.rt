@@ -2,7 +2,8 @@ ghost use Rattle.std.specs.Prelude.{◌≡◌, ◌<◌, true, is_some, length, s
 ghost use Rattle.mc_slots.specs.Pile.{IsPile};
 ghost use Rattle.mc_slots.specs.Chest.{pile_at};
 ghost use Rattle.mc_windows.specs.declared.place.Place.TheVariants.{Chested};
-ghost use Rattle.mc_windows.specs.Moves.{at, exchanged, is_here, is_possible, made, move, run, write};
+ghost use Rattle.mc_windows.specs.Moves.{at, exchanged, is_here, is_possible, made, move, run};
+ghost use Rattle.mc_windows.specs.Moves.{write};
 ghost use Rattle.mc_windows.specs.Clicks.{places, sent, to_each};
 
 use crate::floor::Floor;

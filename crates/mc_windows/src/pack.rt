@@ -37,11 +37,23 @@ impl Model for Pack {
 
     ghost Value = { PackValue };
 
-    ghost view = { λ pack. record { slots = pack.slots; cursor = pack.cursor; window = pack.window; last = pack.last; waiting = pack.waiting } };
+    ghost view = { λ pack. record {
+      slots = pack.slots;
+      cursor = pack.cursor;
+      window = pack.window;
+      last = pack.last;
+      waiting = pack.waiting;
+    } };
 
     ghost invariant = { λ pack. IsPack pack.slots pack.cursor };
 
-    ghost inverse = { λ pack. record { slots = pack.slots; cursor = pack.cursor; window = pack.window; last = pack.last; waiting = pack.waiting } };
+    ghost inverse = { λ pack. record {
+      slots = pack.slots;
+      cursor = pack.cursor;
+      window = pack.window;
+      last = pack.last;
+      waiting = pack.waiting;
+    } };
 }
 
 impl Pack {
@@ -104,7 +116,8 @@ fn some_of(id: i16, count: u8) -> Pile
     })
 }
 
-/// The pack of who joins for the first time: in the hotbar 64 stone, 64 dirt, 64 planks and 4 chests.
+/// The pack of who joins for the first time: in the hotbar 64 stone, 64 dirt, 64 planks and 4
+/// chests.
 pub fn kit() -> Pack
     ensures { result ≡ kit_pack }
 {

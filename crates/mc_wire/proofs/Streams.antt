@@ -1,4 +1,5 @@
-use Rattle.std.proofs.Common.{ℕ, Option, None, Some, List, [], ◌++◌, refl, sym, append_assoc, append-nil}
+use Rattle.std.proofs.Common.{ℕ, Option, None, Some, List, [], ◌++◌, refl, sym, append_assoc}
+use Rattle.std.proofs.Common.{append-nil}
 use Rattle.mc_wire.specs.Stream.{Consumes, Grows}
 
 -- How reads and writes compose over several calls.
@@ -16,7 +17,8 @@ Consumes-trans None None (Some zs) first second one two = two
 Consumes-trans None (Some ys) c first second one two = absurd one
 Consumes-trans (Some xs) None c first second one two = absurd one
 Consumes-trans (Some xs) (Some ys) None first second one two = two
-Consumes-trans (Some xs) (Some ys) (Some zs) first second one two = rw (one, two) (sym (append_assoc first second zs))
+Consumes-trans (Some xs) (Some ys) (Some zs) first second one two =
+    rw (one, two) (sym (append_assoc first second zs))
 
 pub Grows-refl : (a : Option (List ℕ)) → Grows a a []
 Grows-refl None = tt
@@ -29,4 +31,5 @@ pub Grows-trans : (a b c : Option (List ℕ)) (first second : List ℕ)
 Grows-trans a b None first second one two = tt
 Grows-trans a None (Some zs) first second one two = absurd two
 Grows-trans None (Some ys) (Some zs) first second one two = absurd one
-Grows-trans (Some xs) (Some ys) (Some zs) first second one two = rw (two, one) (append_assoc xs first second)
+Grows-trans (Some xs) (Some ys) (Some zs) first second one two =
+    rw (two, one) (append_assoc xs first second)

@@ -8,8 +8,8 @@ pub record SourceState : Type 0 where
   pub calls : ℕ
   pub faults : ℕ
 
--- a sink in memory: the bytes that it holds where it still tells them, the numbers of the writes that
--- fail, how many writes there were, and how many of them failed
+-- a sink in memory: the bytes that it holds where it still tells them, the numbers of the writes
+-- that fail, how many writes there were, and how many of them failed
 pub record SinkState : Type 0 where
   pub held : Option (List ℕ)
   pub fails : List ℕ

@@ -1,7 +1,7 @@
 use mc_nbt::Octets;
 
-/// What a lobby of connections answered or did. A log has these in the order in which they happened;
-/// the number in an entry is that of its connection.
+/// What a lobby of connections answered or did. A log has these in the order in which they
+/// happened; the number in an entry is that of its connection.
 #[derive(Drop)]
 pub enum LogEntry {
     /// The connection joined.

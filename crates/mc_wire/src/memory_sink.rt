@@ -31,8 +31,8 @@ impl Model for MemorySink {
 }
 
 impl MemorySink {
-    /// A sink that holds nothing yet, whose writes with these numbers fail. Writes are numbered from
-    /// 0, those that fail too.
+    /// A sink that holds nothing yet, whose writes with these numbers fail. Writes are numbered
+    /// from 0, those that fail too.
     pub fn new(alloc: Global, fails: Vec<u64>) -> MemorySink
         ensures { result ≡ record { held = Some []; fails = fails.items; calls = 0; faults = 0 } }
     {

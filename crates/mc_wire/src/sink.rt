@@ -13,8 +13,8 @@ pub trait Sink {
     // How many failures it has counted.
     ghost faults: { Self → ℕ };
 
-    /// Writes some first part of the piece, and says how many bytes that is, one at least. A failure
-    /// leaves what the sink holds, where it tells that.
+    /// Writes some first part of the piece, and says how many bytes that is, one at least. A
+    /// failure leaves what the sink holds, where it tells that.
     fn write(&mut self, piece: &[u8]) -> Result<usize, Failed>
         requires { 0 < length piece.now }
         ensures took { IfOk result (λ n. (0 < n) × (n ≤ length piece.now)) }

@@ -6,8 +6,8 @@ use crate::{Failed, Sink};
 use std::alloc::Global;
 use std::marker::Model;
 
-/// A sink in memory that never fails. Contracts see it as the bytes that it holds, or as `None` once
-/// there was no memory for them: from then on it takes every piece, and tells none of them.
+/// A sink in memory that never fails. Contracts see it as the bytes that it holds, or as `None`
+/// once there was no memory for them: from then on it takes every piece, and tells none of them.
 #[derive(Drop)]
 pub struct SteadySink {
     bytes: Option<Vec<u8>>,

@@ -29,15 +29,17 @@ impl Land {
     /// The chest at a cell's key.
     fn chest_at(&self, key: &(Place, u16)) -> Option<&Chest>
         ensures piles { option_copied result ≡ get self.now.chests key.now }
-        ensures there { key.now.1 < cells → is_some (get self.now.chests key.now) ≡ is_chest (state_at self.now.terrain self.now.edits key.now) }
+        ensures there { key.now.1 < cells → is_some (get self.now.chests key.now) ≡
+            is_chest (state_at self.now.terrain self.now.edits key.now) }
     {
         self.chests.get(key)
     }
 
-    /// The chest at a cell to write into, None exactly where the cell is not one. What is left in it
-    /// is what the land has there, and nothing else changes.
+    /// The chest at a cell to write into, None exactly where the cell is not one. What is left in
+    /// it is what the land has there, and nothing else changes.
     pub fn chest_mut(&mut self, cell: Cell) -> Option<&mut Chest>
-        ensures* lends { sem 𝓛 (LendsIf the_row chest_row self.entry result (chest_put self.old cell.x cell.y cell.z) self.old) }
+        ensures* lends { sem 𝓛 (LendsIf the_row chest_row self.entry result
+            (chest_put self.old cell.x cell.y cell.z) self.old) }
         ensures none { IsNone result ↔ is_chest (block self.old cell.x cell.y cell.z) ≡ false }
         ensures piles { option_copied_mut result ≡ chest_in self.old cell.x cell.y cell.z }
     {
@@ -49,9 +51,11 @@ impl Land {
 
     /// The chest at a cell's key, to write into.
     fn chest_at_mut(&mut self, key: &(Place, u16)) -> Option<&mut Chest>
-        ensures* lends { sem 𝓛 (LendsIf the_row chest_row self.entry result (with_chest self.old key.now) self.old) }
+        ensures* lends { sem 𝓛 (LendsIf the_row chest_row self.entry result
+            (with_chest self.old key.now) self.old) }
         ensures piles { option_copied_mut result ≡ get self.old.chests key.now }
-        ensures there { key.now.1 < cells → is_some (get self.old.chests key.now) ≡ is_chest (state_at self.old.terrain self.old.edits key.now) }
+        ensures there { key.now.1 < cells → is_some (get self.old.chests key.now) ≡
+            is_chest (state_at self.old.terrain self.old.edits key.now) }
     {
         self.chests.get_mut(key)
     }

@@ -1,4 +1,5 @@
-ghost use Rattle.std.specs.Prelude.{◌≡◌, ◌<◌, ◌↔◌, true, false, length, slice_set, slice_index_or, unsigned_abs, IfOk, OnOk, OnErr, IsErrOf};
+ghost use Rattle.std.specs.Prelude.{◌≡◌, ◌<◌, ◌↔◌, true, false, length, slice_set, slice_index_or};
+ghost use Rattle.std.specs.Prelude.{unsigned_abs, IfOk, OnOk, OnErr, IsErrOf};
 ghost use Rattle.mc_column.specs.Cells.{cell_index};
 ghost use Rattle.mc_land.specs.declared.fault.LandFault.TheVariants as land_faults;
 ghost use Rattle.mc_land.specs.Places.{IsPlace, is_inside, key_of};
@@ -18,16 +19,18 @@ use mc_slots::Chest;
 use std::collections::BTreeMap;
 
 impl Land {
-    /// Sets a cell to a state and answers the one that it had. Its column is ready then. Where its id
-    /// becomes 54 there is an empty chest, and where it ceases to be the chest is given up.
+    /// Sets a cell to a state and answers the one that it had. Its column is ready then. Where its
+    /// id becomes 54 there is an empty chest, and where it ceases to be the chest is given up.
     ///
-    /// `Outside` where y is not 0 to 255, or x or z is past 30,000,000 in size. On an error the land is
-    /// as before.
+    /// `Outside` where y is not 0 to 255, or x or z is past 30,000,000 in size. On an error the
+    /// land is as before.
     pub fn set(&mut self, cell: Cell, state: u16) -> Result<u16, LandFault>
         requires { state < 4096 }
-        ensures outside { IsErrOf result land_faults.Outside ↔ is_inside cell.x cell.y cell.z ≡ false }
+        ensures outside { IsErrOf result land_faults.Outside ↔ is_inside cell.x cell.y cell.z ≡
+            false }
         ensures old { IfOk result (λ old. old ≡ block self.old cell.x cell.y cell.z) }
-        ensures ok { OnOk result (self.new ≡ with_block self.old (key_of cell.x (unsigned_abs cell.y) cell.z) state) }
+        ensures ok { OnOk result (self.new ≡
+            with_block self.old (key_of cell.x (unsigned_abs cell.y) cell.z) state) }
         ensures err { OnErr result (self.new ≡ self.old) }
     {
         self.set_cell(&cell, state)
@@ -35,9 +38,11 @@ impl Land {
 
     /// Sets a cell, or refuses one that lies outside.
     fn set_cell(&mut self, cell: &Cell, state: u16) -> Result<u16, LandFault>
-        ensures outside { IsErrOf result land_faults.Outside ↔ is_inside cell.now.x cell.now.y cell.now.z ≡ false }
+        ensures outside { IsErrOf result land_faults.Outside ↔
+            is_inside cell.now.x cell.now.y cell.now.z ≡ false }
         ensures old { IfOk result (λ old. old ≡ block self.old cell.now.x cell.now.y cell.now.z) }
-        ensures ok { OnOk result (self.new ≡ with_block self.old (key_of cell.now.x (unsigned_abs cell.now.y) cell.now.z) state) }
+        ensures ok { OnOk result (self.new ≡
+            with_block self.old (key_of cell.now.x (unsigned_abs cell.now.y) cell.now.z) state) }
         ensures err { OnErr result (self.new ≡ self.old) }
     {
         if !is_inside(cell) {
@@ -50,7 +55,8 @@ impl Land {
     fn put(&mut self, cell: &Cell, state: u16) -> Result<u16, NoMemory>
         requires { is_inside cell.now.x cell.now.y cell.now.z ≡ true }
         ensures old { IfOk result (λ old. old ≡ block self.old cell.now.x cell.now.y cell.now.z) }
-        ensures ok { OnOk result (self.new ≡ with_block self.old (key_of cell.now.x (unsigned_abs cell.now.y) cell.now.z) state) }
+        ensures ok { OnOk result (self.new ≡
+            with_block self.old (key_of cell.now.x (unsigned_abs cell.now.y) cell.now.z) state) }
         ensures err { OnErr result (self.new ≡ self.old) }
     {
         let old = self.state(cell);
@@ -67,7 +73,8 @@ impl Land {
         requires inside { is_inside cell.now.x cell.now.y cell.now.z ≡ true }
         requires was { is_chest (block self.old cell.now.x cell.now.y cell.now.z) ≡ false }
         requires is { is_chest state ≡ true }
-        ensures ok { OnOk result (self.new ≡ with_block self.old (key_of cell.now.x (unsigned_abs cell.now.y) cell.now.z) state) }
+        ensures ok { OnOk result (self.new ≡
+            with_block self.old (key_of cell.now.x (unsigned_abs cell.now.y) cell.now.z) state) }
         ensures err { OnErr result (self.new ≡ self.old) }
     {
         let key = key_of(cell);
@@ -91,7 +98,8 @@ impl Land {
     fn put_over_chest(&mut self, cell: &Cell, state: u16) -> Result<(), NoMemory>
         requires inside { is_inside cell.now.x cell.now.y cell.now.z ≡ true }
         requires is { is_chest state ≡ false }
-        ensures ok { OnOk result (self.new ≡ with_block self.old (key_of cell.now.x (unsigned_abs cell.now.y) cell.now.z) state) }
+        ensures ok { OnOk result (self.new ≡
+            with_block self.old (key_of cell.now.x (unsigned_abs cell.now.y) cell.now.z) state) }
         ensures err { OnErr result (self.new ≡ self.old) }
     {
         put_state(
@@ -108,8 +116,10 @@ impl Land {
     /// Sets a cell that was a chest and stays one, or was none and becomes none.
     fn put_alike(&mut self, cell: &Cell, state: u16) -> Result<(), NoMemory>
         requires inside { is_inside cell.now.x cell.now.y cell.now.z ≡ true }
-        requires alike { is_chest (block self.old cell.now.x cell.now.y cell.now.z) ≡ is_chest state }
-        ensures ok { OnOk result (self.new ≡ with_block self.old (key_of cell.now.x (unsigned_abs cell.now.y) cell.now.z) state) }
+        requires alike { is_chest (block self.old cell.now.x cell.now.y cell.now.z) ≡
+            is_chest state }
+        ensures ok { OnOk result (self.new ≡
+            with_block self.old (key_of cell.now.x (unsigned_abs cell.now.y) cell.now.z) state) }
         ensures err { OnErr result (self.new ≡ self.old) }
     {
         put_state(
@@ -145,7 +155,9 @@ fn put_state(
     requires inside { is_inside cell.now.x cell.now.y cell.now.z ≡ true }
     requires indexed { IsIndexed columns.old.items index.old.entries }
     ensures indexed { IsIndexed columns.new.items index.new.entries }
-    ensures ok { OnOk result (IsPut terrain.now (key_of cell.now.x (unsigned_abs cell.now.y) cell.now.z).0 (key_of cell.now.x (unsigned_abs cell.now.y) cell.now.z).1 state columns.old.items columns.new.items) }
+    ensures ok { OnOk result (IsPut terrain.now (key_of cell.now.x (unsigned_abs cell.now.y)
+        cell.now.z).0 (key_of cell.now.x (unsigned_abs cell.now.y) cell.now.z).1 state
+        columns.old.items columns.new.items) }
     ensures err { OnErr result (columns.new.items ≡ columns.old.items) }
 {
     let place = place_of(cell);
@@ -166,7 +178,9 @@ fn put_state(
 fn set_ready(columns: &mut Vec<Ready>, i: usize, cell: &Cell, state: u16) -> Result<(), NoMemory>
     requires there { i < length columns.old.items }
     requires inside { is_inside cell.now.x cell.now.y cell.now.z ≡ true }
-    ensures ok { OnOk result ((d : ReadyValue) → columns.new.items ≡ slice_set columns.old.items i (set_cell (slice_index_or columns.old.items i d) (key_of cell.now.x (unsigned_abs cell.now.y) cell.now.z).1 state)) }
+    ensures ok { OnOk result ((d : ReadyValue) → columns.new.items ≡ slice_set columns.old.items i
+        (set_cell (slice_index_or columns.old.items i d)
+        (key_of cell.now.x (unsigned_abs cell.now.y) cell.now.z).1 state)) }
     ensures err { OnErr result (columns.new.items ≡ columns.old.items) }
 {
     let ready = &mut columns[i];
@@ -177,7 +191,8 @@ fn set_ready(columns: &mut Vec<Ready>, i: usize, cell: &Cell, state: u16) -> Res
 /// Puts a state into a cell of a ready column.
 fn set_in(ready: &mut Ready, cell: &Cell, state: u16) -> Result<(), NoMemory>
     requires { is_inside cell.now.x cell.now.y cell.now.z ≡ true }
-    ensures ok { OnOk result (ready.new ≡ set_cell ready.old (key_of cell.now.x (unsigned_abs cell.now.y) cell.now.z).1 state) }
+    ensures ok { OnOk result (ready.new ≡
+        set_cell ready.old (key_of cell.now.x (unsigned_abs cell.now.y) cell.now.z).1 state) }
     ensures err { OnErr result (ready.new ≡ ready.old) }
 {
     ready.set(x_inside(cell), height_of(cell), z_inside(cell), state)

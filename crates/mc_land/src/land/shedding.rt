@@ -1,4 +1,5 @@
-ghost use Rattle.std.specs.Prelude.{◌≡◌, ◌+◌, ◌<◌, ◌≤◌, ℕ, List, length, slice_index_or, if◌then◌else◌};
+ghost use Rattle.std.specs.Prelude.{◌≡◌, ◌+◌, ◌<◌, ◌≤◌, ℕ, List, length, slice_index_or};
+ghost use Rattle.std.specs.Prelude.{if◌then◌else◌};
 ghost use Rattle.std.specs.List.{list_any};
 ghost use Rattle.std.specs.Ordering.{eq_by_cmp};
 ghost use Rattle.std.specs.FinMap.{find};
@@ -51,7 +52,8 @@ fn shed_one(
     requires there { i < length columns.old.items }
     requires indexed { IsIndexed columns.old.items index.old.entries }
     ensures indexed { IsIndexed columns.new.items index.new.entries }
-    ensures step { (start : List ReadyValue) → AreShed views.now start columns.old.items (i + 1) → AreShed views.now start columns.new.items i }
+    ensures step { (start : List ReadyValue) → AreShed views.now start columns.old.items (i + 1) →
+        AreShed views.now start columns.new.items i }
 {
     if !is_kept(&columns[i], views) {
         remove_at(columns, index, i);
@@ -94,7 +96,11 @@ fn remove_at(columns: &mut Vec<Ready>, index: &mut BTreeMap<Place, usize>, i: us
 
 /// Lets the index say which column stands at `i`, where one does.
 fn repoint(columns: &Vec<Ready>, index: &mut BTreeMap<Place, usize>, i: usize)
-    ensures moved { (d : ReadyValue) (q : Place) → i < length columns.now.items → find place_cmp q index.new.entries ≡ (if eq_by_cmp place_cmp q (slice_index_or columns.now.items i d).place then option_map (λ _. i) (find place_cmp q index.old.entries) else find place_cmp q index.old.entries) }
+    ensures moved { (d : ReadyValue) (q : Place) → i < length columns.now.items →
+        find place_cmp q index.new.entries ≡
+        (if eq_by_cmp place_cmp q (slice_index_or columns.now.items i d).place then
+        option_map (λ _. i) (find place_cmp q index.old.entries) else
+        find place_cmp q index.old.entries) }
     ensures none { length columns.now.items ≤ i → index.new.entries ≡ index.old.entries }
 {
     if i < columns.as_slice().len() {
@@ -104,7 +110,10 @@ fn repoint(columns: &Vec<Ready>, index: &mut BTreeMap<Place, usize>, i: usize)
 
 /// Lets the index say where the column of a place stands that it has already.
 fn point_at(index: &mut BTreeMap<Place, usize>, place: &Place, i: usize)
-    ensures { (q : Place) → find place_cmp q index.new.entries ≡ (if eq_by_cmp place_cmp q place.now then option_map (λ _. i) (find place_cmp q index.old.entries) else find place_cmp q index.old.entries) }
+    ensures { (q : Place) → find place_cmp q index.new.entries ≡
+        (if eq_by_cmp place_cmp q place.now then
+        option_map (λ _. i) (find place_cmp q index.old.entries) else
+        find place_cmp q index.old.entries) }
 {
     match index.get_mut(place) {
         Some(at) => *at = i,

@@ -20,7 +20,8 @@ impl Land {
 
         // Each edit is a cell of its column, and not the terrain's.
         ensures inside { (key : Key) → IsSome (get self.now.edits key) → key.1 < cells }
-        ensures differ { (key : Key) (state : ℕ) → get self.now.edits key ≡ Some state → state ≢ terrain_at self.now.terrain key }
+        ensures differ { (key : Key) (state : ℕ) → get self.now.edits key ≡ Some state →
+            state ≢ terrain_at self.now.terrain key }
     {
         edited_in(&self.columns)
     }
@@ -31,7 +32,8 @@ impl Land {
 
         // Each chest is a cell of its column, and its id is a chest's.
         ensures inside { (key : Key) → IsSome (get self.now.chests key) → key.1 < cells }
-        ensures chests { (key : Key) → IsSome (get self.now.chests key) → is_chest (state_at self.now.terrain self.now.edits key) ≡ true }
+        ensures chests { (key : Key) → IsSome (get self.now.chests key) →
+            is_chest (state_at self.now.terrain self.now.edits key) ≡ true }
     {
         stored_in(&self.chests)
     }

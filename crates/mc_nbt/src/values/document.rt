@@ -35,9 +35,10 @@ impl Model for Nbt {
 }
 
 impl Nbt {
-    /// A named compound. None where a name or a text is longer than 65,535 bytes, a list or an array longer than
-    /// 2,147,483,647, a list's own kind above 11, an item of another kind than its list's own, or where more than
-    /// 512 lists and compounds stand in one another, the outermost one counted.
+    /// A named compound. None where a name or a text is longer than 65,535 bytes, a list or an
+    /// array longer than 2,147,483,647, a list's own kind above 11, an item of another kind than
+    /// its list's own, or where more than 512 lists and compounds stand in one another, the
+    /// outermost one counted.
     pub fn new(name: Octets, entries: Entries) -> Option<Nbt>
         ensures some { IsSome result ↔ IsNbt (named name entries) }
         ensures value { IfSome result (λ nbt. nbt ≡ named name entries) }
@@ -101,10 +102,11 @@ fn nbt_from(alloc: Global, bytes: &[u8], at: usize) -> Result<(Nbt, usize), Read
 
 /// The named compound that begins at an offset, and the offset after it.
 ///
-/// The first fault in the order of the bytes, at the first byte of the innermost field that fails: `Short` where the
-/// bytes end in it, `BadTag` at a tag byte that names no kind, or at a first byte other than that of a compound,
-/// `BadLength` at a length that is negative, or not 0 in a list of End, and `Deep` at the first byte of a list or a
-/// compound that stands in 512 others. Repeated names are kept, in order; names and texts are kept as they are.
+/// The first fault in the order of the bytes, at the first byte of the innermost field that fails:
+/// `Short` where the bytes end in it, `BadTag` at a tag byte that names no kind, or at a first byte
+/// other than that of a compound, `BadLength` at a length that is negative, or not 0 in a list of
+/// End, and `Deep` at the first byte of a list or a compound that stands in 512 others. Repeated
+/// names are kept, in order; names and texts are kept as they are.
 pub fn read_nbt(alloc: Global, bytes: &[u8], at: usize) -> Result<(Nbt, usize), ReadFault>
     requires { at ≤ length bytes.now }
     // What is read is spelled there.
@@ -113,7 +115,8 @@ pub fn read_nbt(alloc: Global, bytes: &[u8], at: usize) -> Result<(Nbt, usize), 
     ensures only { (value : Named) (end : ℕ) → SpelledAt (SpellsNbt value) bytes.now at end →
         PlacedGives (λ read. read) result (Ok (value, end)) }
     // Which fault it is, and where.
-    ensures exact { PlacedGives (λ read. read) result (placed bytes.now (nbt_at (drop at bytes.now))) }
+    ensures exact { PlacedGives (λ read. read) result
+        (placed bytes.now (nbt_at (drop at bytes.now))) }
 {
     nbt_from(alloc, bytes, at)
 }
@@ -123,7 +126,8 @@ pub fn write_nbt(value: &Nbt, out: &mut Vec<u8>) -> Result<(), NoMemory>
     ensures appended { OnOk result (out.new.items ≡ out.old.items ++ nbt_spelling value.now) }
     ensures spelled { SpellsNbt value.now (nbt_spelling value.now) }
     // What is written is read again, whatever follows.
-    ensures again { (rest : List ℕ) → nbt_at (nbt_spelling value.now ++ rest) ≡ Ok (value.now, rest) }
+    ensures again { (rest : List ℕ) → nbt_at (nbt_spelling value.now ++ rest) ≡
+        Ok (value.now, rest) }
     ensures unchanged { OnErr result (out.new.items ≡ out.old.items) }
 {
     let before = out.len();

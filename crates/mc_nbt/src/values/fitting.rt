@@ -47,7 +47,8 @@ fn fits(tag: &Tag, room: usize) -> bool
 
 #[cycle(fitting)]
 fn list_fits(kind: u8, tags: &Tags, room: usize) -> bool
-    ensures { IsTrue result ↔ (Fits (list kind (trees_of tags.now)) × (depth (list kind (trees_of tags.now)) ≤ room)) }
+    ensures { IsTrue result ↔ (Fits (list kind (trees_of tags.now)) ×
+        (depth (list kind (trees_of tags.now)) ≤ room)) }
 {
     if kind > KIND_MAX {
         return false;
@@ -63,7 +64,8 @@ fn list_fits(kind: u8, tags: &Tags, room: usize) -> bool
 
 #[cycle(fitting)]
 fn compound_fits(entries: &Entries, room: usize) -> bool
-    ensures { IsTrue result ↔ (Fits (compound (members_of entries.now)) × (depth (compound (members_of entries.now)) ≤ room)) }
+    ensures { IsTrue result ↔ (Fits (compound (members_of entries.now)) ×
+        (depth (compound (members_of entries.now)) ≤ room)) }
 {
     if room == 0 {
         return false;
@@ -73,7 +75,8 @@ fn compound_fits(entries: &Entries, room: usize) -> bool
 
 #[cycle(fitting)]
 fn items_fit(own: u8, tags: &Tags, room: usize) -> bool
-    ensures { IsTrue result ↔ (TreesFit own (trees_of tags.now) × (trees_depth (trees_of tags.now) ≤ room)) }
+    ensures { IsTrue result ↔
+        (TreesFit own (trees_of tags.now) × (trees_depth (trees_of tags.now) ≤ room)) }
 {
     for tag in &tags.items {
         if !item_fits(own, tag, room) {
@@ -85,7 +88,9 @@ fn items_fit(own: u8, tags: &Tags, room: usize) -> bool
 
 #[cycle(fitting)]
 fn item_fits(own: u8, tag: &Tag, room: usize) -> bool
-    ensures { IsTrue result ↔ ((kind_of (tree_of tag.now) ≡ own) × (Fits (tree_of tag.now) × (depth (tree_of tag.now) ≤ room))) }
+    ensures { IsTrue result ↔
+        ((kind_of (tree_of tag.now) ≡ own) × (Fits (tree_of tag.now) ×
+        (depth (tree_of tag.now) ≤ room))) }
 {
     if kind(tag) != own {
         return false;
@@ -93,10 +98,12 @@ fn item_fits(own: u8, tag: &Tag, room: usize) -> bool
     fits(tag, room)
 }
 
-/// Whether the entries have a spelling, where `room` lists and compounds may stand in one another in them.
+/// Whether the entries have a spelling, where `room` lists and compounds may stand in one another
+/// in them.
 #[cycle(fitting)]
 pub fn entries_fit(entries: &Entries, room: usize) -> bool
-    ensures { IsTrue result ↔ (MembersFit (members_of entries.now) × (members_depth (members_of entries.now) ≤ room)) }
+    ensures { IsTrue result ↔
+        (MembersFit (members_of entries.now) × (members_depth (members_of entries.now) ≤ room)) }
 {
     for (name, tag) in &entries.items {
         if !entry_fits(name, tag, room) {
@@ -108,7 +115,8 @@ pub fn entries_fit(entries: &Entries, room: usize) -> bool
 
 #[cycle(fitting)]
 fn entry_fits(name: &Octets, tag: &Tag, room: usize) -> bool
-    ensures { IsTrue result ↔ ((length name.now < 2 ^ 16) × (Fits (tree_of tag.now) × (depth (tree_of tag.now) ≤ room))) }
+    ensures { IsTrue result ↔
+        ((length name.now < 2 ^ 16) × (Fits (tree_of tag.now) × (depth (tree_of tag.now) ≤ room))) }
 {
     if !name_fits(name) {
         return false;

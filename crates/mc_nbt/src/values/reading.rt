@@ -116,7 +116,8 @@ fn read_bytes(alloc: Global, input: &mut Cursor<'_>) -> Result<Octets, ReadError
 
 #[tactic(auto, using(crate::proofs::Loops::times_next, crate::proofs::Loops::times_halt, crate::proofs::Loops::times_done, crate::proofs::Loops::times_first))]
 fn read_ints(alloc: Global, input: &mut Cursor<'_>, count: u32) -> Result<Ints, ReadError>
-    ensures gives { Gives (λ ints. (ints, input.new)) result (times_at (signed_at w32) count input.old) }
+    ensures gives { Gives (λ ints. (ints, input.new)) result (times_at (signed_at w32) count
+        input.old) }
     ensures shorter { OnOk result (length input.new ≤ length input.old) }
 {
     let mut ints = Ints::new(alloc);
@@ -185,7 +186,8 @@ fn read_value(
 #[cycle(reading)]
 #[tactic(auto, unfolding(crate::specs::NbtReading::list_at))]
 fn read_list(alloc: Global, input: &mut Cursor<'_>, room: usize) -> Result<Tag, ReadError>
-    ensures gives { Gives (λ tag. (tree_of tag, input.new)) result (list_at (value_at room) input.old) }
+    ensures gives { Gives (λ tag. (tree_of tag, input.new)) result
+        (list_at (value_at room) input.old) }
     ensures shorter { OnOk result (length input.new ≤ length input.old) }
 {
     let kind = read_kind(input)?;
@@ -203,7 +205,8 @@ fn read_items(
     room: usize,
     count: u32,
 ) -> Result<Tags, ReadError>
-    ensures gives { Gives (λ tags. (tags, input.new)) result (times_at (value_at room kind) count input.old) }
+    ensures gives { Gives (λ tags. (tags, input.new)) result (times_at (value_at room kind) count
+        input.old) }
     ensures shorter { OnOk result (length input.new ≤ length input.old) }
 {
     let mut tags = Tags::new(alloc);
@@ -213,7 +216,8 @@ fn read_items(
     Ok(tags)
 }
 
-/// The entries of a compound and the byte of its end, where `room` more lists and compounds may be open in them.
+/// The entries of a compound and the byte of its end, where `room` more lists and compounds may be
+/// open in them.
 #[cycle(reading)]
 #[tactic(auto, using(crate::proofs::Loops::until_next, crate::proofs::Loops::until_stop, crate::proofs::Loops::until_done, crate::proofs::Loops::until_begins), unfolding(crate::specs::NbtReading::members_at))]
 pub fn read_entries(
@@ -221,7 +225,8 @@ pub fn read_entries(
     input: &mut Cursor<'_>,
     room: usize,
 ) -> Result<Entries, ReadError>
-    ensures gives { Gives (λ entries. (entries, input.new)) result (members_at (value_at room) input.old) }
+    ensures gives { Gives (λ entries. (entries, input.new)) result (members_at (value_at room)
+        input.old) }
     ensures shorter { OnOk result (length input.new ≤ length input.old) }
 {
     let mut entries = Entries::new(alloc);
@@ -239,7 +244,8 @@ fn read_member(
     input: &mut Cursor<'_>,
     room: usize,
 ) -> Result<Option<(Octets, Tag)>, ReadError>
-    ensures gives { Gives (λ entry. (option_map member_of entry, input.new)) result (member_at (value_at room) input.old) }
+    ensures gives { Gives (λ entry. (option_map member_of entry, input.new)) result
+        (member_at (value_at room) input.old) }
     ensures shorter { OnOk result (length input.new < length input.old) }
 {
     let kind = read_kind(input)?;
@@ -258,7 +264,8 @@ fn read_named(
     kind: u8,
     room: usize,
 ) -> Result<(Octets, Tag), ReadError>
-    ensures gives { Gives (λ entry. (member_of entry, input.new)) result (named_at (value_at room kind) input.old) }
+    ensures gives { Gives (λ entry. (member_of entry, input.new)) result
+        (named_at (value_at room kind) input.old) }
     ensures shorter { OnOk result (length input.new ≤ length input.old) }
 {
     let name = read_name(alloc, input)?;

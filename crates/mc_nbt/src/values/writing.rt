@@ -46,7 +46,8 @@ fn write_bytes(octets: &Octets, out: &mut Vec<u8>) -> Result<(), NoMemory>
 #[tactic(auto, using(crate::proofs::Kept::kept_before))]
 fn write_int_array(numbers: &[i32], out: &mut Vec<u8>) -> Result<(), NoMemory>
     requires { length numbers.now < 2 ^ 31 }
-    ensures ok { OnOk result (out.new.items ≡ out.old.items ++ (number_spelling w32 (length numbers.now) ++ ints_spelling numbers.now)) }
+    ensures ok { OnOk result (out.new.items ≡ out.old.items ++
+        (number_spelling w32 (length numbers.now) ++ ints_spelling numbers.now)) }
     ensures err { OnErr result (take (length out.old.items) out.new.items ≡ out.old.items) }
 {
     write_u32(numbers.len() as u32, out)?;
@@ -101,7 +102,8 @@ fn write_value(tag: &Tag, out: &mut Vec<u8>) -> Result<(), NoMemory>
 #[tactic(auto, using(crate::proofs::Kept::kept_before))]
 fn write_list(kind: u8, tags: &Tags, out: &mut Vec<u8>) -> Result<(), NoMemory>
     requires { Fits (list kind (trees_of tags.now)) }
-    ensures ok { OnOk result (out.new.items ≡ out.old.items ++ payload (list kind (trees_of tags.now))) }
+    ensures ok { OnOk result (out.new.items ≡ out.old.items ++
+        payload (list kind (trees_of tags.now))) }
     ensures err { OnErr result (take (length out.old.items) out.new.items ≡ out.old.items) }
 {
     write_u8(kind, out)?;
@@ -118,7 +120,8 @@ fn write_list(kind: u8, tags: &Tags, out: &mut Vec<u8>) -> Result<(), NoMemory>
 #[tactic(auto, using(crate::proofs::Kept::kept_before))]
 pub fn write_entries(entries: &Entries, out: &mut Vec<u8>) -> Result<(), NoMemory>
     requires { Fits (compound (members_of entries.now)) }
-    ensures ok { OnOk result (out.new.items ≡ out.old.items ++ payload (compound (members_of entries.now))) }
+    ensures ok { OnOk result (out.new.items ≡ out.old.items ++
+        payload (compound (members_of entries.now))) }
     ensures err { OnErr result (take (length out.old.items) out.new.items ≡ out.old.items) }
 {
     for (name, tag) in &entries.items {
@@ -133,7 +136,9 @@ pub fn write_entries(entries: &Entries, out: &mut Vec<u8>) -> Result<(), NoMemor
 fn write_entry(name: &Octets, tag: &Tag, out: &mut Vec<u8>) -> Result<(), NoMemory>
     requires name { length name.now < 2 ^ 16 }
     requires value { Fits (tree_of tag.now) }
-    ensures ok { OnOk result (out.new.items ≡ out.old.items ++ (number_spelling w8 (kind_of (tree_of tag.now)) ++ (run_spelling w16 name.now ++ payload (tree_of tag.now)))) }
+    ensures ok { OnOk result (out.new.items ≡ out.old.items ++
+        (number_spelling w8 (kind_of (tree_of tag.now)) ++ (run_spelling w16 name.now ++
+        payload (tree_of tag.now)))) }
     ensures err { OnErr result (take (length out.old.items) out.new.items ≡ out.old.items) }
 {
     write_u8(kind(tag), out)?;
@@ -147,7 +152,8 @@ fn write_entry(name: &Octets, tag: &Tag, out: &mut Vec<u8>) -> Result<(), NoMemo
 pub fn write_parts(name: &Octets, entries: &Entries, out: &mut Vec<u8>) -> Result<(), NoMemory>
     requires name { length name.now < 2 ^ 16 }
     requires entries { Fits (compound (members_of entries.now)) }
-    ensures ok { OnOk result (out.new.items ≡ out.old.items ++ nbt_spelling (named name.now entries.now)) }
+    ensures ok { OnOk result (out.new.items ≡ out.old.items ++
+        nbt_spelling (named name.now entries.now)) }
     ensures err { OnErr result (take (length out.old.items) out.new.items ≡ out.old.items) }
 {
     write_u8(COMPOUND, out)?;

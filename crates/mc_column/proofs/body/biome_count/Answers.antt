@@ -1,5 +1,5 @@
 use Rattle.std.proofs.Common.{sym}
-use Rattle.mc_column.specs.Sizes.{squares-is}
+use Rattle.mc_column.specs.SizesLaws.{squares-is}
 use Rattle.mc_column.proofs.body.biome_count.Goals as goal
 
 pub returns-then-ground_up-clause-value : goal.returns-then-ground_up-clause-value

@@ -1,5 +1,5 @@
 use Rattle.std.proofs.Common.{arith, ◌∙◌, refl}
-use Rattle.mc_column.specs.Sizes.{section_count-is}
+use Rattle.mc_column.specs.SizesLaws.{section_count-is}
 use Rattle.mc_column.proofs.body.named_count.Goals as goal
 
 pub returns : goal.returns

@@ -1,4 +1,5 @@
-use Rattle.mc_column.proofs.SentFacts.{body_bytes_spell, column_again, column_mask_names, column_read}
+use Rattle.mc_column.proofs.SentFacts.{body_bytes_spell, column_again, column_mask_names}
+use Rattle.mc_column.proofs.SentFacts.{column_read}
 use Rattle.mc_column.proofs.laws.bodies_read_back.Goals as goal
 
 pub returns-clause-names : goal.returns-clause-names

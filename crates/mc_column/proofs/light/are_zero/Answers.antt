@@ -9,6 +9,8 @@ loop-byte-preserved c = zero_more _ _ _ c.loop-byte.invariant
 
 pub returns : goal.returns
 returns c = (
-  λ e k d lt. get_or_default c.args.bytes.now k d 0 lt ∙ c.loop-byte.invariant.all (eqb-true _ _ e) k (omega (arith, c.loop-byte-test.false)),
-  λ each. eq-eqb _ _ (c.loop-byte.invariant.none (λ k lt. each k 0 (omega (arith, c.loop-byte.auto.byte-index-end)))),
+  λ e k d lt. get_or_default c.args.bytes.now k d 0 lt ∙ c.loop-byte.invariant.all (eqb-true _ _ e)
+      k (omega (arith, c.loop-byte-test.false)),
+  λ each. eq-eqb _ _ (c.loop-byte.invariant.none
+      (λ k lt. each k 0 (omega (arith, c.loop-byte.auto.byte-index-end)))),
 )

@@ -6,4 +6,5 @@ pub returns-then-are_zero : goal.returns-then-are_zero
 returns-then-are_zero c = dimmed_dark _ _ (c.are_zero.ensures.0 c.if-are_zero.true)
 
 pub returns-then-are_zero-2 : goal.returns-then-are_zero-2
-returns-then-are_zero-2 c = dimmed_air _ _ squares c.requires.layer_is (c.are_zero-2.ensures.0 c.if-are_zero-2.true)
+returns-then-are_zero-2 c = dimmed_air _ _ squares c.requires.layer_is
+    (c.are_zero-2.ensures.0 c.if-are_zero-2.true)

@@ -1,5 +1,5 @@
 use Rattle.std.proofs.Common.{arith}
-use Rattle.mc_column.specs.Sizes.{section_count-is}
+use Rattle.mc_column.specs.SizesLaws.{section_count-is}
 use Rattle.mc_column.proofs.mask.names.Goals as goal
 
 pub overflow_cast-result : goal.overflow_cast-result

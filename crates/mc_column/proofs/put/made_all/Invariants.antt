@@ -6,4 +6,5 @@ use Rattle.mc_column.proofs.put.made_all.Given as goal
 
 -- the sections below i are made
 abbrev pub invariant-loop-i : goal.invariant-loop-i
-invariant-loop-i l = (length l.sections.items ≡ l.i) × ((k : ℕ) → k < l.i → nth_section l.sections.items k ≡ put_section l.mask true (paired l.blocks) k [])
+invariant-loop-i l = (length l.sections.items ≡ l.i) × ((k : ℕ) → k < l.i →
+    nth_section l.sections.items k ≡ put_section l.mask true (paired l.blocks) k [])

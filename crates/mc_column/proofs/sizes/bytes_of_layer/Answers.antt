@@ -1,5 +1,5 @@
 use Rattle.std.proofs.Common.{arith}
-use Rattle.mc_column.specs.Sizes.{squares-is}
+use Rattle.mc_column.specs.SizesLaws.{squares-is}
 use Rattle.mc_column.proofs.sizes.bytes_of_layer.Goals as goal
 
 pub returns : goal.returns

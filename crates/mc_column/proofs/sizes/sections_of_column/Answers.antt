@@ -1,5 +1,5 @@
 use Rattle.std.proofs.Common.{sym}
-use Rattle.mc_column.specs.Sizes.{section_count-is}
+use Rattle.mc_column.specs.SizesLaws.{section_count-is}
 use Rattle.mc_column.proofs.sizes.sections_of_column.Goals as goal
 
 pub returns : goal.returns

@@ -5,4 +5,5 @@ use Rattle.mc_fields.specs.Integers.{float}
 use Rattle.mc_down.proofs.metadata.append_floats.Given as goal
 
 abbrev pub invariant-loop-pattern : goal.invariant-loop-pattern
-invariant-loop-pattern l = IsWriting (float {Rest = Anything}).append (drop l.pattern-index l.patterns) l.patterns l.fn.out.items l.out.items
+invariant-loop-pattern l = IsWriting (float {Rest = Anything}).append
+    (drop l.pattern-index l.patterns) l.patterns l.fn.out.items l.out.items

@@ -7,13 +7,18 @@ use Rattle.mc_down.specs.Metadata.{SpellsMeta, meta_read, metadata}
 use Rattle.mc_down.proofs.metadata.read_meta.Goals as goal
 
 pub returns-clause-found : goal.returns-clause-found
-returns-clause-found c = PlacedGives-found (λ read. read) SpellsMeta meta_read (metadata {Rest = Anything}).found c.args.bytes.now c.args.at c.meta_from.result (λ i. (c.type_inv.bytes i).fits) c.requires c.meta_from.ensures
+returns-clause-found c = PlacedGives-found (λ read. read) SpellsMeta meta_read
+    (metadata {Rest = Anything}).found c.args.bytes.now c.args.at c.meta_from.result
+    (λ i. (c.type_inv.bytes i).fits) c.requires c.meta_from.ensures
 
 pub returns-clause-only : goal.returns-clause-only
-returns-clause-only c value end s = PlacedGives-only (λ read. read) SpellsMeta meta_read (metadata {Rest = Anything}).only c.args.bytes.now c.args.at c.meta_from.result value end c.meta_from.ensures s
+returns-clause-only c value end s = PlacedGives-only (λ read. read) SpellsMeta meta_read
+    (metadata {Rest = Anything}).only c.args.bytes.now c.args.at c.meta_from.result value end
+    c.meta_from.ensures s
 
 pub returns-clause-one : goal.returns-clause-one
 returns-clause-one c a b m n s t =
-    let only = placed_only SpellsMeta meta_read (metadata {Rest = Anything}).only c.args.bytes.now c.args.at in
+    let only = placed_only SpellsMeta meta_read (metadata {Rest = Anything}).only c.args.bytes.now
+    c.args.at in
     let same = ok_is FieldFault (a, m) (b, n) (sym (only a m s) ∙ only b n t) in
     (ap (λ read. read.0) same, ap (λ read. read.1) same)

@@ -15,4 +15,5 @@ pub returns : goal.returns
 returns c =
     let same = c.in-Ok.ensures.cases.0 in
     let short = rw (c.code_points.ensures, same) at c.if-code_points-points.false in
-    checked_text-fits c.args.points c.args.bytes.now c.in-Ok.ensures.cases.1 short ∙ ap (λ t. Ok t) (sym same)
+    checked_text-fits c.args.points c.args.bytes.now c.in-Ok.ensures.cases.1 short ∙
+    ap (λ t. Ok t) (sym same)

@@ -5,7 +5,11 @@ use Rattle.mc_fields.specs.TextLaws.{text_found, text_only}
 use Rattle.mc_fields.proofs.text.read_text.Goals as goal
 
 pub returns-clause-found : goal.returns-clause-found
-returns-clause-found c = PlacedGives-found (λ read. read) (SpellsText c.args.n) (text_read c.args.n) (text_found c.args.n) c.args.bytes.now c.args.at c.text_at.result (λ i. (c.type_inv.bytes i).fits) c.requires c.text_at.ensures
+returns-clause-found c = PlacedGives-found (λ read. read) (SpellsText c.args.n) (text_read c.args.n)
+    (text_found c.args.n) c.args.bytes.now c.args.at c.text_at.result
+    (λ i. (c.type_inv.bytes i).fits) c.requires c.text_at.ensures
 
 pub returns-clause-only : goal.returns-clause-only
-returns-clause-only c text end s = PlacedGives-only (λ read. read) (SpellsText c.args.n) (text_read c.args.n) (text_only c.args.n Anything) c.args.bytes.now c.args.at c.text_at.result text end c.text_at.ensures s
+returns-clause-only c text end s = PlacedGives-only (λ read. read) (SpellsText c.args.n)
+    (text_read c.args.n) (text_only c.args.n Anything) c.args.bytes.now c.args.at c.text_at.result
+    text end c.text_at.ensures s

@@ -13,11 +13,13 @@ loop-rest-preserved c =
       within = omega (arith, more);
       size = search rules;
       below = high_below c.loop-rest.rest (5 - (c.loop-rest.len + 1)) below;
-      spelled = spelled-more (5 - (c.loop-rest.len + 1)) c.loop-rest.len c.loop-rest.rest c.loop-rest.bytes _ (omega arith) c.loop-rest-test.true spelled;
+      spelled = spelled-more (5 - (c.loop-rest.len + 1)) c.loop-rest.len c.loop-rest.rest
+          c.loop-rest.bytes _ (omega arith) c.loop-rest-test.true spelled;
     }
 
 pub returns-clause-spelling : goal.returns-clause-spelling
 returns-clause-spelling c =
     let room : 5 - c.loop-rest.len ≡ suc (5 - (c.loop-rest.len + 1)) = omega arith in
     let spelled = rw room at c.loop-rest.invariant.spelled in
-    spelled-last (5 - (c.loop-rest.len + 1)) c.loop-rest.len c.loop-rest.rest c.loop-rest.bytes _ (omega arith) (omega arith) spelled
+    spelled-last (5 - (c.loop-rest.len + 1)) c.loop-rest.len c.loop-rest.rest c.loop-rest.bytes _
+    (omega arith) (omega arith) spelled

@@ -8,5 +8,6 @@ invariant-loop-i l = record {
   weight : l.weight ≡ 128 ^ l.i;
   below : l.sum < l.weight;
   within : l.i ≤ length l.bytes;
-  sum : raised l.sum l.weight (groups_read (l.room - l.i) (drop l.i l.bytes)) ≡ groups_read l.room l.bytes;
+  sum : raised l.sum l.weight (groups_read (l.room - l.i) (drop l.i l.bytes)) ≡
+      groups_read l.room l.bytes;
 }

@@ -1,4 +1,4 @@
-use Rattle.mc_frame.specs.Frame.{frame_shortest, frame_again}
+use Rattle.mc_frame.specs.FrameLaws.{frame_shortest, frame_again}
 use Rattle.mc_frame.proofs.frame.write_frame.Goals as goal
 
 pub returns-clause-shortest : goal.returns-clause-shortest

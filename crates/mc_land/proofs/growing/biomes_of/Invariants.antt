@@ -5,4 +5,5 @@ use Rattle.mc_land.proofs.growing.biomes_of.Given as goal
 
 -- the biomes below the place
 abbrev pub invariant-loop-top : goal.invariant-loop-top
-invariant-loop-top l = (length l.biomes.items ≡ l.top-index) × ((k : ℕ) → k < l.top-index → get_or l.biomes.items k 0 ≡ terrain_biome l.terrain (x_at l.place k) (z_at l.place k))
+invariant-loop-top l = (length l.biomes.items ≡ l.top-index) × ((k : ℕ) → k < l.top-index →
+    get_or l.biomes.items k 0 ≡ terrain_biome l.terrain (x_at l.place k) (z_at l.place k))

@@ -9,7 +9,8 @@ returns-in_ok-push_alike-in-Flat c =
 pub returns-in_ok-push_hills-in-Hills : goal.returns-in_ok-push_hills-in-Hills
 returns-in_ok-push_hills-in-Hills c =
     let tops = rw c.in-Hills.is at c.requires.tops in
-    rw c.in-Hills.is (hills_layer c.in-Hills.field-0 c.args.place.now c.args.y c.args.tops.now _ _ tops c.in_ok-push_hills-in-Hills.ensures)
+    rw c.in-Hills.is (hills_layer c.in-Hills.field-0 c.args.place.now c.args.y c.args.tops.now _ _
+    tops c.in_ok-push_hills-in-Hills.ensures)
 
 pub returns-in_ok-push_alike-in-Isle : goal.returns-in_ok-push_alike-in-Isle
 returns-in_ok-push_alike-in-Isle c =

@@ -7,4 +7,5 @@ abbrev pub invariant-loop-top : goal.invariant-loop-top
 invariant-loop-top l =
     (length l.out.items ≡ length l.fn.out.items + l.top-index)
     × ((k : ℕ) → k < length l.fn.out.items → get_or l.out.items k 0 ≡ get_or l.fn.out.items k 0)
-    × ((k : ℕ) → k < l.top-index → get_or l.out.items (length l.fn.out.items + k) 0 ≡ hills_id (get_or l.tops k 0) l.y * 16)
+    × ((k : ℕ) → k < l.top-index → get_or l.out.items (length l.fn.out.items + k) 0 ≡
+    hills_id (get_or l.tops k 0) l.y * 16)

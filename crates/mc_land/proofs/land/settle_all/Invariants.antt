@@ -4,4 +4,5 @@ use Rattle.mc_land.proofs.land.settle_all.Given as goal
 
 -- those below i are settled
 abbrev pub invariant-loop-i : goal.invariant-loop-i
-invariant-loop-i l = l.columns.items ≡ map settled_ready (take l.i l.fn.columns.items) ++ drop l.i l.fn.columns.items
+invariant-loop-i l = l.columns.items ≡ map settled_ready (take l.i l.fn.columns.items) ++
+    drop l.i l.fn.columns.items

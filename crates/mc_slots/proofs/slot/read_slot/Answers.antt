@@ -4,7 +4,11 @@ use Rattle.mc_slots.specs.SlotFormat.{SpellsSlot, slot_read, slot_found, slot_on
 use Rattle.mc_slots.proofs.slot.read_slot.Goals as goal
 
 pub returns-clause-found : goal.returns-clause-found
-returns-clause-found c = PlacedGives-found (λ read. read) SpellsSlot slot_read slot_found c.args.bytes.now c.args.at c.slot_at.result (λ i. (c.type_inv.bytes i).fits) c.requires c.slot_at.ensures.gives
+returns-clause-found c = PlacedGives-found (λ read. read) SpellsSlot slot_read slot_found
+    c.args.bytes.now c.args.at c.slot_at.result (λ i. (c.type_inv.bytes i).fits) c.requires
+    c.slot_at.ensures.gives
 
 pub returns-clause-only : goal.returns-clause-only
-returns-clause-only c slot end s = PlacedGives-only (λ read. read) SpellsSlot slot_read (slot_only Anything) c.args.bytes.now c.args.at c.slot_at.result slot end c.slot_at.ensures.gives s
+returns-clause-only c slot end s = PlacedGives-only (λ read. read) SpellsSlot slot_read
+    (slot_only Anything) c.args.bytes.now c.args.at c.slot_at.result slot end
+    c.slot_at.ensures.gives s

@@ -5,13 +5,17 @@ pub write_fields-written-requires : goal.write_fields-written-requires
 write_fields-written-requires c = fit c.args.packet.now c.requires.0 c.requires.1
 
 pub returns-then-is_err-clause-spelled : goal.returns-then-is_err-clause-spelled
-returns-then-is_err-clause-spelled c = spelled c.args.packet.now (fit c.args.packet.now c.requires.0 c.requires.1)
+returns-then-is_err-clause-spelled c = spelled c.args.packet.now (fit c.args.packet.now c.requires.0
+    c.requires.1)
 
 pub returns-then-is_err-clause-again : goal.returns-then-is_err-clause-again
-returns-then-is_err-clause-again c = again c.args.packet.now (fit c.args.packet.now c.requires.0 c.requires.1)
+returns-then-is_err-clause-again c =
+    again c.args.packet.now (fit c.args.packet.now c.requires.0 c.requires.1)
 
 pub returns-else-is_err-clause-spelled : goal.returns-else-is_err-clause-spelled
-returns-else-is_err-clause-spelled c = spelled c.args.packet.now (fit c.args.packet.now c.requires.0 c.requires.1)
+returns-else-is_err-clause-spelled c = spelled c.args.packet.now (fit c.args.packet.now c.requires.0
+    c.requires.1)
 
 pub returns-else-is_err-clause-again : goal.returns-else-is_err-clause-again
-returns-else-is_err-clause-again c = again c.args.packet.now (fit c.args.packet.now c.requires.0 c.requires.1)
+returns-else-is_err-clause-again c =
+    again c.args.packet.now (fit c.args.packet.now c.requires.0 c.requires.1)

@@ -10,7 +10,9 @@ returns-in-None-clause-chest c = rw c.in-None.is
 pub returns-in-None-clause-keeps : goal.returns-in-None-clause-keeps
 returns-in-None-clause-keeps c sort =
     let e = c.click_alone.ensures in
-    rw c.in-None.is (kept_by sort c.args.pack.now None c.args.click.now c.args.room c.args.click.now.number c.click_alone.new.pack None c.click_alone.result e.pack (none_stays c.args.pack.now c.args.click.now c.args.room) e.answer)
+    rw c.in-None.is (kept_by sort c.args.pack.now None c.args.click.now c.args.room
+    c.args.click.now.number c.click_alone.new.pack None c.click_alone.result e.pack
+    (none_stays c.args.pack.now c.args.click.now c.args.room) e.answer)
 
 pub returns-in-Some-clause-chest : goal.returns-in-Some-clause-chest
 returns-in-Some-clause-chest c = rw c.in-Some.is c.click_beside.ensures.chest
@@ -19,7 +21,9 @@ pub returns-in-Some-clause-keeps : goal.returns-in-Some-clause-keeps
 returns-in-Some-clause-keeps c sort =
     let e = c.click_beside.ensures in
     rw c.in-Some.is (kept_by sort c.args.pack.now
-    (Some c.in-Some.chest.now) c.args.click.now c.args.room c.args.click.now.number c.click_beside.new.pack (Some c.click_beside.new.chest) c.click_beside.result e.pack e.chest e.answer)
+    (Some c.in-Some.chest.now) c.args.click.now c.args.room c.args.click.now.number
+    c.click_beside.new.pack (Some c.click_beside.new.chest) c.click_beside.result e.pack e.chest
+    e.answer)
 
 pub returns-in-Some-clause-refused : goal.returns-in-Some-clause-refused
 returns-in-Some-clause-refused c why why_is =

@@ -7,8 +7,11 @@ use Rattle.mc_column.proofs.SentFacts.{body_bytes_spell}
 use Rattle.mc_column.proofs.column.Column.sent_size.Goals as goal
 
 -- the size of the body for a column's mask is that of its bytes
-sized : (column : ColumnValue) (mask size : ℕ) → HasSizes column → mask ≡ column_mask column → size ≡ body_size mask true true → size ≡ length (column_bytes column)
-sized column mask size sizes same is = is ∙ ap (λ (m : ℕ). body_size m true true) same ∙ sym (body_bytes_spell column (column_mask column) sizes).body.size
+sized : (column : ColumnValue) (mask size : ℕ) → HasSizes column → mask ≡ column_mask column →
+    size ≡ body_size mask true true → size ≡ length (column_bytes column)
+sized column mask size sizes same is = is ∙ ap (λ (m : ℕ). body_size m true true) same ∙
+    sym (body_bytes_spell column (column_mask column) sizes).body.size
 
 pub returns : goal.returns
-returns c = sized _ _ _ (rw (← c.self.view_is) (kept_sizes _ _ c.self.invariant)) c.requires c.body_size.ensures
+returns c = sized _ _ _ (rw (← c.self.view_is) (kept_sizes _ _ c.self.invariant)) c.requires
+    c.body_size.ensures

@@ -11,4 +11,5 @@ returns-clause-value c =
     )
 
 pub returns-clause-test : goal.returns-clause-test
-returns-clause-test c = rw (← c.self.view_is) (counted_test (paired c.self.inside.bytes.items) _ c.self.invariant.counted)
+returns-clause-test c = rw (← c.self.view_is) (counted_test (paired c.self.inside.bytes.items) _
+    c.self.invariant.counted)

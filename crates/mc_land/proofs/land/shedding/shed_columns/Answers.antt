@@ -5,8 +5,13 @@ use Rattle.mc_land.proofs.land.shedding.shed_columns.Goals as goal
 
 pub loop-i-preserved : goal.loop-i-preserved
 loop-i-preserved c =
-    let step : c.loop-i.i ≡ c.loop-i.i - 1 + 1 = omega (arith, c.loop-i-test.true) in
-    (c.shed_one.ensures.indexed, c.shed_one.ensures.step c.args.columns.now.items (subst (λ (n : ℕ). AreShed c.args.views.now c.args.columns.now.items c.loop-i.columns.items n) step c.loop-i.invariant.1))
+    let step : c.loop-i.i ≡ c.loop-i.i - 1 + 1 = omega (arith, c.loop-i-test.true) in (
+      c.shed_one.ensures.indexed,
+      c.shed_one.ensures.step c.args.columns.now.items
+          (subst (λ (n : ℕ). AreShed c.args.views.now c.args.columns.now.items c.loop-i.columns.items
+          n) step c.loop-i.invariant.1),
+    )
 
 pub returns-clause-shed : goal.returns-clause-shed
-returns-clause-shed c = shed_all _ _ _ _ c.loop-i.i c.loop-i-test.false c.loop-i.invariant.1 c.loop-i.invariant.0
+returns-clause-shed c = shed_all _ _ _ _ c.loop-i.i c.loop-i-test.false c.loop-i.invariant.1
+    c.loop-i.invariant.0

@@ -4,4 +4,5 @@ use Rattle.mc_nbt.proofs.Written.{AllFitSigned-push}
 use Rattle.mc_nbt.proofs.values.Ints.push.Goals as goal
 
 pub invariant_of-self-2 : goal.invariant_of-self-2
-invariant_of-self-2 c = rw (c.in_ok-push.ensures.items, to_z-of_z w32 c.args.item c.ranges.item) (AllFitSigned-push w32 c.self.inside.items.items c.args.item c.self.invariant c.ranges.item)
+invariant_of-self-2 c = rw (c.in_ok-push.ensures.items, to_z-of_z w32 c.args.item c.ranges.item)
+    (AllFitSigned-push w32 c.self.inside.items.items c.args.item c.self.invariant c.ranges.item)

@@ -30,7 +30,8 @@ pub same_tag-returns-in-IntArray-b : goal.same_tag-returns-in-IntArray-b
 same_tag-returns-in-IntArray-b t c =
     let first = c.as_slice-in-IntArray-b.ensures.value in
     let second = c.as_slice-in-IntArray-b-2.ensures.value in
-    let told = signed_items c.as_slice-in-IntArray-b.result.now c.as_slice-in-IntArray-b-2.result.now in
+    let told = signed_items c.as_slice-in-IntArray-b.result.now
+    c.as_slice-in-IntArray-b-2.result.now in
     rw (c.in-IntArray.is, c.in-IntArray-b.is) (
       λ h. ap int_array (sym first ∙ told.0 (sym c.eq-in-IntArray-b.ensures ∙ h) ∙ second),
       λ h.
@@ -40,34 +41,82 @@ same_tag-returns-in-IntArray-b t c =
 
 pub same_tags-loop-i-preserved : goal.same_tags-loop-i-preserved
 same_tags-loop-i-preserved t c =
-    let lt : c.loop-i.i < length c.a.inside.items.items = omega (arith, c.a.inside.items.ok, c.b.inside.items.ok) in
-    let lt_b : c.loop-i.i < length c.b.inside.items.items = omega (arith, c.a.inside.items.ok, c.b.inside.items.ok) in
-    same_next tree_of c.a.inside.items.items c.b.inside.items.items c.loop-i.i c.index.result.now c.index-in-loop-i.result.now lt lt_b c.loop-i.invariant (rw (← c.index.ensures, ← c.index-in-loop-i.ensures) (c.if-not-same_tag.ensures.0 yes))
+    let lt : c.loop-i.i < length c.a.inside.items.items = omega (
+      arith,
+      c.a.inside.items.ok,
+      c.b.inside.items.ok,
+    ) in
+    let lt_b : c.loop-i.i < length c.b.inside.items.items = omega (
+      arith,
+      c.a.inside.items.ok,
+      c.b.inside.items.ok,
+    ) in
+    same_next tree_of c.a.inside.items.items c.b.inside.items.items c.loop-i.i c.index.result.now
+    c.index-in-loop-i.result.now lt lt_b c.loop-i.invariant (rw (
+      ← c.index.ensures,
+      ← c.index-in-loop-i.ensures,
+    ) (c.if-not-same_tag.ensures.0 yes))
 
 pub same_tags-returns-then-not-same_tag : goal.same_tags-returns-then-not-same_tag
 same_tags-returns-then-not-same_tag t c =
-    let lt : c.loop-i.i < length c.a.inside.items.items = omega (arith, c.a.inside.items.ok, c.b.inside.items.ok) in
-    let lt_b : c.loop-i.i < length c.b.inside.items.items = omega (arith, c.a.inside.items.ok, c.b.inside.items.ok) in (
+    let lt : c.loop-i.i < length c.a.inside.items.items = omega (
+      arith,
+      c.a.inside.items.ok,
+      c.b.inside.items.ok,
+    ) in
+    let lt_b : c.loop-i.i < length c.b.inside.items.items = omega (
+      arith,
+      c.a.inside.items.ok,
+      c.b.inside.items.ok,
+    ) in (
       λ h. absurd cc,
       λ h.
-          let all : map tree_of c.a.inside.items.items ≡ map tree_of c.b.inside.items.items = c.a.view_is ∙ h ∙ sym c.b.view_is in
-          let one : tree_of c.index.result.now ≡ tree_of c.index-in-loop-i.result.now = rw (c.index.ensures, c.index-in-loop-i.ensures) (same_at tree_of c.a.inside.items.items c.b.inside.items.items c.loop-i.i c.index.result.now c.index-in-loop-i.result.now lt lt_b all) in
+          let all : map tree_of c.a.inside.items.items ≡ map tree_of c.b.inside.items.items =
+          c.a.view_is ∙ h ∙ sym c.b.view_is in
+          let one : tree_of c.index.result.now ≡ tree_of c.index-in-loop-i.result.now =
+          rw (c.index.ensures, c.index-in-loop-i.ensures)
+          (same_at tree_of c.a.inside.items.items c.b.inside.items.items c.loop-i.i
+          c.index.result.now c.index-in-loop-i.result.now lt lt_b all) in
           c.if-not-same_tag.ensures.1 one,
     )
 
 pub same_entries-loop-i-preserved : goal.same_entries-loop-i-preserved
 same_entries-loop-i-preserved t c =
-    let lt : c.loop-i.i < length c.a.inside.items.items = omega (arith, c.a.inside.items.ok, c.b.inside.items.ok) in
-    let lt_b : c.loop-i.i < length c.b.inside.items.items = omega (arith, c.a.inside.items.ok, c.b.inside.items.ok) in
-    same_next member_of c.a.inside.items.items c.b.inside.items.items c.loop-i.i c.index.result.now c.index-in-loop-i.result.now lt lt_b c.loop-i.invariant (rw (← c.index.ensures, ← c.index-in-loop-i.ensures) (c.if-not-same_entry.ensures.0 yes))
+    let lt : c.loop-i.i < length c.a.inside.items.items = omega (
+      arith,
+      c.a.inside.items.ok,
+      c.b.inside.items.ok,
+    ) in
+    let lt_b : c.loop-i.i < length c.b.inside.items.items = omega (
+      arith,
+      c.a.inside.items.ok,
+      c.b.inside.items.ok,
+    ) in
+    same_next member_of c.a.inside.items.items c.b.inside.items.items c.loop-i.i c.index.result.now
+    c.index-in-loop-i.result.now lt lt_b c.loop-i.invariant (rw (
+      ← c.index.ensures,
+      ← c.index-in-loop-i.ensures,
+    ) (c.if-not-same_entry.ensures.0 yes))
 
 pub same_entries-returns-then-not-same_entry : goal.same_entries-returns-then-not-same_entry
 same_entries-returns-then-not-same_entry t c =
-    let lt : c.loop-i.i < length c.a.inside.items.items = omega (arith, c.a.inside.items.ok, c.b.inside.items.ok) in
-    let lt_b : c.loop-i.i < length c.b.inside.items.items = omega (arith, c.a.inside.items.ok, c.b.inside.items.ok) in (
+    let lt : c.loop-i.i < length c.a.inside.items.items = omega (
+      arith,
+      c.a.inside.items.ok,
+      c.b.inside.items.ok,
+    ) in
+    let lt_b : c.loop-i.i < length c.b.inside.items.items = omega (
+      arith,
+      c.a.inside.items.ok,
+      c.b.inside.items.ok,
+    ) in (
       λ h. absurd cc,
       λ h.
-          let all : map member_of c.a.inside.items.items ≡ map member_of c.b.inside.items.items = c.a.view_is ∙ h ∙ sym c.b.view_is in
-          let one : member_of c.index.result.now ≡ member_of c.index-in-loop-i.result.now = rw (c.index.ensures, c.index-in-loop-i.ensures) (same_at member_of c.a.inside.items.items c.b.inside.items.items c.loop-i.i c.index.result.now c.index-in-loop-i.result.now lt lt_b all) in
+          let all : map member_of c.a.inside.items.items ≡ map member_of c.b.inside.items.items =
+          c.a.view_is ∙ h ∙ sym c.b.view_is in
+          let one : member_of c.index.result.now ≡ member_of c.index-in-loop-i.result.now =
+          rw (c.index.ensures, c.index-in-loop-i.ensures)
+          (same_at member_of c.a.inside.items.items c.b.inside.items.items c.loop-i.i
+          c.index.result.now c.index-in-loop-i.result.now lt lt_b all) in
           c.if-not-same_entry.ensures.1 one,
     )

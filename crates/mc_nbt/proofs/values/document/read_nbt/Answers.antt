@@ -6,7 +6,10 @@ use Rattle.mc_nbt.specs.NbtTakesLaws.{nbt_found}
 use Rattle.mc_nbt.proofs.values.document.read_nbt.Goals as goal
 
 pub returns-clause-found : goal.returns-clause-found
-returns-clause-found c = PlacedGives-found (λ read. read) SpellsNbt nbt_at nbt_found c.args.bytes.now c.args.at c.nbt_from.result (λ i. (c.type_inv.bytes i).fits) c.requires c.nbt_from.ensures
+returns-clause-found c = PlacedGives-found (λ read. read) SpellsNbt nbt_at nbt_found
+    c.args.bytes.now c.args.at c.nbt_from.result (λ i. (c.type_inv.bytes i).fits) c.requires
+    c.nbt_from.ensures
 
 pub returns-clause-only : goal.returns-clause-only
-returns-clause-only c value end s = PlacedGives-only (λ read. read) SpellsNbt nbt_at nbt_only c.args.bytes.now c.args.at c.nbt_from.result value end c.nbt_from.ensures s
+returns-clause-only c value end s = PlacedGives-only (λ read. read) SpellsNbt nbt_at nbt_only
+    c.args.bytes.now c.args.at c.nbt_from.result value end c.nbt_from.ensures s

@@ -24,10 +24,12 @@ decreases-read_named l = 4 * l.room + 2
 
 abbrev pub invariant-read_items-loop : goal.invariant-read_items-loop
 invariant-read_items-loop l =
-    (with_front l.tags (times_at (value_at l.room l.kind) (l.count - l.counter) l.input) ≡ times_at (value_at l.room l.kind) l.count l.fn.input) × (length l.input ≤ length l.fn.input)
+    (with_front l.tags (times_at (value_at l.room l.kind) (l.count - l.counter) l.input) ≡
+    times_at (value_at l.room l.kind) l.count l.fn.input) × (length l.input ≤ length l.fn.input)
 
 abbrev pub invariant-read_entries-loop-entries : goal.invariant-read_entries-loop-entries
-invariant-read_entries-loop-entries l = IsUnderway (member_at (value_at l.room)) l.entries l.input (members_at (value_at l.room) l.fn.input) × (length l.input ≤ length l.fn.input)
+invariant-read_entries-loop-entries l = IsUnderway (member_at (value_at l.room)) l.entries l.input
+    (members_at (value_at l.room) l.fn.input) × (length l.input ≤ length l.fn.input)
 
 abbrev pub decreases-read_entries-loop-entries : goal.decreases-read_entries-loop-entries
 decreases-read_entries-loop-entries l = length l.input

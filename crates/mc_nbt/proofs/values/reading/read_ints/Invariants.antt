@@ -7,4 +7,5 @@ use Rattle.mc_nbt.proofs.values.reading.read_ints.Given as goal
 
 abbrev pub invariant-loop : goal.invariant-loop
 invariant-loop l =
-    (with_front l.ints (times_at (signed_at w32) (l.count - l.counter) l.input) ≡ times_at (signed_at w32) l.count l.fn.input) × (length l.input ≤ length l.fn.input)
+    (with_front l.ints (times_at (signed_at w32) (l.count - l.counter) l.input) ≡
+    times_at (signed_at w32) l.count l.fn.input) × (length l.input ≤ length l.fn.input)

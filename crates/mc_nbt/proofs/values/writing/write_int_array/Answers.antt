@@ -10,7 +10,14 @@ use Rattle.mc_nbt.proofs.values.writing.write_int_array.Goals as goal
 pub loop-number-preserved : goal.loop-number-preserved
 loop-number-preserved c =
     let z = get_or c.args.numbers.now c.loop-number.number-index (pos 0) in
-    let fits : FitsSigned w32 (get_or c.args.numbers.now c.loop-number.number-index (pos 0)) = search rules in
-    let e : c.write_i32.new.out.items ≡ c.loop-number.out.items ++ signed_spelling w32 z = rw (to_z-of_z w32 z fits) at c.in_ok-write_i32.ensures.ok in
-    let f = ints_spelling-drop c.args.numbers.now c.loop-number.number-index (pos 0) c.loop-number-test.true in
-    (next_written c.loop-number.out.items c.write_i32.new.out.items _ _ _ _ e f c.loop-number.invariant.0, rw e (kept_more c.args.out.now.items c.loop-number.out.items (signed_spelling w32 z) c.loop-number.invariant.1))
+    let fits : FitsSigned w32 (get_or c.args.numbers.now c.loop-number.number-index (pos 0)) =
+    search rules in
+    let e : c.write_i32.new.out.items ≡ c.loop-number.out.items ++ signed_spelling w32 z =
+    rw (to_z-of_z w32 z fits) at c.in_ok-write_i32.ensures.ok in
+    let f = ints_spelling-drop c.args.numbers.now c.loop-number.number-index (pos 0)
+    c.loop-number-test.true in (
+      next_written c.loop-number.out.items c.write_i32.new.out.items _ _ _ _ e f
+          c.loop-number.invariant.0,
+      rw e (kept_more c.args.out.now.items c.loop-number.out.items
+          (signed_spelling w32 z) c.loop-number.invariant.1),
+    )

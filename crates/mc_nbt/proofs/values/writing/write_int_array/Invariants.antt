@@ -6,5 +6,6 @@ use Rattle.mc_nbt.proofs.values.writing.write_int_array.Given as goal
 
 abbrev pub invariant-loop-number : goal.invariant-loop-number
 invariant-loop-number l =
-    (l.out.items ++ ints_spelling (drop l.number-index l.numbers) ≡ l.fn.out.items ++ (number_spelling w32 (length l.numbers) ++ ints_spelling l.numbers))
+    (l.out.items ++ ints_spelling (drop l.number-index l.numbers) ≡ l.fn.out.items ++
+    (number_spelling w32 (length l.numbers) ++ ints_spelling l.numbers))
     × (take (length l.fn.out.items) l.out.items ≡ l.fn.out.items)

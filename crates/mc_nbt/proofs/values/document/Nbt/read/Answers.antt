@@ -7,4 +7,8 @@ use Rattle.mc_nbt.proofs.values.document.Nbt.read.Goals as goal
 pub invariant_of-read : goal.invariant_of-read
 invariant_of-read c =
     let bytes : IsBytes c.rest-bytes.result.now = λ i. omega (arith, c.type_inv.bytes i) in
-    (nbt_found c.args.input.now (named c.in_ok-name.name c.in_ok-name.entries, c.read_parts.new.input) (subst (λ (bs : List ℕ). IsBytes bs) c.rest-bytes.ensures bytes) c.in_ok-name.ensures.gives).spelled.is_nbt
+    (nbt_found c.args.input.now (
+      named c.in_ok-name.name c.in_ok-name.entries,
+      c.read_parts.new.input,
+    ) (subst (λ (bs : List ℕ). IsBytes bs) c.rest-bytes.ensures bytes)
+    c.in_ok-name.ensures.gives).spelled.is_nbt
