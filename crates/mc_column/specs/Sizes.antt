@@ -3,29 +3,29 @@
 use Rattle.std.specs.Prelude.{ℕ}
 
 -- sections in a column
-pub section_count : ℕ
+unfoldable pub section_count : ℕ
 section_count = 16
 
 -- cells in a section, 16 by 16 by 16
-pub section_cells : ℕ
+unfoldable pub section_cells : ℕ
 section_cells = 4096
 
 -- cells in a column
-pub cells : ℕ
+unfoldable pub cells : ℕ
 cells = 65536
 
 -- cells in a layer, 16 by 16, and biomes in a column
-pub squares : ℕ
+unfoldable pub squares : ℕ
 squares = 256
 
 -- bytes of light in a section, half a byte a cell
-pub light_bytes : ℕ
+unfoldable pub light_bytes : ℕ
 light_bytes = 2048
 
 -- bytes of light in a layer
-pub row_bytes : ℕ
+unfoldable pub row_bytes : ℕ
 row_bytes = 128
 
 -- layers in a section
-pub layer_count : ℕ
+unfoldable pub layer_count : ℕ
 layer_count = 16
