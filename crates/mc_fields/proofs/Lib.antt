@@ -4,3 +4,4 @@ pub mod Groups
 pub mod VarintFaults
 pub mod Utf8
 pub mod Again
+pub mod Ids

@@ -1,11 +1,11 @@
 //! The id of a packet and its fields, written. Without memory some first part of them may be there.
-#![tactic(auto, using(mc_nbt::proofs::Kept::kept_whole, mc_nbt::proofs::Kept::kept_same, mc_nbt::proofs::Kept::kept_by, mc_nbt::proofs::Kept::kept_past))]
+#![tactic(auto, using(mc_nbt::proofs::Kept::kept_whole, mc_nbt::proofs::Kept::kept_same, mc_nbt::proofs::Kept::kept_by, mc_nbt::proofs::Kept::kept_past, crate::proofs::Ids::id_fits))]
 
 ghost use Rattle.std.specs.Prelude.{◌≡◌, ◌++◌, length, take, OnOk};
 ghost use Rattle.mc_fields.specs.Flat.{tuple2, tuple3, tuple4, tuple5, tuple6, tuple7};
 ghost use Rattle.mc_fields.specs.Varint.{varint_spelling};
 
-use crate::{Field, put2, put3, put4, put5, put6, put7, write_varint};
+use crate::{Field, VarInt, put2, put3, put4, put5, put6, put7};
 use mc_nbt::NoMemory;
 
 /// Appends a packet of one field.
@@ -15,9 +15,7 @@ pub fn put_row<F: Field>(id: i32, fields: &F, out: &mut Vec<u8>) -> Result<(), N
         F.format.append fields.now (out.old.items ++ varint_spelling id)) }
     ensures kept { take (length out.old.items) out.new.items ≡ out.old.items }
 {
-    write_varint(id, out)?;
-    fields.put(out)?;
-    Ok(())
+    put2(&VarInt(id), fields, out)
 }
 
 /// Appends a packet of two fields.
@@ -34,9 +32,7 @@ pub fn put_row2<A: Field, B: Field>(
         (a.now, b.now) (out.old.items ++ varint_spelling id)) }
     ensures kept { take (length out.old.items) out.new.items ≡ out.old.items }
 {
-    write_varint(id, out)?;
-    put2(a, b, out)?;
-    Ok(())
+    put3(&VarInt(id), a, b, out)
 }
 
 /// Appends a packet of three fields.
@@ -55,9 +51,7 @@ pub fn put_row3<A: Field, B: Field, C: Field>(
         (a.now, b.now, c.now) (out.old.items ++ varint_spelling id)) }
     ensures kept { take (length out.old.items) out.new.items ≡ out.old.items }
 {
-    write_varint(id, out)?;
-    put3(a, b, c, out)?;
-    Ok(())
+    put4(&VarInt(id), a, b, c, out)
 }
 
 /// Appends a packet of four fields.
@@ -78,9 +72,7 @@ pub fn put_row4<A: Field, B: Field, C: Field, D: Field>(
         (a.now, b.now, c.now, d.now) (out.old.items ++ varint_spelling id)) }
     ensures kept { take (length out.old.items) out.new.items ≡ out.old.items }
 {
-    write_varint(id, out)?;
-    put4(a, b, c, d, out)?;
-    Ok(())
+    put5(&VarInt(id), a, b, c, d, out)
 }
 
 /// Appends a packet of five fields.
@@ -103,9 +95,7 @@ pub fn put_row5<A: Field, B: Field, C: Field, D: Field, E: Field>(
         (a.now, b.now, c.now, d.now, e.now) (out.old.items ++ varint_spelling id)) }
     ensures kept { take (length out.old.items) out.new.items ≡ out.old.items }
 {
-    write_varint(id, out)?;
-    put5(a, b, c, d, e, out)?;
-    Ok(())
+    put6(&VarInt(id), a, b, c, d, e, out)
 }
 
 /// Appends a packet of six fields.
@@ -130,9 +120,7 @@ pub fn put_row6<A: Field, B: Field, C: Field, D: Field, E: Field, F: Field>(
         (a.now, b.now, c.now, d.now, e.now, f.now) (out.old.items ++ varint_spelling id)) }
     ensures kept { take (length out.old.items) out.new.items ≡ out.old.items }
 {
-    write_varint(id, out)?;
-    put6(a, b, c, d, e, f, out)?;
-    Ok(())
+    put7(&VarInt(id), a, b, c, d, e, f, out)
 }
 
 /// Appends a packet of seven fields.
@@ -159,7 +147,6 @@ pub fn put_row7<A: Field, B: Field, C: Field, D: Field, E: Field, F: Field, G: F
         (a.now, b.now, c.now, d.now, e.now, f.now, g.now) (out.old.items ++ varint_spelling id)) }
     ensures kept { take (length out.old.items) out.new.items ≡ out.old.items }
 {
-    write_varint(id, out)?;
-    put7(a, b, c, d, e, f, g, out)?;
-    Ok(())
+    put_row4(id, a, b, c, d, out)?;
+    put3(e, f, g, out)
 }

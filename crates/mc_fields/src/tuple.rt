@@ -120,8 +120,7 @@ pub fn put2<A: Field, B: Field>(a: &A, b: &B, out: &mut Vec<u8>) -> Result<(), N
     ensures kept { take (length out.old.items) out.new.items ≡ out.old.items }
 {
     a.put(out)?;
-    b.put(out)?;
-    Ok(())
+    b.put(out)
 }
 
 /// Appends three fields. Without memory some first part of them may be there.
@@ -139,10 +138,8 @@ pub fn put3<A: Field, B: Field, C: Field>(
         (a.now, b.now, c.now) out.old.items) }
     ensures kept { take (length out.old.items) out.new.items ≡ out.old.items }
 {
-    a.put(out)?;
-    b.put(out)?;
-    c.put(out)?;
-    Ok(())
+    put2(a, b, out)?;
+    c.put(out)
 }
 
 /// Appends four fields. Without memory some first part of them may be there.
@@ -162,11 +159,8 @@ pub fn put4<A: Field, B: Field, C: Field, D: Field>(
         (a.now, b.now, c.now, d.now) out.old.items) }
     ensures kept { take (length out.old.items) out.new.items ≡ out.old.items }
 {
-    a.put(out)?;
-    b.put(out)?;
-    c.put(out)?;
-    d.put(out)?;
-    Ok(())
+    put2(a, b, out)?;
+    put2(c, d, out)
 }
 
 /// Appends five fields. Without memory some first part of them may be there.
@@ -188,12 +182,8 @@ pub fn put5<A: Field, B: Field, C: Field, D: Field, E: Field>(
         (a.now, b.now, c.now, d.now, e.now) out.old.items) }
     ensures kept { take (length out.old.items) out.new.items ≡ out.old.items }
 {
-    a.put(out)?;
-    b.put(out)?;
-    c.put(out)?;
-    d.put(out)?;
-    e.put(out)?;
-    Ok(())
+    put3(a, b, c, out)?;
+    put2(d, e, out)
 }
 
 /// Appends six fields. Without memory some first part of them may be there.
@@ -217,13 +207,8 @@ pub fn put6<A: Field, B: Field, C: Field, D: Field, E: Field, F: Field>(
         (a.now, b.now, c.now, d.now, e.now, f.now) out.old.items) }
     ensures kept { take (length out.old.items) out.new.items ≡ out.old.items }
 {
-    a.put(out)?;
-    b.put(out)?;
-    c.put(out)?;
-    d.put(out)?;
-    e.put(out)?;
-    f.put(out)?;
-    Ok(())
+    put3(a, b, c, out)?;
+    put3(d, e, f, out)
 }
 
 /// Appends seven fields. Without memory some first part of them may be there.
@@ -249,12 +234,6 @@ pub fn put7<A: Field, B: Field, C: Field, D: Field, E: Field, F: Field, G: Field
         (a.now, b.now, c.now, d.now, e.now, f.now, g.now) out.old.items) }
     ensures kept { take (length out.old.items) out.new.items ≡ out.old.items }
 {
-    a.put(out)?;
-    b.put(out)?;
-    c.put(out)?;
-    d.put(out)?;
-    e.put(out)?;
-    f.put(out)?;
-    g.put(out)?;
-    Ok(())
+    put4(a, b, c, d, out)?;
+    put3(e, f, g, out)
 }
