@@ -17,11 +17,10 @@ ghost use Rattle.mc_down.specs.Metadata.{SpellsMeta, FitsMeta, meta_read, meta_s
 
 use crate::{MetaEntry, MetaValue, Metas};
 use mc_fields::{
-    Field, STRING_MAX, take_i8, take_i16, take_i32, take_text, write_i8, write_i16, write_i32,
-    write_text, write_u8, write_u32,
+    Field, STRING_MAX, take_i8, take_i16, take_i32, take_text, write_i32, write_u8, write_u32,
 };
 use mc_nbt::{Cursor, NoMemory, ReadError, ReadFault, Stop};
-use mc_slots::{take_slot, write_slot};
+use mc_slots::take_slot;
 use std::alloc::Global;
 
 /// The byte that ends the entries.
@@ -189,16 +188,15 @@ fn append_value(value: &MetaValue, out: &mut Vec<u8>) -> Result<(), NoMemory>
     ensures kept { take (length out.old.items) out.new.items ≡ out.old.items }
 {
     match value {
-        MetaValue::Byte(number) => write_i8(*number, out)?,
-        MetaValue::Short(number) => write_i16(*number, out)?,
-        MetaValue::Int(number) => write_i32(*number, out)?,
-        MetaValue::Float(pattern) => write_u32(*pattern, out)?,
-        MetaValue::Text(text) => write_text(text, out)?,
-        MetaValue::Slot(slot) => write_slot(slot, out)?,
-        MetaValue::Ints(numbers) => append_ints(numbers, out)?,
-        MetaValue::Floats(patterns) => append_floats(patterns, out)?,
+        MetaValue::Byte(number) => number.put(out),
+        MetaValue::Short(number) => number.put(out),
+        MetaValue::Int(number) => number.put(out),
+        MetaValue::Float(pattern) => pattern.put(out),
+        MetaValue::Text(text) => text.put(out),
+        MetaValue::Slot(slot) => slot.put(out),
+        MetaValue::Ints(numbers) => append_ints(numbers, out),
+        MetaValue::Floats(patterns) => append_floats(patterns, out),
     }
-    Ok(())
 }
 
 fn append_entry(entry: &MetaEntry, out: &mut Vec<u8>) -> Result<(), NoMemory>
@@ -232,8 +230,7 @@ pub fn put_metas(metas: &Metas, out: &mut Vec<u8>) -> Result<(), NoMemory>
         out.old.items) }
     ensures kept { take (length out.old.items) out.new.items ≡ out.old.items }
 {
-    append_entries(metas.as_slice(), out)?;
-    Ok(())
+    append_entries(metas.as_slice(), out)
 }
 
 impl Field for Metas {

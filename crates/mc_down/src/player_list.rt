@@ -8,7 +8,7 @@ ghost use Rattle.mc_down.specs.Down.{player_list};
 
 use crate::players::{take_action, take_players, write_players};
 use crate::{Down, Players};
-use mc_fields::write_varint;
+use mc_fields::{VarInt, put_row};
 use mc_nbt::{Cursor, NoMemory, ReadError};
 use std::alloc::Global;
 
@@ -29,8 +29,6 @@ pub fn write_player_list(action: &i32, changes: &Players, out: &mut Vec<u8>) -> 
         out.old.items) }
     ensures kept { take (length out.old.items) out.new.items ≡ out.old.items }
 {
-    write_varint(0x38, out)?;
-    write_varint(*action, out)?;
-    write_players(changes, action, out)?;
-    Ok(())
+    put_row(0x38, &VarInt(*action), out)?;
+    write_players(changes, action, out)
 }

@@ -18,8 +18,7 @@ ghost use Rattle.mc_down.specs.PlayerChange.{own_append};
 use crate::parts::{take_text_if, write_text_if};
 use crate::{Player, PlayerChange, Players, Properties, Property};
 use mc_fields::{
-    Field, STRING_MAX, VarInt, take_bool, take_count, take_text, take_varint, write_bool,
-    write_text, write_u128, write_varint,
+    Field, VarInt, put3, take_count, take_varint, write_bool, write_text, write_u128, write_varint,
 };
 use mc_nbt::{Cursor, Kind, NoMemory, ReadError, Stop, Text};
 use std::alloc::Global;
@@ -40,9 +39,9 @@ pub fn take_action(cursor: &mut Cursor<'_>) -> Result<i32, Stop>
 fn take_property(alloc: Global, cursor: &mut Cursor<'_>) -> Result<Property, ReadError>
     ensures { Gives (λ value. (value, cursor.new)) result (property.read cursor.old) }
 {
-    let name = take_text(alloc, cursor, STRING_MAX)?;
-    let value = take_text(alloc, cursor, STRING_MAX)?;
-    let is_signed = take_bool(cursor)?;
+    let name = Text::get(alloc, cursor)?;
+    let value = Text::get(alloc, cursor)?;
+    let is_signed = bool::get(alloc, cursor)?;
     let signature = take_text_if(is_signed, alloc, cursor)?;
     Ok(Property {
         name,
@@ -57,11 +56,8 @@ fn write_property(value: &Property, out: &mut Vec<u8>) -> Result<(), NoMemory>
     ensures ok { OnOk result (out.new.items ≡ property.append value.now out.old.items) }
     ensures kept { take (length out.old.items) out.new.items ≡ out.old.items }
 {
-    write_text(&value.name, out)?;
-    write_text(&value.value, out)?;
-    write_bool(value.is_signed, out)?;
-    write_text_if(&value.signature, out)?;
-    Ok(())
+    put3(&value.name, &value.value, &value.is_signed, out)?;
+    write_text_if(&value.signature, out)
 }
 
 impl Field for Property {
@@ -76,15 +72,26 @@ impl Field for Property {
     }
 }
 
+/// Whether a player that joins has a name that is shown, and that name.
+fn take_name_shown(
+    alloc: Global,
+    cursor: &mut Cursor<'_>,
+) -> Result<(bool, Option<Text>), ReadError>
+    ensures { Gives (λ shown. (shown, cursor.new)) result (shown_parts.read cursor.old) }
+{
+    let is_shown = bool::get(alloc, cursor)?;
+    let shown = take_text_if(is_shown, alloc, cursor)?;
+    Ok((is_shown, shown))
+}
+
 fn take_join(alloc: Global, cursor: &mut Cursor<'_>) -> Result<PlayerChange, ReadError>
     ensures { Gives (λ what. (what, cursor.new)) result (joining.read cursor.old) }
 {
-    let name = take_text(alloc, cursor, STRING_MAX)?;
+    let name = Text::get(alloc, cursor)?;
     let properties = Properties::get(alloc, cursor)?;
-    let VarInt(mode) = Field::get(alloc, cursor)?;
-    let VarInt(ping) = Field::get(alloc, cursor)?;
-    let is_shown = take_bool(cursor)?;
-    let shown = take_text_if(is_shown, alloc, cursor)?;
+    let VarInt(mode) = VarInt::get(alloc, cursor)?;
+    let VarInt(ping) = VarInt::get(alloc, cursor)?;
+    let (is_shown, shown) = take_name_shown(alloc, cursor)?;
     Ok(PlayerChange::Join {
         name,
         properties,
@@ -98,8 +105,7 @@ fn take_join(alloc: Global, cursor: &mut Cursor<'_>) -> Result<PlayerChange, Rea
 fn take_shown(alloc: Global, cursor: &mut Cursor<'_>) -> Result<PlayerChange, ReadError>
     ensures { Gives (λ what. (what, cursor.new)) result (showing.read cursor.old) }
 {
-    let is_shown = take_bool(cursor)?;
-    let shown = take_text_if(is_shown, alloc, cursor)?;
+    let (is_shown, shown) = take_name_shown(alloc, cursor)?;
     Ok(PlayerChange::Shown(is_shown, shown))
 }
 
@@ -174,7 +180,7 @@ fn write_join_head(name: &Text, properties: &Properties, out: &mut Vec<u8>) -> R
 }
 
 /// What follows the properties of a player that joins.
-#[tactic(auto, using(mc_nbt::proofs::Kept::kept_whole, mc_nbt::proofs::Kept::kept_same, mc_nbt::proofs::Kept::kept_by, crate::proofs::Begun::kept_through))]
+#[tactic(auto, using(mc_nbt::proofs::Kept::kept_whole, mc_nbt::proofs::Kept::kept_same, mc_nbt::proofs::Kept::kept_by, crate::proofs::Begun::kept_through, mc_fields::proofs::Ids::id_fits))]
 fn write_join_tail(
     mode: i32,
     ping: i32,
@@ -188,11 +194,8 @@ fn write_join_tail(
         out.old.items))) }
     ensures kept { take (length out.old.items) out.new.items ≡ out.old.items }
 {
-    write_varint(mode, out)?;
-    write_varint(ping, out)?;
-    write_bool(is_shown, out)?;
-    write_text_if(shown, out)?;
-    Ok(())
+    put3(&VarInt(mode), &VarInt(ping), &is_shown, out)?;
+    write_text_if(shown, out)
 }
 
 /// A player that joins.
@@ -216,8 +219,7 @@ fn write_join(
     ensures kept { take (length out.old.items) out.new.items ≡ out.old.items }
 {
     write_join_head(name, properties, out)?;
-    write_join_tail(mode, ping, is_shown, shown, out)?;
-    Ok(())
+    write_join_tail(mode, ping, is_shown, shown, out)
 }
 
 fn write_shown(is_shown: bool, shown: &Option<Text>, out: &mut Vec<u8>) -> Result<(), NoMemory>
