@@ -5,7 +5,7 @@ ghost use Rattle.mc_nbt.specs.Reading.{Gives};
 ghost use Rattle.mc_fields.specs.Row.{GivesRow, GivesPacket, fields_read, id_read, frame_read};
 ghost use Rattle.mc_fields.specs.Row.{packet_of, is_one_of};
 ghost use Rattle.mc_down.specs.declared.down.Down.{Down};
-ghost use Rattle.mc_down.specs.Down.{is_raw, raw, rows_from_00, rows_from_08, rows_from_13};
+ghost use Rattle.mc_down.specs.Down.{is_raw, raw, plugin, rows_from_00, rows_from_08, rows_from_13};
 ghost use Rattle.mc_down.specs.Down.{rows_from_1B, rows_from_2E, rows_from_3A, rows, SpellsDown};
 
 use crate::Down;
@@ -45,6 +45,15 @@ fn read_raw(alloc: Global, cursor: &mut Cursor<'_>, id: i32) -> Result<Down, Rea
     Ok(Down::Raw(id, bytes))
 }
 
+/// A channel between plugins, and all bytes after it.
+fn read_plugin(alloc: Global, cursor: &mut Cursor<'_>) -> Result<Down, ReadError>
+    ensures { Gives (λ packet. (packet, cursor.new)) result (fields_read plugin cursor.old) }
+{
+    let channel = Text::get(alloc, cursor)?;
+    let content = take_rest(alloc, cursor)?;
+    Ok(Down::Plugin(channel, content))
+}
+
 /// The fields of the packet with this id, from 3A on.
 #[tactic(auto, unfolding(crate::specs::Down::rows_from_3A))]
 fn read_from_3a(alloc: Global, cursor: &mut Cursor<'_>, id: i32) -> Result<Down, RowError>
@@ -52,11 +61,7 @@ fn read_from_3a(alloc: Global, cursor: &mut Cursor<'_>, id: i32) -> Result<Down,
 {
     match id {
         0x3A => Ok(Down::TabComplete(Field::get(alloc, cursor)?)),
-        0x3F => {
-            let channel: Text = Field::get(alloc, cursor)?;
-            let content = take_rest(alloc, cursor)?;
-            Ok(Down::Plugin(channel, content))
-        }
+        0x3F => Ok(read_plugin(alloc, cursor)?),
         0x40 => Ok(Down::Disconnect(Field::get(alloc, cursor)?)),
         0x41 => Ok(Down::Difficulty(Field::get(alloc, cursor)?)),
         _ => Err(RowError::Fault(RowFault::UnknownId(id))),
