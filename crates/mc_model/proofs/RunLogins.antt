@@ -45,7 +45,7 @@ login_came s t ps qs at before (greeted from waits' open_ cause none) = let clas
 login_came s t ps qs at before (entered from into shown cause told) = plays t.name into (nothing_before ps qs _ before told)
 login_came s t ps qs at before (shut_for why open_ shut cause last) = elim (last.in_login at) [
   | inl bye ↦ ended why shut cause (nothing_before ps qs _ before bye)
-  | inr no ↦ turned_away no.0 shut (cause ∙ ap (λ (c : Cause). Some c) no.1) (nothing_before ps qs _ before no.2)
+  | inr denied ↦ turned_away denied.0 shut (cause ∙ ap (λ (c : Cause). Some c) denied.1) (nothing_before ps qs _ before denied.2)
 ]
 
 -- one that was let in plays on, or is closed

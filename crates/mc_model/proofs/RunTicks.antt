@@ -108,7 +108,7 @@ between_hands k w s e o there playing ne = elim (between k w s e o there playing
 
 pub tick_hands_due : (w : World) → Orderly w → AtTick w
 tick_hands_due w o = record {
-  due = λ k s. tick_due k w s o;
+  hands_due = λ k s. tick_due k w s o;
   shown = λ k s. tick_shown k w s;
   too_much = λ k s. tick_much k w s o;
   others = λ k. tick_others k w o;

@@ -21,7 +21,7 @@ use Rattle.mc_model.specs.Causes.{Closes, IsTooMuch}
 -- what a tick hands out, and what it leaves, from the world before it
 pub record AtTick (w : World) : Type 0 where
   -- a client in play is handed just what is due to it, unless that is more than its outbox holds
-  pub due : (k : ℕ) (s : Session) → found k w.sessions ≡ Some s → is_play s.stage ≡ true →
+  pub hands_due : (k : ℕ) (s : Session) → found k w.sessions ≡ Some s → is_play s.stage ≡ true →
       ¬ IsTooMuch s (map of_play (due (at_tick w) s)) →
       to k (step w ticked).out ≡ map of_play (due (at_tick w) s)
   -- and then it was shown the world of the tick, and nothing is noted
