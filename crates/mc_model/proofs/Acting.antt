@@ -29,7 +29,7 @@ use Rattle.mc_model.specs.Hearing.{Sent, of_status, played}
 use Rattle.mc_model.specs.Acts.{act, arrive, arrived, is_in_range, moved, turned}
 use Rattle.mc_model.specs.Talk.{Said, nothing, greets, replies, ends, enters, acts, wrong, said, in_hand, in_status, in_login, in_play, wanted, farewell, refused, accepted}
 use Rattle.mc_model.specs.Step.{still, perform, refusal, answer_login, acted, entered as entering}
-use Rattle.mc_model.proofs.Handing.{stayed, answered, greeted, entered, IsLast, Goes, goes_still, goes_put, goes_hand, goes_close, play_is, not_both}
+use Rattle.mc_model.proofs.Handing.{stayed, answered, greeted, entered, IsLast, owes_same, Goes, goes_still, goes_put, goes_hand, goes_close, play_is, not_both}
 
 -- ---- which answers a stage has
 
@@ -85,6 +85,7 @@ pub record Acted (w : World) (s : Session) (v : World) : Type 0 where
   pub stage : session.stage ≡ s.stage
   pub shown : session.shown ≡ s.shown
   pub cause : session.cause ≡ s.cause
+  pub owed : session.owed ≡ s.owed
   pub is : (v ≡ w) ⊎ (v ≡ put w session)
 
 arrived_acted : (w : World) (s : Session) (spot : Spot) → Acted w s (put w (arrived w s spot))
@@ -94,6 +95,7 @@ arrived_acted w s spot = record {
   stage = elim (is_in_range spot) as (λ b. (session_of b).stage ≡ s.stage) [ true ↦ refl | false ↦ refl ];
   shown = elim (is_in_range spot) as (λ b. (session_of b).shown ≡ s.shown) [ true ↦ refl | false ↦ refl ];
   cause = elim (is_in_range spot) as (λ b. (session_of b).cause ≡ s.cause) [ true ↦ refl | false ↦ refl ];
+  owed = elim (is_in_range spot) as (λ b. (session_of b).owed ≡ s.owed) [ true ↦ refl | false ↦ refl ];
   is = inr refl;
 }
   where
@@ -123,34 +125,48 @@ act_acted w s (Settings locale view chat_mode colours skin) v e = record {
   stage = refl;
   shown = refl;
   cause = refl;
+  owed = refl;
   is = inr (sym (some_is (put w (record s { asked = view })) v e));
 }
-act_acted w s other v e = record { session = s; id = refl; stage = refl; shown = refl; cause = refl; is = inl (sym (some_is w v e)) }
+act_acted w s other v e = record { session = s; id = refl; stage = refl; shown = refl; cause = refl; owed = refl; is = inl (sym (some_is w v e)) }
 
 goes_acted : (k : ℕ) (w v : World) (s : Session) → found k w.sessions ≡ Some s → s.id ≡ k → Acted w s v → Goes k w s (still v)
 goes_acted k w v s e is a = elim (a.is) [
   | inl same ↦ subst (λ (u : World). Goes k w s (still u)) (sym same) (goes_still k w s e)
-  | inr same ↦ subst (λ (u : World). Goes k w s (still u)) (sym same) (goes_put k w w.eids s a.session [] e (a.id ∙ is) (stayed a.stage a.shown a.cause refl))
+  | inr same ↦ subst (λ (u : World). Goes k w s (still u)) (sym same) (goes_put k w w.eids s a.session [] e (a.id ∙ is) (stayed a.stage a.shown a.cause refl) (owes_same s a.session a.owed))
 ]
 
 -- ---- a frame done
 
 -- a farewell is the last packet that it is closed with
-pub farewell_last : (stage : Stage) (cause : Cause) → IsLast stage (farewell stage cause)
-farewell_last stage cause playing = inr (cause, ap (λ (at : Stage). farewell at cause) (play_is stage playing))
+pub farewell_last : (stage : Stage) (cause : Cause) → IsLast stage cause (farewell stage cause)
+farewell_last stage cause = record {
+  in_play = λ playing. ap (λ (at : Stage). farewell at cause) (play_is stage playing);
+  in_login = λ at. inl (ap (λ (at : Stage). farewell at cause) at);
+}
 
-last_elsewhere : (stage at : Stage) (ps : List Sent) → is_play at ≡ false → stage ≡ at → IsLast stage ps
-last_elsewhere stage at ps waits is playing = absurd (not_both (is_play stage) playing (ap is_play is ∙ waits))
+-- the end of a status
+status_last : (stage : Stage) (cause : Cause) (ps : List Sent) → stage ≡ stages.Status → IsLast stage cause ps
+status_last stage cause ps is = record {
+  in_play = λ playing. absurd (not_both (is_play stage) playing (ap is_play is));
+  in_login = λ at. absurd (not_status stage is at);
+}
+  where
+    not_status : (stage : Stage) → stage ≡ stages.Status → stage ≡ stages.Login → ⊥
+    not_status stage is at = let clash : stages.Status ≡ stages.Login = sym is ∙ at in cc
 
-accepted_played : (uuid : ℕ) (name : List ℕ) → played (accepted uuid name) ≡ []
-unfolding accepted
-accepted_played uuid name = refl
+-- a refusal
+refused_last : (stage : Stage) (why : Refusal) → stage ≡ stages.Login → IsLast stage (causes.Refused why) (refused why)
+refused_last stage why is = record {
+  in_play = λ playing. absurd (not_both (is_play stage) playing (ap is_play is));
+  in_login = λ at. inr (why, refl, refl);
+}
 
 login_goes : (k : ℕ) (w : World) (s : Session) (name : List ℕ) (o : Option Refusal) → found k w.sessions ≡ Some s → s.id ≡ k → s.stage ≡ stages.Login → is_closed s.stage ≡ false → Goes k w s (answer_login w s name o)
-login_goes k w s name (Some why) e is at open_ = goes_close k w s (causes.Refused why) (refused why) e is open_ (last_elsewhere s.stage stages.Login (refused why) refl at)
+login_goes k w s name (Some why) e is at open_ = goes_close k w s (causes.Refused why) (refused why) e is open_ (refused_last s.stage why at)
 login_goes k w s name None e is at open_ =
-    goes_hand k w (w.eids + 1) s (entering w s name) (accepted (offline_uuid name) name) e is open_
-    (λ owed. entered at refl refl refl (accepted_played (offline_uuid name) name))
+    goes_hand k w (w.eids + 1) s (entering w s name) (accepted (offline_uuid name) name) e is refl open_
+    (λ owed. entered at refl refl refl refl)
 
 acted_goes : (k : ℕ) (w : World) (s : Session) (x : PlayUp) (o : Option World) → act w s x ≡ o → found k w.sessions ≡ Some s → s.id ≡ k → is_closed s.stage ≡ false → Goes k w s (acted w s o)
 acted_goes k w s x (Some v) did e is open_ = goes_acted k w v s e is (act_acted w s x v did)
@@ -158,9 +174,9 @@ acted_goes k w s x None did e is open_ = goes_close k w s causes.BadNumber (fare
 
 pub performed : (k : ℕ) (w : World) (s : Session) (x : Said) → found k w.sessions ≡ Some s → s.id ≡ k → is_closed s.stage ≡ false → Suits s.stage x → Goes k w s (perform w s x)
 performed k w s nothing e is open_ fit = goes_still k w s e
-performed k w s (greets protocol stage) e is open_ fit = goes_put k w w.eids s (record s { stage = stage; protocol = protocol }) [] e is (greeted fit.0 fit.1 fit.2 refl refl)
-performed k w s (replies packet) e is open_ fit = goes_hand k w w.eids s s (of_status packet ∷ []) e is open_ (λ owed. answered fit refl refl refl)
-performed k w s (ends packet) e is open_ fit = goes_close k w s causes.Done (of_status packet ∷ []) e is open_ (last_elsewhere s.stage stages.Status (of_status packet ∷ []) refl fit)
+performed k w s (greets protocol stage) e is open_ fit = goes_put k w w.eids s (record s { stage = stage; protocol = protocol }) [] e is (greeted fit.0 fit.1 fit.2 refl refl) (owes_same s _ refl)
+performed k w s (replies packet) e is open_ fit = goes_hand k w w.eids s s (of_status packet ∷ []) e is refl open_ (λ owed. answered fit refl refl refl)
+performed k w s (ends packet) e is open_ fit = goes_close k w s causes.Done (of_status packet ∷ []) e is open_ (status_last s.stage causes.Done (of_status packet ∷ []) fit)
 performed k w s (enters name) e is open_ fit = login_goes k w s name (refusal w s.protocol name) e is fit open_
 performed k w s (acts packet) e is open_ fit = acted_goes k w s packet (act w s packet) refl e is open_
 performed k w s (wrong fault) e is open_ fit = goes_close k w s (causes.Packet fault) (farewell s.stage (causes.Packet fault)) e is open_ (farewell_last s.stage (causes.Packet fault))

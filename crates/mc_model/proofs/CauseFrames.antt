@@ -21,7 +21,7 @@ use Rattle.mc_model.proofs.Sessions.{one_some, found_id}
 use Rattle.mc_model.proofs.Beside.{found_put}
 use Rattle.mc_model.proofs.Handing.{hand_cases, not_both}
 use Rattle.mc_model.proofs.Acting.{Acted, act_acted}
-use Rattle.mc_model.proofs.Frames.{frame_goes, frames_lead}
+use Rattle.mc_model.proofs.Frames.{also_owing, frame_goes, frames_lead}
 use Rattle.mc_model.proofs.CauseSound.{cause_found, IsSound, sound_kept}
 
 -- ---- a cause, or none
@@ -218,7 +218,7 @@ next_closes k (frame ∷ later) w s fault c e open_ none next =
 pub frames_closed : (k : ℕ) (frames : List (List ℕ)) (w : World) (s : Session) (fault : Option FrameFault) (c : Cause) → found k w.sessions ≡ Some s → is_closed s.stage ≡ false → s.cause ≡ None →
     FirstCloses w k frames fault c → cause_in k (all_done w k frames fault) ≡ Some c
 frames_closed k frames w s fault c e open_ none f =
-    let led = frames_lead IsSound sound_kept k f.good w s [] e (open_ ∙ ap (λ (o : Option Cause). is_some o) (sym none)) in
+    let led = frames_lead IsSound (also_owing IsSound sound_kept) k f.good w s [] e (open_ ∙ ap (λ (o : Option Cause). is_some o) (sym none)) in
     let same = one_some led.session f.session _ led.there f.still_open.is_there in
     let sound : is_closed f.session.stage ≡ is_some f.session.cause = subst (λ (v : Session). is_closed v.stage ≡ is_some v.cause) same led.holds in
     let clean = no_cause f.session.cause (sym sound ∙ f.still_open.open_) in

@@ -1,14 +1,17 @@
 -- Handing out and closing: what one thing that happens to a connection makes of it.
-use Rattle.std.proofs.Common.{◌≡◌, ℕ, ◌+◌, List, [], ◌++◌, length, map, inl, refl, sym, ap, ◌∙◌}
+use Rattle.std.proofs.Common.{◌≡◌, ℕ, ◌+◌, List, [], ◌++◌, length, map, inl, inr, refl, sym, ap, ◌∙◌}
 use Rattle.std.specs.Prelude.{◌⊎◌, Bool, true, false, nat_le, Some, None, if◌then◌else◌}
+use Rattle.std.proofs.lemmas.List.{append-nil}
 use Rattle.mc_frame.specs.Kept.{outbox_max}
 use Rattle.mc_model.specs.declared.cause.Cause.{Cause}
 use Rattle.mc_model.specs.declared.cause.Cause.TheVariants as causes
+use Rattle.mc_model.specs.declared.cause.Refusal.{Refusal}
 use Rattle.mc_model.specs.declared.stage.Stage.{Stage}
 use Rattle.mc_model.specs.declared.stage.Stage.TheVariants as stages
+use Rattle.mc_model.specs.Names.{offline_uuid}
 use Rattle.mc_model.specs.World.{World, Session, found, put, is_play, is_closed}
 use Rattle.mc_model.specs.Hearing.{Sent, of_play, bytes_of, played}
-use Rattle.mc_model.specs.Talk.{farewell}
+use Rattle.mc_model.specs.Talk.{farewell, refused, accepted}
 use Rattle.mc_model.specs.Step.{Handing, hand, shut, close, Turn, still, turn, due, showing, flush}
 use Rattle.mc_model.proofs.Beside.{Beside, beside_same, beside_onward, beside_put, found_put}
 
@@ -33,17 +36,43 @@ not_closed stage at closed is open_ = not_both (is_closed stage) (ap is_closed c
 
 -- ---- what a connection comes to
 
--- a client in play is handed nothing, or the farewell of a cause
-abbrev pub IsLast : Stage → List Sent → Type 0
-IsLast stage ps = is_play stage ≡ true → (ps ≡ []) ⊎ ((cause : Cause) × (ps ≡ farewell stages.Play cause))
+-- a client is handed the farewell of its stage and cause; one that logs in may be refused
+pub record IsLast (stage : Stage) (cause : Cause) (ps : List Sent) : Type 0 where
+  pub in_play : is_play stage ≡ true → ps ≡ farewell stages.Play cause
+  pub in_login : stage ≡ stages.Login → (ps ≡ farewell stages.Login cause) ⊎ ((why : Refusal) × (cause ≡ causes.Refused why) × (ps ≡ refused why))
+
+-- one whose outbox is full, or that left, is handed nothing
+pub backlog_last : (stage : Stage) → IsLast stage causes.Backlog []
+unfolding farewell
+backlog_last stage = record { in_play = λ playing. refl; in_login = λ at. inl refl }
+
+pub gone_last : (stage : Stage) → IsLast stage causes.Gone []
+unfolding farewell
+gone_last stage = record { in_play = λ playing. refl; in_login = λ at. inl refl }
 
 -- one thing that happened to a connection between two ticks: from what to what, and what was handed to it
 pub data Done (s t : Session) (ps : List Sent) : Type 0 where
   stayed : t.stage ≡ s.stage → t.shown ≡ s.shown → t.cause ≡ s.cause → ps ≡ [] → Done s t ps
   answered : s.stage ≡ stages.Status → t.stage ≡ s.stage → t.cause ≡ s.cause → played ps ≡ [] → Done s t ps
   greeted : s.stage ≡ stages.Hand → is_play t.stage ≡ false → is_closed t.stage ≡ false → t.cause ≡ s.cause → ps ≡ [] → Done s t ps
-  entered : s.stage ≡ stages.Login → t.stage ≡ stages.Play → t.shown ≡ None → t.cause ≡ s.cause → played ps ≡ [] → Done s t ps
-  shut_for : (cause : Cause) → is_closed s.stage ≡ false → t.stage ≡ stages.Closed → t.cause ≡ Some cause → IsLast s.stage ps → Done s t ps
+  entered : s.stage ≡ stages.Login → t.stage ≡ stages.Play → t.shown ≡ None → t.cause ≡ s.cause → ps ≡ accepted (offline_uuid t.name) t.name → Done s t ps
+  shut_for : (cause : Cause) → is_closed s.stage ≡ false → t.stage ≡ stages.Closed → t.cause ≡ Some cause → IsLast s.stage cause ps → Done s t ps
+
+-- a closed connection stays as it is
+pub closed_done : (s t : Session) (qs : List Sent) (P : Type 0) → s.stage ≡ stages.Closed → Done s t qs → (t.stage ≡ s.stage → t.cause ≡ s.cause → qs ≡ [] → P) → P
+closed_done s t qs P closed (stayed stage shown cause none) next = next stage cause none
+closed_done s t qs P closed (answered from stage cause none) next = absurd (not_closed s.stage stages.Status closed from refl)
+closed_done s t qs P closed (greeted from waits open_ cause none) next = absurd (not_closed s.stage stages.Hand closed from refl)
+closed_done s t qs P closed (entered from into shown cause told) next = absurd (not_closed s.stage stages.Login closed from refl)
+closed_done s t qs P closed (shut_for why open_ shut cause last) next = absurd (not_both (is_closed s.stage) (ap is_closed closed) open_)
+
+-- it owes the bytes of what it was handed behind those that it owed, or it was closed and owes nothing
+pub data Owes (s t : Session) (ps : List Sent) : Type 0 where
+  adds : t.owed ≡ s.owed ++ bytes_of ps → Owes s t ps
+  empties : is_closed t.stage ≡ true → t.owed ≡ [] → Owes s t ps
+
+pub owes_same : (s t : Session) → t.owed ≡ s.owed → Owes s t []
+owes_same s t same = adds (same ∙ sym (append-nil s.owed))
 
 -- a turn of a connection: it is still there, and only its part of the world changed
 pub record Goes (k : ℕ) (w : World) (s : Session) (t : Turn) : Type 0 where
@@ -51,16 +80,18 @@ pub record Goes (k : ℕ) (w : World) (s : Session) (t : Turn) : Type 0 where
   pub session : Session
   pub there : found k t.world.sessions ≡ Some session
   pub done : Done s session t.handed
+  pub owes : Owes s session t.handed
 
 pub goes_still : (k : ℕ) (w : World) (s : Session) → found k w.sessions ≡ Some s → Goes k w s (still w)
-goes_still k w s e = record { beside = beside_same k w w.eids; session = s; there = e; done = stayed refl refl refl refl }
+goes_still k w s e = record { beside = beside_same k w w.eids; session = s; there = e; done = stayed refl refl refl refl; owes = owes_same s s refl }
 
-pub goes_put : (k : ℕ) (w : World) (eids : ℕ) (s t : Session) (ps : List Sent) → found k w.sessions ≡ Some s → t.id ≡ k → Done s t ps → Goes k w s (record { world = put (record w { eids = eids }) t; handed = ps })
-goes_put k w eids s t ps e is d = record {
+pub goes_put : (k : ℕ) (w : World) (eids : ℕ) (s t : Session) (ps : List Sent) → found k w.sessions ≡ Some s → t.id ≡ k → Done s t ps → Owes s t ps → Goes k w s (record { world = put (record w { eids = eids }) t; handed = ps })
+goes_put k w eids s t ps e is d owes = record {
   beside = beside_onward k w (record w { eids = eids }) (put (record w { eids = eids }) t) (beside_same k w eids) (beside_put k (record w { eids = eids }) t is);
   session = t;
   there = found_put k (record w { eids = eids }) s t is e;
   done = d;
+  owes = owes;
 }
 
 -- ---- handing out
@@ -77,17 +108,17 @@ hand_cases s packets P fits much =
     else record { session = record s { stage = stages.Closed; cause = Some causes.Backlog; owed = [] }; handed = [] })) [ true ↦ fits | false ↦ much ] refl
 
 -- handing out to a connection that was open
-pub goes_hand : (k : ℕ) (w : World) (eids : ℕ) (s t : Session) (packets : List Sent) → found k w.sessions ≡ Some s → t.id ≡ k → is_closed s.stage ≡ false →
+pub goes_hand : (k : ℕ) (w : World) (eids : ℕ) (s t : Session) (packets : List Sent) → found k w.sessions ≡ Some s → t.id ≡ k → t.owed ≡ s.owed → is_closed s.stage ≡ false →
     ((owed : List ℕ) → Done s (record t { owed = owed }) packets) → Goes k w s (turn (record w { eids = eids }) (hand t packets))
-goes_hand k w eids s t packets e is open_ done = hand_cases t packets (λ h. Goes k w s (turn (record w { eids = eids }) h))
-    (λ fits. goes_put k w eids s (record t { owed = t.owed ++ bytes_of packets }) packets e is (done (t.owed ++ bytes_of packets)))
-    (λ much. goes_put k w eids s (record t { stage = stages.Closed; cause = Some causes.Backlog; owed = [] }) [] e is (shut_for causes.Backlog open_ refl refl (λ playing. inl refl)))
+goes_hand k w eids s t packets e is owed open_ done = hand_cases t packets (λ h. Goes k w s (turn (record w { eids = eids }) h))
+    (λ fits. goes_put k w eids s (record t { owed = t.owed ++ bytes_of packets }) packets e is (done (t.owed ++ bytes_of packets)) (adds (ap (λ (o : List ℕ). o ++ bytes_of packets) owed)))
+    (λ much. goes_put k w eids s (record t { stage = stages.Closed; cause = Some causes.Backlog; owed = [] }) [] e is (shut_for causes.Backlog open_ refl refl (backlog_last s.stage)) (empties refl refl))
 
 -- closing it
 pub goes_close : (k : ℕ) (w : World) (s : Session) (cause : Cause) (packets : List Sent) → found k w.sessions ≡ Some s → s.id ≡ k → is_closed s.stage ≡ false →
-    IsLast s.stage packets → Goes k w s (turn w (close s cause packets))
+    IsLast s.stage cause packets → Goes k w s (turn w (close s cause packets))
 goes_close k w s cause packets e is open_ last =
-    goes_hand k w w.eids s (shut s cause) packets e is open_ (λ owed. shut_for cause open_ refl refl last)
+    goes_hand k w w.eids s (shut s cause) packets e is refl open_ (λ owed. shut_for cause open_ refl refl last)
 
 -- ---- a tick
 

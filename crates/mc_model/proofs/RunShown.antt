@@ -13,6 +13,8 @@ use Rattle.mc_model.specs.Replica.{Replica, Shows, new_replica, apply, replay, s
 use Rattle.mc_model.specs.Delta.{Follows}
 use Rattle.mc_model.specs.World.{World, Session, new_world, found, is_play, is_closed, project}
 use Rattle.mc_model.specs.Hearing.{Sent, of_play, in_play, played}
+use Rattle.mc_model.specs.Names.{offline_uuid}
+use Rattle.mc_model.specs.Talk.{accepted}
 use Rattle.mc_model.specs.Step.{Event, ticked, Handing, shut, new_session, joining, is_new, is_crowded, last_shown, due, showing, flush, at_tick, step}
 use Rattle.mc_model.specs.Run.{history, handed, to}
 use Rattle.mc_model.specs.Orderly.{Orderly}
@@ -32,6 +34,11 @@ played_more ps qs e = filter_map-append in_play ps qs ∙ ap (λ (ds : List Down
 pub played_all : (ds : List Down) → played (map of_play ds) ≡ ds
 played_all [] = refl
 played_all (d ∷ ds) = ap (λ (es : List Down). d ∷ es) (played_all ds)
+
+-- the packets of a login are none of play
+accepted_played : (uuid : ℕ) (name : List ℕ) → played (accepted uuid name) ≡ []
+unfolding accepted
+accepted_played uuid name = refl
 
 -- ---- what a client was shown
 
@@ -91,7 +98,7 @@ pub shown_kept : (land : World) → IsKept (IsShown land)
 shown_kept land s t ps qs (stayed stage shown cause none) h = shown_stayed land s t ps qs stage shown (ap played none) h
 shown_kept land s t ps qs (answered from stage cause none) h = shown_waits land s t ps qs (ap is_play from) (ap is_closed from) (ap is_play (stage ∙ from)) none h
 shown_kept land s t ps qs (greeted from waits open_ cause none) h = shown_waits land s t ps qs (ap is_play from) (ap is_closed from) waits (ap played none) h
-shown_kept land s t ps qs (entered from into shown cause none) h = shown_enters land s t ps qs from into shown none h
+shown_kept land s t ps qs (entered from into shown cause told) h = shown_enters land s t ps qs from into shown (ap played told ∙ accepted_played (offline_uuid t.name) t.name) h
 shown_kept land s t ps qs (shut_for why open_ closed cause last) h = shown_shut land t (ps ++ qs) closed
 
 -- ---- a tick

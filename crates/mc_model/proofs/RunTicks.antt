@@ -14,9 +14,10 @@ use Rattle.mc_model.specs.Talk.{farewell}
 use Rattle.mc_model.specs.Step.{Event, ticked, Handing, hand, due, showing, flush, at_tick, step}
 use Rattle.mc_model.specs.Run.{to}
 use Rattle.mc_model.specs.Causes.{IsTooMuch}
+use Rattle.mc_model.specs.Headline.{AtTick, Between, plays_on, ends}
 use Rattle.mc_model.specs.Orderly.{Orderly}
 use Rattle.mc_model.proofs.Sessions.{some_none, one_some}
-use Rattle.mc_model.proofs.Handing.{stayed, answered, greeted, entered, shut_for, not_both, not_play, not_closed, flush_cases}
+use Rattle.mc_model.proofs.Handing.{stayed, answered, greeted, entered, shut_for, closed_is, not_both, not_play, not_closed, flush_cases}
 use Rattle.mc_model.proofs.Frames.{IsKept}
 use Rattle.mc_model.proofs.RunTurns.{tick_found, tick_hands, no_out, Remains, went, stays, remains}
 
@@ -71,10 +72,10 @@ tick_others k w o waits = elim (found k w.sessions) as (λ r. found k w.sessions
 
 -- ---- between two ticks
 
--- a client that was in play is so and was handed nothing, or it is closed and was handed its farewell at most
+-- a client that was in play is so and was handed nothing, or it is closed and was handed the farewell of its cause
 pub data IsBetween (s t : Session) (ps : List Sent) : Type 0 where
   plays : is_play t.stage ≡ true → t.shown ≡ s.shown → ps ≡ [] → IsBetween s t ps
-  ended : t.stage ≡ stages.Closed → (ps ≡ []) ⊎ ((cause : Cause) × (ps ≡ farewell stages.Play cause)) → IsBetween s t ps
+  ended : (cause : Cause) → t.stage ≡ stages.Closed → t.cause ≡ Some cause → ps ≡ farewell stages.Play cause → IsBetween s t ps
 
 between_kept : (s : Session) → IsKept (IsBetween s)
 between_kept s a b ps qs (stayed stage shown cause none) (plays playing same before) = plays (ap is_play stage ∙ playing) (shown ∙ same) (ap (λ (rs : List Sent). rs ++ qs) before ∙ none)
@@ -82,33 +83,33 @@ between_kept s a b ps qs (answered from stage cause none) (plays playing same be
 between_kept s a b ps qs (greeted from waits open_ cause none) (plays playing same before) = absurd (not_play a.stage stages.Hand from refl playing)
 between_kept s a b ps qs (entered from into shown cause none) (plays playing same before) = absurd (not_play a.stage stages.Login from refl playing)
 between_kept s a b ps qs (shut_for why open_ closed cause last) (plays playing same before) =
-    ended closed (subst (λ (rs : List Sent). (rs ++ qs ≡ []) ⊎ ((cause : Cause) × (rs ++ qs ≡ farewell stages.Play cause))) (sym before) (last playing))
-between_kept s a b ps qs (stayed stage shown cause none) (ended closed last) =
-    ended (stage ∙ closed) (subst (λ (rs : List Sent). (rs ≡ []) ⊎ ((cause : Cause) × (rs ≡ farewell stages.Play cause))) (sym (ap (λ (rs : List Sent). ps ++ rs) none ∙ append-nil ps)) last)
-between_kept s a b ps qs (answered from stage cause none) (ended closed last) = absurd (not_closed a.stage stages.Status closed from refl)
-between_kept s a b ps qs (greeted from waits open_ cause none) (ended closed last) = absurd (not_closed a.stage stages.Hand closed from refl)
-between_kept s a b ps qs (entered from into shown cause none) (ended closed last) = absurd (not_closed a.stage stages.Login closed from refl)
-between_kept s a b ps qs (shut_for why open_ closed' cause last') (ended closed last) = absurd (not_both (is_closed a.stage) (ap is_closed closed) open_)
+    ended why closed cause (ap (λ (rs : List Sent). rs ++ qs) before ∙ last.in_play playing)
+between_kept s a b ps qs (stayed stage shown cause none) (ended why closed of_it last) =
+    ended why (stage ∙ closed) (cause ∙ of_it) (ap (λ (rs : List Sent). ps ++ rs) none ∙ append-nil ps ∙ last)
+between_kept s a b ps qs (answered from stage cause none) (ended why closed of_it last) = absurd (not_closed a.stage stages.Status closed from refl)
+between_kept s a b ps qs (greeted from waits open_ cause none) (ended why closed of_it last) = absurd (not_closed a.stage stages.Hand closed from refl)
+between_kept s a b ps qs (entered from into shown cause none) (ended why closed of_it last) = absurd (not_closed a.stage stages.Login closed from refl)
+between_kept s a b ps qs (shut_for why' open_ closed' cause last') (ended why closed of_it last) = absurd (not_both (is_closed a.stage) (ap is_closed closed) open_)
 
 between : (k : ℕ) (w : World) (s : Session) (e : Event) → Orderly w → found k w.sessions ≡ Some s → is_play s.stage ≡ true → e ≢ ticked → Remains (IsBetween s) k s [] (step w e)
 between k w s e o there playing ne = remains (IsBetween s) (between_kept s) k w e s [] o.apart ne there (plays playing refl refl)
 
-pub between_hands : (k : ℕ) (w : World) (s : Session) (e : Event) → Orderly w → found k w.sessions ≡ Some s → is_play s.stage ≡ true → e ≢ ticked →
-    (to k (step w e).out ≡ []) ⊎ ((cause : Cause) × (t : Session) × (to k (step w e).out ≡ farewell stages.Play cause) × (found k (step w e).world.sessions ≡ Some t) × (t.stage ≡ stages.Closed))
+-- it plays on and is handed nothing, or it is closed, and handed just the farewell of the cause that is kept
+pub between_hands : (k : ℕ) (w : World) (s : Session) (e : Event) → Orderly w → found k w.sessions ≡ Some s → is_play s.stage ≡ true → e ≢ ticked → Between w e k s
 between_hands k w s e o there playing ne = elim (between k w s e o there playing ne) [
-  | went closed gone none ↦ inl none
+  | went closed gone none ↦ absurd (not_play s.stage stages.Closed (closed_is s.stage closed) refl playing)
   | stays t here p ↦ elim p [
-    | plays still same none ↦ inl none
-    | ended closed last ↦ elim last [ inl none ↦ inl none | inr bye ↦ inr (bye.0, t, bye.1, here, closed) ]
+    | plays still same none ↦ plays_on t here still same none
+    | ended cause closed of_it last ↦ ends cause t here closed of_it last
   ]
 ]
 
-pub between_keeps : (k : ℕ) (w : World) (s t : Session) (e : Event) → Orderly w → found k w.sessions ≡ Some s → is_play s.stage ≡ true → e ≢ ticked →
-    found k (step w e).world.sessions ≡ Some t → is_play t.stage ≡ true → t.shown ≡ s.shown
-between_keeps k w s t e o there playing ne here plays_on = elim (between k w s e o there playing ne) [
-  | went closed gone none ↦ absurd (some_none t _ here gone)
-  | stays u found_ p ↦ elim p [
-    | plays still same none ↦ ap (λ (v : Session). v.shown) (one_some t u _ here found_) ∙ same
-    | ended closed last ↦ absurd (not_play t.stage stages.Closed (ap (λ (v : Session). v.stage) (one_some t u _ here found_) ∙ closed) refl plays_on)
-  ]
-]
+-- ---- all of a tick
+
+pub tick_hands_due : (w : World) → Orderly w → AtTick w
+tick_hands_due w o = record {
+  hands_due = λ k s. tick_due k w s o;
+  shown = λ k s. tick_shown k w s;
+  too_much = λ k s. tick_much k w s o;
+  others = λ k. tick_others k w o;
+}

@@ -12,8 +12,8 @@ use Rattle.mc_model.specs.Run.{to}
 use Rattle.mc_model.specs.Orderly.{AreApart}
 use Rattle.mc_model.proofs.Sessions.{some_none, one_some, other_number, same_number, found_map, found_before, found_behind, none_filtered, found_filter, to_none, to_found}
 use Rattle.mc_model.proofs.Beside.{beside_changed, found_changed}
-use Rattle.mc_model.proofs.Handing.{Done, stayed, shut_for}
-use Rattle.mc_model.proofs.Frames.{IsKept, bytes_lead, no_bytes, bytes_beside}
+use Rattle.mc_model.proofs.Handing.{Done, stayed, shut_for, gone_last}
+use Rattle.mc_model.proofs.Frames.{IsKept, also_owing, bytes_lead, no_bytes, bytes_beside}
 use Rattle.mc_model.proofs.RunEvents.{joining_id, gone_id, flush_id}
 
 -- ---- what is handed to one
@@ -97,7 +97,7 @@ remains_alone P k s t ps qs o kept there hands done p = stays t there (subst (λ
 gone_done : (s : Session) → Done s (gone s) []
 gone_done s = elim (is_closed s.stage) as (λ b. is_closed s.stage ≡ b → Done s (if b then record s { owed = [] } else record (shut s causes.Gone) { owed = [] }) []) [
   | true ↦ λ closed. stayed refl refl refl refl
-  | false ↦ λ open_. shut_for causes.Gone open_ refl refl (λ playing. inl refl)
+  | false ↦ λ open_. shut_for causes.Gone open_ refl refl (gone_last s.stage)
 ] refl
 
 -- a change of one connection by which it is done so
@@ -112,7 +112,7 @@ remains_bytes : (P : Session → List Sent → Type 0) (kept : IsKept P) (j k : 
     found k w.sessions ≡ Some s → P s ps → Remains P k s ps (record { world = (on_bytes w j bytes).world; out = (j, (on_bytes w j bytes).handed) ∷ [] })
 remains_bytes P kept j k w bytes s ps there p = elim (cases_eq j k) [
   | inl same ↦ subst (λ (n : ℕ). Remains P k s ps (record { world = (on_bytes w n bytes).world; out = (n, (on_bytes w n bytes).handed) ∷ [] })) (sym same) (
-      let l = bytes_lead P kept k w s ps bytes there p in
+      let l = bytes_lead P (also_owing P kept) k w s ps bytes there p in
       stays l.session l.there (subst (λ (hs : List Sent). P l.session (ps ++ hs)) (sym (to_own k (on_bytes w k bytes).handed)) l.holds))
   | inr ne ↦ remains_alone P k s s ps [] _ kept ((bytes_beside j w bytes).others k (λ same. ne (sym same)) ∙ there) (to_other j k (on_bytes w j bytes).handed ne) (stayed refl refl refl refl) p
 ]

@@ -4,11 +4,13 @@ use Rattle.mc_land.specs.declared.terrain.Terrain.{Terrain}
 use Rattle.mc_model.specs.World.{AreSettings, new_world}
 use Rattle.mc_model.specs.Step.{Event, joined, came, left, ticked, took, forgot}
 use Rattle.mc_model.specs.Run.{AreBytes, history}
-use Rattle.mc_model.specs.Headline.{Headline}
+use Rattle.mc_model.specs.Headline.{ClosedForACause, Closing, Headline}
 use Rattle.mc_model.proofs.RunOrder.{orderly_run}
 use Rattle.mc_model.proofs.RunShown.{run_shows}
-use Rattle.mc_model.proofs.RunTicks.{tick_due}
-use Rattle.mc_model.proofs.CauseSound.{sound_run}
+use Rattle.mc_model.proofs.RunTicks.{tick_hands_due, between_hands}
+use Rattle.mc_model.proofs.RunLogins.{logging_in}
+use Rattle.mc_model.proofs.CauseSound.{sound_run, closed_cause, cause_closed, shut_for_good, why_closed, sender_alone}
+use Rattle.mc_model.proofs.Promised.{promised}
 use Rattle.mc_model.proofs.CauseFirst.{first_closes}
 use Rattle.mc_model.proofs.HeardEvents.{stream_heard}
 
@@ -22,10 +24,29 @@ first_are_bytes (ticked ∷ events) later are = first_are_bytes events later are
 first_are_bytes (took k n ∷ events) later are = first_are_bytes events later are
 first_are_bytes (forgot k ∷ events) later are = first_are_bytes events later are
 
+pub closing : (most cap : ℕ) (terrain : Terrain) (events : List Event) (e : Event) → Closing (history (new_world most cap terrain) events) e
+closing most cap terrain events e =
+    let w = history (new_world most cap terrain) events in
+    record {
+      first = λ k cause. first_closes k w cause e (sound_run most cap terrain events);
+      for_good = λ k s. shut_for_good k w s e (orderly_run most cap terrain events);
+      only_sender = λ j k bytes. sender_alone j k bytes w e;
+    }
+
+pub closed_for_a_cause : (most cap : ℕ) (terrain : Terrain) (events : List Event) → ClosedForACause (history (new_world most cap terrain) events)
+closed_for_a_cause most cap terrain events k s there =
+    let sound = (sound_run most cap terrain events).each k s there in
+    (closed_cause s sound, λ kept. cause_closed s sound kept.0 kept.1)
+
 pub headline : (most cap : ℕ) (terrain : Terrain) (log : List Event) → AreSettings most cap → AreBytes log → Headline most cap terrain log
 headline most cap terrain log settings are = record {
   shows = λ events later k s split. run_shows most cap terrain events k s;
   heard = λ events later k split. stream_heard most cap terrain events k settings (first_are_bytes events later (subst AreBytes split are));
-  due = λ events later k s split. tick_due k (history (new_world most cap terrain) events) s (orderly_run most cap terrain events);
-  closed = λ events e later k cause split. first_closes k (history (new_world most cap terrain) events) cause e (sound_run most cap terrain events);
+  promised = λ events later k split. promised most cap terrain events k;
+  ticks = λ events later split. tick_hands_due (history (new_world most cap terrain) events) (orderly_run most cap terrain events);
+  between = λ events e later k s split. between_hands k (history (new_world most cap terrain) events) s e (orderly_run most cap terrain events);
+  logging_in = λ events e later k s split. logging_in k (history (new_world most cap terrain) events) s e (orderly_run most cap terrain events);
+  closing = λ events e later split. closing most cap terrain events e;
+  closed = λ events later split. closed_for_a_cause most cap terrain events;
+  cause = λ events later k s split. why_closed most cap terrain events k s;
 }

@@ -1,13 +1,94 @@
--- The whole promise about a run, over the list of its events, whatever they are and however the bytes in them are cut.
-use Rattle.std.specs.Prelude.{◌≡◌, ◌↔◌, ℕ, true, List, [], ◌∷◌, ◌++◌, map, Some, None}
+-- The whole promise about a run, over the list of its events, whatever they are and however the bytes in them are cut. Rules of this
+-- project.
+use Rattle.std.specs.Prelude.{◌≡◌, ◌≢◌, ◌↔◌, ◌⊎◌, ℕ, true, false, List, [], ◌∷◌, ◌++◌, map, Some, None}
 use Rattle.mc_land.specs.declared.terrain.Terrain.{Terrain}
 use Rattle.mc_model.specs.declared.cause.Cause.{Cause}
+use Rattle.mc_model.specs.declared.cause.Cause.TheVariants as causes
+use Rattle.mc_model.specs.declared.cause.Refusal.{Refusal}
+use Rattle.mc_model.specs.declared.stage.Stage.TheVariants as stages
+use Rattle.mc_model.specs.Notes.{no_notes}
+use Rattle.mc_model.specs.Names.{offline_uuid}
 use Rattle.mc_model.specs.Replica.{Shows, new_replica, replay}
-use Rattle.mc_model.specs.World.{Session, found, is_play, new_world, project}
+use Rattle.mc_model.specs.World.{World, Session, found, is_closed, is_play, new_world, project}
 use Rattle.mc_model.specs.Hearing.{Ear, IsHeard, of_play, played}
-use Rattle.mc_model.specs.Step.{Event, ticked, at_tick, due, step}
-use Rattle.mc_model.specs.Run.{cause_in, handed, history, stream, to}
+use Rattle.mc_model.specs.Talk.{farewell, refused, accepted}
+use Rattle.mc_model.specs.Step.{Event, came, left, ticked, at_tick, due, step}
+use Rattle.mc_model.specs.Run.{cause_in, handed, history, stream, taken, to, why}
 use Rattle.mc_model.specs.Causes.{Closes, IsTooMuch}
+
+-- ---- a tick
+
+-- what a tick hands out, and what it leaves, from the world before it
+pub record AtTick (w : World) : Type 0 where
+  -- a client in play is handed just what is due to it, unless that is more than its outbox holds
+  pub hands_due : (k : ℕ) (s : Session) → found k w.sessions ≡ Some s → is_play s.stage ≡ true →
+      ¬ IsTooMuch s (map of_play (due (at_tick w) s)) →
+      to k (step w ticked).out ≡ map of_play (due (at_tick w) s)
+  -- and then it was shown the world of the tick, and nothing is noted
+  pub shown : (k : ℕ) (s : Session) → found k w.sessions ≡ Some s → is_play s.stage ≡ true →
+      ¬ IsTooMuch s (map of_play (due (at_tick w) s)) →
+      (t : Session) × (found k (step w ticked).world.sessions ≡ Some t) × (t.stage ≡ s.stage) ×
+      (t.shown ≡ Some (project (at_tick w) s)) × (t.notes ≡ no_notes)
+  -- where it is more, nothing is handed to it, and it is closed and owed nothing
+  pub too_much : (k : ℕ) (s : Session) → found k w.sessions ≡ Some s → is_play s.stage ≡ true →
+      IsTooMuch s (map of_play (due (at_tick w) s)) →
+      (t : Session) × (to k (step w ticked).out ≡ []) × (found k (step w ticked).world.sessions ≡ Some t) ×
+      (t.stage ≡ stages.Closed) × (t.cause ≡ Some causes.Backlog) × (t.owed ≡ [])
+  -- nobody else is handed anything
+  pub others : (k : ℕ) → ((s : Session) → found k w.sessions ≡ Some s → is_play s.stage ≡ false) →
+      to k (step w ticked).out ≡ []
+
+-- ---- between two ticks
+
+-- a client that was in play plays on and is handed nothing, or it is closed, and handed just the farewell of the cause that is kept
+pub data Between (w : World) (e : Event) (k : ℕ) (s : Session) : Type 0 where
+  plays_on : (t : Session) → found k (step w e).world.sessions ≡ Some t → is_play t.stage ≡ true → t.shown ≡ s.shown →
+      to k (step w e).out ≡ [] → Between w e k s
+  ends : (cause : Cause) (t : Session) → found k (step w e).world.sessions ≡ Some t → t.stage ≡ stages.Closed →
+      t.cause ≡ Some cause → to k (step w e).out ≡ farewell stages.Play cause → Between w e k s
+
+-- one that logs in waits, is let in, is refused, or is closed with the farewell of a login; or it is let in and closed at once
+pub data LoggingIn (w : World) (e : Event) (k : ℕ) : Type 0 where
+  waits : (t : Session) → found k (step w e).world.sessions ≡ Some t → t.stage ≡ stages.Login →
+      to k (step w e).out ≡ [] → LoggingIn w e k
+  is_let_in : (name : List ℕ) (t : Session) → found k (step w e).world.sessions ≡ Some t → t.stage ≡ stages.Play →
+      to k (step w e).out ≡ accepted (offline_uuid name) name → LoggingIn w e k
+  is_refused : (reason : Refusal) (t : Session) → found k (step w e).world.sessions ≡ Some t → t.stage ≡ stages.Closed →
+      t.cause ≡ Some (causes.Refused reason) → to k (step w e).out ≡ refused reason → LoggingIn w e k
+  ends : (cause : Cause) (t : Session) → found k (step w e).world.sessions ≡ Some t → t.stage ≡ stages.Closed →
+      t.cause ≡ Some cause → to k (step w e).out ≡ farewell stages.Login cause → LoggingIn w e k
+  enters_and_ends : (name : List ℕ) (cause : Cause) (t : Session) → found k (step w e).world.sessions ≡ Some t →
+      t.stage ≡ stages.Closed → t.cause ≡ Some cause →
+      to k (step w e).out ≡ accepted (offline_uuid name) name ++ farewell stages.Play cause → LoggingIn w e k
+
+-- ---- closing
+
+-- what an event closes, and what it leaves alone
+pub record Closing (w : World) (e : Event) : Type 0 where
+  -- just the connections that it has a cause to close, each for that
+  pub first : (k : ℕ) (cause : Cause) → cause_in k w ≡ None →
+      (cause_in k (step w e).world ≡ Some cause ↔ Closes w e k cause)
+  -- a closed one stays so, for the same cause, and is handed nothing
+  pub for_good : (k : ℕ) (s : Session) → found k w.sessions ≡ Some s → s.stage ≡ stages.Closed →
+      (to k (step w e).out ≡ []) ×
+      ((t : Session) → found k (step w e).world.sessions ≡ Some t → (t.stage ≡ stages.Closed) × (t.cause ≡ s.cause))
+  -- what one client sends, and its leaving, hands nothing to any other and changes nothing of it
+  pub only_sender : (j k : ℕ) (bytes : List ℕ) → j ≢ k → (e ≡ came j bytes) ⊎ (e ≡ left j) →
+      (found k (step w e).world.sessions ≡ found k w.sessions) × (to k (step w e).out ≡ [])
+
+-- a connection is closed exactly where a cause is kept of it
+abbrev pub ClosedForACause : World → Type 0
+ClosedForACause w = (k : ℕ) (s : Session) → found k w.sessions ≡ Some s →
+    (s.stage ≡ stages.Closed ↔ ((cause : Cause) × (s.cause ≡ Some cause)))
+
+-- ---- bytes
+
+-- What a connection took is the first bytes of what was handed to it, and while it is open all of these but what it is owed.
+pub record Promised (w : World) (k : ℕ) (handed_bytes taken_bytes : List ℕ) : Type 0 where
+  pub begun : (more : List ℕ) × (handed_bytes ≡ taken_bytes ++ more)
+  pub whole : (s : Session) → found k w.sessions ≡ Some s → is_closed s.stage ≡ false → handed_bytes ≡ taken_bytes ++ s.owed
+
+-- ---- a run
 
 pub record Headline (most cap : ℕ) (terrain : Terrain) (log : List Event) : Type 0 where
   -- after each tick, what a client in play was handed, folded from nothing, shows exactly the world in its view
@@ -18,12 +99,24 @@ pub record Headline (most cap : ℕ) (terrain : Terrain) (log : List Event) : Ty
   -- at each moment, the bytes that a client was handed are cut and read as the packets that it was handed
   pub heard : (events later : List Event) (k : ℕ) → log ≡ events ++ later →
       (ear : Ear) × IsHeard ear (stream k (new_world most cap terrain) events) (handed k (new_world most cap terrain) events)
-  -- each tick hands a client in play exactly what is due to it, unless that is more than its outbox holds
-  pub due : (events later : List Event) (k : ℕ) (s : Session) → log ≡ events ++ ticked ∷ [] ++ later →
-      found k (history (new_world most cap terrain) events).sessions ≡ Some s → is_play s.stage ≡ true →
-      ¬ IsTooMuch s (map of_play (due (at_tick (history (new_world most cap terrain) events)) s)) →
-      to k (step (history (new_world most cap terrain) events) ticked).out ≡ map of_play (due (at_tick (history (new_world most cap terrain) events)) s)
-  -- each event closes just the connections that it has a cause to close, each for that
-  pub closed : (events : List Event) (e : Event) (later : List Event) (k : ℕ) (cause : Cause) → log ≡ events ++ e ∷ [] ++ later →
-      cause_in k (history (new_world most cap terrain) events) ≡ None →
-      (cause_in k (step (history (new_world most cap terrain) events) e).world ≡ Some cause ↔ Closes (history (new_world most cap terrain) events) e k cause)
+  -- the bytes that a client took are the first ones of those
+  pub promised : (events later : List Event) (k : ℕ) → log ≡ events ++ later →
+      Promised (history (new_world most cap terrain) events) k
+      (stream k (new_world most cap terrain) events) (taken k (new_world most cap terrain) events)
+  -- each tick hands out just what is due
+  pub ticks : (events later : List Event) → log ≡ events ++ ticked ∷ [] ++ later → AtTick (history (new_world most cap terrain) events)
+  -- between two ticks a client in play is handed at most its farewell
+  pub between : (events : List Event) (e : Event) (later : List Event) (k : ℕ) (s : Session) → log ≡ events ++ e ∷ [] ++ later →
+      found k (history (new_world most cap terrain) events).sessions ≡ Some s → is_play s.stage ≡ true → e ≢ ticked →
+      Between (history (new_world most cap terrain) events) e k s
+  -- and one that logs in the answer to its login
+  pub logging_in : (events : List Event) (e : Event) (later : List Event) (k : ℕ) (s : Session) → log ≡ events ++ e ∷ [] ++ later →
+      found k (history (new_world most cap terrain) events).sessions ≡ Some s → s.stage ≡ stages.Login →
+      LoggingIn (history (new_world most cap terrain) events) e k
+  -- each event closes just the connections that it has a cause to close
+  pub closing : (events : List Event) (e : Event) (later : List Event) → log ≡ events ++ e ∷ [] ++ later →
+      Closing (history (new_world most cap terrain) events) e
+  -- at each moment, a connection is closed exactly where a cause is kept of it, and that is the one that it was closed for
+  pub closed : (events later : List Event) → log ≡ events ++ later → ClosedForACause (history (new_world most cap terrain) events)
+  pub cause : (events later : List Event) (k : ℕ) (s : Session) → log ≡ events ++ later →
+      found k (history (new_world most cap terrain) events).sessions ≡ Some s → s.cause ≡ why k (new_world most cap terrain) events

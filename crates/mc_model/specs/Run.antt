@@ -1,12 +1,12 @@
 -- Runs: what a list of events makes of the world, what was handed to a connection in them, and why it was closed.
-use Rattle.std.specs.Prelude.{ℕ, ◌==◌, List, [], ◌∷◌, ◌++◌, Option, Some, None, if◌then◌else◌}
+use Rattle.std.specs.Prelude.{ℕ, ◌==◌, take, List, [], ◌∷◌, ◌++◌, Option, Some, None, if◌then◌else◌}
 use Rattle.std.specs.List.{flat_map, fold}
 use Rattle.std.specs.Option.{option_and_then}
 use Rattle.mc_model.specs.declared.cause.Cause.{Cause}
 use Rattle.mc_model.specs.World.{World, Session, found}
 use Rattle.mc_model.specs.Hearing.{Sent, bytes_of}
 use Rattle.mc_nbt.specs.Reading.{IsBytes}
-use Rattle.mc_model.specs.Step.{Event, came, step}
+use Rattle.mc_model.specs.Step.{Event, came, took, step}
 
 -- the world after events
 abbrev pub history : World → List Event → World
@@ -24,6 +24,23 @@ handed k w (e ∷ events) = to k (step w e).out ++ handed k (step w e).world eve
 -- the same as bytes
 abbrev pub stream : ℕ → World → List Event → List ℕ
 stream k w events = bytes_of (handed k w events)
+
+-- what a connection is owed
+abbrev pub owed_of : Option Session → List ℕ
+owed_of None = []
+owed_of (Some s) = s.owed
+
+abbrev pub owed_in : ℕ → World → List ℕ
+owed_in k w = owed_of (found k w.sessions)
+
+-- what it took: each time the first bytes of what it was owed
+abbrev pub taken_at : ℕ → World → Event → List ℕ
+taken_at k w (took j n) = if j == k then take n (owed_in k w) else []
+taken_at k w e = []
+
+abbrev pub taken : ℕ → World → List Event → List ℕ
+taken k w [] = []
+taken k w (e ∷ events) = taken_at k w e ++ taken k (step w e).world events
 
 -- the cause that is kept of a connection
 abbrev pub cause_in : ℕ → World → Option Cause
