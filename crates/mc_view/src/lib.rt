@@ -7,6 +7,8 @@
 
 mod columns;
 mod square;
+#[cfg(test)]
+mod tests;
 mod view_set;
 
 pub use columns::Columns;
