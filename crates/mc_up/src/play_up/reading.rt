@@ -1,7 +1,8 @@
 //! The fields of each packet of a client that plays, read by its id: one arm a packet.
 
-ghost use Rattle.mc_fields.specs.Row.{GivesRow, id_read};
-ghost use Rattle.mc_up.specs.PlayUp.{rows, rows_08, rows_10, rows_18};
+ghost use Rattle.mc_nbt.specs.Reading.{Gives};
+ghost use Rattle.mc_fields.specs.Row.{GivesRow, fields_read, id_read};
+ghost use Rattle.mc_up.specs.PlayUp.{plugin, rows, rows_08, rows_10, rows_18};
 
 use crate::PlayUp;
 use crate::play_up::parts::{Looked, Used};
@@ -103,6 +104,15 @@ fn read_from_08(alloc: Global, cursor: &mut Cursor<'_>, id: i32) -> Result<PlayU
     }
 }
 
+/// A channel between plugins, and all bytes after it.
+fn read_plugin(alloc: Global, cursor: &mut Cursor<'_>) -> Result<PlayUp, ReadError>
+    ensures { Gives (λ packet. (packet, cursor.new)) result (fields_read plugin cursor.old) }
+{
+    let channel = Text::get(alloc, cursor)?;
+    let bytes = Octets::from_slice(alloc, cursor.take_rest())?;
+    Ok(PlayUp::Plugin(channel, bytes))
+}
+
 /// Reads the fields of the packet with this id, from 10 on.
 #[tactic(auto, unfolding(crate::specs::PlayUp::rows_10))]
 fn read_from_10(alloc: Global, cursor: &mut Cursor<'_>, id: i32) -> Result<PlayUp, RowError>
@@ -149,11 +159,7 @@ fn read_from_10(alloc: Global, cursor: &mut Cursor<'_>, id: i32) -> Result<PlayU
             let action = VarInt::get(alloc, cursor)?;
             Ok(PlayUp::ClientStatus(action.0))
         }
-        0x17 => {
-            let channel = Text::get(alloc, cursor)?;
-            let bytes = Octets::from_slice(alloc, cursor.take_rest())?;
-            Ok(PlayUp::Plugin(channel, bytes))
-        }
+        0x17 => Ok(read_plugin(alloc, cursor)?),
         _ => read_from_18(alloc, cursor, id),
     }
 }

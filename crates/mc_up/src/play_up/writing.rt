@@ -9,9 +9,7 @@ ghost use Rattle.mc_up.specs.PlayUp.{FitsPlayUp, append_of, plugin};
 
 use crate::PlayUp;
 use crate::play_up::parts::{Looked, Used};
-use mc_fields::{
-    Field, VarInt, put_row, put_row2, put_row3, put_row4, put_row5, put_row6, write_varint,
-};
+use mc_fields::{VarInt, put_row, put_row2, put_row3, put_row4, put_row5, put_row6, write_varint};
 use mc_nbt::{NoMemory, Octets, Text, write_octets};
 
 /// A message of a plugin, whose bytes go to the end of the frame.
@@ -21,8 +19,7 @@ fn put_plugin(channel: &Text, bytes: &Octets, out: &mut Vec<u8>) -> Result<(), N
         row_append plugin (channel.now, bytes.now) out.old.items) }
     ensures kept { take (length out.old.items) out.new.items ≡ out.old.items }
 {
-    write_varint(0x17, out)?;
-    channel.put(out)?;
+    put_row(0x17, channel, out)?;
     write_octets(bytes.as_slice(), out)?;
     Ok(())
 }
