@@ -16,7 +16,7 @@ use Rattle.mc_column.specs.Cells.{ColumnValue}
 use Rattle.mc_land.specs.Places.{Place, place_cmp, IsPlace}
 use Rattle.mc_land.specs.Land.{LandValue}
 use Rattle.mc_down.specs.declared.down.Down.{Down}
-use Rattle.mc_model.specs.Views.{IsInView}
+use Rattle.mc_view.proofs.Near.{near_both}
 use Rattle.mc_model.specs.Sight.{Sight, nothing_seen}
 use Rattle.mc_model.specs.Delta.{Pairs, missing, is_named, leaver, joiner, about, unload, load, delta}
 use Rattle.mc_flush.proofs.Pieces.{few_filtered, all_filtered}
@@ -27,7 +27,7 @@ use Rattle.mc_flush.specs.Lists.{ListValue}
 use Rattle.mc_flush.specs.Sending.{play_bytes}
 use Rattle.mc_flush.specs.Seeing.{StandsFor, IsNamed, IsReady, placed_column, seen, unloaded, loaded, listed, left_packets, came_packets, unload_packets, load_packets, changes}
 use Rattle.mc_flush.proofs.Pieces.{play_bytes-append}
-use Rattle.mc_flush.proofs.Shown.{near_has, keys_shown, shown_has, shown_entries}
+use Rattle.mc_flush.proofs.Shown.{keys_shown, shown_has, shown_entries}
 
 -- ---- players
 
@@ -157,10 +157,11 @@ number_near m z d low high few near = (omega (arith, ints), omega (arith, ints))
 abbrev pub IsMiddle : ViewSet → Type 0
 IsMiddle view = (negsuc 1874999 ≤ℤ view.cx) × (view.cx ≤ℤ pos 1875000) × (negsuc 1874999 ≤ℤ view.cz) × (view.cz ≤ℤ pos 1875000) × (view.d ≤ 8)
 
-place_near : (view : ViewSet) (place : Place) → IsMiddle view → IsInView (view.cx, view.cz) view.d place → IsPlace place
+place_near : (view : ViewSet) (place : Place) → IsMiddle view → has view place ≡ true → IsPlace place
 place_near view place m near =
-    let x = number_near view.cx place.0 view.d m.0 m.1 m.4 near.near_x in
-    let z = number_near view.cz place.1 view.d m.2 m.3 m.4 near.near_z in
+    let apart = near_both (unsigned_abs (place.0 -ℤ view.cx)) (unsigned_abs (place.1 -ℤ view.cz)) view.d near in
+    let x = number_near view.cx place.0 view.d m.0 m.1 m.4 apart.0 in
+    let z = number_near view.cz place.1 view.d m.2 m.3 m.4 apart.1 in
     record { cx_low = x.0; cx_high = x.1; cz_low = z.0; cz_high = z.1 }
 
 pub view_places : (view : ViewSet) → IsMiddle view → AllByRecursion IsPlace (all_of view)
@@ -169,7 +170,7 @@ view_places view m = all_of_list IsPlace (all_of view) (λ place held. place_nea
 pub view_ready : (land : LandValue) (view : ViewSet) → IsMiddle view → ((place : Place) → has view place ≡ true → set.contains land.ready place ≡ true) → AllByRecursion (IsReady land) (all_of view)
 view_ready land view m ready = all_of_list (IsReady land) (all_of view) (λ place held.
     let near = view_near (view.cx, view.cz) view.d place held in
-    record { near = place_near view place m near; ready = ready place (near_has view place near) })
+    record { near = place_near view place m near; ready = ready place near })
 
 -- what holds of all columns of a view holds of those that another lacks
 pub lacking_holds : (P : Place → Type 0) (view other : ViewSet) → AllByRecursion P (all_of view) → AllByRecursion P (lacking view other)

@@ -12,7 +12,7 @@ use Rattle.std.specs.FinMap.Entries.{below_all}
 use lib.IntN.{ℤ, pos, ◌+ℤ◌, ◌-ℤ◌}
 use lib.Signed.{◌<ℤ◌}
 use Rattle.mc_land.specs.Places.{Place, place_cmp}
-use Rattle.mc_model.specs.Views.{run_of, view_of}
+use Rattle.mc_view.specs.Views.{run_of, view_of}
 use Rattle.mc_flush.proofs.Ordered.{both, first, second}
 
 module _ {K : Type 0} (R : K → K → Ordering) where

@@ -1,19 +1,15 @@
 -- What is shown of a view has exactly the view's columns, in their order.
 use Rattle.std.proofs.Common.{◌≡◌, ℕ, ◌≤◌, Bool, true, false, cond, not, ◌||◌, ◌&&◌, T, List, [], ◌∷◌, ◌++◌, map, Option, Some, None, is_some, refl, sym, subst, ap, ◌∙◌, arith}
-use Rattle.std.specs.Prelude.{nat_le, unsigned_abs}
 use Rattle.std.specs.List.{Contains, AllByRecursion, filter, list_any}
 use Rattle.std.specs.declared.cmp.Ordering.{Ordering}
 use Rattle.std.specs.Ordering.{eq_by_cmp}
 use Rattle.std.specs.Cmp.{IsTotalOrder, eq_by_cmp_equiv}
 use Rattle.std.specs.FinMap.{FinMap, IsAntisymmetric, find, is_sorted, get, keys, entries, entries_sorted, contains_key, contains_key-keys, from_entries, get-from_entries}
 use Rattle.std.specs.FinMap.Entries.{same_entries}
-use Rattle.std.proofs.lemmas.Bool.{le-leb, leb-true}
 use Rattle.std.proofs.lemmas.Map.Views.{list_any-from_Contains, Contains-from_any}
-use lib.IntN.{ℤ, ◌-ℤ◌}
 use Rattle.mc_land.specs.Places.{Place, place_cmp}
 use Rattle.mc_land.specs.Land.{LandValue}
 use Rattle.mc_column.specs.Cells.{ColumnValue}
-use Rattle.mc_model.specs.Views.{IsInView}
 use Rattle.mc_model.proofs.Orders.{places_total, exact_places}
 use Rattle.mc_model.proofs.ViewFacts.{view_near, near_view}
 use Rattle.mc_view.specs.declared.view_set.ViewSet.{ViewSet}
@@ -25,24 +21,6 @@ use Rattle.mc_flush.proofs.Rising.{rising, sorted_is, view_rising}
 
 -- ---- which columns a view has
 
-both_true : (a b : Bool) → (a && b) ≡ true → (a ≡ true) × (b ≡ true)
-both_true true b e = (refl, e)
-both_true false b e = absurd cc
-
-true_both : (a b : Bool) → a ≡ true → b ≡ true → (a && b) ≡ true
-true_both true b e f = f
-true_both false b e f = absurd cc
-
-pub has_near : (view : ViewSet) (place : Place) → has view place ≡ true → IsInView (view.cx, view.cz) view.d place
-has_near view place t =
-    let parts = both_true (nat_le (unsigned_abs (place.0 -ℤ view.cx)) view.d) (nat_le (unsigned_abs (place.1 -ℤ view.cz)) view.d) t in
-    record { near_x = leb-true (unsigned_abs (place.0 -ℤ view.cx)) view.d parts.0; near_z = leb-true (unsigned_abs (place.1 -ℤ view.cz)) view.d parts.1 }
-
-pub near_has : (view : ViewSet) (place : Place) → IsInView (view.cx, view.cz) view.d place → has view place ≡ true
-near_has view place near =
-    true_both (nat_le (unsigned_abs (place.0 -ℤ view.cx)) view.d) (nat_le (unsigned_abs (place.1 -ℤ view.cz)) view.d)
-    (le-leb (unsigned_abs (place.0 -ℤ view.cx)) view.d near.near_x) (le-leb (unsigned_abs (place.1 -ℤ view.cz)) view.d near.near_z)
-
 pub same_place : (x y : Place) → eq_by_cmp place_cmp x y ≡ true → x ≡ y
 same_place x y t = exact_places x y (equal (place_cmp x y) t)
 
@@ -50,8 +28,8 @@ same_place x y t = exact_places x y (equal (place_cmp x y) t)
 pub listed_has : (view : ViewSet) (place : Place) → list_any (eq_by_cmp place_cmp place) (all_of view) ≡ has view place
 listed_has view place =
     alike (list_any (eq_by_cmp place_cmp place) (all_of view)) (has view place)
-    (λ t. near_has view place (view_near (view.cx, view.cz) view.d place (Contains-from_any same_place place (all_of view) t)))
-    (λ t. list_any-from_Contains (eq_by_cmp_equiv places_total) place (all_of view) (near_view (view.cx, view.cz) view.d place (has_near view place t)))
+    (λ t. view_near (view.cx, view.cz) view.d place (Contains-from_any same_place place (all_of view) t))
+    (λ t. list_any-from_Contains (eq_by_cmp_equiv places_total) place (all_of view) (near_view (view.cx, view.cz) view.d place t))
 
 -- ---- entries that are made of their keys
 

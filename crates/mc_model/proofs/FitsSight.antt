@@ -17,7 +17,7 @@ use mir.Val.{SFits}
 use Rattle.mc_land.specs.Places.{Place, place_cmp}
 use Rattle.mc_fields.specs.declared.position.Spot.{Spot}
 use Rattle.mc_model.specs.Sight.{Sight, nothing_seen}
-use Rattle.mc_model.specs.Views.{run_of, view_of, column_of_spot, view_size}
+use Rattle.mc_view.specs.Views.{run_of, view_of, column_of_spot, view_size}
 use Rattle.mc_model.specs.World.{World, Session, players, column_in, view_in, project}
 use Rattle.mc_model.proofs.Orders.{places_total, exact_places}
 use Rattle.mc_model.proofs.Projections.{column_sizes}

@@ -1,16 +1,17 @@
 -- What the plain program's projections rest on: views stay where columns can be, and maps that are filled entry by entry.
-use Rattle.std.proofs.Common.{◌≡◌, ℕ, ◌≤◌, true, List, [], ◌∷◌, get_or, refl, ap, ◌∙◌, arith}
+use Rattle.std.proofs.Common.{◌≡◌, ℕ, ◌≤◌, true, unsigned_abs, List, [], ◌∷◌, get_or, refl, ap, ◌∙◌, arith}
 use Rattle.std.proofs.lemmas.Int.{ints}
 use Rattle.std.proofs.lemmas.List.Elements.{Contains-get_or}
 use Rattle.std.specs.Cmp.{tied_itself}
 use Rattle.std.specs.FinMap.{FinMap, empty, from_entries, insert}
 use Rattle.std.specs.FinSet as set
 use Rattle.std.specs.List.{All}
-use lib.IntN.{ℤ, pos, negsuc}
+use lib.IntN.{ℤ, pos, negsuc, ◌-ℤ◌}
 use Rattle.mc_land.specs.declared.terrain.Terrain.{Terrain}
 use Rattle.mc_land.specs.Places.{Place, IsPlace, place_cmp, key_cmp}
 use Rattle.mc_model.specs.Sight.{Sight, nothing_seen}
-use Rattle.mc_model.specs.Views.{IsInView, view_of, view_size}
+use Rattle.mc_view.proofs.Near.{near_both}
+use Rattle.mc_view.specs.Views.{is_in_view, view_of, view_size}
 use Rattle.mc_model.specs.Plain.{IsMiddle, column_at, columns_at, sight_of, with_columns, with_pairs}
 use Rattle.mc_model.proofs.Orders.{places_total}
 use Rattle.mc_model.proofs.ViewFacts.{view_near}
@@ -21,13 +22,15 @@ view_few cap (pos n) few = omega arith
 view_few cap (negsuc n) few = omega arith
 
 -- a column of a view is one that can be
-pub place_in_view : (middle : Place) (d : ℕ) (place : Place) → IsMiddle middle → d ≤ 8 → IsInView middle d place → IsPlace place
-place_in_view middle d place is few near = record {
-  cx_low = omega (arith, ints, is.cx_low, is.cx_high, near.near_x);
-  cx_high = omega (arith, ints, is.cx_low, is.cx_high, near.near_x);
-  cz_low = omega (arith, ints, is.cz_low, is.cz_high, near.near_z);
-  cz_high = omega (arith, ints, is.cz_low, is.cz_high, near.near_z);
-}
+pub place_in_view : (middle : Place) (d : ℕ) (place : Place) → IsMiddle middle → d ≤ 8 → is_in_view middle d place ≡ true → IsPlace place
+place_in_view middle d place is few near =
+    let apart = near_both (unsigned_abs (place.0 -ℤ middle.0)) (unsigned_abs (place.1 -ℤ middle.1)) d near in
+    record {
+      cx_low = omega (arith, ints, is.cx_low, is.cx_high, apart.0);
+      cx_high = omega (arith, ints, is.cx_low, is.cx_high, apart.0);
+      cz_low = omega (arith, ints, is.cz_low, is.cz_high, apart.1);
+      cz_high = omega (arith, ints, is.cz_low, is.cz_high, apart.1);
+    }
 
 pub view_places : (middle : Place) (d : ℕ) → IsMiddle middle → d ≤ 8 → All IsPlace (view_of middle d)
 view_places middle d is few k other lt = place_in_view middle d (get_or (view_of middle d) k other) is few (view_near middle d _ (Contains-get_or (view_of middle d) k other lt))

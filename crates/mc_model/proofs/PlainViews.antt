@@ -6,7 +6,7 @@ use Rattle.std.proofs.lemmas.Grind.{flat_map-append}
 use Rattle.std.specs.List.{flat_map}
 use lib.IntN.{ℤ, pos, ◌+ℤ◌}
 use Rattle.mc_land.specs.Places.{Place}
-use Rattle.mc_model.specs.Views.{run_of}
+use Rattle.mc_view.specs.Views.{run_of}
 use Rattle.mc_model.specs.Plain.{row_of}
 
 -- a run with one number more

@@ -13,7 +13,7 @@ use Rattle.mc_land.specs.Places.{Place, place_cmp}
 use Rattle.mc_land.specs.Land.{states_of, biomes_of}
 use Rattle.mc_model.specs.Sight.{nothing_seen}
 use Rattle.mc_model.specs.Delta.{Follows}
-use Rattle.mc_model.specs.Views.{view_of, view_size, column_of_spot}
+use Rattle.mc_view.specs.Views.{view_of, view_size, column_of_spot}
 use Rattle.mc_model.specs.World.{World, Session, players, column_in, view_in, project}
 use Rattle.mc_model.proofs.Orders.{places_total, exact_places}
 

@@ -1,12 +1,13 @@
 -- The columns of a view are those near its middle.
-use Rattle.std.proofs.Common.{◌≡◌, ℕ, ◌+◌, ◌*◌, ◌<◌, ◌≤◌, unsigned_abs, List, [], ◌∷◌, map, get_or, refl, sym, subst, ap, ◌∙◌, arith, inl, inr}
+use Rattle.std.proofs.Common.{◌≡◌, ℕ, ◌+◌, ◌*◌, ◌<◌, ◌≤◌, true, unsigned_abs, List, [], ◌∷◌, map, get_or, refl, sym, subst, ap, ◌∙◌, arith, inl, inr}
 use Rattle.std.specs.List.{Contains, flat_map, range_with_len}
 use Rattle.std.proofs.lemmas.List.Elements.{Contains-append_left, Contains-append_right, Contains-append_cases}
 use Rattle.std.proofs.lemmas.List.FromFn.{get_or-range_with_len, length-range_with_len}
 use Rattle.std.proofs.lemmas.Int.{ints}
 use lib.IntN.{ℤ, pos, ◌+ℤ◌, ◌-ℤ◌}
 use Rattle.mc_land.specs.Places.{Place}
-use Rattle.mc_model.specs.Views.{IsInView, run_of, view_of}
+use Rattle.mc_view.proofs.Near.{near_both, both_near}
+use Rattle.mc_view.specs.Views.{is_in_view, run_of, view_of}
 
 -- ---- what lists that are made of lists hold
 
@@ -91,19 +92,19 @@ abbrev row : Place → ℕ → ℤ → List Place
 row middle d x = map (λ z. (x, z)) (run_of (middle.1 -ℤ pos d) (2 * d + 1))
 
 -- what a view holds is near its middle
-pub view_near : (middle : Place) (d : ℕ) (place : Place) → Contains (view_of middle d) place → IsInView middle d place
+pub view_near : (middle : Place) (d : ℕ) (place : Place) → Contains (view_of middle d) place → is_in_view middle d place ≡ true
 unfolding view_of
 view_near middle d place held =
     let found = joined_from (row middle d) (run_of (middle.0 -ℤ pos d) (2 * d + 1)) place held in
     let inner = mapped_from (λ (z : ℤ). (found.0, z)) (run_of (middle.1 -ℤ pos d) (2 * d + 1)) place found.2 in
-    record {
-      near_x = run_near middle.0 place.0 d (subst (Contains (run_of (middle.0 -ℤ pos d) (2 * d + 1))) (ap (λ (p : Place). p.0) inner.2) found.1);
-      near_z = run_near middle.1 place.1 d (subst (Contains (run_of (middle.1 -ℤ pos d) (2 * d + 1))) (ap (λ (p : Place). p.1) inner.2) inner.1);
-    }
+    both_near (unsigned_abs (place.0 -ℤ middle.0)) (unsigned_abs (place.1 -ℤ middle.1)) d
+    (run_near middle.0 place.0 d (subst (Contains (run_of (middle.0 -ℤ pos d) (2 * d + 1))) (ap (λ (p : Place). p.0) inner.2) found.1))
+    (run_near middle.1 place.1 d (subst (Contains (run_of (middle.1 -ℤ pos d) (2 * d + 1))) (ap (λ (p : Place). p.1) inner.2) inner.1))
 
 -- and what is near is held
-pub near_view : (middle : Place) (d : ℕ) (place : Place) → IsInView middle d place → Contains (view_of middle d) place
+pub near_view : (middle : Place) (d : ℕ) (place : Place) → is_in_view middle d place ≡ true → Contains (view_of middle d) place
 unfolding view_of
 near_view middle d place near =
-    joined_holds (row middle d) (run_of (middle.0 -ℤ pos d) (2 * d + 1)) place.0 place (near_run middle.0 place.0 d near.near_x)
-    (mapped_holds (λ (z : ℤ). (place.0, z)) (run_of (middle.1 -ℤ pos d) (2 * d + 1)) place.1 (near_run middle.1 place.1 d near.near_z))
+    let apart = near_both (unsigned_abs (place.0 -ℤ middle.0)) (unsigned_abs (place.1 -ℤ middle.1)) d near in
+    joined_holds (row middle d) (run_of (middle.0 -ℤ pos d) (2 * d + 1)) place.0 place (near_run middle.0 place.0 d apart.0)
+    (mapped_holds (λ (z : ℤ). (place.0, z)) (run_of (middle.1 -ℤ pos d) (2 * d + 1)) place.1 (near_run middle.1 place.1 d apart.1))

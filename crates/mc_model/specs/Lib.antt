@@ -6,7 +6,6 @@ pub mod Cutting
 pub mod Sight
 pub mod Replica
 pub mod Delta
-pub mod Views
 pub mod World
 pub mod Hearing
 pub mod Acts

@@ -15,7 +15,7 @@ use Rattle.mc_down.specs.declared.down.Down.TheVariants.{JoinGame, SpawnPosition
 use Rattle.mc_model.specs.Notes.{Noted}
 use Rattle.mc_model.specs.Sight.{Sight, nothing_seen}
 use Rattle.mc_model.specs.Delta.{is_named, delta}
-use Rattle.mc_model.specs.Views.{run_of, view_of}
+use Rattle.mc_view.specs.Views.{run_of, view_of}
 use Rattle.mc_model.specs.World.{World, Session, players, spawn_height}
 use Rattle.mc_model.specs.Step.{level, placing}
 

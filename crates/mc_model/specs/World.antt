@@ -16,7 +16,7 @@ use Rattle.mc_model.specs.declared.stage.Stage.{Stage}
 use Rattle.mc_model.specs.declared.stage.Stage.TheVariants as stages
 use Rattle.mc_model.specs.Notes.{Noted}
 use Rattle.mc_model.specs.Sight.{Sight}
-use Rattle.mc_model.specs.Views.{view_of, column_of_spot, view_size}
+use Rattle.mc_view.specs.Views.{view_of, column_of_spot, view_size}
 
 -- one connection
 pub record Session : Type 0 where

@@ -14,7 +14,7 @@ ghost use Rattle.mc_model.specs.Numbers.{fixed_of, turn_of, pattern_of, degrees_
 ghost use Rattle.mc_model.specs.Sight.{Sight};
 ghost use Rattle.mc_model.specs.Replica.{Shows, new_replica, replay, seeing};
 ghost use Rattle.mc_model.specs.Delta.{Follows, delta};
-ghost use Rattle.mc_model.specs.Views.{IsInView, view_of};
+ghost use Rattle.mc_view.specs.Views.{is_in_view, view_of};
 ghost use Rattle.mc_model.specs.World.{AreSettings, Session, found, is_closed, is_play, new_world, project};
 ghost use Rattle.mc_model.specs.Hearing.{Ear, IsHeard, of_play, played};
 ghost use Rattle.mc_model.specs.Talk.{farewell};
@@ -41,7 +41,8 @@ pub fn numbers_are_worked_out()
 
 /// The columns of a view are those near the middle.
 pub fn views_are_near()
-    ensures { (middle : Place) (d : ℕ) (place : Place) → Contains (view_of middle d) place ↔ IsInView middle d place }
+    ensures { (middle : Place) (d : ℕ) (place : Place) →
+        Contains (view_of middle d) place ↔ (is_in_view middle d place ≡ true) }
 {}
 
 /// The packets of the difference make of what a client was shown what it is to be shown.

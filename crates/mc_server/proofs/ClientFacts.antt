@@ -8,11 +8,12 @@ use Rattle.mc_land.specs.Places.{Place, place_cmp}
 use Rattle.mc_land.specs.Land.{LandValue}
 use Rattle.mc_view.specs.declared.view_set.ViewSet.{ViewSet}
 use Rattle.mc_view.specs.Sets.{has}
+use Rattle.mc_view.proofs.Near.{both_near}
 use Rattle.mc_model.specs.Sight.{Sight, nothing_seen}
 use Rattle.mc_model.specs.Delta.{Pairs}
 use Rattle.mc_flush.specs.Lists.{ListValue}
 use Rattle.mc_flush.specs.Seeing.{StandsFor, seen}
-use Rattle.mc_flush.proofs.Shown.{near_has, shown_has}
+use Rattle.mc_flush.proofs.Shown.{shown_has}
 
 no_distance : (z : ℤ) (d : ℕ) → unsigned_abs (z -ℤ z) ≤ d
 no_distance (pos n) d = omega (arith, ints)
@@ -27,6 +28,7 @@ unfolding StandsFor
 seen_opened (Some old) pairs land list view stands = refl
 seen_opened None pairs land list view nothing =
     let middle : Place = (view.cx, view.cz) in
-    let here : has view middle ≡ true = near_has view middle (record { near_x = no_distance view.cx view.d; near_z = no_distance view.cz view.d }) in
+    let here : has view middle ≡ true = both_near (unsigned_abs (view.cx -ℤ view.cx)) (unsigned_abs (view.cz -ℤ view.cz)) view.d
+    (no_distance view.cx view.d) (no_distance view.cz view.d) in
     let clash : false ≡ true = sym (none_there middle) ∙ ap (λ (s : Sight). contains_key s.columns middle) (sym nothing) ∙ shown_has land view middle ∙ here in
     absurd cc

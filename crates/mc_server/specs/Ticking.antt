@@ -10,7 +10,7 @@ use Rattle.mc_view.specs.declared.view_set.ViewSet.{ViewSet}
 use Rattle.mc_view.specs.Sets.{all_of}
 use Rattle.mc_model.specs.Sight.{Sight}
 use Rattle.mc_model.specs.Delta.{Pairs, delta}
-use Rattle.mc_model.specs.Views.{view_of, view_size, column_of_spot}
+use Rattle.mc_view.specs.Views.{view_of, view_size, column_of_spot}
 use Rattle.mc_model.specs.World.{World, Session, column_in, is_play, players, project}
 use Rattle.mc_model.specs.Step.{flush}
 use Rattle.mc_model.specs.Plain.{opening_of}

@@ -3,7 +3,7 @@ use Rattle.std.proofs.Common.{◌≡◌, ℕ, suc, ◌+◌, ◌-◌, ◌*◌, �
 use Rattle.std.specs.List.{flat_map, range_with_len}
 use lib.IntN.{ℤ, pos, ◌+ℤ◌, ◌-ℤ◌}
 use Rattle.mc_land.specs.Places.{Place}
-use Rattle.mc_model.specs.Views.{run_of, view_of}
+use Rattle.mc_view.specs.Views.{run_of, view_of}
 use Rattle.mc_view.specs.Squares.{run_from, row_of, rest_of}
 
 -- a run of one number and more begins with the first

@@ -1,17 +1,13 @@
--- Sets of columns around a place: which columns such a set has, and which of one set another lacks. Rules of this project.
-use Rattle.std.specs.Prelude.{ℕ, ◌&&◌, nat_le, not, Bool, false, unsigned_abs, List, Option, Some, None}
+-- Sets of columns around a place: which columns such a set has, and which of one set another lacks.
+-- Rules of this project.
+use Rattle.std.specs.Prelude.{not, Bool, false, List, Option, Some, None}
 use Rattle.std.specs.List.{filter}
-use lib.IntN.{ℤ, ◌-ℤ◌}
 use Rattle.mc_land.specs.Places.{Place}
-use Rattle.mc_model.specs.Views.{view_of}
+use Rattle.mc_view.specs.Views.{is_in_view, view_of}
 use Rattle.mc_view.specs.declared.view_set.ViewSet.{ViewSet}
 
--- a column is at most d columns off the middle on each axis
-abbrev pub is_near : ℤ → ℤ → ℕ → Place → Bool
-is_near cx cz d place = nat_le (unsigned_abs (place.0 -ℤ cx)) d && nat_le (unsigned_abs (place.1 -ℤ cz)) d
-
 abbrev pub has : ViewSet → Place → Bool
-has view place = is_near view.cx view.cz view.d place
+has view place = is_in_view (view.cx, view.cz) view.d place
 
 -- there is a set, and it has a column
 abbrev pub is_within : Option ViewSet → Place → Bool

@@ -1,14 +1,12 @@
 //! Which columns a client sees, and which of one view another lacks.
 //!
-//! Stands on the definitions of `mc_model`. Its one contract: a view set is the columns that are at most
+//! Stands on the columns of `mc_land`. Its one contract: a view set is the columns that are at most
 //! so many columns off its middle, and what enters and what leaves a moving view are those of one set
 //! that the other lacks, in rising order.
 #![tactic(auto)]
 
 mod columns;
 mod square;
-#[cfg(test)]
-mod tests;
 mod view_set;
 
 pub use columns::Columns;

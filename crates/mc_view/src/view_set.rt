@@ -1,4 +1,4 @@
-ghost use Rattle.std.specs.Prelude.{◌≡◌, ◌≤◌, ◌↔◌, IsTrue};
+ghost use Rattle.std.specs.Prelude.{◌≡◌, ◌≤◌};
 ghost use lib.IntN.{pos, negsuc};
 ghost use lib.Signed.{◌≤ℤ◌};
 
@@ -17,9 +17,7 @@ pub struct ViewSet {
 }
 
 impl ViewSet {
-    ghost use Rattle.mc_land.specs.Places.{Place};
-    ghost use Rattle.mc_model.specs.Views.{IsInView};
-    ghost use Rattle.mc_view.specs.Sets.{all_of, lacking};
+    ghost use Rattle.mc_view.specs.Sets.{has, all_of, lacking};
 
     /// The set around a middle.
     pub fn of(cx: i32, cz: i32, d: u8) -> ViewSet
@@ -37,7 +35,7 @@ impl ViewSet {
 
     /// Whether a column is in the set.
     pub fn has(&self, cx: i32, cz: i32) -> bool
-        ensures { IsTrue result ↔ IsInView (self.now.cx, self.now.cz) self.now.d (cx, cz) }
+        ensures { result ≡ has self.now (cx, cz) }
     {
         self.cx.abs_diff(cx) <= u32::from(self.d) && self.cz.abs_diff(cz) <= u32::from(self.d)
     }

@@ -1,7 +1,7 @@
 ghost use Rattle.std.specs.Prelude.{◌≡◌};
 ghost use lib.IntN.{pos};
 ghost use Rattle.mc_model.specs.World.{World, Session, project};
-ghost use Rattle.mc_model.specs.Views.{column_of_spot, view_size};
+ghost use Rattle.mc_view.specs.Views.{column_of_spot, view_size};
 ghost use Rattle.mc_model.specs.Step.{due};
 ghost use Rattle.mc_model.specs.Plain.{due_of, pairs_of, sight_of};
 

@@ -2,7 +2,7 @@ ghost use Rattle.std.specs.Prelude.{◌≡◌, ◌<◌, ◌≤◌, true, IfOk, O
 ghost use Rattle.std.specs.FinSet as set;
 ghost use Rattle.std.specs.List.{All};
 ghost use Rattle.mc_land.specs.Places.{IsPlace};
-ghost use Rattle.mc_model.specs.Views.{column_of_spot, view_size};
+ghost use Rattle.mc_view.specs.Views.{column_of_spot, view_size};
 ghost use Rattle.mc_model.specs.Plain.{IsMiddle, SameWorld, column_at, sight_of, with_columns, with_pairs};
 
 use crate::plain::sight::Sight;

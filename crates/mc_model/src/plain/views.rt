@@ -2,7 +2,7 @@ ghost use Rattle.std.specs.Prelude.{◌≡◌, ◌≤◌, ◌++◌, IfOk, OnOk};
 ghost use Rattle.std.specs.List.{flat_map};
 ghost use lib.IntN.{pos, ◌+ℤ◌, ◌-ℤ◌};
 ghost use lib.Signed.{◌≤ℤ◌};
-ghost use Rattle.mc_model.specs.Views.{column_of_spot, run_of, view_of, view_size};
+ghost use Rattle.mc_view.specs.Views.{column_of_spot, run_of, view_of, view_size};
 ghost use Rattle.mc_model.specs.Plain.{IsMiddle, row_of};
 
 use mc_fields::Spot;

@@ -1,7 +1,7 @@
 //! What clients are shown.
 
 ghost use Rattle.std.specs.Prelude.{◌≤◌};
-ghost use Rattle.mc_model.specs.Views.{column_of_spot};
+ghost use Rattle.mc_view.specs.Views.{column_of_spot};
 ghost use Rattle.mc_model.specs.Plain.{IsMiddle};
 
 use crate::plain::{Sight, project};

@@ -9,7 +9,7 @@ ghost use Rattle.mc_model.specs.Plain.{SameWorld};
 ghost use Rattle.mc_model.specs.Sight.{Sight};
 ghost use Rattle.mc_model.specs.Delta.{delta};
 ghost use Rattle.mc_model.specs.Step.{hand};
-ghost use Rattle.mc_model.specs.Views.{column_of_spot, view_size};
+ghost use Rattle.mc_view.specs.Views.{column_of_spot, view_size};
 ghost use Rattle.mc_model.specs.World.{AreSettings, is_play};
 ghost use Rattle.mc_flush.specs.Sending.{notes_due_of, play_bytes};
 ghost use Rattle.mc_flush.specs.Seeing.{StandsFor, IsInRange, IsNamed, IsReady, loaded, seen};

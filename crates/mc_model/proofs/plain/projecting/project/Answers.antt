@@ -1,6 +1,6 @@
 use Rattle.std.proofs.Common.{◌≡◌, refl, ◌∙◌, w8}
 use Rattle.std.proofs.lemmas.Int.{to_z-of_z}
-use Rattle.mc_model.specs.Views.{column_of_spot, view_of, view_size}
+use Rattle.mc_view.specs.Views.{column_of_spot, view_of, view_size}
 use Rattle.mc_model.proofs.PlainProjections.{view_few, view_places, sight_filled}
 use Rattle.mc_model.proofs.plain.projecting.project.Goals as goal
 

@@ -1,6 +1,6 @@
 use Rattle.std.proofs.Common.{◌≡◌, ◌++◌}
 use Rattle.std.specs.List.{flat_map}
-use Rattle.mc_model.specs.Views.{run_of}
+use Rattle.mc_view.specs.Views.{run_of}
 use Rattle.mc_model.specs.Plain.{row_of}
 use Rattle.mc_model.proofs.plain.views.push_rows.Given as goal
 

@@ -1,5 +1,5 @@
 -- The columns around a player that its client is shown. Rules of this project.
-use Rattle.std.specs.Prelude.{ℕ, max, min, ◌+◌, ◌*◌, ◌≤◌, unsigned_abs, List, map}
+use Rattle.std.specs.Prelude.{ℕ, max, min, ◌+◌, ◌*◌, nat_le, unsigned_abs, Bool, ◌&&◌, List, map}
 use Rattle.std.specs.List.{flat_map, range_with_len}
 use Rattle.std.specs.Int.{int_div_euclid}
 use lib.IntN.{ℤ, pos, negsuc, ◌+ℤ◌, ◌-ℤ◌}
@@ -7,9 +7,9 @@ use Rattle.mc_land.specs.Places.{Place}
 use Rattle.mc_fields.specs.declared.position.Spot.{Spot}
 
 -- a column is at most d columns off the middle on each axis
-pub record IsInView (middle : Place) (d : ℕ) (place : Place) : Type 0 where
-  pub near_x : unsigned_abs (place.0 -ℤ middle.0) ≤ d
-  pub near_z : unsigned_abs (place.1 -ℤ middle.1) ≤ d
+abbrev pub is_in_view : Place → ℕ → Place → Bool
+is_in_view middle d place =
+    nat_le (unsigned_abs (place.0 -ℤ middle.0)) d && nat_le (unsigned_abs (place.1 -ℤ middle.1)) d
 
 -- n whole numbers, from one on
 abbrev pub run_of : ℤ → ℕ → List ℤ
@@ -17,7 +17,9 @@ run_of first n = map (λ i. first +ℤ pos i) (range_with_len 0 n)
 
 -- all columns of a view, in the order of their places
 unfoldable pub view_of : Place → ℕ → List Place
-view_of middle d = flat_map (λ x. map (λ z. (x, z)) (run_of (middle.1 -ℤ pos d) (2 * d + 1))) (run_of (middle.0 -ℤ pos d) (2 * d + 1))
+view_of middle d =
+    flat_map (λ x. map (λ z. (x, z)) (run_of (middle.1 -ℤ pos d) (2 * d + 1)))
+    (run_of (middle.0 -ℤ pos d) (2 * d + 1))
 
 -- the column of a place in 1/32 blocks
 abbrev pub column_of_spot : Spot → Place

@@ -1,0 +1,20 @@
+-- Near on both axes.
+use Rattle.std.proofs.Common.{◌≡◌, ℕ, ◌≤◌, Bool, true, false, ◌&&◌, refl}
+use Rattle.std.specs.Prelude.{nat_le}
+use Rattle.std.proofs.lemmas.Bool.{le-leb, leb-true}
+
+both_true : (a b : Bool) → (a && b) ≡ true → (a ≡ true) × (b ≡ true)
+both_true true b e = (refl, e)
+both_true false b e = absurd cc
+
+true_both : (a b : Bool) → a ≡ true → b ≡ true → (a && b) ≡ true
+true_both true b e f = f
+true_both false b e f = absurd cc
+
+pub near_both : (x z d : ℕ) → (nat_le x d && nat_le z d) ≡ true → (x ≤ d) × (z ≤ d)
+near_both x z d t =
+    let parts = both_true (nat_le x d) (nat_le z d) t in
+    (leb-true x d parts.0, leb-true z d parts.1)
+
+pub both_near : (x z d : ℕ) → x ≤ d → z ≤ d → (nat_le x d && nat_le z d) ≡ true
+both_near x z d p q = true_both (nat_le x d) (nat_le z d) (le-leb x d p) (le-leb z d q)
