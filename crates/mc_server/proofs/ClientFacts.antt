@@ -29,6 +29,6 @@ seen_opened (Some old) pairs land list view stands = refl
 seen_opened None pairs land list view nothing =
     let middle : Place = (view.cx, view.cz) in
     let here : has view middle ≡ true = both_near (unsigned_abs (view.cx -ℤ view.cx)) (unsigned_abs (view.cz -ℤ view.cz)) view.d
-        (no_distance view.cx view.d) (no_distance view.cz view.d) in
+    (no_distance view.cx view.d) (no_distance view.cz view.d) in
     let clash : false ≡ true = sym (none_there middle) ∙ ap (λ (s : Sight). contains_key s.columns middle) (sym nothing) ∙ shown_has land view middle ∙ here in
     absurd cc

@@ -1,0 +1,64 @@
+-- Which form a change has, by the differences that were found.
+use Rattle.std.proofs.Common.{◌≡◌, Bool, true, false, cond, not, ◌&&◌, Option, Some, None, refl, sym, ap, ◌∙◌}
+use Rattle.std.specs.Option.{unwrap_or}
+use lib.IntN.{ℤ}
+use Rattle.mc_view.specs.declared.forms.Form.{Form}
+use Rattle.mc_view.specs.declared.forms.Form.TheVariants.{Still, Step, StepTurn, Turn, Jump}
+use Rattle.mc_view.specs.Forms.{is_byte, are_bytes, are_zero, form_by}
+use Rattle.mc_view.specs.Steps.{byte_between, bytes_between}
+
+all_true : (s t u : Bool) → s ≡ true → t ≡ true → u ≡ true → (s && t && u) ≡ true
+all_true s t u e f g = ap (λ k. k && t && u) e ∙ ap (λ k. k && u) f ∙ g
+
+second_false : (s t u : Bool) → t ≡ false → (s && t && u) ≡ false
+second_false true t u e = ap (λ k. k && u) e
+second_false false t u e = refl
+
+third_false : (s t u : Bool) → u ≡ false → (s && t && u) ≡ false
+third_false true true u e = e
+third_false true false u e = refl
+third_false false t u e = refl
+
+-- ---- what is there sometimes
+
+was_true : {A : Type 0} (t : Bool) (a x : A) → cond t (Some a) None ≡ Some x → t ≡ true
+was_true true a x e = refl
+was_true false a x e = absurd cc
+
+was_false : {A : Type 0} (t : Bool) (a : A) → cond t (Some a) None ≡ None → t ≡ false
+was_false true a e = absurd cc
+was_false false a e = refl
+
+was_same : {A : Type 0} (t : Bool) (a x : A) → cond t (Some a) None ≡ Some x → a ≡ x
+was_same true a x e = ap (λ o. unwrap_or o a) e
+was_same false a x e = absurd cc
+
+-- ---- differences
+
+pub bytes_there : (a b c x y z : ℤ) → byte_between a ≡ Some x → byte_between b ≡ Some y → byte_between c ≡ Some z → bytes_between a b c ≡ Some (x, y, z)
+bytes_there a b c x y z e f g =
+    ap (λ t. cond t (Some (a, b, c)) None)
+    (all_true (is_byte a) (is_byte b) (is_byte c) (was_true (is_byte a) a x e) (was_true (is_byte b) b y f) (was_true (is_byte c) c z g))
+    ∙ (λ i. Some (was_same (is_byte a) a x e i, was_same (is_byte b) b y f i, was_same (is_byte c) c z g i))
+
+pub second_gone : (a b c : ℤ) → byte_between b ≡ None → bytes_between a b c ≡ None
+second_gone a b c e = ap (λ t. cond t (Some (a, b, c)) None) (second_false (is_byte a) (is_byte b) (is_byte c) (was_false (is_byte b) b e))
+
+pub third_gone : (a b c : ℤ) → byte_between c ≡ None → bytes_between a b c ≡ None
+third_gone a b c e = ap (λ t. cond t (Some (a, b, c)) None) (third_false (is_byte a) (is_byte b) (is_byte c) (was_false (is_byte c) c e))
+
+-- ---- forms
+
+pub form_there : (a b c x y z : ℤ) (turned : Bool) → bytes_between a b c ≡ Some (x, y, z) → form_by x y z turned ≡ form_by a b c turned
+form_there a b c x y z turned e =
+    ap (λ (step : ℤ × ℤ × ℤ). form_by step.0 step.1 step.2 turned) (sym (was_same (are_bytes a b c) (a, b, c) (x, y, z) e))
+
+jumps : (zero : Bool) (f g : Form) → cond (zero && false) f (cond (not false) Jump g) ≡ Jump
+jumps true f g = refl
+jumps false f g = refl
+
+pub form_gone : (a b c : ℤ) (turned : Bool) → bytes_between a b c ≡ None → form_by a b c turned ≡ Jump
+form_gone a b c turned e =
+    ap (λ fits. cond (not (are_zero a b c) && fits) (cond turned (StepTurn a b c) (Step a b c)) (cond (not fits) Jump (cond turned Turn Still)))
+    (was_false (are_bytes a b c) (a, b, c) e)
+    ∙ jumps (not (are_zero a b c)) (cond turned (StepTurn a b c) (Step a b c)) (cond turned Turn Still)
