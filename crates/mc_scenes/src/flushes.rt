@@ -108,11 +108,7 @@ fn answer_call(call: Call, scene: &mut Scene, words: &mut Words<'_>, answer: &mu
 /// A player enters.
 fn enter(guests: &mut Guests, words: &mut Words<'_>, answer: &mut Answer) {
     let uuid = words.number();
-    match guests.enter(uuid, words.text()) {
-        Ok(true) => {}
-        Ok(false) => words.fail(),
-        Err(NoMemory) => answer.lose(),
-    }
+    answer.needs(guests.enter(uuid, words.text()));
 }
 
 /// The next words as a view.
@@ -181,7 +177,11 @@ fn flushed<L: Ledger>(
     requires named { AllByRecursion IsNamed (map.entries view.now.list.now.present) }
 {
     let mut steps = Steps::<L>::new(blank);
-    if !is_ready(view.land, &view.view, &mut steps) || !is_in_range(&view.place) {
+    let ready = is_ready(view.land, &view.view, &mut steps);
+    if !ready {
+        return Ok(None);
+    }
+    if !is_in_range(&view.place) {
         return Ok(None);
     }
     let mut pieces = Vec::new(alloc);

@@ -1,4 +1,4 @@
-ghost use Rattle.std.specs.Prelude.{◌≤◌};
+ghost use Rattle.std.specs.Prelude.{◌≡◌, ◌≤◌, ◌<◌, length};
 ghost use Rattle.std.specs.List.{AllByRecursion};
 ghost use Rattle.std.specs.FinMap as map;
 ghost use Rattle.mc_flush.specs.Seeing.{IsNamed};
@@ -44,19 +44,37 @@ impl Guests {
         &self.list
     }
 
-    /// A player enters, where there is room, its name is short and it is not there. Says whether it
-    /// did.
-    pub fn enter(&mut self, uuid: u128, name: Text) -> Result<bool, NoMemory> {
-        if self.list.len() >= 50 || name.as_str().len() > 64 || self.list.has(uuid) {
-            return Ok(false);
+    /// How many players are there.
+    fn len(&self) -> usize
+        ensures { result ≡ map.len self.now.present }
+    {
+        self.list.len()
+    }
+
+    /// A player enters, unless it is there.
+    fn add(&mut self, uuid: u128, name: Text) -> Result<(), NoMemory>
+        requires room { map.len self.old.present < 50 }
+        requires short { length name ≤ 64 }
+    {
+        if self.list.has(uuid) {
+            return Ok(());
         }
         self.list.add(uuid, name)?;
-        Ok(true)
+        Ok(())
+    }
+
+    /// A player enters, unless it is there, or there is no room, or its name is long.
+    pub fn enter(&mut self, uuid: u128, name: Text) -> Result<(), NoMemory> {
+        if self.len() < 50 && name.as_str().len() <= 64 {
+            self.add(uuid, name)?;
+        }
+        Ok(())
     }
 
     /// Those who are there become those who were.
     pub fn settle(&mut self) -> Result<(), NoMemory> {
-        self.list.settle()
+        self.list.settle()?;
+        Ok(())
     }
 
     /// Nobody is there now.

@@ -62,16 +62,16 @@ impl Kept {
 
     /// Keeps a column with those of its row, or puts those that are of another.
     pub fn add(&mut self, next: Loads, answer: &mut Answer) {
-        match self.loads {
-            Some(loads) if loads.goes_on(&next) => {
+        let kept = self.loads;
+        self.loads = Some(next);
+        if let Some(loads) = kept {
+            if loads.goes_on(&next) {
                 self.loads = Some(Loads {
                     last: next.last,
                     ..loads
                 });
-            }
-            _ => {
-                self.end(answer);
-                self.loads = Some(next);
+            } else {
+                answer.word(loads);
             }
         }
     }
