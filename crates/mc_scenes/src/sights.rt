@@ -4,9 +4,6 @@
 //! the isle where the sight is as it was, and the place is noted or not, and `delta SIGHT SIGHT` what leads from one to the other: a sight is `at X`, the
 //! isle from the column (X, 0), or `knows UUID NAME`, one player without columns.
 
-ghost use Rattle.mc_model.specs.Views.{column_of_spot};
-ghost use Rattle.mc_model.specs.Plain.{IsMiddle};
-
 use crate::answer::Answer;
 use crate::packets::put_packets;
 use crate::words::Words;
@@ -89,23 +86,17 @@ fn first_due(alloc: Global, asked: i8, uuid: u128, name: Text) -> Result<Vec<Dow
     due(alloc, &terrain, 20, &1, &spot, &Notes::new(), None, &now)
 }
 
-/// A place in the column (cx, 0), 64 blocks high.
-fn spot_in(cx: u8) -> Spot
-    ensures { IsMiddle (column_of_spot result) }
-{
-    Spot {
+/// What is seen of the isle from the column (cx, 0), by the smallest view.
+fn seen_from(alloc: Global, cx: u8) -> Result<Sight, NoMemory> {
+    let spot = Spot {
         x: 272 + 512 * i32::from(cx),
         y: 2048,
         z: 272,
         yaw: 0,
         pitch: 0,
-    }
-}
-
-/// What is seen of the isle from the column (cx, 0), by the smallest view.
-fn seen_from(alloc: Global, cx: u8) -> Result<Sight, NoMemory> {
+    };
     let mut land = Land::new(alloc, Terrain::Isle);
-    project(alloc, &mut land, &[], &spot_in(cx), 6, 2)
+    project(alloc, &mut land, &[], &spot, 6, 2)
 }
 
 /// A sight of one player.
@@ -131,7 +122,13 @@ pub fn again(words: &mut Words<'_>, answer: &mut Answer) {
 fn due_again(alloc: Global, notes: &Notes) -> Result<Vec<Down>, NoMemory> {
     let old = seen_from(alloc, 0)?;
     let now = seen_from(alloc, 0)?;
-    let spot = spot_in(0);
+    let spot = Spot {
+        x: 272,
+        y: 2048,
+        z: 272,
+        yaw: 0,
+        pitch: 0,
+    };
     due(
         alloc,
         &Terrain::Isle,
