@@ -8,4 +8,3 @@ pub mod Placings
 pub mod Rising
 pub mod Shown
 pub mod Changes
-pub mod Tried

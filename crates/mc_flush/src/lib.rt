@@ -15,8 +15,6 @@ mod mark;
 mod notes;
 mod player_list;
 mod players;
-#[cfg(test)]
-mod tests;
 
 pub use client_view::ClientView;
 pub use flushing::flush;

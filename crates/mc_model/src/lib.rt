@@ -12,8 +12,6 @@ mod name;
 mod notes;
 pub mod plain;
 mod stage;
-#[cfg(test)]
-mod tests;
 mod wish;
 
 pub use cause::{Cause, Refusal};

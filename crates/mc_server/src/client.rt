@@ -8,8 +8,6 @@ mod handing;
 mod hearing;
 mod moving;
 mod shown;
-#[cfg(test)]
-mod tests;
 
 use mc_fields::Spot;
 use mc_frame::Outbox;

@@ -14,8 +14,6 @@ mod opening;
 mod roster;
 mod server;
 mod settings;
-#[cfg(test)]
-mod tests;
 
 pub use input::Input;
 pub use server::Server;

@@ -9,8 +9,6 @@ mod identity;
 mod reply;
 mod session;
 mod step;
-#[cfg(test)]
-mod tests;
 mod words;
 
 pub use identity::offline_uuid;

@@ -15,20 +15,12 @@ mod laws;
 mod lines;
 mod replay;
 mod replay_lines;
-#[cfg(test)]
-mod replay_tests;
 mod reply;
 mod script;
 mod script_line;
-#[cfg(test)]
-mod script_tests;
 mod stage;
 mod status;
 mod status_text;
-#[cfg(test)]
-mod tests;
-#[cfg(test)]
-mod word_tests;
 mod words;
 
 pub use bad_input::{BadInput, InputFault};

@@ -1,0 +1,11 @@
+use Rattle.std.proofs.Common.{rules}
+use Rattle.std.specs.List.{AllByRecursion}
+use Rattle.mc_view.specs.Sets.{all_of}
+use Rattle.mc_flush.specs.Seeing.{IsReady}
+use Rattle.mc_flush.proofs.Changes.{loaded_ready}
+use Rattle.mc_scenes.proofs.flushes.flushed.Goals as goal
+
+pub flush-requires-clause-ready : goal.flush-requires-clause-ready
+flush-requires-clause-ready g c =
+    let all : AllByRecursion (IsReady c.args.view.now.land.now) (all_of c.args.view.now.view) = search rules in
+    loaded_ready c.args.view.now.land.now c.args.mark.now.shown c.args.view.now.view all

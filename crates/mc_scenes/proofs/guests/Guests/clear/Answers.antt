@@ -1,0 +1,12 @@
+use Rattle.std.proofs.Common.{sym, subst}
+use Rattle.std.specs.FinMap.{empty}
+use Rattle.mc_flush.specs.Lists.{ListValue}
+use Rattle.mc_server.specs.Roster.{IsRoster}
+use Rattle.mc_server.proofs.RosterFacts.{nobody}
+use Rattle.mc_scenes.proofs.guests.Guests.clear.Goals as goal
+
+cleared : (list : ListValue) → IsRoster list → IsRoster (record list { present = empty })
+cleared list is = record { few = nobody.few; few_before = is.few_before; named = nobody.named }
+
+pub invariant_of-self : goal.invariant_of-self
+invariant_of-self c = subst IsRoster (sym c.clear.ensures) (cleared c.self.inside.list c.self.invariant)

@@ -1,0 +1,131 @@
+//! Commands: `run WORD .. < TEXT` runs the words of a command line over a text and answers the status
+//! and what was written; in `failing READS WRITES WORD .. < TEXT` the calls of the input and of the
+//! output with these numbers fail. A line of more than a thousand bytes is put frame by frame.
+
+use crate::answer::Answer;
+use crate::frames::put_frames;
+use crate::shown::Shown;
+use crate::texts::text_of;
+use crate::words::Words;
+use mc_top::run;
+use mc_wire::{MemorySink, MemorySource};
+use std::alloc::Global;
+
+/// The most bytes of a line that is put as it is.
+const PLAIN: usize = 1000;
+
+/// The numbers of the next word, which is `-` where there are none.
+fn numbers(words: &mut Words<'_>, answer: &mut Answer) -> Vec<u64> {
+    let mut numbers = Vec::new(words.alloc);
+    for number in words.word().split(',') {
+        if let Ok(number) = number.parse::<u64>() {
+            answer.needs(numbers.push(number));
+        }
+    }
+    numbers
+}
+
+/// A word of a command line.
+fn word_of(alloc: Global, word: &str) -> Option<String> {
+    String::from_utf8(text_of(alloc, word)?).ok()
+}
+
+/// The words of a command line.
+fn line_of(alloc: Global, text: &str) -> Option<Vec<String>> {
+    let mut line = Vec::new(alloc);
+    if text.is_empty() {
+        return Some(line);
+    }
+    for word in text.split(' ') {
+        line.push(word_of(alloc, word)?).ok()?;
+    }
+    Some(line)
+}
+
+/// A command line, and the text behind it.
+#[derive(Drop)]
+struct Job {
+    line: Vec<String>,
+    text: Vec<u8>,
+}
+
+/// What is left of a row as a command line and a text.
+fn job_of(alloc: Global, row: &str) -> Option<Job> {
+    let (front, text) = row.split_once('<')?;
+    let line = line_of(alloc, front.trim_end_matches(' '))?;
+    let text = text_of(alloc, text.strip_prefix(' ').unwrap_or(text))?;
+    Some(Job { line, text })
+}
+
+/// Runs a command line over a text.
+pub fn run_steady(words: &mut Words<'_>, answer: &mut Answer) {
+    let none = Vec::new(words.alloc);
+    let none_either = Vec::new(words.alloc);
+    run_over(none, none_either, words, answer);
+}
+
+/// Runs a command line over a text, with devices that fail.
+pub fn run_failing(words: &mut Words<'_>, answer: &mut Answer) {
+    let reads = numbers(words, answer);
+    let writes = numbers(words, answer);
+    run_over(reads, writes, words, answer);
+}
+
+/// Runs what is left of a row, with devices whose calls of these numbers fail.
+fn run_over(reads: Vec<u64>, writes: Vec<u64>, words: &mut Words<'_>, answer: &mut Answer) {
+    match job_of(words.alloc, words.rest()) {
+        Some(job) => run_job(job, reads, writes, answer),
+        None => words.fail(),
+    }
+}
+
+/// Runs a command line over a text.
+fn run_job(job: Job, reads: Vec<u64>, writes: Vec<u64>, answer: &mut Answer) {
+    let Job { line, text } = job;
+    let mut source = MemorySource::new(text, reads);
+    let mut sink = MemorySink::new(answer.alloc(), writes);
+    answer.word(run(answer.alloc(), &line, &mut source, &mut sink));
+    put_output(sink.held(), answer);
+}
+
+/// Puts what was written, where the device tells it.
+fn put_output(held: Option<&[u8]>, answer: &mut Answer) {
+    match held {
+        None => answer.word("untold"),
+        Some([]) => answer.word("-"),
+        Some(text) => put_lines(text, answer),
+    }
+}
+
+/// Puts the lines of a text, each with its end.
+fn put_lines(text: &[u8], answer: &mut Answer) {
+    answer.word("");
+    for line in text.split_inclusive(|byte| *byte == b'\n') {
+        if line.len() <= PLAIN {
+            answer.put(Shown::new(line));
+        } else {
+            put_long(line, answer);
+        }
+    }
+}
+
+/// Puts a long line: its two words, and then its frames.
+fn put_long(line: &[u8], answer: &mut Answer) {
+    match sent_of(answer.alloc(), line) {
+        Some((front, bytes)) => {
+            answer.put(Shown::new(front));
+            put_frames(&bytes, answer);
+            answer.put('|');
+        }
+        None => answer.put("a long line|"),
+    }
+}
+
+/// What stands before the digits of a line, and the bytes that the digits are.
+fn sent_of(alloc: Global, line: &[u8]) -> Option<(&[u8], Vec<u8>)> {
+    let at = line.iter().rposition(|byte| *byte == b' ')?;
+    let (front, digits) = line.split_at_checked(at)?;
+    let digits = digits.strip_prefix(b" ".as_slice())?;
+    let digits = digits.strip_suffix(b"\n".as_slice())?;
+    Some((front, hex::decode(alloc, digits).ok()?))
+}

@@ -1,0 +1,214 @@
+//! What one client is sent, on flat land whose columns from -3 to 3 are ready: `flush STEP ..` works
+//! on the players, what is noted and the mark, and `tell X Z D AT` answers the frames of a view of D
+//! around the column (X, Z), for a player at AT on x, in 1/32 blocks.
+
+ghost use Rattle.std.specs.Prelude.{◌≡◌, ◌≤◌, ◌<◌, true};
+ghost use Rattle.std.specs.List.{AllByRecursion};
+ghost use Rattle.std.specs.FinMap as map;
+ghost use Rattle.std.specs.FinSet as set;
+ghost use Rattle.mc_land.specs.Places.{IsPlace};
+ghost use Rattle.mc_view.specs.Sets.{all_of};
+ghost use Rattle.mc_flush.specs.Seeing.{IsNamed, IsReady};
+
+use crate::answer::Answer;
+use crate::frames::put_frames;
+use crate::guests::Guests;
+use crate::lists::is_in_range;
+use crate::words::Words;
+use mc_fields::Spot;
+use mc_flush::{ClientView, Mark, flush};
+use mc_land::{Land, Steps, Terrain};
+use mc_model::Notes;
+use mc_nbt::NoMemory;
+use mc_view::ViewSet;
+use std::alloc::Global;
+use std::marker::Brand;
+use std::sync::ledger::{Blank, Ledger};
+
+/// What a client is shown a part of, and what it was shown.
+#[derive(Drop)]
+struct Scene {
+    land: Land,
+    guests: Guests,
+    mark: Mark,
+    notes: Notes,
+}
+
+/// A flat land whose columns near the middle are ready.
+fn ready_land(alloc: Global) -> Result<Land, NoMemory> {
+    let mut land = Land::new(alloc, Terrain::Flat);
+    for cx in -3..4 {
+        for cz in -3..4 {
+            land.ready(cx, cz)?;
+        }
+    }
+    Ok(land)
+}
+
+/// A call of a scene.
+#[derive(Clone, Copy)]
+enum Call {
+    Enter,
+    Settle,
+    Clear,
+    Note,
+    Tell,
+}
+
+/// The call that a word names.
+fn call_of(name: &str) -> Option<Call> {
+    match name {
+        "enter" => Some(Call::Enter),
+        "settle" => Some(Call::Settle),
+        "clear" => Some(Call::Clear),
+        "note" => Some(Call::Note),
+        "tell" => Some(Call::Tell),
+        _ => None,
+    }
+}
+
+/// Answers the steps of a client.
+pub fn client(words: &mut Words<'_>, answer: &mut Answer) {
+    let Ok(land) = ready_land(words.alloc) else {
+        answer.lose();
+        return;
+    };
+    let mut scene = Scene {
+        land,
+        guests: Guests::new(words.alloc),
+        mark: Mark::new(),
+        notes: Notes::new(),
+    };
+    for _ in 0..64 {
+        if words.is_more() {
+            step(&mut scene, words, answer);
+        }
+    }
+}
+
+/// Answers a step.
+fn step(scene: &mut Scene, words: &mut Words<'_>, answer: &mut Answer) {
+    match call_of(words.word()) {
+        Some(call) => answer_call(call, scene, words, answer),
+        None => words.fail(),
+    }
+}
+
+/// Answers a call.
+fn answer_call(call: Call, scene: &mut Scene, words: &mut Words<'_>, answer: &mut Answer) {
+    match call {
+        Call::Enter => enter(&mut scene.guests, words, answer),
+        Call::Settle => answer.needs(scene.guests.settle()),
+        Call::Clear => scene.guests.clear(),
+        Call::Note => scene.notes.place(),
+        Call::Tell => tell(scene, words, answer),
+    }
+}
+
+/// A player enters.
+fn enter(guests: &mut Guests, words: &mut Words<'_>, answer: &mut Answer) {
+    let uuid = words.number();
+    answer.needs(guests.enter(uuid, words.text()));
+}
+
+/// The next words as a view.
+fn view_in(words: &mut Words<'_>) -> ViewSet {
+    let cx = words.number::<i32>();
+    let cz = words.number::<i32>();
+    let d = words.number::<u8>();
+    if -9 < cx && cx < 9 && -9 < cz && cz < 9 && d <= 8 {
+        ViewSet::of(cx, cz, d)
+    } else {
+        words.fail();
+        ViewSet::of(0, 0, 0)
+    }
+}
+
+/// Puts what a client is sent.
+fn tell(scene: &mut Scene, words: &mut Words<'_>, answer: &mut Answer) {
+    let view = ClientView {
+        land: &scene.land,
+        list: scene.guests.list(),
+        me: 1,
+        view: view_in(words),
+        place: Spot {
+            x: words.number(),
+            y: 128,
+            z: 272,
+            yaw: 0,
+            pitch: 0,
+        },
+    };
+    match flushed::<Brand>(
+        words.alloc,
+        &view,
+        &mut scene.mark,
+        &scene.notes,
+        Blank::new(1),
+    ) {
+        Ok(Some(bytes)) => put_sent(&bytes, answer),
+        Ok(None) => words.fail(),
+        Err(NoMemory) => answer.lose(),
+    }
+}
+
+/// Puts what was sent.
+fn put_sent(bytes: &[u8], answer: &mut Answer) {
+    answer.comma();
+    if bytes.is_empty() {
+        answer.word("nothing");
+    }
+    put_frames(bytes, answer);
+}
+
+/// What a client is sent, where its columns are ready and its player is in range.
+fn flushed<L: Ledger>(
+    alloc: Global,
+    view: &ClientView<'_>,
+    mark: &mut Mark,
+    notes: &Notes,
+    blank: Blank,
+) -> Result<Option<Vec<u8>>, NoMemory>
+    requires name { blank.name ≡ L.name }
+    requires parts { blank.parts ≡ L.parts }
+    requires some { 0 < blank.parts }
+    requires few { map.len view.now.list.now.present ≤ 50 }
+    requires few_before { map.len view.now.list.now.last ≤ 50 }
+    requires named { AllByRecursion IsNamed (map.entries view.now.list.now.present) }
+{
+    let mut steps = Steps::<L>::new(blank);
+    let ready = is_ready(view.land, &view.view, &mut steps);
+    if !ready {
+        return Ok(None);
+    }
+    if !is_in_range(&view.place) {
+        return Ok(None);
+    }
+    let mut pieces = Vec::new(alloc);
+    flush(alloc, view, mark, notes, &mut pieces, &mut steps)?;
+    let mut bytes = Vec::new(alloc);
+    for piece in &pieces {
+        bytes.extend_from_slice(piece.as_slice())?;
+    }
+    Ok(Some(bytes))
+}
+
+/// Whether a column is ready.
+fn is_there<L: Ledger>(land: &Land, place: &(i32, i32), steps: &mut Steps<L>) -> bool
+    requires { IsPlace place.now }
+    ensures { result ≡ set.contains land.now.ready place.now }
+{
+    land.column(place.0, place.1, steps).is_some()
+}
+
+/// Whether all columns of a view are ready.
+fn is_ready<L: Ledger>(land: &Land, view: &ViewSet, steps: &mut Steps<L>) -> bool
+    ensures { result ≡ true → AllByRecursion (IsReady land.now) (all_of view.now) }
+{
+    for place in view.all() {
+        if !is_there(land, &place, steps) {
+            return false;
+        }
+    }
+    true
+}

@@ -1,0 +1,122 @@
+//! `list STEP ..` works on a list of players, and `place X Y Z YAW PITCH` answers the frame of a
+//! player's place.
+
+ghost use Rattle.std.specs.Prelude.{◌≡◌, true};
+ghost use Rattle.mc_flush.specs.Seeing.{IsInRange};
+
+use crate::answer::Answer;
+use crate::words::Words;
+use mc_fields::Spot;
+use mc_flush::{PlayerList, placing_packet, put_packet};
+use mc_nbt::Text;
+
+/// A call of a list of players.
+#[derive(Clone, Copy)]
+enum Call {
+    Enter,
+    Leave,
+    Settle,
+    Count,
+    Name,
+}
+
+/// The call that a word names.
+fn call_of(name: &str) -> Option<Call> {
+    match name {
+        "enter" => Some(Call::Enter),
+        "leave" => Some(Call::Leave),
+        "settle" => Some(Call::Settle),
+        "count" => Some(Call::Count),
+        "name" => Some(Call::Name),
+        _ => None,
+    }
+}
+
+/// Answers the steps of a new list.
+pub fn list(words: &mut Words<'_>, answer: &mut Answer) {
+    let mut list = PlayerList::new(words.alloc);
+    for _ in 0..64 {
+        if words.is_more() {
+            step(&mut list, words, answer);
+        }
+    }
+}
+
+/// Answers a step.
+fn step(list: &mut PlayerList, words: &mut Words<'_>, answer: &mut Answer) {
+    match call_of(words.word()) {
+        Some(call) => answer_call(call, list, words, answer),
+        None => words.fail(),
+    }
+}
+
+/// Answers a call.
+fn answer_call(call: Call, list: &mut PlayerList, words: &mut Words<'_>, answer: &mut Answer) {
+    match call {
+        Call::Enter => enter(list, words, answer),
+        Call::Leave => put_answer(list.remove(words.number()), answer),
+        Call::Settle => answer.needs(list.settle()),
+        Call::Count => {
+            put_answer(list.len(), answer);
+            answer.word("of");
+            answer.word(list.settled());
+        }
+        Call::Name => put_name(list.get(words.number()), answer),
+    }
+}
+
+/// Puts what a call answers.
+fn put_answer<T: std::fmt::Display + Drop>(value: T, answer: &mut Answer) {
+    answer.comma();
+    answer.word(value);
+}
+
+/// Puts a name, if there is one.
+fn put_name(name: Option<&Text>, answer: &mut Answer) {
+    match name {
+        Some(name) => put_answer(name.as_str(), answer),
+        None => put_answer("nobody", answer),
+    }
+}
+
+/// A player enters who is not there.
+fn enter(list: &mut PlayerList, words: &mut Words<'_>, answer: &mut Answer) {
+    let uuid = words.number();
+    let name = words.text();
+    if list.has(uuid) {
+        words.fail();
+    } else {
+        answer.needs(list.add(uuid, name));
+    }
+}
+
+/// Whether a player may be at a place.
+pub fn is_in_range(place: &Spot) -> bool
+    ensures { result ≡ true → IsInRange place.now }
+{
+    let Spot { x, y, z, .. } = *place;
+    -960_000_000 <= x
+        && x <= 960_000_000
+        && -2_048 <= y
+        && y <= 131_072
+        && -960_000_000 <= z
+        && z <= 960_000_000
+}
+
+/// Answers the frame of a player's place.
+pub fn place(words: &mut Words<'_>, answer: &mut Answer) {
+    let place = Spot {
+        x: words.number(),
+        y: words.number(),
+        z: words.number(),
+        yaw: words.number(),
+        pitch: words.number(),
+    };
+    if !is_in_range(&place) {
+        words.fail();
+        return;
+    }
+    let mut frame = Vec::new(words.alloc);
+    answer.needs(put_packet(&placing_packet(&place), &mut frame));
+    answer.bytes(&frame);
+}

@@ -1,0 +1,139 @@
+//! A table of rows: each names a call of the crates from the definitions up to the commands and what
+//! it is given, and is repeated with what the call answers. It stands on those crates and on `hex`.
+//!
+//! It has no contract of its own: the table that it is run on says what each row answers.
+#![tactic(auto)]
+
+mod answer;
+mod causes;
+mod commands;
+mod flushes;
+mod frames;
+mod guests;
+mod lists;
+mod loads;
+mod mixes;
+mod packets;
+mod pieces;
+mod scripts;
+mod servers;
+mod sessions;
+mod shown;
+mod sights;
+mod terrains;
+mod texts;
+mod words;
+mod worlds;
+
+use answer::Answer;
+use std::alloc::Global;
+use std::io;
+use std::io::{BufWriter, Write};
+use words::Words;
+
+/// What a row calls.
+#[derive(Clone, Copy)]
+enum Call {
+    Run,
+    Failing,
+    Mixes,
+    Script,
+    Session,
+    Uuid,
+    Chat,
+    Flush,
+    List,
+    Place,
+    Server,
+    Cuts,
+    Pieces,
+    World,
+    Size,
+    Column,
+    View,
+    First,
+    Again,
+    Delta,
+}
+
+/// The call that a word names.
+fn call_of(name: &str) -> Option<Call> {
+    match name {
+        "run" => Some(Call::Run),
+        "failing" => Some(Call::Failing),
+        "mixes" => Some(Call::Mixes),
+        "script" => Some(Call::Script),
+        "session" => Some(Call::Session),
+        "uuid" => Some(Call::Uuid),
+        "chat" => Some(Call::Chat),
+        "flush" => Some(Call::Flush),
+        "list" => Some(Call::List),
+        "place" => Some(Call::Place),
+        "server" => Some(Call::Server),
+        "cuts" => Some(Call::Cuts),
+        "pieces" => Some(Call::Pieces),
+        "world" => Some(Call::World),
+        "size" => Some(Call::Size),
+        "column" => Some(Call::Column),
+        "view" => Some(Call::View),
+        "first" => Some(Call::First),
+        "again" => Some(Call::Again),
+        "delta" => Some(Call::Delta),
+        _ => None,
+    }
+}
+
+/// Answers a call.
+fn answer_call(call: Call, words: &mut Words<'_>, answer: &mut Answer) {
+    match call {
+        Call::Run => commands::run_steady(words, answer),
+        Call::Failing => commands::run_failing(words, answer),
+        Call::Mixes => mixes::mixes(words, answer),
+        Call::Script => scripts::script(words, answer),
+        Call::Session => sessions::session(words, answer),
+        Call::Uuid => sessions::uuid(words, answer),
+        Call::Chat => sessions::chat(words, answer),
+        Call::Flush => flushes::client(words, answer),
+        Call::List => lists::list(words, answer),
+        Call::Place => lists::place(words, answer),
+        Call::Server => servers::server(words, answer),
+        Call::Cuts => pieces::cuts(words, answer),
+        Call::Pieces => pieces::pieces(words, answer),
+        Call::World => worlds::world(words, answer),
+        Call::Size => sights::size(words, answer),
+        Call::Column => sights::column(words, answer),
+        Call::View => sights::view(words, answer),
+        Call::First => sights::first(words, answer),
+        Call::Again => sights::again(words, answer),
+        Call::Delta => sights::difference(words, answer),
+    }
+}
+
+/// What a row answers.
+fn answered(alloc: Global, row: &str) -> Answer {
+    let mut answer = Answer::new(alloc);
+    let mut words = Words::new(alloc, row);
+    match call_of(words.word()) {
+        Some(call) => answer_call(call, &mut words, &mut answer),
+        None => words.fail(),
+    }
+    if words.are_bad() {
+        return Answer::no_such_call(alloc);
+    }
+    answer
+}
+
+fn main(rt: HostRuntime) -> io::Result<()> {
+    let alloc = rt.alloc();
+    let table = io::read_to_string(alloc, rt.reader())?;
+    let mut out = BufWriter::new(alloc, io::writer(&rt))?;
+    for row in table.as_str().trim_end_matches('\n').split('\n') {
+        if row.is_empty() || row.starts_with('#') {
+            writeln!(out, "{row}")?;
+        } else {
+            let answer = answered(alloc, row);
+            writeln!(out, "{row} -> {answer}")?;
+        }
+    }
+    out.flush()
+}

@@ -1,0 +1,84 @@
+//! Bytes in pieces: `cuts BYTES` has them come in two pieces, to a server for each place of the cut,
+//! and answers how many of these are owed the same, and what. `pieces BYTES SIZE ..` has them come to
+//! a server for each size, and a tick, takes what is owed in pieces of that size, and answers how
+//! many bytes that are and whether they are those of the first.
+
+use crate::answer::Answer;
+use crate::servers::{new_server, taken, ticks};
+use crate::words::Words;
+use mc_land::Terrain;
+use mc_server::{Input, Server};
+use std::alloc::Global;
+
+/// A server of flat land for two players, whose first connection says these two pieces.
+fn told(alloc: Global, front: &[u8], rest: &[u8]) -> Option<Server> {
+    let mut server = new_server(alloc, 2, 6, Terrain::Flat)?;
+    server.event(Input::Join(0)).ok()?;
+    server.event(Input::Bytes(0, front)).ok()?;
+    server.event(Input::Bytes(0, rest)).ok()?;
+    Some(server)
+}
+
+/// What is owed to who says some bytes in two pieces, of which the first has so many.
+fn owed_of_cut(alloc: Global, said: &[u8], at: usize) -> Option<Vec<u8>> {
+    let (front, rest) = said.split_at_checked(at)?;
+    let mut server = told(alloc, front, rest)?;
+    taken(alloc, &mut server, 0, 100).ok()
+}
+
+/// Whether there are two lists of bytes, and they are the same.
+fn are_same(one: &Option<Vec<u8>>, other: &Option<Vec<u8>>) -> bool {
+    match (one, other) {
+        (Some(one), Some(other)) => one.as_slice() == other.as_slice(),
+        _ => false,
+    }
+}
+
+/// Cuts bytes at each place.
+pub fn cuts(words: &mut Words<'_>, answer: &mut Answer) {
+    let said = words.bytes();
+    let whole = owed_of_cut(words.alloc, &said, 0);
+    let mut same = 0u32;
+    for at in 0..=said.len() {
+        if are_same(&owed_of_cut(words.alloc, &said, at), &whole) {
+            same = same.saturating_add(1);
+        }
+    }
+    answer.word(same);
+    answer.word("times");
+    answer.text(&whole.unwrap_or(Vec::new(words.alloc)));
+}
+
+/// What is owed to who says some bytes, after a tick, taken so many bytes at a time.
+fn owed_of_tick(alloc: Global, said: &[u8], size: usize) -> Option<Vec<u8>> {
+    let mut server = told(alloc, said, &[])?;
+    ticks(&mut server, 1).ok()?;
+    taken(alloc, &mut server, 0, size).ok()
+}
+
+/// Takes what is owed in pieces of each size.
+pub fn pieces(words: &mut Words<'_>, answer: &mut Answer) {
+    let said = words.bytes();
+    let whole = owed_of_tick(words.alloc, &said, words.number());
+    put_count(&whole, answer);
+    for _ in 0..8 {
+        if words.is_more() {
+            let owed = owed_of_tick(words.alloc, &said, words.number());
+            put_count(&owed, answer);
+            answer.word(if are_same(&owed, &whole) {
+                "the same"
+            } else {
+                "others"
+            });
+        }
+    }
+}
+
+/// Puts how many bytes are owed.
+fn put_count(owed: &Option<Vec<u8>>, answer: &mut Answer) {
+    answer.comma();
+    match owed {
+        Some(owed) => answer.word(owed.len()),
+        None => answer.word("none"),
+    }
+}

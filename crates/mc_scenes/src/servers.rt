@@ -1,0 +1,173 @@
+//! Servers: `server PLAYERS CAP TERRAIN STEP ..` works on a new one and answers what it is asked.
+
+use crate::answer::Answer;
+use crate::terrains::terrain_in;
+use crate::words::Words;
+use mc_land::Terrain;
+use mc_nbt::NoMemory;
+use mc_server::{Input, Server, Settings};
+use std::alloc::Global;
+
+/// The most bytes that are put one by one.
+const PLAIN: usize = 400;
+
+/// A call of a server.
+#[derive(Clone, Copy)]
+enum Call {
+    Join,
+    Bytes,
+    Gone,
+    Tick,
+    Cause,
+    Owed,
+    Done,
+    Forget,
+    All,
+    Age,
+}
+
+/// The call that a word names.
+fn call_of(name: &str) -> Option<Call> {
+    match name {
+        "join" => Some(Call::Join),
+        "bytes" => Some(Call::Bytes),
+        "gone" => Some(Call::Gone),
+        "tick" => Some(Call::Tick),
+        "cause" => Some(Call::Cause),
+        "owed" => Some(Call::Owed),
+        "done" => Some(Call::Done),
+        "forget" => Some(Call::Forget),
+        "all" => Some(Call::All),
+        "age" => Some(Call::Age),
+        _ => None,
+    }
+}
+
+/// A new server, with at most 50 players and a view of 2 to 8. None where the numbers are not such,
+/// or there is no memory.
+pub fn new_server(alloc: Global, players: u32, cap: u8, terrain: Terrain) -> Option<Server> {
+    if players < 1 || players > 50 || cap < 2 || cap > 8 {
+        return None;
+    }
+    let settings = Settings {
+        players,
+        cap,
+        terrain,
+    };
+    Server::new(alloc, settings).ok()
+}
+
+/// Answers the steps of a new server.
+pub fn server(words: &mut Words<'_>, answer: &mut Answer) {
+    let players = words.number();
+    let cap = words.number();
+    match new_server(words.alloc, players, cap, terrain_in(words)) {
+        Some(mut server) => steps(&mut server, words, answer),
+        None => words.fail(),
+    }
+}
+
+/// Answers the steps of a server.
+fn steps(server: &mut Server, words: &mut Words<'_>, answer: &mut Answer) {
+    for _ in 0..200 {
+        if words.is_more() {
+            step(server, words, answer);
+        }
+    }
+}
+
+/// Answers a step.
+fn step(server: &mut Server, words: &mut Words<'_>, answer: &mut Answer) {
+    match call_of(words.word()) {
+        Some(call) => answer_call(call, server, words, answer),
+        None => words.fail(),
+    }
+}
+
+/// Answers a call.
+fn answer_call(call: Call, server: &mut Server, words: &mut Words<'_>, answer: &mut Answer) {
+    match call {
+        Call::Join => answer.needs(server.event(Input::Join(words.number()))),
+        Call::Bytes => bytes(server, words, answer),
+        Call::Gone => answer.needs(server.event(Input::Gone(words.number()))),
+        Call::Tick => answer.needs(ticks(server, words.number())),
+        Call::Cause => put_cause(server, words.number(), answer),
+        Call::Owed => put_owed(server, words, answer),
+        Call::Done => put_answer(server.done(words.number()), answer),
+        Call::Forget => server.forget(words.number()),
+        Call::All => put_all(server, answer),
+        Call::Age => put_answer(server.age(), answer),
+    }
+}
+
+/// Puts an answer.
+fn put_answer<T: std::fmt::Display + Drop>(value: T, answer: &mut Answer) {
+    answer.comma();
+    answer.word(value);
+}
+
+/// Bytes of a connection come.
+fn bytes(server: &mut Server, words: &mut Words<'_>, answer: &mut Answer) {
+    let k = words.number();
+    let bytes = words.bytes();
+    answer.needs(server.event(Input::Bytes(k, &bytes)));
+}
+
+/// So many ticks come.
+pub fn ticks(server: &mut Server, count: u32) -> Result<(), NoMemory> {
+    for _ in 0..count {
+        if server.age() >= 1_000_000_000 {
+            return Err(NoMemory);
+        }
+        server.event(Input::Tick)?;
+    }
+    Ok(())
+}
+
+/// Puts why a connection was closed.
+fn put_cause(server: &Server, k: u32, answer: &mut Answer) {
+    answer.comma();
+    match server.cause(k) {
+        Some(cause) => answer.name(*cause),
+        None => answer.word("none"),
+    }
+}
+
+/// Puts the numbers of the connections.
+fn put_all(server: &Server, answer: &mut Answer) {
+    answer.comma();
+    answer.word("all");
+    for k in server.connections() {
+        answer.word(*k);
+    }
+}
+
+/// Takes what a connection is owed, at most so many bytes at a time.
+pub fn taken(alloc: Global, server: &mut Server, k: u32, most: usize) -> Result<Vec<u8>, NoMemory> {
+    let mut all = Vec::new(alloc);
+    for _ in 0..100_000_000u32 {
+        let front = server.front(k);
+        let count = front.len().min(most);
+        if count == 0 {
+            return Ok(all);
+        }
+        all.extend_from_slice(front.get(..count).unwrap_or(&[]))?;
+        server.took(k, count);
+    }
+    Ok(all)
+}
+
+/// Takes what a connection is owed, at most so many bytes at a time, and puts it, or how many bytes it
+/// has.
+fn put_owed(server: &mut Server, words: &mut Words<'_>, answer: &mut Answer) {
+    let k = words.number();
+    answer.comma();
+    match taken(words.alloc, server, k, words.number()) {
+        Ok(owed) if owed.len() <= PLAIN => answer.text(&owed),
+        Ok(owed) => {
+            answer.word(owed.len());
+            answer.word("bytes");
+        }
+        Err(NoMemory) => answer.lose(),
+    }
+}

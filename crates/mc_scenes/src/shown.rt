@@ -1,0 +1,77 @@
+use std::fmt;
+use std::fmt::Display;
+
+/// Bytes as text: the end of a line is `|`, a byte of no visible ASCII character `\xHH`, as is that
+/// of a bar, and a backslash is doubled. No bytes are `-`.
+#[derive(Clone, Copy)]
+pub struct Shown<'a> {
+    bytes: &'a [u8],
+}
+
+impl<'a> Shown<'a> {
+    /// The bytes.
+    pub fn new(bytes: &'a [u8]) -> Shown<'a> {
+        Shown { bytes }
+    }
+}
+
+impl<'a> Display for Shown<'a> {
+    fn fmt<W: fmt::Write>(&self, f: &mut fmt::Formatter<W>) -> fmt::Result {
+        if self.bytes.is_empty() {
+            return write!(f, "-");
+        }
+        for byte in self.bytes {
+            let byte = OneByte { byte: *byte };
+            write!(f, "{byte}")?;
+        }
+        Ok(())
+    }
+}
+
+/// One byte as text.
+#[derive(Clone, Copy)]
+struct OneByte {
+    byte: u8,
+}
+
+impl Display for OneByte {
+    fn fmt<W: fmt::Write>(&self, f: &mut fmt::Formatter<W>) -> fmt::Result {
+        let byte = self.byte;
+        if byte == b'\n' {
+            return write!(f, "|");
+        }
+        if byte == b'\\' {
+            return write!(f, "\\\\");
+        }
+        if byte < 0x20 || byte > 0x7e || byte == b'|' {
+            return write!(f, "\\x{byte:02x}");
+        }
+        let letter = char::from(byte);
+        write!(f, "{letter}")
+    }
+}
+
+/// Bytes as hex. No bytes are `-`.
+#[derive(Clone, Copy)]
+pub struct Hex<'a> {
+    bytes: &'a [u8],
+}
+
+impl<'a> Hex<'a> {
+    /// The bytes.
+    pub fn new(bytes: &'a [u8]) -> Hex<'a> {
+        Hex { bytes }
+    }
+}
+
+impl<'a> Display for Hex<'a> {
+    fn fmt<W: fmt::Write>(&self, f: &mut fmt::Formatter<W>) -> fmt::Result {
+        if self.bytes.is_empty() {
+            return write!(f, "-");
+        }
+        for byte in self.bytes {
+            write!(f, "{byte:02x}")?;
+        }
+        Ok(())
+    }
+}
