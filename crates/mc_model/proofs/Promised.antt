@@ -203,12 +203,12 @@ next_away : (k : ℕ) (w : World) (e : Event) (ps : List Sent) (tk : List ℕ) �
 next_away k w e ps tk none keeps = elim (arrives k w e none) [
   | away gone_ ↦ record { begun = keeps.begun; each = λ t there. absurd (some_none t _ there gone_) }
   | joins is new here ↦ record {
-      begun = keeps.begun;
-      each = λ t there.
-          let empty = keeps.nobody new in
-          subst (λ (v : Session). IsPromised tk v ps) (one_some (joining w k) t _ here there)
-          (whole (ap bytes_of empty.0 ∙ sym (joining_owed w k) ∙ ap (λ (o : List ℕ). o ++ (joining w k).owed) (sym empty.1)));
-    }
+    begun = keeps.begun;
+    each = λ t there.
+        let empty = keeps.nobody new in
+        subst (λ (v : Session). IsPromised tk v ps) (one_some (joining w k) t _ here there)
+        (whole (ap bytes_of empty.0 ∙ sym (joining_owed w k) ∙ ap (λ (o : List ℕ). o ++ (joining w k).owed) (sym empty.1)));
+  }
 ]
 
 -- one that was there
