@@ -1,6 +1,7 @@
-//! Commands: `run WORD .. < TEXT` runs the words of a command line over a text and answers the status
-//! and what was written; in `failing READS WRITES WORD .. < TEXT` the calls of the input and of the
-//! output with these numbers fail. A line of more than a thousand bytes is put frame by frame.
+//! Commands: `run WORD .. < TEXT` runs the words of a command line over a text and answers the
+//! status and what was written; in `failing READS WRITES WORD .. < TEXT` the calls of the input and
+//! of the output with these numbers fail. A line of more than a thousand bytes is put frame by
+//! frame.
 
 use crate::answer::Answer;
 use crate::frames::put_frames;

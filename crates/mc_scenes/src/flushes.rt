@@ -1,6 +1,6 @@
-//! What one client is sent, on flat land whose columns from -3 to 3 are ready: `flush STEP ..` works
-//! on the players, what is noted and the mark, and `tell X Z D AT` answers the frames of a view of D
-//! around the column (X, Z), for a player at AT on x, in 1/32 blocks.
+//! What one client is sent, on flat land whose columns from -3 to 3 are ready: `flush STEP ..`
+//! works on the players, what is noted and the mark, and `tell X Z D AT` answers the frames of a
+//! view of D around the column (X, Z), for a player at AT on x, in 1/32 blocks.
 
 ghost use Rattle.std.specs.Prelude.{◌≡◌, ◌≤◌, ◌<◌, true};
 ghost use Rattle.std.specs.List.{AllByRecursion};
@@ -34,12 +34,20 @@ struct Scene {
     notes: Notes,
 }
 
+/// Makes a column near the middle ready.
+fn make_ready(land: &mut Land, cx: i32, cz: i32) -> Result<(), NoMemory> {
+    if -9 < cx && cx < 9 && -9 < cz && cz < 9 {
+        land.ready(cx, cz)?;
+    }
+    Ok(())
+}
+
 /// A flat land whose columns near the middle are ready.
 fn ready_land(alloc: Global) -> Result<Land, NoMemory> {
     let mut land = Land::new(alloc, Terrain::Flat);
     for cx in -3..4 {
         for cz in -3..4 {
-            land.ready(cx, cz)?;
+            make_ready(&mut land, cx, cz)?;
         }
     }
     Ok(land)

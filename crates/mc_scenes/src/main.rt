@@ -1,5 +1,6 @@
-//! A table of rows: each names a call of the crates from the definitions up to the commands and what
-//! it is given, and is repeated with what the call answers. It stands on those crates and on `hex`.
+//! A table of rows: each names a call of the crates from the definitions up to the commands and
+//! what it is given, and is repeated with what the call answers. It stands on those crates and on
+//! `hex`.
 //!
 //! It has no contract of its own: the table that it is run on says what each row answers.
 #![tactic(auto)]

@@ -1,8 +1,8 @@
-//! Two clients at once: `mixes HELLO FIRST SECOND TOLD TOLD` gives the bytes of two names of five bytes
-//! one by one, mixed in each of the 252 ways, behind a handshake of both, to `replay`. It answers how
-//! many mixes that the second client ends, and how many that the first ends, tell the first and then
-//! the second or the other way round, as the last byte of a name has its client told; and how many
-//! tell anything else.
+//! Two clients at once: `mixes HELLO FIRST SECOND TOLD TOLD` gives the bytes of two names of five
+//! bytes one by one, mixed in each of the 252 ways, behind a handshake of both, to `replay`. It
+//! answers how many mixes that the second client ends, and how many that the first ends, tell the
+//! first and then the second or the other way round, as the last byte of a name has its client
+//! told; and how many tell anything else.
 
 use crate::answer::Answer;
 use crate::words::Words;

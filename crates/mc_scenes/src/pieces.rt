@@ -1,7 +1,7 @@
-//! Bytes in pieces: `cuts BYTES` has them come in two pieces, to a server for each place of the cut,
-//! and answers how many of these are owed the same, and what. `pieces BYTES SIZE ..` has them come to
-//! a server for each size, and a tick, takes what is owed in pieces of that size, and answers how
-//! many bytes that are and whether they are those of the first.
+//! Bytes in pieces: `cuts BYTES` has them come in two pieces, to a server for each place of the
+//! cut, and answers how many of these are owed the same, and what. `pieces BYTES SIZE ..` has them
+//! come to a server for each size, and a tick, takes what is owed in pieces of that size, and
+//! answers how many bytes that are and whether they are those of the first.
 
 use crate::answer::Answer;
 use crate::servers::{new_server, taken, ticks};

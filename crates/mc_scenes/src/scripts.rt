@@ -1,5 +1,5 @@
-//! Scripts: `script TEXT` reads one and answers its events as lines, how many they are where they are
-//! more than ten, or the line and the kind of its first fault.
+//! Scripts: `script TEXT` reads one and answers its events as lines, how many they are where they
+//! are more than ten, or the line and the kind of its first fault.
 
 use crate::answer::Answer;
 use crate::shown::Hex;

@@ -157,8 +157,8 @@ pub fn taken(alloc: Global, server: &mut Server, k: u32, most: usize) -> Result<
     Ok(all)
 }
 
-/// Takes what a connection is owed, at most so many bytes at a time, and puts it, or how many bytes it
-/// has.
+/// Takes what a connection is owed, at most so many bytes at a time, and puts it, or how many bytes
+/// it has.
 fn put_owed(server: &mut Server, words: &mut Words<'_>, answer: &mut Answer) {
     let k = words.number();
     answer.comma();

@@ -1,5 +1,5 @@
-//! Sessions: `session STEP ..` answers what each step of a new one comes to, and the stage behind it.
-//! `uuid NAME` answers an identifier, and `chat TEXT` the JSON of a text.
+//! Sessions: `session STEP ..` answers what each step of a new one comes to, and the stage behind
+//! it. `uuid NAME` answers an identifier, and `chat TEXT` the JSON of a text.
 
 use crate::answer::Answer;
 use crate::causes::{cause_in, refusal_in};

@@ -1,8 +1,9 @@
-//! Sights of the plain program. `size CAP ASKED` is the size of a view, `column X Z` the column of a
-//! place in 1/32 blocks, and `view X Z D` the columns of a view. `first ASKED UUID NAME` is what is due
-//! at the first tick of one player on flat land, `again quiet` and `again noted` what is due on
-//! the isle where the sight is as it was, and the place is noted or not, and `delta SIGHT SIGHT` what leads from one to the other: a sight is `at X`, the
-//! isle from the column (X, 0), or `knows UUID NAME`, one player without columns.
+//! Sights of the plain program. `size CAP ASKED` is the size of a view, `column X Z` the column of
+//! a place in 1/32 blocks, and `view X Z D` the columns of a view. `first ASKED UUID NAME` is what
+//! is due at the first tick of one player on flat land; `again quiet` is what is due on the isle
+//! where the sight is as it was, and `again noted` where the place is noted too. `delta SIGHT
+//! SIGHT` is what leads from one sight to the other: `at X`, the isle from the column (X, 0), or
+//! `knows UUID NAME`, one player without columns.
 
 use crate::answer::Answer;
 use crate::packets::put_packets;
@@ -106,8 +107,8 @@ fn seen_player(alloc: Global, uuid: u128, name: Text) -> Result<Sight, NoMemory>
     Ok(sight)
 }
 
-/// Answers what is due at a tick where the sight is as it was: `again quiet`, or `again noted` where
-/// the place is noted.
+/// Answers what is due at a tick where the sight is as it was: `again quiet`, or `again noted`
+/// where the place is noted.
 pub fn again(words: &mut Words<'_>, answer: &mut Answer) {
     let mut notes = Notes::new();
     match words.word() {
