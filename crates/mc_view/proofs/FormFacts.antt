@@ -1,5 +1,5 @@
 -- Which form a change has, by the differences that were found.
-use Rattle.std.proofs.Common.{◌≡◌, Bool, true, false, cond, not, ◌&&◌, Option, Some, None, refl, sym, ap, ◌∙◌}
+use Rattle.std.proofs.Common.{◌≡◌, Bool, true, false, cond, not, ◌&&◌, Some, None, refl, sym, ap, ◌∙◌}
 use Rattle.std.specs.Option.{unwrap_or}
 use lib.IntN.{ℤ}
 use Rattle.mc_view.specs.declared.forms.Form.{Form}

@@ -1,4 +1,4 @@
-use Rattle.std.proofs.Common.{rules, ◌≡◌, sym, ◌∙◌, w8, w32, FitsSigned}
+use Rattle.std.proofs.Common.{rules, sym, ◌∙◌, w8, w32, FitsSigned}
 use Rattle.std.proofs.lemmas.Int.{to_z-of_z}
 use lib.IntN.{◌-ℤ◌}
 use Rattle.mc_view.specs.Steps.{byte_between}

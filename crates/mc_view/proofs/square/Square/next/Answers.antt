@@ -1,8 +1,7 @@
-use Rattle.std.proofs.Common.{◌≡◌, sym, ap, ◌∙◌, List, ◌∷◌, ◌+◌, arith}
-use lib.IntN.{ℤ}
+use Rattle.std.proofs.Common.{sym, ap, ◌∙◌, ◌∷◌, ◌+◌, arith}
 use Rattle.mc_land.specs.Places.{Place}
 use Rattle.mc_view.specs.Squares.{rest_of}
-use Rattle.mc_view.proofs.Rows.{in_row, over_row, all_done}
+use Rattle.mc_view.proofs.Rows.{in_row}
 use Rattle.mc_view.proofs.square.Square.next.Goals as goal
 
 pub returns-then-self-2 : goal.returns-then-self-2

@@ -1,4 +1,4 @@
-use Rattle.std.proofs.Common.{◌≡◌, ◌+◌, ◌*◌, arith}
+use Rattle.std.proofs.Common.{◌+◌, ◌*◌, arith}
 use Rattle.mc_view.proofs.Rows.{whole_view}
 use Rattle.mc_view.proofs.square.Square.of.Goals as goal
 

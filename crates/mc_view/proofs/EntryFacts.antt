@@ -1,0 +1,102 @@
+-- What a search among entries of rising numbers finds, and what an edit there makes of their pairs.
+use Rattle.std.proofs.Common.{◌≡◌, ℕ, zero, suc, ◌<◌, ◌≤◌, Bool, true, false, ◌&&◌, T, List, [], ◌∷◌, length, get_or, Result, Ok, Err, IfOk, IfErr, refl, sym, subst, ap, ◌∙◌, arith, inl, inr, ◌⊎◌}
+use Rattle.std.specs.List.Sorted.{IsSearchInRange, IsBinarySearchResult, IsNonDecreasingBy}
+use Rattle.std.specs.declared.cmp.Ordering.{Ordering}
+use Rattle.std.specs.declared.cmp.Ordering.TheVariants.{Less, Equal, Greater}
+use Rattle.std.specs.Ordering.{int_cmp, is_lt, ordering_index, ordering_reverse}
+use Rattle.std.specs.Cmp.{int_cmp_total, int_ranked, tied_itself}
+use Rattle.std.specs.FinMap.Entries.{below_all}
+use lib.IntN.{ℤ}
+use Rattle.mc_fields.specs.declared.position.Spot.{Spot}
+use Rattle.mc_slots.specs.declared.pile.Pile.{Pile}
+use Rattle.mc_view.specs.declared.tracker.Entry.{Entry}
+use Rattle.mc_view.specs.KeptTold.{IsAt, IsGap, IsRising, pairs_of}
+
+abbrev pub Pair : Type 0
+Pair = ℤ × (Spot × Pile)
+
+pub first : (a b : Bool) → T (a && b) → T a
+first true b h = tt
+first false b h = absurd h
+
+pub second : (a b : Bool) → T (a && b) → T b
+second true b h = h
+second false b h = absurd h
+
+pub less : (r : Ordering) → T (is_lt r) → r ≡ Less
+less Less h = refl
+less Equal h = absurd h
+less Greater h = absurd h
+
+pub above : (x y : ℤ) → int_cmp x y ≡ Less → int_cmp y x ≡ Greater
+above x y e = int_cmp_total.antisymm y x ∙ ap ordering_reverse e
+
+pub below : (x y : ℤ) → int_cmp x y ≡ Greater → int_cmp y x ≡ Less
+below x y e = int_cmp_total.antisymm y x ∙ ap ordering_reverse e
+
+pub same : (x y : ℤ) → x ≡ y → int_cmp y x ≡ Equal
+same x y e = ap (int_cmp y) e ∙ tied_itself int_cmp_total y
+
+-- ---- the order by places
+
+below_at : (eid : ℤ) (es : List Entry) → T (below_all int_cmp eid (pairs_of es)) → (i : ℕ) (d : Entry) → i < length es → int_cmp eid (get_or es i d).eid ≡ Less
+below_at eid [] h i d lt = absurd (omega (arith, lt))
+below_at eid (e ∷ es) h zero d lt = less _ (first _ _ h)
+below_at eid (e ∷ es) h (suc i) d lt = below_at eid es (second _ _ h) i d (omega (arith, lt))
+
+pub rising_at : (es : List Entry) → IsRising es → (i j : ℕ) (d : Entry) → i < j → j < length es → int_cmp (get_or es i d).eid (get_or es j d).eid ≡ Less
+rising_at [] r i j d lt within = absurd (omega (arith, within))
+rising_at (e ∷ es) r i zero d lt within = absurd (omega (arith, lt))
+rising_at (e ∷ es) r zero (suc j) d lt within = below_at e.eid es (first _ _ r) j d (omega (arith, within))
+rising_at (e ∷ es) r (suc i) (suc j) d lt within = rising_at es (second _ _ r) i j d (omega (arith, lt)) (omega (arith, within))
+
+at_most_two : (r : Ordering) → ordering_index r ≤ 2
+at_most_two Less = omega arith
+at_most_two Equal = omega arith
+at_most_two Greater = omega arith
+
+index_rises : (a b eid : ℤ) → int_cmp a b ≡ Less → ordering_index (int_cmp a eid) ≤ ordering_index (int_cmp b eid)
+index_rises a b eid lt =
+    elim (int_cmp b eid) as (λ r. int_cmp b eid ≡ r → ordering_index (int_cmp a eid) ≤ ordering_index r) [
+      | Less ↦ λ e. subst (λ r. ordering_index r ≤ 0) (sym (int_cmp_total.trans a b eid lt e)) (omega arith)
+      | Equal ↦ λ e. subst (λ r. ordering_index r ≤ 1) (sym (ap (int_cmp a) (sym (int_ranked b eid Equal (sym e))) ∙ lt)) (omega arith)
+      | Greater ↦ λ e. at_most_two (int_cmp a eid)
+    ] refl
+
+index_same : (es : List Entry) (eid : ℤ) (i j : ℕ) (d : Entry) → i ≡ j → ordering_index (int_cmp (get_or es i d).eid eid) ≤ ordering_index (int_cmp (get_or es j d).eid eid)
+index_same es eid i j d e = subst (λ (k : ℕ). ordering_index (int_cmp (get_or es i d).eid eid) ≤ ordering_index (int_cmp (get_or es k d).eid eid)) e (omega arith)
+
+cases_le : (i j : ℕ) → i ≤ j → (i < j) ⊎ (i ≡ j)
+cases_le zero zero le = inr refl
+cases_le zero (suc j) le = inl (omega arith)
+cases_le (suc i) zero le = absurd (omega (arith, le))
+cases_le (suc i) (suc j) le = elim (cases_le i j (omega (arith, le))) [
+  | inl lt ↦ inl (omega (arith, lt))
+  | inr e ↦ inr (ap suc e)
+]
+
+searchable : (es : List Entry) (eid : ℤ) → IsRising es → IsNonDecreasingBy (λ e. ordering_index (int_cmp e.eid eid)) es
+searchable es eid r i j d le within = elim (cases_le i j le) [
+  | inl lt ↦ index_rises (get_or es i d).eid (get_or es j d).eid eid (rising_at es r i j d lt within)
+  | inr e ↦ index_same es eid i j d e
+]
+
+pub record IsSearched (es : List Entry) (eid : ℤ) (r : Result ℕ ℕ) : Type 0 where
+  pub found : IfOk r (IsAt es eid)
+  pub absent : IfErr r (IsGap es eid)
+
+pub searched : (es : List Entry) (eid : ℤ) (r : Result ℕ ℕ) → IsRising es → IsSearchInRange r (length es) → IsBinarySearchResult (λ e. int_cmp e.eid eid) es r → IsSearched es eid r
+searched es eid (Ok i) rising within is = record {
+  found = record { within = within; named = λ d. int_ranked (get_or es i d).eid eid Equal (sym (is d)) };
+  absent = tt;
+}
+searched es eid (Err i) rising within parted =
+    let parts = parted (searchable es eid rising) in
+    record {
+      found = tt;
+      absent = record {
+        within = within;
+        lower = λ j d lt. parts.0 j d (omega (arith, within, lt)) lt;
+        higher = λ j d le lt. parts.1 j d le lt;
+      };
+    }

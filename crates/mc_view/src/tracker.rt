@@ -1,0 +1,158 @@
+ghost use Rattle.std.specs.Prelude.{◌≡◌, ◌↔◌, IfOk, IfErr, IfSome, IsFalse, OnOk, OnErr};
+ghost use Rattle.std.specs.Prelude.{true, false, slice_get};
+ghost use Rattle.std.specs.FinMap as map;
+ghost use Rattle.mc_view.specs.Forms.{moves_of};
+ghost use Rattle.mc_view.specs.KeptTold.{IsAt, IsGap, IsRising, told_of};
+
+use crate::forms::Moves;
+use crate::spots::form;
+use mc_fields::Spot;
+use mc_nbt::NoMemory;
+use mc_slots::Pile;
+use std::alloc::Global;
+use std::marker::Model;
+
+/// What a client was told of one entity.
+#[derive(Clone, Copy)]
+struct Entry {
+    eid: i32,
+    spot: Spot,
+    pile: Pile,
+}
+
+/// What one client was told of entities: where each is and looks, and the pile that it holds or is.
+/// Contracts see it as a finite map from the entity's number.
+#[derive(Drop)]
+pub struct Tracker {
+    /// By rising number.
+    entries: Vec<Entry>,
+}
+
+impl Model for Tracker {
+    ghost use Rattle.mc_view.specs.Told.{Told};
+    ghost use Rattle.mc_view.specs.ToldCode.{coded_told};
+    ghost use Rattle.mc_view.specs.KeptTold.{IsRising, told_of};
+
+    ghost Value = { Told };
+
+    ghost coded = { coded_told };
+
+    ghost view = { λ tracker. told_of tracker.entries.items };
+
+    ghost invariant = { λ tracker. IsRising tracker.entries.items };
+}
+
+impl Tracker {
+    /// Knows nobody.
+    pub fn new(alloc: Global) -> Tracker
+        ensures { result ≡ map.empty }
+    {
+        Tracker {
+            entries: Vec::new(alloc),
+        }
+    }
+
+    /// Whether the client was told of an entity.
+    pub fn knows(&self, eid: i32) -> bool
+        ensures { result ≡ map.contains_key self.now eid }
+    {
+        place_of(self.entries.as_slice(), eid).is_ok()
+    }
+
+    /// The number of a known entity that has `i` known ones below it; None where `i` or fewer are
+    /// known.
+    pub fn known(&self, i: usize) -> Option<i32>
+        ensures { result ≡ slice_get (map.keys self.now) i }
+    {
+        if i >= self.entries.len() {
+            return None;
+        }
+        Some(self.entries[i].eid)
+    }
+
+    /// Keeps what the client is told of an entity that it did not know. Out of memory, the tracker
+    /// is as before.
+    pub fn meet(&mut self, eid: i32, spot: Spot, pile: Pile) -> Result<(), NoMemory>
+        requires new { map.contains_key self.old eid ≡ false }
+        ensures ok { OnOk result (self.new ≡ map.insert self.old eid (spot, pile)) }
+        ensures err { OnErr result (self.new ≡ self.old) }
+    {
+        let at = gap_for(self.entries.as_slice(), eid);
+        self.entries.insert(at, Entry { eid, spot, pile })?;
+        Ok(())
+    }
+
+    /// How the client is told that a known entity is and looks there now. Keeps that. It compares with
+    /// what was kept and nothing else, so two moves between two calls are told as one. It takes no
+    /// memory.
+    pub fn moves(&mut self, eid: i32, spot: Spot) -> Moves
+        requires known { map.contains_key self.old eid ≡ true }
+        ensures moves { IfSome (map.get self.old eid) (λ told. result ≡ moves_of told.0 spot) }
+        ensures keeps { IfSome (map.get self.old eid)
+            (λ told. self.new ≡ map.insert self.old eid (spot, told.1)) }
+    {
+        let at = place_in(self.entries.as_slice(), eid);
+        let moves = form(self.entries[at].spot, spot);
+        self.entries[at].spot = spot;
+        moves
+    }
+
+    /// Whether a known entity's pile differs from the one that the client was told. Keeps the new one.
+    /// It takes no memory.
+    pub fn pile(&mut self, eid: i32, pile: Pile) -> bool
+        requires known { map.contains_key self.old eid ≡ true }
+        ensures differs { IfSome (map.get self.old eid) (λ told. IsFalse result ↔ (told.1 ≡ pile)) }
+        ensures keeps { IfSome (map.get self.old eid)
+            (λ told. self.new ≡ map.insert self.old eid (told.0, pile)) }
+    {
+        let at = place_in(self.entries.as_slice(), eid);
+        let differs = self.entries[at].pile != pile;
+        self.entries[at].pile = pile;
+        differs
+    }
+
+    /// Forgets an entity. False exactly where it was not known. It takes no memory.
+    pub fn lose(&mut self, eid: i32) -> bool
+        ensures knew { result ≡ map.contains_key self.old eid }
+        ensures gone { self.new ≡ map.remove self.old eid }
+    {
+        match place_of(self.entries.as_slice(), eid) {
+            Ok(at) => {
+                self.entries.remove(at);
+                true
+            }
+            Err(_) => false,
+        }
+    }
+}
+
+/// Where a number stands, or else where it would go.
+fn place_of(entries: &[Entry], eid: i32) -> Result<usize, usize>
+    requires rising { IsRising entries.now }
+    ensures found { IfOk result (IsAt entries.now eid) }
+    ensures absent { IfErr result (IsGap entries.now eid) }
+{
+    entries.binary_search_by_key(&eid, |entry| entry.eid)
+}
+
+/// Where a number that is known stands.
+fn place_in(entries: &[Entry], eid: i32) -> usize
+    requires rising { IsRising entries.now }
+    requires known { map.contains_key (told_of entries.now) eid ≡ true }
+    ensures { IsAt entries.now eid result }
+{
+    match place_of(entries, eid) {
+        Ok(at) | Err(at) => at,
+    }
+}
+
+/// Where a number that is not known would go.
+fn gap_for(entries: &[Entry], eid: i32) -> usize
+    requires rising { IsRising entries.now }
+    requires new { map.contains_key (told_of entries.now) eid ≡ false }
+    ensures { IsGap entries.now eid result }
+{
+    match place_of(entries, eid) {
+        Ok(at) | Err(at) => at,
+    }
+}
