@@ -1,0 +1,43 @@
+ghost use Rattle.std.specs.Prelude.{◌≡◌, ◌+ℤ◌, Some, None, int_le, ◌&&◌, if◌then◌else◌};
+ghost use Rattle.mc_entities.specs.Shift.{shifted_spot, sum_within};
+
+use crate::mind::Move;
+use mc_fields::Spot;
+
+/// How far from the middle a mob or a player goes on x and z, in 1/32 blocks: 30,000,000 blocks.
+pub const FLAT_END: i32 = 960_000_000;
+
+/// How low it goes, in 1/32 blocks: 64 blocks below the lowest cell.
+pub const LOWEST: i32 = -2_048;
+
+/// How high it goes, in 1/32 blocks: 4,096 blocks.
+pub const HIGHEST: i32 = 131_072;
+
+/// A coordinate after a step; none where that is not from `low` to `high`.
+fn sum_within(value: i32, step: i8, low: i32, high: i32) -> Option<i32>
+    ensures { result ≡ sum_within value step low high }
+{
+    let sum = i64::from(value) + i64::from(step);
+    if i64::from(low) <= sum && sum <= i64::from(high) {
+        return Some(sum as i32);
+    }
+    None
+}
+
+/// Moves a spot, but where it would leave the range.
+pub(crate) fn shift_spot(spot: &mut Spot, by: &Move)
+    ensures { spot.new ≡ shifted_spot by.now spot.old }
+{
+    let Some(x) = sum_within(spot.x, by.dx, -FLAT_END, FLAT_END) else {
+        return;
+    };
+    let Some(y) = sum_within(spot.y, by.dy, LOWEST, HIGHEST) else {
+        return;
+    };
+    let Some(z) = sum_within(spot.z, by.dz, -FLAT_END, FLAT_END) else {
+        return;
+    };
+    spot.x = x;
+    spot.y = y;
+    spot.z = z;
+}
