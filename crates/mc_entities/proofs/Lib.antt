@@ -1,1 +1,2 @@
 mod NumberFacts
+mod ShiftFacts

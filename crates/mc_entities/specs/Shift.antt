@@ -25,7 +25,6 @@ added by spot = record spot {
 abbrev pub shifted_spot : Move → Spot → Spot
 shifted_spot by spot = if is_inside (added by spot) then added by spot else spot
 
--- a coordinate after a step, where it is between two others
-abbrev pub sum_within : ℤ → ℤ → ℤ → ℤ → Option ℤ
-sum_within value step low high =
-    if is_between low high (value +ℤ step) then Some (value +ℤ step) else None
+-- a number, where it is between two others
+abbrev pub within : ℤ → ℤ → ℤ → Option ℤ
+within low high n = if is_between low high n then Some n else None
