@@ -1,2 +1,3 @@
 mod NumberFacts
 mod ShiftFacts
+mod PlanFacts

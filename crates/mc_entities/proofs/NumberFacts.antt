@@ -46,14 +46,17 @@ not_below a b h k = omega (arith, ints, h, k)
 below_other : (a b : ℤ) → a <ℤ b → a ≢ b
 below_other a b h e = omega (arith, ints, h, e)
 
-lt_le : (a b : ℤ) → a <ℤ b → a ≤ℤ b
+pub lt_le : (a b : ℤ) → a <ℤ b → a ≤ℤ b
 lt_le a b h = omega (arith, ints, h)
 
 le_trans : (a b c : ℤ) → a ≤ℤ b → b ≤ℤ c → a ≤ℤ c
 le_trans a b c h k = omega (arith, ints, h, k)
 
-le_lt : (a b c : ℤ) → a ≤ℤ b → b <ℤ c → a <ℤ c
+pub le_lt : (a b c : ℤ) → a ≤ℤ b → b <ℤ c → a <ℤ c
 le_lt a b c h k = omega (arith, ints, h, k)
+
+pub below_self : (a : ℤ) → a ≤ℤ a
+below_self a = omega (arith, ints)
 
 -- ---- lists that rise
 

@@ -14,6 +14,8 @@ pub struct Move {
 
 /// What moves a mob. Its meaning is its plan, a finite list of moves.
 pub trait Mind: Drop {
+    ghost use Rattle.mc_entities.specs.declared.mind.Move.{Move};
+
     // The moves that are still to be made.
     ghost plan: { Self → List Move };
 
@@ -36,12 +38,12 @@ pub(crate) fn ask(minds: &mut [Box<dyn Mind>], at: usize) -> Move
     ensures answer { result ≡ move_at (map (λ mind. plan mind) minds.old) at }
     ensures rest { map (λ mind. plan mind) minds.new ≡ asked_at at (map (λ mind. plan mind) minds.old) }
 {
-    match minds.get_mut(at) {
-        Some(mind) => step_of(mind),
-        None => Move {
+    if minds.len() <= at {
+        return Move {
             dx: 0,
             dy: 0,
             dz: 0,
-        },
+        };
     }
+    step_of(&mut minds[at])
 }
