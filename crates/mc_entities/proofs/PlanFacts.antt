@@ -85,28 +85,28 @@ still f (x ∷ xs) (suc i) d = still f xs i d
 
 -- the first i have moved, and of the minds as many were asked as there are mobs among them
 pub record IsTicking (plans : List (List Move)) (old : List Entity) (i mobs : ℕ) (entities : List Entity) (now : List (List Move)) : Type 0 where
-  pub entities : entities ≡ map (after_tick plans old) (take i old) ++ drop i old
-  pub mobs : mobs ≡ mobs_in (take i old)
+  pub rows : entities ≡ map (after_tick plans old) (take i old) ++ drop i old
+  pub count : mobs ≡ mobs_in (take i old)
   pub few : mobs ≤ i
-  pub plans : now ≡ asked mobs plans
+  pub left : now ≡ asked mobs plans
 
 pub ticking_next : (plans : List (List Move)) (high : ℤ) (old : List Entity) (i mobs : ℕ) (entities : List Entity) (now later : List (List Move)) (e new : Entity) (n : ℕ)
     → Rise eid_of (pos 0) old high → i < length old → IsTicking plans old i mobs entities now → e ≡ get_or entities i e
     → new ≡ moved_by now mobs e → later ≡ asked_by (is_mob e.kind) mobs now → n ≡ one_if (is_mob e.kind)
     → IsTicking plans old (i + 1) (mobs + n) (set entities i new) later
-ticking_next plans high old i mobs entities now later e new n r lt t is moved left count = record {
-  entities = ap (λ (x : Entity). set entities i x) moves ∙ map_over_more (after_tick plans old) old entities i e lt t.entities is;
-  mobs = rw count (ap (λ (m : ℕ). m + one_if (is_mob e.kind)) t.mobs ∙ sym grows);
-  few = few (is_mob e.kind) count;
-  plans = left ∙ ap (λ (ps : List (List Move)). asked_by (is_mob e.kind) mobs ps) t.plans ∙ turn (is_mob e.kind) count;
+ticking_next plans high old i mobs entities now later e new n r lt t is moved remains counted = record {
+  rows = ap (λ (x : Entity). set entities i x) moves ∙ map_over_more (after_tick plans old) old entities i e lt t.rows is;
+  count = rw counted (ap (λ (m : ℕ). m + one_if (is_mob e.kind)) t.count ∙ sym grows);
+  few = few (is_mob e.kind) counted;
+  left = remains ∙ ap (λ (ps : List (List Move)). asked_by (is_mob e.kind) mobs ps) t.left ∙ turn (is_mob e.kind) counted;
 }
   where
     here : e ≡ get_or old i e
-    here = is ∙ ap (λ (xs : List Entity). get_or xs i e) t.entities ∙ still (after_tick plans old) old i e
+    here = is ∙ ap (λ (xs : List Entity). get_or xs i e) t.rows ∙ still (after_tick plans old) old i e
     ranked : rank old e.eid ≡ mobs
-    ranked = ap (λ (x : Entity). rank old x.eid) here ∙ rank_at (pos 0) high old i e r lt ∙ sym t.mobs
+    ranked = ap (λ (x : Entity). rank old x.eid) here ∙ rank_at (pos 0) high old i e r lt ∙ sym t.count
     first : move_at now mobs ≡ move_at plans (rank old e.eid)
-    first = ap (λ (ps : List (List Move)). move_at ps mobs) t.plans ∙ move_asked mobs plans ∙ ap (λ (m : ℕ). move_at plans m) (sym ranked)
+    first = ap (λ (ps : List (List Move)). move_at ps mobs) t.left ∙ move_asked mobs plans ∙ ap (λ (m : ℕ). move_at plans m) (sym ranked)
     moves : new ≡ after_tick plans old e
     moves = moved ∙ ap (λ (by : Move). cond (is_mob e.kind) (stepped by e) e) first
     grows : mobs_in (take (i + 1) old) ≡ mobs_in (take i old) + one_if (is_mob e.kind)
@@ -115,5 +115,5 @@ ticking_next plans high old i mobs entities now later e new n r lt t is moved le
     few true c = let f = t.few in omega (arith, c, f)
     few false c = let f = t.few in omega (arith, c, f)
     turn : (b : Bool) → n ≡ one_if b → asked_by b mobs (asked mobs plans) ≡ asked (mobs + n) plans
-    turn true c = rw c (asked_next mobs plans ∙ ap (λ (m : ℕ). asked m plans) (omega arith))
-    turn false c = rw c (ap (λ (m : ℕ). asked m plans) (omega arith))
+    turn true c = let e : suc mobs ≡ mobs + n = omega (arith, c) in asked_next mobs plans ∙ ap (λ (m : ℕ). asked m plans) e
+    turn false c = let e : mobs ≡ mobs + n = omega (arith, c) in ap (λ (m : ℕ). asked m plans) e
