@@ -1,6 +1,6 @@
 -- What each change of a folk keeps of how it is kept.
 use Rattle.std.proofs.Common.{◌≡◌, ◌≢◌, ℕ, zero, suc, ◌+◌, ◌-◌, ◌≤◌, ◌<◌, List, [], ◌∷◌, ◌++◌, map, length, get_or, set, refl, sym, subst, ap, ◌∙◌, arith, min}
-use Rattle.std.specs.Prelude.{◌≤ℤ◌, ◌<ℤ◌, ◌==◌, ◌&&◌, Bool, true, false, cond, Result, Ok, is_ok, None, if◌then◌else◌}
+use Rattle.std.specs.Prelude.{◌≤ℤ◌, ◌<ℤ◌, ◌==◌, ◌&&◌, Bool, true, false, cond, Result, Ok, is_ok, Option, None, Some, IfSome, if◌then◌else◌}
 use Rattle.std.specs.List.{filter, remove, All}
 use Rattle.std.proofs.lemmas.Bool.{eq-eqb, true≢false}
 use Rattle.std.proofs.lemmas.Int.{ints}
@@ -11,7 +11,9 @@ use lib.IntN.{ℤ, pos}
 use Rattle.mc_fields.specs.declared.position.Spot.{Spot}
 use Rattle.mc_entities.specs.declared.entity.Entity.{Entity}
 use Rattle.mc_entities.specs.declared.entity.TheConstants.{DROPPED_MAX, EID_MAX}
-use Rattle.mc_entities.specs.Kinds.{IsKind, is_dropped}
+use Rattle.mc_entities.specs.Kinds.{IsKind, is_dropped, are_alike}
+use Rattle.mc_entities.specs.declared.entity.EntityKind.{EntityKind}
+use Rattle.mc_entities.specs.declared.entity.EntityKind.TheVariants.{Player, Dropped, Mob}
 use Rattle.mc_entities.specs.Numbers.{numbered, without, Rise}
 use Rattle.mc_entities.specs.Folk.{dropped_in, eid_of, told_eid, entity_of, with_entity, removed, FolkState, FolkValue}
 use Rattle.mc_entities.specs.Kept.{IsKept, IsPlaced, AreKinds, places, one_if}
@@ -114,13 +116,69 @@ changed_state w state high eid f i old new e r placed is change =
     let here = subst (λ (t : FolkState). IsPlaced eid_of eid i t.entities) (sym e) placed in
     ap (λ (es : List Entity). record state { entities = es }) (changed_placed eid_of eid (pos 0) high f state.entities i old new r here is change) ∙ ap (λ (t : FolkState). with_entity eid f t) e
 
-pub absent_removed : (eid : ℤ) (w : FolkValue) (state : FolkState) → entity_of eid w.state ≡ None → numbered told_eid eid w.state.told ≡ None → w.state ≡ removed eid w.state
-absent_removed eid w state none gone = sym (ap (λ (es : List Entity). record w.state { entities = es; told = without told_eid eid w.state.told }) (without_none eid_of eid w.state.entities none)
-    ∙ ap (λ (rows : List (ℤ × Spot)). record w.state { told = rows }) (without_none told_eid eid w.state.told gone))
-
 pub removed_state : (w : FolkValue) (state : FolkState) (high : ℤ) (eid : ℤ) (i : ℕ) (old : Entity) (now : List Entity) (left : List (ℤ × Spot)) → state ≡ w.state → Rise eid_of (pos 0) state.entities high
     → IsPlaced eid_of eid i w.state.entities → now ≡ remove state.entities i → left ≡ without told_eid eid state.told → record state { entities = now; told = left } ≡ removed eid w.state
 removed_state w state high eid i old now left e r placed is f =
     let here = subst (λ (t : FolkState). IsPlaced eid_of eid i t.entities) (sym e) placed in
     let rest : now ≡ without eid_of eid state.entities = is ∙ sym (without_at eid_of eid (pos 0) high state.entities i old r here.within (here.named old)) in
     rw (rest, f) (ap (λ (t : FolkState). removed eid t) e)
+
+-- one changed at its place, by what was seen of it
+pub kept_changed : (w : FolkValue) (es : List Entity) (told : List (ℤ × Spot)) (cap given dropped i : ℕ) (n : ℤ) (old new : Entity) → es ≡ w.state.entities → IsKept es told cap given dropped
+    → IsPlaced eid_of n i w.state.entities → old ≡ get_or es i old → new.eid ≡ old.eid → (IsKind old.kind → IsKind new.kind) → is_dropped new.kind ≡ is_dropped old.kind
+    → IsKept (set es i new) told cap given dropped
+kept_changed w es told cap given dropped i n old new e k placed is eid kind same =
+    let here = subst (λ (xs : List Entity). IsPlaced eid_of n i xs) (sym e) placed in
+    kept_set es told cap given dropped i n old new k here is eid (kind (kind_at es i old k.kinds here.within is)) same
+
+-- of the same variant, so as much a dropped item as before
+alike_dropped : (a b : EntityKind) → are_alike a b ≡ true → is_dropped b ≡ is_dropped a
+alike_dropped (Player u h) (Player v k) e = refl
+alike_dropped (Player u h) (Dropped i n) e = absurd cc
+alike_dropped (Player u h) Mob e = absurd cc
+alike_dropped (Dropped i n) (Player v k) e = absurd cc
+alike_dropped (Dropped i n) (Dropped j m) e = refl
+alike_dropped (Dropped i n) Mob e = absurd cc
+alike_dropped Mob (Player v k) e = absurd cc
+alike_dropped Mob (Dropped j m) e = absurd cc
+alike_dropped Mob Mob e = refl
+
+pub kept_variant : (w : FolkValue) (es : List Entity) (i : ℕ) (n : ℤ) (old : Entity) (kind : EntityKind) → es ≡ w.state.entities → IsPlaced eid_of n i w.state.entities → old ≡ get_or es i old
+    → IfSome (entity_of n w.state) (λ e. are_alike e.kind kind ≡ true) → is_dropped kind ≡ is_dropped old.kind
+kept_variant w es i n old kind e placed is alike =
+    let there : entity_of n w.state ≡ Some old = placed.is old ∙ ap (λ (x : Entity). Some x) (ap (λ (xs : List Entity). get_or xs i old) (sym e) ∙ sym is) in
+    alike_dropped old.kind kind (subst (λ (o : Option Entity). IfSome o (λ x. are_alike x.kind kind ≡ true)) there alike)
+
+-- what is counted of one that is there was counted
+pub counted_one : (w : FolkValue) (es : List Entity) (told : List (ℤ × Spot)) (cap given dropped i count : ℕ) (n : ℤ) (old : Entity) → es ≡ w.state.entities → IsKept es told cap given dropped
+    → IsPlaced eid_of n i w.state.entities → old ≡ get_or es i old → count ≡ one_if (is_dropped old.kind) → count ≤ dropped
+counted_one w es told cap given dropped i count n old e k placed is c =
+    let here = subst (λ (xs : List Entity). IsPlaced eid_of n i xs) (sym e) placed in
+    let h = count_remove (λ (x : Entity). is_dropped x.kind) es i old here.within in
+    let one : count ≡ one_if (is_dropped (get_or es i old).kind) = c ∙ ap (λ (x : Entity). one_if (is_dropped x.kind)) is in
+    let g = k.counted in omega (arith, h, one, g)
+
+pub kept_without : (w : FolkValue) (es now : List Entity) (told left : List (ℤ × Spot)) (cap room given dropped i count : ℕ) (n : ℤ) (old : Entity) → es ≡ w.state.entities → IsKept es told cap given dropped
+    → IsPlaced eid_of n i w.state.entities → old ≡ get_or es i old → count ≡ one_if (is_dropped old.kind) → now ≡ remove es i → left ≡ without told_eid n told → room ≡ cap
+    → IsKept now left room given (dropped - count)
+kept_without w es now told left cap room given dropped i count n old e k placed is c f g same =
+    let here = subst (λ (xs : List Entity). IsPlaced eid_of n i xs) (sym e) placed in
+    subst (λ (m : ℕ). IsKept now left m given (dropped - count)) (sym same) (kept_less es now told left cap given dropped i count n old k here is c f g)
+
+pub kept_forgotten : (es : List Entity) (told left : List (ℤ × Spot)) (cap room given dropped : ℕ) (n : ℤ) → IsKept es told cap given dropped → left ≡ without told_eid n told → room ≡ cap → IsKept es left room given dropped
+kept_forgotten es told left cap room given dropped n k e same = record {
+  rise = k.rise;
+  told_rise = subst (λ (xs : List (ℤ × Spot)). Rise told_eid (pos 0) xs (pos given)) (sym e) (rise_filter told_eid _ (pos 0) (pos given) told k.told_rise);
+  kinds = k.kinds;
+  numbers = k.numbers;
+  counted = k.counted;
+  few = k.few;
+  places = let f = k.places in omega (arith, f, same);
+}
+
+pub forgotten_state : (w : FolkValue) (state : FolkState) (n : ℤ) (left : List (ℤ × Spot)) → state ≡ w.state → entity_of n w.state ≡ None → left ≡ without told_eid n state.told → record state { told = left } ≡ removed n w.state
+forgotten_state w state n left e none f =
+    let gone : entity_of n state ≡ None = ap (λ (t : FolkState). entity_of n t) e ∙ none in
+    ap (λ (rows : List (ℤ × Spot)). record state { told = rows }) f
+    ∙ ap (λ (es : List Entity). record state { entities = es; told = without told_eid n state.told }) (sym (without_none eid_of n state.entities gone))
+    ∙ ap (λ (t : FolkState). removed n t) e

@@ -174,12 +174,13 @@ impl Folk {
         ensures state { self.new.state ≡ removed eid self.old.state }
         ensures keeps { self.old.reserve ≤ self.new.reserve }
     {
-        let Some(at) = self.place_of(&eid) else {
+        let place = self.place_of(&eid);
+        forget(&mut self.told, &eid);
+        let Some(at) = place else {
             return None;
         };
         let gone = self.entities.remove(at);
         self.dropped -= dropped_count(&gone.kind);
-        forget(&mut self.told, &eid);
         Some(gone)
     }
 
