@@ -17,7 +17,7 @@ use Rattle.mc_entities.specs.declared.entity.EntityKind.TheVariants.{Player, Dro
 use Rattle.mc_entities.specs.Numbers.{numbered, without, Rise}
 use Rattle.mc_entities.specs.Folk.{dropped_in, eid_of, told_eid, entity_of, with_entity, removed, FolkState, FolkValue}
 use Rattle.mc_entities.specs.Kept.{IsKept, IsPlaced, AreKinds, places, one_if}
-use Rattle.mc_entities.proofs.NumberFacts.{rise_more, rise_join, rise_set, rise_filter, count_set, count_remove, count_join, without_at, without_none, changed_none, changed_placed}
+use Rattle.mc_entities.proofs.NumberFacts.{rise_map, rise_more, rise_join, rise_set, rise_filter, count_set, count_remove, count_join, without_at, without_none, changed_none, changed_placed}
 
 below : (n : ℕ) → pos n <ℤ pos (n + 1)
 below n = omega (arith, ints)
@@ -182,3 +182,15 @@ forgotten_state w state n left e none f =
     ap (λ (rows : List (ℤ × Spot)). record state { told = rows }) f
     ∙ ap (λ (es : List Entity). record state { entities = es; told = without told_eid n state.told }) (sym (without_none eid_of n state.entities gone))
     ∙ ap (λ (t : FolkState). removed n t) e
+
+-- all spots are kept anew
+pub kept_settled : (es : List Entity) (told left : List (ℤ × Spot)) (cap room given dropped : ℕ) → IsKept es told cap given dropped → left ≡ map (λ (e : Entity). (e.eid, e.spot)) es → cap ≤ room → IsKept es left room given dropped
+kept_settled es told left cap room given dropped k e le = record {
+  rise = k.rise;
+  told_rise = subst (λ (xs : List (ℤ × Spot)). Rise told_eid (pos 0) xs (pos given)) (sym e) (rise_map eid_of told_eid (λ (x : Entity). (x.eid, x.spot)) (pos 0) (pos given) es (λ x. refl) k.rise);
+  kinds = k.kinds;
+  numbers = k.numbers;
+  counted = k.counted;
+  few = k.few;
+  places = let f = k.places in omega (arith, f, le);
+}

@@ -103,17 +103,23 @@ ticking_next plans high old i mobs entities now later e new n r lt t is moved re
   where
     here : e ≡ get_or old i e
     here = is ∙ ap (λ (xs : List Entity). get_or xs i e) t.rows ∙ still (after_tick plans old) old i e
+
     ranked : rank old e.eid ≡ mobs
     ranked = ap (λ (x : Entity). rank old x.eid) here ∙ rank_at (pos 0) high old i e r lt ∙ sym t.count
+
     first : move_at now mobs ≡ move_at plans (rank old e.eid)
     first = ap (λ (ps : List (List Move)). move_at ps mobs) t.left ∙ move_asked mobs plans ∙ ap (λ (m : ℕ). move_at plans m) (sym ranked)
+
     moves : new ≡ after_tick plans old e
     moves = moved ∙ ap (λ (by : Move). cond (is_mob e.kind) (stepped by e) e) first
+
     grows : mobs_in (take (i + 1) old) ≡ mobs_in (take i old) + one_if (is_mob e.kind)
     grows = length-filter_more (λ (x : Entity). is_mob x.kind) old i e lt ∙ ap (λ (x : Entity). mobs_in (take i old) + one_if (is_mob x.kind)) (sym here)
+
     few : (b : Bool) → n ≡ one_if b → mobs + n ≤ i + 1
     few true c = let f = t.few in omega (arith, c, f)
     few false c = let f = t.few in omega (arith, c, f)
+
     turn : (b : Bool) → n ≡ one_if b → asked_by b mobs (asked mobs plans) ≡ asked (mobs + n) plans
     turn true c = let e : suc mobs ≡ mobs + n = omega (arith, c) in asked_next mobs plans ∙ ap (λ (m : ℕ). asked m plans) e
     turn false c = let e : mobs ≡ mobs + n = omega (arith, c) in ap (λ (m : ℕ). asked m plans) e
