@@ -6,16 +6,18 @@ use Rattle.std.proofs.lemmas.Bool.{eq-eqb, true≢false}
 use Rattle.std.proofs.lemmas.Int.{ints}
 use Rattle.std.proofs.lemmas.List.{length-append}
 use Rattle.std.proofs.lemmas.List.Edits.{length-remove}
-use Rattle.std.proofs.lemmas.List.Elements.{All-append, All-set, All-filter}
+use Rattle.std.proofs.lemmas.List.Elements.{All-append, All-set, All-filter, All-map}
 use lib.IntN.{ℤ, pos}
 use Rattle.mc_fields.specs.declared.position.Spot.{Spot}
 use Rattle.mc_entities.specs.declared.entity.Entity.{Entity}
 use Rattle.mc_entities.specs.declared.entity.TheConstants.{DROPPED_MAX, EID_MAX}
-use Rattle.mc_entities.specs.Kinds.{IsKind, is_dropped, are_alike}
+use Rattle.mc_entities.specs.Kinds.{IsKind, is_dropped, is_mob, are_alike}
+use Rattle.mc_entities.specs.declared.mind.Move.{Move}
+use Rattle.mc_entities.specs.Plans.{move_at}
 use Rattle.mc_entities.specs.declared.entity.EntityKind.{EntityKind}
 use Rattle.mc_entities.specs.declared.entity.EntityKind.TheVariants.{Player, Dropped, Mob}
 use Rattle.mc_entities.specs.Numbers.{numbered, without, Rise}
-use Rattle.mc_entities.specs.Folk.{dropped_in, eid_of, told_eid, entity_of, with_entity, removed, FolkState, FolkValue}
+use Rattle.mc_entities.specs.Folk.{dropped_in, eid_of, told_eid, entity_of, with_entity, removed, FolkState, FolkValue, after_tick, rank, stepped}
 use Rattle.mc_entities.specs.Kept.{IsKept, IsPlaced, AreKinds, places, one_if}
 use Rattle.mc_entities.proofs.NumberFacts.{rise_map, rise_more, rise_join, rise_set, rise_filter, count_set, count_remove, count_join, without_at, without_none, changed_none, changed_placed}
 
@@ -194,3 +196,34 @@ kept_settled es told left cap room given dropped k e le = record {
   few = k.few;
   places = let f = k.places in omega (arith, f, le);
 }
+
+-- ---- mobs that move
+
+tick_keeps : (plans : List (List Move)) (es : List Entity) (e : Entity) → ((after_tick plans es e).eid ≡ e.eid) × ((after_tick plans es e).kind ≡ e.kind)
+tick_keeps plans es e = elim (is_mob e.kind) as (λ b. ((cond b (stepped (move_at plans (rank es e.eid)) e) e).eid ≡ e.eid) × ((cond b (stepped (move_at plans (rank es e.eid)) e) e).kind ≡ e.kind)) [
+  | true ↦ (refl, refl)
+  | false ↦ (refl, refl)
+]
+
+count_map : (f : Entity → Entity) (es : List Entity) → ((e : Entity) → (f e).kind ≡ e.kind) → dropped_in (map f es) ≡ dropped_in es
+count_map f [] same = refl
+count_map f (e ∷ es) same = ap (λ (k : EntityKind). length (cond (is_dropped k) (f e ∷ filter (λ (x : Entity). is_dropped x.kind) (map f es)) (filter (λ (x : Entity). is_dropped x.kind) (map f es)))) (same e) ∙ step (is_dropped e.kind) (count_map f es same)
+  where
+    step : (b : Bool) → dropped_in (map f es) ≡ dropped_in es → length (cond b (f e ∷ filter (λ (x : Entity). is_dropped x.kind) (map f es)) (filter (λ (x : Entity). is_dropped x.kind) (map f es))) ≡ length (cond b (e ∷ filter (λ (x : Entity). is_dropped x.kind) es) (filter (λ (x : Entity). is_dropped x.kind) es))
+    step true h = ap suc h
+    step false h = h
+
+length_map : (f : Entity → Entity) (es : List Entity) → length (map f es) ≡ length es
+length_map f [] = refl
+length_map f (e ∷ es) = ap suc (length_map f es)
+
+pub kept_ticked : (plans : List (List Move)) (es now : List Entity) (told : List (ℤ × Spot)) (cap given dropped : ℕ) → IsKept es told cap given dropped → now ≡ map (after_tick plans es) es → IsKept now told cap given dropped
+kept_ticked plans es now told cap given dropped k e = subst (λ (xs : List Entity). IsKept xs told cap given dropped) (sym e) (record {
+  rise = rise_map eid_of eid_of (after_tick plans es) (pos 0) (pos given) es (λ x. (tick_keeps plans es x).0) k.rise;
+  told_rise = k.told_rise;
+  kinds = All-map (λ (x : Entity). IsKind x.kind) (after_tick plans es) es (λ i d lt. subst (λ (kind : EntityKind). IsKind kind) (sym (tick_keeps plans es (get_or es i d)).1) (k.kinds i d lt));
+  numbers = k.numbers;
+  counted = k.counted ∙ sym (count_map (after_tick plans es) es (λ x. (tick_keeps plans es x).1));
+  few = k.few;
+  places = let l = length_map (after_tick plans es) es in let f = k.places in omega (arith, l, f);
+})
