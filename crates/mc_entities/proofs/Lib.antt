@@ -1,0 +1,4 @@
+mod NumberFacts
+mod ShiftFacts
+mod PlanFacts
+mod KeptFacts

@@ -1,0 +1,29 @@
+use Rattle.std.proofs.Common.{ap, refl, subst, w32}
+use Rattle.std.proofs.lemmas.Int.{to_z-of_z}
+use Rattle.mc_entities.specs.declared.entity.Entity.{Entity}
+use Rattle.std.specs.Prelude.{◌≡◌, None}
+use Rattle.mc_fields.specs.declared.position.Spot.{Spot}
+use Rattle.mc_entities.specs.Kept.{IsPlaced}
+use Rattle.mc_entities.specs.Folk.{FolkValue, entity_of, eid_of, stepped}
+use Rattle.mc_entities.proofs.KeptFacts.{absent_state, changed_state, kept_changed, kept_variant}
+use Rattle.mc_entities.proofs.folk.Folk.set_kind.Goals as goal
+
+pub returns-in_default-clause-state : goal.returns-in_default-clause-state
+returns-in_default-clause-state c = absent_state c.args.eid
+    (λ (e : Entity). record e { kind = c.args.kind }) c.args.self.now.state
+    (subst (λ n. entity_of n c.args.self.now.state ≡ None) (to_z-of_z w32 c.args.eid c.ranges.eid)
+    (c.place_of.ensures.none c.in_default.is))
+
+pub invariant_of-self : goal.invariant_of-self
+invariant_of-self c = kept_changed c.args.self.now c.self.inside.entities.items _ _ _ _ c.in-Some.at
+    c.args.eid c.index_mut.result.now _ (ap (λ (w : FolkValue). w.state.entities) c.self.view_is)
+    c.self.invariant (subst (λ n. IsPlaced eid_of n c.in-Some.at c.args.self.now.state.entities)
+    (to_z-of_z w32 c.args.eid c.ranges.eid) c.in-Some.ensures.some) c.index_mut.ensures.value refl (λ _. c.requires.range) (kept_variant c.args.self.now c.self.inside.entities.items c.in-Some.at c.args.eid c.index_mut.result.now c.args.kind (ap (λ (w : FolkValue). w.state.entities) c.self.view_is) (subst (λ n. IsPlaced eid_of n c.in-Some.at c.args.self.now.state.entities)
+    (to_z-of_z w32 c.args.eid c.ranges.eid) c.in-Some.ensures.some) c.index_mut.ensures.value c.requires.alike)
+
+pub returns-clause-state : goal.returns-clause-state
+returns-clause-state c = changed_state c.args.self.now _ _ c.args.eid
+    (λ (e : Entity). record e { kind = c.args.kind }) c.in-Some.at c.index_mut.result.now _
+    (ap (λ (w : FolkValue). w.state) c.self.view_is) c.self.invariant.rise (subst (λ n. IsPlaced eid_of n c.in-Some.at c.args.self.now.state.entities)
+    (to_z-of_z w32 c.args.eid c.ranges.eid) c.in-Some.ensures.some)
+    c.index_mut.ensures.value refl

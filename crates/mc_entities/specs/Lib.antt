@@ -1,0 +1,6 @@
+pub mod Kinds
+pub mod Numbers
+pub mod Shift
+pub mod Plans
+pub mod Folk
+pub mod Kept
