@@ -1,5 +1,5 @@
 -- What each change of a folk keeps of how it is kept.
-use Rattle.std.proofs.Common.{◌≡◌, ◌≢◌, ℕ, zero, suc, ◌+◌, ◌-◌, ◌≤◌, ◌<◌, List, [], ◌∷◌, ◌++◌, map, length, get_or, set, refl, sym, subst, ap, ◌∙◌, arith, min}
+use Rattle.std.proofs.Common.{◌≡◌, ◌≢◌, ℕ, zero, suc, ◌+◌, ◌-◌, ◌≤◌, ◌<◌, List, [], ◌∷◌, ◌++◌, map, length, get_or, set, refl, sym, subst, ap, ◌∙◌, arith}
 use Rattle.std.specs.Prelude.{◌≤ℤ◌, ◌<ℤ◌, ◌==◌, ◌&&◌, Bool, true, false, cond, Result, Ok, is_ok, Option, None, Some, IfSome, if◌then◌else◌}
 use Rattle.std.specs.List.{filter, remove, All}
 use Rattle.std.proofs.lemmas.Bool.{eq-eqb, true≢false}
@@ -16,7 +16,7 @@ use Rattle.mc_entities.specs.declared.mind.Move.{Move}
 use Rattle.mc_entities.specs.Plans.{move_at}
 use Rattle.mc_entities.specs.declared.entity.EntityKind.{EntityKind}
 use Rattle.mc_entities.specs.declared.entity.EntityKind.TheVariants.{Player, Dropped, Mob}
-use Rattle.mc_entities.specs.Numbers.{numbered, without, Rise}
+use Rattle.mc_entities.specs.Numbers.{without, Rise}
 use Rattle.mc_entities.specs.Folk.{dropped_in, eid_of, told_eid, entity_of, with_entity, removed, FolkState, FolkValue, after_tick, rank, stepped}
 use Rattle.mc_entities.specs.Kept.{IsKept, IsPlaced, AreKinds, places, one_if}
 use Rattle.mc_entities.proofs.NumberFacts.{rise_map, rise_more, rise_join, rise_set, rise_filter, count_set, count_remove, count_join, without_at, without_none, changed_none, changed_placed}

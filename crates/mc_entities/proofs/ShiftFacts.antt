@@ -1,8 +1,8 @@
 -- A coordinate after a step, and a spot after a move.
-use Rattle.std.proofs.Common.{◌≡◌, ℕ, refl, sym, ap, ◌∙◌, arith}
+use Rattle.std.proofs.Common.{◌≡◌, refl, arith}
 use Rattle.std.specs.Prelude.{◌≤ℤ◌, ◌<ℤ◌, ◌+ℤ◌, ◌&&◌, Bool, true, false, cond, int_le, Option, Some, None}
 use Rattle.std.proofs.lemmas.Int.{ints}
-use lib.IntN.{ℤ, pos, neg_ℤ}
+use lib.IntN.{ℤ, neg_ℤ}
 use Rattle.mc_fields.specs.declared.position.Spot.{Spot}
 use Rattle.mc_entities.specs.declared.mind.Move.{Move}
 use Rattle.mc_entities.specs.Shift.{within, added, shifted_spot}

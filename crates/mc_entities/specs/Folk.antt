@@ -1,5 +1,5 @@
 -- The entities of a world by their numbers (rules of this project).
-use Rattle.std.specs.Prelude.{◌≡◌, ◌≤◌, ℕ, ◌+◌, ◌-◌, ◌==◌, Bool, ◌&&◌, List, [], ◌∷◌, ◌++◌, map}
+use Rattle.std.specs.Prelude.{◌≤◌, ℕ, ◌+◌, ◌-◌, ◌==◌, Bool, ◌&&◌, List, [], ◌∷◌, ◌++◌, map}
 use Rattle.std.specs.Prelude.{length, min, Option, option_map, int_lt, if◌then◌else◌}
 use Rattle.std.specs.List.{filter}
 use lib.IntN.{ℤ, pos}

@@ -1,5 +1,5 @@
 -- What minds still mean to do, and the moves that they are asked for (rules of this project).
-use Rattle.std.specs.Prelude.{ℕ, Bool, List, [], ◌∷◌, ◌++◌, length, map, take, drop, slice_index_or}
+use Rattle.std.specs.Prelude.{ℕ, Bool, List, [], ◌∷◌, ◌++◌, map, take, drop, slice_index_or}
 use Rattle.std.specs.Prelude.{slice_set, if◌then◌else◌}
 use lib.IntN.{pos}
 use Rattle.mc_entities.specs.declared.mind.Move.{Move}

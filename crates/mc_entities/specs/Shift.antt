@@ -1,5 +1,5 @@
 -- How far spots go, and how a move changes one (rules of this project).
-use Rattle.std.specs.Prelude.{ℕ, Bool, ◌&&◌, ◌+ℤ◌, int_le, Option, Some, None, if◌then◌else◌}
+use Rattle.std.specs.Prelude.{Bool, ◌&&◌, ◌+ℤ◌, int_le, Option, Some, None, if◌then◌else◌}
 use lib.IntN.{ℤ, neg_ℤ}
 use Rattle.mc_fields.specs.declared.position.Spot.{Spot}
 use Rattle.mc_entities.specs.declared.mind.Move.{Move}

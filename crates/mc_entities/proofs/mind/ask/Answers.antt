@@ -1,5 +1,5 @@
-use Rattle.std.proofs.Common.{rules, arith}
-use Rattle.mc_entities.proofs.PlanFacts.{plans_set, plans_past}
+use Rattle.std.proofs.Common.{rules}
+use Rattle.mc_entities.proofs.PlanFacts.{plans_set}
 use Rattle.mc_entities.proofs.mind.ask.Goals as goal
 
 pub returns-clause-rest : goal.returns-clause-rest

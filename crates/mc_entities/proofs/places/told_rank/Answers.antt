@@ -2,7 +2,6 @@ use Rattle.std.proofs.Common.{rules}
 use Rattle.std.specs.Prelude.{ℤ, int_lt}
 use Rattle.std.proofs.lemmas.List.Sorted.{IsPartitionPoint-from_clause}
 use Rattle.mc_fields.specs.declared.position.Spot.{Spot}
-use Rattle.mc_entities.proofs.NumberFacts.{rise_parted}
 use Rattle.mc_entities.proofs.places.told_rank.Goals as goal
 
 pub returns-clause-point : goal.returns-clause-point

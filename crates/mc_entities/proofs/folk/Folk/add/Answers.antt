@@ -1,4 +1,4 @@
-use Rattle.std.proofs.Common.{rules, ap, sym, subst, ◌∙◌, ◌<◌, refl}
+use Rattle.std.proofs.Common.{rules, ap, sym, subst, ◌∙◌, ◌<◌}
 use Rattle.mc_entities.specs.Folk.{FolkValue, is_full, is_spent}
 use Rattle.mc_entities.proofs.KeptFacts.{kept_more, pushed}
 use Rattle.mc_entities.proofs.folk.Folk.add.Goals as goal

@@ -2,9 +2,8 @@ use Rattle.std.proofs.Common.{ap, refl, subst, w32}
 use Rattle.std.proofs.lemmas.Int.{to_z-of_z}
 use Rattle.mc_entities.specs.declared.entity.Entity.{Entity}
 use Rattle.std.specs.Prelude.{◌≡◌, None}
-use Rattle.mc_fields.specs.declared.position.Spot.{Spot}
 use Rattle.mc_entities.specs.Kept.{IsPlaced}
-use Rattle.mc_entities.specs.Folk.{FolkValue, entity_of, eid_of, stepped}
+use Rattle.mc_entities.specs.Folk.{FolkValue, entity_of, eid_of}
 use Rattle.mc_entities.proofs.KeptFacts.{absent_state, changed_state, kept_changed}
 use Rattle.mc_entities.proofs.folk.Folk.place.Goals as goal
 

@@ -1,4 +1,4 @@
-use Rattle.std.proofs.Common.{ap, refl, subst, w32, rules}
+use Rattle.std.proofs.Common.{ap, subst, w32}
 use Rattle.std.specs.Prelude.{◌≡◌, None}
 use Rattle.std.proofs.lemmas.Int.{to_z-of_z}
 use Rattle.mc_entities.specs.Numbers.{without}

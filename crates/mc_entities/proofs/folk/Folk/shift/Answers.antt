@@ -1,6 +1,5 @@
 use Rattle.std.proofs.Common.{ap, refl, subst, w32}
 use Rattle.std.proofs.lemmas.Int.{to_z-of_z}
-use Rattle.mc_entities.specs.declared.entity.Entity.{Entity}
 use Rattle.std.specs.Prelude.{◌≡◌, None}
 use Rattle.mc_fields.specs.declared.position.Spot.{Spot}
 use Rattle.mc_entities.specs.Kept.{IsPlaced}

@@ -1,4 +1,3 @@
-use Rattle.std.proofs.Common.{rules}
 use Rattle.mc_entities.proofs.KeptFacts.{kept_ticked}
 use Rattle.mc_entities.proofs.folk.Folk.tick.Goals as goal
 
