@@ -1,4 +1,4 @@
-//! A table of rows: each names a call of the ten lowest crates and what it is given, and is
+//! A table of rows: each names a call of the eleven lowest crates and what it is given, and is
 //! repeated with what the call answers. It stands on those crates and on `hex` and `bytes`.
 //!
 //! It has no contract of its own: the table that it is run on says what each row answers.
@@ -26,6 +26,7 @@ mod parts;
 mod runs;
 mod slots;
 mod up;
+mod views;
 mod windows;
 mod words;
 
@@ -34,6 +35,7 @@ use lands::Ground;
 use mc_column::Column;
 use mc_land::Terrain;
 use mc_nbt::NoMemory;
+use mc_view::Tracker;
 use std::alloc::Global;
 use std::io;
 use std::io::{BufWriter, Write};
@@ -44,13 +46,15 @@ use words::Words;
 struct Bench {
     column: Column,
     ground: Ground,
+    tracker: Tracker,
 }
 
-/// A column of air and the flat land.
+/// A column of air, the flat land, and a client that was told of nobody.
 fn new_bench(alloc: Global) -> Result<Bench, NoMemory> {
     Ok(Bench {
         column: Column::empty(alloc, 0)?,
         ground: Ground::new(alloc, Terrain::Flat),
+        tracker: Tracker::new(alloc),
     })
 }
 
@@ -74,6 +78,9 @@ enum Call {
     Column,
     Land,
     Terrain,
+    View,
+    Form,
+    Tracker,
 }
 
 /// The call that a word names.
@@ -96,6 +103,9 @@ fn call_of(name: &str) -> Option<Call> {
         "column" => Some(Call::Column),
         "land" => Some(Call::Land),
         "terrain" => Some(Call::Terrain),
+        "view" => Some(Call::View),
+        "form" => Some(Call::Form),
+        "tracker" => Some(Call::Tracker),
         _ => None,
     }
 }
@@ -120,6 +130,9 @@ fn answer_call(bench: &mut Bench, call: Call, words: &mut Words<'_>, answer: &mu
         Call::Column => columns::column(&mut bench.column, words, answer),
         Call::Land => lands::land(&mut bench.ground, words, answer),
         Call::Terrain => lands::terrain(words, answer),
+        Call::View => views::view(words, answer),
+        Call::Form => views::form(words, answer),
+        Call::Tracker => views::tracker(&mut bench.tracker, words, answer),
     }
 }
 

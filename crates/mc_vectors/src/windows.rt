@@ -151,7 +151,7 @@ fn set_word(window: &mut Open, word: &str) -> Option<()> {
 }
 
 /// The pile of a word.
-fn pile_of(word: &str) -> Option<Pile> {
+pub fn pile_of(word: &str) -> Option<Pile> {
     if word == "empty" {
         return Some(Pile::Empty);
     }

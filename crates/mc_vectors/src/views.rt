@@ -1,0 +1,203 @@
+//! Views and what a client is told: `view CALL VIEW ..` works on views, each `CX CZ D`; `form` compares
+//! two spots, each `X Y Z YAW PITCH`; and `tracker CALL ..` works on the tracker that the rows before
+//! left. A pile is one word, `IDxCOUNT:DAMAGE` or `empty`.
+
+use crate::answer::Answer;
+use crate::windows::pile_of;
+use crate::words::Words;
+use mc_fields::Spot;
+use mc_slots::Pile;
+use mc_view::{Columns, Form, Moves, Tracker, ViewSet};
+
+/// A call of a view or of a tracker.
+#[derive(Clone, Copy)]
+enum Call {
+    Has,
+    All,
+    Entered,
+    Left,
+    New,
+    Knows,
+    Known,
+    Meet,
+    Moves,
+    Pile,
+    Lose,
+}
+
+/// The call that a word names.
+fn call_of(name: &str) -> Option<Call> {
+    match name {
+        "has" => Some(Call::Has),
+        "all" => Some(Call::All),
+        "entered" => Some(Call::Entered),
+        "left" => Some(Call::Left),
+        "new" => Some(Call::New),
+        "knows" => Some(Call::Knows),
+        "known" => Some(Call::Known),
+        "meet" => Some(Call::Meet),
+        "moves" => Some(Call::Moves),
+        "pile" => Some(Call::Pile),
+        "lose" => Some(Call::Lose),
+        _ => None,
+    }
+}
+
+/// The next three words as a view that there can be.
+fn view_in(words: &mut Words<'_>) -> Option<ViewSet> {
+    let cx: i32 = words.number();
+    let cz: i32 = words.number();
+    let d: u8 = words.number();
+    if cx < -1_875_000 || 1_875_000 < cx {
+        return None;
+    }
+    if cz < -1_875_000 || 1_875_000 < cz || 8 < d {
+        return None;
+    }
+    Some(ViewSet::of(cx, cz, d))
+}
+
+/// The next five words as a spot.
+fn spot_in(words: &mut Words<'_>) -> Spot {
+    Spot {
+        x: words.number(),
+        y: words.number(),
+        z: words.number(),
+        yaw: words.number(),
+        pitch: words.number(),
+    }
+}
+
+/// The next word as a pile.
+fn pile_in(words: &mut Words<'_>) -> Pile {
+    match pile_of(words.word()) {
+        Some(pile) => pile,
+        None => {
+            words.fail();
+            Pile::Empty
+        }
+    }
+}
+
+/// Answers a row of views.
+pub fn view(words: &mut Words<'_>, answer: &mut Answer) {
+    let Some(call) = call_of(words.word()) else {
+        return words.fail();
+    };
+    let Some(view) = view_in(words) else {
+        return words.fail();
+    };
+    match call {
+        Call::Has => answer.word(view.has(words.number(), words.number())),
+        Call::All => put_columns(view.all(), answer),
+        Call::Entered => match view_in(words) {
+            Some(old) => put_columns(view.entered(&old), answer),
+            None => words.fail(),
+        },
+        Call::Left => match view_in(words) {
+            Some(old) => put_columns(view.left(&old), answer),
+            None => words.fail(),
+        },
+        _ => words.fail(),
+    }
+}
+
+/// Puts how many columns there are, the first and the last.
+fn put_columns(columns: Columns, answer: &mut Answer) {
+    let mut count: u32 = 0;
+    let mut first = None;
+    let mut last = None;
+    for place in columns {
+        count = count.saturating_add(1);
+        first = first.or(Some(place));
+        last = Some(place);
+    }
+    answer.word(count);
+    put_place(first, answer);
+    put_place(last, answer);
+}
+
+/// Puts the numbers of a column, where there is one.
+fn put_place(place: Option<(i32, i32)>, answer: &mut Answer) {
+    if let Some((cx, cz)) = place {
+        answer.word(cx);
+        answer.word(cz);
+    }
+}
+
+/// Answers a row that compares two spots.
+pub fn form(words: &mut Words<'_>, answer: &mut Answer) {
+    let old = spot_in(words);
+    let new = spot_in(words);
+    put_moves(mc_view::form(old, new), answer);
+}
+
+/// Puts how a change is told, and whether the head turns.
+fn put_moves(moves: Moves, answer: &mut Answer) {
+    match moves.form {
+        Form::Still => answer.word("Still"),
+        Form::Step(dx, dy, dz) => put_step("Step", dx, dy, dz, answer),
+        Form::StepTurn(dx, dy, dz) => put_step("StepTurn", dx, dy, dz, answer),
+        Form::Turn => answer.word("Turn"),
+        Form::Jump => answer.word("Jump"),
+    }
+    if moves.head {
+        answer.word("head");
+    }
+}
+
+/// Puts a step.
+fn put_step(name: &str, dx: i8, dy: i8, dz: i8, answer: &mut Answer) {
+    answer.word(name);
+    answer.word(dx);
+    answer.word(dy);
+    answer.word(dz);
+}
+
+/// Answers a row of the tracker.
+pub fn tracker(tracker: &mut Tracker, words: &mut Words<'_>, answer: &mut Answer) {
+    match call_of(words.word()) {
+        Some(Call::New) => *tracker = Tracker::new(words.alloc),
+        Some(Call::Knows) => answer.word(tracker.knows(words.number())),
+        Some(Call::Known) => match tracker.known(words.number()) {
+            Some(eid) => answer.word(eid),
+            None => answer.word("none"),
+        },
+        Some(Call::Meet) => meet(tracker, words, answer),
+        Some(Call::Moves) => moves(tracker, words, answer),
+        Some(Call::Pile) => pile(tracker, words, answer),
+        Some(Call::Lose) => answer.word(tracker.lose(words.number())),
+        _ => words.fail(),
+    }
+}
+
+/// Tells of an entity that is not known.
+fn meet(tracker: &mut Tracker, words: &mut Words<'_>, answer: &mut Answer) {
+    let eid = words.number();
+    let spot = spot_in(words);
+    let pile = pile_in(words);
+    if tracker.knows(eid) {
+        return words.fail();
+    }
+    answer.needs(tracker.meet(eid, spot, pile));
+}
+
+/// Tells where a known entity is.
+fn moves(tracker: &mut Tracker, words: &mut Words<'_>, answer: &mut Answer) {
+    let eid = words.number();
+    let spot = spot_in(words);
+    if !tracker.knows(eid) {
+        return words.fail();
+    }
+    put_moves(tracker.moves(eid, spot), answer);
+}
+
+/// Tells what a known entity holds or is.
+fn pile(tracker: &mut Tracker, words: &mut Words<'_>, answer: &mut Answer) {
+    let eid = words.number();
+    let pile = pile_in(words);
+    if !tracker.knows(eid) {
+        return words.fail();
+    }
+    answer.word(tracker.pile(eid, pile));
+}
