@@ -25,7 +25,7 @@ fn push_repeated(bytes: &mut Vec<u8>, text: &str) -> Option<()> {
 /// Appends a unit so many times.
 fn push_times(bytes: &mut Vec<u8>, unit: &[u8], count: usize) -> Option<()> {
     if let [byte] = unit {
-        return bytes.resize(count, *byte).ok();
+        return bytes.resize(bytes.len().saturating_add(count), *byte).ok();
     }
     for _ in 0..count {
         push_plain(bytes, unit)?;
