@@ -1,3 +1,4 @@
+pub mod FaultText
 pub mod Kinds
 pub mod Numbers
 pub mod Shift

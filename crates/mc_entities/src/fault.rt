@@ -25,12 +25,17 @@ impl From<NoMemory> for FolkFault {
 }
 
 impl fmt::Display for FolkFault {
+    ghost use Rattle.std.specs.Prelude.{Some};
+    ghost use Rattle.mc_entities.specs.FaultText.{folk_fault_text};
+
+    ghost output = { λ fault. Some (folk_fault_text fault) };
+
     fn fmt<W: fmt::Write>(&self, f: &mut fmt::Formatter<W>) -> fmt::Result {
-        f.write_str(match self {
-            FolkFault::Full => "too many dropped items",
-            FolkFault::Spent => "no entity number is left",
-            FolkFault::NoMemory => "out of memory",
-        })
+        match self {
+            FolkFault::Full => f.write_str("too many dropped items"),
+            FolkFault::Spent => f.write_str("no entity number is left"),
+            FolkFault::NoMemory => f.write_str("out of memory"),
+        }
     }
 }
 
