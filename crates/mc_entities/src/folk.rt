@@ -73,6 +73,19 @@ impl Folk {
         }
     }
 
+    /// A folk of nobody, of which so many numbers were given.
+    #[cfg(test)]
+    pub(crate) fn after(alloc: Global, given: u32) -> Folk
+        requires { given ≤ EID_MAX }
+    {
+        Folk {
+            entities: Vec::new(alloc),
+            told: Vec::new(alloc),
+            given,
+            dropped: 0,
+        }
+    }
+
     /// How many more dropped items may be added.
     pub fn room(&self) -> u32
         ensures { result ≡ room_of self.now.state }

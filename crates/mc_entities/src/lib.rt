@@ -12,6 +12,8 @@ mod folk;
 mod mind;
 mod places;
 mod shifting;
+#[cfg(test)]
+mod tests;
 mod ticking;
 
 pub use entity::{DROPPED_MAX, EID_MAX, Entity, EntityKind};
