@@ -4,8 +4,9 @@ use Rattle.std.specs.Prelude.{◌==◌, Bool, true, false, cond, Option, Some, N
 use Rattle.std.proofs.lemmas.Bool.{eqb-true}
 use Rattle.mc_model.specs.World.{World, Session, found, put}
 use Rattle.mc_model.specs.Step.{changed}
+use Rattle.mc_model.specs.PlainWorld.{Rise}
 use Rattle.mc_model.specs.Orderly.{AreApart}
-use Rattle.mc_model.proofs.Sessions.{other_number, same_number, found_id, found_map, apart_map}
+use Rattle.mc_model.proofs.Sessions.{other_number, same_number, found_id, found_map, apart_map, rise_map}
 
 -- only the part of one connection changed, and the count of entity numbers
 pub record Beside (k : ℕ) (w v : World) : Type 0 where
@@ -18,6 +19,7 @@ pub record Beside (k : ℕ) (w v : World) : Type 0 where
   pub others : (j : ℕ) → j ≢ k → found j v.sessions ≡ found j w.sessions
   pub none : (j : ℕ) → found j w.sessions ≡ None → found j v.sessions ≡ None
   pub apart : AreApart w.sessions → AreApart v.sessions
+  pub rise : (low high : ℕ) → Rise low w.sessions high → Rise low v.sessions high
 
 pub beside_same : (k : ℕ) (w : World) (eids : ℕ) → Beside k w (record w { eids = eids })
 beside_same k w eids = record {
@@ -30,6 +32,7 @@ beside_same k w eids = record {
   others = λ j ne. refl;
   none = λ j e. e;
   apart = λ a. a;
+  rise = λ low high r. r;
 }
 
 pub beside_onward : (k : ℕ) (w v u : World) → Beside k w v → Beside k v u → Beside k w u
@@ -43,6 +46,7 @@ beside_onward k w v u b c = record {
   others = λ j ne. c.others j ne ∙ b.others j ne;
   none = λ j e. c.none j (b.none j e);
   apart = λ a. c.apart (b.apart a);
+  rise = λ low high r. c.rise low high (b.rise low high r);
 }
 
 -- ---- one connection changed
@@ -68,6 +72,7 @@ beside_changed k w f keeps = record {
   others = λ j ne. found_map j _ (at_keeps k f keeps) w.sessions ∙ found_other j k f ne (found j w.sessions) (found_id j w.sessions);
   none = λ j e. found_map j _ (at_keeps k f keeps) w.sessions ∙ ap (option_map (λ (t : Session). if t.id == k then f t else t)) e;
   apart = apart_map _ (at_keeps k f keeps) w.sessions;
+  rise = λ low high. rise_map _ (at_keeps k f keeps) low high w.sessions;
 }
 
 pub found_changed : (k : ℕ) (w : World) (f : Session → Session) (s : Session) → ((t : Session) → t.id ≡ k → (f t).id ≡ t.id) → found k w.sessions ≡ Some s → found k (changed w k f).sessions ≡ Some (f s)

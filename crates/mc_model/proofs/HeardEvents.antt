@@ -1,19 +1,25 @@
--- Each event keeps what was handed to a connection heard, and so does a run.
+-- Each event keeps what was handed to a connection decoded by the first frame of what came from it, and so does a run.
 use Rattle.std.proofs.Common.{◌≡◌, ◌≢◌, ℕ, List, [], ◌∷◌, ◌++◌, refl, sym, subst, ap, ◌∙◌, append_assoc, arith}
-use Rattle.std.specs.Prelude.{◌==◌, ◌&&◌, not, Bool, true, false, cond, Option, Some, None}
+use Rattle.std.specs.Prelude.{◌==◌, ◌&&◌, not, is_some, Bool, true, false, cond, Option, Some, None}
 use Rattle.std.proofs.lemmas.Bool.{eqb-true, eq-eqb}
 use Rattle.std.proofs.lemmas.List.{append-nil}
 use Rattle.mc_nbt.specs.Reading.{IsBytes}
 use Rattle.mc_land.specs.declared.terrain.Terrain.{Terrain}
-use Rattle.mc_model.specs.Hearing.{Sent, Ear, for_status, IsHeard}
+use Rattle.mc_frame.specs.Cut.{Cut}
+use Rattle.mc_frame.proofs.Cuts.{unique}
+use Rattle.mc_model.specs.declared.stage.Stage.TheVariants as stages
+use Rattle.mc_model.specs.Hearing.{Sent, Ear, bytes_of, heard}
+use Rattle.mc_model.specs.Decoding.{decoder_of, IsDecoded}
 use Rattle.mc_model.specs.World.{World, Session, AreSettings, new_world, found}
-use Rattle.mc_model.specs.Step.{Event, joined, came, left, ticked, took, forgot, Turn, is_new, is_done, on_bytes, step}
-use Rattle.mc_model.specs.Run.{to, handed, stream, AreBytes}
+use Rattle.mc_model.specs.Step.{Event, joined, came as arrived, left, ticked, took, forgot, Turn, is_new, is_done, on_bytes, step}
+use Rattle.mc_model.specs.Run.{to, handed, stream, received_at, received, AreBytes}
 use Rattle.mc_model.proofs.Hears.{heard_so}
 use Rattle.mc_model.proofs.Sessions.{some_none, one_some}
 use Rattle.mc_model.proofs.Frames.{no_bytes}
 use Rattle.mc_model.proofs.Sound.{Sound}
-use Rattle.mc_model.proofs.Listens.{Listens, AreHeard, listens_heard}
+use Rattle.mc_model.proofs.Beside.{Beside}
+use Rattle.mc_model.proofs.FitsBytes.{bytes_joined}
+use Rattle.mc_model.proofs.Listens.{Listens, AreHeard, none_heard, listens_heard, listens_more}
 use Rattle.mc_model.proofs.Heeds.{Heeds}
 use Rattle.mc_model.proofs.HeedsFrames.{bytes_heed}
 use Rattle.mc_model.proofs.HeardRun.{Kept, Steps, gone_steps, took_steps}
@@ -27,107 +33,168 @@ to_one : (j k : ℕ) (packets : List Sent) (b : Bool) → (j == k) ≡ b → to 
 to_one j k packets true is = ap (λ (t : Bool). cond t packets [] ++ []) is ∙ append-nil packets
 to_one j k packets false is = ap (λ (t : Bool). cond t packets [] ++ []) is
 
--- a turn that is heeded
-heeded_kept : (k j : ℕ) (w : World) (s : Session) (t : Turn) (earlier : List Sent) → found j w.sessions ≡ Some s → Heeds j w s t
-    → Sound w → Kept k w earlier → Kept k t.world (earlier ++ to k ((j, t.handed) ∷ []))
-heeded_kept k j w s t earlier e h sound kept = step (j == k) refl
-  where
-    P : List Sent → Type 0
-    P ps = Kept k t.world (earlier ++ ps)
+-- a turn of the connection itself that is heeded, by bytes of its own
+own_kept : (k : ℕ) (w : World) (s : Session) (bytes came : List ℕ) (t : Turn) (earlier : List Sent) → found k w.sessions ≡ Some s
+    → Heeds (decoder_of (came ++ bytes)) (s.stage ≡ stages.Hand) (s.rest ++ bytes) k w s t → IsBytes bytes → Sound w → Kept k w came earlier
+    → Kept k t.world (came ++ bytes) (earlier ++ t.handed)
+own_kept k w s bytes came t earlier e h b sound kept =
+    let l = h.speaks earlier (listens_more came bytes s.stage earlier kept.bytes (kept.here s e)) in
+    let R : Session → Type 0 = λ v. Listens (decoder_of (came ++ bytes)) v.stage (earlier ++ t.handed) in
+    let W : Session → Type 0 = λ v. v.stage ≡ stages.Hand → came ++ bytes ≡ v.rest in
+    let N : Option ℕ → Type 0 = λ o. is_new k o ≡ true in
+    let unread : W h.session = λ at. let was = h.waits at in ap (λ (bs : List ℕ). bs ++ bytes) (kept.waits s e was.0) ∙ sym was.1 in
+    record {
+      here = λ u now. subst R (one_some h.session u (found k t.world.sessions) h.there now) l;
+      waits = λ u now. subst W (one_some h.session u (found k t.world.sessions) h.there now) unread;
+      early = λ new. absurd (some_none s (found k w.sessions) e (sound.fresh k (subst N h.beside.last new)));
+      heard = listens_heard (decoder_of (came ++ bytes)) h.session.stage (earlier ++ t.handed) l;
+      bytes = bytes_joined came bytes kept.bytes b;
+    }
 
-    step : (b : Bool) → (j == k) ≡ b → P (to k ((j, t.handed) ∷ []))
-    step true is =
-        let same : j ≡ k = eqb-true j k is in
-        let F : ℕ → Type 0 = λ n. found n w.sessions ≡ Some s in
-        let G : ℕ → Type 0 = λ n. found n t.world.sessions ≡ Some h.session in
-        let mine : found k w.sessions ≡ Some s = subst F same e in
-        let there : found k t.world.sessions ≡ Some h.session = subst G same h.there in
-        let l = h.speaks earlier (kept.here s mine) in
-        let R : Session → Type 0 = λ v. Listens v.stage (earlier ++ t.handed) in
-        let N : Option ℕ → Type 0 = λ o. is_new k o ≡ true in
-        subst P (sym (to_one j k t.handed true is)) (record {
-          here = λ u now. subst R (one_some h.session u (found k t.world.sessions) there now) l;
-          early = λ new. absurd (some_none s (found k w.sessions) mine (sound.fresh k (subst N h.beside.last new)));
-          heard = listens_heard h.session.stage (earlier ++ t.handed) l;
-        })
-    step false is =
-        let other : k ≢ j = (λ same. let clash : true ≡ false = sym (eq-eqb j k (sym same)) ∙ is in cc) in
-        let N : Option ℕ → Type 0 = λ o. is_new k o ≡ true in
-        let none : earlier ≡ earlier ++ [] = sym (append-nil earlier) in
-        subst P (sym (to_one j k t.handed false is)) (subst (Kept k t.world) none (record {
-          here = λ u now. kept.here u (sym (h.beside.others k other) ∙ now);
-          early = λ new. kept.early (subst N h.beside.last new);
-          heard = kept.heard;
-        }))
+-- and one of another connection
+other_kept : (k j : ℕ) (w : World) (came : List ℕ) (t : Turn) (earlier : List Sent) → k ≢ j → Beside j w t.world → Kept k w came earlier
+    → Kept k t.world came earlier
+other_kept k j w came t earlier other beside kept =
+    let N : Option ℕ → Type 0 = λ o. is_new k o ≡ true in
+    record {
+      here = λ u now. kept.here u (sym (beside.others k other) ∙ now);
+      waits = λ u now. kept.waits u (sym (beside.others k other) ∙ now);
+      early = λ new. kept.early (subst N beside.last new);
+      heard = kept.heard;
+      bytes = kept.bytes;
+    }
+
+-- where nothing came and nothing was handed out all is as it was
+nothing_more : (k : ℕ) (v : World) (came more : List ℕ) (earlier later : List Sent) → more ≡ [] → later ≡ [] → Steps k v came earlier
+    → Steps k v (came ++ more) (earlier ++ later)
+nothing_more k v came more earlier later none quiet s =
+    let same : came ≡ came ++ more = sym (append-nil came) ∙ ap (λ (bs : List ℕ). came ++ bs) (sym none) in
+    let as_before : earlier ≡ earlier ++ later = sym (append-nil earlier) ∙ ap (λ (ps : List Sent). earlier ++ ps) (sym quiet) in
+    let P : List ℕ → Type 0 = λ bs. Steps k v bs (earlier ++ later) in
+    subst P same (subst (Steps k v came) as_before s)
 
 -- bytes that came
-bytes_steps : (k j : ℕ) (w : World) (bytes : List ℕ) (earlier : List Sent) → IsBytes bytes → Sound w → Kept k w earlier
-    → Steps k (on_bytes w j bytes).world (earlier ++ to k ((j, (on_bytes w j bytes).handed) ∷ []))
-bytes_steps k j w bytes earlier b sound kept = step (found j w.sessions) refl
+bytes_steps : (k j : ℕ) (w : World) (bytes came : List ℕ) (earlier : List Sent) → IsBytes bytes → Sound w → Kept k w came earlier
+    → Steps k (on_bytes w j bytes).world (came ++ received_at k w (arrived j bytes)) (earlier ++ to k ((j, (on_bytes w j bytes).handed) ∷ []))
+bytes_steps k j w bytes came earlier b sound kept = step (found j w.sessions) refl (j == k) refl
   where
-    P : Turn → Type 0
-    P t = Steps k t.world (earlier ++ to k ((j, t.handed) ∷ []))
+    t : Turn
+    t = on_bytes w j bytes
 
-    nothing_to : (t : Bool) → cond {A = List Sent} t [] [] ++ [] ≡ []
-    nothing_to true = refl
-    nothing_to false = refl
+    heeded : (o : Option Ear) (s : Session) → found j w.sessions ≡ Some s → (s.stage ≡ stages.Hand → decoder_of (s.rest ++ bytes) ≡ o)
+        → Heeds o (s.stage ≡ stages.Hand) (s.rest ++ bytes) j w s t
+    heeded o s is first = bytes_heed o j w s bytes sound is b first
 
-    step : (o : Option Session) → found j w.sessions ≡ o → P (on_bytes w j bytes)
-    step None is =
-        let none : earlier ≡ earlier ++ to k ((j, []) ∷ []) = sym (append-nil earlier) ∙ ap (λ (ps : List Sent). earlier ++ ps) (sym (nothing_to (j == k))) in
-        subst P (sym (no_bytes j w bytes is)) (subst (Steps k w) none (record { sound = sound; kept = kept }))
-    step (Some s) is =
-        let h = bytes_heed j w s bytes sound is b in
-        record { sound = h.sound; kept = heeded_kept k j w s (on_bytes w j bytes) earlier is h sound kept }
+    step : (f : Option Session) → found j w.sessions ≡ f → (own : Bool) → (j == k) ≡ own
+        → Steps k t.world (came ++ received_at k w (arrived j bytes)) (earlier ++ to k ((j, t.handed) ∷ []))
+    step None is own same =
+        let P : Turn → Type 0 = λ u. Steps k u.world (came ++ received_at k w (arrived j bytes)) (earlier ++ to k ((j, u.handed) ∷ [])) in
+        subst P (sym (no_bytes j w bytes is)) (nothing_more k w came (received_at k w (arrived j bytes)) earlier (to k ((j, []) ∷ [])) (unknown own same) (nothing_to own same) (record { sound = sound; kept = kept }))
+      where
+        nothing_to : (t : Bool) → (j == k) ≡ t → to k ((j, []) ∷ []) ≡ []
+        nothing_to true e = to_one j k [] true e
+        nothing_to false e = to_one j k [] false e
+
+        unknown : (t : Bool) → (j == k) ≡ t → received_at k w (arrived j bytes) ≡ []
+        unknown true e =
+            let mine : found k w.sessions ≡ None = (let F : ℕ → Type 0 = λ n. found n w.sessions ≡ None in subst F (eqb-true j k e) is) in
+            ap (λ (o : Option Session). cond ((j == k) && is_some o) bytes []) mine ∙ ap (λ (c : Bool). cond (c && false) bytes []) e
+        unknown false e = ap (λ (c : Bool). cond (c && is_some (found k w.sessions)) bytes []) e
+    step (Some s) is true same =
+        let mine : j ≡ k = eqb-true j k same in
+        let there : found k w.sessions ≡ Some s = (let F : ℕ → Type 0 = λ n. found n w.sessions ≡ Some s in subst F mine is) in
+        let first : s.stage ≡ stages.Hand → decoder_of (s.rest ++ bytes) ≡ decoder_of (came ++ bytes) =
+        (λ at. ap (λ (bs : List ℕ). decoder_of (bs ++ bytes)) (sym (kept.waits s there at))) in
+        let h = heeded (decoder_of (came ++ bytes)) s is first in
+        let H : ℕ → Type 0 = λ n. Heeds (decoder_of (came ++ bytes)) (s.stage ≡ stages.Hand) (s.rest ++ bytes) n w s t in
+        let all : bytes ≡ received_at k w (arrived j bytes) = sym (ap (λ (c : Bool). cond (c && is_some (found k w.sessions)) bytes []) same ∙ ap (λ (o : Option Session). cond (is_some o) bytes []) there) in
+        let P : List ℕ → Type 0 = λ bs. Steps k t.world (came ++ bs) (earlier ++ to k ((j, t.handed) ∷ [])) in
+        let Q : List Sent → Type 0 = λ ps. Steps k t.world (came ++ bytes) (earlier ++ ps) in
+        subst P all (subst Q (sym (to_one j k t.handed true same)) (record { sound = h.sound; kept = own_kept k w s bytes came t earlier there (subst H mine h) b sound kept }))
+    step (Some s) is false same =
+        let other : k ≢ j = (λ own. let clash : true ≡ false = sym (eq-eqb j k (sym own)) ∙ same in cc) in
+        let h = heeded (decoder_of (s.rest ++ bytes)) s is (λ at. refl) in
+        nothing_more k t.world came (received_at k w (arrived j bytes)) earlier (to k ((j, t.handed) ∷ []))
+        (ap (λ (c : Bool). cond (c && is_some (found k w.sessions)) bytes []) same) (to_one j k t.handed false same)
+        (record { sound = h.sound; kept = other_kept k j w came t earlier other h.beside kept })
 
 -- ---- all events
 
+-- where no bytes of the connection came, none are added
+quiet : {k : ℕ} {v : World} {came : List ℕ} {packets : List Sent} → Steps k v came packets → Steps k v (came ++ []) packets
+quiet {k} {v} {came} {packets} s = let P : List ℕ → Type 0 = λ bs. Steps k v bs packets in subst P (sym (append-nil came)) s
+
 -- what comes in an event is bytes
 abbrev pub IsEvent : Event → Type 0
-IsEvent (came k bytes) = IsBytes bytes
+IsEvent (arrived k bytes) = IsBytes bytes
 IsEvent other = Unit {0}
 
 -- whatever the event is
-pub event_steps : (k : ℕ) (w : World) (e : Event) (earlier : List Sent) → IsEvent e → Sound w → Kept k w earlier
-    → Steps k (step w e).world (earlier ++ to k (step w e).out)
+pub event_steps : (k : ℕ) (w : World) (e : Event) (came : List ℕ) (earlier : List Sent) → IsEvent e → Sound w → Kept k w came earlier
+    → Steps k (step w e).world (came ++ received_at k w e) (earlier ++ to k (step w e).out)
 unfolding step
-event_steps k w (joined j) earlier b sound kept = join_steps k j w earlier sound kept
-event_steps k w (came j bytes) earlier b sound kept = bytes_steps k j w bytes earlier b sound kept
-event_steps k w (left j) earlier b sound kept = gone_steps k j w earlier sound kept
-event_steps k w ticked earlier b sound kept = tick_steps k w earlier sound kept
-event_steps k w (took j n) earlier b sound kept = took_steps k j n w earlier sound kept
-event_steps k w (forgot j) earlier b sound kept = filter_steps k w (λ (s : Session). not (s.id == j && is_done s)) earlier sound kept
+event_steps k w (joined j) came earlier b sound kept = quiet (join_steps k j w came earlier sound kept)
+event_steps k w (arrived j bytes) came earlier b sound kept = bytes_steps k j w bytes came earlier b sound kept
+event_steps k w (left j) came earlier b sound kept = quiet (gone_steps k j w came earlier sound kept)
+event_steps k w ticked came earlier b sound kept = quiet (tick_steps k w came earlier sound kept)
+event_steps k w (took j n) came earlier b sound kept = quiet (took_steps k j n w came earlier sound kept)
+event_steps k w (forgot j) came earlier b sound kept = quiet (filter_steps k w (λ (s : Session). not (s.id == j && is_done s)) came earlier sound kept)
 
 -- bytes of all events are bytes of the first and of the others
 first_bytes : (e : Event) (events : List Event) → AreBytes (e ∷ events) → IsEvent e × AreBytes events
 first_bytes (joined j) events b = (tt, b)
-first_bytes (came j bytes) events b = b
+first_bytes (arrived j bytes) events b = b
 first_bytes (left j) events b = (tt, b)
 first_bytes ticked events b = (tt, b)
 first_bytes (took j n) events b = (tt, b)
 first_bytes (forgot j) events b = (tt, b)
 
 -- a run
-run_heard : (k : ℕ) (events : List Event) (w : World) (earlier : List Sent) → AreBytes events → Sound w → Kept k w earlier
-    → AreHeard (earlier ++ handed k w events)
-run_heard k [] w earlier b sound kept = subst AreHeard (sym (append-nil earlier)) kept.heard
-run_heard k (e ∷ events) w earlier b sound kept =
+run_heard : (k : ℕ) (events : List Event) (w : World) (came : List ℕ) (earlier : List Sent) → AreBytes events → Sound w → Kept k w came earlier
+    → AreHeard (decoder_of (came ++ received k w events)) (earlier ++ handed k w events)
+run_heard k [] w came earlier b sound kept =
+    let P : List ℕ → Type 0 = λ bs. AreHeard (decoder_of bs) (earlier ++ []) in
+    subst P (sym (append-nil came)) (subst (AreHeard (decoder_of came)) (sym (append-nil earlier)) kept.heard)
+run_heard k (e ∷ events) w came earlier b sound kept =
     let parts = first_bytes e events b in
-    let s = event_steps k w e earlier parts.0 sound kept in
-    subst AreHeard (append_assoc earlier (to k (step w e).out) (handed k (step w e).world events))
-    (run_heard k events (step w e).world (earlier ++ to k (step w e).out) parts.1 s.sound s.kept)
+    let s = event_steps k w e came earlier parts.0 sound kept in
+    let v = (step w e).world in
+    let P : List ℕ → Type 0 = λ bs. AreHeard (decoder_of bs) (earlier ++ handed k w (e ∷ events)) in
+    subst P (append_assoc came (received_at k w e) (received k v events))
+    (subst (AreHeard (decoder_of ((came ++ received_at k w e) ++ received k v events))) (append_assoc earlier (to k (step w e).out) (handed k v events))
+    (run_heard k events v (came ++ received_at k w e) (earlier ++ to k (step w e).out) parts.1 s.sound s.kept))
 
 -- a new world is sound
 new_sound : (most cap : ℕ) (terrain : Terrain) → AreSettings most cap → Sound (new_world most cap terrain)
 new_sound most cap terrain settings = record { settings = settings; eids = omega arith; apart = tt; fresh = λ k new. refl; few = omega arith; fits = tt }
 
--- in it nothing was handed to anybody
-new_kept : (k most cap : ℕ) (terrain : Terrain) → Kept k (new_world most cap terrain) []
-new_kept k most cap terrain = record { here = λ s there. absurd (some_none s None there refl); early = λ new. refl; heard = record { ear = for_status; end = for_status; hears = refl } }
+-- in it nothing came from anybody, and nothing was handed to anybody
+new_kept : (k most cap : ℕ) (terrain : Terrain) → Kept k (new_world most cap terrain) [] []
+new_kept k most cap terrain = record {
+  here = λ s there. absurd (some_none s None there refl);
+  waits = λ s there. absurd (some_none s None there refl);
+  early = λ new. (refl, refl);
+  heard = none_heard (decoder_of []) [] refl;
+  bytes = λ i. omega arith;
+}
 
--- what was handed to a connection is heard in its bytes
-pub stream_heard : (most cap : ℕ) (terrain : Terrain) (events : List Event) (k : ℕ) → AreSettings most cap → AreBytes events
-    → (ear : Ear) × IsHeard ear (stream k (new_world most cap terrain) events) (handed k (new_world most cap terrain) events)
-stream_heard most cap terrain events k settings b =
-    let h = run_heard k events (new_world most cap terrain) [] b (new_sound most cap terrain settings) (new_kept k most cap terrain) in
-    (h.ear, heard_so h.ear h.end (handed k (new_world most cap terrain) events) h.hears)
+-- packets that a client decodes are decoded from their bytes
+decoded_so : (o : Option Ear) (packets : List Sent) → AreHeard o packets → IsDecoded o (bytes_of packets) packets
+decoded_so None packets none = (ap bytes_of none, none)
+decoded_so (Some ear) packets h = heard_so ear h.0 packets h.1
+
+-- what was handed to a connection is what its client decodes from the bytes
+pub stream_decoded : (most cap : ℕ) (terrain : Terrain) (events : List Event) (k : ℕ) → AreSettings most cap → AreBytes events
+    → IsDecoded (decoder_of (received k (new_world most cap terrain) events)) (stream k (new_world most cap terrain) events) (handed k (new_world most cap terrain) events)
+stream_decoded most cap terrain events k settings b =
+    let w = new_world most cap terrain in
+    decoded_so (decoder_of (received k w events)) (handed k w events) (run_heard k events w [] [] b (new_sound most cap terrain settings) (new_kept k most cap terrain))
+
+-- ---- one way to decode
+
+-- a client decodes bytes as one list of packets
+pub one_decoded : (o : Option Ear) (bytes : List ℕ) (ps qs : List Sent) → IsDecoded o bytes ps → IsDecoded o bytes qs → ps ≡ qs
+one_decoded None bytes ps qs p q = p.1 ∙ sym q.1
+one_decoded (Some ear) bytes ps qs p q =
+    let same : p.frames ≡ q.frames = ap (λ (cut : Cut). cut.frames) (unique 0 bytes p.frames [] None q.frames [] None p.is_cut q.is_cut) in
+    one_some ps qs (heard ear q.frames) (ap (heard ear) (sym same) ∙ p.are) q.are

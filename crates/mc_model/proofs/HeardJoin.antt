@@ -7,7 +7,8 @@ use Rattle.std.proofs.lemmas.List.{append-nil}
 use lib.IntN.{pos}
 use Rattle.mc_model.specs.declared.cause.Cause.TheVariants as causes
 use Rattle.mc_model.specs.declared.stage.Stage.TheVariants as stages
-use Rattle.mc_model.specs.Hearing.{Sent}
+use Rattle.mc_model.specs.Hearing.{Sent, Ear}
+use Rattle.mc_model.specs.Decoding.{decoder_of}
 use Rattle.mc_model.specs.World.{World, Session, found, is_play}
 use Rattle.mc_model.specs.Step.{shut, new_session, is_crowded, joining, join, is_new}
 use Rattle.mc_model.proofs.Sessions.{found_before, found_behind, found_filter, none_filtered, apart_more, apart_filter, some_none, one_some, other_number}
@@ -15,7 +16,7 @@ use Rattle.mc_model.proofs.FitsSight.{all_joined, all_filtered, nothing_fits}
 use Rattle.mc_model.proofs.FitsText.{none_short}
 use Rattle.mc_model.proofs.Sound.{SessionFits, still_fits, Sound}
 use Rattle.mc_model.proofs.SoundPut.{playing, playing_more, one_if}
-use Rattle.mc_model.proofs.Listens.{Listens, silent_start}
+use Rattle.mc_model.proofs.Listens.{Listens, none_heard}
 use Rattle.mc_model.proofs.HeardRun.{Kept, Steps}
 
 -- ---- joining
@@ -23,7 +24,9 @@ use Rattle.mc_model.proofs.HeardRun.{Kept, Steps}
 -- what is known of a connection that has just joined
 record Joins (j : ℕ) (s : Session) : Type 0 where
   id : s.id ≡ j
+  unread : s.rest ≡ []
   waits : is_play s.stage ≡ false
+  starts : (o : Option Ear) → Listens o s.stage []
   fits : SessionFits s
 
 -- a connection of which nothing came can be told of
@@ -41,8 +44,8 @@ joins : (w : World) (j : ℕ) → Joins j (joining w j)
 joins w j = step (is_crowded w)
   where
     step : (b : Bool) → Joins j (if b then shut (new_session j) causes.Crowded else new_session j)
-    step true = record { id = refl; waits = refl; fits = still_fits (new_session j) stages.Closed (pos 0) (Some causes.Crowded) [] (new_fits j) }
-    step false = record { id = refl; waits = refl; fits = new_fits j }
+    step true = record { id = refl; unread = refl; waits = refl; starts = λ o. none_heard o [] refl; fits = still_fits (new_session j) stages.Closed (pos 0) (Some causes.Crowded) [] (new_fits j) }
+    step false = record { id = refl; unread = refl; waits = refl; starts = λ o. refl; fits = new_fits j }
 
 -- what is new after a join was new before it
 new_before : (k j : ℕ) (last : Option ℕ) → is_new j last ≡ true → is_new k (Some j) ≡ true → is_new k last ≡ true
@@ -79,37 +82,41 @@ pushed_sound w j s new facts sound =
     }
 
 -- and what was handed to each stays heard
-pushed_kept : (k : ℕ) (w : World) (j : ℕ) (s : Session) (earlier : List Sent) → is_new j w.last ≡ true → Joins j s → Sound w
-    → Kept k w earlier → Kept k (record w { last = Some j; sessions = w.sessions ++ s ∷ [] }) earlier
-pushed_kept k w j s earlier new facts sound kept = record {
-  here = λ t there. here (found k w.sessions) refl t there;
+pushed_kept : (k : ℕ) (w : World) (j : ℕ) (s : Session) (came : List ℕ) (earlier : List Sent) → is_new j w.last ≡ true → Joins j s → Sound w
+    → Kept k w came earlier → Kept k (record w { last = Some j; sessions = w.sessions ++ s ∷ [] }) came earlier
+pushed_kept k w j s came earlier new facts sound kept = record {
+  here = λ t there. (both (found k w.sessions) refl t there).0;
+  waits = λ t there. (both (found k w.sessions) refl t there).1;
   early = λ later. kept.early (new_before k j w.last new later);
   heard = kept.heard;
+  bytes = kept.bytes;
 }
   where
-    last_one : (b : Bool) (t : Session) → (s.id == k) ≡ b → cond b (Some s) None ≡ Some t → Listens t.stage earlier
+    Both : Session → Type 0
+    Both t = Listens (decoder_of came) t.stage earlier × (t.stage ≡ stages.Hand → came ≡ t.rest)
+
+    last_one : (b : Bool) (t : Session) → (s.id == k) ≡ b → cond b (Some s) None ≡ Some t → Both t
     last_one true t is e =
         let same : j ≡ k = sym facts.id ∙ eqb-true s.id k is in
         let P : ℕ → Type 0 = λ n. is_new n w.last ≡ true in
-        let Q : List Sent → Type 0 = λ ps. Listens s.stage ps in
-        let R : Session → Type 0 = λ u. Listens u.stage earlier in
-        subst R (one_some s t (Some s) refl e) (subst Q (sym (kept.early (subst P same new))) (silent_start s.stage facts.waits))
+        let Q : List Sent → Type 0 = λ ps. Listens (decoder_of came) s.stage ps in
+        let early = kept.early (subst P same new) in
+        subst Both (one_some s t (Some s) refl e) (subst Q (sym early.0) (facts.starts (decoder_of came)), λ at. early.1 ∙ sym facts.unread)
     last_one false t is e = absurd (some_none t None e refl)
 
-    here : (o : Option Session) → found k w.sessions ≡ o → (t : Session) → found k (w.sessions ++ s ∷ []) ≡ Some t
-        → Listens t.stage earlier
-    here (Some u) is t there =
-        let R : Session → Type 0 = λ v. Listens v.stage earlier in
-        subst R (one_some u t (found k (w.sessions ++ s ∷ [])) (found_before k w.sessions (s ∷ []) u is) there) (kept.here u is)
-    here None is t there = last_one (s.id == k) t refl (sym (found_behind k w.sessions (s ∷ []) is) ∙ there)
+    both : (o : Option Session) → found k w.sessions ≡ o → (t : Session) → found k (w.sessions ++ s ∷ []) ≡ Some t → Both t
+    both (Some u) is t there =
+        subst Both (one_some u t (found k (w.sessions ++ s ∷ [])) (found_before k w.sessions (s ∷ []) u is) there) (kept.here u is, kept.waits u is)
+    both None is t there = last_one (s.id == k) t refl (sym (found_behind k w.sessions (s ∷ []) is) ∙ there)
 
 -- a join
-pub join_steps : (k j : ℕ) (w : World) (earlier : List Sent) → Sound w → Kept k w earlier → Steps k (join w j) (earlier ++ [])
-join_steps k j w earlier sound kept = subst (Steps k (join w j)) (sym (append-nil earlier)) (step (is_new j w.last) refl)
+pub join_steps : (k j : ℕ) (w : World) (came : List ℕ) (earlier : List Sent) → Sound w → Kept k w came earlier
+    → Steps k (join w j) came (earlier ++ [])
+join_steps k j w came earlier sound kept = subst (Steps k (join w j) came) (sym (append-nil earlier)) (step (is_new j w.last) refl)
   where
     step : (b : Bool) → is_new j w.last ≡ b
-        → Steps k (if b then record w { last = Some j; sessions = w.sessions ++ joining w j ∷ [] } else w) earlier
-    step true new = record { sound = pushed_sound w j (joining w j) new (joins w j) sound; kept = pushed_kept k w j (joining w j) earlier new (joins w j) sound kept }
+        → Steps k (if b then record w { last = Some j; sessions = w.sessions ++ joining w j ∷ [] } else w) came earlier
+    step true new = record { sound = pushed_sound w j (joining w j) new (joins w j) sound; kept = pushed_kept k w j (joining w j) came earlier new (joins w j) sound kept }
     step false old = record { sound = sound; kept = kept }
 
 -- ---- going
@@ -125,9 +132,9 @@ few_left p (x ∷ xs) = step (p x) (few_left p xs)
     step false le = omega (arith, le, playing_more x xs)
 
 -- some are taken out
-pub filter_steps : (k : ℕ) (w : World) (p : Session → Bool) (earlier : List Sent) → Sound w → Kept k w earlier
-    → Steps k (record w { sessions = filter p w.sessions }) (earlier ++ [])
-filter_steps k w p earlier sound kept = subst (Steps k (record w { sessions = filter p w.sessions })) (sym (append-nil earlier)) (record {
+pub filter_steps : (k : ℕ) (w : World) (p : Session → Bool) (came : List ℕ) (earlier : List Sent) → Sound w → Kept k w came earlier
+    → Steps k (record w { sessions = filter p w.sessions }) came (earlier ++ [])
+filter_steps k w p came earlier sound kept = subst (Steps k (record w { sessions = filter p w.sessions }) came) (sym (append-nil earlier)) (record {
   sound = record {
     settings = sound.settings;
     eids = sound.eids;
@@ -136,16 +143,23 @@ filter_steps k w p earlier sound kept = subst (Steps k (record w { sessions = fi
     few = (let le = few_left p w.sessions in omega (arith, le, sound.few));
     fits = all_filtered SessionFits p w.sessions sound.fits;
   };
-  kept = record { here = λ t there. here (found k w.sessions) refl t there; early = kept.early; heard = kept.heard };
+  kept = record {
+    here = λ t there. (both (found k w.sessions) refl t there).0;
+    waits = λ t there. (both (found k w.sessions) refl t there).1;
+    early = kept.early;
+    heard = kept.heard;
+    bytes = kept.bytes;
+  };
 })
   where
     same : (b : Bool) (u t : Session) → cond b (Some u) None ≡ Some t → u ≡ t
     same true u t e = one_some u t (Some u) refl e
     same false u t e = absurd (some_none t None e refl)
 
-    here : (o : Option Session) → found k w.sessions ≡ o → (t : Session) → found k (filter p w.sessions) ≡ Some t
-        → Listens t.stage earlier
-    here None is t there = absurd (some_none t (found k (filter p w.sessions)) there (none_filtered k p w.sessions is))
-    here (Some u) is t there =
-        let R : Session → Type 0 = λ v. Listens v.stage earlier in
-        subst R (same (p u) u t (sym (found_filter k p w.sessions u sound.apart is) ∙ there)) (kept.here u is)
+    Both : Session → Type 0
+    Both t = Listens (decoder_of came) t.stage earlier × (t.stage ≡ stages.Hand → came ≡ t.rest)
+
+    both : (o : Option Session) → found k w.sessions ≡ o → (t : Session) → found k (filter p w.sessions) ≡ Some t → Both t
+    both None is t there = absurd (some_none t (found k (filter p w.sessions)) there (none_filtered k p w.sessions is))
+    both (Some u) is t there =
+        subst Both (same (p u) u t (sym (found_filter k p w.sessions u sound.apart is) ∙ there)) (kept.here u is, kept.waits u is)

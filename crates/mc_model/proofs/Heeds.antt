@@ -1,5 +1,5 @@
 -- Handing out to a connection, closing it and letting its player in: what was handed to it is heard, and the world stays sound.
-use Rattle.std.proofs.Common.{◌≡◌, ℕ, ◌<◌, ◌≤◌, List, [], ◌++◌, length, refl, arith}
+use Rattle.std.proofs.Common.{◌≡◌, ◌≢◌, ℕ, ◌<◌, ◌≤◌, List, [], ◌++◌, length, refl, arith}
 use Rattle.std.specs.Prelude.{◌==◌, ◌&&◌, not, nat_lt, Bool, true, false, Option, Some, None, if◌then◌else◌}
 use Rattle.std.specs.List.{list_any}
 use Rattle.std.proofs.lemmas.Bool.{ltb-true}
@@ -11,7 +11,7 @@ use Rattle.mc_model.specs.declared.cause.Refusal.TheVariants as refusals
 use Rattle.mc_model.specs.declared.stage.Stage.TheVariants as stages
 use Rattle.mc_model.specs.Names.{is_name, offline_uuid}
 use Rattle.mc_model.specs.World.{World, Session, found, put, players, is_play}
-use Rattle.mc_model.specs.Hearing.{Sent, bytes_of}
+use Rattle.mc_model.specs.Hearing.{Sent, Ear, bytes_of}
 use Rattle.mc_model.specs.Talk.{farewell}
 use Rattle.mc_model.specs.Step.{Turn, still, turn, hand, shut, close, refusal, is_47, entered}
 use Rattle.mc_model.proofs.Beside.{Beside, beside_same, beside_onward, beside_put, found_put}
@@ -25,56 +25,73 @@ use Rattle.mc_model.proofs.Sound.{SessionFits, still_fits, Sound}
 use Rattle.mc_model.proofs.SoundPut.{HasRoom, sound_put}
 use Rattle.mc_model.proofs.Listens.{Speaks, speaks_same, speaks_shut, speaks_farewell}
 
--- a turn of a connection: the world stays sound, it is still there, and what was handed to it is heard behind what was before
-pub record Heeds (k : ℕ) (w : World) (s : Session) (t : Turn) : Type 0 where
+-- A turn of a connection: the world stays sound, it is still there, and what was handed to it is decoded behind what was before, by o.
+-- Where it still waits for its first frame, N holds, and this rest of its bytes was not read.
+pub record Heeds (o : Option Ear) (N : Type 0) (rest : List ℕ) (k : ℕ) (w : World) (s : Session) (t : Turn) : Type 0 where
   pub sound : Sound t.world
   pub beside : Beside k w t.world
   pub session : Session
   pub there : found k t.world.sessions ≡ Some session
-  pub speaks : Speaks s.stage session.stage t.handed
+  pub speaks : Speaks o s.stage session.stage t.handed
+  pub waits : session.stage ≡ stages.Hand → N × (session.rest ≡ rest)
+
+-- of which less may hold
+pub heeds_less : (o : Option Ear) (N M : Type 0) (rest : List ℕ) (k : ℕ) (w : World) (s : Session) (t : Turn) → (N → M) → Heeds o N rest k w s t
+    → Heeds o M rest k w s t
+heeds_less o N M rest k w s t less h = record {
+  sound = h.sound;
+  beside = h.beside;
+  session = h.session;
+  there = h.there;
+  speaks = h.speaks;
+  waits = λ at. let n = h.waits at in (less n.0, n.1);
+}
 
 -- nothing happens
-pub heeds_still : (k : ℕ) (w : World) (s : Session) → Sound w → found k w.sessions ≡ Some s → Heeds k w s (still w)
-heeds_still k w s sound e = record { sound = sound; beside = beside_same k w w.eids; session = s; there = e; speaks = speaks_same s.stage }
+pub heeds_still : (o : Option Ear) (k : ℕ) (w : World) (s : Session) → Sound w → found k w.sessions ≡ Some s
+    → Heeds o (s.stage ≡ stages.Hand) s.rest k w s (still w)
+heeds_still o k w s sound e =
+    record { sound = sound; beside = beside_same k w w.eids; session = s; there = e; speaks = speaks_same o s.stage; waits = λ at. (at, refl) }
 
 -- the connection is changed
-pub heeds_put : (k : ℕ) (w : World) (eids : ℕ) (s t : Session) (packets : List Sent) → Sound w → found k w.sessions ≡ Some s
-    → t.id ≡ k → SessionFits t → eids ≤ 2147483647 → HasRoom w s t → Speaks s.stage t.stage packets
-    → Heeds k w s (record { world = put (record w { eids = eids }) t; handed = packets })
-heeds_put k w eids s t packets sound e is fits small room speaks = record {
+abbrev pub heeds_put : (o : Option Ear) (N : Type 0) (rest : List ℕ) (k : ℕ) (w : World) (eids : ℕ) (s t : Session) (packets : List Sent) → Sound w
+    → found k w.sessions ≡ Some s → t.id ≡ k → SessionFits t → eids ≤ 2147483647 → HasRoom w s t → Speaks o s.stage t.stage packets
+    → (t.stage ≡ stages.Hand → N × (t.rest ≡ rest)) → Heeds o N rest k w s (record { world = put (record w { eids = eids }) t; handed = packets })
+heeds_put o N rest k w eids s t packets sound e is fits small room speaks waits = record {
   sound = sound_put w eids k s t sound e is fits small room;
   beside = beside_onward k w (record w { eids = eids }) (put (record w { eids = eids }) t) (beside_same k w eids) (beside_put k (record w { eids = eids }) t is);
   session = t;
   there = found_put k (record w { eids = eids }) s t is e;
   speaks = speaks;
+  waits = waits;
 }
 
 -- one that is not in play needs no room
 pub no_room : (w : World) (s t : Session) → is_play t.stage ≡ false → HasRoom w s t
 no_room w s t waits plays = absurd cc
 
--- packets are handed to it, or are too much
-pub heeds_hand : (k : ℕ) (w : World) (eids : ℕ) (s t : Session) (packets : List Sent) → Sound w → found k w.sessions ≡ Some s
-    → t.id ≡ k → SessionFits t → eids ≤ 2147483647 → HasRoom w s t → Speaks s.stage t.stage packets
-    → Heeds k w s (turn (record w { eids = eids }) (hand t packets))
-heeds_hand k w eids s t packets sound e is f small room speaks = hand_cases t packets (λ h. Heeds k w s (turn (record w { eids = eids }) h))
-    (λ fits. heeds_put k w eids s (record t { owed = t.owed ++ bytes_of packets }) packets sound e is
-    (still_fits t t.stage t.protocol t.cause (t.owed ++ bytes_of packets) f) small room speaks)
-    (λ much. heeds_put k w eids s (record t { stage = stages.Closed; cause = Some causes.Backlog; owed = [] }) [] sound e is
+-- packets are handed to it, or are too much; it does not wait for its first frame any more
+pub heeds_hand : (o : Option Ear) (k : ℕ) (w : World) (eids : ℕ) (s t : Session) (packets : List Sent) → Sound w
+    → found k w.sessions ≡ Some s → t.id ≡ k → SessionFits t → eids ≤ 2147483647 → HasRoom w s t → Speaks o s.stage t.stage packets
+    → t.stage ≢ stages.Hand → Heeds o ⊥ s.rest k w s (turn (record w { eids = eids }) (hand t packets))
+heeds_hand o k w eids s t packets sound e is f small room speaks past = hand_cases t packets (λ h. Heeds o ⊥ s.rest k w s (turn (record w { eids = eids }) h))
+    (λ fits. heeds_put o ⊥ s.rest k w eids s (record t { owed = t.owed ++ bytes_of packets }) packets sound e is
+    (still_fits t t.stage t.protocol t.cause (t.owed ++ bytes_of packets) f) small room speaks (λ at. absurd (past at)))
+    (λ much. heeds_put o ⊥ s.rest k w eids s (record t { stage = stages.Closed; cause = Some causes.Backlog; owed = [] }) [] sound e is
     (still_fits t stages.Closed t.protocol (Some causes.Backlog) [] f) small
-    (no_room w s (record t { stage = stages.Closed; cause = Some causes.Backlog; owed = [] }) refl) (speaks_shut s.stage))
+    (no_room w s (record t { stage = stages.Closed; cause = Some causes.Backlog; owed = [] }) refl) (speaks_shut o s.stage) (λ at. absurd cc))
 
 -- it is closed with its last packets
-pub heeds_close : (k : ℕ) (w : World) (s : Session) (cause : Cause) (packets : List Sent) → Sound w → found k w.sessions ≡ Some s
-    → SessionFits s → Speaks s.stage stages.Closed packets → Heeds k w s (turn w (close s cause packets))
-heeds_close k w s cause packets sound e f speaks =
-    heeds_hand k w w.eids s (shut s cause) packets sound e (found_id k w.sessions s e)
-    (still_fits s stages.Closed s.protocol (Some cause) s.owed f) sound.eids (no_room w s (shut s cause) refl) speaks
+pub heeds_close : (o : Option Ear) (k : ℕ) (w : World) (s : Session) (cause : Cause) (packets : List Sent) → Sound w
+    → found k w.sessions ≡ Some s → SessionFits s → Speaks o s.stage stages.Closed packets → Heeds o ⊥ s.rest k w s (turn w (close s cause packets))
+heeds_close o k w s cause packets sound e f speaks =
+    heeds_hand o k w w.eids s (shut s cause) packets sound e (found_id k w.sessions s e)
+    (still_fits s stages.Closed s.protocol (Some cause) s.owed f) sound.eids (no_room w s (shut s cause) refl) speaks (λ at. absurd cc)
 
 -- it is closed with its farewell
-pub heeds_farewell : (k : ℕ) (w : World) (s : Session) (cause : Cause) → Sound w → found k w.sessions ≡ Some s → SessionFits s
-    → Heeds k w s (turn w (close s cause (farewell s.stage cause)))
-heeds_farewell k w s cause sound e f = heeds_close k w s cause (farewell s.stage cause) sound e f (speaks_farewell s.stage cause)
+pub heeds_farewell : (o : Option Ear) (k : ℕ) (w : World) (s : Session) (cause : Cause) → Sound w → found k w.sessions ≡ Some s
+    → SessionFits s → Heeds o ⊥ s.rest k w s (turn w (close s cause (farewell s.stage cause)))
+heeds_farewell o k w s cause sound e f = heeds_close o k w s cause (farewell s.stage cause) sound e f (speaks_farewell o s.stage cause)
 
 -- ---- entering
 

@@ -1,12 +1,14 @@
 -- What every event leaves of the world: numbers of connections stand once, and none is above the last that joined.
-use Rattle.std.proofs.Common.{◌≡◌, ◌≢◌, ℕ, [], ◌∷◌, ◌++◌, refl, sym, ap, ◌∙◌, arith}
+use Rattle.std.proofs.Common.{◌≡◌, ◌≢◌, ℕ, [], ◌∷◌, ◌++◌, refl, sym, subst, ap, ◌∙◌, arith}
 use Rattle.std.specs.Prelude.{◌==◌, ◌&&◌, not, nat_lt, Bool, true, false, cond, Option, Some, None, option_map, if◌then◌else◌}
 use Rattle.std.proofs.lemmas.Bool.Decides.{nat_tests}
 use Rattle.mc_model.specs.declared.cause.Cause.TheVariants as causes
 use Rattle.mc_model.specs.World.{World, Session, found, is_closed}
 use Rattle.mc_model.specs.Step.{Event, joined, came, left, ticked, took, forgot, Handing, shut, new_session, joining, join, is_new, is_crowded, gone, changed, is_done, flush, at_tick, on_bytes, step}
+use Rattle.mc_model.specs.PlainWorld.{Rise, next_number}
 use Rattle.mc_model.specs.Orderly.{Orderly}
-use Rattle.mc_model.proofs.Sessions.{other_number, found_map, found_behind, apart_map, apart_more, apart_filter, none_filtered}
+use Rattle.mc_model.proofs.PlainPlaces.{joined_rise, rise_filter}
+use Rattle.mc_model.proofs.Sessions.{other_number, found_map, found_behind, apart_map, rise_map, apart_more, apart_filter, none_filtered}
 use Rattle.mc_model.proofs.Beside.{Beside, beside_changed}
 use Rattle.mc_model.proofs.Handing.{flush_cases}
 use Rattle.mc_model.proofs.Frames.{bytes_beside}
@@ -47,6 +49,7 @@ flush_id w s = flush_cases w s (λ (h : Handing). h.session.id ≡ s.id) (λ wai
 
 pub orderly_beside : (k : ℕ) (w v : World) → Beside k w v → Orderly w → Orderly v
 orderly_beside k w v b o = record {
+  rising = (let P : Option ℕ → Type 0 = λ last. Rise 0 v.sessions (next_number last) in subst P (sym b.last) (b.rise 0 (next_number w.last) o.rising));
   apart = b.apart o.apart;
   fresh = λ j new. b.none j (o.fresh j (ap (λ (last : Option ℕ). is_new j last) (sym b.last) ∙ new));
 }
@@ -54,6 +57,7 @@ orderly_beside k w v b o = record {
 orderly_join : (w : World) (k : ℕ) → Orderly w → Orderly (join w k)
 orderly_join w k o = elim (is_new k w.last) as (λ b. is_new k w.last ≡ b → Orderly (if b then record w { last = Some k; sessions = w.sessions ++ joining w k ∷ [] } else w)) [
   | true ↦ λ new. record {
+    rising = joined_rise w k w.last w.sessions (joining w k) refl new o.rising;
     apart = apart_more w.sessions (joining w k) o.apart (ap (λ (n : ℕ). found n w.sessions) (joining_id w k) ∙ o.fresh k new);
     fresh = λ j above.
         found_behind j w.sessions (joining w k ∷ []) (o.fresh j (later_new j k w.last above new))
@@ -69,11 +73,13 @@ orderly_step w (joined k) o = orderly_join w k o
 orderly_step w (came k bytes) o = orderly_beside k w (on_bytes w k bytes).world (bytes_beside k w bytes) o
 orderly_step w (left k) o = orderly_beside k w (changed w k gone) (beside_changed k w gone (λ t same. gone_id t)) o
 orderly_step w ticked o = record {
+  rising = rise_map (λ (s : Session). (flush (at_tick w) s).session) (flush_id (at_tick w)) 0 (next_number w.last) w.sessions o.rising;
   apart = apart_map (λ (s : Session). (flush (at_tick w) s).session) (flush_id (at_tick w)) w.sessions o.apart;
   fresh = λ k new. found_map k (λ (s : Session). (flush (at_tick w) s).session) (flush_id (at_tick w)) w.sessions ∙ ap (option_map (λ (s : Session). (flush (at_tick w) s).session)) (o.fresh k new);
 }
 orderly_step w (took k n) o = orderly_beside k w _ (beside_changed k w _ (λ t same. refl)) o
 orderly_step w (forgot k) o = record {
+  rising = rise_filter (λ (s : Session). not (s.id == k && is_done s)) 0 (next_number w.last) w.sessions o.rising;
   apart = apart_filter (λ (s : Session). not (s.id == k && is_done s)) w.sessions o.apart;
   fresh = λ j new. none_filtered j (λ (s : Session). not (s.id == k && is_done s)) w.sessions (o.fresh j new);
 }

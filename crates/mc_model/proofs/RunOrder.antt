@@ -1,5 +1,5 @@
 -- In every run numbers of connections stand once, and none is above the last that joined.
-use Rattle.std.proofs.Common.{ℕ, List, [], ◌∷◌, refl}
+use Rattle.std.proofs.Common.{ℕ, List, [], ◌∷◌, refl, arith}
 use Rattle.mc_land.specs.declared.terrain.Terrain.{Terrain}
 use Rattle.mc_model.specs.World.{World, new_world}
 use Rattle.mc_model.specs.Step.{Event, step}
@@ -12,7 +12,7 @@ orderly_history [] w o = o
 orderly_history (e ∷ events) w o = orderly_history events (step w e).world (orderly_step w e o)
 
 pub orderly_new : (most cap : ℕ) (terrain : Terrain) → Orderly (new_world most cap terrain)
-orderly_new most cap terrain = record { apart = tt; fresh = λ k new. refl }
+orderly_new most cap terrain = record { rising = omega arith; apart = tt; fresh = λ k new. refl }
 
 pub orderly_run : (most cap : ℕ) (terrain : Terrain) (events : List Event) → Orderly (history (new_world most cap terrain) events)
 orderly_run most cap terrain events = orderly_history events (new_world most cap terrain) (orderly_new most cap terrain)

@@ -24,6 +24,7 @@ use Rattle.mc_model.proofs.Sessions.{some_none, one_some}
 use Rattle.mc_model.proofs.Handing.{stayed, answered, greeted, entered, shut_for, not_both, not_play, flush_cases}
 use Rattle.mc_model.proofs.Frames.{IsKept}
 use Rattle.mc_model.proofs.RunEvents.{orderly_step, lasts_step, old_step}
+use Rattle.mc_model.proofs.RunOrder.{orderly_new}
 use Rattle.mc_model.proofs.RunTurns.{tick_found, no_out, away, joins, arrives, each_step}
 
 -- ---- packets of play
@@ -169,7 +170,7 @@ runs land k (e ∷ events) w ps r =
 
 pub runs_from_new : (most cap : ℕ) (terrain : Terrain) (events : List Event) (k : ℕ) → Runs (new_world most cap terrain) k (history (new_world most cap terrain) events) (handed k (new_world most cap terrain) events)
 runs_from_new most cap terrain events k = runs (new_world most cap terrain) k events (new_world most cap terrain) [] (record {
-  orderly = record { apart = tt; fresh = λ j new. refl };
+  orderly = orderly_new most cap terrain;
   terrain = refl;
   edits = refl;
   nobody = λ new. refl;

@@ -1,5 +1,5 @@
 -- Looking a connection up by its number: in a list that is changed, that grows, and that some are taken out of.
-use Rattle.std.proofs.Common.{◌≡◌, ◌≢◌, ℕ, List, [], ◌∷◌, ◌++◌, map, refl, sym, subst, ap, ◌∙◌}
+use Rattle.std.proofs.Common.{◌≡◌, ◌≢◌, ℕ, ◌+◌, ◌≤◌, List, [], ◌∷◌, ◌++◌, map, refl, sym, subst, ap, ◌∙◌}
 use Rattle.std.specs.Prelude.{◌==◌, Bool, true, false, cond, Option, Some, None, option_map}
 use Rattle.std.specs.List.{filter}
 use Rattle.std.proofs.lemmas.List.{append-nil}
@@ -7,6 +7,7 @@ use Rattle.std.proofs.lemmas.Bool.{eqb-true, eq-eqb}
 use Rattle.mc_model.specs.World.{Session, found}
 use Rattle.mc_model.specs.Hearing.{Sent}
 use Rattle.mc_model.specs.Run.{to}
+use Rattle.mc_model.specs.PlainWorld.{Rise}
 use Rattle.mc_model.specs.Orderly.{AreApart}
 
 -- ---- tests of numbers
@@ -70,6 +71,14 @@ apart_map f keeps [] a = tt
 apart_map f keeps (x ∷ xs) a =
     let P : ℕ → Type 0 = λ n. found n (map f xs) ≡ None in
     (subst P (sym (keeps x)) (none_mapped x.id f keeps xs a.0), apart_map f keeps xs a.1)
+
+-- numbers that rise
+pub rise_map : (f : Session → Session) → ((t : Session) → (f t).id ≡ t.id) → (low high : ℕ) (ss : List Session) → Rise low ss high
+    → Rise low (map f ss) high
+rise_map f keeps low high [] r = r
+rise_map f keeps low high (s ∷ ss) r =
+    let P : ℕ → Type 0 = λ n. (low ≤ n) × Rise (n + 1) (map f ss) high in
+    subst P (sym (keeps s)) (r.0, rise_map f keeps (s.id + 1) high ss r.1)
 
 pub apart_more : (xs : List Session) (s : Session) → AreApart xs → found s.id xs ≡ None → AreApart (xs ++ s ∷ [])
 apart_more [] s a e = (refl, tt)

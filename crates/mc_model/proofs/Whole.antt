@@ -1,9 +1,13 @@
 -- All laws of a run in one.
-use Rattle.std.proofs.Common.{ℕ, List, [], ◌∷◌, ◌++◌, subst}
+use Rattle.std.proofs.Common.{◌≡◌, ℕ, List, [], ◌∷◌, ◌++◌, subst}
+use Rattle.std.specs.Prelude.{true, Some}
 use Rattle.mc_land.specs.declared.terrain.Terrain.{Terrain}
-use Rattle.mc_model.specs.World.{AreSettings, new_world}
-use Rattle.mc_model.specs.Step.{Event, joined, came, left, ticked, took, forgot}
-use Rattle.mc_model.specs.Run.{AreBytes, history}
+use Rattle.mc_model.specs.Replica.{Shows, new_replica, replay}
+use Rattle.mc_model.specs.World.{AreSettings, Session, found, is_play, new_world, project}
+use Rattle.mc_model.specs.Hearing.{Sent, played}
+use Rattle.mc_model.specs.Decoding.{IsDecoded, decoder_of}
+use Rattle.mc_model.specs.Step.{Event, joined, came, left, ticked, took, forgot, at_tick}
+use Rattle.mc_model.specs.Run.{AreBytes, handed, history, received, stream}
 use Rattle.mc_model.specs.Headline.{ClosedForACause, Closing, Headline}
 use Rattle.mc_model.proofs.RunOrder.{orderly_run}
 use Rattle.mc_model.proofs.RunShown.{run_shows}
@@ -12,7 +16,7 @@ use Rattle.mc_model.proofs.RunLogins.{logging_in}
 use Rattle.mc_model.proofs.CauseSound.{sound_run, closed_cause, cause_closed, shut_for_good, why_closed, sender_alone}
 use Rattle.mc_model.proofs.Promised.{promised}
 use Rattle.mc_model.proofs.CauseFirst.{first_closes}
-use Rattle.mc_model.proofs.HeardEvents.{stream_heard}
+use Rattle.mc_model.proofs.HeardEvents.{stream_decoded, one_decoded}
 
 -- the first of some events are bytes where all are
 first_are_bytes : (events later : List Event) → AreBytes (events ++ later) → AreBytes events
@@ -38,10 +42,25 @@ closed_for_a_cause most cap terrain events k s there =
     let sound = (sound_run most cap terrain events).each k s there in
     (closed_cause s sound, λ kept. cause_closed s sound kept.0 kept.1)
 
+-- what a client in play decodes shows the world in its view
+pub decoded_shows : (most cap : ℕ) (terrain : Terrain) (events : List Event) (k : ℕ) (s : Session) (packets : List Sent) → AreSettings most cap
+    → AreBytes (events ++ ticked ∷ []) → found k (history (new_world most cap terrain) (events ++ ticked ∷ [])).sessions ≡ Some s
+    → is_play s.stage ≡ true → IsDecoded (decoder_of (received k (new_world most cap terrain) (events ++ ticked ∷ [])))
+    (stream k (new_world most cap terrain) (events ++ ticked ∷ [])) packets
+    → Shows (replay new_replica (played packets)) (project (at_tick (history (new_world most cap terrain) events)) s)
+decoded_shows most cap terrain events k s packets settings are there playing decoded =
+    let w = new_world most cap terrain in
+    let log = events ++ ticked ∷ [] in
+    let P : List Sent → Type 0 = λ ps. Shows (replay new_replica (played ps)) (project (at_tick (history w events)) s) in
+    subst P (one_decoded (decoder_of (received k w log)) (stream k w log) (handed k w log) packets (stream_decoded most cap terrain log k settings are) decoded)
+    (run_shows most cap terrain events k s there playing)
+
 pub headline : (most cap : ℕ) (terrain : Terrain) (log : List Event) → AreSettings most cap → AreBytes log → Headline most cap terrain log
 headline most cap terrain log settings are = record {
-  shows = λ events later k s split. run_shows most cap terrain events k s;
-  heard = λ events later k split. stream_heard most cap terrain events k settings (first_are_bytes events later (subst AreBytes split are));
+  shows = λ events later k s packets split there playing decoded.
+      decoded_shows most cap terrain events k s packets settings (first_are_bytes (events ++ ticked ∷ []) later (subst AreBytes split are)) there playing decoded;
+  decoded = λ events later k split. stream_decoded most cap terrain events k settings (first_are_bytes events later (subst AreBytes split are));
+  rises = λ events later split. (orderly_run most cap terrain events).rising;
   promised = λ events later k split. promised most cap terrain events k;
   ticks = λ events later split. tick_hands_due (history (new_world most cap terrain) events) (orderly_run most cap terrain events);
   between = λ events e later k s split. between_hands k (history (new_world most cap terrain) events) s e (orderly_run most cap terrain events);

@@ -10,11 +10,13 @@ use Rattle.mc_model.specs.Notes.{no_notes}
 use Rattle.mc_model.specs.Names.{offline_uuid}
 use Rattle.mc_model.specs.Replica.{Shows, new_replica, replay}
 use Rattle.mc_model.specs.World.{World, Session, found, is_closed, is_play, new_world, project}
-use Rattle.mc_model.specs.Hearing.{Ear, IsHeard, of_play, played}
+use Rattle.mc_model.specs.Hearing.{Sent, of_play, played}
+use Rattle.mc_model.specs.Decoding.{IsDecoded, decoder_of}
 use Rattle.mc_model.specs.Talk.{farewell, refused, accepted}
 use Rattle.mc_model.specs.Step.{Event, came, left, ticked, at_tick, due, step}
-use Rattle.mc_model.specs.Run.{cause_in, handed, history, stream, taken, to, why}
+use Rattle.mc_model.specs.Run.{cause_in, handed, history, received, stream, taken, to, why}
 use Rattle.mc_model.specs.Causes.{Closes, IsTooMuch}
+use Rattle.mc_model.specs.PlainWorld.{Rise, next_number}
 
 -- ---- a tick
 
@@ -91,14 +93,20 @@ pub record Promised (w : World) (k : ℕ) (handed_bytes taken_bytes : List ℕ) 
 -- ---- a run
 
 pub record Headline (most cap : ℕ) (terrain : Terrain) (log : List Event) : Type 0 where
-  -- after each tick, what a client in play was handed, folded from nothing, shows exactly the world in its view
-  pub shows : (events later : List Event) (k : ℕ) (s : Session) → log ≡ events ++ ticked ∷ [] ++ later →
+  -- after each tick, the packets that a client in play decodes from the bytes that it was handed, folded from nothing, show exactly the
+  -- world in its view
+  pub shows : (events later : List Event) (k : ℕ) (s : Session) (packets : List Sent) → log ≡ events ++ ticked ∷ [] ++ later →
       found k (history (new_world most cap terrain) (events ++ ticked ∷ [])).sessions ≡ Some s → is_play s.stage ≡ true →
-      Shows (replay new_replica (played (handed k (new_world most cap terrain) (events ++ ticked ∷ []))))
-      (project (at_tick (history (new_world most cap terrain) events)) s)
-  -- at each moment, the bytes that a client was handed are cut and read as the packets that it was handed
-  pub heard : (events later : List Event) (k : ℕ) → log ≡ events ++ later →
-      (ear : Ear) × IsHeard ear (stream k (new_world most cap terrain) events) (handed k (new_world most cap terrain) events)
+      IsDecoded (decoder_of (received k (new_world most cap terrain) (events ++ ticked ∷ [])))
+      (stream k (new_world most cap terrain) (events ++ ticked ∷ [])) packets →
+      Shows (replay new_replica (played packets)) (project (at_tick (history (new_world most cap terrain) events)) s)
+  -- at each moment, a client decodes those bytes, by the handshake that it sent, and as the packets that it was handed
+  pub decoded : (events later : List Event) (k : ℕ) → log ≡ events ++ later →
+      IsDecoded (decoder_of (received k (new_world most cap terrain) events))
+      (stream k (new_world most cap terrain) events) (handed k (new_world most cap terrain) events)
+  -- connections stand in the order in which they joined: their numbers rise, and are below the least that may join next
+  pub rises : (events later : List Event) → log ≡ events ++ later →
+      Rise 0 (history (new_world most cap terrain) events).sessions (next_number (history (new_world most cap terrain) events).last)
   -- the bytes that a client took are the first ones of those
   pub promised : (events later : List Event) (k : ℕ) → log ≡ events ++ later →
       Promised (history (new_world most cap terrain) events) k

@@ -10,12 +10,13 @@ pub mod World
 pub mod Hearing
 pub mod Acts
 pub mod Talk
+pub mod Decoding
 pub mod Step
+pub mod PlainWorld
 pub mod Orderly
 pub mod Run
 pub mod Causes
 pub mod Headline
-pub mod PlainWorld
 pub mod PlainTurns
 pub mod Plain
 pub mod PlainSight

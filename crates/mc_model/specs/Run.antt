@@ -1,5 +1,5 @@
 -- Runs: what a list of events makes of the world, what was handed to a connection in them, and why it was closed.
-use Rattle.std.specs.Prelude.{ℕ, ◌==◌, take, List, [], ◌∷◌, ◌++◌, Option, Some, None, if◌then◌else◌}
+use Rattle.std.specs.Prelude.{ℕ, ◌==◌, ◌&&◌, is_some, take, List, [], ◌∷◌, ◌++◌, Option, Some, None, if◌then◌else◌}
 use Rattle.std.specs.List.{flat_map, fold}
 use Rattle.std.specs.Option.{option_and_then}
 use Rattle.mc_model.specs.declared.cause.Cause.{Cause}
@@ -41,6 +41,15 @@ taken_at k w e = []
 abbrev pub taken : ℕ → World → List Event → List ℕ
 taken k w [] = []
 taken k w (e ∷ events) = taken_at k w e ++ taken k (step w e).world events
+
+-- the bytes that came from a connection while it was there
+abbrev pub received_at : ℕ → World → Event → List ℕ
+received_at k w (came j bytes) = if j == k && is_some (found k w.sessions) then bytes else []
+received_at k w e = []
+
+abbrev pub received : ℕ → World → List Event → List ℕ
+received k w [] = []
+received k w (e ∷ events) = received_at k w e ++ received k (step w e).world events
 
 -- the cause that is kept of a connection
 abbrev pub cause_in : ℕ → World → Option Cause

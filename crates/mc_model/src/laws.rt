@@ -13,9 +13,10 @@ ghost use Rattle.mc_model.specs.Replica.{Shows, new_replica, replay, seeing};
 ghost use Rattle.mc_model.specs.Delta.{Follows, delta};
 ghost use Rattle.mc_view.specs.Views.{is_in_view, view_of};
 ghost use Rattle.mc_model.specs.World.{AreSettings, Session, found, is_play, new_world, project};
-ghost use Rattle.mc_model.specs.Hearing.{Ear, IsHeard, played};
+ghost use Rattle.mc_model.specs.Hearing.{Ear, Sent, played};
+ghost use Rattle.mc_model.specs.Decoding.{IsDecoded, decoder_of};
 ghost use Rattle.mc_model.specs.Step.{Event, ticked, at_tick};
-ghost use Rattle.mc_model.specs.Run.{AreBytes, handed, history, stream, taken, why};
+ghost use Rattle.mc_model.specs.Run.{AreBytes, handed, history, received, stream, taken, why};
 ghost use Rattle.mc_model.specs.Headline.{AtTick, Between, ClosedForACause, Closing, Headline, LoggingIn, Promised};
 
 /// The cut that is worked out frame by frame is the cut of the stream.
@@ -46,12 +47,19 @@ pub fn difference_leads()
 {}
 
 /// Whatever happens, however bytes are cut: after each tick, what was handed out to a client in play,
-/// folded from an empty replica, shows exactly the world in its view.
+/// folded from an empty replica, shows exactly the world in its view; and so do the packets that it
+/// decodes from the bytes of that.
 pub fn runs_show_the_world()
-    ensures { (most cap : ℕ) (terrain : Terrain) (events : List Event) (k : ℕ) (s : Session) →
+    ensures handed { (most cap : ℕ) (terrain : Terrain) (events : List Event) (k : ℕ) (s : Session) →
         found k (history (new_world most cap terrain) (events ++ ticked ∷ [])).sessions ≡ Some s → is_play s.stage ≡ true →
         Shows (replay new_replica (played (handed k (new_world most cap terrain) (events ++ ticked ∷ []))))
         (project (at_tick (history (new_world most cap terrain) events)) s) }
+    ensures decoded { (most cap : ℕ) (terrain : Terrain) (events : List Event) (k : ℕ) (s : Session) (packets : List Sent) →
+        AreSettings most cap → AreBytes (events ++ ticked ∷ []) →
+        found k (history (new_world most cap terrain) (events ++ ticked ∷ [])).sessions ≡ Some s → is_play s.stage ≡ true →
+        IsDecoded (decoder_of (received k (new_world most cap terrain) (events ++ ticked ∷ [])))
+        (stream k (new_world most cap terrain) (events ++ ticked ∷ [])) packets →
+        Shows (replay new_replica (played packets)) (project (at_tick (history (new_world most cap terrain) events)) s) }
 {}
 
 /// What a client is handed, and when. At a tick just what is due to it, unless that is more than its outbox
@@ -88,11 +96,15 @@ pub fn bytes_are_promised()
         (stream k (new_world most cap terrain) events) (taken k (new_world most cap terrain) events) }
 {}
 
-/// What is handed out to a client is bytes that it cuts and reads back as exactly those packets: those of
-/// the status, or those of the login and after Login Success those of play.
-pub fn bytes_are_heard()
-    ensures { (most cap : ℕ) (terrain : Terrain) (events : List Event) (k : ℕ) → AreSettings most cap → AreBytes events →
-        (ear : Ear) × IsHeard ear (stream k (new_world most cap terrain) events) (handed k (new_world most cap terrain) events) }
+/// What is handed out to a client is bytes that it cuts and decodes as exactly those packets, by the first
+/// frame of the bytes that came from it: those of the status, or those of a login and behind Login Success
+/// those of play. A client that sent no handshake is handed nothing. No bytes are decoded in two ways.
+pub fn bytes_are_decoded()
+    ensures decoded { (most cap : ℕ) (terrain : Terrain) (events : List Event) (k : ℕ) → AreSettings most cap → AreBytes events →
+        IsDecoded (decoder_of (received k (new_world most cap terrain) events))
+        (stream k (new_world most cap terrain) events) (handed k (new_world most cap terrain) events) }
+    ensures one_way { (decoder : Option Ear) (bytes : List ℕ) (packets others : List Sent) →
+        IsDecoded decoder bytes packets → IsDecoded decoder bytes others → packets ≡ others }
 {}
 
 /// All of it in one promise, for every list of events.
