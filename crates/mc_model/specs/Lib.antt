@@ -15,7 +15,5 @@ pub mod Orderly
 pub mod Run
 pub mod Causes
 pub mod Headline
-pub mod PlainWorld
-pub mod PlainTurns
-pub mod Plain
-pub mod PlainSight
+pub mod Stored
+pub mod Handled
