@@ -26,6 +26,15 @@ pub fn column(words: &mut Words<'_>, answer: &mut Answer) {
     answer.word(cz);
 }
 
+/// How many columns a view has.
+fn count_of(view: &ViewSet) -> u32 {
+    let mut count: u32 = 0;
+    for _column in view.all() {
+        count = count.saturating_add(1);
+    }
+    count
+}
+
 /// Answers the columns of a view: how many there are, and each.
 pub fn view(words: &mut Words<'_>, answer: &mut Answer) {
     let cx = words.number::<i32>();
@@ -36,7 +45,7 @@ pub fn view(words: &mut Words<'_>, answer: &mut Answer) {
         return;
     }
     let view = ViewSet::of(cx, cz, d);
-    answer.word(view.all().count());
+    answer.word(count_of(&view));
     for (cx, cz) in view.all() {
         answer.comma();
         answer.word(cx);
