@@ -3,33 +3,33 @@ use Rattle.std.proofs.Common.{append_assoc, append-nil}
 use Rattle.mc_wire.specs.declared.log.LogEntry.{LogEntry}
 use Rattle.mc_wire.specs.Count.{Rose}
 use Rattle.mc_wire.specs.LobbyTold.{LobbyTold, with_entries}
-use Rattle.mc_wire.specs.Becoming.{Becomes, Logs, HasLogged}
+use Rattle.mc_wire.specs.Becoming.{ToldBecomes, Logs, HasLogged}
 use Rattle.mc_wire.specs.LobbyCounts.{LobbyCounts, NoneFalls, StandOrRise}
 use Rattle.mc_wire.proofs.Counts.{NeverFalls-trans, NeverFalls-Rose, Rose-NeverFalls}
 
 -- How what a lobby tells, and its counts, compose over several calls.
 
-pub Becomes-refl : (a : Option LobbyTold) → Becomes a a (λ told. told)
-Becomes-refl None = tt
-Becomes-refl (Some told) = refl
+pub ToldBecomes-refl : (a : Option LobbyTold) → ToldBecomes a a (λ told. told)
+ToldBecomes-refl None = tt
+ToldBecomes-refl (Some told) = refl
 
-pub Becomes-trans : (a b c : Option LobbyTold) (first second : LobbyTold → LobbyTold)
-    → Becomes a b first
-    → Becomes b c second
-    → Becomes a c (λ told. second (first told))
-Becomes-trans a b None first second one two = tt
-Becomes-trans a None (Some z) first second one two = absurd two
-Becomes-trans None (Some y) (Some z) first second one two = absurd one
-Becomes-trans (Some x) (Some y) (Some z) first second one two = two ∙ ap second one
+pub ToldBecomes-trans : (a b c : Option LobbyTold) (first second : LobbyTold → LobbyTold)
+    → ToldBecomes a b first
+    → ToldBecomes b c second
+    → ToldBecomes a c (λ told. second (first told))
+ToldBecomes-trans a b None first second one two = tt
+ToldBecomes-trans a None (Some z) first second one two = absurd two
+ToldBecomes-trans None (Some y) (Some z) first second one two = absurd one
+ToldBecomes-trans (Some x) (Some y) (Some z) first second one two = two ∙ ap second one
 
 -- a change that is the same as another
-pub Becomes-same : (a b : Option LobbyTold) (change change' : LobbyTold → LobbyTold)
+pub ToldBecomes-same : (a b : Option LobbyTold) (change change' : LobbyTold → LobbyTold)
     → ((told : LobbyTold) → change told ≡ change' told)
-    → Becomes a b change
-    → Becomes a b change'
-Becomes-same a None change change' same one = tt
-Becomes-same None (Some y) change change' same one = absurd one
-Becomes-same (Some x) (Some y) change change' same one = one ∙ same x
+    → ToldBecomes a b change
+    → ToldBecomes a b change'
+ToldBecomes-same a None change change' same one = tt
+ToldBecomes-same None (Some y) change change' same one = absurd one
+ToldBecomes-same (Some x) (Some y) change change' same one = one ∙ same x
 
 pub with_entries-nil : (told : LobbyTold) → with_entries [] told ≡ told
 with_entries-nil told = ap (λ log. record told { log = log }) (append-nil told.log)
@@ -48,8 +48,8 @@ pub Logs-trans : (a b c : Option LobbyTold) (first second : List LogEntry)
     → Logs b c second
     → Logs a c (first ++ second)
 Logs-trans a b c first second one two =
-    Becomes-same a c _ _ (λ told. with_entries-append told first second)
-    (Becomes-trans a b c (with_entries first) (with_entries second) one two)
+    ToldBecomes-same a c _ _ (λ told. with_entries-append told first second)
+    (ToldBecomes-trans a b c (with_entries first) (with_entries second) one two)
 
 pub HasLogged-trans : (a b c : Option LobbyTold) → HasLogged a b → HasLogged b c → HasLogged a c
 HasLogged-trans a b c (first, one) (second, two) =

@@ -5,14 +5,14 @@ use Rattle.mc_wire.specs.declared.log.LogEntry.{LogEntry}
 use Rattle.mc_wire.specs.LobbyTold.{LobbyTold, with_entries}
 
 -- what is told became this change of what was told
-abbrev pub Becomes : Option LobbyTold → Option LobbyTold → (LobbyTold → LobbyTold) → Type 0
-Becomes old None change = Unit {0}
-Becomes None (Some new) change = ⊥
-Becomes (Some old) (Some new) change = new ≡ change old
+abbrev pub ToldBecomes : Option LobbyTold → Option LobbyTold → (LobbyTold → LobbyTold) → Type 0
+ToldBecomes old None change = Unit {0}
+ToldBecomes None (Some new) change = ⊥
+ToldBecomes (Some old) (Some new) change = new ≡ change old
 
 -- these answers were added to the log, and nothing else changed
 abbrev pub Logs : Option LobbyTold → Option LobbyTold → List LogEntry → Type 0
-Logs old new entries = Becomes old new (with_entries entries)
+Logs old new entries = ToldBecomes old new (with_entries entries)
 
 -- some answers were
 abbrev pub HasLogged : Option LobbyTold → Option LobbyTold → Type 0

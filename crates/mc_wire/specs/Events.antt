@@ -1,4 +1,4 @@
--- What a lobby in memory gives, of a list of entries that it was made from (a rule of this project).
+-- What a lobby in memory gives of the entries that it was made from (a rule of this project).
 use Rattle.std.specs.Prelude.{◌≡◌, ℕ, ◌+◌, ◌<◌, ◌≤◌, List, [], ◌∷◌, ◌++◌, length, take, drop, min}
 use Rattle.mc_wire.specs.declared.answers.Event.{Event}
 use Rattle.mc_wire.specs.declared.answers.Event.TheVariants.{Join, Bytes, Gone, Tick, End}
@@ -20,7 +20,7 @@ abbrev pub still_came : ℕ → List ℕ → List LogEntry
 still_came k [] = []
 still_came k (byte ∷ bytes) = Came k (byte ∷ bytes) ∷ []
 
--- the buffer has as many first bytes of what came as it can hold, and the rest of them stay in front
+-- the buffer has as many first bytes of what came as it can hold, and the rest of them stay first
 pub record GivesBytes (k n : ℕ) (buf_old buf_new : List ℕ) (left_old left_new : List LogEntry) :
     Type 0 where
   pub bytes : List ℕ

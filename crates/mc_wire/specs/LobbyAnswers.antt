@@ -17,10 +17,10 @@ event_entry Tick buffer = entries.Ticked
 event_entry End buffer = entries.Ended
 
 -- the entry of a write of a piece to a connection
-abbrev pub write_entry : Wrote → ℕ → List ℕ → LogEntry
-write_entry (writes.Took n) k piece = entries.Put k (take n piece)
-write_entry writes.Stalled k piece = entries.Stalled k
-write_entry writes.Broken k piece = entries.Broke k
+abbrev pub wrote_entry : Wrote → ℕ → List ℕ → LogEntry
+wrote_entry (writes.Took n) k piece = entries.Put k (take n piece)
+wrote_entry writes.Stalled k piece = entries.Stalled k
+wrote_entry writes.Broken k piece = entries.Broke k
 
 -- bytes that came are one at least, and stand in the buffer
 abbrev pub IsInBuffer : Event → List ℕ → Type 0

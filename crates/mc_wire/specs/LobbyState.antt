@@ -10,16 +10,16 @@ pub record EventsState : Type 0 where
   pub left : List LogEntry
   pub least : ℕ
 
--- a lobby that never fails: what it tells, where it does, the events that are left, the least number
--- of the next one to join, and whether it listens
+-- a lobby that never fails: what it tells, where it does, the events that are left, the least
+-- number of the next one to join, and whether it listens
 pub record SteadyState : Type 0 where
   pub told : Option LobbyTold
   pub left : List LogEntry
   pub least : ℕ
   pub listens : Bool
 
--- a lobby some of whose calls fail: the same, its troubles, how many nexts and writes there were, and
--- how many of its calls failed, stalled and broke
+-- a lobby some of whose calls fail: the same, its troubles, how many nexts and writes there were,
+-- and how many of its calls failed, stalled and broke
 pub record LobbyState : Type 0 where
   pub told : Option LobbyTold
   pub left : List LogEntry

@@ -24,11 +24,11 @@ pub enum Wrote {
     Broken,
 }
 
-/// What a lobby's ticks go by.
+/// What a lobby gives ticks by.
 #[derive(Clone, Copy, Debug, PartialEq, Eq)]
 pub enum Pace {
-    /// Twenty ticks come in a second.
+    /// A clock, twenty in a second.
     Clock,
-    /// A tick comes once nothing else is to be answered.
+    /// Its turns, whenever the connections brought nothing for some of them.
     Turns,
 }

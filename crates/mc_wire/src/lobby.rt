@@ -1,9 +1,9 @@
 ghost use Rattle.std.specs.Prelude.{◌≡◌, ◌<◌, ◌≤◌, ◌||◌, [], ◌∷◌, length, true, is_ok, IfOk, OnErr};
 ghost use Rattle.mc_wire.specs.Count.{Rose};
 ghost use Rattle.mc_wire.specs.LobbyTold.{with_port, with_pace};
-ghost use Rattle.mc_wire.specs.Becoming.{Becomes, Logs};
+ghost use Rattle.mc_wire.specs.Becoming.{ToldBecomes, Logs};
 ghost use Rattle.mc_wire.specs.LobbyCounts.{NoneFalls, HasCause};
-ghost use Rattle.mc_wire.specs.LobbyAnswers.{event_entry, write_entry, IsInBuffer, RaisesLeast};
+ghost use Rattle.mc_wire.specs.LobbyAnswers.{event_entry, wrote_entry, IsInBuffer, RaisesLeast};
 
 use crate::{Event, Failed, LogEntry, Pace, Wrote};
 
@@ -28,14 +28,14 @@ pub trait Lobby {
 
     /// Takes the pace in which ticks are to come.
     fn pace(&mut self, pace: Pace)
-        ensures tells { Becomes (told self.old) (told self.new) (with_pace pace) }
+        ensures tells { ToldBecomes (told self.old) (told self.new) (with_pace pace) }
         ensures hears { listens self.new ≡ listens self.old }
         ensures least { least self.old ≤ least self.new }
         ensures falls { NoneFalls (counts self.old) (counts self.new) };
 
     /// Listens on a port. A failure tells the port, too.
     fn listen(&mut self, port: u16) -> Result<(), Failed>
-        ensures tells { Becomes (told self.old) (told self.new) (with_port port) }
+        ensures tells { ToldBecomes (told self.old) (told self.new) (with_port port) }
         ensures hears { listens self.new ≡ (listens self.old || is_ok result) }
         ensures least { least self.old ≤ least self.new }
         ensures failed { OnErr result (Rose (counts self.old).faults (counts self.new).faults) }
@@ -50,7 +50,8 @@ pub trait Lobby {
             (λ event. Logs (told self.old) (told self.new) (event_entry event buf.new ∷ [])) }
         ensures within { IfOk result (λ event. IsInBuffer event buf.new) }
         ensures least { least self.old ≤ least self.new }
-        ensures raises { IfOk result (λ event. RaisesLeast event (least self.old) (least self.new)) }
+        ensures raises { IfOk result
+            (λ event. RaisesLeast event (least self.old) (least self.new)) }
         ensures kept { OnErr result (told self.new ≡ told self.old) }
         ensures hears { listens self.new ≡ listens self.old }
         ensures failed { OnErr result (Rose (counts self.old).faults (counts self.new).faults) }
@@ -61,7 +62,7 @@ pub trait Lobby {
     fn write(&mut self, k: u32, piece: &[u8]) -> Wrote
         requires listening { listens self.old ≡ true }
         requires some { 0 < length piece.now }
-        ensures tells { Logs (told self.old) (told self.new) (write_entry result k piece.now ∷ []) }
+        ensures tells { Logs (told self.old) (told self.new) (wrote_entry result k piece.now ∷ []) }
         ensures cause { HasCause result (length piece.now) (counts self.old) (counts self.new) }
         ensures hears { listens self.new ≡ listens self.old }
         ensures least { least self.old ≤ least self.new }

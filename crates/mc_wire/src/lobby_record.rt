@@ -1,8 +1,8 @@
 ghost use Rattle.std.specs.Prelude.{◌≡◌, [], ◌∷◌, length, OnOk};
 ghost use Rattle.mc_wire.specs.LobbyTold.{nothing_called, with_port, with_pace, with_entries};
-ghost use Rattle.mc_wire.specs.LobbyAnswers.{event_entry, write_entry};
+ghost use Rattle.mc_wire.specs.LobbyAnswers.{event_entry, wrote_entry};
 ghost use Rattle.mc_wire.specs.LobbyAnswers.{IsInBuffer, IsInPiece};
-ghost use Rattle.mc_wire.specs.Becoming.{Becomes, Logs};
+ghost use Rattle.mc_wire.specs.Becoming.{ToldBecomes, Logs};
 
 use crate::{Event, LogEntry, Pace, Wrote};
 use mc_nbt::{NoMemory, Octets};
@@ -92,7 +92,7 @@ impl LobbyRecord {
 
 /// Notes a pace, where a record is kept.
 pub fn note_pace(kept: &mut Option<LobbyRecord>, pace: Pace)
-    ensures { Becomes kept.old kept.new (with_pace pace) }
+    ensures { ToldBecomes kept.old kept.new (with_pace pace) }
 {
     if let Some(told) = kept {
         told.set_pace(pace);
@@ -101,7 +101,7 @@ pub fn note_pace(kept: &mut Option<LobbyRecord>, pace: Pace)
 
 /// Notes a port, or gives the record up where there is no memory for it.
 pub fn note_port(kept: &mut Option<LobbyRecord>, port: u16)
-    ensures { Becomes kept.old kept.new (with_port port) }
+    ensures { ToldBecomes kept.old kept.new (with_port port) }
 {
     if let Some(told) = kept
         && told.add_port(port).is_err()
@@ -160,7 +160,7 @@ pub fn note_event(kept: &mut Option<LobbyRecord>, event: Event, buf: &[u8])
 /// Notes what a write of a piece answered.
 pub fn note_write(kept: &mut Option<LobbyRecord>, wrote: Wrote, k: u32, piece: &[u8])
     requires within { IsInPiece wrote (length piece.now) }
-    ensures { Logs kept.old kept.new (write_entry wrote k piece.now ∷ []) }
+    ensures { Logs kept.old kept.new (wrote_entry wrote k piece.now ∷ []) }
 {
     match wrote {
         Wrote::Took(count) => note_put(kept, k, &piece[..count]),

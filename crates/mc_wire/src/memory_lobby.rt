@@ -4,9 +4,9 @@ ghost use Rattle.std.specs.Prelude.{Contains};
 ghost use Rattle.std.specs.Option.{option_copied};
 ghost use Rattle.mc_wire.specs.Count.{Rose, raised};
 ghost use Rattle.mc_wire.specs.LobbyTold.{nothing_called, with_port, with_pace};
-ghost use Rattle.mc_wire.specs.Becoming.{Becomes, Logs};
+ghost use Rattle.mc_wire.specs.Becoming.{ToldBecomes, Logs};
 ghost use Rattle.mc_wire.specs.LobbyCounts.{no_counts, with_fault, with_write, NoneFalls, HasCause};
-ghost use Rattle.mc_wire.specs.LobbyAnswers.{event_entry, write_entry, IsInBuffer, RaisesLeast};
+ghost use Rattle.mc_wire.specs.LobbyAnswers.{event_entry, wrote_entry, IsInBuffer, RaisesLeast};
 ghost use Rattle.mc_wire.specs.Events.{AreEvents, IsNextEvent, least_after};
 ghost use Rattle.mc_wire.specs.Troubles.{write_answer};
 
@@ -44,10 +44,10 @@ impl Model for MemoryLobby {
 }
 
 impl MemoryLobby {
-    /// A lobby that gives these events, and then the end, and of whose calls those of the troubles go
-    /// wrong. `None` where the numbers of those that join do not rise, or an entry is no event:
-    /// joined, left, a tick, or one byte at least.
-    pub fn new(alloc: Global, events: Vec<LogEntry>, troubles: Vec<Trouble>) -> Option<MemoryLobby>
+    /// A lobby that gives these events, and then the end, whose calls go wrong by these troubles.
+    /// `None` where the numbers of those that join do not rise, or an entry is no event: joined,
+    /// left, a tick, or one byte at least.
+    pub fn new(alloc: Global, events: Vec<LogEntry>, troubles: Vec<Trouble>) -> Option<Self>
         ensures some { IsSome result ↔ AreEvents 0 events.items }
         ensures first { IfSome result (λ lobby. lobby ≡ record {
           told = Some nothing_called;
@@ -85,7 +85,7 @@ impl Lobby for MemoryLobby {
     ghost least = { λ lobby. lobby.least };
 
     fn pace(&mut self, pace: Pace)
-        ensures tells { Becomes self.old.told self.new.told (with_pace pace) }
+        ensures tells { ToldBecomes self.old.told self.new.told (with_pace pace) }
         ensures falls { NoneFalls self.old.counts self.new.counts }
 
         // What it leaves in the lobby.
@@ -95,7 +95,7 @@ impl Lobby for MemoryLobby {
     }
 
     fn listen(&mut self, port: u16) -> Result<(), Failed>
-        ensures tells { Becomes self.old.told self.new.told (with_port port) }
+        ensures tells { ToldBecomes self.old.told self.new.told (with_port port) }
         ensures hears { self.new.listens ≡ (self.old.listens || is_ok result) }
         ensures failed { OnErr result (Rose self.old.counts.faults self.new.counts.faults) }
         ensures falls { NoneFalls self.old.counts self.new.counts }
@@ -129,7 +129,8 @@ impl Lobby for MemoryLobby {
         ensures falls { NoneFalls self.old.counts self.new.counts }
 
         // The exact answer, and what it leaves in the lobby and in the buffer.
-        ensures fails { IsErr result ↔ Contains self.old.troubles (Trouble.FailNext self.old.nexts) }
+        ensures fails { IsErr result ↔
+            Contains self.old.troubles (Trouble.FailNext self.old.nexts) }
         ensures event { IfOk result
             (λ event. IsNextEvent event buf.old buf.new self.old.left self.new.left) }
         ensures ok { IfOk result (λ event. self.new ≡ record self.old {
@@ -151,7 +152,7 @@ impl Lobby for MemoryLobby {
     fn write(&mut self, k: u32, piece: &[u8]) -> Wrote
         requires listening { self.old.listens ≡ true }
         requires some { 0 < length piece.now }
-        ensures tells { Logs self.old.told self.new.told (write_entry result k piece.now ∷ []) }
+        ensures tells { Logs self.old.told self.new.told (wrote_entry result k piece.now ∷ []) }
         ensures cause { HasCause result (length piece.now) self.old.counts self.new.counts }
         ensures falls { NoneFalls self.old.counts self.new.counts }
 

@@ -2,8 +2,8 @@ ghost use Rattle.std.specs.Prelude.{◌≡◌, ◌<◌, ◌≤◌, ◌↔◌, So
 ghost use Rattle.std.specs.Prelude.{option_map, IsOk, IsSome, IfOk, IfSome};
 ghost use Rattle.std.specs.Option.{option_copied};
 ghost use Rattle.mc_wire.specs.LobbyTold.{nothing_called, with_port, with_pace};
-ghost use Rattle.mc_wire.specs.Becoming.{Becomes, Logs};
-ghost use Rattle.mc_wire.specs.LobbyAnswers.{event_entry, write_entry, IsInBuffer, IsInPiece};
+ghost use Rattle.mc_wire.specs.Becoming.{ToldBecomes, Logs};
+ghost use Rattle.mc_wire.specs.LobbyAnswers.{event_entry, wrote_entry, IsInBuffer, IsInPiece};
 ghost use Rattle.mc_wire.specs.LobbyAnswers.{RaisesLeast};
 ghost use Rattle.mc_wire.specs.Events.{AreEvents, IsNextEvent, least_after};
 
@@ -67,7 +67,7 @@ impl SteadyLobby {
 
     /// Notes that it was asked to listen on a port.
     pub(crate) fn ask(&mut self, port: u16)
-        ensures tells { Becomes self.old.told self.new.told (with_port port) }
+        ensures tells { ToldBecomes self.old.told self.new.told (with_port port) }
         ensures after { self.new ≡ record self.old { told = self.new.told } }
     {
         note_port(&mut self.kept, port);
@@ -83,7 +83,7 @@ impl SteadyLobby {
     /// Notes what a write answered.
     pub(crate) fn wrote(&mut self, wrote: Wrote, k: u32, piece: &[u8])
         requires within { IsInPiece wrote (length piece.now) }
-        ensures tells { Logs self.old.told self.new.told (write_entry wrote k piece.now ∷ []) }
+        ensures tells { Logs self.old.told self.new.told (wrote_entry wrote k piece.now ∷ []) }
         ensures after { self.new ≡ record self.old { told = self.new.told } }
     {
         note_write(&mut self.kept, wrote, k, piece);
@@ -102,7 +102,7 @@ impl Lobby for SteadyLobby {
     ghost least = { λ lobby. lobby.least };
 
     fn pace(&mut self, pace: Pace)
-        ensures tells { Becomes self.old.told self.new.told (with_pace pace) }
+        ensures tells { ToldBecomes self.old.told self.new.told (with_pace pace) }
 
         // What it leaves in the lobby.
         ensures after { self.new ≡ record self.old { told = self.new.told } }
@@ -112,7 +112,7 @@ impl Lobby for SteadyLobby {
 
     fn listen(&mut self, port: u16) -> Result<(), Failed>
         ensures steady { IsOk result }
-        ensures tells { Becomes self.old.told self.new.told (with_port port) }
+        ensures tells { ToldBecomes self.old.told self.new.told (with_port port) }
 
         // What it leaves in the lobby.
         ensures after { self.new ≡ record self.old { told = self.new.told; listens = true } }

@@ -1,5 +1,5 @@
-/// What goes wrong in a call of a lobby in memory. Nexts and writes are numbered apart, each from 0,
-/// those that go wrong too.
+/// What goes wrong in a call of a lobby in memory. Nexts and writes are numbered apart, each from
+/// 0, those that go wrong too.
 #[derive(Clone, Copy, Debug, PartialEq, Eq)]
 pub enum Trouble {
     /// Each `listen` fails.

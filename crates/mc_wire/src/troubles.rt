@@ -76,7 +76,8 @@ impl Troubles {
 
     /// Counts a `next`, and says whether it fails.
     pub fn next(&mut self) -> Result<(), Failed>
-        ensures fails { IsErr result ↔ Contains self.old.troubles (Trouble.FailNext self.old.nexts) }
+        ensures fails { IsErr result ↔
+            Contains self.old.troubles (Trouble.FailNext self.old.nexts) }
         ensures ok { OnOk result (self.new ≡ record self.old { nexts = raised self.old.nexts }) }
         ensures err { OnErr result (self.new ≡ record self.old {
           nexts = raised self.old.nexts;

@@ -1,8 +1,8 @@
-ghost use Rattle.std.specs.Prelude.{◌≡◌, ℕ, ◌<◌, ◌↔◌, Option, None, List, [], ◌∷◌, ◌++◌, length, take};
-ghost use Rattle.std.specs.Prelude.{drop, min, IsTrue, IsSome, IfSome, IfNone};
+ghost use Rattle.std.specs.Prelude.{◌≡◌, ℕ, ◌<◌, ◌↔◌, None, List, [], ◌∷◌, ◌++◌, length, min};
+ghost use Rattle.std.specs.Prelude.{IsTrue, IsSome, IfSome, IfNone};
 ghost use Rattle.mc_wire.specs.declared.log.LogEntry.{LogEntry as Entry};
 ghost use Rattle.mc_wire.specs.LobbyAnswers.{IsInBuffer, RaisesLeast};
-ghost use Rattle.mc_wire.specs.Events.{AreEvents, IsNextEvent, least_after, still_came};
+ghost use Rattle.mc_wire.specs.Events.{AreEvents, IsNextEvent, least_after};
 ghost use Rattle.mc_wire.specs.Upcoming.{part_entries};
 
 use crate::part::Part;
@@ -37,7 +37,8 @@ impl Upcoming {
     /// All of the entries, or `None` where they are no events.
     pub fn new(entries: Vec<LogEntry>) -> Option<Upcoming>
         ensures some { IsSome result ↔ AreEvents 0 entries.items }
-        ensures all { IfSome result (λ upcoming. upcoming ≡ record { left = entries.items; least = 0 }) }
+        ensures all { IfSome result
+            (λ upcoming. upcoming ≡ record { left = entries.items; least = 0 }) }
     {
         if !are_events(entries.as_slice()) {
             return None;
