@@ -1,8 +1,9 @@
 pub mod Cuts
-pub mod Replies
-pub mod Hearing
 pub mod Reading
-pub mod OneText
+pub mod Exchanges
+pub mod Hearing
+pub mod Answering
+pub mod StatusLines
 pub mod Inputs
 pub mod DigitSteps
 pub mod Scripts

@@ -107,7 +107,7 @@ stopped_before xs ys w held held' s =
 
 -- ---- nothing was written
 
-grows_none : (held : Option (List ℕ)) → Grows held held []
+pub grows_none : (held : Option (List ℕ)) → Grows held held []
 grows_none None = tt
 grows_none (Some xs) = sym (append-nil xs)
 

@@ -1,8 +1,6 @@
 pub mod Lines
 pub mod FaultName
 pub mod Ended
-pub mod StatusJson
-pub mod Client
 pub mod StatusText
 pub mod Heard
 pub mod Words

@@ -8,7 +8,7 @@ use Rattle.mc_top.specs.declared.bad_input.BadInput.{BadInput}
 use Rattle.mc_top.specs.declared.ended.Ended.{Ended}
 use Rattle.mc_top.specs.declared.words.Command.TheVariants.{Status}
 use Rattle.mc_top.specs.Ended.{status_of, bad_input_line, ended_line}
-use Rattle.mc_top.specs.StatusText.{IsStatusText}
+use Rattle.mc_top.specs.StatusText.{status_told}
 use Rattle.mc_top.specs.Words.{command_of, bytes_of}
 
 -- the words are `status`, with so many players at most
@@ -21,32 +21,23 @@ IsCommand words = IsSome (command_of (bytes_of words))
 
 -- nothing is wrong with an input, and this is its text
 abbrev pub IsFineText : ℕ → List ℕ → List ℕ → Type 0
-IsFineText most text input = IsStatusText most input None text
+IsFineText most text input = status_told most input ≡ record { text = text; fault = None }
 
 -- this is the first fault of an input, and the text of what stands before it
 abbrev pub IsBadText : ℕ → BadInput → List ℕ → List ℕ → Type 0
-IsBadText most bad text input = IsStatusText most input (Some bad) text
-
--- an input is not fine, or has no fault
-abbrev pub IsNotFine : ℕ → List ℕ → Type 0
-IsNotFine most input = (text : List ℕ) → ¬ IsFineText most text input
-
-abbrev pub IsNotBad : ℕ → List ℕ → Type 0
-IsNotBad most input = (bad : BadInput) (text : List ℕ) → ¬ IsBadText most bad text input
+IsBadText most bad text input = status_told most input ≡ record { text = text; fault = Some bad }
 
 -- the input was read to its end, nothing is wrong with it, and its text was written
 pub record Replied (most : ℕ) (left left' held held' : Option (List ℕ)) : Type 0 where
   pub text : List ℕ
   pub fine : IfSome left (IsFineText most text)
-  pub not_bad : IfSome left (IsNotBad most)
   pub ended : IsAtEnd left'
   pub wrote : Grows held held' text
 
 -- some first part of the text of an input was written
 pub record RepliedPart (most : ℕ) (left held held' : Option (List ℕ)) : Type 0 where
-  pub bad : Option BadInput
   pub text : List ℕ
-  pub is : IfSome left (λ input. IsStatusText most input bad text)
+  pub is : IfSome left (λ input. (status_told most input).text ≡ text)
   pub len : ℕ
   pub wrote : Grows held held' (take len text)
 
@@ -54,7 +45,6 @@ pub record RepliedPart (most : ℕ) (left held held' : Option (List ℕ)) : Type
 pub record Found (most : ℕ) (bad : BadInput) (left left' held held' : Option (List ℕ)) : Type 0 where
   pub text : List ℕ
   pub first : IfSome left (IsBadText most bad text)
-  pub not_fine : IfSome left (IsNotFine most)
   pub ended : IsAtEnd left'
   pub wrote : Grows held held' text
 
@@ -73,7 +63,6 @@ pub record Refused (most : ℕ) (left left' held held' : Option (List ℕ)) (fau
   pub bad : BadInput
   pub text : List ℕ
   pub first : IfSome left (IsBadText most bad text)
-  pub not_fine : IfSome left (IsNotFine most)
   pub ended : IsAtEnd left'
   pub wrote : WroteTextThenLast held held' faults faults' text (bad_input_line bad)
 

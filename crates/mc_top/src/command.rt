@@ -9,20 +9,21 @@ ghost use Rattle.mc_top.specs.Ended.{usage_line, read_fault_line, bad_input_line
 ghost use Rattle.mc_top.specs.Run.{IsStatusCommand, IsCommand, IsStatus, IsFineText, IsBadText, IsKnown, Replied, RepliedPart, RepliedPartOrNothing, Found, Refused, WroteLast};
 
 use crate::bad_input::BadInput;
+use crate::client::Unanswered;
 use crate::ended::Ended;
 use crate::replay::replay;
-use crate::status_text::status_text;
+use crate::status::write_status;
 use crate::words::Command;
 use mc_nbt::NoMemory;
 use mc_wire::{InputError, Sink, Source, read_all, write_all};
 use std::alloc::Global;
 
-/// The command `status`: it reads one client's bytes as lines of hex, and writes each reply frame as
-/// one such line. `most` is the number of players that it tells.
+/// The command `status`: it reads one client's bytes as lines of hex, and writes each frame that
+/// answers them as one such line. `most` is the number of players that it tells.
 fn status<I: Source, O: Sink>(alloc: Global, most: u32, input: &mut I, out: &mut O) -> Ended
     ensures done { result ≡ Ended.Done →
         Replied most (I.left input.old) (I.left input.new) (O.held out.old) (O.held out.new) }
-    ensures no_memory { result ≡ Ended.NoMemory → out.new ≡ out.old }
+    ensures no_memory { result ≡ Ended.NoMemory → RepliedPartOrNothing most (I.left input.old) (O.held out.old) (O.held out.new) }
     ensures never_usage { ¬ (result ≡ Ended.Usage) }
     ensures read_fault { result ≡ Ended.ReadFault → Rose (I.faults input.old) (I.faults input.new) × (out.new ≡ out.old) }
     ensures write_fault { result ≡ Ended.WriteFault → Rose (O.faults out.old) (O.faults out.new)
@@ -36,12 +37,10 @@ fn status<I: Source, O: Sink>(alloc: Global, most: u32, input: &mut I, out: &mut
         Err(InputError::Failed) => return Ended::ReadFault,
         Err(InputError::NoMemory) => return Ended::NoMemory,
     };
-    let Ok(answer) = status_text(alloc, most, &text) else {
-        return Ended::NoMemory;
-    };
-    match write_all(out, &answer.lines) {
-        Ok(()) => Ended::after(answer.fault),
-        Err(_) => Ended::WriteFault,
+    match write_status(alloc, most, &text, out) {
+        Ok(fault) => Ended::after(fault),
+        Err(Unanswered::Failed) => Ended::WriteFault,
+        Err(Unanswered::NoMemory) => Ended::NoMemory,
     }
 }
 
@@ -51,7 +50,8 @@ fn perform<I: Source, O: Sink>(alloc: Global, words: &[String], input: &mut I, o
     ensures command { ¬ (result ≡ Ended.Usage) → IsCommand words.now }
     ensures done { (most : ℕ) → IsStatusCommand most words.now → result ≡ Ended.Done →
         Replied most (I.left input.old) (I.left input.new) (O.held out.old) (O.held out.new) }
-    ensures no_memory { (most : ℕ) → IsStatusCommand most words.now → result ≡ Ended.NoMemory → out.new ≡ out.old }
+    ensures no_memory { (most : ℕ) → IsStatusCommand most words.now → result ≡ Ended.NoMemory →
+        RepliedPartOrNothing most (I.left input.old) (O.held out.old) (O.held out.new) }
     ensures read_fault { result ≡ Ended.ReadFault → Rose (I.faults input.old) (I.faults input.new) × (out.new ≡ out.old) }
     ensures write_fault { result ≡ Ended.WriteFault → Rose (O.faults out.old) (O.faults out.new) }
     ensures write_fault_part { (most : ℕ) → IsStatusCommand most words.now → result ≡ Ended.WriteFault →

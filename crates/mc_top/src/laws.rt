@@ -1,17 +1,9 @@
-ghost use Rattle.std.specs.Prelude.{◌≡◌, ◌≤◌, ◌+◌, ℕ, List, Option, Ok, Err};
-ghost use Rattle.mc_top.specs.declared.bad_input.BadInput.{BadInput};
+ghost use Rattle.std.specs.Prelude.{◌≡◌, ◌≤◌, ◌+◌, ℕ, List, Ok, Err};
 ghost use Rattle.mc_top.specs.declared.bad_input.InputFault.TheVariants.{Long};
-ghost use Rattle.mc_top.specs.StatusText.{IsStatusText, HoldsByte, text_max};
+ghost use Rattle.mc_top.specs.Lines.{HoldsByte, text_max};
 ghost use Rattle.mc_top.specs.declared.script_line.ScriptEvent.{ScriptEvent};
 ghost use Rattle.mc_top.specs.Script.{script_of};
 ghost use Rattle.mc_top.specs.Replaying.{ticks_of};
-
-/// Every input has one text for each number of players, and one first fault or none: what `run` writes for `status` is no choice
-/// of its own.
-pub fn one_status_text()
-    ensures { (most : ℕ) (input : List ℕ) (bad other : Option BadInput) (text also : List ℕ) →
-        IsStatusText most input bad text → IsStatusText most input other also → (bad ≡ other) × (text ≡ also) }
-{}
 
 /// The line of a script that is too long is the one that holds the first byte too many.
 pub fn long_line_of_a_script()

@@ -2,7 +2,7 @@ use Rattle.std.proofs.Common.{◌≡◌, ℕ, sym, ap, ◌∙◌, Some}
 use Rattle.mc_top.specs.declared.words.Options.{Options}
 use Rattle.mc_top.specs.declared.words.Command.TheVariants.{Status, Replay}
 use Rattle.mc_top.specs.Words.{command_of, bytes_of}
-use Rattle.mc_top.proofs.Inputs.{one_status, replied_same, part_same, found_same}
+use Rattle.mc_top.proofs.Inputs.{one_status, replied_same, part_same, part_or_nothing_same, found_same}
 use Rattle.mc_top.proofs.Replays.{some_command, status_not_replay, one_replay, replayed_same, replayed_part_same, replayed_nothing_same}
 use Rattle.mc_top.proofs.Settings.{options_are_set}
 use Rattle.mc_top.proofs.command.perform.Goals as goal
@@ -15,7 +15,7 @@ returns-in-Some-Status g c =
       usage = λ e. absurd (c.status.ensures.never_usage e);
       command = λ _. some_command _ _ named;
       done = λ most is e. replied_same _ _ _ _ _ _ (same most is) (c.status.ensures.done e);
-      no_memory = λ most is e. c.status.ensures.no_memory e;
+      no_memory = λ most is e. part_or_nothing_same _ _ _ _ _ (same most is) (c.status.ensures.no_memory e);
       read_fault = c.status.ensures.read_fault;
       write_fault = λ e. (c.status.ensures.write_fault e).0;
       write_fault_part = λ most is e. part_same _ _ _ _ _ (same most is) (c.status.ensures.write_fault e).1;
