@@ -14,3 +14,8 @@ pub mod ScriptFacts
 pub mod Tellings
 pub mod Settings
 pub mod Replays
+pub mod Finishes
+pub mod StatusKept
+pub mod ReplayKept
+pub mod Runs
+pub mod Sent

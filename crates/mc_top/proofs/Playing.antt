@@ -25,7 +25,7 @@ use Rattle.mc_top.proofs.Taking.{ids_of, all_settled, all_told}
 pub reached_new : (most cap : ℕ) (terrain : Terrain) → IsReached (new_world most cap terrain)
 reached_new most cap terrain = record { most = most; cap = cap; terrain = terrain; events = []; is = refl }
 
-reached_history : (w : World) (events : List Event) → IsReached w → IsReached (history w events)
+pub reached_history : (w : World) (events : List Event) → IsReached w → IsReached (history w events)
 reached_history w events r = record {
   most = r.most;
   cap = r.cap;

@@ -6,10 +6,13 @@ pub mod Client
 pub mod StatusText
 pub mod Heard
 pub mod Words
-pub mod Run
+pub mod Devices
+pub mod StatusPromise
 pub mod Digits
 pub mod Script
 pub mod ScriptRead
 pub mod ReplayText
 pub mod Replaying
-pub mod ReplayRun
+pub mod ReplayPromise
+pub mod Promises
+pub mod Finishing

@@ -1,24 +1,20 @@
--- What a run of `replay` promises, by the status that it answers.
-use Rattle.std.specs.Prelude.{◌≡◌, ℕ, ◌⊎◌, List, [], take, Option, IfSome, Some, Ok, Err}
-use Rattle.std.specs.declared.string.String.{String}
+-- What `replay` promises, by how it ends. Rules of this project.
+use Rattle.std.specs.Prelude.{◌≡◌, ℕ, ◌⊎◌, List, [], take, Option, IfSome, Ok, Err}
+use Rattle.mc_wire.specs.Count.{Rose}
 use Rattle.mc_wire.specs.Stream.{Grows, IsAtEnd}
 use Rattle.mc_model.specs.World.{World, new_world}
 use Rattle.mc_model.specs.Headline.{Headline}
 use Rattle.mc_top.specs.declared.bad_input.BadInput.{BadInput}
 use Rattle.mc_top.specs.declared.script_line.ScriptEvent.{ScriptEvent}
 use Rattle.mc_top.specs.declared.words.Options.{Options}
-use Rattle.mc_top.specs.declared.words.Command.TheVariants.{Replay}
+use Rattle.mc_top.specs.declared.ended.Ended.{Ended}
+use Rattle.mc_top.specs.declared.ended.Ended.TheVariants as ended
+use Rattle.mc_top.specs.Devices.{Devices, InputFailed, WroteLast}
 use Rattle.mc_top.specs.Ended.{bad_input_line}
-use Rattle.mc_top.specs.Run.{WroteLast}
 use Rattle.mc_top.specs.Script.{script_of}
-use Rattle.mc_top.specs.Words.{command_of, bytes_of}
-use Rattle.mc_top.specs.ReplayText.{events_of, replay_text, replay_log}
+use Rattle.mc_top.specs.ReplayText.{events_of, replay_text, replay_log, IsToldTaken}
 
--- the words are `replay`, with these options
-abbrev pub IsReplayCommand : {Z : Type 0} → Options → List (String Z) → Type 0
-IsReplayCommand options words = command_of (bytes_of words) ≡ Some (Replay options)
-
--- the new world that they ask for
+-- the new world that the options ask for
 abbrev pub world_of : Options → World
 world_of options = new_world options.players options.view options.terrain
 
@@ -30,14 +26,15 @@ IsScriptOf events input = script_of input ≡ Ok events
 abbrev pub IsFaultOf : BadInput → List ℕ → Type 0
 IsFaultOf bad input = script_of input ≡ Err bad
 
--- the input was read to its end and is a script without fault, its text was written, and all that happened keeps the whole
--- promise about a run
+-- the input was read to its end and is a script without fault, its text was written, all that happened keeps the whole promise
+-- about a run, and the `sent` lines tell just the bytes of that promise
 pub record Replayed (options : Options) (left left' held held' : Option (List ℕ)) : Type 0 where
   pub events : List ScriptEvent
   pub script : IfSome left (IsScriptOf events)
   pub ended : IsAtEnd left'
   pub wrote : Grows held held' (replay_text (world_of options) (events_of events))
   pub promise : Headline options.players options.view options.terrain (replay_log (world_of options) (events_of events))
+  pub sent : (k : ℕ) → IsToldTaken k (world_of options) (events_of events)
 
 -- the input is a script without fault, and some first part of its text was written
 pub record ReplayedPart (options : Options) (left held held' : Option (List ℕ)) : Type 0 where
@@ -55,8 +52,17 @@ pub record FoundFault (bad : BadInput) (left left' : Option (List ℕ)) : Type 0
   pub first : IfSome left (IsFaultOf bad)
   pub ended : IsAtEnd left'
 
--- the input was read to its end and has a first fault, and nothing but the last line was written, which names it
-pub record Rejected (left left' held held' : Option (List ℕ)) (faults faults' : ℕ) : Type 0 where
-  pub bad : BadInput
-  pub found : FoundFault bad left left'
-  pub wrote : WroteLast held held' faults faults' (bad_input_line bad)
+-- the input was read to its end, this is its first fault, and nothing but the last line was written, which names it
+pub record Rejected (bad : BadInput) (before after : Devices) : Type 0 where
+  pub found : FoundFault bad before.left after.left
+  pub wrote : WroteLast before.held after.held before.write_faults after.write_faults (bad_input_line bad)
+
+-- what holds where `replay` ended so
+abbrev pub ReplayPromise : Options → Ended → Devices → Devices → Type 0
+ReplayPromise options ended.Done before after = Replayed options before.left after.left before.held after.held
+ReplayPromise options ended.NoMemory before after = ReplayedPartOrNothing options before.left before.held after.held
+ReplayPromise options ended.Usage before after = ⊥
+ReplayPromise options ended.ReadFault before after = InputFailed before after
+ReplayPromise options ended.WriteFault before after =
+    Rose before.write_faults after.write_faults × ReplayedPart options before.left before.held after.held
+ReplayPromise options (ended.BadInput bad) before after = Rejected bad before after
