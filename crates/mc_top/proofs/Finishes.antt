@@ -1,5 +1,5 @@
 -- What holds of a run's devices once the last line is written.
-use Rattle.std.proofs.Common.{◌≡◌, ℕ, ◌⊎◌, inl, inr, List, length, take, Option, Some, Result, refl, sym, subst, ap}
+use Rattle.std.proofs.Common.{◌≡◌, ℕ, inl, List, length, take, Option, Some, Result, refl, sym, subst, ap}
 use Rattle.std.specs.Prelude.{IfSome, IsOk, OnOk, OnErr}
 use Rattle.mc_wire.specs.Count.{Rose}
 use Rattle.mc_wire.specs.Stream.{Grows}
@@ -8,7 +8,7 @@ use Rattle.mc_top.specs.declared.ended.Ended.{Ended}
 use Rattle.mc_top.specs.declared.ended.Ended.TheVariants as ended
 use Rattle.mc_top.specs.Devices.{WroteLast}
 use Rattle.mc_top.specs.Ended.{fixed_line_of, usage_line, read_fault_line, bad_input_line}
-use Rattle.mc_top.specs.Finishing.{Finishes, IsUntouched}
+use Rattle.mc_top.specs.Finishing.{Finishes}
 use Rattle.mc_top.proofs.Inputs.{wrote_last}
 
 -- what is known of an input that is told

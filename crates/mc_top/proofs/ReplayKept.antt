@@ -1,6 +1,6 @@
 -- The promise of `replay`, from what its function says and from its last line.
 use Rattle.std.proofs.Common.{◌≡◌, ℕ, ◌⊎◌, inl, inr, List, Option, Some, Ok, Err, sym, subst, ◌∙◌, refl}
-use Rattle.mc_wire.specs.Count.{Rose, StandsOrRises}
+use Rattle.mc_wire.specs.Count.{Rose}
 use Rattle.mc_top.specs.declared.bad_input.BadInput.{BadInput}
 use Rattle.mc_top.specs.declared.ended.Ended.{Ended}
 use Rattle.mc_top.specs.declared.ended.Ended.TheVariants as ended

@@ -1,5 +1,5 @@
 -- The status of a run, and the promise of the command that the words name.
-use Rattle.std.proofs.Common.{◌≡◌, ℕ, ◌⊎◌, inl, inr, List, Option, Some, None, sym, subst, ap, ◌∙◌, refl, arith}
+use Rattle.std.proofs.Common.{◌≡◌, ℕ, ◌⊎◌, List, Option, Some, None, sym, subst, ◌∙◌, refl, arith}
 use Rattle.std.specs.Prelude.{◌↔◌}
 use Rattle.std.specs.declared.string.String.{String}
 use Rattle.mc_wire.specs.Count.{Rose}

@@ -1,7 +1,7 @@
 -- What the `sent` lines tell is what was taken.
-use Rattle.std.proofs.Common.{◌≡◌, ℕ, zero, suc, Bool, true, false, cond, List, [], ◌∷◌, ◌++◌, length, take, map, refl, sym, subst, ap, ◌∙◌, append_assoc, arith}
+use Rattle.std.proofs.Common.{◌≡◌, ℕ, zero, suc, true, false, cond, List, [], ◌∷◌, ◌++◌, length, take, map, refl, sym, subst, ap, ◌∙◌, append_assoc, arith}
 use Rattle.std.specs.Prelude.{◌==◌, Option, Some, None, option_map, replicate}
-use Rattle.std.specs.List.{filter, flat_map}
+use Rattle.std.specs.List.{filter}
 use Rattle.std.proofs.lemmas.Bool.{eqb-true}
 use Rattle.std.proofs.lemmas.Grind.{flat_map-append}
 use Rattle.std.proofs.lemmas.List.{append-nil, take_all}
@@ -9,7 +9,7 @@ use Rattle.std.proofs.lemmas.List.Sums.{fold-append}
 use Rattle.mc_land.specs.declared.terrain.Terrain.{Terrain}
 use Rattle.mc_model.specs.World.{World, Session, found, new_world}
 use Rattle.mc_model.specs.Step.{Event, joined, came, left, ticked, took, forgot, step}
-use Rattle.mc_model.specs.Run.{history, owed_of, owed_in, taken, taken_at}
+use Rattle.mc_model.specs.Run.{history, owed_of, taken, taken_at}
 use Rattle.mc_model.specs.Headline.{Headline}
 use Rattle.mc_model.specs.Orderly.{AreApart}
 use Rattle.mc_model.proofs.Sessions.{found_map, some_none}

@@ -8,7 +8,7 @@ use Rattle.mc_model.specs.World.{AreSettings}
 use Rattle.mc_model.proofs.FitsText.{both_true}
 use Rattle.mc_top.specs.declared.words.Options.{Options}
 use Rattle.mc_top.specs.declared.words.Command.{Command}
-use Rattle.mc_top.specs.declared.words.Command.TheVariants.{Status, Replay}
+use Rattle.mc_top.specs.declared.words.Command.TheVariants.{Replay}
 use Rattle.mc_top.specs.Digits.{digits_number, within}
 use Rattle.mc_top.specs.Words.{IsSet, value_in, are_options, number_or, players_in, view_in, land_in, status_with, replay_with, status_of, replay_of, command_of}
 

@@ -11,11 +11,16 @@ IsUntouched held held' faults faults' = (held' ≡ held) × (faults' ≡ faults)
 
 -- a command that ended so ends with this result once its last line is written
 abbrev pub Finishes : Ended → Ended → Option (List ℕ) → Option (List ℕ) → ℕ → ℕ → Type 0
-Finishes ended.Done result held held' faults faults' = (result ≡ ended.Done) × IsUntouched held held' faults faults'
-Finishes ended.NoMemory result held held' faults faults' = (result ≡ ended.NoMemory) × IsUntouched held held' faults faults'
-Finishes ended.Usage result held held' faults faults' = (result ≡ ended.Usage) × WroteLast held held' faults faults' usage_line
-Finishes ended.ReadFault result held held' faults faults' = (result ≡ ended.ReadFault) × WroteLast held held' faults faults' read_fault_line
-Finishes ended.WriteFault result held held' faults faults' = (result ≡ ended.WriteFault) × IsUntouched held held' faults faults'
+Finishes ended.Done result held held' faults faults' =
+    (result ≡ ended.Done) × IsUntouched held held' faults faults'
+Finishes ended.NoMemory result held held' faults faults' =
+    (result ≡ ended.NoMemory) × IsUntouched held held' faults faults'
+Finishes ended.Usage result held held' faults faults' =
+    (result ≡ ended.Usage) × WroteLast held held' faults faults' usage_line
+Finishes ended.ReadFault result held held' faults faults' =
+    (result ≡ ended.ReadFault) × WroteLast held held' faults faults' read_fault_line
+Finishes ended.WriteFault result held held' faults faults' =
+    (result ≡ ended.WriteFault) × IsUntouched held held' faults faults'
 Finishes (ended.BadInput bad) result held held' faults faults' =
     ((result ≡ ended.BadInput bad) × WroteLast held held' faults faults' (bad_input_line bad))
     ⊎ ((result ≡ ended.NoMemory) × IsUntouched held held' faults faults')

@@ -1,6 +1,6 @@
--- What a run of the program promises, by the command that its words name and by how it ends. Rules of this project. A new command
--- is a case of each of these.
-use Rattle.std.specs.Prelude.{◌≡◌, ℕ, List, Option, Some, None}
+-- What a run of the program promises, by the command that its words name and by how it ends. Rules
+-- of this project. A new command is a case of each of these.
+use Rattle.std.specs.Prelude.{◌≡◌, ℕ, List, Some, None}
 use Rattle.std.specs.declared.string.String.{String}
 use Rattle.mc_top.specs.declared.bad_input.BadInput.{BadInput}
 use Rattle.mc_top.specs.declared.ended.Ended.{Ended}
@@ -35,7 +35,8 @@ NamesNone words = command_of (bytes_of words) ≡ None
 -- the command that the words name ended so, and its promise holds
 abbrev pub KeepsPromise : {Z : Type 0} → List (String Z) → Ended → Devices → Devices → Type 0
 KeepsPromise words ended before after =
-    (command : Command) → command_of (bytes_of words) ≡ Some command → Promises command ended before after
+    (command : Command) → command_of (bytes_of words) ≡ Some command →
+    Promises command ended before after
 
 -- the statuses that a run may answer
 abbrev pub IsStatus : ℕ → Type 0

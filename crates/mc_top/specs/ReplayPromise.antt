@@ -26,14 +26,16 @@ IsScriptOf events input = script_of input ≡ Ok events
 abbrev pub IsFaultOf : BadInput → List ℕ → Type 0
 IsFaultOf bad input = script_of input ≡ Err bad
 
--- the input was read to its end and is a script without fault, its text was written, all that happened keeps the whole promise
--- about a run, and the `sent` lines tell just the bytes of that promise
+-- the input was read to its end and is a script without fault, its text was written, all that
+-- happened keeps the whole promise about a run, and the `sent` lines tell just the bytes of that
+-- promise
 pub record Replayed (options : Options) (left left' held held' : Option (List ℕ)) : Type 0 where
   pub events : List ScriptEvent
   pub script : IfSome left (IsScriptOf events)
   pub ended : IsAtEnd left'
   pub wrote : Grows held held' (replay_text (world_of options) (events_of events))
-  pub promise : Headline options.players options.view options.terrain (replay_log (world_of options) (events_of events))
+  pub promise : Headline options.players options.view options.terrain
+      (replay_log (world_of options) (events_of events))
   pub sent : (k : ℕ) → IsToldTaken k (world_of options) (events_of events)
 
 -- the input is a script without fault, and some first part of its text was written
@@ -52,17 +54,22 @@ pub record FoundFault (bad : BadInput) (left left' : Option (List ℕ)) : Type 0
   pub first : IfSome left (IsFaultOf bad)
   pub ended : IsAtEnd left'
 
--- the input was read to its end, this is its first fault, and nothing but the last line was written, which names it
+-- the input was read to its end, this is its first fault, and nothing but the last line was written,
+-- which names it
 pub record Rejected (bad : BadInput) (before after : Devices) : Type 0 where
   pub found : FoundFault bad before.left after.left
-  pub wrote : WroteLast before.held after.held before.write_faults after.write_faults (bad_input_line bad)
+  pub wrote : WroteLast before.held after.held before.write_faults after.write_faults
+      (bad_input_line bad)
 
 -- what holds where `replay` ended so
 abbrev pub ReplayPromise : Options → Ended → Devices → Devices → Type 0
-ReplayPromise options ended.Done before after = Replayed options before.left after.left before.held after.held
-ReplayPromise options ended.NoMemory before after = ReplayedPartOrNothing options before.left before.held after.held
+ReplayPromise options ended.Done before after =
+    Replayed options before.left after.left before.held after.held
+ReplayPromise options ended.NoMemory before after =
+    ReplayedPartOrNothing options before.left before.held after.held
 ReplayPromise options ended.Usage before after = ⊥
 ReplayPromise options ended.ReadFault before after = InputFailed before after
 ReplayPromise options ended.WriteFault before after =
-    Rose before.write_faults after.write_faults × ReplayedPart options before.left before.held after.held
+    Rose before.write_faults after.write_faults
+    × ReplayedPart options before.left before.held after.held
 ReplayPromise options (ended.BadInput bad) before after = Rejected bad before after

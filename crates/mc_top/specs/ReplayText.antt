@@ -18,7 +18,8 @@ pub data Telling : Type 0 where
 
 -- its line
 abbrev pub telling_line : Telling → List ℕ
-telling_line (tells_sent k bytes) = codes "sent " ++ decimal k ++ codes " " ++ encode_lower bytes ++ 10 ∷ []
+telling_line (tells_sent k bytes) =
+    codes "sent " ++ decimal k ++ codes " " ++ encode_lower bytes ++ 10 ∷ []
 telling_line (tells_shut k) = codes "shut " ++ decimal k ++ 10 ∷ []
 
 abbrev pub owes : Session → Bool
@@ -53,7 +54,8 @@ replay_text w (e ∷ events) = told (step w e).world ++ replay_text (settled (st
 -- all that is told
 abbrev pub replay_tellings : World → List Event → List Telling
 replay_tellings w [] = []
-replay_tellings w (e ∷ events) = tellings (step w e).world ++ replay_tellings (settled (step w e).world) events
+replay_tellings w (e ∷ events) =
+    tellings (step w e).world ++ replay_tellings (settled (step w e).world) events
 
 -- all that happens
 abbrev pub replay_log : World → List Event → List Event
@@ -70,12 +72,14 @@ sent_for k (tells_shut j) = []
 abbrev pub sent_to : ℕ → List Telling → List ℕ
 sent_to k all = flat_map (sent_for k) all
 
--- What is told of connection k is what it took of all that it was handed: just the bytes that it took in the log, so the first ones of
--- its stream, and all of that where it is open at the end.
+-- What is told of connection k is what it took of all that it was handed: just the bytes that it
+-- took in the log, so the first ones of its stream, and all of that where it is open at the end.
 pub record IsToldTaken (k : ℕ) (w : World) (events : List Event) : Type 0 where
   pub is_taken : sent_to k (replay_tellings w events) ≡ taken k w (replay_log w events)
-  pub begun : (more : List ℕ) × (stream k w (replay_log w events) ≡ sent_to k (replay_tellings w events) ++ more)
-  pub whole : (s : Session) → found k (history w (replay_log w events)).sessions ≡ Some s → is_closed s.stage ≡ false →
+  pub begun : (more : List ℕ) ×
+      (stream k w (replay_log w events) ≡ sent_to k (replay_tellings w events) ++ more)
+  pub whole : (s : Session) → found k (history w (replay_log w events)).sessions ≡ Some s →
+      is_closed s.stage ≡ false →
       stream k w (replay_log w events) ≡ sent_to k (replay_tellings w events)
 
 -- ---- the events of a script: a line of ticks is so many

@@ -48,14 +48,15 @@ pub record Found (most : ℕ) (bad : BadInput) (left left' held held' : Option (
   pub ended : IsAtEnd left'
   pub wrote : Grows held held' text
 
--- the input was read to its end, this is its first fault, and the text of what stands before it and the last line, which names
--- it, were written
+-- the input was read to its end, this is its first fault, and the text of what stands before it and
+-- the last line, which names it, were written
 pub record Refused (most : ℕ) (bad : BadInput) (before after : Devices) : Type 0 where
   pub text : List ℕ
   pub first : IfSome before.left (IsBadText most bad text)
   pub not_fine : IfSome before.left (IsNotFine most)
   pub ended : IsAtEnd after.left
-  pub wrote : WroteTextThenLast before.held after.held before.write_faults after.write_faults text (bad_input_line bad)
+  pub wrote : WroteTextThenLast before.held after.held before.write_faults after.write_faults text
+      (bad_input_line bad)
 
 -- some first part of the text, or nothing
 abbrev pub RepliedPartOrNothing : ℕ → Option (List ℕ) → Option (List ℕ) → Option (List ℕ) → Type 0
@@ -63,10 +64,13 @@ RepliedPartOrNothing most left held held' = Grows held held' [] ⊎ RepliedPart 
 
 -- what holds where `status` ended so
 abbrev pub StatusPromise : ℕ → Ended → Devices → Devices → Type 0
-StatusPromise most ended.Done before after = Replied most before.left after.left before.held after.held
-StatusPromise most ended.NoMemory before after = RepliedPartOrNothing most before.left before.held after.held
+StatusPromise most ended.Done before after =
+    Replied most before.left after.left before.held after.held
+StatusPromise most ended.NoMemory before after =
+    RepliedPartOrNothing most before.left before.held after.held
 StatusPromise most ended.Usage before after = ⊥
 StatusPromise most ended.ReadFault before after = InputFailed before after
 StatusPromise most ended.WriteFault before after =
-    Rose before.write_faults after.write_faults × RepliedPart most before.left before.held after.held
+    Rose before.write_faults after.write_faults
+    × RepliedPart most before.left before.held after.held
 StatusPromise most (ended.BadInput bad) before after = Refused most bad before after

@@ -30,8 +30,8 @@ pub fn ticks_of_a_script()
     ensures { (text : List ℕ) (events : List ScriptEvent) → script_of text ≡ Ok events → ticks_of events ≤ 1000000000 }
 {}
 
-/// An input that nothing is wrong with is served, unless memory runs out or a device fails. It follows from what each command
-/// promises.
+/// An input that nothing is wrong with is served, unless memory runs out or a device fails. It
+/// follows from what each command promises.
 pub fn good_inputs_are_served()
     ensures { (command : Command) (how : Ended) (before after : Devices) (input : List ℕ) →
         Promises command how before after → before.left ≡ Some input → IsInputOf command input →
@@ -39,7 +39,8 @@ pub fn good_inputs_are_served()
         (how ≡ ended.Done) ⊎ (how ≡ ended.NoMemory) }
 {}
 
-/// An input that has a fault is refused, unless memory runs out or a device fails. It follows from what each command promises.
+/// An input that has a fault is refused, unless memory runs out or a device fails. It follows from
+/// what each command promises.
 pub fn bad_inputs_are_refused()
     ensures { (command : Command) (how : Ended) (before after : Devices) (bad : BadInput) (input : List ℕ) →
         Promises command how before after → before.left ≡ Some input → HasFault command bad input →

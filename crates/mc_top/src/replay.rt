@@ -224,6 +224,8 @@ pub fn replay<I: Source, O: Sink>(
         Err(ScriptError::Bad(bad)) => return Ended::BadInput(bad),
         Err(ScriptError::NoMemory) => return Ended::NoMemory,
     };
+    // The text is as long as all that happens in it, and nothing more is read of it.
+    drop(text);
     match play_script(alloc, options, &script, out) {
         Ok(()) => Ended::Done,
         Err(Unplayed::Failed) => Ended::WriteFault,
