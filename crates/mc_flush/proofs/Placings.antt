@@ -5,7 +5,7 @@ use Rattle.std.specs.Int.{w32}
 use Rattle.std.proofs.lemmas.Int.{ints, to_z-of_z}
 use mir.Val.{SFits, to_z, of_z}
 use Rattle.mc_fields.specs.Pattern.{StandsFor}
-use Rattle.mc_model.proofs.PlainPatterns.{pattern_one}
+use Rattle.mc_model.proofs.PatternFacts.{pattern_one}
 use lib.IntN.{ℤ, pos, negsuc}
 use lib.Signed.{◌≤ℤ◌}
 use Rattle.mc_fields.specs.declared.position.Spot.{Spot}

@@ -4,3 +4,4 @@ pub mod Lists
 pub mod Players
 pub mod Sending
 pub mod Seeing
+pub mod Readying

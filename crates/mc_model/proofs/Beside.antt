@@ -4,8 +4,7 @@ use Rattle.std.specs.Prelude.{◌==◌, Bool, true, false, cond, Option, Some, N
 use Rattle.std.proofs.lemmas.Bool.{eqb-true}
 use Rattle.mc_model.specs.World.{World, Session, found, put}
 use Rattle.mc_model.specs.Step.{changed}
-use Rattle.mc_model.specs.PlainWorld.{Rise}
-use Rattle.mc_model.specs.Orderly.{AreApart}
+use Rattle.mc_model.specs.Orderly.{AreApart, Rise}
 use Rattle.mc_model.proofs.Sessions.{other_number, same_number, found_id, found_map, apart_map, rise_map}
 
 -- only the part of one connection changed, and the count of entity numbers

@@ -5,9 +5,8 @@ use Rattle.std.proofs.lemmas.Bool.Decides.{nat_tests}
 use Rattle.mc_model.specs.declared.cause.Cause.TheVariants as causes
 use Rattle.mc_model.specs.World.{World, Session, found, is_closed}
 use Rattle.mc_model.specs.Step.{Event, joined, came, left, ticked, took, forgot, Handing, shut, new_session, joining, join, is_new, is_crowded, gone, changed, is_done, flush, at_tick, on_bytes, step}
-use Rattle.mc_model.specs.PlainWorld.{Rise, next_number}
-use Rattle.mc_model.specs.Orderly.{Orderly}
-use Rattle.mc_model.proofs.PlainPlaces.{joined_rise, rise_filter}
+use Rattle.mc_model.specs.Orderly.{Orderly, Rise, next_number}
+use Rattle.mc_model.proofs.RiseFacts.{joining_id, joined_rise, rise_filter}
 use Rattle.mc_model.proofs.Sessions.{other_number, found_map, found_behind, apart_map, rise_map, apart_more, apart_filter, none_filtered}
 use Rattle.mc_model.proofs.Beside.{Beside, beside_changed}
 use Rattle.mc_model.proofs.Handing.{flush_cases}
@@ -35,9 +34,6 @@ pub above_other : (k j : ℕ) → nat_lt k j ≡ true → k ≢ j
 above_other k j above same = grind (arith, nat_tests)
 
 -- ---- connections that keep their numbers
-
-pub joining_id : (w : World) (k : ℕ) → (joining w k).id ≡ k
-joining_id w k = elim (is_crowded w) as (λ b. (if b then shut (new_session k) causes.Crowded else new_session k).id ≡ k) [ true ↦ refl | false ↦ refl ]
 
 pub gone_id : (s : Session) → (gone s).id ≡ s.id
 gone_id s = elim (is_closed s.stage) as (λ b. (if b then record s { owed = [] } else record (shut s causes.Gone) { owed = [] }).id ≡ s.id) [ true ↦ refl | false ↦ refl ]

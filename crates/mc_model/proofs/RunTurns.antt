@@ -14,7 +14,8 @@ use Rattle.mc_model.proofs.Sessions.{some_none, one_some, other_number, same_num
 use Rattle.mc_model.proofs.Beside.{beside_changed, found_changed}
 use Rattle.mc_model.proofs.Handing.{Done, stayed, shut_for, gone_last}
 use Rattle.mc_model.proofs.Frames.{IsKept, also_owing, bytes_lead, no_bytes, bytes_beside}
-use Rattle.mc_model.proofs.RunEvents.{joining_id, gone_id, flush_id}
+use Rattle.mc_model.proofs.RunEvents.{gone_id, flush_id}
+use Rattle.mc_model.proofs.RiseFacts.{joining_id}
 
 -- ---- what is handed to one
 

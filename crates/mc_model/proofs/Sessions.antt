@@ -7,8 +7,7 @@ use Rattle.std.proofs.lemmas.Bool.{eqb-true, eq-eqb}
 use Rattle.mc_model.specs.World.{Session, found}
 use Rattle.mc_model.specs.Hearing.{Sent}
 use Rattle.mc_model.specs.Run.{to}
-use Rattle.mc_model.specs.PlainWorld.{Rise}
-use Rattle.mc_model.specs.Orderly.{AreApart}
+use Rattle.mc_model.specs.Orderly.{AreApart, Rise}
 
 -- ---- tests of numbers
 

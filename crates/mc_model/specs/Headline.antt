@@ -16,7 +16,7 @@ use Rattle.mc_model.specs.Talk.{farewell, refused, accepted}
 use Rattle.mc_model.specs.Step.{Event, came, left, ticked, at_tick, due, step}
 use Rattle.mc_model.specs.Run.{cause_in, handed, history, received, stream, taken, to, why}
 use Rattle.mc_model.specs.Causes.{Closes, IsTooMuch}
-use Rattle.mc_model.specs.PlainWorld.{Rise, next_number}
+use Rattle.mc_model.specs.Orderly.{Rise, next_number}
 
 -- ---- a tick
 

@@ -12,11 +12,9 @@ pub mod Acts
 pub mod Talk
 pub mod Decoding
 pub mod Step
-pub mod PlainWorld
 pub mod Orderly
 pub mod Run
 pub mod Causes
 pub mod Headline
-pub mod PlainTurns
-pub mod Plain
-pub mod PlainSight
+pub mod Stored
+pub mod Handled

@@ -1,6 +1,6 @@
 -- What an event makes of the world, and what it hands out to whom. Rules of this project.
 use Rattle.std.specs.Prelude.{ℕ, ◌+◌, ◌-◌, ◌==◌, ◌&&◌, ◌||◌, not, nat_lt, nat_le, Bool, true, false, List, [], ◌∷◌, ◌++◌, length, map, drop, Option, Some, None, unwrap_or, is_some, if◌then◌else◌, codes}
-use Rattle.std.specs.List.{filter, list_any, filter_map}
+use Rattle.std.specs.List.{filter, list_any}
 use lib.IntN.{ℤ, pos, negsuc}
 use Rattle.mc_fields.specs.declared.position.Spot.{Spot}
 use Rattle.mc_frame.specs.declared.fault.FrameFault.{FrameFault}
@@ -10,8 +10,6 @@ use Rattle.mc_land.specs.declared.terrain.Terrain.{Terrain}
 use Rattle.mc_land.specs.declared.terrain.Terrain.TheVariants.{Flat}
 use Rattle.mc_down.specs.declared.down.Down.{Down}
 use Rattle.mc_down.specs.declared.down.Down.TheVariants.{JoinGame, SpawnPosition, PositionLook}
-use Rattle.mc_wire.specs.declared.log.LogEntry.{LogEntry}
-use Rattle.mc_wire.specs.declared.log.LogEntry.TheVariants.{Joined, Came, Left, Ticked, Put as WasPut, Closed}
 use Rattle.mc_model.specs.declared.cause.Cause.{Cause}
 use Rattle.mc_model.specs.declared.cause.Cause.TheVariants as causes
 use Rattle.mc_model.specs.declared.cause.Refusal.{Refusal}
@@ -202,12 +200,15 @@ abbrev pub placing : Spot → Down
 placing spot = PositionLook (pattern_of spot.x) (pattern_of spot.y) (pattern_of spot.z) (degrees_of spot.yaw) (degrees_of spot.pitch) (pos 0)
 
 -- what a client is sent before its first difference: game mode 0, dimension 0, difficulty 1
-abbrev pub opening : World → Session → List Down
-opening w s =
-    JoinGame (pos s.eid) 0 (pos 0) 1 w.most (level w.terrain) false
-    ∷ SpawnPosition (record { x = pos 8; y = pos (spawn_height w.terrain); z = pos 8 })
-    ∷ placing s.place
+abbrev pub opening_of : Terrain → ℕ → ℤ → Spot → List Down
+opening_of terrain most eid spot =
+    JoinGame eid 0 (pos 0) 1 most (level terrain) false
+    ∷ SpawnPosition (record { x = pos 8; y = pos (spawn_height terrain); z = pos 8 })
+    ∷ placing spot
     ∷ []
+
+abbrev pub opening : World → Session → List Down
+opening w s = opening_of w.terrain w.most (pos s.eid) s.place
 
 -- once
 abbrev pub opening_due : World → Session → List Down
@@ -277,16 +278,3 @@ step w (left k) = silent (changed w k gone)
 step w ticked = tick w
 step w (took k n) = silent (changed w k (λ (s : Session). record s { owed = drop n s.owed }))
 step w (forgot k) = silent (record w { sessions = filter (λ (s : Session). not (s.id == k && is_done s)) w.sessions })
-
--- what a lobby's log says happened; a stall and the end change nothing
-abbrev pub event_of : LogEntry → Option Event
-event_of (Joined k) = Some (joined k)
-event_of (Came k bytes) = Some (came k bytes)
-event_of (Left k) = Some (left k)
-event_of Ticked = Some ticked
-event_of (WasPut k bytes) = Some (took k (length bytes))
-event_of (Closed k) = Some (forgot k)
-event_of other = None
-
-abbrev pub events_of : List LogEntry → List Event
-events_of log = filter_map event_of log

@@ -10,12 +10,13 @@ mod cause;
 mod laws;
 mod name;
 mod notes;
-pub mod plain;
+mod spawn;
 mod stage;
 mod wish;
 
 pub use cause::{Cause, Refusal};
 pub use name::Name;
 pub use notes::Notes;
+pub use spawn::{level, spawn_height, spawn_spot};
 pub use stage::Stage;
 pub use wish::Wish;

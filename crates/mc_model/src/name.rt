@@ -39,7 +39,7 @@ fn are_name_bytes(text: &[u8]) -> bool
 
 /// Whether a text is a name.
 #[tactic(auto, unfolding(crate::specs::Names::is_name))]
-pub(crate) fn is_name(text: &[u8]) -> bool
+fn is_name(text: &[u8]) -> bool
     ensures { result ≡ is_name text.now }
 {
     if text.is_empty() {

@@ -14,17 +14,15 @@ mod guests;
 mod lists;
 mod loads;
 mod mixes;
-mod packets;
 mod pieces;
 mod scripts;
 mod servers;
 mod sessions;
 mod shown;
-mod sights;
 mod terrains;
 mod texts;
+mod views;
 mod words;
-mod worlds;
 
 use answer::Answer;
 use std::alloc::Global;
@@ -48,13 +46,9 @@ enum Call {
     Server,
     Cuts,
     Pieces,
-    World,
     Size,
     Column,
     View,
-    First,
-    Again,
-    Delta,
 }
 
 /// The call that a word names.
@@ -73,13 +67,9 @@ fn call_of(name: &str) -> Option<Call> {
         "server" => Some(Call::Server),
         "cuts" => Some(Call::Cuts),
         "pieces" => Some(Call::Pieces),
-        "world" => Some(Call::World),
         "size" => Some(Call::Size),
         "column" => Some(Call::Column),
         "view" => Some(Call::View),
-        "first" => Some(Call::First),
-        "again" => Some(Call::Again),
-        "delta" => Some(Call::Delta),
         _ => None,
     }
 }
@@ -100,13 +90,9 @@ fn answer_call(call: Call, words: &mut Words<'_>, answer: &mut Answer) {
         Call::Server => servers::server(words, answer),
         Call::Cuts => pieces::cuts(words, answer),
         Call::Pieces => pieces::pieces(words, answer),
-        Call::World => worlds::world(words, answer),
-        Call::Size => sights::size(words, answer),
-        Call::Column => sights::column(words, answer),
-        Call::View => sights::view(words, answer),
-        Call::First => sights::first(words, answer),
-        Call::Again => sights::again(words, answer),
-        Call::Delta => sights::difference(words, answer),
+        Call::Size => views::size(words, answer),
+        Call::Column => views::column(words, answer),
+        Call::View => views::view(words, answer),
     }
 }
 

@@ -1,6 +1,7 @@
 //! Servers: `server PLAYERS CAP TERRAIN STEP ..` works on a new one and answers what it is asked.
 
 use crate::answer::Answer;
+use crate::frames::put_frames;
 use crate::terrains::terrain_in;
 use crate::words::Words;
 use mc_land::Terrain;
@@ -20,6 +21,8 @@ enum Call {
     Tick,
     Cause,
     Owed,
+    Told,
+    Took,
     Done,
     Forget,
     All,
@@ -35,6 +38,8 @@ fn call_of(name: &str) -> Option<Call> {
         "tick" => Some(Call::Tick),
         "cause" => Some(Call::Cause),
         "owed" => Some(Call::Owed),
+        "told" => Some(Call::Told),
+        "took" => Some(Call::Took),
         "done" => Some(Call::Done),
         "forget" => Some(Call::Forget),
         "all" => Some(Call::All),
@@ -93,6 +98,8 @@ fn answer_call(call: Call, server: &mut Server, words: &mut Words<'_>, answer: &
         Call::Tick => answer.needs(ticks(server, words.number())),
         Call::Cause => put_cause(server, words.number(), answer),
         Call::Owed => put_owed(server, words, answer),
+        Call::Told => put_told(server, words, answer),
+        Call::Took => took(server, words.number(), words.number()),
         Call::Done => put_answer(server.done(words.number()), answer),
         Call::Forget => server.forget(words.number()),
         Call::All => put_all(server, answer),
@@ -170,4 +177,21 @@ fn put_owed(server: &mut Server, words: &mut Words<'_>, answer: &mut Answer) {
         }
         Err(NoMemory) => answer.lose(),
     }
+}
+
+/// Takes what a connection is owed, and puts its frames.
+fn put_told(server: &mut Server, words: &mut Words<'_>, answer: &mut Answer) {
+    let k = words.number();
+    answer.comma();
+    match taken(words.alloc, server, k, usize::MAX) {
+        Ok(owed) if owed.is_empty() => answer.word("nothing"),
+        Ok(owed) => put_frames(&owed, answer),
+        Err(NoMemory) => answer.lose(),
+    }
+}
+
+/// A connection takes the first bytes of what it is owed next, at most so many.
+fn took(server: &mut Server, k: u32, most: usize) {
+    let count = server.front(k).len().min(most);
+    server.took(k, count);
 }

@@ -16,7 +16,7 @@ use Rattle.mc_model.specs.Orderly.{AreApart, Orderly}
 use Rattle.mc_model.proofs.Sessions.{found_id, one_some, some_none}
 use Rattle.mc_model.proofs.Beside.{found_put}
 use Rattle.mc_model.proofs.Frames.{bytes_beside}
-use Rattle.mc_model.proofs.PlainPlaces.{at_none}
+use Rattle.mc_model.proofs.RiseFacts.{at_none}
 use Rattle.mc_model.proofs.RunEvents.{orderly_step}
 use Rattle.mc_flush.specs.Seeing.{StandsFor}
 use Rattle.mc_server.specs.declared.line.Line.{Line}

@@ -2,8 +2,8 @@
 use Rattle.std.proofs.Common.{◌≡◌, ℕ, ◌≤◌, List, map, length, Option, ◌∙◌, arith}
 use Rattle.mc_land.specs.declared.terrain.Terrain.{Terrain}
 use Rattle.mc_land.specs.Land.{LandValue}
-use Rattle.mc_model.specs.Plain.{SameWorld}
-use Rattle.mc_model.specs.PlainWorld.{next_number}
+use Rattle.mc_flush.specs.Readying.{SameWorld}
+use Rattle.mc_model.specs.Orderly.{next_number}
 use Rattle.mc_model.specs.World.{Session}
 use Rattle.mc_server.specs.Halls.{IsHall, playing_of}
 use Rattle.mc_server.proofs.Walks.{rise_ids}

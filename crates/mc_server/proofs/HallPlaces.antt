@@ -10,8 +10,8 @@ use Rattle.std.proofs.lemmas.List.Sorted.{searched}
 use Rattle.std.proofs.lemmas.Bool.{eq-eqb, ne_eqb, cases_order}
 use Rattle.mc_model.specs.World.{Session, found, is_play}
 use Rattle.mc_model.specs.Step.{is_done}
-use Rattle.mc_model.specs.PlainWorld.{Rise, IsPlaced}
-use Rattle.mc_model.proofs.PlainPlaces.{rise_at}
+use Rattle.mc_model.specs.Orderly.{Rise, IsPlaced}
+use Rattle.mc_model.proofs.RiseFacts.{rise_at}
 use Rattle.mc_model.proofs.SoundPut.{playing_more}
 use Rattle.mc_server.specs.Halls.{playing_of, one_if}
 

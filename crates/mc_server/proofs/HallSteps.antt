@@ -11,10 +11,10 @@ use Rattle.mc_model.specs.declared.stage.Stage.{Stage}
 use Rattle.mc_model.specs.World.{World, Session, found, is_play, is_closed}
 use Rattle.mc_model.specs.Hearing.{Sent}
 use Rattle.mc_model.specs.Step.{hand, close, shut, gone, is_done, is_crowded, is_new, joining, new_session}
-use Rattle.mc_model.specs.PlainWorld.{Rise, IsPlaced, next_number}
+use Rattle.mc_model.specs.Orderly.{Rise, IsPlaced, next_number}
 use Rattle.mc_model.proofs.Handing.{hand_cases, closed_is, not_both}
 use Rattle.mc_model.proofs.FitsText.{both_true}
-use Rattle.mc_model.proofs.PlainPlaces.{placed_rise, joined_rise, rise_filter}
+use Rattle.mc_model.proofs.RiseFacts.{placed_rise, joined_rise, rise_filter}
 use Rattle.mc_server.specs.LoggingIn.{IsAsked}
 use Rattle.mc_server.specs.Halls.{IsHall, playing_of, one_if}
 use Rattle.mc_server.proofs.HallPlaces.{numbers_set, playing_set, counted_at, numbers_join, playing_join, forgotten, forgotten_none, forgotten_at, numbers_remove, playing_remove}

@@ -13,12 +13,12 @@ use Rattle.mc_model.specs.World.{World, Session, found, put, players, is_play, i
 use Rattle.mc_model.specs.Hearing.{Sent}
 use Rattle.mc_model.specs.Talk.{Said, nothing, greets, replies, ends, enters, acts, wrong, said, farewell, refused, accepted}
 use Rattle.mc_model.specs.Step.{Handing, hand, close, Turn, turn, perform, acted, on_frame, on_fault, refusal, answer_login, entered}
-use Rattle.mc_model.specs.PlainWorld.{Rise, IsPlaced}
-use Rattle.mc_model.specs.PlainTurns.{did, after_act, handled}
+use Rattle.mc_model.specs.Orderly.{Rise, IsPlaced}
+use Rattle.mc_model.specs.Handled.{did, after_act, handled}
 use Rattle.mc_model.proofs.Acting.{Suits, suits}
 use Rattle.mc_model.proofs.Handing.{hand_cases, not_both}
-use Rattle.mc_model.proofs.PlainPlaces.{placed_rise}
-use Rattle.mc_model.proofs.PlainActing.{put_placed, put_same, found_placed, act_is, open_at, absent_frame, closed_frame, fault_turn}
+use Rattle.mc_model.proofs.RiseFacts.{placed_rise}
+use Rattle.mc_model.proofs.HandledFacts.{put_placed, put_same, found_placed, act_is, open_at, absent_frame, closed_frame, fault_turn}
 use Rattle.mc_server.specs.Halls.{playing_of}
 use Rattle.mc_server.specs.Hears.{Hears}
 use Rattle.mc_server.specs.LoggingIn.{IsAsking, IsHeard}

@@ -6,7 +6,7 @@ use Rattle.std.specs.Ordering.{eq_by_cmp}
 use Rattle.std.specs.Prelude.{Bool, false, ◌||◌}
 use Rattle.mc_land.specs.Places.{Place, place_cmp}
 use Rattle.mc_land.specs.Land.{LandValue, with_ready}
-use Rattle.mc_model.specs.Plain.{SameWorld}
+use Rattle.mc_flush.specs.Readying.{SameWorld}
 use Rattle.mc_model.proofs.Orders.{places_total}
 use Rattle.mc_flush.specs.Seeing.{IsReady}
 

@@ -15,7 +15,8 @@ use Rattle.mc_model.specs.Sight.{Sight, nothing_seen}
 use Rattle.mc_model.specs.Delta.{Pairs, delta}
 use Rattle.mc_model.specs.Hearing.{Sent, of_play, bytes_of}
 use Rattle.mc_model.specs.Notes.{no_notes}
-use Rattle.mc_model.specs.Plain.{SameWorld, opening_of}
+use Rattle.mc_model.specs.Step.{opening_of}
+use Rattle.mc_flush.specs.Readying.{SameWorld}
 use Rattle.mc_view.specs.Views.{view_of, view_size, column_of_spot}
 use Rattle.mc_model.specs.World.{World, Session, is_play, project}
 use Rattle.mc_model.specs.Step.{Handing, hand, due, flush, showing}

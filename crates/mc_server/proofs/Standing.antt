@@ -17,7 +17,8 @@ use Rattle.mc_model.specs.Run.{cause_in}
 use Rattle.mc_model.specs.Step.{joined, left, took, forgot, step, gone, shut, changed, is_new, is_crowded, new_session, joining, join, is_done}
 use Rattle.mc_model.specs.Orderly.{AreApart, Orderly}
 use Rattle.mc_model.proofs.Sessions.{found_id, found_map, found_before, found_behind, found_filter, none_filtered, one_some, some_none}
-use Rattle.mc_model.proofs.RunEvents.{orderly_step, joining_id, gone_id}
+use Rattle.mc_model.proofs.RunEvents.{orderly_step, gone_id}
+use Rattle.mc_model.proofs.RiseFacts.{joining_id}
 use Rattle.mc_view.specs.declared.view_set.ViewSet.{ViewSet}
 use Rattle.mc_flush.specs.Seeing.{StandsFor}
 use Rattle.mc_server.specs.declared.line.Line.{Line}

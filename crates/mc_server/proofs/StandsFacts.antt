@@ -9,7 +9,7 @@ use Rattle.mc_model.specs.declared.stage.Stage.TheVariants as stages
 use Rattle.mc_model.specs.Hearing.{of_play, bytes_of}
 use Rattle.mc_model.specs.Sight.{Sight}
 use Rattle.mc_model.specs.Delta.{Pairs}
-use Rattle.mc_model.specs.PlainWorld.{Rise}
+use Rattle.mc_model.specs.Orderly.{Rise}
 use Rattle.mc_model.specs.World.{World, Session, found, is_play, is_closed, project}
 use Rattle.mc_model.specs.Step.{due, flush, showing, at_tick, step, ticked, last_shown}
 use Rattle.mc_model.proofs.Handing.{flush_cases, not_both}

@@ -18,8 +18,8 @@ use Rattle.mc_model.specs.Hearing.{Sent, of_play, bytes_of}
 use Rattle.mc_model.specs.Notes.{no_notes}
 use Rattle.mc_model.specs.Sight.{Sight}
 use Rattle.mc_model.specs.Delta.{Pairs, delta, missing, leaver, joiner, about, unload, load}
-use Rattle.mc_model.specs.Plain.{opening_of}
-use Rattle.mc_model.specs.PlainWorld.{Rise}
+use Rattle.mc_model.specs.Step.{opening_of}
+use Rattle.mc_model.specs.Orderly.{Rise}
 use Rattle.mc_model.specs.World.{World, Session, found, is_play, project, column_in, view_in}
 use Rattle.mc_model.specs.Step.{Handing, hand, due, flush, showing, at_tick, last_shown}
 use Rattle.mc_model.proofs.Sessions.{some_none, same_number}

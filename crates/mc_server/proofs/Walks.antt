@@ -8,8 +8,8 @@ use Rattle.std.proofs.lemmas.List.{take_more, append-nil}
 use Rattle.std.proofs.lemmas.List.Edits.{map_over_more}
 use Rattle.mc_model.specs.Delta.{Pairs}
 use Rattle.mc_model.specs.World.{World, Session, found, is_play}
-use Rattle.mc_model.specs.PlainWorld.{Rise}
-use Rattle.mc_model.proofs.PlainPlaces.{rise_at}
+use Rattle.mc_model.specs.Orderly.{Rise}
+use Rattle.mc_model.proofs.RiseFacts.{rise_at}
 use Rattle.mc_model.proofs.Sessions.{found_before, found_behind, some_none}
 use Rattle.mc_server.specs.declared.line.Line.{Line}
 use Rattle.mc_server.specs.Halls.{playing_of}

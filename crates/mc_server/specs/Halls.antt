@@ -4,7 +4,7 @@ use Rattle.std.specs.List.{filter}
 use Rattle.mc_land.specs.declared.terrain.Terrain.{Terrain}
 use Rattle.mc_land.specs.Land.{LandValue}
 use Rattle.mc_model.specs.World.{Session, AreSettings, is_play, is_closed}
-use Rattle.mc_model.specs.PlainWorld.{Rise, next_number}
+use Rattle.mc_model.specs.Orderly.{Rise, next_number}
 
 -- those in play
 abbrev pub playing_of : List Session → List Session

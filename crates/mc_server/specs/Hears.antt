@@ -6,7 +6,7 @@ use Rattle.mc_model.specs.declared.stage.Stage.{Stage}
 use Rattle.mc_model.specs.declared.stage.Stage.TheVariants as stages
 use Rattle.mc_model.specs.World.{Session}
 use Rattle.mc_model.specs.Talk.{Said, greets, ends, enters}
-use Rattle.mc_model.specs.PlainTurns.{handled}
+use Rattle.mc_model.specs.Handled.{handled}
 
 -- how far a connection has come: one that has a cause is closed
 abbrev pub stage_of : Option Cause → Stage → Stage

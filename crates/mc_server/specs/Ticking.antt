@@ -13,8 +13,8 @@ use Rattle.mc_model.specs.Delta.{Pairs, delta}
 use Rattle.mc_view.specs.Views.{view_of, view_size, column_of_spot}
 use Rattle.mc_model.specs.World.{World, Session, column_in, is_play, players, project}
 use Rattle.mc_model.specs.Step.{flush}
-use Rattle.mc_model.specs.Plain.{opening_of}
-use Rattle.mc_model.specs.PlainWorld.{Rise}
+use Rattle.mc_model.specs.Step.{opening_of}
+use Rattle.mc_model.specs.Orderly.{Rise}
 use Rattle.mc_flush.specs.Seeing.{StandsFor, placed_column}
 use Rattle.mc_flush.specs.Sending.{notes_due_of}
 use Rattle.mc_server.specs.declared.line.Line.{Line}

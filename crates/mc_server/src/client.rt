@@ -40,7 +40,7 @@ impl Model for Client {
     ghost use Rattle.std.specs.Prelude.{[], None, ◌≤◌, ◌<◌, ◌^◌, length};
     ghost use Rattle.std.specs.Coded.{codes};
     ghost use Rattle.mc_model.specs.World as spec;
-    ghost use Rattle.mc_model.specs.PlainSight.{coded_sight};
+    ghost use Rattle.mc_model.specs.Stored.{coded_sight};
     ghost use Rattle.mc_flush.specs.Seeing.{IsInRange};
     ghost use Rattle.mc_server.specs.Hears.{stage_of};
 

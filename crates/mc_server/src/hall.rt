@@ -40,8 +40,8 @@ pub struct Hall {
 impl Model for Hall {
     ghost use Rattle.std.specs.Coded.{codes};
     ghost use Rattle.mc_model.specs.World as spec;
-    ghost use Rattle.mc_model.specs.PlainSight.{coded_sight};
-    ghost use Rattle.mc_model.specs.PlainWorld.{coded_edits};
+    ghost use Rattle.mc_model.specs.Stored.{coded_sight};
+    ghost use Rattle.mc_model.specs.Stored.{coded_edits};
     ghost use Rattle.mc_server.specs.Halls.{IsHall};
 
     ghost Value = { spec.World };

@@ -7,7 +7,7 @@ ghost use Rattle.mc_down.specs.declared.down.Down.TheVariants.{JoinGame, SpawnPo
 ghost use Rattle.mc_model.specs.Hearing.{of_play, frame_of};
 ghost use Rattle.mc_model.specs.World.{spawn_height};
 ghost use Rattle.mc_model.specs.Step.{level};
-ghost use Rattle.mc_model.specs.Plain.{opening_of};
+ghost use Rattle.mc_model.specs.Step.{opening_of};
 ghost use Rattle.mc_flush.specs.Sending.{IsClear, play_bytes};
 ghost use Rattle.mc_flush.specs.Seeing.{IsInRange};
 
@@ -17,7 +17,7 @@ use mc_down::Down;
 use mc_fields::{Cell, Spot};
 use mc_flush::{placing_packet, put_packet};
 use mc_land::Terrain;
-use mc_model::plain::{level, spawn_height};
+use mc_model::{level, spawn_height};
 use mc_nbt::NoMemory;
 use std::alloc::Global;
 

@@ -1,8 +1,9 @@
 pub mod Cuts
-pub mod Replies
-pub mod Hearing
 pub mod Reading
-pub mod OneText
+pub mod Exchanges
+pub mod Hearing
+pub mod Answering
+pub mod StatusLines
 pub mod Inputs
 pub mod DigitSteps
 pub mod Scripts
@@ -14,3 +15,8 @@ pub mod ScriptFacts
 pub mod Tellings
 pub mod Settings
 pub mod Replays
+pub mod Finishes
+pub mod StatusKept
+pub mod ReplayKept
+pub mod Runs
+pub mod Sent

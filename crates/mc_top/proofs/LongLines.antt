@@ -9,9 +9,8 @@ use Rattle.mc_top.specs.declared.bad_input.InputFault.TheVariants as faults
 use Rattle.mc_top.specs.declared.script_line.Before.{Before}
 use Rattle.mc_top.specs.declared.script_line.ScriptEvent.{ScriptEvent}
 use Rattle.mc_top.specs.declared.script_line.ScriptEvent.TheVariants.{Joined, Came, Gone, Ticks}
-use Rattle.mc_top.specs.Lines.{lines_of, is_skipped}
-use Rattle.mc_top.specs.StatusText.{text_max, size_of, HoldsByte}
-use Rattle.mc_top.specs.Script.{words_of, is_next, number_of, hex_of, numbered, join_event, bytes_event, ticks_event, connection, words_event, goes_past, some_event, line_event, after_event, with_events, then_, at_first, lines_events, script_of}
+use Rattle.mc_top.specs.Lines.{lines_of, is_skipped, text_max, goes_past, size_of, HoldsByte}
+use Rattle.mc_top.specs.Script.{words_of, is_next, number_of, hex_of, numbered, join_event, bytes_event, ticks_event, connection, words_event, some_event, line_event, after_event, with_events, then_, at_first, lines_events, script_of}
 
 -- ---- no other line is too long
 

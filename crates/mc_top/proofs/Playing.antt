@@ -25,7 +25,7 @@ use Rattle.mc_top.proofs.Taking.{ids_of, all_settled, all_told}
 pub reached_new : (most cap : ℕ) (terrain : Terrain) → IsReached (new_world most cap terrain)
 reached_new most cap terrain = record { most = most; cap = cap; terrain = terrain; events = []; is = refl }
 
-reached_history : (w : World) (events : List Event) → IsReached w → IsReached (history w events)
+pub reached_history : (w : World) (events : List Event) → IsReached w → IsReached (history w events)
 reached_history w events r = record {
   most = r.most;
   cap = r.cap;
@@ -107,7 +107,7 @@ stopped_before xs ys w held held' s =
 
 -- ---- nothing was written
 
-grows_none : (held : Option (List ℕ)) → Grows held held []
+pub grows_none : (held : Option (List ℕ)) → Grows held held []
 grows_none None = tt
 grows_none (Some xs) = sym (append-nil xs)
 

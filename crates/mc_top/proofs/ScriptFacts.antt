@@ -19,8 +19,8 @@ use Rattle.mc_top.specs.declared.bad_input.InputFault.TheVariants as faults
 use Rattle.mc_top.specs.declared.script_line.Before.{Before}
 use Rattle.mc_top.specs.declared.script_line.ScriptEvent.{ScriptEvent}
 use Rattle.mc_top.specs.declared.script_line.ScriptEvent.TheVariants.{Joined, Came, Gone, Ticks}
-use Rattle.mc_top.specs.Lines.{lines_of, is_skipped}
-use Rattle.mc_top.specs.Script.{is_next, number_of, connection, numbered, hex_of, bytes_event, join_event, ticks_event, one_word, two_words, three_words, words_event, words_of, goes_past, some_event, line_event, after_event, with_events, then_, at_first, lines_events, script_of}
+use Rattle.mc_top.specs.Lines.{lines_of, is_skipped, goes_past}
+use Rattle.mc_top.specs.Script.{is_next, number_of, connection, numbered, hex_of, bytes_event, join_event, ticks_event, one_word, two_words, three_words, words_event, words_of, some_event, line_event, after_event, with_events, then_, at_first, lines_events, script_of}
 use Rattle.mc_top.specs.ReplayText.{owes, is_shut, takings, settled, replay_log, line_events, events_of}
 use Rattle.mc_top.specs.Replaying.{line_ticks, ticks_of}
 

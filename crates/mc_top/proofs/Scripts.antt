@@ -15,8 +15,8 @@ use Rattle.mc_top.specs.declared.script_line.Unread.{Unread}
 use Rattle.mc_top.specs.declared.script_line.Unread.TheVariants as unread
 use Rattle.mc_top.specs.declared.script_line.ScriptEvent.{ScriptEvent}
 use Rattle.mc_top.specs.declared.script_line.ScriptEvent.TheVariants.{Came}
-use Rattle.mc_top.specs.Lines.{lines_of, is_skipped, PutsLine}
-use Rattle.mc_top.specs.Script.{is_space, words_of, goes_past, some_event, words_event, hex_of, bytes_event, line_event, with_events, then_, at_first, lines_events, script_of}
+use Rattle.mc_top.specs.Lines.{lines_of, is_skipped, goes_past, PutsLine}
+use Rattle.mc_top.specs.Script.{is_space, words_of, some_event, words_event, hex_of, bytes_event, line_event, with_events, then_, at_first, lines_events, script_of}
 use Rattle.mc_top.specs.ScriptRead.{IsRead, PutsEvent, after_line}
 use Rattle.mc_top.proofs.Cuts.{is_hex, not_hex}
 use Rattle.mc_top.proofs.Reading.{left_lines, left_size, CutsNext}

@@ -8,9 +8,9 @@ use Rattle.mc_model.specs.World.{AreSettings}
 use Rattle.mc_model.proofs.FitsText.{both_true}
 use Rattle.mc_top.specs.declared.words.Options.{Options}
 use Rattle.mc_top.specs.declared.words.Command.{Command}
-use Rattle.mc_top.specs.declared.words.Command.TheVariants.{Status, Replay}
+use Rattle.mc_top.specs.declared.words.Command.TheVariants.{Replay}
 use Rattle.mc_top.specs.Digits.{digits_number, within}
-use Rattle.mc_top.specs.Words.{value_in, are_options, number_or, players_in, view_in, land_in, status_with, replay_with, status_of, replay_of, command_of}
+use Rattle.mc_top.specs.Words.{IsSet, value_in, are_options, number_or, players_in, view_in, land_in, status_with, replay_with, status_of, replay_of, command_of}
 
 abbrev IsWithin : ℕ → ℕ → ℕ → Type 0
 IsWithin low high n = (low ≤ n) × (n ≤ high)
@@ -33,10 +33,6 @@ players_are words = number_is 20 1 50 (value_in (codes "players") words) (omega 
 view_is : (words : List (List ℕ)) → IfSome (view_in words) (IsWithin 2 8)
 unfolding view_in
 view_is words = number_is 6 2 8 (value_in (codes "view") words) (omega arith) (omega arith)
-
-abbrev IsSet : Command → Type 0
-IsSet (Status most) = Unit {0}
-IsSet (Replay options) = AreSettings options.players options.view
 
 replay_is_set : (players view : Option ℕ) (terrain : Option Terrain) → IfSome players (IsWithin 1 50) → IfSome view (IsWithin 2 8) → IfSome (replay_with players view terrain) IsSet
 replay_is_set (Some players) (Some view) (Some terrain) p v = record { some = p.0; few = p.1; wide = v.0; near = v.1 }
@@ -61,7 +57,11 @@ command_is_set (verb ∷ words) =
     (choice (bytes_eq verb (codes "replay")) (replay_of words) None
     (choice (are_options (codes "players" ∷ codes "view" ∷ codes "land" ∷ []) words) (replay_with (players_in words) (view_in words) (land_in words)) None (replay_is_set (players_in words) (view_in words) (land_in words) (players_are words) (view_is words)) tt) tt)
 
-pub options_are_set : (words : List (List ℕ)) (command : Option Command) (options : Options) → command_of words ≡ command → command ≡ Some (Replay options) → AreSettings options.players options.view
-options_are_set words command options is named =
+-- the options of the command that some words name
+pub named_is_set : (words : List (List ℕ)) (o : Option Command) (command : Command) → command_of words ≡ o → o ≡ Some command → IsSet command
+named_is_set words o command is named =
     let P : Option Command → Type 0 = λ o. IfSome o IsSet in
     subst P named (subst P is (command_is_set words))
+
+pub replay_set : (command : Command) (options : Options) → command ≡ Replay options → IsSet command → AreSettings options.players options.view
+replay_set command options is set = let P : Command → Type 0 = λ c. IsSet c in subst P is set

@@ -4,6 +4,8 @@ use Rattle.std.specs.Prelude.{◌==◌, ◌&&◌, ◌/◌, ◌%◌, not, nat_lt,
 use Rattle.std.specs.List.{filter, flat_map}
 use Rattle.std.proofs.lemmas.List.{drop_all, drop-drop, map-append, take-append-drop}
 use Rattle.std.proofs.lemmas.Bool.{eq-eqb, lt-ltb}
+use Rattle.std.proofs.lemmas.Grind.{flat_map-append}
+use Rattle.std.proofs.lemmas.List.Folds.{flat_map-map}
 use Rattle.std.proofs.lemmas.List.Sums.{fold-append}
 use Rattle.std.proofs.Math.Bool.{and-true}
 use Rattle.hex.specs.Hex.{encode_lower, encode_with}
@@ -13,7 +15,7 @@ use Rattle.mc_model.specs.Run.{history}
 use Rattle.mc_model.specs.Orderly.{AreApart}
 use Rattle.mc_model.proofs.Sessions.{some_none, other_number, same_number, found_map, found_behind}
 use Rattle.mc_server.specs.Asking.{owed_of, owed_in, is_over, is_done_in}
-use Rattle.mc_top.specs.ReplayText.{owes, is_shut, sent_line, shut_line, told, takings, settled}
+use Rattle.mc_top.specs.ReplayText.{owes, is_shut, tells_sent, tells_shut, telling_line, tellings, told, takings, settled}
 use Rattle.mc_top.specs.Replaying.{taken, sent_by, forgotten, shut_by, all_taken, all_sent, all_forgotten, all_shut}
 
 -- ---- pieces of what a connection is owed
@@ -104,18 +106,18 @@ abbrev pub is_open : Session → Bool
 is_open s = not (is_closed s.stage)
 
 -- none of these has a number of those
-abbrev AreNew : List Session → List Session → Type 0
+abbrev pub AreNew : List Session → List Session → Type 0
 AreNew pre [] = Unit {0}
 AreNew pre (s ∷ rest) = (found s.id pre ≡ None) × AreNew pre rest
 
-new_first : (ss : List Session) → AreNew [] ss
+pub new_first : (ss : List Session) → AreNew [] ss
 new_first [] = tt
 new_first (s ∷ ss) = (refl, new_first ss)
 
 no_both : (b : Bool) → b ≡ true → b ≡ false → ⊥
 no_both b t f = let clash : true ≡ false = sym t ∙ f in cc
 
-new_more : (pre rest : List Session) (x : Session) → AreNew pre rest → found x.id rest ≡ None → AreNew (pre ++ x ∷ []) rest
+pub new_more : (pre rest : List Session) (x : Session) → AreNew pre rest → found x.id rest ≡ None → AreNew (pre ++ x ∷ []) rest
 new_more pre [] x new none = tt
 new_more pre (t ∷ rest) x new none = elim (t.id == x.id) as (λ b. (t.id == x.id) ≡ b → cond b (Some t) (found x.id rest) ≡ None → AreNew (pre ++ x ∷ []) (t ∷ rest)) [
   | true ↦ λ is here. absurd (some_none t (Some t) refl here)
@@ -126,7 +128,7 @@ new_more pre (t ∷ rest) x new none = elim (t.id == x.id) as (λ b. (t.id == x.
   )
 ] refl none
 
-found_mid : (pre rest : List Session) (s : Session) → found s.id pre ≡ None → found s.id (pre ++ s ∷ rest) ≡ Some s
+pub found_mid : (pre rest : List Session) (s : Session) → found s.id pre ≡ None → found s.id (pre ++ s ∷ rest) ≡ Some s
 found_mid pre rest s none = found_behind s.id pre (s ∷ rest) none ∙ ap (λ (b : Bool). cond b (Some s) (found s.id rest)) (same_number s.id)
 
 map_past : (k : ℕ) (f : Session → Session) (ss : List Session) → found k ss ≡ None → map (λ (s : Session). cond (s.id == k) (f s) s) ss ≡ ss
@@ -147,7 +149,7 @@ changed_mid w pre rest s f none none' =
     ∙ ap (λ (ts : List Session). pre ++ (f s ∷ ts)) (map_past s.id f rest none')
     )
 
-taken_mid : (w : World) (pre rest : List Session) (s : Session) → found s.id pre ≡ None → found s.id rest ≡ None →
+pub taken_mid : (w : World) (pre rest : List Session) (s : Session) → found s.id pre ≡ None → found s.id rest ≡ None →
     (step (with_sessions w (pre ++ s ∷ rest)) (took s.id (length s.owed))).world ≡ with_sessions w (pre ++ emptied s ∷ rest)
 taken_mid w pre rest s none none' =
     step_took (with_sessions w (pre ++ s ∷ rest)) s.id (length s.owed)
@@ -198,7 +200,7 @@ abbrev pub ids_of : List Session → List ℕ
 ids_of ss = map (λ (s : Session). s.id) ss
 
 -- what is at a place goes before the others
-moved : (w : World) (pre rest : List Session) (s : Session) → with_sessions w (pre ++ s ∷ rest) ≡ with_sessions w ((pre ++ s ∷ []) ++ rest)
+pub moved : (w : World) (pre rest : List Session) (s : Session) → with_sessions w (pre ++ s ∷ rest) ≡ with_sessions w ((pre ++ s ∷ []) ++ rest)
 moved w pre rest s = ap (with_sessions w) (sym (append_assoc pre (s ∷ []) rest))
 
 taken_next : (w : World) (pre rest : List Session) (s : Session) → found s.id pre ≡ None → found s.id rest ≡ None →
@@ -213,6 +215,13 @@ takes_all w pre (s ∷ rest) new apart =
     ap (all_taken (ids_of rest)) (taken_next w pre rest s new.0 apart.0)
     ∙ takes_all w (pre ++ emptied s ∷ []) rest (new_more pre rest (emptied s) new.1 apart.0) apart.1
     ∙ sym (moved w pre (map emptied rest) (emptied s))
+
+-- the lines of one connection
+abbrev sent_line : Session → List ℕ
+sent_line s = telling_line (tells_sent s.id s.owed)
+
+abbrev shut_line : Session → List ℕ
+shut_line s = telling_line (tells_shut s.id)
 
 -- the line of one before those of others
 sent_first : (s : Session) (ss : List Session) → sent_by s.id s.owed ++ flat_map sent_line ss ≡ flat_map sent_line (cond (owes s) (s ∷ ss) ss)
@@ -281,7 +290,7 @@ shuts_all w pre (s ∷ rest) new apart =
 
 -- ---- the same as events
 
-owes_none : (s : Session) → owes s ≡ false → emptied s ≡ s
+pub owes_none : (s : Session) → owes s ≡ false → emptied s ≡ s
 owes_none s none = ap (λ (o : List ℕ). record s { owed = o }) (sym (nothing s.owed none))
   where
     nothing : (o : List ℕ) → nat_lt 0 (length o) ≡ false → o ≡ []
@@ -317,7 +326,7 @@ history_forgot w pre (s ∷ rest) new apart =
           ∙ sym (moved w pre (map emptied (filter is_open rest)) (emptied s))
     ] refl
 
-settled_is : (w : World) → AreApart w.sessions → settled w ≡ with_sessions w (map emptied (filter is_open w.sessions))
+pub settled_is : (w : World) → AreApart w.sessions → settled w ≡ with_sessions w (map emptied (filter is_open w.sessions))
 unfolding takings
 settled_is w apart =
     fold-append _ w (map (λ (s : Session). took s.id (length s.owed)) (filter owes w.sessions)) (map (λ (s : Session). forgot s.id) (filter is_shut w.sessions))
@@ -331,11 +340,19 @@ all_settled w apart =
     ∙ forgets_all w [] w.sessions (new_first w.sessions) apart
     ∙ sym (settled_is w apart)
 
+-- the lines, of each in turn
+told_lines : (w : World) → told w ≡ flat_map sent_line (filter owes w.sessions) ++ flat_map shut_line (filter is_shut w.sessions)
+unfolding told tellings
+told_lines w =
+    flat_map-append telling_line (map (λ (s : Session). tells_sent s.id s.owed) (filter owes w.sessions)) (map (λ (s : Session). tells_shut s.id) (filter is_shut w.sessions))
+    ∙ ap (λ (t : List ℕ). t ++ flat_map telling_line (map (λ (s : Session). tells_shut s.id) (filter is_shut w.sessions))) (flat_map-map telling_line (λ (s : Session). tells_sent s.id s.owed) (filter owes w.sessions))
+    ∙ ap (λ (t : List ℕ). flat_map sent_line (filter owes w.sessions) ++ t) (flat_map-map telling_line (λ (s : Session). tells_shut s.id) (filter is_shut w.sessions))
+
 pub all_told : (w : World) → AreApart w.sessions → all_sent (ids_of w.sessions) w ++ all_shut (ids_of w.sessions) (all_taken (ids_of w.sessions) w) ≡ told w
-unfolding told
 all_told w apart =
     ap (λ (t : List ℕ). t ++ all_shut (ids_of w.sessions) (all_taken (ids_of w.sessions) w)) (sends_all w [] w.sessions (new_first w.sessions) apart)
     ∙ ap (λ (t : List ℕ). flat_map sent_line (filter owes w.sessions) ++ t) (
     ap (all_shut (ids_of w.sessions)) (takes_all w [] w.sessions (new_first w.sessions) apart)
     ∙ shuts_all w [] w.sessions (new_first w.sessions) apart
     )
+    ∙ sym (told_lines w)

@@ -3,6 +3,7 @@ use Rattle.std.specs.Prelude.{ℕ, List, [], ◌∷◌, ◌++◌, Option, Some, 
 use Rattle.mc_top.specs.declared.bad_input.BadInput.{BadInput}
 use Rattle.mc_top.specs.declared.ended.Ended.{Ended}
 use Rattle.mc_top.specs.declared.ended.Ended.TheVariants as ended
+use Rattle.mc_top.specs.declared.ended.TheConstants.{USAGE}
 use Rattle.mc_top.specs.FaultName.{fault_name}
 
 -- how a command ends whose input has this first fault
@@ -18,24 +19,25 @@ status_of ended.ReadFault = 3
 status_of ended.WriteFault = 4
 status_of (ended.BadInput bad) = 6
 
-abbrev pub usage_line : List ℕ
-usage_line = codes "usage: craft47 status, serve, replay, bot, view, show or load"
-
-abbrev pub read_fault_line : List ℕ
-read_fault_line = codes "read fault"
-
--- where the first fault of a text shows, and what it is
-abbrev pub bad_input_line : BadInput → List ℕ
-bad_input_line bad = codes "bad input at " ++ decimal bad.line ++ codes ": " ++ fault_name bad.kind
-
 -- a line and its end
 abbrev pub ended_line : List ℕ → List ℕ
 ended_line line = line ++ 10 ∷ []
 
+-- the last lines, with their ends
+abbrev pub usage_line : List ℕ
+usage_line = USAGE.now
+
+abbrev pub read_fault_line : List ℕ
+read_fault_line = ended_line (codes "read fault")
+
+-- where the first fault of a text shows, and what it is
+abbrev pub bad_input_line : BadInput → List ℕ
+bad_input_line bad = ended_line (codes "bad input at " ++ decimal bad.line ++ codes ": " ++ fault_name bad.kind)
+
 -- the last line where it does not depend on the input
 abbrev pub fixed_line_of : Ended → List ℕ
-fixed_line_of ended.Usage = ended_line usage_line
-fixed_line_of ended.ReadFault = ended_line read_fault_line
+fixed_line_of ended.Usage = usage_line
+fixed_line_of ended.ReadFault = read_fault_line
 fixed_line_of ended.Done = []
 fixed_line_of ended.NoMemory = []
 fixed_line_of ended.WriteFault = []

@@ -1,108 +1,128 @@
--- What a client that is heard piece by piece stands for: the bytes that it has said.
-use Rattle.std.specs.Prelude.{◌≡◌, ◌≢◌, ℕ, ◌-◌, ◌<◌, ◌⊎◌, ◌==◌, Bool, true, false, if◌then◌else◌, List, ◌++◌, length, Some, None, Result, Ok, Err}
+-- What a client that is heard frame by frame stands for: the exchange in which its bytes came one by one.
+use Rattle.std.specs.Prelude.{◌≡◌, ℕ, Bool, true, false, List, [], ◌∷◌, ◌++◌, take, fold, Option, Some, None}
+use lib.IntN.{ℤ}
 use Rattle.mc_nbt.specs.Reading.{IsBytes}
-use Rattle.mc_frame.specs.declared.fault.FrameFault.{FrameFault}
-use Rattle.mc_frame.specs.Frame.{SpellsFrame}
-use Rattle.mc_frame.specs.Cut.{SpellsFrames, IsPart, Ends}
-use Rattle.mc_frame.specs.Held.{Splitting}
+use Rattle.mc_frame.specs.Cut.{IsPart}
+use Rattle.mc_land.specs.declared.terrain.Terrain.TheVariants.{Flat}
+use Rattle.mc_wire.specs.Stream.{Grows}
+use Rattle.mc_model.specs.declared.cause.Cause.{Cause}
+use Rattle.mc_model.specs.declared.cause.Cause.TheVariants.{Done}
+use Rattle.mc_model.specs.declared.stage.Stage.{Stage}
+use Rattle.mc_model.specs.declared.stage.Stage.TheVariants as stages
+use Rattle.mc_model.specs.World.{World, Session, new_world}
+use Rattle.mc_model.specs.Hearing.{frame_of, of_status}
+use Rattle.mc_model.specs.Step.{new_session}
+use Rattle.mc_model.specs.Talk.{Said, greets, replies, ends, wrong}
 use Rattle.mc_top.specs.declared.bad_input.InputFault.{InputFault}
-use Rattle.mc_top.specs.declared.bad_input.InputFault.TheVariants as faults
-use Rattle.mc_top.specs.declared.stage.Stage.{Stage}
-use Rattle.mc_top.specs.declared.stage.Stage.TheVariants as stages
-use Rattle.mc_top.specs.declared.client.Unheard.{Unheard}
-use Rattle.mc_top.specs.declared.client.Unheard.TheVariants as unheard
-use Rattle.mc_top.specs.Lines.{line_bytes}
-use Rattle.mc_top.specs.StatusText.{text_max}
-use Rattle.mc_top.specs.Client.{talk, answer, goes, wrong, reply_lines}
+use Rattle.mc_top.specs.declared.bad_input.InputFault.TheVariants.{Packet, Login}
+use Rattle.mc_top.specs.declared.client.Client.{Client}
+use Rattle.mc_top.specs.StatusText.{Exchange, hex_line, session_fault, hears}
 
--- what holds of the fault of a function, unless memory ran out
-abbrev pub IfFault : {A : Type 0} → Result A Unheard → (InputFault → Type 0) → Type 0
-IfFault (Ok x) P = Unit {0}
-IfFault (Err (unheard.Fault kind)) P = P kind
-IfFault (Err unheard.NoMemory) P = Unit {0}
+-- ---- the exchange between two frames
 
--- a frame was answered, and its lines are behind the others
-abbrev pub Answers : ℕ → Stage → List ℕ → List ℕ → List ℕ → Stage → Type 0
-Answers most stage payload old new next = (replies : List (List ℕ)) × (answer most stage payload ≡ goes replies next) × (new ≡ old ++ reply_lines replies)
-
--- a splitter holds what is not answered yet, until the client's ping was answered
-abbrev pub Holds : Stage → Splitting → List ℕ → Type 0
-Holds stages.Over splitting rest = Unit {0}
-Holds stage splitting rest = (splitting.held ≡ rest) × (splitting.fault ≡ None)
-
--- the client has said these bytes, and was answered so far
-pub record HasHeard (most : ℕ) (bytes : List ℕ) (splitting : Splitting) (stage : Stage) (lines : List ℕ) : Type 0 where
-  pub fits : IsBytes bytes
-  pub frames : List (List ℕ)
-  pub front : List ℕ
-  pub rest : List ℕ
-  pub parts : bytes ≡ front ++ rest
-  pub framed : SpellsFrames frames front
-  pub replies : List (List ℕ)
-  pub talked : talk most stages.Hand frames ≡ record { replies = replies; stage = stage; fault = None }
-  pub written : lines ≡ reply_lines replies
-  pub holds : Holds stage splitting rest
-
--- no whole frame waits for its answer, and no fault was met
-abbrev pub IsIdle : Stage → Splitting → Type 0
-IsIdle stages.Over splitting = Unit {0}
-IsIdle stage splitting = IsPart splitting.held × (splitting.fault ≡ None)
-
--- what is not answered begins with a frame that is wrong, or with a length that no frame has
-abbrev pub BeginsWrong : ℕ → Stage → List ℕ → InputFault → Type 0
-BeginsWrong most stage rest kind =
-    ((payload : List ℕ) × (front : List ℕ) × (back : List ℕ) × (rest ≡ front ++ back) × SpellsFrame payload front × (answer most stage payload ≡ wrong kind))
-    ⊎ ((kind ≡ faults.Frame) × (stage ≢ stages.Over) × (count : ℕ) × (fault : FrameFault) × Ends count rest (Some fault))
-
--- something is wrong with these bytes, and what stands before it was answered
-pub record IsWrong (most : ℕ) (bytes : List ℕ) (kind : InputFault) (lines : List ℕ) : Type 0 where
-  pub fits : IsBytes bytes
-  pub frames : List (List ℕ)
-  pub front : List ℕ
-  pub rest : List ℕ
-  pub parts : bytes ≡ front ++ rest
-  pub framed : SpellsFrames frames front
-  pub replies : List (List ℕ)
+-- how far the one connection has come
+pub record Call : Type 0 where
   pub stage : Stage
-  pub talked : talk most stages.Hand frames ≡ record { replies = replies; stage = stage; fault = None }
-  pub written : lines ≡ reply_lines replies
-  pub begins : BeginsWrong most stage rest kind
+  pub rest : List ℕ
+  pub before : ℕ
+  pub protocol : ℤ
+  pub cause : Option Cause
 
--- a held frame was answered, or none is held and all were
-pub record NextAnswered (most : ℕ) (more : Bool) (old : Splitting) (stage : Stage) (lines : List ℕ) (new : Splitting) (stage' : Stage) (lines' : List ℕ) : Type 0 where
-  pub heard : (bytes : List ℕ) → HasHeard most bytes old stage lines → HasHeard most bytes new stage' lines'
-  pub shorter : more ≡ true → length new.held < length old.held
-  pub idle : more ≡ false → IsIdle stage' new
+abbrev pub called : Call → Session
+called c = record (new_session 0) { stage = c.stage; rest = c.rest; before = c.before; protocol = c.protocol; cause = c.cause }
 
--- a line is hex, and its bytes were heard behind the others
-pub record HearsLine (most : ℕ) (bytes line : List ℕ) (splitting : Splitting) (stage : Stage) (lines : List ℕ) : Type 0 where
-  pub more : List ℕ
-  pub hex : line_bytes line ≡ Some more
-  pub heard : HasHeard most (bytes ++ more) splitting stage lines
+-- the world in which there is no other
+abbrev pub lone : ℕ → Session → World
+lone most s = record (new_world most 2 Flat) { last = Some 0; sessions = s ∷ [] }
 
--- a line is no hex, or something is wrong with its bytes behind the others
-abbrev pub IsWrongLine : ℕ → List ℕ → List ℕ → InputFault → List ℕ → List ℕ → Type 0
-IsWrongLine most bytes line kind old new =
-    ((kind ≡ faults.Hex) × (line_bytes line ≡ None) × (new ≡ old))
-    ⊎ ((more : List ℕ) × (line_bytes line ≡ Some more) × IsWrong most (bytes ++ more) kind new)
+abbrev pub exchange : ℕ → List ℕ → Call → Exchange
+exchange most text c = record { world = lone most (called c); text = text; fault = session_fault c.stage c.cause }
 
--- a stream ends inside a frame
-abbrev pub IsInside : Stage → Splitting → Type 0
-IsInside stages.Over splitting = ⊥
-IsInside stage splitting = 0 < length splitting.held
+-- it is open, and no byte of a frame came
+pub record IsOpen (most : ℕ) (stage : Stage) (text : List ℕ) (x : Exchange) : Type 0 where
+  pub before : ℕ
+  pub protocol : ℤ
+  pub is : x ≡ exchange most text (record { stage = stage; rest = []; before = before; protocol = protocol; cause = None })
 
--- ---- texts
+-- its ping was answered
+pub record IsDone (most : ℕ) (text : List ℕ) (x : Exchange) : Type 0 where
+  pub before : ℕ
+  pub protocol : ℤ
+  pub is : x ≡ exchange most text (record { stage = stages.Closed; rest = []; before = before; protocol = protocol; cause = Some Done })
 
--- a text of so many bytes is too long, and its first bytes, so many, show it
-abbrev pub IsTooLong : ℕ → ℕ → Type 0
-IsTooLong len size = (text_max < len) × (text_max < size)
+-- a client has this fault, or has come to this stage, and these lines were written
+abbrev pub IsAt : ℕ → Option InputFault → Stage → List ℕ → Exchange → Type 0
+IsAt most (Some kind) stage text x = (x.fault ≡ Some kind) × (x.text ≡ text)
+IsAt most None stages.Hand text x = IsOpen most stages.Hand text x
+IsAt most None stages.Status text x = IsOpen most stages.Status text x
+IsAt most None stages.Closed text x = IsDone most text x
+IsAt most None other text x = ⊥
 
--- the next line shows that the text is too long, and else something is wrong with it
-abbrev pub IsWrongNext : ℕ → ℕ → ℕ → List ℕ → List ℕ → InputFault → List ℕ → List ℕ → Type 0
-IsWrongNext most len size bytes line kind old new =
-    (IsTooLong len size × (kind ≡ faults.Long) × (new ≡ old))
-    ⊎ ((¬ IsTooLong len size) × IsWrongLine most bytes line kind old new)
+-- ---- a client
 
--- the last line that holds a byte, of count lines the last of which has so many
-abbrev pub last_line : ℕ → ℕ → ℕ
-last_line count last = if last == 0 then count - 1 else count
+-- a client stands for this exchange: of it, the bytes that its splitter holds are still to be heard. So much of its text was
+-- written since what is held was `start`, and the client's lines are behind that.
+pub record Heard (most : ℕ) (start held : Option (List ℕ)) (client : Client) (x : Exchange) : Type 0 where
+  pub first : Exchange
+  pub wrote : List ℕ
+  pub grows : Grows start held wrote
+  pub is_at : IsAt most client.fault client.session.stage (wrote ++ client.lines.items) first
+  pub fits : IsBytes client.splitter.held
+  pub is : x ≡ fold hears first client.splitter.held
+
+-- nothing that it says matters any more
+abbrev pub is_over : Option InputFault → Stage → Bool
+is_over (Some kind) stage = true
+is_over None stages.Hand = false
+is_over None stages.Status = false
+is_over None other = true
+
+-- no whole frame waits for its answer, where one would be answered
+abbrev pub IsIdle : Client → Type 0
+IsIdle client = is_over client.fault client.session.stage ≡ false → IsPart client.splitter.held × (client.splitter.fault ≡ None)
+
+-- ---- what a frame comes to
+
+-- it asks for the status, or has not said what it wants
+abbrev pub IsAsking : Stage → Type 0
+IsAsking stages.Hand = Unit {0}
+IsAsking stages.Status = Unit {0}
+IsAsking other = ⊥
+
+abbrev pub stage_fault : Stage → Option InputFault
+stage_fault stages.Login = Some Login
+stage_fault other = None
+
+abbrev pub said_stage : Stage → Said → Stage
+said_stage stage (greets protocol next) = next
+said_stage stage (ends packet) = stages.Closed
+said_stage stage other = stage
+
+abbrev pub said_fault : Said → Option InputFault
+said_fault (greets protocol next) = stage_fault next
+said_fault (wrong fault) = Some Packet
+said_fault other = None
+
+abbrev pub said_lines : Said → List ℕ
+said_lines (replies packet) = hex_line (frame_of (of_status packet))
+said_lines (ends packet) = hex_line (frame_of (of_status packet))
+said_lines other = []
+
+-- ---- lines that wait to be written
+
+-- bytes were put behind those that waited, of which the first were written
+pub record Sends (held held' : Option (List ℕ)) (old new bytes : List ℕ) : Type 0 where
+  pub wrote : List ℕ
+  pub grows : Grows held held' wrote
+  pub parts : old ++ bytes ≡ wrote ++ new
+
+-- some first part of some bytes was written
+abbrev pub SendsPart : Option (List ℕ) → Option (List ℕ) → List ℕ → Type 0
+SendsPart held held' bytes = (n : ℕ) × Grows held held' (take n bytes)
+
+-- a client's frame was answered by what it comes to
+pub record Answers (d : Said) (held held' : Option (List ℕ)) (old new : Client) : Type 0 where
+  pub splitter : new.splitter ≡ old.splitter
+  pub stage : new.session.stage ≡ said_stage old.session.stage d
+  pub fault : new.fault ≡ said_fault d
+  pub sends : Sends held held' old.lines.items new.lines.items (said_lines d)

@@ -1,9 +1,10 @@
 -- A text of lines of hex, each of which stands for some bytes. Rules of this project: lines are parted by LF, and a line that
 -- is empty or begins with `#` stands for none.
-use Rattle.std.specs.Prelude.{◌≡◌, ℕ, ◌+◌, length, ◌==◌, Bool, true, false, List, [], ◌∷◌, ◌++◌, Option, Some, None, if◌then◌else◌}
+use Rattle.std.specs.Prelude.{◌≡◌, ℕ, ◌+◌, ◌-◌, ◌<◌, ◌≤◌, ◌&&◌, nat_lt, length, take, ◌==◌, Bool, true, false, List, [], ◌∷◌, ◌++◌, Option, Some, None, if◌then◌else◌}
 use Rattle.std.specs.List.{slice_split}
 use Rattle.std.specs.Result.{result_ok}
 use Rattle.hex.specs.Hex.{decode_of}
+use Rattle.mc_top.specs.declared.lines.TheConstants.{TEXT_MAX}
 
 -- whether a byte ends a line
 abbrev pub is_line_end : ℕ → Bool
@@ -22,19 +23,23 @@ is_skipped (b ∷ line) = b == 35
 abbrev pub line_bytes : List ℕ → Option (List ℕ)
 line_bytes line = if is_skipped line then Some [] else result_ok (decode_of line)
 
--- some bytes before others, where there are any
-abbrev pub behind : List ℕ → Option (List ℕ) → Option (List ℕ)
-behind front None = None
-behind front (Some bytes) = Some (front ++ bytes)
+-- the most bytes that a text has
+abbrev pub text_max : ℕ
+text_max = TEXT_MAX
 
-abbrev pub joined_by : Option (List ℕ) → Option (List ℕ) → Option (List ℕ)
-joined_by None rest = None
-joined_by (Some front) rest = behind front rest
+-- a line goes past the most bytes: the text has too many, and so many are up to the line's end
+abbrev pub goes_past : ℕ → ℕ → Bool
+goes_past len size = nat_lt text_max len && nat_lt text_max size
 
--- the bytes of some lines together
-unfoldable pub lines_bytes : List (List ℕ) → Option (List ℕ)
-lines_bytes [] = Some []
-lines_bytes (line ∷ lines) = joined_by (line_bytes line) (lines_bytes lines)
+-- how many bytes some lines have, with their ends
+abbrev pub size_of : List (List ℕ) → ℕ
+size_of [] = 0
+size_of (line ∷ lines) = length line + 1 + size_of lines
+
+-- line n of a text, counted from 1, holds byte p, counted from 1; a line's end is of the line
+pub record HoldsByte (input : List ℕ) (n p : ℕ) : Type 0 where
+  pub after : size_of (take (n - 1) (lines_of input)) < p
+  pub within : p ≤ size_of (take n (lines_of input))
 
 -- the bytes of a line were put behind the others, or it was no hex
 abbrev pub PutsLine : Option (List ℕ) → List ℕ → List ℕ → Bool → Type 0

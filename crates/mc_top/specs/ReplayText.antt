@@ -1,15 +1,26 @@
 -- What `replay` writes for a list of events, and the log of all that happens. Rules of this project: after each event every
 -- connection takes all that it is owed, and those that are closed are forgotten.
-use Rattle.std.specs.Prelude.{ℕ, nat_lt, Bool, List, [], ◌∷◌, ◌++◌, length, map, replicate, codes, decimal}
+use Rattle.std.specs.Prelude.{◌≡◌, ℕ, ◌==◌, nat_lt, Bool, false, List, [], ◌∷◌, ◌++◌, length, map, replicate, Some, codes, decimal, if◌then◌else◌}
 use Rattle.std.specs.List.{filter, flat_map}
 use Rattle.hex.specs.Hex.{encode_lower}
-use Rattle.mc_model.specs.World.{World, Session, is_closed}
+use Rattle.mc_model.specs.World.{World, Session, found, is_closed}
 use Rattle.mc_model.specs.Step.{Event, joined, came, left, ticked, took, forgot, step}
-use Rattle.mc_model.specs.Run.{history}
+use Rattle.mc_model.specs.Run.{history, stream, taken}
 use Rattle.mc_top.specs.declared.script_line.ScriptEvent.{ScriptEvent}
 use Rattle.mc_top.specs.declared.script_line.ScriptEvent.TheVariants.{Joined, Came, Gone, Ticks}
 
--- ---- the lines of an event
+-- ---- what is told after an event
+
+-- a connection took these bytes; or it was closed, and is forgotten
+pub data Telling : Type 0 where
+  tells_sent : ℕ → List ℕ → Telling
+  tells_shut : ℕ → Telling
+
+-- its line
+abbrev pub telling_line : Telling → List ℕ
+telling_line (tells_sent k bytes) =
+    codes "sent " ++ decimal k ++ codes " " ++ encode_lower bytes ++ 10 ∷ []
+telling_line (tells_shut k) = codes "shut " ++ decimal k ++ 10 ∷ []
 
 abbrev pub owes : Session → Bool
 owes s = nat_lt 0 (length s.owed)
@@ -17,18 +28,15 @@ owes s = nat_lt 0 (length s.owed)
 abbrev pub is_shut : Session → Bool
 is_shut s = is_closed s.stage
 
--- the bytes that a connection is owed
-abbrev pub sent_line : Session → List ℕ
-sent_line s = codes "sent " ++ decimal s.id ++ codes " " ++ encode_lower s.owed ++ 10 ∷ []
+-- each that is owed bytes, in rising numbers, and then each that is closed
+unfoldable pub tellings : World → List Telling
+tellings w =
+    map (λ (s : Session). tells_sent s.id s.owed) (filter owes w.sessions)
+    ++ map (λ (s : Session). tells_shut s.id) (filter is_shut w.sessions)
 
--- a connection that is closed
-abbrev pub shut_line : Session → List ℕ
-shut_line s = codes "shut " ++ decimal s.id ++ 10 ∷ []
-
--- what is told of a world after an event: a line for each connection that is owed bytes, in rising numbers, then one for each
--- that is closed
+-- the lines of a world after an event
 unfoldable pub told : World → List ℕ
-told w = flat_map sent_line (filter owes w.sessions) ++ flat_map shut_line (filter is_shut w.sessions)
+told w = flat_map telling_line (tellings w)
 
 -- each takes all that it is owed, and those that are closed are forgotten
 unfoldable pub takings : World → List Event
@@ -43,10 +51,36 @@ abbrev pub replay_text : World → List Event → List ℕ
 replay_text w [] = []
 replay_text w (e ∷ events) = told (step w e).world ++ replay_text (settled (step w e).world) events
 
+-- all that is told
+abbrev pub replay_tellings : World → List Event → List Telling
+replay_tellings w [] = []
+replay_tellings w (e ∷ events) =
+    tellings (step w e).world ++ replay_tellings (settled (step w e).world) events
+
 -- all that happens
 abbrev pub replay_log : World → List Event → List Event
 replay_log w [] = []
 replay_log w (e ∷ events) = e ∷ takings (step w e).world ++ replay_log (settled (step w e).world) events
+
+-- ---- what the `sent` lines of one connection tell
+
+abbrev pub sent_for : ℕ → Telling → List ℕ
+sent_for k (tells_sent j bytes) = if j == k then bytes else []
+sent_for k (tells_shut j) = []
+
+-- the bytes of all `sent k` lines, joined
+abbrev pub sent_to : ℕ → List Telling → List ℕ
+sent_to k all = flat_map (sent_for k) all
+
+-- What is told of connection k is what it took of all that it was handed: just the bytes that it
+-- took in the log, so the first ones of its stream, and all of that where it is open at the end.
+pub record IsToldTaken (k : ℕ) (w : World) (events : List Event) : Type 0 where
+  pub is_taken : sent_to k (replay_tellings w events) ≡ taken k w (replay_log w events)
+  pub begun : (more : List ℕ) ×
+      (stream k w (replay_log w events) ≡ sent_to k (replay_tellings w events) ++ more)
+  pub whole : (s : Session) → found k (history w (replay_log w events)).sessions ≡ Some s →
+      is_closed s.stage ≡ false →
+      stream k w (replay_log w events) ≡ sent_to k (replay_tellings w events)
 
 -- ---- the events of a script: a line of ticks is so many
 

@@ -11,8 +11,7 @@ use Rattle.mc_top.specs.declared.script_line.Before.{Before}
 use Rattle.mc_top.specs.declared.script_line.ScriptEvent.{ScriptEvent}
 use Rattle.mc_top.specs.declared.script_line.ScriptEvent.TheVariants.{Joined, Came, Gone, Ticks}
 use Rattle.mc_top.specs.Digits.{digits_number, within}
-use Rattle.mc_top.specs.Lines.{lines_of, is_skipped}
-use Rattle.mc_top.specs.StatusText.{text_max}
+use Rattle.mc_top.specs.Lines.{lines_of, is_skipped, goes_past}
 
 -- ---- words
 
@@ -90,10 +89,6 @@ words_event before (verb ∷ word ∷ hex ∷ []) = three_words verb word hex
 words_event before other = Err faults.Word
 
 -- ---- texts
-
--- a line goes past the most bytes: the text has too many, and so many are up to the line's end
-abbrev pub goes_past : ℕ → ℕ → Bool
-goes_past len size = nat_lt text_max len && nat_lt text_max size
 
 abbrev pub some_event : Result ScriptEvent InputFault → Result (Option ScriptEvent) InputFault
 some_event (Ok event) = Ok (Some event)

@@ -1,79 +1,109 @@
--- What `status` writes for an input, whole: a text of lines of hex, each some bytes of one client, as their replies and the first
--- fault. Rules of this project. No buffer and no order of work is in it.
-use Rattle.std.specs.Prelude.{◌≡◌, ◌≢◌, ℕ, ◌+◌, ◌-◌, ◌<◌, ◌≤◌, ◌⊎◌, List, [], ◌∷◌, length, take, Option, Some, None}
-use Rattle.mc_frame.specs.Cut.{Cut, IsCut}
+-- What `status` writes for an input, whole: what the world answers to one connection whose bytes come one by one, as lines of hex,
+-- and the first fault. Rules of this project. No buffer, no piece and no order of work is in it. Since it is a function, an input has
+-- one text for each number of players, and one first fault or none.
+use Rattle.std.specs.Prelude.{ℕ, ◌+◌, ◌-◌, ◌&&◌, nat_lt, not, Bool, false, List, [], ◌∷◌, ◌++◌, length, take, fold, Option, Some, None, is_some, if◌then◌else◌}
+use Rattle.std.specs.List.{flat_map}
+use Rattle.hex.specs.Hex.{encode_lower}
+use Rattle.mc_land.specs.declared.terrain.Terrain.TheVariants.{Flat}
+use Rattle.mc_model.specs.declared.cause.Cause.{Cause}
+use Rattle.mc_model.specs.declared.cause.Cause.TheVariants as causes
+use Rattle.mc_model.specs.declared.stage.Stage.{Stage}
+use Rattle.mc_model.specs.declared.stage.Stage.TheVariants as stages
+use Rattle.mc_model.specs.World.{World, Session, new_world, is_closed, found}
+use Rattle.mc_model.specs.Hearing.{Sent, frame_of}
+use Rattle.mc_model.specs.Step.{Outcome, joined, came, took, step}
+use Rattle.mc_model.specs.Run.{to, owed_in}
 use Rattle.mc_top.specs.declared.bad_input.BadInput.{BadInput}
 use Rattle.mc_top.specs.declared.bad_input.InputFault.{InputFault}
-use Rattle.mc_top.specs.declared.bad_input.InputFault.TheVariants as faults
-use Rattle.mc_top.specs.declared.stage.Stage.TheVariants as stages
-use Rattle.mc_top.specs.Lines.{lines_of, lines_bytes}
-use Rattle.mc_top.specs.Client.{said, reply_lines}
+use Rattle.mc_top.specs.declared.bad_input.InputFault.TheVariants.{Hex, Frame, Packet, Login, Cut, Long}
+use Rattle.mc_top.specs.Lines.{lines_of, line_bytes, goes_past}
 
--- the most bytes that a text has
-abbrev pub text_max : ℕ
-text_max = 67108864
+-- ---- one connection
 
--- how many bytes some lines have, with their ends
-abbrev pub size_of : List (List ℕ) → ℕ
-size_of [] = 0
-size_of (line ∷ lines) = length line + 1 + size_of lines
+-- the exchange with connection 0 so far: the world, the lines that were written, and what is wrong with the connection
+pub record Exchange : Type 0 where
+  pub world : World
+  pub text : List ℕ
+  pub fault : Option InputFault
 
--- line n of a text, counted from 1, holds byte p, counted from 1; a line's end is of the line
-pub record HoldsByte (input : List ℕ) (n p : ℕ) : Type 0 where
-  pub after : size_of (take (n - 1) (lines_of input)) < p
-  pub within : p ≤ size_of (take n (lines_of input))
+-- it has joined a new world with so many players at most
+abbrev pub first_exchange : ℕ → Exchange
+first_exchange most = record { world = (step (new_world most 2 Flat) (joined 0)).world; text = []; fault = None }
 
--- none of the first n lines goes past the most bytes
-abbrev pub IsWithin : List ℕ → ℕ → Type 0
-IsWithin input n = (length input ≤ text_max) ⊎ (size_of (take n (lines_of input)) ≤ text_max)
+-- packets, each as a line of lower-case hex
+abbrev pub hex_line : List ℕ → List ℕ
+hex_line bytes = encode_lower bytes ++ 10 ∷ []
 
--- the bytes of the first n lines, joined and cut into frames
-pub record FirstLines (input : List ℕ) (n : ℕ) (cut : Cut) : Type 0 where
-  pub bytes : List ℕ
-  pub hex : lines_bytes (take n (lines_of input)) ≡ Some bytes
-  pub is_cut : IsCut bytes cut
+abbrev pub sent_lines : List Sent → List ℕ
+sent_lines packets = flat_map (λ (p : Sent). hex_line (frame_of p)) packets
 
--- no fault shows in the first n lines
-pub record IsFine (most : ℕ) (input : List ℕ) (n : ℕ) : Type 0 where
-  pub cut : Cut
-  pub lines : FirstLines input n cut
-  pub within : IsWithin input n
-  pub no_fault : (said most cut).fault ≡ None
+-- it wants to log in, or was closed for a frame
+abbrev pub session_fault : Stage → Option Cause → Option InputFault
+session_fault stages.Login cause = Some Login
+session_fault stage (Some (causes.Frame fault)) = Some Frame
+session_fault stage (Some (causes.Packet fault)) = Some Packet
+session_fault stage other = None
 
--- no fault shows in fewer than n lines
-abbrev pub AreFineBefore : ℕ → List ℕ → ℕ → Type 0
-AreFineBefore most input n = (m : ℕ) → m < n → IsFine most input m
+abbrev pub shown_fault : Option Session → Option InputFault
+shown_fault None = None
+shown_fault (Some s) = session_fault s.stage s.cause
 
--- the first n lines are answered so
-abbrev pub AreAnswered : ℕ → List ℕ → ℕ → List (List ℕ) → Type 0
-AreAnswered most input n replies = (cut : Cut) × FirstLines input n cut × (replies ≡ (said most cut).replies)
+-- it takes all that it is owed
+abbrev pub emptied : World → World
+emptied w = (step w (took 0 (length (owed_in 0 w)))).world
 
--- the bytes of all lines end inside a frame
-abbrev pub EndsInside : ℕ → List ℕ → Type 0
-EndsInside most input = (cut : Cut) × FirstLines input (length (lines_of input)) cut × ((said most cut).stage ≢ stages.Over) × (0 < length cut.rest)
+-- the exchange after a step
+abbrev pub goes_on : Exchange → Outcome → Exchange
+goes_on x o = record { world = emptied o.world; text = x.text ++ sent_lines (to 0 o.out); fault = shown_fault (found 0 o.world.sessions) }
 
--- a fault of this kind shows at line n, and none before it; what is answered is what stands before the fault
-abbrev pub IsFirstFault : ℕ → List ℕ → ℕ → InputFault → List (List ℕ) → Type 0
--- the line is no hex: the lines before it
-IsFirstFault most input n faults.Hex replies =
-    AreFineBefore most input n × IsWithin input n × (lines_bytes (take n (lines_of input)) ≡ None) × AreAnswered most input (n - 1) replies
--- the line holds a byte too many, and is tested for nothing else: the lines before it
-IsFirstFault most input n faults.Long replies =
-    AreFineBefore most input n × (text_max < length input) × HoldsByte input n (text_max + 1) × AreAnswered most input (n - 1) replies
--- nothing else is wrong, and the bytes end inside a frame: at the line of the last byte
-IsFirstFault most input n faults.Cut replies =
-    AreFineBefore most input (length (lines_of input) + 1) × EndsInside most input × HoldsByte input n (length input) × AreAnswered most input (length (lines_of input)) replies
--- a frame or a length is wrong: the frames before it
-IsFirstFault most input n kind replies =
-    AreFineBefore most input n × IsWithin input n × ((cut : Cut) × FirstLines input n cut × ((said most cut).fault ≡ Some kind)) × AreAnswered most input n replies
+-- a byte comes; after a fault none is heard
+abbrev pub hears : Exchange → ℕ → Exchange
+hears x b = if is_some x.fault then x else goes_on x (step x.world (came 0 (b ∷ [])))
 
--- the first fault of an input, if it has any, and the frames that answer what stands before it
-abbrev pub IsAnswered : ℕ → List ℕ → Option BadInput → List (List ℕ) → Type 0
-IsAnswered most input None replies = AreFineBefore most input (length (lines_of input) + 1) × (¬ EndsInside most input) × AreAnswered most input (length (lines_of input)) replies
-IsAnswered most input (Some bad) replies = IsFirstFault most input bad.line bad.kind replies
+-- ---- lines
 
--- what `status` writes for an input before its last line, and the fault that the last line names
-pub record IsStatusText (most : ℕ) (input : List ℕ) (bad : Option BadInput) (text : List ℕ) : Type 0 where
-  pub replies : List (List ℕ)
-  pub answered : IsAnswered most input bad replies
-  pub lines : text ≡ reply_lines replies
+-- what is written before the last line, and the first fault, which the last line names
+pub record Told : Type 0 where
+  pub text : List ℕ
+  pub fault : Option BadInput
+
+-- the bytes of a line come one by one, where it is hex
+abbrev pub hears_line : Exchange → Option (List ℕ) → Exchange
+hears_line x None = record x { fault = Some Hex }
+hears_line x (Some bytes) = fold hears x bytes
+
+-- the next line, up to whose end a text of `len` bytes has `size`
+abbrev pub hears_next : ℕ → ℕ → Exchange → List ℕ → Exchange
+hears_next len size x line = if goes_past len size then record x { fault = Some Long } else hears_line x (line_bytes line)
+
+-- the connection is open, and its bytes end inside a frame
+abbrev pub ends_inside : Option Session → Bool
+ends_inside None = false
+ends_inside (Some s) = not (is_closed s.stage) && nat_lt 0 (length s.rest)
+
+-- the number of the line that holds the last byte of a text: as many lines as the text has without that byte
+abbrev pub last_byte_line : List ℕ → ℕ
+last_byte_line text = length (lines_of (take (length text - 1) text))
+
+-- behind all lines
+abbrev pub told_at_end : List ℕ → Exchange → Told
+told_at_end input x = record {
+  text = x.text;
+  fault = if ends_inside (found 0 x.world.sessions) then Some (record { line = last_byte_line input; kind = Cut }) else None;
+}
+
+-- after line n, whose fault ends it
+abbrev pub told_after : ℕ → Exchange → Option InputFault → (Exchange → Told) → Told
+told_after n x (Some kind) later = record { text = x.text; fault = Some (record { line = n; kind = kind }) }
+told_after n x None later = later x
+
+-- the lines behind the first `count`, which have `size` bytes with their ends
+unfoldable pub lines_told : List ℕ → ℕ → ℕ → Exchange → List (List ℕ) → Told
+lines_told input count size x [] = told_at_end input x
+lines_told input count size x (line ∷ lines) =
+    let next = hears_next (length input) (size + (length line + 1)) x line in
+    told_after (count + 1) next next.fault (λ y. lines_told input (count + 1) (size + (length line + 1)) y lines)
+
+-- what is told of an input, with so many players at most
+unfoldable pub status_told : ℕ → List ℕ → Told
+status_told most input = lines_told input 0 0 (first_exchange most) (lines_of input)

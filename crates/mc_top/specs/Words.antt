@@ -5,6 +5,7 @@ use Rattle.std.specs.List.{before_first, after_first, list_any}
 use Rattle.std.specs.Str.{bytes_eq}
 use Rattle.std.specs.declared.string.String.{String}
 use Rattle.mc_land.specs.declared.terrain.Terrain.{Terrain}
+use Rattle.mc_model.specs.World.{AreSettings}
 use Rattle.mc_land.specs.declared.terrain.Terrain.TheVariants.{Flat, Hills, Isle}
 use Rattle.mc_top.specs.declared.words.Command.{Command}
 use Rattle.mc_top.specs.declared.words.Command.TheVariants.{Status, Replay}
@@ -95,3 +96,8 @@ command_of (verb ∷ words) =
 -- the bytes of each word
 abbrev pub bytes_of : {Z : Type 0} → List (String Z) → List (List ℕ)
 bytes_of words = map string_bytes words
+
+-- a world can begin with the options of a command, where it has such
+abbrev pub IsSet : Command → Type 0
+IsSet (Status most) = Unit {0}
+IsSet (Replay options) = AreSettings options.players options.view

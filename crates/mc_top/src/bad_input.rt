@@ -1,5 +1,5 @@
 ghost use Rattle.std.specs.Prelude.{◌≡◌, IfOk, string_bytes};
-ghost use Rattle.mc_top.specs.Ended.{bad_input_line, ended_line};
+ghost use Rattle.mc_top.specs.Ended.{bad_input_line};
 
 use mc_nbt::NoMemory;
 use std::alloc::Global;
@@ -61,7 +61,7 @@ pub struct BadInput {
 impl BadInput {
     /// The last line of the output, with its end.
     pub fn last_line(self, alloc: Global) -> Result<String, NoMemory>
-        ensures { IfOk result (λ text. string_bytes text ≡ ended_line (bad_input_line self)) }
+        ensures { IfOk result (λ text. string_bytes text ≡ bad_input_line self) }
     {
         let line = self.line;
         let kind = self.kind;

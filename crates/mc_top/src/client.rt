@@ -1,157 +1,276 @@
-ghost use Rattle.std.specs.Prelude.{◌≡◌, ◌++◌, ℕ, List, [], false, IfOk, OnOk, Ok};
-ghost use Rattle.mc_up.specs.declared.status_down.StatusDown.TheVariants.{Pong};
-ghost use Rattle.mc_top.specs.Client.{answer, greeting, greeted, goes, wrong, reply, hex_line};
-ghost use Rattle.mc_top.specs.Heard.{IfFault, Answers, HasHeard, IsWrong, NextAnswered};
+ghost use Rattle.std.specs.Prelude.{◌≡◌, ◌<◌, ◌++◌, ℕ, List, Option, [], true, false, length, take, None, IfOk, OnOk, OnErr, IsErrOf};
+ghost use Rattle.std.specs.List.{fold};
+ghost use Rattle.mc_model.specs.World.{found};
+ghost use Rattle.mc_model.specs.Talk.{said};
+ghost use Rattle.mc_wire.specs.Count.{Rose, StandsOrRises};
+ghost use Rattle.mc_wire.specs.Stream.{Grows};
+ghost use Rattle.mc_top.specs.StatusText.{Exchange, hears, hex_line, first_exchange, ends_inside};
+ghost use Rattle.mc_top.specs.Heard.{Heard, IsIdle, IsAsking, is_over, stage_fault, said_lines, Answers, Sends, SendsPart};
 
 use crate::bad_input::InputFault;
-use crate::reply::write_reply;
-use crate::stage::Stage;
-use crate::status::Status;
 use mc_frame::{Splitter, Take};
+use mc_model::Stage;
 use mc_nbt::NoMemory;
-use mc_up::{Hand, PacketRead, StatusDown, StatusUp, read_hand, read_status_up};
+use mc_session::{Session, Step};
+use mc_wire::{Failed, Sink, write_all};
 use std::alloc::Global;
 
-/// Why a client is not heard any further.
+/// How many bytes of lines are written at a time.
+const PIECE: usize = 65_536;
+
+/// Why a client is not answered any further.
 #[derive(Clone, Copy, Debug, PartialEq, Eq)]
-pub enum Unheard {
-    /// Something is wrong with what it says.
-    Fault(InputFault),
+pub enum Unanswered {
+    /// The output failed.
+    Failed,
     /// There was no memory.
     NoMemory,
 }
 
-impl From<NoMemory> for Unheard {
-    ghost use Rattle.mc_top.specs.declared.client.Unheard.TheVariants as unheard;
+impl From<Failed> for Unanswered {
+    ghost use Rattle.mc_top.specs.declared.client.Unanswered.TheVariants as unanswered;
 
-    ghost from_gives = { λ _ error. error ≡ unheard.NoMemory };
+    ghost from_gives = { λ _ error. error ≡ unanswered.Failed };
 
-    fn from(_refusal: NoMemory) -> Unheard {
-        Unheard::NoMemory
+    fn from(_failure: Failed) -> Unanswered {
+        Unanswered::Failed
     }
 }
 
-/// A client that asks for the status: its stream, how far it has come, and the frames that answered
-/// it, as lines of hex.
+impl From<NoMemory> for Unanswered {
+    ghost use Rattle.mc_top.specs.declared.client.Unanswered.TheVariants as unanswered;
+
+    ghost from_gives = { λ _ error. error ≡ unanswered.NoMemory };
+
+    fn from(_refusal: NoMemory) -> Unanswered {
+        Unanswered::NoMemory
+    }
+}
+
+/// A client that asks for the status: what is left of its stream, how far it has come, what is wrong
+/// with what it said, and the lines of its answers that wait to be written.
 #[derive(Drop)]
 pub struct Client {
     /// What is left of its stream.
     pub splitter: Splitter,
     /// How far it has come.
-    pub stage: Stage,
-    /// The lines of the frames that answered it.
+    pub session: Session,
+    /// What is wrong with what it said.
+    pub fault: Option<InputFault>,
+    /// The lines that wait to be written.
     pub lines: Vec<u8>,
 }
 
-/// Appends the line of a ping's answer. Without memory some first part of it is there.
-fn write_pong_line(alloc: Global, number: i64, out: &mut Vec<u8>) -> Result<(), NoMemory>
-    ensures { OnOk result (out.new.items ≡ out.old.items ++ hex_line (reply (Pong number))) }
+/// Writes the lines that wait. A failure leaves some first part of them written.
+pub fn flush<O: Sink>(lines: &mut Vec<u8>, out: &mut O) -> Result<(), Failed>
+    ensures written { OnOk result (Grows (O.held out.old) (O.held out.new) lines.old.items) }
+    ensures empty { OnOk result (lines.new.items ≡ []) }
+    ensures part { OnErr result (SendsPart (O.held out.old) (O.held out.new) lines.old.items) }
+    ensures failed { OnErr result (Rose (O.faults out.old) (O.faults out.new)) }
+    ensures counts { StandsOrRises (O.faults out.old) (O.faults out.new) }
 {
-    let pong = StatusDown::Pong(number);
-    write_reply(alloc, &pong, out)?;
+    write_all(out, lines)?;
+    lines.clear();
     Ok(())
 }
 
-/// What a first frame comes to: its client must want the status.
-fn greet(alloc: Global, payload: &[u8]) -> Result<Stage, Unheard>
-    ensures ok { IfOk result (λ next. greeting payload.now ≡ goes [] next) }
-    ensures fault { IfFault result (λ kind. greeting payload.now ≡ wrong kind) }
+/// Writes the lines that wait, where there is no room for one more that tells `size` bytes.
+fn make_room<O: Sink>(lines: &mut Vec<u8>, size: usize, out: &mut O) -> Result<(), Failed>
+    ensures sent { OnOk result (Sends (O.held out.old) (O.held out.new) lines.old.items lines.new.items []) }
+    ensures part { OnErr result (SendsPart (O.held out.old) (O.held out.new) lines.old.items) }
+    ensures failed { OnErr result (Rose (O.faults out.old) (O.faults out.new)) }
+    ensures counts { StandsOrRises (O.faults out.old) (O.faults out.new) }
 {
-    match read_hand(alloc, payload) {
-        Ok(hand) => greeted(&hand),
-        Err(PacketRead::Fault(_)) => Err(Unheard::Fault(InputFault::Packet)),
-        Err(PacketRead::NoMemory) => Err(Unheard::NoMemory),
+    if size < PIECE.saturating_sub(lines.len()) / 2 {
+        return Ok(());
     }
+    flush(lines, out)
 }
 
-/// What a handshake comes to.
-fn greeted(hand: &Hand) -> Result<Stage, Unheard>
-    ensures ok { IfOk result (λ next. greeted (Ok hand.now) ≡ goes [] next) }
-    ensures fault { IfFault result (λ kind. greeted (Ok hand.now) ≡ wrong kind) }
+/// Appends bytes as a line of lower-case hex. Without memory some first part of it is there.
+fn put_hex_line(alloc: Global, bytes: &[u8], lines: &mut Vec<u8>) -> Result<(), NoMemory>
+    ensures { OnOk result (lines.new.items ≡ lines.old.items ++ hex_line bytes.now) }
 {
-    let Hand::Handshake { next, .. } = hand;
-    if *next == 1 {
-        Ok(Stage::Status)
-    } else {
-        Err(Unheard::Fault(InputFault::Login))
-    }
+    let digits = hex::encode(alloc, bytes)?;
+    lines.extend_from_slice(digits.as_bytes())?;
+    lines.push(b'\n')?;
+    Ok(())
 }
 
-/// Answers a frame of a client that wants the status.
-fn ask(
+/// Puts a frame as a line behind those that wait, which are written first where there is no room.
+fn send<O: Sink>(
     alloc: Global,
-    status: &Status,
-    payload: &[u8],
+    frame: &[u8],
     lines: &mut Vec<u8>,
-) -> Result<Stage, Unheard>
-    ensures ok { IfOk result (λ next. Answers status.now.most Stage.Status payload.now lines.old.items lines.new.items next) }
-    ensures fault { IfFault result (λ kind. (answer status.now.most Stage.Status payload.now ≡ wrong kind) × (lines.new.items ≡ lines.old.items)) }
+    out: &mut O,
+) -> Result<(), Unanswered>
+    ensures sent { OnOk result (Sends (O.held out.old) (O.held out.new) lines.old.items lines.new.items (hex_line frame.now)) }
+    ensures stopped { OnErr result (SendsPart (O.held out.old) (O.held out.new) (lines.old.items ++ hex_line frame.now)) }
+    ensures failed { IsErrOf result Unanswered.Failed → Rose (O.faults out.old) (O.faults out.new) }
+    ensures counts { StandsOrRises (O.faults out.old) (O.faults out.new) }
 {
-    match read_status_up(payload) {
-        Ok(StatusUp::Request) => {
-            status.write_line(lines)?;
-            Ok(Stage::Status)
-        }
-        Ok(StatusUp::Ping(number)) => {
-            write_pong_line(alloc, number, lines)?;
-            Ok(Stage::Over)
-        }
-        Err(PacketRead::Fault(_)) => Err(Unheard::Fault(InputFault::Packet)),
-        Err(PacketRead::NoMemory) => Err(Unheard::NoMemory),
-    }
+    make_room(lines, frame.len(), out)?;
+    put_hex_line(alloc, frame, lines)?;
+    Ok(())
 }
 
-/// Answers a frame, and gives how far the client has come then.
-fn answer(
-    alloc: Global,
-    status: &Status,
-    stage: Stage,
-    payload: &[u8],
-    lines: &mut Vec<u8>,
-) -> Result<Stage, Unheard>
-    ensures ok { IfOk result (λ next. Answers status.now.most stage payload.now lines.old.items lines.new.items next) }
-    ensures fault { IfFault result (λ kind. (answer status.now.most stage payload.now ≡ wrong kind) × (lines.new.items ≡ lines.old.items)) }
+/// What is wrong with a client that has come to this stage: the wish to log in.
+fn stage_fault(stage: Stage) -> Option<InputFault>
+    ensures { result ≡ stage_fault stage }
 {
     match stage {
-        Stage::Hand => greet(alloc, payload),
-        Stage::Status => ask(alloc, status, payload, lines),
-        Stage::Over => Ok(Stage::Over),
+        Stage::Login => Some(InputFault::Login),
+        _ => None,
     }
 }
 
-/// Answers the next frame that is held, and says whether there may be one more.
-fn answer_next(alloc: Global, status: &Status, client: &mut Client) -> Result<bool, Unheard>
-    ensures ok { IfOk result (λ more. NextAnswered status.now.most more client.old.splitter client.old.stage client.old.lines.items
-        client.new.splitter client.new.stage client.new.lines.items) }
-    ensures fault { IfFault result (λ kind. (bytes : List ℕ) → HasHeard status.now.most bytes client.old.splitter client.old.stage client.old.lines.items →
-        IsWrong status.now.most bytes kind client.new.lines.items) }
-{
-    if let Stage::Over = client.stage {
-        return Ok(false);
-    }
-    match client.splitter.take()? {
-        Take::Frame(payload) => {
-            client.stage = answer(
-                alloc,
-                status,
-                client.stage,
-                payload.as_slice(),
-                &mut client.lines,
-            )?;
-            Ok(true)
+impl Client {
+    /// A client that has said nothing.
+    pub fn new(alloc: Global) -> Client
+        ensures heard { (most : ℕ) (start : Option (List ℕ)) → Heard most start start result (first_exchange most) }
+        ensures idle { IsIdle result }
+        ensures fine { result.fault ≡ None }
+    {
+        Client {
+            splitter: Splitter::new(alloc),
+            session: Session::new(),
+            fault: None,
+            lines: Vec::new(alloc),
         }
-        Take::More => Ok(false),
-        Take::Bad(_) => Err(Unheard::Fault(InputFault::Frame)),
     }
-}
 
-/// Answers the frames that are held.
-pub fn answer_held(alloc: Global, status: &Status, client: &mut Client) -> Result<(), Unheard>
-    ensures ok { OnOk result (NextAnswered status.now.most false client.old.splitter client.old.stage client.old.lines.items
-        client.new.splitter client.new.stage client.new.lines.items) }
-    ensures fault { IfFault result (λ kind. (bytes : List ℕ) → HasHeard status.now.most bytes client.old.splitter client.old.stage client.old.lines.items →
-        IsWrong status.now.most bytes kind client.new.lines.items) }
-{
-    while answer_next(alloc, status, client)? {}
-    Ok(())
+    /// Whether nothing that it says matters any more.
+    fn is_over(&self) -> bool
+        ensures { result ≡ is_over self.now.fault self.now.session.stage }
+    {
+        if self.fault.is_some() {
+            return true;
+        }
+        match self.session.stage() {
+            Stage::Hand | Stage::Status => false,
+            _ => true,
+        }
+    }
+
+    /// Whether its stream ends inside a frame.
+    pub fn is_inside(&self) -> bool
+        ensures { (most : ℕ) (start held : Option (List ℕ)) (x : Exchange) → IsIdle self.now → self.now.fault ≡ None →
+            Heard most start held self.now x → result ≡ ends_inside (found 0 x.world.sessions) }
+    {
+        if self.is_over() {
+            return false;
+        }
+        self.splitter.len() > 0
+    }
+
+    /// Answers a frame.
+    fn answer<O: Sink>(
+        &mut self,
+        alloc: Global,
+        most: u32,
+        payload: &[u8],
+        out: &mut O,
+    ) -> Result<(), Unanswered>
+        requires asking { IsAsking self.old.session.stage }
+        requires fine { self.old.fault ≡ None }
+        ensures answered { OnOk result (Answers (said self.old.session.stage most 0 payload.now) (O.held out.old) (O.held out.new) self.old self.new) }
+        ensures stopped { OnErr result (SendsPart (O.held out.old) (O.held out.new) (self.old.lines.items ++ said_lines (said self.old.session.stage most 0 payload.now))) }
+        ensures failed { IsErrOf result Unanswered.Failed → Rose (O.faults out.old) (O.faults out.new) }
+        ensures counts { StandsOrRises (O.faults out.old) (O.faults out.new) }
+    {
+        match self.session.on_frame(alloc, payload, most, 0)? {
+            Step::Nothing => {
+                self.fault = stage_fault(self.session.stage());
+                Ok(())
+            }
+            Step::Reply(frame) => send(alloc, frame.as_slice(), &mut self.lines, out),
+            Step::ReplyClose(frame, _) => send(alloc, frame.as_slice(), &mut self.lines, out),
+            Step::Close(_) => {
+                self.fault = Some(InputFault::Packet);
+                Ok(())
+            }
+            Step::Enter { .. } => unreachable!(),
+            Step::Act(_) => unreachable!(),
+        }
+    }
+
+    /// Answers the next frame that is held, and says whether there may be one more.
+    fn answer_next<O: Sink>(
+        &mut self,
+        alloc: Global,
+        most: u32,
+        out: &mut O,
+    ) -> Result<bool, Unanswered>
+        ensures heard { IfOk result (λ more. (start : Option (List ℕ)) (x : Exchange) → Heard most start (O.held out.old) self.old x →
+            Heard most start (O.held out.new) self.new x) }
+        ensures shorter { IfOk result (λ more. more ≡ true → length self.new.splitter.held < length self.old.splitter.held) }
+        ensures idle { IfOk result (λ more. more ≡ false → IsIdle self.new) }
+        ensures stopped { OnErr result ((start : Option (List ℕ)) (x : Exchange) → Heard most start (O.held out.old) self.old x →
+            SendsPart start (O.held out.new) x.text) }
+        ensures failed { IsErrOf result Unanswered.Failed → Rose (O.faults out.old) (O.faults out.new) }
+        ensures counts { StandsOrRises (O.faults out.old) (O.faults out.new) }
+    {
+        if self.is_over() {
+            return Ok(false);
+        }
+        match self.splitter.take()? {
+            Take::Frame(payload) => {
+                self.answer(alloc, most, payload.as_slice(), out)?;
+                Ok(true)
+            }
+            Take::More => Ok(false),
+            Take::Bad(_fault) => {
+                self.fault = Some(InputFault::Frame);
+                Ok(false)
+            }
+        }
+    }
+
+    /// Answers the frames that are held.
+    fn answer_held<O: Sink>(
+        &mut self,
+        alloc: Global,
+        most: u32,
+        out: &mut O,
+    ) -> Result<(), Unanswered>
+        ensures heard { OnOk result ((start : Option (List ℕ)) (x : Exchange) → Heard most start (O.held out.old) self.old x →
+            Heard most start (O.held out.new) self.new x) }
+        ensures idle { OnOk result (IsIdle self.new) }
+        ensures stopped { OnErr result ((start : Option (List ℕ)) (x : Exchange) → Heard most start (O.held out.old) self.old x →
+            SendsPart start (O.held out.new) x.text) }
+        ensures failed { IsErrOf result Unanswered.Failed → Rose (O.faults out.old) (O.faults out.new) }
+        ensures counts { StandsOrRises (O.faults out.old) (O.faults out.new) }
+    {
+        while self.answer_next(alloc, most, out)? {}
+        Ok(())
+    }
+
+    /// Hears more bytes, and answers each frame that they make whole.
+    pub fn hear<O: Sink>(
+        &mut self,
+        alloc: Global,
+        most: u32,
+        piece: &[u8],
+        out: &mut O,
+    ) -> Result<(), Unanswered>
+        requires { IsIdle self.old }
+        ensures heard { OnOk result ((start : Option (List ℕ)) (x : Exchange) → Heard most start (O.held out.old) self.old x →
+            Heard most start (O.held out.new) self.new (fold hears x piece.now)) }
+        ensures idle { OnOk result (IsIdle self.new) }
+        ensures stopped { OnErr result ((start : Option (List ℕ)) (x : Exchange) → Heard most start (O.held out.old) self.old x →
+            SendsPart start (O.held out.new) (fold hears x piece.now).text) }
+        ensures failed { IsErrOf result Unanswered.Failed → Rose (O.faults out.old) (O.faults out.new) }
+        ensures counts { StandsOrRises (O.faults out.old) (O.faults out.new) }
+    {
+        let mut rest = piece;
+        while !rest.is_empty() {
+            if self.is_over() {
+                return Ok(());
+            }
+            let count = self.splitter.feed(rest)?;
+            rest = rest.split_at(count).1;
+            self.answer_held(alloc, most, out)?;
+        }
+        Ok(())
+    }
 }

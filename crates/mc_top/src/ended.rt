@@ -3,6 +3,9 @@ ghost use Rattle.mc_top.specs.Ended.{status_of, fixed_line_of, ended_after};
 
 use crate::bad_input::BadInput;
 
+/// The line that says how the program is called, with its end.
+pub const USAGE: &str = "usage: craft47 status, serve, replay, bot, view, show or load\n";
+
 /// How a command ended.
 #[derive(Clone, Copy, Debug, PartialEq, Eq)]
 pub enum Ended {
@@ -52,7 +55,7 @@ impl Ended {
     {
         match self {
             Ended::Done | Ended::NoMemory | Ended::WriteFault | Ended::BadInput(_) => b"",
-            Ended::Usage => b"usage: craft47 status, serve, replay, bot, view, show or load\n",
+            Ended::Usage => USAGE.as_bytes(),
             Ended::ReadFault => b"read fault\n",
         }
     }

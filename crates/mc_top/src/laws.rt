@@ -1,17 +1,17 @@
-ghost use Rattle.std.specs.Prelude.{◌≡◌, ◌≤◌, ◌+◌, ℕ, List, Option, Ok, Err};
+ghost use Rattle.std.specs.Prelude.{◌≡◌, ◌≤◌, ◌+◌, ◌⊎◌, ℕ, List, Option, Some, Ok, Err};
+ghost use Rattle.mc_wire.specs.Count.{Rose};
 ghost use Rattle.mc_top.specs.declared.bad_input.BadInput.{BadInput};
 ghost use Rattle.mc_top.specs.declared.bad_input.InputFault.TheVariants.{Long};
-ghost use Rattle.mc_top.specs.StatusText.{IsStatusText, HoldsByte, text_max};
+ghost use Rattle.mc_top.specs.Lines.{HoldsByte, text_max};
 ghost use Rattle.mc_top.specs.declared.script_line.ScriptEvent.{ScriptEvent};
 ghost use Rattle.mc_top.specs.Script.{script_of};
 ghost use Rattle.mc_top.specs.Replaying.{ticks_of};
-
-/// Every input has one text for each number of players, and one first fault or none: what `run` writes for `status` is no choice
-/// of its own.
-pub fn one_status_text()
-    ensures { (most : ℕ) (input : List ℕ) (bad other : Option BadInput) (text also : List ℕ) →
-        IsStatusText most input bad text → IsStatusText most input other also → (bad ≡ other) × (text ≡ also) }
-{}
+ghost use Rattle.mc_top.specs.declared.ended.Ended.{Ended};
+ghost use Rattle.mc_top.specs.declared.ended.Ended.TheVariants as ended;
+ghost use Rattle.mc_top.specs.declared.words.Command.{Command};
+ghost use Rattle.mc_top.specs.Devices.{Devices};
+ghost use Rattle.mc_top.specs.Ended.{status_of};
+ghost use Rattle.mc_top.specs.Promises.{HasFault, IsInputOf, Promises};
 
 /// The line of a script that is too long is the one that holds the first byte too many.
 pub fn long_line_of_a_script()
@@ -21,4 +21,22 @@ pub fn long_line_of_a_script()
 /// A script has at most 1,000,000,000 ticks in all.
 pub fn ticks_of_a_script()
     ensures { (text : List ℕ) (events : List ScriptEvent) → script_of text ≡ Ok events → ticks_of events ≤ 1000000000 }
+{}
+
+/// An input that nothing is wrong with is served, unless memory runs out or a device fails. It
+/// follows from what each command promises.
+pub fn good_inputs_are_served()
+    ensures { (command : Command) (how : Ended) (before after : Devices) (input : List ℕ) →
+        Promises command how before after → before.left ≡ Some input → IsInputOf command input →
+        ¬ Rose before.read_faults after.read_faults → ¬ Rose before.write_faults after.write_faults →
+        (how ≡ ended.Done) ⊎ (how ≡ ended.NoMemory) }
+{}
+
+/// An input that has a fault is refused, unless memory runs out or a device fails. It follows from
+/// what each command promises.
+pub fn bad_inputs_are_refused()
+    ensures { (command : Command) (how : Ended) (before after : Devices) (bad : BadInput) (input : List ℕ) →
+        Promises command how before after → before.left ≡ Some input → HasFault command bad input →
+        ¬ Rose before.read_faults after.read_faults → ¬ Rose before.write_faults after.write_faults →
+        (status_of how ≡ 6) ⊎ (status_of how ≡ 1) }
 {}

@@ -1,9 +1,20 @@
 ghost use Rattle.std.specs.Prelude.{◌≡◌, IfOk, position, MatchOption};
-ghost use Rattle.mc_top.specs.Lines.{is_line_end, is_skipped, line_bytes, PutsLine, EndsText, CutsLine};
+ghost use Rattle.mc_top.specs.Lines.{is_line_end, is_skipped, line_bytes, goes_past, PutsLine, EndsText, CutsLine};
 ghost use Rattle.std.specs.Result.{result_ok};
 ghost use Rattle.hex.specs.Hex.{decode_of};
 
 use mc_nbt::NoMemory;
+
+/// The most bytes that a text has.
+pub const TEXT_MAX: usize = 67_108_864;
+
+/// Whether a line goes past the most bytes of a text: the text has `len`, and `size` up to the line's
+/// end.
+pub fn goes_past(len: usize, size: usize) -> bool
+    ensures { result ≡ goes_past len size }
+{
+    len > TEXT_MAX && size > TEXT_MAX
+}
 
 /// The place of the first line end.
 fn line_end(text: &[u8]) -> Option<usize>

@@ -8,7 +8,7 @@ ghost use Rattle.mc_server.specs.Inputs.{event_of};
 ghost use Rattle.mc_top.specs.declared.bad_input.BadInput.{BadInput};
 ghost use Rattle.mc_top.specs.ReplayText.{line_events, events_of, replay_text};
 ghost use Rattle.mc_top.specs.Replaying.{IsReached, HasPlayed, HasStopped, line_ticks, ticks_of, input_ticks};
-ghost use Rattle.mc_top.specs.ReplayRun.{world_of, Replayed, ReplayedPart, ReplayedPartOrNothing, FoundFault};
+ghost use Rattle.mc_top.specs.ReplayPromise.{world_of, Replayed, ReplayedPart, ReplayedPartOrNothing, FoundFault};
 
 use crate::ended::Ended;
 use crate::replay_lines::put_lines;
@@ -224,6 +224,8 @@ pub fn replay<I: Source, O: Sink>(
         Err(ScriptError::Bad(bad)) => return Ended::BadInput(bad),
         Err(ScriptError::NoMemory) => return Ended::NoMemory,
     };
+    // The text is as long as all that happens in it, and nothing more is read of it.
+    drop(text);
     match play_script(alloc, options, &script, out) {
         Ok(()) => Ended::Done,
         Err(Unplayed::Failed) => Ended::WriteFault,

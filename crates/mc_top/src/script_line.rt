@@ -1,12 +1,11 @@
 ghost use Rattle.std.specs.Prelude.{◌≡◌, MatchOption, position};
 ghost use Rattle.std.specs.Str.{is_utf8};
-ghost use Rattle.mc_top.specs.Script.{is_space, number_of, hex_of, is_next, goes_past, join_event, ticks_event, bytes_event, one_word, two_words, three_words, words_event, words_of, line_event, after_event};
+ghost use Rattle.mc_top.specs.Script.{is_space, number_of, hex_of, is_next, join_event, ticks_event, bytes_event, one_word, two_words, three_words, words_event, words_of, line_event, after_event};
 ghost use Rattle.mc_top.specs.ScriptRead.{IsRead, CutsWord, IsLastWord};
 
 use crate::bad_input::InputFault;
 use crate::digits::ranged_u32;
-use crate::lines::{is_skipped, put_hex};
-use crate::status_text::TEXT_MAX;
+use crate::lines::{goes_past, is_skipped, put_hex};
 use mc_nbt::{NoMemory, Octets};
 use std::alloc::Global;
 
@@ -224,14 +223,6 @@ fn words_event(alloc: Global, before: Before, line: &[u8]) -> Result<ScriptEvent
         return Err(Unread::Fault(InputFault::Word));
     }
     three_words(alloc, verb, word, digits)
-}
-
-/// Whether a line goes past the most bytes of a text: the text has `len`, and `size` up to the line's
-/// end.
-fn goes_past(len: usize, size: usize) -> bool
-    ensures { result ≡ goes_past len size }
-{
-    len > TEXT_MAX && size > TEXT_MAX
 }
 
 /// Whether a line is UTF-8.

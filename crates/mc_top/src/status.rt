@@ -1,50 +1,136 @@
-ghost use Rattle.std.specs.Prelude.{◌≡◌, ◌++◌, IfOk, OnOk};
-ghost use Rattle.mc_up.specs.declared.status_down.StatusDown.TheVariants.{Response};
-ghost use Rattle.mc_top.specs.StatusJson.{status_json};
-ghost use Rattle.mc_top.specs.Client.{reply, hex_line};
+ghost use Rattle.std.specs.Prelude.{◌≡◌, ◌==◌, ◌-◌, slice_index, ℕ, List, Option, [], None, length, IfOk, OnOk, OnErr, IsErrOf};
+ghost use Rattle.mc_wire.specs.Count.{Rose, StandsOrRises};
+ghost use Rattle.mc_wire.specs.Stream.{Grows};
+ghost use Rattle.mc_top.specs.StatusText.{Exchange, first_exchange, hears_next, last_byte_line, status_told};
+ghost use Rattle.mc_top.specs.Lines.{lines_of};
+ghost use Rattle.mc_top.specs.Heard.{Heard, IsIdle, Sends, SendsPart};
 
-use crate::reply::write_reply;
-use mc_nbt::{NoMemory, Text};
-use mc_up::StatusDown;
+use crate::bad_input::{BadInput, InputFault};
+use crate::client::{Client, Unanswered, flush};
+use crate::lines::{cut_line, goes_past, put_line};
+use mc_wire::Sink;
 use std::alloc::Global;
 
-/// The answer to each request for the status, made once.
-#[derive(Drop)]
-pub struct Status {
-    /// The most players.
-    pub most: u32,
-    /// The line of the frame that answers.
-    line: Vec<u8>,
-    ghost told: { line.items ≡ hex_line (reply (Response (status_json most))) },
-}
-
-/// The status, as JSON.
-#[tactic(auto, unfolding(crate::specs::StatusJson::status_json))]
-fn json(alloc: Global, most: u32) -> Result<Text, NoMemory>
-    ensures { IfOk result (λ json. json ≡ status_json most) }
+/// Hears the next line, up to whose end a text of `len` bytes has `size`. `piece` is room for the
+/// line's bytes.
+fn hear_next<O: Sink>(
+    alloc: Global,
+    most: u32,
+    client: &mut Client,
+    piece: &mut Vec<u8>,
+    line: &[u8],
+    len: usize,
+    size: usize,
+    out: &mut O,
+) -> Result<(), Unanswered>
+    requires { IsIdle client.old }
+    ensures heard { OnOk result ((start : Option (List ℕ)) (x : Exchange) → Heard most start (O.held out.old) client.old x →
+        Heard most start (O.held out.new) client.new (hears_next len size x line.now)) }
+    ensures idle { OnOk result (IsIdle client.new) }
+    ensures stopped { OnErr result ((start : Option (List ℕ)) (x : Exchange) → Heard most start (O.held out.old) client.old x →
+        SendsPart start (O.held out.new) (hears_next len size x line.now).text) }
+    ensures failed { IsErrOf result Unanswered.Failed → Rose (O.faults out.old) (O.faults out.new) }
+    ensures counts { StandsOrRises (O.faults out.old) (O.faults out.new) }
 {
-    let text = format!(in alloc;
-        "{{\"description\":{{\"text\":\"craft47\"}},\"players\":{{\"max\":{most},\"online\":0}},\"version\":{{\"name\":\"1.8\",\"protocol\":47}}}}"
-    )?;
-    Ok(Text::from_string(text))
+    if goes_past(len, size) {
+        client.fault = Some(InputFault::Long);
+        return Ok(());
+    }
+    piece.clear();
+    if !put_line(line, piece)? {
+        client.fault = Some(InputFault::Hex);
+        return Ok(());
+    }
+    client.hear(alloc, most, piece, out)?;
+    Ok(())
 }
 
-impl Status {
-    /// The answer of a server with so many players at most.
-    pub fn new(alloc: Global, most: u32) -> Result<Status, NoMemory>
-        ensures { IfOk result (λ status. status.most ≡ most) }
-    {
-        let response = StatusDown::Response(json(alloc, most)?);
-        let mut line = Vec::new(alloc);
-        write_reply(alloc, &response, &mut line)?;
-        Ok(Status { most, line })
+/// Whether the last byte of a text ends a line.
+fn ends_line(text: &[u8]) -> bool
+    ensures { result ≡ (slice_index text.now (length text.now - 1) == 10) }
+{
+    match text {
+        [] => false,
+        [.., last] => *last == b'\n',
     }
+}
 
-    /// Appends the line of the status. Without memory some first part of it is there.
-    pub fn write_line(&self, out: &mut Vec<u8>) -> Result<(), NoMemory>
-        ensures { OnOk result (out.new.items ≡ out.old.items ++ hex_line (reply (Response (status_json self.now.most)))) }
-    {
-        out.extend_from_slice(&self.line)?;
-        Ok(())
+/// The number of the line that holds the last byte of a text of `count` lines.
+fn last_byte_line(count: u64, text: &[u8]) -> u64
+    ensures { count ≡ length (lines_of text.now) → result ≡ last_byte_line text.now }
+{
+    if ends_line(text) {
+        count.saturating_sub(1)
+    } else {
+        count
     }
+}
+
+/// Hears the lines of a text, and gives its first fault.
+fn hear_text<O: Sink>(
+    alloc: Global,
+    most: u32,
+    client: &mut Client,
+    input: &[u8],
+    out: &mut O,
+) -> Result<Option<BadInput>, Unanswered>
+    requires heard { (start : Option (List ℕ)) → Heard most start start client.old (first_exchange most) }
+    requires idle { IsIdle client.old }
+    requires fine { client.old.fault ≡ None }
+    ensures text { OnOk result (Sends (O.held out.old) (O.held out.new) [] client.new.lines.items (status_told most input.now).text) }
+    ensures fault { IfOk result (λ fault. fault ≡ (status_told most input.now).fault) }
+    ensures stopped { OnErr result (SendsPart (O.held out.old) (O.held out.new) (status_told most input.now).text) }
+    ensures failed { IsErrOf result Unanswered.Failed → Rose (O.faults out.old) (O.faults out.new) }
+    ensures counts { StandsOrRises (O.faults out.old) (O.faults out.new) }
+{
+    let mut piece = Vec::new(alloc);
+    let mut count = 0u64;
+    let mut size = 0;
+    let mut rest = Some(input);
+    while let Some(text) = rest {
+        let (line, after) = cut_line(text);
+        count += 1;
+        size += line.len() + 1;
+        hear_next(
+            alloc,
+            most,
+            client,
+            &mut piece,
+            line,
+            input.len(),
+            size,
+            out,
+        )?;
+        if let Some(kind) = client.fault {
+            return Ok(Some(BadInput { line: count, kind }));
+        }
+        rest = after;
+    }
+    if !client.is_inside() {
+        return Ok(None);
+    }
+    Ok(Some(BadInput {
+        line: last_byte_line(count, input),
+        kind: InputFault::Cut,
+    }))
+}
+
+/// Writes what the world of a server with so many players at most answers to an input, and gives the
+/// input's first fault. An error leaves some first part of it written.
+pub fn write_status<O: Sink>(
+    alloc: Global,
+    most: u32,
+    input: &[u8],
+    out: &mut O,
+) -> Result<Option<BadInput>, Unanswered>
+    ensures text { OnOk result (Grows (O.held out.old) (O.held out.new) (status_told most input.now).text) }
+    ensures fault { IfOk result (λ fault. fault ≡ (status_told most input.now).fault) }
+    ensures stopped { OnErr result (SendsPart (O.held out.old) (O.held out.new) (status_told most input.now).text) }
+    ensures failed { IsErrOf result Unanswered.Failed → Rose (O.faults out.old) (O.faults out.new) }
+    ensures counts { StandsOrRises (O.faults out.old) (O.faults out.new) }
+{
+    let mut client = Client::new(alloc);
+    let fault = hear_text(alloc, most, &mut client, input, out)?;
+    flush(&mut client.lines, out)?;
+    Ok(fault)
 }

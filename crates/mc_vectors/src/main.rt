@@ -19,6 +19,7 @@ mod down;
 mod fields;
 mod frames;
 mod lands;
+mod lobbies;
 mod marked;
 mod nbt;
 mod packets;
@@ -74,6 +75,7 @@ enum Call {
     Outbox,
     Source,
     Sink,
+    Lobby,
     Body,
     Column,
     Land,
@@ -99,6 +101,7 @@ fn call_of(name: &str) -> Option<Call> {
         "outbox" => Some(Call::Outbox),
         "source" => Some(Call::Source),
         "sink" => Some(Call::Sink),
+        "lobby" => Some(Call::Lobby),
         "body" => Some(Call::Body),
         "column" => Some(Call::Column),
         "land" => Some(Call::Land),
@@ -126,6 +129,7 @@ fn answer_call(bench: &mut Bench, call: Call, words: &mut Words<'_>, answer: &mu
         Call::Outbox => frames::outbox(words, answer),
         Call::Source => devices::source(words, answer),
         Call::Sink => devices::sink(words, answer),
+        Call::Lobby => lobbies::lobby(words, answer),
         Call::Body => columns::body(words, answer),
         Call::Column => columns::column(&mut bench.column, words, answer),
         Call::Land => lands::land(&mut bench.ground, words, answer),

@@ -6,6 +6,7 @@
 //! entity's change is told by comparing the spot and the pile that a client was told with those of now.
 #![tactic(auto)]
 
+mod around;
 mod columns;
 mod forms;
 mod spots;
@@ -15,6 +16,7 @@ mod tests;
 mod tracker;
 mod view_set;
 
+pub use around::{column_of_spot, view_size};
 pub use columns::Columns;
 pub use forms::{Form, Moves};
 pub use spots::form;

@@ -1,3 +1,4 @@
 pub mod Counts
 pub mod Streams
+pub mod LobbyCalls
 mod Loops

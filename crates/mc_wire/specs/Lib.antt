@@ -2,3 +2,11 @@ pub mod Count
 pub mod Stream
 pub mod State
 pub mod FaultText
+pub mod LobbyTold
+pub mod Becoming
+pub mod LobbyCounts
+pub mod LobbyAnswers
+pub mod Events
+pub mod Troubles
+pub mod LobbyState
+pub mod Upcoming

@@ -4,23 +4,37 @@
 //! fails moves none; and a call that fails raises the device's count of failures.
 #![tactic(auto)]
 
+mod answers;
 mod failed;
 mod input_error;
+mod lobby;
+mod lobby_record;
 mod log;
+mod memory_lobby;
 mod memory_sink;
 mod memory_source;
+mod part;
 mod plan;
 mod sink;
 mod source;
+mod steady_lobby;
 mod steady_sink;
 mod steady_source;
+mod trouble;
+mod troubles;
+mod upcoming;
 
+pub use answers::{Event, Pace, Wrote};
 pub use failed::Failed;
 pub use input_error::InputError;
+pub use lobby::Lobby;
 pub use log::LogEntry;
+pub use memory_lobby::MemoryLobby;
 pub use memory_sink::MemorySink;
 pub use memory_source::MemorySource;
 pub use sink::{Sink, write_all};
 pub use source::{Source, read_all};
+pub use steady_lobby::SteadyLobby;
 pub use steady_sink::SteadySink;
 pub use steady_source::SteadySource;
+pub use trouble::Trouble;

@@ -4,12 +4,11 @@ ghost use Rattle.mc_model.specs.Hearing.{bytes_of};
 ghost use Rattle.mc_model.specs.Names.{offline_uuid};
 ghost use Rattle.mc_model.specs.Talk.{accepted, refused, farewell};
 ghost use Rattle.mc_model.specs.Step.{hand, close};
-ghost use Rattle.mc_model.specs.PlainTurns.{entered_as};
+ghost use Rattle.mc_model.specs.Handled.{entered_as};
 
 use crate::client::Client;
 use mc_land::Terrain;
-use mc_model::plain::spawn_spot;
-use mc_model::{Cause, Name, Notes, Refusal, Stage};
+use mc_model::{Cause, Name, Notes, Refusal, Stage, spawn_spot};
 use mc_nbt::{NoMemory, Octets, Text};
 use mc_session::offline_uuid;
 

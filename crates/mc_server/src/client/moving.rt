@@ -1,12 +1,11 @@
 ghost use Rattle.std.specs.Prelude.{◌≡◌, false, Some, None, if◌then◌else◌, OnOk};
 ghost use Rattle.std.specs.Option.{option_and_then, option_map};
 ghost use Rattle.mc_model.specs.Acts.{moved, turned};
-ghost use Rattle.mc_model.specs.PlainTurns.{arrived_at, did, after_act};
+ghost use Rattle.mc_model.specs.Handled.{arrived_at, did, after_act};
 
 use crate::client::Client;
 use mc_land::Terrain;
-use mc_model::plain::spawn_spot;
-use mc_model::{Cause, Wish};
+use mc_model::{Cause, Wish, spawn_spot};
 use mc_nbt::NoMemory;
 use mc_up::PlayUp;
 

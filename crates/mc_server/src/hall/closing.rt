@@ -7,7 +7,7 @@ ghost use Rattle.mc_model.specs.World.{is_play};
 ghost use Rattle.mc_model.specs.Names.{offline_uuid};
 ghost use Rattle.mc_model.specs.Talk.{said, accepted, refused, farewell};
 ghost use Rattle.mc_model.specs.Step.{hand, close};
-ghost use Rattle.mc_model.specs.PlainTurns.{entered_as};
+ghost use Rattle.mc_model.specs.Handled.{entered_as};
 ghost use Rattle.mc_server.specs.Hears.{Hears};
 
 use crate::client::Client;

@@ -5,7 +5,7 @@ ghost use Rattle.mc_model.specs.declared.cause.Cause.TheVariants as causes;
 ghost use Rattle.mc_model.specs.World.{found, put};
 ghost use Rattle.mc_model.specs.Talk.{refused};
 ghost use Rattle.mc_model.specs.Step.{is_47, close, refusal, answer_login};
-ghost use Rattle.mc_model.specs.PlainWorld.{IsPlaced};
+ghost use Rattle.mc_model.specs.Orderly.{IsPlaced};
 ghost use Rattle.mc_server.specs.Halls.{playing_of};
 ghost use Rattle.mc_server.specs.LoggingIn.{IsAsked, IsVerdict, has_room};
 

@@ -3,7 +3,7 @@ ghost use Rattle.std.specs.Option.{option_copied};
 ghost use Rattle.mc_model.specs.World.{found};
 ghost use Rattle.mc_model.specs.Step.{is_new};
 ghost use Rattle.mc_model.specs.Run.{cause_in};
-ghost use Rattle.mc_model.specs.PlainWorld.{IsPlaced};
+ghost use Rattle.mc_model.specs.Orderly.{IsPlaced};
 ghost use Rattle.mc_server.specs.Halls.{is_open};
 ghost use Rattle.mc_server.specs.Asking.{owed_in, is_done_in};
 

@@ -1,7 +1,7 @@
 ghost use Rattle.std.specs.Prelude.{◌≡◌, ◌≤◌, ◌<◌, ◌≢◌, ℕ, Some, None, true, map, length, OnOk};
 ghost use Rattle.std.specs.FinMap.{find};
 ghost use Rattle.std.specs.Ordering.{nat_cmp};
-ghost use Rattle.mc_model.specs.Plain.{SameWorld};
+ghost use Rattle.mc_flush.specs.Readying.{SameWorld};
 ghost use Rattle.mc_model.specs.World.{World, AreSettings, is_play, found};
 ghost use Rattle.mc_model.specs.World as spec;
 ghost use Rattle.mc_server.specs.Halls.{playing_of};

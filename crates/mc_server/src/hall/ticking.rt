@@ -2,7 +2,7 @@ ghost use Rattle.std.specs.Prelude.{◌≡◌, ◌+◌, ◌<◌, ℕ, OnOk};
 ghost use Rattle.std.specs.FinMap as finmap;
 ghost use Rattle.std.specs.FinMap.{find};
 ghost use Rattle.std.specs.Ordering.{nat_cmp};
-ghost use Rattle.mc_model.specs.PlainWorld.{Rise, next_number};
+ghost use Rattle.mc_model.specs.Orderly.{Rise, next_number};
 ghost use Rattle.mc_model.specs.World.{found};
 ghost use Rattle.mc_server.specs.Ticking.{LineFollows, names_of, ticked_clients};
 

@@ -1,5 +1,5 @@
 use Rattle.std.proofs.Common.{arith, sym, subst}
-use Rattle.mc_model.proofs.PlainPatterns.{degrees_one}
+use Rattle.mc_model.proofs.PatternFacts.{degrees_one}
 use Rattle.mc_flush.specs.Sending.{IsClear}
 use Rattle.mc_flush.proofs.Placings.{range_small, pattern_at, placing_is, placing_clear}
 use Rattle.mc_flush.proofs.notes.placing_packet.Goals as goal

@@ -1,4 +1,4 @@
-use Rattle.mc_model.proofs.PlainFixed.{fixed_is}
+use Rattle.mc_model.proofs.FloorFacts.{fixed_is}
 use Rattle.mc_model.proofs.wish.fixed_of.Goals as goal
 
 pub returns : goal.returns

@@ -1,4 +1,4 @@
-use Rattle.mc_model.proofs.PlainFixed.{turn_is}
+use Rattle.mc_model.proofs.FloorFacts.{turn_is}
 use Rattle.mc_model.proofs.wish.turn_of.Goals as goal
 
 pub returns : goal.returns

@@ -1,5 +1,5 @@
 use Rattle.std.proofs.lemmas.Result.{err_from_is_err_and}
-use Rattle.mc_top.specs.ReplayRun.{world_of}
+use Rattle.mc_top.specs.ReplayPromise.{world_of}
 use Rattle.mc_top.proofs.Playing.{reached_new}
 use Rattle.mc_top.proofs.replay.play_script.Goals as goal
 

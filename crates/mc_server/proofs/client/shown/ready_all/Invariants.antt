@@ -1,6 +1,6 @@
 use Rattle.std.specs.List.{AllByRecursion}
 use Rattle.mc_land.specs.Places.{IsPlace}
-use Rattle.mc_model.specs.Plain.{SameWorld}
+use Rattle.mc_flush.specs.Readying.{SameWorld}
 use Rattle.mc_server.proofs.ReadyFacts.{IsReadying}
 use Rattle.mc_server.proofs.client.shown.ready_all.Given as goal
 

@@ -1,6 +1,6 @@
 use Rattle.std.proofs.Common.{rules, FitsSigned, w32}
 use Rattle.std.proofs.lemmas.Int.{to_z-of_z}
-use Rattle.mc_model.proofs.PlainProjections.{is_ready}
+use Rattle.mc_model.proofs.Orders.{is_ready}
 use Rattle.mc_server.proofs.ReadyFacts.{ready_grown}
 use Rattle.mc_server.proofs.client.shown.ready_place.Goals as goal
 

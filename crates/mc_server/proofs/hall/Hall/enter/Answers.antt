@@ -4,8 +4,8 @@ use Rattle.mc_model.specs.Names.{offline_uuid}
 use Rattle.mc_model.specs.World.{World, Session}
 use Rattle.mc_model.specs.Talk.{accepted}
 use Rattle.mc_model.specs.Step.{hand}
-use Rattle.mc_model.specs.PlainTurns.{entered_as}
-use Rattle.mc_model.specs.PlainWorld.{IsPlaced, next_number}
+use Rattle.mc_model.specs.Handled.{entered_as}
+use Rattle.mc_model.specs.Orderly.{IsPlaced, next_number}
 use Rattle.mc_server.specs.LoggingIn.{IsAsked, has_room}
 use Rattle.mc_server.proofs.HallSteps.{hall_enter, asked_waits}
 use Rattle.mc_server.proofs.HallTurns.{placed_put}

@@ -1,7 +1,7 @@
 use Rattle.std.proofs.Common.{subst, sym}
 use Rattle.std.proofs.lemmas.Result.{on_ok_weaker}
 use Rattle.mc_model.specs.World.{World}
-use Rattle.mc_model.specs.PlainWorld.{IsPlaced, next_number}
+use Rattle.mc_model.specs.Orderly.{IsPlaced, next_number}
 use Rattle.mc_server.proofs.HallSteps.{less_counts, hall_less}
 use Rattle.mc_server.proofs.HallTurns.{fault_placed}
 use Rattle.mc_server.proofs.hall.Hall.fault.Goals as goal

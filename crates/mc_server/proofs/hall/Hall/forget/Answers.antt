@@ -1,6 +1,6 @@
 use Rattle.std.proofs.Common.{refl, subst, sym}
 use Rattle.mc_model.specs.World.{World}
-use Rattle.mc_model.specs.PlainWorld.{IsPlaced, next_number}
+use Rattle.mc_model.specs.Orderly.{IsPlaced, next_number}
 use Rattle.mc_server.proofs.HallSteps.{hall_forget, forgotten_world, forgotten_still, forgotten_absent}
 use Rattle.mc_server.proofs.hall.Hall.forget.Goals as goal
 

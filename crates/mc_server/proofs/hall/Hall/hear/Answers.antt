@@ -2,7 +2,7 @@ use Rattle.std.proofs.Common.{ℕ, refl, subst, sym}
 use Rattle.std.proofs.lemmas.Result.{IfOk-weaker}
 use Rattle.mc_model.specs.World.{World}
 use Rattle.mc_model.specs.Talk.{said}
-use Rattle.mc_model.specs.PlainWorld.{IsPlaced, next_number}
+use Rattle.mc_model.specs.Orderly.{IsPlaced, next_number}
 use Rattle.mc_server.specs.Hears.{Hears}
 use Rattle.mc_server.proofs.HallSteps.{less_counts, hall_again}
 use Rattle.mc_server.proofs.HallTurns.{heard_placed, heard_absent, heard_closed}

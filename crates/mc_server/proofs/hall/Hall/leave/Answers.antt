@@ -1,8 +1,8 @@
 use Rattle.std.proofs.Common.{◌≡◌, false, refl, ap, ◌∙◌, subst, sym}
 use Rattle.mc_model.specs.World.{World, Session, is_play}
 use Rattle.mc_model.specs.Step.{gone}
-use Rattle.mc_model.specs.PlainWorld.{IsPlaced, next_number}
-use Rattle.mc_model.proofs.PlainPlaces.{placed_changed, none_changed}
+use Rattle.mc_model.specs.Orderly.{IsPlaced, next_number}
+use Rattle.mc_model.proofs.RiseFacts.{placed_changed, none_changed}
 use Rattle.mc_server.proofs.HallSteps.{less_counts, hall_less, gone_waits}
 use Rattle.mc_server.proofs.hall.Hall.leave.Goals as goal
 

@@ -1,7 +1,7 @@
 use Rattle.std.proofs.Common.{ℕ, List, subst}
 use Rattle.std.specs.List.Sorted.{IsBinarySearchResult}
 use Rattle.std.specs.Ordering.{nat_cmp}
-use Rattle.mc_model.specs.PlainWorld.{next_number}
+use Rattle.mc_model.specs.Orderly.{next_number}
 use Rattle.mc_server.proofs.HallPlaces.{place_found, place_none, place_some}
 use Rattle.mc_server.proofs.hall.Hall.place_of.Goals as goal
 

@@ -4,7 +4,7 @@ use Rattle.mc_model.specs.declared.cause.Cause.TheVariants as causes
 use Rattle.mc_model.specs.World.{World, Session}
 use Rattle.mc_model.specs.Talk.{refused}
 use Rattle.mc_model.specs.Step.{close}
-use Rattle.mc_model.specs.PlainWorld.{IsPlaced, next_number}
+use Rattle.mc_model.specs.Orderly.{IsPlaced, next_number}
 use Rattle.mc_server.specs.LoggingIn.{IsAsked}
 use Rattle.mc_server.proofs.HallSteps.{hall_apart, asked_waits}
 use Rattle.mc_server.proofs.HallTurns.{placed_put}

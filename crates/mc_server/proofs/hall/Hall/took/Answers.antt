@@ -1,7 +1,7 @@
 use Rattle.std.proofs.Common.{refl, ap, drop, subst, sym}
 use Rattle.mc_model.specs.World.{World, Session}
-use Rattle.mc_model.specs.PlainWorld.{IsPlaced, next_number}
-use Rattle.mc_model.proofs.PlainPlaces.{placed_changed, none_changed}
+use Rattle.mc_model.specs.Orderly.{IsPlaced, next_number}
+use Rattle.mc_model.proofs.RiseFacts.{placed_changed, none_changed}
 use Rattle.mc_server.proofs.HallSteps.{hall_same}
 use Rattle.mc_server.proofs.hall.Hall.took.Goals as goal
 

@@ -1,7 +1,7 @@
 use Rattle.std.proofs.Common.{◌≡◌, ℕ, ◌≤◌, ◌++◌, length, map, take, drop}
 use Rattle.std.specs.FinMap.{find}
 use Rattle.std.specs.Ordering.{nat_cmp}
-use Rattle.mc_model.specs.Plain.{SameWorld}
+use Rattle.mc_flush.specs.Readying.{SameWorld}
 use Rattle.mc_model.specs.World.{World, Session, found}
 use Rattle.mc_server.specs.Halls.{playing_of}
 use Rattle.mc_server.specs.Ticking.{IsScene, LineFollows, ticked_clients}

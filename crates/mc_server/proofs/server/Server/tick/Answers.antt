@@ -1,6 +1,6 @@
 use Rattle.std.proofs.Common.{refl, ap, ◌∙◌}
 use Rattle.mc_flush.specs.Lists.{ListValue}
-use Rattle.mc_model.specs.PlainWorld.{next_number}
+use Rattle.mc_model.specs.Orderly.{next_number}
 use Rattle.mc_model.specs.World.{World}
 use Rattle.mc_server.specs.declared.server.Server.{Server}
 use Rattle.mc_server.proofs.StandsFacts.{stands_ticked}

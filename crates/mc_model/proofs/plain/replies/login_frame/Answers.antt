@@ -1,6 +1,0 @@
-use Rattle.mc_up.specs.LoginDown.{spelling_of}
-use Rattle.mc_up.proofs.LoginDownLaws.{spelled}
-use Rattle.mc_model.proofs.plain.replies.login_frame.Goals as goal
-
-pub write_login_down-requires : goal.write_login_down-requires
-write_login_down-requires c = (spelling_of c.args.packet.now, spelled c.args.packet.now c.requires.fits)

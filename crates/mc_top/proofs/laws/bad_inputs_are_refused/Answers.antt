@@ -1,0 +1,5 @@
+use Rattle.mc_top.proofs.Runs.{refused}
+use Rattle.mc_top.proofs.laws.bad_inputs_are_refused.Goals as goal
+
+pub returns : goal.returns
+returns c = refused

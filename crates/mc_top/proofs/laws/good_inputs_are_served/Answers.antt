@@ -1,0 +1,5 @@
+use Rattle.mc_top.proofs.Runs.{served}
+use Rattle.mc_top.proofs.laws.good_inputs_are_served.Goals as goal
+
+pub returns : goal.returns
+returns c = served

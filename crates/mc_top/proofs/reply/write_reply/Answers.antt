@@ -1,6 +1,0 @@
-use Rattle.mc_up.specs.StatusDown.{spelling_of}
-use Rattle.mc_up.proofs.StatusDownLaws.{spelled}
-use Rattle.mc_top.proofs.reply.write_reply.Goals as goal
-
-pub write_status_down-requires : goal.write_status_down-requires
-write_status_down-requires c = (spelling_of c.args.packet.now, spelled c.args.packet.now c.requires.fits)
