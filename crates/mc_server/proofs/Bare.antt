@@ -20,7 +20,7 @@ use Rattle.mc_model.specs.Acts.{act, arrive, arrived, is_in_range, moved, turned
 use Rattle.mc_model.specs.Talk.{Said, nothing, greets, replies, ends, enters, acts, wrong, said, farewell, refused, accepted}
 use Rattle.mc_model.specs.Step.{Handing, hand, shut, close, Turn, still, turn, when_open, is_47, refusal, entered, answer_login, acted, perform, on_frame, on_frames, on_fault, is_new, is_kept, is_crowded, new_session, joining, join, gone, changed, is_done}
 use Rattle.std.specs.Option.{option_and_then}
-use Rattle.mc_server.specs.Bare.{bare, bare_world, heard}
+use Rattle.mc_server.specs.Bare.{bare, bare_world, after_frames}
 
 -- ---- lists of connections
 
@@ -182,7 +182,7 @@ pub frames_bare : (frames : List (List ℕ)) (w : World) (k : ℕ) → bare_worl
 frames_bare [] w k = refl
 frames_bare (frame ∷ frames) w k = frames_bare frames (on_frame w k frame).world k ∙ ap (λ (v : World). (on_frames v k frames).world) (frame_bare w k frame)
 
-pub heard_bare : (w : World) (k : ℕ) (frames : List (List ℕ)) (fault : Option FrameFault) → bare_world (heard w k frames fault) ≡ heard (bare_world w) k frames fault
+pub heard_bare : (w : World) (k : ℕ) (frames : List (List ℕ)) (fault : Option FrameFault) → bare_world (after_frames w k frames fault) ≡ after_frames (bare_world w) k frames fault
 heard_bare w k frames fault = fault_bare (on_frames w k frames).world k fault ∙ ap (λ (v : World). (on_fault v k fault).world) (frames_bare frames w k)
 
 -- ---- the other events
@@ -190,23 +190,10 @@ heard_bare w k frames fault = fault_bare (on_frames w k frames).world k fault �
 crowded_bare : (w : World) → is_crowded (bare_world w) ≡ is_crowded w
 crowded_bare w = ap (λ (n : ℕ). nat_le (w.most + 16) n) (ap length (filter_bare is_kept (λ s. refl) w.sessions) ∙ length-map (filter is_kept w.sessions) bare)
 
-joining_bare : (w : World) (k : ℕ) → bare (joining w k) ≡ joining (bare_world w) k
+pub joining_bare : (w : World) (k : ℕ) → bare (joining w k) ≡ joining (bare_world w) k
 joining_bare w k =
     elim (is_crowded w) as (λ b. bare (if b then shut (new_session k) causes.Crowded else new_session k) ≡ (if b then shut (new_session k) causes.Crowded else new_session k)) [ true ↦ refl | false ↦ refl ]
     ∙ ap (λ (b : Bool). if b then shut (new_session k) causes.Crowded else new_session k) (sym (crowded_bare w))
 
-pub join_bare : (w : World) (k : ℕ) → bare_world (join w k) ≡ join (bare_world w) k
-join_bare w k =
-    let more : map bare (w.sessions ++ joining w k ∷ []) ≡ map bare w.sessions ++ joining (bare_world w) k ∷ [] =
-    append_bare w.sessions (joining w k ∷ []) ∙ ap (λ (s : Session). map bare w.sessions ++ s ∷ []) (joining_bare w k) in
-    elim (is_new k w.last) as (λ b. bare_world (if b then record w { last = Some k; sessions = w.sessions ++ joining w k ∷ [] } else w)
-    ≡ (if b then record (bare_world w) { last = Some k; sessions = map bare w.sessions ++ joining (bare_world w) k ∷ [] } else bare_world w)) [
-      | true ↦ ap (λ (ss : List Session). record w { last = Some k; sessions = ss }) more
-      | false ↦ refl
-    ]
-
 pub gone_bare : (s : Session) → bare (gone s) ≡ gone (bare s)
 gone_bare s = elim (is_closed s.stage) as (λ b. bare (if b then record s { owed = [] } else record (shut s causes.Gone) { owed = [] }) ≡ (if b then record (bare s) { owed = [] } else record (shut (bare s) causes.Gone) { owed = [] })) [ true ↦ refl | false ↦ refl ]
-
-pub forgot_bare : (w : World) (k : ℕ) → bare_world (record w { sessions = filter (λ (s : Session). not (s.id == k && is_done s)) w.sessions }) ≡ record (bare_world w) { sessions = filter (λ (s : Session). not (s.id == k && is_done s)) (map bare w.sessions) }
-forgot_bare w k = with_sessions w _ _ (sym (filter_bare (λ (s : Session). not (s.id == k && is_done s)) (λ s. refl) w.sessions))

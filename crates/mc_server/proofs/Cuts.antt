@@ -23,7 +23,13 @@ use Rattle.mc_frame.specs.Splitting.{Feeds, Takes, TakesFrame}
 use Rattle.mc_frame.proofs.Cuts.{front_reads, frame_some, HasLongLength-more, HasZeroLength-more}
 use Rattle.mc_frame.proofs.AnyPieces.{framed_more}
 use Rattle.mc_model.specs.Cutting.{cut_by, cut_from, cut_of}
-use Rattle.mc_server.specs.Cuts.{Holds, IsCutInto, IsUnderway, AreTaken}
+use Rattle.mc_server.specs.Frames.{Holds, IsUnderway}
+
+-- frames and a fault are those of a cut; where there is no fault, the splitter holds its rest
+pub record IsCutInto (count : ℕ) (all : List ℕ) (payloads : List (List ℕ)) (end_ : Option FrameFault) (now : Splitting) : Type 0 where
+  pub frames : payloads ≡ (cut_of count all).frames
+  pub fault : end_ ≡ (cut_of count all).fault
+  pub holds : end_ ≡ None → Holds (count + (length all - length (cut_of count all).rest)) (cut_of count all).rest now
 
 -- ---- what reading gives where a cut ends
 
@@ -192,18 +198,33 @@ underway_bad count all frames old new left fault ends u =
     (record { front = u.front; parts = u.parts; framed = u.framed; ends = fault_more (count + length u.front) old.before old.held left fault u.before ends })
     (λ none. absurd (never fault none))
 
--- ---- what a take answers
-
-pub taken_more : (count : ℕ) (all : List ℕ) (frames : List (List ℕ)) (old new : Splitting) (left : List ℕ) → Takes old More new → IsUnderway count all frames old left → AreTaken count all frames None new left
-taken_more count all frames old new left t u =
-    let P : Splitting → Type 0 = λ s. IsUnderway count all frames s left × IsPart s.held in
-    subst P (sym t.2) (u, t.0)
-
-pub taken_bad : (count : ℕ) (all : List ℕ) (frames : List (List ℕ)) (old new : Splitting) (left : List ℕ) (fault : FrameFault) → Takes old (Bad fault) new → IsUnderway count all frames old left → AreTaken count all frames (Some fault) new left
-taken_bad count all frames old new left fault t u = underway_bad count all frames old new left fault t.0 u
-
 -- ---- all bytes were fed
 
 pub underway_over : (count : ℕ) (all : List ℕ) (frames : List (List ℕ)) (now : Splitting) (left : List ℕ) → length left ≡ 0 → IsUnderway count all frames now left × IsPart now.held → IsCutInto count all frames None now
 underway_over count all frames now [] none u = underway_done count all frames now u.1 u.0
 underway_over count all frames now (x ∷ left) none u = absurd (omega (arith, none))
+
+-- ---- frames that were taken are the first ones of the cut
+
+front_from : (frames : List (List ℕ)) (fuel count : ℕ) (front rest : List ℕ) → SpellsFrames frames front → length (front ++ rest) < fuel → (more : List (List ℕ)) × ((cut_from fuel count (front ++ rest)).frames ≡ frames ++ more)
+front_from frames zero count front rest framed less = absurd (omega (arith, less))
+front_from [] (suc fuel) count front rest none less = ((cut_from (suc fuel) count (front ++ rest)).frames, refl)
+front_from (payload ∷ frames) (suc fuel) count front rest f less =
+    let later : ℕ → List ℕ → Cut = λ n after. cut_from fuel n after in
+    let split : front ++ rest ≡ f.0 ++ (f.1 ++ rest) = ap (λ (t : List ℕ). t ++ rest) f.2 ∙ append_assoc f.0 f.1 rest in
+    let all = ap length split in
+    let counted : count + (length (f.0 ++ (f.1 ++ rest)) - length (f.1 ++ rest)) ≡ count + length f.0 = omega (arith, length-append f.0 (f.1 ++ rest)) in
+    let shorter : length (f.1 ++ rest) < fuel = omega (arith, less, all, length-append f.0 (f.1 ++ rest), frame_some payload f.0 f.3) in
+    let more = front_from frames fuel (count + length f.0) f.1 rest f.4 shorter in (
+      more.0,
+      ap (λ (t : List ℕ). (cut_by count t (frame_read t) later).frames) split
+          ∙ ap (λ (r : Field (List ℕ)). (cut_by count (f.0 ++ (f.1 ++ rest)) r later).frames) (front_reads payload f.0 (f.1 ++ rest) f.3)
+          ∙ ap (λ (n : ℕ). payload ∷ (cut_from fuel n (f.1 ++ rest)).frames) counted
+          ∙ ap (λ (ps : List (List ℕ)). payload ∷ ps) more.1,
+    )
+
+pub cut_begins : (count : ℕ) (all : List ℕ) (frames : List (List ℕ)) (now : Splitting) (left : List ℕ) → IsUnderway count all frames now left → (more : List (List ℕ)) × ((cut_of count all).frames ≡ frames ++ more)
+unfolding cut_of
+cut_begins count all frames now left u =
+    let more = front_from frames (suc (length all)) count u.front (now.held ++ left) u.framed (let len = ap length u.parts in omega (arith, len)) in
+    (more.0, ap (λ (t : List ℕ). (cut_from (suc (length all)) count t).frames) u.parts ∙ more.1)

@@ -21,7 +21,7 @@ use Rattle.mc_model.proofs.Sessions.{found_id}
 use Rattle.mc_model.proofs.Beside.{found_put}
 use Rattle.mc_model.proofs.Handing.{hand_cases}
 use Rattle.mc_model.proofs.Acting.{Suits, suits}
-use Rattle.mc_server.specs.Bare.{heard}
+use Rattle.mc_server.specs.Bare.{after_frames}
 
 -- what is known of an open connection
 pub record IsKnown (rest : List ℕ) (before : ℕ) (shown : Option Sight) (s : Session) : Type 0 where
@@ -176,5 +176,5 @@ fault_there rest before shown k (Some fault) w t =
     ] refl)
 
 pub heard_there : (rest : List ℕ) (before : ℕ) (shown : Option Sight) (k : ℕ) (frames : List (List ℕ)) (fault : Option FrameFault) (w : World) → There (KnownOpen rest before shown) k w →
-    There (HeardOpen fault rest before shown) k (heard w k frames fault)
+    There (HeardOpen fault rest before shown) k (after_frames w k frames fault)
 heard_there rest before shown k frames fault w t = fault_there rest before shown k fault (on_frames w k frames).world (frames_there rest before shown k frames w t)

@@ -10,7 +10,7 @@ use Rattle.mc_model.specs.Delta.{Pairs}
 use Rattle.mc_model.specs.World.{Session, is_play}
 use Rattle.mc_flush.specs.Lists.{ListValue, with_name}
 use Rattle.mc_flush.proofs.Lookups.{key_turned}
-use Rattle.mc_server.specs.Halls.{playing_of}
+use Rattle.mc_server.specs.Served.{playing_of}
 use Rattle.mc_server.specs.Ticking.{name_after, names_of}
 
 -- ---- how many are in play
@@ -152,3 +152,11 @@ last_put old new s put =
 pub copied_put : (old new : ListValue) (s : Session) (uuid : ℕ) (name : List ℕ) → uuid ≡ s.uuid → name ≡ s.name → new ≡ (if contains_key old.present uuid then old else with_name old uuid name) →
     new ≡ (if contains_key old.present s.uuid then old else with_name old s.uuid s.name)
 copied_put old new s uuid name same copied put = put ∙ (λ i. if contains_key old.present (same i) then old else with_name old (same i) (copied i))
+
+-- ---- the end
+
+pub take_past : (i : ℕ) (ss : List Session) → length ss ≤ i → take i ss ≡ ss
+take_past zero [] le = refl
+take_past zero (s ∷ ss) le = absurd (omega (arith, le))
+take_past (suc i) [] le = refl
+take_past (suc i) (s ∷ ss) le = ap (λ (ts : List Session). s ∷ ts) (take_past i ss (omega (arith, le)))

@@ -15,21 +15,21 @@ use Rattle.mc_model.specs.Sight.{Sight, nothing_seen}
 use Rattle.mc_model.specs.Delta.{Pairs, delta}
 use Rattle.mc_model.specs.Hearing.{Sent, of_play, bytes_of}
 use Rattle.mc_model.specs.Notes.{no_notes}
-use Rattle.mc_model.specs.Step.{opening_of}
 use Rattle.mc_flush.specs.Readying.{SameWorld}
+use Rattle.mc_model.specs.Step.{opening_of}
 use Rattle.mc_view.specs.Views.{view_of, view_size, column_of_spot}
 use Rattle.mc_model.specs.World.{World, Session, is_play, project}
 use Rattle.mc_model.specs.Step.{Handing, hand, due, flush, showing}
 use Rattle.mc_flush.specs.Seeing.{StandsFor}
 use Rattle.mc_flush.specs.Sending.{notes_due_of}
 use Rattle.mc_flush.proofs.Shown.{shown_has}
-use Rattle.mc_server.specs.declared.line.Line.{Line}
 use Rattle.mc_server.specs.declared.settings.Settings.{Settings}
-use Rattle.mc_server.specs.Ticking.{IsScene, shown_now, told, opening_told, sight_before, recalled, ticked_client}
+use Rattle.mc_server.specs.Served.{ConnectionValue}
+use Rattle.mc_server.specs.Ticking.{IsScene, player_of, shown_now, told, opening_told, sight_before, recalled, ticked_session}
 
 -- ---- of a world
 
-pub scene_shown : (w : World) (settings : Settings) (land : LandValue) (present : Pairs) (s : Session) → IsScene w settings land present → shown_now settings land present s ≡ project w s
+pub scene_shown : (w : World) (settings : Settings) (land : LandValue) (present : Pairs) (s : Session) → IsScene w settings land present → shown_now settings land present (player_of s) ≡ project w s
 unfolding project
 scene_shown w settings land present s is = λ i. record {
   pairs = is.listed i;
@@ -63,13 +63,14 @@ some_mapped f None = refl
 some_mapped f (Some a) = refl
 
 -- what a client is sent
-pub told_due : (w : World) (settings : Settings) (land : LandValue) (present last : Pairs) (line : Line) (s : Session) → IsScene w settings land present →
-    told settings land present (is_some line.mark.shown) (unwrap_or (option_map (sight_before w last) line.mark.shown) nothing_seen) s ≡ due w (recalled w last line s)
+pub told_due : (w : World) (settings : Settings) (land : LandValue) (present last : Pairs) (c : ConnectionValue) → IsScene w settings land present →
+    told settings land present (is_some c.mark.shown) (unwrap_or (option_map (sight_before w last) c.mark.shown) nothing_seen) (player_of c.session) ≡ due w (recalled w last c)
 unfolding due project
-told_due w settings land present last line s is =
-    let p : Sight = unwrap_or (option_map (sight_before w last) line.mark.shown) nothing_seen in
-    sym (append_assoc (opening_told settings (is_some line.mark.shown) s) (delta p (shown_now settings land present s)) (notes_due_of s.notes s.place))
-    ∙ (λ i. ((if some_mapped (sight_before w last) line.mark.shown i then [] else opening_of (is.terrain i) (is.most i) (pos s.eid) s.place) ++ delta p (scene_shown w settings land present s is i)) ++ notes_due_of s.notes s.place)
+told_due w settings land present last c is =
+    let s : Session = c.session in
+    let p : Sight = unwrap_or (option_map (sight_before w last) c.mark.shown) nothing_seen in
+    sym (append_assoc (opening_told settings (is_some c.mark.shown) (player_of s)) (delta p (shown_now settings land present (player_of s))) (notes_due_of s.notes s.place))
+    ∙ (λ i. ((if some_mapped (sight_before w last) c.mark.shown i then [] else opening_of (is.terrain i) (is.most i) (pos s.eid) s.place) ++ delta p (scene_shown w settings land present s is i)) ++ notes_due_of s.notes s.place)
 
 -- ---- handing out
 
@@ -92,12 +93,19 @@ pub flush_play : (w : World) (s : Session) → is_play s.stage ≡ true → flus
 flush_play w s plays = ap (λ (b : Bool). if b then hand (showing w s) (map of_play (due w s)) else record { session = s; handed = [] }) plays
 
 -- a client in play that was shown the parts
-pub client_ticked : (w : World) (settings : Settings) (land : LandValue) (present last : Pairs) (line : Line) (s t : Session) → IsScene w settings land present → is_play s.stage ≡ true →
-    t ≡ (hand (record s { notes = no_notes }) (map of_play (told settings land present (is_some line.mark.shown) (unwrap_or (option_map (sight_before w last) line.mark.shown) nothing_seen) s))).session →
-    t ≡ ticked_client w last (Some line) s
-client_ticked w settings land present last line s t is plays handed =
-    let c : Session = recalled w last line s in
+pub client_ticked : (w : World) (settings : Settings) (land : LandValue) (present last : Pairs) (c : ConnectionValue) (t : Session) → IsScene w settings land present → is_play c.session.stage ≡ true →
+    t ≡ (hand (record c.session { notes = no_notes }) (map of_play (told settings land present (is_some c.mark.shown) (unwrap_or (option_map (sight_before w last) c.mark.shown) nothing_seen) (player_of c.session)))).session →
+    t ≡ ticked_session w last c
+client_ticked w settings land present last c t is plays handed =
+    let r : Session = recalled w last c in
     handed
-    ∙ ap (λ (ps : List Down). (hand (record s { notes = no_notes }) (map of_play ps)).session) (told_due w settings land present last line s is)
-    ∙ hand_shown s (Some (project w c)) (map of_play (due w c))
-    ∙ ap (λ (h : Handing). record h.session { shown = s.shown }) (sym (flush_play w c plays))
+    ∙ ap (λ (ps : List Down). (hand (record c.session { notes = no_notes }) (map of_play ps)).session) (told_due w settings land present last c is)
+    ∙ hand_shown c.session (Some (project w r)) (map of_play (due w r))
+    ∙ ap (λ (h : Handing). record h.session { shown = c.session.shown }) (sym (flush_play w r plays))
+
+pub flush_waits : (w : World) (s : Session) → is_play s.stage ≡ false → (flush w s).session ≡ s
+flush_waits w s waits = ap (λ (b : Bool). (cond {A = Handing} b (hand (showing w s) (map of_play (due w s))) (record { session = s; handed = [] })).session) waits
+
+-- and one that is not in play
+pub client_waits : (w : World) (last : Pairs) (c : ConnectionValue) → is_play c.session.stage ≡ false → c.session ≡ ticked_session w last c
+client_waits w last c waits = ap (λ (t : Session). record t { shown = c.session.shown }) (sym (flush_waits w (recalled w last c) waits))

@@ -1,4 +1,4 @@
--- A world without what the lines of its connections keep: the bytes that were not read, and what was shown.
+-- A world without what splitters and marks keep: the bytes that were not read, and what was shown.
 use Rattle.std.specs.Prelude.{ℕ, List, [], map, Option, None}
 use Rattle.mc_frame.specs.declared.fault.FrameFault.{FrameFault}
 use Rattle.mc_model.specs.World.{World, Session}
@@ -11,5 +11,5 @@ abbrev pub bare_world : World → World
 bare_world w = record w { sessions = map bare w.sessions }
 
 -- the world after frames of a connection, and the fault behind them
-abbrev pub heard : World → ℕ → List (List ℕ) → Option FrameFault → World
-heard w k frames fault = (on_fault (on_frames w k frames).world k fault).world
+abbrev pub after_frames : World → ℕ → List (List ℕ) → Option FrameFault → World
+after_frames w k frames fault = (on_fault (on_frames w k frames).world k fault).world

@@ -1,9 +1,10 @@
-pub mod Halls
 pub mod Asking
-pub mod LoggingIn
-pub mod Hears
 pub mod Bare
-pub mod Cuts
+pub mod Served
+pub mod SideBySide
+pub mod Frames
+pub mod Handling
+pub mod LoggingIn
 pub mod Stands
 pub mod Inputs
 pub mod Roster

@@ -1,15 +1,13 @@
--- What a client that asks to play is answered, and what a frame makes of a world up to that answer.
-use Rattle.std.specs.Prelude.{◌≡◌, ◌&&◌, ℕ, Bool, true, List, length, nat_lt, Option, Some, None}
+-- What a client that asks to play is answered, and what a frame makes of a server up to that answer.
+use Rattle.std.specs.Prelude.{◌≡◌, ◌&&◌, ◌<◌, ℕ, Bool, true, List, length, nat_lt, set, slice_index_or, Option, Some, None}
 use Rattle.mc_model.specs.declared.cause.Refusal.{Refusal}
 use Rattle.mc_model.specs.declared.stage.Stage.TheVariants as stages
-use Rattle.mc_model.specs.World.{World, Session, found, players}
+use Rattle.mc_model.specs.World.{World, players}
 use Rattle.mc_model.specs.Step.{refusal, answer_login, on_frame}
-use Rattle.mc_server.specs.declared.hall.logging_in.Verdict.{Verdict}
-use Rattle.mc_server.specs.declared.hall.logging_in.Verdict.TheVariants as verdicts
-
--- a connection waits for an answer
-abbrev pub IsAsked : ℕ → List Session → Type 0
-IsAsked k sessions = (s : Session) → found k sessions ≡ Some s → s.stage ≡ stages.Asked
+use Rattle.mc_server.specs.declared.server.login.Verdict.{Verdict}
+use Rattle.mc_server.specs.declared.server.login.Verdict.TheVariants as verdicts
+use Rattle.mc_server.specs.Frames.{Becomes}
+use Rattle.mc_server.specs.Served.{ConnectionValue, ServerValue, kept_world}
 
 -- whether one more may play
 abbrev pub has_room : World → Bool
@@ -20,14 +18,29 @@ abbrev pub IsVerdict : World → Option Refusal → List ℕ → Verdict → Typ
 IsVerdict w why name (verdicts.Refuses given) = why ≡ Some given
 IsVerdict w why name (verdicts.Enters given) = (why ≡ None) × (given ≡ name) × (has_room w ≡ true)
 
--- a world in which a client waits for an answer: with the answer it is what a frame makes of an earlier one
-pub record IsAsking (w : World) (k : ℕ) (frame name : List ℕ) (v : World) : Type 0 where
-  pub session : Session
-  pub there : found k v.sessions ≡ Some session
-  pub asked : session.stage ≡ stages.Asked
-  pub answered : (answer_login v session name (refusal v session.protocol name)).world ≡ (on_frame w k frame).world
+-- a server in which the client of the connection at a place waits for an answer: with the answer it is what a frame makes of an earlier one
+pub record IsAsking (i : ℕ) (old : ServerValue) (frame name : List ℕ) (new : ServerValue) : Type 0 where
+  pub was : ConnectionValue
+  pub now_ : ConnectionValue
+  pub is_at : was ≡ slice_index_or old.connections i was
+  pub connections : new.connections ≡ set old.connections i now_
+  pub within : i < length old.connections
+  pub id : now_.session.id ≡ was.session.id
+  pub splitter : now_.splitter ≡ was.splitter
+  pub mark : now_.mark ≡ was.mark
+  pub asked : now_.session.stage ≡ stages.Asked
+  pub answered :
+      (answer_login (kept_world new) now_.session name (refusal (kept_world new) now_.session.protocol name)).world
+      ≡ (on_frame (kept_world old) was.session.id frame).world
+  pub list : new.list ≡ old.list
+  pub works : new.failed ≡ old.failed
 
--- what a frame makes of a world, up to the answer to a client that asks to play
-abbrev pub IsHeard : World → ℕ → List ℕ → Option (List ℕ) → World → Type 0
-IsHeard w k frame None v = v ≡ (on_frame w k frame).world
-IsHeard w k frame (Some name) v = IsAsking w k frame name v
+-- what a frame makes of a server, up to the answer to a client that asks to play
+abbrev pub IsHandled : ℕ → ServerValue → List ℕ → Option (List ℕ) → ServerValue → Type 0
+IsHandled i old frame None new = Becomes i old new (λ s. (on_frame (kept_world old) s.id frame).world)
+IsHandled i old frame (Some name) new = IsAsking i old frame name new
+
+-- the client of the connection at a place waits for an answer
+pub record IsAskedAt (i : ℕ) (connections : List ConnectionValue) : Type 0 where
+  pub within : i < length connections
+  pub asked : (other : ConnectionValue) → (slice_index_or connections i other).session.stage ≡ stages.Asked

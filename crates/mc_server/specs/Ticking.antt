@@ -1,7 +1,6 @@
--- What a tick makes of each client and its line, from what the line's mark keeps of what the client was shown.
+-- What a tick makes of each connection, from what its mark keeps of what its client was shown.
 use Rattle.std.specs.Prelude.{◌≡◌, ℕ, ◌==◌, ◌&&◌, Bool, true, false, is_some, List, [], ◌++◌, map, Option, Some, None, if◌then◌else◌, option_map}
-use Rattle.std.specs.FinMap.{from_entries, find}
-use Rattle.std.specs.Ordering.{nat_cmp}
+use Rattle.std.specs.FinMap.{from_entries}
 use lib.IntN.{pos}
 use Rattle.mc_land.specs.Places.{Place}
 use Rattle.mc_land.specs.Land.{LandValue}
@@ -14,32 +13,35 @@ use Rattle.mc_view.specs.Views.{view_of, view_size, column_of_spot}
 use Rattle.mc_model.specs.World.{World, Session, column_in, is_play, players, project}
 use Rattle.mc_model.specs.Step.{flush}
 use Rattle.mc_model.specs.Step.{opening_of}
-use Rattle.mc_model.specs.Orderly.{Rise}
 use Rattle.mc_flush.specs.Seeing.{StandsFor, placed_column}
 use Rattle.mc_flush.specs.Sending.{notes_due_of}
-use Rattle.mc_server.specs.declared.line.Line.{Line}
+use Rattle.mc_server.specs.declared.player.Player.{Player}
 use Rattle.mc_server.specs.declared.settings.Settings.{Settings}
-use Rattle.mc_server.specs.Halls.{playing_of}
+use Rattle.mc_server.specs.Served.{ConnectionValue, playing_of}
 
 -- ---- one client, of the parts that it is shown
 
+-- the player of a session
+abbrev pub player_of : Session → Player
+player_of s = record { name = s.name; uuid = s.uuid; eid = s.eid; view_byte = s.asked; spot = s.place; notes = s.notes }
+
 -- the players of a list, and the columns around a player as they are
-abbrev pub shown_now : Settings → LandValue → Pairs → Session → Sight
-shown_now settings land pairs s = record {
+abbrev pub shown_now : Settings → LandValue → Pairs → Player → Sight
+shown_now settings land pairs player = record {
   pairs = pairs;
-  columns = from_entries (map (placed_column land) (view_of (column_of_spot s.place) (view_size settings.cap s.asked)));
+  columns = from_entries (map (placed_column land) (view_of (column_of_spot player.spot) (view_size settings.cap player.view_byte)));
 }
 
 -- what is sent before the first difference, once
-abbrev pub opening_told : Settings → Bool → Session → List Down
-opening_told settings opened s = if opened then [] else opening_of settings.terrain settings.players (pos s.eid) s.place
+abbrev pub opening_told : Settings → Bool → Player → List Down
+opening_told settings opened player = if opened then [] else opening_of settings.terrain settings.players (pos player.eid) player.spot
 
 -- what a client is sent that was shown a sight, or nothing yet
-abbrev pub told : Settings → LandValue → Pairs → Bool → Sight → Session → List Down
-told settings land pairs opened p s =
-    opening_told settings opened s ++ (delta p (shown_now settings land pairs s) ++ notes_due_of s.notes s.place)
+abbrev pub told : Settings → LandValue → Pairs → Bool → Sight → Player → List Down
+told settings land pairs opened p player =
+    opening_told settings opened player ++ (delta p (shown_now settings land pairs player) ++ notes_due_of player.notes player.spot)
 
--- ---- a client and its line, of a world
+-- ---- a connection, of a world
 
 -- the parts are those of a world
 pub record IsScene (w : World) (settings : Settings) (land : LandValue) (present : Pairs) : Type 0 where
@@ -54,31 +56,21 @@ pub record IsScene (w : World) (settings : Settings) (land : LandValue) (present
 abbrev pub sight_before : World → Pairs → ViewSet → Sight
 sight_before w last view = record { pairs = last; columns = from_entries (map (λ (place : Place). (place, column_in w place)) (all_of view)) }
 
--- a connection with what its line keeps of what it was shown
-abbrev pub recalled : World → Pairs → Line → Session → Session
-recalled w last line s = record s { shown = option_map (sight_before w last) line.mark.shown }
+-- a session with what its mark keeps of what it was shown
+abbrev pub recalled : World → Pairs → ConnectionValue → Session
+recalled w last c = record c.session { shown = option_map (sight_before w last) c.mark.shown }
 
--- what a tick makes of it; what it was shown is kept in its line
-abbrev pub ticked_client : World → Pairs → Option Line → Session → Session
-ticked_client w last None s = s
-ticked_client w last (Some line) s = record (flush w (recalled w last line s)).session { shown = s.shown }
+-- what a tick makes of a session; what it was shown is kept in its mark
+abbrev pub ticked_session : World → Pairs → ConnectionValue → Session
+ticked_session w last c = record (flush w (recalled w last c)).session { shown = c.session.shown }
 
--- the line of a client that was shown the world
-pub record IsMarked (w : World) (present : Pairs) (s : Session) (old : Line) (new : Option Line) : Type 0 where
-  pub line : Line
-  pub is : new ≡ Some line
-  pub splitter : line.splitter ≡ old.splitter
-  pub opened : is_some line.mark.shown ≡ true
-  pub shows : StandsFor line.mark.shown present (project w s)
-
-abbrev pub plays : Option Session → Bool
-plays None = false
-plays (Some s) = is_play s.stage
-
--- what a tick makes of the line under a number
-pub record LineFollows (w : World) (present : Pairs) (s : Option Session) (old new : Option Line) : Type 0 where
-  pub stays : plays s ≡ false → new ≡ old
-  pub shown : (c : Session) (line : Line) → s ≡ Some c → is_play c.stage ≡ true → old ≡ Some line → IsMarked w present c line new
+-- what a tick makes of a connection, whose client was shown the world where it was in play
+pub record IsShown (w : World) (last present : Pairs) (old new : ConnectionValue) : Type 0 where
+  pub session : new.session ≡ ticked_session w last old
+  pub splitter : new.splitter ≡ old.splitter
+  pub waits : is_play old.session.stage ≡ false → new.mark ≡ old.mark
+  pub opened : is_play old.session.stage ≡ true → is_some new.mark.shown ≡ true
+  pub shows : is_play old.session.stage ≡ true → StandsFor new.mark.shown present (project w old.session)
 
 -- ---- the list of players
 
@@ -87,15 +79,6 @@ abbrev pub name_after : Option (List ℕ) → Session → ℕ → Option (List �
 name_after (Some name) s q = Some name
 name_after None s q = if is_play s.stage && s.uuid == q then Some s.name else None
 
--- ---- all clients
-
--- numbers rise
-abbrev pub AreRising : List Session → Type 0
-AreRising sessions = (high : ℕ) × Rise 0 sessions high
-
 -- the names of those in play, by their identifiers
 abbrev pub names_of : List Session → List (ℕ × List ℕ)
 names_of sessions = map (λ (s : Session). (s.uuid, s.name)) (playing_of sessions)
-
-abbrev pub ticked_clients : World → Pairs → List (ℕ × Line) → List Session → List Session
-ticked_clients w last lines sessions = map (λ (s : Session). ticked_client w last (find nat_cmp s.id lines) s) sessions

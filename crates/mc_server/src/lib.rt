@@ -1,16 +1,14 @@
-//! The server: what it makes of each event, and what each client is owed.
+//! The server: what it makes of each event, and what each connection is owed.
 //!
 //! Stands on sessions, views, flushes and the land, and on the definitions of `mc_model`. Its one
 //! contract: where a `Server` stands for a world of the definitions, it stands after each event for the
 //! world that follows, and each connection is owed exactly what that says.
 #![tactic(auto)]
 
-mod client;
-mod cutting;
-mod hall;
+mod connection;
 mod input;
-mod line;
 mod opening;
+mod player;
 mod roster;
 mod server;
 mod settings;

@@ -1,38 +1,132 @@
-ghost use Rattle.std.specs.Prelude.{◌≡◌, ◌↔◌, ◌<◌, [], Err, IfOk, OnErr, OnOk, length, map, take};
+ghost use Rattle.std.specs.Prelude.{◌≡◌, ◌↔◌, ◌++◌, ◌∷◌, ◌+◌, ◌<◌, ◌≤◌, ℕ, List, [], true, Err, None, Some, IfOk, IfSome, OnErr, OnOk, length, map, option_map, slice_index_or, take};
+ghost use Rattle.std.specs.List.{filter};
 ghost use Rattle.std.specs.Option.{option_copied};
+ghost use Rattle.mc_frame.specs.Cut.{IsPart, kept_count};
+ghost use Rattle.mc_frame.specs.Splitting.{Feeds, Takes};
 ghost use Rattle.mc_model.specs.World as spec;
-ghost use Rattle.mc_model.specs.World.{AreSettings, World, new_world};
+ghost use Rattle.mc_model.specs.World.{AreSettings, World, found, is_closed, new_world};
+ghost use Rattle.mc_model.specs.Orderly.{Rise, next_number};
 ghost use Rattle.mc_model.specs.Run.{cause_in};
-ghost use Rattle.mc_model.specs.Step.{came, forgot, joined, left, step, took};
+ghost use Rattle.mc_model.specs.Step.{came, forgot, is_crowded, is_kept, is_new, joined, joining, left, on_fault, on_frame, step, took};
 ghost use Rattle.mc_server.specs.Asking.{is_done_in, owed_in};
+ghost use Rattle.mc_server.specs.Frames.{AreDone, Becomes, HasRead, IsReading, Splits};
 ghost use Rattle.mc_server.specs.Inputs.{age_after, event_of};
+ghost use Rattle.mc_server.specs.LoggingIn.{IsHandled};
+ghost use Rattle.mc_server.specs.Served.{ConnectionValue, IsAt, IsOpenAt, ServerValue, kept_world, new_connection, playing_of, sessions_of};
 ghost use Rattle.mc_server.specs.Stands.{HasFailed, Stands, age_of};
 
-mod hearing;
+#[cfg(test)]
+mod fields;
+mod listing;
+mod login;
+mod showing;
 mod ticking;
 
-use crate::hall::Hall;
-use crate::line::{Line, drop_line};
+use crate::connection::Connection;
 use crate::roster::Roster;
 use crate::{Input, Settings};
+use mc_frame::{FrameFault, Take};
+use mc_land::Land;
 use mc_model::Cause;
-use mc_nbt::NoMemory;
+use mc_nbt::{NoMemory, Text};
 use std::alloc::Global;
-use std::collections::BTreeMap;
+use std::marker::Model;
 
 /// A server: who is connected, what each was shown and is owed, and the land.
 #[derive(Drop)]
 pub struct Server {
     /// Where its memory comes from.
     alloc: Global,
-    /// Who is connected and plays, on which land, and what each is owed.
-    hall: Hall,
-    /// Of each connection that was not forgotten, by its number.
-    lines: BTreeMap<u32, Line>,
+    settings: Settings,
+    land: Land,
+    /// The ticks that came.
+    age: u64,
+    /// The entity numbers that were given.
+    eids: u32,
+    /// The number of the last join.
+    last: Option<u32>,
+    /// The numbers of the connections, in rising order.
+    ids: Vec<u32>,
+    /// The connection of each number.
+    connections: Vec<Connection>,
     /// The players that were shown at the last tick.
     list: Roster,
     /// Memory ran out before.
     failed: bool,
+}
+
+impl Model for Server {
+    ghost use Rattle.std.specs.Coded.{codes};
+    ghost use Rattle.mc_flush.specs.Lists.{coded_list_value};
+    ghost use Rattle.mc_model.specs.Stored.{coded_sight};
+    ghost use Rattle.mc_model.specs.Stored.{coded_edits};
+    ghost use Rattle.mc_server.specs.Served.{AreKept, ServerValue, sessions_of};
+
+    ghost Value = { ServerValue };
+
+    ghost coded = { Prim.hlevel (codes, coded_sight, coded_edits, coded_list_value) };
+
+    ghost view = { λ s. record {
+      failed = s.failed;
+      age = s.age;
+      terrain = s.settings.terrain;
+      edits = s.land.edits;
+      most = s.settings.players;
+      cap = s.settings.cap;
+      eids = s.eids;
+      last = s.last;
+      connections = s.connections.items;
+      list = s.list;
+    } };
+
+    ghost invariant = { λ s. AreKept s.land s.settings s.eids s.last s.ids.items (sessions_of s.connections.items) };
+}
+
+/// How many connections are open, or owed bytes still.
+fn kept(connections: &Vec<Connection>) -> usize
+    ensures { result ≡ length (filter (λ (c : ConnectionValue). is_kept c.session) connections.now.items) }
+{
+    connections.iter().filter(|c| c.is_kept()).count()
+}
+
+/// How many are in play.
+fn in_play(connections: &Vec<Connection>) -> usize
+    ensures { result ≡ length (filter (λ (c : ConnectionValue). spec.is_play c.session.stage) connections.now.items) }
+{
+    connections.iter().filter(|c| c.is_play()).count()
+}
+
+/// How many sessions are in play.
+fn sessions_in_play(connections: &Vec<Connection>) -> usize
+    ensures { result ≡ length (playing_of (sessions_of connections.now.items)) }
+{
+    in_play(connections)
+}
+
+/// How many are in play, where they are few.
+fn playing(connections: &Vec<Connection>) -> u32
+    requires { length (playing_of (sessions_of connections.now.items)) ≤ 50 }
+    ensures { result ≡ length (playing_of (sessions_of connections.now.items)) }
+{
+    sessions_in_play(connections) as u32
+}
+
+/// Puts a connection and its number behind the others. Without memory they are as before.
+fn put_last(
+    ids: &mut Vec<u32>,
+    connections: &mut Vec<Connection>,
+    connection: Connection,
+) -> Result<(), NoMemory>
+    ensures ids { OnOk result (ids.new.items ≡ ids.old.items ++ connection.session.id ∷ []) }
+    ensures connections { OnOk result (connections.new.items ≡ connections.old.items ++ connection ∷ []) }
+    ensures ids_stay { OnErr result (ids.new.items ≡ ids.old.items) }
+    ensures connections_stay { OnErr result (connections.new.items ≡ connections.old.items) }
+{
+    let id = connection.id();
+    connections.reserve(1)?;
+    ids.push(id)?;
+    connections.push(connection)?;
+    Ok(())
 }
 
 impl Server {
@@ -43,8 +137,13 @@ impl Server {
     {
         Ok(Server {
             alloc,
-            hall: Hall::new(alloc, settings),
-            lines: BTreeMap::new(alloc),
+            settings,
+            land: Land::new(alloc, settings.terrain),
+            age: 0,
+            eids: 0,
+            last: None,
+            ids: Vec::new(alloc),
+            connections: Vec::new(alloc),
             list: Roster::new(alloc),
             failed: false,
         })
@@ -87,49 +186,80 @@ impl Server {
         }
     }
 
-    /// A connection joins.
+    // ---- looking connections up
+
+    /// Where the connection of a number stands.
+    fn place_of(&self, k: u32) -> Option<usize>
+        ensures none { result ≡ None → found k (sessions_of self.now.connections) ≡ None }
+        ensures some { IfSome result (λ i. IsAt k i self.now.connections) }
+        ensures rise { Rise 0 (sessions_of self.now.connections) (next_number self.now.last) }
+    {
+        self.ids.as_slice().binary_search(&k).ok()
+    }
+
+    /// The connection of a number.
+    fn connection(&self, k: u32) -> Option<&Connection>
+        ensures { option_map (λ (c : ConnectionValue). c.session) (option_copied result) ≡ found k (sessions_of self.now.connections) }
+    {
+        match self.place_of(k) {
+            Some(i) => Some(&self.connections[i]),
+            None => None,
+        }
+    }
+
+    // ---- joining and leaving
+
+    /// Whether a number is above those of all that joined.
+    fn is_new(&self, k: u32) -> bool
+        ensures { result ≡ is_new k self.now.last }
+    {
+        match self.last {
+            Some(last) => last < k,
+            None => true,
+        }
+    }
+
+    /// Whether too many connections are there.
+    fn is_crowded(&self) -> bool
+        ensures { result ≡ is_crowded (kept_world self.now) }
+    {
+        u64::from(self.settings.players) + 16 <= kept(&self.connections) as u64
+    }
+
+    /// A connection as it joins.
+    fn joining(&self, k: u32) -> Connection
+        ensures { result ≡ record (new_connection k) { session = joining (kept_world self.now) k } }
+    {
+        let mut connection = Connection::new(self.alloc, k);
+        if self.is_crowded() {
+            connection.shut(Cause::Crowded);
+        }
+        connection
+    }
+
+    /// Lets a connection join.
     fn join(&mut self, k: u32) -> Result<(), NoMemory>
         ensures follows { (w : World) → Stands self.old w → OnOk result (Stands self.new (step w (joined k)).world) }
         ensures age { OnOk result (age_of self.new ≡ age_of self.old) }
     {
-        if !self.hall.is_new(k) {
+        if !self.is_new(k) {
             return Ok(());
         }
-        self.hall.join(k)?;
-        let _none = self.lines.insert(k, Line::new(self.alloc))?;
+        let connection = self.joining(k);
+        put_last(&mut self.ids, &mut self.connections, connection)?;
+        self.last = Some(k);
         Ok(())
     }
 
-    /// A connection leaves.
+    /// Lets a connection leave.
     fn leave(&mut self, k: u32)
         ensures follows { (w : World) → Stands self.old w → Stands self.new (step w (left k)).world }
         ensures age { age_of self.new ≡ age_of self.old }
     {
-        self.hall.leave(k);
-    }
-
-    /// The first bytes that a connection is owed, without copying them.
-    pub fn front(&self, k: u32) -> &[u8]
-        ensures first { (w : World) → Stands self.now w → take (length result.now) (owed_in k w) ≡ result.now }
-        ensures empty { (w : World) → Stands self.now w → (result.now ≡ []) ↔ (owed_in k w ≡ []) }
-    {
-        self.hall.front(k)
-    }
-
-    /// A connection took bytes of those that it is owed.
-    pub fn took(&mut self, k: u32, n: usize)
-        ensures follows { (w : World) → Stands self.old w → Stands self.new (step w (took k n)).world }
-        ensures age { age_of self.new ≡ age_of self.old }
-        ensures failed { HasFailed self.old → HasFailed self.new }
-    {
-        self.hall.took(k, n);
-    }
-
-    /// Whether a connection is closed and owed nothing.
-    pub fn done(&self, k: u32) -> bool
-        ensures { (w : World) → Stands self.now w → result ≡ is_done_in k w }
-    {
-        self.hall.done(k)
+        let Some(i) = self.place_of(k) else {
+            return;
+        };
+        self.connections[i].leave();
     }
 
     /// A connection that is closed and owed nothing goes.
@@ -138,23 +268,68 @@ impl Server {
         ensures age { age_of self.new ≡ age_of self.old }
         ensures failed { HasFailed self.old → HasFailed self.new }
     {
-        let done = self.hall.done(k);
-        drop_line(&mut self.lines, k, done);
-        self.hall.forget(k);
+        let Some(i) = self.place_of(k) else {
+            return;
+        };
+        if !self.connections[i].is_done() {
+            return;
+        }
+        let _id = self.ids.remove(i);
+        let _connection = self.connections.remove(i);
     }
+
+    // ---- what connections are owed
+
+    /// The first bytes that a connection is owed, without copying them.
+    pub fn front(&self, k: u32) -> &[u8]
+        ensures first { (w : World) → Stands self.now w → take (length result.now) (owed_in k w) ≡ result.now }
+        ensures empty { (w : World) → Stands self.now w → (result.now ≡ []) ↔ (owed_in k w ≡ []) }
+    {
+        match self.connection(k) {
+            Some(connection) => connection.front(),
+            None => &[],
+        }
+    }
+
+    /// A connection took bytes of those that it is owed.
+    pub fn took(&mut self, k: u32, n: usize)
+        ensures follows { (w : World) → Stands self.old w → Stands self.new (step w (took k n)).world }
+        ensures age { age_of self.new ≡ age_of self.old }
+        ensures failed { HasFailed self.old → HasFailed self.new }
+    {
+        let Some(i) = self.place_of(k) else {
+            return;
+        };
+        self.connections[i].took(n);
+    }
+
+    /// Whether a connection is closed and owed nothing.
+    pub fn done(&self, k: u32) -> bool
+        ensures { (w : World) → Stands self.now w → result ≡ is_done_in k w }
+    {
+        match self.connection(k) {
+            Some(connection) => connection.is_done(),
+            None => false,
+        }
+    }
+
+    // ---- what is asked of a server
 
     /// The numbers of the connections, in the order in which they joined.
     pub fn connections(&self) -> &[u32]
         ensures { (w : World) → Stands self.now w → result.now ≡ map (λ (s : spec.Session). s.id) w.sessions }
     {
-        self.hall.ids()
+        self.ids.as_slice()
     }
 
     /// Why a connection was closed.
     pub fn cause(&self, k: u32) -> Option<&Cause>
         ensures { (w : World) → Stands self.now w → option_copied result ≡ cause_in k w }
     {
-        self.hall.cause(k)
+        match self.connection(k) {
+            Some(connection) => connection.cause(),
+            None => None,
+        }
     }
 
     /// How many ticks came.
@@ -162,6 +337,130 @@ impl Server {
         ensures is { result ≡ age_of self.now }
         ensures world { (w : World) → Stands self.now w → result ≡ w.age }
     {
-        self.hall.age()
+        self.age
+    }
+
+    // ---- bytes
+
+    /// Handles bytes of a connection.
+    fn bytes(&mut self, k: u32, bytes: &[u8]) -> Result<(), NoMemory>
+        ensures follows { (w : World) → Stands self.old w → OnOk result (Stands self.new (step w (came k bytes.now)).world) }
+        ensures age { OnOk result (age_of self.new ≡ age_of self.old) }
+    {
+        let Some(i) = self.place_of(k) else {
+            return Ok(());
+        };
+        if self.is_closed(i) {
+            return Ok(());
+        }
+        self.read(i, bytes)
+    }
+
+    /// Handles the frames of bytes of an open connection, behind those that its splitter holds, as long as
+    /// it is open.
+    fn read(&mut self, i: usize, bytes: &[u8]) -> Result<(), NoMemory>
+        requires open_ { IsOpenAt i self.old.connections }
+        ensures done { (count : ℕ) (c : ConnectionValue) → c ≡ slice_index_or self.old.connections i c →
+            c.splitter.before ≡ kept_count count → c.splitter.fault ≡ None → IsPart c.splitter.held →
+            OnOk result (AreDone i count c (c.splitter.held ++ bytes.now) self.old self.new) }
+        ensures age { OnOk result (age_of self.new ≡ age_of self.old) }
+    {
+        let mut rest = bytes;
+        while !rest.is_empty() {
+            let count = self.feed(i, rest)?;
+            if count == 0 {
+                return Ok(());
+            }
+            rest = rest.split_at(count).1;
+            let goes = self.frames(i)?;
+            if !goes {
+                return Ok(());
+            }
+        }
+        Ok(())
+    }
+
+    /// Handles the frames that a splitter holds whole, as long as the connection is open: whether it is
+    /// open then.
+    fn frames(&mut self, i: usize) -> Result<bool, NoMemory>
+        requires open_ { IsOpenAt i self.old.connections }
+        ensures read { (count : ℕ) (c : ConnectionValue) (all left : List ℕ) (first : ServerValue) →
+            IsReading i count c all first self.old left → IfOk result (λ goes. HasRead goes i count c all first self.new left) }
+        ensures opened { IfOk result (λ goes. goes ≡ true → IsOpenAt i self.new.connections) }
+        ensures age { OnOk result (age_of self.new ≡ age_of self.old) }
+    {
+        'taking: loop {
+            match self.take(i)? {
+                Take::Frame(payload) => {
+                    self.frame(i, payload.as_slice())?;
+                    if self.is_closed(i) {
+                        return Ok(false);
+                    }
+                }
+                Take::More => return Ok(true),
+                Take::Bad(fault) => {
+                    self.fault(i, fault)?;
+                    return Ok(false);
+                }
+            }
+        }
+    }
+
+    /// Whether the connection at a place is closed.
+    fn is_closed(&self, i: usize) -> bool
+        requires { i < length self.now.connections }
+        ensures is { (c : ConnectionValue) → c ≡ slice_index_or self.now.connections i c → result ≡ is_closed c.session.stage }
+        ensures there { (c : ConnectionValue) → c ≡ slice_index_or self.now.connections i c → found c.session.id (sessions_of self.now.connections) ≡ Some c.session }
+    {
+        self.connections[i].is_closed()
+    }
+
+    /// Feeds the splitter of a connection with the first bytes of a piece: how many it took.
+    fn feed(&mut self, i: usize, piece: &[u8]) -> Result<usize, NoMemory>
+        requires { i < length self.old.connections }
+        ensures fed { IfOk result (λ count. Splits i self.old self.new (λ old new. Feeds old piece.now count new)) }
+        ensures some { (c : ConnectionValue) → c ≡ slice_index_or self.old.connections i c → IsPart c.splitter.held → c.splitter.fault ≡ None →
+            0 < length piece.now → IfOk result (λ count. 0 < count) }
+    {
+        self.connections[i].feed(piece)
+    }
+
+    /// Takes the next frame of a connection's bytes.
+    fn take(&mut self, i: usize) -> Result<Take, NoMemory>
+        requires { i < length self.old.connections }
+        ensures { IfOk result (λ answer. Splits i self.old self.new (λ old new. Takes old answer new)) }
+    {
+        self.connections[i].take()
+    }
+
+    /// Disconnects an open connection whose bytes begin no frame.
+    fn fault(&mut self, i: usize, fault: FrameFault) -> Result<(), NoMemory>
+        requires open_ { IsOpenAt i self.old.connections }
+        ensures is { OnOk result (Becomes i self.old self.new (λ s. (on_fault (kept_world self.old) s.id (Some fault)).world)) }
+        ensures closed { OnOk result ((c : ConnectionValue) → is_closed (slice_index_or self.new.connections i c).session.stage ≡ true) }
+    {
+        self.connections[i].disconnect(Cause::Frame(fault))
+    }
+
+    /// Handles a frame of an open connection.
+    fn frame(&mut self, i: usize, frame: &[u8]) -> Result<(), NoMemory>
+        requires open_ { IsOpenAt i self.old.connections }
+        ensures { OnOk result (Becomes i self.old self.new (λ s. (on_frame (kept_world self.old) s.id frame.now).world)) }
+    {
+        match self.handle(i, frame)? {
+            Some(name) => self.log_in(i, &name),
+            None => Ok(()),
+        }
+    }
+
+    /// Does what a frame of an open connection comes to, but for logging in: the name under which its
+    /// client wants to play, where it asks to.
+    fn handle(&mut self, i: usize, frame: &[u8]) -> Result<Option<Text>, NoMemory>
+        requires open_ { IsOpenAt i self.old.connections }
+        ensures { IfOk result (λ asks. IsHandled i self.old frame.now asks self.new) }
+    {
+        let online = playing(&self.connections);
+        let terrain = self.settings.terrain;
+        self.connections[i].handle(&terrain, frame, self.settings.players, online)
     }
 }

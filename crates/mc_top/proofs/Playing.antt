@@ -12,7 +12,7 @@ use Rattle.mc_model.specs.Step.{Event, ticked, step}
 use Rattle.mc_model.specs.Run.{history}
 use Rattle.mc_model.specs.Orderly.{AreApart}
 use Rattle.mc_model.proofs.RunOrder.{orderly_run}
-use Rattle.mc_server.specs.declared.server.Server.{Server}
+use Rattle.mc_server.specs.Served.{ServerValue}
 use Rattle.mc_server.specs.Stands.{Stands}
 use Rattle.mc_top.specs.declared.script_line.ScriptEvent.{ScriptEvent}
 use Rattle.mc_top.specs.ReplayText.{told, takings, settled, replay_text, line_events, events_of}
@@ -46,7 +46,7 @@ reached_world w (e ∷ events) r = reached_world (settled (step w e).world) even
 
 -- ---- the lines of a world
 
-pub lines_put : (w : World) (server : Server) (ids old half new : List ℕ) → IsReached w → ids ≡ ids_of w.sessions → Stands server (all_forgotten ids (all_taken ids w)) →
+pub lines_put : (w : World) (server : ServerValue) (ids old half new : List ℕ) → IsReached w → ids ≡ ids_of w.sessions → Stands server (all_forgotten ids (all_taken ids w)) →
     half ≡ old ++ all_sent ids w → new ≡ half ++ all_shut ids (all_taken ids w) → Stands server (settled w) × (new ≡ old ++ told w)
 lines_put w server ids old half new r is stands sent shut =
     let apart = reached_apart w r in
@@ -68,7 +68,7 @@ world_more : (w : World) (xs ys : List Event) → replay_world w (xs ++ ys) ≡ 
 world_more w [] ys = refl
 world_more w (e ∷ xs) ys = world_more (settled (step w e).world) xs ys
 
-pub played_two : (xs ys : List Event) (w : World) (middle server : Server) (held half held' : Option (List ℕ)) →
+pub played_two : (xs ys : List Event) (w : World) (middle server : ServerValue) (held half held' : Option (List ℕ)) →
     HasPlayed xs w middle held half → HasPlayed ys (replay_world w xs) server half held' → HasPlayed (xs ++ ys) w server held held'
 played_two xs ys w middle server held half held' a b =
     let P : World → Type 0 = λ v. Stands server v in
@@ -78,7 +78,7 @@ played_two xs ys w middle server held half held' a b =
       wrote = subst Q (sym (text_more w xs ys)) (grows_two held half held' (replay_text w xs) (replay_text (replay_world w xs) ys) a.wrote b.wrote);
     }
 
-pub stopped_two : (xs ys : List Event) (w : World) (middle : Server) (held half held' : Option (List ℕ)) →
+pub stopped_two : (xs ys : List Event) (w : World) (middle : ServerValue) (held half held' : Option (List ℕ)) →
     HasPlayed xs w middle held half → HasStopped ys (replay_world w xs) half held' → HasStopped (xs ++ ys) w held held'
 stopped_two xs ys w middle held half held' a b =
     let Q : List ℕ → Type 0 = λ t. Grows held held' t in
@@ -114,7 +114,7 @@ grows_none (Some xs) = sym (append-nil xs)
 pub grows_same : (A : Type 0) (view : A → Option (List ℕ)) (old new : A) → new ≡ old → Grows (view old) (view new) []
 grows_same A view old new is = let P : A → Type 0 = λ a. Grows (view old) (view a) [] in subst P (sym is) (grows_none (view old))
 
-pub played_none : (w : World) (server : Server) (held : Option (List ℕ)) → Stands server w → HasPlayed [] w server held held
+pub played_none : (w : World) (server : ServerValue) (held : Option (List ℕ)) → Stands server w → HasPlayed [] w server held held
 played_none w server held stands = record { stands = stands; wrote = grows_none held }
 
 pub stopped_none : (events : List Event) (w : World) (held : Option (List ℕ)) → HasStopped events w held held
@@ -122,7 +122,7 @@ stopped_none events w held = record { len = 0; wrote = grows_none held }
 
 -- ---- one event
 
-pub played_one : (e : Event) (w : World) (server : Server) (held held' : Option (List ℕ)) (text : List ℕ) →
+pub played_one : (e : Event) (w : World) (server : ServerValue) (held held' : Option (List ℕ)) (text : List ℕ) →
     Stands server (settled (step w e).world) → text ≡ told (step w e).world → Grows held held' text → HasPlayed (e ∷ []) w server held held'
 played_one e w server held held' text stands is wrote =
     let Q : List ℕ → Type 0 = λ t. Grows held held' t in
@@ -142,13 +142,13 @@ ticks_next n count less =
     sym (take-append-drop (n + 1) (replicate count ticked))
     ∙ ap (λ (es : List Event). es ++ drop (n + 1) (replicate count ticked)) (take-replicate (n + 1) count ticked (omega (arith, less)) ∙ sym (replicate_more n ticked))
 
-pub ticks_played : (n : ℕ) (w : World) (middle server : Server) (held half held' : Option (List ℕ)) → HasPlayed (replicate n ticked) w middle held half →
+pub ticks_played : (n : ℕ) (w : World) (middle server : ServerValue) (held half held' : Option (List ℕ)) → HasPlayed (replicate n ticked) w middle held half →
     HasPlayed (ticked ∷ []) (replay_world w (replicate n ticked)) server half held' → HasPlayed (replicate (n + 1) ticked) w server held held'
 ticks_played n w middle server held half held' a b =
     let P : List Event → Type 0 = λ es. HasPlayed es w server held held' in
     subst P (replicate_more n ticked) (played_two (replicate n ticked) (ticked ∷ []) w middle server held half held' a b)
 
-pub ticks_stopped : (n count : ℕ) (w : World) (middle : Server) (held half held' : Option (List ℕ)) → n < count → HasPlayed (replicate n ticked) w middle held half →
+pub ticks_stopped : (n count : ℕ) (w : World) (middle : ServerValue) (held half held' : Option (List ℕ)) → n < count → HasPlayed (replicate n ticked) w middle held half →
     HasStopped (ticked ∷ []) (replay_world w (replicate n ticked)) half held' → HasStopped (replicate count ticked) w held held'
 ticks_stopped n count w middle held half held' less a b =
     let P : List Event → Type 0 = λ es. HasStopped es w held held' in
@@ -167,14 +167,14 @@ lines_next events i e within is =
 lines_before : (events : List ScriptEvent) (i : ℕ) → events_of events ≡ events_of (take i events) ++ events_of (drop i events)
 lines_before events i = ap events_of (sym (take-append-drop i events)) ∙ flat_map-append line_events (take i events) (drop i events)
 
-pub lines_played : (events : List ScriptEvent) (i : ℕ) (e : ScriptEvent) (w : World) (middle server : Server) (held half held' : Option (List ℕ)) → i < length events → e ≡ get_or events i e →
+pub lines_played : (events : List ScriptEvent) (i : ℕ) (e : ScriptEvent) (w : World) (middle server : ServerValue) (held half held' : Option (List ℕ)) → i < length events → e ≡ get_or events i e →
     HasPlayed (events_of (take i events)) w middle held half → HasPlayed (line_events e) (replay_world w (events_of (take i events))) server half held' →
     HasPlayed (events_of (take (i + 1) events)) w server held held'
 lines_played events i e w middle server held half held' within is a b =
     let P : List Event → Type 0 = λ es. HasPlayed es w server held held' in
     subst P (sym (lines_next events i e within is)) (played_two (events_of (take i events)) (line_events e) w middle server held half held' a b)
 
-pub lines_stopped : (events : List ScriptEvent) (i : ℕ) (e : ScriptEvent) (w : World) (middle : Server) (held half held' : Option (List ℕ)) → i < length events → e ≡ get_or events i e →
+pub lines_stopped : (events : List ScriptEvent) (i : ℕ) (e : ScriptEvent) (w : World) (middle : ServerValue) (held half held' : Option (List ℕ)) → i < length events → e ≡ get_or events i e →
     HasPlayed (events_of (take i events)) w middle held half → HasStopped (line_events e) (replay_world w (events_of (take i events))) half held' →
     HasStopped (events_of events) w held held'
 lines_stopped events i e w middle held half held' within is a b =
@@ -183,7 +183,7 @@ lines_stopped events i e w middle held half held' within is a b =
     subst P (sym (lines_next events i e within is)) (stopped_two (events_of (take i events)) (line_events e) w middle held half held' a b) in
     subst P (sym (lines_before events (i + 1))) (stopped_before (events_of (take (i + 1) events)) (events_of (drop (i + 1) events)) w held held' first)
 
-pub lines_done : (events : List ScriptEvent) (i : ℕ) (w : World) (server : Server) (held held' : Option (List ℕ)) → length events ≤ i →
+pub lines_done : (events : List ScriptEvent) (i : ℕ) (w : World) (server : ServerValue) (held held' : Option (List ℕ)) → length events ≤ i →
     HasPlayed (events_of (take i events)) w server held held' → HasPlayed (events_of events) w server held held'
 lines_done events i w server held held' all a =
     let P : List ScriptEvent → Type 0 = λ es. HasPlayed (events_of es) w server held held' in

@@ -7,7 +7,7 @@ use Rattle.hex.specs.Hex.{encode_lower}
 use Rattle.hex.proofs.HexLemmas.{length-encode_with}
 use Rattle.mc_model.specs.World.{World}
 use Rattle.mc_model.specs.Step.{took, step}
-use Rattle.mc_server.specs.declared.server.Server.{Server}
+use Rattle.mc_server.specs.Served.{ServerValue}
 use Rattle.mc_server.specs.Stands.{Stands}
 use Rattle.mc_server.specs.Asking.{owed_in}
 use Rattle.mc_top.specs.Replaying.{taken, sent_by, sent_in, TakesFront, each, each_line}
@@ -16,7 +16,7 @@ use Rattle.mc_top.proofs.Taking.{owed_after, taken_after, taken_none, encode_par
 -- ---- one connection, piece by piece
 
 -- the first bytes were taken
-pub front_taken : (w : World) (k : ℕ) (server : Server) (front old new : List ℕ) → take (length front) (owed_in k w) ≡ front →
+pub front_taken : (w : World) (k : ℕ) (server : ServerValue) (front old new : List ℕ) → take (length front) (owed_in k w) ≡ front →
     Stands server (step w (took k (length front))).world → new ≡ old ++ encode_lower front → TakesFront k w server old new true
 front_taken w k server front old new first stands is =
     let few : length (take (length front) (owed_in k w)) ≡ length front = ap length first in
@@ -30,16 +30,16 @@ hex_longer front old new some is =
     omega (arith, all, hex, some, length-append old (encode_lower front))
 
 -- some first bytes were taken, and what is left and the others are all
-pub record IsTaking (k : ℕ) (w : World) (server : Server) (old new : List ℕ) : Type 0 where
+pub record IsTaking (k : ℕ) (w : World) (server : ServerValue) (old new : List ℕ) : Type 0 where
   pub v : World
   pub stands : Stands server v
   pub same : taken k v ≡ taken k w
   pub lines : new ++ encode_lower (owed_in k v) ≡ old ++ encode_lower (owed_in k w)
 
-pub taking_start : (k : ℕ) (w : World) (server : Server) (lines : List ℕ) → Stands server w → IsTaking k w server lines lines
+pub taking_start : (k : ℕ) (w : World) (server : ServerValue) (lines : List ℕ) → Stands server w → IsTaking k w server lines lines
 taking_start k w server lines stands = record { v = w; stands = stands; same = refl; lines = refl }
 
-pub taking_next : (k : ℕ) (w : World) (middle server : Server) (old half new : List ℕ) (more : Bool) → more ≡ true → IsTaking k w middle old half →
+pub taking_next : (k : ℕ) (w : World) (middle server : ServerValue) (old half new : List ℕ) (more : Bool) → more ≡ true → IsTaking k w middle old half →
     ((v : World) → Stands middle v → TakesFront k v server half new more) → IsTaking k w server old new
 taking_next k w middle server old half new more is t takes =
     let P : Bool → Type 0 = λ b. TakesFront k t.v server half new b in
@@ -57,7 +57,7 @@ taking_next k w middle server old half new more is t takes =
           ∙ t.lines;
     }
 
-pub taking_done : (k : ℕ) (w : World) (middle server : Server) (old half new : List ℕ) (more : Bool) → more ≡ false → IsTaking k w middle old half →
+pub taking_done : (k : ℕ) (w : World) (middle server : ServerValue) (old half new : List ℕ) (more : Bool) → more ≡ false → IsTaking k w middle old half →
     ((v : World) → Stands middle v → TakesFront k v server half new more) → Stands server (taken k w) × (new ≡ old ++ encode_lower (owed_in k w))
 taking_done k w middle server old half new more is t takes =
     let Q : Bool → Type 0 = λ b. TakesFront k t.v server half new b in
@@ -90,7 +90,7 @@ sent_is k w front old first half new some same a b c =
     ∙ ap (λ (t : List ℕ). old ++ t) (sym (sent_some k (owed_in k w) (λ none. some_bytes front some (same.1 none))))
 
 -- nothing is owed
-pub not_sent : (k : ℕ) (w : World) (server : Server) (front old : List ℕ) → length front ≡ 0 → (front ≡ []) ↔ (owed_in k w ≡ []) → Stands server w → Stands server (taken k w) × (old ≡ old ++ sent_in k w)
+pub not_sent : (k : ℕ) (w : World) (server : ServerValue) (front old : List ℕ) → length front ≡ 0 → (front ≡ []) ↔ (owed_in k w ≡ []) → Stands server w → Stands server (taken k w) × (old ≡ old ++ sent_in k w)
 not_sent k w server front old none same stands =
     let P : World → Type 0 = λ u. Stands server u in
     let owed = same.0 (no_bytes front none) in
@@ -99,16 +99,16 @@ not_sent k w server front old none same stands =
 -- ---- connection by connection
 
 -- some were changed and their lines written; what is left and that are all
-pub record IsUnderway (change : ℕ → World → World) (line : ℕ → World → List ℕ) (ks : List ℕ) (w : World) (server : Server) (rest old new : List ℕ) : Type 0 where
+pub record IsUnderway (change : ℕ → World → World) (line : ℕ → World → List ℕ) (ks : List ℕ) (w : World) (server : ServerValue) (rest old new : List ℕ) : Type 0 where
   pub v : World
   pub stands : Stands server v
   pub same : each change rest v ≡ each change ks w
   pub lines : new ++ each_line change line rest v ≡ old ++ each_line change line ks w
 
-pub underway_start : (change : ℕ → World → World) (line : ℕ → World → List ℕ) (ks : List ℕ) (w : World) (server : Server) (lines : List ℕ) → Stands server w → IsUnderway change line ks w server ks lines lines
+pub underway_start : (change : ℕ → World → World) (line : ℕ → World → List ℕ) (ks : List ℕ) (w : World) (server : ServerValue) (lines : List ℕ) → Stands server w → IsUnderway change line ks w server ks lines lines
 underway_start change line ks w server lines stands = record { v = w; stands = stands; same = refl; lines = refl }
 
-underway_more : (change : ℕ → World → World) (line : ℕ → World → List ℕ) (ks : List ℕ) (w : World) (middle server : Server) (k : ℕ) (rest old half new : List ℕ) →
+underway_more : (change : ℕ → World → World) (line : ℕ → World → List ℕ) (ks : List ℕ) (w : World) (middle server : ServerValue) (k : ℕ) (rest old half new : List ℕ) →
     IsUnderway change line ks w middle (k ∷ rest) old half → ((v : World) → Stands middle v → Stands server (change k v) × (new ≡ half ++ line k v)) → IsUnderway change line ks w server rest old new
 underway_more change line ks w middle server k rest old half new u changes =
     let c = changes u.v u.stands in
@@ -122,7 +122,7 @@ underway_more change line ks w middle server k rest old half new u changes =
           ∙ u.lines;
     }
 
-pub underway_next : (change : ℕ → World → World) (line : ℕ → World → List ℕ) (ks : List ℕ) (w : World) (middle server : Server) (i k d : ℕ) (old half new : List ℕ) → i < length ks → k ≡ get_or ks i d →
+pub underway_next : (change : ℕ → World → World) (line : ℕ → World → List ℕ) (ks : List ℕ) (w : World) (middle server : ServerValue) (i k d : ℕ) (old half new : List ℕ) → i < length ks → k ≡ get_or ks i d →
     IsUnderway change line ks w middle (drop i ks) old half → ((v : World) → Stands middle v → Stands server (change k v) × (new ≡ half ++ line k v)) → IsUnderway change line ks w server (drop (i + 1) ks) old new
 underway_next change line ks w middle server i k d old half new within is u changes =
     let P : List ℕ → Type 0 = λ r. IsUnderway change line ks w middle r old half in
@@ -130,7 +130,7 @@ underway_next change line ks w middle server i k d old half new within is u chan
     let parts : drop i ks ≡ k ∷ drop (i + 1) ks = drop-cons ks i d within ∙ ap (λ (t : ℕ). t ∷ drop (suc i) ks) (sym is) ∙ ap (λ (j : ℕ). k ∷ drop j ks) one in
     underway_more change line ks w middle server k (drop (i + 1) ks) old half new (subst P parts u) changes
 
-pub underway_done : (change : ℕ → World → World) (line : ℕ → World → List ℕ) (ks : List ℕ) (w : World) (server : Server) (i : ℕ) (old new : List ℕ) → length ks ≤ i →
+pub underway_done : (change : ℕ → World → World) (line : ℕ → World → List ℕ) (ks : List ℕ) (w : World) (server : ServerValue) (i : ℕ) (old new : List ℕ) → length ks ≤ i →
     IsUnderway change line ks w server (drop i ks) old new → Stands server (each change ks w) × (new ≡ old ++ each_line change line ks w)
 underway_done change line ks w server i old new all u =
     let P : List ℕ → Type 0 = λ r. IsUnderway change line ks w server r old new in

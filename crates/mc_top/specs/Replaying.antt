@@ -9,7 +9,7 @@ use Rattle.mc_model.specs.Step.{Event, took, forgot, step}
 use Rattle.mc_model.specs.Run.{history}
 use Rattle.mc_server.specs.declared.input.Input.{Input}
 use Rattle.mc_server.specs.declared.input.Input.TheVariants.{Tick}
-use Rattle.mc_server.specs.declared.server.Server.{Server}
+use Rattle.mc_server.specs.Served.{ServerValue}
 use Rattle.mc_server.specs.Stands.{Stands}
 use Rattle.mc_server.specs.Asking.{owed_in, is_done_in}
 use Rattle.mc_top.specs.declared.script_line.ScriptEvent.{ScriptEvent}
@@ -36,7 +36,7 @@ sent_by k [] = []
 sent_by k (b ∷ bytes) = codes "sent " ++ decimal k ++ codes " " ++ encode_lower (b ∷ bytes) ++ 10 ∷ []
 
 -- its first bytes were taken and put behind the others, or there were none
-abbrev pub TakesFront : ℕ → World → Server → List ℕ → List ℕ → Bool → Type 0
+abbrev pub TakesFront : ℕ → World → ServerValue → List ℕ → List ℕ → Bool → Type 0
 TakesFront k w server old new false = (owed_in k w ≡ []) × Stands server w × (new ≡ old)
 TakesFront k w server old new true =
     (n : ℕ) × (n ≤ length (owed_in k w)) × Stands server (step w (took k n)).world × (new ≡ old ++ encode_lower (take n (owed_in k w)))
@@ -88,7 +88,7 @@ replay_world w [] = w
 replay_world w (e ∷ events) = replay_world (settled (step w e).world) events
 
 -- the server stands for the world after events, and their text was written
-pub record HasPlayed (events : List Event) (w : World) (server : Server) (held held' : Option (List ℕ)) : Type 0 where
+pub record HasPlayed (events : List Event) (w : World) (server : ServerValue) (held held' : Option (List ℕ)) : Type 0 where
   pub stands : Stands server (replay_world w events)
   pub wrote : Grows held held' (replay_text w events)
 

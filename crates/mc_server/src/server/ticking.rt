@@ -4,18 +4,27 @@ ghost use Rattle.mc_model.specs.Step.{step, ticked};
 ghost use Rattle.mc_server.specs.Stands.{Stands, age_of};
 
 use crate::server::Server;
+use crate::server::listing::list_all;
+use crate::server::showing::show_all;
 use mc_nbt::NoMemory;
 
 impl Server {
-    /// A tick comes.
+    /// Lets a tick come: each client in play is shown the land and the players.
     pub(super) fn tick(&mut self) -> Result<(), NoMemory>
         requires young { age_of self.old < 1000000000 }
         ensures follows { (w : World) → Stands self.old w → OnOk result (Stands self.new (step w ticked).world) }
         ensures age { OnOk result (age_of self.new ≡ age_of self.old + 1) }
     {
         self.list.turn()?;
-        self.hall.list_players(&mut self.list)?;
-        self.hall.tick(&self.list, &mut self.lines)?;
+        list_all(&self.connections, &mut self.list)?;
+        show_all(
+            self.alloc,
+            &self.settings,
+            &mut self.land,
+            &self.list,
+            &mut self.connections,
+        )?;
+        self.age += 1;
         Ok(())
     }
 }

@@ -1,19 +1,38 @@
-use Rattle.std.proofs.Common.{refl, sym, ap, ◌∙◌}
-use Rattle.mc_model.specs.World.{World}
-use Rattle.mc_server.proofs.Ages.{heard_age}
-use Rattle.mc_server.proofs.Bytes.{came_stands, closed_stands}
-use Rattle.mc_server.proofs.Lines.{on_ok_follows}
+use Rattle.std.proofs.Common.{refl, sym, get_or, ◌∙◌}
+use Rattle.mc_model.specs.Orderly.{next_number}
+use Rattle.mc_server.specs.Served.{ConnectionValue, new_connection}
+use Rattle.mc_server.proofs.Came.{came_none, came_closed, came_result}
+use Rattle.mc_server.proofs.Becoming.{there_at}
+use Rattle.mc_server.proofs.Reading.{open_at}
 use Rattle.mc_server.proofs.server.Server.bytes.Goals as goal
 
-pub returns-then-not-is_open-clause-follows : goal.returns-then-not-is_open-clause-follows
-returns-then-not-is_open-clause-follows c w st = closed_stands c.args.self.now w c.args.k c.args.bytes.now (sym c.if-not-is_open.ensures) st
+pub returns-in_default-clause-follows : goal.returns-in_default-clause-follows
+returns-in_default-clause-follows c = λ w st. came_none c.args.self.now w c.args.k c.args.bytes.now (c.in_default.ensures.none refl) st
+
+pub is_closed-requires : goal.is_closed-requires
+is_closed-requires c = c.in-Some.ensures.some.within
+
+pub returns-then-is_closed-clause-follows : goal.returns-then-is_closed-clause-follows
+returns-then-is_closed-clause-follows c = λ w st.
+    let v = c.args.self.now in
+    let at = c.in-Some.ensures.some in
+    let x : ConnectionValue = get_or v.connections c.in-Some.i (new_connection 0) in
+    let is = there_at v.connections c.in-Some.i (new_connection 0) at.within in
+    came_closed v w (next_number v.last) c.args.k c.in-Some.i x c.args.bytes.now c.in-Some.ensures.rise at is (sym (c.is_closed.ensures.is x is) ∙ c.if-is_closed.true) st
+
+pub read-requires : goal.read-requires
+read-requires c =
+    let v = c.args.self.now in
+    let at = c.in-Some.ensures.some in
+    let x : ConnectionValue = get_or v.connections c.in-Some.i (new_connection 0) in
+    let is = there_at v.connections c.in-Some.i (new_connection 0) at.within in
+    record { open_ = open_at c.in-Some.i v.connections x at.within is (sym (c.is_closed.ensures.is x is) ∙ c.if-is_closed.false) }
 
 pub returns-clause-follows : goal.returns-clause-follows
-returns-clause-follows c w st =
-    on_ok_follows c.hear.result _ _
-    (λ hall. came_stands c.args.self.now _ w c.args.k c.args.bytes.now c.in_ok-cut.cut.frames.items c.in_ok-cut.cut.fault refl refl hall (sym c.if-not-is_open.ensures) c.in_ok-cut.ensures st)
-    c.hear.ensures
-
-pub returns-clause-age : goal.returns-clause-age
-returns-clause-age c =
-    on_ok_follows c.hear.result _ _ (λ hall. ap (λ (w : World). w.age) hall ∙ heard_age c.args.self.now.hall c.args.k c.in_ok-cut.cut.frames.items c.in_ok-cut.cut.fault) c.hear.ensures
+returns-clause-follows c = λ w st.
+    let v = c.args.self.now in
+    let at = c.in-Some.ensures.some in
+    let x : ConnectionValue = get_or v.connections c.in-Some.i (new_connection 0) in
+    let is = there_at v.connections c.in-Some.i (new_connection 0) at.within in
+    came_result c.read.result v c.read.new.self w (next_number v.last) c.args.k c.in-Some.i x c.args.bytes.now c.in-Some.ensures.rise at is (sym (c.is_closed.ensures.is x is) ∙ c.if-is_closed.false)
+    (λ count before fine part. c.read.ensures.done count x is before fine part) st

@@ -1,7 +1,9 @@
-use Rattle.std.proofs.Common.{◌∙◌, ap, map}
-use Rattle.mc_model.specs.World.{World, Session}
-use Rattle.mc_server.proofs.Bare.{ids_bare}
+use Rattle.std.proofs.Common.{sym, subst, ◌∙◌}
+use Rattle.mc_server.specs.Served.{ServerValue}
+use Rattle.mc_server.specs.Stands.{Stands}
+use Rattle.mc_server.specs.contracts.server.Server.{the_view}
+use Rattle.mc_server.proofs.Standing.{asked_ids}
 use Rattle.mc_server.proofs.server.Server.connections.Goals as goal
 
 pub returns : goal.returns
-returns c w st = c.ids.ensures ∙ ap (λ (v : World). map (λ (s : Session). s.id) v.sessions) st.hall ∙ ids_bare w.sessions
+returns c = λ w st. c.as_slice.ensures.value ∙ sym c.self.invariant.named ∙ asked_ids (the_view c.self.inside) w (subst (λ (u : ServerValue). Stands u w) (sym c.self.view_is) st)

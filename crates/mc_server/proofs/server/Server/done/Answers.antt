@@ -1,6 +1,10 @@
-use Rattle.std.proofs.Common.{◌∙◌}
+use Rattle.std.proofs.Common.{ap, ◌∙◌}
+use Rattle.mc_server.specs.Asking.{is_over}
 use Rattle.mc_server.proofs.Standing.{asked_done}
 use Rattle.mc_server.proofs.server.Server.done.Goals as goal
 
-pub returns : goal.returns
-returns c w st = c.done.ensures ∙ asked_done c.args.self.now.hall w c.args.k st.hall
+pub returns-in-Some : goal.returns-in-Some
+returns-in-Some c = λ w st. c.is_done.ensures ∙ ap is_over c.in-Some.ensures ∙ asked_done c.args.self.now w c.args.k st
+
+pub returns-in-None : goal.returns-in-None
+returns-in-None c = λ w st. ap is_over c.in-None.ensures ∙ asked_done c.args.self.now w c.args.k st

@@ -1,11 +1,19 @@
-use Rattle.std.proofs.Common.{◌∙◌, sym, ap, take, length}
+use Rattle.std.proofs.Common.{◌≡◌, ℕ, List, [], refl, sym, ap, ◌∙◌, take, length}
+use Rattle.mc_server.specs.Asking.{owed_of}
 use Rattle.mc_server.proofs.Standing.{asked_owed}
 use Rattle.mc_server.proofs.server.Server.front.Goals as goal
 
-pub returns-clause-first : goal.returns-clause-first
-returns-clause-first c w st = ap (take (length c.front.result.now)) (sym (asked_owed c.args.self.now.hall w c.args.k st.hall)) ∙ c.front.ensures.first
+pub returns-in-Some-clause-first : goal.returns-in-Some-clause-first
+returns-in-Some-clause-first c = λ w st.
+    let same = ap owed_of c.in-Some.ensures ∙ asked_owed c.args.self.now w c.args.k st in
+    ap (take (length c.front.result.now)) (sym same) ∙ c.front.ensures.first
 
-pub returns-clause-empty : goal.returns-clause-empty
-returns-clause-empty c w st =
-    let same = asked_owed c.args.self.now.hall w c.args.k st.hall in
+pub returns-in-Some-clause-empty : goal.returns-in-Some-clause-empty
+returns-in-Some-clause-empty c = λ w st.
+    let same = ap owed_of c.in-Some.ensures ∙ asked_owed c.args.self.now w c.args.k st in
     (λ e. sym same ∙ c.front.ensures.empty.0 e, λ e. c.front.ensures.empty.1 (same ∙ e))
+
+pub returns-in-None-clause-empty : goal.returns-in-None-clause-empty
+returns-in-None-clause-empty c = λ w st.
+    let same : ◌≡◌ {A = List ℕ} [] _ = ap owed_of c.in-None.ensures ∙ asked_owed c.args.self.now w c.args.k st in
+    (λ e. sym same, λ e. refl)

@@ -1,0 +1,18 @@
+use Rattle.std.proofs.Common.{◌≡◌, ℕ, ◌≤◌, length, map, take, drop}
+use Rattle.mc_flush.specs.Readying.{SameWorld}
+use Rattle.mc_model.specs.World.{World, Session}
+use Rattle.mc_server.specs.Served.{playing_of, sessions_of}
+use Rattle.mc_server.specs.SideBySide.{SideBySide}
+use Rattle.mc_server.specs.Ticking.{IsScene, IsShown}
+use Rattle.mc_server.proofs.server.showing.show_all.Given as goal
+
+-- those behind are as the tick makes them, and the others are as they were
+abbrev pub invariant-loop-i : goal.invariant-loop-i
+invariant-loop-i l = record {
+  shown : (w : World) → IsScene w l.settings l.fn.land l.list.present → SideBySide (IsShown w l.list.last l.list.present) (take l.i l.fn.connections.items) (take l.i l.connections.items);
+  left_ : drop l.i l.connections.items ≡ drop l.i l.fn.connections.items;
+  land : SameWorld l.fn.land l.land;
+  named : map (λ (s : Session). s.id) (sessions_of l.connections.items) ≡ map (λ (s : Session). s.id) (sessions_of l.fn.connections.items);
+  fewer : length (playing_of (sessions_of l.connections.items)) ≤ length (playing_of (sessions_of l.fn.connections.items));
+  many : length l.connections.items ≡ length l.fn.connections.items;
+}

@@ -1,0 +1,87 @@
+//! What is kept of a connection and of its player, field by field: a new one is named here.
+
+use super::Connection;
+use crate::player::Player;
+use mc_fields::Spot;
+use mc_flush::Mark;
+use mc_frame::{Outbox, Splitter};
+use mc_model::{Cause, Notes};
+use mc_nbt::Text;
+use mc_session::Session;
+use std::alloc::Global;
+use std::test::Fail;
+
+fn an_allocator(_part: &Global) {}
+
+fn a_number(_part: &u32) {}
+
+fn an_identifier(_part: &u128) {}
+
+fn a_small_number(_part: &i8) {}
+
+fn a_session(_part: &Session) {}
+
+fn a_splitter(_part: &Splitter) {}
+
+fn an_outbox(_part: &Outbox) {}
+
+fn a_mark(_part: &Mark) {}
+
+fn a_cause(_part: &Option<Cause>) {}
+
+fn a_player(_part: &Player) {}
+
+fn a_name(_part: &Text) {}
+
+fn a_spot(_part: &Spot) {}
+
+fn notes_of_a_player(_part: &Notes) {}
+
+/// Names every field of a player.
+fn name_player(player: &Player) {
+    let Player {
+        name,
+        uuid,
+        eid,
+        view_byte,
+        spot,
+        notes,
+    } = player;
+    a_name(name);
+    an_identifier(uuid);
+    a_number(eid);
+    a_small_number(view_byte);
+    a_spot(spot);
+    notes_of_a_player(notes);
+}
+
+/// Names every field of a connection.
+fn name_fields(connection: &Connection) {
+    let Connection {
+        alloc,
+        id,
+        session,
+        splitter,
+        outbox,
+        mark,
+        cause,
+        player,
+    } = connection;
+    an_allocator(alloc);
+    a_number(id);
+    a_session(session);
+    a_splitter(splitter);
+    an_outbox(outbox);
+    a_mark(mark);
+    a_cause(cause);
+    a_player(player);
+    name_player(player);
+}
+
+#[test]
+fn a_record_keeps_a_connection_and_its_player(rt: HostRuntime) -> Result<(), Fail> {
+    let connection = Connection::new(rt.alloc(), 7);
+    name_fields(&connection);
+    assert_eq!(rt; connection.id(), 7);
+    Ok(())
+}
