@@ -19,3 +19,4 @@ pub mod StatusKept
 pub mod ReplayKept
 pub mod Runs
 pub mod Sent
+pub mod Passing

@@ -14,6 +14,7 @@ mod ended;
 mod hear;
 mod laws;
 mod lines;
+mod pieces;
 mod replay;
 mod replay_lines;
 mod reply;
@@ -22,6 +23,7 @@ mod script_line;
 mod stage;
 mod status;
 mod status_text;
+mod unplayed;
 mod words;
 
 pub use bad_input::{BadInput, InputFault};
