@@ -20,3 +20,4 @@ pub mod StatusKept
 pub mod ReplayKept
 pub mod Runs
 pub mod Sent
+pub mod Passing

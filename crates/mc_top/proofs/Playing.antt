@@ -16,9 +16,8 @@ use Rattle.mc_server.specs.Served.{ServerValue}
 use Rattle.mc_server.specs.Stands.{Stands}
 use Rattle.mc_top.specs.declared.script_line.ScriptEvent.{ScriptEvent}
 use Rattle.mc_top.specs.ReplayText.{told, takings, settled, replay_text, line_events, events_of}
-use Rattle.mc_top.specs.Replaying.{IsReached, all_taken, all_sent, all_forgotten, all_shut, HasPlayed, HasStopped, replay_world, line_ticks, ticks_of}
+use Rattle.mc_top.specs.Replaying.{IsReached, HasPlayed, HasStopped, replay_world, line_ticks, ticks_of}
 use Rattle.mc_top.proofs.Inputs.{grows_two}
-use Rattle.mc_top.proofs.Taking.{ids_of, all_settled, all_told}
 
 -- ---- worlds that come about
 
@@ -43,18 +42,6 @@ reached_apart w r = let P : World → Type 0 = λ v. AreApart v.sessions in subs
 pub reached_world : (w : World) (events : List Event) → IsReached w → IsReached (replay_world w events)
 reached_world w [] r = r
 reached_world w (e ∷ events) r = reached_world (settled (step w e).world) events (reached_history (step w e).world (takings (step w e).world) (reached_step w e r))
-
--- ---- the lines of a world
-
-pub lines_put : (w : World) (server : ServerValue) (ids old half new : List ℕ) → IsReached w → ids ≡ ids_of w.sessions → Stands server (all_forgotten ids (all_taken ids w)) →
-    half ≡ old ++ all_sent ids w → new ≡ half ++ all_shut ids (all_taken ids w) → Stands server (settled w) × (new ≡ old ++ told w)
-lines_put w server ids old half new r is stands sent shut =
-    let apart = reached_apart w r in
-    let P : World → Type 0 = λ v. Stands server v in (
-      subst P (ap (λ (ks : List ℕ). all_forgotten ks (all_taken ks w)) is ∙ all_settled w apart) stands,
-      shut ∙ ap (λ (t : List ℕ). t ++ all_shut ids (all_taken ids w)) sent ∙ append_assoc old (all_sent ids w) (all_shut ids (all_taken ids w))
-          ∙ ap (λ (t : List ℕ). old ++ t) (ap (λ (ks : List ℕ). all_sent ks w ++ all_shut ks (all_taken ks w)) is ∙ all_told w apart),
-    )
 
 -- ---- some events and then others
 
@@ -90,7 +77,7 @@ stopped_two xs ys w middle held half held' a b =
     }
 
 -- some first part of a text is one of a longer text
-part_of : (n : ℕ) (text more : List ℕ) → (m : ℕ) × (take m (text ++ more) ≡ take n text)
+pub part_of : (n : ℕ) (text more : List ℕ) → (m : ℕ) × (take m (text ++ more) ≡ take n text)
 part_of n text more = elim (cases_le n (length text)) [
   | inl within ↦ (n, take-append-le n text more within)
   | inr past ↦ (length text, take-append_seam text more ∙ sym (take_all n text past))

@@ -10,6 +10,7 @@ pub mod Digits
 pub mod Script
 pub mod ScriptRead
 pub mod ReplayText
+pub mod Passes
 pub mod Replaying
 pub mod ReplayPromise
 pub mod Promises

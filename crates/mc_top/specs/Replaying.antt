@@ -14,6 +14,7 @@ use Rattle.mc_server.specs.Stands.{Stands}
 use Rattle.mc_server.specs.Asking.{owed_in, is_done_in}
 use Rattle.mc_top.specs.declared.script_line.ScriptEvent.{ScriptEvent}
 use Rattle.mc_top.specs.declared.script_line.ScriptEvent.TheVariants.{Ticks}
+use Rattle.mc_top.specs.Passes.{Passes}
 use Rattle.mc_top.specs.ReplayText.{settled, replay_text}
 
 -- a world that some events make of a new one
@@ -35,11 +36,11 @@ abbrev pub sent_by : ℕ → List ℕ → List ℕ
 sent_by k [] = []
 sent_by k (b ∷ bytes) = codes "sent " ++ decimal k ++ codes " " ++ encode_lower (b ∷ bytes) ++ 10 ∷ []
 
--- its first bytes were taken and put behind the others, or there were none
-abbrev pub TakesFront : ℕ → World → ServerValue → List ℕ → List ℕ → Bool → Type 0
-TakesFront k w server old new false = (owed_in k w ≡ []) × Stands server w × (new ≡ old)
-TakesFront k w server old new true =
-    (n : ℕ) × (n ≤ length (owed_in k w)) × Stands server (step w (took k n)).world × (new ≡ old ++ encode_lower (take n (owed_in k w)))
+-- its first bytes were taken and passed on as hex, or there were none
+abbrev pub TakesFront : ℕ → World → ServerValue → Option (List ℕ) → Option (List ℕ) → List ℕ → List ℕ → Bool → Type 0
+TakesFront k w server held held' old new false = (owed_in k w ≡ []) × Stands server w × Passes held held' old [] new []
+TakesFront k w server held held' old new true =
+    (n : ℕ) × (n ≤ length (owed_in k w)) × Stands server (step w (took k n)).world × Passes held held' old (encode_lower (take n (owed_in k w))) new []
 
 -- it was forgotten, where it was closed and owed nothing
 abbrev pub forgotten : ℕ → World → World

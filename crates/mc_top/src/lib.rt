@@ -13,11 +13,13 @@ mod digits;
 mod ended;
 mod laws;
 mod lines;
+mod pieces;
 mod replay;
 mod replay_lines;
 mod script;
 mod script_line;
 mod status;
+mod unplayed;
 mod words;
 
 pub use bad_input::{BadInput, InputFault};

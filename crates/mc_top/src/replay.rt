@@ -14,40 +14,12 @@ use crate::ended::Ended;
 use crate::replay_lines::put_lines;
 use crate::script::{Script, ScriptError};
 use crate::script_line::ScriptEvent;
+use crate::unplayed::Unplayed;
 use crate::words::Options;
 use mc_nbt::NoMemory;
 use mc_server::{Input, Server, Settings};
-use mc_wire::{Failed, InputError, Sink, Source, read_all, write_all};
+use mc_wire::{InputError, Sink, Source, read_all};
 use std::alloc::Global;
-
-/// Why a script was not played to its end.
-#[derive(Clone, Copy, Debug, PartialEq, Eq)]
-pub enum Unplayed {
-    /// The output failed.
-    Failed,
-    /// There was no memory.
-    NoMemory,
-}
-
-impl From<Failed> for Unplayed {
-    ghost use Rattle.mc_top.specs.declared.replay.Unplayed.TheVariants as unplayed;
-
-    ghost from_gives = { λ _ error. error ≡ unplayed.Failed };
-
-    fn from(_failure: Failed) -> Unplayed {
-        Unplayed::Failed
-    }
-}
-
-impl From<NoMemory> for Unplayed {
-    ghost use Rattle.mc_top.specs.declared.replay.Unplayed.TheVariants as unplayed;
-
-    ghost from_gives = { λ _ error. error ≡ unplayed.NoMemory };
-
-    fn from(_refusal: NoMemory) -> Unplayed {
-        Unplayed::NoMemory
-    }
-}
 
 /// A server of a new world.
 fn new_server(alloc: Global, options: Options) -> Result<Server, NoMemory>
@@ -68,7 +40,7 @@ fn new_server(alloc: Global, options: Options) -> Result<Server, NoMemory>
     Ok(server)
 }
 
-/// Plays one event, and writes its lines. `lines` is room for them.
+/// Plays one event, and writes its lines as they come. `lines` is room for those that wait.
 fn play<O: Sink>(
     alloc: Global,
     server: &mut Server,
@@ -87,8 +59,7 @@ fn play<O: Sink>(
 {
     lines.clear();
     server.event(input)?;
-    put_lines(alloc, server, lines)?;
-    write_all(out, lines)?;
+    put_lines(alloc, server, lines, out)?;
     Ok(())
 }
 

@@ -1,146 +1,185 @@
-ghost use Rattle.std.specs.Prelude.{◌≡◌, ◌<◌, ◌++◌, true, length, IfOk, OnOk};
+ghost use Rattle.std.specs.Prelude.{◌≡◌, [], IfOk, OnOk, OnErr, IsErrOf};
 ghost use Rattle.hex.specs.Hex.{encode_lower};
+ghost use Rattle.mc_wire.specs.Count.{Rose, StandsOrRises};
+ghost use Rattle.mc_wire.specs.Stream.{Grows};
 ghost use Rattle.mc_model.specs.World.{World};
 ghost use Rattle.mc_server.specs.Stands.{Stands, age_of};
 ghost use Rattle.mc_server.specs.Asking.{owed_in};
+ghost use Rattle.mc_top.specs.Passes.{Breaks, Passes};
 ghost use Rattle.mc_top.specs.ReplayText.{settled, told};
 ghost use Rattle.mc_top.specs.Replaying.{IsReached, TakesFront, taken, sent_in, forgotten, shut_in, all_taken, all_sent, all_forgotten, all_shut};
 
-use mc_nbt::NoMemory;
+use crate::pieces::{HEX_PIECE, put, put_hex, write_out};
+use crate::unplayed::Unplayed;
 use mc_server::Server;
+use mc_wire::Sink;
 use std::alloc::Global;
 
-/// Appends bytes as lower-case hex.
-fn write_hex(alloc: Global, bytes: &[u8], lines: &mut Vec<u8>) -> Result<(), NoMemory>
-    ensures { OnOk result (lines.new.items ≡ lines.old.items ++ encode_lower bytes.now) }
-{
-    let digits = hex::encode(alloc, bytes)?;
-    lines.extend_from_slice(digits.as_bytes())?;
-    Ok(())
-}
-
-/// Takes the first bytes that a connection is owed and appends them as hex, and says whether there were
+/// Takes the first bytes that a connection is owed and puts them as hex, and says whether there were
 /// any.
-fn take_front(
-    alloc: Global,
+fn take_front<O: Sink>(
     server: &mut Server,
     connection: u32,
     lines: &mut Vec<u8>,
-) -> Result<bool, NoMemory>
-    ensures taken { (w : World) → Stands server.old w →
-        IfOk result (λ more. TakesFront connection w server.new lines.old.items lines.new.items more) }
-    ensures longer { IfOk result (λ more. more ≡ true → length lines.old.items < length lines.new.items) }
+    out: &mut O,
+) -> Result<bool, Unplayed>
+    ensures taken { (w : World) → Stands server.old w → IfOk result (λ more.
+        TakesFront connection w server.new (O.held out.old) (O.held out.new) lines.old.items lines.new.items more) }
+    ensures breaks { (w : World) → Stands server.old w → OnErr result
+        (Breaks (O.held out.old) (O.held out.new) lines.old.items (encode_lower (owed_in connection w))) }
     ensures age { age_of server.new ≡ age_of server.old }
+    ensures failed { IsErrOf result Unplayed.Failed → Rose (O.faults out.old) (O.faults out.new) }
+    ensures counts { StandsOrRises (O.faults out.old) (O.faults out.new) }
 {
     let front = server.front(connection);
-    let count = front.len();
+    let count = front.len().min(HEX_PIECE);
     if count == 0 {
         return Ok(false);
     }
-    write_hex(alloc, front, lines)?;
+    put_hex(&front[..count], lines, out)?;
     server.took(connection, count);
     Ok(true)
 }
 
-/// Takes all that a connection is owed and appends it as hex. It may come in several pieces.
-fn take_owed(
-    alloc: Global,
+/// Takes all that a connection is owed and puts it as hex, piece by piece.
+fn take_owed<O: Sink>(
     server: &mut Server,
     connection: u32,
     lines: &mut Vec<u8>,
-) -> Result<(), NoMemory>
+    out: &mut O,
+) -> Result<(), Unplayed>
     ensures taken { (w : World) → Stands server.old w → OnOk result (Stands server.new (taken connection w)
-        × (lines.new.items ≡ lines.old.items ++ encode_lower (owed_in connection w))) }
+        × Passes (O.held out.old) (O.held out.new) lines.old.items (encode_lower (owed_in connection w)) lines.new.items []) }
+    ensures breaks { (w : World) → Stands server.old w → OnErr result
+        (Breaks (O.held out.old) (O.held out.new) lines.old.items (encode_lower (owed_in connection w))) }
     ensures age { age_of server.new ≡ age_of server.old }
+    ensures failed { IsErrOf result Unplayed.Failed → Rose (O.faults out.old) (O.faults out.new) }
+    ensures counts { StandsOrRises (O.faults out.old) (O.faults out.new) }
 {
-    while take_front(alloc, server, connection, lines)? {}
-    Ok(())
+    for _piece in 0..u64::MAX {
+        if !take_front(server, connection, lines, out)? {
+            return Ok(());
+        }
+    }
+    // No memory holds so many pieces.
+    Err(Unplayed::NoMemory)
 }
 
-/// Takes all that a connection is owed, and appends the line that tells it, where it is owed anything.
-fn put_sent(
+/// Takes all that a connection is owed, and puts the line that tells it, where it is owed anything.
+fn put_sent<O: Sink>(
     alloc: Global,
     server: &mut Server,
     connection: u32,
     lines: &mut Vec<u8>,
-) -> Result<(), NoMemory>
+    out: &mut O,
+) -> Result<(), Unplayed>
     ensures taken { (w : World) → Stands server.old w → OnOk result (Stands server.new (taken connection w)
-        × (lines.new.items ≡ lines.old.items ++ sent_in connection w)) }
+        × Passes (O.held out.old) (O.held out.new) lines.old.items (sent_in connection w) lines.new.items []) }
+    ensures breaks { (w : World) → Stands server.old w → OnErr result
+        (Breaks (O.held out.old) (O.held out.new) lines.old.items (sent_in connection w)) }
     ensures age { age_of server.new ≡ age_of server.old }
+    ensures failed { IsErrOf result Unplayed.Failed → Rose (O.faults out.old) (O.faults out.new) }
+    ensures counts { StandsOrRises (O.faults out.old) (O.faults out.new) }
 {
     if server.front(connection).is_empty() {
         return Ok(());
     }
     let head = format!(in alloc; "sent {connection} ")?;
-    lines.extend_from_slice(head.as_bytes())?;
-    take_owed(alloc, server, connection, lines)?;
-    lines.push(b'\n')?;
+    put(head.as_bytes(), lines, out)?;
+    take_owed(server, connection, lines, out)?;
+    put(b"\n", lines, out)?;
     Ok(())
 }
 
 /// The same for some connections, one after another.
-fn put_all_sent(
+fn put_all_sent<O: Sink>(
     alloc: Global,
     server: &mut Server,
     connections: &[u32],
     lines: &mut Vec<u8>,
-) -> Result<(), NoMemory>
+    out: &mut O,
+) -> Result<(), Unplayed>
     ensures taken { (w : World) → Stands server.old w → OnOk result (Stands server.new (all_taken connections.now w)
-        × (lines.new.items ≡ lines.old.items ++ all_sent connections.now w)) }
+        × Passes (O.held out.old) (O.held out.new) lines.old.items (all_sent connections.now w) lines.new.items []) }
+    ensures breaks { (w : World) → Stands server.old w → OnErr result
+        (Breaks (O.held out.old) (O.held out.new) lines.old.items (all_sent connections.now w)) }
     ensures age { age_of server.new ≡ age_of server.old }
+    ensures failed { IsErrOf result Unplayed.Failed → Rose (O.faults out.old) (O.faults out.new) }
+    ensures counts { StandsOrRises (O.faults out.old) (O.faults out.new) }
 {
     for connection in connections {
-        put_sent(alloc, server, *connection, lines)?;
+        put_sent(alloc, server, *connection, lines, out)?;
     }
     Ok(())
 }
 
-/// Forgets a connection that is closed and owed nothing, and appends the line that tells it.
-fn put_shut(
+/// Forgets a connection that is closed and owed nothing, and puts the line that tells it.
+fn put_shut<O: Sink>(
     alloc: Global,
     server: &mut Server,
     connection: u32,
     lines: &mut Vec<u8>,
-) -> Result<(), NoMemory>
+    out: &mut O,
+) -> Result<(), Unplayed>
     ensures forgotten { (w : World) → Stands server.old w → OnOk result (Stands server.new (forgotten connection w)
-        × (lines.new.items ≡ lines.old.items ++ shut_in connection w)) }
+        × Passes (O.held out.old) (O.held out.new) lines.old.items (shut_in connection w) lines.new.items []) }
+    ensures breaks { (w : World) → Stands server.old w → OnErr result
+        (Breaks (O.held out.old) (O.held out.new) lines.old.items (shut_in connection w)) }
     ensures age { age_of server.new ≡ age_of server.old }
+    ensures failed { IsErrOf result Unplayed.Failed → Rose (O.faults out.old) (O.faults out.new) }
+    ensures counts { StandsOrRises (O.faults out.old) (O.faults out.new) }
 {
     if !server.done(connection) {
         return Ok(());
     }
     let line = format!(in alloc; "shut {connection}\n")?;
-    lines.extend_from_slice(line.as_bytes())?;
+    put(line.as_bytes(), lines, out)?;
     server.forget(connection);
     Ok(())
 }
 
 /// The same for some connections, one after another.
-fn put_all_shut(
+fn put_all_shut<O: Sink>(
     alloc: Global,
     server: &mut Server,
     connections: &[u32],
     lines: &mut Vec<u8>,
-) -> Result<(), NoMemory>
+    out: &mut O,
+) -> Result<(), Unplayed>
     ensures forgotten { (w : World) → Stands server.old w → OnOk result (Stands server.new (all_forgotten connections.now w)
-        × (lines.new.items ≡ lines.old.items ++ all_shut connections.now w)) }
+        × Passes (O.held out.old) (O.held out.new) lines.old.items (all_shut connections.now w) lines.new.items []) }
+    ensures breaks { (w : World) → Stands server.old w → OnErr result
+        (Breaks (O.held out.old) (O.held out.new) lines.old.items (all_shut connections.now w)) }
     ensures age { age_of server.new ≡ age_of server.old }
+    ensures failed { IsErrOf result Unplayed.Failed → Rose (O.faults out.old) (O.faults out.new) }
+    ensures counts { StandsOrRises (O.faults out.old) (O.faults out.new) }
 {
     for connection in connections {
-        put_shut(alloc, server, *connection, lines)?;
+        put_shut(alloc, server, *connection, lines, out)?;
     }
     Ok(())
 }
 
-/// Takes all that each connection is owed, forgets those that are closed, and appends the lines that
-/// tell it.
-pub fn put_lines(alloc: Global, server: &mut Server, lines: &mut Vec<u8>) -> Result<(), NoMemory>
+/// Takes all that each connection is owed, forgets those that are closed, and writes the lines that
+/// tell it. `lines` is room for those that wait to be written; none waits before or after.
+pub fn put_lines<O: Sink>(
+    alloc: Global,
+    server: &mut Server,
+    lines: &mut Vec<u8>,
+    out: &mut O,
+) -> Result<(), Unplayed>
+    requires { lines.old.items ≡ [] }
     ensures settled { (w : World) → Stands server.old w → IsReached w → OnOk result (Stands server.new (settled w)
-        × (lines.new.items ≡ lines.old.items ++ told w)) }
+        × Grows (O.held out.old) (O.held out.new) (told w)) }
+    ensures breaks { (w : World) → Stands server.old w → IsReached w → OnErr result
+        (Breaks (O.held out.old) (O.held out.new) [] (told w)) }
     ensures age { age_of server.new ≡ age_of server.old }
+    ensures failed { IsErrOf result Unplayed.Failed → Rose (O.faults out.old) (O.faults out.new) }
+    ensures counts { StandsOrRises (O.faults out.old) (O.faults out.new) }
 {
     let connections = Vec::from_slice(alloc, server.connections())?;
-    put_all_sent(alloc, server, &connections, lines)?;
-    put_all_shut(alloc, server, &connections, lines)?;
+    put_all_sent(alloc, server, &connections, lines, out)?;
+    put_all_shut(alloc, server, &connections, lines, out)?;
+    write_out(lines, out)?;
     Ok(())
 }

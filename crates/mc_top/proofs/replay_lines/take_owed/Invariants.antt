@@ -1,15 +1,13 @@
-use Rattle.std.proofs.Common.{◌≡◌, ◌-◌, ◌^◌, length}
+use Rattle.std.proofs.Common.{◌≡◌}
+use Rattle.mc_wire.specs.Count.{StandsOrRises}
 use Rattle.mc_model.specs.World.{World}
 use Rattle.mc_server.specs.Stands.{Stands, age_of}
 use Rattle.mc_top.proofs.Tellings.{IsTaking}
 use Rattle.mc_top.proofs.replay_lines.take_owed.Given as goal
 
-abbrev pub invariant-loop : goal.invariant-loop
-invariant-loop l = record {
-  taking : (w : World) → Stands l.fn.server w → IsTaking l.fn.connection w l.server l.fn.lines.items l.lines.items;
+abbrev pub invariant-loop-piece : goal.invariant-loop-piece
+invariant-loop-piece g l = record {
+  taking : (w : World) → Stands l.fn.server w → IsTaking l.fn.connection w l.server (g.O.Sink.held l.fn.out) (g.O.Sink.held l.out) l.fn.lines.items l.lines.items;
   age : age_of l.server ≡ age_of l.fn.server;
+  counts : StandsOrRises (g.O.Sink.faults l.fn.out) (g.O.Sink.faults l.out);
 }
-
--- each piece makes the lines longer, and no list is longer than this
-abbrev pub decreases-loop : goal.decreases-loop
-decreases-loop l = 2 ^ 63 - length l.lines.items
