@@ -2,5 +2,5 @@ use Rattle.std.proofs.Common.{◌≡◌, true}
 use Rattle.mc_vectors.proofs.lobbies.steps.Given as goal
 
 -- it listens before each step
-abbrev pub invariant-loop-_ : goal.invariant-loop-_
-invariant-loop-_ g l = g.L.Lobby.listens l.lobby ≡ true
+abbrev pub invariant-loop : goal.invariant-loop
+invariant-loop g l = g.L.Lobby.listens l.lobby ≡ true
