@@ -87,7 +87,7 @@ piece p f n i (suc m) sized lt passes =
           piece p f n i m (AreSized-less f n m sized) below passes
     ]
 
--- the same where each number passes
+-- a piece, where each number passes
 pub piece_all : (f : ℕ → List ℕ) (n i m : ℕ) → AreSized f n m → i < m →
     take n (drop (i * n) (joined f m)) ≡ f i
 piece_all f n i m sized lt =

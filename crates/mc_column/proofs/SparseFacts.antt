@@ -110,9 +110,11 @@ written_more states bytes i low high lt written l h =
             (omega (arith, once, written.len)) ∙ h ∙ sym (wire_high states i))
         | inr past ↦ get_or-set_other (set bytes (2 * i) low) (2 * i + 1) k high 0 past ∙
             elim (cases_eq k (2 * i)) [
-              | inl even ↦ rw even (get_or-set_same bytes (2 * i) low 0 (omega (arith, written.len)) ∙
+              | inl even ↦ rw even
+                  (get_or-set_same bytes (2 * i) low 0 (omega (arith, written.len)) ∙
                   l ∙ sym (wire_low states i))
-              | inr other ↦ get_or-set_other bytes (2 * i) k low 0 other ∙ written.done k (omega arith)
+              | inr other ↦ get_or-set_other bytes (2 * i) k low 0 other ∙
+                  written.done k (omega arith)
             ]
       ];
     }

@@ -115,9 +115,11 @@ pub fn read_body(
         PlacedGives (λ body. body) result (Ok body) }
     ensures short { IsErrOf result (faults.Field (fault_at Short (length bytes.now))) ↔
         (length bytes.now < spec.body_size mask sky ground_up) }
-    ensures long { IsErrOf result (faults.Field (fault_at BadLength (spec.body_size mask sky ground_up))) ↔
+    ensures long { IsErrOf result
+        (faults.Field (fault_at BadLength (spec.body_size mask sky ground_up))) ↔
         (spec.body_size mask sky ground_up < length bytes.now) }
-    ensures reads { PlacedGives (λ body. body) result (spec.body_read mask sky ground_up bytes.now) }
+    ensures reads { PlacedGives (λ body. body) result
+        (spec.body_read mask sky ground_up bytes.now) }
 {
     read_exactly(alloc, bytes, mask, sky, ground_up)
 }
@@ -131,7 +133,8 @@ fn read_exactly(
     sky: bool,
     ground_up: bool,
 ) -> Result<Body, ReadFault>
-    ensures reads { PlacedGives (λ body. body) result (spec.body_read mask sky ground_up bytes.now) }
+    ensures reads { PlacedGives (λ body. body) result
+        (spec.body_read mask sky ground_up bytes.now) }
     ensures memory { IsErrOf result faults.NoMemory → length bytes.now ≡
         spec.body_size mask sky ground_up }
 {

@@ -167,6 +167,7 @@ impl Column {
         requires { mask ≡ column_mask self.now }
         ensures { result ≡ length (column_bytes self.now) }
     {
+        // Only the prover needs this line: what the column is.
         let _ = &self.sections;
         body_size(mask, true, true)
     }

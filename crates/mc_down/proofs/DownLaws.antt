@@ -6,7 +6,7 @@ use Rattle.mc_nbt.specs.Reading.{stop_at}
 use Rattle.mc_nbt.specs.Combine.{checked_ok}
 use Rattle.mc_fields.specs.RowLaws.{append_spelling, row_tied, family_tied}
 use Rattle.mc_fields.specs.RowLaws.{spelled_fits, fits_spelled, spelled_again}
-use Rattle.mc_fields.specs.Row.{Spells, IsTied, frame_read}
+use Rattle.mc_fields.specs.Row.{Spells, IsTied, packet_read}
 use Rattle.mc_down.specs.declared.down.Down.{Down}
 use Rattle.mc_down.specs.declared.down.Down.TheVariants.{KeepAlive, Raw}
 use Rattle.mc_down.specs.Down.{is_raw, raw, entry_of, rows_from_00, rows_from_08, rows_from_13}
@@ -43,7 +43,7 @@ pub spelled : (p : Down) → FitsDown p → SpellsDown p (spelling_of p)
 spelled (KeepAlive number) fits = fits_spelled (entry_of (KeepAlive number)) fits
 spelled p fits = fits_spelled (entry_of p) fits
 
-pub again : (p : Down) → FitsDown p → frame_read rows (spelling_of p) ≡ Ok p
+pub again : (p : Down) → FitsDown p → packet_read rows (spelling_of p) ≡ Ok p
 again (KeepAlive number) fits = spelled_again rows (KeepAlive number) (tied (KeepAlive number)) fits
 again p fits = spelled_again rows p (tied p) fits
 

@@ -13,6 +13,7 @@ use Rattle.mc_fields.specs.VarintFormat.{varint}
 use Rattle.mc_fields.specs.Integers.{byte, ubyte, short, ushort, int, long}
 use Rattle.mc_fields.specs.Integers.{float, double, uuid, boolean}
 use Rattle.mc_fields.specs.Position.{position}
+use Rattle.mc_fields.specs.TextFormat.{string}
 use Rattle.mc_fields.specs.Counted.{counted, listed, short_count, sized}
 use Rattle.mc_fields.specs.Row.{Row, packet, Entry, of_row, Spells, Fits, spelling, append}
 use Rattle.mc_fields.specs.Row.{Rows, is_one_of, size_of}
@@ -31,7 +32,7 @@ use Rattle.mc_down.specs.declared.down.Down.TheVariants.{SetSlot, WindowItems, W
 use Rattle.mc_down.specs.declared.down.Down.TheVariants.{Confirm, SignEditor, List as PlayerList}
 use Rattle.mc_down.specs.declared.down.Down.TheVariants.{Abilities, TabComplete, Plugin, Disconnect}
 use Rattle.mc_down.specs.declared.down.Down.TheVariants.{Difficulty, Raw}
-use Rattle.mc_down.specs.Fields.{angle, string, chat_text, speed, is_positive}
+use Rattle.mc_down.specs.Fields.{angle, chat_text, speed, is_positive}
 use Rattle.mc_down.specs.Fields.{cell_change, is_horse}
 use Rattle.mc_down.specs.Metadata.{metadata}
 use Rattle.mc_down.specs.PlayerChange.{is_action, player}

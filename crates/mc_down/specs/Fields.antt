@@ -7,7 +7,7 @@ use Rattle.mc_nbt.specs.Format.{Format, Anything}
 use Rattle.mc_nbt.specs.Combine.{◌then◌, IsView, via}
 use Rattle.mc_fields.specs.Flat.{tuple3}
 use Rattle.mc_fields.specs.VarintFormat.{var_int}
-use Rattle.mc_fields.specs.TextFormat.{text}
+use Rattle.mc_fields.specs.TextFormat.{string}
 use Rattle.mc_fields.specs.Integers.{ubyte, short}
 use Rattle.mc_down.specs.declared.record.Record.{Record}
 use Rattle.mc_down.specs.declared.record.Speed.{Speed}
@@ -16,15 +16,12 @@ use Rattle.mc_down.specs.declared.record.Speed.{Speed}
 abbrev pub angle : {Rest : List ℕ → Type 0} → Format Rest ℕ
 angle {Rest} = ubyte {Rest = Rest}
 
--- a text without a limit of its own
-abbrev pub string : {Rest : List ℕ → Type 0} → Format Rest (List ℕ)
-string {Rest} = text {Rest = Rest} 32767
-
 -- a text that is JSON
 abbrev pub chat_text : {Rest : List ℕ → Type 0} → Format Rest (List ℕ)
-chat_text {Rest} = text {Rest = Rest} 32767
+chat_text {Rest} = string {Rest = Rest}
 
--- ---- the speed of a spawned object: it is there where the number before it is above 0 (a rule of this project)
+-- ---- the speed of a spawned object: it is there where the number before it is above 0 (a rule of
+-- this project)
 
 abbrev pub is_positive : ℤ → Bool
 is_positive (pos n) = nat_lt 0 n

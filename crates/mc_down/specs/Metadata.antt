@@ -19,7 +19,7 @@ use Rattle.mc_slots.specs.SlotFormat.{slot}
 use Rattle.mc_down.specs.declared.meta.MetaEntry.{MetaEntry}
 use Rattle.mc_down.specs.declared.meta.MetaValue.{MetaValue}
 use Rattle.mc_down.specs.declared.meta.MetaValue.TheVariants as values
-use Rattle.mc_down.specs.Fields.{string}
+use Rattle.mc_fields.specs.TextFormat.{string}
 
 -- the type of a value
 abbrev pub type_of : MetaValue → ℕ

@@ -15,7 +15,8 @@ use Rattle.mc_down.specs.declared.player.Property.{Property}
 use Rattle.mc_down.specs.declared.player.PlayerChange.{PlayerChange}
 use Rattle.mc_down.specs.declared.player.PlayerChange.TheVariants.{Join, Number, Shown, Leave}
 use Rattle.mc_down.specs.declared.player.Player.{Player}
-use Rattle.mc_down.specs.Fields.{string, chat_text}
+use Rattle.mc_fields.specs.TextFormat.{string}
+use Rattle.mc_down.specs.Fields.{chat_text}
 
 -- ---- a property: its name, its value, and where it is signed the signature
 

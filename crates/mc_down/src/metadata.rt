@@ -90,6 +90,7 @@ fn take_entry(alloc: Global, cursor: &mut Cursor<'_>) -> Result<Option<MetaEntry
 {
     let bytes = cursor.rest();
     let entry = entry_or_end(alloc, cursor)?;
+    // Only the prover needs these lines: a byte at least was taken.
     let left = cursor.rest().len();
     prove!(left < bytes.len());
     Ok(entry)

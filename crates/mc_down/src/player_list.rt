@@ -21,8 +21,8 @@ pub fn read_player_list(alloc: Global, cursor: &mut Cursor<'_>) -> Result<Down, 
     Ok(Down::List(action, changes))
 }
 
-/// Appends the id, an action and what it says of each player. Without memory some first part of them
-/// may be there.
+/// Appends the id, an action and what it says of each player. Without memory some first part of
+/// them may be there.
 pub fn write_player_list(action: &i32, changes: &Players, out: &mut Vec<u8>) -> Result<(), NoMemory>
     requires { row_fits player_list (action.now, changes.now) }
     ensures ok { OnOk result (out.new.items ≡ row_append player_list (action.now, changes.now)

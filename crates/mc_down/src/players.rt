@@ -10,7 +10,7 @@ ghost use Rattle.mc_nbt.specs.Many.{AllFit, all_append};
 ghost use Rattle.mc_fields.specs.Varint.{varint_read};
 ghost use Rattle.mc_fields.specs.VarintFormat.{varint};
 ghost use Rattle.mc_fields.specs.Counted.{counted};
-ghost use Rattle.mc_down.specs.Fields.{string};
+ghost use Rattle.mc_fields.specs.TextFormat.{string};
 ghost use Rattle.mc_down.specs.PlayerChange.{is_action, property, joining, join_parts, join_back};
 ghost use Rattle.mc_down.specs.PlayerChange.{showing, shown_parts, change, player, own_fits};
 ghost use Rattle.mc_down.specs.PlayerChange.{own_append};

@@ -2,7 +2,7 @@
 
 ghost use Rattle.std.specs.Prelude.{◌≡◌, true, List, ℕ, Ok, IfOk};
 ghost use Rattle.mc_nbt.specs.Reading.{Gives};
-ghost use Rattle.mc_fields.specs.Row.{GivesRow, GivesPacket, fields_read, id_read, frame_read};
+ghost use Rattle.mc_fields.specs.Row.{GivesRow, GivesPacket, fields_read, id_read, packet_read};
 ghost use Rattle.mc_fields.specs.Row.{packet_of, is_one_of};
 ghost use Rattle.mc_down.specs.declared.down.Down.{Down};
 ghost use Rattle.mc_down.specs.Down.{is_raw, raw, plugin, rows_from_00, rows_from_08, rows_from_13};
@@ -370,9 +370,9 @@ fn read_fields(alloc: Global, cursor: &mut Cursor<'_>, id: i32) -> Result<Down, 
 }
 
 /// The packet of a frame, or its first fault, with its place counted from the frame's end.
-#[tactic(auto, unfolding(mc_fields::specs::Row::frame_read))]
+#[tactic(auto, unfolding(mc_fields::specs::Row::packet_read))]
 fn packet_in(alloc: Global, frame: &[u8]) -> Result<Down, RowError>
-    ensures { GivesRow (λ packet. packet) result (frame_read rows frame.now) }
+    ensures { GivesRow (λ packet. packet) result (packet_read rows frame.now) }
 {
     let mut cursor = Cursor::new(frame);
     let id = take_varint(&mut cursor)?;
@@ -393,7 +393,7 @@ pub fn read_down(alloc: Global, frame: &[u8]) -> Result<Down, PacketRead>
     // A frame spells one packet at most.
     ensures one { (p q : Down) → SpellsDown p frame.now → SpellsDown q frame.now → p ≡ q }
     // Which fault it is.
-    ensures exact { GivesPacket result (packet_of frame.now (frame_read rows frame.now)) }
+    ensures exact { GivesPacket result (packet_of frame.now (packet_read rows frame.now)) }
 {
     packet_in(alloc, frame).map_err(|error| error.within(frame.len()))
 }

@@ -2,7 +2,7 @@
 #![tactic(auto, using(mc_nbt::proofs::Kept::kept_whole, mc_nbt::proofs::Kept::kept_same, mc_nbt::proofs::Kept::kept_by, mc_nbt::proofs::Kept::kept_past))]
 
 ghost use Rattle.std.specs.Prelude.{◌≡◌, ◌++◌, List, ℕ, Ok, OnOk, OnErr, take, length};
-ghost use Rattle.mc_fields.specs.Row.{frame_read, row_fits, row_append};
+ghost use Rattle.mc_fields.specs.Row.{packet_read, row_fits, row_append};
 ghost use Rattle.mc_down.specs.Down.{spawn_object, spawn_mob, rows, SpellsDown, FitsDown};
 ghost use Rattle.mc_down.specs.Down.{spelling_of, append_of};
 
@@ -275,7 +275,7 @@ pub fn write_down(packet: &Down, out: &mut Vec<u8>) -> Result<(), NoMemory>
     ensures ok { OnOk result (out.new.items ≡ out.old.items ++ spelling_of packet.now) }
     ensures spelled { SpellsDown packet.now (spelling_of packet.now) }
     // What is written is read as the same packet.
-    ensures again { frame_read rows (spelling_of packet.now) ≡ Ok packet.now }
+    ensures again { packet_read rows (spelling_of packet.now) ≡ Ok packet.now }
     ensures err { OnErr result (out.new.items ≡ out.old.items) }
 {
     let start = out.len();

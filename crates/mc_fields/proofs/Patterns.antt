@@ -12,8 +12,8 @@ use Rattle.std.proofs.lemmas.Nat.{pow-add, pow_pos}
 use lib.IntN.{ℤ, pos, negsuc, nat_abs, ◌*ℤ◌}
 use lib.Signed.{shr_z, mag}
 use mir.Val.{SFits}
-use Rattle.mc_fields.specs.Pattern.{Fixes, held, Turns, TurnsParts, IsVast, StandsFor}
-use Rattle.mc_fields.specs.Pattern.{StandsForTurn, exponent, power, significand, significand_of}
+use Rattle.mc_fields.specs.Pattern.{Fixes, held, Turns, TurnsParts, IsVast, Represents}
+use Rattle.mc_fields.specs.Pattern.{RepresentsTurn, exponent, power, significand, significand_of}
 use Rattle.mc_fields.specs.Pattern.{is_negative, with_sign}
 use Rattle.mc_fields.specs.PatternLaws.{floor_exact, floor_one, shift_floor, shift_then}
 use Rattle.mc_fields.proofs.Floors.{with_sign-times}
@@ -45,7 +45,7 @@ Made negative size top sig p =
     (exponent 52 11 p ≡ 1018 + top) × (p % 2 ^ 52 ≡ sig - 2 ^ 52) × (is_negative 52 11 p ≡ negative)
 
 stands_made : (negative : Bool) (size top sig p : ℕ) → Made negative size top sig p → 2 ^ 52 ≤ sig
-    → top < 32 → sig ≡ size * 2 ^ (52 - top) → StandsFor (with_sign negative size) p
+    → top < 32 → sig ≡ size * 2 ^ (52 - top) → Represents (with_sign negative size) p
 stands_made negative size top sig p made least few is =
     let hidden : significand 52 11 p ≡ sig =
     rw (made.0, made.1) (significand_hidden 52 (1018 + top) (sig - 2 ^ 52) (omega arith) ∙
@@ -64,7 +64,7 @@ stands_made negative size top sig p made least few is =
 
 pub stands_negative : (size top sig : ℕ) → 2 ^ 52 ≤ sig → sig < 2 * 2 ^ 52 → top < 32
     → sig ≡ size * 2 ^ (52 - top)
-    → StandsFor (with_sign true size) (9223372036854775808 + (1018 + top) * 4503599627370496 +
+    → Represents (with_sign true size) (9223372036854775808 + (1018 + top) * 4503599627370496 +
     (sig - 4503599627370496))
 stands_negative size top sig least most few is =
     stands_made true size top sig _ (
@@ -76,7 +76,7 @@ stands_negative size top sig least most few is =
 
 pub stands_positive : (size top sig : ℕ) → 2 ^ 52 ≤ sig → sig < 2 * 2 ^ 52 → top < 32
     → sig ≡ size * 2 ^ (52 - top)
-    → StandsFor (with_sign false size) ((1018 + top) * 4503599627370496 + (sig - 4503599627370496))
+    → Represents (with_sign false size) ((1018 + top) * 4503599627370496 + (sig - 4503599627370496))
 stands_positive size top sig least most few is =
     stands_made false size top sig _ (
       omega arith,
@@ -86,7 +86,7 @@ stands_positive size top sig least most few is =
     ) least few is
 
 -- the pattern of a number of 32 bits is read as the number again
-pub fixes_again : (n : ℤ) (p : ℕ) → SFits w32 n → StandsFor n p → Fixes p n
+pub fixes_again : (n : ℤ) (p : ℕ) → SFits w32 n → Represents n p → Fixes p n
 fixes_again n p fits stands = record {
   ends = stands.ends;
   parts = record {
@@ -100,7 +100,7 @@ fixes_again n p fits stands = record {
     held_few z few = omega (arith, ints, clamps, few)
 
 -- and as no other
-pub fixes_only : (n m : ℤ) (p : ℕ) → SFits w32 n → StandsFor n p → Fixes p m → m ≡ n
+pub fixes_only : (n m : ℤ) (p : ℕ) → SFits w32 n → Represents n p → Fixes p m → m ≡ n
 fixes_only n m p fits stands fixes =
     let again = fixes_again n p fits stands in
     let same = floor_one fixes.parts.floor again.parts.floor _ (2 ^ 1075) fixes.parts.floored
@@ -110,7 +110,7 @@ fixes_only n m p fits stands fixes =
 -- ---- binary32
 
 pub stands_turn : (a top sig : ℕ) → 2 ^ 23 ≤ sig → sig < 2 * 2 ^ 23 → top < 14
-    → sig ≡ a * 45 * 2 ^ (23 - top) → StandsForTurn a ((122 + top) * 8388608 + (sig - 8388608))
+    → sig ≡ a * 45 * 2 ^ (23 - top) → RepresentsTurn a ((122 + top) * 8388608 + (sig - 8388608))
 stands_turn a top sig least most few is =
     let at_exponent : exponent 23 8 ((122 + top) * 8388608 + (sig - 8388608)) ≡ 122 + top =
     omega arith in
@@ -137,7 +137,7 @@ scaled false s k e = omega (arith, ints, e)
 scaled true s k e = omega (arith, ints, e)
 
 -- 256/360 of the degrees that the pattern of an angle stands for is the angle
-turns_exact : (a p : ℕ) → StandsForTurn a p
+turns_exact : (a p : ℕ) → RepresentsTurn a p
     → with_sign (is_negative 23 8 p) (256 * (significand 23 8 p * 2 ^ power 23 8 p)) ≡
     (pos a *ℤ pos (360 * 2 ^ 150))
 turns_exact a p stands =
@@ -153,7 +153,7 @@ size_is false s k e = omega (arith, ints, e)
 size_is true s k e = omega (arith, ints, e)
 
 -- the pattern of an angle is read as the angle again
-pub turns_again : (a p : ℕ) → a < 256 → StandsForTurn a p → Turns p a
+pub turns_again : (a p : ℕ) → a < 256 → RepresentsTurn a p → Turns p a
 turns_again a p fits stands =
     let size : 32 * (significand 23 8 p * 2 ^ power 23 8 p) ≡ a * 45 * 2 ^ 150 =
     size_is (is_negative 23 8 p) _ _ stands.exact in
@@ -169,7 +169,7 @@ turns_again a p fits stands =
     }
 
 -- and as no other
-pub turns_only : (a b p : ℕ) → a < 256 → StandsForTurn a p → Turns p b → b ≡ a
+pub turns_only : (a b p : ℕ) → a < 256 → RepresentsTurn a p → Turns p b → b ≡ a
 turns_only a b p fits stands turns =
     let floored = floor_exact (pos a) _ (360 * 2 ^ 150) (omega arith) (turns_exact a p stands) in
     let same = floor_one turns.parts.floor (pos a) _ (360 * 2 ^ 150) turns.parts.floored floored in

@@ -92,7 +92,7 @@ groups_explained (suc room) (b ∷ bytes) kind e =
           )
         ]
 
--- ---- the same at an offset
+-- ---- faults at an offset
 
 place : (bytes : List ℕ) (start : ℕ) → start ≤ length bytes →
     length bytes - length (drop start bytes) ≡ start

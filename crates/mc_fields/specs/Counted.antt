@@ -31,7 +31,7 @@ listed {Rest} {A} count f =
     (λ xs. (length xs, xs))
     (listed_view count.fits f.fits)
 
--- the same, with a VarInt
+-- a list behind the VarInt of the number of its values
 abbrev pub counted : {Rest : List ℕ → Type 0} {A : Type 0} → Format Anything A
     → Format Rest (List A)
 counted {Rest} f = listed {Rest = Rest} count f

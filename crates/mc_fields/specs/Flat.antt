@@ -5,7 +5,7 @@ use Rattle.mc_nbt.specs.Combine.{◌then◌, view_read}
 use Rattle.mc_fields.specs.Shape.{shaped_spells}
 use Rattle.mc_fields.specs.ShapeLaws.{shaped_found, shaped_only}
 
--- the same values in another shape
+-- equal values in another shape
 abbrev pub shaped : {Rest : List ℕ → Type 0} {A B : Type 0} (f : Format Rest A)
     (make : A → B) (back : B → A) → ((a : A) → back (make a) ≡ a) → ((b : B) → make (back b) ≡ b)
     → Format Rest B

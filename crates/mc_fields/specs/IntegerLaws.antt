@@ -21,7 +21,8 @@ use Rattle.mc_nbt.specs.PlacedLaws.{found_at, placed_only, placed-Yields}
 use Rattle.mc_fields.specs.IntegerBytes.{signed_spells, signed_read, is_true, SpellsBool}
 use Rattle.mc_fields.specs.IntegerBytes.{boolean_spelling, boolean_read, ReadsFixed}
 
--- ---- truth values: 00 is false and each other byte is true (a rule of this project); 00 and 01 are written
+-- ---- truth values: 00 is false and each other byte is true (a rule of this project); 00 and 01
+-- are written
 
 pub boolean_found : IsFound SpellsBool boolean_read
 boolean_found bytes x fits e =
@@ -112,7 +113,8 @@ reads_fixed {A} spells read found only len fixed bytes start result fits within 
         let short : result ≡ Err (fault_at Short start) = here (failed d same) in
         cc
 
--- ---- the readers of the code: what they took from the cursor at the offset, and what they made of it
+-- ---- the readers of the code: what they took from the cursor at the offset, and what they made of
+-- it
 
 pub fixed_at : {A : Type 0} (spells : A → List ℕ → Type 0) (read : List ℕ → Field A)
     → IsFound spells read → IsOnly Anything spells read → (len : ℕ) → IsFixed len read

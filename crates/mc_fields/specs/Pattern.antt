@@ -59,7 +59,7 @@ pub record Fixes (p : ℕ) (n : ℤ) : Type 0 where
   pub parts : FixesParts (is_negative 52 11 p) (significand 52 11 p) (power 52 11 p) n
 
 -- the pattern of n / 32
-pub record StandsFor (n : ℤ) (p : ℕ) : Type 0 where
+pub record Represents (n : ℤ) (p : ℕ) : Type 0 where
   pub ends : exponent 52 11 p < 2047
   pub exact : with_sign (is_negative 52 11 p) (32 * (significand 52 11 p * 2 ^ power 52 11 p))
       ≡ (n *ℤ pos (2 ^ 1075))
@@ -84,7 +84,7 @@ pub record Turns (p a : ℕ) : Type 0 where
   pub parts : TurnsParts (is_negative 23 8 p) (significand 23 8 p) (power 23 8 p) a
 
 -- the pattern of a * 45 / 32 degrees
-pub record StandsForTurn (a p : ℕ) : Type 0 where
+pub record RepresentsTurn (a p : ℕ) : Type 0 where
   pub ends : exponent 23 8 p < 255
   pub exact : with_sign (is_negative 23 8 p) (32 * (significand 23 8 p * 2 ^ power 23 8 p))
       ≡ pos (a * 45 * 2 ^ 150)

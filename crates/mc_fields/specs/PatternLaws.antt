@@ -44,7 +44,7 @@ floor_exact n top b some e =
 
 -- ---- the floor of a shift: size / m where top is size * c / u and bottom is c * m / u
 
--- the same factor, at the bottom
+-- a common factor, at the bottom
 under : (q m c u b : ℕ) → u * b ≡ c * m → u * (q * b) ≡ c * (q * m)
 under q m c u b e = let times = ap (λ (x : ℕ). q * x) e in omega (arith, times)
 

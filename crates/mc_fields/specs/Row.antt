@@ -116,9 +116,9 @@ whole packet [] = Ok packet
 whole packet (b ∷ bytes) = Err (faults.Trailing (length (b ∷ bytes)))
 
 -- the packet of a frame
-unfoldable pub frame_read : {P : Type 0} {entry_of : P → Entry P} → Rows P entry_of → List ℕ
+unfoldable pub packet_read : {P : Type 0} {entry_of : P → Entry P} → Rows P entry_of → List ℕ
     → Result P RowFault
-frame_read rows frame = do
+packet_read rows frame = do
   id ← lifted (varint_read 5 frame)
   packet ← id_read rows id.0 id.1
   whole packet.0 packet.1

@@ -17,7 +17,7 @@ use Rattle.mc_fields.specs.VarintLaws.{varint-fits, five}
 use Rattle.mc_fields.specs.Row.Rows.{row, no_more, family}
 use Rattle.mc_fields.specs.Row.{Row, Entry, Spells, Fits, spelling, append, IsRowOf, Rows}
 use Rattle.mc_fields.specs.Row.{fields_read, lifted, is_id, is_one_of, size_of, id_read, whole}
-use Rattle.mc_fields.specs.Row.{frame_read, IsTied, packet_of, GivesPacket}
+use Rattle.mc_fields.specs.Row.{packet_read, IsTied, packet_of, GivesPacket}
 
 pub append_spelling : {P : Type 0} (entry : Entry P) (out : List ℕ)
     → append entry out ≡ out ++ spelling entry
@@ -120,7 +120,7 @@ whole_ok : {P : Type 0} (p q : P) (bytes : List ℕ) → whole p bytes ≡ Ok q 
 whole_ok p q [] e = (refl, ok_is RowFault _ _ e)
 whole_ok p q (b ∷ bytes) e = absurd cc
 
--- the same packet and the same bytes
+-- an equal packet is spelled by equal bytes
 Spells-is : {P : Type 0} (entry_of : P → Entry P) (p q : P) (bytes frame : List ℕ) → p ≡ q
     → frame ≡ bytes → Spells (entry_of p) bytes → Spells (entry_of q) frame
 Spells-is {P} entry_of p q bytes frame same parts s =
@@ -136,8 +136,8 @@ ended bytes front middle back rest first second nothing =
 
 pub frame_found : {P : Type 0} {entry_of : P
     → Entry P} (rows : Rows P entry_of) (frame : List ℕ) (p : P) → IsBytes frame
-    → frame_read rows frame ≡ Ok p → Spells (entry_of p) frame
-unfolding frame_read
+    → packet_read rows frame ≡ Ok p → Spells (entry_of p) frame
+unfolding packet_read
 frame_found {P} {entry_of} rows frame p fits e =
     let a = bind_ok (lifted (varint_read 5 frame)) (λ (id : ℤ × List ℕ). id_read rows id.0 id.1 >>=
     λ (x : P × List ℕ). whole x.0 x.1) p e in
@@ -167,8 +167,8 @@ family_tied is_member r ids tied rows id fields bytes member h = rw (member, h) 
 
 pub frame_only : {P : Type 0} {entry_of : P
     → Entry P} (rows : Rows P entry_of) (p : P) (frame : List ℕ) → IsTied rows p
-    → Spells (entry_of p) frame → frame_read rows frame ≡ Ok p
-unfolding frame_read
+    → Spells (entry_of p) frame → packet_read rows frame ≡ Ok p
+unfolding packet_read
 frame_only {P} {entry_of} rows p frame tied s =
     let id = varint_only 5 Anything (pos (entry_of p).row.id) s.id_bytes s.field_bytes tt
     s.id_spelled in
@@ -179,7 +179,7 @@ frame_only {P} {entry_of} rows p frame tied s =
 
 -- what is written of a packet is read as that packet
 pub spelled_again : {P : Type 0} {entry_of : P → Entry P} (rows : Rows P entry_of) (p : P)
-    → IsTied rows p → Fits (entry_of p) → frame_read rows (spelling (entry_of p)) ≡ Ok p
+    → IsTied rows p → Fits (entry_of p) → packet_read rows (spelling (entry_of p)) ≡ Ok p
 spelled_again {P} {entry_of} rows p tied fits =
     frame_only rows p (spelling (entry_of p)) tied (fits_spelled (entry_of p) fits)
 
@@ -201,14 +201,15 @@ packet_ok frame (Err fault) p e = absurd cc
 pub packet_found_all : {P : Type 0} {entry_of : P → Entry P} (rows : Rows P entry_of) (Spelled : P
     → List ℕ → Type 0) → ((p : P) (bytes : List ℕ) → Spells (entry_of p) bytes → Spelled p bytes)
     → (frame : List ℕ) (result : Result P PacketFault) → IsBytes frame
-    → result ≡ packet_of frame (frame_read rows frame) → IfOk result (λ p. Spelled p frame)
+    → result ≡ packet_of frame (packet_read rows frame) → IfOk result (λ p. Spelled p frame)
 packet_found_all rows Spelled seen frame (Ok p) fits e =
-    seen p frame (frame_found rows frame p fits (packet_ok frame (frame_read rows frame) p (sym e)))
+    seen p frame
+    (frame_found rows frame p fits (packet_ok frame (packet_read rows frame) p (sym e)))
 packet_found_all rows Spelled seen frame (Err error) fits e = tt
 
 pub packet_only_all : {P : Type 0} {entry_of : P
     → Entry P} (rows : Rows P entry_of) (p : P) (frame : List ℕ) (result : Result P PacketFault)
-    → IsTied rows p → Spells (entry_of p) frame → result ≡ packet_of frame (frame_read rows frame)
+    → IsTied rows p → Spells (entry_of p) frame → result ≡ packet_of frame (packet_read rows frame)
     → result ≡ Ok p
 packet_only_all rows p frame result tied s e =
     e ∙ ap (packet_of frame) (frame_only rows p frame tied s)
@@ -218,16 +219,16 @@ packet_only_all rows p frame result tied s e =
 pub packet_found : {P : Type 0} {entry_of : P → Entry P} (rows : Rows P entry_of) (Spelled : P
     → List ℕ → Type 0) → ((p : P) (bytes : List ℕ) → Spells (entry_of p) bytes → Spelled p bytes)
     → (frame : List ℕ) (result : Result P PacketRead) → IsBytes frame
-    → GivesPacket result (packet_of frame (frame_read rows frame))
+    → GivesPacket result (packet_of frame (packet_read rows frame))
     → IfOk result (λ p. Spelled p frame)
 packet_found {P} {entry_of} rows Spelled seen frame (Ok p) fits e =
-    seen p frame (frame_found rows frame p fits (packet_ok frame (frame_read rows frame) p e))
+    seen p frame (frame_found rows frame p fits (packet_ok frame (packet_read rows frame) p e))
 packet_found rows Spelled seen frame (Err error) fits e = tt
 
 pub packet_only : {P : Type 0} {entry_of : P
     → Entry P} (rows : Rows P entry_of) (p : P) (frame : List ℕ) (result : Result P PacketRead)
     → IsTied rows p → Spells (entry_of p) frame
-    → GivesPacket result (packet_of frame (frame_read rows frame)) → GivesPacket result (Ok p)
+    → GivesPacket result (packet_of frame (packet_read rows frame)) → GivesPacket result (Ok p)
 packet_only {P} rows p frame result tied s e =
     let Q : Result P PacketFault → Type 0 = λ r. GivesPacket result r in
     subst Q (ap (packet_of frame) (frame_only rows p frame tied s)) e

@@ -122,7 +122,7 @@ text_spelled points text fits = record {
   fits = fits.fits;
 }
 
--- the same, for a text whose length fits its VarInt
+-- a text whose length fits its VarInt
 pub text_written : (points : ℕ) (text : List ℕ) → FitsText points text → length text < 2 ^ 31
     → SpellsText points text (text_spelling text)
 text_written points text fits sized =

@@ -29,7 +29,7 @@ varint_within {Rest} room some = record {
 abbrev pub varint : {Rest : List ℕ → Type 0} → Format Rest ℤ
 varint {Rest} = varint_within {Rest = Rest} 5 five
 
--- the same as a field, whose reading stays folded in proofs
+-- a VarInt as a field, whose reading stays folded in proofs
 abbrev pub var_int : {Rest : List ℕ → Type 0} → Format Rest ℤ
 var_int {Rest} = record {
   spells = SpellsVarint 5;

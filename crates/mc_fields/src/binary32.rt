@@ -1,5 +1,5 @@
 ghost use Rattle.std.specs.Prelude.{◌≡◌, ◌*◌, ◌^◌, ◌<◌, ◌≤◌, ◌↔◌, ℕ, IsNone, IfSome};
-ghost use Rattle.mc_fields.specs.Pattern.{TurnsParts, Turns, IsVast, StandsForTurn};
+ghost use Rattle.mc_fields.specs.Pattern.{TurnsParts, Turns, IsVast, RepresentsTurn};
 
 use crate::parts::{raised, shifted, significand, with_sign};
 
@@ -31,7 +31,7 @@ pub fn angle(pattern: u32) -> Option<u8>
 /// The binary32 pattern of `a * 45 / 32`, which is the angle in degrees.
 pub fn degrees(a: u8) -> u32
     ensures zero { a ≡ 0 → result ≡ 0 }
-    ensures stands { StandsForTurn a result }
+    ensures stands { RepresentsTurn a result }
     // It is read as the angle again, and as no other.
     ensures again { Turns result a }
     ensures only { (b : ℕ) → Turns result b → b ≡ a }

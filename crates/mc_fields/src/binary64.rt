@@ -1,6 +1,6 @@
 ghost use Rattle.std.specs.Prelude.{◌≡◌, ◌*◌, ◌^◌, ◌<◌, ◌≤◌, ◌↔◌, IsNone, IfSome};
 ghost use lib.IntN.{ℤ, pos};
-ghost use Rattle.mc_fields.specs.Pattern.{FixesParts, Fixes, IsEndless, StandsFor, with_sign};
+ghost use Rattle.mc_fields.specs.Pattern.{FixesParts, Fixes, IsEndless, Represents, with_sign};
 
 use crate::parts::{raised, shifted, significand, with_sign};
 
@@ -39,7 +39,7 @@ pub fn fixed(pattern: u64) -> Option<i64>
 fn pattern_of(negative: bool, size: u64) -> u64
     requires some { 1 ≤ size }
     requires few { size < 2 ^ 32 }
-    ensures { StandsFor (with_sign negative size) result }
+    ensures { Represents (with_sign negative size) result }
 {
     let top = size.ilog2();
     let fraction = raised(size, top, 52) - (1 << 52);
@@ -54,7 +54,7 @@ fn pattern_of(negative: bool, size: u64) -> u64
 /// The binary64 pattern of `n / 32`.
 pub fn pattern(n: i32) -> u64
     ensures zero { n ≡ pos 0 → result ≡ 0 }
-    ensures stands { StandsFor n result }
+    ensures stands { Represents n result }
     // It is read as the number again, and as no other.
     ensures again { Fixes result n }
     ensures only { (m : ℤ) → Fixes result m → m ≡ n }

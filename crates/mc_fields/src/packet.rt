@@ -19,7 +19,7 @@ pub enum RowFault {
 }
 
 impl RowFault {
-    /// The same fault with its place counted from the front of a frame of `len` bytes.
+    /// Counts its place from the front of a frame of `len` bytes.
     pub fn within(self, len: usize) -> PacketFault
         ensures { result ≡ packet_fault len self }
     {
@@ -51,7 +51,7 @@ pub enum RowError {
 }
 
 impl RowError {
-    /// The same error with its place counted from the front of a frame of `len` bytes.
+    /// Counts the place of its fault from the front of a frame of `len` bytes.
     pub fn within(self, len: usize) -> PacketRead
         ensures { result ≡ packet_read_of len self }
     {

@@ -79,7 +79,8 @@ pub fn take_text(alloc: Global, cursor: &mut Cursor<'_>, points: usize) -> Resul
 /// What reading a text from an offset gives.
 fn text_at(alloc: Global, bytes: &[u8], at: usize, n: usize) -> Result<(Text, usize), ReadFault>
     requires { at ≤ length bytes.now }
-    ensures { PlacedGives (λ read. read) result (placed bytes.now (text_read n (drop at bytes.now))) }
+    ensures { PlacedGives (λ read. read) result
+        (placed bytes.now (text_read n (drop at bytes.now))) }
 {
     let mut cursor = Cursor::at(bytes, at);
     let text = take_str(&mut cursor, n);

@@ -100,7 +100,7 @@ frame_goes now buffer payload start len before after fault is within s counted =
       fault = refl;
     })
 
--- ---- the same of what the splitter shows
+-- ---- what the splitter shows
 
 -- what the code holds is what is shown
 pub record Shown (now : Splitting) (buffer deref held : List ℕ) (start before : ℕ)

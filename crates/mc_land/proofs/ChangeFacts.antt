@@ -155,8 +155,9 @@ ready_stays terrain columns chests place ready found =
         (is_eq o || set.contains (kept_land terrain columns chests).ready q) ≡
         set.contains (kept_land terrain columns chests).ready q) [
           | Less ↦ λ e. refl
-          | Equal ↦ λ e. sym (ap (λ (p : Place). set.contains (kept_land terrain columns chests).ready
-              p) (exact_places q place e) ∙ there)
+          | Equal ↦ λ e. sym (ap
+              (λ (p : Place). set.contains (kept_land terrain columns chests).ready p)
+              (exact_places q place e) ∙ there)
           | Greater ↦ λ e. refl
         ] refl
 
@@ -346,7 +347,8 @@ index_push columns index index' ready is none puts = record {
         subst P (sym (puts place)) (elim (eq_by_cmp place_cmp place ready.place) as
         (λ b. eq_by_cmp place_cmp place ready.place ≡ b →
         P (cond b (Some (length columns)) (find place_cmp place index))) [
-          | true ↦ λ t. here (exact_places place ready.place (is_equal (place_cmp place ready.place) t))
+          | true ↦ λ t. here
+              (exact_places place ready.place (is_equal (place_cmp place ready.place) t))
           | false ↦ λ t. elsewhere
         ] refl)
 
@@ -358,7 +360,8 @@ index_push columns index index' ready is none puts = record {
         Some i) [
           | true ↦ λ t. let clash : None ≡ Some i = sym none ∙
               ap (λ (p : Place). find place_cmp p index)
-              (sym (exact_places place ready.place (is_equal (place_cmp place ready.place) t))) ∙ old in
+              (sym (exact_places place ready.place (is_equal (place_cmp place ready.place) t))) ∙
+              old in
               absurd cc
           | false ↦ λ t. old
         ] refl

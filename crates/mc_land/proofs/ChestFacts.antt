@@ -44,7 +44,7 @@ pub chest_kept : (terrain : Terrain) (columns : Columns) (chests : Chests) (key 
 chest_kept terrain columns chests key kept lt = rw (get-from_entries keys_total chests key)
     (kept.chests_are key.0 key.1 lt)
 
--- the same at x, y and z
+-- a chest is there exactly where the cell at x, y and z is one
 pub chest_there : (land : LandValue) (x y z : ℤ) (key : Key) → pos 0 ≤ℤ y → y <ℤ pos 256 →
     ((h : ℕ) → y ≡ pos h → key ≡ key_of x h z) → (key.1 < cells → is_some (get land.chests key) ≡
     is_chest (state_at land.terrain land.edits key)) → is_some (chest_in land x y z) ≡

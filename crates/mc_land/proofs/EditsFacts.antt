@@ -69,7 +69,7 @@ nat_cmp_other i j ne = elim (nat_cmp i j) as (λ o. nat_cmp i j ≡ o → is_eq 
   | Greater ↦ λ e. refl
 ] refl
 
--- of the same column none is found where the index is not listed, or does not pass
+-- of a column none is found where the index is not listed, or does not pass
 pub found_none : (c : Place) (test : ℕ → Bool) (state : ℕ → ℕ) (i a n : ℕ) →
     (a ≤ i → i < a + n → test i ≡ false) →
     find key_cmp (c, i) (listed c test state (range_with_len a n)) ≡ None
@@ -137,10 +137,10 @@ found_here terrain c i states =
       | true ↦ λ inside. elim (is_changed terrain c states i) as (λ b. is_changed terrain c states i
           ≡ b → find key_cmp (c, i) (changes terrain c states) ≡ cond b (Some (get_or states i 0))
           None) [
-            | true ↦ λ passes. found_one c (is_changed terrain c states) (λ j. get_or states j 0) i 0
-                cells (omega arith) (omega (arith, ltb-true i cells inside)) passes
-            | false ↦ λ fails. found_none c (is_changed terrain c states) (λ j. get_or states j 0) i 0
-                cells (λ le lt. fails)
+            | true ↦ λ passes. found_one c (is_changed terrain c states) (λ j. get_or states j 0) i
+                0 cells (omega arith) (omega (arith, ltb-true i cells inside)) passes
+            | false ↦ λ fails. found_none c (is_changed terrain c states) (λ j. get_or states j 0) i
+                0 cells (λ le lt. fails)
           ] refl
       | false ↦ λ past. found_none c (is_changed terrain c states) (λ j. get_or states j 0) i 0
           cells (λ le lt. absurd (omega (arith, ltb-false i cells past)))

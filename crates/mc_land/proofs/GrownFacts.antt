@@ -249,8 +249,8 @@ layers_blocks terrain place tops i (suc n) are =
           (range_with_len 0 (n * squares)) (range_with_len (n * squares) squares),
       sum_by-append block_of (map (λ k. terrain_at terrain (place, i * section_cells + k))
           (range_with_len 0 (n * squares)))
-          (map (λ k. terrain_at terrain (place, i * section_cells + k)) (range_with_len (n * squares)
-          squares)),
+          (map (λ k. terrain_at terrain (place, i * section_cells + k))
+          (range_with_len (n * squares) squares)),
       layers_blocks terrain place tops i n are,
       one,
       next,

@@ -13,7 +13,7 @@ use Rattle.mc_slots.specs.declared.pile.Pile.{Pile}
 use Rattle.mc_slots.specs.Chest.{empty_chest}
 use Rattle.mc_land.specs.declared.terrain.Terrain.{Terrain}
 use Rattle.mc_land.specs.Places.{Place, Key, place_cmp, key_cmp, key_of, is_inside, is_height}
-use Rattle.mc_land.specs.Places.{is_near}
+use Rattle.mc_land.specs.Places.{is_within_border}
 use Rattle.std.specs.Prelude.{unsigned_abs}
 use Rattle.std.specs.Map.{lookup}
 use Rattle.std.proofs.Common.{◌&&◌}
@@ -45,10 +45,11 @@ chest_there chests key q old new was =
       | true ↦ elim (is_chest old) as (λ b. is_some (get chests key) ≡ b →
           is_some (get (cond b chests (insert chests key empty_chest)) q) ≡
           cond (eq_by_cmp key_cmp q key) true (is_some (get chests q))) [
-            | true ↦ λ there. elim (key_cmp q key) as (λ o. key_cmp q key ≡ o → is_some (get chests q) ≡
-                cond (is_eq o) true (is_some (get chests q))) [
+            | true ↦ λ there. elim (key_cmp q key) as (λ o. key_cmp q key ≡ o →
+                is_some (get chests q) ≡ cond (is_eq o) true (is_some (get chests q))) [
                   | Less ↦ λ e. refl
-                  | Equal ↦ λ e. ap (λ (k : Key). is_some (get chests k)) (exact_keys q key e) ∙ there
+                  | Equal ↦ λ e. ap (λ (k : Key). is_some (get chests k)) (exact_keys q key e) ∙
+                      there
                   | Greater ↦ λ e. refl
                 ] refl
             | false ↦ λ none. rw (get-insert keys_total chests key empty_chest q)
@@ -343,8 +344,8 @@ first_of true b e = refl
 first_of false b e = absurd cc
 
 pub high_enough : (x y z : ℤ) → is_inside x y z ≡ true → is_height y ≡ true
-high_enough x y z e = first_of (is_height y) (is_near x) (first_of (is_height y && is_near x)
-    (is_near z) e)
+high_enough x y z e = first_of (is_height y) (is_within_border x)
+    (first_of (is_height y && is_within_border x) (is_within_border z) e)
 
 -- a chest stands at a cell exactly where its block is one's
 pub chest_at : (terrain : Terrain) (columns : List ReadyValue) (chests : Chests) (x y z : ℤ) →

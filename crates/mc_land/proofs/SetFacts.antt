@@ -279,7 +279,8 @@ state_edited terrain edits key q state =
           unwrap_or (cond (is_eq o) None (get edits q)) (terrain_at terrain q) ≡
           cond (is_eq o) state (state_at terrain edits q)) [
             | Less ↦ λ e. refl
-            | Equal ↦ λ e. rw (exact_keys q key e) (sym (eqb-true state (terrain_at terrain key) same))
+            | Equal ↦ λ e. rw (exact_keys q key e)
+                (sym (eqb-true state (terrain_at terrain key) same))
             | Greater ↦ λ e. refl
           ] refl)
       | false ↦ λ other. rw (get-insert keys_total edits key state q)

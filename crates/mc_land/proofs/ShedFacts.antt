@@ -558,7 +558,8 @@ edited_is terrain columns q r is found of at =
           b ≡ false) [
             | true ↦ λ t.
                 let some = found_any q (entries edits) t in
-                let gone : get edits (q, some.0) ≡ None = edit_at terrain columns q r some.0 is found ∙
+                let gone : get edits (q, some.0) ≡ None =
+                edit_at terrain columns q r some.0 is found ∙
                 no_edit terrain q some.0 r.present.states none in
                 absurd (true≢false (sym some.1 ∙ ap is_some (sym (get-entries edits (q, some.0)) ∙
                 gone)))
@@ -655,7 +656,7 @@ edits_stay look terrain old new views is is' shed own =
         kept_or false t = rw (shed.gone c r e t) (sym (no_edit terrain c i (look r) (own c r e t)))
 
 not_kept : (views : List View) (r : ReadyValue) → is_kept views r ≡ false → changes_in r ≡ 0
-not_kept views r e = zero_of (eqb (changes_in r) 0) refl (list_any (is_seen r.place) views) e
+not_kept views r e = zero_of (eqb (changes_in r) 0) refl (is_seen views r.place) e
   where
     zero_of : (b : Bool) → eqb (changes_in r) 0 ≡ b → (seen : Bool) → (not b || seen) ≡ false →
         changes_in r ≡ 0

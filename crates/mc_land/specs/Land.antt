@@ -11,6 +11,7 @@ use Rattle.mc_column.specs.Cells.{ColumnValue}
 use Rattle.mc_slots.specs.declared.pile.Pile.{Pile}
 use Rattle.mc_land.specs.declared.terrain.Terrain.{Terrain}
 use Rattle.mc_land.specs.declared.ready.Touched.{Touched}
+use Rattle.mc_land.specs.declared.land.setting.TheConstants.{CHEST}
 use Rattle.mc_land.specs.Places.{Place, Key, place_cmp, key_cmp, key_of, x_of, y_of, z_of}
 use Rattle.mc_slots.specs.Pile.{count_of}
 use Rattle.mc_slots.specs.Chest.{empty_chest}
@@ -65,9 +66,9 @@ abbrev pub edited : Terrain → FinMap key_cmp ℕ → Key → ℕ → FinMap ke
 edited terrain edits key state = if state == terrain_at terrain key then remove edits key else
     insert edits key state
 
--- a chest's state: id 54, with any metadata
+-- a chest's state: the id of chests, with any metadata
 abbrev pub is_chest : ℕ → Bool
-is_chest state = state / 16 == 54
+is_chest state = state / 16 == CHEST
 
 -- the chests after a cell that had one state got another: an empty one where it became a chest,
 -- none where it ceased to be

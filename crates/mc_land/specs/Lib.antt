@@ -1,4 +1,5 @@
 pub mod Chests
+pub mod FaultText
 pub mod Grown
 pub mod GrownCode
 pub mod Kept

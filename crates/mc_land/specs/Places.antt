@@ -5,6 +5,7 @@ use Rattle.std.specs.declared.cmp.Ordering.{Ordering}
 use Rattle.std.specs.Ordering.{nat_cmp, int_cmp, ordering_then}
 use Rattle.std.specs.Int.{int_div_euclid, int_rem_euclid}
 use Rattle.mc_column.specs.Cells.{cell_index}
+use Rattle.mc_land.specs.declared.places.TheConstants.{BORDER}
 use lib.IntN.{ℤ, pos, negsuc, ◌+ℤ◌, ◌*ℤ◌}
 use lib.Signed.{◌≤ℤ◌}
 
@@ -59,8 +60,8 @@ abbrev pub is_height : ℤ → Bool
 is_height (pos n) = nat_lt n 256
 is_height (negsuc n) = false
 
-abbrev pub is_near : ℤ → Bool
-is_near v = nat_le (unsigned_abs v) 30000000
+abbrev pub is_within_border : ℤ → Bool
+is_within_border v = nat_le (unsigned_abs v) BORDER
 
 abbrev pub is_inside : ℤ → ℤ → ℤ → Bool
-is_inside x y z = is_height y && is_near x && is_near z
+is_inside x y z = is_height y && is_within_border x && is_within_border z

@@ -17,17 +17,21 @@ View = ℤ × ℤ × ℕ
 pub record IsSettled (land : LandValue) : Type 0 where
   pub all : land.settled ≡ land.edits
 
--- a column is no more off the middle than the view reaches, on both axes
-abbrev pub is_seen : Place → View → Bool
-is_seen place view = nat_le (unsigned_abs (place.0 -ℤ view.0)) view.2 &&
-    nat_le (unsigned_abs (place.1 -ℤ view.1)) view.2
+-- a column is at most d columns off the middle on each axis
+abbrev pub is_in_view : Place → ℕ → Place → Bool
+is_in_view middle d place =
+    nat_le (unsigned_abs (place.0 -ℤ middle.0)) d && nat_le (unsigned_abs (place.1 -ℤ middle.1)) d
+
+-- one of the views has the column
+abbrev pub is_seen : List View → Place → Bool
+is_seen views place = list_any (λ view. is_in_view (view.0, view.1) view.2 place) views
 
 -- a cell of the column is not the terrain's
 abbrev pub is_edited : FinMap key_cmp ℕ → Place → Bool
 is_edited edits place = list_any (λ edit. eq_by_cmp place_cmp place edit.0.0) (entries edits)
 
 abbrev pub stays : LandValue → List View → Place → Bool
-stays land views place = is_edited land.edits place || list_any (is_seen place) views
+stays land views place = is_edited land.edits place || is_seen views place
 
 -- no cell changes; a ready column that does not stay is ready no more
 abbrev pub shed_land : LandValue → List View → LandValue

@@ -1,7 +1,7 @@
 -- How the code sheds columns: one after another from the last. No public contract speaks of this.
 use Rattle.std.specs.Prelude.{◌≡◌, ℕ, ◌<◌, ◌≤◌, Bool, true, false, ◌==◌, not, ◌||◌, ◌⊎◌, List}
 use Rattle.std.specs.Prelude.{length, slice_index_or, Some, None}
-use Rattle.std.specs.List.{list_any, swap_remove}
+use Rattle.std.specs.List.{swap_remove}
 use Rattle.std.specs.FinMap.{find}
 use Rattle.mc_land.specs.Places.{Place, place_cmp}
 use Rattle.mc_land.specs.KeptLand.{placed}
@@ -11,7 +11,7 @@ use Rattle.mc_land.specs.Shed.{View, is_seen}
 
 -- a column stays: a cell of it is an edit, or a view reaches it
 abbrev pub is_kept : List View → ReadyValue → Bool
-is_kept views ready = not (changes_in ready == 0) || list_any (is_seen ready.place) views
+is_kept views ready = not (changes_in ready == 0) || is_seen views ready.place
 
 -- a column that stays is there as it was, and no other is there
 pub record IsShed (views : List View) (old new : List ReadyValue) : Type 0 where

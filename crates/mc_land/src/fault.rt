@@ -23,11 +23,16 @@ impl From<NoMemory> for LandFault {
 }
 
 impl fmt::Display for LandFault {
+    ghost use Rattle.std.specs.Prelude.{Some};
+    ghost use Rattle.mc_land.specs.FaultText.{land_fault_text};
+
+    ghost output = { λ fault. Some (land_fault_text fault) };
+
     fn fmt<W: fmt::Write>(&self, f: &mut fmt::Formatter<W>) -> fmt::Result {
-        f.write_str(match self {
-            LandFault::Outside => "the cell lies outside the world",
-            LandFault::NoMemory => "out of memory",
-        })
+        match self {
+            LandFault::Outside => f.write_str("the cell lies outside the world"),
+            LandFault::NoMemory => write!(f, "{NoMemory}"),
+        }
     }
 }
 

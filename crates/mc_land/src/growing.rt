@@ -200,7 +200,8 @@ fn push_alike(state: u16, out: &mut Vec<u16>) -> Result<(), NoMemory>
 
 /// The state of a layer of the hills that is alike everywhere, whatever their heights.
 fn hills_alike(y: u8) -> Option<u16>
-    ensures { IfSome result (λ state. (top : ℕ) → 40 ≤ top → top ≤ 54 → hills_id top y * 16 ≡ state) }
+    ensures { IfSome result (λ state. (top : ℕ) → 40 ≤ top → top ≤ 54 →
+        hills_id top y * 16 ≡ state) }
 {
     if y <= LOWEST_TOP - 4 {
         return Some(hills_id(u16::from(LOWEST_TOP), y) * 16);

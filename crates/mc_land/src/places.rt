@@ -1,11 +1,14 @@
 ghost use Rattle.std.specs.Prelude.{◌≡◌, ◌<◌, ℕ, unsigned_abs};
 ghost use lib.Signed.{◌≤ℤ◌, ◌<ℤ◌};
 ghost use lib.IntN.{pos};
-ghost use Rattle.mc_land.specs.Places.{column_number, inside, is_height, is_inside, is_near};
-ghost use Rattle.mc_land.specs.Places.{key_of, place_of};
+ghost use Rattle.mc_land.specs.Places.{column_number, inside, is_height, is_inside};
+ghost use Rattle.mc_land.specs.Places.{is_within_border, key_of, place_of};
 
 use crate::ready::index_of;
 use mc_fields::Cell;
+
+/// How far from the middle a cell can be set, along x and along z.
+pub const BORDER: u32 = 30_000_000;
 
 /// A column of cells by its numbers: 16 times the first is its lowest x, and 16 times the second
 /// its lowest z.
@@ -73,7 +76,7 @@ pub(crate) fn key_of(cell: &Cell) -> (Place, u16)
 pub(crate) fn is_inside(cell: &Cell) -> bool
     ensures { result ≡ is_inside cell.now.x cell.now.y cell.now.z }
 {
-    is_height(cell.y) && is_near(cell.x) && is_near(cell.z)
+    is_height(cell.y) && is_within_border(cell.x) && is_within_border(cell.z)
 }
 
 /// Whether a number is a height of the world.
@@ -84,8 +87,8 @@ fn is_height(y: i32) -> bool
 }
 
 /// Whether a number is not past the border of the world.
-fn is_near(v: i32) -> bool
-    ensures { result ≡ is_near v }
+fn is_within_border(v: i32) -> bool
+    ensures { result ≡ is_within_border v }
 {
-    v.unsigned_abs() <= 30_000_000
+    v.unsigned_abs() <= BORDER
 }

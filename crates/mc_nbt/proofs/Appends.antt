@@ -48,7 +48,7 @@ unfolding all_append
 writing_done {A} f xs i start out le h =
     sym (ap (λ (ys : List A). all_append f.append ys out) (drop_all i xs le)) ∙ h.0
 
--- ---- the same where an end follows
+-- ---- values behind which an end follows
 
 abbrev pub IsWritingUntil : {A : Type 0} → ℕ → (A → ℕ) → (ℕ → Format Anything A) → List A → List A →
     List ℕ → List ℕ → Type 0

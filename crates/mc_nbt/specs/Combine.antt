@@ -51,7 +51,7 @@ tested {Rest} {A} f test kind = record {
   appended = f.appended;
 }
 
--- ---- the same bytes, seen as another value
+-- ---- bytes of one value, seen as another
 
 abbrev pub via : {Rest : List ℕ → Type 0} {A B : Type 0} (f : Format Rest A) (Fits : B
     → Type 0) (make : A → B) (back : B → A) → IsView f.fits Fits make back → Format Rest B

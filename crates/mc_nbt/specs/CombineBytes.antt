@@ -35,7 +35,7 @@ tested_read read test kind bytes = do
 abbrev pub tested_spells : {A : Type 0} → (A → List ℕ → Type 0) → (A → Bool) → A → List ℕ → Type 0
 tested_spells spells test a bytes = spells a bytes × (test a ≡ true)
 
--- ---- the same bytes, seen as another value
+-- ---- bytes of one value, seen as another
 
 abbrev pub view_spells : {A B : Type 0} → (A → List ℕ → Type 0) → (B → Type 0) → (B → A) → B
     → List ℕ → Type 0

@@ -135,7 +135,7 @@ pub tested_only : {A : Type 0} (Rest : List ℕ → Type 0) (spells : A → List
 tested_only {A} Rest spells read test kind only a front rest ends s =
     rw (only a front rest ends s.0, s.1) refl
 
--- ---- the same bytes, seen as another value
+-- ---- bytes of one value, seen as another
 
 -- make and back undo one another, where the value that is seen fits
 pub record IsView {A B : Type 0} (fits : A → Type 0) (Fits : B → Type 0) (make : A → B)

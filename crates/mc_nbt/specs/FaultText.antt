@@ -22,7 +22,7 @@ kind_text BadTag = codes "a tag byte is not one that its place allows"
 kind_text Deep = codes "too many lists and compounds stand in one another"
 kind_text BadLength = codes "a length is not one that its field allows"
 
--- the same for every call that finds no memory
+-- what every call says that finds no memory
 abbrev pub no_memory_text : List ℕ
 no_memory_text = codes "out of memory"
 

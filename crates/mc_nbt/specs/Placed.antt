@@ -27,7 +27,7 @@ abbrev pub with_rest : {A : Type 0} → Result A Stop → List ℕ → Field A
 with_rest (Ok x) rest = Ok (x, rest)
 with_rest (Err stop) rest = Err stop
 
--- the same as what a function that takes memory answers
+-- a function that takes memory answers what reading gives, unless memory ran out
 abbrev pub PlacedFails : {Y : Type 0} → ReadFault → Result Y FieldFault → Type 0
 PlacedFails faults.NoMemory read = Unit {0}
 PlacedFails (faults.Field fault) read = read ≡ Err fault

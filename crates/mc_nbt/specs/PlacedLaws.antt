@@ -93,7 +93,7 @@ found_at spells read found bytes start (Ok r) fits within e =
     placed_found spells read found bytes start r fits within (sym e)
 found_at spells read found bytes start (Err fault) fits within e = tt
 
--- the same of a function that takes memory, where it did not run out
+-- what a function read that takes memory is spelled there, where it did not run out
 pub PlacedGives-found : {X Y : Type 0} (view : X × ℕ → Y × ℕ) (spells : Y → List ℕ
     → Type 0) (read : List ℕ → Field Y) → IsFound spells read
     → (bytes : List ℕ) (start : ℕ) (result : Result (X × ℕ) ReadFault) → IsBytes bytes

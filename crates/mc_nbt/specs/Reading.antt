@@ -34,7 +34,8 @@ abbrev pub Fails : {Y : Type 0} → ReadError → Result Y Stop → Type 0
 Fails errors.NoMemory read = Unit {0}
 Fails (errors.Stop stop) read = read ≡ Err stop
 
--- the same as Yields, for a function that takes memory
+-- what a function returned that takes memory, seen by view, is what reading gives, unless memory
+-- ran out
 abbrev pub Gives : {X Y : Type 0} → (X → Y) → Result X ReadError → Result Y Stop → Type 0
 Gives view (Ok x) read = read ≡ Ok (view x)
 Gives view (Err e) read = Fails e read

@@ -12,7 +12,7 @@ AllSpelled spells (x ∷ xs) bytes =
     (front : List ℕ) × (back : List ℕ) × (bytes ≡ front ++ back)
     × spells x front × AllSpelled spells xs back
 
--- the same, and then an end
+-- each value is spelled by its own part of the bytes, and an end by the last part
 abbrev pub SpelledUntil : {A : Type 0} → (Option A → List ℕ → Type 0) → List A → List ℕ → Type 0
 SpelledUntil spells [] bytes = spells None bytes
 SpelledUntil spells (x ∷ xs) bytes =

@@ -34,7 +34,7 @@ abbrev pub members_of : List (List ℕ × Tree) → Members
 members_of [] = no_members
 members_of (m ∷ ms) = one_member m.0 m.1 (members_of ms)
 
--- the same as lists again
+-- trees and members as lists again
 abbrev pub trees_back : Trees → List Tree
 trees_back no_trees = []
 trees_back (one_tree t ts) = t ∷ trees_back ts

@@ -58,7 +58,7 @@ pub struct Stop {
 }
 
 impl Stop {
-    /// The same fault with its place counted from the front, in a list of `len` bytes.
+    /// Counts its place from the front, in a list of `len` bytes.
     pub fn within(self, len: usize) -> FieldFault
         ensures kind { result.kind ≡ self.kind }
         ensures at { result.at ≡ len - self.left }

@@ -61,7 +61,7 @@ without pile n = part pile (count_of pile - n)
 
 -- ---- merging
 
--- the same id and damage
+-- equal in id and damage
 pub record IsAlike (a b : Item) : Type 0 where
   pub id : a.id ≡ b.id
   pub damage : a.damage ≡ b.damage

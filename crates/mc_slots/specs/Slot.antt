@@ -1,10 +1,15 @@
 -- Slots on the wire, of the page 'Slot Data' of wiki.vg for protocol 47.
-use Rattle.std.specs.Prelude.{◌≡◌, ℕ, ◌==◌, List, Option, Some, None, Ok, FitsSigned, ◌≤ℤ◌}
+use Rattle.std.specs.Prelude.{◌≡◌, ℕ, ◌==◌, List, ◌++◌, Option, Some, None, Ok, FitsSigned, ◌≤ℤ◌}
 use Rattle.std.specs.Prelude.{if◌then◌else◌}
 use Rattle.std.specs.Int.{w8, w16}
 use lib.IntN.{ℤ, pos, negsuc}
 use Rattle.mc_nbt.specs.Reading.{Field, ◌>>=◌}
 use Rattle.mc_nbt.specs.NumberBytes.{number_read, number_spelling}
+use Rattle.mc_nbt.specs.CombineBytes.{Sequence, sequence_read, view_read}
+use Rattle.mc_nbt.specs.OptionalBytes.{when_spells, when_read, when_spelling}
+use Rattle.mc_nbt.specs.MakingBytes.{SpellsMade}
+use Rattle.mc_nbt.specs.Naturals.{is_natural}
+use Rattle.mc_fields.specs.IntegerBytes.{signed_spells, signed_read, signed_spelling}
 use Rattle.mc_nbt.specs.Nbt.{Named, IsNbt, nbt_spelling, SpellsNbt}
 use Rattle.mc_nbt.specs.NbtReading.{nbt_at}
 use Rattle.mc_slots.specs.declared.slot.Stack.{Stack}
@@ -78,3 +83,38 @@ IsTyped (Full stack) = IsStack stack
 -- what has a spelling
 abbrev pub FitsSlot : Slot → Type 0
 FitsSlot slot = HasId slot × IsTyped slot
+
+-- ---- the bytes of a slot
+
+-- a count, a damage and a tag, one after another
+abbrev pub SpellsCounted : ℤ × (ℤ × Option Named) → List ℕ → Type 0
+SpellsCounted = Sequence (signed_spells w8) (λ _. Sequence (signed_spells w16) (λ _. SpellsTag))
+
+abbrev pub counted_read : List ℕ → Field (ℤ × (ℤ × Option Named))
+counted_read =
+    sequence_read (signed_read w8) (λ _. sequence_read (signed_read w16) (λ _. tag_read))
+
+abbrev pub counted_spelling : ℤ × (ℤ × Option Named) → List ℕ
+counted_spelling v =
+    signed_spelling w8 v.0 ++ (signed_spelling w16 v.1.0 ++ tag_spelling v.1.1)
+
+-- the id, and these after one that is not negative
+abbrev pub SpellsParts : Parts → List ℕ → Type 0
+SpellsParts = Sequence (signed_spells w16) (λ id. when_spells (is_natural id) SpellsCounted)
+
+abbrev pub parts_read : List ℕ → Field Parts
+parts_read = sequence_read (signed_read w16) (λ id. when_read (is_natural id) counted_read)
+
+abbrev pub parts_spelling : Parts → List ℕ
+parts_spelling v = signed_spelling w16 v.0 ++ when_spelling counted_spelling v.1
+
+-- the parts, seen as the slot that they make
+unfoldable pub SpellsSlot : Slot → List ℕ → Type 0
+SpellsSlot = SpellsMade SpellsParts make
+
+unfoldable pub slot_read : List ℕ → Field Slot
+slot_read = view_read parts_read make
+
+-- the one that is written
+unfoldable pub slot_spelling : Slot → List ℕ
+slot_spelling slot = parts_spelling (pick slot)

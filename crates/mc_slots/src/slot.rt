@@ -3,8 +3,9 @@ ghost use Rattle.std.specs.Prelude.{length};
 ghost use Rattle.mc_nbt.specs.Reading.{Gives};
 ghost use Rattle.mc_nbt.specs.Placed.{SpelledAt, PlacedGives, placed};
 ghost use Rattle.mc_nbt.specs.Format.{Anything};
-ghost use Rattle.mc_slots.specs.Slot.{FitsTag, tag_read, tag_spelling, HasId, IsTyped};
-ghost use Rattle.mc_slots.specs.SlotFormat.{wire, slot_read, slot_spelling, SpellsSlot};
+ghost use Rattle.mc_slots.specs.Slot.{FitsTag, tag_read, tag_spelling, pick, HasId, IsTyped};
+ghost use Rattle.mc_slots.specs.Slot.{slot_read, slot_spelling, SpellsSlot};
+ghost use Rattle.mc_slots.specs.SlotParts.{parts};
 
 use mc_nbt::{Cursor, Nbt, NoMemory, ReadError, ReadFault, write_nbt, write_u8, write_u16};
 use std::alloc::Global;
@@ -93,7 +94,7 @@ fn take_tag(alloc: Global, cursor: &mut Cursor<'_>) -> Result<Option<Nbt>, ReadE
 /// damage and its tag: the byte 00, or a named compound. `Short` at a number that is not all there,
 /// `BadTag` at a byte that is neither 00 nor the first of a compound; the compound's faults are its
 /// own.
-#[tactic(auto, unfolding(crate::specs::SlotFormat::slot_read))]
+#[tactic(auto, unfolding(crate::specs::Slot::slot_read))]
 pub fn take_slot(alloc: Global, cursor: &mut Cursor<'_>) -> Result<Slot, ReadError>
     ensures gives { Gives (λ slot. (slot, cursor.new)) result (slot_read cursor.old) }
     // What is read can be written.
@@ -162,7 +163,7 @@ fn write_tag(tag: &Option<Nbt>, out: &mut Vec<u8>) -> Result<(), NoMemory>
 /// Appends a slot's id and what follows it. Without memory some of that may be there.
 #[tactic(auto, using(mc_nbt::proofs::Kept::kept_before))]
 fn write_parts(slot: &Slot, out: &mut Vec<u8>) -> Result<(), NoMemory>
-    ensures ok { OnOk result (out.new.items ≡ (wire {Rest = Anything}).append slot.now
+    ensures ok { OnOk result (out.new.items ≡ (parts {Rest = Anything}).append (pick slot.now)
         out.old.items) }
     ensures typed { OnOk result (IsTyped slot.now) }
     ensures err { OnErr result (take (length out.old.items) out.new.items ≡ out.old.items) }

@@ -1,6 +1,6 @@
 -- Each packet is found by its id, and the words of its enum are those of its row.
 use Rattle.std.proofs.Common.{◌≡◌, ℕ, List, Ok}
-use Rattle.mc_fields.specs.Row.{Spells, IsTied, frame_read}
+use Rattle.mc_fields.specs.Row.{Spells, IsTied, packet_read}
 use Rattle.mc_fields.specs.RowLaws.{row_tied, spelled_fits, fits_spelled, spelled_again}
 use Rattle.mc_up.specs.declared.handshake.Hand.{Hand}
 use Rattle.mc_up.specs.declared.handshake.Hand.TheVariants.{Handshake}
@@ -25,7 +25,7 @@ pub spelled : (p : Hand) → FitsHand p → SpellsHand p (spelling_of p)
 spelled (Handshake protocol address port next) fits =
     fits_spelled (entry_of (Handshake protocol address port next)) fits
 
-pub again : (p : Hand) → FitsHand p → frame_read rows (spelling_of p) ≡ Ok p
+pub again : (p : Hand) → FitsHand p → packet_read rows (spelling_of p) ≡ Ok p
 again (Handshake protocol address port next) fits =
     spelled_again rows (Handshake protocol address port next)
     (tied (Handshake protocol address port next)) fits

@@ -1,6 +1,6 @@
 -- Each packet is found by its id, and the words of its enum are those of its row.
 use Rattle.std.proofs.Common.{◌≡◌, ℕ, List, Ok}
-use Rattle.mc_fields.specs.Row.{Spells, IsTied, frame_read}
+use Rattle.mc_fields.specs.Row.{Spells, IsTied, packet_read}
 use Rattle.mc_fields.specs.RowLaws.{row_tied, spelled_fits, fits_spelled, spelled_again}
 use Rattle.mc_up.specs.declared.login_down.LoginDown.{LoginDown}
 use Rattle.mc_up.specs.declared.login_down.LoginDown.TheVariants.{Disconnect}
@@ -27,7 +27,7 @@ pub spelled : (p : LoginDown) → FitsLoginDown p → SpellsLoginDown p (spellin
 spelled (Disconnect reason) fits = fits_spelled (entry_of (Disconnect reason)) fits
 spelled p fits = fits_spelled (entry_of p) fits
 
-pub again : (p : LoginDown) → FitsLoginDown p → frame_read rows (spelling_of p) ≡ Ok p
+pub again : (p : LoginDown) → FitsLoginDown p → packet_read rows (spelling_of p) ≡ Ok p
 again (Disconnect reason) fits = spelled_again rows (Disconnect reason) (tied (Disconnect reason))
     fits
 again p fits = spelled_again rows p (tied p) fits

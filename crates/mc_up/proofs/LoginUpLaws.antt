@@ -1,6 +1,6 @@
 -- Each packet is found by its id, and the words of its enum are those of its row.
 use Rattle.std.proofs.Common.{◌≡◌, ℕ, List, Ok}
-use Rattle.mc_fields.specs.Row.{Spells, IsTied, frame_read}
+use Rattle.mc_fields.specs.Row.{Spells, IsTied, packet_read}
 use Rattle.mc_fields.specs.RowLaws.{row_tied, spelled_fits, fits_spelled, spelled_again}
 use Rattle.mc_up.specs.declared.login_up.LoginUp.{LoginUp}
 use Rattle.mc_up.specs.declared.login_up.LoginUp.TheVariants.{Start}
@@ -21,5 +21,5 @@ fit (Start name) bytes s = spelled_fits (entry_of (Start name)) bytes s
 pub spelled : (p : LoginUp) → FitsLoginUp p → SpellsLoginUp p (spelling_of p)
 spelled (Start name) fits = fits_spelled (entry_of (Start name)) fits
 
-pub again : (p : LoginUp) → FitsLoginUp p → frame_read rows (spelling_of p) ≡ Ok p
+pub again : (p : LoginUp) → FitsLoginUp p → packet_read rows (spelling_of p) ≡ Ok p
 again (Start name) fits = spelled_again rows (Start name) (tied (Start name)) fits

@@ -1,6 +1,6 @@
 -- Each packet is found by its id, and the words of its enum are those of its row.
 use Rattle.std.proofs.Common.{◌≡◌, ℕ, List, Ok}
-use Rattle.mc_fields.specs.Row.{Spells, IsTied, frame_read}
+use Rattle.mc_fields.specs.Row.{Spells, IsTied, packet_read}
 use Rattle.mc_fields.specs.RowLaws.{row_tied, spelled_fits, fits_spelled, spelled_again}
 use Rattle.mc_up.specs.declared.play_up.PlayUp.{PlayUp}
 use Rattle.mc_up.specs.declared.play_up.PlayUp.TheVariants.{KeepAlive}
@@ -29,6 +29,6 @@ pub spelled : (p : PlayUp) → FitsPlayUp p → SpellsPlayUp p (spelling_of p)
 spelled (KeepAlive number) fits = fits_spelled (entry_of (KeepAlive number)) fits
 spelled p fits = fits_spelled (entry_of p) fits
 
-pub again : (p : PlayUp) → FitsPlayUp p → frame_read rows (spelling_of p) ≡ Ok p
+pub again : (p : PlayUp) → FitsPlayUp p → packet_read rows (spelling_of p) ≡ Ok p
 again (KeepAlive number) fits = spelled_again rows (KeepAlive number) (tied (KeepAlive number)) fits
 again p fits = spelled_again rows p (tied p) fits

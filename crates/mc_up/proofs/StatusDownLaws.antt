@@ -1,6 +1,6 @@
 -- Each packet is found by its id, and the words of its enum are those of its row.
 use Rattle.std.proofs.Common.{◌≡◌, ℕ, List, Ok}
-use Rattle.mc_fields.specs.Row.{Spells, IsTied, frame_read}
+use Rattle.mc_fields.specs.Row.{Spells, IsTied, packet_read}
 use Rattle.mc_fields.specs.RowLaws.{row_tied, spelled_fits, fits_spelled, spelled_again}
 use Rattle.mc_up.specs.declared.status_down.StatusDown.{StatusDown}
 use Rattle.mc_up.specs.declared.status_down.StatusDown.TheVariants.{Pong}
@@ -26,6 +26,6 @@ pub spelled : (p : StatusDown) → FitsStatusDown p → SpellsStatusDown p (spel
 spelled (Pong number) fits = fits_spelled (entry_of (Pong number)) fits
 spelled p fits = fits_spelled (entry_of p) fits
 
-pub again : (p : StatusDown) → FitsStatusDown p → frame_read rows (spelling_of p) ≡ Ok p
+pub again : (p : StatusDown) → FitsStatusDown p → packet_read rows (spelling_of p) ≡ Ok p
 again (Pong number) fits = spelled_again rows (Pong number) (tied (Pong number)) fits
 again p fits = spelled_again rows p (tied p) fits

@@ -1,6 +1,6 @@
 -- Each packet is found by its id, and the words of its enum are those of its row.
 use Rattle.std.proofs.Common.{◌≡◌, ℕ, List, Ok}
-use Rattle.mc_fields.specs.Row.{Spells, IsTied, frame_read}
+use Rattle.mc_fields.specs.Row.{Spells, IsTied, packet_read}
 use Rattle.mc_fields.specs.RowLaws.{row_tied, spelled_fits, fits_spelled, spelled_again}
 use Rattle.mc_up.specs.declared.status_up.StatusUp.{StatusUp}
 use Rattle.mc_up.specs.declared.status_up.StatusUp.TheVariants.{Ping}
@@ -26,6 +26,6 @@ pub spelled : (p : StatusUp) → FitsStatusUp p → SpellsStatusUp p (spelling_o
 spelled (Ping number) fits = fits_spelled (entry_of (Ping number)) fits
 spelled p fits = fits_spelled (entry_of p) fits
 
-pub again : (p : StatusUp) → FitsStatusUp p → frame_read rows (spelling_of p) ≡ Ok p
+pub again : (p : StatusUp) → FitsStatusUp p → packet_read rows (spelling_of p) ≡ Ok p
 again (Ping number) fits = spelled_again rows (Ping number) (tied (Ping number)) fits
 again p fits = spelled_again rows p (tied p) fits

@@ -1,6 +1,6 @@
 ghost use Rattle.std.specs.Prelude.{◌≡◌, ◌++◌, ◌↔◌, ℕ, List, IsTrue, IfOk, OnOk, OnErr, Ok, take};
 ghost use Rattle.std.specs.Prelude.{length};
-ghost use Rattle.mc_fields.specs.Row.{GivesRow, GivesPacket, id_read, frame_read, packet_of};
+ghost use Rattle.mc_fields.specs.Row.{GivesRow, GivesPacket, id_read, packet_read, packet_of};
 ghost use Rattle.mc_up.specs.Hand.{rows, SpellsHand, FitsHand, spelling_of, append_of};
 
 use mc_fields::{
@@ -93,9 +93,9 @@ fn read_fields(alloc: Global, cursor: &mut Cursor<'_>, id: i32) -> Result<Hand, 
 }
 
 /// The packet of a frame, or its first fault, with its place counted from the frame's end.
-#[tactic(auto, unfolding(mc_fields::specs::Row::frame_read))]
+#[tactic(auto, unfolding(mc_fields::specs::Row::packet_read))]
 fn packet_in(alloc: Global, frame: &[u8]) -> Result<Hand, RowError>
-    ensures { GivesRow (λ packet. packet) result (frame_read rows frame.now) }
+    ensures { GivesRow (λ packet. packet) result (packet_read rows frame.now) }
 {
     let mut cursor = Cursor::new(frame);
     let id = take_varint(&mut cursor)?;
@@ -113,7 +113,7 @@ pub fn read_hand(alloc: Global, frame: &[u8]) -> Result<Hand, PacketRead>
     // A frame spells one packet at most.
     ensures one { (p q : Hand) → SpellsHand p frame.now → SpellsHand q frame.now → p ≡ q }
     // Which fault it is.
-    ensures exact { GivesPacket result (packet_of frame.now (frame_read rows frame.now)) }
+    ensures exact { GivesPacket result (packet_of frame.now (packet_read rows frame.now)) }
 {
     packet_in(alloc, frame).map_err(|error| error.within(frame.len()))
 }
@@ -142,7 +142,7 @@ pub fn write_hand(packet: &Hand, out: &mut Vec<u8>) -> Result<(), NoMemory>
     ensures ok { OnOk result (out.new.items ≡ out.old.items ++ spelling_of packet.now) }
     ensures spelled { SpellsHand packet.now (spelling_of packet.now) }
     // What is written is read as the same packet.
-    ensures again { frame_read rows (spelling_of packet.now) ≡ Ok packet.now }
+    ensures again { packet_read rows (spelling_of packet.now) ≡ Ok packet.now }
     ensures err { OnErr result (out.new.items ≡ out.old.items) }
 {
     let start = out.len();

@@ -1,5 +1,5 @@
 ghost use Rattle.std.specs.Prelude.{◌≡◌, ◌++◌, ℕ, List, IfOk, OnOk, OnErr, Ok, take, length};
-ghost use Rattle.mc_fields.specs.Row.{GivesRow, GivesPacket, id_read, frame_read, packet_of};
+ghost use Rattle.mc_fields.specs.Row.{GivesRow, GivesPacket, id_read, packet_read, packet_of};
 ghost use Rattle.mc_up.specs.LoginUp.{rows, SpellsLoginUp, FitsLoginUp, spelling_of, append_of};
 
 use mc_fields::{Bounded, Field, PacketRead, RowError, RowFault, put_row, take_varint, whole};
@@ -27,9 +27,9 @@ fn read_fields(alloc: Global, cursor: &mut Cursor<'_>, id: i32) -> Result<LoginU
 }
 
 /// The packet of a frame, or its first fault, with its place counted from the frame's end.
-#[tactic(auto, unfolding(mc_fields::specs::Row::frame_read))]
+#[tactic(auto, unfolding(mc_fields::specs::Row::packet_read))]
 fn packet_in(alloc: Global, frame: &[u8]) -> Result<LoginUp, RowError>
-    ensures { GivesRow (λ packet. packet) result (frame_read rows frame.now) }
+    ensures { GivesRow (λ packet. packet) result (packet_read rows frame.now) }
 {
     let mut cursor = Cursor::new(frame);
     let id = take_varint(&mut cursor)?;
@@ -47,7 +47,7 @@ pub fn read_login_up(alloc: Global, frame: &[u8]) -> Result<LoginUp, PacketRead>
     // A frame spells one packet at most.
     ensures one { (p q : LoginUp) → SpellsLoginUp p frame.now → SpellsLoginUp q frame.now → p ≡ q }
     // Which fault it is.
-    ensures exact { GivesPacket result (packet_of frame.now (frame_read rows frame.now)) }
+    ensures exact { GivesPacket result (packet_of frame.now (packet_read rows frame.now)) }
 {
     packet_in(alloc, frame).map_err(|error| error.within(frame.len()))
 }
@@ -71,7 +71,7 @@ pub fn write_login_up(packet: &LoginUp, out: &mut Vec<u8>) -> Result<(), NoMemor
     ensures ok { OnOk result (out.new.items ≡ out.old.items ++ spelling_of packet.now) }
     ensures spelled { SpellsLoginUp packet.now (spelling_of packet.now) }
     // What is written is read as the same packet.
-    ensures again { frame_read rows (spelling_of packet.now) ≡ Ok packet.now }
+    ensures again { packet_read rows (spelling_of packet.now) ≡ Ok packet.now }
     ensures err { OnErr result (out.new.items ≡ out.old.items) }
 {
     let start = out.len();

@@ -1,7 +1,7 @@
 //! The packets of a client that plays: the enum, its reader and its writer.
 
 ghost use Rattle.std.specs.Prelude.{◌≡◌, ◌++◌, ℕ, List, IfOk, OnOk, OnErr, Ok};
-ghost use Rattle.mc_fields.specs.Row.{GivesRow, GivesPacket, frame_read, packet_of};
+ghost use Rattle.mc_fields.specs.Row.{GivesRow, GivesPacket, packet_read, packet_of};
 ghost use Rattle.mc_up.specs.PlayUp.{rows, SpellsPlayUp, spelling_of};
 
 mod parts;
@@ -118,9 +118,9 @@ pub enum PlayUp {
 }
 
 /// The packet of a frame, or its first fault, with its place counted from the frame's end.
-#[tactic(auto, unfolding(mc_fields::specs::Row::frame_read))]
+#[tactic(auto, unfolding(mc_fields::specs::Row::packet_read))]
 fn packet_in(alloc: Global, frame: &[u8]) -> Result<PlayUp, RowError>
-    ensures { GivesRow (λ packet. packet) result (frame_read rows frame.now) }
+    ensures { GivesRow (λ packet. packet) result (packet_read rows frame.now) }
 {
     let mut cursor = Cursor::new(frame);
     let id = take_varint(&mut cursor)?;
@@ -138,7 +138,7 @@ pub fn read_play_up(alloc: Global, frame: &[u8]) -> Result<PlayUp, PacketRead>
     // A frame spells one packet at most.
     ensures one { (p q : PlayUp) → SpellsPlayUp p frame.now → SpellsPlayUp q frame.now → p ≡ q }
     // Which fault it is.
-    ensures exact { GivesPacket result (packet_of frame.now (frame_read rows frame.now)) }
+    ensures exact { GivesPacket result (packet_of frame.now (packet_read rows frame.now)) }
 {
     packet_in(alloc, frame).map_err(|error| error.within(frame.len()))
 }
@@ -150,7 +150,7 @@ pub fn write_play_up(packet: &PlayUp, out: &mut Vec<u8>) -> Result<(), NoMemory>
     ensures ok { OnOk result (out.new.items ≡ out.old.items ++ spelling_of packet.now) }
     ensures spelled { SpellsPlayUp packet.now (spelling_of packet.now) }
     // What is written is read as the same packet.
-    ensures again { frame_read rows (spelling_of packet.now) ≡ Ok packet.now }
+    ensures again { packet_read rows (spelling_of packet.now) ≡ Ok packet.now }
     ensures err { OnErr result (out.new.items ≡ out.old.items) }
 {
     let start = out.len();

@@ -1,5 +1,5 @@
 ghost use Rattle.std.specs.Prelude.{◌≡◌, ◌++◌, ℕ, List, IfOk, OnOk, OnErr, Ok, take, length};
-ghost use Rattle.mc_fields.specs.Row.{GivesRow, GivesPacket, id_read, frame_read, packet_of};
+ghost use Rattle.mc_fields.specs.Row.{GivesRow, GivesPacket, id_read, packet_read, packet_of};
 ghost use Rattle.mc_up.specs.StatusDown.{rows, SpellsStatusDown, FitsStatusDown};
 ghost use Rattle.mc_up.specs.StatusDown.{spelling_of, append_of};
 
@@ -28,9 +28,9 @@ fn read_fields(alloc: Global, cursor: &mut Cursor<'_>, id: i32) -> Result<Status
 }
 
 /// The packet of a frame, or its first fault, with its place counted from the frame's end.
-#[tactic(auto, unfolding(mc_fields::specs::Row::frame_read))]
+#[tactic(auto, unfolding(mc_fields::specs::Row::packet_read))]
 fn packet_in(alloc: Global, frame: &[u8]) -> Result<StatusDown, RowError>
-    ensures { GivesRow (λ packet. packet) result (frame_read rows frame.now) }
+    ensures { GivesRow (λ packet. packet) result (packet_read rows frame.now) }
 {
     let mut cursor = Cursor::new(frame);
     let id = take_varint(&mut cursor)?;
@@ -49,7 +49,7 @@ pub fn read_status_down(alloc: Global, frame: &[u8]) -> Result<StatusDown, Packe
     ensures one { (p q : StatusDown) → SpellsStatusDown p frame.now →
         SpellsStatusDown q frame.now → p ≡ q }
     // Which fault it is.
-    ensures exact { GivesPacket result (packet_of frame.now (frame_read rows frame.now)) }
+    ensures exact { GivesPacket result (packet_of frame.now (packet_read rows frame.now)) }
 {
     packet_in(alloc, frame).map_err(|error| error.within(frame.len()))
 }
@@ -73,7 +73,7 @@ pub fn write_status_down(packet: &StatusDown, out: &mut Vec<u8>) -> Result<(), N
     ensures ok { OnOk result (out.new.items ≡ out.old.items ++ spelling_of packet.now) }
     ensures spelled { SpellsStatusDown packet.now (spelling_of packet.now) }
     // What is written is read as the same packet.
-    ensures again { frame_read rows (spelling_of packet.now) ≡ Ok packet.now }
+    ensures again { packet_read rows (spelling_of packet.now) ≡ Ok packet.now }
     ensures err { OnErr result (out.new.items ≡ out.old.items) }
 {
     let start = out.len();

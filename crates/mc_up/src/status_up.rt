@@ -1,7 +1,7 @@
 ghost use Rattle.std.specs.Prelude.{◌≡◌, ◌≢◌, ◌++◌, ℕ, List, IfOk, IfErr, OnOk, OnErr, Ok, take};
 ghost use Rattle.std.specs.Prelude.{length};
 ghost use Rattle.mc_nbt.specs.Reading.{Yields};
-ghost use Rattle.mc_fields.specs.Row.{GivesPacket, id_read, frame_read, packet_of};
+ghost use Rattle.mc_fields.specs.Row.{GivesPacket, id_read, packet_read, packet_of};
 ghost use Rattle.mc_up.specs.StatusUp.{rows, SpellsStatusUp, FitsStatusUp, spelling_of, append_of};
 
 use mc_fields::{PacketRead, RowFault, put_row, take_i64, take_varint, whole, write_varint};
@@ -28,9 +28,9 @@ fn read_fields(cursor: &mut Cursor<'_>, id: i32) -> Result<StatusUp, RowFault>
 }
 
 /// The packet of a frame, or its first fault, with its place counted from the frame's end.
-#[tactic(auto, unfolding(mc_fields::specs::Row::frame_read))]
+#[tactic(auto, unfolding(mc_fields::specs::Row::packet_read))]
 fn packet_in(frame: &[u8]) -> Result<StatusUp, RowFault>
-    ensures { Yields (λ packet. packet) result (frame_read rows frame.now) }
+    ensures { Yields (λ packet. packet) result (packet_read rows frame.now) }
 {
     let mut cursor = Cursor::new(frame);
     let id = take_varint(&mut cursor)?;
@@ -49,7 +49,7 @@ pub fn read_status_up(frame: &[u8]) -> Result<StatusUp, PacketRead>
     ensures one { (p q : StatusUp) → SpellsStatusUp p frame.now →
         SpellsStatusUp q frame.now → p ≡ q }
     // Which fault it is.
-    ensures exact { GivesPacket result (packet_of frame.now (frame_read rows frame.now)) }
+    ensures exact { GivesPacket result (packet_of frame.now (packet_read rows frame.now)) }
     // It never finds too little memory.
     ensures memory { IfErr result (λ error. error ≢ PacketRead.NoMemory) }
 {
@@ -75,7 +75,7 @@ pub fn write_status_up(packet: &StatusUp, out: &mut Vec<u8>) -> Result<(), NoMem
     ensures ok { OnOk result (out.new.items ≡ out.old.items ++ spelling_of packet.now) }
     ensures spelled { SpellsStatusUp packet.now (spelling_of packet.now) }
     // What is written is read as the same packet.
-    ensures again { frame_read rows (spelling_of packet.now) ≡ Ok packet.now }
+    ensures again { packet_read rows (spelling_of packet.now) ≡ Ok packet.now }
     ensures err { OnErr result (out.new.items ≡ out.old.items) }
 {
     let start = out.len();

@@ -1,12 +1,12 @@
 //! Devices in memory: `source BYTES FAILS STEP ..` reads from one, and `sink FAILS STEP ..` writes
-//! to one. `FAILS` is `steady` for a device that never fails, or `-` or the numbers of the calls that
-//! fail, with commas between them.
+//! to one. `FAILS` is `steady` for a device that never fails, or `-` or the numbers of the calls
+//! that fail, with commas between them.
 
 use crate::answer::Answer;
 use crate::words::Words;
 use mc_wire::{
-    Failed, InputError, MemorySink, MemorySource, Sink, Source, SteadySink, SteadySource, read_all,
-    write_all,
+    Failed, InputError, MemorySink, MemorySource, Sink, Source, SteadySink, SteadySource,
+    read_up_to, write_all,
 };
 
 /// The numbers of the next word.
@@ -34,7 +34,7 @@ pub fn source(words: &mut Words<'_>, answer: &mut Answer) {
     }
 }
 
-/// Reads into two bytes or to the end, as many times as there are words.
+/// Reads into two bytes or up to a number of bytes, as many times as there are words.
 fn read_steps<S: Source>(source: &mut S, words: &mut Words<'_>, answer: &mut Answer) {
     let mut room = [0; 2];
     for _ in 0..64 {
@@ -45,7 +45,7 @@ fn read_steps<S: Source>(source: &mut S, words: &mut Words<'_>, answer: &mut Ans
     }
 }
 
-/// Reads into two bytes, or all that is left.
+/// Reads into two bytes, or so many bytes as the next word says.
 fn read_step<S: Source>(
     source: &mut S,
     room: &mut [u8; 2],
@@ -57,14 +57,17 @@ fn read_step<S: Source>(
             put_count(source.read(room), answer);
             answer.bytes(room);
         }
-        "all" => put_all(read_all(words.alloc, source), answer),
+        "up_to" => {
+            let most: usize = words.number();
+            put_read(read_up_to(words.alloc, source, most), answer);
+        }
         _ => words.fail(),
     }
 }
 
-/// Puts all that a source had.
-fn put_all(all: Result<Vec<u8>, InputError>, answer: &mut Answer) {
-    match all {
+/// Puts what was read of a source.
+fn put_read(read: Result<Vec<u8>, InputError>, answer: &mut Answer) {
+    match read {
         Ok(bytes) => answer.bytes(&bytes),
         Err(InputError::Failed) => answer.word("failed"),
         Err(InputError::NoMemory) => answer.lose(),

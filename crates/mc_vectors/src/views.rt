@@ -1,6 +1,6 @@
-//! Views and what a client is told: `view CALL VIEW ..` works on views, each `CX CZ D`; `form` compares
-//! two spots, each `X Y Z YAW PITCH`; and `tracker CALL ..` works on the tracker that the rows before
-//! left. A pile is one word, `IDxCOUNT:DAMAGE` or `empty`.
+//! Views and what a client is told: `view CALL VIEW ..` works on views, each `CX CZ D`; `form`
+//! compares two spots, each `X Y Z YAW PITCH`; and `tracker CALL ..` works on the tracker that the
+//! rows before left. A pile is one word, `IDxCOUNT:DAMAGE` or `empty`.
 
 use crate::answer::Answer;
 use crate::windows::pile_of;

@@ -1,15 +1,11 @@
 -- The columns around a player that its client is shown. Rules of this project.
-use Rattle.std.specs.Prelude.{ℕ, max, min, ◌+◌, ◌*◌, nat_le, unsigned_abs, Bool, ◌&&◌, List, map}
+use Rattle.std.specs.Prelude.{ℕ, max, min, ◌+◌, ◌*◌, List, map}
 use Rattle.std.specs.List.{flat_map, range_with_len}
 use Rattle.std.specs.Int.{int_div_euclid}
 use lib.IntN.{ℤ, pos, negsuc, ◌+ℤ◌, ◌-ℤ◌}
 use Rattle.mc_land.specs.Places.{Place}
+pub use Rattle.mc_land.specs.Shed.{is_in_view}
 use Rattle.mc_fields.specs.declared.position.Spot.{Spot}
-
--- a column is at most d columns off the middle on each axis
-abbrev pub is_in_view : Place → ℕ → Place → Bool
-is_in_view middle d place =
-    nat_le (unsigned_abs (place.0 -ℤ middle.0)) d && nat_le (unsigned_abs (place.1 -ℤ middle.1)) d
 
 -- n whole numbers, from one on
 abbrev pub run_of : ℤ → ℕ → List ℤ

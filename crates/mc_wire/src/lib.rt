@@ -33,7 +33,7 @@ pub use memory_lobby::MemoryLobby;
 pub use memory_sink::MemorySink;
 pub use memory_source::MemorySource;
 pub use sink::{Sink, write_all};
-pub use source::{Source, read_all};
+pub use source::{Source, read_up_to};
 pub use steady_lobby::SteadyLobby;
 pub use steady_sink::SteadySink;
 pub use steady_source::SteadySource;

@@ -30,7 +30,8 @@ impl MemorySource {
     /// A source with all of the bytes left, whose reads with these numbers fail. Reads are numbered
     /// from 0, those that fail too.
     pub fn new(bytes: Vec<u8>, fails: Vec<u64>) -> MemorySource
-        ensures { result ≡ record { left = bytes.items; fails = fails.items; calls = 0; faults = 0 } }
+        ensures { result ≡
+            record { left = bytes.items; fails = fails.items; calls = 0; faults = 0 } }
     {
         MemorySource {
             steady: SteadySource::new(bytes),

@@ -18,7 +18,8 @@ pub trait Sink {
     fn write(&mut self, piece: &[u8]) -> Result<usize, Failed>
         requires { 0 < length piece.now }
         ensures took { IfOk result (λ n. (0 < n) × (n ≤ length piece.now)) }
-        ensures grows { IfOk result (λ n. Grows (held self.old) (held self.new) (take n piece.now)) }
+        ensures grows { IfOk result
+            (λ n. Grows (held self.old) (held self.new) (take n piece.now)) }
         ensures kept { OnErr result (held self.new ≡ held self.old) }
         ensures failed { OnErr result (Rose (faults self.old) (faults self.new)) }
         ensures counts { NeverFalls (faults self.old) (faults self.new) };

@@ -134,7 +134,7 @@ impl Land {
 }
 
 /// The id of a chest.
-const CHEST: u16 = 54;
+pub const CHEST: u16 = 54;
 
 /// Whether a state is a chest's.
 fn is_chest(state: u16) -> bool

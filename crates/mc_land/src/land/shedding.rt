@@ -1,6 +1,5 @@
 ghost use Rattle.std.specs.Prelude.{◌≡◌, ◌+◌, ◌<◌, ◌≤◌, ℕ, List, length, slice_index_or};
 ghost use Rattle.std.specs.Prelude.{if◌then◌else◌};
-ghost use Rattle.std.specs.List.{list_any};
 ghost use Rattle.std.specs.Ordering.{eq_by_cmp};
 ghost use Rattle.std.specs.FinMap.{find};
 ghost use Rattle.std.specs.Option.{option_map};
@@ -8,7 +7,7 @@ ghost use Rattle.mc_land.specs.Places.{Place, place_cmp};
 ghost use Rattle.mc_land.specs.KeptLand.{IsIndexed};
 ghost use Rattle.mc_land.specs.Ready.{ReadyValue};
 ghost use Rattle.mc_land.specs.ShedCode.{AreShed, IsShed, IsTakenAway, is_kept};
-ghost use Rattle.mc_land.specs.Shed.{IsSettled, View, is_seen, shed_land};
+ghost use Rattle.mc_land.specs.Shed.{IsSettled, View, is_in_view, is_seen, shed_land};
 
 use super::Land;
 use crate::places::Place;
@@ -64,19 +63,19 @@ fn shed_one(
 fn is_kept(ready: &Ready, views: &[(i32, i32, u8)]) -> bool
     ensures { result ≡ is_kept views.now ready.now }
 {
-    ready.edits() != 0 || is_seen_by(ready.place(), views)
+    ready.edits() != 0 || is_seen(ready.place(), views)
 }
 
 /// Whether one of some views reaches a column.
-fn is_seen_by(place: &Place, views: &[(i32, i32, u8)]) -> bool
-    ensures { result ≡ list_any (is_seen place.now) views.now }
+fn is_seen(place: &Place, views: &[(i32, i32, u8)]) -> bool
+    ensures { result ≡ is_seen views.now place.now }
 {
-    views.iter().any(|view| is_seen(place, view))
+    views.iter().any(|view| is_in_view(place, view))
 }
 
 /// Whether a view reaches a column.
-fn is_seen(place: &Place, view: &(i32, i32, u8)) -> bool
-    ensures { result ≡ is_seen place.now view.now }
+fn is_in_view(place: &Place, view: &(i32, i32, u8)) -> bool
+    ensures { result ≡ is_in_view (view.now.0, view.now.1) view.now.2 place.now }
 {
     let reach = u32::from(view.2);
     place.0.abs_diff(view.0) <= reach && place.1.abs_diff(view.1) <= reach

@@ -71,6 +71,7 @@ impl Nbt {
         let (name, entries) = read_parts(alloc, input)?;
         let read = Ok(Nbt { name, entries });
         // For the prover: reading went forward.
+        // Only the prover needs these lines: reading went forward.
         let left = input.rest().len();
         prove!(left <= bytes.len());
         read

@@ -1,5 +1,5 @@
 use Rattle.std.proofs.Common.{◌≡◌, ℕ, ◌-◌, ◌*◌, ◌^◌, ◌<◌, ap, ◌∙◌, arith, rules}
-use Rattle.mc_fields.specs.Pattern.{StandsForTurn}
+use Rattle.mc_fields.specs.Pattern.{RepresentsTurn}
 use Rattle.mc_fields.proofs.Patterns.{top_below, stands_turn, turns_again, turns_only}
 use Rattle.mc_fields.proofs.binary32.degrees.Goals as goal
 
@@ -21,7 +21,7 @@ returns-clause-stands c =
     c.raised.ensures.high few value)
 
 pub returns-then-a-eq0-clause-again : goal.returns-then-a-eq0-clause-again
-returns-then-a-eq0-clause-again c = let stands : StandsForTurn c.args.a 0 = search rules in
+returns-then-a-eq0-clause-again c = let stands : RepresentsTurn c.args.a 0 = search rules in
     turns_again c.args.a 0 c.ranges.a.fits stands
 
 pub returns-clause-again : goal.returns-clause-again

@@ -1,6 +1,7 @@
 use Rattle.mc_nbt.specs.Format.{Anything}
 use Rattle.mc_nbt.specs.PlacedLaws.{PlacedGives-found, PlacedGives-only}
-use Rattle.mc_slots.specs.SlotFormat.{SpellsSlot, slot_read, slot_found, slot_only}
+use Rattle.mc_slots.specs.Slot.{SpellsSlot, slot_read}
+use Rattle.mc_slots.specs.SlotLaws.{slot_found, slot_only}
 use Rattle.mc_slots.proofs.slot.read_slot.Goals as goal
 
 pub returns-clause-found : goal.returns-clause-found

@@ -1,13 +1,14 @@
 use Rattle.std.proofs.Common.{◌≡◌, ◌∙◌, rules}
 use Rattle.mc_nbt.specs.Format.{Anything}
-use Rattle.mc_slots.specs.Slot.{IsTyped}
-use Rattle.mc_slots.specs.SlotFormat.{wire, slot_appended, slot_spelled, slot_again}
+use Rattle.mc_slots.specs.Slot.{IsTyped, pick}
+use Rattle.mc_slots.specs.SlotParts.{parts}
+use Rattle.mc_slots.specs.SlotLaws.{slot_appended, slot_spelled, slot_again}
 use Rattle.mc_slots.proofs.slot.write_slot.Goals as goal
 
 pub returns-clause-ok : goal.returns-clause-ok
 returns-clause-ok c =
-    let written : c.write_parts.new.out.items ≡ (wire {Rest = Anything}).append c.args.slot.now
-    c.args.out.now.items = search rules in
+    let written : c.write_parts.new.out.items ≡
+    (parts {Rest = Anything}).append (pick c.args.slot.now) c.args.out.now.items = search rules in
     written ∙ slot_appended c.args.slot.now c.args.out.now.items
 
 pub returns-clause-spelled : goal.returns-clause-spelled

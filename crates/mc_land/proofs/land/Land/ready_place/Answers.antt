@@ -17,8 +17,8 @@ invariant_of-self-2 c =
     c.self.inside.index.entries c.self.invariant.1 (sym c.index_at.ensures ∙
     not_there c.index_at.result (sym c.if-is_some.ensures)) in (
       push_keeps _ c.self.inside.columns.items _ _ c.args.place.now _ c.in_ok-push_ready.ensures.ok
-          (fresh_new _ _ _ _ c.requires c.in_ok-column.ensures c.new-ready.ensures) c.self.invariant.0
-          none,
+          (fresh_new _ _ _ _ c.requires c.in_ok-column.ensures c.new-ready.ensures)
+          c.self.invariant.0 none,
       c.push_ready.ensures.indexed,
     )
 

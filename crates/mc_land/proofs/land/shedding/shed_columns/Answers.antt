@@ -8,8 +8,8 @@ loop-i-preserved c =
     let step : c.loop-i.i ≡ c.loop-i.i - 1 + 1 = omega (arith, c.loop-i-test.true) in (
       c.shed_one.ensures.indexed,
       c.shed_one.ensures.step c.args.columns.now.items
-          (subst (λ (n : ℕ). AreShed c.args.views.now c.args.columns.now.items c.loop-i.columns.items
-          n) step c.loop-i.invariant.1),
+          (subst (λ (n : ℕ). AreShed c.args.views.now c.args.columns.now.items
+          c.loop-i.columns.items n) step c.loop-i.invariant.1),
     )
 
 pub returns-clause-shed : goal.returns-clause-shed
