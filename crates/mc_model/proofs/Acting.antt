@@ -1,11 +1,12 @@
 -- What a frame comes to, done: what it makes of its connection.
 use Rattle.std.proofs.Common.{◌≡◌, ℕ, ◌+◌, List, [], ◌∷◌, inl, inr, refl, sym, subst, ap, ◌∙◌}
-use Rattle.std.specs.Prelude.{◌⊎◌, ◌==◌, Bool, true, false, Option, Some, None, Result, Ok, Err, if◌then◌else◌}
+use Rattle.std.specs.Prelude.{◌⊎◌, ◌==◌, true, false, Option, Some, None, option_map, Result}
+use Rattle.std.specs.Prelude.{Ok, Err, if◌then◌else◌}
 use Rattle.std.specs.Option.{option_and_then}
 use lib.IntN.{ℤ, pos, negsuc}
 use Rattle.mc_fields.specs.declared.packet.PacketFault.{PacketFault}
 use Rattle.mc_fields.specs.declared.position.Spot.{Spot}
-use Rattle.mc_fields.specs.Row.{frame_read, packet_of}
+use Rattle.mc_fields.specs.Row.{packet_read, packet_of}
 use Rattle.mc_up.specs.declared.handshake.Hand.{Hand}
 use Rattle.mc_up.specs.declared.handshake.Hand.TheVariants.{Handshake}
 use Rattle.mc_up.specs.declared.status_up.StatusUp.{StatusUp}
@@ -24,19 +25,28 @@ use Rattle.mc_model.specs.declared.cause.Refusal.{Refusal}
 use Rattle.mc_model.specs.declared.stage.Stage.{Stage}
 use Rattle.mc_model.specs.declared.stage.Stage.TheVariants as stages
 use Rattle.mc_model.specs.Names.{offline_uuid}
-use Rattle.mc_model.specs.World.{World, Session, found, put, is_play, is_closed, spawn_spot}
-use Rattle.mc_model.specs.Hearing.{Sent, of_status, played}
-use Rattle.mc_model.specs.Acts.{act, arrive, arrived, is_in_range, moved, turned}
-use Rattle.mc_model.specs.Talk.{Said, nothing, greets, replies, ends, enters, acts, wrong, said, in_hand, in_status, in_login, in_play, wanted, farewell, refused, accepted}
-use Rattle.mc_model.specs.Step.{still, perform, refusal, answer_login, acted, entered as entering}
-use Rattle.mc_model.proofs.Handing.{stayed, answered, greeted, entered, IsLast, owes_same, Goes, goes_still, goes_put, goes_hand, goes_close, play_is, not_both}
+use Rattle.mc_model.specs.Sight.{Sight}
+use Rattle.mc_model.specs.World.{World, Session, Player, found, put, is_play, is_closed, spot_of}
+use Rattle.mc_model.specs.World.{spawn_spot}
+use Rattle.mc_model.specs.Packets.{Sent, of_status}
+use Rattle.mc_model.specs.Movement.{arrive, arrived, is_in_range, moved, turned}
+use Rattle.mc_model.specs.Acts.{act}
+use Rattle.mc_model.specs.Talk.{ClientRequest, nothing, greets, replies, ends, enters, acts, wrong}
+use Rattle.mc_model.specs.Talk.{request_of, in_hand, in_status, in_login, in_play, wanted, farewell}
+use Rattle.mc_model.specs.Talk.{refused, accepted}
+use Rattle.mc_model.specs.Step.{still, perform, refusal, answer_login, acted, act_by, new_player}
+use Rattle.mc_model.specs.Step.{entered as entering}
+use Rattle.mc_model.proofs.Handing.{shown_in, stayed, answered, greeted, entered, IsLast, owes_same}
+use Rattle.mc_model.proofs.Handing.{Goes, goes_still, goes_put, goes_hand, goes_close, play_is}
+use Rattle.mc_model.proofs.Handing.{not_both}
 
 -- ---- which answers a stage has
 
 -- what a frame can come to at a stage
-abbrev pub Suits : Stage → Said → Type 0
+abbrev pub Suits : Stage → ClientRequest → Type 0
 Suits stage nothing = Unit {0}
-Suits stage (greets protocol to) = (stage ≡ stages.Hand) × (is_play to ≡ false) × (is_closed to ≡ false)
+Suits stage (greets protocol to) = (stage ≡ stages.Hand) × (is_play to ≡ false)
+    × (is_closed to ≡ false)
 Suits stage (replies packet) = stage ≡ stages.Status
 Suits stage (ends packet) = stage ≡ stages.Status
 Suits stage (enters name) = stage ≡ stages.Login
@@ -44,17 +54,21 @@ Suits stage (acts packet) = stage ≡ stages.Play
 Suits stage (wrong fault) = Unit {0}
 
 wanted_waits : (n : ℤ) → (is_play (wanted n) ≡ false) × (is_closed (wanted n) ≡ false)
-wanted_waits (pos n) = elim (n == 1) as (λ b. (is_play (if b then stages.Status else stages.Login) ≡ false) × (is_closed (if b then stages.Status else stages.Login) ≡ false)) [
-  | true ↦ (refl, refl)
-  | false ↦ (refl, refl)
-]
+wanted_waits (pos n) = elim (n == 1) as
+    (λ b. (is_play (if b then stages.Status else stages.Login) ≡ false)
+    × (is_closed (if b then stages.Status else stages.Login) ≡ false)) [
+      | true ↦ (refl, refl)
+      | false ↦ (refl, refl)
+    ]
 wanted_waits (negsuc n) = (refl, refl)
 
 hand_suits : (r : Result Hand PacketFault) → Suits stages.Hand (in_hand r)
-hand_suits (Ok (Handshake protocol address port next)) = let w = wanted_waits next in (refl, w.0, w.1)
+hand_suits (Ok (Handshake protocol address port next)) = let w = wanted_waits next in
+    (refl, w.0, w.1)
 hand_suits (Err fault) = tt
 
-status_suits : (most online : ℕ) (r : Result StatusUp PacketFault) → Suits stages.Status (in_status most online r)
+status_suits : (most online : ℕ) (r : Result StatusUp PacketFault) →
+    Suits stages.Status (in_status most online r)
 status_suits most online (Ok Request) = refl
 status_suits most online (Ok (Ping number)) = refl
 status_suits most online (Err fault) = tt
@@ -67,40 +81,51 @@ play_suits : (r : Result PlayUp PacketFault) → Suits stages.Play (in_play r)
 play_suits (Ok packet) = refl
 play_suits (Err fault) = tt
 
-pub suits : (stage : Stage) (most online : ℕ) (frame : List ℕ) → Suits stage (said stage most online frame)
-unfolding said
-suits stages.Hand most online frame = hand_suits (packet_of frame (frame_read hand.rows frame))
-suits stages.Status most online frame = status_suits most online (packet_of frame (frame_read status.rows frame))
-suits stages.Login most online frame = login_suits (packet_of frame (frame_read login.rows frame))
+pub suits : (stage : Stage) (most online : ℕ) (frame : List ℕ) →
+    Suits stage (request_of stage most online frame)
+unfolding request_of
+suits stages.Hand most online frame = hand_suits (packet_of frame (packet_read hand.rows frame))
+suits stages.Status most online frame =
+    status_suits most online (packet_of frame (packet_read status.rows frame))
+suits stages.Login most online frame = login_suits (packet_of frame (packet_read login.rows frame))
 suits stages.Asked most online frame = tt
-suits stages.Play most online frame = play_suits (packet_of frame (frame_read play.rows frame))
+suits stages.Play most online frame = play_suits (packet_of frame (packet_read play.rows frame))
 suits stages.Closed most online frame = tt
 
 -- ---- what a player does
 
--- it changes nothing but the player's own place, look, view and notes
+-- it changes nothing but the player's own spot, view and notes
 pub record Acted (w : World) (s : Session) (v : World) : Type 0 where
   pub session : Session
   pub id : session.id ≡ s.id
   pub stage : session.stage ≡ s.stage
-  pub shown : session.shown ≡ s.shown
+  pub shown : shown_in session ≡ shown_in s
   pub cause : session.cause ≡ s.cause
   pub owed : session.owed ≡ s.owed
   pub is : (v ≡ w) ⊎ (v ≡ put w session)
 
-arrived_acted : (w : World) (s : Session) (spot : Spot) → Acted w s (put w (arrived w s spot))
-arrived_acted w s spot = record {
-  session = arrived w s spot;
-  id = elim (is_in_range spot) as (λ b. (session_of b).id ≡ s.id) [ true ↦ refl | false ↦ refl ];
-  stage = elim (is_in_range spot) as (λ b. (session_of b).stage ≡ s.stage) [ true ↦ refl | false ↦ refl ];
-  shown = elim (is_in_range spot) as (λ b. (session_of b).shown ≡ s.shown) [ true ↦ refl | false ↦ refl ];
-  cause = elim (is_in_range spot) as (λ b. (session_of b).cause ≡ s.cause) [ true ↦ refl | false ↦ refl ];
-  owed = elim (is_in_range spot) as (λ b. (session_of b).owed ≡ s.owed) [ true ↦ refl | false ↦ refl ];
+arrived_shown : (w : World) (p : Player) (spot : Spot) → (arrived w p spot).shown ≡ p.shown
+arrived_shown w p spot = elim (is_in_range spot) as
+    (λ b. (if b then record p { spot = spot } else
+    record p {
+      spot = spawn_spot w.terrain;
+      notes =
+          record p.notes { placing = true };
+    }).shown ≡ p.shown) [ true ↦ refl | false ↦ refl ]
+
+-- another player in the place of one, that was shown the same
+player_acted : (w : World) (s : Session) (p q : Player) → s.player ≡ Some p → q.shown ≡ p.shown →
+    Acted w s (put w (record s { player = Some q }))
+player_acted w s p q there same = record {
+  session = record s { player = Some q };
+  id = refl;
+  stage = refl;
+  shown = ap (λ (seen : Option Sight). Some seen) same
+      ∙ sym (ap (option_map (λ (p : Player). p.shown)) there);
+  cause = refl;
+  owed = refl;
   is = inr refl;
 }
-  where
-    session_of : Bool → Session
-    session_of b = if b then record s { place = spot } else record s { place = spawn_spot w.terrain; notes = record s.notes { placing = true } }
 
 some_is : {A : Type 0} (a b : A) → Some a ≡ Some b → a ≡ b
 some_is a b e = cc
@@ -108,32 +133,46 @@ some_is a b e = cc
 none_some : {A : Type 0} (a : A) → ◌≡◌ {A = Option A} None (Some a) → ⊥
 none_some a e = cc
 
-arrive_acted : (w : World) (s : Session) (o : Option Spot) (v : World) → arrive w s o ≡ Some v → Acted w s v
-arrive_acted w s None v e = absurd (none_some v e)
-arrive_acted w s (Some spot) v e =
+arrive_acted : (w : World) (s : Session) (p : Player) (o : Option Spot) (v : World) →
+    s.player ≡ Some p → arrive w s p o ≡ Some v → Acted w s v
+arrive_acted w s p None v there e = absurd (none_some v e)
+arrive_acted w s p (Some spot) v there e =
     let P : World → Type 0 = λ u. Acted w s u in
-    subst P (some_is (put w (arrived w s spot)) v e) (arrived_acted w s spot)
+    subst P (some_is (put w (record s { player = Some (arrived w p spot) })) v e)
+    (player_acted w s p (arrived w p spot) there (arrived_shown w p spot))
 
-pub act_acted : (w : World) (s : Session) (x : PlayUp) (v : World) → act w s x ≡ Some v → Acted w s v
+pub act_acted : (w : World) (s : Session) (p : Player) (x : PlayUp) (v : World) →
+    s.player ≡ Some p → act w s p x ≡ Some v → Acted w s v
 unfolding act
-act_acted w s (Position x y z on_ground) v e = arrive_acted w s (moved s.place x y z) v e
-act_acted w s (Look yaw pitch on_ground) v e = arrive_acted w s (turned s.place yaw pitch) v e
-act_acted w s (PositionLook x y z yaw pitch on_ground) v e = arrive_acted w s (option_and_then (λ (to : Spot). turned to yaw pitch) (moved s.place x y z)) v e
-act_acted w s (Settings locale view chat_mode colours skin) v e = record {
-  session = record s { asked = view };
+act_acted w s p (Position x y z on_ground) v there e =
+    arrive_acted w s p (moved (spot_of w p) x y z) v there e
+act_acted w s p (Look yaw pitch on_ground) v there e =
+    arrive_acted w s p (turned (spot_of w p) yaw pitch) v there e
+act_acted w s p (PositionLook x y z yaw pitch on_ground) v there e =
+    arrive_acted w s p (option_and_then (λ (to : Spot). turned to yaw pitch)
+    (moved (spot_of w p) x y z)) v there e
+act_acted w s p (Settings locale view chat_mode colours skin) v there e =
+    let P : World → Type 0 = λ u. Acted w s u in
+    subst P (some_is (put w (record s { player = Some (record p { view_byte = view }) })) v e)
+    (player_acted w s p (record p { view_byte = view }) there refl)
+act_acted w s p other v there e = record {
+  session = s;
   id = refl;
   stage = refl;
-  shown = refl;
+  shown =
+      refl;
   cause = refl;
   owed = refl;
-  is = inr (sym (some_is (put w (record s { asked = view })) v e));
+  is = inl (sym (some_is w v e));
 }
-act_acted w s other v e = record { session = s; id = refl; stage = refl; shown = refl; cause = refl; owed = refl; is = inl (sym (some_is w v e)) }
 
-goes_acted : (k : ℕ) (w v : World) (s : Session) → found k w.sessions ≡ Some s → s.id ≡ k → Acted w s v → Goes k w s (still v)
+goes_acted : (k : ℕ) (w v : World) (s : Session) → found k w.sessions ≡ Some s → s.id ≡ k →
+    Acted w s v → Goes k w s (still v)
 goes_acted k w v s e is a = elim (a.is) [
   | inl same ↦ subst (λ (u : World). Goes k w s (still u)) (sym same) (goes_still k w s e)
-  | inr same ↦ subst (λ (u : World). Goes k w s (still u)) (sym same) (goes_put k w w.eids s a.session [] e (a.id ∙ is) (stayed a.stage a.shown a.cause refl) (owes_same s a.session a.owed))
+  | inr same ↦ subst (λ (u : World). Goes k w s (still u)) (sym same)
+      (goes_put k w w.eids s a.session [] e (a.id ∙ is) (stayed a.stage a.shown a.cause refl)
+      (owes_same s a.session a.owed))
 ]
 
 -- ---- a frame done
@@ -146,7 +185,8 @@ farewell_last stage cause = record {
 }
 
 -- the end of a status
-status_last : (stage : Stage) (cause : Cause) (ps : List Sent) → stage ≡ stages.Status → IsLast stage cause ps
+status_last : (stage : Stage) (cause : Cause) (ps : List Sent) → stage ≡ stages.Status →
+    IsLast stage cause ps
 status_last stage cause ps is = record {
   in_play = λ playing. absurd (not_both (is_play stage) playing (ap is_play is));
   in_login = λ at. absurd (not_status stage is at);
@@ -156,27 +196,54 @@ status_last stage cause ps is = record {
     not_status stage is at = let clash : stages.Status ≡ stages.Login = sym is ∙ at in cc
 
 -- a refusal
-refused_last : (stage : Stage) (why : Refusal) → stage ≡ stages.Login → IsLast stage (causes.Refused why) (refused why)
+refused_last : (stage : Stage) (why : Refusal) → stage ≡ stages.Login →
+    IsLast stage (causes.Refused why) (refused why)
 refused_last stage why is = record {
   in_play = λ playing. absurd (not_both (is_play stage) playing (ap is_play is));
   in_login = λ at. inr (why, refl, refl);
 }
 
-login_goes : (k : ℕ) (w : World) (s : Session) (name : List ℕ) (o : Option Refusal) → found k w.sessions ≡ Some s → s.id ≡ k → s.stage ≡ stages.Login → is_closed s.stage ≡ false → Goes k w s (answer_login w s name o)
-login_goes k w s name (Some why) e is at open_ = goes_close k w s (causes.Refused why) (refused why) e is open_ (refused_last s.stage why at)
+login_goes : (k : ℕ) (w : World) (s : Session) (name : List ℕ) (o : Option Refusal) →
+    found k w.sessions ≡ Some s → s.id ≡ k → s.stage ≡ stages.Login → is_closed s.stage ≡ false →
+    Goes k w s (answer_login w s name o)
+login_goes k w s name (Some why) e is at open_ =
+    goes_close k w s (causes.Refused why) (refused why) e is open_ (refused_last s.stage why at)
 login_goes k w s name None e is at open_ =
-    goes_hand k w (w.eids + 1) s (entering w s name) (accepted (offline_uuid name) name) e is refl open_
-    (λ owed. entered at refl refl refl refl)
+    goes_hand k w (w.eids + 1) s (entering w s name)
+    (accepted (offline_uuid name) name) e is refl open_
+    (λ owed. entered (new_player w.terrain (w.eids + 1) name) at refl refl refl refl refl)
 
-acted_goes : (k : ℕ) (w : World) (s : Session) (x : PlayUp) (o : Option World) → act w s x ≡ o → found k w.sessions ≡ Some s → s.id ≡ k → is_closed s.stage ≡ false → Goes k w s (acted w s o)
-acted_goes k w s x (Some v) did e is open_ = goes_acted k w v s e is (act_acted w s x v did)
-acted_goes k w s x None did e is open_ = goes_close k w s causes.BadNumber (farewell s.stage causes.BadNumber) e is open_ (farewell_last s.stage causes.BadNumber)
+acted_goes : (k : ℕ) (w : World) (s : Session) (p : Player) (x : PlayUp) (o : Option World) →
+    s.player ≡ Some p → act w s p x ≡ o → found k w.sessions ≡ Some s → s.id ≡ k →
+    is_closed s.stage ≡ false → Goes k w s (acted w s o)
+acted_goes k w s p x (Some v) there did e is open_ =
+    goes_acted k w v s e is (act_acted w s p x v there did)
+acted_goes k w s p x None there did e is open_ =
+    goes_close k w s causes.BadNumber (farewell s.stage causes.BadNumber) e is open_
+    (farewell_last s.stage causes.BadNumber)
 
-pub performed : (k : ℕ) (w : World) (s : Session) (x : Said) → found k w.sessions ≡ Some s → s.id ≡ k → is_closed s.stage ≡ false → Suits s.stage x → Goes k w s (perform w s x)
+act_by_goes : (k : ℕ) (w : World) (s : Session) (x : PlayUp) (o : Option Player) → s.player ≡ o →
+    found k w.sessions ≡ Some s → s.id ≡ k → is_closed s.stage ≡ false → Goes k w s (act_by w s o x)
+act_by_goes k w s x None there e is open_ = goes_still k w s e
+act_by_goes k w s x (Some p) there e is open_ =
+    acted_goes k w s p x (act w s p x) there refl e is open_
+
+pub performed : (k : ℕ) (w : World) (s : Session) (x : ClientRequest) →
+    found k w.sessions ≡ Some s → s.id ≡ k → is_closed s.stage ≡ false → Suits s.stage x →
+    Goes k w s (perform w s x)
 performed k w s nothing e is open_ fit = goes_still k w s e
-performed k w s (greets protocol stage) e is open_ fit = goes_put k w w.eids s (record s { stage = stage; protocol = protocol }) [] e is (greeted fit.0 fit.1 fit.2 refl refl) (owes_same s _ refl)
-performed k w s (replies packet) e is open_ fit = goes_hand k w w.eids s s (of_status packet ∷ []) e is refl open_ (λ owed. answered fit refl refl refl)
-performed k w s (ends packet) e is open_ fit = goes_close k w s causes.Done (of_status packet ∷ []) e is open_ (status_last s.stage causes.Done (of_status packet ∷ []) fit)
-performed k w s (enters name) e is open_ fit = login_goes k w s name (refusal w s.protocol name) e is fit open_
-performed k w s (acts packet) e is open_ fit = acted_goes k w s packet (act w s packet) refl e is open_
-performed k w s (wrong fault) e is open_ fit = goes_close k w s (causes.Packet fault) (farewell s.stage (causes.Packet fault)) e is open_ (farewell_last s.stage (causes.Packet fault))
+performed k w s (greets protocol stage) e is open_ fit =
+    goes_put k w w.eids s (record s { stage = stage; protocol = protocol }) [] e is
+    (greeted fit.0 fit.1 fit.2 refl refl refl) (owes_same s _ refl)
+performed k w s (replies packet) e is open_ fit =
+    goes_hand k w w.eids s s (of_status packet ∷ []) e is refl open_
+    (λ owed. answered fit refl refl refl refl)
+performed k w s (ends packet) e is open_ fit =
+    goes_close k w s causes.Done (of_status packet ∷ []) e is open_
+    (status_last s.stage causes.Done (of_status packet ∷ []) fit)
+performed k w s (enters name) e is open_ fit =
+    login_goes k w s name (refusal w s.protocol name) e is fit open_
+performed k w s (acts packet) e is open_ fit = act_by_goes k w s packet s.player refl e is open_
+performed k w s (wrong fault) e is open_ fit =
+    goes_close k w s (causes.Packet fault) (farewell s.stage (causes.Packet fault)) e is open_
+    (farewell_last s.stage (causes.Packet fault))

@@ -1,11 +1,13 @@
 -- What stays as it was when one connection's part of the world changes.
 use Rattle.std.proofs.Common.{◌≡◌, ◌≢◌, ℕ, refl, sym, subst, ap, ◌∙◌}
-use Rattle.std.specs.Prelude.{◌==◌, Bool, true, false, cond, Option, Some, None, option_map, if◌then◌else◌}
+use Rattle.std.specs.Prelude.{◌==◌, Bool, true, false, cond, Option, Some, None, option_map}
+use Rattle.std.specs.Prelude.{if◌then◌else◌}
 use Rattle.std.proofs.lemmas.Bool.{eqb-true}
 use Rattle.mc_model.specs.World.{World, Session, found, put}
 use Rattle.mc_model.specs.Step.{changed}
 use Rattle.mc_model.specs.Orderly.{AreApart, Rise}
-use Rattle.mc_model.proofs.Sessions.{other_number, same_number, found_id, found_map, apart_map, rise_map}
+use Rattle.mc_model.proofs.Sessions.{other_number, same_number, found_id, found_map, apart_map}
+use Rattle.mc_model.proofs.Sessions.{rise_map}
 
 -- only the part of one connection changed, and the count of entity numbers
 pub record Beside (k : ℕ) (w v : World) : Type 0 where
@@ -50,17 +52,22 @@ beside_onward k w v u b c = record {
 
 -- ---- one connection changed
 
-at_keeps : (k : ℕ) (f : Session → Session) → ((t : Session) → t.id ≡ k → (f t).id ≡ t.id) → (t : Session) → (if t.id == k then f t else t).id ≡ t.id
-at_keeps k f keeps t = elim (t.id == k) as (λ b. (t.id == k) ≡ b → (cond b (f t) t).id ≡ t.id) [ true ↦ λ e. keeps t (eqb-true t.id k e) | false ↦ λ e. refl ] refl
+at_keeps : (k : ℕ) (f : Session → Session) → ((t : Session) → t.id ≡ k → (f t).id ≡ t.id) →
+    (t : Session) → (if t.id == k then f t else t).id ≡ t.id
+at_keeps k f keeps t = elim (t.id == k) as (λ b. (t.id == k) ≡ b →
+    (cond b (f t) t).id ≡ t.id) [ true ↦ λ e. keeps t (eqb-true t.id k e) | false ↦ λ e. refl ] refl
 
-found_other : (j k : ℕ) (f : Session → Session) → j ≢ k → (o : Option Session) → ((s : Session) → o ≡ Some s → s.id ≡ j) → option_map (λ (t : Session). if t.id == k then f t else t) o ≡ o
+found_other : (j k : ℕ) (f : Session → Session) → j ≢ k → (o : Option Session) →
+    ((s : Session) → o ≡ Some s → s.id ≡ j) →
+    option_map (λ (t : Session). if t.id == k then f t else t) o ≡ o
 found_other j k f ne None has = refl
 found_other j k f ne (Some s) has =
     let is : s.id ≡ j = has s refl in
     let P : ℕ → Type 0 = λ n. Some (cond (n == k) (f s) s) ≡ Some s in
     subst P (sym is) (ap (λ (b : Bool). Some (cond b (f s) s)) (other_number j k ne))
 
-pub beside_changed : (k : ℕ) (w : World) (f : Session → Session) → ((t : Session) → t.id ≡ k → (f t).id ≡ t.id) → Beside k w (changed w k f)
+pub beside_changed : (k : ℕ) (w : World) (f : Session → Session) →
+    ((t : Session) → t.id ≡ k → (f t).id ≡ t.id) → Beside k w (changed w k f)
 beside_changed k w f keeps = record {
   age = refl;
   terrain = refl;
@@ -68,16 +75,23 @@ beside_changed k w f keeps = record {
   most = refl;
   cap = refl;
   last = refl;
-  others = λ j ne. found_map j _ (at_keeps k f keeps) w.sessions ∙ found_other j k f ne (found j w.sessions) (found_id j w.sessions);
-  none = λ j e. found_map j _ (at_keeps k f keeps) w.sessions ∙ ap (option_map (λ (t : Session). if t.id == k then f t else t)) e;
+  others = λ j ne. found_map j _ (at_keeps k f keeps) w.sessions
+      ∙ found_other j k f ne (found j w.sessions) (found_id j w.sessions);
+  none = λ j e. found_map j _ (at_keeps k f keeps) w.sessions
+      ∙ ap (option_map (λ (t : Session). if t.id == k then f t else t)) e;
   apart = apart_map _ (at_keeps k f keeps) w.sessions;
   rise = λ low high. rise_map _ (at_keeps k f keeps) low high w.sessions;
 }
 
-pub found_changed : (k : ℕ) (w : World) (f : Session → Session) (s : Session) → ((t : Session) → t.id ≡ k → (f t).id ≡ t.id) → found k w.sessions ≡ Some s → found k (changed w k f).sessions ≡ Some (f s)
+pub found_changed : (k : ℕ) (w : World) (f : Session → Session) (s : Session) →
+    ((t : Session) → t.id ≡ k → (f t).id ≡ t.id) → found k w.sessions ≡ Some s →
+    found k (changed w k f).sessions ≡ Some (f s)
 found_changed k w f s keeps e =
-    let is : (s.id == k) ≡ true = ap (λ (n : ℕ). n == k) (found_id k w.sessions s e) ∙ same_number k in
-    found_map k _ (at_keeps k f keeps) w.sessions ∙ ap (option_map (λ (t : Session). if t.id == k then f t else t)) e ∙ ap (λ (b : Bool). Some (cond b (f s) s)) is
+    let is : (s.id == k) ≡ true = ap (λ (n : ℕ). n == k) (found_id k w.sessions s e)
+    ∙ same_number k in
+    found_map k _ (at_keeps k f keeps) w.sessions
+    ∙ ap (option_map (λ (t : Session). if t.id == k then f t else t)) e
+    ∙ ap (λ (b : Bool). Some (cond b (f s) s)) is
 
 -- ---- one connection put in the place of another
 
@@ -86,7 +100,8 @@ beside_put k w t is =
     let P : ℕ → Type 0 = λ n. Beside n w (put w t) in
     subst P is (beside_changed t.id w (λ (s : Session). t) (λ s same. sym same))
 
-pub found_put : (k : ℕ) (w : World) (s t : Session) → t.id ≡ k → found k w.sessions ≡ Some s → found k (put w t).sessions ≡ Some t
+pub found_put : (k : ℕ) (w : World) (s t : Session) → t.id ≡ k → found k w.sessions ≡ Some s →
+    found k (put w t).sessions ≡ Some t
 found_put k w s t is e =
     let P : ℕ → Type 0 = λ n. found n w.sessions ≡ Some s → found n (put w t).sessions ≡ Some t in
     subst P is (found_changed t.id w (λ (s : Session). t) s (λ s same. sym same)) e

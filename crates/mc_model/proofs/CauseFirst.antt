@@ -1,6 +1,8 @@
 -- A connection is closed by the first thing that closes it, for the cause of that: event by event.
-use Rattle.std.proofs.Common.{◌≡◌, ℕ, List, [], ◌∷◌, ◌++◌, length, map, inl, inr, refl, sym, subst, ap, ◌∙◌}
-use Rattle.std.specs.Prelude.{◌↔◌, ◌==◌, ◌&&◌, not, drop, Bool, true, false, cond, Option, Some, None, is_some, if◌then◌else◌}
+use Rattle.std.proofs.Common.{◌≡◌, ℕ, List, [], ◌∷◌, ◌++◌, length, map, inl, inr, refl, sym, subst}
+use Rattle.std.proofs.Common.{ap, ◌∙◌}
+use Rattle.std.specs.Prelude.{◌↔◌, ◌==◌, ◌&&◌, not, drop, Bool, true, false, cond, Option, Some}
+use Rattle.std.specs.Prelude.{None, is_some, if◌then◌else◌}
 use Rattle.std.specs.List.{filter}
 use Rattle.std.specs.Option.{option_and_then}
 use Rattle.std.proofs.lemmas.Bool.{cases_eq, leb-false}
@@ -8,9 +10,12 @@ use Rattle.mc_frame.specs.Cut.{Cut}
 use Rattle.mc_model.specs.declared.cause.Cause.{Cause}
 use Rattle.mc_model.specs.declared.cause.Cause.TheVariants as causes
 use Rattle.mc_model.specs.Cutting.{cut_of}
-use Rattle.mc_model.specs.World.{World, Session, found, put, is_play, is_closed}
-use Rattle.mc_model.specs.Hearing.{of_play}
-use Rattle.mc_model.specs.Step.{Event, joined, came, left, ticked, took, forgot, Handing, Turn, still, when_open, shut, new_session, joining, join, is_new, is_crowded, gone, changed, is_done, due, flush, at_tick, read_to, on_cut, on_bytes, step}
+use Rattle.mc_model.specs.World.{World, Session, Player, found, put, is_closed}
+use Rattle.mc_model.specs.Packets.{of_play}
+use Rattle.mc_model.specs.Step.{Event, joined, came, left, ticked, took, forgot, Handing, Turn}
+use Rattle.mc_model.specs.Step.{still, when_open, mark_closed, new_session, joining, join, is_new}
+use Rattle.mc_model.specs.Step.{is_crowded, gone, changed, is_done, due, flush, at_tick, read_to}
+use Rattle.mc_model.specs.Step.{on_cut, on_bytes, step}
 use Rattle.mc_model.specs.Run.{cause_in}
 use Rattle.mc_model.specs.Causes.{IsTooMuch, CutCloses, Closes}
 use Rattle.mc_model.proofs.Sessions.{some_none, found_id, found_before, found_filter}
@@ -25,7 +30,8 @@ use Rattle.mc_model.proofs.CauseFrames.{just, never, frames_close, frames_closed
 
 -- ---- the cause of a connection that an event leaves as it is
 
-same_cause : (k : ℕ) (w v : World) → found k v.sessions ≡ found k w.sessions → cause_in k v ≡ cause_in k w
+same_cause : (k : ℕ) (w v : World) → found k v.sessions ≡ found k w.sessions →
+    cause_in k v ≡ cause_in k w
 same_cause k w v e = ap (option_and_then (λ (s : Session). s.cause)) e
 
 -- no cause is there now, so none was found
@@ -33,18 +39,25 @@ not_now : {A : Type 0} (o : Option Cause) (c : Cause) → o ≡ None → o ≡ S
 not_now o c none some = absurd (some_none c o some none)
 
 -- a connection without a cause is open
-open_one : (k : ℕ) (w : World) (s : Session) → Sound w → found k w.sessions ≡ Some s → cause_in k w ≡ None → (is_closed s.stage ≡ false) × (s.cause ≡ None)
+open_one : (k : ℕ) (w : World) (s : Session) → Sound w → found k w.sessions ≡ Some s →
+    cause_in k w ≡ None → (is_closed s.stage ≡ false) × (s.cause ≡ None)
 open_one k w s o there none =
     let clean : s.cause ≡ None = sym (cause_found k w s there) ∙ none in
     (o.each k s there ∙ ap (λ (c : Option Cause). is_some c) clean, clean)
 
-changed_cause : (j k : ℕ) (w : World) (f : Session → Session) → ((t : Session) → (f t).id ≡ t.id) → ((t : Session) → (f t).cause ≡ t.cause) → cause_in k (changed w j f) ≡ cause_in k w
+changed_cause : (j k : ℕ) (w : World) (f : Session → Session) → ((t : Session) → (f t).id ≡ t.id) →
+    ((t : Session) → (f t).cause ≡ t.cause) → cause_in k (changed w j f) ≡ cause_in k w
 changed_cause j k w f keeps same = elim (cases_eq j k) [
-  | inl is ↦ subst (λ (n : ℕ). cause_in k (changed w n f) ≡ cause_in k w) (sym is) (elim (found k w.sessions) as (λ o. found k w.sessions ≡ o → cause_in k (changed w k f) ≡ cause_in k w) [
-    | None ↦ λ none. same_cause k w (changed w k f) ((beside_changed k w f (λ t e. keeps t)).none k none ∙ sym none)
-    | Some s ↦ λ there. cause_found k (changed w k f) (f s) (found_changed k w f s (λ t e. keeps t) there) ∙ same s ∙ sym (cause_found k w s there)
-  ] refl)
-  | inr ne ↦ same_cause k w (changed w j f) ((beside_changed j w f (λ t e. keeps t)).others k (λ is. ne (sym is)))
+  | inl is ↦ subst (λ (n : ℕ). cause_in k (changed w n f) ≡ cause_in k w) (sym is)
+      (elim (found k w.sessions) as (λ o. found k w.sessions ≡ o →
+      cause_in k (changed w k f) ≡ cause_in k w) [
+        | None ↦ λ none. same_cause k w (changed w k f)
+            ((beside_changed k w f (λ t e. keeps t)).none k none ∙ sym none)
+        | Some s ↦ λ there. cause_found k (changed w k f) (f s)
+            (found_changed k w f s (λ t e. keeps t) there) ∙ same s ∙ sym (cause_found k w s there)
+      ] refl)
+  | inr ne ↦ same_cause k w (changed w j f)
+      ((beside_changed j w f (λ t e. keeps t)).others k (λ is. ne (sym is)))
 ]
 
 -- ---- joining
@@ -52,108 +65,168 @@ changed_cause j k w f keeps same = elim (cases_eq j k) [
 same_number_of : (j k : ℕ) → joined j ≡ joined k → j ≡ k
 same_number_of j k e = cc
 
-join_there : (j k : ℕ) (w : World) (s : Session) → found k w.sessions ≡ Some s → found k (join w j).sessions ≡ Some s
-join_there j k w s there = elim (is_new j w.last) as (λ b. found k (if b then record w { last = Some j; sessions = w.sessions ++ joining w j ∷ [] } else w).sessions ≡ Some s) [
-  | true ↦ found_before k w.sessions (joining w j ∷ []) s there
-  | false ↦ there
-]
+join_there : (j k : ℕ) (w : World) (s : Session) → found k w.sessions ≡ Some s →
+    found k (join w j).sessions ≡ Some s
+join_there j k w s there = elim (is_new j w.last) as
+    (λ b. found k (if b then record w {
+      last = Some j;
+      sessions =
+          w.sessions ++ joining w j ∷ [];
+    } else w).sessions ≡ Some s) [
+      | true ↦ found_before k w.sessions (joining w j ∷ []) s there
+      | false ↦ there
+    ]
 
-joining_cause : (k : ℕ) (w : World) (c : Cause) → (joining w k).cause ≡ Some c → (is_crowded w ≡ true) × (c ≡ causes.Crowded)
-joining_cause k w c = elim (is_crowded w) as (λ b. is_crowded w ≡ b → (if b then shut (new_session k) causes.Crowded else new_session k).cause ≡ Some c → (is_crowded w ≡ true) × (c ≡ causes.Crowded)) [
-  | true ↦ λ crowded is. (crowded, (just (Some causes.Crowded) causes.Crowded c refl).0 is)
-  | false ↦ λ free is. not_now None c refl is
-] refl
+joining_cause : (k : ℕ) (w : World) (c : Cause) → (joining w k).cause ≡ Some c →
+    (is_crowded w ≡ true) × (c ≡ causes.Crowded)
+joining_cause k w c = elim (is_crowded w) as (λ b. is_crowded w ≡ b →
+    (if b then mark_closed (new_session k) causes.Crowded else new_session k).cause ≡ Some c →
+    (is_crowded w ≡ true) × (c ≡ causes.Crowded)) [
+      | true ↦ λ crowded is. (crowded, (just (Some causes.Crowded) causes.Crowded c refl).0 is)
+      | false ↦ λ free is. not_now None c refl is
+    ] refl
 
-joined_closes : (j k : ℕ) (w : World) (c : Cause) → Sound w → cause_in k w ≡ None → (cause_in k (step w (joined j)).world ≡ Some c) ↔ Closes w (joined j) k c
+joined_closes : (j k : ℕ) (w : World) (c : Cause) → Sound w → cause_in k w ≡ None →
+    (cause_in k (step w (joined j)).world ≡ Some c) ↔ Closes w (joined j) k c
 unfolding step
 joined_closes j k w c o none = (closes, closed)
   where
     closes : cause_in k (join w j) ≡ Some c → Closes w (joined j) k c
-    closes is = elim (found k w.sessions) as (λ f. found k w.sessions ≡ f → Closes w (joined j) k c) [
-      | None ↦ λ nowhere. elim (arrives k w (joined j) nowhere) [
-        | away gone_ ↦ not_now (cause_in k (join w j)) c (cause_nowhere k (join w j) gone_) is
-        | joins own new here ↦ let crowd = joining_cause k w c (sym (cause_found k (join w j) (joining w k) here) ∙ is) in (same_number_of j k own, new, crowd.0, crowd.1)
-      ]
-      | Some s ↦ λ there. not_now (cause_in k (join w j)) c (same_cause k w (join w j) (join_there j k w s there ∙ sym there) ∙ none) is
-    ] refl
+    closes is = elim (found k w.sessions) as (λ f. found k w.sessions ≡ f →
+        Closes w (joined j) k c) [
+          | None ↦ λ nowhere. elim (arrives k w (joined j) nowhere) [
+            | away gone_ ↦ not_now (cause_in k (join w j)) c (cause_nowhere k (join w j) gone_) is
+            | joins own new here ↦ let crowd =
+                joining_cause k w c (sym (cause_found k (join w j) (joining w k) here) ∙ is) in
+                (same_number_of j k own, new, crowd.0, crowd.1)
+          ]
+          | Some s ↦ λ there. not_now (cause_in k (join w j)) c
+              (same_cause k w (join w j) (join_there j k w s there ∙ sym there) ∙ none) is
+        ] refl
 
     closed : Closes w (joined j) k c → cause_in k (join w j) ≡ Some c
     closed h =
         subst (λ (n : ℕ). cause_in k (join w n) ≡ Some c) (sym h.0)
         (cause_found k (join w k) (joining w k) (found_joining k w (o.orderly.fresh k h.1) h.1)
-        ∙ ap (λ (b : Bool). (if b then shut (new_session k) causes.Crowded else new_session k).cause) h.2
+        ∙ ap (λ (b : Bool). (if b then mark_closed (new_session k) causes.Crowded else
+        new_session k).cause) h.2
         ∙ ap (λ (x : Cause). Some x) (sym h.3))
 
 -- ---- bytes
 
-bytes_open : (k : ℕ) (w : World) (s : Session) (bytes : List ℕ) → found k w.sessions ≡ Some s → is_closed s.stage ≡ false → on_bytes w k bytes ≡ on_cut w s (length (s.rest ++ bytes)) (cut_of s.before (s.rest ++ bytes))
+bytes_open : (k : ℕ) (w : World) (s : Session) (bytes : List ℕ) → found k w.sessions ≡ Some s →
+    is_closed s.stage ≡ false → on_bytes w k bytes ≡ on_cut w s (length (s.rest ++ bytes))
+    (cut_of s.before (s.rest ++ bytes))
 unfolding on_bytes
 bytes_open k w s bytes e open_ =
-    ap (λ (o : Option Session). when_open o w (λ (s : Session). on_cut w s (length (s.rest ++ bytes)) (cut_of s.before (s.rest ++ bytes)))) e
-    ∙ ap (λ (b : Bool). if b then still w else on_cut w s (length (s.rest ++ bytes)) (cut_of s.before (s.rest ++ bytes))) open_
+    ap (λ (o : Option Session). when_open o w
+    (λ (s : Session). on_cut w s (length (s.rest ++ bytes))
+    (cut_of s.before (s.rest ++ bytes)))) e
+    ∙ ap (λ (b : Bool). if b then still w else
+    on_cut w s (length (s.rest ++ bytes)) (cut_of s.before (s.rest ++ bytes))) open_
 
-cut_closes : (w : World) (s : Session) (count : ℕ) (cut : Cut) (c : Cause) → found s.id w.sessions ≡ Some s → is_closed s.stage ≡ false → s.cause ≡ None →
+cut_closes : (w : World) (s : Session) (count : ℕ) (cut : Cut) (c : Cause) →
+    found s.id w.sessions ≡ Some s → is_closed s.stage ≡ false → s.cause ≡ None →
     (cause_in s.id (on_cut w s count cut).world ≡ Some c) ↔ CutCloses w s count cut c
 cut_closes w s count cut c e open_ none =
     let there = found_put s.id w s (read_to s cut count) refl e in (
-      frames_close s.id cut.frames (put w (read_to s cut count)) (read_to s cut count) cut.fault c there open_ none,
-      frames_closed s.id cut.frames (put w (read_to s cut count)) (read_to s cut count) cut.fault c there open_ none,
+      frames_close s.id cut.frames (put w (read_to s cut count))
+          (read_to s cut count) cut.fault c there open_ none,
+      frames_closed s.id cut.frames (put w (read_to s cut count))
+          (read_to s cut count) cut.fault c there open_ none,
     )
 
-own_closes : (k : ℕ) (w : World) (s : Session) (bytes : List ℕ) (c : Cause) → found k w.sessions ≡ Some s → is_closed s.stage ≡ false → s.cause ≡ None →
-    (cause_in k (on_bytes w k bytes).world ≡ Some c) ↔ CutCloses w s (length (s.rest ++ bytes)) (cut_of s.before (s.rest ++ bytes)) c
+own_closes : (k : ℕ) (w : World) (s : Session) (bytes : List ℕ) (c : Cause) →
+    found k w.sessions ≡ Some s → is_closed s.stage ≡ false → s.cause ≡ None →
+    (cause_in k (on_bytes w k bytes).world ≡ Some c) ↔ CutCloses w s (length (s.rest ++ bytes))
+    (cut_of s.before (s.rest ++ bytes)) c
 own_closes k w s bytes c e open_ none =
-    let P : ℕ → Type 0 = λ n. found n w.sessions ≡ Some s → (cause_in n (on_cut w s (length (s.rest ++ bytes)) (cut_of s.before (s.rest ++ bytes))).world ≡ Some c) ↔ CutCloses w s (length (s.rest ++ bytes)) (cut_of s.before (s.rest ++ bytes)) c in
-    subst (λ (t : Turn). (cause_in k t.world ≡ Some c) ↔ CutCloses w s (length (s.rest ++ bytes)) (cut_of s.before (s.rest ++ bytes)) c) (sym (bytes_open k w s bytes e open_))
-    (subst P (found_id k w.sessions s e) (λ own. cut_closes w s (length (s.rest ++ bytes)) (cut_of s.before (s.rest ++ bytes)) c own open_ none) e)
+    let P : ℕ → Type 0 = λ n. found n w.sessions ≡ Some s →
+    (cause_in n (on_cut w s (length (s.rest ++ bytes))
+    (cut_of s.before (s.rest ++ bytes))).world ≡ Some c) ↔ CutCloses w s
+    (length (s.rest ++ bytes)) (cut_of s.before (s.rest ++ bytes)) c in
+    subst (λ (t : Turn). (cause_in k t.world ≡ Some c) ↔ CutCloses w s (length (s.rest ++ bytes))
+    (cut_of s.before (s.rest ++ bytes)) c) (sym (bytes_open k w s bytes e open_))
+    (subst P (found_id k w.sessions s e)
+    (λ own. cut_closes w s (length (s.rest ++ bytes))
+    (cut_of s.before (s.rest ++ bytes)) c own open_ none) e)
 
-came_closes : (j k : ℕ) (bytes : List ℕ) (w : World) (c : Cause) → Sound w → cause_in k w ≡ None → (cause_in k (step w (came j bytes)).world ≡ Some c) ↔ Closes w (came j bytes) k c
+came_closes : (j k : ℕ) (bytes : List ℕ) (w : World) (c : Cause) → Sound w → cause_in k w ≡ None →
+    (cause_in k (step w (came j bytes)).world ≡ Some c) ↔ Closes w (came j bytes) k c
 unfolding step
 came_closes j k bytes w c o none = (closes, closed)
   where
     own : cause_in k (on_bytes w k bytes).world ≡ Some c → Closes w (came k bytes) k c
-    own is = elim (found k w.sessions) as (λ f. found k w.sessions ≡ f → Closes w (came k bytes) k c) [
-      | None ↦ λ nowhere. not_now (cause_in k (on_bytes w k bytes).world) c (ap (λ (t : Turn). cause_in k t.world) (no_bytes k w bytes nowhere) ∙ none) is
-      | Some s ↦ λ there.
-          let open_ = open_one k w s o there none in
-          (refl, (s, record { is_there = there; open_ = open_.0 }, (own_closes k w s bytes c there open_.0 open_.1).0 is))
-    ] refl
+    own is = elim (found k w.sessions) as (λ f. found k w.sessions ≡ f →
+        Closes w (came k bytes) k c) [
+          | None ↦ λ nowhere. not_now (cause_in k (on_bytes w k bytes).world) c
+              (ap (λ (t : Turn). cause_in k t.world) (no_bytes k w bytes nowhere) ∙ none) is
+          | Some s ↦ λ there.
+              let open_ = open_one k w s o there none in (
+                refl,
+                (
+                  s,
+                  record {
+                    is_there = there;
+                    open_ =
+                        open_.0;
+                  },
+                  (own_closes k w s bytes c there open_.0 open_.1).0 is,
+                ),
+              )
+        ] refl
 
     closes : cause_in k (on_bytes w j bytes).world ≡ Some c → Closes w (came j bytes) k c
     closes is = elim (cases_eq j k) [
-      | inl same ↦ subst (λ (n : ℕ). cause_in k (on_bytes w n bytes).world ≡ Some c → Closes w (came n bytes) k c) (sym same) own is
-      | inr ne ↦ not_now (cause_in k (on_bytes w j bytes).world) c (same_cause k w (on_bytes w j bytes).world ((bytes_beside j w bytes).others k (λ same. ne (sym same))) ∙ none) is
+      | inl same ↦ subst (λ (n : ℕ). cause_in k (on_bytes w n bytes).world ≡ Some c →
+          Closes w (came n bytes) k c) (sym same) own is
+      | inr ne ↦ not_now (cause_in k (on_bytes w j bytes).world) c
+          (same_cause k w (on_bytes w j bytes).world
+          ((bytes_beside j w bytes).others k (λ same. ne (sym same))) ∙ none) is
     ]
 
     closed : Closes w (came j bytes) k c → cause_in k (on_bytes w j bytes).world ≡ Some c
     closed h =
         let clean = (open_one k w h.1.0 o h.1.1.is_there none).1 in
-        subst (λ (n : ℕ). cause_in k (on_bytes w n bytes).world ≡ Some c) (sym h.0) ((own_closes k w h.1.0 bytes c h.1.1.is_there h.1.1.open_ clean).1 h.1.2)
+        subst (λ (n : ℕ). cause_in k (on_bytes w n bytes).world ≡ Some c) (sym h.0)
+        ((own_closes k w h.1.0 bytes c h.1.1.is_there h.1.1.open_ clean).1 h.1.2)
 
 -- ---- leaving
 
 gone_cause : (s : Session) → is_closed s.stage ≡ false → (gone s).cause ≡ Some causes.Gone
-gone_cause s open_ = ap (λ (b : Bool). (if b then record s { owed = [] } else record (shut s causes.Gone) { owed = [] }).cause) open_
+gone_cause s open_ = ap (λ (b : Bool). (if b then record s { owed = [] } else
+    record (mark_closed s causes.Gone) { owed = [] }).cause) open_
 
-left_own : (k : ℕ) (w : World) (s : Session) → found k w.sessions ≡ Some s → is_closed s.stage ≡ false → cause_in k (changed w k gone) ≡ Some causes.Gone
-left_own k w s there open_ = cause_found k (changed w k gone) (gone s) (found_changed k w gone s (λ t e. gone_id t) there) ∙ gone_cause s open_
+left_own : (k : ℕ) (w : World) (s : Session) → found k w.sessions ≡ Some s →
+    is_closed s.stage ≡ false → cause_in k (changed w k gone) ≡ Some causes.Gone
+left_own k w s there open_ = cause_found k (changed w k gone) (gone s)
+    (found_changed k w gone s (λ t e. gone_id t) there) ∙ gone_cause s open_
 
-left_closes : (j k : ℕ) (w : World) (c : Cause) → Sound w → cause_in k w ≡ None → (cause_in k (step w (left j)).world ≡ Some c) ↔ Closes w (left j) k c
+left_closes : (j k : ℕ) (w : World) (c : Cause) → Sound w → cause_in k w ≡ None →
+    (cause_in k (step w (left j)).world ≡ Some c) ↔ Closes w (left j) k c
 unfolding step
 left_closes j k w c o none = (closes, closed)
   where
     own : cause_in k (changed w k gone) ≡ Some c → Closes w (left k) k c
     own is = elim (found k w.sessions) as (λ f. found k w.sessions ≡ f → Closes w (left k) k c) [
-      | None ↦ λ nowhere. not_now (cause_in k (changed w k gone)) c (cause_nowhere k (changed w k gone) ((beside_changed k w gone (λ t e. gone_id t)).none k nowhere)) is
+      | None ↦ λ nowhere. not_now (cause_in k (changed w k gone)) c
+          (cause_nowhere k (changed w k gone)
+          ((beside_changed k w gone (λ t e. gone_id t)).none k nowhere)) is
       | Some s ↦ λ there.
-          let open_ = open_one k w s o there none in
-          (refl, (s, record { is_there = there; open_ = open_.0 }), (just _ causes.Gone c (left_own k w s there open_.0)).0 is)
+          let open_ = open_one k w s o there none in (
+            refl,
+            (s, record { is_there = there; open_ = open_.0 }),
+            (just _ causes.Gone c (left_own k w s there open_.0)).0 is,
+          )
     ] refl
 
     closes : cause_in k (changed w j gone) ≡ Some c → Closes w (left j) k c
     closes is = elim (cases_eq j k) [
-      | inl same ↦ subst (λ (n : ℕ). cause_in k (changed w n gone) ≡ Some c → Closes w (left n) k c) (sym same) own is
-      | inr ne ↦ not_now (cause_in k (changed w j gone)) c (same_cause k w (changed w j gone) ((beside_changed j w gone (λ t e. gone_id t)).others k (λ same. ne (sym same))) ∙ none) is
+      | inl same ↦ subst (λ (n : ℕ). cause_in k (changed w n gone) ≡ Some c →
+          Closes w (left n) k c) (sym same) own is
+      | inr ne ↦ not_now (cause_in k (changed w j gone)) c
+          (same_cause k w (changed w j gone)
+          ((beside_changed j w gone (λ t e. gone_id t)).others k (λ same. ne (sym same))) ∙ none) is
     ]
 
     closed : Closes w (left j) k c → cause_in k (changed w j gone) ≡ Some c
@@ -163,56 +236,84 @@ left_closes j k w c o none = (closes, closed)
 
 -- ---- a tick
 
-flush_cause : (w : World) (s : Session) (c : Cause) → s.cause ≡ None → (flush w s).session.cause ≡ Some c → (is_play s.stage ≡ true) × IsTooMuch s (map of_play (due w s)) × (c ≡ causes.Backlog)
-flush_cause w s c none = flush_cases w s (λ (h : Handing). h.session.cause ≡ Some c → (is_play s.stage ≡ true) × IsTooMuch s (map of_play (due w s)) × (c ≡ causes.Backlog))
-    (λ waits is. not_now s.cause c none is)
-    (λ playing fits is. not_now s.cause c none is)
-    (λ playing much is. (playing, leb-false _ _ much, (just (Some causes.Backlog) causes.Backlog c refl).0 is))
+flush_cause : (w : World) (s : Session) (c : Cause) → s.cause ≡ None →
+    (flush w s).session.cause ≡ Some c →
+    ((p : Player) × (s.player ≡ Some p) × IsTooMuch s (map of_play (due w p)))
+    × (c ≡ causes.Backlog)
+flush_cause w s c none = flush_cases w s (λ (h : Handing). h.session.cause ≡ Some c →
+    ((p : Player) × (s.player ≡ Some p) × IsTooMuch s (map of_play (due w p)))
+    × (c ≡ causes.Backlog))
+    (λ nobody is. not_now s.cause c none is)
+    (λ p there fits is. not_now s.cause c none is)
+    (λ p there much is. (
+      (p, there, leb-false _ _ much),
+      (just (Some causes.Backlog) causes.Backlog c refl).0 is,
+    ))
 
-ticked_closes : (k : ℕ) (w : World) (c : Cause) → Sound w → cause_in k w ≡ None → (cause_in k (step w ticked).world ≡ Some c) ↔ Closes w ticked k c
+ticked_closes : (k : ℕ) (w : World) (c : Cause) → Sound w → cause_in k w ≡ None →
+    (cause_in k (step w ticked).world ≡ Some c) ↔ Closes w ticked k c
 ticked_closes k w c o none = (closes, closed)
   where
     closes : cause_in k (step w ticked).world ≡ Some c → Closes w ticked k c
     closes is = elim (found k w.sessions) as (λ f. found k w.sessions ≡ f → Closes w ticked k c) [
       | None ↦ λ nowhere. elim (arrives k w ticked nowhere) [
-        | away gone_ ↦ not_now (cause_in k (step w ticked).world) c (cause_nowhere k (step w ticked).world gone_) is
+        | away gone_ ↦ not_now (cause_in k (step w ticked).world) c
+            (cause_nowhere k (step w ticked).world gone_) is
         | joins own new here ↦ absurd cc
       ]
       | Some s ↦ λ there.
           let open_ = open_one k w s o there none in
-          let why_ = flush_cause (at_tick w) s c open_.1 (sym (cause_found k (step w ticked).world (flush (at_tick w) s).session (tick_found k w s there)) ∙ is) in
-          ((s, record { is_there = there; open_ = open_.0 }, why_.0, why_.1), why_.2)
+          let why_ = flush_cause (at_tick w) s c open_.1
+          (sym (cause_found k (step w ticked).world (flush (at_tick w) s).session
+          (tick_found k w s there)) ∙ is) in
+          ((s, why_.0.0, record { is_there = there; open_ = open_.0 }, why_.0.1, why_.0.2), why_.1)
     ] refl
 
     closed : Closes w ticked k c → cause_in k (step w ticked).world ≡ Some c
     closed h =
-        let t = tick_much k w h.0.0 o.orderly h.0.1.is_there h.0.2 h.0.3 in
+        let t = tick_much k w h.0.0 h.0.1 o.orderly h.0.2.is_there h.0.3 h.0.4 in
         cause_found k (step w ticked).world t.0 t.2 ∙ t.4 ∙ ap (λ (x : Cause). Some x) (sym h.1)
 
 -- ---- bytes taken, and connections forgotten
 
-took_closes : (j k n : ℕ) (w : World) (c : Cause) → cause_in k w ≡ None → (cause_in k (step w (took j n)).world ≡ Some c) ↔ Closes w (took j n) k c
+took_closes : (j k n : ℕ) (w : World) (c : Cause) → cause_in k w ≡ None →
+    (cause_in k (step w (took j n)).world ≡ Some c) ↔ Closes w (took j n) k c
 unfolding step
-took_closes j k n w c none = never _ c (changed_cause j k w (λ (s : Session). record s { owed = drop n s.owed }) (λ t. refl) (λ t. refl) ∙ none)
+took_closes j k n w c none = never _ c
+    (changed_cause j k w (λ (s : Session). record s { owed = drop n s.owed }) (λ t. refl)
+    (λ t. refl) ∙ none)
 
-forgot_closes : (j k : ℕ) (w : World) (c : Cause) → Sound w → cause_in k w ≡ None → (cause_in k (step w (forgot j)).world ≡ Some c) ↔ Closes w (forgot j) k c
+forgot_closes : (j k : ℕ) (w : World) (c : Cause) → Sound w → cause_in k w ≡ None →
+    (cause_in k (step w (forgot j)).world ≡ Some c) ↔ Closes w (forgot j) k c
 unfolding step
-forgot_closes j k w c o none = never _ c (elim (found k w.sessions) as (λ f. found k w.sessions ≡ f → cause_in k (record w { sessions = filter (λ (s : Session). not (s.id == j && is_done s)) w.sessions }) ≡ None) [
-  | None ↦ λ nowhere. elim (arrives k w (forgot j) nowhere) [
-    | away gone_ ↦ cause_nowhere k (record w { sessions = filter (λ (s : Session). not (s.id == j && is_done s)) w.sessions }) gone_
-    | joins own new here ↦ absurd cc
-  ]
-  | Some s ↦ λ there.
-      ap (option_and_then (λ (s : Session). s.cause)) (found_filter k (λ (s : Session). not (s.id == j && is_done s)) w.sessions s o.orderly.apart there)
-      ∙ elim (not (s.id == j && is_done s)) as (λ b. option_and_then (λ (s : Session). s.cause) (cond b (Some s) None) ≡ None) [
-        | true ↦ sym (cause_found k w s there) ∙ none
-        | false ↦ refl
+forgot_closes j k w c o none = never _ c
+    (elim (found k w.sessions) as (λ f. found k w.sessions ≡ f →
+    cause_in k (record w {
+      sessions =
+          filter (λ (s : Session). not (s.id == j && is_done s)) w.sessions;
+    }) ≡ None) [
+      | None ↦ λ nowhere. elim (arrives k w (forgot j) nowhere) [
+        | away gone_ ↦ cause_nowhere k (record w {
+          sessions =
+              filter (λ (s : Session). not (s.id == j && is_done s)) w.sessions;
+        }) gone_
+        | joins own new here ↦ absurd cc
       ]
-] refl)
+      | Some s ↦ λ there.
+          ap (option_and_then (λ (s : Session). s.cause))
+          (found_filter k (λ (s : Session). not (s.id == j && is_done s)) w.sessions s
+          o.orderly.apart there)
+          ∙ elim (not (s.id == j && is_done s)) as
+          (λ b. option_and_then (λ (s : Session). s.cause) (cond b (Some s) None) ≡ None) [
+            | true ↦ sym (cause_found k w s there) ∙ none
+            | false ↦ refl
+          ]
+    ] refl)
 
 -- ---- every event
 
-pub first_closes : (k : ℕ) (w : World) (c : Cause) (e : Event) → Sound w → cause_in k w ≡ None → (cause_in k (step w e).world ≡ Some c) ↔ Closes w e k c
+pub first_closes : (k : ℕ) (w : World) (c : Cause) (e : Event) → Sound w → cause_in k w ≡ None →
+    (cause_in k (step w e).world ≡ Some c) ↔ Closes w e k c
 first_closes k w c (joined j) o none = joined_closes j k w c o none
 first_closes k w c (came j bytes) o none = came_closes j k bytes w c o none
 first_closes k w c (left j) o none = left_closes j k w c o none

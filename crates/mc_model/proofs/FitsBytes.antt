@@ -1,5 +1,7 @@
--- Frames that are cut from bytes are bytes, and so is what is left; what a frame of them comes to can be answered.
-use Rattle.std.proofs.Common.{◌≡◌, ℕ, zero, suc, ◌≤◌, List, [], ◌∷◌, ◌++◌, Result, Ok, Err, refl, subst, arith}
+-- Frames that are cut from bytes are bytes, and so is what is left; what a frame of them comes to
+-- can be answered.
+use Rattle.std.proofs.Common.{◌≡◌, ℕ, zero, suc, ◌≤◌, List, [], ◌∷◌, ◌++◌, Result, Ok, Err, refl}
+use Rattle.std.proofs.Common.{subst, arith}
 use Rattle.std.specs.List.{AllByRecursion}
 use Rattle.std.specs.Int.{w64}
 use lib.IntN.{ℤ}
@@ -8,7 +10,7 @@ use Rattle.mc_nbt.specs.Reading.{IsBytes}
 use Rattle.mc_nbt.specs.Numbers.{IsBytes-after}
 use Rattle.mc_fields.specs.declared.packet.RowFault.{RowFault}
 use Rattle.mc_fields.specs.declared.packet.PacketFault.{PacketFault}
-use Rattle.mc_fields.specs.Row.{frame_read, packet_of}
+use Rattle.mc_fields.specs.Row.{packet_read, packet_of}
 use Rattle.mc_fields.specs.RowLaws.{frame_found, spelled_fits}
 use Rattle.mc_frame.specs.Cut.{SpellsFrames}
 use Rattle.mc_up.specs.declared.handshake.Hand.{Hand}
@@ -24,11 +26,12 @@ use Rattle.mc_up.specs.LoginUp as login
 use Rattle.mc_up.specs.PlayUp as play
 use Rattle.mc_model.specs.declared.stage.Stage.{Stage}
 use Rattle.mc_model.specs.declared.stage.Stage.TheVariants as stages
-use Rattle.mc_model.specs.Hearing.{of_status, for_status}
+use Rattle.mc_model.specs.Packets.{of_status, for_status}
 use Rattle.mc_model.specs.Cutting.{cut_of}
-use Rattle.mc_model.specs.Talk.{Said, nothing, greets, replies, ends, enters, acts, wrong, in_hand, in_status, in_login, in_play, said}
+use Rattle.mc_model.specs.Talk.{ClientRequest, nothing, greets, replies, ends, enters, acts, wrong}
+use Rattle.mc_model.specs.Talk.{in_hand, in_status, in_login, in_play, request_of}
 use Rattle.mc_model.proofs.CutFacts.{cut_of_bytes}
-use Rattle.mc_model.proofs.Hears.{IsClear}
+use Rattle.mc_model.proofs.Decodes.{IsClear}
 use Rattle.mc_model.proofs.FitsText.{status_short}
 use Rattle.mc_model.proofs.FitsTalk.{response_clear, pong_clear}
 
@@ -51,21 +54,29 @@ frames_bytes : (frames : List (List ℕ)) (bytes : List ℕ) → SpellsFrames fr
     → AllByRecursion IsBytes frames
 frames_bytes [] bytes s b = tt
 frames_bytes (frame ∷ frames) bytes (front, back, parts, spelled, later) b =
-    let all : IsBytes (front ++ back) = subst IsBytes parts b in
-    (IsBytes-after front spelled.size frame spelled.parts (bytes_before front back all), frames_bytes frames back later (IsBytes-after bytes front back parts b))
+    let all : IsBytes (front ++ back) = subst IsBytes parts b in (
+      IsBytes-after front spelled.size frame spelled.parts
+          (bytes_before front back all),
+      frames_bytes frames back later
+          (IsBytes-after bytes front back parts b),
+    )
 
 -- the frames of the cut of bytes are bytes, and so is what is left
 pub cut_bytes : (count : ℕ) (bytes : List ℕ) → IsBytes bytes
     → AllByRecursion IsBytes (cut_of count bytes).frames × IsBytes (cut_of count bytes).rest
 cut_bytes count bytes b =
     let c = cut_of_bytes count bytes b in
-    let all : IsBytes (c.front ++ (cut_of count bytes).rest) = subst IsBytes c.parts b in
-    (frames_bytes (cut_of count bytes).frames c.front c.framed (bytes_before c.front (cut_of count bytes).rest all), IsBytes-after bytes c.front (cut_of count bytes).rest c.parts b)
+    let all : IsBytes (c.front ++ (cut_of count bytes).rest) = subst IsBytes c.parts b in (
+      frames_bytes (cut_of count bytes).frames c.front c.framed
+          (bytes_before c.front (cut_of count bytes).rest all),
+      IsBytes-after bytes c.front
+          (cut_of count bytes).rest c.parts b,
+    )
 
 -- ---- answers
 
 -- an answer to it is made out
-abbrev pub IsAnswered : Said → Type 0
+abbrev pub IsAnswered : ClientRequest → Type 0
 IsAnswered nothing = Unit {0}
 IsAnswered (greets protocol stage) = Unit {0}
 IsAnswered (replies packet) = IsClear for_status (of_status packet)
@@ -75,14 +86,20 @@ IsAnswered (acts packet) = Unit {0}
 IsAnswered (wrong fault) = Unit {0}
 
 -- the number of a ping that was read has a spelling
-ping_fits : (frame : List ℕ) (number : ℤ) → IsBytes frame → frame_read status.rows frame ≡ Ok (Ping number) → SFits w64 number
-ping_fits frame number b e = (spelled_fits (status.entry_of (Ping number)) frame (frame_found status.rows frame (Ping number) b e)).1.0
+ping_fits : (frame : List ℕ) (number : ℤ) → IsBytes frame →
+    packet_read status.rows frame ≡ Ok (Ping number) → SFits w64 number
+ping_fits frame number b e = (spelled_fits (status.entry_of (Ping number)) frame
+    (frame_found status.rows frame (Ping number) b e)).1.0
 
 -- at each stage: the status
-status_answered : (most online : ℕ) (frame : List ℕ) (r : Result StatusUp RowFault) → most ≤ 50 → online ≤ 50
-    → ((number : ℤ) → r ≡ Ok (Ping number) → SFits w64 number) → IsAnswered (in_status most online (packet_of frame r))
-status_answered most online frame (Ok Request) few fewer fits = response_clear _ (status_short most online few fewer)
-status_answered most online frame (Ok (Ping number)) few fewer fits = pong_clear number (fits number refl)
+status_answered : (most online : ℕ) (frame : List ℕ) (r : Result StatusUp RowFault) → most ≤ 50 →
+    online ≤ 50
+    → ((number : ℤ) → r ≡ Ok (Ping number) → SFits w64 number) →
+    IsAnswered (in_status most online (packet_of frame r))
+status_answered most online frame (Ok Request) few fewer fits =
+    response_clear _ (status_short most online few fewer)
+status_answered most online frame (Ok (Ping number)) few fewer fits =
+    pong_clear number (fits number refl)
 status_answered most online frame (Err fault) few fewer fits = tt
 
 -- the handshake
@@ -101,12 +118,18 @@ play_answered (Ok packet) = tt
 play_answered (Err fault) = tt
 
 -- whatever the frame is
-pub said_answered : (stage : Stage) (most online : ℕ) (frame : List ℕ) → most ≤ 50 → online ≤ 50 → IsBytes frame
-    → IsAnswered (said stage most online frame)
-unfolding said
-said_answered stages.Hand most online frame few fewer b = hand_answered (packet_of frame (frame_read hand.rows frame))
-said_answered stages.Status most online frame few fewer b = status_answered most online frame (frame_read status.rows frame) few fewer (λ number e. ping_fits frame number b e)
-said_answered stages.Login most online frame few fewer b = login_answered (packet_of frame (frame_read login.rows frame))
-said_answered stages.Asked most online frame few fewer b = tt
-said_answered stages.Play most online frame few fewer b = play_answered (packet_of frame (frame_read play.rows frame))
-said_answered stages.Closed most online frame few fewer b = tt
+pub request_answered : (stage : Stage) (most online : ℕ) (frame : List ℕ) → most ≤ 50 →
+    online ≤ 50 → IsBytes frame
+    → IsAnswered (request_of stage most online frame)
+unfolding request_of
+request_answered stages.Hand most online frame few fewer b =
+    hand_answered (packet_of frame (packet_read hand.rows frame))
+request_answered stages.Status most online frame few fewer b =
+    status_answered most online frame (packet_read status.rows frame) few fewer
+    (λ number e. ping_fits frame number b e)
+request_answered stages.Login most online frame few fewer b =
+    login_answered (packet_of frame (packet_read login.rows frame))
+request_answered stages.Asked most online frame few fewer b = tt
+request_answered stages.Play most online frame few fewer b =
+    play_answered (packet_of frame (packet_read play.rows frame))
+request_answered stages.Closed most online frame few fewer b = tt

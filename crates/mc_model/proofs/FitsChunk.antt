@@ -1,5 +1,6 @@
 -- The packets of columns fit.
-use Rattle.std.proofs.Common.{ℕ, zero, suc, ◌+◌, ◌^◌, ◌<◌, ◌≤◌, Bool, true, false, cond, List, [], length, refl, lit<, arith}
+use Rattle.std.proofs.Common.{ℕ, zero, suc, ◌+◌, ◌^◌, ◌<◌, ◌≤◌, Bool, true, false, cond, List, []}
+use Rattle.std.proofs.Common.{length, refl, lit<, arith}
 use Rattle.std.specs.Int.{w8, w16, w32, cast_unsigned}
 use lib.IntN.{pos}
 use mir.Val.{SFits}
@@ -8,7 +9,8 @@ use Rattle.mc_nbt.specs.Numbers.{wide_8, wide_16, wide_32}
 use Rattle.mc_fields.specs.VarintFormat.{varint-fits}
 use Rattle.mc_fields.specs.Integers.{bool_byte}
 use Rattle.mc_column.specs.Sizes.{section_count}
-use Rattle.mc_column.specs.SizesLaws.{section_count-is, section_cells-is, light_bytes-is, squares-is}
+use Rattle.mc_column.specs.SizesLaws.{section_count-is, section_cells-is, light_bytes-is}
+use Rattle.mc_column.specs.SizesLaws.{squares-is}
 use Rattle.mc_column.specs.Cells.{ColumnValue, HasSizes, rank}
 use Rattle.mc_column.specs.Body.{is_named}
 use Rattle.mc_column.specs.Sent.{column_mask, column_bytes}
@@ -16,10 +18,11 @@ use Rattle.mc_column.proofs.SentFacts.{column_mask_names, body_bytes_spell}
 use Rattle.mc_land.specs.Places.{Place}
 use Rattle.mc_down.specs.declared.down.Down.TheVariants.{Chunk}
 use Rattle.mc_down.specs.Down.{FitsDown, entry_of}
-use Rattle.mc_model.specs.Hearing.{of_play, for_play}
+use Rattle.mc_model.specs.Packets.{of_play, for_play}
 use Rattle.mc_model.specs.Delta.{load, unload}
-use Rattle.mc_model.proofs.Hears.{IsClear}
-use Rattle.mc_model.proofs.FitsSize.{AtMost, few_bytes, at_most_joined, varint_size, number_size, spelling_payload}
+use Rattle.mc_model.proofs.Decodes.{IsClear}
+use Rattle.mc_model.proofs.FitsSize.{AtMost, few_bytes, at_most_joined, varint_size, number_size}
+use Rattle.mc_model.proofs.FitsSize.{spelling_payload}
 
 -- a place whose numbers a packet can carry
 pub record PlaceFits (place : Place) : Type 0 where
@@ -27,19 +30,31 @@ pub record PlaceFits (place : Place) : Type 0 where
   pub z : SFits w32 place.1
 
 -- a chunk of a place that fits, a mask of 16 bits and not too many bytes
-chunk_clear : (place : Place) (mask : ℕ) (body : List ℕ) → PlaceFits place → mask < 2 ^ 16 → AtMost 200000 body
+chunk_clear : (place : Place) (mask : ℕ) (body : List ℕ) → PlaceFits place → mask < 2 ^ 16 →
+    AtMost 200000 body
     → IsClear for_play (of_play (Chunk place.0 place.1 true mask body))
 chunk_clear place mask body at small few =
     let counted : SFits w32 (pos (length body)) = record { sfits = omega (arith, few) } in
-    let fits : FitsDown (Chunk place.0 place.1 true mask body) =
-    (lit< tt, (signed_fits w32 place.0 at.x, (signed_fits w32 place.1 at.z, (tt, (small, (tt, ((tt, (varint-fits (pos (length body)) counted, refl)), refl))))))) in
+    let fits : FitsDown (Chunk place.0 place.1 true mask body) = (
+      lit< tt,
+      (
+        signed_fits w32 place.0 at.x,
+        (
+          signed_fits w32 place.1 at.z,
+          (tt, (small, (tt, ((tt, (varint-fits (pos (length body)) counted, refl)), refl)))),
+        ),
+      ),
+    ) in
     let size : AtMost 200016 _ =
     at_most_joined 4 200012 _ _ (number_size w32 wide_32 (cast_unsigned w32 place.0)) (
     at_most_joined 4 200008 _ _ (number_size w32 wide_32 (cast_unsigned w32 place.1)) (
     at_most_joined 1 200007 _ _ (number_size w8 wide_8 (bool_byte true)) (
     at_most_joined 2 200005 _ _ (number_size w16 wide_16 mask) (
-    at_most_joined 5 200000 _ _ (varint_size (pos (length body)) counted).1 few)))) in
-    (fits, spelling_payload (entry_of (Chunk place.0 place.1 true mask body)) fits (few_bytes 200016 _ (omega arith) size))
+    at_most_joined 5 200000 _ _ (varint_size (pos (length body)) counted).1 few)))) in (
+      fits,
+      spelling_payload (entry_of (Chunk place.0 place.1 true mask body)) fits
+          (few_bytes 200016 _ (omega arith) size),
+    )
 
 -- no more numbers below n pass a test than there are
 rank_most : (test : ℕ → Bool) (n : ℕ) → rank test n ≤ n
@@ -71,7 +86,8 @@ pub record ColumnFits (e : Place × ColumnValue) : Type 0 where
 
 -- a column that comes into view
 pub load_clear : (e : Place × ColumnValue) → ColumnFits e → IsClear for_play (of_play (load e))
-load_clear e f = chunk_clear e.0 (column_mask e.1) (column_bytes e.1) f.place (mask_small e.1 f.sizes) (column_few e.1 f.sizes)
+load_clear e f = chunk_clear e.0 (column_mask e.1) (column_bytes e.1) f.place
+    (mask_small e.1 f.sizes) (column_few e.1 f.sizes)
 
 -- one that goes
 pub unload_clear : (place : Place) → PlaceFits place → IsClear for_play (of_play (unload place))

@@ -1,5 +1,6 @@
 -- The patterns of whole numbers fit their fields.
-use Rattle.std.proofs.Common.{◌≡◌, ℕ, zero, suc, ◌+◌, ◌-◌, ◌*◌, ◌^◌, ◌<◌, ◌≤◌, Bool, true, false, cond, refl, arith, inl, inr}
+use Rattle.std.proofs.Common.{◌≡◌, ℕ, zero, suc, ◌+◌, ◌-◌, ◌*◌, ◌^◌, ◌<◌, ◌≤◌, Bool, true, false}
+use Rattle.std.proofs.Common.{cond, refl, arith, inl, inr}
 use Rattle.std.specs.Prelude.{nat_le, ◌==◌, unsigned_abs}
 use Rattle.std.proofs.Math.Nat.{pow-le-pow_right, pow-suc}
 use Rattle.std.proofs.lemmas.Bool.{cases_lt, leb-true, leb-false}
@@ -24,9 +25,12 @@ pub top_bit_below : (k n j : ℕ) → n < 2 ^ suc j → top_bit k n ≤ j
 top_bit_below zero n j less = omega arith
 top_bit_below (suc k) n j less = step (nat_le (2 ^ suc k) n) refl (top_bit_below k n j less)
   where
-    step : (t : Bool) → nat_le (2 ^ suc k) n ≡ t → top_bit k n ≤ j → cond t (suc k) (top_bit k n) ≤ j
+    step : (t : Bool) → nat_le (2 ^ suc k) n ≡ t → top_bit k n ≤ j →
+        cond t (suc k) (top_bit k n) ≤ j
     step true t rest = elim (cases_lt j (suc k)) [
-      | inl lt ↦ (let wide : 2 ^ suc j ≤ 2 ^ suc k = pow-le-pow_right (omega arith) (omega (arith, lt)) in absurd (omega (arith, less, wide, leb-true _ _ t)))
+      | inl lt ↦ (let wide : 2 ^ suc j ≤ 2 ^ suc k =
+          pow-le-pow_right (omega arith) (omega (arith, lt)) in
+          absurd (omega (arith, less, wide, leb-true _ _ t)))
       | inr le ↦ le
     ]
     step false t rest = rest
@@ -34,7 +38,8 @@ top_bit_below (suc k) n j less = step (nat_le (2 ^ suc k) n) refl (top_bit_below
 -- ---- patterns
 
 -- the significand of a number, with its highest bit at a place
-pub significand_below : (n place : ℕ) → n < 2 ^ 33 → top_bit 32 n ≤ place → n * 2 ^ (place - top_bit 32 n) < 2 * 2 ^ place
+pub significand_below : (n place : ℕ) → n < 2 ^ 33 → top_bit 32 n ≤ place →
+    n * 2 ^ (place - top_bit 32 n) < 2 * 2 ^ place
 significand_below n place small within =
     let above : n < 2 ^ suc (top_bit 32 n) = top_bit_above 32 n small in
     let twice : n < 2 ^ top_bit 32 n * 2 = rw (pow-suc 2 (top_bit 32 n)) at above in
@@ -50,7 +55,8 @@ pattern_below n small = step (n == 0)
     below : n * 2 ^ (52 - top_bit 32 n) < 2 * 2 ^ 52
     below = significand_below n 52 (omega (arith, small)) (omega (arith, top))
 
-    step : (t : Bool) → cond t 0 ((1023 - 6 + top_bit 32 n) * 2 ^ 52 + n * 2 ^ (52 - top_bit 32 n)) < 2 ^ 63
+    step : (t : Bool) → cond t 0 ((1023 - 6 + top_bit 32 n) * 2 ^ 52 + n * 2 ^ (52 - top_bit 32 n))
+        < 2 ^ 63
     step true = omega arith
     step false = omega (arith, below, top)
 
@@ -62,7 +68,8 @@ signed_below p false small = omega (arith, small)
 -- the pattern of a place has 64 bits
 pub pattern_fits : (n : ℤ) → unsigned_abs n < 2 ^ 30 → pattern_of n < 2 ^ 64
 unfolding pattern_of
-pattern_fits n small = signed_below (pattern_with 52 1023 (unsigned_abs n)) (is_below_0 n) (pattern_below (unsigned_abs n) small)
+pattern_fits n small = signed_below (pattern_with 52 1023 (unsigned_abs n)) (is_below_0 n)
+    (pattern_below (unsigned_abs n) small)
 
 -- the pattern of an angle has 32
 pub degrees_fit : (a : ℕ) → a < 256 → degrees_of a < 2 ^ 32
@@ -75,6 +82,7 @@ degrees_fit a small = step (a * 45 == 0)
     below : a * 45 * 2 ^ (23 - top_bit 32 (a * 45)) < 2 * 2 ^ 23
     below = significand_below (a * 45) 23 (omega (arith, small)) (omega (arith, top))
 
-    step : (t : Bool) → cond t 0 ((127 - 6 + top_bit 32 (a * 45)) * 2 ^ 23 + a * 45 * 2 ^ (23 - top_bit 32 (a * 45))) < 2 ^ 32
+    step : (t : Bool) → cond t 0 ((127 - 6 + top_bit 32 (a * 45)) * 2 ^ 23 + a * 45 * 2 ^
+        (23 - top_bit 32 (a * 45))) < 2 ^ 32
     step true = omega arith
     step false = omega (arith, below, top)

@@ -1,4 +1,4 @@
--- How long spellings are at most, and which packets a client so makes out.
+-- How long spellings are at most, and which packets a client so decodes.
 use Rattle.std.proofs.Common.{ℕ, ◌+◌, ◌^◌, ◌<◌, ◌≤◌, List, ◌++◌, length, arith}
 use Rattle.std.specs.Int.{Width, byte_len, w32}
 use Rattle.std.proofs.lemmas.List.{length-append}
@@ -16,7 +16,8 @@ abbrev pub AtMost : ℕ → List ℕ → Type 0
 AtMost most bytes = length bytes ≤ most
 
 -- two lists, one behind the other
-pub at_most_joined : (a b : ℕ) (xs ys : List ℕ) → AtMost a xs → AtMost b ys → AtMost (a + b) (xs ++ ys)
+pub at_most_joined : (a b : ℕ) (xs ys : List ℕ) → AtMost a xs → AtMost b ys →
+    AtMost (a + b) (xs ++ ys)
 at_most_joined a b xs ys x y = omega (arith, x, y, length-append xs ys)
 
 -- so many at most, and so more at most
@@ -24,11 +25,13 @@ pub at_most_less : (a b : ℕ) (bytes : List ℕ) → a ≤ b → AtMost a bytes
 at_most_less a b bytes le few = omega (arith, le, few)
 
 -- few bytes are not too many
-pub few_bytes : (most : ℕ) (bytes : List ℕ) → most ≤ 2000000 → AtMost most bytes → AtMost 2000000 bytes
+pub few_bytes : (most : ℕ) (bytes : List ℕ) → most ≤ 2000000 → AtMost most bytes →
+    AtMost 2000000 bytes
 few_bytes most bytes small few = at_most_less most 2000000 bytes small few
 
 -- a VarInt has one byte at least and five at most
-pub varint_size : (value : ℤ) → SFits w32 value → (0 < length (varint_spelling value)) × AtMost 5 (varint_spelling value)
+pub varint_size : (value : ℤ) → SFits w32 value →
+    (0 < length (varint_spelling value)) × AtMost 5 (varint_spelling value)
 varint_size value fits =
     let s = varint_spelled 5 five value (varint-fits value fits) in
     (IsChain-some (varint_spelling value) s.chain, s.within)
@@ -39,14 +42,18 @@ unfolding number_spelling
 number_size w wide n = let len = wide.len n in omega (arith, len)
 
 -- a text has five more than its own at most
-pub text_size : (most : ℕ) (text : List ℕ) → most < 2 ^ 31 → AtMost most text → AtMost (5 + most) (text_spelling text)
+pub text_size : (most : ℕ) (text : List ℕ) → most < 2 ^ 31 → AtMost most text →
+    AtMost (5 + most) (text_spelling text)
 unfolding text_spelling
-text_size most text small few = at_most_joined 5 most _ text (varint_size (pos (length text)) (record { sfits = omega (arith, few, small) })).1 few
+text_size most text small few = at_most_joined 5 most _ text
+    (varint_size (pos (length text)) (record { sfits = omega (arith, few, small) })).1 few
 
 -- a packet whose fields are not too many bytes is a payload
-pub spelling_payload : {P : Type 0} (entry : Entry P) → Fits entry → AtMost 2000000 (entry.row.format.spelling entry.fields)
+pub spelling_payload : {P : Type 0} (entry : Entry P) → Fits entry →
+    AtMost 2000000 (entry.row.format.spelling entry.fields)
     → IsPayload (spelling entry)
 spelling_payload entry fits few =
     let id = varint_size (pos entry.row.id) (record { sfits = fits.0 }) in
-    let all = length-append (varint_spelling (pos entry.row.id)) (entry.row.format.spelling entry.fields) in
+    let all = length-append (varint_spelling (pos entry.row.id))
+    (entry.row.format.spelling entry.fields) in
     record { some = omega (arith, id.0, all); counted = omega (arith, id.1, all, few) }

@@ -1,6 +1,9 @@
 -- Which texts that are handed out fit: all are ASCII and short.
-use Rattle.std.proofs.Common.{◌≡◌, ℕ, zero, suc, ◌+◌, ◌-◌, ◌/◌, ◌%◌, ◌^◌, ◌<◌, ◌≤◌, Bool, true, false, cond, List, [], ◌∷◌, ◌++◌, length, refl, sym, subst, arith, eqb-true, ltb-true, lt-ltb, inl, inr}
-use Rattle.std.specs.Prelude.{nat_lt, nat_le, ◌==◌, ◌&&◌, ◌||◌, ◌⊎◌, slice_index, codes, decimal, Option, Some, None}
+use Rattle.std.proofs.Common.{◌≡◌, ℕ, zero, suc, ◌+◌, ◌-◌, ◌/◌, ◌%◌, ◌^◌, ◌<◌, ◌≤◌, Bool, true}
+use Rattle.std.proofs.Common.{false, cond, List, [], ◌∷◌, ◌++◌, length, refl, sym, subst, arith}
+use Rattle.std.proofs.Common.{eqb-true, ltb-true, lt-ltb, inl, inr}
+use Rattle.std.specs.Prelude.{nat_lt, nat_le, ◌==◌, ◌&&◌, ◌||◌, ◌⊎◌, slice_index, codes, decimal}
+use Rattle.std.specs.Prelude.{Option, Some, None}
 use Rattle.std.specs.List.{list_all}
 use Rattle.std.specs.Int.{to_be_bytes, w128}
 use Rattle.std.specs.Str.{IsAscii}
@@ -10,7 +13,8 @@ use Rattle.std.proofs.lemmas.Str.{IsUtf8-from_ascii, chars-IsAscii, IsAscii-appe
 use Rattle.std.proofs.lemmas.Fmt.{IsAscii-decimal, length-decimal-le}
 use Rattle.serde_json.proofs.OnLiterals.{serde_json_on_literals}
 use Rattle.mc_fields.specs.TextFormat.{SpellableText}
-use Rattle.uuid.specs.Text.{by_index, is_hyphen_place, hyphen, hex_digit, nibble, digit_place, lower}
+use Rattle.uuid.specs.Text.{by_index, is_hyphen_place, hyphen, hex_digit, nibble, digit_place}
+use Rattle.uuid.specs.Text.{lower}
 use Rattle.mc_model.specs.Names.{is_between, is_name_byte, is_name, uuid_text}
 use Rattle.mc_model.specs.declared.cause.Refusal.{Refusal}
 use Rattle.mc_model.specs.declared.cause.Refusal.TheVariants.{Version, Name, Taken, Full}
@@ -24,9 +28,15 @@ pub record IsShort (most : ℕ) (text : List ℕ) : Type 0 where
   pub few : length text ≤ most
 
 -- such a text fits
-pub short_fits : (points : ℕ) (text : List ℕ) → points < 2 ^ 31 → IsShort points text → SpellableText points text
+pub short_fits : (points : ℕ) (text : List ℕ) → points < 2 ^ 31 → IsShort points text →
+    SpellableText points text
 short_fits points text small s = record {
-  fits = record { utf8 = IsUtf8-from_ascii text s.ascii; few_bytes = omega (arith, s.few); few_points = rw (chars-IsAscii text s.ascii) s.few };
+  fits = record {
+    utf8 = IsUtf8-from_ascii text s.ascii;
+    few_bytes =
+        omega (arith, s.few);
+    few_points = rw (chars-IsAscii text s.ascii) s.few;
+  };
   sized = omega (arith, s.few, small);
 }
 
@@ -35,8 +45,13 @@ pub short_less : (a b : ℕ) (text : List ℕ) → a ≤ b → IsShort a text �
 short_less a b text le s = record { ascii = s.ascii; few = omega (arith, s.few, le) }
 
 -- two of them, one behind the other
-pub short_joined : (a b : ℕ) (text other : List ℕ) → IsShort a text → IsShort b other → IsShort (a + b) (text ++ other)
-short_joined a b text other s t = record { ascii = IsAscii-append text other s.ascii t.ascii; few = omega (arith, s.few, t.few, length-append text other) }
+pub short_joined : (a b : ℕ) (text other : List ℕ) → IsShort a text → IsShort b other →
+    IsShort (a + b) (text ++ other)
+short_joined a b text other s t = record {
+  ascii = IsAscii-append text other s.ascii t.ascii;
+  few =
+      omega (arith, s.few, t.few, length-append text other);
+}
 
 -- ---- tests
 
@@ -55,7 +70,8 @@ all_low (b ∷ text) t zero = ltb-true b 128 (both_true (nat_lt b 128) (list_all
 all_low (b ∷ text) t (suc i) = all_low text (both_true (nat_lt b 128) (list_all is_low text) t).1 i
 
 -- a test that computes
-pub short_where : (most : ℕ) (text : List ℕ) → (list_all is_low text && nat_le (length text) most) ≡ true → IsShort most text
+pub short_where : (most : ℕ) (text : List ℕ) →
+    (list_all is_low text && nat_le (length text) most) ≡ true → IsShort most text
 short_where most text t =
     let parts = both_true (list_all is_low text) (nat_le (length text) most) t in
     record { ascii = all_low text parts.0; few = leb-true (length text) most parts.1 }
@@ -65,33 +81,47 @@ short_where most text t =
 abbrev pub status_around : List ℕ → List ℕ → List ℕ → List ℕ
 status_around most online protocol =
     codes "{\"description\":{\"text\":\"craft47\"},\"players\":{\"max\":"
-    ++ ((most ++ (codes ",\"online\":" ++ (online ++ codes "}"))) ++ (codes ",\"version\":{\"name\":\"1.8\",\"protocol\":" ++ ((protocol ++ codes "}") ++ codes "}")))
+    ++ ((most ++ (codes ",\"online\":" ++ (online ++ codes "}")))
+    ++ (codes ",\"version\":{\"name\":\"1.8\",\"protocol\":"
+    ++ ((protocol ++ codes "}") ++ codes "}")))
 
 -- the status is these words around its numbers
-status_parts : (most online : ℕ) → status_json most online ≡ status_around (decimal most) (decimal online) (decimal 47)
+status_parts : (most online : ℕ) → status_json most online ≡ status_around (decimal most)
+    (decimal online) (decimal 47)
 unfolding status_json serde_json_on_literals
 status_parts most online = refl
 
 -- a small number has two digits at most
 short_number : (n : ℕ) → n ≤ 50 → IsShort 2 (decimal n)
-short_number n small = record { ascii = IsAscii-decimal n (omega arith); few = length-decimal-le 2 n (omega arith) (omega arith) (omega arith) }
+short_number n small = record {
+  ascii = IsAscii-decimal n (omega arith);
+  few =
+      length-decimal-le 2 n (omega arith) (omega arith) (omega arith);
+}
 
 -- with short numbers it is short
-short_around : (most online protocol : List ℕ) → IsShort 2 most → IsShort 2 online → IsShort 2 protocol
+short_around : (most online protocol : List ℕ) → IsShort 2 most → IsShort 2 online →
+    IsShort 2 protocol
     → IsShort 200 (status_around most online protocol)
 short_around most online protocol m o p =
     short_less _ 200 _ (leb-true 110 200 refl) (
-    short_joined 53 57 _ _ (short_where 53 (codes "{\"description\":{\"text\":\"craft47\"},\"players\":{\"max\":") refl) (
+    short_joined 53 57 _ _ (short_where 53
+    (codes "{\"description\":{\"text\":\"craft47\"},\"players\":{\"max\":") refl) (
     short_joined 15 42 _ _
-    (short_joined 2 13 _ _ m (short_joined 10 3 _ _ (short_where 10 (codes ",\"online\":") refl) (short_joined 2 1 _ _ o (short_where 1 (codes "}") refl))))
-    (short_joined 38 4 _ _ (short_where 38 (codes ",\"version\":{\"name\":\"1.8\",\"protocol\":") refl)
-    (short_joined 3 1 _ _ (short_joined 2 1 _ _ p (short_where 1 (codes "}") refl)) (short_where 1 (codes "}") refl)))))
+    (short_joined 2 13 _ _ m (short_joined 10 3 _ _ (short_where 10 (codes ",\"online\":") refl)
+    (short_joined 2 1 _ _ o (short_where 1 (codes "}") refl))))
+    (short_joined 38 4 _ _ (short_where 38
+    (codes ",\"version\":{\"name\":\"1.8\",\"protocol\":") refl)
+    (short_joined 3 1 _ _ (short_joined 2 1 _ _ p (short_where 1 (codes "}") refl))
+    (short_where 1 (codes "}") refl)))))
 
 -- the status is short
-pub status_short : (most online : ℕ) → most ≤ 50 → online ≤ 50 → IsShort 200 (status_json most online)
+pub status_short : (most online : ℕ) → most ≤ 50 → online ≤ 50 →
+    IsShort 200 (status_json most online)
 status_short most online few fewer =
     subst (IsShort 200) (sym (status_parts most online))
-    (short_around (decimal most) (decimal online) (decimal 47) (short_number most few) (short_number online fewer) (short_number 47 (leb-true 47 50 refl)))
+    (short_around (decimal most) (decimal online) (decimal 47) (short_number most few)
+    (short_number online fewer) (short_number 47 (leb-true 47 50 refl)))
 
 -- ---- last words
 
@@ -136,8 +166,14 @@ by_index_short : (n : ℕ) (f : ℕ → ℕ) → ((k : ℕ) → f k < 128) → I
 unfolding by_index
 by_index_short zero f low = short_where 0 [] refl
 by_index_short (suc n) f low =
-    let one : IsShort 1 (f n ∷ []) = record { ascii = all_low (f n ∷ []) (rw (lt-ltb (f n) 128 (low n)) refl); few = leb-true 1 1 refl } in
-    short_less (n + 1) (suc n) _ (omega arith) (short_joined n 1 (by_index n f) (f n ∷ []) (by_index_short n f low) one)
+    let one : IsShort 1 (f n ∷ []) =
+    record {
+      ascii = all_low (f n ∷ []) (rw (lt-ltb (f n) 128 (low n)) refl);
+      few =
+          leb-true 1 1 refl;
+    } in
+    short_less (n + 1) (suc n) _ (omega arith)
+    (short_joined n 1 (by_index n f) (f n ∷ []) (by_index_short n f low) one)
 
 -- a hex digit is low
 hex_low : (d : ℕ) → d < 16 → hex_digit lower d < 128
@@ -156,7 +192,8 @@ nibble_low xs k = step (k % 2 == 0)
     step false = omega arith
 
 -- so each place of an identifier has a low byte
-place_low : (xs : List ℕ) (k : ℕ) → cond (is_hyphen_place k) hyphen (hex_digit lower (nibble xs (digit_place k))) < 128
+place_low : (xs : List ℕ) (k : ℕ) → cond (is_hyphen_place k) hyphen
+    (hex_digit lower (nibble xs (digit_place k))) < 128
 place_low xs k = step (is_hyphen_place k)
   where
     step : (t : Bool) → cond t 45 (hex_digit lower (nibble xs (digit_place k))) < 128
@@ -177,34 +214,41 @@ either false b e = inr e
 
 -- a byte of a low range is low
 between_low : (low high n : ℕ) → high < 128 → is_between low high n ≡ true → n < 128
-between_low low high n small t = let le = leb-true n high (both_true (nat_le low n) (nat_le n high) t).1 in omega (arith, le, small)
+between_low low high n small t = let le =
+    leb-true n high (both_true (nat_le low n) (nat_le n high) t).1 in omega (arith, le, small)
 
 -- a byte of a name is low
 name_byte_low : (b : ℕ) → is_name_byte b ≡ true → b < 128
-name_byte_low b t = elim (either (is_between 48 57 b || is_between 65 90 b || is_between 97 122 b) (b == 95) t) [
-  | inr last ↦ (let is = eqb-true b 95 last in omega (arith, is))
-  | inl some ↦ elim (either (is_between 48 57 b || is_between 65 90 b) (is_between 97 122 b) some) [
-    | inr small ↦ between_low 97 122 b (omega arith) small
-    | inl some ↦ elim (either (is_between 48 57 b) (is_between 65 90 b) some) [
-      | inl digit ↦ between_low 48 57 b (omega arith) digit
-      | inr large ↦ between_low 65 90 b (omega arith) large
+name_byte_low b t = elim (either (is_between 48 57 b || is_between 65 90 b || is_between 97 122 b)
+    (b == 95) t) [
+      | inr last ↦ (let is = eqb-true b 95 last in omega (arith, is))
+      | inl some ↦
+          elim (either (is_between 48 57 b || is_between 65 90 b) (is_between 97 122 b) some) [
+            | inr small ↦ between_low 97 122 b (omega arith) small
+            | inl some ↦ elim (either (is_between 48 57 b) (is_between 65 90 b) some) [
+              | inl digit ↦ between_low 48 57 b (omega arith) digit
+              | inr large ↦ between_low 65 90 b (omega arith) large
+            ]
+          ]
     ]
-  ]
-]
 
 -- so a name is ASCII
 name_low : (text : List ℕ) → list_all is_name_byte text ≡ true → IsAscii text
 name_low [] t i = omega arith
-name_low (b ∷ text) t zero = name_byte_low b (both_true (is_name_byte b) (list_all is_name_byte text) t).0
-name_low (b ∷ text) t (suc i) = name_low text (both_true (is_name_byte b) (list_all is_name_byte text) t).1 i
+name_low (b ∷ text) t zero = name_byte_low b
+    (both_true (is_name_byte b) (list_all is_name_byte text) t).0
+name_low (b ∷ text) t (suc i) = name_low text
+    (both_true (is_name_byte b) (list_all is_name_byte text) t).1 i
 
 -- and short
 pub name_short : (name : List ℕ) → is_name name ≡ true → IsShort 16 name
 unfolding is_name
 name_short name t =
-    let a = both_true (nat_lt 0 (length name) && nat_le (length name) 16) (list_all is_name_byte name) t in
-    record { ascii = name_low name a.1; few = leb-true (length name) 16 (both_true (nat_lt 0 (length name)) (nat_le (length name) 16) a.0).1 }
-
--- nothing is short
-pub none_short : (most : ℕ) → IsShort most []
-none_short most = short_less 0 most [] (omega arith) (short_where 0 [] refl)
+    let a = both_true (nat_lt 0 (length name) && nat_le (length name) 16)
+    (list_all is_name_byte name) t in
+    record {
+      ascii = name_low name a.1;
+      few =
+          leb-true (length name) 16 (both_true (nat_lt 0 (length name))
+          (nat_le (length name) 16) a.0).1;
+    }

@@ -27,7 +27,8 @@ no_bytes i = omega arith
 digest_is_bytes : (h : List ℕ) (n : ℕ) → IsBytes (digest_bytes h n)
 unfolding digest_bytes
 digest_is_bytes h zero = no_bytes
-digest_is_bytes h (suc n) = bytes_joined (digest_bytes h n) (to_le_bytes w32 (slice_index h n)) (digest_is_bytes h n) (word_bytes (slice_index h n))
+digest_is_bytes h (suc n) = bytes_joined (digest_bytes h n) (to_le_bytes w32 (slice_index h n))
+    (digest_is_bytes h n) (word_bytes (slice_index h n))
 
 -- and so is an MD5
 md5_bytes : (m : List ℕ) → IsBytes (md5 m)
@@ -50,4 +51,6 @@ marked_bytes xs b =
 -- so the identifier has 128 bits
 pub offline_small : (name : List ℕ) → offline_uuid name < 2 ^ 128
 unfolding offline_uuid
-offline_small name = wide_128.below _ (marked_bytes (md5 (codes "OfflinePlayer:" ++ name)) (md5_bytes (codes "OfflinePlayer:" ++ name)))
+offline_small name = wide_128.below _
+    (marked_bytes (md5 (codes "OfflinePlayer:" ++ name))
+    (md5_bytes (codes "OfflinePlayer:" ++ name)))

@@ -1,11 +1,15 @@
--- Finite maps that are changed entry by entry: what stands at each key afterwards, and what removing and inserting makes of one map.
-use Rattle.std.proofs.Common.{◌≡◌, Bool, true, false, cond, not, ◌&&◌, T, List, [], ◌∷◌, Option, Some, None, refl, sym, ap, ◌∙◌}
+-- Finite maps that are changed entry by entry: what stands at each key afterwards, and what
+-- removing and inserting makes of one map.
+use Rattle.std.proofs.Common.{◌≡◌, Bool, true, false, cond, not, ◌&&◌, T, List, [], ◌∷◌, Option}
+use Rattle.std.proofs.Common.{Some, None, refl, sym, ap, ◌∙◌}
 use Rattle.std.specs.List.{filter, fold, AllByRecursion}
 use Rattle.std.specs.declared.cmp.Ordering.{Ordering}
 use Rattle.std.specs.declared.cmp.Ordering.TheVariants.{Less, Equal, Greater}
 use Rattle.std.specs.Ordering.{is_lt, is_eq, eq_by_cmp}
 use Rattle.std.specs.Cmp.{IsTotalOrder, tied_itself}
-use Rattle.std.specs.FinMap.{FinMap, IsAntisymmetric, find, is_sorted, get, insert, remove, entries, entries_sorted, contains_key, get-entries, get-insert, get-remove, same_map}
+use Rattle.std.specs.FinMap.{FinMap, IsAntisymmetric, find, is_sorted, get, insert, remove, entries}
+use Rattle.std.specs.FinMap.{entries_sorted, contains_key, get-entries, get-insert, get-remove}
+use Rattle.std.specs.FinMap.{same_map}
 use Rattle.std.specs.FinMap.Entries.{below_all, find_tied}
 
 -- the parts of a test that both must pass
@@ -34,49 +38,64 @@ module _ {K X : Type 0} {R : K → K → Ordering} (o : IsTotalOrder R) where
   -- a key below all of a list is not found in it
   find_below : (q : K) (es : List (K × X)) → T (below_all R q es) → find R q es ≡ None
   find_below q [] h = refl
-  find_below q (e ∷ es) h = ap (λ r. cond (is_eq r) (Some e.1) (find R q es)) (less _ (first _ _ h)) ∙ find_below q es (second _ _ h)
+  find_below q (e ∷ es) h = ap (λ r. cond (is_eq r) (Some e.1) (find R q es)) (less _ (first _ _ h))
+      ∙ find_below q es (second _ _ h)
 
   -- a key that ties with the first is not found again
-  find_again : (q : K) (e : K × X) (es : List (K × X)) → T (is_sorted R (e ∷ es)) → eq_by_cmp R q e.0 ≡ true → find R q es ≡ None
+  find_again : (q : K) (e : K × X) (es : List (K × X)) → T (is_sorted R (e ∷ es)) →
+      eq_by_cmp R q e.0 ≡ true → find R q es ≡ None
   find_again q e es h t = sym (find_tied R o q e.0 (equal _ t) es) ∙ find_below e.0 es (first _ _ h)
 
   -- what holds of each entry that is found holds of each of those that pass a test
-  pub each_found : (P : K × X → Type 0) (test : K × X → Bool) (es : List (K × X)) → T (is_sorted R es) →
+  pub each_found : (P : K × X → Type 0) (test : K × X → Bool) (es : List (K × X)) →
+      T (is_sorted R es) →
       ((q : K) (v : X) → find R q es ≡ Some v → P (q, v)) → AllByRecursion P (filter test es)
   each_found P test [] h holds = tt
   each_found P test (e ∷ es) h holds =
-      let here : P e = holds e.0 e.1 (ap (λ r. cond (is_eq r) (Some e.1) (find R e.0 es)) (tied_itself o e.0)) in
-      let later : AllByRecursion P (filter test es) = each_found P test es (second _ _ h) (λ q v found. holds q v (still q v found)) in
-      elim (test e) as (λ b. AllByRecursion P (cond b (e ∷ filter test es) (filter test es))) [ true ↦ (here, later) | false ↦ later ]
+      let here : P e = holds e.0 e.1
+      (ap (λ r. cond (is_eq r) (Some e.1) (find R e.0 es)) (tied_itself o e.0)) in
+      let later : AllByRecursion P (filter test es) =
+      each_found P test es (second _ _ h) (λ q v found. holds q v (still q v found)) in
+      elim (test e) as (λ b. AllByRecursion P (cond b (e ∷ filter test es) (filter test es)))
+      [ true ↦ (here, later) | false ↦ later ]
     where
-      still : (q : K) (v : X) → find R q es ≡ Some v → cond (eq_by_cmp R q e.0) (Some e.1) (find R q es) ≡ Some v
-      still q v found = elim (eq_by_cmp R q e.0) as (λ b. eq_by_cmp R q e.0 ≡ b → cond b (Some e.1) (find R q es) ≡ Some v) [
-        | true ↦ λ t. let none = find_again q e es h t in absurd cc
-        | false ↦ λ t. found
-      ] refl
+      still : (q : K) (v : X) → find R q es ≡ Some v →
+          cond (eq_by_cmp R q e.0) (Some e.1) (find R q es) ≡ Some v
+      still q v found = elim (eq_by_cmp R q e.0) as (λ b. eq_by_cmp R q e.0 ≡ b →
+          cond b (Some e.1) (find R q es) ≡ Some v) [
+            | true ↦ λ t. let none = find_again q e es h t in absurd cc
+            | false ↦ λ t. found
+          ] refl
 
 -- ---- one change after another
 
 -- what is at a key after changes by the entries that pass a test, from the entry of that key
-abbrev pub changed_by : {K X Y : Type 0} → (K × X → Bool) → (X → Option Y) → K → Option X → Option Y → Option Y
+abbrev pub changed_by : {K X Y : Type 0} → (K × X → Bool) → (X → Option Y) → K → Option X →
+    Option Y → Option Y
 changed_by test f q None old = old
 changed_by test f q (Some v) old = cond (test (q, v)) (f v) old
 
 -- a change by an entry makes f of its value stand at its key
-pub record Changes {K X Y : Type 0} {R : K → K → Ordering} (change : FinMap R Y → K × X → FinMap R Y) (f : X → Option Y) : Type 0 where
-  pub at : (m : FinMap R Y) (e : K × X) (q : K) → get (change m e) q ≡ cond (eq_by_cmp R q e.0) (f e.1) (get m q)
+pub record Changes {K X Y : Type 0} {R : K → K → Ordering} (change : FinMap R Y → K × X →
+    FinMap R Y) (f : X → Option Y) : Type 0 where
+  pub at : (m : FinMap R Y) (e : K × X) (q : K) →
+      get (change m e) q ≡ cond (eq_by_cmp R q e.0) (f e.1) (get m q)
 
 -- what is at a key after a change by the first entry and then by the later ones
-change_step : {K X Y : Type 0} (test : K × X → Bool) (f : X → Option Y) (q : K) (v : X) (tie passes : Bool) (there : Option X) (old : Option Y) →
+change_step : {K X Y : Type 0} (test : K × X → Bool) (f : X →
+    Option Y) (q : K) (v : X) (tie passes : Bool) (there : Option X) (old : Option Y) →
     (tie ≡ true → there ≡ None) → (tie ≡ true → test (q, v) ≡ passes) →
-    changed_by test f q there (cond passes (cond tie (f v) old) old) ≡ changed_by test f q (cond tie (Some v) there) old
+    changed_by test f q there (cond passes (cond tie (f v) old) old) ≡ changed_by test f q
+    (cond tie (Some v) there) old
 change_step test f q v true passes there old none is = rw (none refl, is refl) refl
 change_step test f q v false true there old none is = refl
 change_step test f q v false false there old none is = refl
 
-module _ {K X Y : Type 0} {R : K → K → Ordering} (o : IsTotalOrder R) (same : IsAntisymmetric R) where
+module _ {K X Y : Type 0} {R : K → K →
+    Ordering} (o : IsTotalOrder R) (same : IsAntisymmetric R) where
   -- what is at a key after changes by the entries of a map that pass a test
-  pub get-changes : (change : FinMap R Y → K × X → FinMap R Y) (f : X → Option Y) → Changes change f →
+  pub get-changes : (change : FinMap R Y → K × X → FinMap R Y) (f : X → Option Y) →
+      Changes change f →
       (test : K × X → Bool) (q : K) (es : List (K × X)) (m : FinMap R Y) → T (is_sorted R es) →
       get (fold change m (filter test es)) q ≡ changed_by test f q (find R q es) (get m q)
   get-changes change f does test q [] m h = refl
@@ -90,11 +109,13 @@ module _ {K X Y : Type 0} {R : K → K → Ordering} (o : IsTotalOrder R) (same 
       ∙ change_step test f q e.1 (eq_by_cmp R q e.0) (test e) (find R q es) (get m q)
       (find_again o q e es h) (λ t. ap (λ k. test (k, e.1)) (same q e.0 (equal _ t)))
     where
-      changed : get (cond (test e) (change m e) m) q ≡ cond (test e) (cond (eq_by_cmp R q e.0) (f e.1) (get m q)) (get m q)
-      changed = elim (test e) as (λ b. get (cond b (change m e) m) q ≡ cond b (cond (eq_by_cmp R q e.0) (f e.1) (get m q)) (get m q)) [
-        | true ↦ does.at m e q
-        | false ↦ refl
-      ]
+      changed : get (cond (test e) (change m e) m) q ≡ cond (test e)
+          (cond (eq_by_cmp R q e.0) (f e.1) (get m q)) (get m q)
+      changed = elim (test e) as (λ b. get (cond b (change m e) m) q ≡ cond b
+          (cond (eq_by_cmp R q e.0) (f e.1) (get m q)) (get m q)) [
+            | true ↦ does.at m e q
+            | false ↦ refl
+          ]
 
 -- ---- taking out and putting in
 
@@ -109,36 +130,50 @@ put_in m e = insert m e.0 e.1
 abbrev pub none_of : {X : Type 0} → X → Option X
 none_of v = None
 
--- what is at a key after the entries of one map that pass a test are taken out, and those of another put in
-abbrev pub remade_at : {K X : Type 0} → (K × X → Bool) → (K × X → Bool) → K → Option X → Option X → Option X
+-- what is at a key after the entries of one map that pass a test are taken out, and those of
+-- another put in
+abbrev pub remade_at : {K X : Type 0} → (K × X → Bool) → (K × X → Bool) → K → Option X → Option X →
+    Option X
 remade_at gone entered q old new = changed_by entered Some q new (changed_by gone none_of q old old)
 
 module _ {K X : Type 0} {R : K → K → Ordering} (o : IsTotalOrder R) (same : IsAntisymmetric R) where
   -- where that is what the other map has at each key, it is the other map
-  pub remade : (m n : FinMap R X) (gone entered : K × X → Bool) → ((q : K) → remade_at gone entered q (get m q) (get n q) ≡ get n q) →
+  pub remade : (m n : FinMap R X) (gone entered : K × X → Bool) →
+      ((q : K) → remade_at gone entered q (get m q) (get n q) ≡ get n q) →
       fold put_in (fold take_out m (filter gone (entries m))) (filter entered (entries n)) ≡ n
   remade m n gone entered each = same_map o same _ n (λ q. at q ∙ each q)
     where
-      at : (q : K) → get (fold put_in (fold take_out m (filter gone (entries m))) (filter entered (entries n))) q ≡ remade_at gone entered q (get m q) (get n q)
+      at : (q : K) → get (fold put_in (fold take_out m (filter gone (entries m)))
+          (filter entered (entries n))) q ≡ remade_at gone entered q (get m q) (get n q)
       at q =
-          get-changes o same put_in Some (record { at = λ m e k. get-insert o m e.0 e.1 k }) entered q (entries n)
+          get-changes o same put_in Some
+          (record { at = λ m e k. get-insert o m e.0 e.1 k }) entered q (entries n)
           (fold take_out m (filter gone (entries m))) (entries_sorted n)
-          ∙ ap (λ (new : Option X). changed_by entered Some q new (get (fold take_out m (filter gone (entries m))) q)) (sym (get-entries n q))
+          ∙ ap (λ (new : Option X). changed_by entered Some q new
+          (get (fold take_out m (filter gone (entries m))) q)) (sym (get-entries n q))
           ∙ ap (changed_by entered Some q (get n q))
-          (get-changes o same take_out none_of (record { at = λ m e k. get-remove o m e.0 k }) gone q (entries m) m (entries_sorted m)
-          ∙ ap (λ (old : Option X). changed_by gone none_of q old (get m q)) (sym (get-entries m q)))
+          (get-changes o same take_out none_of
+          (record { at = λ m e k. get-remove o m e.0 k }) gone q (entries m) m
+          (entries_sorted m)
+          ∙ ap (λ (old : Option X). changed_by gone none_of q old (get m q))
+          (sym (get-entries m q)))
 
 -- the test of an entry whose key another map has not
 abbrev pub is_without : {K X : Type 0} {R : K → K → Ordering} → FinMap R X → K × X → Bool
 is_without n e = not (contains_key n e.0)
 
 module _ {K X : Type 0} {R : K → K → Ordering} (o : IsTotalOrder R) (same : IsAntisymmetric R) where
-  -- keys that are gone are taken out and those that came put in; where values of shared keys are equal, that is the other map
-  pub remade_by_keys : (m n : FinMap R X) → ((q : K) (v w : X) → get m q ≡ Some v → get n q ≡ Some w → v ≡ w) →
-      fold put_in (fold take_out m (filter (is_without n) (entries m))) (filter (is_without m) (entries n)) ≡ n
-  remade_by_keys m n stays = remade o same m n (is_without n) (is_without m) (λ q. cases q (get m q) (get n q) refl refl)
+  -- keys that are gone are taken out and those that came put in; where values of shared keys are
+  -- equal, that is the other map
+  pub remade_by_keys : (m n : FinMap R X) →
+      ((q : K) (v w : X) → get m q ≡ Some v → get n q ≡ Some w → v ≡ w) →
+      fold put_in (fold take_out m (filter (is_without n) (entries m)))
+      (filter (is_without m) (entries n)) ≡ n
+  remade_by_keys m n stays = remade o same m n (is_without n) (is_without m)
+      (λ q. cases q (get m q) (get n q) refl refl)
     where
-      cases : (q : K) (old new : Option X) → get m q ≡ old → get n q ≡ new → remade_at (is_without n) (is_without m) q old new ≡ new
+      cases : (q : K) (old new : Option X) → get m q ≡ old → get n q ≡ new →
+          remade_at (is_without n) (is_without m) q old new ≡ new
       cases q None None a b = refl
       cases q None (Some w) a b = rw a refl
       cases q (Some v) None a b = rw b refl

@@ -1,12 +1,16 @@
--- The pattern of a number is the only one that stands for it, so what is said by inequalities is what is worked out.
-use Rattle.std.proofs.Common.{◌≡◌, ℕ, zero, suc, ◌+◌, ◌-◌, ◌*◌, ◌/◌, ◌%◌, ◌^◌, ◌<◌, ◌≤◌, max, Bool, true, false, cond, refl, sym, ap, ◌∙◌, arith, inl, inr, ne_eqb}
-use Rattle.std.specs.Prelude.{nat_le, ◌==◌, unsigned_abs}
-use Rattle.std.proofs.Math.Nat.{mul-le-mul_right, mul-le-mul_left, pow-le-pow_right, pow-suc, eq_of_mul-eq-mul_right}
-use Rattle.std.proofs.lemmas.Bool.{cases_lt, cases_eq, leb-true, leb-false}
+-- The pattern of a number is the only one that stands for it, so what is said by inequalities is
+-- what is worked out.
+use Rattle.std.proofs.Common.{◌≡◌, ℕ, zero, suc, ◌+◌, ◌-◌, ◌*◌, ◌%◌, ◌^◌, ◌<◌, ◌≤◌, max, Bool}
+use Rattle.std.proofs.Common.{true, false, cond, refl, sym, ap, ◌∙◌, arith, inl, inr, ne_eqb}
+use Rattle.std.specs.Prelude.{nat_le, unsigned_abs}
+use Rattle.std.proofs.Math.Nat.{mul-le-mul_right, pow-le-pow_right, pow-suc}
+use Rattle.std.proofs.Math.Nat.{eq_of_mul-eq-mul_right}
+use Rattle.std.proofs.lemmas.Bool.{cases_lt, leb-true, leb-false}
 use Rattle.std.proofs.lemmas.Int.{ints}
 use Rattle.std.proofs.lemmas.Nat.{pow-add, pow_pos}
 use lib.IntN.{ℤ, pos, negsuc, ◌*ℤ◌}
-use Rattle.mc_fields.specs.Pattern.{StandsFor, StandsForTurn, exponent, power, significand, significand_of, is_negative, with_sign}
+use Rattle.mc_fields.specs.Pattern.{Represents, RepresentsTurn, exponent, power, significand}
+use Rattle.mc_fields.specs.Pattern.{significand_of, is_negative, with_sign}
 use Rattle.mc_fields.proofs.Floors.{with_sign-times}
 use Rattle.mc_fields.proofs.Patterns.{significand_hidden}
 use Rattle.mc_model.specs.Numbers.{top_bit, pattern_with, is_below_0, pattern_of, degrees_of}
@@ -16,23 +20,27 @@ use Rattle.mc_model.specs.Numbers.{top_bit, pattern_with, is_below_0, pattern_of
 -- it is in the number
 top_bit_in : (k n : ℕ) → 1 ≤ n → 2 ^ top_bit k n ≤ n
 top_bit_in zero n some = some
-top_bit_in (suc k) n some = elim (nat_le (2 ^ suc k) n) as (λ b. nat_le (2 ^ suc k) n ≡ b → 2 ^ cond b (suc k) (top_bit k n) ≤ n) [
-  | true ↦ λ t. leb-true (2 ^ suc k) n t
-  | false ↦ λ t. top_bit_in k n some
-] refl
+top_bit_in (suc k) n some = elim (nat_le (2 ^ suc k) n) as (λ b. nat_le (2 ^ suc k) n ≡ b →
+    2 ^ cond b (suc k) (top_bit k n) ≤ n) [
+      | true ↦ λ t. leb-true (2 ^ suc k) n t
+      | false ↦ λ t. top_bit_in k n some
+    ] refl
 
 -- and none above it is
 top_bit_last : (k n : ℕ) → n < 2 ^ suc k → n < 2 ^ suc (top_bit k n)
 top_bit_last zero n few = few
-top_bit_last (suc k) n few = elim (nat_le (2 ^ suc k) n) as (λ b. nat_le (2 ^ suc k) n ≡ b → n < 2 ^ suc (cond b (suc k) (top_bit k n))) [
-  | true ↦ λ t. few
-  | false ↦ λ t. top_bit_last k n (leb-false (2 ^ suc k) n t)
-] refl
+top_bit_last (suc k) n few = elim (nat_le (2 ^ suc k) n) as (λ b. nat_le (2 ^ suc k) n ≡ b →
+    n < 2 ^ suc (cond b (suc k) (top_bit k n))) [
+      | true ↦ λ t. few
+      | false ↦ λ t. top_bit_last k n (leb-false (2 ^ suc k) n t)
+    ] refl
 
 -- it is at most the most that is looked at
 top_bit_most : (k n j : ℕ) → 1 ≤ n → n < 2 ^ suc j → top_bit k n ≤ j
 top_bit_most k n j some few = elim (cases_lt j (top_bit k n)) [
-  | inl lt ↦ let wide : 2 ^ suc j ≤ 2 ^ top_bit k n = pow-le-pow_right (omega arith) (omega (arith, lt)) in absurd (omega (arith, few, wide, top_bit_in k n some))
+  | inl lt ↦ let wide : 2 ^ suc j ≤ 2 ^ top_bit k n =
+      pow-le-pow_right (omega arith) (omega (arith, lt)) in
+      absurd (omega (arith, few, wide, top_bit_in k n some))
   | inr le ↦ le
 ]
 
@@ -41,7 +49,8 @@ top_bit_most k n j some few = elim (cases_lt j (top_bit k n)) [
 below : (a b : ℕ) → 2 ^ a < 2 ^ b → a < b
 below a b lt = elim (cases_lt a b) [
   | inl less ↦ less
-  | inr le ↦ let wide : 2 ^ b ≤ 2 ^ a = pow-le-pow_right (omega arith) le in absurd (omega (arith, lt, wide))
+  | inr le ↦ let wide : 2 ^ b ≤ 2 ^ a = pow-le-pow_right (omega arith) le in
+      absurd (omega (arith, lt, wide))
 ]
 
 -- a number of size sig * 2^e / 2^(bias + f), 32 times as large, is n
@@ -50,29 +59,41 @@ pub record IsScaled (f bias n sig e : ℕ) : Type 0 where
   pub high : sig < 2 ^ suc f
   pub is : 32 * (sig * 2 ^ e) ≡ n * 2 ^ (bias + f)
 
-one_exponent : (f bias n t sig e : ℕ) → 2 ^ t ≤ n → n < 2 ^ suc t → IsScaled f bias n sig e → e + 5 ≡ bias + t
+one_exponent : (f bias n t sig e : ℕ) → 2 ^ t ≤ n → n < 2 ^ suc t → IsScaled f bias n sig e →
+    e + 5 ≡ bias + t
 one_exponent f bias n t sig e least most scaled =
     let some = pow_pos (bias + f) in
     let each = pow_pos e in
     let from_low : 2 ^ f * 2 ^ e ≤ sig * 2 ^ e = mul-le-mul_right (2 ^ e) scaled.low in
     let from_high : suc sig * 2 ^ e ≤ 2 ^ suc f * 2 ^ e = mul-le-mul_right (2 ^ e) scaled.high in
-    let from_least : 2 ^ t * 2 ^ (bias + f) ≤ n * 2 ^ (bias + f) = mul-le-mul_right (2 ^ (bias + f)) least in
-    let from_most : suc n * 2 ^ (bias + f) ≤ 2 ^ suc t * 2 ^ (bias + f) = mul-le-mul_right (2 ^ (bias + f)) most in
+    let from_least : 2 ^ t * 2 ^ (bias + f) ≤ n * 2 ^ (bias + f) =
+    mul-le-mul_right (2 ^ (bias + f)) least in
+    let from_most : suc n * 2 ^ (bias + f) ≤ 2 ^ suc t * 2 ^ (bias + f) =
+    mul-le-mul_right (2 ^ (bias + f)) most in
     let low : 2 ^ (5 + (f + e)) < 2 ^ (suc t + (bias + f)) =
     rw (pow-add 2 5 (f + e), pow-add 2 f e, pow-add 2 (suc t) (bias + f)) (omega arith) in
     let high : 2 ^ (t + (bias + f)) < 2 ^ (5 + (suc f + e)) =
     rw (pow-add 2 5 (suc f + e), pow-add 2 (suc f) e, pow-add 2 t (bias + f)) (omega arith) in
-    omega (arith, below (5 + (f + e)) (suc t + (bias + f)) low, below (t + (bias + f)) (5 + (suc f + e)) high)
+    omega (
+      arith,
+      below (5 + (f + e)) (suc t + (bias + f)) low,
+      below (t + (bias + f))
+          (5 + (suc f + e)) high,
+    )
 
-one_significand : (f bias n t sig e : ℕ) → t ≤ f → e + 5 ≡ bias + t → IsScaled f bias n sig e → sig ≡ n * 2 ^ (f - t)
+one_significand : (f bias n t sig e : ℕ) → t ≤ f → e + 5 ≡ bias + t → IsScaled f bias n sig e →
+    sig ≡ n * 2 ^ (f - t)
 one_significand f bias n t sig e few is scaled =
     let left : 32 * (sig * 2 ^ e) ≡ sig * 2 ^ (e + 5) = rw (pow-add 2 e 5) (omega arith) in
     let whole : (bias + t) + (f - t) ≡ bias + f = omega arith in
-    let right : n * 2 ^ (bias + f) ≡ (n * 2 ^ (f - t)) * 2 ^ (bias + t) = rw (sym whole, pow-add 2 (bias + t) (f - t)) (omega arith) in
-    eq_of_mul-eq-mul_right (2 ^ (bias + t)) (pow_pos (bias + t)) sig (n * 2 ^ (f - t)) (ap (λ (k : ℕ). sig * 2 ^ k) (sym is) ∙ sym left ∙ scaled.is ∙ right)
+    let right : n * 2 ^ (bias + f) ≡ (n * 2 ^ (f - t)) * 2 ^ (bias + t) =
+    rw (sym whole, pow-add 2 (bias + t) (f - t)) (omega arith) in
+    eq_of_mul-eq-mul_right (2 ^ (bias + t)) (pow_pos (bias + t)) sig (n * 2 ^ (f - t))
+    (ap (λ (k : ℕ). sig * 2 ^ k) (sym is) ∙ sym left ∙ scaled.is ∙ right)
 
 -- what a pattern without its sign is, from its exponent and its significand
-made : (f bias n t sig e rest : ℕ) → 6 ≤ bias → t ≤ f → sig ≡ 2 ^ f + rest → 2 ^ t ≤ n → n < 2 ^ suc t → IsScaled f bias n sig e →
+made : (f bias n t sig e rest : ℕ) → 6 ≤ bias → t ≤ f → sig ≡ 2 ^ f + rest → 2 ^ t ≤ n →
+    n < 2 ^ suc t → IsScaled f bias n sig e →
     e * 2 ^ f + rest ≡ (bias - 6 + t) * 2 ^ f + n * 2 ^ (f - t)
 made f bias n t sig e rest enough few hidden least most scaled =
     let at = one_exponent f bias n t sig e least most scaled in
@@ -81,7 +102,8 @@ made f bias n t sig e rest enough few hidden least most scaled =
     rw (one, sym is, hidden) (omega arith)
 
 -- a pattern of a number that is not 0 has an exponent
-some_exponent : (f e rest n k : ℕ) → 1 ≤ n → rest < 2 ^ f → 2 ^ (f + 6) ≤ 2 ^ k → 32 * (significand_of f e rest * 2 ^ max e 1) ≡ n * 2 ^ k → 0 < e
+some_exponent : (f e rest n k : ℕ) → 1 ≤ n → rest < 2 ^ f → 2 ^ (f + 6) ≤ 2 ^ k →
+    32 * (significand_of f e rest * 2 ^ max e 1) ≡ n * 2 ^ k → 0 < e
 some_exponent f zero rest n k some few wide is =
     let each : 1 * 2 ^ k ≤ n * 2 ^ k = mul-le-mul_right (2 ^ k) some in
     let enough : 2 ^ (f + 6) ≡ 2 ^ f * 64 = pow-add 2 f 6 in
@@ -89,15 +111,24 @@ some_exponent f zero rest n k some few wide is =
 some_exponent f (suc e) rest n k some few wide is = omega arith
 
 -- the exponent and the fraction of a size that is not 0 are those that are worked out
-one_size : (f bias n e rest : ℕ) → 6 ≤ bias → 1 ≤ n → n < 2 ^ 33 → top_bit 32 n ≤ f → rest < 2 ^ f → 32 * (significand_of f e rest * 2 ^ max e 1) ≡ n * 2 ^ (bias + f) →
+one_size : (f bias n e rest : ℕ) → 6 ≤ bias → 1 ≤ n → n < 2 ^ 33 → top_bit 32 n ≤ f → rest < 2 ^ f →
+    32 * (significand_of f e rest * 2 ^ max e 1) ≡ n * 2 ^ (bias + f) →
     e * 2 ^ f + rest ≡ pattern_with f bias n
 one_size f bias n e rest enough some small few fits is =
     let wide : 2 ^ (f + 6) ≤ 2 ^ (bias + f) = pow-le-pow_right (omega arith) (omega arith) in
     let there : 0 < e = some_exponent f e rest n (bias + f) some fits wide is in
     let hidden : significand_of f e rest ≡ 2 ^ f + rest = significand_hidden f e rest there in
     let powered : max e 1 ≡ e = omega arith in
-    let scaled : IsScaled f bias n (2 ^ f + rest) e = record { low = omega arith; high = rw (pow-suc 2 f) (omega arith); is = rw (hidden, powered) at is } in
-    rw (ne_eqb n 0 (omega arith)) (made f bias n (top_bit 32 n) (2 ^ f + rest) e rest enough few refl (top_bit_in 32 n some) (top_bit_last 32 n small) scaled)
+    let scaled : IsScaled f bias n (2 ^ f + rest) e =
+    record {
+      low = omega arith;
+      high = rw (pow-suc 2 f) (omega arith);
+      is =
+          rw (hidden, powered) at is;
+    } in
+    rw (ne_eqb n 0 (omega arith)) (made f bias n (top_bit 32 n)
+    (2 ^ f + rest) e rest enough few refl (top_bit_in 32 n some)
+    (top_bit_last 32 n small) scaled)
 
 -- two equal numbers with a sign have one size, and one sign where that is not 0
 one_signed : (a b : Bool) (x y : ℕ) → with_sign a x ≡ with_sign b y → x ≡ y
@@ -118,41 +149,60 @@ signed_is (negsuc m) = refl
 
 -- ---- binary64
 
-parts_64 : (p : ℕ) (b : Bool) → p < 2 ^ 64 → is_negative 52 11 p ≡ b → p ≡ exponent 52 11 p * 2 ^ 52 + p % 2 ^ 52 + cond b (2 ^ 63) 0
+parts_64 : (p : ℕ) (b : Bool) → p < 2 ^ 64 → is_negative 52 11 p ≡ b →
+    p ≡ exponent 52 11 p * 2 ^ 52 + p % 2 ^ 52 + cond b (2 ^ 63) 0
 parts_64 p true few e = let big : 2 ^ 63 ≤ p = leb-true (2 ^ 63) p e in omega arith
 parts_64 p false few e = let small : p < 2 ^ 63 = leb-false (2 ^ 63) p e in omega arith
 
-some_one : (n : ℤ) (p : ℕ) → 1 ≤ unsigned_abs n → unsigned_abs n < 2 ^ 33 → p < 2 ^ 64 → StandsFor n p → p ≡ pattern_of n
+some_one : (n : ℤ) (p : ℕ) → 1 ≤ unsigned_abs n → unsigned_abs n < 2 ^ 33 → p < 2 ^ 64 →
+    Represents n p → p ≡ pattern_of n
 unfolding pattern_of
 some_one n p some few fits stands =
-    let exact : with_sign (is_negative 52 11 p) (32 * (significand 52 11 p * 2 ^ power 52 11 p)) ≡ with_sign (is_below_0 n) (unsigned_abs n * 2 ^ 1075) =
-    stands.exact ∙ ap (λ (z : ℤ). z *ℤ pos (2 ^ 1075)) (signed_is n) ∙ with_sign-times (is_below_0 n) (unsigned_abs n) (2 ^ 1075) in
-    let size = one_signed (is_negative 52 11 p) (is_below_0 n) (32 * (significand 52 11 p * 2 ^ power 52 11 p)) (unsigned_abs n * 2 ^ 1075) exact in
-    let sign = one_sign (is_negative 52 11 p) (is_below_0 n) (32 * (significand 52 11 p * 2 ^ power 52 11 p)) (unsigned_abs n * 2 ^ 1075) (omega arith) exact in
-    let unsigned = one_size 52 1023 (unsigned_abs n) (exponent 52 11 p) (p % 2 ^ 52) (omega arith) some few (omega (arith, top_bit_most 32 (unsigned_abs n) 32 some few)) (omega arith) size in
-    parts_64 p (is_below_0 n) fits sign ∙ ap (λ (q : ℕ). q + cond (is_below_0 n) (2 ^ 63) 0) unsigned
+    let exact : with_sign (is_negative 52 11 p)
+    (32 * (significand 52 11 p * 2 ^ power 52 11 p)) ≡ with_sign (is_below_0 n)
+    (unsigned_abs n * 2 ^ 1075) =
+    stands.exact ∙ ap (λ (z : ℤ). z *ℤ pos (2 ^ 1075)) (signed_is n)
+    ∙ with_sign-times (is_below_0 n) (unsigned_abs n) (2 ^ 1075) in
+    let size = one_signed (is_negative 52 11 p) (is_below_0 n)
+    (32 * (significand 52 11 p * 2 ^ power 52 11 p)) (unsigned_abs n * 2 ^ 1075) exact in
+    let sign = one_sign (is_negative 52 11 p) (is_below_0 n)
+    (32 * (significand 52 11 p * 2 ^ power 52 11 p)) (unsigned_abs n * 2 ^ 1075)
+    (omega arith) exact in
+    let unsigned = one_size 52 1023 (unsigned_abs n) (exponent 52 11 p) (p % 2 ^ 52)
+    (omega arith) some few (omega (arith, top_bit_most 32 (unsigned_abs n) 32 some few))
+    (omega arith) size in
+    parts_64 p (is_below_0 n) fits sign
+    ∙ ap (λ (q : ℕ). q + cond (is_below_0 n) (2 ^ 63) 0) unsigned
 
 -- the pattern of a number is the one that is worked out
-pub pattern_one : (n : ℤ) (p : ℕ) → unsigned_abs n < 2 ^ 33 → p < 2 ^ 64 → (n ≡ pos 0 → p ≡ 0) → StandsFor n p → p ≡ pattern_of n
+pub pattern_one : (n : ℤ) (p : ℕ) → unsigned_abs n < 2 ^ 33 → p < 2 ^ 64 → (n ≡ pos 0 → p ≡ 0) →
+    Represents n p → p ≡ pattern_of n
 unfolding pattern_of
 pattern_one (pos zero) p few fits none stands = none refl
-pattern_one (pos (suc m)) p few fits none stands = some_one (pos (suc m)) p (omega arith) few fits stands
+pattern_one (pos (suc m)) p few fits none stands =
+    some_one (pos (suc m)) p (omega arith) few fits stands
 pattern_one (negsuc m) p few fits none stands = some_one (negsuc m) p (omega arith) few fits stands
 
 -- ---- binary32
 
-parts_32 : (p : ℕ) → p < 2 ^ 32 → is_negative 23 8 p ≡ false → p ≡ exponent 23 8 p * 2 ^ 23 + p % 2 ^ 23
+parts_32 : (p : ℕ) → p < 2 ^ 32 → is_negative 23 8 p ≡ false →
+    p ≡ exponent 23 8 p * 2 ^ 23 + p % 2 ^ 23
 parts_32 p few e = let small : p < 2 ^ 31 = leb-false (2 ^ 31) p e in omega arith
 
-some_turn : (a p : ℕ) → 1 ≤ a → a < 256 → p < 2 ^ 32 → StandsForTurn a p → p ≡ degrees_of a
+some_turn : (a p : ℕ) → 1 ≤ a → a < 256 → p < 2 ^ 32 → RepresentsTurn a p → p ≡ degrees_of a
 unfolding degrees_of
 some_turn a p some few fits stands =
-    let size = one_signed (is_negative 23 8 p) false (32 * (significand 23 8 p * 2 ^ power 23 8 p)) (a * 45 * 2 ^ 150) stands.exact in
-    let sign = one_sign (is_negative 23 8 p) false (32 * (significand 23 8 p * 2 ^ power 23 8 p)) (a * 45 * 2 ^ 150) (omega arith) stands.exact in
-    parts_32 p fits sign ∙ one_size 23 127 (a * 45) (exponent 23 8 p) (p % 2 ^ 23) (omega arith) (omega arith) (omega arith) (omega (arith, top_bit_most 32 (a * 45) 13 (omega arith) (omega arith))) (omega arith) size
+    let size = one_signed (is_negative 23 8 p) false (32 * (significand 23 8 p * 2 ^ power 23 8 p))
+    (a * 45 * 2 ^ 150) stands.exact in
+    let sign = one_sign (is_negative 23 8 p) false (32 * (significand 23 8 p * 2 ^ power 23 8 p))
+    (a * 45 * 2 ^ 150) (omega arith) stands.exact in
+    parts_32 p fits sign ∙ one_size 23 127 (a * 45) (exponent 23 8 p) (p % 2 ^ 23) (omega arith)
+    (omega arith) (omega arith) (omega
+    (arith, top_bit_most 32 (a * 45) 13 (omega arith) (omega arith))) (omega arith) size
 
 -- the pattern of an angle is the one that is worked out
-pub degrees_one : (a p : ℕ) → a < 256 → p < 2 ^ 32 → (a ≡ 0 → p ≡ 0) → StandsForTurn a p → p ≡ degrees_of a
+pub degrees_one : (a p : ℕ) → a < 256 → p < 2 ^ 32 → (a ≡ 0 → p ≡ 0) → RepresentsTurn a p →
+    p ≡ degrees_of a
 unfolding degrees_of
 degrees_one zero p few fits none stands = none refl
 degrees_one (suc a) p few fits none stands = some_turn (suc a) p (omega arith) few fits stands

@@ -1,13 +1,18 @@
--- What every event leaves of the world: numbers of connections stand once, and none is above the last that joined.
+-- What every event leaves of the world: numbers of connections stand once, and none is above the
+-- last that joined.
 use Rattle.std.proofs.Common.{◌≡◌, ◌≢◌, ℕ, [], ◌∷◌, ◌++◌, refl, sym, subst, ap, ◌∙◌, arith}
-use Rattle.std.specs.Prelude.{◌==◌, ◌&&◌, not, nat_lt, Bool, true, false, cond, Option, Some, None, option_map, if◌then◌else◌}
+use Rattle.std.specs.Prelude.{◌==◌, ◌&&◌, not, nat_lt, Bool, true, false, cond, Option, Some, None}
+use Rattle.std.specs.Prelude.{option_map, if◌then◌else◌}
 use Rattle.std.proofs.lemmas.Bool.Decides.{nat_tests}
 use Rattle.mc_model.specs.declared.cause.Cause.TheVariants as causes
 use Rattle.mc_model.specs.World.{World, Session, found, is_closed}
-use Rattle.mc_model.specs.Step.{Event, joined, came, left, ticked, took, forgot, Handing, shut, new_session, joining, join, is_new, is_crowded, gone, changed, is_done, flush, at_tick, on_bytes, step}
+use Rattle.mc_model.specs.Step.{Event, joined, came, left, ticked, took, forgot, Handing}
+use Rattle.mc_model.specs.Step.{mark_closed, joining, join, is_new, gone}
+use Rattle.mc_model.specs.Step.{changed, is_done, flush, at_tick, on_bytes, step}
 use Rattle.mc_model.specs.Orderly.{Orderly, Rise, next_number}
 use Rattle.mc_model.proofs.RiseFacts.{joining_id, joined_rise, rise_filter}
-use Rattle.mc_model.proofs.Sessions.{other_number, found_map, found_behind, apart_map, rise_map, apart_more, apart_filter, none_filtered}
+use Rattle.mc_model.proofs.Sessions.{other_number, found_map, found_behind, apart_map, rise_map}
+use Rattle.mc_model.proofs.Sessions.{apart_more, apart_filter, none_filtered}
 use Rattle.mc_model.proofs.Beside.{Beside, beside_changed}
 use Rattle.mc_model.proofs.Handing.{flush_cases}
 use Rattle.mc_model.proofs.Frames.{bytes_beside}
@@ -18,7 +23,8 @@ above_both : (l k j : ℕ) → nat_lt l k ≡ true → nat_lt k j ≡ true → n
 above_both l k j a b = grind (arith, nat_tests)
 
 -- a number above the new last one is above the old last one
-pub later_new : (j k : ℕ) (last : Option ℕ) → is_new j (Some k) ≡ true → is_new k last ≡ true → is_new j last ≡ true
+pub later_new : (j k : ℕ) (last : Option ℕ) → is_new j (Some k) ≡ true → is_new k last ≡ true →
+    is_new j last ≡ true
 later_new j k None above new = refl
 later_new j k (Some l) above new = above_both l k j new above
 
@@ -26,7 +32,8 @@ not_above : (l j k : ℕ) → nat_lt l j ≡ true → nat_lt l k ≡ false → n
 not_above l j k a b = grind (arith, nat_tests)
 
 -- and one that is not above the old last one is not above the new one
-pub later_old : (j k : ℕ) (last : Option ℕ) → is_new k last ≡ false → is_new j last ≡ true → is_new k (Some j) ≡ false
+pub later_old : (j k : ℕ) (last : Option ℕ) → is_new k last ≡ false → is_new j last ≡ true →
+    is_new k (Some j) ≡ false
 later_old j k None old new = absurd cc
 later_old j k (Some l) old new = not_above l j k new old
 
@@ -36,48 +43,66 @@ above_other k j above same = grind (arith, nat_tests)
 -- ---- connections that keep their numbers
 
 pub gone_id : (s : Session) → (gone s).id ≡ s.id
-gone_id s = elim (is_closed s.stage) as (λ b. (if b then record s { owed = [] } else record (shut s causes.Gone) { owed = [] }).id ≡ s.id) [ true ↦ refl | false ↦ refl ]
+gone_id s = elim (is_closed s.stage) as
+    (λ b. (if b then record s { owed = [] } else
+    record (mark_closed s causes.Gone) { owed = [] }).id ≡ s.id) [ true ↦ refl | false ↦ refl ]
 
 pub flush_id : (w : World) (s : Session) → (flush w s).session.id ≡ s.id
-flush_id w s = flush_cases w s (λ (h : Handing). h.session.id ≡ s.id) (λ waits. refl) (λ playing fits. refl) (λ playing much. refl)
+flush_id w s = flush_cases w s (λ (h : Handing). h.session.id ≡ s.id) (λ none. refl)
+    (λ p there fits. refl) (λ p there much. refl)
 
 -- ---- the order of numbers
 
 pub orderly_beside : (k : ℕ) (w v : World) → Beside k w v → Orderly w → Orderly v
 orderly_beside k w v b o = record {
-  rising = (let P : Option ℕ → Type 0 = λ last. Rise 0 v.sessions (next_number last) in subst P (sym b.last) (b.rise 0 (next_number w.last) o.rising));
+  rising = (let P : Option ℕ → Type 0 = λ last. Rise 0 v.sessions (next_number last) in
+      subst P (sym b.last) (b.rise 0 (next_number w.last) o.rising));
   apart = b.apart o.apart;
-  fresh = λ j new. b.none j (o.fresh j (ap (λ (last : Option ℕ). is_new j last) (sym b.last) ∙ new));
+  fresh = λ j new. b.none j (o.fresh j (ap (λ (last : Option ℕ). is_new j last) (sym b.last)
+      ∙ new));
 }
 
 orderly_join : (w : World) (k : ℕ) → Orderly w → Orderly (join w k)
-orderly_join w k o = elim (is_new k w.last) as (λ b. is_new k w.last ≡ b → Orderly (if b then record w { last = Some k; sessions = w.sessions ++ joining w k ∷ [] } else w)) [
-  | true ↦ λ new. record {
-    rising = joined_rise w k w.last w.sessions (joining w k) refl new o.rising;
-    apart = apart_more w.sessions (joining w k) o.apart (ap (λ (n : ℕ). found n w.sessions) (joining_id w k) ∙ o.fresh k new);
-    fresh = λ j above.
-        found_behind j w.sessions (joining w k ∷ []) (o.fresh j (later_new j k w.last above new))
-        ∙ ap (λ (n : ℕ). cond (n == j) (Some (joining w k)) None) (joining_id w k)
-        ∙ ap (λ (b : Bool). cond b (Some (joining w k)) None) (other_number k j (above_other k j above));
-  }
-  | false ↦ λ old. o
-] refl
+orderly_join w k o = elim (is_new k w.last) as (λ b. is_new k w.last ≡ b →
+    Orderly (if b then record w { last = Some k; sessions = w.sessions ++ joining w k ∷ [] } else
+    w)) [
+      | true ↦ λ new. record {
+        rising = joined_rise w k w.last w.sessions (joining w k) refl new o.rising;
+        apart = apart_more w.sessions (joining w k) o.apart
+            (ap (λ (n : ℕ). found n w.sessions) (joining_id w k) ∙ o.fresh k new);
+        fresh = λ j above.
+            found_behind j w.sessions (joining w k ∷ [])
+            (o.fresh j (later_new j k w.last above new))
+            ∙ ap (λ (n : ℕ). cond (n == j) (Some (joining w k)) None) (joining_id w k)
+            ∙ ap (λ (b : Bool). cond b (Some (joining w k)) None)
+            (other_number k j (above_other k j above));
+      }
+      | false ↦ λ old. o
+    ] refl
 
 pub orderly_step : (w : World) (e : Event) → Orderly w → Orderly (step w e).world
 unfolding step
 orderly_step w (joined k) o = orderly_join w k o
-orderly_step w (came k bytes) o = orderly_beside k w (on_bytes w k bytes).world (bytes_beside k w bytes) o
-orderly_step w (left k) o = orderly_beside k w (changed w k gone) (beside_changed k w gone (λ t same. gone_id t)) o
+orderly_step w (came k bytes) o = orderly_beside k w (on_bytes w k bytes).world
+    (bytes_beside k w bytes) o
+orderly_step w (left k) o = orderly_beside k w (changed w k gone)
+    (beside_changed k w gone (λ t same. gone_id t)) o
 orderly_step w ticked o = record {
-  rising = rise_map (λ (s : Session). (flush (at_tick w) s).session) (flush_id (at_tick w)) 0 (next_number w.last) w.sessions o.rising;
-  apart = apart_map (λ (s : Session). (flush (at_tick w) s).session) (flush_id (at_tick w)) w.sessions o.apart;
-  fresh = λ k new. found_map k (λ (s : Session). (flush (at_tick w) s).session) (flush_id (at_tick w)) w.sessions ∙ ap (option_map (λ (s : Session). (flush (at_tick w) s).session)) (o.fresh k new);
+  rising = rise_map (λ (s : Session). (flush (at_tick w) s).session) (flush_id (at_tick w)) 0
+      (next_number w.last) w.sessions o.rising;
+  apart = apart_map (λ (s : Session). (flush (at_tick w) s).session)
+      (flush_id (at_tick w)) w.sessions o.apart;
+  fresh = λ k new. found_map k (λ (s : Session). (flush (at_tick w) s).session)
+      (flush_id (at_tick w)) w.sessions
+      ∙ ap (option_map (λ (s : Session). (flush (at_tick w) s).session)) (o.fresh k new);
 }
 orderly_step w (took k n) o = orderly_beside k w _ (beside_changed k w _ (λ t same. refl)) o
 orderly_step w (forgot k) o = record {
-  rising = rise_filter (λ (s : Session). not (s.id == k && is_done s)) 0 (next_number w.last) w.sessions o.rising;
+  rising = rise_filter (λ (s : Session). not (s.id == k && is_done s)) 0
+      (next_number w.last) w.sessions o.rising;
   apart = apart_filter (λ (s : Session). not (s.id == k && is_done s)) w.sessions o.apart;
-  fresh = λ j new. none_filtered j (λ (s : Session). not (s.id == k && is_done s)) w.sessions (o.fresh j new);
+  fresh = λ j new. none_filtered j (λ (s : Session). not (s.id == k && is_done s)) w.sessions
+      (o.fresh j new);
 }
 
 -- ---- the land stays
@@ -88,11 +113,17 @@ pub record Lasts (w v : World) : Type 0 where
 
 pub lasts_step : (w : World) (e : Event) → Lasts w (step w e).world
 unfolding step
-lasts_step w (joined k) = elim (is_new k w.last) as (λ b. Lasts w (if b then record w { last = Some k; sessions = w.sessions ++ joining w k ∷ [] } else w)) [
-  | true ↦ record { terrain = refl; edits = refl }
-  | false ↦ record { terrain = refl; edits = refl }
-]
-lasts_step w (came k bytes) = let b = bytes_beside k w bytes in record { terrain = b.terrain; edits = b.edits }
+lasts_step w (joined k) = elim (is_new k w.last) as
+    (λ b. Lasts w (if b then record w {
+      last = Some k;
+      sessions =
+          w.sessions ++ joining w k ∷ [];
+    } else w)) [
+      | true ↦ record { terrain = refl; edits = refl }
+      | false ↦ record { terrain = refl; edits = refl }
+    ]
+lasts_step w (came k bytes) = let b = bytes_beside k w bytes in
+    record { terrain = b.terrain; edits = b.edits }
 lasts_step w (left k) = record { terrain = refl; edits = refl }
 lasts_step w ticked = record { terrain = refl; edits = refl }
 lasts_step w (took k n) = record { terrain = refl; edits = refl }
@@ -100,13 +131,17 @@ lasts_step w (forgot k) = record { terrain = refl; edits = refl }
 
 -- ---- a number that is not new stays so
 
-pub old_step : (k : ℕ) (w : World) (e : Event) → is_new k w.last ≡ false → is_new k (step w e).world.last ≡ false
+pub old_step : (k : ℕ) (w : World) (e : Event) → is_new k w.last ≡ false →
+    is_new k (step w e).world.last ≡ false
 unfolding step
-old_step k w (joined j) old = elim (is_new j w.last) as (λ b. is_new j w.last ≡ b → is_new k (if b then record w { last = Some j; sessions = w.sessions ++ joining w j ∷ [] } else w).last ≡ false) [
-  | true ↦ λ new. later_old j k w.last old new
-  | false ↦ λ none. old
-] refl
-old_step k w (came j bytes) old = ap (λ (last : Option ℕ). is_new k last) (bytes_beside j w bytes).last ∙ old
+old_step k w (joined j) old = elim (is_new j w.last) as (λ b. is_new j w.last ≡ b →
+    is_new k (if b then record w { last = Some j; sessions = w.sessions ++ joining w j ∷ [] } else
+    w).last ≡ false) [
+      | true ↦ λ new. later_old j k w.last old new
+      | false ↦ λ none. old
+    ] refl
+old_step k w (came j bytes) old = ap (λ (last : Option ℕ). is_new k last)
+    (bytes_beside j w bytes).last ∙ old
 old_step k w (left j) old = old
 old_step k w ticked old = old
 old_step k w (took j n) old = old

@@ -14,5 +14,7 @@ orderly_history (e ∷ events) w o = orderly_history events (step w e).world (or
 pub orderly_new : (most cap : ℕ) (terrain : Terrain) → Orderly (new_world most cap terrain)
 orderly_new most cap terrain = record { rising = omega arith; apart = tt; fresh = λ k new. refl }
 
-pub orderly_run : (most cap : ℕ) (terrain : Terrain) (events : List Event) → Orderly (history (new_world most cap terrain) events)
-orderly_run most cap terrain events = orderly_history events (new_world most cap terrain) (orderly_new most cap terrain)
+pub orderly_run : (most cap : ℕ) (terrain : Terrain) (events : List Event) →
+    Orderly (history (new_world most cap terrain) events)
+orderly_run most cap terrain events =
+    orderly_history events (new_world most cap terrain) (orderly_new most cap terrain)

@@ -1,16 +1,21 @@
 -- What every event makes of one connection, and what it hands out to it.
 use Rattle.std.proofs.Common.{◌≡◌, ◌≢◌, ℕ, List, [], ◌∷◌, ◌++◌, inl, inr, refl, sym, subst, ap, ◌∙◌}
-use Rattle.std.specs.Prelude.{◌⊎◌, ◌==◌, ◌&&◌, drop, not, Bool, true, false, cond, Some, None, option_map, if◌then◌else◌}
+use Rattle.std.specs.Prelude.{◌⊎◌, ◌==◌, ◌&&◌, drop, not, Bool, true, false, cond, Some, None}
+use Rattle.std.specs.Prelude.{option_map, if◌then◌else◌}
 use Rattle.std.specs.List.{filter}
 use Rattle.std.proofs.lemmas.Bool.{cases_eq}
 use Rattle.std.proofs.lemmas.List.{append-nil}
 use Rattle.mc_model.specs.declared.cause.Cause.TheVariants as causes
 use Rattle.mc_model.specs.World.{World, Session, found, is_closed}
-use Rattle.mc_model.specs.Hearing.{Sent}
-use Rattle.mc_model.specs.Step.{Event, joined, came, left, ticked, took, forgot, Outcome, Turn, shut, joining, join, is_new, gone, changed, is_done, flush, at_tick, on_bytes, step}
+use Rattle.mc_model.specs.Packets.{Sent}
+use Rattle.mc_model.specs.Step.{Event, joined, came, left, ticked, took, forgot, Outcome, Turn}
+use Rattle.mc_model.specs.Step.{mark_closed, joining, join, is_new, gone, changed, is_done, flush}
+use Rattle.mc_model.specs.Step.{at_tick, on_bytes, step}
 use Rattle.mc_model.specs.Run.{to}
 use Rattle.mc_model.specs.Orderly.{AreApart}
-use Rattle.mc_model.proofs.Sessions.{some_none, one_some, other_number, same_number, found_map, found_before, found_behind, none_filtered, found_filter, to_none, to_found}
+use Rattle.mc_model.proofs.Sessions.{some_none, one_some, other_number, same_number, found_map}
+use Rattle.mc_model.proofs.Sessions.{found_before, found_behind, none_filtered, found_filter}
+use Rattle.mc_model.proofs.Sessions.{to_none, to_found}
 use Rattle.mc_model.proofs.Beside.{beside_changed, found_changed}
 use Rattle.mc_model.proofs.Handing.{Done, stayed, shut_for, gone_last}
 use Rattle.mc_model.proofs.Frames.{IsKept, also_owing, bytes_lead, no_bytes, bytes_beside}
@@ -27,13 +32,18 @@ to_other j k ps ne = ap (λ (b : Bool). cond b ps [] ++ []) (other_number j k ne
 
 -- ---- a tick
 
-pub tick_found : (k : ℕ) (w : World) (s : Session) → found k w.sessions ≡ Some s → found k (step w ticked).world.sessions ≡ Some (flush (at_tick w) s).session
+pub tick_found : (k : ℕ) (w : World) (s : Session) → found k w.sessions ≡ Some s →
+    found k (step w ticked).world.sessions ≡ Some (flush (at_tick w) s).session
 unfolding step
-tick_found k w s e = found_map k (λ (s : Session). (flush (at_tick w) s).session) (flush_id (at_tick w)) w.sessions ∙ ap (option_map (λ (s : Session). (flush (at_tick w) s).session)) e
+tick_found k w s e = found_map k (λ (s : Session). (flush (at_tick w) s).session)
+    (flush_id (at_tick w)) w.sessions
+    ∙ ap (option_map (λ (s : Session). (flush (at_tick w) s).session)) e
 
-pub tick_hands : (k : ℕ) (w : World) (s : Session) → AreApart w.sessions → found k w.sessions ≡ Some s → to k (step w ticked).out ≡ (flush (at_tick w) s).handed
+pub tick_hands : (k : ℕ) (w : World) (s : Session) → AreApart w.sessions →
+    found k w.sessions ≡ Some s → to k (step w ticked).out ≡ (flush (at_tick w) s).handed
 unfolding step
-tick_hands k w s apart e = to_found k (λ (s : Session). (flush (at_tick w) s).handed) w.sessions s apart e
+tick_hands k w s apart e = to_found k
+    (λ (s : Session). (flush (at_tick w) s).handed) w.sessions s apart e
 
 -- ---- a connection that is not there
 
@@ -42,7 +52,8 @@ pub no_out : (k : ℕ) (w : World) (e : Event) → found k w.sessions ≡ None �
 unfolding step
 no_out k w (joined j) none = refl
 no_out k w (came j bytes) none = elim (cases_eq j k) [
-  | inl same ↦ subst (λ (n : ℕ). to k ((n, (on_bytes w n bytes).handed) ∷ []) ≡ []) (sym same) (to_own k (on_bytes w k bytes).handed ∙ ap (λ (t : Turn). t.handed) (no_bytes k w bytes none))
+  | inl same ↦ subst (λ (n : ℕ). to k ((n, (on_bytes w n bytes).handed) ∷ []) ≡ []) (sym same)
+      (to_own k (on_bytes w k bytes).handed ∙ ap (λ (t : Turn). t.handed) (no_bytes k w bytes none))
   | inr ne ↦ to_other j k (on_bytes w j bytes).handed ne
 ]
 no_out k w (left j) none = refl
@@ -53,79 +64,140 @@ no_out k w (forgot j) none = refl
 -- it stays away, but for its own join under a new number
 pub data Arrives (k : ℕ) (w : World) (e : Event) : Type 0 where
   away : found k (step w e).world.sessions ≡ None → Arrives k w e
-  joins : e ≡ joined k → is_new k w.last ≡ true → found k (step w e).world.sessions ≡ Some (joining w k) → Arrives k w e
+  joins : e ≡ joined k → is_new k w.last ≡ true →
+      found k (step w e).world.sessions ≡ Some (joining w k) → Arrives k w e
 
-pub found_joining : (k : ℕ) (w : World) → found k w.sessions ≡ None → is_new k w.last ≡ true → found k (join w k).sessions ≡ Some (joining w k)
+pub found_joining : (k : ℕ) (w : World) → found k w.sessions ≡ None → is_new k w.last ≡ true →
+    found k (join w k).sessions ≡ Some (joining w k)
 found_joining k w none new =
-    ap (λ (b : Bool). found k (if b then record w { last = Some k; sessions = w.sessions ++ joining w k ∷ [] } else w).sessions) new
+    ap (λ (b : Bool). found k (if b then
+    record w { last = Some k; sessions = w.sessions ++ joining w k ∷ [] } else w).sessions) new
     ∙ found_behind k w.sessions (joining w k ∷ []) none
-    ∙ ap (λ (b : Bool). cond b (Some (joining w k)) None) (ap (λ (n : ℕ). n == k) (joining_id w k) ∙ same_number k)
+    ∙ ap (λ (b : Bool). cond b (Some (joining w k)) None) (ap (λ (n : ℕ). n == k) (joining_id w k)
+    ∙ same_number k)
 
-other_joins : (k j : ℕ) (w : World) → j ≢ k → found k w.sessions ≡ None → found k (join w j).sessions ≡ None
-other_joins k j w ne none = elim (is_new j w.last) as (λ b. found k (if b then record w { last = Some j; sessions = w.sessions ++ joining w j ∷ [] } else w).sessions ≡ None) [
-  | true ↦
-      found_behind k w.sessions (joining w j ∷ []) none
-      ∙ ap (λ (n : ℕ). cond (n == k) (Some (joining w j)) None) (joining_id w j)
-      ∙ ap (λ (b : Bool). cond b (Some (joining w j)) None) (other_number j k ne)
-  | false ↦ none
-]
+other_joins : (k j : ℕ) (w : World) → j ≢ k → found k w.sessions ≡ None →
+    found k (join w j).sessions ≡ None
+other_joins k j w ne none = elim (is_new j w.last) as
+    (λ b. found k (if b then record w {
+      last = Some j;
+      sessions =
+          w.sessions ++ joining w j ∷ [];
+    } else w).sessions ≡ None) [
+      | true ↦
+          found_behind k w.sessions (joining w j ∷ []) none
+          ∙ ap (λ (n : ℕ). cond (n == k) (Some (joining w j)) None) (joining_id w j)
+          ∙ ap (λ (b : Bool). cond b (Some (joining w j)) None) (other_number j k ne)
+      | false ↦ none
+    ]
 
 pub arrives : (k : ℕ) (w : World) (e : Event) → found k w.sessions ≡ None → Arrives k w e
 unfolding step
 arrives k w (joined j) none = elim (cases_eq j k) [
-  | inl same ↦ subst (λ (n : ℕ). Arrives k w (joined n)) (sym same) (elim (is_new k w.last) as (λ b. is_new k w.last ≡ b → Arrives k w (joined k)) [
-    | true ↦ λ new. joins refl new (found_joining k w none new)
-    | false ↦ λ old. away (ap (λ (b : Bool). found k (if b then record w { last = Some k; sessions = w.sessions ++ joining w k ∷ [] } else w).sessions) old ∙ none)
-  ] refl)
+  | inl same ↦ subst (λ (n : ℕ). Arrives k w (joined n)) (sym same)
+      (elim (is_new k w.last) as (λ b. is_new k w.last ≡ b → Arrives k w (joined k)) [
+        | true ↦ λ new. joins refl new (found_joining k w none new)
+        | false ↦ λ old. away (ap (λ (b : Bool). found k (if b then
+            record w { last = Some k; sessions = w.sessions ++ joining w k ∷ [] }
+            else w).sessions) old
+            ∙ none)
+      ] refl)
   | inr ne ↦ away (other_joins k j w ne none)
 ]
 arrives k w (came j bytes) none = away ((bytes_beside j w bytes).none k none)
 arrives k w (left j) none = away ((beside_changed j w gone (λ t same. gone_id t)).none k none)
-arrives k w ticked none = away (found_map k (λ (s : Session). (flush (at_tick w) s).session) (flush_id (at_tick w)) w.sessions ∙ ap (option_map (λ (s : Session). (flush (at_tick w) s).session)) none)
-arrives k w (took j n) none = away ((beside_changed j w (λ (s : Session). record s { owed = drop n s.owed }) (λ t same. refl)).none k none)
-arrives k w (forgot j) none = away (none_filtered k (λ (s : Session). not (s.id == j && is_done s)) w.sessions none)
+arrives k w ticked none = away (found_map k (λ (s : Session). (flush (at_tick w) s).session)
+    (flush_id (at_tick w)) w.sessions
+    ∙ ap (option_map (λ (s : Session). (flush (at_tick w) s).session)) none)
+arrives k w (took j n) none = away ((beside_changed j w
+    (λ (s : Session). record s { owed = drop n s.owed }) (λ t same. refl)).none k none)
+arrives k w (forgot j) none = away (none_filtered k
+    (λ (s : Session). not (s.id == j && is_done s)) w.sessions none)
 
 -- ---- a connection that is there, between two ticks
 
 -- it went, or it is there still and P holds of it and of all that was handed to it
-pub data Remains (P : Session → List Sent → Type 0) (k : ℕ) (s : Session) (ps : List Sent) (o : Outcome) : Type 0 where
-  went : is_closed s.stage ≡ true → found k o.world.sessions ≡ None → to k o.out ≡ [] → Remains P k s ps o
-  stays : (t : Session) → found k o.world.sessions ≡ Some t → P t (ps ++ to k o.out) → Remains P k s ps o
+pub data Remains (P : Session → List Sent →
+    Type 0) (k : ℕ) (s : Session) (ps : List Sent) (o : Outcome) : Type 0 where
+  went : is_closed s.stage ≡ true → found k o.world.sessions ≡ None → to k o.out ≡ [] →
+      Remains P k s ps o
+  stays : (t : Session) → found k o.world.sessions ≡ Some t → P t (ps ++ to k o.out) →
+      Remains P k s ps o
 
-remains_alone : (P : Session → List Sent → Type 0) (k : ℕ) (s t : Session) (ps qs : List Sent) (o : Outcome) → IsKept P → found k o.world.sessions ≡ Some t → to k o.out ≡ qs → Done s t qs → P s ps → Remains P k s ps o
-remains_alone P k s t ps qs o kept there hands done p = stays t there (subst (λ (hs : List Sent). P t (ps ++ hs)) (sym hands) (kept s t ps qs done p))
+remains_alone : (P : Session → List Sent →
+    Type 0) (k : ℕ) (s t : Session) (ps qs : List Sent) (o : Outcome) → IsKept P →
+    found k o.world.sessions ≡ Some t → to k o.out ≡ qs → Done s t qs → P s ps → Remains P k s ps o
+remains_alone P k s t ps qs o kept there hands done p =
+    stays t there (subst (λ (hs : List Sent). P t (ps ++ hs)) (sym hands) (kept s t ps qs done p))
 
 gone_done : (s : Session) → Done s (gone s) []
-gone_done s = elim (is_closed s.stage) as (λ b. is_closed s.stage ≡ b → Done s (if b then record s { owed = [] } else record (shut s causes.Gone) { owed = [] }) []) [
-  | true ↦ λ closed. stayed refl refl refl refl
-  | false ↦ λ open_. shut_for causes.Gone open_ refl refl (gone_last s.stage)
-] refl
+gone_done s = elim (is_closed s.stage) as (λ b. is_closed s.stage ≡ b →
+    Done s (if b then record s { owed = [] } else
+    record (mark_closed s causes.Gone) { owed = [] }) []) [
+      | true ↦ λ closed. stayed refl refl refl refl
+      | false ↦ λ open_. shut_for causes.Gone open_ refl refl refl (gone_last s.stage)
+    ] refl
 
 -- a change of one connection by which it is done so
-remains_changed : (P : Session → List Sent → Type 0) (kept : IsKept P) (j k : ℕ) (w : World) (f : Session → Session) (s : Session) (ps : List Sent) → ((t : Session) → (f t).id ≡ t.id) → ((t : Session) → Done t (f t) []) →
-    found k w.sessions ≡ Some s → P s ps → Remains P k s ps (record { world = changed w j f; out = [] })
+remains_changed : (P : Session → List Sent →
+    Type 0) (kept : IsKept P) (j k : ℕ) (w : World) (f : Session →
+    Session) (s : Session) (ps : List Sent) → ((t : Session) → (f t).id ≡ t.id) →
+    ((t : Session) → Done t (f t) []) →
+    found k w.sessions ≡ Some s → P s ps →
+    Remains P k s ps (record { world = changed w j f; out = [] })
 remains_changed P kept j k w f s ps keeps done there p = elim (cases_eq j k) [
-  | inl same ↦ remains_alone P k s (f s) ps [] _ kept (subst (λ (n : ℕ). found k (changed w n f).sessions ≡ Some (f s)) (sym same) (found_changed k w f s (λ t is. keeps t) there)) refl (done s) p
-  | inr ne ↦ remains_alone P k s s ps [] _ kept ((beside_changed j w f (λ t is. keeps t)).others k (λ same. ne (sym same)) ∙ there) refl (stayed refl refl refl refl) p
+  | inl same ↦ remains_alone P k s (f s) ps [] _ kept
+      (subst (λ (n : ℕ). found k (changed w n f).sessions ≡ Some (f s)) (sym same)
+      (found_changed k w f s (λ t is. keeps t) there)) refl (done s) p
+  | inr ne ↦ remains_alone P k s s ps [] _ kept
+      ((beside_changed j w f (λ t is. keeps t)).others k (λ same. ne (sym same)) ∙ there) refl
+      (stayed refl refl refl refl) p
 ]
 
-remains_bytes : (P : Session → List Sent → Type 0) (kept : IsKept P) (j k : ℕ) (w : World) (bytes : List ℕ) (s : Session) (ps : List Sent) →
-    found k w.sessions ≡ Some s → P s ps → Remains P k s ps (record { world = (on_bytes w j bytes).world; out = (j, (on_bytes w j bytes).handed) ∷ [] })
+remains_bytes : (P : Session → List Sent →
+    Type 0) (kept : IsKept P) (j k : ℕ) (w : World) (bytes : List ℕ) (s : Session)
+    (ps : List Sent) →
+    found k w.sessions ≡ Some s → P s ps →
+    Remains P k s ps (record {
+      world = (on_bytes w j bytes).world;
+      out =
+          (j, (on_bytes w j bytes).handed) ∷ [];
+    })
 remains_bytes P kept j k w bytes s ps there p = elim (cases_eq j k) [
-  | inl same ↦ subst (λ (n : ℕ). Remains P k s ps (record { world = (on_bytes w n bytes).world; out = (n, (on_bytes w n bytes).handed) ∷ [] })) (sym same) (
+  | inl same ↦ subst (λ (n : ℕ). Remains P k s ps
+      (record { world = (on_bytes w n bytes).world; out = (n, (on_bytes w n bytes).handed) ∷ [] }))
+      (sym same) (
       let l = bytes_lead P (also_owing P kept) k w s ps bytes there p in
-      stays l.session l.there (subst (λ (hs : List Sent). P l.session (ps ++ hs)) (sym (to_own k (on_bytes w k bytes).handed)) l.holds))
-  | inr ne ↦ remains_alone P k s s ps [] _ kept ((bytes_beside j w bytes).others k (λ same. ne (sym same)) ∙ there) (to_other j k (on_bytes w j bytes).handed ne) (stayed refl refl refl refl) p
+      stays l.session l.there (subst (λ (hs : List Sent). P l.session (ps ++ hs))
+      (sym (to_own k (on_bytes w k bytes).handed)) l.holds))
+  | inr ne ↦ remains_alone P k s s ps [] _ kept
+      ((bytes_beside j w bytes).others k (λ same. ne (sym same)) ∙ there)
+      (to_other j k (on_bytes w j bytes).handed ne) (stayed refl refl refl refl) p
 ]
 
-remains_forgot : (P : Session → List Sent → Type 0) (kept : IsKept P) (j k : ℕ) (w : World) (s : Session) (ps : List Sent) → AreApart w.sessions →
-    found k w.sessions ≡ Some s → P s ps → Remains P k s ps (record { world = record w { sessions = filter (λ (s : Session). not (s.id == j && is_done s)) w.sessions }; out = [] })
+remains_forgot : (P : Session → List Sent →
+    Type 0) (kept : IsKept P) (j k : ℕ) (w : World) (s : Session) (ps : List Sent) →
+    AreApart w.sessions →
+    found k w.sessions ≡ Some s → P s ps →
+    Remains P k s ps (record {
+      world =
+          record w { sessions = filter (λ (s : Session). not (s.id == j && is_done s)) w.sessions };
+      out = [];
+    })
 remains_forgot P kept j k w s ps apart there p =
-    let look = found_filter k (λ (s : Session). not (s.id == j && is_done s)) w.sessions s apart there in
-    elim (s.id == j && is_done s) as (λ b. (s.id == j && is_done s) ≡ b → found k (filter (λ (s : Session). not (s.id == j && is_done s)) w.sessions) ≡ cond (not b) (Some s) None →
-    Remains P k s ps (record { world = record w { sessions = filter (λ (s : Session). not (s.id == j && is_done s)) w.sessions }; out = [] })) [
+    let look = found_filter k (λ (s : Session). not (s.id == j && is_done s)) w.sessions s apart
+    there in
+    elim (s.id == j && is_done s) as (λ b. (s.id == j && is_done s) ≡ b →
+    found k (filter (λ (s : Session). not (s.id == j && is_done s)) w.sessions) ≡ cond (not b)
+    (Some s) None →
+    Remains P k s ps (record {
+      world =
+          record w { sessions = filter (λ (s : Session). not (s.id == j && is_done s)) w.sessions };
+      out = [];
+    })) [
       | true ↦ λ is none. went (both_closed (s.id == j) (is_closed s.stage) _ is) none refl
-      | false ↦ λ is some. remains_alone P k s s ps [] _ kept some refl (stayed refl refl refl refl) p
+      | false ↦ λ is some. remains_alone P k s s ps [] _ kept some refl
+          (stayed refl refl refl refl) p
     ] refl look
   where
     both_closed : (a b c : Bool) → (a && (b && c)) ≡ true → b ≡ true
@@ -133,16 +205,27 @@ remains_forgot P kept j k w s ps apart there p =
     both_closed true false c e = absurd cc
     both_closed false b c e = absurd cc
 
-pub remains : (P : Session → List Sent → Type 0) (kept : IsKept P) (k : ℕ) (w : World) (e : Event) (s : Session) (ps : List Sent) → AreApart w.sessions → e ≢ ticked → found k w.sessions ≡ Some s → P s ps → Remains P k s ps (step w e)
+pub remains : (P : Session → List Sent →
+    Type 0) (kept : IsKept P) (k : ℕ) (w : World) (e : Event) (s : Session) (ps : List Sent) →
+    AreApart w.sessions → e ≢ ticked → found k w.sessions ≡ Some s → P s ps →
+    Remains P k s ps (step w e)
 unfolding step
-remains P kept k w (joined j) s ps apart ne there p = remains_alone P k s s ps [] _ kept (elim (is_new j w.last) as (λ b. found k (if b then record w { last = Some j; sessions = w.sessions ++ joining w j ∷ [] } else w).sessions ≡ Some s) [
-  | true ↦ found_before k w.sessions (joining w j ∷ []) s there
-  | false ↦ there
-]) refl (stayed refl refl refl refl) p
-remains P kept k w (came j bytes) s ps apart ne there p = remains_bytes P kept j k w bytes s ps there p
-remains P kept k w (left j) s ps apart ne there p = remains_changed P kept j k w gone s ps gone_id gone_done there p
+remains P kept k w (joined j) s ps apart ne there p =
+    remains_alone P k s s ps [] _ kept
+    (elim (is_new j w.last) as (λ b. found k (if b then
+    record w { last = Some j; sessions = w.sessions ++ joining w j ∷ [] }
+    else w).sessions ≡ Some s) [
+      | true ↦ found_before k w.sessions (joining w j ∷ []) s there
+      | false ↦ there
+    ]) refl (stayed refl refl refl refl) p
+remains P kept k w (came j bytes) s ps apart ne there p =
+    remains_bytes P kept j k w bytes s ps there p
+remains P kept k w (left j) s ps apart ne there p =
+    remains_changed P kept j k w gone s ps gone_id gone_done there p
 remains P kept k w ticked s ps apart ne there p = absurd (ne refl)
-remains P kept k w (took j n) s ps apart ne there p = remains_changed P kept j k w (λ (s : Session). record s { owed = drop n s.owed }) s ps (λ t. refl) (λ t. stayed refl refl refl refl) there p
+remains P kept k w (took j n) s ps apart ne there p =
+    remains_changed P kept j k w (λ (s : Session). record s { owed = drop n s.owed }) s ps
+    (λ t. refl) (λ t. stayed refl refl refl refl) there p
 remains P kept k w (forgot j) s ps apart ne there p = remains_forgot P kept j k w s ps apart there p
 
 -- ---- any event
@@ -151,27 +234,38 @@ pub is_tick : (e : Event) → (e ≡ ticked) ⊎ (e ≢ ticked)
 is_tick ticked = inl refl
 is_tick other = inr (λ same. absurd cc)
 
--- what holds of what a tick shows, of a connection that joins, and is kept between two ticks, holds of what is there after any event
-pub each_step : (P : Session → List Sent → Type 0) (kept : IsKept P) (k : ℕ) (w : World) (ps : List Sent) (e : Event) → AreApart w.sessions →
-    ((s : Session) → P s ps → P (flush (at_tick w) s).session (ps ++ (flush (at_tick w) s).handed)) →
+-- what holds of what a tick shows, of a connection that joins, and is kept between two ticks, holds
+-- of what is there after any event
+pub each_step : (P : Session → List Sent →
+    Type 0) (kept : IsKept P) (k : ℕ) (w : World) (ps : List Sent) (e : Event) →
+    AreApart w.sessions →
+    ((s : Session) → P s ps → P (flush (at_tick w) s).session (ps
+    ++ (flush (at_tick w) s).handed)) →
     (found k w.sessions ≡ None → is_new k w.last ≡ true → P (joining w k) (ps ++ [])) →
     ((s : Session) → found k w.sessions ≡ Some s → P s ps) →
     (t : Session) → found k (step w e).world.sessions ≡ Some t → P t (ps ++ to k (step w e).out)
-each_step P kept k w ps e apart flushes joining_ each t there = elim (found k w.sessions) as (λ o. found k w.sessions ≡ o → P t (ps ++ to k (step w e).out)) [
-  | None ↦ λ none. elim (arrives k w e none) [
-    | away gone ↦ absurd (some_none t _ there gone)
-    | joins is new here ↦
-        subst (λ (v : Session). P v (ps ++ to k (step w e).out)) (one_some (joining w k) t _ here there)
-        (subst (λ (hs : List Sent). P (joining w k) (ps ++ hs)) (sym (no_out k w e none)) (joining_ none new))
-  ]
-  | Some s ↦ λ here. elim (is_tick e) [
-    | inl is ↦
-        subst (λ (e : Event). found k (step w e).world.sessions ≡ Some t → P t (ps ++ to k (step w e).out)) (sym is) (λ there.
-        subst (λ (v : Session). P v (ps ++ to k (step w ticked).out)) (one_some _ t _ (tick_found k w s here) there)
-        (subst (λ (hs : List Sent). P (flush (at_tick w) s).session (ps ++ hs)) (sym (tick_hands k w s apart here)) (flushes s (each s here)))) there
-    | inr ne ↦ elim (remains P kept k w e s ps apart ne here (each s here)) [
-      | went closed gone none ↦ absurd (some_none t _ there gone)
-      | stays v found_ p ↦ subst (λ (u : Session). P u (ps ++ to k (step w e).out)) (one_some v t _ found_ there) p
-    ]
-  ]
-] refl
+each_step P kept k w ps e apart flushes joining_ each t there =
+    elim (found k w.sessions) as (λ o. found k w.sessions ≡ o → P t (ps ++ to k (step w e).out)) [
+      | None ↦ λ none. elim (arrives k w e none) [
+        | away gone ↦ absurd (some_none t _ there gone)
+        | joins is new here ↦
+            subst (λ (v : Session). P v (ps ++ to k (step w e).out))
+            (one_some (joining w k) t _ here there)
+            (subst (λ (hs : List Sent). P (joining w k) (ps ++ hs)) (sym (no_out k w e none))
+            (joining_ none new))
+      ]
+      | Some s ↦ λ here. elim (is_tick e) [
+        | inl is ↦
+            subst (λ (e : Event). found k (step w e).world.sessions ≡ Some t →
+            P t (ps ++ to k (step w e).out)) (sym is) (λ there.
+            subst (λ (v : Session). P v (ps ++ to k (step w ticked).out))
+            (one_some _ t _ (tick_found k w s here) there)
+            (subst (λ (hs : List Sent). P (flush (at_tick w) s).session (ps ++ hs))
+            (sym (tick_hands k w s apart here)) (flushes s (each s here)))) there
+        | inr ne ↦ elim (remains P kept k w e s ps apart ne here (each s here)) [
+          | went closed gone none ↦ absurd (some_none t _ there gone)
+          | stays v found_ p ↦ subst (λ (u : Session). P u (ps ++ to k (step w e).out))
+              (one_some v t _ found_ there) p
+        ]
+      ]
+    ] refl

@@ -1,54 +1,106 @@
--- What holds of every world of a run, so that all that is handed out can be told; and that what is due at a tick is so.
-use Rattle.std.proofs.Common.{◌≡◌, ℕ, ◌≤◌, Bool, true, false, cond, List, [], ◌∷◌, ◌++◌, map, length, refl, subst, arith}
+-- What holds of every world of a run, so that all that is handed out can be told; and that what is
+-- due at a tick is so.
+use Rattle.std.proofs.Common.{◌≡◌, ℕ, ◌≤◌, Bool, true, false, cond, List, [], ◌∷◌, ◌++◌, map}
+use Rattle.std.proofs.Common.{length, refl, subst, ap, ◌∙◌, arith}
 use Rattle.std.specs.Prelude.{Option, Some, None, is_some, if◌then◌else◌, ◌==◌}
-use Rattle.std.specs.List.{AllByRecursion}
+use Rattle.std.specs.List.{AllByRecursion, cons_option, filter_map}
 use lib.IntN.{ℤ}
 use Rattle.mc_nbt.specs.Reading.{IsBytes}
 use Rattle.mc_down.specs.declared.down.Down.{Down}
 use Rattle.mc_fields.specs.declared.position.Spot.{Spot}
 use Rattle.mc_model.specs.declared.cause.Cause.{Cause}
 use Rattle.mc_model.specs.declared.stage.Stage.{Stage}
+use Rattle.mc_model.specs.declared.stage.Stage.TheVariants as stages
 use Rattle.mc_model.specs.Notes.{Noted}
 use Rattle.mc_model.specs.Sight.{Sight}
-use Rattle.mc_model.specs.Hearing.{of_play, for_play}
+use Rattle.mc_model.specs.Packets.{of_play, for_play}
 use Rattle.mc_model.specs.Delta.{delta}
-use Rattle.mc_model.specs.World.{World, Session, AreSettings, players, found, is_play, spawn_height, project}
-use Rattle.mc_model.specs.Step.{is_new, placing, level, opening, opening_due, notes_due, last_shown, due}
+use Rattle.mc_model.specs.World.{World, Session, Player, AreSettings, players, found, is_play}
+use Rattle.mc_model.specs.World.{spot_of, spawn_height, project}
+use Rattle.mc_model.specs.Step.{is_new, placing, level, opening, opening_due, notes_due, last_shown}
+use Rattle.mc_model.specs.Step.{due}
 use Rattle.mc_model.specs.Orderly.{AreApart}
 use Rattle.mc_model.proofs.Sessions.{some_none, one_some}
-use Rattle.mc_model.proofs.Hears.{IsClear, Hears}
+use Rattle.mc_model.proofs.Decodes.{IsClear, Decodes}
 use Rattle.mc_model.proofs.FitsPlay.{join_clear, spawn_clear}
 use Rattle.mc_model.proofs.FitsList.{AreClear}
-use Rattle.mc_model.proofs.FitsSight.{all_joined, all_filtered, SightFits, SpotFits, NamedFits, project_fits}
+use Rattle.mc_model.proofs.Handing.{HasPlayer}
+use Rattle.mc_model.proofs.FitsSight.{all_joined, SightFits, SpotFits, NamedFits, project_fits}
 use Rattle.mc_model.proofs.FitsDue.{delta_clear, placing_clear, spawn_low, level_short}
 
--- what is kept of a connection can be told
+-- what is kept of a player can be told
+pub record PlayerFits (p : Player) : Type 0 where
+  pub named : NamedFits p
+  pub eid : p.eid ≤ 2147483647
+  pub spot : SpotFits p.spot
+  pub shown : SightFits (last_shown p)
+
+-- of one that is there
+abbrev pub AnyFits : Option Player → Type 0
+AnyFits None = Unit {0}
+AnyFits (Some p) = PlayerFits p
+
+-- and what is kept of a connection
 pub record SessionFits (s : Session) : Type 0 where
-  pub named : NamedFits s
-  pub eid : s.eid ≤ 2147483647
-  pub spot : SpotFits s.place
-  pub shown : SightFits (last_shown s)
+  pub plays : HasPlayer s
+  pub player : AnyFits s.player
   pub rest : IsBytes s.rest
 
--- it still can after what changes between two ticks: how far it came and what it is owed; its player's place; its bytes
-pub still_fits : (s : Session) (stage : Stage) (protocol : ℤ) (cause : Option Cause) (owed : List ℕ) → SessionFits s
-    → SessionFits (record s { stage = stage; protocol = protocol; cause = cause; owed = owed })
-still_fits s stage protocol cause owed f = record { named = f.named; eid = f.eid; spot = f.spot; shown = f.shown; rest = f.rest }
+pub player_fits : (s : Session) (p : Player) → SessionFits s → s.player ≡ Some p → PlayerFits p
+player_fits s p f there = subst AnyFits there f.player
 
--- after what changes its player's place
-pub place_fits : (s : Session) (asked : ℤ) (place : Spot) (notes : Noted) → SpotFits place → SessionFits s
-    → SessionFits (record s { asked = asked; place = place; notes = notes })
-place_fits s asked place notes at f = record { named = f.named; eid = f.eid; spot = at; shown = f.shown; rest = f.rest }
+-- it still can after what changes between two ticks: how far it came before and behind play, and
+-- what it is owed
+pub still_fits : (s : Session) (stage : Stage) (protocol : ℤ) (cause : Option Cause)
+    (owed : List ℕ) → is_play stage ≡ is_play s.stage → SessionFits s
+    → SessionFits (record s { stage = stage; protocol = protocol; cause = cause; owed = owed })
+still_fits s stage protocol cause owed same f =
+    record { plays = same ∙ f.plays; player = f.player; rest = f.rest }
+
+-- after it was closed
+pub closed_fits : (s : Session) (cause : Option Cause) (owed : List ℕ) → SessionFits s
+    → SessionFits (record s { stage = stages.Closed; player = None; cause = cause; owed = owed })
+closed_fits s cause owed f = record { plays = refl; player = tt; rest = f.rest }
+
+-- with another player in the place of one
+pub with_player : (s : Session) (p q : Player) (owed : List ℕ) → s.player ≡ Some p → PlayerFits q →
+    SessionFits s
+    → SessionFits (record s { player = Some q; owed = owed })
+with_player s p q owed there fits f =
+    record {
+      plays = f.plays ∙ ap (λ (o : Option Player). is_some o) there;
+      player = fits;
+      rest =
+          f.rest;
+    }
 
 -- after bytes that came
 pub rest_fits : (s : Session) (rest : List ℕ) (before : ℕ) → IsBytes rest → SessionFits s
     → SessionFits (record s { rest = rest; before = before })
-rest_fits s rest before bytes f = record { named = f.named; eid = f.eid; spot = f.spot; shown = f.shown; rest = bytes }
+rest_fits s rest before bytes f = record { plays = f.plays; player = f.player; rest = bytes }
 
--- and after a tick, by which it is shown something
-pub shown_fits : (s : Session) (shown : Sight) (notes : Noted) → SightFits shown → SessionFits s
-    → SessionFits (record s { shown = Some shown; notes = notes })
-shown_fits s shown notes sight f = record { named = f.named; eid = f.eid; spot = f.spot; shown = sight; rest = f.rest }
+-- a player that moved, or asked for another size of view
+pub moved_fits : (p : Player) (view : ℤ) (spot : Spot) (notes : Noted) → SpotFits spot →
+    PlayerFits p
+    → PlayerFits (record p { view_byte = view; spot = spot; notes = notes })
+moved_fits p view spot notes at f = record {
+  named = f.named;
+  eid = f.eid;
+  spot = at;
+  shown =
+      f.shown;
+}
+
+-- and one that was shown something
+pub shown_fits : (p : Player) (shown : Sight) (notes : Noted) → SightFits shown → PlayerFits p
+    → PlayerFits (record p { shown = Some shown; notes = notes })
+shown_fits p shown notes sight f = record {
+  named = f.named;
+  eid = f.eid;
+  spot = f.spot;
+  shown =
+      sight;
+}
 
 pub record Sound (w : World) : Type 0 where
   pub settings : AreSettings w.most w.cap
@@ -59,7 +111,8 @@ pub record Sound (w : World) : Type 0 where
   pub fits : AllByRecursion SessionFits w.sessions
 
 -- what holds of all holds of the one that is found
-pub all_found : (P : Session → Type 0) (k : ℕ) (ss : List Session) (s : Session) → AllByRecursion P ss → found k ss ≡ Some s → P s
+pub all_found : (P : Session → Type 0) (k : ℕ) (ss : List Session) (s : Session) →
+    AllByRecursion P ss → found k ss ≡ Some s → P s
 all_found P k [] s a e = absurd (some_none s None e refl)
 all_found P k (x ∷ xs) s a e = step (x.id == k) e (λ later. all_found P k xs s a.1 later)
   where
@@ -68,44 +121,53 @@ all_found P k (x ∷ xs) s a e = step (x.id == k) e (λ later. all_found P k xs 
     step false later rest = rest later
 
 -- in a sound world a projection fits
-pub sound_sight : (w : World) (s : Session) → Sound w → SessionFits s → SightFits (project w s)
-sound_sight w s sound f =
-    project_fits w s
-    (all_filtered NamedFits (λ (t : Session). is_play t.stage) w.sessions (kept w.sessions sound.fits))
+pub sound_sight : (w : World) (p : Player) → Sound w → PlayerFits p → SightFits (project w p)
+sound_sight w p sound f =
+    project_fits w p (kept w.sessions sound.fits)
     (omega (arith, sound.few, sound.settings.few)) sound.settings.near f.spot
   where
-    kept : (ss : List Session) → AllByRecursion SessionFits ss → AllByRecursion NamedFits ss
+    one : (o : Option Player) (others : List Player) → AnyFits o → AllByRecursion NamedFits others →
+        AllByRecursion NamedFits (cons_option o others)
+    one None others fits a = a
+    one (Some p) others fits a = (fits.named, a)
+
+    kept : (ss : List Session) → AllByRecursion SessionFits ss →
+        AllByRecursion NamedFits (filter_map (λ (s : Session). s.player) ss)
     kept [] a = tt
-    kept (t ∷ ss) a = (a.0.named, kept ss a.1)
+    kept (t ∷ ss) a = one t.player (filter_map (λ (s : Session). s.player) ss) a.0.player
+        (kept ss a.1)
 
 -- the opening is clear
-opening_clear : (w : World) (s : Session) → Sound w → SessionFits s → AreClear (opening w s)
-opening_clear w s sound f = (
-  join_clear s.eid w.most (level w.terrain) (omega (arith, f.eid)) sound.settings.few (level_short w.terrain),
+opening_clear : (w : World) (p : Player) → Sound w → PlayerFits p → AreClear (opening w p)
+opening_clear w p sound f = (
+  join_clear p.eid w.most (level w.terrain) (omega (arith, f.eid)) sound.settings.few
+      (level_short w.terrain),
   (
     spawn_clear (spawn_height w.terrain) (let low = spawn_low w.terrain in omega (arith, low)),
-    (placing_clear s.place f.spot, tt),
+    (placing_clear (spot_of w p) f.spot, tt),
   ),
 )
 
 -- what is due is clear
-pub due_clear : (w : World) (s : Session) → Sound w → SessionFits s → AreClear (due w s)
+pub due_clear : (w : World) (p : Player) → Sound w → PlayerFits p → AreClear (due w p)
 unfolding due
-due_clear w s sound f =
+due_clear w p sound f =
     let P : Down → Type 0 = λ packet. IsClear for_play (of_play packet) in
-    all_joined P (opening_due w s ++ delta (last_shown s) (project w s)) (notes_due s)
-    (all_joined P (opening_due w s) (delta (last_shown s) (project w s)) (first (is_some s.shown)) (delta_clear (last_shown s) (project w s) f.shown (sound_sight w s sound f)))
-    (noted s.notes.placing)
+    all_joined P (opening_due w p ++ delta (last_shown p) (project w p)) (notes_due w p)
+    (all_joined P (opening_due w p) (delta (last_shown p) (project w p)) (first (is_some p.shown))
+    (delta_clear (last_shown p) (project w p) f.shown (sound_sight w p sound f)))
+    (noted p.notes.placing)
   where
-    first : (t : Bool) → AreClear (if t then [] else opening w s)
+    first : (t : Bool) → AreClear (if t then [] else opening w p)
     first true = tt
-    first false = opening_clear w s sound f
+    first false = opening_clear w p sound f
 
-    noted : (t : Bool) → AreClear (if t then placing s.place ∷ [] else [])
-    noted true = (placing_clear s.place f.spot, tt)
+    noted : (t : Bool) → AreClear (if t then placing (spot_of w p) ∷ [] else [])
+    noted true = (placing_clear (spot_of w p) f.spot, tt)
     noted false = tt
 
--- packets of play that are clear are heard by who plays
-pub clear_heard : (packets : List Down) → AreClear packets → Hears for_play (map of_play packets) for_play
-clear_heard [] a = refl
-clear_heard (packet ∷ packets) a = (a.0, clear_heard packets a.1)
+-- packets of play that are clear are decoded by who plays
+pub clear_decodes : (packets : List Down) → AreClear packets →
+    Decodes for_play (map of_play packets) for_play
+clear_decodes [] a = refl
+clear_decodes (packet ∷ packets) a = (a.0, clear_decodes packets a.1)

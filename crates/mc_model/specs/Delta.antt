@@ -1,6 +1,7 @@
--- What leads a client from what it was shown to what it is to be shown: a list of packets made by comparing the two, entry by
--- entry. Which packets, and their order, are rules of this project.
-use Rattle.std.specs.Prelude.{◌≡◌, ℕ, not, Bool, true, false, List, [], ◌∷◌, map, Option, Some, None}
+-- What leads a client from what it was shown to what it is to be shown: a list of packets made by
+-- comparing the two, entry by entry. Which packets, and their order, are rules of this project.
+use Rattle.std.specs.Prelude.{◌≡◌, ℕ, not, Bool, true, false, List, [], ◌∷◌, map, Option, Some}
+use Rattle.std.specs.Prelude.{None}
 use Rattle.std.specs.List.{filter, flat_map}
 use Rattle.std.specs.Str.{bytes_eq}
 use Rattle.std.specs.Ordering.{nat_cmp}
@@ -57,18 +58,26 @@ load e = Chunk e.0.0 e.0.1 true (column_mask e.1) (column_bytes e.1)
 
 -- the columns that are seen no more, in the order of their places
 abbrev pub unloads_point : Sight → Sight → List Down
-unloads_point p q = map unload (filter (λ (place : Place). not (contains_key q.columns place)) (keys p.columns))
+unloads_point p q =
+    map unload (filter (λ (place : Place). not (contains_key q.columns place)) (keys p.columns))
 
 -- the columns that were not seen before, likewise
 abbrev pub loads_point : Sight → Sight → List Down
-loads_point p q = map load (filter (λ (e : Place × ColumnValue). not (contains_key p.columns e.0)) (entries q.columns))
+loads_point p q =
+    map load
+    (filter (λ (e : Place × ColumnValue). not (contains_key p.columns e.0)) (entries q.columns))
 
 -- ---- all of it
 
 unfoldable pub delta : Sight → Sight → List Down
-delta p q = flat_map (λ (point : List Down). point) (leavers_point p q ∷ joiners_point p q ∷ unloads_point p q ∷ loads_point p q ∷ [])
+delta p q =
+    flat_map (λ (point : List Down). point)
+    (leavers_point p q ∷ joiners_point p q ∷ unloads_point p q ∷ loads_point p q ∷ [])
 
--- What two sights that follow one another have, and what the packets rest on: no packet carries the cells of a column that stays.
+-- What two sights that follow one another have, and what the packets rest on: no packet carries the
+-- cells of a column that stays.
 pub record Follows (p q : Sight) : Type 0 where
-  pub sizes : (place : Place) (column : ColumnValue) → get q.columns place ≡ Some column → HasSizes column
-  pub stays : (place : Place) (old new : ColumnValue) → get p.columns place ≡ Some old → get q.columns place ≡ Some new → old ≡ new
+  pub sizes : (place : Place) (column : ColumnValue) → get q.columns place ≡ Some column →
+      HasSizes column
+  pub stays : (place : Place) (old new : ColumnValue) → get p.columns place ≡ Some old →
+      get q.columns place ≡ Some new → old ≡ new

@@ -7,7 +7,8 @@ pub mod Sight
 pub mod Replica
 pub mod Delta
 pub mod World
-pub mod Hearing
+pub mod Packets
+pub mod Movement
 pub mod Acts
 pub mod Talk
 pub mod Decoding

@@ -1,4 +1,5 @@
--- What is noted for a client between two ticks, and sent to it at the next beside the difference. A rule of this project.
+-- What is noted for a client between two ticks, and sent to it at the next beside the difference. A
+-- rule of this project.
 use Rattle.std.specs.Prelude.{Bool, false}
 
 pub record Noted : Type 0 where

@@ -1,6 +1,8 @@
--- A client's world, made of the packets that it was sent, one after another. What each packet does is that of the pages 'Protocol'
--- and 'SMP Map Format' of wiki.vg for protocol 47, as far as it is shown here; every other packet changes nothing.
-use Rattle.std.specs.Prelude.{◌≡◌, ℕ, ◌==◌, ◌&&◌, Bool, true, false, List, Option, Some, None, Result, Ok, Err, if◌then◌else◌}
+-- A client's world, made of the packets that it was sent, one after another. What each packet does
+-- is that of the pages 'Protocol' and 'SMP Map Format' of wiki.vg for protocol 47, as far as it is
+-- shown here; every other packet changes nothing.
+use Rattle.std.specs.Prelude.{◌≡◌, ℕ, ◌==◌, ◌&&◌, Bool, true, false, List, Option, Some, None}
+use Rattle.std.specs.Prelude.{Result, Ok, Err, if◌then◌else◌}
 use Rattle.std.specs.List.{fold}
 use Rattle.std.specs.Ordering.{nat_cmp}
 use Rattle.std.specs.FinMap.{FinMap, get, insert, remove}
@@ -32,7 +34,8 @@ with_change pairs uuid Leave = remove pairs uuid
 with_change pairs uuid other = pairs
 
 abbrev pub with_players : FinMap nat_cmp (List ℕ) → List Player → FinMap nat_cmp (List ℕ)
-with_players pairs players = fold (λ (m : FinMap nat_cmp (List ℕ)) (p : Player). with_change m p.uuid p.change) pairs players
+with_players pairs players =
+    fold (λ (m : FinMap nat_cmp (List ℕ)) (p : Player). with_change m p.uuid p.change) pairs players
 
 -- ---- columns
 
@@ -53,8 +56,8 @@ abbrev pub amended : Columns → Place → Result BodyValue FieldFault → Colum
 amended columns place (Ok body) = laid_over columns place body (get columns place)
 amended columns place (Err fault) = columns
 
--- A chunk that is all of a column and has no section takes the column away, whatever its bytes. Bytes that spell no body change
--- nothing.
+-- A chunk that is all of a column and has no section takes the column away, whatever its bytes.
+-- Bytes that spell no body change nothing.
 abbrev pub with_chunk : Bool → Columns → Place → Bool → ℕ → List ℕ → Columns
 with_chunk sky columns place ground_up mask bytes =
     if ground_up && mask == 0 then remove columns place
@@ -68,9 +71,15 @@ is_overworld (pos n) = n == 0
 is_overworld (negsuc n) = false
 
 unfoldable pub apply : Replica → Down → Replica
-apply r (JoinGame eid mode dimension hardness most level reduced) = record r { sky = is_overworld dimension }
-apply r (PlayerList action players) = record r { sight = record r.sight { pairs = with_players r.sight.pairs players } }
-apply r (Chunk cx cz ground_up mask bytes) = record r { sight = record r.sight { columns = with_chunk r.sky r.sight.columns (cx, cz) ground_up mask bytes } }
+apply r (JoinGame eid mode dimension hardness most level reduced) =
+    record r { sky = is_overworld dimension }
+apply r (PlayerList action players) =
+    record r { sight = record r.sight { pairs = with_players r.sight.pairs players } }
+apply r (Chunk cx cz ground_up mask bytes) = record r {
+  sight = record r.sight {
+    columns = with_chunk r.sky r.sight.columns (cx, cz) ground_up mask bytes;
+  };
+}
 apply r other = r
 
 abbrev pub replay : Replica → List Down → Replica

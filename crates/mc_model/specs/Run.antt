@@ -1,12 +1,14 @@
--- Runs: what a list of events makes of the world, what was handed to a connection in them, and why it was closed.
-use Rattle.std.specs.Prelude.{ℕ, ◌==◌, ◌&&◌, is_some, take, List, [], ◌∷◌, ◌++◌, Option, Some, None, if◌then◌else◌}
+-- Runs: what a list of events makes of the world, what was handed to a connection in them, and why
+-- it was closed.
+use Rattle.std.specs.Prelude.{ℕ, ◌==◌, ◌&&◌, is_some, take, List, [], ◌∷◌, ◌++◌}
+use Rattle.std.specs.Prelude.{Option, Some, None, if◌then◌else◌}
 use Rattle.std.specs.List.{flat_map, fold}
 use Rattle.std.specs.Option.{option_and_then}
 use Rattle.mc_model.specs.declared.cause.Cause.{Cause}
 use Rattle.mc_model.specs.World.{World, Session, found}
-use Rattle.mc_model.specs.Hearing.{Sent, bytes_of}
+use Rattle.mc_model.specs.Packets.{Sent, bytes_of}
 use Rattle.mc_nbt.specs.Reading.{IsBytes}
-use Rattle.mc_model.specs.Step.{Event, came, took, step}
+use Rattle.mc_model.specs.Step.{Event, came, left, took, step}
 
 -- the world after events
 abbrev pub history : World → List Event → World
@@ -21,7 +23,7 @@ abbrev pub handed : ℕ → World → List Event → List Sent
 handed k w [] = []
 handed k w (e ∷ events) = to k (step w e).out ++ handed k (step w e).world events
 
--- the same as bytes
+-- as bytes
 abbrev pub stream : ℕ → World → List Event → List ℕ
 stream k w events = bytes_of (handed k w events)
 
@@ -41,6 +43,15 @@ taken_at k w e = []
 abbrev pub taken : ℕ → World → List Event → List ℕ
 taken k w [] = []
 taken k w (e ∷ events) = taken_at k w e ++ taken k (step w e).world events
+
+-- what was lost: what it was owed when it left
+abbrev pub lost_at : ℕ → World → Event → List ℕ
+lost_at k w (left j) = if j == k then owed_in k w else []
+lost_at k w e = []
+
+abbrev pub lost : ℕ → World → List Event → List ℕ
+lost k w [] = []
+lost k w (e ∷ events) = lost_at k w e ++ lost k (step w e).world events
 
 -- the bytes that came from a connection while it was there
 abbrev pub received_at : ℕ → World → Event → List ℕ

@@ -1,5 +1,7 @@
 -- What an event makes of the world, and what it hands out to whom. Rules of this project.
-use Rattle.std.specs.Prelude.{ℕ, ◌+◌, ◌-◌, ◌==◌, ◌&&◌, ◌||◌, not, nat_lt, nat_le, Bool, true, false, List, [], ◌∷◌, ◌++◌, length, map, drop, Option, Some, None, unwrap_or, is_some, if◌then◌else◌, codes}
+use Rattle.std.specs.Prelude.{ℕ, ◌+◌, ◌-◌, ◌==◌, ◌&&◌, ◌||◌, not, nat_lt, nat_le, Bool, true, false}
+use Rattle.std.specs.Prelude.{List, [], ◌∷◌, ◌++◌, length, map, drop, codes}
+use Rattle.std.specs.Prelude.{Option, Some, None, unwrap_or, is_some, if◌then◌else◌}
 use Rattle.std.specs.List.{filter, list_any}
 use lib.IntN.{ℤ, pos, negsuc}
 use Rattle.mc_fields.specs.declared.position.Spot.{Spot}
@@ -10,6 +12,7 @@ use Rattle.mc_land.specs.declared.terrain.Terrain.{Terrain}
 use Rattle.mc_land.specs.declared.terrain.Terrain.TheVariants.{Flat}
 use Rattle.mc_down.specs.declared.down.Down.{Down}
 use Rattle.mc_down.specs.declared.down.Down.TheVariants.{JoinGame, SpawnPosition, PositionLook}
+use Rattle.mc_up.specs.declared.play_up.PlayUp.{PlayUp}
 use Rattle.mc_model.specs.declared.cause.Cause.{Cause}
 use Rattle.mc_model.specs.declared.cause.Cause.TheVariants as causes
 use Rattle.mc_model.specs.declared.cause.Refusal.{Refusal}
@@ -21,10 +24,12 @@ use Rattle.mc_model.specs.Numbers.{pattern_of, degrees_of}
 use Rattle.mc_model.specs.Cutting.{cut_of}
 use Rattle.mc_model.specs.Sight.{Sight, nothing_seen}
 use Rattle.mc_model.specs.Delta.{delta}
-use Rattle.mc_model.specs.World.{World, Session, is_play, is_closed, players, found, put, spawn_height, spawn_spot, project}
-use Rattle.mc_model.specs.Hearing.{Sent, of_status, of_play, bytes_of}
+use Rattle.mc_model.specs.World.{World, Session, Player, is_closed, players, found, put}
+use Rattle.mc_model.specs.World.{spot_of, spawn_height, spawn_spot, project}
+use Rattle.mc_model.specs.Packets.{Sent, of_status, of_play, bytes_of}
 use Rattle.mc_model.specs.Acts.{act}
-use Rattle.mc_model.specs.Talk.{Said, nothing, greets, replies, ends, enters, acts, wrong, said, farewell, refused, accepted}
+use Rattle.mc_model.specs.Talk.{ClientRequest, nothing, greets, replies, ends, enters, acts, wrong}
+use Rattle.mc_model.specs.Talk.{request_of, farewell, refused, accepted}
 
 -- ---- handing out, and closing
 
@@ -33,20 +38,21 @@ pub record Handing : Type 0 where
   pub session : Session
   pub handed : List Sent
 
--- Packets are handed out all or none: where their bytes would bring what is owed past the most that an outbox holds, the
--- connection is closed and owed nothing.
+-- a connection that is closed has no player
+abbrev pub mark_closed : Session → Cause → Session
+mark_closed s cause = record s { stage = stages.Closed; player = None; cause = Some cause }
+
+-- Packets are handed out all or none: where their bytes would bring what is owed past the most that
+-- an outbox holds, the connection is closed and owed nothing.
 unfoldable pub hand : Session → List Sent → Handing
 hand s packets =
     if nat_le (length s.owed + length (bytes_of packets)) outbox_max
     then record { session = record s { owed = s.owed ++ bytes_of packets }; handed = packets }
-    else record { session = record s { stage = stages.Closed; cause = Some causes.Backlog; owed = [] }; handed = [] }
-
-abbrev pub shut : Session → Cause → Session
-shut s cause = record s { stage = stages.Closed; cause = Some cause }
+    else record { session = record (mark_closed s causes.Backlog) { owed = [] }; handed = [] }
 
 -- closing a connection, with its last packets
-abbrev pub close : Session → Cause → List Sent → Handing
-close s cause packets = hand (shut s cause) packets
+abbrev pub disconnect : Session → Cause → List Sent → Handing
+disconnect s cause packets = hand (mark_closed s cause) packets
 
 -- what a step makes of the world, and what it hands out to one connection
 pub record Turn : Type 0 where
@@ -61,9 +67,10 @@ turn w h = record { world = put w h.session; handed = h.handed }
 
 -- one thing after another
 abbrev pub after : Turn → (World → Turn) → Turn
-after t later = record { world = (later t.world).world; handed = t.handed ++ (later t.world).handed }
+after t later =
+    record { world = (later t.world).world; handed = t.handed ++ (later t.world).handed }
 
--- the same of a connection that is there and not closed
+-- what is done where a connection is there and not closed
 abbrev pub when_open : Option Session → World → (Session → Turn) → Turn
 when_open None w f = still w
 when_open (Some s) w f = if is_closed s.stage then still w else f s
@@ -79,45 +86,65 @@ abbrev pub refusal : World → ℤ → List ℕ → Option Refusal
 refusal w protocol name =
     if not (is_47 protocol) then Some refusals.Version
     else if not (is_name name) then Some refusals.Name
-    else if list_any (λ (s : Session). s.uuid == offline_uuid name) (players w) then Some refusals.Taken
-    else if not (nat_lt (length (players w)) w.most && nat_lt w.eids 2147483647) then Some refusals.Full
+    else if list_any (λ (p : Player). p.uuid == offline_uuid name) (players w)
+    then Some refusals.Taken
+    else if not (nat_lt (length (players w)) w.most && nat_lt w.eids 2147483647)
+    then Some refusals.Full
     else None
 
--- the player enters, with the next entity number
-abbrev pub entered : World → Session → List ℕ → Session
-entered w s name = record s {
-  stage = stages.Play;
+-- a player that begins where players enter, with an entity number
+abbrev pub new_player : Terrain → ℕ → List ℕ → Player
+new_player terrain eid name = record {
   name = name;
   uuid = offline_uuid name;
-  eid = w.eids + 1;
-  asked = pos 2;
-  place = spawn_spot w.terrain;
+  eid = eid;
+  view_byte = pos 2;
+  spot = spawn_spot terrain;
   notes = no_notes;
   shown = None;
 }
 
+-- the player enters, with the next entity number
+abbrev pub entered : World → Session → List ℕ → Session
+entered w s name =
+    record s { stage = stages.Play; player = Some (new_player w.terrain (w.eids + 1) name) }
+
 abbrev pub answer_login : World → Session → List ℕ → Option Refusal → Turn
-answer_login w s name (Some why) = turn w (close s (causes.Refused why) (refused why))
-answer_login w s name None = turn (record w { eids = w.eids + 1 }) (hand (entered w s name) (accepted (offline_uuid name) name))
+answer_login w s name (Some why) = turn w (disconnect s (causes.Refused why) (refused why))
+answer_login w s name None =
+    turn (record w { eids = w.eids + 1 })
+    (hand (entered w s name) (accepted (offline_uuid name) name))
 
 -- ---- the bytes of a client
 
+-- closing a connection, with the farewell of its stage
+abbrev pub disconnect_for : World → Session → Cause → Turn
+disconnect_for w s cause = turn w (disconnect s cause (farewell s.stage cause))
+
 abbrev pub acted : World → Session → Option World → Turn
 acted w s (Some v) = still v
-acted w s None = turn w (close s causes.BadNumber (farewell s.stage causes.BadNumber))
+acted w s None = disconnect_for w s causes.BadNumber
+
+-- what the player of a connection does, if it has one
+abbrev pub act_by : World → Session → Option Player → PlayUp → Turn
+act_by w s None packet = still w
+act_by w s (Some p) packet = acted w s (act w s p packet)
 
 -- what a frame comes to, done
-abbrev pub perform : World → Session → Said → Turn
+abbrev pub perform : World → Session → ClientRequest → Turn
 perform w s nothing = still w
-perform w s (greets protocol stage) = still (put w (record s { stage = stage; protocol = protocol }))
+perform w s (greets protocol stage) =
+    still (put w (record s { stage = stage; protocol = protocol }))
 perform w s (replies packet) = turn w (hand s (of_status packet ∷ []))
-perform w s (ends packet) = turn w (close s causes.Done (of_status packet ∷ []))
+perform w s (ends packet) = turn w (disconnect s causes.Done (of_status packet ∷ []))
 perform w s (enters name) = answer_login w s name (refusal w s.protocol name)
-perform w s (acts packet) = acted w s (act w s packet)
-perform w s (wrong fault) = turn w (close s (causes.Packet fault) (farewell s.stage (causes.Packet fault)))
+perform w s (acts packet) = act_by w s s.player packet
+perform w s (wrong fault) = disconnect_for w s (causes.Packet fault)
 
 unfoldable pub on_frame : World → ℕ → List ℕ → Turn
-on_frame w k frame = when_open (found k w.sessions) w (λ s. perform w s (said s.stage w.most (length (players w)) frame))
+on_frame w k frame =
+    when_open (found k w.sessions) w
+    (λ s. perform w s (request_of s.stage w.most (length (players w)) frame))
 
 -- frames, one after another
 abbrev pub on_frames : World → ℕ → List (List ℕ) → Turn
@@ -127,17 +154,23 @@ on_frames w k (frame ∷ frames) = after (on_frame w k frame) (λ v. on_frames v
 -- a length that no frame has, behind them
 abbrev pub on_fault : World → ℕ → Option FrameFault → Turn
 on_fault w k None = still w
-on_fault w k (Some fault) = when_open (found k w.sessions) w (λ s. turn w (close s (causes.Frame fault) (farewell s.stage (causes.Frame fault))))
+on_fault w k (Some fault) =
+    when_open (found k w.sessions) w (λ s. disconnect_for w s (causes.Frame fault))
 
 -- the bytes that came, behind those that were not read, as the cut of them has it
 abbrev pub read_to : Session → Cut → ℕ → Session
-read_to s cut count = record s { rest = cut.rest; before = s.before + (count - length cut.rest) }
+read_to s cut count =
+    record s { rest = cut.rest; before = s.before + (count - length cut.rest) }
 
 abbrev pub on_cut : World → Session → ℕ → Cut → Turn
-on_cut w s count cut = after (on_frames (put w (read_to s cut count)) s.id cut.frames) (λ v. on_fault v s.id cut.fault)
+on_cut w s count cut =
+    after (on_frames (put w (read_to s cut count)) s.id cut.frames)
+    (λ v. on_fault v s.id cut.fault)
 
 unfoldable pub on_bytes : World → ℕ → List ℕ → Turn
-on_bytes w k bytes = when_open (found k w.sessions) w (λ s. on_cut w s (length (s.rest ++ bytes)) (cut_of s.before (s.rest ++ bytes)))
+on_bytes w k bytes =
+    when_open (found k w.sessions) w
+    (λ s. on_cut w s (length (s.rest ++ bytes)) (cut_of s.before (s.rest ++ bytes)))
 
 -- ---- joining and leaving
 
@@ -153,9 +186,6 @@ is_kept s = not (is_closed s.stage) || nat_lt 0 (length s.owed)
 abbrev pub is_crowded : World → Bool
 is_crowded w = nat_le (w.most + 16) (length (filter is_kept w.sessions))
 
-abbrev pub nowhere : Spot
-nowhere = record { x = pos 0; y = pos 0; z = pos 0; yaw = 0; pitch = 0 }
-
 -- a connection of which nothing came yet
 abbrev pub new_session : ℕ → Session
 new_session k = record {
@@ -164,29 +194,31 @@ new_session k = record {
   rest = [];
   before = 0;
   protocol = pos 0;
-  name = [];
-  uuid = 0;
-  eid = 0;
-  asked = pos 2;
-  place = nowhere;
-  notes = no_notes;
+  player = None;
   cause = None;
   owed = [];
-  shown = None;
 }
 
 abbrev pub joining : World → ℕ → Session
-joining w k = if is_crowded w then shut (new_session k) causes.Crowded else new_session k
+joining w k =
+    if is_crowded w then mark_closed (new_session k) causes.Crowded else new_session k
 
 abbrev pub join : World → ℕ → World
-join w k = if is_new k w.last then record w { last = Some k; sessions = w.sessions ++ joining w k ∷ [] } else w
+join w k =
+    if is_new k w.last
+    then record w { last = Some k; sessions = w.sessions ++ joining w k ∷ [] }
+    else w
 
 -- an open connection is closed; what is owed goes in any case
 abbrev pub gone : Session → Session
-gone s = if is_closed s.stage then record s { owed = [] } else record (shut s causes.Gone) { owed = [] }
+gone s =
+    if is_closed s.stage
+    then record s { owed = [] }
+    else record (mark_closed s causes.Gone) { owed = [] }
 
 abbrev pub changed : World → ℕ → (Session → Session) → World
-changed w k f = record w { sessions = map (λ (s : Session). if s.id == k then f s else s) w.sessions }
+changed w k f =
+    record w { sessions = map (λ (s : Session). if s.id == k then f s else s) w.sessions }
 
 -- ---- a tick
 
@@ -197,7 +229,9 @@ level other = codes "default"
 
 -- a player's own place and look, none of them relative
 abbrev pub placing : Spot → Down
-placing spot = PositionLook (pattern_of spot.x) (pattern_of spot.y) (pattern_of spot.z) (degrees_of spot.yaw) (degrees_of spot.pitch) (pos 0)
+placing spot =
+    PositionLook (pattern_of spot.x) (pattern_of spot.y) (pattern_of spot.z)
+    (degrees_of spot.yaw) (degrees_of spot.pitch) (pos 0)
 
 -- what a client is sent before its first difference: game mode 0, dimension 0, difficulty 1
 abbrev pub opening_of : Terrain → ℕ → ℤ → Spot → List Down
@@ -207,31 +241,36 @@ opening_of terrain most eid spot =
     ∷ placing spot
     ∷ []
 
-abbrev pub opening : World → Session → List Down
-opening w s = opening_of w.terrain w.most (pos s.eid) s.place
+abbrev pub opening : World → Player → List Down
+opening w p = opening_of w.terrain w.most (pos p.eid) (spot_of w p)
 
 -- once
-abbrev pub opening_due : World → Session → List Down
-opening_due w s = if is_some s.shown then [] else opening w s
+abbrev pub opening_due : World → Player → List Down
+opening_due w p = if is_some p.shown then [] else opening w p
 
 -- what was noted, as the world is at the tick
-abbrev pub notes_due : Session → List Down
-notes_due s = if s.notes.placing then placing s.place ∷ [] else []
+abbrev pub notes_due : World → Player → List Down
+notes_due w p = if p.notes.placing then placing (spot_of w p) ∷ [] else []
 
--- what a client was shown
-abbrev pub last_shown : Session → Sight
-last_shown s = unwrap_or s.shown nothing_seen
+-- what a player was shown
+abbrev pub last_shown : Player → Sight
+last_shown p = unwrap_or p.shown nothing_seen
 
--- what a client is sent at a tick: the opening once, the difference, and the notes
-unfoldable pub due : World → Session → List Down
-due w s = opening_due w s ++ delta (last_shown s) (project w s) ++ notes_due s
+-- what a player is sent at a tick: the opening once, the difference, and the notes
+unfoldable pub due : World → Player → List Down
+due w p = opening_due w p ++ delta (last_shown p) (project w p) ++ notes_due w p
 
--- the client of a connection is shown the world
-abbrev pub showing : World → Session → Session
-showing w s = record s { shown = Some (project w s); notes = no_notes }
+-- a player is shown the world
+abbrev pub showing : World → Player → Player
+showing w p = record p { shown = Some (project w p); notes = no_notes }
+
+-- a connection's player is, if it has one
+abbrev pub flush_to : World → Session → Option Player → Handing
+flush_to w s None = record { session = s; handed = [] }
+flush_to w s (Some p) = hand (record s { player = Some (showing w p) }) (map of_play (due w p))
 
 abbrev pub flush : World → Session → Handing
-flush w s = if is_play s.stage then hand (showing w s) (map of_play (due w s)) else record { session = s; handed = [] }
+flush w s = flush_to w s s.player
 
 -- the world of a tick, as all clients are shown it
 abbrev pub at_tick : World → World
@@ -264,7 +303,9 @@ alone k t = record { world = t.world; out = (k, t.handed) ∷ [] }
 -- every client in play is shown the same world
 abbrev pub tick : World → Outcome
 tick w = record {
-  world = record (at_tick w) { sessions = map (λ (s : Session). (flush (at_tick w) s).session) w.sessions };
+  world = record (at_tick w) {
+    sessions = map (λ (s : Session). (flush (at_tick w) s).session) w.sessions;
+  };
   out = map (λ (s : Session). (s.id, (flush (at_tick w) s).handed)) w.sessions;
 }
 
@@ -277,4 +318,6 @@ step w (came k bytes) = alone k (on_bytes w k bytes)
 step w (left k) = silent (changed w k gone)
 step w ticked = tick w
 step w (took k n) = silent (changed w k (λ (s : Session). record s { owed = drop n s.owed }))
-step w (forgot k) = silent (record w { sessions = filter (λ (s : Session). not (s.id == k && is_done s)) w.sessions })
+step w (forgot k) = silent (record w {
+  sessions = filter (λ (s : Session). not (s.id == k && is_done s)) w.sessions;
+})

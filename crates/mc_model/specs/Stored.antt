@@ -1,5 +1,5 @@
--- How values of the world are stored where a model has them in a field: a code of columns, of sights
--- and of edits.
+-- How values of the world are stored where a model has them in a field: a code of columns, of
+-- sights and of edits.
 use Rattle.std.specs.Prelude.{ℕ, List, refl}
 use Rattle.std.specs.Ordering.{nat_cmp}
 use Rattle.std.specs.Coded.{Coded, code_by, coded×, coded_ℕ, coded_ℤ, coded_list}

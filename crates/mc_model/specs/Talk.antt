@@ -1,9 +1,10 @@
--- What a frame of a client comes to, by the stage of its connection alone: of the pages 'Protocol' and 'Server List Ping' of wiki.vg
--- for protocol 47.
-use Rattle.std.specs.Prelude.{ℕ, ◌==◌, List, [], ◌∷◌, Option, Some, None, Result, Ok, Err, if◌then◌else◌}
+-- What a frame of a client comes to, by the stage of its connection alone: of the pages 'Protocol'
+-- and 'Server List Ping' of wiki.vg for protocol 47.
+use Rattle.std.specs.Prelude.{ℕ, ◌==◌, List, [], ◌∷◌, Option, Some, None, Result, Ok, Err}
+use Rattle.std.specs.Prelude.{if◌then◌else◌}
 use lib.IntN.{ℤ, pos, negsuc}
 use Rattle.mc_fields.specs.declared.packet.PacketFault.{PacketFault}
-use Rattle.mc_fields.specs.Row.{frame_read, packet_of}
+use Rattle.mc_fields.specs.Row.{packet_read, packet_of}
 use Rattle.mc_up.specs.declared.handshake.Hand.{Hand}
 use Rattle.mc_up.specs.declared.handshake.Hand.TheVariants.{Handshake}
 use Rattle.mc_up.specs.declared.status_up.StatusUp.{StatusUp}
@@ -25,68 +26,72 @@ use Rattle.mc_model.specs.declared.stage.Stage.{Stage}
 use Rattle.mc_model.specs.declared.stage.Stage.TheVariants as stages
 use Rattle.mc_model.specs.Names.{uuid_text}
 use Rattle.mc_model.specs.Texts.{chat_json, status_json, refusal_text, farewell_text}
-use Rattle.mc_model.specs.Hearing.{Sent, of_login, of_play}
+use Rattle.mc_model.specs.Packets.{Sent, of_login, of_play}
 
 -- ---- what a frame comes to
 
-pub data Said : Type 0 where
+pub data ClientRequest : Type 0 where
   -- it is ignored
-  nothing : Said
+  nothing : ClientRequest
   -- the protocol that the client speaks, and the stage that it wants
-  greets : ℤ → Stage → Said
+  greets : ℤ → Stage → ClientRequest
   -- it is answered
-  replies : StatusDown → Said
+  replies : StatusDown → ClientRequest
   -- it is answered, and the connection is done
-  ends : StatusDown → Said
+  ends : StatusDown → ClientRequest
   -- the client wants to play under this name
-  enters : List ℕ → Said
+  enters : List ℕ → ClientRequest
   -- its player does something
-  acts : PlayUp → Said
+  acts : PlayUp → ClientRequest
   -- it is no packet
-  wrong : PacketFault → Said
+  wrong : PacketFault → ClientRequest
 
 -- 1 is the status, and there is but one other
 abbrev pub wanted : ℤ → Stage
 wanted (pos n) = if n == 1 then stages.Status else stages.Login
 wanted (negsuc n) = stages.Login
 
-abbrev pub in_hand : Result Hand PacketFault → Said
+abbrev pub in_hand : Result Hand PacketFault → ClientRequest
 in_hand (Ok (Handshake protocol address port next)) = greets protocol (wanted next)
 in_hand (Err fault) = wrong fault
 
-abbrev pub in_status : ℕ → ℕ → Result StatusUp PacketFault → Said
+abbrev pub in_status : ℕ → ℕ → Result StatusUp PacketFault → ClientRequest
 in_status most online (Ok Request) = replies (Response (status_json most online))
 in_status most online (Ok (Ping number)) = ends (Pong number)
 in_status most online (Err fault) = wrong fault
 
-abbrev pub in_login : Result LoginUp PacketFault → Said
+abbrev pub in_login : Result LoginUp PacketFault → ClientRequest
 in_login (Ok (Start name)) = enters name
 in_login (Err fault) = wrong fault
 
-abbrev pub in_play : Result PlayUp PacketFault → Said
+abbrev pub in_play : Result PlayUp PacketFault → ClientRequest
 in_play (Ok packet) = acts packet
 in_play (Err fault) = wrong fault
 
 -- with so many players at most and so many in play
-unfoldable pub said : Stage → ℕ → ℕ → List ℕ → Said
-said stages.Hand most online frame = in_hand (packet_of frame (frame_read hand.rows frame))
-said stages.Status most online frame = in_status most online (packet_of frame (frame_read status.rows frame))
-said stages.Login most online frame = in_login (packet_of frame (frame_read login.rows frame))
-said stages.Asked most online frame = nothing
-said stages.Play most online frame = in_play (packet_of frame (frame_read play.rows frame))
-said stages.Closed most online frame = nothing
+unfoldable pub request_of : Stage → ℕ → ℕ → List ℕ → ClientRequest
+request_of stages.Hand most online frame = in_hand (packet_of frame (packet_read hand.rows frame))
+request_of stages.Status most online frame =
+    in_status most online (packet_of frame (packet_read status.rows frame))
+request_of stages.Login most online frame =
+    in_login (packet_of frame (packet_read login.rows frame))
+request_of stages.Asked most online frame = nothing
+request_of stages.Play most online frame = in_play (packet_of frame (packet_read play.rows frame))
+request_of stages.Closed most online frame = nothing
 
 -- ---- the last packet of a connection
 
-abbrev pub told : (List ℕ → Sent) → Option (List ℕ) → List Sent
-told as_packet None = []
-told as_packet (Some text) = as_packet (chat_json text) ∷ []
+abbrev pub as_chat : (List ℕ → Sent) → Option (List ℕ) → List Sent
+as_chat as_packet None = []
+as_chat as_packet (Some text) = as_packet (chat_json text) ∷ []
 
 -- what a client is told whose connection is closed for a cause, by the stage that it had come to
 unfoldable pub farewell : Stage → Cause → List Sent
-farewell stages.Login cause = told (λ json. of_login (login_down.Disconnect json)) (farewell_text cause)
-farewell stages.Asked cause = told (λ json. of_login (login_down.Disconnect json)) (farewell_text cause)
-farewell stages.Play cause = told (λ json. of_play (down.Disconnect json)) (farewell_text cause)
+farewell stages.Login cause =
+    as_chat (λ json. of_login (login_down.Disconnect json)) (farewell_text cause)
+farewell stages.Asked cause =
+    as_chat (λ json. of_login (login_down.Disconnect json)) (farewell_text cause)
+farewell stages.Play cause = as_chat (λ json. of_play (down.Disconnect json)) (farewell_text cause)
 farewell other cause = []
 
 -- a client that may not play is told why

@@ -1,5 +1,6 @@
--- The texts that a server sends, as JSON with no space in it. The form of the status is that of the page 'Server List Ping' of
--- wiki.vg, that of a text is the page 'Chat'; the words are rules of this project.
+-- The texts that a server sends, as JSON with no space in it. The form of the status is that of the
+-- page 'Server List Ping' of wiki.vg, that of a text is the page 'Chat'; the words are rules of
+-- this project.
 use Rattle.std.specs.Prelude.{ℕ, List, Option, Some, None, codes}
 use Rattle.serde_json.specs.Data.{Data, string, number, unsigned, object, member, no_members}
 use Rattle.serde_json.specs.Written.{compact_text}
@@ -17,10 +18,16 @@ chat_json text = compact_text (chat_data text)
 
 -- how many players may be in play, and how many are
 abbrev pub players_data : ℕ → ℕ → Data
-players_data most online = object (member (codes "max") (number (unsigned most)) (member (codes "online") (number (unsigned online)) no_members))
+players_data most online =
+    object (member (codes "max") (number (unsigned most))
+    (member (codes "online") (number (unsigned online))
+    no_members))
 
 abbrev pub version_data : Data
-version_data = object (member (codes "name") (string (codes "1.8")) (member (codes "protocol") (number (unsigned 47)) no_members))
+version_data =
+    object (member (codes "name") (string (codes "1.8"))
+    (member (codes "protocol") (number (unsigned 47))
+    no_members))
 
 abbrev pub status_data : ℕ → ℕ → Data
 status_data most online =

@@ -1,7 +1,8 @@
--- The world: what every client is shown a part of, and how far each connection has come. Plain lists and finite maps; no buffer, no
--- mark and no queue is in it. Rules of this project.
-use Rattle.std.specs.Prelude.{ℕ, ◌+◌, ◌*◌, ◌==◌, ◌≤◌, Bool, true, false, List, [], ◌∷◌, map, Option, Some, None, if◌then◌else◌}
-use Rattle.std.specs.List.{filter}
+-- The world: what every client is shown a part of, and how far each connection has come. Plain
+-- lists and finite maps; no buffer, no mark and no queue is in it. Rules of this project.
+use Rattle.std.specs.Prelude.{ℕ, ◌+◌, ◌*◌, ◌==◌, ◌≤◌, Bool, true, false, List, [], ◌∷◌, map}
+use Rattle.std.specs.Prelude.{Option, Some, None, if◌then◌else◌}
+use Rattle.std.specs.List.{filter_map}
 use Rattle.std.specs.FinMap.{FinMap, empty, from_entries}
 use lib.IntN.{ℤ, pos}
 use Rattle.mc_column.specs.Cells.{ColumnValue}
@@ -18,29 +19,37 @@ use Rattle.mc_model.specs.Notes.{Noted}
 use Rattle.mc_model.specs.Sight.{Sight}
 use Rattle.mc_view.specs.Views.{view_of, column_of_spot, view_size}
 
+-- one player, in play
+pub record Player : Type 0 where
+  pub name : List ℕ
+  pub uuid : ℕ
+  -- its entity number
+  pub eid : ℕ
+  -- the size of view that it asked for, as its packet has it
+  pub view_byte : ℤ
+  -- where it is, and how it looks
+  pub spot : Spot
+  pub notes : Noted
+  -- what it was shown at the last tick, none before its first
+  pub shown : Option Sight
+
 -- one connection
 pub record Session : Type 0 where
   -- the number that it joined under
   pub id : ℕ
   pub stage : Stage
-  -- the bytes that came and were not read, since they are no whole frame yet, and how many came before them
+  -- the bytes that came and were not read, since they are no whole frame yet, and how many came
+  -- before them
   pub rest : List ℕ
   pub before : ℕ
   -- the protocol that its handshake named
   pub protocol : ℤ
-  -- its player, in play: name, identifier, entity number, the size of view that it asked for, place and look
-  pub name : List ℕ
-  pub uuid : ℕ
-  pub eid : ℕ
-  pub asked : ℤ
-  pub place : Spot
-  pub notes : Noted
+  -- its player, exactly while it is in play
+  pub player : Option Player
   -- why it was closed
   pub cause : Option Cause
   -- the bytes that were handed out to it and that it has not taken
   pub owed : List ℕ
-  -- what it was shown at the last tick, none before its first
-  pub shown : Option Sight
 
 pub record World : Type 0 where
   -- the ticks that came
@@ -66,7 +75,16 @@ pub record AreSettings (most cap : ℕ) : Type 0 where
   pub near : cap ≤ 8
 
 abbrev pub new_world : ℕ → ℕ → Terrain → World
-new_world most cap terrain = record { age = 0; terrain = terrain; edits = empty; most = most; cap = cap; eids = 0; last = None; sessions = [] }
+new_world most cap terrain = record {
+  age = 0;
+  terrain = terrain;
+  edits = empty;
+  most = most;
+  cap = cap;
+  eids = 0;
+  last = None;
+  sessions = [];
+}
 
 -- ---- sessions
 
@@ -79,8 +97,8 @@ is_closed stages.Closed = true
 is_closed other = false
 
 -- those in play
-abbrev pub players : World → List Session
-players w = filter (λ (s : Session). is_play s.stage) w.sessions
+abbrev pub players : World → List Player
+players w = filter_map (λ (s : Session). s.player) w.sessions
 
 abbrev pub found : ℕ → List Session → Option Session
 found k [] = None
@@ -90,7 +108,11 @@ found k (s ∷ sessions) = if s.id == k then Some s else found k sessions
 abbrev pub put : World → Session → World
 put w s = record w { sessions = map (λ (t : Session). if t.id == s.id then s else t) w.sessions }
 
--- ---- places
+-- ---- spots
+
+-- where a player is, and how it looks: all that asks for it asks here
+abbrev pub spot_of : World → Player → Spot
+spot_of w p = p.spot
 
 -- how high the ground of a world is where players enter
 abbrev pub spawn_height : Terrain → ℕ
@@ -100,20 +122,29 @@ spawn_height Isle = 64
 
 -- where players enter: the middle of the column (0, 0)
 abbrev pub spawn_spot : Terrain → Spot
-spawn_spot terrain = record { x = pos 272; y = pos (32 * spawn_height terrain); z = pos 272; yaw = 0; pitch = 0 }
+spawn_spot terrain = record {
+  x = pos 272;
+  y = pos (32 * spawn_height terrain);
+  z = pos 272;
+  yaw = 0;
+  pitch = 0;
+}
 
--- ---- what a client is to be shown
+-- ---- what a player is to be shown
 
 abbrev pub column_in : World → Place → ColumnValue
-column_in w place = record { states = states_of w.terrain w.edits place; biomes = biomes_of w.terrain place }
+column_in w place = record {
+  states = states_of w.terrain w.edits place;
+  biomes = biomes_of w.terrain place;
+}
 
 -- the columns of its view
-abbrev pub view_in : World → Session → List Place
-view_in w s = view_of (column_of_spot s.place) (view_size w.cap s.asked)
+abbrev pub view_in : World → Player → List Place
+view_in w p = view_of (column_of_spot (spot_of w p)) (view_size w.cap p.view_byte)
 
 -- the players in play, and the columns of its view as they are
-unfoldable pub project : World → Session → Sight
-project w s = record {
-  pairs = from_entries (map (λ (t : Session). (t.uuid, t.name)) (players w));
-  columns = from_entries (map (λ place. (place, column_in w place)) (view_in w s));
+unfoldable pub project : World → Player → Sight
+project w p = record {
+  pairs = from_entries (map (λ (other : Player). (other.uuid, other.name)) (players w));
+  columns = from_entries (map (λ place. (place, column_in w place)) (view_in w p));
 }

@@ -1,9 +1,9 @@
-//! The definitions of the whole: the world, what each client is shown of it, and what every event makes of
-//! both.
+//! The definitions of the whole: the world, what each client is shown of it, and what every event
+//! makes of both.
 //!
-//! Stands on the packets, frames, columns and the land, whose definitions its own are made of. Its one
-//! contract: the laws of those definitions. For every list of events, what a client in play was handed
-//! decodes to packets whose fold shows it the world in its view after each tick.
+//! Stands on the packets, frames, columns and the land, whose definitions its own are made of. Its
+//! one contract: the laws of those definitions. For every list of events, what a client in play was
+//! handed decodes to packets whose fold shows it the world in its view after each tick.
 #![tactic(auto)]
 
 mod cause;

@@ -7,7 +7,8 @@ pub enum Stage {
     Status,
     /// It logs in.
     Login,
-    /// It asked to play, and the answer is not settled. No connection is in this stage between two events.
+    /// It asked to play, and the answer is not settled. No connection is in this stage between two
+    /// events.
     Asked,
     /// Its player is in play.
     Play,

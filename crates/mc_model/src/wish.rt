@@ -2,7 +2,7 @@ ghost use Rattle.std.specs.Prelude.{◌≡◌, true};
 ghost use lib.IntN.{pos, negsuc};
 ghost use lib.Signed.{◌≤ℤ◌};
 ghost use Rattle.mc_model.specs.Numbers.{fixed_of, turn_of};
-ghost use Rattle.mc_model.specs.Acts.{moved, turned, is_within, is_in_range};
+ghost use Rattle.mc_model.specs.Movement.{moved, turned, is_within, is_in_range};
 
 use mc_fields::{Spot, angle, fixed};
 use std::marker::Model;

@@ -1,8 +1,8 @@
 //! What one connection is answered, by its stage alone.
 //!
-//! Stands on the packets of `mc_up` and the definitions of `mc_model`. Its one contract: a `Session`
-//! answers every frame as the definition `said` has it, and what it hands out is exactly the frames of
-//! the packets that `refused`, `accepted` and `farewell` name.
+//! Stands on the packets of `mc_up` and the definitions of `mc_model`. Its one contract: a
+//! `Session` answers every frame as what it comes to by the definition `request_of`, and what it
+//! hands out is exactly the frames of the packets that `refused`, `accepted` and `farewell` name.
 #![tactic(auto)]
 
 mod identity;

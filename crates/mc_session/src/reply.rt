@@ -8,8 +8,8 @@ ghost use Rattle.mc_up.specs.declared.login_down.LoginDown.TheVariants as login_
 ghost use Rattle.mc_down.specs.declared.down.Down.TheVariants as down;
 ghost use Rattle.mc_model.specs.Names.{offline_uuid};
 ghost use Rattle.mc_model.specs.Texts.{status_json, farewell_text};
-ghost use Rattle.mc_model.specs.Hearing.{frame_of, of_status, of_login, of_play, bytes_of};
-ghost use Rattle.mc_model.specs.Talk.{accepted, refused, told, farewell};
+ghost use Rattle.mc_model.specs.Packets.{frame_of, of_status, of_login, of_play, bytes_of};
+ghost use Rattle.mc_model.specs.Talk.{accepted, refused, as_chat, farewell};
 
 use crate::identity::{offline_uuid, uuid_text};
 use crate::words::{chat_json, farewell_text, refusal_text, status_json};
@@ -31,7 +31,7 @@ fn framed(alloc: Global, payload: &[u8]) -> Result<Octets, NoMemory>
 }
 
 /// The frame of a packet to a client that asks for the status.
-#[tactic(auto, unfolding(mc_model::specs::Hearing::frame_of))]
+#[tactic(auto, unfolding(mc_model::specs::Packets::frame_of))]
 fn status_frame(alloc: Global, packet: &StatusDown) -> Result<Octets, NoMemory>
     requires fits { status.FitsStatusDown packet.now }
     requires framed { IsPayload (status.spelling_of packet.now) }
@@ -43,7 +43,7 @@ fn status_frame(alloc: Global, packet: &StatusDown) -> Result<Octets, NoMemory>
 }
 
 /// The frame of a packet to a client that logs in.
-#[tactic(auto, unfolding(mc_model::specs::Hearing::frame_of))]
+#[tactic(auto, unfolding(mc_model::specs::Packets::frame_of))]
 fn login_frame(alloc: Global, packet: &LoginDown) -> Result<Octets, NoMemory>
     requires fits { login.FitsLoginDown packet.now }
     requires framed { IsPayload (login.spelling_of packet.now) }
@@ -55,7 +55,7 @@ fn login_frame(alloc: Global, packet: &LoginDown) -> Result<Octets, NoMemory>
 }
 
 /// The frame of a packet to a client in play.
-#[tactic(auto, unfolding(mc_model::specs::Hearing::frame_of))]
+#[tactic(auto, unfolding(mc_model::specs::Packets::frame_of))]
 fn play_frame(alloc: Global, packet: &Down) -> Result<Octets, NoMemory>
     requires fits { play.FitsDown packet.now }
     requires framed { IsPayload (play.spelling_of packet.now) }
@@ -68,7 +68,8 @@ fn play_frame(alloc: Global, packet: &Down) -> Result<Octets, NoMemory>
 
 /// The frame of the status.
 pub fn response(alloc: Global, max: u32, online: u32) -> Result<Octets, NoMemory>
-    ensures { IfOk result (λ frame. frame ≡ frame_of (of_status (Response (status_json max online)))) }
+    ensures { IfOk result (λ frame. frame ≡ frame_of
+        (of_status (Response (status_json max online)))) }
 {
     let packet = StatusDown::Response(status_json(alloc, max, online)?);
     status_frame(alloc, &packet)
@@ -100,7 +101,8 @@ pub fn refusal(alloc: Global, why: Refusal) -> Result<Octets, NoMemory>
 
 /// What a client that logs in is told whose connection is closed for this cause.
 fn login_farewell(alloc: Global, cause: &Cause) -> Result<Octets, NoMemory>
-    ensures { IfOk result (λ bytes. bytes ≡ bytes_of (told (λ json. of_login (login_down.Disconnect json)) (farewell_text cause.now))) }
+    ensures { IfOk result (λ bytes. bytes ≡ bytes_of
+        (as_chat (λ json. of_login (login_down.Disconnect json)) (farewell_text cause.now))) }
 {
     let Some(words) = farewell_text(cause) else {
         return Ok(Octets::new(alloc));
@@ -111,7 +113,8 @@ fn login_farewell(alloc: Global, cause: &Cause) -> Result<Octets, NoMemory>
 
 /// What a client in play is told whose connection is closed for this cause.
 fn play_farewell(alloc: Global, cause: &Cause) -> Result<Octets, NoMemory>
-    ensures { IfOk result (λ bytes. bytes ≡ bytes_of (told (λ json. of_play (down.Disconnect json)) (farewell_text cause.now))) }
+    ensures { IfOk result (λ bytes. bytes ≡ bytes_of
+        (as_chat (λ json. of_play (down.Disconnect json)) (farewell_text cause.now))) }
 {
     let Some(words) = farewell_text(cause) else {
         return Ok(Octets::new(alloc));

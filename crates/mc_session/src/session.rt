@@ -1,12 +1,13 @@
 ghost use Rattle.std.specs.Prelude.{◌≡◌, ◌≢◌, IfOk, OnOk, OnErr, Result};
-ghost use Rattle.mc_fields.specs.Row.{frame_read, packet_of};
+ghost use Rattle.mc_fields.specs.Row.{packet_read, packet_of};
 ghost use Rattle.mc_up.specs.Hand as hand;
 ghost use Rattle.mc_up.specs.StatusUp as status;
 ghost use Rattle.mc_up.specs.LoginUp as login;
 ghost use Rattle.mc_up.specs.PlayUp as play;
 ghost use Rattle.mc_model.specs.Names.{offline_uuid};
-ghost use Rattle.mc_model.specs.Hearing.{bytes_of};
-ghost use Rattle.mc_model.specs.Talk.{wanted, in_hand, in_status, in_login, in_play, said, accepted, refused, farewell};
+ghost use Rattle.mc_model.specs.Packets.{bytes_of};
+ghost use Rattle.mc_model.specs.Talk.{wanted, in_hand, in_status, in_login, in_play, request_of};
+ghost use Rattle.mc_model.specs.Talk.{accepted, refused, farewell};
 ghost use Rattle.mc_session.specs.State.{new_state};
 ghost use Rattle.mc_session.specs.Answers.{step_of, next_of};
 
@@ -70,9 +71,9 @@ impl Session {
         self.protocol
     }
 
-    /// Answers a frame, with `max` players at most and `online` in play. Without memory the session is
-    /// as before.
-    #[tactic(auto, unfolding(mc_model::specs::Talk::said))]
+    /// Answers a frame, with `max` players at most and `online` in play. Without memory the session
+    /// is as before.
+    #[tactic(auto, unfolding(mc_model::specs::Talk::request_of))]
     pub fn on_frame(
         &mut self,
         alloc: Global,
@@ -80,10 +81,12 @@ impl Session {
         max: u32,
         online: u32,
     ) -> Result<Step, NoMemory>
-        // A client that asked to play is answered before it is heard again.
+        // A client that asked to play is answered before its next frame.
         requires { self.old.stage ≢ Stage.Asked }
-        ensures step { IfOk result (λ step. step ≡ step_of self.old (said self.old.stage max online frame.now)) }
-        ensures next { OnOk result (self.new ≡ next_of self.old (said self.old.stage max online frame.now)) }
+        ensures step { IfOk result (λ step. step ≡ step_of self.old
+            (request_of self.old.stage max online frame.now)) }
+        ensures next { OnOk result (self.new ≡ next_of self.old
+            (request_of self.old.stage max online frame.now)) }
         ensures err { OnErr result (self.new ≡ self.old) }
     {
         match self.stage {
@@ -97,8 +100,10 @@ impl Session {
 
     /// Answers a first frame.
     fn greet(&mut self, alloc: Global, frame: &[u8]) -> Result<Step, NoMemory>
-        ensures step { IfOk result (λ step. step ≡ step_of self.old (in_hand (packet_of frame.now (frame_read hand.rows frame.now)))) }
-        ensures next { OnOk result (self.new ≡ next_of self.old (in_hand (packet_of frame.now (frame_read hand.rows frame.now)))) }
+        ensures step { IfOk result (λ step. step ≡ step_of self.old
+            (in_hand (packet_of frame.now (packet_read hand.rows frame.now)))) }
+        ensures next { OnOk result (self.new ≡ next_of self.old
+            (in_hand (packet_of frame.now (packet_read hand.rows frame.now)))) }
         ensures err { OnErr result (self.new ≡ self.old) }
     {
         match read_hand(alloc, frame) {
@@ -114,8 +119,10 @@ impl Session {
 
     /// Answers a client that asks for the status.
     fn ask(&mut self, alloc: Global, frame: &[u8], max: u32, online: u32) -> Result<Step, NoMemory>
-        ensures step { IfOk result (λ step. step ≡ step_of self.old (in_status max online (packet_of frame.now (frame_read status.rows frame.now)))) }
-        ensures next { OnOk result (self.new ≡ next_of self.old (in_status max online (packet_of frame.now (frame_read status.rows frame.now)))) }
+        ensures step { IfOk result (λ step. step ≡ step_of self.old
+            (in_status max online (packet_of frame.now (packet_read status.rows frame.now)))) }
+        ensures next { OnOk result (self.new ≡ next_of self.old
+            (in_status max online (packet_of frame.now (packet_read status.rows frame.now)))) }
         ensures err { OnErr result (self.new ≡ self.old) }
     {
         match read_status_up(frame) {
@@ -132,8 +139,10 @@ impl Session {
 
     /// Answers a client that logs in.
     fn log_in(&mut self, alloc: Global, frame: &[u8]) -> Result<Step, NoMemory>
-        ensures step { IfOk result (λ step. step ≡ step_of self.old (in_login (packet_of frame.now (frame_read login.rows frame.now)))) }
-        ensures next { OnOk result (self.new ≡ next_of self.old (in_login (packet_of frame.now (frame_read login.rows frame.now)))) }
+        ensures step { IfOk result (λ step. step ≡ step_of self.old
+            (in_login (packet_of frame.now (packet_read login.rows frame.now)))) }
+        ensures next { OnOk result (self.new ≡ next_of self.old
+            (in_login (packet_of frame.now (packet_read login.rows frame.now)))) }
         ensures err { OnErr result (self.new ≡ self.old) }
     {
         match read_login_up(alloc, frame) {
@@ -149,7 +158,8 @@ impl Session {
 
     /// Answers a client in play.
     fn act(&self, alloc: Global, frame: &[u8]) -> Result<Step, NoMemory>
-        ensures { IfOk result (λ step. step ≡ step_of self.now (in_play (packet_of frame.now (frame_read play.rows frame.now)))) }
+        ensures { IfOk result (λ step. step ≡ step_of self.now
+            (in_play (packet_of frame.now (packet_read play.rows frame.now)))) }
     {
         match read_play_up(alloc, frame) {
             Ok(packet) => Ok(Step::Act(packet)),
@@ -162,7 +172,8 @@ impl Session {
     /// before.
     pub fn accept(&mut self, alloc: Global, name: &Name) -> Result<Octets, NoMemory>
         requires { self.old.stage ≡ Stage.Asked }
-        ensures bytes { IfOk result (λ bytes. bytes ≡ bytes_of (accepted (offline_uuid name.now) name.now)) }
+        ensures bytes { IfOk result (λ bytes. bytes ≡ bytes_of
+            (accepted (offline_uuid name.now) name.now)) }
         ensures next { OnOk result (self.new ≡ record self.old { stage = Stage.Play }) }
         ensures err { OnErr result (self.new ≡ self.old) }
     {
@@ -186,7 +197,8 @@ impl Session {
     /// Closes the connection for this cause: the bytes to be sent. Without memory the session is as
     /// before.
     pub fn fail(&mut self, alloc: Global, cause: &Cause) -> Result<Octets, NoMemory>
-        ensures bytes { IfOk result (λ bytes. bytes ≡ bytes_of (farewell self.old.stage cause.now)) }
+        ensures bytes { IfOk result (λ bytes. bytes ≡ bytes_of
+            (farewell self.old.stage cause.now)) }
         ensures next { OnOk result (self.new ≡ record self.old { stage = Stage.Closed }) }
         ensures err { OnErr result (self.new ≡ self.old) }
     {

@@ -1,6 +1,7 @@
 ghost use Rattle.std.specs.Prelude.{◌≡◌, IfOk, option_map};
 ghost use Rattle.serde_json.specs.View.{view};
-ghost use Rattle.mc_model.specs.Texts.{chat_data, chat_json, status_data, status_json, refusal_text, farewell_text};
+ghost use Rattle.mc_model.specs.Texts.{chat_data, chat_json, status_data, status_json};
+ghost use Rattle.mc_model.specs.Texts.{refusal_text, farewell_text};
 
 use mc_model::{Cause, Refusal};
 use mc_nbt::{NoMemory, Text};
@@ -16,7 +17,7 @@ pub fn chat_json(alloc: Global, text: &str) -> Result<Text, NoMemory>
     Ok(Text::from_string(value.to_string(alloc)?))
 }
 
-/// The same, as a value.
+/// A text to be shown, as a JSON value.
 fn chat_value(alloc: Global, text: &str) -> Result<Value, AllocError>
     ensures { IfOk result (λ value. view value ≡ chat_data text.now) }
 {
@@ -32,7 +33,7 @@ pub fn status_json(alloc: Global, max: u32, online: u32) -> Result<Text, NoMemor
     Ok(Text::from_string(value.to_string(alloc)?))
 }
 
-/// The same, as a value.
+/// The status, as a JSON value.
 fn status_value(alloc: Global, max: u32, online: u32) -> Result<Value, AllocError>
     ensures { IfOk result (λ value. view value ≡ status_data max online) }
 {

@@ -1,4 +1,4 @@
-use Rattle.mc_model.proofs.HeardEvents.{stream_decoded, one_decoded}
+use Rattle.mc_model.proofs.EventDecoding.{stream_decoded, one_decoded}
 use Rattle.mc_model.proofs.laws.bytes_are_decoded.Goals as goal
 
 pub returns-clause-decoded : goal.returns-clause-decoded

@@ -8,5 +8,6 @@ pub returns : goal.returns
 unfolding uuid_text
 returns c =
     IfOk-weaker c.from_str.result _ _
-    (λ text is. is ∙ (c.encode_lower-text.ensures.text ∙ ap (hyphenated_text lower) (c.hyphenated-hyphenated.ensures ∙ c.from_u128.ensures)))
+    (λ text is. is ∙ (c.encode_lower-text.ensures.text
+    ∙ ap (hyphenated_text lower) (c.hyphenated-hyphenated.ensures ∙ c.from_u128.ensures)))
     c.from_str.ensures

@@ -7,4 +7,5 @@ use Rattle.mc_session.proofs.reply.pong.Goals as goal
 
 pub status_frame-requires-clause-framed : goal.status_frame-requires-clause-framed
 status_frame-requires-clause-framed c =
-    (pong_clear (to_z w64 (of_z w64 c.args.number)) (subst (SFits w64) (sym (to_z-of_z c.ranges.number)) c.ranges.number)).1
+    (pong_clear (to_z w64 (of_z w64 c.args.number))
+    (subst (SFits w64) (sym (to_z-of_z c.ranges.number)) c.ranges.number)).1

@@ -1,9 +1,10 @@
--- What is handed out to a client: packets of the status, of the login or of play, each as a frame. What a client makes of the
--- bytes that it hears.
-use Rattle.std.specs.Prelude.{◌≡◌, ℕ, List, [], ◌∷◌, Option, Some, None, Result, Ok, Err, option_map}
+-- What is handed out to a client: packets of the status, of the login or of play, each as a frame.
+-- What a client makes of their bytes.
+use Rattle.std.specs.Prelude.{◌≡◌, ℕ, List, [], ◌∷◌, Option, Some, None, Result, Ok, Err}
+use Rattle.std.specs.Prelude.{option_map}
 use Rattle.std.specs.List.{flat_map, filter_map}
 use Rattle.mc_fields.specs.declared.packet.RowFault.{RowFault}
-use Rattle.mc_fields.specs.Row.{frame_read}
+use Rattle.mc_fields.specs.Row.{packet_read}
 use Rattle.mc_frame.specs.Frame.{frame_spelling}
 use Rattle.mc_frame.specs.Cut.{IsCut}
 use Rattle.mc_up.specs.declared.status_down.StatusDown.{StatusDown}
@@ -36,13 +37,14 @@ in_play other = None
 abbrev pub played : List Sent → List Down
 played packets = filter_map in_play packets
 
--- ---- what a client hears
+-- ---- what a client decodes
 
--- what it listens for: the status, or the answer to its login, and after Login Success the game
-pub data Ear : Type 0 where
-  for_status : Ear
-  for_login : Ear
-  for_play : Ear
+-- by which packets it decodes: those of the status, or those of a login, and after Login Success
+-- those of play
+pub data Decoder : Type 0 where
+  for_status : Decoder
+  for_login : Decoder
+  for_play : Decoder
 
 abbrev pub sent_status : Result StatusDown RowFault → Option Sent
 sent_status (Ok packet) = Some (of_status packet)
@@ -57,28 +59,30 @@ sent_play (Ok packet) = Some (of_play packet)
 sent_play (Err fault) = None
 
 -- the packet of a frame
-abbrev pub heard_as : Ear → List ℕ → Option Sent
-heard_as for_status frame = sent_status (frame_read status.rows frame)
-heard_as for_login frame = sent_login (frame_read login.rows frame)
-heard_as for_play frame = sent_play (frame_read play.rows frame)
+abbrev pub decoded_as : Decoder → List ℕ → Option Sent
+decoded_as for_status frame = sent_status (packet_read status.rows frame)
+decoded_as for_login frame = sent_login (packet_read login.rows frame)
+decoded_as for_play frame = sent_play (packet_read play.rows frame)
 
--- what it listens for after a packet
-abbrev pub ear_after : Ear → Sent → Ear
-ear_after ear (of_login (Success uuid name)) = for_play
-ear_after ear other = ear
+-- by which it decodes after a packet
+abbrev pub decoder_after : Decoder → Sent → Decoder
+decoder_after decoder (of_login (Success uuid name)) = for_play
+decoder_after decoder other = decoder
 
--- a packet before what is heard after it
+-- a packet before what is decoded after it
 abbrev pub before_others : Option Sent → (Sent → Option (List Sent)) → Option (List Sent)
 before_others None others = None
 before_others (Some packet) others = option_map (λ packets. packet ∷ packets) (others packet)
 
 -- the packets of frames, one after another; none where one of them is no packet
-abbrev pub heard : Ear → List (List ℕ) → Option (List Sent)
-heard ear [] = Some []
-heard ear (frame ∷ frames) = before_others (heard_as ear frame) (λ packet. heard (ear_after ear packet) frames)
+abbrev pub decoded_frames : Decoder → List (List ℕ) → Option (List Sent)
+decoded_frames decoder [] = Some []
+decoded_frames decoder (frame ∷ frames) =
+    before_others (decoded_as decoder frame)
+    (λ packet. decoded_frames (decoder_after decoder packet) frames)
 
--- The bytes are cut into frames, with nothing behind them, and a client that listens so hears these packets in them.
-pub record IsHeard (ear : Ear) (bytes : List ℕ) (packets : List Sent) : Type 0 where
+-- The bytes are cut into frames, with nothing behind them, and those are decoded as the packets.
+pub record IsDecodedBy (decoder : Decoder) (bytes : List ℕ) (packets : List Sent) : Type 0 where
   pub frames : List (List ℕ)
   pub is_cut : IsCut bytes (record { frames = frames; rest = []; fault = None })
-  pub are : heard ear frames ≡ Some packets
+  pub are : decoded_frames decoder frames ≡ Some packets

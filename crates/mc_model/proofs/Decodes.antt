@@ -1,0 +1,127 @@
+-- What is handed out as frames, one after another, is cut into them again, and decoded as those
+-- packets.
+use Rattle.std.proofs.Common.{◌≡◌, ℕ, List, [], ◌∷◌, ◌++◌, map, refl, sym, subst, ap}
+use Rattle.std.specs.Prelude.{Some}
+use Rattle.std.proofs.lemmas.List.{append-nil}
+use Rattle.mc_frame.specs.Frame.{IsPayload, frame_spelling}
+use Rattle.mc_frame.specs.FrameLaws.{frame_spelled}
+use Rattle.mc_frame.specs.Cut.{SpellsFrames}
+use Rattle.mc_frame.proofs.Stops.{nothing_part}
+use Rattle.mc_up.specs.StatusDown as status
+use Rattle.mc_up.specs.LoginDown as login
+use Rattle.mc_down.specs.Down as play
+use Rattle.mc_up.proofs.StatusDownLaws as status_laws
+use Rattle.mc_up.proofs.LoginDownLaws as login_laws
+use Rattle.mc_down.proofs.DownLaws as play_laws
+use Rattle.mc_model.specs.Packets.{Sent, of_status, of_login, of_play, frame_of, bytes_of, Decoder}
+use Rattle.mc_model.specs.Packets.{for_status, for_login, for_play, sent_status, sent_login}
+use Rattle.mc_model.specs.Packets.{sent_play, decoded_as, decoder_after, decoded_frames}
+use Rattle.mc_model.specs.Packets.{IsDecodedBy}
+
+-- what its frame holds
+abbrev pub payload_of : Sent → List ℕ
+payload_of (of_status packet) = status.spelling_of packet
+payload_of (of_login packet) = login.spelling_of packet
+payload_of (of_play packet) = play.spelling_of packet
+
+-- a packet that fits a frame and is decoded by this decoder
+abbrev pub IsClear : Decoder → Sent → Type 0
+IsClear for_status (of_status packet) =
+    status.FitsStatusDown packet × IsPayload (status.spelling_of packet)
+IsClear for_login (of_login packet) =
+    login.FitsLoginDown packet × IsPayload (login.spelling_of packet)
+IsClear for_play (of_play packet) = play.FitsDown packet × IsPayload (play.spelling_of packet)
+IsClear for_status (of_login packet) = ⊥
+IsClear for_status (of_play packet) = ⊥
+IsClear for_login (of_status packet) = ⊥
+IsClear for_login (of_play packet) = ⊥
+IsClear for_play (of_status packet) = ⊥
+IsClear for_play (of_login packet) = ⊥
+
+-- all of these are decoded by it one after another, and what follows by that
+abbrev pub Decodes : Decoder → List Sent → Decoder → Type 0
+Decodes decoder [] end = decoder ≡ end
+Decodes decoder (packet ∷ packets) end =
+    IsClear decoder packet × Decodes (decoder_after decoder packet) packets end
+
+-- some and then others
+pub decodes_more : (decoder middle end : Decoder) (packets others : List Sent) →
+    Decodes decoder packets middle → Decodes middle others end
+    → Decodes decoder (packets ++ others) end
+decodes_more decoder middle end [] others h later = let P : Decoder → Type 0 =
+    λ e. Decodes e others end in subst P (sym h) later
+decodes_more decoder middle end (packet ∷ packets) others h later =
+    (h.0, decodes_more (decoder_after decoder packet) middle end packets others h.1 later)
+
+-- it fits a frame
+clear_payload : (decoder : Decoder) (packet : Sent) → IsClear decoder packet →
+    IsPayload (payload_of packet)
+clear_payload for_status (of_status packet) c = c.1
+clear_payload for_login (of_login packet) c = c.1
+clear_payload for_play (of_play packet) c = c.1
+clear_payload for_status (of_login packet) c = absurd c
+clear_payload for_status (of_play packet) c = absurd c
+clear_payload for_login (of_status packet) c = absurd c
+clear_payload for_login (of_play packet) c = absurd c
+clear_payload for_play (of_status packet) c = absurd c
+clear_payload for_play (of_login packet) c = absurd c
+
+-- and is decoded in it
+clear_decoded : (decoder : Decoder) (packet : Sent) → IsClear decoder packet →
+    decoded_as decoder (payload_of packet) ≡ Some packet
+clear_decoded for_status (of_status packet) c = ap sent_status (status_laws.again packet c.0)
+clear_decoded for_login (of_login packet) c = ap sent_login (login_laws.again packet c.0)
+clear_decoded for_play (of_play packet) c = ap sent_play (play_laws.again packet c.0)
+clear_decoded for_status (of_login packet) c = absurd c
+clear_decoded for_status (of_play packet) c = absurd c
+clear_decoded for_login (of_status packet) c = absurd c
+clear_decoded for_login (of_play packet) c = absurd c
+clear_decoded for_play (of_status packet) c = absurd c
+clear_decoded for_play (of_login packet) c = absurd c
+
+-- a frame holds its payload
+framed : (packet : Sent) → frame_of packet ≡ frame_spelling (payload_of packet)
+unfolding frame_of
+framed (of_status packet) = refl
+framed (of_login packet) = refl
+framed (of_play packet) = refl
+
+-- all are decoded in their frames
+decoded_again : (decoder end : Decoder) (packets : List Sent) → Decodes decoder packets end →
+    decoded_frames decoder (map payload_of packets) ≡ Some packets
+decoded_again decoder end [] h = refl
+decoded_again decoder end (packet ∷ packets) h =
+    rw (
+      clear_decoded decoder packet h.0,
+      decoded_again
+          (decoder_after decoder packet) end packets h.1,
+    ) refl
+
+-- the bytes are these frames
+framed_again : (decoder end : Decoder) (packets : List Sent) → Decodes decoder packets end
+    → SpellsFrames (map payload_of packets) (bytes_of packets)
+framed_again decoder end [] h = refl
+framed_again decoder end (packet ∷ packets) h = (
+  frame_of packet,
+  bytes_of packets,
+  refl,
+  rw (framed packet)
+      (frame_spelled (payload_of packet) (clear_payload decoder packet h.0)),
+  framed_again
+      (decoder_after decoder packet) end packets h.1,
+)
+
+-- so they are decoded from the bytes
+pub decodes_bytes : (decoder end : Decoder) (packets : List Sent) → Decodes decoder packets end →
+    IsDecodedBy decoder (bytes_of packets) packets
+decodes_bytes decoder end packets h = record {
+  frames = map payload_of packets;
+  is_cut = record {
+    front = bytes_of packets;
+    parts = sym (append-nil (bytes_of packets));
+    framed =
+        framed_again decoder end packets h;
+    ends = nothing_part;
+  };
+  are = decoded_again decoder end packets h;
+}
