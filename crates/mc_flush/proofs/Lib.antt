@@ -8,3 +8,4 @@ pub mod Placings
 pub mod Rising
 pub mod Shown
 pub mod Changes
+pub mod Encodings

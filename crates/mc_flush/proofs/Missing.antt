@@ -1,12 +1,15 @@
--- The players of a list that another has not are found, whatever the order in which they are looked at.
-use Rattle.std.proofs.Common.{◌≡◌, ℕ, Bool, true, false, cond, not, List, [], ◌∷◌, Option, Some, None, refl, sym, subst, ap, ◌∙◌}
+-- The players of a list that another has not are found, whatever the order in which they are looked
+-- at.
+use Rattle.std.proofs.Common.{◌≡◌, ℕ, Bool, true, false, cond, not, List, [], ◌∷◌, Option, Some}
+use Rattle.std.proofs.Common.{None, refl, sym, subst, ap, ◌∙◌}
 use Rattle.std.specs.Prelude.{nat_eq}
-use Rattle.std.specs.List.{IsDistinct, filter}
+use Rattle.std.specs.List.{IsDistinct}
 use Rattle.std.specs.Map.{keys_of}
 use Rattle.std.specs.List.Sorted.{IsStrictlySortedBy}
 use Rattle.std.specs.Ordering.{nat_cmp, eq_by_cmp}
 use Rattle.std.specs.Cmp.{nat_cmp_total}
-use Rattle.std.specs.FinMap.{find, get, entries, entries_sorted, from_entries, get-entries, get-from_entries, nat_cmp-IsAntisymmetric}
+use Rattle.std.specs.FinMap.{find, get, entries, entries_sorted, from_entries, get-entries}
+use Rattle.std.specs.FinMap.{get-from_entries, nat_cmp-IsAntisymmetric}
 use Rattle.std.specs.FinMap.Entries.{same_entries}
 use Rattle.std.proofs.lemmas.Map.Entries.{option_filter}
 use Rattle.mc_model.specs.Delta.{is_named, missing}
@@ -17,15 +20,17 @@ use Rattle.mc_flush.proofs.Ordered.{sorted_from, sorted_filter, find_filter}
 abbrev pub Players : Type 0
 Players = List (ℕ × List ℕ)
 
--- of what is found, left and there under an identifier: where something is left, that is there and nothing is found; else what is
--- there is found, if it passes a test
-abbrev pub IsFoundOf : (List ℕ → Bool) → Option (List ℕ) → Option (List ℕ) → Option (List ℕ) → Type 0
+-- of what is found, left and there under an identifier: where something is left, that is there and
+-- nothing is found; else what is there is found, if it passes a test
+abbrev pub IsFoundOf : (List ℕ → Bool) → Option (List ℕ) → Option (List ℕ) → Option (List ℕ) →
+    Type 0
 IsFoundOf passes found (Some name) there = (found ≡ None) × (there ≡ Some name)
 IsFoundOf passes found None there = found ≡ option_filter passes there
 
 -- what was found so far of the players that others have not
 abbrev pub IsFinding : Players → Players → Players → Players → Type 0
-IsFinding others found left all = (q : ℕ) → IsFoundOf (is_other others q) (find nat_cmp q found) (find nat_cmp q left) (find nat_cmp q all)
+IsFinding others found left all = (q : ℕ) → IsFoundOf (is_other others q) (find nat_cmp q found)
+    (find nat_cmp q left) (find nat_cmp q all)
 
 begun_at : (passes : List ℕ → Bool) (there : Option (List ℕ)) → IsFoundOf passes None there there
 begun_at passes None = refl
@@ -34,21 +39,33 @@ begun_at passes (Some name) = (refl, refl)
 pub finding_begins : (others all : Players) → IsFinding others [] all all
 finding_begins others all q = begun_at (is_other others q) (find nat_cmp q all)
 
-pub finding_goes_on : (others found new left rest all : Players) (k : ℕ) (v : List ℕ) → left ≡ (k, v) ∷ rest → IsDistinct nat_eq (keys_of left) →
-    ((q : ℕ) → find nat_cmp q new ≡ with_other others k v (find nat_cmp q found) q) → IsFinding others found left all → IsFinding others new rest all
+pub finding_goes_on : (others found new left rest all : Players) (k : ℕ) (v : List ℕ) →
+    left ≡ (k, v) ∷ rest → IsDistinct nat_eq (keys_of left) →
+    ((q : ℕ) → find nat_cmp q new ≡ with_other others k v (find nat_cmp q found) q) →
+    IsFinding others found left all → IsFinding others new rest all
 finding_goes_on others found new left rest all k v next apart put so_far q =
-    elim (eq_by_cmp nat_cmp q k) as (λ t. eq_by_cmp nat_cmp q k ≡ t → IsFoundOf (is_other others q) (find nat_cmp q new) (find nat_cmp q rest) (find nat_cmp q all)) [
+    elim (eq_by_cmp nat_cmp q k) as (λ t. eq_by_cmp nat_cmp q k ≡ t →
+    IsFoundOf (is_other others q) (find nat_cmp q new) (find nat_cmp q rest) (find nat_cmp q
+    all)) [
       | true ↦ λ t.
           let same : q ≡ k = same_key q k t in
-          let here : IsFoundOf (is_other others q) (find nat_cmp q found) (Some v) (find nat_cmp q all) = subst P' (ap (find nat_cmp q) next ∙ ap (λ (b : Bool). cond b (Some v) (find nat_cmp q rest)) t) (so_far q) in
-          let none : find nat_cmp q rest ≡ None = rw same (not_again k v rest (subst (λ (es : Players). IsDistinct nat_eq (keys_of es)) next apart)) in
+          let here : IsFoundOf (is_other others q) (find nat_cmp q found) (Some v) (find nat_cmp q
+          all) = subst P' (ap (find nat_cmp q) next
+          ∙ ap (λ (b : Bool). cond b (Some v) (find nat_cmp q rest)) t) (so_far q) in
+          let none : find nat_cmp q rest ≡ None = rw same (not_again k v rest (subst (λ (es :
+          Players). IsDistinct nat_eq (keys_of es)) next apart)) in
           let now : find nat_cmp q new ≡ cond (is_other others q v) (Some v) None =
-          put q ∙ rw (t, here.0) (ap (λ (u : ℕ). cond (is_other others u v) (Some v) None) (sym same)) in
+          put q ∙ rw (t, here.0) (ap (λ (u : ℕ). cond (is_other others u v) (Some v) None) (sym
+          same)) in
           subst P (sym none) (now ∙ sym (ap (option_filter (is_other others q)) here.1))
       | false ↦ λ t.
-          let here : IsFoundOf (is_other others q) (find nat_cmp q found) (find nat_cmp q rest) (find nat_cmp q all) = subst P' (ap (find nat_cmp q) next ∙ ap (λ (b : Bool). cond b (Some v) (find nat_cmp q rest)) t) (so_far q) in
-          let kept : find nat_cmp q new ≡ find nat_cmp q found = put q ∙ rw t (either (is_other others k v) (find nat_cmp q found)) in
-          subst (λ (o : Option (List ℕ)). IsFoundOf (is_other others q) o (find nat_cmp q rest) (find nat_cmp q all)) (sym kept) here
+          let here : IsFoundOf (is_other others q) (find nat_cmp q found) (find nat_cmp q rest)
+          (find nat_cmp q all) = subst P' (ap (find nat_cmp q) next
+          ∙ ap (λ (b : Bool). cond b (Some v) (find nat_cmp q rest)) t) (so_far q) in
+          let kept : find nat_cmp q new ≡ find nat_cmp q found = put q
+          ∙ rw t (either (is_other others k v) (find nat_cmp q found)) in
+          subst (λ (o : Option (List ℕ)). IsFoundOf (is_other others q) o (find nat_cmp q rest)
+          (find nat_cmp q all)) (sym kept) here
     ] refl
   where
     P : Option (List ℕ) → Type 0
@@ -61,11 +78,19 @@ finding_goes_on others found new left rest all k v next apart put so_far q =
     either true o = refl
     either false o = refl
 
-pub finding_ends : (others found all : Players) → IsStrictlySortedBy nat_cmp (keys_of found) → IsFinding others found [] all → found ≡ missing (from_entries all) (from_entries others)
+pub finding_ends : (others found all : Players) → IsStrictlySortedBy nat_cmp (keys_of found) →
+    IsFinding others found [] all → found ≡ missing (from_entries all) (from_entries others)
 finding_ends others found all sorted done =
-    same_entries nat_cmp nat_cmp_total nat_cmp-IsAntisymmetric found (missing (from_entries all) (from_entries others))
-    (sorted_from nat_cmp found sorted) (sorted_filter nat_cmp (λ (e : ℕ × List ℕ). not (is_named (get (from_entries {R = nat_cmp} others) e.0) e.1)) (entries (from_entries all)) (entries_sorted (from_entries all)))
+    same_entries nat_cmp nat_cmp_total nat_cmp-IsAntisymmetric found (missing (from_entries all)
+    (from_entries others))
+    (sorted_from nat_cmp found sorted) (sorted_filter nat_cmp (λ (e : ℕ × List ℕ). not (is_named
+    (get (from_entries {R = nat_cmp} others) e.0) e.1)) (entries (from_entries all))
+    (entries_sorted (from_entries all)))
     (λ q. done q
-    ∙ ap (λ (o : Option (List ℕ)). option_filter (λ name. not (is_named o name)) (find nat_cmp q all)) (sym (get-from_entries nat_cmp_total others q))
-    ∙ ap (option_filter (λ name. not (is_named (get (from_entries {R = nat_cmp} others) q) name))) (sym (get-from_entries nat_cmp_total all q) ∙ get-entries (from_entries all) q)
-    ∙ sym (find_filter nat_cmp nat_cmp_total nat_cmp-IsAntisymmetric (λ (e : ℕ × List ℕ). not (is_named (get (from_entries {R = nat_cmp} others) e.0) e.1)) q (entries (from_entries all)) (entries_sorted (from_entries all))))
+    ∙ ap (λ (o : Option (List ℕ)). option_filter (λ name. not (is_named o name)) (find nat_cmp q
+    all)) (sym (get-from_entries nat_cmp_total others q))
+    ∙ ap (option_filter (λ name. not (is_named (get (from_entries {R = nat_cmp} others) q) name)))
+    (sym (get-from_entries nat_cmp_total all q) ∙ get-entries (from_entries all) q)
+    ∙ sym (find_filter nat_cmp nat_cmp_total nat_cmp-IsAntisymmetric (λ (e : ℕ × List ℕ). not
+    (is_named (get (from_entries {R = nat_cmp} others) e.0) e.1)) q (entries (from_entries all))
+    (entries_sorted (from_entries all))))

@@ -1,5 +1,5 @@
 -- Players that a packet of the list of players can carry.
-use Rattle.std.specs.Prelude.{ℕ, ◌≤◌, length}
+use Rattle.std.specs.Prelude.{◌≤◌, length}
 use lib.IntN.{ℤ}
 use Rattle.mc_down.specs.declared.player.Player.{Player}
 use Rattle.mc_down.specs.PlayerChange.{player_wire}

@@ -4,4 +4,5 @@ pub mod Lists
 pub mod Players
 pub mod Sending
 pub mod Seeing
+pub mod Encoding
 pub mod Readying

@@ -1,9 +1,8 @@
 -- The list of players as contracts see it: the entries of now, and those at the last settling.
-use Rattle.std.specs.Prelude.{◌≡◌, ℕ, List, refl}
+use Rattle.std.specs.Prelude.{ℕ, List, refl}
 use Rattle.std.specs.Coded.{Coded, code_by, coded×, coded_ℕ, coded_list}
 use Rattle.std.specs.FinMap as map
 use Rattle.std.specs.FinMap.{empty, from_entries, insert, remove}
-use Rattle.std.specs.Ordering.{nat_cmp}
 use Rattle.mc_model.specs.Delta.{Pairs}
 
 pub record ListValue : Type 0 where

@@ -1,58 +1,99 @@
 -- What a client is to be shown, of the parts that a view borrows, and what a mark stands for.
-use Rattle.std.specs.Prelude.{◌≡◌, ℕ, ◌+◌, ◌≤◌, Bool, true, List, [], ◌++◌, map, length, Option, Some, None}
-use Rattle.std.specs.List.{AllByRecursion}
-use Rattle.std.specs.FinMap.{empty, entries, contains_key, from_entries}
+use Rattle.std.specs.Prelude.{◌≡◌, ℕ, ◌≤◌, Bool, true, List, [], ◌++◌, map, length}
+use Rattle.std.specs.Prelude.{Option, Some, None, is_some}
+use Rattle.std.specs.FinMap.{FinMap, empty, from_entries}
 use Rattle.std.specs.FinSet as set
-use lib.IntN.{ℤ, pos, negsuc}
+use lib.IntN.{pos, negsuc}
 use lib.Signed.{◌≤ℤ◌}
 use Rattle.mc_column.specs.Cells.{ColumnValue}
 use Rattle.mc_fields.specs.declared.position.Spot.{Spot}
-use Rattle.mc_land.specs.Places.{Place, place_cmp, IsPlace}
-use Rattle.mc_land.specs.Land.{LandValue, column_of}
+use Rattle.mc_land.specs.declared.terrain.Terrain.{Terrain}
+use Rattle.mc_land.specs.Places.{Place, key_cmp, IsPlace}
+use Rattle.mc_land.specs.Land.{LandValue, states_of, biomes_of}
 use Rattle.mc_down.specs.declared.down.Down.{Down}
 use Rattle.mc_model.specs.Sight.{Sight, nothing_seen}
 use Rattle.mc_model.specs.Delta.{Pairs, missing, leaver, joiner, about, unload, load}
 use Rattle.mc_view.specs.declared.view_set.ViewSet.{ViewSet}
-use Rattle.mc_view.specs.Sets.{has, all_of, lacking}
+use Rattle.mc_view.specs.Sets.{all_of, lacking}
 use Rattle.mc_flush.specs.Lists.{ListValue}
 
+-- ---- what all clients are shown a part of
+
+-- the players and the cells of the land, at one time
+pub record Parts : Type 0 where
+  pub players : Pairs
+  pub terrain : Terrain
+  pub edits : FinMap key_cmp ℕ
+
+-- as they are now, and as they were at the last settling of both
+abbrev pub present_parts : LandValue → ListValue → Parts
+present_parts land list =
+    record { players = list.present; terrain = land.terrain; edits = land.edits }
+
+abbrev pub settled_parts : LandValue → ListValue → Parts
+settled_parts land list =
+    record { players = list.last; terrain = land.terrain; edits = land.settled }
+
+-- a column of a terrain with these edits, under its place
+abbrev pub placed_with : Terrain → FinMap key_cmp ℕ → Place → Place × ColumnValue
+placed_with terrain edits place =
+    (place, record { states = states_of terrain edits place; biomes = biomes_of terrain place })
+
+-- the players, and the columns of a view
+abbrev pub sight_of : Parts → ViewSet → Sight
+sight_of parts view = record {
+  pairs = parts.players;
+  columns = from_entries (map (placed_with parts.terrain parts.edits) (all_of view));
+}
+
+-- a column as it is now
 abbrev pub placed_column : LandValue → Place → Place × ColumnValue
-placed_column land place = (place, column_of land place)
+placed_column land place = placed_with land.terrain land.edits place
 
 -- the players that are in the list now, and the columns of the view as they are
 abbrev pub seen : LandValue → ListValue → ViewSet → Sight
-seen land list view = record {
-  pairs = list.present;
-  columns = from_entries (map (placed_column land) (all_of view));
-}
+seen land list view = sight_of (present_parts land list) view
 
--- What was shown: nothing, or the players of the last settling and the columns of the view that is kept. Which columns those were
--- is all that a difference asks of them.
-unfoldable pub StandsFor : Option ViewSet → Pairs → Sight → Type 0
-StandsFor None last p = p ≡ nothing_seen
-StandsFor (Some view) last p = (p.pairs ≡ last) × ((place : Place) → contains_key p.columns place ≡ has view place)
+-- ---- what was shown
+
+-- what contracts see of a mark: the view whose columns were shown, none before the first tick
+abbrev pub MarkValue : Type 0
+MarkValue = Option ViewSet
+
+abbrev pub nothing_shown : MarkValue
+nothing_shown = None
+
+-- whether anything was shown
+abbrev pub is_shown : MarkValue → Bool
+is_shown mark = is_some mark
+
+-- What was shown, of the parts as they were: nothing, or the players and the columns of the view
+-- that is kept.
+unfoldable pub StandsFor : MarkValue → Parts → Sight → Type 0
+StandsFor None parts p = p ≡ nothing_seen
+StandsFor (Some view) parts p = p ≡ sight_of parts view
 
 -- ---- what differs from what was shown
 
 -- the columns that are not shown any more, and those that were not shown before
-abbrev pub unloaded : Option ViewSet → ViewSet → List Place
+abbrev pub unloaded : MarkValue → ViewSet → List Place
 unloaded None view = []
 unloaded (Some old) view = lacking old view
 
-abbrev pub loaded : Option ViewSet → ViewSet → List Place
+abbrev pub loaded : MarkValue → ViewSet → List Place
 loaded None view = all_of view
 loaded (Some old) view = lacking view old
 
 -- the players that were shown
-abbrev pub listed : Option ViewSet → ListValue → Pairs
+abbrev pub listed : MarkValue → ListValue → Pairs
 listed None list = empty
 listed (Some old) list = list.last
 
-abbrev pub left_packets : Pairs → Pairs → List Down
-left_packets before now = about (pos 4) (map leaver (missing before now))
-
-abbrev pub came_packets : Pairs → Pairs → List Down
-came_packets before now = about (pos 0) (map joiner (missing now before))
+-- those who left, then those who came
+abbrev pub player_packets : Pairs → Pairs → List Down
+player_packets before now =
+    about (pos 4) (map leaver (missing before now))
+    ++ about (pos 0) (map joiner (missing now before))
 
 abbrev pub unload_packets : List Place → List Down
 unload_packets places = map unload places
@@ -60,10 +101,11 @@ unload_packets places = map unload places
 abbrev pub load_packets : LandValue → List Place → List Down
 load_packets land places = map load (map (placed_column land) places)
 
--- those who left, those who came, columns out of view, columns in view
-unfoldable pub changes : LandValue → ListValue → Option ViewSet → ViewSet → List Down
+-- players, then columns out of view, then columns in view
+unfoldable pub changes : LandValue → ListValue → MarkValue → ViewSet → List Down
 changes land list mark view =
-    left_packets (listed mark list) list.present ++ (came_packets (listed mark list) list.present ++ (unload_packets (unloaded mark view) ++ load_packets land (loaded mark view)))
+    player_packets (listed mark list) list.present
+    ++ (unload_packets (unloaded mark view) ++ load_packets land (loaded mark view))
 
 -- ---- what is asked of the parts
 

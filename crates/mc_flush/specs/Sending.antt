@@ -5,7 +5,7 @@ use Rattle.mc_fields.specs.declared.position.Spot.{Spot}
 use Rattle.mc_frame.specs.Frame.{IsPayload}
 use Rattle.mc_down.specs.declared.down.Down.{Down}
 use Rattle.mc_down.specs.Down.{FitsDown, spelling_of}
-use Rattle.mc_model.specs.Hearing.{of_play, bytes_of}
+use Rattle.mc_model.specs.Packets.{of_play, bytes_of}
 use Rattle.mc_model.specs.Notes.{Noted}
 use Rattle.mc_model.specs.Step.{placing}
 

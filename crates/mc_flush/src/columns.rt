@@ -1,19 +1,16 @@
-ghost use Rattle.std.specs.Prelude.{◌≡◌, ◌+◌, ◌*◌, ◌^◌, ◌<◌, ◌++◌, OnOk, IfOk, length};
-ghost use Rattle.std.specs.Int.{w32};
+ghost use Rattle.std.specs.Prelude.{◌≡◌, ◌+◌, ◌^◌, ◌<◌, ◌++◌, OnOk, IfOk};
 ghost use Rattle.std.specs.List.{AllByRecursion};
-ghost use mir.Val.{SFits};
 ghost use Rattle.mc_column.specs.Sizes.{cells};
-ghost use Rattle.mc_column.specs.Cells.{HasSizes};
-ghost use Rattle.mc_column.specs.Sent.{column_mask};
 ghost use Rattle.mc_land.specs.Places.{IsPlace};
-ghost use Rattle.mc_land.specs.Land.{column_of};
-ghost use Rattle.mc_model.specs.Hearing.{of_play, frame_of};
+ghost use Rattle.mc_model.specs.Packets.{of_play, frame_of};
 ghost use Rattle.mc_model.specs.Delta.{load, unload};
 ghost use Rattle.mc_flush.specs.Heads.{load_head};
 ghost use Rattle.mc_flush.specs.Sending.{play_bytes};
-ghost use Rattle.mc_flush.specs.Seeing.{IsReady, placed_column, load_packets, unload_packets};
+ghost use Rattle.mc_flush.specs.Seeing.{IsReady, unload_packets};
+ghost use Rattle.mc_flush.specs.Encoding.{load_bytes};
 
 use crate::frames::put_packet;
+use bytes::Bytes;
 use mc_column::Column;
 use mc_down::Down;
 use mc_fields::{write_bool, write_i32, write_u16, write_varint};
@@ -41,7 +38,8 @@ fn load_head(alloc: Global, place: &(i32, i32), mask: u16, size: usize) -> Resul
 /// Appends the frame that loads a column. Its body is encoded once, behind the frame's head.
 fn put_column(place: &(i32, i32), column: &Column, out: &mut Vec<u8>) -> Result<(), NoMemory>
     requires { IsPlace place.now }
-    ensures { OnOk result (out.new.items ≡ out.old.items ++ frame_of (of_play (load (place.now, column.now)))) }
+    ensures { OnOk result (out.new.items
+        ≡ out.old.items ++ frame_of (of_play (load (place.now, column.now)))) }
 {
     let mask = column.sent_mask();
     let size = column.sent_size(mask);
@@ -60,8 +58,9 @@ fn put_load<L: Ledger>(
     steps: &mut Steps<L>,
 ) -> Result<(), NoMemory>
     requires { IsReady land.now place.now }
-    ensures sent { OnOk result (out.new.items ≡ out.old.items ++ frame_of (of_play (load (placed_column land.now place.now)))) }
-    ensures cost { OnOk result (steps.new ≡ steps.old + cells) }
+    ensures sent { OnOk result (out.new.items
+        ≡ out.old.items ++ load_bytes land.now place.now) }
+    ensures cost { steps.new ≡ steps.old + cells }
 {
     match land.column(place.0, place.1, steps) {
         Some(column) => put_column(place, column, out),
@@ -69,21 +68,21 @@ fn put_load<L: Ledger>(
     }
 }
 
-/// Appends the frames that load columns.
-pub fn put_loads<L: Ledger>(
+/// The frame that loads the column of a place, as one piece. It looks at its cells, also where
+/// memory runs out.
+pub fn load_piece<L: Ledger>(
+    alloc: Global,
     land: &Land,
-    columns: Columns,
-    out: &mut Vec<u8>,
+    place: &(i32, i32),
     steps: &mut Steps<L>,
-) -> Result<(), NoMemory>
-    requires { AllByRecursion (IsReady land.now) columns }
-    ensures sent { OnOk result (out.new.items ≡ out.old.items ++ play_bytes (load_packets land.now columns)) }
-    ensures cost { OnOk result (steps.new ≡ steps.old + cells * length columns) }
+) -> Result<Bytes, NoMemory>
+    requires { IsReady land.now place.now }
+    ensures is { IfOk result (λ piece. piece ≡ load_bytes land.now place.now) }
+    ensures cost { steps.new ≡ steps.old + cells }
 {
-    for place in columns {
-        put_load(land, &place, out, steps)?;
-    }
-    Ok(())
+    let mut bytes = Vec::new(alloc);
+    put_load(land, place, &mut bytes, steps)?;
+    Ok(Bytes::from_vec(bytes)?)
 }
 
 /// All of a column and no section, which takes the column away.
@@ -102,7 +101,8 @@ fn unload(alloc: Global, place: &(i32, i32)) -> Down
 /// Appends the frame that takes a column away.
 fn put_unload(place: &(i32, i32), out: &mut Vec<u8>) -> Result<(), NoMemory>
     requires { IsPlace place.now }
-    ensures { OnOk result (out.new.items ≡ out.old.items ++ frame_of (of_play (unload place.now))) }
+    ensures { OnOk result (out.new.items
+        ≡ out.old.items ++ frame_of (of_play (unload place.now))) }
 {
     put_packet(&unload(*out.allocator(), place), out)?;
     Ok(())
@@ -111,7 +111,8 @@ fn put_unload(place: &(i32, i32), out: &mut Vec<u8>) -> Result<(), NoMemory>
 /// Appends the frames that take columns away.
 pub fn put_unloads(columns: Columns, out: &mut Vec<u8>) -> Result<(), NoMemory>
     requires { AllByRecursion IsPlace columns }
-    ensures { OnOk result (out.new.items ≡ out.old.items ++ play_bytes (unload_packets columns)) }
+    ensures { OnOk result (out.new.items
+        ≡ out.old.items ++ play_bytes (unload_packets columns)) }
 {
     for place in columns {
         put_unload(&place, out)?;

@@ -1,8 +1,8 @@
 //! Packets of play as frames.
-#![tactic(auto, unfolding(mc_model::specs::Hearing::frame_of))]
+#![tactic(auto, unfolding(mc_model::specs::Packets::frame_of))]
 
 ghost use Rattle.std.specs.Prelude.{◌≡◌, ◌++◌, OnOk, OnErr};
-ghost use Rattle.mc_model.specs.Hearing.{of_play, frame_of};
+ghost use Rattle.mc_model.specs.Packets.{of_play, frame_of};
 ghost use Rattle.mc_flush.specs.Sending.{IsClear};
 
 use mc_down::{Down, write_down};

@@ -1,23 +1,22 @@
 //! What a client is sent at a tick.
 //!
-//! Stands on the definitions of `mc_model`, the views of `mc_view`, and the land and the packets. Its
-//! one contract: where a mark stands for what a client was shown, `flush` appends exactly the frames
-//! of the difference to what the borrowed parts are, then those of the notes, and the mark stands for
-//! that.
+//! Stands on the definitions of `mc_model`, the views of `mc_view`, and the land and the packets.
+//! Its one contract: where a mark stands for what a client was shown, `flush` appends exactly the
+//! frames of the difference to what the borrowed parts are, then those of the notes, and the mark
+//! stands for that. What is the same for all clients of a tick is encoded once and shared.
 #![tactic(auto)]
 
 mod client_view;
 mod columns;
-mod flushing;
+mod encoded;
 mod frames;
-mod joining;
 mod mark;
+mod names;
 mod notes;
 mod player_list;
-mod players;
 
-pub use client_view::ClientView;
-pub use flushing::flush;
+pub use client_view::{ClientView, flush};
+pub use encoded::Encoded;
 pub use frames::put_packet;
 pub use mark::Mark;
 pub use notes::placing_packet;

@@ -1,7 +1,6 @@
 ghost use Rattle.std.specs.Prelude.{◌≡◌, ◌++◌, OnOk};
 ghost use Rattle.mc_model.specs.Step.{placing};
 ghost use Rattle.mc_flush.specs.Sending.{IsClear, notes_due_of, play_bytes};
-ghost use Rattle.mc_flush.specs.Seeing.{IsInRange};
 
 use crate::frames::put_packet;
 use mc_down::Down;
@@ -11,7 +10,6 @@ use mc_nbt::NoMemory;
 
 /// A player's own place and look, none of them relative.
 pub fn placing_packet(place: &Spot) -> Down
-    requires { IsInRange place.now }
     ensures value { result ≡ placing place.now }
     ensures clear { IsClear result }
 {
@@ -27,8 +25,8 @@ pub fn placing_packet(place: &Spot) -> Down
 
 /// Appends what was noted for a client.
 pub fn put_notes(notes: &Notes, place: &Spot, out: &mut Vec<u8>) -> Result<(), NoMemory>
-    requires { IsInRange place.now }
-    ensures { OnOk result (out.new.items ≡ out.old.items ++ play_bytes (notes_due_of notes.now place.now)) }
+    ensures { OnOk result (out.new.items
+        ≡ out.old.items ++ play_bytes (notes_due_of notes.now place.now)) }
 {
     if notes.placing() {
         put_packet(&placing_packet(place), out)?;

@@ -1,14 +1,19 @@
-ghost use Rattle.std.specs.Prelude.{◌≡◌, ◌++◌, true, false, OnOk, OnErr, IfOk};
+ghost use Rattle.std.specs.Prelude.{◌≡◌, ◌≤◌, nat_eq, true, false, OnOk, OnErr, IfOk};
+ghost use Rattle.std.specs.List.{AllByRecursion};
 ghost use Rattle.std.specs.Option.{option_copied};
 ghost use Rattle.std.specs.FinMap as map;
+ghost use Rattle.indexmap.specs.IndexMap.{insert_entry};
 ghost use Rattle.mc_model.specs.Delta.{missing};
 ghost use Rattle.mc_flush.specs.Lists.{new_list, with_name, without_name, settled_list};
+ghost use Rattle.mc_flush.specs.Seeing.{IsNamed, player_packets};
+ghost use Rattle.mc_flush.specs.Sending.{play_bytes};
+ghost use Rattle.mc_flush.specs.Encoding.{player_bytes};
 
-use crate::players::{copies, missing};
+use crate::names::Names;
+use bytes::Bytes;
 use indexmap::IndexMap;
 use mc_nbt::{NoMemory, Text};
 use std::alloc::Global;
-use std::collections::BTreeMap;
 use std::marker::Model;
 
 /// The players in play, by their identifiers, and the names of those who were there at the last
@@ -29,6 +34,26 @@ impl Model for PlayerList {
     ghost coded = { coded_list_value };
 
     ghost view = { λ list. kept_list list.present.entries list.last.entries };
+}
+
+/// Puts a copy of an entry.
+fn put_copy(copies: &mut IndexMap<u128, Text>, uuid: &u128, name: &Text) -> Result<(), NoMemory>
+    ensures { OnOk result (copies.new.entries
+        ≡ insert_entry nat_eq copies.old.entries uuid.now name.now) }
+{
+    copies.insert(*uuid, name.copy()?)?;
+    Ok(())
+}
+
+/// Copies entries, in their order.
+fn copies(players: &IndexMap<u128, Text>) -> Result<IndexMap<u128, Text>, NoMemory>
+    ensures { IfOk result (λ copies. copies.entries ≡ players.now.entries) }
+{
+    let mut copies = IndexMap::new(*players.allocator());
+    for (uuid, name) in players.iter() {
+        put_copy(&mut copies, uuid, name)?;
+    }
+    Ok(copies)
 }
 
 impl PlayerList {
@@ -104,24 +129,55 @@ impl PlayerList {
         Ok(())
     }
 
-    /// Those who were there at the last settling and are no more, or have another name, in rising order.
-    pub(crate) fn left(&self, alloc: Global) -> Result<BTreeMap<u128, Text>, NoMemory>
-        ensures { IfOk result (λ found. found.entries ≡ missing self.now.last self.now.present) }
+    /// Those who were there at the last settling and are no more, or have another name.
+    fn left(&self, alloc: Global) -> Result<Names, NoMemory>
+        ensures { IfOk result (λ names. names.found.entries
+            ≡ missing self.now.last self.now.present) }
     {
-        missing(alloc, &self.last, &self.present)
+        Names::missing(alloc, &self.last, &self.present)
     }
 
-    /// Those who came since then, or have another name, in rising order.
-    pub(crate) fn came(&self, alloc: Global) -> Result<BTreeMap<u128, Text>, NoMemory>
-        ensures { IfOk result (λ found. found.entries ≡ missing self.now.present self.now.last) }
+    /// Those who came since then, or have another name.
+    fn came(&self, alloc: Global) -> Result<Names, NoMemory>
+        ensures { IfOk result (λ names. names.found.entries
+            ≡ missing self.now.present self.now.last) }
     {
-        missing(alloc, &self.present, &self.last)
+        Names::missing(alloc, &self.present, &self.last)
     }
 
-    /// All of them, in rising order.
-    pub(crate) fn all(&self, alloc: Global) -> Result<BTreeMap<u128, Text>, NoMemory>
-        ensures { IfOk result (λ found. found.entries ≡ missing self.now.present map.empty) }
+    /// All of them.
+    fn all(&self, alloc: Global) -> Result<Names, NoMemory>
+        ensures { IfOk result (λ names. names.found.entries
+            ≡ missing self.now.present map.empty) }
     {
-        missing(alloc, &self.present, &IndexMap::new(alloc))
+        Names::missing(alloc, &self.present, &IndexMap::new(alloc))
+    }
+
+    /// The frames of who left and of who came since the last settling, as one piece.
+    pub(crate) fn changes(&self, alloc: Global) -> Result<Bytes, NoMemory>
+        requires few { map.len self.now.present ≤ 50 }
+        requires few_before { map.len self.now.last ≤ 50 }
+        requires named { AllByRecursion IsNamed (map.entries self.now.present) }
+        ensures { IfOk result (λ piece. piece ≡ player_bytes self.now) }
+    {
+        let mut bytes = Vec::new(alloc);
+        let left = self.left(alloc)?;
+        left.put_left(alloc, &mut bytes)?;
+        let came = self.came(alloc)?;
+        came.put_came(alloc, &mut bytes)?;
+        Ok(Bytes::from_vec(bytes)?)
+    }
+
+    /// The frame of all players, as one piece.
+    pub(crate) fn everybody(&self, alloc: Global) -> Result<Bytes, NoMemory>
+        requires few { map.len self.now.present ≤ 50 }
+        requires named { AllByRecursion IsNamed (map.entries self.now.present) }
+        ensures { IfOk result (λ piece. piece
+            ≡ play_bytes (player_packets map.empty self.now.present)) }
+    {
+        let mut bytes = Vec::new(alloc);
+        let all = self.all(alloc)?;
+        all.put_came(alloc, &mut bytes)?;
+        Ok(Bytes::from_vec(bytes)?)
     }
 }

@@ -4,4 +4,5 @@ use Rattle.mc_flush.proofs.Loads.{unload_fits}
 use Rattle.mc_flush.proofs.columns.put_unload.Goals as goal
 
 pub put_packet-requires : goal.put_packet-requires
-put_packet-requires c = subst IsClear (sym c.unload.ensures) (unload_fits c.args.place.now c.requires)
+put_packet-requires c = subst IsClear (sym c.unload.ensures) (unload_fits c.args.place.now
+    c.requires)

@@ -9,5 +9,6 @@ use Rattle.mc_flush.proofs.columns.put_unloads.Given as goal
 abbrev pub invariant-loop-place : goal.invariant-loop-place
 invariant-loop-place l = record {
   near : AllByRecursion IsPlace l.place-iterator;
-  sent : l.out.items ++ play_bytes (unload_packets l.place-iterator) ≡ l.initial.out.items ++ play_bytes (unload_packets l.initial.place-iterator);
+  sent : l.out.items ++ play_bytes (unload_packets l.place-iterator) ≡ l.initial.out.items ++
+      play_bytes (unload_packets l.initial.place-iterator);
 }

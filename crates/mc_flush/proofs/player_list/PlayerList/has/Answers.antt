@@ -1,4 +1,4 @@
-use Rattle.std.proofs.Common.{◌≡◌, ap, is_some, ◌∙◌}
+use Rattle.std.proofs.Common.{ap, is_some, ◌∙◌}
 use Rattle.std.specs.FinMap.{contains_key}
 use Rattle.mc_flush.specs.Lists.{ListValue}
 use Rattle.mc_flush.proofs.Lookups.{lookup_kept}

@@ -1,4 +1,4 @@
-use Rattle.std.proofs.Common.{◌≡◌, ap, sym, ◌∙◌}
+use Rattle.std.proofs.Common.{ap, sym, ◌∙◌}
 use Rattle.std.specs.FinMap as map
 use Rattle.mc_flush.specs.Lists.{ListValue}
 use Rattle.mc_flush.proofs.Lookups.{len_kept}

@@ -1,0 +1,112 @@
+ghost use Rattle.std.specs.Prelude.{◌≡◌, ◌+◌, ◌≤◌, OnOk, OnErr};
+ghost use Rattle.std.specs.Option.{option_copied};
+ghost use Rattle.std.specs.List.{AllByRecursion};
+ghost use Rattle.std.specs.FinMap as map;
+ghost use Rattle.mc_land.specs.Land.{LandValue};
+ghost use Rattle.mc_flush.specs.Lists.{ListValue};
+ghost use Rattle.mc_flush.specs.Seeing.{IsNamed, IsReady};
+ghost use Rattle.mc_flush.specs.Encoding.{AreFrames, load_cost, nothing_encoded, with_load};
+ghost use Rattle.mc_flush.specs.Encoding.{with_players};
+
+#[cfg(test)]
+mod fields;
+
+use crate::PlayerList;
+use crate::columns::load_piece;
+use bytes::Bytes;
+use mc_land::{Land, Steps};
+use mc_nbt::NoMemory;
+use std::alloc::Global;
+use std::collections::BTreeMap;
+use std::marker::Model;
+use std::sync::ledger::Ledger;
+
+/// What is the same for all clients of a tick, encoded once, in pieces that each of them shares:
+/// the frames of who left and of who came since the last settling, and by place that of a column's
+/// load.
+#[derive(Drop)]
+pub struct Encoded {
+    /// The frames about players, where they were encoded.
+    players: Option<Bytes>,
+    /// By place, the frame that loads its column.
+    loads: BTreeMap<(i32, i32), Bytes>,
+}
+
+impl Model for Encoded {
+    ghost use Rattle.std.specs.FinMap.{from_entries};
+    ghost use Rattle.mc_flush.specs.Encoding.{EncodedValue, coded_encoded};
+
+    ghost Value = { EncodedValue };
+
+    ghost coded = { coded_encoded };
+
+    ghost view = { λ e. record { players = e.players; loads = from_entries e.loads.entries } };
+}
+
+impl Encoded {
+    /// Nothing was encoded.
+    pub fn new(alloc: Global) -> Encoded
+        ensures is { result ≡ nothing_encoded }
+        ensures frames { (land : LandValue) (list : ListValue) → AreFrames land list result }
+    {
+        Encoded {
+            players: None,
+            loads: BTreeMap::new(alloc),
+        }
+    }
+
+    /// Adds the frames of who left and of who came since the last settling. Without memory all is
+    /// as before.
+    pub fn add_players(&mut self, alloc: Global, list: &PlayerList) -> Result<(), NoMemory>
+        requires few { map.len list.now.present ≤ 50 }
+        requires few_before { map.len list.now.last ≤ 50 }
+        requires named { AllByRecursion IsNamed (map.entries list.now.present) }
+        ensures ok { OnOk result (self.new ≡ with_players self.old list.now) }
+        ensures err { OnErr result (self.new ≡ self.old) }
+        ensures frames { (land : LandValue) → AreFrames land list.now self.old
+            → AreFrames land list.now self.new }
+    {
+        let piece = list.changes(alloc)?;
+        self.players = Some(piece);
+        Ok(())
+    }
+
+    /// Adds the frame that loads the column of a place, and looks at its cells, unless it is there.
+    /// Without memory all is as before.
+    pub fn add_load<L: Ledger>(
+        &mut self,
+        alloc: Global,
+        land: &Land,
+        place: &(i32, i32),
+        steps: &mut Steps<L>,
+    ) -> Result<(), NoMemory>
+        requires { IsReady land.now place.now }
+        ensures ok { OnOk result (self.new ≡ with_load self.old land.now place.now) }
+        ensures err { OnErr result (self.new ≡ self.old) }
+        ensures frames { (list : ListValue) → AreFrames land.now list self.old
+            → AreFrames land.now list self.new }
+        ensures cost { OnOk result (steps.new ≡ steps.old + load_cost self.old place.now) }
+        ensures bounded { steps.new ≤ steps.old + load_cost self.old place.now }
+    {
+        if self.load(place).is_some() {
+            return Ok(());
+        }
+        let piece = load_piece(alloc, land, place, steps)?;
+        self.loads.insert(*place, piece)?;
+        Ok(())
+    }
+
+    /// The frames about players, None where they were not encoded.
+    pub(crate) fn players(&self) -> Option<&Bytes>
+        ensures { option_copied result ≡ self.now.players }
+    {
+        self.players.as_ref()
+    }
+
+    /// The frame that loads the column of a place, None where it was not encoded.
+    pub(crate) fn load(&self, place: &(i32, i32)) -> Option<&Bytes>
+        ensures { option_copied result ≡ map.get self.now.loads place.now }
+    {
+        self.loads.get(place)
+    }
+}
