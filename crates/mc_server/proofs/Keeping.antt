@@ -1,22 +1,28 @@
 -- What is true of the parts of a server stays, where one connection changes, comes or goes.
-use Rattle.std.proofs.Common.{◌≡◌, ℕ, ◌+◌, ◌≤◌, ◌<◌, List, [], ◌∷◌, ◌++◌, map, length, get_or, set, refl, sym, subst, ap, ◌∙◌, arith}
-use Rattle.std.specs.Prelude.{Bool, true, false, cond, Option, Some, None, not, ◌&&◌, ◌==◌, nat_lt}
+use Rattle.std.proofs.Common.{◌≡◌, ℕ, ◌+◌, ◌≤◌, ◌<◌, List, [], ◌∷◌, ◌++◌, map, length, get_or, set}
+use Rattle.std.proofs.Common.{refl, sym, subst, ap, ◌∙◌, arith}
+use Rattle.std.specs.Prelude.{Bool, true, false, cond, is_some, Option, Some, None, not, ◌&&◌, ◌==◌}
+use Rattle.std.specs.Prelude.{nat_lt}
 use Rattle.std.specs.List.{remove}
 use Rattle.std.proofs.lemmas.Bool.{ltb-true}
 use Rattle.mc_land.specs.Land.{LandValue}
-use Rattle.mc_model.specs.World.{World, Session, is_play}
-use Rattle.mc_flush.specs.Readying.{SameWorld}
+use Rattle.mc_model.specs.World.{World, Session}
 use Rattle.mc_model.specs.Orderly.{Rise, next_number}
-use Rattle.mc_model.specs.Step.{is_done, is_new, joining, is_crowded, shut, new_session}
+use Rattle.mc_model.specs.Step.{is_done, is_new, joining, is_crowded, mark_closed, new_session}
 use Rattle.mc_model.specs.declared.cause.Cause.TheVariants as causes
 use Rattle.mc_model.proofs.FitsText.{both_true}
 use Rattle.mc_model.proofs.RiseFacts.{rise_set, joined_rise, rise_filter}
 use Rattle.mc_server.specs.declared.settings.Settings.{Settings}
 use Rattle.mc_server.specs.Served.{ConnectionValue, ServerValue, AreKept, sessions_of, playing_of}
-use Rattle.mc_server.proofs.Places.{session_at, sessions_length, sessions_set, sessions_join, sessions_remove, placed_of, numbers_set, fewer_set, more_set, rise_ids, numbers_join, playing_join, numbers_remove, playing_remove, forgotten, forgotten_at}
+use Rattle.mc_server.proofs.Places.{session_at, sessions_length, sessions_set, sessions_join}
+use Rattle.mc_server.proofs.Places.{sessions_remove, placed_of, numbers_set, fewer_set, more_set}
+use Rattle.mc_server.proofs.Places.{rise_ids, numbers_join, playing_join, numbers_remove}
+use Rattle.mc_server.proofs.Places.{playing_remove, forgotten, forgotten_at}
 
 -- one changed at its place, with its number
-module _ {land : LandValue} {with_ : Settings} {eids : ℕ} {last : Option ℕ} {ids : List ℕ} (cs : List ConnectionValue) (kept : AreKept land with_ eids last ids (sessions_of cs)) (i : ℕ) (c t : ConnectionValue)
+module _ {land : LandValue} {with_ : Settings} {eids : ℕ} {last : Option ℕ} {ids : List ℕ}
+    (cs : List ConnectionValue) (kept : AreKept land with_ eids last ids (sessions_of cs)) (i : ℕ)
+    (c t : ConnectionValue)
     (lt : i < length cs) (is : c ≡ get_or cs i c) (same : t.session.id ≡ c.session.id) where
   within : i < length (sessions_of cs)
   within = let len = sessions_length cs in omega (arith, lt, len)
@@ -24,28 +30,37 @@ module _ {land : LandValue} {with_ : Settings} {eids : ℕ} {last : Option ℕ} 
   stands_at : (d : Session) → t.session.id ≡ (get_or (sessions_of cs) i d).id
   stands_at d = same ∙ sym (ap (λ (s : Session). s.id) (session_at cs i c d lt is))
 
-  with_few : (more : ℕ) → more ≤ 2147483647 → length (playing_of (set (sessions_of cs) i t.session)) ≤ with_.players → AreKept land with_ more last ids (sessions_of (set cs i t))
+  with_few : (more : ℕ) → more ≤ 2147483647 → length (playing_of (set (sessions_of cs) i t.session))
+      ≤ with_.players → AreKept land with_ more last ids (sessions_of (set cs i t))
   with_few more small few =
       let P : List Session → Type 0 = λ ss. AreKept land with_ more last ids ss in
       subst P (sym (sessions_set cs i t)) (record {
         own = kept.own;
         settings = kept.settings;
         eids = small;
-        rise = rise_set 0 (next_number last) (sessions_of cs) i t.session c.session within (stands_at c.session) kept.rise;
-        named = numbers_set (sessions_of cs) i t.session c.session within (stands_at c.session) ∙ kept.named;
+        rise = rise_set 0 (next_number last) (sessions_of cs)
+            i t.session c.session within (stands_at c.session) kept.rise;
+        named = numbers_set (sessions_of cs) i t.session c.session within (stands_at c.session) ∙
+            kept.named;
         few = few;
       })
 
   -- that comes to play no more than before
-  pub kept_set : (is_play t.session.stage ≡ true → is_play c.session.stage ≡ true) → AreKept land with_ eids last ids (sessions_of (set cs i t))
+  pub kept_set : (is_some t.session.player ≡ true → is_some c.session.player ≡ true) →
+      AreKept land with_ eids last ids (sessions_of (set cs i t))
   kept_set calm =
-      let fewer = fewer_set (sessions_of cs) i t.session c.session within (λ here. ap (λ (s : Session). is_play s.stage) (session_at cs i c c.session lt is) ∙ calm here) in
+      let fewer = fewer_set (sessions_of cs)
+      i t.session c.session within (λ here. ap (λ (s : Session). is_some s.player)
+      (session_at cs i c c.session lt is) ∙ calm here) in
       with_few eids kept.eids (let few = kept.few in omega (arith, few, fewer))
 
   -- that enters, where there is room
-  pub kept_enter : (nat_lt (length (playing_of (sessions_of cs))) with_.players && nat_lt eids 2147483647) ≡ true → AreKept land with_ (eids + 1) last ids (sessions_of (set cs i t))
+  pub kept_enter : (nat_lt (length (playing_of (sessions_of cs)))
+      with_.players && nat_lt eids 2147483647) ≡ true → AreKept land with_ (eids + 1)
+      last ids (sessions_of (set cs i t))
   kept_enter room =
-      let rooms = both_true (nat_lt (length (playing_of (sessions_of cs))) with_.players) (nat_lt eids 2147483647) room in
+      let rooms = both_true (nat_lt (length (playing_of (sessions_of cs))) with_.players)
+      (nat_lt eids 2147483647) room in
       let some = ltb-true (length (playing_of (sessions_of cs))) with_.players rooms.0 in
       let left_ = ltb-true eids 2147483647 rooms.1 in
       let more = more_set (sessions_of cs) i t.session in
@@ -53,33 +68,45 @@ module _ {land : LandValue} {with_ : Settings} {eids : ℕ} {last : Option ℕ} 
 
 -- ---- one that comes, and one that goes
 
-joining_waits : (w : World) (k : ℕ) → is_play (joining w k).stage ≡ false
-joining_waits w k = elim (is_crowded w) as (λ b. is_play (cond b (shut (new_session k) causes.Crowded) (new_session k)).stage ≡ false) [ true ↦ refl | false ↦ refl ]
+joining_waits : (w : World) (k : ℕ) → (joining w k).player ≡ None
+joining_waits w k = elim (is_crowded w) as (λ b.
+    (cond b (mark_closed (new_session k) causes.Crowded) (new_session k)).player ≡ None)
+    [ true ↦ refl | false ↦ refl ]
 
-pub kept_join : {land : LandValue} {with_ : Settings} {eids : ℕ} {last : Option ℕ} {ids : List ℕ} (cs : List ConnectionValue) → AreKept land with_ eids last ids (sessions_of cs) →
-    (w : World) (k : ℕ) (c : ConnectionValue) → c.session ≡ joining w k → is_new k last ≡ true → AreKept land with_ eids (Some k) (ids ++ c.session.id ∷ []) (sessions_of (cs ++ c ∷ []))
+pub kept_join : {land : LandValue} {with_ : Settings} {eids : ℕ} {last : Option ℕ} {ids : List ℕ}
+    (cs : List ConnectionValue) → AreKept land with_ eids last ids (sessions_of cs) →
+    (w : World) (k : ℕ) (c : ConnectionValue) → c.session ≡ joining w k → is_new k last ≡ true →
+    AreKept land with_ eids (Some k) (ids ++ c.session.id ∷ []) (sessions_of (cs ++ c ∷ []))
 kept_join {land} {with_} {eids} {last} {ids} cs kept w k c e new =
-    let P : List Session → Type 0 = λ ss. AreKept land with_ eids (Some k) (ids ++ c.session.id ∷ []) ss in
+    let P : List Session → Type 0 = λ ss. AreKept land with_ eids (Some k)
+    (ids ++ c.session.id ∷ []) ss in
     subst P (sym (sessions_join cs c)) (record {
       own = kept.own;
       settings = kept.settings;
       eids = kept.eids;
       rise = joined_rise w k last (sessions_of cs) c.session e new kept.rise;
-      named = numbers_join (sessions_of cs) c.session ∙ ap (λ (ns : List ℕ). ns ++ c.session.id ∷ []) kept.named;
+      named = numbers_join (sessions_of cs) c.session ∙
+          ap (λ (ns : List ℕ). ns ++ c.session.id ∷ []) kept.named;
       few = (
-          let same = ap length (playing_join (sessions_of cs) c.session (ap (λ (t : Session). is_play t.stage) e ∙ joining_waits w k)) in
+          let same = ap length (playing_join (sessions_of cs)
+          c.session (ap (λ (t : Session). t.player) e ∙ joining_waits w k)) in
           let few = kept.few in omega (arith, same, few));
     })
 
-pub forgotten_over : (high : ℕ) (cs : List ConnectionValue) (i : ℕ) (c : ConnectionValue) → Rise 0 (sessions_of cs) high → i < length cs → c ≡ get_or cs i c → is_done c.session ≡ true →
+pub forgotten_over : (high : ℕ) (cs : List ConnectionValue) (i : ℕ) (c : ConnectionValue) →
+    Rise 0 (sessions_of cs) high → i < length cs → c ≡ get_or cs i c → is_done c.session ≡ true →
     forgotten c.session.id (sessions_of cs) ≡ remove (sessions_of cs) i
 forgotten_over high cs i c rise lt is over =
     let placed = placed_of high cs i c rise lt is in
-    forgotten_at c.session.id 0 high (sessions_of cs) i c.session placed.within (placed.named c.session) rise
-    ∙ ap (λ (b : Bool). cond b (remove (sessions_of cs) i) (sessions_of cs)) (ap is_done (session_at cs i c c.session lt is) ∙ over)
+    forgotten_at c.session.id 0 high (sessions_of cs)
+    i c.session placed.within (placed.named c.session) rise
+    ∙ ap (λ (b : Bool). cond b (remove (sessions_of cs) i) (sessions_of cs))
+    (ap is_done (session_at cs i c c.session lt is) ∙ over)
 
-pub kept_forget : {land : LandValue} {with_ : Settings} {eids : ℕ} {last : Option ℕ} {ids : List ℕ} (cs : List ConnectionValue) → AreKept land with_ eids last ids (sessions_of cs) →
-    (i : ℕ) (c : ConnectionValue) → i < length cs → c ≡ get_or cs i c → is_done c.session ≡ true → AreKept land with_ eids last (remove ids i) (sessions_of (remove cs i))
+pub kept_forget : {land : LandValue} {with_ : Settings} {eids : ℕ} {last : Option ℕ} {ids : List ℕ}
+    (cs : List ConnectionValue) → AreKept land with_ eids last ids (sessions_of cs) →
+    (i : ℕ) (c : ConnectionValue) → i < length cs → c ≡ get_or cs i c → is_done c.session ≡ true →
+    AreKept land with_ eids last (remove ids i) (sessions_of (remove cs i))
 kept_forget {land} {with_} {eids} {last} {ids} cs kept i c lt is over =
     let P : List Session → Type 0 = λ ss. AreKept land with_ eids last (remove ids i) ss in
     let Q : List Session → Type 0 = λ ss. Rise 0 ss (next_number last) in
@@ -87,18 +114,25 @@ kept_forget {land} {with_} {eids} {last} {ids} cs kept i c lt is over =
       own = kept.own;
       settings = kept.settings;
       eids = kept.eids;
-      rise = subst Q (forgotten_over (next_number last) cs i c kept.rise lt is over) (rise_filter (λ (s : Session). not (s.id == c.session.id && is_done s)) 0 (next_number last) (sessions_of cs) kept.rise);
+      rise = subst Q (forgotten_over (next_number last) cs i c kept.rise lt is over)
+          (rise_filter (λ (s : Session). not (s.id == c.session.id && is_done s))
+          0 (next_number last) (sessions_of cs) kept.rise);
       named = numbers_remove (sessions_of cs) i ∙ ap (λ (ns : List ℕ). remove ns i) kept.named;
-      few = (let fewer = playing_remove (sessions_of cs) i in let few = kept.few in omega (arith, fewer, few));
+      few = (let fewer = playing_remove (sessions_of cs) i in let few = kept.few in
+          omega (arith, fewer, few));
     })
 
 -- ---- a tick
 
-pub kept_ticked : {land : LandValue} {with_ : Settings} {eids : ℕ} {last : Option ℕ} {ids : List ℕ} (cs : List ConnectionValue) → AreKept land with_ eids last ids (sessions_of cs) →
-    (next : LandValue) (now_ : List ConnectionValue) → SameWorld land next → map (λ (s : Session). s.id) (sessions_of now_) ≡ map (λ (s : Session). s.id) (sessions_of cs) →
-    length (playing_of (sessions_of now_)) ≤ length (playing_of (sessions_of cs)) → AreKept next with_ eids last ids (sessions_of now_)
+pub kept_ticked : {land : LandValue} {with_ : Settings} {eids : ℕ} {last : Option ℕ} {ids : List ℕ}
+    (cs : List ConnectionValue) → AreKept land with_ eids last ids (sessions_of cs) →
+    (next : LandValue) (now_ : List ConnectionValue) → next.terrain ≡ land.terrain →
+    map (λ (s : Session). s.id) (sessions_of now_) ≡ map (λ (s : Session). s.id)
+    (sessions_of cs) →
+    length (playing_of (sessions_of now_)) ≤ length (playing_of (sessions_of cs)) →
+    AreKept next with_ eids last ids (sessions_of now_)
 kept_ticked {last = last} cs kept next now_ same named fewer = record {
-  own = same.terrain ∙ kept.own;
+  own = same ∙ kept.own;
   settings = kept.settings;
   eids = kept.eids;
   rise = rise_ids 0 (next_number last) (sessions_of cs) (sessions_of now_) named kept.rise;
@@ -108,13 +142,17 @@ kept_ticked {last = last} cs kept next now_ same named fewer = record {
 
 -- ---- what is seen
 
-pub within_view : (i : ℕ) (v u : ServerValue) → v ≡ u → i < length u.connections → i < length v.connections
-within_view i v u same lt = let len = ap (λ (w : ServerValue). length w.connections) same in omega (arith, lt, len)
+pub within_view : (i : ℕ) (v u : ServerValue) → v ≡ u → i < length u.connections →
+    i < length v.connections
+within_view i v u same lt = let len = ap (λ (w : ServerValue). length w.connections) same in
+    omega (arith, lt, len)
 
-pub few_play : {land : LandValue} {with_ : Settings} {eids : ℕ} {last : Option ℕ} {ids : List ℕ} {ss : List Session} → AreKept land with_ eids last ids ss → length (playing_of ss) ≤ 50
+pub few_play : {land : LandValue} {with_ : Settings} {eids : ℕ} {last : Option ℕ} {ids : List ℕ}
+    {ss : List Session} → AreKept land with_ eids last ids ss → length (playing_of ss) ≤ 50
 few_play kept = let few = kept.few in let most_ = kept.settings.few in omega (arith, few, most_)
 
-pub room_eids : (playing_ most eids : ℕ) → (nat_lt playing_ most && nat_lt eids 2147483647) ≡ true → eids + 1 < 2147483648
+pub room_eids : (playing_ most eids : ℕ) → (nat_lt playing_ most && nat_lt eids 2147483647) ≡ true →
+    eids + 1 < 2147483648
 room_eids playing_ most eids room =
     let rooms = both_true (nat_lt playing_ most) (nat_lt eids 2147483647) room in
     let left_ = ltb-true eids 2147483647 rooms.1 in

@@ -9,6 +9,8 @@ pub mod Known
 pub mod Ages
 pub mod Sides
 pub mod Becoming
+pub mod FrameFacts
+pub mod ActFacts
 pub mod Reading
 pub mod Standing
 pub mod Came

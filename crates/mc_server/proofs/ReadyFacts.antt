@@ -1,29 +1,47 @@
--- Columns that are made ready stay so.
-use Rattle.std.proofs.Common.{◌≡◌, true, List, [], ◌∷◌, refl, sym, subst, ◌∙◌}
-use Rattle.std.specs.List.{AllByRecursion}
+-- Columns that are made ready stay so, and those that clients are to be shown are.
+use Rattle.std.proofs.Common.{◌≡◌, ℕ, zero, suc, ◌+◌, ◌<◌, true, List, [], ◌∷◌, ◌++◌, length, take}
+use Rattle.std.proofs.Common.{get_or, Some, None, refl, sym, subst, ap, ◌∙◌, arith}
+use Rattle.std.specs.List.{AllByRecursion, filter}
 use Rattle.std.specs.FinSet as set
 use Rattle.std.specs.Ordering.{eq_by_cmp}
-use Rattle.std.specs.Prelude.{Bool, false, ◌||◌}
+use Rattle.std.specs.Prelude.{Bool, false, not, ◌||◌}
+use Rattle.std.proofs.lemmas.List.{take_more}
 use Rattle.mc_land.specs.Places.{Place, place_cmp}
 use Rattle.mc_land.specs.Land.{LandValue, with_ready}
+use Rattle.mc_model.specs.Delta.{load}
+use Rattle.mc_model.specs.Packets.{frame_of, of_play}
+use Rattle.mc_flush.specs.Encoding.{AreFrames, EncodedValue, load_bytes}
+use Rattle.mc_flush.specs.Lists.{ListValue}
 use Rattle.mc_flush.specs.Readying.{SameWorld}
-use Rattle.mc_model.proofs.Orders.{places_total}
-use Rattle.mc_flush.specs.Seeing.{IsReady}
+use Rattle.mc_view.specs.declared.view_set.ViewSet.{ViewSet}
+use Rattle.mc_view.specs.Sets.{has}
+use Rattle.mc_view.specs.Views.{view_of, view_size, column_of_spot}
+use Rattle.mc_land.proofs.Orders.{places_total}
+use Rattle.mc_flush.specs.Seeing.{MarkValue, IsReady, loaded, placed_with}
+use Rattle.mc_model.specs.World.{Player}
+use Rattle.mc_server.specs.Served.{ConnectionValue}
+use Rattle.mc_server.specs.Ticking.{IsPrepared, new_columns}
 
 -- what is ready in one land is in another
 abbrev pub Grows : LandValue → LandValue → Type 0
 Grows old new = (place : Place) → IsReady old place → IsReady new place
 
--- all columns of a list are ready in each land that has those of another land and the rest of the list
+-- all columns of a list are ready in each land that has those of another land and the rest of the
+-- list
 abbrev pub IsReadying : LandValue → List Place → List Place → Type 0
-IsReadying land rest places = (other : LandValue) → Grows land other → AllByRecursion (IsReady other) rest → AllByRecursion (IsReady other) places
+IsReadying land rest places = (other : LandValue) → Grows land other →
+    AllByRecursion (IsReady other) rest → AllByRecursion (IsReady other) places
 
-pub readying_next : (old new : LandValue) (x : Place) (left rest places : List Place) → left ≡ x ∷ rest → Grows old new → IsReady new x → IsReadying old left places → IsReadying new rest places
+pub readying_next : (old new : LandValue) (x : Place) (left rest places : List Place) → left ≡ x ∷
+    rest → Grows old new → IsReady new x → IsReadying old left places → IsReadying new rest places
 readying_next old new x left rest places next grown ready is other more all =
-    is other (λ place there. more place (grown place there)) (subst (AllByRecursion (IsReady other)) (sym next) (more x ready, all))
+    is other (λ place there. more place (grown place there))
+    (subst (AllByRecursion (IsReady other)) (sym next) (more x ready, all))
 
-pub readying_done : (land : LandValue) (rest places : List Place) → rest ≡ [] → IsReadying land rest places → AllByRecursion (IsReady land) places
-readying_done land rest places none is = is land (λ place there. there) (subst (AllByRecursion (IsReady land)) (sym none) tt)
+pub readying_done : (land : LandValue) (rest places : List Place) → rest ≡ [] →
+    IsReadying land rest places → AllByRecursion (IsReady land) places
+readying_done land rest places none is = is land (λ place there. there)
+    (subst (AllByRecursion (IsReady land)) (sym none) tt)
 
 kept : (a b : Bool) → b ≡ true → (a || b) ≡ true
 kept true b t = refl
@@ -32,7 +50,8 @@ kept false b t = t
 pub ready_grown : (old : LandValue) (place : Place) → Grows old (with_ready old place)
 ready_grown old place other there = record {
   near = there.near;
-  ready = set.contains-insert places_total old.ready place other ∙ kept (eq_by_cmp place_cmp other place) (set.contains old.ready other) there.ready;
+  ready = set.contains-insert places_total old.ready place other ∙
+      kept (eq_by_cmp place_cmp other place) (set.contains old.ready other) there.ready;
 }
 
 pub same_itself : (land : LandValue) → SameWorld land land
@@ -45,3 +64,64 @@ same_onward a b c first second = record {
   settled = second.settled ∙ first.settled;
   chests = second.chests ∙ first.chests;
 }
+
+-- what was encoded stays so
+load_same : (old new : LandValue) (place : Place) → SameWorld old new → load_bytes old place ≡
+    load_bytes new place
+load_same old new place same =
+    sym (λ i. frame_of (of_play (load (placed_with (same.terrain i) (same.edits i) place))))
+
+pub frames_same : (old new : LandValue) (list : ListValue) (encoded : EncodedValue) →
+    SameWorld old new →
+    AreFrames old list encoded → AreFrames new list encoded
+frames_same old new list encoded same are = record {
+  players = are.players;
+  loads = λ place bytes there. are.loads place bytes there ∙ load_same old new place same;
+}
+
+-- ---- columns that clients are to be shown
+
+pub columns_are : (cap : ℕ) (player : Player) (mark : MarkValue) (view : ViewSet) →
+    (view.cx, view.cz) ≡ column_of_spot player.spot → view.d ≡ view_size cap player.view_byte →
+    loaded mark view ≡ new_columns cap player mark
+columns_are cap player None view middle d = λ i. view_of (middle i) (d i)
+columns_are cap player (Some old) view middle d =
+    λ i. filter (λ (place : Place). not (has old place)) (view_of (middle i) (d i))
+
+all_grown : (old new : LandValue) (places : List Place) → Grows old new →
+    AllByRecursion (IsReady old) places → AllByRecursion (IsReady new) places
+all_grown old new [] grown all = tt
+all_grown old new (place ∷ places) grown all =
+    (grown place all.0, all_grown old new places grown all.1)
+
+prepared_grown : (cap : ℕ) (old new : LandValue) (cs : List ConnectionValue) → Grows old new →
+    AllByRecursion (IsPrepared cap old) cs → AllByRecursion (IsPrepared cap new) cs
+prepared_grown cap old new [] grown all = tt
+prepared_grown cap old new (c ∷ cs) grown all =
+    (λ p here. all_grown old new _ grown (all.0 p here), prepared_grown cap old new cs grown all.1)
+
+prepared_more : (cap : ℕ) (land : LandValue) (cs : List ConnectionValue) (c : ConnectionValue) →
+    AllByRecursion (IsPrepared cap land) cs → IsPrepared cap land c →
+    AllByRecursion (IsPrepared cap land) (cs ++ c ∷ [])
+prepared_more cap land [] c all more = (more, tt)
+prepared_more cap land (d ∷ cs) c all more = (all.0, prepared_more cap land cs c all.1 more)
+
+-- one client more
+pub prepared_next : (cap : ℕ) (old new : LandValue) (cs : List ConnectionValue) (i : ℕ)
+    (c : ConnectionValue) → i < length cs → c ≡ get_or cs i c → Grows old new →
+    IsPrepared cap new c → AllByRecursion (IsPrepared cap old) (take i cs) →
+    AllByRecursion (IsPrepared cap new) (take (i + 1) cs)
+prepared_next cap old new cs i c lt is grown more all =
+    let first : take (i + 1) cs ≡ take i cs ++ c ∷ [] =
+    take_more cs i c lt ∙ ap (λ (d : ConnectionValue). take i cs ++ d ∷ []) (sym is) in
+    subst (AllByRecursion (IsPrepared cap new)) (sym first)
+    (prepared_more cap new (take i cs) c (prepared_grown cap old new (take i cs) grown all) more)
+
+-- each of them
+pub prepared_at : (cap : ℕ) (land : LandValue) (cs : List ConnectionValue) (i : ℕ)
+    (c : ConnectionValue) → i < length cs → c ≡ get_or cs i c →
+    AllByRecursion (IsPrepared cap land) cs → IsPrepared cap land c
+prepared_at cap land [] i c lt is all = absurd (omega (arith, lt))
+prepared_at cap land (d ∷ cs) zero c lt is all = subst (IsPrepared cap land) (sym is) all.0
+prepared_at cap land (d ∷ cs) (suc i) c lt is all =
+    prepared_at cap land cs i c (omega (arith, lt)) is all.1

@@ -1,35 +1,38 @@
 -- A server that stands for a world stands for what each event but bytes and a tick makes of it.
-use Rattle.std.proofs.Common.{◌≡◌, ℕ, ◌<◌, Bool, true, false, cond, List, [], ◌∷◌, ◌++◌, map, length, get_or, set, refl, sym, subst, ap, ◌∙◌, arith}
-use Rattle.std.specs.Prelude.{◌==◌, ◌&&◌, ◌+◌, not, drop, is_some, Option, Some, None, option_map, if◌then◌else◌}
+use Rattle.std.proofs.Common.{◌≡◌, ℕ, ◌<◌, Bool, true, false, cond, List, [], ◌∷◌, ◌++◌, map}
+use Rattle.std.proofs.Common.{length, get_or, set, refl, sym, subst, ap, ◌∙◌, arith}
+use Rattle.std.specs.Prelude.{◌==◌, ◌&&◌, ◌+◌, not, drop, is_some, unwrap_or, Option, Some, None}
+use Rattle.std.specs.Prelude.{option_map, if◌then◌else◌}
 use Rattle.std.specs.List.{filter, remove}
 use Rattle.std.specs.Option.{option_and_then}
 use Rattle.std.proofs.lemmas.List.{get_or_default}
 use Rattle.mc_frame.proofs.Stops.{nothing_part}
 use Rattle.mc_model.specs.declared.cause.Cause.TheVariants as causes
-use Rattle.mc_model.specs.Delta.{Pairs}
 use Rattle.mc_model.specs.Sight.{nothing_seen}
-use Rattle.mc_model.specs.World.{World, Session, found, is_play, is_closed}
+use Rattle.mc_model.specs.World.{World, Session, found, is_closed}
 use Rattle.mc_model.specs.Run.{cause_in}
 use Rattle.mc_model.specs.Orderly.{Rise, IsPlaced}
-use Rattle.mc_model.specs.Step.{joined, left, took, forgot, last_shown, step, gone, shut, changed, is_new, is_crowded, new_session, joining, join, is_done}
+use Rattle.mc_model.specs.Step.{joined, left, took, forgot, step, gone, mark_closed, changed}
+use Rattle.mc_model.specs.Step.{is_new, is_crowded, new_session, joining, join, is_done}
 use Rattle.mc_model.specs.Orderly.{Orderly}
 use Rattle.mc_model.proofs.RiseFacts.{placed_at, none_changed}
-use Rattle.mc_model.proofs.Handing.{not_both}
+use Rattle.mc_model.proofs.Handing.{HasPlayer}
 use Rattle.mc_model.proofs.RunEvents.{orderly_step}
-use Rattle.mc_flush.specs.Seeing.{StandsFor}
+use Rattle.mc_flush.specs.Seeing.{Parts, StandsFor, is_shown}
 use Rattle.mc_server.specs.Asking.{is_over, owed_of}
 use Rattle.mc_server.specs.Bare.{bare, bare_world}
-use Rattle.mc_server.specs.Served.{ConnectionValue, ServerValue, IsAt, kept_world, new_connection, sessions_of}
+use Rattle.mc_server.specs.Served.{ConnectionValue, ServerValue, IsAt, kept_world, new_connection}
+use Rattle.mc_server.specs.Served.{sessions_of, shown_parts, with_session}
 use Rattle.mc_server.specs.SideBySide.{SideBySide}
-use Rattle.mc_server.specs.Stands.{IsConnection, IsOpen, Stands}
+use Rattle.mc_server.specs.Stands.{IsConnection, IsOpen, Stands, shown_to}
 use Rattle.mc_server.proofs.Bare.{found_bare, ids_bare, gone_bare, joining_bare}
-use Rattle.mc_server.proofs.Becoming.{closed_waits}
 use Rattle.mc_server.proofs.Places.{placed_by, forgotten, forgotten_none, forgotten_at}
 use Rattle.mc_server.proofs.Sides.{side_length, side_at, side_set, side_remove, side_join}
 
 -- ---- the world that it stands for
 
-pub sessions_bare : (shown : Pairs) (cs : List ConnectionValue) (ss : List Session) → SideBySide (IsConnection shown) cs ss → sessions_of cs ≡ map bare ss
+pub sessions_bare : (shown : Parts) (cs : List ConnectionValue) (ss : List Session) →
+    SideBySide (IsConnection shown) cs ss → sessions_of cs ≡ map bare ss
 sessions_bare shown [] [] all = refl
 sessions_bare shown (c ∷ cs) (s ∷ ss) all = λ i. all.0.session i ∷ sessions_bare shown cs ss all.1 i
 sessions_bare shown [] (s ∷ ss) all = absurd all
@@ -44,10 +47,11 @@ stands_world v w st = λ i. record {
   cap = st.cap i;
   eids = st.eids i;
   last = st.last i;
-  sessions = sessions_bare v.list.present v.connections w.sessions st.connections i;
+  sessions = sessions_bare (shown_parts v) v.connections w.sessions st.connections i;
 }
 
-pub world_stands : (v : ServerValue) (w : World) → v.failed ≡ false → kept_world v ≡ bare_world w → SideBySide (IsConnection v.list.present) v.connections w.sessions → Orderly w → Stands v w
+pub world_stands : (v : ServerValue) (w : World) → v.failed ≡ false → kept_world v ≡ bare_world w →
+    SideBySide (IsConnection (shown_parts v)) v.connections w.sessions → Orderly w → Stands v w
 world_stands v w works kept side orderly = record {
   works = works;
   age = ap (λ (u : World). u.age) kept;
@@ -62,7 +66,10 @@ world_stands v w works kept side orderly = record {
 }
 
 -- with other connections
-stands_with : (v : ServerValue) (w : World) (cs : List ConnectionValue) (ss : List Session) → Stands v w → SideBySide (IsConnection v.list.present) cs ss → Orderly (record w { sessions = ss }) → Stands (record v { connections = cs }) (record w { sessions = ss })
+stands_with : (v : ServerValue) (w : World) (cs : List ConnectionValue) (ss : List Session) →
+    Stands v w → SideBySide (IsConnection (shown_parts v)) cs ss →
+    Orderly (record w { sessions = ss }) → Stands (record v { connections = cs })
+    (record w { sessions = ss })
 stands_with v w cs ss st side orderly = record {
   works = st.works;
   age = st.age;
@@ -82,25 +89,33 @@ rise_bare low high (s ∷ ss) r = (r.0, rise_bare (s.id + 1) high ss r.1)
 
 -- ---- the session of a connection at a place
 
-pub record Meets (shown : Pairs) (ss : List Session) (high i : ℕ) (c : ConnectionValue) : Type 0 where
+pub record Meets (shown : Parts) (ss : List Session) (high i : ℕ) (c : ConnectionValue)
+    : Type 0 where
   pub session : Session
   pub is : session ≡ get_or ss i session
   pub placed : IsPlaced c.session.id i ss
   pub rise : Rise 0 ss high
   pub stands : IsConnection shown c session
 
-pub meets : (shown : Pairs) (cs : List ConnectionValue) (ss : List Session) (high i : ℕ) (c : ConnectionValue) → Rise 0 (sessions_of cs) high → SideBySide (IsConnection shown) cs ss → i < length cs → c ≡ get_or cs i c → Meets shown ss high i c
+pub meets : (shown : Parts) (cs : List ConnectionValue) (ss : List Session) (high i : ℕ)
+    (c : ConnectionValue) → Rise 0 (sessions_of cs) high → SideBySide (IsConnection shown) cs ss →
+    i < length cs → c ≡ get_or cs i c → Meets shown ss high i c
 meets shown cs ss high i c rise side lt is =
     let s : Session = get_or ss i c.session in
     let Q : List Session → Type 0 = λ xs. Rise 0 xs high in
-    let rises : Rise 0 ss high = rise_bare 0 high ss (subst Q (sessions_bare shown cs ss side) rise) in
+    let rises : Rise 0 ss high = rise_bare 0 high ss (subst Q (sessions_bare shown cs ss side) rise)
+    in
     let P : ConnectionValue → Type 0 = λ d. IsConnection shown d s in
-    let stands : IsConnection shown c s = subst P (sym is) (side_at (IsConnection shown) cs ss i c c.session lt side) in
-    let within : i < length ss = (let len = side_length (IsConnection shown) cs ss side in omega (arith, lt, len)) in
+    let stands : IsConnection shown c s = subst P (sym is)
+    (side_at (IsConnection shown) cs ss i c c.session lt side) in
+    let within : i < length ss = (let len = side_length (IsConnection shown) cs ss side in
+    omega (arith, lt, len)) in
     record {
       session = s;
       is = get_or_default ss i c.session s within;
-      placed = placed_by c.session.id 0 high ss i rises within (λ d. ap (λ (t : Session). t.id) (get_or_default ss i d c.session within) ∙ sym (ap (λ (t : Session). t.id) stands.session));
+      placed = placed_by c.session.id 0 high ss i rises within
+          (λ d. ap (λ (t : Session). t.id) (get_or_default ss i d c.session within) ∙
+          sym (ap (λ (t : Session). t.id) stands.session));
       rise = rises;
       stands = stands;
     }
@@ -109,8 +124,11 @@ some_not : (s : Session) → ◌≡◌ {A = Option Session} None (Some s) → �
 some_not s e = cc
 
 -- one that is not kept is not there
-pub none_there : (v : ServerValue) (w : World) (k : ℕ) → Stands v w → found k (sessions_of v.connections) ≡ None → found k w.sessions ≡ None
-none_there v w k st none = test (found k w.sessions) (sym (found_bare k w.sessions) ∙ ap (found k) (sym (sessions_bare v.list.present v.connections w.sessions st.connections)) ∙ none)
+pub none_there : (v : ServerValue) (w : World) (k : ℕ) → Stands v w →
+    found k (sessions_of v.connections) ≡ None → found k w.sessions ≡ None
+none_there v w k st none = test (found k w.sessions)
+    (sym (found_bare k w.sessions) ∙ ap (found k)
+    (sym (sessions_bare (shown_parts v) v.connections w.sessions st.connections)) ∙ none)
   where
     test : (o : Option Session) → option_map bare o ≡ None → o ≡ None
     test None e = refl
@@ -118,126 +136,187 @@ none_there v w k st none = test (found k w.sessions) (sym (found_bare k w.sessio
 
 -- ---- what is asked
 
-pub asked : {A : Type 0} (f : Option Session → A) → ((s : Session) → f (Some (bare s)) ≡ f (Some s)) → (v : ServerValue) (w : World) (k : ℕ) → Stands v w → f (found k (sessions_of v.connections)) ≡ f (found k w.sessions)
-asked f same v w k st = ap (λ (ss : List Session). f (found k ss)) (sessions_bare v.list.present v.connections w.sessions st.connections) ∙ ap f (found_bare k w.sessions) ∙ each (found k w.sessions)
+pub asked : {A : Type 0} (f : Option Session → A) → ((s : Session) → f (Some (bare s)) ≡ f (Some s))
+    → (v : ServerValue) (w : World) (k : ℕ) → Stands v w → f (found k (sessions_of v.connections)) ≡
+    f (found k w.sessions)
+asked f same v w k st = ap (λ (ss : List Session). f (found k ss))
+    (sessions_bare (shown_parts v) v.connections w.sessions st.connections) ∙
+    ap f (found_bare k w.sessions) ∙ each (found k w.sessions)
   where
     each : (o : Option Session) → f (option_map bare o) ≡ f o
     each None = refl
     each (Some s) = same s
 
-pub asked_done : (v : ServerValue) (w : World) (k : ℕ) → Stands v w → is_over (found k (sessions_of v.connections)) ≡ is_over (found k w.sessions)
+pub asked_done : (v : ServerValue) (w : World) (k : ℕ) → Stands v w →
+    is_over (found k (sessions_of v.connections)) ≡ is_over (found k w.sessions)
 asked_done = asked is_over (λ s. refl)
 
-pub asked_owed : (v : ServerValue) (w : World) (k : ℕ) → Stands v w → owed_of (found k (sessions_of v.connections)) ≡ owed_of (found k w.sessions)
+pub asked_owed : (v : ServerValue) (w : World) (k : ℕ) → Stands v w →
+    owed_of (found k (sessions_of v.connections)) ≡ owed_of (found k w.sessions)
 asked_owed = asked owed_of (λ s. refl)
 
-pub asked_cause : (v : ServerValue) (w : World) (k : ℕ) → Stands v w → option_and_then (λ (s : Session). s.cause) (found k (sessions_of v.connections)) ≡ cause_in k w
+pub asked_cause : (v : ServerValue) (w : World) (k : ℕ) → Stands v w →
+    option_and_then (λ (s : Session). s.cause) (found k (sessions_of v.connections)) ≡ cause_in k w
 asked_cause = asked (option_and_then (λ (s : Session). s.cause)) (λ s. refl)
 
-pub asked_ids : (v : ServerValue) (w : World) → Stands v w → map (λ (s : Session). s.id) (sessions_of v.connections) ≡ map (λ (s : Session). s.id) w.sessions
-asked_ids v w st = ap (map (λ (s : Session). s.id)) (sessions_bare v.list.present v.connections w.sessions st.connections) ∙ ids_bare w.sessions
+pub asked_ids : (v : ServerValue) (w : World) → Stands v w → map (λ (s : Session). s.id)
+    (sessions_of v.connections) ≡ map (λ (s : Session). s.id) w.sessions
+asked_ids v w st = ap (map (λ (s : Session). s.id))
+    (sessions_bare (shown_parts v) v.connections w.sessions st.connections) ∙ ids_bare w.sessions
 
 -- ---- one connection changed
 
-changed_stands : (v : ServerValue) (w : World) (high k i : ℕ) (c t : ConnectionValue) (f : Session → Session) → Rise 0 (sessions_of v.connections) high → IsAt k i v.connections → c ≡ get_or v.connections i c →
-    ((s : Session) → IsConnection v.list.present c s → IsConnection v.list.present t (f s)) → Orderly (changed w k f) → Stands v w → Stands (record v { connections = set v.connections i t }) (changed w k f)
+changed_stands : (v : ServerValue) (w : World) (high k i : ℕ) (c t : ConnectionValue)
+    (f : Session → Session) → Rise 0 (sessions_of v.connections) high → IsAt k i v.connections → c ≡
+    get_or v.connections i c →
+    ((s : Session) → IsConnection (shown_parts v) c s → IsConnection (shown_parts v) t (f s)) →
+    Orderly (changed w k f) → Stands v w →
+    Stands (record v { connections = set v.connections i t }) (changed w k f)
 changed_stands v w high k i c t f rise at is keeps orderly st =
-    let m = meets v.list.present v.connections w.sessions high i c rise st.connections at.within is in
+    let m = meets (shown_parts v) v.connections w.sessions high i c rise st.connections at.within is
+    in
     let named : c.session.id ≡ k = ap (λ (d : ConnectionValue). d.session.id) is ∙ at.named c in
-    let placed : IsPlaced k i w.sessions = subst (λ (n : ℕ). IsPlaced n i w.sessions) named m.placed in
+    let placed : IsPlaced k i w.sessions = subst (λ (n : ℕ). IsPlaced n i w.sessions)
+    named m.placed in
     stands_with v w (set v.connections i t) (changed w k f).sessions st
-    (subst (SideBySide (IsConnection v.list.present) (set v.connections i t)) (placed_at k i high w.sessions f m.session (f m.session) placed m.rise m.is refl)
-    (side_set (IsConnection v.list.present) v.connections w.sessions i t (f m.session) (keeps m.session m.stands) st.connections)) orderly
+    (subst (SideBySide (IsConnection (shown_parts v)) (set v.connections i t))
+    (placed_at k i high w.sessions f m.session (f m.session) placed m.rise m.is refl)
+    (side_set (IsConnection (shown_parts v)) v.connections w.sessions i t (f m.session)
+    (keeps m.session m.stands) st.connections)) orderly
 
-absent_stands : (v : ServerValue) (w : World) (k : ℕ) (f : Session → Session) → found k (sessions_of v.connections) ≡ None → Stands v w → Stands v (changed w k f)
+absent_stands : (v : ServerValue) (w : World) (k : ℕ) (f : Session → Session) →
+    found k (sessions_of v.connections) ≡ None → Stands v w → Stands v (changed w k f)
 absent_stands v w k f none st = subst (Stands v) (none_changed w k f (none_there v w k st none)) st
 
 not_open : (s : Session) → is_closed s.stage ≡ true → is_closed s.stage ≡ false → ⊥
-not_open s shut open_ = let clash : true ≡ false = sym shut ∙ open_ in cc
+not_open s mark_closed open_ = let clash : true ≡ false = sym mark_closed ∙ open_ in cc
 
 gone_closed : (s : Session) → is_closed (gone s).stage ≡ true
-gone_closed s = elim (is_closed s.stage) as (λ b. is_closed s.stage ≡ b → is_closed (if b then record s { owed = [] } else record (shut s causes.Gone) { owed = [] }).stage ≡ true) [ true ↦ λ e. e | false ↦ λ e. refl ] refl
+gone_closed s = elim (is_closed s.stage)
+    as (λ b. is_closed s.stage ≡ b → is_closed
+    (if b then record s { owed = [] } else record (mark_closed s causes.Gone) { owed = [] }).stage ≡
+    true) [ true ↦ λ e. e | false ↦ λ e. refl ] refl
 
-pub left_stands : (v : ServerValue) (w : World) (high k i : ℕ) (c t : ConnectionValue) → Rise 0 (sessions_of v.connections) high → IsAt k i v.connections → c ≡ get_or v.connections i c →
-    t ≡ record c { session = gone c.session } → Stands v w → Stands (record v { connections = set v.connections i t }) (step w (left k)).world
+gone_plays : (s : Session) → HasPlayer s → HasPlayer (gone s)
+gone_plays s has = elim (is_closed s.stage)
+    as (λ b. HasPlayer (if b then record s { owed = [] } else record (mark_closed s causes.Gone)
+    { owed = [] })) [ true ↦ has | false ↦ refl ]
+
+pub left_stands : (v : ServerValue) (w : World) (high k i : ℕ) (c t : ConnectionValue) →
+    Rise 0 (sessions_of v.connections) high → IsAt k i v.connections → c ≡
+    get_or v.connections i c →
+    t ≡ with_session c (gone c.session) → Stands v w →
+    Stands (record v { connections = set v.connections i t }) (step w (left k)).world
 unfolding step
 left_stands v w high k i c t rise at is made st =
     changed_stands v w high k i c t gone rise at is (λ s stands. record {
-      session = ap (λ (d : ConnectionValue). d.session) made ∙ ap gone stands.session ∙ sym (gone_bare s);
+      session = ap (λ (d : ConnectionValue). d.session) made ∙ ap gone stands.session ∙
+          sym (gone_bare s);
       is_open = λ open_. absurd (not_open (gone s) (gone_closed s) open_);
+      plays = gone_plays s stands.plays;
     }) (orderly_step w (left k) st.orderly) st
 
-pub left_none : (v : ServerValue) (w : World) (k : ℕ) → found k (sessions_of v.connections) ≡ None → Stands v w → Stands v (step w (left k)).world
+pub left_none : (v : ServerValue) (w : World) (k : ℕ) → found k (sessions_of v.connections) ≡ None →
+    Stands v w → Stands v (step w (left k)).world
 unfolding step
 left_none v w k none st = absent_stands v w k gone none st
 
 -- an open connection of which nothing else changed
-open_same : (shown : Pairs) (c t : ConnectionValue) (s : Session) (owed : List ℕ) → t.splitter ≡ c.splitter → t.mark ≡ c.mark → IsOpen shown c s → IsOpen shown t (record s { owed = owed })
+open_same : (shown : Parts) (c t : ConnectionValue) (s : Session) (owed : List ℕ) → t.splitter ≡
+    c.splitter → t.mark ≡ c.mark → IsOpen shown c s → IsOpen shown t (record s { owed = owed })
 open_same shown c t s owed splitter mark is = record {
   held = ap (λ x. x.held) splitter ∙ is.held;
   before = ap (λ x. x.before) splitter ∙ is.before;
   fine = ap (λ x. x.fault) splitter ∙ is.fine;
   part = is.part;
-  opened = ap (λ x. is_some x.shown) mark ∙ is.opened;
-  shows = subst (λ x. StandsFor x.shown shown (last_shown s)) (sym mark) is.shows;
-  unseen = is.unseen;
+  opened = ap is_shown mark ∙ is.opened;
+  shows = subst (λ x. StandsFor x shown (unwrap_or (shown_to s.player) nothing_seen)) (sym mark)
+      is.shows;
 }
 
-pub took_stands : (v : ServerValue) (w : World) (high k i n : ℕ) (c t : ConnectionValue) → Rise 0 (sessions_of v.connections) high → IsAt k i v.connections → c ≡ get_or v.connections i c →
-    t ≡ record c { session = record c.session { owed = drop n c.session.owed } } → Stands v w → Stands (record v { connections = set v.connections i t }) (step w (took k n)).world
+pub took_stands : (v : ServerValue) (w : World) (high k i n : ℕ) (c t : ConnectionValue) →
+    Rise 0 (sessions_of v.connections) high → IsAt k i v.connections → c ≡
+    get_or v.connections i c →
+    t ≡ record c { session = record c.session { owed = drop n c.session.owed } } → Stands v w →
+    Stands (record v { connections = set v.connections i t }) (step w (took k n)).world
 unfolding step
 took_stands v w high k i n c t rise at is made st =
     let f : Session → Session = λ s. record s { owed = drop n s.owed } in
     changed_stands v w high k i c t f rise at is (λ s stands. record {
       session = ap (λ (d : ConnectionValue). d.session) made ∙ ap f stands.session;
-      is_open = λ open_. open_same v.list.present c t s (drop n s.owed) (ap (λ (d : ConnectionValue). d.splitter) made) (ap (λ (d : ConnectionValue). d.mark) made) (stands.is_open open_);
+      is_open = λ open_. open_same (shown_parts v) c t s (drop n s.owed)
+          (ap (λ (d : ConnectionValue). d.splitter) made)
+          (ap (λ (d : ConnectionValue). d.mark) made) (stands.is_open open_);
+      plays = stands.plays;
     }) (orderly_step w (took k n) st.orderly) st
 
-pub took_none : (v : ServerValue) (w : World) (k n : ℕ) → found k (sessions_of v.connections) ≡ None → Stands v w → Stands v (step w (took k n)).world
+pub took_none : (v : ServerValue) (w : World) (k n : ℕ) → found k (sessions_of v.connections) ≡
+    None → Stands v w → Stands v (step w (took k n)).world
 unfolding step
-took_none v w k n none st = absent_stands v w k (λ (s : Session). record s { owed = drop n s.owed }) none st
+took_none v w k n none st = absent_stands v w k (λ (s : Session). record s { owed = drop n s.owed })
+    none st
 
 -- ---- one less
 
-forgotten_is : (v : ServerValue) (w : World) (high k i : ℕ) (c : ConnectionValue) → Rise 0 (sessions_of v.connections) high → IsAt k i v.connections → c ≡ get_or v.connections i c → Stands v w →
+forgotten_is : (v : ServerValue) (w : World) (high k i : ℕ) (c : ConnectionValue) →
+    Rise 0 (sessions_of v.connections) high → IsAt k i v.connections → c ≡
+    get_or v.connections i c → Stands v w →
     forgotten k w.sessions ≡ cond (is_done c.session) (remove w.sessions i) w.sessions
 forgotten_is v w high k i c rise at is st =
-    let m = meets v.list.present v.connections w.sessions high i c rise st.connections at.within is in
+    let m = meets (shown_parts v) v.connections w.sessions high i c rise st.connections at.within is
+    in
     let named : c.session.id ≡ k = ap (λ (d : ConnectionValue). d.session.id) is ∙ at.named c in
-    let placed : IsPlaced k i w.sessions = subst (λ (n : ℕ). IsPlaced n i w.sessions) named m.placed in
-    let done : is_done (get_or w.sessions i m.session) ≡ is_done c.session = ap is_done (sym m.is) ∙ sym (ap is_done m.stands.session) in
-    forgotten_at k 0 high w.sessions i m.session placed.within (placed.named m.session) m.rise ∙ ap (λ (b : Bool). cond b (remove w.sessions i) w.sessions) done
+    let placed : IsPlaced k i w.sessions = subst (λ (n : ℕ). IsPlaced n i w.sessions)
+    named m.placed in
+    let done : is_done (get_or w.sessions i m.session) ≡ is_done c.session = ap is_done (sym m.is) ∙
+    sym (ap is_done m.stands.session) in
+    forgotten_at k 0 high w.sessions i m.session placed.within (placed.named m.session) m.rise ∙
+    ap (λ (b : Bool). cond b (remove w.sessions i) w.sessions) done
 
-pub forgot_stands : (v : ServerValue) (w : World) (high k i : ℕ) (c : ConnectionValue) → Rise 0 (sessions_of v.connections) high → IsAt k i v.connections → c ≡ get_or v.connections i c → is_done c.session ≡ true →
-    Stands v w → Stands (record v { connections = remove v.connections i }) (step w (forgot k)).world
+pub forgot_stands : (v : ServerValue) (w : World) (high k i : ℕ) (c : ConnectionValue) →
+    Rise 0 (sessions_of v.connections) high → IsAt k i v.connections → c ≡
+    get_or v.connections i c → is_done c.session ≡ true →
+    Stands v w → Stands (record v { connections = remove v.connections i })
+    (step w (forgot k)).world
 unfolding step
 forgot_stands v w high k i c rise at is done st =
-    let same : forgotten k w.sessions ≡ remove w.sessions i = forgotten_is v w high k i c rise at is st ∙ ap (λ (b : Bool). cond b (remove w.sessions i) w.sessions) done in
+    let same : forgotten k w.sessions ≡ remove w.sessions i =
+    forgotten_is v w high k i c rise at is st ∙
+    ap (λ (b : Bool). cond b (remove w.sessions i) w.sessions) done in
     stands_with v w (remove v.connections i) (forgotten k w.sessions) st
-    (subst (SideBySide (IsConnection v.list.present) (remove v.connections i)) (sym same) (side_remove (IsConnection v.list.present) v.connections w.sessions i st.connections))
+    (subst (SideBySide (IsConnection (shown_parts v)) (remove v.connections i)) (sym same)
+    (side_remove (IsConnection (shown_parts v)) v.connections w.sessions i st.connections))
     (orderly_step w (forgot k) st.orderly)
 
-pub forgot_still : (v : ServerValue) (w : World) (high k i : ℕ) (c : ConnectionValue) → Rise 0 (sessions_of v.connections) high → IsAt k i v.connections → c ≡ get_or v.connections i c → is_done c.session ≡ false →
+pub forgot_still : (v : ServerValue) (w : World) (high k i : ℕ) (c : ConnectionValue) →
+    Rise 0 (sessions_of v.connections) high → IsAt k i v.connections → c ≡
+    get_or v.connections i c → is_done c.session ≡ false →
     Stands v w → Stands v (step w (forgot k)).world
 unfolding step
 forgot_still v w high k i c rise at is done st =
-    let same : forgotten k w.sessions ≡ w.sessions = forgotten_is v w high k i c rise at is st ∙ ap (λ (b : Bool). cond b (remove w.sessions i) w.sessions) done in
+    let same : forgotten k w.sessions ≡ w.sessions = forgotten_is v w high k i c rise at is st ∙
+    ap (λ (b : Bool). cond b (remove w.sessions i) w.sessions) done in
     subst (λ (ss : List Session). Stands v (record w { sessions = ss })) (sym same) st
 
-pub forgot_none : (v : ServerValue) (w : World) (k : ℕ) → found k (sessions_of v.connections) ≡ None → Stands v w → Stands v (step w (forgot k)).world
+pub forgot_none : (v : ServerValue) (w : World) (k : ℕ) → found k (sessions_of v.connections) ≡
+    None → Stands v w → Stands v (step w (forgot k)).world
 unfolding step
-forgot_none v w k none st = subst (λ (ss : List Session). Stands v (record w { sessions = ss })) (sym (forgotten_none k w.sessions (none_there v w k st none))) st
+forgot_none v w k none st = subst (λ (ss : List Session). Stands v (record w { sessions = ss }))
+    (sym (forgotten_none k w.sessions (none_there v w k st none))) st
 
 -- ---- one more
 
-joined_world : (w : World) (k : ℕ) (b : Bool) → is_new k w.last ≡ b → join w k ≡ (if b then record w { last = Some k; sessions = w.sessions ++ joining w k ∷ [] } else w)
-joined_world w k b e = ap (λ (t : Bool). if t then record w { last = Some k; sessions = w.sessions ++ joining w k ∷ [] } else w) e
+joined_world : (w : World) (k : ℕ) (b : Bool) → is_new k w.last ≡ b → join w k ≡
+    (if b then record w { last = Some k; sessions = w.sessions ++ joining w k ∷ [] } else w)
+joined_world w k b e = ap (λ (t : Bool). if t then record w
+    { last = Some k; sessions = w.sessions ++ joining w k ∷ [] } else w) e
 
-nothing_shown : (shown : Pairs) → StandsFor None shown nothing_seen
+nothing_shown : (shown : Parts) → StandsFor None shown nothing_seen
 unfolding StandsFor
 nothing_shown shown = refl
 
-new_open : (shown : Pairs) (k : ℕ) (s : Session) → IsOpen shown (record (new_connection k) { session = s }) (new_session k)
+new_open : (shown : Parts) (k : ℕ) (s : Session) →
+    IsOpen shown (record (new_connection k) { session = s }) (new_session k)
 new_open shown k s = record {
   held = refl;
   before = refl;
@@ -245,26 +324,47 @@ new_open shown k s = record {
   part = nothing_part;
   opened = refl;
   shows = nothing_shown shown;
-  unseen = λ waits. refl;
 }
 
-joining_open : (shown : Pairs) (w : World) (k : ℕ) (s : Session) → is_closed (joining w k).stage ≡ false → IsOpen shown (record (new_connection k) { session = s }) (joining w k)
-joining_open shown w k s = elim (is_crowded w) as (λ b. is_closed (if b then shut (new_session k) causes.Crowded else new_session k).stage ≡ false →
-    IsOpen shown (record (new_connection k) { session = s }) (if b then shut (new_session k) causes.Crowded else new_session k)) [
-      | true ↦ λ open_. absurd (not_open (shut (new_session k) causes.Crowded) refl open_)
+joining_open : (shown : Parts) (w : World) (k : ℕ) (s : Session) → is_closed (joining w k).stage ≡
+    false → IsOpen shown (record (new_connection k) { session = s }) (joining w k)
+joining_open shown w k s = elim (is_crowded w)
+    as (λ b. is_closed (if b then mark_closed (new_session k)
+    causes.Crowded else new_session k).stage ≡ false →
+    IsOpen shown (record (new_connection k) { session = s })
+    (if b then mark_closed (new_session k) causes.Crowded else new_session k)) [
+      | true ↦ λ open_. absurd (not_open (mark_closed (new_session k) causes.Crowded) refl open_)
       | false ↦ λ open_. new_open shown k s
     ]
 
-pub joined_stands : (v : ServerValue) (w : World) (k : ℕ) (c : ConnectionValue) → c ≡ record (new_connection k) { session = joining (kept_world v) k } → is_new k v.last ≡ true → Stands v w →
-    Stands (record v { last = Some k; connections = v.connections ++ c ∷ [] }) (step w (joined k)).world
+joining_plays : (w : World) (k : ℕ) → HasPlayer (joining w k)
+joining_plays w k = elim (is_crowded w) as (λ b. HasPlayer
+    (if b then mark_closed (new_session k) causes.Crowded else new_session k))
+    [ true ↦ refl | false ↦ refl ]
+
+pub joined_stands : (v : ServerValue) (w : World) (k : ℕ) (c : ConnectionValue) → c ≡
+    record (new_connection k) { session = joining (kept_world v) k } → is_new k v.last ≡ true →
+    Stands v w →
+    Stands (record v { last = Some k; connections = v.connections ++ c ∷ [] })
+    (step w (joined k)).world
 unfolding step
 joined_stands v w k c made new st =
-    let is : joining (kept_world v) k ≡ bare (joining w k) = ap (λ (u : World). joining u k) (stands_world v w st) ∙ sym (joining_bare w k) in
-    let stands : IsConnection v.list.present (record (new_connection k) { session = joining (kept_world v) k }) (joining w k) = record { session = is; is_open = joining_open v.list.present w k (joining (kept_world v) k) } in
-    let P : ConnectionValue → Type 0 = λ d. IsConnection v.list.present d (joining w k) in
+    let is : joining (kept_world v) k ≡ bare (joining w k) = ap (λ (u : World). joining u k)
+    (stands_world v w st) ∙ sym (joining_bare w k) in
+    let stands : IsConnection (shown_parts v)
+    (record (new_connection k) { session = joining (kept_world v) k }) (joining w k) =
+    record {
+      session = is;
+      is_open = joining_open (shown_parts v)
+          w k (joining (kept_world v) k);
+      plays = joining_plays w k;
+    } in
+    let P : ConnectionValue → Type 0 = λ d. IsConnection (shown_parts v) d (joining w k) in
     let Q : World → Type 0 = λ u. Orderly u in
-    let world : join w k ≡ record w { last = Some k; sessions = w.sessions ++ joining w k ∷ [] } = joined_world w k true (ap (is_new k) (sym st.last) ∙ new) in
-    subst (Stands (record v { last = Some k; connections = v.connections ++ c ∷ [] })) (sym world) (record {
+    let world : join w k ≡ record w { last = Some k; sessions = w.sessions ++ joining w k ∷ [] } =
+    joined_world w k true (ap (is_new k) (sym st.last) ∙ new) in
+    subst (Stands (record v { last = Some k; connections = v.connections ++ c ∷ [] })) (sym world)
+    (record {
       works = st.works;
       age = st.age;
       terrain = st.terrain;
@@ -273,14 +373,19 @@ joined_stands v w k c made new st =
       cap = st.cap;
       eids = st.eids;
       last = refl;
-      connections = side_join (IsConnection v.list.present) v.connections w.sessions c (joining w k) (subst P (sym made) stands) st.connections;
+      connections = side_join (IsConnection (shown_parts v))
+          v.connections w.sessions c (joining w k) (subst P (sym made) stands) st.connections;
       orderly = subst Q world (orderly_step w (joined k) st.orderly);
     })
 
-pub old_stands : (v : ServerValue) (w : World) (k : ℕ) → is_new k v.last ≡ false → Stands v w → Stands v (step w (joined k)).world
+pub old_stands : (v : ServerValue) (w : World) (k : ℕ) → is_new k v.last ≡ false → Stands v w →
+    Stands v (step w (joined k)).world
 unfolding step
-old_stands v w k old st = subst (Stands v) (sym (joined_world w k false (ap (is_new k) (sym st.last) ∙ old))) st
+old_stands v w k old st = subst (Stands v)
+    (sym (joined_world w k false (ap (is_new k) (sym st.last) ∙ old))) st
 
 -- one that left is not in play
-pub gone_calm : (s : Session) → is_play (gone s).stage ≡ true → is_play s.stage ≡ true
-gone_calm s plays = absurd (not_both (is_play (gone s).stage) plays (closed_waits (gone s) (gone_closed s)))
+pub gone_calm : (s : Session) → is_some (gone s).player ≡ true → is_some s.player ≡ true
+gone_calm s = elim (is_closed s.stage) as (λ b. is_some
+    (if b then record s { owed = [] } else record (mark_closed s causes.Gone) { owed = [] }).player
+    ≡ true → is_some s.player ≡ true) [ true ↦ λ plays. plays | false ↦ λ plays. absurd cc ]

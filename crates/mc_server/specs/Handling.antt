@@ -1,26 +1,38 @@
--- What a frame makes of a connection.
-use Rattle.std.specs.Prelude.{◌≡◌, ◌≢◌, ℕ, List, Option, Some, None}
-use Rattle.mc_land.specs.declared.terrain.Terrain.{Terrain}
+-- What a frame makes of its connection, and what is left to be done about it then.
+use Rattle.std.specs.Prelude.{Option, Some, None, length, List, ℕ}
 use Rattle.mc_model.specs.declared.cause.Cause.{Cause}
 use Rattle.mc_model.specs.declared.stage.Stage.{Stage}
 use Rattle.mc_model.specs.declared.stage.Stage.TheVariants as stages
-use Rattle.mc_model.specs.World.{Session}
-use Rattle.mc_model.specs.Talk.{Said, greets, ends, enters}
+use Rattle.mc_model.specs.World.{World, Session, players}
+use Rattle.mc_model.specs.Talk.{ClientRequest, greets, ends, enters, acts, request_of}
 use Rattle.mc_model.specs.Handled.{handled}
+use Rattle.mc_server.specs.declared.connection.pending.Pending.{Pending}
+use Rattle.mc_server.specs.declared.connection.pending.Pending.TheVariants.{Login, Act}
+
+-- what a frame of a connection of a world comes to
+abbrev pub request_in : World → Session → List ℕ → ClientRequest
+request_in w s frame = request_of s.stage w.most (length (players w)) frame
 
 -- how far a connection has come: one that has a cause is closed
 abbrev pub stage_of : Option Cause → Stage → Stage
 stage_of None stage = stage
 stage_of (Some cause) stage = stages.Closed
 
--- a connection once its stage and its protocol are as a frame has them, and before anything else is done about it
-abbrev pub decoded : Session → Said → Session
+-- a connection once its stage and its protocol are as a frame has them, and before anything else is
+-- done about it
+abbrev pub decoded : Session → ClientRequest → Session
 decoded s (greets protocol stage) = record s { stage = stage; protocol = protocol }
 decoded s (ends packet) = record s { stage = stages.Closed }
 decoded s (enters name) = record s { stage = stages.Asked }
 decoded s other = s
 
--- what a frame makes of a connection: all that it comes to but logging in, or the client asks to play under a name
-abbrev pub Handles : Terrain → Said → Session → Option (List ℕ) → Session → Type 0
-Handles terrain said s None t = ((name : List ℕ) → said ≢ enters name) × (t ≡ (handled terrain s said).session)
-Handles terrain said s (Some name) t = (said ≡ enters name) × (t ≡ record s { stage = stages.Asked })
+-- what is left to be done once a connection did its part: whatever reaches beyond it
+abbrev pub pending_of : ClientRequest → Option Pending
+pending_of (enters name) = Some (Login name)
+pending_of (acts packet) = Some (Act packet)
+pending_of other = None
+
+-- a connection that did its part: its client waits for an answer where it asked to play
+abbrev pub after_request : Session → ClientRequest → Session
+after_request s (enters name) = record s { stage = stages.Asked }
+after_request s other = (handled s other).session

@@ -1,38 +1,53 @@
--- What contracts see of a server, of its connections and of their players, and what a server keeps true of them.
-use Rattle.std.specs.Prelude.{◌≡◌, ℕ, ◌≤◌, ◌<◌, Bool, false, List, [], map, length, slice_index_or, Option, Some, None}
-use Rattle.std.specs.List.{filter}
+-- What contracts see of a server, of its connections and of their players, and what a server keeps
+-- true of them.
+use Rattle.std.specs.Prelude.{◌≡◌, ◌==◌, ℕ, ◌≤◌, ◌<◌, ◌^◌, Bool, true, false, List, [], map, length}
+use Rattle.std.specs.Prelude.{slice_index_or, Option, Some, None, is_some, option_map}
+use Rattle.std.specs.Prelude.{if◌then◌else◌}
+use Rattle.std.specs.List.{filter_map}
+use Rattle.std.specs.Option.{IfSome}
 use Rattle.std.specs.FinMap.{FinMap}
-use lib.IntN.{pos}
-use Rattle.mc_fields.specs.declared.position.Spot.{Spot}
 use Rattle.mc_frame.specs.Held.{Splitting, nothing_held}
 use Rattle.mc_land.specs.declared.terrain.Terrain.{Terrain}
 use Rattle.mc_land.specs.Places.{key_cmp}
 use Rattle.mc_land.specs.Land.{LandValue}
-use Rattle.mc_model.specs.Names.{offline_uuid}
-use Rattle.mc_model.specs.Notes.{no_notes}
+use Rattle.mc_model.specs.declared.stage.Stage.{Stage}
 use Rattle.mc_model.specs.Orderly.{Rise, next_number}
-use Rattle.mc_model.specs.Step.{nowhere, new_session}
-use Rattle.mc_model.specs.World.{World, Session, AreSettings, found, is_play, is_closed, spawn_spot}
-use Rattle.mc_flush.specs.declared.mark.Mark.{Mark}
+use Rattle.mc_model.specs.Step.{new_session}
+use Rattle.mc_model.specs.World.{World, Session, Player, AreSettings, found, is_play, is_closed}
 use Rattle.mc_flush.specs.Lists.{ListValue}
-use Rattle.mc_server.specs.declared.player.Player.{Player}
+use Rattle.mc_flush.specs.Seeing.{IsInRange, MarkValue, Parts, nothing_shown}
+use Rattle.mc_server.specs.declared.player.Player as code
 use Rattle.mc_server.specs.declared.settings.Settings.{Settings}
 
 -- ---- players
 
-abbrev pub nobody : Player
-nobody = record { name = []; uuid = 0; eid = 0; view_byte = pos 2; spot = nowhere; notes = no_notes }
-
--- one that enters, with an entity number
-abbrev pub entering : Terrain → ℕ → List ℕ → Player
-entering terrain eid name = record {
-  name = name;
-  uuid = offline_uuid name;
-  eid = eid;
-  view_byte = pos 2;
-  spot = spawn_spot terrain;
-  notes = no_notes;
+-- a player but for what it was shown, which its mark keeps
+abbrev pub player_of : code.Player → Player
+player_of p = record {
+  name = p.name;
+  uuid = p.uuid;
+  eid = p.eid;
+  view_byte = p.view_byte;
+  spot = p.spot;
+  notes = p.notes;
+  shown = None;
 }
+
+-- what a client was shown: nothing where it has no player
+abbrev pub mark_of : Option code.Player → MarkValue
+mark_of None = nothing_shown
+mark_of (Some p) = p.mark
+
+-- its name is short, its spot in range, and its entity number small
+pub record IsKeptPlayer (p : code.Player) : Type 0 where
+  pub short : length p.name ≤ 64
+  pub in_range : IsInRange p.spot
+  pub small : p.eid < 2 ^ 31
+
+-- a connection has a player exactly while it is in play
+pub record HasPlayer (stage : Stage) (player : Option code.Player) : Type 0 where
+  pub in_play : is_some player ≡ is_play stage
+  pub kept : IfSome player IsKeptPlayer
 
 -- ---- connections
 
@@ -40,25 +55,37 @@ entering terrain eid name = record {
 pub record ConnectionValue : Type 0 where
   pub session : Session
   pub splitter : Splitting
-  pub mark : Mark
+  pub mark : MarkValue
 
 -- nothing came of it yet
 abbrev pub new_connection : ℕ → ConnectionValue
-new_connection k = record { session = new_session k; splitter = nothing_held; mark = record { shown = None } }
+new_connection k = record { session = new_session k; splitter = nothing_held; mark = nothing_shown }
+
+-- with another session: a closed one has no mark
+abbrev pub with_session : ConnectionValue → Session → ConnectionValue
+with_session c s = record c {
+  session = s;
+  mark = if is_closed s.stage then nothing_shown else c.mark;
+}
 
 abbrev pub sessions_of : List ConnectionValue → List Session
 sessions_of connections = map (λ (c : ConnectionValue). c.session) connections
 
+-- the session of the connection at a place
+abbrev pub nth_session : ℕ → List ConnectionValue → Session
+nth_session i connections = slice_index_or (sessions_of connections) i (new_session 0)
+
 -- the connection of a number stands at a place
 pub record IsAt (k i : ℕ) (connections : List ConnectionValue) : Type 0 where
   pub within : i < length connections
-  pub is : (other : ConnectionValue) → found k (sessions_of connections) ≡ Some (slice_index_or connections i other).session
+  pub is : (other : ConnectionValue) →
+      found k (sessions_of connections) ≡ Some (slice_index_or connections i other).session
   pub named : (other : ConnectionValue) → (slice_index_or connections i other).session.id ≡ k
 
 -- an open connection stands at a place
 pub record IsOpenAt (i : ℕ) (connections : List ConnectionValue) : Type 0 where
   pub within : i < length connections
-  pub is_open : (other : ConnectionValue) → is_closed (slice_index_or connections i other).session.stage ≡ false
+  pub is_open : is_closed (nth_session i connections).stage ≡ false
 
 -- ---- the server
 
@@ -67,6 +94,8 @@ pub record ServerValue : Type 0 where
   pub age : ℕ
   pub terrain : Terrain
   pub edits : FinMap key_cmp ℕ
+  -- those at the last settling
+  pub settled : FinMap key_cmp ℕ
   pub most : ℕ
   pub cap : ℕ
   pub eids : ℕ
@@ -87,12 +116,27 @@ kept_world v = record {
   sessions = sessions_of v.connections;
 }
 
+-- what was shown at the last tick
+abbrev pub shown_parts : ServerValue → Parts
+shown_parts v = record { players = v.list.present; terrain = v.terrain; edits = v.settled }
+
 -- those in play
-abbrev pub playing_of : List Session → List Session
-playing_of sessions = filter (λ (s : Session). is_play s.stage) sessions
+abbrev pub playing_of : List Session → List Player
+playing_of sessions = filter_map (λ (s : Session). s.player) sessions
+
+-- one where it is true
+abbrev pub one_if : Bool → ℕ
+one_if true = 1
+one_if false = 0
+
+-- whether a player has an identifier
+abbrev pub plays_as : ℕ → Option Player → Bool
+plays_as uuid None = false
+plays_as uuid (Some p) = p.uuid == uuid
 
 -- what is true of the parts of every server
-pub record AreKept (land : LandValue) (with_ : Settings) (given : ℕ) (last : Option ℕ) (ids : List ℕ) (sessions : List Session) : Type 0 where
+pub record AreKept (land : LandValue) (with_ : Settings) (given : ℕ) (last : Option ℕ)
+    (ids : List ℕ) (sessions : List Session) : Type 0 where
   pub own : land.terrain ≡ with_.terrain
   pub settings : AreSettings with_.players with_.cap
   pub eids : given ≤ 2147483647

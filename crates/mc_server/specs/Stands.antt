@@ -1,30 +1,34 @@
 -- What a server stands for: a world of the definitions.
-use Rattle.std.specs.Prelude.{◌≡◌, ℕ, false, true, is_some, None}
+use Rattle.std.specs.Prelude.{◌≡◌, ℕ, false, true, is_some, unwrap_or, Option, Some, None}
 use Rattle.mc_frame.specs.Cut.{IsPart, kept_count}
-use Rattle.mc_model.specs.Delta.{Pairs}
-use Rattle.mc_model.specs.World.{World, Session, is_play, is_closed}
-use Rattle.mc_model.specs.Step.{last_shown}
+use Rattle.mc_model.specs.Sight.{Sight, nothing_seen}
+use Rattle.mc_model.specs.World.{World, Session, Player, is_play, is_closed}
 use Rattle.mc_model.specs.Orderly.{Orderly}
-use Rattle.mc_flush.specs.Seeing.{StandsFor}
+use Rattle.mc_flush.specs.Seeing.{Parts, StandsFor, is_shown}
 use Rattle.mc_server.specs.Bare.{bare}
-use Rattle.mc_server.specs.Served.{ConnectionValue, ServerValue}
+use Rattle.mc_server.specs.Served.{ConnectionValue, ServerValue, shown_parts}
 use Rattle.mc_server.specs.SideBySide.{SideBySide}
 
+-- what a player was shown, nothing where there is none
+abbrev pub shown_to : Option Player → Option Sight
+shown_to None = None
+shown_to (Some p) = p.shown
+
 -- what the splitter and the mark of an open connection keep of its session
-pub record IsOpen (shown : Pairs) (c : ConnectionValue) (s : Session) : Type 0 where
+pub record IsOpen (shown : Parts) (c : ConnectionValue) (s : Session) : Type 0 where
   pub held : c.splitter.held ≡ s.rest
   pub before : c.splitter.before ≡ kept_count s.before
   pub fine : c.splitter.fault ≡ None
   pub part : IsPart s.rest
-  pub opened : is_some c.mark.shown ≡ is_some s.shown
-  pub shows : StandsFor c.mark.shown shown (last_shown s)
-  -- only who is in play was shown anything
-  pub unseen : is_play s.stage ≡ false → s.shown ≡ None
+  pub opened : is_shown c.mark ≡ is_some (shown_to s.player)
+  pub shows : StandsFor c.mark shown (unwrap_or (shown_to s.player) nothing_seen)
 
--- a connection stands for a session, where these players were shown at the last tick
-pub record IsConnection (shown : Pairs) (c : ConnectionValue) (s : Session) : Type 0 where
+-- a connection stands for a session, where these parts were shown at the last tick
+pub record IsConnection (shown : Parts) (c : ConnectionValue) (s : Session) : Type 0 where
   pub session : c.session ≡ bare s
   pub is_open : is_closed s.stage ≡ false → IsOpen shown c s
+  -- it has a player exactly while it is in play
+  pub plays : is_play s.stage ≡ is_some s.player
 
 pub record Stands (server : ServerValue) (w : World) : Type 0 where
   pub works : server.failed ≡ false
@@ -35,7 +39,7 @@ pub record Stands (server : ServerValue) (w : World) : Type 0 where
   pub cap : server.cap ≡ w.cap
   pub eids : server.eids ≡ w.eids
   pub last : server.last ≡ w.last
-  pub connections : SideBySide (IsConnection server.list.present) server.connections w.sessions
+  pub connections : SideBySide (IsConnection (shown_parts server)) server.connections w.sessions
   -- numbers stand once, and none is above the last that joined
   pub orderly : Orderly w
 

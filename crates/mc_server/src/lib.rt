@@ -1,8 +1,8 @@
 //! The server: what it makes of each event, and what each connection is owed.
 //!
 //! Stands on sessions, views, flushes and the land, and on the definitions of `mc_model`. Its one
-//! contract: where a `Server` stands for a world of the definitions, it stands after each event for the
-//! world that follows, and each connection is owed exactly what that says.
+//! contract: where a `Server` stands for a world of the definitions, it stands after each event for
+//! the world that follows, and each connection is owed exactly what that says.
 #![tactic(auto)]
 
 mod connection;
@@ -10,6 +10,7 @@ mod input;
 mod opening;
 mod player;
 mod roster;
+mod scene;
 mod server;
 mod settings;
 

@@ -1,34 +1,40 @@
-ghost use Rattle.std.specs.Prelude.{◌≡◌, ◌↔◌, ◌++◌, ◌∷◌, ◌+◌, ◌<◌, ◌≤◌, ℕ, List, [], true, Err, None, Some, IfOk, IfSome, OnErr, OnOk, length, map, option_map, slice_index_or, take};
+ghost use Rattle.std.specs.Prelude.{◌≡◌, ◌↔◌, ◌++◌, ◌∷◌, ◌+◌, ◌<◌, ◌≤◌, ℕ, List, [], true, Err};
+ghost use Rattle.std.specs.Prelude.{None, Some, IfOk, IfSome, OnErr, OnOk, is_some, length, map};
+ghost use Rattle.std.specs.Prelude.{option_map, slice_index_or, take};
 ghost use Rattle.std.specs.List.{filter};
 ghost use Rattle.std.specs.Option.{option_copied};
 ghost use Rattle.mc_frame.specs.Cut.{IsPart, kept_count};
 ghost use Rattle.mc_frame.specs.Splitting.{Feeds, Takes};
 ghost use Rattle.mc_model.specs.World as spec;
-ghost use Rattle.mc_model.specs.World.{AreSettings, World, found, is_closed, new_world};
+ghost use Rattle.mc_model.specs.World.{AreSettings, World, found, is_closed, new_world, put};
 ghost use Rattle.mc_model.specs.Orderly.{Rise, next_number};
 ghost use Rattle.mc_model.specs.Run.{cause_in};
-ghost use Rattle.mc_model.specs.Step.{came, forgot, is_crowded, is_kept, is_new, joined, joining, left, on_fault, on_frame, step, took};
+ghost use Rattle.mc_model.specs.Step.{came, disconnect, forgot, is_crowded, is_kept, is_new};
+ghost use Rattle.mc_model.specs.Step.{joined, joining, left, on_frame, step, ticked, took};
+ghost use Rattle.mc_model.specs.Talk.{farewell};
 ghost use Rattle.mc_server.specs.Asking.{is_done_in, owed_in};
 ghost use Rattle.mc_server.specs.Frames.{AreDone, Becomes, HasRead, IsReading, Splits};
 ghost use Rattle.mc_server.specs.Inputs.{age_after, event_of};
-ghost use Rattle.mc_server.specs.LoggingIn.{IsHandled};
-ghost use Rattle.mc_server.specs.Served.{ConnectionValue, IsAt, IsOpenAt, ServerValue, kept_world, new_connection, playing_of, sessions_of};
+ghost use Rattle.mc_server.specs.Handling.{after_request, pending_of, request_in};
+ghost use Rattle.mc_server.specs.Served.{ConnectionValue, IsAt, IsOpenAt, ServerValue, kept_world};
+ghost use Rattle.mc_server.specs.Served.{new_connection, nth_session, one_if, playing_of};
+ghost use Rattle.mc_server.specs.Served.{sessions_of};
 ghost use Rattle.mc_server.specs.Stands.{HasFailed, Stands, age_of};
 
+mod act;
 #[cfg(test)]
 mod fields;
-mod listing;
 mod login;
-mod showing;
-mod ticking;
+mod movement;
 
-use crate::connection::Connection;
+use crate::connection::{Connection, Pending};
 use crate::roster::Roster;
+use crate::scene::{Scene, prepare};
 use crate::{Input, Settings};
-use mc_frame::{FrameFault, Take};
+use mc_frame::Take;
 use mc_land::Land;
 use mc_model::Cause;
-use mc_nbt::{NoMemory, Text};
+use mc_nbt::NoMemory;
 use std::alloc::Global;
 use std::marker::Model;
 
@@ -71,6 +77,7 @@ impl Model for Server {
       age = s.age;
       terrain = s.settings.terrain;
       edits = s.land.edits;
+      settled = s.land.settled;
       most = s.settings.players;
       cap = s.settings.cap;
       eids = s.eids;
@@ -79,21 +86,40 @@ impl Model for Server {
       list = s.list;
     } };
 
-    ghost invariant = { λ s. AreKept s.land s.settings s.eids s.last s.ids.items (sessions_of s.connections.items) };
+    ghost invariant = { λ s.
+        AreKept s.land s.settings s.eids s.last s.ids.items (sessions_of s.connections.items) };
+}
+
+/// One where it is true.
+fn one_if(there: bool) -> usize
+    ensures is { result ≡ one_if there }
+    ensures small { result ≤ 1 }
+{
+    if there { 1 } else { 0 }
 }
 
 /// How many connections are open, or owed bytes still.
 fn kept(connections: &Vec<Connection>) -> usize
-    ensures { result ≡ length (filter (λ (c : ConnectionValue). is_kept c.session) connections.now.items) }
+    ensures { result
+        ≡ length (filter (λ (c : ConnectionValue). is_kept c.session) connections.now.items) }
 {
-    connections.iter().filter(|c| c.is_kept()).count()
+    let mut count = 0;
+    for i in 0..connections.len() {
+        count += one_if(connections[i].is_kept());
+    }
+    count
 }
 
 /// How many are in play.
 fn in_play(connections: &Vec<Connection>) -> usize
-    ensures { result ≡ length (filter (λ (c : ConnectionValue). spec.is_play c.session.stage) connections.now.items) }
+    ensures { result ≡ length
+        (filter (λ (c : ConnectionValue). is_some c.session.player) connections.now.items) }
 {
-    connections.iter().filter(|c| c.is_play()).count()
+    let mut count = 0;
+    for i in 0..connections.len() {
+        count += one_if(connections[i].is_play());
+    }
+    count
 }
 
 /// How many sessions are in play.
@@ -118,7 +144,8 @@ fn put_last(
     connection: Connection,
 ) -> Result<(), NoMemory>
     ensures ids { OnOk result (ids.new.items ≡ ids.old.items ++ connection.session.id ∷ []) }
-    ensures connections { OnOk result (connections.new.items ≡ connections.old.items ++ connection ∷ []) }
+    ensures connections { OnOk result
+        (connections.new.items ≡ connections.old.items ++ connection ∷ []) }
     ensures ids_stay { OnErr result (ids.new.items ≡ ids.old.items) }
     ensures connections_stay { OnErr result (connections.new.items ≡ connections.old.items) }
 {
@@ -133,7 +160,8 @@ impl Server {
     /// A server where nobody came yet.
     pub fn new(alloc: Global, settings: Settings) -> Result<Server, NoMemory>
         requires { AreSettings settings.players settings.cap }
-        ensures { IfOk result (λ server. Stands server (new_world settings.players settings.cap settings.terrain)) }
+        ensures { IfOk result (λ server.
+            Stands server (new_world settings.players settings.cap settings.terrain)) }
     {
         Ok(Server {
             alloc,
@@ -152,7 +180,8 @@ impl Server {
     /// Something happens. After an error each later call answers with it.
     pub fn event(&mut self, input: Input<'_>) -> Result<(), NoMemory>
         requires young { input ≡ Input.Tick → age_of self.old < 1000000000 }
-        ensures follows { (w : World) → Stands self.old w → OnOk result (Stands self.new (step w (event_of input.entry)).world) }
+        ensures follows { (w : World) → Stands self.old w →
+            OnOk result (Stands self.new (step w (event_of input.entry)).world) }
         ensures age { OnOk result (age_of self.new ≡ age_after input.entry (age_of self.old)) }
         ensures fails { OnErr result (HasFailed self.new) }
         ensures failed { HasFailed self.old → result ≡ Err (record {}) }
@@ -172,7 +201,8 @@ impl Server {
     /// Does what an event comes to.
     fn perform(&mut self, input: Input<'_>) -> Result<(), NoMemory>
         requires young { input ≡ Input.Tick → age_of self.old < 1000000000 }
-        ensures follows { (w : World) → Stands self.old w → OnOk result (Stands self.new (step w (event_of input.entry)).world) }
+        ensures follows { (w : World) → Stands self.old w →
+            OnOk result (Stands self.new (step w (event_of input.entry)).world) }
         ensures age { OnOk result (age_of self.new ≡ age_after input.entry (age_of self.old)) }
     {
         match input {
@@ -199,7 +229,8 @@ impl Server {
 
     /// The connection of a number.
     fn connection(&self, k: u32) -> Option<&Connection>
-        ensures { option_map (λ (c : ConnectionValue). c.session) (option_copied result) ≡ found k (sessions_of self.now.connections) }
+        ensures { option_map (λ (c : ConnectionValue). c.session) (option_copied result)
+            ≡ found k (sessions_of self.now.connections) }
     {
         match self.place_of(k) {
             Some(i) => Some(&self.connections[i]),
@@ -232,14 +263,15 @@ impl Server {
     {
         let mut connection = Connection::new(self.alloc, k);
         if self.is_crowded() {
-            connection.shut(Cause::Crowded);
+            connection.mark_closed(Cause::Crowded);
         }
         connection
     }
 
     /// Lets a connection join.
     fn join(&mut self, k: u32) -> Result<(), NoMemory>
-        ensures follows { (w : World) → Stands self.old w → OnOk result (Stands self.new (step w (joined k)).world) }
+        ensures follows { (w : World) → Stands self.old w →
+            OnOk result (Stands self.new (step w (joined k)).world) }
         ensures age { OnOk result (age_of self.new ≡ age_of self.old) }
     {
         if !self.is_new(k) {
@@ -253,7 +285,8 @@ impl Server {
 
     /// Lets a connection leave.
     fn leave(&mut self, k: u32)
-        ensures follows { (w : World) → Stands self.old w → Stands self.new (step w (left k)).world }
+        ensures follows { (w : World) → Stands self.old w →
+            Stands self.new (step w (left k)).world }
         ensures age { age_of self.new ≡ age_of self.old }
     {
         let Some(i) = self.place_of(k) else {
@@ -264,7 +297,8 @@ impl Server {
 
     /// A connection that is closed and owed nothing goes.
     pub fn forget(&mut self, k: u32)
-        ensures follows { (w : World) → Stands self.old w → Stands self.new (step w (forgot k)).world }
+        ensures follows { (w : World) → Stands self.old w →
+            Stands self.new (step w (forgot k)).world }
         ensures age { age_of self.new ≡ age_of self.old }
         ensures failed { HasFailed self.old → HasFailed self.new }
     {
@@ -282,8 +316,10 @@ impl Server {
 
     /// The first bytes that a connection is owed, without copying them.
     pub fn front(&self, k: u32) -> &[u8]
-        ensures first { (w : World) → Stands self.now w → take (length result.now) (owed_in k w) ≡ result.now }
-        ensures empty { (w : World) → Stands self.now w → (result.now ≡ []) ↔ (owed_in k w ≡ []) }
+        ensures first { (w : World) → Stands self.now w →
+            take (length result.now) (owed_in k w) ≡ result.now }
+        ensures empty { (w : World) → Stands self.now w →
+            (result.now ≡ []) ↔ (owed_in k w ≡ []) }
     {
         match self.connection(k) {
             Some(connection) => connection.front(),
@@ -293,7 +329,8 @@ impl Server {
 
     /// A connection took bytes of those that it is owed.
     pub fn took(&mut self, k: u32, n: usize)
-        ensures follows { (w : World) → Stands self.old w → Stands self.new (step w (took k n)).world }
+        ensures follows { (w : World) → Stands self.old w →
+            Stands self.new (step w (took k n)).world }
         ensures age { age_of self.new ≡ age_of self.old }
         ensures failed { HasFailed self.old → HasFailed self.new }
     {
@@ -317,7 +354,8 @@ impl Server {
 
     /// The numbers of the connections, in the order in which they joined.
     pub fn connections(&self) -> &[u32]
-        ensures { (w : World) → Stands self.now w → result.now ≡ map (λ (s : spec.Session). s.id) w.sessions }
+        ensures { (w : World) → Stands self.now w →
+            result.now ≡ map (λ (s : spec.Session). s.id) w.sessions }
     {
         self.ids.as_slice()
     }
@@ -344,7 +382,8 @@ impl Server {
 
     /// Handles bytes of a connection.
     fn bytes(&mut self, k: u32, bytes: &[u8]) -> Result<(), NoMemory>
-        ensures follows { (w : World) → Stands self.old w → OnOk result (Stands self.new (step w (came k bytes.now)).world) }
+        ensures follows { (w : World) → Stands self.old w →
+            OnOk result (Stands self.new (step w (came k bytes.now)).world) }
         ensures age { OnOk result (age_of self.new ≡ age_of self.old) }
     {
         let Some(i) = self.place_of(k) else {
@@ -356,12 +395,14 @@ impl Server {
         self.read(i, bytes)
     }
 
-    /// Handles the frames of bytes of an open connection, behind those that its splitter holds, as long as
-    /// it is open.
+    /// Handles the frames of bytes of an open connection, behind those that its splitter holds, as
+    /// long as it is open.
     fn read(&mut self, i: usize, bytes: &[u8]) -> Result<(), NoMemory>
         requires open_ { IsOpenAt i self.old.connections }
-        ensures done { (count : ℕ) (c : ConnectionValue) → c ≡ slice_index_or self.old.connections i c →
-            c.splitter.before ≡ kept_count count → c.splitter.fault ≡ None → IsPart c.splitter.held →
+        ensures done { (count : ℕ) (c : ConnectionValue) →
+            c ≡ slice_index_or self.old.connections i c →
+            c.splitter.before ≡ kept_count count → c.splitter.fault ≡ None →
+            IsPart c.splitter.held →
             OnOk result (AreDone i count c (c.splitter.held ++ bytes.now) self.old self.new) }
         ensures age { OnOk result (age_of self.new ≡ age_of self.old) }
     {
@@ -380,12 +421,13 @@ impl Server {
         Ok(())
     }
 
-    /// Handles the frames that a splitter holds whole, as long as the connection is open: whether it is
-    /// open then.
+    /// Handles the frames that a splitter holds whole, as long as the connection is open: whether
+    /// it is open then.
     fn frames(&mut self, i: usize) -> Result<bool, NoMemory>
         requires open_ { IsOpenAt i self.old.connections }
         ensures read { (count : ℕ) (c : ConnectionValue) (all left : List ℕ) (first : ServerValue) →
-            IsReading i count c all first self.old left → IfOk result (λ goes. HasRead goes i count c all first self.new left) }
+            IsReading i count c all first self.old left →
+            IfOk result (λ goes. HasRead goes i count c all first self.new left) }
         ensures opened { IfOk result (λ goes. goes ≡ true → IsOpenAt i self.new.connections) }
         ensures age { OnOk result (age_of self.new ≡ age_of self.old) }
     {
@@ -399,7 +441,7 @@ impl Server {
                 }
                 Take::More => return Ok(true),
                 Take::Bad(fault) => {
-                    self.fault(i, fault)?;
+                    self.disconnect(i, Cause::Frame(fault))?;
                     return Ok(false);
                 }
             }
@@ -409,8 +451,9 @@ impl Server {
     /// Whether the connection at a place is closed.
     fn is_closed(&self, i: usize) -> bool
         requires { i < length self.now.connections }
-        ensures is { (c : ConnectionValue) → c ≡ slice_index_or self.now.connections i c → result ≡ is_closed c.session.stage }
-        ensures there { (c : ConnectionValue) → c ≡ slice_index_or self.now.connections i c → found c.session.id (sessions_of self.now.connections) ≡ Some c.session }
+        ensures is { result ≡ is_closed (nth_session i self.now.connections).stage }
+        ensures there { found (nth_session i self.now.connections).id
+            (sessions_of self.now.connections) ≡ Some (nth_session i self.now.connections) }
     {
         self.connections[i].is_closed()
     }
@@ -418,8 +461,10 @@ impl Server {
     /// Feeds the splitter of a connection with the first bytes of a piece: how many it took.
     fn feed(&mut self, i: usize, piece: &[u8]) -> Result<usize, NoMemory>
         requires { i < length self.old.connections }
-        ensures fed { IfOk result (λ count. Splits i self.old self.new (λ old new. Feeds old piece.now count new)) }
-        ensures some { (c : ConnectionValue) → c ≡ slice_index_or self.old.connections i c → IsPart c.splitter.held → c.splitter.fault ≡ None →
+        ensures fed { IfOk result (λ count.
+            Splits i self.old self.new (λ old new. Feeds old piece.now count new)) }
+        ensures some { (c : ConnectionValue) → c ≡ slice_index_or self.old.connections i c →
+            IsPart c.splitter.held → c.splitter.fault ≡ None →
             0 < length piece.now → IfOk result (λ count. 0 < count) }
     {
         self.connections[i].feed(piece)
@@ -428,39 +473,82 @@ impl Server {
     /// Takes the next frame of a connection's bytes.
     fn take(&mut self, i: usize) -> Result<Take, NoMemory>
         requires { i < length self.old.connections }
-        ensures { IfOk result (λ answer. Splits i self.old self.new (λ old new. Takes old answer new)) }
+        ensures { IfOk result (λ answer.
+            Splits i self.old self.new (λ old new. Takes old answer new)) }
     {
         self.connections[i].take()
     }
 
-    /// Disconnects an open connection whose bytes begin no frame.
-    fn fault(&mut self, i: usize, fault: FrameFault) -> Result<(), NoMemory>
-        requires open_ { IsOpenAt i self.old.connections }
-        ensures is { OnOk result (Becomes i self.old self.new (λ s. (on_fault (kept_world self.old) s.id (Some fault)).world)) }
-        ensures closed { OnOk result ((c : ConnectionValue) → is_closed (slice_index_or self.new.connections i c).session.stage ≡ true) }
+    /// Closes a connection, and says why.
+    fn disconnect(&mut self, i: usize, cause: Cause) -> Result<(), NoMemory>
+        requires { i < length self.old.connections }
+        ensures is { OnOk result (Becomes self.old self.new (put (kept_world self.old)
+            (disconnect (nth_session i self.old.connections) cause
+            (farewell (nth_session i self.old.connections).stage cause)).session)) }
+        ensures closed { OnOk result
+            (is_closed (nth_session i self.new.connections).stage ≡ true) }
+        ensures there { found (nth_session i self.old.connections).id
+            (sessions_of self.old.connections) ≡ Some (nth_session i self.old.connections) }
     {
-        self.connections[i].disconnect(Cause::Frame(fault))
+        self.connections[i].disconnect(cause)
     }
 
     /// Handles a frame of an open connection.
     fn frame(&mut self, i: usize, frame: &[u8]) -> Result<(), NoMemory>
         requires open_ { IsOpenAt i self.old.connections }
-        ensures { OnOk result (Becomes i self.old self.new (λ s. (on_frame (kept_world self.old) s.id frame.now).world)) }
+        ensures { OnOk result (Becomes self.old self.new (on_frame (kept_world self.old)
+            (nth_session i self.old.connections).id frame.now).world) }
     {
-        match self.handle(i, frame)? {
-            Some(name) => self.log_in(i, &name),
-            None => Ok(()),
+        let Some(pending) = self.handle(i, frame)? else {
+            return Ok(());
+        };
+        match pending {
+            Pending::Login(name) => self.log_in(i, &name),
+            Pending::Act(packet) => self.act(i, &packet),
         }
     }
 
-    /// Does what a frame of an open connection comes to, but for logging in: the name under which its
-    /// client wants to play, where it asks to.
-    fn handle(&mut self, i: usize, frame: &[u8]) -> Result<Option<Text>, NoMemory>
+    /// Does what a frame of an open connection makes of that connection: what is left to be done.
+    fn handle(&mut self, i: usize, frame: &[u8]) -> Result<Option<Pending>, NoMemory>
         requires open_ { IsOpenAt i self.old.connections }
-        ensures { IfOk result (λ asks. IsHandled i self.old frame.now asks self.new) }
+        ensures pending { IfOk result (λ pending. pending ≡ pending_of
+            (request_in (kept_world self.old) (nth_session i self.old.connections) frame.now)) }
+        ensures is { OnOk result (Becomes self.old self.new (put (kept_world self.old)
+            (after_request (nth_session i self.old.connections)
+            (request_in (kept_world self.old) (nth_session i self.old.connections) frame.now)))) }
+        ensures rise { Rise 0 (sessions_of self.old.connections) (next_number self.old.last) }
     {
         let online = playing(&self.connections);
-        let terrain = self.settings.terrain;
-        self.connections[i].handle(&terrain, frame, self.settings.players, online)
+        self.connections[i].handle(frame, self.settings.players, online)
+    }
+
+    // ---- a tick
+
+    /// Lets a tick come: each client in play is shown the land and the players.
+    fn tick(&mut self) -> Result<(), NoMemory>
+        requires young { age_of self.old < 1000000000 }
+        ensures follows { (w : World) → Stands self.old w
+            → OnOk result (Stands self.new (step w ticked).world) }
+        ensures age { OnOk result (age_of self.new ≡ age_of self.old + 1) }
+    {
+        self.list.turn()?;
+        self.list.list_all(&self.connections)?;
+        let encoded = prepare(
+            self.alloc,
+            &self.settings,
+            &mut self.land,
+            &self.list,
+            &self.connections,
+        )?;
+        let scene = Scene {
+            settings: &self.settings,
+            land: &self.land,
+            list: &self.list,
+            encoded: &encoded,
+        };
+        scene.show_all(self.alloc, &mut self.connections)?;
+        self.land.settle();
+        self.age += 1;
+        Ok(())
     }
 }

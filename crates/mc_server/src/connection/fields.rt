@@ -1,10 +1,11 @@
 //! What is kept of a connection and of its player, field by field: a new one is named here.
 
 use super::Connection;
+use super::backlog::Backlog;
 use crate::player::Player;
 use mc_fields::Spot;
 use mc_flush::Mark;
-use mc_frame::{Outbox, Splitter};
+use mc_frame::Splitter;
 use mc_model::{Cause, Notes};
 use mc_nbt::Text;
 use mc_session::Session;
@@ -23,13 +24,11 @@ fn a_session(_part: &Session) {}
 
 fn a_splitter(_part: &Splitter) {}
 
-fn an_outbox(_part: &Outbox) {}
+fn a_backlog(_part: &Backlog) {}
 
 fn a_mark(_part: &Mark) {}
 
 fn a_cause(_part: &Option<Cause>) {}
-
-fn a_player(_part: &Player) {}
 
 fn a_name(_part: &Text) {}
 
@@ -46,6 +45,7 @@ fn name_player(player: &Player) {
         view_byte,
         spot,
         notes,
+        mark,
     } = player;
     a_name(name);
     an_identifier(uuid);
@@ -53,6 +53,7 @@ fn name_player(player: &Player) {
     a_small_number(view_byte);
     a_spot(spot);
     notes_of_a_player(notes);
+    a_mark(mark);
 }
 
 /// Names every field of a connection.
@@ -62,8 +63,7 @@ fn name_fields(connection: &Connection) {
         id,
         session,
         splitter,
-        outbox,
-        mark,
+        backlog,
         cause,
         player,
     } = connection;
@@ -71,11 +71,11 @@ fn name_fields(connection: &Connection) {
     a_number(id);
     a_session(session);
     a_splitter(splitter);
-    an_outbox(outbox);
-    a_mark(mark);
+    a_backlog(backlog);
     a_cause(cause);
-    a_player(player);
-    name_player(player);
+    if let Some(player) = player {
+        name_player(player);
+    }
 }
 
 #[test]

@@ -1,15 +1,17 @@
 ghost use Rattle.std.specs.Prelude.{◌≡◌, ◌==◌, true, Some, None, IfOk, OnOk};
-ghost use Rattle.std.specs.List.{filter, list_any};
+ghost use Rattle.std.specs.List.{list_any};
 ghost use Rattle.mc_model.specs.declared.cause.Cause.TheVariants as causes;
 ghost use Rattle.mc_model.specs.World as spec;
-ghost use Rattle.mc_model.specs.World.{is_play, put};
+ghost use Rattle.mc_model.specs.World.{put};
 ghost use Rattle.mc_model.specs.Talk.{refused};
-ghost use Rattle.mc_model.specs.Step.{is_47, close, refusal, answer_login};
+ghost use Rattle.mc_model.specs.Step.{is_47, disconnect, refusal, answer_login};
 ghost use Rattle.mc_server.specs.Frames.{Becomes};
 ghost use Rattle.mc_server.specs.LoggingIn.{IsAskedAt, IsVerdict, has_room};
-ghost use Rattle.mc_server.specs.Served.{ConnectionValue, kept_world, playing_of, sessions_of};
+ghost use Rattle.mc_server.specs.Served.{ConnectionValue, kept_world, nth_session};
+ghost use Rattle.mc_server.specs.Served.{playing_of, plays_as, sessions_of};
 
 use crate::connection::Connection;
+use crate::player::Player;
 use crate::server::{Server, playing};
 use mc_model::{Name, Refusal};
 use mc_nbt::{NoMemory, Text};
@@ -33,19 +35,18 @@ fn is_47(protocol: i32) -> bool
     protocol == 47
 }
 
-/// Whether one of the connections in play has a player of an identifier.
+/// Whether one of the connections has a player of an identifier.
 fn plays_as(connections: &Vec<Connection>, uuid: u128) -> bool
-    ensures { result ≡ list_any (λ (c : ConnectionValue). c.session.uuid == uuid) (filter (λ (c : ConnectionValue). is_play c.session.stage) connections.now.items) }
+    ensures { result ≡ list_any (λ (c : ConnectionValue). plays_as uuid c.session.player)
+        connections.now.items }
 {
-    connections
-        .iter()
-        .filter(|c| c.is_play())
-        .any(|c| c.uuid() == uuid)
+    connections.iter().any(|c| c.plays_as(uuid))
 }
 
 /// Whether a player in play has an identifier.
 fn is_taken(connections: &Vec<Connection>, uuid: u128) -> bool
-    ensures { result ≡ list_any (λ (s : spec.Session). s.uuid == uuid) (playing_of (sessions_of connections.now.items)) }
+    ensures { result ≡ list_any (λ (p : spec.Player). p.uuid == uuid)
+        (playing_of (sessions_of connections.now.items)) }
 {
     plays_as(connections, uuid)
 }
@@ -60,7 +61,8 @@ impl Server {
 
     /// Judges whether a client may play under a name.
     fn judge(&self, protocol: i32, name: &Text) -> Result<Verdict, NoMemory>
-        ensures { IfOk result (λ verdict. IsVerdict (kept_world self.now) (refusal (kept_world self.now) protocol name.now) name.now verdict) }
+        ensures { IfOk result (λ verdict. IsVerdict (kept_world self.now)
+            (refusal (kept_world self.now) protocol name.now) name.now verdict) }
     {
         if !is_47(protocol) {
             return Ok(Verdict::Refuses(Refusal::Version));
@@ -80,8 +82,10 @@ impl Server {
     /// Answers a client that asks to play under a name.
     pub(super) fn log_in(&mut self, i: usize, name: &Text) -> Result<(), NoMemory>
         requires { IsAskedAt i self.old.connections }
-        ensures { OnOk result (Becomes i self.old self.new
-            (λ s. (answer_login (kept_world self.old) s name.now (refusal (kept_world self.old) s.protocol name.now)).world)) }
+        ensures { OnOk result (Becomes self.old self.new
+            (answer_login (kept_world self.old) (nth_session i self.old.connections) name.now
+            (refusal (kept_world self.old) (nth_session i self.old.connections).protocol
+            name.now)).world) }
     {
         match self.judge(self.connections[i].protocol(), name)? {
             Verdict::Refuses(why) => self.refuse(i, why),
@@ -92,8 +96,9 @@ impl Server {
     /// Refuses the client of the connection at a place.
     fn refuse(&mut self, i: usize, why: Refusal) -> Result<(), NoMemory>
         requires { IsAskedAt i self.old.connections }
-        ensures { OnOk result (Becomes i self.old self.new
-            (λ s. put (kept_world self.old) (close s (causes.Refused why) (refused why)).session)) }
+        ensures { OnOk result (Becomes self.old self.new (put (kept_world self.old)
+            (disconnect (nth_session i self.old.connections) (causes.Refused why)
+            (refused why)).session)) }
     {
         self.connections[i].refuse(why)
     }
@@ -102,10 +107,12 @@ impl Server {
     fn enter(&mut self, i: usize, name: &Name) -> Result<(), NoMemory>
         requires asked { IsAskedAt i self.old.connections }
         requires room { has_room (kept_world self.old) ≡ true }
-        ensures { OnOk result (Becomes i self.old self.new (λ s. (answer_login (kept_world self.old) s name.now None).world)) }
+        ensures { OnOk result (Becomes self.old self.new (answer_login (kept_world self.old)
+            (nth_session i self.old.connections) name.now None).world) }
     {
-        let terrain = self.settings.terrain;
-        self.eids += 1;
-        self.connections[i].enter(&terrain, self.eids, name)
+        let eid = self.eids + 1;
+        let player = Player::entering(&self.settings.terrain, eid, name)?;
+        self.eids = eid;
+        self.connections[i].enter(player, name)
     }
 }

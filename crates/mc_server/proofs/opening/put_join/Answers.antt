@@ -13,6 +13,9 @@ pub put_packet-requires : goal.put_packet-requires
 put_packet-requires c =
     let terrain = c.args.settings.now.terrain in
     let most = c.args.settings.now.players in
-    subst (λ (z : ℤ). IsClear (JoinGame z 0 (pos 0) 1 most c.in_ok-level.level false)) (sym (to_z_pos w32 c.args.eid c.requires.eid))
-    (subst (λ (text : List ℕ). IsClear (JoinGame (pos c.args.eid) 0 (pos 0) 1 most text false)) (sym c.in_ok-level.ensures)
-    (join_clear c.args.eid most (level terrain) c.requires.eid c.requires.few (level_short terrain)))
+    subst (λ (z : ℤ). IsClear (JoinGame z 0 (pos 0) 1 most c.in_ok-level.level false))
+    (sym (to_z_pos w32 c.args.eid c.requires.eid))
+    (subst (λ (text : List ℕ). IsClear (JoinGame (pos c.args.eid) 0 (pos 0) 1 most text false))
+    (sym c.in_ok-level.ensures)
+    (join_clear c.args.eid most (level terrain)
+    c.requires.eid c.requires.few (level_short terrain)))

@@ -5,4 +5,5 @@ use Rattle.mc_model.proofs.FitsPlay.{spawn_clear}
 use Rattle.mc_server.proofs.opening.spawn_packet.Goals as goal
 
 pub returns-clause-clear : goal.returns-clause-clear
-returns-clause-clear c = let low = spawn_low c.args.terrain.now in spawn_clear (spawn_height c.args.terrain.now) (omega (arith, low))
+returns-clause-clear c = let low = spawn_low c.args.terrain.now in
+    spawn_clear (spawn_height c.args.terrain.now) (omega (arith, low))

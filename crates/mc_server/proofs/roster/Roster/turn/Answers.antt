@@ -7,4 +7,6 @@ use Rattle.mc_server.proofs.roster.Roster.turn.Goals as goal
 
 pub invariant_of-self-2 : goal.invariant_of-self-2
 invariant_of-self-2 c =
-    subst IsRoster (sym (c.clear.ensures ∙ ap (λ (list : ListValue). record list { present = empty }) c.in_ok-settle.ensures.ok)) (page_turned c.self.inside.list c.self.invariant)
+    subst IsRoster (sym (c.clear.ensures ∙
+    ap (λ (list : ListValue). record list { present = empty }) c.in_ok-settle.ensures.ok))
+    (page_turned c.self.inside.list c.self.invariant)

@@ -6,4 +6,6 @@ use Rattle.mc_server.proofs.Standing.{asked_ids}
 use Rattle.mc_server.proofs.server.Server.connections.Goals as goal
 
 pub returns : goal.returns
-returns c = λ w st. c.as_slice.ensures.value ∙ sym c.self.invariant.named ∙ asked_ids (the_view c.self.inside) w (subst (λ (u : ServerValue). Stands u w) (sym c.self.view_is) st)
+returns c = λ w st. c.as_slice.ensures.value ∙ sym c.self.invariant.named ∙
+    asked_ids (the_view c.self.inside) w (subst (λ (u : ServerValue). Stands u w)
+    (sym c.self.view_is) st)

@@ -1,5 +1,5 @@
 use Rattle.std.proofs.Common.{◌≡◌, sym, subst, ap, ◌∙◌}
-use Rattle.mc_model.specs.World.{is_play}
+use Rattle.std.specs.Prelude.{is_some}
 use Rattle.mc_server.specs.Served.{ConnectionValue, ServerValue}
 use Rattle.mc_server.specs.contracts.server.Server.{the_view}
 use Rattle.mc_server.proofs.Decoding.{if_ok_more}
@@ -9,8 +9,15 @@ use Rattle.mc_server.proofs.server.Server.feed.Goals as goal
 
 pub invariant_of-self : goal.invariant_of-self
 invariant_of-self c =
-    kept_set c.self.inside.connections.items c.self.invariant c.args.i c.index_mut.result.now c.feed.new.self (within_view c.args.i (the_view c.self.inside) c.args.self.now c.self.view_is c.requires) c.index_mut.ensures.value (ap (λ (d : ConnectionValue). d.session.id) c.feed.ensures.rest)
-    (λ plays. ap (λ (d : ConnectionValue). is_play d.session.stage) (sym c.feed.ensures.rest) ∙ plays)
+    kept_set c.self.inside.connections.items c.self.invariant c.args.i c.index_mut.result.now
+    c.feed.new.self (within_view c.args.i (the_view c.self.inside)
+    c.args.self.now c.self.view_is c.requires)
+    c.index_mut.ensures.value (ap (λ (d : ConnectionValue). d.session.id) c.feed.ensures.rest)
+    (λ plays. ap (λ (d : ConnectionValue). is_some d.session.player) (sym c.feed.ensures.rest) ∙
+    plays)
 
 pub returns-clause-fed : goal.returns-clause-fed
-returns-clause-fed c = rw (← c.self.view_is) (if_ok_more c.feed.result _ _ (λ count fed. splits_of (the_view c.self.inside) c.args.i c.index_mut.result.now c.feed.new.self c.index_mut.ensures.value c.feed.ensures.rest _ fed) c.feed.ensures.fed)
+returns-clause-fed c = rw (← c.self.view_is)
+    (if_ok_more c.feed.result _ _ (λ count fed. splits_of (the_view c.self.inside)
+    c.args.i c.index_mut.result.now c.feed.new.self c.index_mut.ensures.value c.feed.ensures.rest _
+    fed) c.feed.ensures.fed)

@@ -1,10 +1,49 @@
-use Rattle.mc_server.proofs.Becoming.{asked_then, asked_at}
+use Rattle.std.proofs.Common.{◌≡◌, ◌∙◌, sym, ap, subst}
+use Rattle.std.specs.Prelude.{Option, Some}
+use Rattle.mc_model.specs.Orderly.{next_number}
+use Rattle.mc_server.specs.declared.connection.pending.Pending.{Pending}
+use Rattle.mc_server.specs.Handling.{pending_of, request_in}
+use Rattle.mc_server.specs.Served.{kept_world, nth_session}
+use Rattle.mc_server.proofs.Becoming.{becomes_within}
 use Rattle.mc_server.proofs.Decoding.{on_ok_more}
+use Rattle.mc_server.proofs.FrameFacts.{frame_acts, frame_alone, frame_asks, frame_login}
 use Rattle.mc_server.proofs.server.Server.frame.Goals as goal
 
-pub log_in-requires : goal.log_in-requires
-log_in-requires c = asked_at c.args.i c.args.self.now c.handle.new.self c.args.frame.now c.in-Some.name (rw c.in-Some.is at c.in_ok-name.ensures)
+pub returns-in_default : goal.returns-in_default
+returns-in_default c =
+    let h = c.in_default.is in
+    let v = c.args.self.now in
+    frame_alone v c.args.i (next_number v.last)
+    c.args.frame.now c.in_ok-pending.ensures.rise c.requires.open_ c.handle.new.self
+    (sym c.in_default.is ∙ c.in_ok-pending.ensures.pending) c.in_ok-pending.ensures.is
 
-pub returns-in-Some : goal.returns-in-Some
-returns-in-Some c =
-    on_ok_more c.log_in.result _ _ (λ b. asked_then c.args.i c.args.self.now c.handle.new.self c.log_in.new.self c.args.frame.now c.in-Some.name (rw c.in-Some.is at c.in_ok-name.ensures) b) c.log_in.ensures
+pub log_in-requires : goal.log_in-requires
+log_in-requires c =
+    let v = c.args.self.now in
+    frame_asks v c.args.i (next_number v.last)
+    c.args.frame.now c.in_ok-pending.ensures.rise c.requires.open_ c.handle.new.self
+    c.in-Login.name
+    (sym (c.in-Some.is ∙ ap Some c.in-Login.is) ∙ c.in_ok-pending.ensures.pending)
+    c.in_ok-pending.ensures.is
+
+pub returns-in-Login : goal.returns-in-Login
+returns-in-Login c =
+    let v = c.args.self.now in
+    on_ok_more c.log_in.result _ _ (λ b. frame_login v c.args.i (next_number v.last)
+    c.args.frame.now c.in_ok-pending.ensures.rise c.requires.open_ c.handle.new.self
+    c.log_in.new.self c.in-Login.name
+    (sym (c.in-Some.is ∙ ap Some c.in-Login.is) ∙ c.in_ok-pending.ensures.pending)
+    c.in_ok-pending.ensures.is b) c.log_in.ensures
+
+pub act-requires : goal.act-requires
+act-requires c = becomes_within c.args.i c.args.self.now c.handle.new.self _
+    c.in_ok-pending.ensures.is c.requires.open_.within
+
+pub returns-in-Act : goal.returns-in-Act
+returns-in-Act c =
+    let v = c.args.self.now in
+    on_ok_more c.act.result _ _ (λ b. frame_acts v c.args.i (next_number v.last)
+    c.args.frame.now c.in_ok-pending.ensures.rise c.requires.open_ c.handle.new.self
+    c.act.new.self c.in-Act.packet
+    (sym (c.in-Some.is ∙ ap Some c.in-Act.is) ∙ c.in_ok-pending.ensures.pending)
+    c.in_ok-pending.ensures.is b) c.act.ensures

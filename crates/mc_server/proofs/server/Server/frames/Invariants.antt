@@ -8,7 +8,9 @@ use Rattle.mc_server.proofs.server.Server.frames.Given as goal
 abbrev pub invariant-taking : goal.invariant-taking
 invariant-taking l = record {
   open_ : IsOpenAt l.i l.self.connections;
-  reading : (count : ℕ) (c : ConnectionValue) (all left_ : List ℕ) (first : ServerValue) → IsReading l.i count c all first l.fn.self left_ → IsReading l.i count c all first l.self left_;
+  reading : (count : ℕ) (c : ConnectionValue) (all left_ : List ℕ) (first : ServerValue) →
+      IsReading l.i count c all first l.fn.self left_ →
+      IsReading l.i count c all first l.self left_;
   age : l.self.age ≡ l.fn.self.age;
 }
 

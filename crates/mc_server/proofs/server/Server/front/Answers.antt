@@ -15,5 +15,6 @@ returns-in-Some-clause-empty c = λ w st.
 
 pub returns-in-None-clause-empty : goal.returns-in-None-clause-empty
 returns-in-None-clause-empty c = λ w st.
-    let same : ◌≡◌ {A = List ℕ} [] _ = ap owed_of c.in-None.ensures ∙ asked_owed c.args.self.now w c.args.k st in
+    let same : ◌≡◌ {A = List ℕ} [] _ = ap owed_of c.in-None.ensures ∙
+    asked_owed c.args.self.now w c.args.k st in
     (λ e. sym same, λ e. refl)

@@ -7,4 +7,5 @@ use Rattle.mc_server.proofs.server.Server.is_crowded.Goals as goal
 pub returns : goal.returns
 returns c =
     let counted = c.kept.ensures ∙ sym (sessions_count is_kept c.self.inside.connections.items) in
-    (λ i. nat_le (c.from.ensures i + 16) (counted i)) ∙ ap (λ (v : ServerValue). is_crowded (kept_world v)) c.self.view_is
+    (λ i. nat_le (c.from.ensures i + 16) (counted i)) ∙
+    ap (λ (v : ServerValue). is_crowded (kept_world v)) c.self.view_is

@@ -1,5 +1,5 @@
 use Rattle.std.proofs.Common.{refl, sym, subst, ap, ◌∙◌}
-use Rattle.mc_model.specs.World.{is_play}
+use Rattle.std.specs.Prelude.{is_some}
 use Rattle.mc_model.specs.Orderly.{next_number}
 use Rattle.mc_model.proofs.RunEvents.{gone_id}
 use Rattle.mc_server.specs.Served.{ConnectionValue, ServerValue, IsAt}
@@ -10,19 +10,29 @@ use Rattle.mc_server.proofs.Standing.{left_stands, left_none, gone_calm}
 use Rattle.mc_server.proofs.server.Server.leave.Goals as goal
 
 pub returns-in_default-clause-follows : goal.returns-in_default-clause-follows
-returns-in_default-clause-follows c = λ w st. left_none c.args.self.now w c.args.k (c.in_default.ensures.none refl) st
+returns-in_default-clause-follows c = λ w st. left_none c.args.self.now w c.args.k
+    (c.in_default.ensures.none refl) st
 
 pub invariant_of-self : goal.invariant_of-self
 invariant_of-self c =
     let v = the_view c.self.inside in
-    let at : IsAt c.args.k c.in-Some.i v.connections = (let P : ServerValue → Type 0 = λ u. IsAt c.args.k c.in-Some.i u.connections in subst P (sym c.self.view_is) c.in-Some.ensures.some) in
+    let at : IsAt c.args.k c.in-Some.i v.connections =
+    (let P : ServerValue → Type 0 = λ u. IsAt c.args.k c.in-Some.i u.connections in
+    subst P (sym c.self.view_is) c.in-Some.ensures.some) in
     let x : ConnectionValue = c.index_mut.result.now in
-    kept_set c.self.inside.connections.items c.self.invariant c.in-Some.i x c.leave.new.self at.within c.index_mut.ensures.value (ap (λ (d : ConnectionValue). d.session.id) c.leave.ensures ∙ gone_id x.session)
-    (λ plays. gone_calm x.session (ap (λ (d : ConnectionValue). is_play d.session.stage) (sym c.leave.ensures) ∙ plays))
+    kept_set c.self.inside.connections.items c.self.invariant c.in-Some.i x c.leave.new.self
+    at.within c.index_mut.ensures.value (ap (λ (d : ConnectionValue). d.session.id)
+    c.leave.ensures ∙ gone_id x.session)
+    (λ plays. gone_calm x.session (ap (λ (d : ConnectionValue). is_some d.session.player)
+    (sym c.leave.ensures) ∙ plays))
 
 pub returns-clause-follows : goal.returns-clause-follows
 returns-clause-follows c = λ w st.
     let v = the_view c.self.inside in
-    let at : IsAt c.args.k c.in-Some.i v.connections = (let P : ServerValue → Type 0 = λ u. IsAt c.args.k c.in-Some.i u.connections in subst P (sym c.self.view_is) c.in-Some.ensures.some) in
-    left_stands v w (next_number c.self.inside.last) c.args.k c.in-Some.i c.index_mut.result.now c.leave.new.self c.self.invariant.rise at c.index_mut.ensures.value c.leave.ensures
+    let at : IsAt c.args.k c.in-Some.i v.connections =
+    (let P : ServerValue → Type 0 = λ u. IsAt c.args.k c.in-Some.i u.connections in
+    subst P (sym c.self.view_is) c.in-Some.ensures.some) in
+    left_stands v w (next_number c.self.inside.last)
+    c.args.k c.in-Some.i c.index_mut.result.now c.leave.new.self c.self.invariant.rise at
+    c.index_mut.ensures.value c.leave.ensures
     (subst (λ (u : ServerValue). Stands u w) (sym c.self.view_is) st)

@@ -9,7 +9,8 @@ use Rattle.mc_server.proofs.server.Server.read.Given as goal
 abbrev pub invariant-loop-rest : goal.invariant-loop-rest
 invariant-loop-rest l = record {
   open_ : IsOpenAt l.i l.self.connections;
-  reading : (count : ℕ) (c : ConnectionValue) → c ≡ get_or l.fn.self.connections l.i c → c.splitter.before ≡ kept_count count → c.splitter.fault ≡ None → IsPart c.splitter.held →
+  reading : (count : ℕ) (c : ConnectionValue) → c ≡ get_or l.fn.self.connections l.i c →
+      c.splitter.before ≡ kept_count count → c.splitter.fault ≡ None → IsPart c.splitter.held →
       HasRead true l.i count c (c.splitter.held ++ l.fn.bytes) l.fn.self l.self l.rest;
   age : l.self.age ≡ l.fn.self.age;
 }

@@ -1,5 +1,5 @@
 use Rattle.std.proofs.Common.{◌≡◌, sym, subst, ap, ◌∙◌}
-use Rattle.mc_model.specs.World.{is_play}
+use Rattle.std.specs.Prelude.{is_some}
 use Rattle.mc_server.specs.Served.{ConnectionValue, ServerValue}
 use Rattle.mc_server.specs.contracts.server.Server.{the_view}
 use Rattle.mc_server.proofs.Decoding.{if_ok_more}
@@ -9,8 +9,15 @@ use Rattle.mc_server.proofs.server.Server.take.Goals as goal
 
 pub invariant_of-self : goal.invariant_of-self
 invariant_of-self c =
-    kept_set c.self.inside.connections.items c.self.invariant c.args.i c.index_mut.result.now c.take.new.self (within_view c.args.i (the_view c.self.inside) c.args.self.now c.self.view_is c.requires) c.index_mut.ensures.value (ap (λ (d : ConnectionValue). d.session.id) c.take.ensures.rest)
-    (λ plays. ap (λ (d : ConnectionValue). is_play d.session.stage) (sym c.take.ensures.rest) ∙ plays)
+    kept_set c.self.inside.connections.items c.self.invariant c.args.i c.index_mut.result.now
+    c.take.new.self (within_view c.args.i (the_view c.self.inside)
+    c.args.self.now c.self.view_is c.requires)
+    c.index_mut.ensures.value (ap (λ (d : ConnectionValue). d.session.id) c.take.ensures.rest)
+    (λ plays. ap (λ (d : ConnectionValue). is_some d.session.player) (sym c.take.ensures.rest) ∙
+    plays)
 
 pub returns : goal.returns
-returns c = rw (← c.self.view_is) (if_ok_more c.take.result _ _ (λ answer taken. splits_of (the_view c.self.inside) c.args.i c.index_mut.result.now c.take.new.self c.index_mut.ensures.value c.take.ensures.rest _ taken) c.take.ensures.takes)
+returns c = rw (← c.self.view_is) (if_ok_more c.take.result _ _
+    (λ answer taken. splits_of (the_view c.self.inside)
+    c.args.i c.index_mut.result.now c.take.new.self c.index_mut.ensures.value c.take.ensures.rest _
+    taken) c.take.ensures.takes)

@@ -1,5 +1,5 @@
 use Rattle.std.proofs.Common.{refl, sym, subst, ap, ◌∙◌}
-use Rattle.mc_model.specs.World.{is_play}
+use Rattle.std.specs.Prelude.{is_some}
 use Rattle.mc_model.specs.Orderly.{next_number}
 use Rattle.mc_server.specs.Served.{ConnectionValue, ServerValue, IsAt}
 use Rattle.mc_server.specs.Stands.{Stands}
@@ -9,18 +9,27 @@ use Rattle.mc_server.proofs.Standing.{took_stands, took_none}
 use Rattle.mc_server.proofs.server.Server.took.Goals as goal
 
 pub returns-in_default-clause-follows : goal.returns-in_default-clause-follows
-returns-in_default-clause-follows c = λ w st. took_none c.args.self.now w c.args.k c.args.n (c.in_default.ensures.none refl) st
+returns-in_default-clause-follows c = λ w st. took_none c.args.self.now w c.args.k c.args.n
+    (c.in_default.ensures.none refl) st
 
 pub invariant_of-self : goal.invariant_of-self
 invariant_of-self c =
     let v = the_view c.self.inside in
-    let at : IsAt c.args.k c.in-Some.i v.connections = (let P : ServerValue → Type 0 = λ u. IsAt c.args.k c.in-Some.i u.connections in subst P (sym c.self.view_is) c.in-Some.ensures.some) in
-    kept_set c.self.inside.connections.items c.self.invariant c.in-Some.i c.index_mut.result.now c.took.new.self at.within c.index_mut.ensures.value (ap (λ (d : ConnectionValue). d.session.id) c.took.ensures)
-    (λ plays. ap (λ (d : ConnectionValue). is_play d.session.stage) (sym c.took.ensures) ∙ plays)
+    let at : IsAt c.args.k c.in-Some.i v.connections =
+    (let P : ServerValue → Type 0 = λ u. IsAt c.args.k c.in-Some.i u.connections in
+    subst P (sym c.self.view_is) c.in-Some.ensures.some) in
+    kept_set c.self.inside.connections.items c.self.invariant c.in-Some.i c.index_mut.result.now
+    c.took.new.self at.within c.index_mut.ensures.value
+    (ap (λ (d : ConnectionValue). d.session.id) c.took.ensures)
+    (λ plays. ap (λ (d : ConnectionValue). is_some d.session.player) (sym c.took.ensures) ∙ plays)
 
 pub returns-clause-follows : goal.returns-clause-follows
 returns-clause-follows c = λ w st.
     let v = the_view c.self.inside in
-    let at : IsAt c.args.k c.in-Some.i v.connections = (let P : ServerValue → Type 0 = λ u. IsAt c.args.k c.in-Some.i u.connections in subst P (sym c.self.view_is) c.in-Some.ensures.some) in
-    took_stands v w (next_number c.self.inside.last) c.args.k c.in-Some.i c.args.n c.index_mut.result.now c.took.new.self c.self.invariant.rise at c.index_mut.ensures.value c.took.ensures
+    let at : IsAt c.args.k c.in-Some.i v.connections =
+    (let P : ServerValue → Type 0 = λ u. IsAt c.args.k c.in-Some.i u.connections in
+    subst P (sym c.self.view_is) c.in-Some.ensures.some) in
+    took_stands v w (next_number c.self.inside.last)
+    c.args.k c.in-Some.i c.args.n c.index_mut.result.now c.took.new.self c.self.invariant.rise
+    at c.index_mut.ensures.value c.took.ensures
     (subst (λ (u : ServerValue). Stands u w) (sym c.self.view_is) st)

@@ -1,0 +1,39 @@
+use Rattle.std.proofs.Common.{◌≡◌, ◌<◌, ◌≤◌, length, List, sym, subst, arith, take}
+use Rattle.std.specs.List.{AllByRecursion}
+use Rattle.std.proofs.lemmas.List.{take_all}
+use Rattle.mc_server.specs.Served.{ConnectionValue}
+use Rattle.mc_server.specs.Ticking.{IsPrepared}
+use Rattle.mc_server.proofs.ReadyFacts.{prepared_next, same_itself, same_onward}
+use Rattle.mc_server.proofs.scene.prepare_clients.Goals as goal
+
+pub loop-i-init : goal.loop-i-init
+loop-i-init g c = record {
+  ready = tt;
+  frames = λ list are. are;
+  same = same_itself c.args.land.now;
+}
+
+pub loop-i-preserved : goal.loop-i-preserved
+loop-i-preserved g c =
+    let cs = c.args.connections.now.items in
+    let h = c.loop-i.invariant in
+    let step = c.prepare_client.ensures in
+    let lt : c.loop-i.i < length cs =
+    omega (arith, c.loop-i-test.true, c.len-i-end.ensures, c.args.connections.now.ok.0) in
+    record {
+      ready = prepared_next c.args.settings.now.cap c.loop-i.land c.prepare_client.new.land cs
+          c.loop-i.i
+          c.index.result.now lt c.index.ensures step.grown c.in_ok-prepare_client.ensures.ready
+          h.ready;
+      frames = λ list are. step.frames list (h.frames list are);
+      same = same_onward c.args.land.now c.loop-i.land c.prepare_client.new.land h.same step.same;
+    }
+
+pub returns-clause-ready : goal.returns-clause-ready
+returns-clause-ready g c =
+    let cs = c.args.connections.now.items in
+    let le : length cs ≤ c.loop-i.i =
+    omega (arith, c.loop-i-test.false, c.len-i-end.ensures, c.args.connections.now.ok.0) in
+    subst (AllByRecursion (IsPrepared c.args.settings.now.cap c.loop-i.land))
+    (take_all c.loop-i.i cs le)
+    c.loop-i.invariant.ready
