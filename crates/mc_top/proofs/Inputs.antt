@@ -1,25 +1,41 @@
--- What is known of an input that was read whole.
-use Rattle.std.proofs.Common.{◌≡◌, ℕ, inl, inr, List, ◌++◌, take, Option, Some, None, Result, Ok, Err, refl, sym, subst, ap, ◌∙◌, append_assoc, arith}
+-- What is known of an input that was read as a text.
+use Rattle.std.proofs.Common.{◌≡◌, ℕ, ◌+◌, ◌⊎◌, inl, inr, List, [], ◌++◌, length, take, Option, Some, None, Result, Ok, Err, refl, sym, subst, ap, ◌∙◌, append_assoc, arith}
 use Rattle.std.specs.Prelude.{IfSome, OnOk, OnErr}
 use Rattle.std.proofs.lemmas.List.{append-nil}
 use Rattle.mc_wire.specs.Count.{Rose, StandsOrRises}
-use Rattle.mc_wire.specs.Stream.{Grows, Consumes, IsAtEnd}
+use Rattle.mc_wire.specs.Stream.{Grows, IsAtEnd}
 use Rattle.mc_top.specs.declared.bad_input.BadInput.{BadInput}
 use Rattle.mc_top.specs.declared.ended.Ended.{Ended}
 use Rattle.mc_top.specs.declared.ended.Ended.TheVariants as ended
-use Rattle.mc_top.specs.Devices.{WroteLast, WroteTextThenLast}
+use Rattle.mc_top.specs.Devices.{ReadsText, WroteLast, WroteTextThenLast}
 use Rattle.mc_top.specs.Ended.{ended_after}
 use Rattle.mc_top.specs.StatusText.{Told, status_told}
-use Rattle.mc_top.specs.StatusPromise.{RepliedPart, Replied, Found, IsFineText, IsBadText}
-use Rattle.mc_top.specs.Heard.{SendsPart}
+use Rattle.mc_top.specs.Lines.{text_max}
+use Rattle.mc_top.specs.StatusPromise.{RepliedPart, Replied, Found}
+use Rattle.mc_top.proofs.LongTexts.{told_front, long_faulty}
+use Rattle.mc_top.specs.Received.{SendsPart}
 
--- what holds of the bytes that were read holds of what was left, where that is told
-pub of_whole : (P : List ℕ → Type 0) (left left' : Option (List ℕ)) (bytes : List ℕ) → Consumes left left' bytes → IsAtEnd left' → P bytes → IfSome left P
-of_whole P None left' bytes all end p = tt
-of_whole P (Some xs) None bytes all end p = absurd all
-of_whole P (Some xs) (Some ys) bytes all end p =
-    let same : xs ≡ bytes = all ∙ rw end (append-nil bytes) in
-    subst P (sym same) p
+-- what is known of the bytes that were read is known of all that was left, where that is told, if it
+-- is alike for a text that is too long and its first bytes
+pub of_read : {A : Type 0} (f : List ℕ → A) (P : A → Type 0) (left left' : Option (List ℕ))
+    (bytes : List ℕ) → ((front more : List ℕ) → length front ≡ text_max + 1 →
+    f (front ++ more) ≡ f front) → ReadsText left left' bytes → P (f bytes) →
+    IfSome left (λ input. P (f input))
+of_read f P None left' bytes alike read p = tt
+of_read f P (Some xs) None bytes alike read p = absurd read.given
+of_read f P (Some xs) (Some ys) bytes alike read p = subst P (sym (same read.enough)) p
+  where
+    same : (ys ≡ []) ⊎ (length bytes ≡ text_max + 1) → f xs ≡ f bytes
+    same (inl end) = ap f (read.given ∙ rw end (append-nil bytes))
+    same (inr long) = ap f read.given ∙ alike bytes ys long
+
+-- a text that is not too long was read to its end
+pub whole_read : (left left' : Option (List ℕ)) (bytes : List ℕ) → ReadsText left left' bytes →
+    (length bytes ≡ text_max + 1 → ⊥) → IsAtEnd left'
+whole_read left left' bytes read fits = elim read.enough [
+  | inl end ↦ end
+  | inr long ↦ absurd (fits long)
+]
 
 -- a last line was written, or a part of it where the sink failed
 pub wrote_last : {E : Type 0} (r : Result (Unit {0}) E) (held held' : Option (List ℕ)) (faults faults' : ℕ) (piece line : List ℕ) → OnOk r (Grows held held' piece) → OnErr r ((n : ℕ) × Grows held held' (take n piece)) → OnErr r (Rose faults faults') → piece ≡ line → WroteLast held held' faults faults' line
@@ -65,26 +81,26 @@ text_of told text fault is = ap (λ (t : Told). t.text) is
 told_is : (told : Told) (fault : Option BadInput) → fault ≡ told.fault → told ≡ record { text = told.text; fault = fault }
 told_is told fault is = ap (λ (f : Option BadInput). record { text = told.text; fault = f }) (sym is)
 
-pub replied : (most : ℕ) (left left' held held' : Option (List ℕ)) (bytes : List ℕ) → Consumes left left' bytes → IsAtEnd left' → None ≡ (status_told most bytes).fault → Grows held held' (status_told most bytes).text → Replied most left left' held held'
-replied most left left' held held' bytes all end is wrote = record {
+pub replied : (most : ℕ) (left left' held held' : Option (List ℕ)) (bytes : List ℕ) → ReadsText left left' bytes → None ≡ (status_told most bytes).fault → Grows held held' (status_told most bytes).text → Replied most left left' held held'
+replied most left left' held held' bytes read is wrote = record {
   text = (status_told most bytes).text;
-  fine = of_whole (IsFineText most (status_told most bytes).text) left left' bytes all end (told_is (status_told most bytes) None is);
-  ended = end;
+  fine = of_read (status_told most) (λ told. told ≡ record { text = (status_told most bytes).text; fault = None }) left left' bytes (told_front most) read (told_is (status_told most bytes) None is);
+  ended = whole_read left left' bytes read (λ long. long_faulty most bytes long (sym is));
   wrote = wrote;
 }
 
-pub found : (most : ℕ) (bad : BadInput) (left left' held held' : Option (List ℕ)) (bytes : List ℕ) → Consumes left left' bytes → IsAtEnd left' → Some bad ≡ (status_told most bytes).fault → Grows held held' (status_told most bytes).text → Found most bad left left' held held'
-found most bad left left' held held' bytes all end is wrote = record {
+pub found : (most : ℕ) (bad : BadInput) (left left' held held' : Option (List ℕ)) (bytes : List ℕ) → ReadsText left left' bytes → Some bad ≡ (status_told most bytes).fault → Grows held held' (status_told most bytes).text → Found most bad left left' held held'
+found most bad left left' held held' bytes read is wrote = record {
   text = (status_told most bytes).text;
-  first = of_whole (IsBadText most bad (status_told most bytes).text) left left' bytes all end (told_is (status_told most bytes) (Some bad) is);
-  ended = end;
+  first = of_read (status_told most) (λ told. told ≡ record { text = (status_told most bytes).text; fault = Some bad }) left left' bytes (told_front most) read (told_is (status_told most bytes) (Some bad) is);
+  ended = (bytes, read);
   wrote = wrote;
 }
 
-pub replied_part : (most : ℕ) (left left' held held' : Option (List ℕ)) (bytes : List ℕ) → Consumes left left' bytes → IsAtEnd left' → SendsPart held held' (status_told most bytes).text → RepliedPart most left held held'
-replied_part most left left' held held' bytes all end wrote = record {
+pub replied_part : (most : ℕ) (left left' held held' : Option (List ℕ)) (bytes : List ℕ) → ReadsText left left' bytes → SendsPart held held' (status_told most bytes).text → RepliedPart most left held held'
+replied_part most left left' held held' bytes read wrote = record {
   text = (status_told most bytes).text;
-  is = of_whole (λ input. (status_told most input).text ≡ (status_told most bytes).text) left left' bytes all end refl;
+  is = of_read (status_told most) (λ told. told.text ≡ (status_told most bytes).text) left left' bytes (told_front most) read refl;
   len = wrote.0;
   wrote = wrote.1;
 }
@@ -97,18 +113,18 @@ no_bad bad e = cc
 not_bad : (bad : BadInput) → ended.Done ≡ ended.BadInput bad → ⊥
 not_bad bad e = cc
 
-bad_is : (a b : BadInput) → ended.BadInput a ≡ ended.BadInput b → a ≡ b
+pub bad_is : (a b : BadInput) → ended.BadInput a ≡ ended.BadInput b → a ≡ b
 bad_is a b e = cc
 
-pub done_replied : (most : ℕ) (fault : Option BadInput) (result : Ended) (left left' held held' : Option (List ℕ)) (bytes : List ℕ) → result ≡ ended_after fault → result ≡ ended.Done → Consumes left left' bytes → IsAtEnd left' → fault ≡ (status_told most bytes).fault → Grows held held' (status_told most bytes).text → Replied most left left' held held'
-done_replied most None result left left' held held' bytes is done all end t wrote = replied most left left' held held' bytes all end t wrote
-done_replied most (Some bad) result left left' held held' bytes is done all end t wrote = absurd (no_bad bad (sym is ∙ done))
+pub done_replied : (most : ℕ) (fault : Option BadInput) (result : Ended) (left left' held held' : Option (List ℕ)) (bytes : List ℕ) → result ≡ ended_after fault → result ≡ ended.Done → ReadsText left left' bytes → fault ≡ (status_told most bytes).fault → Grows held held' (status_told most bytes).text → Replied most left left' held held'
+done_replied most None result left left' held held' bytes is done read t wrote = replied most left left' held held' bytes read t wrote
+done_replied most (Some bad) result left left' held held' bytes is done read t wrote = absurd (no_bad bad (sym is ∙ done))
 
-pub bad_found : (most : ℕ) (fault : Option BadInput) (result : Ended) (bad : BadInput) (left left' held held' : Option (List ℕ)) (bytes : List ℕ) → result ≡ ended_after fault → result ≡ ended.BadInput bad → Consumes left left' bytes → IsAtEnd left' → fault ≡ (status_told most bytes).fault → Grows held held' (status_told most bytes).text → Found most bad left left' held held'
-bad_found most None result bad left left' held held' bytes is bad_ all end t wrote = absurd (not_bad bad (sym is ∙ bad_))
-bad_found most (Some other) result bad left left' held held' bytes is bad_ all end t wrote =
+pub bad_found : (most : ℕ) (fault : Option BadInput) (result : Ended) (bad : BadInput) (left left' held held' : Option (List ℕ)) (bytes : List ℕ) → result ≡ ended_after fault → result ≡ ended.BadInput bad → ReadsText left left' bytes → fault ≡ (status_told most bytes).fault → Grows held held' (status_told most bytes).text → Found most bad left left' held held'
+bad_found most None result bad left left' held held' bytes is bad_ read t wrote = absurd (not_bad bad (sym is ∙ bad_))
+bad_found most (Some other) result bad left left' held held' bytes is bad_ read t wrote =
     let P : BadInput → Type 0 = λ b. Found most b left left' held held' in
-    subst P (bad_is other bad (sym is ∙ bad_)) (found most other left left' held held' bytes all end t wrote)
+    subst P (bad_is other bad (sym is ∙ bad_)) (found most other left left' held held' bytes read t wrote)
 
 -- ---- counts of faults
 

@@ -1,9 +1,10 @@
 pub mod Cuts
 pub mod Reading
 pub mod Exchanges
-pub mod Hearing
+pub mod Receiving
 pub mod Answering
 pub mod StatusLines
+pub mod LongTexts
 pub mod Inputs
 pub mod DigitSteps
 pub mod Scripts

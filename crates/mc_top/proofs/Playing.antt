@@ -15,7 +15,7 @@ use Rattle.mc_model.proofs.RunOrder.{orderly_run}
 use Rattle.mc_server.specs.Served.{ServerValue}
 use Rattle.mc_server.specs.Stands.{Stands}
 use Rattle.mc_top.specs.declared.script_line.ScriptEvent.{ScriptEvent}
-use Rattle.mc_top.specs.ReplayText.{told, takings, settled, replay_text, line_events, events_of}
+use Rattle.mc_top.specs.ReplayText.{lines_after, takings, settled, replay_text, line_events, events_of}
 use Rattle.mc_top.specs.Replaying.{IsReached, HasPlayed, HasStopped, replay_world, line_ticks, ticks_of}
 use Rattle.mc_top.proofs.Inputs.{grows_two}
 
@@ -48,8 +48,8 @@ reached_world w (e ∷ events) r = reached_world (settled (step w e).world) even
 text_more : (w : World) (xs ys : List Event) → replay_text w (xs ++ ys) ≡ replay_text w xs ++ replay_text (replay_world w xs) ys
 text_more w [] ys = refl
 text_more w (e ∷ xs) ys =
-    ap (λ (t : List ℕ). told (step w e).world ++ t) (text_more (settled (step w e).world) xs ys)
-    ∙ sym (append_assoc (told (step w e).world) (replay_text (settled (step w e).world) xs) (replay_text (replay_world (settled (step w e).world) xs) ys))
+    ap (λ (t : List ℕ). lines_after (step w e).world ++ t) (text_more (settled (step w e).world) xs ys)
+    ∙ sym (append_assoc (lines_after (step w e).world) (replay_text (settled (step w e).world) xs) (replay_text (replay_world (settled (step w e).world) xs) ys))
 
 world_more : (w : World) (xs ys : List Event) → replay_world w (xs ++ ys) ≡ replay_world (replay_world w xs) ys
 world_more w [] ys = refl
@@ -110,16 +110,16 @@ stopped_none events w held = record { len = 0; wrote = grows_none held }
 -- ---- one event
 
 pub played_one : (e : Event) (w : World) (server : ServerValue) (held held' : Option (List ℕ)) (text : List ℕ) →
-    Stands server (settled (step w e).world) → text ≡ told (step w e).world → Grows held held' text → HasPlayed (e ∷ []) w server held held'
+    Stands server (settled (step w e).world) → text ≡ lines_after (step w e).world → Grows held held' text → HasPlayed (e ∷ []) w server held held'
 played_one e w server held held' text stands is wrote =
     let Q : List ℕ → Type 0 = λ t. Grows held held' t in
-    record { stands = stands; wrote = subst Q (is ∙ sym (append-nil (told (step w e).world))) wrote }
+    record { stands = stands; wrote = subst Q (is ∙ sym (append-nil (lines_after (step w e).world))) wrote }
 
-pub stopped_one : (e : Event) (w : World) (held held' : Option (List ℕ)) (text : List ℕ) → text ≡ told (step w e).world →
+pub stopped_one : (e : Event) (w : World) (held held' : Option (List ℕ)) (text : List ℕ) → text ≡ lines_after (step w e).world →
     (n : ℕ) × Grows held held' (take n text) → HasStopped (e ∷ []) w held held'
 stopped_one e w held held' text is part =
     let Q : List ℕ → Type 0 = λ t. Grows held held' (take part.0 t) in
-    record { len = part.0; wrote = subst Q (is ∙ sym (append-nil (told (step w e).world))) part.1 }
+    record { len = part.0; wrote = subst Q (is ∙ sym (append-nil (lines_after (step w e).world))) part.1 }
 
 -- ---- ticks
 

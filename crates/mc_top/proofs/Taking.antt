@@ -15,7 +15,7 @@ use Rattle.mc_model.specs.Run.{history}
 use Rattle.mc_model.specs.Orderly.{AreApart}
 use Rattle.mc_model.proofs.Sessions.{some_none, other_number, same_number, found_map, found_behind}
 use Rattle.mc_server.specs.Asking.{owed_of, owed_in, is_over, is_done_in}
-use Rattle.mc_top.specs.ReplayText.{owes, is_shut, tells_sent, tells_shut, telling_line, tellings, told, takings, settled}
+use Rattle.mc_top.specs.ReplayText.{owes, is_shut, tells_sent, tells_shut, telling_line, tellings, lines_after, takings, settled}
 use Rattle.mc_top.specs.Replaying.{taken, sent_by, forgotten, shut_by, all_taken, all_sent, all_forgotten, all_shut}
 
 -- ---- pieces of what a connection is owed
@@ -341,14 +341,14 @@ all_settled w apart =
     ∙ sym (settled_is w apart)
 
 -- the lines, of each in turn
-told_lines : (w : World) → told w ≡ flat_map sent_line (filter owes w.sessions) ++ flat_map shut_line (filter is_shut w.sessions)
-unfolding told tellings
+told_lines : (w : World) → lines_after w ≡ flat_map sent_line (filter owes w.sessions) ++ flat_map shut_line (filter is_shut w.sessions)
+unfolding lines_after tellings
 told_lines w =
     flat_map-append telling_line (map (λ (s : Session). tells_sent s.id s.owed) (filter owes w.sessions)) (map (λ (s : Session). tells_shut s.id) (filter is_shut w.sessions))
     ∙ ap (λ (t : List ℕ). t ++ flat_map telling_line (map (λ (s : Session). tells_shut s.id) (filter is_shut w.sessions))) (flat_map-map telling_line (λ (s : Session). tells_sent s.id s.owed) (filter owes w.sessions))
     ∙ ap (λ (t : List ℕ). flat_map sent_line (filter owes w.sessions) ++ t) (flat_map-map telling_line (λ (s : Session). tells_shut s.id) (filter is_shut w.sessions))
 
-pub all_told : (w : World) → AreApart w.sessions → all_sent (ids_of w.sessions) w ++ all_shut (ids_of w.sessions) (all_taken (ids_of w.sessions) w) ≡ told w
+pub all_told : (w : World) → AreApart w.sessions → all_sent (ids_of w.sessions) w ++ all_shut (ids_of w.sessions) (all_taken (ids_of w.sessions) w) ≡ lines_after w
 all_told w apart =
     ap (λ (t : List ℕ). t ++ all_shut (ids_of w.sessions) (all_taken (ids_of w.sessions) w)) (sends_all w [] w.sessions (new_first w.sessions) apart)
     ∙ ap (λ (t : List ℕ). flat_map sent_line (filter owes w.sessions) ++ t) (

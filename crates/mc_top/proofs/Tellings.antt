@@ -12,7 +12,7 @@ use Rattle.mc_server.specs.Served.{ServerValue}
 use Rattle.mc_server.specs.Stands.{Stands}
 use Rattle.mc_server.specs.Asking.{owed_in}
 use Rattle.mc_top.specs.Passes.{Passes, Breaks}
-use Rattle.mc_top.specs.ReplayText.{told, settled}
+use Rattle.mc_top.specs.ReplayText.{lines_after, settled}
 use Rattle.mc_top.specs.Replaying.{IsReached, taken, sent_by, sent_in, all_taken, all_sent, all_forgotten, all_shut, TakesFront, each, each_line}
 use Rattle.mc_top.proofs.Passing.{passes_none, passes_next, passes_two, passes_all, breaks_next, breaks_early, breaks_two}
 use Rattle.mc_top.proofs.Playing.{reached_apart}
@@ -206,12 +206,12 @@ underway_done change line ks w server held held' i old new all u =
 
 -- ---- the lines of a world
 
-told_is : (w : World) (ids : List ℕ) → AreApart w.sessions → ids ≡ ids_of w.sessions → all_sent ids w ++ all_shut ids (all_taken ids w) ≡ told w
+told_is : (w : World) (ids : List ℕ) → AreApart w.sessions → ids ≡ ids_of w.sessions → all_sent ids w ++ all_shut ids (all_taken ids w) ≡ lines_after w
 told_is w ids apart is = ap (λ (ks : List ℕ). all_sent ks w ++ all_shut ks (all_taken ks w)) is ∙ all_told w apart
 
 -- all that is told of a world was written, and nothing waits
 pub lines_put : (w : World) (server : ServerValue) (ids half near : List ℕ) (h0 h1 h2 h3 : Option (List ℕ)) → IsReached w → ids ≡ ids_of w.sessions → Stands server (all_forgotten ids (all_taken ids w)) →
-    Passes h0 h1 [] (all_sent ids w) half [] → Passes h1 h2 half (all_shut ids (all_taken ids w)) near [] → Passes h2 h3 near [] [] [] → Stands server (settled w) × Grows h0 h3 (told w)
+    Passes h0 h1 [] (all_sent ids w) half [] → Passes h1 h2 half (all_shut ids (all_taken ids w)) near [] → Passes h2 h3 near [] [] [] → Stands server (settled w) × Grows h0 h3 (lines_after w)
 lines_put w server ids half near h0 h1 h2 h3 r is stands sent shut out =
     let apart = reached_apart w r in
     let P : World → Type 0 = λ v. Stands server v in
@@ -223,20 +223,20 @@ lines_put w server ids half near h0 h1 h2 h3 r is stands sent shut out =
     )
 
 -- it broke in what tells what was sent
-pub lines_break_sent : (w : World) (ids : List ℕ) (h0 h1 : Option (List ℕ)) → IsReached w → ids ≡ ids_of w.sessions → Breaks h0 h1 [] (all_sent ids w) → Breaks h0 h1 [] (told w)
+pub lines_break_sent : (w : World) (ids : List ℕ) (h0 h1 : Option (List ℕ)) → IsReached w → ids ≡ ids_of w.sessions → Breaks h0 h1 [] (all_sent ids w) → Breaks h0 h1 [] (lines_after w)
 lines_break_sent w ids h0 h1 r is b =
     let P : List ℕ → Type 0 = λ t. Breaks h0 h1 [] t in
     subst P (told_is w ids (reached_apart w r) is) (breaks_early h0 h1 [] (all_sent ids w) (all_shut ids (all_taken ids w)) b)
 
 -- in what tells who was closed
-pub lines_break_shut : (w : World) (ids half : List ℕ) (h0 h1 h2 : Option (List ℕ)) → IsReached w → ids ≡ ids_of w.sessions → Passes h0 h1 [] (all_sent ids w) half [] → Breaks h1 h2 half (all_shut ids (all_taken ids w)) → Breaks h0 h2 [] (told w)
+pub lines_break_shut : (w : World) (ids half : List ℕ) (h0 h1 h2 : Option (List ℕ)) → IsReached w → ids ≡ ids_of w.sessions → Passes h0 h1 [] (all_sent ids w) half [] → Breaks h1 h2 half (all_shut ids (all_taken ids w)) → Breaks h0 h2 [] (lines_after w)
 lines_break_shut w ids half h0 h1 h2 r is sent b =
     let P : List ℕ → Type 0 = λ t. Breaks h0 h2 [] t in
     let shut : List ℕ = all_shut ids (all_taken ids w) in
     subst P (ap (λ (t : List ℕ). all_sent ids w ++ t) (append-nil shut) ∙ told_is w ids (reached_apart w r) is) (breaks_two h0 h1 h2 [] (all_sent ids w) half shut [] sent b)
 
 -- or where all waits
-pub lines_break_out : (w : World) (ids half near : List ℕ) (h0 h1 h2 h3 : Option (List ℕ)) → IsReached w → ids ≡ ids_of w.sessions → Passes h0 h1 [] (all_sent ids w) half [] → Passes h1 h2 half (all_shut ids (all_taken ids w)) near [] → Breaks h2 h3 near [] → Breaks h0 h3 [] (told w)
+pub lines_break_out : (w : World) (ids half near : List ℕ) (h0 h1 h2 h3 : Option (List ℕ)) → IsReached w → ids ≡ ids_of w.sessions → Passes h0 h1 [] (all_sent ids w) half [] → Passes h1 h2 half (all_shut ids (all_taken ids w)) near [] → Breaks h2 h3 near [] → Breaks h0 h3 [] (lines_after w)
 lines_break_out w ids half near h0 h1 h2 h3 r is sent shut b =
     let P : List ℕ → Type 0 = λ t. Breaks h0 h3 [] t in
     let text : List ℕ = all_sent ids w ++ all_shut ids (all_taken ids w) in

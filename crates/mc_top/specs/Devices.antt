@@ -1,9 +1,10 @@
 -- The two devices of a run, as its promises see them: before it, and after it. Rules of this
 -- project.
-use Rattle.std.specs.Prelude.{ℕ, ◌⊎◌, List, ◌++◌, take, Option}
+use Rattle.std.specs.Prelude.{◌≡◌, ℕ, ◌+◌, ◌≤◌, ◌⊎◌, List, ◌++◌, take, length, Option}
 use Rattle.mc_wire.specs.Count.{Rose}
-use Rattle.mc_wire.specs.Stream.{Grows}
+use Rattle.mc_wire.specs.Stream.{Consumes, Grows, IsAtEnd}
 use Rattle.mc_top.specs.Ended.{read_fault_line}
+use Rattle.mc_top.specs.Lines.{text_max}
 
 pub record Devices : Type 0 where
   -- what is left of the input, where the source tells it
@@ -23,12 +24,23 @@ devices left read_faults held write_faults = record {
   write_faults = write_faults;
 }
 
+-- these bytes of an input were read, which are all of it or one more than a text has at most; no
+-- more are read
+pub record ReadsText (left left' : Option (List ℕ)) (bytes : List ℕ) : Type 0 where
+  pub given : Consumes left left' bytes
+  pub within : length bytes ≤ text_max + 1
+  pub enough : IsAtEnd left' ⊎ (length bytes ≡ text_max + 1)
+
+-- a text was read to its end, or to one byte past the most that a text has
+abbrev pub IsTextRead : Option (List ℕ) → Option (List ℕ) → Type 0
+IsTextRead left left' = (bytes : List ℕ) × ReadsText left left' bytes
+
 -- a last line, with its end, was written, or some first part of it where the sink failed
 abbrev pub WroteLast : Option (List ℕ) → Option (List ℕ) → ℕ → ℕ → List ℕ → Type 0
 WroteLast held held' faults faults' line =
     Grows held held' line ⊎ (Rose faults faults' × (len : ℕ) × Grows held held' (take len line))
 
--- the same behind a text
+-- a last line was written so behind a text
 abbrev pub WroteTextThenLast : Option (List ℕ) → Option (List ℕ) → ℕ → ℕ → List ℕ → List ℕ → Type 0
 WroteTextThenLast held held' faults faults' text line =
     Grows held held' (text ++ line)

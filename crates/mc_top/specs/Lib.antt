@@ -2,7 +2,7 @@ pub mod Lines
 pub mod FaultName
 pub mod Ended
 pub mod StatusText
-pub mod Heard
+pub mod Received
 pub mod Words
 pub mod Devices
 pub mod StatusPromise

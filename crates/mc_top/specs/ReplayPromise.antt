@@ -9,7 +9,7 @@ use Rattle.mc_top.specs.declared.script_line.ScriptEvent.{ScriptEvent}
 use Rattle.mc_top.specs.declared.words.Options.{Options}
 use Rattle.mc_top.specs.declared.ended.Ended.{Ended}
 use Rattle.mc_top.specs.declared.ended.Ended.TheVariants as ended
-use Rattle.mc_top.specs.Devices.{Devices, InputFailed, WroteLast}
+use Rattle.mc_top.specs.Devices.{Devices, InputFailed, IsTextRead, WroteLast}
 use Rattle.mc_top.specs.Ended.{bad_input_line}
 use Rattle.mc_top.specs.Script.{script_of}
 use Rattle.mc_top.specs.ReplayText.{events_of, replay_text, replay_log, IsToldTaken}
@@ -49,13 +49,13 @@ pub record ReplayedPart (options : Options) (left held held' : Option (List ℕ)
 abbrev pub ReplayedPartOrNothing : Options → Option (List ℕ) → Option (List ℕ) → Option (List ℕ) → Type 0
 ReplayedPartOrNothing options left held held' = Grows held held' [] ⊎ ReplayedPart options left held held'
 
--- the input was read to its end, and this is its first fault
+-- the input was read to its end or until it was too long, and this is its first fault
 pub record FoundFault (bad : BadInput) (left left' : Option (List ℕ)) : Type 0 where
   pub first : IfSome left (IsFaultOf bad)
-  pub ended : IsAtEnd left'
+  pub ended : IsTextRead left left'
 
--- the input was read to its end, this is its first fault, and nothing but the last line was written,
--- which names it
+-- the input was read to its end or until it was too long, this is its first fault, and nothing but
+-- the last line was written, which names it
 pub record Rejected (bad : BadInput) (before after : Devices) : Type 0 where
   pub found : FoundFault bad before.left after.left
   pub wrote : WroteLast before.held after.held before.write_faults after.write_faults

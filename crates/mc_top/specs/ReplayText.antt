@@ -1,11 +1,14 @@
--- What `replay` writes for a list of events, and the log of all that happens. Rules of this project: after each event every
--- connection takes all that it is owed, and those that are closed are forgotten.
-use Rattle.std.specs.Prelude.{◌≡◌, ℕ, ◌==◌, nat_lt, Bool, false, List, [], ◌∷◌, ◌++◌, length, map, replicate, Some, codes, decimal, if◌then◌else◌}
+-- What `replay` writes for a list of events, and the log of all that happens. Rules of this
+-- project: after each event every connection takes all that it is owed, and those that are closed
+-- are forgotten.
+use Rattle.std.specs.Prelude.{◌≡◌, ◌≢◌, ℕ, ◌==◌, nat_lt, Bool, List, [], ◌∷◌, ◌++◌, length, map}
+use Rattle.std.specs.Prelude.{replicate, Some, codes, decimal, if◌then◌else◌}
 use Rattle.std.specs.List.{filter, flat_map}
 use Rattle.hex.specs.Hex.{encode_lower}
-use Rattle.mc_model.specs.World.{World, Session, found, is_closed}
+use Rattle.mc_model.specs.declared.cause.Cause.TheVariants.{Backlog}
+use Rattle.mc_model.specs.World.{World, Session, is_closed}
 use Rattle.mc_model.specs.Step.{Event, joined, came, left, ticked, took, forgot, step}
-use Rattle.mc_model.specs.Run.{history, stream, taken}
+use Rattle.mc_model.specs.Run.{history, stream, taken, why}
 use Rattle.mc_top.specs.declared.script_line.ScriptEvent.{ScriptEvent}
 use Rattle.mc_top.specs.declared.script_line.ScriptEvent.TheVariants.{Joined, Came, Gone, Ticks}
 
@@ -35,12 +38,14 @@ tellings w =
     ++ map (λ (s : Session). tells_shut s.id) (filter is_shut w.sessions)
 
 -- the lines of a world after an event
-unfoldable pub told : World → List ℕ
-told w = flat_map telling_line (tellings w)
+unfoldable pub lines_after : World → List ℕ
+lines_after w = flat_map telling_line (tellings w)
 
 -- each takes all that it is owed, and those that are closed are forgotten
 unfoldable pub takings : World → List Event
-takings w = map (λ (s : Session). took s.id (length s.owed)) (filter owes w.sessions) ++ map (λ (s : Session). forgot s.id) (filter is_shut w.sessions)
+takings w =
+    map (λ (s : Session). took s.id (length s.owed)) (filter owes w.sessions)
+    ++ map (λ (s : Session). forgot s.id) (filter is_shut w.sessions)
 
 abbrev pub settled : World → World
 settled w = history w (takings w)
@@ -49,7 +54,8 @@ settled w = history w (takings w)
 
 abbrev pub replay_text : World → List Event → List ℕ
 replay_text w [] = []
-replay_text w (e ∷ events) = told (step w e).world ++ replay_text (settled (step w e).world) events
+replay_text w (e ∷ events) =
+    lines_after (step w e).world ++ replay_text (settled (step w e).world) events
 
 -- all that is told
 abbrev pub replay_tellings : World → List Event → List Telling
@@ -60,7 +66,8 @@ replay_tellings w (e ∷ events) =
 -- all that happens
 abbrev pub replay_log : World → List Event → List Event
 replay_log w [] = []
-replay_log w (e ∷ events) = e ∷ takings (step w e).world ++ replay_log (settled (step w e).world) events
+replay_log w (e ∷ events) =
+    e ∷ takings (step w e).world ++ replay_log (settled (step w e).world) events
 
 -- ---- what the `sent` lines of one connection tell
 
@@ -73,13 +80,13 @@ abbrev pub sent_to : ℕ → List Telling → List ℕ
 sent_to k all = flat_map (sent_for k) all
 
 -- What is told of connection k is what it took of all that it was handed: just the bytes that it
--- took in the log, so the first ones of its stream, and all of that where it is open at the end.
+-- took in the log, so the first ones of its stream, and all of that unless it was closed as
+-- Backlog.
 pub record IsToldTaken (k : ℕ) (w : World) (events : List Event) : Type 0 where
   pub is_taken : sent_to k (replay_tellings w events) ≡ taken k w (replay_log w events)
   pub begun : (more : List ℕ) ×
       (stream k w (replay_log w events) ≡ sent_to k (replay_tellings w events) ++ more)
-  pub whole : (s : Session) → found k (history w (replay_log w events)).sessions ≡ Some s →
-      is_closed s.stage ≡ false →
+  pub whole : why k w (replay_log w events) ≢ Some Backlog →
       stream k w (replay_log w events) ≡ sent_to k (replay_tellings w events)
 
 -- ---- the events of a script: a line of ticks is so many

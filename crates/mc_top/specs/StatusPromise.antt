@@ -5,7 +5,7 @@ use Rattle.mc_wire.specs.Stream.{Grows, IsAtEnd}
 use Rattle.mc_top.specs.declared.bad_input.BadInput.{BadInput}
 use Rattle.mc_top.specs.declared.ended.Ended.{Ended}
 use Rattle.mc_top.specs.declared.ended.Ended.TheVariants as ended
-use Rattle.mc_top.specs.Devices.{Devices, InputFailed, WroteTextThenLast}
+use Rattle.mc_top.specs.Devices.{Devices, InputFailed, IsTextRead, WroteTextThenLast}
 use Rattle.mc_top.specs.Ended.{bad_input_line}
 use Rattle.mc_top.specs.StatusText.{status_told}
 
@@ -31,19 +31,20 @@ pub record RepliedPart (most : ℕ) (left held held' : Option (List ℕ)) : Type
   pub len : ℕ
   pub wrote : Grows held held' (take len text)
 
--- the input was read to its end, this is its first fault, and the text of what stands before it was written
+-- the input was read to its end or until it was too long, this is its first fault, and the text of
+-- what stands before it was written
 pub record Found (most : ℕ) (bad : BadInput) (left left' held held' : Option (List ℕ)) : Type 0 where
   pub text : List ℕ
   pub first : IfSome left (IsBadText most bad text)
-  pub ended : IsAtEnd left'
+  pub ended : IsTextRead left left'
   pub wrote : Grows held held' text
 
--- the input was read to its end, this is its first fault, and the text of what stands before it and
--- the last line, which names it, were written
+-- the input was read to its end or until it was too long, this is its first fault, and the text of
+-- what stands before it and the last line, which names it, were written
 pub record Refused (most : ℕ) (bad : BadInput) (before after : Devices) : Type 0 where
   pub text : List ℕ
   pub first : IfSome before.left (IsBadText most bad text)
-  pub ended : IsAtEnd after.left
+  pub ended : IsTextRead before.left after.left
   pub wrote : WroteTextThenLast before.held after.held before.write_faults after.write_faults text
       (bad_input_line bad)
 

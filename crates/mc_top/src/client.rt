@@ -1,11 +1,14 @@
-ghost use Rattle.std.specs.Prelude.{◌≡◌, ◌<◌, ◌++◌, ℕ, List, Option, [], true, false, length, take, None, IfOk, OnOk, OnErr, IsErrOf};
+ghost use Rattle.std.specs.Prelude.{◌≡◌, ◌<◌, ◌++◌, ℕ, List, Option, [], true, false, length, take};
+ghost use Rattle.std.specs.Prelude.{None, IfOk, OnOk, OnErr, IsErrOf};
 ghost use Rattle.std.specs.List.{fold};
 ghost use Rattle.mc_model.specs.World.{found};
-ghost use Rattle.mc_model.specs.Talk.{said};
+ghost use Rattle.mc_model.specs.Talk.{request_of};
 ghost use Rattle.mc_wire.specs.Count.{Rose, StandsOrRises};
 ghost use Rattle.mc_wire.specs.Stream.{Grows};
-ghost use Rattle.mc_top.specs.StatusText.{Exchange, hears, hex_line, first_exchange, ends_inside};
-ghost use Rattle.mc_top.specs.Heard.{Heard, IsIdle, IsAsking, is_over, stage_fault, said_lines, Answers, Sends, SendsPart};
+ghost use Rattle.mc_top.specs.StatusText.{Exchange, receives, hex_line, first_exchange};
+ghost use Rattle.mc_top.specs.StatusText.{ends_inside};
+ghost use Rattle.mc_top.specs.Received.{Received, IsIdle, IsAsking, is_over, stage_fault};
+ghost use Rattle.mc_top.specs.Received.{said_lines, Answers, Sends, SendsPart};
 
 use crate::bad_input::InputFault;
 use mc_frame::{Splitter, Take};
@@ -47,8 +50,8 @@ impl From<NoMemory> for Unanswered {
     }
 }
 
-/// A client that asks for the status: what is left of its stream, how far it has come, what is wrong
-/// with what it said, and the lines of its answers that wait to be written.
+/// A client that asks for the status: what is left of its stream, how far it has come, what is
+/// wrong with what it said, and the lines of its answers that wait to be written.
 #[derive(Drop)]
 pub struct Client {
     /// What is left of its stream.
@@ -76,7 +79,8 @@ pub fn flush<O: Sink>(lines: &mut Vec<u8>, out: &mut O) -> Result<(), Failed>
 
 /// Writes the lines that wait, where there is no room for one more that tells `size` bytes.
 fn make_room<O: Sink>(lines: &mut Vec<u8>, size: usize, out: &mut O) -> Result<(), Failed>
-    ensures sent { OnOk result (Sends (O.held out.old) (O.held out.new) lines.old.items lines.new.items []) }
+    ensures sent { OnOk result (Sends (O.held out.old)
+        (O.held out.new) lines.old.items lines.new.items []) }
     ensures part { OnErr result (SendsPart (O.held out.old) (O.held out.new) lines.old.items) }
     ensures failed { OnErr result (Rose (O.faults out.old) (O.faults out.new)) }
     ensures counts { StandsOrRises (O.faults out.old) (O.faults out.new) }
@@ -104,8 +108,10 @@ fn send<O: Sink>(
     lines: &mut Vec<u8>,
     out: &mut O,
 ) -> Result<(), Unanswered>
-    ensures sent { OnOk result (Sends (O.held out.old) (O.held out.new) lines.old.items lines.new.items (hex_line frame.now)) }
-    ensures stopped { OnErr result (SendsPart (O.held out.old) (O.held out.new) (lines.old.items ++ hex_line frame.now)) }
+    ensures sent { OnOk result (Sends (O.held out.old)
+        (O.held out.new) lines.old.items lines.new.items (hex_line frame.now)) }
+    ensures stopped { OnErr result (SendsPart (O.held out.old) (O.held out.new) (lines.old.items
+        ++ hex_line frame.now)) }
     ensures failed { IsErrOf result Unanswered.Failed → Rose (O.faults out.old) (O.faults out.new) }
     ensures counts { StandsOrRises (O.faults out.old) (O.faults out.new) }
 {
@@ -127,7 +133,8 @@ fn stage_fault(stage: Stage) -> Option<InputFault>
 impl Client {
     /// A client that has said nothing.
     pub fn new(alloc: Global) -> Client
-        ensures heard { (most : ℕ) (start : Option (List ℕ)) → Heard most start start result (first_exchange most) }
+        ensures received { (most : ℕ) (start : Option (List ℕ)) →
+            Received most start start result (first_exchange most) }
         ensures idle { IsIdle result }
         ensures fine { result.fault ≡ None }
     {
@@ -154,8 +161,9 @@ impl Client {
 
     /// Whether its stream ends inside a frame.
     pub fn is_inside(&self) -> bool
-        ensures { (most : ℕ) (start held : Option (List ℕ)) (x : Exchange) → IsIdle self.now → self.now.fault ≡ None →
-            Heard most start held self.now x → result ≡ ends_inside (found 0 x.world.sessions) }
+        ensures { (most : ℕ) (start held : Option (List ℕ)) (x : Exchange) → IsIdle self.now →
+            self.now.fault ≡ None →
+            Received most start held self.now x → result ≡ ends_inside (found 0 x.world.sessions) }
     {
         if self.is_over() {
             return false;
@@ -173,9 +181,14 @@ impl Client {
     ) -> Result<(), Unanswered>
         requires asking { IsAsking self.old.session.stage }
         requires fine { self.old.fault ≡ None }
-        ensures answered { OnOk result (Answers (said self.old.session.stage most 0 payload.now) (O.held out.old) (O.held out.new) self.old self.new) }
-        ensures stopped { OnErr result (SendsPart (O.held out.old) (O.held out.new) (self.old.lines.items ++ said_lines (said self.old.session.stage most 0 payload.now))) }
-        ensures failed { IsErrOf result Unanswered.Failed → Rose (O.faults out.old) (O.faults out.new) }
+        ensures answered { OnOk result
+            (Answers (request_of self.old.session.stage most 0 payload.now) (O.held out.old)
+            (O.held out.new) self.old self.new) }
+        ensures stopped { OnErr result
+            (SendsPart (O.held out.old) (O.held out.new) (self.old.lines.items
+            ++ said_lines (request_of self.old.session.stage most 0 payload.now))) }
+        ensures failed { IsErrOf result Unanswered.Failed →
+            Rose (O.faults out.old) (O.faults out.new) }
         ensures counts { StandsOrRises (O.faults out.old) (O.faults out.new) }
     {
         match self.session.on_frame(alloc, payload, most, 0)? {
@@ -201,13 +214,17 @@ impl Client {
         most: u32,
         out: &mut O,
     ) -> Result<bool, Unanswered>
-        ensures heard { IfOk result (λ more. (start : Option (List ℕ)) (x : Exchange) → Heard most start (O.held out.old) self.old x →
-            Heard most start (O.held out.new) self.new x) }
-        ensures shorter { IfOk result (λ more. more ≡ true → length self.new.splitter.held < length self.old.splitter.held) }
+        ensures received { IfOk result (λ more. (start : Option (List ℕ)) (x : Exchange) →
+            Received most start (O.held out.old) self.old x →
+            Received most start (O.held out.new) self.new x) }
+        ensures shorter { IfOk result (λ more. more ≡ true →
+            length self.new.splitter.held < length self.old.splitter.held) }
         ensures idle { IfOk result (λ more. more ≡ false → IsIdle self.new) }
-        ensures stopped { OnErr result ((start : Option (List ℕ)) (x : Exchange) → Heard most start (O.held out.old) self.old x →
+        ensures stopped { OnErr result ((start : Option (List ℕ)) (x : Exchange) →
+            Received most start (O.held out.old) self.old x →
             SendsPart start (O.held out.new) x.text) }
-        ensures failed { IsErrOf result Unanswered.Failed → Rose (O.faults out.old) (O.faults out.new) }
+        ensures failed { IsErrOf result Unanswered.Failed →
+            Rose (O.faults out.old) (O.faults out.new) }
         ensures counts { StandsOrRises (O.faults out.old) (O.faults out.new) }
     {
         if self.is_over() {
@@ -233,20 +250,23 @@ impl Client {
         most: u32,
         out: &mut O,
     ) -> Result<(), Unanswered>
-        ensures heard { OnOk result ((start : Option (List ℕ)) (x : Exchange) → Heard most start (O.held out.old) self.old x →
-            Heard most start (O.held out.new) self.new x) }
+        ensures received { OnOk result ((start : Option (List ℕ)) (x : Exchange) →
+            Received most start (O.held out.old) self.old x →
+            Received most start (O.held out.new) self.new x) }
         ensures idle { OnOk result (IsIdle self.new) }
-        ensures stopped { OnErr result ((start : Option (List ℕ)) (x : Exchange) → Heard most start (O.held out.old) self.old x →
+        ensures stopped { OnErr result ((start : Option (List ℕ)) (x : Exchange) →
+            Received most start (O.held out.old) self.old x →
             SendsPart start (O.held out.new) x.text) }
-        ensures failed { IsErrOf result Unanswered.Failed → Rose (O.faults out.old) (O.faults out.new) }
+        ensures failed { IsErrOf result Unanswered.Failed →
+            Rose (O.faults out.old) (O.faults out.new) }
         ensures counts { StandsOrRises (O.faults out.old) (O.faults out.new) }
     {
         while self.answer_next(alloc, most, out)? {}
         Ok(())
     }
 
-    /// Hears more bytes, and answers each frame that they make whole.
-    pub fn hear<O: Sink>(
+    /// Receives more bytes, and answers each frame that they make whole.
+    pub fn receive<O: Sink>(
         &mut self,
         alloc: Global,
         most: u32,
@@ -254,12 +274,15 @@ impl Client {
         out: &mut O,
     ) -> Result<(), Unanswered>
         requires { IsIdle self.old }
-        ensures heard { OnOk result ((start : Option (List ℕ)) (x : Exchange) → Heard most start (O.held out.old) self.old x →
-            Heard most start (O.held out.new) self.new (fold hears x piece.now)) }
+        ensures received { OnOk result ((start : Option (List ℕ)) (x : Exchange) →
+            Received most start (O.held out.old) self.old x →
+            Received most start (O.held out.new) self.new (fold receives x piece.now)) }
         ensures idle { OnOk result (IsIdle self.new) }
-        ensures stopped { OnErr result ((start : Option (List ℕ)) (x : Exchange) → Heard most start (O.held out.old) self.old x →
-            SendsPart start (O.held out.new) (fold hears x piece.now).text) }
-        ensures failed { IsErrOf result Unanswered.Failed → Rose (O.faults out.old) (O.faults out.new) }
+        ensures stopped { OnErr result ((start : Option (List ℕ)) (x : Exchange) →
+            Received most start (O.held out.old) self.old x →
+            SendsPart start (O.held out.new) (fold receives x piece.now).text) }
+        ensures failed { IsErrOf result Unanswered.Failed →
+            Rose (O.faults out.old) (O.faults out.new) }
         ensures counts { StandsOrRises (O.faults out.old) (O.faults out.new) }
     {
         let mut rest = piece;

@@ -11,10 +11,11 @@ ghost use Rattle.mc_top.specs.Words.{IsSet};
 use crate::bad_input::BadInput;
 use crate::client::Unanswered;
 use crate::ended::Ended;
+use crate::lines::read_text;
 use crate::replay::replay;
 use crate::status::write_status;
 use crate::words::Command;
-use mc_wire::{InputError, Sink, Source, read_all, write_all};
+use mc_wire::{InputError, Sink, Source, write_all};
 use std::alloc::Global;
 
 /// The command `status`: it reads one client's bytes as lines of hex, and writes each frame that
@@ -31,7 +32,7 @@ fn status<I: Source, O: Sink>(alloc: Global, most: u32, input: &mut I, out: &mut
         Found most bad (I.left input.old) (I.left input.new) (O.held out.old) (O.held out.new) }
     ensures counts { StandsOrRises (O.faults out.old) (O.faults out.new) }
 {
-    let text = match read_all(alloc, input) {
+    let text = match read_text(alloc, input) {
         Ok(text) => text,
         Err(InputError::Failed) => return Ended::ReadFault,
         Err(InputError::NoMemory) => return Ended::NoMemory,
@@ -85,7 +86,7 @@ fn perform<I: Source, O: Sink>(alloc: Global, command: Command, input: &mut I, o
 /// | status | meaning |
 /// |---|---|
 /// | 0 | done |
-/// | 1 | want of memory |
+/// | 1 | out of memory |
 /// | 2 | the words name no command |
 /// | 3 | the input failed |
 /// | 4 | the output failed |

@@ -1,12 +1,27 @@
-ghost use Rattle.std.specs.Prelude.{◌≡◌, IfOk, position, MatchOption};
+ghost use Rattle.std.specs.Prelude.{◌≡◌, IfOk, IsErrOf, position, MatchOption};
 ghost use Rattle.mc_top.specs.Lines.{is_line_end, is_skipped, line_bytes, goes_past, PutsLine, EndsText, CutsLine};
 ghost use Rattle.std.specs.Result.{result_ok};
 ghost use Rattle.hex.specs.Hex.{decode_of};
+ghost use Rattle.mc_wire.specs.Count.{Rose};
+ghost use Rattle.mc_top.specs.Devices.{ReadsText};
 
 use mc_nbt::NoMemory;
+use mc_wire::{InputError, Source, read_up_to};
+use std::alloc::Global;
 
 /// The most bytes that a text has.
 pub const TEXT_MAX: usize = 67_108_864;
+
+/// What an input has left as a text. Of more bytes than a text has it is the first ones, up to one
+/// past the most, which show that.
+pub fn read_text<I: Source>(alloc: Global, input: &mut I) -> Result<Vec<u8>, InputError>
+    ensures reads { IfOk result
+        (λ text. ReadsText (I.left input.old) (I.left input.new) text.items) }
+    ensures failed { IsErrOf result InputError.Failed →
+        Rose (I.faults input.old) (I.faults input.new) }
+{
+    read_up_to(alloc, input, TEXT_MAX + 1)
+}
 
 /// Whether a line goes past the most bytes of a text: the text has `len`, and `size` up to the line's
 /// end.

@@ -11,6 +11,7 @@ ghost use Rattle.mc_top.specs.Replaying.{IsReached, HasPlayed, HasStopped, line_
 ghost use Rattle.mc_top.specs.ReplayPromise.{world_of, Replayed, ReplayedPart, ReplayedPartOrNothing, FoundFault};
 
 use crate::ended::Ended;
+use crate::lines::read_text;
 use crate::replay_lines::put_lines;
 use crate::script::{Script, ScriptError};
 use crate::script_line::ScriptEvent;
@@ -18,7 +19,7 @@ use crate::unplayed::Unplayed;
 use crate::words::Options;
 use mc_nbt::NoMemory;
 use mc_server::{Input, Server, Settings};
-use mc_wire::{InputError, Sink, Source, read_all};
+use mc_wire::{InputError, Sink, Source};
 use std::alloc::Global;
 
 /// A server of a new world.
@@ -185,7 +186,7 @@ pub fn replay<I: Source, O: Sink>(
         FoundFault bad (I.left input.old) (I.left input.new) × (out.new ≡ out.old) }
     ensures counts { StandsOrRises (O.faults out.old) (O.faults out.new) }
 {
-    let text = match read_all(alloc, input) {
+    let text = match read_text(alloc, input) {
         Ok(text) => text,
         Err(InputError::Failed) => return Ended::ReadFault,
         Err(InputError::NoMemory) => return Ended::NoMemory,

@@ -6,7 +6,7 @@ ghost use Rattle.mc_model.specs.World.{World};
 ghost use Rattle.mc_server.specs.Stands.{Stands, age_of};
 ghost use Rattle.mc_server.specs.Asking.{owed_in};
 ghost use Rattle.mc_top.specs.Passes.{Breaks, Passes};
-ghost use Rattle.mc_top.specs.ReplayText.{settled, told};
+ghost use Rattle.mc_top.specs.ReplayText.{settled, lines_after};
 ghost use Rattle.mc_top.specs.Replaying.{IsReached, TakesFront, taken, sent_in, forgotten, shut_in, all_taken, all_sent, all_forgotten, all_shut};
 
 use crate::pieces::{HEX_PIECE, put, put_hex, write_out};
@@ -170,9 +170,9 @@ pub fn put_lines<O: Sink>(
 ) -> Result<(), Unplayed>
     requires { lines.old.items ≡ [] }
     ensures settled { (w : World) → Stands server.old w → IsReached w → OnOk result (Stands server.new (settled w)
-        × Grows (O.held out.old) (O.held out.new) (told w)) }
+        × Grows (O.held out.old) (O.held out.new) (lines_after w)) }
     ensures breaks { (w : World) → Stands server.old w → IsReached w → OnErr result
-        (Breaks (O.held out.old) (O.held out.new) [] (told w)) }
+        (Breaks (O.held out.old) (O.held out.new) [] (lines_after w)) }
     ensures age { age_of server.new ≡ age_of server.old }
     ensures failed { IsErrOf result Unplayed.Failed → Rose (O.faults out.old) (O.faults out.new) }
     ensures counts { StandsOrRises (O.faults out.old) (O.faults out.new) }

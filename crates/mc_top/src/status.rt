@@ -1,9 +1,11 @@
-ghost use Rattle.std.specs.Prelude.{◌≡◌, ◌==◌, ◌-◌, slice_index, ℕ, List, Option, [], None, length, IfOk, OnOk, OnErr, IsErrOf};
+ghost use Rattle.std.specs.Prelude.{◌≡◌, ◌==◌, ◌-◌, slice_index, ℕ, List, Option, [], None, length};
+ghost use Rattle.std.specs.Prelude.{IfOk, OnOk, OnErr, IsErrOf};
 ghost use Rattle.mc_wire.specs.Count.{Rose, StandsOrRises};
 ghost use Rattle.mc_wire.specs.Stream.{Grows};
-ghost use Rattle.mc_top.specs.StatusText.{Exchange, first_exchange, hears_next, last_byte_line, status_told};
+ghost use Rattle.mc_top.specs.StatusText.{Exchange, first_exchange, receives_next, last_byte_line};
+ghost use Rattle.mc_top.specs.StatusText.{status_told};
 ghost use Rattle.mc_top.specs.Lines.{lines_of};
-ghost use Rattle.mc_top.specs.Heard.{Heard, IsIdle, Sends, SendsPart};
+ghost use Rattle.mc_top.specs.Received.{Received, IsIdle, Sends, SendsPart};
 
 use crate::bad_input::{BadInput, InputFault};
 use crate::client::{Client, Unanswered, flush};
@@ -11,9 +13,9 @@ use crate::lines::{cut_line, goes_past, put_line};
 use mc_wire::Sink;
 use std::alloc::Global;
 
-/// Hears the next line, up to whose end a text of `len` bytes has `size`. `piece` is room for the
-/// line's bytes.
-fn hear_next<O: Sink>(
+/// Receives the next line, up to whose end a text of `len` bytes has `size`. `piece` is room for
+/// the line's bytes.
+fn receive_next<O: Sink>(
     alloc: Global,
     most: u32,
     client: &mut Client,
@@ -24,11 +26,13 @@ fn hear_next<O: Sink>(
     out: &mut O,
 ) -> Result<(), Unanswered>
     requires { IsIdle client.old }
-    ensures heard { OnOk result ((start : Option (List ℕ)) (x : Exchange) → Heard most start (O.held out.old) client.old x →
-        Heard most start (O.held out.new) client.new (hears_next len size x line.now)) }
+    ensures received { OnOk result ((start : Option (List ℕ)) (x : Exchange) →
+        Received most start (O.held out.old) client.old x →
+        Received most start (O.held out.new) client.new (receives_next len size x line.now)) }
     ensures idle { OnOk result (IsIdle client.new) }
-    ensures stopped { OnErr result ((start : Option (List ℕ)) (x : Exchange) → Heard most start (O.held out.old) client.old x →
-        SendsPart start (O.held out.new) (hears_next len size x line.now).text) }
+    ensures stopped { OnErr result ((start : Option (List ℕ)) (x : Exchange) →
+        Received most start (O.held out.old) client.old x →
+        SendsPart start (O.held out.new) (receives_next len size x line.now).text) }
     ensures failed { IsErrOf result Unanswered.Failed → Rose (O.faults out.old) (O.faults out.new) }
     ensures counts { StandsOrRises (O.faults out.old) (O.faults out.new) }
 {
@@ -41,7 +45,7 @@ fn hear_next<O: Sink>(
         client.fault = Some(InputFault::Hex);
         return Ok(());
     }
-    client.hear(alloc, most, piece, out)?;
+    client.receive(alloc, most, piece, out)?;
     Ok(())
 }
 
@@ -66,20 +70,23 @@ fn last_byte_line(count: u64, text: &[u8]) -> u64
     }
 }
 
-/// Hears the lines of a text, and gives its first fault.
-fn hear_text<O: Sink>(
+/// Receives the lines of a text, and gives its first fault.
+fn receive_text<O: Sink>(
     alloc: Global,
     most: u32,
     client: &mut Client,
     input: &[u8],
     out: &mut O,
 ) -> Result<Option<BadInput>, Unanswered>
-    requires heard { (start : Option (List ℕ)) → Heard most start start client.old (first_exchange most) }
+    requires received { (start : Option (List ℕ)) →
+        Received most start start client.old (first_exchange most) }
     requires idle { IsIdle client.old }
     requires fine { client.old.fault ≡ None }
-    ensures text { OnOk result (Sends (O.held out.old) (O.held out.new) [] client.new.lines.items (status_told most input.now).text) }
+    ensures text { OnOk result (Sends (O.held out.old) (O.held out.new) [] client.new.lines.items
+        (status_told most input.now).text) }
     ensures fault { IfOk result (λ fault. fault ≡ (status_told most input.now).fault) }
-    ensures stopped { OnErr result (SendsPart (O.held out.old) (O.held out.new) (status_told most input.now).text) }
+    ensures stopped { OnErr result (SendsPart (O.held out.old) (O.held out.new)
+        (status_told most input.now).text) }
     ensures failed { IsErrOf result Unanswered.Failed → Rose (O.faults out.old) (O.faults out.new) }
     ensures counts { StandsOrRises (O.faults out.old) (O.faults out.new) }
 {
@@ -91,7 +98,7 @@ fn hear_text<O: Sink>(
         let (line, after) = cut_line(text);
         count += 1;
         size += line.len() + 1;
-        hear_next(
+        receive_next(
             alloc,
             most,
             client,
@@ -115,22 +122,24 @@ fn hear_text<O: Sink>(
     }))
 }
 
-/// Writes what the world of a server with so many players at most answers to an input, and gives the
-/// input's first fault. An error leaves some first part of it written.
+/// Writes what the world of a server with so many players at most answers to an input, and gives
+/// the input's first fault. An error leaves some first part of it written.
 pub fn write_status<O: Sink>(
     alloc: Global,
     most: u32,
     input: &[u8],
     out: &mut O,
 ) -> Result<Option<BadInput>, Unanswered>
-    ensures text { OnOk result (Grows (O.held out.old) (O.held out.new) (status_told most input.now).text) }
+    ensures text { OnOk result (Grows (O.held out.old) (O.held out.new)
+        (status_told most input.now).text) }
     ensures fault { IfOk result (λ fault. fault ≡ (status_told most input.now).fault) }
-    ensures stopped { OnErr result (SendsPart (O.held out.old) (O.held out.new) (status_told most input.now).text) }
+    ensures stopped { OnErr result (SendsPart (O.held out.old) (O.held out.new)
+        (status_told most input.now).text) }
     ensures failed { IsErrOf result Unanswered.Failed → Rose (O.faults out.old) (O.faults out.new) }
     ensures counts { StandsOrRises (O.faults out.old) (O.faults out.new) }
 {
     let mut client = Client::new(alloc);
-    let fault = hear_text(alloc, most, &mut client, input, out)?;
+    let fault = receive_text(alloc, most, &mut client, input, out)?;
     flush(&mut client.lines, out)?;
     Ok(fault)
 }

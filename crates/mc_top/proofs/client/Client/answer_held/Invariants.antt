@@ -2,12 +2,14 @@ use Rattle.std.proofs.Common.{ℕ, List, length}
 use Rattle.std.specs.Prelude.{Option}
 use Rattle.mc_wire.specs.Count.{StandsOrRises}
 use Rattle.mc_top.specs.StatusText.{Exchange}
-use Rattle.mc_top.specs.Heard.{Heard}
+use Rattle.mc_top.specs.Received.{Received}
 use Rattle.mc_top.proofs.client.Client.answer_held.Given as goal
 
 abbrev pub invariant-loop : goal.invariant-loop
 invariant-loop g l = record {
-  heard : (start : Option (List ℕ)) (x : Exchange) → Heard l.fn.most start (g.O.Sink.held l.fn.out) l.fn.self x → Heard l.fn.most start (g.O.Sink.held l.out) l.self x;
+  received : (start : Option (List ℕ)) (x : Exchange) →
+      Received l.fn.most start (g.O.Sink.held l.fn.out) l.fn.self x →
+      Received l.fn.most start (g.O.Sink.held l.out) l.self x;
   counts : StandsOrRises (g.O.Sink.faults l.fn.out) (g.O.Sink.faults l.out);
 }
 

@@ -2,16 +2,18 @@ use Rattle.std.proofs.Common.{◌≡◌, ◌++◌, ℕ, List, length}
 use Rattle.std.specs.Prelude.{Option}
 use Rattle.std.specs.List.{fold}
 use Rattle.mc_wire.specs.Count.{StandsOrRises}
-use Rattle.mc_top.specs.StatusText.{Exchange, hears}
-use Rattle.mc_top.specs.Heard.{Heard, IsIdle}
-use Rattle.mc_top.proofs.client.Client.hear.Given as goal
+use Rattle.mc_top.specs.StatusText.{Exchange, receives}
+use Rattle.mc_top.specs.Received.{Received, IsIdle}
+use Rattle.mc_top.proofs.client.Client.receive.Given as goal
 
 abbrev pub invariant-loop-rest : goal.invariant-loop-rest
 invariant-loop-rest g l = record {
   done : List ℕ;
   parts : l.fn.piece ≡ done ++ l.rest;
   idle : IsIdle l.self;
-  heard : (start : Option (List ℕ)) (x : Exchange) → Heard l.fn.most start (g.O.Sink.held l.fn.out) l.fn.self x → Heard l.fn.most start (g.O.Sink.held l.out) l.self (fold hears x done);
+  received : (start : Option (List ℕ)) (x : Exchange) →
+      Received l.fn.most start (g.O.Sink.held l.fn.out) l.fn.self x →
+      Received l.fn.most start (g.O.Sink.held l.out) l.self (fold receives x done);
   counts : StandsOrRises (g.O.Sink.faults l.fn.out) (g.O.Sink.faults l.out);
 }
 
