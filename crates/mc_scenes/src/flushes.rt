@@ -1,22 +1,22 @@
 //! What one client is sent, on flat land whose columns from -3 to 3 are ready: `flush STEP ..`
-//! works on the players, what is noted and the mark, and `tell X Z D AT` answers the frames of a
-//! view of D around the column (X, Z), for a player at AT on x, in 1/32 blocks.
+//! works on the players, what is noted and the mark, `share` has the frames encoded for all clients
+//! from now on, and `tell X Z D AT` answers the frames of a view of D around the column (X, Z), for a
+//! player at AT on x, in 1/32 blocks.
 
-ghost use Rattle.std.specs.Prelude.{◌≡◌, ◌≤◌, ◌<◌, true};
+ghost use Rattle.std.specs.Prelude.{◌≡◌, ◌<◌, true, IfOk};
 ghost use Rattle.std.specs.List.{AllByRecursion};
-ghost use Rattle.std.specs.FinMap as map;
 ghost use Rattle.std.specs.FinSet as set;
 ghost use Rattle.mc_land.specs.Places.{IsPlace};
 ghost use Rattle.mc_view.specs.Sets.{all_of};
-ghost use Rattle.mc_flush.specs.Seeing.{IsNamed, IsReady};
+ghost use Rattle.mc_flush.specs.Encoding.{AreFrames};
+ghost use Rattle.mc_flush.specs.Seeing.{IsReady};
 
 use crate::answer::Answer;
 use crate::frames::put_frames;
 use crate::guests::Guests;
-use crate::lists::is_in_range;
 use crate::words::Words;
 use mc_fields::Spot;
-use mc_flush::{ClientView, Mark, flush};
+use mc_flush::{ClientView, Encoded, Mark, flush};
 use mc_land::{Land, Steps, Terrain};
 use mc_model::Notes;
 use mc_nbt::NoMemory;
@@ -32,6 +32,8 @@ struct Scene {
     guests: Guests,
     mark: Mark,
     notes: Notes,
+    /// Whether frames are encoded for all clients before one is told of them.
+    shares: bool,
 }
 
 /// Makes a column near the middle ready.
@@ -60,6 +62,7 @@ enum Call {
     Settle,
     Clear,
     Note,
+    Share,
     Tell,
 }
 
@@ -70,6 +73,7 @@ fn call_of(name: &str) -> Option<Call> {
         "settle" => Some(Call::Settle),
         "clear" => Some(Call::Clear),
         "note" => Some(Call::Note),
+        "share" => Some(Call::Share),
         "tell" => Some(Call::Tell),
         _ => None,
     }
@@ -86,6 +90,7 @@ pub fn client(words: &mut Words<'_>, answer: &mut Answer) {
         guests: Guests::new(words.alloc),
         mark: Mark::new(),
         notes: Notes::new(),
+        shares: false,
     };
     for _ in 0..64 {
         if words.is_more() {
@@ -109,6 +114,7 @@ fn answer_call(call: Call, scene: &mut Scene, words: &mut Words<'_>, answer: &mu
         Call::Settle => answer.needs(scene.guests.settle()),
         Call::Clear => scene.guests.clear(),
         Call::Note => scene.notes.place(),
+        Call::Share => scene.shares = true,
         Call::Tell => tell(scene, words, answer),
     }
 }
@@ -134,26 +140,15 @@ fn view_in(words: &mut Words<'_>) -> ViewSet {
 
 /// Puts what a client is sent.
 fn tell(scene: &mut Scene, words: &mut Words<'_>, answer: &mut Answer) {
-    let view = ClientView {
-        land: &scene.land,
-        list: scene.guests.list(),
-        me: 1,
-        view: view_in(words),
-        place: Spot {
-            x: words.number(),
-            y: 128,
-            z: 272,
-            yaw: 0,
-            pitch: 0,
-        },
+    let view = view_in(words);
+    let place = Spot {
+        x: words.number(),
+        y: 128,
+        z: 272,
+        yaw: 0,
+        pitch: 0,
     };
-    match flushed::<Brand>(
-        words.alloc,
-        &view,
-        &mut scene.mark,
-        &scene.notes,
-        Blank::new(1),
-    ) {
+    match flushed::<Brand>(words.alloc, scene, view, place, Blank::new(1)) {
         Ok(Some(bytes)) => put_sent(&bytes, answer),
         Ok(None) => words.fail(),
         Err(NoMemory) => answer.lose(),
@@ -169,31 +164,61 @@ fn put_sent(bytes: &[u8], answer: &mut Answer) {
     put_frames(bytes, answer);
 }
 
-/// What a client is sent, where its columns are ready and its player is in range.
+/// What is encoded for all clients: nothing, or the frames of who left and came, and of these columns.
+fn encode<L: Ledger>(
+    alloc: Global,
+    scene: &Scene,
+    view: &ViewSet,
+    steps: &mut Steps<L>,
+) -> Result<Encoded, NoMemory>
+    requires { AllByRecursion (IsReady scene.now.land) (all_of view.now) }
+    ensures { IfOk result (AreFrames scene.now.land scene.now.guests) }
+{
+    let mut encoded = Encoded::new(alloc);
+    if !scene.shares {
+        return Ok(encoded);
+    }
+    encoded.add_players(alloc, scene.guests.list())?;
+    for place in view.all() {
+        encoded.add_load(alloc, &scene.land, &place, steps)?;
+    }
+    Ok(encoded)
+}
+
+/// What a client is sent, where its columns are ready.
 fn flushed<L: Ledger>(
     alloc: Global,
-    view: &ClientView<'_>,
-    mark: &mut Mark,
-    notes: &Notes,
+    scene: &mut Scene,
+    view: ViewSet,
+    place: Spot,
     blank: Blank,
 ) -> Result<Option<Vec<u8>>, NoMemory>
     requires name { blank.name ≡ L.name }
     requires parts { blank.parts ≡ L.parts }
     requires some { 0 < blank.parts }
-    requires few { map.len view.now.list.now.present ≤ 50 }
-    requires few_before { map.len view.now.list.now.last ≤ 50 }
-    requires named { AllByRecursion IsNamed (map.entries view.now.list.now.present) }
 {
     let mut steps = Steps::<L>::new(blank);
-    let ready = is_ready(view.land, &view.view, &mut steps);
-    if !ready {
+    if !is_ready(&scene.land, &view, &mut steps) {
         return Ok(None);
     }
-    if !is_in_range(&view.place) {
-        return Ok(None);
-    }
+    let encoded = encode(alloc, scene, &view, &mut steps)?;
+    let view = ClientView {
+        land: &scene.land,
+        list: scene.guests.list(),
+        encoded: &encoded,
+        me: 1,
+        view,
+        place,
+    };
     let mut pieces = Vec::new(alloc);
-    flush(alloc, view, mark, notes, &mut pieces, &mut steps)?;
+    flush(
+        alloc,
+        &view,
+        &mut scene.mark,
+        &scene.notes,
+        &mut pieces,
+        &mut steps,
+    )?;
     let mut bytes = Vec::new(alloc);
     for piece in &pieces {
         bytes.extend_from_slice(piece.as_slice())?;

@@ -37,6 +37,7 @@ impl Guests {
 
     /// The list.
     pub fn list(&self) -> &PlayerList
+        ensures is { result.now ≡ self.now }
         ensures few { map.len result.now.present ≤ 50 }
         ensures few_before { map.len result.now.last ≤ 50 }
         ensures named { AllByRecursion IsNamed (map.entries result.now.present) }

@@ -1,9 +1,6 @@
 //! `list STEP ..` works on a list of players, and `place X Y Z YAW PITCH` answers the frame of a
 //! player's place.
 
-ghost use Rattle.std.specs.Prelude.{◌≡◌, true};
-ghost use Rattle.mc_flush.specs.Seeing.{IsInRange};
-
 use crate::answer::Answer;
 use crate::words::Words;
 use mc_fields::Spot;
@@ -90,19 +87,6 @@ fn enter(list: &mut PlayerList, words: &mut Words<'_>, answer: &mut Answer) {
     }
 }
 
-/// Whether a player may be at a place.
-pub fn is_in_range(place: &Spot) -> bool
-    ensures { result ≡ true → IsInRange place.now }
-{
-    let Spot { x, y, z, .. } = *place;
-    -960_000_000 <= x
-        && x <= 960_000_000
-        && -2_048 <= y
-        && y <= 131_072
-        && -960_000_000 <= z
-        && z <= 960_000_000
-}
-
 /// Answers the frame of a player's place.
 pub fn place(words: &mut Words<'_>, answer: &mut Answer) {
     let place = Spot {
@@ -112,10 +96,6 @@ pub fn place(words: &mut Words<'_>, answer: &mut Answer) {
         yaw: words.number(),
         pitch: words.number(),
     };
-    if !is_in_range(&place) {
-        words.fail();
-        return;
-    }
     let mut frame = Vec::new(words.alloc);
     answer.needs(put_packet(&placing_packet(&place), &mut frame));
     answer.bytes(&frame);

@@ -20,8 +20,8 @@ fn told(alloc: Global, front: &[u8], rest: &[u8]) -> Option<Server> {
 }
 
 /// What is owed to who says some bytes in two pieces, of which the first has so many.
-fn owed_of_cut(alloc: Global, said: &[u8], at: usize) -> Option<Vec<u8>> {
-    let (front, rest) = said.split_at_checked(at)?;
+fn owed_of_cut(alloc: Global, request_of: &[u8], at: usize) -> Option<Vec<u8>> {
+    let (front, rest) = request_of.split_at_checked(at)?;
     let mut server = told(alloc, front, rest)?;
     taken(alloc, &mut server, 0, 100).ok()
 }
@@ -36,11 +36,11 @@ fn are_same(one: &Option<Vec<u8>>, other: &Option<Vec<u8>>) -> bool {
 
 /// Cuts bytes at each place.
 pub fn cuts(words: &mut Words<'_>, answer: &mut Answer) {
-    let said = words.bytes();
-    let whole = owed_of_cut(words.alloc, &said, 0);
+    let request_of = words.bytes();
+    let whole = owed_of_cut(words.alloc, &request_of, 0);
     let mut same = 0u32;
-    for at in 0..=said.len() {
-        if are_same(&owed_of_cut(words.alloc, &said, at), &whole) {
+    for at in 0..=request_of.len() {
+        if are_same(&owed_of_cut(words.alloc, &request_of, at), &whole) {
             same = same.saturating_add(1);
         }
     }
@@ -50,20 +50,20 @@ pub fn cuts(words: &mut Words<'_>, answer: &mut Answer) {
 }
 
 /// What is owed to who says some bytes, after a tick, taken so many bytes at a time.
-fn owed_of_tick(alloc: Global, said: &[u8], size: usize) -> Option<Vec<u8>> {
-    let mut server = told(alloc, said, &[])?;
+fn owed_of_tick(alloc: Global, request_of: &[u8], size: usize) -> Option<Vec<u8>> {
+    let mut server = told(alloc, request_of, &[])?;
     ticks(&mut server, 1).ok()?;
     taken(alloc, &mut server, 0, size).ok()
 }
 
 /// Takes what is owed in pieces of each size.
 pub fn pieces(words: &mut Words<'_>, answer: &mut Answer) {
-    let said = words.bytes();
-    let whole = owed_of_tick(words.alloc, &said, words.number());
+    let request_of = words.bytes();
+    let whole = owed_of_tick(words.alloc, &request_of, words.number());
     put_count(&whole, answer);
     for _ in 0..8 {
         if words.is_more() {
-            let owed = owed_of_tick(words.alloc, &said, words.number());
+            let owed = owed_of_tick(words.alloc, &request_of, words.number());
             put_count(&owed, answer);
             answer.word(if are_same(&owed, &whole) {
                 "the same"

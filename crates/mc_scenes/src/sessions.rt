@@ -78,13 +78,13 @@ fn frame(
     let frame = words.bytes();
     match session.stage() {
         Stage::Asked => words.fail(),
-        _ => put_heard(session.on_frame(words.alloc, &frame, most, online), answer),
+        _ => put_answered(session.on_frame(words.alloc, &frame, most, online), answer),
     }
 }
 
 /// Puts what a frame comes to, if there was memory.
-fn put_heard(heard: Result<Step, NoMemory>, answer: &mut Answer) {
-    match heard {
+fn put_answered(answered: Result<Step, NoMemory>, answer: &mut Answer) {
+    match answered {
         Ok(step) => put_step(step, answer),
         Err(NoMemory) => answer.lose(),
     }

@@ -7,5 +7,5 @@ use Rattle.mc_scenes.proofs.flushes.flushed.Goals as goal
 
 pub flush-requires-clause-ready : goal.flush-requires-clause-ready
 flush-requires-clause-ready g c =
-    let all : AllByRecursion (IsReady c.args.view.now.land.now) (all_of c.args.view.now.view) = search rules in
-    loaded_ready c.args.view.now.land.now c.args.mark.now.shown c.args.view.now.view all
+    let all : AllByRecursion (IsReady c.args.scene.now.land) (all_of c.args.view) = search rules in
+    loaded_ready c.args.scene.now.land c.args.scene.now.mark c.args.view all
