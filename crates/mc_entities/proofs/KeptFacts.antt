@@ -1,6 +1,8 @@
 -- What each change of a folk keeps of how it is kept.
-use Rattle.std.proofs.Common.{◌≡◌, ◌≢◌, ℕ, zero, suc, ◌+◌, ◌-◌, ◌≤◌, ◌<◌, List, [], ◌∷◌, ◌++◌, map, length, get_or, set, refl, sym, subst, ap, ◌∙◌, arith}
-use Rattle.std.specs.Prelude.{◌≤ℤ◌, ◌<ℤ◌, ◌==◌, ◌&&◌, Bool, true, false, cond, Result, Ok, is_ok, Option, None, Some, IfSome, if◌then◌else◌}
+use Rattle.std.proofs.Common.{◌≡◌, ◌≢◌, ℕ, zero, suc, ◌+◌, ◌-◌, ◌≤◌, ◌<◌, List, [], ◌∷◌, ◌++◌, map}
+use Rattle.std.proofs.Common.{length, get_or, set, refl, sym, subst, ap, ◌∙◌, arith}
+use Rattle.std.specs.Prelude.{◌≤ℤ◌, ◌<ℤ◌, ◌==◌, ◌&&◌, Bool, true, false, cond, Result, Ok, is_ok}
+use Rattle.std.specs.Prelude.{Option, None, Some, IfSome, if◌then◌else◌}
 use Rattle.std.specs.List.{filter, remove, All}
 use Rattle.std.proofs.lemmas.Bool.{eq-eqb, true≢false}
 use Rattle.std.proofs.lemmas.Int.{ints}
@@ -17,9 +19,12 @@ use Rattle.mc_entities.specs.Plans.{move_at}
 use Rattle.mc_entities.specs.declared.entity.EntityKind.{EntityKind}
 use Rattle.mc_entities.specs.declared.entity.EntityKind.TheVariants.{Player, Dropped, Mob}
 use Rattle.mc_entities.specs.Numbers.{without, Rise}
-use Rattle.mc_entities.specs.Folk.{dropped_in, eid_of, told_eid, entity_of, with_entity, removed, FolkState, FolkValue, after_tick, rank, stepped}
+use Rattle.mc_entities.specs.Folk.{dropped_in, eid_of, told_eid, entity_of, with_entity, removed}
+use Rattle.mc_entities.specs.Folk.{FolkState, FolkValue, after_tick, rank, stepped}
 use Rattle.mc_entities.specs.Kept.{IsKept, IsPlaced, AreKinds, places, one_if}
-use Rattle.mc_entities.proofs.NumberFacts.{rise_map, rise_more, rise_join, rise_set, rise_filter, count_set, count_remove, count_join, without_at, without_none, changed_none, changed_placed}
+use Rattle.mc_entities.proofs.NumberFacts.{rise_map, rise_more, rise_join, rise_set, rise_filter}
+use Rattle.mc_entities.proofs.NumberFacts.{count_set, count_remove, count_join, without_at}
+use Rattle.mc_entities.proofs.NumberFacts.{without_none, changed_none, changed_placed}
 
 below : (n : ℕ) → pos n <ℤ pos (n + 1)
 below n = omega (arith, ints)
@@ -37,40 +42,57 @@ not_most n most le e =
     omega (arith, le, ne)
 
 -- one more has room
-few_more : (b : Bool) (n total dropped most : ℕ) → n ≡ one_if b → dropped ≡ total → dropped ≤ most → (b && (total == most)) ≡ false → dropped + n ≤ most
+few_more : (b : Bool) (n total dropped most : ℕ) → n ≡ one_if b →
+    dropped ≡ total → dropped ≤ most → (b && (total == most)) ≡ false → dropped + n ≤ most
 few_more true n total dropped most e same le f =
     let lt = not_most total most (omega (arith, same, le)) f in omega (arith, e, same, lt)
 few_more false n total dropped most e same le f = omega (arith, e, le)
 
-pub kept_more : (es now : List Entity) (told : List (ℤ × Spot)) (cap room given dropped n : ℕ) (e : Entity) → IsKept es told cap given dropped
-    → IsKind e.kind → e.eid ≡ pos (given + 1) → (is_dropped e.kind && (dropped_in es == DROPPED_MAX)) ≡ false → (given == EID_MAX) ≡ false
-    → 0 < places es room cap → n ≡ one_if (is_dropped e.kind) → now ≡ es ++ e ∷ [] → IsKept now told cap (given + 1) (dropped + n)
-kept_more es now told cap room given dropped n e k kind eid full spent place count is = subst (λ (xs : List Entity). IsKept xs told cap (given + 1) (dropped + n)) (sym is) (record {
-  rise = rise_join eid_of (pos 0) (pos given) (pos (given + 1)) es e (subst (λ m. pos given <ℤ m) (sym eid) (below given)) (subst (λ m. m ≤ℤ pos (given + 1)) (sym eid) (up_to (given + 1))) k.rise;
-  told_rise = rise_more told_eid (pos 0) (pos given) (pos (given + 1)) told (more given) k.told_rise;
-  kinds = All-append (λ (x : Entity). IsKind x.kind) es (e ∷ []) k.kinds (one_kind kind);
-  numbers = let lt = not_most given EID_MAX k.numbers spent in omega (arith, lt);
-  counted = let h = count_join (λ (x : Entity). is_dropped x.kind) es e in let f = k.counted in omega (arith, h, f, count);
-  few = few_more (is_dropped e.kind) n (dropped_in es) dropped DROPPED_MAX count k.counted k.few full;
-  places = let l = length-append es (e ∷ []) in omega (arith, l, place);
-})
+pub kept_more : (es now : List Entity) (told : List (ℤ × Spot)) (cap room given dropped n : ℕ)
+    (e : Entity) → IsKept es told cap given dropped → IsKind e.kind →
+    e.eid ≡ pos (given + 1) → (is_dropped e.kind && (dropped_in es == DROPPED_MAX)) ≡ false →
+    (given == EID_MAX) ≡ false → 0 < places es room cap → n ≡ one_if (is_dropped e.kind) →
+    now ≡ es ++ e ∷ [] → IsKept now told cap (given + 1) (dropped + n)
+kept_more es now told cap room given dropped n e k kind eid full spent place count is =
+    subst (λ (xs : List Entity). IsKept xs told cap (given + 1) (dropped + n)) (sym is) (record {
+      rise = rise_join eid_of (pos 0) (pos given) (pos (given + 1)) es e
+          (subst (λ m. pos given <ℤ m) (sym eid) (below given))
+          (subst (λ m. m ≤ℤ pos (given + 1)) (sym eid) (up_to (given + 1))) k.rise;
+      told_rise =
+          rise_more told_eid (pos 0) (pos given) (pos (given + 1)) told (more given) k.told_rise;
+      kinds = All-append (λ (x : Entity). IsKind x.kind) es (e ∷ []) k.kinds (one_kind kind);
+      numbers = let lt = not_most given EID_MAX k.numbers spent in omega (arith, lt);
+      counted =
+          let h = count_join (λ (x : Entity). is_dropped x.kind) es e in
+          let f = k.counted in
+          omega (arith, h, f, count);
+      few =
+          few_more (is_dropped e.kind) n (dropped_in es) dropped DROPPED_MAX count k.counted k.few
+          full;
+      places = let l = length-append es (e ∷ []) in omega (arith, l, place);
+    })
   where
     one_kind : IsKind e.kind → All (λ (x : Entity). IsKind x.kind) (e ∷ [])
-    one_kind h = All-set (λ (x : Entity). IsKind x.kind) (e ∷ []) 0 e h (λ i d lt. subst (λ (x : Entity). IsKind x.kind) (sym (only i d lt)) h)
+    one_kind h =
+        All-set (λ (x : Entity). IsKind x.kind) (e ∷ []) 0 e h
+        (λ i d lt. subst (λ (x : Entity). IsKind x.kind) (sym (only i d lt)) h)
       where
         only : (i : ℕ) (d : Entity) → i < 1 → get_or (e ∷ []) i d ≡ e
         only zero d lt = refl
         only (suc i) d lt = absurd (omega (arith, lt))
 
-pub kept_set : (es : List Entity) (told : List (ℤ × Spot)) (cap given dropped i : ℕ) (n : ℤ) (old new : Entity) → IsKept es told cap given dropped
-    → IsPlaced eid_of n i es → old ≡ get_or es i old → new.eid ≡ old.eid → IsKind new.kind → is_dropped new.kind ≡ is_dropped old.kind
-    → IsKept (set es i new) told cap given dropped
+pub kept_set : (es : List Entity) (told : List (ℤ × Spot)) (cap given dropped i : ℕ) (n : ℤ)
+    (old new : Entity) → IsKept es told cap given dropped →
+    IsPlaced eid_of n i es → old ≡ get_or es i old → new.eid ≡ old.eid → IsKind new.kind →
+    is_dropped new.kind ≡ is_dropped old.kind → IsKept (set es i new) told cap given dropped
 kept_set es told cap given dropped i n old new k placed is eid kind same = record {
   rise = rise_set eid_of (pos 0) (pos given) es i new old placed.within (eid ∙ ap eid_of is) k.rise;
   told_rise = k.told_rise;
   kinds = All-set (λ (x : Entity). IsKind x.kind) es i new kind k.kinds;
   numbers = k.numbers;
-  counted = k.counted ∙ sym (count_set (λ (x : Entity). is_dropped x.kind) es i new old placed.within (same ∙ ap (λ (x : Entity). is_dropped x.kind) is));
+  counted = k.counted
+      ∙ sym (count_set (λ (x : Entity). is_dropped x.kind) es i new old placed.within
+      (same ∙ ap (λ (x : Entity). is_dropped x.kind) is));
   few = k.few;
   places = let l = length_set es i new in let f = k.places in omega (arith, l, f);
 }
@@ -80,58 +102,89 @@ kept_set es told cap given dropped i n old new k placed is eid kind same = recor
     length_set (y ∷ xs) zero x = refl
     length_set (y ∷ xs) (suc i) x = ap suc (length_set xs i x)
 
-pub kept_less : (es now : List Entity) (told left : List (ℤ × Spot)) (cap given dropped i count : ℕ) (n : ℤ) (old : Entity) → IsKept es told cap given dropped
-    → IsPlaced eid_of n i es → old ≡ get_or es i old → count ≡ one_if (is_dropped old.kind) → now ≡ remove es i → left ≡ without told_eid n told
-    → IsKept now left cap given (dropped - count)
+pub kept_less : (es now : List Entity) (told left : List (ℤ × Spot)) (cap given dropped i count : ℕ)
+    (n : ℤ) (old : Entity) → IsKept es told cap given dropped →
+    IsPlaced eid_of n i es → old ≡ get_or es i old → count ≡ one_if (is_dropped old.kind) →
+    now ≡ remove es i → left ≡ without told_eid n told → IsKept now left cap given (dropped - count)
 kept_less es now told left cap given dropped i count n old k placed is c e f = record {
-  rise = subst (λ (xs : List Entity). Rise eid_of (pos 0) xs (pos given)) (sym rest) (rise_filter eid_of _ (pos 0) (pos given) es k.rise);
-  told_rise = subst (λ (xs : List (ℤ × Spot)). Rise told_eid (pos 0) xs (pos given)) (sym f) (rise_filter told_eid _ (pos 0) (pos given) told k.told_rise);
-  kinds = subst (λ (xs : List Entity). AreKinds xs) (sym rest) (All-filter _ (λ (x : Entity). IsKind x.kind) es k.kinds);
+  rise = subst (λ (xs : List Entity). Rise eid_of (pos 0) xs (pos given)) (sym rest)
+      (rise_filter eid_of _ (pos 0) (pos given) es k.rise);
+  told_rise = subst (λ (xs : List (ℤ × Spot)). Rise told_eid (pos 0) xs (pos given)) (sym f)
+      (rise_filter told_eid _ (pos 0) (pos given) told k.told_rise);
+  kinds = subst (λ (xs : List Entity). AreKinds xs) (sym rest)
+      (All-filter _ (λ (x : Entity). IsKind x.kind) es k.kinds);
   numbers = k.numbers;
   counted = let h = count_remove (λ (x : Entity). is_dropped x.kind) es i old placed.within in
       let same : dropped_in now ≡ dropped_in (remove es i) = ap dropped_in e in
-      let one : count ≡ one_if (is_dropped (get_or es i old).kind) = c ∙ ap (λ (x : Entity). one_if (is_dropped x.kind)) is in
+      let one : count ≡ one_if (is_dropped (get_or es i old).kind) =
+      c ∙ ap (λ (x : Entity). one_if (is_dropped x.kind)) is in
       let g = k.counted in omega (arith, h, same, one, g);
   few = let g = k.few in omega (arith, g);
-  places = let l = length-remove es i placed.within in let same : length now ≡ length (remove es i) = ap length e in let g = k.places in omega (arith, l, same, g);
+  places =
+      let l = length-remove es i placed.within in
+      let same : length now ≡ length (remove es i) = ap length e in
+      let g = k.places in
+      omega (arith, l, same, g);
 }
   where
     rest : now ≡ without eid_of n es
-    rest = e ∙ sym (without_at eid_of n (pos 0) (pos given) es i old k.rise placed.within (placed.named old))
+    rest =
+        e ∙ sym (without_at eid_of n (pos 0) (pos given) es i old k.rise placed.within
+        (placed.named old))
 
 -- an entity that is kept is of a kind in range
-pub kind_at : (es : List Entity) (i : ℕ) (e : Entity) → AreKinds es → i < length es → e ≡ get_or es i e → IsKind e.kind
+pub kind_at : (es : List Entity) (i : ℕ) (e : Entity) →
+    AreKinds es → i < length es → e ≡ get_or es i e → IsKind e.kind
 kind_at es i e kinds lt is = subst (λ (x : Entity). IsKind x.kind) (sym is) (kinds i e lt)
 
 -- what a push that does not fail leaves
-pub pushed : {X R E : Type 0} {u : R} (xs ys : List X) (x : X) {r : Result R E} → ys ≡ (if is_ok r then xs ++ x ∷ [] else xs) → r ≡ Ok u → ys ≡ xs ++ x ∷ []
-pushed {X = X} {R = R} {E = E} xs ys x e ok = e ∙ ap (λ (q : Result R E). if is_ok q then xs ++ x ∷ [] else xs) ok
+pub pushed : {X R E : Type 0} {u : R} (xs ys : List X) (x : X) {r : Result R E} →
+    ys ≡ (if is_ok r then xs ++ x ∷ [] else xs) → r ≡ Ok u → ys ≡ xs ++ x ∷ []
+pushed {X = X} {R = R} {E = E} xs ys x e ok =
+    e ∙ ap (λ (q : Result R E). if is_ok q then xs ++ x ∷ [] else xs) ok
 
 -- ---- the state after a change
 
-pub absent_state : (eid : ℤ) (f : Entity → Entity) (state : FolkState) → entity_of eid state ≡ None → state ≡ with_entity eid f state
-absent_state eid f state none = sym (ap (λ (es : List Entity). record state { entities = es }) (changed_none eid_of eid f state.entities none))
+pub absent_state : (eid : ℤ) (f : Entity → Entity) (state : FolkState) →
+    entity_of eid state ≡ None → state ≡ with_entity eid f state
+absent_state eid f state none =
+    sym (ap (λ (es : List Entity). record state { entities = es })
+    (changed_none eid_of eid f state.entities none))
 
-pub changed_state : (w : FolkValue) (state : FolkState) (high : ℤ) (eid : ℤ) (f : Entity → Entity) (i : ℕ) (old new : Entity) → state ≡ w.state → Rise eid_of (pos 0) state.entities high
-    → IsPlaced eid_of eid i w.state.entities → old ≡ get_or state.entities i old → new ≡ f old → record state { entities = set state.entities i new } ≡ with_entity eid f w.state
+pub changed_state : (w : FolkValue) (state : FolkState) (high : ℤ) (eid : ℤ)
+    (f : Entity → Entity) (i : ℕ) (old new : Entity) →
+    state ≡ w.state → Rise eid_of (pos 0) state.entities high →
+    IsPlaced eid_of eid i w.state.entities → old ≡ get_or state.entities i old →
+    new ≡ f old → record state { entities = set state.entities i new } ≡ with_entity eid f w.state
 changed_state w state high eid f i old new e r placed is change =
     let here = subst (λ (t : FolkState). IsPlaced eid_of eid i t.entities) (sym e) placed in
-    ap (λ (es : List Entity). record state { entities = es }) (changed_placed eid_of eid (pos 0) high f state.entities i old new r here is change) ∙ ap (λ (t : FolkState). with_entity eid f t) e
+    ap (λ (es : List Entity). record state { entities = es })
+    (changed_placed eid_of eid (pos 0) high f state.entities i old new r here is change)
+    ∙ ap (λ (t : FolkState). with_entity eid f t) e
 
-pub removed_state : (w : FolkValue) (state : FolkState) (high : ℤ) (eid : ℤ) (i : ℕ) (old : Entity) (now : List Entity) (left : List (ℤ × Spot)) → state ≡ w.state → Rise eid_of (pos 0) state.entities high
-    → IsPlaced eid_of eid i w.state.entities → now ≡ remove state.entities i → left ≡ without told_eid eid state.told → record state { entities = now; told = left } ≡ removed eid w.state
+pub removed_state : (w : FolkValue) (state : FolkState) (high : ℤ) (eid : ℤ) (i : ℕ)
+    (old : Entity) (now : List Entity) (left : List (ℤ × Spot)) → state ≡ w.state →
+    Rise eid_of (pos 0) state.entities high → IsPlaced eid_of eid i w.state.entities →
+    now ≡ remove state.entities i → left ≡ without told_eid eid state.told →
+    record state { entities = now; told = left } ≡ removed eid w.state
 removed_state w state high eid i old now left e r placed is f =
     let here = subst (λ (t : FolkState). IsPlaced eid_of eid i t.entities) (sym e) placed in
-    let rest : now ≡ without eid_of eid state.entities = is ∙ sym (without_at eid_of eid (pos 0) high state.entities i old r here.within (here.named old)) in
+    let rest : now ≡ without eid_of eid state.entities =
+    is ∙ sym (without_at eid_of eid (pos 0) high state.entities i old r here.within
+    (here.named old)) in
     rw (rest, f) (ap (λ (t : FolkState). removed eid t) e)
 
 -- one changed at its place, by what was seen of it
-pub kept_changed : (w : FolkValue) (es : List Entity) (told : List (ℤ × Spot)) (cap given dropped i : ℕ) (n : ℤ) (old new : Entity) → es ≡ w.state.entities → IsKept es told cap given dropped
-    → IsPlaced eid_of n i w.state.entities → old ≡ get_or es i old → new.eid ≡ old.eid → (IsKind old.kind → IsKind new.kind) → is_dropped new.kind ≡ is_dropped old.kind
-    → IsKept (set es i new) told cap given dropped
+pub kept_changed : (w : FolkValue) (es : List Entity)
+    (told : List (ℤ × Spot)) (cap given dropped i : ℕ) (n : ℤ) (old new : Entity) →
+    es ≡ w.state.entities → IsKept es told cap given dropped →
+    IsPlaced eid_of n i w.state.entities →
+    old ≡ get_or es i old → new.eid ≡ old.eid → (IsKind old.kind → IsKind new.kind) →
+    is_dropped new.kind ≡ is_dropped old.kind → IsKept (set es i new) told cap given dropped
 kept_changed w es told cap given dropped i n old new e k placed is eid kind same =
     let here = subst (λ (xs : List Entity). IsPlaced eid_of n i xs) (sym e) placed in
-    kept_set es told cap given dropped i n old new k here is eid (kind (kind_at es i old k.kinds here.within is)) same
+    kept_set es told cap given dropped i n old new k here is eid
+    (kind (kind_at es i old k.kinds here.within is)) same
 
 -- of the same variant, so as much a dropped item as before
 alike_dropped : (a b : EntityKind) → are_alike a b ≡ true → is_dropped b ≡ is_dropped a
@@ -145,32 +198,48 @@ alike_dropped Mob (Player v k) e = absurd cc
 alike_dropped Mob (Dropped j m) e = absurd cc
 alike_dropped Mob Mob e = refl
 
-pub kept_variant : (w : FolkValue) (es : List Entity) (i : ℕ) (n : ℤ) (old : Entity) (kind : EntityKind) → es ≡ w.state.entities → IsPlaced eid_of n i w.state.entities → old ≡ get_or es i old
-    → IfSome (entity_of n w.state) (λ e. are_alike e.kind kind ≡ true) → is_dropped kind ≡ is_dropped old.kind
+pub kept_variant : (w : FolkValue) (es : List Entity) (i : ℕ) (n : ℤ) (old : Entity)
+    (kind : EntityKind) → es ≡ w.state.entities → IsPlaced eid_of n i w.state.entities →
+    old ≡ get_or es i old → IfSome (entity_of n w.state) (λ e. are_alike e.kind kind ≡ true) →
+    is_dropped kind ≡ is_dropped old.kind
 kept_variant w es i n old kind e placed is alike =
-    let there : entity_of n w.state ≡ Some old = placed.is old ∙ ap (λ (x : Entity). Some x) (ap (λ (xs : List Entity). get_or xs i old) (sym e) ∙ sym is) in
-    alike_dropped old.kind kind (subst (λ (o : Option Entity). IfSome o (λ x. are_alike x.kind kind ≡ true)) there alike)
+    let there : entity_of n w.state ≡ Some old =
+    placed.is old ∙ ap (λ (x : Entity). Some x)
+    (ap (λ (xs : List Entity). get_or xs i old) (sym e) ∙ sym is) in
+    alike_dropped old.kind kind
+    (subst (λ (o : Option Entity). IfSome o (λ x. are_alike x.kind kind ≡ true)) there alike)
 
 -- what is counted of one that is there was counted
-pub counted_one : (w : FolkValue) (es : List Entity) (told : List (ℤ × Spot)) (cap given dropped i count : ℕ) (n : ℤ) (old : Entity) → es ≡ w.state.entities → IsKept es told cap given dropped
-    → IsPlaced eid_of n i w.state.entities → old ≡ get_or es i old → count ≡ one_if (is_dropped old.kind) → count ≤ dropped
+pub counted_one : (w : FolkValue) (es : List Entity)
+    (told : List (ℤ × Spot)) (cap given dropped i count : ℕ) (n : ℤ) (old : Entity) →
+    es ≡ w.state.entities → IsKept es told cap given dropped →
+    IsPlaced eid_of n i w.state.entities →
+    old ≡ get_or es i old → count ≡ one_if (is_dropped old.kind) → count ≤ dropped
 counted_one w es told cap given dropped i count n old e k placed is c =
     let here = subst (λ (xs : List Entity). IsPlaced eid_of n i xs) (sym e) placed in
     let h = count_remove (λ (x : Entity). is_dropped x.kind) es i old here.within in
-    let one : count ≡ one_if (is_dropped (get_or es i old).kind) = c ∙ ap (λ (x : Entity). one_if (is_dropped x.kind)) is in
+    let one : count ≡ one_if (is_dropped (get_or es i old).kind) =
+    c ∙ ap (λ (x : Entity). one_if (is_dropped x.kind)) is in
     let g = k.counted in omega (arith, h, one, g)
 
-pub kept_without : (w : FolkValue) (es now : List Entity) (told left : List (ℤ × Spot)) (cap room given dropped i count : ℕ) (n : ℤ) (old : Entity) → es ≡ w.state.entities → IsKept es told cap given dropped
-    → IsPlaced eid_of n i w.state.entities → old ≡ get_or es i old → count ≡ one_if (is_dropped old.kind) → now ≡ remove es i → left ≡ without told_eid n told → room ≡ cap
-    → IsKept now left room given (dropped - count)
+pub kept_without : (w : FolkValue) (es now : List Entity)
+    (told left : List (ℤ × Spot)) (cap room given dropped i count : ℕ) (n : ℤ) (old : Entity) →
+    es ≡ w.state.entities → IsKept es told cap given dropped →
+    IsPlaced eid_of n i w.state.entities →
+    old ≡ get_or es i old → count ≡ one_if (is_dropped old.kind) → now ≡ remove es i →
+    left ≡ without told_eid n told → room ≡ cap → IsKept now left room given (dropped - count)
 kept_without w es now told left cap room given dropped i count n old e k placed is c f g same =
     let here = subst (λ (xs : List Entity). IsPlaced eid_of n i xs) (sym e) placed in
-    subst (λ (m : ℕ). IsKept now left m given (dropped - count)) (sym same) (kept_less es now told left cap given dropped i count n old k here is c f g)
+    subst (λ (m : ℕ). IsKept now left m given (dropped - count)) (sym same)
+    (kept_less es now told left cap given dropped i count n old k here is c f g)
 
-pub kept_forgotten : (es : List Entity) (told left : List (ℤ × Spot)) (cap room given dropped : ℕ) (n : ℤ) → IsKept es told cap given dropped → left ≡ without told_eid n told → room ≡ cap → IsKept es left room given dropped
+pub kept_forgotten : (es : List Entity) (told left : List (ℤ × Spot)) (cap room given dropped : ℕ)
+    (n : ℤ) → IsKept es told cap given dropped →
+    left ≡ without told_eid n told → room ≡ cap → IsKept es left room given dropped
 kept_forgotten es told left cap room given dropped n k e same = record {
   rise = k.rise;
-  told_rise = subst (λ (xs : List (ℤ × Spot)). Rise told_eid (pos 0) xs (pos given)) (sym e) (rise_filter told_eid _ (pos 0) (pos given) told k.told_rise);
+  told_rise = subst (λ (xs : List (ℤ × Spot)). Rise told_eid (pos 0) xs (pos given)) (sym e)
+      (rise_filter told_eid _ (pos 0) (pos given) told k.told_rise);
   kinds = k.kinds;
   numbers = k.numbers;
   counted = k.counted;
@@ -178,18 +247,26 @@ kept_forgotten es told left cap room given dropped n k e same = record {
   places = let f = k.places in omega (arith, f, same);
 }
 
-pub forgotten_state : (w : FolkValue) (state : FolkState) (n : ℤ) (left : List (ℤ × Spot)) → state ≡ w.state → entity_of n w.state ≡ None → left ≡ without told_eid n state.told → record state { told = left } ≡ removed n w.state
+pub forgotten_state : (w : FolkValue) (state : FolkState) (n : ℤ) (left : List (ℤ × Spot)) →
+    state ≡ w.state → entity_of n w.state ≡ None →
+    left ≡ without told_eid n state.told → record state { told = left } ≡ removed n w.state
 forgotten_state w state n left e none f =
     let gone : entity_of n state ≡ None = ap (λ (t : FolkState). entity_of n t) e ∙ none in
     ap (λ (rows : List (ℤ × Spot)). record state { told = rows }) f
-    ∙ ap (λ (es : List Entity). record state { entities = es; told = without told_eid n state.told }) (sym (without_none eid_of n state.entities gone))
+    ∙ ap (λ (es : List Entity).
+    record state { entities = es; told = without told_eid n state.told })
+    (sym (without_none eid_of n state.entities gone))
     ∙ ap (λ (t : FolkState). removed n t) e
 
 -- all spots are kept anew
-pub kept_settled : (es : List Entity) (told left : List (ℤ × Spot)) (cap room given dropped : ℕ) → IsKept es told cap given dropped → left ≡ map (λ (e : Entity). (e.eid, e.spot)) es → cap ≤ room → IsKept es left room given dropped
+pub kept_settled : (es : List Entity) (told left : List (ℤ × Spot)) (cap room given dropped : ℕ) →
+    IsKept es told cap given dropped →
+    left ≡ map (λ (e : Entity). (e.eid, e.spot)) es → cap ≤ room → IsKept es left room given dropped
 kept_settled es told left cap room given dropped k e le = record {
   rise = k.rise;
-  told_rise = subst (λ (xs : List (ℤ × Spot)). Rise told_eid (pos 0) xs (pos given)) (sym e) (rise_map eid_of told_eid (λ (x : Entity). (x.eid, x.spot)) (pos 0) (pos given) es (λ x. refl) k.rise);
+  told_rise = subst (λ (xs : List (ℤ × Spot)). Rise told_eid (pos 0) xs (pos given)) (sym e)
+      (rise_map eid_of told_eid (λ (x : Entity). (x.eid, x.spot)) (pos 0) (pos given) es
+      (λ x. refl) k.rise);
   kinds = k.kinds;
   numbers = k.numbers;
   counted = k.counted;
@@ -199,17 +276,30 @@ kept_settled es told left cap room given dropped k e le = record {
 
 -- ---- mobs that move
 
-tick_keeps : (plans : List (List Move)) (es : List Entity) (e : Entity) → ((after_tick plans es e).eid ≡ e.eid) × ((after_tick plans es e).kind ≡ e.kind)
-tick_keeps plans es e = elim (is_mob e.kind) as (λ b. ((cond b (stepped (move_at plans (rank es e.eid)) e) e).eid ≡ e.eid) × ((cond b (stepped (move_at plans (rank es e.eid)) e) e).kind ≡ e.kind)) [
-  | true ↦ (refl, refl)
-  | false ↦ (refl, refl)
-]
+tick_keeps : (plans : List (List Move)) (es : List Entity) (e : Entity) →
+    ((after_tick plans es e).eid ≡ e.eid) × ((after_tick plans es e).kind ≡ e.kind)
+tick_keeps plans es e =
+    elim (is_mob e.kind)
+    as (λ b. ((cond b (stepped (move_at plans (rank es e.eid)) e) e).eid ≡ e.eid)
+    × ((cond b (stepped (move_at plans (rank es e.eid)) e) e).kind ≡ e.kind)) [
+      | true ↦ (refl, refl)
+      | false ↦ (refl, refl)
+    ]
 
-count_map : (f : Entity → Entity) (es : List Entity) → ((e : Entity) → (f e).kind ≡ e.kind) → dropped_in (map f es) ≡ dropped_in es
+count_map : (f : Entity → Entity) (es : List Entity) →
+    ((e : Entity) → (f e).kind ≡ e.kind) → dropped_in (map f es) ≡ dropped_in es
 count_map f [] same = refl
-count_map f (e ∷ es) same = ap (λ (k : EntityKind). length (cond (is_dropped k) (f e ∷ filter (λ (x : Entity). is_dropped x.kind) (map f es)) (filter (λ (x : Entity). is_dropped x.kind) (map f es)))) (same e) ∙ step (is_dropped e.kind) (count_map f es same)
+count_map f (e ∷ es) same =
+    ap (λ (k : EntityKind). length (cond (is_dropped k)
+    (f e ∷ filter (λ (x : Entity). is_dropped x.kind) (map f es))
+    (filter (λ (x : Entity). is_dropped x.kind) (map f es)))) (same e)
+    ∙ step (is_dropped e.kind) (count_map f es same)
   where
-    step : (b : Bool) → dropped_in (map f es) ≡ dropped_in es → length (cond b (f e ∷ filter (λ (x : Entity). is_dropped x.kind) (map f es)) (filter (λ (x : Entity). is_dropped x.kind) (map f es))) ≡ length (cond b (e ∷ filter (λ (x : Entity). is_dropped x.kind) es) (filter (λ (x : Entity). is_dropped x.kind) es))
+    step : (b : Bool) → dropped_in (map f es) ≡ dropped_in es →
+        length (cond b (f e ∷ filter (λ (x : Entity). is_dropped x.kind) (map f es))
+        (filter (λ (x : Entity). is_dropped x.kind) (map f es))) ≡
+        length (cond b (e ∷ filter (λ (x : Entity). is_dropped x.kind) es)
+        (filter (λ (x : Entity). is_dropped x.kind) es))
     step true h = ap suc h
     step false h = h
 
@@ -217,13 +307,23 @@ length_map : (f : Entity → Entity) (es : List Entity) → length (map f es) �
 length_map f [] = refl
 length_map f (e ∷ es) = ap suc (length_map f es)
 
-pub kept_ticked : (plans : List (List Move)) (es now : List Entity) (told : List (ℤ × Spot)) (cap given dropped : ℕ) → IsKept es told cap given dropped → now ≡ map (after_tick plans es) es → IsKept now told cap given dropped
-kept_ticked plans es now told cap given dropped k e = subst (λ (xs : List Entity). IsKept xs told cap given dropped) (sym e) (record {
-  rise = rise_map eid_of eid_of (after_tick plans es) (pos 0) (pos given) es (λ x. (tick_keeps plans es x).0) k.rise;
-  told_rise = k.told_rise;
-  kinds = All-map (λ (x : Entity). IsKind x.kind) (after_tick plans es) es (λ i d lt. subst (λ (kind : EntityKind). IsKind kind) (sym (tick_keeps plans es (get_or es i d)).1) (k.kinds i d lt));
-  numbers = k.numbers;
-  counted = k.counted ∙ sym (count_map (after_tick plans es) es (λ x. (tick_keeps plans es x).1));
-  few = k.few;
-  places = let l = length_map (after_tick plans es) es in let f = k.places in omega (arith, l, f);
-})
+pub kept_ticked : (plans : List (List Move)) (es now : List Entity)
+    (told : List (ℤ × Spot)) (cap given dropped : ℕ) → IsKept es told cap given dropped →
+    now ≡ map (after_tick plans es) es → IsKept now told cap given dropped
+kept_ticked plans es now told cap given dropped k e =
+    subst (λ (xs : List Entity). IsKept xs told cap given dropped) (sym e) (record {
+      rise = rise_map eid_of eid_of (after_tick plans es) (pos 0) (pos given) es
+          (λ x. (tick_keeps plans es x).0) k.rise;
+      told_rise = k.told_rise;
+      kinds = All-map (λ (x : Entity). IsKind x.kind) (after_tick plans es) es
+          (λ i d lt. subst (λ (kind : EntityKind). IsKind kind)
+          (sym (tick_keeps plans es (get_or es i d)).1) (k.kinds i d lt));
+      numbers = k.numbers;
+      counted = k.counted
+          ∙ sym (count_map (after_tick plans es) es (λ x. (tick_keeps plans es x).1));
+      few = k.few;
+      places =
+          let l = length_map (after_tick plans es) es in
+          let f = k.places in
+          omega (arith, l, f);
+    })

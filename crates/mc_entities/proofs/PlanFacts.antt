@@ -1,5 +1,6 @@
 -- Plans that lose their first moves, and mobs that make them.
-use Rattle.std.proofs.Common.{◌≡◌, ℕ, zero, suc, ◌+◌, ◌≤◌, ◌<◌, List, [], ◌∷◌, ◌++◌, map, length, get_or, set, take, drop, refl, sym, ap, ◌∙◌, arith}
+use Rattle.std.proofs.Common.{◌≡◌, ℕ, zero, suc, ◌+◌, ◌≤◌, ◌<◌, List, [], ◌∷◌, ◌++◌, map, length}
+use Rattle.std.proofs.Common.{get_or, set, take, drop, refl, sym, ap, ◌∙◌, arith}
 use Rattle.std.specs.Prelude.{◌≤ℤ◌, ◌<ℤ◌, ◌&&◌, Bool, true, false, cond, int_lt}
 use Rattle.std.specs.List.{filter}
 use Rattle.std.proofs.lemmas.List.Edits.{map_over_more}
@@ -16,15 +17,22 @@ use Rattle.mc_entities.proofs.NumberFacts.{lt_int, le_int, lt_le, le_lt, rise_at
 
 -- ---- one mind is asked
 
-pub plans_set : {X : Type 0} (plan : X → List Move) (xs : List X) (i : ℕ) (old new : X) → i < length xs → old ≡ get_or xs i old → plan new ≡ rest_of (plan old) → map plan (set xs i new) ≡ asked_at i (map plan xs)
+pub plans_set : {X : Type 0} (plan : X → List Move) (xs : List X) (i : ℕ) (old new : X) →
+    i < length xs → old ≡ get_or xs i old →
+    plan new ≡ rest_of (plan old) → map plan (set xs i new) ≡ asked_at i (map plan xs)
 plans_set plan [] i old new lt is e = absurd (omega (arith, lt))
-plans_set plan (x ∷ xs) zero old new lt is e = ap (λ (p : List Move). p ∷ map plan xs) (e ∙ ap (λ y. rest_of (plan y)) is)
-plans_set plan (x ∷ xs) (suc i) old new lt is e = ap (λ (ps : List (List Move)). plan x ∷ ps) (plans_set plan xs i old new (omega (arith, lt)) is e)
+plans_set plan (x ∷ xs) zero old new lt is e =
+    ap (λ (p : List Move). p ∷ map plan xs) (e ∙ ap (λ y. rest_of (plan y)) is)
+plans_set plan (x ∷ xs) (suc i) old new lt is e =
+    ap (λ (ps : List (List Move)). plan x ∷ ps)
+    (plans_set plan xs i old new (omega (arith, lt)) is e)
 
-pub plans_past : {X : Type 0} (plan : X → List Move) (xs : List X) (i : ℕ) → length xs ≤ i → map plan xs ≡ asked_at i (map plan xs)
+pub plans_past : {X : Type 0} (plan : X → List Move) (xs : List X) (i : ℕ) →
+    length xs ≤ i → map plan xs ≡ asked_at i (map plan xs)
 plans_past plan [] i le = refl
 plans_past plan (x ∷ xs) zero le = absurd (omega (arith, le))
-plans_past plan (x ∷ xs) (suc i) le = ap (λ (ps : List (List Move)). plan x ∷ ps) (plans_past plan xs i (omega (arith, le)))
+plans_past plan (x ∷ xs) (suc i) le =
+    ap (λ (ps : List (List Move)). plan x ∷ ps) (plans_past plan xs i (omega (arith, le)))
 
 -- ---- the minds are asked in turn
 
@@ -32,9 +40,11 @@ pub asked_none : (plans : List (List Move)) → asked 0 plans ≡ plans
 asked_none [] = refl
 asked_none (p ∷ plans) = refl
 
-pub asked_next : (n : ℕ) (plans : List (List Move)) → asked_at n (asked n plans) ≡ asked (suc n) plans
+pub asked_next : (n : ℕ) (plans : List (List Move)) →
+    asked_at n (asked n plans) ≡ asked (suc n) plans
 asked_next zero [] = refl
-asked_next zero (p ∷ plans) = ap (λ (ps : List (List Move)). rest_of p ∷ ps) (sym (asked_none plans))
+asked_next zero (p ∷ plans) =
+    ap (λ (ps : List (List Move)). rest_of p ∷ ps) (sym (asked_none plans))
 asked_next (suc n) [] = refl
 asked_next (suc n) (p ∷ plans) = ap (λ (ps : List (List Move)). rest_of p ∷ ps) (asked_next n plans)
 
@@ -50,76 +60,104 @@ rank_past : (n low high : ℤ) (es : List Entity) → n ≤ℤ low → Rise eid_
 rank_past n low high [] le r = refl
 rank_past n low high (e ∷ es) le r =
     let upper : n <ℤ e.eid = le_lt n low e.eid le r.0 in
-    rw (le_int e.eid n (lt_le n e.eid upper)) (skip (is_mob e.kind) (rank_past n e.eid high es (lt_le n e.eid upper) r.1))
+    rw (le_int e.eid n (lt_le n e.eid upper))
+    (skip (is_mob e.kind) (rank_past n e.eid high es (lt_le n e.eid upper) r.1))
   where
-    skip : (b : Bool) → rank es n ≡ 0 → length (cond (b && false) (e ∷ filter (λ (o : Entity). is_mob o.kind && int_lt o.eid n) es) (filter (λ (o : Entity). is_mob o.kind && int_lt o.eid n) es)) ≡ 0
+    skip : (b : Bool) → rank es n ≡ 0 →
+        length (cond (b && false)
+        (e ∷ filter (λ (o : Entity). is_mob o.kind && int_lt o.eid n) es)
+        (filter (λ (o : Entity). is_mob o.kind && int_lt o.eid n) es)) ≡ 0
     skip true h = h
     skip false h = h
 
-pub rank_at : (low high : ℤ) (es : List Entity) (i : ℕ) (d : Entity) → Rise eid_of low es high → i < length es → rank es (get_or es i d).eid ≡ mobs_in (take i es)
+pub rank_at : (low high : ℤ) (es : List Entity) (i : ℕ) (d : Entity) →
+    Rise eid_of low es high → i < length es → rank es (get_or es i d).eid ≡ mobs_in (take i es)
 rank_at low high [] i d r lt = absurd (omega (arith, lt))
 rank_at low high (e ∷ es) zero d r lt =
-    rw (le_int e.eid e.eid (below_self e.eid)) (skip (is_mob e.kind) (rank_past e.eid e.eid high es (below_self e.eid) r.1))
+    rw (le_int e.eid e.eid (below_self e.eid))
+    (skip (is_mob e.kind) (rank_past e.eid e.eid high es (below_self e.eid) r.1))
   where
-    skip : (b : Bool) → rank es e.eid ≡ 0 → length (cond (b && false) (e ∷ filter (λ (o : Entity). is_mob o.kind && int_lt o.eid e.eid) es) (filter (λ (o : Entity). is_mob o.kind && int_lt o.eid e.eid) es)) ≡ 0
+    skip : (b : Bool) → rank es e.eid ≡ 0 →
+        length (cond (b && false)
+        (e ∷ filter (λ (o : Entity). is_mob o.kind && int_lt o.eid e.eid) es)
+        (filter (λ (o : Entity). is_mob o.kind && int_lt o.eid e.eid) es)) ≡ 0
     skip true h = h
     skip false h = h
 rank_at low high (e ∷ es) (suc i) d r lt =
     let later = rise_at eid_of e.eid high es i d (omega (arith, lt)) r.1 in
-    rw (lt_int e.eid (get_or es i d).eid later) (more (is_mob e.kind) (rank_at e.eid high es i d r.1 (omega (arith, lt))))
+    rw (lt_int e.eid (get_or es i d).eid later)
+    (more (is_mob e.kind) (rank_at e.eid high es i d r.1 (omega (arith, lt))))
   where
-    more : (b : Bool) → rank es (get_or es i d).eid ≡ mobs_in (take i es)
-        → length (cond (b && true) (e ∷ filter (λ (o : Entity). is_mob o.kind && int_lt o.eid (get_or es i d).eid) es) (filter (λ (o : Entity). is_mob o.kind && int_lt o.eid (get_or es i d).eid) es))
-        ≡ length (cond b (e ∷ filter (λ (o : Entity). is_mob o.kind) (take i es)) (filter (λ (o : Entity). is_mob o.kind) (take i es)))
+    more : (b : Bool) → rank es (get_or es i d).eid ≡ mobs_in (take i es) →
+        length (cond (b && true)
+        (e ∷ filter (λ (o : Entity). is_mob o.kind && int_lt o.eid (get_or es i d).eid) es)
+        (filter (λ (o : Entity). is_mob o.kind && int_lt o.eid (get_or es i d).eid) es)) ≡
+        length (cond b (e ∷ filter (λ (o : Entity). is_mob o.kind) (take i es))
+        (filter (λ (o : Entity). is_mob o.kind) (take i es)))
     more true h = ap suc h
     more false h = h
 
 -- ---- entity by entity
 
 -- what is left is as it was
-still : {X : Type 0} (f : X → X) (xs : List X) (i : ℕ) (d : X) → get_or (map f (take i xs) ++ drop i xs) i d ≡ get_or xs i d
+still : {X : Type 0} (f : X → X) (xs : List X) (i : ℕ) (d : X) →
+    get_or (map f (take i xs) ++ drop i xs) i d ≡ get_or xs i d
 still f [] zero d = refl
 still f [] (suc i) d = refl
 still f (x ∷ xs) zero d = refl
 still f (x ∷ xs) (suc i) d = still f xs i d
 
 -- the first i have moved, and of the minds as many were asked as there are mobs among them
-pub record IsTicking (plans : List (List Move)) (old : List Entity) (i mobs : ℕ) (entities : List Entity) (now : List (List Move)) : Type 0 where
+pub record IsTicking (plans : List (List Move)) (old : List Entity) (i mobs : ℕ)
+    (entities : List Entity) (now : List (List Move)) : Type 0 where
   pub rows : entities ≡ map (after_tick plans old) (take i old) ++ drop i old
   pub count : mobs ≡ mobs_in (take i old)
   pub few : mobs ≤ i
   pub left : now ≡ asked mobs plans
 
-pub ticking_next : (plans : List (List Move)) (high : ℤ) (old : List Entity) (i mobs : ℕ) (entities : List Entity) (now later : List (List Move)) (e new : Entity) (n : ℕ)
-    → Rise eid_of (pos 0) old high → i < length old → IsTicking plans old i mobs entities now → e ≡ get_or entities i e
-    → new ≡ moved_by now mobs e → later ≡ asked_by (is_mob e.kind) mobs now → n ≡ one_if (is_mob e.kind)
-    → IsTicking plans old (i + 1) (mobs + n) (set entities i new) later
-ticking_next plans high old i mobs entities now later e new n r lt t is moved remains counted = record {
-  rows = ap (λ (x : Entity). set entities i x) moves ∙ map_over_more (after_tick plans old) old entities i e lt t.rows is;
-  count = rw counted (ap (λ (m : ℕ). m + one_if (is_mob e.kind)) t.count ∙ sym grows);
-  few = few (is_mob e.kind) counted;
-  left = remains ∙ ap (λ (ps : List (List Move)). asked_by (is_mob e.kind) mobs ps) t.left ∙ turn (is_mob e.kind) counted;
-}
+pub ticking_next : (plans : List (List Move)) (high : ℤ) (old : List Entity) (i mobs : ℕ)
+    (entities : List Entity) (now later : List (List Move)) (e new : Entity) (n : ℕ) →
+    Rise eid_of (pos 0) old high → i < length old → IsTicking plans old i mobs entities now →
+    e ≡ get_or entities i e → new ≡ moved_by now mobs e →
+    later ≡ asked_by (is_mob e.kind) mobs now →
+    n ≡ one_if (is_mob e.kind) → IsTicking plans old (i + 1) (mobs + n) (set entities i new) later
+ticking_next plans high old i mobs entities now later e new n r lt t is moved remains counted =
+    record {
+      rows = ap (λ (x : Entity). set entities i x) moves
+          ∙ map_over_more (after_tick plans old) old entities i e lt t.rows is;
+      count = rw counted (ap (λ (m : ℕ). m + one_if (is_mob e.kind)) t.count ∙ sym grows);
+      few = few (is_mob e.kind) counted;
+      left = remains ∙ ap (λ (ps : List (List Move)). asked_by (is_mob e.kind) mobs ps) t.left
+          ∙ turn (is_mob e.kind) counted;
+    }
   where
     here : e ≡ get_or old i e
-    here = is ∙ ap (λ (xs : List Entity). get_or xs i e) t.rows ∙ still (after_tick plans old) old i e
+    here =
+        is ∙ ap (λ (xs : List Entity). get_or xs i e) t.rows ∙ still (after_tick plans old) old i e
 
     ranked : rank old e.eid ≡ mobs
-    ranked = ap (λ (x : Entity). rank old x.eid) here ∙ rank_at (pos 0) high old i e r lt ∙ sym t.count
+    ranked =
+        ap (λ (x : Entity). rank old x.eid) here ∙ rank_at (pos 0) high old i e r lt ∙ sym t.count
 
     first : move_at now mobs ≡ move_at plans (rank old e.eid)
-    first = ap (λ (ps : List (List Move)). move_at ps mobs) t.left ∙ move_asked mobs plans ∙ ap (λ (m : ℕ). move_at plans m) (sym ranked)
+    first =
+        ap (λ (ps : List (List Move)). move_at ps mobs) t.left
+        ∙ move_asked mobs plans ∙ ap (λ (m : ℕ). move_at plans m) (sym ranked)
 
     moves : new ≡ after_tick plans old e
     moves = moved ∙ ap (λ (by : Move). cond (is_mob e.kind) (stepped by e) e) first
 
     grows : mobs_in (take (i + 1) old) ≡ mobs_in (take i old) + one_if (is_mob e.kind)
-    grows = length-filter_more (λ (x : Entity). is_mob x.kind) old i e lt ∙ ap (λ (x : Entity). mobs_in (take i old) + one_if (is_mob x.kind)) (sym here)
+    grows =
+        length-filter_more (λ (x : Entity). is_mob x.kind) old i e lt
+        ∙ ap (λ (x : Entity). mobs_in (take i old) + one_if (is_mob x.kind)) (sym here)
 
     few : (b : Bool) → n ≡ one_if b → mobs + n ≤ i + 1
     few true c = let f = t.few in omega (arith, c, f)
     few false c = let f = t.few in omega (arith, c, f)
 
     turn : (b : Bool) → n ≡ one_if b → asked_by b mobs (asked mobs plans) ≡ asked (mobs + n) plans
-    turn true c = let e : suc mobs ≡ mobs + n = omega (arith, c) in asked_next mobs plans ∙ ap (λ (m : ℕ). asked m plans) e
+    turn true c =
+        let e : suc mobs ≡ mobs + n = omega (arith, c) in
+        asked_next mobs plans ∙ ap (λ (m : ℕ). asked m plans) e
     turn false c = let e : mobs ≡ mobs + n = omega (arith, c) in ap (λ (m : ℕ). asked m plans) e

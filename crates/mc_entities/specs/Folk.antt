@@ -74,7 +74,8 @@ new_state = record { entities = []; told = []; given = 0 }
 -- one more entity, which has the next number
 abbrev pub spawned : EntityKind → Spot → FolkState → FolkState
 spawned kind spot state = record state {
-  entities = state.entities ++ record { eid = pos (state.given + 1); kind = kind; spot = spot } ∷ [];
+  entities =
+      state.entities ++ record { eid = pos (state.given + 1); kind = kind; spot = spot } ∷ [];
   given = state.given + 1;
 }
 

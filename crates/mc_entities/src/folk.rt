@@ -1,5 +1,6 @@
 ghost use Rattle.std.specs.Prelude.{◌≡◌, ◌≤◌, ◌<◌, ◌+◌, ◌++◌, ◌∷◌, ◌↔◌, ℕ, [], Ok, Err, None};
-ghost use Rattle.std.specs.Prelude.{IfOk, OnOk, OnErr, IfSome, IsOk, is_some, map, suc, true, false};
+ghost use Rattle.std.specs.Prelude.{IfOk, OnOk, OnErr, IfSome, IsOk, is_some, map, suc, true};
+ghost use Rattle.std.specs.Prelude.{false};
 ghost use lib.IntN.{pos};
 ghost use Rattle.std.specs.Option.{option_copied};
 ghost use Rattle.mc_entities.specs.declared.fault.FolkFault.TheVariants as folk_faults;
@@ -69,19 +70,6 @@ impl Folk {
             entities: Vec::new(alloc),
             told: Vec::new(alloc),
             given: 0,
-            dropped: 0,
-        }
-    }
-
-    /// A folk of nobody, of which so many numbers were given.
-    #[cfg(test)]
-    pub(crate) fn after(alloc: Global, given: u32) -> Folk
-        requires { given ≤ EID_MAX }
-    {
-        Folk {
-            entities: Vec::new(alloc),
-            told: Vec::new(alloc),
-            given,
             dropped: 0,
         }
     }

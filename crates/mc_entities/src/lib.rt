@@ -12,8 +12,6 @@ mod folk;
 mod mind;
 mod places;
 mod shifting;
-#[cfg(test)]
-mod tests;
 mod ticking;
 
 pub use entity::{DROPPED_MAX, EID_MAX, Entity, EntityKind};

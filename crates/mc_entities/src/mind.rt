@@ -36,7 +36,8 @@ fn step_of(mind: &mut Box<dyn Mind>) -> Move
 /// Asks the mind at a place for its next move; no move where there is none.
 pub(crate) fn ask(minds: &mut [Box<dyn Mind>], at: usize) -> Move
     ensures answer { result ≡ move_at (map (λ mind. plan mind) minds.old) at }
-    ensures rest { map (λ mind. plan mind) minds.new ≡ asked_at at (map (λ mind. plan mind) minds.old) }
+    ensures rest { map (λ mind. plan mind) minds.new ≡
+        asked_at at (map (λ mind. plan mind) minds.old) }
 {
     if minds.len() <= at {
         return Move {

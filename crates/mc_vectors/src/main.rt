@@ -1,4 +1,4 @@
-//! A table of rows: each names a call of the eleven lowest crates and what it is given, and is
+//! A table of rows: each names a call of the twelve lowest crates and what it is given, and is
 //! repeated with what the call answers. It stands on those crates and on `hex` and `bytes`.
 //!
 //! It has no contract of its own: the table that it is run on says what each row answers.
@@ -16,11 +16,13 @@ mod answer;
 mod columns;
 mod devices;
 mod down;
+mod entities;
 mod fields;
 mod frames;
 mod lands;
 mod lobbies;
 mod marked;
+mod minds;
 mod nbt;
 mod packets;
 mod parts;
@@ -34,6 +36,7 @@ mod words;
 use answer::Answer;
 use lands::Ground;
 use mc_column::Column;
+use mc_entities::Folk;
 use mc_land::Terrain;
 use mc_nbt::NoMemory;
 use mc_view::Tracker;
@@ -47,14 +50,16 @@ use words::Words;
 struct Bench {
     column: Column,
     ground: Ground,
+    folk: Folk,
     tracker: Tracker,
 }
 
-/// A column of air, the flat land, and a client that was told of nobody.
+/// A column of air, the flat land, a folk of nobody, and a client that was told of nobody.
 fn new_bench(alloc: Global) -> Result<Bench, NoMemory> {
     Ok(Bench {
         column: Column::empty(alloc, 0)?,
         ground: Ground::new(alloc, Terrain::Flat),
+        folk: Folk::new(alloc),
         tracker: Tracker::new(alloc),
     })
 }
@@ -80,6 +85,8 @@ enum Call {
     Column,
     Land,
     Terrain,
+    Folk,
+    Minds,
     View,
     Form,
     Tracker,
@@ -106,6 +113,8 @@ fn call_of(name: &str) -> Option<Call> {
         "column" => Some(Call::Column),
         "land" => Some(Call::Land),
         "terrain" => Some(Call::Terrain),
+        "folk" => Some(Call::Folk),
+        "minds" => Some(Call::Minds),
         "view" => Some(Call::View),
         "form" => Some(Call::Form),
         "tracker" => Some(Call::Tracker),
@@ -134,6 +143,8 @@ fn answer_call(bench: &mut Bench, call: Call, words: &mut Words<'_>, answer: &mu
         Call::Column => columns::column(&mut bench.column, words, answer),
         Call::Land => lands::land(&mut bench.ground, words, answer),
         Call::Terrain => lands::terrain(words, answer),
+        Call::Folk => entities::folk(&mut bench.folk, words, answer),
+        Call::Minds => minds::minds(&mut bench.folk, words, answer),
         Call::View => views::view(words, answer),
         Call::Form => views::form(words, answer),
         Call::Tracker => views::tracker(&mut bench.tracker, words, answer),

@@ -58,7 +58,7 @@ fn view_in(words: &mut Words<'_>) -> Option<ViewSet> {
 }
 
 /// The next five words as a spot.
-fn spot_in(words: &mut Words<'_>) -> Spot {
+pub fn spot_in(words: &mut Words<'_>) -> Spot {
     Spot {
         x: words.number(),
         y: words.number(),

@@ -28,8 +28,8 @@ struct Open {
 
 /// A pile as a word.
 #[derive(Clone, Copy)]
-struct Shown {
-    pile: Pile,
+pub struct Shown {
+    pub pile: Pile,
 }
 
 impl Display for Shown {

@@ -1,5 +1,7 @@
 -- What a search among entries of rising numbers finds, and what an edit there makes of their pairs.
-use Rattle.std.proofs.Common.{◌≡◌, ℕ, zero, suc, ◌<◌, ◌≤◌, Bool, true, false, ◌&&◌, T, List, [], ◌∷◌, length, get_or, Result, Ok, Err, IfOk, IfErr, refl, sym, subst, ap, ◌∙◌, arith, inl, inr, ◌⊎◌}
+use Rattle.std.proofs.Common.{◌≡◌, ℕ, zero, suc, ◌<◌, ◌≤◌, Bool, true, false, ◌&&◌, T, List, []}
+use Rattle.std.proofs.Common.{◌∷◌, length, get_or, Result, Ok, Err, IfOk, IfErr, refl, sym, subst}
+use Rattle.std.proofs.Common.{ap, ◌∙◌, arith, inl, inr, ◌⊎◌}
 use Rattle.std.specs.List.Sorted.{IsSearchInRange, IsBinarySearchResult, IsNonDecreasingBy}
 use Rattle.std.specs.declared.cmp.Ordering.{Ordering}
 use Rattle.std.specs.declared.cmp.Ordering.TheVariants.{Less, Equal, Greater}
@@ -39,32 +41,44 @@ same x y e = ap (int_cmp y) e ∙ tied_itself int_cmp_total y
 
 -- ---- the order by places
 
-below_at : (eid : ℤ) (es : List Entry) → T (below_all int_cmp eid (pairs_of es)) → (i : ℕ) (d : Entry) → i < length es → int_cmp eid (get_or es i d).eid ≡ Less
+below_at : (eid : ℤ) (es : List Entry) → T (below_all int_cmp eid (pairs_of es)) →
+    (i : ℕ) (d : Entry) → i < length es → int_cmp eid (get_or es i d).eid ≡ Less
 below_at eid [] h i d lt = absurd (omega (arith, lt))
 below_at eid (e ∷ es) h zero d lt = less _ (first _ _ h)
 below_at eid (e ∷ es) h (suc i) d lt = below_at eid es (second _ _ h) i d (omega (arith, lt))
 
-pub rising_at : (es : List Entry) → IsRising es → (i j : ℕ) (d : Entry) → i < j → j < length es → int_cmp (get_or es i d).eid (get_or es j d).eid ≡ Less
+pub rising_at : (es : List Entry) → IsRising es → (i j : ℕ) (d : Entry) →
+    i < j → j < length es → int_cmp (get_or es i d).eid (get_or es j d).eid ≡ Less
 rising_at [] r i j d lt within = absurd (omega (arith, within))
 rising_at (e ∷ es) r i zero d lt within = absurd (omega (arith, lt))
-rising_at (e ∷ es) r zero (suc j) d lt within = below_at e.eid es (first _ _ r) j d (omega (arith, within))
-rising_at (e ∷ es) r (suc i) (suc j) d lt within = rising_at es (second _ _ r) i j d (omega (arith, lt)) (omega (arith, within))
+rising_at (e ∷ es) r zero (suc j) d lt within =
+    below_at e.eid es (first _ _ r) j d (omega (arith, within))
+rising_at (e ∷ es) r (suc i) (suc j) d lt within =
+    rising_at es (second _ _ r) i j d (omega (arith, lt)) (omega (arith, within))
 
 at_most_two : (r : Ordering) → ordering_index r ≤ 2
 at_most_two Less = omega arith
 at_most_two Equal = omega arith
 at_most_two Greater = omega arith
 
-index_rises : (a b eid : ℤ) → int_cmp a b ≡ Less → ordering_index (int_cmp a eid) ≤ ordering_index (int_cmp b eid)
+index_rises : (a b eid : ℤ) →
+    int_cmp a b ≡ Less → ordering_index (int_cmp a eid) ≤ ordering_index (int_cmp b eid)
 index_rises a b eid lt =
-    elim (int_cmp b eid) as (λ r. int_cmp b eid ≡ r → ordering_index (int_cmp a eid) ≤ ordering_index r) [
-      | Less ↦ λ e. subst (λ r. ordering_index r ≤ 0) (sym (int_cmp_total.trans a b eid lt e)) (omega arith)
-      | Equal ↦ λ e. subst (λ r. ordering_index r ≤ 1) (sym (ap (int_cmp a) (sym (int_ranked b eid Equal (sym e))) ∙ lt)) (omega arith)
+    elim (int_cmp b eid)
+    as (λ r. int_cmp b eid ≡ r → ordering_index (int_cmp a eid) ≤ ordering_index r) [
+      | Less ↦ λ e. subst (λ r. ordering_index r ≤ 0) (sym (int_cmp_total.trans a b eid lt e))
+          (omega arith)
+      | Equal ↦ λ e. subst (λ r. ordering_index r ≤ 1)
+          (sym (ap (int_cmp a) (sym (int_ranked b eid Equal (sym e))) ∙ lt)) (omega arith)
       | Greater ↦ λ e. at_most_two (int_cmp a eid)
     ] refl
 
-index_same : (es : List Entry) (eid : ℤ) (i j : ℕ) (d : Entry) → i ≡ j → ordering_index (int_cmp (get_or es i d).eid eid) ≤ ordering_index (int_cmp (get_or es j d).eid eid)
-index_same es eid i j d e = subst (λ (k : ℕ). ordering_index (int_cmp (get_or es i d).eid eid) ≤ ordering_index (int_cmp (get_or es k d).eid eid)) e (omega arith)
+index_same : (es : List Entry) (eid : ℤ) (i j : ℕ) (d : Entry) → i ≡ j →
+    ordering_index (int_cmp (get_or es i d).eid eid) ≤
+    ordering_index (int_cmp (get_or es j d).eid eid)
+index_same es eid i j d e =
+    subst (λ (k : ℕ). ordering_index (int_cmp (get_or es i d).eid eid)
+    ≤ ordering_index (int_cmp (get_or es k d).eid eid)) e (omega arith)
 
 cases_le : (i j : ℕ) → i ≤ j → (i < j) ⊎ (i ≡ j)
 cases_le zero zero le = inr refl
@@ -75,9 +89,11 @@ cases_le (suc i) (suc j) le = elim (cases_le i j (omega (arith, le))) [
   | inr e ↦ inr (ap suc e)
 ]
 
-searchable : (es : List Entry) (eid : ℤ) → IsRising es → IsNonDecreasingBy (λ e. ordering_index (int_cmp e.eid eid)) es
+searchable : (es : List Entry) (eid : ℤ) →
+    IsRising es → IsNonDecreasingBy (λ e. ordering_index (int_cmp e.eid eid)) es
 searchable es eid r i j d le within = elim (cases_le i j le) [
-  | inl lt ↦ index_rises (get_or es i d).eid (get_or es j d).eid eid (rising_at es r i j d lt within)
+  | inl lt ↦
+      index_rises (get_or es i d).eid (get_or es j d).eid eid (rising_at es r i j d lt within)
   | inr e ↦ index_same es eid i j d e
 ]
 
@@ -85,9 +101,14 @@ pub record IsSearched (es : List Entry) (eid : ℤ) (r : Result ℕ ℕ) : Type 
   pub found : IfOk r (IsAt es eid)
   pub absent : IfErr r (IsGap es eid)
 
-pub searched : (es : List Entry) (eid : ℤ) (r : Result ℕ ℕ) → IsRising es → IsSearchInRange r (length es) → IsBinarySearchResult (λ e. int_cmp e.eid eid) es r → IsSearched es eid r
+pub searched : (es : List Entry) (eid : ℤ) (r : Result ℕ ℕ) →
+    IsRising es → IsSearchInRange r (length es) →
+    IsBinarySearchResult (λ e. int_cmp e.eid eid) es r → IsSearched es eid r
 searched es eid (Ok i) rising within is = record {
-  found = record { within = within; named = λ d. int_ranked (get_or es i d).eid eid Equal (sym (is d)) };
+  found = record {
+    within = within;
+    named = λ d. int_ranked (get_or es i d).eid eid Equal (sym (is d));
+  };
   absent = tt;
 }
 searched es eid (Err i) rising within parted =

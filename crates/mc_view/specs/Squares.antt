@@ -15,7 +15,8 @@ row_of zs x = map (λ z. (x, z)) zs
 -- the rest of a row, and the rows after it
 abbrev pub rest_of : ℤ → ℤ → ℕ → ℕ → ℕ → ℕ → List Place
 rest_of west north side row left at =
-    row_of (run_from north at (side - at)) (west +ℤ pos row) ++ flat_map (row_of (run_from north 0 side)) (run_from west (row + 1) left)
+    row_of (run_from north at (side - at)) (west +ℤ pos row)
+    ++ flat_map (row_of (run_from north 0 side)) (run_from west (row + 1) left)
 
 pub record IsSquare (west north : ℤ) (side row left at : ℕ) : Type 0 where
   pub west_low : negsuc 1899999 ≤ℤ west

@@ -21,7 +21,8 @@ view_of middle d =
 abbrev pub column_of_spot : Spot → Place
 column_of_spot spot = (int_div_euclid spot.x (pos 512), int_div_euclid spot.z (pos 512))
 
--- how far a client is shown columns: what it asked for, held to 2 and the most that the server gives
+-- how far a client is shown columns: what it asked for, held to 2 and the most that the server
+-- gives
 abbrev pub view_size : ℕ → ℤ → ℕ
 view_size cap (pos n) = max 2 (min n cap)
 view_size cap (negsuc n) = 2

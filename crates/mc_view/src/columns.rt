@@ -6,7 +6,8 @@ use crate::ViewSet;
 use crate::square::Square;
 use std::marker::Model;
 
-/// The columns of one view that another lacks, or all of them, in rising order. They are not stored.
+/// The columns of one view that another lacks, or all of them, in rising order. They are not
+/// stored.
 #[derive(Drop)]
 pub struct Columns {
     square: Square,

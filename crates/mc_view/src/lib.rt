@@ -1,9 +1,10 @@
 //! Which columns a client sees, which of one view another lacks, and what it was told of entities.
 //!
-//! Stands on the columns of `mc_land`, the spots of `mc_fields` and the piles of `mc_slots`. Its one
-//! contract: a view set is the columns that are at most so many columns off its middle, what enters
-//! and what leaves a moving view are those of one set that the other lacks, in rising order, and an
-//! entity's change is told by comparing the spot and the pile that a client was told with those of now.
+//! Stands on the columns of `mc_land`, the spots of `mc_fields` and the piles of `mc_slots`. Its
+//! one contract: a view set is the columns that are at most so many columns off its middle, what
+//! enters and what leaves a moving view are those of one set that the other lacks, in rising order,
+//! and an entity's change is told by comparing the spot and the pile that a client was told with
+//! those of now.
 #![tactic(auto)]
 
 mod around;
@@ -11,8 +12,6 @@ mod columns;
 mod forms;
 mod spots;
 mod square;
-#[cfg(test)]
-mod tests;
 mod tracker;
 mod view_set;
 

@@ -82,9 +82,9 @@ impl Tracker {
         Ok(())
     }
 
-    /// How the client is told that a known entity is and looks there now. Keeps that. It compares with
-    /// what was kept and nothing else, so two moves between two calls are told as one. It takes no
-    /// memory.
+    /// How the client is told that a known entity is and looks there now. Keeps that. It compares
+    /// with what was kept and nothing else, so two moves between two calls are told as one. It
+    /// takes no memory.
     pub fn moves(&mut self, eid: i32, spot: Spot) -> Moves
         requires known { map.contains_key self.old eid ≡ true }
         ensures moves { IfSome (map.get self.old eid) (λ told. result ≡ moves_of told.0 spot) }
@@ -97,8 +97,8 @@ impl Tracker {
         moves
     }
 
-    /// Whether a known entity's pile differs from the one that the client was told. Keeps the new one.
-    /// It takes no memory.
+    /// Whether a known entity's pile differs from the one that the client was told. Keeps the new
+    /// one. It takes no memory.
     pub fn pile(&mut self, eid: i32, pile: Pile) -> bool
         requires known { map.contains_key self.old eid ≡ true }
         ensures differs { IfSome (map.get self.old eid) (λ told. IsFalse result ↔ (told.1 ≡ pile)) }

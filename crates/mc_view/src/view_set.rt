@@ -13,7 +13,8 @@ pub struct ViewSet {
     pub cz: i32,
     /// How far it reaches, in columns.
     pub d: u8,
-    ghost in_range: { (negsuc 1874999 ≤ℤ cx) × (cx ≤ℤ pos 1875000) × (negsuc 1874999 ≤ℤ cz) × (cz ≤ℤ pos 1875000) × (d ≤ 8) },
+    ghost in_range: { (negsuc 1874999 ≤ℤ cx) × (cx ≤ℤ pos 1875000) ×
+        (negsuc 1874999 ≤ℤ cz) × (cz ≤ℤ pos 1875000) × (d ≤ 8) },
 }
 
 impl ViewSet {

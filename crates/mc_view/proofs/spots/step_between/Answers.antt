@@ -11,7 +11,11 @@ returns-in_err-dy c =
     let n = c.args.new.now in
     let old : FitsSigned w32 o.y = search rules in
     let new : FitsSigned w32 n.y = search rules in
-    c.from_residual-in_err-dy.ensures ∙ sym (second_gone (n.x -ℤ o.x) (n.y -ℤ o.y) (n.z -ℤ o.z) (sym (c.byte_between-2.ensures ∙ (λ i. byte_between (to_z-of_z w32 n.y new i -ℤ to_z-of_z w32 o.y old i))) ∙ c.in_err-dy.was))
+    c.from_residual-in_err-dy.ensures
+    ∙ sym (second_gone (n.x -ℤ o.x) (n.y -ℤ o.y) (n.z -ℤ o.z)
+    (sym (c.byte_between-2.ensures
+    ∙ (λ i. byte_between (to_z-of_z w32 n.y new i -ℤ to_z-of_z w32 o.y old i)))
+    ∙ c.in_err-dy.was))
 
 pub returns-in_err-dz : goal.returns-in_err-dz
 returns-in_err-dz c =
@@ -19,7 +23,11 @@ returns-in_err-dz c =
     let n = c.args.new.now in
     let old : FitsSigned w32 o.z = search rules in
     let new : FitsSigned w32 n.z = search rules in
-    c.from_residual-in_err-dz.ensures ∙ sym (third_gone (n.x -ℤ o.x) (n.y -ℤ o.y) (n.z -ℤ o.z) (sym (c.byte_between-3.ensures ∙ (λ i. byte_between (to_z-of_z w32 n.z new i -ℤ to_z-of_z w32 o.z old i))) ∙ c.in_err-dz.was))
+    c.from_residual-in_err-dz.ensures
+    ∙ sym (third_gone (n.x -ℤ o.x) (n.y -ℤ o.y) (n.z -ℤ o.z)
+    (sym (c.byte_between-3.ensures
+    ∙ (λ i. byte_between (to_z-of_z w32 n.z new i -ℤ to_z-of_z w32 o.z old i)))
+    ∙ c.in_err-dz.was))
 
 pub returns : goal.returns
 returns c =
@@ -34,6 +42,19 @@ returns c =
     let new-y : FitsSigned w32 n.y = search rules in
     let old-z : FitsSigned w32 o.z = search rules in
     let new-z : FitsSigned w32 n.z = search rules in
-    rw (to_z-of_z w8 c.in_ok-dx.dx fits-x, to_z-of_z w8 c.in_ok-dy.dy fits-y, to_z-of_z w8 c.in_ok-dz.dz fits-z)
-    (sym (bytes_there (n.x -ℤ o.x) (n.y -ℤ o.y) (n.z -ℤ o.z) c.in_ok-dx.dx c.in_ok-dy.dy c.in_ok-dz.dz
-    (sym (c.byte_between.ensures ∙ (λ i. byte_between (to_z-of_z w32 n.x new-x i -ℤ to_z-of_z w32 o.x old-x i))) ∙ c.in_ok-dx.was) (sym (c.byte_between-2.ensures ∙ (λ i. byte_between (to_z-of_z w32 n.y new-y i -ℤ to_z-of_z w32 o.y old-y i))) ∙ c.in_ok-dy.was) (sym (c.byte_between-3.ensures ∙ (λ i. byte_between (to_z-of_z w32 n.z new-z i -ℤ to_z-of_z w32 o.z old-z i))) ∙ c.in_ok-dz.was)))
+    rw (
+      to_z-of_z w8 c.in_ok-dx.dx fits-x,
+      to_z-of_z w8 c.in_ok-dy.dy fits-y,
+      to_z-of_z w8 c.in_ok-dz.dz fits-z,
+    )
+    (sym (bytes_there (n.x -ℤ o.x) (n.y -ℤ o.y) (n.z -ℤ o.z)
+    c.in_ok-dx.dx c.in_ok-dy.dy c.in_ok-dz.dz
+    (sym (c.byte_between.ensures
+    ∙ (λ i. byte_between (to_z-of_z w32 n.x new-x i -ℤ to_z-of_z w32 o.x old-x i)))
+    ∙ c.in_ok-dx.was)
+    (sym (c.byte_between-2.ensures
+    ∙ (λ i. byte_between (to_z-of_z w32 n.y new-y i -ℤ to_z-of_z w32 o.y old-y i)))
+    ∙ c.in_ok-dy.was)
+    (sym (c.byte_between-3.ensures
+    ∙ (λ i. byte_between (to_z-of_z w32 n.z new-z i -ℤ to_z-of_z w32 o.z old-z i)))
+    ∙ c.in_ok-dz.was)))

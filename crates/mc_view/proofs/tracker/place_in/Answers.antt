@@ -9,4 +9,5 @@ pub returns-in-Ok-2 : goal.returns-in-Ok-2
 returns-in-Ok-2 c =
     let fits : FitsSigned w32 c.args.eid = search rules in
     let eid = to_z-of_z w32 c.args.eid fits in
-    absurd (no_gap c.args.entries.now c.args.eid c.in-Ok.at c.requires.rising c.requires.known (subst (λ (k : ℤ). IsGap c.args.entries.now k c.in-Ok.at) eid c.in-Ok.ensures.absent))
+    absurd (no_gap c.args.entries.now c.args.eid c.in-Ok.at c.requires.rising c.requires.known
+    (subst (λ (k : ℤ). IsGap c.args.entries.now k c.in-Ok.at) eid c.in-Ok.ensures.absent))

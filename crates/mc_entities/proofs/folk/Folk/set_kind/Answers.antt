@@ -14,15 +14,23 @@ returns-in_default-clause-state c = absent_state c.args.eid
     (c.place_of.ensures.none c.in_default.is))
 
 pub invariant_of-self : goal.invariant_of-self
-invariant_of-self c = kept_changed c.args.self.now c.self.inside.entities.items _ _ _ _ c.in-Some.at
-    c.args.eid c.index_mut.result.now _ (ap (λ (w : FolkValue). w.state.entities) c.self.view_is)
-    c.self.invariant (subst (λ n. IsPlaced eid_of n c.in-Some.at c.args.self.now.state.entities)
-    (to_z-of_z w32 c.args.eid c.ranges.eid) c.in-Some.ensures.some) c.index_mut.ensures.value refl (λ _. c.requires.range) (kept_variant c.args.self.now c.self.inside.entities.items c.in-Some.at c.args.eid c.index_mut.result.now c.args.kind (ap (λ (w : FolkValue). w.state.entities) c.self.view_is) (subst (λ n. IsPlaced eid_of n c.in-Some.at c.args.self.now.state.entities)
-    (to_z-of_z w32 c.args.eid c.ranges.eid) c.in-Some.ensures.some) c.index_mut.ensures.value c.requires.alike)
+invariant_of-self c =
+    kept_changed c.args.self.now
+    c.self.inside.entities.items _ _ _ _ c.in-Some.at c.args.eid c.index_mut.result.now _
+    (ap (λ (w : FolkValue). w.state.entities) c.self.view_is) c.self.invariant
+    (subst (λ n. IsPlaced eid_of n c.in-Some.at c.args.self.now.state.entities)
+    (to_z-of_z w32 c.args.eid c.ranges.eid) c.in-Some.ensures.some) c.index_mut.ensures.value refl
+    (λ _. c.requires.range)
+    (kept_variant c.args.self.now c.self.inside.entities.items c.in-Some.at c.args.eid
+    c.index_mut.result.now c.args.kind (ap (λ (w : FolkValue). w.state.entities) c.self.view_is)
+    (subst (λ n. IsPlaced eid_of n c.in-Some.at c.args.self.now.state.entities)
+    (to_z-of_z w32 c.args.eid c.ranges.eid) c.in-Some.ensures.some)
+    c.index_mut.ensures.value c.requires.alike)
 
 pub returns-clause-state : goal.returns-clause-state
-returns-clause-state c = changed_state c.args.self.now _ _ c.args.eid
+returns-clause-state c =
+    changed_state c.args.self.now _ _ c.args.eid
     (λ (e : Entity). record e { kind = c.args.kind }) c.in-Some.at c.index_mut.result.now _
-    (ap (λ (w : FolkValue). w.state) c.self.view_is) c.self.invariant.rise (subst (λ n. IsPlaced eid_of n c.in-Some.at c.args.self.now.state.entities)
-    (to_z-of_z w32 c.args.eid c.ranges.eid) c.in-Some.ensures.some)
-    c.index_mut.ensures.value refl
+    (ap (λ (w : FolkValue). w.state) c.self.view_is) c.self.invariant.rise
+    (subst (λ n. IsPlaced eid_of n c.in-Some.at c.args.self.now.state.entities)
+    (to_z-of_z w32 c.args.eid c.ranges.eid) c.in-Some.ensures.some) c.index_mut.ensures.value refl

@@ -8,4 +8,5 @@ pub returns-then-self-2 : goal.returns-then-self-2
 returns-then-self-2 c =
     let s = c.self.inside in
     sym c.self.view_is ∙ in_row s.corner.west s.corner.north s.side s.row s.left s.at (omega arith)
-    ∙ ap (λ (x : Place). x ∷ rest_of s.corner.west s.corner.north s.side s.row s.left (s.at + 1)) (sym c.column_at-column.ensures)
+    ∙ ap (λ (x : Place). x ∷ rest_of s.corner.west s.corner.north s.side s.row s.left (s.at + 1))
+    (sym c.column_at-column.ensures)

@@ -1,4 +1,5 @@
-use Rattle.std.proofs.Common.{rules, ◌≡◌, ◌<◌, ◌≤◌, FitsSigned, w32, length, get_or, Some, sym, ap, ◌∙◌}
+use Rattle.std.proofs.Common.{rules, ◌≡◌, ◌<◌, ◌≤◌, FitsSigned, w32, length, get_or, Some, sym, ap}
+use Rattle.std.proofs.Common.{◌∙◌}
 use Rattle.std.proofs.lemmas.Int.{to_z-of_z}
 use lib.IntN.{ℤ}
 use Rattle.mc_view.specs.declared.tracker.Entry.{Entry}
@@ -19,4 +20,5 @@ returns c =
     let within : c.args.i < length es = search rules in
     let read : entry ≡ get_or es c.args.i entry = search rules in
     rw (← c.self.view_is)
-    (ap (λ (k : ℤ). Some k) (to_z-of_z w32 entry.eid fits ∙ ap (λ (e : Entry). e.eid) read) ∙ sym (told_key es c.args.i entry c.self.invariant within))
+    (ap (λ (k : ℤ). Some k) (to_z-of_z w32 entry.eid fits ∙ ap (λ (e : Entry). e.eid) read)
+    ∙ sym (told_key es c.args.i entry c.self.invariant within))

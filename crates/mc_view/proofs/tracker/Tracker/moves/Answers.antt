@@ -15,7 +15,9 @@ invariant_of-self c =
     let es = c.self.inside.entries.items in
     let at = c.place_in-at.result in
     let was = c.index_mut.result.now in
-    let is = subst (λ (es : List Entry). IsAt es c.args.eid at) c.as_slice.ensures.value (subst (λ (k : ℤ). IsAt c.as_slice.result.now k at) eid c.place_in-at.ensures) in
+    let is =
+    subst (λ (es : List Entry). IsAt es c.args.eid at) c.as_slice.ensures.value
+    (subst (λ (k : ℤ). IsAt c.as_slice.result.now k at) eid c.place_in-at.ensures) in
     let read : was ≡ get_or es at was = search rules in
     rises_over es c.args.eid at was c.self.invariant is read c.args.spot c.index_mut.result.now.pile
 
@@ -26,12 +28,16 @@ returns-clause-keeps c =
     let es = c.self.inside.entries.items in
     let at = c.place_in-at.result in
     let was = c.index_mut.result.now in
-    let is = subst (λ (es : List Entry). IsAt es c.args.eid at) c.as_slice.ensures.value (subst (λ (k : ℤ). IsAt c.as_slice.result.now k at) eid c.place_in-at.ensures) in
+    let is =
+    subst (λ (es : List Entry). IsAt es c.args.eid at) c.as_slice.ensures.value
+    (subst (λ (k : ℤ). IsAt c.as_slice.result.now k at) eid c.place_in-at.ensures) in
     let read : was ≡ get_or es at was = search rules in
-    let new : Entry = record { eid = was.eid; spot = c.args.spot; pile = c.index_mut.result.now.pile } in
+    let new : Entry =
+    record { eid = was.eid; spot = c.args.spot; pile = c.index_mut.result.now.pile } in
     rw (← c.self.view_is) (of_told es c.args.eid at was c.self.invariant is read
     (λ told. told_of (set es at new) ≡ map.insert (told_of es) c.args.eid (c.args.spot, told.1))
-    (told_over es c.args.eid at was c.self.invariant is read c.args.spot c.index_mut.result.now.pile))
+    (told_over es c.args.eid at was c.self.invariant is read c.args.spot
+    c.index_mut.result.now.pile))
 
 pub returns-clause-moves : goal.returns-clause-moves
 returns-clause-moves c =
@@ -40,7 +46,9 @@ returns-clause-moves c =
     let es = c.self.inside.entries.items in
     let at = c.place_in-at.result in
     let was = c.index.result.now in
-    let is = subst (λ (es : List Entry). IsAt es c.args.eid at) c.as_slice.ensures.value (subst (λ (k : ℤ). IsAt c.as_slice.result.now k at) eid c.place_in-at.ensures) in
+    let is =
+    subst (λ (es : List Entry). IsAt es c.args.eid at) c.as_slice.ensures.value
+    (subst (λ (k : ℤ). IsAt c.as_slice.result.now k at) eid c.place_in-at.ensures) in
     let read : was ≡ get_or es at was = search rules in
     rw (← c.self.view_is) (of_told es c.args.eid at was c.self.invariant is read
     (λ told. c.form-moves.result ≡ moves_of told.0 c.args.spot) c.form-moves.ensures)

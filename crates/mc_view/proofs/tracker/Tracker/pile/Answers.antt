@@ -14,7 +14,9 @@ invariant_of-self c =
     let es = c.self.inside.entries.items in
     let at = c.place_in-at.result in
     let was = c.index_mut.result.now in
-    let is = subst (λ (es : List Entry). IsAt es c.args.eid at) c.as_slice.ensures.value (subst (λ (k : ℤ). IsAt c.as_slice.result.now k at) eid c.place_in-at.ensures) in
+    let is =
+    subst (λ (es : List Entry). IsAt es c.args.eid at) c.as_slice.ensures.value
+    (subst (λ (k : ℤ). IsAt c.as_slice.result.now k at) eid c.place_in-at.ensures) in
     let read : was ≡ get_or es at was = search rules in
     rises_over es c.args.eid at was c.self.invariant is read c.index_mut.result.now.spot c.args.pile
 
@@ -25,12 +27,16 @@ returns-clause-keeps c =
     let es = c.self.inside.entries.items in
     let at = c.place_in-at.result in
     let was = c.index_mut.result.now in
-    let is = subst (λ (es : List Entry). IsAt es c.args.eid at) c.as_slice.ensures.value (subst (λ (k : ℤ). IsAt c.as_slice.result.now k at) eid c.place_in-at.ensures) in
+    let is =
+    subst (λ (es : List Entry). IsAt es c.args.eid at) c.as_slice.ensures.value
+    (subst (λ (k : ℤ). IsAt c.as_slice.result.now k at) eid c.place_in-at.ensures) in
     let read : was ≡ get_or es at was = search rules in
-    let new : Entry = record { eid = was.eid; spot = c.index_mut.result.now.spot; pile = c.args.pile } in
+    let new : Entry =
+    record { eid = was.eid; spot = c.index_mut.result.now.spot; pile = c.args.pile } in
     rw (← c.self.view_is) (of_told es c.args.eid at was c.self.invariant is read
     (λ told. told_of (set es at new) ≡ map.insert (told_of es) c.args.eid (told.0, c.args.pile))
-    (told_over es c.args.eid at was c.self.invariant is read c.index_mut.result.now.spot c.args.pile))
+    (told_over es c.args.eid at was c.self.invariant is read
+    c.index_mut.result.now.spot c.args.pile))
 
 pub returns-clause-differs : goal.returns-clause-differs
 returns-clause-differs c =
@@ -39,7 +45,9 @@ returns-clause-differs c =
     let es = c.self.inside.entries.items in
     let at = c.place_in-at.result in
     let was = c.index.result.now in
-    let is = subst (λ (es : List Entry). IsAt es c.args.eid at) c.as_slice.ensures.value (subst (λ (k : ℤ). IsAt c.as_slice.result.now k at) eid c.place_in-at.ensures) in
+    let is =
+    subst (λ (es : List Entry). IsAt es c.args.eid at) c.as_slice.ensures.value
+    (subst (λ (k : ℤ). IsAt c.as_slice.result.now k at) eid c.place_in-at.ensures) in
     let read : was ≡ get_or es at was = search rules in
     let differs : IsFalse c.ne-differs.result ↔ (was.pile ≡ c.args.pile) = search rules in
     rw (← c.self.view_is) (of_told es c.args.eid at was c.self.invariant is read
