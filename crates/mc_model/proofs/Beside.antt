@@ -1,8 +1,9 @@
 -- What stays as it was when one connection's part of the world changes.
 use Rattle.std.proofs.Common.{◌≡◌, ◌≢◌, ℕ, refl, sym, subst, ap, ◌∙◌}
-use Rattle.std.specs.Prelude.{◌==◌, Bool, true, false, cond, Option, Some, None, option_map}
+use Rattle.std.specs.Prelude.{length, ◌==◌, Bool, true, false, cond, Option, Some, None, option_map}
 use Rattle.std.specs.Prelude.{if◌then◌else◌}
 use Rattle.std.proofs.lemmas.Bool.{eqb-true}
+use Rattle.std.proofs.lemmas.List.{length-map}
 use Rattle.mc_model.specs.World.{World, Session, found, put}
 use Rattle.mc_model.specs.Step.{changed}
 use Rattle.mc_model.specs.Orderly.{AreApart, Rise}
@@ -17,6 +18,7 @@ pub record Beside (k : ℕ) (w v : World) : Type 0 where
   pub most : v.most ≡ w.most
   pub cap : v.cap ≡ w.cap
   pub last : v.last ≡ w.last
+  pub size : length v.sessions ≡ length w.sessions
   pub others : (j : ℕ) → j ≢ k → found j v.sessions ≡ found j w.sessions
   pub none : (j : ℕ) → found j w.sessions ≡ None → found j v.sessions ≡ None
   pub apart : AreApart w.sessions → AreApart v.sessions
@@ -30,6 +32,7 @@ beside_same k w eids = record {
   most = refl;
   cap = refl;
   last = refl;
+  size = refl;
   others = λ j ne. refl;
   none = λ j e. e;
   apart = λ a. a;
@@ -44,6 +47,7 @@ beside_onward k w v u b c = record {
   most = c.most ∙ b.most;
   cap = c.cap ∙ b.cap;
   last = c.last ∙ b.last;
+  size = c.size ∙ b.size;
   others = λ j ne. c.others j ne ∙ b.others j ne;
   none = λ j e. c.none j (b.none j e);
   apart = λ a. c.apart (b.apart a);
@@ -75,6 +79,7 @@ beside_changed k w f keeps = record {
   most = refl;
   cap = refl;
   last = refl;
+  size = length-map w.sessions _;
   others = λ j ne. found_map j _ (at_keeps k f keeps) w.sessions
       ∙ found_other j k f ne (found j w.sessions) (found_id j w.sessions);
   none = λ j e. found_map j _ (at_keeps k f keeps) w.sessions

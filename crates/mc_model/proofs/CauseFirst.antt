@@ -12,17 +12,17 @@ use Rattle.mc_model.specs.declared.cause.Cause.TheVariants as causes
 use Rattle.mc_model.specs.Cutting.{cut_of}
 use Rattle.mc_model.specs.World.{World, Session, Player, found, put, is_closed}
 use Rattle.mc_model.specs.Packets.{of_play}
-use Rattle.mc_model.specs.Step.{Event, joined, came, left, ticked, took, forgot, Handing, Turn}
-use Rattle.mc_model.specs.Step.{still, when_open, mark_closed, new_session, joining, join, is_new}
-use Rattle.mc_model.specs.Step.{is_crowded, gone, changed, is_done, due, flush, at_tick, read_to}
-use Rattle.mc_model.specs.Step.{on_cut, on_bytes, step}
+use Rattle.mc_model.specs.Step.{Event, joined, came, left, broke, ticked, took, forgot, Handing}
+use Rattle.mc_model.specs.Step.{Turn, still, when_open, mark_closed, new_session, joining, join}
+use Rattle.mc_model.specs.Step.{is_new, is_crowded, gone, changed, is_done, due, flush, at_tick}
+use Rattle.mc_model.specs.Step.{read_to, on_cut, on_bytes, step}
 use Rattle.mc_model.specs.Run.{cause_in}
-use Rattle.mc_model.specs.Causes.{IsTooMuch, CutCloses, Closes}
+use Rattle.mc_model.specs.Causes.{IsOpen, IsTooMuch, CutCloses, Closes}
 use Rattle.mc_model.proofs.Sessions.{some_none, found_id, found_before, found_filter}
 use Rattle.mc_model.proofs.Beside.{beside_changed, found_changed, found_put}
 use Rattle.mc_model.proofs.Handing.{flush_cases}
 use Rattle.mc_model.proofs.Frames.{bytes_beside, no_bytes}
-use Rattle.mc_model.proofs.RunEvents.{gone_id}
+use Rattle.mc_model.proofs.RunEvents.{gone_id, gone_beside}
 use Rattle.mc_model.proofs.RunTurns.{tick_found, found_joining, away, joins, arrives}
 use Rattle.mc_model.proofs.RunTicks.{tick_much}
 use Rattle.mc_model.proofs.CauseSound.{cause_found, cause_nowhere, Sound}
@@ -191,48 +191,52 @@ came_closes j k bytes w c o none = (closes, closed)
         subst (λ (n : ℕ). cause_in k (on_bytes w n bytes).world ≡ Some c) (sym h.0)
         ((own_closes k w h.1.0 bytes c h.1.1.is_there h.1.1.open_ clean).1 h.1.2)
 
--- ---- leaving
+-- ---- leaving, and broken writes
 
-gone_cause : (s : Session) → is_closed s.stage ≡ false → (gone s).cause ≡ Some causes.Gone
-gone_cause s open_ = ap (λ (b : Bool). (if b then record s { owed = [] } else
-    record (mark_closed s causes.Gone) { owed = [] }).cause) open_
+gone_cause : (cause : Cause) (s : Session) → is_closed s.stage ≡ false →
+    (gone cause s).cause ≡ Some cause
+gone_cause cause s open_ = ap (λ (b : Bool). (if b then record s { owed = [] } else
+    record (mark_closed s cause) { owed = [] }).cause) open_
 
-left_own : (k : ℕ) (w : World) (s : Session) → found k w.sessions ≡ Some s →
-    is_closed s.stage ≡ false → cause_in k (changed w k gone) ≡ Some causes.Gone
-left_own k w s there open_ = cause_found k (changed w k gone) (gone s)
-    (found_changed k w gone s (λ t e. gone_id t) there) ∙ gone_cause s open_
+own_gone : (k : ℕ) (w : World) (cause : Cause) (s : Session) → found k w.sessions ≡ Some s →
+    is_closed s.stage ≡ false → cause_in k (changed w k (gone cause)) ≡ Some cause
+own_gone k w cause s there open_ = cause_found k (changed w k (gone cause)) (gone cause s)
+    (found_changed k w (gone cause) s (λ t e. gone_id cause t) there) ∙ gone_cause cause s open_
 
-left_closes : (j k : ℕ) (w : World) (c : Cause) → Sound w → cause_in k w ≡ None →
-    (cause_in k (step w (left j)).world ≡ Some c) ↔ Closes w (left j) k c
-unfolding step
-left_closes j k w c o none = (closes, closed)
+-- one that is open is closed for the cause, and no other is
+abbrev GoneFor : World → ℕ → Cause → ℕ → Cause → Type 0
+GoneFor w j cause k c = (j ≡ k) × ((s : Session) × IsOpen w k s) × (c ≡ cause)
+
+gone_closes : (j k : ℕ) (w : World) (cause c : Cause) → Sound w → cause_in k w ≡ None →
+    (cause_in k (changed w j (gone cause)) ≡ Some c) ↔ GoneFor w j cause k c
+gone_closes j k w cause c o none = (closes, closed)
   where
-    own : cause_in k (changed w k gone) ≡ Some c → Closes w (left k) k c
-    own is = elim (found k w.sessions) as (λ f. found k w.sessions ≡ f → Closes w (left k) k c) [
-      | None ↦ λ nowhere. not_now (cause_in k (changed w k gone)) c
-          (cause_nowhere k (changed w k gone)
-          ((beside_changed k w gone (λ t e. gone_id t)).none k nowhere)) is
+    own : cause_in k (changed w k (gone cause)) ≡ Some c → GoneFor w k cause k c
+    own is = elim (found k w.sessions) as (λ f. found k w.sessions ≡ f → GoneFor w k cause k c) [
+      | None ↦ λ nowhere. not_now (cause_in k (changed w k (gone cause))) c
+          (cause_nowhere k (changed w k (gone cause)) ((gone_beside k w cause).none k nowhere)) is
       | Some s ↦ λ there.
           let open_ = open_one k w s o there none in (
             refl,
             (s, record { is_there = there; open_ = open_.0 }),
-            (just _ causes.Gone c (left_own k w s there open_.0)).0 is,
+            (just _ cause c (own_gone k w cause s there open_.0)).0 is,
           )
     ] refl
 
-    closes : cause_in k (changed w j gone) ≡ Some c → Closes w (left j) k c
+    closes : cause_in k (changed w j (gone cause)) ≡ Some c → GoneFor w j cause k c
     closes is = elim (cases_eq j k) [
-      | inl same ↦ subst (λ (n : ℕ). cause_in k (changed w n gone) ≡ Some c →
-          Closes w (left n) k c) (sym same) own is
-      | inr ne ↦ not_now (cause_in k (changed w j gone)) c
-          (same_cause k w (changed w j gone)
-          ((beside_changed j w gone (λ t e. gone_id t)).others k (λ same. ne (sym same))) ∙ none) is
+      | inl same ↦ subst (λ (n : ℕ). cause_in k (changed w n (gone cause)) ≡ Some c →
+          GoneFor w n cause k c) (sym same) own is
+      | inr ne ↦ not_now (cause_in k (changed w j (gone cause))) c
+          (same_cause k w (changed w j (gone cause))
+          ((gone_beside j w cause).others k (λ same. ne (sym same))) ∙ none) is
     ]
 
-    closed : Closes w (left j) k c → cause_in k (changed w j gone) ≡ Some c
+    closed : GoneFor w j cause k c → cause_in k (changed w j (gone cause)) ≡ Some c
     closed h =
-        subst (λ (n : ℕ). cause_in k (changed w n gone) ≡ Some c) (sym h.0)
-        (left_own k w h.1.0 h.1.1.is_there h.1.1.open_ ∙ ap (λ (x : Cause). Some x) (sym h.2))
+        subst (λ (n : ℕ). cause_in k (changed w n (gone cause)) ≡ Some c) (sym h.0)
+        (own_gone k w cause h.1.0 h.1.1.is_there h.1.1.open_
+        ∙ ap (λ (x : Cause). Some x) (sym h.2))
 
 -- ---- a tick
 
@@ -314,9 +318,11 @@ forgot_closes j k w c o none = never _ c
 
 pub first_closes : (k : ℕ) (w : World) (c : Cause) (e : Event) → Sound w → cause_in k w ≡ None →
     (cause_in k (step w e).world ≡ Some c) ↔ Closes w e k c
+unfolding step
 first_closes k w c (joined j) o none = joined_closes j k w c o none
 first_closes k w c (came j bytes) o none = came_closes j k bytes w c o none
-first_closes k w c (left j) o none = left_closes j k w c o none
+first_closes k w c (left j) o none = gone_closes j k w causes.Gone c o none
+first_closes k w c (broke j) o none = gone_closes j k w causes.Broke c o none
 first_closes k w c ticked o none = ticked_closes k w c o none
 first_closes k w c (took j n) o none = took_closes j k n w c none
 first_closes k w c (forgot j) o none = forgot_closes j k w c o none

@@ -9,17 +9,17 @@ use Rattle.mc_model.specs.declared.cause.Cause.TheVariants as causes
 use Rattle.mc_model.specs.declared.stage.Stage.TheVariants as stages
 use Rattle.mc_model.specs.World.{World, Session, new_world, found, is_play, is_closed}
 use Rattle.mc_model.specs.Packets.{Sent}
-use Rattle.mc_model.specs.Step.{Event, came, left, Handing, mark_closed, new_session, joining}
-use Rattle.mc_model.specs.Step.{is_new, is_crowded, flush, at_tick, on_bytes, gone, step}
+use Rattle.mc_model.specs.Step.{Event, came, left, broke, Handing, mark_closed, new_session}
+use Rattle.mc_model.specs.Step.{joining, is_new, is_crowded, flush, at_tick, on_bytes, gone}
+use Rattle.mc_model.specs.Step.{changed, step}
 use Rattle.mc_model.specs.Run.{history, to, cause_in, why, first_of}
 use Rattle.mc_model.specs.Orderly.{Orderly}
 use Rattle.mc_model.proofs.Sessions.{some_none, one_some}
-use Rattle.mc_model.proofs.Beside.{beside_changed}
 use Rattle.mc_model.proofs.Handing.{stayed, answered, greeted, entered, shut_for, closed_done}
 use Rattle.mc_model.proofs.Handing.{HasPlayer, no_player, has_done, closed_is, not_both}
 use Rattle.mc_model.proofs.Handing.{flush_cases, has_flushed}
 use Rattle.mc_model.proofs.Frames.{IsKept, bytes_beside}
-use Rattle.mc_model.proofs.RunEvents.{gone_id, orderly_step, old_step}
+use Rattle.mc_model.proofs.RunEvents.{gone_beside, orderly_step, old_step}
 use Rattle.mc_model.proofs.RunTurns.{to_other, tick_hands, away, joins, arrives, went, stays}
 use Rattle.mc_model.proofs.RunTurns.{remains, is_tick, each_step}
 use Rattle.mc_model.proofs.RunTicks.{flush_waits}
@@ -195,7 +195,7 @@ shut_for_good k w s e o there closed = (
 -- ---- the cause of a run
 
 -- a connection that went stays away
-gone_for_good : (k : ℕ) (events : List Event) (w : World) → found k w.sessions ≡ None →
+pub gone_for_good : (k : ℕ) (events : List Event) (w : World) → found k w.sessions ≡ None →
     is_new k w.last ≡ false → found k (history w events).sessions ≡ None
 gone_for_good k [] w none old = none
 gone_for_good k (e ∷ events) w none old = elim (arrives k w e none) [
@@ -204,7 +204,7 @@ gone_for_good k (e ∷ events) w none old = elim (arrives k w e none) [
 ]
 
 -- a connection that is there has no new number
-there_old : (k : ℕ) (w : World) (s : Session) → Orderly w → found k w.sessions ≡ Some s →
+pub there_old : (k : ℕ) (w : World) (s : Session) → Orderly w → found k w.sessions ≡ Some s →
     is_new k w.last ≡ false
 there_old k w s o there = elim (is_new k w.last) as (λ b. is_new k w.last ≡ b → b ≡ false) [
   | true ↦ λ new. absurd (some_none s _ there (o.fresh k new))
@@ -262,22 +262,19 @@ came_alone j k bytes w ne = (
       (on_bytes w j bytes).handed ne,
 )
 
-left_alone : (j k : ℕ) (w : World) → j ≢ k →
-    (found k (step w (left j)).world.sessions ≡ found k w.sessions)
-    × (to k (step w (left j)).out ≡ [])
-unfolding step
-left_alone j k w ne = (
-  (beside_changed j w gone (λ t same. gone_id t)).others k
-      (λ same. ne (sym same)),
-  refl,
-)
+gone_alone : (j k : ℕ) (w : World) (cause : Cause) → j ≢ k →
+    found k (changed w j (gone cause)).sessions ≡ found k w.sessions
+gone_alone j k w cause ne = (gone_beside j w cause).others k (λ same. ne (sym same))
 
 pub sender_alone : (j k : ℕ) (bytes : List ℕ) (w : World) (e : Event) → j ≢ k →
-    (e ≡ came j bytes) ⊎ (e ≡ left j) →
+    (e ≡ came j bytes) ⊎ (e ≡ left j) ⊎ (e ≡ broke j) →
     (found k (step w e).world.sessions ≡ found k w.sessions) × (to k (step w e).out ≡ [])
+unfolding step
 sender_alone j k bytes w e ne is = elim is [
-  | inl same ↦ subst (λ (e : Event). (found k (step w e).world.sessions ≡ found k w.sessions)
-      × (to k (step w e).out ≡ [])) (sym same) (came_alone j k bytes w ne)
-  | inr same ↦ subst (λ (e : Event). (found k (step w e).world.sessions ≡ found k w.sessions)
-      × (to k (step w e).out ≡ [])) (sym same) (left_alone j k w ne)
+  | inl same ↦ subst Alone (sym same) (came_alone j k bytes w ne)
+  | inr (inl same) ↦ subst Alone (sym same) (gone_alone j k w causes.Gone ne, refl)
+  | inr (inr same) ↦ subst Alone (sym same) (gone_alone j k w causes.Broke ne, refl)
 ]
+  where
+    Alone : Event → Type 0
+    Alone e = (found k (step w e).world.sessions ≡ found k w.sessions) × (to k (step w e).out ≡ [])

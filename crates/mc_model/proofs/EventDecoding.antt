@@ -9,12 +9,13 @@ use Rattle.mc_nbt.specs.Reading.{IsBytes}
 use Rattle.mc_land.specs.declared.terrain.Terrain.{Terrain}
 use Rattle.mc_frame.specs.Cut.{Cut}
 use Rattle.mc_frame.proofs.Cuts.{unique}
+use Rattle.mc_model.specs.declared.cause.Cause.TheVariants as causes
 use Rattle.mc_model.specs.declared.stage.Stage.TheVariants as stages
 use Rattle.mc_model.specs.Packets.{Sent, Decoder, bytes_of, decoded_frames}
 use Rattle.mc_model.specs.Decoding.{decoder_of, IsDecoded}
 use Rattle.mc_model.specs.World.{World, Session, AreSettings, new_world, found}
-use Rattle.mc_model.specs.Step.{Event, joined, came as arrived, left, ticked, took, forgot, Turn}
-use Rattle.mc_model.specs.Step.{is_new, is_done, on_bytes, step}
+use Rattle.mc_model.specs.Step.{Event, joined, came as arrived, left, broke, ticked, took, forgot}
+use Rattle.mc_model.specs.Step.{Turn, is_new, is_done, on_bytes, step}
 use Rattle.mc_model.specs.Run.{to, handed, stream, received_at, received, AreBytes}
 use Rattle.mc_model.proofs.Decodes.{decodes_bytes}
 use Rattle.mc_model.proofs.Sessions.{some_none, one_some}
@@ -180,7 +181,9 @@ event_steps k w (joined j) came earlier b sound kept =
 event_steps k w (arrived j bytes) came earlier b sound kept =
     bytes_steps k j w bytes came earlier b sound kept
 event_steps k w (left j) came earlier b sound kept =
-    quiet (gone_steps k j w came earlier sound kept)
+    quiet (gone_steps k j w causes.Gone came earlier sound kept)
+event_steps k w (broke j) came earlier b sound kept =
+    quiet (gone_steps k j w causes.Broke came earlier sound kept)
 event_steps k w ticked came earlier b sound kept = quiet (tick_steps k w came earlier sound kept)
 event_steps k w (took j n) came earlier b sound kept =
     quiet (took_steps k j n w came earlier sound kept)
@@ -193,6 +196,7 @@ first_bytes : (e : Event) (events : List Event) → AreBytes (e ∷ events) →
 first_bytes (joined j) events b = (tt, b)
 first_bytes (arrived j bytes) events b = b
 first_bytes (left j) events b = (tt, b)
+first_bytes (broke j) events b = (tt, b)
 first_bytes ticked events b = (tt, b)
 first_bytes (took j n) events b = (tt, b)
 first_bytes (forgot j) events b = (tt, b)

@@ -46,11 +46,11 @@ significand_below n place small within =
     raised_high n (top_bit 32 n) place (omega (arith, twice)) within
 
 -- a pattern without its sign has 63 bits
-pattern_below : (n : ℕ) → n < 2 ^ 30 → pattern_with 52 1023 n < 2 ^ 63
+pattern_below : (n : ℕ) → n < 2 ^ 32 → pattern_with 52 1023 n < 2 ^ 63
 pattern_below n small = step (n == 0)
   where
-    top : top_bit 32 n ≤ 29
-    top = top_bit_below 32 n 29 small
+    top : top_bit 32 n ≤ 31
+    top = top_bit_below 32 n 31 small
 
     below : n * 2 ^ (52 - top_bit 32 n) < 2 * 2 ^ 52
     below = significand_below n 52 (omega (arith, small)) (omega (arith, top))
@@ -65,8 +65,8 @@ signed_below : (p : ℕ) (t : Bool) → p < 2 ^ 63 → p + cond t (2 ^ 63) 0 < 2
 signed_below p true small = omega (arith, small)
 signed_below p false small = omega (arith, small)
 
--- the pattern of a place has 64 bits
-pub pattern_fits : (n : ℤ) → unsigned_abs n < 2 ^ 30 → pattern_of n < 2 ^ 64
+-- the pattern of a number of 32 bits has 64
+pub pattern_fits : (n : ℤ) → unsigned_abs n < 2 ^ 32 → pattern_of n < 2 ^ 64
 unfolding pattern_of
 pattern_fits n small = signed_below (pattern_with 52 1023 (unsigned_abs n)) (is_below_0 n)
     (pattern_below (unsigned_abs n) small)

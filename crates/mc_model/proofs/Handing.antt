@@ -1,10 +1,11 @@
 -- Handing out and closing: what one thing that happens to a connection makes of it.
-use Rattle.std.proofs.Common.{◌≡◌, ℕ, ◌+◌, List, [], ◌++◌, length, map, inl, refl, sym, ap}
-use Rattle.std.proofs.Common.{◌∙◌}
+use Rattle.std.proofs.Common.{◌≡◌, ℕ, ◌+◌, List, [], ◌++◌, length, map, inl, refl, sym, ap, ◌∙◌}
 use Rattle.std.specs.Prelude.{◌⊎◌, Bool, true, false, nat_le, Option, Some, None, is_some}
 use Rattle.std.specs.Prelude.{option_map, if◌then◌else◌}
 use Rattle.std.proofs.lemmas.List.{append-nil}
 use Rattle.mc_frame.specs.Kept.{outbox_max}
+use Rattle.mc_up.specs.declared.login_down.LoginDown.TheVariants as login_down
+use Rattle.mc_down.specs.declared.down.Down.TheVariants as down
 use Rattle.mc_model.specs.declared.cause.Cause.{Cause}
 use Rattle.mc_model.specs.declared.cause.Cause.TheVariants as causes
 use Rattle.mc_model.specs.declared.cause.Refusal.{Refusal}
@@ -13,8 +14,9 @@ use Rattle.mc_model.specs.declared.stage.Stage.TheVariants as stages
 use Rattle.mc_model.specs.Names.{offline_uuid}
 use Rattle.mc_model.specs.Sight.{Sight}
 use Rattle.mc_model.specs.World.{World, Session, Player, found, put, is_play, is_closed}
-use Rattle.mc_model.specs.Packets.{Sent, of_play, bytes_of, played}
-use Rattle.mc_model.specs.Talk.{farewell, refused, accepted}
+use Rattle.mc_model.specs.Packets.{Sent, of_login, of_play, bytes_of, played}
+use Rattle.mc_model.specs.Texts.{farewell_text}
+use Rattle.mc_model.specs.Talk.{as_chat, farewell, refused, accepted}
 use Rattle.mc_model.specs.Step.{Handing, hand, mark_closed, disconnect, Turn, still, turn, due}
 use Rattle.mc_model.specs.Step.{showing, flush, flush_to}
 use Rattle.mc_model.proofs.Beside.{Beside, beside_same, beside_onward, beside_put, found_put}
@@ -87,14 +89,14 @@ pub record IsLast (stage : Stage) (cause : Cause) (ps : List Sent) : Type 0 wher
       (ps ≡ farewell stages.Login cause)
       ⊎ ((why : Refusal) × (cause ≡ causes.Refused why) × (ps ≡ refused why))
 
--- one whose outbox is full, or that left, is handed nothing
-pub backlog_last : (stage : Stage) → IsLast stage causes.Backlog []
+-- one whose cause has no words, as that its outbox is full or that it left, is handed nothing
+pub wordless_last : (stage : Stage) (cause : Cause) → farewell_text cause ≡ None →
+    IsLast stage cause []
 unfolding farewell
-backlog_last stage = record { in_play = λ playing. refl; in_login = λ at. inl refl }
-
-pub gone_last : (stage : Stage) → IsLast stage causes.Gone []
-unfolding farewell
-gone_last stage = record { in_play = λ playing. refl; in_login = λ at. inl refl }
+wordless_last stage cause none = record {
+  in_play = λ playing. sym (ap (as_chat (λ json. of_play (down.Disconnect json))) none);
+  in_login = λ at. inl (sym (ap (as_chat (λ json. of_login (login_down.Disconnect json))) none));
+}
 
 -- one thing that happened to a connection between two ticks: from what to what, and what was handed
 -- to it
@@ -215,7 +217,7 @@ goes_hand k w eids s t packets e is owed open_ done =
     (done (t.owed ++ bytes_of packets))
     (adds (ap (λ (o : List ℕ). o ++ bytes_of packets) owed)))
     (λ much. goes_put k w eids s (record (mark_closed t causes.Backlog) { owed = [] }) [] e is
-    (shut_for causes.Backlog open_ refl refl refl (backlog_last s.stage))
+    (shut_for causes.Backlog open_ refl refl refl (wordless_last s.stage causes.Backlog refl))
     (empties refl refl refl))
 
 -- closing it

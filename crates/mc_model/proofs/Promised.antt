@@ -1,174 +1,26 @@
 -- What a connection took is the first bytes of what was handed to it, and what of it is missing.
-use Rattle.std.proofs.Common.{◌≡◌, ◌≢◌, ℕ, zero, suc, List, [], ◌∷◌, ◌++◌, take, drop, inl}
-use Rattle.std.proofs.Common.{inr, refl, sym, subst, ap, ◌∙◌, append_assoc, arith}
-use Rattle.std.specs.Prelude.{◌==◌, ◌&&◌, not, nat_le, length, Bool, true, false, cond, Option}
-use Rattle.std.specs.Prelude.{Some, None, is_some, if◌then◌else◌}
-use Rattle.std.specs.List.{filter}
-use Rattle.std.proofs.lemmas.Bool.{cases_eq, leb-true}
+use Rattle.std.proofs.Common.{◌≡◌, ◌≢◌, ℕ, zero, suc, List, [], ◌∷◌, ◌++◌, take, drop, refl, sym}
+use Rattle.std.proofs.Common.{subst, ap, ◌∙◌, append_assoc}
+use Rattle.std.specs.Prelude.{Bool, true, false, Option, Some, None, is_some, if◌then◌else◌}
 use Rattle.std.proofs.lemmas.List.{append-nil, take-append-drop}
-use Rattle.std.proofs.lemmas.List.Concat.{flat_map-append}
 use Rattle.mc_land.specs.declared.terrain.Terrain.{Terrain}
 use Rattle.mc_model.specs.declared.cause.Cause.{Cause}
 use Rattle.mc_model.specs.declared.cause.Cause.TheVariants as causes
 use Rattle.mc_model.specs.World.{World, Session, new_world, found, is_closed}
-use Rattle.mc_model.specs.Packets.{Sent, frame_of, bytes_of}
-use Rattle.mc_model.specs.Step.{Event, joined, came, left, ticked, took, forgot, Handing}
-use Rattle.mc_model.specs.Step.{mark_closed, new_session, joining, is_new, is_crowded, gone}
-use Rattle.mc_model.specs.Step.{is_done, at_tick, flush, on_bytes, step}
+use Rattle.mc_model.specs.Packets.{Sent, bytes_of}
+use Rattle.mc_model.specs.Step.{Event, mark_closed, new_session, joining, is_new, is_crowded, gone}
+use Rattle.mc_model.specs.Step.{step}
 use Rattle.mc_model.specs.Run.{history, handed, to, owed_of, owed_in, taken, taken_at, lost}
 use Rattle.mc_model.specs.Run.{lost_at, cause_in, first_of, why}
 use Rattle.mc_model.specs.Headline.{Promised}
-use Rattle.mc_model.specs.Orderly.{AreApart}
-use Rattle.mc_model.proofs.Sessions.{some_none, one_some, same_number, other_number, found_before}
-use Rattle.mc_model.proofs.Sessions.{found_filter}
-use Rattle.mc_model.proofs.Beside.{beside_changed, found_changed}
-use Rattle.mc_model.proofs.Handing.{Owes, adds, empties, owes_same, closed_done, closed_is}
-use Rattle.mc_model.proofs.Handing.{not_both, flush_cases}
-use Rattle.mc_model.proofs.Frames.{IsKeptOwing, bytes_lead, bytes_beside}
-use Rattle.mc_model.proofs.FitsText.{both_true}
-use Rattle.mc_model.proofs.RunEvents.{gone_id, orderly_step, old_step}
-use Rattle.mc_model.proofs.RunTurns.{to_own, to_other, tick_found, tick_hands, no_out, away, joins}
-use Rattle.mc_model.proofs.RunTurns.{arrives}
+use Rattle.mc_model.proofs.Sessions.{some_none, one_some}
+use Rattle.mc_model.proofs.Handing.{Owes, adds, empties, closed_is, not_both}
+use Rattle.mc_model.proofs.RunEvents.{orderly_step, old_step}
+use Rattle.mc_model.proofs.RunTurns.{no_out, away, joins, arrives}
 use Rattle.mc_model.proofs.CauseSound.{cause_found, cause_nowhere, Sound, sound_step, sound_new}
 use Rattle.mc_model.proofs.CauseSound.{shut_for_good}
-
--- ---- what one event makes of what a connection owes
-
-bytes_more : (ps qs : List Sent) → bytes_of (ps ++ qs) ≡ bytes_of ps ++ bytes_of qs
-bytes_more ps qs = flat_map-append frame_of ps qs
-
--- two things that happen one after another
-owes_on : (s : Session) → IsKeptOwing (Owes s)
-owes_on s r t ps qs done (empties closed none full) before = empties closed none full
-owes_on s r t ps qs done (adds more) (adds before) =
-    adds (more ∙ ap (λ (o : List ℕ). o ++ bytes_of qs) before
-    ∙ append_assoc s.owed (bytes_of ps) (bytes_of qs)
-    ∙ ap (λ (o : List ℕ). s.owed ++ o) (sym (bytes_more ps qs)))
-owes_on s r t ps qs done (adds more) (empties closed none full) =
-    closed_done r t qs (Owes s t (ps ++ qs)) (closed_is r.stage closed) done (λ stage cause nothing.
-    empties (ap is_closed stage ∙ closed) (more ∙ ap (λ (o : List ℕ). o ++ bytes_of qs) none
-    ∙ ap bytes_of nothing) (cause ∙ full))
-
-flush_owes : (w : World) (s : Session) → Owes s (flush w s).session (flush w s).handed
-flush_owes w s = flush_cases w s (λ (h : Handing). Owes s h.session h.handed)
-    (λ none. owes_same s s refl) (λ p there fits. adds refl)
-    (λ p there much. empties refl refl refl)
-
--- it goes owed nothing, it is handed something, it takes some, or it leaves
-data Owing (k : ℕ) (w : World) (e : Event) (s : Session) : Type 0 where
-  goes : s.owed ≡ [] → found k (step w e).world.sessions ≡ None → to k (step w e).out ≡ [] →
-      taken_at k w e ≡ [] → lost_at k w e ≡ [] → Owing k w e s
-  owes : (t : Session) → found k (step w e).world.sessions ≡ Some t →
-      Owes s t (to k (step w e).out) → taken_at k w e ≡ [] → lost_at k w e ≡ [] → Owing k w e s
-  takes : (n : ℕ) → found k (step w e).world.sessions ≡ Some (record s { owed = drop n s.owed }) →
-      to k (step w e).out ≡ [] → taken_at k w e ≡ take n s.owed → lost_at k w e ≡ [] → Owing k w e s
-  leaves : found k (step w e).world.sessions ≡ Some (gone s) → to k (step w e).out ≡ [] →
-      taken_at k w e ≡ [] → lost_at k w e ≡ s.owed → Owing k w e s
-
-joined_owing : (j k : ℕ) (w : World) (s : Session) → found k w.sessions ≡ Some s →
-    Owing k w (joined j) s
-unfolding step
-joined_owing j k w s there = owes s (elim (is_new j w.last) as
-    (λ b. found k (if b then record w {
-      last = Some j;
-      sessions =
-          w.sessions ++ joining w j ∷ [];
-    } else w).sessions ≡ Some s) [
-      | true ↦ found_before k w.sessions (joining w j ∷ []) s there
-      | false ↦ there
-    ]) (owes_same s s refl) refl refl
-
-own_bytes_owing : (k : ℕ) (w : World) (bytes : List ℕ) (s : Session) → found k w.sessions ≡ Some s →
-    Owing k w (came k bytes) s
-unfolding step
-own_bytes_owing k w bytes s there =
-    let l = bytes_lead (Owes s) (owes_on s) k w s [] bytes there (owes_same s s refl) in
-    owes l.session l.there (subst (Owes s l.session)
-    (sym (to_own k (on_bytes w k bytes).handed)) l.holds) refl refl
-
-other_bytes_owing : (j k : ℕ) (w : World) (bytes : List ℕ) (s : Session) → j ≢ k →
-    found k w.sessions ≡ Some s → Owing k w (came j bytes) s
-unfolding step
-other_bytes_owing j k w bytes s ne there =
-    owes s ((bytes_beside j w bytes).others k (λ same. ne (sym same)) ∙ there)
-    (subst (Owes s s) (sym (to_other j k (on_bytes w j bytes).handed ne)) (owes_same s s refl))
-    refl refl
-
-own_left_owing : (k : ℕ) (w : World) (s : Session) → found k w.sessions ≡ Some s →
-    Owing k w (left k) s
-unfolding step
-own_left_owing k w s there = leaves (found_changed k w gone s (λ t is. gone_id t) there) refl refl
-    (ap (λ (b : Bool). cond b (owed_in k w) []) (same_number k) ∙ ap owed_of there)
-
-other_left_owing : (j k : ℕ) (w : World) (s : Session) → j ≢ k → found k w.sessions ≡ Some s →
-    Owing k w (left j) s
-unfolding step
-other_left_owing j k w s ne there =
-    owes s ((beside_changed j w gone (λ t is. gone_id t)).others k (λ same. ne (sym same)) ∙ there)
-    (owes_same s s refl) refl
-    (ap (λ (b : Bool). cond b (owed_in k w) []) (other_number j k ne))
-
-tick_owing : (k : ℕ) (w : World) (s : Session) → AreApart w.sessions → found k w.sessions ≡ Some s →
-    Owing k w ticked s
-tick_owing k w s apart there =
-    owes (flush (at_tick w) s).session (tick_found k w s there)
-    (subst (Owes s (flush (at_tick w) s).session) (sym (tick_hands k w s apart there))
-    (flush_owes (at_tick w) s)) refl refl
-
-own_taking : (k n : ℕ) (w : World) (s : Session) → found k w.sessions ≡ Some s →
-    Owing k w (took k n) s
-unfolding step
-own_taking k n w s there = takes n (found_changed k w
-    (λ (s : Session). record s { owed = drop n s.owed }) s (λ t is. refl) there) refl
-    (ap (λ (b : Bool). cond b (take n (owed_in k w)) []) (same_number k)
-    ∙ ap (λ (o : Option Session). take n (owed_of o)) there) refl
-
-other_taking : (j k n : ℕ) (w : World) (s : Session) → j ≢ k → found k w.sessions ≡ Some s →
-    Owing k w (took j n) s
-unfolding step
-other_taking j k n w s ne there =
-    owes s ((beside_changed j w (λ (s : Session). record s { owed = drop n s.owed })
-    (λ t is. refl)).others k (λ same. ne (sym same)) ∙ there) (owes_same s s refl)
-    (ap (λ (b : Bool). cond b (take n (owed_in k w)) []) (other_number j k ne)) refl
-
--- what is done is owed nothing
-done_owed : (s : Session) (own : Bool) → (own && is_done s) ≡ true → s.owed ≡ []
-done_owed s own e = empty s.owed (both_true (is_closed s.stage) (nat_le (length s.owed) 0)
-    (both_true own (is_done s) e).1).1
-  where
-    empty : (o : List ℕ) → nat_le (length o) 0 ≡ true → o ≡ []
-    empty [] is = refl
-    empty (x ∷ xs) is = let le = leb-true (length (x ∷ xs)) 0 is in absurd (omega (arith, le))
-
-forgot_owing : (j k : ℕ) (w : World) (s : Session) → AreApart w.sessions →
-    found k w.sessions ≡ Some s → Owing k w (forgot j) s
-unfolding step
-forgot_owing j k w s apart there =
-    elim (s.id == j && is_done s) as (λ b. (s.id == j && is_done s) ≡ b →
-    found k (filter (λ (s : Session). not (s.id == j && is_done s)) w.sessions) ≡ cond (not b)
-    (Some s) None → Owing k w (forgot j) s) [
-      | true ↦ λ is none. goes (done_owed s (s.id == j) is) none refl refl refl
-      | false ↦ λ is some. owes s some (owes_same s s refl) refl refl
-    ] refl (found_filter k (λ (s : Session). not (s.id == j && is_done s)) w.sessions s apart there)
-
-owing : (k : ℕ) (w : World) (e : Event) (s : Session) → AreApart w.sessions →
-    found k w.sessions ≡ Some s → Owing k w e s
-owing k w (joined j) s apart there = joined_owing j k w s there
-owing k w (came j bytes) s apart there = elim (cases_eq j k) [
-  | inl same ↦ subst (λ (n : ℕ). Owing k w (came n bytes) s) (sym same)
-      (own_bytes_owing k w bytes s there)
-  | inr ne ↦ other_bytes_owing j k w bytes s ne there
-]
-owing k w (left j) s apart there = elim (cases_eq j k) [
-  | inl same ↦ subst (λ (n : ℕ). Owing k w (left n) s) (sym same) (own_left_owing k w s there)
-  | inr ne ↦ other_left_owing j k w s ne there
-]
-owing k w ticked s apart there = tick_owing k w s apart there
-owing k w (took j n) s apart there = elim (cases_eq j k) [
-  | inl same ↦ subst (λ (m : ℕ). Owing k w (took m n) s) (sym same) (own_taking k n w s there)
-  | inr ne ↦ other_taking j k n w s ne there
-]
-owing k w (forgot j) s apart there = forgot_owing j k w s apart there
+use Rattle.mc_model.proofs.Owing.{bytes_more, Owing, goes, owes, takes, leaves, owing, take_none}
+use Rattle.mc_model.proofs.Owing.{nothing_taken, nothing_lost}
 
 -- ---- along a run
 
@@ -176,15 +28,11 @@ drop_none : (n : ℕ) → drop {A = ℕ} n [] ≡ []
 drop_none zero = refl
 drop_none (suc n) = refl
 
-take_none : (n : ℕ) → take {A = ℕ} n [] ≡ []
-take_none zero = refl
-take_none (suc n) = refl
-
 behind_none : (xs ys : List ℕ) → ys ≡ [] → xs ++ ys ≡ xs
 behind_none xs ys none = ap (λ (o : List ℕ). xs ++ o) none ∙ append-nil xs
 
--- What was handed out is what was taken and what is owed; or the connection left, and was owed what
--- was lost; or it was owed too much.
+-- What was handed out is what was taken and what is owed; or the connection is gone, and was owed
+-- what was lost; or it was owed too much.
 data IsPromised (tk lo : List ℕ) (s : Session) (ps : List Sent) : Type 0 where
   stands : lo ≡ [] → bytes_of ps ≡ tk ++ s.owed → IsPromised tk lo s ps
   loses : is_closed s.stage ≡ true → s.owed ≡ [] → bytes_of ps ≡ tk ++ lo → IsPromised tk lo s ps
@@ -239,32 +87,34 @@ promised_takes tk lo n s ps (spills closed none full more before) =
     ∙ ap (λ (o : List ℕ). o ++ more)
     (sym (behind_none tk (take n s.owed) (ap (take n) none ∙ take_none n))))
 
--- one that leaves is closed and owed nothing
-gone_shut : (s : Session) → (is_closed (gone s).stage ≡ true) × ((gone s).owed ≡ [])
-gone_shut s = elim (is_closed s.stage) as (λ b. is_closed s.stage ≡ b →
+-- one that is gone is closed and owed nothing
+gone_shut : (reason : Cause) (s : Session) →
+    (is_closed (gone reason s).stage ≡ true) × ((gone reason s).owed ≡ [])
+gone_shut reason s = elim (is_closed s.stage) as (λ b. is_closed s.stage ≡ b →
     (is_closed (gone_as b).stage ≡ true) × ((gone_as b).owed ≡ [])) [
       | true ↦ λ closed. (closed, refl)
       | false ↦ λ open_. (refl, refl)
     ] refl
   where
     gone_as : Bool → Session
-    gone_as b = if b then record s { owed = [] } else
-        record (mark_closed s causes.Gone) { owed = [] }
+    gone_as b = if b then record s { owed = [] } else record (mark_closed s reason) { owed = [] }
 
-gone_cause : (s : Session) → is_closed s.stage ≡ true → (gone s).cause ≡ s.cause
-gone_cause s closed = ap (λ (b : Bool). (if b then record s { owed = [] } else
-    record (mark_closed s causes.Gone) { owed = [] }).cause) closed
+gone_cause : (reason : Cause) (s : Session) → is_closed s.stage ≡ true →
+    (gone reason s).cause ≡ s.cause
+gone_cause reason s closed = ap (λ (b : Bool). (if b then record s { owed = [] } else
+    record (mark_closed s reason) { owed = [] }).cause) closed
 
-promised_leaves : (tk lo : List ℕ) (s : Session) (ps : List Sent) → IsPromised tk lo s ps →
-    IsPromised tk (lo ++ s.owed) (gone s) ps
-promised_leaves tk lo s ps (stands kept before) =
-    loses (gone_shut s).0 (gone_shut s).1 (before
+promised_leaves : (tk lo : List ℕ) (reason : Cause) (s : Session) (ps : List Sent) →
+    IsPromised tk lo s ps → IsPromised tk (lo ++ s.owed) (gone reason s) ps
+promised_leaves tk lo reason s ps (stands kept before) =
+    loses (gone_shut reason s).0 (gone_shut reason s).1 (before
     ∙ ap (λ (o : List ℕ). tk ++ (o ++ s.owed)) (sym kept))
-promised_leaves tk lo s ps (loses closed none before) =
-    loses (gone_shut s).0 (gone_shut s).1 (before
+promised_leaves tk lo reason s ps (loses closed none before) =
+    loses (gone_shut reason s).0 (gone_shut reason s).1 (before
     ∙ ap (λ (o : List ℕ). tk ++ o) (sym (behind_none lo s.owed none)))
-promised_leaves tk lo s ps (spills closed none full more before) =
-    spills (gone_shut s).0 (gone_shut s).1 (gone_cause s closed ∙ full) more before
+promised_leaves tk lo reason s ps (spills closed none full more before) =
+    spills (gone_shut reason s).0 (gone_shut reason s).1 (gone_cause reason s closed ∙ full) more
+    before
 
 promised_begun : (tk lo : List ℕ) (s : Session) (ps : List Sent) → IsPromised tk lo s ps →
     (more : List ℕ) × (bytes_of ps ≡ tk ++ more)
@@ -360,28 +210,6 @@ next_cause k w e s t (Some cause) o there here was =
 
 -- ---- an event
 
-nothing_taken : (k : ℕ) (w : World) (e : Event) → found k w.sessions ≡ None → taken_at k w e ≡ []
-nothing_taken k w (joined j) none = refl
-nothing_taken k w (came j bytes) none = refl
-nothing_taken k w (left j) none = refl
-nothing_taken k w ticked none = refl
-nothing_taken k w (took j n) none = elim (j == k) as (λ b. cond b (take n (owed_in k w)) [] ≡ []) [
-  | true ↦ ap (λ (o : Option Session). take n (owed_of o)) none ∙ take_none n
-  | false ↦ refl
-]
-nothing_taken k w (forgot j) none = refl
-
-nothing_lost : (k : ℕ) (w : World) (e : Event) → found k w.sessions ≡ None → lost_at k w e ≡ []
-nothing_lost k w (joined j) none = refl
-nothing_lost k w (came j bytes) none = refl
-nothing_lost k w (left j) none = elim (j == k) as (λ b. cond b (owed_in k w) [] ≡ []) [
-  | true ↦ ap owed_of none
-  | false ↦ refl
-]
-nothing_lost k w ticked none = refl
-nothing_lost k w (took j n) none = refl
-nothing_lost k w (forgot j) none = refl
-
 joining_owed : (w : World) (k : ℕ) → (joining w k).owed ≡ []
 joining_owed w k = elim (is_crowded w) as (λ b. (joined_as b).owed ≡ []) [
   | true ↦ refl
@@ -444,9 +272,10 @@ next_there k w e ps tk lo c s there keeps (takes n here none some kept) =
     (first_of c (cause_in k (step w e).world))) (sym (behind_none lo (lost_at k w e) kept))
     (next_of k (step w e).world (record s { owed = drop n s.owed }) ps (tk
     ++ take n s.owed) lo _ here cause p)))
-next_there k w e ps tk lo c s there keeps (leaves here none nothing went) =
-    let p = promised_leaves tk lo s ps (keeps.each s there).0 in
-    let cause = next_cause k w e s (gone s) c keeps.sound there here (keeps.each s there).1 in
+next_there k w e ps tk lo c s there keeps (leaves reason here none nothing went) =
+    let p = promised_leaves tk lo reason s ps (keeps.each s there).0 in
+    let cause = next_cause k w e s (gone reason s) c keeps.sound there here
+    (keeps.each s there).1 in
     subst (λ (hs : List Sent). Next k (step w e).world hs (tk ++ taken_at k w e) (lo
     ++ lost_at k w e) (first_of c (cause_in k (step w e).world)))
     (sym (ap (λ (hs : List Sent). ps ++ hs) none ∙ append-nil ps))
@@ -454,7 +283,7 @@ next_there k w e ps tk lo c s there keeps (leaves here none nothing went) =
     (first_of c (cause_in k (step w e).world))) (sym (behind_none tk (taken_at k w e) nothing))
     (subst (λ (ls : List ℕ). Next k (step w e).world ps tk (lo ++ ls)
     (first_of c (cause_in k (step w e).world))) (sym went)
-    (next_of k (step w e).world (gone s) ps tk (lo ++ s.owed) _ here cause p)))
+    (next_of k (step w e).world (gone reason s) ps tk (lo ++ s.owed) _ here cause p)))
 
 next : (k : ℕ) (w : World) (e : Event) (ps : List Sent) (tk lo : List ℕ) (c : Option Cause) →
     Keeps k w ps tk lo c →

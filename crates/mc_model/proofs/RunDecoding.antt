@@ -5,7 +5,7 @@ use Rattle.std.specs.Prelude.{◌==◌, Bool, true, false, Option, Some, None, i
 use Rattle.std.specs.Prelude.{if◌then◌else◌}
 use Rattle.std.specs.List.{AllByRecursion}
 use Rattle.std.proofs.lemmas.List.{append-nil}
-use Rattle.mc_model.specs.declared.cause.Cause.TheVariants as causes
+use Rattle.mc_model.specs.declared.cause.Cause.{Cause}
 use Rattle.mc_model.specs.declared.stage.Stage.TheVariants as stages
 use Rattle.mc_nbt.specs.Reading.{IsBytes}
 use Rattle.mc_model.specs.Packets.{Sent}
@@ -138,18 +138,18 @@ changed_steps k j w f came earlier keeps still_waits stays fits hands sound kept
     waits_one s true = still_waits s
     waits_one s false = λ at. (at, refl)
 
--- a client that left
-pub gone_steps : (k j : ℕ) (w : World) (came : List ℕ) (earlier : List Sent) → Sound w →
-    Kept k w came earlier
-    → Steps k (changed w j gone) came (earlier ++ [])
-gone_steps k j w came earlier sound kept =
-    changed_steps k j w gone came earlier (λ s. keeps s (is_closed s.stage))
+-- a client that is gone
+pub gone_steps : (k j : ℕ) (w : World) (cause : Cause) (came : List ℕ) (earlier : List Sent) →
+    Sound w → Kept k w came earlier
+    → Steps k (changed w j (gone cause)) came (earlier ++ [])
+gone_steps k j w cause came earlier sound kept =
+    changed_steps k j w (gone cause) came earlier (λ s. keeps s (is_closed s.stage))
     (λ s. waits s (is_closed s.stage)) (λ s. stays s (is_closed s.stage))
     (λ s f. fits s (is_closed s.stage) f) (λ s. hands s (is_closed s.stage)) sound kept
   where
     after : Session → Bool → Session
     after s b = if b then record s { owed = [] } else
-        record (mark_closed s causes.Gone) { owed = [] }
+        record (mark_closed s cause) { owed = [] }
 
     keeps : (s : Session) (b : Bool) → (after s b).id ≡ s.id
     keeps s true = refl
@@ -161,7 +161,7 @@ gone_steps k j w came earlier sound kept =
 
     fits : (s : Session) (b : Bool) → SessionFits s → SessionFits (after s b)
     fits s true f = still_fits s s.stage s.protocol s.cause [] refl f
-    fits s false f = closed_fits s (Some causes.Gone) [] f
+    fits s false f = closed_fits s (Some cause) [] f
 
     hands : (s : Session) (b : Bool) → Hands (decoder_of came) s.stage (after s b).stage []
     hands s true = hands_same (decoder_of came) s.stage

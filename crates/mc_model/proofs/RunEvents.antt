@@ -1,14 +1,18 @@
--- What every event leaves of the world: numbers of connections stand once, and none is above the
--- last that joined.
-use Rattle.std.proofs.Common.{◌≡◌, ◌≢◌, ℕ, [], ◌∷◌, ◌++◌, refl, sym, subst, ap, ◌∙◌, arith}
+-- What every event leaves of the world: numbers of connections stand once, none is above the last
+-- that joined, and at most the one that joins is more.
+use Rattle.std.proofs.Common.{◌≡◌, ◌≢◌, ◌≤◌, ℕ, ◌+◌, [], ◌∷◌, ◌++◌, length, drop, refl, sym, subst}
+use Rattle.std.proofs.Common.{ap, ◌∙◌, arith}
 use Rattle.std.specs.Prelude.{◌==◌, ◌&&◌, not, nat_lt, Bool, true, false, cond, Option, Some, None}
 use Rattle.std.specs.Prelude.{option_map, if◌then◌else◌}
 use Rattle.std.proofs.lemmas.Bool.Decides.{nat_tests}
+use Rattle.std.proofs.lemmas.List.{length-append, length-map}
+use Rattle.std.proofs.lemmas.List.Sums.{length-filter, count_by-le-length}
+use Rattle.mc_model.specs.declared.cause.Cause.{Cause}
 use Rattle.mc_model.specs.declared.cause.Cause.TheVariants as causes
 use Rattle.mc_model.specs.World.{World, Session, found, is_closed}
-use Rattle.mc_model.specs.Step.{Event, joined, came, left, ticked, took, forgot, Handing}
-use Rattle.mc_model.specs.Step.{mark_closed, joining, join, is_new, gone}
-use Rattle.mc_model.specs.Step.{changed, is_done, flush, at_tick, on_bytes, step}
+use Rattle.mc_model.specs.Step.{Event, joined, came, left, broke, ticked, took, forgot, Handing}
+use Rattle.mc_model.specs.Step.{mark_closed, joining, join, is_new, gone, changed, is_done, flush}
+use Rattle.mc_model.specs.Step.{at_tick, on_bytes, step}
 use Rattle.mc_model.specs.Orderly.{Orderly, Rise, next_number}
 use Rattle.mc_model.proofs.RiseFacts.{joining_id, joined_rise, rise_filter}
 use Rattle.mc_model.proofs.Sessions.{other_number, found_map, found_behind, apart_map, rise_map}
@@ -42,10 +46,10 @@ above_other k j above same = grind (arith, nat_tests)
 
 -- ---- connections that keep their numbers
 
-pub gone_id : (s : Session) → (gone s).id ≡ s.id
-gone_id s = elim (is_closed s.stage) as
+pub gone_id : (cause : Cause) (s : Session) → (gone cause s).id ≡ s.id
+gone_id cause s = elim (is_closed s.stage) as
     (λ b. (if b then record s { owed = [] } else
-    record (mark_closed s causes.Gone) { owed = [] }).id ≡ s.id) [ true ↦ refl | false ↦ refl ]
+    record (mark_closed s cause) { owed = [] }).id ≡ s.id) [ true ↦ refl | false ↦ refl ]
 
 pub flush_id : (w : World) (s : Session) → (flush w s).session.id ≡ s.id
 flush_id w s = flush_cases w s (λ (h : Handing). h.session.id ≡ s.id) (λ none. refl)
@@ -80,13 +84,17 @@ orderly_join w k o = elim (is_new k w.last) as (λ b. is_new k w.last ≡ b →
       | false ↦ λ old. o
     ] refl
 
+-- one that is gone leaves all others as they are
+pub gone_beside : (k : ℕ) (w : World) (cause : Cause) → Beside k w (changed w k (gone cause))
+gone_beside k w cause = beside_changed k w (gone cause) (λ t same. gone_id cause t)
+
 pub orderly_step : (w : World) (e : Event) → Orderly w → Orderly (step w e).world
 unfolding step
 orderly_step w (joined k) o = orderly_join w k o
 orderly_step w (came k bytes) o = orderly_beside k w (on_bytes w k bytes).world
     (bytes_beside k w bytes) o
-orderly_step w (left k) o = orderly_beside k w (changed w k gone)
-    (beside_changed k w gone (λ t same. gone_id t)) o
+orderly_step w (left k) o = orderly_beside k w _ (gone_beside k w causes.Gone) o
+orderly_step w (broke k) o = orderly_beside k w _ (gone_beside k w causes.Broke) o
 orderly_step w ticked o = record {
   rising = rise_map (λ (s : Session). (flush (at_tick w) s).session) (flush_id (at_tick w)) 0
       (next_number w.last) w.sessions o.rising;
@@ -125,6 +133,7 @@ lasts_step w (joined k) = elim (is_new k w.last) as
 lasts_step w (came k bytes) = let b = bytes_beside k w bytes in
     record { terrain = b.terrain; edits = b.edits }
 lasts_step w (left k) = record { terrain = refl; edits = refl }
+lasts_step w (broke k) = record { terrain = refl; edits = refl }
 lasts_step w ticked = record { terrain = refl; edits = refl }
 lasts_step w (took k n) = record { terrain = refl; edits = refl }
 lasts_step w (forgot k) = record { terrain = refl; edits = refl }
@@ -143,6 +152,41 @@ old_step k w (joined j) old = elim (is_new j w.last) as (λ b. is_new j w.last �
 old_step k w (came j bytes) old = ap (λ (last : Option ℕ). is_new k last)
     (bytes_beside j w bytes).last ∙ old
 old_step k w (left j) old = old
+old_step k w (broke j) old = old
 old_step k w ticked old = old
 old_step k w (took j n) old = old
 old_step k w (forgot j) old = old
+
+-- ---- how many connections there are
+
+-- how many more there may be after an event
+abbrev pub joins_of : Event → ℕ
+joins_of (joined k) = 1
+joins_of other = 0
+
+pub sessions_grow : (w : World) (e : Event) →
+    length (step w e).world.sessions ≤ length w.sessions + joins_of e
+unfolding step
+sessions_grow w (joined k) = elim (is_new k w.last) as (λ b. length (if b then record w {
+  last = Some k;
+  sessions =
+      w.sessions ++ joining w k ∷ [];
+} else w).sessions ≤ length w.sessions + 1) [
+  | true ↦ (let long = length-append w.sessions (joining w k ∷ []) in omega (arith, long))
+  | false ↦ omega arith
+]
+sessions_grow w (came k bytes) = let same = (bytes_beside k w bytes).size in omega (arith, same)
+sessions_grow w (left k) = let same = (gone_beside k w causes.Gone).size in omega (arith, same)
+sessions_grow w (broke k) = let same = (gone_beside k w causes.Broke).size in omega (arith, same)
+sessions_grow w ticked =
+    let same = length-map w.sessions (λ (s : Session). (flush (at_tick w) s).session) in
+    omega (arith, same)
+sessions_grow w (took k n) =
+    let same = (beside_changed k w (λ (s : Session). record s { owed = drop n s.owed })
+    (λ t is. refl)).size in
+    omega (arith, same)
+sessions_grow w (forgot k) =
+    let test : Session → Bool = λ s. not (s.id == k && is_done s) in
+    let kept = length-filter test w.sessions in
+    let few = count_by-le-length test w.sessions in
+    omega (arith, kept, few)

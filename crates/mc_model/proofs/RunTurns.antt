@@ -5,21 +5,23 @@ use Rattle.std.specs.Prelude.{option_map, if◌then◌else◌}
 use Rattle.std.specs.List.{filter}
 use Rattle.std.proofs.lemmas.Bool.{cases_eq}
 use Rattle.std.proofs.lemmas.List.{append-nil}
+use Rattle.mc_model.specs.declared.cause.Cause.{Cause}
 use Rattle.mc_model.specs.declared.cause.Cause.TheVariants as causes
+use Rattle.mc_model.specs.Texts.{farewell_text}
 use Rattle.mc_model.specs.World.{World, Session, found, is_closed}
 use Rattle.mc_model.specs.Packets.{Sent}
-use Rattle.mc_model.specs.Step.{Event, joined, came, left, ticked, took, forgot, Outcome, Turn}
-use Rattle.mc_model.specs.Step.{mark_closed, joining, join, is_new, gone, changed, is_done, flush}
-use Rattle.mc_model.specs.Step.{at_tick, on_bytes, step}
+use Rattle.mc_model.specs.Step.{Event, joined, came, left, broke, ticked, took, forgot, Outcome}
+use Rattle.mc_model.specs.Step.{Turn, mark_closed, joining, join, is_new, gone, changed, is_done}
+use Rattle.mc_model.specs.Step.{flush, at_tick, on_bytes, step}
 use Rattle.mc_model.specs.Run.{to}
 use Rattle.mc_model.specs.Orderly.{AreApart}
 use Rattle.mc_model.proofs.Sessions.{some_none, one_some, other_number, same_number, found_map}
 use Rattle.mc_model.proofs.Sessions.{found_before, found_behind, none_filtered, found_filter}
 use Rattle.mc_model.proofs.Sessions.{to_none, to_found}
 use Rattle.mc_model.proofs.Beside.{beside_changed, found_changed}
-use Rattle.mc_model.proofs.Handing.{Done, stayed, shut_for, gone_last}
+use Rattle.mc_model.proofs.Handing.{Done, stayed, shut_for, wordless_last}
 use Rattle.mc_model.proofs.Frames.{IsKept, also_owing, bytes_lead, no_bytes, bytes_beside}
-use Rattle.mc_model.proofs.RunEvents.{gone_id, flush_id}
+use Rattle.mc_model.proofs.RunEvents.{gone_id, gone_beside, flush_id}
 use Rattle.mc_model.proofs.RiseFacts.{joining_id}
 
 -- ---- what is handed to one
@@ -57,6 +59,7 @@ no_out k w (came j bytes) none = elim (cases_eq j k) [
   | inr ne ↦ to_other j k (on_bytes w j bytes).handed ne
 ]
 no_out k w (left j) none = refl
+no_out k w (broke j) none = refl
 no_out k w ticked none = to_none k (λ (s : Session). (flush (at_tick w) s).handed) w.sessions none
 no_out k w (took j n) none = refl
 no_out k w (forgot j) none = refl
@@ -105,7 +108,8 @@ arrives k w (joined j) none = elim (cases_eq j k) [
   | inr ne ↦ away (other_joins k j w ne none)
 ]
 arrives k w (came j bytes) none = away ((bytes_beside j w bytes).none k none)
-arrives k w (left j) none = away ((beside_changed j w gone (λ t same. gone_id t)).none k none)
+arrives k w (left j) none = away ((gone_beside j w causes.Gone).none k none)
+arrives k w (broke j) none = away ((gone_beside j w causes.Broke).none k none)
 arrives k w ticked none = away (found_map k (λ (s : Session). (flush (at_tick w) s).session)
     (flush_id (at_tick w)) w.sessions
     ∙ ap (option_map (λ (s : Session). (flush (at_tick w) s).session)) none)
@@ -130,12 +134,12 @@ remains_alone : (P : Session → List Sent →
 remains_alone P k s t ps qs o kept there hands done p =
     stays t there (subst (λ (hs : List Sent). P t (ps ++ hs)) (sym hands) (kept s t ps qs done p))
 
-gone_done : (s : Session) → Done s (gone s) []
-gone_done s = elim (is_closed s.stage) as (λ b. is_closed s.stage ≡ b →
-    Done s (if b then record s { owed = [] } else
-    record (mark_closed s causes.Gone) { owed = [] }) []) [
+gone_done : (cause : Cause) → farewell_text cause ≡ None → (s : Session) →
+    Done s (gone cause s) []
+gone_done cause wordless s = elim (is_closed s.stage) as (λ b. is_closed s.stage ≡ b →
+    Done s (if b then record s { owed = [] } else record (mark_closed s cause) { owed = [] }) []) [
       | true ↦ λ closed. stayed refl refl refl refl
-      | false ↦ λ open_. shut_for causes.Gone open_ refl refl refl (gone_last s.stage)
+      | false ↦ λ open_. shut_for cause open_ refl refl refl (wordless_last s.stage cause wordless)
     ] refl
 
 -- a change of one connection by which it is done so
@@ -221,7 +225,11 @@ remains P kept k w (joined j) s ps apart ne there p =
 remains P kept k w (came j bytes) s ps apart ne there p =
     remains_bytes P kept j k w bytes s ps there p
 remains P kept k w (left j) s ps apart ne there p =
-    remains_changed P kept j k w gone s ps gone_id gone_done there p
+    remains_changed P kept j k w (gone causes.Gone) s ps (gone_id causes.Gone)
+    (gone_done causes.Gone refl) there p
+remains P kept k w (broke j) s ps apart ne there p =
+    remains_changed P kept j k w (gone causes.Broke) s ps (gone_id causes.Broke)
+    (gone_done causes.Broke refl) there p
 remains P kept k w ticked s ps apart ne there p = absurd (ne refl)
 remains P kept k w (took j n) s ps apart ne there p =
     remains_changed P kept j k w (λ (s : Session). record s { owed = drop n s.owed }) s ps

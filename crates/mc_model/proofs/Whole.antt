@@ -7,7 +7,7 @@ use Rattle.mc_model.specs.declared.stage.Stage.TheVariants as stages
 use Rattle.mc_model.specs.World.{AreSettings, Session, Player, found, new_world, project}
 use Rattle.mc_model.specs.Packets.{Sent, played}
 use Rattle.mc_model.specs.Decoding.{IsDecoded, decoder_of}
-use Rattle.mc_model.specs.Step.{Event, joined, came, left, ticked, took, forgot, at_tick}
+use Rattle.mc_model.specs.Step.{Event, joined, came, left, broke, ticked, took, forgot, at_tick}
 use Rattle.mc_model.specs.Run.{AreBytes, handed, history, received, stream}
 use Rattle.mc_model.specs.Headline.{Between, ClosedForACause, Closing, Headline, LoggingIn}
 use Rattle.mc_model.proofs.RunOrder.{orderly_run}
@@ -27,6 +27,7 @@ first_are_bytes [] later are = tt
 first_are_bytes (joined k ∷ events) later are = first_are_bytes events later are
 first_are_bytes (came k bytes ∷ events) later are = (are.0, first_are_bytes events later are.1)
 first_are_bytes (left k ∷ events) later are = first_are_bytes events later are
+first_are_bytes (broke k ∷ events) later are = first_are_bytes events later are
 first_are_bytes (ticked ∷ events) later are = first_are_bytes events later are
 first_are_bytes (took k n ∷ events) later are = first_are_bytes events later are
 first_are_bytes (forgot k ∷ events) later are = first_are_bytes events later are

@@ -16,8 +16,8 @@ use Rattle.mc_model.specs.Packets.{Sent, of_status, of_play, bytes_of}
 use Rattle.mc_model.specs.Acts.{act}
 use Rattle.mc_model.specs.Talk.{ClientRequest, nothing, greets, replies, ends, enters, acts, wrong}
 use Rattle.mc_model.specs.Talk.{request_of, farewell, refused, accepted}
-use Rattle.mc_model.specs.Step.{Event, joined, came, left, ticked, took, forgot, refusal, read_to}
-use Rattle.mc_model.specs.Step.{on_frames, is_new, is_crowded, at_tick, due}
+use Rattle.mc_model.specs.Step.{Event, joined, came, left, broke, ticked, took, forgot}
+use Rattle.mc_model.specs.Step.{refusal, read_to, on_frames, is_new, is_crowded, at_tick, due}
 
 -- the connection is there, and not closed
 pub record IsOpen (w : World) (k : ℕ) (s : Session) : Type 0 where
@@ -80,8 +80,8 @@ abbrev pub CutCloses : World → Session → ℕ → Cut → Cause → Type 0
 CutCloses w s count cut cause =
     FirstCloses (put w (read_to s cut count)) s.id cut.frames cut.fault cause
 
--- an event closes a connection for a cause: bytes and leaving their own, a tick that of which it is
--- due too much, and a join one that is one too many
+-- an event closes a connection for a cause: bytes, leaving and a broken write their own, a tick that
+-- of which it is due too much, and a join one that is one too many
 abbrev pub Closes : World → Event → ℕ → Cause → Type 0
 Closes w (joined j) k cause =
     (j ≡ k) × (is_new k w.last ≡ true) × (is_crowded w ≡ true) × (cause ≡ causes.Crowded)
@@ -90,6 +90,7 @@ Closes w (came j bytes) k cause =
     × ((s : Session) × IsOpen w k s
     × CutCloses w s (length (s.rest ++ bytes)) (cut_of s.before (s.rest ++ bytes)) cause)
 Closes w (left j) k cause = (j ≡ k) × ((s : Session) × IsOpen w k s) × (cause ≡ causes.Gone)
+Closes w (broke j) k cause = (j ≡ k) × ((s : Session) × IsOpen w k s) × (cause ≡ causes.Broke)
 Closes w ticked k cause =
     ((s : Session) × (p : Player) × IsOpen w k s × (s.player ≡ Some p)
     × IsTooMuch s (map of_play (due (at_tick w) p)))

@@ -13,7 +13,7 @@ use Rattle.mc_model.specs.World.{World, Session, Player, found, is_play, new_wor
 use Rattle.mc_model.specs.Packets.{Sent, of_play, played}
 use Rattle.mc_model.specs.Decoding.{IsDecoded, decoder_of}
 use Rattle.mc_model.specs.Talk.{farewell, refused, accepted}
-use Rattle.mc_model.specs.Step.{Event, came, left, ticked, at_tick, due, step}
+use Rattle.mc_model.specs.Step.{Event, came, left, broke, ticked, at_tick, due, step}
 use Rattle.mc_model.specs.Run.{cause_in, handed, history, lost, owed_in, received, stream, taken}
 use Rattle.mc_model.specs.Run.{to, why}
 use Rattle.mc_model.specs.Causes.{Closes, IsTooMuch}
@@ -89,8 +89,10 @@ pub record Closing (w : World) (e : Event) : Type 0 where
       (to k (step w e).out ≡ []) ×
       ((t : Session) → found k (step w e).world.sessions ≡ Some t →
       (t.stage ≡ stages.Closed) × (t.cause ≡ s.cause))
-  -- what one client sends, and its leaving, hands nothing to any other and changes nothing of it
-  pub only_sender : (j k : ℕ) (bytes : List ℕ) → j ≢ k → (e ≡ came j bytes) ⊎ (e ≡ left j) →
+  -- what one client sends, its leaving, and a broken write to it hand nothing to any other and
+  -- change nothing of it
+  pub only_sender : (j k : ℕ) (bytes : List ℕ) → j ≢ k →
+      (e ≡ came j bytes) ⊎ (e ≡ left j) ⊎ (e ≡ broke j) →
       (found k (step w e).world.sessions ≡ found k w.sessions) × (to k (step w e).out ≡ [])
 
 -- a connection is closed exactly where a cause is kept of it
@@ -106,8 +108,8 @@ HasPlayerInPlay w = (k : ℕ) (s : Session) → found k w.sessions ≡ Some s �
 -- ---- bytes
 
 -- What a connection took is the first bytes of what was handed to it. Unless it was closed as
--- Backlog, what was lost when it left and what it is owed are all others, also once it is closed
--- and forgotten.
+-- Backlog, what was lost when it left or broke and what it is owed are all others, also once it is
+-- closed and forgotten.
 pub record Promised (k : ℕ) (w : World) (events : List Event) : Type 0 where
   pub begun : (more : List ℕ) × (stream k w events ≡ taken k w events ++ more)
   pub whole : why k w events ≢ Some causes.Backlog →
@@ -141,7 +143,7 @@ pub record Headline (most cap : ℕ) (terrain : Terrain) (log : List Event) : Ty
   pub plays : (events later : List Event) → log ≡ events ++ later →
       HasPlayerInPlay (history (new_world most cap terrain) events)
   -- the bytes that a client took are the first ones of those that it was handed, and no others are
-  -- missing but those that it is owed, and those that went as it left or as Backlog
+  -- missing but those that it is owed, and those that went as it left, as it broke or as Backlog
   pub promised : (events later : List Event) (k : ℕ) → log ≡ events ++ later →
       Promised k (new_world most cap terrain) events
   -- each tick hands out just what is due

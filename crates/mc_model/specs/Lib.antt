@@ -17,5 +17,8 @@ pub mod Orderly
 pub mod Run
 pub mod Causes
 pub mod Headline
+pub mod Log
+pub mod Turns
+pub mod Serving
 pub mod Stored
 pub mod Handled

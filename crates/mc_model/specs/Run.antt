@@ -8,7 +8,7 @@ use Rattle.mc_model.specs.declared.cause.Cause.{Cause}
 use Rattle.mc_model.specs.World.{World, Session, found}
 use Rattle.mc_model.specs.Packets.{Sent, bytes_of}
 use Rattle.mc_nbt.specs.Reading.{IsBytes}
-use Rattle.mc_model.specs.Step.{Event, came, left, took, step}
+use Rattle.mc_model.specs.Step.{Event, came, left, broke, took, step}
 
 -- the world after events
 abbrev pub history : World → List Event → World
@@ -44,9 +44,10 @@ abbrev pub taken : ℕ → World → List Event → List ℕ
 taken k w [] = []
 taken k w (e ∷ events) = taken_at k w e ++ taken k (step w e).world events
 
--- what was lost: what it was owed when it left
+-- what was lost: what it was owed when it left, or when a write to it broke
 abbrev pub lost_at : ℕ → World → Event → List ℕ
 lost_at k w (left j) = if j == k then owed_in k w else []
+lost_at k w (broke j) = if j == k then owed_in k w else []
 lost_at k w e = []
 
 abbrev pub lost : ℕ → World → List Event → List ℕ

@@ -209,12 +209,12 @@ join w k =
     then record w { last = Some k; sessions = w.sessions ++ joining w k ∷ [] }
     else w
 
--- an open connection is closed; what is owed goes in any case
-abbrev pub gone : Session → Session
-gone s =
+-- an open connection is closed, since it left or a write to it broke; what is owed goes in any case
+abbrev pub gone : Cause → Session → Session
+gone cause s =
     if is_closed s.stage
     then record s { owed = [] }
-    else record (mark_closed s causes.Gone) { owed = [] }
+    else record (mark_closed s cause) { owed = [] }
 
 abbrev pub changed : World → ℕ → (Session → Session) → World
 changed w k f =
@@ -283,6 +283,8 @@ pub data Event : Type 0 where
   joined : ℕ → Event
   came : ℕ → List ℕ → Event
   left : ℕ → Event
+  -- a write to a connection broke
+  broke : ℕ → Event
   -- a tick came
   ticked : Event
   -- a connection took so many bytes of what it was owed; it was closed and owed nothing, and goes
@@ -315,7 +317,8 @@ is_done s = is_closed s.stage && nat_le (length s.owed) 0
 unfoldable pub step : World → Event → Outcome
 step w (joined k) = silent (join w k)
 step w (came k bytes) = alone k (on_bytes w k bytes)
-step w (left k) = silent (changed w k gone)
+step w (left k) = silent (changed w k (gone causes.Gone))
+step w (broke k) = silent (changed w k (gone causes.Broke))
 step w ticked = tick w
 step w (took k n) = silent (changed w k (λ (s : Session). record s { owed = drop n s.owed }))
 step w (forgot k) = silent (record w {

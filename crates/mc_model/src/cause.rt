@@ -25,6 +25,8 @@ pub enum Cause {
     BadNumber,
     /// It left.
     Gone,
+    /// A write to it broke.
+    Broke,
     /// It would have been owed more bytes than an outbox holds.
     Backlog,
     /// It may not play.

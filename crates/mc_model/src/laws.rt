@@ -7,6 +7,7 @@ ghost use Rattle.mc_frame.specs.Cut.{IsCutAt};
 ghost use Rattle.mc_nbt.specs.Reading.{IsBytes};
 ghost use Rattle.mc_land.specs.declared.terrain.Terrain.{Terrain};
 ghost use Rattle.mc_land.specs.Places.{Place};
+ghost use Rattle.mc_wire.specs.declared.log.LogEntry.{LogEntry};
 ghost use Rattle.mc_model.specs.declared.stage.Stage.TheVariants as stages;
 ghost use Rattle.mc_model.specs.Cutting.{cut_of};
 ghost use Rattle.mc_model.specs.Numbers.{fixed_of, turn_of, pattern_of, degrees_of};
@@ -21,6 +22,8 @@ ghost use Rattle.mc_model.specs.Step.{Event, ticked, at_tick};
 ghost use Rattle.mc_model.specs.Run.{AreBytes, handed, history, received, stream, why};
 ghost use Rattle.mc_model.specs.Headline.{AtTick, Between, ClosedForACause, Closing, Headline};
 ghost use Rattle.mc_model.specs.Headline.{HasPlayerInPlay, LoggingIn, Promised};
+ghost use Rattle.mc_model.specs.Turns.{AreTurns};
+ghost use Rattle.mc_model.specs.Serving.{Serves};
 
 /// The cut that is worked out frame by frame is the cut of the stream.
 pub fn cuts_are_worked_out()
@@ -97,7 +100,8 @@ pub fn players_are_in_play()
 
 /// Why a connection is closed, and that it stays so. It is closed by the first thing that closes
 /// it, for the cause of that, which is the one that is kept; from then on nothing is handed to it.
-/// What one client sends, and its leaving, closes no other, and hands nothing to any other.
+/// What one client sends, its leaving, and a broken write to it close no other, and hand nothing to
+/// any other.
 pub fn closed_for_the_first_cause()
     ensures closing { (most cap : ℕ) (terrain : Terrain) (events : List Event) (e : Event) →
         Closing (history (new_world most cap terrain) events) e }
@@ -109,8 +113,8 @@ pub fn closed_for_the_first_cause()
 {}
 
 /// What a connection took is the first bytes of what was handed to it, also once it is closed and
-/// forgotten. No others are missing but those that it is owed, those that it was owed when it left,
-/// and those of a connection that was closed since it was owed too many.
+/// forgotten. No others are missing but those that it is owed, those that it was owed when it left
+/// or a write to it broke, and those of a connection that was closed since it was owed too many.
 pub fn bytes_are_promised()
     ensures { (most cap : ℕ) (terrain : Terrain) (events : List Event) (k : ℕ) →
         Promised k (new_world most cap terrain) events }
@@ -128,6 +132,14 @@ pub fn bytes_are_decoded()
         (handed k (new_world most cap terrain) events) }
     ensures one_way { (decoder : Option Decoder) (bytes : List ℕ) (packets others : List Sent) →
         IsDecoded decoder bytes packets → IsDecoded decoder bytes others → packets ≡ others }
+{}
+
+/// Turns in which connections are served over a lobby do what they are for: what was put to each is
+/// what was handed to it, in order, as far as it took it, and just those are closed that are closed
+/// in the world and owed nothing, each once.
+pub fn turns_serve()
+    ensures { (most cap : ℕ) (terrain : Terrain) (turns : List (List LogEntry)) →
+        AreTurns (new_world most cap terrain) turns → Serves most cap terrain turns }
 {}
 
 /// All of it in one promise, for every list of events.
