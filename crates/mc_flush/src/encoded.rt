@@ -8,7 +8,6 @@ ghost use Rattle.mc_flush.specs.Seeing.{IsNamed, IsReady};
 ghost use Rattle.mc_flush.specs.Encoding.{AreFrames, load_cost, nothing_encoded, with_load};
 ghost use Rattle.mc_flush.specs.Encoding.{with_players};
 
-#[cfg(test)]
 mod fields;
 
 use crate::PlayerList;

@@ -2,8 +2,7 @@ ghost use Rattle.std.specs.Prelude.{◌≡◌, Some};
 ghost use Rattle.std.specs.Option.{option_copied};
 ghost use Rattle.mc_flush.specs.Seeing.{loaded, nothing_shown};
 
-#[cfg(test)]
-pub(crate) mod fields;
+mod fields;
 
 use mc_view::{Columns, ViewSet};
 use std::marker::Model;

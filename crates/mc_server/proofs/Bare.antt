@@ -12,6 +12,7 @@ use Rattle.mc_frame.specs.declared.fault.FrameFault.{FrameFault}
 use Rattle.mc_frame.specs.Kept.{outbox_max}
 use Rattle.mc_up.specs.declared.play_up.PlayUp.{PlayUp}
 use Rattle.mc_up.specs.declared.play_up.PlayUp.TheVariants.{Position, Look, PositionLook, Settings}
+use Rattle.mc_model.specs.declared.cause.Cause.{Cause}
 use Rattle.mc_model.specs.declared.cause.Cause.TheVariants as causes
 use Rattle.mc_model.specs.declared.cause.Refusal.{Refusal}
 use Rattle.mc_model.specs.declared.cause.Refusal.TheVariants as refusals
@@ -25,8 +26,8 @@ use Rattle.mc_model.specs.Talk.{ClientRequest, nothing, greets, replies, ends, e
 use Rattle.mc_model.specs.Talk.{request_of, farewell, refused, accepted}
 use Rattle.mc_model.specs.Step.{Handing, hand, mark_closed, disconnect, Turn, still, turn}
 use Rattle.mc_model.specs.Step.{when_open, is_47, refusal, entered, answer_login, acted, act_by}
-use Rattle.mc_model.specs.Step.{perform, on_frame, on_frames, on_fault, is_new, is_kept, is_crowded}
-use Rattle.mc_model.specs.Step.{new_session, joining, join, gone, changed, is_done}
+use Rattle.mc_model.specs.Step.{perform, on_frame, on_frames, on_fault, is_kept, is_crowded}
+use Rattle.mc_model.specs.Step.{new_session, joining, gone, changed}
 use Rattle.std.specs.Option.{option_and_then}
 use Rattle.mc_server.specs.Bare.{bare, bare_player, bare_world, after_frames}
 
@@ -41,7 +42,7 @@ found_bare k (s ∷ ss) = elim (s.id == k)
       | false ↦ found_bare k ss
     ]
 
-filter_bare : (p : Session → Bool) → ((s : Session) → p (bare s) ≡ p s) → (ss : List Session) →
+pub filter_bare : (p : Session → Bool) → ((s : Session) → p (bare s) ≡ p s) → (ss : List Session) →
     filter p (map bare ss) ≡ map bare (filter p ss)
 filter_bare p same [] = refl
 filter_bare p same (s ∷ ss) =
@@ -297,8 +298,8 @@ joining_bare w k =
     ∙ ap (λ (b : Bool). if b then mark_closed (new_session k) causes.Crowded else new_session k)
     (sym (crowded_bare w))
 
-pub gone_bare : (s : Session) → bare (gone s) ≡ gone (bare s)
-gone_bare s = elim (is_closed s.stage) as (λ b. bare
-    (if b then record s { owed = [] } else record (mark_closed s causes.Gone) { owed = [] }) ≡
-    (if b then record (bare s) { owed = [] } else record (mark_closed (bare s) causes.Gone)
+pub gone_bare : (cause : Cause) (s : Session) → bare (gone cause s) ≡ gone cause (bare s)
+gone_bare cause s = elim (is_closed s.stage) as (λ b. bare
+    (if b then record s { owed = [] } else record (mark_closed s cause) { owed = [] }) ≡
+    (if b then record (bare s) { owed = [] } else record (mark_closed (bare s) cause)
     { owed = [] })) [ true ↦ refl | false ↦ refl ]

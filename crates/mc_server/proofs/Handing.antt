@@ -97,22 +97,24 @@ with_owed v c owed same keeps =
 
 -- ---- leaving
 
-pub left_closed : (v c : ConnectionValue) → v ≡ c → KeepsMark c → is_closed c.session.stage ≡ true →
-    record v { session = record v.session { owed = [] } } ≡ with_session c (gone c.session)
-left_closed v c same keeps over =
+pub left_closed : (cause : Cause) (v c : ConnectionValue) → v ≡ c → KeepsMark c →
+    is_closed c.session.stage ≡ true →
+    record v { session = record v.session { owed = [] } } ≡ with_session c (gone cause c.session)
+left_closed cause v c same keeps over =
     ap (λ (d : ConnectionValue). record d { session = record d.session { owed = [] } }) same
     ∙ ap (λ (m : MarkValue). record c { session = record c.session { owed = [] }; mark = m })
     (sym keeps)
     ∙ ap (λ (b : Bool). with_session c (if b then record c.session { owed = [] } else record
-    (mark_closed c.session causes.Gone) { owed = [] })) (sym over)
+    (mark_closed c.session cause) { owed = [] })) (sym over)
 
-pub left_open : (c t : ConnectionValue) → t ≡ with_session c (mark_closed c.session causes.Gone) →
+pub left_open : (cause : Cause) (c t : ConnectionValue) →
+    t ≡ with_session c (mark_closed c.session cause) →
     is_closed c.session.stage ≡ false → record t { session = record t.session { owed = [] } } ≡
-    with_session c (gone c.session)
-left_open c t made open_ =
+    with_session c (gone cause c.session)
+left_open cause c t made open_ =
     ap (λ (d : ConnectionValue). record d { session = record d.session { owed = [] } }) made
     ∙ ap (λ (b : Bool). with_session c (if b then record c.session { owed = [] } else record
-    (mark_closed c.session causes.Gone) { owed = [] })) (sym open_)
+    (mark_closed c.session cause) { owed = [] })) (sym open_)
 
 -- ---- closing
 

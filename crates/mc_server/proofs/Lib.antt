@@ -21,3 +21,10 @@ pub mod SceneFacts
 pub mod Walks
 pub mod Listed
 pub mod Ticked
+pub mod LogFacts
+pub mod Writing
+pub mod Closing
+pub mod Turned
+pub mod Few
+pub mod Driven
+pub mod NewServers

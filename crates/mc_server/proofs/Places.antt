@@ -10,13 +10,14 @@ use Rattle.std.specs.Option.{IfSome}
 use Rattle.std.specs.Result.{MatchResult, result_ok}
 use Rattle.std.proofs.Math.Seq.{map-set_same}
 use Rattle.std.proofs.Common.{take}
-use Rattle.std.proofs.lemmas.List.{get_or-map, length-map, map-set, take_more}
+use Rattle.std.proofs.lemmas.List.{get_or-map, get_or-set_same, length-map, length-set, map-set}
+use Rattle.std.proofs.lemmas.List.{take_more}
 use Rattle.std.proofs.lemmas.List.Sorted.{searched}
 use Rattle.std.proofs.lemmas.Bool.{eq-eqb, ne_eqb, cases_order}
 use Rattle.mc_model.specs.World.{Session, Player, found}
 use Rattle.mc_model.specs.Step.{is_done}
 use Rattle.mc_model.specs.Orderly.{Rise, IsPlaced}
-use Rattle.mc_model.proofs.RiseFacts.{rise_at}
+use Rattle.mc_model.proofs.RiseFacts.{rise_at, rise_set}
 use Rattle.mc_server.specs.Served.{ConnectionValue, IsAt, one_if, sessions_of, playing_of, plays_as}
 
 -- ---- by number
@@ -180,6 +181,26 @@ numbers_set [] i new d lt e = absurd (omega (arith, lt))
 numbers_set (s ∷ ss) zero new d lt e = ap (λ (n : ℕ). n ∷ numbers ss) e
 numbers_set (s ∷ ss) (suc i) new d lt e = ap (λ (ns : List ℕ). s.id ∷ ns)
     (numbers_set ss i new d (omega (arith, lt)) e)
+
+-- the one that changed is found under its number
+pub found_set : (high : ℕ) (cs : List ConnectionValue) (k i : ℕ) (c t : ConnectionValue) →
+    Rise 0 (sessions_of cs) high → IsAt k i cs → c ≡ get_or cs i c → t.session.id ≡ c.session.id →
+    found k (sessions_of (set cs i t)) ≡ Some t.session
+found_set high cs k i c t rise at is same =
+    let ss : List Session = sessions_of cs in
+    let within : i < length ss = (let len = sessions_length cs in let lt = at.within in
+    omega (arith, lt, len)) in
+    let there : get_or (set ss i t.session) i t.session ≡ t.session =
+    get_or-set_same ss i t.session t.session within in
+    let named : c.session.id ≡ k = ap (λ (d : ConnectionValue). d.session.id) is ∙ at.named c in
+    let own : t.session.id ≡ (get_or ss i c.session).id = same ∙
+    sym (ap (λ (s : Session). s.id) (session_at cs i c c.session at.within is)) in
+    ap (found k) (sessions_set cs i t)
+    ∙ found_at k 0 high (set ss i t.session) i t.session
+    (rise_set 0 high ss i t.session c.session within own rise)
+    (let len = length-set ss i t.session in omega (arith, within, len))
+    (ap (λ (s : Session). s.id) there ∙ same ∙ named)
+    ∙ ap Some there
 
 -- none more in play
 fewer_one : (a b : Option Player) (rest : List Player) → (is_some a ≡ true → is_some b ≡ true) →

@@ -1,32 +1,35 @@
 -- A server that stands for a world stands for what each event but bytes and a tick makes of it.
-use Rattle.std.proofs.Common.{◌≡◌, ℕ, ◌<◌, Bool, true, false, cond, List, [], ◌∷◌, ◌++◌, map}
-use Rattle.std.proofs.Common.{length, get_or, set, refl, sym, subst, ap, ◌∙◌, arith}
-use Rattle.std.specs.Prelude.{◌==◌, ◌&&◌, ◌+◌, not, drop, is_some, unwrap_or, Option, Some, None}
+use Rattle.std.proofs.Common.{◌≡◌, ℕ, ◌<◌, ◌≤◌, Bool, true, false, cond, List, [], ◌∷◌, ◌++◌}
+use Rattle.std.proofs.Common.{map, length, take, get_or, set, refl, sym, subst, ap, ◌∙◌, arith}
+use Rattle.std.specs.Prelude.{◌+◌, drop, is_some, unwrap_or, Option, Some, None}
 use Rattle.std.specs.Prelude.{option_map, if◌then◌else◌}
 use Rattle.std.specs.List.{filter, remove}
 use Rattle.std.specs.Option.{option_and_then}
-use Rattle.std.proofs.lemmas.List.{get_or_default}
+use Rattle.std.proofs.lemmas.List.{get_or_default, length-drop, length-map, length-take}
+use Rattle.std.proofs.lemmas.List.Sums.{length-filter}
 use Rattle.mc_frame.proofs.Stops.{nothing_part}
+use Rattle.mc_model.specs.declared.cause.Cause.{Cause}
 use Rattle.mc_model.specs.declared.cause.Cause.TheVariants as causes
 use Rattle.mc_model.specs.Sight.{nothing_seen}
 use Rattle.mc_model.specs.World.{World, Session, found, is_closed}
-use Rattle.mc_model.specs.Run.{cause_in}
+use Rattle.mc_model.specs.Run.{cause_in, owed_of}
 use Rattle.mc_model.specs.Orderly.{Rise, IsPlaced}
-use Rattle.mc_model.specs.Step.{joined, left, took, forgot, step, gone, mark_closed, changed}
-use Rattle.mc_model.specs.Step.{is_new, is_crowded, new_session, joining, join, is_done}
+use Rattle.mc_model.specs.Step.{joined, left, broke, took, forgot, step, gone, mark_closed}
+use Rattle.mc_model.specs.Step.{changed, is_new, is_crowded, new_session, joining, join, is_done}
 use Rattle.mc_model.specs.Orderly.{Orderly}
 use Rattle.mc_model.proofs.RiseFacts.{placed_at, none_changed}
 use Rattle.mc_model.proofs.Handing.{HasPlayer}
-use Rattle.mc_model.proofs.RunEvents.{orderly_step}
+use Rattle.mc_model.proofs.RunEvents.{gone_beside, orderly_beside, orderly_step}
 use Rattle.mc_flush.specs.Seeing.{Parts, StandsFor, is_shown}
-use Rattle.mc_server.specs.Asking.{is_over, owed_of}
+use Rattle.mc_server.specs.Asking.{is_ours, is_over, ours_there}
 use Rattle.mc_server.specs.Bare.{bare, bare_world}
 use Rattle.mc_server.specs.Served.{ConnectionValue, ServerValue, IsAt, kept_world, new_connection}
 use Rattle.mc_server.specs.Served.{sessions_of, shown_parts, with_session}
 use Rattle.mc_server.specs.SideBySide.{SideBySide}
-use Rattle.mc_server.specs.Stands.{IsConnection, IsOpen, Stands, shown_to}
-use Rattle.mc_server.proofs.Bare.{found_bare, ids_bare, gone_bare, joining_bare}
-use Rattle.mc_server.proofs.Places.{placed_by, forgotten, forgotten_none, forgotten_at}
+use Rattle.mc_server.specs.Stands.{IsConnection, IsOpen, Stands, owes, shown_to}
+use Rattle.mc_server.proofs.Bare.{filter_bare, found_bare, ids_bare, gone_bare, joining_bare}
+use Rattle.mc_server.proofs.Places.{placed_by, found_set, forgotten, forgotten_none, forgotten_at}
+use Rattle.mc_server.proofs.Places.{sessions_count}
 use Rattle.mc_server.proofs.Sides.{side_length, side_at, side_set, side_remove, side_join}
 
 -- ---- the world that it stands for
@@ -164,6 +167,40 @@ pub asked_ids : (v : ServerValue) (w : World) → Stands v w → map (λ (s : Se
 asked_ids v w st = ap (map (λ (s : Session). s.id))
     (sessions_bare (shown_parts v) v.connections w.sessions st.connections) ∙ ids_bare w.sessions
 
+pub asked_ours : (v : ServerValue) (w : World) → Stands v w →
+    length (filter (λ (c : ConnectionValue). is_ours c.session.cause) v.connections) ≡ ours_there w
+asked_ours v w st =
+    let p : Session → Bool = λ s. is_ours s.cause in
+    sym (sessions_count p v.connections)
+    ∙ ap (λ (ss : List Session). length (filter p ss))
+    (sessions_bare (shown_parts v) v.connections w.sessions st.connections)
+    ∙ ap length (filter_bare p (λ s. refl) w.sessions) ∙ length-map (filter p w.sessions) bare
+    ∙ length-filter p w.sessions
+
+-- the first bytes that are owed are no more than all
+pub first_within : (first owed : List ℕ) → take (length first) owed ≡ first →
+    length first ≤ length owed
+first_within first owed is =
+    let same : length (take (length first) owed) ≡ length first = ap length is in
+    omega (arith, same, length-take (length first) owed)
+
+-- taking some of what is owed leaves less
+pub took_falls : (v : ServerValue) (high k i n : ℕ) (c t : ConnectionValue) →
+    Rise 0 (sessions_of v.connections) high → IsAt k i v.connections → c ≡
+    get_or v.connections i c →
+    t ≡ record c { session = record c.session { owed = drop n c.session.owed } } → 0 < n →
+    n ≤ owes k v → owes k (record v { connections = set v.connections i t }) < owes k v
+took_falls v high k i n c t rise at is made some few =
+    let old : owes k v ≡ length c.session.owed =
+    ap (λ (o : Option Session). length (owed_of o)) (at.is c) ∙
+    ap (λ (d : ConnectionValue). length d.session.owed) (sym is) in
+    let new : owes k (record v { connections = set v.connections i t }) ≡
+    length (drop n c.session.owed) =
+    ap (λ (o : Option Session). length (owed_of o)) (found_set high v.connections k i c t rise at is
+    (ap (λ (d : ConnectionValue). d.session.id) made)) ∙
+    ap (λ (d : ConnectionValue). length d.session.owed) made in
+    omega (arith, old, new, some, few, length-drop n c.session.owed)
+
 -- ---- one connection changed
 
 changed_stands : (v : ServerValue) (w : World) (high k i : ℕ) (c t : ConnectionValue)
@@ -191,35 +228,41 @@ absent_stands v w k f none st = subst (Stands v) (none_changed w k f (none_there
 not_open : (s : Session) → is_closed s.stage ≡ true → is_closed s.stage ≡ false → ⊥
 not_open s mark_closed open_ = let clash : true ≡ false = sym mark_closed ∙ open_ in cc
 
-gone_closed : (s : Session) → is_closed (gone s).stage ≡ true
-gone_closed s = elim (is_closed s.stage)
+gone_closed : (cause : Cause) (s : Session) → is_closed (gone cause s).stage ≡ true
+gone_closed cause s = elim (is_closed s.stage)
     as (λ b. is_closed s.stage ≡ b → is_closed
-    (if b then record s { owed = [] } else record (mark_closed s causes.Gone) { owed = [] }).stage ≡
+    (if b then record s { owed = [] } else record (mark_closed s cause) { owed = [] }).stage ≡
     true) [ true ↦ λ e. e | false ↦ λ e. refl ] refl
 
-gone_plays : (s : Session) → HasPlayer s → HasPlayer (gone s)
-gone_plays s has = elim (is_closed s.stage)
-    as (λ b. HasPlayer (if b then record s { owed = [] } else record (mark_closed s causes.Gone)
+gone_plays : (cause : Cause) (s : Session) → HasPlayer s → HasPlayer (gone cause s)
+gone_plays cause s has = elim (is_closed s.stage)
+    as (λ b. HasPlayer (if b then record s { owed = [] } else record (mark_closed s cause)
     { owed = [] })) [ true ↦ has | false ↦ refl ]
 
-pub left_stands : (v : ServerValue) (w : World) (high k i : ℕ) (c t : ConnectionValue) →
-    Rise 0 (sessions_of v.connections) high → IsAt k i v.connections → c ≡
-    get_or v.connections i c →
-    t ≡ with_session c (gone c.session) → Stands v w →
-    Stands (record v { connections = set v.connections i t }) (step w (left k)).world
-unfolding step
-left_stands v w high k i c t rise at is made st =
-    changed_stands v w high k i c t gone rise at is (λ s stands. record {
-      session = ap (λ (d : ConnectionValue). d.session) made ∙ ap gone stands.session ∙
-          sym (gone_bare s);
-      is_open = λ open_. absurd (not_open (gone s) (gone_closed s) open_);
-      plays = gone_plays s stands.plays;
-    }) (orderly_step w (left k) st.orderly) st
+pub gone_stands : (cause : Cause) (v : ServerValue) (w : World) (high k i : ℕ)
+    (c t : ConnectionValue) → Rise 0 (sessions_of v.connections) high → IsAt k i v.connections →
+    c ≡ get_or v.connections i c → t ≡ with_session c (gone cause c.session) → Stands v w →
+    Stands (record v { connections = set v.connections i t }) (changed w k (gone cause))
+gone_stands cause v w high k i c t rise at is made st =
+    changed_stands v w high k i c t (gone cause) rise at is (λ s stands. record {
+      session = ap (λ (d : ConnectionValue). d.session) made ∙ ap (gone cause) stands.session ∙
+          sym (gone_bare cause s);
+      is_open = λ open_. absurd (not_open (gone cause s) (gone_closed cause s) open_);
+      plays = gone_plays cause s stands.plays;
+    }) (orderly_beside k w (changed w k (gone cause)) (gone_beside k w cause) st.orderly) st
 
-pub left_none : (v : ServerValue) (w : World) (k : ℕ) → found k (sessions_of v.connections) ≡ None →
-    Stands v w → Stands v (step w (left k)).world
+pub gone_none : (cause : Cause) (v : ServerValue) (w : World) (k : ℕ) →
+    found k (sessions_of v.connections) ≡ None → Stands v w →
+    Stands v (changed w k (gone cause))
+gone_none cause v w k none st = absent_stands v w k (gone cause) none st
+
+pub left_world : (w : World) (k : ℕ) → (step w (left k)).world ≡ changed w k (gone causes.Gone)
 unfolding step
-left_none v w k none st = absent_stands v w k gone none st
+left_world w k = refl
+
+pub broke_world : (w : World) (k : ℕ) → (step w (broke k)).world ≡ changed w k (gone causes.Broke)
+unfolding step
+broke_world w k = refl
 
 -- an open connection of which nothing else changed
 open_same : (shown : Parts) (c t : ConnectionValue) (s : Session) (owed : List ℕ) → t.splitter ≡
@@ -384,8 +427,9 @@ unfolding step
 old_stands v w k old st = subst (Stands v)
     (sym (joined_world w k false (ap (is_new k) (sym st.last) ∙ old))) st
 
--- one that left is not in play
-pub gone_calm : (s : Session) → is_some (gone s).player ≡ true → is_some s.player ≡ true
-gone_calm s = elim (is_closed s.stage) as (λ b. is_some
-    (if b then record s { owed = [] } else record (mark_closed s causes.Gone) { owed = [] }).player
+-- one that is gone is not in play
+pub gone_calm : (cause : Cause) (s : Session) → is_some (gone cause s).player ≡ true →
+    is_some s.player ≡ true
+gone_calm cause s = elim (is_closed s.stage) as (λ b. is_some
+    (if b then record s { owed = [] } else record (mark_closed s cause) { owed = [] }).player
     ≡ true → is_some s.player ≡ true) [ true ↦ λ plays. plays | false ↦ λ plays. absurd cc ]

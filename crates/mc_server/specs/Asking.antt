@@ -1,15 +1,10 @@
--- What is asked of a world by a connection's number.
-use Rattle.std.specs.Prelude.{ℕ, Bool, false, List, [], Option, Some, None}
+-- What is asked of a world's connections.
+use Rattle.std.specs.Prelude.{ℕ, Bool, true, false, Option, Some, None}
+use Rattle.std.specs.List.{count_by}
+use Rattle.mc_model.specs.declared.cause.Cause.{Cause}
+use Rattle.mc_model.specs.declared.cause.Cause.TheVariants as causes
 use Rattle.mc_model.specs.World.{World, Session, found}
 use Rattle.mc_model.specs.Step.{is_done}
-
--- what a connection is owed, nothing where there is none
-abbrev pub owed_of : Option Session → List ℕ
-owed_of None = []
-owed_of (Some s) = s.owed
-
-abbrev pub owed_in : ℕ → World → List ℕ
-owed_in k w = owed_of (found k w.sessions)
 
 -- whether a connection is closed and owed nothing
 abbrev pub is_over : Option Session → Bool
@@ -18,3 +13,15 @@ is_over (Some s) = is_done s
 
 abbrev pub is_done_in : ℕ → World → Bool
 is_done_in k w = is_over (found k w.sessions)
+
+-- a connection was closed, and not since it left, a write to it broke, or it was done
+abbrev pub is_ours : Option Cause → Bool
+is_ours None = false
+is_ours (Some causes.Gone) = false
+is_ours (Some causes.Broke) = false
+is_ours (Some causes.Done) = false
+is_ours (Some other) = true
+
+-- how many of those that are there were closed so
+abbrev pub ours_there : World → ℕ
+ours_there w = count_by (λ (s : Session). is_ours s.cause) w.sessions

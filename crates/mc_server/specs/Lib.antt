@@ -9,3 +9,5 @@ pub mod Stands
 pub mod Inputs
 pub mod Roster
 pub mod Ticking
+pub mod Drives
+pub mod TurnParts

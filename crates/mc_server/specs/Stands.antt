@@ -1,12 +1,13 @@
 -- What a server stands for: a world of the definitions.
-use Rattle.std.specs.Prelude.{◌≡◌, ℕ, false, true, is_some, unwrap_or, Option, Some, None}
+use Rattle.std.specs.Prelude.{◌≡◌, ℕ, false, true, is_some, length, unwrap_or, Option, Some, None}
 use Rattle.mc_frame.specs.Cut.{IsPart, kept_count}
 use Rattle.mc_model.specs.Sight.{Sight, nothing_seen}
-use Rattle.mc_model.specs.World.{World, Session, Player, is_play, is_closed}
+use Rattle.mc_model.specs.World.{World, Session, Player, found, is_play, is_closed}
+use Rattle.mc_model.specs.Run.{owed_of}
 use Rattle.mc_model.specs.Orderly.{Orderly}
 use Rattle.mc_flush.specs.Seeing.{Parts, StandsFor, is_shown}
 use Rattle.mc_server.specs.Bare.{bare}
-use Rattle.mc_server.specs.Served.{ConnectionValue, ServerValue, shown_parts}
+use Rattle.mc_server.specs.Served.{ConnectionValue, ServerValue, sessions_of, shown_parts}
 use Rattle.mc_server.specs.SideBySide.{SideBySide}
 
 -- what a player was shown, nothing where there is none
@@ -50,3 +51,7 @@ HasFailed server = server.failed ≡ true
 -- how many ticks came
 abbrev pub age_of : ServerValue → ℕ
 age_of server = server.age
+
+-- how many bytes a connection is owed, none where there is none
+abbrev pub owes : ℕ → ServerValue → ℕ
+owes k server = length (owed_of (found k (sessions_of server.connections)))

@@ -11,11 +11,11 @@ ghost use Rattle.mc_model.specs.Packets.{Sent, bytes_of};
 ghost use Rattle.mc_model.specs.Talk.{accepted, refused, farewell};
 ghost use Rattle.mc_model.specs.Step.{is_kept, is_done, mark_closed, gone, hand, disconnect};
 ghost use Rattle.mc_flush.specs.Seeing.{nothing_shown};
+ghost use Rattle.mc_server.specs.Asking.{is_ours};
 ghost use Rattle.mc_server.specs.Served.{IsKeptPlayer, new_connection, player_of};
 ghost use Rattle.mc_server.specs.Served.{mark_of, plays_as, with_session};
 
 mod backlog;
-#[cfg(test)]
 mod fields;
 mod pending;
 mod player;
@@ -30,6 +30,16 @@ use mc_session::Session;
 pub use pending::Pending;
 use std::alloc::Global;
 use std::marker::Model;
+
+/// Whether a connection was closed, and not since it left, a write to it broke, or it was done.
+pub fn is_ours(cause: Option<&Cause>) -> bool
+    ensures { result ≡ is_ours (option_copied cause.entry) }
+{
+    match cause {
+        None | Some(Cause::Gone | Cause::Broke | Cause::Done) => false,
+        Some(_) => true,
+    }
+}
 
 /// One connection: how far it has come and how its bytes are cut, its player, what that was shown,
 /// why it was closed, and what it is owed.
@@ -152,6 +162,13 @@ impl Connection {
         self.cause.as_ref()
     }
 
+    /// Whether it was closed, and not since it left, a write to it broke, or it was done.
+    pub fn is_ours(&self) -> bool
+        ensures { result ≡ is_ours self.now.session.cause }
+    {
+        is_ours(self.cause.as_ref())
+    }
+
     /// Whether it is closed.
     pub fn is_closed(&self) -> bool
         ensures { result ≡ is_closed self.now.session.stage }
@@ -248,15 +265,15 @@ impl Connection {
         self.player = None;
     }
 
-    /// Lets it go: it is closed, and owed nothing.
-    pub fn leave(&mut self)
-        ensures { self.new ≡ with_session self.old (gone self.old.session) }
+    /// Lets it go for a cause: it is closed, and owed nothing.
+    pub fn leave(&mut self, cause: Cause)
+        ensures { self.new ≡ with_session self.old (gone cause self.old.session) }
     {
         if self.is_closed() {
             self.backlog.clear();
             return;
         }
-        self.mark_closed(Cause::Gone);
+        self.mark_closed(cause);
         self.backlog.clear();
     }
 

@@ -7,6 +7,8 @@ pub enum Input<'a> {
     Bytes(u32, &'a [u8]),
     /// A connection leaves.
     Gone(u32),
+    /// A write to a connection broke.
+    Broke(u32),
     /// A tick comes.
     Tick,
 }

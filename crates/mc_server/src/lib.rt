@@ -6,14 +6,17 @@
 #![tactic(auto)]
 
 mod connection;
+mod connections;
 mod input;
 mod opening;
 mod player;
 mod roster;
 mod scene;
 mod server;
+mod service;
 mod settings;
 
 pub use input::Input;
 pub use server::Server;
+pub use service::{Budget, DriveFault, Ended, Tally, drive};
 pub use settings::Settings;

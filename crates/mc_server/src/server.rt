@@ -1,35 +1,33 @@
-ghost use Rattle.std.specs.Prelude.{◌≡◌, ◌↔◌, ◌++◌, ◌∷◌, ◌+◌, ◌<◌, ◌≤◌, ℕ, List, [], true, Err};
-ghost use Rattle.std.specs.Prelude.{None, Some, IfOk, IfSome, OnErr, OnOk, is_some, length, map};
+ghost use Rattle.std.specs.Prelude.{◌≡◌, ◌↔◌, ◌++◌, ◌+◌, ◌<◌, ◌≤◌, ℕ, List, [], true, Err};
+ghost use Rattle.std.specs.Prelude.{None, Some, IfOk, IfSome, OnErr, OnOk, length, map};
 ghost use Rattle.std.specs.Prelude.{option_map, slice_index_or, take};
-ghost use Rattle.std.specs.List.{filter};
 ghost use Rattle.std.specs.Option.{option_copied};
 ghost use Rattle.mc_frame.specs.Cut.{IsPart, kept_count};
 ghost use Rattle.mc_frame.specs.Splitting.{Feeds, Takes};
 ghost use Rattle.mc_model.specs.World as spec;
 ghost use Rattle.mc_model.specs.World.{AreSettings, World, found, is_closed, new_world, put};
 ghost use Rattle.mc_model.specs.Orderly.{Rise, next_number};
-ghost use Rattle.mc_model.specs.Run.{cause_in};
-ghost use Rattle.mc_model.specs.Step.{came, disconnect, forgot, is_crowded, is_kept, is_new};
-ghost use Rattle.mc_model.specs.Step.{joined, joining, left, on_frame, step, ticked, took};
+ghost use Rattle.mc_model.specs.Run.{cause_in, owed_in};
+ghost use Rattle.mc_model.specs.Step.{came, changed, disconnect, forgot, gone, is_crowded, is_new};
+ghost use Rattle.mc_model.specs.Step.{joined, joining, on_frame, step, took};
 ghost use Rattle.mc_model.specs.Talk.{farewell};
-ghost use Rattle.mc_server.specs.Asking.{is_done_in, owed_in};
+ghost use Rattle.mc_server.specs.Asking.{is_done_in, ours_there};
 ghost use Rattle.mc_server.specs.Frames.{AreDone, Becomes, HasRead, IsReading, Splits};
 ghost use Rattle.mc_server.specs.Inputs.{age_after, event_of};
 ghost use Rattle.mc_server.specs.Handling.{after_request, pending_of, request_in};
 ghost use Rattle.mc_server.specs.Served.{ConnectionValue, IsAt, IsOpenAt, ServerValue, kept_world};
-ghost use Rattle.mc_server.specs.Served.{new_connection, nth_session, one_if, playing_of};
-ghost use Rattle.mc_server.specs.Served.{sessions_of};
-ghost use Rattle.mc_server.specs.Stands.{HasFailed, Stands, age_of};
+ghost use Rattle.mc_server.specs.Served.{new_connection, nth_session, sessions_of};
+ghost use Rattle.mc_server.specs.Stands.{HasFailed, Stands, age_of, owes};
 
 mod act;
-#[cfg(test)]
 mod fields;
 mod login;
 mod movement;
+mod tick;
 
 use crate::connection::{Connection, Pending};
+use crate::connections::{kept, ours, playing, put_last};
 use crate::roster::Roster;
-use crate::scene::{Scene, prepare};
 use crate::{Input, Settings};
 use mc_frame::Take;
 use mc_land::Land;
@@ -90,72 +88,6 @@ impl Model for Server {
         AreKept s.land s.settings s.eids s.last s.ids.items (sessions_of s.connections.items) };
 }
 
-/// One where it is true.
-fn one_if(there: bool) -> usize
-    ensures is { result ≡ one_if there }
-    ensures small { result ≤ 1 }
-{
-    if there { 1 } else { 0 }
-}
-
-/// How many connections are open, or owed bytes still.
-fn kept(connections: &Vec<Connection>) -> usize
-    ensures { result
-        ≡ length (filter (λ (c : ConnectionValue). is_kept c.session) connections.now.items) }
-{
-    let mut count = 0;
-    for i in 0..connections.len() {
-        count += one_if(connections[i].is_kept());
-    }
-    count
-}
-
-/// How many are in play.
-fn in_play(connections: &Vec<Connection>) -> usize
-    ensures { result ≡ length
-        (filter (λ (c : ConnectionValue). is_some c.session.player) connections.now.items) }
-{
-    let mut count = 0;
-    for i in 0..connections.len() {
-        count += one_if(connections[i].is_play());
-    }
-    count
-}
-
-/// How many sessions are in play.
-fn sessions_in_play(connections: &Vec<Connection>) -> usize
-    ensures { result ≡ length (playing_of (sessions_of connections.now.items)) }
-{
-    in_play(connections)
-}
-
-/// How many are in play, where they are few.
-fn playing(connections: &Vec<Connection>) -> u32
-    requires { length (playing_of (sessions_of connections.now.items)) ≤ 50 }
-    ensures { result ≡ length (playing_of (sessions_of connections.now.items)) }
-{
-    sessions_in_play(connections) as u32
-}
-
-/// Puts a connection and its number behind the others. Without memory they are as before.
-fn put_last(
-    ids: &mut Vec<u32>,
-    connections: &mut Vec<Connection>,
-    connection: Connection,
-) -> Result<(), NoMemory>
-    ensures ids { OnOk result (ids.new.items ≡ ids.old.items ++ connection.session.id ∷ []) }
-    ensures connections { OnOk result
-        (connections.new.items ≡ connections.old.items ++ connection ∷ []) }
-    ensures ids_stay { OnErr result (ids.new.items ≡ ids.old.items) }
-    ensures connections_stay { OnErr result (connections.new.items ≡ connections.old.items) }
-{
-    let id = connection.id();
-    connections.reserve(1)?;
-    ids.push(id)?;
-    connections.push(connection)?;
-    Ok(())
-}
-
 impl Server {
     /// A server where nobody came yet.
     pub fn new(alloc: Global, settings: Settings) -> Result<Server, NoMemory>
@@ -209,7 +141,11 @@ impl Server {
             Input::Join(k) => self.join(k),
             Input::Bytes(k, bytes) => self.bytes(k, bytes),
             Input::Gone(k) => {
-                self.leave(k);
+                self.leave(k, Cause::Gone);
+                Ok(())
+            }
+            Input::Broke(k) => {
+                self.leave(k, Cause::Broke);
                 Ok(())
             }
             Input::Tick => self.tick(),
@@ -283,16 +219,16 @@ impl Server {
         Ok(())
     }
 
-    /// Lets a connection leave.
-    fn leave(&mut self, k: u32)
+    /// Lets a connection go for a cause: it is closed, and owed nothing.
+    fn leave(&mut self, k: u32, cause: Cause)
         ensures follows { (w : World) → Stands self.old w →
-            Stands self.new (step w (left k)).world }
+            Stands self.new (changed w k (gone cause)) }
         ensures age { age_of self.new ≡ age_of self.old }
     {
         let Some(i) = self.place_of(k) else {
             return;
         };
-        self.connections[i].leave();
+        self.connections[i].leave(cause);
     }
 
     /// A connection that is closed and owed nothing goes.
@@ -320,6 +256,7 @@ impl Server {
             take (length result.now) (owed_in k w) ≡ result.now }
         ensures empty { (w : World) → Stands self.now w →
             (result.now ≡ []) ↔ (owed_in k w ≡ []) }
+        ensures within { length result.now ≤ owes k self.now }
     {
         match self.connection(k) {
             Some(connection) => connection.front(),
@@ -331,6 +268,7 @@ impl Server {
     pub fn took(&mut self, k: u32, n: usize)
         ensures follows { (w : World) → Stands self.old w →
             Stands self.new (step w (took k n)).world }
+        ensures falls { 0 < n → n ≤ owes k self.old → owes k self.new < owes k self.old }
         ensures age { age_of self.new ≡ age_of self.old }
         ensures failed { HasFailed self.old → HasFailed self.new }
     {
@@ -352,6 +290,11 @@ impl Server {
 
     // ---- what is asked of a server
 
+    /// Where its memory comes from.
+    pub(crate) fn allocator(&self) -> Global {
+        self.alloc
+    }
+
     /// The numbers of the connections, in the order in which they joined.
     pub fn connections(&self) -> &[u32]
         ensures { (w : World) → Stands self.now w →
@@ -368,6 +311,14 @@ impl Server {
             Some(connection) => connection.cause(),
             None => None,
         }
+    }
+
+    /// How many connections that are there were closed, and not since they left, a write to them
+    /// broke, or they were done.
+    pub(crate) fn ours(&self) -> usize
+        ensures { (w : World) → Stands self.now w → result ≡ ours_there w }
+    {
+        ours(&self.connections)
     }
 
     /// How many ticks came.
@@ -520,35 +471,5 @@ impl Server {
     {
         let online = playing(&self.connections);
         self.connections[i].handle(frame, self.settings.players, online)
-    }
-
-    // ---- a tick
-
-    /// Lets a tick come: each client in play is shown the land and the players.
-    fn tick(&mut self) -> Result<(), NoMemory>
-        requires young { age_of self.old < 1000000000 }
-        ensures follows { (w : World) → Stands self.old w
-            → OnOk result (Stands self.new (step w ticked).world) }
-        ensures age { OnOk result (age_of self.new ≡ age_of self.old + 1) }
-    {
-        self.list.turn()?;
-        self.list.list_all(&self.connections)?;
-        let encoded = prepare(
-            self.alloc,
-            &self.settings,
-            &mut self.land,
-            &self.list,
-            &self.connections,
-        )?;
-        let scene = Scene {
-            settings: &self.settings,
-            land: &self.land,
-            list: &self.list,
-            encoded: &encoded,
-        };
-        scene.show_all(self.alloc, &mut self.connections)?;
-        self.land.settle();
-        self.age += 1;
-        Ok(())
     }
 }

@@ -11,8 +11,9 @@ ghost use Rattle.mc_server.specs.Served.{ConnectionValue, kept_world, nth_sessio
 ghost use Rattle.mc_server.specs.Served.{playing_of, plays_as, sessions_of};
 
 use crate::connection::Connection;
+use crate::connections::playing;
 use crate::player::Player;
-use crate::server::{Server, playing};
+use crate::server::Server;
 use mc_model::{Name, Refusal};
 use mc_nbt::{NoMemory, Text};
 use mc_session::offline_uuid;

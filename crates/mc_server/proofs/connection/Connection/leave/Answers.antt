@@ -7,7 +7,7 @@ pub returns-then-is_closed : goal.returns-then-is_closed
 returns-then-is_closed c =
     let v = the_view c.self.inside in
     ap (λ (owed : List ℕ). record v { session = record v.session { owed = owed } }) c.clear.ensures
-    ∙ left_closed v c.args.self.now c.self.view_is
+    ∙ left_closed c.args.cause v c.args.self.now c.self.view_is
     (keeps_mark _ c.self.inside.player (the_view c.self.inside)
     c.args.self.now c.self.invariant refl refl c.self.view_is)
     (sym c.is_closed.ensures ∙ c.if-is_closed.true)
@@ -17,5 +17,5 @@ returns c =
     let v = the_view c.self-2.inside in
     ap (λ (owed : List ℕ). record v { session = record v.session { owed = owed } })
     c.clear-2.ensures
-    ∙ left_open c.args.self.now v (c.self-2.view_is ∙ c.mark_closed.ensures)
+    ∙ left_open c.args.cause c.args.self.now v (c.self-2.view_is ∙ c.mark_closed.ensures)
     (sym c.is_closed.ensures ∙ c.if-is_closed.false)

@@ -1,6 +1,6 @@
-use Rattle.std.proofs.Common.{◌≡◌, ℕ, List, [], refl, sym, ap, ◌∙◌, take, length}
-use Rattle.mc_server.specs.Asking.{owed_of}
-use Rattle.mc_server.proofs.Standing.{asked_owed}
+use Rattle.std.proofs.Common.{◌≡◌, ◌≤◌, ℕ, List, [], refl, sym, subst, ap, ◌∙◌, take, length}
+use Rattle.mc_model.specs.Run.{owed_of}
+use Rattle.mc_server.proofs.Standing.{asked_owed, first_within}
 use Rattle.mc_server.proofs.server.Server.front.Goals as goal
 
 pub returns-in-Some-clause-first : goal.returns-in-Some-clause-first
@@ -18,3 +18,9 @@ returns-in-None-clause-empty c = λ w st.
     let same : ◌≡◌ {A = List ℕ} [] _ = ap owed_of c.in-None.ensures ∙
     asked_owed c.args.self.now w c.args.k st in
     (λ e. sym same, λ e. refl)
+
+pub returns-in-Some-clause-within : goal.returns-in-Some-clause-within
+returns-in-Some-clause-within c =
+    let P : List ℕ → Type 0 = λ owed. length c.front.result.now ≤ length owed in
+    subst P (ap owed_of c.in-Some.ensures)
+    (first_within c.front.result.now _ c.front.ensures.first)

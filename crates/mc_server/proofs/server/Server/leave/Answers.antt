@@ -6,11 +6,11 @@ use Rattle.mc_server.specs.Served.{ConnectionValue, ServerValue, IsAt}
 use Rattle.mc_server.specs.Stands.{Stands}
 use Rattle.mc_server.specs.contracts.server.Server.{the_view}
 use Rattle.mc_server.proofs.Keeping.{kept_set}
-use Rattle.mc_server.proofs.Standing.{left_stands, left_none, gone_calm}
+use Rattle.mc_server.proofs.Standing.{gone_stands, gone_none, gone_calm}
 use Rattle.mc_server.proofs.server.Server.leave.Goals as goal
 
 pub returns-in_default-clause-follows : goal.returns-in_default-clause-follows
-returns-in_default-clause-follows c = λ w st. left_none c.args.self.now w c.args.k
+returns-in_default-clause-follows c = λ w st. gone_none c.args.cause c.args.self.now w c.args.k
     (c.in_default.ensures.none refl) st
 
 pub invariant_of-self : goal.invariant_of-self
@@ -22,9 +22,9 @@ invariant_of-self c =
     let x : ConnectionValue = c.index_mut.result.now in
     kept_set c.self.inside.connections.items c.self.invariant c.in-Some.i x c.leave.new.self
     at.within c.index_mut.ensures.value (ap (λ (d : ConnectionValue). d.session.id)
-    c.leave.ensures ∙ gone_id x.session)
-    (λ plays. gone_calm x.session (ap (λ (d : ConnectionValue). is_some d.session.player)
-    (sym c.leave.ensures) ∙ plays))
+    c.leave.ensures ∙ gone_id c.args.cause x.session)
+    (λ plays. gone_calm c.args.cause x.session
+    (ap (λ (d : ConnectionValue). is_some d.session.player) (sym c.leave.ensures) ∙ plays))
 
 pub returns-clause-follows : goal.returns-clause-follows
 returns-clause-follows c = λ w st.
@@ -32,7 +32,7 @@ returns-clause-follows c = λ w st.
     let at : IsAt c.args.k c.in-Some.i v.connections =
     (let P : ServerValue → Type 0 = λ u. IsAt c.args.k c.in-Some.i u.connections in
     subst P (sym c.self.view_is) c.in-Some.ensures.some) in
-    left_stands v w (next_number c.self.inside.last)
+    gone_stands c.args.cause v w (next_number c.self.inside.last)
     c.args.k c.in-Some.i c.index_mut.result.now c.leave.new.self c.self.invariant.rise at
     c.index_mut.ensures.value c.leave.ensures
     (subst (λ (u : ServerValue). Stands u w) (sym c.self.view_is) st)

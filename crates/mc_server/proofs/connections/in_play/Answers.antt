@@ -1,11 +1,11 @@
-use Rattle.std.proofs.Common.{◌≡◌, ◌<◌, ◌≤◌, length, refl, ap, ◌∙◌, arith}
+use Rattle.std.proofs.Common.{◌<◌, ◌≤◌, length, refl, ap, ◌∙◌, arith}
 use Rattle.std.specs.List.{filter}
-use Rattle.std.specs.Prelude.{Bool, List}
+use Rattle.std.specs.Prelude.{List}
 use Rattle.std.proofs.lemmas.List.{take_all}
 use Rattle.std.specs.Prelude.{is_some}
 use Rattle.mc_server.specs.Served.{ConnectionValue, one_if}
 use Rattle.mc_server.proofs.Places.{count_next}
-use Rattle.mc_server.proofs.server.in_play.Goals as goal
+use Rattle.mc_server.proofs.connections.in_play.Goals as goal
 
 pub loop-i-init : goal.loop-i-init
 loop-i-init c = record { is = refl; few = omega arith }

@@ -2,7 +2,7 @@ use Rattle.std.proofs.Common.{◌≡◌, ◌≤◌, length, take}
 use Rattle.std.specs.List.{filter}
 use Rattle.mc_model.specs.Step.{is_kept}
 use Rattle.mc_server.specs.Served.{ConnectionValue}
-use Rattle.mc_server.proofs.server.kept.Given as goal
+use Rattle.mc_server.proofs.connections.kept.Given as goal
 
 -- how many there are among the first
 abbrev pub invariant-loop-i : goal.invariant-loop-i

@@ -1,0 +1,319 @@
+-- Turns so far, one turn more, and how serving ends.
+use Rattle.std.proofs.Common.{◌≡◌, ◌≢◌, ◌+◌, ◌-◌, ◌^◌, ◌<◌, ◌≤◌, min, ℕ, Bool, true, false, ◌||◌}
+use Rattle.std.proofs.Common.{List, [], ◌∷◌, ◌++◌, length, Option, Result, Ok, Err, refl, sym}
+use Rattle.std.proofs.Common.{subst, ap, ◌∙◌, arith, append-nil, length-append}
+use Rattle.std.proofs.lemmas.List.Sums.{count_by-le-length}
+use Rattle.mc_wire.specs.declared.log.LogEntry.{LogEntry}
+use Rattle.mc_wire.specs.declared.log.LogEntry.TheVariants as entries
+use Rattle.mc_wire.specs.LobbyTold.{LobbyTold, with_entries, with_port}
+use Rattle.mc_wire.specs.Becoming.{Logs, ToldBecomes}
+use Rattle.mc_wire.proofs.LobbyCalls.{Logs-refl, Logs-trans, ToldBecomes-same, ToldBecomes-trans}
+use Rattle.mc_wire.proofs.LobbyCalls.{with_entries-nil}
+use Rattle.mc_model.specs.World.{World, Session}
+use Rattle.mc_model.specs.Log.{events_in, log_of, logged}
+use Rattle.mc_model.specs.Orderly.{Orderly}
+use Rattle.mc_model.specs.Turns.{AreTurns}
+use Rattle.mc_model.proofs.LogLaws.{events_more, logged_more}
+use Rattle.mc_model.proofs.TurnLaws.{turns_right}
+use Rattle.mc_server.specs.declared.service.Budget.{Budget}
+use Rattle.mc_server.specs.declared.service.Tally.{Tally}
+use Rattle.mc_server.specs.declared.service.Ended.{Ended}
+use Rattle.mc_server.specs.declared.service.Ended.TheVariants as ends
+use Rattle.mc_server.specs.declared.service.DriveFault.{DriveFault}
+use Rattle.mc_server.specs.declared.service.DriveFault.TheVariants.{Listen, Next, Events, NoMemory}
+use Rattle.mc_server.specs.Asking.{is_ours, ours_there}
+use Rattle.mc_server.specs.Drives.{Drove, Ends, IsTally, IsWithin, is_join, is_tick}
+use Rattle.mc_server.specs.Drives.{joins_in, ours_in, ticks_in}
+use Rattle.mc_server.specs.Served.{ServerValue, one_if}
+use Rattle.mc_server.specs.Stands.{Stands, age_of}
+use Rattle.mc_server.specs.TurnParts.{HasTurned}
+use Rattle.mc_server.proofs.Few.{few_log}
+use Rattle.mc_server.proofs.LogFacts.{log_of_more, ours_append, ticks_more}
+use Rattle.mc_server.proofs.LogFacts.{turns_more}
+
+pub or_true : (b : Bool) → (b || true) ≡ true
+or_true true = refl
+or_true false = refl
+
+-- so many turns were done, and so many joined, and went as closed by the server itself
+pub record IsDriving (old new : Option LobbyTold) (w : World) (server : ServerValue)
+    (events joins closed : ℕ) : Type 0 where
+  pub turns : List (List LogEntry)
+  pub told : Logs old new (log_of turns)
+  pub stands : Stands server (logged w (log_of turns))
+  pub are_turns : AreTurns w turns
+  pub all : length turns ≡ events
+  pub ticks : ticks_in turns ≡ age_of server
+  pub joins_are : joins ≡ joins_in turns
+  pub closed_are : closed ≡ ours_in w (log_of turns)
+  pub few : joins ≤ events
+
+pub driving_start : (old : Option LobbyTold) (w : World) (server : ServerValue) →
+    Stands server w → age_of server ≡ 0 → IsDriving old old w server 0 0 0
+driving_start old w server stands young = record {
+  turns = [];
+  told = Logs-refl old;
+  stands = stands;
+  are_turns = tt;
+  all = refl;
+  ticks = sym young;
+  joins_are = refl;
+  closed_are = refl;
+  few = omega arith;
+}
+
+pub one_at_most : (b : Bool) → one_if b ≤ 1
+one_at_most true = omega arith
+one_at_most false = omega arith
+
+-- no more went and are there than joined
+went_few : (w : World) (turns : List (List LogEntry)) → AreTurns w turns → w.sessions ≡ [] →
+    Orderly w →
+    ours_in w (log_of turns) + length (logged w (log_of turns)).sessions ≤ joins_in turns
+went_few w turns are empty orderly =
+    let few = few_log (log_of turns) w (turns_right turns w orderly are) in
+    let none : length w.sessions ≡ 0 = ap length empty in
+    omega (arith, few, none)
+
+-- the sum of those that went is exact: no more went than there were turns
+pub small_sum : (a b most : ℕ) → a + b ≤ most → most < 2 ^ 64 → min (a + b) (2 ^ 64 - 1) ≡ a + b
+small_sum a b most few less = omega (arith, few, less)
+
+-- the turn that is done next
+module _ (old mid next new : Option LobbyTold) (w : World) (before after : ServerValue)
+    (events joins closed count : ℕ) (entry : LogEntry)
+    (d : IsDriving old mid w before events joins closed) (told : Logs mid next (entry ∷ []))
+    (t : HasTurned entry next new (logged w (log_of d.turns)) after count) where
+  abbrev turns_now : List (List LogEntry)
+  turns_now = d.turns ++ (entry ∷ t.rest) ∷ []
+
+  pub log_now : log_of turns_now ≡ log_of d.turns ++ (entry ∷ t.rest)
+  log_now = log_of_more d.turns (entry ∷ t.rest)
+
+  pub world_now : logged w (log_of turns_now) ≡ logged (logged w (log_of d.turns)) (entry ∷ t.rest)
+  world_now = ap (logged w) log_now ∙ logged_more w (log_of d.turns) (entry ∷ t.rest)
+
+  pub are_now : AreTurns w turns_now
+  are_now = turns_more w d.turns (entry ∷ t.rest) d.are_turns t.is_turn
+
+  pub ours_now : closed + count ≡ ours_in w (log_of turns_now)
+  ours_now =
+      let sum = ours_append w (log_of d.turns) (entry ∷ t.rest) in
+      let same : ours_in w (log_of turns_now) ≡ ours_in w (log_of d.turns ++ (entry ∷ t.rest)) =
+      ap (ours_in w) log_now in
+      let first = d.closed_are in
+      let second = t.counted in
+      omega (arith, sum, same, first, second)
+
+  pub all_now : length turns_now ≡ events + 1
+  all_now = let sum = length-append d.turns ((entry ∷ t.rest) ∷ []) in let all = d.all in
+      omega (arith, sum, all)
+
+  pub joins_now : joins + one_if (is_join entry) ≡ joins_in turns_now
+  joins_now = let sum = ticks_more d.turns (entry ∷ t.rest) is_join in
+      let first = d.joins_are in let second = t.joins in omega (arith, sum, first, second)
+
+  pub few_now : w.sessions ≡ [] → Orderly w → closed + count ≤ events + 1
+  few_now empty orderly =
+      let few = went_few w turns_now are_now empty orderly in
+      let sum = ours_now in
+      let joined = joins_now in
+      let less = d.few in
+      let one = one_at_most (is_join entry) in
+      omega (arith, few, sum, joined, less, one)
+
+  abbrev pub driving_next : (joined went : ℕ) →
+      age_of after ≡ age_of before + one_if (is_tick entry) →
+      joined ≡ joins + one_if (is_join entry) → went ≡ min (closed + count) (2 ^ 64 - 1) →
+      events + 1 < 2 ^ 64 → w.sessions ≡ [] → Orderly w →
+      IsDriving old new w after (events + 1) joined went
+  driving_next joined went ages joins_is went_is less empty orderly = record {
+    turns = d.turns ++ (entry ∷ t.rest) ∷ [];
+    told = (let P : List LogEntry → Type 0 = λ log. Logs old new log in
+        subst P (sym log_now) (Logs-trans old mid new (log_of d.turns) (entry ∷ t.rest) d.told
+        (Logs-trans mid next new (entry ∷ []) t.rest told t.told)));
+    stands = (let P : World → Type 0 = λ v. Stands after v in subst P (sym world_now) t.stands);
+    are_turns = are_now;
+    all = all_now;
+    ticks = (let sum = ticks_more d.turns (entry ∷ t.rest) is_tick in let first = d.ticks in
+        let second = t.ticks in omega (arith, sum, first, second, ages));
+    joins_are = joins_is ∙ joins_now;
+    closed_are = went_is ∙ small_sum closed count (events + 1) (few_now empty orderly) less
+        ∙ ours_now;
+    few = (let few = d.few in let one = one_at_most (is_join entry) in
+        omega (arith, joins_is, few, one));
+  }
+
+-- the age stays below one that it is not
+pub still_young : (before after one ticks : ℕ) → after ≡ before + one → one ≤ 1 → before < ticks →
+    after ≢ ticks → after < ticks
+still_young before after one ticks is few young ne = omega (arith, is, few, young, ne)
+
+-- ---- the end
+
+pub told_same : (old new : Option LobbyTold) (x y : LogEntry) → x ≡ y → Logs old new (x ∷ []) →
+    Logs old new (y ∷ [])
+told_same old new x y same told =
+    let P : LogEntry → Type 0 = λ z. Logs old new (z ∷ []) in subst P same told
+
+-- what was counted is the tally
+module _ (old new : Option LobbyTold) (w : World) (server : ServerValue) (events joins closed : ℕ)
+    (d : IsDriving old new w server events joins closed) (t : Tally) where
+  pub tally_is : t.joins ≡ joins →
+      ((v : World) → Stands server v → closed + ours_there v < 2 ^ 64 →
+      t.closed ≡ closed + ours_there v) → events < 2 ^ 64 → w.sessions ≡ [] → Orderly w →
+      IsTally w d.turns t
+  tally_is joined counted less empty orderly =
+      let v : World = logged w (log_of d.turns) in
+      let there = count_by-le-length (λ (s : Session). is_ours s.cause) v.sessions in
+      let few = went_few w d.turns d.are_turns empty orderly in
+      let went = d.closed_are in
+      let joins_are = d.joins_are in
+      let most = d.few in
+      let sum = counted v d.stands (omega (arith, there, few, went, joins_are, most, less)) in
+      record { joins = joined ∙ d.joins_are; closed = omega (arith, sum, went) }
+
+module _ (budget : Budget) (old new : Option LobbyTold) (w : World) (server : ServerValue)
+    (events joins closed : ℕ) (d : IsDriving old new w server events joins closed) where
+  -- nothing was added behind the turns
+  told_all : Logs old new (log_of d.turns ++ [])
+  told_all = let P : List LogEntry → Type 0 = λ log. Logs old new log in
+      subst P (sym (append-nil (log_of d.turns))) d.told
+
+  stands_all : Stands server (logged w (log_of d.turns ++ []))
+  stands_all = let P : List LogEntry → Type 0 = λ log. Stands server (logged w log) in
+      subst P (sym (append-nil (log_of d.turns))) d.stands
+
+  still_within : age_of server < budget.ticks → events < budget.events → IsWithin budget d.turns
+  still_within young more = record {
+    ticks = (let ticks = d.ticks in omega (arith, ticks, young));
+    events = (let all = d.all in omega (arith, all, more));
+  }
+
+  -- so many turns were all
+  pub drove_events : age_of server < budget.ticks → budget.events ≤ events →
+      events ≤ budget.events → Drove (λ (told : LobbyTold). told) budget old new w server
+      (Err (Events budget.events))
+  drove_events young end within = record {
+    turns = d.turns;
+    last = [];
+    told = told_all;
+    stands = stands_all;
+    are_turns = d.are_turns;
+    ends = (let ticks = d.ticks in let all = d.all in (
+      omega (arith, ticks, young),
+      omega (arith, all, end, within),
+      refl,
+      refl,
+    ));
+  }
+
+  -- the next event could not be had
+  pub drove_failed : (after : Option LobbyTold) → after ≡ new → age_of server < budget.ticks →
+      events < budget.events →
+      Drove (λ (told : LobbyTold). told) budget old after w server (Err Next)
+  drove_failed after same young more =
+      let P : Option LobbyTold → Type 0 = λ o. Logs old o (log_of d.turns ++ []) in
+      record {
+        turns = d.turns;
+        last = [];
+        told = subst P (sym same) told_all;
+        stands = stands_all;
+        are_turns = d.are_turns;
+        ends = (still_within young more, refl);
+      }
+
+  -- the lobby ended
+  pub drove_ended : (after : Option LobbyTold) (t : Tally) → Logs new after (entries.Ended ∷ []) →
+      age_of server < budget.ticks → events < budget.events → IsTally w d.turns t →
+      Drove (λ (told : LobbyTold). told) budget old after w server (Ok (ends.Closed t))
+  drove_ended after t told young more tally =
+      let P : World → Type 0 = λ v. Stands server v in
+      record {
+        turns = d.turns;
+        last = entries.Ended ∷ [];
+        told = Logs-trans old new after (log_of d.turns) (entries.Ended ∷ []) d.told told;
+        stands = subst P (sym (logged_more w (log_of d.turns) (entries.Ended ∷ []))) d.stands;
+        are_turns = d.are_turns;
+        ends = (still_within young more, refl, tally);
+      }
+
+  -- the last tick came in the last turn
+  pub drove_ticks : (first : List (List LogEntry)) (turn : List LogEntry) (t : Tally) →
+      d.turns ≡ first ++ turn ∷ [] → ticks_in first < budget.ticks → age_of server ≡ budget.ticks →
+      events ≤ budget.events → IsTally w d.turns t →
+      Drove (λ (told : LobbyTold). told) budget old new w server (Ok (ends.Ticks t))
+  drove_ticks first turn t parts before end within tally = record {
+    turns = d.turns;
+    last = [];
+    told = told_all;
+    stands = stands_all;
+    are_turns = d.are_turns;
+    ends = (
+      record {
+        all = d.ticks ∙ end;
+        first = first;
+        turn = turn;
+        parts = parts;
+        before = before;
+      },
+      (let all = d.all in omega (arith, all, within)),
+      refl,
+      tally,
+    );
+  }
+
+-- ---- with the port
+
+pub drove_listened : (port : ℕ) (budget : Budget) (old mid new : Option LobbyTold) (w : World)
+    (server : ServerValue) (result : Result Ended DriveFault) →
+    ToldBecomes old mid (with_port port) →
+    Drove (λ (told : LobbyTold). told) budget mid new w server result →
+    Drove (with_port port) budget old new w server result
+drove_listened port budget old mid new w server result listened d = record {
+  turns = d.turns;
+  last = d.last;
+  told = ToldBecomes-trans old mid new (with_port port)
+      (with_entries (log_of d.turns ++ d.last)) listened d.told;
+  stands = d.stands;
+  are_turns = d.are_turns;
+  ends = d.ends;
+}
+
+pub told_port : (port : ℕ) (old new : Option LobbyTold) → ToldBecomes old new (with_port port) →
+    ToldBecomes old new (λ told. with_entries [] (with_port port told))
+told_port port old new listened = ToldBecomes-same old new (with_port port) _
+    (λ told. sym (with_entries-nil (with_port port told))) listened
+
+pub drove_deaf : (budget : Budget) (old new : Option LobbyTold) (w : World)
+    (server : ServerValue) → Stands server w → ToldBecomes old new (with_port budget.port) →
+    Drove (with_port budget.port) budget old new w server (Err Listen)
+drove_deaf budget old new w server stands listened = record {
+  turns = [];
+  last = [];
+  told = told_port budget.port old new listened;
+  stands = stands;
+  are_turns = tt;
+  ends = (refl, refl);
+}
+
+-- what stands behind the turns makes nothing happen
+nothing_last : (budget : Budget) (w : World) (turns : List (List LogEntry)) (last : List LogEntry)
+    (result : Result Ended DriveFault) → result ≢ Err NoMemory → Ends budget w turns last result →
+    events_in last ≡ []
+nothing_last budget w turns last (Ok (ends.Ticks t)) ne end = ap events_in end.2
+nothing_last budget w turns last (Ok (ends.Closed t)) ne end = ap events_in end.1
+nothing_last budget w turns last (Err Listen) ne end = ap events_in end.1
+nothing_last budget w turns last (Err Next) ne end = ap events_in end.1
+nothing_last budget w turns last (Err (Events n)) ne end = ap events_in end.3
+nothing_last budget w turns last (Err NoMemory) ne end = absurd (ne refl)
+
+pub events_all : (call : LobbyTold → LobbyTold) (budget : Budget) (old new : Option LobbyTold)
+    (w : World) (server : ServerValue) (result : Result Ended DriveFault) →
+    result ≢ Err NoMemory → (d : Drove call budget old new w server result) →
+    events_in (log_of d.turns ++ d.last) ≡ events_in (log_of d.turns)
+events_all call budget old new w server result ne d =
+    events_more (log_of d.turns) d.last
+    ∙ ap (λ es. events_in (log_of d.turns) ++ es)
+    (nothing_last budget w d.turns d.last result ne d.ends)
+    ∙ append-nil (events_in (log_of d.turns))

@@ -1,0 +1,20 @@
+use Rattle.std.proofs.Common.{◌∷◌, [], sym, ◌∙◌}
+use Rattle.mc_wire.proofs.LobbyCalls.{HasLogged-trans}
+use Rattle.mc_model.specs.Log.{logged}
+use Rattle.mc_server.proofs.Turned.{after_input, turned}
+use Rattle.mc_server.proofs.service.turn.take_turn.Goals as goal
+
+pub returns-clause-turned : goal.returns-clause-turned
+returns-clause-turned g c = λ w entry st is.
+    let v = logged w (entry ∷ []) in
+    let stands = after_input entry c.args.input w c.event.new.self is
+    (c.in_ok-event.ensures.follows w st) in
+    let named = c.in_ok-connections.ensures.items ∙ c.connections.ensures v stands in
+    let sent = c.in_ok-send_all.ensures.sent v stands (c.deref.ensures.value ∙ named) in
+    turned entry c.args.input _ _ _ w c.send_all.new.server c.close_all.new.server
+    c.close_all.result is sent
+    (c.close_all.ensures.closed (logged v sent.writes) sent.adds.stands
+    (c.deref-2.ensures.value ∙ named ∙ sym sent.numbers))
+
+pub returns-clause-logs : goal.returns-clause-logs
+returns-clause-logs g c = HasLogged-trans _ _ _ c.send_all.ensures.logs c.close_all.ensures.logs

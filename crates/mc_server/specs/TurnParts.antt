@@ -1,0 +1,86 @@
+-- What the parts of a turn come to: writes to one connection and to all, and who is closed then.
+use Rattle.std.specs.Prelude.{◌≡◌, ◌≢◌, ◌⊎◌, ◌+◌, ℕ, List, [], ◌∷◌, ◌++◌, map, if◌then◌else◌}
+use Rattle.std.specs.Prelude.{Option}
+use Rattle.std.specs.List.{Contains, count_by}
+use Rattle.mc_wire.specs.declared.log.LogEntry.{LogEntry}
+use Rattle.mc_wire.specs.declared.log.LogEntry.TheVariants.{Closed, Stalled}
+use Rattle.mc_wire.specs.LobbyTold.{LobbyTold}
+use Rattle.mc_wire.specs.Becoming.{Logs}
+use Rattle.mc_model.specs.World.{World, Session}
+use Rattle.mc_model.specs.Run.{owed_in}
+use Rattle.mc_model.specs.Log.{events_of, logged}
+use Rattle.mc_model.specs.Turns.{AreWrites, Happens, IsTurn, Rises}
+use Rattle.mc_server.specs.declared.input.Input.{Input}
+use Rattle.mc_server.specs.Asking.{is_done_in}
+use Rattle.mc_server.specs.Drives.{is_join, is_tick, ours_in}
+use Rattle.mc_server.specs.Inputs.{age_after, event_of}
+use Rattle.mc_server.specs.Served.{ServerValue, one_if}
+use Rattle.mc_server.specs.Stands.{Stands}
+
+-- the numbers of the connections
+abbrev pub numbers_in : World → List ℕ
+numbers_in w = map (λ (s : Session). s.id) w.sessions
+
+-- These entries were added to the log of a lobby, and the server stands for the world after them.
+pub record Adds (old new : Option LobbyTold) (w : World) (server : ServerValue)
+    (log : List LogEntry) : Type 0 where
+  pub told : Logs old new log
+  pub stands : Stands server (logged w log)
+
+-- a connection is owed nothing after writes, or one of them stalled
+abbrev pub IsServed : World → List LogEntry → ℕ → Type 0
+IsServed w writes k = (owed_in k (logged w writes) ≡ []) ⊎ Contains writes (Stalled k)
+
+-- whatever rises from one number on may stand behind these writes, and all rise from another on
+abbrev pub Leads : ℕ → ℕ → List LogEntry → Type 0
+Leads least next writes = (later : List LogEntry) → Rises next later → Rises least (writes ++ later)
+
+-- One connection was written to, and served so; the others are owed what they were.
+pub record HasSent (k : ℕ) (old new : Option LobbyTold) (w : World) (server : ServerValue)
+    : Type 0 where
+  pub writes : List LogEntry
+  pub adds : Adds old new w server writes
+  pub are_writes : AreWrites w writes
+  pub leads : Leads k (k + 1) writes
+  pub served : IsServed w writes k
+  pub others : (j : ℕ) → j ≢ k → owed_in j (logged w writes) ≡ owed_in j w
+  pub numbers : numbers_in (logged w writes) ≡ numbers_in w
+
+-- all were
+pub record HasSentAll (old new : Option LobbyTold) (w : World) (server : ServerValue)
+    : Type 0 where
+  pub writes : List LogEntry
+  pub adds : Adds old new w server writes
+  pub are_writes : AreWrites w writes
+  pub rises : Rises 0 writes
+  pub served : (k : ℕ) → IsServed w writes k
+  pub numbers : numbers_in (logged w writes) ≡ numbers_in w
+
+-- what closing a connection adds where it is closed in the world and owed nothing, and nothing else
+abbrev pub closing_of : World → ℕ → List LogEntry
+closing_of w k = if is_done_in k w then Closed k ∷ [] else []
+
+-- connections were closed, so many of which the server had closed itself
+pub record HasClosed (log : List LogEntry) (old new : Option LobbyTold) (w : World)
+    (server : ServerValue) (count : ℕ) : Type 0 where
+  pub adds : Adds old new w server log
+  pub counted : count ≡ ours_in w log
+
+-- ---- a turn
+
+-- an input is what an entry of a lobby's log makes happen
+pub record IsInputOf (entry : LogEntry) (input : Input) : Type 0 where
+  pub happens : Happens entry
+  pub event : events_of entry ≡ event_of input ∷ []
+  pub ages : (age : ℕ) → age_after input age ≡ age + one_if (is_tick entry)
+
+-- A turn was done behind the entry of what happened.
+pub record HasTurned (entry : LogEntry) (old new : Option LobbyTold) (w : World)
+    (server : ServerValue) (count : ℕ) : Type 0 where
+  pub rest : List LogEntry
+  pub told : Logs old new rest
+  pub stands : Stands server (logged w (entry ∷ rest))
+  pub is_turn : IsTurn w (entry ∷ rest)
+  pub ticks : count_by is_tick (entry ∷ rest) ≡ one_if (is_tick entry)
+  pub joins : count_by is_join (entry ∷ rest) ≡ one_if (is_join entry)
+  pub counted : count ≡ ours_in w (entry ∷ rest)

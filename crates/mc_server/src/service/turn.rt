@@ -1,0 +1,131 @@
+ghost use Rattle.std.specs.Prelude.{◌≡◌, ◌∷◌, ◌<◌, ◌≤◌, ℕ, [], true, IfOk, OnOk, map};
+ghost use Rattle.mc_wire.specs.declared.log.LogEntry.{LogEntry};
+ghost use Rattle.mc_wire.specs.Becoming.{HasLogged};
+ghost use Rattle.mc_wire.specs.LobbyCounts.{StandOrRise};
+ghost use Rattle.mc_model.specs.World.{World};
+ghost use Rattle.mc_model.specs.Turns.{done_in};
+ghost use Rattle.mc_server.specs.Inputs.{age_after};
+ghost use Rattle.mc_server.specs.Stands.{Stands, age_of};
+ghost use Rattle.mc_server.specs.TurnParts.{HasClosed, HasSent, HasSentAll, HasTurned, IsInputOf};
+ghost use Rattle.mc_server.specs.TurnParts.{closing_of, numbers_in};
+
+use crate::connection::is_ours;
+use crate::connections::one_if;
+use crate::{Input, Server};
+use mc_nbt::NoMemory;
+use mc_wire::{Lobby, Wrote};
+
+/// The most bytes of one write.
+const PIECE_MAX: usize = 65_536;
+
+/// Writes to a connection what it is owed, piece by piece, until that is nothing or a write stalls
+/// or breaks.
+fn send<L: Lobby>(server: &mut Server, lobby: &mut L, k: u32) -> Result<(), NoMemory>
+    requires listening { L.listens lobby.old ≡ true }
+    ensures sent { (w : World) → Stands server.old w →
+        OnOk result (HasSent k (L.told lobby.old) (L.told lobby.new) w server.new) }
+    ensures age { OnOk result (age_of server.new ≡ age_of server.old) }
+    ensures logs { HasLogged (L.told lobby.old) (L.told lobby.new) }
+    ensures hears { L.listens lobby.new ≡ true }
+    ensures falls { StandOrRise (L.counts lobby.old) (L.counts lobby.new) }
+{
+    'sending: loop {
+        let front = server.front(k);
+        let count = front.len().min(PIECE_MAX);
+        if count == 0 {
+            return Ok(());
+        }
+        match lobby.write(k, &front[..count]) {
+            Wrote::Took(n) => server.took(k, n),
+            Wrote::Stalled => return Ok(()),
+            Wrote::Broken => {
+                server.event(Input::Broke(k))?;
+                return Ok(());
+            }
+        }
+    }
+}
+
+/// Writes to each connection what it is owed, one after another.
+fn send_all<L: Lobby>(
+    server: &mut Server,
+    lobby: &mut L,
+    connections: &[u32],
+) -> Result<(), NoMemory>
+    requires listening { L.listens lobby.old ≡ true }
+    ensures sent { (w : World) → Stands server.old w → connections.now ≡ numbers_in w →
+        OnOk result (HasSentAll (L.told lobby.old) (L.told lobby.new) w server.new) }
+    ensures age { OnOk result (age_of server.new ≡ age_of server.old) }
+    ensures logs { HasLogged (L.told lobby.old) (L.told lobby.new) }
+    ensures hears { L.listens lobby.new ≡ true }
+    ensures falls { StandOrRise (L.counts lobby.old) (L.counts lobby.new) }
+{
+    for k in connections {
+        send(server, lobby, *k)?;
+    }
+    Ok(())
+}
+
+/// Closes a connection and forgets it, where it is closed in the server and owed nothing. It
+/// answers how many it so closed that the server had closed itself.
+fn close<L: Lobby>(server: &mut Server, lobby: &mut L, k: u32) -> u64
+    requires listening { L.listens lobby.old ≡ true }
+    ensures closed { (w : World) → Stands server.old w →
+        HasClosed (closing_of w k) (L.told lobby.old) (L.told lobby.new) w server.new result }
+    ensures few { result ≤ 1 }
+    ensures age { age_of server.new ≡ age_of server.old }
+    ensures logs { HasLogged (L.told lobby.old) (L.told lobby.new) }
+    ensures hears { L.listens lobby.new ≡ true }
+    ensures falls { StandOrRise (L.counts lobby.old) (L.counts lobby.new) }
+{
+    if !server.done(k) {
+        return 0;
+    }
+    let count = one_if(is_ours(server.cause(k))) as u64;
+    lobby.close(k);
+    server.forget(k);
+    count
+}
+
+/// Closes each connection that is closed in the server and owed nothing. It answers how many of
+/// these the server had closed itself.
+fn close_all<L: Lobby>(server: &mut Server, lobby: &mut L, connections: &[u32]) -> u64
+    requires listening { L.listens lobby.old ≡ true }
+    ensures closed { (w : World) → Stands server.old w → connections.now ≡ numbers_in w →
+        HasClosed (map LogEntry.Closed (done_in w)) (L.told lobby.old) (L.told lobby.new) w
+        server.new result }
+    ensures age { age_of server.new ≡ age_of server.old }
+    ensures logs { HasLogged (L.told lobby.old) (L.told lobby.new) }
+    ensures hears { L.listens lobby.new ≡ true }
+    ensures falls { StandOrRise (L.counts lobby.old) (L.counts lobby.new) }
+{
+    let mut count = 0;
+    for k in connections {
+        count += close(server, lobby, *k);
+    }
+    count
+}
+
+/// Does a turn: hands what happened to the server, writes to each connection what it is owed, and
+/// closes those that are closed in the server and owed nothing. It answers how many of these the
+/// server had closed itself.
+pub fn take_turn<L: Lobby>(
+    server: &mut Server,
+    lobby: &mut L,
+    input: Input<'_>,
+) -> Result<u64, NoMemory>
+    requires listening { L.listens lobby.old ≡ true }
+    requires young { input ≡ Input.Tick → age_of server.old < 1000000000 }
+    ensures turned { (w : World) (entry : LogEntry) → Stands server.old w →
+        IsInputOf entry input.entry → IfOk result (λ count.
+        HasTurned entry (L.told lobby.old) (L.told lobby.new) w server.new count) }
+    ensures age { OnOk result (age_of server.new ≡ age_after input.entry (age_of server.old)) }
+    ensures logs { HasLogged (L.told lobby.old) (L.told lobby.new) }
+    ensures hears { L.listens lobby.new ≡ true }
+    ensures falls { StandOrRise (L.counts lobby.old) (L.counts lobby.new) }
+{
+    server.event(input)?;
+    let connections = Vec::from_slice(server.allocator(), server.connections())?;
+    send_all(server, lobby, &connections)?;
+    Ok(close_all(server, lobby, &connections))
+}
