@@ -64,7 +64,8 @@ impl<R: Read> Source for ReaderSource<R> {
         ensures given { IfOk result (λ n.
             Consumes (R.remaining self.old.reader) (R.remaining self.new.reader) (take n buf.new)) }
         ensures end { result ≡ Ok 0 → IsAtEnd (R.remaining self.new.reader) }
-        ensures kept { OnErr result (Keeps (R.remaining self.old.reader) (R.remaining self.new.reader)) }
+        ensures kept { OnErr result
+            (Keeps (R.remaining self.old.reader) (R.remaining self.new.reader)) }
     {
         let faults = self.faults;
         let answers = self.answers;

@@ -1,6 +1,6 @@
-//! The program: it collects the words of its command line, takes standard input and standard output
-//! as devices, and ends with the status that `mc_top` answers. It stands on `mc_top` and on the
-//! traits of `mc_wire`.
+//! The program: it collects its arguments, takes standard input and standard output as devices, and
+//! ends with the status that `mc_top` answers. It stands on `mc_top` and on the traits of
+//! `mc_wire`.
 //!
 //! Its contracts are those of its two devices, where a failure raises the device's count and never
 //! passes for an answer, and that of `program`, which is the whole program over any two devices.
@@ -17,9 +17,9 @@ use std::process::ExitCode;
 use std::rt::Env;
 use std::{env, io};
 
-/// The words after the program's name. A word that is not UTF-8 names no command, so there are no
-/// words then.
-fn words<R: Env + AllocGlobal>(rt: &R) -> io::Result<Vec<String>> {
+/// The arguments after the program's name. One that is not UTF-8 names no command, so there are no
+/// arguments then.
+fn arguments<R: Env + AllocGlobal>(rt: &R) -> io::Result<Vec<String>> {
     match env::args(rt) {
         Ok(args) => Ok(args.skip(1).collect(rt.alloc())?),
         Err(error) if error.kind() == io::ErrorKind::InvalidData => Ok(Vec::new(rt.alloc())),
@@ -28,8 +28,8 @@ fn words<R: Env + AllocGlobal>(rt: &R) -> io::Result<Vec<String>> {
 }
 
 fn main(rt: HostRuntime) -> ExitCode {
-    let words = words(&rt);
+    let arguments = arguments(&rt);
     let mut input = ReaderSource::new(rt.reader());
     let mut output = WriterSink::new(io::writer(&rt));
-    ExitCode::from(program(rt.alloc(), words, &mut input, &mut output))
+    ExitCode::from(program(rt.alloc(), arguments, &mut input, &mut output))
 }

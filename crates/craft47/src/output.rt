@@ -6,8 +6,8 @@ use mc_wire::{Failed, Sink};
 use std::io::Write;
 use std::marker::Model;
 
-/// A sink over a writer of the outside, which tells nothing of what it took. A piece that it answers
-/// for has left the writer's buffer.
+/// A sink over a writer of the outside, which tells nothing of what it took. A piece that it
+/// answers for has left the writer's buffer.
 #[derive(Drop)]
 pub struct WriterSink<W> {
     writer: W,

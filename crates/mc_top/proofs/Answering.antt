@@ -1,11 +1,10 @@
 -- A client that answers frames, receives bytes and receives lines, by the exchange that it stands
 -- for.
-use Rattle.std.proofs.Common.{◌≡◌, ℕ, ◌+◌, ◌-◌, ◌^◌, ◌<◌, Bool, true, false, cond, List}
-use Rattle.std.proofs.Common.{[], ◌++◌, length, take, drop, refl, sym, subst, ap, ◌∙◌}
-use Rattle.std.proofs.Common.{append_assoc, arith}
+use Rattle.std.proofs.Common.{◌≡◌, ℕ, ◌+◌, ◌^◌, ◌<◌, Bool, true, false, cond, List, [], ◌++◌}
+use Rattle.std.proofs.Common.{length, take, drop, refl, sym, subst, ap, ◌∙◌, append_assoc, arith}
 use Rattle.std.specs.Prelude.{Option, Some, None, nat_lt, not, ◌&&◌}
 use Rattle.std.specs.List.{fold}
-use Rattle.std.proofs.lemmas.List.{length-append, append-nil, take-append-drop, nil_from_length}
+use Rattle.std.proofs.lemmas.List.{append-nil, take-append-drop, nil_from_length}
 use Rattle.std.proofs.lemmas.List.Sums.{fold-append}
 use lib.IntN.{ℤ, pos}
 use Rattle.mc_nbt.specs.Reading.{IsBytes}
@@ -15,7 +14,6 @@ use Rattle.mc_frame.specs.Cut.{IsPart, Ends}
 use Rattle.mc_frame.specs.Held.{Splitting, nothing_held}
 use Rattle.mc_frame.specs.Splitting.{Feeds, TakesFrame}
 use Rattle.mc_frame.proofs.Stops.{nothing_part}
-use Rattle.mc_frame.proofs.Cuts.{frame_some}
 use Rattle.mc_model.specs.declared.stage.Stage.{Stage}
 use Rattle.mc_model.specs.declared.stage.Stage.TheVariants as stages
 use Rattle.mc_model.specs.World.{found}
@@ -29,14 +27,12 @@ use Rattle.mc_top.specs.declared.client.Client.{Client}
 use Rattle.mc_top.specs.Lines.{goes_past, line_bytes, PutsLine}
 use Rattle.mc_top.specs.StatusText.{Exchange, first_exchange, receives, receives_line}
 use Rattle.mc_top.specs.StatusText.{receives_next, ends_inside}
-use Rattle.mc_top.specs.Received.{exchange, IsOpen, IsAt, Received, is_over, IsIdle}
-use Rattle.mc_top.specs.Received.{IsAsking, said_stage, said_fault, said_lines, SendsPart}
-use Rattle.mc_top.specs.Received.{Answers}
+use Rattle.mc_top.specs.Received.{exchange, IsOpen, IsAt, Received, is_over, IsIdle, IsAsking}
+use Rattle.mc_top.specs.Received.{said_stage, said_fault, said_lines, SendsPart, Answers}
 use Rattle.mc_top.proofs.Cuts.{is_hex, not_hex}
 use Rattle.mc_top.proofs.Exchanges.{ends_at, first_is, bytes_before, asking_open, asking_fine}
 use Rattle.mc_top.proofs.Exchanges.{FitsSaid, call_after, opened, part_received, frame_received}
-use Rattle.mc_top.proofs.Exchanges.{fault_stays, no_frame_received, Begins}
-use Rattle.mc_top.proofs.Exchanges.{received_begins}
+use Rattle.mc_top.proofs.Exchanges.{fault_stays, no_frame_received, Begins, received_begins}
 use Rattle.mc_top.proofs.Inputs.{grows_two}
 use Rattle.mc_top.proofs.Playing.{grows_none}
 use Rattle.mc_top.proofs.Receiving.{said_fits, at_text, open_of, over_stays, part_behind}
@@ -160,11 +156,6 @@ stopped_answer most start held held' old mid payload x small over t part h =
           ∙ ap (λ (l : List ℕ). l ++ begins.0)
           (append_assoc h.wrote old.lines.items (said_lines d)),
     )
-
-pub frame_shorter : (old new : Splitting) (payload : List ℕ) → TakesFrame old payload new →
-    length new.held < length old.held
-frame_shorter old new payload t = let all = ap length t.held in
-    omega (arith, all, frame_some payload t.front t.spelled, length-append t.front new.held)
 
 -- a length that no frame has
 pub received_bad : (most : ℕ) (start held : Option (List ℕ)) (client : Client) (now : Splitting)

@@ -1,5 +1,6 @@
 -- What holds of a run's devices once the last line is written.
-use Rattle.std.proofs.Common.{◌≡◌, ℕ, inl, List, length, take, Option, Some, Result, refl, sym, subst, ap}
+use Rattle.std.proofs.Common.{◌≡◌, ℕ, inl, List, length, take, Option, Some, Result, refl, sym}
+use Rattle.std.proofs.Common.{subst, ap}
 use Rattle.std.specs.Prelude.{IfSome, IsOk, OnOk, OnErr}
 use Rattle.mc_wire.specs.Count.{Rose}
 use Rattle.mc_wire.specs.Stream.{Grows}
@@ -12,33 +13,67 @@ use Rattle.mc_top.specs.Finishing.{Finishes}
 use Rattle.mc_top.proofs.Inputs.{wrote_last}
 
 -- what is known of an input that is told
-pub of_left : (P : List ℕ → Type 0) (left : Option (List ℕ)) (input : List ℕ) → left ≡ Some input → IfSome left P → P input
-of_left P left input is holds = let Q : Option (List ℕ) → Type 0 = λ o. IfSome o P in subst Q is holds
+pub of_left : (P : List ℕ → Type 0) (left : Option (List ℕ)) (input : List ℕ) → left ≡ Some input →
+    IfSome left P → P input
+of_left P left input is holds =
+    let Q : Option (List ℕ) → Type 0 = λ o. IfSome o P in
+    subst Q is holds
 
 -- nothing was written since
-pub still_holds : (P : Option (List ℕ) → Type 0) (held held' : Option (List ℕ)) → held' ≡ held → P held → P held'
+pub still_holds : (P : Option (List ℕ) → Type 0) (held held' : Option (List ℕ)) → held' ≡ held →
+    P held → P held'
 still_holds P held held' same holds = subst P (sym same) holds
 
 pub still_rose : (faults mid faults' : ℕ) → faults' ≡ mid → Rose faults mid → Rose faults faults'
-still_rose faults mid faults' same rose = let P : ℕ → Type 0 = λ n. Rose faults n in subst P (sym same) rose
+still_rose faults mid faults' same rose =
+    let P : ℕ → Type 0 = λ n. Rose faults n in
+    subst P (sym same) rose
 
 -- nothing was written before the last line
-pub only_last : (A : Type 0) (view : A → Option (List ℕ)) (count : A → ℕ) (old mid new : A) (line : List ℕ) → mid ≡ old → WroteLast (view mid) (view new) (count mid) (count new) line → WroteLast (view old) (view new) (count old) (count new) line
-only_last A view count old mid new line same wrote = let P : A → Type 0 = λ a. WroteLast (view a) (view new) (count a) (count new) line in subst P same wrote
+pub only_last : (A : Type 0) (view : A → Option (List ℕ)) (count : A → ℕ) (old mid new : A)
+    (line : List ℕ) → mid ≡ old → WroteLast (view mid) (view new) (count mid) (count new) line →
+    WroteLast (view old) (view new) (count old) (count new) line
+only_last A view count old mid new line same wrote =
+    let P : A → Type 0 = λ a. WroteLast (view a) (view new) (count a) (count new) line in
+    subst P same wrote
 
 -- ---- writing the last line
 
 -- a last line that does not depend on the input was written, or there is none
-pub finishes_fixed : {E : Type 0} (A : Type 0) (view : A → Option (List ℕ)) (count : A → ℕ) (how : Ended) (r : Result (Unit {0}) E) (old new : A) (piece : List ℕ) →
-    ((bad : BadInput) → how ≡ ended.BadInput bad → ⊥) → piece ≡ fixed_line_of how → OnOk r (Grows (view old) (view new) piece) → OnErr r ((n : ℕ) × Grows (view old) (view new) (take n piece)) →
-    OnErr r (Rose (count old) (count new)) → (length piece ≡ 0 → IsOk r × (new ≡ old)) → Finishes how how (view old) (view new) (count old) (count new)
-finishes_fixed A view count ended.Done r old new piece no_bad is whole part failed empty = let same = (empty (ap length is)).1 in (refl, (ap view same, ap count same))
-finishes_fixed A view count ended.NoMemory r old new piece no_bad is whole part failed empty = let same = (empty (ap length is)).1 in (refl, (ap view same, ap count same))
-finishes_fixed A view count ended.Usage r old new piece no_bad is whole part failed empty = (refl, wrote_last r (view old) (view new) (count old) (count new) piece usage_line whole part failed is)
-finishes_fixed A view count ended.ReadFault r old new piece no_bad is whole part failed empty = (refl, wrote_last r (view old) (view new) (count old) (count new) piece read_fault_line whole part failed is)
-finishes_fixed A view count ended.WriteFault r old new piece no_bad is whole part failed empty = let same = (empty (ap length is)).1 in (refl, (ap view same, ap count same))
-finishes_fixed A view count (ended.BadInput bad) r old new piece no_bad is whole part failed empty = absurd (no_bad bad refl)
+pub finishes_fixed : {E : Type 0} (A : Type 0) (view : A → Option (List ℕ))
+    (count : A → ℕ) (how : Ended) (r : Result (Unit {0}) E) (old new : A) (piece : List ℕ) →
+    ((bad : BadInput) → how ≡ ended.BadInput bad → ⊥) →
+    piece ≡ fixed_line_of how → OnOk r (Grows (view old) (view new) piece) →
+    OnErr r ((n : ℕ) × Grows (view old) (view new) (take n piece)) →
+    OnErr r (Rose (count old) (count new)) → (length piece ≡ 0 → IsOk r × (new ≡ old)) →
+    Finishes how how (view old) (view new) (count old) (count new)
+finishes_fixed A view count ended.Done r old new piece no_bad is whole part failed empty =
+    let same = (empty (ap length is)).1 in
+    (refl, (ap view same, ap count same))
+finishes_fixed A view count ended.NoMemory r old new piece no_bad is whole part failed empty =
+    let same = (empty (ap length is)).1 in
+    (refl, (ap view same, ap count same))
+finishes_fixed A view count ended.Usage r old new piece no_bad is whole part failed empty = (
+  refl,
+  wrote_last r (view old) (view new) (count old)
+      (count new) piece usage_line whole part failed is,
+)
+finishes_fixed A view count ended.ReadFault r old new piece no_bad is whole part failed empty = (
+  refl,
+  wrote_last r (view old) (view new) (count old)
+      (count new) piece read_fault_line whole part failed is,
+)
+finishes_fixed A view count ended.WriteFault r old new piece no_bad is whole part failed empty =
+    let same = (empty (ap length is)).1 in
+    (refl, (ap view same, ap count same))
+finishes_fixed A view count (ended.BadInput bad) r old new piece no_bad is whole part failed empty =
+    absurd (no_bad bad refl)
 
 -- the line that names a fault was written
-pub finishes_bad : (how : Ended) (bad : BadInput) (held held' : Option (List ℕ)) (faults faults' : ℕ) → how ≡ ended.BadInput bad → WroteLast held held' faults faults' (bad_input_line bad) → Finishes how (ended.BadInput bad) held held' faults faults'
-finishes_bad how bad held held' faults faults' is wrote = let P : Ended → Type 0 = λ e. Finishes e (ended.BadInput bad) held held' faults faults' in subst P (sym is) (inl (refl, wrote))
+pub finishes_bad : (how : Ended)
+    (bad : BadInput) (held held' : Option (List ℕ)) (faults faults' : ℕ) →
+    how ≡ ended.BadInput bad → WroteLast held held' faults faults' (bad_input_line bad) →
+    Finishes how (ended.BadInput bad) held held' faults faults'
+finishes_bad how bad held held' faults faults' is wrote =
+    let P : Ended → Type 0 = λ e. Finishes e (ended.BadInput bad) held held' faults faults' in
+    subst P (sym is) (inl (refl, wrote))

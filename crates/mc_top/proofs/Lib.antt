@@ -8,7 +8,7 @@ pub mod LongTexts
 pub mod Inputs
 pub mod DigitSteps
 pub mod Scripts
-pub mod WordSteps
+pub mod ArgumentSteps
 pub mod LongLines
 pub mod Taking
 pub mod Playing

@@ -1,7 +1,10 @@
 -- Playing events one after another.
-use Rattle.std.proofs.Common.{◌≡◌, ℕ, suc, ◌+◌, ◌<◌, ◌≤◌, ◌⊎◌, inl, inr, List, [], ◌∷◌, ◌++◌, length, get_or, take, drop, refl, sym, subst, ap, ◌∙◌, append_assoc, arith}
+use Rattle.std.proofs.Common.{◌≡◌, ℕ, suc, ◌+◌, ◌<◌, ◌≤◌, ◌⊎◌, inl, inr, List, [], ◌∷◌, ◌++◌}
+use Rattle.std.proofs.Common.{length, get_or, take, drop, refl, sym, subst, ap, ◌∙◌, append_assoc}
+use Rattle.std.proofs.Common.{arith}
 use Rattle.std.specs.Prelude.{Option, Some, None, replicate}
-use Rattle.std.proofs.lemmas.List.{append-nil, take_all, take-append-le, take-append-drop, take-replicate, replicate_more, take_more}
+use Rattle.std.proofs.lemmas.List.{append-nil, take_all, take-append-le, take-append-drop}
+use Rattle.std.proofs.lemmas.List.{take-replicate, replicate_more, take_more}
 use Rattle.std.proofs.lemmas.List.Sums.{fold-append, sum_by-cons}
 use Rattle.std.proofs.lemmas.Grind.{flat_map-append}
 use Rattle.std.proofs.Math.Seq.{take-append-add, take-append_seam, drop-cons}
@@ -15,14 +18,17 @@ use Rattle.mc_model.proofs.RunOrder.{orderly_run}
 use Rattle.mc_server.specs.Served.{ServerValue}
 use Rattle.mc_server.specs.Stands.{Stands}
 use Rattle.mc_top.specs.declared.script_line.ScriptEvent.{ScriptEvent}
-use Rattle.mc_top.specs.ReplayText.{lines_after, takings, settled, replay_text, line_events, events_of}
-use Rattle.mc_top.specs.Replaying.{IsReached, HasPlayed, HasStopped, replay_world, line_ticks, ticks_of}
+use Rattle.mc_top.specs.ReplayText.{lines_after, takings, settled, replay_text, line_events}
+use Rattle.mc_top.specs.ReplayText.{events_of}
+use Rattle.mc_top.specs.Replaying.{IsReached, HasPlayed, HasStopped, replay_world, line_ticks}
+use Rattle.mc_top.specs.Replaying.{ticks_of}
 use Rattle.mc_top.proofs.Inputs.{grows_two}
 
 -- ---- worlds that come about
 
 pub reached_new : (most cap : ℕ) (terrain : Terrain) → IsReached (new_world most cap terrain)
-reached_new most cap terrain = record { most = most; cap = cap; terrain = terrain; events = []; is = refl }
+reached_new most cap terrain =
+    record { most = most; cap = cap; terrain = terrain; events = []; is = refl }
 
 pub reached_history : (w : World) (events : List Event) → IsReached w → IsReached (history w events)
 reached_history w events r = record {
@@ -30,49 +36,62 @@ reached_history w events r = record {
   cap = r.cap;
   terrain = r.terrain;
   events = r.events ++ events;
-  is = ap (λ (v : World). history v events) r.is ∙ sym (fold-append _ (new_world r.most r.cap r.terrain) r.events events);
+  is = ap (λ (v : World). history v events) r.is
+      ∙ sym (fold-append _ (new_world r.most r.cap r.terrain) r.events events);
 }
 
 pub reached_step : (w : World) (e : Event) → IsReached w → IsReached (step w e).world
 reached_step w e r = reached_history w (e ∷ []) r
 
 pub reached_apart : (w : World) → IsReached w → AreApart w.sessions
-reached_apart w r = let P : World → Type 0 = λ v. AreApart v.sessions in subst P (sym r.is) (orderly_run r.most r.cap r.terrain r.events).apart
+reached_apart w r =
+    let P : World → Type 0 = λ v. AreApart v.sessions in
+    subst P (sym r.is) (orderly_run r.most r.cap r.terrain r.events).apart
 
-pub reached_world : (w : World) (events : List Event) → IsReached w → IsReached (replay_world w events)
+pub reached_world : (w : World) (events : List Event) → IsReached w →
+    IsReached (replay_world w events)
 reached_world w [] r = r
-reached_world w (e ∷ events) r = reached_world (settled (step w e).world) events (reached_history (step w e).world (takings (step w e).world) (reached_step w e r))
+reached_world w (e ∷ events) r = reached_world (settled (step w e).world) events
+    (reached_history (step w e).world (takings (step w e).world) (reached_step w e r))
 
 -- ---- some events and then others
 
-text_more : (w : World) (xs ys : List Event) → replay_text w (xs ++ ys) ≡ replay_text w xs ++ replay_text (replay_world w xs) ys
+text_more : (w : World) (xs ys : List Event) →
+    replay_text w (xs ++ ys) ≡ replay_text w xs ++ replay_text (replay_world w xs) ys
 text_more w [] ys = refl
 text_more w (e ∷ xs) ys =
-    ap (λ (t : List ℕ). lines_after (step w e).world ++ t) (text_more (settled (step w e).world) xs ys)
-    ∙ sym (append_assoc (lines_after (step w e).world) (replay_text (settled (step w e).world) xs) (replay_text (replay_world (settled (step w e).world) xs) ys))
+    ap (λ (t : List ℕ).
+    lines_after (step w e).world ++ t) (text_more (settled (step w e).world) xs ys)
+    ∙ sym (append_assoc (lines_after (step w e).world) (replay_text (settled (step w e).world) xs)
+    (replay_text (replay_world (settled (step w e).world) xs) ys))
 
-world_more : (w : World) (xs ys : List Event) → replay_world w (xs ++ ys) ≡ replay_world (replay_world w xs) ys
+world_more : (w : World) (xs ys : List Event) →
+    replay_world w (xs ++ ys) ≡ replay_world (replay_world w xs) ys
 world_more w [] ys = refl
 world_more w (e ∷ xs) ys = world_more (settled (step w e).world) xs ys
 
-pub played_two : (xs ys : List Event) (w : World) (middle server : ServerValue) (held half held' : Option (List ℕ)) →
-    HasPlayed xs w middle held half → HasPlayed ys (replay_world w xs) server half held' → HasPlayed (xs ++ ys) w server held held'
+pub played_two : (xs ys : List Event) (w : World) (middle server : ServerValue)
+    (held half held' : Option (List ℕ)) → HasPlayed xs w middle held half →
+    HasPlayed ys (replay_world w xs) server half held' → HasPlayed (xs ++ ys) w server held held'
 played_two xs ys w middle server held half held' a b =
     let P : World → Type 0 = λ v. Stands server v in
     let Q : List ℕ → Type 0 = λ t. Grows held held' t in
     record {
       stands = subst P (sym (world_more w xs ys)) b.stands;
-      wrote = subst Q (sym (text_more w xs ys)) (grows_two held half held' (replay_text w xs) (replay_text (replay_world w xs) ys) a.wrote b.wrote);
+      wrote = subst Q (sym (text_more w xs ys)) (grows_two held half held' (replay_text w xs)
+          (replay_text (replay_world w xs) ys) a.wrote b.wrote);
     }
 
-pub stopped_two : (xs ys : List Event) (w : World) (middle : ServerValue) (held half held' : Option (List ℕ)) →
-    HasPlayed xs w middle held half → HasStopped ys (replay_world w xs) half held' → HasStopped (xs ++ ys) w held held'
+pub stopped_two : (xs ys : List Event) (w : World)
+    (middle : ServerValue) (held half held' : Option (List ℕ)) → HasPlayed xs w middle held half →
+    HasStopped ys (replay_world w xs) half held' → HasStopped (xs ++ ys) w held held'
 stopped_two xs ys w middle held half held' a b =
     let Q : List ℕ → Type 0 = λ t. Grows held held' t in
     let more : List ℕ = replay_text (replay_world w xs) ys in
     record {
       len = length (replay_text w xs) + b.len;
-      wrote = subst Q (sym (ap (take (length (replay_text w xs) + b.len)) (text_more w xs ys) ∙ take-append-add (replay_text w xs) more b.len))
+      wrote = subst Q (sym (ap (take (length (replay_text w xs) + b.len)) (text_more w xs ys)
+          ∙ take-append-add (replay_text w xs) more b.len))
           (grows_two held half held' (replay_text w xs) (take b.len more) a.wrote b.wrote);
     }
 
@@ -86,11 +105,15 @@ part_of n text more = elim (cases_le n (length text)) [
     cases_le : (a b : ℕ) → (a ≤ b) ⊎ (b ≤ a)
     cases_le a b = grind arith
 
-pub stopped_before : (xs ys : List Event) (w : World) (held held' : Option (List ℕ)) → HasStopped xs w held held' → HasStopped (xs ++ ys) w held held'
+pub stopped_before : (xs ys : List Event) (w : World) (held held' : Option (List ℕ)) →
+    HasStopped xs w held held' → HasStopped (xs ++ ys) w held held'
 stopped_before xs ys w held held' s =
     let Q : List ℕ → Type 0 = λ t. Grows held held' t in
     let part = part_of s.len (replay_text w xs) (replay_text (replay_world w xs) ys) in
-    record { len = part.0; wrote = subst Q (sym (ap (take part.0) (text_more w xs ys) ∙ part.1)) s.wrote }
+    record {
+      len = part.0;
+      wrote = subst Q (sym (ap (take part.0) (text_more w xs ys) ∙ part.1)) s.wrote;
+    }
 
 -- ---- nothing was written
 
@@ -98,86 +121,118 @@ pub grows_none : (held : Option (List ℕ)) → Grows held held []
 grows_none None = tt
 grows_none (Some xs) = sym (append-nil xs)
 
-pub grows_same : (A : Type 0) (view : A → Option (List ℕ)) (old new : A) → new ≡ old → Grows (view old) (view new) []
-grows_same A view old new is = let P : A → Type 0 = λ a. Grows (view old) (view a) [] in subst P (sym is) (grows_none (view old))
-
-pub played_none : (w : World) (server : ServerValue) (held : Option (List ℕ)) → Stands server w → HasPlayed [] w server held held
-played_none w server held stands = record { stands = stands; wrote = grows_none held }
-
-pub stopped_none : (events : List Event) (w : World) (held : Option (List ℕ)) → HasStopped events w held held
-stopped_none events w held = record { len = 0; wrote = grows_none held }
+pub grows_same : (A : Type 0) (view : A → Option (List ℕ)) (old new : A) → new ≡ old →
+    Grows (view old) (view new) []
+grows_same A view old new is =
+    let P : A → Type 0 = λ a. Grows (view old) (view a) [] in
+    subst P (sym is) (grows_none (view old))
 
 -- ---- one event
 
-pub played_one : (e : Event) (w : World) (server : ServerValue) (held held' : Option (List ℕ)) (text : List ℕ) →
-    Stands server (settled (step w e).world) → text ≡ lines_after (step w e).world → Grows held held' text → HasPlayed (e ∷ []) w server held held'
+pub played_one : (e : Event) (w : World) (server : ServerValue)
+    (held held' : Option (List ℕ)) (text : List ℕ) → Stands server (settled (step w e).world) →
+    text ≡ lines_after (step w e).world → Grows held held' text →
+    HasPlayed (e ∷ []) w server held held'
 played_one e w server held held' text stands is wrote =
     let Q : List ℕ → Type 0 = λ t. Grows held held' t in
-    record { stands = stands; wrote = subst Q (is ∙ sym (append-nil (lines_after (step w e).world))) wrote }
+    record {
+      stands = stands;
+      wrote = subst Q (is ∙ sym (append-nil (lines_after (step w e).world))) wrote;
+    }
 
-pub stopped_one : (e : Event) (w : World) (held held' : Option (List ℕ)) (text : List ℕ) → text ≡ lines_after (step w e).world →
-    (n : ℕ) × Grows held held' (take n text) → HasStopped (e ∷ []) w held held'
+pub stopped_one : (e : Event) (w : World) (held held' : Option (List ℕ)) (text : List ℕ) →
+    text ≡ lines_after (step w e).world → (n : ℕ) × Grows held held' (take n text) →
+    HasStopped (e ∷ []) w held held'
 stopped_one e w held held' text is part =
     let Q : List ℕ → Type 0 = λ t. Grows held held' (take part.0 t) in
-    record { len = part.0; wrote = subst Q (is ∙ sym (append-nil (lines_after (step w e).world))) part.1 }
+    record {
+      len = part.0;
+      wrote = subst Q (is ∙ sym (append-nil (lines_after (step w e).world))) part.1;
+    }
 
 -- ---- ticks
 
 -- one more of them
-ticks_next : (n count : ℕ) → n < count → replicate count ticked ≡ (replicate n ticked ++ ticked ∷ []) ++ drop (n + 1) (replicate count ticked)
+ticks_next : (n count : ℕ) → n < count → replicate count ticked
+    ≡ (replicate n ticked ++ ticked ∷ []) ++ drop (n + 1) (replicate count ticked)
 ticks_next n count less =
     sym (take-append-drop (n + 1) (replicate count ticked))
-    ∙ ap (λ (es : List Event). es ++ drop (n + 1) (replicate count ticked)) (take-replicate (n + 1) count ticked (omega (arith, less)) ∙ sym (replicate_more n ticked))
+    ∙ ap (λ (es : List Event). es ++ drop (n + 1) (replicate count ticked))
+    (take-replicate (n + 1) count ticked (omega (arith, less)) ∙ sym (replicate_more n ticked))
 
-pub ticks_played : (n : ℕ) (w : World) (middle server : ServerValue) (held half held' : Option (List ℕ)) → HasPlayed (replicate n ticked) w middle held half →
-    HasPlayed (ticked ∷ []) (replay_world w (replicate n ticked)) server half held' → HasPlayed (replicate (n + 1) ticked) w server held held'
+pub ticks_played : (n : ℕ) (w : World) (middle server : ServerValue)
+    (held half held' : Option (List ℕ)) → HasPlayed (replicate n ticked) w middle held half →
+    HasPlayed (ticked ∷ []) (replay_world w (replicate n ticked)) server half held' →
+    HasPlayed (replicate (n + 1) ticked) w server held held'
 ticks_played n w middle server held half held' a b =
     let P : List Event → Type 0 = λ es. HasPlayed es w server held held' in
-    subst P (replicate_more n ticked) (played_two (replicate n ticked) (ticked ∷ []) w middle server held half held' a b)
+    subst P (replicate_more n ticked)
+    (played_two (replicate n ticked) (ticked ∷ []) w middle server held half held' a b)
 
-pub ticks_stopped : (n count : ℕ) (w : World) (middle : ServerValue) (held half held' : Option (List ℕ)) → n < count → HasPlayed (replicate n ticked) w middle held half →
-    HasStopped (ticked ∷ []) (replay_world w (replicate n ticked)) half held' → HasStopped (replicate count ticked) w held held'
+pub ticks_stopped : (n count : ℕ) (w : World)
+    (middle : ServerValue) (held half held' : Option (List ℕ)) → n < count →
+    HasPlayed (replicate n ticked) w middle held half →
+    HasStopped (ticked ∷ []) (replay_world w (replicate n ticked)) half held' →
+    HasStopped (replicate count ticked) w held held'
 ticks_stopped n count w middle held half held' less a b =
     let P : List Event → Type 0 = λ es. HasStopped es w held held' in
     subst P (sym (ticks_next n count less))
-    (stopped_before (replicate n ticked ++ ticked ∷ []) (drop (n + 1) (replicate count ticked)) w held held' (stopped_two (replicate n ticked) (ticked ∷ []) w middle held half held' a b))
+    (stopped_before (replicate n ticked ++ ticked ∷ []) (drop (n + 1) (replicate count ticked)) w
+    held held' (stopped_two (replicate n ticked) (ticked ∷ []) w middle held half held' a b))
 
 -- ---- lines
 
 -- one more of them
-lines_next : (events : List ScriptEvent) (i : ℕ) (e : ScriptEvent) → i < length events → e ≡ get_or events i e → events_of (take (i + 1) events) ≡ events_of (take i events) ++ line_events e
+lines_next : (events : List ScriptEvent) (i : ℕ) (e : ScriptEvent) →
+    i < length events → e ≡ get_or events i e →
+    events_of (take (i + 1) events) ≡ events_of (take i events) ++ line_events e
 lines_next events i e within is =
-    ap events_of (take_more events i e within ∙ ap (λ (x : ScriptEvent). take i events ++ x ∷ []) (sym is))
+    ap events_of (take_more events i e within
+    ∙ ap (λ (x : ScriptEvent). take i events ++ x ∷ []) (sym is))
     ∙ flat_map-append line_events (take i events) (e ∷ [])
     ∙ ap (λ (es : List Event). events_of (take i events) ++ es) (append-nil (line_events e))
 
-lines_before : (events : List ScriptEvent) (i : ℕ) → events_of events ≡ events_of (take i events) ++ events_of (drop i events)
-lines_before events i = ap events_of (sym (take-append-drop i events)) ∙ flat_map-append line_events (take i events) (drop i events)
+lines_before : (events : List ScriptEvent) (i : ℕ) →
+    events_of events ≡ events_of (take i events) ++ events_of (drop i events)
+lines_before events i = ap events_of (sym (take-append-drop i events))
+    ∙ flat_map-append line_events (take i events) (drop i events)
 
-pub lines_played : (events : List ScriptEvent) (i : ℕ) (e : ScriptEvent) (w : World) (middle server : ServerValue) (held half held' : Option (List ℕ)) → i < length events → e ≡ get_or events i e →
-    HasPlayed (events_of (take i events)) w middle held half → HasPlayed (line_events e) (replay_world w (events_of (take i events))) server half held' →
+pub lines_played : (events : List ScriptEvent) (i : ℕ) (e : ScriptEvent) (w : World)
+    (middle server : ServerValue) (held half held' : Option (List ℕ)) → i < length events →
+    e ≡ get_or events i e → HasPlayed (events_of (take i events)) w middle held half →
+    HasPlayed (line_events e) (replay_world w (events_of (take i events))) server half held' →
     HasPlayed (events_of (take (i + 1) events)) w server held held'
 lines_played events i e w middle server held half held' within is a b =
     let P : List Event → Type 0 = λ es. HasPlayed es w server held held' in
-    subst P (sym (lines_next events i e within is)) (played_two (events_of (take i events)) (line_events e) w middle server held half held' a b)
+    subst P (sym (lines_next events i e within is))
+    (played_two (events_of (take i events)) (line_events e) w middle server held half held' a b)
 
-pub lines_stopped : (events : List ScriptEvent) (i : ℕ) (e : ScriptEvent) (w : World) (middle : ServerValue) (held half held' : Option (List ℕ)) → i < length events → e ≡ get_or events i e →
-    HasPlayed (events_of (take i events)) w middle held half → HasStopped (line_events e) (replay_world w (events_of (take i events))) half held' →
+pub lines_stopped : (events : List ScriptEvent) (i : ℕ) (e : ScriptEvent)
+    (w : World) (middle : ServerValue) (held half held' : Option (List ℕ)) → i < length events →
+    e ≡ get_or events i e → HasPlayed (events_of (take i events)) w middle held half →
+    HasStopped (line_events e) (replay_world w (events_of (take i events))) half held' →
     HasStopped (events_of events) w held held'
 lines_stopped events i e w middle held half held' within is a b =
     let P : List Event → Type 0 = λ es. HasStopped es w held held' in
     let first : HasStopped (events_of (take (i + 1) events)) w held held' =
-    subst P (sym (lines_next events i e within is)) (stopped_two (events_of (take i events)) (line_events e) w middle held half held' a b) in
-    subst P (sym (lines_before events (i + 1))) (stopped_before (events_of (take (i + 1) events)) (events_of (drop (i + 1) events)) w held held' first)
+    subst P (sym (lines_next events i e within is))
+    (stopped_two (events_of (take i events)) (line_events e) w middle held half held' a b) in
+    subst P (sym (lines_before events (i + 1))) (stopped_before (events_of (take (i + 1) events))
+    (events_of (drop (i + 1) events)) w held held' first)
 
-pub lines_done : (events : List ScriptEvent) (i : ℕ) (w : World) (server : ServerValue) (held held' : Option (List ℕ)) → length events ≤ i →
-    HasPlayed (events_of (take i events)) w server held held' → HasPlayed (events_of events) w server held held'
+pub lines_done : (events : List ScriptEvent) (i : ℕ)
+    (w : World) (server : ServerValue) (held held' : Option (List ℕ)) →
+    length events ≤ i → HasPlayed (events_of (take i events)) w server held held' →
+    HasPlayed (events_of events) w server held held'
 lines_done events i w server held held' all a =
     let P : List ScriptEvent → Type 0 = λ es. HasPlayed (events_of es) w server held held' in
     subst P (take_all i events all) a
 
 -- the ticks that are left, by the next line
-pub ticks_left : (events : List ScriptEvent) (i : ℕ) (e : ScriptEvent) → i < length events → e ≡ get_or events i e → ticks_of (drop i events) ≡ line_ticks e + ticks_of (drop (i + 1) events)
+pub ticks_left : (events : List ScriptEvent) (i : ℕ) (e : ScriptEvent) → i < length events →
+    e ≡ get_or events i e → ticks_of (drop i events) ≡ line_ticks e + ticks_of (drop (i + 1) events)
 ticks_left events i e within is =
     let one : suc i ≡ i + 1 = omega arith in
-    ap ticks_of (drop-cons events i e within ∙ ap (λ (x : ScriptEvent). x ∷ drop (suc i) events) (sym is) ∙ ap (λ (j : ℕ). e ∷ drop j events) one) ∙ sum_by-cons line_ticks e (drop (i + 1) events)
+    ap ticks_of (drop-cons events i e within ∙ ap (λ (x : ScriptEvent). x ∷ drop (suc i) events)
+    (sym is) ∙ ap (λ (j : ℕ). e ∷ drop j events) one)
+    ∙ sum_by-cons line_ticks e (drop (i + 1) events)

@@ -1,5 +1,5 @@
 -- What a client stands for whose bytes are taken frame by frame, at each of its calls.
-use Rattle.std.proofs.Common.{◌≡◌, ℕ, ◌+◌, ◌-◌, ◌^◌, ◌<◌, ◌≤◌, ◌⊎◌, inl, inr, Bool, true}
+use Rattle.std.proofs.Common.{◌≡◌, ℕ, ◌+◌, ◌^◌, ◌<◌, ◌≤◌, ◌⊎◌, inl, inr, Bool, true}
 use Rattle.std.proofs.Common.{false, cond, List, [], ◌∷◌, ◌++◌, length, take, Result, Ok, Err}
 use Rattle.std.proofs.Common.{refl, sym, subst, ap, ◌∙◌, append_assoc, arith}
 use Rattle.std.specs.Prelude.{Option, Some, None, ◌==◌}
@@ -13,7 +13,6 @@ use Rattle.mc_fields.specs.Row.{packet_read, packet_of}
 use Rattle.mc_fields.specs.Varint.{varint_spelling, groups_spelling}
 use Rattle.mc_frame.specs.Frame.{IsPayload, frame_spelling}
 use Rattle.mc_frame.specs.Kept.{outbox_max}
-use Rattle.mc_frame.specs.Held.{Splitting}
 use Rattle.mc_up.specs.declared.handshake.Hand.{Hand}
 use Rattle.mc_up.specs.declared.handshake.Hand.TheVariants.{Handshake}
 use Rattle.mc_up.specs.declared.status_up.StatusUp.{StatusUp}
@@ -34,21 +33,17 @@ use Rattle.mc_model.specs.Talk.{ClientRequest, nothing, greets, replies, ends, e
 use Rattle.mc_model.specs.Talk.{wanted, in_hand, in_status, request_of}
 use Rattle.mc_model.proofs.FitsSize.{varint_size}
 use Rattle.mc_model.proofs.FitsTalk.{response_clear}
-use Rattle.mc_session.specs.declared.step.Step.TheVariants.{Nothing, Reply, ReplyClose, Enter, Act}
-use Rattle.mc_session.specs.declared.step.Step.TheVariants.{Close}
+use Rattle.mc_session.specs.declared.step.Step.TheVariants.{Reply, ReplyClose, Enter, Act}
 use Rattle.mc_session.specs.State.{State}
-use Rattle.mc_session.specs.Answers.{step_of, next_of}
+use Rattle.mc_session.specs.Answers.{step_of}
 use Rattle.mc_session.proofs.Status.{status_short}
 use Rattle.mc_top.specs.declared.bad_input.InputFault.{InputFault}
-use Rattle.mc_top.specs.declared.bad_input.InputFault.TheVariants as faults
 use Rattle.mc_top.specs.declared.client.Client.{Client}
 use Rattle.mc_top.specs.StatusText.{Exchange, hex_line, receives}
-use Rattle.mc_top.specs.Received.{IsOpen, IsAt, Received, is_over}
-use Rattle.mc_top.specs.Received.{IsAsking, stage_fault, said_stage, said_fault, said_lines, Sends}
-use Rattle.mc_top.specs.Received.{SendsPart}
-use Rattle.mc_top.proofs.Exchanges.{IsWanted, FitsSaid}
-use Rattle.mc_top.proofs.Exchanges.{fault_stays, done_stays}
-use Rattle.mc_top.proofs.Exchanges.{Begins, received_begins}
+use Rattle.mc_top.specs.Received.{IsOpen, IsAt, Received, is_over, IsAsking, said_fault, said_lines}
+use Rattle.mc_top.specs.Received.{Sends, SendsPart}
+use Rattle.mc_top.proofs.Exchanges.{IsWanted, FitsSaid, fault_stays, done_stays, Begins}
+use Rattle.mc_top.proofs.Exchanges.{received_begins}
 use Rattle.mc_top.proofs.Inputs.{grows_two}
 use Rattle.mc_top.proofs.Playing.{grows_none}
 
@@ -112,31 +107,6 @@ said_fits other most frame small asks = absurd asks
 
 -- ---- what a session answers to it
 
-pub next_stage : (st : State) (d : ClientRequest) → FitsSaid d →
-    (next_of st d).stage ≡ said_stage st.stage d
-next_stage st nothing fits = refl
-next_stage st (greets protocol stage) fits = refl
-next_stage st (replies packet) fits = refl
-next_stage st (ends packet) fits = refl
-next_stage st (enters name) fits = absurd fits
-next_stage st (acts packet) fits = absurd fits
-next_stage st (wrong fault) fits = refl
-
-asking_no_fault : (stage : Stage) → IsAsking stage → stage_fault stage ≡ None
-asking_no_fault stages.Hand asks = refl
-asking_no_fault stages.Status asks = refl
-asking_no_fault other asks = absurd asks
-
-pub nothing_said : (st : State) (d : ClientRequest) → IsAsking st.stage → Nothing ≡ step_of st d →
-    (said_lines d ≡ []) × (stage_fault (next_of st d).stage ≡ said_fault d)
-nothing_said st nothing asks e = (refl, asking_no_fault st.stage asks)
-nothing_said st (greets protocol stage) asks e = (refl, refl)
-nothing_said st (replies packet) asks e = absurd cc
-nothing_said st (ends packet) asks e = absurd cc
-nothing_said st (enters name) asks e = absurd cc
-nothing_said st (acts packet) asks e = absurd cc
-nothing_said st (wrong fault) asks e = absurd cc
-
 pub reply_said : (st : State) (d : ClientRequest) (frame : List ℕ) → Reply frame ≡ step_of st d →
     (said_lines d ≡ hex_line frame) × (said_fault d ≡ None)
 reply_said st nothing frame e = absurd cc
@@ -159,16 +129,6 @@ end_said st (enters name) frame cause e = absurd cc
 end_said st (acts packet) frame cause e = absurd cc
 end_said st (wrong fault) frame cause e = absurd cc
 
-pub close_said : (st : State) (d : ClientRequest) (cause : Cause) → Close cause ≡ step_of st d →
-    (said_lines d ≡ []) × (said_fault d ≡ Some faults.Packet)
-close_said st nothing cause e = absurd cc
-close_said st (greets protocol stage) cause e = absurd cc
-close_said st (replies packet) cause e = absurd cc
-close_said st (ends packet) cause e = absurd cc
-close_said st (enters name) cause e = absurd cc
-close_said st (acts packet) cause e = absurd cc
-close_said st (wrong fault) cause e = (refl, refl)
-
 pub no_enter : (st : State) (d : ClientRequest) (name : List ℕ) (protocol : ℤ) → FitsSaid d →
     Enter name protocol ≡ step_of st d → ⊥
 no_enter st nothing name protocol fits e = cc
@@ -190,10 +150,6 @@ no_act st (acts packet') packet fits e = fits
 no_act st (wrong fault) packet fits e = cc
 
 -- ---- what is written
-
--- nothing is written, and nothing waits that did not
-pub sends_none : (held : Option (List ℕ)) (lines : List ℕ) → Sends held held lines lines []
-sends_none held lines = record { wrote = []; grows = grows_none held; parts = append-nil lines }
 
 -- some first part of what is behind a text that was written
 pub part_behind : (start held held' : Option (List ℕ)) (wrote bytes all : List ℕ) →
@@ -242,28 +198,6 @@ pub part_begins : (start held : Option (List ℕ)) (some all : List ℕ) → Sen
 part_begins start held some all part begins =
     part_behind start start held [] some all (grows_none start) part begins
 
--- what waits is written behind what was
-pub sends_behind : (held middle held' : Option (List ℕ)) (old half new first second : List ℕ) →
-    Sends held middle old half first → Sends middle held' half new second →
-    Sends held held' old new (first ++ second)
-sends_behind held middle held' old half new first second a b = record {
-  wrote = a.wrote ++ b.wrote;
-  grows = grows_two held middle held' a.wrote b.wrote a.grows b.grows;
-  parts = sym (append_assoc old first second) ∙ ap (λ (t : List ℕ). t ++ second) a.parts
-      ∙ append_assoc a.wrote half second ∙ ap (λ (t : List ℕ). a.wrote ++ t) b.parts
-      ∙ sym (append_assoc a.wrote b.wrote new);
-}
-
-pub sends_part : (held middle held' : Option (List ℕ)) (old half first second : List ℕ) →
-    Sends held middle old half first → SendsPart middle held' (half ++ second) →
-    SendsPart held held' (old ++ (first ++ second))
-sends_part held middle held' old half first second a part =
-    part_behind held middle held' a.wrote (half ++ second) (old ++ (first ++ second)) a.grows part (
-      [],
-      sym (append_assoc old first second) ∙ ap (λ (t : List ℕ). t ++ second) a.parts
-          ∙ append_assoc a.wrote half second ∙ sym (append-nil (a.wrote ++ (half ++ second))),
-    )
-
 -- ---- what a client stands for
 
 -- an exchange between frames has just the lines that were written and that wait
@@ -284,16 +218,6 @@ open_of most None stages.Hand text x over a = (tt, a)
 open_of most None stages.Status text x over a = (tt, a)
 open_of most None stages.Closed text x over a = absurd cc
 open_of most None other text x over a = absurd a
-
-pub open_asks : (fault : Option InputFault) (stage : Stage) → is_over fault stage ≡ false →
-    IsAsking stage × (fault ≡ None)
-open_asks (Some kind) stage over = absurd cc
-open_asks None stages.Hand over = (tt, refl)
-open_asks None stages.Status over = (tt, refl)
-open_asks None stages.Login over = absurd cc
-open_asks None stages.Asked over = absurd cc
-open_asks None stages.Play over = absurd cc
-open_asks None stages.Closed over = absurd cc
 
 -- one that is over receives nothing
 pub over_stays : (most : ℕ) (fault : Option InputFault) (stage : Stage) (text : List ℕ)
@@ -321,38 +245,14 @@ received_part most start held client x h =
           ∙ append_assoc h.wrote client.lines.items begins.0,
     )
 
--- the splitter is as it was
-pub received_same : (most : ℕ) (start held : Option (List ℕ)) (client : Client) (now : Splitting)
-    (x : Exchange) → now ≡ client.splitter → Received most start held client x →
-    Received most start held (record client { splitter = now }) x
-received_same most start held client now x same h = let P : Splitting → Type 0 =
-    λ s. Received most start held (record client { splitter = s }) x in subst P (sym same) h
-
 -- ---- lines that are put behind others
 
--- all that waited was written
-pub sends_all : (held held' : Option (List ℕ)) (old new : List ℕ) → Grows held held' old →
-    new ≡ [] → Sends held held' old new []
-sends_all held held' old new grows none =
-    record { wrote = old; grows = grows; parts = ap (λ (t : List ℕ). old ++ t) (sym none) }
-
--- a line was put behind what waits
-pub sends_line : (held held' : Option (List ℕ)) (old half new line : List ℕ) →
-    Sends held held' old half [] → new ≡ half ++ line → Sends held held' old new line
-sends_line held held' old half new line s is = record {
-  wrote = s.wrote;
-  grows = s.grows;
-  parts = ap (λ (t : List ℕ). t ++ line) (sym (append-nil old) ∙ s.parts)
-      ∙ append_assoc s.wrote half line ∙ ap (λ (t : List ℕ). s.wrote ++ t) (sym is);
-}
-
--- or it was not
+-- there was room made for a line, and it was not put behind what waits
 pub sends_begun : (held held' : Option (List ℕ)) (old half line : List ℕ) →
     Sends held held' old half [] → SendsPart held held' (old ++ line)
 sends_begun held held' old half line s =
     nothing_sent held held' s.wrote (old ++ line) s.grows (
-      half
-          ++ line,
+      half ++ line,
       ap (λ (t : List ℕ). t ++ line) (sym (append-nil old) ∙ s.parts)
           ∙ append_assoc s.wrote half line,
     )

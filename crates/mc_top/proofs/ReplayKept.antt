@@ -1,78 +1,107 @@
 -- The promise of `replay`, from what its function says and from its last line.
-use Rattle.std.proofs.Common.{◌≡◌, ℕ, ◌⊎◌, inl, inr, List, Option, Some, Ok, Err, sym, subst, ◌∙◌, refl}
+use Rattle.std.proofs.Common.{◌≡◌, ℕ, ◌⊎◌, inl, inr, List, Option, Some, Ok, Err, sym, subst, ◌∙◌}
+use Rattle.std.proofs.Common.{refl}
 use Rattle.mc_wire.specs.Count.{Rose}
 use Rattle.mc_top.specs.declared.bad_input.BadInput.{BadInput}
 use Rattle.mc_top.specs.declared.ended.Ended.{Ended}
 use Rattle.mc_top.specs.declared.ended.Ended.TheVariants as ended
 use Rattle.mc_top.specs.declared.script_line.ScriptEvent.{ScriptEvent}
-use Rattle.mc_top.specs.declared.words.Options.{Options}
+use Rattle.mc_top.specs.declared.arguments.Options.{Options}
 use Rattle.mc_top.specs.Devices.{Devices, devices}
 use Rattle.mc_top.specs.Ended.{status_of, read_fault_line, bad_input_line}
 use Rattle.mc_top.specs.Finishing.{Finishes}
 use Rattle.mc_top.specs.Script.{script_of}
-use Rattle.mc_top.specs.ReplayPromise.{IsScriptOf, IsFaultOf, FoundFault, Replayed, ReplayedPart, ReplayedPartOrNothing, ReplayPromise}
+use Rattle.mc_top.specs.ReplayPromise.{IsScriptOf, IsFaultOf, FoundFault, Replayed, ReplayedPart}
+use Rattle.mc_top.specs.ReplayPromise.{ReplayedPartOrNothing, ReplayPromise}
 use Rattle.mc_top.proofs.Finishes.{of_left, still_holds, still_rose, only_last}
 use Rattle.mc_top.proofs.Playing.{grows_same}
 
 -- what `replay` says of how it ended
-pub record ReplayEnded (A : Type 0) (view : A → Option (List ℕ)) (count : A → ℕ) (options : Options) (how : Ended)
+pub record ReplayEnded (A : Type 0) (view : A → Option (List ℕ)) (count : A → ℕ) (options : Options)
+    (how : Ended)
     (left left' : Option (List ℕ)) (reads reads' : ℕ) (old mid : A) : Type 0 where
   pub done : how ≡ ended.Done → Replayed options left left' (view old) (view mid)
   pub no_memory : how ≡ ended.NoMemory → ReplayedPartOrNothing options left (view old) (view mid)
   pub usage : ¬ (how ≡ ended.Usage)
   pub read_fault : how ≡ ended.ReadFault → Rose reads reads' × (mid ≡ old)
-  pub write_fault : how ≡ ended.WriteFault → Rose (count old) (count mid) × ReplayedPart options left (view old) (view mid)
-  pub bad_input : (bad : BadInput) → how ≡ ended.BadInput bad → FoundFault bad left left' × (mid ≡ old)
+  pub write_fault : how ≡ ended.WriteFault →
+      Rose (count old) (count mid) × ReplayedPart options left (view old) (view mid)
+  pub bad_input : (bad : BadInput) → how ≡ ended.BadInput bad →
+      FoundFault bad left left' × (mid ≡ old)
 
 -- the promise holds once the last line is written
-pub replay_kept : (A : Type 0) (view : A → Option (List ℕ)) (count : A → ℕ) (options : Options) (how result : Ended)
-    (left left' : Option (List ℕ)) (reads reads' : ℕ) (old mid new : A) →
+pub replay_kept : (A : Type 0) (view : A → Option (List ℕ)) (count : A → ℕ) (options : Options)
+    (how result : Ended) (left left' : Option (List ℕ)) (reads reads' : ℕ) (old mid new : A) →
     ReplayEnded A view count options how left left' reads reads' old mid →
-    Finishes how result (view mid) (view new) (count mid) (count new) →
-    ReplayPromise options result (devices left reads (view old) (count old)) (devices left' reads' (view new) (count new))
-replay_kept A view count options ended.Done result left left' reads reads' old mid new s f =
-    let P : Ended → Type 0 = λ r. ReplayPromise options r (devices left reads (view old) (count old)) (devices left' reads' (view new) (count new)) in
-    subst P (sym f.0) (still_holds (λ h. Replayed options left left' (view old) h) (view mid) (view new) f.1.0 (s.done refl))
-replay_kept A view count options ended.NoMemory result left left' reads reads' old mid new s f =
-    let P : Ended → Type 0 = λ r. ReplayPromise options r (devices left reads (view old) (count old)) (devices left' reads' (view new) (count new)) in
-    subst P (sym f.0) (still_holds (λ h. ReplayedPartOrNothing options left (view old) h) (view mid) (view new) f.1.0 (s.no_memory refl))
-replay_kept A view count options ended.Usage result left left' reads reads' old mid new s f = absurd (s.usage refl)
-replay_kept A view count options ended.ReadFault result left left' reads reads' old mid new s f =
-    let P : Ended → Type 0 = λ r. ReplayPromise options r (devices left reads (view old) (count old)) (devices left' reads' (view new) (count new)) in
-    subst P (sym f.0) ((s.read_fault refl).0, only_last A view count old mid new read_fault_line (s.read_fault refl).1 f.1)
-replay_kept A view count options ended.WriteFault result left left' reads reads' old mid new s f =
-    let P : Ended → Type 0 = λ r. ReplayPromise options r (devices left reads (view old) (count old)) (devices left' reads' (view new) (count new)) in
-    subst P (sym f.0) (
-      still_rose (count old) (count mid) (count new) f.1.1 (s.write_fault refl).0,
-      still_holds (λ h. ReplayedPart options left (view old) h) (view mid) (view new) f.1.0 (s.write_fault refl).1,
-    )
-replay_kept A view count options (ended.BadInput bad) result left left' reads reads' old mid new s (inl f) =
-    let P : Ended → Type 0 = λ r. ReplayPromise options r (devices left reads (view old) (count old)) (devices left' reads' (view new) (count new)) in
-    let found = s.bad_input bad refl in
-    subst P (sym f.0) (record { found = found.0; wrote = only_last A view count old mid new (bad_input_line bad) found.1 f.1 })
-replay_kept A view count options (ended.BadInput bad) result left left' reads reads' old mid new s (inr f) =
-    let P : Ended → Type 0 = λ r. ReplayPromise options r (devices left reads (view old) (count old)) (devices left' reads' (view new) (count new)) in
-    subst P (sym f.0) (still_holds (λ h. ReplayedPartOrNothing options left (view old) h) (view mid) (view new) f.1.0 (inl (grows_same A view old mid (s.bad_input bad refl).1)))
+    Finishes how result (view mid) (view new) (count mid) (count new) → ReplayPromise options result
+    (devices left reads (view old) (count old)) (devices left' reads' (view new) (count new))
+replay_kept A view count options how result left left' reads reads' old mid new s f = kept how s f
+  where
+    P : Ended → Type 0
+    P e = ReplayPromise options e (devices left reads (view old) (count old))
+        (devices left' reads' (view new) (count new))
 
-script_or_fault : (events : List ScriptEvent) (bad : BadInput) (input : List ℕ) → script_of input ≡ Ok events → script_of input ≡ Err bad → ⊥
+    kept : (e : Ended) → ReplayEnded A view count options e left left' reads reads' old mid →
+        Finishes e result (view mid) (view new) (count mid) (count new) → P result
+    kept ended.Done said last = subst P (sym last.0)
+        (still_holds (λ h. Replayed options left left' (view old) h) (view mid) (view new) last.1.0
+        (said.done refl))
+    kept ended.NoMemory said last = subst P (sym last.0)
+        (still_holds (λ h. ReplayedPartOrNothing options left (view old) h) (view mid) (view new)
+        last.1.0 (said.no_memory refl))
+    kept ended.Usage said last = absurd (said.usage refl)
+    kept ended.ReadFault said last = let fault = said.read_fault refl in
+        subst P (sym last.0)
+        (fault.0, only_last A view count old mid new read_fault_line fault.1 last.1)
+    kept ended.WriteFault said last = let fault = said.write_fault refl in
+        subst P (sym last.0) (
+          still_rose (count old) (count mid) (count new) last.1.1 fault.0,
+          still_holds (λ h. ReplayedPart options left (view old) h) (view mid) (view new) last.1.0
+              fault.1,
+        )
+    kept (ended.BadInput bad) said (inl last) = let found = said.bad_input bad refl in
+        subst P (sym last.0) (record {
+          found = found.0;
+          wrote = only_last A view count old mid new (bad_input_line bad) found.1 last.1;
+        })
+    kept (ended.BadInput bad) said (inr last) = subst P (sym last.0)
+        (still_holds (λ h. ReplayedPartOrNothing options left (view old) h) (view mid) (view new)
+        last.1.0 (inl (grows_same A view old mid (said.bad_input bad refl).1)))
+
+script_or_fault : (events : List ScriptEvent) (bad : BadInput) (input : List ℕ) →
+    script_of input ≡ Ok events → script_of input ≡ Err bad → ⊥
 script_or_fault events bad input is also = let clash : Ok events ≡ Err bad = sym is ∙ also in cc
 
 -- a script is served, unless memory runs out or a device fails
-pub replay_served : (options : Options) (how : Ended) (before after : Devices) (events : List ScriptEvent) (input : List ℕ) → ReplayPromise options how before after → before.left ≡ Some input → IsScriptOf events input →
-    ¬ Rose before.read_faults after.read_faults → ¬ Rose before.write_faults after.write_faults → (how ≡ ended.Done) ⊎ (how ≡ ended.NoMemory)
+pub replay_served : (options : Options)
+    (how : Ended) (before after : Devices) (events : List ScriptEvent) (input : List ℕ) →
+    ReplayPromise options how before after → before.left ≡ Some input → IsScriptOf events input →
+    ¬ Rose before.read_faults after.read_faults → ¬ Rose before.write_faults after.write_faults →
+    (how ≡ ended.Done) ⊎ (how ≡ ended.NoMemory)
 replay_served options ended.Done before after events input p is script reads writes = inl refl
 replay_served options ended.NoMemory before after events input p is script reads writes = inr refl
 replay_served options ended.Usage before after events input p is script reads writes = absurd p
-replay_served options ended.ReadFault before after events input p is script reads writes = absurd (reads p.0)
-replay_served options ended.WriteFault before after events input p is script reads writes = absurd (writes p.0)
-replay_served options (ended.BadInput bad) before after events input p is script reads writes = absurd (script_or_fault events bad input script (of_left (IsFaultOf bad) before.left input is p.found.first))
+replay_served options ended.ReadFault before after events input p is script reads writes =
+    absurd (reads p.0)
+replay_served options ended.WriteFault before after events input p is script reads writes =
+    absurd (writes p.0)
+replay_served options (ended.BadInput bad) before after events input p is script reads writes =
+    absurd (script_or_fault events bad input script
+    (of_left (IsFaultOf bad) before.left input is p.found.first))
 
 -- and what is none is refused
-pub replay_refused : (options : Options) (how : Ended) (before after : Devices) (bad : BadInput) (input : List ℕ) → ReplayPromise options how before after → before.left ≡ Some input → IsFaultOf bad input →
-    ¬ Rose before.read_faults after.read_faults → ¬ Rose before.write_faults after.write_faults → (status_of how ≡ 6) ⊎ (status_of how ≡ 1)
-replay_refused options ended.Done before after bad input p is wrong reads writes = absurd (script_or_fault p.events bad input (of_left (IsScriptOf p.events) before.left input is p.script) wrong)
+pub replay_refused : (options : Options) (how : Ended) (before after : Devices) (bad : BadInput)
+    (input : List ℕ) → ReplayPromise options how before after →
+    before.left ≡ Some input → IsFaultOf bad input → ¬ Rose before.read_faults after.read_faults →
+    ¬ Rose before.write_faults after.write_faults → (status_of how ≡ 6) ⊎ (status_of how ≡ 1)
+replay_refused options ended.Done before after bad input p is wrong reads writes =
+    absurd (script_or_fault p.events bad input
+    (of_left (IsScriptOf p.events) before.left input is p.script) wrong)
 replay_refused options ended.NoMemory before after bad input p is wrong reads writes = inr refl
 replay_refused options ended.Usage before after bad input p is wrong reads writes = absurd p
-replay_refused options ended.ReadFault before after bad input p is wrong reads writes = absurd (reads p.0)
-replay_refused options ended.WriteFault before after bad input p is wrong reads writes = absurd (writes p.0)
-replay_refused options (ended.BadInput other) before after bad input p is wrong reads writes = inl refl
+replay_refused options ended.ReadFault before after bad input p is wrong reads writes =
+    absurd (reads p.0)
+replay_refused options ended.WriteFault before after bad input p is wrong reads writes =
+    absurd (writes p.0)
+replay_refused options (ended.BadInput other) before after bad input p is wrong reads writes =
+    inl refl

@@ -7,7 +7,7 @@ use Rattle.mc_model.proofs.Whole.{headline}
 use Rattle.mc_top.specs.declared.bad_input.BadInput.{BadInput}
 use Rattle.mc_top.specs.declared.ended.Ended.TheVariants as ended
 use Rattle.mc_top.specs.declared.script_line.ScriptEvent.{ScriptEvent}
-use Rattle.mc_top.specs.declared.words.Options.{Options}
+use Rattle.mc_top.specs.declared.arguments.Options.{Options}
 use Rattle.mc_top.specs.Script.{script_of}
 use Rattle.mc_top.specs.ReplayText.{events_of, replay_text, replay_log}
 use Rattle.mc_top.specs.Replaying.{HasStopped}
@@ -19,24 +19,33 @@ use Rattle.mc_top.proofs.ScriptFacts.{script_bytes}
 use Rattle.mc_top.proofs.Sent.{told_taken}
 
 -- what happens in a script keeps the whole promise about a run
-whole_promise : (options : Options) (bytes : List ℕ) (events : List ScriptEvent) → AreSettings options.players options.view → script_of bytes ≡ Ok events →
-    Headline options.players options.view options.terrain (replay_log (world_of options) (events_of events))
+whole_promise : (options : Options) (bytes : List ℕ) (events : List ScriptEvent) →
+    AreSettings options.players options.view →
+    script_of bytes ≡ Ok events → Headline options.players options.view options.terrain
+    (replay_log (world_of options) (events_of events))
 whole_promise options bytes events settings is =
-    headline options.players options.view options.terrain (replay_log (world_of options) (events_of events)) settings (script_bytes (world_of options) bytes events is)
+    headline options.players options.view options.terrain (replay_log (world_of options)
+    (events_of events)) settings (script_bytes (world_of options) bytes events is)
 
-pub replayed : (options : Options) (left left' held held' : Option (List ℕ)) (bytes : List ℕ) (events : List ScriptEvent) → AreSettings options.players options.view →
-    ReadsText left left' bytes → script_of bytes ≡ Ok events → Grows held held' (replay_text (world_of options) (events_of events)) → Replayed options left left' held held'
+pub replayed : (options : Options) (left left' held held' : Option (List ℕ))
+    (bytes : List ℕ) (events : List ScriptEvent) → AreSettings options.players options.view →
+    ReadsText left left' bytes → script_of bytes ≡ Ok events →
+    Grows held held' (replay_text (world_of options) (events_of events)) →
+    Replayed options left left' held held'
 replayed options left left' held held' bytes events settings read is wrote = record {
   events = events;
   script = of_read script_of (λ r. r ≡ Ok events) left left' bytes script_front read is;
   ended = whole_read left left' bytes read (λ long. long_no_script bytes events long is);
   wrote = wrote;
   promise = whole_promise options bytes events settings is;
-  sent = λ k. told_taken options.players options.view options.terrain events k (whole_promise options bytes events settings is);
+  sent = λ k. told_taken options.players options.view options.terrain events k
+      (whole_promise options bytes events settings is);
 }
 
-pub replayed_part : (options : Options) (left left' held held' : Option (List ℕ)) (bytes : List ℕ) (events : List ScriptEvent) →
-    ReadsText left left' bytes → script_of bytes ≡ Ok events → HasStopped (events_of events) (world_of options) held held' → ReplayedPart options left held held'
+pub replayed_part : (options : Options) (left left' held held' : Option (List ℕ))
+    (bytes : List ℕ) (events : List ScriptEvent) → ReadsText left left' bytes →
+    script_of bytes ≡ Ok events → HasStopped (events_of events) (world_of options) held held' →
+    ReplayedPart options left held held'
 replayed_part options left left' held held' bytes events read is stopped = record {
   events = events;
   script = of_read script_of (λ r. r ≡ Ok events) left left' bytes script_front read is;
@@ -48,7 +57,8 @@ pub found_fault : (bad other : BadInput) (left left' : Option (List ℕ)) (bytes
     ReadsText left left' bytes → script_of bytes ≡ Err other →
     ended.BadInput other ≡ ended.BadInput bad → FoundFault bad left left'
 found_fault bad other left left' bytes read is also =
-    let there : script_of bytes ≡ Err bad = is ∙ ap (λ (b : BadInput). Err b) (bad_is other bad also) in
+    let there : script_of bytes ≡ Err bad =
+    is ∙ ap (λ (b : BadInput). Err b) (bad_is other bad also) in
     record {
       first = of_read script_of (λ r. r ≡ Err bad) left left' bytes script_front read there;
       ended = (bytes, read);

@@ -1,63 +1,23 @@
--- The status of a run, and the promise of the command that the words name.
-use Rattle.std.proofs.Common.{◌≡◌, ℕ, ◌⊎◌, List, Option, Some, None, sym, subst, ◌∙◌, refl, arith}
-use Rattle.std.specs.Prelude.{◌↔◌}
+-- The status of a run, and the promise of the command that the arguments name.
+use Rattle.std.proofs.Common.{◌≡◌, ℕ, ◌⊎◌, List, Option, Some, sym, subst, refl, arith}
 use Rattle.std.specs.declared.string.String.{String}
 use Rattle.mc_wire.specs.Count.{Rose}
 use Rattle.mc_top.specs.declared.bad_input.BadInput.{BadInput}
 use Rattle.mc_top.specs.declared.ended.Ended.{Ended}
 use Rattle.mc_top.specs.declared.ended.Ended.TheVariants as ended
-use Rattle.mc_top.specs.declared.words.Command.{Command}
-use Rattle.mc_top.specs.declared.words.Command.TheVariants.{Status, Replay}
+use Rattle.mc_top.specs.declared.arguments.Command.{Command}
+use Rattle.mc_top.specs.declared.arguments.Command.TheVariants.{Status, Replay}
 use Rattle.mc_top.specs.Devices.{Devices}
 use Rattle.mc_top.specs.Ended.{status_of}
-use Rattle.mc_top.specs.Promises.{Promises, IsInputOf, HasFault, KeepsPromise, NamesNone}
-use Rattle.mc_top.specs.Words.{command_of, bytes_of}
+use Rattle.mc_top.specs.Promises.{Promises, IsInputOf, HasFault, KeepsPromise}
+use Rattle.mc_top.specs.Arguments.{command_of, bytes_of}
 use Rattle.mc_top.proofs.StatusKept.{status_served, status_refused}
 use Rattle.mc_top.proofs.ReplayKept.{replay_served, replay_refused}
 
 -- ---- a status says how the command ended
 
-pub zero_is : (how : Ended) (status : ℕ) → status ≡ status_of how → status ≡ 0 → how ≡ ended.Done
-zero_is ended.Done status is n = refl
-zero_is ended.NoMemory status is n = absurd (omega (arith, is, n))
-zero_is ended.Usage status is n = absurd (omega (arith, is, n))
-zero_is ended.ReadFault status is n = absurd (omega (arith, is, n))
-zero_is ended.WriteFault status is n = absurd (omega (arith, is, n))
-zero_is (ended.BadInput bad) status is n = absurd (omega (arith, is, n))
-
-pub one_is : (how : Ended) (status : ℕ) → status ≡ status_of how → status ≡ 1 → how ≡ ended.NoMemory
-one_is ended.Done status is n = absurd (omega (arith, is, n))
-one_is ended.NoMemory status is n = refl
-one_is ended.Usage status is n = absurd (omega (arith, is, n))
-one_is ended.ReadFault status is n = absurd (omega (arith, is, n))
-one_is ended.WriteFault status is n = absurd (omega (arith, is, n))
-one_is (ended.BadInput bad) status is n = absurd (omega (arith, is, n))
-
-pub two_is : (how : Ended) (status : ℕ) → status ≡ status_of how → status ≡ 2 → how ≡ ended.Usage
-two_is ended.Done status is n = absurd (omega (arith, is, n))
-two_is ended.NoMemory status is n = absurd (omega (arith, is, n))
-two_is ended.Usage status is n = refl
-two_is ended.ReadFault status is n = absurd (omega (arith, is, n))
-two_is ended.WriteFault status is n = absurd (omega (arith, is, n))
-two_is (ended.BadInput bad) status is n = absurd (omega (arith, is, n))
-
-pub three_is : (how : Ended) (status : ℕ) → status ≡ status_of how → status ≡ 3 → how ≡ ended.ReadFault
-three_is ended.Done status is n = absurd (omega (arith, is, n))
-three_is ended.NoMemory status is n = absurd (omega (arith, is, n))
-three_is ended.Usage status is n = absurd (omega (arith, is, n))
-three_is ended.ReadFault status is n = refl
-three_is ended.WriteFault status is n = absurd (omega (arith, is, n))
-three_is (ended.BadInput bad) status is n = absurd (omega (arith, is, n))
-
-pub four_is : (how : Ended) (status : ℕ) → status ≡ status_of how → status ≡ 4 → how ≡ ended.WriteFault
-four_is ended.Done status is n = absurd (omega (arith, is, n))
-four_is ended.NoMemory status is n = absurd (omega (arith, is, n))
-four_is ended.Usage status is n = absurd (omega (arith, is, n))
-four_is ended.ReadFault status is n = absurd (omega (arith, is, n))
-four_is ended.WriteFault status is n = refl
-four_is (ended.BadInput bad) status is n = absurd (omega (arith, is, n))
-
-pub six_is : (how : Ended) (status : ℕ) → status ≡ status_of how → status ≡ 6 → (bad : BadInput) × (how ≡ ended.BadInput bad)
+pub six_is : (how : Ended) (status : ℕ) → status ≡ status_of how → status ≡ 6 →
+    (bad : BadInput) × (how ≡ ended.BadInput bad)
 six_is ended.Done status is n = absurd (omega (arith, is, n))
 six_is ended.NoMemory status is n = absurd (omega (arith, is, n))
 six_is ended.Usage status is n = absurd (omega (arith, is, n))
@@ -65,51 +25,45 @@ six_is ended.ReadFault status is n = absurd (omega (arith, is, n))
 six_is ended.WriteFault status is n = absurd (omega (arith, is, n))
 six_is (ended.BadInput bad) status is n = (bad, refl)
 
--- ---- the command that the words name
+-- ---- the command that the arguments name
 
 same_command : (o : Option Command) (a b : Command) → o ≡ Some a → o ≡ Some b → a ≡ b
 same_command o a b is also = cc
 
--- the promise of the command that was read is that of the words
-pub keeps : {Z : Type 0} (words : List (String Z)) (command : Command) (how result : Ended) (before after : Devices) → command_of (bytes_of words) ≡ Some command → result ≡ how →
-    Promises command result before after → KeepsPromise words how before after
-keeps words command how result before after named is kept other also =
+-- the promise of the command that was read is that of the arguments
+pub keeps : {Z : Type 0} (arguments : List (String Z)) (command : Command) (how result : Ended)
+    (before after : Devices) → command_of (bytes_of arguments) ≡ Some command → result ≡ how →
+    Promises command result before after → KeepsPromise arguments how before after
+keeps arguments command how result before after named is kept other also =
     let P : Ended → Type 0 = λ r. Promises command r before after in
     let Q : Command → Type 0 = λ c. Promises c how before after in
-    subst Q (same_command (command_of (bytes_of words)) command other named also) (subst P is kept)
-
-never_usage : (command : Command) (before after : Devices) → Promises command ended.Usage before after → ⊥
-never_usage (Status most) before after p = p
-never_usage (Replay options) before after p = p
-
--- a command that was read does not end as if there were none
-pub not_two : {Z : Type 0} (words : List (String Z)) (command : Command) (result : Ended) (status : ℕ) (before after : Devices) → command_of (bytes_of words) ≡ Some command → status ≡ status_of result →
-    Promises command result before after → status ≡ 2 → ⊥
-not_two words command result status before after named is kept two =
-    let P : Ended → Type 0 = λ r. Promises command r before after in
-    never_usage command before after (subst P (two_is result status is two) kept)
-
-some_or_none : (o : Option Command) (a : Command) → o ≡ Some a → o ≡ None → ⊥
-some_or_none o a is none = let clash : Some a ≡ None = sym is ∙ none in cc
-
-pub not_usage : {Z : Type 0} (words : List (String Z)) (command : Command) (result : Ended) (status : ℕ) (before after : Devices) → command_of (bytes_of words) ≡ Some command → status ≡ status_of result →
-    Promises command result before after → (status ≡ 2) ↔ NamesNone words
-not_usage words command result status before after named is kept =
-    (λ two. absurd (not_two words command result status before after named is kept two), λ none. absurd (some_or_none (command_of (bytes_of words)) command named none))
+    subst Q (same_command (command_of (bytes_of arguments)) command other named also)
+    (subst P is kept)
 
 -- ---- inputs that are served and refused
 
-pub served : (command : Command) (how : Ended) (before after : Devices) (input : List ℕ) → Promises command how before after → before.left ≡ Some input → IsInputOf command input →
-    ¬ Rose before.read_faults after.read_faults → ¬ Rose before.write_faults after.write_faults → (how ≡ ended.Done) ⊎ (how ≡ ended.NoMemory)
-served (Status most) how before after input p is fine reads writes = status_served most how before after fine.0 input p is fine.1 reads writes
-served (Replay options) how before after input p is fine reads writes = replay_served options how before after fine.0 input p is fine.1 reads writes
+pub served : (command : Command) (how : Ended) (before after : Devices) (input : List ℕ) →
+    Promises command how before after → before.left ≡ Some input → IsInputOf command input →
+    ¬ Rose before.read_faults after.read_faults → ¬ Rose before.write_faults after.write_faults →
+    (how ≡ ended.Done) ⊎ (how ≡ ended.NoMemory)
+served (Status most) how before after input p is fine reads writes =
+    status_served most how before after fine.0 input p is fine.1 reads writes
+served (Replay options) how before after input p is fine reads writes =
+    replay_served options how before after fine.0 input p is fine.1 reads writes
 
-pub refused : (command : Command) (how : Ended) (before after : Devices) (bad : BadInput) (input : List ℕ) → Promises command how before after → before.left ≡ Some input → HasFault command bad input →
-    ¬ Rose before.read_faults after.read_faults → ¬ Rose before.write_faults after.write_faults → (status_of how ≡ 6) ⊎ (status_of how ≡ 1)
-refused (Status most) how before after bad input p is wrong reads writes = status_refused most how before after bad wrong.0 input p is wrong.1 reads writes
-refused (Replay options) how before after bad input p is wrong reads writes = replay_refused options how before after bad input p is wrong reads writes
+pub refused : (command : Command) (how : Ended) (before after : Devices) (bad : BadInput)
+    (input : List ℕ) → Promises command how before after → before.left ≡ Some input →
+    HasFault command bad input → ¬ Rose before.read_faults after.read_faults →
+    ¬ Rose before.write_faults after.write_faults → (status_of how ≡ 6) ⊎ (status_of how ≡ 1)
+refused (Status most) how before after bad input p is wrong reads writes =
+    status_refused most how before after bad wrong.0 input p is wrong.1 reads writes
+refused (Replay options) how before after bad input p is wrong reads writes =
+    replay_refused options how before after bad input p is wrong reads writes
 
 -- ---- the command that was read
 
-pub promises_same : (command other : Command) (how : Ended) (before after : Devices) → command ≡ other → Promises other how before after → Promises command how before after
-promises_same command other how before after is p = let P : Command → Type 0 = λ c. Promises c how before after in subst P (sym is) p
+pub promises_same : (command other : Command) (how : Ended) (before after : Devices) →
+    command ≡ other → Promises other how before after → Promises command how before after
+promises_same command other how before after is p =
+    let P : Command → Type 0 = λ c. Promises c how before after in
+    subst P (sym is) p

@@ -1,6 +1,8 @@
 -- What is known of the events of a script: their bytes are bytes, and their ticks are not too many.
-use Rattle.std.proofs.Common.{◌≡◌, ℕ, zero, suc, ◌+◌, ◌≤◌, Bool, true, false, cond, List, [], ◌∷◌, ◌++◌, length, map, refl, subst, arith}
-use Rattle.std.specs.Prelude.{nat_le, Option, Some, None, Result, Ok, Err, IfOk, IfSome, codes, replicate}
+use Rattle.std.proofs.Common.{◌≡◌, ℕ, zero, suc, ◌+◌, ◌≤◌, Bool, true, false, cond, List, [], ◌∷◌}
+use Rattle.std.proofs.Common.{◌++◌, length, map, refl, subst, arith}
+use Rattle.std.specs.Prelude.{nat_le, Option, Some, None, Result, Ok, Err, IfOk, IfSome, codes}
+use Rattle.std.specs.Prelude.{replicate}
 use Rattle.std.specs.List.{filter}
 use Rattle.std.specs.Result.{result_ok}
 use Rattle.std.specs.Str.{bytes_eq, is_utf8}
@@ -11,7 +13,7 @@ use Rattle.hex.specs.declared.error.FromHexError.{FromHexError}
 use Rattle.hex.proofs.HexLemmas.{decode_of-ok}
 use Rattle.mc_nbt.specs.Reading.{IsBytes}
 use Rattle.mc_model.specs.World.{World, Session}
-use Rattle.mc_model.specs.Step.{Event, joined, came, left, ticked, took, forgot, step}
+use Rattle.mc_model.specs.Step.{Event, joined, came, left, broke, ticked, took, forgot, step}
 use Rattle.mc_model.specs.Run.{AreBytes}
 use Rattle.mc_top.specs.declared.bad_input.BadInput.{BadInput}
 use Rattle.mc_top.specs.declared.bad_input.InputFault.{InputFault}
@@ -20,8 +22,12 @@ use Rattle.mc_top.specs.declared.script_line.Before.{Before}
 use Rattle.mc_top.specs.declared.script_line.ScriptEvent.{ScriptEvent}
 use Rattle.mc_top.specs.declared.script_line.ScriptEvent.TheVariants.{Joined, Came, Gone, Ticks}
 use Rattle.mc_top.specs.Lines.{lines_of, is_skipped, goes_past}
-use Rattle.mc_top.specs.Script.{is_next, number_of, connection, numbered, hex_of, bytes_event, join_event, ticks_event, one_word, two_words, three_words, words_event, words_of, some_event, line_event, after_event, with_events, then_, at_first, lines_events, script_of}
-use Rattle.mc_top.specs.ReplayText.{owes, is_shut, takings, settled, replay_log, line_events, events_of}
+use Rattle.mc_top.specs.Script.{is_next, number_of, connection, numbered, hex_of, bytes_event}
+use Rattle.mc_top.specs.Script.{join_event, ticks_event, one_word, two_words, three_words}
+use Rattle.mc_top.specs.Script.{words_event, words_of, some_event, line_event, after_event}
+use Rattle.mc_top.specs.Script.{with_events, then_, at_first, lines_events, script_of}
+use Rattle.mc_top.specs.ReplayText.{owes, is_shut, takings, settled, replay_log, line_events}
+use Rattle.mc_top.specs.ReplayText.{events_of}
 use Rattle.mc_top.specs.Replaying.{line_ticks, ticks_of}
 
 -- ---- one event
@@ -34,28 +40,36 @@ abbrev EventFits : Before → ScriptEvent → Type 0
 EventFits before e = FitsEvent e × (line_ticks e ≤ before.ticks_left)
 
 -- a choice between an event that fits and a fault
-choice : (P : ScriptEvent → Type 0) (b : Bool) (a c : Result ScriptEvent InputFault) → IfOk a P → IfOk c P → IfOk (cond b a c) P
+choice : (P : ScriptEvent → Type 0) (b : Bool) (a c : Result ScriptEvent InputFault) → IfOk a P →
+    IfOk c P → IfOk (cond b a c) P
 choice P true a c pa pc = pa
 choice P false a c pa pc = pc
 
 join_fits : (before : Before) (k : ℕ) → IfOk (join_event before k) (EventFits before)
-join_fits before k = choice (EventFits before) (is_next before.last k) (Ok (Joined k)) (Err faults.Order) (tt, omega arith) tt
+join_fits before k = choice (EventFits before) (is_next before.last k) (Ok (Joined k))
+    (Err faults.Order) (tt, omega arith) tt
 
 ticks_fit : (before : Before) (n : ℕ) → IfOk (ticks_event before n) (EventFits before)
-ticks_fit before n = elim (nat_le n before.ticks_left) as (λ b. nat_le n before.ticks_left ≡ b → IfOk (cond b (Ok (Ticks n)) (Err faults.Number)) (EventFits before)) [
-  | true ↦ λ t. (tt, leb-true n before.ticks_left t)
-  | false ↦ λ _. tt
-] refl
+ticks_fit before n = elim (nat_le n before.ticks_left) as (λ b. nat_le n before.ticks_left ≡ b →
+    IfOk (cond b (Ok (Ticks n)) (Err faults.Number)) (EventFits before)) [
+      | true ↦ λ t. (tt, leb-true n before.ticks_left t)
+      | false ↦ λ _. tt
+    ] refl
 
-numbered_fits : (P : ScriptEvent → Type 0) (o : Option ℕ) (event : ℕ → Result ScriptEvent InputFault) → ((n : ℕ) → IfOk (event n) P) → IfOk (numbered o event) P
+numbered_fits : (P : ScriptEvent → Type 0)
+    (o : Option ℕ) (event : ℕ → Result ScriptEvent InputFault) → ((n : ℕ) → IfOk (event n) P) →
+    IfOk (numbered o event) P
 numbered_fits P None event fits = tt
 numbered_fits P (Some n) event fits = fits n
 
 hex_fits : (digits bytes : List ℕ) → result_ok (decode_of digits) ≡ Some bytes → IsBytes bytes
 hex_fits digits bytes is = step (decode_of digits) refl is
   where
-    step : (r : Result (List ℕ) FromHexError) → decode_of digits ≡ r → result_ok r ≡ Some bytes → IsBytes bytes
-    step (Ok there) read is = let P : List ℕ → Type 0 = λ t. IsBytes t in subst P (same there is) (decode_of-ok digits there read).3
+    step : (r : Result (List ℕ) FromHexError) → decode_of digits ≡ r → result_ok r ≡ Some bytes →
+        IsBytes bytes
+    step (Ok there) read is =
+        let P : List ℕ → Type 0 = λ t. IsBytes t in
+        subst P (same there is) (decode_of-ok digits there read).3
       where
         same : (there : List ℕ) → Some there ≡ Some bytes → there ≡ bytes
         same there e = cc
@@ -69,7 +83,8 @@ unfolding hex_of
 some_hex [] bytes is = let clash : None ≡ Some bytes = is in cc
 some_hex (b ∷ digits) bytes is = hex_fits (b ∷ digits) bytes is
 
-bytes_fit : (before : Before) (k : ℕ) (digits : List ℕ) → IfOk (bytes_event k (hex_of digits)) (EventFits before)
+bytes_fit : (before : Before) (k : ℕ) (digits : List ℕ) →
+    IfOk (bytes_event k (hex_of digits)) (EventFits before)
 bytes_fit before k digits = step (hex_of digits) refl
   where
     step : (o : Option (List ℕ)) → hex_of digits ≡ o → IfOk (bytes_event k o) (EventFits before)
@@ -79,20 +94,30 @@ bytes_fit before k digits = step (hex_of digits) refl
 -- ---- lines
 
 one_fits : (before : Before) (verb : List ℕ) → IfOk (one_word before verb) (EventFits before)
-one_fits before verb = choice (EventFits before) (bytes_eq verb (codes "tick")) (ticks_event before 1) (Err faults.Word) (ticks_fit before 1) tt
+one_fits before verb = choice (EventFits before) (bytes_eq verb (codes "tick"))
+    (ticks_event before 1) (Err faults.Word) (ticks_fit before 1) tt
 
-two_fit : (before : Before) (verb word : List ℕ) → IfOk (two_words before verb word) (EventFits before)
+two_fit : (before : Before) (verb word : List ℕ) →
+    IfOk (two_words before verb word) (EventFits before)
 two_fit before verb word =
-    let gone = numbered_fits (EventFits before) (connection word) (λ k. Ok (Gone k)) (λ k. (tt, omega arith)) in
-    let ticks = numbered_fits (EventFits before) (number_of 1 100000 word) (λ n. ticks_event before n) (λ n. ticks_fit before n) in
-    choice (EventFits before) (bytes_eq verb (codes "join")) _ _ (numbered_fits (EventFits before) (connection word) (λ k. join_event before k) (λ k. join_fits before k))
-    (choice (EventFits before) (bytes_eq verb (codes "gone")) _ _ gone (choice (EventFits before) (bytes_eq verb (codes "tick")) _ (Err faults.Word) ticks tt))
+    let gone = numbered_fits (EventFits before) (connection word) (λ k. Ok (Gone k))
+    (λ k. (tt, omega arith)) in
+    let ticks = numbered_fits (EventFits before) (number_of 1 100000 word)
+    (λ n. ticks_event before n) (λ n. ticks_fit before n) in
+    choice (EventFits before) (bytes_eq verb (codes "join")) _ _ (numbered_fits (EventFits before)
+    (connection word) (λ k. join_event before k) (λ k. join_fits before k))
+    (choice (EventFits before) (bytes_eq verb (codes "gone")) _ _ gone
+    (choice (EventFits before) (bytes_eq verb (codes "tick")) _ (Err faults.Word) ticks tt))
 
-three_fit : (before : Before) (verb word digits : List ℕ) → IfOk (three_words verb word digits) (EventFits before)
-three_fit before verb word digits = choice (EventFits before) (bytes_eq verb (codes "bytes")) _ (Err faults.Word)
-    (numbered_fits (EventFits before) (connection word) (λ k. bytes_event k (hex_of digits)) (λ k. bytes_fit before k digits)) tt
+three_fit : (before : Before) (verb word digits : List ℕ) →
+    IfOk (three_words verb word digits) (EventFits before)
+three_fit before verb word digits =
+    choice (EventFits before) (bytes_eq verb (codes "bytes")) _ (Err faults.Word)
+    (numbered_fits (EventFits before) (connection word) (λ k. bytes_event k (hex_of digits))
+    (λ k. bytes_fit before k digits)) tt
 
-words_fit : (before : Before) (words : List (List ℕ)) → IfOk (words_event before words) (EventFits before)
+words_fit : (before : Before) (words : List (List ℕ)) →
+    IfOk (words_event before words) (EventFits before)
 words_fit before [] = tt
 words_fit before (verb ∷ []) = one_fits before verb
 words_fit before (verb ∷ word ∷ []) = two_fit before verb word
@@ -102,20 +127,24 @@ words_fit before (verb ∷ word ∷ digits ∷ more ∷ others) = tt
 abbrev LineFits : Before → Option ScriptEvent → Type 0
 LineFits before o = IfSome o (EventFits before)
 
-some_fits : (before : Before) (r : Result ScriptEvent InputFault) → IfOk r (EventFits before) → IfOk (some_event r) (LineFits before)
+some_fits : (before : Before) (r : Result ScriptEvent InputFault) → IfOk r (EventFits before) →
+    IfOk (some_event r) (LineFits before)
 some_fits before (Ok e) fits = fits
 some_fits before (Err kind) fits = tt
 
-line_choice : (P : Option ScriptEvent → Type 0) (b : Bool) (a c : Result (Option ScriptEvent) InputFault) → IfOk a P → IfOk c P → IfOk (cond b a c) P
+line_choice : (P : Option ScriptEvent → Type 0) (b : Bool)
+    (a c : Result (Option ScriptEvent) InputFault) → IfOk a P → IfOk c P → IfOk (cond b a c) P
 line_choice P true a c pa pc = pa
 line_choice P false a c pa pc = pc
 
-line_fits : (len size : ℕ) (before : Before) (line : List ℕ) → IfOk (line_event len size before line) (LineFits before)
+line_fits : (len size : ℕ) (before : Before) (line : List ℕ) →
+    IfOk (line_event len size before line) (LineFits before)
 unfolding line_event
 line_fits len size before line =
     line_choice (LineFits before) (goes_past len size) (Err faults.Long) _ tt
     (line_choice (LineFits before) (is_skipped line) (Ok None) _ tt
-    (line_choice (LineFits before) (is_utf8 line) (some_event (words_event before (words_of line))) (Err faults.Word)
+    (line_choice (LineFits before) (is_utf8 line) (some_event (words_event before (words_of line)))
+    (Err faults.Word)
     (some_fits before (words_event before (words_of line)) (words_fit before (words_of line))) tt))
 
 -- ---- all lines
@@ -128,39 +157,51 @@ pub record ScriptFits (most : ℕ) (events : List ScriptEvent) : Type 0 where
   pub fits : AllFit events
   pub few : ticks_of events ≤ most
 
-few_more : (before : Before) (e : ScriptEvent) (n : ℕ) → line_ticks e ≤ before.ticks_left → n ≤ (after_event before e).ticks_left → line_ticks e + n ≤ before.ticks_left
+few_more : (before : Before) (e : ScriptEvent) (n : ℕ) → line_ticks e ≤ before.ticks_left →
+    n ≤ (after_event before e).ticks_left → line_ticks e + n ≤ before.ticks_left
 few_more before (Ticks m) n few more = omega (arith, few, more)
 few_more before (Joined k) n few more = omega (arith, more)
 few_more before (Came k bytes) n few more = omega (arith, more)
 few_more before (Gone k) n few more = omega (arith, more)
 
-with_fits : (before : Before) (e : ScriptEvent) (r : Result (List ScriptEvent) BadInput) → EventFits before e → IfOk r (ScriptFits (after_event before e).ticks_left) → IfOk (with_events (e ∷ []) r) (ScriptFits before.ticks_left)
+with_fits : (before : Before) (e : ScriptEvent) (r : Result (List ScriptEvent) BadInput) →
+    EventFits before e → IfOk r (ScriptFits (after_event before e).ticks_left) →
+    IfOk (with_events (e ∷ []) r) (ScriptFits before.ticks_left)
 with_fits before e (Err bad) fits more = tt
 with_fits before e (Ok events) fits more =
-    let all : ticks_of (e ∷ events) ≡ line_ticks e + ticks_of events = sum_by-cons line_ticks e events in
+    let all : ticks_of (e ∷ events) ≡ line_ticks e + ticks_of events =
+    sum_by-cons line_ticks e events in
     let few = few_more before e (ticks_of events) fits.1 more.few in
     record { fits = (fits.0, more.fits); few = omega (arith, all, few) }
 
-then_fits : (n : ℕ) (before : Before) (r : Result (Option ScriptEvent) InputFault) (later : Before → Result (List ScriptEvent) BadInput) →
-    IfOk r (LineFits before) → ((next : Before) → IfOk (later next) (ScriptFits next.ticks_left)) → IfOk (then_ n before r later) (ScriptFits before.ticks_left)
+then_fits : (n : ℕ) (before : Before) (r : Result (Option ScriptEvent) InputFault)
+    (later : Before → Result (List ScriptEvent) BadInput) → IfOk r (LineFits before) →
+    ((next : Before) → IfOk (later next) (ScriptFits next.ticks_left)) →
+    IfOk (then_ n before r later) (ScriptFits before.ticks_left)
 then_fits n before (Err kind) later fits more = tt
 then_fits n before (Ok None) later fits more = more before
-then_fits n before (Ok (Some e)) later fits more = with_fits before e (later (after_event before e)) fits (more (after_event before e))
+then_fits n before (Ok (Some e)) later fits more =
+    with_fits before e (later (after_event before e)) fits (more (after_event before e))
 
-lines_fit : (len count size : ℕ) (before : Before) (lines : List (List ℕ)) → IfOk (lines_events len count size before lines) (ScriptFits before.ticks_left)
+lines_fit : (len count size : ℕ) (before : Before) (lines : List (List ℕ)) →
+    IfOk (lines_events len count size before lines) (ScriptFits before.ticks_left)
 unfolding lines_events
 lines_fit len count size before [] = record { fits = tt; few = omega arith }
 lines_fit len count size before (line ∷ lines) =
-    then_fits (count + 1) before (line_event len (size + (length line + 1)) before line) (λ next. lines_events len (count + 1) (size + (length line + 1)) next lines)
-    (line_fits len (size + (length line + 1)) before line) (λ next. lines_fit len (count + 1) (size + (length line + 1)) next lines)
+    then_fits (count + 1) before (line_event len (size + (length line + 1)) before line)
+    (λ next. lines_events len (count + 1) (size + (length line + 1)) next lines)
+    (line_fits len (size + (length line + 1)) before line)
+    (λ next. lines_fit len (count + 1) (size + (length line + 1)) next lines)
 
-pub script_fits : (text : List ℕ) (events : List ScriptEvent) → script_of text ≡ Ok events → ScriptFits 1000000000 events
+pub script_fits : (text : List ℕ) (events : List ScriptEvent) → script_of text ≡ Ok events →
+    ScriptFits 1000000000 events
 unfolding script_of
 script_fits text events is =
     let P : Result (List ScriptEvent) BadInput → Type 0 = λ r. IfOk r (ScriptFits 1000000000) in
     subst P is (lines_fit (length text) 0 0 at_first (lines_of text))
 
-pub script_ticks : (text : List ℕ) (events : List ScriptEvent) → script_of text ≡ Ok events → ticks_of events ≤ 1000000000
+pub script_ticks : (text : List ℕ) (events : List ScriptEvent) → script_of text ≡ Ok events →
+    ticks_of events ≤ 1000000000
 script_ticks text events is = (script_fits text events is).few
 
 -- ---- the bytes of a log
@@ -169,6 +210,7 @@ bytes_first : (e : Event) (events : List Event) → AreBytes (e ∷ events) → 
 bytes_first (joined k) events fit = tt
 bytes_first (came k bytes) events fit = (fit.0, tt)
 bytes_first (left k) events fit = tt
+bytes_first (broke k) events fit = tt
 bytes_first ticked events fit = tt
 bytes_first (took k n) events fit = tt
 bytes_first (forgot k) events fit = tt
@@ -177,21 +219,25 @@ bytes_later : (e : Event) (events : List Event) → AreBytes (e ∷ events) → 
 bytes_later (joined k) events fit = fit
 bytes_later (came k bytes) events fit = fit.1
 bytes_later (left k) events fit = fit
+bytes_later (broke k) events fit = fit
 bytes_later ticked events fit = fit
 bytes_later (took k n) events fit = fit
 bytes_later (forgot k) events fit = fit
 
-bytes_both : (e : Event) (events : List Event) → AreBytes (e ∷ []) → AreBytes events → AreBytes (e ∷ events)
+bytes_both : (e : Event) (events : List Event) → AreBytes (e ∷ []) → AreBytes events →
+    AreBytes (e ∷ events)
 bytes_both (joined k) events first later = later
 bytes_both (came k bytes) events first later = (first.0, later)
 bytes_both (left k) events first later = later
+bytes_both (broke k) events first later = later
 bytes_both ticked events first later = later
 bytes_both (took k n) events first later = later
 bytes_both (forgot k) events first later = later
 
 bytes_append : (xs ys : List Event) → AreBytes xs → AreBytes ys → AreBytes (xs ++ ys)
 bytes_append [] ys a b = b
-bytes_append (e ∷ xs) ys a b = bytes_both e (xs ++ ys) (bytes_first e xs a) (bytes_append xs ys (bytes_later e xs a) b)
+bytes_append (e ∷ xs) ys a b =
+    bytes_both e (xs ++ ys) (bytes_first e xs a) (bytes_append xs ys (bytes_later e xs a) b)
 
 tooks_fit : (ss : List Session) → AreBytes (map (λ (s : Session). took s.id (length s.owed)) ss)
 tooks_fit [] = tt
@@ -203,13 +249,17 @@ forgots_fit (s ∷ ss) = forgots_fit ss
 
 takings_fit : (w : World) → AreBytes (takings w)
 unfolding takings
-takings_fit w = bytes_append (map (λ (s : Session). took s.id (length s.owed)) (filter owes w.sessions)) (map (λ (s : Session). forgot s.id) (filter is_shut w.sessions)) (tooks_fit (filter owes w.sessions)) (forgots_fit (filter is_shut w.sessions))
+takings_fit w = bytes_append (map (λ (s : Session). took s.id (length s.owed))
+    (filter owes w.sessions)) (map (λ (s : Session). forgot s.id) (filter is_shut w.sessions))
+    (tooks_fit (filter owes w.sessions)) (forgots_fit (filter is_shut w.sessions))
 
 pub log_fits : (w : World) (events : List Event) → AreBytes events → AreBytes (replay_log w events)
 log_fits w [] fit = tt
 log_fits w (e ∷ events) fit =
     let v : World = (step w e).world in
-    bytes_append (e ∷ takings v) (replay_log (settled v) events) (bytes_both e (takings v) (bytes_first e events fit) (takings_fit v)) (log_fits (settled v) events (bytes_later e events fit))
+    bytes_append (e ∷ takings v) (replay_log (settled v) events)
+    (bytes_both e (takings v) (bytes_first e events fit) (takings_fit v))
+    (log_fits (settled v) events (bytes_later e events fit))
 
 ticks_bytes : (n : ℕ) → AreBytes (replicate n ticked)
 ticks_bytes zero = tt
@@ -223,8 +273,11 @@ line_bytes (Ticks n) fits = ticks_bytes n
 
 events_bytes : (events : List ScriptEvent) → AllFit events → AreBytes (events_of events)
 events_bytes [] fits = tt
-events_bytes (e ∷ events) fits = bytes_append (line_events e) (events_of events) (line_bytes e fits.0) (events_bytes events fits.1)
+events_bytes (e ∷ events) fits = bytes_append (line_events e) (events_of events)
+    (line_bytes e fits.0) (events_bytes events fits.1)
 
 -- all that happens in a script are bytes
-pub script_bytes : (w : World) (text : List ℕ) (events : List ScriptEvent) → script_of text ≡ Ok events → AreBytes (replay_log w (events_of events))
-script_bytes w text events is = log_fits w (events_of events) (events_bytes events (script_fits text events is).fits)
+pub script_bytes : (w : World) (text : List ℕ) (events : List ScriptEvent) →
+    script_of text ≡ Ok events → AreBytes (replay_log w (events_of events))
+script_bytes w text events is =
+    log_fits w (events_of events) (events_bytes events (script_fits text events is).fits)

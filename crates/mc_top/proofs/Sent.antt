@@ -9,7 +9,7 @@ use Rattle.std.proofs.lemmas.List.{append-nil, take_all}
 use Rattle.std.proofs.lemmas.List.Sums.{fold-append}
 use Rattle.mc_land.specs.declared.terrain.Terrain.{Terrain}
 use Rattle.mc_model.specs.World.{World, Session, found, new_world}
-use Rattle.mc_model.specs.Step.{Event, joined, came, left, ticked, took, forgot, step}
+use Rattle.mc_model.specs.Step.{Event, joined, came, left, broke, ticked, took, forgot, step}
 use Rattle.mc_model.specs.Run.{history, lost, lost_at, owed_in, owed_of, taken, taken_at}
 use Rattle.mc_model.specs.Headline.{Headline}
 use Rattle.mc_model.specs.Orderly.{AreApart}
@@ -114,6 +114,7 @@ none_first : (k : ℕ) (w : World) (e : Event) (events : List Event) → TakeNon
 none_first k w (joined j) events none = refl
 none_first k w (came j bytes) events none = refl
 none_first k w (left j) events none = refl
+none_first k w (broke j) events none = refl
 none_first k w ticked events none = refl
 none_first k w (took j n) events none = absurd none
 none_first k w (forgot j) events none = refl
@@ -122,6 +123,7 @@ none_later : (e : Event) (events : List Event) → TakeNone (e ∷ events) → T
 none_later (joined j) events none = none
 none_later (came j bytes) events none = none
 none_later (left j) events none = none
+none_later (broke j) events none = none
 none_later ticked events none = none
 none_later (took j n) events none = absurd none
 none_later (forgot j) events none = none
@@ -197,13 +199,18 @@ owed_none k w none = at (found k w.sessions) refl
     at None e = refl
     at (Some s) e = none k s e
 
-lost_none : (k : ℕ) (w : World) (e : Event) → OwesNone w → lost_at k w e ≡ []
-lost_none k w (joined j) none = refl
-lost_none k w (came j bytes) none = refl
-lost_none k w (left j) none = elim (j == k) as (λ b. cond b (owed_in k w) [] ≡ []) [
+-- one that goes is owed nothing to lose
+parting_none : (j k : ℕ) (w : World) → OwesNone w → cond (j == k) (owed_in k w) [] ≡ []
+parting_none j k w none = elim (j == k) as (λ b. cond b (owed_in k w) [] ≡ []) [
   | true ↦ owed_none k w none
   | false ↦ refl
 ]
+
+lost_none : (k : ℕ) (w : World) (e : Event) → OwesNone w → lost_at k w e ≡ []
+lost_none k w (joined j) none = refl
+lost_none k w (came j bytes) none = refl
+lost_none k w (left j) none = parting_none j k w none
+lost_none k w (broke j) none = parting_none j k w none
 lost_none k w ticked none = refl
 lost_none k w (took j n) none = refl
 lost_none k w (forgot j) none = refl

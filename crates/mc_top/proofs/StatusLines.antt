@@ -1,7 +1,6 @@
 -- A text that comes line by line, by what is told of it whole.
-use Rattle.std.proofs.Common.{◌≡◌, ℕ, ◌+◌, ◌-◌, ◌≤◌, Bool, true, false, cond, List}
-use Rattle.std.proofs.Common.{[], ◌∷◌, ◌++◌, length, take, get_or, refl, sym, subst, ap, ◌∙◌}
-use Rattle.std.proofs.Common.{arith}
+use Rattle.std.proofs.Common.{◌≡◌, ℕ, ◌+◌, ◌-◌, ◌≤◌, Bool, true, false, cond, List, [], ◌∷◌, ◌++◌}
+use Rattle.std.proofs.Common.{length, take, get_or, refl, sym, subst, ap, ◌∙◌, arith}
 use Rattle.std.specs.Prelude.{Option, Some, None, ◌==◌, count_by}
 use Rattle.std.proofs.lemmas.List.Sums.{sum_by_push}
 use Rattle.std.proofs.lemmas.List.{length-append, append-nil, take_at, get_or_at}
@@ -17,7 +16,6 @@ use Rattle.mc_top.specs.StatusText.{last_byte_line, told_at_end, told_after, lin
 use Rattle.mc_top.specs.StatusText.{status_told}
 use Rattle.mc_top.specs.Received.{Received, IsIdle, Sends, SendsPart}
 use Rattle.mc_top.proofs.Exchanges.{last_of, Begins, begins_on}
-use Rattle.mc_top.proofs.Inputs.{grows_two}
 use Rattle.mc_top.proofs.Reading.{left_lines, left_size, CutsNext}
 use Rattle.mc_top.proofs.Receiving.{part_behind, part_begins}
 use Rattle.mc_top.proofs.Answering.{idle_text, next_begins, fault_received, fine_received}
@@ -271,13 +269,6 @@ last_line_is (x ∷ text) count last is counted =
         ∙ ap (λ (t : List ℕ). length (lines_of t)) (sym cut)
 
 -- ---- all is written
-
--- the lines that waited are written too
-pub all_written : (start middle held : Option (List ℕ)) (text lines : List ℕ) →
-    Sends start middle [] lines text → Grows middle held lines → Grows start held text
-all_written start middle held text lines s grows =
-    let P : List ℕ → Type 0 = λ t. Grows start held t in
-    subst P (sym s.parts) (grows_two start middle held s.wrote lines s.grows grows)
 
 pub part_written : (start middle held : Option (List ℕ)) (text lines : List ℕ) →
     Sends start middle [] lines text → SendsPart middle held lines → SendsPart start held text

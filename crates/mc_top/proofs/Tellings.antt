@@ -1,7 +1,9 @@
 -- Taking and telling piece by piece, and connection by connection.
-use Rattle.std.proofs.Common.{◌≡◌, ℕ, suc, ◌+◌, ◌<◌, ◌≤◌, Bool, true, false, List, [], ◌∷◌, ◌++◌, length, get_or, take, drop, refl, sym, subst, ap, ◌∙◌, append_assoc, arith, length-take}
+use Rattle.std.proofs.Common.{◌≡◌, ℕ, suc, ◌+◌, ◌<◌, ◌≤◌, Bool, true, false, List, [], ◌∷◌, ◌++◌}
+use Rattle.std.proofs.Common.{length, get_or, take, drop, refl, sym, subst, ap, ◌∙◌, append_assoc}
+use Rattle.std.proofs.Common.{arith}
 use Rattle.std.specs.Prelude.{◌↔◌, Option, codes, decimal}
-use Rattle.std.proofs.lemmas.List.{append-nil, drop_all, take-take}
+use Rattle.std.proofs.lemmas.List.{append-nil, take-take}
 use Rattle.std.proofs.Math.Seq.{drop-cons}
 use Rattle.hex.specs.Hex.{encode_lower}
 use Rattle.mc_model.specs.World.{World}
@@ -10,57 +12,62 @@ use Rattle.mc_wire.specs.Stream.{Grows}
 use Rattle.mc_model.specs.Orderly.{AreApart}
 use Rattle.mc_server.specs.Served.{ServerValue}
 use Rattle.mc_server.specs.Stands.{Stands}
-use Rattle.mc_server.specs.Asking.{owed_in}
+use Rattle.mc_model.specs.Run.{owed_in}
 use Rattle.mc_top.specs.Passes.{Passes, Breaks}
 use Rattle.mc_top.specs.ReplayText.{lines_after, settled}
-use Rattle.mc_top.specs.Replaying.{IsReached, taken, sent_by, sent_in, all_taken, all_sent, all_forgotten, all_shut, TakesFront, each, each_line}
-use Rattle.mc_top.proofs.Passing.{passes_none, passes_next, passes_two, passes_all, breaks_next, breaks_early, breaks_two}
+use Rattle.mc_top.specs.Replaying.{IsReached, taken, sent_by, sent_in, all_taken, all_sent}
+use Rattle.mc_top.specs.Replaying.{all_forgotten, all_shut, TakesFront, each, each_line}
+use Rattle.mc_top.proofs.Passing.{passes_none, passes_next, passes_two, passes_all, breaks_next}
+use Rattle.mc_top.proofs.Passing.{breaks_early, breaks_two}
 use Rattle.mc_top.proofs.Playing.{reached_apart}
-use Rattle.mc_top.proofs.Taking.{ids_of, all_settled, all_told, owed_after, taken_after, taken_none, encode_parts, encode_none}
+use Rattle.mc_top.proofs.Taking.{ids_of, all_settled, all_told, owed_after, taken_after, taken_none}
+use Rattle.mc_top.proofs.Taking.{encode_parts, encode_none}
 
 -- ---- one connection, piece by piece
 
 -- the first n bytes of the front are the first n that are owed
-front_first : (n : ℕ) (front owed : List ℕ) → n ≤ length front → take (length front) owed ≡ front → take n front ≡ take n owed
+front_first : (n : ℕ) (front owed : List ℕ) → n ≤ length front → take (length front) owed ≡ front →
+    take n front ≡ take n owed
 front_first n front owed few first = ap (take n) (sym first) ∙ take-take n (length front) owed few
 
--- the first bytes were taken
-pub front_taken : (w : World) (k n : ℕ) (server : ServerValue) (held held' : Option (List ℕ)) (front old new : List ℕ) → n ≤ length front → take (length front) (owed_in k w) ≡ front →
-    Stands server (step w (took k n)).world → Passes held held' old (encode_lower (take n front)) new [] → TakesFront k w server held held' old new true
-front_taken w k n server held held' front old new few first stands passes =
-    let P : List ℕ → Type 0 = λ t. Passes held held' old (encode_lower t) new [] in
-    let count : length (take (length front) (owed_in k w)) ≡ length front = ap length first in
-    (n, omega (arith, few, count, length-take (length front) (owed_in k w)), stands, subst P (front_first n front (owed_in k w) few first) passes)
-
 -- they were not all written
-pub front_breaks : (w : World) (k n : ℕ) (held held' : Option (List ℕ)) (front old : List ℕ) → n ≤ length front → take (length front) (owed_in k w) ≡ front →
-    Breaks held held' old (encode_lower (take n front)) → Breaks held held' old (encode_lower (owed_in k w))
+pub front_breaks : (w : World) (k n : ℕ) (held held' : Option (List ℕ)) (front old : List ℕ) →
+    n ≤ length front → take (length front) (owed_in k w) ≡ front →
+    Breaks held held' old (encode_lower (take n front)) →
+    Breaks held held' old (encode_lower (owed_in k w))
 front_breaks w k n held held' front old few first breaks =
     let P : List ℕ → Type 0 = λ t. Breaks held held' old (encode_lower t) in
     let Q : List ℕ → Type 0 = λ t. Breaks held held' old t in
     subst Q (encode_parts n (owed_in k w))
-    (breaks_early held held' old (encode_lower (take n (owed_in k w))) (encode_lower (drop n (owed_in k w))) (subst P (front_first n front (owed_in k w) few first) breaks))
+    (breaks_early held held' old (encode_lower (take n (owed_in k w))) (encode_lower
+    (drop n (owed_in k w))) (subst P (front_first n front (owed_in k w) few first) breaks))
 
 no_bytes : (bytes : List ℕ) → length bytes ≡ 0 → bytes ≡ []
 no_bytes [] none = refl
 no_bytes (b ∷ bytes) none = absurd (omega (arith, none))
 
--- nothing is owed
-pub front_none : (w : World) (k : ℕ) (server : ServerValue) (held : Option (List ℕ)) (front old : List ℕ) → length front ≡ 0 → (front ≡ []) ↔ (owed_in k w ≡ []) → Stands server w → TakesFront k w server held held old old false
-front_none w k server held front old none same stands = (same.0 (no_bytes front none), stands, passes_none held old [])
-
 -- some first bytes were taken, and what is left and the others are all
-pub record IsTaking (k : ℕ) (w : World) (server : ServerValue) (held held' : Option (List ℕ)) (old new : List ℕ) : Type 0 where
+pub record IsTaking (k : ℕ) (w : World) (server : ServerValue) (held held' : Option (List ℕ))
+    (old new : List ℕ) : Type 0 where
   pub v : World
   pub stands : Stands server v
   pub same : taken k v ≡ taken k w
   pub lines : Passes held held' old (encode_lower (owed_in k w)) new (encode_lower (owed_in k v))
 
-pub taking_start : (k : ℕ) (w : World) (server : ServerValue) (held : Option (List ℕ)) (lines : List ℕ) → Stands server w → IsTaking k w server held held lines lines
-taking_start k w server held lines stands = record { v = w; stands = stands; same = refl; lines = passes_none held lines (encode_lower (owed_in k w)) }
+pub taking_start : (k : ℕ) (w : World) (server : ServerValue) (held : Option (List ℕ))
+    (lines : List ℕ) → Stands server w → IsTaking k w server held held lines lines
+taking_start k w server held lines stands = record {
+  v = w;
+  stands = stands;
+  same = refl;
+  lines = passes_none held lines (encode_lower (owed_in k w));
+}
 
-pub taking_next : (k : ℕ) (w : World) (middle server : ServerValue) (held mid held' : Option (List ℕ)) (old half new : List ℕ) (more : Bool) → more ≡ true → IsTaking k w middle held mid old half →
-    ((v : World) → Stands middle v → TakesFront k v server mid held' half new more) → IsTaking k w server held held' old new
+pub taking_next : (k : ℕ) (w : World) (middle server : ServerValue)
+    (held mid held' : Option (List ℕ)) (old half new : List ℕ) (more : Bool) →
+    more ≡ true → IsTaking k w middle held mid old half →
+    ((v : World) → Stands middle v → TakesFront k v server mid held' half new more) →
+    IsTaking k w server held held' old new
 taking_next k w middle server held mid held' old half new more is t takes =
     let P : Bool → Type 0 = λ b. TakesFront k t.v server mid held' half new b in
     let f = subst P is (takes t.v t.stands) in
@@ -73,33 +80,44 @@ taking_next k w middle server held mid held' old half new more is t takes =
       stands = f.2;
       same = taken_after t.v k f.0 f.1 ∙ t.same;
       lines = subst R (sym (owed_after t.v k f.0))
-          (passes_next held mid held' old all half (encode_lower (take f.0 o)) new (encode_lower (drop f.0 o)) (subst Q (sym (encode_parts f.0 o)) t.lines) f.3);
+          (passes_next held mid held' old all half (encode_lower (take f.0 o)) new
+          (encode_lower (drop f.0 o)) (subst Q (sym (encode_parts f.0 o)) t.lines) f.3);
     }
 
-pub taking_done : (k : ℕ) (w : World) (middle server : ServerValue) (held mid held' : Option (List ℕ)) (old half new : List ℕ) (more : Bool) → more ≡ false → IsTaking k w middle held mid old half →
-    ((v : World) → Stands middle v → TakesFront k v server mid held' half new more) → Stands server (taken k w) × Passes held held' old (encode_lower (owed_in k w)) new []
+pub taking_done : (k : ℕ) (w : World) (middle server : ServerValue)
+    (held mid held' : Option (List ℕ)) (old half new : List ℕ) (more : Bool) →
+    more ≡ false → IsTaking k w middle held mid old half →
+    ((v : World) → Stands middle v → TakesFront k v server mid held' half new more) →
+    Stands server (taken k w) × Passes held held' old (encode_lower (owed_in k w)) new []
 taking_done k w middle server held mid held' old half new more is t takes =
     let Q : Bool → Type 0 = λ b. TakesFront k t.v server mid held' half new b in
     let f = subst Q is (takes t.v t.stands) in
     let P : World → Type 0 = λ u. Stands server u in
-    let R : List ℕ → Type 0 = λ left. Passes held mid old (encode_lower (owed_in k w)) half left in (
+    let R : List ℕ → Type 0 = λ l. Passes held mid old (encode_lower (owed_in k w)) half l in (
       subst P (sym (taken_none t.v k f.0) ∙ t.same) f.1,
-      passes_next held mid held' old (encode_lower (owed_in k w)) half [] new [] (subst R (encode_none (owed_in k t.v) f.0) t.lines) f.2,
+      passes_next held mid held' old (encode_lower (owed_in k w)) half [] new []
+          (subst R (encode_none (owed_in k t.v) f.0) t.lines) f.2,
     )
 
-pub taking_breaks : (k : ℕ) (w : World) (middle : ServerValue) (held mid held' : Option (List ℕ)) (old half : List ℕ) → IsTaking k w middle held mid old half →
-    ((v : World) → Stands middle v → Breaks mid held' half (encode_lower (owed_in k v))) → Breaks held held' old (encode_lower (owed_in k w))
+pub taking_breaks : (k : ℕ) (w : World) (middle : ServerValue)
+    (held mid held' : Option (List ℕ)) (old half : List ℕ) → IsTaking k w middle held mid old half →
+    ((v : World) → Stands middle v → Breaks mid held' half (encode_lower (owed_in k v))) →
+    Breaks held held' old (encode_lower (owed_in k w))
 taking_breaks k w middle held mid held' old half t breaks =
     let o : List ℕ = encode_lower (owed_in k t.v) in
     let R : List ℕ → Type 0 = λ left. Passes held mid old (encode_lower (owed_in k w)) half left in
-    breaks_next held mid held' old (encode_lower (owed_in k w)) half o [] (subst R (sym (append-nil o)) t.lines) (breaks t.v t.stands)
+    breaks_next held mid held' old (encode_lower (owed_in k w)) half o []
+    (subst R (sym (append-nil o)) t.lines) (breaks t.v t.stands)
 
 -- ---- the line of one connection
 
 some_bytes : (bytes : List ℕ) → 0 < length bytes → bytes ≡ [] → ⊥
-some_bytes bytes some none = let zero_ : length bytes ≡ 0 = ap length none in omega (arith, some, zero_)
+some_bytes bytes some none =
+    let zero_ : length bytes ≡ 0 = ap length none in
+    omega (arith, some, zero_)
 
-sent_some : (k : ℕ) (o : List ℕ) → (o ≡ [] → ⊥) → sent_by k o ≡ codes "sent " ++ decimal k ++ codes " " ++ encode_lower o ++ 10 ∷ []
+sent_some : (k : ℕ) (o : List ℕ) → (o ≡ [] → ⊥) →
+    sent_by k o ≡ codes "sent " ++ decimal k ++ codes " " ++ encode_lower o ++ 10 ∷ []
 sent_some k [] some = absurd (some refl)
 sent_some k (b ∷ bytes) some = refl
 
@@ -108,47 +126,65 @@ abbrev pub sent_head : ℕ → List ℕ
 sent_head k = codes "sent " ++ decimal k ++ codes " "
 
 -- the line of one that is owed bytes, in its parts
-pub sent_parts : (k : ℕ) (w : World) (front : List ℕ) → 0 < length front → (front ≡ []) ↔ (owed_in k w ≡ []) → sent_in k w ≡ sent_head k ++ (encode_lower (owed_in k w) ++ 10 ∷ [])
+pub sent_parts : (k : ℕ) (w : World) (front : List ℕ) →
+    0 < length front → (front ≡ []) ↔ (owed_in k w ≡ []) →
+    sent_in k w ≡ sent_head k ++ (encode_lower (owed_in k w) ++ 10 ∷ [])
 sent_parts k w front some same =
     sent_some k (owed_in k w) (λ none. some_bytes front some (same.1 none))
     ∙ append_assoc (sent_head k) (encode_lower (owed_in k w)) (10 ∷ [])
 
 -- the front, the hex and the end make the line
-pub sent_is : (k : ℕ) (w : World) (front old first half new head : List ℕ) (h0 h1 h2 h3 : Option (List ℕ)) → 0 < length front → (front ≡ []) ↔ (owed_in k w ≡ []) → head ≡ sent_head k →
-    Passes h0 h1 old head first [] → Passes h1 h2 first (encode_lower (owed_in k w)) half [] → Passes h2 h3 half (10 ∷ []) new [] → Passes h0 h3 old (sent_in k w) new []
+pub sent_is : (k : ℕ) (w : World)
+    (front old first half new head : List ℕ) (h0 h1 h2 h3 : Option (List ℕ)) → 0 < length front →
+    (front ≡ []) ↔ (owed_in k w ≡ []) → head ≡ sent_head k → Passes h0 h1 old head first [] →
+    Passes h1 h2 first (encode_lower (owed_in k w)) half [] → Passes h2 h3 half (10 ∷ []) new [] →
+    Passes h0 h3 old (sent_in k w) new []
 sent_is k w front old first half new head h0 h1 h2 h3 some same is a b c =
     let P : List ℕ → Type 0 = λ t. Passes h0 h1 old t first [] in
     let Q : List ℕ → Type 0 = λ t. Passes h0 h3 old t new [] in
     let hex : List ℕ = encode_lower (owed_in k w) in
     subst Q (sym (sent_parts k w front some same))
-    (passes_two h0 h1 h3 old (sent_head k) first (hex ++ 10 ∷ []) new (subst P is a) (passes_two h1 h2 h3 first hex half (10 ∷ []) new b c))
+    (passes_two h0 h1 h3 old (sent_head k) first (hex ++ 10 ∷ []) new (subst P is a)
+    (passes_two h1 h2 h3 first hex half (10 ∷ []) new b c))
 
 -- it broke in the front
-pub sent_breaks_head : (k : ℕ) (w : World) (front old head : List ℕ) (held held' : Option (List ℕ)) → 0 < length front → (front ≡ []) ↔ (owed_in k w ≡ []) → head ≡ sent_head k → Breaks held held' old head → Breaks held held' old (sent_in k w)
+pub sent_breaks_head : (k : ℕ) (w : World) (front old head : List ℕ)
+    (held held' : Option (List ℕ)) → 0 < length front → (front ≡ []) ↔ (owed_in k w ≡ []) →
+    head ≡ sent_head k → Breaks held held' old head → Breaks held held' old (sent_in k w)
 sent_breaks_head k w front old head held held' some same is b =
     let P : List ℕ → Type 0 = λ t. Breaks held held' old t in
-    subst P (sym (sent_parts k w front some same)) (breaks_early held held' old (sent_head k) (encode_lower (owed_in k w) ++ 10 ∷ []) (subst P is b))
+    subst P (sym (sent_parts k w front some same)) (breaks_early held held' old (sent_head k)
+    (encode_lower (owed_in k w) ++ 10 ∷ []) (subst P is b))
 
 -- in the hex
-pub sent_breaks_hex : (k : ℕ) (w : World) (front old head first : List ℕ) (h0 h1 h2 : Option (List ℕ)) → 0 < length front → (front ≡ []) ↔ (owed_in k w ≡ []) → head ≡ sent_head k →
-    Passes h0 h1 old head first [] → Breaks h1 h2 first (encode_lower (owed_in k w)) → Breaks h0 h2 old (sent_in k w)
+pub sent_breaks_hex : (k : ℕ) (w : World)
+    (front old head first : List ℕ) (h0 h1 h2 : Option (List ℕ)) → 0 < length front →
+    (front ≡ []) ↔ (owed_in k w ≡ []) → head ≡ sent_head k → Passes h0 h1 old head first [] →
+    Breaks h1 h2 first (encode_lower (owed_in k w)) → Breaks h0 h2 old (sent_in k w)
 sent_breaks_hex k w front old head first h0 h1 h2 some same is a b =
     let P : List ℕ → Type 0 = λ t. Passes h0 h1 old t first [] in
     let Q : List ℕ → Type 0 = λ t. Breaks h0 h2 old t in
-    subst Q (sym (sent_parts k w front some same)) (breaks_two h0 h1 h2 old (sent_head k) first (encode_lower (owed_in k w)) (10 ∷ []) (subst P is a) b)
+    subst Q (sym (sent_parts k w front some same)) (breaks_two h0 h1 h2 old (sent_head k) first
+    (encode_lower (owed_in k w)) (10 ∷ []) (subst P is a) b)
 
 -- in the end
-pub sent_breaks_end : (k : ℕ) (w : World) (front old head first half : List ℕ) (h0 h1 h2 h3 : Option (List ℕ)) → 0 < length front → (front ≡ []) ↔ (owed_in k w ≡ []) → head ≡ sent_head k →
-    Passes h0 h1 old head first [] → Passes h1 h2 first (encode_lower (owed_in k w)) half [] → Breaks h2 h3 half (10 ∷ []) → Breaks h0 h3 old (sent_in k w)
+pub sent_breaks_end : (k : ℕ) (w : World)
+    (front old head first half : List ℕ) (h0 h1 h2 h3 : Option (List ℕ)) → 0 < length front →
+    (front ≡ []) ↔ (owed_in k w ≡ []) → head ≡ sent_head k → Passes h0 h1 old head first [] →
+    Passes h1 h2 first (encode_lower (owed_in k w)) half [] → Breaks h2 h3 half (10 ∷ []) →
+    Breaks h0 h3 old (sent_in k w)
 sent_breaks_end k w front old head first half h0 h1 h2 h3 some same is a b c =
     let P : List ℕ → Type 0 = λ t. Passes h0 h1 old t first [] in
     let Q : List ℕ → Type 0 = λ t. Breaks h0 h3 old t in
     let hex : List ℕ = encode_lower (owed_in k w) in
     subst Q (append_assoc (sent_head k) hex (10 ∷ []) ∙ sym (sent_parts k w front some same))
-    (breaks_two h0 h2 h3 old (sent_head k ++ hex) half (10 ∷ []) [] (passes_two h0 h1 h2 old (sent_head k) first hex half (subst P is a) b) c)
+    (breaks_two h0 h2 h3 old (sent_head k ++ hex) half (10 ∷ []) []
+    (passes_two h0 h1 h2 old (sent_head k) first hex half (subst P is a) b) c)
 
 -- nothing is owed
-pub not_sent : (k : ℕ) (w : World) (server : ServerValue) (front old : List ℕ) (held : Option (List ℕ)) → length front ≡ 0 → (front ≡ []) ↔ (owed_in k w ≡ []) → Stands server w → Stands server (taken k w) × Passes held held old (sent_in k w) old []
+pub not_sent : (k : ℕ) (w : World) (server : ServerValue) (front old : List ℕ)
+    (held : Option (List ℕ)) → length front ≡ 0 → (front ≡ []) ↔ (owed_in k w ≡ []) →
+    Stands server w → Stands server (taken k w) × Passes held held old (sent_in k w) old []
 not_sent k w server front old held none same stands =
     let P : World → Type 0 = λ u. Stands server u in
     let Q : List ℕ → Type 0 = λ o. Passes held held old (sent_by k o) old [] in
@@ -158,87 +194,124 @@ not_sent k w server front old held none same stands =
 -- ---- connection by connection
 
 -- some were changed and their lines passed on; what is left and that are all
-pub record IsUnderway (change : ℕ → World → World) (line : ℕ → World → List ℕ) (ks : List ℕ) (w : World) (server : ServerValue) (held held' : Option (List ℕ)) (rest old new : List ℕ) : Type 0 where
+pub record IsUnderway (change : ℕ → World → World) (line : ℕ → World → List ℕ) (ks : List ℕ)
+    (w : World) (server : ServerValue) (held held' : Option (List ℕ))
+    (rest old new : List ℕ) : Type 0 where
   pub v : World
   pub stands : Stands server v
   pub same : each change rest v ≡ each change ks w
   pub lines : Passes held held' old (each_line change line ks w) new (each_line change line rest v)
 
-pub underway_start : (change : ℕ → World → World) (line : ℕ → World → List ℕ) (ks : List ℕ) (w : World) (server : ServerValue) (held : Option (List ℕ)) (lines : List ℕ) → Stands server w → IsUnderway change line ks w server held held ks lines lines
-underway_start change line ks w server held lines stands = record { v = w; stands = stands; same = refl; lines = passes_none held lines (each_line change line ks w) }
+pub underway_start : (change : ℕ → World → World) (line : ℕ → World → List ℕ) (ks : List ℕ)
+    (w : World) (server : ServerValue) (held : Option (List ℕ)) (lines : List ℕ) → Stands server w →
+    IsUnderway change line ks w server held held ks lines lines
+underway_start change line ks w server held lines stands = record {
+  v = w;
+  stands = stands;
+  same = refl;
+  lines = passes_none held lines (each_line change line ks w);
+}
 
-underway_more : (change : ℕ → World → World) (line : ℕ → World → List ℕ) (ks : List ℕ) (w : World) (middle server : ServerValue) (held mid held' : Option (List ℕ)) (k : ℕ) (rest old half new : List ℕ) →
-    IsUnderway change line ks w middle held mid (k ∷ rest) old half → ((v : World) → Stands middle v → Stands server (change k v) × Passes mid held' half (line k v) new []) → IsUnderway change line ks w server held held' rest old new
+underway_more : (change : ℕ → World → World) (line : ℕ → World → List ℕ)
+    (ks : List ℕ) (w : World) (middle server : ServerValue) (held mid held' : Option (List ℕ))
+    (k : ℕ) (rest old half new : List ℕ) →
+    IsUnderway change line ks w middle held mid (k ∷ rest) old half → ((v : World) →
+    Stands middle v → Stands server (change k v) × Passes mid held' half (line k v) new []) →
+    IsUnderway change line ks w server held held' rest old new
 underway_more change line ks w middle server held mid held' k rest old half new u changes =
     let c = changes u.v u.stands in
     record {
       v = change k u.v;
       stands = c.0;
       same = u.same;
-      lines = passes_next held mid held' old (each_line change line ks w) half (line k u.v) new (each_line change line rest (change k u.v)) u.lines c.1;
+      lines = passes_next held mid held' old (each_line change line ks w) half (line k u.v) new
+          (each_line change line rest (change k u.v)) u.lines c.1;
     }
 
-parts_at : (ks : List ℕ) (i k d : ℕ) → i < length ks → k ≡ get_or ks i d → drop i ks ≡ k ∷ drop (i + 1) ks
+parts_at : (ks : List ℕ) (i k d : ℕ) → i < length ks → k ≡ get_or ks i d →
+    drop i ks ≡ k ∷ drop (i + 1) ks
 parts_at ks i k d within is =
     let one : suc i ≡ i + 1 = omega arith in
-    drop-cons ks i d within ∙ ap (λ (t : ℕ). t ∷ drop (suc i) ks) (sym is) ∙ ap (λ (j : ℕ). k ∷ drop j ks) one
+    drop-cons ks i d within ∙ ap (λ (t : ℕ). t ∷ drop (suc i) ks) (sym is)
+    ∙ ap (λ (j : ℕ). k ∷ drop j ks) one
 
-pub underway_next : (change : ℕ → World → World) (line : ℕ → World → List ℕ) (ks : List ℕ) (w : World) (middle server : ServerValue) (held mid held' : Option (List ℕ)) (i k d : ℕ) (old half new : List ℕ) → i < length ks → k ≡ get_or ks i d →
-    IsUnderway change line ks w middle held mid (drop i ks) old half → ((v : World) → Stands middle v → Stands server (change k v) × Passes mid held' half (line k v) new []) → IsUnderway change line ks w server held held' (drop (i + 1) ks) old new
+pub underway_next : (change : ℕ → World → World) (line : ℕ → World → List ℕ)
+    (ks : List ℕ) (w : World) (middle server : ServerValue) (held mid held' : Option (List ℕ))
+    (i k d : ℕ) (old half new : List ℕ) → i < length ks → k ≡ get_or ks i d →
+    IsUnderway change line ks w middle held mid (drop i ks) old half → ((v : World) →
+    Stands middle v → Stands server (change k v) × Passes mid held' half (line k v) new []) →
+    IsUnderway change line ks w server held held' (drop (i + 1) ks) old new
 underway_next change line ks w middle server held mid held' i k d old half new within is u changes =
     let P : List ℕ → Type 0 = λ r. IsUnderway change line ks w middle held mid r old half in
-    underway_more change line ks w middle server held mid held' k (drop (i + 1) ks) old half new (subst P (parts_at ks i k d within is) u) changes
+    underway_more change line ks w middle server held mid held' k (drop (i + 1) ks) old half new
+    (subst P (parts_at ks i k d within is) u) changes
 
-pub underway_breaks : (change : ℕ → World → World) (line : ℕ → World → List ℕ) (ks : List ℕ) (w : World) (middle : ServerValue) (held mid held' : Option (List ℕ)) (i k d : ℕ) (old half : List ℕ) → i < length ks → k ≡ get_or ks i d →
-    IsUnderway change line ks w middle held mid (drop i ks) old half → ((v : World) → Stands middle v → Breaks mid held' half (line k v)) → Breaks held held' old (each_line change line ks w)
+pub underway_breaks : (change : ℕ → World → World) (line : ℕ → World → List ℕ) (ks : List ℕ)
+    (w : World) (middle : ServerValue) (held mid held' : Option (List ℕ)) (i k d : ℕ)
+    (old half : List ℕ) → i < length ks →
+    k ≡ get_or ks i d → IsUnderway change line ks w middle held mid (drop i ks) old half →
+    ((v : World) → Stands middle v → Breaks mid held' half (line k v)) →
+    Breaks held held' old (each_line change line ks w)
 underway_breaks change line ks w middle held mid held' i k d old half within is u breaks =
     let P : List ℕ → Type 0 = λ r. IsUnderway change line ks w middle held mid r old half in
     let e = subst P (parts_at ks i k d within is) u in
-    breaks_next held mid held' old (each_line change line ks w) half (line k e.v) (each_line change line (drop (i + 1) ks) (change k e.v)) e.lines (breaks e.v e.stands)
-
-pub underway_done : (change : ℕ → World → World) (line : ℕ → World → List ℕ) (ks : List ℕ) (w : World) (server : ServerValue) (held held' : Option (List ℕ)) (i : ℕ) (old new : List ℕ) → length ks ≤ i →
-    IsUnderway change line ks w server held held' (drop i ks) old new → Stands server (each change ks w) × Passes held held' old (each_line change line ks w) new []
-underway_done change line ks w server held held' i old new all u =
-    let P : List ℕ → Type 0 = λ r. IsUnderway change line ks w server held held' r old new in
-    let e = subst P (drop_all i ks all) u in
-    let Q : World → Type 0 = λ v. Stands server v in
-    (subst Q e.same e.stands, e.lines)
+    breaks_next held mid held' old (each_line change line ks w) half (line k e.v)
+    (each_line change line (drop (i + 1) ks) (change k e.v)) e.lines (breaks e.v e.stands)
 
 -- ---- the lines of a world
 
-told_is : (w : World) (ids : List ℕ) → AreApart w.sessions → ids ≡ ids_of w.sessions → all_sent ids w ++ all_shut ids (all_taken ids w) ≡ lines_after w
-told_is w ids apart is = ap (λ (ks : List ℕ). all_sent ks w ++ all_shut ks (all_taken ks w)) is ∙ all_told w apart
+told_is : (w : World) (ids : List ℕ) → AreApart w.sessions → ids ≡ ids_of w.sessions →
+    all_sent ids w ++ all_shut ids (all_taken ids w) ≡ lines_after w
+told_is w ids apart is =
+    ap (λ (ks : List ℕ). all_sent ks w ++ all_shut ks (all_taken ks w)) is ∙ all_told w apart
 
 -- all that is told of a world was written, and nothing waits
-pub lines_put : (w : World) (server : ServerValue) (ids half near : List ℕ) (h0 h1 h2 h3 : Option (List ℕ)) → IsReached w → ids ≡ ids_of w.sessions → Stands server (all_forgotten ids (all_taken ids w)) →
-    Passes h0 h1 [] (all_sent ids w) half [] → Passes h1 h2 half (all_shut ids (all_taken ids w)) near [] → Passes h2 h3 near [] [] [] → Stands server (settled w) × Grows h0 h3 (lines_after w)
+pub lines_put : (w : World) (server : ServerValue) (ids half near : List ℕ)
+    (h0 h1 h2 h3 : Option (List ℕ)) → IsReached w → ids ≡ ids_of w.sessions →
+    Stands server (all_forgotten ids (all_taken ids w)) → Passes h0 h1 [] (all_sent ids w) half [] →
+    Passes h1 h2 half (all_shut ids (all_taken ids w)) near [] → Passes h2 h3 near [] [] [] →
+    Stands server (settled w) × Grows h0 h3 (lines_after w)
 lines_put w server ids half near h0 h1 h2 h3 r is stands sent shut out =
     let apart = reached_apart w r in
     let P : World → Type 0 = λ v. Stands server v in
     let Q : List ℕ → Type 0 = λ t. Grows h0 h3 t in
-    let both = passes_two h0 h1 h2 [] (all_sent ids w) half (all_shut ids (all_taken ids w)) near sent shut in
-    let all = passes_two h0 h2 h3 [] (all_sent ids w ++ all_shut ids (all_taken ids w)) near [] [] both out in (
-      subst P (ap (λ (ks : List ℕ). all_forgotten ks (all_taken ks w)) is ∙ all_settled w apart) stands,
-      subst Q (append-nil (all_sent ids w ++ all_shut ids (all_taken ids w)) ∙ told_is w ids apart is) (passes_all h0 h3 _ all),
+    let both = passes_two h0 h1 h2 [] (all_sent ids w) half
+    (all_shut ids (all_taken ids w)) near sent shut in
+    let all = passes_two h0 h2 h3 []
+    (all_sent ids w ++ all_shut ids (all_taken ids w)) near [] [] both out in (
+      subst P (ap (λ (ks : List ℕ). all_forgotten ks (all_taken ks w)) is
+          ∙ all_settled w apart) stands,
+      subst Q (append-nil (all_sent ids w ++ all_shut ids (all_taken ids w))
+          ∙ told_is w ids apart is) (passes_all h0 h3 _ all),
     )
 
 -- it broke in what tells what was sent
-pub lines_break_sent : (w : World) (ids : List ℕ) (h0 h1 : Option (List ℕ)) → IsReached w → ids ≡ ids_of w.sessions → Breaks h0 h1 [] (all_sent ids w) → Breaks h0 h1 [] (lines_after w)
+pub lines_break_sent : (w : World) (ids : List ℕ) (h0 h1 : Option (List ℕ)) → IsReached w →
+    ids ≡ ids_of w.sessions → Breaks h0 h1 [] (all_sent ids w) → Breaks h0 h1 [] (lines_after w)
 lines_break_sent w ids h0 h1 r is b =
     let P : List ℕ → Type 0 = λ t. Breaks h0 h1 [] t in
-    subst P (told_is w ids (reached_apart w r) is) (breaks_early h0 h1 [] (all_sent ids w) (all_shut ids (all_taken ids w)) b)
+    subst P (told_is w ids (reached_apart w r) is)
+    (breaks_early h0 h1 [] (all_sent ids w) (all_shut ids (all_taken ids w)) b)
 
 -- in what tells who was closed
-pub lines_break_shut : (w : World) (ids half : List ℕ) (h0 h1 h2 : Option (List ℕ)) → IsReached w → ids ≡ ids_of w.sessions → Passes h0 h1 [] (all_sent ids w) half [] → Breaks h1 h2 half (all_shut ids (all_taken ids w)) → Breaks h0 h2 [] (lines_after w)
+pub lines_break_shut : (w : World) (ids half : List ℕ) (h0 h1 h2 : Option (List ℕ)) →
+    IsReached w → ids ≡ ids_of w.sessions → Passes h0 h1 [] (all_sent ids w) half [] →
+    Breaks h1 h2 half (all_shut ids (all_taken ids w)) → Breaks h0 h2 [] (lines_after w)
 lines_break_shut w ids half h0 h1 h2 r is sent b =
     let P : List ℕ → Type 0 = λ t. Breaks h0 h2 [] t in
     let shut : List ℕ = all_shut ids (all_taken ids w) in
-    subst P (ap (λ (t : List ℕ). all_sent ids w ++ t) (append-nil shut) ∙ told_is w ids (reached_apart w r) is) (breaks_two h0 h1 h2 [] (all_sent ids w) half shut [] sent b)
+    subst P (ap (λ (t : List ℕ). all_sent ids w ++ t) (append-nil shut) ∙ told_is w ids
+    (reached_apart w r) is) (breaks_two h0 h1 h2 [] (all_sent ids w) half shut [] sent b)
 
 -- or where all waits
-pub lines_break_out : (w : World) (ids half near : List ℕ) (h0 h1 h2 h3 : Option (List ℕ)) → IsReached w → ids ≡ ids_of w.sessions → Passes h0 h1 [] (all_sent ids w) half [] → Passes h1 h2 half (all_shut ids (all_taken ids w)) near [] → Breaks h2 h3 near [] → Breaks h0 h3 [] (lines_after w)
+pub lines_break_out : (w : World) (ids half near : List ℕ) (h0 h1 h2 h3 : Option (List ℕ)) →
+    IsReached w → ids ≡ ids_of w.sessions → Passes h0 h1 [] (all_sent ids w) half [] →
+    Passes h1 h2 half (all_shut ids (all_taken ids w)) near [] → Breaks h2 h3 near [] →
+    Breaks h0 h3 [] (lines_after w)
 lines_break_out w ids half near h0 h1 h2 h3 r is sent shut b =
     let P : List ℕ → Type 0 = λ t. Breaks h0 h3 [] t in
     let text : List ℕ = all_sent ids w ++ all_shut ids (all_taken ids w) in
-    let both = passes_two h0 h1 h2 [] (all_sent ids w) half (all_shut ids (all_taken ids w)) near sent shut in
-    subst P (append-nil text ∙ told_is w ids (reached_apart w r) is) (breaks_two h0 h2 h3 [] text near [] [] both b)
+    let both = passes_two h0 h1 h2 [] (all_sent ids w) half
+    (all_shut ids (all_taken ids w)) near sent shut in
+    subst P (append-nil text ∙ told_is w ids (reached_apart w r) is)
+    (breaks_two h0 h2 h3 [] text near [] [] both b)

@@ -32,7 +32,8 @@ read_fault_line = ended_line (codes "read fault")
 
 -- where the first fault of a text shows, and what it is
 abbrev pub bad_input_line : BadInput → List ℕ
-bad_input_line bad = ended_line (codes "bad input at " ++ decimal bad.line ++ codes ": " ++ fault_name bad.kind)
+bad_input_line bad =
+    ended_line (codes "bad input at " ++ decimal bad.line ++ codes ": " ++ fault_name bad.kind)
 
 -- the last line where it does not depend on the input
 abbrev pub fixed_line_of : Ended → List ℕ

@@ -1,7 +1,8 @@
 -- The names of the faults of a text, as they are printed.
 use Rattle.std.specs.Prelude.{ℕ, List, codes}
 use Rattle.mc_top.specs.declared.bad_input.InputFault.{InputFault}
-use Rattle.mc_top.specs.declared.bad_input.InputFault.TheVariants.{Hex, Frame, Packet, Login, Cut, Long, Word, Number, Order}
+use Rattle.mc_top.specs.declared.bad_input.InputFault.TheVariants.{Hex, Frame, Packet, Login, Cut}
+use Rattle.mc_top.specs.declared.bad_input.InputFault.TheVariants.{Long, Word, Number, Order}
 
 abbrev pub fault_name : InputFault → List ℕ
 fault_name Hex = codes "Hex"

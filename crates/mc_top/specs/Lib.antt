@@ -3,7 +3,7 @@ pub mod FaultName
 pub mod Ended
 pub mod StatusText
 pub mod Received
-pub mod Words
+pub mod Arguments
 pub mod Devices
 pub mod StatusPromise
 pub mod Digits

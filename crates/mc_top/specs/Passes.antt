@@ -2,7 +2,8 @@
 use Rattle.std.specs.Prelude.{◌≡◌, ℕ, List, ◌++◌, take, Option}
 use Rattle.mc_wire.specs.Stream.{Grows}
 
--- Of the lines that waited and `all` behind them some first part was written, then others wait, and `left` is to come.
+-- Of the lines that waited and `all` behind them some first part was written, then others wait, and
+-- `left` is to come.
 pub record Passes (held held' : Option (List ℕ)) (old all new left : List ℕ) : Type 0 where
   pub out : List ℕ
   pub wrote : Grows held held' out

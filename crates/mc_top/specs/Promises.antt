@@ -1,17 +1,17 @@
--- What a run of the program promises, by the command that its words name and by how it ends. Rules
--- of this project. A new command is a case of each of these.
+-- What a run of the program promises, by the command that its arguments name and by how it ends.
+-- Rules of this project. A new command is a case of each of these.
 use Rattle.std.specs.Prelude.{◌≡◌, ℕ, List, Some, None}
 use Rattle.std.specs.declared.string.String.{String}
 use Rattle.mc_top.specs.declared.bad_input.BadInput.{BadInput}
 use Rattle.mc_top.specs.declared.ended.Ended.{Ended}
 use Rattle.mc_top.specs.declared.script_line.ScriptEvent.{ScriptEvent}
-use Rattle.mc_top.specs.declared.words.Command.{Command}
-use Rattle.mc_top.specs.declared.words.Command.TheVariants.{Status, Replay}
+use Rattle.mc_top.specs.declared.arguments.Command.{Command}
+use Rattle.mc_top.specs.declared.arguments.Command.TheVariants.{Status, Replay}
 use Rattle.mc_top.specs.Devices.{Devices}
 use Rattle.mc_top.specs.Ended.{status_of}
 use Rattle.mc_top.specs.ReplayPromise.{IsScriptOf, IsFaultOf, ReplayPromise}
 use Rattle.mc_top.specs.StatusPromise.{IsFineText, IsBadText, StatusPromise}
-use Rattle.mc_top.specs.Words.{command_of, bytes_of}
+use Rattle.mc_top.specs.Arguments.{command_of, bytes_of}
 
 -- what holds where a command ended so, from the devices before it to those after it
 abbrev pub Promises : Command → Ended → Devices → Devices → Type 0
@@ -28,14 +28,14 @@ abbrev pub HasFault : Command → BadInput → List ℕ → Type 0
 HasFault (Status most) bad input = (text : List ℕ) × IsBadText most bad text input
 HasFault (Replay options) bad input = IsFaultOf bad input
 
--- the words name no command with its options
+-- the arguments name no command with its options
 abbrev pub NamesNone : {Z : Type 0} → List (String Z) → Type 0
-NamesNone words = command_of (bytes_of words) ≡ None
+NamesNone arguments = command_of (bytes_of arguments) ≡ None
 
--- the command that the words name ended so, and its promise holds
+-- the command that the arguments name ended so, and its promise holds
 abbrev pub KeepsPromise : {Z : Type 0} → List (String Z) → Ended → Devices → Devices → Type 0
-KeepsPromise words ended before after =
-    (command : Command) → command_of (bytes_of words) ≡ Some command →
+KeepsPromise arguments ended before after =
+    (command : Command) → command_of (bytes_of arguments) ≡ Some command →
     Promises command ended before after
 
 -- the statuses that a run may answer

@@ -6,7 +6,7 @@ use Rattle.mc_model.specs.World.{World, new_world}
 use Rattle.mc_model.specs.Headline.{Headline}
 use Rattle.mc_top.specs.declared.bad_input.BadInput.{BadInput}
 use Rattle.mc_top.specs.declared.script_line.ScriptEvent.{ScriptEvent}
-use Rattle.mc_top.specs.declared.words.Options.{Options}
+use Rattle.mc_top.specs.declared.arguments.Options.{Options}
 use Rattle.mc_top.specs.declared.ended.Ended.{Ended}
 use Rattle.mc_top.specs.declared.ended.Ended.TheVariants as ended
 use Rattle.mc_top.specs.Devices.{Devices, InputFailed, IsTextRead, WroteLast}
@@ -46,8 +46,10 @@ pub record ReplayedPart (options : Options) (left held held' : Option (List ℕ)
   pub wrote : Grows held held' (take len (replay_text (world_of options) (events_of events)))
 
 -- some first part of the text, or nothing
-abbrev pub ReplayedPartOrNothing : Options → Option (List ℕ) → Option (List ℕ) → Option (List ℕ) → Type 0
-ReplayedPartOrNothing options left held held' = Grows held held' [] ⊎ ReplayedPart options left held held'
+abbrev pub ReplayedPartOrNothing : Options → Option (List ℕ) → Option (List ℕ) →
+    Option (List ℕ) → Type 0
+ReplayedPartOrNothing options left held held' =
+    Grows held held' [] ⊎ ReplayedPart options left held held'
 
 -- the input was read to its end or until it was too long, and this is its first fault
 pub record FoundFault (bad : BadInput) (left left' : Option (List ℕ)) : Type 0 where

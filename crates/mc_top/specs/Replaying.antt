@@ -1,17 +1,18 @@
 -- What playing events makes of a server, piece by piece, and what it writes.
-use Rattle.std.specs.Prelude.{◌≡◌, ℕ, ◌≤◌, Bool, true, false, List, [], ◌∷◌, ◌++◌, length, take, Option, codes, decimal, if◌then◌else◌}
+use Rattle.std.specs.Prelude.{◌≡◌, ℕ, ◌≤◌, Bool, true, false, List, [], ◌∷◌, ◌++◌, length, take}
+use Rattle.std.specs.Prelude.{Option, codes, decimal, if◌then◌else◌}
 use Rattle.std.specs.List.{sum_by}
 use Rattle.hex.specs.Hex.{encode_lower}
 use Rattle.mc_land.specs.declared.terrain.Terrain.{Terrain}
 use Rattle.mc_wire.specs.Stream.{Grows}
 use Rattle.mc_model.specs.World.{World, new_world}
 use Rattle.mc_model.specs.Step.{Event, took, forgot, step}
-use Rattle.mc_model.specs.Run.{history}
+use Rattle.mc_model.specs.Run.{history, owed_in}
 use Rattle.mc_server.specs.declared.input.Input.{Input}
 use Rattle.mc_server.specs.declared.input.Input.TheVariants.{Tick}
 use Rattle.mc_server.specs.Served.{ServerValue}
 use Rattle.mc_server.specs.Stands.{Stands}
-use Rattle.mc_server.specs.Asking.{owed_in, is_done_in}
+use Rattle.mc_server.specs.Asking.{is_done_in}
 use Rattle.mc_top.specs.declared.script_line.ScriptEvent.{ScriptEvent}
 use Rattle.mc_top.specs.declared.script_line.ScriptEvent.TheVariants.{Ticks}
 use Rattle.mc_top.specs.Passes.{Passes}
@@ -34,13 +35,17 @@ taken k w = (step w (took k (length (owed_in k w)))).world
 -- its line of bytes, where there are any
 abbrev pub sent_by : ℕ → List ℕ → List ℕ
 sent_by k [] = []
-sent_by k (b ∷ bytes) = codes "sent " ++ decimal k ++ codes " " ++ encode_lower (b ∷ bytes) ++ 10 ∷ []
+sent_by k (b ∷ bytes) =
+    codes "sent " ++ decimal k ++ codes " " ++ encode_lower (b ∷ bytes) ++ 10 ∷ []
 
 -- its first bytes were taken and passed on as hex, or there were none
-abbrev pub TakesFront : ℕ → World → ServerValue → Option (List ℕ) → Option (List ℕ) → List ℕ → List ℕ → Bool → Type 0
-TakesFront k w server held held' old new false = (owed_in k w ≡ []) × Stands server w × Passes held held' old [] new []
+abbrev pub TakesFront : ℕ → World → ServerValue → Option (List ℕ) → Option (List ℕ) → List ℕ →
+    List ℕ → Bool → Type 0
+TakesFront k w server held held' old new false =
+    (owed_in k w ≡ []) × Stands server w × Passes held held' old [] new []
 TakesFront k w server held held' old new true =
-    (n : ℕ) × (n ≤ length (owed_in k w)) × Stands server (step w (took k n)).world × Passes held held' old (encode_lower (take n (owed_in k w))) new []
+    (n : ℕ) × (n ≤ length (owed_in k w)) × Stands server (step w (took k n)).world
+    × Passes held held' old (encode_lower (take n (owed_in k w))) new []
 
 -- it was forgotten, where it was closed and owed nothing
 abbrev pub forgotten : ℕ → World → World
@@ -89,12 +94,14 @@ replay_world w [] = w
 replay_world w (e ∷ events) = replay_world (settled (step w e).world) events
 
 -- the server stands for the world after events, and their text was written
-pub record HasPlayed (events : List Event) (w : World) (server : ServerValue) (held held' : Option (List ℕ)) : Type 0 where
+pub record HasPlayed (events : List Event) (w : World) (server : ServerValue)
+    (held held' : Option (List ℕ)) : Type 0 where
   pub stands : Stands server (replay_world w events)
   pub wrote : Grows held held' (replay_text w events)
 
 -- some first part of the text of events was written
-pub record HasStopped (events : List Event) (w : World) (held held' : Option (List ℕ)) : Type 0 where
+pub record HasStopped (events : List Event) (w : World)
+    (held held' : Option (List ℕ)) : Type 0 where
   pub len : ℕ
   pub wrote : Grows held held' (take len (replay_text w events))
 

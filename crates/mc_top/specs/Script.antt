@@ -1,5 +1,8 @@
--- A script of events, as a text of lines, and the first fault of one that is none. Rules of this project.
-use Rattle.std.specs.Prelude.{ℕ, ◌+◌, ◌-◌, ◌==◌, ◌&&◌, nat_lt, nat_le, Bool, true, false, List, [], ◌∷◌, ◌++◌, length, Option, Some, None, Result, Ok, Err, codes, if◌then◌else◌}
+-- A script of events, as a text of lines, and the first fault of one that is none. Rules of this
+-- project.
+use Rattle.std.specs.Prelude.{ℕ, ◌+◌, ◌-◌, ◌==◌, nat_lt, nat_le, Bool, true, false, List, [], ◌∷◌}
+use Rattle.std.specs.Prelude.{◌++◌, length, Option, Some, None, Result, Ok, Err, codes}
+use Rattle.std.specs.Prelude.{if◌then◌else◌}
 use Rattle.std.specs.List.{slice_split}
 use Rattle.std.specs.Result.{result_ok}
 use Rattle.std.specs.Str.{bytes_eq, is_utf8}
@@ -36,7 +39,8 @@ unfoldable pub hex_of : List ℕ → Option (List ℕ)
 hex_of [] = None
 hex_of (b ∷ digits) = result_ok (decode_of (b ∷ digits))
 
--- ---- lines: what stands before a line is the last number that joined, and how many ticks are left of those that a script may have
+-- ---- lines: what stands before a line is the last number that joined, and how many ticks are
+-- left of those that a script may have
 
 abbrev pub at_first : Before
 at_first = record { last = None; ticks_left = 1000000000 }
@@ -66,20 +70,23 @@ connection word = number_of 0 4294967295 word
 
 -- `tick`
 abbrev pub one_word : Before → List ℕ → Result ScriptEvent InputFault
-one_word before verb = if bytes_eq verb (codes "tick") then ticks_event before 1 else Err faults.Word
+one_word before verb =
+    if bytes_eq verb (codes "tick") then ticks_event before 1 else Err faults.Word
 
 -- `join K`, `gone K`, `tick N`
 abbrev pub two_words : Before → List ℕ → List ℕ → Result ScriptEvent InputFault
 two_words before verb word =
     if bytes_eq verb (codes "join") then numbered (connection word) (λ k. join_event before k)
     else if bytes_eq verb (codes "gone") then numbered (connection word) (λ k. Ok (Gone k))
-    else if bytes_eq verb (codes "tick") then numbered (number_of 1 100000 word) (λ n. ticks_event before n)
+    else if bytes_eq verb (codes "tick") then
+    numbered (number_of 1 100000 word) (λ n. ticks_event before n)
     else Err faults.Word
 
 -- `bytes K HEX`
 abbrev pub three_words : List ℕ → List ℕ → List ℕ → Result ScriptEvent InputFault
 three_words verb word hex =
-    if bytes_eq verb (codes "bytes") then numbered (connection word) (λ k. bytes_event k (hex_of hex))
+    if bytes_eq verb (codes "bytes") then
+    numbered (connection word) (λ k. bytes_event k (hex_of hex))
     else Err faults.Word
 
 abbrev pub words_event : Before → List (List ℕ) → Result ScriptEvent InputFault
@@ -109,18 +116,22 @@ after_event before (Ticks n) = record before { ticks_left = before.ticks_left - 
 after_event before other = before
 
 -- some events before others
-abbrev pub with_events : List ScriptEvent → Result (List ScriptEvent) BadInput → Result (List ScriptEvent) BadInput
+abbrev pub with_events : List ScriptEvent → Result (List ScriptEvent) BadInput →
+    Result (List ScriptEvent) BadInput
 with_events events (Ok more) = Ok (events ++ more)
 with_events events (Err bad) = Err bad
 
 -- the event of line n, and those of the lines behind it
-abbrev pub then_ : ℕ → Before → Result (Option ScriptEvent) InputFault → (Before → Result (List ScriptEvent) BadInput) → Result (List ScriptEvent) BadInput
+abbrev pub then_ : ℕ → Before → Result (Option ScriptEvent) InputFault →
+    (Before → Result (List ScriptEvent) BadInput) → Result (List ScriptEvent) BadInput
 then_ n before (Ok None) later = later before
 then_ n before (Ok (Some event)) later = with_events (event ∷ []) (later (after_event before event))
 then_ n before (Err kind) later = Err (record { line = n; kind = kind })
 
--- the events of the lines behind the first `count`, which have `size` bytes with their ends, of a text of `len` bytes
-unfoldable pub lines_events : ℕ → ℕ → ℕ → Before → List (List ℕ) → Result (List ScriptEvent) BadInput
+-- the events of the lines behind the first `count`, which have `size` bytes with their ends, of a
+-- text of `len` bytes
+unfoldable pub lines_events : ℕ → ℕ → ℕ → Before → List (List ℕ) →
+    Result (List ScriptEvent) BadInput
 lines_events len count size before [] = Ok []
 lines_events len count size before (line ∷ lines) =
     then_ (count + 1) before (line_event len (size + (length line + 1)) before line)

@@ -35,7 +35,8 @@ abbrev pub after_line : Before → Option ScriptEvent → Before
 after_line before None = before
 after_line before (Some event) = after_event before event
 
--- a script that was read has these events, or this is the first fault of what is none, unless memory ran out
+-- a script that was read has these events, or this is the first fault of what is none, unless
+-- memory ran out
 abbrev pub IsScript : Result (List ScriptEvent) BadInput → Result Script ScriptError → Type 0
 IsScript there (Ok script) = there ≡ Ok script.events.items
 IsScript there (Err (script_error.Bad bad)) = there ≡ Err bad

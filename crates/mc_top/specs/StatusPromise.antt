@@ -33,7 +33,8 @@ pub record RepliedPart (most : ℕ) (left held held' : Option (List ℕ)) : Type
 
 -- the input was read to its end or until it was too long, this is its first fault, and the text of
 -- what stands before it was written
-pub record Found (most : ℕ) (bad : BadInput) (left left' held held' : Option (List ℕ)) : Type 0 where
+pub record Found (most : ℕ) (bad : BadInput)
+    (left left' held held' : Option (List ℕ)) : Type 0 where
   pub text : List ℕ
   pub first : IfSome left (IsBadText most bad text)
   pub ended : IsTextRead left left'

@@ -11,44 +11,14 @@ ghost use Rattle.mc_top.specs.Received.{Received, IsIdle, IsAsking, is_over, sta
 ghost use Rattle.mc_top.specs.Received.{said_lines, Answers, Sends, SendsPart};
 
 use crate::bad_input::InputFault;
+use crate::pieces::PIECE;
+use crate::unfinished::Unfinished;
 use mc_frame::{Splitter, Take};
 use mc_model::Stage;
 use mc_nbt::NoMemory;
 use mc_session::{Session, Step};
 use mc_wire::{Failed, Sink, write_all};
 use std::alloc::Global;
-
-/// How many bytes of lines are written at a time.
-const PIECE: usize = 65_536;
-
-/// Why a client is not answered any further.
-#[derive(Clone, Copy, Debug, PartialEq, Eq)]
-pub enum Unanswered {
-    /// The output failed.
-    Failed,
-    /// There was no memory.
-    NoMemory,
-}
-
-impl From<Failed> for Unanswered {
-    ghost use Rattle.mc_top.specs.declared.client.Unanswered.TheVariants as unanswered;
-
-    ghost from_gives = { λ _ error. error ≡ unanswered.Failed };
-
-    fn from(_failure: Failed) -> Unanswered {
-        Unanswered::Failed
-    }
-}
-
-impl From<NoMemory> for Unanswered {
-    ghost use Rattle.mc_top.specs.declared.client.Unanswered.TheVariants as unanswered;
-
-    ghost from_gives = { λ _ error. error ≡ unanswered.NoMemory };
-
-    fn from(_refusal: NoMemory) -> Unanswered {
-        Unanswered::NoMemory
-    }
-}
 
 /// A client that asks for the status: what is left of its stream, how far it has come, what is
 /// wrong with what it said, and the lines of its answers that wait to be written.
@@ -107,12 +77,12 @@ fn send<O: Sink>(
     frame: &[u8],
     lines: &mut Vec<u8>,
     out: &mut O,
-) -> Result<(), Unanswered>
+) -> Result<(), Unfinished>
     ensures sent { OnOk result (Sends (O.held out.old)
         (O.held out.new) lines.old.items lines.new.items (hex_line frame.now)) }
     ensures stopped { OnErr result (SendsPart (O.held out.old) (O.held out.new) (lines.old.items
         ++ hex_line frame.now)) }
-    ensures failed { IsErrOf result Unanswered.Failed → Rose (O.faults out.old) (O.faults out.new) }
+    ensures failed { IsErrOf result Unfinished.Failed → Rose (O.faults out.old) (O.faults out.new) }
     ensures counts { StandsOrRises (O.faults out.old) (O.faults out.new) }
 {
     make_room(lines, frame.len(), out)?;
@@ -178,7 +148,7 @@ impl Client {
         most: u32,
         payload: &[u8],
         out: &mut O,
-    ) -> Result<(), Unanswered>
+    ) -> Result<(), Unfinished>
         requires asking { IsAsking self.old.session.stage }
         requires fine { self.old.fault ≡ None }
         ensures answered { OnOk result
@@ -187,7 +157,7 @@ impl Client {
         ensures stopped { OnErr result
             (SendsPart (O.held out.old) (O.held out.new) (self.old.lines.items
             ++ said_lines (request_of self.old.session.stage most 0 payload.now))) }
-        ensures failed { IsErrOf result Unanswered.Failed →
+        ensures failed { IsErrOf result Unfinished.Failed →
             Rose (O.faults out.old) (O.faults out.new) }
         ensures counts { StandsOrRises (O.faults out.old) (O.faults out.new) }
     {
@@ -213,7 +183,7 @@ impl Client {
         alloc: Global,
         most: u32,
         out: &mut O,
-    ) -> Result<bool, Unanswered>
+    ) -> Result<bool, Unfinished>
         ensures received { IfOk result (λ more. (start : Option (List ℕ)) (x : Exchange) →
             Received most start (O.held out.old) self.old x →
             Received most start (O.held out.new) self.new x) }
@@ -223,7 +193,7 @@ impl Client {
         ensures stopped { OnErr result ((start : Option (List ℕ)) (x : Exchange) →
             Received most start (O.held out.old) self.old x →
             SendsPart start (O.held out.new) x.text) }
-        ensures failed { IsErrOf result Unanswered.Failed →
+        ensures failed { IsErrOf result Unfinished.Failed →
             Rose (O.faults out.old) (O.faults out.new) }
         ensures counts { StandsOrRises (O.faults out.old) (O.faults out.new) }
     {
@@ -249,7 +219,7 @@ impl Client {
         alloc: Global,
         most: u32,
         out: &mut O,
-    ) -> Result<(), Unanswered>
+    ) -> Result<(), Unfinished>
         ensures received { OnOk result ((start : Option (List ℕ)) (x : Exchange) →
             Received most start (O.held out.old) self.old x →
             Received most start (O.held out.new) self.new x) }
@@ -257,7 +227,7 @@ impl Client {
         ensures stopped { OnErr result ((start : Option (List ℕ)) (x : Exchange) →
             Received most start (O.held out.old) self.old x →
             SendsPart start (O.held out.new) x.text) }
-        ensures failed { IsErrOf result Unanswered.Failed →
+        ensures failed { IsErrOf result Unfinished.Failed →
             Rose (O.faults out.old) (O.faults out.new) }
         ensures counts { StandsOrRises (O.faults out.old) (O.faults out.new) }
     {
@@ -272,7 +242,7 @@ impl Client {
         most: u32,
         piece: &[u8],
         out: &mut O,
-    ) -> Result<(), Unanswered>
+    ) -> Result<(), Unfinished>
         requires { IsIdle self.old }
         ensures received { OnOk result ((start : Option (List ℕ)) (x : Exchange) →
             Received most start (O.held out.old) self.old x →
@@ -281,7 +251,7 @@ impl Client {
         ensures stopped { OnErr result ((start : Option (List ℕ)) (x : Exchange) →
             Received most start (O.held out.old) self.old x →
             SendsPart start (O.held out.new) (fold receives x piece.now).text) }
-        ensures failed { IsErrOf result Unanswered.Failed →
+        ensures failed { IsErrOf result Unfinished.Failed →
             Rose (O.faults out.old) (O.faults out.new) }
         ensures counts { StandsOrRises (O.faults out.old) (O.faults out.new) }
     {

@@ -13,7 +13,7 @@ pub enum Ended {
     Done,
     /// There was no memory.
     NoMemory,
-    /// The words name no command.
+    /// The arguments name no command.
     Usage,
     /// The input failed.
     ReadFault,

@@ -1,4 +1,4 @@
-ghost use Rattle.std.specs.Prelude.{◌≡◌, ◌≤◌, ◌+◌, ◌⊎◌, ℕ, List, Option, Some, Ok, Err};
+ghost use Rattle.std.specs.Prelude.{◌≡◌, ◌≤◌, ◌+◌, ◌⊎◌, ℕ, List, Some, Ok, Err};
 ghost use Rattle.mc_wire.specs.Count.{Rose};
 ghost use Rattle.mc_top.specs.declared.bad_input.BadInput.{BadInput};
 ghost use Rattle.mc_top.specs.declared.bad_input.InputFault.TheVariants.{Long};
@@ -8,35 +8,38 @@ ghost use Rattle.mc_top.specs.Script.{script_of};
 ghost use Rattle.mc_top.specs.Replaying.{ticks_of};
 ghost use Rattle.mc_top.specs.declared.ended.Ended.{Ended};
 ghost use Rattle.mc_top.specs.declared.ended.Ended.TheVariants as ended;
-ghost use Rattle.mc_top.specs.declared.words.Command.{Command};
+ghost use Rattle.mc_top.specs.declared.arguments.Command.{Command};
 ghost use Rattle.mc_top.specs.Devices.{Devices};
 ghost use Rattle.mc_top.specs.Ended.{status_of};
 ghost use Rattle.mc_top.specs.Promises.{HasFault, IsInputOf, Promises};
 
 /// The line of a script that is too long is the one that holds the first byte too many.
 pub fn long_line_of_a_script()
-    ensures { (text : List ℕ) (n : ℕ) → script_of text ≡ Err (record { line = n; kind = Long }) → HoldsByte text n (text_max + 1) }
+    ensures { (text : List ℕ) (n : ℕ) → script_of text ≡ Err (record { line = n; kind = Long }) →
+        HoldsByte text n (text_max + 1) }
 {}
 
 /// A script has at most 1,000,000,000 ticks in all.
 pub fn ticks_of_a_script()
-    ensures { (text : List ℕ) (events : List ScriptEvent) → script_of text ≡ Ok events → ticks_of events ≤ 1000000000 }
+    ensures { (text : List ℕ) (events : List ScriptEvent) → script_of text ≡ Ok events →
+        ticks_of events ≤ 1000000000 }
 {}
 
 /// An input that nothing is wrong with is served, unless memory runs out or a device fails. It
 /// follows from what each command promises.
 pub fn good_inputs_are_served()
     ensures { (command : Command) (how : Ended) (before after : Devices) (input : List ℕ) →
-        Promises command how before after → before.left ≡ Some input → IsInputOf command input →
-        ¬ Rose before.read_faults after.read_faults → ¬ Rose before.write_faults after.write_faults →
+        Promises command how before after → before.left ≡ Some input →
+        IsInputOf command input → ¬ Rose before.read_faults after.read_faults →
+        ¬ Rose before.write_faults after.write_faults →
         (how ≡ ended.Done) ⊎ (how ≡ ended.NoMemory) }
 {}
 
 /// An input that has a fault is refused, unless memory runs out or a device fails. It follows from
 /// what each command promises.
 pub fn bad_inputs_are_refused()
-    ensures { (command : Command) (how : Ended) (before after : Devices) (bad : BadInput) (input : List ℕ) →
-        Promises command how before after → before.left ≡ Some input → HasFault command bad input →
-        ¬ Rose before.read_faults after.read_faults → ¬ Rose before.write_faults after.write_faults →
-        (status_of how ≡ 6) ⊎ (status_of how ≡ 1) }
+    ensures { (command : Command) (how : Ended) (before after : Devices) (bad : BadInput)
+        (input : List ℕ) → Promises command how before after → before.left ≡ Some input →
+        HasFault command bad input → ¬ Rose before.read_faults after.read_faults →
+        ¬ Rose before.write_faults after.write_faults → (status_of how ≡ 6) ⊎ (status_of how ≡ 1) }
 {}

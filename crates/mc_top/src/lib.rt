@@ -1,11 +1,12 @@
-//! The commands of the program, over the devices that they need. It stands on the server of `mc_server`,
-//! the sessions of `mc_session`, the frames of `mc_frame`, the devices of `mc_wire` and the hex of the
-//! crate `hex`.
+//! The commands of the program, over the devices that they need. It stands on the server of
+//! `mc_server`, the sessions of `mc_session`, the frames of `mc_frame`, the devices of `mc_wire`
+//! and the hex of the crate `hex`.
 //!
-//! Its one contract is `run`: for each status, what the command that the words name promises of the
-//! input and the output (`specs/Promises.antt`).
+//! Its one contract is `run`: for each status, what the command that the arguments name promises of
+//! the input and the output (`specs/Promises.antt`).
 #![tactic(auto)]
 
+mod arguments;
 mod bad_input;
 mod client;
 mod command;
@@ -19,8 +20,7 @@ mod replay_lines;
 mod script;
 mod script_line;
 mod status;
-mod unplayed;
-mod words;
+mod unfinished;
 
 pub use bad_input::{BadInput, InputFault};
 pub use command::run;

@@ -1,5 +1,6 @@
 ghost use Rattle.std.specs.Prelude.{◌≡◌, IfOk, IsErrOf, position, MatchOption};
-ghost use Rattle.mc_top.specs.Lines.{is_line_end, is_skipped, line_bytes, goes_past, PutsLine, EndsText, CutsLine};
+ghost use Rattle.mc_top.specs.Lines.{is_line_end, is_skipped, line_bytes, goes_past, PutsLine};
+ghost use Rattle.mc_top.specs.Lines.{EndsText, CutsLine};
 ghost use Rattle.std.specs.Result.{result_ok};
 ghost use Rattle.hex.specs.Hex.{decode_of};
 ghost use Rattle.mc_wire.specs.Count.{Rose};
@@ -23,8 +24,8 @@ pub fn read_text<I: Source>(alloc: Global, input: &mut I) -> Result<Vec<u8>, Inp
     read_up_to(alloc, input, TEXT_MAX + 1)
 }
 
-/// Whether a line goes past the most bytes of a text: the text has `len`, and `size` up to the line's
-/// end.
+/// Whether a line goes past the most bytes of a text: the text has `len`, and `size` up to the
+/// line's end.
 pub fn goes_past(len: usize, size: usize) -> bool
     ensures { result ≡ goes_past len size }
 {
@@ -62,7 +63,8 @@ pub fn is_skipped(line: &[u8]) -> bool
 
 /// Puts the bytes that hex digits write behind the others, and says whether they were hex.
 pub fn put_hex(digits: &[u8], bytes: &mut Vec<u8>) -> Result<bool, NoMemory>
-    ensures { IfOk result (λ is_hex. PutsLine (result_ok (decode_of digits.now)) bytes.old.items bytes.new.items is_hex) }
+    ensures { IfOk result (λ is_hex.
+        PutsLine (result_ok (decode_of digits.now)) bytes.old.items bytes.new.items is_hex) }
 {
     let start = bytes.len();
     bytes.resize(start + digits.len() / 2, 0)?;
@@ -72,7 +74,8 @@ pub fn put_hex(digits: &[u8], bytes: &mut Vec<u8>) -> Result<bool, NoMemory>
 
 /// Puts the bytes of a line behind the others, and says whether it was hex.
 pub fn put_line(line: &[u8], bytes: &mut Vec<u8>) -> Result<bool, NoMemory>
-    ensures { IfOk result (λ is_hex. PutsLine (line_bytes line.now) bytes.old.items bytes.new.items is_hex) }
+    ensures { IfOk result
+        (λ is_hex. PutsLine (line_bytes line.now) bytes.old.items bytes.new.items is_hex) }
 {
     if is_skipped(line) {
         return Ok(true);

@@ -7,16 +7,18 @@ ghost use Rattle.mc_server.specs.Stands.{Stands, age_of};
 ghost use Rattle.mc_server.specs.Inputs.{event_of};
 ghost use Rattle.mc_top.specs.declared.bad_input.BadInput.{BadInput};
 ghost use Rattle.mc_top.specs.ReplayText.{line_events, events_of, replay_text};
-ghost use Rattle.mc_top.specs.Replaying.{IsReached, HasPlayed, HasStopped, line_ticks, ticks_of, input_ticks};
-ghost use Rattle.mc_top.specs.ReplayPromise.{world_of, Replayed, ReplayedPart, ReplayedPartOrNothing, FoundFault};
+ghost use Rattle.mc_top.specs.Replaying.{IsReached, HasPlayed, HasStopped, line_ticks, ticks_of};
+ghost use Rattle.mc_top.specs.Replaying.{input_ticks};
+ghost use Rattle.mc_top.specs.ReplayPromise.{world_of, Replayed, ReplayedPart};
+ghost use Rattle.mc_top.specs.ReplayPromise.{ReplayedPartOrNothing, FoundFault};
 
+use crate::arguments::Options;
 use crate::ended::Ended;
 use crate::lines::read_text;
 use crate::replay_lines::put_lines;
 use crate::script::{Script, ScriptError};
 use crate::script_line::ScriptEvent;
-use crate::unplayed::Unplayed;
-use crate::words::Options;
+use crate::unfinished::Unfinished;
 use mc_nbt::NoMemory;
 use mc_server::{Input, Server, Settings};
 use mc_wire::{InputError, Sink, Source};
@@ -48,14 +50,14 @@ fn play<O: Sink>(
     input: Input<'_>,
     lines: &mut Vec<u8>,
     out: &mut O,
-) -> Result<(), Unplayed>
+) -> Result<(), Unfinished>
     requires young { age_of server.old + input_ticks input ≤ 1000000000 }
     ensures played { (w : World) → Stands server.old w → IsReached w → OnOk result
         (HasPlayed (event_of input.entry ∷ []) w server.new (O.held out.old) (O.held out.new)) }
     ensures stopped { (w : World) → Stands server.old w → IsReached w → OnErr result
         (HasStopped (event_of input.entry ∷ []) w (O.held out.old) (O.held out.new)) }
     ensures age { OnOk result (age_of server.new ≡ age_of server.old + input_ticks input.entry) }
-    ensures failed { IsErrOf result Unplayed.Failed → Rose (O.faults out.old) (O.faults out.new) }
+    ensures failed { IsErrOf result Unfinished.Failed → Rose (O.faults out.old) (O.faults out.new) }
     ensures counts { StandsOrRises (O.faults out.old) (O.faults out.new) }
 {
     lines.clear();
@@ -71,14 +73,14 @@ fn play_ticks<O: Sink>(
     count: u32,
     lines: &mut Vec<u8>,
     out: &mut O,
-) -> Result<(), Unplayed>
+) -> Result<(), Unfinished>
     requires young { age_of server.old + count ≤ 1000000000 }
     ensures played { (w : World) → Stands server.old w → IsReached w → OnOk result
         (HasPlayed (replicate count ticked) w server.new (O.held out.old) (O.held out.new)) }
     ensures stopped { (w : World) → Stands server.old w → IsReached w → OnErr result
         (HasStopped (replicate count ticked) w (O.held out.old) (O.held out.new)) }
     ensures age { OnOk result (age_of server.new ≡ age_of server.old + count) }
-    ensures failed { IsErrOf result Unplayed.Failed → Rose (O.faults out.old) (O.faults out.new) }
+    ensures failed { IsErrOf result Unfinished.Failed → Rose (O.faults out.old) (O.faults out.new) }
     ensures counts { StandsOrRises (O.faults out.old) (O.faults out.new) }
 {
     for _tick in 0..count {
@@ -94,14 +96,14 @@ fn play_line<O: Sink>(
     event: &ScriptEvent,
     lines: &mut Vec<u8>,
     out: &mut O,
-) -> Result<(), Unplayed>
+) -> Result<(), Unfinished>
     requires young { age_of server.old + line_ticks event.now ≤ 1000000000 }
     ensures played { (w : World) → Stands server.old w → IsReached w → OnOk result
         (HasPlayed (line_events event.now) w server.new (O.held out.old) (O.held out.new)) }
     ensures stopped { (w : World) → Stands server.old w → IsReached w → OnErr result
         (HasStopped (line_events event.now) w (O.held out.old) (O.held out.new)) }
     ensures age { OnOk result (age_of server.new ≡ age_of server.old + line_ticks event.now) }
-    ensures failed { IsErrOf result Unplayed.Failed → Rose (O.faults out.old) (O.faults out.new) }
+    ensures failed { IsErrOf result Unfinished.Failed → Rose (O.faults out.old) (O.faults out.new) }
     ensures counts { StandsOrRises (O.faults out.old) (O.faults out.new) }
 {
     match event {
@@ -128,13 +130,13 @@ fn play_all<O: Sink>(
     server: &mut Server,
     events: &[ScriptEvent],
     out: &mut O,
-) -> Result<(), Unplayed>
+) -> Result<(), Unfinished>
     requires young { age_of server.old + ticks_of events.now ≤ 1000000000 }
     ensures played { (w : World) → Stands server.old w → IsReached w → OnOk result
         (HasPlayed (events_of events.now) w server.new (O.held out.old) (O.held out.new)) }
     ensures stopped { (w : World) → Stands server.old w → IsReached w → OnErr result
         (HasStopped (events_of events.now) w (O.held out.old) (O.held out.new)) }
-    ensures failed { IsErrOf result Unplayed.Failed → Rose (O.faults out.old) (O.faults out.new) }
+    ensures failed { IsErrOf result Unfinished.Failed → Rose (O.faults out.old) (O.faults out.new) }
     ensures counts { StandsOrRises (O.faults out.old) (O.faults out.new) }
 {
     let mut lines = Vec::new(alloc);
@@ -150,14 +152,14 @@ fn play_script<O: Sink>(
     options: Options,
     script: &Script,
     out: &mut O,
-) -> Result<(), Unplayed>
+) -> Result<(), Unfinished>
     requires settings { AreSettings options.players options.view }
     requires young { ticks_of script.now.events.items ≤ 1000000000 }
     ensures played { OnOk result (Grows (O.held out.old) (O.held out.new)
         (replay_text (world_of options) (events_of script.now.events.items))) }
-    ensures stopped { OnErr result
-        (HasStopped (events_of script.now.events.items) (world_of options) (O.held out.old) (O.held out.new)) }
-    ensures failed { IsErrOf result Unplayed.Failed → Rose (O.faults out.old) (O.faults out.new) }
+    ensures stopped { OnErr result (HasStopped (events_of script.now.events.items)
+        (world_of options) (O.held out.old) (O.held out.new)) }
+    ensures failed { IsErrOf result Unfinished.Failed → Rose (O.faults out.old) (O.faults out.new) }
     ensures counts { StandsOrRises (O.faults out.old) (O.faults out.new) }
 {
     let mut server = new_server(alloc, options)?;
@@ -165,8 +167,8 @@ fn play_script<O: Sink>(
     Ok(())
 }
 
-/// The command `replay`: it reads a script, plays it on a server of a new world, and writes after each
-/// event what each connection is owed.
+/// The command `replay`: it reads a script, plays it on a server of a new world, and writes after
+/// each event what each connection is owed.
 pub fn replay<I: Source, O: Sink>(
     alloc: Global,
     options: Options,
@@ -179,7 +181,8 @@ pub fn replay<I: Source, O: Sink>(
     ensures no_memory { result ≡ Ended.NoMemory →
         ReplayedPartOrNothing options (I.left input.old) (O.held out.old) (O.held out.new) }
     ensures never_usage { ¬ (result ≡ Ended.Usage) }
-    ensures read_fault { result ≡ Ended.ReadFault → Rose (I.faults input.old) (I.faults input.new) × (out.new ≡ out.old) }
+    ensures read_fault { result ≡ Ended.ReadFault →
+        Rose (I.faults input.old) (I.faults input.new) × (out.new ≡ out.old) }
     ensures write_fault { result ≡ Ended.WriteFault → Rose (O.faults out.old) (O.faults out.new)
         × ReplayedPart options (I.left input.old) (O.held out.old) (O.held out.new) }
     ensures bad_input { (bad : BadInput) → result ≡ Ended.BadInput bad →
@@ -200,7 +203,7 @@ pub fn replay<I: Source, O: Sink>(
     drop(text);
     match play_script(alloc, options, &script, out) {
         Ok(()) => Ended::Done,
-        Err(Unplayed::Failed) => Ended::WriteFault,
-        Err(Unplayed::NoMemory) => Ended::NoMemory,
+        Err(Unfinished::Failed) => Ended::WriteFault,
+        Err(Unfinished::NoMemory) => Ended::NoMemory,
     }
 }

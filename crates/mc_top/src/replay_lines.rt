@@ -4,31 +4,34 @@ ghost use Rattle.mc_wire.specs.Count.{Rose, StandsOrRises};
 ghost use Rattle.mc_wire.specs.Stream.{Grows};
 ghost use Rattle.mc_model.specs.World.{World};
 ghost use Rattle.mc_server.specs.Stands.{Stands, age_of};
-ghost use Rattle.mc_server.specs.Asking.{owed_in};
+ghost use Rattle.mc_model.specs.Run.{owed_in};
 ghost use Rattle.mc_top.specs.Passes.{Breaks, Passes};
 ghost use Rattle.mc_top.specs.ReplayText.{settled, lines_after};
-ghost use Rattle.mc_top.specs.Replaying.{IsReached, TakesFront, taken, sent_in, forgotten, shut_in, all_taken, all_sent, all_forgotten, all_shut};
+ghost use Rattle.mc_top.specs.Replaying.{IsReached, TakesFront, taken, sent_in, forgotten, shut_in};
+ghost use Rattle.mc_top.specs.Replaying.{all_taken, all_sent, all_forgotten, all_shut};
 
 use crate::pieces::{HEX_PIECE, put, put_hex, write_out};
-use crate::unplayed::Unplayed;
+use crate::unfinished::Unfinished;
 use mc_server::Server;
 use mc_wire::Sink;
 use std::alloc::Global;
 
-/// Takes the first bytes that a connection is owed and puts them as hex, and says whether there were
-/// any.
+/// Takes the first bytes that a connection is owed and puts them as hex, and says whether there
+/// were any.
 fn take_front<O: Sink>(
     server: &mut Server,
     connection: u32,
     lines: &mut Vec<u8>,
     out: &mut O,
-) -> Result<bool, Unplayed>
+) -> Result<bool, Unfinished>
     ensures taken { (w : World) → Stands server.old w → IfOk result (λ more.
-        TakesFront connection w server.new (O.held out.old) (O.held out.new) lines.old.items lines.new.items more) }
+        TakesFront connection w server.new (O.held out.old) (O.held out.new)
+        lines.old.items lines.new.items more) }
     ensures breaks { (w : World) → Stands server.old w → OnErr result
-        (Breaks (O.held out.old) (O.held out.new) lines.old.items (encode_lower (owed_in connection w))) }
+        (Breaks (O.held out.old) (O.held out.new) lines.old.items
+        (encode_lower (owed_in connection w))) }
     ensures age { age_of server.new ≡ age_of server.old }
-    ensures failed { IsErrOf result Unplayed.Failed → Rose (O.faults out.old) (O.faults out.new) }
+    ensures failed { IsErrOf result Unfinished.Failed → Rose (O.faults out.old) (O.faults out.new) }
     ensures counts { StandsOrRises (O.faults out.old) (O.faults out.new) }
 {
     let front = server.front(connection);
@@ -47,13 +50,16 @@ fn take_owed<O: Sink>(
     connection: u32,
     lines: &mut Vec<u8>,
     out: &mut O,
-) -> Result<(), Unplayed>
-    ensures taken { (w : World) → Stands server.old w → OnOk result (Stands server.new (taken connection w)
-        × Passes (O.held out.old) (O.held out.new) lines.old.items (encode_lower (owed_in connection w)) lines.new.items []) }
+) -> Result<(), Unfinished>
+    ensures taken { (w : World) → Stands server.old w → OnOk result
+        (Stands server.new (taken connection w)
+        × Passes (O.held out.old) (O.held out.new) lines.old.items
+        (encode_lower (owed_in connection w)) lines.new.items []) }
     ensures breaks { (w : World) → Stands server.old w → OnErr result
-        (Breaks (O.held out.old) (O.held out.new) lines.old.items (encode_lower (owed_in connection w))) }
+        (Breaks (O.held out.old) (O.held out.new) lines.old.items
+        (encode_lower (owed_in connection w))) }
     ensures age { age_of server.new ≡ age_of server.old }
-    ensures failed { IsErrOf result Unplayed.Failed → Rose (O.faults out.old) (O.faults out.new) }
+    ensures failed { IsErrOf result Unfinished.Failed → Rose (O.faults out.old) (O.faults out.new) }
     ensures counts { StandsOrRises (O.faults out.old) (O.faults out.new) }
 {
     for _piece in 0..u64::MAX {
@@ -62,7 +68,7 @@ fn take_owed<O: Sink>(
         }
     }
     // No memory holds so many pieces.
-    Err(Unplayed::NoMemory)
+    Err(Unfinished::NoMemory)
 }
 
 /// Takes all that a connection is owed, and puts the line that tells it, where it is owed anything.
@@ -72,13 +78,15 @@ fn put_sent<O: Sink>(
     connection: u32,
     lines: &mut Vec<u8>,
     out: &mut O,
-) -> Result<(), Unplayed>
-    ensures taken { (w : World) → Stands server.old w → OnOk result (Stands server.new (taken connection w)
-        × Passes (O.held out.old) (O.held out.new) lines.old.items (sent_in connection w) lines.new.items []) }
+) -> Result<(), Unfinished>
+    ensures taken { (w : World) → Stands server.old w → OnOk result
+        (Stands server.new (taken connection w)
+        × Passes (O.held out.old) (O.held out.new)
+        lines.old.items (sent_in connection w) lines.new.items []) }
     ensures breaks { (w : World) → Stands server.old w → OnErr result
         (Breaks (O.held out.old) (O.held out.new) lines.old.items (sent_in connection w)) }
     ensures age { age_of server.new ≡ age_of server.old }
-    ensures failed { IsErrOf result Unplayed.Failed → Rose (O.faults out.old) (O.faults out.new) }
+    ensures failed { IsErrOf result Unfinished.Failed → Rose (O.faults out.old) (O.faults out.new) }
     ensures counts { StandsOrRises (O.faults out.old) (O.faults out.new) }
 {
     if server.front(connection).is_empty() {
@@ -91,20 +99,22 @@ fn put_sent<O: Sink>(
     Ok(())
 }
 
-/// The same for some connections, one after another.
+/// Takes all that some connections are owed, one after another, and puts the lines that tell it.
 fn put_all_sent<O: Sink>(
     alloc: Global,
     server: &mut Server,
     connections: &[u32],
     lines: &mut Vec<u8>,
     out: &mut O,
-) -> Result<(), Unplayed>
-    ensures taken { (w : World) → Stands server.old w → OnOk result (Stands server.new (all_taken connections.now w)
-        × Passes (O.held out.old) (O.held out.new) lines.old.items (all_sent connections.now w) lines.new.items []) }
+) -> Result<(), Unfinished>
+    ensures taken { (w : World) → Stands server.old w → OnOk result
+        (Stands server.new (all_taken connections.now w)
+        × Passes (O.held out.old) (O.held out.new)
+        lines.old.items (all_sent connections.now w) lines.new.items []) }
     ensures breaks { (w : World) → Stands server.old w → OnErr result
         (Breaks (O.held out.old) (O.held out.new) lines.old.items (all_sent connections.now w)) }
     ensures age { age_of server.new ≡ age_of server.old }
-    ensures failed { IsErrOf result Unplayed.Failed → Rose (O.faults out.old) (O.faults out.new) }
+    ensures failed { IsErrOf result Unfinished.Failed → Rose (O.faults out.old) (O.faults out.new) }
     ensures counts { StandsOrRises (O.faults out.old) (O.faults out.new) }
 {
     for connection in connections {
@@ -120,13 +130,15 @@ fn put_shut<O: Sink>(
     connection: u32,
     lines: &mut Vec<u8>,
     out: &mut O,
-) -> Result<(), Unplayed>
-    ensures forgotten { (w : World) → Stands server.old w → OnOk result (Stands server.new (forgotten connection w)
-        × Passes (O.held out.old) (O.held out.new) lines.old.items (shut_in connection w) lines.new.items []) }
+) -> Result<(), Unfinished>
+    ensures forgotten { (w : World) → Stands server.old w → OnOk result
+        (Stands server.new (forgotten connection w)
+        × Passes (O.held out.old) (O.held out.new)
+        lines.old.items (shut_in connection w) lines.new.items []) }
     ensures breaks { (w : World) → Stands server.old w → OnErr result
         (Breaks (O.held out.old) (O.held out.new) lines.old.items (shut_in connection w)) }
     ensures age { age_of server.new ≡ age_of server.old }
-    ensures failed { IsErrOf result Unplayed.Failed → Rose (O.faults out.old) (O.faults out.new) }
+    ensures failed { IsErrOf result Unfinished.Failed → Rose (O.faults out.old) (O.faults out.new) }
     ensures counts { StandsOrRises (O.faults out.old) (O.faults out.new) }
 {
     if !server.done(connection) {
@@ -138,20 +150,23 @@ fn put_shut<O: Sink>(
     Ok(())
 }
 
-/// The same for some connections, one after another.
+/// Forgets those of some connections that are closed and owed nothing, one after another, and puts
+/// the lines that tell it.
 fn put_all_shut<O: Sink>(
     alloc: Global,
     server: &mut Server,
     connections: &[u32],
     lines: &mut Vec<u8>,
     out: &mut O,
-) -> Result<(), Unplayed>
-    ensures forgotten { (w : World) → Stands server.old w → OnOk result (Stands server.new (all_forgotten connections.now w)
-        × Passes (O.held out.old) (O.held out.new) lines.old.items (all_shut connections.now w) lines.new.items []) }
+) -> Result<(), Unfinished>
+    ensures forgotten { (w : World) → Stands server.old w → OnOk result
+        (Stands server.new (all_forgotten connections.now w)
+        × Passes (O.held out.old) (O.held out.new)
+        lines.old.items (all_shut connections.now w) lines.new.items []) }
     ensures breaks { (w : World) → Stands server.old w → OnErr result
         (Breaks (O.held out.old) (O.held out.new) lines.old.items (all_shut connections.now w)) }
     ensures age { age_of server.new ≡ age_of server.old }
-    ensures failed { IsErrOf result Unplayed.Failed → Rose (O.faults out.old) (O.faults out.new) }
+    ensures failed { IsErrOf result Unfinished.Failed → Rose (O.faults out.old) (O.faults out.new) }
     ensures counts { StandsOrRises (O.faults out.old) (O.faults out.new) }
 {
     for connection in connections {
@@ -167,14 +182,14 @@ pub fn put_lines<O: Sink>(
     server: &mut Server,
     lines: &mut Vec<u8>,
     out: &mut O,
-) -> Result<(), Unplayed>
+) -> Result<(), Unfinished>
     requires { lines.old.items ≡ [] }
-    ensures settled { (w : World) → Stands server.old w → IsReached w → OnOk result (Stands server.new (settled w)
-        × Grows (O.held out.old) (O.held out.new) (lines_after w)) }
+    ensures settled { (w : World) → Stands server.old w → IsReached w → OnOk result
+        (Stands server.new (settled w) × Grows (O.held out.old) (O.held out.new) (lines_after w)) }
     ensures breaks { (w : World) → Stands server.old w → IsReached w → OnErr result
         (Breaks (O.held out.old) (O.held out.new) [] (lines_after w)) }
     ensures age { age_of server.new ≡ age_of server.old }
-    ensures failed { IsErrOf result Unplayed.Failed → Rose (O.faults out.old) (O.faults out.new) }
+    ensures failed { IsErrOf result Unfinished.Failed → Rose (O.faults out.old) (O.faults out.new) }
     ensures counts { StandsOrRises (O.faults out.old) (O.faults out.new) }
 {
     let connections = Vec::from_slice(alloc, server.connections())?;

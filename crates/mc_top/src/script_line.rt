@@ -1,6 +1,8 @@
 ghost use Rattle.std.specs.Prelude.{◌≡◌, MatchOption, position};
 ghost use Rattle.std.specs.Str.{is_utf8};
-ghost use Rattle.mc_top.specs.Script.{is_space, number_of, hex_of, is_next, join_event, ticks_event, bytes_event, one_word, two_words, three_words, words_event, words_of, line_event, after_event};
+ghost use Rattle.mc_top.specs.Script.{is_space, number_of, hex_of, is_next, join_event};
+ghost use Rattle.mc_top.specs.Script.{ticks_event, bytes_event, one_word, two_words, three_words};
+ghost use Rattle.mc_top.specs.Script.{words_event, words_of, line_event, after_event};
 ghost use Rattle.mc_top.specs.ScriptRead.{IsRead, CutsWord, IsLastWord};
 
 use crate::bad_input::InputFault;
@@ -235,8 +237,8 @@ fn is_text(line: &[u8]) -> bool
     }
 }
 
-/// The event of a line, or none where it is left out. The text has `len` bytes, and `size` up to the
-/// line's end.
+/// The event of a line, or none where it is left out. The text has `len` bytes, and `size` up to
+/// the line's end.
 #[tactic(auto, unfolding(crate::specs::Script::line_event))]
 pub fn line_event(
     alloc: Global,

@@ -8,8 +8,9 @@ ghost use Rattle.mc_top.specs.Lines.{lines_of};
 ghost use Rattle.mc_top.specs.Received.{Received, IsIdle, Sends, SendsPart};
 
 use crate::bad_input::{BadInput, InputFault};
-use crate::client::{Client, Unanswered, flush};
+use crate::client::{Client, flush};
 use crate::lines::{cut_line, goes_past, put_line};
+use crate::unfinished::Unfinished;
 use mc_wire::Sink;
 use std::alloc::Global;
 
@@ -24,7 +25,7 @@ fn receive_next<O: Sink>(
     len: usize,
     size: usize,
     out: &mut O,
-) -> Result<(), Unanswered>
+) -> Result<(), Unfinished>
     requires { IsIdle client.old }
     ensures received { OnOk result ((start : Option (List ℕ)) (x : Exchange) →
         Received most start (O.held out.old) client.old x →
@@ -33,7 +34,7 @@ fn receive_next<O: Sink>(
     ensures stopped { OnErr result ((start : Option (List ℕ)) (x : Exchange) →
         Received most start (O.held out.old) client.old x →
         SendsPart start (O.held out.new) (receives_next len size x line.now).text) }
-    ensures failed { IsErrOf result Unanswered.Failed → Rose (O.faults out.old) (O.faults out.new) }
+    ensures failed { IsErrOf result Unfinished.Failed → Rose (O.faults out.old) (O.faults out.new) }
     ensures counts { StandsOrRises (O.faults out.old) (O.faults out.new) }
 {
     if goes_past(len, size) {
@@ -77,17 +78,17 @@ fn receive_text<O: Sink>(
     client: &mut Client,
     input: &[u8],
     out: &mut O,
-) -> Result<Option<BadInput>, Unanswered>
+) -> Result<Option<BadInput>, Unfinished>
     requires received { (start : Option (List ℕ)) →
         Received most start start client.old (first_exchange most) }
     requires idle { IsIdle client.old }
     requires fine { client.old.fault ≡ None }
-    ensures text { OnOk result (Sends (O.held out.old) (O.held out.new) [] client.new.lines.items
-        (status_told most input.now).text) }
-    ensures fault { IfOk result (λ fault. fault ≡ (status_told most input.now).fault) }
+    ensures told { IfOk result (λ fault.
+        Sends (O.held out.old) (O.held out.new) [] client.new.lines.items
+        (status_told most input.now).text × (fault ≡ (status_told most input.now).fault)) }
     ensures stopped { OnErr result (SendsPart (O.held out.old) (O.held out.new)
         (status_told most input.now).text) }
-    ensures failed { IsErrOf result Unanswered.Failed → Rose (O.faults out.old) (O.faults out.new) }
+    ensures failed { IsErrOf result Unfinished.Failed → Rose (O.faults out.old) (O.faults out.new) }
     ensures counts { StandsOrRises (O.faults out.old) (O.faults out.new) }
 {
     let mut piece = Vec::new(alloc);
@@ -129,13 +130,13 @@ pub fn write_status<O: Sink>(
     most: u32,
     input: &[u8],
     out: &mut O,
-) -> Result<Option<BadInput>, Unanswered>
+) -> Result<Option<BadInput>, Unfinished>
     ensures text { OnOk result (Grows (O.held out.old) (O.held out.new)
         (status_told most input.now).text) }
     ensures fault { IfOk result (λ fault. fault ≡ (status_told most input.now).fault) }
     ensures stopped { OnErr result (SendsPart (O.held out.old) (O.held out.new)
         (status_told most input.now).text) }
-    ensures failed { IsErrOf result Unanswered.Failed → Rose (O.faults out.old) (O.faults out.new) }
+    ensures failed { IsErrOf result Unfinished.Failed → Rose (O.faults out.old) (O.faults out.new) }
     ensures counts { StandsOrRises (O.faults out.old) (O.faults out.new) }
 {
     let mut client = Client::new(alloc);

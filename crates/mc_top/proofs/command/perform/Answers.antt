@@ -1,5 +1,5 @@
 use Rattle.std.proofs.Common.{◌≡◌}
-use Rattle.mc_top.specs.declared.words.Command.TheVariants.{Status, Replay}
+use Rattle.mc_top.specs.declared.arguments.Command.TheVariants.{Status, Replay}
 use Rattle.mc_top.proofs.Settings.{replay_set}
 use Rattle.mc_top.proofs.StatusKept.{status_kept}
 use Rattle.mc_top.proofs.ReplayKept.{replay_kept}
@@ -15,7 +15,8 @@ pub returns-in-Status : goal.returns-in-Status
 returns-in-Status g c =
     let is : c.args.command ≡ Status c.in-Status.most = c.in-Status.is in
     promises_same c.args.command (Status c.in-Status.most) c.finish.result _ _ is
-    (status_kept _ g.O.Sink.held g.O.Sink.faults c.in-Status.most c.status-ended.result c.finish.result _ _ _ _ c.args.out.now c.status-ended.new.out c.finish.new.out (record {
+    (status_kept _ g.O.Sink.held g.O.Sink.faults c.in-Status.most c.status-ended.result
+    c.finish.result _ _ _ _ c.args.out.now c.status-ended.new.out c.finish.new.out (record {
       done = c.status-ended.ensures.done;
       no_memory = c.status-ended.ensures.no_memory;
       usage = c.status-ended.ensures.never_usage;
@@ -29,7 +30,9 @@ pub returns-in-Replay : goal.returns-in-Replay
 returns-in-Replay g c =
     let is : c.args.command ≡ Replay c.in-Replay.options = c.in-Replay.is in
     promises_same c.args.command (Replay c.in-Replay.options) c.finish-in-Replay.result _ _ is
-    (replay_kept _ g.O.Sink.held g.O.Sink.faults c.in-Replay.options c.replay-ended.result c.finish-in-Replay.result _ _ _ _ c.args.out.now c.replay-ended.new.out c.finish-in-Replay.new.out (record {
+    (replay_kept _ g.O.Sink.held g.O.Sink.faults c.in-Replay.options c.replay-ended.result
+    c.finish-in-Replay.result _ _ _ _ c.args.out.now c.replay-ended.new.out
+    c.finish-in-Replay.new.out (record {
       done = c.replay-ended.ensures.done;
       no_memory = c.replay-ended.ensures.no_memory;
       usage = c.replay-ended.ensures.never_usage;

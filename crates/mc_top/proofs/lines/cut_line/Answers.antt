@@ -4,7 +4,9 @@ use Rattle.mc_top.specs.Lines.{is_line_end}
 use Rattle.mc_top.proofs.lines.cut_line.Goals as goal
 
 pub returns-in-Some : goal.returns-in-Some
-returns-in-Some c = rw c.split_at.ensures.back (cuts_line c.args.text.now c.in-Some.end (search rules))
+returns-in-Some c =
+    rw c.split_at.ensures.back (cuts_line c.args.text.now c.in-Some.end (search rules))
 
 pub returns-in-None : goal.returns-in-None
-returns-in-None c = record { lines = cut-none is_line_end c.args.text.now (search rules); size = refl }
+returns-in-None c =
+    record { lines = cut-none is_line_end c.args.text.now (search rules); size = refl }

@@ -3,7 +3,8 @@ use Rattle.std.proofs.lemmas.Result.{err_from_is_err_and}
 use Rattle.mc_wire.proofs.Counts.{StandsOrRises-trans}
 use Rattle.mc_top.specs.ReplayText.{events_of}
 use Rattle.mc_top.specs.Replaying.{replay_world}
-use Rattle.mc_top.proofs.Playing.{reached_world, lines_played, lines_stopped, lines_done, ticks_left}
+use Rattle.mc_top.proofs.Playing.{reached_world, lines_played, lines_stopped, lines_done}
+use Rattle.mc_top.proofs.Playing.{ticks_left}
 use Rattle.mc_top.proofs.replay.play_all.Goals as goal
 
 pub returns-in_err-play_line-clause-stopped : goal.returns-in_err-play_line-clause-stopped
@@ -11,9 +12,11 @@ returns-in_err-play_line-clause-stopped g c w s r =
     let es = c.args.events.now in
     let i = c.loop-event.event-index in
     let before = c.loop-event.invariant.played w s r in
-    let stopped = c.in_err-play_line.ensures.stopped (replay_world w (events_of (take i es))) before.stands (reached_world w (events_of (take i es)) r) in
+    let stopped = c.in_err-play_line.ensures.stopped (replay_world w (events_of (take i es)))
+    before.stands (reached_world w (events_of (take i es)) r) in
     let p = err_from_is_err_and c.from_residual.result c.from_residual.ensures.1 in
-    rw p.1 (lines_stopped es i c.event-item.result w c.loop-event.server _ _ _ c.loop-event-test.true c.event-item.is before stopped)
+    rw p.1 (lines_stopped es i c.event-item.result w c.loop-event.server _ _ _
+    c.loop-event-test.true c.event-item.is before stopped)
 
 pub loop-event-preserved : goal.loop-event-preserved
 loop-event-preserved g c =
@@ -22,8 +25,10 @@ loop-event-preserved g c =
     record {
       played = λ w s r.
           let before = c.loop-event.invariant.played w s r in
-          let played = c.in_ok-play_line.ensures.played (replay_world w (events_of (take i es))) before.stands (reached_world w (events_of (take i es)) r) in
-          lines_played es i c.event-item.result w c.loop-event.server c.play_line.new.server _ _ _ c.loop-event-test.true c.event-item.is before played;
+          let played = c.in_ok-play_line.ensures.played (replay_world w (events_of (take i es)))
+          before.stands (reached_world w (events_of (take i es)) r) in
+          lines_played es i c.event-item.result w c.loop-event.server c.play_line.new.server _ _ _
+          c.loop-event-test.true c.event-item.is before played;
       young =
           let left = ticks_left es i c.event-item.result c.loop-event-test.true c.event-item.is in
           let more = c.in_ok-play_line.ensures.age in
@@ -33,4 +38,5 @@ loop-event-preserved g c =
     }
 
 pub returns-clause-played : goal.returns-clause-played
-returns-clause-played g c w s r = lines_done c.args.events.now c.loop-event.event-index w c.loop-event.server _ _ c.loop-event-test.false (c.loop-event.invariant.played w s r)
+returns-clause-played g c w s r = lines_done c.args.events.now c.loop-event.event-index w
+    c.loop-event.server _ _ c.loop-event-test.false (c.loop-event.invariant.played w s r)

@@ -8,7 +8,9 @@ use Rattle.mc_top.proofs.replay.play_all.Given as goal
 
 abbrev pub invariant-loop-event : goal.invariant-loop-event
 invariant-loop-event g l = record {
-  played : (w : World) → Stands l.fn.server w → IsReached w → HasPlayed (events_of (take l.event-index l.fn.events)) w l.server (g.O.Sink.held l.fn.out) (g.O.Sink.held l.out);
+  played : (w : World) → Stands l.fn.server w → IsReached w →
+      HasPlayed (events_of (take l.event-index l.fn.events)) w l.server (g.O.Sink.held l.fn.out)
+      (g.O.Sink.held l.out);
   young : age_of l.server + ticks_of (drop l.event-index l.fn.events) ≤ 1000000000;
   counts : StandsOrRises (g.O.Sink.faults l.fn.out) (g.O.Sink.faults l.out);
 }

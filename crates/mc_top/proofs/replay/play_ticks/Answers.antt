@@ -11,16 +11,23 @@ pub returns-in_err-play-clause-stopped : goal.returns-in_err-play-clause-stopped
 returns-in_err-play-clause-stopped g c w s r =
     let n = c.loop-tick._tick in
     let before = c.loop-tick.invariant.played w s r in
-    let stopped = c.in_err-play.ensures.stopped (replay_world w (replicate n ticked)) before.stands (reached_world w (replicate n ticked) r) in
+    let stopped = c.in_err-play.ensures.stopped (replay_world w (replicate n ticked)) before.stands
+    (reached_world w (replicate n ticked) r) in
     let p = err_from_is_err_and c.from_residual.result c.from_residual.ensures.1 in
-    rw p.1 (ticks_stopped n c.args.count w c.loop-tick.server _ _ _ c.loop-tick-test.true before stopped)
+    rw p.1 (ticks_stopped n c.args.count w c.loop-tick.server _ _ _ c.loop-tick-test.true
+    before stopped)
 
 pub loop-tick-preserved : goal.loop-tick-preserved
 loop-tick-preserved g c = record {
   played = λ w s r.
       let n = c.loop-tick._tick in
       let before = c.loop-tick.invariant.played w s r in
-      ticks_played n w c.loop-tick.server c.play.new.server _ _ _ before (c.in_ok-play.ensures.played (replay_world w (replicate n ticked)) before.stands (reached_world w (replicate n ticked) r));
-  age = let more = c.in_ok-play.ensures.age in let so_far = c.loop-tick.invariant.age in omega (arith, more, so_far);
+      ticks_played n w c.loop-tick.server c.play.new.server _ _ _ before
+      (c.in_ok-play.ensures.played (replay_world w (replicate n ticked)) before.stands
+      (reached_world w (replicate n ticked) r));
+  age =
+      let more = c.in_ok-play.ensures.age in
+      let so_far = c.loop-tick.invariant.age in
+      omega (arith, more, so_far);
   counts = StandsOrRises-trans _ _ _ c.loop-tick.invariant.counts c.play.ensures.counts;
 }

@@ -9,7 +9,8 @@ use Rattle.mc_top.proofs.replay.play_ticks.Given as goal
 
 abbrev pub invariant-loop-tick : goal.invariant-loop-tick
 invariant-loop-tick g l = record {
-  played : (w : World) → Stands l.fn.server w → IsReached w → HasPlayed (replicate l._tick ticked) w l.server (g.O.Sink.held l.fn.out) (g.O.Sink.held l.out);
+  played : (w : World) → Stands l.fn.server w → IsReached w → HasPlayed (replicate l._tick ticked) w
+      l.server (g.O.Sink.held l.fn.out) (g.O.Sink.held l.out);
   age : age_of l.server ≡ age_of l.fn.server + l._tick;
   counts : StandsOrRises (g.O.Sink.faults l.fn.out) (g.O.Sink.faults l.out);
 }

@@ -9,7 +9,8 @@ play_script-requires-clause-young g c = script_ticks _ _ c.in-Ok-read.ensures
 pub returns-in-Ok-play_script-clause-done : goal.returns-in-Ok-play_script-clause-done
 returns-in-Ok-play_script-clause-done g c _ =
     let is = rw c.deref.ensures.value at c.in-Ok-read.ensures in
-    replayed c.args.options _ _ _ _ c.in-Ok.text.items c.in-Ok-read.script.events.items c.requires c.in-Ok.ensures.reads is c.in-Ok-play_script.ensures.played
+    replayed c.args.options _ _ _ _ c.in-Ok.text.items c.in-Ok-read.script.events.items c.requires
+    c.in-Ok.ensures.reads is c.in-Ok-play_script.ensures.played
 
 pub returns-in-Err-Bad-clause-bad_input : goal.returns-in-Err-Bad-clause-bad_input
 returns-in-Err-Bad-clause-bad_input g c =

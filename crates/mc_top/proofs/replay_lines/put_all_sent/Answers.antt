@@ -7,7 +7,8 @@ use Rattle.mc_top.proofs.replay_lines.put_all_sent.Goals as goal
 
 pub loop-connection-init : goal.loop-connection-init
 loop-connection-init g c = record {
-  underway = λ w s. underway_start taken sent_in c.args.connections.now w c.args.server.now _ c.args.lines.now.items s;
+  underway = λ w s. underway_start taken sent_in c.args.connections.now w c.args.server.now _
+      c.args.lines.now.items s;
   age = refl;
   counts = inl refl;
 }
@@ -17,14 +18,20 @@ returns-in_err-put_sent-clause-breaks g c w s =
     let ks = c.args.connections.now in
     let i = c.loop-connection.connection-index in
     let p = err_from_is_err_and c.from_residual.result c.from_residual.ensures.1 in
-    rw p.1 (underway_breaks taken sent_in ks w c.loop-connection.server _ _ _ i (get_or ks i 0) 0 c.args.lines.now.items c.loop-connection.lines.items c.loop-connection-test.true refl (c.loop-connection.invariant.underway w s) c.in_err-put_sent.ensures.breaks)
+    rw p.1 (underway_breaks taken sent_in ks w c.loop-connection.server _ _ _ i (get_or ks i 0)
+    0 c.args.lines.now.items c.loop-connection.lines.items c.loop-connection-test.true refl
+    (c.loop-connection.invariant.underway w s) c.in_err-put_sent.ensures.breaks)
 
 pub loop-connection-preserved : goal.loop-connection-preserved
 loop-connection-preserved g c =
     let ks = c.args.connections.now in
     let i = c.loop-connection.connection-index in
     record {
-      underway = λ w s. underway_next taken sent_in ks w c.loop-connection.server c.put_sent.new.server _ _ _ i (get_or ks i 0) 0 c.args.lines.now.items c.loop-connection.lines.items c.put_sent.new.lines.items c.loop-connection-test.true refl (c.loop-connection.invariant.underway w s) c.in_ok-put_sent.ensures.taken;
+      underway = λ w s. underway_next taken sent_in ks w c.loop-connection.server
+          c.put_sent.new.server _ _ _ i (get_or ks i 0) 0 c.args.lines.now.items
+          c.loop-connection.lines.items c.put_sent.new.lines.items c.loop-connection-test.true refl
+          (c.loop-connection.invariant.underway w s) c.in_ok-put_sent.ensures.taken;
       age = c.in_ok-put_sent.ensures.age ∙ c.loop-connection.invariant.age;
-      counts = StandsOrRises-trans _ _ _ c.loop-connection.invariant.counts c.put_sent.ensures.counts;
+      counts =
+          StandsOrRises-trans _ _ _ c.loop-connection.invariant.counts c.put_sent.ensures.counts;
     }

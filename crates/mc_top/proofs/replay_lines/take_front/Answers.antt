@@ -7,4 +7,6 @@ pub returns-in_err-put_hex-clause-breaks : goal.returns-in_err-put_hex-clause-br
 returns-in_err-put_hex-clause-breaks g c w s =
     let few : c.min-count.result ≤ length c.front-front.result.now = search rules in
     let p = err_from_is_err_and c.from_residual.result c.from_residual.ensures.1 in
-    rw p.1 (front_breaks w c.args.connection c.min-count.result _ _ c.front-front.result.now c.args.lines.now.items few (c.front-front.ensures.first w s) c.in_err-put_hex.ensures.breaks)
+    rw p.1 (front_breaks w c.args.connection
+    c.min-count.result _ _ c.front-front.result.now c.args.lines.now.items few
+    (c.front-front.ensures.first w s) c.in_err-put_hex.ensures.breaks)

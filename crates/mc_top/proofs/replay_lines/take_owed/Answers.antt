@@ -15,18 +15,26 @@ loop-piece-init g c = record {
 pub returns-in_err-take_front-clause-breaks : goal.returns-in_err-take_front-clause-breaks
 returns-in_err-take_front-clause-breaks g c w s =
     let p = err_from_is_err_and c.from_residual.result c.from_residual.ensures.1 in
-    rw p.1 (taking_breaks c.args.connection w c.loop-piece.server _ _ _ c.args.lines.now.items c.loop-piece.lines.items (c.loop-piece.invariant.taking w s) c.in_err-take_front.ensures.breaks)
+    rw p.1 (taking_breaks c.args.connection w c.loop-piece.server _ _
+    _ c.args.lines.now.items c.loop-piece.lines.items
+    (c.loop-piece.invariant.taking w s) c.in_err-take_front.ensures.breaks)
 
 pub returns-then-not-branch-clause-taken : goal.returns-then-not-branch-clause-taken
 returns-then-not-branch-clause-taken g c w s =
     let more : c.in_ok-take_front.field-0 ≡ false = search rules in
-    taking_done c.args.connection w c.loop-piece.server c.take_front.new.server _ _ _ c.args.lines.now.items c.loop-piece.lines.items c.take_front.new.lines.items c.in_ok-take_front.field-0 more (c.loop-piece.invariant.taking w s) c.in_ok-take_front.ensures.taken
+    taking_done c.args.connection w c.loop-piece.server c.take_front.new.server
+    _ _ _ c.args.lines.now.items c.loop-piece.lines.items c.take_front.new.lines.items
+    c.in_ok-take_front.field-0 more
+    (c.loop-piece.invariant.taking w s) c.in_ok-take_front.ensures.taken
 
 pub loop-piece-preserved : goal.loop-piece-preserved
 loop-piece-preserved g c =
     let more : c.in_ok-take_front.field-0 ≡ true = search rules in
     record {
-      taking = λ w s. taking_next c.args.connection w c.loop-piece.server c.take_front.new.server _ _ _ c.args.lines.now.items c.loop-piece.lines.items c.take_front.new.lines.items c.in_ok-take_front.field-0 more (c.loop-piece.invariant.taking w s) c.in_ok-take_front.ensures.taken;
+      taking = λ w s. taking_next c.args.connection
+          w c.loop-piece.server c.take_front.new.server _ _ _ c.args.lines.now.items
+          c.loop-piece.lines.items c.take_front.new.lines.items c.in_ok-take_front.field-0 more
+          (c.loop-piece.invariant.taking w s) c.in_ok-take_front.ensures.taken;
       age = c.in_ok-take_front.ensures.age ∙ c.loop-piece.invariant.age;
       counts = StandsOrRises-trans _ _ _ c.loop-piece.invariant.counts c.take_front.ensures.counts;
     }

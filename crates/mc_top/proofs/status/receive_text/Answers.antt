@@ -24,27 +24,16 @@ returns-in_err-receive_next-clause-stopped g c =
     c.cut_line.result.1 c.cut_line.ensures)
     (λ x h. c.in_err-receive_next.ensures.stopped (g.O.Sink.held c.args.out.now) x h))
 
-pub returns-in-Some-fault-clause-text : goal.returns-in-Some-fault-clause-text
-returns-in-Some-fault-clause-text g c =
+pub returns-in-Some-fault-clause-told : goal.returns-in-Some-fault-clause-told
+returns-in-Some-fault-clause-told g c =
     let told = rw c.in-Some.is at c.loop-rest.invariant.told in
-    (told_fault c.args.most c.args.input.now c.in-Some.text.now c.cut_line.result.0.now
+    told_fault c.args.most c.args.input.now c.in-Some.text.now c.cut_line.result.0.now
     (g.O.Sink.held c.args.out.now) (g.O.Sink.held c.loop-rest.out)
     (g.O.Sink.held c.receive_next.new.out) c.loop-rest.count c.loop-rest.size _
     c.loop-rest.client c.receive_next.new.client c.in-Some-fault.kind told
     (cuts_next c.in-Some.text.now c.cut_line.result.0.now c.cut_line.result.1
     c.cut_line.ensures) (λ x h. c.in_ok-receive_next.ensures.received
-    (g.O.Sink.held c.args.out.now) x h) c.in-Some-fault.is).0
-
-pub returns-in-Some-fault-clause-fault : goal.returns-in-Some-fault-clause-fault
-returns-in-Some-fault-clause-fault g c =
-    let told = rw c.in-Some.is at c.loop-rest.invariant.told in
-    (told_fault c.args.most c.args.input.now c.in-Some.text.now c.cut_line.result.0.now
-    (g.O.Sink.held c.args.out.now) (g.O.Sink.held c.loop-rest.out)
-    (g.O.Sink.held c.receive_next.new.out) c.loop-rest.count c.loop-rest.size _
-    c.loop-rest.client c.receive_next.new.client c.in-Some-fault.kind told
-    (cuts_next c.in-Some.text.now c.cut_line.result.0.now c.cut_line.result.1
-    c.cut_line.ensures) (λ x h. c.in_ok-receive_next.ensures.received
-    (g.O.Sink.held c.args.out.now) x h) c.in-Some-fault.is).1
+    (g.O.Sink.held c.args.out.now) x h) c.in-Some-fault.is
 
 pub loop-rest-preserved : goal.loop-rest-preserved
 loop-rest-preserved g c =
@@ -61,44 +50,23 @@ loop-rest-preserved g c =
       counts = StandsOrRises-trans _ _ _ c.loop-rest.invariant.counts c.receive_next.ensures.counts;
     }
 
-pub returns-then-not-is_inside-clause-text : goal.returns-then-not-is_inside-clause-text
-returns-then-not-is_inside-clause-text g c =
+pub returns-then-not-is_inside-clause-told : goal.returns-then-not-is_inside-clause-told
+returns-then-not-is_inside-clause-told g c =
     let told = rw (none_left c.loop-rest.rest c.in_default.not-Some) at
     c.loop-rest.invariant.told in
-    (told_done c.args.most c.args.input.now (g.O.Sink.held c.args.out.now)
+    told_done c.args.most c.args.input.now (g.O.Sink.held c.args.out.now)
     (g.O.Sink.held c.loop-rest.out) c.loop-rest.count c.loop-rest.size c.loop-rest.client
     c.is_inside.result told (λ x idle fine h. c.is_inside.ensures c.args.most
     (g.O.Sink.held c.args.out.now) (g.O.Sink.held c.loop-rest.out) x idle fine h)
-    c.if-not-is_inside.true).0
+    c.if-not-is_inside.true
 
-pub returns-then-not-is_inside-clause-fault : goal.returns-then-not-is_inside-clause-fault
-returns-then-not-is_inside-clause-fault g c =
+pub returns-clause-told : goal.returns-clause-told
+returns-clause-told g c =
     let told = rw (none_left c.loop-rest.rest c.in_default.not-Some) at
     c.loop-rest.invariant.told in
-    (told_done c.args.most c.args.input.now (g.O.Sink.held c.args.out.now)
-    (g.O.Sink.held c.loop-rest.out) c.loop-rest.count c.loop-rest.size c.loop-rest.client
-    c.is_inside.result told (λ x idle fine h. c.is_inside.ensures c.args.most
-    (g.O.Sink.held c.args.out.now) (g.O.Sink.held c.loop-rest.out) x idle fine h)
-    c.if-not-is_inside.true).1
-
-pub returns-clause-text : goal.returns-clause-text
-returns-clause-text g c =
-    let told = rw (none_left c.loop-rest.rest c.in_default.not-Some) at
-    c.loop-rest.invariant.told in
-    (told_cut c.args.most c.args.input.now (g.O.Sink.held c.args.out.now)
+    told_cut c.args.most c.args.input.now (g.O.Sink.held c.args.out.now)
     (g.O.Sink.held c.loop-rest.out) c.loop-rest.count c.loop-rest.size c.loop-rest.client
     c.is_inside.result c.last_byte_line.result told
     (λ x idle fine h. c.is_inside.ensures c.args.most (g.O.Sink.held c.args.out.now)
     (g.O.Sink.held c.loop-rest.out) x idle fine h) c.if-not-is_inside.false
-    c.last_byte_line.ensures).0
-
-pub returns-clause-fault : goal.returns-clause-fault
-returns-clause-fault g c =
-    let told = rw (none_left c.loop-rest.rest c.in_default.not-Some) at
-    c.loop-rest.invariant.told in
-    (told_cut c.args.most c.args.input.now (g.O.Sink.held c.args.out.now)
-    (g.O.Sink.held c.loop-rest.out) c.loop-rest.count c.loop-rest.size c.loop-rest.client
-    c.is_inside.result c.last_byte_line.result told
-    (λ x idle fine h. c.is_inside.ensures c.args.most (g.O.Sink.held c.args.out.now)
-    (g.O.Sink.held c.loop-rest.out) x idle fine h) c.if-not-is_inside.false
-    c.last_byte_line.ensures).1
+    c.last_byte_line.ensures

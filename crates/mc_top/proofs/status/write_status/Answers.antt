@@ -9,4 +9,4 @@ pub returns-in_err-flush-clause-stopped : goal.returns-in_err-flush-clause-stopp
 returns-in_err-flush-clause-stopped g c =
     let p = err_from_is_err_and c.from_residual-in_err-flush.result
     c.from_residual-in_err-flush.ensures.1 in
-    rw p.1 (part_written _ _ _ _ _ c.in_ok-fault.ensures.text c.in_err-flush.ensures.part)
+    rw p.1 (part_written _ _ _ _ _ c.in_ok-fault.ensures.told.0 c.in_err-flush.ensures.part)

@@ -1,10 +1,10 @@
-use Rattle.std.proofs.Common.{rules, ◌≡◌, ◌<◌, ◌++◌, false, length, take, drop, refl, sym}
-use Rattle.std.proofs.Common.{subst, ◌∙◌, arith}
+use Rattle.std.proofs.Common.{rules, ◌≡◌, ◌<◌, ◌++◌, length, take, drop, refl, sym, subst, ◌∙◌}
+use Rattle.std.proofs.Common.{arith}
 use Rattle.std.specs.List.{fold}
 use Rattle.std.proofs.lemmas.Result.{err_from_is_err_and}
 use Rattle.mc_wire.proofs.Counts.{StandsOrRises-trans}
 use Rattle.mc_top.specs.StatusText.{Exchange, receives}
-use Rattle.mc_top.specs.Received.{Received, is_over}
+use Rattle.mc_top.specs.Received.{Received}
 use Rattle.mc_top.proofs.Receiving.{received_part}
 use Rattle.mc_top.proofs.Answering.{received_over, fold_parts, parts_next, part_fed, part_all}
 use Rattle.mc_top.proofs.Answering.{piece_received}
