@@ -1,7 +1,7 @@
-//! Commands: `run WORD .. < TEXT` runs the words of a command line over a text and answers the
-//! status and what was written; in `failing READS WRITES WORD .. < TEXT` the calls of the input and
-//! of the output with these numbers fail. A line of more than a thousand bytes is put frame by
-//! frame.
+//! Commands: `run ARGUMENT .. < TEXT` runs the program with these arguments over a text and answers
+//! the status and what was written; in `failing READS WRITES ARGUMENT .. < TEXT` the calls of the
+//! input and of the output with these numbers fail. A line of more than a thousand bytes is put
+//! frame by frame.
 
 use crate::answer::Answer;
 use crate::frames::put_frames;
@@ -26,46 +26,46 @@ fn numbers(words: &mut Words<'_>, answer: &mut Answer) -> Vec<u64> {
     numbers
 }
 
-/// A word of a command line.
-fn word_of(alloc: Global, word: &str) -> Option<String> {
+/// An argument, which is a word of the row with escapes.
+fn argument_of(alloc: Global, word: &str) -> Option<String> {
     String::from_utf8(text_of(alloc, word)?).ok()
 }
 
-/// The words of a command line.
-fn line_of(alloc: Global, text: &str) -> Option<Vec<String>> {
-    let mut line = Vec::new(alloc);
-    if text.is_empty() {
-        return Some(line);
+/// The arguments that the words of a row are.
+fn arguments_of(alloc: Global, words: &str) -> Option<Vec<String>> {
+    let mut arguments = Vec::new(alloc);
+    if words.is_empty() {
+        return Some(arguments);
     }
-    for word in text.split(' ') {
-        line.push(word_of(alloc, word)?).ok()?;
+    for word in words.split(' ') {
+        arguments.push(argument_of(alloc, word)?).ok()?;
     }
-    Some(line)
+    Some(arguments)
 }
 
-/// A command line, and the text behind it.
+/// The arguments of a run, and the text behind them.
 #[derive(Drop)]
 struct Job {
-    line: Vec<String>,
+    arguments: Vec<String>,
     text: Vec<u8>,
 }
 
-/// What is left of a row as a command line and a text.
+/// What is left of a row as arguments and a text.
 fn job_of(alloc: Global, row: &str) -> Option<Job> {
     let (front, text) = row.split_once('<')?;
-    let line = line_of(alloc, front.trim_end_matches(' '))?;
+    let arguments = arguments_of(alloc, front.trim_end_matches(' '))?;
     let text = text_of(alloc, text.strip_prefix(' ').unwrap_or(text))?;
-    Some(Job { line, text })
+    Some(Job { arguments, text })
 }
 
-/// Runs a command line over a text.
+/// Runs the program with the arguments of a row over its text.
 pub fn run_steady(words: &mut Words<'_>, answer: &mut Answer) {
     let none = Vec::new(words.alloc);
     let none_either = Vec::new(words.alloc);
     run_over(none, none_either, words, answer);
 }
 
-/// Runs a command line over a text, with devices that fail.
+/// Runs the program with the arguments of a row over its text, with devices that fail.
 pub fn run_failing(words: &mut Words<'_>, answer: &mut Answer) {
     let reads = numbers(words, answer);
     let writes = numbers(words, answer);
@@ -80,12 +80,12 @@ fn run_over(reads: Vec<u64>, writes: Vec<u64>, words: &mut Words<'_>, answer: &m
     }
 }
 
-/// Runs a command line over a text.
+/// Runs the program with some arguments over a text.
 fn run_job(job: Job, reads: Vec<u64>, writes: Vec<u64>, answer: &mut Answer) {
-    let Job { line, text } = job;
+    let Job { arguments, text } = job;
     let mut source = MemorySource::new(text, reads);
     let mut sink = MemorySink::new(answer.alloc(), writes);
-    answer.word(run(answer.alloc(), &line, &mut source, &mut sink));
+    answer.word(run(answer.alloc(), &arguments, &mut source, &mut sink));
     put_output(sink.held(), answer);
 }
 

@@ -1,7 +1,7 @@
 //! What one client is sent, on flat land whose columns from -3 to 3 are ready: `flush STEP ..`
 //! works on the players, what is noted and the mark, `share` has the frames encoded for all clients
-//! from now on, and `tell X Z D AT` answers the frames of a view of D around the column (X, Z), for a
-//! player at AT on x, in 1/32 blocks.
+//! from now on, and `tell X Z D AT` answers the frames of a view of D around the column (X, Z), for
+//! a player at AT on x, in 1/32 blocks.
 
 ghost use Rattle.std.specs.Prelude.{◌≡◌, ◌<◌, true, IfOk};
 ghost use Rattle.std.specs.List.{AllByRecursion};
@@ -164,7 +164,8 @@ fn put_sent(bytes: &[u8], answer: &mut Answer) {
     put_frames(bytes, answer);
 }
 
-/// What is encoded for all clients: nothing, or the frames of who left and came, and of these columns.
+/// What is encoded for all clients: nothing, or the frames of who left and came, and of these
+/// columns.
 fn encode<L: Ledger>(
     alloc: Global,
     scene: &Scene,

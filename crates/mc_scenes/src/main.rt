@@ -8,11 +8,13 @@
 mod answer;
 mod causes;
 mod commands;
+mod drives;
 mod flushes;
 mod frames;
 mod guests;
 mod lists;
 mod loads;
+mod lobbies;
 mod mixes;
 mod pieces;
 mod scripts;
@@ -21,6 +23,7 @@ mod sessions;
 mod shown;
 mod terrains;
 mod texts;
+mod untold;
 mod views;
 mod words;
 
@@ -44,6 +47,9 @@ enum Call {
     List,
     Place,
     Server,
+    Drive,
+    Puts,
+    Untold,
     Cuts,
     Pieces,
     Size,
@@ -65,6 +71,9 @@ fn call_of(name: &str) -> Option<Call> {
         "list" => Some(Call::List),
         "place" => Some(Call::Place),
         "server" => Some(Call::Server),
+        "drive" => Some(Call::Drive),
+        "puts" => Some(Call::Puts),
+        "untold" => Some(Call::Untold),
         "cuts" => Some(Call::Cuts),
         "pieces" => Some(Call::Pieces),
         "size" => Some(Call::Size),
@@ -88,6 +97,9 @@ fn answer_call(call: Call, words: &mut Words<'_>, answer: &mut Answer) {
         Call::List => lists::list(words, answer),
         Call::Place => lists::place(words, answer),
         Call::Server => servers::server(words, answer),
+        Call::Drive => drives::log(words, answer),
+        Call::Puts => drives::puts(words, answer),
+        Call::Untold => drives::untold(words, answer),
         Call::Cuts => pieces::cuts(words, answer),
         Call::Pieces => pieces::pieces(words, answer),
         Call::Size => views::size(words, answer),

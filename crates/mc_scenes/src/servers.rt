@@ -1,5 +1,8 @@
 //! Servers: `server PLAYERS CAP TERRAIN STEP ..` works on a new one and answers what it is asked.
 
+ghost use Rattle.std.specs.Prelude.{◌≡◌, IfSome};
+ghost use Rattle.mc_server.specs.Stands.{age_of};
+
 use crate::answer::Answer;
 use crate::frames::put_frames;
 use crate::terrains::terrain_in;
@@ -18,6 +21,7 @@ enum Call {
     Join,
     Bytes,
     Gone,
+    Broke,
     Tick,
     Cause,
     Owed,
@@ -35,6 +39,7 @@ fn call_of(name: &str) -> Option<Call> {
         "join" => Some(Call::Join),
         "bytes" => Some(Call::Bytes),
         "gone" => Some(Call::Gone),
+        "broke" => Some(Call::Broke),
         "tick" => Some(Call::Tick),
         "cause" => Some(Call::Cause),
         "owed" => Some(Call::Owed),
@@ -50,7 +55,9 @@ fn call_of(name: &str) -> Option<Call> {
 
 /// A new server, with at most 50 players and a view of 2 to 8. None where the numbers are not such,
 /// or there is no memory.
-pub fn new_server(alloc: Global, players: u32, cap: u8, terrain: Terrain) -> Option<Server> {
+pub fn new_server(alloc: Global, players: u32, cap: u8, terrain: Terrain) -> Option<Server>
+    ensures { IfSome result (λ server. age_of server ≡ 0) }
+{
     if players < 1 || players > 50 || cap < 2 || cap > 8 {
         return None;
     }
@@ -95,6 +102,7 @@ fn answer_call(call: Call, server: &mut Server, words: &mut Words<'_>, answer: &
         Call::Join => answer.needs(server.event(Input::Join(words.number()))),
         Call::Bytes => bytes(server, words, answer),
         Call::Gone => answer.needs(server.event(Input::Gone(words.number()))),
+        Call::Broke => answer.needs(server.event(Input::Broke(words.number()))),
         Call::Tick => answer.needs(ticks(server, words.number())),
         Call::Cause => put_cause(server, words.number(), answer),
         Call::Owed => put_owed(server, words, answer),

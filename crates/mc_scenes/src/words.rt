@@ -93,13 +93,24 @@ impl<'a> Words<'a> {
     /// The next word as bytes in hex: parts with `+` between them, of which `HEX*N` is the bytes N
     /// times. No bytes are `-`.
     pub fn bytes(&mut self) -> Vec<u8> {
-        let mut bytes = Vec::new(self.alloc);
         let word = self.word();
-        if word != "-" && push_parts(&mut bytes, word).is_none() {
-            self.fail();
+        match bytes_of(self.alloc, word) {
+            Some(bytes) => bytes,
+            None => {
+                self.fail();
+                Vec::new(self.alloc)
+            }
         }
-        bytes
     }
+}
+
+/// The bytes that a word spells in hex.
+pub fn bytes_of(alloc: Global, word: &str) -> Option<Vec<u8>> {
+    let mut bytes = Vec::new(alloc);
+    if word != "-" {
+        push_parts(&mut bytes, word)?;
+    }
+    Some(bytes)
 }
 
 /// Appends the bytes of some parts.

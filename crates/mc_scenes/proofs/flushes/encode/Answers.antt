@@ -1,5 +1,3 @@
-use Rattle.std.proofs.Common.{sym, subst, ◌∙◌}
-use Rattle.std.specs.List.{AllByRecursion}
 use Rattle.mc_flush.specs.Seeing.{IsReady}
 use Rattle.mc_flush.proofs.Pieces.{next_holds}
 use Rattle.mc_scenes.proofs.flushes.encode.Goals as goal

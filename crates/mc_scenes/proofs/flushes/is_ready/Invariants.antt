@@ -8,5 +8,6 @@ use Rattle.mc_scenes.proofs.flushes.is_ready.Given as goal
 abbrev pub invariant-loop-place : goal.invariant-loop-place
 invariant-loop-place g l = record {
   near : AllByRecursion IsPlace l.place-iterator;
-  ready : AllByRecursion (IsThere l.land) l.place-iterator → AllByRecursion (IsThere l.land) (all_of l.view);
+  ready : AllByRecursion (IsThere l.land) l.place-iterator →
+      AllByRecursion (IsThere l.land) (all_of l.view);
 }

@@ -8,4 +8,6 @@ use Rattle.mc_scenes.proofs.guests.Guests.add.Goals as goal
 pub invariant_of-self-2 : goal.invariant_of-self-2
 invariant_of-self-2 c =
     subst IsRoster (sym c.in_ok-add.ensures.ok)
-    (name_added c.self.inside.list c.args.uuid c.args.name (subst (λ (list : ListValue). len list.present < 50) (sym c.self.view_is) c.requires.room) c.requires.short c.self.invariant)
+    (name_added c.self.inside.list c.args.uuid c.args.name
+    (subst (λ (list : ListValue). len list.present < 50) (sym c.self.view_is) c.requires.room)
+    c.requires.short c.self.invariant)

@@ -9,4 +9,5 @@ cleared : (list : ListValue) → IsRoster list → IsRoster (record list { prese
 cleared list is = record { few = nobody.few; few_before = is.few_before; named = nobody.named }
 
 pub invariant_of-self : goal.invariant_of-self
-invariant_of-self c = subst IsRoster (sym c.clear.ensures) (cleared c.self.inside.list c.self.invariant)
+invariant_of-self c =
+    subst IsRoster (sym c.clear.ensures) (cleared c.self.inside.list c.self.invariant)
