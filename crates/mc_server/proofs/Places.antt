@@ -9,16 +9,14 @@ use Rattle.std.specs.Ordering.{nat_cmp}
 use Rattle.std.specs.Option.{IfSome}
 use Rattle.std.specs.Result.{MatchResult, result_ok}
 use Rattle.std.proofs.Math.Seq.{map-set_same}
-use Rattle.std.proofs.Common.{take}
 use Rattle.std.proofs.lemmas.List.{get_or-map, get_or-set_same, length-map, length-set, map-set}
-use Rattle.std.proofs.lemmas.List.{take_more}
 use Rattle.std.proofs.lemmas.List.Sorted.{searched}
 use Rattle.std.proofs.lemmas.Bool.{eq-eqb, ne_eqb, cases_order}
 use Rattle.mc_model.specs.World.{Session, Player, found}
 use Rattle.mc_model.specs.Step.{is_done}
 use Rattle.mc_model.specs.Orderly.{Rise, IsPlaced}
 use Rattle.mc_model.proofs.RiseFacts.{rise_at, rise_set}
-use Rattle.mc_server.specs.Served.{ConnectionValue, IsAt, one_if, sessions_of, playing_of, plays_as}
+use Rattle.mc_server.specs.Served.{ConnectionValue, IsAt, sessions_of, playing_of, plays_as}
 
 -- ---- by number
 
@@ -389,25 +387,3 @@ players_any uuid (c ∷ cs) =
       | Some p ↦ ap (λ (b : Bool). (p.uuid == uuid) || b) later
       | None ↦ later
     ]
-
--- ---- one more of them counted
-
-count_more : (p : ConnectionValue → Bool) (cs : List ConnectionValue) (c : ConnectionValue) →
-    length (filter p (cs ++ c ∷ [])) ≡ length (filter p cs) + one_if (p c)
-count_more p [] c = elim (p c) as (λ b. length (cond b (c ∷ []) []) ≡ 0 + one_if b)
-    [ true ↦ refl | false ↦ refl ]
-count_more p (d ∷ cs) c =
-    let later = count_more p cs c in
-    elim (p d) as (λ b. length (cond b (d ∷ filter p (cs ++ c ∷ [])) (filter p (cs ++ c ∷ []))) ≡
-    length (cond b (d ∷ filter p cs) (filter p cs)) + one_if (p c)) [
-      | true ↦ omega (arith, later)
-      | false ↦ later
-    ]
-
-pub count_next : (p : ConnectionValue → Bool) (cs : List ConnectionValue) (i : ℕ)
-    (c : ConnectionValue) → i < length cs → c ≡ get_or cs i c → length (filter p (take (i + 1) cs))
-    ≡ length (filter p (take i cs)) + one_if (p c)
-count_next p cs i c lt is =
-    ap (λ (ds : List ConnectionValue). length (filter p ds))
-    (take_more cs i c lt ∙ ap (λ (d : ConnectionValue). take i cs ++ d ∷ []) (sym is))
-    ∙ count_more p (take i cs) c

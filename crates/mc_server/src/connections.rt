@@ -1,30 +1,18 @@
-ghost use Rattle.std.specs.Prelude.{◌≡◌, ◌++◌, ◌∷◌, ◌≤◌, [], OnErr, OnOk, is_some, length};
+ghost use Rattle.std.specs.Prelude.{◌≡◌, ◌++◌, ◌∷◌, ◌≤◌, [], OnErr, OnOk, length};
 ghost use Rattle.std.specs.List.{filter};
 ghost use Rattle.mc_model.specs.Step.{is_kept};
 ghost use Rattle.mc_server.specs.Asking.{is_ours};
-ghost use Rattle.mc_server.specs.Served.{ConnectionValue, one_if, playing_of, sessions_of};
+ghost use Rattle.mc_server.specs.Served.{ConnectionValue, playing_of, sessions_of};
 
 use crate::connection::Connection;
 use mc_nbt::NoMemory;
-
-/// One where it is true.
-pub fn one_if(there: bool) -> usize
-    ensures is { result ≡ one_if there }
-    ensures small { result ≤ 1 }
-{
-    if there { 1 } else { 0 }
-}
 
 /// How many connections are open, or owed bytes still.
 pub fn kept(connections: &Vec<Connection>) -> usize
     ensures { result
         ≡ length (filter (λ (c : ConnectionValue). is_kept c.session) connections.now.items) }
 {
-    let mut count = 0;
-    for i in 0..connections.len() {
-        count += one_if(connections[i].is_kept());
-    }
-    count
+    connections.iter().filter(|c| c.is_kept()).count()
 }
 
 /// How many were closed, and not since they left, a write to them broke, or they were done.
@@ -32,30 +20,14 @@ pub fn ours(connections: &Vec<Connection>) -> usize
     ensures { result
         ≡ length (filter (λ (c : ConnectionValue). is_ours c.session.cause) connections.now.items) }
 {
-    let mut count = 0;
-    for i in 0..connections.len() {
-        count += one_if(connections[i].is_ours());
-    }
-    count
+    connections.iter().filter(|c| c.is_ours()).count()
 }
 
 /// How many are in play.
 fn in_play(connections: &Vec<Connection>) -> usize
-    ensures { result ≡ length
-        (filter (λ (c : ConnectionValue). is_some c.session.player) connections.now.items) }
-{
-    let mut count = 0;
-    for i in 0..connections.len() {
-        count += one_if(connections[i].is_play());
-    }
-    count
-}
-
-/// How many sessions are in play.
-fn sessions_in_play(connections: &Vec<Connection>) -> usize
     ensures { result ≡ length (playing_of (sessions_of connections.now.items)) }
 {
-    in_play(connections)
+    connections.iter().filter(|c| c.is_play()).count()
 }
 
 /// How many are in play, where they are few.
@@ -63,7 +35,7 @@ pub fn playing(connections: &Vec<Connection>) -> u32
     requires { length (playing_of (sessions_of connections.now.items)) ≤ 50 }
     ensures { result ≡ length (playing_of (sessions_of connections.now.items)) }
 {
-    sessions_in_play(connections) as u32
+    in_play(connections) as u32
 }
 
 /// Puts a connection and its number behind the others. Without memory they are as before.

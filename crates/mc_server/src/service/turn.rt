@@ -5,12 +5,12 @@ ghost use Rattle.mc_wire.specs.LobbyCounts.{StandOrRise};
 ghost use Rattle.mc_model.specs.World.{World};
 ghost use Rattle.mc_model.specs.Turns.{done_in};
 ghost use Rattle.mc_server.specs.Inputs.{age_after};
+ghost use Rattle.mc_server.specs.Served.{one_if};
 ghost use Rattle.mc_server.specs.Stands.{Stands, age_of};
 ghost use Rattle.mc_server.specs.TurnParts.{HasClosed, HasSent, HasSentAll, HasTurned, IsInputOf};
 ghost use Rattle.mc_server.specs.TurnParts.{closing_of, numbers_in};
 
 use crate::connection::is_ours;
-use crate::connections::one_if;
 use crate::{Input, Server};
 use mc_nbt::NoMemory;
 use mc_wire::{Lobby, Wrote};
@@ -64,6 +64,14 @@ fn send_all<L: Lobby>(
         send(server, lobby, *k)?;
     }
     Ok(())
+}
+
+/// One where it is true.
+fn one_if(there: bool) -> usize
+    ensures is { result ≡ one_if there }
+    ensures small { result ≤ 1 }
+{
+    if there { 1 } else { 0 }
 }
 
 /// Closes a connection and forgets it, where it is closed in the server and owed nothing. It

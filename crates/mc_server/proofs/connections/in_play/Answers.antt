@@ -1,35 +1,14 @@
-use Rattle.std.proofs.Common.{◌<◌, ◌≤◌, length, refl, ap, ◌∙◌, arith}
-use Rattle.std.specs.List.{filter}
-use Rattle.std.specs.Prelude.{List}
-use Rattle.std.proofs.lemmas.List.{take_all}
+use Rattle.std.proofs.Common.{sym, ◌∙◌, rules, tests}
 use Rattle.std.specs.Prelude.{is_some}
-use Rattle.mc_server.specs.Served.{ConnectionValue, one_if}
-use Rattle.mc_server.proofs.Places.{count_next}
+use Rattle.std.proofs.lemmas.Iterator.{YieldsList-from_slice}
+use Rattle.std.proofs.lemmas.Iterator.Consumers.{YieldsList-from_filter, count_from_yields_List}
+use Rattle.mc_server.specs.Served.{ConnectionValue}
+use Rattle.mc_server.proofs.Places.{players_count}
 use Rattle.mc_server.proofs.connections.in_play.Goals as goal
 
-pub loop-i-init : goal.loop-i-init
-loop-i-init c = record { is = refl; few = omega arith }
-
-pub loop-i-preserved : goal.loop-i-preserved
-loop-i-preserved c =
-    let cs = c.args.connections.now.items in
-    let x : ConnectionValue = c.index.result.now in
-    let h = c.loop-i.invariant in
-    let lt : c.loop-i.i < length cs = omega
-    (arith, c.loop-i-test.true, c.len-i-end.ensures, c.args.connections.now.ok.0) in
-    let next = count_next (λ (c : ConnectionValue). is_some c.session.player)
-    cs c.loop-i.i x lt c.index.ensures in
-    let one = c.one_if-count.ensures.is ∙ ap one_if c.is_play.ensures in
-    record {
-      is = omega (arith, h.is, next, one);
-      few =
-          omega (arith, h.few, c.one_if-count.ensures.small);
-    }
-
 pub returns : goal.returns
-returns c =
-    let cs = c.args.connections.now.items in
-    let le : length cs ≤ c.loop-i.i = omega
-    (arith, c.loop-i-test.false, c.len-i-end.ensures, c.args.connections.now.ok.0) in
-    c.loop-i.invariant.is ∙ ap (λ (ds : List ConnectionValue). length
-    (filter (λ (c : ConnectionValue). is_some c.session.player) ds)) (take_all c.loop-i.i cs le)
+returns c = count_from_yields_List _ _ c.count.ensures.ran (YieldsList-from_filter _
+    (λ (d : ConnectionValue). is_some d.session.player)
+    (YieldsList-from_slice c.args.connections.now.items cc)
+    c.filter.ensures.closure (λ x r q k. search (rules, tests)))
+    ∙ sym (players_count c.args.connections.now.items)
