@@ -21,6 +21,7 @@ pub mod SceneFacts
 pub mod Walks
 pub mod Listed
 pub mod Ticked
+pub mod Shedding
 pub mod LogFacts
 pub mod Writing
 pub mod Closing

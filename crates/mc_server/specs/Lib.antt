@@ -7,6 +7,7 @@ pub mod Handling
 pub mod LoggingIn
 pub mod Stands
 pub mod Inputs
+pub mod ReadyColumns
 pub mod Roster
 pub mod Ticking
 pub mod Drives

@@ -6,9 +6,10 @@ use Rattle.std.specs.Prelude.{if◌then◌else◌}
 use Rattle.std.specs.List.{filter_map}
 use Rattle.std.specs.Option.{IfSome}
 use Rattle.std.specs.FinMap.{FinMap}
+use Rattle.std.specs.FinSet as set
 use Rattle.mc_frame.specs.Held.{Splitting, nothing_held}
 use Rattle.mc_land.specs.declared.terrain.Terrain.{Terrain}
-use Rattle.mc_land.specs.Places.{key_cmp}
+use Rattle.mc_land.specs.Places.{key_cmp, place_cmp}
 use Rattle.mc_land.specs.Land.{LandValue}
 use Rattle.mc_model.specs.declared.stage.Stage.{Stage}
 use Rattle.mc_model.specs.Orderly.{Rise, next_number}
@@ -96,6 +97,8 @@ pub record ServerValue : Type 0 where
   pub edits : FinMap key_cmp ℕ
   -- those at the last settling
   pub settled : FinMap key_cmp ℕ
+  -- the columns that are ready to be looked at
+  pub ready : set.FinSet place_cmp
   pub most : ℕ
   pub cap : ℕ
   pub eids : ℕ

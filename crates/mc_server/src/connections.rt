@@ -1,11 +1,13 @@
-ghost use Rattle.std.specs.Prelude.{◌≡◌, ◌++◌, ◌∷◌, ◌≤◌, [], OnErr, OnOk, length};
+ghost use Rattle.std.specs.Prelude.{◌≡◌, ◌++◌, ◌∷◌, ◌≤◌, [], IfOk, OnErr, OnOk, length};
 ghost use Rattle.std.specs.List.{filter};
 ghost use Rattle.mc_model.specs.Step.{is_kept};
 ghost use Rattle.mc_server.specs.Asking.{is_ours};
+ghost use Rattle.mc_server.specs.ReadyColumns.{views_of};
 ghost use Rattle.mc_server.specs.Served.{ConnectionValue, playing_of, sessions_of};
 
 use crate::connection::Connection;
 use mc_nbt::NoMemory;
+use std::alloc::Global;
 
 /// How many connections are open, or owed bytes still.
 pub fn kept(connections: &Vec<Connection>) -> usize
@@ -36,6 +38,18 @@ pub fn playing(connections: &Vec<Connection>) -> u32
     ensures { result ≡ length (playing_of (sessions_of connections.now.items)) }
 {
     in_play(connections) as u32
+}
+
+/// The views of those in play, where views have at most this size.
+pub fn views_of(
+    alloc: Global,
+    cap: u8,
+    connections: &Vec<Connection>,
+) -> Result<Vec<(i32, i32, u8)>, NoMemory>
+    ensures { IfOk result (λ views. views.items ≡ views_of cap connections.now.items) }
+{
+    let views = connections.iter().filter_map(|c| c.view(cap));
+    Ok(views.collect(alloc)?)
 }
 
 /// Puts a connection and its number behind the others. Without memory they are as before.

@@ -13,6 +13,7 @@ ghost use Rattle.mc_flush.specs.Encoding.{AreFrames};
 ghost use Rattle.mc_flush.specs.Sending.{notes_due_of, play_bytes};
 ghost use Rattle.mc_flush.specs.Seeing.{StandsFor, IsInRange, IsNamed, IsReady, is_shown, loaded};
 ghost use Rattle.mc_flush.specs.Seeing.{nothing_shown, present_parts, seen, settled_parts};
+ghost use Rattle.mc_server.specs.ReadyColumns.{view_around};
 ghost use Rattle.mc_server.specs.Served.{IsKeptPlayer, player_of};
 ghost use Rattle.mc_server.specs.Ticking.{due_packets, new_columns, opening_packets, shown_now};
 
@@ -90,6 +91,14 @@ impl Player {
 
     // ---- a tick
 
+    /// Its view: the numbers of the middle column, and how many columns it reaches on each axis.
+    pub fn view_around(&self, cap: u8) -> (i32, i32, u8)
+        ensures { result ≡ view_around cap (player_of self.now) }
+    {
+        let (cx, cz) = column_of_spot(&self.spot);
+        (cx, cz, view_size(cap, self.view_byte))
+    }
+
     /// The columns that its client is to be shown.
     fn view(&self, cap: u8) -> ViewSet
         requires cap { cap ≤ 8 }
@@ -97,8 +106,8 @@ impl Player {
         ensures middle { (result.cx, result.cz) ≡ column_of_spot self.now.spot }
         ensures d { result.d ≡ view_size cap self.now.view_byte }
     {
-        let (cx, cz) = column_of_spot(&self.spot);
-        ViewSet::of(cx, cz, view_size(cap, self.view_byte))
+        let (cx, cz, d) = self.view_around(cap);
+        ViewSet::of(cx, cz, d)
     }
 
     /// Those of them that its client was not shown.

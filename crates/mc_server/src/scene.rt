@@ -128,6 +128,7 @@ fn prepare_clients<L: Ledger>(
     requires settings { AreSettings settings.now.players settings.now.cap }
     ensures ready { OnOk result
         (AllByRecursion (IsPrepared settings.now.cap land.new) connections.now.items) }
+    ensures grown { (other : Place) → IsReady land.old other → IsReady land.new other }
     ensures frames { (list : ListValue) → AreFrames land.old list encoded.old
         → AreFrames land.new list encoded.new }
     ensures same { SameWorld land.old land.new }
@@ -151,6 +152,7 @@ pub fn prepare(
     requires { AreSettings settings.now.players settings.now.cap }
     ensures ready { OnOk result
         (AllByRecursion (IsPrepared settings.now.cap land.new) connections.now.items) }
+    ensures grown { (other : Place) → IsReady land.old other → IsReady land.new other }
     ensures frames { IfOk result (AreFrames land.new list.now) }
     ensures same { SameWorld land.old land.new }
 {

@@ -15,6 +15,7 @@ ghost use Rattle.mc_server.specs.Asking.{is_done_in, ours_there};
 ghost use Rattle.mc_server.specs.Frames.{AreDone, Becomes, HasRead, IsReading, Splits};
 ghost use Rattle.mc_server.specs.Inputs.{age_after, event_of};
 ghost use Rattle.mc_server.specs.Handling.{after_request, pending_of, request_in};
+ghost use Rattle.mc_server.specs.ReadyColumns.{ShedsAt};
 ghost use Rattle.mc_server.specs.Served.{ConnectionValue, IsAt, IsOpenAt, ServerValue, kept_world};
 ghost use Rattle.mc_server.specs.Served.{new_connection, nth_session, sessions_of};
 ghost use Rattle.mc_server.specs.Stands.{HasFailed, Stands, age_of, owes};
@@ -61,6 +62,9 @@ pub struct Server {
 
 impl Model for Server {
     ghost use Rattle.std.specs.Coded.{codes};
+    ghost use Rattle.std.specs.FinSet as set;
+    ghost use Rattle.mc_land.specs.LandCode.{coded_place};
+    ghost use Rattle.mc_land.specs.Places.{place_cmp};
     ghost use Rattle.mc_flush.specs.Lists.{coded_list_value};
     ghost use Rattle.mc_model.specs.Stored.{coded_sight};
     ghost use Rattle.mc_model.specs.Stored.{coded_edits};
@@ -68,7 +72,13 @@ impl Model for Server {
 
     ghost Value = { ServerValue };
 
-    ghost coded = { Prim.hlevel (codes, coded_sight, coded_edits, coded_list_value) };
+    ghost coded = { Prim.hlevel (
+      codes,
+      coded_sight,
+      coded_edits,
+      coded_list_value,
+      set.code {R = place_cmp} coded_place,
+    ) };
 
     ghost view = { λ s. record {
       failed = s.failed;
@@ -76,6 +86,7 @@ impl Model for Server {
       terrain = s.settings.terrain;
       edits = s.land.edits;
       settled = s.land.settled;
+      ready = s.land.ready;
       most = s.settings.players;
       cap = s.settings.cap;
       eids = s.eids;
@@ -115,6 +126,7 @@ impl Server {
         ensures follows { (w : World) → Stands self.old w →
             OnOk result (Stands self.new (step w (event_of input.entry)).world) }
         ensures age { OnOk result (age_of self.new ≡ age_after input.entry (age_of self.old)) }
+        ensures sheds { OnOk result (ShedsAt input.entry self.old self.new) }
         ensures fails { OnErr result (HasFailed self.new) }
         ensures failed { HasFailed self.old → result ≡ Err (record {}) }
     {
@@ -136,6 +148,7 @@ impl Server {
         ensures follows { (w : World) → Stands self.old w →
             OnOk result (Stands self.new (step w (event_of input.entry)).world) }
         ensures age { OnOk result (age_of self.new ≡ age_after input.entry (age_of self.old)) }
+        ensures sheds { OnOk result (ShedsAt input.entry self.old self.new) }
     {
         match input {
             Input::Join(k) => self.join(k),

@@ -10,6 +10,7 @@ ghost use Rattle.mc_model.specs.Sight.{Sight};
 ghost use Rattle.mc_model.specs.Step.{hand};
 ghost use Rattle.mc_model.specs.World as spec;
 ghost use Rattle.mc_model.specs.World.{AreSettings, is_closed};
+ghost use Rattle.mc_server.specs.ReadyColumns.{view_around};
 ghost use Rattle.mc_server.specs.Ticking.{IsPrepared, due_packets, shown_now};
 
 use crate::connection::Connection;
@@ -66,6 +67,17 @@ impl Connection {
     }
 
     // ---- a tick
+
+    /// The view of its player, if it is in play: the numbers of the middle column, and how many
+    /// columns it reaches on each axis.
+    pub fn view(&self, cap: u8) -> Option<(i32, i32, u8)>
+        ensures { result ≡ option_map (view_around cap) self.now.session.player }
+    {
+        match &self.player {
+            Some(player) => Some(player.view_around(cap)),
+            None => None,
+        }
+    }
 
     /// Shows its client its part, if it is in play: the packets that lead it there are handed out
     /// to it, and nothing is noted for it any more. The mark stands for what it was shown.

@@ -9,6 +9,7 @@ use Rattle.mc_server.proofs.scene.prepare_clients.Goals as goal
 pub loop-i-init : goal.loop-i-init
 loop-i-init g c = record {
   ready = tt;
+  grown = λ other there. there;
   frames = λ list are. are;
   same = same_itself c.args.land.now;
 }
@@ -25,6 +26,7 @@ loop-i-preserved g c =
           c.loop-i.i
           c.index.result.now lt c.index.ensures step.grown c.in_ok-prepare_client.ensures.ready
           h.ready;
+      grown = λ other there. step.grown other (h.grown other there);
       frames = λ list are. step.frames list (h.frames list are);
       same = same_onward c.args.land.now c.loop-i.land c.prepare_client.new.land h.same step.same;
     }

@@ -1,0 +1,49 @@
+-- What is ready in a server whose land was settled and then shed.
+use Rattle.std.proofs.Common.{◌≡◌, ℕ, ◌&&◌, ◌||◌, List, sym, ap, ◌∙◌}
+use Rattle.std.specs.FinMap.{FinMap}
+use Rattle.std.specs.FinSet as set
+use Rattle.mc_land.specs.Places.{Place, key_cmp, place_cmp}
+use Rattle.mc_land.specs.Land.{LandValue, settled_land}
+use Rattle.mc_land.specs.Shed.{View, is_edited, is_seen, shed_land, stays}
+use Rattle.mc_land.proofs.Orders.{exact_places}
+use Rattle.mc_model.proofs.FitsText.{both_true}
+use Rattle.mc_server.specs.ReadyColumns.{Sheds, is_needed, views_of}
+use Rattle.mc_server.specs.Served.{ServerValue}
+use Rattle.mc_server.proofs.ReadyFacts.{Grows}
+
+-- a land that was settled and then shed
+pub shed_settled : (land middle new : LandValue) (views : List View) → middle ≡ settled_land land →
+    new ≡ shed_land middle views → new ≡ shed_land (settled_land land) views
+shed_settled land middle new views settled shed =
+    shed ∙ ap (λ (l : LandValue). shed_land l views) settled
+
+-- a server whose land was so
+module _ (new : ServerValue) (land : LandValue) (views : List View)
+    (ready : new.ready ≡ (shed_land (settled_land land) views).ready)
+    (edits : new.edits ≡ land.edits)
+    (given : views ≡ views_of new.cap new.connections) where
+  -- a column is ready exactly where it was, and is needed
+  shed_ready : (place : Place) → set.contains new.ready place ≡
+      (set.contains land.ready place && is_needed new place)
+  shed_ready place =
+      ap (λ (r : set.FinSet place_cmp). set.contains r place) ready
+      ∙ set.contains-retain land.ready (stays (settled_land land) views) place
+      (λ x tie. ap (stays (settled_land land) views) (sym (exact_places place x tie)))
+      ∙ ap (λ (m : FinMap key_cmp ℕ). set.contains land.ready place
+      && (is_edited m place || is_seen views place)) (sym edits)
+      ∙ ap (λ (vs : List View). set.contains land.ready place
+      && (is_edited new.edits place || is_seen vs place)) given
+
+  -- nothing that was ready before went in between
+  pub sheds_ready : (old : ServerValue) (first : LandValue) → first.ready ≡ old.ready →
+      Grows first land → Sheds old new
+  sheds_ready old first was grown = record {
+    only = λ place there. (both_true (set.contains land.ready place) (is_needed new place)
+        (sym (shed_ready place) ∙ there)).1;
+    keeps = λ place near there needed.
+        let kept = grown place (record {
+          near = near;
+          ready = ap (λ (r : set.FinSet place_cmp). set.contains r place) was ∙ there;
+        }) in
+        shed_ready place ∙ ap (λ b. b && is_needed new place) kept.ready ∙ needed;
+  }

@@ -1,0 +1,38 @@
+-- Which columns a server keeps ready: those with an edit, and those that a client in play sees.
+-- Rules of this project.
+use Rattle.std.specs.Prelude.{◌≡◌, ◌||◌, ℕ, Bool, true, List, option_map}
+use Rattle.std.specs.List.{filter_map}
+use Rattle.std.specs.FinSet as set
+use Rattle.mc_land.specs.Places.{IsPlace, Place}
+use Rattle.mc_land.specs.Shed.{View, is_edited, is_seen}
+use Rattle.mc_view.specs.Views.{column_of_spot, view_size}
+use Rattle.mc_model.specs.World.{Player}
+use Rattle.mc_server.specs.declared.input.Input.{Input}
+use Rattle.mc_server.specs.declared.input.Input.TheVariants.{Tick}
+use Rattle.mc_server.specs.Served.{ConnectionValue, ServerValue}
+
+-- the view of a player, where views have at most this size
+abbrev pub view_around : ℕ → Player → View
+view_around cap p =
+    ((column_of_spot p.spot).0, (column_of_spot p.spot).1, view_size cap p.view_byte)
+
+-- the views of those in play
+abbrev pub views_of : ℕ → List ConnectionValue → List View
+views_of cap connections = filter_map (λ (c : ConnectionValue).
+    option_map (view_around cap) c.session.player) connections
+
+-- a cell of the column is not the terrain's, or a client in play sees the column
+abbrev pub is_needed : ServerValue → Place → Bool
+is_needed server place =
+    is_edited server.edits place || is_seen (views_of server.cap server.connections) place
+
+-- each ready column is needed, and one that was ready before and is needed is ready
+pub record Sheds (old new : ServerValue) : Type 0 where
+  pub only : (place : Place) → set.contains new.ready place ≡ true → is_needed new place ≡ true
+  pub keeps : (place : Place) → IsPlace place → set.contains old.ready place ≡ true →
+      is_needed new place ≡ true → set.contains new.ready place ≡ true
+
+-- a tick sheds
+abbrev pub ShedsAt : Input → ServerValue → ServerValue → Type 0
+ShedsAt Tick old new = Sheds old new
+ShedsAt other old new = Unit {0}
