@@ -1,13 +1,15 @@
 -- What a frame makes of its connection, and what is left to be done about it then.
-use Rattle.std.specs.Prelude.{Option, Some, None, length, List, ℕ}
+use Rattle.std.specs.Prelude.{◌≡◌, IfOk, OnOk, Option, Result, Some, None, false, length, List, ℕ}
 use Rattle.mc_model.specs.declared.cause.Cause.{Cause}
 use Rattle.mc_model.specs.declared.stage.Stage.{Stage}
 use Rattle.mc_model.specs.declared.stage.Stage.TheVariants as stages
-use Rattle.mc_model.specs.World.{World, Session, players}
+use Rattle.mc_nbt.specs.declared.memory.NoMemory.{NoMemory}
+use Rattle.mc_model.specs.World.{World, Session, is_closed, players}
 use Rattle.mc_model.specs.Talk.{ClientRequest, greets, ends, enters, acts, request_of}
 use Rattle.mc_model.specs.Handled.{handled}
 use Rattle.mc_server.specs.declared.connection.pending.Pending.{Pending}
 use Rattle.mc_server.specs.declared.connection.pending.Pending.TheVariants.{Login, Act}
+use Rattle.mc_server.specs.Served.{ConnectionValue}
 
 -- what a frame of a connection of a world comes to
 abbrev pub request_in : World → Session → List ℕ → ClientRequest
@@ -36,3 +38,12 @@ pending_of other = None
 abbrev pub after_request : Session → ClientRequest → Session
 after_request s (enters name) = record s { stage = stages.Asked }
 after_request s other = (handled s other).session
+
+-- what handling a frame comes to where memory suffices: the connection did its part, and nothing
+-- of its splitter and its mark is another, but that a closed connection has no mark
+pub record Handles (what : ClientRequest) (old new : ConnectionValue)
+    (result : Result (Option Pending) NoMemory) : Type 0 where
+  pub pending : IfOk result (λ pending. pending ≡ pending_of what)
+  pub is : OnOk result (new.session ≡ after_request old.session what)
+  pub splitter : OnOk result (new.splitter ≡ old.splitter)
+  pub mark : OnOk result (is_closed new.session.stage ≡ false → new.mark ≡ old.mark)

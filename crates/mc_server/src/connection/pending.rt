@@ -3,7 +3,7 @@ ghost use Rattle.mc_model.specs.World as spec;
 ghost use Rattle.mc_model.specs.World.{is_closed};
 ghost use Rattle.mc_model.specs.Talk.{ClientRequest, request_of};
 ghost use Rattle.mc_session.specs.Answers.{step_of};
-ghost use Rattle.mc_server.specs.Handling.{after_request, decoded, pending_of};
+ghost use Rattle.mc_server.specs.Handling.{Handles, after_request, decoded, pending_of};
 
 use crate::connection::Connection;
 use mc_model::{Cause, Stage};
@@ -79,13 +79,8 @@ impl Connection {
     ) -> Result<Option<Pending>, NoMemory>
         requires not_closed { self.old.session.stage ≢ Stage.Closed }
         requires not_asked { self.old.session.stage ≢ Stage.Asked }
-        ensures pending { IfOk result (λ pending.
-            pending ≡ pending_of (request_of self.old.session.stage most online frame.now)) }
-        ensures is { OnOk result (self.new.session ≡ after_request self.old.session
-            (request_of self.old.session.stage most online frame.now)) }
-        ensures splitter { OnOk result (self.new.splitter ≡ self.old.splitter) }
-        ensures mark { OnOk result (is_closed self.new.session.stage ≡ false
-            → self.new.mark ≡ self.old.mark) }
+        ensures handles { Handles (request_of self.old.session.stage most online frame.now)
+            self.old self.new result }
         ensures same { self.new.session.id ≡ self.old.session.id }
     {
         let step = self.decode(frame, most, online)?;
@@ -101,13 +96,8 @@ impl Connection {
         online: u32,
     ) -> Result<Option<Pending>, NoMemory>
         requires not_closed { self.old.session.stage ≢ Stage.Closed }
-        ensures pending { IfOk result (λ pending.
-            pending ≡ pending_of (request_of self.old.session.stage most online frame.now)) }
-        ensures is { OnOk result (self.new.session ≡ after_request self.old.session
-            (request_of self.old.session.stage most online frame.now)) }
-        ensures splitter { OnOk result (self.new.splitter ≡ self.old.splitter) }
-        ensures mark { OnOk result (is_closed self.new.session.stage ≡ false
-            → self.new.mark ≡ self.old.mark) }
+        ensures handles { Handles (request_of self.old.session.stage most online frame.now)
+            self.old self.new result }
         ensures same { self.new.session.id ≡ self.old.session.id }
     {
         match self.session.stage() {
@@ -125,13 +115,8 @@ impl Connection {
         online: u32,
     ) -> Result<Option<Pending>, NoMemory>
         requires not_closed { self.old.session.stage ≢ Stage.Closed }
-        ensures pending { IfOk result (λ pending.
-            pending ≡ pending_of (request_of self.old.session.stage most online frame.now)) }
-        ensures is { OnOk result (self.new.session ≡ after_request self.old.session
-            (request_of self.old.session.stage most online frame.now)) }
-        ensures splitter { OnOk result (self.new.splitter ≡ self.old.splitter) }
-        ensures mark { OnOk result (is_closed self.new.session.stage ≡ false
-            → self.new.mark ≡ self.old.mark) }
+        ensures handles { Handles (request_of self.old.session.stage most online frame.now)
+            self.old self.new result }
         ensures calm { is_some self.new.session.player ≡ true
             → is_some self.old.session.player ≡ true }
         ensures same { self.new.session.id ≡ self.old.session.id }

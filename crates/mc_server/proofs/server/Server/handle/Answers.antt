@@ -58,7 +58,7 @@ returns c =
     rw (← c.self.view_is) (record {
       pending = if_ok_more c.handle.result _ _ (λ pending e. e ∙ ap pending_of said
           ∙ ap (λ (s : Session). pending_of (request_in (kept_world v) s c.args.frame.now))
-          (sym is)) c.handle.ensures.pending;
+          (sym is)) c.handle.ensures.handles.pending;
       is = on_ok_all3 c.handle.result _ _ _ _
           (λ made splitter mark. put_becomes v c.args.i high x c.handle.new.self
           c.self.invariant.rise open_.within c.index_mut.ensures.value c.handle.ensures.same
@@ -71,6 +71,6 @@ returns c =
                 λ e. absurd (not_both _ e opened);
             mark = mark;
           }))
-          c.handle.ensures.is c.handle.ensures.splitter c.handle.ensures.mark;
+          c.handle.ensures.handles.is c.handle.ensures.handles.splitter c.handle.ensures.handles.mark;
       rise = c.self.invariant.rise;
     })
