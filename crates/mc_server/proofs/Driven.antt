@@ -199,6 +199,7 @@ module _ (budget : Budget) (old new : Option LobbyTold) (w : World) (server : Se
     last = [];
     told = told_all;
     stands = stands_all;
+    age = sym d.ticks;
     are_turns = d.are_turns;
     ends = (let ticks = d.ticks in let all = d.all in (
       omega (arith, ticks, young),
@@ -219,6 +220,7 @@ module _ (budget : Budget) (old new : Option LobbyTold) (w : World) (server : Se
         last = [];
         told = subst P (sym same) told_all;
         stands = stands_all;
+        age = sym d.ticks;
         are_turns = d.are_turns;
         ends = (still_within young more, refl);
       }
@@ -234,6 +236,7 @@ module _ (budget : Budget) (old new : Option LobbyTold) (w : World) (server : Se
         last = entries.Ended ∷ [];
         told = Logs-trans old new after (log_of d.turns) (entries.Ended ∷ []) d.told told;
         stands = subst P (sym (logged_more w (log_of d.turns) (entries.Ended ∷ []))) d.stands;
+        age = sym d.ticks;
         are_turns = d.are_turns;
         ends = (still_within young more, refl, tally);
       }
@@ -248,6 +251,7 @@ module _ (budget : Budget) (old new : Option LobbyTold) (w : World) (server : Se
     last = [];
     told = told_all;
     stands = stands_all;
+    age = sym d.ticks;
     are_turns = d.are_turns;
     ends = (
       record {
@@ -276,6 +280,7 @@ drove_listened port budget old mid new w server result listened d = record {
   told = ToldBecomes-trans old mid new (with_port port)
       (with_entries (log_of d.turns ++ d.last)) listened d.told;
   stands = d.stands;
+  age = d.age;
   are_turns = d.are_turns;
   ends = d.ends;
 }
@@ -286,13 +291,15 @@ told_port port old new listened = ToldBecomes-same old new (with_port port) _
     (λ told. sym (with_entries-nil (with_port port told))) listened
 
 pub drove_deaf : (budget : Budget) (old new : Option LobbyTold) (w : World)
-    (server : ServerValue) → Stands server w → ToldBecomes old new (with_port budget.port) →
+    (server : ServerValue) → Stands server w → age_of server ≡ 0 →
+    ToldBecomes old new (with_port budget.port) →
     Drove (with_port budget.port) budget old new w server (Err Listen)
-drove_deaf budget old new w server stands listened = record {
+drove_deaf budget old new w server stands young listened = record {
   turns = [];
   last = [];
   told = told_port budget.port old new listened;
   stands = stands;
+  age = young;
   are_turns = tt;
   ends = (refl, refl);
 }

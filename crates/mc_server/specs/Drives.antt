@@ -23,7 +23,7 @@ use Rattle.mc_server.specs.declared.service.Ended.TheVariants as ends
 use Rattle.mc_server.specs.declared.service.DriveFault.{DriveFault}
 use Rattle.mc_server.specs.declared.service.DriveFault.TheVariants.{Listen, Next, Events, NoMemory}
 use Rattle.mc_server.specs.Served.{ServerValue, one_if}
-use Rattle.mc_server.specs.Stands.{Stands}
+use Rattle.mc_server.specs.Stands.{Stands, age_of}
 
 -- ---- counting in a log
 
@@ -98,6 +98,8 @@ pub record Drove (call : LobbyTold → LobbyTold) (budget : Budget) (old new : O
   pub last : List LogEntry
   pub told : ToldBecomes old new (λ told. with_entries (log_of turns ++ last) (call told))
   pub stands : Stands server (logged w (log_of turns ++ last))
+  -- it has taken as many ticks as came
+  pub age : age_of server ≡ ticks_in turns
   pub are_turns : AreTurns w turns
   pub ends : Ends budget w turns last result
 

@@ -8,7 +8,7 @@ pub returns-in_default-clause-drove : goal.returns-in_default-clause-drove
 returns-in_default-clause-drove g c = λ most cap terrain settings st ne.
     drove_new c.args.budget _ _ most cap terrain c.args.server.now _ settings ne
     (drove_deaf c.args.budget _ _ (new_world most cap terrain) c.args.server.now st
-    c.in_default.ensures.tells)
+    c.requires.young c.in_default.ensures.tells)
 
 pub returns-clause-drove : goal.returns-clause-drove
 returns-clause-drove g c = λ most cap terrain settings st ne.
