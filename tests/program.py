@@ -1,0 +1,98 @@
+"""The program under test, as a process of its own (docs/COMMANDS.md, `serve`)."""
+
+import os
+import selectors
+import socket
+import subprocess
+import time
+
+from client import HOST, PATIENCE, Unexpected, expect
+
+ENDLESS = 1_000_000
+
+
+def free_port():
+    """Ask the system for a port that nothing uses now."""
+    with socket.socket() as asked:
+        asked.bind((HOST, 0))
+        return asked.getsockname()[1]
+
+
+class Program:
+    """One run of `serve`, which is ended in every case when the `with` block is left."""
+
+    def __init__(self, path, **options):
+        self.port = options.get("port") or free_port()
+        named = {"port": self.port, "ticks": ENDLESS, **options}
+        arguments = [f"{name}={value}" for name, value in named.items()]
+        self.errors = b""
+        self.is_finished = False
+        self.process = subprocess.Popen(
+            [path, "serve", *arguments],
+            stdin=subprocess.DEVNULL,
+            stdout=subprocess.PIPE,
+            stderr=subprocess.PIPE,
+        )
+
+    def __enter__(self):
+        try:
+            self.wait_for_listening()
+        except BaseException:
+            self.stop()
+            raise
+        return self
+
+    def __exit__(self, kind, *_):
+        was_running = self.process.poll() is None
+        output, errors = self.stop()
+        if kind is None and not self.is_finished:
+            expect(was_running, f"the program ended by itself with {self.process.returncode}")
+            expect(not output + errors, f"the program said {output!r} and {errors!r}")
+
+    def wait_for_listening(self):
+        """Wait until the program says on standard error that it listens."""
+        deadline = time.monotonic() + PATIENCE
+        with selectors.DefaultSelector() as selector:
+            selector.register(self.process.stderr, selectors.EVENT_READ)
+            while not self.errors.endswith(b"\n"):
+                expect(selector.select(max(0, deadline - time.monotonic())), "it does not listen")
+                said = os.read(self.process.stderr.fileno(), 4096)
+                expect(said, f"standard error ends after {self.errors!r}")
+                self.errors += said
+        said = self.errors.decode()
+        expect(said == f"listening on {HOST}:{self.port}\n", f"standard error says {said!r}")
+
+    def finish(self, patience=PATIENCE):
+        """Wait for the end; answer the status and what stands on both outputs."""
+        self.is_finished = True
+        try:
+            output, errors = self.process.communicate(timeout=patience)
+        except subprocess.TimeoutExpired as error:
+            raise Unexpected(f"it still runs after {patience} s") from error
+        return self.process.returncode, output.decode(), (self.errors + errors).decode()
+
+    def stop(self):
+        """End the process where it still runs; answer what it said since it listened."""
+        if self.is_finished and self.process.returncode is not None:
+            return b"", b""
+        self.process.terminate()
+        try:
+            return self.process.communicate(timeout=PATIENCE)
+        except subprocess.TimeoutExpired:
+            self.process.kill()
+            return self.process.communicate()
+
+
+def run(path, *arguments, patience=PATIENCE):
+    """Run the program to its end; answer its status and what stands on both outputs."""
+    try:
+        done = subprocess.run(
+            [path, *arguments],
+            stdin=subprocess.DEVNULL,
+            capture_output=True,
+            timeout=patience,
+            check=False,
+        )
+    except subprocess.TimeoutExpired as error:
+        raise Unexpected(f"{' '.join(arguments)} still runs after {patience} s") from error
+    return done.returncode, done.stdout.decode(), done.stderr.decode()
