@@ -229,8 +229,12 @@ def wait_for_names(clients, client, names):
 
 
 def wait_for_end(clients, client):
-    """Wait until the server has closed one of the clients, and nothing is cut off."""
+    """Wait until the server has closed one of the clients, without a reset or a frame cut off.
+
+    A reset could take with it what the client has not read yet.
+    """
     expect(pump(clients, lambda: client.ended), "the connection is not closed")
+    expect(not client.was_reset, "the connection ends by a reset")
     expect(client.frames.left() == 0, "the connection ends in mid-frame")
 
 

@@ -71,15 +71,17 @@ def say_some_things(port):
 
 
 def budgets_end_runs(path):
-    """A run ends with 7 after its number of events."""
+    """A run ends with 7 after its number of events; a join and the bytes that come are such."""
     with Program(path, ticks=100, events=10) as program:
         with Client(program.port) as talker:
             talker.send(protocol.handshake(protocol.WANTS_STATUS))
-            for _ in range(10):
+            for _ in range(40):
                 talker.send(protocol.request())
                 pump([talker], lambda: talker.ended, TICK / 2)
             ended = program.finish()
     expect(ended[:2] == (7, "budget 10\n"), f"it ends with {ended}")
+    answers = len(talker.packets)
+    expect(0 < answers < 10, f"{answers} answers after a join, within 10 events")
 
 
 def ended_runs_free_their_port(path):
@@ -96,9 +98,8 @@ def ended_runs_free_their_port(path):
 
 
 def turns_end_with_their_lobby(path):
-    """By turns there is no tick before the first join, and the run ends when all have left."""
+    """By turns ticks come while somebody is there, and the run ends when all have left."""
     with Program(path, pace="turns", ticks=1_000_000_000) as program:
-        time.sleep(4 * TICK)
         ticker = log_in(program.port, "Tick", kind=Ticker)
         expect(pump([ticker], lambda: len(ticker.ticks) > 50), "no fifty ticks come")
         ticker.close()
@@ -108,6 +109,17 @@ def turns_end_with_their_lobby(path):
     expect(int(line[1]) >= len(ticker.ticks), f"{len(ticker.ticks)} ticks seen, told {output!r}")
 
 
+def turns_wait_for_a_join(path):
+    """By turns no tick comes before the first join, and the run ends after its ticks."""
+    with Program(path, pace="turns", ticks=50) as program:
+        time.sleep(10 * TICK)
+        expect(program.process.poll() is None, "the run ended before anybody joined")
+        with Client(program.port) as client:
+            ended = program.finish()
+            expect(ended[:2] == (0, "ticks=50 joins=1 closed=0\n"), f"it ends with {ended}")
+            expect(pump([client], lambda: client.ended), "its client sees no end")
+
+
 TESTS = [
     usage_is_told,
     ports_in_use_are_told,
@@ -115,4 +127,5 @@ TESTS = [
     budgets_end_runs,
     ended_runs_free_their_port,
     turns_end_with_their_lobby,
+    turns_wait_for_a_join,
 ]

@@ -70,14 +70,14 @@ class Replica:
         """Load or unload a column. A ground-up chunk with mask 0 is an unload, without a body."""
         if not packet.ground_up:
             raise Malformed(f"a chunk of {packet.place} that is not ground-up")
-        is_load = packet.mask != 0
-        if is_load == (packet.place in self.columns):
-            raise Malformed(f"a {'load' if is_load else 'unload'} of {packet.place} out of turn")
-        if is_load:
+        change = "load" if packet.mask != 0 else "unload"
+        if (change == "load") == (packet.place in self.columns):
+            raise Malformed(f"the {change} of {packet.place} out of turn")
+        if change == "load":
             self.columns[packet.place] = read_column(packet.mask, packet.body)
         else:
             self.unload(packet)
-        self.changes.append(("load" if is_load else "unload", packet.place))
+        self.changes.append((change, packet.place))
 
     def unload(self, packet):
         """Give a column up."""
