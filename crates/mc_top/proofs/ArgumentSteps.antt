@@ -7,7 +7,7 @@ use Rattle.std.specs.List.{position_or_len, list_any}
 use Rattle.std.specs.Str.{bytes_eq}
 use Rattle.std.proofs.lemmas.List.{drop_all, take_all}
 use Rattle.mc_top.specs.Arguments.{is_equals, name_of, value_of, value_in, are_options, status_of}
-use Rattle.mc_top.specs.Arguments.{replay_of, command_of}
+use Rattle.mc_top.specs.Arguments.{replay_of, serve_of, command_of}
 
 -- ---- a name and a value
 
@@ -159,11 +159,23 @@ pub named_replay : (verb : List ℕ) (arguments : List (List ℕ)) →
 unfolding command_of
 named_replay verb arguments other is = rw (other, is) refl
 
+pub named_serve : (verb : List ℕ) (arguments : List (List ℕ)) →
+    bytes_eq verb (codes "status") ≡ false → bytes_eq verb (codes "replay") ≡ false →
+    bytes_eq verb (codes "serve") ≡ true → command_of (verb ∷ arguments) ≡ serve_of arguments
+unfolding command_of
+named_serve verb arguments first second is = rw (first, second, is) refl
+
 pub named_none : (verb : List ℕ) (arguments : List (List ℕ)) →
     bytes_eq verb (codes "status") ≡ false → bytes_eq verb (codes "replay") ≡ false →
-    command_of (verb ∷ arguments) ≡ None
+    bytes_eq verb (codes "serve") ≡ false → command_of (verb ∷ arguments) ≡ None
 unfolding command_of
-named_none verb arguments other another = rw (other, another) refl
+named_none verb arguments first second third = rw (first, second, third) refl
+
+-- what a comparison with the verb's text answered is what one with its bytes gives
+pub compared : (text verb word : List ℕ) (answer b : Bool) → text ≡ verb →
+    answer ≡ bytes_eq text word → answer ≡ b → bytes_eq verb word ≡ b
+compared text verb word answer b same is was =
+    ap (λ (t : List ℕ). bytes_eq t word) (sym same) ∙ sym is ∙ was
 
 pub empty_is : {X : Type 0} (xs : List X) → length xs ≡ 0 → xs ≡ []
 empty_is [] none = refl

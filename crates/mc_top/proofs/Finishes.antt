@@ -1,5 +1,5 @@
 -- What holds of a run's devices once the last line is written.
-use Rattle.std.proofs.Common.{◌≡◌, ℕ, inl, List, length, take, Option, Some, Result, refl, sym}
+use Rattle.std.proofs.Common.{◌≡◌, ℕ, List, [], length, take, Option, Some, Result, refl, sym}
 use Rattle.std.proofs.Common.{subst, ap}
 use Rattle.std.specs.Prelude.{IfSome, IsOk, OnOk, OnErr}
 use Rattle.mc_wire.specs.Count.{Rose}
@@ -8,8 +8,8 @@ use Rattle.mc_top.specs.declared.bad_input.BadInput.{BadInput}
 use Rattle.mc_top.specs.declared.ended.Ended.{Ended}
 use Rattle.mc_top.specs.declared.ended.Ended.TheVariants as ended
 use Rattle.mc_top.specs.Devices.{WroteLast}
-use Rattle.mc_top.specs.Ended.{fixed_line_of, usage_line, read_fault_line, bad_input_line}
-use Rattle.mc_top.specs.Finishing.{Finishes}
+use Rattle.mc_top.specs.Ended.{fixed_line_of, usage_line, read_fault_line, net_fault_line}
+use Rattle.mc_top.specs.Finishing.{Finishes, IsUntouched}
 use Rattle.mc_top.proofs.Inputs.{wrote_last}
 
 -- what is known of an input that is told
@@ -39,41 +39,32 @@ only_last A view count old mid new line same wrote =
 
 -- ---- writing the last line
 
--- a last line that does not depend on the input was written, or there is none
+-- a last line without a number was written, or there is none
 pub finishes_fixed : {E : Type 0} (A : Type 0) (view : A → Option (List ℕ))
     (count : A → ℕ) (how : Ended) (r : Result (Unit {0}) E) (old new : A) (piece : List ℕ) →
-    ((bad : BadInput) → how ≡ ended.BadInput bad → ⊥) →
+    ((bad : BadInput) → how ≡ ended.BadInput bad → ⊥) → ((n : ℕ) → how ≡ ended.Budget n → ⊥) →
     piece ≡ fixed_line_of how → OnOk r (Grows (view old) (view new) piece) →
     OnErr r ((n : ℕ) × Grows (view old) (view new) (take n piece)) →
     OnErr r (Rose (count old) (count new)) → (length piece ≡ 0 → IsOk r × (new ≡ old)) →
     Finishes how how (view old) (view new) (count old) (count new)
-finishes_fixed A view count ended.Done r old new piece no_bad is whole part failed empty =
-    let same = (empty (ap length is)).1 in
-    (refl, (ap view same, ap count same))
-finishes_fixed A view count ended.NoMemory r old new piece no_bad is whole part failed empty =
-    let same = (empty (ap length is)).1 in
-    (refl, (ap view same, ap count same))
-finishes_fixed A view count ended.Usage r old new piece no_bad is whole part failed empty = (
-  refl,
-  wrote_last r (view old) (view new) (count old)
-      (count new) piece usage_line whole part failed is,
-)
-finishes_fixed A view count ended.ReadFault r old new piece no_bad is whole part failed empty = (
-  refl,
-  wrote_last r (view old) (view new) (count old)
-      (count new) piece read_fault_line whole part failed is,
-)
-finishes_fixed A view count ended.WriteFault r old new piece no_bad is whole part failed empty =
-    let same = (empty (ap length is)).1 in
-    (refl, (ap view same, ap count same))
-finishes_fixed A view count (ended.BadInput bad) r old new piece no_bad is whole part failed empty =
-    absurd (no_bad bad refl)
+finishes_fixed A view count how r old new piece no_bad no_budget is whole part failed empty =
+    finishes how no_bad no_budget is
+  where
+    line : (l : List ℕ) → piece ≡ l → WroteLast (view old) (view new) (count old) (count new) l
+    line l is = wrote_last r (view old) (view new) (count old) (count new) piece l whole part
+        failed is
 
--- the line that names a fault was written
-pub finishes_bad : (how : Ended)
-    (bad : BadInput) (held held' : Option (List ℕ)) (faults faults' : ℕ) →
-    how ≡ ended.BadInput bad → WroteLast held held' faults faults' (bad_input_line bad) →
-    Finishes how (ended.BadInput bad) held held' faults faults'
-finishes_bad how bad held held' faults faults' is wrote =
-    let P : Ended → Type 0 = λ e. Finishes e (ended.BadInput bad) held held' faults faults' in
-    subst P (sym is) (inl (refl, wrote))
+    none : piece ≡ [] → IsUntouched (view old) (view new) (count old) (count new)
+    none is = let same = (empty (ap length is)).1 in (ap view same, ap count same)
+
+    finishes : (e : Ended) → ((bad : BadInput) → e ≡ ended.BadInput bad → ⊥) →
+        ((n : ℕ) → e ≡ ended.Budget n → ⊥) → piece ≡ fixed_line_of e →
+        Finishes e e (view old) (view new) (count old) (count new)
+    finishes ended.Done bad budget is = (refl, none is)
+    finishes ended.NoMemory bad budget is = (refl, none is)
+    finishes ended.Usage bad budget is = (refl, line usage_line is)
+    finishes ended.ReadFault bad budget is = (refl, line read_fault_line is)
+    finishes ended.WriteFault bad budget is = (refl, none is)
+    finishes ended.NetFault bad budget is = (refl, line net_fault_line is)
+    finishes (ended.BadInput fault) bad budget is = absurd (bad fault refl)
+    finishes (ended.Budget n) bad budget is = absurd (budget n refl)

@@ -19,6 +19,8 @@ pub mod Replays
 pub mod Finishes
 pub mod StatusKept
 pub mod ReplayKept
+pub mod Serves
+pub mod ServeKept
 pub mod Runs
 pub mod Sent
 pub mod Passing

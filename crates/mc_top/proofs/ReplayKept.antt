@@ -2,14 +2,16 @@
 use Rattle.std.proofs.Common.{◌≡◌, ℕ, ◌⊎◌, inl, inr, List, Option, Some, Ok, Err, sym, subst, ◌∙◌}
 use Rattle.std.proofs.Common.{refl}
 use Rattle.mc_wire.specs.Count.{Rose}
+use Rattle.mc_wire.specs.LobbyCounts.{LobbyCounts}
+use Rattle.mc_wire.specs.LobbyTold.{LobbyTold}
 use Rattle.mc_top.specs.declared.bad_input.BadInput.{BadInput}
 use Rattle.mc_top.specs.declared.ended.Ended.{Ended}
 use Rattle.mc_top.specs.declared.ended.Ended.TheVariants as ended
 use Rattle.mc_top.specs.declared.script_line.ScriptEvent.{ScriptEvent}
-use Rattle.mc_top.specs.declared.arguments.Options.{Options}
+use Rattle.mc_top.specs.declared.arguments.WorldOptions.{WorldOptions}
 use Rattle.mc_top.specs.Devices.{Devices, devices}
 use Rattle.mc_top.specs.Ended.{status_of, read_fault_line, bad_input_line}
-use Rattle.mc_top.specs.Finishing.{Finishes}
+use Rattle.mc_top.specs.Finishing.{EndsText, Finishes}
 use Rattle.mc_top.specs.Script.{script_of}
 use Rattle.mc_top.specs.ReplayPromise.{IsScriptOf, IsFaultOf, FoundFault, Replayed, ReplayedPart}
 use Rattle.mc_top.specs.ReplayPromise.{ReplayedPartOrNothing, ReplayPromise}
@@ -17,12 +19,12 @@ use Rattle.mc_top.proofs.Finishes.{of_left, still_holds, still_rose, only_last}
 use Rattle.mc_top.proofs.Playing.{grows_same}
 
 -- what `replay` says of how it ended
-pub record ReplayEnded (A : Type 0) (view : A → Option (List ℕ)) (count : A → ℕ) (options : Options)
-    (how : Ended)
+pub record ReplayEnded (A : Type 0) (view : A → Option (List ℕ)) (count : A → ℕ)
+    (options : WorldOptions) (how : Ended)
     (left left' : Option (List ℕ)) (reads reads' : ℕ) (old mid : A) : Type 0 where
   pub done : how ≡ ended.Done → Replayed options left left' (view old) (view mid)
   pub no_memory : how ≡ ended.NoMemory → ReplayedPartOrNothing options left (view old) (view mid)
-  pub usage : ¬ (how ≡ ended.Usage)
+  pub ends : EndsText how
   pub read_fault : how ≡ ended.ReadFault → Rose reads reads' × (mid ≡ old)
   pub write_fault : how ≡ ended.WriteFault →
       Rose (count old) (count mid) × ReplayedPart options left (view old) (view mid)
@@ -30,16 +32,19 @@ pub record ReplayEnded (A : Type 0) (view : A → Option (List ℕ)) (count : A 
       FoundFault bad left left' × (mid ≡ old)
 
 -- the promise holds once the last line is written
-pub replay_kept : (A : Type 0) (view : A → Option (List ℕ)) (count : A → ℕ) (options : Options)
-    (how result : Ended) (left left' : Option (List ℕ)) (reads reads' : ℕ) (old mid new : A) →
+pub replay_kept : (A : Type 0) (view : A → Option (List ℕ)) (count : A → ℕ) (options : WorldOptions)
+    (how result : Ended) (told : Option LobbyTold) (counts : LobbyCounts)
+    (left left' : Option (List ℕ)) (reads reads' : ℕ) (old mid new : A) →
     ReplayEnded A view count options how left left' reads reads' old mid →
     Finishes how result (view mid) (view new) (count mid) (count new) → ReplayPromise options result
-    (devices left reads (view old) (count old)) (devices left' reads' (view new) (count new))
-replay_kept A view count options how result left left' reads reads' old mid new s f = kept how s f
+    (devices told counts left reads (view old) (count old))
+    (devices told counts left' reads' (view new) (count new))
+replay_kept A view count options how result told counts left left' reads reads' old mid new s f =
+    kept how s f
   where
     P : Ended → Type 0
-    P e = ReplayPromise options e (devices left reads (view old) (count old))
-        (devices left' reads' (view new) (count new))
+    P e = ReplayPromise options e (devices told counts left reads (view old) (count old))
+        (devices told counts left' reads' (view new) (count new))
 
     kept : (e : Ended) → ReplayEnded A view count options e left left' reads reads' old mid →
         Finishes e result (view mid) (view new) (count mid) (count new) → P result
@@ -49,7 +54,7 @@ replay_kept A view count options how result left left' reads reads' old mid new 
     kept ended.NoMemory said last = subst P (sym last.0)
         (still_holds (λ h. ReplayedPartOrNothing options left (view old) h) (view mid) (view new)
         last.1.0 (said.no_memory refl))
-    kept ended.Usage said last = absurd (said.usage refl)
+    kept ended.Usage said last = absurd said.ends
     kept ended.ReadFault said last = let fault = said.read_fault refl in
         subst P (sym last.0)
         (fault.0, only_last A view count old mid new read_fault_line fault.1 last.1)
@@ -59,6 +64,8 @@ replay_kept A view count options how result left left' reads reads' old mid new 
           still_holds (λ h. ReplayedPart options left (view old) h) (view mid) (view new) last.1.0
               fault.1,
         )
+    kept ended.NetFault said last = absurd said.ends
+    kept (ended.Budget n) said last = absurd said.ends
     kept (ended.BadInput bad) said (inl last) = let found = said.bad_input bad refl in
         subst P (sym last.0) (record {
           found = found.0;
@@ -73,7 +80,7 @@ script_or_fault : (events : List ScriptEvent) (bad : BadInput) (input : List ℕ
 script_or_fault events bad input is also = let clash : Ok events ≡ Err bad = sym is ∙ also in cc
 
 -- a script is served, unless memory runs out or a device fails
-pub replay_served : (options : Options)
+pub replay_served : (options : WorldOptions)
     (how : Ended) (before after : Devices) (events : List ScriptEvent) (input : List ℕ) →
     ReplayPromise options how before after → before.left ≡ Some input → IsScriptOf events input →
     ¬ Rose before.read_faults after.read_faults → ¬ Rose before.write_faults after.write_faults →
@@ -85,13 +92,15 @@ replay_served options ended.ReadFault before after events input p is script read
     absurd (reads p.0)
 replay_served options ended.WriteFault before after events input p is script reads writes =
     absurd (writes p.0)
+replay_served options ended.NetFault before after events input p is script reads writes = absurd p
+replay_served options (ended.Budget n) before after events input p is script reads writes = absurd p
 replay_served options (ended.BadInput bad) before after events input p is script reads writes =
     absurd (script_or_fault events bad input script
     (of_left (IsFaultOf bad) before.left input is p.found.first))
 
 -- and what is none is refused
-pub replay_refused : (options : Options) (how : Ended) (before after : Devices) (bad : BadInput)
-    (input : List ℕ) → ReplayPromise options how before after →
+pub replay_refused : (options : WorldOptions) (how : Ended) (before after : Devices)
+    (bad : BadInput) (input : List ℕ) → ReplayPromise options how before after →
     before.left ≡ Some input → IsFaultOf bad input → ¬ Rose before.read_faults after.read_faults →
     ¬ Rose before.write_faults after.write_faults → (status_of how ≡ 6) ⊎ (status_of how ≡ 1)
 replay_refused options ended.Done before after bad input p is wrong reads writes =
@@ -103,5 +112,7 @@ replay_refused options ended.ReadFault before after bad input p is wrong reads w
     absurd (reads p.0)
 replay_refused options ended.WriteFault before after bad input p is wrong reads writes =
     absurd (writes p.0)
+replay_refused options ended.NetFault before after bad input p is wrong reads writes = absurd p
+replay_refused options (ended.Budget n) before after bad input p is wrong reads writes = absurd p
 replay_refused options (ended.BadInput other) before after bad input p is wrong reads writes =
     inl refl

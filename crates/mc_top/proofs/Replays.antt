@@ -7,7 +7,7 @@ use Rattle.mc_model.proofs.Whole.{headline}
 use Rattle.mc_top.specs.declared.bad_input.BadInput.{BadInput}
 use Rattle.mc_top.specs.declared.ended.Ended.TheVariants as ended
 use Rattle.mc_top.specs.declared.script_line.ScriptEvent.{ScriptEvent}
-use Rattle.mc_top.specs.declared.arguments.Options.{Options}
+use Rattle.mc_top.specs.declared.arguments.WorldOptions.{WorldOptions}
 use Rattle.mc_top.specs.Script.{script_of}
 use Rattle.mc_top.specs.ReplayText.{events_of, replay_text, replay_log}
 use Rattle.mc_top.specs.Replaying.{HasStopped}
@@ -19,7 +19,7 @@ use Rattle.mc_top.proofs.ScriptFacts.{script_bytes}
 use Rattle.mc_top.proofs.Sent.{told_taken}
 
 -- what happens in a script keeps the whole promise about a run
-whole_promise : (options : Options) (bytes : List ℕ) (events : List ScriptEvent) →
+whole_promise : (options : WorldOptions) (bytes : List ℕ) (events : List ScriptEvent) →
     AreSettings options.players options.view →
     script_of bytes ≡ Ok events → Headline options.players options.view options.terrain
     (replay_log (world_of options) (events_of events))
@@ -27,7 +27,7 @@ whole_promise options bytes events settings is =
     headline options.players options.view options.terrain (replay_log (world_of options)
     (events_of events)) settings (script_bytes (world_of options) bytes events is)
 
-pub replayed : (options : Options) (left left' held held' : Option (List ℕ))
+pub replayed : (options : WorldOptions) (left left' held held' : Option (List ℕ))
     (bytes : List ℕ) (events : List ScriptEvent) → AreSettings options.players options.view →
     ReadsText left left' bytes → script_of bytes ≡ Ok events →
     Grows held held' (replay_text (world_of options) (events_of events)) →
@@ -42,7 +42,7 @@ replayed options left left' held held' bytes events settings read is wrote = rec
       (whole_promise options bytes events settings is);
 }
 
-pub replayed_part : (options : Options) (left left' held held' : Option (List ℕ))
+pub replayed_part : (options : WorldOptions) (left left' held held' : Option (List ℕ))
     (bytes : List ℕ) (events : List ScriptEvent) → ReadsText left left' bytes →
     script_of bytes ≡ Ok events → HasStopped (events_of events) (world_of options) held held' →
     ReplayedPart options left held held'

@@ -1,19 +1,22 @@
--- The options of `replay` are settings that a world can begin with.
+-- The options of a command are settings that it can begin with.
 use Rattle.std.proofs.Common.{◌≡◌, ℕ, ◌≤◌, Bool, true, false, cond, List, [], ◌∷◌, refl, subst}
 use Rattle.std.proofs.Common.{arith}
-use Rattle.std.specs.Prelude.{◌&&◌, nat_le, Option, Some, None, IfSome, codes}
+use Rattle.std.specs.Prelude.{◌&&◌, nat_le, Option, Some, None, IfSome, option_map, codes}
 use Rattle.std.specs.Str.{bytes_eq}
 use Rattle.std.proofs.lemmas.Bool.{leb-true}
 use Rattle.mc_land.specs.declared.terrain.Terrain.{Terrain}
 use Rattle.mc_model.specs.World.{AreSettings}
 use Rattle.mc_model.proofs.FitsText.{both_true}
-use Rattle.mc_top.specs.declared.arguments.Options.{Options}
+use Rattle.mc_wire.specs.declared.answers.Pace.{Pace}
+use Rattle.mc_top.specs.declared.arguments.WorldOptions.{WorldOptions}
 use Rattle.mc_top.specs.declared.arguments.Command.{Command}
 use Rattle.mc_top.specs.declared.arguments.Command.TheVariants.{Replay}
 use Rattle.mc_top.specs.Digits.{digits_number, within}
-use Rattle.mc_top.specs.Arguments.{IsSet, value_in, are_options, number_or, players_in, view_in}
-use Rattle.mc_top.specs.Arguments.{land_in, status_with, replay_with, status_of, replay_of}
-use Rattle.mc_top.specs.Arguments.{command_of}
+use Rattle.mc_top.specs.Arguments.{IsSet, value_in, are_options, number_in, number_or}
+use Rattle.mc_top.specs.Arguments.{players_in, view_in, land_in, world_with, world_in, port_in}
+use Rattle.mc_top.specs.Arguments.{tick_limit_in, event_limit_in, pace_in, takes_no_capture}
+use Rattle.mc_top.specs.Arguments.{status_with, serve_with, serve_names, status_of, replay_of}
+use Rattle.mc_top.specs.Arguments.{serve_of, command_of}
 
 abbrev IsWithin : ℕ → ℕ → ℕ → Type 0
 IsWithin low high n = (low ≤ n) × (n ≤ high)
@@ -33,6 +36,13 @@ number_is : (default low high : ℕ) (value : Option (List ℕ)) → low ≤ def
 number_is default low high None few many = (few, many)
 number_is default low high (Some value) few many = within_is low high (digits_number 10 value)
 
+stands_is : (low high : ℕ) (value : Option (List ℕ)) →
+    IfSome (number_in low high value) (IsWithin low high)
+stands_is low high None = tt
+stands_is low high (Some value) = within_is low high (digits_number 10 value)
+
+-- ---- each option
+
 players_are : (arguments : List (List ℕ)) → IfSome (players_in arguments) (IsWithin 1 50)
 unfolding players_in
 players_are arguments =
@@ -42,14 +52,49 @@ view_is : (arguments : List (List ℕ)) → IfSome (view_in arguments) (IsWithin
 unfolding view_in
 view_is arguments = number_is 6 2 8 (value_in (codes "view") arguments) (omega arith) (omega arith)
 
-replay_is_set : (players view : Option ℕ) (terrain : Option Terrain) →
+port_is : (arguments : List (List ℕ)) → IfSome (port_in arguments) (IsWithin 1 65535)
+unfolding port_in
+port_is arguments = stands_is 1 65535 (value_in (codes "port") arguments)
+
+ticks_are : (arguments : List (List ℕ)) → IfSome (tick_limit_in arguments) (IsWithin 1 1000000000)
+unfolding tick_limit_in
+ticks_are arguments = stands_is 1 1000000000 (value_in (codes "ticks") arguments)
+
+events_are : (arguments : List (List ℕ)) → IfSome (event_limit_in arguments) (IsWithin 1 4000000000)
+unfolding event_limit_in
+events_are arguments = number_is 4000000000 1 4000000000 (value_in (codes "events") arguments)
+    (omega arith) (omega arith)
+
+-- ---- all options of a command
+
+abbrev IsWorld : WorldOptions → Type 0
+IsWorld world = AreSettings world.players world.view
+
+world_with_is : (players view : Option ℕ) (terrain : Option Terrain) →
     IfSome players (IsWithin 1 50) → IfSome view (IsWithin 2 8) →
-    IfSome (replay_with players view terrain) IsSet
-replay_is_set (Some players) (Some view) (Some terrain) p v =
+    IfSome (world_with players view terrain) IsWorld
+world_with_is (Some players) (Some view) (Some terrain) p v =
     record { some = p.0; few = p.1; wide = v.0; near = v.1 }
-replay_is_set (Some players) (Some view) None p v = tt
-replay_is_set (Some players) None terrain p v = tt
-replay_is_set None view terrain p v = tt
+world_with_is (Some players) (Some view) None p v = tt
+world_with_is (Some players) None terrain p v = tt
+world_with_is None view terrain p v = tt
+
+world_is : (arguments : List (List ℕ)) → IfSome (world_in arguments) IsWorld
+world_is arguments = world_with_is (players_in arguments) (view_in arguments) (land_in arguments)
+    (players_are arguments) (view_is arguments)
+
+replay_is_set : (world : Option WorldOptions) → IfSome world IsWorld →
+    IfSome (option_map Replay world) IsSet
+replay_is_set None w = tt
+replay_is_set (Some world) w = w
+
+serve_is_set : (world : Option WorldOptions) (port ticks events : Option ℕ) (pace : Option Pace) →
+    IfSome world IsWorld → IfSome port (IsWithin 1 65535) →
+    IfSome ticks (IsWithin 1 1000000000) → IfSome events (IsWithin 1 4000000000) →
+    IfSome (serve_with world port ticks events pace) IsSet
+serve_is_set (Some world) (Some port) (Some ticks) (Some events) (Some pace) w p t e =
+    record { world = w; port = p.0; ticks = t; events = e.0 }
+serve_is_set world port ticks events pace w p t e = tt
 
 status_is_set : (players : Option ℕ) → IfSome (status_with players) IsSet
 status_is_set None = tt
@@ -60,6 +105,15 @@ choice : (b : Bool) (a c : Option Command) → IfSome a IsSet → IfSome c IsSet
 choice true a c pa pc = pa
 choice false a c pa pc = pc
 
+serve_set_of : (arguments : List (List ℕ)) → IfSome (serve_of arguments) IsSet
+serve_set_of arguments =
+    choice (are_options serve_names arguments && takes_no_capture arguments) (serve_with
+    (world_in arguments) (port_in arguments) (tick_limit_in arguments) (event_limit_in arguments)
+    (pace_in arguments)) None
+    (serve_is_set (world_in arguments) (port_in arguments) (tick_limit_in arguments)
+    (event_limit_in arguments) (pace_in arguments) (world_is arguments) (port_is arguments)
+    (ticks_are arguments) (events_are arguments)) tt
+
 command_is_set : (arguments : List (List ℕ)) → IfSome (command_of arguments) IsSet
 unfolding command_of
 command_is_set [] = tt
@@ -67,11 +121,11 @@ command_is_set (verb ∷ arguments) =
     choice (bytes_eq verb (codes "status")) (status_of arguments) _
     (choice (are_options (codes "players" ∷ []) arguments) (status_with (players_in arguments)) None
     (status_is_set (players_in arguments)) tt)
-    (choice (bytes_eq verb (codes "replay")) (replay_of arguments) None
+    (choice (bytes_eq verb (codes "replay")) (replay_of arguments) _
     (choice (are_options (codes "players" ∷ codes "view" ∷ codes "land" ∷ []) arguments)
-    (replay_with (players_in arguments) (view_in arguments) (land_in arguments)) None
-    (replay_is_set (players_in arguments) (view_in arguments) (land_in arguments)
-    (players_are arguments) (view_is arguments)) tt) tt)
+    (option_map Replay (world_in arguments)) None
+    (replay_is_set (world_in arguments) (world_is arguments)) tt)
+    (choice (bytes_eq verb (codes "serve")) (serve_of arguments) None (serve_set_of arguments) tt))
 
 -- the options of the command that some arguments name
 pub named_is_set : (arguments : List (List ℕ)) (o : Option Command) (command : Command) →
@@ -79,7 +133,3 @@ pub named_is_set : (arguments : List (List ℕ)) (o : Option Command) (command :
 named_is_set arguments o command is named =
     let P : Option Command → Type 0 = λ o. IfSome o IsSet in
     subst P named (subst P is (command_is_set arguments))
-
-pub replay_set : (command : Command) (options : Options) → command ≡ Replay options →
-    IsSet command → AreSettings options.players options.view
-replay_set command options is set = let P : Command → Type 0 = λ c. IsSet c in subst P is set

@@ -4,13 +4,15 @@ use Rattle.std.proofs.Common.{◌≡◌, ℕ, ◌⊎◌, inl, inr, List, length,
 use Rattle.std.proofs.Common.{refl, arith}
 use Rattle.std.proofs.lemmas.List.{take_all}
 use Rattle.mc_wire.specs.Count.{Rose, StandsOrRises}
+use Rattle.mc_wire.specs.LobbyCounts.{LobbyCounts}
+use Rattle.mc_wire.specs.LobbyTold.{LobbyTold}
 use Rattle.mc_wire.specs.Stream.{Grows}
 use Rattle.mc_top.specs.declared.bad_input.BadInput.{BadInput}
 use Rattle.mc_top.specs.declared.ended.Ended.{Ended}
 use Rattle.mc_top.specs.declared.ended.Ended.TheVariants as ended
 use Rattle.mc_top.specs.Devices.{Devices, devices}
 use Rattle.mc_top.specs.Ended.{status_of, read_fault_line, bad_input_line}
-use Rattle.mc_top.specs.Finishing.{Finishes}
+use Rattle.mc_top.specs.Finishing.{EndsText, Finishes}
 use Rattle.mc_top.specs.StatusPromise.{IsFineText, IsBadText, Found, Replied, RepliedPart}
 use Rattle.mc_top.specs.StatusPromise.{RepliedPartOrNothing, StatusPromise}
 use Rattle.mc_top.proofs.Finishes.{of_left, still_holds, still_rose, only_last}
@@ -40,7 +42,7 @@ pub record StatusEnded (A : Type 0) (view : A → Option (List ℕ)) (count : A 
     (left left' : Option (List ℕ)) (reads reads' : ℕ) (old mid : A) : Type 0 where
   pub done : how ≡ ended.Done → Replied most left left' (view old) (view mid)
   pub no_memory : how ≡ ended.NoMemory → RepliedPartOrNothing most left (view old) (view mid)
-  pub usage : ¬ (how ≡ ended.Usage)
+  pub ends : EndsText how
   pub read_fault : how ≡ ended.ReadFault → Rose reads reads' × (mid ≡ old)
   pub write_fault : how ≡ ended.WriteFault →
       Rose (count old) (count mid) × RepliedPart most left (view old) (view mid)
@@ -50,15 +52,18 @@ pub record StatusEnded (A : Type 0) (view : A → Option (List ℕ)) (count : A 
 
 -- the promise holds once the last line is written
 pub status_kept : (A : Type 0) (view : A → Option (List ℕ)) (count : A → ℕ) (most : ℕ)
-    (how result : Ended) (left left' : Option (List ℕ)) (reads reads' : ℕ) (old mid new : A) →
+    (how result : Ended) (told : Option LobbyTold) (counts : LobbyCounts)
+    (left left' : Option (List ℕ)) (reads reads' : ℕ) (old mid new : A) →
     StatusEnded A view count most how left left' reads reads' old mid →
     Finishes how result (view mid) (view new) (count mid) (count new) → StatusPromise most result
-    (devices left reads (view old) (count old)) (devices left' reads' (view new) (count new))
-status_kept A view count most how result left left' reads reads' old mid new s f = kept how s f
+    (devices told counts left reads (view old) (count old))
+    (devices told counts left' reads' (view new) (count new))
+status_kept A view count most how result told counts left left' reads reads' old mid new s f =
+    kept how s f
   where
     P : Ended → Type 0
-    P e = StatusPromise most e (devices left reads (view old) (count old))
-        (devices left' reads' (view new) (count new))
+    P e = StatusPromise most e (devices told counts left reads (view old) (count old))
+        (devices told counts left' reads' (view new) (count new))
 
     kept : (e : Ended) → StatusEnded A view count most e left left' reads reads' old mid →
         Finishes e result (view mid) (view new) (count mid) (count new) → P result
@@ -68,7 +73,7 @@ status_kept A view count most how result left left' reads reads' old mid new s f
     kept ended.NoMemory said last = subst P (sym last.0)
         (still_holds (λ h. RepliedPartOrNothing most left (view old) h) (view mid) (view new)
         last.1.0 (said.no_memory refl))
-    kept ended.Usage said last = absurd (said.usage refl)
+    kept ended.Usage said last = absurd said.ends
     kept ended.ReadFault said last = let fault = said.read_fault refl in
         subst P (sym last.0)
         (fault.0, only_last A view count old mid new read_fault_line fault.1 last.1)
@@ -78,6 +83,8 @@ status_kept A view count most how result left left' reads reads' old mid new s f
           still_holds (λ h. RepliedPart most left (view old) h) (view mid) (view new) last.1.0
               fault.1,
         )
+    kept ended.NetFault said last = absurd said.ends
+    kept (ended.Budget n) said last = absurd said.ends
     kept (ended.BadInput bad) said (inl last) = let found = said.bad_input bad refl in
         subst P (sym last.0) (record {
           text = found.text;
@@ -103,6 +110,8 @@ status_served most ended.ReadFault before after text input p is fine reads write
     absurd (reads p.0)
 status_served most ended.WriteFault before after text input p is fine reads writes =
     absurd (writes p.0)
+status_served most ended.NetFault before after text input p is fine reads writes = absurd p
+status_served most (ended.Budget n) before after text input p is fine reads writes = absurd p
 status_served most (ended.BadInput bad) before after text input p is fine reads writes =
     absurd (fine_not_bad (status_told most input) text p.text bad fine
     (of_left (IsBadText most bad p.text) before.left input is p.first))
@@ -121,5 +130,7 @@ status_refused most ended.ReadFault before after bad text input p is wrong reads
     absurd (reads p.0)
 status_refused most ended.WriteFault before after bad text input p is wrong reads writes =
     absurd (writes p.0)
+status_refused most ended.NetFault before after bad text input p is wrong reads writes = absurd p
+status_refused most (ended.Budget n) before after bad text input p is wrong reads writes = absurd p
 status_refused most (ended.BadInput other) before after bad text input p is wrong reads writes =
     inl refl

@@ -1,12 +1,17 @@
--- The two devices of a run, as its promises see them: before it, and after it. Rules of this
--- project.
+-- The devices of a run, as its promises see them: before it, and after it. Rules of this project.
 use Rattle.std.specs.Prelude.{◌≡◌, ℕ, ◌+◌, ◌≤◌, ◌⊎◌, List, ◌++◌, take, length, Option}
 use Rattle.mc_wire.specs.Count.{Rose}
+use Rattle.mc_wire.specs.LobbyCounts.{LobbyCounts}
+use Rattle.mc_wire.specs.LobbyTold.{LobbyTold}
 use Rattle.mc_wire.specs.Stream.{Consumes, Grows, IsAtEnd}
 use Rattle.mc_top.specs.Ended.{read_fault_line}
 use Rattle.mc_top.specs.Lines.{text_max}
 
 pub record Devices : Type 0 where
+  -- what the lobby tells, where it does
+  pub told : Option LobbyTold
+  -- how many of its calls failed, stalled and broke
+  pub counts : LobbyCounts
   -- what is left of the input, where the source tells it
   pub left : Option (List ℕ)
   -- how many reads failed
@@ -16,13 +21,25 @@ pub record Devices : Type 0 where
   -- how many writes failed
   pub write_faults : ℕ
 
-abbrev pub devices : Option (List ℕ) → ℕ → Option (List ℕ) → ℕ → Devices
-devices left read_faults held write_faults = record {
+abbrev pub devices : Option LobbyTold → LobbyCounts → Option (List ℕ) → ℕ → Option (List ℕ) → ℕ →
+    Devices
+devices told counts left read_faults held write_faults = record {
+  told = told;
+  counts = counts;
   left = left;
   read_faults = read_faults;
   held = held;
   write_faults = write_faults;
 }
+
+-- the lobby was not touched
+abbrev pub LobbyStays : Devices → Devices → Type 0
+LobbyStays before after = (after.told ≡ before.told) × (after.counts ≡ before.counts)
+
+-- the input was not read
+abbrev pub InputStays : Devices → Devices → Type 0
+InputStays before after =
+    (after.left ≡ before.left) × (after.read_faults ≡ before.read_faults)
 
 -- these bytes of an input were read, which are all of it or one more than a text has at most; no
 -- more are read

@@ -17,7 +17,9 @@ status_of ended.NoMemory = 1
 status_of ended.Usage = 2
 status_of ended.ReadFault = 3
 status_of ended.WriteFault = 4
+status_of ended.NetFault = 5
 status_of (ended.BadInput bad) = 6
+status_of (ended.Budget n) = 7
 
 -- a line and its end
 abbrev pub ended_line : List ℕ → List ℕ
@@ -30,16 +32,25 @@ usage_line = USAGE.now
 abbrev pub read_fault_line : List ℕ
 read_fault_line = ended_line (codes "read fault")
 
+abbrev pub net_fault_line : List ℕ
+net_fault_line = ended_line (codes "net fault")
+
+-- how many events there may be, all of which came
+abbrev pub budget_line : ℕ → List ℕ
+budget_line n = ended_line (codes "budget " ++ decimal n)
+
 -- where the first fault of a text shows, and what it is
 abbrev pub bad_input_line : BadInput → List ℕ
 bad_input_line bad =
     ended_line (codes "bad input at " ++ decimal bad.line ++ codes ": " ++ fault_name bad.kind)
 
--- the last line where it does not depend on the input
+-- the last line where it has no number
 abbrev pub fixed_line_of : Ended → List ℕ
 fixed_line_of ended.Usage = usage_line
 fixed_line_of ended.ReadFault = read_fault_line
 fixed_line_of ended.Done = []
 fixed_line_of ended.NoMemory = []
 fixed_line_of ended.WriteFault = []
+fixed_line_of ended.NetFault = net_fault_line
 fixed_line_of (ended.BadInput bad) = []
+fixed_line_of (ended.Budget n) = []

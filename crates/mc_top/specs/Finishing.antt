@@ -3,11 +3,37 @@ use Rattle.std.specs.Prelude.{◌≡◌, ℕ, ◌⊎◌, List, Option}
 use Rattle.mc_top.specs.declared.ended.Ended.{Ended}
 use Rattle.mc_top.specs.declared.ended.Ended.TheVariants as ended
 use Rattle.mc_top.specs.Devices.{WroteLast}
-use Rattle.mc_top.specs.Ended.{bad_input_line, usage_line, read_fault_line}
+use Rattle.mc_top.specs.Ended.{bad_input_line, budget_line, net_fault_line, usage_line}
+use Rattle.mc_top.specs.Ended.{read_fault_line}
+
+-- ---- how a command can end before its last line is written
+
+-- one that reads a text
+abbrev pub EndsText : Ended → Type 0
+EndsText ended.Usage = ⊥
+EndsText ended.NetFault = ⊥
+EndsText (ended.Budget n) = ⊥
+EndsText other = Unit {0}
+
+-- one that serves a lobby
+abbrev pub EndsServing : Ended → Type 0
+EndsServing ended.Usage = ⊥
+EndsServing ended.ReadFault = ⊥
+EndsServing (ended.BadInput bad) = ⊥
+EndsServing other = Unit {0}
+
+-- ---- and with it
 
 -- nothing was written
 abbrev pub IsUntouched : Option (List ℕ) → Option (List ℕ) → ℕ → ℕ → Type 0
 IsUntouched held held' faults faults' = (held' ≡ held) × (faults' ≡ faults)
+
+-- a last line with a number was written, or there was no memory to make it
+abbrev pub FinishesWith : Ended → List ℕ → Ended → Option (List ℕ) → Option (List ℕ) → ℕ → ℕ →
+    Type 0
+FinishesWith how line result held held' faults faults' =
+    ((result ≡ how) × WroteLast held held' faults faults' line)
+    ⊎ ((result ≡ ended.NoMemory) × IsUntouched held held' faults faults')
 
 -- a command that ended so ends with this result once its last line is written
 abbrev pub Finishes : Ended → Ended → Option (List ℕ) → Option (List ℕ) → ℕ → ℕ → Type 0
@@ -21,6 +47,9 @@ Finishes ended.ReadFault result held held' faults faults' =
     (result ≡ ended.ReadFault) × WroteLast held held' faults faults' read_fault_line
 Finishes ended.WriteFault result held held' faults faults' =
     (result ≡ ended.WriteFault) × IsUntouched held held' faults faults'
+Finishes ended.NetFault result held held' faults faults' =
+    (result ≡ ended.NetFault) × WroteLast held held' faults faults' net_fault_line
 Finishes (ended.BadInput bad) result held held' faults faults' =
-    ((result ≡ ended.BadInput bad) × WroteLast held held' faults faults' (bad_input_line bad))
-    ⊎ ((result ≡ ended.NoMemory) × IsUntouched held held' faults faults')
+    FinishesWith (ended.BadInput bad) (bad_input_line bad) result held held' faults faults'
+Finishes (ended.Budget n) result held held' faults faults' =
+    FinishesWith (ended.Budget n) (budget_line n) result held held' faults faults'

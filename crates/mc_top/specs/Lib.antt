@@ -13,5 +13,6 @@ pub mod ReplayText
 pub mod Passes
 pub mod Replaying
 pub mod ReplayPromise
+pub mod ServePromise
 pub mod Promises
 pub mod Finishing

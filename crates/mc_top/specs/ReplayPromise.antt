@@ -6,7 +6,7 @@ use Rattle.mc_model.specs.World.{World, new_world}
 use Rattle.mc_model.specs.Headline.{Headline}
 use Rattle.mc_top.specs.declared.bad_input.BadInput.{BadInput}
 use Rattle.mc_top.specs.declared.script_line.ScriptEvent.{ScriptEvent}
-use Rattle.mc_top.specs.declared.arguments.Options.{Options}
+use Rattle.mc_top.specs.declared.arguments.WorldOptions.{WorldOptions}
 use Rattle.mc_top.specs.declared.ended.Ended.{Ended}
 use Rattle.mc_top.specs.declared.ended.Ended.TheVariants as ended
 use Rattle.mc_top.specs.Devices.{Devices, InputFailed, IsTextRead, WroteLast}
@@ -15,7 +15,7 @@ use Rattle.mc_top.specs.Script.{script_of}
 use Rattle.mc_top.specs.ReplayText.{events_of, replay_text, replay_log, IsToldTaken}
 
 -- the new world that the options ask for
-abbrev pub world_of : Options → World
+abbrev pub world_of : WorldOptions → World
 world_of options = new_world options.players options.view options.terrain
 
 -- an input is a script without fault, and this is what its lines say
@@ -29,7 +29,8 @@ IsFaultOf bad input = script_of input ≡ Err bad
 -- the input was read to its end and is a script without fault, its text was written, all that
 -- happened keeps the whole promise about a run, and the `sent` lines tell just the bytes of that
 -- promise
-pub record Replayed (options : Options) (left left' held held' : Option (List ℕ)) : Type 0 where
+pub record Replayed (options : WorldOptions) (left left' held held' : Option (List ℕ)) :
+    Type 0 where
   pub events : List ScriptEvent
   pub script : IfSome left (IsScriptOf events)
   pub ended : IsAtEnd left'
@@ -39,14 +40,14 @@ pub record Replayed (options : Options) (left left' held held' : Option (List �
   pub sent : (k : ℕ) → IsToldTaken k (world_of options) (events_of events)
 
 -- the input is a script without fault, and some first part of its text was written
-pub record ReplayedPart (options : Options) (left held held' : Option (List ℕ)) : Type 0 where
+pub record ReplayedPart (options : WorldOptions) (left held held' : Option (List ℕ)) : Type 0 where
   pub events : List ScriptEvent
   pub script : IfSome left (IsScriptOf events)
   pub len : ℕ
   pub wrote : Grows held held' (take len (replay_text (world_of options) (events_of events)))
 
 -- some first part of the text, or nothing
-abbrev pub ReplayedPartOrNothing : Options → Option (List ℕ) → Option (List ℕ) →
+abbrev pub ReplayedPartOrNothing : WorldOptions → Option (List ℕ) → Option (List ℕ) →
     Option (List ℕ) → Type 0
 ReplayedPartOrNothing options left held held' =
     Grows held held' [] ⊎ ReplayedPart options left held held'
@@ -64,7 +65,7 @@ pub record Rejected (bad : BadInput) (before after : Devices) : Type 0 where
       (bad_input_line bad)
 
 -- what holds where `replay` ended so
-abbrev pub ReplayPromise : Options → Ended → Devices → Devices → Type 0
+abbrev pub ReplayPromise : WorldOptions → Ended → Devices → Devices → Type 0
 ReplayPromise options ended.Done before after =
     Replayed options before.left after.left before.held after.held
 ReplayPromise options ended.NoMemory before after =
@@ -74,4 +75,6 @@ ReplayPromise options ended.ReadFault before after = InputFailed before after
 ReplayPromise options ended.WriteFault before after =
     Rose before.write_faults after.write_faults
     × ReplayedPart options before.left before.held after.held
+ReplayPromise options ended.NetFault before after = ⊥
+ReplayPromise options (ended.Budget n) before after = ⊥
 ReplayPromise options (ended.BadInput bad) before after = Rejected bad before after

@@ -64,4 +64,6 @@ StatusPromise most ended.ReadFault before after = InputFailed before after
 StatusPromise most ended.WriteFault before after =
     Rose before.write_faults after.write_faults
     × RepliedPart most before.left before.held after.held
+StatusPromise most ended.NetFault before after = ⊥
+StatusPromise most (ended.Budget n) before after = ⊥
 StatusPromise most (ended.BadInput bad) before after = Refused most bad before after

@@ -2,15 +2,18 @@ ghost use Rattle.std.specs.Prelude.{◌≡◌, option_map, map, position};
 ghost use Rattle.std.specs.Str.{bytes_eq};
 ghost use Rattle.std.specs.List.{list_any};
 ghost use Rattle.mc_top.specs.Arguments.{is_equals, name_of, value_of, value_in, are_options};
-ghost use Rattle.mc_top.specs.Arguments.{number_or, terrain_of, players_in, view_in, land_in};
-ghost use Rattle.mc_top.specs.Arguments.{status_of, replay_of, command_of, bytes_of};
+ghost use Rattle.mc_top.specs.Arguments.{number_in, number_or, terrain_of, players_in, view_in};
+ghost use Rattle.mc_top.specs.Arguments.{land_in, world_in, port_in, tick_limit_in, event_limit_in};
+ghost use Rattle.mc_top.specs.Arguments.{pace_of, pace_in, takes_no_capture};
+ghost use Rattle.mc_top.specs.Arguments.{status_of, replay_of, serve_of, command_of, bytes_of};
 
 use crate::digits::{ranged_u32, seed};
 use mc_land::Terrain;
+use mc_wire::Pace;
 
-/// The options of `replay`.
+/// The options of a world, as it begins.
 #[derive(Clone, Copy, Debug, PartialEq, Eq)]
-pub struct Options {
+pub struct WorldOptions {
     /// The most players.
     pub players: u32,
     /// How many columns a client sees to each side.
@@ -19,13 +22,30 @@ pub struct Options {
     pub terrain: Terrain,
 }
 
+/// The options of `serve`.
+#[derive(Clone, Copy, Debug, PartialEq, Eq)]
+pub struct ServeOptions {
+    /// The world that is served.
+    pub world: WorldOptions,
+    /// The port to listen on.
+    pub port: u16,
+    /// After so many ticks it ends well.
+    pub ticks: u32,
+    /// After so many events it ends in any case.
+    pub events: u32,
+    /// What ticks come by.
+    pub pace: Pace,
+}
+
 /// What the arguments of the command line say.
 #[derive(Clone, Copy, Debug, PartialEq, Eq)]
 pub enum Command {
     /// `status`, with the most players.
     Status(u32),
-    /// `replay`, with its options.
-    Replay(Options),
+    /// `replay`, with the options of its world.
+    Replay(WorldOptions),
+    /// `serve`, with its options.
+    Serve(ServeOptions),
 }
 
 /// The place of the first `=`.
@@ -87,6 +107,13 @@ fn are_options(names: &[&str], arguments: &[String]) -> bool
     true
 }
 
+/// A number of an option that must stand.
+fn number_in(low: u32, high: u32, value: Option<&[u8]>) -> Option<u32>
+    ensures { result ≡ number_in low high (option_map (λ v. v.now) value.entry) }
+{
+    ranged_u32(value?, low, high)
+}
+
 /// A number that stands for an option, or its default.
 fn number_or(default: u32, low: u32, high: u32, value: Option<&[u8]>) -> Option<u32>
     ensures { result ≡ number_or default low high (option_map (λ v. v.now) value.entry) }
@@ -139,6 +166,82 @@ fn land(arguments: &[String]) -> Option<Terrain>
     }
 }
 
+/// The options of a world.
+fn world(arguments: &[String]) -> Option<WorldOptions>
+    ensures { result ≡ world_in (bytes_of arguments.now) }
+{
+    Some(WorldOptions {
+        players: players(arguments)?,
+        view: view(arguments)?,
+        terrain: land(arguments)?,
+    })
+}
+
+/// The port to listen on.
+#[tactic(auto, unfolding(crate::specs::Arguments::port_in))]
+fn port(arguments: &[String]) -> Option<u16>
+    ensures { result ≡ port_in (bytes_of arguments.now) }
+{
+    let port = number_in(1, 65_535, value_in(b"port".as_slice(), arguments))?;
+    u16::try_from(port).ok()
+}
+
+/// After how many ticks serving ends well.
+#[tactic(auto, unfolding(crate::specs::Arguments::tick_limit_in))]
+fn tick_limit(arguments: &[String]) -> Option<u32>
+    ensures { result ≡ tick_limit_in (bytes_of arguments.now) }
+{
+    number_in(1, 1_000_000_000, value_in(b"ticks".as_slice(), arguments))
+}
+
+/// After how many events serving ends in any case.
+#[tactic(auto, unfolding(crate::specs::Arguments::event_limit_in))]
+fn event_limit(arguments: &[String]) -> Option<u32>
+    ensures { result ≡ event_limit_in (bytes_of arguments.now) }
+{
+    number_or(
+        4_000_000_000,
+        1,
+        4_000_000_000,
+        value_in(b"events".as_slice(), arguments),
+    )
+}
+
+/// The pace that a value names.
+fn pace_of(value: &[u8]) -> Option<Pace>
+    ensures { result ≡ pace_of value.now }
+{
+    if value == b"clock".as_slice() {
+        return Some(Pace::Clock);
+    }
+    if value == b"turns".as_slice() {
+        return Some(Pace::Turns);
+    }
+    None
+}
+
+/// What ticks come by.
+#[tactic(auto, unfolding(crate::specs::Arguments::pace_in))]
+fn pace(arguments: &[String]) -> Option<Pace>
+    ensures { result ≡ pace_in (bytes_of arguments.now) }
+{
+    match value_in(b"pace".as_slice(), arguments) {
+        None => Some(Pace::Clock),
+        Some(value) => pace_of(value),
+    }
+}
+
+/// Whether no capture is asked for.
+#[tactic(auto, unfolding(crate::specs::Arguments::takes_no_capture))]
+fn takes_no_capture(arguments: &[String]) -> bool
+    ensures { result ≡ takes_no_capture (bytes_of arguments.now) }
+{
+    match value_in(b"capture".as_slice(), arguments) {
+        None => true,
+        Some(value) => value == b"no".as_slice(),
+    }
+}
+
 /// `status`, with its options.
 fn status(arguments: &[String]) -> Option<Command>
     ensures { result ≡ status_of (bytes_of arguments.now) }
@@ -156,10 +259,27 @@ fn replay(arguments: &[String]) -> Option<Command>
     if !are_options(&["players", "view", "land"], arguments) {
         return None;
     }
-    Some(Command::Replay(Options {
-        players: players(arguments)?,
-        view: view(arguments)?,
-        terrain: land(arguments)?,
+    Some(Command::Replay(world(arguments)?))
+}
+
+/// The names of the options of `serve`.
+const SERVE_NAMES: [&str; 8] = [
+    "port", "ticks", "players", "view", "land", "events", "pace", "capture",
+];
+
+/// `serve`, with its options.
+fn serve(arguments: &[String]) -> Option<Command>
+    ensures { result ≡ serve_of (bytes_of arguments.now) }
+{
+    if !are_options(&SERVE_NAMES, arguments) || !takes_no_capture(arguments) {
+        return None;
+    }
+    Some(Command::Serve(ServeOptions {
+        world: world(arguments)?,
+        port: port(arguments)?,
+        ticks: tick_limit(arguments)?,
+        events: event_limit(arguments)?,
+        pace: pace(arguments)?,
     }))
 }
 
@@ -175,6 +295,9 @@ impl Command {
         }
         if verb.as_str() == "replay" {
             return replay(options);
+        }
+        if verb.as_str() == "serve" {
+            return serve(options);
         }
         None
     }

@@ -1,21 +1,23 @@
-ghost use Rattle.std.specs.Prelude.{◌≡◌, ◌↔◌};
+ghost use Rattle.std.specs.Prelude.{◌≡◌, ◌↔◌, ℕ, List, IfOk, IfSome, string_bytes};
 ghost use Rattle.mc_wire.specs.Count.{Rose, StandsOrRises};
 ghost use Rattle.mc_top.specs.declared.bad_input.BadInput.{BadInput};
 ghost use Rattle.mc_top.specs.Devices.{devices, WroteLast};
 ghost use Rattle.mc_top.specs.Ended.{usage_line};
-ghost use Rattle.mc_top.specs.Finishing.{Finishes};
+ghost use Rattle.mc_top.specs.Finishing.{EndsText, Finishes, FinishesWith};
 ghost use Rattle.mc_top.specs.Promises.{IsStatus, KeepsPromise, NamesNone, Promises};
 ghost use Rattle.mc_top.specs.StatusPromise.{Found, Replied, RepliedPart, RepliedPartOrNothing};
-ghost use Rattle.mc_top.specs.Arguments.{IsSet};
+ghost use Rattle.mc_top.specs.Arguments.{IsSet, bytes_of, command_of};
 
 use crate::arguments::Command;
 use crate::bad_input::BadInput;
-use crate::ended::Ended;
+use crate::ended::{Ended, budget_line};
 use crate::lines::read_text;
 use crate::replay::replay;
+use crate::serve::serve;
 use crate::status::write_status;
 use crate::unfinished::Unfinished;
-use mc_wire::{InputError, Sink, Source, write_all};
+use mc_nbt::NoMemory;
+use mc_wire::{InputError, Lobby, Sink, Source, write_all};
 use std::alloc::Global;
 
 /// The command `status`: it reads one client's bytes as lines of hex, and writes each frame that
@@ -25,7 +27,7 @@ fn status<I: Source, O: Sink>(alloc: Global, most: u32, input: &mut I, out: &mut
         Replied most (I.left input.old) (I.left input.new) (O.held out.old) (O.held out.new) }
     ensures no_memory { result ≡ Ended.NoMemory →
         RepliedPartOrNothing most (I.left input.old) (O.held out.old) (O.held out.new) }
-    ensures never_usage { ¬ (result ≡ Ended.Usage) }
+    ensures ends { EndsText result }
     ensures read_fault { result ≡ Ended.ReadFault →
         Rose (I.faults input.old) (I.faults input.new) × (out.new ≡ out.old) }
     ensures write_fault { result ≡ Ended.WriteFault → Rose (O.faults out.old) (O.faults out.new)
@@ -46,41 +48,57 @@ fn status<I: Source, O: Sink>(alloc: Global, most: u32, input: &mut I, out: &mut
     }
 }
 
-/// Writes the last line of a command that ended so, and says how it ends with that: without memory
-/// for the line that names a fault it names none.
-fn finish<O: Sink>(alloc: Global, ended: Ended, out: &mut O) -> Ended
-    ensures { Finishes ended result (O.held out.old) (O.held out.new)
+/// Writes a last line that has a number, and says how a command ends with that: without memory for
+/// the line it ends out of memory.
+fn finish_with<O: Sink>(line: Result<String, NoMemory>, ended: Ended, out: &mut O) -> Ended
+    ensures { (bytes : List ℕ) → IfOk line (λ text. string_bytes text ≡ bytes) →
+        FinishesWith ended bytes result (O.held out.old) (O.held out.new)
         (O.faults out.old) (O.faults out.new) }
 {
-    // Where the last line is not written, the status still says how the command ended.
-    let Ended::BadInput(bad) = ended else {
-        let _ = write_all(out, ended.last_line());
-        return ended;
-    };
-    let Ok(line) = bad.last_line(alloc) else {
+    let Ok(line) = line else {
         return Ended::NoMemory;
     };
+    // Where the last line is not written, the status still says how the command ended.
     let _ = write_all(out, line.as_bytes());
     ended
 }
 
-/// Does what a command asks, and writes its last line.
-fn perform<I: Source, O: Sink>(alloc: Global, command: Command, input: &mut I, out: &mut O) -> Ended
-    requires { IsSet command }
-    ensures { Promises command result
-        (devices (I.left input.old) (I.faults input.old) (O.held out.old) (O.faults out.old))
-        (devices (I.left input.new) (I.faults input.new) (O.held out.new) (O.faults out.new)) }
+/// Writes the last line of a command that ended so, and says how it ends with that.
+fn finish<O: Sink>(alloc: Global, ended: Ended, out: &mut O) -> Ended
+    ensures { Finishes ended result (O.held out.old) (O.held out.new)
+        (O.faults out.old) (O.faults out.new) }
 {
-    match command {
-        Command::Status(most) => {
-            let ended = status(alloc, most, input, out);
-            finish(alloc, ended, out)
-        }
-        Command::Replay(options) => {
-            let ended = replay(alloc, options, input, out);
-            finish(alloc, ended, out)
+    match ended {
+        Ended::BadInput(bad) => finish_with(bad.last_line(alloc), ended, out),
+        Ended::Budget(events) => finish_with(budget_line(alloc, events), ended, out),
+        _ => {
+            let _ = write_all(out, ended.last_line());
+            ended
         }
     }
+}
+
+/// Does what a command asks, and writes its last line.
+fn perform<L: Lobby, I: Source, O: Sink>(
+    alloc: Global,
+    command: Command,
+    lobby: &mut L,
+    input: &mut I,
+    out: &mut O,
+) -> Ended
+    requires { IsSet command }
+    ensures { Promises command result
+        (devices (L.told lobby.old) (L.counts lobby.old) (I.left input.old) (I.faults input.old)
+        (O.held out.old) (O.faults out.old))
+        (devices (L.told lobby.new) (L.counts lobby.new) (I.left input.new) (I.faults input.new)
+        (O.held out.new) (O.faults out.new)) }
+{
+    let ended = match command {
+        Command::Status(most) => status(alloc, most, input, out),
+        Command::Replay(options) => replay(alloc, options, input, out),
+        Command::Serve(options) => serve(alloc, options, lobby, out),
+    };
+    finish(alloc, ended, out)
 }
 
 /// Runs the program: does what the arguments say, with the devices that it needs, and answers the
@@ -93,42 +111,36 @@ fn perform<I: Source, O: Sink>(alloc: Global, command: Command, input: &mut I, o
 /// | 2 | the arguments name no command |
 /// | 3 | the input failed |
 /// | 4 | the output failed |
+/// | 5 | the lobby failed |
 /// | 6 | the input is not what the command reads |
-pub fn run<I: Source, O: Sink>(
+/// | 7 | as many events came as may |
+pub fn run<L: Lobby, I: Source, O: Sink>(
     alloc: Global,
     arguments: &[String],
+    lobby: &mut L,
     input: &mut I,
     out: &mut O,
 ) -> u8
     // There is no other status.
     ensures statuses { IsStatus result }
 
-    // 2: exactly where the arguments name no command; nothing was read, and the usage line was
+    // 2: exactly where the arguments name no command; nothing was touched, and the usage line was
     // written.
     ensures usage { (result ≡ 2) ↔ NamesNone arguments.now }
-    ensures usage_line { result ≡ 2 → (input.new ≡ input.old) × WroteLast
+    ensures usage_line { result ≡ 2 → (lobby.new ≡ lobby.old) × (input.new ≡ input.old) × WroteLast
         (O.held out.old) (O.held out.new) (O.faults out.old) (O.faults out.new) usage_line }
 
-    // The others: the command that the arguments name ended so, and what it promises of that holds.
-    ensures done { result ≡ 0 → KeepsPromise arguments.now Ended.Done
-        (devices (I.left input.old) (I.faults input.old) (O.held out.old) (O.faults out.old))
-        (devices (I.left input.new) (I.faults input.new) (O.held out.new) (O.faults out.new)) }
-    ensures no_memory { result ≡ 1 → KeepsPromise arguments.now Ended.NoMemory
-        (devices (I.left input.old) (I.faults input.old) (O.held out.old) (O.faults out.old))
-        (devices (I.left input.new) (I.faults input.new) (O.held out.new) (O.faults out.new)) }
-    ensures read_fault { result ≡ 3 → KeepsPromise arguments.now Ended.ReadFault
-        (devices (I.left input.old) (I.faults input.old) (O.held out.old) (O.faults out.old))
-        (devices (I.left input.new) (I.faults input.new) (O.held out.new) (O.faults out.new)) }
-    ensures write_fault { result ≡ 4 → KeepsPromise arguments.now Ended.WriteFault
-        (devices (I.left input.old) (I.faults input.old) (O.held out.old) (O.faults out.old))
-        (devices (I.left input.new) (I.faults input.new) (O.held out.new) (O.faults out.new)) }
-    ensures bad_input { result ≡ 6 →
-        (bad : BadInput) × KeepsPromise arguments.now (Ended.BadInput bad)
-        (devices (I.left input.old) (I.faults input.old) (O.held out.old) (O.faults out.old))
-        (devices (I.left input.new) (I.faults input.new) (O.held out.new) (O.faults out.new)) }
+    // The others: the command that the arguments name ended with this status, and what it promises
+    // of that holds.
+    ensures promise { IfSome (command_of (bytes_of arguments.now)) (λ command.
+        KeepsPromise command result
+        (devices (L.told lobby.old) (L.counts lobby.old) (I.left input.old) (I.faults input.old)
+        (O.held out.old) (O.faults out.old))
+        (devices (L.told lobby.new) (L.counts lobby.new) (I.left input.new) (I.faults input.new)
+        (O.held out.new) (O.faults out.new))) }
 {
     let Some(command) = Command::read(arguments) else {
         return finish(alloc, Ended::Usage, out).status();
     };
-    perform(alloc, command, input, out).status()
+    perform(alloc, command, lobby, input, out).status()
 }

@@ -1,7 +1,9 @@
-ghost use Rattle.std.specs.Prelude.{◌≡◌};
-ghost use Rattle.mc_top.specs.Ended.{status_of, fixed_line_of, ended_after};
+ghost use Rattle.std.specs.Prelude.{◌≡◌, IfOk, string_bytes};
+ghost use Rattle.mc_top.specs.Ended.{status_of, fixed_line_of, ended_after, budget_line};
 
 use crate::bad_input::BadInput;
+use mc_nbt::NoMemory;
+use std::alloc::Global;
 
 /// The line that says how the program is called, with its end.
 pub const USAGE: &str = "usage: craft47 status, serve, replay, bot, view, show or load\n";
@@ -19,8 +21,19 @@ pub enum Ended {
     ReadFault,
     /// The output failed.
     WriteFault,
+    /// The lobby could not listen, or not say what comes next.
+    NetFault,
     /// The input is not what the command reads.
     BadInput(BadInput),
+    /// So many events came, all that may.
+    Budget(u64),
+}
+
+/// The last line of a command that used up its events, with its end.
+pub fn budget_line(alloc: Global, events: u64) -> Result<String, NoMemory>
+    ensures { IfOk result (λ text. string_bytes text ≡ budget_line events) }
+{
+    Ok(format!(in alloc; "budget {events}\n")?)
 }
 
 impl Ended {
@@ -44,19 +57,23 @@ impl Ended {
             Ended::Usage => 2,
             Ended::ReadFault => 3,
             Ended::WriteFault => 4,
+            Ended::NetFault => 5,
             Ended::BadInput(_) => 6,
+            Ended::Budget(_) => 7,
         }
     }
 
-    /// The last line of the output with its end, or nothing where there is none or where a text's
-    /// fault makes it.
+    /// The last line of the output with its end, or nothing where there is none or where it has a
+    /// number.
     pub fn last_line(self) -> &'static [u8]
         ensures { result.now ≡ fixed_line_of self }
     {
         match self {
-            Ended::Done | Ended::NoMemory | Ended::WriteFault | Ended::BadInput(_) => b"",
+            Ended::Done | Ended::NoMemory | Ended::WriteFault => b"",
+            Ended::BadInput(_) | Ended::Budget(_) => b"",
             Ended::Usage => USAGE.as_bytes(),
             Ended::ReadFault => b"read fault\n",
+            Ended::NetFault => b"net fault\n",
         }
     }
 }

@@ -25,14 +25,15 @@ pub fn ticks_of_a_script()
         ticks_of events ≤ 1000000000 }
 {}
 
-/// An input that nothing is wrong with is served, unless memory runs out or a device fails. It
-/// follows from what each command promises.
+/// An input that nothing is wrong with is served, unless memory runs out, a device fails or a
+/// budget is used up. It follows from what each command promises.
 pub fn good_inputs_are_served()
     ensures { (command : Command) (how : Ended) (before after : Devices) (input : List ℕ) →
         Promises command how before after → before.left ≡ Some input →
         IsInputOf command input → ¬ Rose before.read_faults after.read_faults →
         ¬ Rose before.write_faults after.write_faults →
-        (how ≡ ended.Done) ⊎ (how ≡ ended.NoMemory) }
+        ¬ Rose before.counts.faults after.counts.faults →
+        (how ≡ ended.Done) ⊎ (how ≡ ended.NoMemory) ⊎ ((n : ℕ) × (how ≡ ended.Budget n)) }
 {}
 
 /// An input that has a fault is refused, unless memory runs out or a device fails. It follows from

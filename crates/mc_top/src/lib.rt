@@ -3,7 +3,7 @@
 //! and the hex of the crate `hex`.
 //!
 //! Its one contract is `run`: for each status, what the command that the arguments name promises of
-//! the input and the output (`specs/Promises.antt`).
+//! the lobby, the input and the output (`specs/Promises.antt`).
 #![tactic(auto)]
 
 mod arguments;
@@ -19,8 +19,10 @@ mod replay;
 mod replay_lines;
 mod script;
 mod script_line;
+mod serve;
 mod status;
 mod unfinished;
+mod world;
 
 pub use bad_input::{BadInput, InputFault};
 pub use command::run;

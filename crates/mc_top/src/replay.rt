@@ -1,4 +1,4 @@
-ghost use Rattle.std.specs.Prelude.{◌≡◌, ◌+◌, ◌≤◌, [], ◌∷◌, IfOk, OnOk, OnErr, IsErrOf, replicate};
+ghost use Rattle.std.specs.Prelude.{◌≡◌, ◌+◌, ◌≤◌, [], ◌∷◌, OnOk, OnErr, IsErrOf, replicate};
 ghost use Rattle.mc_wire.specs.Count.{Rose, StandsOrRises};
 ghost use Rattle.mc_wire.specs.Stream.{Grows};
 ghost use Rattle.mc_model.specs.World.{World, AreSettings};
@@ -6,42 +6,24 @@ ghost use Rattle.mc_model.specs.Step.{ticked};
 ghost use Rattle.mc_server.specs.Stands.{Stands, age_of};
 ghost use Rattle.mc_server.specs.Inputs.{event_of};
 ghost use Rattle.mc_top.specs.declared.bad_input.BadInput.{BadInput};
+ghost use Rattle.mc_top.specs.Finishing.{EndsText};
 ghost use Rattle.mc_top.specs.ReplayText.{line_events, events_of, replay_text};
 ghost use Rattle.mc_top.specs.Replaying.{IsReached, HasPlayed, HasStopped, line_ticks, ticks_of};
 ghost use Rattle.mc_top.specs.Replaying.{input_ticks};
 ghost use Rattle.mc_top.specs.ReplayPromise.{world_of, Replayed, ReplayedPart};
 ghost use Rattle.mc_top.specs.ReplayPromise.{ReplayedPartOrNothing, FoundFault};
 
-use crate::arguments::Options;
+use crate::arguments::WorldOptions;
 use crate::ended::Ended;
 use crate::lines::read_text;
 use crate::replay_lines::put_lines;
 use crate::script::{Script, ScriptError};
 use crate::script_line::ScriptEvent;
 use crate::unfinished::Unfinished;
-use mc_nbt::NoMemory;
-use mc_server::{Input, Server, Settings};
+use crate::world::new_server;
+use mc_server::{Input, Server};
 use mc_wire::{InputError, Sink, Source};
 use std::alloc::Global;
-
-/// A server of a new world.
-fn new_server(alloc: Global, options: Options) -> Result<Server, NoMemory>
-    requires { AreSettings options.players options.view }
-    ensures stands { IfOk result (λ server. Stands server (world_of options)) }
-    ensures age { IfOk result (λ server. age_of server ≡ 0) }
-{
-    let server = Server::new(
-        alloc,
-        Settings {
-            players: options.players,
-            cap: options.view as u8,
-            terrain: options.terrain,
-        },
-    )?;
-    let age = server.age();
-    prove!(age == 0);
-    Ok(server)
-}
 
 /// Plays one event, and writes its lines as they come. `lines` is room for those that wait.
 fn play<O: Sink>(
@@ -149,7 +131,7 @@ fn play_all<O: Sink>(
 /// Plays a script on a server of a new world.
 fn play_script<O: Sink>(
     alloc: Global,
-    options: Options,
+    options: WorldOptions,
     script: &Script,
     out: &mut O,
 ) -> Result<(), Unfinished>
@@ -171,7 +153,7 @@ fn play_script<O: Sink>(
 /// each event what each connection is owed.
 pub fn replay<I: Source, O: Sink>(
     alloc: Global,
-    options: Options,
+    options: WorldOptions,
     input: &mut I,
     out: &mut O,
 ) -> Ended
@@ -180,7 +162,7 @@ pub fn replay<I: Source, O: Sink>(
         Replayed options (I.left input.old) (I.left input.new) (O.held out.old) (O.held out.new) }
     ensures no_memory { result ≡ Ended.NoMemory →
         ReplayedPartOrNothing options (I.left input.old) (O.held out.old) (O.held out.new) }
-    ensures never_usage { ¬ (result ≡ Ended.Usage) }
+    ensures ends { EndsText result }
     ensures read_fault { result ≡ Ended.ReadFault →
         Rose (I.faults input.old) (I.faults input.new) × (out.new ≡ out.old) }
     ensures write_fault { result ≡ Ended.WriteFault → Rose (O.faults out.old) (O.faults out.new)

@@ -1,9 +1,9 @@
-use Rattle.std.proofs.Common.{◌≡◌, true, false, List, ℕ, sym, ap, ◌∙◌}
+use Rattle.std.proofs.Common.{◌≡◌, true, false, sym, ap, ◌∙◌}
 use Rattle.std.specs.Prelude.{string_bytes, codes}
 use Rattle.std.specs.Str.{bytes_eq}
 use Rattle.mc_top.specs.Arguments.{bytes_of, command_of}
-use Rattle.mc_top.proofs.ArgumentSteps.{no_command, named_status, named_replay, named_none}
-use Rattle.mc_top.proofs.ArgumentSteps.{empty_is}
+use Rattle.mc_top.proofs.ArgumentSteps.{no_command, named_status, named_replay, named_serve}
+use Rattle.mc_top.proofs.ArgumentSteps.{named_none, compared, empty_is}
 use Rattle.mc_top.proofs.arguments.Command.read.Goals as goal
 
 pub returns-in_err-verb : goal.returns-in_err-verb
@@ -12,30 +12,42 @@ returns-in_err-verb c = c.from_residual.ensures ∙ sym (ap command_of
 
 pub returns-then-eq : goal.returns-then-eq
 returns-then-eq c =
-    let named : bytes_eq (string_bytes c.in_ok-verb.verb.now) (codes "status") ≡ true =
-    ap (λ (t : List ℕ). bytes_eq t (codes "status")) (sym c.as_str.ensures.value)
-    ∙ sym c.eq.ensures ∙ c.if-eq.true in
-    c.status.ensures ∙ sym (ap command_of (ap bytes_of c.in_ok-verb.ensures.cases.0) ∙ named_status
-    (string_bytes c.in_ok-verb.verb.now) (bytes_of c.in_ok-verb.options.now) named)
+    let verb = string_bytes c.in_ok-verb.verb.now in
+    let named : bytes_eq verb (codes "status") ≡ true =
+    compared _ _ _ _ _ c.as_str.ensures.value c.eq.ensures c.if-eq.true in
+    c.status.ensures ∙ sym (ap command_of (ap bytes_of c.in_ok-verb.ensures.cases.0)
+    ∙ named_status verb (bytes_of c.in_ok-verb.options.now) named)
 
 pub returns-then-eq-2 : goal.returns-then-eq-2
 returns-then-eq-2 c =
-    let other : bytes_eq (string_bytes c.in_ok-verb.verb.now) (codes "status") ≡ false =
-    ap (λ (t : List ℕ). bytes_eq t (codes "status")) (sym c.as_str.ensures.value)
-    ∙ sym c.eq.ensures ∙ c.if-eq.false in
-    let named : bytes_eq (string_bytes c.in_ok-verb.verb.now) (codes "replay") ≡ true =
-    ap (λ (t : List ℕ). bytes_eq t (codes "replay")) (sym c.as_str-2.ensures.value)
-    ∙ sym c.eq-2.ensures ∙ c.if-eq-2.true in
-    c.replay.ensures ∙ sym (ap command_of (ap bytes_of c.in_ok-verb.ensures.cases.0) ∙ named_replay
-    (string_bytes c.in_ok-verb.verb.now) (bytes_of c.in_ok-verb.options.now) other named)
+    let verb = string_bytes c.in_ok-verb.verb.now in
+    let first : bytes_eq verb (codes "status") ≡ false =
+    compared _ _ _ _ _ c.as_str.ensures.value c.eq.ensures c.if-eq.false in
+    let named : bytes_eq verb (codes "replay") ≡ true =
+    compared _ _ _ _ _ c.as_str-2.ensures.value c.eq-2.ensures c.if-eq-2.true in
+    c.replay.ensures ∙ sym (ap command_of (ap bytes_of c.in_ok-verb.ensures.cases.0)
+    ∙ named_replay verb (bytes_of c.in_ok-verb.options.now) first named)
+
+pub returns-then-eq-3 : goal.returns-then-eq-3
+returns-then-eq-3 c =
+    let verb = string_bytes c.in_ok-verb.verb.now in
+    let first : bytes_eq verb (codes "status") ≡ false =
+    compared _ _ _ _ _ c.as_str.ensures.value c.eq.ensures c.if-eq.false in
+    let second : bytes_eq verb (codes "replay") ≡ false =
+    compared _ _ _ _ _ c.as_str-2.ensures.value c.eq-2.ensures c.if-eq-2.false in
+    let named : bytes_eq verb (codes "serve") ≡ true =
+    compared _ _ _ _ _ c.as_str-3.ensures.value c.eq-3.ensures c.if-eq-3.true in
+    c.serve.ensures ∙ sym (ap command_of (ap bytes_of c.in_ok-verb.ensures.cases.0)
+    ∙ named_serve verb (bytes_of c.in_ok-verb.options.now) first second named)
 
 pub returns : goal.returns
 returns c =
-    let other : bytes_eq (string_bytes c.in_ok-verb.verb.now) (codes "status") ≡ false =
-    ap (λ (t : List ℕ). bytes_eq t (codes "status")) (sym c.as_str.ensures.value)
-    ∙ sym c.eq.ensures ∙ c.if-eq.false in
-    let another : bytes_eq (string_bytes c.in_ok-verb.verb.now) (codes "replay") ≡ false =
-    ap (λ (t : List ℕ). bytes_eq t (codes "replay")) (sym c.as_str-2.ensures.value)
-    ∙ sym c.eq-2.ensures ∙ c.if-eq-2.false in
-    sym (ap command_of (ap bytes_of c.in_ok-verb.ensures.cases.0) ∙ named_none
-    (string_bytes c.in_ok-verb.verb.now) (bytes_of c.in_ok-verb.options.now) other another)
+    let verb = string_bytes c.in_ok-verb.verb.now in
+    let first : bytes_eq verb (codes "status") ≡ false =
+    compared _ _ _ _ _ c.as_str.ensures.value c.eq.ensures c.if-eq.false in
+    let second : bytes_eq verb (codes "replay") ≡ false =
+    compared _ _ _ _ _ c.as_str-2.ensures.value c.eq-2.ensures c.if-eq-2.false in
+    let third : bytes_eq verb (codes "serve") ≡ false =
+    compared _ _ _ _ _ c.as_str-3.ensures.value c.eq-3.ensures c.if-eq-3.false in
+    sym (ap command_of (ap bytes_of c.in_ok-verb.ensures.cases.0)
+    ∙ named_none verb (bytes_of c.in_ok-verb.options.now) first second third)

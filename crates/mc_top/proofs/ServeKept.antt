@@ -1,0 +1,103 @@
+-- The promise of `serve`, from what its function says and from its last line.
+use Rattle.std.proofs.Common.{◌≡◌, ℕ, ◌++◌, ◌⊎◌, inl, inr, List, Option, Result, sym, subst}
+use Rattle.std.proofs.Common.{refl, ap, ◌∙◌}
+use Rattle.mc_wire.specs.Count.{Rose}
+use Rattle.mc_wire.specs.LobbyCounts.{LobbyCounts}
+use Rattle.mc_wire.specs.LobbyTold.{LobbyTold, with_entries, with_pace, with_port}
+use Rattle.mc_wire.proofs.LobbyCalls.{ToldBecomes-trans}
+use Rattle.mc_model.specs.Log.{log_of}
+use Rattle.mc_server.specs.declared.service.DriveFault.{DriveFault}
+use Rattle.mc_server.specs.declared.service.Ended as drives
+use Rattle.mc_top.specs.declared.arguments.ServeOptions.{ServeOptions}
+use Rattle.mc_top.specs.declared.ended.Ended.{Ended}
+use Rattle.mc_top.specs.declared.ended.Ended.TheVariants as ended
+use Rattle.mc_top.specs.Devices.{Devices, devices}
+use Rattle.mc_top.specs.Ended.{budget_line, net_fault_line}
+use Rattle.mc_top.specs.Finishing.{EndsServing, Finishes}
+use Rattle.mc_top.specs.ServePromise.{AskedAtMostOnce, HasLost, HasServed, HasSpent, ServePromise}
+use Rattle.mc_top.specs.ServePromise.{Summed, SummedPart}
+use Rattle.mc_top.proofs.Finishes.{still_holds, still_rose, only_last}
+
+-- a lobby that was served was asked to listen once
+pub asked_served : (options : ServeOptions) (old new : Option LobbyTold)
+    (result : Result drives.Ended DriveFault) → HasServed options old new result →
+    AskedAtMostOnce options old new
+asked_served options old new result s =
+    let drove = s.drove.drove in
+    let entries = log_of drove.turns ++ drove.last in
+    inr (
+      entries,
+      ToldBecomes-trans old s.paced new (with_pace options.pace)
+          (λ told. with_entries entries (with_port options.port told)) s.pace drove.told,
+    )
+
+-- what `serve` says of how it ended
+pub record ServeEnded (A : Type 0) (view : A → Option (List ℕ)) (count : A → ℕ)
+    (options : ServeOptions) (how : Ended) (told told' : Option LobbyTold)
+    (counts counts' : LobbyCounts) (old mid : A) : Type 0 where
+  pub done : how ≡ ended.Done → Summed options told told' (view old) (view mid)
+  pub no_memory : how ≡ ended.NoMemory → AskedAtMostOnce options told told' × (mid ≡ old)
+  pub ends : EndsServing how
+  pub write_fault : how ≡ ended.WriteFault →
+      Rose (count old) (count mid) × SummedPart options told told' (view old) (view mid)
+  pub net_fault : how ≡ ended.NetFault →
+      Rose counts.faults counts'.faults × HasLost options told told' × (mid ≡ old)
+  pub budget : (n : ℕ) → how ≡ ended.Budget n → HasSpent options n told told' × (mid ≡ old)
+
+-- the promise holds once the last line is written
+pub serve_kept : (A : Type 0) (view : A → Option (List ℕ)) (count : A → ℕ)
+    (options : ServeOptions) (how result : Ended) (told told' : Option LobbyTold)
+    (counts counts' : LobbyCounts) (left : Option (List ℕ)) (reads : ℕ) (old mid new : A) →
+    ServeEnded A view count options how told told' counts counts' old mid →
+    Finishes how result (view mid) (view new) (count mid) (count new) → ServePromise options result
+    (devices told counts left reads (view old) (count old))
+    (devices told' counts' left reads (view new) (count new))
+serve_kept A view count options how result told told' counts counts' left reads old mid new s f =
+    kept how s f
+  where
+    P : Ended → Type 0
+    P e = ServePromise options e (devices told counts left reads (view old) (count old))
+        (devices told' counts' left reads (view new) (count new))
+
+    kept : (e : Ended) → ServeEnded A view count options e told told' counts counts' old mid →
+        Finishes e result (view mid) (view new) (count mid) (count new) → P result
+    kept ended.Done said last = subst P (sym last.0)
+        (still_holds (λ h. Summed options told told' (view old) h) (view mid) (view new) last.1.0
+        (said.done refl))
+    kept ended.NoMemory said last = let asked = said.no_memory refl in
+        subst P (sym last.0) (asked.0, last.1.0 ∙ ap view asked.1)
+    kept ended.Usage said last = absurd said.ends
+    kept ended.ReadFault said last = absurd said.ends
+    kept ended.WriteFault said last = let fault = said.write_fault refl in
+        subst P (sym last.0) (
+          still_rose (count old) (count mid) (count new) last.1.1 fault.0,
+          still_holds (λ h. SummedPart options told told' (view old) h) (view mid) (view new)
+              last.1.0 fault.1,
+        )
+    kept ended.NetFault said last = let fault = said.net_fault refl in
+        subst P (sym last.0) (
+          fault.0,
+          fault.1,
+          only_last A view count old mid new net_fault_line fault.2 last.1,
+        )
+    kept (ended.BadInput bad) said last = absurd said.ends
+    kept (ended.Budget n) said (inl last) = let spent = said.budget n refl in
+        subst P (sym last.0)
+        (spent.0, only_last A view count old mid new (budget_line n) spent.1 last.1)
+    kept (ended.Budget n) said (inr last) = let spent = said.budget n refl in
+        subst P (sym last.0)
+        (asked_served options told told' _ spent.0, last.1.0 ∙ ap view spent.1)
+
+-- a lobby is served, unless memory runs out, a device fails or all events that may come did
+pub serve_served : (options : ServeOptions) (how : Ended) (before after : Devices) →
+    ServePromise options how before after → ¬ Rose before.write_faults after.write_faults →
+    ¬ Rose before.counts.faults after.counts.faults →
+    (how ≡ ended.Done) ⊎ (how ≡ ended.NoMemory) ⊎ ((n : ℕ) × (how ≡ ended.Budget n))
+serve_served options ended.Done before after p writes faults = inl refl
+serve_served options ended.NoMemory before after p writes faults = inr (inl refl)
+serve_served options ended.Usage before after p writes faults = absurd p
+serve_served options ended.ReadFault before after p writes faults = absurd p
+serve_served options ended.WriteFault before after p writes faults = absurd (writes p.0)
+serve_served options ended.NetFault before after p writes faults = absurd (faults p.0)
+serve_served options (ended.BadInput bad) before after p writes faults = absurd p
+serve_served options (ended.Budget n) before after p writes faults = inr (inr (n, refl))

@@ -1,0 +1,100 @@
+-- What `serve` made of a lobby, by how serving it ended.
+use Rattle.std.proofs.Common.{◌≡◌, ◌≢◌, ℕ, List, Option, Result, Ok, Err, inl, inr, refl, subst, ap}
+use Rattle.std.proofs.Common.{◌∙◌}
+use Rattle.mc_wire.specs.declared.log.LogEntry.{LogEntry}
+use Rattle.mc_wire.specs.Becoming.{ToldBecomes}
+use Rattle.mc_wire.specs.Count.{NeverFalls, Rose}
+use Rattle.mc_wire.specs.LobbyTold.{LobbyTold, with_entries, with_pace, with_port}
+use Rattle.mc_wire.proofs.Counts.{NeverFalls-Rose}
+use Rattle.mc_wire.proofs.LobbyCalls.{ToldBecomes-trans}
+use Rattle.mc_server.specs.declared.service.Budget.{Budget}
+use Rattle.mc_server.specs.declared.service.DriveFault.{DriveFault}
+use Rattle.mc_server.specs.declared.service.DriveFault.TheVariants.{Listen, Next, Events, NoMemory}
+use Rattle.mc_server.specs.declared.service.Ended as drives
+use Rattle.mc_server.specs.declared.service.Tally.{Tally}
+use Rattle.mc_server.specs.Drives.{DroveNew}
+use Rattle.mc_server.specs.Served.{ServerValue}
+use Rattle.mc_server.specs.Stands.{age_of}
+use Rattle.mc_top.specs.declared.arguments.ServeOptions.{ServeOptions}
+use Rattle.mc_top.specs.declared.ended.Ended.TheVariants as ended
+use Rattle.mc_top.specs.ServePromise.{AskedAtMostOnce, HasLost, HasServed, HasServedAll, HasSpent}
+use Rattle.mc_top.specs.ServePromise.{budget_of, ended_by, summary_line, tally_of}
+
+module _ (options : ServeOptions) (old paced new : Option LobbyTold)
+    (pace : ToldBecomes old paced (with_pace options.pace)) (budget : Budget)
+    (is : budget ≡ budget_of options) where
+  -- the lobby was asked to listen once
+  pub asked : (entries : List LogEntry) →
+      ToldBecomes paced new (λ told. with_entries entries (with_port budget.port told)) →
+      AskedAtMostOnce options old new
+  asked entries asks =
+      let P : Budget → Type 0 =
+      λ b. ToldBecomes paced new (λ told. with_entries entries (with_port b.port told)) in
+      inr (
+        entries,
+        ToldBecomes-trans old paced new (with_pace options.pace)
+            (λ told. with_entries entries (with_port options.port told)) pace (subst P is asks),
+      )
+
+  -- it was served by a server of a new world
+  pub has_served : (server : ServerValue) (result : Result drives.Ended DriveFault) →
+      DroveNew budget paced new options.world.players options.world.view options.world.terrain
+      server result → HasServed options old new result
+  has_served server result drove =
+      let P : Budget → Type 0 =
+      λ b. DroveNew b paced new options.world.players options.world.view options.world.terrain
+      server result in
+      record { paced = paced; pace = pace; server = server; drove = subst P is drove }
+
+  -- it was served to its end, and this line sums that up
+  pub served_all : (server : ServerValue) (end : drives.Ended) (ticks : ℕ) (tally : Tally) →
+      DroveNew budget paced new options.world.players options.world.view options.world.terrain
+      server (Ok end) → ticks ≡ age_of server → tally ≡ tally_of end →
+      HasServedAll options old new (summary_line ticks tally)
+  unfolding has_served
+  served_all server end ticks tally drove age counted =
+      let s = has_served server (Ok end) drove in
+      record {
+        end = end;
+        served = s;
+        summary = ap (λ (n : ℕ). summary_line n tally) (age ∙ s.drove.drove.age)
+            ∙ ap (summary_line _) counted;
+      }
+
+-- serving ended by a fault
+abbrev fails : DriveFault → Result drives.Ended DriveFault
+fails fault = Err fault
+
+module _ (options : ServeOptions) (old new : Option LobbyTold) where
+  abbrev IsServed : DriveFault → Type 0
+  IsServed fault = fails fault ≢ fails NoMemory → HasServed options old new (fails fault)
+
+  -- the lobby was lost by it
+  pub lost_by : (fault : DriveFault) → IsServed fault → ended_by fault ≡ ended.NetFault →
+      HasLost options old new
+  lost_by Listen served is = inl (served (λ e. cc))
+  lost_by Next served is = inr (served (λ e. cc))
+  lost_by (Events n) served is = absurd cc
+  lost_by NoMemory served is = absurd cc
+
+  -- all events that may come did
+  pub spent_by : (fault : DriveFault) (n : ℕ) → IsServed fault → ended_by fault ≡ ended.Budget n →
+      HasSpent options n old new
+  spent_by (Events m) n served is =
+      let P : ℕ → Type 0 = λ k. HasSpent options k old new in
+      let same : m ≡ n = cc in
+      subst P same (served (λ e. cc))
+  spent_by Listen n served is = absurd cc
+  spent_by Next n served is = absurd cc
+  spent_by NoMemory n served is = absurd cc
+
+-- its faults rose then, over all calls
+pub rose_by : (before mid after : ℕ) (fault : DriveFault) → NeverFalls before mid →
+    (fails fault ≡ fails Listen → Rose mid after) → (fails fault ≡ fails Next → Rose mid after) →
+    ended_by fault ≡ ended.NetFault → Rose before after
+rose_by before mid after Listen falls unheard failed is =
+    NeverFalls-Rose before mid after falls (unheard refl)
+rose_by before mid after Next falls unheard failed is =
+    NeverFalls-Rose before mid after falls (failed refl)
+rose_by before mid after (Events n) falls unheard failed is = absurd cc
+rose_by before mid after NoMemory falls unheard failed is = absurd cc

@@ -1,0 +1,63 @@
+use Rattle.std.proofs.Common.{refl, sym, ◌∙◌, rules}
+use Rattle.mc_top.specs.ServePromise.{summary_line}
+use Rattle.mc_top.proofs.Serves.{asked, has_served, served_all, lost_by, spent_by, rose_by}
+use Rattle.mc_top.proofs.serve.serve.Goals as goal
+
+pub returns-in-Err-clause-net_fault : goal.returns-in-Err-clause-net_fault
+returns-in-Err-clause-net_fault g c is =
+    let by = sym c.ended_by.ensures ∙ is in (
+      rose_by _ _ _ c.in-Err.fault c.pace.ensures.falls.faults c.in-Err.ensures.unheard
+          c.in-Err.ensures.failed by,
+      lost_by c.args.options _ _ c.in-Err.fault (λ ne. has_served c.args.options _ _ _
+          c.pace.ensures.tells c.budget_of.result c.budget_of.ensures c.drive.new.server _
+          (c.in-Err.ensures.drove _ _ _ c.requires.world c.in-Ok.ensures.stands ne)) by,
+      refl,
+    )
+
+pub returns-in-Err-clause-budget : goal.returns-in-Err-clause-budget
+returns-in-Err-clause-budget g c n is =
+    let by = sym c.ended_by.ensures ∙ is in (
+      spent_by c.args.options _ _ c.in-Err.fault n (λ ne. has_served c.args.options _ _ _
+          c.pace.ensures.tells c.budget_of.result c.budget_of.ensures c.drive.new.server _
+          (c.in-Err.ensures.drove _ _ _ c.requires.world c.in-Ok.ensures.stands ne)) by,
+      refl,
+    )
+
+pub returns-in-Err-clause-no_memory : goal.returns-in-Err-clause-no_memory
+returns-in-Err-clause-no_memory g c is = (
+  asked c.args.options _ _ _ c.pace.ensures.tells c.budget_of.result c.budget_of.ensures
+      c.in-Err.ensures.asks.0 c.in-Err.ensures.asks.1,
+  refl,
+)
+
+pub returns-in-Ok-put_summary-clause-done : goal.returns-in-Ok-put_summary-clause-done
+returns-in-Ok-put_summary-clause-done g c is = record {
+  line = summary_line c.age.result c.tally_of.result;
+  all = served_all c.args.options _ _ _ c.pace.ensures.tells c.budget_of.result
+      c.budget_of.ensures c.drive.new.server c.in-Ok-drive.end c.age.result c.tally_of.result
+      (c.in-Ok-drive.ensures.drove _ _ _ c.requires.world c.in-Ok.ensures.stands (λ e. cc))
+      c.age.ensures.is c.tally_of.ensures;
+  wrote = c.in-Ok-put_summary.ensures.wrote;
+}
+
+pub returns-in-Err-Failed-clause-write_fault : goal.returns-in-Err-Failed-clause-write_fault
+returns-in-Err-Failed-clause-write_fault g c is =
+    let part = c.in-Err-Failed.ensures.part (search rules) in (
+      part.0,
+      record {
+        line = summary_line c.age.result c.tally_of.result;
+        all = served_all c.args.options _ _ _ c.pace.ensures.tells c.budget_of.result
+            c.budget_of.ensures c.drive.new.server c.in-Ok-drive.end c.age.result c.tally_of.result
+            (c.in-Ok-drive.ensures.drove _ _ _ c.requires.world c.in-Ok.ensures.stands (λ e. cc))
+            c.age.ensures.is c.tally_of.ensures;
+        len = part.1;
+        wrote = part.2;
+      },
+    )
+
+pub returns-clause-no_memory : goal.returns-clause-no_memory
+returns-clause-no_memory g c is = (
+  asked c.args.options _ _ _ c.pace.ensures.tells c.budget_of.result c.budget_of.ensures
+      c.drive.ensures.asks.0 c.drive.ensures.asks.1,
+  c.in-Err-NoMemory.ensures.none (search rules),
+)

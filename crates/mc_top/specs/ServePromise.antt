@@ -1,0 +1,116 @@
+-- What `serve` promises, by how it ends. Rules of this project.
+use Rattle.std.specs.Prelude.{◌≡◌, ℕ, ◌⊎◌, List, ◌++◌, take, Option, Result, Ok, Err, codes}
+use Rattle.std.specs.Prelude.{decimal}
+use Rattle.mc_wire.specs.declared.log.LogEntry.{LogEntry}
+use Rattle.mc_wire.specs.Becoming.{ToldBecomes}
+use Rattle.mc_wire.specs.Count.{Rose}
+use Rattle.mc_wire.specs.LobbyTold.{LobbyTold, with_entries, with_pace, with_port}
+use Rattle.mc_wire.specs.Stream.{Grows}
+use Rattle.mc_server.specs.declared.service.Budget.{Budget}
+use Rattle.mc_server.specs.declared.service.DriveFault.{DriveFault}
+use Rattle.mc_server.specs.declared.service.DriveFault.TheVariants.{Listen, Next, Events, NoMemory}
+use Rattle.mc_server.specs.declared.service.Ended as drives
+use Rattle.mc_server.specs.declared.service.Ended.TheVariants.{Ticks, Closed}
+use Rattle.mc_server.specs.declared.service.Tally.{Tally}
+use Rattle.mc_server.specs.Drives.{DroveNew, ticks_in}
+use Rattle.mc_server.specs.Served.{ServerValue}
+use Rattle.mc_top.specs.declared.arguments.ServeOptions.{ServeOptions}
+use Rattle.mc_top.specs.declared.ended.Ended.{Ended}
+use Rattle.mc_top.specs.declared.ended.Ended.TheVariants as ended
+use Rattle.mc_top.specs.Devices.{Devices, WroteLast}
+use Rattle.mc_top.specs.Ended.{budget_line, ended_line, net_fault_line}
+
+abbrev pub budget_of : ServeOptions → Budget
+budget_of options =
+    record { port = options.port; ticks = options.ticks; events = options.events }
+
+-- The lobby was told the pace, and then served by a server of a new world, which came to this. It
+-- was asked to listen once, on the port alone, and the whole promise holds of all that its log
+-- tells (`DroveNew`).
+pub record HasServed (options : ServeOptions) (old new : Option LobbyTold)
+    (result : Result drives.Ended DriveFault) : Type 0 where
+  pub paced : Option LobbyTold
+  pub pace : ToldBecomes old paced (with_pace options.pace)
+  pub server : ServerValue
+  pub drove : DroveNew (budget_of options) paced new options.world.players options.world.view
+      options.world.terrain server result
+
+-- ---- where it ended well
+
+-- what was counted in the log
+abbrev pub tally_of : drives.Ended → Tally
+tally_of (Ticks tally) = tally
+tally_of (Closed tally) = tally
+
+-- how many ticks came, how many connections joined, and how many were closed for something else
+-- than that they left, broke or were done
+abbrev pub summary_line : ℕ → Tally → List ℕ
+summary_line ticks tally =
+    ended_line (codes "ticks=" ++ decimal ticks ++ codes " joins=" ++ decimal tally.joins
+    ++ codes " closed=" ++ decimal tally.closed)
+
+-- it was served until the ticks had come or the lobby ended, and this line sums it up
+pub record HasServedAll (options : ServeOptions) (old new : Option LobbyTold) (line : List ℕ) :
+    Type 0 where
+  pub end : drives.Ended
+  pub served : HasServed options old new (Ok end)
+  pub summary : line ≡ summary_line (ticks_in served.drove.drove.turns) (tally_of end)
+
+-- its line was written
+pub record Summed (options : ServeOptions) (old new : Option LobbyTold)
+    (held held' : Option (List ℕ)) : Type 0 where
+  pub line : List ℕ
+  pub all : HasServedAll options old new line
+  pub wrote : Grows held held' line
+
+-- some first part of it was
+pub record SummedPart (options : ServeOptions) (old new : Option LobbyTold)
+    (held held' : Option (List ℕ)) : Type 0 where
+  pub line : List ℕ
+  pub all : HasServedAll options old new line
+  pub len : ℕ
+  pub wrote : Grows held held' (take len line)
+
+-- ---- where it did not
+
+-- how `serve` ends where serving ended so
+abbrev pub ended_by : DriveFault → Ended
+ended_by Listen = ended.NetFault
+ended_by Next = ended.NetFault
+ended_by (Events n) = ended.Budget n
+ended_by NoMemory = ended.NoMemory
+
+-- the lobby could not listen, or not say what comes next
+abbrev pub HasLost : ServeOptions → Option LobbyTold → Option LobbyTold → Type 0
+HasLost options old new =
+    HasServed options old new (Err Listen) ⊎ HasServed options old new (Err Next)
+
+-- as many events came as may, and the last tick was not among them
+abbrev pub HasSpent : ServeOptions → ℕ → Option LobbyTold → Option LobbyTold → Type 0
+HasSpent options n old new = HasServed options old new (Err (Events n))
+
+-- the lobby was told the pace, and asked to listen at most once, on the port alone
+abbrev pub AskedAtMostOnce : ServeOptions → Option LobbyTold → Option LobbyTold → Type 0
+AskedAtMostOnce options old new =
+    ToldBecomes old new (with_pace options.pace)
+    ⊎ ((entries : List LogEntry) × ToldBecomes old new (λ told.
+    with_entries entries (with_port options.port (with_pace options.pace told))))
+
+-- what holds where `serve` ended so
+abbrev pub ServePromise : ServeOptions → Ended → Devices → Devices → Type 0
+ServePromise options ended.Done before after =
+    Summed options before.told after.told before.held after.held
+ServePromise options ended.NoMemory before after =
+    AskedAtMostOnce options before.told after.told × (after.held ≡ before.held)
+ServePromise options ended.Usage before after = ⊥
+ServePromise options ended.ReadFault before after = ⊥
+ServePromise options ended.WriteFault before after =
+    Rose before.write_faults after.write_faults
+    × SummedPart options before.told after.told before.held after.held
+ServePromise options ended.NetFault before after =
+    Rose before.counts.faults after.counts.faults × HasLost options before.told after.told
+    × WroteLast before.held after.held before.write_faults after.write_faults net_fault_line
+ServePromise options (ended.BadInput bad) before after = ⊥
+ServePromise options (ended.Budget n) before after =
+    HasSpent options n before.told after.told
+    × WroteLast before.held after.held before.write_faults after.write_faults (budget_line n)
