@@ -1,18 +1,20 @@
-//! The program: it collects its arguments, takes standard input and standard output as devices, and
-//! ends with the status that `mc_top` answers. It stands on `mc_top` and on the traits of
-//! `mc_wire`.
+//! The program: it collects its arguments, takes sockets, standard input and standard output as
+//! devices, and ends with the status that `mc_top` answers. It stands on `mc_top`, on the traits of
+//! `mc_wire` and on the sockets of the crate `mio`.
 //!
-//! Its contracts are those of its two devices, where a failure raises the device's count and never
-//! passes for an answer, and that of `program`, which is the whole program over any two devices.
+//! Its contracts are those of its three devices, where a failure raises the device's count and
+//! never passes for an answer, and that of `program`, which is the whole program over any three.
 #![tactic(auto)]
 
 mod input;
 mod output;
 mod program;
+mod sockets;
 
 use input::ReaderSource;
 use output::WriterSink;
 use program::program;
+use sockets::SocketLobby;
 use std::process::ExitCode;
 use std::rt::Env;
 use std::{env, io};
@@ -29,7 +31,8 @@ fn arguments<R: Env + AllocGlobal>(rt: &R) -> io::Result<Vec<String>> {
 
 fn main(rt: HostRuntime) -> ExitCode {
     let arguments = arguments(&rt);
+    let mut lobby = SocketLobby::new(&rt);
     let mut input = ReaderSource::new(rt.reader());
     let mut output = WriterSink::new(io::writer(&rt));
-    ExitCode::from(program(rt.alloc(), arguments, &mut input, &mut output))
+    ExitCode::from(program(rt.alloc(), arguments, &mut lobby, &mut input, &mut output))
 }
