@@ -1,15 +1,17 @@
 //! Commands: `run ARGUMENT .. < TEXT` runs the program with these arguments over a text and answers
 //! the status and what was written; in `failing READS WRITES ARGUMENT .. < TEXT` the calls of the
-//! input and of the output with these numbers fail. A line of more than a thousand bytes is put
-//! frame by frame.
+//! input and of the output with these numbers fail. Their lobby has no events. `lobby EVENTS
+//! TROUBLES WRITES ARGUMENT ..` runs it over such a lobby and no text, and answers its log, too. A
+//! line of more than a thousand bytes is put frame by frame.
 
 use crate::answer::Answer;
 use crate::frames::put_frames;
+use crate::lobbies::{lobby_in, put_log};
 use crate::shown::Shown;
 use crate::texts::text_of;
 use crate::words::Words;
 use mc_top::run;
-use mc_wire::{MemorySink, MemorySource};
+use mc_wire::{MemoryLobby, MemorySink, MemorySource};
 use std::alloc::Global;
 
 /// The most bytes of a line that is put as it is.
@@ -72,20 +74,46 @@ pub fn run_failing(words: &mut Words<'_>, answer: &mut Answer) {
     run_over(reads, writes, words, answer);
 }
 
-/// Runs what is left of a row, with devices whose calls of these numbers fail.
+/// Runs what is left of a row over a lobby without events, with devices whose calls of these
+/// numbers fail.
 fn run_over(reads: Vec<u64>, writes: Vec<u64>, words: &mut Words<'_>, answer: &mut Answer) {
-    match job_of(words.alloc, words.rest()) {
-        Some(job) => run_job(job, reads, writes, answer),
-        None => words.fail(),
+    let job = job_of(words.alloc, words.rest());
+    let lobby = MemoryLobby::new(words.alloc, Vec::new(words.alloc), Vec::new(words.alloc));
+    match (job, lobby) {
+        (Some(job), Some(mut lobby)) => run_job(job, &mut lobby, reads, writes, answer),
+        _ => words.fail(),
     }
 }
 
-/// Runs the program with some arguments over a text.
-fn run_job(job: Job, reads: Vec<u64>, writes: Vec<u64>, answer: &mut Answer) {
+/// Runs the program with the arguments of a row over its lobby.
+pub fn run_lobby(words: &mut Words<'_>, answer: &mut Answer) {
+    let lobby = lobby_in(words, answer);
+    let writes = numbers(words, answer);
+    let arguments = arguments_of(words.alloc, words.rest());
+    match (arguments, lobby) {
+        (Some(arguments), Some(mut lobby)) => {
+            let text = Vec::new(words.alloc);
+            let reads = Vec::new(words.alloc);
+            run_job(Job { arguments, text }, &mut lobby, reads, writes, answer);
+            put_log(lobby.log(), answer);
+        }
+        _ => words.fail(),
+    }
+}
+
+/// Runs the program with some arguments over a lobby and a text.
+fn run_job(
+    job: Job,
+    lobby: &mut MemoryLobby,
+    reads: Vec<u64>,
+    writes: Vec<u64>,
+    answer: &mut Answer,
+) {
     let Job { arguments, text } = job;
+    let alloc = answer.alloc();
     let mut source = MemorySource::new(text, reads);
-    let mut sink = MemorySink::new(answer.alloc(), writes);
-    answer.word(run(answer.alloc(), &arguments, &mut source, &mut sink));
+    let mut sink = MemorySink::new(alloc, writes);
+    answer.word(run(alloc, &arguments, lobby, &mut source, &mut sink));
     put_output(sink.held(), answer);
 }
 

@@ -38,6 +38,7 @@ use words::Words;
 enum Call {
     Run,
     Failing,
+    Lobby,
     Mixes,
     Script,
     Session,
@@ -62,6 +63,7 @@ fn call_of(name: &str) -> Option<Call> {
     match name {
         "run" => Some(Call::Run),
         "failing" => Some(Call::Failing),
+        "lobby" => Some(Call::Lobby),
         "mixes" => Some(Call::Mixes),
         "script" => Some(Call::Script),
         "session" => Some(Call::Session),
@@ -88,6 +90,7 @@ fn answer_call(call: Call, words: &mut Words<'_>, answer: &mut Answer) {
     match call {
         Call::Run => commands::run_steady(words, answer),
         Call::Failing => commands::run_failing(words, answer),
+        Call::Lobby => commands::run_lobby(words, answer),
         Call::Mixes => mixes::mixes(words, answer),
         Call::Script => scripts::script(words, answer),
         Call::Session => sessions::session(words, answer),

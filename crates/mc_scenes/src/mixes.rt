@@ -7,7 +7,7 @@
 use crate::answer::Answer;
 use crate::words::Words;
 use mc_top::run;
-use mc_wire::{MemorySink, MemorySource};
+use mc_wire::{MemorySink, MemorySource, SteadyLobby};
 use std::alloc::Global;
 use std::fmt;
 use std::fmt::{Display, Write};
@@ -67,9 +67,10 @@ fn put_byte(k: u32, byte: &u8, script: &mut String) -> Option<()> {
 fn replayed(alloc: Global, script: String) -> Option<Vec<u8>> {
     let mut line = Vec::new(alloc);
     line.push(String::from_str(alloc, "replay").ok()?).ok()?;
+    let mut lobby = SteadyLobby::new(alloc, Vec::new(alloc))?;
     let mut source = MemorySource::new(script.into_bytes(), Vec::new(alloc));
     let mut sink = MemorySink::new(alloc, Vec::new(alloc));
-    let _status = run(alloc, &line, &mut source, &mut sink);
+    let _status = run(alloc, &line, &mut lobby, &mut source, &mut sink);
     Vec::from_slice(alloc, sink.held()?).ok()
 }
 
