@@ -1,5 +1,5 @@
 -- Inputs that are served and refused, whatever the command.
-use Rattle.std.proofs.Common.{◌≡◌, ℕ, ◌⊎◌, inl, inr, List, Some}
+use Rattle.std.proofs.Common.{◌≡◌, ℕ, ◌⊎◌, List, Some}
 use Rattle.mc_wire.specs.Count.{Rose}
 use Rattle.mc_top.specs.declared.bad_input.BadInput.{BadInput}
 use Rattle.mc_top.specs.declared.ended.Ended.{Ended}
@@ -8,25 +8,20 @@ use Rattle.mc_top.specs.declared.arguments.Command.{Command}
 use Rattle.mc_top.specs.declared.arguments.Command.TheVariants.{Status, Replay, Serve}
 use Rattle.mc_top.specs.Devices.{Devices}
 use Rattle.mc_top.specs.Ended.{status_of}
-use Rattle.mc_top.specs.Promises.{Promises, IsInputOf, HasFault}
+use Rattle.mc_top.specs.Promises.{EndsFine, Promises, IsInputOf, HasFault}
 use Rattle.mc_top.proofs.StatusKept.{status_served, status_refused}
 use Rattle.mc_top.proofs.ReplayKept.{replay_served, replay_refused}
 use Rattle.mc_top.proofs.ServeKept.{serve_served}
-
--- one of two is one of three
-of_three : {A B C : Type 0} → A ⊎ B → A ⊎ B ⊎ C
-of_three (inl a) = inl a
-of_three (inr b) = inr (inl b)
 
 pub served : (command : Command) (how : Ended) (before after : Devices) (input : List ℕ) →
     Promises command how before after → before.left ≡ Some input → IsInputOf command input →
     ¬ Rose before.read_faults after.read_faults → ¬ Rose before.write_faults after.write_faults →
     ¬ Rose before.counts.faults after.counts.faults →
-    (how ≡ ended.Done) ⊎ (how ≡ ended.NoMemory) ⊎ ((n : ℕ) × (how ≡ ended.Budget n))
+    EndsFine command how ⊎ (how ≡ ended.NoMemory)
 served (Status most) how before after input p is fine reads writes faults =
-    of_three (status_served most how before after fine.0 input p.1 is fine.1 reads writes)
+    status_served most how before after fine.0 input p.1 is fine.1 reads writes
 served (Replay options) how before after input p is fine reads writes faults =
-    of_three (replay_served options how before after fine.0 input p.1 is fine.1 reads writes)
+    replay_served options how before after fine.0 input p.1 is fine.1 reads writes
 served (Serve options) how before after input p is fine reads writes faults =
     serve_served options how before after p.1 writes faults
 

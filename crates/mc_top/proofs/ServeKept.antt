@@ -92,12 +92,12 @@ serve_kept A view count options how result told told' counts counts' left reads 
 pub serve_served : (options : ServeOptions) (how : Ended) (before after : Devices) →
     ServePromise options how before after → ¬ Rose before.write_faults after.write_faults →
     ¬ Rose before.counts.faults after.counts.faults →
-    (how ≡ ended.Done) ⊎ (how ≡ ended.NoMemory) ⊎ ((n : ℕ) × (how ≡ ended.Budget n))
-serve_served options ended.Done before after p writes faults = inl refl
-serve_served options ended.NoMemory before after p writes faults = inr (inl refl)
+    ((how ≡ ended.Done) ⊎ ((n : ℕ) × (how ≡ ended.Budget n))) ⊎ (how ≡ ended.NoMemory)
+serve_served options ended.Done before after p writes faults = inl (inl refl)
+serve_served options ended.NoMemory before after p writes faults = inr refl
 serve_served options ended.Usage before after p writes faults = absurd p
 serve_served options ended.ReadFault before after p writes faults = absurd p
 serve_served options ended.WriteFault before after p writes faults = absurd (writes p.0)
 serve_served options ended.NetFault before after p writes faults = absurd (faults p.0)
 serve_served options (ended.BadInput bad) before after p writes faults = absurd p
-serve_served options (ended.Budget n) before after p writes faults = inr (inr (n, refl))
+serve_served options (ended.Budget n) before after p writes faults = inl (inr (n, refl))

@@ -1,9 +1,10 @@
 -- What a run of the program promises, by the command that its arguments name and by how it ends.
 -- Rules of this project. A new command is a case of each of these.
-use Rattle.std.specs.Prelude.{◌≡◌, ℕ, List, None}
+use Rattle.std.specs.Prelude.{◌≡◌, ℕ, ◌⊎◌, List, None}
 use Rattle.std.specs.declared.string.String.{String}
 use Rattle.mc_top.specs.declared.bad_input.BadInput.{BadInput}
 use Rattle.mc_top.specs.declared.ended.Ended.{Ended}
+use Rattle.mc_top.specs.declared.ended.Ended.TheVariants as ended
 use Rattle.mc_top.specs.declared.script_line.ScriptEvent.{ScriptEvent}
 use Rattle.mc_top.specs.declared.arguments.Command.{Command}
 use Rattle.mc_top.specs.declared.arguments.Command.TheVariants.{Status, Replay, Serve}
@@ -35,6 +36,12 @@ abbrev pub HasFault : Command → BadInput → List ℕ → Type 0
 HasFault (Status most) bad input = (text : List ℕ) × IsBadText most bad text input
 HasFault (Replay options) bad input = IsFaultOf bad input
 HasFault (Serve options) bad input = ⊥
+
+-- how a command ends where nothing is wrong with its input, no device fails and memory suffices
+abbrev pub EndsFine : Command → Ended → Type 0
+EndsFine (Status most) how = how ≡ ended.Done
+EndsFine (Replay options) how = how ≡ ended.Done
+EndsFine (Serve options) how = (how ≡ ended.Done) ⊎ ((n : ℕ) × (how ≡ ended.Budget n))
 
 -- the arguments name no command with its options
 abbrev pub NamesNone : {Z : Type 0} → List (String Z) → Type 0

@@ -11,7 +11,7 @@ ghost use Rattle.mc_top.specs.declared.ended.Ended.TheVariants as ended;
 ghost use Rattle.mc_top.specs.declared.arguments.Command.{Command};
 ghost use Rattle.mc_top.specs.Devices.{Devices};
 ghost use Rattle.mc_top.specs.Ended.{status_of};
-ghost use Rattle.mc_top.specs.Promises.{HasFault, IsInputOf, Promises};
+ghost use Rattle.mc_top.specs.Promises.{EndsFine, HasFault, IsInputOf, Promises};
 
 /// The line of a script that is too long is the one that holds the first byte too many.
 pub fn long_line_of_a_script()
@@ -25,15 +25,16 @@ pub fn ticks_of_a_script()
         ticks_of events ≤ 1000000000 }
 {}
 
-/// An input that nothing is wrong with is served, unless memory runs out, a device fails or a
-/// budget is used up. It follows from what each command promises.
+/// An input that nothing is wrong with is served, unless memory runs out or a device fails; where a
+/// lobby is served the events that may come can be used up. It follows from what each command
+/// promises.
 pub fn good_inputs_are_served()
     ensures { (command : Command) (how : Ended) (before after : Devices) (input : List ℕ) →
         Promises command how before after → before.left ≡ Some input →
         IsInputOf command input → ¬ Rose before.read_faults after.read_faults →
         ¬ Rose before.write_faults after.write_faults →
         ¬ Rose before.counts.faults after.counts.faults →
-        (how ≡ ended.Done) ⊎ (how ≡ ended.NoMemory) ⊎ ((n : ℕ) × (how ≡ ended.Budget n)) }
+        EndsFine command how ⊎ (how ≡ ended.NoMemory) }
 {}
 
 /// An input that has a fault is refused, unless memory runs out or a device fails. It follows from
