@@ -227,7 +227,7 @@ def walk(walkers, usage, minutes):
     latest = 0.0
     for step in range(1, steps + 1):
         due = begun + step / STEPS_A_SECOND
-        listen(walkers, max(0.0, due - time.monotonic()))
+        listen(walkers, max(0.001, due - time.monotonic()))
         latest = max(latest, time.monotonic() - due)
         for number, walker in enumerate(walkers):
             walker.send(protocol.position(*place_at(number, step / STEPS_A_SECOND)))
