@@ -5,6 +5,7 @@ Sources: docs/WORLD.md ('Connections and events', 'Logging in') and docs/PROTOCO
 """
 
 import math
+import random
 import threading
 import time
 
@@ -13,6 +14,7 @@ from client import (
     SMALLEST_VIEW,
     TICK,
     Client,
+    Connection,
     Ticker,
     ask_status,
     expect,
@@ -142,6 +144,30 @@ def resets_are_leavings(path):
         expect_goes_on(program.port, watcher)
 
 
+def noise_harms_nobody(path):
+    """Bytes by chance, as they are or framed, at each stage, change nothing for the others."""
+    chance = random.Random(47)
+    with Program(path) as program:
+        watcher = log_in(program.port, "Wanda")
+        for number in range(200):
+            with Connection(program.port) as noisy:
+                noisy.send(chance.choice(beginnings(f"Noise_{number}")))
+                for _ in range(chance.randrange(1, 4)):
+                    noise = chance.randbytes(chance.randrange(1, 100))
+                    noisy.send(chance.choice((noise, protocol.frame(noise))))
+                if chance.randrange(2):
+                    noisy.reset()
+        listen([watcher], 4 * TICK)
+        wait_for_names([watcher], watcher, ["Wanda"])
+        expect_goes_on(program.port, watcher)
+
+
+def beginnings(name):
+    """List what a client may have said before the noise, by stage."""
+    login = protocol.handshake(protocol.WANTS_LOGIN)
+    return b"", protocol.handshake(protocol.WANTS_STATUS), login, login + protocol.login_start(name)
+
+
 def idle_readers_are_closed(path):
     """Who asks for statuses and never reads is closed, and the others get each tick."""
     with Program(path) as program:
@@ -209,6 +235,7 @@ TESTS = [
     bad_packets_close,
     bad_numbers_close,
     resets_are_leavings,
+    noise_harms_nobody,
     idle_readers_are_closed,
     idle_players_are_closed,
 ]
