@@ -109,7 +109,6 @@ class Client(Connection):
         self.frames = Frames()
         self.stage = protocol.STATUS
         self.packets = []
-        self.identifier = None
         self.replica = Replica()
 
     def take(self, data):
@@ -125,7 +124,6 @@ class Client(Connection):
         if self.stage is protocol.PLAY:
             self.replica.fold(packet)
         if type(packet) is Success:
-            self.identifier = packet.identifier
             self.stage = protocol.PLAY
         if type(packet) is KeepAlive:
             self.send(protocol.keep_alive(packet.number))
@@ -176,10 +174,6 @@ class Ticker(Client):
         if type(packet) is Place:
             self.ticks.append(time.monotonic())
             self.send(protocol.position(PAST_THE_WORLD, 64.0, 0.0))
-
-    def longest_gap(self):
-        """Answer the longest time between two ticks, in seconds."""
-        return max((after - before for before, after in zip(self.ticks, self.ticks[1:])), default=0)
 
 
 def pump(clients, is_done, patience=PATIENCE):

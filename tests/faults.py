@@ -41,8 +41,8 @@ LONG_LENGTH = b"\x80\x80\x80"
 # Good frames that come behind a bad one, which makes nothing of them.
 MANY_MORE = protocol.position(900.0, 5.0, 900.0) * 30_000
 
-# Far more than what is owed to a connection at most, 67,108,864 bytes, and what the system holds.
-MOST_OWED = 67_108_864
+# So many answers of 108 bytes are far more than the 67,108,864 bytes that a connection is owed at
+# most, and what the system holds beside them.
 REQUESTS = 1_000_000
 
 # The longest time between two ticks that a busy machine is granted, in seconds.
