@@ -78,9 +78,10 @@ def prove_all(program):
     left, running, done, free = sorted(names, key=lambda it: -chains[it]), {}, set(), places()
     with ThreadPoolExecutor(free) as pool:
         while left or running:
-            ready = [it for it in left if done.issuperset(crates[it])]
-            for at, name in enumerate(ready[:free]):
-                jobs = max(1, min(4, free // len(ready[at:])))
+            ready = [it for it in left if done.issuperset(crates[it])][:free]
+            for at, name in enumerate(ready):
+                # The one with the longest chain behind it gets what the others leave.
+                jobs = min(4, free - len(ready[at + 1 :]))
                 number = len(names) - len(left) + 1
                 print(f"craft47: {number} of {len(names)}: {name}", file=sys.stderr, flush=True)
                 running[pool.submit(prove, name, name == program, jobs)] = name, jobs
