@@ -3,20 +3,19 @@
 
 usage: prove.py CRATE
 
-Crates that don't wait for each other are proved side by side. On standard error it says each crate
-as it begins, and how long all of them took.
+It works on a copy of what is needed, without wrong bodies, so that the gate of the toolchain proves
+crates side by side, and keeps on this machine what it proved. On standard error it says each crate
+when all that it stands on is proved, and how long all of them took.
 """
 
-import os
+import shutil
 import subprocess
 import sys
+import tempfile
 import time
-from concurrent.futures import FIRST_COMPLETED, ThreadPoolExecutor, wait
 from pathlib import Path
 
 TOP = Path(__file__).resolve().parent.parent
-# The most memory that a proof takes, in bytes.
-PROOF_MEMORY = 3 << 30
 
 
 def stands_on():
@@ -37,62 +36,61 @@ def needed(crate, crates):
     return found + [crate]
 
 
-def size(crate):
-    """Counts the bytes of a crate's sources, which stand for the time that its proof takes."""
-    folders = [TOP / "crates" / crate / it for it in ("src", "specs", "proofs")]
-    return sum(file.stat().st_size for folder in folders for file in folder.rglob("*.*"))
+def copy(names, to):
+    """Copies what a gate reads of these crates."""
+    shutil.copy(TOP / "HANDLES", to)
+    lines = (TOP / "crates.txt").read_text().splitlines(keepends=True)
+    (to / "crates.txt").write_text("".join(it for it in lines if it.partition(":")[0] in names))
+    left_out = shutil.ignore_patterns("out", "must-fail")
+    for name in names:
+        shutil.copytree(TOP / "crates" / name, to / "crates" / name, ignore=left_out)
 
 
-def length_of_chains(names, crates):
-    """Tells for each crate the size of the longest chain of crates that begins with it."""
-    behind = {}
-    for name in reversed(names):
-        above = [behind[it] for it in names if name in crates[it]]
-        behind[name] = size(name) + max(above, default=0)
-    return behind
+class Progress:
+    """Which crates are proved, and which could begin since all that they stand on are."""
 
+    def __init__(self, names, crates):
+        self.names = names
+        self.crates = crates
+        self.done = set()
+        self.begun = []
 
-def places():
-    """Tells how many proofs may run at a time."""
-    memory = os.sysconf("SC_PAGE_SIZE") * os.sysconf("SC_PHYS_PAGES")
-    return max(1, min(len(os.sched_getaffinity(0)), memory // PROOF_MEMORY))
+    def tell(self):
+        """Says each crate that can begin now."""
+        for name in self.names:
+            if name not in self.begun and self.done.issuperset(self.crates[name]):
+                self.begun.append(name)
+                place = f"{len(self.begun)} of {len(self.names)}"
+                print(f"craft47: {place}: {name}", file=sys.stderr, flush=True)
 
-
-def prove(name, is_program, jobs):
-    """Proves a crate over those below it, and builds it. Answers what was said where that fails."""
-    folder = TOP / "crates" / name
-    command = ["rt", "run" if is_program else "lib", "--jobs", str(jobs)]
-    if is_program:
-        # Running it over the input of its own test is what builds it.
-        command += ["--", "status"]
-    with open(folder / "stdin" if is_program else os.devnull) as given:
-        done = subprocess.run(command, cwd=folder, stdin=given, capture_output=True, text=True)
-    return None if done.returncode == 0 else done.stdout + done.stderr
+    def take(self, line):
+        """Takes a line of the gate, which may say that a crate is proved."""
+        words = line.split()
+        is_proved = words[2:] == ["proved"] or words[2:4] == ["is", "kept:"]
+        if words[:1] == ["rt:"] and is_proved:
+            self.done.add(words[1])
+            self.tell()
 
 
 def prove_all(program):
     """Proves a program and all that it stands on. Answers what was said where that fails."""
     crates = stands_on()
     names = needed(program, crates)
-    chains = length_of_chains(names, crates)
-    left, running, done, free = sorted(names, key=lambda it: -chains[it]), {}, set(), places()
-    with ThreadPoolExecutor(free) as pool:
-        while left or running:
-            ready = [it for it in left if done.issuperset(crates[it])][:free]
-            for at, name in enumerate(ready):
-                # The one with the longest chain behind it gets what the others leave.
-                jobs = min(4, free - len(ready[at + 1 :]))
-                number = len(names) - len(left) + 1
-                print(f"craft47: {number} of {len(names)}: {name}", file=sys.stderr, flush=True)
-                running[pool.submit(prove, name, name == program, jobs)] = name, jobs
-                left.remove(name)
-                free -= jobs
-            for ended in wait(running, return_when=FIRST_COMPLETED).done:
-                name, jobs = running.pop(ended)
-                if ended.result() is not None:
-                    return ended.result()
-                done.add(name)
-                free += jobs
+    progress = Progress(names, crates)
+    with tempfile.TemporaryDirectory(prefix="craft47-") as folder:
+        copy(names, Path(folder))
+        progress.tell()
+        gate = ["rt", "ci"]
+        said = []
+        with subprocess.Popen(gate, cwd=folder, stdout=subprocess.PIPE, text=True) as running:
+            for line in running.stdout:
+                said.append(line)
+                progress.take(line)
+        if running.returncode != 0:
+            return "".join(said)
+        built = TOP / "crates" / program / "out"
+        built.mkdir(exist_ok=True)
+        shutil.copy(Path(folder) / "crates" / program / "out" / program, built)
     return None
 
 
