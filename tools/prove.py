@@ -3,9 +3,9 @@
 
 usage: prove.py CRATE
 
-It works on a copy of what is needed, without wrong bodies, so that the gate of the toolchain proves
-crates side by side, and keeps on this machine what it proved. On standard error it says each crate
-when all that it stands on is proved, and how long all of them took.
+It works on a copy of what is needed, without wrong bodies. Crates that don't wait for each other are
+proved side by side, each by a gate of its own, which keeps on this machine what it proved. On
+standard error it says each crate as it begins, and how long all of them took.
 """
 
 import shutil
@@ -13,9 +13,12 @@ import subprocess
 import sys
 import tempfile
 import time
+from concurrent.futures import FIRST_COMPLETED, ThreadPoolExecutor, wait
 from pathlib import Path
 
 TOP = Path(__file__).resolve().parent.parent
+# How many crates are proved at a time. Each uses what processors it finds.
+AT_ONCE = 3
 
 
 def stands_on():
@@ -46,57 +49,64 @@ def copy(names, to):
         shutil.copytree(TOP / "crates" / name, to / "crates" / name, ignore=left_out)
 
 
-class Progress:
-    """Which crates are proved, and which could begin since all that they stand on are."""
-
-    def __init__(self, names, crates):
-        self.names = names
-        self.crates = crates
-        self.done = set()
-        self.begun = []
-
-    def tell(self):
-        """Says each crate that can begin now."""
-        for name in self.names:
-            if name not in self.begun and self.done.issuperset(self.crates[name]):
-                self.begun.append(name)
-                place = f"{len(self.begun)} of {len(self.names)}"
-                print(f"craft47: {place}: {name}", file=sys.stderr, flush=True)
-
-    def take(self, line):
-        """Takes a line of the gate, which may say that a crate is proved."""
-        words = line.split()
-        is_proved = words[2:] == ["proved"] or words[2:4] == ["is", "kept:"]
-        if words[:1] == ["rt:"] and is_proved:
-            self.done.add(words[1])
-            self.tell()
+def size(crate):
+    """Counts the bytes of a crate's sources, which stand for the time that its proof takes."""
+    folders = [TOP / "crates" / crate / it for it in ("src", "specs", "proofs")]
+    return sum(file.stat().st_size for folder in folders for file in folder.rglob("*.*"))
 
 
-def prove_all(program):
+def length_of_chains(names, crates):
+    """Tells for each crate the size of the longest chain of crates that begins with it."""
+    behind = {}
+    for name in reversed(names):
+        above = [behind[it] for it in names if name in crates[it]]
+        behind[name] = size(name) + max(above, default=0)
+    return behind
+
+
+def gate(folder, *names):
+    """Runs the gate over these crates, or over all. Answers what was said where it fails."""
+    done = subprocess.run(["rt", "ci", *names], cwd=folder, capture_output=True, text=True)
+    return None if done.returncode == 0 else done.stdout + done.stderr
+
+
+def prove_each(folder, names, crates):
+    """Proves each crate as soon as those that it stands on are. Answers what was said at a fault."""
+    chains = length_of_chains(names, crates)
+    left, running, done = sorted(names, key=lambda it: -chains[it]), {}, set()
+    with ThreadPoolExecutor(AT_ONCE) as pool:
+        while left or running:
+            ready = [it for it in left if done.issuperset(crates[it])]
+            for name in ready[: AT_ONCE - len(running)]:
+                number = len(names) - len(left) + 1
+                print(f"craft47: {number} of {len(names)}: {name}", file=sys.stderr, flush=True)
+                running[pool.submit(gate, folder, name)] = name
+                left.remove(name)
+            for ended in wait(running, return_when=FIRST_COMPLETED).done:
+                done.add(running.pop(ended))
+                if ended.result() is not None:
+                    return ended.result()
+    return None
+
+
+def build(program):
     """Proves a program and all that it stands on. Answers what was said where that fails."""
     crates = stands_on()
     names = needed(program, crates)
-    progress = Progress(names, crates)
     with tempfile.TemporaryDirectory(prefix="craft47-") as folder:
         copy(names, Path(folder))
-        progress.tell()
-        gate = ["rt", "ci"]
-        said = []
-        with subprocess.Popen(gate, cwd=folder, stdout=subprocess.PIPE, text=True) as running:
-            for line in running.stdout:
-                said.append(line)
-                progress.take(line)
-        if running.returncode != 0:
-            return "".join(said)
-        built = TOP / "crates" / program / "out"
-        built.mkdir(exist_ok=True)
-        shutil.copy(Path(folder) / "crates" / program / "out" / program, built)
-    return None
+        # What is proved is kept, so the gate over all has only to build the program.
+        fault = prove_each(folder, names, crates) or gate(folder)
+        if fault is None:
+            built = TOP / "crates" / program / "out"
+            built.mkdir(exist_ok=True)
+            shutil.copy(Path(folder) / "crates" / program / "out" / program, built)
+        return fault
 
 
 def main():
     began = time.monotonic()
-    fault = prove_all(sys.argv[1])
+    fault = build(sys.argv[1])
     minutes, seconds = divmod(round(time.monotonic() - began), 60)
     if fault is not None:
         print(fault, file=sys.stderr)
