@@ -4,13 +4,13 @@ ghost use Rattle.std.specs.Prelude.{false};
 ghost use lib.IntN.{pos};
 ghost use Rattle.std.specs.Option.{option_copied};
 ghost use Rattle.mc_entities.specs.declared.fault.FolkFault.TheVariants as folk_faults;
-ghost use Rattle.mc_entities.specs.declared.entity.TheConstants.{EID_MAX};
+ghost use Rattle.mc_entities.specs.declared.entity.TheConstants.{DROPPED_MAX, EID_MAX};
 ghost use Rattle.mc_entities.specs.Kinds.{IsKind, are_alike, is_dropped};
 ghost use Rattle.mc_entities.specs.Numbers.{Rise};
 ghost use Rattle.mc_entities.specs.Plans.{asked};
-ghost use Rattle.mc_entities.specs.Folk.{HasRoom, eid_of, entity_of, is_full, is_spent, mobs_in};
-ghost use Rattle.mc_entities.specs.Folk.{new_state, placed, removed, room_of, settled, shifted};
-ghost use Rattle.mc_entities.specs.Folk.{spawned, ticked, told_of, with_kind};
+ghost use Rattle.mc_entities.specs.Folk.{HasRoom, dropped_in, eid_of, entity_of, is_full, is_spent};
+ghost use Rattle.mc_entities.specs.Folk.{mobs_in, new_state, placed, removed, room_of, settled};
+ghost use Rattle.mc_entities.specs.Folk.{shifted, spawned, ticked, told_of, with_kind};
 ghost use Rattle.mc_entities.specs.Kept.{AreKinds, IsPlaced, one_if};
 
 use crate::entity::{DROPPED_MAX, EID_MAX, Entity, EntityKind};
@@ -107,7 +107,7 @@ impl Folk {
     }
 
     /// Whether all numbers were given.
-    fn is_spent(&self) -> bool
+    pub fn is_spent(&self) -> bool
         ensures { result ≡ is_spent self.now.state }
     {
         self.given == EID_MAX
@@ -245,6 +245,7 @@ impl Folk {
         ensures rise { Rise eid_of (pos 0) result.now (pos self.now.state.given) }
         ensures range { AreKinds result.now }
         ensures few { self.now.state.given ≤ EID_MAX }
+        ensures lying { dropped_in result.now ≤ DROPPED_MAX }
     {
         self.entities.as_slice()
     }

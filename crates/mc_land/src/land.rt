@@ -28,6 +28,7 @@ use mc_column::Column;
 use mc_fields::Cell;
 use mc_nbt::NoMemory;
 use mc_slots::Chest;
+pub use setting::{CHEST, is_chest};
 use std::alloc::Global;
 use std::collections::BTreeMap;
 use std::marker::Model;

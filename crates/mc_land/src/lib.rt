@@ -14,7 +14,8 @@ mod steps;
 mod terrain;
 
 pub use fault::LandFault;
-pub use land::Land;
+pub use land::{CHEST, Land, is_chest};
+pub use places::is_inside;
 pub use ready::Touched;
 pub use steps::Steps;
 pub use terrain::{Terrain, height};

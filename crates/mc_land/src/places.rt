@@ -73,7 +73,7 @@ pub(crate) fn key_of(cell: &Cell) -> (Place, u16)
 }
 
 /// Whether a cell can be set: it is at a height of the world and not too far out.
-pub(crate) fn is_inside(cell: &Cell) -> bool
+pub fn is_inside(cell: &Cell) -> bool
     ensures { result ≡ is_inside cell.now.x cell.now.y cell.now.z }
 {
     is_height(cell.y) && is_within_border(cell.x) && is_within_border(cell.z)

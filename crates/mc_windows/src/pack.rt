@@ -67,7 +67,7 @@ impl Pack {
     }
 
     /// The pile at a place from 0 to 35; none elsewhere.
-    pub(crate) fn pile(&self, i: usize) -> Pile
+    pub fn pile(&self, i: usize) -> Pile
         ensures pile { result ≡ pile_at self.now.slots i }
         ensures range { IsPile result }
     {
@@ -87,7 +87,7 @@ impl Pack {
     }
 
     /// Puts a pile at a place from 0 to 35, in the place of the one that was there.
-    pub(crate) fn put(&mut self, i: usize, pile: Pile)
+    pub fn put(&mut self, i: usize, pile: Pile)
         requires place { i < length self.old.slots }
         requires range { IsPile pile }
         ensures { self.new ≡ record self.old { slots = slice_set self.old.slots i pile } }

@@ -137,7 +137,7 @@ impl Land {
 pub const CHEST: u16 = 54;
 
 /// Whether a state is a chest's.
-fn is_chest(state: u16) -> bool
+pub fn is_chest(state: u16) -> bool
     ensures { result ≡ is_chest state }
 {
     state / 16 == CHEST
