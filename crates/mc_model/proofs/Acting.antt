@@ -1,10 +1,11 @@
 -- What a frame comes to, done: what it makes of its connection.
 use Rattle.std.proofs.Common.{◌≡◌, ℕ, ◌+◌, List, [], ◌∷◌, inl, inr, refl, sym, subst, ap, ◌∙◌}
-use Rattle.std.specs.Prelude.{◌⊎◌, ◌==◌, true, false, Option, Some, None, option_map, Result}
+use Rattle.std.specs.Prelude.{◌⊎◌, ◌==◌, min, true, false, Option, Some, None, option_map, Result}
 use Rattle.std.specs.Prelude.{Ok, Err, if◌then◌else◌}
 use Rattle.std.specs.Option.{option_and_then}
 use lib.IntN.{ℤ, pos, negsuc}
 use Rattle.mc_fields.specs.declared.packet.PacketFault.{PacketFault}
+use Rattle.mc_fields.specs.declared.position.Cell.{Cell}
 use Rattle.mc_fields.specs.declared.position.Spot.{Spot}
 use Rattle.mc_fields.specs.Row.{packet_read, packet_of}
 use Rattle.mc_up.specs.declared.handshake.Hand.{Hand}
@@ -14,7 +15,8 @@ use Rattle.mc_up.specs.declared.status_up.StatusUp.TheVariants.{Request, Ping}
 use Rattle.mc_up.specs.declared.login_up.LoginUp.{LoginUp}
 use Rattle.mc_up.specs.declared.login_up.LoginUp.TheVariants.{Start}
 use Rattle.mc_up.specs.declared.play_up.PlayUp.{PlayUp}
-use Rattle.mc_up.specs.declared.play_up.PlayUp.TheVariants.{Position, Look, PositionLook, Settings}
+use Rattle.mc_up.specs.declared.play_up.PlayUp.TheVariants.{Position, Look, PositionLook, Held}
+use Rattle.mc_up.specs.declared.play_up.PlayUp.TheVariants.{Settings, Digging, Placement, Creative}
 use Rattle.mc_up.specs.Hand as hand
 use Rattle.mc_up.specs.StatusUp as status
 use Rattle.mc_up.specs.LoginUp as login
@@ -25,17 +27,26 @@ use Rattle.mc_model.specs.declared.cause.Refusal.{Refusal}
 use Rattle.mc_model.specs.declared.stage.Stage.{Stage}
 use Rattle.mc_model.specs.declared.stage.Stage.TheVariants as stages
 use Rattle.mc_model.specs.Names.{offline_uuid}
+use Rattle.mc_entities.specs.Shift.{is_inside}
+use Rattle.mc_model.specs.Notes.{Noted}
 use Rattle.mc_model.specs.Sight.{Sight}
+use Rattle.mc_model.specs.Things.{Things, with_entity, standing, holding, in_hand}
 use Rattle.mc_model.specs.World.{World, Session, Player, found, put, is_play, is_closed, spot_of}
-use Rattle.mc_model.specs.World.{spawn_spot}
+use Rattle.mc_model.specs.World.{pack_of}
 use Rattle.mc_model.specs.Packets.{Sent, of_status}
-use Rattle.mc_model.specs.Movement.{arrive, arrived, is_in_range, moved, turned}
+use Rattle.mc_model.specs.Movement.{arrive, landing, landed, moved, turned}
+use Rattle.mc_model.specs.Packs.{again, noting, place_of_hotbar, take_up}
+use Rattle.mc_model.specs.Digging.{digging, dropped, dug}
+use Rattle.mc_model.specs.Placing.{place_on, placed}
 use Rattle.mc_model.specs.Acts.{act}
 use Rattle.mc_model.specs.Talk.{ClientRequest, nothing, greets, replies, ends, enters, acts, wrong}
-use Rattle.mc_model.specs.Talk.{request_of, in_hand, in_status, in_login, in_play, wanted, farewell}
+use Rattle.mc_model.specs.Talk.{request_of, in_hand as in_handshake, in_status, in_login, in_play}
+use Rattle.mc_model.specs.Talk.{wanted, farewell}
 use Rattle.mc_model.specs.Talk.{refused, accepted}
 use Rattle.mc_model.specs.Step.{still, perform, refusal, answer_login, acted, act_by, new_player}
-use Rattle.mc_model.specs.Step.{entered as entering}
+use Rattle.mc_model.specs.Step.{with_new_player, entered as entering}
+use Rattle.mc_model.proofs.Deeds.{digging_cases, placing_cases}
+use Rattle.mc_model.proofs.Beside.{beside_same}
 use Rattle.mc_model.proofs.Handing.{shown_in, stayed, answered, greeted, entered, IsLast, owes_same}
 use Rattle.mc_model.proofs.Handing.{Goes, goes_still, goes_put, goes_hand, goes_close, play_is}
 use Rattle.mc_model.proofs.Handing.{not_both}
@@ -62,7 +73,7 @@ wanted_waits (pos n) = elim (n == 1) as
     ]
 wanted_waits (negsuc n) = (refl, refl)
 
-hand_suits : (r : Result Hand PacketFault) → Suits stages.Hand (in_hand r)
+hand_suits : (r : Result Hand PacketFault) → Suits stages.Hand (in_handshake r)
 hand_suits (Ok (Handshake protocol address port next)) = let w = wanted_waits next in
     (refl, w.0, w.1)
 hand_suits (Err fault) = tt
@@ -94,30 +105,29 @@ suits stages.Closed most online frame = tt
 
 -- ---- what a player does
 
--- it changes nothing but the player's own spot, view and notes
+-- it changes nothing but the things, and its own player's view, hand and notes
 pub record Acted (w : World) (s : Session) (v : World) : Type 0 where
   pub session : Session
+  pub things : Things
   pub id : session.id ≡ s.id
   pub stage : session.stage ≡ s.stage
   pub shown : shown_in session ≡ shown_in s
   pub cause : session.cause ≡ s.cause
   pub owed : session.owed ≡ s.owed
-  pub is : (v ≡ w) ⊎ (v ≡ put w session)
+  pub is : (v ≡ record w { things = things }) ⊎ (v ≡ record (put w session) { things = things })
 
-arrived_shown : (w : World) (p : Player) (spot : Spot) → (arrived w p spot).shown ≡ p.shown
-arrived_shown w p spot = elim (is_in_range spot) as
-    (λ b. (if b then record p { spot = spot } else
-    record p {
-      spot = spawn_spot w.terrain;
-      notes =
-          record p.notes { placing = true };
-    }).shown ≡ p.shown) [ true ↦ refl | false ↦ refl ]
+landed_shown : (spot : Spot) (p : Player) → (landed spot p).shown ≡ p.shown
+landed_shown spot p = elim (is_inside spot) as
+    (λ b. (if b then p else record p { notes = record p.notes { placing = true } }).shown ≡ p.shown)
+    [ true ↦ refl | false ↦ refl ]
 
 -- another player in the place of one, that was shown the same
-player_acted : (w : World) (s : Session) (p q : Player) → s.player ≡ Some p → q.shown ≡ p.shown →
-    Acted w s (put w (record s { player = Some q }))
-player_acted w s p q there same = record {
+player_acted : (w : World) (s : Session) (p q : Player) (things : Things) → s.player ≡ Some p →
+    q.shown ≡ p.shown →
+    Acted w s (record (put w (record s { player = Some q })) { things = things })
+player_acted w s p q things there same = record {
   session = record s { player = Some q };
+  things = things;
   id = refl;
   stage = refl;
   shown = ap (λ (seen : Option Sight). Some seen) same
@@ -138,8 +148,66 @@ arrive_acted : (w : World) (s : Session) (p : Player) (o : Option Spot) (v : Wor
 arrive_acted w s p None v there e = absurd (none_some v e)
 arrive_acted w s p (Some spot) v there e =
     let P : World → Type 0 = λ u. Acted w s u in
-    subst P (some_is (put w (record s { player = Some (arrived w p spot) })) v e)
-    (player_acted w s p (arrived w p spot) there (arrived_shown w p spot))
+    let things : Things = with_entity p.eid (standing (landing w spot)) w.things in
+    subst P (some_is (record (put w (record s { player = Some (landed spot p) })) {
+      things = things;
+    }) v e) (player_acted w s p (landed spot p) things there (landed_shown spot p))
+
+-- nothing changes
+nothing_acted : (w : World) (s : Session) → Acted w s w
+nothing_acted w s = record {
+  session = s;
+  things = w.things;
+  id = refl;
+  stage = refl;
+  shown = refl;
+  cause = refl;
+  owed = refl;
+  is = inl refl;
+}
+
+take_up_acted : (w : World) (s : Session) (p : Player) (hand : Option ℕ) → s.player ≡ Some p →
+    Acted w s (take_up w s p hand)
+take_up_acted w s p None there = nothing_acted w s
+take_up_acted w s p (Some hand) there = player_acted w s p (record p { hand = hand })
+    (with_entity p.eid (holding (in_hand (pack_of w p) hand)) w.things) there refl
+
+-- other things
+things_acted : (w : World) (s : Session) (things : Things) →
+    Acted w s (record w { things = things })
+things_acted w s things = record {
+  session = s;
+  things = things;
+  id = refl;
+  stage = refl;
+  shown = refl;
+  cause = refl;
+  owed = refl;
+  is = inl refl;
+}
+
+-- something noted
+noting_acted : (w : World) (s : Session) (p : Player) → s.player ≡ Some p →
+    (f : Noted → Noted) → Acted w s (noting f w s p)
+noting_acted w s p there f =
+    player_acted w s p (record p { notes = f p.notes }) w.things there refl
+
+-- a player that digs or drops
+digging_acted : (w : World) (s : Session) (p : Player) (status : ℤ) (cell : Cell) →
+    s.player ≡ Some p → Acted w s (digging w s p status cell)
+digging_acted w s p status cell there =
+    digging_cases (λ (v : World). Acted w s v) w s p status cell (nothing_acted w s)
+    (λ test. things_acted w s (dug w cell))
+    (λ item n some is room. things_acted w s (dropped w p item (min n item.count)))
+    (noting_acted w s p there)
+
+-- a player that places
+placing_acted : (w : World) (s : Session) (p : Player) (cell : Cell) (face : ℤ) →
+    s.player ≡ Some p → Acted w s (place_on w s p cell face)
+placing_acted w s p cell face there =
+    placing_cases (λ (v : World). Acted w s v) w s p cell face (nothing_acted w s)
+    (λ target item is free. things_acted w s (placed w p target item))
+    (noting_acted w s p there)
 
 pub act_acted : (w : World) (s : Session) (p : Player) (x : PlayUp) (v : World) →
     s.player ≡ Some p → act w s p x ≡ Some v → Acted w s v
@@ -151,27 +219,37 @@ act_acted w s p (Look yaw pitch on_ground) v there e =
 act_acted w s p (PositionLook x y z yaw pitch on_ground) v there e =
     arrive_acted w s p (option_and_then (λ (to : Spot). turned to yaw pitch)
     (moved (spot_of w p) x y z)) v there e
+act_acted w s p (Digging status cell face) v there e =
+    subst (λ (u : World). Acted w s u) (some_is (digging w s p status cell) v e)
+    (digging_acted w s p status cell there)
+act_acted w s p (Placement cell face item x y z) v there e =
+    subst (λ (u : World). Acted w s u) (some_is (place_on w s p cell face) v e)
+    (placing_acted w s p cell face there)
+act_acted w s p (Held place) v there e =
+    subst (λ (u : World). Acted w s u) (some_is (take_up w s p (place_of_hotbar place)) v e)
+    (take_up_acted w s p (place_of_hotbar place) there)
+act_acted w s p (Creative slot item) v there e =
+    subst (λ (u : World). Acted w s u) (some_is (noting again w s p) v e)
+    (noting_acted w s p there again)
 act_acted w s p (Settings locale view chat_mode colours skin) v there e =
-    let P : World → Type 0 = λ u. Acted w s u in
-    subst P (some_is (put w (record s { player = Some (record p { view_byte = view }) })) v e)
-    (player_acted w s p (record p { view_byte = view }) there refl)
-act_acted w s p other v there e = record {
-  session = s;
-  id = refl;
-  stage = refl;
-  shown =
-      refl;
-  cause = refl;
-  owed = refl;
-  is = inl (sym (some_is w v e));
-}
+    let q : Player = record p { view_byte = view } in
+    subst (λ (u : World). Acted w s u) (some_is (put w (record s { player = Some q })) v e)
+    (player_acted w s p q w.things there refl)
+act_acted w s p other v there e =
+    subst (λ (u : World). Acted w s u) (some_is w v e) (nothing_acted w s)
 
 goes_acted : (k : ℕ) (w v : World) (s : Session) → found k w.sessions ≡ Some s → s.id ≡ k →
     Acted w s v → Goes k w s (still v)
 goes_acted k w v s e is a = elim (a.is) [
-  | inl same ↦ subst (λ (u : World). Goes k w s (still u)) (sym same) (goes_still k w s e)
+  | inl same ↦ subst (λ (u : World). Goes k w s (still u)) (sym same) (record {
+    beside = beside_same k w a.things;
+    session = s;
+    there = e;
+    done = stayed refl refl refl refl;
+    owes = owes_same s s refl;
+  })
   | inr same ↦ subst (λ (u : World). Goes k w s (still u)) (sym same)
-      (goes_put k w w.eids s a.session [] e (a.id ∙ is) (stayed a.stage a.shown a.cause refl)
+      (goes_put k w a.things s a.session [] e (a.id ∙ is) (stayed a.stage a.shown a.cause refl)
       (owes_same s a.session a.owed))
 ]
 
@@ -209,9 +287,10 @@ login_goes : (k : ℕ) (w : World) (s : Session) (name : List ℕ) (o : Option R
 login_goes k w s name (Some why) e is at open_ =
     goes_close k w s (causes.Refused why) (refused why) e is open_ (refused_last s.stage why at)
 login_goes k w s name None e is at open_ =
-    goes_hand k w (w.eids + 1) s (entering w s name)
+    goes_hand k w (with_new_player w.terrain name w.things) s (entering w s name)
+    (entering w s name)
     (accepted (offline_uuid name) name) e is refl open_
-    (λ owed. entered (new_player w.terrain (w.eids + 1) name) at refl refl refl refl refl)
+    (λ owed. entered (new_player (w.things.eids + 1) name) at refl refl refl refl refl)
 
 acted_goes : (k : ℕ) (w : World) (s : Session) (p : Player) (x : PlayUp) (o : Option World) →
     s.player ≡ Some p → act w s p x ≡ o → found k w.sessions ≡ Some s → s.id ≡ k →
@@ -233,10 +312,10 @@ pub performed : (k : ℕ) (w : World) (s : Session) (x : ClientRequest) →
     Goes k w s (perform w s x)
 performed k w s nothing e is open_ fit = goes_still k w s e
 performed k w s (greets protocol stage) e is open_ fit =
-    goes_put k w w.eids s (record s { stage = stage; protocol = protocol }) [] e is
+    goes_put k w w.things s (record s { stage = stage; protocol = protocol }) [] e is
     (greeted fit.0 fit.1 fit.2 refl refl refl) (owes_same s _ refl)
 performed k w s (replies packet) e is open_ fit =
-    goes_hand k w w.eids s s (of_status packet ∷ []) e is refl open_
+    goes_hand k w w.things s s s (of_status packet ∷ []) e is refl open_
     (λ owed. answered fit refl refl refl refl)
 performed k w s (ends packet) e is open_ fit =
     goes_close k w s causes.Done (of_status packet ∷ []) e is open_

@@ -4,17 +4,17 @@ use Rattle.std.specs.Prelude.{length, ◌==◌, Bool, true, false, cond, Option,
 use Rattle.std.specs.Prelude.{if◌then◌else◌}
 use Rattle.std.proofs.lemmas.Bool.{eqb-true}
 use Rattle.std.proofs.lemmas.List.{length-map}
+use Rattle.mc_model.specs.Things.{Things}
 use Rattle.mc_model.specs.World.{World, Session, found, put}
 use Rattle.mc_model.specs.Step.{changed}
 use Rattle.mc_model.specs.Orderly.{AreApart, Rise}
 use Rattle.mc_model.proofs.Sessions.{other_number, same_number, found_id, found_map, apart_map}
 use Rattle.mc_model.proofs.Sessions.{rise_map}
 
--- only the part of one connection changed, and the count of entity numbers
+-- only the part of one connection changed, and the things
 pub record Beside (k : ℕ) (w v : World) : Type 0 where
   pub age : v.age ≡ w.age
   pub terrain : v.terrain ≡ w.terrain
-  pub edits : v.edits ≡ w.edits
   pub most : v.most ≡ w.most
   pub cap : v.cap ≡ w.cap
   pub last : v.last ≡ w.last
@@ -24,11 +24,11 @@ pub record Beside (k : ℕ) (w v : World) : Type 0 where
   pub apart : AreApart w.sessions → AreApart v.sessions
   pub rise : (low high : ℕ) → Rise low w.sessions high → Rise low v.sessions high
 
-pub beside_same : (k : ℕ) (w : World) (eids : ℕ) → Beside k w (record w { eids = eids })
-beside_same k w eids = record {
+pub beside_same : (k : ℕ) (w : World) (things : Things) →
+    Beside k w (record w { things = things })
+beside_same k w things = record {
   age = refl;
   terrain = refl;
-  edits = refl;
   most = refl;
   cap = refl;
   last = refl;
@@ -43,7 +43,6 @@ pub beside_onward : (k : ℕ) (w v u : World) → Beside k w v → Beside k v u 
 beside_onward k w v u b c = record {
   age = c.age ∙ b.age;
   terrain = c.terrain ∙ b.terrain;
-  edits = c.edits ∙ b.edits;
   most = c.most ∙ b.most;
   cap = c.cap ∙ b.cap;
   last = c.last ∙ b.last;
@@ -75,7 +74,6 @@ pub beside_changed : (k : ℕ) (w : World) (f : Session → Session) →
 beside_changed k w f keeps = record {
   age = refl;
   terrain = refl;
-  edits = refl;
   most = refl;
   cap = refl;
   last = refl;

@@ -71,7 +71,7 @@ hand_cause k w s t packets e is = hand_cases t packets
 -- a connection that is closed is closed for the cause, or for its last packets
 pub close_cause : (k : ℕ) (w : World) (s : Session) (cause : Cause) (packets : List Sent) →
     found k w.sessions ≡ Some s → s.id ≡ k →
-    cause_in k (turn w (disconnect s cause packets)).world ≡ Some (or_backlog s cause packets)
+    cause_in k (turn w s (disconnect s cause packets)).world ≡ Some (or_backlog s cause packets)
 close_cause k w s cause packets e is =
     hand_cause k w s (mark_closed s cause) packets e is
     ∙ elim (nat_le (length s.owed + length (bytes_of packets)) outbox_max) as
@@ -113,7 +113,7 @@ entering_closes : (k : ℕ) (w : World) (s : Session) (name : List ℕ) (o : Opt
 entering_closes k w s name (Some why) c e is none =
     just _ _ c (close_cause k w s (causes.Refused why) (refused why) e is)
 entering_closes k w s name None c e is none =
-    hand_closes k (record w { eids = w.eids + 1 }) s (entering w s name)
+    hand_closes k w s (entering w s name)
     (accepted (offline_uuid name) name) c e is none
 
 acted_cause : (k : ℕ) (w v : World) (s : Session) → found k w.sessions ≡ Some s → s.id ≡ k →
@@ -212,24 +212,24 @@ frame_closes k w s frame c e open_ none =
 -- ---- the length behind them
 
 fault_open : (k : ℕ) (w : World) (s : Session) (fault : FrameFault) → found k w.sessions ≡ Some s →
-    is_closed s.stage ≡ false → on_fault w k (Some fault) ≡ turn w
+    is_closed s.stage ≡ false → on_fault w k (Some fault) ≡ turn w s
     (disconnect s (causes.Frame fault) (farewell s.stage (causes.Frame fault)))
 fault_open k w s fault e open_ =
     ap (λ (o : Option Session). when_open o w
-    (λ (s : Session). turn w (disconnect s (causes.Frame fault)
+    (λ (s : Session). turn w s (disconnect s (causes.Frame fault)
     (farewell s.stage (causes.Frame fault))))) e
     ∙ ap (λ (b : Bool). if b then still w else
-    turn w (disconnect s (causes.Frame fault) (farewell s.stage (causes.Frame fault)))) open_
+    turn w s (disconnect s (causes.Frame fault) (farewell s.stage (causes.Frame fault)))) open_
 
 fault_shut : (k : ℕ) (w : World) (s : Session) (fault : Option FrameFault) →
     found k w.sessions ≡ Some s → is_closed s.stage ≡ true → on_fault w k fault ≡ still w
 fault_shut k w s None e closed = refl
 fault_shut k w s (Some fault) e closed =
     ap (λ (o : Option Session). when_open o w
-    (λ (s : Session). turn w (disconnect s (causes.Frame fault)
+    (λ (s : Session). turn w s (disconnect s (causes.Frame fault)
     (farewell s.stage (causes.Frame fault))))) e
     ∙ ap (λ (b : Bool). if b then still w else
-    turn w (disconnect s (causes.Frame fault) (farewell s.stage (causes.Frame fault)))) closed
+    turn w s (disconnect s (causes.Frame fault) (farewell s.stage (causes.Frame fault)))) closed
 
 fault_closes : (k : ℕ) (w : World) (s : Session) (fault : Option FrameFault) (c : Cause) →
     found k w.sessions ≡ Some s → is_closed s.stage ≡ false → s.cause ≡ None →

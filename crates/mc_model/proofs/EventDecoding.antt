@@ -20,6 +20,7 @@ use Rattle.mc_model.specs.Run.{to, handed, stream, received_at, received, AreByt
 use Rattle.mc_model.proofs.Decodes.{decodes_bytes}
 use Rattle.mc_model.proofs.Sessions.{some_none, one_some}
 use Rattle.mc_model.proofs.Frames.{no_bytes}
+use Rattle.mc_model.proofs.ThingsKept.{new_things_fit}
 use Rattle.mc_model.proofs.Sound.{Sound}
 use Rattle.mc_model.proofs.Beside.{Beside}
 use Rattle.mc_model.proofs.FitsBytes.{bytes_joined}
@@ -227,7 +228,7 @@ new_sound : (most cap : ℕ) (terrain : Terrain) → AreSettings most cap →
 new_sound most cap terrain settings =
     record {
       settings = settings;
-      eids = omega arith;
+      things = new_things_fit;
       apart = tt;
       fresh = λ k new. refl;
       few =

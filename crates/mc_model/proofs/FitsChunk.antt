@@ -2,6 +2,8 @@
 use Rattle.std.proofs.Common.{ℕ, zero, suc, ◌+◌, ◌^◌, ◌<◌, ◌≤◌, Bool, true, false, cond, List, []}
 use Rattle.std.proofs.Common.{length, refl, lit<, arith}
 use Rattle.std.specs.Int.{w8, w16, w32, cast_unsigned}
+use Rattle.std.specs.Prelude.{unsigned_abs}
+use Rattle.std.specs.List.{All}
 use lib.IntN.{pos}
 use mir.Val.{SFits}
 use Rattle.mc_nbt.specs.Signed.{signed_fits}
@@ -22,7 +24,7 @@ use Rattle.mc_model.specs.Packets.{of_play, for_play}
 use Rattle.mc_model.specs.Delta.{load, unload}
 use Rattle.mc_model.proofs.Decodes.{IsClear}
 use Rattle.mc_model.proofs.FitsSize.{AtMost, few_bytes, at_most_joined, varint_size, number_size}
-use Rattle.mc_model.proofs.FitsSize.{spelling_payload}
+use Rattle.mc_model.proofs.FitsSize.{spelling_payload, number_fits}
 
 -- a place whose numbers a packet can carry
 pub record PlaceFits (place : Place) : Type 0 where
@@ -79,14 +81,27 @@ mask_small column sizes =
     let below = (column_mask_names column sizes).below in
     rw section_count-is at below
 
--- a column that a packet can carry
+-- a place whose cells a position can carry
+pub record IsNear (place : Place) : Type 0 where
+  pub x : unsigned_abs place.0 ≤ 1875010
+  pub z : unsigned_abs place.1 ≤ 1875010
+
+-- a packet can carry its numbers too
+pub near_fits : (place : Place) → IsNear place → PlaceFits place
+near_fits place near = record {
+  x = number_fits place.0 (omega (arith, near.x));
+  z = number_fits place.1 (omega (arith, near.z));
+}
+
+-- a column that packets can carry, whole and cell by cell
 pub record ColumnFits (e : Place × ColumnValue) : Type 0 where
-  pub place : PlaceFits e.0
+  pub near : IsNear e.0
   pub sizes : HasSizes e.1
+  pub states : All (λ state. state < 65536) e.1.states
 
 -- a column that comes into view
 pub load_clear : (e : Place × ColumnValue) → ColumnFits e → IsClear for_play (of_play (load e))
-load_clear e f = chunk_clear e.0 (column_mask e.1) (column_bytes e.1) f.place
+load_clear e f = chunk_clear e.0 (column_mask e.1) (column_bytes e.1) (near_fits e.0 f.near)
     (mask_small e.1 f.sizes) (column_few e.1 f.sizes)
 
 -- one that goes

@@ -1,32 +1,47 @@
 -- What is due to a client at a tick is packets that it decodes.
-use Rattle.std.proofs.Common.{ℕ, ◌*◌, ◌/◌, ◌%◌, ◌<◌, ◌≤◌, List, [], length, refl, arith}
-use Rattle.std.specs.Prelude.{unsigned_abs, not}
-use Rattle.std.specs.Int.{int_rem_euclid}
+use Rattle.std.proofs.Common.{ℕ, ◌+◌, ◌≤◌, Bool, true, false, cond, List, [], ◌∷◌}
+use Rattle.std.proofs.Common.{length, Option, Some, None, refl, arith}
+use Rattle.std.specs.Prelude.{not}
+use Rattle.std.specs.Int.{w32}
 use Rattle.std.specs.List.{AllByRecursion}
-use Rattle.std.specs.FinMap.{get, entries, keys}
-use lib.IntN.{ℤ, pos, negsuc, ◌+ℤ◌}
+use Rattle.std.specs.FinMap.{get, entries, keys, contains_key}
+use Rattle.std.proofs.lemmas.List.{length-map}
+use lib.IntN.{ℤ, pos}
+use mir.Val.{SFits}
 use Rattle.mc_column.specs.Cells.{ColumnValue}
 use Rattle.mc_fields.specs.declared.position.Spot.{Spot}
 use Rattle.mc_land.specs.declared.terrain.Terrain.{Terrain}
 use Rattle.mc_land.specs.declared.terrain.Terrain.TheVariants.{Flat, Hills, Isle}
 use Rattle.mc_land.specs.Places.{Place}
-use Rattle.mc_land.specs.Terrain.{wave}
+use Rattle.mc_slots.specs.declared.slot.Slot.{Slot}
+use Rattle.mc_windows.specs.Pack.{PackValue, IsPack}
+use Rattle.mc_view.specs.Forms.{moves_of}
 use Rattle.mc_down.specs.declared.down.Down.{Down}
+use Rattle.mc_down.specs.declared.down.Down.TheVariants.{SetSlot}
+use Rattle.mc_model.specs.Notes.{Noted}
 use Rattle.mc_model.specs.Packets.{of_play, for_play}
 use Rattle.mc_model.specs.Numbers.{pattern_of, degrees_of}
-use Rattle.mc_model.specs.Sight.{Sight}
-use Rattle.mc_model.specs.Delta.{missing, is_named, leavers_point, joiners_point, unload}
-use Rattle.mc_model.specs.Delta.{unloads_point, load, loads_point, delta}
-use Rattle.mc_model.specs.World.{spawn_height, spawn_spot}
-use Rattle.mc_model.specs.Step.{level, placing}
+use Rattle.mc_model.specs.Sight.{Seen, Sight}
+use Rattle.mc_model.specs.Delta.{missing, is_named, leavers_point, joiners_point, destroys_point}
+use Rattle.mc_model.specs.Delta.{unload, unloads_point, load, loads_point, differing}
+use Rattle.mc_model.specs.Delta.{column_changes}
+use Rattle.mc_model.specs.Delta.{cells_point, is_same_slot, item_packet, item_packets}
+use Rattle.mc_model.specs.Delta.{moves_packets, entity_packets, entities_point, slot_packets}
+use Rattle.mc_model.specs.Delta.{pack_point, delta}
+use Rattle.mc_model.specs.Step.{level, placing, window_packets, notes_of}
 use Rattle.mc_model.proofs.Decodes.{IsClear}
+use Rattle.mc_model.proofs.AllFacts.{all_joined, all_mapped, all_filtered, few_filtered, all_flat}
 use Rattle.mc_model.proofs.FitsText.{IsShort, short_where}
 use Rattle.mc_model.proofs.FitsPlay.{place_clear}
 use Rattle.mc_model.proofs.FitsNumbers.{pattern_fits, degrees_fit}
 use Rattle.mc_model.proofs.FitsList.{PairFits, AreClear, leavers_clear, joiners_clear}
-use Rattle.mc_model.proofs.FitsChunk.{PlaceFits, ColumnFits, load_clear, unload_clear}
-use Rattle.mc_model.proofs.FitsSight.{all_joined, all_mapped, all_filtered, few_filtered, SightFits}
-use Rattle.mc_model.proofs.FitsSight.{SpotFits}
+use Rattle.mc_model.proofs.FitsChunk.{PlaceFits, ColumnFits, near_fits, load_clear, unload_clear}
+use Rattle.mc_model.proofs.FitsSlots.{SlotFits, slot_clear, window_clear}
+use Rattle.mc_model.proofs.FitsCells.{cells_clear, differing_fit, differing_few}
+use Rattle.mc_model.proofs.FitsEntities.{destroy_clear, item_slot_clear, spawn_clear, moves_clear}
+use Rattle.mc_model.proofs.ThingsFit.{SpotFits}
+pub use Rattle.mc_model.proofs.ThingFacts.{rest_below, spawn_low, spawn_fits}
+use Rattle.mc_model.proofs.FitsSight.{SeenFits, SightFits}
 
 -- ---- the difference
 
@@ -39,20 +54,95 @@ missing_few p q f = let le = few_filtered (λ (e : ℕ × List ℕ). not (is_nam
 missing_fits : (p q : Sight) → SightFits p → AllByRecursion PairFits (missing p.pairs q.pairs)
 missing_fits p q f = all_filtered PairFits _ (entries p.pairs) f.pairs
 
+-- the dropped items that are seen no more
+destroys_clear : (p q : Sight) → SightFits p → AreClear (destroys_point p q)
+destroys_clear p q f =
+    let le = few_filtered (λ (eid : ℤ). not (contains_key q.entities eid)) (keys p.entities) in
+    destroy_clear _
+    (all_filtered (SFits w32) _ (keys p.entities)
+    (all_mapped SeenFits (SFits w32) (λ (e : ℤ × Seen). e.0) (λ e fits. fits.eid)
+    (entries p.entities) f.entities))
+    (omega (
+      arith,
+      le,
+      f.seen,
+      length-map (entries p.entities) (λ (e : ℤ × Seen). e.0),
+    ))
+
 -- the columns that go
 unloads_clear : (p q : Sight) → SightFits p → AreClear (unloads_point p q)
 unloads_clear p q f =
     all_mapped PlaceFits (λ (packet : Down). IsClear for_play (of_play packet)) unload unload_clear
     _
     (all_filtered PlaceFits _ (keys p.columns)
-    (all_mapped ColumnFits PlaceFits (λ (e : Place × ColumnValue). e.0) (λ e fits. fits.place)
-    (entries p.columns) f.columns))
+    (all_mapped ColumnFits PlaceFits (λ (e : Place × ColumnValue). e.0)
+    (λ e fits. near_fits e.0 fits.near) (entries p.columns) f.columns))
 
 -- the columns that come
 loads_clear : (p q : Sight) → SightFits q → AreClear (loads_point p q)
 loads_clear p q f =
     all_mapped ColumnFits (λ (packet : Down). IsClear for_play (of_play packet)) load load_clear _
     (all_filtered ColumnFits _ (entries q.columns) f.columns)
+
+-- the cells that change
+column_clear : (e : Place × ColumnValue) → ColumnFits e → (old : Option ColumnValue) →
+    AreClear (column_changes e.0 old e.1)
+column_clear e f None = tt
+column_clear e f (Some old) =
+    cells_clear e.0 e.1.states (differing old.states e.1.states) f.near
+    (differing_few old.states e.1.states)
+    (differing_fit old.states e.1.states f.sizes.states_are f.states)
+
+-- of each column
+changes_clear : (p q : Sight) → SightFits q → AreClear (cells_point p q)
+changes_clear p q f =
+    all_flat ColumnFits (λ (packet : Down). IsClear for_play (of_play packet))
+    (λ (e : Place × ColumnValue). column_changes e.0 (get p.columns e.0) e.1)
+    (λ e fits. column_clear e fits (get p.columns e.0)) (entries q.columns) f.columns
+
+-- the dropped items that come or change
+entity_clear : (e : ℤ × Seen) → SeenFits e → (old : Option Seen) →
+    AreClear (entity_packets e.0 old e.1)
+entity_clear e f None = spawn_clear e.0 e.1 f.eid f.spot f.item
+entity_clear e f (Some old) =
+    all_joined (λ (packet : Down). IsClear for_play (of_play packet))
+    (moves_packets e.0 e.1.spot (moves_of old.spot e.1.spot))
+    (item_packets e.0 old.item e.1.item)
+    (moves_clear e.0 old.spot e.1.spot f.eid f.spot) (lying (is_same_slot old.item e.1.item))
+  where
+    lying : (same : Bool) → AreClear (cond same [] (item_packet e.0 e.1.item ∷ []))
+    lying true = tt
+    lying false = (item_slot_clear e.0 e.1.item f.eid f.item, tt)
+
+-- each of them
+entities_clear : (p q : Sight) → SightFits q → AreClear (entities_point p q)
+entities_clear p q f =
+    all_flat SeenFits (λ (packet : Down). IsClear for_play (of_play packet))
+    (λ (e : ℤ × Seen). entity_packets e.0 (get p.entities e.0) e.1)
+    (λ e fits. entity_clear e fits (get p.entities e.0)) (entries q.entities) f.entities
+
+-- the slots that change
+slots_clear : (i : ℕ) (olds news : List Slot) → i + length news ≤ 100 →
+    AllByRecursion SlotFits news → AreClear (slot_packets i olds news)
+slots_clear i [] news few f = tt
+slots_clear i (old ∷ olds) [] few f = tt
+slots_clear i (old ∷ olds) (new ∷ news) few f =
+    all_joined (λ (packet : Down). IsClear for_play (of_play packet))
+    (cond (is_same_slot old new) [] (SetSlot (pos 0) (pos i) new ∷ []))
+    (slot_packets (i + 1) olds news) (one (is_same_slot old new))
+    (slots_clear (i + 1) olds news (omega (arith, few)) f.1)
+  where
+    one : (same : Bool) → AreClear (cond same [] (SetSlot (pos 0) (pos i) new ∷ []))
+    one true = tt
+    one false = (
+      slot_clear (pos 0) (pos i) new (record { sfits = omega arith })
+          (record { sfits = omega (arith, few) }) f.0,
+      tt,
+    )
+
+-- those of the pack
+pack_clear : (p q : Sight) → SightFits q → AreClear (pack_point p q)
+pack_clear p q f = slots_clear 9 p.pack q.pack (omega (arith, f.slots)) f.pack
 
 -- the packets of a difference
 pub delta_clear : (p q : Sight) → SightFits p → SightFits q → AreClear (delta p q)
@@ -63,8 +153,12 @@ delta_clear p q f g =
     (leavers_clear (missing p.pairs q.pairs) (missing_few p q f) (missing_fits p q f)) (
     all_joined P (joiners_point p q) _
     (joiners_clear (missing q.pairs p.pairs) (missing_few q p g) (missing_fits q p g)) (
+    all_joined P (destroys_point p q) _ (destroys_clear p q f) (
     all_joined P (unloads_point p q) _ (unloads_clear p q f) (
-    all_joined P (loads_point p q) [] (loads_clear p q g) tt)))
+    all_joined P (loads_point p q) _ (loads_clear p q g) (
+    all_joined P (cells_point p q) _ (changes_clear p q g) (
+    all_joined P (entities_point p q) _ (entities_clear p q g) (
+    all_joined P (pack_point p q) [] (pack_clear p q g) tt)))))))
 
 -- ---- the opening and the notes
 
@@ -77,36 +171,21 @@ placing_clear spot at =
     (pattern_fits spot.z (omega (arith, at.z)))
     (degrees_fit spot.yaw at.yaw) (degrees_fit spot.pitch at.pitch)
 
--- a remainder is below its divisor
-pub rest_below : (v : ℤ) (n : ℕ) → 0 < n → unsigned_abs (int_rem_euclid v (pos n)) < n
-rest_below (pos v) n some = omega (arith, some)
-rest_below (negsuc v) n some = omega (arith, some)
+-- what is noted
+pub notes_clear : (notes : Noted) (spot : Spot) (pack : PackValue) → SpotFits spot →
+    IsPack pack.slots pack.cursor → AreClear (notes_of notes spot pack)
+notes_clear notes spot pack at is =
+    all_joined (λ (packet : Down). IsClear for_play (of_play packet))
+    (cond notes.placing (placing spot ∷ []) []) (cond notes.resend (window_packets pack) [])
+    (places notes.placing) (resends notes.resend)
+  where
+    places : (b : Bool) → AreClear (cond b (placing spot ∷ []) [])
+    places true = (placing_clear spot at, tt)
+    places false = tt
 
--- a wave is half its period high at most
-wave_within : (v : ℤ) (half : ℕ) → 0 < half → wave v half ≤ half
-wave_within v half some = let below = rest_below v (2 * half) (omega (arith, some)) in
-    omega (arith, below)
-
--- players enter not far up
-pub spawn_low : (terrain : Terrain) → spawn_height terrain < 100
-spawn_low Flat = omega arith
-spawn_low (Hills seed) =
-    let x = wave_within (pos 8 +ℤ pos (seed % 128)) 64 (omega arith) in
-    let z = wave_within (pos 8 +ℤ pos (seed / 128 % 96)) 48 (omega arith) in
-    omega (arith, x, z)
-spawn_low Isle = omega arith
-
--- the place where they enter fits
-pub spawn_fits : (terrain : Terrain) → SpotFits (spawn_spot terrain)
-spawn_fits terrain = let low = spawn_low terrain in
-    record {
-      x = omega arith;
-      y = omega (arith, low);
-      z = omega arith;
-      yaw = omega arith;
-      pitch =
-          omega arith;
-    }
+    resends : (b : Bool) → AreClear (cond b (window_packets pack) [])
+    resends true = window_clear pack is
+    resends false = tt
 
 -- the kind of level is a short text
 pub level_short : (terrain : Terrain) → IsShort 10 (level terrain)

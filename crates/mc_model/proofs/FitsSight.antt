@@ -1,93 +1,53 @@
 -- What can be shown so that its packets fit, and that all that is projected can.
-use Rattle.std.proofs.Common.{◌≡◌, ℕ, zero, suc, ◌+◌, ◌*◌, ◌^◌, ◌<◌, ◌≤◌, Bool, true, false, cond}
-use Rattle.std.proofs.Common.{List, [], ◌∷◌, ◌++◌, map, length, refl, sym, subst, ◌∙◌, arith}
-use Rattle.std.specs.Prelude.{unsigned_abs}
+use Rattle.std.proofs.Common.{◌≡◌, ℕ, zero, suc, ◌+◌, ◌*◌, ◌<◌, ◌≤◌, Bool, true, false, cond, List}
+use Rattle.std.proofs.Common.{[], ◌∷◌, map, length, Option, Some, refl, sym, subst, ap, ◌∙◌, arith}
+use Rattle.std.specs.Prelude.{unsigned_abs, replicate}
 use Rattle.std.specs.Int.{w32, int_div_euclid}
-use Rattle.std.specs.List.{filter, flat_map, range_with_len, AllByRecursion}
+use Rattle.std.specs.List.{filter, filter_map, cons_option, range_with_len, AllByRecursion}
+use Rattle.std.specs.Option.{unwrap_or}
 use Rattle.std.specs.declared.cmp.Ordering.{Ordering}
 use Rattle.std.specs.declared.cmp.Ordering.TheVariants.{Less, Equal, Greater}
-use Rattle.std.specs.Ordering.{nat_cmp}
-use Rattle.std.specs.Cmp.{IsTotalOrder, nat_cmp_total}
-use Rattle.std.specs.FinMap.{FinMap, IsAntisymmetric, nat_cmp-IsAntisymmetric, entries, empty}
-use Rattle.std.specs.FinMap.{from_entries, contains_key, len, len-empty, len-entries, len-insert}
-use Rattle.std.specs.FinMap.{entries-insert}
+use Rattle.std.specs.Ordering.{nat_cmp, int_cmp}
+use Rattle.std.specs.Cmp.{IsTotalOrder, nat_cmp_total, int_cmp_total}
+use Rattle.std.specs.FinMap.{IsAntisymmetric, nat_cmp-IsAntisymmetric, entries, empty}
+use Rattle.std.specs.FinMap.{int_cmp-IsAntisymmetric, from_entries, contains_key, len, len-empty}
+use Rattle.std.specs.FinMap.{len-entries, len-insert, entries-insert}
 use Rattle.std.specs.FinMap.Entries.{put, by_order}
 use Rattle.std.proofs.lemmas.List.{nil_from_length, length-map}
 use Rattle.std.proofs.lemmas.Int.{ints}
 use lib.IntN.{ℤ, pos, negsuc, ◌+ℤ◌, ◌-ℤ◌}
-use lib.Signed.{◌≤ℤ◌, mag}
+use lib.Signed.{◌≤ℤ◌}
 use mir.Val.{SFits}
 use Rattle.mc_land.specs.Places.{Place, place_cmp}
-use Rattle.mc_fields.specs.declared.position.Spot.{Spot}
-use Rattle.mc_model.specs.Sight.{Sight, nothing_seen}
-use Rattle.mc_view.specs.Views.{run_of, view_of, column_of_spot, view_size}
-use Rattle.mc_model.specs.World.{World, Player, players, column_in, spot_of, view_in, project}
 use Rattle.mc_land.proofs.Orders.{places_total, exact_places}
-use Rattle.mc_model.proofs.Projections.{column_sizes}
+use Rattle.mc_slots.specs.declared.slot.Slot.TheVariants as slots
+use Rattle.mc_slots.specs.declared.pile.Pile.TheVariants.{Empty, Full}
+use Rattle.mc_slots.specs.Pile.{slot_of}
+use Rattle.mc_windows.specs.Pack.{pack_size}
+use Rattle.mc_entities.specs.declared.entity.Entity.{Entity}
+use Rattle.mc_entities.specs.declared.entity.EntityKind.{EntityKind}
+use Rattle.mc_entities.specs.declared.entity.EntityKind.TheVariants as kinds
+use Rattle.mc_entities.specs.Kinds.{IsKind, is_dropped}
+use Rattle.mc_entities.specs.Folk.{dropped_in}
+use Rattle.mc_view.specs.Views.{run_of, view_of, column_of_spot, view_size}
+use Rattle.mc_model.specs.Sight.{Seen, Sight, nothing_seen}
+use Rattle.mc_model.specs.World.{World, Player, players, column_in, spot_of, pack_of, view_in}
+use Rattle.mc_model.specs.World.{is_in_sight, seen_as, seen_of, project}
+pub use Rattle.mc_model.proofs.AllFacts.{all_joined, all_mapped, all_filtered, few_filtered}
+use Rattle.mc_model.proofs.AllFacts.{all_flat, all_range, all_chosen}
+pub use Rattle.mc_model.proofs.ThingsFit.{SpotFits}
+use Rattle.mc_model.proofs.ThingsFit.{EntityFits, ThingsFit}
+use Rattle.mc_model.proofs.ThingFacts.{spot_fits, pack_fits}
+use Rattle.mc_model.proofs.Projections.{column_sizes, column_small}
 use Rattle.mc_model.proofs.FitsList.{PairFits}
-use Rattle.mc_model.proofs.FitsChunk.{PlaceFits, ColumnFits}
-
--- ---- all of a list
-
--- of two lists, one behind the other
-pub all_joined : {A : Type 0} (P : A → Type 0) (xs ys : List A) → AllByRecursion P xs →
-    AllByRecursion P ys
-    → AllByRecursion P (xs ++ ys)
-all_joined P [] ys a b = b
-all_joined P (x ∷ xs) ys a b = (a.0, all_joined P xs ys a.1 b)
-
--- of what is made of each
-pub all_mapped : {A B : Type 0} (P : A → Type 0) (Q : B → Type 0) (f : A → B) →
-    ((x : A) → P x → Q (f x)) → (xs : List A)
-    → AllByRecursion P xs → AllByRecursion Q (map f xs)
-all_mapped P Q f each [] a = tt
-all_mapped P Q f each (x ∷ xs) a = (each x a.0, all_mapped P Q f each xs a.1)
-
--- of those that pass a test
-pub all_filtered : {A : Type 0} (P : A → Type 0) (test : A → Bool) (xs : List A) →
-    AllByRecursion P xs
-    → AllByRecursion P (filter test xs)
-all_filtered P test [] a = tt
-all_filtered {A} P test (x ∷ xs) a = step (test x) (all_filtered P test xs a.1)
-  where
-    step : (t : Bool) → AllByRecursion P (filter test xs) →
-        AllByRecursion P (cond t (x ∷ filter test xs) (filter test xs))
-    step true rest = (a.0, rest)
-    step false rest = rest
-
--- no more pass a test than there are
-pub few_filtered : {A : Type 0} (test : A → Bool) (xs : List A) →
-    length (filter test xs) ≤ length xs
-few_filtered test [] = omega arith
-few_filtered {A} test (x ∷ xs) = step (test x) (few_filtered test xs)
-  where
-    step : (t : Bool) → length (filter test xs) ≤ length xs
-        → length (cond t (x ∷ filter test xs) (filter test xs)) ≤ suc (length xs)
-    step true le = omega (arith, le)
-    step false le = omega (arith, le)
-
--- of what each is spread out to
-all_flat : {A B : Type 0} (P : A → Type 0) (Q : B → Type 0) (f : A → List B) →
-    ((x : A) → P x → AllByRecursion Q (f x))
-    → (xs : List A) → AllByRecursion P xs → AllByRecursion Q (flat_map f xs)
-all_flat P Q f each [] a = tt
-all_flat P Q f each (x ∷ xs) a = all_joined Q (f x) (flat_map f xs) (each x a.0)
-    (all_flat P Q f each xs a.1)
-
--- of numbers in a row
-all_range : (P : ℕ → Type 0) (a n : ℕ) → ((i : ℕ) → i < a + n → P i) →
-    AllByRecursion P (range_with_len a n)
-all_range P a zero each = tt
-all_range P a (suc n) each = (
-  each a (omega arith),
-  all_range P (a + 1) n
-      (λ i less. each i (omega (arith, less))),
-)
+use Rattle.mc_model.proofs.FitsChunk.{IsNear, ColumnFits}
+use Rattle.mc_model.proofs.FitsSlots.{SlotFits, pile_slot_fits, piles_fit}
 
 -- ---- the entries of a map that was made of a list
 
 module _ {K X : Type 0} (R : K → K →
     Ordering) (o : IsTotalOrder R) (exact : IsAntisymmetric R) (P : K × X → Type 0) where
+  -- of what is put in
   all_put : (k : K) (v : X) → P (k, v) → (es : List (K × X)) → AllByRecursion P es →
       AllByRecursion P (put R k v es)
   all_put k v p [] a = (p, tt)
@@ -99,6 +59,7 @@ module _ {K X : Type 0} (R : K → K →
         | Greater ↦ λ t. (a.0, all_put k v p es a.1)
       ] refl
 
+  -- of what a map is made of
   all_entries : (es : List (K × X)) → AllByRecursion P es →
       AllByRecursion P (entries (from_entries {R = R} es))
   all_entries [] a =
@@ -122,59 +83,116 @@ few_entries R o (e ∷ es) = rw (len-insert o (from_entries es) e.0 e.1)
     (few_inserted (contains_key (from_entries es) e.0) (len (from_entries es)) (length es)
     (few_entries R o es))
 
+-- and so has that of some
+few_shown : {K X : Type 0} (R : K → K → Ordering) (o : IsTotalOrder R) (most : ℕ)
+    (es : List (K × X)) → length es ≤ most → length (entries (from_entries {R = R} es)) ≤ most
+few_shown R o most es few =
+    let le = few_entries R o es in
+    let size = rw len-entries at le in
+    omega (arith, size, few)
+
 -- ---- places of a view
 
--- numbers within three millions fit 32 bits
-mag_small : (z : ℤ) → negsuc 3000000 ≤ℤ z → z ≤ℤ pos 3000000 → mag z < 2 ^ 31
-mag_small (pos n) low high = omega (arith, ints, high)
-mag_small (negsuc n) low high = omega (arith, ints, low)
+-- numbers within 1,875,010
+abs_near : (z : ℤ) → negsuc 1875009 ≤ℤ z → z ≤ℤ pos 1875010 → unsigned_abs z ≤ 1875010
+abs_near (pos n) low high = omega (arith, ints, high)
+abs_near (negsuc n) low high = omega (arith, ints, low)
 
--- a number near one that fits does
+-- a number near one that is not far
 near_small : (m : ℤ) (d i : ℕ) → unsigned_abs m ≤ 1875001 → d ≤ 8 → i < 2 * d + 1 →
-    SFits w32 ((m -ℤ pos d) +ℤ pos i)
-near_small (pos n) d i small few less =
-    record {
-      sfits = mag_small ((pos n -ℤ pos d) +ℤ pos i) (omega (arith, ints, small, few, less))
-          (omega (arith, ints, small, few, less));
-    }
-near_small (negsuc n) d i small few less =
-    record {
-      sfits = mag_small ((negsuc n -ℤ pos d) +ℤ pos i)
-          (omega (arith, ints, small, few, less)) (omega (arith, ints, small, few, less));
-    }
+    unsigned_abs ((m -ℤ pos d) +ℤ pos i) ≤ 1875010
+near_small (pos n) d i small few less = abs_near ((pos n -ℤ pos d) +ℤ pos i)
+    (omega (arith, ints, small, few, less)) (omega (arith, ints, small, few, less))
+near_small (negsuc n) d i small few less = abs_near ((negsuc n -ℤ pos d) +ℤ pos i)
+    (omega (arith, ints, small, few, less)) (omega (arith, ints, small, few, less))
 
--- and so do all in a row
+-- and so are all in a row
 run_small : (m : ℤ) (d : ℕ) → unsigned_abs m ≤ 1875001 → d ≤ 8
-    → AllByRecursion (λ (z : ℤ). SFits w32 z) (run_of (m -ℤ pos d) (2 * d + 1))
+    → AllByRecursion (λ (z : ℤ). unsigned_abs z ≤ 1875010) (run_of (m -ℤ pos d) (2 * d + 1))
 run_small m d small few =
     let P : ℕ → Type 0 = λ i. i < 2 * d + 1 in
-    all_mapped P (λ (z : ℤ). SFits w32 z) (λ (i : ℕ). (m -ℤ pos d) +ℤ pos i)
+    all_mapped P (λ (z : ℤ). unsigned_abs z ≤ 1875010) (λ (i : ℕ). (m -ℤ pos d) +ℤ pos i)
     (λ i less. near_small m d i small few less)
     (range_with_len 0 (2 * d + 1)) (all_range P 0 (2 * d + 1) (λ i less. omega (arith, less)))
 
 -- and all places of a view
-view_small : (middle : Place) (d : ℕ) → unsigned_abs middle.0 ≤ 1875001 →
+view_near : (middle : Place) (d : ℕ) → unsigned_abs middle.0 ≤ 1875001 →
     unsigned_abs middle.1 ≤ 1875001 → d ≤ 8
-    → AllByRecursion PlaceFits (view_of middle d)
+    → AllByRecursion IsNear (view_of middle d)
 unfolding view_of
-view_small middle d at_x at_z few =
-    all_flat (λ (z : ℤ). SFits w32 z) PlaceFits
+view_near middle d at_x at_z few =
+    all_flat (λ (z : ℤ). unsigned_abs z ≤ 1875010) IsNear
     (λ (x : ℤ). map (λ (z : ℤ). (x, z)) (run_of (middle.1 -ℤ pos d) (2 * d + 1)))
-    (λ x fits. all_mapped (λ (z : ℤ). SFits w32 z) PlaceFits (λ (z : ℤ). (x, z))
-    (λ z also. record { x = fits; z = also })
+    (λ x near. all_mapped (λ (z : ℤ). unsigned_abs z ≤ 1875010) IsNear (λ (z : ℤ). (x, z))
+    (λ z also. record { x = near; z = also })
     (run_of (middle.1 -ℤ pos d) (2 * d + 1)) (run_small middle.1 d at_z few))
     (run_of (middle.0 -ℤ pos d) (2 * d + 1)) (run_small middle.0 d at_x few)
 
 -- the number of a place's column
-column_near : (x : ℤ) → unsigned_abs x ≤ 960000000 →
+pub column_near : (x : ℤ) → unsigned_abs x ≤ 960000016 →
     unsigned_abs (int_div_euclid x (pos 512)) ≤ 1875001
 column_near (pos n) small = omega (arith, small)
 column_near (negsuc n) small = omega (arith, small)
 
 -- how far is seen at most
-size_few : (cap : ℕ) (byte : ℤ) → cap ≤ 8 → view_size cap byte ≤ 8
+pub size_few : (cap : ℕ) (byte : ℤ) → cap ≤ 8 → view_size cap byte ≤ 8
 size_few cap (pos n) few = omega (arith, few)
 size_few cap (negsuc n) few = omega arith
+
+-- ---- dropped items that are seen
+
+-- a dropped item that packets can carry
+pub record SeenFits (e : ℤ × Seen) : Type 0 where
+  pub eid : SFits w32 e.0
+  pub spot : SpotFits e.1.spot
+  pub item : SlotFits e.1.item
+
+-- numbers of entities fit 32 bits
+eid_fits : (eid : ℤ) → pos 1 ≤ℤ eid → eid ≤ℤ pos 2147483647 → SFits w32 eid
+eid_fits (pos n) low high = record { sfits = omega (arith, ints, high) }
+eid_fits (negsuc n) low high = absurd (omega (arith, ints, low))
+
+-- an entity that fits is seen as such
+seen_fits : (e : Entity) (kind : EntityKind) → EntityFits e → IsKind kind → (row : ℤ × Seen) →
+    seen_as e kind ≡ Some row → SeenFits row
+seen_fits e (kinds.Player uuid held) fits is row found = absurd cc
+seen_fits e kinds.Mob fits is row found = absurd cc
+seen_fits e (kinds.Dropped item born) fits is row found =
+    let shown : ℤ × Seen =
+    (e.eid, record { spot = e.spot; head = e.spot.yaw; item = slot_of (Full item) }) in
+    let fit : SeenFits (
+      e.eid,
+      record {
+        spot = e.spot;
+        head = e.spot.yaw;
+        item = slot_of (Full item);
+      },
+    ) = record {
+      eid = eid_fits e.eid fits.low fits.high;
+      spot = fits.spot;
+      item = pile_slot_fits (Full item) is;
+    } in
+    subst SeenFits (ap (λ (o : Option (ℤ × Seen)). unwrap_or o row) found) fit
+
+-- the same number of dropped items, and one that is seen or not
+seen_step : (e : Entity) (kind : EntityKind) (rows : List (ℤ × Seen)) (drops : List Entity) →
+    length rows ≤ length drops →
+    (length (cons_option (seen_as e kind) rows)
+    ≤ length (cond (is_dropped kind) (e ∷ drops) drops))
+    × (length rows ≤ length (cond (is_dropped kind) (e ∷ drops) drops))
+seen_step e (kinds.Player uuid held) rows drops le = (le, le)
+seen_step e kinds.Mob rows drops le = (le, le)
+seen_step e (kinds.Dropped item born) rows drops le = (omega (arith, le), omega (arith, le))
+
+-- no more are seen than there are dropped items
+seen_few : (test : Entity → Bool) (es : List Entity) →
+    length (filter_map seen_of (filter test es)) ≤ dropped_in es
+seen_few test [] = omega arith
+seen_few test (e ∷ es) =
+    let le = seen_step e e.kind (filter_map seen_of (filter test es))
+    (filter (λ (x : Entity). is_dropped x.kind) es) (seen_few test es) in
+    elim (test e) as (λ t. length (filter_map seen_of (cond t (e ∷ filter test es)
+    (filter test es))) ≤ dropped_in (e ∷ es)) [ true ↦ le.0 | false ↦ le.1 ]
 
 -- ---- sights
 
@@ -183,60 +201,74 @@ pub record SightFits (p : Sight) : Type 0 where
   pub pairs : AllByRecursion PairFits (entries p.pairs)
   pub few : length (entries p.pairs) ≤ 50
   pub columns : AllByRecursion ColumnFits (entries p.columns)
+  pub entities : AllByRecursion SeenFits (entries p.entities)
+  pub seen : length (entries p.entities) ≤ 4210
+  pub pack : AllByRecursion SlotFits p.pack
+  pub slots : length p.pack ≡ pack_size
 
--- what is known of a player's spot
-pub record SpotFits (spot : Spot) : Type 0 where
-  pub x : unsigned_abs spot.x ≤ 960000000
-  pub y : unsigned_abs spot.y ≤ 131072
-  pub z : unsigned_abs spot.z ≤ 960000000
-  pub yaw : spot.yaw < 256
-  pub pitch : spot.pitch < 256
-
--- a map of no entries has few
-at_most_none : (m : FinMap nat_cmp (List ℕ)) → len m ≤ 0 → length (entries m) ≤ 50
-at_most_none m le = let size = rw len-entries at le in omega (arith, size)
+-- empty slots fit
+empty_fit : (n : ℕ) → AllByRecursion SlotFits (replicate n slots.Empty)
+empty_fit zero = tt
+empty_fit (suc n) = (pile_slot_fits Empty tt, empty_fit n)
 
 -- nothing that is seen fits
 pub nothing_fits : SightFits nothing_seen
 nothing_fits = record {
   pairs = all_entries nat_cmp nat_cmp_total nat_cmp-IsAntisymmetric PairFits [] tt;
-  few = at_most_none empty (few_entries {X = List ℕ} nat_cmp nat_cmp_total []);
+  few = few_shown {X = List ℕ} nat_cmp nat_cmp_total 50 [] (omega arith);
   columns = all_entries place_cmp places_total exact_places ColumnFits [] tt;
+  entities = all_entries int_cmp int_cmp_total int_cmp-IsAntisymmetric SeenFits [] tt;
+  seen = few_shown {X = Seen} int_cmp int_cmp_total 4210 [] (omega arith);
+  pack = empty_fit pack_size;
+  slots = refl;
 }
 
 -- a player that the list of players can name
 abbrev pub NamedFits : Player → Type 0
 NamedFits other = PairFits (other.uuid, other.name)
 
--- a projection fits, where its players are few and fit and its spot does
+-- a projection fits, where its players are few and fit and its things do
 pub project_fits : (w : World) (p : Player) → AllByRecursion NamedFits (players w) →
     length (players w) ≤ 50 → w.cap ≤ 8
-    → SpotFits (spot_of w p) → SightFits (project w p)
+    → ThingsFit w.things → SightFits (project w p)
 unfolding project
-project_fits w p named few near at =
-    let pairs : List (ℕ × List ℕ) = map (λ (other : Player). (other.uuid, other.name))
-    (players w) in
-    let places = view_small (column_of_spot (spot_of w p)) (view_size w.cap p.view_byte)
+project_fits w p named few near fits =
+    let at = spot_fits w p fits in
+    let pack = pack_fits w p fits in
+    let places = view_near (column_of_spot (spot_of w p)) (view_size w.cap p.view_byte)
     (column_near (spot_of w p).x at.x) (column_near (spot_of w p).z at.z)
     (size_few w.cap p.view_byte near) in
-    let le = few_entries nat_cmp nat_cmp_total
-    (map (λ (other : Player). (other.uuid, other.name)) (players w)) in
-    let size = rw len-entries at le in
     record {
       pairs = all_entries nat_cmp nat_cmp_total nat_cmp-IsAntisymmetric PairFits
           (map (λ (other : Player). (other.uuid, other.name)) (players w))
           (all_mapped NamedFits PairFits (λ (other : Player). (other.uuid, other.name))
           (λ other fits. fits) (players w) named);
-      few = omega (
-        arith,
-        size,
-        few,
-        length-map {B =
-            ℕ × List ℕ} (players w) (λ (other : Player). (other.uuid, other.name)),
-      );
+      few = few_shown nat_cmp nat_cmp_total 50
+          (map (λ (other : Player). (other.uuid, other.name)) (players w)) (omega (
+            arith,
+            few,
+            length-map {B = ℕ × List ℕ} (players w)
+                (λ (other : Player). (other.uuid, other.name)),
+          ));
       columns = all_entries place_cmp places_total exact_places ColumnFits
           (map (λ (place : Place). (place, column_in w place)) (view_in w p))
-          (all_mapped PlaceFits ColumnFits (λ (place : Place). (place, column_in w place))
-          (λ place fits. record { place = fits; sizes = column_sizes w place })
+          (all_mapped IsNear ColumnFits (λ (place : Place). (place, column_in w place))
+          (λ place near. record {
+            near = near;
+            sizes = column_sizes w place;
+            states = column_small w place fits;
+          })
           (view_in w p) places);
+      entities = all_entries int_cmp int_cmp_total int_cmp-IsAntisymmetric SeenFits
+          (filter_map seen_of (filter (is_in_sight w p) w.things.entities))
+          (all_chosen EntityFits SeenFits seen_of
+          (λ x row fits found. seen_fits x x.kind fits fits.kind row found)
+          (filter (is_in_sight w p) w.things.entities)
+          (all_filtered EntityFits (is_in_sight w p) w.things.entities fits.entities));
+      seen = few_shown int_cmp int_cmp_total 4210
+          (filter_map seen_of (filter (is_in_sight w p) w.things.entities))
+          (let le = seen_few (is_in_sight w p) w.things.entities in
+          omega (arith, le, fits.dropped));
+      pack = piles_fit (pack_of w p).slots pack.are_piles;
+      slots = length-map (pack_of w p).slots slot_of ∙ pack.size;
     }

@@ -2,7 +2,8 @@
 use Rattle.std.proofs.Common.{ℕ, ◌+◌, ◌^◌, ◌<◌, ◌≤◌, List, ◌++◌, length, arith}
 use Rattle.std.specs.Int.{Width, byte_len, w32}
 use Rattle.std.proofs.lemmas.List.{length-append}
-use lib.IntN.{ℤ, pos}
+use Rattle.std.specs.Prelude.{unsigned_abs}
+use lib.IntN.{ℤ, pos, negsuc}
 use mir.Val.{SFits}
 use Rattle.mc_nbt.specs.Numbers.{IsWide, number_spelling}
 use Rattle.mc_fields.specs.Varint.{varint_spelling}
@@ -57,3 +58,8 @@ spelling_payload entry fits few =
     let all = length-append (varint_spelling (pos entry.row.id))
     (entry.row.format.spelling entry.fields) in
     record { some = omega (arith, id.0, all); counted = omega (arith, id.1, all, few) }
+
+-- numbers of 31 bits and a sign
+pub number_fits : (z : ℤ) → unsigned_abs z < 2 ^ 31 → SFits w32 z
+number_fits (pos n) small = record { sfits = omega (arith, small) }
+number_fits (negsuc n) small = record { sfits = omega (arith, small) }

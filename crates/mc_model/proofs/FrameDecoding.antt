@@ -24,7 +24,7 @@ use Rattle.mc_model.specs.Talk.{ClientRequest, nothing, greets, replies, ends, e
 use Rattle.mc_model.specs.Talk.{request_of, farewell, refused, accepted}
 use Rattle.mc_model.specs.Step.{Turn, still, turn, after, when_open, disconnect, refusal, entered}
 use Rattle.mc_model.specs.Step.{answer_login, acted, act_by, perform, on_frame, on_frames, on_fault}
-use Rattle.mc_model.specs.Step.{read_to, on_cut, on_bytes}
+use Rattle.mc_model.specs.Step.{with_new_player, read_to, on_cut, on_bytes}
 use Rattle.mc_model.proofs.Beside.{beside_onward}
 use Rattle.mc_model.proofs.Sessions.{found_id}
 use Rattle.mc_model.proofs.Acting.{Suits, suits}
@@ -34,8 +34,10 @@ use Rattle.mc_model.proofs.SoundActs.{act_fits}
 use Rattle.mc_model.proofs.StageDecoding.{Hands, hands_same, hands_start, hands_onward}
 use Rattle.mc_model.proofs.StageDecoding.{hands_status, hands_done, hands_welcome, hands_refusal}
 use Rattle.mc_model.proofs.TurnDecoding.{TurnDecodes, turn_less, turn_still, turn_put, turn_hand}
-use Rattle.mc_model.proofs.TurnDecoding.{turn_close, turn_farewell, no_room, welcome_of}
+use Rattle.mc_model.proofs.TurnDecoding.{turn_close, turn_farewell, turn_kept, no_room}
 use Rattle.mc_model.proofs.TurnDecoding.{entered_fits}
+use Rattle.mc_model.proofs.ThingsKept.{new_player_fits}
+use Rattle.mc_model.proofs.Welcome.{welcome_of}
 
 -- ---- one frame
 
@@ -52,9 +54,12 @@ login_decodes o k w s name None is sound e f at =
     let welcome = welcome_of w s.protocol name is in
     let P : Stage → Type 0 = λ stage. Hands o stage stages.Play
     (accepted (offline_uuid name) name) in
-    turn_hand o k w (w.eids + 1) s (entered w s name) (accepted (offline_uuid name) name) sound e
+    turn_hand o k w (with_new_player w.terrain name w.things) s (entered w s name)
+    (entered w s name)
+    (accepted (offline_uuid name) name) sound e
     (found_id k w.sessions s e) (entered_fits w s name welcome f)
-    (omega (arith, welcome.numbers)) (λ plays. inr welcome.room)
+    (new_player_fits w.terrain name w.things welcome.numbers sound.things)
+    (λ plays. inr welcome.room)
     (subst P (sym at) (hands_welcome o (offline_uuid name) name welcome.named))
     (λ same. absurd cc)
 
@@ -80,14 +85,17 @@ acted_decodes : (o : Option Decoder) (k : ℕ) (w : World) (s : Session) (p : Pl
 acted_decodes o k w s p packet None did sound e f there at =
     turn_farewell o k w s causes.BadNumber sound e f
 acted_decodes o k w s p packet (Some v) did sound e f there at =
-    let a = act_fits w v s p packet f there did in
+    let a = act_fits w v s p packet f there sound.things did in
     let P : World → Type 0 = λ u. TurnDecodes o ⊥ s.rest k w s (still u) in
     let Q : Stage → Type 0 = λ stage. Hands o s.stage stage [] in
     elim a.is [
-      | inl same ↦ subst P (sym same) (play_still o k w s sound e at)
+      | inl same ↦ subst P (sym same)
+          (turn_less o (s.stage ≡ stages.Hand) ⊥ s.rest k w s
+          (still (record w { things = a.things })) (play_not_hand s.stage at)
+          (turn_kept o k w a.things s sound e a.fit))
       | inr other ↦ subst P (sym other)
-          (turn_put o ⊥ s.rest k w w.eids s a.session [] sound e (a.stays.id
-          ∙ found_id k w.sessions s e) a.stays.fits sound.eids
+          (turn_put o ⊥ s.rest k w a.things s a.session [] sound e (a.stays.id
+          ∙ found_id k w.sessions s e) a.stays.fits a.fit
           (λ plays. inl (sym f.plays ∙ ap is_play at))
           (subst Q (sym a.stays.stage) (hands_same o s.stage))
           (λ same. absurd (play_not_hand s.stage at (sym a.stays.stage ∙ same))))
@@ -111,16 +119,16 @@ performed_decodes o k w s nothing sound e f fit answer choice =
     turn_less o (s.stage ≡ stages.Hand) ⊥ s.rest k w s (still w) choice (turn_still o k w s sound e)
 performed_decodes o k w s (greets protocol stage) sound e f fit answer choice =
     let P : Stage → Type 0 = λ at. Hands o at stage [] in
-    turn_put o ⊥ s.rest k w w.eids s (record s { stage = stage; protocol = protocol }) [] sound e
+    turn_put o ⊥ s.rest k w w.things s (record s { stage = stage; protocol = protocol }) [] sound e
     (found_id k w.sessions s e)
-    (still_fits s stage protocol s.cause s.owed (fit.1 ∙ sym (ap is_play fit.0)) f) sound.eids
+    (still_fits s stage protocol s.cause s.owed (fit.1 ∙ sym (ap is_play fit.0)) f) sound.things
     (no_room w s (record s { stage = stage; protocol = protocol }) (sym f.plays ∙ ap is_play fit.0))
     (subst P (sym fit.0) (hands_start o stage choice.0 choice.1))
     (λ same. absurd (first_not_hand stage choice.0 same))
 performed_decodes o k w s (replies packet) sound e f fit answer choice =
     let P : Stage → Type 0 = λ at. Hands o at at (of_status packet ∷ []) in
-    turn_hand o k w w.eids s s (of_status packet ∷ []) sound e
-    (found_id k w.sessions s e) f sound.eids (λ plays. inl plays)
+    turn_hand o k w w.things s s s (of_status packet ∷ []) sound e
+    (found_id k w.sessions s e) f sound.things (λ plays. inl plays)
     (subst P (sym fit) (hands_status o packet answer))
     (not_hand s.stage stages.Status fit (λ clash. absurd cc))
 performed_decodes o k w s (ends packet) sound e f fit answer choice =
@@ -173,17 +181,17 @@ fault_decodes o k w s None sound e = turn_still o k w s sound e
 fault_decodes o k w s (Some fault) sound e =
     let P : Option Session → Type 0 =
     λ t. TurnDecodes o (s.stage ≡ stages.Hand) s.rest k w s
-    (when_open t w (λ (s : Session). turn w
+    (when_open t w (λ (s : Session). turn w s
     (disconnect s (causes.Frame fault) (farewell s.stage (causes.Frame fault))))) in
     subst P (sym e) (step (is_closed s.stage))
   where
     step : (b : Bool)
         → TurnDecodes o (s.stage ≡ stages.Hand) s.rest k w s (if b then still w else
-        turn w (disconnect s (causes.Frame fault) (farewell s.stage (causes.Frame fault))))
+        turn w s (disconnect s (causes.Frame fault) (farewell s.stage (causes.Frame fault))))
     step true = turn_still o k w s sound e
     step false = turn_less o ⊥ (s.stage ≡ stages.Hand) s.rest k w s
-        (turn w (disconnect s (causes.Frame fault) (farewell s.stage (causes.Frame fault)))) absurd
-        (turn_farewell o k w s (causes.Frame fault) sound e
+        (turn w s (disconnect s (causes.Frame fault) (farewell s.stage (causes.Frame fault))))
+        absurd (turn_farewell o k w s (causes.Frame fault) sound e
         (all_found SessionFits k w.sessions s sound.fits e))
 
 -- ---- one after another
@@ -243,9 +251,9 @@ cut_decodes o k w s count cut sound e f frames rest first =
     let N : Type 0 = s.stage ≡ stages.Hand in
     let P : ℕ → Type 0 = λ n. TurnDecodes o (WaitsOn s.stage cut.frames) cut.rest k w s
     (after (on_frames v n cut.frames) (λ (u : World). on_fault u n cut.fault)) in
-    let read = turn_put o N cut.rest k w w.eids s (read_to s cut count) [] sound e
+    let read = turn_put o N cut.rest k w w.things s (read_to s cut count) [] sound e
     (found_id k w.sessions s e)
-    (rest_fits s cut.rest (s.before + (count - length cut.rest)) rest f) sound.eids
+    (rest_fits s cut.rest (s.before + (count - length cut.rest)) rest f) sound.things
     (λ plays. inl plays) (hands_same o s.stage) (λ at. (at, refl)) in
     let framed = frames_decode o k cut.frames v
     (read_to s cut count) read.sound read.there frames first in

@@ -13,12 +13,13 @@ use Rattle.mc_model.specs.declared.stage.Stage.{Stage}
 use Rattle.mc_model.specs.declared.stage.Stage.TheVariants as stages
 use Rattle.mc_model.specs.Names.{offline_uuid}
 use Rattle.mc_model.specs.Sight.{Sight}
+use Rattle.mc_model.specs.Things.{Things}
 use Rattle.mc_model.specs.World.{World, Session, Player, found, put, is_play, is_closed}
 use Rattle.mc_model.specs.Packets.{Sent, of_login, of_play, bytes_of, played}
 use Rattle.mc_model.specs.Texts.{farewell_text}
 use Rattle.mc_model.specs.Talk.{as_chat, farewell, refused, accepted}
 use Rattle.mc_model.specs.Step.{Handing, hand, mark_closed, disconnect, Turn, still, turn, due}
-use Rattle.mc_model.specs.Step.{showing, flush, flush_to}
+use Rattle.mc_model.specs.Step.{after_leaving, showing, flush, flush_to}
 use Rattle.mc_model.proofs.Beside.{Beside, beside_same, beside_onward, beside_put, found_put}
 
 -- ---- stages
@@ -165,7 +166,7 @@ pub record Goes (k : ℕ) (w : World) (s : Session) (t : Turn) : Type 0 where
 pub goes_still : (k : ℕ) (w : World) (s : Session) → found k w.sessions ≡ Some s →
     Goes k w s (still w)
 goes_still k w s e = record {
-  beside = beside_same k w w.eids;
+  beside = beside_same k w w.things;
   session = s;
   there = e;
   done =
@@ -173,14 +174,14 @@ goes_still k w s e = record {
   owes = owes_same s s refl;
 }
 
-pub goes_put : (k : ℕ) (w : World) (eids : ℕ) (s t : Session) (ps : List Sent) →
+pub goes_put : (k : ℕ) (w : World) (things : Things) (s t : Session) (ps : List Sent) →
     found k w.sessions ≡ Some s → t.id ≡ k → Done s t ps → Owes s t ps →
-    Goes k w s (record { world = put (record w { eids = eids }) t; handed = ps })
-goes_put k w eids s t ps e is d owes = record {
-  beside = beside_onward k w (record w { eids = eids }) (put (record w { eids = eids }) t)
-      (beside_same k w eids) (beside_put k (record w { eids = eids }) t is);
+    Goes k w s (record { world = record (put w t) { things = things }; handed = ps })
+goes_put k w things s t ps e is d owes = record {
+  beside = beside_onward k w (put w t) (record (put w t) { things = things })
+      (beside_put k w t is) (beside_same k (put w t) things);
   session = t;
-  there = found_put k (record w { eids = eids }) s t is e;
+  there = found_put k w s t is e;
   done = d;
   owes = owes;
 }
@@ -206,26 +207,28 @@ hand_cases s packets P fits much =
     else record { session = record (mark_closed s causes.Backlog) { owed = [] }; handed = [] }))
     [ true ↦ fits | false ↦ much ] refl
 
--- handing out to a connection that was open
-pub goes_hand : (k : ℕ) (w : World) (eids : ℕ) (s t : Session) (packets : List Sent) →
+-- handing out to a connection that was open, where the player of r leaves if there is none then
+pub goes_hand : (k : ℕ) (w : World) (things : Things) (s r t : Session) (packets : List Sent) →
     found k w.sessions ≡ Some s → t.id ≡ k → t.owed ≡ s.owed → is_closed s.stage ≡ false →
     ((owed : List ℕ) → Done s (record t { owed = owed }) packets) →
-    Goes k w s (turn (record w { eids = eids }) (hand t packets))
-goes_hand k w eids s t packets e is owed open_ done =
-    hand_cases t packets (λ h. Goes k w s (turn (record w { eids = eids }) h))
-    (λ fits. goes_put k w eids s (record t { owed = t.owed ++ bytes_of packets }) packets e is
+    Goes k w s (turn (record w { things = things }) r (hand t packets))
+goes_hand k w things s r t packets e is owed open_ done =
+    hand_cases t packets (λ h. Goes k w s (turn (record w { things = things }) r h))
+    (λ fits. goes_put k w (after_leaving r.player t.player things) s
+    (record t { owed = t.owed ++ bytes_of packets }) packets e is
     (done (t.owed ++ bytes_of packets))
     (adds (ap (λ (o : List ℕ). o ++ bytes_of packets) owed)))
-    (λ much. goes_put k w eids s (record (mark_closed t causes.Backlog) { owed = [] }) [] e is
+    (λ much. goes_put k w (after_leaving r.player None things) s
+    (record (mark_closed t causes.Backlog) { owed = [] }) [] e is
     (shut_for causes.Backlog open_ refl refl refl (wordless_last s.stage causes.Backlog refl))
     (empties refl refl refl))
 
 -- closing it
 pub goes_close : (k : ℕ) (w : World) (s : Session) (cause : Cause) (packets : List Sent) →
     found k w.sessions ≡ Some s → s.id ≡ k → is_closed s.stage ≡ false →
-    IsLast s.stage cause packets → Goes k w s (turn w (disconnect s cause packets))
+    IsLast s.stage cause packets → Goes k w s (turn w s (disconnect s cause packets))
 goes_close k w s cause packets e is open_ last =
-    goes_hand k w w.eids s (mark_closed s cause) packets e is refl open_
+    goes_hand k w w.things s s (mark_closed s cause) packets e is refl open_
     (λ owed. shut_for cause open_ refl refl refl last)
 
 -- ---- a tick

@@ -1,16 +1,23 @@
 -- What is made of one session at its place is what the definitions make of the world.
-use Rattle.std.proofs.Common.{◌≡◌, ℕ, true, false, List, [], get_or, set, refl, sym, ap, ◌∙◌}
+use Rattle.std.proofs.Common.{◌≡◌, ℕ, true, false, List, [], ◌∷◌, get_or, set, refl, sym, ap, ◌∙◌}
 use Rattle.std.specs.Prelude.{Option, Some, None, length}
+use Rattle.std.specs.Option.{option_and_then}
 use Rattle.std.proofs.lemmas.List.{set-get_or}
 use Rattle.mc_frame.specs.declared.fault.FrameFault.{FrameFault}
+use Rattle.mc_model.specs.declared.cause.Cause.{Cause}
 use Rattle.mc_model.specs.declared.cause.Cause.TheVariants as causes
-use Rattle.mc_model.specs.World.{World, Session, found, put, players, is_closed}
-use Rattle.mc_model.specs.Packets.{bytes_of}
+use Rattle.mc_model.specs.Things.{Things}
+use Rattle.mc_model.specs.World.{World, Session, Player, found, put, players, is_closed}
+use Rattle.mc_model.specs.Packets.{Sent, of_status, bytes_of}
+use Rattle.mc_model.specs.Talk.{ClientRequest, nothing, greets, replies, ends, enters, acts, wrong}
 use Rattle.mc_model.specs.Talk.{request_of, farewell}
-use Rattle.mc_model.specs.Step.{Handing, disconnect, Turn, still, turn, perform, when_open}
-use Rattle.mc_model.specs.Step.{on_frame, on_fault}
+use Rattle.mc_model.specs.Step.{Handing, hand, mark_closed, disconnect, after_leaving, Turn, still}
+use Rattle.mc_model.specs.Step.{turn, perform}
+use Rattle.mc_model.specs.Step.{when_open, on_frame, on_fault, gone, changed, player_in, depart}
+use Rattle.mc_model.specs.Handled.{handled}
 use Rattle.mc_model.specs.Orderly.{Rise, IsPlaced}
 use Rattle.mc_model.proofs.RiseFacts.{at_place}
+use Rattle.mc_model.proofs.Handing.{hand_cases}
 
 -- what a step makes of a session, and the bytes that it is handed
 pub record IsHanding (h : Handing) (s : Session) (bytes : List ℕ) : Type 0 where
@@ -21,6 +28,13 @@ pub record IsHanding (h : Handing) (s : Session) (bytes : List ℕ) : Type 0 whe
 pub record IsTurn (t : Turn) (w : World) (bytes : List ℕ) : Type 0 where
   pub world : w ≡ t.world
   pub handed : bytes ≡ bytes_of t.handed
+
+-- another session at a place, where the player of the one before leaves if it has none
+abbrev pub placed_world : World → ℕ → Session → Session → World
+placed_world w i before new = record w {
+  sessions = set w.sessions i new;
+  things = after_leaving before.player new.player w.things;
+}
 
 -- ---- putting a session in its place
 
@@ -47,15 +61,107 @@ pub found_placed : (k i : ℕ) (ss : List Session) (old s : Session) → IsPlace
 found_placed k i ss old s p is e = let there : Some s ≡ Some (get_or ss i old) = sym e ∙ p.is old in
     let same : s ≡ get_or ss i old = cc in same ∙ sym is
 
+-- ---- turns at a place
+
+-- a turn puts what it makes of a session in its place, and the player leaves that it has no more
+pub turn_placed : (w : World) (k i high : ℕ) (old before : Session) (h : Handing) →
+    IsPlaced k i w.sessions → Rise 0 w.sessions high → old ≡ get_or w.sessions i old →
+    h.session.id ≡ old.id →
+    (turn w before h).world ≡ placed_world w i before h.session
+turn_placed w k i high old before h p r is same =
+    ap (λ (v : World). record v {
+      things = after_leaving before.player h.session.player w.things;
+    }) (put_placed w k i high old h.session p r is same)
+
 -- what a handing makes of a session at its place is the turn
 pub placed_turn : (w : World) (k i high : ℕ) (old new : Session) (h : Handing) (bytes : List ℕ) →
     IsPlaced k i w.sessions → Rise 0 w.sessions high → old ≡ get_or w.sessions i old →
     new.id ≡ old.id →
-    IsHanding h new bytes → IsTurn (turn w h) (record w { sessions = set w.sessions i new }) bytes
+    IsHanding h new bytes → IsTurn (turn w old h) (placed_world w i old new) bytes
 placed_turn w k i high old new h bytes p r is same made = record {
-  world = sym (put_placed w k i high old new p r is same) ∙ ap (put w) made.session;
+  world = ap (placed_world w i old) made.session
+      ∙ sym (turn_placed w k i high old old h p r is
+      (ap (λ (s : Session). s.id) (sym made.session) ∙ same));
   handed = made.handed;
 }
+
+-- a connection at its place departs with its player
+pub depart_placed : (w : World) (k i high : ℕ) (old : Session) (cause : Cause) →
+    IsPlaced k i w.sessions → Rise 0 w.sessions high → old ≡ get_or w.sessions i old →
+    depart w k cause ≡ record w {
+      sessions = set w.sessions i (gone cause old);
+      things = after_leaving old.player None w.things;
+    }
+depart_placed w k i high old cause p r is =
+    let named : (get_or w.sessions i old).id ≡ k = p.named old in
+    let there : found k w.sessions ≡ Some old = p.is old ∙ ap Some (sym is) in
+    let player : player_in k w.sessions ≡ old.player =
+    ap (λ (o : Option Session). option_and_then (λ (s : Session). s.player) o) there in
+    let sessions : (changed w k (gone cause)).sessions ≡ set w.sessions i (gone cause old) =
+    at_place k (gone cause) 0 high w.sessions i old p.within named r
+    ∙ ap (λ (s : Session). set w.sessions i (gone cause s)) (sym is) in
+    λ j. record w {
+      sessions = sessions j;
+      things = after_leaving (player j) None w.things;
+    }
+
+-- a player that stays does not leave
+pub stays_on : (o : Option Player) (things : Things) → after_leaving o o things ≡ things
+stays_on None things = refl
+stays_on (Some p) things = refl
+
+-- ---- what a frame comes to
+
+-- nothing but its connection is changed, and at most its player leaves
+abbrev pub IsAlone : ClientRequest → Type 0
+IsAlone nothing = Unit {0}
+IsAlone (greets protocol stage) = Unit {0}
+IsAlone (replies packet) = Unit {0}
+IsAlone (ends packet) = Unit {0}
+IsAlone (enters name) = ⊥
+IsAlone (acts packet) = ⊥
+IsAlone (wrong fault) = Unit {0}
+
+-- what is made of the session is then the turn
+pub handled_turn : (w : World) (s : Session) (x : ClientRequest) → IsAlone x → put w s ≡ w →
+    perform w s x ≡ turn w s (handled s x)
+handled_turn w s nothing alone same = λ j. record {
+  world = record (sym same j) { things = sym (stays_on s.player w.things) j };
+  handed = [];
+}
+handled_turn w s (greets protocol stage) alone same = λ j. record {
+  world = record (put w (record s { stage = stage; protocol = protocol })) {
+    things = sym (stays_on s.player w.things) j;
+  };
+  handed = [];
+}
+handled_turn w s (replies packet) alone same = refl
+handled_turn w s (ends packet) alone same = refl
+handled_turn w s (enters name) alone same = absurd alone
+handled_turn w s (acts packet) alone same = absurd alone
+handled_turn w s (wrong fault) alone same = refl
+
+hand_id : (s : Session) (packets : List Sent) → (hand s packets).session.id ≡ s.id
+hand_id s packets = hand_cases s packets (λ h. h.session.id ≡ s.id) (λ fits. refl) (λ much. refl)
+
+-- it keeps the number of the session
+pub handled_id : (s : Session) (x : ClientRequest) → (handled s x).session.id ≡ s.id
+handled_id s nothing = refl
+handled_id s (greets protocol stage) = refl
+handled_id s (replies packet) = hand_id s (of_status packet ∷ [])
+handled_id s (ends packet) = hand_id (mark_closed s causes.Done) (of_status packet ∷ [])
+handled_id s (enters name) = refl
+handled_id s (acts packet) = refl
+handled_id s (wrong fault) = hand_id (mark_closed s (causes.Packet fault))
+    (farewell s.stage (causes.Packet fault))
+
+-- so a frame that comes to it puts that in its place
+pub handled_placed : (w : World) (k i high : ℕ) (s : Session) (x : ClientRequest) → IsAlone x →
+    IsPlaced k i w.sessions → Rise 0 w.sessions high → s ≡ get_or w.sessions i s →
+    (perform w s x).world ≡ placed_world w i s (handled s x).session
+handled_placed w k i high s x alone p r is =
+    ap (λ (t : Turn). t.world) (handled_turn w s x alone (put_same w k i high s p r is))
+    ∙ turn_placed w k i high s s (handled s x) p r is (handled_id s x)
 
 turn_along : (t u : Turn) (w : World) (bytes : List ℕ) → t ≡ u → IsTurn t w bytes → IsTurn u w bytes
 turn_along t u w bytes e made = record {
@@ -94,9 +200,9 @@ pub fault_turn : (w : World) (k i high : ℕ) (old new : Session) (fault : Frame
     new.id ≡ old.id → is_closed old.stage ≡ false →
     IsHanding (disconnect old (causes.Frame fault) (farewell old.stage (causes.Frame fault)))
     new bytes →
-    IsTurn (on_fault w k (Some fault)) (record w { sessions = set w.sessions i new }) bytes
+    IsTurn (on_fault w k (Some fault)) (placed_world w i old new) bytes
 fault_turn w k i high old new fault bytes p r is same open_ made =
-    let e = open_at w k i old (λ s. turn w
+    let e = open_at w k i old (λ s. turn w s
     (disconnect s (causes.Frame fault) (farewell s.stage (causes.Frame fault)))) p is open_ in
     turn_along _ _ _ bytes (sym e) (placed_turn w k i high old new
     (disconnect old (causes.Frame fault) (farewell old.stage (causes.Frame fault))) bytes p r is

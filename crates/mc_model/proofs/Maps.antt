@@ -11,13 +11,14 @@ use Rattle.std.specs.FinMap.{FinMap, IsAntisymmetric, find, is_sorted, get, inse
 use Rattle.std.specs.FinMap.{entries_sorted, contains_key, get-entries, get-insert, get-remove}
 use Rattle.std.specs.FinMap.{same_map}
 use Rattle.std.specs.FinMap.Entries.{below_all, find_tied}
+use Rattle.mc_model.specs.Replica.{altered, altered_from}
 
 -- the parts of a test that both must pass
-first : (a b : Bool) → T (a && b) → T a
+pub first : (a b : Bool) → T (a && b) → T a
 first true b h = tt
 first false b h = absurd h
 
-second : (a b : Bool) → T (a && b) → T b
+pub second : (a b : Bool) → T (a && b) → T b
 second true b h = h
 second false b h = absurd h
 
@@ -27,7 +28,7 @@ less Less h = refl
 less Equal h = absurd h
 less Greater h = absurd h
 
-equal : (r : Ordering) → is_eq r ≡ true → r ≡ Equal
+pub equal : (r : Ordering) → is_eq r ≡ true → r ≡ Equal
 equal Less e = absurd cc
 equal Equal e = refl
 equal Greater e = absurd cc
@@ -42,7 +43,7 @@ module _ {K X : Type 0} {R : K → K → Ordering} (o : IsTotalOrder R) where
       ∙ find_below q es (second _ _ h)
 
   -- a key that ties with the first is not found again
-  find_again : (q : K) (e : K × X) (es : List (K × X)) → T (is_sorted R (e ∷ es)) →
+  pub find_again : (q : K) (e : K × X) (es : List (K × X)) → T (is_sorted R (e ∷ es)) →
       eq_by_cmp R q e.0 ≡ true → find R q es ≡ None
   find_again q e es h t = sym (find_tied R o q e.0 (equal _ t) es) ∙ find_below e.0 es (first _ _ h)
 
@@ -162,19 +163,109 @@ module _ {K X : Type 0} {R : K → K → Ordering} (o : IsTotalOrder R) (same : 
 abbrev pub is_without : {K X : Type 0} {R : K → K → Ordering} → FinMap R X → K × X → Bool
 is_without n e = not (contains_key n e.0)
 
+-- what is at a key once the keys that another map has not are taken out
+abbrev pub kept : {X : Type 0} → Option X → Option X → Option X
+kept old None = None
+kept old (Some w) = old
+
+-- and once the entries whose keys are new are put in
+abbrev pub joined : {X : Type 0} → Option X → Option X → Option X
+joined old None = None
+joined None (Some w) = Some w
+joined (Some v) (Some w) = Some v
+
+-- every entry passes it
+abbrev pub always : {A : Type 0} → A → Bool
+always a = true
+
+-- so nothing is left out
+filter_always : {A : Type 0} (xs : List A) → filter always xs ≡ xs
+filter_always [] = refl
+filter_always (x ∷ xs) = ap (λ ys. x ∷ ys) (filter_always xs)
+
 module _ {K X : Type 0} {R : K → K → Ordering} (o : IsTotalOrder R) (same : IsAntisymmetric R) where
-  -- keys that are gone are taken out and those that came put in; where values of shared keys are
-  -- equal, that is the other map
-  pub remade_by_keys : (m n : FinMap R X) →
-      ((q : K) (v w : X) → get m q ≡ Some v → get n q ≡ Some w → v ≡ w) →
-      fold put_in (fold take_out m (filter (is_without n) (entries m)))
-      (filter (is_without m) (entries n)) ≡ n
-  remade_by_keys m n stays = remade o same m n (is_without n) (is_without m)
-      (λ q. cases q (get m q) (get n q) refl refl)
+  -- what is at a key once the keys that another map has not are taken out
+  pub get_kept : (m n : FinMap R X) (q : K) →
+      get (fold take_out m (filter (is_without n) (entries m))) q ≡ kept (get m q) (get n q)
+  get_kept m n q =
+      get-changes o same take_out none_of
+      (record { at = λ m e k. get-remove o m e.0 k }) (is_without n) q (entries m) m
+      (entries_sorted m)
+      ∙ ap (λ (old : Option X). changed_by (is_without n) none_of q old (get m q))
+      (sym (get-entries m q)) ∙ cases (get m q) (get n q) refl
     where
-      cases : (q : K) (old new : Option X) → get m q ≡ old → get n q ≡ new →
-          remade_at (is_without n) (is_without m) q old new ≡ new
-      cases q None None a b = refl
-      cases q None (Some w) a b = rw a refl
-      cases q (Some v) None a b = rw b refl
-      cases q (Some v) (Some w) a b = rw (a, b) (ap (λ (x : X). Some x) (stays q v w a b))
+      cases : (old new : Option X) → get n q ≡ new →
+          changed_by (is_without n) none_of q old old ≡ kept old new
+      cases None None b = refl
+      cases None (Some w) b = refl
+      cases (Some v) None b = rw b refl
+      cases (Some v) (Some w) b = rw b refl
+
+  -- and once the entries whose keys are new are put in
+  pub get_joined : (m n : FinMap R X) (q : K) →
+      get (fold put_in (fold take_out m (filter (is_without n) (entries m)))
+      (filter (is_without m) (entries n))) q ≡ joined (get m q) (get n q)
+  get_joined m n q =
+      get-changes o same put_in Some
+      (record { at = λ m e k. get-insert o m e.0 e.1 k }) (is_without m) q (entries n)
+      (fold take_out m (filter (is_without n) (entries m))) (entries_sorted n)
+      ∙ ap (λ (new : Option X). changed_by (is_without m) Some q new
+      (get (fold take_out m (filter (is_without n) (entries m))) q)) (sym (get-entries n q))
+      ∙ ap (changed_by (is_without m) Some q (get n q)) (get_kept m n q)
+      ∙ cases (get m q) (get n q) refl
+    where
+      cases : (old new : Option X) → get m q ≡ old →
+          changed_by (is_without m) Some q new (kept old new) ≡ joined old new
+      cases None None a = refl
+      cases None (Some w) a = rw a refl
+      cases (Some v) None a = refl
+      cases (Some v) (Some w) a = rw a refl
+
+  -- a map whose keys another has too, with all entries of that put in, is that
+  pub all_put_in : (m n : FinMap R X) → ((q : K) → get n q ≡ None → get m q ≡ None) →
+      fold put_in m (entries n) ≡ n
+  all_put_in m n none = same_map o same _ n (λ q. at q ∙ cases q (get n q) refl)
+    where
+      at : (q : K) → get (fold put_in m (entries n)) q ≡ changed_by always Some q (get n q)
+          (get m q)
+      at q = ap (λ (es : List (K × X)). get (fold put_in m es) q) (sym (filter_always (entries n)))
+          ∙ get-changes o same put_in Some
+          (record { at = λ m e k. get-insert o m e.0 e.1 k }) always q (entries n) m
+          (entries_sorted n)
+          ∙ ap (λ (new : Option X). changed_by always Some q new (get m q)) (sym (get-entries n q))
+
+      cases : (q : K) (new : Option X) → get n q ≡ new → changed_by always Some q new (get m q)
+          ≡ new
+      cases q None b = none q b
+      cases q (Some w) b = refl
+
+  -- putting in what is there changes nothing
+  pub put_there : (m : FinMap R X) (k : K) (v : X) → get m k ≡ Some v → insert m k v ≡ m
+  put_there m k v there =
+      same_map o same _ m (λ q. get-insert o m k v q ∙ cases q (eq_by_cmp R q k) refl)
+    where
+      cases : (q : K) (b : Bool) → eq_by_cmp R q k ≡ b → cond b (Some v) (get m q) ≡ get m q
+      cases q true t = sym (ap (get m) (same q k (equal _ t)) ∙ there)
+      cases q false t = refl
+
+  -- what is put in at a key is what stands there
+  pub get_put : (m : FinMap R X) (k : K) (v : X) → get (insert m k v) k ≡ Some v
+  get_put m k v = get-insert o m k v k
+      ∙ ap (λ r. cond (is_eq r) (Some v) (get m k)) (tied_itself o k)
+
+  -- and what was put in there before is gone
+  pub put_twice : (m : FinMap R X) (k : K) (v w : X) → insert (insert m k v) k w ≡ insert m k w
+  put_twice m k v w = same_map o same _ (insert m k w) (λ q. get-insert o (insert m k v) k w q
+      ∙ ap (cond (eq_by_cmp R q k) (Some w)) (get-insert o m k v q)
+      ∙ cases (eq_by_cmp R q k) (get m q) ∙ sym (get-insert o m k w q))
+    where
+      cases : (b : Bool) (old : Option X) → cond b (Some w) (cond b (Some v) old)
+          ≡ cond b (Some w) old
+      cases true old = refl
+      cases false old = refl
+
+  -- what was put in, changed
+  pub altered_put : (m : FinMap R X) (k : K) (v : X) (f : X → X) →
+      altered (insert m k v) k f ≡ insert m k (f v)
+  altered_put m k v f = ap (altered_from (insert m k v) k f) (get_put m k v)
+      ∙ put_twice m k v (f v)

@@ -11,8 +11,8 @@ use Rattle.mc_model.specs.declared.cause.Cause.TheVariants as causes
 use Rattle.mc_model.specs.World.{World, Session, found, is_closed}
 use Rattle.mc_model.specs.Packets.{Sent, frame_of, bytes_of}
 use Rattle.mc_model.specs.Step.{Event, joined, came, left, broke, ticked, took, forgot, Handing}
-use Rattle.mc_model.specs.Step.{Outcome, silent, joining, is_new, gone, changed, is_done, at_tick}
-use Rattle.mc_model.specs.Step.{flush, on_bytes, step}
+use Rattle.mc_model.specs.Step.{Outcome, silent, joining, is_new, gone, changed, depart, is_done}
+use Rattle.mc_model.specs.Step.{at_tick, flush, on_bytes, step}
 use Rattle.mc_model.specs.Run.{to, owed_of, owed_in, taken_at, lost_at}
 use Rattle.mc_model.specs.Orderly.{AreApart}
 use Rattle.mc_model.proofs.Sessions.{same_number, other_number, found_before, found_filter}
@@ -86,7 +86,7 @@ other_bytes_owing j k w bytes s ne there =
 
 -- an event by which a connection is gone for a cause, and what it was owed is lost
 record IsParting (w : World) (e : Event) (j : ℕ) (cause : Cause) : Type 0 where
-  made : step w e ≡ silent (changed w j (gone cause))
+  made : step w e ≡ silent (depart w j cause)
   takes_none : (k : ℕ) → taken_at k w e ≡ []
   loses_all : (k : ℕ) → lost_at k w e ≡ cond (j == k) (owed_in k w) []
 
@@ -112,7 +112,7 @@ parting_owing j k w e cause s parts there = elim (cases_eq j k) [
       (parts.loses_all k ∙ ap (λ (b : Bool). cond b (owed_in k w) []) (other_number j k ne))
 ]
   where
-    after : found k (step w e).world.sessions ≡ found k (changed w j (gone cause)).sessions
+    after : found k (step w e).world.sessions ≡ found k (depart w j cause).sessions
     after = ap (λ (o : Outcome). found k o.world.sessions) parts.made
 
     none : to k (step w e).out ≡ []

@@ -1,21 +1,41 @@
--- What a projection shows: each column as it is in the world, with all its cells. Two projections
--- of one land follow one another, and what a projection depends on.
-use Rattle.std.proofs.Common.{◌≡◌, cond, List, [], ◌∷◌, map, Option, Some, None, refl, sym, ap}
-use Rattle.std.proofs.Common.{◌∙◌}
+-- What a projection shows: each column as it is in the world, with all its cells, dropped items and
+-- a pack that packets can tell. Two projections of one terrain follow one another.
+use Rattle.std.proofs.Common.{◌≡◌, ℕ, ◌<◌, ◌≤◌, T, Bool, true, false, cond, List, [], ◌∷◌, map}
+use Rattle.std.proofs.Common.{length, Option, Some, None, refl, sym, ap, subst, ◌∙◌, arith}
+use Rattle.std.specs.Prelude.{unsigned_abs, int_le, slice_index_or}
+use Rattle.std.specs.List.{All, AllByRecursion, filter, filter_map}
+use Rattle.std.specs.Cmp.{int_cmp_total}
 use Rattle.std.specs.Option.{unwrap_or}
 use Rattle.std.specs.declared.cmp.Ordering.{Ordering}
 use Rattle.std.specs.declared.cmp.Ordering.TheVariants.{Less, Equal, Greater}
-use Rattle.std.specs.Ordering.{is_eq}
+use Rattle.std.specs.Ordering.{is_eq, int_cmp}
 use Rattle.std.specs.FinMap.{IsAntisymmetric, find, get, get-empty, get-from_entries}
-use Rattle.std.proofs.lemmas.List.FromFn.{length-map-range_with_len}
+use Rattle.std.proofs.lemmas.List.{length-map}
+use Rattle.std.proofs.lemmas.List.FromFn.{length-map-range_with_len, get_or-map-range_with_len}
+use Rattle.std.proofs.lemmas.Int.{ints}
+use lib.IntN.{ℤ, pos, negsuc}
+use lib.Signed.{◌≤ℤ◌}
 use Rattle.mc_column.specs.Sizes.{cells, squares}
 use Rattle.mc_column.specs.Cells.{ColumnValue, HasSizes}
 use Rattle.mc_land.specs.Places.{Place, place_cmp}
-use Rattle.mc_land.specs.Land.{states_of, biomes_of}
-use Rattle.mc_model.specs.Sight.{nothing_seen}
-use Rattle.mc_model.specs.Delta.{Follows}
-use Rattle.mc_model.specs.World.{World, Player, column_in, view_in, project}
+use Rattle.mc_land.specs.declared.terrain.Terrain.{Terrain}
+use Rattle.mc_land.specs.Land.{state_at, biomes_of}
 use Rattle.mc_land.proofs.Orders.{places_total, exact_places}
+use Rattle.mc_slots.specs.declared.slot.Slot.{Slot}
+use Rattle.mc_slots.specs.declared.pile.Pile.TheVariants.{Full}
+use Rattle.mc_slots.specs.Pile.{slot_of}
+use Rattle.mc_windows.specs.Pack.{pack_size}
+use Rattle.mc_entities.specs.declared.entity.Entity.{Entity}
+use Rattle.mc_entities.specs.declared.entity.EntityKind.{EntityKind}
+use Rattle.mc_entities.specs.declared.entity.EntityKind.TheVariants as kinds
+use Rattle.mc_model.specs.Sight.{Seen, nothing_seen}
+use Rattle.mc_model.specs.Replica.{is_32_bits}
+use Rattle.mc_model.specs.Delta.{IsSeen, IsTold, Follows}
+use Rattle.mc_model.specs.World.{World, Player, pack_of, column_in, view_in, is_in_sight, seen_as}
+use Rattle.mc_model.specs.World.{seen_of, project}
+use Rattle.mc_model.proofs.AllFacts.{all_filtered, all_chosen}
+use Rattle.mc_model.proofs.ThingsFit.{EntityFits, ThingsFit}
+use Rattle.mc_model.proofs.ThingFacts.{pack_fits, state_small}
 
 -- ---- the columns of a projection
 
@@ -49,34 +69,148 @@ column_sizes w place = record {
       length-map-range_with_len _ 0 squares;
 }
 
--- and so has one that is shown
+-- and each state of them has 16 bits
+pub column_small : (w : World) (place : Place) → ThingsFit w.things →
+    All (λ state. state < 65536) (column_in w place).states
+column_small w place fits k d less =
+    let f : ℕ → ℕ = λ i. state_at w.terrain w.things.edits (place, i) in
+    let size = length-map-range_with_len f 0 cells in
+    let is : slice_index_or (column_in w place).states k d ≡ f k =
+    get_or-map-range_with_len f 0 cells k k d (omega (arith, less, size)) (omega arith) in
+    rw is (state_small w (place, k) fits)
+
+-- one that is shown has all its cells
 pub project_sizes : (w : World) (p : Player) (place : Place) (column : ColumnValue) →
     get (project w p).columns place ≡ Some column → HasSizes column
 project_sizes w p place column found =
     rw (projected_column w p place column found) (column_sizes w place)
 
+-- and its states have 16 bits
+project_states : (w : World) (p : Player) → ThingsFit w.things → (place : Place)
+    (column : ColumnValue) → get (project w p).columns place ≡ Some column →
+    All (λ state. state < 65536) column.states
+project_states w p fits place column found =
+    rw (projected_column w p place column found) (column_small w place fits)
+
+-- ---- the dropped items of a projection
+
+-- what holds of the values of all entries holds of one that is found
+found_holds : {K X : Type 0} (R : K → K → Ordering) (P : X → Type 0) (q : K) (es : List (K × X))
+    (v : X) → AllByRecursion (λ e. P e.1) es → find R q es ≡ Some v → P v
+found_holds R P q [] v a found = absurd cc
+found_holds {X = X} R P q (e ∷ es) v a found =
+    elim (is_eq (R q e.0)) as (λ b. cond b (Some e.1) (find R q es) ≡ Some v → P v) [
+      | true ↦ λ f. subst P (ap (λ (o : Option X). unwrap_or o v) f) a.0
+      | false ↦ λ f. found_holds R P q es v a.1 f
+    ] found
+
+-- a test of order passes
+in_order : (a b : ℤ) → a ≤ℤ b → int_le a b ≡ true
+in_order a b le = passed (int_le a b) le.le
+  where
+    passed : (b : Bool) → T b → b ≡ true
+    passed true h = refl
+    passed false h = absurd h
+
+-- numbers of a spot are within 32 bits
+in_32_bits : (n : ℤ) → unsigned_abs n ≤ 960000016 → is_32_bits n ≡ true
+in_32_bits (pos n) small =
+    rw (
+      in_order (negsuc 2147483647) (pos n) (omega (arith, ints)),
+      in_order (pos n) (pos 2147483647) (omega (arith, ints, small)),
+    ) refl
+in_32_bits (negsuc n) small =
+    rw (
+      in_order (negsuc 2147483647) (negsuc n) (omega (arith, ints, small)),
+      in_order (negsuc n) (pos 2147483647) (omega (arith, ints)),
+    ) refl
+
+-- an entity that fits is seen where packets can tell it
+seen_told : (e : Entity) (kind : EntityKind) → EntityFits e → (row : ℤ × Seen) →
+    seen_as e kind ≡ Some row → IsSeen row.1
+seen_told e (kinds.Player uuid held) fits row found = absurd cc
+seen_told e kinds.Mob fits row found = absurd cc
+seen_told e (kinds.Dropped item born) fits row found =
+    let told : IsSeen (record { spot = e.spot; head = e.spot.yaw; item = slot_of (Full item) }) =
+    record {
+      head = refl;
+      x = in_32_bits e.spot.x fits.spot.x;
+      y = in_32_bits e.spot.y (omega (arith, fits.spot.y));
+      z = in_32_bits e.spot.z fits.spot.z;
+    } in
+    subst IsSeen (ap (λ (o : Option (ℤ × Seen)). (unwrap_or o row).1) found) told
+
+-- each that is shown is one
+project_seen : (w : World) (p : Player) → ThingsFit w.things → (eid : ℤ) (e : Seen) →
+    get (project w p).entities eid ≡ Some e → IsSeen e
+unfolding project
+project_seen w p fits eid e found =
+    found_holds int_cmp IsSeen eid
+    (filter_map seen_of (filter (is_in_sight w p) w.things.entities)) e
+    (all_chosen EntityFits (λ (row : ℤ × Seen). IsSeen row.1) seen_of
+    (λ x row fits found. seen_told x x.kind fits row found)
+    (filter (is_in_sight w p) w.things.entities)
+    (all_filtered EntityFits (is_in_sight w p) w.things.entities fits.entities))
+    (sym (get-from_entries int_cmp_total
+    (filter_map seen_of (filter (is_in_sight w p) w.things.entities)) eid) ∙ found)
+
+-- ---- the pack of a projection
+
+-- the pack that is shown is that of the world
+pub projected_pack : (w : World) (p : Player) →
+    (project w p).pack ≡ map slot_of (pack_of w p).slots
+unfolding project
+projected_pack w p = refl
+
+-- and is of the size of packs
+project_slots : (w : World) (p : Player) → ThingsFit w.things →
+    length (project w p).pack ≡ pack_size
+project_slots w p fits = ap (λ (pack : List Slot). length pack) (projected_pack w p)
+    ∙ length-map (pack_of w p).slots slot_of ∙ (pack_fits w p fits).size
+
+-- ---- what packets can tell
+
+-- packets can tell a projection of a world whose things they can
+pub project_told : (w : World) (p : Player) → ThingsFit w.things → IsTold (project w p)
+project_told w p fits = record {
+  sizes = project_sizes w p;
+  states = project_states w p fits;
+  entities = project_seen w p fits;
+  pack = project_slots w p fits;
+}
+
+-- nothing that is seen is told
+nothing_told : IsTold nothing_seen
+nothing_told = record {
+  sizes = λ place column found. let none : get nothing_seen.columns place ≡ None =
+      get-empty place_cmp place in absurd cc;
+  states = λ place column found. let none : get nothing_seen.columns place ≡ None =
+      get-empty place_cmp place in absurd cc;
+  entities = λ eid e found. let none : get nothing_seen.entities eid ≡ None =
+      get-empty int_cmp eid in absurd cc;
+  pack = refl;
+}
+
 -- ---- one after another
 
--- projections of worlds with one land follow one another
-pub project_follows : (w v : World) (p q : Player) → w.terrain ≡ v.terrain → w.edits ≡ v.edits →
-    Follows (project w p) (project v q)
-project_follows w v p q terrain edits = record {
-  sizes = project_sizes v q;
-  stays = λ place old new before now. projected_column w p place old before ∙ same place
-      ∙ sym (projected_column v q place new now);
+-- projections of worlds with one terrain follow one another
+pub project_follows : (w v : World) (p q : Player) → w.terrain ≡ v.terrain → ThingsFit w.things →
+    ThingsFit v.things → Follows (project w p) (project v q)
+project_follows w v p q terrain before after = record {
+  old = project_told w p before;
+  new = project_told v q after;
+  biomes = λ place old new was is.
+      ap (λ (c : ColumnValue). c.biomes) (projected_column w p place old was)
+      ∙ ap (λ (land : Terrain). biomes_of land place) terrain
+      ∙ sym (ap (λ (c : ColumnValue). c.biomes) (projected_column v q place new is));
 }
-  where
-    same : (place : Place) → column_in w place ≡ column_in v place
-    same place = λ i. record {
-      states = states_of (terrain i) (edits i) place;
-      biomes =
-          biomes_of (terrain i) place;
-    }
 
 -- and each follows nothing
-pub nothing_follows : (v : World) (q : Player) → Follows nothing_seen (project v q)
-nothing_follows v q = record {
-  sizes = project_sizes v q;
-  stays = λ place old new before now. let none : get nothing_seen.columns place ≡ None =
+pub nothing_follows : (v : World) (q : Player) → ThingsFit v.things →
+    Follows nothing_seen (project v q)
+nothing_follows v q fits = record {
+  old = nothing_told;
+  new = project_told v q fits;
+  biomes = λ place old new was is. let none : get nothing_seen.columns place ≡ None =
       get-empty place_cmp place in absurd cc;
 }

@@ -10,9 +10,13 @@ use Rattle.mc_model.specs.declared.stage.Stage.TheVariants as stages
 use Rattle.mc_nbt.specs.Reading.{IsBytes}
 use Rattle.mc_model.specs.Packets.{Sent}
 use Rattle.mc_model.specs.Decoding.{decoder_of}
+use Rattle.mc_model.specs.Things.{Things}
 use Rattle.mc_model.specs.World.{World, Session, found, is_closed}
-use Rattle.mc_model.specs.Step.{mark_closed, gone, is_new, changed}
+use Rattle.mc_model.specs.Step.{mark_closed, gone, is_new, changed, depart, after_leaving}
+use Rattle.mc_model.specs.Step.{player_in}
 use Rattle.mc_model.proofs.Sessions.{found_map, some_none, one_some}
+use Rattle.mc_model.proofs.ThingsFit.{ThingsFit}
+use Rattle.mc_model.proofs.ThingsKept.{leaving_fits}
 use Rattle.mc_model.proofs.Sound.{SessionFits, still_fits, closed_fits, Sound}
 use Rattle.mc_model.proofs.SoundPut.{sound_mapped}
 use Rattle.mc_model.proofs.StageDecoding.{DecodesAt, AreDecoded, Hands, at_decoded, hands_same}
@@ -46,19 +50,20 @@ pub all_changed : (P : Session → Type 0) (f : Session → Session) → ((s : S
 all_changed P f each [] a = tt
 all_changed P f each (s ∷ ss) a = (each s a.0, all_changed P f each ss a.1)
 
--- each connection changed, and was handed something that it can be
+-- each connection changed, and was handed something that it can be, and things changed
 pub kept_mapped : (k : ℕ) (w : World) (f : Session →
-    Session) (came : List ℕ) (earlier packets : List Sent) → ((s : Session) → (f s).id ≡ s.id)
+    Session) (things : Things) (came : List ℕ) (earlier packets : List Sent) →
+    ((s : Session) → (f s).id ≡ s.id)
     → ((s : Session) → StillWaits s (f s))
     → ((s : Session) → found k w.sessions ≡ Some s →
     Hands (decoder_of came) s.stage (f s).stage packets)
     → (found k w.sessions ≡ None → packets ≡ []) → Sound w → Kept k w came earlier
-    → Kept k (record w { sessions = map f w.sessions }) came (earlier ++ packets)
-kept_mapped k w f came earlier packets keeps still_waits hands none sound kept =
+    → Kept k (record w { sessions = map f w.sessions; things = things }) came (earlier ++ packets)
+kept_mapped k w f things came earlier packets keeps still_waits hands none sound kept =
     step (found k w.sessions) refl
   where
     v : World
-    v = record w { sessions = map f w.sessions }
+    v = record w { sessions = map f w.sessions; things = things }
 
     step : (o : Option Session) → found k w.sessions ≡ o → Kept k v came (earlier ++ packets)
     step None e =
@@ -103,18 +108,20 @@ one_keeps j f keeps s = step (s.id == j)
 
 -- a change that hands out nothing
 changed_steps : (k j : ℕ) (w : World) (f : Session →
-    Session) (came : List ℕ) (earlier : List Sent) → ((s : Session) → (f s).id ≡ s.id)
+    Session) (things : Things) (came : List ℕ) (earlier : List Sent) →
+    ((s : Session) → (f s).id ≡ s.id)
     → ((s : Session) → StillWaits s (f s))
     → ((s : Session) → is_some (f s).player ≡ true → is_some s.player ≡ true) →
     ((s : Session) → SessionFits s → SessionFits (f s))
-    → ((s : Session) → Hands (decoder_of came) s.stage (f s).stage []) → Sound w →
-    Kept k w came earlier
-    → Steps k (changed w j f) came (earlier ++ [])
-changed_steps k j w f came earlier keeps still_waits stays fits hands sound kept = record {
-  sound = sound_mapped w g (one_keeps j f keeps) (λ s. stays_one s (s.id == j))
-      (all_changed SessionFits g (λ s fit. fits_one s (s.id == j) fit) w.sessions sound.fits) sound;
-  kept = kept_mapped k w g came earlier [] (one_keeps j f keeps) (λ s. waits_one s (s.id == j))
-      (λ s e. hands_one s (s.id == j)) (λ none. refl) sound kept;
+    → ((s : Session) → Hands (decoder_of came) s.stage (f s).stage []) → ThingsFit things →
+    Sound w → Kept k w came earlier
+    → Steps k (record (changed w j f) { things = things }) came (earlier ++ [])
+changed_steps k j w f things came earlier keeps waits stays fits hands small sound kept = record {
+  sound = sound_mapped w g things (one_keeps j f keeps) (λ s. stays_one s (s.id == j))
+      (all_changed SessionFits g (λ s fit. fits_one s (s.id == j) fit) w.sessions sound.fits)
+      small sound;
+  kept = kept_mapped k w g things came earlier [] (one_keeps j f keeps)
+      (λ s. waits_one s (s.id == j)) (λ s e. hands_one s (s.id == j)) (λ none. refl) sound kept;
 }
   where
     g : Session → Session
@@ -135,17 +142,19 @@ changed_steps k j w f came earlier keeps still_waits stays fits hands sound kept
     hands_one s false = hands_same (decoder_of came) s.stage
 
     waits_one : (s : Session) (b : Bool) → StillWaits s (if b then f s else s)
-    waits_one s true = still_waits s
+    waits_one s true = waits s
     waits_one s false = λ at. (at, refl)
 
 -- a client that is gone
 pub gone_steps : (k j : ℕ) (w : World) (cause : Cause) (came : List ℕ) (earlier : List Sent) →
     Sound w → Kept k w came earlier
-    → Steps k (changed w j (gone cause)) came (earlier ++ [])
+    → Steps k (depart w j cause) came (earlier ++ [])
 gone_steps k j w cause came earlier sound kept =
-    changed_steps k j w (gone cause) came earlier (λ s. keeps s (is_closed s.stage))
+    changed_steps k j w (gone cause) (after_leaving (player_in j w.sessions) None w.things)
+    came earlier (λ s. keeps s (is_closed s.stage))
     (λ s. waits s (is_closed s.stage)) (λ s. stays s (is_closed s.stage))
-    (λ s f. fits s (is_closed s.stage) f) (λ s. hands s (is_closed s.stage)) sound kept
+    (λ s f. fits s (is_closed s.stage) f) (λ s. hands s (is_closed s.stage))
+    (leaving_fits (player_in j w.sessions) None w.things sound.things) sound kept
   where
     after : Session → Bool → Session
     after s b = if b then record s { owed = [] } else
@@ -177,7 +186,7 @@ pub took_steps : (k j n : ℕ) (w : World) (came : List ℕ) (earlier : List Sen
     → Steps k (changed w j (λ (s : Session). record s { owed = drop n s.owed })) came (earlier
     ++ [])
 took_steps k j n w came earlier sound kept =
-    changed_steps k j w (λ (s : Session). record s { owed = drop n s.owed }) came earlier
+    changed_steps k j w (λ (s : Session). record s { owed = drop n s.owed }) w.things came earlier
     (λ s. refl) (λ s at. (at, refl)) (λ s p. p)
     (λ s f. still_fits s s.stage s.protocol s.cause (drop n s.owed) refl f)
-    (λ s. hands_same (decoder_of came) s.stage) sound kept
+    (λ s. hands_same (decoder_of came) s.stage) sound.things sound kept

@@ -11,13 +11,14 @@ use Rattle.mc_model.specs.declared.cause.Cause.{Cause}
 use Rattle.mc_model.specs.declared.cause.Cause.TheVariants as causes
 use Rattle.mc_model.specs.World.{World, Session, found, is_closed}
 use Rattle.mc_model.specs.Step.{Event, joined, came, left, broke, ticked, took, forgot, Handing}
-use Rattle.mc_model.specs.Step.{mark_closed, joining, join, is_new, gone, changed, is_done, flush}
+use Rattle.mc_model.specs.Step.{mark_closed, joining, join, is_new, gone, changed, depart, is_done}
+use Rattle.mc_model.specs.Step.{flush}
 use Rattle.mc_model.specs.Step.{at_tick, on_bytes, step}
 use Rattle.mc_model.specs.Orderly.{Orderly, Rise, next_number}
 use Rattle.mc_model.proofs.RiseFacts.{joining_id, joined_rise, rise_filter}
 use Rattle.mc_model.proofs.Sessions.{other_number, found_map, found_behind, apart_map, rise_map}
 use Rattle.mc_model.proofs.Sessions.{apart_more, apart_filter, none_filtered}
-use Rattle.mc_model.proofs.Beside.{Beside, beside_changed}
+use Rattle.mc_model.proofs.Beside.{Beside, beside_same, beside_onward, beside_changed}
 use Rattle.mc_model.proofs.Handing.{flush_cases}
 use Rattle.mc_model.proofs.Frames.{bytes_beside}
 
@@ -88,13 +89,18 @@ orderly_join w k o = elim (is_new k w.last) as (λ b. is_new k w.last ≡ b →
 pub gone_beside : (k : ℕ) (w : World) (cause : Cause) → Beside k w (changed w k (gone cause))
 gone_beside k w cause = beside_changed k w (gone cause) (λ t same. gone_id cause t)
 
+-- and so does one that departs with its player
+pub depart_beside : (k : ℕ) (w : World) (cause : Cause) → Beside k w (depart w k cause)
+depart_beside k w cause = beside_onward k w (changed w k (gone cause)) (depart w k cause)
+    (gone_beside k w cause) (beside_same k (changed w k (gone cause)) _)
+
 pub orderly_step : (w : World) (e : Event) → Orderly w → Orderly (step w e).world
 unfolding step
 orderly_step w (joined k) o = orderly_join w k o
 orderly_step w (came k bytes) o = orderly_beside k w (on_bytes w k bytes).world
     (bytes_beside k w bytes) o
-orderly_step w (left k) o = orderly_beside k w _ (gone_beside k w causes.Gone) o
-orderly_step w (broke k) o = orderly_beside k w _ (gone_beside k w causes.Broke) o
+orderly_step w (left k) o = orderly_beside k w _ (depart_beside k w causes.Gone) o
+orderly_step w (broke k) o = orderly_beside k w _ (depart_beside k w causes.Broke) o
 orderly_step w ticked o = record {
   rising = rise_map (λ (s : Session). (flush (at_tick w) s).session) (flush_id (at_tick w)) 0
       (next_number w.last) w.sessions o.rising;
@@ -113,30 +119,19 @@ orderly_step w (forgot k) o = record {
       (o.fresh j new);
 }
 
--- ---- the land stays
+-- ---- the terrain stays
 
-pub record Lasts (w v : World) : Type 0 where
-  pub terrain : v.terrain ≡ w.terrain
-  pub edits : v.edits ≡ w.edits
-
-pub lasts_step : (w : World) (e : Event) → Lasts w (step w e).world
+pub terrain_step : (w : World) (e : Event) → (step w e).world.terrain ≡ w.terrain
 unfolding step
-lasts_step w (joined k) = elim (is_new k w.last) as
-    (λ b. Lasts w (if b then record w {
-      last = Some k;
-      sessions =
-          w.sessions ++ joining w k ∷ [];
-    } else w)) [
-      | true ↦ record { terrain = refl; edits = refl }
-      | false ↦ record { terrain = refl; edits = refl }
-    ]
-lasts_step w (came k bytes) = let b = bytes_beside k w bytes in
-    record { terrain = b.terrain; edits = b.edits }
-lasts_step w (left k) = record { terrain = refl; edits = refl }
-lasts_step w (broke k) = record { terrain = refl; edits = refl }
-lasts_step w ticked = record { terrain = refl; edits = refl }
-lasts_step w (took k n) = record { terrain = refl; edits = refl }
-lasts_step w (forgot k) = record { terrain = refl; edits = refl }
+terrain_step w (joined k) = elim (is_new k w.last) as
+    (λ b. (if b then record w { last = Some k; sessions = w.sessions ++ joining w k ∷ [] }
+    else w).terrain ≡ w.terrain) [ true ↦ refl | false ↦ refl ]
+terrain_step w (came k bytes) = (bytes_beside k w bytes).terrain
+terrain_step w (left k) = refl
+terrain_step w (broke k) = refl
+terrain_step w ticked = refl
+terrain_step w (took k n) = refl
+terrain_step w (forgot k) = refl
 
 -- ---- a number that is not new stays so
 

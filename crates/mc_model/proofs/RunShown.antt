@@ -31,7 +31,10 @@ use Rattle.mc_model.proofs.Handing.{shown_in, shown_from, Done, stayed, answered
 use Rattle.mc_model.proofs.Handing.{greeted, entered, shut_for, HasPlayer, has_done, not_both}
 use Rattle.mc_model.proofs.Handing.{flush_cases}
 use Rattle.mc_model.proofs.Frames.{IsKept}
-use Rattle.mc_model.proofs.RunEvents.{orderly_step, lasts_step, old_step}
+use Rattle.mc_model.proofs.RunEvents.{orderly_step, terrain_step, old_step}
+use Rattle.mc_model.proofs.ThingsFit.{ThingsFit}
+use Rattle.mc_model.proofs.ThingsKept.{new_things_fit}
+use Rattle.mc_model.proofs.ThingsRun.{things_step}
 use Rattle.mc_model.proofs.RunOrder.{orderly_new}
 use Rattle.mc_model.proofs.RunTurns.{tick_found, no_out, away, joins, arrives, each_step}
 
@@ -52,28 +55,29 @@ accepted_played uuid name = refl
 
 -- ---- what a client was shown
 
--- a sight that was that of some player, in a world with this land
-pub record Drawn (land : World) (seen : Sight) : Type 0 where
+-- a sight that was that of some player, in a world of this terrain whose things fit
+pub record Drawn (land : Terrain) (seen : Sight) : Type 0 where
   pub world : World
   pub player : Player
-  pub terrain : world.terrain ≡ land.terrain
-  pub edits : world.edits ≡ land.edits
+  pub terrain : world.terrain ≡ land
+  pub things : ThingsFit world.things
   pub is : seen ≡ project world player
 
-abbrev pub IsDrawn : World → Option Sight → Type 0
+abbrev pub IsDrawn : Terrain → Option Sight → Type 0
 IsDrawn land None = Unit {0}
 IsDrawn land (Some seen) = Drawn land seen
 
-drawn_follows : (land w : World) (p : Player) (shown : Option Sight) → w.terrain ≡ land.terrain →
-    w.edits ≡ land.edits → IsDrawn land shown → Follows (unwrap_or shown nothing_seen) (project w p)
-drawn_follows land w p None terrain edits d = nothing_follows w p
-drawn_follows land w p (Some seen) terrain edits d =
+drawn_follows : (land : Terrain) (w : World) (p : Player) (shown : Option Sight) →
+    w.terrain ≡ land → ThingsFit w.things → IsDrawn land shown →
+    Follows (unwrap_or shown nothing_seen) (project w p)
+drawn_follows land w p None terrain things d = nothing_follows w p things
+drawn_follows land w p (Some seen) terrain things d =
     subst (λ (q : Sight). Follows q (project w p)) (sym d.is)
-    (project_follows d.world w d.player p (d.terrain ∙ sym terrain) (d.edits ∙ sym edits))
+    (project_follows d.world w d.player p (d.terrain ∙ sym terrain) d.things things)
 
 -- the packets that were handed to a connection show its player what it was shown last; before it
 -- plays there are none
-pub record IsShown (land : World) (s : Session) (ps : List Sent) : Type 0 where
+pub record IsShown (land : Terrain) (s : Session) (ps : List Sent) : Type 0 where
   pub has : HasPlayer s
   pub playing : (p : Player) → s.player ≡ Some p →
       replay new_replica (played ps) ≡ seeing (last_shown p)
@@ -81,7 +85,7 @@ pub record IsShown (land : World) (s : Session) (ps : List Sent) : Type 0 where
   pub waiting : is_play s.stage ≡ false → is_closed s.stage ≡ false → played ps ≡ []
 
 -- where its player was shown nothing more, and no packet of play was handed to it
-shown_stayed : (land : World) (s t : Session) (ps qs : List Sent) → Done s t qs →
+shown_stayed : (land : Terrain) (s t : Session) (ps qs : List Sent) → Done s t qs →
     shown_in t ≡ shown_in s → played qs ≡ [] →
     (is_play t.stage ≡ false → is_closed t.stage ≡ false →
     (is_play s.stage ≡ false) × (is_closed s.stage ≡ false)) →
@@ -102,7 +106,7 @@ shown_stayed land s t ps qs done shown none was h = record {
 same_player : (s t : Session) → t.player ≡ s.player → shown_in t ≡ shown_in s
 same_player s t same = ap (λ (o : Option Player). option_map (λ (p : Player). p.shown) o) same
 
-shown_enters : (land : World) (s t : Session) (p : Player) (ps qs : List Sent) → Done s t qs →
+shown_enters : (land : Terrain) (s t : Session) (p : Player) (ps qs : List Sent) → Done s t qs →
     s.stage ≡ stages.Login → t.stage ≡ stages.Play → t.player ≡ Some p → p.shown ≡ None →
     played qs ≡ [] →
     IsShown land s ps → IsShown land t (ps ++ qs)
@@ -119,7 +123,7 @@ shown_enters land s t p ps qs done from into there shown none h = record {
     unseen : (q : Player) → t.player ≡ Some q → q.shown ≡ None
     unseen q here = subst (λ (v : Player). v.shown ≡ None) (one_some p q t.player there here) shown
 
-shown_shut : (land : World) (t : Session) (ps : List Sent) → t.stage ≡ stages.Closed →
+shown_shut : (land : Terrain) (t : Session) (ps : List Sent) → t.stage ≡ stages.Closed →
     t.player ≡ None → IsShown land t ps
 shown_shut land t ps closed gone = record {
   has = ap is_play closed ∙ sym (ap (λ (o : Option Player). is_some o) gone);
@@ -128,7 +132,7 @@ shown_shut land t ps closed gone = record {
   waiting = λ waits open_. absurd (not_both (is_closed t.stage) (ap is_closed closed) open_);
 }
 
-pub shown_kept : (land : World) → IsKept (IsShown land)
+pub shown_kept : (land : Terrain) → IsKept (IsShown land)
 shown_kept land s t ps qs (stayed stage shown cause none) h =
     shown_stayed land s t ps qs (stayed stage shown cause none) shown (ap played none)
     (λ waits open_. (ap is_play (sym stage) ∙ waits, ap is_closed (sym stage) ∙ open_)) h
@@ -151,10 +155,10 @@ pub same_view : (w : World) (p : Player) → project w (showing w p) ≡ project
 unfolding project
 same_view w p = refl
 
-pub flush_shown : (land w : World) (s : Session) (ps : List Sent) → w.terrain ≡ land.terrain →
-    w.edits ≡ land.edits → IsShown land s ps →
+pub flush_shown : (land : Terrain) (w : World) (s : Session) (ps : List Sent) →
+    w.terrain ≡ land → ThingsFit w.things → IsShown land s ps →
     IsShown land (flush w s).session (ps ++ (flush w s).handed)
-flush_shown land w s ps terrain edits h =
+flush_shown land w s ps terrain things h =
     flush_cases w s (λ (h : Handing). IsShown land h.session (ps ++ h.handed))
     (λ none. subst (IsShown land s) (sym (append-nil ps)) h)
     (λ p there fits. record {
@@ -164,7 +168,7 @@ flush_shown land w s ps terrain edits h =
           (one_some (showing w p) q _ refl now) (sees p there);
       drawn = λ q now. subst (λ (v : Player). IsDrawn land v.shown)
           (one_some (showing w p) q _ refl now)
-          (record { world = w; player = p; terrain = terrain; edits = edits; is = refl });
+          (record { world = w; player = p; terrain = terrain; things = things; is = refl });
       waiting = λ waits. absurd (not_both (is_play s.stage) (h.has
           ∙ ap (λ (o : Option Player). is_some o) there) waits);
     })
@@ -177,7 +181,7 @@ flush_shown land w s ps terrain edits h =
         ∙ ap (λ (ds : List Down). played ps ++ ds) (played_all (due w p)))
         ∙ fold-append apply new_replica (played ps) (due w p)
         ∙ ap (λ (r : Replica). replay r (due w p)) (h.playing p there)
-        ∙ due_leads w p (drawn_follows land w p p.shown terrain edits (h.drawn p there))
+        ∙ due_leads w p (drawn_follows land w p p.shown terrain things (h.drawn p there))
 
 -- after it, a player was shown the world
 pub flush_sees : (w : World) (s : Session) (q : Player) → (flush w s).session.player ≡ Some q →
@@ -192,14 +196,14 @@ flush_sees w s q = flush_cases w s (λ (h : Handing). h.session.player ≡ Some 
 -- ---- along a run
 
 -- what every event keeps of a world, and of what was handed to one number
-pub record Runs (land : World) (k : ℕ) (w : World) (ps : List Sent) : Type 0 where
+pub record Runs (land : Terrain) (k : ℕ) (w : World) (ps : List Sent) : Type 0 where
   pub orderly : Orderly w
-  pub terrain : w.terrain ≡ land.terrain
-  pub edits : w.edits ≡ land.edits
+  pub terrain : w.terrain ≡ land
+  pub things : ThingsFit w.things
   pub nobody : is_new k w.last ≡ true → ps ≡ []
   pub each : (s : Session) → found k w.sessions ≡ Some s → IsShown land s ps
 
-shown_joining : (land w : World) (k : ℕ) → IsShown land (joining w k) []
+shown_joining : (land : Terrain) (w : World) (k : ℕ) → IsShown land (joining w k) []
 shown_joining land w k = elim (is_crowded w) as
     (λ b.
     IsShown land (if b then mark_closed (new_session k) causes.Crowded else new_session k) []) [
@@ -216,12 +220,12 @@ shown_joining land w k = elim (is_crowded w) as
 nothing_more : (ps qs : List Sent) → ps ≡ [] → qs ≡ [] → ps ++ qs ≡ []
 nothing_more ps qs e f = ap (λ (rs : List Sent). rs ++ qs) e ∙ f
 
-runs_step : (land : World) (k : ℕ) (w : World) (ps : List Sent) (e : Event) → Runs land k w ps →
+runs_step : (land : Terrain) (k : ℕ) (w : World) (ps : List Sent) (e : Event) → Runs land k w ps →
     Runs land k (step w e).world (ps ++ to k (step w e).out)
 runs_step land k w ps e r = record {
   orderly = orderly_step w e r.orderly;
-  terrain = (lasts_step w e).terrain ∙ r.terrain;
-  edits = (lasts_step w e).edits ∙ r.edits;
+  terrain = terrain_step w e ∙ r.terrain;
+  things = things_step w e r.things;
   nobody = λ new. elim (is_new k w.last) as (λ b. is_new k w.last ≡ b →
       ps ++ to k (step w e).out ≡ []) [
         | true ↦ λ was. nothing_more ps (to k (step w e).out) (r.nobody was)
@@ -229,12 +233,12 @@ runs_step land k w ps e r = record {
         | false ↦ λ old. absurd (not_both (is_new k (step w e).world.last) new (old_step k w e old))
       ] refl;
   each = each_step (IsShown land) (shown_kept land) k w ps e r.orderly.apart
-      (λ s h. flush_shown land (at_tick w) s ps r.terrain r.edits h)
+      (λ s h. flush_shown land (at_tick w) s ps r.terrain r.things h)
       (λ none new. subst (IsShown land (joining w k)) (sym (nothing_more ps [] (r.nobody new) refl))
       (shown_joining land w k)) r.each;
 }
 
-pub runs : (land : World) (k : ℕ) (events : List Event) (w : World) (ps : List Sent) →
+pub runs : (land : Terrain) (k : ℕ) (events : List Event) (w : World) (ps : List Sent) →
     Runs land k w ps → Runs land k (history w events) (ps ++ handed k w events)
 runs land k [] w ps r = subst (Runs land k w) (sym (append-nil ps)) r
 runs land k (e ∷ events) w ps r =
@@ -243,13 +247,13 @@ runs land k (e ∷ events) w ps r =
     (runs land k events (step w e).world (ps ++ to k (step w e).out) (runs_step land k w ps e r))
 
 pub runs_from_new : (most cap : ℕ) (terrain : Terrain) (events : List Event) (k : ℕ) →
-    Runs (new_world most cap terrain) k (history (new_world most cap terrain) events)
+    Runs terrain k (history (new_world most cap terrain) events)
     (handed k (new_world most cap terrain) events)
 runs_from_new most cap terrain events k =
-    runs (new_world most cap terrain) k events (new_world most cap terrain) [] (record {
+    runs terrain k events (new_world most cap terrain) [] (record {
       orderly = orderly_new most cap terrain;
       terrain = refl;
-      edits = refl;
+      things = new_things_fit;
       nobody = λ new. refl;
       each = λ s there. absurd (some_none s None there refl);
     })
@@ -284,8 +288,9 @@ run_shows most cap terrain events k s p there playing =
     let all = (r.each s there).playing p playing ∙ ap seeing sees in
     record {
       pairs = ap (λ (r : Replica). r.sight.pairs) all;
-      columns =
-          ap (λ (r : Replica). r.sight.columns) all;
+      columns = ap (λ (r : Replica). r.sight.columns) all;
+      entities = ap (λ (r : Replica). r.sight.entities) all;
+      pack = ap (λ (r : Replica). r.sight.pack) all;
     }
 
 -- in every run a connection has a player exactly while it is in play

@@ -8,6 +8,7 @@ use Rattle.std.proofs.lemmas.List.{append-nil}
 use Rattle.mc_model.specs.declared.cause.Cause.{Cause}
 use Rattle.mc_model.specs.declared.cause.Cause.TheVariants as causes
 use Rattle.mc_model.specs.Texts.{farewell_text}
+use Rattle.mc_model.specs.Things.{Things}
 use Rattle.mc_model.specs.World.{World, Session, found, is_closed}
 use Rattle.mc_model.specs.Packets.{Sent}
 use Rattle.mc_model.specs.Step.{Event, joined, came, left, broke, ticked, took, forgot, Outcome}
@@ -142,14 +143,14 @@ gone_done cause wordless s = elim (is_closed s.stage) as (λ b. is_closed s.stag
       | false ↦ λ open_. shut_for cause open_ refl refl refl (wordless_last s.stage cause wordless)
     ] refl
 
--- a change of one connection by which it is done so
+-- a change of one connection by which it is done so, and of things
 remains_changed : (P : Session → List Sent →
     Type 0) (kept : IsKept P) (j k : ℕ) (w : World) (f : Session →
-    Session) (s : Session) (ps : List Sent) → ((t : Session) → (f t).id ≡ t.id) →
-    ((t : Session) → Done t (f t) []) →
+    Session) (things : Things) (s : Session) (ps : List Sent) →
+    ((t : Session) → (f t).id ≡ t.id) → ((t : Session) → Done t (f t) []) →
     found k w.sessions ≡ Some s → P s ps →
-    Remains P k s ps (record { world = changed w j f; out = [] })
-remains_changed P kept j k w f s ps keeps done there p = elim (cases_eq j k) [
+    Remains P k s ps (record { world = record (changed w j f) { things = things }; out = [] })
+remains_changed P kept j k w f things s ps keeps done there p = elim (cases_eq j k) [
   | inl same ↦ remains_alone P k s (f s) ps [] _ kept
       (subst (λ (n : ℕ). found k (changed w n f).sessions ≡ Some (f s)) (sym same)
       (found_changed k w f s (λ t is. keeps t) there)) refl (done s) p
@@ -225,14 +226,14 @@ remains P kept k w (joined j) s ps apart ne there p =
 remains P kept k w (came j bytes) s ps apart ne there p =
     remains_bytes P kept j k w bytes s ps there p
 remains P kept k w (left j) s ps apart ne there p =
-    remains_changed P kept j k w (gone causes.Gone) s ps (gone_id causes.Gone)
+    remains_changed P kept j k w (gone causes.Gone) _ s ps (gone_id causes.Gone)
     (gone_done causes.Gone refl) there p
 remains P kept k w (broke j) s ps apart ne there p =
-    remains_changed P kept j k w (gone causes.Broke) s ps (gone_id causes.Broke)
+    remains_changed P kept j k w (gone causes.Broke) _ s ps (gone_id causes.Broke)
     (gone_done causes.Broke refl) there p
 remains P kept k w ticked s ps apart ne there p = absurd (ne refl)
 remains P kept k w (took j n) s ps apart ne there p =
-    remains_changed P kept j k w (λ (s : Session). record s { owed = drop n s.owed }) s ps
+    remains_changed P kept j k w (λ (s : Session). record s { owed = drop n s.owed }) w.things s ps
     (λ t. refl) (λ t. stayed refl refl refl refl) there p
 remains P kept k w (forgot j) s ps apart ne there p = remains_forgot P kept j k w s ps apart there p
 

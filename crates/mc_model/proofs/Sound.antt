@@ -7,7 +7,6 @@ use Rattle.std.specs.List.{AllByRecursion, cons_option, filter_map}
 use lib.IntN.{ℤ}
 use Rattle.mc_nbt.specs.Reading.{IsBytes}
 use Rattle.mc_down.specs.declared.down.Down.{Down}
-use Rattle.mc_fields.specs.declared.position.Spot.{Spot}
 use Rattle.mc_model.specs.declared.cause.Cause.{Cause}
 use Rattle.mc_model.specs.declared.stage.Stage.{Stage}
 use Rattle.mc_model.specs.declared.stage.Stage.TheVariants as stages
@@ -16,23 +15,26 @@ use Rattle.mc_model.specs.Sight.{Sight}
 use Rattle.mc_model.specs.Packets.{of_play, for_play}
 use Rattle.mc_model.specs.Delta.{delta}
 use Rattle.mc_model.specs.World.{World, Session, Player, AreSettings, players, found, is_play}
-use Rattle.mc_model.specs.World.{spot_of, spawn_height, project}
-use Rattle.mc_model.specs.Step.{is_new, placing, level, opening, opening_due, notes_due, last_shown}
-use Rattle.mc_model.specs.Step.{due}
+use Rattle.mc_model.specs.World.{spot_of, pack_of, sees, spawn_height, project}
+use Rattle.mc_model.specs.Step.{is_new, level, opening, opening_due, notes_due, last_shown}
+use Rattle.mc_model.specs.Step.{due, noted_packets, notes_of}
 use Rattle.mc_model.specs.Orderly.{AreApart}
 use Rattle.mc_model.proofs.Sessions.{some_none, one_some}
 use Rattle.mc_model.proofs.Decodes.{IsClear, Decodes}
 use Rattle.mc_model.proofs.FitsPlay.{join_clear, spawn_clear}
 use Rattle.mc_model.proofs.FitsList.{AreClear}
 use Rattle.mc_model.proofs.Handing.{HasPlayer}
-use Rattle.mc_model.proofs.FitsSight.{all_joined, SightFits, SpotFits, NamedFits, project_fits}
-use Rattle.mc_model.proofs.FitsDue.{delta_clear, placing_clear, spawn_low, level_short}
+use Rattle.mc_model.proofs.ThingFacts.{spot_fits}
+use Rattle.mc_model.proofs.FitsSight.{all_joined, SightFits, NamedFits, project_fits}
+use Rattle.mc_model.proofs.FitsDue.{delta_clear, notes_clear, placing_clear, spawn_low, level_short}
+use Rattle.mc_model.proofs.FitsNotes.{noted_clear}
+use Rattle.mc_model.proofs.ThingsFit.{ThingsFit}
+use Rattle.mc_model.proofs.ThingsKept.{pack_fits}
 
 -- what is kept of a player can be told
 pub record PlayerFits (p : Player) : Type 0 where
   pub named : NamedFits p
   pub eid : p.eid ≤ 2147483647
-  pub spot : SpotFits p.spot
   pub shown : SightFits (last_shown p)
 
 -- of one that is there
@@ -79,32 +81,19 @@ pub rest_fits : (s : Session) (rest : List ℕ) (before : ℕ) → IsBytes rest 
     → SessionFits (record s { rest = rest; before = before })
 rest_fits s rest before bytes f = record { plays = f.plays; player = f.player; rest = bytes }
 
--- a player that moved, or asked for another size of view
-pub moved_fits : (p : Player) (view : ℤ) (spot : Spot) (notes : Noted) → SpotFits spot →
-    PlayerFits p
-    → PlayerFits (record p { view_byte = view; spot = spot; notes = notes })
-moved_fits p view spot notes at f = record {
-  named = f.named;
-  eid = f.eid;
-  spot = at;
-  shown =
-      f.shown;
-}
+-- a player that asked for another size of view, took something up, or is to be sent something
+pub noted_fits : (p : Player) (view : ℤ) (hand : ℕ) (notes : Noted) → PlayerFits p
+    → PlayerFits (record p { view_byte = view; hand = hand; notes = notes })
+noted_fits p view hand notes f = record { named = f.named; eid = f.eid; shown = f.shown }
 
 -- and one that was shown something
 pub shown_fits : (p : Player) (shown : Sight) (notes : Noted) → SightFits shown → PlayerFits p
     → PlayerFits (record p { shown = Some shown; notes = notes })
-shown_fits p shown notes sight f = record {
-  named = f.named;
-  eid = f.eid;
-  spot = f.spot;
-  shown =
-      sight;
-}
+shown_fits p shown notes sight f = record { named = f.named; eid = f.eid; shown = sight }
 
 pub record Sound (w : World) : Type 0 where
   pub settings : AreSettings w.most w.cap
-  pub eids : w.eids ≤ 2147483647
+  pub things : ThingsFit w.things
   pub apart : AreApart w.sessions
   pub fresh : (k : ℕ) → is_new k w.last ≡ true → found k w.sessions ≡ None
   pub few : length (players w) ≤ w.most
@@ -124,7 +113,7 @@ all_found P k (x ∷ xs) s a e = step (x.id == k) e (λ later. all_found P k xs 
 pub sound_sight : (w : World) (p : Player) → Sound w → PlayerFits p → SightFits (project w p)
 sound_sight w p sound f =
     project_fits w p (kept w.sessions sound.fits)
-    (omega (arith, sound.few, sound.settings.few)) sound.settings.near f.spot
+    (omega (arith, sound.few, sound.settings.few)) sound.settings.near sound.things
   where
     one : (o : Option Player) (others : List Player) → AnyFits o → AllByRecursion NamedFits others →
         AllByRecursion NamedFits (cons_option o others)
@@ -144,7 +133,7 @@ opening_clear w p sound f = (
       (level_short w.terrain),
   (
     spawn_clear (spawn_height w.terrain) (let low = spawn_low w.terrain in omega (arith, low)),
-    (placing_clear (spot_of w p) f.spot, tt),
+    (placing_clear (spot_of w p) (spot_fits w p sound.things), tt),
   ),
 )
 
@@ -156,15 +145,15 @@ due_clear w p sound f =
     all_joined P (opening_due w p ++ delta (last_shown p) (project w p)) (notes_due w p)
     (all_joined P (opening_due w p) (delta (last_shown p) (project w p)) (first (is_some p.shown))
     (delta_clear (last_shown p) (project w p) f.shown (sound_sight w p sound f)))
-    (noted p.notes.placing)
+    (all_joined P (noted_packets w.terrain w.things.edits (sees w p) p.notes.cells)
+    (notes_of p.notes (spot_of w p) (pack_of w p))
+    (noted_clear w p p.notes.cells sound.things (spot_fits w p sound.things) sound.settings.near)
+    (notes_clear p.notes (spot_of w p) (pack_of w p) (spot_fits w p sound.things)
+    (pack_fits p.name w.things.packs sound.things.packs)))
   where
     first : (t : Bool) → AreClear (if t then [] else opening w p)
     first true = tt
     first false = opening_clear w p sound f
-
-    noted : (t : Bool) → AreClear (if t then placing (spot_of w p) ∷ [] else [])
-    noted true = (placing_clear (spot_of w p) f.spot, tt)
-    noted false = tt
 
 -- packets of play that are clear are decoded by who plays
 pub clear_decodes : (packets : List Down) → AreClear packets →

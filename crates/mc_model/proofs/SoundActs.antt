@@ -1,113 +1,31 @@
--- What a player does keeps its place one that can be told.
-use Rattle.std.proofs.Common.{◌≡◌, ℕ, suc, ◌<◌, ◌≤◌, Bool, true, false, refl, sym, subst, arith}
-use Rattle.std.proofs.Common.{inl, inr}
-use Rattle.std.specs.Prelude.{◌⊎◌, ◌&&◌, int_le, unsigned_abs, Option, Some, None, if◌then◌else◌}
-use Rattle.std.specs.Int.{int_rem_euclid}
+-- What a player does keeps its connection and the things of the world such that can be told.
+use Rattle.std.proofs.Common.{◌≡◌, ℕ, true, false, refl, subst, inl, inr}
+use Rattle.std.specs.Prelude.{◌⊎◌, min, Option, Some, None, if◌then◌else◌}
 use Rattle.std.specs.Option.{option_and_then}
-use Rattle.std.proofs.lemmas.Bool.{leb-true}
-use lib.IntN.{ℤ, pos, negsuc}
+use lib.IntN.{ℤ}
+use Rattle.mc_fields.specs.declared.position.Cell.{Cell}
 use Rattle.mc_fields.specs.declared.position.Spot.{Spot}
 use Rattle.mc_up.specs.declared.play_up.PlayUp.{PlayUp}
-use Rattle.mc_up.specs.declared.play_up.PlayUp.TheVariants.{Position, Look, PositionLook, Settings}
-use Rattle.mc_model.specs.Numbers.{fixed_of, turn_of}
-use Rattle.mc_model.specs.World.{World, Session, Player, put, spot_of, spawn_spot}
-use Rattle.mc_model.specs.Movement.{both, moved, turned, is_within, is_in_range, arrived, arrive}
+use Rattle.mc_up.specs.declared.play_up.PlayUp.TheVariants.{Position, Look, PositionLook, Held}
+use Rattle.mc_up.specs.declared.play_up.PlayUp.TheVariants.{Settings, Digging, Placement, Creative}
+use Rattle.mc_entities.specs.Shift.{is_inside}
+use Rattle.mc_model.specs.Notes.{Noted}
+use Rattle.mc_model.specs.Things.{Things, with_entity, standing, holding, in_hand}
+use Rattle.mc_model.specs.World.{World, Session, Player, put, spot_of, pack_of}
+use Rattle.mc_model.specs.Movement.{moved, turned, landing, landed, arrived, arrive}
+use Rattle.mc_model.specs.Packs.{again, noting, place_of_hotbar, take_up}
+use Rattle.mc_model.specs.Digging.{digging, dropped, dug}
+use Rattle.mc_model.specs.Placing.{place_on, placed}
 use Rattle.mc_model.specs.Acts.{act}
-use Rattle.mc_model.proofs.FitsText.{both_true}
-use Rattle.mc_model.proofs.FitsSight.{SpotFits}
-use Rattle.mc_model.proofs.FitsDue.{rest_below, spawn_fits}
-use Rattle.mc_model.proofs.Sound.{PlayerFits, SessionFits, player_fits, with_player, moved_fits}
-
--- ---- turns
-
--- a spot with a look within one turn
-pub record IsTurned (spot : Spot) : Type 0 where
-  pub yaw : spot.yaw < 256
-  pub pitch : spot.pitch < 256
-
--- what is there is one thing
-some_is : {A : Type 0} (a b : A) → ◌≡◌ {A = Option A} (Some a) (Some b) → a ≡ b
-some_is a b e = cc
-
--- a turn that was worked out is within one turn
-turn_low : (p a : ℕ) → turn_of p ≡ Some a → a < 256
-unfolding turn_of
-turn_low p a e = step _ _ e
-  where
-    step : (t : Bool) (z : ℤ) → (if t then None else
-        Some (unsigned_abs (int_rem_euclid z (pos 256)))) ≡ Some a → a < 256
-    step true z e = absurd cc
-    step false z e = let P : ℕ → Type 0 = λ n. n < 256 in
-        subst P (some_is _ _ e) (rest_below z 256 (omega arith))
-
--- so is a look that was worked out
-turned_so : (spot to : Spot) (a b : Option ℕ) → ((n : ℕ) → a ≡ Some n → n < 256) →
-    ((n : ℕ) → b ≡ Some n → n < 256)
-    → both (λ (about up : ℕ). record spot { yaw = about; pitch = up }) a b ≡ Some to → IsTurned to
-turned_so spot to None b low high e = absurd cc
-turned_so spot to (Some about) None low high e = absurd cc
-turned_so spot to (Some about) (Some up) low high e =
-    subst IsTurned (some_is (record spot { yaw = about; pitch = up }) to e)
-    (record { yaw = low about refl; pitch = high up refl })
-
--- a player that looks
-turned_turned : (spot to : Spot) (yaw pitch : ℕ) → turned spot yaw pitch ≡ Some to → IsTurned to
-turned_turned spot to yaw pitch e = turned_so spot to (turn_of yaw) (turn_of pitch) (turn_low yaw)
-    (turn_low pitch) e
-
--- a place keeps the look
-moved_so : (spot to : Spot) (a b c : Option ℤ) → IsTurned spot
-    → option_and_then (λ (east : ℤ). both
-    (λ (up south : ℤ). record spot { x = east; y = up; z = south }) b c) a ≡ Some to
-    → IsTurned to
-moved_so spot to None b c is e = absurd cc
-moved_so spot to (Some east) None c is e = absurd cc
-moved_so spot to (Some east) (Some up) None is e = absurd cc
-moved_so spot to (Some east) (Some up) (Some south) is e =
-    subst IsTurned (some_is (record spot { x = east; y = up; z = south }) to e)
-    (record { yaw = is.yaw; pitch = is.pitch })
-
--- a player that moves
-moved_turned : (spot to : Spot) (x y z : ℕ) → IsTurned spot → moved spot x y z ≡ Some to →
-    IsTurned to
-moved_turned spot to x y z is e = moved_so spot to (fixed_of x) (fixed_of y) (fixed_of z) is e
-
--- a player that does both
-both_turned : (o : Option Spot) (to : Spot) (yaw pitch : ℕ) →
-    option_and_then (λ (spot : Spot). turned spot yaw pitch) o ≡ Some to
-    → IsTurned to
-both_turned None to yaw pitch e = absurd cc
-both_turned (Some spot) to yaw pitch e = turned_turned spot to yaw pitch e
-
--- ---- places
-
--- what is within a range is not large
-within_small : (low high : ℕ) (n : ℤ) → suc low ≤ high →
-    is_within (negsuc low) (pos high) n ≡ true → unsigned_abs n ≤ high
-within_small low high (pos n) le t =
-    leb-true n high (both_true (int_le (negsuc low) (pos n)) (int_le (pos n) (pos high)) t).1
-within_small low high (negsuc n) le t =
-    let few = leb-true n low (both_true (int_le (negsuc low) (negsuc n))
-    (int_le (negsuc n) (pos high)) t).0 in
-    omega (arith, few, le)
-
--- a place in range fits
-range_fits : (spot : Spot) → IsTurned spot → is_in_range spot ≡ true → SpotFits spot
-range_fits spot is t =
-    let x : Bool = is_within (negsuc 959999999) (pos 960000000) spot.x in
-    let y : Bool = is_within (negsuc 2047) (pos 131072) spot.y in
-    let z : Bool = is_within (negsuc 959999999) (pos 960000000) spot.z in
-    let a = both_true (x && y) z t in
-    let b = both_true x y a.0 in
-    record {
-      x = within_small 959999999 960000000 spot.x (omega arith) b.0;
-      y = within_small 2047 131072 spot.y (omega arith) b.1;
-      z = within_small 959999999 960000000 spot.z (omega arith) a.1;
-      yaw = is.yaw;
-      pitch = is.pitch;
-    }
-
--- ---- acts
+use Rattle.mc_model.proofs.ThingFacts.{spot_fits}
+use Rattle.mc_model.proofs.ThingsFit.{ThingsFit}
+use Rattle.mc_model.proofs.ThingsKept.{pack_fits, hand_is_pile, standing_fits, holding_fits}
+use Rattle.mc_model.proofs.Deeds.{digging_cases, placing_cases}
+use Rattle.mc_model.proofs.ThingsActs.{dug_fits, dropped_fits, held_is_item, placed_fits}
+use Rattle.mc_model.proofs.Landings.{IsTurned, spot_turned, turned_turned, moved_turned}
+use Rattle.mc_model.proofs.Landings.{both_turned}
+use Rattle.mc_model.proofs.Landings.{landing_fits, some_is}
+use Rattle.mc_model.proofs.Sound.{PlayerFits, SessionFits, player_fits, with_player, noted_fits}
 
 -- what becomes of a player's connection: it stays the same but for what can be told of it
 pub record StaysFit (s t : Session) : Type 0 where
@@ -115,73 +33,136 @@ pub record StaysFit (s t : Session) : Type 0 where
   pub stage : t.stage ≡ s.stage
   pub fits : SessionFits t
 
--- the world after it: the same, or with another connection in that place
+-- the world after it: with other things that fit, and another connection in that place or none
 pub record ActsFit (w : World) (s : Session) (v : World) : Type 0 where
   pub session : Session
   pub stays : StaysFit s session
-  pub is : (v ≡ w) ⊎ (v ≡ put w session)
-
--- a player that arrives there, or where players enter
-arrived_fits : (w : World) (p : Player) (to : Spot) → PlayerFits p → IsTurned to →
-    PlayerFits (arrived w p to)
-arrived_fits w p to f is = step (is_in_range to) refl
-  where
-    step : (b : Bool) → is_in_range to ≡ b
-        → PlayerFits (if b then record p { spot = to } else
-        record p { spot = spawn_spot w.terrain; notes = record p.notes { placing = true } })
-    step true t = moved_fits p p.view_byte to p.notes (range_fits to is t) f
-    step false t = moved_fits p p.view_byte (spawn_spot w.terrain)
-        (record p.notes { placing = true }) (spawn_fits w.terrain) f
+  pub things : Things
+  pub fit : ThingsFit things
+  pub is : (v ≡ record w { things = things }) ⊎ (v ≡ record (put w session) { things = things })
 
 -- another player in the place of one
-player_stays : (w : World) (s : Session) (p q : Player) → s.player ≡ Some p → PlayerFits q →
-    SessionFits s → ActsFit w s (put w (record s { player = Some q }))
-player_stays w s p q there fits f = record {
+player_stays : (w : World) (s : Session) (p q : Player) (things : Things) → s.player ≡ Some p →
+    PlayerFits q → SessionFits s → ThingsFit things
+    → ActsFit w s (record (put w (record s { player = Some q })) { things = things })
+player_stays w s p q things there fits f fit = record {
   session = record s { player = Some q };
   stays = record { id = refl; stage = refl; fits = with_player s p q s.owed there fits f };
+  things = things;
+  fit = fit;
   is = inr refl;
 }
 
+-- nothing changes
+nothing_fits : (w : World) (s : Session) → SessionFits s → ThingsFit w.things → ActsFit w s w
+nothing_fits w s f t = record {
+  session = s;
+  stays = record { id = refl; stage = refl; fits = f };
+  things = w.things;
+  fit = t;
+  is = inl refl;
+}
+
+-- a player that arrives there, or where players enter
+landed_fits : (to : Spot) (p : Player) → PlayerFits p → PlayerFits (landed to p)
+landed_fits to p f = elim (is_inside to) as
+    (λ b. PlayerFits (if b then p else record p { notes = record p.notes { placing = true } })) [
+      | true ↦ f
+      | false ↦ noted_fits p p.view_byte p.hand (record p.notes { placing = true }) f
+    ]
+
 -- where all numbers stand for some
 arrive_fits : (w v : World) (s : Session) (p : Player) (o : Option Spot) → SessionFits s →
-    s.player ≡ Some p → ((to : Spot) → o ≡ Some to → IsTurned to)
+    s.player ≡ Some p → ThingsFit w.things → ((to : Spot) → o ≡ Some to → IsTurned to)
     → arrive w s p o ≡ Some v → ActsFit w s v
-arrive_fits w v s p None f there is e = absurd cc
-arrive_fits w v s p (Some to) f there is e =
-    let P : World → Type 0 = λ u. ActsFit w s u in
-    subst P (some_is (put w (record s { player = Some (arrived w p to) })) v e)
-    (player_stays w s p (arrived w p to) there
-    (arrived_fits w p to (player_fits s p f there) (is to refl)) f)
+arrive_fits w v s p None f there t is e = absurd cc
+arrive_fits w v s p (Some to) f there t is e =
+    subst (λ (u : World). ActsFit w s u) (some_is (arrived w s p to) v e)
+    (player_stays w s p (landed to p) (with_entity p.eid (standing (landing w to)) w.things) there
+    (landed_fits to p (player_fits s p f there)) f
+    (standing_fits p.eid (landing w to) w.things (landing_fits w to (is to refl)) t))
 
--- a player looks one way
-spot_turned : (w : World) (s : Session) (p : Player) → SessionFits s → s.player ≡ Some p →
-    IsTurned (spot_of w p)
-spot_turned w s p f there = let fits = player_fits s p f there in
-    record { yaw = fits.spot.yaw; pitch = fits.spot.pitch }
+-- a player that takes something up
+take_up_fits : (w : World) (s : Session) (p : Player) (hand : Option ℕ) → SessionFits s →
+    s.player ≡ Some p → ThingsFit w.things → ActsFit w s (take_up w s p hand)
+take_up_fits w s p None f there t = nothing_fits w s f t
+take_up_fits w s p (Some hand) f there t =
+    player_stays w s p (record p { hand = hand })
+    (with_entity p.eid (holding (in_hand (pack_of w p) hand)) w.things) there
+    (noted_fits p p.view_byte hand p.notes (player_fits s p f there)) f
+    (holding_fits p.eid (in_hand (pack_of w p) hand) w.things
+    (hand_is_pile (pack_of w p) hand (pack_fits p.name w.things.packs t.packs)) t)
+
+-- other things
+things_stay : (w : World) (s : Session) (things : Things) → SessionFits s → ThingsFit things →
+    ActsFit w s (record w { things = things })
+things_stay w s things f fit = record {
+  session = s;
+  stays = record { id = refl; stage = refl; fits = f };
+  things = things;
+  fit = fit;
+  is = inl refl;
+}
+
+-- something noted
+noting_fits : (w : World) (s : Session) (p : Player) → SessionFits s → s.player ≡ Some p →
+    ThingsFit w.things → (f : Noted → Noted) → ActsFit w s (noting f w s p)
+noting_fits w s p fits there t f =
+    player_stays w s p (record p { notes = f p.notes }) w.things there
+    (noted_fits p p.view_byte p.hand (f p.notes) (player_fits s p fits there)) fits t
+
+-- a player that digs or drops
+digging_stays : (w : World) (s : Session) (p : Player) (status : ℤ) (cell : Cell) →
+    SessionFits s → s.player ≡ Some p → ThingsFit w.things →
+    ActsFit w s (digging w s p status cell)
+digging_stays w s p status cell f there t =
+    digging_cases (λ (v : World). ActsFit w s v) w s p status cell (nothing_fits w s f t)
+    (λ test. things_stay w s (dug w cell) f (dug_fits w p cell test t))
+    (λ item n some is room. things_stay w s (dropped w p item (min n item.count)) f
+    (dropped_fits w p item n some (held_is_item w p item is t) room t))
+    (noting_fits w s p f there t)
+
+-- a player that places
+placing_stays : (w : World) (s : Session) (p : Player) (cell : Cell) (face : ℤ) →
+    SessionFits s → s.player ≡ Some p → ThingsFit w.things →
+    ActsFit w s (place_on w s p cell face)
+placing_stays w s p cell face f there t =
+    placing_cases (λ (v : World). ActsFit w s v) w s p cell face (nothing_fits w s f t)
+    (λ target item is free. things_stay w s (placed w p target item) f
+    (placed_fits w p target item (held_is_item w p item is t) t))
+    (noting_fits w s p f there t)
 
 -- whatever the packet is
 pub act_fits : (w v : World) (s : Session) (p : Player) (packet : PlayUp) → SessionFits s →
-    s.player ≡ Some p → act w s p packet ≡ Some v → ActsFit w s v
+    s.player ≡ Some p → ThingsFit w.things → act w s p packet ≡ Some v → ActsFit w s v
 unfolding act
-act_fits w v s p (Position x y z on_ground) f there e =
-    arrive_fits w v s p (moved (spot_of w p) x y z) f there
-    (λ to is. moved_turned (spot_of w p) to x y z (spot_turned w s p f there) is) e
-act_fits w v s p (Look yaw pitch on_ground) f there e =
-    arrive_fits w v s p (turned (spot_of w p) yaw pitch) f there
+act_fits w v s p (Position x y z on_ground) f there t e =
+    arrive_fits w v s p (moved (spot_of w p) x y z) f there t
+    (λ to is. moved_turned (spot_of w p) to x y z
+    (spot_turned (spot_of w p) (spot_fits w p t)) is) e
+act_fits w v s p (Look yaw pitch on_ground) f there t e =
+    arrive_fits w v s p (turned (spot_of w p) yaw pitch) f there t
     (λ to is. turned_turned (spot_of w p) to yaw pitch is) e
-act_fits w v s p (PositionLook x y z yaw pitch on_ground) f there e =
+act_fits w v s p (PositionLook x y z yaw pitch on_ground) f there t e =
     arrive_fits w v s p (option_and_then (λ (to : Spot). turned to yaw pitch)
-    (moved (spot_of w p) x y z)) f there
+    (moved (spot_of w p) x y z)) f there t
     (λ to is. both_turned (moved (spot_of w p) x y z) to yaw pitch is) e
-act_fits w v s p (Settings locale view chat_mode colours skin) f there e =
-    let P : World → Type 0 = λ u. ActsFit w s u in
-    let fits = player_fits s p f there in
-    subst P (some_is (put w (record s { player = Some (record p { view_byte = view }) })) v e)
-    (player_stays w s p (record p { view_byte = view }) there
-    (moved_fits p view p.spot p.notes fits.spot fits) f)
-act_fits w v s p other f there e = record {
-  session = s;
-  stays =
-      record { id = refl; stage = refl; fits = f };
-  is = inl (sym (some_is w v e));
-}
+act_fits w v s p (Digging status cell face) f there t e =
+    subst (λ (u : World). ActsFit w s u) (some_is (digging w s p status cell) v e)
+    (digging_stays w s p status cell f there t)
+act_fits w v s p (Placement cell face item x y z) f there t e =
+    subst (λ (u : World). ActsFit w s u) (some_is (place_on w s p cell face) v e)
+    (placing_stays w s p cell face f there t)
+act_fits w v s p (Held place) f there t e =
+    subst (λ (u : World). ActsFit w s u) (some_is (take_up w s p (place_of_hotbar place)) v e)
+    (take_up_fits w s p (place_of_hotbar place) f there t)
+act_fits w v s p (Creative slot item) f there t e =
+    subst (λ (u : World). ActsFit w s u) (some_is (noting again w s p) v e)
+    (noting_fits w s p f there t again)
+act_fits w v s p (Settings locale view chat_mode colours skin) f there t e =
+    let q : Player = record p { view_byte = view } in
+    subst (λ (u : World). ActsFit w s u) (some_is (put w (record s { player = Some q })) v e)
+    (player_stays w s p q w.things there
+    (noted_fits p view p.hand p.notes (player_fits s p f there)) f t)
+act_fits w v s p other f there t e =
+    subst (λ (u : World). ActsFit w s u) (some_is w v e) (nothing_fits w s f t)

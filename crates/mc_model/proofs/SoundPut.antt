@@ -4,10 +4,12 @@ use Rattle.std.proofs.Common.{length, refl, sym, subst, ap, ◌∙◌, arith, in
 use Rattle.std.specs.Prelude.{◌⊎◌, ◌==◌, Option, Some, None, is_some, option_map, if◌then◌else◌}
 use Rattle.std.specs.List.{filter_map, cons_option, AllByRecursion}
 use Rattle.std.proofs.lemmas.Bool.{eqb-true}
+use Rattle.mc_model.specs.Things.{Things}
 use Rattle.mc_model.specs.World.{World, Session, Player, players, found, put}
 use Rattle.mc_model.specs.Orderly.{AreApart}
 use Rattle.mc_model.proofs.Sessions.{some_none, one_some, found_map, apart_map}
 use Rattle.mc_model.proofs.Beside.{beside_put}
+use Rattle.mc_model.proofs.ThingsFit.{ThingsFit}
 use Rattle.mc_model.proofs.Sound.{SessionFits, Sound}
 
 -- ---- how many are in play
@@ -75,7 +77,7 @@ playing_replaced k t s (x ∷ xs) a e =
 -- ---- one connection changed
 
 -- what holds of all and of the other holds then
-all_replaced : (P : Session → Type 0) (k : ℕ) (t : Session) (ss : List Session) → P t →
+pub all_replaced : (P : Session → Type 0) (k : ℕ) (t : Session) (ss : List Session) → P t →
     AllByRecursion P ss
     → AllByRecursion P (replaced k t ss)
 all_replaced P k t [] p a = tt
@@ -101,17 +103,29 @@ few_after a b n m false true e few room = elim (room refl) [
   | inr less ↦ omega (arith, e, less)
 ]
 
--- a sound world with another in the place of one is sound
-pub sound_put : (w : World) (eids k : ℕ) (s t : Session) → Sound w → found k w.sessions ≡ Some s →
-    t.id ≡ k → SessionFits t
-    → eids ≤ 2147483647 → HasRoom w s t → Sound (put (record w { eids = eids }) t)
-sound_put w eids k s t sound e is fits small room =
-    let beside = beside_put k (record w { eids = eids }) t is in
+-- a sound world with other things is sound, where these fit
+pub sound_things : (w : World) (things : Things) → Sound w → ThingsFit things →
+    Sound (record w { things = things })
+sound_things w things sound fit = record {
+  settings = sound.settings;
+  things = fit;
+  apart = sound.apart;
+  fresh = sound.fresh;
+  few = sound.few;
+  fits = sound.fits;
+}
+
+-- and so is one with another connection in the place of one
+pub sound_put : (w : World) (things : Things) (k : ℕ) (s t : Session) → Sound w →
+    found k w.sessions ≡ Some s → t.id ≡ k → SessionFits t → ThingsFit things → HasRoom w s t →
+    Sound (record (put w t) { things = things })
+sound_put w things k s t sound e is fits fit room =
+    let beside = beside_put k w t is in
     let P : ℕ → Type 0 = λ n. length (playing (replaced n t w.sessions)) + one_if
     (is_some s.player) ≡ length (playing w.sessions) + one_if (is_some t.player) in
     record {
       settings = sound.settings;
-      eids = small;
+      things = fit;
       apart = beside.apart sound.apart;
       fresh = λ j new. beside.none j (sound.fresh j new);
       few = few_after _ _ 0 w.most (is_some s.player) (is_some t.player)
@@ -136,16 +150,17 @@ few_mapped f stays (x ∷ xs) =
     fewer true false h = (let e = h refl in absurd cc)
     fewer false b h = omega arith
 
--- a sound world with each connection changed is sound
-pub sound_mapped : (w : World) (f : Session → Session) → ((s : Session) → (f s).id ≡ s.id)
+-- a sound world with each connection changed, and other things, is sound
+pub sound_mapped : (w : World) (f : Session → Session) (things : Things) →
+    ((s : Session) → (f s).id ≡ s.id)
     → ((s : Session) → is_some (f s).player ≡ true → is_some s.player ≡ true) →
-    AllByRecursion SessionFits (map f w.sessions)
-    → Sound w → Sound (record w { sessions = map f w.sessions })
-sound_mapped w f keeps stays fits sound =
+    AllByRecursion SessionFits (map f w.sessions) → ThingsFit things
+    → Sound w → Sound (record w { sessions = map f w.sessions; things = things })
+sound_mapped w f things keeps stays fits fit sound =
     let le = few_mapped f stays w.sessions in
     record {
       settings = sound.settings;
-      eids = sound.eids;
+      things = fit;
       apart = apart_map f keeps w.sessions sound.apart;
       fresh = λ j new. found_map j f keeps w.sessions ∙ ap (option_map f) (sound.fresh j new);
       few = omega (arith, le, sound.few);

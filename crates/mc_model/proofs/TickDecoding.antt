@@ -12,6 +12,7 @@ use Rattle.mc_model.specs.Run.{to}
 use Rattle.mc_model.proofs.Sessions.{to_none, to_found}
 use Rattle.mc_model.proofs.Handing.{plays_with, flush_cases}
 use Rattle.mc_model.proofs.RunEvents.{flush_id}
+use Rattle.mc_model.proofs.ThingsRun.{leavings_fit}
 use Rattle.mc_model.proofs.Sound.{PlayerFits, SessionFits, player_fits, closed_fits, with_player}
 use Rattle.mc_model.proofs.Sound.{shown_fits, Sound, all_found, sound_sight, due_clear}
 use Rattle.mc_model.proofs.Sound.{clear_decodes}
@@ -62,7 +63,7 @@ flush_waits w s = flush_cases w s (λ (h : Handing). StillWaits s h.session)
 tick_sound : (w : World) → Sound w → Sound (at_tick w)
 tick_sound w sound = record {
   settings = sound.settings;
-  eids = sound.eids;
+  things = sound.things;
   apart =
       sound.apart;
   fresh = sound.fresh;
@@ -76,12 +77,14 @@ pub tick_steps : (k : ℕ) (w : World) (came : List ℕ) (earlier : List Sent) �
     → Steps k (tick w).world came (earlier ++ to k (tick w).out)
 tick_steps k w came earlier sound kept = record {
   sound = sound_mapped (at_tick w) (λ (s : Session). (flush (at_tick w) s).session)
-      (flush_id (at_tick w)) (flush_stays (at_tick w))
+      (tick w).world.things (flush_id (at_tick w)) (flush_stays (at_tick w))
       (all_changed SessionFits (λ (s : Session). (flush (at_tick w) s).session)
       (λ s f. flush_fits (at_tick w) s (tick_sound w sound) f) w.sessions sound.fits)
+      (leavings_fit (λ s. (flush (at_tick w) s).session.player) w.sessions w.things sound.things)
       (tick_sound w sound);
-  kept = kept_mapped k (at_tick w) (λ (s : Session). (flush (at_tick w) s).session) came earlier
-      (to k (tick w).out) (flush_id (at_tick w)) (flush_waits (at_tick w))
+  kept = kept_mapped k (at_tick w) (λ (s : Session). (flush (at_tick w) s).session)
+      (tick w).world.things came earlier (to k (tick w).out) (flush_id (at_tick w))
+      (flush_waits (at_tick w))
       (λ s e. (let P : List Sent → Type 0 =
       λ ps. Hands (decoder_of came) s.stage (flush (at_tick w) s).session.stage ps in
       subst P (sym (to_found k (λ (t : Session). (flush (at_tick w) t).handed) w.sessions s

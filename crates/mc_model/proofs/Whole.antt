@@ -18,6 +18,7 @@ use Rattle.mc_model.proofs.RunLogins.{logging_in}
 use Rattle.mc_model.proofs.CauseSound.{sound_run, closed_cause, cause_closed, shut_for_good}
 use Rattle.mc_model.proofs.CauseSound.{why_closed, sender_alone}
 use Rattle.mc_model.proofs.Promised.{promised}
+use Rattle.mc_model.proofs.BalanceRun.{balance_run}
 use Rattle.mc_model.proofs.CauseFirst.{first_closes}
 use Rattle.mc_model.proofs.EventDecoding.{stream_decoded, one_decoded}
 
@@ -106,4 +107,5 @@ headline most cap terrain log settings are = record {
   closing = λ events e later split. closing most cap terrain events e;
   closed = λ events later split. closed_for_a_cause most cap terrain events;
   cause = λ events later k s split. why_closed most cap terrain events k s;
+  balance = λ events later split. balance_run most cap terrain events;
 }

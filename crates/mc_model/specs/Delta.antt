@@ -1,20 +1,37 @@
 -- What leads a client from what it was shown to what it is to be shown: a list of packets made by
 -- comparing the two, entry by entry. Which packets, and their order, are rules of this project.
-use Rattle.std.specs.Prelude.{◌≡◌, ℕ, not, Bool, true, false, List, [], ◌∷◌, map, Option, Some}
-use Rattle.std.specs.Prelude.{None}
-use Rattle.std.specs.List.{filter, flat_map}
+use Rattle.std.specs.Prelude.{◌≡◌, ◌<◌, ℕ, ◌+◌, ◌*◌, ◌/◌, ◌%◌, ◌&&◌, not, Bool, true, false}
+use Rattle.std.specs.Prelude.{List, [], ◌∷◌, ◌++◌, length, map, slice_index}
+use Rattle.std.specs.Prelude.{Option, Some, None, is_some, if◌then◌else◌}
+use Rattle.std.specs.List.{All, filter, flat_map, range_with_len}
 use Rattle.std.specs.Str.{bytes_eq}
-use Rattle.std.specs.Ordering.{nat_cmp}
+use Rattle.std.specs.Ordering.{nat_cmp, int_eq}
 use Rattle.std.specs.FinMap.{FinMap, get, contains_key, entries, keys}
 use lib.IntN.{ℤ, pos}
+use Rattle.mc_column.specs.Sizes.{cells}
 use Rattle.mc_column.specs.Cells.{ColumnValue, HasSizes}
 use Rattle.mc_column.specs.Sent.{column_mask, column_bytes}
-use Rattle.mc_land.specs.Places.{Place}
+use Rattle.mc_fields.specs.declared.position.Cell.{Cell}
+use Rattle.mc_fields.specs.declared.position.Spot.{Spot}
+use Rattle.mc_land.specs.Places.{Place, x_of, y_of, z_of}
+use Rattle.mc_land.specs.Ready.{has_changed}
+use Rattle.mc_slots.specs.declared.slot.Slot.{Slot}
+use Rattle.mc_slots.specs.declared.slot.Slot.TheVariants as slots
+use Rattle.mc_windows.specs.Pack.{pack_size}
+use Rattle.mc_view.specs.declared.forms.Form.{Form}
+use Rattle.mc_view.specs.declared.forms.Form.TheVariants as forms
+use Rattle.mc_view.specs.declared.forms.Moves.{Moves}
+use Rattle.mc_view.specs.Forms.{moves_of}
 use Rattle.mc_down.specs.declared.down.Down.{Down}
-use Rattle.mc_down.specs.declared.down.Down.TheVariants.{Chunk, List as PlayerList}
+use Rattle.mc_down.specs.declared.down.Down.TheVariants.{Chunk, List as PlayerList, MultiChange}
+use Rattle.mc_down.specs.declared.down.Down.TheVariants.{Change, SpawnObject, Destroy, Step, Look}
+use Rattle.mc_down.specs.declared.down.Down.TheVariants.{StepLook, Teleport, HeadLook, Meta, SetSlot}
+use Rattle.mc_down.specs.declared.meta.MetaValue.TheVariants as values
 use Rattle.mc_down.specs.declared.player.Player.{Player}
 use Rattle.mc_down.specs.declared.player.PlayerChange.TheVariants.{Join, Leave}
-use Rattle.mc_model.specs.Sight.{Sight}
+use Rattle.mc_down.specs.declared.record.Record.{Record}
+use Rattle.mc_model.specs.Sight.{Seen, Sight}
+use Rattle.mc_model.specs.Replica.{is_32_bits}
 
 -- ---- the list of players
 
@@ -47,6 +64,18 @@ leavers_point p q = about (pos 4) (map leaver (missing p.pairs q.pairs))
 abbrev pub joiners_point : Sight → Sight → List Down
 joiners_point p q = about (pos 0) (map joiner (missing q.pairs p.pairs))
 
+-- ---- entities that are seen no more
+
+-- one packet, and none about none
+abbrev pub destroying : List ℤ → List Down
+destroying [] = []
+destroying (eid ∷ eids) = Destroy (eid ∷ eids) ∷ []
+
+-- in rising number
+abbrev pub destroys_point : Sight → Sight → List Down
+destroys_point p q =
+    destroying (filter (λ (eid : ℤ). not (contains_key q.entities eid)) (keys p.entities))
+
 -- ---- columns
 
 -- all of a column, and no section
@@ -67,17 +96,139 @@ loads_point p q =
     map load
     (filter (λ (e : Place × ColumnValue). not (contains_key p.columns e.0)) (entries q.columns))
 
+-- ---- cells of the columns that stay
+
+-- the cells whose states differ, in rising index
+abbrev pub differing : List ℕ → List ℕ → List ℕ
+differing old new = filter (has_changed old new) (range_with_len 0 cells)
+
+abbrev pub cell_at : Place → ℕ → Cell
+cell_at place i =
+    record { x = x_of (place, i); y = pos (y_of (place, i)); z = z_of (place, i) }
+
+-- a cell of a packet about several: 16 times its x in the column, and its z
+abbrev pub cell_record : List ℕ → ℕ → Record
+cell_record states i = record {
+  place = 16 * (i % 16) + i / 16 % 16;
+  y = i / 256;
+  state = pos (slice_index states i);
+}
+
+-- cells of a column with their states: a packet about one, a packet about several, none about none
+abbrev pub cell_packets : Place → List ℕ → List ℕ → List Down
+cell_packets place states [] = []
+cell_packets place states (i ∷ []) =
+    Change (cell_at place i) (pos (slice_index states i)) ∷ []
+cell_packets place states (i ∷ j ∷ later) =
+    MultiChange place.0 place.1 (map (cell_record states) (i ∷ j ∷ later)) ∷ []
+
+-- a column that comes is sent whole
+abbrev pub column_changes : Place → Option ColumnValue → ColumnValue → List Down
+column_changes place None new = []
+column_changes place (Some old) new =
+    cell_packets place new.states (differing old.states new.states)
+
+-- column by column, in the order of their places
+abbrev pub cells_point : Sight → Sight → List Down
+cells_point p q =
+    flat_map (λ (e : Place × ColumnValue). column_changes e.0 (get p.columns e.0) e.1)
+    (entries q.columns)
+
+-- ---- entities
+
+-- the same id, count and damage and no tag, or both empty
+abbrev pub is_same_slot : Slot → Slot → Bool
+is_same_slot slots.Empty slots.Empty = true
+is_same_slot (slots.Full a) (slots.Full b) =
+    int_eq a.id b.id && (int_eq a.count b.count
+    && (int_eq a.damage b.damage && (not (is_some a.tag) && not (is_some b.tag))))
+is_same_slot slots.Empty (slots.Full b) = false
+is_same_slot (slots.Full a) slots.Empty = false
+
+-- what lies there, as the slot of index 10
+abbrev pub item_packet : ℤ → Slot → Down
+item_packet eid item = Meta eid (record { index = 10; value = values.Slot item } ∷ [])
+
+-- a dropped item is an object of kind 2
+abbrev pub spawn_packets : ℤ → Seen → List Down
+spawn_packets eid e =
+    SpawnObject eid (pos 2) e.spot.x e.spot.y e.spot.z e.spot.pitch e.spot.yaw (pos 0) None
+    ∷ item_packet eid e.item ∷ []
+
+-- where it is and looks now
+abbrev pub move_packets : ℤ → Spot → Form → List Down
+move_packets eid spot forms.Still = []
+move_packets eid spot (forms.Step dx dy dz) = Step eid dx dy dz true ∷ []
+move_packets eid spot (forms.StepTurn dx dy dz) =
+    StepLook eid dx dy dz spot.yaw spot.pitch true ∷ []
+move_packets eid spot forms.Turn = Look eid spot.yaw spot.pitch true ∷ []
+move_packets eid spot forms.Jump =
+    Teleport eid spot.x spot.y spot.z spot.yaw spot.pitch true ∷ []
+
+abbrev pub head_packets : ℤ → Spot → Bool → List Down
+head_packets eid spot turns = if turns then HeadLook eid spot.yaw ∷ [] else []
+
+abbrev pub moves_packets : ℤ → Spot → Moves → List Down
+moves_packets eid spot moves = move_packets eid spot moves.form ++ head_packets eid spot moves.head
+
+-- what lies there now, where that is something else
+abbrev pub item_packets : ℤ → Slot → Slot → List Down
+item_packets eid old new = if is_same_slot old new then [] else item_packet eid new ∷ []
+
+abbrev pub entity_packets : ℤ → Option Seen → Seen → List Down
+entity_packets eid None new = spawn_packets eid new
+entity_packets eid (Some old) new =
+    moves_packets eid new.spot (moves_of old.spot new.spot) ++ item_packets eid old.item new.item
+
+-- entity by entity, in rising number
+abbrev pub entities_point : Sight → Sight → List Down
+entities_point p q =
+    flat_map (λ (e : ℤ × Seen). entity_packets e.0 (get p.entities e.0) e.1) (entries q.entities)
+
+-- ---- the pack
+
+-- the slots of window 0 that differ, from a number on
+abbrev pub slot_packets : ℕ → List Slot → List Slot → List Down
+slot_packets i (old ∷ olds) (new ∷ news) =
+    (if is_same_slot old new then [] else SetSlot (pos 0) (pos i) new ∷ [])
+    ++ slot_packets (i + 1) olds news
+slot_packets i [] news = []
+slot_packets i olds [] = []
+
+-- the pack begins at slot 9
+abbrev pub pack_point : Sight → Sight → List Down
+pack_point p q = slot_packets 9 p.pack q.pack
+
 -- ---- all of it
 
 unfoldable pub delta : Sight → Sight → List Down
 delta p q =
     flat_map (λ (point : List Down). point)
-    (leavers_point p q ∷ joiners_point p q ∷ unloads_point p q ∷ loads_point p q ∷ [])
+    (leavers_point p q ∷ joiners_point p q ∷ destroys_point p q ∷ unloads_point p q
+    ∷ loads_point p q ∷ cells_point p q ∷ entities_point p q ∷ pack_point p q ∷ [])
 
--- What two sights that follow one another have, and what the packets rest on: no packet carries the
--- cells of a column that stays.
-pub record Follows (p q : Sight) : Type 0 where
-  pub sizes : (place : Place) (column : ColumnValue) → get q.columns place ≡ Some column →
+-- ---- what the packets rest on
+
+-- An entity whose head looks as it does, and whose place is within 32 bits.
+pub record IsSeen (e : Seen) : Type 0 where
+  pub head : e.head ≡ e.spot.yaw
+  pub x : is_32_bits e.spot.x ≡ true
+  pub y : is_32_bits e.spot.y ≡ true
+  pub z : is_32_bits e.spot.z ≡ true
+
+-- A sight that packets can tell: columns of their size with states of 16 bits, such entities, and a
+-- pack of its size.
+pub record IsTold (p : Sight) : Type 0 where
+  pub sizes : (place : Place) (column : ColumnValue) → get p.columns place ≡ Some column →
       HasSizes column
-  pub stays : (place : Place) (old new : ColumnValue) → get p.columns place ≡ Some old →
-      get q.columns place ≡ Some new → old ≡ new
+  pub states : (place : Place) (column : ColumnValue) → get p.columns place ≡ Some column →
+      All (λ state. state < 65536) column.states
+  pub entities : (eid : ℤ) (e : Seen) → get p.entities eid ≡ Some e → IsSeen e
+  pub pack : length p.pack ≡ pack_size
+
+-- Two sights that follow one another: no packet carries the biomes of a column that stays.
+pub record Follows (p q : Sight) : Type 0 where
+  pub old : IsTold p
+  pub new : IsTold q
+  pub biomes : (place : Place) (old new : ColumnValue) → get p.columns place ≡ Some old →
+      get q.columns place ≡ Some new → old.biomes ≡ new.biomes

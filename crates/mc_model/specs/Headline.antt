@@ -10,6 +10,7 @@ use Rattle.mc_model.specs.Notes.{no_notes}
 use Rattle.mc_model.specs.Names.{offline_uuid}
 use Rattle.mc_model.specs.Replica.{Shows, new_replica, replay}
 use Rattle.mc_model.specs.World.{World, Session, Player, found, is_play, new_world, project}
+use Rattle.mc_model.specs.Balance.{Balance}
 use Rattle.mc_model.specs.Packets.{Sent, of_play, played}
 use Rattle.mc_model.specs.Decoding.{IsDecoded, decoder_of}
 use Rattle.mc_model.specs.Talk.{farewell, refused, accepted}
@@ -170,3 +171,6 @@ pub record Headline (most cap : ℕ) (terrain : Terrain) (log : List Event) : Ty
   pub cause : (events later : List Event) (k : ℕ) (s : Session) → log ≡ events ++ later →
       found k (history (new_world most cap terrain) events).sessions ≡ Some s →
       s.cause ≡ why k (new_world most cap terrain) events
+  -- at each moment no item was lost or made but by kits, digging and placing
+  pub balance : (events later : List Event) → log ≡ events ++ later →
+      Balance (history (new_world most cap terrain) events)

@@ -6,9 +6,16 @@ pub mod Cutting
 pub mod Sight
 pub mod Replica
 pub mod Delta
+pub mod Things
 pub mod World
+pub mod Owning
+pub mod Balance
 pub mod Packets
 pub mod Movement
+pub mod Packs
+pub mod Reach
+pub mod Digging
+pub mod Placing
 pub mod Acts
 pub mod Talk
 pub mod Decoding

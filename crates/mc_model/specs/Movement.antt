@@ -1,10 +1,11 @@
 -- Where a player that moves or looks about comes to be. Rules of this project.
-use Rattle.std.specs.Prelude.{ℕ, ◌&&◌, Bool, true, Option, Some, option_map, int_le}
-use Rattle.std.specs.Prelude.{if◌then◌else◌}
+use Rattle.std.specs.Prelude.{ℕ, true, Option, Some, option_map, if◌then◌else◌}
 use Rattle.std.specs.Option.{option_and_then}
-use lib.IntN.{ℤ, pos, negsuc}
+use lib.IntN.{ℤ}
 use Rattle.mc_fields.specs.declared.position.Spot.{Spot}
+use Rattle.mc_entities.specs.Shift.{is_inside}
 use Rattle.mc_model.specs.Numbers.{fixed_of, turn_of}
+use Rattle.mc_model.specs.Things.{standing, with_entity}
 use Rattle.mc_model.specs.World.{World, Session, Player, put, spawn_spot}
 
 -- f of two values, where both are there
@@ -23,22 +24,20 @@ abbrev pub turned : Spot → ℕ → ℕ → Option Spot
 turned spot yaw pitch =
     both (λ (about up : ℕ). record spot { yaw = about; pitch = up }) (turn_of yaw) (turn_of pitch)
 
--- a player is within 30,000,000 blocks on x and z, and from 64 below to 4,096 above on y
-abbrev pub is_within : ℤ → ℤ → ℤ → Bool
-is_within low high n = int_le low n && int_le n high
+-- where a player comes to be that goes somewhere: out of the range it is put where players enter
+abbrev pub landing : World → Spot → Spot
+landing w spot = if is_inside spot then spot else spawn_spot w.terrain
 
-abbrev pub is_in_range : Spot → Bool
-is_in_range spot =
-    is_within (negsuc 959999999) (pos 960000000) spot.x
-    && is_within (negsuc 2047) (pos 131072) spot.y
-    && is_within (negsuc 959999999) (pos 960000000) spot.z
+-- and it is told so
+abbrev pub landed : Spot → Player → Player
+landed spot p = if is_inside spot then p else record p { notes = record p.notes { placing = true } }
 
--- a player that goes out of that is put where players enter, and told so
-abbrev pub arrived : World → Player → Spot → Player
-arrived w p spot =
-    if is_in_range spot then record p { spot = spot }
-    else record p { spot = spawn_spot w.terrain; notes = record p.notes { placing = true } }
+-- the world in which the player of a session went somewhere
+abbrev pub arrived : World → Session → Player → Spot → World
+arrived w s p spot = record (put w (record s { player = Some (landed spot p) })) {
+  things = with_entity p.eid (standing (landing w spot)) w.things;
+}
 
--- the world in which the player of a session did so; none where there is no spot
+-- none where there is no spot
 abbrev pub arrive : World → Session → Player → Option Spot → Option World
-arrive w s p spot = option_map (λ to. put w (record s { player = Some (arrived w p to) })) spot
+arrive w s p spot = option_map (arrived w s p) spot

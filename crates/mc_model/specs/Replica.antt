@@ -1,22 +1,35 @@
 -- A client's world, made of the packets that it was sent, one after another. What each packet does
--- is that of the pages 'Protocol' and 'SMP Map Format' of wiki.vg for protocol 47, as far as it is
--- shown here; every other packet changes nothing.
-use Rattle.std.specs.Prelude.{◌≡◌, ℕ, ◌==◌, ◌&&◌, Bool, true, false, List, Option, Some, None}
-use Rattle.std.specs.Prelude.{Result, Ok, Err, if◌then◌else◌}
+-- is that of the pages 'Protocol', 'SMP Map Format' and 'Entities' of wiki.vg for protocol 47, as
+-- far as it is shown here; every other packet changes nothing.
+use Rattle.std.specs.Prelude.{◌≡◌, ℕ, ◌/◌, ◌%◌, ◌-◌, ◌==◌, ◌&&◌, Bool, true, false, List, length}
+use Rattle.std.specs.Prelude.{drop, slice_set, nat_lt, nat_le, int_le, unsigned_abs}
+use Rattle.std.specs.Prelude.{Option, Some, None, Result, Ok, Err, if◌then◌else◌}
+use Rattle.std.specs.Int.{int_rem_euclid}
 use Rattle.std.specs.List.{fold}
-use Rattle.std.specs.Ordering.{nat_cmp}
+use Rattle.std.specs.Ordering.{nat_cmp, int_cmp, int_eq}
+use Rattle.std.specs.declared.cmp.Ordering.{Ordering}
 use Rattle.std.specs.FinMap.{FinMap, get, insert, remove}
-use lib.IntN.{ℤ, pos, negsuc}
+use lib.IntN.{ℤ, pos, negsuc, ◌+ℤ◌}
 use Rattle.mc_nbt.specs.declared.fault.FieldFault.{FieldFault}
-use Rattle.mc_column.specs.Cells.{ColumnValue, empty_column}
+use Rattle.mc_column.specs.Cells.{ColumnValue, cell_index, empty_column, with_state}
 use Rattle.mc_column.specs.Body.{BodyValue, body_read, put_body}
-use Rattle.mc_land.specs.Places.{Place, place_cmp}
+use Rattle.mc_fields.specs.declared.position.Spot.{Spot}
+use Rattle.mc_land.specs.Places.{Place, Key, place_cmp, key_of}
+use Rattle.mc_slots.specs.declared.slot.Slot.{Slot}
+use Rattle.mc_slots.specs.declared.slot.Slot.TheVariants as slots
 use Rattle.mc_down.specs.declared.down.Down.{Down}
 use Rattle.mc_down.specs.declared.down.Down.TheVariants.{JoinGame, Chunk, List as PlayerList}
+use Rattle.mc_down.specs.declared.down.Down.TheVariants.{MultiChange, Change, SpawnObject, Destroy}
+use Rattle.mc_down.specs.declared.down.Down.TheVariants.{Step, Look, StepLook, Teleport, HeadLook}
+use Rattle.mc_down.specs.declared.down.Down.TheVariants.{Meta, SetSlot, WindowItems}
+use Rattle.mc_down.specs.declared.meta.MetaEntry.{MetaEntry}
+use Rattle.mc_down.specs.declared.meta.MetaValue.{MetaValue}
+use Rattle.mc_down.specs.declared.meta.MetaValue.TheVariants as values
 use Rattle.mc_down.specs.declared.player.Player.{Player}
 use Rattle.mc_down.specs.declared.player.PlayerChange.{PlayerChange}
 use Rattle.mc_down.specs.declared.player.PlayerChange.TheVariants.{Join, Leave}
-use Rattle.mc_model.specs.Sight.{Sight, nothing_seen}
+use Rattle.mc_down.specs.declared.record.Record.{Record}
+use Rattle.mc_model.specs.Sight.{Seen, Sight, nothing_seen}
 
 pub record Replica : Type 0 where
   -- the dimension has a sky, so bodies have sky light
@@ -25,6 +38,17 @@ pub record Replica : Type 0 where
 
 abbrev pub new_replica : Replica
 new_replica = record { sky = true; sight = nothing_seen }
+
+-- ---- what stands at a key
+
+abbrev pub altered_from : {K X : Type 0} {R : K → K → Ordering} → FinMap R X → K → (X → X) →
+    Option X → FinMap R X
+altered_from m k f None = m
+altered_from m k f (Some v) = insert m k (f v)
+
+-- with what stands at a key changed, if something does
+abbrev pub altered : {K X : Type 0} {R : K → K → Ordering} → FinMap R X → K → (X → X) → FinMap R X
+altered m k f = altered_from m k f (get m k)
 
 -- ---- the list of players
 
@@ -64,22 +88,128 @@ with_chunk sky columns place ground_up mask bytes =
     else if ground_up then loaded columns place (body_read mask sky true bytes)
     else amended columns place (body_read mask sky false bytes)
 
+-- ---- cells
+
+-- a state is the low 16 bits of its number
+abbrev pub low_state : ℤ → ℕ
+low_state state = unsigned_abs (int_rem_euclid state (pos 65536))
+
+-- a cell of a column that is there has another state
+abbrev pub with_cell : Columns → Key → ℤ → Columns
+with_cell columns key state =
+    altered columns key.0 (λ (column : ColumnValue). with_state column key.1 (low_state state))
+
+-- y from 0 to 255
+abbrev pub changed_at : Columns → ℤ → ℤ → ℤ → ℤ → Columns
+changed_at columns x (pos y) z state =
+    if nat_lt y 256 then with_cell columns (key_of x y z) state else columns
+changed_at columns x (negsuc y) z state = columns
+
+-- which cell of a column a change of several means: its place is 16 times its x, and its z
+abbrev pub record_index : Record → ℕ
+record_index r = cell_index (r.place / 16) r.y (r.place % 16)
+
+abbrev pub with_records : Columns → Place → List Record → Columns
+with_records columns place records =
+    fold (λ (m : Columns) (r : Record). with_cell m (place, record_index r) r.state) columns records
+
+-- ---- entities
+
+abbrev pub Entities : Type 0
+Entities = FinMap int_cmp Seen
+
+-- an object of kind 2 is a dropped item, of which the metadata says what lies there
+abbrev pub with_object : Entities → ℤ → ℤ → Spot → Entities
+with_object entities eid kind spot =
+    if int_eq kind (pos 2)
+    then insert entities eid (record { spot = spot; head = spot.yaw; item = slots.Empty })
+    else entities
+
+abbrev pub without_eids : Entities → List ℤ → Entities
+without_eids entities eids = fold (λ (m : Entities) (eid : ℤ). remove m eid) entities eids
+
+abbrev pub is_32_bits : ℤ → Bool
+is_32_bits n = int_le (negsuc 2147483647) n && int_le n (pos 2147483647)
+
+-- at another spot, if its place is within 32 bits
+abbrev pub put_at : Spot → Seen → Seen
+put_at spot e =
+    if is_32_bits spot.x && is_32_bits spot.y && is_32_bits spot.z then record e { spot = spot }
+    else e
+
+-- so far on
+abbrev pub onward : ℤ → ℤ → ℤ → Spot → Spot
+onward dx dy dz spot =
+    record spot { x = spot.x +ℤ dx; y = spot.y +ℤ dy; z = spot.z +ℤ dz }
+
+abbrev pub looking : ℕ → ℕ → Spot → Spot
+looking yaw pitch spot = record spot { yaw = yaw; pitch = pitch }
+
+-- the slot of index 10 says what lies there
+abbrev pub with_value : ℕ → MetaValue → Seen → Seen
+with_value index (values.Slot item) e = if index == 10 then record e { item = item } else e
+with_value index other e = e
+
+abbrev pub with_metas : List MetaEntry → Seen → Seen
+with_metas metas e = fold (λ (s : Seen) (m : MetaEntry). with_value m.index m.value s) e metas
+
+-- ---- the pack: slots 9 to 44 of window 0
+
+abbrev pub with_slot : List Slot → ℤ → ℤ → Slot → List Slot
+with_slot pack (pos window) (pos i) item =
+    if window == 0 && (nat_le 9 i && nat_le i 44) then slice_set pack (i - 9) item else pack
+with_slot pack window i item = pack
+
+abbrev pub with_items : List Slot → ℕ → List Slot → List Slot
+with_items pack window items = if window == 0 && length items == 45 then drop 9 items else pack
+
 -- ---- packets
 
 abbrev pub is_overworld : ℤ → Bool
 is_overworld (pos n) = n == 0
 is_overworld (negsuc n) = false
 
+abbrev pub with_columns : Replica → Columns → Replica
+with_columns r columns = record r { sight = record r.sight { columns = columns } }
+
+abbrev pub with_entities : Replica → Entities → Replica
+with_entities r entities = record r { sight = record r.sight { entities = entities } }
+
+-- an entity that is known is changed
+abbrev pub with_entity : Replica → ℤ → (Seen → Seen) → Replica
+with_entity r eid f = with_entities r (altered r.sight.entities eid f)
+
+abbrev pub with_pack : Replica → List Slot → Replica
+with_pack r pack = record r { sight = record r.sight { pack = pack } }
+
 unfoldable pub apply : Replica → Down → Replica
 apply r (JoinGame eid mode dimension hardness most level reduced) =
     record r { sky = is_overworld dimension }
 apply r (PlayerList action players) =
     record r { sight = record r.sight { pairs = with_players r.sight.pairs players } }
-apply r (Chunk cx cz ground_up mask bytes) = record r {
-  sight = record r.sight {
-    columns = with_chunk r.sky r.sight.columns (cx, cz) ground_up mask bytes;
-  };
-}
+apply r (Chunk cx cz ground_up mask bytes) =
+    with_columns r (with_chunk r.sky r.sight.columns (cx, cz) ground_up mask bytes)
+apply r (Change cell state) =
+    with_columns r (changed_at r.sight.columns cell.x cell.y cell.z state)
+apply r (MultiChange cx cz records) =
+    with_columns r (with_records r.sight.columns (cx, cz) records)
+apply r (SpawnObject eid kind x y z pitch yaw extra motion) =
+    with_entities r (with_object r.sight.entities eid kind
+    (record { x = x; y = y; z = z; yaw = yaw; pitch = pitch }))
+apply r (Destroy eids) = with_entities r (without_eids r.sight.entities eids)
+apply r (Step eid dx dy dz on_ground) =
+    with_entity r eid (λ (e : Seen). put_at (onward dx dy dz e.spot) e)
+apply r (StepLook eid dx dy dz yaw pitch on_ground) =
+    with_entity r eid (λ (e : Seen). put_at (looking yaw pitch (onward dx dy dz e.spot)) e)
+apply r (Look eid yaw pitch on_ground) =
+    with_entity r eid (λ (e : Seen). record e { spot = looking yaw pitch e.spot })
+apply r (Teleport eid x y z yaw pitch on_ground) =
+    with_entity r eid
+    (λ (e : Seen). put_at (record { x = x; y = y; z = z; yaw = yaw; pitch = pitch }) e)
+apply r (HeadLook eid head) = with_entity r eid (λ (e : Seen). record e { head = head })
+apply r (Meta eid metas) = with_entity r eid (with_metas metas)
+apply r (SetSlot window i item) = with_pack r (with_slot r.sight.pack window i item)
+apply r (WindowItems window items) = with_pack r (with_items r.sight.pack window items)
 apply r other = r
 
 abbrev pub replay : Replica → List Down → Replica
@@ -89,6 +219,8 @@ replay r packets = fold apply r packets
 pub record Shows (r : Replica) (p : Sight) : Type 0 where
   pub pairs : r.sight.pairs ≡ p.pairs
   pub columns : r.sight.columns ≡ p.columns
+  pub entities : r.sight.entities ≡ p.entities
+  pub pack : r.sight.pack ≡ p.pack
 
 -- the replica of a client that sees this
 abbrev pub seeing : Sight → Replica

@@ -1,15 +1,34 @@
 -- What a client can see: the one type of what the server shows to it and of what its replica holds.
-use Rattle.std.specs.Prelude.{ℕ, List}
-use Rattle.std.specs.Ordering.{nat_cmp}
+use Rattle.std.specs.Prelude.{ℕ, List, replicate}
+use Rattle.std.specs.Ordering.{nat_cmp, int_cmp}
 use Rattle.std.specs.FinMap.{FinMap, empty}
 use Rattle.mc_column.specs.Cells.{ColumnValue}
+use Rattle.mc_fields.specs.declared.position.Spot.{Spot}
 use Rattle.mc_land.specs.Places.{place_cmp}
+use Rattle.mc_slots.specs.declared.slot.Slot.{Slot}
+use Rattle.mc_slots.specs.declared.slot.Slot.TheVariants as slots
+use Rattle.mc_windows.specs.Pack.{pack_size}
+
+-- a dropped item: where it is and looks, where its head looks, and what lies there
+pub record Seen : Type 0 where
+  pub spot : Spot
+  pub head : ℕ
+  pub item : Slot
 
 pub record Sight : Type 0 where
   -- the list of players: each one's name, by its identifier
   pub pairs : FinMap nat_cmp (List ℕ)
   -- the columns in view, with states and biomes
   pub columns : FinMap place_cmp ColumnValue
+  -- the dropped items in view, by their numbers
+  pub entities : FinMap int_cmp Seen
+  -- the slots of the own pack
+  pub pack : List Slot
 
 abbrev pub nothing_seen : Sight
-nothing_seen = record { pairs = empty; columns = empty }
+nothing_seen = record {
+  pairs = empty;
+  columns = empty;
+  entities = empty;
+  pack = replicate pack_size slots.Empty;
+}

@@ -1,31 +1,43 @@
 -- What an event makes of the world, and what it hands out to whom. Rules of this project.
-use Rattle.std.specs.Prelude.{ℕ, ◌+◌, ◌-◌, ◌==◌, ◌&&◌, ◌||◌, not, nat_lt, nat_le, Bool, true, false}
+use Rattle.std.specs.Prelude.{ℕ, ◌+◌, ◌-◌, ◌==◌, ◌&&◌, ◌||◌, not, nat_lt, nat_le, int_le, Bool, true}
+use Rattle.std.specs.Prelude.{false}
 use Rattle.std.specs.Prelude.{List, [], ◌∷◌, ◌++◌, length, map, drop, codes}
-use Rattle.std.specs.Prelude.{Option, Some, None, unwrap_or, is_some, if◌then◌else◌}
-use Rattle.std.specs.List.{filter, list_any}
+use Rattle.std.specs.Prelude.{replicate, Option, Some, None, unwrap_or, is_some, if◌then◌else◌}
+use Rattle.std.specs.List.{filter, fold, list_any}
+use Rattle.std.specs.Option.{option_and_then}
+use Rattle.std.specs.FinMap.{FinMap}
 use lib.IntN.{ℤ, pos, negsuc}
+use Rattle.mc_fields.specs.declared.position.Cell.{Cell}
 use Rattle.mc_fields.specs.declared.position.Spot.{Spot}
 use Rattle.mc_frame.specs.declared.fault.FrameFault.{FrameFault}
 use Rattle.mc_frame.specs.Cut.{Cut}
 use Rattle.mc_frame.specs.Kept.{outbox_max}
 use Rattle.mc_land.specs.declared.terrain.Terrain.{Terrain}
 use Rattle.mc_land.specs.declared.terrain.Terrain.TheVariants.{Flat}
+use Rattle.mc_land.specs.Places.{Place, key_cmp, place_of}
 use Rattle.mc_down.specs.declared.down.Down.{Down}
+use Rattle.mc_slots.specs.declared.slot.Slot.TheVariants as slots
+use Rattle.mc_slots.specs.Pile.{slot_of}
+use Rattle.mc_windows.specs.Pack.{PackValue}
+use Rattle.mc_entities.specs.declared.entity.EntityKind.TheVariants as kinds
 use Rattle.mc_down.specs.declared.down.Down.TheVariants.{JoinGame, SpawnPosition, PositionLook}
+use Rattle.mc_down.specs.declared.down.Down.TheVariants.{Change, SetSlot, WindowItems}
 use Rattle.mc_up.specs.declared.play_up.PlayUp.{PlayUp}
 use Rattle.mc_model.specs.declared.cause.Cause.{Cause}
 use Rattle.mc_model.specs.declared.cause.Cause.TheVariants as causes
 use Rattle.mc_model.specs.declared.cause.Refusal.{Refusal}
 use Rattle.mc_model.specs.declared.cause.Refusal.TheVariants as refusals
 use Rattle.mc_model.specs.declared.stage.Stage.TheVariants as stages
-use Rattle.mc_model.specs.Notes.{no_notes}
+use Rattle.mc_model.specs.Notes.{Noted, no_notes}
+use Rattle.mc_model.specs.Things.{Things, in_hand, is_known, pack_of as carried, state_of_cell}
+use Rattle.mc_model.specs.Things.{with_kit, with_new_entity, without_entity}
 use Rattle.mc_model.specs.Names.{is_name, offline_uuid}
 use Rattle.mc_model.specs.Numbers.{pattern_of, degrees_of}
 use Rattle.mc_model.specs.Cutting.{cut_of}
 use Rattle.mc_model.specs.Sight.{Sight, nothing_seen}
 use Rattle.mc_model.specs.Delta.{delta}
 use Rattle.mc_model.specs.World.{World, Session, Player, is_closed, players, found, put}
-use Rattle.mc_model.specs.World.{spot_of, spawn_height, spawn_spot, project}
+use Rattle.mc_model.specs.World.{spot_of, pack_of, sees, spawn_height, spawn_spot, project}
 use Rattle.mc_model.specs.Packets.{Sent, of_status, of_play, bytes_of}
 use Rattle.mc_model.specs.Acts.{act}
 use Rattle.mc_model.specs.Talk.{ClientRequest, nothing, greets, replies, ends, enters, acts, wrong}
@@ -54,6 +66,12 @@ hand s packets =
 abbrev pub disconnect : Session → Cause → List Sent → Handing
 disconnect s cause packets = hand (mark_closed s cause) packets
 
+-- The entity of a player goes that a connection has no more.
+abbrev pub after_leaving : Option Player → Option Player → Things → Things
+after_leaving (Some p) None things = without_entity p.eid things
+after_leaving (Some p) (Some q) things = things
+after_leaving None after_ things = things
+
 -- what a step makes of the world, and what it hands out to one connection
 pub record Turn : Type 0 where
   pub world : World
@@ -62,8 +80,12 @@ pub record Turn : Type 0 where
 abbrev pub still : World → Turn
 still w = record { world = w; handed = [] }
 
-abbrev pub turn : World → Handing → Turn
-turn w h = record { world = put w h.session; handed = h.handed }
+-- a connection is handed something, of which it may be closed: its player leaves then
+abbrev pub turn : World → Session → Handing → Turn
+turn w s h = record {
+  world = record (put w h.session) { things = after_leaving s.player h.session.player w.things };
+  handed = h.handed;
+}
 
 -- one thing after another
 abbrev pub after : Turn → (World → Turn) → Turn
@@ -88,18 +110,19 @@ refusal w protocol name =
     else if not (is_name name) then Some refusals.Name
     else if list_any (λ (p : Player). p.uuid == offline_uuid name) (players w)
     then Some refusals.Taken
-    else if not (nat_lt (length (players w)) w.most && nat_lt w.eids 2147483647)
+    else if not (nat_lt (length (players w)) w.most && (nat_lt w.things.eids 2147483647
+    && (is_known name w.things.packs || nat_lt (length w.things.packs) 65536)))
     then Some refusals.Full
     else None
 
--- a player that begins where players enter, with an entity number
-abbrev pub new_player : Terrain → ℕ → List ℕ → Player
-new_player terrain eid name = record {
+-- a player with an entity number, whose hand is on the first place of the hotbar
+abbrev pub new_player : ℕ → List ℕ → Player
+new_player eid name = record {
   name = name;
   uuid = offline_uuid name;
   eid = eid;
   view_byte = pos 2;
-  spot = spawn_spot terrain;
+  hand = 0;
   notes = no_notes;
   shown = None;
 }
@@ -107,19 +130,26 @@ new_player terrain eid name = record {
 -- the player enters, with the next entity number
 abbrev pub entered : World → Session → List ℕ → Session
 entered w s name =
-    record s { stage = stages.Play; player = Some (new_player w.terrain (w.eids + 1) name) }
+    record s { stage = stages.Play; player = Some (new_player (w.things.eids + 1) name) }
+
+-- its entity stands where players enter, and it carries what is kept of it, or the kit
+abbrev pub with_new_player : Terrain → List ℕ → Things → Things
+with_new_player terrain name things =
+    with_new_entity
+    (kinds.Player (offline_uuid name) (in_hand (carried name (with_kit name things.packs)) 0))
+    (spawn_spot terrain) (record things { packs = with_kit name things.packs })
 
 abbrev pub answer_login : World → Session → List ℕ → Option Refusal → Turn
-answer_login w s name (Some why) = turn w (disconnect s (causes.Refused why) (refused why))
+answer_login w s name (Some why) = turn w s (disconnect s (causes.Refused why) (refused why))
 answer_login w s name None =
-    turn (record w { eids = w.eids + 1 })
+    turn (record w { things = with_new_player w.terrain name w.things }) (entered w s name)
     (hand (entered w s name) (accepted (offline_uuid name) name))
 
 -- ---- the bytes of a client
 
 -- closing a connection, with the farewell of its stage
 abbrev pub disconnect_for : World → Session → Cause → Turn
-disconnect_for w s cause = turn w (disconnect s cause (farewell s.stage cause))
+disconnect_for w s cause = turn w s (disconnect s cause (farewell s.stage cause))
 
 abbrev pub acted : World → Session → Option World → Turn
 acted w s (Some v) = still v
@@ -135,8 +165,8 @@ abbrev pub perform : World → Session → ClientRequest → Turn
 perform w s nothing = still w
 perform w s (greets protocol stage) =
     still (put w (record s { stage = stage; protocol = protocol }))
-perform w s (replies packet) = turn w (hand s (of_status packet ∷ []))
-perform w s (ends packet) = turn w (disconnect s causes.Done (of_status packet ∷ []))
+perform w s (replies packet) = turn w s (hand s (of_status packet ∷ []))
+perform w s (ends packet) = turn w s (disconnect s causes.Done (of_status packet ∷ []))
 perform w s (enters name) = answer_login w s name (refusal w s.protocol name)
 perform w s (acts packet) = act_by w s s.player packet
 perform w s (wrong fault) = disconnect_for w s (causes.Packet fault)
@@ -220,6 +250,16 @@ abbrev pub changed : World → ℕ → (Session → Session) → World
 changed w k f =
     record w { sessions = map (λ (s : Session). if s.id == k then f s else s) w.sessions }
 
+-- the player of a connection, if that is there and has one
+abbrev pub player_in : ℕ → List Session → Option Player
+player_in k sessions = option_and_then (λ (s : Session). s.player) (found k sessions)
+
+-- a connection goes, and its player leaves
+abbrev pub depart : World → ℕ → Cause → World
+depart w k cause = record (changed w k (gone cause)) {
+  things = after_leaving (player_in k w.sessions) None w.things;
+}
+
 -- ---- a tick
 
 -- the kind of level that a client is told
@@ -248,9 +288,37 @@ opening w p = opening_of w.terrain w.most (pos p.eid) (spot_of w p)
 abbrev pub opening_due : World → Player → List Down
 opening_due w p = if is_some p.shown then [] else opening w p
 
--- what was noted, as the world is at the tick
+-- The window 0 with all slots of it: the first nine are empty, and behind them are those of the
+-- pack. Then what hangs on the cursor, as slot -1 of window -1.
+abbrev pub window_packets : PackValue → List Down
+window_packets pack =
+    WindowItems 0 (replicate 9 slots.Empty ++ map slot_of pack.slots)
+    ∷ SetSlot (negsuc 0) (negsuc 0) (slot_of pack.cursor) ∷ []
+
+-- what was noted beside cells, of a player that is at a spot and carries a pack
+abbrev pub notes_of : Noted → Spot → PackValue → List Down
+notes_of notes spot pack =
+    (if notes.placing then placing spot ∷ [] else [])
+    ++ (if notes.resend then window_packets pack else [])
+
+-- a noted cell that has a position is sent where its column is in view
+abbrev pub is_sent : (Place → Bool) → Cell → Bool
+is_sent seen cell =
+    int_le (negsuc 2047) cell.y
+    && (int_le cell.y (pos 2047) && seen (place_of cell.x cell.z))
+
+-- as it is, in a land of a terrain where some cells are changed
+abbrev pub cell_packet : Terrain → FinMap key_cmp ℕ → Cell → Down
+cell_packet terrain edits cell = Change cell (pos (state_of_cell terrain edits cell.x cell.y cell.z))
+
+abbrev pub noted_packets : Terrain → FinMap key_cmp ℕ → (Place → Bool) → List Cell → List Down
+noted_packets terrain edits seen cells = map (cell_packet terrain edits) (filter (is_sent seen) cells)
+
+-- the noted cells and then all else, as the world is at the tick
 abbrev pub notes_due : World → Player → List Down
-notes_due w p = if p.notes.placing then placing (spot_of w p) ∷ [] else []
+notes_due w p =
+    noted_packets w.terrain w.things.edits (sees w p) p.notes.cells
+    ++ notes_of p.notes (spot_of w p) (pack_of w p)
 
 -- what a player was shown
 abbrev pub last_shown : Player → Sight
@@ -302,12 +370,19 @@ silent w = record { world = w; out = [] }
 abbrev pub alone : ℕ → Turn → Outcome
 alone k t = record { world = t.world; out = (k, t.handed) ∷ [] }
 
+-- the world after each client in play was handed what is due to it: those that were handed too
+-- much leave after all
+abbrev pub flushed : World → World
+flushed w = record w {
+  sessions = map (λ (s : Session). (flush w s).session) w.sessions;
+  things = fold (λ (things : Things) (s : Session).
+      after_leaving s.player (flush w s).session.player things) w.things w.sessions;
+}
+
 -- every client in play is shown the same world
 abbrev pub tick : World → Outcome
 tick w = record {
-  world = record (at_tick w) {
-    sessions = map (λ (s : Session). (flush (at_tick w) s).session) w.sessions;
-  };
+  world = flushed (at_tick w);
   out = map (λ (s : Session). (s.id, (flush (at_tick w) s).handed)) w.sessions;
 }
 
@@ -317,8 +392,8 @@ is_done s = is_closed s.stage && nat_le (length s.owed) 0
 unfoldable pub step : World → Event → Outcome
 step w (joined k) = silent (join w k)
 step w (came k bytes) = alone k (on_bytes w k bytes)
-step w (left k) = silent (changed w k (gone causes.Gone))
-step w (broke k) = silent (changed w k (gone causes.Broke))
+step w (left k) = silent (depart w k causes.Gone)
+step w (broke k) = silent (depart w k causes.Broke)
 step w ticked = tick w
 step w (took k n) = silent (changed w k (λ (s : Session). record s { owed = drop n s.owed }))
 step w (forgot k) = silent (record w {

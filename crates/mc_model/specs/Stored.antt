@@ -1,13 +1,21 @@
 -- How values of the world are stored where a model has them in a field: a code of columns, of
 -- sights and of edits.
-use Rattle.std.specs.Prelude.{ℕ, List, refl}
-use Rattle.std.specs.Ordering.{nat_cmp}
-use Rattle.std.specs.Coded.{Coded, code_by, coded×, coded_ℕ, coded_ℤ, coded_list}
+use Rattle.std.specs.Prelude.{◌≡◌, ℕ, List, Option, Some, None, refl}
+use Rattle.std.specs.Ordering.{nat_cmp, int_cmp}
+use Rattle.std.specs.Coded.{Coded, code_by, coded×, coded_ℕ, coded_ℤ, coded_list, coded_option}
 use Rattle.std.specs.FinMap.{FinMap, code}
+use lib.IntN.{ℤ}
+use Rattle.mc_nbt.specs.Tree.{Tree}
+use Rattle.mc_nbt.specs.TreeCode.{coded_tree}
+use Rattle.mc_nbt.specs.Nbt.{Named}
 use Rattle.mc_column.specs.Cells.{ColumnValue}
+use Rattle.mc_fields.specs.declared.position.Spot.{Spot}
 use Rattle.mc_land.specs.Places.{key_cmp, place_cmp}
 use Rattle.mc_land.specs.LandCode.{coded_key}
-use Rattle.mc_model.specs.Sight.{Sight}
+use Rattle.mc_slots.specs.declared.slot.Slot.{Slot}
+use Rattle.mc_slots.specs.declared.slot.Slot.TheVariants as slots
+use Rattle.mc_view.specs.ToldCode.{coded_spot}
+use Rattle.mc_model.specs.Sight.{Seen, Sight}
 
 abbrev pub coded_column : Coded ColumnValue
 coded_column =
@@ -16,16 +24,70 @@ coded_column =
     (λ parts. record { states = parts.0; biomes = parts.1 })
     (λ c. refl)
 
+-- ---- slots
+
+abbrev pub coded_named : Coded Named
+coded_named =
+    code_by (List ℕ × List (List ℕ × Tree))
+    (coded× (coded_list coded_ℕ) (coded_list (coded× (coded_list coded_ℕ) coded_tree)))
+    (λ tag. (tag.name, tag.entries))
+    (λ parts. record { name = parts.0; entries = parts.1 })
+    (λ tag. refl)
+
+abbrev pub StoredSlot : Type 0
+StoredSlot = Option (ℤ × (ℤ × (ℤ × Option Named)))
+
+abbrev pub slot_stored : Slot → StoredSlot
+slot_stored slots.Empty = None
+slot_stored (slots.Full stack) = Some (stack.id, (stack.count, (stack.damage, stack.tag)))
+
+abbrev pub slot_back : StoredSlot → Slot
+slot_back None = slots.Empty
+slot_back (Some parts) = slots.Full (record {
+  id = parts.0;
+  count = parts.1.0;
+  damage = parts.1.1.0;
+  tag = parts.1.1.1;
+})
+
+abbrev pub slot_again : (slot : Slot) → slot_back (slot_stored slot) ≡ slot
+slot_again slots.Empty = refl
+slot_again (slots.Full stack) = refl
+
+abbrev pub coded_slot : Coded Slot
+coded_slot =
+    code_by StoredSlot
+    (coded_option (coded× coded_ℤ (coded× coded_ℤ (coded× coded_ℤ (coded_option coded_named)))))
+    slot_stored slot_back slot_again
+
+-- ---- sights
+
+abbrev pub coded_seen : Coded Seen
+coded_seen =
+    code_by (Spot × (ℕ × Slot)) (coded× coded_spot (coded× coded_ℕ coded_slot))
+    (λ e. (e.spot, (e.head, e.item)))
+    (λ parts. record { spot = parts.0; head = parts.1.0; item = parts.1.1 })
+    (λ e. refl)
+
 abbrev pub StoredSight : Type 0
-StoredSight = FinMap nat_cmp (List ℕ) × FinMap place_cmp ColumnValue
+StoredSight = FinMap nat_cmp (List ℕ)
+    × (FinMap place_cmp ColumnValue × (FinMap int_cmp Seen × List Slot))
 
 abbrev pub coded_sight : Coded Sight
 coded_sight =
     code_by StoredSight
-    (coded× (code coded_ℕ (coded_list coded_ℕ)) (code (coded× coded_ℤ coded_ℤ) coded_column))
-    (λ sight. (sight.pairs, sight.columns))
-    (λ parts. record { pairs = parts.0; columns = parts.1 })
+    (coded× (code coded_ℕ (coded_list coded_ℕ)) (coded× (code (coded× coded_ℤ coded_ℤ) coded_column)
+    (coded× (code coded_ℤ coded_seen) (coded_list coded_slot))))
+    (λ sight. (sight.pairs, (sight.columns, (sight.entities, sight.pack))))
+    (λ parts. record {
+      pairs = parts.0;
+      columns = parts.1.0;
+      entities = parts.1.1.0;
+      pack = parts.1.1.1;
+    })
     (λ sight. refl)
+
+-- ---- edits
 
 abbrev pub coded_edits : Coded (FinMap key_cmp ℕ)
 coded_edits = code coded_key coded_ℕ

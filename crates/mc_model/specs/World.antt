@@ -1,23 +1,35 @@
 -- The world: what every client is shown a part of, and how far each connection has come. Plain
 -- lists and finite maps; no buffer, no mark and no queue is in it. Rules of this project.
 use Rattle.std.specs.Prelude.{ℕ, ◌+◌, ◌*◌, ◌==◌, ◌≤◌, Bool, true, false, List, [], ◌∷◌, map}
-use Rattle.std.specs.Prelude.{Option, Some, None, if◌then◌else◌}
-use Rattle.std.specs.List.{filter_map}
-use Rattle.std.specs.FinMap.{FinMap, empty, from_entries}
+use Rattle.std.specs.Prelude.{Option, Some, None, option_map, unwrap_or, if◌then◌else◌}
+use Rattle.std.specs.List.{filter, filter_map}
+use Rattle.std.specs.FinMap.{from_entries}
 use lib.IntN.{ℤ, pos}
 use Rattle.mc_column.specs.Cells.{ColumnValue}
+use Rattle.mc_fields.specs.declared.position.Cell.{Cell}
 use Rattle.mc_fields.specs.declared.position.Spot.{Spot}
 use Rattle.mc_land.specs.declared.terrain.Terrain.{Terrain}
 use Rattle.mc_land.specs.declared.terrain.Terrain.TheVariants.{Flat, Hills, Isle}
-use Rattle.mc_land.specs.Places.{Place, key_cmp}
+use Rattle.mc_land.specs.Places.{Place}
 use Rattle.mc_land.specs.Terrain.{height}
 use Rattle.mc_land.specs.Land.{states_of, biomes_of}
+use Rattle.mc_slots.specs.declared.pile.Pile.{Pile}
+use Rattle.mc_slots.specs.declared.pile.Pile.TheVariants.{Full}
+use Rattle.mc_slots.specs.Pile.{slot_of}
+use Rattle.mc_windows.specs.Pack.{PackValue}
+use Rattle.mc_entities.specs.declared.entity.Entity.{Entity}
+use Rattle.mc_entities.specs.declared.entity.EntityKind.{EntityKind}
+use Rattle.mc_entities.specs.declared.entity.EntityKind.TheVariants as kinds
+use Rattle.mc_entities.specs.Numbers.{numbered}
+use Rattle.mc_entities.specs.Folk.{eid_of}
+use Rattle.mc_view.specs.Views.{view_of, column_of_spot, is_in_view, view_size}
 use Rattle.mc_model.specs.declared.cause.Cause.{Cause}
 use Rattle.mc_model.specs.declared.stage.Stage.{Stage}
 use Rattle.mc_model.specs.declared.stage.Stage.TheVariants as stages
 use Rattle.mc_model.specs.Notes.{Noted}
-use Rattle.mc_model.specs.Sight.{Sight}
-use Rattle.mc_view.specs.Views.{view_of, column_of_spot, view_size}
+use Rattle.mc_model.specs.Sight.{Seen, Sight}
+use Rattle.mc_model.specs.Things.{Things, new_things, in_hand, state_of_cell}
+use Rattle.mc_model.specs.Things as things
 
 -- one player, in play
 pub record Player : Type 0 where
@@ -27,8 +39,8 @@ pub record Player : Type 0 where
   pub eid : ℕ
   -- the size of view that it asked for, as its packet has it
   pub view_byte : ℤ
-  -- where it is, and how it looks
-  pub spot : Spot
+  -- the place of the hotbar that its hand is on, from 0 to 8
+  pub hand : ℕ
   pub notes : Noted
   -- what it was shown at the last tick, none before its first
   pub shown : Option Sight
@@ -55,13 +67,10 @@ pub record World : Type 0 where
   -- the ticks that came
   pub age : ℕ
   pub terrain : Terrain
-  -- the cells whose state is not the terrain's
-  pub edits : FinMap key_cmp ℕ
+  pub things : Things
   -- how many players may be in play, and how large a view may be
   pub most : ℕ
   pub cap : ℕ
-  -- how many entity numbers were given
-  pub eids : ℕ
   -- the number of the last join
   pub last : Option ℕ
   -- in the order in which they joined
@@ -78,10 +87,9 @@ abbrev pub new_world : ℕ → ℕ → Terrain → World
 new_world most cap terrain = record {
   age = 0;
   terrain = terrain;
-  edits = empty;
+  things = new_things;
   most = most;
   cap = cap;
-  eids = 0;
   last = None;
   sessions = [];
 }
@@ -108,11 +116,7 @@ found k (s ∷ sessions) = if s.id == k then Some s else found k sessions
 abbrev pub put : World → Session → World
 put w s = record w { sessions = map (λ (t : Session). if t.id == s.id then s else t) w.sessions }
 
--- ---- spots
-
--- where a player is, and how it looks: all that asks for it asks here
-abbrev pub spot_of : World → Player → Spot
-spot_of w p = p.spot
+-- ---- players
 
 -- how high the ground of a world is where players enter
 abbrev pub spawn_height : Terrain → ℕ
@@ -130,11 +134,32 @@ spawn_spot terrain = record {
   pitch = 0;
 }
 
+-- where an entity of a number is, and how it looks
+abbrev pub spot_in : Terrain → List Entity → ℕ → Spot
+spot_in terrain entities eid =
+    unwrap_or (option_map (λ (e : Entity). e.spot) (numbered eid_of (pos eid) entities))
+    (spawn_spot terrain)
+
+-- where a player is, and how it looks, as its entity does: all that asks for it asks here
+abbrev pub spot_of : World → Player → Spot
+spot_of w p = spot_in w.terrain w.things.entities p.eid
+
+-- what it carries, and what it has in its hand
+abbrev pub pack_of : World → Player → PackValue
+pack_of w p = things.pack_of p.name w.things.packs
+
+abbrev pub held_by : World → Player → Pile
+held_by w p = in_hand (pack_of w p) p.hand
+
+-- the state of a cell
+abbrev pub state_in : World → Cell → ℕ
+state_in w cell = state_of_cell w.terrain w.things.edits cell.x cell.y cell.z
+
 -- ---- what a player is to be shown
 
 abbrev pub column_in : World → Place → ColumnValue
 column_in w place = record {
-  states = states_of w.terrain w.edits place;
+  states = states_of w.terrain w.things.edits place;
   biomes = biomes_of w.terrain place;
 }
 
@@ -142,9 +167,28 @@ column_in w place = record {
 abbrev pub view_in : World → Player → List Place
 view_in w p = view_of (column_of_spot (spot_of w p)) (view_size w.cap p.view_byte)
 
--- the players in play, and the columns of its view as they are
+-- whether a column is one of them
+abbrev pub sees : World → Player → Place → Bool
+sees w p place = is_in_view (column_of_spot (spot_of w p)) (view_size w.cap p.view_byte) place
+
+-- an entity stands in one of them
+abbrev pub is_in_sight : World → Player → Entity → Bool
+is_in_sight w p e = sees w p (column_of_spot e.spot)
+
+-- a dropped item as it is seen; players and mobs are not seen yet
+abbrev pub seen_as : Entity → EntityKind → Option (ℤ × Seen)
+seen_as e (kinds.Dropped item born) =
+    Some (e.eid, record { spot = e.spot; head = e.spot.yaw; item = slot_of (Full item) })
+seen_as e other = None
+
+abbrev pub seen_of : Entity → Option (ℤ × Seen)
+seen_of e = seen_as e e.kind
+
+-- the players in play, the columns of its view as they are, the dropped items in it, and its pack
 unfoldable pub project : World → Player → Sight
 project w p = record {
   pairs = from_entries (map (λ (other : Player). (other.uuid, other.name)) (players w));
   columns = from_entries (map (λ place. (place, column_in w place)) (view_in w p));
+  entities = from_entries (filter_map seen_of (filter (is_in_sight w p) w.things.entities));
+  pack = map slot_of (pack_of w p).slots;
 }

@@ -9,6 +9,7 @@ ghost use Rattle.mc_land.specs.declared.terrain.Terrain.{Terrain};
 ghost use Rattle.mc_land.specs.Places.{Place};
 ghost use Rattle.mc_wire.specs.declared.log.LogEntry.{LogEntry};
 ghost use Rattle.mc_model.specs.declared.stage.Stage.TheVariants as stages;
+ghost use Rattle.mc_model.specs.Balance.{Balance};
 ghost use Rattle.mc_model.specs.Cutting.{cut_of};
 ghost use Rattle.mc_model.specs.Numbers.{fixed_of, turn_of, pattern_of, degrees_of};
 ghost use Rattle.mc_model.specs.Sight.{Sight};
@@ -146,4 +147,11 @@ pub fn turns_serve()
 pub fn headline()
     ensures { (most cap : ℕ) (terrain : Terrain) (log : List Event) →
         AreSettings most cap → AreBytes log → Headline most cap terrain log }
+{}
+
+/// No item is lost or made: of each sort, what all names carry, what lies in the world and what was
+/// placed is what the kits of all names had and what was dug.
+pub fn items_are_kept()
+    ensures { (most cap : ℕ) (terrain : Terrain) (events : List Event) →
+        Balance (history (new_world most cap terrain) events) }
 {}

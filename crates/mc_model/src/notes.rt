@@ -1,12 +1,17 @@
-ghost use Rattle.std.specs.Prelude.{◌≡◌, true};
+ghost use Rattle.std.specs.Prelude.{◌≡◌, ◌++◌, ◌∷◌, [], true, OnOk, OnErr};
 ghost use Rattle.mc_model.specs.Notes.{no_notes};
 
+use mc_fields::Cell;
+use mc_nbt::NoMemory;
+use std::alloc::Global;
 use std::marker::Model;
 
 /// What is due to a client at the next tick beside the difference.
 #[derive(Drop)]
 pub struct Notes {
+    cells: Vec<Cell>,
     placing: bool,
+    resend: bool,
 }
 
 impl Model for Notes {
@@ -14,15 +19,30 @@ impl Model for Notes {
 
     ghost Value = { Noted };
 
-    ghost view = { λ notes. record { placing = notes.placing } };
+    ghost view = { λ notes. record {
+      cells = notes.cells.items;
+      placing = notes.placing;
+      resend = notes.resend;
+    } };
 }
 
 impl Notes {
     /// Nothing is noted.
-    pub fn new() -> Notes
+    pub fn new(alloc: Global) -> Notes
         ensures { result ≡ no_notes }
     {
-        Notes { placing: false }
+        Notes {
+            cells: Vec::new(alloc),
+            placing: false,
+            resend: false,
+        }
+    }
+
+    /// The cells whose states the client is to be sent, in the order in which they were noted.
+    pub fn cells(&self) -> &[Cell]
+        ensures { result.now ≡ self.now.cells }
+    {
+        self.cells.as_slice()
     }
 
     /// Whether the client is to be sent its player's place.
@@ -32,10 +52,43 @@ impl Notes {
         self.placing
     }
 
+    /// Whether the client is to be sent the window again that it is shown.
+    pub fn resend(&self) -> bool
+        ensures { result ≡ self.now.resend }
+    {
+        self.resend
+    }
+
+    /// Notes a cell whose state the client is to be sent. Without memory all is as before.
+    pub fn cell(&mut self, cell: Cell) -> Result<(), NoMemory>
+        ensures ok { OnOk result (self.new
+            ≡ record self.old { cells = self.old.cells ++ cell ∷ [] }) }
+        ensures err { OnErr result (self.new ≡ self.old) }
+    {
+        self.cells.push(cell)?;
+        Ok(())
+    }
+
     /// Notes that the client is to be sent its player's place.
     pub fn place(&mut self)
         ensures { self.new ≡ record self.old { placing = true } }
     {
         self.placing = true;
+    }
+
+    /// Notes that the client is to be sent the window again that it is shown.
+    pub fn again(&mut self)
+        ensures { self.new ≡ record self.old { resend = true } }
+    {
+        self.resend = true;
+    }
+
+    /// Nothing is noted any more. It takes no memory.
+    pub fn clear(&mut self)
+        ensures { self.new ≡ no_notes }
+    {
+        self.cells.clear();
+        self.placing = false;
+        self.resend = false;
     }
 }

@@ -1,9 +1,11 @@
 ghost use Rattle.std.specs.Prelude.{◌≡◌, true};
 ghost use lib.IntN.{pos, negsuc};
 ghost use lib.Signed.{◌≤ℤ◌};
+ghost use Rattle.mc_entities.specs.Shift.{is_between, is_inside};
 ghost use Rattle.mc_model.specs.Numbers.{fixed_of, turn_of};
-ghost use Rattle.mc_model.specs.Movement.{moved, turned, is_within, is_in_range};
+ghost use Rattle.mc_model.specs.Movement.{moved, turned};
 
+use mc_entities::{FLAT_END, HIGHEST, LOWEST};
 use mc_fields::{Spot, angle, fixed};
 use std::marker::Model;
 
@@ -86,16 +88,16 @@ impl Wish {
 
     /// Whether a player may be there.
     pub fn is_in_range(&self) -> bool
-        ensures { result ≡ is_in_range self.now }
+        ensures { result ≡ is_inside self.now }
     {
-        is_within(-960_000_000, 960_000_000, self.x)
-            && is_within(-2_048, 131_072, self.y)
-            && is_within(-960_000_000, 960_000_000, self.z)
+        is_within(-FLAT_END, FLAT_END, self.x)
+            && is_within(LOWEST, HIGHEST, self.y)
+            && is_within(-FLAT_END, FLAT_END, self.z)
     }
 
     /// The place, where a player may be there.
     pub fn place(&self) -> Spot
-        requires { is_in_range self.now ≡ true }
+        requires { is_inside self.now ≡ true }
         ensures { result ≡ self.now }
     {
         Spot {
@@ -108,10 +110,10 @@ impl Wish {
     }
 }
 
-fn is_within(low: i64, high: i64, n: i64) -> bool
-    ensures { result ≡ is_within low high n }
+fn is_within(low: i32, high: i32, n: i64) -> bool
+    ensures { result ≡ is_between low high n }
 {
-    low <= n && n <= high
+    i64::from(low) <= n && n <= i64::from(high)
 }
 
 /// The same number in fewer bits.

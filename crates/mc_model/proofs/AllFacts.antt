@@ -1,0 +1,72 @@
+-- What holds of all of a list, of what lists are made of.
+use Rattle.std.proofs.Common.{◌≡◌, ℕ, zero, suc, ◌+◌, ◌<◌, ◌≤◌, Bool, true, false, cond, List, []}
+use Rattle.std.proofs.Common.{◌∷◌, ◌++◌, map, length, Option, Some, None, refl, arith}
+use Rattle.std.specs.List.{filter, filter_map, cons_option, flat_map, range_with_len}
+use Rattle.std.specs.List.{AllByRecursion}
+
+-- of two lists, one behind the other
+pub all_joined : {A : Type 0} (P : A → Type 0) (xs ys : List A) → AllByRecursion P xs →
+    AllByRecursion P ys
+    → AllByRecursion P (xs ++ ys)
+all_joined P [] ys a b = b
+all_joined P (x ∷ xs) ys a b = (a.0, all_joined P xs ys a.1 b)
+
+-- of what is made of each
+pub all_mapped : {A B : Type 0} (P : A → Type 0) (Q : B → Type 0) (f : A → B) →
+    ((x : A) → P x → Q (f x)) → (xs : List A)
+    → AllByRecursion P xs → AllByRecursion Q (map f xs)
+all_mapped P Q f each [] a = tt
+all_mapped P Q f each (x ∷ xs) a = (each x a.0, all_mapped P Q f each xs a.1)
+
+-- of those that pass a test
+pub all_filtered : {A : Type 0} (P : A → Type 0) (test : A → Bool) (xs : List A) →
+    AllByRecursion P xs
+    → AllByRecursion P (filter test xs)
+all_filtered P test [] a = tt
+all_filtered {A} P test (x ∷ xs) a = step (test x) (all_filtered P test xs a.1)
+  where
+    step : (t : Bool) → AllByRecursion P (filter test xs) →
+        AllByRecursion P (cond t (x ∷ filter test xs) (filter test xs))
+    step true rest = (a.0, rest)
+    step false rest = rest
+
+-- of what is made of some
+pub all_chosen : {A B : Type 0} (P : A → Type 0) (Q : B → Type 0) (f : A → Option B) →
+    ((x : A) (y : B) → P x → f x ≡ Some y → Q y) → (xs : List A)
+    → AllByRecursion P xs → AllByRecursion Q (filter_map f xs)
+all_chosen P Q f each [] a = tt
+all_chosen {B = B} P Q f each (x ∷ xs) a = step (f x) refl (all_chosen P Q f each xs a.1)
+  where
+    step : (o : Option B) → f x ≡ o → AllByRecursion Q (filter_map f xs) →
+        AllByRecursion Q (cons_option o (filter_map f xs))
+    step None e rest = rest
+    step (Some y) e rest = (each x y a.0 e, rest)
+
+-- no more pass a test than there are
+pub few_filtered : {A : Type 0} (test : A → Bool) (xs : List A) →
+    length (filter test xs) ≤ length xs
+few_filtered test [] = omega arith
+few_filtered {A} test (x ∷ xs) = step (test x) (few_filtered test xs)
+  where
+    step : (t : Bool) → length (filter test xs) ≤ length xs
+        → length (cond t (x ∷ filter test xs) (filter test xs)) ≤ suc (length xs)
+    step true le = omega (arith, le)
+    step false le = omega (arith, le)
+
+-- of what each is spread out to
+pub all_flat : {A B : Type 0} (P : A → Type 0) (Q : B → Type 0) (f : A → List B) →
+    ((x : A) → P x → AllByRecursion Q (f x))
+    → (xs : List A) → AllByRecursion P xs → AllByRecursion Q (flat_map f xs)
+all_flat P Q f each [] a = tt
+all_flat P Q f each (x ∷ xs) a = all_joined Q (f x) (flat_map f xs) (each x a.0)
+    (all_flat P Q f each xs a.1)
+
+-- of numbers in a row
+pub all_range : (P : ℕ → Type 0) (a n : ℕ) → ((i : ℕ) → i < a + n → P i) →
+    AllByRecursion P (range_with_len a n)
+all_range P a zero each = tt
+all_range P a (suc n) each = (
+  each a (omega arith),
+  all_range P (a + 1) n
+      (λ i less. each i (omega (arith, less))),
+)

@@ -1,0 +1,276 @@
+-- Small changes of things and what they keep: of entities, of those that come and go, of cells, and
+-- of what is in a hand.
+use Rattle.std.proofs.Common.{◌≡◌, ◌≢◌, ℕ, ◌+◌, ◌<◌, true, false, List, [], ◌∷◌}
+use Rattle.std.proofs.Common.{length, refl, sym, ap, ◌∙◌, arith}
+use Rattle.std.specs.Prelude.{Option, Some, None, unsigned_abs, if◌then◌else◌}
+use Rattle.std.specs.List.{AllByRecursion}
+use Rattle.std.specs.Ordering.{int_eq}
+use Rattle.std.proofs.lemmas.Bool.Decides.{Decides-int_eq}
+use Rattle.std.proofs.lemmas.List.{length-map}
+use lib.IntN.{ℤ, pos}
+use Rattle.mc_fields.specs.declared.position.Cell.{Cell}
+use Rattle.mc_fields.specs.declared.position.Spot.{Spot}
+use Rattle.mc_land.specs.declared.terrain.Terrain.{Terrain}
+use Rattle.mc_slots.specs.declared.pile.Pile.{Pile}
+use Rattle.mc_slots.specs.Pile.{IsPile, Sort, held}
+use Rattle.mc_windows.specs.Pack.{PackValue, IsPack}
+use Rattle.mc_entities.specs.declared.entity.Entity.{Entity}
+use Rattle.mc_entities.specs.declared.entity.EntityKind.{EntityKind}
+use Rattle.mc_entities.specs.declared.entity.EntityKind.TheVariants as kinds
+use Rattle.mc_entities.specs.Kinds.{is_dropped}
+use Rattle.mc_model.specs.Balance.{lying, sort_of, stock}
+use Rattle.mc_model.specs.Names.{offline_uuid}
+use Rattle.mc_model.specs.Things.{Things, hand_of, holding, in_hand, pack_of, standing, with_entity}
+use Rattle.mc_model.specs.Things.{with_hand, with_kit, with_new_entity, with_pack, with_state}
+use Rattle.mc_model.specs.Things.{without_entity}
+use Rattle.mc_model.specs.World.{Player, spawn_spot}
+use Rattle.mc_model.specs.Step.{after_leaving, new_player, with_new_player}
+use Rattle.mc_model.proofs.AllFacts.{all_filtered, all_joined, all_mapped}
+use Rattle.mc_model.proofs.ThingsKept.{pack_fits}
+use Rattle.mc_model.proofs.NameFacts.{keeps_changed, kit_known}
+use Rattle.mc_model.proofs.BalanceStock.{IsNoItem, entities_changed, entities_more, hand_lies}
+use Rattle.mc_model.proofs.BalanceStock.{entities_without, pack_handed, packs_with}
+use Rattle.mc_model.proofs.BalanceKept.{HasOwner, IsGiven, IsOwner, IsTidy, Keeps, Leads}
+use Rattle.mc_model.proofs.BalanceKept.{even_onward, keeps_onward, leads_onward, leads_same}
+use Rattle.mc_model.proofs.BalancePacks.{handed_fits, kit_leads, packed_fit}
+
+-- ---- entities that change
+
+-- what a change of an entity leaves: its number, whether it is a dropped item, and what lies there
+pub record IsMild (f : Entity → Entity) : Type 0 where
+  pub eid : (e : Entity) → (f e).eid ≡ e.eid
+  pub kind : (e : Entity) → is_dropped (f e).kind ≡ is_dropped e.kind
+  pub lies : (sort : Sort) (e : Entity) → lying sort (f e).kind ≡ lying sort e.kind
+
+-- one of a number changed so
+changed_keeps : (eid : ℕ) (f : Entity → Entity) (things : Things) → IsMild f →
+    Keeps things (with_entity eid f things)
+changed_keeps eid f things mild = record {
+  tidy = λ t. record {
+    given = all_mapped (IsGiven things.eids) (IsGiven things.eids) _ (λ e is n above.
+        elim (int_eq e.eid (pos eid)) as
+        (λ b. int_eq (if b then f e else e).eid (pos n) ≡ false) [
+          | true ↦ ap (λ (m : ℤ). int_eq m (pos n)) (mild.eid e) ∙ is n above
+          | false ↦ is n above
+        ]) things.entities t.given;
+    apart = t.apart;
+    packs = t.packs;
+  };
+  known = λ name k. k;
+  given = omega arith;
+  apart = λ n le none. all_mapped (IsNoItem n) (IsNoItem n) _ (λ e is.
+      elim (int_eq e.eid (pos eid)) as (λ b. IsNoItem n (if b then f e else e)) [
+        | true ↦ λ t. mild.kind e ∙ is (ap (λ (m : ℤ). int_eq m (pos n)) (sym (mild.eid e)) ∙ t)
+        | false ↦ is
+      ]) things.entities none;
+}
+
+-- leaves the balance
+changed_leads : (terrain : Terrain) (eid : ℕ) (f : Entity → Entity) (things : Things) →
+    IsMild f → Leads terrain things (with_entity eid f things)
+changed_leads terrain eid f things mild = record {
+  keeps = changed_keeps eid f things mild;
+  even = even_onward terrain things (with_entity eid f things) refl (λ id damage some few low.
+      (let same = entities_changed (sort_of id damage) eid f (mild.lies (sort_of id damage))
+      things.entities in omega (arith, same)));
+}
+
+-- one that stands somewhere else
+pub standing_leads : (terrain : Terrain) (eid : ℕ) (spot : Spot) (things : Things) →
+    Leads terrain things (with_entity eid (standing spot) things)
+standing_leads terrain eid spot things = changed_leads terrain eid (standing spot) things
+    (record { eid = λ e. refl; kind = λ e. refl; lies = λ sort e. refl })
+
+-- a hand that holds another pile makes no other kind
+hand_drops : (pile : Pile) (kind : EntityKind) → is_dropped (hand_of pile kind) ≡ is_dropped kind
+hand_drops pile (kinds.Player uuid held) = refl
+hand_drops pile (kinds.Dropped item born) = refl
+hand_drops pile kinds.Mob = refl
+
+-- one that holds another pile
+holding_mild : (pile : Pile) → IsMild (holding pile)
+holding_mild pile = record {
+  eid = λ e. refl;
+  kind = λ e. hand_drops pile e.kind;
+  lies = λ sort e. hand_lies sort pile e.kind;
+}
+
+-- and leaves the balance
+pub holding_leads : (terrain : Terrain) (eid : ℕ) (pile : Pile) (things : Things) →
+    Leads terrain things (with_entity eid (holding pile) things)
+holding_leads terrain eid pile things =
+    changed_leads terrain eid (holding pile) things (holding_mild pile)
+
+-- ---- entities that go and come
+
+-- those of a number go that no dropped item has
+without_leads : (terrain : Terrain) (eid : ℕ) (things : Things) →
+    AllByRecursion (IsNoItem eid) things.entities →
+    Leads terrain things (without_entity eid things)
+without_leads terrain eid things none = record {
+  keeps = record {
+    tidy = λ t. record {
+      given = all_filtered (IsGiven things.eids) _ things.entities t.given;
+      apart = t.apart;
+      packs = t.packs;
+    };
+    known = λ name k. k;
+    given = omega arith;
+    apart = λ n le others. all_filtered (IsNoItem n) _ things.entities others;
+  };
+  even = even_onward terrain things (without_entity eid things) refl (λ id damage some few low.
+      (let same = entities_without (sort_of id damage) eid things.entities none in
+      omega (arith, same)));
+}
+
+-- that of a player that leaves, if it does
+pub leaving_leads : (terrain : Terrain) (before after_ : Option Player) (things : Things) →
+    HasOwner things before → Leads terrain things (after_leaving before after_ things)
+leaving_leads terrain None after_ things is = leads_same terrain things
+leaving_leads terrain (Some p) None things is = without_leads terrain p.eid things is.apart
+leaving_leads terrain (Some p) (Some q) things is = leads_same terrain things
+
+-- two numbers that are not equal, as signed ones
+pub other_signed : (m n : ℕ) → m ≢ n → int_eq (pos m) (pos n) ≡ false
+other_signed m n other = elim (int_eq (pos m) (pos n)) as
+    (λ b. int_eq (pos m) (pos n) ≡ b → b ≡ false) [
+      | true ↦ λ t. absurd (other (ap unsigned_abs ((Decides-int_eq (pos m) (pos n)).0 t)))
+      | false ↦ λ f. refl
+    ] refl
+
+-- one more, which has a number that was not given
+pub new_keeps : (kind : EntityKind) (spot : Spot) (things : Things) →
+    Keeps things (with_new_entity kind spot things)
+new_keeps kind spot things = record {
+  tidy = λ t. record {
+    given = all_joined (IsGiven (things.eids + 1)) things.entities _
+        (all_given things.entities t.given)
+        (λ n above. other_signed (things.eids + 1) n (λ same. (omega (arith, same, above))), tt);
+    apart = t.apart;
+    packs = t.packs;
+  };
+  known = λ name k. k;
+  given = omega arith;
+  apart = λ eid le others. all_joined (IsNoItem eid) things.entities _ others (
+    λ same. (let other : int_eq (pos (things.eids + 1)) (pos eid) ≡ false =
+        other_signed (things.eids + 1) eid (λ e. (omega (arith, e, le))) in absurd cc),
+    tt,
+  );
+}
+  where
+    all_given : (es : List Entity) → AllByRecursion (IsGiven things.eids) es →
+        AllByRecursion (IsGiven (things.eids + 1)) es
+    all_given [] a = tt
+    all_given (e ∷ es) a = (λ n above. a.0 n (omega (arith, above)), all_given es a.1)
+
+-- a player's entity
+player_comes : (terrain : Terrain) (uuid : ℕ) (pile : Pile) (spot : Spot) (things : Things) →
+    Leads terrain things (with_new_entity (kinds.Player uuid pile) spot things)
+player_comes terrain uuid pile spot things = record {
+  keeps = new_keeps (kinds.Player uuid pile) spot things;
+  even = even_onward terrain things (with_new_entity (kinds.Player uuid pile) spot things) refl
+      (λ id damage some few low. (let more = entities_more (sort_of id damage) things.entities
+      (record { eid = pos (things.eids + 1); kind = kinds.Player uuid pile; spot = spot }) in
+      omega (arith, more)));
+}
+
+-- a player that enters
+pub player_leads : (terrain : Terrain) (name : List ℕ) (things : Things) →
+    Leads terrain things (with_new_player terrain name things)
+player_leads terrain name things =
+    leads_onward terrain things (record things { packs = with_kit name things.packs })
+    (with_new_player terrain name things) (kit_leads terrain name things)
+    (player_comes terrain (offline_uuid name)
+    (in_hand (pack_of name (with_kit name things.packs)) 0) (spawn_spot terrain)
+    (record things { packs = with_kit name things.packs }))
+
+-- and has what is said of players
+pub player_owns : (terrain : Terrain) (name : List ℕ) (things : Things) → IsTidy things →
+    IsOwner (with_new_player terrain name things) (new_player (things.eids + 1) name)
+player_owns terrain name things tidy = record {
+  known = kit_known name things.packs;
+  hand = omega arith;
+  given = omega arith;
+  apart = all_joined (IsNoItem (things.eids + 1)) things.entities _
+      (none things.entities tidy.given) (λ same. refl, tt);
+}
+  where
+    none : (es : List Entity) → AllByRecursion (IsGiven things.eids) es →
+        AllByRecursion (IsNoItem (things.eids + 1)) es
+    none [] a = tt
+    none (e ∷ es) a = (
+      λ same. (let other : int_eq e.eid (pos (things.eids + 1)) ≡ false =
+          a.0 (things.eids + 1) (omega arith) in absurd cc),
+      none es a.1,
+    )
+
+-- ---- cells, and what is in a hand
+
+-- a cell that is set
+pub state_keeps : (terrain : Terrain) (cell : Cell) (state : ℕ) (things : Things) →
+    Keeps things (with_state terrain cell state things)
+state_keeps terrain cell state things = record {
+  tidy = λ t. record { given = t.given; apart = t.apart; packs = t.packs };
+  known = λ name k. k;
+  given = omega arith;
+  apart = λ eid le none. none;
+}
+
+-- a player has another pile in its hand
+abbrev pub carry : Player → Pile → Things → Things
+carry p pile things = with_entity p.eid (holding pile) (record things {
+  packs = with_pack p.name (with_hand pile p.hand (pack_of p.name things.packs)) things.packs;
+})
+
+-- a hand is on a place of a pack
+hand_within : (pack : PackValue) (hand : ℕ) → hand < 9 → IsPack pack.slots pack.cursor →
+    27 + hand < length pack.slots
+hand_within pack hand small is = omega (arith, small, is.size)
+
+-- so the names keep their packs, with that pile in one of them
+packed_keeps : (p : Player) (pile : Pile) (things : Things) → p.hand < 9 → IsPile pile →
+    Keeps things (record things {
+      packs = with_pack p.name (with_hand pile p.hand (pack_of p.name things.packs)) things.packs;
+    })
+packed_keeps p pile things small is = record {
+  tidy = λ t.
+      let fits = pack_fits p.name things.packs t.packs in
+      let pack : PackValue = pack_of p.name things.packs in record {
+        given = t.given;
+        apart = (keeps_changed p.name (with_hand pile p.hand pack) things.packs).apart t.apart;
+        packs = packed_fit p.name (with_hand pile p.hand pack) things.packs
+            (handed_fits pile p.hand pack (hand_within pack p.hand small fits) is fits) t.packs;
+      };
+  known = (keeps_changed p.name _ things.packs).known;
+  given = omega arith;
+  apart = λ eid le none. none;
+}
+
+-- and so does all else
+pub carry_keeps : (p : Player) (pile : Pile) (things : Things) → p.hand < 9 → IsPile pile →
+    Keeps things (carry p pile things)
+carry_keeps p pile things small is = keeps_onward things (record things {
+  packs = with_pack p.name (with_hand pile p.hand (pack_of p.name things.packs)) things.packs;
+}) (carry p pile things) (packed_keeps p pile things small is)
+    (changed_keeps p.eid (holding pile) _ (holding_mild pile))
+
+-- there is so much more as the pile in the hand holds more
+pub carry_stock : (sort : Sort) (p : Player) (pile : Pile) (things : Things) → IsTidy things →
+    IsOwner things p →
+    stock sort (carry p pile things) + held sort (in_hand (pack_of p.name things.packs) p.hand)
+    ≡ stock sort things + held sort pile
+carry_stock sort p pile things tidy is =
+    let pack : PackValue = pack_of p.name things.packs in
+    omega (
+      arith,
+      packs_with sort p.name (with_hand pile p.hand pack) things.packs tidy.apart
+          is.known,
+      pack_handed sort pile p.hand pack (hand_within pack p.hand is.hand
+          (pack_fits p.name things.packs tidy.packs)),
+      entities_changed sort p.eid (holding pile) (λ e. hand_lies sort pile e.kind) things.entities,
+    )
+
+-- as many names have packs
+pub carry_names : (p : Player) (pile : Pile) (things : Things) →
+    length (carry p pile things).packs ≡ length things.packs
+carry_names p pile things = length-map things.packs _

@@ -1,0 +1,99 @@
+-- The packets of noted cells fit: what is sent of them has a position, and a state of 16 bits.
+use Rattle.std.proofs.Common.{◌≡◌, ℕ, ◌^◌, ◌<◌, ◌≤◌, ◌&&◌, Bool, true, false, cond, List, [], ◌∷◌}
+use Rattle.std.proofs.Common.{map, refl, arith}
+use Rattle.std.specs.Prelude.{int_le, unsigned_abs}
+use Rattle.std.specs.List.{filter}
+use Rattle.std.specs.FinMap.{FinMap}
+use Rattle.std.proofs.lemmas.Bool.{leb-true}
+use Rattle.std.proofs.lemmas.Int.{ints}
+use lib.IntN.{ℤ, pos, negsuc, ◌-ℤ◌}
+use Rattle.mc_fields.specs.declared.position.Cell.{Cell}
+use Rattle.mc_fields.specs.Position.{FitsHalf, FitsCell}
+use Rattle.mc_land.specs.declared.terrain.Terrain.{Terrain}
+use Rattle.mc_land.specs.Places.{Place, key_cmp, column_number, place_of}
+use Rattle.mc_view.specs.Views.{column_of_spot, is_in_view, view_size}
+use Rattle.mc_view.proofs.Near.{near_both}
+use Rattle.mc_model.specs.Packets.{of_play, for_play}
+use Rattle.mc_model.specs.Things.{state_of_cell}
+use Rattle.mc_model.specs.World.{World, Player, sees, spot_of}
+use Rattle.mc_model.specs.Step.{cell_packet, is_sent, noted_packets}
+use Rattle.mc_model.proofs.Decodes.{IsClear}
+use Rattle.mc_model.proofs.FitsText.{both_true}
+use Rattle.mc_model.proofs.FitsList.{AreClear}
+use Rattle.mc_model.proofs.FitsCells.{change_clear}
+use Rattle.mc_model.proofs.FitsSight.{column_near, size_few}
+use Rattle.mc_model.proofs.ThingFacts.{cell_is}
+use Rattle.mc_model.proofs.ThingsFit.{SpotFits, ThingsFit}
+
+-- ---- positions
+
+-- a number that is near one that is not far is not far
+column_small : (c middle : ℤ) (d : ℕ) → unsigned_abs middle ≤ 1875001 → d ≤ 8 →
+    unsigned_abs (c -ℤ middle) ≤ d → unsigned_abs c ≤ 1875009
+column_small (pos c) (pos m) d small few near = omega (arith, ints, small, few, near)
+column_small (pos c) (negsuc m) d small few near = omega (arith, ints, small, few, near)
+column_small (negsuc c) (pos m) d small few near = omega (arith, ints, small, few, near)
+column_small (negsuc c) (negsuc m) d small few near = omega (arith, ints, small, few, near)
+
+-- so a position can carry the numbers of cells in such a column
+side_fits : (v : ℤ) → unsigned_abs (column_number v) ≤ 1875009 → FitsHalf (2 ^ 25) v
+side_fits (pos n) small = omega (arith, ints, small)
+side_fits (negsuc n) small = omega (arith, ints, small)
+
+-- and how high a cell is that is sent
+height_fits : (y : ℤ) → int_le (negsuc 2047) y ≡ true → int_le y (pos 2047) ≡ true →
+    FitsHalf (2 ^ 11) y
+height_fits (pos n) low high = let le = leb-true n 2047 high in omega (arith, le)
+height_fits (negsuc n) low high = let le = leb-true n 2047 low in omega (arith, le)
+
+-- a cell that is sent where a view is seen has a position
+pub sent_fits : (middle : Place) (d : ℕ) (cell : Cell) → unsigned_abs middle.0 ≤ 1875001 →
+    unsigned_abs middle.1 ≤ 1875001 → d ≤ 8 → is_sent (is_in_view middle d) cell ≡ true →
+    FitsCell cell
+sent_fits middle d cell at_x at_z few sent =
+    let low : Bool = int_le (negsuc 2047) cell.y in
+    let high : Bool = int_le cell.y (pos 2047) in
+    let seen : Bool = is_in_view middle d (place_of cell.x cell.z) in
+    let a = both_true low (high && seen) sent in
+    let b = both_true high seen a.1 in
+    let near = near_both (unsigned_abs (column_number cell.x -ℤ middle.0))
+    (unsigned_abs (column_number cell.z -ℤ middle.1)) d b.1 in
+    record {
+      x = side_fits cell.x (column_small (column_number cell.x) middle.0 d at_x few near.0);
+      y = height_fits cell.y a.0 b.0;
+      z = side_fits cell.z (column_small (column_number cell.z) middle.1 d at_z few near.1);
+    }
+
+-- ---- packets
+
+-- the packet of a cell that has a position, and a state that a packet can carry
+pub noted_packet_clear : (terrain : Terrain) (edits : FinMap key_cmp ℕ) (cell : Cell) →
+    FitsCell cell → state_of_cell terrain edits cell.x cell.y cell.z < 65536 →
+    IsClear for_play (of_play (cell_packet terrain edits cell))
+noted_packet_clear terrain edits cell at small =
+    change_clear cell (state_of_cell terrain edits cell.x cell.y cell.z) at small
+
+-- those of all that are sent
+pub noted_packets_clear : (terrain : Terrain) (edits : FinMap key_cmp ℕ) (seen : Place → Bool) →
+    ((cell : Cell) → is_sent seen cell ≡ true → FitsCell cell) →
+    ((cell : Cell) → state_of_cell terrain edits cell.x cell.y cell.z < 65536) →
+    (cells : List Cell) → AreClear (noted_packets terrain edits seen cells)
+noted_packets_clear terrain edits seen fit small [] = tt
+noted_packets_clear terrain edits seen fit small (cell ∷ cells) =
+    let later = noted_packets_clear terrain edits seen fit small cells in
+    elim (is_sent seen cell) as (λ b. is_sent seen cell ≡ b → AreClear
+    (map (cell_packet terrain edits) (cond b (cell ∷ filter (is_sent seen) cells)
+    (filter (is_sent seen) cells)))) [
+      | true ↦ λ sent. (noted_packet_clear terrain edits cell (fit cell sent) (small cell), later)
+      | false ↦ λ sent. later
+    ] refl
+
+-- what a player is sent of the cells that were noted
+pub noted_clear : (w : World) (p : Player) (cells : List Cell) → ThingsFit w.things →
+    SpotFits (spot_of w p) → w.cap ≤ 8 →
+    AreClear (noted_packets w.terrain w.things.edits (sees w p) cells)
+noted_clear w p cells t at near = noted_packets_clear w.terrain w.things.edits (sees w p)
+    (λ cell sent. sent_fits (column_of_spot (spot_of w p)) (view_size w.cap p.view_byte) cell
+    (column_near (spot_of w p).x at.x) (column_near (spot_of w p).z at.z)
+    (size_few w.cap p.view_byte near) sent)
+    (λ cell. let small = (cell_is w cell t).small in omega (arith, small)) cells

@@ -1,0 +1,220 @@
+-- What a packet about one entity makes of it, and that those of a move put it where it is wanted.
+use Rattle.std.proofs.Common.{◌≡◌, ℕ, ◌==◌, Bool, true, false, cond, not, ◌&&◌, [], ◌∷◌}
+use Rattle.std.proofs.Common.{refl, sym, ap, ◌∙◌, eqb-true}
+use Rattle.std.specs.Ordering.{int_eq}
+use Rattle.std.specs.Cmp.{int_cmp_total}
+use Rattle.std.specs.FinMap.{insert}
+use Rattle.std.specs.FinMap.{int_cmp-IsAntisymmetric}
+use Rattle.std.proofs.lemmas.Bool.Decides.{Decides-int_eq}
+use Rattle.std.proofs.Math.IntN.{+ℤ_comm, +ℤ_idr, -ℤ-+ℤ_cancel}
+use lib.IntN.{ℤ, pos, ◌+ℤ◌, ◌-ℤ◌}
+use Rattle.mc_fields.specs.declared.position.Spot.{Spot}
+use Rattle.mc_slots.specs.declared.slot.Slot.{Slot}
+use Rattle.mc_view.specs.declared.forms.Form.TheVariants as forms
+use Rattle.mc_view.specs.Forms.{are_bytes, are_zero, form_of, is_turned, moves_of}
+use Rattle.mc_down.specs.declared.down.Down.TheVariants.{Step, Look, StepLook}
+use Rattle.mc_down.specs.declared.down.Down.TheVariants.{Teleport, HeadLook}
+use Rattle.mc_model.specs.Sight.{Seen, Sight}
+use Rattle.mc_model.specs.Replica.{Entities, apply, replay, seeing, without_eids, put_at, looking}
+use Rattle.mc_model.specs.Replica.{is_32_bits}
+use Rattle.mc_model.specs.Replica as replica
+use Rattle.mc_model.specs.Delta.{IsSeen, item_packet}
+use Rattle.mc_model.specs.Delta.{move_packets, head_packets}
+use Rattle.mc_model.proofs.FitsText.{both_true}
+use Rattle.mc_model.proofs.Maps.{altered_put}
+use Rattle.mc_model.proofs.Leading.{Leads, no_packets, led}
+
+-- ---- one entity
+
+-- with an entity under a number
+abbrev pub with_seen : Sight → Entities → ℤ → Seen → Sight
+with_seen s m k e = record s { entities = insert m k e }
+
+-- what changes it puts it there changed
+pub put_altered : (s : Sight) (m : Entities) (k : ℤ) (e : Seen) (f : Seen → Seen) →
+    seeing (record s { entities = replica.altered (insert m k e) k f })
+    ≡ seeing (with_seen s m k (f e))
+put_altered s m k e f = ap (λ (n : Entities). seeing (record s { entities = n }))
+    (altered_put int_cmp_total int_cmp-IsAntisymmetric m k e f)
+
+-- so much farther
+step_leads : (s : Sight) (m : Entities) (k dx dy dz : ℤ) (e : Seen) →
+    Leads (with_seen s m k e) (Step k dx dy dz true ∷ [])
+    (with_seen s m k (put_at (replica.onward dx dy dz e.spot) e))
+unfolding apply
+step_leads s m k dx dy dz e = record {
+  is = put_altered s m k e (λ (e : Seen). put_at (replica.onward dx dy dz e.spot) e);
+}
+
+-- and turned
+step_look_leads : (s : Sight) (m : Entities) (k dx dy dz : ℤ) (yaw pitch : ℕ) (e : Seen) →
+    Leads (with_seen s m k e) (StepLook k dx dy dz yaw pitch true ∷ [])
+    (with_seen s m k (put_at (looking yaw pitch (replica.onward dx dy dz e.spot)) e))
+unfolding apply
+step_look_leads s m k dx dy dz yaw pitch e = record {
+  is = put_altered s m k e
+      (λ (e : Seen). put_at (looking yaw pitch (replica.onward dx dy dz e.spot)) e);
+}
+
+-- turned alone
+look_leads : (s : Sight) (m : Entities) (k : ℤ) (yaw pitch : ℕ) (e : Seen) →
+    Leads (with_seen s m k e) (Look k yaw pitch true ∷ [])
+    (with_seen s m k (record e { spot = looking yaw pitch e.spot }))
+unfolding apply
+look_leads s m k yaw pitch e = record {
+  is = put_altered s m k e (λ (e : Seen). record e { spot = looking yaw pitch e.spot });
+}
+
+-- at another spot
+jump_leads : (s : Sight) (m : Entities) (k : ℤ) (spot : Spot) (e : Seen) →
+    Leads (with_seen s m k e) (Teleport k spot.x spot.y spot.z spot.yaw spot.pitch true ∷ [])
+    (with_seen s m k (put_at spot e))
+unfolding apply
+jump_leads s m k spot e = record { is = put_altered s m k e (λ (e : Seen). put_at spot e) }
+
+-- with another head
+pub head_leads : (s : Sight) (m : Entities) (k : ℤ) (head : ℕ) (e : Seen) →
+    Leads (with_seen s m k e) (HeadLook k head ∷ []) (with_seen s m k (record e { head = head }))
+unfolding apply
+head_leads s m k head e = record {
+  is = put_altered s m k e (λ (e : Seen). record e { head = head });
+}
+
+-- with something else lying there
+pub item_leads : (s : Sight) (m : Entities) (k : ℤ) (item : Slot) (e : Seen) →
+    Leads (with_seen s m k e) (item_packet k item ∷ []) (with_seen s m k (record e { item = item }))
+unfolding apply
+item_leads s m k item e = record {
+  is = put_altered s m k e (λ (e : Seen). record e { item = item });
+}
+
+-- ---- where it is
+
+-- a place within 32 bits is taken over
+taken_over : (spot : Spot) (e : Seen) → is_32_bits spot.x ≡ true → is_32_bits spot.y ≡ true →
+    is_32_bits spot.z ≡ true → put_at spot e ≡ record e { spot = spot }
+taken_over spot e x y z = rw (x, y, z) refl
+
+-- what is left to go leads there
+there : (a b : ℤ) → a +ℤ (b -ℤ a) ≡ b
+there a b = +ℤ_comm a (b -ℤ a) ∙ -ℤ-+ℤ_cancel b a
+
+-- where nothing is left, it is there
+arrived : (a b : ℤ) → int_eq (b -ℤ a) (pos 0) ≡ true → a ≡ b
+arrived a b t =
+    sym (+ℤ_idr a) ∙ ap (λ d. a +ℤ d) (sym ((Decides-int_eq (b -ℤ a) (pos 0)).0 t)) ∙ there a b
+
+-- neither yaw nor pitch differs
+same_look : (old new : Spot) → is_turned old new ≡ false →
+    (old.yaw ≡ new.yaw) × (old.pitch ≡ new.pitch)
+same_look old new t =
+    let parts = both_true (old.yaw == new.yaw) (old.pitch == new.pitch)
+    (negated (old.yaw == new.yaw && old.pitch == new.pitch) t) in
+    (eqb-true old.yaw new.yaw parts.0, eqb-true old.pitch new.pitch parts.1)
+  where
+    negated : (b : Bool) → not b ≡ false → b ≡ true
+    negated true e = refl
+    negated false e = absurd cc
+
+-- the packets of a form put an entity where it is wanted
+pub form_leads : (s : Sight) (m : Entities) (k : ℤ) (e new : Seen) → IsSeen new →
+    Leads (with_seen s m k e) (move_packets k new.spot (form_of e.spot new.spot))
+    (with_seen s m k (record e { spot = new.spot }))
+form_leads s m k e new seen =
+    cases (are_zero dx dy dz) (are_bytes dx dy dz) (is_turned e.spot new.spot) refl refl
+  where
+    dx : ℤ
+    dx = new.spot.x -ℤ e.spot.x
+
+    dy : ℤ
+    dy = new.spot.y -ℤ e.spot.y
+
+    dz : ℤ
+    dz = new.spot.z -ℤ e.spot.z
+
+    is_there : are_zero dx dy dz ≡ true → (e.spot.x ≡ new.spot.x) × (e.spot.y ≡ new.spot.y)
+        × (e.spot.z ≡ new.spot.z)
+    is_there t =
+        let parts = both_true (int_eq dx (pos 0) && int_eq dy (pos 0)) (int_eq dz (pos 0)) t in
+        let two = both_true (int_eq dx (pos 0)) (int_eq dy (pos 0)) parts.0 in (
+          arrived e.spot.x new.spot.x two.0,
+          arrived e.spot.y new.spot.y two.1,
+          arrived e.spot.z new.spot.z parts.1,
+        )
+
+    jump : (still turns : Bool) → Leads (with_seen s m k e) (move_packets k new.spot
+        (cond (not still && false) (cond turns (forms.StepTurn dx dy dz) (forms.Step dx dy dz))
+        (cond (not false) forms.Jump (cond turns forms.Turn forms.Still))))
+        (with_seen s m k (put_at new.spot e))
+    jump true turns = jump_leads s m k new.spot e
+    jump false turns = jump_leads s m k new.spot e
+
+    cases : (still small turns : Bool) → are_zero dx dy dz ≡ still →
+        is_turned e.spot new.spot ≡ turns →
+        Leads (with_seen s m k e) (move_packets k new.spot (cond (not still && small)
+        (cond turns (forms.StepTurn dx dy dz) (forms.Step dx dy dz))
+        (cond (not small) forms.Jump (cond turns forms.Turn forms.Still))))
+        (with_seen s m k (record e { spot = new.spot }))
+    cases still false turns a b = led refl
+        (ap (with_seen s m k) (taken_over new.spot e seen.x seen.y seen.z))
+        (jump still turns)
+    cases false true true a b =
+        let goes : looking new.spot.yaw new.spot.pitch (replica.onward dx dy dz e.spot) ≡ new.spot =
+        λ i. record {
+          x = there e.spot.x new.spot.x i;
+          y = there e.spot.y new.spot.y i;
+          z = there e.spot.z new.spot.z i;
+          yaw = new.spot.yaw;
+          pitch = new.spot.pitch;
+        } in
+        led refl (ap (with_seen s m k) (ap (λ spot. put_at spot e) goes
+        ∙ taken_over new.spot e seen.x seen.y seen.z))
+        (step_look_leads s m k dx dy dz new.spot.yaw new.spot.pitch e)
+    cases false true false a b =
+        let look = same_look e.spot new.spot b in
+        let goes : replica.onward dx dy dz e.spot ≡ new.spot =
+        λ i. record {
+          x = there e.spot.x new.spot.x i;
+          y = there e.spot.y new.spot.y i;
+          z = there e.spot.z new.spot.z i;
+          yaw = look.0 i;
+          pitch = look.1 i;
+        } in
+        led refl (ap (with_seen s m k) (ap (λ spot. put_at spot e) goes
+        ∙ taken_over new.spot e seen.x seen.y seen.z)) (step_leads s m k dx dy dz e)
+    cases true true true a b =
+        let goes : looking new.spot.yaw new.spot.pitch e.spot ≡ new.spot =
+        λ i. record {
+          x = (is_there a).0 i;
+          y = (is_there a).1 i;
+          z = (is_there a).2 i;
+          yaw = new.spot.yaw;
+          pitch = new.spot.pitch;
+        } in
+        led refl (ap (λ (spot : Spot). with_seen s m k (record e { spot = spot })) goes)
+        (look_leads s m k new.spot.yaw new.spot.pitch e)
+    cases true true false a b =
+        let look = same_look e.spot new.spot b in
+        let goes : e.spot ≡ new.spot =
+        λ i. record {
+          x = (is_there a).0 i;
+          y = (is_there a).1 i;
+          z = (is_there a).2 i;
+          yaw = look.0 i;
+          pitch = look.1 i;
+        } in
+        led refl (ap (λ (spot : Spot). with_seen s m k (record e { spot = spot })) goes)
+        (no_packets (with_seen s m k e))
+
+-- the head looks where it is wanted
+pub turn_leads : (s : Sight) (m : Entities) (k : ℤ) (e : Seen) (old new : Spot) → e.head ≡ old.yaw →
+    Leads (with_seen s m k e) (head_packets k new (moves_of old new).head)
+    (with_seen s m k (record e { head = new.yaw }))
+turn_leads s m k e old new head = cases (old.yaw == new.yaw) refl
+  where
+    cases : (same : Bool) → (old.yaw == new.yaw) ≡ same →
+        Leads (with_seen s m k e) (head_packets k new (not same))
+        (with_seen s m k (record e { head = new.yaw }))
+    cases true t = led refl (ap (λ (yaw : ℕ). with_seen s m k (record e { head = yaw }))
+        (head ∙ eqb-true old.yaw new.yaw t)) (no_packets (with_seen s m k e))
+    cases false t = head_leads s m k new.yaw e

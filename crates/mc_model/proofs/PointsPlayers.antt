@@ -1,0 +1,86 @@
+-- What the packets about the list of players make of what a client sees.
+use Rattle.std.proofs.Common.{◌≡◌, ℕ, Bool, true, false, cond, not, List, [], ◌∷◌, map}
+use Rattle.std.proofs.Common.{Option, Some, None, refl, sym, ap, ◌∙◌}
+use Rattle.std.specs.List.{fold}
+use Rattle.std.specs.Str.{bytes_eq}
+use Rattle.std.specs.Cmp.{nat_cmp_total}
+use Rattle.std.specs.FinMap.{get, insert, remove, nat_cmp-IsAntisymmetric}
+use Rattle.std.proofs.lemmas.Slice.Eq.{bytes_eq-Decides}
+use lib.IntN.{pos}
+use Rattle.mc_model.specs.Sight.{Sight}
+use Rattle.mc_model.specs.Replica.{apply, replay, seeing, with_players}
+use Rattle.mc_model.specs.Delta.{Pairs, is_named, missing, leaver, joiner, about}
+use Rattle.mc_model.specs.Delta.{leavers_point, joiners_point}
+use Rattle.mc_model.proofs.Maps.{take_out, put_in, remade, remade_at}
+use Rattle.mc_model.proofs.Leading.{Leads}
+
+-- the test of a pair that another list of players has not
+abbrev pub is_other : Pairs → ℕ × List ℕ → Bool
+is_other n e = not (is_named (get n e.0) e.1)
+
+-- the pairs that are missing in the other are exchanged: that is the other
+pub pairs_exchanged : (m n : Pairs) → fold put_in (fold take_out m (missing m n)) (missing n m) ≡ n
+pairs_exchanged m n = remade nat_cmp_total nat_cmp-IsAntisymmetric m n (is_other n) (is_other m)
+    (λ q. cases q (get m q) (get n q) refl refl)
+  where
+    both : (v w : List ℕ) (b : Bool) → bytes_eq v w ≡ b →
+        cond (not b) (Some w) (cond (not (bytes_eq w v)) None (Some v)) ≡ Some w
+    both v w false t = refl
+    both v w true t =
+        let same : v ≡ w = (bytes_eq-Decides v w).0 t in
+        let back : bytes_eq w v ≡ true = (bytes_eq-Decides w v).1 (sym same) in
+        rw back (ap (λ (x : List ℕ). Some x) same)
+
+    cases : (q : ℕ) (old new : Option (List ℕ)) → get m q ≡ old → get n q ≡ new →
+        remade_at (is_other n) (is_other m) q old new ≡ new
+    cases q None None a b = refl
+    cases q None (Some w) a b = rw a refl
+    cases q (Some v) None a b = rw b refl
+    cases q (Some v) (Some w) a b = rw (a, b) (both v w (bytes_eq v w) refl)
+
+-- players that leave are taken out of the list
+left : (m : Pairs) (es : List (ℕ × List ℕ)) → with_players m (map leaver es) ≡ fold take_out m es
+left m [] = refl
+left m (e ∷ es) = left (remove m e.0) es
+
+-- and those that join put in
+came : (m : Pairs) (es : List (ℕ × List ℕ)) → with_players m (map joiner es) ≡ fold put_in m es
+came m [] = refl
+came m (e ∷ es) = came (insert m e.0 e.1) es
+
+-- a packet about players changes the list of players alone
+pub leavers_lead : (s : Sight) (es : List (ℕ × List ℕ)) →
+    replay (seeing s) (about (pos 4) (map leaver es)) ≡ seeing
+    (record s { pairs = fold take_out s.pairs es })
+unfolding apply
+leavers_lead s [] = refl
+leavers_lead s (e ∷ es) = ap (λ (pairs : Pairs). seeing (record s { pairs = pairs }))
+    (left s.pairs (e ∷ es))
+
+-- likewise one about those that join
+pub joiners_lead : (s : Sight) (es : List (ℕ × List ℕ)) →
+    replay (seeing s) (about (pos 0) (map joiner es)) ≡ seeing
+    (record s { pairs = fold put_in s.pairs es })
+unfolding apply
+joiners_lead s [] = refl
+joiners_lead s (e ∷ es) = ap (λ (pairs : Pairs). seeing (record s { pairs = pairs }))
+    (came s.pairs (e ∷ es))
+
+-- the pairs that are missing in the second are taken out
+pub leavers_point_leads : (p q : Sight) →
+    Leads p (leavers_point p q) (record p {
+      pairs =
+          fold take_out p.pairs (missing p.pairs q.pairs);
+    })
+leavers_point_leads p q = record { is = leavers_lead p (missing p.pairs q.pairs) }
+
+-- and those that are missing in the first are put in
+pub joiners_point_leads : (p q : Sight) →
+    Leads (record p { pairs = fold take_out p.pairs (missing p.pairs q.pairs) }) (joiners_point p q)
+    (record p { pairs = q.pairs })
+joiners_point_leads p q = record {
+  is = joiners_lead (record p { pairs = fold take_out p.pairs (missing p.pairs q.pairs) })
+      (missing q.pairs p.pairs)
+      ∙ ap (λ (pairs : Pairs). seeing (record p { pairs = pairs }))
+      (pairs_exchanged p.pairs q.pairs);
+}
