@@ -1,6 +1,6 @@
 -- What was encoded stays the frames of the players and of the land as more is encoded, and what the
 -- looks at cells cost.
-use Rattle.std.proofs.Common.{◌≡◌, ℕ, ◌+◌, ◌*◌, ◌≤◌, Bool, true, false, cond, not, List, ◌∷◌}
+use Rattle.std.proofs.Common.{◌≡◌, ℕ, ◌+◌, ◌*◌, ◌≤◌, Bool, true, false, cond, not, ◌||◌, List, ◌∷◌}
 use Rattle.std.proofs.Common.{length, Some, None, refl, sym, ap, ◌∙◌, arith}
 use Rattle.std.specs.Map.{lookup}
 use Rattle.std.specs.Ordering.{is_eq, eq_by_cmp}
@@ -9,11 +9,11 @@ use Rattle.std.specs.FinMap.{get, get-empty, get-insert, insert, from_entries, g
 use Rattle.std.specs.FinMap.{same_map}
 use Rattle.mc_column.specs.Sizes.{cells}
 use Rattle.mc_land.specs.Places.{Place, place_cmp}
-use Rattle.mc_land.specs.Land.{LandValue}
+use Rattle.mc_land.specs.Land.{LandValue, dirty_in}
 use Rattle.mc_land.proofs.Orders.{places_total, exact_places}
 use Rattle.mc_flush.specs.Lists.{ListValue}
 use Rattle.mc_flush.specs.Encoding.{EncodedValue, AreFrames, nothing_encoded, player_bytes}
-use Rattle.mc_flush.specs.Encoding.{load_bytes}
+use Rattle.mc_flush.specs.Encoding.{load_bytes, change_bytes, has_changes, is_clean, with_changes}
 use Rattle.mc_flush.specs.Encoding.{with_players, has_load, with_load, load_cost, unencoded}
 use Rattle.mc_flush.proofs.Lookups.{tree_found}
 use Rattle.mc_flush.proofs.Shown.{same_place}
@@ -27,6 +27,8 @@ none_encoded land list = record {
   players = λ bytes e. absurd cc;
   loads = λ place bytes e. let none : None ≡ Some bytes = sym (get-empty place_cmp place)
       ∙ e in absurd cc;
+  changes = λ place bytes e. let none : None ≡ Some bytes = sym (get-empty place_cmp place)
+      ∙ e in absurd cc;
 }
 
 pub players_added : (land : LandValue) (list : ListValue) (old : EncodedValue) →
@@ -34,6 +36,7 @@ pub players_added : (land : LandValue) (list : ListValue) (old : EncodedValue) �
 players_added land list old frames = record {
   players = λ bytes e. same_bytes (player_bytes list) bytes e;
   loads = frames.loads;
+  changes = frames.changes;
 }
 
 -- one more load
@@ -44,6 +47,7 @@ put_one land list old place frames = record {
   players = frames.players;
   loads = λ q bytes e. at q bytes (eq_by_cmp place_cmp q place) refl
       (sym (get-insert places_total old.loads place (load_bytes land place) q) ∙ e);
+  changes = frames.changes;
 }
   where
     at : (q : Place) (bytes : List ℕ) (t : Bool) → eq_by_cmp place_cmp q place ≡ t →
@@ -61,6 +65,34 @@ load_added land list old place frames = step (has_load old place)
         (cond b old (record old { loads = insert old.loads place (load_bytes land place) }))
     step true = frames
     step false = put_one land list old place frames
+
+-- the changes of one more column
+put_changed : (land : LandValue) (list : ListValue) (old : EncodedValue) (place : Place) →
+    AreFrames land list old →
+    AreFrames land list
+    (record old { changes = insert old.changes place (change_bytes land place) })
+put_changed land list old place frames = record {
+  players = frames.players;
+  loads = frames.loads;
+  changes = λ q bytes e. at q bytes (eq_by_cmp place_cmp q place) refl
+      (sym (get-insert places_total old.changes place (change_bytes land place) q) ∙ e);
+}
+  where
+    at : (q : Place) (bytes : List ℕ) (t : Bool) → eq_by_cmp place_cmp q place ≡ t →
+        cond t (Some (change_bytes land place)) (get old.changes q) ≡ Some bytes →
+        bytes ≡ change_bytes land q
+    at q bytes true t e = same_bytes (change_bytes land place) bytes e
+        ∙ ap (change_bytes land) (sym (same_place q place t))
+    at q bytes false t e = frames.changes q bytes e
+
+pub changes_added : (land : LandValue) (list : ListValue) (old : EncodedValue) (place : Place) →
+    AreFrames land list old → AreFrames land list (with_changes old land place)
+changes_added land list old place frames = step (has_changes old place || is_clean land place)
+  where
+    step : (b : Bool) → AreFrames land list
+        (cond b old (record old { changes = insert old.changes place (change_bytes land place) }))
+    step true = frames
+    step false = put_changed land list old place frames
 
 -- an entry that is put into a tree is put into the map of its entries
 pub entry_put : (old new : List (Place × List ℕ)) (k : Place) (v : List ℕ) →
@@ -87,6 +119,21 @@ pub load_new : (encoded new : EncodedValue) (land : LandValue) (place : Place) �
     new ≡ record encoded { loads = insert encoded.loads place (load_bytes land place) } →
     new ≡ with_load encoded land place
 load_new encoded new land place t is = is ∙ rw t refl
+
+pub changes_there : (encoded : EncodedValue) (land : LandValue) (place : Place) →
+    has_changes encoded place ≡ true → encoded ≡ with_changes encoded land place
+changes_there encoded land place t = rw t refl
+
+pub changes_clean : (encoded : EncodedValue) (land : LandValue) (place : Place) →
+    has_changes encoded place ≡ false → length (dirty_in land place) ≡ 0 →
+    encoded ≡ with_changes encoded land place
+changes_clean encoded land place t none = rw (t, none) refl
+
+pub changes_new : (encoded new : EncodedValue) (land : LandValue) (place : Place) →
+    has_changes encoded place ≡ false → is_clean land place ≡ false →
+    new ≡ record encoded { changes = insert encoded.changes place (change_bytes land place) } →
+    new ≡ with_changes encoded land place
+changes_new encoded new land place t some is = is ∙ rw (t, some) refl
 
 pub free_load : (encoded : EncodedValue) (place : Place) → has_load encoded place ≡ true →
     load_cost encoded place ≡ 0

@@ -66,7 +66,7 @@ module _ {K X : Type 0} (R : K → K → Ordering) where
         | false ↦ rest
       ]
 
-  find_below : (q : K) (es : List (K × X)) → T (below_all R q es) → find R q es ≡ None
+  pub find_below : (q : K) (es : List (K × X)) → T (below_all R q es) → find R q es ≡ None
   find_below q [] h = refl
   find_below q (e ∷ es) h = ap (λ r. cond (is_eq r) (Some e.1) (find R q es)) (less _ (first _ _ h))
       ∙ find_below q es (second _ _ h)

@@ -44,6 +44,7 @@ next_cost each now after total left rest x is all put =
 
 -- ---- filters
 
+-- what holds of all holds of those that pass a test
 pub all_filtered : {A : Type 0} (P : A → Type 0) (test : A → Bool) (xs : List A) →
     AllByRecursion P xs → AllByRecursion P (filter test xs)
 all_filtered P test [] a = tt
@@ -54,6 +55,7 @@ all_filtered {A} P test (x ∷ xs) a = step (test x) (all_filtered P test xs a.1
     step true rest = (a.0, rest)
     step false rest = rest
 
+-- and those are no more
 pub few_filtered : {A : Type 0} (test : A → Bool) (xs : List A) →
     length (filter test xs) ≤ length xs
 few_filtered test [] = omega arith
@@ -63,3 +65,8 @@ few_filtered {A} test (x ∷ xs) = step (test x) (few_filtered test xs)
         length (cond t (x ∷ filter test xs) (filter test xs)) ≤ suc (length xs)
     step true le = omega (arith, le)
     step false le = omega (arith, le)
+
+-- bytes behind bytes
+pub two_put : (old one two a b : List ℕ) → one ≡ old ++ a → two ≡ one ++ b → two ≡ old ++ (a ++ b)
+two_put old one two a b first second =
+    second ∙ ap (λ (t : List ℕ). t ++ b) first ∙ append_assoc old a b

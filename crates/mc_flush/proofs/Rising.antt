@@ -43,7 +43,7 @@ module _ {K : Type 0} (R : K → K → Ordering) where
 
 -- ---- runs of numbers
 
-less : (x y : ℤ) → x <ℤ y → T (is_lt (int_cmp x y))
+pub less : (x y : ℤ) → x <ℤ y → T (is_lt (int_cmp x y))
 less x y lt = step (int_cmp x y) refl
   where
     step : (r : Ordering) → int_cmp x y ≡ r → T (is_lt r)

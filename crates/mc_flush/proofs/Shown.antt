@@ -7,7 +7,7 @@ use Rattle.std.specs.Ordering.{eq_by_cmp}
 use Rattle.std.specs.Cmp.{IsTotalOrder, eq_by_cmp_equiv}
 use Rattle.std.specs.FinMap.{FinMap, IsAntisymmetric, find, is_sorted, keys, entries}
 use Rattle.std.specs.FinMap.{entries_sorted, contains_key, contains_key-keys, from_entries}
-use Rattle.std.specs.FinMap.{get-from_entries}
+use Rattle.std.specs.FinMap.{get, get-from_entries}
 use Rattle.std.specs.FinMap.Entries.{same_entries}
 use Rattle.std.proofs.lemmas.Map.Views.{list_any-from_Contains, Contains-from_any}
 use Rattle.mc_land.specs.declared.terrain.Terrain.{Terrain}
@@ -107,3 +107,14 @@ shown_entries terrain edits view =
     entries_made place_cmp places_total exact_places (map (placed_with terrain edits) (all_of view))
     (paired_sorted place_cmp (λ (p : Place). (placed_with terrain edits p).1) (all_of view)
     (view_rising (view.cx, view.cz) view.d))
+
+-- what stands at a place: its column, where the view has it
+pub shown_get : (terrain : Terrain) (edits : FinMap key_cmp ℕ) (view : ViewSet) (place : Place) →
+    get (from_entries {R = place_cmp} (map (placed_with terrain edits) (all_of view))) place
+    ≡ cond (has view place) (Some (placed_with terrain edits place).1) None
+shown_get terrain edits view place =
+    get-from_entries places_total (map (placed_with terrain edits) (all_of view)) place
+    ∙ find_paired place_cmp (λ (p : Place). (placed_with terrain edits p).1) exact_places place
+    (all_of view)
+    ∙ ap (λ (b : Bool). cond b (Some (placed_with terrain edits place).1) None)
+    (listed_has view place)

@@ -1,4 +1,5 @@
 pub mod Carried
+pub mod Cells
 pub mod Heads
 pub mod Lists
 pub mod Players
@@ -6,3 +7,4 @@ pub mod Sending
 pub mod Seeing
 pub mod Encoding
 pub mod Readying
+pub mod Telling

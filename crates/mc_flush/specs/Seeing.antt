@@ -1,20 +1,35 @@
 -- What a client is to be shown, of the parts that a view borrows, and what a mark stands for.
-use Rattle.std.specs.Prelude.{◌≡◌, ℕ, ◌≤◌, Bool, true, List, [], ◌++◌, map, length}
-use Rattle.std.specs.Prelude.{Option, Some, None, is_some}
-use Rattle.std.specs.FinMap.{FinMap, empty, from_entries}
+use Rattle.std.specs.Prelude.{◌≡◌, ℕ, ◌≤◌, Bool, not, true, List, [], ◌++◌, map, length, replicate}
+use Rattle.std.specs.Prelude.{Option, Some, None, is_some, option_map, if◌then◌else◌}
+use Rattle.std.specs.List.{filter, filter_map, flat_map}
+use Rattle.std.specs.Ordering.{int_cmp}
+use Rattle.std.specs.FinMap.{FinMap, contains_key, empty, from_entries, get, keys, len}
 use Rattle.std.specs.FinSet as set
-use lib.IntN.{pos, negsuc}
+use lib.IntN.{ℤ, pos, negsuc}
 use lib.Signed.{◌≤ℤ◌}
 use Rattle.mc_column.specs.Cells.{ColumnValue}
 use Rattle.mc_fields.specs.declared.position.Spot.{Spot}
 use Rattle.mc_land.specs.declared.terrain.Terrain.{Terrain}
-use Rattle.mc_land.specs.Places.{Place, key_cmp, IsPlace}
-use Rattle.mc_land.specs.Land.{LandValue, states_of, biomes_of}
+use Rattle.mc_land.specs.declared.ready.Touched.{Touched}
+use Rattle.mc_land.specs.Places.{Place, key_cmp, place_cmp, IsPlace}
+use Rattle.mc_land.specs.Land.{LandValue, states_of, biomes_of, dirty_in}
+use Rattle.mc_slots.specs.declared.pile.Pile.{Pile}
+use Rattle.mc_slots.specs.declared.pile.Pile.TheVariants.{Empty}
+use Rattle.mc_slots.specs.Pile.{slot_of}
+use Rattle.mc_windows.specs.Pack.{PackValue, IsPack, pack_size}
+use Rattle.mc_entities.specs.declared.entity.Entity.{Entity}
+use Rattle.mc_entities.specs.declared.entity.TheConstants.{DROPPED_MAX}
 use Rattle.mc_down.specs.declared.down.Down.{Down}
-use Rattle.mc_model.specs.Sight.{Sight, nothing_seen}
-use Rattle.mc_model.specs.Delta.{Pairs, missing, leaver, joiner, about, unload, load}
 use Rattle.mc_view.specs.declared.view_set.ViewSet.{ViewSet}
-use Rattle.mc_view.specs.Sets.{all_of, lacking}
+use Rattle.mc_view.specs.Sets.{all_of, has, is_within, lacking}
+use Rattle.mc_view.specs.Told.{Told}
+use Rattle.mc_view.specs.Views.{column_of_spot}
+use Rattle.mc_model.specs.Sight.{Seen, Sight}
+use Rattle.mc_model.specs.Notes.{Noted}
+use Rattle.mc_model.specs.World.{seen_of}
+use Rattle.mc_model.specs.Step.{noted_packets, notes_of}
+use Rattle.mc_model.specs.Delta.{Pairs, missing, leaver, joiner, about, unload, load}
+use Rattle.mc_model.specs.Delta.{cell_packets, destroying, entity_packets, slot_packets}
 use Rattle.mc_flush.specs.Lists.{ListValue}
 
 -- ---- what all clients are shown a part of
@@ -39,61 +54,122 @@ abbrev pub placed_with : Terrain → FinMap key_cmp ℕ → Place → Place × C
 placed_with terrain edits place =
     (place, record { states = states_of terrain edits place; biomes = biomes_of terrain place })
 
--- the players, and the columns of a view
-abbrev pub sight_of : Parts → ViewSet → Sight
-sight_of parts view = record {
-  pairs = parts.players;
-  columns = from_entries (map (placed_with parts.terrain parts.edits) (all_of view));
-}
-
 -- a column as it is now
 abbrev pub placed_column : LandValue → Place → Place × ColumnValue
 placed_column land place = placed_with land.terrain land.edits place
 
--- the players that are in the list now, and the columns of the view as they are
-abbrev pub seen : LandValue → ListValue → ViewSet → Sight
-seen land list view = sight_of (present_parts land list) view
+abbrev pub columns_of : Parts → ViewSet → FinMap place_cmp ColumnValue
+columns_of parts view = from_entries (map (placed_with parts.terrain parts.edits) (all_of view))
+
+-- the entities that stand in a view
+abbrev pub is_in : ViewSet → Entity → Bool
+is_in view e = has view (column_of_spot e.spot)
+
+abbrev pub in_view : ViewSet → List Entity → List Entity
+in_view view entities = filter (is_in view) entities
+
+-- what a client is to be shown: the players that are in the list now, the columns of the view as they
+-- are, the dropped items in it, and its pack
+abbrev pub seen : LandValue → ListValue → List Entity → PackValue → ViewSet → Sight
+seen land list entities pack view = record {
+  pairs = list.present;
+  columns = columns_of (present_parts land list) view;
+  entities = from_entries (filter_map seen_of (in_view view entities));
+  pack = map slot_of pack.slots;
+}
 
 -- ---- what was shown
 
--- what contracts see of a mark: the view whose columns were shown, none before the first tick
-abbrev pub MarkValue : Type 0
-MarkValue = Option ViewSet
+-- what contracts see of a mark
+pub record MarkValue : Type 0 where
+  -- the view whose columns were shown, none before the first tick
+  pub view : Option ViewSet
+  -- what was told of entities
+  pub told : Told
+  -- the piles of the pack that were shown
+  pub slots : List Pile
 
 abbrev pub nothing_shown : MarkValue
-nothing_shown = None
+nothing_shown = record { view = None; told = empty; slots = replicate pack_size Empty }
 
 -- whether anything was shown
 abbrev pub is_shown : MarkValue → Bool
-is_shown mark = is_some mark
+is_shown mark = is_some mark.view
 
--- What was shown, of the parts as they were: nothing, or the players and the columns of the view
--- that is kept.
+-- the players and the columns that were shown, of the parts as they were: none before the first tick
+abbrev pub pairs_in : Option ViewSet → Parts → Pairs
+pairs_in None parts = empty
+pairs_in (Some view) parts = parts.players
+
+abbrev pub columns_in : Option ViewSet → Parts → FinMap place_cmp ColumnValue
+columns_in None parts = empty
+columns_in (Some view) parts = columns_of parts view
+
+-- a dropped item of which a client was told
+abbrev pub told_item : Spot × Pile → Seen
+told_item told = record { spot = told.0; head = told.0.yaw; item = slot_of told.1 }
+
+-- a mark stands for a sight, of the parts as they were
+pub record Shown (mark : MarkValue) (parts : Parts) (p : Sight) : Type 0 where
+  pub pairs : p.pairs ≡ pairs_in mark.view parts
+  pub columns : p.columns ≡ columns_in mark.view parts
+  pub entities : (eid : ℤ) → get p.entities eid ≡ option_map told_item (get mark.told eid)
+  pub pack : p.pack ≡ map slot_of mark.slots
+
 unfoldable pub StandsFor : MarkValue → Parts → Sight → Type 0
-StandsFor None parts p = p ≡ nothing_seen
-StandsFor (Some view) parts p = p ≡ sight_of parts view
+StandsFor mark parts p = Shown mark parts p
+
+-- a mark that says of at most as many entities as there are dropped items, and of a whole pack
+pub record IsMark (mark : MarkValue) : Type 0 where
+  pub few : len mark.told ≤ DROPPED_MAX
+  pub pack : IsPack mark.slots Empty
 
 -- ---- what differs from what was shown
 
--- the columns that are not shown any more, and those that were not shown before
+-- the columns of one view that another lacks, where there may be none
+abbrev pub left_of : Option ViewSet → ViewSet → List Place
+left_of None view = []
+left_of (Some old) view = lacking old view
+
+abbrev pub entered_of : Option ViewSet → ViewSet → List Place
+entered_of None view = all_of view
+entered_of (Some old) view = lacking view old
+
+-- the dropped items that are to be shown
+abbrev pub shown_now : List Entity → ViewSet → FinMap int_cmp Seen
+shown_now entities view = from_entries (filter_map seen_of (in_view view entities))
+
+-- the columns that are not shown any more, those that were not shown before, and those that stay
 abbrev pub unloaded : MarkValue → ViewSet → List Place
-unloaded None view = []
-unloaded (Some old) view = lacking old view
+unloaded mark view = left_of mark.view view
 
 abbrev pub loaded : MarkValue → ViewSet → List Place
-loaded None view = all_of view
-loaded (Some old) view = lacking view old
+loaded mark view = entered_of mark.view view
+
+abbrev pub shown_among : MarkValue → List Place → List Place
+shown_among mark places = filter (is_within mark.view) places
+
+abbrev pub stayed : MarkValue → ViewSet → List Place
+stayed mark view = shown_among mark (all_of view)
 
 -- the players that were shown
 abbrev pub listed : MarkValue → ListValue → Pairs
-listed None list = empty
-listed (Some old) list = list.last
+listed mark list = if is_shown mark then list.last else empty
 
--- those who left, then those who came
+-- those who left, and those who came
+abbrev pub leaver_packets : Pairs → Pairs → List Down
+leaver_packets before now = about (pos 4) (map leaver (missing before now))
+
+abbrev pub joiner_packets : Pairs → Pairs → List Down
+joiner_packets before now = about (pos 0) (map joiner (missing now before))
+
 abbrev pub player_packets : Pairs → Pairs → List Down
-player_packets before now =
-    about (pos 4) (map leaver (missing before now))
-    ++ about (pos 0) (map joiner (missing now before))
+player_packets before now = leaver_packets before now ++ joiner_packets before now
+
+-- the numbers of those that a client was told of and that it is to be shown no more
+abbrev pub gone_from : Told → List Entity → ViewSet → List ℤ
+gone_from told entities view =
+    filter (λ (eid : ℤ). not (contains_key (shown_now entities view) eid)) (keys told)
 
 abbrev pub unload_packets : List Place → List Down
 unload_packets places = map unload places
@@ -101,11 +177,51 @@ unload_packets places = map unload places
 abbrev pub load_packets : LandValue → List Place → List Down
 load_packets land places = map load (map (placed_column land) places)
 
--- players, then columns out of view, then columns in view
-unfoldable pub changes : LandValue → ListValue → MarkValue → ViewSet → List Down
-changes land list mark view =
-    player_packets (listed mark list) list.present
-    ++ (unload_packets (unloaded mark view) ++ load_packets land (loaded mark view))
+-- the cells of a column that changed since the last settling, as they are now
+abbrev pub place_packets : LandValue → Place → List Down
+place_packets land place =
+    cell_packets place (states_of land.terrain land.edits place)
+    (map (λ (t : Touched). t.index) (dirty_in land place))
+
+abbrev pub changed_packets : LandValue → List Place → List Down
+changed_packets land places = flat_map (place_packets land) places
+
+-- what differs of columns
+abbrev pub column_packets : LandValue → MarkValue → ViewSet → List Down
+column_packets land mark view =
+    unload_packets (unloaded mark view)
+    ++ (load_packets land (loaded mark view) ++ changed_packets land (stayed mark view))
+
+-- an entity that is shown, told to a client that was told this of it
+abbrev pub packets_of : Told → ℤ × Seen → List Down
+packets_of told e = entity_packets e.0 (option_map told_item (get told e.0)) e.1
+
+-- in rising number
+abbrev pub entity_frames : Told → List Entity → ViewSet → List Down
+entity_frames told entities view =
+    flat_map (packets_of told) (filter_map seen_of (in_view view entities))
+
+-- the slots of the pack that differ
+abbrev pub pack_packets : List Pile → List Pile → List Down
+pack_packets old new = slot_packets 9 (map slot_of old) (map slot_of new)
+
+-- all of it
+unfoldable pub changes : LandValue → ListValue → List Entity → PackValue → MarkValue → ViewSet →
+    List Down
+changes land list entities pack mark view =
+    leaver_packets (listed mark list) list.present
+    ++ (joiner_packets (listed mark list) list.present
+    ++ (destroying (gone_from mark.told entities view)
+    ++ (unload_packets (unloaded mark view)
+    ++ (load_packets land (loaded mark view)
+    ++ (changed_packets land (stayed mark view)
+    ++ (entity_frames mark.told entities view ++ pack_packets mark.slots pack.slots))))))
+
+-- what was noted: cells in the view as they are, and all else, of a player that is at a spot and
+-- carries a pack
+abbrev pub noted_of : LandValue → ViewSet → Noted → Spot → PackValue → List Down
+noted_of land view notes spot pack =
+    noted_packets land.terrain land.edits (has view) notes.cells ++ notes_of notes spot pack
 
 -- ---- what is asked of the parts
 
@@ -118,11 +234,12 @@ pub record IsReady (land : LandValue) (place : Place) : Type 0 where
   pub near : IsPlace place
   pub ready : set.contains land.ready place ≡ true
 
--- a player's place is within 30,000,000 blocks on x and z, and from 64 below to 4,096 above on y
+-- A player's place is within 30,000,000 blocks on x and z, and from 64 below to 4,096 above on y. A
+-- dropped item may lie half a block further east and south.
 pub record IsInRange (spot : Spot) : Type 0 where
   pub x_low : negsuc 959999999 ≤ℤ spot.x
-  pub x_high : spot.x ≤ℤ pos 960000000
+  pub x_high : spot.x ≤ℤ pos 960000016
   pub y_low : negsuc 2047 ≤ℤ spot.y
   pub y_high : spot.y ≤ℤ pos 131072
   pub z_low : negsuc 959999999 ≤ℤ spot.z
-  pub z_high : spot.z ≤ℤ pos 960000000
+  pub z_high : spot.z ≤ℤ pos 960000016

@@ -1,13 +1,10 @@
--- Packets of play as the bytes of their frames, and what is noted of a player's place.
-use Rattle.std.specs.Prelude.{ℕ, List, [], ◌∷◌, map, if◌then◌else◌}
+-- Packets of play as the bytes of their frames.
+use Rattle.std.specs.Prelude.{ℕ, List, map}
 use Rattle.std.specs.List.{AllByRecursion}
-use Rattle.mc_fields.specs.declared.position.Spot.{Spot}
 use Rattle.mc_frame.specs.Frame.{IsPayload}
 use Rattle.mc_down.specs.declared.down.Down.{Down}
 use Rattle.mc_down.specs.Down.{FitsDown, spelling_of}
 use Rattle.mc_model.specs.Packets.{of_play, bytes_of}
-use Rattle.mc_model.specs.Notes.{Noted}
-use Rattle.mc_model.specs.Step.{placing}
 
 -- the frames of packets of play, one after another
 abbrev pub play_bytes : List Down → List ℕ
@@ -19,7 +16,3 @@ IsClear packet = FitsDown packet × IsPayload (spelling_of packet)
 
 abbrev pub AreClear : List Down → Type 0
 AreClear packets = AllByRecursion IsClear packets
-
--- what was noted, with the player's place
-abbrev pub notes_due_of : Noted → Spot → List Down
-notes_due_of notes spot = if notes.placing then placing spot ∷ [] else []

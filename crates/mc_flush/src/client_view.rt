@@ -1,37 +1,45 @@
-ghost use Rattle.std.specs.Prelude.{◌≡◌, ◌≤◌, ◌+◌, ◌*◌, ◌++◌, IfOk, OnOk, OnErr, length};
+ghost use Rattle.std.specs.Prelude.{◌≡◌, ◌≤◌, ◌+◌, ◌++◌, IfOk, OnOk, OnErr, Some, pos};
 ghost use Rattle.std.specs.List.{AllByRecursion};
 ghost use Rattle.std.specs.FinMap as map;
-ghost use Rattle.mc_column.specs.Sizes.{cells};
 ghost use Rattle.mc_frame.specs.Kept.{joined};
-ghost use Rattle.mc_land.specs.Places.{IsPlace};
+ghost use Rattle.mc_entities.specs.Numbers.{Rise};
+ghost use Rattle.mc_entities.specs.Folk.{eid_of};
 ghost use Rattle.mc_model.specs.Sight.{Sight};
 ghost use Rattle.mc_model.specs.Delta.{delta};
-ghost use Rattle.mc_flush.specs.Sending.{play_bytes, notes_due_of};
-ghost use Rattle.mc_flush.specs.Seeing.{StandsFor, IsNamed, IsReady, changes, listed, load_packets};
-ghost use Rattle.mc_flush.specs.Seeing.{loaded, player_packets, present_parts, seen, settled_parts};
-ghost use Rattle.mc_flush.specs.Seeing.{unload_packets, unloaded};
-ghost use Rattle.mc_flush.specs.Encoding.{AreFrames, load_bytes, load_cost, unencoded};
+ghost use Rattle.mc_flush.specs.Sending.{play_bytes};
+ghost use Rattle.mc_flush.specs.Seeing.{StandsFor, IsNamed, IsReady, changes, listed, loaded};
+ghost use Rattle.mc_flush.specs.Seeing.{noted_of, player_packets, present_parts, seen};
+ghost use Rattle.mc_flush.specs.Seeing.{settled_parts};
+ghost use Rattle.mc_flush.specs.Encoding.{AreFrames, looks, noted_looks};
+ghost use Rattle.mc_flush.specs.Telling.{told_now};
 
-use crate::columns::{load_piece, put_unloads};
-use crate::notes::put_notes;
+use crate::noted::noted_piece;
+use crate::pushing::{push_notes, push_piece, push_slots};
 use crate::{Encoded, Mark, PlayerList};
 use bytes::Bytes;
+use mc_entities::Folk;
 use mc_fields::Spot;
 use mc_land::{Land, Steps};
 use mc_model::Notes;
 use mc_nbt::NoMemory;
-use mc_view::{Columns, ViewSet};
+use mc_view::ViewSet;
+use mc_windows::Pack;
 use std::alloc::Global;
 use std::sync::ledger::Ledger;
 
-/// What one client is shown a part of: the land, the list of players, and where its player is.
+/// What one client is shown a part of: the land, the entities, the list of players, and what its
+/// player carries and where it is.
 #[derive(Drop)]
 pub struct ClientView<'w> {
     /// The cells.
     pub land: &'w Land,
+    /// The entities.
+    pub folk: &'w Folk,
+    /// What its player carries.
+    pub pack: &'w Pack,
     /// The players in play.
     pub list: &'w PlayerList,
-    /// What was encoded of both for all clients.
+    /// What was encoded of these for all clients.
     pub encoded: &'w Encoded,
     /// The number of the client's own entity.
     pub me: i32,
@@ -39,43 +47,6 @@ pub struct ClientView<'w> {
     pub view: ViewSet,
     /// Where its player is and looks.
     pub place: Spot,
-}
-
-/// Appends a piece, unless it is empty.
-fn push_piece(piece: Bytes, out: &mut Vec<Bytes>) -> Result<(), NoMemory>
-    ensures { OnOk result (joined out.new.items ≡ joined out.old.items ++ piece) }
-{
-    if piece.is_empty() {
-        return Ok(());
-    }
-    out.push(piece)?;
-    Ok(())
-}
-
-/// Appends the frames that take columns away, as one piece.
-fn push_unloads(alloc: Global, columns: Columns, out: &mut Vec<Bytes>) -> Result<(), NoMemory>
-    requires { AllByRecursion IsPlace columns }
-    ensures { OnOk result (joined out.new.items
-        ≡ joined out.old.items ++ play_bytes (unload_packets columns)) }
-{
-    let mut bytes = Vec::new(alloc);
-    put_unloads(columns, &mut bytes)?;
-    push_piece(Bytes::from_vec(bytes)?, out)
-}
-
-/// Appends what was noted for a client, as one piece.
-fn push_notes(
-    alloc: Global,
-    notes: &Notes,
-    place: &Spot,
-    out: &mut Vec<Bytes>,
-) -> Result<(), NoMemory>
-    ensures { OnOk result (joined out.new.items
-        ≡ joined out.old.items ++ play_bytes (notes_due_of notes.now place.now)) }
-{
-    let mut bytes = Vec::new(alloc);
-    put_notes(notes, place, &mut bytes)?;
-    push_piece(Bytes::from_vec(bytes)?, out)
 }
 
 impl ClientView<'_> {
@@ -97,67 +68,11 @@ impl ClientView<'_> {
         }
     }
 
-    /// The frame that loads the column of a place. It looks at the cells where that was not
-    /// encoded.
-    fn load<L: Ledger>(
-        &self,
-        alloc: Global,
-        place: &(i32, i32),
-        steps: &mut Steps<L>,
-    ) -> Result<Bytes, NoMemory>
-        requires ready { IsReady self.now.land.now place.now }
-        requires frames { AreFrames self.now.land.now self.now.list.now self.now.encoded.now }
-        ensures is { IfOk result (λ piece. piece ≡ load_bytes self.now.land.now place.now) }
-        ensures cost { OnOk result (steps.new
-            ≡ steps.old + load_cost self.now.encoded.now place.now) }
-        ensures bounded { steps.new ≤ steps.old + load_cost self.now.encoded.now place.now }
-    {
-        match self.encoded.load(place) {
-            Some(piece) => Ok(piece.clone()?),
-            None => load_piece(alloc, self.land, place, steps),
-        }
-    }
-
-    /// Appends the frames that load columns.
-    fn push_loads<L: Ledger>(
-        &self,
-        alloc: Global,
-        columns: Columns,
-        out: &mut Vec<Bytes>,
-        steps: &mut Steps<L>,
-    ) -> Result<(), NoMemory>
-        requires ready { AllByRecursion (IsReady self.now.land.now) columns }
-        requires frames { AreFrames self.now.land.now self.now.list.now self.now.encoded.now }
-        ensures sent { OnOk result (joined out.new.items
-            ≡ joined out.old.items ++ play_bytes (load_packets self.now.land.now columns)) }
-        ensures cost { OnOk result (steps.new
-            ≡ steps.old + cells * length (unencoded self.now.encoded.now columns)) }
-        ensures bounded { steps.new
-            ≤ steps.old + cells * length (unencoded self.now.encoded.now columns) }
-    {
-        for place in columns {
-            let piece = self.load(alloc, &place, steps)?;
-            out.push(piece)?;
-        }
-        Ok(())
-    }
-
-    /// Appends the frames that take away the columns that are out of view.
-    fn push_left(&self, alloc: Global, mark: &Mark, out: &mut Vec<Bytes>) -> Result<(), NoMemory>
-        ensures { OnOk result (joined out.new.items ≡ joined out.old.items
-            ++ play_bytes (unload_packets (unloaded mark.now self.now.view))) }
-    {
-        match mark.view() {
-            Some(old) => push_unloads(alloc, self.view.left(old), out),
-            None => Ok(()),
-        }
-    }
-
-    /// Appends what differs from what a client was shown.
+    /// Appends what differs from what a client was shown, and keeps what it is told of entities.
     fn push_changes<L: Ledger>(
         &self,
         alloc: Global,
-        mark: &Mark,
+        mark: &mut Mark,
         out: &mut Vec<Bytes>,
         steps: &mut Steps<L>,
     ) -> Result<(), NoMemory>
@@ -165,26 +80,37 @@ impl ClientView<'_> {
         requires few_before { map.len self.now.list.now.last ≤ 50 }
         requires named { AllByRecursion IsNamed (map.entries self.now.list.now.present) }
         requires ready { AllByRecursion (IsReady self.now.land.now)
-            (loaded mark.now self.now.view) }
+            (loaded mark.old self.now.view) }
         requires frames { AreFrames self.now.land.now self.now.list.now self.now.encoded.now }
         ensures sent { OnOk result (joined out.new.items ≡ joined out.old.items ++ play_bytes
-            (changes self.now.land.now self.now.list.now mark.now self.now.view)) }
+            (changes self.now.land.now self.now.list.now self.now.folk.now.state.entities
+            self.now.pack.now mark.old self.now.view)) }
+        ensures mark { OnOk result (mark.new ≡ record mark.old {
+          told = told_now self.now.folk.now.state.entities self.now.view;
+        }) }
+        ensures rise { OnOk result (Rise eid_of (pos 0) self.now.folk.now.state.entities
+            (pos self.now.folk.now.state.given)) }
         ensures cost { OnOk result (steps.new ≡ steps.old
-            + cells * length (unencoded self.now.encoded.now (loaded mark.now self.now.view))) }
+            + looks self.now.encoded.now self.now.land.now mark.old self.now.view) }
         ensures bounded { steps.new ≤ steps.old
-            + cells * length (unencoded self.now.encoded.now (loaded mark.now self.now.view)) }
+            + looks self.now.encoded.now self.now.land.now mark.old self.now.view }
     {
         push_piece(self.players(alloc, mark)?, out)?;
-        self.push_left(alloc, mark, out)?;
-        self.push_loads(alloc, mark.entered(&self.view), out, steps)?;
+        let (gone, shown) = mark.tell(alloc, self.folk, &self.view)?;
+        push_piece(gone, out)?;
+        self.push_columns(alloc, mark, out, steps)?;
+        push_piece(shown, out)?;
+        push_slots(alloc, mark, self.pack, out)?;
         Ok(())
     }
 }
 
 /// Appends what a client is sent at a tick: the frames that lead it from what it was shown to what
 /// the parts are now, then those of what was noted. The mark then stands for the parts, once list
-/// and land are settled. A frame that was encoded is shared; a look at a column whose load was not
-/// encoded costs its cells. Without memory nothing is appended, and the mark is as before.
+/// and land are settled. A frame that was encoded is shared. Of a column that stays only the cells
+/// that changed are looked at, one step each, and of one that comes all its cells; neither where
+/// the frames were encoded. Without memory nothing is appended, and the mark is not to be used
+/// again.
 pub fn flush<L: Ledger>(
     alloc: Global,
     view: &ClientView<'_>,
@@ -201,22 +127,31 @@ pub fn flush<L: Ledger>(
     ensures sent { (p : Sight) →
         StandsFor mark.old (settled_parts view.now.land.now view.now.list.now) p →
         OnOk result (joined out.new.items ≡ joined out.old.items ++ play_bytes
-        (delta p (seen view.now.land.now view.now.list.now view.now.view)
-        ++ notes_due_of notes.now view.now.place)) }
+        (delta p (seen view.now.land.now view.now.list.now view.now.folk.now.state.entities
+        view.now.pack.now view.now.view)
+        ++ noted_of view.now.land.now view.now.view notes.now view.now.place
+        view.now.pack.now)) }
     ensures stands { OnOk result
         (StandsFor mark.new (present_parts view.now.land.now view.now.list.now)
-        (seen view.now.land.now view.now.list.now view.now.view)) }
+        (seen view.now.land.now view.now.list.now view.now.folk.now.state.entities
+        view.now.pack.now view.now.view)) }
+    ensures opened { OnOk result (mark.new.view ≡ Some view.now.view) }
     ensures nothing { OnErr result (out.new.items ≡ out.old.items) }
-    ensures stays { OnErr result (mark.new ≡ mark.old) }
     ensures cost { OnOk result (steps.new ≡ steps.old
-        + cells * length (unencoded view.now.encoded.now (loaded mark.old view.now.view))) }
+        + (looks view.now.encoded.now view.now.land.now mark.old view.now.view
+        + noted_looks view.now.view notes.now)) }
     ensures bounded { steps.new ≤ steps.old
-        + cells * length (unencoded view.now.encoded.now (loaded mark.old view.now.view)) }
+        + (looks view.now.encoded.now view.now.land.now mark.old view.now.view
+        + noted_looks view.now.view notes.now) }
 {
     let mut pieces = Vec::new(alloc);
     view.push_changes(alloc, mark, &mut pieces, steps)?;
-    push_notes(alloc, notes, &view.place, &mut pieces)?;
+    push_piece(
+        noted_piece(alloc, view.land, &view.view, notes.cells(), steps)?,
+        &mut pieces,
+    )?;
+    push_notes(alloc, notes, &view.place, view.pack, &mut pieces)?;
     out.append(&mut pieces)?;
-    mark.keep(view.view);
+    mark.keep(view.view, view.pack);
     Ok(())
 }

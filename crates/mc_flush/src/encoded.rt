@@ -2,15 +2,17 @@ ghost use Rattle.std.specs.Prelude.{◌≡◌, ◌+◌, ◌≤◌, OnOk, OnErr};
 ghost use Rattle.std.specs.Option.{option_copied};
 ghost use Rattle.std.specs.List.{AllByRecursion};
 ghost use Rattle.std.specs.FinMap as map;
+ghost use Rattle.mc_land.specs.Places.{IsPlace};
 ghost use Rattle.mc_land.specs.Land.{LandValue};
 ghost use Rattle.mc_flush.specs.Lists.{ListValue};
 ghost use Rattle.mc_flush.specs.Seeing.{IsNamed, IsReady};
-ghost use Rattle.mc_flush.specs.Encoding.{AreFrames, load_cost, nothing_encoded, with_load};
-ghost use Rattle.mc_flush.specs.Encoding.{with_players};
+ghost use Rattle.mc_flush.specs.Encoding.{AreFrames, change_cost, load_cost, nothing_encoded};
+ghost use Rattle.mc_flush.specs.Encoding.{with_changes, with_load, with_players};
 
 mod fields;
 
 use crate::PlayerList;
+use crate::cells::{changes_piece, dirty_cells};
 use crate::columns::load_piece;
 use bytes::Bytes;
 use mc_land::{Land, Steps};
@@ -21,14 +23,16 @@ use std::marker::Model;
 use std::sync::ledger::Ledger;
 
 /// What is the same for all clients of a tick, encoded once, in pieces that each of them shares:
-/// the frames of who left and of who came since the last settling, and by place that of a column's
-/// load.
+/// the frames of who left and of who came since the last settling, by place that of a column's
+/// load, and by place those of its cells that changed since the last settling.
 #[derive(Drop)]
 pub struct Encoded {
     /// The frames about players, where they were encoded.
     players: Option<Bytes>,
     /// By place, the frame that loads its column.
     loads: BTreeMap<(i32, i32), Bytes>,
+    /// By place, the frames of the changed cells of its column.
+    changes: BTreeMap<(i32, i32), Bytes>,
 }
 
 impl Model for Encoded {
@@ -39,7 +43,11 @@ impl Model for Encoded {
 
     ghost coded = { coded_encoded };
 
-    ghost view = { λ e. record { players = e.players; loads = from_entries e.loads.entries } };
+    ghost view = { λ e. record {
+      players = e.players;
+      loads = from_entries e.loads.entries;
+      changes = from_entries e.changes.entries;
+    } };
 }
 
 impl Encoded {
@@ -51,6 +59,7 @@ impl Encoded {
         Encoded {
             players: None,
             loads: BTreeMap::new(alloc),
+            changes: BTreeMap::new(alloc),
         }
     }
 
@@ -95,6 +104,35 @@ impl Encoded {
         Ok(())
     }
 
+    /// Adds the frames of the cells of a column that changed since the last settling, and looks at
+    /// those, unless they are there or none changed. Without memory all is as before.
+    pub fn add_changes<L: Ledger>(
+        &mut self,
+        alloc: Global,
+        land: &Land,
+        place: &(i32, i32),
+        steps: &mut Steps<L>,
+    ) -> Result<(), NoMemory>
+        requires { IsPlace place.now }
+        ensures ok { OnOk result (self.new ≡ with_changes self.old land.now place.now) }
+        ensures err { OnErr result (self.new ≡ self.old) }
+        ensures frames { (list : ListValue) → AreFrames land.now list self.old
+            → AreFrames land.now list self.new }
+        ensures cost { OnOk result (steps.new
+            ≡ steps.old + change_cost self.old land.now place.now) }
+        ensures bounded { steps.new ≤ steps.old + change_cost self.old land.now place.now }
+    {
+        if self.changes(place).is_some() {
+            return Ok(());
+        }
+        if dirty_cells(land, place).is_empty() {
+            return Ok(());
+        }
+        let piece = changes_piece(alloc, land, place, steps)?;
+        self.changes.insert(*place, piece)?;
+        Ok(())
+    }
+
     /// The frames about players, None where they were not encoded.
     pub(crate) fn players(&self) -> Option<&Bytes>
         ensures { option_copied result ≡ self.now.players }
@@ -107,5 +145,12 @@ impl Encoded {
         ensures { option_copied result ≡ map.get self.now.loads place.now }
     {
         self.loads.get(place)
+    }
+
+    /// The frames of the changed cells of the column of a place, None where they were not encoded.
+    pub(crate) fn changes(&self, place: &(i32, i32)) -> Option<&Bytes>
+        ensures { option_copied result ≡ map.get self.now.changes place.now }
+    {
+        self.changes.get(place)
     }
 }

@@ -6,14 +6,22 @@
 //! stands for that. What is the same for all clients of a tick is encoded once and shared.
 #![tactic(auto)]
 
+mod cells;
 mod client_view;
+mod column_pieces;
 mod columns;
 mod encoded;
+mod entities;
 mod frames;
+mod items;
 mod mark;
 mod names;
+mod noted;
 mod notes;
+mod packets;
 mod player_list;
+mod pushing;
+mod slots;
 
 pub use client_view::{ClientView, flush};
 pub use encoded::Encoded;

@@ -1,39 +1,74 @@
-ghost use Rattle.std.specs.Prelude.{◌≡◌, Some};
+ghost use Rattle.std.specs.Prelude.{◌≡◌, ℕ, IfOk, OnOk, Some, pos};
 ghost use Rattle.std.specs.Option.{option_copied};
-ghost use Rattle.mc_flush.specs.Seeing.{loaded, nothing_shown};
+ghost use Rattle.mc_slots.specs.Pile.{IsPile};
+ghost use Rattle.mc_slots.specs.Chest.{pile_at};
+ghost use Rattle.mc_windows.specs.Pack.{pack_size};
+ghost use Rattle.mc_entities.specs.Numbers.{Rise};
+ghost use Rattle.mc_entities.specs.Folk.{eid_of};
+ghost use Rattle.mc_model.specs.Delta.{destroying};
+ghost use Rattle.mc_view.specs.Sets.{is_within};
+ghost use Rattle.mc_flush.specs.Sending.{play_bytes};
+ghost use Rattle.mc_flush.specs.Seeing.{entity_frames, gone_from, loaded, nothing_shown};
+ghost use Rattle.mc_flush.specs.Telling.{told_now};
 
 mod fields;
 
-use mc_view::{Columns, ViewSet};
+use crate::entities::tell;
+use bytes::Bytes;
+use mc_entities::Folk;
+use mc_nbt::NoMemory;
+use mc_slots::Pile;
+use mc_view::{Columns, Tracker, ViewSet};
+use mc_windows::Pack;
+use std::alloc::Global;
 use std::marker::Model;
 
-/// What a client was shown at its last tick: the columns of a view. The players and the cells that
-/// it was shown are those of the last settling of the list and of the land.
+/// How many piles a pack has, without the cursor.
+const PILES: usize = 36;
+
+/// What a client was told, and no copy of it: the columns of a view, of each entity where it is and
+/// what lies there, and the piles of its pack. The players and the cells that it was shown are
+/// those of the last settling of the list and of the land.
 #[derive(Drop)]
 pub struct Mark {
     /// The view, None before the first tick.
     shown: Option<ViewSet>,
+    /// What was told of entities.
+    told: Tracker,
+    /// The piles of the pack that were shown.
+    slots: [Pile; PILES],
 }
 
 impl Model for Mark {
-    ghost use Rattle.mc_flush.specs.Seeing.{MarkValue};
+    ghost use Rattle.mc_view.specs.ToldCode.{coded_told};
+    ghost use Rattle.std.specs.Coded.{codes};
+    ghost use Rattle.mc_flush.specs.Seeing.{IsMark, MarkValue};
 
     ghost Value = { MarkValue };
 
-    ghost view = { λ mark. mark.shown };
+    ghost coded = { Prim.hlevel (codes, coded_told) };
+
+    ghost view = { λ mark. record { view = mark.shown; told = mark.told; slots = mark.slots } };
+
+    ghost invariant = { λ mark.
+        IsMark (record { view = mark.shown; told = mark.told; slots = mark.slots }) };
 }
 
 impl Mark {
     /// The mark of a client that was shown nothing yet.
-    pub fn new() -> Mark
+    pub fn new(alloc: Global) -> Mark
         ensures { result ≡ nothing_shown }
     {
-        Mark { shown: None }
+        Mark {
+            shown: None,
+            told: Tracker::new(alloc),
+            slots: [Pile::Empty; PILES],
+        }
     }
 
     /// The view whose columns were shown, None before the first tick.
     pub fn view(&self) -> Option<&ViewSet>
-        ensures { option_copied result ≡ self.now }
+        ensures { option_copied result ≡ self.now.view }
     {
         self.shown.as_ref()
     }
@@ -48,10 +83,52 @@ impl Mark {
         }
     }
 
-    /// Keeps the view that was shown last.
-    pub(crate) fn keep(&mut self, view: ViewSet)
-        ensures { self.new ≡ Some view }
+    /// Whether a column was shown.
+    pub(crate) fn has(&self, place: &(i32, i32)) -> bool
+        ensures { result ≡ is_within self.now.view place.now }
+    {
+        match self.view() {
+            Some(view) => view.has(place.0, place.1),
+            None => false,
+        }
+    }
+
+    /// The piles of the pack that were shown.
+    pub(crate) fn slots(&self) -> &[Pile; PILES]
+        ensures { result.now ≡ self.now.slots }
+    {
+        &self.slots
+    }
+
+    /// The frame of the entities that are to be shown no more, and those of the others, which are
+    /// then what was told. Without memory nothing was.
+    pub(crate) fn tell(
+        &mut self,
+        alloc: Global,
+        folk: &Folk,
+        view: &ViewSet,
+    ) -> Result<(Bytes, Bytes), NoMemory>
+        ensures gone { IfOk result (λ pieces. pieces.0 ≡ play_bytes
+            (destroying (gone_from self.old.told folk.now.state.entities view.now))) }
+        ensures shown { IfOk result (λ pieces. pieces.1 ≡ play_bytes
+            (entity_frames self.old.told folk.now.state.entities view.now)) }
+        ensures mark { OnOk result (self.new ≡ record self.old {
+          told = told_now folk.now.state.entities view.now;
+        }) }
+        ensures rise { Rise eid_of (pos 0) folk.now.state.entities (pos folk.now.state.given) }
+    {
+        let pieces = tell(alloc, folk, view, &mut self.told);
+        if pieces.is_err() {
+            self.told = Tracker::new(alloc);
+        }
+        pieces
+    }
+
+    /// Keeps the view that was shown last, and the pack.
+    pub(crate) fn keep(&mut self, view: ViewSet, pack: &Pack)
+        ensures { self.new ≡ record self.old { view = Some view; slots = pack.now.slots } }
     {
         self.shown = Some(view);
+        self.slots = pack.slots;
     }
 }

@@ -1,12 +1,23 @@
-ghost use Rattle.std.specs.Prelude.{◌≡◌, ◌++◌, OnOk};
-ghost use Rattle.mc_model.specs.Step.{placing};
-ghost use Rattle.mc_flush.specs.Sending.{IsClear, notes_due_of, play_bytes};
+ghost use Rattle.std.specs.Prelude.{◌≡◌, ◌++◌, ◌∷◌, ℕ, [], IfOk, OnOk, map, replicate};
+ghost use lib.IntN.{negsuc};
+ghost use Rattle.mc_slots.specs.Pile.{IsPile, slot_of};
+ghost use Rattle.mc_slots.specs.Chest.{pile_at};
+ghost use Rattle.mc_down.specs.declared.down.Down.TheVariants as down;
+ghost use Rattle.mc_slots.specs.declared.slot.Slot.TheVariants as slots;
+ghost use Rattle.mc_model.specs.Step.{notes_of, placing};
+ghost use Rattle.mc_flush.specs.Sending.{IsClear, play_bytes};
 
 use crate::frames::put_packet;
-use mc_down::Down;
+use mc_down::{Down, Slots};
 use mc_fields::{Spot, degrees, pattern};
 use mc_model::Notes;
 use mc_nbt::NoMemory;
+use mc_slots::{Pile, Slot};
+use mc_windows::Pack;
+use std::alloc::Global;
+
+/// How many slots window 0 has before those of the pack.
+const SLOTS_BEFORE: usize = 9;
 
 /// A player's own place and look, none of them relative.
 pub fn placing_packet(place: &Spot) -> Down
@@ -23,13 +34,64 @@ pub fn placing_packet(place: &Spot) -> Down
     }
 }
 
-/// Appends what was noted for a client.
-pub fn put_notes(notes: &Notes, place: &Spot, out: &mut Vec<u8>) -> Result<(), NoMemory>
+/// The slots before those of the pack, which are empty.
+fn slots_before(alloc: Global) -> Result<Slots, NoMemory>
+    ensures { IfOk result (λ items. items ≡ replicate 9 slots.Empty) }
+{
+    let mut items = Slots::new(alloc);
+    for _ in 0..SLOTS_BEFORE {
+        items.push(Slot::Empty)?;
+    }
+    Ok(items)
+}
+
+/// Puts the slots of piles at the end.
+fn push_piles(piles: &[Pile], items: &mut Slots) -> Result<(), NoMemory>
+    requires { (i : ℕ) → IsPile (pile_at piles.now i) }
+    ensures { OnOk result (items.new ≡ items.old ++ map slot_of piles.now) }
+{
+    for pile in piles {
+        items.push(pile.slot())?;
+    }
+    Ok(())
+}
+
+/// Appends the frame of all slots of window 0.
+fn put_window(pack: &Pack, out: &mut Vec<u8>) -> Result<(), NoMemory>
+    ensures { OnOk result (out.new.items ≡ out.old.items ++ play_bytes
+        (down.WindowItems 0 (replicate 9 slots.Empty ++ map slot_of pack.now.slots) ∷ [])) }
+{
+    let mut items = slots_before(*out.allocator())?;
+    push_piles(&pack.slots, &mut items)?;
+    put_packet(&Down::WindowItems(0, items), out)?;
+    Ok(())
+}
+
+/// Appends the frame of what hangs on the cursor.
+fn put_cursor(pack: &Pack, out: &mut Vec<u8>) -> Result<(), NoMemory>
+    ensures { OnOk result (out.new.items ≡ out.old.items ++ play_bytes
+        (down.SetSlot (negsuc 0) (negsuc 0) (slot_of pack.now.cursor) ∷ [])) }
+{
+    put_packet(&Down::SetSlot(-1, -1, pack.cursor.slot()), out)?;
+    Ok(())
+}
+
+/// Appends what was noted for a client: its player's place, and the window that it is shown.
+pub fn put_notes(
+    notes: &Notes,
+    place: &Spot,
+    pack: &Pack,
+    out: &mut Vec<u8>,
+) -> Result<(), NoMemory>
     ensures { OnOk result (out.new.items
-        ≡ out.old.items ++ play_bytes (notes_due_of notes.now place.now)) }
+        ≡ out.old.items ++ play_bytes (notes_of notes.now place.now pack.now)) }
 {
     if notes.placing() {
         put_packet(&placing_packet(place), out)?;
+    }
+    if notes.resend() {
+        put_window(pack, out)?;
+        put_cursor(pack, out)?;
     }
     Ok(())
 }

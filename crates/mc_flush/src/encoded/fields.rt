@@ -11,9 +11,14 @@ fn pieces_by_place(_part: &BTreeMap<(i32, i32), Bytes>) {}
 
 /// Names every field of what was encoded.
 fn name_fields(encoded: &Encoded) {
-    let Encoded { players, loads } = encoded;
+    let Encoded {
+        players,
+        loads,
+        changes,
+    } = encoded;
     a_piece(players);
     pieces_by_place(loads);
+    pieces_by_place(changes);
 }
 
 const _: fn(&Encoded) = name_fields;

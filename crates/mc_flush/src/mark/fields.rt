@@ -1,14 +1,21 @@
 //! What a mark keeps, field by field: a new one is named here before the crate is built again.
 
 use super::Mark;
-use mc_view::ViewSet;
+use mc_slots::Pile;
+use mc_view::{Tracker, ViewSet};
 
 fn a_view(_part: &Option<ViewSet>) {}
 
+fn a_tracker(_part: &Tracker) {}
+
+fn piles(_part: &[Pile; 36]) {}
+
 /// Names every field of a mark.
 fn name_fields(mark: &Mark) {
-    let Mark { shown } = mark;
+    let Mark { shown, told, slots } = mark;
     a_view(shown);
+    a_tracker(told);
+    piles(slots);
 }
 
 const _: fn(&Mark) = name_fields;

@@ -1,21 +1,36 @@
-use Rattle.std.proofs.Common.{◌++◌, ℕ, List, ap, ◌∙◌}
+use Rattle.std.proofs.Common.{◌++◌, ℕ, List, ap, sym, subst, ◌∙◌}
+use Rattle.std.specs.List.{AllByRecursion}
 use Rattle.mc_frame.specs.Kept.{joined}
-use Rattle.mc_land.specs.Places.{Place}
 use Rattle.mc_flush.specs.Sending.{play_bytes}
-use Rattle.mc_flush.specs.Seeing.{load_packets}
-use Rattle.mc_flush.proofs.Changes.{three_put}
+use Rattle.mc_flush.specs.Seeing.{IsReady, MarkValue, column_packets, loaded, pack_packets}
+use Rattle.mc_flush.proofs.Sent.{changes_put_all}
 use Rattle.mc_flush.proofs.client_view.ClientView.push_changes.Goals as goal
+
+pub push_columns-requires : goal.push_columns-requires
+push_columns-requires g c =
+    let v = c.args.self.now in
+    record {
+      ready = subst (λ (m : MarkValue). AllByRecursion (IsReady v.land.now) (loaded m v.view))
+          (sym c.in_ok-gone.ensures.mark) c.requires.ready;
+      frames = c.requires.frames;
+    }
 
 pub returns-clause-sent : goal.returns-clause-sent
 returns-clause-sent g c =
     let v = c.args.self.now in
-    let old = joined c.args.out.now.items in
-    let two = joined c.push_left.new.out.items in
-    three_put v.land.now v.list.now c.args.mark.now v.view old (joined c.push_piece.new.out.items)
-    two
-    (joined c.push_loads.new.out.items)
-    (c.in_ok-push_piece.ensures ∙ ap (λ (t : List ℕ). old ++ t) c.in_ok-players.ensures)
-    c.in_ok-push_left.ensures
-    (c.in_ok-push_loads.ensures.sent
-    ∙ ap (λ (places : List Place). two ++ play_bytes (load_packets v.land.now places))
-    c.entered.ensures)
+    changes_put_all v.land.now v.list.now v.folk.now.state.entities v.pack.now c.args.mark.now v.view
+    (joined c.args.out.now.items) (joined c.push_piece.new.out.items)
+    (joined c.push_piece-2.new.out.items) (joined c.push_columns.new.out.items)
+    (joined c.push_piece-3.new.out.items) (joined c.push_slots.new.out.items)
+    (c.in_ok-push_piece.ensures ∙ ap (λ (t : List ℕ). joined c.args.out.now.items ++ t)
+    c.in_ok-players.ensures)
+    (c.in_ok-push_piece-2.ensures ∙ ap (λ (t : List ℕ). joined c.push_piece.new.out.items ++ t)
+    c.in_ok-gone.ensures.gone)
+    (c.in_ok-push_columns.ensures.sent ∙ ap (λ (m : MarkValue).
+    joined c.push_piece-2.new.out.items ++ play_bytes (column_packets v.land.now m v.view))
+    c.in_ok-gone.ensures.mark)
+    (c.in_ok-push_piece-3.ensures ∙ ap (λ (t : List ℕ). joined c.push_columns.new.out.items ++ t)
+    c.in_ok-gone.ensures.shown)
+    (c.in_ok-push_slots.ensures ∙ ap (λ (m : MarkValue).
+    joined c.push_piece-3.new.out.items ++ play_bytes (pack_packets m.slots v.pack.now.slots))
+    c.in_ok-gone.ensures.mark)

@@ -16,18 +16,22 @@ loop-place-preserved g c =
     let next = c.in-Some.ensures.steps in
     let land = c.args.self.now.land.now in
     let put : joined c.push.new.self.items ≡ joined c.loop-place.out.items ++ c.in_ok-piece.piece =
-    piece_pushed _ _ _ c.in_ok-push.ensures.items in
+    piece_pushed c.loop-place.out.items c.push.new.self.items c.in_ok-piece.piece
+    c.in_ok-push.ensures.items in
     record {
       ready = (next_holds (IsReady land) c.loop-place.place-iterator c.next.new.self c.in-Some.place
           next i.ready).1;
-      sent = next_piece (joined c.loop-place.out.items) (joined c.push.new.self.items) _
-          c.in_ok-piece.piece
+      sent = next_piece (joined c.loop-place.out.items) (joined c.push.new.self.items)
+          (joined c.args.out.now.items ++ play_bytes (load_packets land
+          c.into_iter-place-iterator.result)) c.in_ok-piece.piece
           (play_bytes (load_packets land c.next.new.self)) (play_bytes (load_packets land
           c.loop-place.place-iterator))
           (ap (λ (places : List Place). play_bytes (load_packets land places)) next
           ∙ ap (λ (t : List ℕ). t ++ play_bytes (load_packets land c.next.new.self)) (sym
           c.in_ok-piece.ensures.is)) i.sent put;
-      cost = next_load c.loop-place.steps c.load.new.steps _ c.args.self.now.encoded.now
+      cost = next_load c.loop-place.steps c.load.new.steps
+          (c.args.steps.now + cells * length (unencoded c.args.self.now.encoded.now
+          c.into_iter-place-iterator.result)) c.args.self.now.encoded.now
           c.loop-place.place-iterator
           c.next.new.self c.in-Some.place next i.cost c.in_ok-piece.ensures.cost;
     }

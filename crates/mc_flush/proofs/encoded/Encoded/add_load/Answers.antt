@@ -18,11 +18,16 @@ returns-clause-ok g c =
     place piece =
     entry_put es c.insert.new.self.entries place piece (λ q. c.in_ok-insert.ensures.updates.0 q) in
     load_new old _ land place none
-    (ap (λ (m : FinMap place_cmp (List ℕ)). record { players = inside.players; loads = m }) put
+    (ap (λ (m : FinMap place_cmp (List ℕ)). record {
+      players = inside.players;
+      loads = m;
+      changes = from_entries inside.changes.entries;
+    }) put
     ∙ ap (λ (v : List ℕ). record {
       players = inside.players;
       loads = insert (from_entries {R =
           place_cmp} es) place v;
+      changes = from_entries inside.changes.entries;
     }) c.in_ok-piece.ensures.is
     ∙ ap (λ (e : EncodedValue). record e { loads = insert e.loads place (load_bytes land place) })
     c.self.view_is)

@@ -7,14 +7,16 @@ use Rattle.mc_flush.proofs.encoded.Encoded.add_players.Goals as goal
 pub returns-clause-frames : goal.returns-clause-frames
 returns-clause-frames c = λ land frames.
     let list = c.args.list.now in
-    let loads = c.self.inside.loads.entries in
+    let inside = c.self.inside in
+    let loads = from_entries inside.loads.entries in
+    let changes = from_entries inside.changes.entries in
     let made : EncodedValue = record {
       players = Some c.in_ok-piece.piece;
-      loads = from_entries
-          loads;
+      loads = loads;
+      changes = changes;
     } in
     let is : made ≡ with_players c.args.self.now list =
-    ap (λ (bytes : List ℕ). record { players = Some bytes; loads = from_entries loads })
+    ap (λ (bytes : List ℕ). record { players = Some bytes; loads = loads; changes = changes })
     c.in_ok-piece.ensures
     ∙ ap (λ (e : EncodedValue). record e { players = Some (player_bytes list) }) c.self.view_is in
     subst (AreFrames land list) (sym is) (players_added land list c.args.self.now frames)

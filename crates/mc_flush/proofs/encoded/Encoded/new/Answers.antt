@@ -1,4 +1,4 @@
-use Rattle.std.proofs.Common.{List, ℕ, sym, subst}
+use Rattle.std.proofs.Common.{List, [], ℕ, sym, subst}
 use Rattle.std.specs.Prelude.{None}
 use Rattle.std.specs.FinMap.{from_entries}
 use Rattle.mc_land.specs.Places.{Place}
@@ -8,8 +8,11 @@ use Rattle.mc_flush.proofs.encoded.Encoded.new.Goals as goal
 
 pub returns-clause-frames : goal.returns-clause-frames
 returns-clause-frames c = λ land list.
-    let P : List (Place × List ℕ) → Type 0 = λ es. AreFrames land list (record {
+    let P : List (Place × List ℕ) → List (Place × List ℕ) → Type 0 = λ es fs.
+    AreFrames land list (record {
       players = None;
       loads = from_entries es;
+      changes = from_entries fs;
     }) in
-    subst P (sym c.new.ensures.empty) (none_encoded land list)
+    subst (λ es. P es c.new-2.result.entries) (sym c.new.ensures.empty)
+    (subst (λ fs. P [] fs) (sym c.new-2.ensures.empty) (none_encoded land list))

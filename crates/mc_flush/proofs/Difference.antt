@@ -1,0 +1,281 @@
+-- What is dirty, together with what enters, is exactly the difference of two sights: of what a mark
+-- stands for and of what is seen, also where the view moves in the tick in which blocks change.
+use Rattle.std.proofs.Common.{◌≡◌, ℕ, Bool, true, false, cond, not, List, [], ◌∷◌, ◌++◌, map, T}
+use Rattle.std.proofs.Common.{Option, Some, None, refl, sym, subst, ap, ◌∙◌}
+use Rattle.std.specs.Prelude.{is_some, option_map, if◌then◌else◌}
+use Rattle.std.specs.List.{filter, flat_map, range_with_len}
+use Rattle.std.specs.Ordering.{int_cmp}
+use Rattle.std.specs.FinMap.{FinMap, empty, entries, keys, len-entries, len-empty, contains_key}
+use Rattle.std.specs.FinMap.{contains_key-keys, entries_sorted, get, get-empty}
+use Rattle.std.specs.FinMap.{int_cmp-IsAntisymmetric}
+use Rattle.std.proofs.lemmas.Cmp.{int_cmp_total}
+use Rattle.std.proofs.lemmas.List.{append-nil, nil_from_length}
+use lib.IntN.{ℤ, pos}
+use Rattle.mc_column.specs.Cells.{ColumnValue}
+use Rattle.mc_column.specs.Sizes.{cells}
+use Rattle.mc_land.specs.declared.ready.Touched.{Touched}
+use Rattle.mc_land.specs.Places.{Place, place_cmp}
+use Rattle.mc_land.specs.Ready.{has_changed, touched_cell}
+use Rattle.mc_land.specs.Land.{LandValue, states_of}
+use Rattle.mc_slots.specs.Pile.{slot_of}
+use Rattle.mc_windows.specs.Pack.{PackValue}
+use Rattle.mc_entities.specs.declared.entity.Entity.{Entity}
+use Rattle.mc_entities.specs.Folk.{eid_of}
+use Rattle.mc_entities.specs.Numbers.{Rise}
+use Rattle.mc_down.specs.declared.down.Down.{Down}
+use Rattle.mc_view.specs.declared.view_set.ViewSet.{ViewSet}
+use Rattle.mc_view.specs.Sets.{all_of, has, is_within}
+use Rattle.mc_view.specs.Told.{Told}
+use Rattle.mc_model.specs.Sight.{Seen, Sight}
+use Rattle.mc_model.specs.Delta.{Pairs, delta, load, unload, cell_packets, column_changes}
+use Rattle.mc_model.specs.Delta.{destroying}
+use Rattle.mc_model.specs.Delta.{entity_packets, slot_packets}
+use Rattle.mc_flush.specs.Lists.{ListValue}
+use Rattle.mc_flush.specs.Seeing.{MarkValue, Parts, StandsFor, changes, changed_packets}
+use Rattle.mc_flush.specs.Seeing.{columns_in, entered_of, gone_from, left_of, listed}
+use Rattle.mc_flush.specs.Seeing.{leaver_packets, joiner_packets, load_packets, pairs_in}
+use Rattle.mc_flush.specs.Seeing.{packets_of}
+use Rattle.mc_flush.specs.Seeing.{place_packets, placed_column, placed_with, present_parts, seen}
+use Rattle.mc_flush.specs.Seeing.{settled_parts, shown_now, told_item, unload_packets}
+use Rattle.mc_flush.specs.Seeing.{entity_frames}
+use Rattle.mc_flush.specs.Telling.{told_now}
+use Rattle.mc_flush.proofs.Rising.{sorted_is}
+use Rattle.mc_flush.proofs.Rows.{is_mapped, seen_rows, shown_rows, shown_told}
+use Rattle.mc_flush.proofs.Shown.{keys_shown, same_keys, shown_entries, shown_get, shown_has}
+
+-- ---- lists
+
+-- tests that agree keep the same
+pub same_filter : {A : Type 0} (f g : A → Bool) → ((x : A) → f x ≡ g x) → (xs : List A) →
+    filter f xs ≡ filter g xs
+same_filter f g same [] = refl
+same_filter f g same (x ∷ xs) = λ i. cond (same x i) (x ∷ same_filter f g same xs i) (same_filter f
+    g same xs i)
+
+-- a test that all pass keeps all
+pub all_kept : {A : Type 0} (xs : List A) → filter (λ (x : A). true) xs ≡ xs
+all_kept [] = refl
+all_kept {A} (x ∷ xs) = ap (λ (ys : List A). x ∷ ys) (all_kept xs)
+
+-- functions that agree give the same pieces
+same_joined : {A B : Type 0} (f g : A → List B) → ((x : A) → f x ≡ g x) → (xs : List A) →
+    flat_map f xs ≡ flat_map g xs
+same_joined f g same [] = refl
+same_joined f g same (x ∷ xs) = λ i. same x i ++ same_joined f g same xs i
+
+-- a test of places may be made before their columns are looked up
+filter_placed : (land : LandValue) (test : Place → Bool) (places : List Place) →
+    filter (λ (e : Place × ColumnValue). test e.0) (map (placed_column land) places)
+    ≡ map (placed_column land) (filter test places)
+filter_placed land test [] = refl
+filter_placed land test (place ∷ places) =
+    elim (test place) as (λ b. cond b (placed_column land place ∷ filter (λ (e : Place ×
+    ColumnValue). test e.0) (map (placed_column land) places)) (filter (λ (e : Place ×
+    ColumnValue). test e.0) (map (placed_column land) places)) ≡ map (placed_column land) (cond
+    b (place ∷ filter test places) (filter test places))) [
+      | true ↦ ap (λ (es : List (Place × ColumnValue)). placed_column land place ∷ es)
+          (filter_placed land test places)
+      | false ↦ filter_placed land test places
+    ]
+
+-- ---- the columns that were shown
+
+-- the places of a view, none of none
+abbrev places_in : Option ViewSet → List Place
+places_in None = []
+places_in (Some view) = all_of view
+
+-- the column that was shown under a place
+in_get : (was : Option ViewSet) (parts : Parts) (place : Place) →
+    get (columns_in was parts) place
+    ≡ cond (is_within was place) (Some (placed_with parts.terrain parts.edits place).1) None
+in_get None parts place = get-empty place_cmp place
+in_get (Some view) parts place = shown_get parts.terrain parts.edits view place
+
+-- a column was shown under the places of the view
+in_has : (was : Option ViewSet) (parts : Parts) (place : Place) →
+    contains_key (columns_in was parts) place ≡ is_within was place
+in_has None parts place = ap is_some (get-empty place_cmp place)
+in_has (Some view) parts place = shown_has parts.terrain parts.edits view place
+
+-- the places of the columns that were shown
+in_keys : (was : Option ViewSet) (parts : Parts) → keys (columns_in was parts) ≡ places_in was
+in_keys None parts = ap (map (λ (e : Place × ColumnValue). e.0))
+    (nil_from_length _ (sym (len-entries empty) ∙ len-empty place_cmp ColumnValue))
+in_keys (Some view) parts = keys_shown (columns_in (Some view) parts) view
+    (shown_has parts.terrain parts.edits view)
+
+-- ---- columns that go and come
+
+-- the columns that the new view lacks
+left_is : (was : Option ViewSet) (view : ViewSet) →
+    filter (λ (place : Place). not (has view place)) (places_in was) ≡ left_of was view
+left_is None view = refl
+left_is (Some old) view = refl
+
+-- the columns that were not shown before
+entered_is : (was : Option ViewSet) (view : ViewSet) →
+    filter (λ (place : Place). not (is_within was place)) (all_of view) ≡ entered_of was view
+entered_is None view = all_kept (all_of view)
+entered_is (Some old) view = refl
+
+-- the packets that take columns away
+unloads_are : (land : LandValue) (was : Option ViewSet) (parts : Parts) (view : ViewSet)
+    (m : FinMap place_cmp ColumnValue) → m ≡ columns_in was parts →
+    map unload (filter (λ (place : Place). not (contains_key (columns_in (Some view)
+    (record parts { terrain = land.terrain; edits = land.edits })) place)) (keys m))
+    ≡ unload_packets (left_of was view)
+unloads_are land was parts view m is =
+    ap (map unload)
+    (ap (filter (λ (place : Place). not (contains_key (columns_in (Some view)
+    (record parts { terrain = land.terrain; edits = land.edits })) place))) (ap keys is
+    ∙ in_keys was parts)
+    ∙ same_filter (λ (place : Place). not (contains_key (columns_in (Some view)
+    (record parts { terrain = land.terrain; edits = land.edits })) place))
+    (λ (place : Place). not (has view place))
+    (λ place. ap not (shown_has land.terrain land.edits view place)) (places_in was)
+    ∙ left_is was view)
+
+-- the packets that load columns
+loads_are : (land : LandValue) (was : Option ViewSet) (parts : Parts) (view : ViewSet)
+    (m : FinMap place_cmp ColumnValue) → m ≡ columns_in was parts →
+    map load (filter (λ (e : Place × ColumnValue). not (contains_key m e.0))
+    (map (placed_column land) (all_of view))) ≡ load_packets land (entered_of was view)
+loads_are land was parts view m is =
+    ap (map load)
+    (filter_placed land (λ (place : Place). not (contains_key m place)) (all_of view)
+    ∙ ap (map (placed_column land)) (same_filter
+    (λ (place : Place). not (contains_key m place)) (λ (place : Place). not (is_within was place))
+    (λ place. ap (λ (n : FinMap place_cmp ColumnValue). not (contains_key n place)) is
+    ∙ ap not (in_has was parts place)) (all_of view) ∙ entered_is was view))
+
+-- ---- cells that changed
+
+-- cells that were touched are told by their indices
+touched_indices : (was : List ℕ) (is : List ℕ) →
+    map (λ (t : Touched). t.index) (map (touched_cell was) is) ≡ is
+touched_indices was [] = refl
+touched_indices was (i ∷ is) = ap (λ (js : List ℕ). i ∷ js) (touched_indices was is)
+
+-- what is dirty is what differs from the last settling
+dirty_differs : (land : LandValue) (list : ListValue) (place : Place) →
+    column_changes place
+    (Some (placed_with land.terrain land.settled place).1) (placed_column land place).1
+    ≡ place_packets land place
+dirty_differs land list place =
+    let was = states_of land.terrain land.settled place in
+    let now = states_of land.terrain land.edits place in
+    ap (cell_packets place now)
+    (sym (touched_indices was (filter (has_changed was now) (range_with_len 0 cells))))
+
+-- the packets of the cells that changed, of the columns that stay
+cells_are : (land : LandValue) (list : ListValue) (was : Option ViewSet)
+    (m : FinMap place_cmp ColumnValue) → m ≡ columns_in was (settled_parts land list) →
+    (places : List Place) →
+    flat_map (λ (e : Place × ColumnValue). column_changes e.0 (get m e.0) e.1)
+    (map (placed_column land) places)
+    ≡ changed_packets land (filter (is_within was) places)
+cells_are land list was m is [] = refl
+cells_are land list was m is (place ∷ places) =
+    let f : Place × ColumnValue → List Down = λ e. column_changes e.0 (get m e.0) e.1 in
+    let there : get m place ≡ cond (is_within was place)
+    (Some (placed_with land.terrain land.settled place).1) None =
+    ap (λ (n : FinMap place_cmp ColumnValue). get n place) is
+    ∙ in_get was (settled_parts land list) place in
+    ap (λ (o : Option ColumnValue). column_changes place o (placed_column land place).1
+    ++ flat_map f (map (placed_column land) places)) there
+    ∙ elim (is_within was place) as (λ b. column_changes place
+    (cond b (Some (placed_with land.terrain land.settled place).1) None)
+    (placed_column land place).1
+    ++ flat_map f (map (placed_column land) places)
+    ≡ flat_map (place_packets land) (cond b (place ∷ filter (is_within was) places)
+    (filter (is_within was) places))) [
+      | true ↦ λ i. dirty_differs land list place i ++ cells_are land list was m is places i
+      | false ↦ cells_are land list was m is places
+    ]
+
+-- ---- entities
+
+-- the numbers of a sight are those that were told
+keys_told : (m : FinMap int_cmp Seen) (told : Told) →
+    ((eid : ℤ) → get m eid ≡ option_map told_item (get told eid)) → keys m ≡ keys told
+keys_told m told same =
+    same_keys int_cmp int_cmp_total int_cmp-IsAntisymmetric (keys m) (keys told)
+    (subst T (sorted_is int_cmp (entries m)) (entries_sorted m))
+    (subst T (sorted_is int_cmp (entries told)) (entries_sorted told))
+    (λ q. sym (contains_key-keys m q) ∙ ap is_some (same q) ∙ is_mapped told_item (get told q)
+    ∙ contains_key-keys told q)
+
+-- the packet that takes entities away
+destroys_are : (m : FinMap int_cmp Seen) (told : Told) (es : List Entity) (view : ViewSet) →
+    ((eid : ℤ) → get m eid ≡ option_map told_item (get told eid)) →
+    destroying (filter (λ (eid : ℤ). not (contains_key (shown_now es view) eid)) (keys m))
+    ≡ destroying (gone_from told es view)
+destroys_are m told es view same =
+    ap (λ (ks : List ℤ). destroying (filter
+    (λ (eid : ℤ). not (contains_key (shown_now es view) eid)) ks)) (keys_told m told same)
+
+-- the packets of the entities that are shown
+entities_are : (m : FinMap int_cmp Seen) (told : Told) (es : List Entity) (view : ViewSet)
+    (high : ℤ) → Rise eid_of (pos 0) es high →
+    ((eid : ℤ) → get m eid ≡ option_map told_item (get told eid)) →
+    flat_map (λ (e : ℤ × Seen). entity_packets e.0 (get m e.0) e.1) (entries (shown_now es view))
+    ≡ entity_frames told es view
+entities_are m told es view high r same =
+    ap (flat_map (λ (e : ℤ × Seen). entity_packets e.0 (get m e.0) e.1))
+    (shown_rows view es high r ∙ sym (seen_rows view es))
+    ∙ same_joined (λ (e : ℤ × Seen). entity_packets e.0 (get m e.0) e.1) (packets_of told)
+    (λ e. ap (λ (o : Option Seen). entity_packets e.0 o e.1) (same e.0)) _
+
+-- ---- all of it
+
+-- the players that were shown are those that were listed
+listed_is : (mark : MarkValue) (land : LandValue) (list : ListValue) →
+    pairs_in mark.view (settled_parts land list) ≡ listed mark list
+listed_is mark land list = elim mark.view as (λ was. pairs_in was (settled_parts land list)
+    ≡ (if is_some was then list.last else empty)) [ None ↦ refl | Some view ↦ refl ]
+
+-- lists of eight equal pieces are equal
+eight_points : (a b c d e f g h a' b' c' d' e' f' g' h' : List Down) → a ≡ a' → b ≡ b' → c ≡ c' →
+    d ≡ d' → e ≡ e' → f ≡ f' → g ≡ g' → h ≡ h' →
+    a ++ (b ++ (c ++ (d ++ (e ++ (f ++ (g ++ (h ++ [])))))))
+    ≡ a' ++ (b' ++ (c' ++ (d' ++ (e' ++ (f' ++ (g' ++ h'))))))
+eight_points a b c d e f g h a' b' c' d' e' f' g' h' pa pb pc pd pe pf pg ph =
+    λ i. pa i ++ (pb i ++ (pc i ++ (pd i ++ (pe i ++ (pf i ++ (pg i
+    ++ (append-nil h ∙ ph) i))))))
+
+-- the difference from what a mark stands for is the changes
+pub delta_is : (land : LandValue) (list : ListValue) (es : List Entity) (pack : PackValue)
+    (mark : MarkValue) (view : ViewSet) (p : Sight) (high : ℤ) → Rise eid_of (pos 0) es high →
+    StandsFor mark (settled_parts land list) p →
+    delta p (seen land list es pack view) ≡ changes land list es pack mark view
+unfolding delta changes StandsFor
+delta_is land list es pack mark view p high r stands =
+    let parts = settled_parts land list in
+    let pairs : p.pairs ≡ listed mark list = stands.pairs ∙ listed_is mark land list in
+    let all = shown_entries land.terrain land.edits view in
+    eight_points _ _ _ _ _ _ _ _ _ _ _ _ _ _ _ _
+    (ap (λ (m : Pairs). leaver_packets m list.present) pairs)
+    (ap (λ (m : Pairs). joiner_packets m list.present) pairs)
+    (destroys_are p.entities mark.told es view stands.entities)
+    (unloads_are land mark.view parts view p.columns stands.columns)
+    (ap (λ (rows : List (Place × ColumnValue)). map load (filter
+    (λ (e : Place × ColumnValue). not (contains_key p.columns e.0)) rows)) all
+    ∙ loads_are land mark.view parts view p.columns stands.columns)
+    (ap (flat_map (λ (e : Place × ColumnValue). column_changes e.0 (get p.columns e.0) e.1)) all
+    ∙ cells_are land list mark.view p.columns stands.columns (all_of view))
+    (entities_are p.entities mark.told es view high r stands.entities)
+    (ap (λ (slots : List _). slot_packets 9 slots (map slot_of pack.slots)) stands.pack)
+
+-- what a mark keeps of a tick stands for what is seen
+pub stands_seen : (land : LandValue) (list : ListValue) (es : List Entity) (pack : PackValue)
+    (view : ViewSet) →
+    StandsFor (record { view = Some view; told = told_now es view; slots = pack.slots })
+    (present_parts land list) (seen land list es pack view)
+unfolding StandsFor
+stands_seen land list es pack view = record {
+  pairs = refl;
+  columns = refl;
+  entities = shown_told view es;
+  pack = refl;
+}

@@ -1,0 +1,42 @@
+//! The slots of a pack that differ from those that were shown.
+
+ghost use Rattle.std.specs.Prelude.{◌≡◌, ◌<◌, ◌++◌, ◌∷◌, ℕ, [], OnOk};
+ghost use Rattle.mc_slots.specs.Pile.{IsPile, slot_of};
+ghost use Rattle.mc_slots.specs.Chest.{pile_at};
+ghost use Rattle.mc_model.specs.Delta.{slot_packets};
+ghost use Rattle.mc_flush.specs.Sending.{play_bytes};
+ghost use Rattle.mc_flush.specs.Seeing.{pack_packets};
+
+use crate::frames::put_packet;
+use mc_down::Down;
+use mc_nbt::NoMemory;
+use mc_slots::Pile;
+
+/// The slot of window 0 that a pack begins at.
+const FIRST: usize = 9;
+
+/// Appends the frame of a place of a pack, if its pile differs from the one that was shown.
+fn put_slot(at: usize, old: &Pile, new: &Pile, out: &mut Vec<u8>) -> Result<(), NoMemory>
+    requires place { at < 100 }
+    requires range { IsPile new.now }
+    ensures { OnOk result (out.new.items ≡ out.old.items ++ play_bytes
+        (slot_packets at (slot_of old.now ∷ []) (slot_of new.now ∷ []))) }
+{
+    if *old == *new {
+        return Ok(());
+    }
+    put_packet(&Down::SetSlot(0, at as i16, new.slot()), out)?;
+    Ok(())
+}
+
+/// Appends the frames of the places of a pack whose piles differ from those that were shown.
+pub fn put_slots(old: &[Pile; 36], new: &[Pile; 36], out: &mut Vec<u8>) -> Result<(), NoMemory>
+    requires { (i : ℕ) → IsPile (pile_at new.now i) }
+    ensures { OnOk result (out.new.items
+        ≡ out.old.items ++ play_bytes (pack_packets old.now new.now)) }
+{
+    for i in 0..36 {
+        put_slot(FIRST + i, &old[i], &new[i], out)?;
+    }
+    Ok(())
+}
