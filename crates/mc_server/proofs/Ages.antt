@@ -40,7 +40,7 @@ fault_age w k None = refl
 fault_age w k (Some fault) = elim (found k w.sessions)
     as (λ o. found k w.sessions ≡ o → (on_fault w k (Some fault)).world.age ≡ w.age) [
       | None ↦ λ e. ap (λ (o : Option Session).
-          (when_open o w (λ s. turn w (disconnect s (causes.Frame fault)
+          (when_open o w (λ s. turn w s (disconnect s (causes.Frame fault)
           (farewell s.stage (causes.Frame fault))))).world.age) e
       | Some s ↦ λ e. (fault_goes k w s (Some fault) e).beside.age
     ] refl

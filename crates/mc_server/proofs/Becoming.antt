@@ -1,5 +1,5 @@
 -- What one connection comes to at its place is what the definitions make of the world.
-use Rattle.std.proofs.Common.{◌≡◌, ◌≢◌, ℕ, zero, suc, ◌+◌, ◌<◌, List, [], ◌∷◌, length, get_or, set}
+use Rattle.std.proofs.Common.{◌≡◌, ℕ, zero, suc, ◌+◌, ◌<◌, List, [], ◌∷◌, length, get_or, set}
 use Rattle.std.proofs.Common.{refl, sym, subst, ap, ◌∙◌, arith}
 use Rattle.std.specs.Prelude.{true, false, Bool, Option, Some, None, Result, Ok, Err, is_err}
 use Rattle.std.specs.Prelude.{is_some, OnOk, if◌then◌else◌}
@@ -16,13 +16,16 @@ use Rattle.mc_model.specs.World.{World, Session, Player, found, put, is_play, is
 use Rattle.mc_model.specs.Packets.{Sent}
 use Rattle.mc_model.specs.Talk.{refused, accepted}
 use Rattle.mc_model.specs.Step.{hand, disconnect, mark_closed, refusal, answer_login, entered}
-use Rattle.mc_model.specs.Step.{new_session}
+use Rattle.mc_model.specs.Step.{after_leaving, new_player, new_session, with_new_player}
+use Rattle.mc_model.specs.Things.{Things}
 use Rattle.mc_model.specs.Orderly.{Rise, IsPlaced}
 use Rattle.mc_model.proofs.Handing.{hand_cases, closed_is, not_both}
 use Rattle.mc_model.proofs.RiseFacts.{placed_rise}
 use Rattle.mc_model.proofs.HandledFacts.{put_placed}
 use Rattle.mc_flush.specs.Seeing.{nothing_shown}
-use Rattle.mc_server.specs.Frames.{Becomes, Retains, Splits, with_splitter}
+use Rattle.mc_server.specs.Leaving.{left_with, put_after}
+use Rattle.mc_server.proofs.Leavings.{eid_in, left_is}
+use Rattle.mc_server.specs.Frames.{Becomes, Retains, Splits}
 use Rattle.mc_server.specs.Served.{ConnectionValue, ServerValue, kept_world, nth_session}
 use Rattle.mc_server.specs.Served.{playing_of, sessions_of, with_session}
 use Rattle.mc_server.proofs.Places.{placed_by, placed_of, session_at, sessions_set, sessions_length}
@@ -115,13 +118,17 @@ pub answer_waiting : (w : World) (k i high : ℕ) (old : Session) (name : List �
     (answer_login (record w { sessions = set w.sessions i (record old { stage = stages.Asked }) })
     (record old { stage = stages.Asked }) name o).world ≡ (answer_login w old name o).world
 answer_waiting w k i high old name (Some why) placed rise is =
-    put_twice w k i high old (record old { stage = stages.Asked })
-    (disconnect old (causes.Refused why) (refused why)).session placed rise is refl
-    (hand_id (mark_closed old (causes.Refused why)) (refused why))
+    let s : Session = (disconnect old (causes.Refused why) (refused why)).session in
+    ap (λ (u : World). record u { things = after_leaving old.player s.player w.things })
+    (put_twice w k i high old (record old { stage = stages.Asked }) s placed rise is refl
+    (hand_id (mark_closed old (causes.Refused why)) (refused why)))
 answer_waiting w k i high old name None placed rise is =
-    put_twice (record w { eids = w.eids + 1 }) k i high old (record old { stage = stages.Asked })
-    (hand (entered w old name) (accepted (offline_uuid name) name)).session placed rise is refl
-    (hand_id (entered w old name) (accepted (offline_uuid name) name))
+    let things = with_new_player w.terrain name w.things in
+    let enters : Session = entered w old name in
+    let s : Session = (hand enters (accepted (offline_uuid name) name)).session in
+    ap (λ (u : World). record u { things = after_leaving enters.player s.player things })
+    (put_twice (record w { things = things }) k i high old (record old { stage = stages.Asked }) s
+    placed rise is refl (hand_id enters (accepted (offline_uuid name) name)))
 
 pub refusal_waiting : (w : World) (i : ℕ) (old new : Session) (protocol : ℤ) (name : List ℕ) → old ≡
     get_or w.sessions i old → new.player ≡ old.player
@@ -269,23 +276,67 @@ module _ (v : ServerValue) (i high : ℕ) (c t : ConnectionValue)
     works = refl;
   }
 
-  -- a player that enters takes an entity number
-  pub enter_becomes : (name : List ℕ)
+  -- and the player leaves that it has no more
+  module _ (eid : Option ℕ) (player : Option Player) (eid_is : eid ≡ eid_in c.session.player)
+      (player_is : player ≡ t.session.player) where
+    pub after_becomes : (f : Session → Session) → t.session ≡ f c.session → Retains c t
+        → Becomes v (record v {
+          things = left_with eid player v.things;
+          connections = set v.connections i t;
+        }) (put_after (kept_world v) (nth_session i v.connections)
+        (f (nth_session i v.connections)))
+    after_becomes f made kept =
+        let w = kept_world v in
+        let leaves : left_with eid player v.things
+        ≡ after_leaving (nth_session i v.connections).player (f (nth_session i v.connections)).player
+        v.things =
+        (λ j. left_with (eid_is j) (player_is j) v.things)
+        ∙ left_is c.session.player t.session.player v.things
+        ∙ ap (λ (s : Session). after_leaving c.session.player s.player v.things) made
+        ∙ ap (λ (s : Session). after_leaving s.player (f s).player v.things) (sym nth_is) in
+        let b = put_becomes f made kept in
+        record {
+          connections = b.connections;
+          kept =
+              ap (λ (u : World). record u { things = left_with eid player v.things }) b.kept
+              ∙ ap (λ (things : Things). record (put w (f (nth_session i v.connections)))
+              { things = things }) leaves;
+          list = refl;
+          shown = refl;
+          works = refl;
+        }
+
+  -- a player that enters has the next entity
+  pub enter_becomes : (name : List ℕ) (eid : ℕ) (player : Option Player)
+      → eid ≡ v.things.eids + 1 → player ≡ t.session.player
       → t.session ≡ (hand (entered (kept_world v) c.session name)
       (accepted (offline_uuid name) name)).session → Retains c t
-      → Becomes v (record v { eids = v.eids + 1; connections = set v.connections i t })
-      (answer_login (kept_world v) (nth_session i v.connections) name None).world
-  enter_becomes name made kept =
-      let w : World = record (kept_world v) { eids = v.eids + 1 } in
+      → Becomes v (record v {
+        things = left_with (Some eid) player (with_new_player v.terrain name v.things);
+        connections = set v.connections i t;
+      }) (answer_login (kept_world v) (nth_session i v.connections) name None).world
+  enter_becomes name eid player eid_is player_is made kept =
+      let things = with_new_player v.terrain name v.things in
+      let w : World = record (kept_world v) { things = things } in
       let f : Session → Session = λ s. (hand (entered (kept_world v) s name)
       (accepted (offline_uuid name) name)).session in
+      let nth : Session = nth_session i v.connections in
+      let enters : Option Player = Some (new_player (v.things.eids + 1) name) in
+      let leaves : left_with (Some eid) player things
+      ≡ after_leaving enters (f nth).player things =
+      (λ j. left_with (Some (eid_is j)) (player_is j) things)
+      ∙ ap (λ (s : Session). left_with (eid_in enters) s.player things) made
+      ∙ ap (λ (s : Session). left_with (eid_in enters) (f s).player things) (sym nth_is)
+      ∙ left_is enters (f nth).player things in
       record {
         connections = side_change Retains retains_same v.connections i c t is kept;
         kept =
-            world_set (record v { eids = v.eids + 1 }) i t
+            ap (λ (u : World). record u { things = left_with (Some eid) player things })
+            (world_set (record v { things = things }) i t
             ∙ sym (put_placed w c.session.id i high c.session t.session placed rise at_session same)
             ∙ ap (put w) made
-            ∙ ap (λ (s : Session). put w (f s)) (sym nth_is);
+            ∙ ap (λ (s : Session). put w (f s)) (sym nth_is))
+            ∙ ap (λ (left_ : Things). record (put w (f nth)) { things = left_ }) leaves;
         list = refl;
         shown = refl;
         works = refl;
@@ -335,7 +386,7 @@ one_at cs i a b lt p q = p ∙ get_or_default cs i a b lt ∙ sym q
 pub refused_becomes : (v n : ServerValue) (i : ℕ) (protocol : ℤ) (name : List ℕ) (why : Refusal)
     → protocol ≡ (nth_session i v.connections).protocol
     → refusal (kept_world v) protocol name ≡ Some why
-    → Becomes v n (put (kept_world v)
+    → Becomes v n (put_after (kept_world v) (nth_session i v.connections)
     (disconnect (nth_session i v.connections) (causes.Refused why) (refused why)).session)
     → Becomes v n (answer_login (kept_world v) (nth_session i v.connections) name
     (refusal (kept_world v) (nth_session i v.connections).protocol name)).world
@@ -360,6 +411,28 @@ entered_becomes v n i protocol name given asked verdict same b =
     becomes_along v n _ _
     (ap (λ (t : List ℕ). (answer_login w s t None).world) same
     ∙ ap (λ (o : Option Refusal). (answer_login w s name o).world) is) b
+
+-- likewise from the server in which its entity stands already
+pub enters_from : (v mid : ServerValue) (i high : ℕ) (c t : ConnectionValue) (name : List ℕ)
+    (eid : ℕ) → mid ≡ record v { things = with_new_player v.terrain name v.things }
+    → Rise 0 (sessions_of mid.connections) high → i < length v.connections
+    → c ≡ get_or mid.connections i c → t.session.id ≡ c.session.id → eid ≡ v.things.eids + 1
+    → t.session ≡ (hand (entered (kept_world v) c.session name)
+    (accepted (offline_uuid name) name)).session → Retains c t
+    → Becomes v (record mid {
+      things = left_with (Some eid) (nth_session i (set mid.connections i t)).player mid.things;
+      connections = set mid.connections i t;
+    }) (answer_login (kept_world v) (nth_session i v.connections) name None).world
+enters_from v mid i high c t name eid is rise lt at same eid_is made kept =
+    let P : ServerValue → Type 0 = λ u. Becomes v (record u {
+      things = left_with (Some eid) (nth_session i (set u.connections i t)).player u.things;
+      connections = set u.connections i t;
+    }) (answer_login (kept_world v) (nth_session i v.connections) name None).world in
+    let R : ServerValue → Type 0 = λ u. Rise 0 (sessions_of u.connections) high in
+    let A : ServerValue → Type 0 = λ u. c ≡ get_or u.connections i c in
+    subst P (sym is) (enter_becomes v i high c t (subst R is rise) lt (subst A is at) same name eid
+    (nth_session i (set v.connections i t)).player eid_is
+    (ap (λ (s : Session). s.player) (nth_set v i t lt)) made kept)
 
 -- what stands at a place
 pub there_at : (cs : List ConnectionValue) (i : ℕ) (d : ConnectionValue) → i < length cs

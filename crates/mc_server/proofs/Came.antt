@@ -20,6 +20,7 @@ use Rattle.mc_model.proofs.Beside.{found_put}
 use Rattle.mc_model.proofs.Frames.{bytes_beside}
 use Rattle.mc_model.proofs.Handing.{HasPlayer}
 use Rattle.mc_model.proofs.RiseFacts.{at_none, rise_at}
+use Rattle.mc_model.proofs.BalanceRun.{balanced_step}
 use Rattle.mc_model.proofs.RunEvents.{orderly_step}
 use Rattle.mc_flush.specs.Seeing.{Parts, StandsFor, is_shown}
 use Rattle.mc_server.specs.Bare.{bare, bare_world, after_frames}
@@ -337,7 +338,7 @@ module _ (v n : ServerValue) (w : World) (high k i : ℕ) (c : ConnectionValue) 
       world_stands n after (d.becomes.works ∙ st.works) kept
       (subst (λ parts. SideBySide (IsConnection parts) n.connections after.sessions)
       (sym d.becomes.shown) side)
-      (orderly_step w (came k bytes) st.orderly)
+      (orderly_step w (came k bytes) st.orderly) (balanced_step w (came k bytes) st.balanced)
 
 -- ---- bytes of a connection that is not open do nothing
 

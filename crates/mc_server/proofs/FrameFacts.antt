@@ -1,41 +1,48 @@
 -- What a frame makes of a server: its connection does its part, and the server what is left.
-use Rattle.std.proofs.Common.{◌≡◌, ◌≢◌, ℕ, ◌<◌, List, length, get_or, set, refl, sym, subst, ap}
-use Rattle.std.proofs.Common.{◌∙◌, arith}
-use Rattle.std.specs.Prelude.{true, false, Option, Some, None, Result, Ok, Err, is_err, is_some}
+use Rattle.std.proofs.Common.{◌≡◌, ◌≢◌, ℕ, List, length, get_or, set, refl, sym, ap}
+use Rattle.std.proofs.Common.{◌∙◌}
+use Rattle.std.specs.Prelude.{true, false, Option, Some, None, Result, is_err, is_some}
 use Rattle.std.specs.Prelude.{OnOk}
 use Rattle.std.proofs.lemmas.List.{get_or-set_same}
-use lib.IntN.{ℤ}
 use Rattle.mc_model.specs.declared.cause.Cause.TheVariants as causes
 use Rattle.mc_model.specs.declared.cause.Refusal.{Refusal}
-use Rattle.mc_model.specs.declared.stage.Stage.{Stage}
 use Rattle.mc_model.specs.declared.stage.Stage.TheVariants as stages
-use Rattle.mc_model.specs.World.{World, Session, found, put, players, is_play, is_closed}
+use Rattle.mc_model.specs.World.{World, Session, put, players, is_closed}
 use Rattle.mc_model.specs.Talk.{ClientRequest, nothing, greets, replies, ends, enters, acts, wrong}
 use Rattle.mc_model.specs.Talk.{request_of}
 use Rattle.mc_model.specs.Step.{Turn, mark_closed, perform, on_frame, refusal, answer_login}
-use Rattle.mc_model.specs.Step.{new_session}
+use Rattle.mc_model.specs.Step.{after_leaving, new_session}
+use Rattle.mc_model.specs.Things.{Things}
 use Rattle.mc_model.specs.Orderly.{Rise, IsPlaced}
 use Rattle.mc_model.proofs.Handing.{not_both}
-use Rattle.mc_model.proofs.HandledFacts.{open_at, put_placed, put_same}
+use Rattle.mc_model.proofs.HandledFacts.{open_at, put_placed, put_same, stays_on}
 use Rattle.mc_up.specs.declared.play_up.PlayUp.{PlayUp}
-use Rattle.mc_server.specs.declared.connection.pending.Pending.{Pending}
 use Rattle.mc_server.specs.declared.connection.pending.Pending.TheVariants.{Login, Act}
 use Rattle.mc_server.specs.Frames.{Becomes}
 use Rattle.mc_server.specs.Handling.{after_request, pending_of, request_in}
+use Rattle.mc_server.specs.Leaving.{put_after}
 use Rattle.mc_server.specs.LoggingIn.{IsAskedAt}
 use Rattle.mc_server.specs.Served.{ServerValue, IsOpenAt, kept_world, nth_session, sessions_of}
-use Rattle.mc_server.proofs.Becoming.{answer_waiting, becomes_along, becomes_nth, becomes_onward}
+use Rattle.mc_server.proofs.Becoming.{answer_waiting, becomes_along, becomes_onward}
 use Rattle.mc_server.proofs.Becoming.{becomes_within, close_waits, hand_calm, hand_id, nth, nth_at}
 use Rattle.mc_server.proofs.Becoming.{nth_placed}
 use Rattle.mc_server.proofs.Becoming.{refusal_waiting, sure}
 
 -- ---- what is left to be done
 
+-- a player that stays does not leave
+put_still : (w : World) (s t : Session) → record (put w t) {
+  things = after_leaving s.player s.player w.things;
+} ≡ put w t
+put_still w s t = ap (λ (things : Things). record (put w t) { things = things })
+    (stays_on s.player w.things)
+
 -- where nothing is, what its connection does is all that a frame comes to
 perform_alone : (w : World) (s : Session) (x : ClientRequest) → None ≡ pending_of x → put w s ≡ w
-    → put w (after_request s x) ≡ (perform w s x).world
-perform_alone w s nothing none stays = stays
-perform_alone w s (greets protocol stage) none stays = refl
+    → put_after w s (after_request s x) ≡ (perform w s x).world
+perform_alone w s nothing none stays = put_still w s s ∙ stays
+perform_alone w s (greets protocol stage) none stays =
+    put_still w s (record s { stage = stage; protocol = protocol })
 perform_alone w s (replies packet) none stays = refl
 perform_alone w s (ends packet) none stays = refl
 perform_alone w s (enters name) none stays = absurd cc
@@ -53,7 +60,7 @@ pending_login (enters given) name e = (let same : given ≡ name = cc in ap ente
 pending_login (acts packet) name e = absurd cc
 pending_login (wrong fault) name e = absurd cc
 
-pending_act : (x : ClientRequest) (packet : PlayUp) → Some (Act packet) ≡ pending_of x → x ≡
+pub pending_act : (x : ClientRequest) (packet : PlayUp) → Some (Act packet) ≡ pending_of x → x ≡
     acts packet
 pending_act nothing packet e = absurd cc
 pending_act (greets protocol stage) packet e = absurd cc
@@ -95,24 +102,25 @@ module _ (old : ServerValue) (i high : ℕ) (frame : List ℕ)
       ap (λ (t : Turn). t.world) (sym frame_is)
 
   pub frame_alone : (mid : ServerValue) → None ≡ pending_of x →
-      Becomes old mid (put w (after_request s x))
+      Becomes old mid (put_after w s (after_request s x))
       → Becomes old mid (on_frame w s.id frame).world
   frame_alone mid none b = becomes_along old mid _ _
       (perform_alone w s x none stays ∙ frame_to x refl) b
 
   -- its client waits for an answer
   asked_world : (mid : ServerValue) (name : List ℕ) → x ≡ enters name →
-      Becomes old mid (put w (after_request s x))
+      Becomes old mid (put_after w s (after_request s x))
       → kept_world mid ≡ record w {
         sessions = set w.sessions i (record s { stage = stages.Asked });
       }
   asked_world mid name e b =
       b.kept
-      ∙ ap (λ (y : ClientRequest). put w (after_request s y)) e
+      ∙ ap (λ (y : ClientRequest). put_after w s (after_request s y)) e
+      ∙ put_still w s (record s { stage = stages.Asked })
       ∙ put_placed w s.id i high s (record s { stage = stages.Asked }) placed rise here refl
 
   asked_session : (mid : ServerValue) (name : List ℕ) → x ≡ enters name →
-      Becomes old mid (put w (after_request s x))
+      Becomes old mid (put_after w s (after_request s x))
       → nth_session i mid.connections ≡ record s { stage = stages.Asked }
   asked_session mid name e b =
       ap (nth i) (asked_world mid name e b)
@@ -120,14 +128,14 @@ module _ (old : ServerValue) (i high : ℕ) (frame : List ℕ)
       placed.within
 
   pub frame_asks : (mid : ServerValue) (name : List ℕ) → Some (Login name) ≡ pending_of x
-      → Becomes old mid (put w (after_request s x)) → IsAskedAt i mid.connections
+      → Becomes old mid (put_after w s (after_request s x)) → IsAskedAt i mid.connections
   frame_asks mid name pending b = record {
     within = becomes_within i old mid _ b open_.within;
     asked = ap (λ (t : Session). t.stage) (asked_session mid name (pending_login x name pending) b);
   }
 
   pub frame_login : (mid new : ServerValue) (name : List ℕ) → Some (Login name) ≡ pending_of x
-      → Becomes old mid (put w (after_request s x))
+      → Becomes old mid (put_after w s (after_request s x))
       → Becomes mid new (answer_login (kept_world mid) (nth_session i mid.connections) name
       (refusal (kept_world mid) (nth_session i mid.connections).protocol name)).world
       → Becomes old new (on_frame w s.id frame).world
@@ -145,14 +153,15 @@ module _ (old : ServerValue) (i high : ℕ) (frame : List ℕ)
       ∙ frame_to (enters name) e) c)
 
   pub frame_acts : (mid new : ServerValue) (packet : PlayUp) → Some (Act packet) ≡ pending_of x
-      → Becomes old mid (put w (after_request s x))
+      → Becomes old mid (put_after w s (after_request s x))
       → Becomes mid new (perform (kept_world mid) (nth_session i mid.connections)
       (acts packet)).world
       → Becomes old new (on_frame w s.id frame).world
   frame_acts mid new packet pending b c =
       let e = pending_act x packet pending in
       let same : kept_world mid ≡ w =
-      b.kept ∙ ap (λ (y : ClientRequest). put w (after_request s y)) e ∙ stays in
+      b.kept ∙ ap (λ (y : ClientRequest). put_after w s (after_request s y)) e
+      ∙ put_still w s s ∙ stays in
       becomes_onward old mid new _ _ b (becomes_along mid new _ _
       (ap (λ (v : World). (perform v (nth i v) (acts packet)).world) same ∙ frame_to (acts packet)
       e) c)

@@ -1,12 +1,13 @@
 -- What a line keeps of a connection stays, whatever the frames of its client come to.
 use Rattle.std.proofs.Common.{◌≡◌, ℕ, ◌+◌, true, false, List, [], ◌∷◌, ◌++◌, length, refl, sym}
 use Rattle.std.proofs.Common.{subst, ap, ◌∙◌}
-use Rattle.std.specs.Prelude.{Option, Some, None, is_some, if◌then◌else◌}
+use Rattle.std.specs.Prelude.{Option, Some, None, is_some, min, if◌then◌else◌}
 use Rattle.std.specs.Option.{option_and_then}
 use Rattle.mc_fields.specs.declared.position.Spot.{Spot}
 use Rattle.mc_frame.specs.declared.fault.FrameFault.{FrameFault}
 use Rattle.mc_up.specs.declared.play_up.PlayUp.{PlayUp}
 use Rattle.mc_up.specs.declared.play_up.PlayUp.TheVariants.{Position, Look, PositionLook, Settings}
+use Rattle.mc_up.specs.declared.play_up.PlayUp.TheVariants.{Creative, Digging, Held, Placement}
 use Rattle.mc_model.specs.declared.cause.Cause.{Cause}
 use Rattle.mc_model.specs.declared.cause.Cause.TheVariants as causes
 use Rattle.mc_model.specs.declared.cause.Refusal.{Refusal}
@@ -14,10 +15,18 @@ use Rattle.mc_model.specs.declared.stage.Stage.TheVariants as stages
 use Rattle.mc_model.specs.Names.{offline_uuid}
 use Rattle.mc_model.specs.Sight.{Sight}
 use Rattle.mc_model.specs.World.{World, Session, Player, found, put, players, is_play, is_closed}
-use Rattle.mc_model.specs.World.{spawn_spot}
+use Rattle.mc_model.specs.World.{pack_of, spot_of}
+use Rattle.mc_model.specs.Notes.{Noted}
+use Rattle.mc_model.specs.Things.{Things, holding, in_hand, standing, with_entity}
+use Rattle.mc_model.specs.Packs.{again, noting, place_of_hotbar, take_up}
+use Rattle.mc_model.specs.Digging.{dropped, dug}
+use Rattle.mc_model.specs.Placing.{placed}
+use Rattle.mc_model.specs.Step.{with_new_player}
+use Rattle.mc_model.proofs.Deeds.{digging_cases, placing_cases}
+use Rattle.mc_entities.specs.Shift.{is_inside}
 use Rattle.mc_model.specs.Packets.{Sent, of_status, bytes_of}
 use Rattle.mc_model.specs.Acts.{act}
-use Rattle.mc_model.specs.Movement.{arrive, arrived, is_in_range, moved, turned}
+use Rattle.mc_model.specs.Movement.{arrive, landed, landing, moved, turned}
 use Rattle.mc_model.specs.Talk.{ClientRequest, nothing, greets, replies, ends, enters, acts, wrong}
 use Rattle.mc_model.specs.Talk.{request_of, farewell, refused, accepted}
 use Rattle.mc_model.specs.Step.{hand, mark_closed, disconnect, Turn, still, turn, when_open}
@@ -63,21 +72,23 @@ pub record There (P : Session → Type 0) (k : ℕ) (v : World) : Type 0 where
   pub there : found k v.sessions ≡ Some session
   pub holds : P session
 
-there_put : (P : Session → Type 0) (k : ℕ) (w : World) (s t : Session) → found k w.sessions ≡
-    Some s → t.id ≡ k → P t → There P k (put w t)
-there_put P k w s t e is p = record { session = t; there = found_put k w s t is e; holds = p }
+there_put : (P : Session → Type 0) (k : ℕ) (w : World) (things : Things) (s t : Session) →
+    found k w.sessions ≡ Some s → t.id ≡ k → P t →
+    There P k (record (put w t) { things = things })
+there_put P k w things s t e is p =
+    record { session = t; there = found_put k w s t is e; holds = p }
 
-there_hand : (rest : List ℕ) (before : ℕ) (shown : Option Sight) (k : ℕ) (w : World) (s t : Session)
-    (packets : List Sent) → found k w.sessions ≡ Some s → t.id ≡ k →
+there_hand : (rest : List ℕ) (before : ℕ) (shown : Option Sight) (k : ℕ) (w : World)
+    (s r t : Session) (packets : List Sent) → found k w.sessions ≡ Some s → t.id ≡ k →
     ((owed : List ℕ) → KnownOpen rest before shown (record t { owed = owed })) →
-    There (KnownOpen rest before shown) k (turn w (hand t packets)).world
-there_hand rest before shown k w s t packets e is known =
-    hand_cases t packets (λ h. There (KnownOpen rest before shown) k (turn w h).world)
+    There (KnownOpen rest before shown) k (turn w r (hand t packets)).world
+there_hand rest before shown k w s r t packets e is known =
+    hand_cases t packets (λ h. There (KnownOpen rest before shown) k (turn w r h).world)
     (λ fits. there_put (KnownOpen rest before shown)
-    k w s (record t { owed = t.owed ++ bytes_of packets })
+    k w _ s (record t { owed = t.owed ++ bytes_of packets })
     e is (known (t.owed ++ bytes_of packets)))
     (λ much. there_put (KnownOpen rest before shown)
-    k w s (record (mark_closed t causes.Backlog) { owed = [] }) e is
+    k w _ s (record (mark_closed t causes.Backlog) { owed = [] }) e is
     (closed_known rest before shown (record (mark_closed t causes.Backlog) { owed = [] })
     refl refl))
 
@@ -85,28 +96,28 @@ there_hand rest before shown k w s t packets e is known =
 there_shut : (P : Session → Type 0) → ((t : Session) → t.stage ≡ stages.Closed → t.player ≡ None →
     P t) → (k : ℕ) (w : World) (s : Session) (cause : Cause) (packets : List Sent) →
     found k w.sessions ≡ Some s → s.id ≡ k →
-    There P k (turn w (disconnect s cause packets)).world
+    There P k (turn w s (disconnect s cause packets)).world
 there_shut P shuts k w s cause packets e is = hand_cases (mark_closed s cause)
-    packets (λ h. There P k (turn w h).world)
-    (λ fits. there_put P k w s (record (mark_closed s cause) { owed = s.owed ++ bytes_of packets })
+    packets (λ h. There P k (turn w s h).world)
+    (λ fits. there_put P k w _ s (record (mark_closed s cause)
+    { owed = s.owed ++ bytes_of packets })
     e is (shuts (record (mark_closed s cause) { owed = s.owed ++ bytes_of packets }) refl refl))
-    (λ much. there_put P k w s (record (mark_closed (mark_closed s cause) causes.Backlog)
+    (λ much. there_put P k w _ s (record (mark_closed (mark_closed s cause) causes.Backlog)
     { owed = [] }) e is
     (shuts (record (mark_closed (mark_closed s cause) causes.Backlog) { owed = [] }) refl refl))
 
 there_close : (rest : List ℕ) (before : ℕ) (shown : Option Sight) (k : ℕ) (w : World) (s : Session)
     (cause : Cause) (packets : List Sent) → found k w.sessions ≡ Some s → s.id ≡ k →
-    There (KnownOpen rest before shown) k (turn w (disconnect s cause packets)).world
+    There (KnownOpen rest before shown) k (turn w s (disconnect s cause packets)).world
 there_close rest before shown = there_shut (KnownOpen rest before shown)
     (closed_known rest before shown)
 
 -- ---- what a player does
 
-arrived_shown : (w : World) (p : Player) (spot : Spot) → (arrived w p spot).shown ≡ p.shown
-arrived_shown w p spot = elim (is_in_range spot)
-    as (λ b. (if b then record p { spot = spot } else record p
-    { spot = spawn_spot w.terrain; notes = record p.notes { placing = true } }).shown ≡ p.shown)
-    [ true ↦ refl | false ↦ refl ]
+landed_shown : (spot : Spot) (p : Player) → (landed spot p).shown ≡ p.shown
+landed_shown spot p = elim (is_inside spot)
+    as (λ b. (if b then p else record p { notes = record p.notes { placing = true } }).shown
+    ≡ p.shown) [ true ↦ refl | false ↦ refl ]
 
 -- the world that is left by a packet that was obeyed
 abbrev pub IfWorld : (World → Type 0) → Option World → Type 0
@@ -117,29 +128,55 @@ module _ (rest : List ℕ) (before : ℕ) (shown : Option Sight) (k : ℕ) (w : 
     (p : Player)
     (e : found k w.sessions ≡ Some s) (is : s.id ≡ k) (has : HasPlayer s)
     (plays : s.player ≡ Some p) (known : IsKnown rest before shown s) where
-  player_there : (q : Player) → q.shown ≡ p.shown → There (KnownOpen rest before shown)
-      k (put w (record s { player = Some q }))
-  player_there q same =
-      there_put (KnownOpen rest before shown) k w s (record s { player = Some q }) e is (
+  player_there : (q : Player) (things : Things) → q.shown ≡ p.shown →
+      There (KnownOpen rest before shown) k (record (put w (record s { player = Some q })) {
+        things = things;
+      })
+  player_there q things same =
+      there_put (KnownOpen rest before shown) k w things s (record s { player = Some q }) e is (
         λ open_. known_same rest before shown s (record s { player = Some q })
             refl refl (same ∙ sym (ap shown_to plays)) known,
         has ∙ ap is_some plays,
       )
 
+  -- nothing but things is another
+  things_there : (things : Things) →
+      There (KnownOpen rest before shown) k (record w { things = things })
+  things_there things = record { session = s; there = e; holds = (λ open_. known, has) }
+
   arrive_there : (o : Option Spot) → IfWorld (There (KnownOpen rest before shown) k)
       (arrive w s p o)
   arrive_there None = tt
-  arrive_there (Some spot) = player_there (arrived w p spot) (arrived_shown w p spot)
+  arrive_there (Some spot) = player_there (landed spot p)
+      (with_entity p.eid (standing (landing w spot)) w.things) (landed_shown spot p)
+
+  noting_there : (f : Noted → Noted) → There (KnownOpen rest before shown) k (noting f w s p)
+  noting_there f = player_there (record p { notes = f p.notes }) w.things refl
+
+  take_up_there : (hand : Option ℕ) → There (KnownOpen rest before shown) k (take_up w s p hand)
+  take_up_there None = things_there w.things
+  take_up_there (Some hand) = player_there (record p { hand = hand })
+      (with_entity p.eid (holding (in_hand (pack_of w p) hand)) w.things) refl
 
   act_there : (packet : PlayUp) → IfWorld (There (KnownOpen rest before shown) k) (act w s p packet)
   unfolding act
-  act_there (Position x y z on_ground) = arrive_there (moved p.spot x y z)
-  act_there (Look yaw pitch on_ground) = arrive_there (turned p.spot yaw pitch)
-  act_there (PositionLook x y z yaw pitch on_ground) =
-      arrive_there (option_and_then (λ (to : Spot). turned to yaw pitch) (moved p.spot x y z))
+  act_there (Position x y z on_ground) = arrive_there (moved (spot_of w p) x y z)
+  act_there (Look yaw pitch on_ground) = arrive_there (turned (spot_of w p) yaw pitch)
+  act_there (PositionLook x y z yaw pitch on_ground) = arrive_there
+      (option_and_then (λ (to : Spot). turned to yaw pitch) (moved (spot_of w p) x y z))
+  act_there (Digging status cell face) =
+      digging_cases (There (KnownOpen rest before shown) k) w s p status cell
+      (things_there w.things) (λ test. things_there (dug w cell))
+      (λ item n some held room. things_there (dropped w p item (min n item.count))) noting_there
+  act_there (Placement cell face item x y z) =
+      placing_cases (There (KnownOpen rest before shown) k) w s p cell face
+      (things_there w.things) (λ target held some free. things_there (placed w p target held))
+      noting_there
+  act_there (Held place) = take_up_there (place_of_hotbar place)
+  act_there (Creative slot item) = noting_there again
   act_there (Settings locale view chat_mode colours skin) =
-      player_there (record p { view_byte = view }) refl
-  act_there other = record { session = s; there = e; holds = (λ open_. known, has) }
+      player_there (record p { view_byte = view }) w.things refl
+  act_there other = things_there w.things
 
 acted_there : (rest : List ℕ) (before : ℕ) (shown : Option Sight) (k : ℕ) (w : World) (s : Session)
     (o : Option World) → found k w.sessions ≡ Some s → s.id ≡ k →
@@ -170,7 +207,9 @@ login_there rest before shown k w s name (Some why) e is at has known =
     there_close rest before shown k w s (causes.Refused why) (refused why) e is
 login_there rest before shown k w s name None e is at has known =
     let none : s.player ≡ None = no_player s.player (sym has ∙ ap is_play at) in
-    there_hand rest before shown k (record w { eids = w.eids + 1 }) s (entered w s name)
+    there_hand rest before shown k (record w {
+      things = with_new_player w.terrain name w.things;
+    }) s (entered w s name) (entered w s name)
     (accepted (offline_uuid name) name) e is (λ owed. (
       λ open_. record {
         rest_is = known.rest_is;
@@ -187,14 +226,15 @@ perform_there : (rest : List ℕ) (before : ℕ) (shown : Option Sight) (k : ℕ
 perform_there rest before shown k w s nothing e is fit has known =
     record { session = s; there = e; holds = (λ open_. known, has) }
 perform_there rest before shown k w s (greets protocol stage) e is fit has known =
-    there_put (KnownOpen rest before shown) k w s (record s { stage = stage; protocol = protocol })
+    there_put (KnownOpen rest before shown) k w w.things s
+    (record s { stage = stage; protocol = protocol })
     e is (
       λ open_. known_same rest before shown s (record s { stage = stage; protocol = protocol })
           refl refl refl known,
       fit.1 ∙ sym (ap is_play fit.0) ∙ has,
     )
 perform_there rest before shown k w s (replies packet) e is fit has known =
-    there_hand rest before shown k w s s (of_status packet ∷ [])
+    there_hand rest before shown k w s s s (of_status packet ∷ [])
     e is (λ owed. (
       λ open_. known_same rest before shown s (record s { owed = owed })
           refl refl refl known,
@@ -261,7 +301,7 @@ fault_there rest before shown k None w t =
     }
 fault_there rest before shown k (Some fault) w t =
     let P : Session → Type 0 = HeardOpen (Some fault) rest before shown in
-    let f : Session → Turn = λ s. turn w (disconnect s (causes.Frame fault)
+    let f : Session → Turn = λ s. turn w s (disconnect s (causes.Frame fault)
     (farewell s.stage (causes.Frame fault))) in
     let Q : Option Session → Type 0 = λ o. There P k (when_open o w f).world in
     subst Q (sym t.there) (elim (is_closed t.session.stage)

@@ -163,7 +163,9 @@ took_keeps k n w = changed_keeps k w (λ (s : Session). record s { owed = drop n
 
 pub broke_keeps : (k : ℕ) (w : World) → Keeps k w (step w (broke k)).world
 unfolding step
-broke_keeps k w = changed_keeps k w (gone causes.Broke) (gone_id causes.Broke)
+broke_keeps k w =
+    let keeps = changed_keeps k w (gone causes.Broke) (gone_id causes.Broke) in
+    record { others = keeps.others; numbers = keeps.numbers }
 
 -- who is gone is owed nothing
 gone_owed : (cause : Cause) (s : Session) → (gone cause s).owed ≡ []

@@ -17,6 +17,7 @@ use Rattle.mc_model.specs.Step.{Turn, still, turn, disconnect, when_open, perfor
 use Rattle.mc_model.specs.Step.{on_frames, on_fault, new_session}
 use Rattle.mc_model.specs.World.{World, Session, found, put, players, is_closed}
 use Rattle.mc_server.specs.Bare.{after_frames}
+use Rattle.mc_server.specs.Leaving.{put_after}
 use Rattle.mc_server.specs.Frames.{IsUnderway, Becomes, Retains, Splits, IsReading, AreDone}
 use Rattle.mc_server.specs.Frames.{with_splitter}
 use Rattle.mc_server.specs.Served.{ConnectionValue, ServerValue, IsOpenAt, kept_world, nth_session}
@@ -67,7 +68,7 @@ closed_fault : (fault : Option FrameFault) (w : World) (k : ℕ) (s : Session) �
     Some s → is_closed s.stage ≡ true → (on_fault w k fault).world ≡ w
 closed_fault None w k s there closed = refl
 closed_fault (Some fault) w k s there closed =
-    let f : Session → Turn = λ s. turn w (disconnect s (causes.Frame fault)
+    let f : Session → Turn = λ s. turn w s (disconnect s (causes.Frame fault)
     (farewell s.stage (causes.Frame fault))) in
     ap (λ (o : Option Session). (when_open o w f).world) there ∙
     ap (λ (b : Bool). (if b then still w else f s).world) closed
@@ -81,9 +82,9 @@ becomes_age i old new frame b =
     ap (λ (w : World). w.age) b.kept ∙ frame_age (kept_world old)
     (nth_session i old.connections).id frame
 
-pub put_age : (old new : ServerValue) (s : Session) → Becomes old new (put (kept_world old) s)
-    → new.age ≡ old.age
-put_age old new s b = ap (λ (w : World). w.age) b.kept
+pub put_age : (old new : ServerValue) (r s : Session)
+    → Becomes old new (put_after (kept_world old) r s) → new.age ≡ old.age
+put_age old new r s b = ap (λ (w : World). w.age) b.kept
 
 -- ---- the connection at a place
 
@@ -289,7 +290,7 @@ done_closed i count c all left_ first new r found_ closed =
 pub done_bad : (i count : ℕ) (c : ConnectionValue) (all left_ : List ℕ)
     (first old mid new : ServerValue) (fault : FrameFault)
     → Splits i old mid (λ a b. Takes a (Bad fault) b)
-    → Becomes mid new (put (kept_world mid)
+    → Becomes mid new (put_after (kept_world mid) (nth_session i mid.connections)
     (disconnect (nth_session i mid.connections) (causes.Frame fault)
     (farewell (nth_session i mid.connections).stage (causes.Frame fault))).session)
     → found (nth_session i mid.connections).id (sessions_of mid.connections) ≡
@@ -306,7 +307,7 @@ done_bad i count c all left_ first old mid new fault split b there open_ closed 
     let s : Session = nth_session i mid.connections in
     let w = kept_world mid in
     let named : s.id ≡ k = with_number i c split.splitter first mid _ r.within taken in
-    let f : Session → Turn = λ s. turn w (disconnect s (causes.Frame fault)
+    let f : Session → Turn = λ s. turn w s (disconnect s (causes.Frame fault)
     (farewell s.stage (causes.Frame fault))) in
     let faulted : (f s).world ≡ (on_fault w s.id (Some fault)).world =
     sym (ap (λ (o : Option Session). (when_open o w f).world) there ∙

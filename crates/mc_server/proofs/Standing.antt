@@ -3,6 +3,8 @@ use Rattle.std.proofs.Common.{◌≡◌, ℕ, ◌<◌, ◌≤◌, Bool, true, fa
 use Rattle.std.proofs.Common.{map, length, take, get_or, set, refl, sym, subst, ap, ◌∙◌, arith}
 use Rattle.std.specs.Prelude.{◌+◌, drop, is_some, unwrap_or, Option, Some, None}
 use Rattle.std.specs.Prelude.{option_map, if◌then◌else◌}
+use Rattle.std.specs.FinMap.{get-empty}
+use Rattle.std.specs.Ordering.{int_cmp}
 use Rattle.std.specs.List.{filter, remove}
 use Rattle.std.specs.Option.{option_and_then}
 use Rattle.std.proofs.lemmas.List.{get_or_default, length-drop, length-map, length-take}
@@ -11,25 +13,30 @@ use Rattle.mc_frame.proofs.Stops.{nothing_part}
 use Rattle.mc_model.specs.declared.cause.Cause.{Cause}
 use Rattle.mc_model.specs.declared.cause.Cause.TheVariants as causes
 use Rattle.mc_model.specs.Sight.{nothing_seen}
-use Rattle.mc_model.specs.World.{World, Session, found, is_closed}
+use Rattle.mc_model.specs.World.{World, Session, Player, found, is_closed}
 use Rattle.mc_model.specs.Run.{cause_in, owed_of}
 use Rattle.mc_model.specs.Orderly.{Rise, IsPlaced}
 use Rattle.mc_model.specs.Step.{joined, left, broke, took, forgot, step, gone, mark_closed}
+use Rattle.mc_model.specs.Step.{after_leaving, depart, player_in}
 use Rattle.mc_model.specs.Step.{changed, is_new, is_crowded, new_session, joining, join, is_done}
 use Rattle.mc_model.specs.Orderly.{Orderly}
+use Rattle.mc_model.specs.Balance.{Balanced}
 use Rattle.mc_model.proofs.RiseFacts.{placed_at, none_changed}
 use Rattle.mc_model.proofs.Handing.{HasPlayer}
-use Rattle.mc_model.proofs.RunEvents.{gone_beside, orderly_beside, orderly_step}
-use Rattle.mc_flush.specs.Seeing.{Parts, StandsFor, is_shown}
+use Rattle.mc_model.proofs.RunEvents.{depart_beside, orderly_beside, orderly_step}
+use Rattle.mc_model.proofs.BalanceRun.{balanced_step}
+use Rattle.mc_flush.specs.Seeing.{Parts, StandsFor, is_shown, nothing_shown, told_item}
 use Rattle.mc_server.specs.Asking.{is_ours, is_over, ours_there}
 use Rattle.mc_server.specs.Bare.{bare, bare_world}
 use Rattle.mc_server.specs.Served.{ConnectionValue, ServerValue, IsAt, kept_world, new_connection}
 use Rattle.mc_server.specs.Served.{sessions_of, shown_parts, with_session}
 use Rattle.mc_server.specs.SideBySide.{SideBySide}
+use Rattle.mc_server.specs.Leaving.{left_with}
 use Rattle.mc_server.specs.Stands.{IsConnection, IsOpen, Stands, owes, shown_to}
 use Rattle.mc_server.proofs.Bare.{filter_bare, found_bare, ids_bare, gone_bare, joining_bare}
 use Rattle.mc_server.proofs.Places.{placed_by, found_set, forgotten, forgotten_none, forgotten_at}
 use Rattle.mc_server.proofs.Places.{sessions_count}
+use Rattle.mc_server.proofs.Leavings.{bare_some, eid_in, gone_player, leaving_bare, left_is}
 use Rattle.mc_server.proofs.Sides.{side_length, side_at, side_set, side_remove, side_join}
 
 -- ---- the world that it stands for
@@ -45,45 +52,45 @@ pub stands_world : (v : ServerValue) (w : World) → Stands v w → kept_world v
 stands_world v w st = λ i. record {
   age = st.age i;
   terrain = st.terrain i;
-  edits = st.edits i;
+  things = st.things i;
   most = st.most i;
   cap = st.cap i;
-  eids = st.eids i;
   last = st.last i;
   sessions = sessions_bare (shown_parts v) v.connections w.sessions st.connections i;
 }
 
 pub world_stands : (v : ServerValue) (w : World) → v.failed ≡ false → kept_world v ≡ bare_world w →
-    SideBySide (IsConnection (shown_parts v)) v.connections w.sessions → Orderly w → Stands v w
-world_stands v w works kept side orderly = record {
+    SideBySide (IsConnection (shown_parts v)) v.connections w.sessions → Orderly w → Balanced w →
+    Stands v w
+world_stands v w works kept side orderly balanced = record {
   works = works;
   age = ap (λ (u : World). u.age) kept;
   terrain = ap (λ (u : World). u.terrain) kept;
-  edits = ap (λ (u : World). u.edits) kept;
+  things = ap (λ (u : World). u.things) kept;
   most = ap (λ (u : World). u.most) kept;
   cap = ap (λ (u : World). u.cap) kept;
-  eids = ap (λ (u : World). u.eids) kept;
   last = ap (λ (u : World). u.last) kept;
   connections = side;
   orderly = orderly;
+  balanced = balanced;
 }
 
 -- with other connections
 stands_with : (v : ServerValue) (w : World) (cs : List ConnectionValue) (ss : List Session) →
     Stands v w → SideBySide (IsConnection (shown_parts v)) cs ss →
-    Orderly (record w { sessions = ss }) → Stands (record v { connections = cs })
-    (record w { sessions = ss })
-stands_with v w cs ss st side orderly = record {
+    Orderly (record w { sessions = ss }) → Balanced (record w { sessions = ss }) →
+    Stands (record v { connections = cs }) (record w { sessions = ss })
+stands_with v w cs ss st side orderly balanced = record {
   works = st.works;
   age = st.age;
   terrain = st.terrain;
-  edits = st.edits;
+  things = st.things;
   most = st.most;
   cap = st.cap;
-  eids = st.eids;
   last = st.last;
   connections = side;
   orderly = orderly;
+  balanced = balanced;
 }
 
 pub rise_bare : (low high : ℕ) (ss : List Session) → Rise low (map bare ss) high → Rise low ss high
@@ -203,23 +210,38 @@ took_falls v high k i n c t rise at is made some few =
 
 -- ---- one connection changed
 
+-- the session of a number stands at its place
+named_placed : (k i : ℕ) (v : ServerValue) (w : World) (high : ℕ) (c : ConnectionValue) →
+    IsAt k i v.connections → c ≡ get_or v.connections i c →
+    Meets (shown_parts v) w.sessions high i c → IsPlaced k i w.sessions
+named_placed k i v w high c at is m = subst (λ (n : ℕ). IsPlaced n i w.sessions)
+    (ap (λ (d : ConnectionValue). d.session.id) is ∙ at.named c) m.placed
+
+-- the connections side by side
+changed_side : (v : ServerValue) (w : World) (high k i : ℕ) (c t : ConnectionValue)
+    (f : Session → Session) → Rise 0 (sessions_of v.connections) high → IsAt k i v.connections → c ≡
+    get_or v.connections i c →
+    ((s : Session) → IsConnection (shown_parts v) c s → IsConnection (shown_parts v) t (f s)) →
+    Stands v w →
+    SideBySide (IsConnection (shown_parts v)) (set v.connections i t) (changed w k f).sessions
+changed_side v w high k i c t f rise at is keeps st =
+    let m = meets (shown_parts v) v.connections w.sessions high i c rise st.connections at.within is
+    in
+    subst (SideBySide (IsConnection (shown_parts v)) (set v.connections i t))
+    (placed_at k i high w.sessions f m.session (f m.session) (named_placed k i v w high c at is m)
+    m.rise m.is refl)
+    (side_set (IsConnection (shown_parts v)) v.connections w.sessions i t (f m.session)
+    (keeps m.session m.stands) st.connections)
+
 changed_stands : (v : ServerValue) (w : World) (high k i : ℕ) (c t : ConnectionValue)
     (f : Session → Session) → Rise 0 (sessions_of v.connections) high → IsAt k i v.connections → c ≡
     get_or v.connections i c →
     ((s : Session) → IsConnection (shown_parts v) c s → IsConnection (shown_parts v) t (f s)) →
-    Orderly (changed w k f) → Stands v w →
+    Orderly (changed w k f) → Balanced (changed w k f) → Stands v w →
     Stands (record v { connections = set v.connections i t }) (changed w k f)
-changed_stands v w high k i c t f rise at is keeps orderly st =
-    let m = meets (shown_parts v) v.connections w.sessions high i c rise st.connections at.within is
-    in
-    let named : c.session.id ≡ k = ap (λ (d : ConnectionValue). d.session.id) is ∙ at.named c in
-    let placed : IsPlaced k i w.sessions = subst (λ (n : ℕ). IsPlaced n i w.sessions)
-    named m.placed in
+changed_stands v w high k i c t f rise at is keeps orderly balanced st =
     stands_with v w (set v.connections i t) (changed w k f).sessions st
-    (subst (SideBySide (IsConnection (shown_parts v)) (set v.connections i t))
-    (placed_at k i high w.sessions f m.session (f m.session) placed m.rise m.is refl)
-    (side_set (IsConnection (shown_parts v)) v.connections w.sessions i t (f m.session)
-    (keeps m.session m.stands) st.connections)) orderly
+    (changed_side v w high k i c t f rise at is keeps st) orderly balanced
 
 absent_stands : (v : ServerValue) (w : World) (k : ℕ) (f : Session → Session) →
     found k (sessions_of v.connections) ≡ None → Stands v w → Stands v (changed w k f)
@@ -239,28 +261,82 @@ gone_plays cause s has = elim (is_closed s.stage)
     as (λ b. HasPlayer (if b then record s { owed = [] } else record (mark_closed s cause)
     { owed = [] })) [ true ↦ has | false ↦ refl ]
 
-pub gone_stands : (cause : Cause) (v : ServerValue) (w : World) (high k i : ℕ)
-    (c t : ConnectionValue) → Rise 0 (sessions_of v.connections) high → IsAt k i v.connections →
-    c ≡ get_or v.connections i c → t ≡ with_session c (gone cause c.session) → Stands v w →
-    Stands (record v { connections = set v.connections i t }) (changed w k (gone cause))
-gone_stands cause v w high k i c t rise at is made st =
-    changed_stands v w high k i c t (gone cause) rise at is (λ s stands. record {
-      session = ap (λ (d : ConnectionValue). d.session) made ∙ ap (gone cause) stands.session ∙
-          sym (gone_bare cause s);
-      is_open = λ open_. absurd (not_open (gone cause s) (gone_closed cause s) open_);
-      plays = gone_plays cause s stands.plays;
-    }) (orderly_beside k w (changed w k (gone cause)) (gone_beside k w cause) st.orderly) st
+-- the player of a number is that of the session that stands at its place
+player_there : (k i : ℕ) (w : World) (s : Session) → IsPlaced k i w.sessions →
+    s ≡ get_or w.sessions i s → player_in k w.sessions ≡ s.player
+player_there k i w s placed is =
+    ap (λ (o : Option Session). option_and_then (λ (t : Session). t.player) o)
+    (placed.is s ∙ ap Some (sym is))
+
+module _ (cause : Cause) (v : ServerValue) (w : World) (high k i : ℕ) (c t : ConnectionValue)
+    (rise : Rise 0 (sessions_of v.connections) high) (at : IsAt k i v.connections)
+    (is : c ≡ get_or v.connections i c) (made : t ≡ with_session c (gone cause c.session))
+    (st : Stands v w) where
+  departs : Meets (shown_parts v) w.sessions high i c →
+      left_with (eid_in c.session.player) t.session.player v.things
+      ≡ (depart w k cause).things
+  departs m =
+      let s = m.session in
+      let gone_now : t.session.player ≡ None = ap (λ (d : ConnectionValue). d.session.player) made
+      ∙ ap (λ (r : Session). (gone cause r).player) m.stands.session
+      ∙ gone_player cause (bare s) (m.stands.plays ∙ sym (bare_some s.player)) in
+      left_is c.session.player t.session.player v.things
+      ∙ ap (λ (o : Option Player). after_leaving c.session.player o v.things) gone_now
+      ∙ ap (λ (r : Session). after_leaving r.player None v.things) m.stands.session
+      ∙ leaving_bare s.player None v.things
+      ∙ ap (after_leaving s.player None) st.things
+      ∙ ap (λ (o : Option Player). after_leaving o None w.things)
+      (sym (player_there k i w s (named_placed k i v w high c at is m) m.is))
+
+  -- one that goes, and its player's entity
+  pub gone_stands : (eid : Option ℕ) (player : Option Player) → eid ≡ eid_in c.session.player →
+      player ≡ t.session.player → Balanced (depart w k cause) →
+      Stands (record v {
+        things = left_with eid player v.things;
+        connections = set v.connections i t;
+      }) (depart w k cause)
+  gone_stands eid player eid_is player_is balanced =
+      let m = meets (shown_parts v) v.connections w.sessions high i c rise st.connections at.within
+      is in
+      record {
+        works = st.works;
+        age = st.age;
+        terrain = st.terrain;
+        things = (λ j. left_with (eid_is j) (player_is j) v.things) ∙ departs m;
+        most = st.most;
+        cap = st.cap;
+        last = st.last;
+        connections = changed_side v w high k i c t (gone cause) rise at is (λ s stands. record {
+          session = ap (λ (d : ConnectionValue). d.session) made
+              ∙ ap (gone cause) stands.session ∙ sym (gone_bare cause s);
+          is_open = λ open_. absurd (not_open (gone cause s) (gone_closed cause s) open_);
+          plays = gone_plays cause s stands.plays;
+        }) st;
+        orderly = orderly_beside k w (depart w k cause) (depart_beside k w cause) st.orderly;
+        balanced = balanced;
+      }
+
+-- nobody goes where none is of the number
+depart_none : (w : World) (k : ℕ) (cause : Cause) → found k w.sessions ≡ None →
+    depart w k cause ≡ w
+depart_none w k cause none =
+    ap (λ (u : World). record u {
+      things = after_leaving (player_in k w.sessions) None w.things;
+    }) (sym (none_changed w k (gone cause) none))
+    ∙ ap (λ (o : Option Session). record w {
+      things = after_leaving (option_and_then (λ (s : Session). s.player) o) None w.things;
+    }) none
 
 pub gone_none : (cause : Cause) (v : ServerValue) (w : World) (k : ℕ) →
-    found k (sessions_of v.connections) ≡ None → Stands v w →
-    Stands v (changed w k (gone cause))
-gone_none cause v w k none st = absent_stands v w k (gone cause) none st
+    found k (sessions_of v.connections) ≡ None → Stands v w → Stands v (depart w k cause)
+gone_none cause v w k none st =
+    subst (Stands v) (sym (depart_none w k cause (none_there v w k st none))) st
 
-pub left_world : (w : World) (k : ℕ) → (step w (left k)).world ≡ changed w k (gone causes.Gone)
+pub left_world : (w : World) (k : ℕ) → (step w (left k)).world ≡ depart w k causes.Gone
 unfolding step
 left_world w k = refl
 
-pub broke_world : (w : World) (k : ℕ) → (step w (broke k)).world ≡ changed w k (gone causes.Broke)
+pub broke_world : (w : World) (k : ℕ) → (step w (broke k)).world ≡ depart w k causes.Broke
 unfolding step
 broke_world w k = refl
 
@@ -291,7 +367,7 @@ took_stands v w high k i n c t rise at is made st =
           (ap (λ (d : ConnectionValue). d.splitter) made)
           (ap (λ (d : ConnectionValue). d.mark) made) (stands.is_open open_);
       plays = stands.plays;
-    }) (orderly_step w (took k n) st.orderly) st
+    }) (orderly_step w (took k n) st.orderly) (balanced_step w (took k n) st.balanced) st
 
 pub took_none : (v : ServerValue) (w : World) (k n : ℕ) → found k (sessions_of v.connections) ≡
     None → Stands v w → Stands v (step w (took k n)).world
@@ -329,7 +405,7 @@ forgot_stands v w high k i c rise at is done st =
     stands_with v w (remove v.connections i) (forgotten k w.sessions) st
     (subst (SideBySide (IsConnection (shown_parts v)) (remove v.connections i)) (sym same)
     (side_remove (IsConnection (shown_parts v)) v.connections w.sessions i st.connections))
-    (orderly_step w (forgot k) st.orderly)
+    (orderly_step w (forgot k) st.orderly) (balanced_step w (forgot k) st.balanced)
 
 pub forgot_still : (v : ServerValue) (w : World) (high k i : ℕ) (c : ConnectionValue) →
     Rise 0 (sessions_of v.connections) high → IsAt k i v.connections → c ≡
@@ -354,9 +430,15 @@ joined_world : (w : World) (k : ℕ) (b : Bool) → is_new k w.last ≡ b → jo
 joined_world w k b e = ap (λ (t : Bool). if t then record w
     { last = Some k; sessions = w.sessions ++ joining w k ∷ [] } else w) e
 
-nothing_shown : (shown : Parts) → StandsFor None shown nothing_seen
+nothing_stands : (shown : Parts) → StandsFor nothing_shown shown nothing_seen
 unfolding StandsFor
-nothing_shown shown = refl
+nothing_stands shown = record {
+  pairs = refl;
+  columns = refl;
+  entities = λ eid. get-empty int_cmp eid
+      ∙ sym (ap (option_map told_item) (get-empty int_cmp eid));
+  pack = refl;
+}
 
 new_open : (shown : Parts) (k : ℕ) (s : Session) →
     IsOpen shown (record (new_connection k) { session = s }) (new_session k)
@@ -366,7 +448,7 @@ new_open shown k s = record {
   fine = refl;
   part = nothing_part;
   opened = refl;
-  shows = nothing_shown shown;
+  shows = nothing_stands shown;
 }
 
 joining_open : (shown : Parts) (w : World) (k : ℕ) (s : Session) → is_closed (joining w k).stage ≡
@@ -404,6 +486,7 @@ joined_stands v w k c made new st =
     } in
     let P : ConnectionValue → Type 0 = λ d. IsConnection (shown_parts v) d (joining w k) in
     let Q : World → Type 0 = λ u. Orderly u in
+    let R : World → Type 0 = λ u. Balanced u in
     let world : join w k ≡ record w { last = Some k; sessions = w.sessions ++ joining w k ∷ [] } =
     joined_world w k true (ap (is_new k) (sym st.last) ∙ new) in
     subst (Stands (record v { last = Some k; connections = v.connections ++ c ∷ [] })) (sym world)
@@ -411,14 +494,14 @@ joined_stands v w k c made new st =
       works = st.works;
       age = st.age;
       terrain = st.terrain;
-      edits = st.edits;
+      things = st.things;
       most = st.most;
       cap = st.cap;
-      eids = st.eids;
       last = refl;
       connections = side_join (IsConnection (shown_parts v))
           v.connections w.sessions c (joining w k) (subst P (sym made) stands) st.connections;
       orderly = subst Q world (orderly_step w (joined k) st.orderly);
+      balanced = subst R world (balanced_step w (joined k) st.balanced);
     })
 
 pub old_stands : (v : ServerValue) (w : World) (k : ℕ) → is_new k v.last ≡ false → Stands v w →

@@ -1,48 +1,35 @@
 -- A server stands for what a tick makes of the world that it stood for.
-use Rattle.std.proofs.Common.{◌≡◌, ℕ, ◌+◌, ◌≤◌, Bool, true, false, cond, List, [], ◌∷◌, ◌++◌, map}
-use Rattle.std.proofs.Common.{length, Option, Some, None, is_some, refl, sym, subst, ap, ◌∙◌}
-use Rattle.std.specs.Prelude.{nat_le, option_map, unwrap_or}
+use Rattle.std.proofs.Common.{◌≡◌, ℕ, ◌+◌, true, false, List, [], ◌∷◌, ◌++◌, map}
+use Rattle.std.proofs.Common.{Option, Some, None, is_some, refl, sym, subst, ap, ◌∙◌}
+use Rattle.std.specs.Prelude.{option_map, unwrap_or}
 use Rattle.std.specs.List.{cons_option}
 use Rattle.std.specs.FinMap.{from_entries}
-use Rattle.mc_frame.specs.Kept.{outbox_max}
 use Rattle.mc_land.specs.Land.{LandValue}
-use Rattle.mc_down.specs.declared.down.Down.{Down}
-use Rattle.mc_model.specs.declared.cause.Cause.TheVariants as causes
-use Rattle.mc_model.specs.declared.stage.Stage.{Stage}
-use Rattle.mc_model.specs.declared.stage.Stage.TheVariants as stages
-use Rattle.mc_model.specs.Packets.{Sent, of_play, bytes_of}
-use Rattle.mc_model.specs.Notes.{no_notes}
+use Rattle.mc_model.specs.Packets.{of_play, bytes_of}
 use Rattle.mc_model.specs.Sight.{Sight, nothing_seen}
-use Rattle.mc_model.specs.Delta.{Pairs}
 use Rattle.mc_model.specs.World.{World, Session, Player, is_play, is_closed, project}
-use Rattle.mc_model.specs.Step.{Handing, hand, due, flush, showing, at_tick, step, ticked}
+use Rattle.mc_model.specs.Step.{due, flush, flush_to, showing, at_tick, step}
+use Rattle.mc_model.specs.Step.{ticked}
+use Rattle.mc_model.specs.Things.{Packs, Things}
 use Rattle.mc_model.proofs.Handing.{HasPlayer, closed_is, flush_cases, not_both}
 use Rattle.mc_model.proofs.RunEvents.{orderly_step}
-use Rattle.mc_flush.specs.Seeing.{MarkValue, Parts, StandsFor, is_shown, sight_of}
-use Rattle.mc_server.specs.declared.settings.Settings.{Settings}
+use Rattle.mc_model.proofs.BalanceRun.{balanced_step}
+use Rattle.mc_flush.specs.Seeing.{MarkValue, Parts, StandsFor, columns_in, is_shown}
+use Rattle.mc_flush.specs.Seeing.{pairs_in}
+use Rattle.mc_view.specs.declared.view_set.ViewSet.{ViewSet}
+use Rattle.mc_entities.specs.Folk.{FolkState}
 use Rattle.mc_server.specs.Bare.{bare, bare_player}
 use Rattle.mc_server.specs.Served.{ConnectionValue, ServerValue, playing_of, sessions_of}
-use Rattle.mc_server.specs.Served.{shown_parts}
+use Rattle.mc_server.specs.Served.{shown_parts, things_of}
 use Rattle.mc_server.specs.SideBySide.{SideBySide}
 use Rattle.mc_server.specs.Stands.{IsConnection, IsOpen, Stands, shown_to}
-use Rattle.mc_server.specs.Ticking.{IsScene, IsShown, names_of, recalled_player, ticked_session}
-use Rattle.mc_server.specs.Ticking.{with_shown}
+use Rattle.mc_server.specs.Ticking.{IsScene, IsShown, left_all, names_of}
+use Rattle.mc_server.specs.Ticking as scenes
 use Rattle.mc_server.proofs.Bare.{hand_bare}
+use Rattle.mc_server.proofs.LeftFacts.{all_left, all_removed, things_after}
 use Rattle.mc_server.proofs.SceneFacts.{hand_shown, ticked_with}
 use Rattle.mc_server.proofs.Sides.{side_map}
 use Rattle.mc_server.proofs.Standing.{sessions_bare}
-
--- ---- what a mark keeps of what was shown
-
--- it is all of it
-shown_kept : (parts : Parts) (mark : MarkValue) (shown : Option Sight) → is_shown mark ≡
-    is_some shown →
-    StandsFor mark parts (unwrap_or shown nothing_seen) → option_map (sight_of parts) mark ≡ shown
-unfolding StandsFor
-shown_kept parts None None opened stands = refl
-shown_kept parts None (Some p) opened stands = absurd cc
-shown_kept parts (Some view) None opened stands = absurd cc
-shown_kept parts (Some view) (Some p) opened stands = ap Some (sym stands)
 
 -- ---- the players of a world
 
@@ -64,49 +51,59 @@ project_bare w p = refl
 
 -- ---- one session
 
--- what a mark keeps of a player of an open connection is all that it was shown
-recalled_all : (parts : Parts) (mark : MarkValue) (p : Player) → is_shown mark ≡ is_some p.shown →
-    StandsFor mark parts (unwrap_or p.shown nothing_seen) →
-    recalled_player parts mark (bare_player p) ≡ p
-recalled_all parts mark p opened shows = ap (λ (o : Option Sight). record p { shown = o })
-    (shown_kept parts mark p.shown opened shows)
-
 -- of a session with this player
-player_ticked : (w : World) (parts : Parts) (mark : MarkValue) (s : Session) (o : Option Player) →
-    (is_some o ≡ true → (is_shown mark ≡ is_some (shown_to o)) ×
-    StandsFor mark parts (unwrap_or (shown_to o) nothing_seen)) →
-    ticked_with w parts mark (bare (record s { player = o })) (option_map bare_player o) ≡
-    bare (flush w (record s { player = o })).session
-player_ticked w parts mark s None is = refl
-player_ticked w parts mark s (Some p) is =
-    let stands = is refl in
-    let t : Session = bare (record s { player = Some p }) in
-    ap (λ (q : Player). with_shown None (hand (record t { player = Some (showing w q) })
-    (map of_play (due w q))).session) (recalled_all parts mark p stands.0 stands.1)
-    ∙ hand_shown t (showing w p) (Some (project w p)) None (map of_play (due w p))
+player_ticked : (w : World) (s : Session) (o : Option Player) →
+    ticked_with w (shown_to o) (bare (record s { player = o })) (option_map bare_player o)
+    ≡ bare (flush w (record s { player = o })).session
+player_ticked w s None = refl
+player_ticked w s (Some p) =
+    hand_shown (bare (record s { player = Some p })) (showing w p) (Some (project w p)) None
+    (map of_play (due w p))
     ∙ sym (hand_bare (record s { player = Some (showing w p) }) (map of_play (due w p)))
 
-session_ticked : (w : World) (parts : Parts) (c : ConnectionValue) (s : Session) →
-    IsConnection parts c s →
-    ticked_session w parts (record c { session = bare s }) ≡ bare (flush w s).session
-session_ticked w parts c s is = player_ticked w parts c.mark s s.player
-    (λ plays. elim (is_closed s.stage) as (λ b. is_closed s.stage ≡ b →
-    (is_shown c.mark ≡ is_some (shown_to s.player)) ×
-    StandsFor c.mark parts (unwrap_or (shown_to s.player) nothing_seen)) [
-      | true ↦ λ over. absurd (not_both (is_some s.player)
-          plays (sym is.plays ∙ ap is_play (closed_is s.stage over)))
-      | false ↦ λ open_. (let o = is.is_open open_ in (o.opened, o.shows))
-    ] refl)
+-- of a session of a connection that was shown the world
+session_ticked : (w : World) (last now_ : Parts) (c d : ConnectionValue) (s : Session) →
+    IsConnection last c s → IsShown w last now_ (record c { session = bare s }) d →
+    d.session ≡ bare (flush w s).session
+session_ticked w last now_ c d s is shown = elim (s.player)
+    as (λ o. s.player ≡ o → d.session ≡ bare (flush w s).session) [
+      | None ↦ λ none. shown.stays (ap (option_map bare_player) none) ∙
+          ap (λ (o : Option Player). bare (flush_to w s o).session) (sym none)
+      | Some p ↦ λ there. elim (is_closed s.stage)
+          as (λ b. is_closed s.stage ≡ b → d.session ≡ bare (flush w s).session) [
+            | true ↦ λ over. absurd (not_both (is_some s.player) (ap is_some there)
+                (sym is.plays ∙ ap is_play (closed_is s.stage over)))
+            | false ↦ λ open_. (let o = is.is_open open_ in
+                shown.session (shown_to s.player) o.opened o.shows ∙ player_ticked w s s.player)
+          ] refl
+    ] refl
 
 -- ---- one connection
 
--- a mark of nothing stands for nothing, whatever was shown
+-- the players and the columns that were shown: none, whatever there was
+no_pairs : (view : Option ViewSet) (last now_ : Parts) → is_some view ≡ false →
+    pairs_in view last ≡ pairs_in view now_
+no_pairs None last now_ none = refl
+no_pairs (Some view) last now_ none = absurd cc
+
+-- no columns
+no_columns : (view : Option ViewSet) (last now_ : Parts) → is_some view ≡ false →
+    columns_in view last ≡ columns_in view now_
+no_columns None last now_ none = refl
+no_columns (Some view) last now_ none = absurd cc
+
+-- a mark of no view stands for the same, whatever was shown
 unseen_stands : (mark : MarkValue) (last now_ : Parts) (p : Sight) → is_shown mark ≡ false →
     StandsFor mark last p → StandsFor mark now_ p
 unfolding StandsFor
-unseen_stands None last now_ p none stands = stands
-unseen_stands (Some view) last now_ p none stands = absurd cc
+unseen_stands mark last now_ p none stands = record {
+  pairs = stands.pairs ∙ no_pairs mark.view last now_ none;
+  columns = stands.columns ∙ no_columns mark.view last now_ none;
+  entities = stands.entities;
+  pack = stands.pack;
+}
 
+-- one that is not in play stays open
 open_stays : (last now_ : Parts) (c d : ConnectionValue) (s : Session) → s.player ≡ None →
     d.splitter ≡ c.splitter → d.mark ≡ c.mark → IsOpen last c s → IsOpen now_ d s
 open_stays last now_ c d s none splitter mark is = record {
@@ -145,8 +142,8 @@ ticked_bare : (w : World) (last now_ : Parts) (c d : ConnectionValue) (s : Sessi
     IsConnection last c s → IsShown w last now_ (record c { session = bare s }) d →
     IsConnection now_ d (flush w s).session
 ticked_bare w last now_ c d s is shown =
-    let session : d.session ≡ bare (flush w s).session = shown.session ∙
-    session_ticked w last c s is in
+    let session : d.session ≡ bare (flush w s).session =
+    session_ticked w last now_ c d s is shown in
     record {
       session = session;
       is_open = λ open_here.
@@ -165,6 +162,7 @@ ticked_bare w last now_ c d s is shown =
       plays = flush_plays w s is.plays;
     }
 
+-- and of any session
 connection_ticked : (w : World) (last now_ : Parts) (c d : ConnectionValue) (s : Session) →
     IsConnection last c s → IsShown w last now_ c d → IsConnection now_ d (flush w s).session
 connection_ticked w last now_ c d s is shown =
@@ -174,15 +172,16 @@ connection_ticked w last now_ c d s is shown =
 -- ---- all of it
 
 -- the parts of a server are those of the world of the tick
-pub server_scene : (v : ServerValue) (w : World) (settings : Settings) (land : LandValue)
-    (present : Pairs) → Stands v w → settings.terrain ≡ v.terrain → land.terrain ≡
-    settings.terrain → land.edits ≡ v.edits → settings.players ≡ v.most → settings.cap ≡ v.cap →
-    present ≡ from_entries (names_of (sessions_of v.connections)) → IsScene (at_tick w)
-    settings land present
-server_scene v w settings land present st terrain own edits most cap listed = record {
+pub server_scene : (v : ServerValue) (w : World) (parts : scenes.Parts) → Stands v w →
+    parts.settings.terrain ≡ v.terrain → parts.land.terrain ≡ parts.settings.terrain →
+    things_of parts.land parts.folk parts.packs ≡ v.things → parts.settings.players ≡ v.most →
+    parts.settings.cap ≡ v.cap →
+    parts.list.present ≡ from_entries (names_of (sessions_of v.connections)) →
+    IsScene (at_tick w) parts
+server_scene v w parts st terrain own things most cap listed = record {
   terrain = terrain ∙ st.terrain;
   own = own ∙ terrain ∙ st.terrain;
-  edits = edits ∙ st.edits;
+  things = things ∙ st.things;
   most = most ∙ st.most;
   cap = cap ∙ st.cap;
   listed = listed ∙ ap (λ (ss : List Session). from_entries (names_of ss))
@@ -196,6 +195,7 @@ pub same_parts : (a b : Parts) → a.players ≡ b.players → a.terrain ≡ b.t
 same_parts a b players terrain edits =
     λ i. record { players = players i; terrain = terrain i; edits = edits i }
 
+-- all connections were shown these parts
 pub side_parts : (w : World) (before_ before now_ now : Parts) (cs ds : List ConnectionValue) →
     before_ ≡ before → now_ ≡ now → SideBySide (IsShown w before_ now_) cs ds →
     SideBySide (IsShown w before now) cs ds
@@ -203,26 +203,46 @@ side_parts w before_ before now_ now cs ds one other side =
     subst (λ (parts : Parts). SideBySide (IsShown w before parts) cs ds) other
     (subst (λ (parts : Parts). SideBySide (IsShown w parts now_) cs ds) one side)
 
-pub ticked_stands : (v n : ServerValue) (w : World) → Stands v w → n.failed ≡ v.failed →
-    n.age ≡ v.age + 1 → n.terrain ≡ v.terrain → n.edits ≡ v.edits → n.most ≡ v.most →
-    n.cap ≡ v.cap → n.eids ≡ v.eids → n.last ≡ v.last →
-    SideBySide (IsShown (at_tick w) (shown_parts v) (shown_parts n)) v.connections n.connections →
-    Stands n (step w ticked).world
-unfolding step
-ticked_stands v n w st works age terrain edits most cap eids joined side = record {
-  works = works ∙ st.works;
-  age = age ∙ ap (λ (a : ℕ). a + 1) st.age;
-  terrain = terrain ∙ st.terrain;
-  edits = edits ∙ st.edits;
-  most = most ∙ st.most;
-  cap = cap ∙ st.cap;
-  eids = eids ∙ st.eids;
-  last = joined ∙ st.last;
-  connections =
+-- a server after a tick, of whose entities those of the players are gone that left
+module _ (v n : ServerValue) (w : World) (st : Stands v w) (land : LandValue) (state : FolkState)
+    (packs : Packs)
+    (was : things_of land state packs ≡ v.things)
+    (left_ : n.things
+    ≡ things_of land (all_removed state (left_all v.connections n.connections)) packs)
+    (side : SideBySide (IsShown (at_tick w) (shown_parts v) (shown_parts n))
+    v.connections n.connections) where
+  -- its connections stand for those of the world
+  sides_ticked : SideBySide (IsConnection (shown_parts n)) n.connections
+      (map (λ (s : Session). (flush (at_tick w) s).session) w.sessions)
+  sides_ticked =
       side_map (IsConnection (shown_parts v)) (IsShown (at_tick w) (shown_parts v) (shown_parts n))
       (IsConnection (shown_parts n)) (λ (s : Session). (flush (at_tick w) s).session)
       (λ c d s is shown. connection_ticked (at_tick w) (shown_parts v) (shown_parts n)
       c d s is shown)
-      v.connections n.connections w.sessions st.connections side;
-  orderly = orderly_step w ticked st.orderly;
-}
+      v.connections n.connections w.sessions st.connections side
+
+  -- and what is in it for what is in the world
+  things_ticked : n.things ≡ things_after (at_tick w) w.things w.sessions
+  things_ticked =
+      left_
+      ∙ all_left (at_tick w) (shown_parts v) (shown_parts n) land packs v.connections
+      n.connections w.sessions state st.connections sides_ticked
+      ∙ ap (λ (things : Things). things_after (at_tick w) things w.sessions) (was ∙ st.things)
+
+  -- so it stands for the world after the tick
+  pub ticked_stands : n.failed ≡ v.failed → n.age ≡ v.age + 1 → n.terrain ≡ v.terrain →
+      n.most ≡ v.most → n.cap ≡ v.cap → n.last ≡ v.last →
+      Stands n (step w ticked).world
+  unfolding step
+  ticked_stands works age terrain most cap joined = record {
+    works = works ∙ st.works;
+    age = age ∙ ap (λ (a : ℕ). a + 1) st.age;
+    terrain = terrain ∙ st.terrain;
+    things = things_ticked;
+    most = most ∙ st.most;
+    cap = cap ∙ st.cap;
+    last = joined ∙ st.last;
+    connections = sides_ticked;
+    orderly = orderly_step w ticked st.orderly;
+    balanced = balanced_step w ticked st.balanced;
+  }

@@ -1,19 +1,22 @@
 -- What contracts see of a server, of its connections and of their players, and what a server keeps
 -- true of them.
-use Rattle.std.specs.Prelude.{◌≡◌, ◌==◌, ℕ, ◌≤◌, ◌<◌, ◌^◌, Bool, true, false, List, [], map, length}
+use Rattle.std.specs.Prelude.{◌≡◌, ◌⊎◌, ◌==◌, ℕ, ◌≤◌, ◌<◌, ◌^◌, Bool, true, false, List, map, length}
 use Rattle.std.specs.Prelude.{slice_index_or, Option, Some, None, is_some, option_map}
 use Rattle.std.specs.Prelude.{if◌then◌else◌}
-use Rattle.std.specs.List.{filter_map}
+use Rattle.std.specs.List.{AllByRecursion, filter_map}
 use Rattle.std.specs.Option.{IfSome}
-use Rattle.std.specs.FinMap.{FinMap}
+use Rattle.std.specs.FinMap.{FinMap, get}
 use Rattle.std.specs.FinSet as set
 use Rattle.mc_frame.specs.Held.{Splitting, nothing_held}
 use Rattle.mc_land.specs.declared.terrain.Terrain.{Terrain}
-use Rattle.mc_land.specs.Places.{key_cmp, place_cmp}
+use Rattle.mc_land.specs.Places.{Key, key_cmp, place_cmp}
 use Rattle.mc_land.specs.Land.{LandValue}
+use Rattle.mc_entities.specs.declared.entity.Entity.{Entity}
+use Rattle.mc_entities.specs.Folk.{FolkState}
 use Rattle.mc_model.specs.declared.stage.Stage.{Stage}
 use Rattle.mc_model.specs.Orderly.{Rise, next_number}
 use Rattle.mc_model.specs.Step.{new_session}
+use Rattle.mc_model.specs.Things.{Packs, Things}
 use Rattle.mc_model.specs.World.{World, Session, Player, AreSettings, found, is_play, is_closed}
 use Rattle.mc_flush.specs.Lists.{ListValue}
 use Rattle.mc_flush.specs.Seeing.{IsInRange, MarkValue, Parts, nothing_shown}
@@ -29,7 +32,7 @@ player_of p = record {
   uuid = p.uuid;
   eid = p.eid;
   view_byte = p.view_byte;
-  spot = p.spot;
+  hand = p.hand;
   notes = p.notes;
   shown = None;
 }
@@ -39,10 +42,9 @@ abbrev pub mark_of : Option code.Player → MarkValue
 mark_of None = nothing_shown
 mark_of (Some p) = p.mark
 
--- its name is short, its spot in range, and its entity number small
+-- its name is short, and its entity number small
 pub record IsKeptPlayer (p : code.Player) : Type 0 where
   pub short : length p.name ≤ 64
-  pub in_range : IsInRange p.spot
   pub small : p.eid < 2 ^ 31
 
 -- a connection has a player exactly while it is in play
@@ -67,6 +69,12 @@ abbrev pub with_session : ConnectionValue → Session → ConnectionValue
 with_session c s = record c {
   session = s;
   mark = if is_closed s.stage then nothing_shown else c.mark;
+}
+
+-- with its player, if it has one, another
+abbrev pub with_player : ConnectionValue → (Player → Player) → ConnectionValue
+with_player c f = record c {
+  session = record c.session { player = option_map f c.session.player };
 }
 
 abbrev pub sessions_of : List ConnectionValue → List Session
@@ -94,14 +102,13 @@ pub record ServerValue : Type 0 where
   pub failed : Bool
   pub age : ℕ
   pub terrain : Terrain
-  pub edits : FinMap key_cmp ℕ
-  -- those at the last settling
+  pub things : Things
+  -- the edits at the last settling
   pub settled : FinMap key_cmp ℕ
   -- the columns that are ready to be looked at
   pub ready : set.FinSet place_cmp
   pub most : ℕ
   pub cap : ℕ
-  pub eids : ℕ
   pub last : Option ℕ
   pub connections : List ConnectionValue
   pub list : ListValue
@@ -111,10 +118,9 @@ abbrev pub kept_world : ServerValue → World
 kept_world v = record {
   age = v.age;
   terrain = v.terrain;
-  edits = v.edits;
+  things = v.things;
   most = v.most;
   cap = v.cap;
-  eids = v.eids;
   last = v.last;
   sessions = sessions_of v.connections;
 }
@@ -137,12 +143,31 @@ abbrev pub plays_as : ℕ → Option Player → Bool
 plays_as uuid None = false
 plays_as uuid (Some p) = p.uuid == uuid
 
+-- what is in the world, of the parts in which a server keeps it
+abbrev pub things_of : LandValue → FolkState → Packs → Things
+things_of land folk packs = record {
+  edits = land.edits;
+  entities = folk.entities;
+  eids = folk.given;
+  packs = packs;
+}
+
+-- each entity stands where a column can be shown
+abbrev pub AreInRange : List Entity → Type 0
+AreInRange entities = AllByRecursion (λ (e : Entity). IsInRange e.spot) entities
+
+-- each edit is air, or the state of a block with an id
+abbrev pub AreStates : FinMap key_cmp ℕ → Type 0
+AreStates edits = (key : Key) (state : ℕ) → get edits key ≡ Some state →
+    ((state ≡ 0) ⊎ (16 ≤ state)) × (state < 4096)
+
 -- what is true of the parts of every server
-pub record AreKept (land : LandValue) (with_ : Settings) (given : ℕ) (last : Option ℕ)
+pub record AreKept (land : LandValue) (folk : FolkState) (with_ : Settings) (last : Option ℕ)
     (ids : List ℕ) (sessions : List Session) : Type 0 where
   pub own : land.terrain ≡ with_.terrain
   pub settings : AreSettings with_.players with_.cap
-  pub eids : given ≤ 2147483647
+  pub in_range : AreInRange folk.entities
+  pub states : AreStates land.edits
   pub rise : Rise 0 sessions (next_number last)
   pub named : map (λ (s : Session). s.id) sessions ≡ ids
   pub few : length (playing_of sessions) ≤ with_.players

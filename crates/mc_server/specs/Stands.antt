@@ -5,6 +5,7 @@ use Rattle.mc_model.specs.Sight.{Sight, nothing_seen}
 use Rattle.mc_model.specs.World.{World, Session, Player, found, is_play, is_closed}
 use Rattle.mc_model.specs.Run.{owed_of}
 use Rattle.mc_model.specs.Orderly.{Orderly}
+use Rattle.mc_model.specs.Balance.{Balanced}
 use Rattle.mc_flush.specs.Seeing.{Parts, StandsFor, is_shown}
 use Rattle.mc_server.specs.Bare.{bare}
 use Rattle.mc_server.specs.Served.{ConnectionValue, ServerValue, sessions_of, shown_parts}
@@ -35,14 +36,15 @@ pub record Stands (server : ServerValue) (w : World) : Type 0 where
   pub works : server.failed ≡ false
   pub age : server.age ≡ w.age
   pub terrain : server.terrain ≡ w.terrain
-  pub edits : server.edits ≡ w.edits
+  pub things : server.things ≡ w.things
   pub most : server.most ≡ w.most
   pub cap : server.cap ≡ w.cap
-  pub eids : server.eids ≡ w.eids
   pub last : server.last ≡ w.last
   pub connections : SideBySide (IsConnection (shown_parts server)) server.connections w.sessions
   -- numbers stand once, and none is above the last that joined
   pub orderly : Orderly w
+  -- no item was lost or made but by kits, digging and placing
+  pub balanced : Balanced w
 
 -- a server that ran out of memory
 abbrev pub HasFailed : ServerValue → Type 0

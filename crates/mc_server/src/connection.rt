@@ -1,10 +1,11 @@
 ghost use Rattle.std.specs.Prelude.{◌≡◌, ◌≢◌, ◌↔◌, ◌<◌, [], true, false, List, Some, None};
-ghost use Rattle.std.specs.Prelude.{IfOk, OnOk, drop, is_some, length, option_map, take};
+ghost use Rattle.std.specs.Prelude.{◌^◌, IfOk, OnOk, drop, is_some, length, option_map, take};
 ghost use Rattle.std.specs.Option.{IfSome, option_copied};
 ghost use Rattle.mc_frame.specs.Cut.{IsPart};
 ghost use Rattle.mc_frame.specs.Kept.{joined};
 ghost use Rattle.mc_frame.specs.Splitting.{Feeds, Takes};
 ghost use Rattle.mc_model.specs.declared.cause.Cause.TheVariants as causes;
+ghost use Rattle.mc_model.specs.World as spec;
 ghost use Rattle.mc_model.specs.World.{is_closed};
 ghost use Rattle.mc_model.specs.Names.{offline_uuid};
 ghost use Rattle.mc_model.specs.Packets.{Sent, bytes_of};
@@ -64,12 +65,13 @@ impl Model for Connection {
     ghost use Rattle.std.specs.Prelude.{[], option_map};
     ghost use Rattle.std.specs.Coded.{codes};
     ghost use Rattle.mc_model.specs.Stored.{coded_sight};
+    ghost use Rattle.mc_view.specs.ToldCode.{coded_told};
     ghost use Rattle.mc_server.specs.Handling.{stage_of};
     ghost use Rattle.mc_server.specs.Served.{ConnectionValue, HasPlayer, mark_of, player_of};
 
     ghost Value = { ConnectionValue };
 
-    ghost coded = { Prim.hlevel (codes, coded_sight) };
+    ghost coded = { Prim.hlevel (codes, coded_sight, coded_told) };
 
     ghost view = { λ c. record {
       session = record {
@@ -127,6 +129,17 @@ impl Connection {
         ensures { result ≡ is_some self.now.session.player }
     {
         self.player.is_some()
+    }
+
+    /// The number of its player's entity, if it is in play.
+    pub fn eid(&self) -> Option<u32>
+        ensures is { result ≡ option_map (λ (p : spec.Player). p.eid) self.now.session.player }
+        ensures small { IfSome result (λ eid. eid < 2 ^ 31) }
+    {
+        match &self.player {
+            Some(player) => Some(player.eid),
+            None => None,
+        }
     }
 
     /// Whether its player has an identifier.
@@ -340,6 +353,7 @@ impl Connection {
         requires { self.old.session.stage ≡ Stage.Asked }
         ensures ok { OnOk result (self.new ≡ with_session self.old (disconnect
             self.old.session (causes.Refused why) (refused why)).session) }
+        ensures waited { self.old.session.player ≡ None }
         ensures same { self.new.session.id ≡ self.old.session.id }
     {
         let bytes = self.session.refuse(self.alloc, why)?;
@@ -353,6 +367,7 @@ impl Connection {
             self.old.session (causes.Refused why) (refused why)).session) }
         ensures closed { is_closed self.new.session.stage ≡ true }
         ensures gone { self.new.session.player ≡ None }
+        ensures waited { self.old.session.player ≡ None }
         ensures same { self.new.session.id ≡ self.old.session.id }
     {
         let done = self.try_refuse(why);

@@ -1,11 +1,14 @@
-ghost use Rattle.std.specs.Prelude.{◌≡◌, ◌++◌, ◌∷◌, ◌≤◌, [], IfOk, OnErr, OnOk, length};
-ghost use Rattle.std.specs.List.{filter};
+ghost use Rattle.std.specs.Prelude.{◌≡◌, ◌++◌, ◌∷◌, ◌≤◌, [], IfOk, OnErr, OnOk, length, option_map};
+ghost use Rattle.std.specs.List.{cons_option, filter};
 ghost use Rattle.mc_model.specs.Step.{is_kept};
 ghost use Rattle.mc_server.specs.Asking.{is_ours};
-ghost use Rattle.mc_server.specs.ReadyColumns.{views_of};
-ghost use Rattle.mc_server.specs.Served.{ConnectionValue, playing_of, sessions_of};
+ghost use Rattle.mc_server.specs.ReadyColumns.{view_of_player, views_of};
+ghost use Rattle.mc_server.specs.Served.{AreInRange, ConnectionValue, playing_of, sessions_of};
 
+use crate::Settings;
 use crate::connection::Connection;
+use crate::spots::{spot_of, view_around};
+use mc_entities::Folk;
 use mc_nbt::NoMemory;
 use std::alloc::Global;
 
@@ -43,13 +46,38 @@ pub fn playing(connections: &Vec<Connection>) -> u32
 /// The views of those in play, where views have at most this size.
 pub fn views_of(
     alloc: Global,
-    cap: u8,
+    settings: &Settings,
+    folk: &Folk,
     connections: &Vec<Connection>,
 ) -> Result<Vec<(i32, i32, u8)>, NoMemory>
-    ensures { IfOk result (λ views. views.items ≡ views_of cap connections.now.items) }
+    requires { AreInRange folk.now.state.entities }
+    ensures { IfOk result (λ views. views.items ≡ views_of settings.now.cap settings.now.terrain
+        folk.now.state.entities connections.now.items) }
 {
-    let views = connections.iter().filter_map(|c| c.view(cap));
-    Ok(views.collect(alloc)?)
+    let mut views = Vec::new(alloc);
+    for connection in connections.iter() {
+        push_view(settings, folk, connection, &mut views)?;
+    }
+    Ok(views)
+}
+
+/// Appends the view of a connection's player, if it is in play.
+fn push_view(
+    settings: &Settings,
+    folk: &Folk,
+    connection: &Connection,
+    views: &mut Vec<(i32, i32, u8)>,
+) -> Result<(), NoMemory>
+    requires { AreInRange folk.now.state.entities }
+    ensures { OnOk result (views.new.items ≡ views.old.items ++ cons_option
+        (option_map (view_of_player settings.now.cap settings.now.terrain folk.now.state.entities)
+        connection.now.session.player) []) }
+{
+    if let Some(player) = connection.player() {
+        let spot = spot_of(folk, &settings.terrain, player.eid);
+        views.push(view_around(settings.cap, player.view_byte, &spot))?;
+    }
+    Ok(())
 }
 
 /// Puts a connection and its number behind the others. Without memory they are as before.

@@ -9,12 +9,15 @@ mod connection;
 mod connections;
 mod input;
 mod opening;
+mod packs;
 mod player;
+mod reach;
 mod roster;
 mod scene;
 mod server;
 mod service;
 mod settings;
+mod spots;
 
 pub use input::Input;
 pub use server::Server;

@@ -1,33 +1,37 @@
-ghost use Rattle.std.specs.Prelude.{◌≡◌, ◌≤◌, ◌<◌, ◌^◌, ◌++◌, true, IfOk, OnOk};
-ghost use Rattle.std.specs.List.{AllByRecursion};
+ghost use Rattle.std.specs.Prelude.{◌≡◌, ◌≤◌, ◌<◌, ◌^◌, ◌++◌, [], Some, true, IfOk, OnOk};
+ghost use Rattle.std.specs.Prelude.{if◌then◌else◌};
 ghost use Rattle.std.specs.FinMap as finmap;
+ghost use lib.IntN.{pos};
+ghost use Rattle.std.specs.List.{AllByRecursion};
 ghost use Rattle.mc_frame.specs.Kept.{joined};
 ghost use Rattle.mc_land.specs.Places.{IsPlace};
 ghost use Rattle.mc_view.specs.Views.{column_of_spot, view_size};
 ghost use Rattle.mc_model.specs.Sight.{Sight};
 ghost use Rattle.mc_model.specs.Delta.{delta};
 ghost use Rattle.mc_model.specs.Notes.{no_notes};
-ghost use Rattle.mc_model.specs.Step.{new_player};
+ghost use Rattle.mc_model.specs.Step.{new_player, opening_of};
 ghost use Rattle.mc_model.specs.World.{AreSettings};
 ghost use Rattle.mc_flush.specs.Encoding.{AreFrames};
-ghost use Rattle.mc_flush.specs.Sending.{notes_due_of, play_bytes};
+ghost use Rattle.mc_flush.specs.Sending.{play_bytes};
 ghost use Rattle.mc_flush.specs.Seeing.{StandsFor, IsInRange, IsNamed, IsReady, is_shown, loaded};
-ghost use Rattle.mc_flush.specs.Seeing.{nothing_shown, present_parts, seen, settled_parts};
-ghost use Rattle.mc_server.specs.ReadyColumns.{view_around};
-ghost use Rattle.mc_server.specs.Served.{IsKeptPlayer, player_of};
-ghost use Rattle.mc_server.specs.Ticking.{due_packets, new_columns, opening_packets, shown_now};
+ghost use Rattle.mc_flush.specs.Seeing.{noted_of, nothing_shown, present_parts, seen};
+ghost use Rattle.mc_flush.specs.Seeing.{settled_parts};
+ghost use Rattle.mc_server.specs.Served.{AreInRange, IsKeptPlayer, player_of};
+ghost use Rattle.mc_server.specs.Ticking.{due_packets, new_columns, new_from};
+ghost use Rattle.mc_server.specs.Ticking.{shown_now};
+ghost use Rattle.mc_server.specs.Scenes.{parts_of};
 
-use crate::Settings;
 use crate::opening::opening;
 use crate::scene::Scene;
+use crate::spots::{pack_of, spot_of, view_around};
 use bytes::Bytes;
 use mc_fields::Spot;
 use mc_flush::{ClientView, Mark, flush};
-use mc_land::{Steps, Terrain};
-use mc_model::{Name, Notes, spawn_spot};
+use mc_land::Steps;
+use mc_model::{Name, Notes};
 use mc_nbt::{NoMemory, Text};
 use mc_session::offline_uuid;
-use mc_view::{Columns, ViewSet, column_of_spot, view_size};
+use mc_view::{Columns, ViewSet};
 use std::alloc::Global;
 use std::marker::Brand;
 use std::sync::ledger::{Blank, Ledger};
@@ -43,20 +47,19 @@ pub struct Player {
     pub eid: u32,
     /// The size of view that it asked for, as the packet has it.
     pub view_byte: i8,
-    /// Where it is and looks.
-    pub spot: Spot,
+    /// The place of the hotbar that its hand is on.
+    pub hand: u8,
     /// What its client is to be sent at the next tick, whatever the difference says.
     pub notes: Notes,
-    /// What its client was shown at the last tick.
+    /// What its client was told.
     pub mark: Mark,
 }
 
 impl Player {
-    /// A player that enters where players enter, with an entity number.
-    pub fn entering(terrain: &Terrain, eid: u32, name: &Name) -> Result<Player, NoMemory>
+    /// A player that enters, with an entity number.
+    pub fn entering(alloc: Global, eid: u32, name: &Name) -> Result<Player, NoMemory>
         requires { eid < 2 ^ 31 }
-        ensures is { IfOk result (λ player.
-            player_of player ≡ new_player terrain.now eid name.now) }
+        ensures is { IfOk result (λ player. player_of player ≡ new_player eid name.now) }
         ensures unseen { IfOk result (λ player. player.mark ≡ nothing_shown) }
         ensures kept { IfOk result IsKeptPlayer }
     {
@@ -65,77 +68,70 @@ impl Player {
             uuid: offline_uuid(name),
             eid,
             view_byte: 2,
-            spot: spawn_spot(terrain),
-            notes: Notes::new(),
-            mark: Mark::new(),
+            hand: 0,
+            notes: Notes::new(alloc),
+            mark: Mark::new(alloc),
         })
-    }
-
-    /// Puts it where it says to be.
-    pub fn stand(&mut self, spot: Spot)
-        ensures { self.new ≡ record self.old { spot = spot } }
-    {
-        self.spot = spot;
-    }
-
-    /// Puts it where it did not ask to be, of which its client is told at the next tick.
-    pub fn send_to(&mut self, spot: Spot)
-        ensures { self.new ≡ record self.old {
-          spot = spot;
-          notes = record self.old.notes { placing = true };
-        } }
-    {
-        self.spot = spot;
-        self.notes.place();
     }
 
     // ---- a tick
 
-    /// Its view: the numbers of the middle column, and how many columns it reaches on each axis.
-    pub fn view_around(&self, cap: u8) -> (i32, i32, u8)
-        ensures { result ≡ view_around cap (player_of self.now) }
-    {
-        let (cx, cz) = column_of_spot(&self.spot);
-        (cx, cz, view_size(cap, self.view_byte))
-    }
-
-    /// The columns that its client is to be shown.
-    fn view(&self, cap: u8) -> ViewSet
+    /// The columns that its client is to be shown, from where it is.
+    fn view(&self, cap: u8, spot: &Spot) -> ViewSet
         requires cap { cap ≤ 8 }
-        requires in_range { IsInRange self.now.spot }
-        ensures middle { (result.cx, result.cz) ≡ column_of_spot self.now.spot }
+        requires in_range { IsInRange spot.now }
+        ensures middle { (result.cx, result.cz) ≡ column_of_spot spot.now }
         ensures d { result.d ≡ view_size cap self.now.view_byte }
     {
-        let (cx, cz, d) = self.view_around(cap);
+        let (cx, cz, d) = view_around(cap, self.view_byte, spot);
         ViewSet::of(cx, cz, d)
     }
 
     /// Those of them that its client was not shown.
-    pub fn new_columns(&self, cap: u8) -> Columns
+    pub fn new_columns(&self, cap: u8, spot: &Spot) -> Columns
         requires cap { cap ≤ 8 }
-        requires in_range { IsInRange self.now.spot }
-        ensures are { result ≡ new_columns cap (player_of self.now) self.now.mark }
+        requires in_range { IsInRange spot.now }
+        ensures are { result ≡ new_from cap self.now.view_byte spot.now self.now.mark }
         ensures near { AllByRecursion IsPlace result }
     {
-        self.mark.entered(&self.view(cap))
+        self.mark.entered(&self.view(cap, spot))
+    }
+
+    /// Those of them that it was shown: whether a column is one.
+    pub fn was_shown(&self, place: &(i32, i32)) -> bool {
+        match self.mark.view() {
+            Some(view) => view.has(place.0, place.1),
+            None => false,
+        }
+    }
+
+    /// All of them.
+    pub fn all_columns(&self, cap: u8, spot: &Spot) -> Columns
+        requires cap { cap ≤ 8 }
+        requires in_range { IsInRange spot.now }
+        ensures near { AllByRecursion IsPlace result }
+    {
+        self.view(cap, spot).all()
     }
 
     /// Appends the opening, unless its client was shown something.
     fn push_opening(
         &self,
         alloc: Global,
-        settings: &Settings,
+        scene: &Scene<'_>,
+        spot: &Spot,
         out: &mut Vec<Bytes>,
     ) -> Result<(), NoMemory>
-        requires few { settings.now.players ≤ 50 }
+        requires few { scene.now.settings.now.players ≤ 50 }
         requires eid { self.now.eid < 2 ^ 31 }
         ensures { OnOk result (joined out.new.items ≡ joined out.old.items ++ play_bytes
-            (opening_packets settings.now (is_shown self.now.mark) (player_of self.now))) }
+            (if is_shown self.now.mark then [] else opening_of scene.now.settings.now.terrain
+            scene.now.settings.now.players (pos self.now.eid) spot.now)) }
     {
         if self.mark.view().is_some() {
             return Ok(());
         }
-        out.push(opening(alloc, settings, self.eid, &self.spot)?)?;
+        out.push(opening(alloc, scene.settings, self.eid, spot)?)?;
         Ok(())
     }
 
@@ -149,32 +145,34 @@ impl Player {
     ) -> Result<(), NoMemory>
         requires settings { AreSettings scene.now.settings.now.players scene.now.settings.now.cap }
         requires eid { self.old.eid < 2 ^ 31 }
-        requires in_range { IsInRange self.old.spot }
+        requires in_range { AreInRange scene.now.folk.now.state.entities }
         requires ready { AllByRecursion (IsReady scene.now.land.now)
-            (new_columns scene.now.settings.now.cap (player_of self.old) self.old.mark) }
+            (new_columns (parts_of scene.now) (player_of self.old) self.old.mark) }
         requires frames { AreFrames scene.now.land.now scene.now.list.now scene.now.encoded.now }
         ensures sent { (p : Sight) →
             StandsFor self.old.mark (settled_parts scene.now.land.now scene.now.list.now) p →
             OnOk result (joined out.new.items ≡ joined out.old.items ++ play_bytes
-            (due_packets scene.now.settings.now scene.now.land.now scene.now.list.now.present
-            (is_shown self.old.mark) p (player_of self.old))) }
+            (due_packets (parts_of scene.now) (is_shown self.old.mark) p (player_of self.old))) }
         ensures shows { OnOk result
             (StandsFor self.new.mark (present_parts scene.now.land.now scene.now.list.now)
-            (shown_now scene.now.settings.now scene.now.land.now scene.now.list.now.present
-            (player_of self.old))) }
+            (shown_now (parts_of scene.now) (player_of self.old))) }
         ensures opened { OnOk result (is_shown self.new.mark ≡ true) }
         ensures calm { OnOk result (self.new.notes ≡ no_notes) }
         ensures rest { self.new
             ≡ record self.old { notes = self.new.notes; mark = self.new.mark } }
     {
-        self.push_opening(alloc, scene.settings, out)?;
+        let spot = spot_of(scene.folk, &scene.settings.terrain, self.eid);
+        self.push_opening(alloc, scene, &spot, out)?;
+        let pack = pack_of(scene.packs, &self.name);
         let view = ClientView {
             land: scene.land,
+            folk: scene.folk,
+            pack: &pack,
             list: scene.list.list(),
             encoded: scene.encoded,
             me: self.eid as i32,
-            view: self.view(scene.settings.cap),
-            place: self.spot,
+            view: self.view(scene.settings.cap, &spot),
+            place: spot,
         };
         push_changes::<Brand>(
             alloc,
@@ -184,7 +182,7 @@ impl Player {
             out,
             Blank::new(1),
         )?;
-        self.notes = Notes::new();
+        self.notes.clear();
         Ok(())
     }
 }
@@ -209,11 +207,14 @@ fn push_changes<L: Ledger>(
     ensures sent { (p : Sight) →
         StandsFor mark.old (settled_parts view.now.land.now view.now.list.now) p →
         OnOk result (joined out.new.items ≡ joined out.old.items ++ play_bytes
-        (delta p (seen view.now.land.now view.now.list.now view.now.view)
-        ++ notes_due_of notes.now view.now.place)) }
+        (delta p (seen view.now.land.now view.now.list.now view.now.folk.now.state.entities
+        view.now.pack.now view.now.view) ++ noted_of view.now.land.now view.now.view notes.now
+        view.now.place view.now.pack.now)) }
     ensures stands { OnOk result
         (StandsFor mark.new (present_parts view.now.land.now view.now.list.now)
-        (seen view.now.land.now view.now.list.now view.now.view)) }
+        (seen view.now.land.now view.now.list.now view.now.folk.now.state.entities
+        view.now.pack.now view.now.view)) }
+    ensures opened { OnOk result (mark.new.view ≡ Some view.now.view) }
 {
     let mut steps = Steps::<L>::new(blank);
     flush(alloc, view, mark, notes, out, &mut steps)

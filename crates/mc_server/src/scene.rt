@@ -1,20 +1,27 @@
-ghost use Rattle.std.specs.Prelude.{◌≡◌, ◌≤◌, ◌<◌, true, IfOk, OnOk, is_some, length, map};
+ghost use Rattle.std.specs.Prelude.{◌≡◌, ◌≤◌, ◌<◌, ◌++◌, true, IfOk, OnOk, is_some, length, map};
+ghost use Rattle.std.specs.Prelude.{option_map};
+ghost use lib.IntN.{pos};
 ghost use Rattle.std.specs.List.{AllByRecursion};
-ghost use Rattle.mc_land.specs.Land.{LandValue};
 ghost use Rattle.mc_land.specs.Places.{IsPlace, Place};
-ghost use Rattle.mc_flush.specs.Encoding.{AreFrames, EncodedValue};
+ghost use Rattle.mc_flush.specs.Encoding.{AreFrames};
 ghost use Rattle.mc_flush.specs.Lists.{ListValue};
 ghost use Rattle.mc_flush.specs.Readying.{SameWorld};
 ghost use Rattle.mc_flush.specs.Seeing.{IsReady, present_parts, settled_parts};
 ghost use Rattle.mc_model.specs.World.{World, AreSettings};
 ghost use Rattle.mc_model.specs.World as spec;
-ghost use Rattle.mc_server.specs.Served.{playing_of, sessions_of};
+ghost use Rattle.mc_server.specs.Served.{AreInRange, playing_of, sessions_of};
+ghost use Rattle.mc_server.specs.Scenes.{parts_of};
 ghost use Rattle.mc_server.specs.SideBySide.{SideBySide};
-ghost use Rattle.mc_server.specs.Ticking.{IsPrepared, IsScene, IsShown};
+ghost use Rattle.mc_server.specs.Ticking.{IsPrepared, IsScene, IsShown, AreReady, left_all};
+ghost use Rattle.mc_server.specs.Ticking.{left_one};
 
 use crate::Settings;
 use crate::connection::Connection;
+use crate::packs::Packs;
+use crate::player::Player;
 use crate::roster::Roster;
+use crate::spots::spot_of;
+use mc_entities::Folk;
 use mc_flush::Encoded;
 use mc_land::{Land, Steps};
 use mc_nbt::NoMemory;
@@ -30,6 +37,10 @@ pub struct Scene<'w> {
     pub settings: &'w Settings,
     /// The cells. The columns that a client is to be shown and was not are ready.
     pub land: &'w Land,
+    /// The entities.
+    pub folk: &'w Folk,
+    /// What players carry.
+    pub packs: &'w Packs,
     /// The players.
     pub list: &'w Roster,
     /// The frames that more than one client may be sent.
@@ -88,18 +99,59 @@ fn prepare_columns<L: Ledger>(
     Ok(())
 }
 
+/// Encodes the changed cells of a column, if a player's client was shown it before.
+fn prepare_change<L: Ledger>(
+    alloc: Global,
+    land: &Land,
+    encoded: &mut Encoded,
+    player: &Player,
+    place: &(i32, i32),
+    steps: &mut Steps<L>,
+) -> Result<(), NoMemory>
+    requires { IsPlace place.now }
+    ensures frames { (list : ListValue) → AreFrames land.now list encoded.old
+        → AreFrames land.now list encoded.new }
+{
+    if player.was_shown(place) {
+        encoded.add_changes(alloc, land, place, steps)?;
+    }
+    Ok(())
+}
+
+/// Encodes the changed cells of those of some columns that a player's client was shown before.
+fn prepare_changes<L: Ledger>(
+    alloc: Global,
+    land: &Land,
+    encoded: &mut Encoded,
+    player: &Player,
+    columns: Columns,
+    steps: &mut Steps<L>,
+) -> Result<(), NoMemory>
+    requires { AllByRecursion IsPlace columns }
+    ensures frames { (list : ListValue) → AreFrames land.now list encoded.old
+        → AreFrames land.now list encoded.new }
+{
+    for place in columns {
+        prepare_change(alloc, land, encoded, player, &place, steps)?;
+    }
+    Ok(())
+}
+
 /// Makes the columns ready that a client in play is to be shown and was not, and encodes their
-/// loads.
+/// loads and the changed cells of the others.
 fn prepare_client<L: Ledger>(
     alloc: Global,
     settings: &Settings,
+    folk: &Folk,
     land: &mut Land,
     encoded: &mut Encoded,
     connection: &Connection,
     steps: &mut Steps<L>,
 ) -> Result<(), NoMemory>
-    requires { AreSettings settings.now.players settings.now.cap }
-    ensures ready { OnOk result (IsPrepared settings.now.cap land.new connection.now) }
+    requires settings { AreSettings settings.now.players settings.now.cap }
+    requires in_range { AreInRange folk.now.state.entities }
+    ensures ready { OnOk result
+        (AreReady settings.now folk.now.state.entities land.new connection.now) }
     ensures grown { (other : Place) → IsReady land.old other → IsReady land.new other }
     ensures frames { (list : ListValue) → AreFrames land.old list encoded.old
         → AreFrames land.new list encoded.new }
@@ -108,15 +160,20 @@ fn prepare_client<L: Ledger>(
     let Some(player) = connection.player() else {
         return Ok(());
     };
-    let columns = player.new_columns(settings.cap);
+    let spot = spot_of(folk, &settings.terrain, player.eid);
+    let columns = player.new_columns(settings.cap, &spot);
     prepare_columns(alloc, land, encoded, columns, steps)?;
+    let all = player.all_columns(settings.cap, &spot);
+    prepare_changes(alloc, land, encoded, player, all, steps)?;
     Ok(())
 }
 
-/// Makes the columns ready that clients are to be shown and were not, and encodes their loads.
+/// Makes the columns ready that clients are to be shown and were not, and encodes what clients are
+/// sent of columns.
 fn prepare_clients<L: Ledger>(
     alloc: Global,
     settings: &Settings,
+    folk: &Folk,
     land: &mut Land,
     encoded: &mut Encoded,
     connections: &Vec<Connection>,
@@ -126,8 +183,9 @@ fn prepare_clients<L: Ledger>(
     requires parts { blank.parts ≡ L.parts }
     requires some { 0 < blank.parts }
     requires settings { AreSettings settings.now.players settings.now.cap }
-    ensures ready { OnOk result
-        (AllByRecursion (IsPrepared settings.now.cap land.new) connections.now.items) }
+    requires in_range { AreInRange folk.now.state.entities }
+    ensures ready { OnOk result (AllByRecursion
+        (AreReady settings.now folk.now.state.entities land.new) connections.now.items) }
     ensures grown { (other : Place) → IsReady land.old other → IsReady land.new other }
     ensures frames { (list : ListValue) → AreFrames land.old list encoded.old
         → AreFrames land.new list encoded.new }
@@ -135,7 +193,15 @@ fn prepare_clients<L: Ledger>(
 {
     let mut steps = Steps::<L>::new(blank);
     for i in 0..connections.len() {
-        prepare_client(alloc, settings, land, encoded, &connections[i], &mut steps)?;
+        prepare_client(
+            alloc,
+            settings,
+            folk,
+            land,
+            encoded,
+            &connections[i],
+            &mut steps,
+        )?;
     }
     Ok(())
 }
@@ -145,13 +211,15 @@ fn prepare_clients<L: Ledger>(
 pub fn prepare(
     alloc: Global,
     settings: &Settings,
+    folk: &Folk,
     land: &mut Land,
     list: &Roster,
     connections: &Vec<Connection>,
 ) -> Result<Encoded, NoMemory>
-    requires { AreSettings settings.now.players settings.now.cap }
-    ensures ready { OnOk result
-        (AllByRecursion (IsPrepared settings.now.cap land.new) connections.now.items) }
+    requires settings { AreSettings settings.now.players settings.now.cap }
+    requires in_range { AreInRange folk.now.state.entities }
+    ensures ready { OnOk result (AllByRecursion
+        (AreReady settings.now folk.now.state.entities land.new) connections.now.items) }
     ensures grown { (other : Place) → IsReady land.old other → IsReady land.new other }
     ensures frames { IfOk result (AreFrames land.new list.now) }
     ensures same { SameWorld land.old land.new }
@@ -161,6 +229,7 @@ pub fn prepare(
     prepare_clients::<Brand>(
         alloc,
         settings,
+        folk,
         land,
         &mut encoded,
         connections,
@@ -169,43 +238,73 @@ pub fn prepare(
     Ok(encoded)
 }
 
+/// The number of the entity of a connection's player, if it is in play.
+fn eid_of(connection: &Connection) -> Option<i32>
+    ensures { result ≡ option_map (λ (p : spec.Player). pos p.eid) connection.now.session.player }
+{
+    match connection.player() {
+        Some(player) => Some(player.eid as i32),
+        None => None,
+    }
+}
+
 impl Scene<'_> {
-    /// Shows a client its part, if it is in play.
-    fn show_client(&self, alloc: Global, connection: &mut Connection) -> Result<(), NoMemory>
+    /// Shows a client its part, if it is in play, and notes the number of its player where that
+    /// leaves.
+    fn show_client(
+        &self,
+        alloc: Global,
+        connection: &mut Connection,
+        left: &mut Vec<i32>,
+    ) -> Result<(), NoMemory>
         requires settings { AreSettings self.now.settings.now.players self.now.settings.now.cap }
-        requires ready { IsPrepared self.now.settings.now.cap self.now.land.now connection.old }
+        requires in_range { AreInRange self.now.folk.now.state.entities }
+        requires ready { IsPrepared (parts_of self.now) connection.old }
         requires frames { AreFrames self.now.land.now self.now.list.now self.now.encoded.now }
-        ensures shown { (w : World) →
-            IsScene w self.now.settings.now self.now.land.now self.now.list.now.present →
+        ensures shown { (w : World) → IsScene w (parts_of self.now) →
             OnOk result (IsShown w (settled_parts self.now.land.now self.now.list.now)
             (present_parts self.now.land.now self.now.list.now) connection.old connection.new) }
+        ensures left { OnOk result (left.new.items ≡ left.old.items
+            ++ left_one connection.old.session.player connection.new.session.player) }
         ensures same { connection.new.session.id ≡ connection.old.session.id }
         ensures stays { is_some connection.new.session.player ≡ true
             → is_some connection.old.session.player ≡ true }
     {
+        let eid = eid_of(connection);
         connection.show(alloc, self)?;
+        if let Some(eid) = eid
+            && !connection.is_play()
+        {
+            left.push(eid)?;
+        }
         Ok(())
     }
 
-    /// Shows each client that is in play its part.
-    pub fn show_all(&self, alloc: Global, connections: &mut Vec<Connection>) -> Result<(), NoMemory>
+    /// Shows each client that is in play its part: the numbers of the players that leave.
+    pub fn show_all(
+        &self,
+        alloc: Global,
+        connections: &mut Vec<Connection>,
+    ) -> Result<Vec<i32>, NoMemory>
         requires settings { AreSettings self.now.settings.now.players self.now.settings.now.cap }
-        requires ready { AllByRecursion (IsPrepared self.now.settings.now.cap self.now.land.now)
-            connections.old.items }
+        requires in_range { AreInRange self.now.folk.now.state.entities }
+        requires ready { AllByRecursion (IsPrepared (parts_of self.now)) connections.old.items }
         requires frames { AreFrames self.now.land.now self.now.list.now self.now.encoded.now }
-        ensures shown { (w : World) →
-            IsScene w self.now.settings.now self.now.land.now self.now.list.now.present →
+        ensures shown { (w : World) → IsScene w (parts_of self.now) →
             OnOk result (SideBySide (IsShown w (settled_parts self.now.land.now self.now.list.now)
             (present_parts self.now.land.now self.now.list.now))
             connections.old.items connections.new.items) }
+        ensures left { IfOk result (λ left. left.items
+            ≡ left_all connections.old.items connections.new.items) }
         ensures named { map (λ (s : spec.Session). s.id) (sessions_of connections.new.items)
             ≡ map (λ (s : spec.Session). s.id) (sessions_of connections.old.items) }
         ensures fewer { length (playing_of (sessions_of connections.new.items))
             ≤ length (playing_of (sessions_of connections.old.items)) }
     {
+        let mut left = Vec::new(alloc);
         for i in 0..connections.len() {
-            self.show_client(alloc, &mut connections[i])?;
+            self.show_client(alloc, &mut connections[i], &mut left)?;
         }
-        Ok(())
+        Ok(left)
     }
 }

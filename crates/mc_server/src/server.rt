@@ -1,18 +1,20 @@
-ghost use Rattle.std.specs.Prelude.{◌≡◌, ◌↔◌, ◌++◌, ◌+◌, ◌<◌, ◌≤◌, ℕ, List, [], true, Err};
+ghost use Rattle.std.specs.Prelude.{◌≡◌, ◌↔◌, ◌++◌, ◌+◌, ◌<◌, ◌≤◌, ◌^◌, ℕ, List, [], true, Err};
 ghost use Rattle.std.specs.Prelude.{None, Some, IfOk, IfSome, OnErr, OnOk, length, map};
 ghost use Rattle.std.specs.Prelude.{option_map, slice_index_or, take};
 ghost use Rattle.std.specs.Option.{option_copied};
 ghost use Rattle.mc_frame.specs.Cut.{IsPart, kept_count};
 ghost use Rattle.mc_frame.specs.Splitting.{Feeds, Takes};
 ghost use Rattle.mc_model.specs.World as spec;
-ghost use Rattle.mc_model.specs.World.{AreSettings, World, found, is_closed, new_world, put};
+ghost use Rattle.mc_model.specs.World.{AreSettings, World, found, is_closed, new_world};
+ghost use Rattle.mc_model.specs.Balance.{Balanced};
 ghost use Rattle.mc_model.specs.Orderly.{Rise, next_number};
 ghost use Rattle.mc_model.specs.Run.{cause_in, owed_in};
-ghost use Rattle.mc_model.specs.Step.{came, changed, disconnect, forgot, gone, is_crowded, is_new};
+ghost use Rattle.mc_model.specs.Step.{came, depart, disconnect, forgot, is_crowded, is_new};
 ghost use Rattle.mc_model.specs.Step.{joined, joining, on_frame, step, took};
 ghost use Rattle.mc_model.specs.Talk.{farewell};
 ghost use Rattle.mc_server.specs.Asking.{is_done_in, ours_there};
 ghost use Rattle.mc_server.specs.Frames.{AreDone, Becomes, HasRead, IsReading, Splits};
+ghost use Rattle.mc_server.specs.Leaving.{left_with, put_after};
 ghost use Rattle.mc_server.specs.Inputs.{age_after, event_of};
 ghost use Rattle.mc_server.specs.Handling.{after_request, pending_of, request_in};
 ghost use Rattle.mc_server.specs.ReadyColumns.{ShedsAt};
@@ -21,15 +23,21 @@ ghost use Rattle.mc_server.specs.Served.{new_connection, nth_session, sessions_o
 ghost use Rattle.mc_server.specs.Stands.{HasFailed, Stands, age_of, owes};
 
 mod act;
+mod blocks;
+mod carrying;
+mod digging;
 mod fields;
 mod login;
 mod movement;
+mod placing;
 mod tick;
 
 use crate::connection::{Connection, Pending};
 use crate::connections::{kept, ours, playing, put_last};
+use crate::packs::Packs;
 use crate::roster::Roster;
 use crate::{Input, Settings};
+use mc_entities::Folk;
 use mc_frame::Take;
 use mc_land::Land;
 use mc_model::Cause;
@@ -44,10 +52,12 @@ pub struct Server {
     alloc: Global,
     settings: Settings,
     land: Land,
+    /// The players in play and the dropped items.
+    folk: Folk,
+    /// What each name carries that was ever in play.
+    packs: Packs,
     /// The ticks that came.
     age: u64,
-    /// The entity numbers that were given.
-    eids: u32,
     /// The number of the last join.
     last: Option<u32>,
     /// The numbers of the connections, in rising order.
@@ -67,14 +77,16 @@ impl Model for Server {
     ghost use Rattle.mc_land.specs.Places.{place_cmp};
     ghost use Rattle.mc_flush.specs.Lists.{coded_list_value};
     ghost use Rattle.mc_model.specs.Stored.{coded_sight};
+    ghost use Rattle.mc_view.specs.ToldCode.{coded_told};
     ghost use Rattle.mc_model.specs.Stored.{coded_edits};
-    ghost use Rattle.mc_server.specs.Served.{AreKept, ServerValue, sessions_of};
+    ghost use Rattle.mc_server.specs.Served.{AreKept, ServerValue, sessions_of, things_of};
 
     ghost Value = { ServerValue };
 
     ghost coded = { Prim.hlevel (
       codes,
       coded_sight,
+      coded_told,
       coded_edits,
       coded_list_value,
       set.code {R = place_cmp} coded_place,
@@ -84,19 +96,19 @@ impl Model for Server {
       failed = s.failed;
       age = s.age;
       terrain = s.settings.terrain;
-      edits = s.land.edits;
+      things = things_of s.land s.folk.state s.packs;
       settled = s.land.settled;
       ready = s.land.ready;
       most = s.settings.players;
       cap = s.settings.cap;
-      eids = s.eids;
       last = s.last;
       connections = s.connections.items;
       list = s.list;
     } };
 
     ghost invariant = { λ s.
-        AreKept s.land s.settings s.eids s.last s.ids.items (sessions_of s.connections.items) };
+        AreKept s.land s.folk.state s.settings s.last s.ids.items
+        (sessions_of s.connections.items) };
 }
 
 impl Server {
@@ -110,8 +122,9 @@ impl Server {
             alloc,
             settings,
             land: Land::new(alloc, settings.terrain),
+            folk: Folk::new(alloc),
+            packs: Packs::new(alloc),
             age: 0,
-            eids: 0,
             last: None,
             ids: Vec::new(alloc),
             connections: Vec::new(alloc),
@@ -232,16 +245,33 @@ impl Server {
         Ok(())
     }
 
-    /// Lets a connection go for a cause: it is closed, and owed nothing.
+    /// Lets a connection go for a cause: it is closed, and owed nothing, and its player leaves.
     fn leave(&mut self, k: u32, cause: Cause)
-        ensures follows { (w : World) → Stands self.old w →
-            Stands self.new (changed w k (gone cause)) }
+        ensures follows { (w : World) → Stands self.old w → Balanced (depart w k cause) →
+            Stands self.new (depart w k cause) }
         ensures age { age_of self.new ≡ age_of self.old }
     {
         let Some(i) = self.place_of(k) else {
             return;
         };
+        let eid = self.connections[i].eid();
         self.connections[i].leave(cause);
+        self.let_go(i, eid);
+    }
+
+    /// Takes out the entity of a number where the connection at a place has no player now.
+    fn let_go(&mut self, i: usize, eid: Option<u32>)
+        requires within { i < length self.old.connections }
+        requires small { IfSome eid (λ eid. eid < 2 ^ 31) }
+        ensures { self.new ≡ record self.old {
+          things = left_with eid (nth_session i self.old.connections).player self.old.things;
+        } }
+    {
+        if let Some(eid) = eid
+            && !self.connections[i].is_play()
+        {
+            let _gone = self.folk.remove(eid as i32);
+        }
     }
 
     /// A connection that is closed and owed nothing goes.
@@ -443,10 +473,11 @@ impl Server {
         self.connections[i].take()
     }
 
-    /// Closes a connection, and says why.
+    /// Closes a connection, and says why; its player leaves.
     fn disconnect(&mut self, i: usize, cause: Cause) -> Result<(), NoMemory>
         requires { i < length self.old.connections }
-        ensures is { OnOk result (Becomes self.old self.new (put (kept_world self.old)
+        ensures is { OnOk result (Becomes self.old self.new (put_after (kept_world self.old)
+            (nth_session i self.old.connections)
             (disconnect (nth_session i self.old.connections) cause
             (farewell (nth_session i self.old.connections).stage cause)).session)) }
         ensures closed { OnOk result
@@ -454,7 +485,10 @@ impl Server {
         ensures there { found (nth_session i self.old.connections).id
             (sessions_of self.old.connections) ≡ Some (nth_session i self.old.connections) }
     {
-        self.connections[i].disconnect(cause)
+        let eid = self.connections[i].eid();
+        self.connections[i].disconnect(cause)?;
+        self.let_go(i, eid);
+        Ok(())
     }
 
     /// Handles a frame of an open connection.
@@ -477,12 +511,15 @@ impl Server {
         requires open_ { IsOpenAt i self.old.connections }
         ensures pending { IfOk result (λ pending. pending ≡ pending_of
             (request_in (kept_world self.old) (nth_session i self.old.connections) frame.now)) }
-        ensures is { OnOk result (Becomes self.old self.new (put (kept_world self.old)
-            (after_request (nth_session i self.old.connections)
+        ensures is { OnOk result (Becomes self.old self.new (put_after (kept_world self.old)
+            (nth_session i self.old.connections) (after_request (nth_session i self.old.connections)
             (request_in (kept_world self.old) (nth_session i self.old.connections) frame.now)))) }
         ensures rise { Rise 0 (sessions_of self.old.connections) (next_number self.old.last) }
     {
         let online = playing(&self.connections);
-        self.connections[i].handle(frame, self.settings.players, online)
+        let eid = self.connections[i].eid();
+        let pending = self.connections[i].handle(frame, self.settings.players, online)?;
+        self.let_go(i, eid);
+        Ok(pending)
     }
 }

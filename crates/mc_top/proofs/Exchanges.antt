@@ -300,9 +300,9 @@ hand_fits s packets fits =
 -- packets are handed to a connection that is owed nothing
 hand_comes : (most : ℕ) (c c' : Call) (packets : List Sent) (more : List ℕ) →
     length (bytes_of packets) ≤ outbox_max → sent_lines packets ≡ more →
-    Comes most (turn (lone most (called c)) (hand (called c') packets)) c' more
+    Comes most (turn (lone most (called c)) (called c) (hand (called c') packets)) c' more
 hand_comes most c c' packets more fits lines =
-    let P : Handing → Type 0 = λ h. Comes most (turn (lone most (called c)) h) c' more in
+    let P : Handing → Type 0 = λ h. Comes most (turn (lone most (called c)) (called c) h) c' more in
     subst P (sym (hand_fits (called c') packets (omega (arith, fits))))
     (record { owed = bytes_of packets; world = refl; lines = lines })
 
@@ -325,7 +325,7 @@ perform_comes most c (enters name) none fits = absurd fits
 perform_comes most c (acts packet) none fits = absurd fits
 perform_comes most c (wrong fault) none fits =
     let P : List Sent → Type 0 = λ ps. Comes most
-    (turn (lone most (called c)) (disconnect (called c) (causes.Packet fault) ps))
+    (turn (lone most (called c)) (called c) (disconnect (called c) (causes.Packet fault) ps))
     (call_after c (wrong fault)) [] in
     subst P (sym (none (causes.Packet fault)))
     (hand_comes most c (call_after c (wrong fault)) [] [] none_fit refl)

@@ -4,7 +4,6 @@
 use super::Connection;
 use super::backlog::Backlog;
 use crate::player::Player;
-use mc_fields::Spot;
 use mc_flush::Mark;
 use mc_frame::Splitter;
 use mc_model::{Cause, Notes};
@@ -32,7 +31,7 @@ fn a_cause(_part: &Option<Cause>) {}
 
 fn a_name(_part: &Text) {}
 
-fn a_spot(_part: &Spot) {}
+fn a_place_of_the_hotbar(_part: &u8) {}
 
 fn notes_of_a_player(_part: &Notes) {}
 
@@ -43,7 +42,7 @@ fn name_player(player: &Player) {
         uuid,
         eid,
         view_byte,
-        spot,
+        hand,
         notes,
         mark,
     } = player;
@@ -51,7 +50,7 @@ fn name_player(player: &Player) {
     an_identifier(uuid);
     a_number(eid);
     a_small_number(view_byte);
-    a_spot(spot);
+    a_place_of_the_hotbar(hand);
     notes_of_a_player(notes);
     a_mark(mark);
 }

@@ -1,103 +1,117 @@
-//! What a connection does with its player: where it stands, what it asks for, what its client sees.
+//! What a connection does with its player: what it asks for, what is noted for its client, what
+//! that sees.
 
-ghost use Rattle.std.specs.Prelude.{◌≡◌, true, false, None, OnOk, is_some, map, option_map};
+ghost use Rattle.std.specs.Prelude.{◌≡◌, ◌++◌, ◌∷◌, [], true, false, None, OnErr, OnOk, is_some, map};
 ghost use Rattle.mc_flush.specs.Encoding.{AreFrames};
-ghost use Rattle.mc_flush.specs.Seeing.{IsInRange, StandsFor, is_shown};
-ghost use Rattle.mc_flush.specs.Seeing.{present_parts, settled_parts};
+ghost use Rattle.mc_flush.specs.Seeing.{StandsFor, is_shown, present_parts, settled_parts};
 ghost use Rattle.mc_model.specs.Notes.{no_notes};
 ghost use Rattle.mc_model.specs.Packets.{of_play};
+ghost use Rattle.mc_model.specs.Placing.{placing_refused};
 ghost use Rattle.mc_model.specs.Sight.{Sight};
 ghost use Rattle.mc_model.specs.Step.{hand};
 ghost use Rattle.mc_model.specs.World as spec;
 ghost use Rattle.mc_model.specs.World.{AreSettings, is_closed};
-ghost use Rattle.mc_server.specs.ReadyColumns.{view_around};
+ghost use Rattle.mc_server.specs.Served.{AreInRange, with_player};
+ghost use Rattle.mc_server.specs.Scenes.{parts_of};
 ghost use Rattle.mc_server.specs.Ticking.{IsPrepared, due_packets, shown_now};
 
 use crate::connection::Connection;
 use crate::scene::Scene;
-use mc_fields::Spot;
+use mc_fields::Cell;
 use mc_nbt::NoMemory;
 use std::alloc::Global;
 
 impl Connection {
-    /// Puts its player where it says to be.
-    pub fn stand(&mut self, spot: Spot)
-        requires { IsInRange spot }
-        ensures { self.new ≡ record self.old {
-          session = record self.old.session {
-            player = option_map (λ (p : spec.Player). record p { spot = spot })
-                self.old.session.player;
-          };
-        } }
+    /// Notes that its client is to be told where its player is.
+    pub fn note_place(&mut self)
+        ensures { self.new ≡ with_player self.old (λ p. record p {
+          notes = record p.notes { placing = true };
+        }) }
     {
         if let Some(player) = &mut self.player {
-            player.stand(spot);
+            player.notes.place();
         }
     }
 
-    /// Puts its player where it did not ask to be, of which its client is told at the next tick.
-    pub fn send_to(&mut self, spot: Spot)
-        requires { IsInRange spot }
-        ensures { self.new ≡ record self.old {
-          session = record self.old.session {
-            player = option_map (λ (p : spec.Player). record p {
-              spot = spot;
-              notes = record p.notes { placing = true };
-            }) self.old.session.player;
-          };
-        } }
+    /// Notes that its client is to be sent its window again.
+    pub fn note_window(&mut self)
+        ensures { self.new ≡ with_player self.old (λ p. record p {
+          notes = record p.notes { resend = true };
+        }) }
     {
         if let Some(player) = &mut self.player {
-            player.send_to(spot);
+            player.notes.again();
         }
+    }
+
+    /// Notes a cell that its client is to be sent. Without memory all is as before.
+    pub fn note_cell(&mut self, cell: Cell) -> Result<(), NoMemory>
+        ensures ok { OnOk result (self.new ≡ with_player self.old (λ p. record p {
+          notes = record p.notes { cells = p.notes.cells ++ cell ∷ [] };
+        })) }
+        ensures err { OnErr result (self.new ≡ self.old) }
+    {
+        if let Some(player) = &mut self.player {
+            player.notes.cell(cell)?;
+        }
+        Ok(())
+    }
+
+    /// Notes two cells that its client is to be sent, and that it is to be sent its window again.
+    pub fn refuse_placing(&mut self, cell: Cell, target: Cell) -> Result<(), NoMemory>
+        ensures ok { OnOk result (self.new ≡ with_player self.old (λ p. record p {
+          notes = placing_refused cell target p.notes;
+        })) }
+        ensures same { self.new.session.id ≡ self.old.session.id }
+        ensures stays { is_some self.new.session.player ≡ true
+            → is_some self.old.session.player ≡ true }
+    {
+        self.note_cell(cell)?;
+        self.note_cell(target)?;
+        self.note_window();
+        Ok(())
     }
 
     /// Notes which size of view its player asks for.
     pub fn ask_view(&mut self, view_byte: &i8)
-        ensures { self.new ≡ record self.old {
-          session = record self.old.session {
-            player = option_map (λ (p : spec.Player). record p { view_byte = view_byte.now })
-                self.old.session.player;
-          };
-        } }
+        ensures { self.new
+            ≡ with_player self.old (λ p. record p { view_byte = view_byte.now }) }
     {
         if let Some(player) = &mut self.player {
             player.view_byte = *view_byte;
         }
     }
 
-    // ---- a tick
-
-    /// The view of its player, if it is in play: the numbers of the middle column, and how many
-    /// columns it reaches on each axis.
-    pub fn view(&self, cap: u8) -> Option<(i32, i32, u8)>
-        ensures { result ≡ option_map (view_around cap) self.now.session.player }
+    /// Puts the hand of its player on a place of the hotbar.
+    pub fn take_up(&mut self, hand: u8)
+        ensures { self.new ≡ with_player self.old (λ p. record p { hand = hand }) }
     {
-        match &self.player {
-            Some(player) => Some(player.view_around(cap)),
-            None => None,
+        if let Some(player) = &mut self.player {
+            player.hand = hand;
         }
     }
+
+    // ---- a tick
 
     /// Shows its client its part, if it is in play: the packets that lead it there are handed out
     /// to it, and nothing is noted for it any more. The mark stands for what it was shown.
     pub fn show(&mut self, alloc: Global, scene: &Scene<'_>) -> Result<(), NoMemory>
         requires settings { AreSettings scene.now.settings.now.players scene.now.settings.now.cap }
-        requires ready { IsPrepared scene.now.settings.now.cap scene.now.land.now self.old }
+        requires in_range { AreInRange scene.now.folk.now.state.entities }
+        requires ready { IsPrepared (parts_of scene.now) self.old }
         requires frames { AreFrames scene.now.land.now scene.now.list.now scene.now.encoded.now }
         ensures handed { (player : spec.Player) (p : Sight) →
             self.old.session.player ≡ Some player →
             StandsFor self.old.mark (settled_parts scene.now.land.now scene.now.list.now) p →
             OnOk result (self.new.session ≡ (hand (record self.old.session {
-              player = Some (record player { notes = no_notes });
-            }) (map of_play (due_packets scene.now.settings.now scene.now.land.now
-            scene.now.list.now.present (is_shown self.old.mark) p player))).session) }
+              player = Some (record player { notes = no_notes; shown = None });
+            }) (map of_play (due_packets (parts_of scene.now) (is_shown self.old.mark) p
+            player))).session) }
         ensures shows { (player : spec.Player) → self.old.session.player ≡ Some player →
             is_closed self.new.session.stage ≡ false → OnOk result
             ((is_shown self.new.mark ≡ true)
             × StandsFor self.new.mark (present_parts scene.now.land.now scene.now.list.now)
-            (shown_now scene.now.settings.now scene.now.land.now scene.now.list.now.present
-            player)) }
+            (shown_now (parts_of scene.now) player)) }
         ensures waits { self.old.session.player ≡ None → self.new ≡ self.old }
         ensures splitter { self.new.splitter ≡ self.old.splitter }
         ensures same { self.new.session.id ≡ self.old.session.id }

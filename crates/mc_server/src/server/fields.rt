@@ -3,7 +3,9 @@
 use super::Server;
 use crate::Settings;
 use crate::connection::Connection;
+use crate::packs::Packs;
 use crate::roster::Roster;
+use mc_entities::Folk;
 use mc_land::Land;
 use std::alloc::Global;
 
@@ -13,6 +15,10 @@ fn settings(_part: &Settings) {}
 
 fn a_land(_part: &Land) {}
 
+fn a_folk(_part: &Folk) {}
+
+fn packs_by_name(_part: &Packs) {}
+
 fn a_list_of_players(_part: &Roster) {}
 
 fn the_records(_part: &Vec<Connection>) {}
@@ -20,8 +26,6 @@ fn the_records(_part: &Vec<Connection>) {}
 fn the_numbers(_part: &Vec<u32>) {}
 
 fn an_age(_part: &u64) {}
-
-fn a_number(_part: &u32) {}
 
 fn a_last_number(_part: &Option<u32>) {}
 
@@ -33,8 +37,9 @@ fn name_fields(server: &Server) {
         alloc,
         settings: given,
         land,
+        folk,
+        packs,
         age,
-        eids,
         last,
         ids,
         connections,
@@ -44,8 +49,9 @@ fn name_fields(server: &Server) {
     an_allocator(alloc);
     settings(given);
     a_land(land);
+    a_folk(folk);
+    packs_by_name(packs);
     an_age(age);
-    a_number(eids);
     a_last_number(last);
     the_numbers(ids);
     the_records(connections);

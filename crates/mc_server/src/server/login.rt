@@ -1,11 +1,13 @@
-ghost use Rattle.std.specs.Prelude.{◌≡◌, ◌==◌, true, Some, None, IfOk, OnOk};
+ghost use Rattle.std.specs.Prelude.{◌≡◌, ◌==◌, ◌||◌, ◌+◌, ◌<◌, ◌^◌, true, Some, None, IfOk, OnOk};
+ghost use Rattle.std.specs.Prelude.{length, nat_lt};
 ghost use Rattle.std.specs.List.{list_any};
 ghost use Rattle.mc_model.specs.declared.cause.Cause.TheVariants as causes;
 ghost use Rattle.mc_model.specs.World as spec;
-ghost use Rattle.mc_model.specs.World.{put};
+ghost use Rattle.mc_model.specs.Things.{is_known};
 ghost use Rattle.mc_model.specs.Talk.{refused};
-ghost use Rattle.mc_model.specs.Step.{is_47, disconnect, refusal, answer_login};
+ghost use Rattle.mc_model.specs.Step.{is_47, disconnect, refusal, answer_login, with_new_player};
 ghost use Rattle.mc_server.specs.Frames.{Becomes};
+ghost use Rattle.mc_server.specs.Leaving.{put_after};
 ghost use Rattle.mc_server.specs.LoggingIn.{IsAskedAt, IsVerdict, has_room};
 ghost use Rattle.mc_server.specs.Served.{ConnectionValue, kept_world, nth_session};
 ghost use Rattle.mc_server.specs.Served.{playing_of, plays_as, sessions_of};
@@ -14,12 +16,14 @@ use crate::connection::Connection;
 use crate::connections::playing;
 use crate::player::Player;
 use crate::server::Server;
-use mc_model::{Name, Refusal};
+use crate::spots::{in_hand, pack_of};
+use mc_entities::{EntityKind, Folk};
+use mc_model::{Name, Refusal, spawn_spot};
 use mc_nbt::{NoMemory, Text};
 use mc_session::offline_uuid;
 
-/// The most entity numbers that are given.
-const EIDS_MAX: u32 = 2_147_483_647;
+/// How many names there may be that ever were in play.
+const NAMES_MAX: usize = 65_536;
 
 /// What a client that asks to play is answered.
 #[derive(Drop)]
@@ -52,12 +56,31 @@ fn is_taken(connections: &Vec<Connection>, uuid: u128) -> bool
     plays_as(connections, uuid)
 }
 
+/// Whether one more entity can have a number.
+fn has_number(folk: &Folk) -> bool
+    ensures { result ≡ nat_lt folk.now.state.given 2147483647 }
+{
+    // All of them tell that no number above the last one was given.
+    let _all = folk.all();
+    !folk.is_spent()
+}
+
 impl Server {
-    /// Whether one more may play.
-    fn has_room(&self) -> bool
-        ensures { result ≡ has_room (kept_world self.now) }
+    /// Whether one more may play, under a name.
+    fn has_room(&self, name: &Text) -> bool
+        ensures { result ≡ has_room (kept_world self.now) name.now }
     {
-        playing(&self.connections) < self.settings.players && self.eids < EIDS_MAX
+        playing(&self.connections) < self.settings.players
+            && has_number(&self.folk)
+            && self.knows_or_learns(name)
+    }
+
+    /// Whether a name was in play before, or one more name may come.
+    fn knows_or_learns(&self, name: &Text) -> bool
+        ensures { result ≡ (is_known name.now self.now.things.packs
+            || nat_lt (length self.now.things.packs) 65536) }
+    {
+        self.packs.get(name).is_some() || self.packs.len() < NAMES_MAX
     }
 
     /// Judges whether a client may play under a name.
@@ -74,7 +97,7 @@ impl Server {
         if is_taken(&self.connections, offline_uuid(&name)) {
             return Ok(Verdict::Refuses(Refusal::Taken));
         }
-        if !self.has_room() {
+        if !self.has_room(name.text()) {
             return Ok(Verdict::Refuses(Refusal::Full));
         }
         Ok(Verdict::Enters(name))
@@ -97,9 +120,9 @@ impl Server {
     /// Refuses the client of the connection at a place.
     fn refuse(&mut self, i: usize, why: Refusal) -> Result<(), NoMemory>
         requires { IsAskedAt i self.old.connections }
-        ensures { OnOk result (Becomes self.old self.new (put (kept_world self.old)
-            (disconnect (nth_session i self.old.connections) (causes.Refused why)
-            (refused why)).session)) }
+        ensures { OnOk result (Becomes self.old self.new (put_after (kept_world self.old)
+            (nth_session i self.old.connections) (disconnect (nth_session i self.old.connections)
+            (causes.Refused why) (refused why)).session)) }
     {
         self.connections[i].refuse(why)
     }
@@ -107,13 +130,37 @@ impl Server {
     /// Lets the player of the connection at a place enter.
     fn enter(&mut self, i: usize, name: &Name) -> Result<(), NoMemory>
         requires asked { IsAskedAt i self.old.connections }
-        requires room { has_room (kept_world self.old) ≡ true }
+        requires room { has_room (kept_world self.old) name.now ≡ true }
         ensures { OnOk result (Becomes self.old self.new (answer_login (kept_world self.old)
             (nth_session i self.old.connections) name.now None).world) }
     {
-        let eid = self.eids + 1;
-        let player = Player::entering(&self.settings.terrain, eid, name)?;
-        self.eids = eid;
-        self.connections[i].enter(player, name)
+        let eid = self.admit(name)?;
+        let player = Player::entering(self.alloc, eid, name)?;
+        self.connections[i].enter(player, name)?;
+        self.let_go(i, Some(eid));
+        Ok(())
+    }
+
+    /// Puts a new player's entity where players enter, and gives the name the kit where it is new:
+    /// the number of the entity.
+    fn admit(&mut self, name: &Name) -> Result<u32, NoMemory>
+        requires room { has_room (kept_world self.old) name.now ≡ true }
+        ensures eid { IfOk result (λ eid. eid ≡ self.old.things.eids + 1) }
+        ensures small { IfOk result (λ eid. eid < 2 ^ 31) }
+        ensures is { OnOk result (self.new ≡ record self.old {
+          things = with_new_player self.old.terrain name.now self.old.things;
+        }) }
+    {
+        self.packs.admit(name.text())?;
+        let pack = pack_of(&self.packs, name.text());
+        let kind = EntityKind::Player {
+            uuid: offline_uuid(name),
+            held: in_hand(&pack, 0),
+        };
+        let spot = spawn_spot(&self.settings.terrain);
+        match self.folk.spawn(kind, spot) {
+            Ok(eid) => Ok(eid as u32),
+            Err(_) => Err(NoMemory),
+        }
     }
 }

@@ -1,13 +1,15 @@
-ghost use Rattle.std.specs.Prelude.{◌≡◌, ◌<◌, Some, length, option_map, unwrap_or};
-ghost use Rattle.std.specs.Option.{is_some, option_and_then};
-ghost use Rattle.std.specs.Result.{is_ok};
-ghost use Rattle.mc_model.specs.Movement.{arrive, arrived, moved, turned};
+ghost use Rattle.std.specs.Prelude.{◌≡◌, Some};
+ghost use Rattle.std.specs.Option.{option_and_then};
+ghost use Rattle.mc_flush.specs.Seeing.{IsInRange};
+ghost use Rattle.mc_model.specs.Movement.{arrive, arrived, landed, landing, moved, turned};
 ghost use Rattle.mc_model.specs.World.{Player, put};
+ghost use Rattle.mc_server.specs.Acting.{Comes, IsDoerAt};
 ghost use Rattle.mc_server.specs.Frames.{Becomes};
 ghost use Rattle.mc_server.specs.Served.{kept_world, nth_session};
 
 use crate::server::Server;
-use crate::server::act::BadNumber;
+use crate::server::act::{ActFault, Doer};
+use mc_fields::Spot;
 use mc_model::{Wish, spawn_spot};
 
 /// A wish to move and turn. None where a number is bad.
@@ -26,51 +28,50 @@ pub(super) fn move_and_turn(
 }
 
 impl Server {
-    /// The wish of the player of a connection to stay where it is, if it has one.
-    pub(super) fn wish(&self, i: usize) -> Option<Wish>
-        requires { i < length self.now.connections }
-        ensures { result
-            ≡ option_map (λ (p : Player). p.spot) (nth_session i self.now.connections).player }
-    {
-        match self.connections[i].player() {
-            Some(player) => Some(Wish::of(&player.spot)),
-            None => None,
-        }
-    }
-
     /// Moves a player where it wishes, or to where players enter; nowhere where a number is bad.
-    pub(super) fn arrive(&mut self, i: usize, to: Option<Wish>) -> Result<(), BadNumber>
-        requires { i < length self.old.connections }
-        ensures does { (p : Player) → (nth_session i self.old.connections).player ≡ Some p →
-            Becomes self.old self.new (unwrap_or
-            (arrive (kept_world self.old) (nth_session i self.old.connections) p to)
-            (kept_world self.old)) }
-        ensures bad { (p : Player) → is_ok result ≡ is_some
-            (arrive (kept_world self.old) (nth_session i self.old.connections) p to) }
+    pub(super) fn arrive(&mut self, doer: &Doer, to: Option<Wish>) -> Result<(), ActFault>
+        requires { IsDoerAt doer.now self.old.connections }
+        ensures { (p : Player) → (nth_session doer.now.place self.old.connections).player ≡ Some p →
+            Comes result self.old self.new (arrive (kept_world self.old)
+            (nth_session doer.now.place self.old.connections) p to) }
     {
         match to {
             Some(to) => {
-                self.go(i, &to);
+                self.go(doer, &to);
                 Ok(())
             }
-            None => Err(BadNumber),
+            None => Err(ActFault::BadNumber),
         }
     }
 
     /// Moves a player to a place in range, or to where players enter, of which it is told.
-    fn go(&mut self, i: usize, to: &Wish)
-        requires { i < length self.old.connections }
-        ensures { (p : Player) → (nth_session i self.old.connections).player ≡ Some p →
+    fn go(&mut self, doer: &Doer, to: &Wish)
+        requires { IsDoerAt doer.now self.old.connections }
+        ensures { (p : Player) → (nth_session doer.now.place self.old.connections).player ≡ Some p →
+            Becomes self.old self.new (arrived (kept_world self.old)
+            (nth_session doer.now.place self.old.connections) p to.now) }
+    {
+        let spot = self.landing(doer, to);
+        self.folk.place(doer.eid as i32, spot);
+    }
+
+    /// Where a player comes to be; it is told so where it did not ask to be there.
+    fn landing(&mut self, doer: &Doer, to: &Wish) -> Spot
+        requires { IsDoerAt doer.now self.old.connections }
+        ensures spot { result ≡ landing (kept_world self.old) to.now }
+        ensures range { IsInRange result }
+        ensures does { (p : Player) →
+            (nth_session doer.now.place self.old.connections).player ≡ Some p →
             Becomes self.old self.new (put (kept_world self.old)
-            (record (nth_session i self.old.connections) {
-              player = Some (arrived (kept_world self.old) p to.now);
+            (record (nth_session doer.now.place self.old.connections) {
+              player = Some (landed to.now p);
             })) }
     {
-        if to.is_in_range() {
-            self.connections[i].stand(to.place());
-            return;
-        }
         let spawn = spawn_spot(&self.settings.terrain);
-        self.connections[i].send_to(spawn);
+        if to.is_in_range() {
+            return to.place();
+        }
+        self.connections[doer.place].note_place();
+        spawn
     }
 }

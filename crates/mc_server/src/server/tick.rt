@@ -1,4 +1,7 @@
 ghost use Rattle.std.specs.Prelude.{◌≡◌, ◌+◌, ◌<◌, OnOk};
+ghost use Rattle.std.specs.List.{fold};
+ghost use Rattle.mc_entities.specs.Folk.{FolkState, removed};
+ghost use lib.IntN.{ℤ};
 ghost use Rattle.mc_model.specs.World.{World};
 ghost use Rattle.mc_model.specs.Step.{step, ticked};
 ghost use Rattle.mc_server.specs.ReadyColumns.{Sheds};
@@ -7,11 +10,22 @@ ghost use Rattle.mc_server.specs.Stands.{Stands, age_of};
 use crate::connections::views_of;
 use crate::scene::{Scene, prepare};
 use crate::server::Server;
+use mc_entities::Folk;
 use mc_nbt::NoMemory;
 
+/// Takes entities out, by their numbers.
+fn remove_all(folk: &mut Folk, eids: &[i32])
+    ensures { folk.new.state ≡ fold (λ (state : FolkState) (eid : ℤ). removed eid state)
+        folk.old.state eids.now }
+{
+    for eid in eids.iter() {
+        let _gone = folk.remove(*eid);
+    }
+}
+
 impl Server {
-    /// Lets a tick come: each client in play is shown the land and the players, and columns that
-    /// none of them sees are given up.
+    /// Lets a tick come: each client in play is shown the world, those that are owed too much leave,
+    /// and columns that none of the others sees are given up.
     pub(super) fn tick(&mut self) -> Result<(), NoMemory>
         requires young { age_of self.old < 1000000000 }
         ensures follows { (w : World) → Stands self.old w
@@ -24,6 +38,7 @@ impl Server {
         let encoded = prepare(
             self.alloc,
             &self.settings,
+            &self.folk,
             &mut self.land,
             &self.list,
             &self.connections,
@@ -31,11 +46,14 @@ impl Server {
         let scene = Scene {
             settings: &self.settings,
             land: &self.land,
+            folk: &self.folk,
+            packs: &self.packs,
             list: &self.list,
             encoded: &encoded,
         };
-        scene.show_all(self.alloc, &mut self.connections)?;
-        let views = views_of(self.alloc, self.settings.cap, &self.connections)?;
+        let left = scene.show_all(self.alloc, &mut self.connections)?;
+        remove_all(&mut self.folk, left.as_slice());
+        let views = views_of(self.alloc, &self.settings, &self.folk, &self.connections)?;
         self.land.settle();
         self.land.shed(views.as_slice());
         self.age += 1;

@@ -1,8 +1,7 @@
-use Rattle.std.proofs.Common.{◌≡◌, ◌<◌, ◌≤◌, length, List, sym, subst, arith, take}
+use Rattle.std.proofs.Common.{◌<◌, ◌≤◌, length, subst, arith}
 use Rattle.std.specs.List.{AllByRecursion}
 use Rattle.std.proofs.lemmas.List.{take_all}
-use Rattle.mc_server.specs.Served.{ConnectionValue}
-use Rattle.mc_server.specs.Ticking.{IsPrepared}
+use Rattle.mc_server.specs.Ticking.{AreReady}
 use Rattle.mc_server.proofs.ReadyFacts.{prepared_next, same_itself, same_onward}
 use Rattle.mc_server.proofs.scene.prepare_clients.Goals as goal
 
@@ -22,10 +21,9 @@ loop-i-preserved g c =
     let lt : c.loop-i.i < length cs =
     omega (arith, c.loop-i-test.true, c.len-i-end.ensures, c.args.connections.now.ok.0) in
     record {
-      ready = prepared_next c.args.settings.now.cap c.loop-i.land c.prepare_client.new.land cs
-          c.loop-i.i
-          c.index.result.now lt c.index.ensures step.grown c.in_ok-prepare_client.ensures.ready
-          h.ready;
+      ready = prepared_next c.args.settings.now c.args.folk.now.state.entities c.loop-i.land
+          c.prepare_client.new.land cs c.loop-i.i c.index.result.now lt c.index.ensures
+          step.grown c.in_ok-prepare_client.ensures.ready h.ready;
       grown = λ other there. step.grown other (h.grown other there);
       frames = λ list are. step.frames list (h.frames list are);
       same = same_onward c.args.land.now c.loop-i.land c.prepare_client.new.land h.same step.same;
@@ -36,6 +34,7 @@ returns-clause-ready g c =
     let cs = c.args.connections.now.items in
     let le : length cs ≤ c.loop-i.i =
     omega (arith, c.loop-i-test.false, c.len-i-end.ensures, c.args.connections.now.ok.0) in
-    subst (AllByRecursion (IsPrepared c.args.settings.now.cap c.loop-i.land))
+    subst (AllByRecursion
+    (AreReady c.args.settings.now c.args.folk.now.state.entities c.loop-i.land))
     (take_all c.loop-i.i cs le)
     c.loop-i.invariant.ready

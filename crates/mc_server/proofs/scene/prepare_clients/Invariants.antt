@@ -3,14 +3,15 @@ use Rattle.std.specs.List.{AllByRecursion}
 use Rattle.mc_flush.specs.Encoding.{AreFrames}
 use Rattle.mc_flush.specs.Lists.{ListValue}
 use Rattle.mc_flush.specs.Readying.{SameWorld}
-use Rattle.mc_server.specs.Ticking.{IsPrepared}
+use Rattle.mc_server.specs.Ticking.{AreReady}
 use Rattle.mc_server.proofs.ReadyFacts.{Grows}
 use Rattle.mc_server.proofs.scene.prepare_clients.Given as goal
 
 -- what the clients so far are to be shown is ready
 abbrev pub invariant-loop-i : goal.invariant-loop-i
 invariant-loop-i g l = record {
-  ready : AllByRecursion (IsPrepared l.settings.cap l.land) (take l.i l.connections.items);
+  ready : AllByRecursion (AreReady l.settings l.folk.state.entities l.land)
+      (take l.i l.connections.items);
   grown : Grows l.initial.land l.land;
   frames : (list : ListValue) → AreFrames l.initial.land list l.initial.encoded
       → AreFrames l.land list l.encoded;

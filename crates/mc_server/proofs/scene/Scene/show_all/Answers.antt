@@ -1,5 +1,8 @@
-use Rattle.std.proofs.Common.{◌≡◌, ◌<◌, ◌≤◌, length, length-set, refl, ◌∙◌, arith}
+use Rattle.std.proofs.Common.{◌<◌, ◌≤◌, ◌++◌, List, ℤ, length, length-set, refl, sym, ap, ◌∙◌}
+use Rattle.std.proofs.Common.{arith}
 use Rattle.mc_server.specs.Served.{ConnectionValue}
+use Rattle.mc_server.specs.Ticking.{left_one}
+use Rattle.mc_server.proofs.LeftFacts.{left_done, left_next}
 use Rattle.mc_server.proofs.ReadyFacts.{prepared_at}
 use Rattle.mc_server.proofs.Walks.{ids_same, plays_fewer, side_next, rest_next, at_rest, side_done}
 use Rattle.mc_server.proofs.scene.Scene.show_all.Goals as goal
@@ -7,6 +10,7 @@ use Rattle.mc_server.proofs.scene.Scene.show_all.Goals as goal
 pub loop-i-init : goal.loop-i-init
 loop-i-init c = record {
   shown = λ w scene. tt;
+  gone = c.new-left.ensures.items;
   left_ = refl;
   named = refl;
   fewer = omega arith;
@@ -15,6 +19,7 @@ loop-i-init c = record {
 
 pub show_client-requires-clause-ready : goal.show_client-requires-clause-ready
 show_client-requires-clause-ready c =
+    let s = c.args.self.now in
     let cs = c.args.connections.now.items in
     let ss = c.loop-i.connections.items in
     let i = c.loop-i.i in
@@ -22,7 +27,7 @@ show_client-requires-clause-ready c =
     let lt : i < length cs =
     omega (arith, c.loop-i-test.true, c.len-i-end.ensures, c.args.connections.now.ok.0) in
     let was = at_rest cs ss i x c.loop-i.invariant.left_ c.index_mut.ensures.value in
-    prepared_at c.args.self.now.settings.now.cap c.args.self.now.land.now cs i x lt was
+    prepared_at s.settings.now s.folk.now.state.entities s.land.now cs i x lt was
     c.requires.ready
 
 pub loop-i-preserved : goal.loop-i-preserved
@@ -41,6 +46,9 @@ loop-i-preserved c =
     record {
       shown = λ w scene. side_next _ cs ss i x t lt within was (h.shown w scene)
           (c.in_ok-show_client.ensures.shown w scene);
+      gone = c.in_ok-show_client.ensures.left
+          ∙ ap (λ (eids : List ℤ). eids ++ left_one x.session.player t.session.player) h.gone
+          ∙ sym (left_next cs ss i x t lt h.many was);
       left_ = rest_next cs ss i t h.left_;
       named = ids_same ss i t x within is c.show_client.ensures.same ∙ h.named;
       fewer = (
@@ -76,3 +84,11 @@ returns-clause-shown c = λ w scene.
     omega (arith, c.loop-i-test.false, c.len-i-end.ensures, c.args.connections.now.ok.0) in
     side_done _ c.args.connections.now.items c.loop-i.connections.items c.loop-i.i le
     c.loop-i.invariant.many (c.loop-i.invariant.shown w scene)
+
+pub returns-clause-left : goal.returns-clause-left
+returns-clause-left c =
+    let le : length c.args.connections.now.items ≤ c.loop-i.i =
+    omega (arith, c.loop-i-test.false, c.len-i-end.ensures, c.args.connections.now.ok.0) in
+    c.loop-i.invariant.gone
+    ∙ left_done c.args.connections.now.items c.loop-i.connections.items c.loop-i.i le
+    c.loop-i.invariant.many

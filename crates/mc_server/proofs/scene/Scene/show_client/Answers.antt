@@ -1,18 +1,31 @@
-use Rattle.std.proofs.Common.{◌≡◌, true, false, refl, sym, subst, ap, ◌∙◌}
-use Rattle.std.specs.Prelude.{Option, Some, None}
-use Rattle.mc_model.specs.Sight.{Sight}
-use Rattle.mc_model.specs.World.{Player}
-use Rattle.mc_flush.specs.Seeing.{StandsFor, present_parts, settled_parts}
-use Rattle.mc_server.proofs.Decoding.{on_ok_more}
-use Rattle.mc_server.proofs.SceneFacts.{before_stands, client_shown}
+use Rattle.std.proofs.Common.{◌≡◌, ℤ, false, List, [], ◌∷◌, ◌++◌, is_some, rules, sym, ap, ◌∙◌}
+use Rattle.mc_flush.specs.Seeing.{present_parts, settled_parts}
+use Rattle.mc_server.specs.Scenes.{parts_of}
+use Rattle.mc_server.proofs.LeftFacts.{left_is}
+use Rattle.mc_server.proofs.SceneFacts.{client_shown}
 use Rattle.mc_server.proofs.scene.Scene.show_client.Goals as goal
 
-pub returns-clause-shown : goal.returns-clause-shown
-returns-clause-shown c = λ w scene.
+pub returns-in_ok-push-clause-shown : goal.returns-in_ok-push-clause-shown
+returns-in_ok-push-clause-shown c = λ w scene.
     let s = c.args.self.now in
-    client_shown w s.settings.now s.land.now s.list.now.present
+    client_shown w (parts_of s)
     (settled_parts s.land.now s.list.now) (present_parts s.land.now s.list.now)
-    c.args.connection.now c.show.new.self scene
-    (λ p here. c.in_ok-show.ensures.handed p _ here
-    (before_stands (settled_parts s.land.now s.list.now) c.args.connection.now.mark))
+    c.args.connection.now c.show.new.self scene c.in_ok-show.ensures.handed
     c.in_ok-show.ensures.splitter c.in_ok-show.ensures.waits c.in_ok-show.ensures.shows
+
+pub returns-in_default-clause-shown : goal.returns-in_default-clause-shown
+returns-in_default-clause-shown c = λ w scene.
+    let s = c.args.self.now in
+    client_shown w (parts_of s)
+    (settled_parts s.land.now s.list.now) (present_parts s.land.now s.list.now)
+    c.args.connection.now c.show.new.self scene c.in_ok-show.ensures.handed
+    c.in_ok-show.ensures.splitter c.in_ok-show.ensures.waits c.in_ok-show.ensures.shows
+
+pub returns-in_ok-push-clause-left : goal.returns-in_ok-push-clause-left
+returns-in_ok-push-clause-left c =
+    let pushed : c.push.new.self.items ≡ c.args.left.now.items ++ c.in-Some.eid ∷ [] =
+    search rules in
+    let gone : is_some c.show.new.self.session.player ≡ false = search rules in
+    pushed ∙ ap (λ (eids : List ℤ). c.args.left.now.items ++ eids)
+    (left_is c.args.connection.now.session.player c.show.new.self.session.player c.in-Some.eid
+    (sym c.in-Some.is ∙ c.eid_of-eid.ensures) gone)

@@ -1,24 +1,17 @@
-use Rattle.std.proofs.Common.{sym, subst}
-use Rattle.std.specs.Prelude.{Option, unwrap_or}
+-- A player arrives where all numbers are good.
+use Rattle.std.proofs.Common.{◌≡◌, sym, subst}
+use Rattle.std.specs.Prelude.{Ok, Err, Option}
 use Rattle.mc_fields.specs.declared.position.Spot.{Spot}
 use Rattle.mc_model.specs.Movement.{arrive}
-use Rattle.mc_server.specs.Frames.{Becomes}
+use Rattle.mc_server.specs.declared.server.act.ActFault.TheVariants.{BadNumber}
+use Rattle.mc_server.specs.Acting.{Comes}
 use Rattle.mc_server.specs.Served.{kept_world, nth_session}
 use Rattle.mc_server.proofs.Becoming.{becomes_nothing}
 use Rattle.mc_server.proofs.server.Server.arrive.Goals as goal
 
-pub returns-in-None-clause-does : goal.returns-in-None-clause-does
-returns-in-None-clause-does c = λ p plays.
+pub returns-in-None : goal.returns-in-None
+returns-in-None c = λ p plays.
     let v = c.args.self.now in
-    let P : Option Spot → Type 0 = λ o. Becomes v v
-    (unwrap_or (arrive (kept_world v) (nth_session c.args.i v.connections) p o) (kept_world v))
-    in
+    let P : Option Spot → Type 0 = λ o. Comes (Err BadNumber) v v
+    (arrive (kept_world v) (nth_session c.args.doer.now.place v.connections) p o) in
     subst P (sym c.in-None.is) (becomes_nothing v)
-
-pub returns-in-Some-clause-does : goal.returns-in-Some-clause-does
-returns-in-Some-clause-does c = λ p plays.
-    let v = c.args.self.now in
-    let P : Option Spot → Type 0 = λ o. Becomes v c.go.new.self
-    (unwrap_or (arrive (kept_world v) (nth_session c.args.i v.connections) p o) (kept_world v))
-    in
-    subst P (sym c.in-Some.is) (c.go.ensures p plays)

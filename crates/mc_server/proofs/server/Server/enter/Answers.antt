@@ -1,50 +1,75 @@
-use Rattle.std.proofs.Common.{◌≡◌, true, refl, sym, subst, ap, ◌∙◌}
-use Rattle.std.specs.Prelude.{Some}
+-- A player enters, whose entity stands already.
+use Rattle.std.proofs.Common.{◌≡◌, true, refl, sym, subst, ap, ◌∙◌, length}
+use Rattle.std.specs.Prelude.{Some, ◌&&◌, ◌||◌, nat_lt}
 use Rattle.mc_model.specs.declared.stage.Stage.TheVariants as stages
 use Rattle.mc_model.specs.Names.{offline_uuid}
 use Rattle.mc_model.specs.Orderly.{next_number}
-use Rattle.mc_model.specs.Step.{hand}
+use Rattle.mc_model.specs.Step.{hand, new_player}
 use Rattle.mc_model.specs.Talk.{accepted}
-use Rattle.mc_model.specs.World.{Session, Player, is_closed}
+use Rattle.mc_model.specs.Things.{is_known}
+use Rattle.mc_model.specs.World.{Session, Player, is_closed, players}
+use Rattle.mc_model.proofs.FitsText.{both_true}
 use Rattle.mc_model.proofs.Handing.{not_both}
-use Rattle.mc_server.specs.LoggingIn.{IsAskedAt, has_room}
-use Rattle.mc_server.specs.Served.{ConnectionValue, ServerValue, kept_world}
+use Rattle.mc_server.specs.LoggingIn.{IsAskedAt}
+use Rattle.mc_server.specs.Served.{ConnectionValue, ServerValue, kept_world, playing_of, sessions_of}
 use Rattle.mc_server.specs.contracts.server.Server.{the_view}
-use Rattle.mc_server.proofs.Decoding.{on_ok_more}
-use Rattle.mc_server.proofs.Keeping.{kept_enter, room_eids}
-use Rattle.mc_server.proofs.Becoming.{enter_becomes, hand_id, nth_is, retains_with}
+use Rattle.mc_server.proofs.Keeping.{kept_enter, within_view}
+use Rattle.mc_server.proofs.Becoming.{enters_from, hand_id, nth_is, retains_with}
 use Rattle.mc_server.proofs.server.Server.enter.Goals as goal
 
 pub invariant_of-self : goal.invariant_of-self
 invariant_of-self c =
-    let v = the_view c.self.inside in
-    let asked : IsAskedAt c.args.i v.connections =
-    (let P : ServerValue → Type 0 = λ u. IsAskedAt c.args.i u.connections in
-    subst P (sym c.self.view_is) c.requires.asked) in
+    let v = c.args.self.now in
+    let e = c.self.view_is ∙ c.in_ok-eid.ensures.is in
     let x : ConnectionValue = c.index_mut.result.now in
-    let room = (let P : ServerValue → Type 0 = λ u. has_room (kept_world u) ≡ true in
-    subst P (sym c.self.view_is) c.requires.room) in
+    let lt = within_view c.args.i (the_view c.self.inside) _ e c.requires.asked.within in
+    let w = kept_world v in
+    let names = is_known c.args.name.now w.things.packs
+    || nat_lt (length w.things.packs) 65536 in
+    let room = both_true (nat_lt (length (players w)) w.most)
+    (nat_lt w.things.eids 2147483647 && names) c.requires.room in
+    let P : ServerValue → Type 0 =
+    λ u. nat_lt (length (playing_of (sessions_of u.connections))) u.most ≡ true in
     kept_enter c.self.inside.connections.items c.self.invariant c.args.i x c.enter.new.self
-    asked.within c.index_mut.ensures.value c.enter.ensures.same room
+    lt c.index_mut.ensures.value c.enter.ensures.same (subst P (sym e) room.0)
+
+pub invariant_of-self-2 : goal.invariant_of-self-2
+invariant_of-self-2 c =
+    let v = c.args.self.now in
+    let e = c.self.view_is ∙ c.in_ok-eid.ensures.is in
+    let x : ConnectionValue = c.index_mut.result.now in
+    let lt = within_view c.args.i (the_view c.self.inside) _ e c.requires.asked.within in
+    let w = kept_world v in
+    let names = is_known c.args.name.now w.things.packs
+    || nat_lt (length w.things.packs) 65536 in
+    let room = both_true (nat_lt (length (players w)) w.most)
+    (nat_lt w.things.eids 2147483647 && names) c.requires.room in
+    let P : ServerValue → Type 0 =
+    λ u. nat_lt (length (playing_of (sessions_of u.connections))) u.most ≡ true in
+    kept_enter c.self.inside.connections.items c.self.invariant c.args.i x c.enter.new.self
+    lt c.index_mut.ensures.value c.enter.ensures.same (subst P (sym e) room.0)
 
 pub returns : goal.returns
 returns c =
-    let v = the_view c.self.inside in
-    let asked : IsAskedAt c.args.i v.connections =
-    (let P : ServerValue → Type 0 = λ u. IsAskedAt c.args.i u.connections in
-    subst P (sym c.self.view_is) c.requires.asked) in
+    let v = c.args.self.now in
+    let mid = the_view c.self.inside in
+    let e = c.self.view_is ∙ c.in_ok-eid.ensures.is in
     let x : ConnectionValue = c.index_mut.result.now in
     let high = next_number c.self.inside.last in
+    let lt = within_view c.args.i mid _ e c.requires.asked.within in
+    let asked : IsAskedAt c.args.i mid.connections =
+    (let P : ServerValue → Type 0 = λ u. IsAskedAt c.args.i u.connections in
+    subst P (sym e) c.requires.asked) in
     let at : x.session.stage ≡ stages.Asked = ap (λ (s : Session). s.stage)
-    (sym (nth_is v c.args.i high x x c.self.invariant.rise asked.within
+    (sym (nth_is mid c.args.i high x x c.self.invariant.rise lt
     c.index_mut.ensures.value refl)) ∙ asked.asked in
-    rw (← c.self.view_is) (on_ok_more c.enter.result _ _
-    (λ made. enter_becomes v c.args.i high x c.enter.new.self c.self.invariant.rise asked.within
-    c.index_mut.ensures.value c.enter.ensures.same c.args.name.now
+    let made = c.in_ok-enter.ensures.ok in
+    rw c.let_go.ensures (enters_from v mid c.args.i high x c.enter.new.self c.args.name.now
+    c.in_ok-eid.eid e c.self.invariant.rise c.requires.asked.within c.index_mut.ensures.value
+    c.enter.ensures.same c.in_ok-eid.ensures.eid
     (ap (λ (d : ConnectionValue). d.session) made
     ∙ ap (λ (p : Player). (hand (record x.session { stage = stages.Play; player = Some p })
     (accepted (offline_uuid c.args.name.now) c.args.name.now)).session)
-    c.in_ok-player.ensures.is)
+    (c.in_ok-player.ensures.is ∙ ap (λ n. new_player n c.args.name.now) c.in_ok-eid.ensures.eid))
     (retains_with x c.enter.new.self _ made (hand_id _ _)
-    (λ e. absurd (not_both (is_closed x.session.stage) e (ap is_closed at)))))
-    c.enter.ensures.ok)
+    (λ closed. absurd (not_both (is_closed x.session.stage) closed (ap is_closed at)))))

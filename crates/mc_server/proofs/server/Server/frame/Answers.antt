@@ -1,4 +1,5 @@
-use Rattle.std.proofs.Common.{◌≡◌, ◌∙◌, sym, ap, subst}
+use Rattle.std.proofs.Common.{◌≡◌, ◌∙◌, sym, ap, subst, length}
+use Rattle.mc_model.specs.World.{Session, players}
 use Rattle.std.specs.Prelude.{Option, Some}
 use Rattle.mc_model.specs.Orderly.{next_number}
 use Rattle.mc_server.specs.declared.connection.pending.Pending.{Pending}
@@ -7,6 +8,8 @@ use Rattle.mc_server.specs.Served.{kept_world, nth_session}
 use Rattle.mc_server.proofs.Becoming.{becomes_within}
 use Rattle.mc_server.proofs.Decoding.{on_ok_more}
 use Rattle.mc_server.proofs.FrameFacts.{frame_acts, frame_alone, frame_asks, frame_login}
+use Rattle.mc_server.proofs.FrameFacts.{pending_act}
+use Rattle.mc_server.proofs.Fitting.{acts_fit}
 use Rattle.mc_server.proofs.server.Server.frame.Goals as goal
 
 pub returns-in_default : goal.returns-in_default
@@ -36,8 +39,18 @@ returns-in-Login c =
     c.in_ok-pending.ensures.is b) c.log_in.ensures
 
 pub act-requires : goal.act-requires
-act-requires c = becomes_within c.args.i c.args.self.now c.handle.new.self _
-    c.in_ok-pending.ensures.is c.requires.open_.within
+act-requires c =
+    let v = c.args.self.now in
+    let s : Session = nth_session c.args.i v.connections in
+    let w = kept_world v in
+    let came = pending_act (request_in w s c.args.frame.now) c.in-Act.packet
+    (sym (c.in-Some.is ∙ ap Some c.in-Act.is) ∙ c.in_ok-pending.ensures.pending) in
+    record {
+      within = becomes_within c.args.i v c.handle.new.self _
+          c.in_ok-pending.ensures.is c.requires.open_.within;
+      fits = acts_fit s.stage w.most (length (players w)) c.args.frame.now c.in-Act.packet
+          (λ i. (c.type_inv.frame i).fits) came;
+    }
 
 pub returns-in-Act : goal.returns-in-Act
 returns-in-Act c =

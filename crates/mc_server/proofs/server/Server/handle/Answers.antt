@@ -1,15 +1,15 @@
-use Rattle.std.proofs.Common.{◌≡◌, ℕ, false, refl, sym, subst, ap, ◌∙◌}
-use Rattle.std.specs.Prelude.{Option, OnOk, IfOk}
+use Rattle.std.proofs.Common.{◌≡◌, ℕ, false, refl, sym, subst, ap, ◌∙◌, arith}
+use Rattle.std.proofs.lemmas.List.{length-set}
 use Rattle.mc_model.specs.Orderly.{next_number}
-use Rattle.mc_model.specs.Talk.{ClientRequest, request_of}
+use Rattle.mc_model.specs.Talk.{request_of}
 use Rattle.mc_model.specs.World.{Session, is_closed}
 use Rattle.mc_server.specs.Handling.{after_request, pending_of, request_in}
-use Rattle.mc_server.specs.Served.{ConnectionValue, ServerValue, IsOpenAt, kept_world, nth_session}
+use Rattle.mc_server.specs.Served.{ConnectionValue, ServerValue, IsOpenAt, kept_world}
 use Rattle.mc_server.specs.contracts.server.Server.{the_view}
 use Rattle.mc_model.proofs.Handing.{not_both}
-use Rattle.mc_server.proofs.Decoding.{if_ok_more, on_ok_all3}
 use Rattle.mc_server.proofs.Keeping.{kept_set, few_play}
-use Rattle.mc_server.proofs.Becoming.{nth_is, put_becomes}
+use Rattle.mc_server.proofs.Becoming.{after_becomes, nth_is, nth_set, one_at}
+use Rattle.mc_server.proofs.Leavings.{eid_in}
 use Rattle.mc_server.proofs.FrameFacts.{open_stage}
 use Rattle.mc_server.proofs.server.Server.handle.Goals as goal
 
@@ -40,6 +40,25 @@ invariant_of-self c =
     kept_set c.self.inside.connections.items c.self.invariant c.args.i x c.handle.new.self
     open_.within c.index_mut.ensures.value c.handle.ensures.same c.handle.ensures.calm
 
+pub invariant_of-self-2 : goal.invariant_of-self-2
+invariant_of-self-2 c =
+    let v = the_view c.self.inside in
+    let open_ : IsOpenAt c.args.i v.connections =
+    (let P : ServerValue → Type 0 = λ u. IsOpenAt c.args.i u.connections in
+    subst P (sym c.self.view_is) c.requires.open_) in
+    let x : ConnectionValue = c.index_mut.result.now in
+    kept_set c.self.inside.connections.items c.self.invariant c.args.i x c.handle.new.self
+    open_.within c.index_mut.ensures.value c.handle.ensures.same c.handle.ensures.calm
+
+pub let_go-requires : goal.let_go-requires
+let_go-requires c =
+    let open_ : IsOpenAt c.args.i (the_view c.self.inside).connections =
+    (let P : ServerValue → Type 0 = λ u. IsOpenAt c.args.i u.connections in
+    subst P (sym c.self.view_is) c.requires.open_) in
+    let lt = open_.within in
+    let len = length-set c.self.inside.connections.items c.args.i c.handle.new.self in
+    record { within = omega (arith, lt, len); small = c.eid-eid.ensures.small }
+
 pub returns : goal.returns
 returns c =
     let v = the_view c.self.inside in
@@ -55,22 +74,25 @@ returns c =
     let said : request_of x.session.stage v.most c.playing-online.result c.args.frame.now ≡
     request_in (kept_world v) x.session c.args.frame.now =
     ap (λ (n : ℕ). request_of x.session.stage v.most n c.args.frame.now) c.playing-online.ensures in
-    rw (← c.self.view_is) (record {
-      pending = if_ok_more c.handle.result _ _ (λ pending e. e ∙ ap pending_of said
+    let t : ConnectionValue = c.handle.new.self in
+    let one = one_at v.connections c.args.i c.index.result.now x open_.within c.index.ensures
+    c.index_mut.ensures.value in
+    let handles = c.in_ok-pending.ensures.handles in
+    rw (← c.self.view_is) (rw c.let_go.ensures (record {
+      pending = handles.pending ∙ ap pending_of said
           ∙ ap (λ (s : Session). pending_of (request_in (kept_world v) s c.args.frame.now))
-          (sym is)) c.handle.ensures.handles.pending;
-      is = on_ok_all3 c.handle.result _ _ _ _
-          (λ made splitter mark. put_becomes v c.args.i high x c.handle.new.self
-          c.self.invariant.rise open_.within c.index_mut.ensures.value c.handle.ensures.same
+          (sym is);
+      is = after_becomes v c.args.i high x t c.self.invariant.rise open_.within
+          c.index_mut.ensures.value c.handle.ensures.same c.eid-eid.result _
+          (c.eid-eid.ensures.is ∙ ap (λ (d : ConnectionValue). eid_in d.session.player) one)
+          (ap (λ (s : Session). s.player) (nth_set v c.args.i t open_.within))
           (λ (s : Session). after_request s (request_in (kept_world v) s c.args.frame.now))
-          (made ∙ ap (after_request x.session) said)
+          (handles.is ∙ ap (after_request x.session) said)
           (record {
             id = c.handle.ensures.same;
-            splitter = splitter;
-            closed =
-                λ e. absurd (not_both _ e opened);
-            mark = mark;
-          }))
-          c.handle.ensures.handles.is c.handle.ensures.handles.splitter c.handle.ensures.handles.mark;
+            splitter = handles.splitter;
+            closed = λ e. absurd (not_both _ e opened);
+            mark = handles.mark;
+          });
       rise = c.self.invariant.rise;
-    })
+    }))

@@ -1,7 +1,6 @@
-use Rattle.std.proofs.Common.{◌≡◌, ◌∙◌, FitsSigned, ap, get_or, of_z, refl, rules, subst, sym, to_z}
+use Rattle.std.proofs.Common.{◌≡◌, ◌∙◌, FitsSigned, ap, get_or, of_z, rules, subst, sym, to_z}
 use Rattle.std.proofs.Common.{w32}
 use Rattle.std.proofs.lemmas.Int.{to_z-of_z}
-use lib.IntN.{ℤ}
 use Rattle.mc_model.specs.Step.{new_session}
 use Rattle.mc_model.specs.World.{Session}
 use Rattle.mc_server.specs.Served.{ConnectionValue, ServerValue, nth_session}

@@ -1,4 +1,5 @@
-use Rattle.std.proofs.Common.{refl, sym, subst, ap, ◌∙◌}
+use Rattle.std.proofs.Common.{None, refl, sym, subst, ap, ◌∙◌}
+use Rattle.mc_server.proofs.Leavings.{eid_in}
 use Rattle.mc_model.specs.declared.cause.Cause.TheVariants as causes
 use Rattle.mc_model.specs.Orderly.{next_number}
 use Rattle.mc_model.specs.Step.{disconnect, mark_closed}
@@ -9,7 +10,7 @@ use Rattle.mc_server.specs.Served.{ConnectionValue, ServerValue}
 use Rattle.mc_server.specs.contracts.server.Server.{the_view}
 use Rattle.mc_server.proofs.Decoding.{on_ok_more}
 use Rattle.mc_server.proofs.Keeping.{kept_set}
-use Rattle.mc_server.proofs.Becoming.{close_closes, closed_calm, hand_id, nth_is, put_becomes}
+use Rattle.mc_server.proofs.Becoming.{after_becomes, close_closes, closed_calm, hand_id, nth_is}
 use Rattle.mc_server.proofs.Becoming.{retains_with}
 use Rattle.mc_server.proofs.server.Server.refuse.Goals as goal
 
@@ -41,12 +42,14 @@ returns c =
     (let P : ServerValue → Type 0 = λ u. IsAskedAt c.args.i u.connections in
     subst P (sym c.self.view_is) c.requires) in
     let x : ConnectionValue = c.index_mut.result.now in
+    let t : ConnectionValue = c.refuse.new.self in
     rw (← c.self.view_is) (on_ok_more c.refuse.result _ _
-    (λ made. put_becomes v c.args.i (next_number c.self.inside.last)
-    x c.refuse.new.self c.self.invariant.rise asked.within c.index_mut.ensures.value
-    c.refuse.ensures.same
+    (λ made. after_becomes v c.args.i (next_number c.self.inside.last)
+    x t c.self.invariant.rise asked.within c.index_mut.ensures.value
+    c.refuse.ensures.same None t.session.player
+    (ap eid_in (sym c.refuse.ensures.waited)) refl
     (λ (s : Session). (disconnect s (causes.Refused c.args.why) (refused c.args.why)).session)
     (ap (λ (d : ConnectionValue). d.session) made)
-    (retains_with x c.refuse.new.self _ made
+    (retains_with x t _ made
     (hand_id (mark_closed x.session (causes.Refused c.args.why)) _)
     (λ e. close_closes x.session (causes.Refused c.args.why) _))) c.refuse.ensures.ok)
