@@ -11,8 +11,10 @@ import struct
 import time
 
 import protocol
+from clientbound import PLAY, Chunk, KeepAlive, Place, Time
 from columns import column_at, view_at
-from protocol import Chunk, Frames, KeepAlive, Place, Pong, Refusal, Response, Success
+from packs import KIT
+from protocol import Frames, Pong, Refusal, Response, Success
 from replica import Replica
 
 HOST = "127.0.0.1"
@@ -121,10 +123,10 @@ class Client(Connection):
 
     def take_packet(self, packet):
         """Keep a packet, unless it is a chunk, and do with it what the stage says."""
-        if self.stage is protocol.PLAY:
+        if self.stage is PLAY:
             self.replica.fold(packet)
         if type(packet) is Success:
-            self.stage = protocol.PLAY
+            self.stage = PLAY
         if type(packet) is KeepAlive:
             self.send(protocol.keep_alive(packet.number))
         if type(packet) is not Chunk:
@@ -150,10 +152,13 @@ class Client(Connection):
         self.packets.clear()
         self.replica.changes.clear()
 
+    def news(self):
+        """Answer the packets but chunks, beats and times that came since these were forgotten."""
+        return [packet for packet in self.packets if type(packet) not in (KeepAlive, Time)]
+
     def has_news(self):
         """Whether anything but a beat or a time came since the news were forgotten."""
-        routine = (KeepAlive, protocol.Time)
-        return bool(self.replica.changes) or any(type(p) not in routine for p in self.packets)
+        return bool(self.replica.changes or self.news())
 
 
 class Ticker(Client):
@@ -199,11 +204,12 @@ def listen(clients, seconds):
     pump(clients, lambda: False, seconds)
 
 
-def log_in(port, name, others=(), kind=Client):
-    """Connect a client, log it in, and wait until it is shown the spawn place's columns."""
+def log_in(port, name, others=(), kind=Client, pack=KIT):
+    """Connect a client, log it in, and wait until it is shown the spawn place and its pack."""
     client = kind(port)
     client.begin_login(name)
     wait_for_view([client, *others], client, column_at(8.5, 8.5), SMALLEST_VIEW)
+    wait_for_pack([client, *others], client, pack)
     return client
 
 
@@ -214,6 +220,12 @@ def wait_for_view(clients, client, middle, size):
         extra, missing = sorted(there - due), sorted(due - there)
         ending = f", the end came after {client.received} bytes" if client.ended else ""
         raise Unexpected(f"columns too many {extra[:5]}, missing {missing[:5]}{ending}")
+
+
+def wait_for_pack(clients, client, pack):
+    """Wait until one of the clients is told that it carries just this."""
+    done = pump(clients, lambda: client.replica.pack == pack)
+    expect(done, f"the pack is {client.replica.pack}, not {pack}")
 
 
 def wait_for_names(clients, client, names):

@@ -13,6 +13,7 @@ from protocol import Malformed
 SECTIONS = 16
 CELLS = 4096
 LAYER = 256
+HEIGHT = 256
 AIR_SECTION = (0,) * CELLS
 
 STATE_BYTES = 2 * CELLS
@@ -25,6 +26,21 @@ class Column(NamedTuple):
 
     sections: tuple
     biomes: bytes
+
+    def state_at(self, index):
+        """Answer the state of a cell by its index."""
+        return self.sections[index // CELLS][index % CELLS]
+
+    def with_states(self, states):
+        """Make a column that has other states by the indices of their cells, and is else alike."""
+        changed = {}
+        for index, state in states.items():
+            changed.setdefault(index // CELLS, {})[index % CELLS] = state
+        sections = list(self.sections)
+        for section, cells in changed.items():
+            kept = sections[section]
+            sections[section] = tuple(cells.get(cell, kept[cell]) for cell in range(CELLS))
+        return Column(tuple(sections), self.biomes)
 
 
 def column_of(states, biomes):
@@ -107,6 +123,12 @@ def half_bytes(values):
 def column_at(x, z):
     """Answer the column in which a place lies, rounded down."""
     return int(x // 16), int(z // 16)
+
+
+def index_of(cell):
+    """Answer the index of a cell in its column."""
+    x, y, z = cell
+    return y * LAYER + z % 16 * 16 + x % 16
 
 
 def view_at(middle, size):

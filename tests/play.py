@@ -18,6 +18,7 @@ from client import (
     wait_for_names,
     wait_for_view,
 )
+from clientbound import JoinGame, Place, SpawnPosition
 from columns import column_at, view_at
 from program import Program
 from terrain import Flat, Hills, Isle
@@ -68,12 +69,12 @@ def check_opening(client, name, land, most):
     success = protocol.Success(protocol.offline_identifier(name), name)
     expect(client.packets[0] == success, f"{client.packets[0]} for the login of {name}")
     order = [type(packet) for packet in client.packets[1:4]]
-    opening = [protocol.JoinGame, protocol.SpawnPosition, protocol.Place]
+    opening = [JoinGame, SpawnPosition, Place]
     expect(order == opening, f"the opening is {order}")
     expect(client.replica.joined.most_players == most, f"{client.replica.joined}")
-    place = protocol.Place(*land.spawn, 0.0, 0.0, 0)
+    place = Place(*land.spawn, 0.0, 0.0, 0)
     expect(client.replica.place == place, f"{client.replica.place}, not {place}")
-    compass = protocol.SpawnPosition(*(int(part) for part in land.spawn))
+    compass = SpawnPosition(*(int(part) for part in land.spawn))
     expect(client.replica.compass == compass, f"{client.replica.compass}, not {compass}")
 
 
@@ -145,7 +146,7 @@ def far_places_bring_back(path):
             wait_for_view([client], client, (0, 0), SMALLEST_VIEW)
             listen([client], 2 * TICK)
             places = client.packets
-            expect(places == [protocol.Place(*Flat.spawn, 0.0, 0.0, 0)], f"sent back by {places}")
+            expect(places == [Place(*Flat.spawn, 0.0, 0.0, 0)], f"sent back by {places}")
 
 
 TESTS = [

@@ -1,9 +1,10 @@
 """The bytes of Minecraft 1.8 (protocol 47), as these tests read and write them.
 
 This is a reading of its own that shares nothing with the server. Its sources are the public pages
-of wiki.vg for protocol 47, 'Protocol', 'Data types', 'Server List Ping' and 'Chat', and
-docs/PROTOCOL.md. What comes from the server is read strictly: an unknown id, a field that does not
-read, a VarInt that is not the shortest and bytes behind the last field are each `Malformed`.
+of wiki.vg for protocol 47, 'Protocol', 'Data types', 'Slot Data', 'Server List Ping' and 'Chat',
+and docs/PROTOCOL.md. What comes from the server is read strictly: an unknown id, a field that does
+not read, a VarInt that is not the shortest and bytes behind the last field are each `Malformed`.
+The packets that it sends in play stand in clientbound.py.
 """
 
 import hashlib
@@ -20,8 +21,22 @@ LONGEST_TEXT = 32767
 LONGEST_NAME = 16
 
 
+# What a stack of the world may have (docs/PROTOCOL.md, 'Slots'): an id, a count and a damage.
+ITEMS = range(1, 256)
+COUNTS = range(1, 65)
+DAMAGES = range(16)
+
+
 class Malformed(Exception):
     """Bytes that are nothing that the server may send."""
+
+
+class Stack(NamedTuple):
+    """So many of an item, without a tag. The empty slot is None."""
+
+    item: int
+    count: int
+    damage: int
 
 
 # Writing fields ('Data types')
@@ -42,6 +57,17 @@ def text(value):
     """Spell a String: the length of its UTF-8 in bytes, and that."""
     encoded = value.encode("utf-8")
     return varint(len(encoded)) + encoded
+
+
+def block_position(cell):
+    """Spell a Position: 26 bits of x, 12 of y and 26 of z."""
+    x, y, z = cell
+    return struct.pack(">Q", (x & 0x3FFFFFF) << 38 | (y & 0xFFF) << 26 | z & 0x3FFFFFF)
+
+
+def slot(stack):
+    """Spell a Slot ('Slot Data'): a stack without a tag, or the empty one."""
+    return b"\xFF\xFF" if stack is None else struct.pack(">hbhB", *stack, 0)
 
 
 def frame(payload):
@@ -96,6 +122,27 @@ def look(yaw, pitch):
 def position_look(x, y, z, yaw, pitch):
     """Say where the player stands and how it looks."""
     return packet(0x06, struct.pack(">dddff?", x, y, z, yaw, pitch, True))
+
+
+def digging(status, cell, face=1):
+    """Say by Player Digging what is done to a cell, or by status 3 and 4 what is dropped."""
+    return packet(0x07, struct.pack(">b", status), block_position(cell), struct.pack(">b", face))
+
+
+def placement(cell, face, stack=None):
+    """Say by Player Block Placement that a face of a cell was clicked, with a stack in the hand."""
+    clicked = struct.pack(">b", face), slot(stack), struct.pack(">bbb", 8, 16, 8)
+    return packet(0x08, block_position(cell), *clicked)
+
+
+def held(place):
+    """Say by Held Item Change which place of the hotbar the hand is on, from 0 to 8."""
+    return packet(0x09, struct.pack(">h", place))
+
+
+def creative(index, stack):
+    """Say by Creative Inventory Action that a slot shall hold a stack."""
+    return packet(0x10, struct.pack(">h", index), slot(stack))
 
 
 def settings(view):
@@ -164,6 +211,18 @@ class Reader:
         bits = self.number("Q")
         return signed(bits >> 38, 26), signed(bits >> 26, 12), signed(bits, 26)
 
+    def slot(self):
+        """Take a Slot: a stack that the world may hold, without a tag, or None for an empty one."""
+        item = self.number("h")
+        if item == -1:
+            return None
+        stack = Stack(item, self.number("b"), self.number("h"))
+        if item not in ITEMS or stack.count not in COUNTS or stack.damage not in DAMAGES:
+            raise Malformed(f"a strange {stack}")
+        if self.number("B") != 0:
+            raise Malformed(f"a {stack} with a tag")
+        return stack
+
     def finish(self):
         """Find nothing left."""
         left = len(self.data) - self.at
@@ -177,7 +236,7 @@ def signed(bits, width):
     return value - (1 << width) if value >> width - 1 else value
 
 
-# Packets to the client
+# Packets to the client before play
 
 
 class Response(NamedTuple):
@@ -205,77 +264,6 @@ class Success(NamedTuple):
     name: str
 
 
-class KeepAlive(NamedTuple):
-    """A beat, which is to be answered."""
-
-    number: int
-
-
-class JoinGame(NamedTuple):
-    """The first packet of play."""
-
-    entity: int
-    mode: int
-    dimension: int
-    difficulty: int
-    most_players: int
-    level: str
-    reduced: bool
-
-
-class Time(NamedTuple):
-    """The age of the world and the time of the day."""
-
-    age: int
-    of_day: int
-
-
-class SpawnPosition(NamedTuple):
-    """The block at which a compass points."""
-
-    x: int
-    y: int
-    z: int
-
-
-class Place(NamedTuple):
-    """The client's own place and look, as the server has them."""
-
-    x: float
-    y: float
-    z: float
-    yaw: float
-    pitch: float
-    flags: int
-
-
-class Chunk(NamedTuple):
-    """One column's sections, or with mask 0 its unload."""
-
-    place: tuple
-    ground_up: bool
-    mask: int
-    body: bytes
-
-
-class PlayersCame(NamedTuple):
-    """New lines of the player list: a name for each identifier."""
-
-    names: dict
-
-
-class PlayersLeft(NamedTuple):
-    """Lines of the player list that go."""
-
-    identifiers: list
-
-
-class Disconnect(NamedTuple):
-    """The farewell in play."""
-
-    reason: str
-
-
 def read_reason(reader):
     """Take a Chat and answer its words; no other part of 'Chat' is sent."""
     said = reader.text()
@@ -298,58 +286,7 @@ def read_success(reader):
     return Success(identifier, name)
 
 
-def read_join_game(reader):
-    """Take the fields of Join Game."""
-    numbers = reader.number("i"), reader.number("B"), reader.number("b"), reader.number("B")
-    return JoinGame(*numbers, reader.number("B"), reader.text(), reader.boolean())
-
-
-def read_place(reader):
-    """Take the fields of Player Position And Look."""
-    numbers = [reader.number(form) for form in "dddff"]
-    return Place(*numbers, reader.number("b"))
-
-
-def read_chunk(reader):
-    """Take the fields of Chunk Data; its body is looked into elsewhere."""
-    place = reader.number("i"), reader.number("i")
-    ground_up, mask = reader.boolean(), reader.number("H")
-    return Chunk(place, ground_up, mask, reader.take(reader.varint()))
-
-
-def read_player_list(reader):
-    """Take a Player List Item that adds players (action 0) or removes them (action 4)."""
-    action, count = reader.varint(), reader.varint()
-    if count < 1:
-        raise Malformed(f"a list of {count} players")
-    if action == 0:
-        names = dict(read_new_player(reader) for _ in range(count))
-        if len(names) < count:
-            raise Malformed("a list that names a player twice")
-        return PlayersCame(names)
-    if action == 4:
-        return PlayersLeft([reader.identifier() for _ in range(count)])
-    raise Malformed(f"the action {action} of a player list")
-
-
-def read_new_player(reader):
-    """Take one line of a player list that is new: its identifier and its name."""
-    identifier, name = reader.identifier(), reader.text(LONGEST_NAME)
-    for _ in range(reader.varint()):
-        reader.text()
-        reader.text()
-        if reader.boolean():
-            reader.text()
-    mode, _ping = reader.varint(), reader.varint()
-    if mode not in range(4):
-        raise Malformed(f"a player of mode {mode}")
-    if reader.boolean():
-        reader.text()
-    return identifier, name
-
-
-# What the server sends by the stage of a connection (docs/PROTOCOL.md, 'Packets' and 'Packets to
-# the client in play', as far as docs/WORLD.md has it sent).
+# What the server sends by the stage of a connection (docs/PROTOCOL.md, 'Packets').
 
 STATUS = {
     0x00: lambda reader: Response(reader.text()),
@@ -361,20 +298,8 @@ LOGIN = {
     0x02: read_success,
 }
 
-PLAY = {
-    0x00: lambda reader: KeepAlive(reader.varint()),
-    0x01: read_join_game,
-    0x03: lambda reader: Time(reader.number("q"), reader.number("q")),
-    0x05: lambda reader: SpawnPosition(*reader.block_position()),
-    0x08: read_place,
-    0x21: read_chunk,
-    0x38: read_player_list,
-    0x40: lambda reader: Disconnect(read_reason(reader)),
-}
-
-
 def decode(stage, payload):
-    """Read a frame's payload as a packet of `STATUS`, `LOGIN` or `PLAY`."""
+    """Read a frame's payload as a packet of `STATUS`, `LOGIN`, or `PLAY` of clientbound.py."""
     reader = Reader(payload)
     number = reader.varint()
     if number not in stage:

@@ -5,36 +5,61 @@ fold is strict: it refuses what those pages never have sent, such as an unload o
 not there.
 """
 
-from columns import read_column
-from protocol import (
+from typing import NamedTuple
+
+from clientbound import (
+    Change,
     Chunk,
+    Destroy,
     Disconnect,
+    ItemIs,
     JoinGame,
     KeepAlive,
-    Malformed,
+    MultiChange,
     Place,
     PlayersCame,
     PlayersLeft,
+    SetSlot,
+    SpawnItem,
     SpawnPosition,
     Time,
-    offline_identifier,
+    WindowItems,
 )
+from columns import HEIGHT, column_at, index_of, read_column
+from packs import FIRST_SLOT, SLOTS, pack_of
+from protocol import Malformed, Stack, offline_identifier
+
+CURSOR_WINDOW = -1
+CURSOR_SLOT = -1
+
+# A block is so many of the parts in which places of entities are told.
+PARTS = 32
+
+
+class Item(NamedTuple):
+    """A dropped item: its place in 1/32 blocks, and what lies there."""
+
+    place: tuple
+    stack: Stack
 
 
 class Replica:
-    """The columns, the player list, the time and the place that a client was sent."""
+    """The columns, the items, the pack, the player list, the time and the place of a client."""
 
     def __init__(self):
         self.joined = None
         self.compass = None
         self.place = None
         self.columns = {}
+        self.items = {}
+        self.pack = pack_of()
         self.players = {}
         self.time = None
         self.beat = None
         self.farewell = None
         # What was loaded and unloaded, in order; a test clears it when it likes.
         self.changes = []
+        self.previous = None
 
     def fold(self, packet):
         """Take a packet of play into account."""
@@ -42,7 +67,11 @@ class Replica:
             raise Malformed(f"{type(packet).__name__} behind the farewell")
         if type(packet) not in OPENING and self.place is None and type(packet) is not Disconnect:
             raise Malformed(f"{type(packet).__name__} before the opening")
+        due = NEXT.get(type(self.previous), type(packet))
+        if type(packet) is not due:
+            raise Malformed(f"{type(packet).__name__} where {due.__name__} is due")
         FOLDS[type(packet)](self, packet)
+        self.previous = packet
 
     def join(self, packet):
         """Begin; that comes once, before all else."""
@@ -80,10 +109,79 @@ class Replica:
         self.changes.append((change, packet.place))
 
     def unload(self, packet):
-        """Give a column up."""
+        """Give a column up; the items in it went before."""
         if packet.body:
             raise Malformed(f"an unload of {packet.place} with {len(packet.body)} bytes")
+        if any(column_of_item(item.place) == packet.place for item in self.items.values()):
+            raise Malformed(f"an unload of {packet.place}, where items lie")
         del self.columns[packet.place]
+
+    def set_cell(self, packet):
+        """Change a cell of a column that is there; below and above the world all is air."""
+        place = column_at(packet.cell[0], packet.cell[2])
+        if packet.cell[1] in range(HEIGHT):
+            self.set_states(place, {index_of(packet.cell): packet.state})
+        elif packet.state != 0 or place not in self.columns:
+            raise Malformed(f"{packet}, which is no cell that is there")
+
+    def set_cells(self, packet):
+        """Change several cells of a column, in rising index, each to a state that it had not."""
+        indices = [index for index, _ in packet.records]
+        if len(indices) < 2 or indices != sorted(set(indices)):
+            raise Malformed(f"changes of {packet.place} that are not several in order: {indices}")
+        before = self.columns.get(packet.place)
+        if before and any(before.state_at(index) == state for index, state in packet.records):
+            raise Malformed(f"changes of {packet.place} that change nothing: {packet.records}")
+        self.set_states(packet.place, dict(packet.records))
+
+    def set_states(self, place, states):
+        """Give cells of a column that is there other states, by their indices."""
+        if place not in self.columns:
+            raise Malformed(f"changes of {place}, which is not there")
+        self.columns[place] = self.columns[place].with_states(states)
+
+    def state_at(self, cell):
+        """Answer the state of a cell of a column that is there."""
+        return self.columns[column_at(cell[0], cell[2])].state_at(index_of(cell))
+
+    def add_item(self, packet):
+        """Put a new item into a column that is there; what it is comes next."""
+        if packet.entity in self.items or packet.entity in (0, self.joined.entity):
+            raise Malformed(f"{packet} of a number that stands for another")
+        if column_of_item(packet.place) not in self.columns:
+            raise Malformed(f"{packet} in a column that is not there")
+        self.items[packet.entity] = Item(packet.place, None)
+
+    def name_item(self, packet):
+        """Keep what a new item is."""
+        if type(self.previous) is not SpawnItem or self.previous.entity != packet.entity:
+            raise Malformed(f"{packet} of no item that just came")
+        self.items[packet.entity] = Item(self.items[packet.entity].place, packet.stack)
+
+    def destroy(self, packet):
+        """Give items up, in rising numbers."""
+        if not packet.entities or packet.entities != sorted(set(packet.entities)):
+            raise Malformed(f"{packet} of none, or in no order")
+        for entity in packet.entities:
+            if self.items.pop(entity, None) is None:
+                raise Malformed(f"{packet} of {entity}, which is not there")
+
+    def set_slot(self, packet):
+        """Keep what a slot of the pack holds now, or behind a whole window the empty cursor."""
+        if type(self.previous) is WindowItems:
+            if packet != SetSlot(CURSOR_WINDOW, CURSOR_SLOT, None):
+                raise Malformed(f"{packet} behind the slots of a window")
+        elif packet.window != 0 or packet.index not in SLOTS:
+            raise Malformed(f"{packet} of no slot of the pack")
+        elif self.pack[packet.index - FIRST_SLOT] == packet.stack:
+            raise Malformed(f"{packet}, as it was before")
+        else:
+            self.pack[packet.index - FIRST_SLOT] = packet.stack
+
+    def check_window(self, packet):
+        """Find all slots of the own window as they were told; the first nine are empty."""
+        if packet.window != 0 or packet.stacks != [None] * FIRST_SLOT + self.pack:
+            raise Malformed(f"{packet} for the pack {self.pack}")
 
     def add_players(self, packet):
         """Put new lines into the player list, in rising identifiers."""
@@ -121,13 +219,28 @@ class Replica:
         return sorted(self.players.values())
 
 
+def column_of_item(place):
+    """Answer the column in which an item lies."""
+    return column_at(place[0] // PARTS, place[2] // PARTS)
+
+
 OPENING = (JoinGame, SpawnPosition, Place)
+
+# What comes next behind a packet of one kind, always.
+NEXT = {SpawnItem: ItemIs, WindowItems: SetSlot}
 
 FOLDS = {
     JoinGame: Replica.join,
     SpawnPosition: Replica.set_compass,
     Place: Replica.set_place,
     Chunk: Replica.set_column,
+    Change: Replica.set_cell,
+    MultiChange: Replica.set_cells,
+    SpawnItem: Replica.add_item,
+    ItemIs: Replica.name_item,
+    Destroy: Replica.destroy,
+    SetSlot: Replica.set_slot,
+    WindowItems: Replica.check_window,
     PlayersCame: Replica.add_players,
     PlayersLeft: Replica.remove_players,
     Time: Replica.set_time,

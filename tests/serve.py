@@ -8,12 +8,15 @@ of tests it runs those alone.
 import sys
 import time
 
+import carrying
 import crowds
+import digging
 import endings
 import faults
 import play
 
-TESTS = [*play.TESTS, *faults.TESTS, *crowds.TESTS, *endings.TESTS]
+TESTS = [*play.TESTS, *digging.TESTS, *carrying.TESTS, *faults.TESTS, *crowds.TESTS]
+TESTS += endings.TESTS
 
 
 def run_test(test, path):

@@ -1,4 +1,4 @@
-"""The land before anybody changed it (docs/WORLD.md, 'Terrain').
+"""The land before anybody changed it (docs/WORLD.md, 'Terrain'), and with changes.
 
 A land answers the column of a place, where players enter, and how it is asked for on the command
 line. All is worked out from that page's formulas; columns that are alike are worked out once.
@@ -6,7 +6,7 @@ line. All is worked out from that page's formulas; columns that are alike are wo
 
 import functools
 
-from columns import LAYER, SECTIONS, column_of
+from columns import LAYER, SECTIONS, column_at, column_of, index_of
 
 STONE = 1 << 4
 GRASS = 2 << 4
@@ -51,6 +51,21 @@ class Hills:
     def column(self, place):
         """Answer the column of a place; they repeat every 128 cells of x and every 96 of z."""
         return hills_column(self.seed, place[0] % 8, place[1] % 6)
+
+
+class Changed:
+    """A land in which cells have other states, by (x, y, z)."""
+
+    def __init__(self, land, cells):
+        self.land = land
+        self.states = {}
+        for cell, state in cells.items():
+            place = column_at(cell[0], cell[2])
+            self.states.setdefault(place, {})[index_of(cell)] = state
+
+    def column(self, place):
+        """Answer the column of a place."""
+        return self.land.column(place).with_states(self.states.get(place, {}))
 
 
 @functools.lru_cache(maxsize=1)

@@ -1,7 +1,8 @@
 //! What one client is sent, on flat land whose columns from -3 to 3 are ready: `flush STEP ..`
-//! works on the players, what is noted and the mark, `share` has the frames encoded for all clients
-//! from now on, and `tell X Z D AT` answers the frames of a view of D around the column (X, Z), for
-//! a player at AT on x, in 1/32 blocks.
+//! works on the players, the cells, the dropped items, the pack, what is noted and the mark; `settle`
+//! settles players and land, `share` has the frames encoded for all clients from now on, and
+//! `tell X Z D AT` answers the frames of a view of D around the column (X, Z), for a player at AT on
+//! x, in 1/32 blocks.
 
 ghost use Rattle.std.specs.Prelude.{◌≡◌, ◌<◌, true, IfOk};
 ghost use Rattle.std.specs.List.{AllByRecursion};
@@ -14,13 +15,16 @@ ghost use Rattle.mc_flush.specs.Seeing.{IsReady};
 use crate::answer::Answer;
 use crate::frames::put_frames;
 use crate::guests::Guests;
+use crate::things::{cell_in, change_item, drop_item, filled, move_to, set_cell, take_out};
 use crate::words::Words;
+use mc_entities::Folk;
 use mc_fields::Spot;
 use mc_flush::{ClientView, Encoded, Mark, flush};
 use mc_land::{Land, Steps, Terrain};
 use mc_model::Notes;
 use mc_nbt::NoMemory;
 use mc_view::ViewSet;
+use mc_windows::{Pack, kit};
 use std::alloc::Global;
 use std::marker::Brand;
 use std::sync::ledger::{Blank, Ledger};
@@ -29,6 +33,8 @@ use std::sync::ledger::{Blank, Ledger};
 #[derive(Drop)]
 struct Scene {
     land: Land,
+    folk: Folk,
+    pack: Pack,
     guests: Guests,
     mark: Mark,
     notes: Notes,
@@ -62,6 +68,14 @@ enum Call {
     Settle,
     Clear,
     Note,
+    Cell,
+    Again,
+    Set,
+    Drop,
+    Turn,
+    Move,
+    Take,
+    Pack,
     Share,
     Tell,
 }
@@ -73,6 +87,14 @@ fn call_of(name: &str) -> Option<Call> {
         "settle" => Some(Call::Settle),
         "clear" => Some(Call::Clear),
         "note" => Some(Call::Note),
+        "cell" => Some(Call::Cell),
+        "again" => Some(Call::Again),
+        "set" => Some(Call::Set),
+        "drop" => Some(Call::Drop),
+        "turn" => Some(Call::Turn),
+        "move" => Some(Call::Move),
+        "take" => Some(Call::Take),
+        "pack" => Some(Call::Pack),
         "share" => Some(Call::Share),
         "tell" => Some(Call::Tell),
         _ => None,
@@ -87,9 +109,11 @@ pub fn client(words: &mut Words<'_>, answer: &mut Answer) {
     };
     let mut scene = Scene {
         land,
+        folk: Folk::new(words.alloc),
+        pack: kit(),
         guests: Guests::new(words.alloc),
-        mark: Mark::new(),
-        notes: Notes::new(),
+        mark: Mark::new(words.alloc),
+        notes: Notes::new(words.alloc),
         shares: false,
     };
     for _ in 0..64 {
@@ -111,12 +135,27 @@ fn step(scene: &mut Scene, words: &mut Words<'_>, answer: &mut Answer) {
 fn answer_call(call: Call, scene: &mut Scene, words: &mut Words<'_>, answer: &mut Answer) {
     match call {
         Call::Enter => enter(&mut scene.guests, words, answer),
-        Call::Settle => answer.needs(scene.guests.settle()),
+        Call::Settle => settle(scene, answer),
         Call::Clear => scene.guests.clear(),
         Call::Note => scene.notes.place(),
+        Call::Cell => answer.needs(scene.notes.cell(cell_in(words))),
+        Call::Again => scene.notes.again(),
+        Call::Set => set_cell(&mut scene.land, words, answer),
+        Call::Drop => drop_item(&mut scene.folk, words, answer),
+        Call::Turn => change_item(&mut scene.folk, words),
+        Call::Move => move_to(&mut scene.folk, words),
+        Call::Take => take_out(&mut scene.folk, words),
+        Call::Pack => scene.pack = filled(scene.pack, words),
         Call::Share => scene.shares = true,
         Call::Tell => tell(scene, words, answer),
     }
+}
+
+/// All clients were shown the players and the cells as they are, and nothing is noted any more.
+fn settle(scene: &mut Scene, answer: &mut Answer) {
+    answer.needs(scene.guests.settle());
+    scene.land.settle();
+    scene.notes.clear();
 }
 
 /// A player enters.
@@ -182,6 +221,7 @@ fn encode<L: Ledger>(
     encoded.add_players(alloc, scene.guests.list())?;
     for place in view.all() {
         encoded.add_load(alloc, &scene.land, &place, steps)?;
+        encoded.add_changes(alloc, &scene.land, &place, steps)?;
     }
     Ok(encoded)
 }
@@ -205,6 +245,8 @@ fn flushed<L: Ledger>(
     let encoded = encode(alloc, scene, &view, &mut steps)?;
     let view = ClientView {
         land: &scene.land,
+        folk: &scene.folk,
+        pack: &scene.pack,
         list: scene.guests.list(),
         encoded: &encoded,
         me: 1,

@@ -23,6 +23,7 @@ mod sessions;
 mod shown;
 mod terrains;
 mod texts;
+mod things;
 mod untold;
 mod views;
 mod words;

@@ -19,6 +19,7 @@ const PLAIN: usize = 400;
 #[derive(Clone, Copy)]
 enum Call {
     Join,
+    Crowd,
     Bytes,
     Gone,
     Broke,
@@ -37,6 +38,7 @@ enum Call {
 fn call_of(name: &str) -> Option<Call> {
     match name {
         "join" => Some(Call::Join),
+        "crowd" => Some(Call::Crowd),
         "bytes" => Some(Call::Bytes),
         "gone" => Some(Call::Gone),
         "broke" => Some(Call::Broke),
@@ -100,6 +102,7 @@ fn step(server: &mut Server, words: &mut Words<'_>, answer: &mut Answer) {
 fn answer_call(call: Call, server: &mut Server, words: &mut Words<'_>, answer: &mut Answer) {
     match call {
         Call::Join => answer.needs(server.event(Input::Join(words.number()))),
+        Call::Crowd => answer.needs(crowd(words, server)),
         Call::Bytes => bytes(server, words, answer),
         Call::Gone => answer.needs(server.event(Input::Gone(words.number()))),
         Call::Broke => answer.needs(server.event(Input::Broke(words.number()))),
@@ -119,6 +122,36 @@ fn answer_call(call: Call, server: &mut Server, words: &mut Words<'_>, answer: &
 fn put_answer<T: std::fmt::Display + Drop>(value: T, answer: &mut Answer) {
     answer.comma();
     answer.word(value);
+}
+
+/// The handshake of a client that wants to play, and what stands before a name of ten letters in its
+/// login.
+const LOGIN: &[u8] = b"\x0f\x00\x2f\x09localhost\x63\xdd\x02\x0c\x00\x0a";
+
+/// So many connections, from a number on, join one after another, log in under names of their own (`N`
+/// and nine digits of the number) and go.
+fn crowd(words: &mut Words<'_>, server: &mut Server) -> Result<(), NoMemory> {
+    let first = words.number::<u32>();
+    for i in 0..words.number::<u32>() {
+        come_and_go(words.alloc, server, first.saturating_add(i))?;
+    }
+    Ok(())
+}
+
+/// A connection joins, logs in and goes.
+fn come_and_go(alloc: Global, server: &mut Server, k: u32) -> Result<(), NoMemory> {
+    let mut login = Vec::new(alloc);
+    login.extend_from_slice(LOGIN)?;
+    login.push(b'N')?;
+    for place in 0..9u32 {
+        let front = k.checked_div(10u32.pow(8 - place)).unwrap_or(0);
+        login.push(b'0' + (front % 10) as u8)?;
+    }
+    server.event(Input::Join(k))?;
+    server.event(Input::Bytes(k, &login))?;
+    server.event(Input::Gone(k))?;
+    server.forget(k);
+    Ok(())
 }
 
 /// Bytes of a connection come.

@@ -11,5 +11,6 @@ pub loop-place-preserved : goal.loop-place-preserved
 loop-place-preserved g c = record {
   ready = (next_holds (IsReady c.args.scene.now.land) c.loop-place.place-iterator c.next.new.self
       c.in-Some.place c.in-Some.ensures.steps c.loop-place.invariant.ready).1;
-  frames = c.add_load.ensures.frames _ c.loop-place.invariant.frames;
+  frames = c.add_changes.ensures.frames _
+      (c.add_load.ensures.frames _ c.loop-place.invariant.frames);
 }

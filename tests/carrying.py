@@ -1,0 +1,219 @@
+"""Tests of what players carry, place and drop.
+
+Sources: wiki.vg, 'Protocol' ('Player Digging' for what is dropped, 'Player Block Placement', 'Held
+Item Change' and 'Creative Inventory Action'), docs/PROTOCOL.md and docs/WORLD.md.
+"""
+
+import protocol
+from client import expect, log_in, pump, wait_for_pack
+from clientbound import Change, SetSlot, WindowItems
+from news import AIR, BENEATH, CHEST_STATE, DOWN, DROP_ONE, DROP_STACK, FACES, FLAT_FEET, NORTH
+from news import PLANKS_STATE, SOUTH, UP, at_face, dig, drop, leave, log_in_two, settle
+from news import dig_news, expect_items, expect_sent, hand_news, item_news, pack_news, window_news
+from packs import CHEST, DIRT, KIT, STONE, pack_of
+from program import Program
+from protocol import Stack
+from terrain import BEDROCK, GRASS, Changed, Flat
+from terrain import DIRT as DIRT_STATE
+from terrain import STONE as STONE_STATE
+
+STONE_PILE, DIRT_PILE, PLANKS_PILE, CHEST_PILE = KIT[27:31]
+
+
+def kits_come_once(path):
+    """The kit comes at the first join alone; who comes back finds the pack that it had."""
+    with Program(path) as program:
+        wanda = log_in(program.port, "Wanda")
+        expect_pack_told(wanda, KIT)
+        anna = log_in(program.port, "Anna", [wanda])
+        expect_pack_told(anna, KIT)
+        anna.send(protocol.held(1) + protocol.placement(BENEATH, UP))
+        anna.send(protocol.held(2) + drop(DROP_STACK))
+        left = pack_of(STONE_PILE, Stack(DIRT, 63, 0), None, CHEST_PILE)
+        wait_for_pack([wanda, anna], anna, left)
+        anna = come_back(program.port, anna, wanda, left)
+        anna.check_blocks(Changed(Flat(), {at_face(BENEATH, UP): DIRT_STATE}))
+        expect_items([anna, wanda], {3: (FLAT_FEET, PLANKS_PILE)})
+        anna.send(drop(DROP_ONE))
+        left = pack_of(Stack(STONE, 63, 0), *left[28:31])
+        wait_for_pack([wanda, anna], anna, left)
+        anna = come_back(program.port, anna, wanda, left)
+        for place in range(4):
+            anna.send(protocol.held(place) + drop(DROP_STACK))
+        wait_for_pack([wanda, anna], anna, pack_of())
+        come_back(program.port, anna, wanda, pack_of())
+        expect_pack_told(log_in(program.port, "anna", [wanda]), KIT)
+
+
+def come_back(port, client, watcher, pack):
+    """Let Anna leave and log in again, and find that she is told just this pack."""
+    leave(client, watcher, "Wanda")
+    client = log_in(port, "Anna", [watcher], pack=pack)
+    settle([client, watcher])
+    expect_pack_told(client, pack)
+    return client
+
+
+def expect_pack_told(client, pack):
+    """Find that what is not empty of a pack was told to a client that came, and behind all else."""
+    due = pack_news(pack)
+    sent = client.news()
+    told = [packet for packet in sent if type(packet) in (SetSlot, WindowItems)]
+    expect(told == due, f"the slots {told} are told, not {due}")
+    expect(sent[len(sent) - len(due) :] == due, f"the pack is not told last: {sent}")
+
+
+def placements_take_one(path):
+    """A block that is placed takes one of the stack; what the client says to hold says nothing."""
+    middle = (8, 8, 8)
+    claims = None, Stack(DIRT, 64, 0), Stack(CHEST, 1, 0), None, Stack(STONE, 1, 15), None
+    changed = {at_face(middle, face): STONE_STATE for face in FACES}
+    with Program(path) as program:
+        anna, ben = log_in_two(program.port)
+        for face, claim in enumerate(claims):
+            anna.send(protocol.placement(middle, face, claim))
+            change = Change(at_face(middle, face), STONE_STATE)
+            hand = hand_news(0, Stack(STONE, 63 - face, 0))
+            expect_sent({anna: [change, hand], ben: [change]})
+        for face in (-1, 6, 127, -128):
+            anna.send(protocol.placement(middle, face))
+        anna.send(protocol.placement((-1, -1, -1), -1, STONE_PILE))
+        expect_sent({anna: [], ben: []})
+        for client in (anna, ben):
+            client.check_blocks(Changed(Flat(), changed))
+
+
+def refused_placements_show_both_cells(path):
+    """A placement that may not be is answered by its two cells and by the window."""
+    above = at_face(BENEATH, UP)
+    refused = [((8, 2, 8), UP, DIRT_STATE, GRASS), (above, DOWN, AIR, GRASS)]
+    refused += [((15, 3, 8), UP, GRASS, AIR), ((8, 3, 1), SOUTH, GRASS, GRASS)]
+    refused += [((8, 0, 8), DOWN, BEDROCK, AIR), ((8, -1, 8), UP, AIR, BEDROCK)]
+    with Program(path) as program:
+        anna, ben = log_in_two(program.port)
+        for cell, face, clicked, target in refused:
+            anna.send(protocol.placement(cell, face))
+            due = [Change(cell, clicked), Change(at_face(cell, face), target)]
+            expect_sent({anna: due + window_news(KIT), ben: []})
+        anna.send(protocol.held(4) + protocol.placement(BENEATH, UP, STONE_PILE))
+        due = [Change(BENEATH, GRASS), Change(above, AIR)]
+        expect_sent({anna: due + window_news(KIT), ben: []})
+        anna.check_blocks(Flat())
+
+
+def the_highest_cell_is_filled(path):
+    """A block is placed at y 255 and none above, of which the window tells what is left."""
+    highest = (8, 255, 8)
+    with Program(path) as program:
+        anna, ben = log_in_two(program.port)
+        anna.send(protocol.position(8.5, 255.0, 8.5) + protocol.placement((8, 254, 8), UP))
+        put = Change(highest, STONE_STATE)
+        expect_sent({anna: [put, hand_news(0, Stack(STONE, 63, 0))], ben: [put]})
+        anna.send(protocol.placement(highest, UP))
+        left = pack_of(Stack(STONE, 63, 0), DIRT_PILE, PLANKS_PILE, CHEST_PILE)
+        due = [put, Change(at_face(highest, UP), AIR)]
+        expect_sent({anna: due + window_news(left), ben: []})
+        anna.check_blocks(Changed(Flat(), {highest: STONE_STATE}))
+
+
+def windows_are_sent_again(path):
+    """A creative action changes nothing, and is answered by the window."""
+    with Program(path) as program:
+        anna, ben = log_in_two(program.port)
+        for index, stack in ((36, Stack(CHEST, 64, 0)), (-1, STONE_PILE), (0, None), (44, None)):
+            anna.send(protocol.creative(index, stack))
+            expect_sent({anna: window_news(KIT), ben: []})
+        anna.send(protocol.creative(9, STONE_PILE) + protocol.creative(36, None))
+        settle([anna, ben])
+        sent, due = anna.news(), window_news(KIT)
+        expect(sent in (due, due * 2), f"{sent} for two creative actions")
+
+
+def chests_are_not_built_on(path):
+    """A chest is placed and dug; a click at one places nothing, whatever is in the hand."""
+    chest = at_face(BENEATH, UP)
+    with Program(path) as program:
+        anna, ben = log_in_two(program.port)
+        anna.send(protocol.held(3) + protocol.placement(BENEATH, UP))
+        put = Change(chest, CHEST_STATE)
+        expect_sent({anna: [put, hand_news(3, Stack(CHEST, 3, 0))], ben: [put]})
+        for place in (0, 3, 8):
+            for face in FACES:
+                anna.send(protocol.held(place) + protocol.placement(chest, face))
+        expect_sent({anna: [], ben: []})
+        anna.send(dig(chest))
+        due = dig_news(3, chest, CHEST_STATE)
+        expect_sent({anna: due, ben: due})
+        anna.check_blocks(Flat())
+
+
+def hands_choose_what_is_placed(path):
+    """A place of the hotbar from 0 to 8 changes what is placed and dropped; another does not."""
+    states = {1: DIRT_STATE, 2: PLANKS_STATE, 0: STONE_STATE, 3: CHEST_STATE}
+    with Program(path) as program:
+        anna = log_in(program.port, "Anna")
+        anna.forget_news()
+        for place, state in states.items():
+            floor = (4 + place, 3, 8)
+            others = (9, -1, 36, 32767, -32768)
+            anna.send(b"".join(protocol.held(other) for other in (place, *others)))
+            anna.send(protocol.placement(floor, UP))
+            pile = KIT[27 + place]
+            hand = hand_news(place, pile._replace(count=pile.count - 1))
+            expect_sent({anna: [Change(at_face(floor, UP), state), hand]})
+        anna.send(protocol.held(1) + drop(DROP_ONE))
+        item = item_news(2, FLAT_FEET, Stack(DIRT, 1, 0))
+        expect_sent({anna: item + [hand_news(1, Stack(DIRT, 62, 0))]})
+
+
+def stacks_are_used_up(path):
+    """The last of a stack leaves an empty slot, out of which nothing is placed."""
+    middle = (8, 8, 8)
+    with Program(path) as program:
+        anna = log_in(program.port, "Anna")
+        anna.forget_news()
+        anna.send(protocol.held(3))
+        for face, left in ((UP, 3), (DOWN, 2), (SOUTH, 1), (NORTH, 0)):
+            anna.send(protocol.placement(middle, face))
+            hand = hand_news(3, Stack(CHEST, left, 0) if left else None)
+            expect_sent({anna: [Change(at_face(middle, face), CHEST_STATE), hand]})
+        anna.send(protocol.placement(BENEATH, UP))
+        due = [Change(BENEATH, GRASS), Change(at_face(BENEATH, UP), AIR)]
+        left = pack_of(STONE_PILE, DIRT_PILE, PLANKS_PILE)
+        expect_sent({anna: due + window_news(left)})
+
+
+def drops_lie_where_the_player_is(path):
+    """One of the stack in the hand or all of it lies where the player is; of nothing, nothing."""
+    place = (-17, 229, 304)
+    lying = {3: (FLAT_FEET, Stack(STONE, 1, 0)), 4: (place, Stack(STONE, 63, 0))}
+    with Program(path) as program:
+        anna, ben = log_in_two(program.port)
+        anna.send(drop(DROP_ONE))
+        item = item_news(3, *lying[3])
+        expect_sent({anna: item + [hand_news(0, Stack(STONE, 63, 0))], ben: item})
+        anna.send(protocol.position_look(-0.53125, 7.17, 9.5, 90.0, 45.0) + drop(DROP_STACK))
+        item = item_news(4, *lying[4])
+        expect(pump([anna, ben], lambda: 4 in anna.replica.items), "no stack lies there")
+        settle([anna, ben])
+        anna.replica.changes.clear()
+        expect_sent({anna: item + [hand_news(0, None)], ben: item})
+        anna.send(drop(DROP_ONE) + drop(DROP_STACK) + protocol.held(7) + drop(DROP_STACK))
+        expect_sent({anna: [], ben: []})
+        expect_items([anna, ben], lying)
+        leave(anna, ben, "Ben")
+        settle([ben])
+        expect_items([ben], lying)
+
+
+TESTS = [
+    kits_come_once,
+    placements_take_one,
+    refused_placements_show_both_cells,
+    the_highest_cell_is_filled,
+    windows_are_sent_again,
+    chests_are_not_built_on,
+    hands_choose_what_is_placed,
+    stacks_are_used_up,
+    drops_lie_where_the_player_is,
+]

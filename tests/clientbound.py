@@ -1,0 +1,267 @@
+"""The packets that the server sends in play, as these tests read them.
+
+Sources: wiki.vg for protocol 47, 'Protocol', 'Play', 'Clientbound', with 'Data types', 'Slot Data'
+and 'Entities' (the metadata of a dropped item), and docs/PROTOCOL.md, 'Packets to the client in
+play', as far as docs/WORLD.md has it sent. They are read as strictly as those of protocol.py: of
+objects only dropped items, and of metadata only what such an item is.
+"""
+
+from typing import NamedTuple
+
+from protocol import LONGEST_NAME, Malformed, Stack, read_reason
+
+# A state is 16 times an id of at most 255, and a metadata of at most 15.
+STATES = range(4096)
+
+# What tells a dropped item: its kind of object, and the entry of its metadata with a Slot (5) at
+# the index 10, behind which the metadata ends.
+DROPPED_ITEM = 2
+ITEM_ENTRY = 5 << 5 | 10
+NO_MORE_ENTRIES = 0x7F
+
+
+class KeepAlive(NamedTuple):
+    """A beat, which is to be answered."""
+
+    number: int
+
+
+class JoinGame(NamedTuple):
+    """The first packet of play."""
+
+    entity: int
+    mode: int
+    dimension: int
+    difficulty: int
+    most_players: int
+    level: str
+    reduced: bool
+
+
+class Time(NamedTuple):
+    """The age of the world and the time of the day."""
+
+    age: int
+    of_day: int
+
+
+class SpawnPosition(NamedTuple):
+    """The block at which a compass points."""
+
+    x: int
+    y: int
+    z: int
+
+
+class Place(NamedTuple):
+    """The client's own place and look, as the server has them."""
+
+    x: float
+    y: float
+    z: float
+    yaw: float
+    pitch: float
+    flags: int
+
+
+class Chunk(NamedTuple):
+    """One column's sections, or with mask 0 its unload."""
+
+    place: tuple
+    ground_up: bool
+    mask: int
+    body: bytes
+
+
+class Change(NamedTuple):
+    """The state of one cell."""
+
+    cell: tuple
+    state: int
+
+
+class MultiChange(NamedTuple):
+    """The states of several cells of a column, each as (index in the column, state)."""
+
+    place: tuple
+    records: list
+
+
+class SpawnItem(NamedTuple):
+    """A dropped item that comes into view, in 1/32 blocks; SpawnObject on the pages."""
+
+    entity: int
+    place: tuple
+    pitch: int
+    yaw: int
+
+
+class ItemIs(NamedTuple):
+    """What a dropped item is; Entity Metadata on the pages."""
+
+    entity: int
+    stack: Stack
+
+
+class Destroy(NamedTuple):
+    """Entities that are seen no more."""
+
+    entities: list
+
+
+class SetSlot(NamedTuple):
+    """What a slot of a window holds now; slot -1 of window -1 is what hangs on the cursor."""
+
+    window: int
+    index: int
+    stack: Stack
+
+
+class WindowItems(NamedTuple):
+    """What all slots of a window hold."""
+
+    window: int
+    stacks: list
+
+
+class PlayersCame(NamedTuple):
+    """New lines of the player list: a name for each identifier."""
+
+    names: dict
+
+
+class PlayersLeft(NamedTuple):
+    """Lines of the player list that go."""
+
+    identifiers: list
+
+
+class Disconnect(NamedTuple):
+    """The farewell in play."""
+
+    reason: str
+
+
+def read_join_game(reader):
+    """Take the fields of Join Game."""
+    numbers = reader.number("i"), reader.number("B"), reader.number("b"), reader.number("B")
+    return JoinGame(*numbers, reader.number("B"), reader.text(), reader.boolean())
+
+
+def read_place(reader):
+    """Take the fields of Player Position And Look."""
+    numbers = [reader.number(form) for form in "dddff"]
+    return Place(*numbers, reader.number("b"))
+
+
+def read_chunk(reader):
+    """Take the fields of Chunk Data; its body is looked into elsewhere."""
+    place = reader.number("i"), reader.number("i")
+    ground_up, mask = reader.boolean(), reader.number("H")
+    return Chunk(place, ground_up, mask, reader.take(reader.varint()))
+
+
+def read_state(reader):
+    """Take the VarInt of a state."""
+    state = reader.varint()
+    if state not in STATES:
+        raise Malformed(f"the state {state}")
+    return state
+
+
+def read_multi_change(reader):
+    """Take the fields of Multi Block Change; a cell's first byte is 16 times its x, and its z."""
+    place = reader.number("i"), reader.number("i")
+    return MultiChange(place, [read_record(reader) for _ in range(reader.varint())])
+
+
+def read_record(reader):
+    """Take a cell of a column with its state; answer its index, y * 256 + z * 16 + x."""
+    across, y = reader.number("B"), reader.number("B")
+    return y * 256 + across % 16 * 16 + across // 16, read_state(reader)
+
+
+def read_spawn_item(reader):
+    """Take the fields of Spawn Object, which is a dropped item without a speed."""
+    entity, kind = reader.varint(), reader.number("b")
+    place = reader.number("i"), reader.number("i"), reader.number("i")
+    pitch, yaw, extra = reader.number("B"), reader.number("B"), reader.number("i")
+    if kind != DROPPED_ITEM or extra != 0:
+        raise Malformed(f"an object of the kind {kind} with the extra {extra}")
+    return SpawnItem(entity, place, pitch, yaw)
+
+
+def read_item_is(reader):
+    """Take the fields of Entity Metadata: one entry, the stack that lies there."""
+    entity, entry, stack = reader.varint(), reader.number("B"), None
+    if entry == ITEM_ENTRY:
+        stack = reader.slot()
+    if stack is None or reader.number("B") != NO_MORE_ENTRIES:
+        raise Malformed(f"metadata of {entity} that is not one stack, and begins by {entry:02X}")
+    return ItemIs(entity, stack)
+
+
+def read_destroy(reader):
+    """Take the fields of Destroy Entities."""
+    return Destroy([reader.varint() for _ in range(reader.varint())])
+
+
+def read_set_slot(reader):
+    """Take the fields of Set Slot."""
+    return SetSlot(reader.number("b"), reader.number("h"), reader.slot())
+
+
+def read_window_items(reader):
+    """Take the fields of Window Items."""
+    window, count = reader.number("B"), reader.number("h")
+    return WindowItems(window, [reader.slot() for _ in range(count)])
+
+
+def read_player_list(reader):
+    """Take a Player List Item that adds players (action 0) or removes them (action 4)."""
+    action, count = reader.varint(), reader.varint()
+    if count < 1:
+        raise Malformed(f"a list of {count} players")
+    if action == 0:
+        names = dict(read_new_player(reader) for _ in range(count))
+        if len(names) < count:
+            raise Malformed("a list that names a player twice")
+        return PlayersCame(names)
+    if action == 4:
+        return PlayersLeft([reader.identifier() for _ in range(count)])
+    raise Malformed(f"the action {action} of a player list")
+
+
+def read_new_player(reader):
+    """Take one line of a player list that is new: its identifier and its name."""
+    identifier, name = reader.identifier(), reader.text(LONGEST_NAME)
+    for _ in range(reader.varint()):
+        reader.text()
+        reader.text()
+        if reader.boolean():
+            reader.text()
+    mode, _ping = reader.varint(), reader.varint()
+    if mode not in range(4):
+        raise Malformed(f"a player of mode {mode}")
+    if reader.boolean():
+        reader.text()
+    return identifier, name
+
+
+PLAY = {
+    0x00: lambda reader: KeepAlive(reader.varint()),
+    0x01: read_join_game,
+    0x03: lambda reader: Time(reader.number("q"), reader.number("q")),
+    0x05: lambda reader: SpawnPosition(*reader.block_position()),
+    0x08: read_place,
+    0x0E: read_spawn_item,
+    0x13: read_destroy,
+    0x1C: read_item_is,
+    0x21: read_chunk,
+    0x22: read_multi_change,
+    0x23: lambda reader: Change(reader.block_position(), read_state(reader)),
+    0x2F: read_set_slot,
+    0x30: read_window_items,
+    0x38: read_player_list,
+    0x40: lambda reader: Disconnect(read_reason(reader)),
+}
