@@ -2,7 +2,7 @@
 use Rattle.std.proofs.Common.{◌≡◌, ℕ, Bool, true, false, cond, List, [], ◌∷◌, ◌++◌, Option}
 use Rattle.std.proofs.Common.{Some, None, refl, sym, subst, ap, ◌∙◌, append_assoc}
 use Rattle.std.specs.Prelude.{◌↔◌, IfSome, IsFalse, is_some, unsigned_abs, option_map}
-use Rattle.std.proofs.lemmas.List.{append-nil}
+use Rattle.std.specs.Prelude.{if◌then◌else◌}
 use Rattle.std.specs.Ordering.{int_eq}
 use Rattle.std.proofs.lemmas.Cmp.{int_cmp_total, int_eq_equiv}
 use Rattle.std.specs.FinMap.{contains_key, get, insert, int_cmp-IsAntisymmetric}
@@ -155,23 +155,23 @@ module _ (told moved : Told) (eid : ℤ) (spot : Spot) (moves : Moves)
       (λ v. IsFalse differs ↔ (v.1 ≡ pile)) in
       subst P moved_there says
 
-  -- a pile that differs is told
-  pub item_sent : (pile : Pile) (differs : Bool) (old new : List ℕ) → differs ≡ true →
+  -- a pile is told where it differs, and only there
+  pub item_told : (pile : Pile) (differs : Bool) (old new : List ℕ) →
       IfSome (get moved eid) (λ v. IsFalse differs ↔ (v.1 ≡ pile)) →
-      new ≡ old ++ play_bytes (item_packet eid (slot_of pile) ∷ []) →
+      new ≡ old ++ play_bytes (if differs then item_packet eid (slot_of pile) ∷ [] else []) →
       new ≡ old ++ play_bytes (item_packets eid (slot_of m.was.1) (slot_of pile))
-  item_sent pile differs old new t says put =
-      let same = moved_differs pile differs says in
-      let apart : m.was.1 ≡ pile → ⊥ = λ e. true_false differs t (same.1 e) in
-      put ∙ ap (λ (b : Bool). old ++ play_bytes (cond b [] (item_packet eid (slot_of pile) ∷ [])))
-      (sym (not_same m.was.1 pile apart))
-
-  -- a pile that does not differ is not
-  pub item_kept : (pile : Pile) (differs : Bool) (old : List ℕ) → differs ≡ false →
-      IfSome (get moved eid) (λ v. IsFalse differs ↔ (v.1 ≡ pile)) →
-      old ≡ old ++ play_bytes (item_packets eid (slot_of m.was.1) (slot_of pile))
-  item_kept pile differs old t says =
-      let is : m.was.1 ≡ pile = (moved_differs pile differs says).0 t in
-      sym (append-nil old)
-      ∙ ap (λ (b : Bool). old ++ play_bytes (cond b [] (item_packet eid (slot_of pile) ∷ [])))
-      (sym (ap (λ (q : Pile). is_same_slot (slot_of q) (slot_of pile)) is ∙ same_itself pile))
+  item_told pile differs old new says put =
+      put ∙ ap (λ (packets : List Down). old ++ play_bytes packets)
+      (cases differs (moved_differs pile differs says))
+    where
+      cases : (d : Bool) → (IsFalse d ↔ (m.was.1 ≡ pile)) →
+          (if d then item_packet eid (slot_of pile) ∷ [] else [])
+          ≡ item_packets eid (slot_of m.was.1) (slot_of pile)
+      cases true same =
+          let apart : m.was.1 ≡ pile → ⊥ = λ e. true_false true refl (same.1 e) in
+          ap (λ (b : Bool). cond b [] (item_packet eid (slot_of pile) ∷ []))
+          (sym (not_same m.was.1 pile apart))
+      cases false same =
+          ap (λ (b : Bool). cond b [] (item_packet eid (slot_of pile) ∷ []))
+          (sym (ap (λ (q : Pile). is_same_slot (slot_of q) (slot_of pile)) (same.0 refl)
+          ∙ same_itself pile))

@@ -7,7 +7,6 @@ pub mod NotedCells
 pub mod Ordered
 pub mod Pieces
 pub mod Carries
-pub mod Clear
 pub mod Placings
 pub mod Rising
 pub mod Rows

@@ -1,5 +1,5 @@
 -- The frames of packets of columns.
-use Rattle.std.proofs.Common.{◌≡◌, ℕ, zero, suc, ◌+◌, ◌^◌, ◌<◌, ◌≤◌, Bool, true, false, cond, List}
+use Rattle.std.proofs.Common.{◌≡◌, ℕ, ◌+◌, ◌^◌, ◌<◌, true, List}
 use Rattle.std.proofs.Common.{◌++◌, length, sym, ap, ◌∙◌, arith, append_assoc}
 use Rattle.std.specs.Int.{w8, w16, w32, cast_unsigned}
 use Rattle.std.proofs.lemmas.Int.{ints}
@@ -11,18 +11,13 @@ use Rattle.mc_nbt.specs.Numbers.{number_spelling, wide_8, wide_16, wide_32}
 use Rattle.mc_fields.specs.Varint.{varint_spelling}
 use Rattle.mc_fields.specs.Integers.{bool_byte, boolean_spelling}
 use Rattle.mc_frame.specs.Frame.{frame_spelling}
-use Rattle.mc_column.specs.Sizes.{section_count}
-use Rattle.mc_column.specs.SizesLaws.{section_count-is, section_cells-is, light_bytes-is}
-use Rattle.mc_column.specs.SizesLaws.{squares-is}
-use Rattle.mc_column.specs.Cells.{ColumnValue, HasSizes, rank}
-use Rattle.mc_column.specs.Body.{is_named}
+use Rattle.mc_column.specs.Cells.{ColumnValue, HasSizes}
 use Rattle.mc_column.specs.Sent.{column_mask, column_bytes}
-use Rattle.mc_column.proofs.SentFacts.{body_bytes_spell}
 use Rattle.mc_land.specs.Places.{Place, IsPlace}
 use Rattle.mc_down.specs.Down.{spelling_of}
 use Rattle.mc_model.specs.Packets.{of_play, frame_of}
 use Rattle.mc_model.specs.Delta.{load, unload}
-use Rattle.mc_model.proofs.FitsChunk.{PlaceFits, unload_clear}
+use Rattle.mc_model.proofs.FitsChunk.{PlaceFits, column_few, unload_clear}
 use Rattle.mc_model.proofs.FitsSize.{AtMost, at_most_joined, number_size, varint_size}
 use Rattle.mc_flush.specs.Heads.{load_head}
 use Rattle.mc_flush.specs.Sending.{IsClear}
@@ -62,24 +57,7 @@ load_spelled place column =
     (boolean_spelling true) (number_spelling w16 (column_mask column)) (varint_spelling (pos (length
     (column_bytes column)))) (column_bytes column)
 
--- no more numbers below n pass a test than there are
-rank_most : (test : ℕ → Bool) (n : ℕ) → rank test n ≤ n
-rank_most test zero = omega arith
-rank_most test (suc n) = step (test n) (rank_most test n)
-  where
-    step : (t : Bool) → rank test n ≤ n → rank test n + cond t 1 0 ≤ suc n
-    step true le = omega (arith, le)
-    step false le = omega (arith, le)
-
--- a body is not long
-body_few : (column : ColumnValue) → HasSizes column → AtMost 200000 (column_bytes column)
-body_few column sizes =
-    let size = (body_bytes_spell column (column_mask column) sizes).body.size in
-    let plain = rw (section_cells-is, light_bytes-is, squares-is) at size in
-    let few = rank_most (is_named (column_mask column)) section_count in
-    omega (arith, plain, few, section_count-is)
-
--- nor is a head
+-- a head is not long
 head_few : (place : Place) (mask size : ℕ) → SFits w32 (pos size) →
     AtMost 21 (load_head place mask size)
 head_few place mask size fits =
@@ -97,7 +75,7 @@ head_few place mask size fits =
 pub load_small : (place : Place) (column : ColumnValue) → IsPlace place → HasSizes column →
     length (head_of place column) + length (column_bytes column) < 2 ^ 21
 load_small place column at sizes =
-    let few = body_few column sizes in
+    let few = column_few column sizes in
     let head = head_few place (column_mask column) (length (column_bytes column))
     (record { sfits = omega (arith, few) }) in
     omega (arith, few, head)

@@ -1,5 +1,5 @@
 -- The cells of a column by their indices, and the packets of some of them.
-use Rattle.std.proofs.Common.{◌≡◌, ℕ, ◌/◌, ◌%◌, ◌<◌, ◌≤◌, List, [], ◌∷◌, ◌++◌, map}
+use Rattle.std.proofs.Common.{◌≡◌, ℕ, ◌<◌, ◌≤◌, List, [], ◌∷◌, ◌++◌, map}
 use Rattle.std.proofs.Common.{length, refl, sym, ap, ◌∙◌, arith, append_assoc}
 use Rattle.std.specs.Prelude.{nat_lt, slice_index, true, unsigned_abs, if◌then◌else◌}
 use Rattle.std.specs.List.{AllByRecursion}
@@ -7,7 +7,7 @@ use Rattle.std.proofs.lemmas.Bool.{lt-ltb}
 use Rattle.std.proofs.lemmas.Int.{ints}
 use Rattle.std.proofs.lemmas.List.{length-map}
 use Rattle.std.proofs.lemmas.List.FromFn.{get_or-map-range_with_len}
-use lib.IntN.{ℤ, pos, negsuc, ◌+ℤ◌, ◌*ℤ◌}
+use lib.IntN.{ℤ, pos, negsuc}
 use lib.Signed.{◌≤ℤ◌}
 use mir.Val.{to_z, of_z}
 use Rattle.std.specs.Int.{w32}
@@ -16,39 +16,19 @@ use Rattle.mc_land.specs.declared.ready.Touched.{Touched}
 use Rattle.mc_down.specs.declared.record.Record.{Record}
 use Rattle.mc_column.specs.Sizes.{cells}
 use Rattle.mc_column.specs.SizesLaws.{cells-is}
-use Rattle.mc_column.specs.Cells.{cell_index}
 use Rattle.mc_fields.specs.declared.position.Cell.{Cell}
-use Rattle.mc_land.specs.Places.{Place, IsPlace, column_number, inside, key_of, x_of, y_of, z_of}
+use Rattle.mc_land.specs.Places.{Place, IsPlace, key_of, x_of, y_of, z_of}
 use Rattle.mc_land.specs.Land.{LandValue, block, dirty_in, state_at, states_of}
 use Rattle.mc_land.specs.Ready.{touched_cell}
 use Rattle.mc_down.specs.declared.down.Down.TheVariants.{MultiChange}
 use Rattle.mc_model.specs.Delta.{cell_at, cell_packets, cell_record, differing}
 use Rattle.mc_model.proofs.FitsCells.{CellFits, cells_clear, differing_few}
 use Rattle.mc_model.proofs.FitsChunk.{IsNear}
+use Rattle.mc_model.proofs.PointsCells.{key_back}
 use Rattle.mc_flush.specs.Cells.{AreCells, IsCell, indices, states_at}
 use Rattle.mc_flush.specs.Sending.{AreClear}
 
 -- ---- where a cell is
-
-column_back : (c v : ℤ) (i : ℕ) → i < 16 → v ≡ c *ℤ pos 16 +ℤ pos i → column_number v ≡ c
-column_back c (pos n) i small e = omega (arith, ints, e, small)
-column_back c (negsuc n) i small e = omega (arith, ints, e, small)
-
-inside_back : (c v : ℤ) (i : ℕ) → i < 16 → v ≡ c *ℤ pos 16 +ℤ pos i → inside v ≡ i
-inside_back c (pos n) i small e = omega (arith, ints, e, small)
-inside_back c (negsuc n) i small e = omega (arith, ints, e, small)
-
--- a cell's place and index are those that its numbers were made of
-key_back : (place : Place) (i : ℕ) → i < 65536 →
-    key_of (x_of (place, i)) (y_of (place, i)) (z_of (place, i)) ≡ (place, i)
-key_back place i less =
-    let x = column_back place.0 (x_of (place, i)) (i % 16) (omega arith) refl in
-    let z = column_back place.1 (z_of (place, i)) (i / 16 % 16) (omega arith) refl in
-    let in_x = inside_back place.0 (x_of (place, i)) (i % 16) (omega arith) refl in
-    let in_z = inside_back place.1 (z_of (place, i)) (i / 16 % 16) (omega arith) refl in
-    let index : cell_index (inside (x_of (place, i))) (y_of (place, i)) (inside (z_of (place, i)))
-    ≡ i = omega (arith, in_x, in_z) in
-    λ j. ((x j, z j), index j)
 
 -- the block there is the state of its index
 pub state_is : (land : LandValue) (place : Place) (i state : ℕ) (cell : Cell) → i < 65536 →

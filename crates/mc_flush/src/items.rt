@@ -1,6 +1,7 @@
 //! What a client is told of one dropped item.
 
 ghost use Rattle.std.specs.Prelude.{◌≡◌, ◌++◌, ◌∷◌, [], IfOk, IfSome, OnOk, Some, true, false};
+ghost use Rattle.std.specs.Prelude.{if◌then◌else◌};
 ghost use Rattle.std.specs.FinMap as map;
 ghost use Rattle.mc_slots.specs.Pile.{IsItem, slot_of};
 ghost use Rattle.mc_slots.specs.declared.pile.Pile.TheVariants.{Full};
@@ -131,6 +132,18 @@ fn put_head(eid: i32, spot: &Spot, head: bool, out: &mut Vec<u8>) -> Result<(), 
     Ok(())
 }
 
+/// Appends the frame that says what lies there, where that differs from what the client knows.
+fn put_differing(eid: i32, item: Item, differs: bool, out: &mut Vec<u8>) -> Result<(), NoMemory>
+    requires { IsItem item }
+    ensures { OnOk result (out.new.items ≡ out.old.items
+        ++ play_bytes (if differs then item_packet eid (slot_of (Full item)) ∷ [] else [])) }
+{
+    if differs {
+        put_pile(eid, item, out)?;
+    }
+    Ok(())
+}
+
 /// Appends what differs of a dropped item that the client knows, and keeps that.
 fn put_known(
     eid: i32,
@@ -149,9 +162,7 @@ fn put_known(
     let differs = told.pile(eid, Pile::Full(item));
     put_form(eid, spot, moves.form, out)?;
     put_head(eid, spot, moves.head, out)?;
-    if differs {
-        put_pile(eid, item, out)?;
-    }
+    put_differing(eid, item, differs, out)?;
     Ok(())
 }
 

@@ -151,7 +151,7 @@ pub dropped_leads : (w : World) (p : Player) (item : Item) (n : ℕ) → IsTidy 
     Leads w.terrain w.things (dropped w p item n)
 dropped_leads w p item n tidy is holds few = record {
   keeps = keeps_onward w.things (carry p (without (Full item) n) w.things) (dropped w p item n)
-      (carry_keeps p (without (Full item) n) w.things is.hand
+      (carry_keeps p (without (Full item) n) w.things
       (left_is_pile w p item n tidy holds)) (new_keeps kind spot _);
   even = even_onward w.terrain w.things (dropped w p item n)
       (carry_names p (without (Full item) n) w.things) (λ id damage some few_ low.
@@ -178,7 +178,7 @@ pub placed_leads : (w : World) (p : Player) (target : Cell) (item : Item) → Is
     state_in w target ≡ 0 → Leads w.terrain w.things (placed w p target item)
 placed_leads w p target item tidy is holds inside air = record {
   keeps = keeps_onward w.things set (placed w p target item) keeps
-      (carry_keeps p (without (Full item) 1) set is.hand (left_is_pile w p item 1 tidy holds));
+      (carry_keeps p (without (Full item) 1) set (left_is_pile w p item 1 tidy holds));
   even = even_onward w.terrain w.things (placed w p target item)
       (carry_names p (without (Full item) 1) set) (λ id damage some few low.
       (let sort = sort_of id damage in

@@ -32,7 +32,8 @@ use Rattle.mc_model.proofs.BalanceStock.{IsNoItem, entities_changed, entities_mo
 use Rattle.mc_model.proofs.BalanceStock.{entities_without, pack_handed, packs_with}
 use Rattle.mc_model.proofs.BalanceKept.{HasOwner, IsGiven, IsOwner, IsTidy, Keeps, Leads}
 use Rattle.mc_model.proofs.BalanceKept.{even_onward, keeps_onward, leads_onward, leads_same}
-use Rattle.mc_model.proofs.BalancePacks.{handed_fits, kit_leads, packed_fit}
+use Rattle.mc_model.proofs.BalancePacks.{kit_leads}
+use Rattle.mc_model.proofs.ThingsActs.{with_hand_fits, with_pack_fits}
 
 -- ---- entities that change
 
@@ -228,18 +229,18 @@ hand_within : (pack : PackValue) (hand : ℕ) → hand < 9 → IsPack pack.slots
 hand_within pack hand small is = omega (arith, small, is.size)
 
 -- so the names keep their packs, with that pile in one of them
-packed_keeps : (p : Player) (pile : Pile) (things : Things) → p.hand < 9 → IsPile pile →
+packed_keeps : (p : Player) (pile : Pile) (things : Things) → IsPile pile →
     Keeps things (record things {
       packs = with_pack p.name (with_hand pile p.hand (pack_of p.name things.packs)) things.packs;
     })
-packed_keeps p pile things small is = record {
+packed_keeps p pile things is = record {
   tidy = λ t.
       let fits = pack_fits p.name things.packs t.packs in
       let pack : PackValue = pack_of p.name things.packs in record {
         given = t.given;
         apart = (keeps_changed p.name (with_hand pile p.hand pack) things.packs).apart t.apart;
-        packs = packed_fit p.name (with_hand pile p.hand pack) things.packs
-            (handed_fits pile p.hand pack (hand_within pack p.hand small fits) is fits) t.packs;
+        packs = with_pack_fits p.name (with_hand pile p.hand pack) things.packs
+            (with_hand_fits pile p.hand pack is fits) t.packs;
       };
   known = (keeps_changed p.name _ things.packs).known;
   given = omega arith;
@@ -247,11 +248,11 @@ packed_keeps p pile things small is = record {
 }
 
 -- and so does all else
-pub carry_keeps : (p : Player) (pile : Pile) (things : Things) → p.hand < 9 → IsPile pile →
+pub carry_keeps : (p : Player) (pile : Pile) (things : Things) → IsPile pile →
     Keeps things (carry p pile things)
-carry_keeps p pile things small is = keeps_onward things (record things {
+carry_keeps p pile things is = keeps_onward things (record things {
   packs = with_pack p.name (with_hand pile p.hand (pack_of p.name things.packs)) things.packs;
-}) (carry p pile things) (packed_keeps p pile things small is)
+}) (carry p pile things) (packed_keeps p pile things is)
     (changed_keeps p.eid (holding pile) _ (holding_mild pile))
 
 -- there is so much more as the pile in the hand holds more

@@ -68,7 +68,7 @@ rank_most test (suc n) = step (test n) (rank_most test n)
     step false le = omega (arith, le)
 
 -- a body is not long
-column_few : (column : ColumnValue) → HasSizes column → AtMost 200000 (column_bytes column)
+pub column_few : (column : ColumnValue) → HasSizes column → AtMost 200000 (column_bytes column)
 column_few column sizes =
     let size = (body_bytes_spell column (column_mask column) sizes).body.size in
     let plain = rw (section_cells-is, light_bytes-is, squares-is) at size in

@@ -1,5 +1,5 @@
 -- The packets of entities fit: those that show one, say what lies there, and take some away.
-use Rattle.std.proofs.Common.{◌≡◌, ◌*◌, ◌≤◌}
+use Rattle.std.proofs.Common.{◌≡◌, ◌*◌, ◌<◌, ◌≤◌, ℕ}
 use Rattle.std.proofs.Common.{List, [], ◌∷◌, length, refl, lit<, arith}
 use Rattle.std.specs.Prelude.{None}
 use Rattle.std.specs.Int.{w8, w32, cast_unsigned}
@@ -10,7 +10,6 @@ use mir.Val.{SFits}
 use Rattle.mc_nbt.specs.Signed.{signed_fits}
 use Rattle.mc_nbt.specs.Numbers.{wide_8, wide_32}
 use Rattle.mc_nbt.specs.Many.{AllFit, all_spelling}
-use Rattle.mc_fields.specs.declared.position.Spot.{Spot}
 use Rattle.mc_fields.specs.Varint.{varint_spelling}
 use Rattle.mc_fields.specs.VarintFormat.{FitsVarint, varint-fits}
 use Rattle.mc_slots.specs.declared.slot.Slot.{Slot}
@@ -107,12 +106,12 @@ item_clear eid pile at is = item_slot_clear eid (slot_of pile) at (pile_slot_fit
 -- ---- an entity that comes
 
 -- an object of kind 2, without a speed
-object_clear : (eid : ℤ) (spot : Spot) → SFits w32 eid → SpotFits spot
-    → IsClear for_play (of_play
-    (SpawnObject eid (pos 2) spot.x spot.y spot.z spot.pitch spot.yaw (pos 0) None))
-object_clear eid spot in_32 at =
+pub object_clear : (eid x y z : ℤ) (yaw pitch : ℕ) → SFits w32 eid → SFits w32 x → SFits w32 y →
+    SFits w32 z → yaw < 256 → pitch < 256 →
+    IsClear for_play (of_play (SpawnObject eid (pos 2) x y z pitch yaw (pos 0) None))
+object_clear eid x y z yaw pitch in_32 at_x at_y at_z at_yaw at_pitch =
     let fits : FitsDown
-    (SpawnObject eid (pos 2) spot.x spot.y spot.z spot.pitch spot.yaw (pos 0) None) = (
+    (SpawnObject eid (pos 2) x y z pitch yaw (pos 0) None) = (
       lit< tt,
       (
         (
@@ -121,14 +120,14 @@ object_clear eid spot in_32 at =
             signed_fits w8 (pos 2) (record { sfits = lit< tt }),
             (
               (
-                signed_fits w32 spot.x (east_fits spot at),
+                signed_fits w32 x at_x,
                 (
-                  signed_fits w32 spot.y (up_fits spot at),
-                  signed_fits w32 spot.z (south_fits spot at),
+                  signed_fits w32 y at_y,
+                  signed_fits w32 z at_z,
                 ),
               ),
               (
-                (at.pitch, at.yaw),
+                (at_pitch, at_yaw),
                 signed_fits w32 (pos 0) (record { sfits = lit< tt }),
               ),
             ),
@@ -141,20 +140,23 @@ object_clear eid spot in_32 at =
     at_most_joined 5 19 _ _ (varint_size eid in_32).1 (
     at_most_joined 1 18 _ _ (number_size w8 wide_8 (cast_unsigned w8 (pos 2))) (
     at_most_joined 12 6 _ _ (
-    at_most_joined 4 8 _ _ (number_size w32 wide_32 (cast_unsigned w32 spot.x)) (
-    at_most_joined 4 4 _ _ (number_size w32 wide_32 (cast_unsigned w32 spot.y))
-    (number_size w32 wide_32 (cast_unsigned w32 spot.z)))) (
+    at_most_joined 4 8 _ _ (number_size w32 wide_32 (cast_unsigned w32 x)) (
+    at_most_joined 4 4 _ _ (number_size w32 wide_32 (cast_unsigned w32 y))
+    (number_size w32 wide_32 (cast_unsigned w32 z)))) (
     at_most_joined 2 4 _ _ (
-    at_most_joined 1 1 _ _ (number_size w8 wide_8 spot.pitch) (number_size w8 wide_8 spot.yaw))
+    at_most_joined 1 1 _ _ (number_size w8 wide_8 pitch) (number_size w8 wide_8 yaw))
     (number_size w32 wide_32 (cast_unsigned w32 (pos 0))))))) (omega arith) in (
       fits,
       spelling_payload (entry_of
-          (SpawnObject eid (pos 2) spot.x spot.y spot.z spot.pitch spot.yaw (pos 0) None)) fits
+          (SpawnObject eid (pos 2) x y z pitch yaw (pos 0) None)) fits
           (few_bytes 24 _ (omega arith) size),
     )
 
 -- and then what lies there
 pub spawn_clear : (eid : ℤ) (e : Seen) → SFits w32 eid → SpotFits e.spot → SlotFits e.item
     → AreClear (spawn_packets eid e)
-spawn_clear eid e in_32 at f =
-    (object_clear eid e.spot in_32 at, (item_slot_clear eid e.item in_32 f, tt))
+spawn_clear eid e in_32 at f = (
+  object_clear eid e.spot.x e.spot.y e.spot.z e.spot.yaw e.spot.pitch in_32
+      (east_fits e.spot at) (up_fits e.spot at) (south_fits e.spot at) at.yaw at.pitch,
+  (item_slot_clear eid e.item in_32 f, tt),
+)

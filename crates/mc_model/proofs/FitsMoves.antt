@@ -1,5 +1,5 @@
 -- The packets that move an entity fit.
-use Rattle.std.proofs.Common.{◌≡◌, ◌&&◌, not, Bool, true, false}
+use Rattle.std.proofs.Common.{◌≡◌, ◌<◌, ℕ, ◌&&◌, not, Bool, true, false}
 use Rattle.std.proofs.Common.{cond, refl, sym, subst, T, lit<, arith}
 use Rattle.std.specs.Prelude.{int_le}
 use Rattle.std.specs.Int.{w8, w32, cast_unsigned}
@@ -45,9 +45,9 @@ south_fits spot at = number_fits spot.z (omega (arith, at.z))
 
 -- ---- each packet
 
--- Step
-step_clear : (eid dx dy dz : ℤ) → SFits w32 eid → SFits w8 dx → SFits w8 dy → SFits w8 dz
-    → IsClear for_play (of_play (Step eid dx dy dz true))
+-- a step can be sent
+pub step_clear : (eid dx dy dz : ℤ) → SFits w32 eid → SFits w8 dx → SFits w8 dy → SFits w8 dz →
+    IsClear for_play (of_play (Step eid dx dy dz true))
 step_clear eid dx dy dz in_32 at_x at_y at_z =
     let fits : FitsDown (Step eid dx dy dz true) = (
       lit< tt,
@@ -65,18 +65,18 @@ step_clear eid dx dy dz in_32 at_x at_y at_z =
       spelling_payload (entry_of (Step eid dx dy dz true)) fits (few_bytes 9 _ (omega arith) size),
     )
 
--- StepLook
-step_look_clear : (eid dx dy dz : ℤ) (spot : Spot) → SFits w32 eid → SFits w8 dx → SFits w8 dy →
-    SFits w8 dz → SpotFits spot
-    → IsClear for_play (of_play (StepLook eid dx dy dz spot.yaw spot.pitch true))
-step_look_clear eid dx dy dz spot in_32 at_x at_y at_z at =
-    let fits : FitsDown (StepLook eid dx dy dz spot.yaw spot.pitch true) = (
+-- a step with a turn can be sent
+pub step_look_clear : (eid dx dy dz : ℤ) (yaw pitch : ℕ) → SFits w32 eid → SFits w8 dx →
+    SFits w8 dy → SFits w8 dz → yaw < 256 → pitch < 256 →
+    IsClear for_play (of_play (StepLook eid dx dy dz yaw pitch true))
+step_look_clear eid dx dy dz yaw pitch in_32 at_x at_y at_z at_yaw at_pitch =
+    let fits : FitsDown (StepLook eid dx dy dz yaw pitch true) = (
       lit< tt,
       (
         varint-fits eid in_32,
         (
           signed_fits w8 dx at_x,
-          (signed_fits w8 dy at_y, (signed_fits w8 dz at_z, (at.yaw, (at.pitch, tt)))),
+          (signed_fits w8 dy at_y, (signed_fits w8 dz at_z, (at_yaw, (at_pitch, tt)))),
         ),
       ),
     ) in
@@ -84,68 +84,70 @@ step_look_clear eid dx dy dz spot in_32 at_x at_y at_z at =
     at_most_joined 1 5 _ _ (number_size w8 wide_8 (cast_unsigned w8 dx)) (
     at_most_joined 1 4 _ _ (number_size w8 wide_8 (cast_unsigned w8 dy)) (
     at_most_joined 1 3 _ _ (number_size w8 wide_8 (cast_unsigned w8 dz)) (
-    at_most_joined 1 2 _ _ (number_size w8 wide_8 spot.yaw) (
-    at_most_joined 1 1 _ _ (number_size w8 wide_8 spot.pitch)
+    at_most_joined 1 2 _ _ (number_size w8 wide_8 yaw) (
+    at_most_joined 1 1 _ _ (number_size w8 wide_8 pitch)
     (number_size w8 wide_8 (bool_byte true))))))) in (
       fits,
-      spelling_payload (entry_of (StepLook eid dx dy dz spot.yaw spot.pitch true)) fits
+      spelling_payload (entry_of (StepLook eid dx dy dz yaw pitch true)) fits
           (few_bytes 11 _ (omega arith) size),
     )
 
--- Look
-look_clear : (eid : ℤ) (spot : Spot) → SFits w32 eid → SpotFits spot
-    → IsClear for_play (of_play (Look eid spot.yaw spot.pitch true))
-look_clear eid spot in_32 at =
-    let fits : FitsDown (Look eid spot.yaw spot.pitch true) =
-    (lit< tt, (varint-fits eid in_32, (at.yaw, (at.pitch, tt)))) in
+-- a turn can be sent
+pub look_clear : (eid : ℤ) (yaw pitch : ℕ) → SFits w32 eid → yaw < 256 → pitch < 256 →
+    IsClear for_play (of_play (Look eid yaw pitch true))
+look_clear eid yaw pitch in_32 at_yaw at_pitch =
+    let fits : FitsDown (Look eid yaw pitch true) =
+    (lit< tt, (varint-fits eid in_32, (at_yaw, (at_pitch, tt)))) in
     let size : AtMost 8 _ = at_most_joined 5 3 _ _ (varint_size eid in_32).1 (
-    at_most_joined 1 2 _ _ (number_size w8 wide_8 spot.yaw) (
-    at_most_joined 1 1 _ _ (number_size w8 wide_8 spot.pitch)
+    at_most_joined 1 2 _ _ (number_size w8 wide_8 yaw) (
+    at_most_joined 1 1 _ _ (number_size w8 wide_8 pitch)
     (number_size w8 wide_8 (bool_byte true)))) in (
       fits,
-      spelling_payload (entry_of (Look eid spot.yaw spot.pitch true)) fits
-          (few_bytes 8 _ (omega arith) size),
+      spelling_payload (entry_of (Look eid yaw pitch true)) fits (few_bytes 8 _ (omega arith) size),
     )
 
--- Teleport
-jump_clear : (eid : ℤ) (spot : Spot) → SFits w32 eid → SpotFits spot
-    → IsClear for_play (of_play (Teleport eid spot.x spot.y spot.z spot.yaw spot.pitch true))
-jump_clear eid spot in_32 at =
-    let fits : FitsDown (Teleport eid spot.x spot.y spot.z spot.yaw spot.pitch true) = (
+-- a jump can be sent
+pub jump_clear : (eid x y z : ℤ) (yaw pitch : ℕ) → SFits w32 eid → SFits w32 x → SFits w32 y →
+    SFits w32 z → yaw < 256 → pitch < 256 → IsClear for_play (of_play (Teleport eid x y z yaw pitch true))
+jump_clear eid x y z yaw pitch in_32 at_x at_y at_z at_yaw at_pitch =
+    let fits : FitsDown (Teleport eid x y z yaw pitch true) = (
       lit< tt,
       (
         varint-fits eid in_32,
         (
-          signed_fits w32 spot.x (east_fits spot at),
-          (
-            signed_fits w32 spot.y (up_fits spot at),
-            (signed_fits w32 spot.z (south_fits spot at), (at.yaw, (at.pitch, tt))),
-          ),
+          signed_fits w32 x at_x,
+          (signed_fits w32 y at_y, (signed_fits w32 z at_z, (at_yaw, (at_pitch, tt)))),
         ),
       ),
     ) in
     let size : AtMost 20 _ = at_most_joined 5 15 _ _ (varint_size eid in_32).1 (
-    at_most_joined 4 11 _ _ (number_size w32 wide_32 (cast_unsigned w32 spot.x)) (
-    at_most_joined 4 7 _ _ (number_size w32 wide_32 (cast_unsigned w32 spot.y)) (
-    at_most_joined 4 3 _ _ (number_size w32 wide_32 (cast_unsigned w32 spot.z)) (
-    at_most_joined 1 2 _ _ (number_size w8 wide_8 spot.yaw) (
-    at_most_joined 1 1 _ _ (number_size w8 wide_8 spot.pitch)
+    at_most_joined 4 11 _ _ (number_size w32 wide_32 (cast_unsigned w32 x)) (
+    at_most_joined 4 7 _ _ (number_size w32 wide_32 (cast_unsigned w32 y)) (
+    at_most_joined 4 3 _ _ (number_size w32 wide_32 (cast_unsigned w32 z)) (
+    at_most_joined 1 2 _ _ (number_size w8 wide_8 yaw) (
+    at_most_joined 1 1 _ _ (number_size w8 wide_8 pitch)
     (number_size w8 wide_8 (bool_byte true))))))) in (
       fits,
-      spelling_payload (entry_of (Teleport eid spot.x spot.y spot.z spot.yaw spot.pitch true)) fits
+      spelling_payload (entry_of (Teleport eid x y z yaw pitch true)) fits
           (few_bytes 20 _ (omega arith) size),
     )
 
--- HeadLook
-head_clear : (eid : ℤ) (spot : Spot) → SFits w32 eid → SpotFits spot
-    → IsClear for_play (of_play (HeadLook eid spot.yaw))
-head_clear eid spot in_32 at =
-    let fits : FitsDown (HeadLook eid spot.yaw) = (lit< tt, (varint-fits eid in_32, at.yaw)) in
+-- a turn of the head can be sent
+pub head_clear : (eid : ℤ) (yaw : ℕ) → SFits w32 eid → yaw < 256 → IsClear for_play (of_play (HeadLook eid yaw))
+head_clear eid yaw in_32 at_yaw =
+    let fits : FitsDown (HeadLook eid yaw) = (lit< tt, (varint-fits eid in_32, at_yaw)) in
     let size : AtMost 6 _ = at_most_joined 5 1 _ _ (varint_size eid in_32).1
-    (number_size w8 wide_8 spot.yaw) in (
+    (number_size w8 wide_8 yaw) in (
       fits,
-      spelling_payload (entry_of (HeadLook eid spot.yaw)) fits (few_bytes 6 _ (omega arith) size),
+      spelling_payload (entry_of (HeadLook eid yaw)) fits (few_bytes 6 _ (omega arith) size),
     )
+
+-- a jump to a spot
+jump_at : (eid : ℤ) (spot : Spot) → SFits w32 eid → SpotFits spot
+    → IsClear for_play (of_play (Teleport eid spot.x spot.y spot.z spot.yaw spot.pitch true))
+jump_at eid spot in_32 at =
+    jump_clear eid spot.x spot.y spot.z spot.yaw spot.pitch in_32 (east_fits spot at)
+    (up_fits spot at) (south_fits spot at) at.yaw at.pitch
 
 -- a test of order that passes
 pub in_order : (a b : ℤ) → int_le a b ≡ true → a ≤ℤ b
@@ -181,12 +183,12 @@ form_clear eid dx dy dz turned spot in_32 at =
         let at_z = step_fits dz parts.1 in
         elim turns as (λ b. AreClear (move_packets eid spot
         (cond b (forms.StepTurn dx dy dz) (forms.Step dx dy dz)))) [
-          | true ↦ (step_look_clear eid dx dy dz spot in_32 at_x at_y at_z at, tt)
+          | true ↦ (step_look_clear eid dx dy dz spot.yaw spot.pitch in_32 at_x at_y at_z at.yaw at.pitch, tt)
           | false ↦ (step_clear eid dx dy dz in_32 at_x at_y at_z, tt)
         ]
-    cases true false turns t = (jump_clear eid spot in_32 at, tt)
-    cases false false turns t = (jump_clear eid spot in_32 at, tt)
-    cases false true true t = (look_clear eid spot in_32 at, tt)
+    cases true false turns t = (jump_at eid spot in_32 at, tt)
+    cases false false turns t = (jump_at eid spot in_32 at, tt)
+    cases false true true t = (look_clear eid spot.yaw spot.pitch in_32 at.yaw at.pitch, tt)
     cases false true false t = tt
 
 -- from one spot to another
@@ -199,5 +201,5 @@ moves_clear eid old new in_32 at =
     in_32 at) (turns (moves_of old new).head)
   where
     turns : (b : Bool) → AreClear (head_packets eid new b)
-    turns true = (head_clear eid new in_32 at, tt)
+    turns true = (head_clear eid new.yaw in_32 at.yaw, tt)
     turns false = tt

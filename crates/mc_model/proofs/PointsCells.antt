@@ -123,7 +123,7 @@ inside_back c (pos n) i small e = omega (arith, ints, e, small)
 inside_back c (negsuc n) i small e = omega (arith, ints, e, small)
 
 -- a cell's place and index are those that its numbers were made of
-key_back : (place : Place) (i : ℕ) → i < 65536 →
+pub key_back : (place : Place) (i : ℕ) → i < 65536 →
     key_of (x_of (place, i)) (y_of (place, i)) (z_of (place, i)) ≡ (place, i)
 key_back place i less =
     let x = column_back place.0 (x_of (place, i)) (i % 16) (omega arith) refl in

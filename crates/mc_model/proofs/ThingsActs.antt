@@ -154,7 +154,7 @@ set_piles (x ∷ xs) (suc k) pile is are (suc i) =
     set_piles xs k pile is (λ j. are (suc j)) i
 
 -- a pack with a pile in its hand
-with_hand_fits : (pile : Pile) (hand : ℕ) (pack : PackValue) → IsPile pile →
+pub with_hand_fits : (pile : Pile) (hand : ℕ) (pack : PackValue) → IsPile pile →
     IsPack pack.slots pack.cursor →
     IsPack (with_hand pile hand pack).slots (with_hand pile hand pack).cursor
 with_hand_fits pile hand pack is fits = record {
@@ -164,7 +164,7 @@ with_hand_fits pile hand pack is fits = record {
 }
 
 -- a name that carries another pack
-with_pack_fits : (name : List ℕ) (pack : PackValue) (packs : Packs) →
+pub with_pack_fits : (name : List ℕ) (pack : PackValue) (packs : Packs) →
     IsPack pack.slots pack.cursor → AllByRecursion PackFits packs →
     AllByRecursion PackFits (with_pack name pack packs)
 with_pack_fits name pack packs is a = all_mapped PackFits PackFits _ one packs a

@@ -1,5 +1,5 @@
 -- A server that stands for a world stands for what bytes of a connection make of it.
-use Rattle.std.proofs.Common.{◌≡◌, ◌≢◌, ℕ, zero, suc, ◌+◌, ◌-◌, ◌≤◌, ◌<◌, Bool, true, false, cond}
+use Rattle.std.proofs.Common.{◌≡◌, ◌≢◌, ℕ, zero, suc, ◌+◌, ◌-◌, ◌<◌, Bool, true, false}
 use Rattle.std.proofs.Common.{List, [], ◌∷◌, ◌++◌}
 use Rattle.std.proofs.Common.{map, length, get_or, set, refl, sym, subst, ap, ◌∙◌, arith, inl, inr}
 use Rattle.std.specs.Prelude.{◌==◌, is_some, unwrap_or, Option, Some, None, Result, Ok, Err, OnOk}
@@ -11,7 +11,7 @@ use Rattle.mc_frame.specs.Cut.{Cut, IsPart, kept_count}
 use Rattle.mc_frame.specs.Held.{Splitting}
 use Rattle.mc_model.specs.Cutting.{cut_of}
 use Rattle.mc_model.specs.Sight.{Sight, nothing_seen}
-use Rattle.mc_model.specs.World.{World, Session, found, put, is_play, is_closed}
+use Rattle.mc_model.specs.World.{World, Session, found, put, is_closed}
 use Rattle.mc_model.specs.Step.{came, step, on_bytes, on_cut, read_to, still, when_open, Turn}
 use Rattle.mc_model.specs.Step.{new_session}
 use Rattle.mc_model.specs.Orderly.{Rise, AreApart}

@@ -17,13 +17,12 @@ use Rattle.mc_fields.specs.VarintFormat.{varint_only}
 use Rattle.mc_fields.proofs.VarintFaults.{groups-long, groups-cut}
 use Rattle.mc_frame.specs.declared.fault.FrameFault.{FrameFault}
 use Rattle.mc_frame.specs.declared.fault.FrameFault.TheVariants.{LongLength, ZeroLength}
-use Rattle.mc_frame.specs.declared.fault.Take.TheVariants.{More, Bad}
 use Rattle.mc_frame.specs.Faults.{fault_of}
 use Rattle.mc_frame.specs.Frame.{frame_read}
 use Rattle.mc_frame.specs.Cut.{SpellsFrames, IsPart, HasLongLength, HasZeroLength, kept_count, Ends}
 use Rattle.mc_frame.specs.Cut.{Cut, IsCutAt}
 use Rattle.mc_frame.specs.Held.{Splitting}
-use Rattle.mc_frame.specs.Splitting.{Feeds, Takes, TakesFrame}
+use Rattle.mc_frame.specs.Splitting.{Feeds, TakesFrame}
 use Rattle.mc_frame.proofs.Cuts.{front_reads, frame_some, HasLongLength-more, HasZeroLength-more}
 use Rattle.mc_frame.proofs.AnyPieces.{framed_more}
 use Rattle.mc_model.specs.Cutting.{cut_by, cut_from, cut_of}

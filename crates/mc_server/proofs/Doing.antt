@@ -1,8 +1,8 @@
 -- What a player does makes of a server what the definitions make of its world: things change, or
 -- what is kept of the player at its place.
 use Rattle.std.proofs.Common.{◌≡◌, ℕ, ◌<◌, ◌≤◌, List, true, length, refl, sym, subst, ap, ◌∙◌}
-use Rattle.std.proofs.Common.{arith, get_or, set}
-use Rattle.std.specs.Prelude.{◌⊎◌, Option, Some, None, is_some, option_map, unsigned_abs}
+use Rattle.std.proofs.Common.{get_or, set}
+use Rattle.std.specs.Prelude.{◌⊎◌, Option, Some, is_some, unsigned_abs}
 use Rattle.std.specs.Prelude.{Result, Ok, Err, OnOk, OnErr}
 use Rattle.std.specs.FinSet as places
 use Rattle.mc_fields.specs.declared.position.Cell.{Cell}
@@ -14,54 +14,38 @@ use Rattle.mc_slots.specs.declared.pile.Pile.{Pile}
 use Rattle.mc_windows.specs.Pack.{PackValue}
 use Rattle.mc_entities.specs.declared.entity.EntityKind.TheVariants as kinds
 use Rattle.mc_entities.specs.Folk.{FolkState}
-use Rattle.mc_model.specs.Orderly.{Rise, next_number}
 use Rattle.mc_model.specs.Packs.{carrying, take_up}
 use Rattle.mc_model.specs.Things.{Things, holding, in_hand, with_entity, with_new_entity}
 use Rattle.mc_model.specs.Things.{with_state}
 use Rattle.mc_model.specs.World.{World, Session, Player, pack_of, put}
-use Rattle.mc_model.proofs.RiseFacts.{rise_set}
 use Rattle.mc_server.specs.declared.settings.Settings.{Settings}
 use Rattle.mc_server.specs.declared.server.act.Doer.{Doer}
 use Rattle.mc_server.specs.Acting.{IsDoerAt}
 use Rattle.mc_server.specs.Frames.{Becomes, Retains}
-use Rattle.mc_server.specs.Served.{AreInRange, AreKept, AreStates, ConnectionValue, ServerValue}
+use Rattle.mc_server.specs.Served.{AreKept, AreStates, ConnectionValue, ServerValue}
 use Rattle.mc_server.specs.Served.{kept_world, nth_session, sessions_of, with_player}
-use Rattle.mc_server.proofs.Becoming.{becomes_onward, nth_is, put_becomes, retains_same}
-use Rattle.mc_server.proofs.Becoming.{retains_stage}
-use Rattle.mc_server.proofs.Places.{fewer_set, numbers_set, session_at, sessions_length}
-use Rattle.mc_server.proofs.Places.{sessions_set}
+use Rattle.mc_server.proofs.ActFacts.{player_kept}
+use Rattle.mc_server.proofs.Becoming.{becomes_onward, retains_same}
+use Rattle.mc_server.proofs.Keeping.{kept_set}
 use Rattle.mc_server.proofs.Sides.{side_same}
 use Rattle.mc_server.proofs.States.{edited_states}
 
 -- ---- what is kept
 
-module _ {land : LandValue} {folk : FolkState} {with_ : Settings} {last : Option ℕ}
-    {ids : List ℕ} {ss : List Session} (kept : AreKept land folk with_ last ids ss) where
-  -- other entities, all in range
-  pub kept_folk : (next : FolkState) → AreInRange next.entities →
-      AreKept land next with_ last ids ss
-  kept_folk next in_range = record {
-    own = kept.own;
-    settings = kept.settings;
-    in_range = in_range;
-    states = kept.states;
-    rise = kept.rise;
-    named = kept.named;
-    few = kept.few;
-  }
-
-  -- other edits of the same terrain, all states of blocks
-  pub kept_land : (next : LandValue) → next.terrain ≡ land.terrain → AreStates next.edits →
-      AreKept next folk with_ last ids ss
-  kept_land next same states = record {
-    own = same ∙ kept.own;
-    settings = kept.settings;
-    in_range = kept.in_range;
-    states = states;
-    rise = kept.rise;
-    named = kept.named;
-    few = kept.few;
-  }
+-- other edits of the same terrain, all states of blocks
+kept_land : {land : LandValue} {folk : FolkState} {with_ : Settings} {last : Option ℕ}
+    {ids : List ℕ} {ss : List Session} → AreKept land folk with_ last ids ss →
+    (next : LandValue) → next.terrain ≡ land.terrain → AreStates next.edits →
+    AreKept next folk with_ last ids ss
+kept_land kept next same states = record {
+  own = same ∙ kept.own;
+  settings = kept.settings;
+  in_range = kept.in_range;
+  states = states;
+  rise = kept.rise;
+  named = kept.named;
+  few = kept.few;
+}
 
 -- a cell set to a state of a block, or not
 pub kept_set_land : {A E : Type 0} {land : LandValue} {folk : FolkState} {with_ : Settings}
@@ -78,33 +62,6 @@ kept_set_land {land = land} kept cell state small whole next (Ok old) ok err =
 kept_set_land {land = land} {folk} {with_} {last} {ids} {ss} kept cell state small whole next
     (Err fault) ok err =
     subst (λ (l : LandValue). AreKept l folk with_ last ids ss) (sym err) kept
-
--- another connection at its place, with its number, that comes to play no more than before
-pub kept_there : {land : LandValue} {folk : FolkState} {with_ : Settings} {last : Option ℕ}
-    {ids : List ℕ} (cs : List ConnectionValue) →
-    AreKept land folk with_ last ids (sessions_of cs) → (i : ℕ) (c t : ConnectionValue) →
-    i < length cs → c ≡ get_or cs i c → t.session.id ≡ c.session.id →
-    (is_some t.session.player ≡ true → is_some c.session.player ≡ true) →
-    AreKept land folk with_ last ids (sessions_of (set cs i t))
-kept_there {land} {folk} {with_} {last} {ids} cs kept i c t lt is same calm =
-    let len = sessions_length cs in
-    let within : i < length (sessions_of cs) = omega (arith, lt, len) in
-    let at : get_or (sessions_of cs) i c.session ≡ c.session = session_at cs i c c.session lt is in
-    let named : t.session.id ≡ (get_or (sessions_of cs) i c.session).id =
-    same ∙ sym (ap (λ (s : Session). s.id) at) in
-    let fewer = fewer_set (sessions_of cs) i t.session c.session within
-    (λ here. ap (λ (s : Session). is_some s.player) at ∙ calm here) in
-    let P : List Session → Type 0 = λ ss. AreKept land folk with_ last ids ss in
-    subst P (sym (sessions_set cs i t)) (record {
-      own = kept.own;
-      settings = kept.settings;
-      in_range = kept.in_range;
-      states = kept.states;
-      rise = rise_set 0 (next_number last) (sessions_of cs) i t.session c.session within named
-          kept.rise;
-      named = numbers_set (sessions_of cs) i t.session c.session within named ∙ kept.named;
-      few = (let few = kept.few in omega (arith, few, fewer));
-    })
 
 -- ---- things
 
@@ -170,33 +127,10 @@ set_carried v mid n p cell state pile made carried =
 
 -- ---- a player at its place
 
--- no one comes to play by a change of its player
-pub still_plays : (f : Player → Player) (o : Option Player) → is_some (option_map f o) ≡ true →
-    is_some o ≡ true
-still_plays f None plays = plays
-still_plays f (Some p) plays = refl
-
-module _ (v : ServerValue) (i high : ℕ) (c t : ConnectionValue)
-    (rise : Rise 0 (sessions_of v.connections) high) (lt : i < length v.connections)
-    (is : c ≡ get_or v.connections i c) (f : Player → Player) (made : t ≡ with_player c f) where
-  -- the player becomes another
-  pub player_becomes : (p : Player) → (nth_session i v.connections).player ≡ Some p →
-      Becomes v (record v { connections = set v.connections i t })
-      (put (kept_world v) (record (nth_session i v.connections) { player = Some (f p) }))
-  player_becomes p plays =
-      let same : t.session.id ≡ c.session.id = ap (λ (d : ConnectionValue). d.session.id) made in
-      let there = nth_is v i high c t rise lt is same in
-      let has : c.session.player ≡ Some p = ap (λ (s : Session). s.player) (sym there) ∙ plays in
-      put_becomes v i high c t rise lt is same
-      (λ (s : Session). record s { player = Some (f p) })
-      (ap (λ (d : ConnectionValue). d.session) made
-      ∙ ap (λ (o : Option Player). record c.session { player = option_map f o }) has)
-      (retains_stage c t _ made refl refl)
-
--- and comes to play no more than before
+-- it comes to play no more than before
 pub player_calm : (c t : ConnectionValue) (f : Player → Player) → t ≡ with_player c f →
     is_some t.session.player ≡ true → is_some c.session.player ≡ true
-player_calm c t f made plays = still_plays f c.session.player
+player_calm c t f made plays = player_kept f c.session.player
     (ap (λ (d : ConnectionValue). is_some d.session.player) (sym made) ∙ plays)
 
 -- what is kept is kept then
@@ -206,7 +140,7 @@ pub kept_player : {land : LandValue} {folk : FolkState} {with_ : Settings} {last
     i < length cs → c ≡ get_or cs i c → (f : Player → Player) → t ≡ with_player c f →
     AreKept land folk with_ last ids (sessions_of (set cs i t))
 kept_player cs kept i c t lt is f made =
-    kept_there cs kept i c t lt is (ap (λ (d : ConnectionValue). d.session.id) made)
+    kept_set cs kept i c t lt is (ap (λ (d : ConnectionValue). d.session.id) made)
     (player_calm c t f made)
 
 -- also where it may fail, and change nothing
@@ -218,7 +152,7 @@ pub kept_tried : {A E : Type 0} {land : LandValue} {folk : FolkState} {with_ : S
     AreKept land folk with_ last ids (sessions_of (set cs i t))
 kept_tried cs kept i c t lt is f (Ok a) made same = kept_player cs kept i c t lt is f made
 kept_tried cs kept i c t lt is f (Err e) made same =
-    kept_there cs kept i c t lt is (ap (λ (d : ConnectionValue). d.session.id) same)
+    kept_set cs kept i c t lt is (ap (λ (d : ConnectionValue). d.session.id) same)
     (λ plays. ap (λ (d : ConnectionValue). is_some d.session.player) (sym same) ∙ plays)
 
 -- ---- two steps
@@ -227,12 +161,6 @@ kept_tried cs kept i c t lt is f (Err e) made same =
 pub ok_more : {A E P Q : Type 0} (r : Result A E) → (P → Q) → OnOk r P → OnOk r Q
 ok_more (Ok a) more is = more is
 ok_more (Err e) more is = is
-
--- a place among the connections of two equal servers
-pub place_within : (i : ℕ) (v u : ServerValue) → v ≡ u → i < length u.connections →
-    i < length v.connections
-place_within i v u same lt =
-    let len = ap (λ (w : ServerValue). length w.connections) same in omega (arith, lt, len)
 
 -- things change, and then the player at a place
 pub things_then_player : (old mid new : ServerValue) (i : ℕ) (f : Player → Player) (p : Player)

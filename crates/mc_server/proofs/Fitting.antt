@@ -1,5 +1,5 @@
 -- A packet that a frame comes to has a spelling.
-use Rattle.std.proofs.Common.{◌≡◌, ℕ, List, Option, Some, refl, subst, sym, ◌∙◌, ap}
+use Rattle.std.proofs.Common.{◌≡◌, ℕ, List, refl, subst, sym, ◌∙◌, ap}
 use Rattle.std.specs.Prelude.{Result, Ok, Err}
 use Rattle.mc_fields.specs.Row.{packet_of, packet_read}
 use Rattle.mc_fields.specs.RowLaws.{packet_found_all}
@@ -10,7 +10,7 @@ use Rattle.mc_up.specs.PlayUp.{FitsPlayUp, SpellsPlayUp, rows}
 use Rattle.mc_up.proofs.PlayUpLaws.{fit, seen}
 use Rattle.mc_model.specs.declared.stage.Stage.{Stage}
 use Rattle.mc_model.specs.declared.stage.Stage.TheVariants as stages
-use Rattle.mc_model.specs.Talk.{ClientRequest, acts, in_play, request_of}
+use Rattle.mc_model.specs.Talk.{acts, in_play, request_of}
 use Rattle.mc_model.proofs.Acting.{Suits, suits}
 
 -- what is read as a packet in play

@@ -2,18 +2,22 @@
 use Rattle.std.proofs.Common.{◌≡◌, ℕ, ◌≤◌, ◌<◌, List, [], ◌∷◌, ◌++◌, map, length, get_or, set}
 use Rattle.std.proofs.Common.{refl, sym, subst, ap, ◌∙◌, arith}
 use Rattle.std.specs.Prelude.{Bool, true, false, cond, is_some, Option, Some, None, not, ◌&&◌, ◌==◌}
-use Rattle.std.specs.Prelude.{nat_lt}
+use Rattle.std.specs.Prelude.{nat_lt, ◌||◌}
 use Rattle.std.specs.List.{remove}
 use Rattle.std.proofs.lemmas.Bool.{ltb-true}
 use Rattle.mc_land.specs.Land.{LandValue}
 use Rattle.mc_entities.specs.Folk.{FolkState}
-use Rattle.mc_model.specs.World.{World, Session}
+use Rattle.mc_model.specs.Things.{Things, is_known}
+use Rattle.mc_model.specs.World.{World, Session, players}
 use Rattle.mc_model.specs.Orderly.{Rise, next_number}
 use Rattle.mc_model.specs.Step.{is_done, is_new, joining, is_crowded, mark_closed, new_session}
 use Rattle.mc_model.specs.declared.cause.Cause.TheVariants as causes
+use Rattle.mc_model.proofs.FitsText.{both_true}
 use Rattle.mc_model.proofs.RiseFacts.{rise_set, joined_rise, rise_filter}
 use Rattle.mc_server.specs.declared.settings.Settings.{Settings}
-use Rattle.mc_server.specs.Served.{ConnectionValue, ServerValue, AreKept, sessions_of, playing_of}
+use Rattle.mc_server.specs.LoggingIn.{has_room}
+use Rattle.mc_server.specs.Served.{ConnectionValue, ServerValue, AreKept, kept_world, sessions_of}
+use Rattle.mc_server.specs.Served.{playing_of}
 use Rattle.mc_server.specs.Served.{AreInRange, AreStates}
 use Rattle.mc_server.proofs.Places.{session_at, sessions_length, sessions_set, sessions_join}
 use Rattle.mc_server.proofs.Places.{sessions_remove, placed_of, numbers_set, fewer_set, more_set}
@@ -63,6 +67,18 @@ module _ {land : LandValue} {folk : FolkState} {with_ : Settings} {last : Option
       let some = ltb-true (length (playing_of (sessions_of cs))) with_.players room in
       let more = more_set (sessions_of cs) i t.session in
       with_few (omega (arith, some, more))
+
+-- there is such room where a server has room for a player, whatever its things became
+pub room_there : (mid v : ServerValue) (name : List ℕ) (things : Things) →
+    mid ≡ record v { things = things } → has_room (kept_world v) name ≡ true →
+    nat_lt (length (playing_of (sessions_of mid.connections))) mid.most ≡ true
+room_there mid v name things e room =
+    let w = kept_world v in
+    let names = is_known name w.things.packs || nat_lt (length w.things.packs) 65536 in
+    let P : ServerValue → Type 0 =
+    λ u. nat_lt (length (playing_of (sessions_of u.connections))) u.most ≡ true in
+    subst P (sym e) (both_true (nat_lt (length (players w)) w.most)
+    (nat_lt w.things.eids 2147483647 && names) room).0
 
 -- ---- one that comes, and one that goes
 

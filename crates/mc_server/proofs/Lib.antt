@@ -21,6 +21,7 @@ pub mod FrameFacts
 pub mod ActFacts
 pub mod Reading
 pub mod Standing
+pub mod Asked
 pub mod Came
 pub mod ReadyFacts
 pub mod RosterFacts

@@ -1,5 +1,5 @@
 -- A connection whose frames are taken and done one after another.
-use Rattle.std.proofs.Common.{◌≡◌, ℕ, ◌+◌, ◌<◌, Bool, true, false, List, [], ◌∷◌, ◌++◌, map, length}
+use Rattle.std.proofs.Common.{◌≡◌, ℕ, ◌<◌, Bool, true, false, List, [], ◌∷◌, ◌++◌, map, length}
 use Rattle.std.proofs.Common.{get_or, set}
 use Rattle.std.proofs.Common.{drop, refl, sym, subst, ap, ◌∙◌, arith}
 use Rattle.std.specs.Prelude.{Option, Some, None, if◌then◌else◌}
@@ -15,7 +15,7 @@ use Rattle.mc_model.specs.Cutting.{cut_of}
 use Rattle.mc_model.specs.Talk.{request_of, farewell}
 use Rattle.mc_model.specs.Step.{Turn, still, turn, disconnect, when_open, perform, on_frame}
 use Rattle.mc_model.specs.Step.{on_frames, on_fault, new_session}
-use Rattle.mc_model.specs.World.{World, Session, found, put, players, is_closed}
+use Rattle.mc_model.specs.World.{World, Session, found, players, is_closed}
 use Rattle.mc_server.specs.Bare.{after_frames}
 use Rattle.mc_server.specs.Leaving.{put_after}
 use Rattle.mc_server.specs.Frames.{IsUnderway, Becomes, Retains, Splits, IsReading, AreDone}
@@ -25,11 +25,11 @@ use Rattle.mc_server.specs.Served.{sessions_of, shown_parts}
 use Rattle.mc_server.specs.SideBySide.{SideBySide}
 use Rattle.mc_server.proofs.Ages.{frame_age}
 use Rattle.mc_server.proofs.Becoming.{becomes_along, becomes_nothing, becomes_onward}
-use Rattle.mc_server.proofs.Becoming.{becomes_within, retains_same}
+use Rattle.mc_server.proofs.Becoming.{becomes_within}
 use Rattle.mc_server.proofs.Cuts.{underway_first, underway_fed, underway_frame, underway_bad}
 use Rattle.mc_server.proofs.Cuts.{underway_over, cut_begins, frame_shortens}
-use Rattle.mc_server.proofs.Places.{sessions_set, sessions_same, sessions_length, session_at}
-use Rattle.mc_server.proofs.Sides.{side_at, side_length, side_set}
+use Rattle.mc_server.proofs.Places.{sessions_same, sessions_length, session_at}
+use Rattle.mc_server.proofs.Sides.{side_at, side_set}
 
 -- ---- frames of a world
 

@@ -1,20 +1,18 @@
 -- A server that stands for a world stands for what each event but bytes and a tick makes of it.
-use Rattle.std.proofs.Common.{◌≡◌, ℕ, ◌<◌, ◌≤◌, Bool, true, false, cond, List, [], ◌∷◌, ◌++◌}
-use Rattle.std.proofs.Common.{map, length, take, get_or, set, refl, sym, subst, ap, ◌∙◌, arith}
+use Rattle.std.proofs.Common.{◌≡◌, ℕ, ◌<◌, Bool, true, false, cond, List, [], ◌∷◌, ◌++◌}
+use Rattle.std.proofs.Common.{map, length, get_or, set, refl, sym, subst, ap, ◌∙◌, arith}
 use Rattle.std.specs.Prelude.{◌+◌, drop, is_some, unwrap_or, Option, Some, None}
 use Rattle.std.specs.Prelude.{option_map, if◌then◌else◌}
 use Rattle.std.specs.FinMap.{get-empty}
 use Rattle.std.specs.Ordering.{int_cmp}
-use Rattle.std.specs.List.{filter, remove}
+use Rattle.std.specs.List.{remove}
 use Rattle.std.specs.Option.{option_and_then}
-use Rattle.std.proofs.lemmas.List.{get_or_default, length-drop, length-map, length-take}
-use Rattle.std.proofs.lemmas.List.Sums.{length-filter}
+use Rattle.std.proofs.lemmas.List.{get_or_default}
 use Rattle.mc_frame.proofs.Stops.{nothing_part}
 use Rattle.mc_model.specs.declared.cause.Cause.{Cause}
 use Rattle.mc_model.specs.declared.cause.Cause.TheVariants as causes
 use Rattle.mc_model.specs.Sight.{nothing_seen}
 use Rattle.mc_model.specs.World.{World, Session, Player, found, is_closed}
-use Rattle.mc_model.specs.Run.{cause_in, owed_of}
 use Rattle.mc_model.specs.Orderly.{Rise, IsPlaced}
 use Rattle.mc_model.specs.Step.{joined, left, broke, took, forgot, step, gone, mark_closed}
 use Rattle.mc_model.specs.Step.{after_leaving, depart, player_in}
@@ -26,16 +24,14 @@ use Rattle.mc_model.proofs.Handing.{HasPlayer}
 use Rattle.mc_model.proofs.RunEvents.{depart_beside, orderly_beside, orderly_step}
 use Rattle.mc_model.proofs.BalanceRun.{balanced_step}
 use Rattle.mc_flush.specs.Seeing.{Parts, StandsFor, is_shown, nothing_shown, told_item}
-use Rattle.mc_server.specs.Asking.{is_ours, is_over, ours_there}
 use Rattle.mc_server.specs.Bare.{bare, bare_world}
 use Rattle.mc_server.specs.Served.{ConnectionValue, ServerValue, IsAt, kept_world, new_connection}
 use Rattle.mc_server.specs.Served.{sessions_of, shown_parts, with_session}
 use Rattle.mc_server.specs.SideBySide.{SideBySide}
 use Rattle.mc_server.specs.Leaving.{left_with}
-use Rattle.mc_server.specs.Stands.{IsConnection, IsOpen, Stands, owes, shown_to}
-use Rattle.mc_server.proofs.Bare.{filter_bare, found_bare, ids_bare, gone_bare, joining_bare}
-use Rattle.mc_server.proofs.Places.{placed_by, found_set, forgotten, forgotten_none, forgotten_at}
-use Rattle.mc_server.proofs.Places.{sessions_count}
+use Rattle.mc_server.specs.Stands.{IsConnection, IsOpen, Stands, shown_to}
+use Rattle.mc_server.proofs.Bare.{found_bare, gone_bare, joining_bare}
+use Rattle.mc_server.proofs.Places.{placed_by, forgotten, forgotten_none, forgotten_at}
 use Rattle.mc_server.proofs.Leavings.{bare_some, eid_in, gone_player, leaving_bare, left_is}
 use Rattle.mc_server.proofs.Sides.{side_length, side_at, side_set, side_remove, side_join}
 
@@ -143,70 +139,6 @@ none_there v w k st none = test (found k w.sessions)
     test : (o : Option Session) → option_map bare o ≡ None → o ≡ None
     test None e = refl
     test (Some s) e = absurd (some_not (bare s) (sym e))
-
--- ---- what is asked
-
-pub asked : {A : Type 0} (f : Option Session → A) → ((s : Session) → f (Some (bare s)) ≡ f (Some s))
-    → (v : ServerValue) (w : World) (k : ℕ) → Stands v w → f (found k (sessions_of v.connections)) ≡
-    f (found k w.sessions)
-asked f same v w k st = ap (λ (ss : List Session). f (found k ss))
-    (sessions_bare (shown_parts v) v.connections w.sessions st.connections) ∙
-    ap f (found_bare k w.sessions) ∙ each (found k w.sessions)
-  where
-    each : (o : Option Session) → f (option_map bare o) ≡ f o
-    each None = refl
-    each (Some s) = same s
-
-pub asked_done : (v : ServerValue) (w : World) (k : ℕ) → Stands v w →
-    is_over (found k (sessions_of v.connections)) ≡ is_over (found k w.sessions)
-asked_done = asked is_over (λ s. refl)
-
-pub asked_owed : (v : ServerValue) (w : World) (k : ℕ) → Stands v w →
-    owed_of (found k (sessions_of v.connections)) ≡ owed_of (found k w.sessions)
-asked_owed = asked owed_of (λ s. refl)
-
-pub asked_cause : (v : ServerValue) (w : World) (k : ℕ) → Stands v w →
-    option_and_then (λ (s : Session). s.cause) (found k (sessions_of v.connections)) ≡ cause_in k w
-asked_cause = asked (option_and_then (λ (s : Session). s.cause)) (λ s. refl)
-
-pub asked_ids : (v : ServerValue) (w : World) → Stands v w → map (λ (s : Session). s.id)
-    (sessions_of v.connections) ≡ map (λ (s : Session). s.id) w.sessions
-asked_ids v w st = ap (map (λ (s : Session). s.id))
-    (sessions_bare (shown_parts v) v.connections w.sessions st.connections) ∙ ids_bare w.sessions
-
-pub asked_ours : (v : ServerValue) (w : World) → Stands v w →
-    length (filter (λ (c : ConnectionValue). is_ours c.session.cause) v.connections) ≡ ours_there w
-asked_ours v w st =
-    let p : Session → Bool = λ s. is_ours s.cause in
-    sym (sessions_count p v.connections)
-    ∙ ap (λ (ss : List Session). length (filter p ss))
-    (sessions_bare (shown_parts v) v.connections w.sessions st.connections)
-    ∙ ap length (filter_bare p (λ s. refl) w.sessions) ∙ length-map (filter p w.sessions) bare
-    ∙ length-filter p w.sessions
-
--- the first bytes that are owed are no more than all
-pub first_within : (first owed : List ℕ) → take (length first) owed ≡ first →
-    length first ≤ length owed
-first_within first owed is =
-    let same : length (take (length first) owed) ≡ length first = ap length is in
-    omega (arith, same, length-take (length first) owed)
-
--- taking some of what is owed leaves less
-pub took_falls : (v : ServerValue) (high k i n : ℕ) (c t : ConnectionValue) →
-    Rise 0 (sessions_of v.connections) high → IsAt k i v.connections → c ≡
-    get_or v.connections i c →
-    t ≡ record c { session = record c.session { owed = drop n c.session.owed } } → 0 < n →
-    n ≤ owes k v → owes k (record v { connections = set v.connections i t }) < owes k v
-took_falls v high k i n c t rise at is made some few =
-    let old : owes k v ≡ length c.session.owed =
-    ap (λ (o : Option Session). length (owed_of o)) (at.is c) ∙
-    ap (λ (d : ConnectionValue). length d.session.owed) (sym is) in
-    let new : owes k (record v { connections = set v.connections i t }) ≡
-    length (drop n c.session.owed) =
-    ap (λ (o : Option Session). length (owed_of o)) (found_set high v.connections k i c t rise at is
-    (ap (λ (d : ConnectionValue). d.session.id) made)) ∙
-    ap (λ (d : ConnectionValue). length d.session.owed) made in
-    omega (arith, old, new, some, few, length-drop n c.session.owed)
 
 -- ---- one connection changed
 

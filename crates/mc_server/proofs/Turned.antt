@@ -1,5 +1,5 @@
 -- A turn: what happened, the writes behind it, and the closings behind those.
-use Rattle.std.proofs.Common.{◌≡◌, ◌⊎◌, inl, inr, ◌+◌, ℕ, Bool, true, false, cond, List, [], ◌∷◌}
+use Rattle.std.proofs.Common.{◌≡◌, ◌⊎◌, inl, inr, ℕ, Bool, true, false, cond, List, [], ◌∷◌}
 use Rattle.std.proofs.Common.{◌++◌, map, Option, refl, sym, subst, ap, ◌∙◌, arith}
 use Rattle.std.specs.List.{Contains}
 use Rattle.mc_wire.specs.declared.log.LogEntry.{LogEntry}

@@ -1,7 +1,7 @@
 use Rattle.std.proofs.Common.{arith}
 use Rattle.std.specs.Int.{w32}
 use Rattle.std.proofs.lemmas.Int.{to_z-of_z}
-use Rattle.mc_flush.proofs.Clear.{head_clear}
+use Rattle.mc_model.proofs.FitsMoves.{head_clear}
 use Rattle.mc_flush.proofs.packets.head_look.Goals as goal
 
 pub returns-clause-clear : goal.returns-clause-clear

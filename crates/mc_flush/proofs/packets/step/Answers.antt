@@ -1,7 +1,6 @@
-use Rattle.std.proofs.Common.{arith}
 use Rattle.std.specs.Int.{w32, w8}
 use Rattle.std.proofs.lemmas.Int.{to_z-of_z}
-use Rattle.mc_flush.proofs.Clear.{step_clear}
+use Rattle.mc_model.proofs.FitsMoves.{step_clear}
 use Rattle.mc_flush.proofs.packets.step.Goals as goal
 
 pub returns-clause-clear : goal.returns-clause-clear

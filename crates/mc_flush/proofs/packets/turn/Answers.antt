@@ -1,7 +1,7 @@
 use Rattle.std.proofs.Common.{arith}
 use Rattle.std.specs.Int.{w32}
 use Rattle.std.proofs.lemmas.Int.{to_z-of_z}
-use Rattle.mc_flush.proofs.Clear.{look_clear}
+use Rattle.mc_model.proofs.FitsMoves.{look_clear}
 use Rattle.mc_flush.proofs.packets.turn.Goals as goal
 
 pub returns-clause-clear : goal.returns-clause-clear

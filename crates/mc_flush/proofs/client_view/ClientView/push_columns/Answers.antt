@@ -1,4 +1,4 @@
-use Rattle.std.proofs.Common.{◌+◌, ◌*◌, ◌++◌, length, List, arith, ap, sym, subst, ◌∙◌}
+use Rattle.std.proofs.Common.{◌*◌, ◌++◌, length, List, arith, ap, sym, subst, ◌∙◌}
 use Rattle.std.specs.List.{AllByRecursion}
 use Rattle.mc_frame.specs.Kept.{joined}
 use Rattle.mc_column.specs.Sizes.{cells}

@@ -1,6 +1,5 @@
-use Rattle.std.proofs.Common.{◌≡◌, ◌≤◌, length, sym, subst, ap, ◌∙◌}
-use Rattle.std.specs.Prelude.{List, ℕ, Some, None, Option, is_some, option_map}
-use Rattle.std.specs.Option.{option_copied}
+use Rattle.std.proofs.Common.{◌≤◌, length, sym, subst, ap}
+use Rattle.std.specs.Prelude.{List, ℕ, is_some}
 use Rattle.mc_model.specs.World.{Player}
 use Rattle.mc_server.specs.Served.{player_of}
 use Rattle.mc_server.proofs.Listed.{name_put, name_passed, few_put, last_put, copied_put}

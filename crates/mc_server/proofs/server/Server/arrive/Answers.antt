@@ -1,6 +1,6 @@
 -- A player arrives where all numbers are good.
-use Rattle.std.proofs.Common.{◌≡◌, sym, subst}
-use Rattle.std.specs.Prelude.{Ok, Err, Option}
+use Rattle.std.proofs.Common.{sym, subst}
+use Rattle.std.specs.Prelude.{Err, Option}
 use Rattle.mc_fields.specs.declared.position.Spot.{Spot}
 use Rattle.mc_model.specs.Movement.{arrive}
 use Rattle.mc_server.specs.declared.server.act.ActFault.TheVariants.{BadNumber}

@@ -1,7 +1,7 @@
 use Rattle.std.proofs.Common.{ap, ◌∙◌}
 use Rattle.std.specs.Option.{option_and_then}
 use Rattle.mc_model.specs.World.{Session}
-use Rattle.mc_server.proofs.Standing.{asked_cause}
+use Rattle.mc_server.proofs.Asked.{asked_cause}
 use Rattle.mc_server.proofs.server.Server.cause.Goals as goal
 
 pub returns-in-Some : goal.returns-in-Some

@@ -2,7 +2,7 @@ use Rattle.std.proofs.Common.{sym, subst, ◌∙◌}
 use Rattle.mc_server.specs.Served.{ServerValue}
 use Rattle.mc_server.specs.Stands.{Stands}
 use Rattle.mc_server.specs.contracts.server.Server.{the_view}
-use Rattle.mc_server.proofs.Standing.{asked_ids}
+use Rattle.mc_server.proofs.Asked.{asked_ids}
 use Rattle.mc_server.proofs.server.Server.connections.Goals as goal
 
 pub returns : goal.returns

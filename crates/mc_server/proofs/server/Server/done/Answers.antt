@@ -1,6 +1,6 @@
 use Rattle.std.proofs.Common.{ap, ◌∙◌}
 use Rattle.mc_server.specs.Asking.{is_over}
-use Rattle.mc_server.proofs.Standing.{asked_done}
+use Rattle.mc_server.proofs.Asked.{asked_done}
 use Rattle.mc_server.proofs.server.Server.done.Goals as goal
 
 pub returns-in-Some : goal.returns-in-Some

@@ -1,53 +1,35 @@
 -- A player enters, whose entity stands already.
-use Rattle.std.proofs.Common.{◌≡◌, true, refl, sym, subst, ap, ◌∙◌, length}
-use Rattle.std.specs.Prelude.{Some, ◌&&◌, ◌||◌, nat_lt}
+use Rattle.std.proofs.Common.{◌≡◌, refl, sym, subst, ap, ◌∙◌}
+use Rattle.std.specs.Prelude.{Some}
 use Rattle.mc_model.specs.declared.stage.Stage.TheVariants as stages
 use Rattle.mc_model.specs.Names.{offline_uuid}
 use Rattle.mc_model.specs.Orderly.{next_number}
 use Rattle.mc_model.specs.Step.{hand, new_player}
 use Rattle.mc_model.specs.Talk.{accepted}
-use Rattle.mc_model.specs.Things.{is_known}
-use Rattle.mc_model.specs.World.{Session, Player, is_closed, players}
-use Rattle.mc_model.proofs.FitsText.{both_true}
+use Rattle.mc_model.specs.World.{Session, Player, is_closed}
 use Rattle.mc_model.proofs.Handing.{not_both}
 use Rattle.mc_server.specs.LoggingIn.{IsAskedAt}
-use Rattle.mc_server.specs.Served.{ConnectionValue, ServerValue, kept_world, playing_of, sessions_of}
+use Rattle.mc_server.specs.Served.{ConnectionValue, ServerValue}
 use Rattle.mc_server.specs.contracts.server.Server.{the_view}
-use Rattle.mc_server.proofs.Keeping.{kept_enter, within_view}
+use Rattle.mc_server.proofs.Keeping.{kept_enter, room_there, within_view}
 use Rattle.mc_server.proofs.Becoming.{enters_from, hand_id, nth_is, retains_with}
 use Rattle.mc_server.proofs.server.Server.enter.Goals as goal
 
 pub invariant_of-self : goal.invariant_of-self
 invariant_of-self c =
-    let v = c.args.self.now in
     let e = c.self.view_is ∙ c.in_ok-eid.ensures.is in
-    let x : ConnectionValue = c.index_mut.result.now in
     let lt = within_view c.args.i (the_view c.self.inside) _ e c.requires.asked.within in
-    let w = kept_world v in
-    let names = is_known c.args.name.now w.things.packs
-    || nat_lt (length w.things.packs) 65536 in
-    let room = both_true (nat_lt (length (players w)) w.most)
-    (nat_lt w.things.eids 2147483647 && names) c.requires.room in
-    let P : ServerValue → Type 0 =
-    λ u. nat_lt (length (playing_of (sessions_of u.connections))) u.most ≡ true in
-    kept_enter c.self.inside.connections.items c.self.invariant c.args.i x c.enter.new.self
-    lt c.index_mut.ensures.value c.enter.ensures.same (subst P (sym e) room.0)
+    kept_enter c.self.inside.connections.items c.self.invariant c.args.i c.index_mut.result.now
+    c.enter.new.self lt c.index_mut.ensures.value c.enter.ensures.same
+    (room_there (the_view c.self.inside) c.args.self.now c.args.name.now _ e c.requires.room)
 
 pub invariant_of-self-2 : goal.invariant_of-self-2
 invariant_of-self-2 c =
-    let v = c.args.self.now in
     let e = c.self.view_is ∙ c.in_ok-eid.ensures.is in
-    let x : ConnectionValue = c.index_mut.result.now in
     let lt = within_view c.args.i (the_view c.self.inside) _ e c.requires.asked.within in
-    let w = kept_world v in
-    let names = is_known c.args.name.now w.things.packs
-    || nat_lt (length w.things.packs) 65536 in
-    let room = both_true (nat_lt (length (players w)) w.most)
-    (nat_lt w.things.eids 2147483647 && names) c.requires.room in
-    let P : ServerValue → Type 0 =
-    λ u. nat_lt (length (playing_of (sessions_of u.connections))) u.most ≡ true in
-    kept_enter c.self.inside.connections.items c.self.invariant c.args.i x c.enter.new.self
-    lt c.index_mut.ensures.value c.enter.ensures.same (subst P (sym e) room.0)
+    kept_enter c.self.inside.connections.items c.self.invariant c.args.i c.index_mut.result.now
+    c.enter.new.self lt c.index_mut.ensures.value c.enter.ensures.same
+    (room_there (the_view c.self.inside) c.args.self.now c.args.name.now _ e c.requires.room)
 
 pub returns : goal.returns
 returns c =

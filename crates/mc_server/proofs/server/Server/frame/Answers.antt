@@ -1,9 +1,8 @@
-use Rattle.std.proofs.Common.{◌≡◌, ◌∙◌, sym, ap, subst, length}
+use Rattle.std.proofs.Common.{◌∙◌, sym, ap, length}
 use Rattle.mc_model.specs.World.{Session, players}
-use Rattle.std.specs.Prelude.{Option, Some}
+use Rattle.std.specs.Prelude.{Some}
 use Rattle.mc_model.specs.Orderly.{next_number}
-use Rattle.mc_server.specs.declared.connection.pending.Pending.{Pending}
-use Rattle.mc_server.specs.Handling.{pending_of, request_in}
+use Rattle.mc_server.specs.Handling.{request_in}
 use Rattle.mc_server.specs.Served.{kept_world, nth_session}
 use Rattle.mc_server.proofs.Becoming.{becomes_within}
 use Rattle.mc_server.proofs.Decoding.{on_ok_more}

@@ -4,7 +4,7 @@ use Rattle.mc_server.specs.Frames.{Becomes}
 use Rattle.mc_server.specs.Served.{kept_world, nth_session}
 use Rattle.mc_server.proofs.Becoming.{becomes_within}
 use Rattle.mc_server.proofs.Reading.{becomes_age, done_bad, done_closed, open_split, open_still}
-use Rattle.mc_server.proofs.Reading.{put_age, reading_frame, reading_more, split_age}
+use Rattle.mc_server.proofs.Reading.{reading_frame, reading_more, split_age}
 use Rattle.mc_server.proofs.Reading.{frame_shortens_at}
 use Rattle.mc_server.proofs.server.Server.frames.Goals as goal
 

@@ -1,5 +1,5 @@
 -- What was read so far, and that the connection is open.
-use Rattle.std.proofs.Common.{◌≡◌, ℕ, List, [], length, map, get_or}
+use Rattle.std.proofs.Common.{◌≡◌, ℕ, List, length}
 use Rattle.mc_server.specs.Frames.{IsReading}
 use Rattle.mc_server.specs.Served.{ConnectionValue, ServerValue, IsOpenAt}
 use Rattle.mc_server.proofs.Reading.{held_at}

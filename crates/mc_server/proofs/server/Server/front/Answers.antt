@@ -1,6 +1,6 @@
 use Rattle.std.proofs.Common.{◌≡◌, ◌≤◌, ℕ, List, [], refl, sym, subst, ap, ◌∙◌, take, length}
 use Rattle.mc_model.specs.Run.{owed_of}
-use Rattle.mc_server.proofs.Standing.{asked_owed, first_within}
+use Rattle.mc_server.proofs.Asked.{asked_owed, first_within}
 use Rattle.mc_server.proofs.server.Server.front.Goals as goal
 
 pub returns-in-Some-clause-first : goal.returns-in-Some-clause-first

@@ -1,7 +1,7 @@
 use Rattle.std.proofs.Common.{subst, sym}
 use Rattle.mc_entities.specs.Folk.{FolkState}
 use Rattle.mc_server.specs.Served.{AreInRange}
-use Rattle.mc_server.proofs.Doing.{kept_folk}
+use Rattle.mc_server.proofs.Keeping.{kept_folk}
 use Rattle.mc_server.proofs.InRange.{kind_in_range}
 use Rattle.mc_server.proofs.server.Server.hold.Goals as goal
 

@@ -2,7 +2,9 @@ use Rattle.mc_model.specs.Orderly.{next_number}
 use Rattle.mc_model.specs.World.{Player}
 use Rattle.mc_server.specs.Served.{ConnectionValue}
 use Rattle.mc_server.specs.contracts.server.Server.{the_view}
-use Rattle.mc_server.proofs.Doing.{kept_player, place_within, player_becomes}
+use Rattle.mc_server.proofs.ActFacts.{player_becomes}
+use Rattle.mc_server.proofs.Doing.{kept_player}
+use Rattle.mc_server.proofs.Keeping.{within_view}
 use Rattle.mc_server.proofs.server.Server.put_hand.Goals as goal
 
 pub invariant_of-self : goal.invariant_of-self
@@ -11,7 +13,7 @@ invariant_of-self c =
     let v = the_view c.self.inside in
     let i = c.args.doer.now.place in
     let x : ConnectionValue = c.index_mut.result.now in
-    let lt = place_within i v c.args.self.now c.self.view_is c.requires.within in
+    let lt = within_view i v c.args.self.now c.self.view_is c.requires.within in
     kept_player c.self.inside.connections.items c.self.invariant i x c.take_up.new.self lt
     c.index_mut.ensures.value change c.take_up.ensures
 
@@ -21,7 +23,7 @@ returns c =
     let v = the_view c.self.inside in
     let i = c.args.doer.now.place in
     let x : ConnectionValue = c.index_mut.result.now in
-    let lt = place_within i v c.args.self.now c.self.view_is c.requires.within in
+    let lt = within_view i v c.args.self.now c.self.view_is c.requires.within in
     let high = next_number c.self.inside.last in
     rw (← c.self.view_is) (λ p plays.
     player_becomes v i high x c.take_up.new.self c.self.invariant.rise lt

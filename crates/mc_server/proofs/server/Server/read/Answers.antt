@@ -1,6 +1,5 @@
-use Rattle.std.proofs.Common.{◌≡◌, ◌<◌, true, false, refl, sym, get_or, ap, ◌∙◌, arith, rules}
+use Rattle.std.proofs.Common.{◌≡◌, ◌<◌, refl, get_or, ◌∙◌, arith, rules}
 use Rattle.std.proofs.Common.{length}
-use Rattle.mc_server.specs.Frames.{HasRead}
 use Rattle.mc_server.specs.Served.{ConnectionValue, new_connection}
 use Rattle.mc_server.proofs.Becoming.{there_at}
 use Rattle.mc_server.proofs.Reading.{done_over, open_split, reading_begun, reading_fed}

@@ -1,5 +1,5 @@
 -- What was read so far: the connection is open, and its splitter holds a part of a frame.
-use Rattle.std.proofs.Common.{◌≡◌, ◌++◌, ℕ, true, List, length, get_or}
+use Rattle.std.proofs.Common.{◌≡◌, ◌++◌, ℕ, true, length, get_or}
 use Rattle.std.specs.Prelude.{None}
 use Rattle.mc_frame.specs.Cut.{IsPart, kept_count}
 use Rattle.mc_server.specs.Frames.{HasRead}

@@ -1,6 +1,6 @@
-use Rattle.std.proofs.Common.{◌≡◌, sym, subst, ap, ◌∙◌}
+use Rattle.std.proofs.Common.{sym, ap, ◌∙◌}
 use Rattle.std.specs.Prelude.{is_some}
-use Rattle.mc_server.specs.Served.{ConnectionValue, ServerValue}
+use Rattle.mc_server.specs.Served.{ConnectionValue}
 use Rattle.mc_server.specs.contracts.server.Server.{the_view}
 use Rattle.mc_server.proofs.Decoding.{if_ok_more}
 use Rattle.mc_server.proofs.Keeping.{kept_set, within_view}

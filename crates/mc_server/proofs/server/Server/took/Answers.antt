@@ -7,7 +7,8 @@ use Rattle.mc_server.specs.Served.{ConnectionValue, ServerValue, IsAt}
 use Rattle.mc_server.specs.Stands.{Stands, owes}
 use Rattle.mc_server.specs.contracts.server.Server.{the_view}
 use Rattle.mc_server.proofs.Keeping.{kept_set}
-use Rattle.mc_server.proofs.Standing.{took_falls, took_none, took_stands}
+use Rattle.mc_server.proofs.Asked.{took_falls}
+use Rattle.mc_server.proofs.Standing.{took_none, took_stands}
 use Rattle.mc_server.proofs.server.Server.took.Goals as goal
 
 pub returns-in_default-clause-follows : goal.returns-in_default-clause-follows
