@@ -2,16 +2,21 @@
 use Rattle.std.specs.Prelude.{Option, Some}
 use Rattle.std.specs.Option.{option_and_then}
 use Rattle.mc_up.specs.declared.play_up.PlayUp.{PlayUp}
-use Rattle.mc_up.specs.declared.play_up.PlayUp.TheVariants.{Position, Look, PositionLook, Held, Settings}
+use Rattle.mc_up.specs.declared.play_up.PlayUp.TheVariants.{KeepAlive, Chat, Position, Look}
+use Rattle.mc_up.specs.declared.play_up.PlayUp.TheVariants.{PositionLook, Held, Settings}
 use Rattle.mc_up.specs.declared.play_up.PlayUp.TheVariants.{Digging, Placement, Creative}
 use Rattle.mc_model.specs.World.{World, Session, Player, put, spot_of}
 use Rattle.mc_model.specs.Movement.{moved, turned, arrive}
 use Rattle.mc_model.specs.Packs.{again, noting, place_of_hotbar, take_up}
+use Rattle.mc_model.specs.Beats.{answer}
+use Rattle.mc_model.specs.Chat.{say}
 use Rattle.mc_model.specs.Digging.{digging}
 use Rattle.mc_model.specs.Placing.{place_on}
 
 -- the world after a packet of the player of s; none where one of its numbers stands for no number
 unfoldable pub act : World → Session → Player → PlayUp → Option World
+act w s p (KeepAlive beat) = Some (answer w s p)
+act w s p (Chat text) = Some (say w p text)
 act w s p (Position x y z on_ground) = arrive w s p (moved (spot_of w p) x y z)
 act w s p (Look yaw pitch on_ground) = arrive w s p (turned (spot_of w p) yaw pitch)
 act w s p (PositionLook x y z yaw pitch on_ground) =

@@ -1,6 +1,6 @@
 -- For which cause an event closes a connection. It speaks of the first frame that closes it, and
 -- not of the order of work. Rules of this project.
-use Rattle.std.specs.Prelude.{◌≡◌, ℕ, ◌+◌, ◌<◌, nat_le, true, false, List, [], ◌∷◌, ◌++◌, length}
+use Rattle.std.specs.Prelude.{◌≡◌, ℕ, ◌+◌, ◌<◌, nat_le, Bool, true, false, List, [], ◌∷◌, ◌++◌, length}
 use Rattle.std.specs.Prelude.{map}
 use Rattle.std.specs.Prelude.{Option, Some, None, if◌then◌else◌}
 use Rattle.mc_frame.specs.declared.fault.FrameFault.{FrameFault}
@@ -17,7 +17,8 @@ use Rattle.mc_model.specs.Acts.{act}
 use Rattle.mc_model.specs.Talk.{ClientRequest, nothing, greets, replies, ends, enters, acts, wrong}
 use Rattle.mc_model.specs.Talk.{request_of, farewell, refused, accepted}
 use Rattle.mc_model.specs.Step.{Event, joined, came, left, broke, ticked, took, forgot}
-use Rattle.mc_model.specs.Step.{refusal, read_to, on_frames, is_new, is_crowded, at_tick, due}
+use Rattle.mc_model.specs.Beats.{is_silent}
+use Rattle.mc_model.specs.Step.{refusal, read_to, on_frames, is_new, is_crowded, aged, at_tick, due}
 
 -- the connection is there, and not closed
 pub record IsOpen (w : World) (k : ℕ) (s : Session) : Type 0 where
@@ -80,8 +81,14 @@ abbrev pub CutCloses : World → Session → ℕ → Cut → Cause → Type 0
 CutCloses w s count cut cause =
     FirstCloses (put w (read_to s cut count)) s.id cut.frames cut.fault cause
 
--- an event closes a connection for a cause: bytes, leaving and a broken write their own, a tick that
--- of which it is due too much, and a join one that is one too many
+-- a tick closes a connection whose client is silent, or is due too much
+abbrev pub TickCloses : Bool → World → Session → Player → Cause → Type 0
+TickCloses true w s p cause = cause ≡ or_backlog_farewell s causes.Silent
+TickCloses false w s p cause =
+    IsTooMuch s (map of_play (due (at_tick w) p)) × (cause ≡ causes.Backlog)
+
+-- an event closes a connection for a cause: bytes, leaving and a broken write their own, a tick one
+-- whose client is silent or is due too much, and a join one that is one too many
 abbrev pub Closes : World → Event → ℕ → Cause → Type 0
 Closes w (joined j) k cause =
     (j ≡ k) × (is_new k w.last ≡ true) × (is_crowded w ≡ true) × (cause ≡ causes.Crowded)
@@ -92,8 +99,7 @@ Closes w (came j bytes) k cause =
 Closes w (left j) k cause = (j ≡ k) × ((s : Session) × IsOpen w k s) × (cause ≡ causes.Gone)
 Closes w (broke j) k cause = (j ≡ k) × ((s : Session) × IsOpen w k s) × (cause ≡ causes.Broke)
 Closes w ticked k cause =
-    ((s : Session) × (p : Player) × IsOpen w k s × (s.player ≡ Some p)
-    × IsTooMuch s (map of_play (due (at_tick w) p)))
-    × (cause ≡ causes.Backlog)
+    (s : Session) × (p : Player) × IsOpen w k s × (s.player ≡ Some p)
+    × TickCloses (is_silent (aged w) p) w s p cause
 Closes w (took j n) k cause = ⊥
 Closes w (forgot j) k cause = ⊥

@@ -1,7 +1,7 @@
 -- What leads a client from what it was shown to what it is to be shown: a list of packets made by
 -- comparing the two, entry by entry. Which packets, and their order, are rules of this project.
 use Rattle.std.specs.Prelude.{◌≡◌, ◌<◌, ℕ, ◌+◌, ◌*◌, ◌/◌, ◌%◌, ◌&&◌, not, Bool, true, false}
-use Rattle.std.specs.Prelude.{List, [], ◌∷◌, ◌++◌, length, map, slice_index}
+use Rattle.std.specs.Prelude.{List, [], ◌∷◌, ◌++◌, drop, length, map, slice_index}
 use Rattle.std.specs.Prelude.{Option, Some, None, is_some, if◌then◌else◌}
 use Rattle.std.specs.List.{All, filter, flat_map, range_with_len}
 use Rattle.std.specs.Str.{bytes_eq}
@@ -23,8 +23,8 @@ use Rattle.mc_view.specs.declared.forms.Form.TheVariants as forms
 use Rattle.mc_view.specs.declared.forms.Moves.{Moves}
 use Rattle.mc_view.specs.Forms.{moves_of}
 use Rattle.mc_down.specs.declared.down.Down.{Down}
-use Rattle.mc_down.specs.declared.down.Down.TheVariants.{Chunk, List as PlayerList, MultiChange}
-use Rattle.mc_down.specs.declared.down.Down.TheVariants.{Change, SpawnObject, Destroy, Step, Look}
+use Rattle.mc_down.specs.declared.down.Down.TheVariants.{KeepAlive, Chat, Time, Chunk, List as PlayerList}
+use Rattle.mc_down.specs.declared.down.Down.TheVariants.{MultiChange, Change, SpawnObject, Destroy, Step, Look}
 use Rattle.mc_down.specs.declared.down.Down.TheVariants.{StepLook, Teleport, HeadLook, Meta, SetSlot}
 use Rattle.mc_down.specs.declared.meta.MetaValue.TheVariants as values
 use Rattle.mc_down.specs.declared.player.Player.{Player}
@@ -32,6 +32,28 @@ use Rattle.mc_down.specs.declared.player.PlayerChange.TheVariants.{Join, Leave}
 use Rattle.mc_down.specs.declared.record.Record.{Record}
 use Rattle.mc_model.specs.Sight.{Seen, Sight}
 use Rattle.mc_model.specs.Replica.{is_32_bits}
+use Rattle.mc_model.specs.Ticks.{time_of_day}
+
+-- ---- the beat and the age
+
+-- a number was told last
+abbrev pub is_told : Option ℤ → ℤ → Bool
+is_told None n = false
+is_told (Some m) n = int_eq m n
+
+abbrev pub beat_packets : Option ℤ → Option ℤ → List Down
+beat_packets old None = []
+beat_packets old (Some beat) = if is_told old beat then [] else KeepAlive beat ∷ []
+
+abbrev pub time_packets : Option ℤ → Option ℤ → List Down
+time_packets old None = []
+time_packets old (Some age) = if is_told old age then [] else Time age (time_of_day age) ∷ []
+
+abbrev pub beat_point : Sight → Sight → List Down
+beat_point p q = beat_packets p.beat q.beat
+
+abbrev pub time_point : Sight → Sight → List Down
+time_point p q = time_packets p.age q.age
 
 -- ---- the list of players
 
@@ -199,13 +221,24 @@ slot_packets i olds [] = []
 abbrev pub pack_point : Sight → Sight → List Down
 pack_point p q = slot_packets 9 p.pack q.pack
 
+-- ---- chat
+
+-- a text is shown as what a player says
+abbrev pub chat_packet : List ℕ → Down
+chat_packet text = Chat text (pos 0)
+
+-- the texts that are new
+abbrev pub chat_point : Sight → Sight → List Down
+chat_point p q = map chat_packet (drop (length p.chat) q.chat)
+
 -- ---- all of it
 
 unfoldable pub delta : Sight → Sight → List Down
 delta p q =
     flat_map (λ (point : List Down). point)
-    (leavers_point p q ∷ joiners_point p q ∷ destroys_point p q ∷ unloads_point p q
-    ∷ loads_point p q ∷ cells_point p q ∷ entities_point p q ∷ pack_point p q ∷ [])
+    (beat_point p q ∷ time_point p q ∷ leavers_point p q ∷ joiners_point p q ∷ destroys_point p q
+    ∷ unloads_point p q ∷ loads_point p q ∷ cells_point p q ∷ entities_point p q ∷ pack_point p q
+    ∷ chat_point p q ∷ [])
 
 -- ---- what the packets rest on
 
@@ -226,9 +259,13 @@ pub record IsTold (p : Sight) : Type 0 where
   pub entities : (eid : ℤ) (e : Seen) → get p.entities eid ≡ Some e → IsSeen e
   pub pack : length p.pack ≡ pack_size
 
--- Two sights that follow one another: no packet carries the biomes of a column that stays.
+-- Two sights that follow one another: no packet carries the biomes of a column that stays, a beat and
+-- an age are never told no more, and what was said stays.
 pub record Follows (p q : Sight) : Type 0 where
   pub old : IsTold p
   pub new : IsTold q
   pub biomes : (place : Place) (old new : ColumnValue) → get p.columns place ≡ Some old →
       get q.columns place ≡ Some new → old.biomes ≡ new.biomes
+  pub beat : is_some q.beat ≡ true
+  pub age : is_some q.age ≡ true
+  pub chat : (more : List (List ℕ)) × (q.chat ≡ p.chat ++ more)

@@ -1,44 +1,61 @@
 -- The whole promise about a run, over the list of its events, whatever they are and however the
 -- bytes in them are cut. Rules of this project.
-use Rattle.std.specs.Prelude.{◌≡◌, ◌≢◌, ◌↔◌, ◌⊎◌, ℕ, List, [], ◌∷◌, ◌++◌, map, Some, None, is_some}
+use Rattle.std.specs.Prelude.{◌≡◌, ◌≢◌, ◌↔◌, ◌⊎◌, ℕ, true, false, List, [], ◌∷◌, ◌++◌, map, Some, None}
+use Rattle.std.specs.Prelude.{is_some}
 use Rattle.mc_land.specs.declared.terrain.Terrain.{Terrain}
 use Rattle.mc_model.specs.declared.cause.Cause.{Cause}
 use Rattle.mc_model.specs.declared.cause.Cause.TheVariants as causes
 use Rattle.mc_model.specs.declared.cause.Refusal.{Refusal}
 use Rattle.mc_model.specs.declared.stage.Stage.TheVariants as stages
-use Rattle.mc_model.specs.Notes.{no_notes}
 use Rattle.mc_model.specs.Names.{offline_uuid}
-use Rattle.mc_model.specs.Replica.{Shows, new_replica, replay}
+use Rattle.mc_model.specs.Replica.{Replica, Shows, new_replica, replay}
 use Rattle.mc_model.specs.World.{World, Session, Player, found, is_play, new_world, project}
 use Rattle.mc_model.specs.Balance.{Balance}
 use Rattle.mc_model.specs.Packets.{Sent, of_play, played}
 use Rattle.mc_model.specs.Decoding.{IsDecoded, decoder_of}
 use Rattle.mc_model.specs.Talk.{farewell, refused, accepted}
-use Rattle.mc_model.specs.Step.{Event, came, left, broke, ticked, at_tick, due, step}
+use Rattle.mc_model.specs.Beats.{awaiting, is_silent}
+use Rattle.mc_model.specs.Step.{Event, came, left, broke, ticked, aged, at_tick, disconnect, due}
+use Rattle.mc_model.specs.Step.{player_in, showing, step}
 use Rattle.mc_model.specs.Run.{cause_in, handed, history, lost, owed_in, received, stream, taken}
 use Rattle.mc_model.specs.Run.{to, why}
 use Rattle.mc_model.specs.Causes.{Closes, IsTooMuch}
 use Rattle.mc_model.specs.Orderly.{Rise, next_number}
 
+-- ---- what is shown
+
+-- a replica shows just what there is to be shown to the player of a connection
+pub record ShowsWorld (w : World) (k : ℕ) (r : Replica) : Type 0 where
+  pub player : Player
+  pub plays : player_in k w.sessions ≡ Some player
+  pub shows : Shows r (project w player)
+
 -- ---- a tick
 
 -- what a tick hands out, and what it leaves, from the world before it
 pub record AtTick (w : World) : Type 0 where
-  -- a client in play is handed just what is due to it, unless that is more than its outbox holds
+  -- a client in play that is silent is handed its farewell and nothing more, and is closed of it
+  pub silent : (k : ℕ) (s : Session) (p : Player) →
+      found k w.sessions ≡ Some s → s.player ≡ Some p → is_silent (aged w) p ≡ true →
+      (found k (step w ticked).world.sessions
+      ≡ Some (disconnect s causes.Silent (farewell s.stage causes.Silent)).session)
+      × (to k (step w ticked).out
+      ≡ (disconnect s causes.Silent (farewell s.stage causes.Silent)).handed)
+  -- any other is handed just what is due to it, unless that is more than its outbox holds
   pub hands_due : (k : ℕ) (s : Session) (p : Player) →
-      found k w.sessions ≡ Some s → s.player ≡ Some p →
+      found k w.sessions ≡ Some s → s.player ≡ Some p → is_silent (aged w) p ≡ false →
       ¬ IsTooMuch s (map of_play (due (at_tick w) p)) →
       to k (step w ticked).out ≡ map of_play (due (at_tick w) p)
-  -- and then its player was shown the world of the tick, nothing is noted, and all else is as it
-  -- was
+  -- and then its player was shown the world of the tick, with all that was said since it joined,
+  -- nothing is noted, it owes an answer where a beat was told, and all else is as it was
   pub shown : (k : ℕ) (s : Session) (p : Player) →
-      found k w.sessions ≡ Some s → s.player ≡ Some p →
+      found k w.sessions ≡ Some s → s.player ≡ Some p → is_silent (aged w) p ≡ false →
       ¬ IsTooMuch s (map of_play (due (at_tick w) p)) →
       (t : Session) × (found k (step w ticked).world.sessions ≡ Some t) × (t.stage ≡ s.stage) ×
-      (t.player ≡ Some (record p { shown = Some (project (at_tick w) p); notes = no_notes }))
+      (t.player ≡ Some (showing (at_tick w) (awaiting (aged w) p)))
   -- where it is more, nothing is handed to it, and it is closed and owed nothing
   pub too_much : (k : ℕ) (s : Session) (p : Player) →
-      found k w.sessions ≡ Some s → s.player ≡ Some p →
+      found k w.sessions ≡ Some s → s.player ≡ Some p → is_silent (aged w) p ≡ false →
       IsTooMuch s (map of_play (due (at_tick w) p)) →
       (t : Session) × (to k (step w ticked).out ≡ []) ×
       (found k (step w ticked).world.sessions ≡ Some t) × (t.stage ≡ stages.Closed) ×
@@ -127,8 +144,8 @@ pub record Headline (most cap : ℕ) (terrain : Terrain) (log : List Event) : Ty
       s.player ≡ Some p →
       IsDecoded (decoder_of (received k (new_world most cap terrain) (events ++ ticked ∷ [])))
       (stream k (new_world most cap terrain) (events ++ ticked ∷ [])) packets →
-      Shows (replay new_replica (played packets))
-      (project (at_tick (history (new_world most cap terrain) events)) p)
+      ShowsWorld (at_tick (history (new_world most cap terrain) events)) k
+      (replay new_replica (played packets))
   -- at each moment, a client decodes those bytes, by the handshake that it sent, and as the packets
   -- that it was handed
   pub decoded : (events later : List Event) (k : ℕ) → log ≡ events ++ later →

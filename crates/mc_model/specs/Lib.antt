@@ -3,6 +3,7 @@ pub mod Names
 pub mod Texts
 pub mod Numbers
 pub mod Cutting
+pub mod Ticks
 pub mod Sight
 pub mod Replica
 pub mod Delta
@@ -16,6 +17,8 @@ pub mod Packs
 pub mod Reach
 pub mod Digging
 pub mod Placing
+pub mod Beats
+pub mod Chat
 pub mod Acts
 pub mod Talk
 pub mod Decoding

@@ -1,7 +1,7 @@
 -- A client's world, made of the packets that it was sent, one after another. What each packet does
 -- is that of the pages 'Protocol', 'SMP Map Format' and 'Entities' of wiki.vg for protocol 47, as
 -- far as it is shown here; every other packet changes nothing.
-use Rattle.std.specs.Prelude.{◌≡◌, ℕ, ◌/◌, ◌%◌, ◌-◌, ◌==◌, ◌&&◌, Bool, true, false, List, length}
+use Rattle.std.specs.Prelude.{◌≡◌, ℕ, ◌/◌, ◌%◌, ◌-◌, ◌==◌, ◌&&◌, Bool, true, false, List, [], ◌∷◌, ◌++◌, length}
 use Rattle.std.specs.Prelude.{drop, slice_set, nat_lt, nat_le, int_le, unsigned_abs}
 use Rattle.std.specs.Prelude.{Option, Some, None, Result, Ok, Err, if◌then◌else◌}
 use Rattle.std.specs.Int.{int_rem_euclid}
@@ -18,7 +18,7 @@ use Rattle.mc_land.specs.Places.{Place, Key, place_cmp, key_of}
 use Rattle.mc_slots.specs.declared.slot.Slot.{Slot}
 use Rattle.mc_slots.specs.declared.slot.Slot.TheVariants as slots
 use Rattle.mc_down.specs.declared.down.Down.{Down}
-use Rattle.mc_down.specs.declared.down.Down.TheVariants.{JoinGame, Chunk, List as PlayerList}
+use Rattle.mc_down.specs.declared.down.Down.TheVariants.{KeepAlive, JoinGame, Chat, Time, Chunk, List as PlayerList}
 use Rattle.mc_down.specs.declared.down.Down.TheVariants.{MultiChange, Change, SpawnObject, Destroy}
 use Rattle.mc_down.specs.declared.down.Down.TheVariants.{Step, Look, StepLook, Teleport, HeadLook}
 use Rattle.mc_down.specs.declared.down.Down.TheVariants.{Meta, SetSlot, WindowItems}
@@ -183,8 +183,12 @@ abbrev pub with_pack : Replica → List Slot → Replica
 with_pack r pack = record r { sight = record r.sight { pack = pack } }
 
 unfoldable pub apply : Replica → Down → Replica
+apply r (KeepAlive beat) = record r { sight = record r.sight { beat = Some beat } }
 apply r (JoinGame eid mode dimension hardness most level reduced) =
     record r { sky = is_overworld dimension }
+apply r (Chat text place) =
+    record r { sight = record r.sight { chat = r.sight.chat ++ text ∷ [] } }
+apply r (Time age day) = record r { sight = record r.sight { age = Some age } }
 apply r (PlayerList action players) =
     record r { sight = record r.sight { pairs = with_players r.sight.pairs players } }
 apply r (Chunk cx cz ground_up mask bytes) =
@@ -217,10 +221,13 @@ replay r packets = fold apply r packets
 
 -- the replica shows exactly this
 pub record Shows (r : Replica) (p : Sight) : Type 0 where
+  pub beat : r.sight.beat ≡ p.beat
+  pub age : r.sight.age ≡ p.age
   pub pairs : r.sight.pairs ≡ p.pairs
   pub columns : r.sight.columns ≡ p.columns
   pub entities : r.sight.entities ≡ p.entities
   pub pack : r.sight.pack ≡ p.pack
+  pub chat : r.sight.chat ≡ p.chat
 
 -- the replica of a client that sees this
 abbrev pub seeing : Sight → Replica

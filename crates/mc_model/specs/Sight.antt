@@ -1,7 +1,8 @@
 -- What a client can see: the one type of what the server shows to it and of what its replica holds.
-use Rattle.std.specs.Prelude.{ℕ, List, replicate}
+use Rattle.std.specs.Prelude.{ℕ, List, [], replicate, Option, None}
 use Rattle.std.specs.Ordering.{nat_cmp, int_cmp}
 use Rattle.std.specs.FinMap.{FinMap, empty}
+use lib.IntN.{ℤ}
 use Rattle.mc_column.specs.Cells.{ColumnValue}
 use Rattle.mc_fields.specs.declared.position.Spot.{Spot}
 use Rattle.mc_land.specs.Places.{place_cmp}
@@ -16,6 +17,9 @@ pub record Seen : Type 0 where
   pub item : Slot
 
 pub record Sight : Type 0 where
+  -- the beat and the age that it was told last
+  pub beat : Option ℤ
+  pub age : Option ℤ
   -- the list of players: each one's name, by its identifier
   pub pairs : FinMap nat_cmp (List ℕ)
   -- the columns in view, with states and biomes
@@ -24,11 +28,16 @@ pub record Sight : Type 0 where
   pub entities : FinMap int_cmp Seen
   -- the slots of the own pack
   pub pack : List Slot
+  -- what was said, as texts
+  pub chat : List (List ℕ)
 
 abbrev pub nothing_seen : Sight
 nothing_seen = record {
+  beat = None;
+  age = None;
   pairs = empty;
   columns = empty;
   entities = empty;
   pack = replicate pack_size slots.Empty;
+  chat = [];
 }

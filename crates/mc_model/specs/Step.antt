@@ -34,10 +34,13 @@ use Rattle.mc_model.specs.Things.{with_kit, with_new_entity, without_entity}
 use Rattle.mc_model.specs.Names.{is_name, offline_uuid}
 use Rattle.mc_model.specs.Numbers.{pattern_of, degrees_of}
 use Rattle.mc_model.specs.Cutting.{cut_of}
-use Rattle.mc_model.specs.Sight.{Sight, nothing_seen}
+use Rattle.mc_model.specs.Sight.{Sight}
 use Rattle.mc_model.specs.Delta.{delta}
 use Rattle.mc_model.specs.World.{World, Session, Player, is_closed, players, found, put}
-use Rattle.mc_model.specs.World.{spot_of, pack_of, sees, spawn_height, spawn_spot, project}
+use Rattle.mc_model.specs.World.{spot_of, pack_of, sees, spawn_height, spawn_spot, last_shown}
+use Rattle.mc_model.specs.World.{heard_by, project}
+use Rattle.mc_model.specs.Beats.{awaiting, is_silent}
+use Rattle.mc_model.specs.Ticks.{older}
 use Rattle.mc_model.specs.Packets.{Sent, of_status, of_play, bytes_of}
 use Rattle.mc_model.specs.Acts.{act}
 use Rattle.mc_model.specs.Talk.{ClientRequest, nothing, greets, replies, ends, enters, acts, wrong}
@@ -115,14 +118,18 @@ refusal w protocol name =
     then Some refusals.Full
     else None
 
--- a player with an entity number, whose hand is on the first place of the hotbar
-abbrev pub new_player : ℕ → List ℕ → Player
-new_player eid name = record {
+-- A player with an entity number, whose hand is on the first place of the hotbar. So many lines had
+-- been said since the last tick.
+abbrev pub new_player : ℕ → List ℕ → ℕ → Player
+new_player eid name since = record {
   name = name;
   uuid = offline_uuid name;
   eid = eid;
   view_byte = pos 2;
   hand = 0;
+  missed = 0;
+  chat = [];
+  since = since;
   notes = no_notes;
   shown = None;
 }
@@ -130,7 +137,10 @@ new_player eid name = record {
 -- the player enters, with the next entity number
 abbrev pub entered : World → Session → List ℕ → Session
 entered w s name =
-    record s { stage = stages.Play; player = Some (new_player (w.things.eids + 1) name) }
+    record s {
+      stage = stages.Play;
+      player = Some (new_player (w.things.eids + 1) name (length w.lines));
+    }
 
 -- its entity stands where players enter, and it carries what is kept of it, or the kit
 abbrev pub with_new_player : Terrain → List ℕ → Things → Things
@@ -320,17 +330,18 @@ notes_due w p =
     noted_packets w.terrain w.things.edits (sees w p) p.notes.cells
     ++ notes_of p.notes (spot_of w p) (pack_of w p)
 
--- what a player was shown
-abbrev pub last_shown : Player → Sight
-last_shown p = unwrap_or p.shown nothing_seen
-
 -- what a player is sent at a tick: the opening once, the difference, and the notes
 unfoldable pub due : World → Player → List Down
 due w p = opening_due w p ++ delta (last_shown p) (project w p) ++ notes_due w p
 
 -- a player is shown the world
 abbrev pub showing : World → Player → Player
-showing w p = record p { shown = Some (project w p); notes = no_notes }
+showing w p = record p {
+  shown = Some (project w p);
+  notes = no_notes;
+  chat = heard_by w p;
+  since = 0;
+}
 
 -- a connection's player is, if it has one
 abbrev pub flush_to : World → Session → Option Player → Handing
@@ -340,9 +351,32 @@ flush_to w s (Some p) = hand (record s { player = Some (showing w p) }) (map of_
 abbrev pub flush : World → Session → Handing
 flush w s = flush_to w s s.player
 
--- the world of a tick, as all clients are shown it
+-- a connection's player owes an answer more, or it is closed since its client is silent
+abbrev pub beat_to : World → Session → Option Player → Handing
+beat_to w s None = record { session = s; handed = [] }
+beat_to w s (Some p) =
+    if is_silent w p then disconnect s causes.Silent (farewell s.stage causes.Silent)
+    else record { session = record s { player = Some (awaiting w p) }; handed = [] }
+
+abbrev pub beat : World → Session → Handing
+beat w s = beat_to w s s.player
+
+-- the world after each connection was handed something, all of one world: the players leave of those
+-- that were closed of it
+abbrev pub all_handed : (World → Session → Handing) → World → World
+all_handed f w = record w {
+  sessions = map (λ (s : Session). (f w s).session) w.sessions;
+  things = fold (λ (things : Things) (s : Session).
+      after_leaving s.player (f w s).session.player things) w.things w.sessions;
+}
+
+-- a tick older
+abbrev pub aged : World → World
+aged w = record w { age = older w.age }
+
+-- the world of a tick, as all clients are shown it: those that were silent for too long are gone
 abbrev pub at_tick : World → World
-at_tick w = record w { age = w.age + 1 }
+at_tick w = all_handed beat (aged w)
 
 -- ---- events
 
@@ -373,17 +407,18 @@ alone k t = record { world = t.world; out = (k, t.handed) ∷ [] }
 -- the world after each client in play was handed what is due to it: those that were handed too
 -- much leave after all
 abbrev pub flushed : World → World
-flushed w = record w {
-  sessions = map (λ (s : Session). (flush w s).session) w.sessions;
-  things = fold (λ (things : Things) (s : Session).
-      after_leaving s.player (flush w s).session.player things) w.things w.sessions;
-}
+flushed w = record (all_handed flush w) { lines = [] }
+
+-- what a tick hands out to a connection: its farewell where its client is silent, or what is due
+abbrev pub tick_hands : World → Session → List Sent
+tick_hands w s =
+    (beat (aged w) s).handed ++ (flush (at_tick w) (beat (aged w) s).session).handed
 
 -- every client in play is shown the same world
 abbrev pub tick : World → Outcome
 tick w = record {
   world = flushed (at_tick w);
-  out = map (λ (s : Session). (s.id, (flush (at_tick w) s).handed)) w.sessions;
+  out = map (λ (s : Session). (s.id, tick_hands w s)) w.sessions;
 }
 
 abbrev pub is_done : Session → Bool

@@ -70,20 +70,26 @@ coded_seen =
     (λ e. refl)
 
 abbrev pub StoredSight : Type 0
-StoredSight = FinMap nat_cmp (List ℕ)
-    × (FinMap place_cmp ColumnValue × (FinMap int_cmp Seen × List Slot))
+StoredSight = Option ℤ × (Option ℤ × (FinMap nat_cmp (List ℕ)
+    × (FinMap place_cmp ColumnValue × (FinMap int_cmp Seen × (List Slot × List (List ℕ))))))
 
 abbrev pub coded_sight : Coded Sight
 coded_sight =
     code_by StoredSight
+    (coded× (coded_option coded_ℤ) (coded× (coded_option coded_ℤ)
     (coded× (code coded_ℕ (coded_list coded_ℕ)) (coded× (code (coded× coded_ℤ coded_ℤ) coded_column)
-    (coded× (code coded_ℤ coded_seen) (coded_list coded_slot))))
-    (λ sight. (sight.pairs, (sight.columns, (sight.entities, sight.pack))))
+    (coded× (code coded_ℤ coded_seen) (coded× (coded_list coded_slot)
+    (coded_list (coded_list coded_ℕ))))))))
+    (λ sight. (sight.beat, (sight.age, (sight.pairs, (sight.columns, (sight.entities,
+    (sight.pack, sight.chat)))))))
     (λ parts. record {
-      pairs = parts.0;
-      columns = parts.1.0;
-      entities = parts.1.1.0;
-      pack = parts.1.1.1;
+      beat = parts.0;
+      age = parts.1.0;
+      pairs = parts.1.1.0;
+      columns = parts.1.1.1.0;
+      entities = parts.1.1.1.1.0;
+      pack = parts.1.1.1.1.1.0;
+      chat = parts.1.1.1.1.1.1;
     })
     (λ sight. refl)
 

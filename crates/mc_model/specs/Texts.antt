@@ -7,7 +7,7 @@ use Rattle.serde_json.specs.Written.{compact_text}
 use Rattle.mc_model.specs.declared.cause.Refusal.{Refusal}
 use Rattle.mc_model.specs.declared.cause.Refusal.TheVariants.{Version, Name, Taken, Full}
 use Rattle.mc_model.specs.declared.cause.Cause.{Cause}
-use Rattle.mc_model.specs.declared.cause.Cause.TheVariants.{Frame, Packet, BadNumber}
+use Rattle.mc_model.specs.declared.cause.Cause.TheVariants.{Frame, Packet, BadNumber, Silent}
 
 -- a text to be shown
 abbrev pub chat_data : List ℕ → Data
@@ -51,4 +51,5 @@ abbrev pub farewell_text : Cause → Option (List ℕ)
 farewell_text (Frame fault) = Some (codes "Bad frame.")
 farewell_text (Packet fault) = Some (codes "Bad packet.")
 farewell_text BadNumber = Some (codes "Bad number.")
+farewell_text Silent = Some (codes "No answer.")
 farewell_text other = None

@@ -1,7 +1,8 @@
 -- The world: what every client is shown a part of, and how far each connection has come. Plain
 -- lists and finite maps; no buffer, no mark and no queue is in it. Rules of this project.
-use Rattle.std.specs.Prelude.{ℕ, ◌+◌, ◌*◌, ◌==◌, ◌≤◌, Bool, true, false, List, [], ◌∷◌, map}
-use Rattle.std.specs.Prelude.{Option, Some, None, option_map, unwrap_or, if◌then◌else◌}
+use Rattle.std.specs.Prelude.{ℕ, ◌+◌, ◌*◌, ◌==◌, ◌≤◌, Bool, true, false, List, [], ◌∷◌, ◌++◌}
+use Rattle.std.specs.Prelude.{drop, map, Option, Some, None, option_map, unwrap_or}
+use Rattle.std.specs.Prelude.{if◌then◌else◌}
 use Rattle.std.specs.List.{filter, filter_map}
 use Rattle.std.specs.FinMap.{from_entries}
 use lib.IntN.{ℤ, pos}
@@ -27,9 +28,10 @@ use Rattle.mc_model.specs.declared.cause.Cause.{Cause}
 use Rattle.mc_model.specs.declared.stage.Stage.{Stage}
 use Rattle.mc_model.specs.declared.stage.Stage.TheVariants as stages
 use Rattle.mc_model.specs.Notes.{Noted}
-use Rattle.mc_model.specs.Sight.{Seen, Sight}
+use Rattle.mc_model.specs.Sight.{Seen, Sight, nothing_seen}
 use Rattle.mc_model.specs.Things.{Things, new_things, in_hand, state_of_cell}
 use Rattle.mc_model.specs.Things as things
+use Rattle.mc_model.specs.Ticks.{beat_at, shown_age}
 
 -- one player, in play
 pub record Player : Type 0 where
@@ -41,6 +43,12 @@ pub record Player : Type 0 where
   pub view_byte : ℤ
   -- the place of the hotbar that its hand is on, from 0 to 8
   pub hand : ℕ
+  -- how many beats it left without an answer
+  pub missed : ℕ
+  -- what was said since it joined, as texts, up to the last tick; and how many of the lines that
+  -- came then had been said before it joined
+  pub chat : List (List ℕ)
+  pub since : ℕ
   pub notes : Noted
   -- what it was shown at the last tick, none before its first
   pub shown : Option Sight
@@ -68,6 +76,8 @@ pub record World : Type 0 where
   pub age : ℕ
   pub terrain : Terrain
   pub things : Things
+  -- what was said since the last tick, as texts
+  pub lines : List (List ℕ)
   -- how many players may be in play, and how large a view may be
   pub most : ℕ
   pub cap : ℕ
@@ -88,6 +98,7 @@ new_world most cap terrain = record {
   age = 0;
   terrain = terrain;
   things = new_things;
+  lines = [];
   most = most;
   cap = cap;
   last = None;
@@ -155,6 +166,14 @@ held_by w p = in_hand (pack_of w p) p.hand
 abbrev pub state_in : World → Cell → ℕ
 state_in w cell = state_of_cell w.terrain w.things.edits cell.x cell.y cell.z
 
+-- what it was shown at the last tick
+abbrev pub last_shown : Player → Sight
+last_shown p = unwrap_or p.shown nothing_seen
+
+-- all that was said since it joined
+abbrev pub heard_by : World → Player → List (List ℕ)
+heard_by w p = p.chat ++ drop p.since w.lines
+
 -- ---- what a player is to be shown
 
 abbrev pub column_in : World → Place → ColumnValue
@@ -184,11 +203,15 @@ seen_as e other = None
 abbrev pub seen_of : Entity → Option (ℤ × Seen)
 seen_of e = seen_as e e.kind
 
--- the players in play, the columns of its view as they are, the dropped items in it, and its pack
+-- the beat and the age, the players in play, the columns of its view as they are, the dropped items
+-- in it, its pack, and what was said since it joined
 unfoldable pub project : World → Player → Sight
 project w p = record {
+  beat = Some (pos (beat_at w.age));
+  age = Some (pos (shown_age w.age));
   pairs = from_entries (map (λ (other : Player). (other.uuid, other.name)) (players w));
   columns = from_entries (map (λ place. (place, column_in w place)) (view_in w p));
   entities = from_entries (filter_map seen_of (filter (is_in_sight w p) w.things.entities));
   pack = map slot_of (pack_of w p).slots;
+  chat = heard_by w p;
 }

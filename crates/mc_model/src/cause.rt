@@ -23,6 +23,8 @@ pub enum Cause {
     Packet(PacketFault),
     /// A movement packet has a number that stands for none.
     BadNumber,
+    /// It left too many beats without an answer.
+    Silent,
     /// It left.
     Gone,
     /// A write to it broke.

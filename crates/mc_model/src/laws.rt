@@ -13,16 +13,16 @@ ghost use Rattle.mc_model.specs.Balance.{Balance};
 ghost use Rattle.mc_model.specs.Cutting.{cut_of};
 ghost use Rattle.mc_model.specs.Numbers.{fixed_of, turn_of, pattern_of, degrees_of};
 ghost use Rattle.mc_model.specs.Sight.{Sight};
-ghost use Rattle.mc_model.specs.Replica.{Shows, new_replica, replay, seeing};
+ghost use Rattle.mc_model.specs.Replica.{new_replica, replay, seeing};
 ghost use Rattle.mc_model.specs.Delta.{Follows, delta};
 ghost use Rattle.mc_view.specs.Views.{is_in_view, view_of};
-ghost use Rattle.mc_model.specs.World.{AreSettings, Player, Session, found, new_world, project};
+ghost use Rattle.mc_model.specs.World.{AreSettings, Player, Session, found, new_world};
 ghost use Rattle.mc_model.specs.Packets.{Decoder, Sent, played};
 ghost use Rattle.mc_model.specs.Decoding.{IsDecoded, decoder_of};
 ghost use Rattle.mc_model.specs.Step.{Event, ticked, at_tick};
 ghost use Rattle.mc_model.specs.Run.{AreBytes, handed, history, received, stream, why};
 ghost use Rattle.mc_model.specs.Headline.{AtTick, Between, ClosedForACause, Closing, Headline};
-ghost use Rattle.mc_model.specs.Headline.{HasPlayerInPlay, LoggingIn, Promised};
+ghost use Rattle.mc_model.specs.Headline.{HasPlayerInPlay, LoggingIn, Promised, ShowsWorld};
 ghost use Rattle.mc_model.specs.Turns.{AreTurns};
 ghost use Rattle.mc_model.specs.Serving.{Serves};
 
@@ -62,9 +62,8 @@ pub fn runs_show_the_world()
         (k : ℕ) (s : Session) (p : Player) →
         found k (history (new_world most cap terrain) (events ++ ticked ∷ [])).sessions ≡ Some s →
         s.player ≡ Some p →
-        Shows (replay new_replica
-        (played (handed k (new_world most cap terrain) (events ++ ticked ∷ []))))
-        (project (at_tick (history (new_world most cap terrain) events)) p) }
+        ShowsWorld (at_tick (history (new_world most cap terrain) events)) k (replay new_replica
+        (played (handed k (new_world most cap terrain) (events ++ ticked ∷ [])))) }
     ensures decoded { (most cap : ℕ) (terrain : Terrain) (events : List Event)
         (k : ℕ) (s : Session) (p : Player) (packets : List Sent) →
         AreSettings most cap → AreBytes (events ++ ticked ∷ []) →
@@ -72,8 +71,8 @@ pub fn runs_show_the_world()
         s.player ≡ Some p →
         IsDecoded (decoder_of (received k (new_world most cap terrain) (events ++ ticked ∷ [])))
         (stream k (new_world most cap terrain) (events ++ ticked ∷ [])) packets →
-        Shows (replay new_replica (played packets))
-        (project (at_tick (history (new_world most cap terrain) events)) p) }
+        ShowsWorld (at_tick (history (new_world most cap terrain) events)) k
+        (replay new_replica (played packets)) }
 {}
 
 /// What a client is handed, and when. At a tick just what is due to it, unless that is more than
