@@ -13,6 +13,7 @@ pub mod Inputs
 pub mod ReadyColumns
 pub mod Roster
 pub mod Ticking
+pub mod Beating
 pub mod Scenes
 pub mod Drives
 pub mod TurnParts

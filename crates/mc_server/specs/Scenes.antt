@@ -9,4 +9,6 @@ parts_of scene = record {
   folk = scene.folk.now.state;
   packs = scene.packs.now;
   list = scene.list.now;
+  lines = scene.lines.now;
+  age = scene.age;
 }

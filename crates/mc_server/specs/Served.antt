@@ -1,6 +1,7 @@
 -- What contracts see of a server, of its connections and of their players, and what a server keeps
 -- true of them.
-use Rattle.std.specs.Prelude.{◌≡◌, ◌⊎◌, ◌==◌, ℕ, ◌≤◌, ◌<◌, ◌^◌, Bool, true, false, List, map, length}
+use Rattle.std.specs.Prelude.{◌≡◌, ◌⊎◌, ◌==◌, ℕ, ◌≤◌, ◌<◌, ◌^◌, Bool, true, false, List, [], map}
+use Rattle.std.specs.Prelude.{length}
 use Rattle.std.specs.Prelude.{slice_index_or, Option, Some, None, is_some, option_map}
 use Rattle.std.specs.Prelude.{if◌then◌else◌}
 use Rattle.std.specs.List.{AllByRecursion, filter_map}
@@ -25,7 +26,7 @@ use Rattle.mc_server.specs.declared.settings.Settings.{Settings}
 
 -- ---- players
 
--- a player but for what it was shown, which its mark keeps
+-- a player but for what it was shown, of which its mark keeps all but what was said
 abbrev pub player_of : code.Player → Player
 player_of p = record {
   name = p.name;
@@ -33,6 +34,9 @@ player_of p = record {
   eid = p.eid;
   view_byte = p.view_byte;
   hand = p.hand;
+  missed = p.missed;
+  chat = [];
+  since = p.since;
   notes = p.notes;
   shown = None;
 }
@@ -103,6 +107,7 @@ pub record ServerValue : Type 0 where
   pub age : ℕ
   pub terrain : Terrain
   pub things : Things
+  pub lines : List (List ℕ)
   -- the edits at the last settling
   pub settled : FinMap key_cmp ℕ
   -- the columns that are ready to be looked at
@@ -119,6 +124,7 @@ kept_world v = record {
   age = v.age;
   terrain = v.terrain;
   things = v.things;
+  lines = v.lines;
   most = v.most;
   cap = v.cap;
   last = v.last;

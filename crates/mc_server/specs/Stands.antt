@@ -3,6 +3,7 @@ use Rattle.std.specs.Prelude.{◌≡◌, ℕ, false, true, is_some, length, unwr
 use Rattle.mc_frame.specs.Cut.{IsPart, kept_count}
 use Rattle.mc_model.specs.Sight.{Sight, nothing_seen}
 use Rattle.mc_model.specs.World.{World, Session, Player, found, is_play, is_closed}
+use Rattle.mc_model.specs.World.{last_shown}
 use Rattle.mc_model.specs.Run.{owed_of}
 use Rattle.mc_model.specs.Orderly.{Orderly}
 use Rattle.mc_model.specs.Balance.{Balanced}
@@ -29,6 +30,8 @@ pub record IsOpen (shown : Parts) (c : ConnectionValue) (s : Session) : Type 0 w
 pub record IsConnection (shown : Parts) (c : ConnectionValue) (s : Session) : Type 0 where
   pub session : c.session ≡ bare s
   pub is_open : is_closed s.stage ≡ false → IsOpen shown c s
+  -- what was said to its player is kept in what it was shown
+  pub said : (p : Player) → s.player ≡ Some p → p.chat ≡ (last_shown p).chat
   -- it has a player exactly while it is in play
   pub plays : is_play s.stage ≡ is_some s.player
 
@@ -37,6 +40,7 @@ pub record Stands (server : ServerValue) (w : World) : Type 0 where
   pub age : server.age ≡ w.age
   pub terrain : server.terrain ≡ w.terrain
   pub things : server.things ≡ w.things
+  pub lines : server.lines ≡ w.lines
   pub most : server.most ≡ w.most
   pub cap : server.cap ≡ w.cap
   pub last : server.last ≡ w.last

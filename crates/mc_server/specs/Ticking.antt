@@ -1,6 +1,6 @@
 -- What a tick makes of each connection, from what its mark keeps of what its client was shown.
-use Rattle.std.specs.Prelude.{◌≡◌, ℕ, ◌==◌, not, Bool, true, false, List, [], ◌++◌, map}
-use Rattle.std.specs.Prelude.{◌∷◌, Option, Some, None, if◌then◌else◌, option_map, is_some}
+use Rattle.std.specs.Prelude.{◌≡◌, ℕ, ◌==◌, not, Bool, true, false, List, [], ◌++◌, drop}
+use Rattle.std.specs.Prelude.{map, ◌∷◌, Option, Some, None, if◌then◌else◌, option_map, is_some}
 use Rattle.std.specs.Prelude.{unwrap_or}
 use Rattle.std.specs.List.{AllByRecursion, filter, filter_map}
 use Rattle.std.specs.FinMap.{from_entries}
@@ -10,6 +10,7 @@ use Rattle.mc_land.specs.Land.{LandValue}
 use Rattle.mc_down.specs.declared.down.Down.{Down}
 use Rattle.mc_model.specs.Sight.{Sight, nothing_seen}
 use Rattle.mc_model.specs.Delta.{delta}
+use Rattle.mc_model.specs.Ticks.{beat_at, shown_age}
 use Rattle.mc_view.specs.Views.{view_of, view_size, column_of_spot}
 use Rattle.mc_view.specs.Views.{is_in_view}
 use Rattle.mc_view.specs.Sets.{is_within}
@@ -31,13 +32,15 @@ use Rattle.mc_server.specs.Served.{ConnectionValue, playing_of, things_of}
 -- ---- one client, of the parts that it is shown
 
 -- what all clients are shown a part of: the numbers of the server, the land, the entities, what
--- players carry, and who is listed
+-- players carry, who is listed, what was said since the last tick, and the age
 pub record Parts : Type 0 where
   pub settings : Settings
   pub land : LandValue
   pub folk : FolkState
   pub packs : Packs
   pub list : ListValue
+  pub lines : List (List ℕ)
+  pub age : ℕ
 
 -- where a player is
 abbrev pub spot_now : Parts → Player → Spot
@@ -68,15 +71,22 @@ abbrev pub sees_now : Parts → Player → Place → Bool
 sees_now parts p place =
     is_in_view (column_of_spot (spot_now parts p)) (view_size parts.settings.cap p.view_byte) place
 
--- the players of the list, the columns around a player as they are, the dropped items in them,
--- and its pack
-abbrev pub shown_now : Parts → Player → Sight
-shown_now parts p = record {
+-- what a player is told that was said since the last tick, behind what was said to it before
+abbrev pub heard_now : Parts → List (List ℕ) → Player → List (List ℕ)
+heard_now parts chat p = chat ++ drop p.since parts.lines
+
+-- the beat and the age, the players of the list, the columns around a player as they are, the dropped
+-- items in them, its pack, and what was said to it, of which this came before
+abbrev pub shown_now : Parts → List (List ℕ) → Player → Sight
+shown_now parts chat p = record {
+  beat = Some (pos (beat_at parts.age));
+  age = Some (pos (shown_age parts.age));
   pairs = parts.list.present;
   columns = from_entries (map (placed_column parts.land) (columns_around parts p));
   entities = from_entries (filter_map seen_of
       (filter (λ (e : Entity). sees_now parts p (column_of_spot e.spot)) parts.folk.entities));
   pack = map slot_of (pack_now parts p).slots;
+  chat = heard_now parts chat p;
 }
 
 -- what is sent before the first difference, once
@@ -94,7 +104,7 @@ noted_now parts p =
 abbrev pub due_packets : Parts → Bool → Sight → Player → List Down
 due_packets parts opened p player =
     opening_packets parts opened player
-    ++ (delta p (shown_now parts player) ++ noted_now parts player)
+    ++ (delta p (shown_now parts p.chat player) ++ noted_now parts player)
 
 -- ---- a connection, of a world
 
@@ -112,15 +122,21 @@ pub record IsScene (w : World) (parts : Parts) : Type 0 where
   pub terrain : parts.settings.terrain ≡ w.terrain
   pub own : parts.land.terrain ≡ w.terrain
   pub things : things_of parts.land parts.folk parts.packs ≡ w.things
+  pub lines : parts.lines ≡ w.lines
+  pub age : parts.age ≡ w.age
   pub most : parts.settings.players ≡ w.most
   pub cap : parts.settings.cap ≡ w.cap
   pub listed : parts.list.present
       ≡ from_entries (map (λ (p : Player). (p.uuid, p.name)) (players w))
 
--- a session whose player, if any, was shown this
+-- what was said in what was shown
+abbrev pub chat_in : Option Sight → List (List ℕ)
+chat_in shown = (unwrap_or shown nothing_seen).chat
+
+-- a session whose player, if any, was shown this, and with it what was said up to then
 abbrev pub with_shown : Option Sight → Session → Session
 with_shown shown s = record s {
-  player = option_map (λ (p : Player). record p { shown = shown }) s.player;
+  player = option_map (λ (p : Player). record p { chat = chat_in shown; shown = shown }) s.player;
 }
 
 -- what a tick makes of a session whose player was shown this; what it is shown is kept in its mark
@@ -136,8 +152,9 @@ pub record IsShown (w : World) (before now_ : seeing.Parts) (old new : Connectio
   pub splitter : new.splitter ≡ old.splitter
   pub stays : old.session.player ≡ None → new.session ≡ old.session
   pub waits : old.session.player ≡ None → new.mark ≡ old.mark
-  pub shows : (p : Player) → old.session.player ≡ Some p → is_closed new.session.stage ≡ false
-      → (is_shown new.mark ≡ true) × StandsFor new.mark now_ (project w p)
+  pub shows : (p : Player) (chat : List (List ℕ)) → old.session.player ≡ Some p →
+      is_closed new.session.stage ≡ false →
+      (is_shown new.mark ≡ true) × StandsFor new.mark now_ (project w (record p { chat = chat }))
 
 -- the numbers of those players that some connections had and have no more
 abbrev pub left_one : Option Player → Option Player → List ℤ

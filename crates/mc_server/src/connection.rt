@@ -17,6 +17,7 @@ ghost use Rattle.mc_server.specs.Served.{IsKeptPlayer, new_connection, player_of
 ghost use Rattle.mc_server.specs.Served.{mark_of, plays_as, with_session};
 
 mod backlog;
+mod beats;
 mod fields;
 mod pending;
 mod player;

@@ -1,6 +1,8 @@
 ghost use Rattle.std.specs.Prelude.{◌≡◌, ◌++◌, ◌∷◌, ◌≤◌, [], IfOk, OnErr, OnOk, length, option_map};
 ghost use Rattle.std.specs.List.{cons_option, filter};
+ghost use lib.IntN.{pos};
 ghost use Rattle.mc_model.specs.Step.{is_kept};
+ghost use Rattle.mc_model.specs.World as spec;
 ghost use Rattle.mc_server.specs.Asking.{is_ours};
 ghost use Rattle.mc_server.specs.ReadyColumns.{view_of_player, views_of};
 ghost use Rattle.mc_server.specs.Served.{AreInRange, ConnectionValue, playing_of, sessions_of};
@@ -41,6 +43,16 @@ pub fn playing(connections: &Vec<Connection>) -> u32
     ensures { result ≡ length (playing_of (sessions_of connections.now.items)) }
 {
     in_play(connections) as u32
+}
+
+/// The number of the entity of a connection's player, if it is in play.
+pub fn eid_of(connection: &Connection) -> Option<i32>
+    ensures { result ≡ option_map (λ (p : spec.Player). pos p.eid) connection.now.session.player }
+{
+    match connection.player() {
+        Some(player) => Some(player.eid as i32),
+        None => None,
+    }
 }
 
 /// The views of those in play, where views have at most this size.

@@ -1,4 +1,5 @@
-ghost use Rattle.std.specs.Prelude.{◌≡◌, ◌≤◌, ◌<◌, ◌^◌, ◌++◌, [], Some, true, IfOk, OnOk};
+ghost use Rattle.std.specs.Prelude.{◌≡◌, ◌≤◌, ◌<◌, ◌^◌, ◌++◌, ℕ, List, [], Some, true, IfOk, OnOk};
+ghost use Rattle.std.specs.Prelude.{drop};
 ghost use Rattle.std.specs.Prelude.{if◌then◌else◌};
 ghost use Rattle.std.specs.FinMap as finmap;
 ghost use lib.IntN.{pos};
@@ -26,7 +27,7 @@ use crate::scene::Scene;
 use crate::spots::{pack_of, spot_of, view_around};
 use bytes::Bytes;
 use mc_fields::Spot;
-use mc_flush::{ClientView, Mark, flush};
+use mc_flush::{ClientView, Line, Mark, flush};
 use mc_land::Steps;
 use mc_model::{Name, Notes};
 use mc_nbt::{NoMemory, Text};
@@ -49,6 +50,10 @@ pub struct Player {
     pub view_byte: i8,
     /// The place of the hotbar that its hand is on.
     pub hand: u8,
+    /// How many beats its client left without an answer.
+    pub missed: u32,
+    /// How many of the lines that were said since the last tick had been said before it joined.
+    pub since: usize,
     /// What its client is to be sent at the next tick, whatever the difference says.
     pub notes: Notes,
     /// What its client was told.
@@ -56,10 +61,15 @@ pub struct Player {
 }
 
 impl Player {
-    /// A player that enters, with an entity number.
-    pub fn entering(alloc: Global, eid: u32, name: &Name) -> Result<Player, NoMemory>
+    /// A player that enters, with an entity number, behind so many lines.
+    pub fn entering(
+        alloc: Global,
+        eid: u32,
+        name: &Name,
+        since: usize,
+    ) -> Result<Player, NoMemory>
         requires { eid < 2 ^ 31 }
-        ensures is { IfOk result (λ player. player_of player ≡ new_player eid name.now) }
+        ensures is { IfOk result (λ player. player_of player ≡ new_player eid name.now since) }
         ensures unseen { IfOk result (λ player. player.mark ≡ nothing_shown) }
         ensures kept { IfOk result IsKeptPlayer }
     {
@@ -69,6 +79,8 @@ impl Player {
             eid,
             view_byte: 2,
             hand: 0,
+            missed: 0,
+            since,
             notes: Notes::new(alloc),
             mark: Mark::new(alloc),
         })
@@ -135,8 +147,8 @@ impl Player {
         Ok(())
     }
 
-    /// Appends what its client is sent at a tick; nothing is noted for it any more, and the mark
-    /// stands for what it is shown.
+    /// Appends what its client is sent at a tick; nothing is noted for it any more, it knows all
+    /// lines, and the mark stands for what it is shown.
     pub fn push_all(
         &mut self,
         alloc: Global,
@@ -144,6 +156,7 @@ impl Player {
         out: &mut Vec<Bytes>,
     ) -> Result<(), NoMemory>
         requires settings { AreSettings scene.now.settings.now.players scene.now.settings.now.cap }
+        requires young { scene.now.age ≤ 1000000000 }
         requires eid { self.old.eid < 2 ^ 31 }
         requires in_range { AreInRange scene.now.folk.now.state.entities }
         requires ready { AllByRecursion (IsReady scene.now.land.now)
@@ -153,13 +166,17 @@ impl Player {
             StandsFor self.old.mark (settled_parts scene.now.land.now scene.now.list.now) p →
             OnOk result (joined out.new.items ≡ joined out.old.items ++ play_bytes
             (due_packets (parts_of scene.now) (is_shown self.old.mark) p (player_of self.old))) }
-        ensures shows { OnOk result
+        ensures shows { (chat : List (List ℕ)) → OnOk result
             (StandsFor self.new.mark (present_parts scene.now.land.now scene.now.list.now)
-            (shown_now (parts_of scene.now) (player_of self.old))) }
+            (shown_now (parts_of scene.now) chat (player_of self.old))) }
         ensures opened { OnOk result (is_shown self.new.mark ≡ true) }
         ensures calm { OnOk result (self.new.notes ≡ no_notes) }
-        ensures rest { self.new
-            ≡ record self.old { notes = self.new.notes; mark = self.new.mark } }
+        ensures told { OnOk result (self.new.since ≡ 0) }
+        ensures rest { self.new ≡ record self.old {
+          since = self.new.since;
+          notes = self.new.notes;
+          mark = self.new.mark;
+        } }
     {
         let spot = spot_of(scene.folk, &scene.settings.terrain, self.eid);
         self.push_opening(alloc, scene, &spot, out)?;
@@ -173,6 +190,8 @@ impl Player {
             me: self.eid as i32,
             view: self.view(scene.settings.cap, &spot),
             place: spot,
+            lines: new_lines(scene.lines, self.since),
+            age: scene.age,
         };
         push_changes::<Brand>(
             alloc,
@@ -183,8 +202,16 @@ impl Player {
             Blank::new(1),
         )?;
         self.notes.clear();
+        self.since = 0;
         Ok(())
     }
+}
+
+/// The lines behind so many.
+fn new_lines(lines: &[Line], since: usize) -> &[Line]
+    ensures { result.now ≡ drop since lines.now }
+{
+    lines.split_at(since.min(lines.len())).1
 }
 
 /// Appends what a client is sent beside the opening. The looks at cells are not counted on.
@@ -199,6 +226,7 @@ fn push_changes<L: Ledger>(
     requires name { blank.name ≡ L.name }
     requires parts { blank.parts ≡ L.parts }
     requires some { 0 < blank.parts }
+    requires young { view.now.age ≤ 1000000000 }
     requires few { finmap.len view.now.list.now.present ≤ 50 }
     requires few_before { finmap.len view.now.list.now.last ≤ 50 }
     requires named { AllByRecursion IsNamed (finmap.entries view.now.list.now.present) }
@@ -208,12 +236,13 @@ fn push_changes<L: Ledger>(
         StandsFor mark.old (settled_parts view.now.land.now view.now.list.now) p →
         OnOk result (joined out.new.items ≡ joined out.old.items ++ play_bytes
         (delta p (seen view.now.land.now view.now.list.now view.now.folk.now.state.entities
-        view.now.pack.now view.now.view) ++ noted_of view.now.land.now view.now.view notes.now
+        view.now.pack.now view.now.view view.now.age (p.chat ++ view.now.lines.now))
+        ++ noted_of view.now.land.now view.now.view notes.now
         view.now.place view.now.pack.now)) }
-    ensures stands { OnOk result
+    ensures stands { (chat : List (List ℕ)) → OnOk result
         (StandsFor mark.new (present_parts view.now.land.now view.now.list.now)
         (seen view.now.land.now view.now.list.now view.now.folk.now.state.entities
-        view.now.pack.now view.now.view)) }
+        view.now.pack.now view.now.view view.now.age chat)) }
     ensures opened { OnOk result (mark.new.view ≡ Some view.now.view) }
 {
     let mut steps = Steps::<L>::new(blank);

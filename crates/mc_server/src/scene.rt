@@ -1,6 +1,4 @@
 ghost use Rattle.std.specs.Prelude.{◌≡◌, ◌≤◌, ◌<◌, ◌++◌, true, IfOk, OnOk, is_some, length, map};
-ghost use Rattle.std.specs.Prelude.{option_map};
-ghost use lib.IntN.{pos};
 ghost use Rattle.std.specs.List.{AllByRecursion};
 ghost use Rattle.mc_land.specs.Places.{IsPlace, Place};
 ghost use Rattle.mc_flush.specs.Encoding.{AreFrames};
@@ -17,12 +15,13 @@ ghost use Rattle.mc_server.specs.Ticking.{left_one};
 
 use crate::Settings;
 use crate::connection::Connection;
+use crate::connections::eid_of;
 use crate::packs::Packs;
 use crate::player::Player;
 use crate::roster::Roster;
 use crate::spots::spot_of;
 use mc_entities::Folk;
-use mc_flush::Encoded;
+use mc_flush::{Encoded, Line};
 use mc_land::{Land, Steps};
 use mc_nbt::NoMemory;
 use mc_view::Columns;
@@ -43,6 +42,10 @@ pub struct Scene<'w> {
     pub packs: &'w Packs,
     /// The players.
     pub list: &'w Roster,
+    /// What was said since the last tick.
+    pub lines: &'w [Line],
+    /// The ticks that came.
+    pub age: u64,
     /// The frames that more than one client may be sent.
     pub encoded: &'w Encoded,
 }
@@ -238,16 +241,6 @@ pub fn prepare(
     Ok(encoded)
 }
 
-/// The number of the entity of a connection's player, if it is in play.
-fn eid_of(connection: &Connection) -> Option<i32>
-    ensures { result ≡ option_map (λ (p : spec.Player). pos p.eid) connection.now.session.player }
-{
-    match connection.player() {
-        Some(player) => Some(player.eid as i32),
-        None => None,
-    }
-}
-
 impl Scene<'_> {
     /// Shows a client its part, if it is in play, and notes the number of its player where that
     /// leaves.
@@ -258,6 +251,7 @@ impl Scene<'_> {
         left: &mut Vec<i32>,
     ) -> Result<(), NoMemory>
         requires settings { AreSettings self.now.settings.now.players self.now.settings.now.cap }
+        requires young { self.now.age ≤ 1000000000 }
         requires in_range { AreInRange self.now.folk.now.state.entities }
         requires ready { IsPrepared (parts_of self.now) connection.old }
         requires frames { AreFrames self.now.land.now self.now.list.now self.now.encoded.now }
@@ -287,6 +281,7 @@ impl Scene<'_> {
         connections: &mut Vec<Connection>,
     ) -> Result<Vec<i32>, NoMemory>
         requires settings { AreSettings self.now.settings.now.players self.now.settings.now.cap }
+        requires young { self.now.age ≤ 1000000000 }
         requires in_range { AreInRange self.now.folk.now.state.entities }
         requires ready { AllByRecursion (IsPrepared (parts_of self.now)) connections.old.items }
         requires frames { AreFrames self.now.land.now self.now.list.now self.now.encoded.now }

@@ -23,8 +23,10 @@ ghost use Rattle.mc_server.specs.Served.{new_connection, nth_session, sessions_o
 ghost use Rattle.mc_server.specs.Stands.{HasFailed, Stands, age_of, owes};
 
 mod act;
+mod beats;
 mod blocks;
 mod carrying;
+mod chat;
 mod digging;
 mod fields;
 mod login;
@@ -38,6 +40,7 @@ use crate::packs::Packs;
 use crate::roster::Roster;
 use crate::{Input, Settings};
 use mc_entities::Folk;
+use mc_flush::Line;
 use mc_frame::Take;
 use mc_land::Land;
 use mc_model::Cause;
@@ -56,6 +59,8 @@ pub struct Server {
     folk: Folk,
     /// What each name carries that was ever in play.
     packs: Packs,
+    /// What was said since the last tick.
+    lines: Vec<Line>,
     /// The ticks that came.
     age: u64,
     /// The number of the last join.
@@ -97,6 +102,7 @@ impl Model for Server {
       age = s.age;
       terrain = s.settings.terrain;
       things = things_of s.land s.folk.state s.packs;
+      lines = s.lines.items;
       settled = s.land.settled;
       ready = s.land.ready;
       most = s.settings.players;
@@ -124,6 +130,7 @@ impl Server {
             land: Land::new(alloc, settings.terrain),
             folk: Folk::new(alloc),
             packs: Packs::new(alloc),
+            lines: Vec::new(alloc),
             age: 0,
             last: None,
             ids: Vec::new(alloc),

@@ -64,6 +64,7 @@ pub fn farewell_text(cause: &Cause) -> Option<&'static str>
         Cause::Frame(_) => Some("Bad frame."),
         Cause::Packet(_) => Some("Bad packet."),
         Cause::BadNumber => Some("Bad number."),
+        Cause::Silent => Some("No answer."),
         _ => None,
     }
 }

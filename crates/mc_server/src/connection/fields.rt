@@ -33,6 +33,8 @@ fn a_name(_part: &Text) {}
 
 fn a_place_of_the_hotbar(_part: &u8) {}
 
+fn a_number_of_lines(_part: &usize) {}
+
 fn notes_of_a_player(_part: &Notes) {}
 
 /// Names every field of a player.
@@ -43,6 +45,8 @@ fn name_player(player: &Player) {
         eid,
         view_byte,
         hand,
+        missed,
+        since,
         notes,
         mark,
     } = player;
@@ -51,6 +55,8 @@ fn name_player(player: &Player) {
     a_number(eid);
     a_small_number(view_byte);
     a_place_of_the_hotbar(hand);
+    a_number(missed);
+    a_number_of_lines(since);
     notes_of_a_player(notes);
     a_mark(mark);
 }

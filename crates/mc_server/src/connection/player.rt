@@ -1,7 +1,7 @@
 //! What a connection does with its player: what it asks for, what is noted for its client, what
 //! that sees.
 
-ghost use Rattle.std.specs.Prelude.{◌≡◌, ◌++◌, ◌∷◌, [], true, false, None, OnErr, OnOk, is_some, map};
+ghost use Rattle.std.specs.Prelude.{◌≡◌, ◌≤◌, ◌++◌, ◌∷◌, ℕ, List, [], true, false, None, OnErr, OnOk, is_some, map};
 ghost use Rattle.mc_flush.specs.Encoding.{AreFrames};
 ghost use Rattle.mc_flush.specs.Seeing.{StandsFor, is_shown, present_parts, settled_parts};
 ghost use Rattle.mc_model.specs.Notes.{no_notes};
@@ -91,12 +91,23 @@ impl Connection {
         }
     }
 
+    /// Its client answered: it owes no answer to a beat.
+    pub fn answer(&mut self)
+        ensures { self.new ≡ with_player self.old (λ p. record p { missed = 0 }) }
+    {
+        if let Some(player) = &mut self.player {
+            player.missed = 0;
+        }
+    }
+
     // ---- a tick
 
     /// Shows its client its part, if it is in play: the packets that lead it there are handed out
-    /// to it, and nothing is noted for it any more. The mark stands for what it was shown.
+    /// to it, nothing is noted for it any more, and it knows all lines. The mark stands for what it
+    /// was shown.
     pub fn show(&mut self, alloc: Global, scene: &Scene<'_>) -> Result<(), NoMemory>
         requires settings { AreSettings scene.now.settings.now.players scene.now.settings.now.cap }
+        requires young { scene.now.age ≤ 1000000000 }
         requires in_range { AreInRange scene.now.folk.now.state.entities }
         requires ready { IsPrepared (parts_of scene.now) self.old }
         requires frames { AreFrames scene.now.land.now scene.now.list.now scene.now.encoded.now }
@@ -104,14 +115,20 @@ impl Connection {
             self.old.session.player ≡ Some player →
             StandsFor self.old.mark (settled_parts scene.now.land.now scene.now.list.now) p →
             OnOk result (self.new.session ≡ (hand (record self.old.session {
-              player = Some (record player { notes = no_notes; shown = None });
+              player = Some (record player {
+                chat = [];
+                since = 0;
+                notes = no_notes;
+                shown = None;
+              });
             }) (map of_play (due_packets (parts_of scene.now) (is_shown self.old.mark) p
             player))).session) }
-        ensures shows { (player : spec.Player) → self.old.session.player ≡ Some player →
+        ensures shows { (player : spec.Player) (chat : List (List ℕ)) →
+            self.old.session.player ≡ Some player →
             is_closed self.new.session.stage ≡ false → OnOk result
             ((is_shown self.new.mark ≡ true)
             × StandsFor self.new.mark (present_parts scene.now.land.now scene.now.list.now)
-            (shown_now (parts_of scene.now) player)) }
+            (shown_now (parts_of scene.now) chat player)) }
         ensures waits { self.old.session.player ≡ None → self.new ≡ self.old }
         ensures splitter { self.new.splitter ≡ self.old.splitter }
         ensures same { self.new.session.id ≡ self.old.session.id }

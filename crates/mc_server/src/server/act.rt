@@ -98,6 +98,11 @@ impl Server {
             (nth_session doer.now.place self.old.connections) p packet.now) }
     {
         match packet {
+            PlayUp::KeepAlive(_) => {
+                self.connections[doer.place].answer();
+                Ok(())
+            }
+            PlayUp::Chat(text) => self.say(doer, text),
             PlayUp::Position { x, y, z, .. } => {
                 let wish = Wish::of(&self.spot(doer));
                 self.arrive(doer, wish.moved(*x, *y, *z))

@@ -6,6 +6,7 @@ use crate::connection::Connection;
 use crate::packs::Packs;
 use crate::roster::Roster;
 use mc_entities::Folk;
+use mc_flush::Line;
 use mc_land::Land;
 use std::alloc::Global;
 
@@ -18,6 +19,8 @@ fn a_land(_part: &Land) {}
 fn a_folk(_part: &Folk) {}
 
 fn packs_by_name(_part: &Packs) {}
+
+fn lines_of_players(_part: &Vec<Line>) {}
 
 fn a_list_of_players(_part: &Roster) {}
 
@@ -39,6 +42,7 @@ fn name_fields(server: &Server) {
         land,
         folk,
         packs,
+        lines,
         age,
         last,
         ids,
@@ -51,6 +55,7 @@ fn name_fields(server: &Server) {
     a_land(land);
     a_folk(folk);
     packs_by_name(packs);
+    lines_of_players(lines);
     an_age(age);
     a_last_number(last);
     the_numbers(ids);

@@ -135,7 +135,7 @@ impl Server {
             (nth_session i self.old.connections) name.now None).world) }
     {
         let eid = self.admit(name)?;
-        let player = Player::entering(self.alloc, eid, name)?;
+        let player = Player::entering(self.alloc, eid, name, self.lines.len())?;
         self.connections[i].enter(player, name)?;
         self.let_go(i, Some(eid));
         Ok(())

@@ -1,0 +1,40 @@
+//! Beats: a client is told one every so often and is to answer, or it is silent.
+
+ghost use Rattle.std.specs.Prelude.{◌≡◌, true, OnOk, Option, is_some, unwrap_or};
+ghost use lib.IntN.{pos};
+ghost use Rattle.mc_model.specs.Sight.{Sight, nothing_seen};
+ghost use Rattle.mc_model.specs.Ticks.{beat_at};
+ghost use Rattle.mc_model.specs.World.{World};
+ghost use Rattle.mc_server.specs.Beating.{beaten_session};
+ghost use Rattle.mc_server.specs.Frames.{Retains};
+
+use crate::connection::Connection;
+use crate::player::Player;
+use mc_model::{Cause, MISSED_MAX};
+use mc_nbt::NoMemory;
+
+impl Connection {
+    /// A beat comes. Its client is to be told it where it was told another or none: its player owes
+    /// an answer more then, or it is closed, since it is silent.
+    pub fn beat(&mut self, beat: i32) -> Result<(), NoMemory>
+        ensures beaten { (w : World) (shown : Option Sight) → beat ≡ pos (beat_at w.age) →
+            (unwrap_or shown nothing_seen).beat ≡ self.old.mark.beat →
+            OnOk result (self.new.session ≡ beaten_session w shown self.old.session) }
+        ensures retains { OnOk result (Retains self.old self.new) }
+        ensures same { self.new.session.id ≡ self.old.session.id }
+        ensures stays { is_some self.new.session.player ≡ true
+            → is_some self.old.session.player ≡ true }
+    {
+        let Some(player) = &mut self.player else {
+            return Ok(());
+        };
+        if player.mark.was_told(beat) {
+            return Ok(());
+        }
+        if player.missed < MISSED_MAX {
+            player.missed += 1;
+            return Ok(());
+        }
+        self.disconnect(Cause::Silent)
+    }
+}
