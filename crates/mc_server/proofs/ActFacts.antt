@@ -1,12 +1,13 @@
 -- What a player does makes of a server what the definitions make of its world.
-use Rattle.std.proofs.Common.{◌≡◌, ℕ, ◌<◌, Bool, true, false, length, refl, sym, ap, ◌∙◌}
+use Rattle.std.proofs.Common.{◌≡◌, ℕ, ◌<◌, Bool, true, false, List, [], ◌∷◌, ◌++◌, length, refl, sym, ap, ◌∙◌}
 use Rattle.std.proofs.Common.{get_or, set}
 use Rattle.std.specs.Prelude.{Option, Some, None, Ok, Err, is_some, option_map}
 use Rattle.std.specs.Prelude.{if◌then◌else◌}
 use Rattle.mc_fields.specs.declared.position.Spot.{Spot}
 use Rattle.mc_entities.specs.Shift.{is_inside}
 use Rattle.mc_up.specs.declared.play_up.PlayUp.{PlayUp}
-use Rattle.mc_up.specs.declared.play_up.PlayUp.TheVariants.{Position, Look, PositionLook, Settings}
+use Rattle.mc_up.specs.declared.play_up.PlayUp.TheVariants.{KeepAlive, Chat, Position, Look}
+use Rattle.mc_up.specs.declared.play_up.PlayUp.TheVariants.{PositionLook, Settings}
 use Rattle.mc_up.specs.declared.play_up.PlayUp.TheVariants.{Creative, Digging, Held, Placement}
 use Rattle.mc_fields.specs.declared.position.Cell.{Cell}
 use Rattle.mc_nbt.specs.declared.bytes.Text.{Text}
@@ -14,6 +15,7 @@ use Rattle.mc_slots.specs.declared.slot.Slot.{Slot}
 use lib.IntN.{ℤ}
 use Rattle.mc_model.specs.declared.cause.Cause.TheVariants as causes
 use Rattle.mc_model.specs.Acts.{act}
+use Rattle.mc_model.specs.Chat.{line_of, say}
 use Rattle.mc_model.specs.Movement.{landed}
 use Rattle.mc_model.specs.Orderly.{Rise}
 use Rattle.mc_model.specs.Step.{act_by, acted, disconnect, disconnect_for, perform}
@@ -23,12 +25,13 @@ use Rattle.mc_model.specs.World.{World, Session, Player, put}
 use Rattle.mc_model.proofs.HandledFacts.{put_same}
 use Rattle.mc_server.specs.declared.server.act.ActFault.TheVariants.{BadNumber}
 use Rattle.mc_server.specs.Acting.{Comes}
-use Rattle.mc_server.specs.Frames.{Becomes}
+use Rattle.mc_server.specs.Frames.{Becomes, Retains}
 use Rattle.mc_server.specs.Leaving.{put_after}
 use Rattle.mc_server.specs.Served.{ConnectionValue, ServerValue, kept_world, nth_session}
 use Rattle.mc_server.specs.Served.{sessions_of, with_player}
 use Rattle.mc_server.proofs.Becoming.{becomes_along, becomes_nothing, becomes_onward, nth, nth_at}
-use Rattle.mc_server.proofs.Becoming.{nth_is, nth_placed, put_becomes, retains_stage}
+use Rattle.mc_server.proofs.Becoming.{nth_is, nth_placed, put_becomes, retains_same, retains_stage}
+use Rattle.mc_server.proofs.Sides.{side_same}
 
 -- none comes to play by a change of its player
 pub player_kept : (f : Player → Player) (o : Option Player) → is_some (option_map f o) ≡ true →
@@ -92,6 +95,18 @@ becomes_things old mid w things left_ b same = record {
   works = b.works;
 }
 
+-- one line more
+pub said_becomes : (v : ServerValue) (lines : List (List ℕ)) (text : List ℕ) (p : Player) →
+    lines ≡ v.lines ++ line_of p.name text ∷ [] →
+    Becomes v (record v { lines = lines }) (say (kept_world v) p text)
+said_becomes v lines text p more = record {
+  connections = side_same Retains retains_same v.connections;
+  kept = ap (λ (ls : List (List ℕ)). record (kept_world v) { lines = ls }) more;
+  list = refl;
+  shown = refl;
+  works = refl;
+}
+
 -- ---- good and bad numbers
 
 -- it has no player
@@ -153,6 +168,8 @@ module _ (i : ℕ) (old mid : ServerValue) (packet : PlayUp) (p : Player)
 -- ---- packets that say nothing to do
 
 pub act_other : (w : World) (s : Session) (p : Player) (packet : PlayUp)
+    → ((beat : ℤ) → packet ≡ KeepAlive beat → ⊥)
+    → ((text : Text) → packet ≡ Chat text → ⊥)
     → ((x y z : ℕ) (on_ground : Bool) → packet ≡ Position x y z on_ground → ⊥)
     → ((yaw pitch : ℕ) (on_ground : Bool) → packet ≡ Look yaw pitch on_ground → ⊥)
     → ((x y z yaw pitch : ℕ) (on_ground : Bool) →
@@ -166,15 +183,17 @@ pub act_other : (w : World) (s : Session) (p : Player) (packet : PlayUp)
     packet ≡ Settings locale view chat_mode colours skin → ⊥)
     → Some w ≡ act w s p packet
 unfolding act
-act_other w s p (Position x y z g) a b c d e f h k = absurd (a x y z g refl)
-act_other w s p (Look yaw pitch g) a b c d e f h k = absurd (b yaw pitch g refl)
-act_other w s p (PositionLook x y z yaw pitch g) a b c d e f h k =
+act_other w s p (KeepAlive beat) l m a b c d e f h k = absurd (l beat refl)
+act_other w s p (Chat text) l m a b c d e f h k = absurd (m text refl)
+act_other w s p (Position x y z g) l m a b c d e f h k = absurd (a x y z g refl)
+act_other w s p (Look yaw pitch g) l m a b c d e f h k = absurd (b yaw pitch g refl)
+act_other w s p (PositionLook x y z yaw pitch g) l m a b c d e f h k =
     absurd (c x y z yaw pitch g refl)
-act_other w s p (Digging status cell face) a b c d e f h k = absurd (d status cell face refl)
-act_other w s p (Placement cell face item x y z) a b c d e f h k =
+act_other w s p (Digging status cell face) l m a b c d e f h k = absurd (d status cell face refl)
+act_other w s p (Placement cell face item x y z) l m a b c d e f h k =
     absurd (e cell face item x y z refl)
-act_other w s p (Held place) a b c d e f h k = absurd (f place refl)
-act_other w s p (Creative slot item) a b c d e f h k = absurd (h slot item refl)
-act_other w s p (Settings locale view chat_mode colours skin) a b c d e f h k =
+act_other w s p (Held place) l m a b c d e f h k = absurd (f place refl)
+act_other w s p (Creative slot item) l m a b c d e f h k = absurd (h slot item refl)
+act_other w s p (Settings locale view chat_mode colours skin) l m a b c d e f h k =
     absurd (k locale view chat_mode colours skin refl)
-act_other w s p other a b c d e f h k = refl
+act_other w s p other l m a b c d e f h k = refl

@@ -11,7 +11,8 @@ use Rattle.mc_fields.specs.declared.position.Spot.{Spot}
 use Rattle.mc_frame.specs.declared.fault.FrameFault.{FrameFault}
 use Rattle.mc_frame.specs.Kept.{outbox_max}
 use Rattle.mc_up.specs.declared.play_up.PlayUp.{PlayUp}
-use Rattle.mc_up.specs.declared.play_up.PlayUp.TheVariants.{Position, Look, PositionLook, Settings}
+use Rattle.mc_up.specs.declared.play_up.PlayUp.TheVariants.{KeepAlive, Chat, Position, Look}
+use Rattle.mc_up.specs.declared.play_up.PlayUp.TheVariants.{PositionLook, Settings}
 use Rattle.mc_up.specs.declared.play_up.PlayUp.TheVariants.{Creative, Digging, Held, Placement}
 use Rattle.mc_model.specs.declared.cause.Cause.{Cause}
 use Rattle.mc_model.specs.declared.cause.Cause.TheVariants as causes
@@ -287,6 +288,9 @@ place_bare w s p cell (Some target) = step (not (is_in_reach w p cell)) (is_ches
 act_bare : (w : World) (s : Session) (p : Player) (packet : PlayUp) →
     option_map bare_world (act w s p packet) ≡ act (bare_world w) (bare s) (bare_player p) packet
 unfolding act
+act_bare w s p (KeepAlive beat) =
+    ap Some (put_bare w (record s { player = Some (record p { missed = 0 }) }))
+act_bare w s p (Chat text) = refl
 act_bare w s p (Position x y z on_ground) = arrive_bare w s p (moved (spot_of w p) x y z)
 act_bare w s p (Look yaw pitch on_ground) = arrive_bare w s p (turned (spot_of w p) yaw pitch)
 act_bare w s p (PositionLook x y z yaw pitch on_ground) =

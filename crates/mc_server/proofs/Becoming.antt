@@ -321,7 +321,7 @@ module _ (v : ServerValue) (i high : ℕ) (c t : ConnectionValue)
       let f : Session → Session = λ s. (hand (entered (kept_world v) s name)
       (accepted (offline_uuid name) name)).session in
       let nth : Session = nth_session i v.connections in
-      let enters : Option Player = Some (new_player (v.things.eids + 1) name) in
+      let enters : Option Player = Some (new_player (v.things.eids + 1) name (length v.lines)) in
       let leaves : left_with (Some eid) player things
       ≡ after_leaving enters (f nth).player things =
       (λ j. left_with (Some (eid_is j)) (player_is j) things)

@@ -28,7 +28,7 @@ use Rattle.mc_server.specs.Frames.{Holds, Retains, AreDone}
 use Rattle.mc_server.specs.Served.{ConnectionValue, ServerValue, IsAt, kept_world, sessions_of}
 use Rattle.mc_server.specs.Served.{shown_parts}
 use Rattle.mc_server.specs.SideBySide.{SideBySide}
-use Rattle.mc_server.specs.Stands.{IsConnection, IsOpen, Stands, shown_to}
+use Rattle.mc_server.specs.Stands.{IsConnection, IsOpen, Stands, said_in, said_to, shown_to}
 use Rattle.mc_server.proofs.Bare.{put_bare, heard_bare}
 use Rattle.mc_server.proofs.Known.{IsKnown, There, HeardOpen, heard_there}
 use Rattle.mc_server.proofs.Places.{placed_by, sessions_length, session_at}
@@ -91,12 +91,12 @@ bytes_bare w k s bytes apart e open_ =
 
 -- what is known of the connection then
 bytes_there : (w : World) (k : ℕ) (s : Session) (bytes : List ℕ) → found k w.sessions ≡ Some s →
-    is_closed s.stage ≡ false → HasPlayer s →
+    is_closed s.stage ≡ false → said_to s.player ≡ said_in (shown_to s.player) → HasPlayer s →
     There (HeardOpen (cut_of s.before (s.rest ++ bytes)).fault
     (cut_of s.before (s.rest ++ bytes)).rest
     (s.before + (length (s.rest ++ bytes) - length (cut_of s.before (s.rest ++ bytes)).rest))
     (shown_to s.player)) k (on_bytes w k bytes).world
-bytes_there w k s bytes e open_ has =
+bytes_there w k s bytes e open_ said has =
     let cut = cut_of s.before (s.rest ++ bytes) in
     let count = length (s.rest ++ bytes) in
     let P : World → Type 0 = There (HeardOpen cut.fault cut.rest
@@ -106,7 +106,10 @@ bytes_there w k s bytes e open_ has =
     k cut.frames cut.fault (put w (read_to s cut count)) (record {
       session = read_to s cut count;
       there = found_put k w s (read_to s cut count) (found_id k w.sessions s e) e;
-      holds = (λ still_. record { rest_is = refl; before_is = refl; shown_is = refl }, has);
+      holds = (
+        λ still_. record { rest_is = refl; before_is = refl; shown_is = refl; said_is = said },
+        has,
+      );
     }))
 
 -- what splitters and marks keep of an open connection is as it was, whatever the bytes of another
@@ -119,11 +122,18 @@ Steady s t =
 
 others_there : (w : World) (k j : ℕ) (s : Session) (bytes : List ℕ) → j ≢ k → found j w.sessions ≡
     Some s
-    → HasPlayer s → There (Steady s) j (on_bytes w k bytes).world
-others_there w k j s bytes ne there has = record {
+    → (is_closed s.stage ≡ false → said_to s.player ≡ said_in (shown_to s.player)) → HasPlayer s →
+    There (Steady s) j (on_bytes w k bytes).world
+others_there w k j s bytes ne there said has = record {
   session = s;
   there = (bytes_beside k w bytes).others j ne ∙ there;
-  holds = (λ open_. (open_, record { rest_is = refl; before_is = refl; shown_is = refl }), has);
+  holds = (
+    λ open_. (
+      open_,
+      record { rest_is = refl; before_is = refl; shown_is = refl; said_is = said open_ },
+    ),
+    has,
+  );
 }
 
 -- what holds of the one that is found holds of the one at its place
@@ -169,6 +179,7 @@ open_known shown c d old t count rest mark holds known is =
       shows = subst P (sym known.shown_is) (subst
           (λ x. StandsFor x shown (unwrap_or (shown_to old.player) nothing_seen)) (sym mark)
           is.shows);
+      said = known.said_is ∙ ap said_in (sym known.shown_is);
     }
 
 module _ (v n : ServerValue) (w : World) (high k i : ℕ) (c : ConnectionValue) (bytes : List ℕ)
@@ -270,7 +281,7 @@ module _ (v n : ServerValue) (w : World) (high k i : ℕ) (c : ConnectionValue) 
         (shown_to m.session.player) in
         let Q : ℕ → Type 0 = λ q. There P q after in
         let known = placed_there P after high j t risen lt_after t_is
-        (subst Q (sym number) (bytes_there w k m.session bytes there opened m.stands.plays)) in
+        (subst Q (sym number) (bytes_there w k m.session bytes there opened o.said m.stands.plays)) in
         let place : get_or (sessions_of n.connections) i (new_session 0) ≡ a.session =
         ap (λ (q : ℕ). get_or (sessions_of n.connections) q (new_session 0)) (sym same) ∙
         session_at n.connections j a (new_session 0) lt a_is in
@@ -306,7 +317,8 @@ module _ (v n : ServerValue) (w : World) (high k i : ℕ) (c : ConnectionValue) 
         let found_ : found t.id w.sessions ≡ Some s =
         ap (λ (q : ℕ). found q w.sessions) number ∙ x.placed.is s ∙ ap Some (sym x.is) in
         let known = placed_there (Steady s) after high j t risen lt_after t_is
-        (others_there w k t.id s bytes apart_ found_ x.stands.plays) in
+        (others_there w k t.id s bytes apart_ found_
+        (λ open_. (x.stands.is_open open_).said) x.stands.plays) in
         record {
           session = session;
           is_open = λ still_.

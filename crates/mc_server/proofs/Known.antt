@@ -6,7 +6,8 @@ use Rattle.std.specs.Option.{option_and_then}
 use Rattle.mc_fields.specs.declared.position.Spot.{Spot}
 use Rattle.mc_frame.specs.declared.fault.FrameFault.{FrameFault}
 use Rattle.mc_up.specs.declared.play_up.PlayUp.{PlayUp}
-use Rattle.mc_up.specs.declared.play_up.PlayUp.TheVariants.{Position, Look, PositionLook, Settings}
+use Rattle.mc_up.specs.declared.play_up.PlayUp.TheVariants.{KeepAlive, Chat, Position, Look}
+use Rattle.mc_up.specs.declared.play_up.PlayUp.TheVariants.{PositionLook, Settings}
 use Rattle.mc_up.specs.declared.play_up.PlayUp.TheVariants.{Creative, Digging, Held, Placement}
 use Rattle.mc_model.specs.declared.cause.Cause.{Cause}
 use Rattle.mc_model.specs.declared.cause.Cause.TheVariants as causes
@@ -37,25 +38,27 @@ use Rattle.mc_model.proofs.Beside.{found_put}
 use Rattle.mc_model.proofs.Handing.{HasPlayer, hand_cases, no_player, not_both}
 use Rattle.mc_model.proofs.Acting.{Suits, suits}
 use Rattle.mc_server.specs.Bare.{after_frames}
-use Rattle.mc_server.specs.Stands.{shown_to}
+use Rattle.mc_server.specs.Stands.{said_in, said_to, shown_to}
 
 -- what is known of an open connection
 pub record IsKnown (rest : List ℕ) (before : ℕ) (shown : Option Sight) (s : Session) : Type 0 where
   pub rest_is : s.rest ≡ rest
   pub before_is : s.before ≡ before
   pub shown_is : shown_to s.player ≡ shown
+  pub said_is : said_to s.player ≡ said_in shown
 
 abbrev pub KnownOpen : List ℕ → ℕ → Option Sight → Session → Type 0
 KnownOpen rest before shown s =
     (is_closed s.stage ≡ false → IsKnown rest before shown s) × HasPlayer s
 
 known_same : (rest : List ℕ) (before : ℕ) (shown : Option Sight) (s t : Session) → t.rest ≡ s.rest →
-    t.before ≡ s.before → shown_to t.player ≡ shown_to s.player → IsKnown rest before shown s →
-    IsKnown rest before shown t
-known_same rest before shown s t read count seen known = record {
+    t.before ≡ s.before → shown_to t.player ≡ shown_to s.player →
+    said_to t.player ≡ said_to s.player → IsKnown rest before shown s → IsKnown rest before shown t
+known_same rest before shown s t read count seen said known = record {
   rest_is = read ∙ known.rest_is;
   before_is = count ∙ known.before_is;
   shown_is = seen ∙ known.shown_is;
+  said_is = said ∙ known.said_is;
 }
 
 closed_known : (rest : List ℕ) (before : ℕ) (shown : Option Sight) (s : Session) → s.stage ≡
@@ -119,6 +122,11 @@ landed_shown spot p = elim (is_inside spot)
     as (λ b. (if b then p else record p { notes = record p.notes { placing = true } }).shown
     ≡ p.shown) [ true ↦ refl | false ↦ refl ]
 
+landed_said : (spot : Spot) (p : Player) → (landed spot p).chat ≡ p.chat
+landed_said spot p = elim (is_inside spot)
+    as (λ b. (if b then p else record p { notes = record p.notes { placing = true } }).chat
+    ≡ p.chat) [ true ↦ refl | false ↦ refl ]
+
 -- the world that is left by a packet that was obeyed
 abbrev pub IfWorld : (World → Type 0) → Option World → Type 0
 IfWorld P None = Unit {0}
@@ -128,14 +136,14 @@ module _ (rest : List ℕ) (before : ℕ) (shown : Option Sight) (k : ℕ) (w : 
     (p : Player)
     (e : found k w.sessions ≡ Some s) (is : s.id ≡ k) (has : HasPlayer s)
     (plays : s.player ≡ Some p) (known : IsKnown rest before shown s) where
-  player_there : (q : Player) (things : Things) → q.shown ≡ p.shown →
+  player_there : (q : Player) (things : Things) → q.shown ≡ p.shown → q.chat ≡ p.chat →
       There (KnownOpen rest before shown) k (record (put w (record s { player = Some q })) {
         things = things;
       })
-  player_there q things same =
+  player_there q things same said =
       there_put (KnownOpen rest before shown) k w things s (record s { player = Some q }) e is (
         λ open_. known_same rest before shown s (record s { player = Some q })
-            refl refl (same ∙ sym (ap shown_to plays)) known,
+            refl refl (same ∙ sym (ap shown_to plays)) (said ∙ sym (ap said_to plays)) known,
         has ∙ ap is_some plays,
       )
 
@@ -149,17 +157,20 @@ module _ (rest : List ℕ) (before : ℕ) (shown : Option Sight) (k : ℕ) (w : 
   arrive_there None = tt
   arrive_there (Some spot) = player_there (landed spot p)
       (with_entity p.eid (standing (landing w spot)) w.things) (landed_shown spot p)
+      (landed_said spot p)
 
   noting_there : (f : Noted → Noted) → There (KnownOpen rest before shown) k (noting f w s p)
-  noting_there f = player_there (record p { notes = f p.notes }) w.things refl
+  noting_there f = player_there (record p { notes = f p.notes }) w.things refl refl
 
   take_up_there : (hand : Option ℕ) → There (KnownOpen rest before shown) k (take_up w s p hand)
   take_up_there None = things_there w.things
   take_up_there (Some hand) = player_there (record p { hand = hand })
-      (with_entity p.eid (holding (in_hand (pack_of w p) hand)) w.things) refl
+      (with_entity p.eid (holding (in_hand (pack_of w p) hand)) w.things) refl refl
 
   act_there : (packet : PlayUp) → IfWorld (There (KnownOpen rest before shown) k) (act w s p packet)
   unfolding act
+  act_there (KeepAlive beat) = player_there (record p { missed = 0 }) w.things refl refl
+  act_there (Chat text) = record { session = s; there = e; holds = (λ open_. known, has) }
   act_there (Position x y z on_ground) = arrive_there (moved (spot_of w p) x y z)
   act_there (Look yaw pitch on_ground) = arrive_there (turned (spot_of w p) yaw pitch)
   act_there (PositionLook x y z yaw pitch on_ground) = arrive_there
@@ -175,7 +186,7 @@ module _ (rest : List ℕ) (before : ℕ) (shown : Option Sight) (k : ℕ) (w : 
   act_there (Held place) = take_up_there (place_of_hotbar place)
   act_there (Creative slot item) = noting_there again
   act_there (Settings locale view chat_mode colours skin) =
-      player_there (record p { view_byte = view }) w.things refl
+      player_there (record p { view_byte = view }) w.things refl refl
   act_there other = things_there w.things
 
 acted_there : (rest : List ℕ) (before : ℕ) (shown : Option Sight) (k : ℕ) (w : World) (s : Session)
@@ -215,6 +226,7 @@ login_there rest before shown k w s name None e is at has known =
         rest_is = known.rest_is;
         before_is = known.before_is;
         shown_is = sym (ap shown_to none) ∙ known.shown_is;
+        said_is = sym (ap said_to none) ∙ known.said_is;
       },
       refl,
     ))
@@ -230,14 +242,14 @@ perform_there rest before shown k w s (greets protocol stage) e is fit has known
     (record s { stage = stage; protocol = protocol })
     e is (
       λ open_. known_same rest before shown s (record s { stage = stage; protocol = protocol })
-          refl refl refl known,
+          refl refl refl refl known,
       fit.1 ∙ sym (ap is_play fit.0) ∙ has,
     )
 perform_there rest before shown k w s (replies packet) e is fit has known =
     there_hand rest before shown k w s s s (of_status packet ∷ [])
     e is (λ owed. (
       λ open_. known_same rest before shown s (record s { owed = owed })
-          refl refl refl known,
+          refl refl refl refl known,
       has,
     ))
 perform_there rest before shown k w s (ends packet) e is fit has known =

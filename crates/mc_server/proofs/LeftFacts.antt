@@ -10,8 +10,8 @@ use lib.IntN.{ℤ, pos}
 use Rattle.mc_land.specs.Land.{LandValue}
 use Rattle.mc_entities.specs.Folk.{FolkState, removed}
 use Rattle.mc_model.specs.Things.{Packs, Things}
-use Rattle.mc_model.specs.World.{World, Session, Player}
-use Rattle.mc_model.specs.Step.{after_leaving, flush}
+use Rattle.mc_model.specs.World.{Session, Player}
+use Rattle.mc_model.specs.Step.{after_leaving}
 use Rattle.mc_flush.specs.Seeing.{Parts}
 use Rattle.mc_server.specs.Bare.{bare_player}
 use Rattle.mc_server.specs.Served.{AreInRange, ConnectionValue, things_of}
@@ -136,32 +136,31 @@ left_things land packs (Some p) (Some q) state = refl
 left_things land packs None None state = refl
 left_things land packs None (Some q) state = refl
 
--- what is in a world after each of these sessions was shown the world
-abbrev pub things_after : World → Things → List Session → Things
-things_after w things ss = fold (λ (t : Things) (s : Session).
-    after_leaving s.player (flush w s).session.player t) things ss
+-- what is in a world after each of these sessions became another, of which its player may leave
+abbrev pub things_after : (Session → Session) → Things → List Session → Things
+things_after f things ss = fold (λ (t : Things) (s : Session).
+    after_leaving s.player (f s).player t) things ss
 
 -- what is left of the parts of a server is that
-pub all_left : (w : World) (last now_ : Parts) (land : LandValue) (packs : Packs)
+pub all_left : (f : Session → Session) (last now_ : Parts) (land : LandValue) (packs : Packs)
     (cs ds : List ConnectionValue) (ss : List Session) (state : FolkState) →
-    SideBySide (IsConnection last) cs ss →
-    SideBySide (IsConnection now_) ds (map (λ (s : Session). (flush w s).session) ss) →
+    SideBySide (IsConnection last) cs ss → SideBySide (IsConnection now_) ds (map f ss) →
     things_of land (all_removed state (left_all cs ds)) packs
-    ≡ things_after w (things_of land state packs) ss
-all_left w last now_ land packs [] [] [] state olds news = refl
-all_left w last now_ land packs (c ∷ cs) (d ∷ ds) (s ∷ ss) state olds news =
+    ≡ things_after f (things_of land state packs) ss
+all_left f last now_ land packs [] [] [] state olds news = refl
+all_left f last now_ land packs (c ∷ cs) (d ∷ ds) (s ∷ ss) state olds news =
     let old : c.session.player ≡ option_map bare_player s.player =
     ap (λ (t : Session). t.player) olds.0.session in
-    let new : d.session.player ≡ option_map bare_player (flush w s).session.player =
+    let new : d.session.player ≡ option_map bare_player (f s).player =
     ap (λ (t : Session). t.player) news.0.session in
     (λ i. things_of land (all_removed state (left_one (old i) (new i) ++ left_all cs ds)) packs)
     ∙ ap (λ (st : FolkState). things_of land st packs)
-    (one_left s.player (flush w s).session.player (left_all cs ds) state)
-    ∙ all_left w last now_ land packs cs ds ss
-    (without_left s.player (flush w s).session.player state) olds.1 news.1
-    ∙ ap (λ (things : Things). things_after w things ss)
-    (left_things land packs s.player (flush w s).session.player state)
-all_left w last now_ land packs [] (d ∷ ds) [] state olds news = absurd news
-all_left w last now_ land packs [] ds (s ∷ ss) state olds news = absurd olds
-all_left w last now_ land packs (c ∷ cs) ds [] state olds news = absurd olds
-all_left w last now_ land packs (c ∷ cs) [] (s ∷ ss) state olds news = absurd news
+    (one_left s.player (f s).player (left_all cs ds) state)
+    ∙ all_left f last now_ land packs cs ds ss
+    (without_left s.player (f s).player state) olds.1 news.1
+    ∙ ap (λ (things : Things). things_after f things ss)
+    (left_things land packs s.player (f s).player state)
+all_left f last now_ land packs [] (d ∷ ds) [] state olds news = absurd news
+all_left f last now_ land packs [] ds (s ∷ ss) state olds news = absurd olds
+all_left f last now_ land packs (c ∷ cs) ds [] state olds news = absurd olds
+all_left f last now_ land packs (c ∷ cs) [] (s ∷ ss) state olds news = absurd news

@@ -29,6 +29,8 @@ pub mod SceneFacts
 pub mod Walks
 pub mod Listed
 pub mod LeftFacts
+pub mod BeatFacts
+pub mod Beaten
 pub mod Ticked
 pub mod Shedding
 pub mod LogFacts

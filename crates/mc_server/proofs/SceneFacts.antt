@@ -1,7 +1,7 @@
 -- What a client is shown of the parts of a world is what the world shows it.
 use Rattle.std.proofs.Common.{◌≡◌, ℕ, Bool, true, false, cond, List, [], ◌++◌, map, length, Option}
 use Rattle.std.proofs.Common.{Some, None, is_some, refl, sym, subst, ap, ◌∙◌, append_assoc}
-use Rattle.std.specs.Prelude.{◌+◌, nat_le, unwrap_or, if◌then◌else◌, option_map}
+use Rattle.std.specs.Prelude.{◌+◌, drop, nat_le, unwrap_or, if◌then◌else◌, option_map}
 use Rattle.std.specs.List.{filter, filter_map}
 use Rattle.std.specs.FinMap.{from_entries}
 use lib.IntN.{pos}
@@ -18,17 +18,22 @@ use Rattle.mc_view.specs.declared.view_set.ViewSet.{ViewSet}
 use Rattle.mc_model.specs.declared.cause.Cause.TheVariants as causes
 use Rattle.mc_model.specs.Sight.{Sight, nothing_seen}
 use Rattle.mc_model.specs.Delta.{delta}
+use Rattle.mc_model.specs.Ticks.{beat_at, shown_age}
 use Rattle.mc_model.specs.Packets.{Sent, of_play, bytes_of}
 use Rattle.mc_model.specs.Notes.{no_notes}
 use Rattle.mc_model.specs.Things as things
 use Rattle.mc_model.specs.World.{World, Session, Player, is_closed, pack_of, project, seen_of}
 use Rattle.mc_model.specs.World.{spot_in, spot_of}
 use Rattle.mc_model.specs.Step.{Handing, hand, due, flush, mark_closed, noted_packets, notes_due}
+use Rattle.mc_model.specs.Step.{showing}
 use Rattle.mc_model.specs.Step.{notes_of, opening_of}
-use Rattle.mc_flush.specs.Seeing.{StandsFor, is_shown, noted_of, placed_column, seen}
+use Rattle.mc_flush.specs.Lists.{ListValue}
+use Rattle.mc_flush.specs.Seeing.{MarkValue, StandsFor, is_shown, noted_of, placed_column}
+use Rattle.mc_flush.specs.Seeing.{present_parts, seen}
 use Rattle.mc_flush.specs.Seeing as seeing
 use Rattle.mc_flush.specs.Sending.{play_bytes}
 use Rattle.mc_server.specs.Served.{ConnectionValue}
+use Rattle.mc_server.specs.Stands.{said_in}
 use Rattle.mc_server.specs.Ticking.{IsScene, IsShown, Parts, due_packets, noted_now}
 use Rattle.mc_server.specs.Ticking.{opening_packets, pack_now, shown_now, spot_now}
 use Rattle.mc_server.specs.Ticking.{ticked_session, with_shown}
@@ -41,15 +46,32 @@ module _ (parts : Parts) (p : Player) (view : ViewSet) (pack : PackValue)
     (middle : ◌≡◌ {A = Place} (view.cx, view.cz) (column_of_spot (spot_now parts p)))
     (d : view.d ≡ view_size parts.settings.cap p.view_byte)
     (carried : pack ≡ pack_now parts p) where
-  -- what is seen of the view
-  pub seen_is : seen parts.land parts.list parts.folk.entities pack view ≡ shown_now parts p
-  seen_is = λ i. record {
+  -- what is seen of the view, with these lines
+  pub seen_is : (chat lines : List (List ℕ)) → lines ≡ drop p.since parts.lines →
+      seen parts.land parts.list parts.folk.entities pack view parts.age (chat ++ lines)
+      ≡ shown_now parts chat p
+  seen_is chat lines new = λ i. record {
+    beat = Some (pos (beat_at parts.age));
+    age = Some (pos (shown_age parts.age));
     pairs = parts.list.present;
     columns = from_entries (map (placed_column parts.land) (view_of (middle i) (d i)));
     entities = from_entries (filter_map seen_of (filter (λ (e : Entity).
         is_in_view (middle i) (d i) (column_of_spot e.spot)) parts.folk.entities));
     pack = map slot_of (carried i).slots;
+    chat = chat ++ new i;
   }
+
+  -- a mark that stands for what is seen stands for it
+  pub stands_now : (mark : MarkValue) (list : ListValue) (chat lines : List (List ℕ)) →
+      list ≡ parts.list → lines ≡ drop p.since parts.lines →
+      StandsFor mark (present_parts parts.land list)
+      (seen parts.land list parts.folk.entities pack view parts.age (chat ++ lines)) →
+      StandsFor mark (present_parts parts.land parts.list) (shown_now parts chat p)
+  stands_now mark list chat lines listed new stands =
+      subst (λ (q : Sight). StandsFor mark (present_parts parts.land parts.list) q)
+      (seen_is chat lines new)
+      (subst (λ (l : ListValue). StandsFor mark (present_parts parts.land l)
+      (seen parts.land l parts.folk.entities pack view parts.age (chat ++ lines))) listed stands)
 
   -- what was noted
   pub noted_is : (spot : Spot) → spot ≡ spot_now parts p →
@@ -80,10 +102,12 @@ pack_same : (w : World) (parts : Parts) (p : Player) → IsScene w parts →
 pack_same w parts p is = λ i. things.pack_of p.name (is.things i).packs
 
 -- what it is to be shown
-pub scene_shown : (w : World) (parts : Parts) (p : Player) → IsScene w parts →
-    shown_now parts p ≡ project w p
+pub scene_shown : (w : World) (parts : Parts) (chat : List (List ℕ)) (p : Player) →
+    IsScene w parts → shown_now parts chat p ≡ project w (record p { chat = chat })
 unfolding project
-scene_shown w parts p is = λ i. record {
+scene_shown w parts chat p is = λ i. record {
+  beat = Some (pos (beat_at (is.age i)));
+  age = Some (pos (shown_age (is.age i)));
   pairs = is.listed i;
   columns = from_entries (map (λ (place : Place). (
     place,
@@ -96,6 +120,7 @@ scene_shown w parts p is = λ i. record {
       is_in_view (column_of_spot (spot_same w parts p is i)) (view_size (is.cap i) p.view_byte)
       (column_of_spot e.spot)) (is.things i).entities));
   pack = map slot_of (pack_same w parts p is i).slots;
+  chat = chat ++ drop p.since (is.lines i);
 }
 
 -- what was noted for it
@@ -109,7 +134,7 @@ noted_due w parts p is = λ i.
 
 -- a player that was shown this
 abbrev pub player_shown : Option Sight → Player → Player
-player_shown shown p = record p { shown = shown }
+player_shown shown p = record p { chat = said_in shown; shown = shown }
 
 -- what a client is sent that was shown this
 told_due : (w : World) (parts : Parts) (opened : Bool) (shown : Option Sight) (p : Player) →
@@ -119,25 +144,25 @@ unfolding due project
 told_due w parts opened shown p is same =
     let before : Sight = unwrap_or shown nothing_seen in
     sym (append_assoc (opening_packets parts opened p)
-    (delta before (shown_now parts p)) (noted_now parts p))
+    (delta before (shown_now parts before.chat p)) (noted_now parts p))
     ∙ (λ i. ((if same i then [] else
     opening_of (is.terrain i) (is.most i) (pos p.eid) (spot_same w parts p is i))
-    ++ delta before (scene_shown w parts p is i)) ++ noted_due w parts p is i)
+    ++ delta before (scene_shown w parts before.chat (player_shown shown p) is i)) ++ noted_due w parts p is i)
 
 -- ---- handing out
 
 -- what was shown has no part in it
-pub hand_shown : (s : Session) (p : Player) (one shown : Option Sight) (ps : List Sent) →
-    with_shown shown (hand (record s { player = Some (record p { shown = one }) }) ps).session
-    ≡ (hand (record s { player = Some (record p { shown = shown }) }) ps).session
+pub hand_shown : (s : Session) (p : Player) (shown : Option Sight) (ps : List Sent) →
+    with_shown shown (hand (record s { player = Some p }) ps).session
+    ≡ (hand (record s { player = Some (player_shown shown p) }) ps).session
 unfolding hand
-hand_shown s p one shown ps = elim (nat_le (length s.owed + length (bytes_of ps)) outbox_max)
+hand_shown s p shown ps = elim (nat_le (length s.owed + length (bytes_of ps)) outbox_max)
     as (λ b.
     ◌≡◌ {A = Session}
     (with_shown shown (cond {A = Handing} b
     (record {
       session = record s {
-        player = Some (record p { shown = one });
+        player = Some p;
         owed = s.owed ++
             bytes_of ps;
       };
@@ -150,7 +175,7 @@ hand_shown s p one shown ps = elim (nat_le (length s.owed + length (bytes_of ps)
     })).session)
     (cond {A = Handing} b (record {
       session =
-          record s { player = Some (record p { shown = shown }); owed = s.owed ++ bytes_of ps };
+          record s { player = Some (player_shown shown p); owed = s.owed ++ bytes_of ps };
       handed = ps;
     })
     (record {
@@ -172,18 +197,18 @@ pub client_ticked : (w : World) (parts : Parts) (c : ConnectionValue) (p : Playe
     (shown : Option Sight) (t : Session) → IsScene w parts → c.session.player ≡ Some p →
     is_shown c.mark ≡ is_some shown →
     t ≡ (hand (record c.session {
-      player = Some (record p { notes = no_notes; shown = None });
+      player = Some (record p { chat = []; since = 0; notes = no_notes; shown = None });
     }) (map of_play
     (due_packets parts (is_shown c.mark) (unwrap_or shown nothing_seen) p))).session →
     t ≡ ticked_session w shown c.session
 client_ticked w parts c p shown t is plays opened handed =
     let q : Player = player_shown shown p in
-    let r : Player = record p { notes = no_notes } in
+    let r : Player = record p { since = 0; notes = no_notes } in
     handed
     ∙ ap (λ (ps : List Down). (hand (record c.session { player = Some (player_shown None r) })
     (map of_play ps)).session)
     (told_due w parts (is_shown c.mark) shown p is opened)
-    ∙ sym (hand_shown c.session r (Some (project w q)) None (map of_play (due w q)))
+    ∙ sym (hand_shown c.session (showing w q) None (map of_play (due w q)))
     ∙ ap (ticked_with w shown c.session) (sym plays)
 
 -- and one that is not in play
@@ -197,11 +222,12 @@ pub client_shown : (w : World) (parts : Parts) (before now_ : seeing.Parts)
     (c t : ConnectionValue) → IsScene w parts →
     ((p : Player) (q : Sight) → c.session.player ≡ Some p → StandsFor c.mark before q →
     t.session ≡ (hand (record c.session {
-      player = Some (record p { notes = no_notes; shown = None });
+      player = Some (record p { chat = []; since = 0; notes = no_notes; shown = None });
     }) (map of_play (due_packets parts (is_shown c.mark) q p))).session) →
     t.splitter ≡ c.splitter → (c.session.player ≡ None → t ≡ c) →
-    ((p : Player) → c.session.player ≡ Some p → is_closed t.session.stage ≡ false →
-    (is_shown t.mark ≡ true) × StandsFor t.mark now_ (shown_now parts p)) →
+    ((p : Player) (chat : List (List ℕ)) → c.session.player ≡ Some p →
+    is_closed t.session.stage ≡ false →
+    (is_shown t.mark ≡ true) × StandsFor t.mark now_ (shown_now parts chat p)) →
     IsShown w before now_ c t
 client_shown w parts before now_ c t is handed splitter waits shows = record {
   session = λ shown opened stands. elim (c.session.player)
@@ -214,8 +240,8 @@ client_shown w parts before now_ c t is handed splitter waits shows = record {
   splitter = splitter;
   stays = λ none. ap (λ (d : ConnectionValue). d.session) (waits none);
   waits = λ none. ap (λ (d : ConnectionValue). d.mark) (waits none);
-  shows = λ p here open_. (let seen = shows p here open_ in (
+  shows = λ p chat here open_. (let seen = shows p chat here open_ in (
     seen.0,
-    subst (λ (q : Sight). StandsFor t.mark now_ q) (scene_shown w parts p is) seen.1,
+    subst (λ (q : Sight). StandsFor t.mark now_ q) (scene_shown w parts chat p is) seen.1,
   ));
 }

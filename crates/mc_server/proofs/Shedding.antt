@@ -73,3 +73,12 @@ module _ (new : ServerValue) (land : LandValue) (views : List View)
         }) in
         shed_ready place ∙ ap (λ b. b && is_needed new place) kept.ready ∙ needed;
   }
+
+-- a server that kept as many ready before
+pub sheds_after : (old mid new : ServerValue) → mid.ready ≡ old.ready → Sheds mid new →
+    Sheds old new
+sheds_after old mid new same sheds = record {
+  only = sheds.only;
+  keeps = λ place near was needed. sheds.keeps place near
+      (ap (λ ready. set.contains ready place) same ∙ was) needed;
+}

@@ -49,6 +49,7 @@ stands_world v w st = λ i. record {
   age = st.age i;
   terrain = st.terrain i;
   things = st.things i;
+  lines = st.lines i;
   most = st.most i;
   cap = st.cap i;
   last = st.last i;
@@ -63,6 +64,7 @@ world_stands v w works kept side orderly balanced = record {
   age = ap (λ (u : World). u.age) kept;
   terrain = ap (λ (u : World). u.terrain) kept;
   things = ap (λ (u : World). u.things) kept;
+  lines = ap (λ (u : World). u.lines) kept;
   most = ap (λ (u : World). u.most) kept;
   cap = ap (λ (u : World). u.cap) kept;
   last = ap (λ (u : World). u.last) kept;
@@ -81,6 +83,7 @@ stands_with v w cs ss st side orderly balanced = record {
   age = st.age;
   terrain = st.terrain;
   things = st.things;
+  lines = st.lines;
   most = st.most;
   cap = st.cap;
   last = st.last;
@@ -235,6 +238,7 @@ module _ (cause : Cause) (v : ServerValue) (w : World) (high k i : ℕ) (c t : C
         age = st.age;
         terrain = st.terrain;
         things = (λ j. left_with (eid_is j) (player_is j) v.things) ∙ departs m;
+        lines = st.lines;
         most = st.most;
         cap = st.cap;
         last = st.last;
@@ -283,6 +287,7 @@ open_same shown c t s owed splitter mark is = record {
   opened = ap is_shown mark ∙ is.opened;
   shows = subst (λ x. StandsFor x shown (unwrap_or (shown_to s.player) nothing_seen)) (sym mark)
       is.shows;
+  said = is.said;
 }
 
 pub took_stands : (v : ServerValue) (w : World) (high k i n : ℕ) (c t : ConnectionValue) →
@@ -365,6 +370,8 @@ joined_world w k b e = ap (λ (t : Bool). if t then record w
 nothing_stands : (shown : Parts) → StandsFor nothing_shown shown nothing_seen
 unfolding StandsFor
 nothing_stands shown = record {
+  beat = refl;
+  age = refl;
   pairs = refl;
   columns = refl;
   entities = λ eid. get-empty int_cmp eid
@@ -381,6 +388,7 @@ new_open shown k s = record {
   part = nothing_part;
   opened = refl;
   shows = nothing_stands shown;
+  said = refl;
 }
 
 joining_open : (shown : Parts) (w : World) (k : ℕ) (s : Session) → is_closed (joining w k).stage ≡
@@ -427,6 +435,7 @@ joined_stands v w k c made new st =
       age = st.age;
       terrain = st.terrain;
       things = st.things;
+      lines = st.lines;
       most = st.most;
       cap = st.cap;
       last = refl;

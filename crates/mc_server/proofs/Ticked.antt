@@ -8,12 +8,11 @@ use Rattle.mc_land.specs.Land.{LandValue}
 use Rattle.mc_model.specs.Packets.{of_play, bytes_of}
 use Rattle.mc_model.specs.Sight.{Sight, nothing_seen}
 use Rattle.mc_model.specs.World.{World, Session, Player, is_play, is_closed, project}
-use Rattle.mc_model.specs.Step.{due, flush, flush_to, showing, at_tick, step}
-use Rattle.mc_model.specs.Step.{ticked}
+use Rattle.mc_model.specs.Step.{due, flush, flush_to, flushed, showing}
 use Rattle.mc_model.specs.Things.{Packs, Things}
-use Rattle.mc_model.proofs.Handing.{HasPlayer, closed_is, flush_cases, not_both}
-use Rattle.mc_model.proofs.RunEvents.{orderly_step}
-use Rattle.mc_model.proofs.BalanceRun.{balanced_step}
+use Rattle.mc_model.specs.Orderly.{Orderly}
+use Rattle.mc_model.specs.Balance.{Balanced}
+use Rattle.mc_model.proofs.Handing.{closed_is, flush_cases, has_flushed, not_both}
 use Rattle.mc_flush.specs.Seeing.{MarkValue, Parts, StandsFor, columns_in, is_shown}
 use Rattle.mc_flush.specs.Seeing.{pairs_in}
 use Rattle.mc_view.specs.declared.view_set.ViewSet.{ViewSet}
@@ -22,8 +21,8 @@ use Rattle.mc_server.specs.Bare.{bare, bare_player}
 use Rattle.mc_server.specs.Served.{ConnectionValue, ServerValue, playing_of, sessions_of}
 use Rattle.mc_server.specs.Served.{shown_parts, things_of}
 use Rattle.mc_server.specs.SideBySide.{SideBySide}
-use Rattle.mc_server.specs.Stands.{IsConnection, IsOpen, Stands, shown_to}
-use Rattle.mc_server.specs.Ticking.{IsScene, IsShown, left_all, names_of}
+use Rattle.mc_server.specs.Stands.{IsConnection, IsOpen, Stands, said_in, said_to, shown_to}
+use Rattle.mc_server.specs.Ticking.{IsScene, IsShown, left_all, names_of, with_shown}
 use Rattle.mc_server.specs.Ticking as scenes
 use Rattle.mc_server.proofs.Bare.{hand_bare}
 use Rattle.mc_server.proofs.LeftFacts.{all_left, all_removed, things_after}
@@ -44,21 +43,24 @@ names_bare (s ∷ ss) = elim (s.player) as (λ o. map {B = ℕ × List ℕ}
       | None ↦ names_bare ss
     ]
 
--- what a session keeps beside its player is no part of what that is shown
-project_bare : (w : World) (p : Player) → project w (bare_player p) ≡ project w p
+-- what was shown before is no part of what is shown
+project_bare : (w : World) (p : Player) →
+    project w (record (bare_player p) { chat = p.chat }) ≡ project w p
 unfolding project
 project_bare w p = refl
 
 -- ---- one session
 
--- of a session with this player
-player_ticked : (w : World) (s : Session) (o : Option Player) →
+-- of a session with this player, to which that was said that it was shown
+player_ticked : (w : World) (s : Session) (o : Option Player) → said_to o ≡ said_in (shown_to o) →
     ticked_with w (shown_to o) (bare (record s { player = o })) (option_map bare_player o)
     ≡ bare (flush w (record s { player = o })).session
-player_ticked w s None = refl
-player_ticked w s (Some p) =
-    hand_shown (bare (record s { player = Some p })) (showing w p) (Some (project w p)) None
-    (map of_play (due w p))
+player_ticked w s None said = refl
+player_ticked w s (Some p) said =
+    (λ i. with_shown None (flush w (record (bare (record s { player = Some p })) {
+      player = Some (record p { chat = sym said i });
+    })).session)
+    ∙ hand_shown (bare (record s { player = Some p })) (showing w p) None (map of_play (due w p))
     ∙ sym (hand_bare (record s { player = Some (showing w p) }) (map of_play (due w p)))
 
 -- of a session of a connection that was shown the world
@@ -74,7 +76,8 @@ session_ticked w last now_ c d s is shown = elim (s.player)
             | true ↦ λ over. absurd (not_both (is_some s.player) (ap is_some there)
                 (sym is.plays ∙ ap is_play (closed_is s.stage over)))
             | false ↦ λ open_. (let o = is.is_open open_ in
-                shown.session (shown_to s.player) o.opened o.shows ∙ player_ticked w s s.player)
+                shown.session (shown_to s.player) o.opened o.shows
+                ∙ player_ticked w s s.player o.said)
           ] refl
     ] refl
 
@@ -97,6 +100,8 @@ unseen_stands : (mark : MarkValue) (last now_ : Parts) (p : Sight) → is_shown 
     StandsFor mark last p → StandsFor mark now_ p
 unfolding StandsFor
 unseen_stands mark last now_ p none stands = record {
+  beat = stands.beat;
+  age = stands.age;
   pairs = stands.pairs ∙ no_pairs mark.view last now_ none;
   columns = stands.columns ∙ no_columns mark.view last now_ none;
   entities = stands.entities;
@@ -115,7 +120,14 @@ open_stays last now_ c d s none splitter mark is = record {
   shows = subst (λ x. StandsFor x now_ (unwrap_or (shown_to s.player) nothing_seen)) (sym mark)
       (unseen_stands c.mark last now_ (unwrap_or (shown_to s.player) nothing_seen)
       (is.opened ∙ ap (λ (o : Option Player). is_some (shown_to o)) none) is.shows);
+  said = is.said;
 }
+
+-- what is said to it up to then is in what it is shown
+said_shown : (w : World) (p : Player) →
+    said_to (Some (showing w p)) ≡ said_in (shown_to (Some (showing w p)))
+unfolding project
+said_shown w p = refl
 
 -- what a tick makes of a client in play, with some bytes owed
 open_shown : (w : World) (last now_ : Parts) (c d : ConnectionValue) (s : Session) (p : Player)
@@ -130,12 +142,8 @@ open_shown w last now_ c d s p owed splitter opened shows is = record {
   part = is.part;
   opened = opened;
   shows = shows;
+  said = said_shown w p;
 }
-
--- it has a player as before, or is closed
-flush_plays : (w : World) (s : Session) → HasPlayer s → HasPlayer (flush w s).session
-flush_plays w s has = flush_cases w s (λ h. HasPlayer h.session) (λ none. has)
-    (λ p there fits. has ∙ ap is_some there) (λ p there much. refl)
 
 -- where its session is bare
 ticked_bare : (w : World) (last now_ : Parts) (c d : ConnectionValue) (s : Session) →
@@ -152,14 +160,14 @@ ticked_bare w last now_ c d s is shown =
           (λ none same open_. open_stays last now_ c d s none shown.splitter
           (shown.waits (ap (option_map bare_player) none)) (is.is_open open_))
           (λ p there fits same open_.
-          let seen = shown.shows (bare_player p) (ap (option_map bare_player) there)
+          let seen = shown.shows (bare_player p) p.chat (ap (option_map bare_player) there)
           (ap (λ (t : Session). is_closed t.stage) (session ∙ ap bare (sym same)) ∙ open_) in
           open_shown w last now_ c d s p (s.owed ++ bytes_of (map of_play (due w p)))
           shown.splitter seen.0
           (subst (λ (q : Sight). StandsFor d.mark now_ q) (project_bare w p) seen.1)
           (is.is_open open_))
           (λ p there much same open_. absurd (not_both true refl open_)) refl open_here;
-      plays = flush_plays w s is.plays;
+      plays = has_flushed w s is.plays;
     }
 
 -- and of any session
@@ -171,14 +179,14 @@ connection_ticked w last now_ c d s is shown =
 
 -- ---- all of it
 
--- the parts of a server are those of the world of the tick
+-- the parts of a server are those of the world that it stands for
 pub server_scene : (v : ServerValue) (w : World) (parts : scenes.Parts) → Stands v w →
     parts.settings.terrain ≡ v.terrain → parts.land.terrain ≡ parts.settings.terrain →
     things_of parts.land parts.folk parts.packs ≡ v.things → parts.settings.players ≡ v.most →
     parts.settings.cap ≡ v.cap →
     parts.list.present ≡ from_entries (names_of (sessions_of v.connections)) →
-    IsScene (at_tick w) parts
-server_scene v w parts st terrain own things most cap listed = record {
+    parts.lines ≡ v.lines → parts.age ≡ v.age → IsScene w parts
+server_scene v w parts st terrain own things most cap listed lines age = record {
   terrain = terrain ∙ st.terrain;
   own = own ∙ terrain ∙ st.terrain;
   things = things ∙ st.things;
@@ -187,6 +195,8 @@ server_scene v w parts st terrain own things most cap listed = record {
   listed = listed ∙ ap (λ (ss : List Session). from_entries (names_of ss))
       (sessions_bare (shown_parts v) v.connections w.sessions st.connections) ∙
       ap (λ (es : List (ℕ × List ℕ)). from_entries es) (names_bare w.sessions);
+  lines = lines ∙ st.lines;
+  age = age ∙ st.age;
 }
 
 -- of the same parts
@@ -203,46 +213,48 @@ side_parts w before_ before now_ now cs ds one other side =
     subst (λ (parts : Parts). SideBySide (IsShown w before parts) cs ds) other
     (subst (λ (parts : Parts). SideBySide (IsShown w parts now_) cs ds) one side)
 
--- a server after a tick, of whose entities those of the players are gone that left
+-- a server after it showed the world, of whose entities those of the players are gone that left
 module _ (v n : ServerValue) (w : World) (st : Stands v w) (land : LandValue) (state : FolkState)
     (packs : Packs)
     (was : things_of land state packs ≡ v.things)
     (left_ : n.things
     ≡ things_of land (all_removed state (left_all v.connections n.connections)) packs)
-    (side : SideBySide (IsShown (at_tick w) (shown_parts v) (shown_parts n))
+    (side : SideBySide (IsShown w (shown_parts v) (shown_parts n))
     v.connections n.connections) where
+  -- what becomes of a session
+  abbrev after : Session → Session
+  after s = (flush w s).session
+
   -- its connections stand for those of the world
-  sides_ticked : SideBySide (IsConnection (shown_parts n)) n.connections
-      (map (λ (s : Session). (flush (at_tick w) s).session) w.sessions)
+  sides_ticked : SideBySide (IsConnection (shown_parts n)) n.connections (map after w.sessions)
   sides_ticked =
-      side_map (IsConnection (shown_parts v)) (IsShown (at_tick w) (shown_parts v) (shown_parts n))
-      (IsConnection (shown_parts n)) (λ (s : Session). (flush (at_tick w) s).session)
-      (λ c d s is shown. connection_ticked (at_tick w) (shown_parts v) (shown_parts n)
-      c d s is shown)
+      side_map (IsConnection (shown_parts v)) (IsShown w (shown_parts v) (shown_parts n))
+      (IsConnection (shown_parts n)) after
+      (λ c d s is shown. connection_ticked w (shown_parts v) (shown_parts n) c d s is shown)
       v.connections n.connections w.sessions st.connections side
 
   -- and what is in it for what is in the world
-  things_ticked : n.things ≡ things_after (at_tick w) w.things w.sessions
+  things_ticked : n.things ≡ things_after after w.things w.sessions
   things_ticked =
       left_
-      ∙ all_left (at_tick w) (shown_parts v) (shown_parts n) land packs v.connections
+      ∙ all_left after (shown_parts v) (shown_parts n) land packs v.connections
       n.connections w.sessions state st.connections sides_ticked
-      ∙ ap (λ (things : Things). things_after (at_tick w) things w.sessions) (was ∙ st.things)
+      ∙ ap (λ (things : Things). things_after after things w.sessions) (was ∙ st.things)
 
-  -- so it stands for the world after the tick
-  pub ticked_stands : n.failed ≡ v.failed → n.age ≡ v.age + 1 → n.terrain ≡ v.terrain →
-      n.most ≡ v.most → n.cap ≡ v.cap → n.last ≡ v.last →
-      Stands n (step w ticked).world
-  unfolding step
-  ticked_stands works age terrain most cap joined = record {
+  -- so it stands for the world after that
+  pub ticked_stands : n.failed ≡ v.failed → n.age ≡ v.age → n.terrain ≡ v.terrain →
+      n.most ≡ v.most → n.cap ≡ v.cap → n.last ≡ v.last → n.lines ≡ [] → Orderly (flushed w) →
+      Balanced (flushed w) → Stands n (flushed w)
+  ticked_stands works age terrain most cap joined lines orderly balanced = record {
     works = works ∙ st.works;
-    age = age ∙ ap (λ (a : ℕ). a + 1) st.age;
+    age = age ∙ st.age;
     terrain = terrain ∙ st.terrain;
     things = things_ticked;
+    lines = lines;
     most = most ∙ st.most;
     cap = cap ∙ st.cap;
     last = joined ∙ st.last;
     connections = sides_ticked;
-    orderly = orderly_step w ticked st.orderly;
-    balanced = balanced_step w ticked st.balanced;
+    orderly = orderly;
+    balanced = balanced;
   }

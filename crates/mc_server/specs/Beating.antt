@@ -17,3 +17,4 @@ pub record IsBeaten (w : World) (old new : ConnectionValue) : Type 0 where
   pub session : (shown : Option Sight) → (unwrap_or shown nothing_seen).beat ≡ old.mark.beat →
       new.session ≡ beaten_session w shown old.session
   pub retains : Retains old new
+  pub stays : old.session.player ≡ None → new.session ≡ old.session

@@ -1,9 +1,9 @@
 -- What a server stands for: a world of the definitions.
 use Rattle.std.specs.Prelude.{◌≡◌, ℕ, false, true, is_some, length, unwrap_or, Option, Some, None}
+use Rattle.std.specs.Prelude.{List, []}
 use Rattle.mc_frame.specs.Cut.{IsPart, kept_count}
 use Rattle.mc_model.specs.Sight.{Sight, nothing_seen}
 use Rattle.mc_model.specs.World.{World, Session, Player, found, is_play, is_closed}
-use Rattle.mc_model.specs.World.{last_shown}
 use Rattle.mc_model.specs.Run.{owed_of}
 use Rattle.mc_model.specs.Orderly.{Orderly}
 use Rattle.mc_model.specs.Balance.{Balanced}
@@ -17,6 +17,14 @@ abbrev pub shown_to : Option Player → Option Sight
 shown_to None = None
 shown_to (Some p) = p.shown
 
+-- what was said to a player up to then, and what was said in what it was shown
+abbrev pub said_to : Option Player → List (List ℕ)
+said_to None = []
+said_to (Some p) = p.chat
+
+abbrev pub said_in : Option Sight → List (List ℕ)
+said_in shown = (unwrap_or shown nothing_seen).chat
+
 -- what the splitter and the mark of an open connection keep of its session
 pub record IsOpen (shown : Parts) (c : ConnectionValue) (s : Session) : Type 0 where
   pub held : c.splitter.held ≡ s.rest
@@ -25,13 +33,12 @@ pub record IsOpen (shown : Parts) (c : ConnectionValue) (s : Session) : Type 0 w
   pub part : IsPart s.rest
   pub opened : is_shown c.mark ≡ is_some (shown_to s.player)
   pub shows : StandsFor c.mark shown (unwrap_or (shown_to s.player) nothing_seen)
+  pub said : said_to s.player ≡ said_in (shown_to s.player)
 
 -- a connection stands for a session, where these parts were shown at the last tick
 pub record IsConnection (shown : Parts) (c : ConnectionValue) (s : Session) : Type 0 where
   pub session : c.session ≡ bare s
   pub is_open : is_closed s.stage ≡ false → IsOpen shown c s
-  -- what was said to its player is kept in what it was shown
-  pub said : (p : Player) → s.player ≡ Some p → p.chat ≡ (last_shown p).chat
   -- it has a player exactly while it is in play
   pub plays : is_play s.stage ≡ is_some s.player
 

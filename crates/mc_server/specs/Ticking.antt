@@ -28,6 +28,7 @@ use Rattle.mc_flush.specs.Seeing.{MarkValue, StandsFor, IsReady, is_shown, place
 use Rattle.mc_flush.specs.Seeing as seeing
 use Rattle.mc_server.specs.declared.settings.Settings.{Settings}
 use Rattle.mc_server.specs.Served.{ConnectionValue, playing_of, things_of}
+use Rattle.mc_server.specs.Stands.{said_in}
 
 -- ---- one client, of the parts that it is shown
 
@@ -129,14 +130,10 @@ pub record IsScene (w : World) (parts : Parts) : Type 0 where
   pub listed : parts.list.present
       ≡ from_entries (map (λ (p : Player). (p.uuid, p.name)) (players w))
 
--- what was said in what was shown
-abbrev pub chat_in : Option Sight → List (List ℕ)
-chat_in shown = (unwrap_or shown nothing_seen).chat
-
 -- a session whose player, if any, was shown this, and with it what was said up to then
 abbrev pub with_shown : Option Sight → Session → Session
 with_shown shown s = record s {
-  player = option_map (λ (p : Player). record p { chat = chat_in shown; shown = shown }) s.player;
+  player = option_map (λ (p : Player). record p { chat = said_in shown; shown = shown }) s.player;
 }
 
 -- what a tick makes of a session whose player was shown this; what it is shown is kept in its mark

@@ -99,7 +99,7 @@ impl Server {
     {
         match packet {
             PlayUp::KeepAlive(_) => {
-                self.connections[doer.place].answer();
+                self.answer(doer);
                 Ok(())
             }
             PlayUp::Chat(text) => self.say(doer, text),

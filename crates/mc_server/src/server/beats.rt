@@ -1,13 +1,17 @@
-//! The beat of a tick, which comes before all else of it.
+//! Beats, and the answers to them: the beat of a tick comes before all else of it.
 
-ghost use Rattle.std.specs.Prelude.{◌≡◌, ◌≤◌, ◌<◌, ◌+◌, ◌++◌, true, IfOk, OnOk, is_some, length, map};
+ghost use Rattle.std.specs.Prelude.{◌≡◌, ◌≤◌, ◌<◌, ◌+◌, ◌++◌, true, Some, IfOk, OnOk, is_some, length};
+ghost use Rattle.std.specs.Prelude.{map};
 ghost use lib.IntN.{pos};
+ghost use Rattle.mc_model.specs.Beats.{answer};
 ghost use Rattle.mc_model.specs.Ticks.{beat_at};
 ghost use Rattle.mc_model.specs.World as spec;
-ghost use Rattle.mc_model.specs.World.{World};
+ghost use Rattle.mc_model.specs.World.{Player, World};
 ghost use Rattle.mc_model.specs.Step.{at_tick};
+ghost use Rattle.mc_server.specs.Acting.{IsDoerAt};
 ghost use Rattle.mc_server.specs.Beating.{IsBeaten};
-ghost use Rattle.mc_server.specs.Served.{playing_of, sessions_of};
+ghost use Rattle.mc_server.specs.Frames.{Becomes};
+ghost use Rattle.mc_server.specs.Served.{kept_world, nth_session, playing_of, sessions_of};
 ghost use Rattle.mc_server.specs.SideBySide.{SideBySide};
 ghost use Rattle.mc_server.specs.Stands.{Stands, age_of};
 ghost use Rattle.mc_server.specs.Ticking.{left_all, left_one};
@@ -15,6 +19,7 @@ ghost use Rattle.mc_server.specs.Ticking.{left_all, left_one};
 use crate::connection::Connection;
 use crate::connections::eid_of;
 use crate::server::Server;
+use crate::server::act::Doer;
 use crate::server::tick::remove_all;
 use mc_model::beat_at;
 use mc_nbt::NoMemory;
@@ -67,6 +72,16 @@ fn beat_all(
 }
 
 impl Server {
+    /// The client of a player answered: it owes no answer to a beat.
+    pub(super) fn answer(&mut self, doer: &Doer)
+        requires { IsDoerAt doer.now self.old.connections }
+        ensures { (p : Player) → (nth_session doer.now.place self.old.connections).player ≡ Some p →
+            Becomes self.old self.new (answer (kept_world self.old)
+            (nth_session doer.now.place self.old.connections) p) }
+    {
+        self.connections[doer.place].answer();
+    }
+
     /// A tick older, with its beat: those whose clients were silent for too long leave.
     pub(super) fn beat(&mut self) -> Result<(), NoMemory>
         requires young { age_of self.old < 1000000000 }

@@ -2,6 +2,8 @@ ghost use Rattle.std.specs.Prelude.{◌≡◌, ◌+◌, ◌<◌, ◌≤◌, OnOk
 ghost use Rattle.std.specs.List.{fold};
 ghost use Rattle.mc_entities.specs.Folk.{FolkState, removed};
 ghost use lib.IntN.{ℤ};
+ghost use Rattle.mc_model.specs.Balance.{Balanced};
+ghost use Rattle.mc_model.specs.Orderly.{Orderly};
 ghost use Rattle.mc_model.specs.World.{World};
 ghost use Rattle.mc_model.specs.Step.{flushed, step, ticked};
 ghost use Rattle.mc_server.specs.ReadyColumns.{Sheds};
@@ -41,8 +43,8 @@ impl Server {
     /// much leave, and columns that none of the others sees are given up.
     fn show(&mut self) -> Result<(), NoMemory>
         requires young { age_of self.old ≤ 1000000000 }
-        ensures follows { (w : World) → Stands self.old w
-            → OnOk result (Stands self.new (flushed w)) }
+        ensures follows { (w : World) → Stands self.old w → Orderly (flushed w) →
+            Balanced (flushed w) → OnOk result (Stands self.new (flushed w)) }
         ensures age { OnOk result (age_of self.new ≡ age_of self.old) }
         ensures sheds { OnOk result (Sheds self.old self.new) }
     {

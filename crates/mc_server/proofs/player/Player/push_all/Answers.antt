@@ -15,7 +15,7 @@ use Rattle.mc_server.specs.Served.{player_of}
 use Rattle.mc_server.specs.Scenes.{parts_of}
 use Rattle.mc_server.specs.Ticking.{new_from, noted_now, opening_packets, shown_now, spot_now}
 use Rattle.mc_server.proofs.ReadyFacts.{columns_are}
-use Rattle.mc_server.proofs.SceneFacts.{noted_is, seen_is, sent_all}
+use Rattle.mc_server.proofs.SceneFacts.{noted_is, seen_is, sent_all, stands_now}
 use Rattle.mc_server.proofs.player.Player.push_all.Goals as goal
 
 pub push_changes-requires-clause-ready : goal.push_changes-requires-clause-ready
@@ -41,20 +41,34 @@ returns-clause-sent c = λ seen_before stands.
     c.view.ensures.middle ∙ ap column_of_spot spot in
     let stood = subst (λ (list : ListValue). StandsFor mark (settled_parts s.land.now list)
     seen_before) (sym lists) stands in
+    let lines = c.new_lines.result.now in
     let shown : seen s.land.now c.list.result.now s.folk.now.state.entities
-    c.pack_of-pack.result c.view.result ≡ shown_now parts p =
+    c.pack_of-pack.result c.view.result s.age (seen_before.chat ++ lines)
+    ≡ shown_now parts seen_before.chat p =
     ap (λ (list : ListValue). seen s.land.now list s.folk.now.state.entities
-    c.pack_of-pack.result c.view.result) lists
+    c.pack_of-pack.result c.view.result s.age (seen_before.chat ++ lines)) lists
     ∙ seen_is parts p c.view.result c.pack_of-pack.result middle c.view.ensures.d
-    c.pack_of-pack.ensures in
+    c.pack_of-pack.ensures seen_before.chat lines c.new_lines.ensures in
     let noted = noted_is parts p c.view.result c.pack_of-pack.result middle c.view.ensures.d
     c.pack_of-pack.ensures c.spot_of-spot.result spot in
     sent_all (joined c.args.out.now.items) (joined c.push_opening.new.out.items)
     (joined c.push_changes.new.out.items) (opening_packets parts (is_shown mark) p)
-    (delta seen_before (shown_now parts p) ++ noted_now parts p)
+    (delta seen_before (shown_now parts seen_before.chat p) ++ noted_now parts p)
     (c.in_ok-push_opening.ensures ∙ (λ i. joined c.args.out.now.items ++ play_bytes
     (if is_shown mark then [] else opening_of parts.settings.terrain parts.settings.players
     (pos p.eid) (spot i))))
     (c.in_ok-push_changes.ensures.sent seen_before stood
     ∙ (λ i. joined c.push_opening.new.out.items
     ++ play_bytes (delta seen_before (shown i) ++ noted i)))
+
+pub returns-clause-shows : goal.returns-clause-shows
+returns-clause-shows c = λ chat.
+    let parts = parts_of c.args.scene.now in
+    let p = player_of c.args.self.now in
+    let middle : ◌≡◌ {A = Place} (c.view.result.cx, c.view.result.cz)
+    (column_of_spot (spot_now parts p)) =
+    c.view.ensures.middle ∙ ap column_of_spot c.spot_of-spot.ensures.is in
+    stands_now parts p c.view.result c.pack_of-pack.result middle c.view.ensures.d
+    c.pack_of-pack.ensures c.push_changes.new.mark c.list.result.now chat c.new_lines.result.now
+    c.list.ensures.is c.new_lines.ensures
+    (c.in_ok-push_changes.ensures.stands (chat ++ c.new_lines.result.now))

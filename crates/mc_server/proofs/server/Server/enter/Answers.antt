@@ -1,5 +1,5 @@
 -- A player enters, whose entity stands already.
-use Rattle.std.proofs.Common.{◌≡◌, refl, sym, subst, ap, ◌∙◌}
+use Rattle.std.proofs.Common.{◌≡◌, arith, length, refl, sym, subst, ap, ◌∙◌}
 use Rattle.std.specs.Prelude.{Some}
 use Rattle.mc_model.specs.declared.stage.Stage.TheVariants as stages
 use Rattle.mc_model.specs.Names.{offline_uuid}
@@ -46,12 +46,15 @@ returns c =
     (sym (nth_is mid c.args.i high x x c.self.invariant.rise lt
     c.index_mut.ensures.value refl)) ∙ asked.asked in
     let made = c.in_ok-enter.ensures.ok in
+    let many : c.len.result ≡ length c.self.inside.lines.items =
+    omega (arith, c.len.ensures, c.self.inside.lines.ok.0) in
     rw c.let_go.ensures (enters_from v mid c.args.i high x c.enter.new.self c.args.name.now
     c.in_ok-eid.eid e c.self.invariant.rise c.requires.asked.within c.index_mut.ensures.value
     c.enter.ensures.same c.in_ok-eid.ensures.eid
     (ap (λ (d : ConnectionValue). d.session) made
     ∙ ap (λ (p : Player). (hand (record x.session { stage = stages.Play; player = Some p })
     (accepted (offline_uuid c.args.name.now) c.args.name.now)).session)
-    (c.in_ok-player.ensures.is ∙ ap (λ n. new_player n c.args.name.now) c.in_ok-eid.ensures.eid))
+    (c.in_ok-player.ensures.is ∙ (λ j. new_player (c.in_ok-eid.ensures.eid j) c.args.name.now
+    ((many ∙ ap (λ (u : ServerValue). length u.lines) e) j))))
     (retains_with x c.enter.new.self _ made (hand_id _ _)
     (λ closed. absurd (not_both (is_closed x.session.stage) closed (ap is_closed at)))))

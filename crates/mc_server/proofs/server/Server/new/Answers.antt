@@ -9,7 +9,7 @@ use Rattle.mc_server.proofs.server.Server.new.Goals as goal
 
 pub invariant_of-result : goal.invariant_of-result
 invariant_of-result c =
-    rw (c.new.ensures, c.new-2.ensures, c.new-4.ensures.items, c.new-5.ensures.items) (record {
+    rw (c.new.ensures, c.new-2.ensures, c.new-5.ensures.items, c.new-6.ensures.items) (record {
       own = refl;
       settings = c.requires;
       in_range = tt;
@@ -24,11 +24,13 @@ invariant_of-result c =
 
 pub returns : goal.returns
 returns c =
-    rw (c.new.ensures, c.new-2.ensures, c.new-3.ensures, c.new-5.ensures.items) (record {
+    rw (c.new.ensures, c.new-2.ensures, c.new-3.ensures, c.new-4.ensures.items,
+    c.new-6.ensures.items) (record {
       works = refl;
       age = refl;
       terrain = refl;
       things = refl;
+      lines = refl;
       most = refl;
       cap = refl;
       last = refl;

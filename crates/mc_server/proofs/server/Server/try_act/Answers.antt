@@ -112,5 +112,5 @@ returns-in_default c = λ p plays.
     let s : Session = nth_session c.args.doer.now.place v.connections in
     let n = c.in_default in
     let P : Option World → Type 0 = λ o. Comes (Ok tt) v v o in
-    subst P (act_other w s p c.args.packet.now n.not-Position n.not-Look n.not-PositionLook
-    n.not-Digging n.not-Placement n.not-Held n.not-Creative n.not-Settings) (becomes_nothing v)
+    subst P (act_other w s p c.args.packet.now n.not-KeepAlive n.not-Chat n.not-Position
+    n.not-Look n.not-PositionLook n.not-Digging n.not-Placement n.not-Held n.not-Creative n.not-Settings) (becomes_nothing v)
