@@ -81,7 +81,8 @@ login_balanced w s name (Some why) owns b =
     close_balanced w s (causes.Refused why) (refused why) owns b
 login_balanced w s name None owns b =
     let things : Things = with_new_player w.terrain name w.things in
-    let is : Owns things (entered w s name) = player_owns w.terrain name w.things b.tidy in
+    let is : Owns things (entered w s name) =
+    player_owns w.terrain name (length w.lines) w.things b.tidy in
     turn_balanced (record w { things = things }) (entered w s name)
     (hand (entered w s name) (accepted (offline_uuid name) name)) is
     (hand_owns things (entered w s name) (accepted (offline_uuid name) name) is)
