@@ -28,7 +28,7 @@ use Rattle.mc_model.specs.Run.{history, handed, to}
 use Rattle.mc_model.specs.Headline.{HasPlayerInPlay, ShowsWorld}
 use Rattle.mc_model.specs.Orderly.{Orderly}
 use Rattle.mc_model.proofs.Opening.{due_leads}
-use Rattle.mc_model.proofs.Projections.{project_follows, nothing_follows}
+use Rattle.mc_model.proofs.Projections.{projected_chat, project_follows, nothing_follows}
 use Rattle.mc_model.proofs.Sessions.{some_none, one_some}
 use Rattle.mc_model.proofs.Handing.{shown_said, shown_in, shown_from, Done, stayed, answered}
 use Rattle.mc_model.proofs.Handing.{greeted, entered, shut_for, HasPlayer, has_done, not_both}
@@ -72,11 +72,6 @@ abbrev pub IsDrawn : Terrain → Option Sight → Type 0
 IsDrawn land None = Unit {0}
 IsDrawn land (Some seen) = Drawn land seen
 
--- what is shown of what was said
-shown_chat : (w : World) (p : Player) → (project w p).chat ≡ heard_by w p
-unfolding project
-shown_chat w p = refl
-
 drawn_follows : (land : Terrain) (w : World) (p : Player) (shown : Option Sight) →
     w.terrain ≡ land → ThingsFit w.things → IsDrawn land shown →
     p.chat ≡ (unwrap_or shown nothing_seen).chat →
@@ -84,7 +79,7 @@ drawn_follows : (land : Terrain) (w : World) (p : Player) (shown : Option Sight)
 drawn_follows land w p None terrain things d said = nothing_follows w p things
 drawn_follows land w p (Some seen) terrain things d said =
     let before : p.chat ≡ heard_by d.world d.player =
-    said ∙ ap (λ (q : Sight). q.chat) d.is ∙ shown_chat d.world d.player in
+    said ∙ ap (λ (q : Sight). q.chat) d.is ∙ projected_chat d.world d.player in
     subst (λ (q : Sight). Follows q (project w p)) (sym d.is)
     (project_follows d.world w d.player p (d.terrain ∙ sym terrain) d.things things
     (drop p.since w.lines) (ap (λ (chat : List (List ℕ)). chat ++ drop p.since w.lines) before))
@@ -192,7 +187,7 @@ tick_shown land w s ps terrain things h =
           (one_some (then_ p) q _ refl now) (sees p there);
       chat = λ q now. subst (λ (v : Player). v.chat ≡ (last_shown v).chat)
           (one_some (then_ p) q _ refl now)
-          (sym (shown_chat (at_tick w) (awaiting (aged w) p)));
+          (sym (projected_chat (at_tick w) (awaiting (aged w) p)));
       drawn = λ q now. subst (λ (v : Player). IsDrawn land v.shown)
           (one_some (then_ p) q _ refl now) (record {
             world = at_tick w;
