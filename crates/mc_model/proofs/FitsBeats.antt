@@ -1,5 +1,5 @@
 -- The packets of the beat and of the age fit.
-use Rattle.std.proofs.Common.{ℕ, ◌*◌, ◌≤◌, lit<, arith}
+use Rattle.std.proofs.Common.{ℕ, ◌≤◌, lit<, arith}
 use Rattle.std.specs.Prelude.{Option, Some, None}
 use Rattle.std.specs.Int.{Width, w32, w64, cast_unsigned}
 use Rattle.std.proofs.Math.Facts.{Fits-of_z}

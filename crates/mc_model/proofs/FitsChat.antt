@@ -1,7 +1,7 @@
 -- A line of chat fits its packet: its JSON is UTF-8, and of six bytes at most for each of the text.
 use Rattle.std.proofs.Common.{◌≡◌, ℕ, zero, suc, ◌+◌, ◌*◌, ◌<◌, ◌≤◌, Bool, true, false, cond}
 use Rattle.std.proofs.Common.{List, [], ◌∷◌, ◌++◌, length, inl, inr, refl, sym, ap, ap₂, ◌∙◌, subst}
-use Rattle.std.proofs.Common.{lit<, arith, append_assoc}
+use Rattle.std.proofs.Common.{lit<, arith}
 use Rattle.std.specs.Prelude.{◌/◌, ◌%◌, ◌==◌, ◌&&◌, ◌||◌, nat_lt, slice_index, codes}
 use Rattle.std.specs.Char.{digit_char}
 use Rattle.std.specs.Int.{w8, cast_unsigned}

@@ -3,7 +3,6 @@ use Rattle.std.proofs.Common.{◌≡◌, ℕ, List, [], ◌∷◌, ◌++◌, map
 use Rattle.std.proofs.Common.{refl, subst}
 use Rattle.std.proofs.Math.Seq.{drop-append_seam}
 use Rattle.std.proofs.lemmas.List.{append_assoc, append-nil}
-use Rattle.mc_down.specs.declared.down.Down.{Down}
 use Rattle.mc_model.specs.Sight.{Sight}
 use Rattle.mc_model.specs.Replica.{apply}
 use Rattle.mc_model.specs.Delta.{Follows, chat_packet, chat_point}
