@@ -5,7 +5,6 @@ use Rattle.std.specs.Prelude.{Option, Some, None, is_some, option_map, true}
 use Rattle.std.specs.List.{AllByRecursion}
 use Rattle.mc_model.specs.declared.cause.Cause.TheVariants as causes
 use Rattle.mc_model.specs.declared.stage.Stage.{Stage}
-use Rattle.mc_model.specs.declared.ticks.TheConstants.{AGE_MAX}
 use Rattle.mc_model.specs.Notes.{no_notes}
 use Rattle.mc_model.specs.Packets.{Sent, Decoder, of_play, bytes_of}
 use Rattle.mc_model.specs.Decoding.{decoder_of}
