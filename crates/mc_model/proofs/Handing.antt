@@ -66,9 +66,11 @@ shown_from s t q same there = at s.player refl
 
     at : (o : Option Player) → s.player ≡ o →
         (p : Player) × (s.player ≡ Some p) × (q.shown ≡ p.shown) × (q.chat ≡ p.chat)
-    at None e = let clash : Some (shown_said q) ≡ None = now ∙ ap (option_map shown_said) e in absurd cc
+    at None e =
+        let clash : Some (shown_said q) ≡ None = now ∙ ap (option_map shown_said) e in absurd cc
     at (Some p) e =
-        let all : Some (shown_said q) ≡ Some (shown_said p) = now ∙ ap (option_map shown_said) e in (
+        let all : Some (shown_said q) ≡ Some (shown_said p) =
+        now ∙ ap (option_map shown_said) e in (
           p,
           e,
           ap (λ (o : Option ShownSaid). (unwrap_or o (shown_said p)).0) all,

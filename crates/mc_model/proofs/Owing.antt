@@ -12,8 +12,8 @@ use Rattle.mc_model.specs.World.{World, Session, found, is_closed}
 use Rattle.mc_model.specs.Packets.{Sent, frame_of, bytes_of}
 use Rattle.mc_model.specs.Step.{Event, joined, came, left, broke, ticked, took, forgot, Handing}
 use Rattle.mc_model.specs.Talk.{farewell}
-use Rattle.mc_model.specs.Step.{Outcome, silent, mark_closed, joining, is_new, gone, changed, depart}
-use Rattle.mc_model.specs.Step.{is_done, on_bytes, step}
+use Rattle.mc_model.specs.Step.{Outcome, silent, mark_closed, joining, is_new, gone, changed}
+use Rattle.mc_model.specs.Step.{depart, is_done, on_bytes, step}
 use Rattle.mc_model.specs.Run.{to, owed_of, owed_in, taken_at, lost_at}
 use Rattle.mc_model.specs.Orderly.{AreApart}
 use Rattle.mc_model.proofs.Sessions.{same_number, other_number, found_before, found_filter}

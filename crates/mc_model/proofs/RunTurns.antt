@@ -5,21 +5,20 @@ use Rattle.std.specs.Prelude.{false, cond, Option, Some, None, option_map, if◌
 use Rattle.std.specs.List.{filter}
 use Rattle.std.proofs.lemmas.Bool.{cases_eq}
 use Rattle.std.proofs.lemmas.List.{append-nil}
+use Rattle.mc_frame.specs.Kept.{outbox_max}
+use Rattle.mc_down.specs.declared.down.Down.{Down}
 use Rattle.mc_model.specs.declared.cause.Cause.{Cause}
 use Rattle.mc_model.specs.declared.cause.Cause.TheVariants as causes
 use Rattle.mc_model.specs.Texts.{farewell_text}
 use Rattle.mc_model.specs.Things.{Things}
-use Rattle.mc_model.specs.Beats.{awaiting, is_silent}
 use Rattle.mc_model.specs.World.{World, Session, Player, found, is_closed, project}
-use Rattle.mc_down.specs.declared.down.Down.{Down}
-use Rattle.mc_frame.specs.Kept.{outbox_max}
+use Rattle.mc_model.specs.Beats.{awaiting, is_silent}
 use Rattle.mc_model.specs.Packets.{Sent, of_play, bytes_of}
 use Rattle.mc_model.specs.Talk.{farewell}
 use Rattle.mc_model.specs.Step.{Event, joined, came, left, broke, ticked, took, forgot, Outcome}
-use Rattle.mc_model.specs.Step.{Turn, hand, mark_closed, joining, join, is_new, gone, changed}
-use Rattle.mc_model.specs.Step.{is_done, flush_to}
-use Rattle.mc_model.specs.Step.{Handing, disconnect, due, showing, beat, flush, aged, at_tick}
-use Rattle.mc_model.specs.Step.{tick_hands, on_bytes, step}
+use Rattle.mc_model.specs.Step.{Handing, hand, mark_closed, disconnect, Turn, on_bytes, joining}
+use Rattle.mc_model.specs.Step.{join, is_new, gone, changed, due, showing, flush, flush_to, beat}
+use Rattle.mc_model.specs.Step.{aged, at_tick, tick_hands, is_done, step}
 use Rattle.mc_model.specs.Run.{to}
 use Rattle.mc_model.specs.Orderly.{AreApart}
 use Rattle.mc_model.proofs.Sessions.{some_none, one_some, other_number, same_number, found_before}
