@@ -236,7 +236,7 @@ nothing_fits = record {
 abbrev pub NamedFits : Player → Type 0
 NamedFits other = PairFits (other.uuid, other.name)
 
--- a projection fits, where its players are few and fit, its things do and what was said does, and the
+-- a projection fits, where its players are few and fit, its things and what was said do, and the
 -- world is not too old
 pub project_fits : (w : World) (p : Player) → AllByRecursion NamedFits (players w) →
     length (players w) ≤ 50 → w.cap ≤ 8 → w.age ≤ AGE_MAX →

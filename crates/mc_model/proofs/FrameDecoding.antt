@@ -81,8 +81,8 @@ play_still o k w s sound e at = turn_less o (s.stage ≡ stages.Hand) ⊥ s.rest
 -- a player that did something
 acted_decodes : (o : Option Decoder) (k : ℕ) (w : World) (s : Session) (p : Player)
     (packet : PlayUp) (after : Option World) → FitsPlayUp packet → act w s p packet ≡ after →
-    Sound w → found k w.sessions ≡ Some s → SessionFits s → s.player ≡ Some p → s.stage ≡ stages.Play →
-    TurnDecodes o ⊥ s.rest k w s (acted w s after)
+    Sound w → found k w.sessions ≡ Some s → SessionFits s → s.player ≡ Some p →
+    s.stage ≡ stages.Play → TurnDecodes o ⊥ s.rest k w s (acted w s after)
 acted_decodes o k w s p packet None spelled did sound e f there at =
     turn_farewell o k w s causes.BadNumber sound e f
 acted_decodes o k w s p packet (Some v) spelled did sound e f there at =

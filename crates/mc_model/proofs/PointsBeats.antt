@@ -8,7 +8,8 @@ use Rattle.mc_down.specs.declared.down.Down.TheVariants.{KeepAlive, Time}
 use Rattle.mc_model.specs.Sight.{Sight}
 use Rattle.mc_model.specs.Replica.{apply}
 use Rattle.mc_model.specs.Ticks.{time_of_day}
-use Rattle.mc_model.specs.Delta.{Follows, is_told, beat_packets, time_packets, beat_point, time_point}
+use Rattle.mc_model.specs.Delta.{Follows, is_told, beat_packets, time_packets, beat_point}
+use Rattle.mc_model.specs.Delta.{time_point}
 use Rattle.mc_model.proofs.Leading.{Leads, no_packets, led}
 
 -- a number that was told is the one that was told last

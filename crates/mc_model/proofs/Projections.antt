@@ -1,7 +1,8 @@
 -- What a projection shows: each column as it is in the world, with all its cells, dropped items and
 -- a pack that packets can tell. Two projections of one terrain follow one another.
-use Rattle.std.proofs.Common.{◌≡◌, ℕ, ◌<◌, ◌≤◌, T, Bool, true, false, cond, List, [], ◌∷◌, ◌++◌, map}
-use Rattle.std.proofs.Common.{length, Option, Some, None, is_some, refl, sym, ap, subst, ◌∙◌, arith}
+use Rattle.std.proofs.Common.{◌≡◌, ℕ, ◌<◌, ◌≤◌, T, Bool, true, false, cond, List, [], ◌∷◌, ◌++◌}
+use Rattle.std.proofs.Common.{map, length, Option, Some, None, is_some, refl, sym, ap, subst, ◌∙◌}
+use Rattle.std.proofs.Common.{arith}
 use Rattle.std.specs.Prelude.{unsigned_abs, int_le, slice_index_or}
 use Rattle.std.specs.List.{All, AllByRecursion, filter, filter_map}
 use Rattle.std.specs.Cmp.{int_cmp_total}

@@ -190,7 +190,8 @@ aged_sound w sound = record {
 
 -- a tick hands out what the beat does, and then what is due
 tick_out : (k : ℕ) (w : World) → Sound w →
-    to k (out_of (beat (aged w)) w.sessions) ++ to k (out_of (flush (at_tick w)) (at_tick w).sessions)
+    to k (out_of (beat (aged w)) w.sessions)
+    ++ to k (out_of (flush (at_tick w)) (at_tick w).sessions)
     ≡ to k (tick w).out
 tick_out k w sound = cases (found k w.sessions) refl
   where

@@ -112,7 +112,8 @@ turn_hand o k w things s r t packets sound e is f fit room hands past =
     (λ much. turn_put o ⊥ s.rest k w (after_leaving r.player None things) w.lines s
     (record (mark_closed t causes.Backlog) { owed = [] }) [] sound e is
     (closed_fits t (Some causes.Backlog) [] f) (leaving_fits r.player None things fit)
-    sound.lines (no_room w s (record (mark_closed t causes.Backlog) { owed = [] }) refl) (hands_shut o s.stage)
+    sound.lines (no_room w s (record (mark_closed t causes.Backlog) { owed = [] }) refl)
+    (hands_shut o s.stage)
     (λ at. absurd cc))
 
 -- it is closed with its last packets
