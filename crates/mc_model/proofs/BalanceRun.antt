@@ -288,14 +288,17 @@ handed_balanced f w each b =
       even = leads.even b.even;
     }
 
--- a tick: first the beat, then what is due
+-- the world of a tick, after the beat
+pub beaten_balanced : (w : World) → Balanced w → Balanced (at_tick w)
+beaten_balanced w b = handed_balanced beat (aged w)
+    (λ things s owns. beat_owns things (aged w) s owns)
+    (record { owners = b.owners; tidy = b.tidy; even = b.even })
+
+-- and after all were handed what is due
 tick_balanced : (w : World) → Balanced w → Balanced (tick w).world
 tick_balanced w b =
-    let beaten : Balanced (at_tick w) = handed_balanced beat (aged w)
-    (λ things s owns. beat_owns things (aged w) s owns)
-    (record { owners = b.owners; tidy = b.tidy; even = b.even }) in
     let all : Balanced (all_handed flush (at_tick w)) = handed_balanced flush (at_tick w)
-    (λ things s owns. flush_owns things (at_tick w) s s.player owns owns) beaten in
+    (λ things s owns. flush_owns things (at_tick w) s s.player owns owns) (beaten_balanced w b) in
     record { owners = all.owners; tidy = all.tidy; even = all.even }
 
 -- ---- events

@@ -101,13 +101,15 @@ pub depart_beside : (k : ℕ) (w : World) (cause : Cause) → Beside k w (depart
 depart_beside k w cause = beside_onward k w (changed w k (gone cause)) (depart w k cause)
     (gone_beside k w cause) (beside_same k (changed w k (gone cause)) _ w.lines)
 
--- numbers stand as they did after the beat of a tick, and after all were flushed
+-- numbers stand as they did after the beat of a tick
+pub orderly_beaten : (w : World) → Orderly w → Orderly (at_tick w)
+orderly_beaten w o = orderly_handed beat (aged w) (beat_id (aged w))
+    (record { rising = o.rising; apart = o.apart; fresh = o.fresh })
+
+-- and after all were flushed
 orderly_tick : (w : World) → Orderly w → Orderly (tick w).world
 orderly_tick w o =
-    let before : Orderly (aged w) =
-    record { rising = o.rising; apart = o.apart; fresh = o.fresh } in
-    let beaten : Orderly (at_tick w) = orderly_handed beat (aged w) (beat_id (aged w)) before in
-    let all = orderly_handed flush (at_tick w) (flush_id (at_tick w)) beaten in
+    let all = orderly_handed flush (at_tick w) (flush_id (at_tick w)) (orderly_beaten w o) in
     record { rising = all.rising; apart = all.apart; fresh = all.fresh }
 
 pub orderly_step : (w : World) (e : Event) → Orderly w → Orderly (step w e).world

@@ -170,10 +170,10 @@ shown_kept land s t ps qs (shut_for why open_ closed gone cause last) h =
 
 -- ---- a tick
 
-pub tick_shown : (land : Terrain) (w : World) (s : Session) (ps : List Sent) →
+tick_keeps_shown : (land : Terrain) (w : World) (s : Session) (ps : List Sent) →
     w.terrain ≡ land → ThingsFit (at_tick w).things → IsShown land s ps →
     IsShown land (after_tick w s).session (ps ++ (after_tick w s).handed)
-tick_shown land w s ps terrain things h =
+tick_keeps_shown land w s ps terrain things h =
     tick_cases w s (λ (h : Handing). IsShown land h.session (ps ++ h.handed))
     (λ none. subst (IsShown land s) (sym (append-nil ps)) h)
     (λ p there quiet. hand_cases (mark_closed s causes.Silent) (farewell s.stage causes.Silent)
@@ -270,7 +270,7 @@ runs_step land k w ps e r = record {
         | false ↦ λ old. absurd (not_both (is_new k (step w e).world.last) new (old_step k w e old))
       ] refl;
   each = each_step (IsShown land) (shown_kept land) k w ps e r.orderly.apart
-      (λ s h. tick_shown land w s ps r.terrain (handed_fit beat (aged w) r.things) h)
+      (λ s h. tick_keeps_shown land w s ps r.terrain (handed_fit beat (aged w) r.things) h)
       (λ none new. subst (IsShown land (joining w k)) (sym (nothing_more ps [] (r.nobody new) refl))
       (shown_joining land w k)) r.each;
 }
