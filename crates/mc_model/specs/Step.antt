@@ -360,8 +360,8 @@ beat_to w s (Some p) =
 abbrev pub beat : World → Session → Handing
 beat w s = beat_to w s s.player
 
--- the world after each connection was handed something, all of one world: the players leave of those
--- that were closed of it
+-- the world after each connection was handed something, all of one world: the players leave of
+-- those that were closed of it
 abbrev pub all_handed : (World → Session → Handing) → World → World
 all_handed f w = record w {
   sessions = map (λ (s : Session). (f w s).session) w.sessions;
