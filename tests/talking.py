@@ -1,0 +1,168 @@
+"""Tests of beats, of clients that never answer them, and of what players say.
+
+Sources: wiki.vg, 'Protocol' ('Keep Alive', 'Time Update', 'Chat Message'), docs/PROTOCOL.md and
+docs/WORLD.md ('Connections and events', 'A tick'). The words of a farewell are this server's own.
+"""
+
+import re
+
+import protocol
+from client import Client, expect, expect_farewell, log_in, pump, wait_for_names
+from clientbound import Chat, KeepAlive, PlayersLeft, Time
+from faults import BAD_PACKET
+from news import BENEATH, UP, log_in_two
+from program import Program
+from replica import BEAT_TICKS, DAY_TICKS, SHOWN_TICKS
+
+NO_ANSWER = "No answer."
+
+# How many beats a client may leave without an answer.
+MISSED = 7
+
+# So many beats are far more, and by turns they take little time.
+MANY_BEATS = 4 * MISSED
+
+# Runs by turns, where ticks come as fast as clients fall silent.
+TURNS = {"pace": "turns", "ticks": 1_000_000_000}
+
+LONGEST_SAID = 100
+
+# What is said: blanks and nothing, what is escaped and what is not, and as much as may be.
+TEXTS = ["hi", "", " ", "/help", '"\\/', "".join(map(chr, range(32))), "\x7f\x80", "Zoë €"]
+TEXTS += ["\U0001F600", "x" * LONGEST_SAID, "é" * LONGEST_SAID, "\U0001F600" * LONGEST_SAID]
+
+
+class Mute(Client):
+    """A client that answers no beat."""
+
+    def answer(self, beat):
+        """Say nothing."""
+
+
+class Odd(Client):
+    """A client that answers each beat by another number."""
+
+    def answer(self, beat):
+        """Answer by a number that is no beat's."""
+        self.send(protocol.keep_alive(-1 - beat))
+
+
+class Slow(Client):
+    """A client that answers only where it left as many beats as it may."""
+
+    def answer(self, beat):
+        """Answer each seventh of the beats that came."""
+        if sum(type(packet) is KeepAlive for packet in self.packets) % MISSED == MISSED - 1:
+            super().answer(beat)
+
+
+def beats_are_told_and_answered(path):
+    """Who answers in time and by any number stays, beat after beat."""
+    with Program(path, **TURNS) as program:
+        clients = []
+        for name, kind in (("Anna", Client), ("Odd", Odd), ("Slow", Slow)):
+            clients.append(log_in(program.port, name, clients, kind))
+        first = clients[-1].replica.beat
+        done = pump(clients, lambda: all(c.replica.beat > first + MANY_BEATS for c in clients))
+        expect(done, f"the beats are {[client.replica.beat for client in clients]}")
+        ended = [client.replica.farewell for client in clients]
+        expect(ended == [None] * 3, f"the farewells are {ended}")
+
+
+def days_go_by(path):
+    """By turns a day is soon over, and its time begins anew."""
+    with Program(path, **TURNS) as program:
+        client = log_in(program.port, "Dora")
+        begun = client.replica.time.age
+        done = pump([client], lambda: client.replica.time.age > DAY_TICKS, 6 * 10)
+        expect(done, f"the age is {client.replica.time.age}")
+        return f"{client.replica.time.age - begun} ticks"
+
+
+def silent_clients_are_closed(path):
+    """Who leaves seven beats is closed at the eighth, and the others see it leave in that tick."""
+    with Program(path, **TURNS) as program:
+        wanda = log_in(program.port, "Wanda")
+        mute = log_in(program.port, "Mute", [wanda], Mute)
+        mute.send(protocol.chat("I am here") + protocol.held(1))
+        expect_farewell(mute, NO_ANSWER, [wanda])
+        told = [packet.number for packet in mute.packets if type(packet) is KeepAlive]
+        expect(len(told) == MISSED, f"closed after the beats {told}")
+        end = BEAT_TICKS * (told[-1] + 1)
+        expect(mute.replica.time.age == end - SHOWN_TICKS, f"{mute.replica.time}, not {end}")
+        wait_for_names([wanda], wanda, ["Wanda"])
+        at = [type(packet) for packet in wanda.packets].index(PlayersLeft)
+        before = wanda.packets[at - 2 : at]
+        due = [KeepAlive(told[-1] + 1), Time(end, end % DAY_TICKS)]
+        expect(before == due, f"Mute leaves behind {before}, not {due}")
+        wanda.close()
+        status, output, _ = program.finish()
+    line = re.fullmatch(r"ticks=\d+ joins=2 closed=1\n", output)
+    expect(status == 0 and line is not None, f"it ends with {status}: {output!r}")
+
+
+def texts_are_heard_by_all(path):
+    """What one says both hear, as it is and in the order in which it was said."""
+    said = []
+    with Program(path) as program:
+        both = anna, ben = log_in_two(program.port)
+        for text in TEXTS:
+            for client, name in ((anna, "Anna"), (ben, "Ben")):
+                client.send(protocol.chat(text))
+                said.append(f"<{name}> {text}")
+                expect_heard(both, said)
+        anna.send(b"".join(map(protocol.chat, TEXTS)))
+        said += [f"<Anna> {text}" for text in TEXTS]
+        expect_heard(both, said)
+        anna.forget_news()
+        anna.send(protocol.chat("stone") + protocol.placement(BENEATH, UP))
+        said.append("<Anna> stone")
+        expect_heard(both, said)
+        expect(type(anna.news()[-1]) is Chat, f"a text is not last of {anna.news()}")
+
+
+def expect_heard(clients, said):
+    """Wait until clients heard just these texts."""
+    done = pump(clients, lambda: all(len(client.replica.chat) >= len(said) for client in clients))
+    for client in clients:
+        expect(client.replica.chat == said, f"heard {client.replica.chat[-3:]}, not {said[-3:]}")
+    expect(done, f"not heard in time: {said[-3:]}")
+
+
+def long_texts_close(path):
+    """A text of a character too many closes its sender, and nobody hears it."""
+    with Program(path) as program:
+        anna = log_in(program.port, "Anna")
+        for letter in ("x", "é", "\U0001F600"):
+            ben = log_in(program.port, "Ben", [anna])
+            wait_for_names([anna, ben], anna, ["Anna", "Ben"])
+            ben.send(protocol.chat("bye") + protocol.chat(letter * (LONGEST_SAID + 1)))
+            expect_farewell(ben, BAD_PACKET, [anna])
+            wait_for_names([anna], anna, ["Anna"])
+        expect_heard([anna], ["<Ben> bye"] * 3)
+
+
+def late_comers_hear_what_follows(path):
+    """Who comes later hears nothing of before; what is said by one who leaves then is heard."""
+    with Program(path) as program:
+        anna, ben = log_in_two(program.port)
+        anna.send(protocol.chat("before"))
+        expect_heard([anna, ben], ["<Anna> before"])
+        cora = log_in(program.port, "Cora_1", [anna, ben])
+        cora.send(protocol.chat("now"))
+        expect_heard([anna, ben], ["<Anna> before", "<Cora_1> now"])
+        expect_heard([cora], ["<Cora_1> now"])
+        ben.send(protocol.chat("bye"))
+        ben.close()
+        expect_heard([anna], ["<Anna> before", "<Cora_1> now", "<Ben> bye"])
+        expect_heard([cora], ["<Cora_1> now", "<Ben> bye"])
+
+
+TESTS = [
+    beats_are_told_and_answered,
+    days_go_by,
+    silent_clients_are_closed,
+    texts_are_heard_by_all,
+    long_texts_close,
+    late_comers_hear_what_follows,
+]
