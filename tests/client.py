@@ -168,9 +168,9 @@ class Client(Connection):
 class Ticker(Client):
     """A client in play that sees the ticks.
 
-    Most ticks send nothing of themselves. But a move past the end of the world brings a player to the
-    spawn place, and the next tick says so. This client answers each such place by such a move, so
-    it is sent one packet a tick.
+    Most ticks send nothing of themselves. But a move past the end of the world brings a player to
+    the spawn place, and the next tick says so. This client answers each such place by such a move,
+    so it is sent at least one packet a tick.
     """
 
     def __init__(self, port):

@@ -7,7 +7,7 @@ docs/WORLD.md ('Connections and events', 'A tick'). The words of a farewell are 
 import re
 
 import protocol
-from client import Client, expect, expect_farewell, log_in, pump, wait_for_names
+from client import Client, ask_status, expect, expect_farewell, log_in, pump, wait_for_names
 from clientbound import Chat, KeepAlive, PlayersLeft, Time
 from faults import BAD_PACKET
 from news import BENEATH, UP, log_in_two
@@ -26,6 +26,9 @@ MANY_BEATS = 4 * MISSED
 TURNS = {"pace": "turns", "ticks": 1_000_000_000}
 
 LONGEST_SAID = 100
+
+# So many come while somebody talks, of whom some come within the tick of a text.
+LATE_COMERS = 10
 
 # What is said: blanks and nothing, what is escaped and what is not, and as much as may be.
 TEXTS = ["hi", "", " ", "/help", '"\\/', "".join(map(chr, range(32))), "\x7f\x80", "Zoë €"]
@@ -143,19 +146,21 @@ def long_texts_close(path):
 
 
 def late_comers_hear_what_follows(path):
-    """Who comes later hears nothing of before; what is said by one who leaves then is heard."""
+    """Who enters behind a text does not hear it, also where both lie between two ticks."""
+    said = []
     with Program(path) as program:
-        anna, ben = log_in_two(program.port)
-        anna.send(protocol.chat("before"))
-        expect_heard([anna, ben], ["<Anna> before"])
-        cora = log_in(program.port, "Cora_1", [anna, ben])
-        cora.send(protocol.chat("now"))
-        expect_heard([anna, ben], ["<Anna> before", "<Cora_1> now"])
-        expect_heard([cora], ["<Cora_1> now"])
-        ben.send(protocol.chat("bye"))
-        ben.close()
-        expect_heard([anna], ["<Anna> before", "<Cora_1> now", "<Ben> bye"])
-        expect_heard([cora], ["<Cora_1> now", "<Ben> bye"])
+        anna = log_in(program.port, "Anna")
+        for number in range(LATE_COMERS):
+            anna.send(protocol.chat(f"before {number}"))
+            said.append(f"<Anna> before {number}")
+            # Once a status is told, that text was read before anything that is sent from now on.
+            ask_status(program.port, [anna])
+            late = log_in(program.port, f"Late_{number}", [anna])
+            expect(late.replica.chat == [], f"{late.replica.chat} was said before")
+            late.send(protocol.chat("bye"))
+            late.close()
+            said.append(f"<Late_{number}> bye")
+            expect_heard([anna], said)
 
 
 TESTS = [
