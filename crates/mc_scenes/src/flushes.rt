@@ -23,7 +23,7 @@ use mc_fields::Spot;
 use mc_flush::{ClientView, Encoded, Line, Mark, flush};
 use mc_land::{Land, Steps, Terrain};
 use mc_model::{AGE_MAX, Notes};
-use mc_nbt::NoMemory;
+use mc_nbt::{NoMemory, Text};
 use mc_view::ViewSet;
 use mc_windows::{Pack, kit};
 use std::alloc::Global;
@@ -178,15 +178,19 @@ fn enter(guests: &mut Guests, words: &mut Words<'_>, answer: &mut Answer) {
     answer.needs(guests.enter(uuid, words.text()));
 }
 
-/// Something is said, of at most 400 bytes.
-fn say(lines: &mut Vec<Line>, words: &mut Words<'_>, answer: &mut Answer) {
-    let text = words.text();
+/// What is said by a text of at most 400 bytes.
+fn line_of(text: Text) -> Result<Option<Line>, NoMemory> {
     if text.as_str().len() > 400 {
-        words.fail();
-        return;
+        return Ok(None);
     }
-    match Line::new(text) {
-        Ok(line) => answer.needs(lines.push(line)),
+    Ok(Some(Line::new(text)?))
+}
+
+/// Something is said.
+fn say(lines: &mut Vec<Line>, words: &mut Words<'_>, answer: &mut Answer) {
+    match line_of(words.text()) {
+        Ok(Some(line)) => answer.needs(lines.push(line)),
+        Ok(None) => words.fail(),
         Err(NoMemory) => answer.lose(),
     }
 }
