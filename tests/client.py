@@ -128,9 +128,13 @@ class Client(Connection):
         if type(packet) is Success:
             self.stage = PLAY
         if type(packet) is KeepAlive:
-            self.send(protocol.keep_alive(packet.number))
+            self.answer(packet.number)
         if type(packet) is not Chunk:
             self.packets.append(packet)
+
+    def answer(self, beat):
+        """Answer a beat by its number."""
+        self.send(protocol.keep_alive(beat))
 
     def begin_login(self, name, version=protocol.PROTOCOL, send=None):
         """Send a handshake and a login, by `send` where one is given."""
@@ -164,9 +168,9 @@ class Client(Connection):
 class Ticker(Client):
     """A client in play that sees the ticks.
 
-    A tick sends nothing of itself. But a move past the end of the world brings a player to the
-    spawn place, and the next tick says so. This client answers each such place by such a move, so
-    it is sent one packet a tick.
+    Most ticks send nothing of themselves. But a move past the end of the world brings a player to
+    the spawn place, and the next tick says so. This client answers each such place by such a move,
+    so it is sent at least one packet a tick.
     """
 
     def __init__(self, port):

@@ -8,7 +8,7 @@ objects only dropped items, and of metadata only what such an item is.
 
 from typing import NamedTuple
 
-from protocol import LONGEST_NAME, Malformed, Stack, read_reason
+from protocol import LONGEST_NAME, Malformed, Stack, read_words
 
 # A state is 16 times an id of at most 255, and a metadata of at most 15.
 STATES = range(4096)
@@ -18,6 +18,9 @@ STATES = range(4096)
 DROPPED_ITEM = 2
 ITEM_ENTRY = 5 << 5 | 10
 NO_MORE_ENTRIES = 0x7F
+
+# Where a Chat is shown that a player says.
+SAID = 0
 
 
 class KeepAlive(NamedTuple):
@@ -36,6 +39,12 @@ class JoinGame(NamedTuple):
     most_players: int
     level: str
     reduced: bool
+
+
+class Chat(NamedTuple):
+    """What a player says."""
+
+    words: str
 
 
 class Time(NamedTuple):
@@ -148,6 +157,14 @@ def read_join_game(reader):
     return JoinGame(*numbers, reader.number("B"), reader.text(), reader.boolean())
 
 
+def read_chat(reader):
+    """Take the fields of Chat Message, which is what a player says."""
+    words, place = read_words(reader), reader.number("b")
+    if place != SAID:
+        raise Malformed(f"a Chat for the place {place}")
+    return Chat(words)
+
+
 def read_place(reader):
     """Take the fields of Player Position And Look."""
     numbers = [reader.number(form) for form in "dddff"]
@@ -251,6 +268,7 @@ def read_new_player(reader):
 PLAY = {
     0x00: lambda reader: KeepAlive(reader.varint()),
     0x01: read_join_game,
+    0x02: read_chat,
     0x03: lambda reader: Time(reader.number("q"), reader.number("q")),
     0x05: lambda reader: SpawnPosition(*reader.block_position()),
     0x08: read_place,
@@ -263,5 +281,5 @@ PLAY = {
     0x2F: read_set_slot,
     0x30: read_window_items,
     0x38: read_player_list,
-    0x40: lambda reader: Disconnect(read_reason(reader)),
+    0x40: lambda reader: Disconnect(read_words(reader)),
 }

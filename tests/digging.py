@@ -166,6 +166,7 @@ def items_come_and_go_with_the_view(path):
         anna.send(dig(near) + protocol.position(40.5, 4.0, 8.5) + drop(DROP_ONE))
         anna.send(protocol.position(8.5, 4.0, 8.5) + dig(corner))
         expect(pump([anna], lambda: len(anna.replica.items) == 3), "not all items come")
+        settle([anna])
         shown = {2, 3, 4}
         walks = (56.5, {3}), (500.5, set()), (8.5, {2, 3, 4}), (-400.0, set()), (-24.5, {2, 4})
         for x, there in (*walks, (56.5, {3}), (8.5, {2, 3, 4})):

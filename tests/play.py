@@ -18,7 +18,7 @@ from client import (
     wait_for_names,
     wait_for_view,
 )
-from clientbound import JoinGame, Place, SpawnPosition
+from clientbound import JoinGame, KeepAlive, Place, SpawnPosition, Time
 from columns import column_at, view_at
 from program import Program
 from terrain import Flat, Hills, Isle
@@ -65,11 +65,11 @@ def logins_come_in_pieces(path):
 
 
 def check_opening(client, name, land, most):
-    """Find the success of the login, and the opening of a player at the spawn place."""
+    """Find the success of the login, the opening of a player at the spawn place, and the beat."""
     success = protocol.Success(protocol.offline_identifier(name), name)
     expect(client.packets[0] == success, f"{client.packets[0]} for the login of {name}")
-    order = [type(packet) for packet in client.packets[1:4]]
-    opening = [JoinGame, SpawnPosition, Place]
+    order = [type(packet) for packet in client.packets[1:6]]
+    opening = [JoinGame, SpawnPosition, Place, KeepAlive, Time]
     expect(order == opening, f"the opening is {order}")
     expect(client.replica.joined.most_players == most, f"{client.replica.joined}")
     place = Place(*land.spawn, 0.0, 0.0, 0)
@@ -130,7 +130,7 @@ def check_move(clients, walker, target, moves):
     due += [("load", place) for place in sorted(after - before)]
     sent = walker.replica.changes
     expect(sent == due, f"a move to {target}: {len(sent)} changes, {len(due)} are due")
-    expect(not walker.packets, f"a move to {target} brings {walker.packets}")
+    expect(not walker.news(), f"a move to {target} brings {walker.news()}")
 
 
 def far_places_bring_back(path):
@@ -145,7 +145,7 @@ def far_places_bring_back(path):
             client.send(protocol.position(x, y, z))
             wait_for_view([client], client, (0, 0), SMALLEST_VIEW)
             listen([client], 2 * TICK)
-            places = client.packets
+            places = client.news()
             expect(places == [Place(*Flat.spawn, 0.0, 0.0, 0)], f"sent back by {places}")
 
 

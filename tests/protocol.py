@@ -109,6 +109,11 @@ def keep_alive(number):
     return packet(0x00, varint(number))
 
 
+def chat(said):
+    """Say something, of at most 100 code points."""
+    return packet(0x01, text(said))
+
+
 def position(x, y, z):
     """Say where the player stands: the Doubles of its feet, and that it is on the ground."""
     return packet(0x04, struct.pack(">ddd?", x, y, z, True))
@@ -264,8 +269,8 @@ class Success(NamedTuple):
     name: str
 
 
-def read_reason(reader):
-    """Take a Chat and answer its words; no other part of 'Chat' is sent."""
+def read_words(reader):
+    """Take a Chat and answer its words; no other part of 'Chat' is sent, and no blank between."""
     said = reader.text()
     try:
         value = json.loads(said)
@@ -273,6 +278,8 @@ def read_reason(reader):
         raise Malformed(f"a Chat that is no JSON: {said}") from error
     if not isinstance(value, dict) or list(value) != ["text"]:
         raise Malformed(f"a Chat with more than a text: {said}")
+    if said != json.dumps(value, ensure_ascii=False, separators=(",", ":")):
+        raise Malformed(f"a Chat that is not compact: {said}")
     return value["text"]
 
 
@@ -294,7 +301,7 @@ STATUS = {
 }
 
 LOGIN = {
-    0x00: lambda reader: Refusal(read_reason(reader)),
+    0x00: lambda reader: Refusal(read_words(reader)),
     0x02: read_success,
 }
 

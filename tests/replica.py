@@ -9,6 +9,7 @@ from typing import NamedTuple
 
 from clientbound import (
     Change,
+    Chat,
     Chunk,
     Destroy,
     Disconnect,
@@ -35,6 +36,11 @@ CURSOR_SLOT = -1
 # A block is so many of the parts in which places of entities are told.
 PARTS = 32
 
+# How many ticks there are in a beat, from one age that is told to the next, and in a day.
+BEAT_TICKS = 100
+SHOWN_TICKS = 20
+DAY_TICKS = 24_000
+
 
 class Item(NamedTuple):
     """A dropped item: its place in 1/32 blocks, and what lies there."""
@@ -44,7 +50,7 @@ class Item(NamedTuple):
 
 
 class Replica:
-    """The columns, the items, the pack, the player list, the time and the place of a client."""
+    """All that a client is shown: its place, columns, items, pack, players, time and chat."""
 
     def __init__(self):
         self.joined = None
@@ -56,6 +62,7 @@ class Replica:
         self.players = {}
         self.time = None
         self.beat = None
+        self.chat = []
         self.farewell = None
         # What was loaded and unloaded, in order; a test clears it when it likes.
         self.changes = []
@@ -67,6 +74,8 @@ class Replica:
             raise Malformed(f"{type(packet).__name__} behind the farewell")
         if type(packet) not in OPENING and self.place is None and type(packet) is not Disconnect:
             raise Malformed(f"{type(packet).__name__} before the opening")
+        if type(packet) not in BEGINNING and self.beat is None:
+            raise Malformed(f"{type(packet).__name__} before the first beat")
         due = NEXT.get(type(self.previous), type(packet))
         if type(packet) is not due:
             raise Malformed(f"{type(packet).__name__} where {due.__name__} is due")
@@ -200,15 +209,25 @@ class Replica:
             if self.players.pop(identifier, None) is None:
                 raise Malformed(f"a player that leaves and was not there: {identifier}")
 
+    def set_beat(self, packet):
+        """Keep the beat, which is the next one; the time comes behind it."""
+        if self.beat is not None and packet.number != self.beat + 1:
+            raise Malformed(f"{packet} behind the beat {self.beat}")
+        self.beat = packet.number
+
     def set_time(self, packet):
-        """Keep the time; the age never falls."""
-        if self.time is not None and packet.age < self.time.age:
+        """Keep the time, the next that is told, which is of the beat that was told last."""
+        if self.time is not None and packet.age != self.time.age + SHOWN_TICKS:
             raise Malformed(f"{packet} behind {self.time}")
+        if packet.age % SHOWN_TICKS != 0 or packet.age // BEAT_TICKS != self.beat:
+            raise Malformed(f"{packet} in the beat {self.beat}")
+        if packet.of_day != packet.age % DAY_TICKS:
+            raise Malformed(f"{packet} for a day of {DAY_TICKS}")
         self.time = packet
 
-    def set_beat(self, packet):
-        """Keep the last beat."""
-        self.beat = packet.number
+    def hear(self, packet):
+        """Keep what was said."""
+        self.chat.append(packet.words)
 
     def end(self, packet):
         """Keep the farewell, behind which nothing comes."""
@@ -226,8 +245,11 @@ def column_of_item(place):
 
 OPENING = (JoinGame, SpawnPosition, Place)
 
+# What may come before all else: the opening with the first beat, or a farewell.
+BEGINNING = (*OPENING, KeepAlive, Disconnect)
+
 # What comes next behind a packet of one kind, always.
-NEXT = {SpawnItem: ItemIs, WindowItems: SetSlot}
+NEXT = {KeepAlive: Time, SpawnItem: ItemIs, WindowItems: SetSlot}
 
 FOLDS = {
     JoinGame: Replica.join,
@@ -243,7 +265,8 @@ FOLDS = {
     WindowItems: Replica.check_window,
     PlayersCame: Replica.add_players,
     PlayersLeft: Replica.remove_players,
-    Time: Replica.set_time,
     KeepAlive: Replica.set_beat,
+    Time: Replica.set_time,
+    Chat: Replica.hear,
     Disconnect: Replica.end,
 }

@@ -14,9 +14,10 @@ import digging
 import endings
 import faults
 import play
+import talking
 
-TESTS = [*play.TESTS, *digging.TESTS, *carrying.TESTS, *faults.TESTS, *crowds.TESTS]
-TESTS += endings.TESTS
+TESTS = [*play.TESTS, *talking.TESTS, *digging.TESTS, *carrying.TESTS, *faults.TESTS]
+TESTS += [*crowds.TESTS, *endings.TESTS]
 
 
 def run_test(test, path):

@@ -5,8 +5,9 @@ for MINUTES (10) at a view of 6 while one watches the ticks, and then gets 10,00
 after another and as many status pings as it answers. Figures are printed as they come. It reads
 /proc, so it needs Linux; the status is 0 where nothing that came was wrong.
 
-A tick sends a client nothing of itself; the one that watches has itself sent its place in each (see
-`Ticker` in client.py), in a process of its own, and notes when it reads that.
+Most ticks send a client nothing of themselves; the one that watches has itself sent its place in
+each (see `Ticker` in client.py), in a process of its own, and notes when it reads that. All of them
+answer their beats.
 """
 
 import math

@@ -70,6 +70,12 @@ def gate(folder, *names):
     return None if done.returncode == 0 else done.stdout + done.stderr
 
 
+def takes_names(folder):
+    """Tells whether the toolchain's gate can be run over single crates: not every kit's can."""
+    done = subprocess.run(["rt", "ci", "no_crate"], cwd=folder, capture_output=True, text=True)
+    return "usage:" not in done.stdout + done.stderr
+
+
 def prove_each(folder, names, crates):
     """Proves each crate as soon as those that it stands on are. Answers what was said at a fault."""
     chains = length_of_chains(names, crates)
@@ -95,8 +101,14 @@ def build(program):
     names = needed(program, crates)
     with tempfile.TemporaryDirectory(prefix="craft47-") as folder:
         copy(names, Path(folder))
-        # What is proved is kept, so the gate over all has only to build the program.
-        fault = prove_each(folder, names, crates) or gate(folder)
+        # What is proved is kept, so the gate over all has only to build the program. Where it can't
+        # be run over single crates it proves all of them.
+        fault = None
+        if takes_names(folder):
+            fault = prove_each(folder, names, crates)
+        else:
+            print(f"craft47: {len(names)} crates, by one gate", file=sys.stderr, flush=True)
+        fault = fault or gate(folder)
         if fault is None:
             built = TOP / "crates" / program / "out"
             built.mkdir(exist_ok=True)

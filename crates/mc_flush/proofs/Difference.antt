@@ -10,6 +10,7 @@ use Rattle.std.specs.FinMap.{contains_key-keys, entries_sorted, get, get-empty}
 use Rattle.std.specs.FinMap.{int_cmp-IsAntisymmetric}
 use Rattle.std.proofs.lemmas.Cmp.{int_cmp_total}
 use Rattle.std.proofs.lemmas.List.{append-nil, nil_from_length}
+use Rattle.std.proofs.Math.Seq.{drop-append_seam}
 use lib.IntN.{ℤ, pos}
 use Rattle.mc_column.specs.Cells.{ColumnValue}
 use Rattle.mc_column.specs.Sizes.{cells}
@@ -28,11 +29,11 @@ use Rattle.mc_view.specs.Sets.{all_of, has, is_within}
 use Rattle.mc_view.specs.Told.{Told}
 use Rattle.mc_model.specs.Sight.{Seen, Sight}
 use Rattle.mc_model.specs.Delta.{Pairs, delta, load, unload, cell_packets, column_changes}
-use Rattle.mc_model.specs.Delta.{destroying}
-use Rattle.mc_model.specs.Delta.{entity_packets, slot_packets}
+use Rattle.mc_model.specs.Delta.{beat_packets, chat_packet, destroying, entity_packets}
+use Rattle.mc_model.specs.Delta.{slot_packets, time_packets}
 use Rattle.mc_flush.specs.Lists.{ListValue}
-use Rattle.mc_flush.specs.Seeing.{MarkValue, Parts, StandsFor, changes, changed_packets}
-use Rattle.mc_flush.specs.Seeing.{columns_in, entered_of, gone_from, left_of, listed}
+use Rattle.mc_flush.specs.Seeing.{MarkValue, Parts, StandsFor, age_now, beat_now, changes}
+use Rattle.mc_flush.specs.Seeing.{changed_packets, columns_in, entered_of, gone_from, left_of, listed}
 use Rattle.mc_flush.specs.Seeing.{leaver_packets, joiner_packets, load_packets, pairs_in}
 use Rattle.mc_flush.specs.Seeing.{packets_of}
 use Rattle.mc_flush.specs.Seeing.{place_packets, placed_column, placed_with, present_parts, seen}
@@ -235,26 +236,31 @@ listed_is : (mark : MarkValue) (land : LandValue) (list : ListValue) →
 listed_is mark land list = elim mark.view as (λ was. pairs_in was (settled_parts land list)
     ≡ (if is_some was then list.last else empty)) [ None ↦ refl | Some view ↦ refl ]
 
--- lists of eight equal pieces are equal
-eight_points : (a b c d e f g h a' b' c' d' e' f' g' h' : List Down) → a ≡ a' → b ≡ b' → c ≡ c' →
-    d ≡ d' → e ≡ e' → f ≡ f' → g ≡ g' → h ≡ h' →
-    a ++ (b ++ (c ++ (d ++ (e ++ (f ++ (g ++ (h ++ [])))))))
-    ≡ a' ++ (b' ++ (c' ++ (d' ++ (e' ++ (f' ++ (g' ++ h'))))))
-eight_points a b c d e f g h a' b' c' d' e' f' g' h' pa pb pc pd pe pf pg ph =
-    λ i. pa i ++ (pb i ++ (pc i ++ (pd i ++ (pe i ++ (pf i ++ (pg i
-    ++ (append-nil h ∙ ph) i))))))
+-- lists of eleven equal pieces are equal
+eleven_points : (a b c d e f g h j k l a' b' c' d' e' f' g' h' j' k' l' : List Down) →
+    a ≡ a' → b ≡ b' → c ≡ c' → d ≡ d' → e ≡ e' → f ≡ f' → g ≡ g' → h ≡ h' → j ≡ j' → k ≡ k' →
+    l ≡ l' →
+    a ++ (b ++ (c ++ (d ++ (e ++ (f ++ (g ++ (h ++ (j ++ (k ++ (l ++ []))))))))))
+    ≡ a' ++ (b' ++ (c' ++ (d' ++ (e' ++ (f' ++ (g' ++ (h' ++ (j' ++ (k' ++ l')))))))))
+eleven_points a b c d e f g h j k l a' b' c' d' e' f' g' h' j' k' l' pa pb pc pd pe pf pg ph pj pk
+    pl =
+    λ i. pa i ++ (pb i ++ (pc i ++ (pd i ++ (pe i ++ (pf i ++ (pg i ++ (ph i ++ (pj i ++ (pk i
+    ++ (append-nil l ∙ pl) i)))))))))
 
 -- the difference from what a mark stands for is the changes
 pub delta_is : (land : LandValue) (list : ListValue) (es : List Entity) (pack : PackValue)
-    (mark : MarkValue) (view : ViewSet) (p : Sight) (high : ℤ) → Rise eid_of (pos 0) es high →
-    StandsFor mark (settled_parts land list) p →
-    delta p (seen land list es pack view) ≡ changes land list es pack mark view
+    (mark : MarkValue) (view : ViewSet) (age : ℕ) (lines : List (List ℕ)) (p : Sight) (high : ℤ) →
+    Rise eid_of (pos 0) es high → StandsFor mark (settled_parts land list) p →
+    delta p (seen land list es pack view age (p.chat ++ lines))
+    ≡ changes land list es pack mark view age lines
 unfolding delta changes StandsFor
-delta_is land list es pack mark view p high r stands =
+delta_is land list es pack mark view age lines p high r stands =
     let parts = settled_parts land list in
     let pairs : p.pairs ≡ listed mark list = stands.pairs ∙ listed_is mark land list in
     let all = shown_entries land.terrain land.edits view in
-    eight_points _ _ _ _ _ _ _ _ _ _ _ _ _ _ _ _
+    eleven_points _ _ _ _ _ _ _ _ _ _ _ _ _ _ _ _ _ _ _ _ _ _
+    (ap (λ (told : Option ℤ). beat_packets told (beat_now age)) stands.beat)
+    (ap (λ (told : Option ℤ). time_packets told (age_now age)) stands.age)
     (ap (λ (m : Pairs). leaver_packets m list.present) pairs)
     (ap (λ (m : Pairs). joiner_packets m list.present) pairs)
     (destroys_are p.entities mark.told es view stands.entities)
@@ -266,14 +272,22 @@ delta_is land list es pack mark view p high r stands =
     ∙ cells_are land list mark.view p.columns stands.columns (all_of view))
     (entities_are p.entities mark.told es view high r stands.entities)
     (ap (λ (slots : List _). slot_packets 9 slots (map slot_of pack.slots)) stands.pack)
+    (ap (map chat_packet) (drop-append_seam p.chat lines))
 
--- what a mark keeps of a tick stands for what is seen
+-- what a mark keeps of a tick stands for what is seen, whatever was said
 pub stands_seen : (land : LandValue) (list : ListValue) (es : List Entity) (pack : PackValue)
-    (view : ViewSet) →
-    StandsFor (record { view = Some view; told = told_now es view; slots = pack.slots })
-    (present_parts land list) (seen land list es pack view)
+    (view : ViewSet) (age : ℕ) (chat : List (List ℕ)) →
+    StandsFor (record {
+      beat = beat_now age;
+      age = age_now age;
+      view = Some view;
+      told = told_now es view;
+      slots = pack.slots;
+    }) (present_parts land list) (seen land list es pack view age chat)
 unfolding StandsFor
-stands_seen land list es pack view = record {
+stands_seen land list es pack view age chat = record {
+  beat = refl;
+  age = refl;
   pairs = refl;
   columns = refl;
   entities = shown_told view es;

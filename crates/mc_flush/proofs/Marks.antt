@@ -31,5 +31,11 @@ few_empty told none =
 
 -- the mark of a client that was shown nothing is one
 pub first_mark : (told : Told) → told ≡ empty →
-    IsMark (record { view = None; told = told; slots = replicate pack_size Empty })
+    IsMark (record {
+      beat = None;
+      age = None;
+      view = None;
+      told = told;
+      slots = replicate pack_size Empty;
+    })
 first_mark told none = record { few = few_empty told none; pack = empty_pack }

@@ -6,7 +6,9 @@ use Rattle.std.proofs.lemmas.List.{map-append, append-nil}
 use Rattle.std.proofs.lemmas.Grind.{flat_map-append}
 use Rattle.mc_down.specs.declared.down.Down.{Down}
 use Rattle.mc_model.specs.Packets.{of_play, frame_of, bytes_of}
+use Rattle.mc_model.specs.Delta.{chat_packet}
 use Rattle.mc_flush.specs.Sending.{play_bytes}
+use Rattle.mc_flush.specs.Seeing.{line_packets}
 
 -- the next piece of what is left is appended
 pub next_piece : (now after total piece rest left : List ℕ) → left ≡ piece ++ rest →
@@ -31,6 +33,17 @@ play_bytes-append xs ys = ap bytes_of (map-append of_play xs ys)
 -- one packet
 pub play_bytes-one : (packet : Down) → frame_of (of_play packet) ≡ play_bytes (packet ∷ [])
 play_bytes-one packet = sym (append-nil (frame_of (of_play packet)))
+
+-- the next line of what is left is appended
+pub line_put : (x : List ℕ) (left rest : List (List ℕ)) (now after total : List ℕ) → left ≡ x ∷ rest →
+    now ++ play_bytes (line_packets left) ≡ total →
+    after ≡ now ++ play_bytes (chat_packet x ∷ []) →
+    after ++ play_bytes (line_packets rest) ≡ total
+line_put x left rest now after total is all put =
+    next_piece now after total (play_bytes (chat_packet x ∷ [])) (play_bytes (line_packets rest))
+    (play_bytes (line_packets left))
+    (ap (λ (lines : List (List ℕ)). play_bytes (line_packets lines)) is
+    ∙ play_bytes-append (chat_packet x ∷ []) (line_packets rest)) all put
 
 -- the cost of the next of so many things is counted
 pub next_cost : {A : Type 0} (each now after total : ℕ) (left rest : List A) (x : A) →

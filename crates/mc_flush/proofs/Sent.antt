@@ -11,12 +11,13 @@ use Rattle.mc_entities.specs.declared.entity.Entity.{Entity}
 use Rattle.mc_down.specs.declared.down.Down.{Down}
 use Rattle.mc_view.specs.declared.view_set.ViewSet.{ViewSet}
 use Rattle.mc_view.specs.Sets.{is_within}
-use Rattle.mc_model.specs.Delta.{destroying}
+use Rattle.mc_model.specs.Delta.{beat_packets, destroying, time_packets}
 use Rattle.mc_flush.specs.Lists.{ListValue}
 use Rattle.mc_flush.specs.Sending.{play_bytes}
-use Rattle.mc_flush.specs.Seeing.{MarkValue, changed_packets, changes, column_packets, entity_frames}
-use Rattle.mc_flush.specs.Seeing.{gone_from, joiner_packets, leaver_packets, listed, load_packets}
-use Rattle.mc_flush.specs.Seeing.{loaded, pack_packets, place_packets, player_packets, shown_among}
+use Rattle.mc_flush.specs.Seeing.{MarkValue, age_now, age_packets, beat_now, changed_packets, changes}
+use Rattle.mc_flush.specs.Seeing.{column_packets, entity_frames, gone_from, joiner_packets}
+use Rattle.mc_flush.specs.Seeing.{leaver_packets, line_packets, listed, load_packets, loaded}
+use Rattle.mc_flush.specs.Seeing.{pack_packets, place_packets, player_packets, shown_among}
 use Rattle.mc_flush.specs.Seeing.{stayed, unload_packets, unloaded}
 use Rattle.mc_flush.specs.Encoding.{EncodedValue, change_bytes, change_cost, changes_cost}
 use Rattle.mc_flush.proofs.Pieces.{play_bytes-append}
@@ -95,15 +96,21 @@ columns_put land mark view old one two new first second third =
 
 -- all that differs
 pub changes_put_all : (land : LandValue) (list : ListValue) (es : List Entity) (pack : PackValue)
-    (mark : MarkValue) (view : ViewSet) (old one two three four new : List ℕ) →
-    one ≡ old ++ play_bytes (player_packets (listed mark list) list.present) →
+    (mark : MarkValue) (view : ViewSet) (age : ℕ) (lines : List (List ℕ))
+    (old first one two three four five new : List ℕ) →
+    first ≡ old ++ play_bytes (age_packets mark age) →
+    one ≡ first ++ play_bytes (player_packets (listed mark list) list.present) →
     two ≡ one ++ play_bytes (destroying (gone_from mark.told es view)) →
     three ≡ two ++ play_bytes (column_packets land mark view) →
     four ≡ three ++ play_bytes (entity_frames mark.told es view) →
-    new ≡ four ++ play_bytes (pack_packets mark.slots pack.slots) →
-    new ≡ old ++ play_bytes (changes land list es pack mark view)
+    five ≡ four ++ play_bytes (pack_packets mark.slots pack.slots) →
+    new ≡ five ++ play_bytes (line_packets lines) →
+    new ≡ old ++ play_bytes (changes land list es pack mark view age lines)
 unfolding changes
-changes_put_all land list es pack mark view old one two three four new e f g h k =
+changes_put_all land list es pack mark view age lines old first one two three four five new b e f g h
+    k m =
+    let w = beat_packets mark.beat (beat_now age) in
+    let t = time_packets mark.age (age_now age) in
     let l = leaver_packets (listed mark list) list.present in
     let j = joiner_packets (listed mark list) list.present in
     let d = destroying (gone_from mark.told es view) in
@@ -112,23 +119,30 @@ changes_put_all land list es pack mark view old one two three four new e f g h k
     let c = changed_packets land (stayed mark view) in
     let n = entity_frames mark.told es view in
     let p = pack_packets mark.slots pack.slots in
-    k ∙ ap (λ (t : List ℕ). t ++ play_bytes p) (h ∙ ap (λ (t : List ℕ). t ++ play_bytes n)
-    (g ∙ ap (λ (t : List ℕ). t ++ play_bytes (u ++ (o ++ c))) (f
-    ∙ ap (λ (t : List ℕ). t ++ play_bytes d) e)))
-    ∙ joined_all old (l ++ j) d (u ++ (o ++ c)) n p
-    ∙ ap (λ (ds : List Down). old ++ play_bytes ds) (flat l j d u o c n p)
+    let s = line_packets lines in
+    m ∙ ap (λ (bytes : List ℕ). bytes ++ play_bytes s)
+    (k ∙ ap (λ (bytes : List ℕ). bytes ++ play_bytes p)
+    (h ∙ ap (λ (bytes : List ℕ). bytes ++ play_bytes n)
+    (g ∙ ap (λ (bytes : List ℕ). bytes ++ play_bytes (u ++ (o ++ c)))
+    (f ∙ ap (λ (bytes : List ℕ). bytes ++ play_bytes d)
+    (e ∙ ap (λ (bytes : List ℕ). bytes ++ play_bytes (l ++ j)) b)))))
+    ∙ joined_all old (w ++ t) (l ++ j) d (u ++ (o ++ c)) n p s
+    ∙ ap (λ (ds : List Down). old ++ play_bytes ds) (flat w t l j d u o c n p s)
   where
-    joined_all : (o : List ℕ) (a b c d e : List Down) →
-        ((((o ++ play_bytes a) ++ play_bytes b) ++ play_bytes c) ++ play_bytes d) ++ play_bytes e
-        ≡ o ++ play_bytes ((((a ++ b) ++ c) ++ d) ++ e)
-    joined_all o a b c d e = rw (
+    joined_all : (o : List ℕ) (a b c d e f g : List Down) →
+        ((((((o ++ play_bytes a) ++ play_bytes b) ++ play_bytes c) ++ play_bytes d) ++ play_bytes e)
+        ++ play_bytes f) ++ play_bytes g
+        ≡ o ++ play_bytes ((((((a ++ b) ++ c) ++ d) ++ e) ++ f) ++ g)
+    joined_all o a b c d e f g = rw (
+      play_bytes-append (((((a ++ b) ++ c) ++ d) ++ e) ++ f) g,
+      play_bytes-append ((((a ++ b) ++ c) ++ d) ++ e) f,
       play_bytes-append (((a ++ b) ++ c) ++ d) e,
       play_bytes-append ((a ++ b) ++ c) d,
       play_bytes-append (a ++ b) c,
       play_bytes-append a b,
     ) (simp append_assoc)
 
-    flat : (l j d u o c n p : List Down) →
-        ((((l ++ j) ++ d) ++ (u ++ (o ++ c))) ++ n) ++ p
-        ≡ l ++ (j ++ (d ++ (u ++ (o ++ (c ++ (n ++ p))))))
-    flat l j d u o c n p = simp append_assoc
+    flat : (w t l j d u o c n p s : List Down) →
+        ((((((w ++ t) ++ (l ++ j)) ++ d) ++ (u ++ (o ++ c))) ++ n) ++ p) ++ s
+        ≡ w ++ (t ++ (l ++ (j ++ (d ++ (u ++ (o ++ (c ++ (n ++ (p ++ s)))))))))
+    flat w t l j d u o c n p s = simp append_assoc

@@ -25,11 +25,13 @@ use Rattle.mc_view.specs.Sets.{all_of, has, is_within, lacking}
 use Rattle.mc_view.specs.Told.{Told}
 use Rattle.mc_view.specs.Views.{column_of_spot}
 use Rattle.mc_model.specs.Sight.{Seen, Sight}
+use Rattle.mc_model.specs.Ticks.{beat_at, shown_age}
 use Rattle.mc_model.specs.Notes.{Noted}
 use Rattle.mc_model.specs.World.{seen_of}
 use Rattle.mc_model.specs.Step.{noted_packets, notes_of}
 use Rattle.mc_model.specs.Delta.{Pairs, missing, leaver, joiner, about, unload, load}
-use Rattle.mc_model.specs.Delta.{cell_packets, destroying, entity_packets, slot_packets}
+use Rattle.mc_model.specs.Delta.{beat_packets, time_packets, cell_packets, destroying}
+use Rattle.mc_model.specs.Delta.{entity_packets, slot_packets, chat_packet}
 use Rattle.mc_flush.specs.Lists.{ListValue}
 
 -- ---- what all clients are shown a part of
@@ -68,20 +70,34 @@ is_in view e = has view (column_of_spot e.spot)
 abbrev pub in_view : ViewSet → List Entity → List Entity
 in_view view entities = filter (is_in view) entities
 
--- what a client is to be shown: the players that are in the list now, the columns of the view as they
--- are, the dropped items in it, and its pack
-abbrev pub seen : LandValue → ListValue → List Entity → PackValue → ViewSet → Sight
-seen land list entities pack view = record {
+-- the beat and the age that a client is told at an age
+abbrev pub beat_now : ℕ → Option ℤ
+beat_now age = Some (pos (beat_at age))
+
+abbrev pub age_now : ℕ → Option ℤ
+age_now age = Some (pos (shown_age age))
+
+-- what a client is to be shown: the beat and the age, the players that are in the list now, the columns
+-- of the view as they are, the dropped items in it, its pack, and all that was said
+abbrev pub seen : LandValue → ListValue → List Entity → PackValue → ViewSet → ℕ → List (List ℕ) →
+    Sight
+seen land list entities pack view age chat = record {
+  beat = beat_now age;
+  age = age_now age;
   pairs = list.present;
   columns = columns_of (present_parts land list) view;
   entities = from_entries (filter_map seen_of (in_view view entities));
   pack = map slot_of pack.slots;
+  chat = chat;
 }
 
 -- ---- what was shown
 
 -- what contracts see of a mark
 pub record MarkValue : Type 0 where
+  -- the beat and the age that were told last
+  pub beat : Option ℤ
+  pub age : Option ℤ
   -- the view whose columns were shown, none before the first tick
   pub view : Option ViewSet
   -- what was told of entities
@@ -90,7 +106,13 @@ pub record MarkValue : Type 0 where
   pub slots : List Pile
 
 abbrev pub nothing_shown : MarkValue
-nothing_shown = record { view = None; told = empty; slots = replicate pack_size Empty }
+nothing_shown = record {
+  beat = None;
+  age = None;
+  view = None;
+  told = empty;
+  slots = replicate pack_size Empty;
+}
 
 -- whether anything was shown
 abbrev pub is_shown : MarkValue → Bool
@@ -109,8 +131,10 @@ columns_in (Some view) parts = columns_of parts view
 abbrev pub told_item : Spot × Pile → Seen
 told_item told = record { spot = told.0; head = told.0.yaw; item = slot_of told.1 }
 
--- a mark stands for a sight, of the parts as they were
+-- a mark stands for a sight, of the parts as they were; of what was said it says nothing
 pub record Shown (mark : MarkValue) (parts : Parts) (p : Sight) : Type 0 where
+  pub beat : p.beat ≡ mark.beat
+  pub age : p.age ≡ mark.age
   pub pairs : p.pairs ≡ pairs_in mark.view parts
   pub columns : p.columns ≡ columns_in mark.view parts
   pub entities : (eid : ℤ) → get p.entities eid ≡ option_map told_item (get mark.told eid)
@@ -205,17 +229,29 @@ entity_frames told entities view =
 abbrev pub pack_packets : List Pile → List Pile → List Down
 pack_packets old new = slot_packets 9 (map slot_of old) (map slot_of new)
 
--- all of it
-unfoldable pub changes : LandValue → ListValue → List Entity → PackValue → MarkValue → ViewSet →
-    List Down
-changes land list entities pack mark view =
-    leaver_packets (listed mark list) list.present
+-- the beat and the age, where others were told
+abbrev pub age_packets : MarkValue → ℕ → List Down
+age_packets mark age =
+    beat_packets mark.beat (beat_now age) ++ time_packets mark.age (age_now age)
+
+-- what was said
+abbrev pub line_packets : List (List ℕ) → List Down
+line_packets lines = map chat_packet lines
+
+-- all of it, where these lines are new
+unfoldable pub changes : LandValue → ListValue → List Entity → PackValue → MarkValue → ViewSet → ℕ →
+    List (List ℕ) → List Down
+changes land list entities pack mark view age lines =
+    beat_packets mark.beat (beat_now age)
+    ++ (time_packets mark.age (age_now age)
+    ++ (leaver_packets (listed mark list) list.present
     ++ (joiner_packets (listed mark list) list.present
     ++ (destroying (gone_from mark.told entities view)
     ++ (unload_packets (unloaded mark view)
     ++ (load_packets land (loaded mark view)
     ++ (changed_packets land (stayed mark view)
-    ++ (entity_frames mark.told entities view ++ pack_packets mark.slots pack.slots))))))
+    ++ (entity_frames mark.told entities view
+    ++ (pack_packets mark.slots pack.slots ++ line_packets lines)))))))))
 
 -- what was noted: cells in the view as they are, and all else, of a player that is at a spot and
 -- carries a pack

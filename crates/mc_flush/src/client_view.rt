@@ -1,4 +1,4 @@
-ghost use Rattle.std.specs.Prelude.{◌≡◌, ◌≤◌, ◌+◌, ◌++◌, IfOk, OnOk, OnErr, Some, pos};
+ghost use Rattle.std.specs.Prelude.{◌≡◌, ◌≤◌, ◌+◌, ◌++◌, List, ℕ, IfOk, OnOk, OnErr, Some, pos};
 ghost use Rattle.std.specs.List.{AllByRecursion};
 ghost use Rattle.std.specs.FinMap as map;
 ghost use Rattle.mc_frame.specs.Kept.{joined};
@@ -14,8 +14,8 @@ ghost use Rattle.mc_flush.specs.Encoding.{AreFrames, looks, noted_looks};
 ghost use Rattle.mc_flush.specs.Telling.{told_now};
 
 use crate::noted::noted_piece;
-use crate::pushing::{push_notes, push_piece, push_slots};
-use crate::{Encoded, Mark, PlayerList};
+use crate::pushing::{push_age, push_lines, push_notes, push_piece, push_slots};
+use crate::{Encoded, Line, Mark, PlayerList};
 use bytes::Bytes;
 use mc_entities::Folk;
 use mc_fields::Spot;
@@ -27,8 +27,8 @@ use mc_windows::Pack;
 use std::alloc::Global;
 use std::sync::ledger::Ledger;
 
-/// What one client is shown a part of: the land, the entities, the list of players, and what its
-/// player carries and where it is.
+/// What one client is shown a part of: the land, the entities, the list of players, what its player
+/// carries and where it is, what was said, and how old the world is.
 #[derive(Drop)]
 pub struct ClientView<'w> {
     /// The cells.
@@ -41,6 +41,10 @@ pub struct ClientView<'w> {
     pub list: &'w PlayerList,
     /// What was encoded of these for all clients.
     pub encoded: &'w Encoded,
+    /// What was said that the client was not shown yet.
+    pub lines: &'w [Line],
+    /// How many ticks old the world is.
+    pub age: u64,
     /// The number of the client's own entity.
     pub me: i32,
     /// The columns that the client is shown.
@@ -82,9 +86,10 @@ impl ClientView<'_> {
         requires ready { AllByRecursion (IsReady self.now.land.now)
             (loaded mark.old self.now.view) }
         requires frames { AreFrames self.now.land.now self.now.list.now self.now.encoded.now }
+        requires young { self.now.age ≤ 1000000000 }
         ensures sent { OnOk result (joined out.new.items ≡ joined out.old.items ++ play_bytes
             (changes self.now.land.now self.now.list.now self.now.folk.now.state.entities
-            self.now.pack.now mark.old self.now.view)) }
+            self.now.pack.now mark.old self.now.view self.now.age self.now.lines.now)) }
         ensures mark { OnOk result (mark.new ≡ record mark.old {
           told = told_now self.now.folk.now.state.entities self.now.view;
         }) }
@@ -95,12 +100,14 @@ impl ClientView<'_> {
         ensures bounded { steps.new ≤ steps.old
             + looks self.now.encoded.now self.now.land.now mark.old self.now.view }
     {
+        push_age(alloc, mark, self.age, out)?;
         push_piece(self.players(alloc, mark)?, out)?;
         let (gone, shown) = mark.tell(alloc, self.folk, &self.view)?;
         push_piece(gone, out)?;
         self.push_columns(alloc, mark, out, steps)?;
         push_piece(shown, out)?;
         push_slots(alloc, mark, self.pack, out)?;
+        push_lines(alloc, self.lines, out)?;
         Ok(())
     }
 }
@@ -124,17 +131,18 @@ pub fn flush<L: Ledger>(
     requires named { AllByRecursion IsNamed (map.entries view.now.list.now.present) }
     requires ready { AllByRecursion (IsReady view.now.land.now) (loaded mark.old view.now.view) }
     requires frames { AreFrames view.now.land.now view.now.list.now view.now.encoded.now }
+    requires young { view.now.age ≤ 1000000000 }
     ensures sent { (p : Sight) →
         StandsFor mark.old (settled_parts view.now.land.now view.now.list.now) p →
         OnOk result (joined out.new.items ≡ joined out.old.items ++ play_bytes
         (delta p (seen view.now.land.now view.now.list.now view.now.folk.now.state.entities
-        view.now.pack.now view.now.view)
+        view.now.pack.now view.now.view view.now.age (p.chat ++ view.now.lines.now))
         ++ noted_of view.now.land.now view.now.view notes.now view.now.place
         view.now.pack.now)) }
-    ensures stands { OnOk result
+    ensures stands { (chat : List (List ℕ)) → OnOk result
         (StandsFor mark.new (present_parts view.now.land.now view.now.list.now)
         (seen view.now.land.now view.now.list.now view.now.folk.now.state.entities
-        view.now.pack.now view.now.view)) }
+        view.now.pack.now view.now.view view.now.age chat)) }
     ensures opened { OnOk result (mark.new.view ≡ Some view.now.view) }
     ensures nothing { OnErr result (out.new.items ≡ out.old.items) }
     ensures cost { OnOk result (steps.new ≡ steps.old
@@ -152,6 +160,6 @@ pub fn flush<L: Ledger>(
     )?;
     push_notes(alloc, notes, &view.place, view.pack, &mut pieces)?;
     out.append(&mut pieces)?;
-    mark.keep(view.view, view.pack);
+    mark.keep(view.age, view.view, view.pack);
     Ok(())
 }

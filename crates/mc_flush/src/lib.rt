@@ -6,6 +6,7 @@
 //! stands for that. What is the same for all clients of a tick is encoded once and shared.
 #![tactic(auto)]
 
+mod beats;
 mod cells;
 mod client_view;
 mod column_pieces;
@@ -14,6 +15,7 @@ mod encoded;
 mod entities;
 mod frames;
 mod items;
+mod line;
 mod mark;
 mod names;
 mod noted;
@@ -26,6 +28,7 @@ mod slots;
 pub use client_view::{ClientView, flush};
 pub use encoded::Encoded;
 pub use frames::put_packet;
+pub use line::Line;
 pub use mark::Mark;
 pub use notes::placing_packet;
 pub use player_list::PlayerList;

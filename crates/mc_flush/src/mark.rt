@@ -1,14 +1,15 @@
-ghost use Rattle.std.specs.Prelude.{◌≡◌, ℕ, IfOk, OnOk, Some, pos};
+ghost use Rattle.std.specs.Prelude.{◌≡◌, ◌≤◌, ℕ, IfOk, OnOk, Some, pos};
 ghost use Rattle.std.specs.Option.{option_copied};
 ghost use Rattle.mc_slots.specs.Pile.{IsPile};
 ghost use Rattle.mc_slots.specs.Chest.{pile_at};
 ghost use Rattle.mc_windows.specs.Pack.{pack_size};
 ghost use Rattle.mc_entities.specs.Numbers.{Rise};
 ghost use Rattle.mc_entities.specs.Folk.{eid_of};
-ghost use Rattle.mc_model.specs.Delta.{destroying};
+ghost use Rattle.mc_model.specs.Delta.{destroying, is_told};
 ghost use Rattle.mc_view.specs.Sets.{is_within};
 ghost use Rattle.mc_flush.specs.Sending.{play_bytes};
-ghost use Rattle.mc_flush.specs.Seeing.{entity_frames, gone_from, loaded, nothing_shown};
+ghost use Rattle.mc_flush.specs.Seeing.{age_now, beat_now, entity_frames, gone_from, loaded};
+ghost use Rattle.mc_flush.specs.Seeing.{nothing_shown};
 ghost use Rattle.mc_flush.specs.Telling.{told_now};
 
 mod fields;
@@ -16,6 +17,7 @@ mod fields;
 use crate::entities::tell;
 use bytes::Bytes;
 use mc_entities::Folk;
+use mc_model::{beat_at, shown_age};
 use mc_nbt::NoMemory;
 use mc_slots::Pile;
 use mc_view::{Columns, Tracker, ViewSet};
@@ -26,11 +28,15 @@ use std::marker::Model;
 /// How many piles a pack has, without the cursor.
 const PILES: usize = 36;
 
-/// What a client was told, and no copy of it: the columns of a view, of each entity where it is and
-/// what lies there, and the piles of its pack. The players and the cells that it was shown are
-/// those of the last settling of the list and of the land.
+/// What a client was told, and no copy of it: the beat and the age, the columns of a view, of each
+/// entity where it is and what lies there, and the piles of its pack. The players and the cells that
+/// it was shown are those of the last settling of the list and of the land.
 #[derive(Drop)]
 pub struct Mark {
+    /// The beat that was told last.
+    beat: Option<i32>,
+    /// The age that was told last.
+    age: Option<i64>,
     /// The view, None before the first tick.
     shown: Option<ViewSet>,
     /// What was told of entities.
@@ -48,10 +54,21 @@ impl Model for Mark {
 
     ghost coded = { Prim.hlevel (codes, coded_told) };
 
-    ghost view = { λ mark. record { view = mark.shown; told = mark.told; slots = mark.slots } };
+    ghost view = { λ mark. record {
+      beat = mark.beat;
+      age = mark.age;
+      view = mark.shown;
+      told = mark.told;
+      slots = mark.slots;
+    } };
 
-    ghost invariant = { λ mark.
-        IsMark (record { view = mark.shown; told = mark.told; slots = mark.slots }) };
+    ghost invariant = { λ mark. IsMark (record {
+      beat = mark.beat;
+      age = mark.age;
+      view = mark.shown;
+      told = mark.told;
+      slots = mark.slots;
+    }) };
 }
 
 impl Mark {
@@ -60,9 +77,31 @@ impl Mark {
         ensures { result ≡ nothing_shown }
     {
         Mark {
+            beat: None,
+            age: None,
             shown: None,
             told: Tracker::new(alloc),
             slots: [Pile::Empty; PILES],
+        }
+    }
+
+    /// Whether the client was told this beat last.
+    pub fn was_told(&self, beat: i32) -> bool
+        ensures { result ≡ is_told self.now.beat beat }
+    {
+        match self.beat {
+            Some(told) => told == beat,
+            None => false,
+        }
+    }
+
+    /// Whether the client was told this age last.
+    pub(crate) fn was_told_age(&self, age: i64) -> bool
+        ensures { result ≡ is_told self.now.age age }
+    {
+        match self.age {
+            Some(told) => told == age,
+            None => false,
         }
     }
 
@@ -124,10 +163,19 @@ impl Mark {
         pieces
     }
 
-    /// Keeps the view that was shown last, and the pack.
-    pub(crate) fn keep(&mut self, view: ViewSet, pack: &Pack)
-        ensures { self.new ≡ record self.old { view = Some view; slots = pack.now.slots } }
+    /// Keeps what was shown last: the beat and the age that are told at an age of the world, the view,
+    /// and the pack.
+    pub(crate) fn keep(&mut self, age: u64, view: ViewSet, pack: &Pack)
+        requires { age ≤ 1000000000 }
+        ensures { self.new ≡ record self.old {
+          beat = beat_now age;
+          age = age_now age;
+          view = Some view;
+          slots = pack.now.slots;
+        } }
     {
+        self.beat = Some(beat_at(age));
+        self.age = Some(shown_age(age));
         self.shown = Some(view);
         self.slots = pack.slots;
     }

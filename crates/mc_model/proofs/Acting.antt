@@ -1,7 +1,7 @@
 -- What a frame comes to, done: what it makes of its connection.
 use Rattle.std.proofs.Common.{◌≡◌, ℕ, ◌+◌, List, [], ◌∷◌, inl, inr, refl, sym, subst, ap, ◌∙◌}
 use Rattle.std.specs.Prelude.{◌⊎◌, ◌==◌, min, true, false, Option, Some, None, option_map, Result}
-use Rattle.std.specs.Prelude.{Ok, Err, if◌then◌else◌}
+use Rattle.std.specs.Prelude.{Ok, Err, length, if◌then◌else◌}
 use Rattle.std.specs.Option.{option_and_then}
 use lib.IntN.{ℤ, pos, negsuc}
 use Rattle.mc_fields.specs.declared.packet.PacketFault.{PacketFault}
@@ -15,8 +15,9 @@ use Rattle.mc_up.specs.declared.status_up.StatusUp.TheVariants.{Request, Ping}
 use Rattle.mc_up.specs.declared.login_up.LoginUp.{LoginUp}
 use Rattle.mc_up.specs.declared.login_up.LoginUp.TheVariants.{Start}
 use Rattle.mc_up.specs.declared.play_up.PlayUp.{PlayUp}
-use Rattle.mc_up.specs.declared.play_up.PlayUp.TheVariants.{Position, Look, PositionLook, Held}
-use Rattle.mc_up.specs.declared.play_up.PlayUp.TheVariants.{Settings, Digging, Placement, Creative}
+use Rattle.mc_up.specs.declared.play_up.PlayUp.TheVariants.{KeepAlive, Chat, Position, Look}
+use Rattle.mc_up.specs.declared.play_up.PlayUp.TheVariants.{PositionLook, Held, Settings, Digging}
+use Rattle.mc_up.specs.declared.play_up.PlayUp.TheVariants.{Placement, Creative}
 use Rattle.mc_up.specs.Hand as hand
 use Rattle.mc_up.specs.StatusUp as status
 use Rattle.mc_up.specs.LoginUp as login
@@ -29,7 +30,6 @@ use Rattle.mc_model.specs.declared.stage.Stage.TheVariants as stages
 use Rattle.mc_model.specs.Names.{offline_uuid}
 use Rattle.mc_entities.specs.Shift.{is_inside}
 use Rattle.mc_model.specs.Notes.{Noted}
-use Rattle.mc_model.specs.Sight.{Sight}
 use Rattle.mc_model.specs.Things.{Things, with_entity, standing, holding, in_hand}
 use Rattle.mc_model.specs.World.{World, Session, Player, found, put, is_play, is_closed, spot_of}
 use Rattle.mc_model.specs.World.{pack_of}
@@ -38,6 +38,8 @@ use Rattle.mc_model.specs.Movement.{arrive, landing, landed, moved, turned}
 use Rattle.mc_model.specs.Packs.{again, noting, place_of_hotbar, take_up}
 use Rattle.mc_model.specs.Digging.{digging, dropped, dug}
 use Rattle.mc_model.specs.Placing.{place_on, placed}
+use Rattle.mc_model.specs.Beats.{answer}
+use Rattle.mc_model.specs.Chat.{say}
 use Rattle.mc_model.specs.Acts.{act}
 use Rattle.mc_model.specs.Talk.{ClientRequest, nothing, greets, replies, ends, enters, acts, wrong}
 use Rattle.mc_model.specs.Talk.{request_of, in_hand as in_handshake, in_status, in_login, in_play}
@@ -47,7 +49,8 @@ use Rattle.mc_model.specs.Step.{still, perform, refusal, answer_login, acted, ac
 use Rattle.mc_model.specs.Step.{with_new_player, entered as entering}
 use Rattle.mc_model.proofs.Deeds.{digging_cases, placing_cases}
 use Rattle.mc_model.proofs.Beside.{beside_same}
-use Rattle.mc_model.proofs.Handing.{shown_in, stayed, answered, greeted, entered, IsLast, owes_same}
+use Rattle.mc_model.proofs.Handing.{ShownSaid, shown_said, shown_in, stayed, answered, greeted}
+use Rattle.mc_model.proofs.Handing.{entered, IsLast, owes_same}
 use Rattle.mc_model.proofs.Handing.{Goes, goes_still, goes_put, goes_hand, goes_close, play_is}
 use Rattle.mc_model.proofs.Handing.{not_both}
 
@@ -105,33 +108,35 @@ suits stages.Closed most online frame = tt
 
 -- ---- what a player does
 
--- it changes nothing but the things, and its own player's view, hand and notes
+-- it changes nothing but the things, what was said, and its own player, but not what that was shown
 pub record Acted (w : World) (s : Session) (v : World) : Type 0 where
   pub session : Session
   pub things : Things
+  pub lines : List (List ℕ)
   pub id : session.id ≡ s.id
   pub stage : session.stage ≡ s.stage
   pub shown : shown_in session ≡ shown_in s
   pub cause : session.cause ≡ s.cause
   pub owed : session.owed ≡ s.owed
-  pub is : (v ≡ record w { things = things }) ⊎ (v ≡ record (put w session) { things = things })
+  pub is : (v ≡ record w { things = things; lines = lines })
+      ⊎ (v ≡ record (put w session) { things = things; lines = lines })
 
-landed_shown : (spot : Spot) (p : Player) → (landed spot p).shown ≡ p.shown
+landed_shown : (spot : Spot) (p : Player) → shown_said (landed spot p) ≡ shown_said p
 landed_shown spot p = elim (is_inside spot) as
-    (λ b. (if b then p else record p { notes = record p.notes { placing = true } }).shown ≡ p.shown)
-    [ true ↦ refl | false ↦ refl ]
+    (λ b. shown_said (if b then p else record p { notes = record p.notes { placing = true } })
+    ≡ shown_said p) [ true ↦ refl | false ↦ refl ]
 
 -- another player in the place of one, that was shown the same
 player_acted : (w : World) (s : Session) (p q : Player) (things : Things) → s.player ≡ Some p →
-    q.shown ≡ p.shown →
+    shown_said q ≡ shown_said p →
     Acted w s (record (put w (record s { player = Some q })) { things = things })
 player_acted w s p q things there same = record {
   session = record s { player = Some q };
   things = things;
+  lines = w.lines;
   id = refl;
   stage = refl;
-  shown = ap (λ (seen : Option Sight). Some seen) same
-      ∙ sym (ap (option_map (λ (p : Player). p.shown)) there);
+  shown = ap (λ (seen : ShownSaid). Some seen) same ∙ sym (ap (option_map shown_said) there);
   cause = refl;
   owed = refl;
   is = inr refl;
@@ -158,6 +163,7 @@ nothing_acted : (w : World) (s : Session) → Acted w s w
 nothing_acted w s = record {
   session = s;
   things = w.things;
+  lines = w.lines;
   id = refl;
   stage = refl;
   shown = refl;
@@ -178,6 +184,22 @@ things_acted : (w : World) (s : Session) (things : Things) →
 things_acted w s things = record {
   session = s;
   things = things;
+  lines = w.lines;
+  id = refl;
+  stage = refl;
+  shown = refl;
+  cause = refl;
+  owed = refl;
+  is = inl refl;
+}
+
+-- something said
+said_acted : (w : World) (s : Session) (lines : List (List ℕ)) →
+    Acted w s (record w { lines = lines })
+said_acted w s lines = record {
+  session = s;
+  things = w.things;
+  lines = lines;
   id = refl;
   stage = refl;
   shown = refl;
@@ -212,6 +234,12 @@ placing_acted w s p cell face there =
 pub act_acted : (w : World) (s : Session) (p : Player) (x : PlayUp) (v : World) →
     s.player ≡ Some p → act w s p x ≡ Some v → Acted w s v
 unfolding act
+act_acted w s p (KeepAlive beat) v there e =
+    subst (λ (u : World). Acted w s u) (some_is (answer w s p) v e)
+    (player_acted w s p (record p { missed = 0 }) w.things there refl)
+act_acted w s p (Chat text) v there e =
+    subst (λ (u : World). Acted w s u) (some_is (say w p text) v e)
+    (said_acted w s (say w p text).lines)
 act_acted w s p (Position x y z on_ground) v there e =
     arrive_acted w s p (moved (spot_of w p) x y z) v there e
 act_acted w s p (Look yaw pitch on_ground) v there e =
@@ -242,15 +270,15 @@ goes_acted : (k : ℕ) (w v : World) (s : Session) → found k w.sessions ≡ So
     Acted w s v → Goes k w s (still v)
 goes_acted k w v s e is a = elim (a.is) [
   | inl same ↦ subst (λ (u : World). Goes k w s (still u)) (sym same) (record {
-    beside = beside_same k w a.things;
+    beside = beside_same k w a.things a.lines;
     session = s;
     there = e;
     done = stayed refl refl refl refl;
     owes = owes_same s s refl;
   })
   | inr same ↦ subst (λ (u : World). Goes k w s (still u)) (sym same)
-      (goes_put k w a.things s a.session [] e (a.id ∙ is) (stayed a.stage a.shown a.cause refl)
-      (owes_same s a.session a.owed))
+      (goes_put k w a.things a.lines s a.session [] e (a.id ∙ is)
+      (stayed a.stage a.shown a.cause refl) (owes_same s a.session a.owed))
 ]
 
 -- ---- a frame done
@@ -290,7 +318,8 @@ login_goes k w s name None e is at open_ =
     goes_hand k w (with_new_player w.terrain name w.things) s (entering w s name)
     (entering w s name)
     (accepted (offline_uuid name) name) e is refl open_
-    (λ owed. entered (new_player (w.things.eids + 1) name) at refl refl refl refl refl)
+    (λ owed. entered (new_player (w.things.eids + 1) name (length w.lines)) at refl refl refl refl
+    refl refl)
 
 acted_goes : (k : ℕ) (w : World) (s : Session) (p : Player) (x : PlayUp) (o : Option World) →
     s.player ≡ Some p → act w s p x ≡ o → found k w.sessions ≡ Some s → s.id ≡ k →
@@ -312,7 +341,7 @@ pub performed : (k : ℕ) (w : World) (s : Session) (x : ClientRequest) →
     Goes k w s (perform w s x)
 performed k w s nothing e is open_ fit = goes_still k w s e
 performed k w s (greets protocol stage) e is open_ fit =
-    goes_put k w w.things s (record s { stage = stage; protocol = protocol }) [] e is
+    goes_put k w w.things w.lines s (record s { stage = stage; protocol = protocol }) [] e is
     (greeted fit.0 fit.1 fit.2 refl refl refl) (owes_same s _ refl)
 performed k w s (replies packet) e is open_ fit =
     goes_hand k w w.things s s s (of_status packet ∷ []) e is refl open_

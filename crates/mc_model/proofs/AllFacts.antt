@@ -1,6 +1,6 @@
 -- What holds of all of a list, of what lists are made of.
 use Rattle.std.proofs.Common.{◌≡◌, ℕ, zero, suc, ◌+◌, ◌<◌, ◌≤◌, Bool, true, false, cond, List, []}
-use Rattle.std.proofs.Common.{◌∷◌, ◌++◌, map, length, Option, Some, None, refl, arith}
+use Rattle.std.proofs.Common.{◌∷◌, ◌++◌, drop, map, length, Option, Some, None, refl, arith}
 use Rattle.std.specs.List.{filter, filter_map, cons_option, flat_map, range_with_len}
 use Rattle.std.specs.List.{AllByRecursion}
 
@@ -10,6 +10,13 @@ pub all_joined : {A : Type 0} (P : A → Type 0) (xs ys : List A) → AllByRecur
     → AllByRecursion P (xs ++ ys)
 all_joined P [] ys a b = b
 all_joined P (x ∷ xs) ys a b = (a.0, all_joined P xs ys a.1 b)
+
+-- of those behind some first ones
+pub all_dropped : {A : Type 0} (P : A → Type 0) (n : ℕ) (xs : List A) → AllByRecursion P xs →
+    AllByRecursion P (drop n xs)
+all_dropped P zero xs a = a
+all_dropped P (suc n) [] a = tt
+all_dropped P (suc n) (x ∷ xs) a = all_dropped P n xs a.1
 
 -- of what is made of each
 pub all_mapped : {A B : Type 0} (P : A → Type 0) (Q : B → Type 0) (f : A → B) →

@@ -8,8 +8,9 @@ use Rattle.mc_fields.specs.declared.position.Cell.{Cell}
 use Rattle.mc_fields.specs.declared.position.Spot.{Spot}
 use Rattle.mc_entities.specs.Shift.{is_inside}
 use Rattle.mc_up.specs.declared.play_up.PlayUp.{PlayUp}
-use Rattle.mc_up.specs.declared.play_up.PlayUp.TheVariants.{Position, Look, PositionLook, Held}
-use Rattle.mc_up.specs.declared.play_up.PlayUp.TheVariants.{Creative, Digging, Placement, Settings}
+use Rattle.mc_up.specs.declared.play_up.PlayUp.TheVariants.{KeepAlive, Chat, Position, Look}
+use Rattle.mc_up.specs.declared.play_up.PlayUp.TheVariants.{PositionLook, Held, Creative, Digging}
+use Rattle.mc_up.specs.declared.play_up.PlayUp.TheVariants.{Placement, Settings}
 use Rattle.mc_model.specs.Notes.{Noted}
 use Rattle.mc_model.specs.Things.{in_hand, holding, room_in, standing, with_entity}
 use Rattle.mc_model.specs.World.{World, Session, Player, pack_of, put, spot_of, state_in}
@@ -120,6 +121,11 @@ take_up_balanced w s p (Some hand) small is b =
 pub act_balanced : (w : World) (s : Session) (p : Player) (x : PlayUp) → IsOwner w.things p →
     Balanced w → AnyBalanced (act w s p x)
 unfolding act
+act_balanced w s p (KeepAlive beat) is b =
+    balanced_put w (record s { player = Some (record p { missed = 0 }) })
+    (owner_like w.things p (record p { missed = 0 }) refl refl is.hand is) b
+act_balanced w s p (Chat text) is b =
+    record { owners = b.owners; tidy = b.tidy; even = b.even }
 act_balanced w s p (Position x y z on_ground) is b =
     arrive_balanced w s p (moved (spot_of w p) x y z) is b
 act_balanced w s p (Look yaw pitch on_ground) is b =

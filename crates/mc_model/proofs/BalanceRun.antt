@@ -21,6 +21,7 @@ use Rattle.mc_model.specs.Names.{offline_uuid}
 use Rattle.mc_model.specs.Things.{Things, new_things}
 use Rattle.mc_model.specs.World.{World, Session, Player, new_world, found, is_closed, players, put}
 use Rattle.mc_model.specs.Balance.{Balance, now_edited, once_edited, sort_of}
+use Rattle.mc_model.specs.Beats.{awaiting}
 use Rattle.mc_model.specs.Acts.{act}
 use Rattle.mc_model.specs.Cutting.{cut_of}
 use Rattle.mc_model.specs.Packets.{Sent, bytes_of, of_play, of_status}
@@ -32,10 +33,11 @@ use Rattle.mc_model.specs.Step.{with_new_player, answer_login, disconnect, disco
 use Rattle.mc_model.specs.Step.{act_by, perform, hand, mark_closed, on_frame, on_frames, on_fault}
 use Rattle.mc_model.specs.Step.{read_to, on_cut, on_bytes, is_new, is_crowded, new_session, joining}
 use Rattle.mc_model.specs.Step.{changed, depart, gone, player_in, due, showing, flush, flush_to}
-use Rattle.mc_model.specs.Step.{flushed, at_tick, is_done, step}
+use Rattle.mc_model.specs.Step.{beat, all_handed, aged, at_tick, tick, is_done, step}
 use Rattle.mc_model.specs.Run.{history}
 use Rattle.mc_model.proofs.AllFacts.{all_filtered, all_joined, all_mapped}
-use Rattle.mc_model.proofs.BalanceKept.{Balanced, Even, HasOwner, Keeps, Leads, Owns}
+use Rattle.mc_model.proofs.Handing.{beat_cases}
+use Rattle.mc_model.proofs.BalanceKept.{Balanced, Even, HasOwner, IsOwner, Keeps, Leads, Owns}
 use Rattle.mc_model.proofs.BalanceKept.{balanced_put, balanced_things, keeps_onward, leads_onward}
 use Rattle.mc_model.proofs.BalanceKept.{leads_same, owner_kept, owner_like}
 use Rattle.mc_model.proofs.BalanceThings.{leaving_leads, player_leads, player_owns}
@@ -79,7 +81,8 @@ login_balanced w s name (Some why) owns b =
     close_balanced w s (causes.Refused why) (refused why) owns b
 login_balanced w s name None owns b =
     let things : Things = with_new_player w.terrain name w.things in
-    let is : Owns things (entered w s name) = player_owns w.terrain name w.things b.tidy in
+    let is : Owns things (entered w s name) =
+    player_owns w.terrain name (length w.lines) w.things b.tidy in
     turn_balanced (record w { things = things }) (entered w s name)
     (hand (entered w s name) (accepted (offline_uuid name) name)) is
     (hand_owns things (entered w s name) (accepted (offline_uuid name) name) is)
@@ -258,19 +261,45 @@ leavings_lead terrain first later (s ∷ sessions) things owners keeps =
     (leavings_lead terrain first later sessions next owners.1
     (keeps_onward first things next keeps leads.keeps))
 
--- all are handed what is due to them
-flushed_balanced : (w : World) → Balanced w → Balanced (flushed w)
-flushed_balanced w b =
-    let leads : Leads w.terrain w.things (flushed w).things =
-    leavings_lead w.terrain w.things (λ s. (flush w s).session.player) w.sessions w.things
+-- One connection leaves or owes an answer more.
+beat_owns : (things : Things) (w : World) (s : Session) → Owns things s →
+    Owns things (beat w s).session
+beat_owns things w s owns = beat_cases w s (λ (h : Handing). Owns things h.session)
+    (λ none. owns)
+    (λ p there speaks.
+    (let is : IsOwner things p = subst (HasOwner things) there owns in
+    owner_like things p (awaiting w p) refl refl is.hand is))
+    (λ p there quiet. hand_owns things (mark_closed s causes.Silent)
+    (farewell s.stage causes.Silent) tt)
+
+-- each connection is handed something, of which it keeps its player or has none
+handed_balanced : (f : World → Session → Handing) (w : World) →
+    ((things : Things) (s : Session) → Owns things s → Owns things (f w s).session) →
+    Balanced w → Balanced (all_handed f w)
+handed_balanced f w each b =
+    let leads : Leads w.terrain w.things (all_handed f w).things =
+    leavings_lead w.terrain w.things (λ s. (f w s).session.player) w.sessions w.things
     b.owners (leads_same w.terrain w.things).keeps in record {
-      owners = all_mapped (Owns w.things) (Owns (flushed w).things) _ (λ s owns.
-          (let still_owns = owner_kept w.things (flushed w).things s.player leads.keeps owns in
-          flush_owns (flushed w).things w s s.player still_owns still_owns))
+      owners = all_mapped (Owns w.things) (Owns (all_handed f w).things) _ (λ s owns.
+          each (all_handed f w).things s
+          (owner_kept w.things (all_handed f w).things s.player leads.keeps owns))
           w.sessions b.owners;
       tidy = leads.keeps.tidy b.tidy;
       even = leads.even b.even;
     }
+
+-- the world of a tick, after the beat
+pub beaten_balanced : (w : World) → Balanced w → Balanced (at_tick w)
+beaten_balanced w b = handed_balanced beat (aged w)
+    (λ things s owns. beat_owns things (aged w) s owns)
+    (record { owners = b.owners; tidy = b.tidy; even = b.even })
+
+-- and after all were handed what is due
+tick_balanced : (w : World) → Balanced w → Balanced (tick w).world
+tick_balanced w b =
+    let all : Balanced (all_handed flush (at_tick w)) = handed_balanced flush (at_tick w)
+    (λ things s owns. flush_owns things (at_tick w) s s.player owns owns) (beaten_balanced w b) in
+    record { owners = all.owners; tidy = all.tidy; even = all.even }
 
 -- ---- events
 
@@ -291,8 +320,7 @@ balanced_step w (joined k) b = elim (is_new k w.last) as
 balanced_step w (came k bytes) b = bytes_balanced w k bytes b
 balanced_step w (left k) b = depart_balanced w k causes.Gone b
 balanced_step w (broke k) b = depart_balanced w k causes.Broke b
-balanced_step w ticked b =
-    flushed_balanced (at_tick w) (record { owners = b.owners; tidy = b.tidy; even = b.even })
+balanced_step w ticked b = tick_balanced w b
 balanced_step w (took k n) b =
     changed_balanced w k (λ (s : Session). record s { owed = drop n s.owed }) (λ s owns. owns) b
 balanced_step w (forgot k) b = record {

@@ -186,9 +186,10 @@ player_leads terrain name things =
     (record things { packs = with_kit name things.packs }))
 
 -- and has what is said of players
-pub player_owns : (terrain : Terrain) (name : List ℕ) (things : Things) → IsTidy things →
-    IsOwner (with_new_player terrain name things) (new_player (things.eids + 1) name)
-player_owns terrain name things tidy = record {
+pub player_owns : (terrain : Terrain) (name : List ℕ) (since : ℕ) (things : Things) →
+    IsTidy things →
+    IsOwner (with_new_player terrain name things) (new_player (things.eids + 1) name since)
+player_owns terrain name since things tidy = record {
   known = kit_known name things.packs;
   hand = omega arith;
   given = omega arith;

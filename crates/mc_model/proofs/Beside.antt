@@ -1,5 +1,5 @@
 -- What stays as it was when one connection's part of the world changes.
-use Rattle.std.proofs.Common.{◌≡◌, ◌≢◌, ℕ, refl, sym, subst, ap, ◌∙◌}
+use Rattle.std.proofs.Common.{◌≡◌, ◌≢◌, ℕ, List, refl, sym, subst, ap, ◌∙◌}
 use Rattle.std.specs.Prelude.{length, ◌==◌, Bool, true, false, cond, Option, Some, None, option_map}
 use Rattle.std.specs.Prelude.{if◌then◌else◌}
 use Rattle.std.proofs.lemmas.Bool.{eqb-true}
@@ -11,7 +11,7 @@ use Rattle.mc_model.specs.Orderly.{AreApart, Rise}
 use Rattle.mc_model.proofs.Sessions.{other_number, same_number, found_id, found_map, apart_map}
 use Rattle.mc_model.proofs.Sessions.{rise_map}
 
--- only the part of one connection changed, and the things
+-- only the part of one connection changed, the things, and what was said
 pub record Beside (k : ℕ) (w v : World) : Type 0 where
   pub age : v.age ≡ w.age
   pub terrain : v.terrain ≡ w.terrain
@@ -24,9 +24,9 @@ pub record Beside (k : ℕ) (w v : World) : Type 0 where
   pub apart : AreApart w.sessions → AreApart v.sessions
   pub rise : (low high : ℕ) → Rise low w.sessions high → Rise low v.sessions high
 
-pub beside_same : (k : ℕ) (w : World) (things : Things) →
-    Beside k w (record w { things = things })
-beside_same k w things = record {
+pub beside_same : (k : ℕ) (w : World) (things : Things) (lines : List (List ℕ)) →
+    Beside k w (record w { things = things; lines = lines })
+beside_same k w things lines = record {
   age = refl;
   terrain = refl;
   most = refl;

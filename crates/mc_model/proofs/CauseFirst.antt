@@ -1,5 +1,5 @@
 -- A connection is closed by the first thing that closes it, for the cause of that: event by event.
-use Rattle.std.proofs.Common.{◌≡◌, ℕ, List, [], ◌∷◌, ◌++◌, length, map, inl, inr, refl, sym, subst}
+use Rattle.std.proofs.Common.{◌≡◌, ℕ, List, [], ◌∷◌, ◌++◌, length, inl, inr, refl, sym, subst}
 use Rattle.std.proofs.Common.{ap, ◌∙◌}
 use Rattle.std.specs.Prelude.{◌↔◌, ◌==◌, ◌&&◌, not, drop, Bool, true, false, cond, Option, Some}
 use Rattle.std.specs.Prelude.{None, is_some, if◌then◌else◌}
@@ -11,20 +11,22 @@ use Rattle.mc_model.specs.declared.cause.Cause.{Cause}
 use Rattle.mc_model.specs.declared.cause.Cause.TheVariants as causes
 use Rattle.mc_model.specs.Cutting.{cut_of}
 use Rattle.mc_model.specs.World.{World, Session, Player, found, put, is_closed}
-use Rattle.mc_model.specs.Packets.{of_play}
+use Rattle.mc_model.specs.Beats.{is_silent}
+use Rattle.mc_model.specs.Talk.{farewell}
 use Rattle.mc_model.specs.Step.{Event, joined, came, left, broke, ticked, took, forgot, Handing}
 use Rattle.mc_model.specs.Step.{Turn, still, when_open, mark_closed, new_session, joining, join}
-use Rattle.mc_model.specs.Step.{is_new, is_crowded, gone, changed, is_done, due, flush, at_tick}
+use Rattle.mc_model.specs.Step.{is_new, is_crowded, gone, changed, is_done, disconnect, aged}
 use Rattle.mc_model.specs.Step.{read_to, on_cut, on_bytes, step}
 use Rattle.mc_model.specs.Run.{cause_in}
-use Rattle.mc_model.specs.Causes.{IsOpen, IsTooMuch, CutCloses, Closes}
+use Rattle.mc_model.specs.Causes.{IsOpen, or_backlog_farewell, CutCloses, TickCloses, Closes}
 use Rattle.mc_model.proofs.Sessions.{some_none, found_id, found_before, found_filter}
 use Rattle.mc_model.proofs.Beside.{beside_changed, found_changed, found_put}
-use Rattle.mc_model.proofs.Handing.{flush_cases}
+use Rattle.mc_model.proofs.Handing.{hand_cases}
 use Rattle.mc_model.proofs.Frames.{bytes_beside, no_bytes}
 use Rattle.mc_model.proofs.RunEvents.{gone_id, gone_beside}
-use Rattle.mc_model.proofs.RunTurns.{tick_found, found_joining, away, joins, arrives}
-use Rattle.mc_model.proofs.RunTicks.{tick_much}
+use Rattle.mc_model.proofs.RunTurns.{after_tick, tick_found, tick_cases, found_joining, away}
+use Rattle.mc_model.proofs.RunTurns.{joins, arrives}
+use Rattle.mc_model.proofs.RunTicks.{tick_silent, tick_full}
 use Rattle.mc_model.proofs.CauseSound.{cause_found, cause_nowhere, Sound}
 use Rattle.mc_model.proofs.CauseFrames.{just, never, frames_close, frames_closed}
 
@@ -240,19 +242,53 @@ gone_closes j k w cause c o none = (closes, closed)
 
 -- ---- a tick
 
-flush_cause : (w : World) (s : Session) (c : Cause) → s.cause ≡ None →
-    (flush w s).session.cause ≡ Some c →
-    ((p : Player) × (s.player ≡ Some p) × IsTooMuch s (map of_play (due w p)))
-    × (c ≡ causes.Backlog)
-flush_cause w s c none = flush_cases w s (λ (h : Handing). h.session.cause ≡ Some c →
-    ((p : Player) × (s.player ≡ Some p) × IsTooMuch s (map of_play (due w p)))
-    × (c ≡ causes.Backlog))
+-- for which cause a tick closes a connection whose player is this
+abbrev ClosesAtTick : World → Session → Cause → Type 0
+ClosesAtTick w s c =
+    (p : Player) × (s.player ≡ Some p) × TickCloses (is_silent (aged w) p) w s p c
+
+-- the cause that a client is closed for that is silent
+silent_cause : (s : Session) →
+    (disconnect s causes.Silent (farewell s.stage causes.Silent)).session.cause
+    ≡ Some (or_backlog_farewell s causes.Silent)
+silent_cause s = hand_cases (mark_closed s causes.Silent) (farewell s.stage causes.Silent)
+    (λ (h : Handing). h.session.cause ≡ Some (or_backlog_farewell s causes.Silent))
+    (λ fits. ap (λ (b : Bool). Some (if b then causes.Silent else causes.Backlog)) (sym fits))
+    (λ much. ap (λ (b : Bool). Some (if b then causes.Silent else causes.Backlog)) (sym much))
+
+tick_cause : (w : World) (s : Session) (c : Cause) → s.cause ≡ None →
+    (after_tick w s).session.cause ≡ Some c → ClosesAtTick w s c
+tick_cause w s c none = tick_cases w s (λ (h : Handing). h.session.cause ≡ Some c →
+    ClosesAtTick w s c)
     (λ nobody is. not_now s.cause c none is)
-    (λ p there fits is. not_now s.cause c none is)
-    (λ p there much is. (
-      (p, there, leb-false _ _ much),
-      (just (Some causes.Backlog) causes.Backlog c refl).0 is,
+    (λ p there quiet is. (
+      p,
+      there,
+      subst (λ (b : Bool). TickCloses b w s p c) (sym quiet)
+          ((just _ (or_backlog_farewell s causes.Silent) c (silent_cause s)).0 is),
     ))
+    (λ p there speaks fits is. not_now s.cause c none is)
+    (λ p there speaks much is. (
+      p,
+      there,
+      subst (λ (b : Bool). TickCloses b w s p c) (sym speaks) (
+        leb-false _ _ much,
+        (just (Some causes.Backlog) causes.Backlog c refl).0 is,
+      ),
+    ))
+
+-- and that cause is kept
+tick_caused : (w : World) (s : Session) (p : Player) (c : Cause) → s.player ≡ Some p →
+    TickCloses (is_silent (aged w) p) w s p c → (after_tick w s).session.cause ≡ Some c
+tick_caused w s p c there closes = at (is_silent (aged w) p) refl closes
+  where
+    at : (b : Bool) → is_silent (aged w) p ≡ b → TickCloses b w s p c →
+        (after_tick w s).session.cause ≡ Some c
+    at true quiet same = ap (λ (h : Handing). h.session.cause) (tick_silent w s p there quiet)
+        ∙ silent_cause s ∙ ap (λ (x : Cause). Some x) (sym same)
+    at false speaks much =
+        ap (λ (h : Handing). h.session.cause) (tick_full w s p there speaks much.0)
+        ∙ ap (λ (x : Cause). Some x) (sym much.1)
 
 ticked_closes : (k : ℕ) (w : World) (c : Cause) → Sound w → cause_in k w ≡ None →
     (cause_in k (step w ticked).world ≡ Some c) ↔ Closes w ticked k c
@@ -267,16 +303,15 @@ ticked_closes k w c o none = (closes, closed)
       ]
       | Some s ↦ λ there.
           let open_ = open_one k w s o there none in
-          let why_ = flush_cause (at_tick w) s c open_.1
-          (sym (cause_found k (step w ticked).world (flush (at_tick w) s).session
+          let why_ = tick_cause w s c open_.1
+          (sym (cause_found k (step w ticked).world (after_tick w s).session
           (tick_found k w s there)) ∙ is) in
-          ((s, why_.0.0, record { is_there = there; open_ = open_.0 }, why_.0.1, why_.0.2), why_.1)
+          (s, why_.0, record { is_there = there; open_ = open_.0 }, why_.1, why_.2)
     ] refl
 
     closed : Closes w ticked k c → cause_in k (step w ticked).world ≡ Some c
-    closed h =
-        let t = tick_much k w h.0.0 h.0.1 o.orderly h.0.2.is_there h.0.3 h.0.4 in
-        cause_found k (step w ticked).world t.0 t.2 ∙ t.4 ∙ ap (λ (x : Cause). Some x) (sym h.1)
+    closed h = cause_found k (step w ticked).world (after_tick w h.0).session
+        (tick_found k w h.0 h.2.is_there) ∙ tick_caused w h.0 h.1 c h.3 h.4
 
 -- ---- bytes taken, and connections forgotten
 

@@ -9,20 +9,21 @@ use Rattle.mc_model.specs.declared.cause.Cause.TheVariants as causes
 use Rattle.mc_model.specs.declared.stage.Stage.TheVariants as stages
 use Rattle.mc_model.specs.World.{World, Session, new_world, found, is_play, is_closed}
 use Rattle.mc_model.specs.Packets.{Sent}
+use Rattle.mc_model.specs.Talk.{farewell}
 use Rattle.mc_model.specs.Step.{Event, came, left, broke, Handing, mark_closed, new_session}
-use Rattle.mc_model.specs.Step.{joining, is_new, is_crowded, flush, at_tick, on_bytes, gone}
+use Rattle.mc_model.specs.Step.{joining, is_new, is_crowded, aged, at_tick, beat, on_bytes, gone}
 use Rattle.mc_model.specs.Step.{changed, step}
 use Rattle.mc_model.specs.Run.{history, to, cause_in, why, first_of}
 use Rattle.mc_model.specs.Orderly.{Orderly}
 use Rattle.mc_model.proofs.Sessions.{some_none, one_some}
 use Rattle.mc_model.proofs.Handing.{stayed, answered, greeted, entered, shut_for, closed_done}
 use Rattle.mc_model.proofs.Handing.{HasPlayer, no_player, has_done, closed_is, not_both}
-use Rattle.mc_model.proofs.Handing.{flush_cases, has_flushed}
+use Rattle.mc_model.proofs.Handing.{hand_cases, has_beaten, has_flushed}
 use Rattle.mc_model.proofs.Frames.{IsKept, bytes_beside}
 use Rattle.mc_model.proofs.RunEvents.{gone_beside, orderly_step, old_step}
-use Rattle.mc_model.proofs.RunTurns.{to_other, tick_hands, away, joins, arrives, went, stays}
-use Rattle.mc_model.proofs.RunTurns.{remains, is_tick, each_step}
-use Rattle.mc_model.proofs.RunTicks.{flush_waits}
+use Rattle.mc_model.proofs.RunTurns.{to_other, after_tick, tick_handed, tick_cases, away, joins}
+use Rattle.mc_model.proofs.RunTurns.{arrives, went, stays, remains, is_tick, each_step}
+use Rattle.mc_model.proofs.RunTicks.{tick_waits}
 use Rattle.mc_model.proofs.RunOrder.{orderly_new}
 
 -- ---- the cause that is kept
@@ -54,16 +55,20 @@ sound_kept s t ps qs (stayed stage shown cause none) p = sound_same s t stage ca
 sound_kept s t ps qs (answered from stage same cause none) p = sound_same s t stage cause p
 sound_kept s t ps qs (greeted from waits open_ same cause none) p =
     sound_open s t (ap is_closed from) open_ cause p
-sound_kept s t ps qs (entered q from into there shown cause none) p =
+sound_kept s t ps qs (entered q from into there shown said cause none) p =
     sound_open s t (ap is_closed from) (ap is_closed into) cause p
 sound_kept s t ps qs (shut_for why_ open_ closed gone_ cause last) p =
     ap is_closed closed ∙ ap (λ (o : Option Cause). is_some o) (sym cause)
 
-flush_sound : (w : World) (s : Session) → is_closed s.stage ≡ is_some s.cause →
-    is_closed (flush w s).session.stage ≡ is_some (flush w s).session.cause
-flush_sound w s p = flush_cases w s (λ
-    (h : Handing). is_closed h.session.stage ≡ is_some h.session.cause) (λ none. p)
-    (λ q there fits. p) (λ q there much. refl)
+tick_sound : (w : World) (s : Session) → is_closed s.stage ≡ is_some s.cause →
+    is_closed (after_tick w s).session.stage ≡ is_some (after_tick w s).session.cause
+tick_sound w s p = tick_cases w s Closed (λ none. p)
+    (λ q there quiet. hand_cases (mark_closed s causes.Silent) (farewell s.stage causes.Silent)
+    Closed (λ fits. refl) (λ much. refl))
+    (λ q there speaks fits. p) (λ q there speaks much. refl)
+  where
+    Closed : Handing → Type 0
+    Closed h = is_closed h.session.stage ≡ is_some h.session.cause
 
 joining_sound : (w : World) (k : ℕ) → is_closed (joining w k).stage ≡ is_some (joining w k).cause
 joining_sound w k = elim (is_crowded w) as
@@ -89,7 +94,11 @@ pub record Sound (w : World) : Type 0 where
       is_closed s.stage ≡ is_some s.cause
   pub plays : (k : ℕ) (s : Session) → found k w.sessions ≡ Some s → HasPlayer s
 
--- what happens to a connection keeps the latter
+-- a tick keeps the latter
+has_ticked : (w : World) (s : Session) → HasPlayer s → HasPlayer (after_tick w s).session
+has_ticked w s has = has_flushed (at_tick w) (beat (aged w) s).session (has_beaten (aged w) s has)
+
+-- and so does what happens to a connection
 has_kept : IsKept (λ s ps. HasPlayer s)
 has_kept s t ps qs done has = has_done s t qs done has
 
@@ -97,9 +106,9 @@ pub sound_step : (w : World) (e : Event) → Sound w → Sound (step w e).world
 sound_step w e o = record {
   orderly = orderly_step w e o.orderly;
   each = λ k. each_step IsSound sound_kept k w [] e o.orderly.apart
-      (λ s p. flush_sound (at_tick w) s p) (λ none new. joining_sound w k) (o.each k);
+      (λ s p. tick_sound w s p) (λ none new. joining_sound w k) (o.each k);
   plays = λ k. each_step (λ s ps. HasPlayer s) has_kept k w [] e o.orderly.apart
-      (has_flushed (at_tick w)) (λ none new. joining_has w k) (o.plays k);
+      (has_ticked w) (λ none new. joining_has w k) (o.plays k);
 }
 
 pub sound_history : (events : List Event) (w : World) → Sound w → Sound (history w events)
@@ -150,21 +159,21 @@ shut_kept s a b ps qs done p = closed_done a b qs (IsShut s b (ps ++ qs)) p.stag
     })
 
 -- a tick leaves a connection that is closed as it is
-flush_closed : (w : World) (r : Session) → HasPlayer r → r.stage ≡ stages.Closed →
-    flush w r ≡ record { session = r; handed = [] }
-flush_closed w r has closed = flush_waits w r (no_player r.player (sym has ∙ ap is_play closed))
+tick_closed : (w : World) (r : Session) → HasPlayer r → r.stage ≡ stages.Closed →
+    after_tick w r ≡ record { session = r; handed = [] }
+tick_closed w r has closed = tick_waits w r (no_player r.player (sym has ∙ ap is_play closed))
 
-flush_shut : (w : World) (s r : Session) (ps : List Sent) → IsShut s r ps →
-    IsShut s (flush w r).session (ps ++ (flush w r).handed)
-flush_shut w s r ps p =
+tick_shut : (w : World) (s r : Session) (ps : List Sent) → IsShut s r ps →
+    IsShut s (after_tick w r).session (ps ++ (after_tick w r).handed)
+tick_shut w s r ps p =
     subst (λ (h : Handing). IsShut s h.session (ps ++ h.handed))
-    (sym (flush_closed w r p.has p.stage)) (subst (IsShut s r) (sym (append-nil ps)) p)
+    (sym (tick_closed w r p.has p.stage)) (subst (IsShut s r) (sym (append-nil ps)) p)
 
 pub shut_stays : (k : ℕ) (w : World) (s : Session) (e : Event) → Sound w →
     found k w.sessions ≡ Some s → s.stage ≡ stages.Closed →
     (t : Session) → found k (step w e).world.sessions ≡ Some t → IsShut s t (to k (step w e).out)
 shut_stays k w s e o there closed = each_step (IsShut s) (shut_kept s) k w [] e o.orderly.apart
-    (λ r p. flush_shut (at_tick w) s r [] p)
+    (λ r p. tick_shut w s r [] p)
     (λ none new. absurd (some_none s _ there none))
     (λ r here. subst (λ (v : Session). IsShut s v []) (one_some s r _ there here)
     (record { stage = closed; cause = refl; nothing = refl; has = o.plays k s there }))
@@ -173,8 +182,8 @@ pub shut_silent : (k : ℕ) (w : World) (s : Session) (e : Event) → Sound w �
     found k w.sessions ≡ Some s → s.stage ≡ stages.Closed → to k (step w e).out ≡ []
 shut_silent k w s e o there closed = elim (is_tick e) [
   | inl is ↦ subst (λ (e : Event). to k (step w e).out ≡ []) (sym is)
-      (tick_hands k w s o.orderly.apart there
-      ∙ ap (λ (h : Handing). h.handed) (flush_closed (at_tick w) s (o.plays k s there) closed))
+      (tick_handed k w s o.orderly.apart there
+      ∙ ap (λ (h : Handing). h.handed) (tick_closed w s (o.plays k s there) closed))
   | inr ne ↦ elim (remains (IsShut s) (shut_kept s) k w e s [] o.orderly.apart ne there
       (record { stage = closed; cause = refl; nothing = refl; has = o.plays k s there })) [
         | went was gone_ none ↦ none

@@ -228,7 +228,9 @@ new_sound : (most cap : ℕ) (terrain : Terrain) → AreSettings most cap →
 new_sound most cap terrain settings =
     record {
       settings = settings;
+      young = omega arith;
       things = new_things_fit;
+      lines = tt;
       apart = tt;
       fresh = λ k new. refl;
       few =

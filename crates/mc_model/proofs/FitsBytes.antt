@@ -24,6 +24,7 @@ use Rattle.mc_up.specs.Hand as hand
 use Rattle.mc_up.specs.StatusUp as status
 use Rattle.mc_up.specs.LoginUp as login
 use Rattle.mc_up.specs.PlayUp as play
+use Rattle.mc_up.proofs.PlayUpLaws as play_laws
 use Rattle.mc_model.specs.declared.stage.Stage.{Stage}
 use Rattle.mc_model.specs.declared.stage.Stage.TheVariants as stages
 use Rattle.mc_model.specs.Packets.{of_status, for_status}
@@ -75,14 +76,14 @@ cut_bytes count bytes b =
 
 -- ---- answers
 
--- an answer to it is made out
+-- an answer to it is made out, and what a player does has a spelling
 abbrev pub IsAnswered : ClientRequest → Type 0
 IsAnswered nothing = Unit {0}
 IsAnswered (greets protocol stage) = Unit {0}
 IsAnswered (replies packet) = IsClear for_status (of_status packet)
 IsAnswered (ends packet) = IsClear for_status (of_status packet)
 IsAnswered (enters name) = Unit {0}
-IsAnswered (acts packet) = Unit {0}
+IsAnswered (acts packet) = play.FitsPlayUp packet
 IsAnswered (wrong fault) = Unit {0}
 
 -- the number of a ping that was read has a spelling
@@ -112,10 +113,19 @@ login_answered : (r : Result LoginUp PacketFault) → IsAnswered (in_login r)
 login_answered (Ok (Start name)) = tt
 login_answered (Err fault) = tt
 
+-- a packet of play that was read has a spelling
+play_fits : (frame : List ℕ) (packet : PlayUp) → IsBytes frame →
+    packet_read play.rows frame ≡ Ok packet → play.FitsPlayUp packet
+play_fits frame packet b e =
+    play_laws.fit packet frame
+    (play_laws.seen packet frame (frame_found play.rows frame packet b e))
+
 -- play
-play_answered : (r : Result PlayUp PacketFault) → IsAnswered (in_play r)
-play_answered (Ok packet) = tt
-play_answered (Err fault) = tt
+play_answered : (frame : List ℕ) (r : Result PlayUp RowFault) →
+    ((packet : PlayUp) → r ≡ Ok packet → play.FitsPlayUp packet) →
+    IsAnswered (in_play (packet_of frame r))
+play_answered frame (Ok packet) fits = fits packet refl
+play_answered frame (Err fault) fits = tt
 
 -- whatever the frame is
 pub request_answered : (stage : Stage) (most online : ℕ) (frame : List ℕ) → most ≤ 50 →
@@ -131,5 +141,5 @@ request_answered stages.Login most online frame few fewer b =
     login_answered (packet_of frame (packet_read login.rows frame))
 request_answered stages.Asked most online frame few fewer b = tt
 request_answered stages.Play most online frame few fewer b =
-    play_answered (packet_of frame (packet_read play.rows frame))
+    play_answered frame (packet_read play.rows frame) (λ packet e. play_fits frame packet b e)
 request_answered stages.Closed most online frame few fewer b = tt

@@ -1,8 +1,8 @@
 -- What is due to a client at a tick is packets that it decodes.
 use Rattle.std.proofs.Common.{ℕ, ◌+◌, ◌≤◌, Bool, true, false, cond, List, [], ◌∷◌}
-use Rattle.std.proofs.Common.{length, Option, Some, None, refl, arith}
+use Rattle.std.proofs.Common.{drop, length, Option, Some, None, refl, arith}
 use Rattle.std.specs.Prelude.{not}
-use Rattle.std.specs.Int.{w32}
+use Rattle.std.specs.Int.{w32, w64}
 use Rattle.std.specs.List.{AllByRecursion}
 use Rattle.std.specs.FinMap.{get, entries, keys, contains_key}
 use Rattle.std.proofs.lemmas.List.{length-map}
@@ -17,7 +17,7 @@ use Rattle.mc_slots.specs.declared.slot.Slot.{Slot}
 use Rattle.mc_windows.specs.Pack.{PackValue, IsPack}
 use Rattle.mc_view.specs.Forms.{moves_of}
 use Rattle.mc_down.specs.declared.down.Down.{Down}
-use Rattle.mc_down.specs.declared.down.Down.TheVariants.{SetSlot}
+use Rattle.mc_down.specs.declared.down.Down.TheVariants.{KeepAlive, SetSlot, Time}
 use Rattle.mc_model.specs.Notes.{Noted}
 use Rattle.mc_model.specs.Packets.{of_play, for_play}
 use Rattle.mc_model.specs.Numbers.{pattern_of, degrees_of}
@@ -27,12 +27,17 @@ use Rattle.mc_model.specs.Delta.{unload, unloads_point, load, loads_point, diffe
 use Rattle.mc_model.specs.Delta.{column_changes}
 use Rattle.mc_model.specs.Delta.{cells_point, is_same_slot, item_packet, item_packets}
 use Rattle.mc_model.specs.Delta.{moves_packets, entity_packets, entities_point, slot_packets}
-use Rattle.mc_model.specs.Delta.{pack_point, delta}
+use Rattle.mc_model.specs.Delta.{pack_point, delta, is_told, beat_packets, beat_point, time_packets}
+use Rattle.mc_model.specs.Delta.{time_point, chat_packet, chat_point}
+use Rattle.mc_model.specs.Ticks.{time_of_day}
 use Rattle.mc_model.specs.Step.{level, placing, window_packets, notes_of}
 use Rattle.mc_model.proofs.Decodes.{IsClear}
-use Rattle.mc_model.proofs.AllFacts.{all_joined, all_mapped, all_filtered, few_filtered, all_flat}
+use Rattle.mc_model.proofs.AllFacts.{all_joined, all_dropped, all_mapped, all_filtered}
+use Rattle.mc_model.proofs.AllFacts.{few_filtered, all_flat}
 use Rattle.mc_model.proofs.FitsText.{IsShort, short_where}
 use Rattle.mc_model.proofs.FitsPlay.{place_clear}
+use Rattle.mc_model.proofs.FitsBeats.{ToldFits, beat_clear, time_clear}
+use Rattle.mc_model.proofs.FitsChat.{LineFits}
 use Rattle.mc_model.proofs.FitsNumbers.{pattern_fits, degrees_fit}
 use Rattle.mc_model.proofs.FitsList.{PairFits, AreClear, leavers_clear, joiners_clear}
 use Rattle.mc_model.proofs.FitsChunk.{PlaceFits, ColumnFits, near_fits, load_clear, unload_clear}
@@ -144,11 +149,38 @@ slots_clear i (old ∷ olds) (new ∷ news) few f =
 pack_clear : (p q : Sight) → SightFits q → AreClear (pack_point p q)
 pack_clear p q f = slots_clear 9 p.pack q.pack (omega (arith, f.slots)) f.pack
 
+-- the beat
+beats_clear : (old new : Option ℤ) → ToldFits w32 new → AreClear (beat_packets old new)
+beats_clear old None f = tt
+beats_clear old (Some beat) f = step (is_told old beat)
+  where
+    step : (told : Bool) → AreClear (cond told [] (KeepAlive beat ∷ []))
+    step true = tt
+    step false = (beat_clear beat f, tt)
+
+-- the age
+times_clear : (old new : Option ℤ) → ToldFits w64 new → AreClear (time_packets old new)
+times_clear old None f = tt
+times_clear old (Some age) f = step (is_told old age)
+  where
+    step : (told : Bool) → AreClear (cond told [] (Time age (time_of_day age) ∷ []))
+    step true = tt
+    step false = (time_clear age f, tt)
+
+-- what was said
+said_clear : (p q : Sight) → SightFits q → AreClear (chat_point p q)
+said_clear p q f =
+    all_mapped LineFits (λ (packet : Down). IsClear for_play (of_play packet)) chat_packet
+    (λ text fits. fits) (drop (length p.chat) q.chat)
+    (all_dropped LineFits (length p.chat) q.chat f.chat)
+
 -- the packets of a difference
 pub delta_clear : (p q : Sight) → SightFits p → SightFits q → AreClear (delta p q)
 unfolding delta
 delta_clear p q f g =
     let P : Down → Type 0 = λ packet. IsClear for_play (of_play packet) in
+    all_joined P (beat_point p q) _ (beats_clear p.beat q.beat g.beat) (
+    all_joined P (time_point p q) _ (times_clear p.age q.age g.age) (
     all_joined P (leavers_point p q) _
     (leavers_clear (missing p.pairs q.pairs) (missing_few p q f) (missing_fits p q f)) (
     all_joined P (joiners_point p q) _
@@ -158,7 +190,8 @@ delta_clear p q f g =
     all_joined P (loads_point p q) _ (loads_clear p q g) (
     all_joined P (cells_point p q) _ (changes_clear p q g) (
     all_joined P (entities_point p q) _ (entities_clear p q g) (
-    all_joined P (pack_point p q) [] (pack_clear p q g) tt)))))))
+    all_joined P (pack_point p q) _ (pack_clear p q g) (
+    all_joined P (chat_point p q) [] (said_clear p q g) tt))))))))))
 
 -- ---- the opening and the notes
 

@@ -2,7 +2,7 @@
 use Rattle.std.proofs.Common.{◌≡◌, ℕ, zero, suc, ◌+◌, ◌*◌, ◌<◌, ◌≤◌, Bool, true, false, cond, List}
 use Rattle.std.proofs.Common.{[], ◌∷◌, map, length, Option, Some, refl, sym, subst, ap, ◌∙◌, arith}
 use Rattle.std.specs.Prelude.{unsigned_abs, replicate}
-use Rattle.std.specs.Int.{w32, int_div_euclid}
+use Rattle.std.specs.Int.{w32, w64, int_div_euclid}
 use Rattle.std.specs.List.{filter, filter_map, cons_option, range_with_len, AllByRecursion}
 use Rattle.std.specs.Option.{unwrap_or}
 use Rattle.std.specs.declared.cmp.Ordering.{Ordering}
@@ -30,15 +30,18 @@ use Rattle.mc_entities.specs.declared.entity.EntityKind.TheVariants as kinds
 use Rattle.mc_entities.specs.Kinds.{IsKind, is_dropped}
 use Rattle.mc_entities.specs.Folk.{dropped_in}
 use Rattle.mc_view.specs.Views.{run_of, view_of, column_of_spot, view_size}
+use Rattle.mc_model.specs.declared.ticks.TheConstants.{AGE_MAX}
 use Rattle.mc_model.specs.Sight.{Seen, Sight, nothing_seen}
 use Rattle.mc_model.specs.World.{World, Player, players, column_in, spot_of, pack_of, view_in}
-use Rattle.mc_model.specs.World.{is_in_sight, seen_as, seen_of, project}
+use Rattle.mc_model.specs.World.{heard_by, is_in_sight, seen_as, seen_of, project}
 pub use Rattle.mc_model.proofs.AllFacts.{all_joined, all_mapped, all_filtered, few_filtered}
 use Rattle.mc_model.proofs.AllFacts.{all_flat, all_range, all_chosen}
 pub use Rattle.mc_model.proofs.ThingsFit.{SpotFits}
 use Rattle.mc_model.proofs.ThingsFit.{EntityFits, ThingsFit}
 use Rattle.mc_model.proofs.ThingFacts.{spot_fits, pack_fits}
 use Rattle.mc_model.proofs.Projections.{column_sizes, column_small}
+use Rattle.mc_model.proofs.FitsBeats.{ToldFits, beat_fits, shown_age_fits}
+use Rattle.mc_model.proofs.FitsChat.{LineFits}
 use Rattle.mc_model.proofs.FitsList.{PairFits}
 use Rattle.mc_model.proofs.FitsChunk.{IsNear, ColumnFits}
 use Rattle.mc_model.proofs.FitsSlots.{SlotFits, pile_slot_fits, piles_fit}
@@ -205,6 +208,9 @@ pub record SightFits (p : Sight) : Type 0 where
   pub seen : length (entries p.entities) ≤ 4210
   pub pack : AllByRecursion SlotFits p.pack
   pub slots : length p.pack ≡ pack_size
+  pub beat : ToldFits w32 p.beat
+  pub age : ToldFits w64 p.age
+  pub chat : AllByRecursion LineFits p.chat
 
 -- empty slots fit
 empty_fit : (n : ℕ) → AllByRecursion SlotFits (replicate n slots.Empty)
@@ -221,18 +227,22 @@ nothing_fits = record {
   seen = few_shown {X = Seen} int_cmp int_cmp_total 4210 [] (omega arith);
   pack = empty_fit pack_size;
   slots = refl;
+  beat = tt;
+  age = tt;
+  chat = tt;
 }
 
 -- a player that the list of players can name
 abbrev pub NamedFits : Player → Type 0
 NamedFits other = PairFits (other.uuid, other.name)
 
--- a projection fits, where its players are few and fit and its things do
+-- a projection fits, where its players are few and fit, its things and what was said do, and the
+-- world is not too old
 pub project_fits : (w : World) (p : Player) → AllByRecursion NamedFits (players w) →
-    length (players w) ≤ 50 → w.cap ≤ 8
-    → ThingsFit w.things → SightFits (project w p)
+    length (players w) ≤ 50 → w.cap ≤ 8 → w.age ≤ AGE_MAX →
+    AllByRecursion LineFits (heard_by w p) → ThingsFit w.things → SightFits (project w p)
 unfolding project
-project_fits w p named few near fits =
+project_fits w p named few near young heard fits =
     let at = spot_fits w p fits in
     let pack = pack_fits w p fits in
     let places = view_near (column_of_spot (spot_of w p)) (view_size w.cap p.view_byte)
@@ -271,4 +281,7 @@ project_fits w p named few near fits =
           omega (arith, le, fits.dropped));
       pack = piles_fit (pack_of w p).slots pack.are_piles;
       slots = length-map (pack_of w p).slots slot_of ∙ pack.size;
+      beat = beat_fits w.age young;
+      age = shown_age_fits w.age young;
+      chat = heard;
     }

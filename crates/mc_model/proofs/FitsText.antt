@@ -19,7 +19,7 @@ use Rattle.mc_model.specs.Names.{is_between, is_name_byte, is_name, uuid_text}
 use Rattle.mc_model.specs.declared.cause.Refusal.{Refusal}
 use Rattle.mc_model.specs.declared.cause.Refusal.TheVariants.{Version, Name, Taken, Full}
 use Rattle.mc_model.specs.declared.cause.Cause.{Cause}
-use Rattle.mc_model.specs.declared.cause.Cause.TheVariants.{Frame, Packet, BadNumber}
+use Rattle.mc_model.specs.declared.cause.Cause.TheVariants.{Frame, Packet, BadNumber, Silent}
 use Rattle.mc_model.specs.Texts.{chat_json, status_json, refusal_text, farewell_text}
 
 -- ASCII, and so many bytes at most
@@ -64,7 +64,7 @@ both_true true b e = (refl, e)
 both_true false b e = absurd cc
 
 -- a list of low bytes is ASCII
-all_low : (text : List ℕ) → list_all is_low text ≡ true → IsAscii text
+pub all_low : (text : List ℕ) → list_all is_low text ≡ true → IsAscii text
 all_low [] t i = omega arith
 all_low (b ∷ text) t zero = ltb-true b 128 (both_true (nat_lt b 128) (list_all is_low text) t).0
 all_low (b ∷ text) t (suc i) = all_low text (both_true (nat_lt b 128) (list_all is_low text) t).1 i
@@ -148,6 +148,11 @@ bad_number : IsShort 200 (chat_json (codes "Bad number."))
 unfolding chat_json serde_json_on_literals
 bad_number = short_where 200 (chat_json (codes "Bad number.")) refl
 
+-- likewise
+no_answer : IsShort 200 (chat_json (codes "No answer."))
+unfolding chat_json serde_json_on_literals
+no_answer = short_where 200 (chat_json (codes "No answer.")) refl
+
 abbrev pub AreShortWords : Option (List ℕ) → Type 0
 AreShortWords None = Unit {0}
 AreShortWords (Some text) = IsShort 200 (chat_json text)
@@ -157,6 +162,7 @@ pub farewell_short : (cause : Cause) → AreShortWords (farewell_text cause)
 farewell_short (Frame fault) = bad_frame
 farewell_short (Packet fault) = bad_packet
 farewell_short BadNumber = bad_number
+farewell_short Silent = no_answer
 farewell_short other = tt
 
 -- ---- identifiers

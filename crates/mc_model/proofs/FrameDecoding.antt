@@ -6,6 +6,7 @@ use Rattle.std.specs.Prelude.{Bool, true, false, Option, Some, None, if◌then�
 use Rattle.std.specs.List.{AllByRecursion}
 use Rattle.mc_nbt.specs.Reading.{IsBytes}
 use Rattle.mc_up.specs.declared.play_up.PlayUp.{PlayUp}
+use Rattle.mc_up.specs.PlayUp.{FitsPlayUp}
 use Rattle.mc_frame.specs.declared.fault.FrameFault.{FrameFault}
 use Rattle.mc_frame.specs.Cut.{Cut}
 use Rattle.mc_model.specs.declared.cause.Cause.TheVariants as causes
@@ -79,23 +80,23 @@ play_still o k w s sound e at = turn_less o (s.stage ≡ stages.Hand) ⊥ s.rest
 
 -- a player that did something
 acted_decodes : (o : Option Decoder) (k : ℕ) (w : World) (s : Session) (p : Player)
-    (packet : PlayUp) (after : Option World) → act w s p packet ≡ after → Sound w
-    → found k w.sessions ≡ Some s → SessionFits s → s.player ≡ Some p → s.stage ≡ stages.Play →
-    TurnDecodes o ⊥ s.rest k w s (acted w s after)
-acted_decodes o k w s p packet None did sound e f there at =
+    (packet : PlayUp) (after : Option World) → FitsPlayUp packet → act w s p packet ≡ after →
+    Sound w → found k w.sessions ≡ Some s → SessionFits s → s.player ≡ Some p →
+    s.stage ≡ stages.Play → TurnDecodes o ⊥ s.rest k w s (acted w s after)
+acted_decodes o k w s p packet None spelled did sound e f there at =
     turn_farewell o k w s causes.BadNumber sound e f
-acted_decodes o k w s p packet (Some v) did sound e f there at =
-    let a = act_fits w v s p packet f there sound.things did in
+acted_decodes o k w s p packet (Some v) spelled did sound e f there at =
+    let a = act_fits w v s p packet spelled f there sound.things did in
     let P : World → Type 0 = λ u. TurnDecodes o ⊥ s.rest k w s (still u) in
     let Q : Stage → Type 0 = λ stage. Hands o s.stage stage [] in
     elim a.is [
       | inl same ↦ subst P (sym same)
           (turn_less o (s.stage ≡ stages.Hand) ⊥ s.rest k w s
-          (still (record w { things = a.things })) (play_not_hand s.stage at)
-          (turn_kept o k w a.things s sound e a.fit))
+          (still (record w { things = a.things; lines = a.lines })) (play_not_hand s.stage at)
+          (turn_kept o k w a.things a.lines s sound e a.fit (a.heard sound.lines)))
       | inr other ↦ subst P (sym other)
-          (turn_put o ⊥ s.rest k w a.things s a.session [] sound e (a.stays.id
-          ∙ found_id k w.sessions s e) a.stays.fits a.fit
+          (turn_put o ⊥ s.rest k w a.things a.lines s a.session [] sound e (a.stays.id
+          ∙ found_id k w.sessions s e) a.stays.fits a.fit (a.heard sound.lines)
           (λ plays. inl (sym f.plays ∙ ap is_play at))
           (subst Q (sym a.stays.stage) (hands_same o s.stage))
           (λ same. absurd (play_not_hand s.stage at (sym a.stays.stage ∙ same))))
@@ -103,12 +104,12 @@ acted_decodes o k w s p packet (Some v) did sound e f there at =
 
 -- if there is one
 act_by_decodes : (o : Option Decoder) (k : ℕ) (w : World) (s : Session) (packet : PlayUp)
-    (player : Option Player) → s.player ≡ player → Sound w
+    (player : Option Player) → FitsPlayUp packet → s.player ≡ player → Sound w
     → found k w.sessions ≡ Some s → SessionFits s → s.stage ≡ stages.Play →
     TurnDecodes o ⊥ s.rest k w s (act_by w s player packet)
-act_by_decodes o k w s packet None there sound e f at = play_still o k w s sound e at
-act_by_decodes o k w s packet (Some p) there sound e f at =
-    acted_decodes o k w s p packet (act w s p packet) refl sound e f there at
+act_by_decodes o k w s packet None spelled there sound e f at = play_still o k w s sound e at
+act_by_decodes o k w s packet (Some p) spelled there sound e f at =
+    acted_decodes o k w s p packet (act w s p packet) spelled refl sound e f there at
 
 -- whatever the frame comes to
 pub performed_decodes : (o : Option Decoder) (k : ℕ) (w : World) (s : Session) (x : ClientRequest) →
@@ -119,9 +120,10 @@ performed_decodes o k w s nothing sound e f fit answer choice =
     turn_less o (s.stage ≡ stages.Hand) ⊥ s.rest k w s (still w) choice (turn_still o k w s sound e)
 performed_decodes o k w s (greets protocol stage) sound e f fit answer choice =
     let P : Stage → Type 0 = λ at. Hands o at stage [] in
-    turn_put o ⊥ s.rest k w w.things s (record s { stage = stage; protocol = protocol }) [] sound e
-    (found_id k w.sessions s e)
+    turn_put o ⊥ s.rest k w w.things w.lines s
+    (record s { stage = stage; protocol = protocol }) [] sound e (found_id k w.sessions s e)
     (still_fits s stage protocol s.cause s.owed (fit.1 ∙ sym (ap is_play fit.0)) f) sound.things
+    sound.lines
     (no_room w s (record s { stage = stage; protocol = protocol }) (sym f.plays ∙ ap is_play fit.0))
     (subst P (sym fit.0) (hands_start o stage choice.0 choice.1))
     (λ same. absurd (first_not_hand stage choice.0 same))
@@ -138,7 +140,7 @@ performed_decodes o k w s (ends packet) sound e f fit answer choice =
 performed_decodes o k w s (enters name) sound e f fit answer choice =
     login_decodes o k w s name (refusal w s.protocol name) refl sound e f fit
 performed_decodes o k w s (acts packet) sound e f fit answer choice =
-    act_by_decodes o k w s packet s.player refl sound e f fit
+    act_by_decodes o k w s packet s.player answer refl sound e f fit
 performed_decodes o k w s (wrong fault) sound e f fit answer choice =
     turn_farewell o k w s (causes.Packet fault) sound e f
 
@@ -251,9 +253,9 @@ cut_decodes o k w s count cut sound e f frames rest first =
     let N : Type 0 = s.stage ≡ stages.Hand in
     let P : ℕ → Type 0 = λ n. TurnDecodes o (WaitsOn s.stage cut.frames) cut.rest k w s
     (after (on_frames v n cut.frames) (λ (u : World). on_fault u n cut.fault)) in
-    let read = turn_put o N cut.rest k w w.things s (read_to s cut count) [] sound e
+    let read = turn_put o N cut.rest k w w.things w.lines s (read_to s cut count) [] sound e
     (found_id k w.sessions s e)
-    (rest_fits s cut.rest (s.before + (count - length cut.rest)) rest f) sound.things
+    (rest_fits s cut.rest (s.before + (count - length cut.rest)) rest f) sound.things sound.lines
     (λ plays. inl plays) (hands_same o s.stage) (λ at. (at, refl)) in
     let framed = frames_decode o k cut.frames v
     (read_to s cut count) read.sound read.there frames first in

@@ -91,7 +91,7 @@ pub led_still : (P : Session → List Sent →
     Type 0) (k : ℕ) (w : World) (s : Session) (ps : List Sent) → found k w.sessions ≡ Some s →
     P s ps → Led P k w ps (still w)
 led_still P k w s ps e p = record {
-  beside = beside_same k w w.things;
+  beside = beside_same k w w.things w.lines;
   session = s;
   there = e;
   holds =
@@ -127,7 +127,7 @@ frames_lead P kept k (frame ∷ frames) w s ps e p =
 -- the bytes that came, read behind those that were not
 pub read_goes : (k : ℕ) (w : World) (s : Session) (cut : Cut) (count : ℕ) →
     found k w.sessions ≡ Some s → Goes k w s (still (put w (read_to s cut count)))
-read_goes k w s cut count e = goes_put k w w.things s (read_to s cut count) [] e
+read_goes k w s cut count e = goes_put k w w.things w.lines s (read_to s cut count) [] e
     (found_id k w.sessions s e) (stayed refl refl refl refl) (owes_same s _ refl)
 
 led_cut : (P : Session → List Sent →
@@ -186,7 +186,7 @@ pub bytes_beside : (k : ℕ) (w : World) (bytes : List ℕ) → Beside k w (on_b
 bytes_beside k w bytes = elim (found k w.sessions) as (λ o. found k w.sessions ≡ o →
     Beside k w (on_bytes w k bytes).world) [
       | None ↦ λ e. subst (λ (t : Turn). Beside k w t.world) (sym (no_bytes k w bytes e))
-          (beside_same k w w.things)
+          (beside_same k w w.things w.lines)
       | Some s ↦ λ e. (bytes_lead (λ t ps. Unit {0})
           (λ s t ps qs d owes p. tt) k w s [] bytes e tt).beside
     ] refl

@@ -1,7 +1,7 @@
 -- Handing out and closing: what one thing that happens to a connection makes of it.
 use Rattle.std.proofs.Common.{◌≡◌, ℕ, ◌+◌, List, [], ◌++◌, length, map, inl, refl, sym, ap, ◌∙◌}
 use Rattle.std.specs.Prelude.{◌⊎◌, Bool, true, false, nat_le, Option, Some, None, is_some}
-use Rattle.std.specs.Prelude.{option_map, if◌then◌else◌}
+use Rattle.std.specs.Prelude.{option_map, unwrap_or, if◌then◌else◌}
 use Rattle.std.proofs.lemmas.List.{append-nil}
 use Rattle.mc_frame.specs.Kept.{outbox_max}
 use Rattle.mc_up.specs.declared.login_down.LoginDown.TheVariants as login_down
@@ -16,10 +16,11 @@ use Rattle.mc_model.specs.Sight.{Sight}
 use Rattle.mc_model.specs.Things.{Things}
 use Rattle.mc_model.specs.World.{World, Session, Player, found, put, is_play, is_closed}
 use Rattle.mc_model.specs.Packets.{Sent, of_login, of_play, bytes_of, played}
+use Rattle.mc_model.specs.Beats.{awaiting, is_silent}
 use Rattle.mc_model.specs.Texts.{farewell_text}
 use Rattle.mc_model.specs.Talk.{as_chat, farewell, refused, accepted}
 use Rattle.mc_model.specs.Step.{Handing, hand, mark_closed, disconnect, Turn, still, turn, due}
-use Rattle.mc_model.specs.Step.{after_leaving, showing, flush, flush_to}
+use Rattle.mc_model.specs.Step.{after_leaving, showing, flush, flush_to, beat, beat_to}
 use Rattle.mc_model.proofs.Beside.{Beside, beside_same, beside_onward, beside_put, found_put}
 
 -- ---- stages
@@ -44,37 +45,46 @@ not_closed stage at closed is open_ =
 
 -- ---- players
 
--- what the player of a connection was shown, if there is one
-abbrev pub shown_in : Session → Option (Option Sight)
-shown_in s = option_map (λ (p : Player). p.shown) s.player
+-- what a player was shown, and what was said before that
+abbrev pub ShownSaid : Type 0
+ShownSaid = Option Sight × List (List ℕ)
+
+abbrev pub shown_said : Player → ShownSaid
+shown_said p = (p.shown, p.chat)
+
+-- of the player of a connection, if there is one
+abbrev pub shown_in : Session → Option ShownSaid
+shown_in s = option_map shown_said s.player
 
 -- a player is there where one was, and was shown what that one was
 pub shown_from : (s t : Session) (q : Player) → shown_in t ≡ shown_in s → t.player ≡ Some q →
-    (p : Player) × (s.player ≡ Some p) × (q.shown ≡ p.shown)
+    (p : Player) × (s.player ≡ Some p) × (q.shown ≡ p.shown) × (q.chat ≡ p.chat)
 shown_from s t q same there = at s.player refl
   where
-    now : Some q.shown ≡ shown_in s
-    now = sym (ap (option_map (λ (p : Player). p.shown)) there) ∙ same
+    now : Some (shown_said q) ≡ shown_in s
+    now = sym (ap (option_map shown_said) there) ∙ same
 
     at : (o : Option Player) → s.player ≡ o →
-        (p : Player) × (s.player ≡ Some p) × (q.shown ≡ p.shown)
-    at None e = let clash : Some q.shown ≡ None =
-        now ∙ ap (option_map (λ (p : Player). p.shown)) e in absurd cc
-    at (Some p) e = (
-      p,
-      e,
-      (let same_ : Some q.shown ≡ Some p.shown =
-          now ∙ ap (option_map (λ (p : Player). p.shown)) e in cc),
-    )
+        (p : Player) × (s.player ≡ Some p) × (q.shown ≡ p.shown) × (q.chat ≡ p.chat)
+    at None e =
+        let clash : Some (shown_said q) ≡ None = now ∙ ap (option_map shown_said) e in absurd cc
+    at (Some p) e =
+        let all : Some (shown_said q) ≡ Some (shown_said p) =
+        now ∙ ap (option_map shown_said) e in (
+          p,
+          e,
+          ap (λ (o : Option ShownSaid). (unwrap_or o (shown_said p)).0) all,
+          ap (λ (o : Option ShownSaid). (unwrap_or o (shown_said p)).1) all,
+        )
 
-some_mapped : (o : Option Player) → is_some (option_map (λ (p : Player). p.shown) o) ≡ is_some o
+some_mapped : (o : Option Player) → is_some (option_map shown_said o) ≡ is_some o
 some_mapped None = refl
 some_mapped (Some p) = refl
 
 -- so one is there exactly where one was
 pub some_shown : (s t : Session) → shown_in t ≡ shown_in s → is_some t.player ≡ is_some s.player
 some_shown s t same = sym (some_mapped t.player)
-    ∙ ap (λ (o : Option (Option Sight)). is_some o) same ∙ some_mapped s.player
+    ∙ ap (λ (o : Option ShownSaid). is_some o) same ∙ some_mapped s.player
 
 -- where none is there, there is none
 pub no_player : (o : Option Player) → is_some o ≡ false → o ≡ None
@@ -108,7 +118,8 @@ pub data Done (s t : Session) (ps : List Sent) : Type 0 where
   greeted : s.stage ≡ stages.Hand → is_play t.stage ≡ false → is_closed t.stage ≡ false →
       t.player ≡ s.player → t.cause ≡ s.cause → ps ≡ [] → Done s t ps
   entered : (p : Player) → s.stage ≡ stages.Login → t.stage ≡ stages.Play → t.player ≡ Some p →
-      p.shown ≡ None → t.cause ≡ s.cause → ps ≡ accepted (offline_uuid p.name) p.name → Done s t ps
+      p.shown ≡ None → p.chat ≡ [] → t.cause ≡ s.cause →
+      ps ≡ accepted (offline_uuid p.name) p.name → Done s t ps
   shut_for : (cause : Cause) → is_closed s.stage ≡ false → t.stage ≡ stages.Closed →
       t.player ≡ None → t.cause ≡ Some cause → IsLast s.stage cause ps → Done s t ps
 
@@ -120,7 +131,7 @@ closed_done s t qs P closed (answered from stage same cause none) next =
     absurd (not_closed s.stage stages.Status closed from refl)
 closed_done s t qs P closed (greeted from waits open_ same cause none) next =
     absurd (not_closed s.stage stages.Hand closed from refl)
-closed_done s t qs P closed (entered p from into there shown cause told) next =
+closed_done s t qs P closed (entered p from into there shown said cause told) next =
     absurd (not_closed s.stage stages.Login closed from refl)
 closed_done s t qs P closed (shut_for why open_ shut_ gone cause last) next =
     absurd (not_both (is_closed s.stage) (ap is_closed closed) open_)
@@ -141,7 +152,7 @@ has_done s t qs (answered from stage same cause none) has =
     ap is_play stage ∙ has ∙ ap (λ (o : Option Player). is_some o) (sym same)
 has_done s t qs (greeted from waits open_ same cause none) has =
     waits ∙ sym (ap is_play from) ∙ has ∙ ap (λ (o : Option Player). is_some o) (sym same)
-has_done s t qs (entered p from into there shown cause told) has =
+has_done s t qs (entered p from into there shown said cause told) has =
     ap is_play into ∙ sym (ap (λ (o : Option Player). is_some o) there)
 has_done s t qs (shut_for why open_ closed gone cause last) has =
     ap is_play closed ∙ sym (ap (λ (o : Option Player). is_some o) gone)
@@ -166,7 +177,7 @@ pub record Goes (k : ℕ) (w : World) (s : Session) (t : Turn) : Type 0 where
 pub goes_still : (k : ℕ) (w : World) (s : Session) → found k w.sessions ≡ Some s →
     Goes k w s (still w)
 goes_still k w s e = record {
-  beside = beside_same k w w.things;
+  beside = beside_same k w w.things w.lines;
   session = s;
   there = e;
   done =
@@ -174,12 +185,15 @@ goes_still k w s e = record {
   owes = owes_same s s refl;
 }
 
-pub goes_put : (k : ℕ) (w : World) (things : Things) (s t : Session) (ps : List Sent) →
-    found k w.sessions ≡ Some s → t.id ≡ k → Done s t ps → Owes s t ps →
-    Goes k w s (record { world = record (put w t) { things = things }; handed = ps })
-goes_put k w things s t ps e is d owes = record {
-  beside = beside_onward k w (put w t) (record (put w t) { things = things })
-      (beside_put k w t is) (beside_same k (put w t) things);
+pub goes_put : (k : ℕ) (w : World) (things : Things) (lines : List (List ℕ)) (s t : Session)
+    (ps : List Sent) → found k w.sessions ≡ Some s → t.id ≡ k → Done s t ps → Owes s t ps →
+    Goes k w s (record {
+      world = record (put w t) { things = things; lines = lines };
+      handed = ps;
+    })
+goes_put k w things lines s t ps e is d owes = record {
+  beside = beside_onward k w (put w t) (record (put w t) { things = things; lines = lines })
+      (beside_put k w t is) (beside_same k (put w t) things lines);
   session = t;
   there = found_put k w s t is e;
   done = d;
@@ -214,11 +228,11 @@ pub goes_hand : (k : ℕ) (w : World) (things : Things) (s r t : Session) (packe
     Goes k w s (turn (record w { things = things }) r (hand t packets))
 goes_hand k w things s r t packets e is owed open_ done =
     hand_cases t packets (λ h. Goes k w s (turn (record w { things = things }) r h))
-    (λ fits. goes_put k w (after_leaving r.player t.player things) s
+    (λ fits. goes_put k w (after_leaving r.player t.player things) w.lines s
     (record t { owed = t.owed ++ bytes_of packets }) packets e is
     (done (t.owed ++ bytes_of packets))
     (adds (ap (λ (o : List ℕ). o ++ bytes_of packets) owed)))
-    (λ much. goes_put k w (after_leaving r.player None things) s
+    (λ much. goes_put k w (after_leaving r.player None things) w.lines s
     (record (mark_closed t causes.Backlog) { owed = [] }) [] e is
     (shut_for causes.Backlog open_ refl refl refl (wordless_last s.stage causes.Backlog refl))
     (empties refl refl refl))
@@ -233,8 +247,33 @@ goes_close k w s cause packets e is open_ last =
 
 -- ---- a tick
 
+-- what holds where there is no player, where its client is not silent and where it is, holds of
+-- what the beat of a tick makes of a connection
+pub beat_cases : (w : World) (s : Session) (P : Handing → Type 0) →
+    (s.player ≡ None → P (record { session = s; handed = [] })) →
+    ((p : Player) → s.player ≡ Some p → is_silent w p ≡ false →
+    P (record { session = record s { player = Some (awaiting w p) }; handed = [] })) →
+    ((p : Player) → s.player ≡ Some p → is_silent w p ≡ true →
+    P (disconnect s causes.Silent (farewell s.stage causes.Silent))) → P (beat w s)
+beat_cases w s P waits awaits leaves = at s.player refl
+  where
+    at : (o : Option Player) → s.player ≡ o → P (beat_to w s o)
+    at None e = waits e
+    at (Some p) e = elim (is_silent w p) as (λ b. is_silent w p ≡ b →
+        P (if b then disconnect s causes.Silent (farewell s.stage causes.Silent)
+        else record { session = record s { player = Some (awaiting w p) }; handed = [] }))
+        [ true ↦ leaves p e | false ↦ awaits p e ] refl
+
+-- after the beat too a connection has a player exactly while it is in play
+pub has_beaten : (w : World) (s : Session) → HasPlayer s → HasPlayer (beat w s).session
+has_beaten w s has = beat_cases w s (λ (h : Handing). HasPlayer h.session)
+    (λ none. has)
+    (λ p there speaks. has ∙ ap (λ (o : Option Player). is_some o) there)
+    (λ p there quiet. hand_cases (mark_closed s causes.Silent) (farewell s.stage causes.Silent)
+    (λ (h : Handing). HasPlayer h.session) (λ fits. refl) (λ much. refl))
+
 -- what holds where there is no player, and of both ways to end where there is one, holds of what a
--- tick makes of a connection
+-- flush makes of a connection
 pub flush_cases : (w : World) (s : Session) (P : Handing → Type 0) →
     (s.player ≡ None → P (record { session = s; handed = [] })) →
     ((p : Player) → s.player ≡ Some p →
@@ -258,7 +297,7 @@ flush_cases w s P waits fits much = at s.player refl
     at (Some p) e = hand_cases (record s { player = Some (showing w p) }) (map of_play (due w p)) P
         (fits p e) (much p e)
 
--- after a tick too a connection has a player exactly while it is in play
+-- and after a flush a connection has a player exactly while it is in play
 pub has_flushed : (w : World) (s : Session) → HasPlayer s → HasPlayer (flush w s).session
 has_flushed w s has = flush_cases w s (λ (h : Handing). HasPlayer h.session)
     (λ none. has)

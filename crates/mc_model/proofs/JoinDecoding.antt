@@ -91,7 +91,9 @@ pushed_sound w j s new facts sound =
     let same = playing_pushed w.sessions s facts.waits in
     record {
       settings = sound.settings;
+      young = sound.young;
       things = sound.things;
+      lines = sound.lines;
       apart = apart_more w.sessions s sound.apart (subst P (sym facts.id) (sound.fresh j new));
       fresh = λ k later. found_behind k w.sessions (s ∷ [])
           (sound.fresh k (new_before k j w.last new later))
@@ -179,7 +181,9 @@ filter_steps k w p came earlier sound kept =
     (record {
       sound = record {
         settings = sound.settings;
+        young = sound.young;
         things = sound.things;
+        lines = sound.lines;
         apart = apart_filter p w.sessions sound.apart;
         fresh = λ j new. none_filtered j p w.sessions (sound.fresh j new);
         few = (let le = few_left p w.sessions in omega (arith, le, sound.few));

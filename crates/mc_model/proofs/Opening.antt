@@ -12,9 +12,9 @@ use Rattle.mc_model.specs.Notes.{Noted}
 use Rattle.mc_model.specs.Sight.{Sight}
 use Rattle.mc_model.specs.Replica.{Replica, apply, replay, seeing}
 use Rattle.mc_model.specs.Delta.{Follows, IsTold, delta}
-use Rattle.mc_model.specs.World.{World, Player, spot_of, pack_of, project}
+use Rattle.mc_model.specs.World.{World, Player, last_shown, spot_of, pack_of, project}
 use Rattle.mc_model.specs.Step.{placing, opening, opening_due, window_packets, notes_of, notes_due}
-use Rattle.mc_model.specs.Step.{last_shown, due}
+use Rattle.mc_model.specs.Step.{due}
 use Rattle.mc_model.proofs.Leading.{Leads, onward, no_packets}
 use Rattle.mc_model.proofs.NotedCells.{cells_keep}
 use Rattle.mc_model.proofs.Points.{difference_leads}

@@ -11,18 +11,20 @@ use Rattle.mc_model.specs.declared.cause.Cause.TheVariants as causes
 use Rattle.mc_model.specs.World.{World, Session, found, is_closed}
 use Rattle.mc_model.specs.Packets.{Sent, frame_of, bytes_of}
 use Rattle.mc_model.specs.Step.{Event, joined, came, left, broke, ticked, took, forgot, Handing}
-use Rattle.mc_model.specs.Step.{Outcome, silent, joining, is_new, gone, changed, depart, is_done}
-use Rattle.mc_model.specs.Step.{at_tick, flush, on_bytes, step}
+use Rattle.mc_model.specs.Talk.{farewell}
+use Rattle.mc_model.specs.Step.{Outcome, silent, mark_closed, joining, is_new, gone, changed}
+use Rattle.mc_model.specs.Step.{depart, is_done, on_bytes, step}
 use Rattle.mc_model.specs.Run.{to, owed_of, owed_in, taken_at, lost_at}
 use Rattle.mc_model.specs.Orderly.{AreApart}
 use Rattle.mc_model.proofs.Sessions.{same_number, other_number, found_before, found_filter}
 use Rattle.mc_model.proofs.Beside.{beside_changed, found_changed}
 use Rattle.mc_model.proofs.Handing.{Owes, adds, empties, owes_same, closed_done, closed_is}
-use Rattle.mc_model.proofs.Handing.{flush_cases}
+use Rattle.mc_model.proofs.Handing.{hand_cases}
 use Rattle.mc_model.proofs.Frames.{IsKeptOwing, bytes_lead, bytes_beside}
 use Rattle.mc_model.proofs.FitsText.{both_true}
 use Rattle.mc_model.proofs.RunEvents.{gone_id, gone_beside}
-use Rattle.mc_model.proofs.RunTurns.{to_own, to_other, tick_found, tick_hands}
+use Rattle.mc_model.proofs.RunTurns.{to_own, to_other, after_tick, tick_found, tick_handed}
+use Rattle.mc_model.proofs.RunTurns.{tick_cases}
 
 pub bytes_more : (ps qs : List Sent) → bytes_of (ps ++ qs) ≡ bytes_of ps ++ bytes_of qs
 bytes_more ps qs = flat_map-append frame_of ps qs
@@ -39,10 +41,14 @@ owes_on s r t ps qs done (adds more) (empties closed none full) =
     empties (ap is_closed stage ∙ closed) (more ∙ ap (λ (o : List ℕ). o ++ bytes_of qs) none
     ∙ ap bytes_of nothing) (cause ∙ full))
 
-flush_owes : (w : World) (s : Session) → Owes s (flush w s).session (flush w s).handed
-flush_owes w s = flush_cases w s (λ (h : Handing). Owes s h.session h.handed)
-    (λ none. owes_same s s refl) (λ p there fits. adds refl)
-    (λ p there much. empties refl refl refl)
+tick_owes : (w : World) (s : Session) → Owes s (after_tick w s).session (after_tick w s).handed
+tick_owes w s = tick_cases w s (λ (h : Handing). Owes s h.session h.handed)
+    (λ none. owes_same s s refl)
+    (λ p there quiet. hand_cases (mark_closed s causes.Silent) (farewell s.stage causes.Silent)
+    (λ (h : Handing). Owes s h.session h.handed)
+    (λ fits. adds refl) (λ much. empties refl refl refl))
+    (λ p there speaks fits. adds refl)
+    (λ p there speaks much. empties refl refl refl)
 
 -- it goes owed nothing, it is handed something, it takes some, or it is gone for a cause
 pub data Owing (k : ℕ) (w : World) (e : Event) (s : Session) : Type 0 where
@@ -121,9 +127,9 @@ parting_owing j k w e cause s parts there = elim (cases_eq j k) [
 tick_owing : (k : ℕ) (w : World) (s : Session) → AreApart w.sessions → found k w.sessions ≡ Some s →
     Owing k w ticked s
 tick_owing k w s apart there =
-    owes (flush (at_tick w) s).session (tick_found k w s there)
-    (subst (Owes s (flush (at_tick w) s).session) (sym (tick_hands k w s apart there))
-    (flush_owes (at_tick w) s)) refl refl
+    owes (after_tick w s).session (tick_found k w s there)
+    (subst (Owes s (after_tick w s).session) (sym (tick_handed k w s apart there))
+    (tick_owes w s)) refl refl
 
 own_taking : (k n : ℕ) (w : World) (s : Session) → found k w.sessions ≡ Some s →
     Owing k w (took k n) s

@@ -12,22 +12,28 @@ use Rattle.mc_model.proofs.PointsColumns.{unloads_point_leads, loads_point_leads
 use Rattle.mc_model.proofs.PointsCells.{cells_point_leads}
 use Rattle.mc_model.proofs.PointsEntities.{destroys_point_leads, entities_point_leads}
 use Rattle.mc_model.proofs.PointsPack.{pack_point_leads}
+use Rattle.mc_model.proofs.PointsBeats.{beat_point_leads, time_point_leads}
+use Rattle.mc_model.proofs.PointsChat.{chat_point_leads}
 
 -- the difference makes of what one saw what the other sees
 pub difference_leads : (p q : Sight) → Follows p q → replay (seeing p) (delta p q) ≡ seeing q
 unfolding delta
 difference_leads p q follows =
-    let players : Sight = record p { pairs = q.pairs } in
+    let told : Sight = record p { beat = q.beat; age = q.age } in
+    let players : Sight = record told { pairs = q.pairs } in
     let left : Sight = record players {
       entities = fold take_out p.entities
           (filter (is_without q.entities) (entries p.entities));
     } in
-    (onward (leavers_point_leads p q)
-    (onward (joiners_point_leads p q)
+    (onward (beat_point_leads p q p follows)
+    (onward (time_point_leads p q (record p { beat = q.beat }) follows)
+    (onward (leavers_point_leads told q)
+    (onward (joiners_point_leads told q)
     (onward (destroys_point_leads p q players)
     (onward (unloads_point_leads p q left)
     (onward (loads_point_leads p q left follows)
     (onward (cells_point_leads p q left follows)
-    (onward (entities_point_leads p q (record q { pack = p.pack }) follows)
-    (onward (pack_point_leads p q q follows)
-    (no_packets q))))))))).is
+    (onward (entities_point_leads p q (record q { pack = p.pack; chat = p.chat }) follows)
+    (onward (pack_point_leads p q (record q { chat = p.chat }) follows)
+    (onward (chat_point_leads p q q follows)
+    (no_packets q)))))))))))).is

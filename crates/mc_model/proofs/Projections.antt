@@ -1,7 +1,8 @@
 -- What a projection shows: each column as it is in the world, with all its cells, dropped items and
 -- a pack that packets can tell. Two projections of one terrain follow one another.
-use Rattle.std.proofs.Common.{◌≡◌, ℕ, ◌<◌, ◌≤◌, T, Bool, true, false, cond, List, [], ◌∷◌, map}
-use Rattle.std.proofs.Common.{length, Option, Some, None, refl, sym, ap, subst, ◌∙◌, arith}
+use Rattle.std.proofs.Common.{◌≡◌, ℕ, ◌<◌, ◌≤◌, T, Bool, true, false, cond, List, [], ◌∷◌, ◌++◌}
+use Rattle.std.proofs.Common.{map, length, Option, Some, None, is_some, refl, sym, ap, subst, ◌∙◌}
+use Rattle.std.proofs.Common.{arith}
 use Rattle.std.specs.Prelude.{unsigned_abs, int_le, slice_index_or}
 use Rattle.std.specs.List.{All, AllByRecursion, filter, filter_map}
 use Rattle.std.specs.Cmp.{int_cmp_total}
@@ -32,7 +33,7 @@ use Rattle.mc_model.specs.Sight.{Seen, nothing_seen}
 use Rattle.mc_model.specs.Replica.{is_32_bits}
 use Rattle.mc_model.specs.Delta.{IsSeen, IsTold, Follows}
 use Rattle.mc_model.specs.World.{World, Player, pack_of, column_in, view_in, is_in_sight, seen_as}
-use Rattle.mc_model.specs.World.{seen_of, project}
+use Rattle.mc_model.specs.World.{heard_by, seen_of, project}
 use Rattle.mc_model.proofs.AllFacts.{all_filtered, all_chosen}
 use Rattle.mc_model.proofs.ThingsFit.{EntityFits, ThingsFit}
 use Rattle.mc_model.proofs.ThingFacts.{pack_fits, state_small}
@@ -193,16 +194,38 @@ nothing_told = record {
 
 -- ---- one after another
 
--- projections of worlds with one terrain follow one another
+-- a beat and an age are shown in each
+project_beat : (w : World) (p : Player) → is_some (project w p).beat ≡ true
+unfolding project
+project_beat w p = refl
+
+project_age : (w : World) (p : Player) → is_some (project w p).age ≡ true
+unfolding project
+project_age w p = refl
+
+-- and what was said to the player
+pub projected_chat : (w : World) (p : Player) → (project w p).chat ≡ heard_by w p
+unfolding project
+projected_chat w p = refl
+
+-- projections of worlds with one terrain follow one another, where what was said stays
 pub project_follows : (w v : World) (p q : Player) → w.terrain ≡ v.terrain → ThingsFit w.things →
-    ThingsFit v.things → Follows (project w p) (project v q)
-project_follows w v p q terrain before after = record {
+    ThingsFit v.things → (more : List (List ℕ)) → heard_by v q ≡ heard_by w p ++ more →
+    Follows (project w p) (project v q)
+project_follows w v p q terrain before after more heard = record {
   old = project_told w p before;
   new = project_told v q after;
   biomes = λ place old new was is.
       ap (λ (c : ColumnValue). c.biomes) (projected_column w p place old was)
       ∙ ap (λ (land : Terrain). biomes_of land place) terrain
       ∙ sym (ap (λ (c : ColumnValue). c.biomes) (projected_column v q place new is));
+  beat = project_beat v q;
+  age = project_age v q;
+  chat = (
+    more,
+    projected_chat v q ∙ heard
+        ∙ ap (λ (chat : List (List ℕ)). chat ++ more) (sym (projected_chat w p)),
+  );
 }
 
 -- and each follows nothing
@@ -213,4 +236,7 @@ nothing_follows v q fits = record {
   new = project_told v q fits;
   biomes = λ place old new was is. let none : get nothing_seen.columns place ≡ None =
       get-empty place_cmp place in absurd cc;
+  beat = project_beat v q;
+  age = project_age v q;
+  chat = ((project v q).chat, refl);
 }

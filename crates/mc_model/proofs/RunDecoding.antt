@@ -41,6 +41,18 @@ pub record Steps (k : ℕ) (v : World) (came : List ℕ) (packets : List Sent) :
 abbrev pub StillWaits : Session → Session → Type 0
 StillWaits s t = t.stage ≡ stages.Hand → (s.stage ≡ stages.Hand) × (t.rest ≡ s.rest)
 
+-- what was handed to each does not hang on how old the world is, on its things and on what was said
+pub kept_so : (k : ℕ) (w : World) (age : ℕ) (things : Things) (lines : List (List ℕ))
+    (came : List ℕ) (packets : List Sent) → Kept k w came packets →
+    Kept k (record w { age = age; things = things; lines = lines }) came packets
+kept_so k w age things lines came packets kept = record {
+  here = kept.here;
+  waits = kept.waits;
+  early = kept.early;
+  decoded = kept.decoded;
+  bytes = kept.bytes;
+}
+
 -- ---- each connection changed
 
 -- what holds of all is kept by a change of each
@@ -117,9 +129,10 @@ changed_steps : (k j : ℕ) (w : World) (f : Session →
     Sound w → Kept k w came earlier
     → Steps k (record (changed w j f) { things = things }) came (earlier ++ [])
 changed_steps k j w f things came earlier keeps waits stays fits hands small sound kept = record {
-  sound = sound_mapped w g things (one_keeps j f keeps) (λ s. stays_one s (s.id == j))
+  sound = sound_mapped w g things w.lines (one_keeps j f keeps)
+      (λ s. stays_one s (s.id == j))
       (all_changed SessionFits g (λ s fit. fits_one s (s.id == j) fit) w.sessions sound.fits)
-      small sound;
+      small sound.lines sound;
   kept = kept_mapped k w g things came earlier [] (one_keeps j f keeps)
       (λ s. waits_one s (s.id == j)) (λ s e. hands_one s (s.id == j)) (λ none. refl) sound kept;
 }

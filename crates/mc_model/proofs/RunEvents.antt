@@ -3,23 +3,24 @@
 use Rattle.std.proofs.Common.{◌≡◌, ◌≢◌, ◌≤◌, ℕ, ◌+◌, [], ◌∷◌, ◌++◌, length, drop, refl, sym, subst}
 use Rattle.std.proofs.Common.{ap, ◌∙◌, arith}
 use Rattle.std.specs.Prelude.{◌==◌, ◌&&◌, not, nat_lt, Bool, true, false, cond, Option, Some, None}
-use Rattle.std.specs.Prelude.{option_map, if◌then◌else◌}
+use Rattle.std.specs.Prelude.{if◌then◌else◌}
 use Rattle.std.proofs.lemmas.Bool.Decides.{nat_tests}
-use Rattle.std.proofs.lemmas.List.{length-append, length-map}
+use Rattle.std.proofs.lemmas.List.{length-append}
 use Rattle.std.proofs.lemmas.List.Sums.{length-filter, count_by-le-length}
 use Rattle.mc_model.specs.declared.cause.Cause.{Cause}
 use Rattle.mc_model.specs.declared.cause.Cause.TheVariants as causes
 use Rattle.mc_model.specs.World.{World, Session, found, is_closed}
 use Rattle.mc_model.specs.Step.{Event, joined, came, left, broke, ticked, took, forgot, Handing}
 use Rattle.mc_model.specs.Step.{mark_closed, joining, join, is_new, gone, changed, depart, is_done}
-use Rattle.mc_model.specs.Step.{flush}
-use Rattle.mc_model.specs.Step.{at_tick, on_bytes, step}
+use Rattle.mc_model.specs.Step.{aged, beat, flush, at_tick, tick, on_bytes, step}
+use Rattle.mc_model.specs.Talk.{farewell}
 use Rattle.mc_model.specs.Orderly.{Orderly, Rise, next_number}
 use Rattle.mc_model.proofs.RiseFacts.{joining_id, joined_rise, rise_filter}
-use Rattle.mc_model.proofs.Sessions.{other_number, found_map, found_behind, apart_map, rise_map}
-use Rattle.mc_model.proofs.Sessions.{apart_more, apart_filter, none_filtered}
+use Rattle.mc_model.proofs.Sessions.{other_number, found_behind, apart_more, apart_filter}
+use Rattle.mc_model.proofs.Sessions.{none_filtered}
 use Rattle.mc_model.proofs.Beside.{Beside, beside_same, beside_onward, beside_changed}
-use Rattle.mc_model.proofs.Handing.{flush_cases}
+use Rattle.mc_model.proofs.Handing.{hand_cases, beat_cases, flush_cases}
+use Rattle.mc_model.proofs.AllHanded.{orderly_handed, size_handed}
 use Rattle.mc_model.proofs.Frames.{bytes_beside}
 
 -- ---- new numbers
@@ -51,6 +52,12 @@ pub gone_id : (cause : Cause) (s : Session) → (gone cause s).id ≡ s.id
 gone_id cause s = elim (is_closed s.stage) as
     (λ b. (if b then record s { owed = [] } else
     record (mark_closed s cause) { owed = [] }).id ≡ s.id) [ true ↦ refl | false ↦ refl ]
+
+pub beat_id : (w : World) (s : Session) → (beat w s).session.id ≡ s.id
+beat_id w s = beat_cases w s (λ (h : Handing). h.session.id ≡ s.id) (λ none. refl)
+    (λ p there speaks. refl)
+    (λ p there quiet. hand_cases (mark_closed s causes.Silent) (farewell s.stage causes.Silent)
+    (λ (h : Handing). h.session.id ≡ s.id) (λ fits. refl) (λ much. refl))
 
 pub flush_id : (w : World) (s : Session) → (flush w s).session.id ≡ s.id
 flush_id w s = flush_cases w s (λ (h : Handing). h.session.id ≡ s.id) (λ none. refl)
@@ -92,7 +99,18 @@ gone_beside k w cause = beside_changed k w (gone cause) (λ t same. gone_id caus
 -- and so does one that departs with its player
 pub depart_beside : (k : ℕ) (w : World) (cause : Cause) → Beside k w (depart w k cause)
 depart_beside k w cause = beside_onward k w (changed w k (gone cause)) (depart w k cause)
-    (gone_beside k w cause) (beside_same k (changed w k (gone cause)) _)
+    (gone_beside k w cause) (beside_same k (changed w k (gone cause)) _ w.lines)
+
+-- numbers stand as they did after the beat of a tick
+pub orderly_beaten : (w : World) → Orderly w → Orderly (at_tick w)
+orderly_beaten w o = orderly_handed beat (aged w) (beat_id (aged w))
+    (record { rising = o.rising; apart = o.apart; fresh = o.fresh })
+
+-- and after all were flushed
+orderly_tick : (w : World) → Orderly w → Orderly (tick w).world
+orderly_tick w o =
+    let all = orderly_handed flush (at_tick w) (flush_id (at_tick w)) (orderly_beaten w o) in
+    record { rising = all.rising; apart = all.apart; fresh = all.fresh }
 
 pub orderly_step : (w : World) (e : Event) → Orderly w → Orderly (step w e).world
 unfolding step
@@ -101,15 +119,7 @@ orderly_step w (came k bytes) o = orderly_beside k w (on_bytes w k bytes).world
     (bytes_beside k w bytes) o
 orderly_step w (left k) o = orderly_beside k w _ (depart_beside k w causes.Gone) o
 orderly_step w (broke k) o = orderly_beside k w _ (depart_beside k w causes.Broke) o
-orderly_step w ticked o = record {
-  rising = rise_map (λ (s : Session). (flush (at_tick w) s).session) (flush_id (at_tick w)) 0
-      (next_number w.last) w.sessions o.rising;
-  apart = apart_map (λ (s : Session). (flush (at_tick w) s).session)
-      (flush_id (at_tick w)) w.sessions o.apart;
-  fresh = λ k new. found_map k (λ (s : Session). (flush (at_tick w) s).session)
-      (flush_id (at_tick w)) w.sessions
-      ∙ ap (option_map (λ (s : Session). (flush (at_tick w) s).session)) (o.fresh k new);
-}
+orderly_step w ticked o = orderly_tick w o
 orderly_step w (took k n) o = orderly_beside k w _ (beside_changed k w _ (λ t same. refl)) o
 orderly_step w (forgot k) o = record {
   rising = rise_filter (λ (s : Session). not (s.id == k && is_done s)) 0
@@ -174,8 +184,7 @@ sessions_grow w (came k bytes) = let same = (bytes_beside k w bytes).size in ome
 sessions_grow w (left k) = let same = (gone_beside k w causes.Gone).size in omega (arith, same)
 sessions_grow w (broke k) = let same = (gone_beside k w causes.Broke).size in omega (arith, same)
 sessions_grow w ticked =
-    let same = length-map w.sessions (λ (s : Session). (flush (at_tick w) s).session) in
-    omega (arith, same)
+    let same = size_handed flush (at_tick w) ∙ size_handed beat (aged w) in omega (arith, same)
 sessions_grow w (took k n) =
     let same = (beside_changed k w (λ (s : Session). record s { owed = drop n s.owed })
     (λ t is. refl)).size in

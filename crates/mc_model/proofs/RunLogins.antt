@@ -11,15 +11,15 @@ use Rattle.mc_model.specs.Names.{offline_uuid}
 use Rattle.mc_model.specs.World.{World, Session, Player, found, is_play}
 use Rattle.mc_model.specs.Packets.{Sent}
 use Rattle.mc_model.specs.Talk.{farewell, refused, accepted}
-use Rattle.mc_model.specs.Step.{Event, at_tick, Handing, step}
+use Rattle.mc_model.specs.Step.{Event, Handing, step}
 use Rattle.mc_model.specs.Run.{to}
 use Rattle.mc_model.specs.Headline.{LoggingIn, waits, is_let_in, is_refused, ends, enters_and_ends}
 use Rattle.mc_model.specs.Orderly.{Orderly}
 use Rattle.mc_model.proofs.Handing.{shown_from, Done, stayed, answered, greeted, entered, shut_for}
 use Rattle.mc_model.proofs.Handing.{HasPlayer, no_player, closed_done, closed_is, not_closed}
 use Rattle.mc_model.proofs.Frames.{IsKept}
-use Rattle.mc_model.proofs.RunTurns.{tick_found, tick_hands, went, stays, remains, is_tick}
-use Rattle.mc_model.proofs.RunTicks.{flush_waits}
+use Rattle.mc_model.proofs.RunTurns.{tick_found, tick_handed, went, stays, remains, is_tick}
+use Rattle.mc_model.proofs.RunTicks.{tick_waits}
 
 -- how far a connection came that was logging in, and what it was handed
 data Came (t : Session) (ps : List Sent) : Type 0 where
@@ -52,7 +52,7 @@ login_came s t ps qs at before (answered from stage same cause none) = let clash
     two_stages s.stage stages.Status stages.Login from at in absurd cc
 login_came s t ps qs at before (greeted from waits' open_ same cause none) = let clash =
     two_stages s.stage stages.Hand stages.Login from at in absurd cc
-login_came s t ps qs at before (entered p from into there shown cause told) =
+login_came s t ps qs at before (entered p from into there shown said cause told) =
     plays p.name p into there (nothing_before ps qs _ before told)
 login_came s t ps qs at before (shut_for why open_ closed gone cause last) =
     elim (last.in_login at) [
@@ -72,7 +72,7 @@ play_came s t ps qs name p at there before (answered from stage same cause none)
     two_stages s.stage stages.Status stages.Play from at in absurd cc
 play_came s t ps qs name p at there before (greeted from waits' open_ same cause none) = let clash =
     two_stages s.stage stages.Hand stages.Play from at in absurd cc
-play_came s t ps qs name p at there before (entered q from into there_ shown cause told) =
+play_came s t ps qs name p at there before (entered q from into there_ shown said cause told) =
     let clash = two_stages s.stage stages.Login stages.Play from at in absurd cc
 play_came s t ps qs name p at there before (shut_for why open_ closed gone cause last) =
     played_and_ended name why closed cause (ap (λ (rs : List Sent). rs ++ qs) before
@@ -110,10 +110,8 @@ pub logging_in : (k : ℕ) (w : World) (s : Session) (e : Event) → Orderly w �
     found k w.sessions ≡ Some s → s.stage ≡ stages.Login → LoggingIn w e k
 logging_in k w s e o has there at = elim (is_tick e) [
   | inl is ↦ subst (λ (e : Event). LoggingIn w e k) (sym is) (waits s
-      (tick_found k w s there ∙ ap (λ (h : Handing). Some h.session)
-      (flush_waits (at_tick w) s nobody)) at
-      (tick_hands k w s o.apart there
-      ∙ ap (λ (h : Handing). h.handed) (flush_waits (at_tick w) s nobody)))
+      (tick_found k w s there ∙ ap (λ (h : Handing). Some h.session) (tick_waits w s nobody)) at
+      (tick_handed k w s o.apart there ∙ ap (λ (h : Handing). h.handed) (tick_waits w s nobody)))
   | inr ne ↦ elim (remains Came came_kept k w e s [] o.apart ne there (here at refl)) [
     | went closed gone none ↦ absurd
         (not_closed s.stage stages.Login (closed_is s.stage closed) at refl)

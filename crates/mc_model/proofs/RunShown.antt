@@ -2,8 +2,9 @@
 -- so true after any of them.
 use Rattle.std.proofs.Common.{◌≡◌, ℕ, List, [], ◌∷◌, ◌++◌, map, refl, sym, subst, ap, ◌∙◌}
 use Rattle.std.proofs.Common.{append_assoc}
-use Rattle.std.specs.Prelude.{true, false, Option, Some, None, is_some, option_map, unwrap_or}
+use Rattle.std.specs.Prelude.{true, false, drop, Option, Some, None, is_some, option_map, unwrap_or}
 use Rattle.std.specs.Prelude.{if◌then◌else◌}
+use Rattle.std.specs.Option.{option_and_then}
 use Rattle.std.proofs.lemmas.List.{append-nil}
 use Rattle.std.proofs.lemmas.List.Elements.{filter_map-append}
 use Rattle.std.proofs.lemmas.List.Sums.{fold-append}
@@ -12,31 +13,35 @@ use Rattle.mc_down.specs.declared.down.Down.{Down}
 use Rattle.mc_model.specs.declared.cause.Cause.TheVariants as causes
 use Rattle.mc_model.specs.declared.stage.Stage.TheVariants as stages
 use Rattle.mc_model.specs.Sight.{Sight, nothing_seen}
-use Rattle.mc_model.specs.Replica.{Replica, Shows, new_replica, apply, replay, seeing}
+use Rattle.mc_model.specs.Replica.{Replica, new_replica, apply, replay, seeing}
 use Rattle.mc_model.specs.Delta.{Follows}
 use Rattle.mc_model.specs.World.{World, Session, Player, new_world, found, is_play, is_closed}
-use Rattle.mc_model.specs.World.{project}
+use Rattle.mc_model.specs.World.{last_shown, heard_by, project}
+use Rattle.mc_model.specs.Beats.{awaiting}
 use Rattle.mc_model.specs.Packets.{Sent, of_play, in_play, played}
 use Rattle.mc_model.specs.Names.{offline_uuid}
-use Rattle.mc_model.specs.Talk.{accepted}
+use Rattle.mc_model.specs.Talk.{accepted, farewell}
 use Rattle.mc_model.specs.Step.{Event, ticked, Handing, mark_closed, new_session, joining, is_new}
-use Rattle.mc_model.specs.Step.{is_crowded, last_shown, due, showing, flush, at_tick, step}
+use Rattle.mc_model.specs.Step.{is_crowded, due, showing, beat, flush, aged, at_tick, player_in}
+use Rattle.mc_model.specs.Step.{step}
 use Rattle.mc_model.specs.Run.{history, handed, to}
-use Rattle.mc_model.specs.Headline.{HasPlayerInPlay}
+use Rattle.mc_model.specs.Headline.{HasPlayerInPlay, ShowsWorld}
 use Rattle.mc_model.specs.Orderly.{Orderly}
 use Rattle.mc_model.proofs.Opening.{due_leads}
-use Rattle.mc_model.proofs.Projections.{project_follows, nothing_follows}
+use Rattle.mc_model.proofs.Projections.{projected_chat, project_follows, nothing_follows}
 use Rattle.mc_model.proofs.Sessions.{some_none, one_some}
-use Rattle.mc_model.proofs.Handing.{shown_in, shown_from, Done, stayed, answered}
+use Rattle.mc_model.proofs.Handing.{shown_said, shown_in, shown_from, Done, stayed, answered}
 use Rattle.mc_model.proofs.Handing.{greeted, entered, shut_for, HasPlayer, has_done, not_both}
-use Rattle.mc_model.proofs.Handing.{flush_cases}
+use Rattle.mc_model.proofs.Handing.{hand_cases, flush_cases}
+use Rattle.mc_model.proofs.AllHanded.{found_handed}
 use Rattle.mc_model.proofs.Frames.{IsKept}
-use Rattle.mc_model.proofs.RunEvents.{orderly_step, terrain_step, old_step}
+use Rattle.mc_model.proofs.RunEvents.{beat_id, orderly_step, terrain_step, old_step}
 use Rattle.mc_model.proofs.ThingsFit.{ThingsFit}
 use Rattle.mc_model.proofs.ThingsKept.{new_things_fit}
-use Rattle.mc_model.proofs.ThingsRun.{things_step}
+use Rattle.mc_model.proofs.ThingsRun.{handed_fit, things_step}
 use Rattle.mc_model.proofs.RunOrder.{orderly_new}
-use Rattle.mc_model.proofs.RunTurns.{tick_found, no_out, away, joins, arrives, each_step}
+use Rattle.mc_model.proofs.RunTurns.{after_tick, tick_found, tick_cases, same_view, no_out, away}
+use Rattle.mc_model.proofs.RunTurns.{joins, arrives, each_step}
 
 -- ---- packets of play
 
@@ -69,18 +74,23 @@ IsDrawn land (Some seen) = Drawn land seen
 
 drawn_follows : (land : Terrain) (w : World) (p : Player) (shown : Option Sight) →
     w.terrain ≡ land → ThingsFit w.things → IsDrawn land shown →
+    p.chat ≡ (unwrap_or shown nothing_seen).chat →
     Follows (unwrap_or shown nothing_seen) (project w p)
-drawn_follows land w p None terrain things d = nothing_follows w p things
-drawn_follows land w p (Some seen) terrain things d =
+drawn_follows land w p None terrain things d said = nothing_follows w p things
+drawn_follows land w p (Some seen) terrain things d said =
+    let before : p.chat ≡ heard_by d.world d.player =
+    said ∙ ap (λ (q : Sight). q.chat) d.is ∙ projected_chat d.world d.player in
     subst (λ (q : Sight). Follows q (project w p)) (sym d.is)
-    (project_follows d.world w d.player p (d.terrain ∙ sym terrain) d.things things)
+    (project_follows d.world w d.player p (d.terrain ∙ sym terrain) d.things things
+    (drop p.since w.lines) (ap (λ (chat : List (List ℕ)). chat ++ drop p.since w.lines) before))
 
--- the packets that were handed to a connection show its player what it was shown last; before it
--- plays there are none
+-- the packets that were handed to a connection show its player what it was shown last, which is
+-- all that was said before that; before it plays there are none
 pub record IsShown (land : Terrain) (s : Session) (ps : List Sent) : Type 0 where
   pub has : HasPlayer s
   pub playing : (p : Player) → s.player ≡ Some p →
       replay new_replica (played ps) ≡ seeing (last_shown p)
+  pub chat : (p : Player) → s.player ≡ Some p → p.chat ≡ (last_shown p).chat
   pub drawn : (p : Player) → s.player ≡ Some p → IsDrawn land p.shown
   pub waiting : is_play s.stage ≡ false → is_closed s.stage ≡ false → played ps ≡ []
 
@@ -96,6 +106,10 @@ shown_stayed land s t ps qs done shown none was h = record {
       let before = shown_from s t q shown there in
       ap (replay new_replica) (played_more ps qs none) ∙ h.playing before.0 before.1
       ∙ ap (λ (o : Option Sight). seeing (unwrap_or o nothing_seen)) (sym before.2);
+  chat = λ q there.
+      let before = shown_from s t q shown there in
+      before.3 ∙ h.chat before.0 before.1
+      ∙ ap (λ (o : Option Sight). (unwrap_or o nothing_seen).chat) (sym before.2);
   drawn = λ q there.
       let before = shown_from s t q shown there in
       subst (IsDrawn land) (sym before.2) (h.drawn before.0 before.1);
@@ -104,18 +118,20 @@ shown_stayed land s t ps qs done shown none was h = record {
 }
 
 same_player : (s t : Session) → t.player ≡ s.player → shown_in t ≡ shown_in s
-same_player s t same = ap (λ (o : Option Player). option_map (λ (p : Player). p.shown) o) same
+same_player s t same = ap (option_map shown_said) same
 
 shown_enters : (land : Terrain) (s t : Session) (p : Player) (ps qs : List Sent) → Done s t qs →
     s.stage ≡ stages.Login → t.stage ≡ stages.Play → t.player ≡ Some p → p.shown ≡ None →
-    played qs ≡ [] →
+    p.chat ≡ [] → played qs ≡ [] →
     IsShown land s ps → IsShown land t (ps ++ qs)
-shown_enters land s t p ps qs done from into there shown none h = record {
+shown_enters land s t p ps qs done from into there shown said none h = record {
   has = has_done s t qs done h.has;
   playing = λ q here.
       ap (replay new_replica) (played_more ps qs none
       ∙ h.waiting (ap is_play from) (ap is_closed from))
       ∙ ap (λ (o : Option Sight). seeing (unwrap_or o nothing_seen)) (sym (unseen q here));
+  chat = λ q here. unsaid q here
+      ∙ ap (λ (o : Option Sight). (unwrap_or o nothing_seen).chat) (sym (unseen q here));
   drawn = λ q here. subst (IsDrawn land) (sym (unseen q here)) tt;
   waiting = λ waits. absurd (not_both (is_play t.stage) (ap is_play into) waits);
 }
@@ -123,11 +139,15 @@ shown_enters land s t p ps qs done from into there shown none h = record {
     unseen : (q : Player) → t.player ≡ Some q → q.shown ≡ None
     unseen q here = subst (λ (v : Player). v.shown ≡ None) (one_some p q t.player there here) shown
 
+    unsaid : (q : Player) → t.player ≡ Some q → q.chat ≡ []
+    unsaid q here = subst (λ (v : Player). v.chat ≡ []) (one_some p q t.player there here) said
+
 shown_shut : (land : Terrain) (t : Session) (ps : List Sent) → t.stage ≡ stages.Closed →
     t.player ≡ None → IsShown land t ps
 shown_shut land t ps closed gone = record {
   has = ap is_play closed ∙ sym (ap (λ (o : Option Player). is_some o) gone);
   playing = λ q there. absurd (some_none q t.player there gone);
+  chat = λ q there. absurd (some_none q t.player there gone);
   drawn = λ q there. absurd (some_none q t.player there gone);
   waiting = λ waits open_. absurd (not_both (is_closed t.stage) (ap is_closed closed) open_);
 }
@@ -142,55 +162,72 @@ shown_kept land s t ps qs (answered from stage same cause none) h =
 shown_kept land s t ps qs (greeted from waits open_ same cause none) h =
     shown_stayed land s t ps qs (greeted from waits open_ same cause none) (same_player s t same)
     (ap played none) (λ _ _. (ap is_play from, ap is_closed from)) h
-shown_kept land s t ps qs (entered p from into there shown cause told) h =
-    shown_enters land s t p ps qs (entered p from into there shown cause told) from into there shown
-    (ap played told ∙ accepted_played (offline_uuid p.name) p.name) h
+shown_kept land s t ps qs (entered p from into there shown said cause told) h =
+    shown_enters land s t p ps qs (entered p from into there shown said cause told) from into there
+    shown said (ap played told ∙ accepted_played (offline_uuid p.name) p.name) h
 shown_kept land s t ps qs (shut_for why open_ closed gone cause last) h =
     shown_shut land t (ps ++ qs) closed gone
 
 -- ---- a tick
 
--- what the tick shows of a world stays the same while the player is shown it
-pub same_view : (w : World) (p : Player) → project w (showing w p) ≡ project w p
-unfolding project
-same_view w p = refl
-
-pub flush_shown : (land : Terrain) (w : World) (s : Session) (ps : List Sent) →
-    w.terrain ≡ land → ThingsFit w.things → IsShown land s ps →
-    IsShown land (flush w s).session (ps ++ (flush w s).handed)
-flush_shown land w s ps terrain things h =
-    flush_cases w s (λ (h : Handing). IsShown land h.session (ps ++ h.handed))
+tick_keeps_shown : (land : Terrain) (w : World) (s : Session) (ps : List Sent) →
+    w.terrain ≡ land → ThingsFit (at_tick w).things → IsShown land s ps →
+    IsShown land (after_tick w s).session (ps ++ (after_tick w s).handed)
+tick_keeps_shown land w s ps terrain things h =
+    tick_cases w s (λ (h : Handing). IsShown land h.session (ps ++ h.handed))
     (λ none. subst (IsShown land s) (sym (append-nil ps)) h)
-    (λ p there fits. record {
+    (λ p there quiet. hand_cases (mark_closed s causes.Silent) (farewell s.stage causes.Silent)
+    (λ (h : Handing). IsShown land h.session (ps ++ h.handed))
+    (λ fits. shown_shut land _ (ps ++ farewell s.stage causes.Silent) refl refl)
+    (λ much. shown_shut land _ (ps ++ []) refl refl))
+    (λ p there speaks fits. record {
       has = h.has ∙ ap (λ (o : Option Player). is_some o) there;
       playing = λ q now. subst (λ (v : Player). replay new_replica
-          (played (ps ++ map of_play (due w p))) ≡ seeing (last_shown v))
-          (one_some (showing w p) q _ refl now) (sees p there);
+          (played (ps ++ map of_play (due (at_tick w) p))) ≡ seeing (last_shown v))
+          (one_some (then_ p) q _ refl now) (sees p there);
+      chat = λ q now. subst (λ (v : Player). v.chat ≡ (last_shown v).chat)
+          (one_some (then_ p) q _ refl now)
+          (sym (projected_chat (at_tick w) (awaiting (aged w) p)));
       drawn = λ q now. subst (λ (v : Player). IsDrawn land v.shown)
-          (one_some (showing w p) q _ refl now)
-          (record { world = w; player = p; terrain = terrain; things = things; is = refl });
+          (one_some (then_ p) q _ refl now) (record {
+            world = at_tick w;
+            player = awaiting (aged w) p;
+            terrain = terrain;
+            things = things;
+            is = refl;
+          });
       waiting = λ waits. absurd (not_both (is_play s.stage) (h.has
           ∙ ap (λ (o : Option Player). is_some o) there) waits);
     })
-    (λ p there much. shown_shut land _ (ps ++ []) refl refl)
+    (λ p there speaks much. shown_shut land _ (ps ++ []) refl refl)
   where
-    sees : (p : Player) → s.player ≡ Some p →
-        replay new_replica (played (ps ++ map of_play (due w p))) ≡ seeing (project w p)
-    sees p there =
-        ap (replay new_replica) (filter_map-append in_play ps (map of_play (due w p))
-        ∙ ap (λ (ds : List Down). played ps ++ ds) (played_all (due w p)))
-        ∙ fold-append apply new_replica (played ps) (due w p)
-        ∙ ap (λ (r : Replica). replay r (due w p)) (h.playing p there)
-        ∙ due_leads w p (drawn_follows land w p p.shown terrain things (h.drawn p there))
+    then_ : Player → Player
+    then_ p = showing (at_tick w) (awaiting (aged w) p)
 
--- after it, a player was shown the world
-pub flush_sees : (w : World) (s : Session) (q : Player) → (flush w s).session.player ≡ Some q →
-    last_shown q ≡ project w q
+    sees : (p : Player) → s.player ≡ Some p →
+        replay new_replica (played (ps ++ map of_play (due (at_tick w) p)))
+        ≡ seeing (project (at_tick w) (awaiting (aged w) p))
+    sees p there =
+        let v : World = at_tick w in
+        ap (replay new_replica) (filter_map-append in_play ps (map of_play (due v p))
+        ∙ ap (λ (ds : List Down). played ps ++ ds) (played_all (due v p)))
+        ∙ fold-append apply new_replica (played ps) (due v p)
+        ∙ ap (λ (r : Replica). replay r (due v p)) (h.playing p there)
+        ∙ due_leads v p (drawn_follows land v p p.shown terrain things (h.drawn p there)
+        (h.chat p there))
+        ∙ ap seeing (sym (same_view v (aged w) p))
+
+-- after a flush, a player was shown the world as the one that it was saw it
+flush_sees : (w : World) (s : Session) (q : Player) → (flush w s).session.player ≡ Some q →
+    (p : Player) × (s.player ≡ Some p) × (last_shown q ≡ project w p)
 flush_sees w s q = flush_cases w s (λ (h : Handing). h.session.player ≡ Some q →
-    last_shown q ≡ project w q)
+    (p : Player) × (s.player ≡ Some p) × (last_shown q ≡ project w p))
     (λ none there. absurd (some_none q s.player there none))
-    (λ p was fits now. subst (λ (v : Player). last_shown v ≡ project w v)
-    (one_some (showing w p) q _ refl now) (sym (same_view w p)))
+    (λ p was fits now. (
+      p,
+      was,
+      subst (λ (v : Player). last_shown v ≡ project w p) (one_some (showing w p) q _ refl now) refl,
+    ))
     (λ p was much now. let clash : None ≡ Some q = now in absurd cc)
 
 -- ---- along a run
@@ -211,8 +248,8 @@ shown_joining land w k = elim (is_crowded w) as
       | false ↦ record {
         has = refl;
         playing = λ q there. absurd (some_none q None there refl);
-        drawn =
-            λ q there. absurd (some_none q None there refl);
+        chat = λ q there. absurd (some_none q None there refl);
+        drawn = λ q there. absurd (some_none q None there refl);
         waiting = λ _ _. refl;
       }
     ]
@@ -233,7 +270,7 @@ runs_step land k w ps e r = record {
         | false ↦ λ old. absurd (not_both (is_new k (step w e).world.last) new (old_step k w e old))
       ] refl;
   each = each_step (IsShown land) (shown_kept land) k w ps e r.orderly.apart
-      (λ s h. flush_shown land (at_tick w) s ps r.terrain r.things h)
+      (λ s h. tick_keeps_shown land w s ps r.terrain (handed_fit beat (aged w) r.things) h)
       (λ none new. subst (IsShown land (joining w k)) (sym (nothing_more ps [] (r.nobody new) refl))
       (shown_joining land w k)) r.each;
 }
@@ -260,24 +297,32 @@ runs_from_new most cap terrain events k =
 
 -- ---- after a tick
 
-ticked_sees : (k : ℕ) (w : World) (s : Session) (p : Player) (o : Option Session) →
-    found k w.sessions ≡ o → found k (step w ticked).world.sessions ≡ Some s → s.player ≡ Some p →
-    last_shown p ≡ project (at_tick w) p
-ticked_sees k w s p None none there playing = elim (arrives k w ticked none) [
+ticked_sees : (k : ℕ) (w : World) (s : Session) (q : Player) (o : Option Session) →
+    found k w.sessions ≡ o → found k (step w ticked).world.sessions ≡ Some s →
+    s.player ≡ Some q →
+    (p : Player) × (player_in k (at_tick w).sessions ≡ Some p)
+    × (last_shown q ≡ project (at_tick w) p)
+ticked_sees k w s q None none there playing = elim (arrives k w ticked none) [
   | away gone ↦ absurd (some_none s _ there gone)
   | joins is new here ↦ absurd cc
 ]
-ticked_sees k w s p (Some r) here there playing =
-    let same = one_some (flush (at_tick w) r).session s _ (tick_found k w r here) there in
-    flush_sees (at_tick w) r p (ap (λ (v : Session). v.player) same ∙ playing)
+ticked_sees k w s q (Some r) here there playing =
+    let same = one_some (after_tick w r).session s _ (tick_found k w r here) there in
+    let sees = flush_sees (at_tick w) (beat (aged w) r).session q
+    (ap (λ (v : Session). v.player) same ∙ playing) in (
+      sees.0,
+      ap (option_and_then (λ (s : Session). s.player))
+          (found_handed beat k (aged w) (beat_id (aged w))
+          ∙ ap (option_map (λ (s : Session). (beat (aged w) s).session)) here) ∙ sees.1,
+      sees.2,
+    )
 
 pub run_shows : (most cap : ℕ) (terrain : Terrain) (events : List Event) (k : ℕ) (s : Session)
     (p : Player) →
     found k (history (new_world most cap terrain) (events ++ ticked ∷ [])).sessions ≡ Some s →
     s.player ≡ Some p →
-    Shows (replay new_replica (played
-    (handed k (new_world most cap terrain) (events ++ ticked ∷ []))))
-    (project (at_tick (history (new_world most cap terrain) events)) p)
+    ShowsWorld (at_tick (history (new_world most cap terrain) events)) k (replay new_replica
+    (played (handed k (new_world most cap terrain) (events ++ ticked ∷ []))))
 run_shows most cap terrain events k s p there playing =
     let r = runs_from_new most cap terrain (events ++ ticked ∷ []) k in
     let last = fold-append (λ (v : World) (e : Event). (step v e).world)
@@ -285,12 +330,19 @@ run_shows most cap terrain events k s p there playing =
     let w = history (new_world most cap terrain) events in
     let sees = ticked_sees k w s p (found k w.sessions) refl
     (subst (λ (v : World). found k v.sessions ≡ Some s) last there) playing in
-    let all = (r.each s there).playing p playing ∙ ap seeing sees in
+    let all = (r.each s there).playing p playing ∙ ap seeing sees.2 in
     record {
-      pairs = ap (λ (r : Replica). r.sight.pairs) all;
-      columns = ap (λ (r : Replica). r.sight.columns) all;
-      entities = ap (λ (r : Replica). r.sight.entities) all;
-      pack = ap (λ (r : Replica). r.sight.pack) all;
+      player = sees.0;
+      plays = sees.1;
+      shows = record {
+        beat = ap (λ (r : Replica). r.sight.beat) all;
+        age = ap (λ (r : Replica). r.sight.age) all;
+        pairs = ap (λ (r : Replica). r.sight.pairs) all;
+        columns = ap (λ (r : Replica). r.sight.columns) all;
+        entities = ap (λ (r : Replica). r.sight.entities) all;
+        pack = ap (λ (r : Replica). r.sight.pack) all;
+        chat = ap (λ (r : Replica). r.sight.chat) all;
+      };
     }
 
 -- in every run a connection has a player exactly while it is in play

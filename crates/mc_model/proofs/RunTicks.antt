@@ -1,17 +1,17 @@
 -- What a client in play is handed at a tick, and between two ticks.
 use Rattle.std.proofs.Common.{◌≡◌, ◌≢◌, ℕ, List, [], ◌++◌, map, refl, sym, subst, ap, ◌∙◌}
-use Rattle.std.specs.Prelude.{Some, None}
+use Rattle.std.specs.Prelude.{true, false, Option, Some, None}
 use Rattle.std.proofs.lemmas.Bool.{leb-false, lt-leb}
 use Rattle.std.proofs.lemmas.List.{append-nil}
 use Rattle.mc_frame.specs.Kept.{outbox_max}
 use Rattle.mc_model.specs.declared.cause.Cause.{Cause}
 use Rattle.mc_model.specs.declared.cause.Cause.TheVariants as causes
 use Rattle.mc_model.specs.declared.stage.Stage.TheVariants as stages
-use Rattle.mc_model.specs.Notes.{no_notes}
-use Rattle.mc_model.specs.World.{World, Session, Player, found, is_play, project}
+use Rattle.mc_model.specs.Beats.{awaiting, is_silent}
+use Rattle.mc_model.specs.World.{World, Session, Player, found, is_play}
 use Rattle.mc_model.specs.Packets.{Sent, of_play, bytes_of}
 use Rattle.mc_model.specs.Talk.{farewell}
-use Rattle.mc_model.specs.Step.{Event, ticked, Handing, mark_closed, due, showing, flush, flush_to}
+use Rattle.mc_model.specs.Step.{Event, ticked, Handing, mark_closed, disconnect, due, showing, aged}
 use Rattle.mc_model.specs.Step.{at_tick, step}
 use Rattle.mc_model.specs.Run.{to}
 use Rattle.mc_model.specs.Causes.{IsTooMuch}
@@ -20,74 +20,116 @@ use Rattle.mc_model.specs.Orderly.{Orderly}
 use Rattle.mc_model.proofs.Sessions.{some_none, one_some}
 use Rattle.mc_model.proofs.Handing.{shown_from, stayed, answered, greeted, entered, shut_for}
 use Rattle.mc_model.proofs.Handing.{closed_done, closed_is, not_both, not_play, not_closed}
-use Rattle.mc_model.proofs.Handing.{flush_cases}
 use Rattle.mc_model.proofs.Frames.{IsKept}
-use Rattle.mc_model.proofs.RunTurns.{tick_found, tick_hands, no_out, Remains, went, stays, remains}
+use Rattle.mc_model.proofs.RunTurns.{after_tick, tick_found, tick_handed, tick_cases, no_out}
+use Rattle.mc_model.proofs.RunTurns.{Remains, went, stays, remains}
 
 -- ---- a tick
 
-pub flush_waits : (w : World) (s : Session) → s.player ≡ None →
-    flush w s ≡ record { session = s; handed = [] }
-flush_waits w s none = ap (flush_to w s) none
+-- a connection without a player is left as it is
+pub tick_waits : (w : World) (s : Session) → s.player ≡ None →
+    after_tick w s ≡ record { session = s; handed = [] }
+tick_waits w s none = tick_cases w s (λ (h : Handing). h ≡ record { session = s; handed = [] })
+    (λ nobody. refl)
+    (λ p there quiet. absurd (some_none p s.player there none))
+    (λ p there speaks fits. absurd (some_none p s.player there none))
+    (λ p there speaks much. absurd (some_none p s.player there none))
 
 -- what a tick makes of a connection whose player is handed what is due
-abbrev pub fitting : World → Session → Player → Handing
+abbrev fitting : World → Session → Player → Handing
 fitting w s p = record {
   session = record s {
-    player = Some (showing w p);
-    owed =
-        s.owed ++ bytes_of (map of_play (due w p));
+    player = Some (showing (at_tick w) (awaiting (aged w) p));
+    owed = s.owed ++ bytes_of (map of_play (due (at_tick w) p));
   };
-  handed = map of_play (due w p);
+  handed = map of_play (due (at_tick w) p);
 }
 
--- and of one where that is too much
-abbrev pub full : Session → Handing
+-- of one where that is too much
+abbrev full : Session → Handing
 full s = record { session = record (mark_closed s causes.Backlog) { owed = [] }; handed = [] }
 
-flush_fits : (w : World) (s : Session) (p : Player) → s.player ≡ Some p →
-    (IsTooMuch s (map of_play (due w p)) → ⊥) → flush w s ≡ fitting w s p
-flush_fits w s p there few = flush_cases w s (λ (h : Handing). h ≡ fitting w s p)
+-- and of one whose client is silent
+abbrev quiet_one : Session → Handing
+quiet_one s = disconnect s causes.Silent (farewell s.stage causes.Silent)
+
+-- what is due to its player is too much
+abbrev TooMuchDue : World → Session → Player → Type 0
+TooMuchDue w s p = IsTooMuch s (map of_play (due (at_tick w) p))
+
+-- a client is silent and is not
+heard_both : (w : World) (p q : Player) (o : Option Player) → o ≡ Some p → o ≡ Some q →
+    is_silent w p ≡ true → is_silent w q ≡ false → ⊥
+heard_both w p q o here there quiet speaks = not_both (is_silent w p) quiet
+    (ap (λ (v : Player). is_silent w v) (one_some p q o here there) ∙ speaks)
+
+pub tick_silent : (w : World) (s : Session) (p : Player) → s.player ≡ Some p →
+    is_silent (aged w) p ≡ true →
+    after_tick w s ≡ disconnect s causes.Silent (farewell s.stage causes.Silent)
+tick_silent w s p there quiet = tick_cases w s (λ (h : Handing). h ≡ quiet_one s)
     (λ none. absurd (some_none p s.player there none))
-    (λ q here fits. ap (fitting w s) (one_some q p s.player here there))
-    (λ q here much. absurd (few (subst (λ (v : Player). IsTooMuch s (map of_play (due w v)))
+    (λ q here is. refl)
+    (λ q here speaks fits. absurd (heard_both (aged w) p q s.player there here quiet speaks))
+    (λ q here speaks much. absurd (heard_both (aged w) p q s.player there here quiet speaks))
+
+tick_fits : (w : World) (s : Session) (p : Player) → s.player ≡ Some p →
+    is_silent (aged w) p ≡ false → (TooMuchDue w s p → ⊥) → after_tick w s ≡ fitting w s p
+tick_fits w s p there speaks few = tick_cases w s (λ (h : Handing). h ≡ fitting w s p)
+    (λ none. absurd (some_none p s.player there none))
+    (λ q here quiet. absurd (heard_both (aged w) q p s.player here there quiet speaks))
+    (λ q here is fits. ap (fitting w s) (one_some q p s.player here there))
+    (λ q here is much. absurd (few (subst (λ (v : Player). TooMuchDue w s v)
     (one_some q p s.player here there) (leb-false _ _ much))))
 
-flush_much : (w : World) (s : Session) (p : Player) → s.player ≡ Some p →
-    IsTooMuch s (map of_play (due w p)) → flush w s ≡ full s
-flush_much w s p there many = flush_cases w s (λ (h : Handing). h ≡ full s)
+pub tick_full : (w : World) (s : Session) (p : Player) → s.player ≡ Some p →
+    is_silent (aged w) p ≡ false → TooMuchDue w s p → after_tick w s ≡ full s
+tick_full w s p there speaks many = tick_cases w s (λ (h : Handing). h ≡ full s)
     (λ none. absurd (some_none p s.player there none))
-    (λ q here fits. absurd (not_both _ fits
-    (lt-leb _ outbox_max (subst (λ (v : Player). IsTooMuch s (map of_play (due w v)))
+    (λ q here quiet. absurd (heard_both (aged w) q p s.player here there quiet speaks))
+    (λ q here is fits. absurd (not_both _ fits
+    (lt-leb _ outbox_max (subst (λ (v : Player). TooMuchDue w s v)
     (one_some p q s.player there here) many))))
-    (λ q here much. refl)
+    (λ q here is much. refl)
+
+pub tick_quiet : (k : ℕ) (w : World) (s : Session) (p : Player) → Orderly w →
+    found k w.sessions ≡ Some s → s.player ≡ Some p → is_silent (aged w) p ≡ true →
+    (found k (step w ticked).world.sessions
+    ≡ Some (disconnect s causes.Silent (farewell s.stage causes.Silent)).session)
+    × (to k (step w ticked).out
+    ≡ (disconnect s causes.Silent (farewell s.stage causes.Silent)).handed)
+tick_quiet k w s p o there playing quiet =
+    let is = tick_silent w s p playing quiet in (
+      tick_found k w s there ∙ ap (λ (h : Handing). Some h.session) is,
+      tick_handed k w s o.apart there ∙ ap (λ (h : Handing). h.handed) is,
+    )
 
 pub tick_due : (k : ℕ) (w : World) (s : Session) (p : Player) → Orderly w →
-    found k w.sessions ≡ Some s → s.player ≡ Some p →
+    found k w.sessions ≡ Some s → s.player ≡ Some p → is_silent (aged w) p ≡ false →
     (IsTooMuch s (map of_play (due (at_tick w) p)) → ⊥) →
     to k (step w ticked).out ≡ map of_play (due (at_tick w) p)
-tick_due k w s p o there playing few =
-    tick_hands k w s o.apart there ∙ ap (λ (h : Handing). h.handed)
-    (flush_fits (at_tick w) s p playing few)
+tick_due k w s p o there playing speaks few =
+    tick_handed k w s o.apart there ∙ ap (λ (h : Handing). h.handed)
+    (tick_fits w s p playing speaks few)
 
 pub tick_shown : (k : ℕ) (w : World) (s : Session) (p : Player) → found k w.sessions ≡ Some s →
-    s.player ≡ Some p → (IsTooMuch s (map of_play (due (at_tick w) p)) → ⊥) →
+    s.player ≡ Some p → is_silent (aged w) p ≡ false →
+    (IsTooMuch s (map of_play (due (at_tick w) p)) → ⊥) →
     (t : Session) × (found k (step w ticked).world.sessions ≡ Some t) × (t.stage ≡ s.stage)
-    × (t.player ≡ Some (record p { shown = Some (project (at_tick w) p); notes = no_notes }))
-tick_shown k w s p there playing few =
-    let is = ap (λ (h : Handing). Some h.session) (flush_fits (at_tick w) s p playing few) in
-    ((fitting (at_tick w) s p).session, tick_found k w s there ∙ is, refl, refl)
+    × (t.player ≡ Some (showing (at_tick w) (awaiting (aged w) p)))
+tick_shown k w s p there playing speaks few =
+    let is = ap (λ (h : Handing). Some h.session) (tick_fits w s p playing speaks few) in
+    ((fitting w s p).session, tick_found k w s there ∙ is, refl, refl)
 
 pub tick_much : (k : ℕ) (w : World) (s : Session) (p : Player) → Orderly w →
-    found k w.sessions ≡ Some s → s.player ≡ Some p →
+    found k w.sessions ≡ Some s → s.player ≡ Some p → is_silent (aged w) p ≡ false →
     IsTooMuch s (map of_play (due (at_tick w) p)) →
     (t : Session) × (to k (step w ticked).out ≡ [])
     × (found k (step w ticked).world.sessions ≡ Some t) × (t.stage ≡ stages.Closed)
     × (t.cause ≡ Some causes.Backlog) × (t.owed ≡ [])
-tick_much k w s p o there playing many =
-    let is = flush_much (at_tick w) s p playing many in (
+tick_much k w s p o there playing speaks many =
+    let is = tick_full w s p playing speaks many in (
       (full s).session,
-      tick_hands k w s o.apart there ∙ ap (λ (h : Handing). h.handed) is,
+      tick_handed k w s o.apart there ∙ ap (λ (h : Handing). h.handed) is,
       tick_found k w s there ∙ ap (λ (h : Handing). Some h.session) is,
       refl,
       refl,
@@ -99,8 +141,8 @@ pub tick_others : (k : ℕ) (w : World) → Orderly w →
 tick_others k w o waits = elim (found k w.sessions) as (λ r. found k w.sessions ≡ r →
     to k (step w ticked).out ≡ []) [
       | None ↦ λ none. no_out k w ticked none
-      | Some s ↦ λ there. tick_hands k w s o.apart there
-          ∙ ap (λ (h : Handing). h.handed) (flush_waits (at_tick w) s (waits s there))
+      | Some s ↦ λ there. tick_handed k w s o.apart there
+          ∙ ap (λ (h : Handing). h.handed) (tick_waits w s (waits s there))
     ] refl
 
 -- ---- between two ticks
@@ -123,7 +165,7 @@ between_kept p a b ps qs (answered from stage gone cause none) (plays q playing 
 between_kept p a b ps qs (greeted from waits open_ gone cause none)
     (plays q playing there same before) =
     absurd (not_play a.stage stages.Hand from refl (ap is_play playing))
-between_kept p a b ps qs (entered r from into there_ shown cause none)
+between_kept p a b ps qs (entered r from into there_ shown said cause none)
     (plays q playing there same before) =
     absurd (not_play a.stage stages.Login from refl (ap is_play playing))
 between_kept p a b ps qs (shut_for why open_ closed gone cause last)
@@ -160,6 +202,7 @@ between_hands k w s p e o there at playing ne = elim (between k w s p e o there 
 
 pub tick_hands_due : (w : World) → Orderly w → AtTick w
 tick_hands_due w o = record {
+  silent = λ k s p. tick_quiet k w s p o;
   hands_due = λ k s p. tick_due k w s p o;
   shown = λ k s p. tick_shown k w s p;
   too_much = λ k s p. tick_much k w s p o;

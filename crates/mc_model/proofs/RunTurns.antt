@@ -1,28 +1,33 @@
 -- What every event makes of one connection, and what it hands out to it.
 use Rattle.std.proofs.Common.{◌≡◌, ◌≢◌, ℕ, List, [], ◌∷◌, ◌++◌, inl, inr, refl, sym, subst, ap, ◌∙◌}
-use Rattle.std.specs.Prelude.{◌⊎◌, ◌==◌, ◌&&◌, drop, not, Bool, true, false, cond, Some, None}
-use Rattle.std.specs.Prelude.{option_map, if◌then◌else◌}
+use Rattle.std.specs.Prelude.{◌⊎◌, ◌+◌, ◌==◌, ◌&&◌, drop, length, map, not, nat_le, Bool, true}
+use Rattle.std.specs.Prelude.{false, cond, Option, Some, None, option_map, if◌then◌else◌}
 use Rattle.std.specs.List.{filter}
 use Rattle.std.proofs.lemmas.Bool.{cases_eq}
 use Rattle.std.proofs.lemmas.List.{append-nil}
+use Rattle.mc_frame.specs.Kept.{outbox_max}
+use Rattle.mc_down.specs.declared.down.Down.{Down}
 use Rattle.mc_model.specs.declared.cause.Cause.{Cause}
 use Rattle.mc_model.specs.declared.cause.Cause.TheVariants as causes
 use Rattle.mc_model.specs.Texts.{farewell_text}
 use Rattle.mc_model.specs.Things.{Things}
-use Rattle.mc_model.specs.World.{World, Session, found, is_closed}
-use Rattle.mc_model.specs.Packets.{Sent}
+use Rattle.mc_model.specs.World.{World, Session, Player, found, is_closed, project}
+use Rattle.mc_model.specs.Beats.{awaiting, is_silent}
+use Rattle.mc_model.specs.Packets.{Sent, of_play, bytes_of}
+use Rattle.mc_model.specs.Talk.{farewell}
 use Rattle.mc_model.specs.Step.{Event, joined, came, left, broke, ticked, took, forgot, Outcome}
-use Rattle.mc_model.specs.Step.{Turn, mark_closed, joining, join, is_new, gone, changed, is_done}
-use Rattle.mc_model.specs.Step.{flush, at_tick, on_bytes, step}
+use Rattle.mc_model.specs.Step.{Handing, hand, mark_closed, disconnect, Turn, on_bytes, joining}
+use Rattle.mc_model.specs.Step.{join, is_new, gone, changed, due, showing, flush, flush_to, beat}
+use Rattle.mc_model.specs.Step.{aged, at_tick, tick_hands, is_done, step}
 use Rattle.mc_model.specs.Run.{to}
 use Rattle.mc_model.specs.Orderly.{AreApart}
-use Rattle.mc_model.proofs.Sessions.{some_none, one_some, other_number, same_number, found_map}
-use Rattle.mc_model.proofs.Sessions.{found_before, found_behind, none_filtered, found_filter}
-use Rattle.mc_model.proofs.Sessions.{to_none, to_found}
+use Rattle.mc_model.proofs.Sessions.{some_none, one_some, other_number, same_number, found_before}
+use Rattle.mc_model.proofs.Sessions.{found_behind, none_filtered, found_filter, to_none, to_found}
 use Rattle.mc_model.proofs.Beside.{beside_changed, found_changed}
-use Rattle.mc_model.proofs.Handing.{Done, stayed, shut_for, wordless_last}
+use Rattle.mc_model.proofs.Handing.{Done, stayed, shut_for, wordless_last, hand_cases, beat_cases}
+use Rattle.mc_model.proofs.AllHanded.{found_handed}
 use Rattle.mc_model.proofs.Frames.{IsKept, also_owing, bytes_lead, no_bytes, bytes_beside}
-use Rattle.mc_model.proofs.RunEvents.{gone_id, gone_beside, flush_id}
+use Rattle.mc_model.proofs.RunEvents.{gone_id, gone_beside, beat_id, flush_id}
 use Rattle.mc_model.proofs.RiseFacts.{joining_id}
 
 -- ---- what is handed to one
@@ -35,18 +40,123 @@ to_other j k ps ne = ap (λ (b : Bool). cond b ps [] ++ []) (other_number j k ne
 
 -- ---- a tick
 
-pub tick_found : (k : ℕ) (w : World) (s : Session) → found k w.sessions ≡ Some s →
-    found k (step w ticked).world.sessions ≡ Some (flush (at_tick w) s).session
-unfolding step
-tick_found k w s e = found_map k (λ (s : Session). (flush (at_tick w) s).session)
-    (flush_id (at_tick w)) w.sessions
-    ∙ ap (option_map (λ (s : Session). (flush (at_tick w) s).session)) e
+-- a connection is flushed behind what it was handed before
+abbrev then_flushed : World → Handing → Handing
+then_flushed v h = record {
+  session = (flush v h.session).session;
+  handed = h.handed ++ (flush v h.session).handed;
+}
 
-pub tick_hands : (k : ℕ) (w : World) (s : Session) → AreApart w.sessions →
-    found k w.sessions ≡ Some s → to k (step w ticked).out ≡ (flush (at_tick w) s).handed
+-- what a tick makes of a connection: first by its beat, then by what is due
+abbrev pub after_tick : World → Session → Handing
+after_tick w s = then_flushed (at_tick w) (beat (aged w) s)
+
+-- who is there after it
+pub tick_sought : (k : ℕ) (w : World) →
+    found k (step w ticked).world.sessions
+    ≡ option_map (λ (s : Session). (after_tick w s).session) (found k w.sessions)
 unfolding step
-tick_hands k w s apart e = to_found k
-    (λ (s : Session). (flush (at_tick w) s).handed) w.sessions s apart e
+tick_sought k w =
+    found_handed flush k (at_tick w) (flush_id (at_tick w))
+    ∙ ap (option_map (λ (s : Session). (flush (at_tick w) s).session))
+    (found_handed beat k (aged w) (beat_id (aged w)))
+    ∙ both (found k w.sessions)
+  where
+    both : (o : Option Session) →
+        option_map (λ (s : Session). (flush (at_tick w) s).session)
+        (option_map (λ (s : Session). (beat (aged w) s).session) o)
+        ≡ option_map (λ (s : Session). (after_tick w s).session) o
+    both None = refl
+    both (Some s) = refl
+
+pub tick_found : (k : ℕ) (w : World) (s : Session) → found k w.sessions ≡ Some s →
+    found k (step w ticked).world.sessions ≡ Some (after_tick w s).session
+tick_found k w s e = tick_sought k w
+    ∙ ap (option_map (λ (s : Session). (after_tick w s).session)) e
+
+pub tick_handed : (k : ℕ) (w : World) (s : Session) → AreApart w.sessions →
+    found k w.sessions ≡ Some s → to k (step w ticked).out ≡ (after_tick w s).handed
+unfolding step
+tick_handed k w s apart e = to_found k (λ (s : Session). tick_hands w s) w.sessions s apart e
+
+-- how many beats a player left without an answer, nothing that it is shown looks at
+pub same_view : (w v : World) (p : Player) → project w (awaiting v p) ≡ project w p
+unfolding project
+same_view w v p = refl
+
+pub same_due : (w v : World) (p : Player) → due w (awaiting v p) ≡ due w p
+unfolding due project
+same_due w v p = refl
+
+-- one that was closed is handed nothing more
+flushed_shut : (w : World) (s : Session) (cause : Cause) (packets : List Sent) →
+    then_flushed w (disconnect s cause packets) ≡ disconnect s cause packets
+flushed_shut w s cause packets = hand_cases (mark_closed s cause) packets
+    (λ (h : Handing). then_flushed w h ≡ h)
+    (λ fits. ap last (append-nil packets))
+    (λ much. refl)
+  where
+    last : List Sent → Handing
+    last ps = record {
+      session = record (mark_closed s cause) { owed = s.owed ++ bytes_of packets };
+      handed = ps;
+    }
+
+-- what holds where there is no player, where its client is silent, and of both ways to end where it
+-- is not, holds of what a tick makes of a connection
+pub tick_cases : (w : World) (s : Session) (P : Handing → Type 0) →
+    (s.player ≡ None → P (record { session = s; handed = [] })) →
+    ((p : Player) → s.player ≡ Some p → is_silent (aged w) p ≡ true →
+    P (disconnect s causes.Silent (farewell s.stage causes.Silent))) →
+    ((p : Player) → s.player ≡ Some p → is_silent (aged w) p ≡ false →
+    nat_le (length s.owed + length (bytes_of (map of_play (due (at_tick w) p)))) outbox_max ≡ true →
+    P (record {
+      session = record s {
+        player = Some (showing (at_tick w) (awaiting (aged w) p));
+        owed = s.owed ++ bytes_of (map of_play (due (at_tick w) p));
+      };
+      handed = map of_play (due (at_tick w) p);
+    })) →
+    ((p : Player) → s.player ≡ Some p → is_silent (aged w) p ≡ false →
+    nat_le (length s.owed + length (bytes_of (map of_play (due (at_tick w) p)))) outbox_max
+    ≡ false →
+    P (record { session = record (mark_closed s causes.Backlog) { owed = [] }; handed = [] })) →
+    P (after_tick w s)
+tick_cases w s P waits leaves fits much =
+    beat_cases (aged w) s (λ (h : Handing). P (then_flushed (at_tick w) h))
+    (λ none. subst P (sym (ap (flush_to (at_tick w) s) none)) (waits none))
+    (λ p there speaks. shown p (fits p there speaks) (much p there speaks))
+    (λ p there quiet. subst P
+    (sym (flushed_shut (at_tick w) s causes.Silent (farewell s.stage causes.Silent)))
+    (leaves p there quiet))
+  where
+    shown : (p : Player) →
+        (nat_le (length s.owed + length (bytes_of (map of_play (due (at_tick w) p)))) outbox_max
+        ≡ true →
+        P (record {
+          session = record s {
+            player = Some (showing (at_tick w) (awaiting (aged w) p));
+            owed = s.owed ++ bytes_of (map of_play (due (at_tick w) p));
+          };
+          handed = map of_play (due (at_tick w) p);
+        })) →
+        (nat_le (length s.owed + length (bytes_of (map of_play (due (at_tick w) p)))) outbox_max
+        ≡ false →
+        P (record { session = record (mark_closed s causes.Backlog) { owed = [] }; handed = [] })) →
+        P (flush (at_tick w) (record s { player = Some (awaiting (aged w) p) }))
+    shown p =
+        let t : Session = record s { player = Some (showing (at_tick w) (awaiting (aged w) p)) } in
+        subst (λ (ds : List Down).
+        (nat_le (length s.owed + length (bytes_of (map of_play ds))) outbox_max ≡ true →
+        P (record {
+          session = record t { owed = s.owed ++ bytes_of (map of_play ds) };
+          handed = map of_play ds;
+        })) →
+        (nat_le (length s.owed + length (bytes_of (map of_play ds))) outbox_max ≡ false →
+        P (record { session = record (mark_closed s causes.Backlog) { owed = [] }; handed = [] })) →
+        P (hand t (map of_play (due (at_tick w) (awaiting (aged w) p)))))
+        (same_due (at_tick w) (aged w) p)
+        (hand_cases t (map of_play (due (at_tick w) (awaiting (aged w) p))) P)
 
 -- ---- a connection that is not there
 
@@ -61,7 +171,7 @@ no_out k w (came j bytes) none = elim (cases_eq j k) [
 ]
 no_out k w (left j) none = refl
 no_out k w (broke j) none = refl
-no_out k w ticked none = to_none k (λ (s : Session). (flush (at_tick w) s).handed) w.sessions none
+no_out k w ticked none = to_none k (λ (s : Session). tick_hands w s) w.sessions none
 no_out k w (took j n) none = refl
 no_out k w (forgot j) none = refl
 
@@ -111,9 +221,8 @@ arrives k w (joined j) none = elim (cases_eq j k) [
 arrives k w (came j bytes) none = away ((bytes_beside j w bytes).none k none)
 arrives k w (left j) none = away ((gone_beside j w causes.Gone).none k none)
 arrives k w (broke j) none = away ((gone_beside j w causes.Broke).none k none)
-arrives k w ticked none = away (found_map k (λ (s : Session). (flush (at_tick w) s).session)
-    (flush_id (at_tick w)) w.sessions
-    ∙ ap (option_map (λ (s : Session). (flush (at_tick w) s).session)) none)
+arrives k w ticked none = away (tick_sought k w
+    ∙ ap (option_map (λ (s : Session). (after_tick w s).session)) none)
 arrives k w (took j n) none = away ((beside_changed j w
     (λ (s : Session). record s { owed = drop n s.owed }) (λ t same. refl)).none k none)
 arrives k w (forgot j) none = away (none_filtered k
@@ -248,12 +357,11 @@ is_tick other = inr (λ same. absurd cc)
 pub each_step : (P : Session → List Sent →
     Type 0) (kept : IsKept P) (k : ℕ) (w : World) (ps : List Sent) (e : Event) →
     AreApart w.sessions →
-    ((s : Session) → P s ps → P (flush (at_tick w) s).session (ps
-    ++ (flush (at_tick w) s).handed)) →
+    ((s : Session) → P s ps → P (after_tick w s).session (ps ++ (after_tick w s).handed)) →
     (found k w.sessions ≡ None → is_new k w.last ≡ true → P (joining w k) (ps ++ [])) →
     ((s : Session) → found k w.sessions ≡ Some s → P s ps) →
     (t : Session) → found k (step w e).world.sessions ≡ Some t → P t (ps ++ to k (step w e).out)
-each_step P kept k w ps e apart flushes joining_ each t there =
+each_step P kept k w ps e apart ticks joining_ each t there =
     elim (found k w.sessions) as (λ o. found k w.sessions ≡ o → P t (ps ++ to k (step w e).out)) [
       | None ↦ λ none. elim (arrives k w e none) [
         | away gone ↦ absurd (some_none t _ there gone)
@@ -269,8 +377,8 @@ each_step P kept k w ps e apart flushes joining_ each t there =
             P t (ps ++ to k (step w e).out)) (sym is) (λ there.
             subst (λ (v : Session). P v (ps ++ to k (step w ticked).out))
             (one_some _ t _ (tick_found k w s here) there)
-            (subst (λ (hs : List Sent). P (flush (at_tick w) s).session (ps ++ hs))
-            (sym (tick_hands k w s apart here)) (flushes s (each s here)))) there
+            (subst (λ (hs : List Sent). P (after_tick w s).session (ps ++ hs))
+            (sym (tick_handed k w s apart here)) (ticks s (each s here)))) there
         | inr ne ↦ elim (remains P kept k w e s ps apart ne here (each s here)) [
           | went closed gone none ↦ absurd (some_none t _ there gone)
           | stays v found_ p ↦ subst (λ (u : Session). P u (ps ++ to k (step w e).out))

@@ -1,7 +1,7 @@
 -- What holds of every world of a run, so that all that is handed out can be told; and that what is
 -- due at a tick is so.
 use Rattle.std.proofs.Common.{◌≡◌, ℕ, ◌≤◌, Bool, true, false, cond, List, [], ◌∷◌, ◌++◌, map}
-use Rattle.std.proofs.Common.{length, refl, subst, ap, ◌∙◌, arith}
+use Rattle.std.proofs.Common.{drop, length, refl, subst, ap, ◌∙◌, arith}
 use Rattle.std.specs.Prelude.{Option, Some, None, is_some, if◌then◌else◌, ◌==◌}
 use Rattle.std.specs.List.{AllByRecursion, cons_option, filter_map}
 use lib.IntN.{ℤ}
@@ -10,18 +10,22 @@ use Rattle.mc_down.specs.declared.down.Down.{Down}
 use Rattle.mc_model.specs.declared.cause.Cause.{Cause}
 use Rattle.mc_model.specs.declared.stage.Stage.{Stage}
 use Rattle.mc_model.specs.declared.stage.Stage.TheVariants as stages
+use Rattle.mc_model.specs.declared.ticks.TheConstants.{AGE_MAX}
 use Rattle.mc_model.specs.Notes.{Noted}
 use Rattle.mc_model.specs.Sight.{Sight}
 use Rattle.mc_model.specs.Packets.{of_play, for_play}
 use Rattle.mc_model.specs.Delta.{delta}
-use Rattle.mc_model.specs.World.{World, Session, Player, AreSettings, players, found, is_play}
-use Rattle.mc_model.specs.World.{spot_of, pack_of, sees, spawn_height, project}
-use Rattle.mc_model.specs.Step.{is_new, level, opening, opening_due, notes_due, last_shown}
-use Rattle.mc_model.specs.Step.{due, noted_packets, notes_of}
+use Rattle.mc_model.specs.World.{World, Session, Player, AreSettings, heard_by, players, found}
+use Rattle.mc_model.specs.World.{is_play}
+use Rattle.mc_model.specs.World.{last_shown, spot_of, pack_of, sees, spawn_height, project}
+use Rattle.mc_model.specs.Step.{is_new, level, opening, opening_due, notes_due, due}
+use Rattle.mc_model.specs.Step.{noted_packets, notes_of}
 use Rattle.mc_model.specs.Orderly.{AreApart}
+use Rattle.mc_model.proofs.AllFacts.{all_dropped}
 use Rattle.mc_model.proofs.Sessions.{some_none, one_some}
 use Rattle.mc_model.proofs.Decodes.{IsClear, Decodes}
 use Rattle.mc_model.proofs.FitsPlay.{join_clear, spawn_clear}
+use Rattle.mc_model.proofs.FitsChat.{LineFits}
 use Rattle.mc_model.proofs.FitsList.{AreClear}
 use Rattle.mc_model.proofs.Handing.{HasPlayer}
 use Rattle.mc_model.proofs.ThingFacts.{spot_fits}
@@ -35,6 +39,7 @@ use Rattle.mc_model.proofs.ThingsKept.{pack_fits}
 pub record PlayerFits (p : Player) : Type 0 where
   pub named : NamedFits p
   pub eid : p.eid ≤ 2147483647
+  pub chat : AllByRecursion LineFits p.chat
   pub shown : SightFits (last_shown p)
 
 -- of one that is there
@@ -84,16 +89,27 @@ rest_fits s rest before bytes f = record { plays = f.plays; player = f.player; r
 -- a player that asked for another size of view, took something up, or is to be sent something
 pub noted_fits : (p : Player) (view : ℤ) (hand : ℕ) (notes : Noted) → PlayerFits p
     → PlayerFits (record p { view_byte = view; hand = hand; notes = notes })
-noted_fits p view hand notes f = record { named = f.named; eid = f.eid; shown = f.shown }
+noted_fits p view hand notes f =
+    record { named = f.named; eid = f.eid; chat = f.chat; shown = f.shown }
 
--- and one that was shown something
-pub shown_fits : (p : Player) (shown : Sight) (notes : Noted) → SightFits shown → PlayerFits p
-    → PlayerFits (record p { shown = Some shown; notes = notes })
-shown_fits p shown notes sight f = record { named = f.named; eid = f.eid; shown = sight }
+-- one that answered, or left a beat without an answer
+pub missed_fits : (p : Player) (missed : ℕ) → PlayerFits p →
+    PlayerFits (record p { missed = missed })
+missed_fits p missed f =
+    record { named = f.named; eid = f.eid; chat = f.chat; shown = f.shown }
+
+-- and one that was shown something, also what was said
+pub shown_fits : (p : Player) (shown : Sight) (notes : Noted) (chat : List (List ℕ)) (since : ℕ) →
+    SightFits shown → AllByRecursion LineFits chat → PlayerFits p
+    → PlayerFits (record p { shown = Some shown; notes = notes; chat = chat; since = since })
+shown_fits p shown notes chat since sight heard f =
+    record { named = f.named; eid = f.eid; chat = heard; shown = sight }
 
 pub record Sound (w : World) : Type 0 where
   pub settings : AreSettings w.most w.cap
+  pub young : w.age ≤ AGE_MAX
   pub things : ThingsFit w.things
+  pub lines : AllByRecursion LineFits w.lines
   pub apart : AreApart w.sessions
   pub fresh : (k : ℕ) → is_new k w.last ≡ true → found k w.sessions ≡ None
   pub few : length (players w) ≤ w.most
@@ -109,11 +125,19 @@ all_found P k (x ∷ xs) s a e = step (x.id == k) e (λ later. all_found P k xs 
     step true here rest = subst P (one_some x s (Some x) refl here) a.0
     step false later rest = rest later
 
--- in a sound world a projection fits
+-- in a sound world all that was said to a player fits
+pub sound_heard : (w : World) (p : Player) → Sound w → PlayerFits p →
+    AllByRecursion LineFits (heard_by w p)
+sound_heard w p sound f =
+    all_joined LineFits p.chat (drop p.since w.lines) f.chat
+    (all_dropped LineFits p.since w.lines sound.lines)
+
+-- and a projection does
 pub sound_sight : (w : World) (p : Player) → Sound w → PlayerFits p → SightFits (project w p)
 sound_sight w p sound f =
     project_fits w p (kept w.sessions sound.fits)
-    (omega (arith, sound.few, sound.settings.few)) sound.settings.near sound.things
+    (omega (arith, sound.few, sound.settings.few)) sound.settings.near sound.young
+    (sound_heard w p sound f) sound.things
   where
     one : (o : Option Player) (others : List Player) → AnyFits o → AllByRecursion NamedFits others →
         AllByRecursion NamedFits (cons_option o others)

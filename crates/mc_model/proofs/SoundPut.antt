@@ -9,6 +9,7 @@ use Rattle.mc_model.specs.World.{World, Session, Player, players, found, put}
 use Rattle.mc_model.specs.Orderly.{AreApart}
 use Rattle.mc_model.proofs.Sessions.{some_none, one_some, found_map, apart_map}
 use Rattle.mc_model.proofs.Beside.{beside_put}
+use Rattle.mc_model.proofs.FitsChat.{LineFits}
 use Rattle.mc_model.proofs.ThingsFit.{ThingsFit}
 use Rattle.mc_model.proofs.Sound.{SessionFits, Sound}
 
@@ -103,12 +104,15 @@ few_after a b n m false true e few room = elim (room refl) [
   | inr less ↦ omega (arith, e, less)
 ]
 
--- a sound world with other things is sound, where these fit
-pub sound_things : (w : World) (things : Things) → Sound w → ThingsFit things →
-    Sound (record w { things = things })
-sound_things w things sound fit = record {
+-- a sound world with other things is sound, and where other lines were said, if these fit
+pub sound_things : (w : World) (things : Things) (lines : List (List ℕ)) → Sound w →
+    ThingsFit things → AllByRecursion LineFits lines →
+    Sound (record w { things = things; lines = lines })
+sound_things w things lines sound fit heard = record {
   settings = sound.settings;
+  young = sound.young;
   things = fit;
+  lines = heard;
   apart = sound.apart;
   fresh = sound.fresh;
   few = sound.few;
@@ -116,16 +120,19 @@ sound_things w things sound fit = record {
 }
 
 -- and so is one with another connection in the place of one
-pub sound_put : (w : World) (things : Things) (k : ℕ) (s t : Session) → Sound w →
-    found k w.sessions ≡ Some s → t.id ≡ k → SessionFits t → ThingsFit things → HasRoom w s t →
-    Sound (record (put w t) { things = things })
-sound_put w things k s t sound e is fits fit room =
+pub sound_put : (w : World) (things : Things) (lines : List (List ℕ)) (k : ℕ) (s t : Session) →
+    Sound w → found k w.sessions ≡ Some s → t.id ≡ k → SessionFits t → ThingsFit things →
+    AllByRecursion LineFits lines → HasRoom w s t →
+    Sound (record (put w t) { things = things; lines = lines })
+sound_put w things lines k s t sound e is fits fit heard room =
     let beside = beside_put k w t is in
     let P : ℕ → Type 0 = λ n. length (playing (replaced n t w.sessions)) + one_if
     (is_some s.player) ≡ length (playing w.sessions) + one_if (is_some t.player) in
     record {
       settings = sound.settings;
+      young = sound.young;
       things = fit;
+      lines = heard;
       apart = beside.apart sound.apart;
       fresh = λ j new. beside.none j (sound.fresh j new);
       few = few_after _ _ 0 w.most (is_some s.player) (is_some t.player)
@@ -150,17 +157,20 @@ few_mapped f stays (x ∷ xs) =
     fewer true false h = (let e = h refl in absurd cc)
     fewer false b h = omega arith
 
--- a sound world with each connection changed, and other things, is sound
-pub sound_mapped : (w : World) (f : Session → Session) (things : Things) →
-    ((s : Session) → (f s).id ≡ s.id)
+-- a sound world with each connection changed, other things and other lines is sound
+pub sound_mapped : (w : World) (f : Session → Session) (things : Things)
+    (lines : List (List ℕ)) → ((s : Session) → (f s).id ≡ s.id)
     → ((s : Session) → is_some (f s).player ≡ true → is_some s.player ≡ true) →
-    AllByRecursion SessionFits (map f w.sessions) → ThingsFit things
-    → Sound w → Sound (record w { sessions = map f w.sessions; things = things })
-sound_mapped w f things keeps stays fits fit sound =
+    AllByRecursion SessionFits (map f w.sessions) → ThingsFit things →
+    AllByRecursion LineFits lines → Sound w →
+    Sound (record w { sessions = map f w.sessions; things = things; lines = lines })
+sound_mapped w f things lines keeps stays fits fit heard sound =
     let le = few_mapped f stays w.sessions in
     record {
       settings = sound.settings;
+      young = sound.young;
       things = fit;
+      lines = heard;
       apart = apart_map f keeps w.sessions sound.apart;
       fresh = λ j new. found_map j f keeps w.sessions ∙ ap (option_map f) (sound.fresh j new);
       few = omega (arith, le, sound.few);

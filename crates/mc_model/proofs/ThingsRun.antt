@@ -29,7 +29,7 @@ use Rattle.mc_model.specs.Step.{Turn, still, turn, after_leaving, when_open, ref
 use Rattle.mc_model.specs.Step.{with_new_player, answer_login, disconnect, disconnect_for, acted}
 use Rattle.mc_model.specs.Step.{act_by, perform}
 use Rattle.mc_model.specs.Step.{on_frame, on_frames, on_fault, read_to, on_cut, on_bytes, is_new}
-use Rattle.mc_model.specs.Step.{joining, player_in, flush, at_tick, step}
+use Rattle.mc_model.specs.Step.{joining, player_in, flush, beat, all_handed, aged, at_tick, step}
 use Rattle.mc_model.specs.Run.{history}
 use Rattle.mc_model.proofs.ThingFacts.{spot_fits}
 use Rattle.mc_model.proofs.ThingsFit.{ThingsFit}
@@ -179,6 +179,11 @@ leavings_fit later (s ∷ sessions) things t =
     leavings_fit later sessions (after_leaving s.player (later s) things)
     (leaving_fits s.player (later s) things t)
 
+-- each connection is handed something
+pub handed_fit : (f : World → Session → Handing) (w : World) → ThingsFit w.things →
+    ThingsFit (all_handed f w).things
+handed_fit f w t = leavings_fit (λ s. (f w s).session.player) w.sessions w.things t
+
 pub things_step : (w : World) (e : Event) → ThingsFit w.things → ThingsFit (step w e).world.things
 unfolding step
 things_step w (joined k) t = elim (is_new k w.last) as
@@ -190,8 +195,7 @@ things_step w (joined k) t = elim (is_new k w.last) as
 things_step w (came k bytes) t = bytes_things w k bytes t
 things_step w (left k) t = leaving_fits (player_in k w.sessions) None w.things t
 things_step w (broke k) t = leaving_fits (player_in k w.sessions) None w.things t
-things_step w ticked t =
-    leavings_fit (λ s. (flush (at_tick w) s).session.player) w.sessions w.things t
+things_step w ticked t = handed_fit flush (at_tick w) (handed_fit beat (aged w) t)
 things_step w (took k n) t = t
 things_step w (forgot k) t = t
 

@@ -2,6 +2,7 @@
 -- decoded, and the world stays sound.
 use Rattle.std.proofs.Common.{◌≡◌, ◌≢◌, ℕ, List, [], ◌++◌, refl, arith}
 use Rattle.std.specs.Prelude.{false, Option, Some, None, is_some}
+use Rattle.std.specs.List.{AllByRecursion}
 use Rattle.mc_model.specs.declared.cause.Cause.{Cause}
 use Rattle.mc_model.specs.declared.cause.Cause.TheVariants as causes
 use Rattle.mc_model.specs.declared.stage.Stage.TheVariants as stages
@@ -15,6 +16,7 @@ use Rattle.mc_model.proofs.Beside.{Beside, beside_same, beside_onward, beside_pu
 use Rattle.mc_model.proofs.Sessions.{found_id}
 use Rattle.mc_model.proofs.Handing.{hand_cases}
 use Rattle.mc_model.proofs.FitsText.{name_short}
+use Rattle.mc_model.proofs.FitsChat.{LineFits}
 use Rattle.mc_model.proofs.FitsUuid.{offline_small}
 use Rattle.mc_model.proofs.FitsSight.{nothing_fits}
 use Rattle.mc_model.proofs.ThingsFit.{ThingsFit}
@@ -49,13 +51,15 @@ turn_less o N M rest k w s t less h = record {
   waits = λ at. let n = h.waits at in (less n.0, n.1);
 }
 
--- nothing but the things is changed
-pub turn_kept : (o : Option Decoder) (k : ℕ) (w : World) (things : Things) (s : Session) →
-    Sound w → found k w.sessions ≡ Some s → ThingsFit things
-    → TurnDecodes o (s.stage ≡ stages.Hand) s.rest k w s (still (record w { things = things }))
-turn_kept o k w things s sound e fit = record {
-  sound = sound_things w things sound fit;
-  beside = beside_same k w things;
+-- nothing but the things and the lines is changed
+pub turn_kept : (o : Option Decoder) (k : ℕ) (w : World) (things : Things)
+    (lines : List (List ℕ)) (s : Session) → Sound w → found k w.sessions ≡ Some s →
+    ThingsFit things → AllByRecursion LineFits lines
+    → TurnDecodes o (s.stage ≡ stages.Hand) s.rest k w s
+    (still (record w { things = things; lines = lines }))
+turn_kept o k w things lines s sound e fit heard = record {
+  sound = sound_things w things lines sound fit heard;
+  beside = beside_same k w things lines;
   session = s;
   there = e;
   hands = hands_same o s.stage;
@@ -66,20 +70,20 @@ turn_kept o k w things s sound e fit = record {
 pub turn_still : (o : Option Decoder) (k : ℕ) (w : World) (s : Session) → Sound w →
     found k w.sessions ≡ Some s
     → TurnDecodes o (s.stage ≡ stages.Hand) s.rest k w s (still w)
-turn_still o k w s sound e = turn_kept o k w w.things s sound e sound.things
+turn_still o k w s sound e = turn_kept o k w w.things w.lines s sound e sound.things sound.lines
 
 -- the connection is changed
 abbrev pub turn_put : (o : Option Decoder) (N : Type 0) (rest : List ℕ) (k : ℕ) (w : World)
-    (things : Things) (s t : Session) (packets : List Sent) → Sound w
-    → found k w.sessions ≡ Some s → t.id ≡ k → SessionFits t → ThingsFit things → HasRoom w s t →
-    Hands o s.stage t.stage packets
+    (things : Things) (lines : List (List ℕ)) (s t : Session) (packets : List Sent) → Sound w
+    → found k w.sessions ≡ Some s → t.id ≡ k → SessionFits t → ThingsFit things →
+    AllByRecursion LineFits lines → HasRoom w s t → Hands o s.stage t.stage packets
     → (t.stage ≡ stages.Hand → N × (t.rest ≡ rest)) →
     TurnDecodes o N rest k w s
-    (record { world = record (put w t) { things = things }; handed = packets })
-turn_put o N rest k w things s t packets sound e is fits fit room hands waits = record {
-  sound = sound_put w things k s t sound e is fits fit room;
-  beside = beside_onward k w (put w t) (record (put w t) { things = things })
-      (beside_put k w t is) (beside_same k (put w t) things);
+    (record { world = record (put w t) { things = things; lines = lines }; handed = packets })
+turn_put o N rest k w things lines s t packets sound e is fits fit heard room hands waits = record {
+  sound = sound_put w things lines k s t sound e is fits fit heard room;
+  beside = beside_onward k w (put w t) (record (put w t) { things = things; lines = lines })
+      (beside_put k w t is) (beside_same k (put w t) things lines);
   session = t;
   there = found_put k w s t is e;
   hands = hands;
@@ -101,14 +105,15 @@ pub turn_hand : (o : Option Decoder) (k : ℕ) (w : World) (things : Things) (s 
 turn_hand o k w things s r t packets sound e is f fit room hands past =
     hand_cases t packets
     (λ h. TurnDecodes o ⊥ s.rest k w s (turn (record w { things = things }) r h))
-    (λ fits. turn_put o ⊥ s.rest k w (after_leaving r.player t.player things) s
+    (λ fits. turn_put o ⊥ s.rest k w (after_leaving r.player t.player things) w.lines s
     (record t { owed = t.owed ++ bytes_of packets }) packets sound e is
     (still_fits t t.stage t.protocol t.cause (t.owed ++ bytes_of packets) refl f)
-    (leaving_fits r.player t.player things fit) room hands (λ at. absurd (past at)))
-    (λ much. turn_put o ⊥ s.rest k w (after_leaving r.player None things) s
+    (leaving_fits r.player t.player things fit) sound.lines room hands (λ at. absurd (past at)))
+    (λ much. turn_put o ⊥ s.rest k w (after_leaving r.player None things) w.lines s
     (record (mark_closed t causes.Backlog) { owed = [] }) [] sound e is
     (closed_fits t (Some causes.Backlog) [] f) (leaving_fits r.player None things fit)
-    (no_room w s (record (mark_closed t causes.Backlog) { owed = [] }) refl) (hands_shut o s.stage)
+    sound.lines (no_room w s (record (mark_closed t causes.Backlog) { owed = [] }) refl)
+    (hands_shut o s.stage)
     (λ at. absurd cc))
 
 -- it is closed with its last packets
@@ -140,6 +145,7 @@ entered_fits w s name welcome f = record {
   player = record {
     named = record { uuid = offline_small name; name = name_short name welcome.named };
     eid = omega (arith, welcome.numbers);
+    chat = tt;
     shown = nothing_fits;
   };
   rest = f.rest;

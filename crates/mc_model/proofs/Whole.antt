@@ -2,14 +2,15 @@
 use Rattle.std.proofs.Common.{◌≡◌, ◌≢◌, ℕ, List, [], ◌∷◌, ◌++◌, subst}
 use Rattle.std.specs.Prelude.{Some}
 use Rattle.mc_land.specs.declared.terrain.Terrain.{Terrain}
-use Rattle.mc_model.specs.Replica.{Shows, new_replica, replay}
+use Rattle.mc_model.specs.Replica.{new_replica, replay}
 use Rattle.mc_model.specs.declared.stage.Stage.TheVariants as stages
-use Rattle.mc_model.specs.World.{AreSettings, Session, Player, found, new_world, project}
+use Rattle.mc_model.specs.World.{AreSettings, Session, Player, found, new_world}
 use Rattle.mc_model.specs.Packets.{Sent, played}
 use Rattle.mc_model.specs.Decoding.{IsDecoded, decoder_of}
 use Rattle.mc_model.specs.Step.{Event, joined, came, left, broke, ticked, took, forgot, at_tick}
 use Rattle.mc_model.specs.Run.{AreBytes, handed, history, received, stream}
 use Rattle.mc_model.specs.Headline.{Between, ClosedForACause, Closing, Headline, LoggingIn}
+use Rattle.mc_model.specs.Headline.{ShowsWorld}
 use Rattle.mc_model.proofs.RunOrder.{orderly_run}
 use Rattle.mc_model.proofs.Handing.{plays_with}
 use Rattle.mc_model.proofs.RunShown.{run_plays, run_shows}
@@ -77,13 +78,13 @@ pub decoded_shows : (most cap : ℕ) (terrain : Terrain) (events : List Event) (
     → s.player ≡ Some p → IsDecoded (decoder_of
     (received k (new_world most cap terrain) (events ++ ticked ∷ [])))
     (stream k (new_world most cap terrain) (events ++ ticked ∷ [])) packets
-    → Shows (replay new_replica (played packets))
-    (project (at_tick (history (new_world most cap terrain) events)) p)
+    → ShowsWorld (at_tick (history (new_world most cap terrain) events)) k
+    (replay new_replica (played packets))
 decoded_shows most cap terrain events k s p packets settings are there playing decoded =
     let w = new_world most cap terrain in
     let log = events ++ ticked ∷ [] in
-    let P : List Sent → Type 0 = λ ps. Shows (replay new_replica (played ps))
-    (project (at_tick (history w events)) p) in
+    let P : List Sent → Type 0 = λ ps. ShowsWorld (at_tick (history w events)) k
+    (replay new_replica (played ps)) in
     subst P (one_decoded (decoder_of (received k w log)) (stream k w log) (handed k w log) packets
     (stream_decoded most cap terrain log k settings are) decoded)
     (run_shows most cap terrain events k s p there playing)

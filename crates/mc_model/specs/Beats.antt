@@ -1,7 +1,7 @@
 -- Beats: a client is told one every so often and is to answer, and one that leaves too many without
 -- an answer is silent. Rules of this project; that a client answers is of the page 'Protocol' of
 -- wiki.vg for protocol 47, Keep Alive.
-use Rattle.std.specs.Prelude.{ℕ, ◌+◌, ◌&&◌, not, nat_le, Bool, Some, if◌then◌else◌}
+use Rattle.std.specs.Prelude.{◌+◌, ◌&&◌, not, nat_le, Bool, Some, if◌then◌else◌}
 use lib.IntN.{pos}
 use Rattle.mc_model.specs.declared.ticks.TheConstants.{MISSED_MAX}
 use Rattle.mc_model.specs.Delta.{is_told}

@@ -1,7 +1,7 @@
 -- For which cause an event closes a connection. It speaks of the first frame that closes it, and
 -- not of the order of work. Rules of this project.
-use Rattle.std.specs.Prelude.{◌≡◌, ℕ, ◌+◌, ◌<◌, nat_le, Bool, true, false, List, [], ◌∷◌, ◌++◌, length}
-use Rattle.std.specs.Prelude.{map}
+use Rattle.std.specs.Prelude.{◌≡◌, ℕ, ◌+◌, ◌<◌, nat_le, Bool, true, false, List, [], ◌∷◌, ◌++◌}
+use Rattle.std.specs.Prelude.{length, map}
 use Rattle.std.specs.Prelude.{Option, Some, None, if◌then◌else◌}
 use Rattle.mc_frame.specs.declared.fault.FrameFault.{FrameFault}
 use Rattle.mc_frame.specs.Cut.{Cut}

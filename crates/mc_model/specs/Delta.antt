@@ -23,9 +23,10 @@ use Rattle.mc_view.specs.declared.forms.Form.TheVariants as forms
 use Rattle.mc_view.specs.declared.forms.Moves.{Moves}
 use Rattle.mc_view.specs.Forms.{moves_of}
 use Rattle.mc_down.specs.declared.down.Down.{Down}
-use Rattle.mc_down.specs.declared.down.Down.TheVariants.{KeepAlive, Chat, Time, Chunk, List as PlayerList}
-use Rattle.mc_down.specs.declared.down.Down.TheVariants.{MultiChange, Change, SpawnObject, Destroy, Step, Look}
-use Rattle.mc_down.specs.declared.down.Down.TheVariants.{StepLook, Teleport, HeadLook, Meta, SetSlot}
+use Rattle.mc_down.specs.declared.down.Down.TheVariants.{KeepAlive, Chat, Time, Chunk, MultiChange}
+use Rattle.mc_down.specs.declared.down.Down.TheVariants.{List as PlayerList, Change, SpawnObject}
+use Rattle.mc_down.specs.declared.down.Down.TheVariants.{Destroy, Step, Look, StepLook, Teleport}
+use Rattle.mc_down.specs.declared.down.Down.TheVariants.{HeadLook, Meta, SetSlot}
 use Rattle.mc_down.specs.declared.meta.MetaValue.TheVariants as values
 use Rattle.mc_down.specs.declared.player.Player.{Player}
 use Rattle.mc_down.specs.declared.player.PlayerChange.TheVariants.{Join, Leave}
@@ -259,8 +260,8 @@ pub record IsTold (p : Sight) : Type 0 where
   pub entities : (eid : ℤ) (e : Seen) → get p.entities eid ≡ Some e → IsSeen e
   pub pack : length p.pack ≡ pack_size
 
--- Two sights that follow one another: no packet carries the biomes of a column that stays, a beat and
--- an age are never told no more, and what was said stays.
+-- Two sights that follow one another: no packet carries the biomes of a column that stays, a beat
+-- and an age are never told no more, and what was said stays.
 pub record Follows (p q : Sight) : Type 0 where
   pub old : IsTold p
   pub new : IsTold q

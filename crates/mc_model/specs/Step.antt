@@ -2,7 +2,7 @@
 use Rattle.std.specs.Prelude.{ℕ, ◌+◌, ◌-◌, ◌==◌, ◌&&◌, ◌||◌, not, nat_lt, nat_le, int_le, Bool, true}
 use Rattle.std.specs.Prelude.{false}
 use Rattle.std.specs.Prelude.{List, [], ◌∷◌, ◌++◌, length, map, drop, codes}
-use Rattle.std.specs.Prelude.{replicate, Option, Some, None, unwrap_or, is_some, if◌then◌else◌}
+use Rattle.std.specs.Prelude.{replicate, Option, Some, None, is_some, if◌then◌else◌}
 use Rattle.std.specs.List.{filter, fold, list_any}
 use Rattle.std.specs.Option.{option_and_then}
 use Rattle.std.specs.FinMap.{FinMap}
@@ -34,7 +34,6 @@ use Rattle.mc_model.specs.Things.{with_kit, with_new_entity, without_entity}
 use Rattle.mc_model.specs.Names.{is_name, offline_uuid}
 use Rattle.mc_model.specs.Numbers.{pattern_of, degrees_of}
 use Rattle.mc_model.specs.Cutting.{cut_of}
-use Rattle.mc_model.specs.Sight.{Sight}
 use Rattle.mc_model.specs.Delta.{delta}
 use Rattle.mc_model.specs.World.{World, Session, Player, is_closed, players, found, put}
 use Rattle.mc_model.specs.World.{spot_of, pack_of, sees, spawn_height, spawn_spot, last_shown}
@@ -361,8 +360,8 @@ beat_to w s (Some p) =
 abbrev pub beat : World → Session → Handing
 beat w s = beat_to w s s.player
 
--- the world after each connection was handed something, all of one world: the players leave of those
--- that were closed of it
+-- the world after each connection was handed something, all of one world: the players leave of
+-- those that were closed of it
 abbrev pub all_handed : (World → Session → Handing) → World → World
 all_handed f w = record w {
   sessions = map (λ (s : Session). (f w s).session) w.sessions;

@@ -80,8 +80,22 @@ coded_sight =
     (coded× (code coded_ℕ (coded_list coded_ℕ)) (coded× (code (coded× coded_ℤ coded_ℤ) coded_column)
     (coded× (code coded_ℤ coded_seen) (coded× (coded_list coded_slot)
     (coded_list (coded_list coded_ℕ))))))))
-    (λ sight. (sight.beat, (sight.age, (sight.pairs, (sight.columns, (sight.entities,
-    (sight.pack, sight.chat)))))))
+    (λ sight. (
+      sight.beat,
+      (
+        sight.age,
+        (
+          sight.pairs,
+          (
+            sight.columns,
+            (
+              sight.entities,
+              (sight.pack, sight.chat),
+            ),
+          ),
+        ),
+      ),
+    ))
     (λ parts. record {
       beat = parts.0;
       age = parts.1.0;

@@ -1,4 +1,5 @@
--- Ages: which beat and which age a client is told at one, and the time of day. Rules of this project.
+-- Ages: which beat and which age a client is told at one, and the time of day. Rules of this
+-- project.
 use Rattle.std.specs.Prelude.{ℕ, ◌+◌, ◌-◌, ◌/◌, ◌%◌, min}
 use Rattle.std.specs.Int.{int_rem_euclid}
 use lib.IntN.{ℤ}

@@ -20,6 +20,7 @@ pub use name::Name;
 pub use notes::Notes;
 pub use spawn::{level, spawn_height, spawn_spot};
 pub use stage::Stage;
-pub use ticks::{AGE_MAX, BEAT_TICKS, DAY_TICKS, MISSED_MAX, SHOWN_TICKS};
-pub use ticks::{beat_at, shown_age, time_of_day};
+pub use ticks::{
+    AGE_MAX, BEAT_TICKS, DAY_TICKS, MISSED_MAX, SHOWN_TICKS, beat_at, shown_age, time_of_day,
+};
 pub use wish::Wish;

@@ -23,6 +23,7 @@ pub fn cause_in(words: &mut Words<'_>) -> Cause {
         "frame" => Cause::Frame(fault_in(words)),
         "packet" => Cause::Packet(PacketFault::UnknownId(words.number())),
         "number" => Cause::BadNumber,
+        "silent" => Cause::Silent,
         "gone" => Cause::Gone,
         "backlog" => Cause::Backlog,
         _ => {

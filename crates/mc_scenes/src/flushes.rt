@@ -1,8 +1,9 @@
 //! What one client is sent, on flat land whose columns from -3 to 3 are ready: `flush STEP ..`
-//! works on the players, the cells, the dropped items, the pack, what is noted and the mark; `settle`
-//! settles players and land, `share` has the frames encoded for all clients from now on, and
-//! `tell X Z D AT` answers the frames of a view of D around the column (X, Z), for a player at AT on
-//! x, in 1/32 blocks.
+//! works on the players, the cells, the dropped items, the pack, what is noted and the mark.
+//! `age N` makes the world N ticks old, which is 1 at first, and `say TEXT` adds a text as it stands,
+//! of which no JSON is made. `settle` settles players and land and forgets the texts, `share` has the
+//! frames encoded for all clients from now on, and `tell X Z D AT` answers the frames of a view of D
+//! around the column (X, Z), for a player at AT on x, in 1/32 blocks.
 
 ghost use Rattle.std.specs.Prelude.{◌≡◌, ◌<◌, true, IfOk};
 ghost use Rattle.std.specs.List.{AllByRecursion};
@@ -19,10 +20,10 @@ use crate::things::{cell_in, change_item, drop_item, filled, move_to, set_cell, 
 use crate::words::Words;
 use mc_entities::Folk;
 use mc_fields::Spot;
-use mc_flush::{ClientView, Encoded, Mark, flush};
+use mc_flush::{ClientView, Encoded, Line, Mark, flush};
 use mc_land::{Land, Steps, Terrain};
-use mc_model::Notes;
-use mc_nbt::NoMemory;
+use mc_model::{AGE_MAX, Notes};
+use mc_nbt::{NoMemory, Text};
 use mc_view::ViewSet;
 use mc_windows::{Pack, kit};
 use std::alloc::Global;
@@ -36,6 +37,9 @@ struct Scene {
     folk: Folk,
     pack: Pack,
     guests: Guests,
+    /// What was said since the last settling.
+    lines: Vec<Line>,
+    age: u64,
     mark: Mark,
     notes: Notes,
     /// Whether frames are encoded for all clients before one is told of them.
@@ -76,6 +80,8 @@ enum Call {
     Move,
     Take,
     Pack,
+    Age,
+    Say,
     Share,
     Tell,
 }
@@ -95,6 +101,8 @@ fn call_of(name: &str) -> Option<Call> {
         "move" => Some(Call::Move),
         "take" => Some(Call::Take),
         "pack" => Some(Call::Pack),
+        "age" => Some(Call::Age),
+        "say" => Some(Call::Say),
         "share" => Some(Call::Share),
         "tell" => Some(Call::Tell),
         _ => None,
@@ -112,6 +120,8 @@ pub fn client(words: &mut Words<'_>, answer: &mut Answer) {
         folk: Folk::new(words.alloc),
         pack: kit(),
         guests: Guests::new(words.alloc),
+        lines: Vec::new(words.alloc),
+        age: 1,
         mark: Mark::new(words.alloc),
         notes: Notes::new(words.alloc),
         shares: false,
@@ -146,15 +156,19 @@ fn answer_call(call: Call, scene: &mut Scene, words: &mut Words<'_>, answer: &mu
         Call::Move => move_to(&mut scene.folk, words),
         Call::Take => take_out(&mut scene.folk, words),
         Call::Pack => scene.pack = filled(scene.pack, words),
+        Call::Age => scene.age = words.number(),
+        Call::Say => say(&mut scene.lines, words, answer),
         Call::Share => scene.shares = true,
         Call::Tell => tell(scene, words, answer),
     }
 }
 
-/// All clients were shown the players and the cells as they are, and nothing is noted any more.
+/// All clients were shown the players, the cells and the texts as they are, and nothing is noted any
+/// more.
 fn settle(scene: &mut Scene, answer: &mut Answer) {
     answer.needs(scene.guests.settle());
     scene.land.settle();
+    scene.lines.clear();
     scene.notes.clear();
 }
 
@@ -162,6 +176,23 @@ fn settle(scene: &mut Scene, answer: &mut Answer) {
 fn enter(guests: &mut Guests, words: &mut Words<'_>, answer: &mut Answer) {
     let uuid = words.number();
     answer.needs(guests.enter(uuid, words.text()));
+}
+
+/// What is said by a text of at most 400 bytes.
+fn line_of(text: Text) -> Result<Option<Line>, NoMemory> {
+    if text.as_str().len() > 400 {
+        return Ok(None);
+    }
+    Ok(Some(Line::new(text)?))
+}
+
+/// Something is said.
+fn say(lines: &mut Vec<Line>, words: &mut Words<'_>, answer: &mut Answer) {
+    match line_of(words.text()) {
+        Ok(Some(line)) => answer.needs(lines.push(line)),
+        Ok(None) => words.fail(),
+        Err(NoMemory) => answer.lose(),
+    }
 }
 
 /// The next words as a view.
@@ -226,7 +257,7 @@ fn encode<L: Ledger>(
     Ok(encoded)
 }
 
-/// What a client is sent, where its columns are ready.
+/// What a client is sent, where its columns are ready and no world is older.
 fn flushed<L: Ledger>(
     alloc: Global,
     scene: &mut Scene,
@@ -239,6 +270,9 @@ fn flushed<L: Ledger>(
     requires some { 0 < blank.parts }
 {
     let mut steps = Steps::<L>::new(blank);
+    if scene.age > AGE_MAX {
+        return Ok(None);
+    }
     if !is_ready(&scene.land, &view, &mut steps) {
         return Ok(None);
     }
@@ -249,6 +283,8 @@ fn flushed<L: Ledger>(
         pack: &scene.pack,
         list: scene.guests.list(),
         encoded: &encoded,
+        lines: scene.lines.as_slice(),
+        age: scene.age,
         me: 1,
         view,
         place,

@@ -6,7 +6,8 @@ use Rattle.mc_view.specs.Sets.{has}
 use Rattle.mc_model.specs.Delta.{delta}
 use Rattle.mc_model.specs.Step.{noted_packets, notes_of}
 use Rattle.mc_flush.specs.Sending.{play_bytes}
-use Rattle.mc_flush.specs.Seeing.{MarkValue, StandsFor, changes, present_parts, seen}
+use Rattle.mc_flush.specs.Seeing.{MarkValue, StandsFor, age_now, beat_now, changes}
+use Rattle.mc_flush.specs.Seeing.{present_parts, seen}
 use Rattle.mc_flush.proofs.Changes.{tick_put}
 use Rattle.mc_flush.proofs.Difference.{delta_is, stands_seen}
 use Rattle.mc_flush.proofs.client_view.flush.Goals as goal
@@ -19,8 +20,8 @@ returns-clause-sent g c p stands =
     let mark = c.args.mark.now in
     tick_put c.args.out.now.items c.append.new.self.items c.new-pieces.result.items
     c.push_changes.new.out.items c.push_piece.new.out.items c.push_notes.new.out.items
-    (changes land v.list.now es v.pack.now mark v.view)
-    (delta p (seen land v.list.now es v.pack.now v.view))
+    (changes land v.list.now es v.pack.now mark v.view v.age v.lines.now)
+    (delta p (seen land v.list.now es v.pack.now v.view v.age (p.chat ++ v.lines.now)))
     (noted_packets land.terrain land.edits (has v.view) c.args.notes.now.cells)
     (notes_of c.args.notes.now v.place v.pack.now) c.new-pieces.ensures.items
     c.in_ok-push_changes.ensures.sent
@@ -28,18 +29,20 @@ returns-clause-sent g c p stands =
     (c.in_ok-noted_piece.ensures.is ∙ ap (λ (cells : List Cell). play_bytes (noted_packets
     land.terrain land.edits (has v.view) cells)) c.cells.ensures))
     c.in_ok-push_notes.ensures c.in_ok-append.ensures.items
-    (delta_is land v.list.now es v.pack.now mark v.view p (pos v.folk.now.state.given)
-    c.in_ok-push_changes.ensures.rise stands)
+    (delta_is land v.list.now es v.pack.now mark v.view v.age v.lines.now p
+    (pos v.folk.now.state.given) c.in_ok-push_changes.ensures.rise stands)
 
 pub returns-clause-stands : goal.returns-clause-stands
-returns-clause-stands g c =
+returns-clause-stands g c chat =
     let v = c.args.view.now in
     let land = v.land.now in
     let es = v.folk.now.state.entities in
     subst (λ (m : MarkValue). StandsFor m (present_parts land v.list.now)
-    (seen land v.list.now es v.pack.now v.view))
+    (seen land v.list.now es v.pack.now v.view v.age chat))
     (sym (c.keep.ensures ∙ ap (λ (m : MarkValue). record m {
+      beat = beat_now v.age;
+      age = age_now v.age;
       view = Some v.view;
       slots = v.pack.now.slots;
     }) c.in_ok-push_changes.ensures.mark))
-    (stands_seen land v.list.now es v.pack.now v.view)
+    (stands_seen land v.list.now es v.pack.now v.view v.age chat)

@@ -19,10 +19,12 @@ pub returns-clause-sent : goal.returns-clause-sent
 returns-clause-sent g c =
     let v = c.args.self.now in
     changes_put_all v.land.now v.list.now v.folk.now.state.entities v.pack.now c.args.mark.now v.view
-    (joined c.args.out.now.items) (joined c.push_piece.new.out.items)
-    (joined c.push_piece-2.new.out.items) (joined c.push_columns.new.out.items)
-    (joined c.push_piece-3.new.out.items) (joined c.push_slots.new.out.items)
-    (c.in_ok-push_piece.ensures ∙ ap (λ (t : List ℕ). joined c.args.out.now.items ++ t)
+    v.age v.lines.now (joined c.args.out.now.items) (joined c.push_age.new.out.items)
+    (joined c.push_piece.new.out.items) (joined c.push_piece-2.new.out.items)
+    (joined c.push_columns.new.out.items) (joined c.push_piece-3.new.out.items)
+    (joined c.push_slots.new.out.items) (joined c.push_lines.new.out.items)
+    c.in_ok-push_age.ensures
+    (c.in_ok-push_piece.ensures ∙ ap (λ (t : List ℕ). joined c.push_age.new.out.items ++ t)
     c.in_ok-players.ensures)
     (c.in_ok-push_piece-2.ensures ∙ ap (λ (t : List ℕ). joined c.push_piece.new.out.items ++ t)
     c.in_ok-gone.ensures.gone)
@@ -34,3 +36,4 @@ returns-clause-sent g c =
     (c.in_ok-push_slots.ensures ∙ ap (λ (m : MarkValue).
     joined c.push_piece-3.new.out.items ++ play_bytes (pack_packets m.slots v.pack.now.slots))
     c.in_ok-gone.ensures.mark)
+    c.in_ok-push_lines.ensures

@@ -1,0 +1,64 @@
+ghost use Rattle.std.specs.Prelude.{◌≡◌, ◌++◌, ◌∷◌, [], IfOk, OnOk};
+ghost use Rattle.mc_model.specs.Delta.{chat_packet};
+ghost use Rattle.mc_flush.specs.Sending.{IsClear, play_bytes};
+ghost use Rattle.mc_flush.specs.Seeing.{line_packets};
+
+use crate::frames::put_packet;
+use bytes::Bytes;
+use mc_down::Down;
+use mc_nbt::{NoMemory, Text};
+use std::marker::Model;
+
+/// What was said, encoded once for all clients. Contracts see it as its text.
+#[derive(Drop)]
+pub struct Line {
+    text: Text,
+    /// The frame that shows the text.
+    frame: Bytes,
+}
+
+impl Model for Line {
+    ghost use Rattle.std.specs.Prelude.{◌≡◌, ◌∷◌, [], List, ℕ};
+    ghost use Rattle.mc_model.specs.Delta.{chat_packet};
+    ghost use Rattle.mc_flush.specs.Sending.{play_bytes};
+
+    ghost Value = { List ℕ };
+
+    ghost view = { λ line. line.text };
+
+    ghost invariant = { λ line. line.frame ≡ play_bytes (chat_packet line.text ∷ []) };
+}
+
+impl Line {
+    /// Encodes a text as what a player says.
+    pub fn new(text: Text) -> Result<Line, NoMemory>
+        requires clear { IsClear (chat_packet text) }
+        ensures { IfOk result (λ line. line ≡ text) }
+    {
+        let said = text.copy()?.into_string();
+        let mut bytes = Vec::new(*said.allocator());
+        put_packet(&Down::Chat(Text::from_string(said), 0), &mut bytes)?;
+        Ok(Line {
+            text,
+            frame: Bytes::from_vec(bytes)?,
+        })
+    }
+
+    /// The frame that shows the text.
+    fn frame(&self) -> &[u8]
+        ensures { result.now ≡ play_bytes (chat_packet self.now ∷ []) }
+    {
+        self.frame.as_slice()
+    }
+}
+
+/// Appends the frames of lines, one behind the other.
+pub fn put_lines(lines: &[Line], out: &mut Vec<u8>) -> Result<(), NoMemory>
+    ensures { OnOk result (out.new.items
+        ≡ out.old.items ++ play_bytes (line_packets lines.now)) }
+{
+    for line in lines {
+        out.extend_from_slice(line.frame())?;
+    }
+    Ok(())
+}
