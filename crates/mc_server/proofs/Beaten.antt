@@ -6,12 +6,11 @@ use Rattle.mc_frame.specs.Cut.{IsPart, kept_count}
 use Rattle.std.proofs.Math.Nat.{min-eq_left}
 use Rattle.mc_land.specs.Land.{LandValue}
 use Rattle.mc_entities.specs.Folk.{FolkState}
-use Rattle.mc_model.specs.declared.cause.Cause.{Cause}
 use Rattle.mc_model.specs.declared.cause.Cause.TheVariants as causes
 use Rattle.mc_model.specs.Beats.{awaiting, is_silent}
 use Rattle.mc_model.specs.Packets.{Sent}
 use Rattle.mc_model.specs.Sight.{Sight, nothing_seen}
-use Rattle.mc_model.specs.Step.{Handing, aged, at_tick, beat, beat_to, disconnect, hand, mark_closed}
+use Rattle.mc_model.specs.Step.{aged, at_tick, beat, beat_to, disconnect, mark_closed}
 use Rattle.mc_model.specs.Talk.{farewell}
 use Rattle.mc_model.specs.Things.{Packs, Things}
 use Rattle.mc_model.specs.Ticks.{older}
@@ -45,9 +44,12 @@ player_beaten w s p =
     let words : List Sent = farewell s.stage causes.Silent in
     elim (is_silent w p)
     as (λ b. with_shown None (if b then disconnect t causes.Silent words
-    else record { session = record t {
-      player = Some (awaiting w (player_shown p.shown p));
-    }; handed = [] }).session
+    else record {
+      session = record t {
+        player = Some (awaiting w (player_shown p.shown p));
+      };
+      handed = [];
+    }).session
     ≡ bare (if b then disconnect s causes.Silent words
     else record { session = record s { player = Some (awaiting w p) }; handed = [] }).session) [
       | true ↦ shut_shown None t causes.Silent words

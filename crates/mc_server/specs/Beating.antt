@@ -1,6 +1,6 @@
 -- What the beat of a tick makes of each connection, from what its mark keeps of what its client was
 -- told.
-use Rattle.std.specs.Prelude.{◌≡◌, Option, Some, None, unwrap_or}
+use Rattle.std.specs.Prelude.{◌≡◌, Option, None, unwrap_or}
 use Rattle.mc_model.specs.Sight.{Sight, nothing_seen}
 use Rattle.mc_model.specs.World.{World, Session}
 use Rattle.mc_model.specs.Step.{beat}
