@@ -1,7 +1,6 @@
 //! What players say.
 
-ghost use Rattle.std.specs.Prelude.{◌≡◌, ◌≤◌, Some, IfOk, IfSome, OnOk, None, length};
-ghost use Rattle.std.specs.Option.{option_map};
+ghost use Rattle.std.specs.Prelude.{◌≡◌, ◌≤◌, Some, IfOk, OnOk, length};
 ghost use Rattle.mc_model.specs.Chat.{line_of, say};
 ghost use Rattle.mc_model.specs.World.{Player};
 ghost use Rattle.mc_server.specs.Acting.{Comes, IsDoerAt};
