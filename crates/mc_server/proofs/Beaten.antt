@@ -45,9 +45,12 @@ player_beaten w s p =
     let words : List Sent = farewell s.stage causes.Silent in
     elim (is_silent w p)
     as (λ b. with_shown None (if b then disconnect t causes.Silent words
-    else record { session = record t {
-      player = Some (awaiting w (player_shown p.shown p));
-    }; handed = [] }).session
+    else record {
+      session = record t {
+        player = Some (awaiting w (player_shown p.shown p));
+      };
+      handed = [];
+    }).session
     ≡ bare (if b then disconnect s causes.Silent words
     else record { session = record s { player = Some (awaiting w p) }; handed = [] }).session) [
       | true ↦ shut_shown None t causes.Silent words

@@ -62,12 +62,7 @@ pub struct Player {
 
 impl Player {
     /// A player that enters, with an entity number, behind so many lines.
-    pub fn entering(
-        alloc: Global,
-        eid: u32,
-        name: &Name,
-        since: usize,
-    ) -> Result<Player, NoMemory>
+    pub fn entering(alloc: Global, eid: u32, name: &Name, since: usize) -> Result<Player, NoMemory>
         requires { eid < 2 ^ 31 }
         ensures is { IfOk result (λ player. player_of player ≡ new_player eid name.now since) }
         ensures unseen { IfOk result (λ player. player.mark ≡ nothing_shown) }

@@ -26,11 +26,7 @@ use mc_nbt::NoMemory;
 use std::alloc::Global;
 
 /// A beat comes to a connection; the number of its player is noted where that leaves.
-fn beat_one(
-    connection: &mut Connection,
-    beat: i32,
-    left: &mut Vec<i32>,
-) -> Result<(), NoMemory>
+fn beat_one(connection: &mut Connection, beat: i32, left: &mut Vec<i32>) -> Result<(), NoMemory>
     ensures beaten { (w : World) → beat ≡ pos (beat_at w.age) →
         OnOk result (IsBeaten w connection.old connection.new) }
     ensures left { OnOk result (left.new.items ≡ left.old.items

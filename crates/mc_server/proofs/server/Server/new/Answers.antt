@@ -24,8 +24,13 @@ invariant_of-result c =
 
 pub returns : goal.returns
 returns c =
-    rw (c.new.ensures, c.new-2.ensures, c.new-3.ensures, c.new-4.ensures.items,
-    c.new-6.ensures.items) (record {
+    rw (
+      c.new.ensures,
+      c.new-2.ensures,
+      c.new-3.ensures,
+      c.new-4.ensures.items,
+      c.new-6.ensures.items,
+    ) (record {
       works = refl;
       age = refl;
       terrain = refl;
