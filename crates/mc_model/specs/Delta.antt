@@ -1,7 +1,7 @@
 -- What leads a client from what it was shown to what it is to be shown: a list of packets made by
 -- comparing the two, entry by entry. Which packets, and their order, are rules of this project.
 use Rattle.std.specs.Prelude.{◌≡◌, ◌<◌, ℕ, ◌+◌, ◌*◌, ◌/◌, ◌%◌, ◌&&◌, not, Bool, true, false}
-use Rattle.std.specs.Prelude.{List, [], ◌∷◌, ◌++◌, drop, length, map, slice_index}
+use Rattle.std.specs.Prelude.{List, [], ◌∷◌, ◌++◌, drop, length, map, slice_index, take, zero, suc}
 use Rattle.std.specs.Prelude.{Option, Some, None, is_some, if◌then◌else◌}
 use Rattle.std.specs.List.{All, filter, flat_map, range_with_len}
 use Rattle.std.specs.Str.{bytes_eq}
@@ -24,13 +24,18 @@ use Rattle.mc_view.specs.declared.forms.Moves.{Moves}
 use Rattle.mc_view.specs.Forms.{moves_of}
 use Rattle.mc_down.specs.declared.down.Down.{Down}
 use Rattle.mc_down.specs.declared.down.Down.TheVariants.{KeepAlive, Chat, Time, Chunk, MultiChange}
-use Rattle.mc_down.specs.declared.down.Down.TheVariants.{List as PlayerList, Change, SpawnObject}
+use Rattle.mc_down.specs.declared.down.Down.TheVariants.{List as PlayerList, Change, SpawnPlayer}
+use Rattle.mc_down.specs.declared.down.Down.TheVariants.{SpawnObject, Equipment}
 use Rattle.mc_down.specs.declared.down.Down.TheVariants.{Destroy, Step, Look, StepLook, Teleport}
 use Rattle.mc_down.specs.declared.down.Down.TheVariants.{HeadLook, Meta, SetSlot}
+use Rattle.mc_down.specs.declared.meta.MetaEntry.{MetaEntry}
 use Rattle.mc_down.specs.declared.meta.MetaValue.TheVariants as values
 use Rattle.mc_down.specs.declared.player.Player.{Player}
 use Rattle.mc_down.specs.declared.player.PlayerChange.TheVariants.{Join, Leave}
 use Rattle.mc_down.specs.declared.record.Record.{Record}
+use Rattle.mc_model.specs.declared.seen.TheConstants.{DESTROYED_MAX}
+use Rattle.mc_model.specs.declared.seen.SeenKind.{SeenKind}
+use Rattle.mc_model.specs.declared.seen.SeenKind.TheVariants as seen_kinds
 use Rattle.mc_model.specs.Sight.{Seen, Sight}
 use Rattle.mc_model.specs.Replica.{is_32_bits}
 use Rattle.mc_model.specs.Ticks.{time_of_day}
@@ -89,10 +94,16 @@ joiners_point p q = about (pos 0) (map joiner (missing q.pairs p.pairs))
 
 -- ---- entities that are seen no more
 
--- one packet, and none about none
+-- a list in parts of so many, the last of fewer; the first number is at least the list's length
+abbrev pub parts_of : ℕ → ℕ → List ℤ → List (List ℤ)
+parts_of zero most eids = []
+parts_of (suc n) most [] = []
+parts_of (suc n) most (eid ∷ eids) =
+    take most (eid ∷ eids) ∷ parts_of n most (drop most (eid ∷ eids))
+
+-- one packet, and none about none; a packet holds as many numbers as there can be entities
 abbrev pub destroying : List ℤ → List Down
-destroying [] = []
-destroying (eid ∷ eids) = Destroy (eid ∷ eids) ∷ []
+destroying eids = map Destroy (parts_of (length eids) DESTROYED_MAX eids)
 
 -- in rising number
 abbrev pub destroys_point : Sight → Sight → List Down
@@ -168,15 +179,37 @@ is_same_slot (slots.Full a) (slots.Full b) =
 is_same_slot slots.Empty (slots.Full b) = false
 is_same_slot (slots.Full a) slots.Empty = false
 
--- what lies there, as the slot of index 10
-abbrev pub item_packet : ℤ → Slot → Down
-item_packet eid item = Meta eid (record { index = 10; value = values.Slot item } ∷ [])
+-- what a player holds is worn in slot 0; what lies there is the slot of index 10 of the metadata
+abbrev pub pile_packet : ℤ → SeenKind → Slot → Down
+pile_packet eid (seen_kinds.Player uuid) pile = Equipment eid (pos 0) pile
+pile_packet eid seen_kinds.Item pile = Meta eid (record { index = 10; value = values.Slot pile } ∷ [])
 
--- a dropped item is an object of kind 2
+-- the id of what is in a hand, as a player's spawn has it: 0 for an empty one
+abbrev pub id_in_hand : Slot → ℤ
+id_in_hand slots.Empty = pos 0
+id_in_hand (slots.Full stack) = stack.id
+
+-- nothing is told of an empty hand
+abbrev pub hand_packets : ℤ → ℕ → Slot → List Down
+hand_packets eid uuid slots.Empty = []
+hand_packets eid uuid (slots.Full stack) =
+    pile_packet eid (seen_kinds.Player uuid) (slots.Full stack) ∷ []
+
+-- the metadata of a player: its flags, none of which is set
+abbrev pub no_flags : List MetaEntry
+no_flags = record { index = 0; value = values.Byte (pos 0) } ∷ []
+
+-- a player that comes, with its head and what it holds; a dropped item is an object of kind 2
+abbrev pub spawn_as : ℤ → SeenKind → Spot → Slot → List Down
+spawn_as eid (seen_kinds.Player uuid) spot pile =
+    SpawnPlayer eid uuid spot.x spot.y spot.z spot.yaw spot.pitch (id_in_hand pile) no_flags
+    ∷ HeadLook eid spot.yaw ∷ hand_packets eid uuid pile
+spawn_as eid seen_kinds.Item spot pile =
+    SpawnObject eid (pos 2) spot.x spot.y spot.z spot.pitch spot.yaw (pos 0) None
+    ∷ pile_packet eid seen_kinds.Item pile ∷ []
+
 abbrev pub spawn_packets : ℤ → Seen → List Down
-spawn_packets eid e =
-    SpawnObject eid (pos 2) e.spot.x e.spot.y e.spot.z e.spot.pitch e.spot.yaw (pos 0) None
-    ∷ item_packet eid e.item ∷ []
+spawn_packets eid e = spawn_as eid e.kind e.spot e.pile
 
 -- where it is and looks now
 abbrev pub move_packets : ℤ → Spot → Form → List Down
@@ -194,14 +227,15 @@ head_packets eid spot turns = if turns then HeadLook eid spot.yaw ∷ [] else []
 abbrev pub moves_packets : ℤ → Spot → Moves → List Down
 moves_packets eid spot moves = move_packets eid spot moves.form ++ head_packets eid spot moves.head
 
--- what lies there now, where that is something else
-abbrev pub item_packets : ℤ → Slot → Slot → List Down
-item_packets eid old new = if is_same_slot old new then [] else item_packet eid new ∷ []
+-- what it holds or is now, where that is something else
+abbrev pub pile_packets : ℤ → SeenKind → Slot → Slot → List Down
+pile_packets eid kind old new = if is_same_slot old new then [] else pile_packet eid kind new ∷ []
 
 abbrev pub entity_packets : ℤ → Option Seen → Seen → List Down
 entity_packets eid None new = spawn_packets eid new
 entity_packets eid (Some old) new =
-    moves_packets eid new.spot (moves_of old.spot new.spot) ++ item_packets eid old.item new.item
+    moves_packets eid new.spot (moves_of old.spot new.spot)
+    ++ pile_packets eid new.kind old.pile new.pile
 
 -- entity by entity, in rising number
 abbrev pub entities_point : Sight → Sight → List Down
@@ -260,13 +294,16 @@ pub record IsTold (p : Sight) : Type 0 where
   pub entities : (eid : ℤ) (e : Seen) → get p.entities eid ≡ Some e → IsSeen e
   pub pack : length p.pack ≡ pack_size
 
--- Two sights that follow one another: no packet carries the biomes of a column that stays, a beat
--- and an age are never told no more, and what was said stays.
+-- Two sights that follow one another: no packet carries the biomes of a column that stays or says
+-- that an entity that stays is another, a beat and an age are never told no more, and what was said
+-- stays.
 pub record Follows (p q : Sight) : Type 0 where
   pub old : IsTold p
   pub new : IsTold q
   pub biomes : (place : Place) (old new : ColumnValue) → get p.columns place ≡ Some old →
       get q.columns place ≡ Some new → old.biomes ≡ new.biomes
+  pub kinds : (eid : ℤ) (old new : Seen) → get p.entities eid ≡ Some old →
+      get q.entities eid ≡ Some new → old.kind ≡ new.kind
   pub beat : is_some q.beat ≡ true
   pub age : is_some q.age ≡ true
   pub chat : (more : List (List ℕ)) × (q.chat ≡ p.chat ++ more)

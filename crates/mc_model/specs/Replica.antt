@@ -21,7 +21,8 @@ use Rattle.mc_slots.specs.declared.slot.Slot.TheVariants as slots
 use Rattle.mc_down.specs.declared.down.Down.{Down}
 use Rattle.mc_down.specs.declared.down.Down.TheVariants.{KeepAlive, JoinGame, Chat, Time, Chunk}
 use Rattle.mc_down.specs.declared.down.Down.TheVariants.{List as PlayerList}
-use Rattle.mc_down.specs.declared.down.Down.TheVariants.{MultiChange, Change, SpawnObject, Destroy}
+use Rattle.mc_down.specs.declared.down.Down.TheVariants.{MultiChange, Change, SpawnPlayer}
+use Rattle.mc_down.specs.declared.down.Down.TheVariants.{SpawnObject, Equipment, Destroy}
 use Rattle.mc_down.specs.declared.down.Down.TheVariants.{Step, Look, StepLook, Teleport, HeadLook}
 use Rattle.mc_down.specs.declared.down.Down.TheVariants.{Meta, SetSlot, WindowItems}
 use Rattle.mc_down.specs.declared.meta.MetaEntry.{MetaEntry}
@@ -31,6 +32,8 @@ use Rattle.mc_down.specs.declared.player.Player.{Player}
 use Rattle.mc_down.specs.declared.player.PlayerChange.{PlayerChange}
 use Rattle.mc_down.specs.declared.player.PlayerChange.TheVariants.{Join, Leave}
 use Rattle.mc_down.specs.declared.record.Record.{Record}
+use Rattle.mc_model.specs.declared.seen.SeenKind.{SeenKind}
+use Rattle.mc_model.specs.declared.seen.SeenKind.TheVariants as seen_kinds
 use Rattle.mc_model.specs.Sight.{Seen, Sight, nothing_seen}
 
 pub record Replica : Type 0 where
@@ -120,12 +123,14 @@ with_records columns place records =
 abbrev pub Entities : Type 0
 Entities = FinMap int_cmp Seen
 
--- an object of kind 2 is a dropped item, of which the metadata says what lies there
+-- one that comes, of which other packets say what it holds or is; its head looks as it does
+abbrev pub coming : SeenKind → Spot → Seen
+coming kind spot = record { kind = kind; spot = spot; head = spot.yaw; pile = slots.Empty }
+
+-- an object of kind 2 is a dropped item
 abbrev pub with_object : Entities → ℤ → ℤ → Spot → Entities
 with_object entities eid kind spot =
-    if int_eq kind (pos 2)
-    then insert entities eid (record { spot = spot; head = spot.yaw; item = slots.Empty })
-    else entities
+    if int_eq kind (pos 2) then insert entities eid (coming seen_kinds.Item spot) else entities
 
 abbrev pub without_eids : Entities → List ℤ → Entities
 without_eids entities eids = fold (λ (m : Entities) (eid : ℤ). remove m eid) entities eids
@@ -147,9 +152,21 @@ onward dx dy dz spot =
 abbrev pub looking : ℕ → ℕ → Spot → Spot
 looking yaw pitch spot = record spot { yaw = yaw; pitch = pitch }
 
--- the slot of index 10 says what lies there
+-- a player has another pile in its hand, where this is what is worn in slot 0; others hold nothing
+abbrev pub worn_by : SeenKind → ℤ → Slot → Seen → Seen
+worn_by (seen_kinds.Player uuid) worn pile e = if int_eq worn (pos 0) then record e { pile = pile } else e
+worn_by seen_kinds.Item worn pile e = e
+
+abbrev pub wearing : ℤ → Slot → Seen → Seen
+wearing worn pile e = worn_by e.kind worn pile e
+
+-- the slot of index 10 says what lies there, of a dropped item
+abbrev pub lying_of : SeenKind → ℕ → Slot → Seen → Seen
+lying_of (seen_kinds.Player uuid) index pile e = e
+lying_of seen_kinds.Item index pile e = if index == 10 then record e { pile = pile } else e
+
 abbrev pub with_value : ℕ → MetaValue → Seen → Seen
-with_value index (values.Slot item) e = if index == 10 then record e { item = item } else e
+with_value index (values.Slot pile) e = lying_of e.kind index pile e
 with_value index other e = e
 
 abbrev pub with_metas : List MetaEntry → Seen → Seen
@@ -199,6 +216,9 @@ apply r (Change cell state) =
     with_columns r (changed_at r.sight.columns cell.x cell.y cell.z state)
 apply r (MultiChange cx cz records) =
     with_columns r (with_records r.sight.columns (cx, cz) records)
+apply r (SpawnPlayer eid uuid x y z yaw pitch item metas) =
+    with_entities r (insert r.sight.entities eid
+    (coming (seen_kinds.Player uuid) (record { x = x; y = y; z = z; yaw = yaw; pitch = pitch })))
 apply r (SpawnObject eid kind x y z pitch yaw extra motion) =
     with_entities r (with_object r.sight.entities eid kind
     (record { x = x; y = y; z = z; yaw = yaw; pitch = pitch }))
@@ -213,6 +233,7 @@ apply r (Teleport eid x y z yaw pitch on_ground) =
     with_entity r eid
     (λ (e : Seen). put_at (record { x = x; y = y; z = z; yaw = yaw; pitch = pitch }) e)
 apply r (HeadLook eid head) = with_entity r eid (λ (e : Seen). record e { head = head })
+apply r (Equipment eid worn pile) = with_entity r eid (wearing worn pile)
 apply r (Meta eid metas) = with_entity r eid (with_metas metas)
 apply r (SetSlot window i item) = with_pack r (with_slot r.sight.pack window i item)
 apply r (WindowItems window items) = with_pack r (with_items r.sight.pack window items)

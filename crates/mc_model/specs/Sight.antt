@@ -9,12 +9,14 @@ use Rattle.mc_land.specs.Places.{place_cmp}
 use Rattle.mc_slots.specs.declared.slot.Slot.{Slot}
 use Rattle.mc_slots.specs.declared.slot.Slot.TheVariants as slots
 use Rattle.mc_windows.specs.Pack.{pack_size}
+use Rattle.mc_model.specs.declared.seen.SeenKind.{SeenKind}
 
--- a dropped item: where it is and looks, where its head looks, and what lies there
+-- an entity: what it is, where it is and looks, where its head looks, and the pile that it holds or is
 pub record Seen : Type 0 where
+  pub kind : SeenKind
   pub spot : Spot
   pub head : ℕ
-  pub item : Slot
+  pub pile : Slot
 
 pub record Sight : Type 0 where
   -- the beat and the age that it was told last
@@ -24,7 +26,7 @@ pub record Sight : Type 0 where
   pub pairs : FinMap nat_cmp (List ℕ)
   -- the columns in view, with states and biomes
   pub columns : FinMap place_cmp ColumnValue
-  -- the dropped items in view, by their numbers
+  -- the others' players and the dropped items in view, by their numbers
   pub entities : FinMap int_cmp Seen
   -- the slots of the own pack
   pub pack : List Slot

@@ -15,6 +15,8 @@ use Rattle.mc_land.specs.LandCode.{coded_key}
 use Rattle.mc_slots.specs.declared.slot.Slot.{Slot}
 use Rattle.mc_slots.specs.declared.slot.Slot.TheVariants as slots
 use Rattle.mc_view.specs.ToldCode.{coded_spot}
+use Rattle.mc_model.specs.declared.seen.SeenKind.{SeenKind}
+use Rattle.mc_model.specs.declared.seen.SeenKind.TheVariants as seen_kinds
 use Rattle.mc_model.specs.Sight.{Seen, Sight}
 
 abbrev pub coded_column : Coded ColumnValue
@@ -62,11 +64,32 @@ coded_slot =
 
 -- ---- sights
 
+abbrev pub kind_stored : SeenKind → Option ℕ
+kind_stored (seen_kinds.Player uuid) = Some uuid
+kind_stored seen_kinds.Item = None
+
+abbrev pub kind_back : Option ℕ → SeenKind
+kind_back (Some uuid) = seen_kinds.Player uuid
+kind_back None = seen_kinds.Item
+
+abbrev pub kind_again : (kind : SeenKind) → kind_back (kind_stored kind) ≡ kind
+kind_again (seen_kinds.Player uuid) = refl
+kind_again seen_kinds.Item = refl
+
+abbrev pub coded_kind : Coded SeenKind
+coded_kind = code_by (Option ℕ) (coded_option coded_ℕ) kind_stored kind_back kind_again
+
 abbrev pub coded_seen : Coded Seen
 coded_seen =
-    code_by (Spot × (ℕ × Slot)) (coded× coded_spot (coded× coded_ℕ coded_slot))
-    (λ e. (e.spot, (e.head, e.item)))
-    (λ parts. record { spot = parts.0; head = parts.1.0; item = parts.1.1 })
+    code_by (SeenKind × (Spot × (ℕ × Slot)))
+    (coded× coded_kind (coded× coded_spot (coded× coded_ℕ coded_slot)))
+    (λ e. (e.kind, (e.spot, (e.head, e.pile))))
+    (λ parts. record {
+      kind = parts.0;
+      spot = parts.1.0;
+      head = parts.1.1.0;
+      pile = parts.1.1.1;
+    })
     (λ e. refl)
 
 abbrev pub StoredSight : Type 0

@@ -21,13 +21,14 @@ use Rattle.mc_windows.specs.Pack.{PackValue}
 use Rattle.mc_entities.specs.declared.entity.Entity.{Entity}
 use Rattle.mc_entities.specs.declared.entity.EntityKind.{EntityKind}
 use Rattle.mc_entities.specs.declared.entity.EntityKind.TheVariants as kinds
-use Rattle.mc_entities.specs.Numbers.{numbered}
+use Rattle.mc_entities.specs.Numbers.{numbered, without}
 use Rattle.mc_entities.specs.Folk.{eid_of}
 use Rattle.mc_view.specs.Views.{view_of, column_of_spot, is_in_view, view_size}
 use Rattle.mc_model.specs.declared.cause.Cause.{Cause}
 use Rattle.mc_model.specs.declared.stage.Stage.{Stage}
 use Rattle.mc_model.specs.declared.stage.Stage.TheVariants as stages
 use Rattle.mc_model.specs.Notes.{Noted}
+use Rattle.mc_model.specs.declared.seen.SeenKind.TheVariants as seen_kinds
 use Rattle.mc_model.specs.Sight.{Seen, Sight, nothing_seen}
 use Rattle.mc_model.specs.Things.{Things, new_things, in_hand, state_of_cell}
 use Rattle.mc_model.specs.Things as things
@@ -194,24 +195,35 @@ sees w p place = is_in_view (column_of_spot (spot_of w p)) (view_size w.cap p.vi
 abbrev pub is_in_sight : World → Player → Entity → Bool
 is_in_sight w p e = sees w p (column_of_spot e.spot)
 
--- a dropped item as it is seen; players and mobs are not seen yet
+-- all entities but the one of a number
+abbrev pub others : ℤ → List Entity → List Entity
+others eid entities = without eid_of eid entities
+
+-- a player and a dropped item as they are seen; mobs are not seen yet
 abbrev pub seen_as : Entity → EntityKind → Option (ℤ × Seen)
-seen_as e (kinds.Dropped item born) =
-    Some (e.eid, record { spot = e.spot; head = e.spot.yaw; item = slot_of (Full item) })
-seen_as e other = None
+seen_as e (kinds.Player uuid held) = Some (
+  e.eid,
+  record { kind = seen_kinds.Player uuid; spot = e.spot; head = e.spot.yaw; pile = slot_of held },
+)
+seen_as e (kinds.Dropped item born) = Some (
+  e.eid,
+  record { kind = seen_kinds.Item; spot = e.spot; head = e.spot.yaw; pile = slot_of (Full item) },
+)
+seen_as e kinds.Mob = None
 
 abbrev pub seen_of : Entity → Option (ℤ × Seen)
 seen_of e = seen_as e e.kind
 
--- the beat and the age, the players in play, the columns of its view as they are, the dropped items
--- in it, its pack, and what was said since it joined
+-- the beat and the age, the players in play, the columns of its view as they are, the others and the
+-- dropped items in it, its pack, and what was said since it joined
 unfoldable pub project : World → Player → Sight
 project w p = record {
   beat = Some (pos (beat_at w.age));
   age = Some (pos (shown_age w.age));
   pairs = from_entries (map (λ (other : Player). (other.uuid, other.name)) (players w));
   columns = from_entries (map (λ place. (place, column_in w place)) (view_in w p));
-  entities = from_entries (filter_map seen_of (filter (is_in_sight w p) w.things.entities));
+  entities = from_entries (filter_map seen_of
+      (filter (is_in_sight w p) (others (pos p.eid) w.things.entities)));
   pack = map slot_of (pack_of w p).slots;
   chat = heard_by w p;
 }

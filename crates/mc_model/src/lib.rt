@@ -10,6 +10,7 @@ mod cause;
 mod laws;
 mod name;
 mod notes;
+mod seen;
 mod spawn;
 mod stage;
 mod ticks;
@@ -18,6 +19,7 @@ mod wish;
 pub use cause::{Cause, Refusal};
 pub use name::Name;
 pub use notes::Notes;
+pub use seen::{DESTROYED_MAX, SeenKind};
 pub use spawn::{level, spawn_height, spawn_spot};
 pub use stage::Stage;
 pub use ticks::{
