@@ -3,7 +3,7 @@ use Rattle.std.specs.Prelude.{◌≡◌, ℕ, ◌≤◌, Bool, not, true, List, 
 use Rattle.std.specs.Prelude.{Option, Some, None, is_some, option_map, if◌then◌else◌}
 use Rattle.std.specs.List.{filter, filter_map, flat_map}
 use Rattle.std.specs.Ordering.{int_cmp}
-use Rattle.std.specs.FinMap.{FinMap, contains_key, empty, from_entries, get, keys, len}
+use Rattle.std.specs.FinMap.{FinMap, contains_key, empty, from_entries, get, keys}
 use Rattle.std.specs.FinSet as set
 use lib.IntN.{ℤ, pos, negsuc}
 use lib.Signed.{◌≤ℤ◌}
@@ -13,17 +13,18 @@ use Rattle.mc_land.specs.declared.terrain.Terrain.{Terrain}
 use Rattle.mc_land.specs.declared.ready.Touched.{Touched}
 use Rattle.mc_land.specs.Places.{Place, key_cmp, place_cmp, IsPlace}
 use Rattle.mc_land.specs.Land.{LandValue, states_of, biomes_of, dirty_in}
+use Rattle.mc_slots.specs.declared.slot.Slot.{Slot}
 use Rattle.mc_slots.specs.declared.pile.Pile.{Pile}
 use Rattle.mc_slots.specs.declared.pile.Pile.TheVariants.{Empty}
 use Rattle.mc_slots.specs.Pile.{slot_of}
 use Rattle.mc_windows.specs.Pack.{PackValue, IsPack, pack_size}
 use Rattle.mc_entities.specs.declared.entity.Entity.{Entity}
-use Rattle.mc_entities.specs.declared.entity.TheConstants.{DROPPED_MAX}
 use Rattle.mc_down.specs.declared.down.Down.{Down}
 use Rattle.mc_view.specs.declared.view_set.ViewSet.{ViewSet}
 use Rattle.mc_view.specs.Sets.{all_of, has, is_within, lacking}
 use Rattle.mc_view.specs.Told.{Told}
 use Rattle.mc_view.specs.Views.{column_of_spot}
+use Rattle.mc_model.specs.declared.seen.SeenKind.{SeenKind}
 use Rattle.mc_model.specs.Sight.{Seen, Sight}
 use Rattle.mc_model.specs.Ticks.{beat_at, shown_age}
 use Rattle.mc_model.specs.Notes.{Noted}
@@ -78,7 +79,7 @@ abbrev pub age_now : ℕ → Option ℤ
 age_now age = Some (pos (shown_age age))
 
 -- what a client is to be shown: the beat and the age, the players that are in the list now, the columns
--- of the view as they are, the dropped items in it, its pack, and all that was said
+-- of the view as they are, the entities in it that are not its own, its pack, and all that was said
 abbrev pub seen : LandValue → ListValue → List Entity → PackValue → ViewSet → ℕ → List (List ℕ) →
     Sight
 seen land list entities pack view age chat = record {
@@ -127,25 +128,35 @@ abbrev pub columns_in : Option ViewSet → Parts → FinMap place_cmp ColumnValu
 columns_in None parts = empty
 columns_in (Some view) parts = columns_of parts view
 
--- a dropped item of which a client was told
-abbrev pub told_item : Spot × Pile → Seen
-told_item told = record { spot = told.0; head = told.0.yaw; item = slot_of told.1 }
+-- an entity of a kind of which a client was told
+abbrev pub told_as : SeenKind → Spot × Pile → Seen
+told_as kind told =
+    record { kind = kind; spot = told.0; head = told.0.yaw; pile = slot_of told.1 }
 
--- a mark stands for a sight, of the parts as they were; of what was said it says nothing
+-- of an entity that was seen, what is kept of it: where it was, and the pile that it held or was
+abbrev pub kept_of : Seen → Spot × Slot
+kept_of e = (e.spot, e.pile)
+
+-- and of what was told
+abbrev pub told_slot : Spot × Pile → Spot × Slot
+told_slot told = (told.0, slot_of told.1)
+
+-- a mark stands for a sight, of the parts as they were; of what was said it says nothing, and of
+-- entities not what they are
 pub record Shown (mark : MarkValue) (parts : Parts) (p : Sight) : Type 0 where
   pub beat : p.beat ≡ mark.beat
   pub age : p.age ≡ mark.age
   pub pairs : p.pairs ≡ pairs_in mark.view parts
   pub columns : p.columns ≡ columns_in mark.view parts
-  pub entities : (eid : ℤ) → get p.entities eid ≡ option_map told_item (get mark.told eid)
+  pub entities : (eid : ℤ) →
+      option_map kept_of (get p.entities eid) ≡ option_map told_slot (get mark.told eid)
   pub pack : p.pack ≡ map slot_of mark.slots
 
 unfoldable pub StandsFor : MarkValue → Parts → Sight → Type 0
 StandsFor mark parts p = Shown mark parts p
 
--- a mark that says of at most as many entities as there are dropped items, and of a whole pack
+-- a mark that says of a whole pack
 pub record IsMark (mark : MarkValue) : Type 0 where
-  pub few : len mark.told ≤ DROPPED_MAX
   pub pack : IsPack mark.slots Empty
 
 -- ---- what differs from what was shown
@@ -159,7 +170,7 @@ abbrev pub entered_of : Option ViewSet → ViewSet → List Place
 entered_of None view = all_of view
 entered_of (Some old) view = lacking view old
 
--- the dropped items that are to be shown
+-- the entities that are to be shown, of those that may be
 abbrev pub shown_now : List Entity → ViewSet → FinMap int_cmp Seen
 shown_now entities view = from_entries (filter_map seen_of (in_view view entities))
 
@@ -218,7 +229,8 @@ column_packets land mark view =
 
 -- an entity that is shown, told to a client that was told this of it
 abbrev pub packets_of : Told → ℤ × Seen → List Down
-packets_of told e = entity_packets e.0 (option_map told_item (get told e.0)) e.1
+packets_of told e =
+    entity_packets e.0 (option_map (told_as e.1.kind) (get told e.0)) e.1
 
 -- in rising number
 abbrev pub entity_frames : Told → List Entity → ViewSet → List Down

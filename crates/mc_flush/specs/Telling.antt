@@ -1,10 +1,9 @@
--- What a client is told of entities, row by row: a row for each dropped item that is shown.
-use Rattle.std.specs.Prelude.{not, List, [], ◌∷◌, Option, Some, None, if◌then◌else◌}
+-- What a client is told of entities, row by row: a row for each that is shown.
+use Rattle.std.specs.Prelude.{not, List, [], ◌∷◌, map, Option, Some, None, if◌then◌else◌}
 use Rattle.std.specs.List.{filter, flat_map, fold}
 use Rattle.std.specs.FinMap.{contains_key, from_entries, insert, remove}
 use lib.IntN.{ℤ}
 use Rattle.mc_fields.specs.declared.position.Spot.{Spot}
-use Rattle.mc_slots.specs.declared.pile.Item.{Item}
 use Rattle.mc_slots.specs.declared.pile.Pile.{Pile}
 use Rattle.mc_slots.specs.declared.pile.Pile.TheVariants.{Full}
 use Rattle.mc_entities.specs.declared.entity.Entity.{Entity}
@@ -13,43 +12,44 @@ use Rattle.mc_entities.specs.declared.entity.EntityKind.TheVariants.{Player, Dro
 use Rattle.mc_down.specs.declared.down.Down.{Down}
 use Rattle.mc_view.specs.declared.view_set.ViewSet.{ViewSet}
 use Rattle.mc_view.specs.Told.{Told}
+use Rattle.mc_model.specs.declared.seen.SeenKind.TheVariants as seen_kinds
 use Rattle.mc_model.specs.Sight.{Seen}
-use Rattle.mc_flush.specs.Seeing.{is_in, packets_of, shown_now, told_item}
+use Rattle.mc_flush.specs.declared.row.Row.{Row}
+use Rattle.mc_flush.specs.Seeing.{is_in, packets_of, shown_now, told_as}
 
--- what lies there, of a dropped item
-abbrev pub item_in : EntityKind → Option Item
-item_in (Player uuid held) = None
-item_in (Dropped item born) = Some item
-item_in Mob = None
+-- a row of an entity that clients are shown, which no mob is
+abbrev pub row_as : Entity → EntityKind → Option Row
+row_as e (Player uuid held) =
+    Some (record { eid = e.eid; kind = seen_kinds.Player uuid; spot = e.spot; pile = held })
+row_as e (Dropped item born) =
+    Some (record { eid = e.eid; kind = seen_kinds.Item; spot = e.spot; pile = Full item })
+row_as e Mob = None
 
 -- and that stands in a view
-abbrev pub shown_item : ViewSet → Entity → Option Item
-shown_item view e = if is_in view e then item_in e.kind else None
+abbrev pub row_in : ViewSet → Entity → Option Row
+row_in view e = if is_in view e then row_as e e.kind else None
 
--- what is kept of one that is told
-abbrev pub Row : Type 0
-Row = ℤ × (Spot × Pile)
-
-abbrev pub row_of : Entity → Item → Row
-row_of e item = (e.eid, (e.spot, Full item))
-
-abbrev pub rows_as : Entity → Option Item → List Row
-rows_as e None = []
-rows_as e (Some item) = row_of e item ∷ []
+abbrev pub rows_as : Option Row → List Row
+rows_as None = []
+rows_as (Some row) = row ∷ []
 
 abbrev pub rows_of : ViewSet → Entity → List Row
-rows_of view e = rows_as e (shown_item view e)
+rows_of view e = rows_as (row_in view e)
 
 abbrev pub rows_in : ViewSet → List Entity → List Row
 rows_in view entities = flat_map (rows_of view) entities
 
+-- what is kept of a row
+abbrev pub told_row : Row → ℤ × (Spot × Pile)
+told_row row = (row.eid, (row.spot, row.pile))
+
 -- what is told once all of them were told
 abbrev pub told_now : List Entity → ViewSet → Told
-told_now entities view = from_entries (rows_in view entities)
+told_now entities view = from_entries (map told_row (rows_in view entities))
 
 -- with one more, and with more
 abbrev pub with_row : Told → Row → Told
-with_row told row = insert told row.0 row.1
+with_row told row = insert told row.eid (row.spot, row.pile)
 
 abbrev pub with_rows : Told → List Row → Told
 with_rows told rows = fold with_row told rows
@@ -65,7 +65,7 @@ gone_among eids entities view =
 
 -- a row as it is shown, and its packets to a client that was told of some
 abbrev pub seen_row : Row → ℤ × Seen
-seen_row row = (row.0, told_item row.1)
+seen_row row = (row.eid, told_as row.kind (row.spot, row.pile))
 
 abbrev pub row_packets : Told → Row → List Down
 row_packets told row = packets_of told (seen_row row)

@@ -6,6 +6,7 @@ ghost use Rattle.mc_entities.specs.Numbers.{Rise};
 ghost use Rattle.mc_entities.specs.Folk.{eid_of};
 ghost use Rattle.mc_model.specs.Sight.{Sight};
 ghost use Rattle.mc_model.specs.Delta.{delta};
+ghost use Rattle.mc_model.specs.World.{others};
 ghost use Rattle.mc_flush.specs.Sending.{play_bytes};
 ghost use Rattle.mc_flush.specs.Seeing.{StandsFor, IsNamed, IsReady, changes, listed, loaded};
 ghost use Rattle.mc_flush.specs.Seeing.{noted_of, player_packets, present_parts, seen};
@@ -88,10 +89,11 @@ impl ClientView<'_> {
         requires frames { AreFrames self.now.land.now self.now.list.now self.now.encoded.now }
         requires young { self.now.age ≤ 1000000000 }
         ensures sent { OnOk result (joined out.new.items ≡ joined out.old.items ++ play_bytes
-            (changes self.now.land.now self.now.list.now self.now.folk.now.state.entities
+            (changes self.now.land.now self.now.list.now
+            (others self.now.me self.now.folk.now.state.entities)
             self.now.pack.now mark.old self.now.view self.now.age self.now.lines.now)) }
         ensures mark { OnOk result (mark.new ≡ record mark.old {
-          told = told_now self.now.folk.now.state.entities self.now.view;
+          told = told_now (others self.now.me self.now.folk.now.state.entities) self.now.view;
         }) }
         ensures rise { OnOk result (Rise eid_of (pos 0) self.now.folk.now.state.entities
             (pos self.now.folk.now.state.given)) }
@@ -102,7 +104,7 @@ impl ClientView<'_> {
     {
         push_age(alloc, mark, self.age, out)?;
         push_piece(self.players(alloc, mark)?, out)?;
-        let (gone, shown) = mark.tell(alloc, self.folk, &self.view)?;
+        let (gone, shown) = mark.tell(alloc, self)?;
         push_piece(gone, out)?;
         self.push_columns(alloc, mark, out, steps)?;
         push_piece(shown, out)?;
@@ -135,13 +137,15 @@ pub fn flush<L: Ledger>(
     ensures sent { (p : Sight) →
         StandsFor mark.old (settled_parts view.now.land.now view.now.list.now) p →
         OnOk result (joined out.new.items ≡ joined out.old.items ++ play_bytes
-        (delta p (seen view.now.land.now view.now.list.now view.now.folk.now.state.entities
+        (delta p (seen view.now.land.now view.now.list.now
+        (others view.now.me view.now.folk.now.state.entities)
         view.now.pack.now view.now.view view.now.age (p.chat ++ view.now.lines.now))
         ++ noted_of view.now.land.now view.now.view notes.now view.now.place
         view.now.pack.now)) }
     ensures stands { (chat : List (List ℕ)) → OnOk result
         (StandsFor mark.new (present_parts view.now.land.now view.now.list.now)
-        (seen view.now.land.now view.now.list.now view.now.folk.now.state.entities
+        (seen view.now.land.now view.now.list.now
+        (others view.now.me view.now.folk.now.state.entities)
         view.now.pack.now view.now.view view.now.age chat)) }
     ensures opened { OnOk result (mark.new.view ≡ Some view.now.view) }
     ensures nothing { OnErr result (out.new.items ≡ out.old.items) }

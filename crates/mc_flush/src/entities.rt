@@ -1,73 +1,74 @@
 //! What a client is told of all entities at a tick.
 
-ghost use Rattle.std.specs.Prelude.{◌≡◌, ◌≤◌, ◌++◌, ◌∷◌, [], IfOk, OnOk, true};
-ghost use Rattle.std.specs.Int.{w32};
-ghost use Rattle.std.specs.List.{AllByRecursion};
-ghost use Rattle.std.specs.Ordering.{int_cmp};
+ghost use Rattle.std.specs.Prelude.{◌≡◌, ◌≤◌, ◌++◌, ◌∷◌, [], IfOk, OnOk, length};
 ghost use Rattle.std.specs.FinMap as map;
 ghost use lib.IntN.{pos};
-ghost use mir.Val.{SFits};
-ghost use Rattle.mc_entities.specs.declared.entity.TheConstants.{DROPPED_MAX};
+ghost use Rattle.mc_down.specs.declared.down.Down.TheVariants as down;
+ghost use Rattle.mc_entities.specs.Kinds.{IsKind};
 ghost use Rattle.mc_entities.specs.Numbers.{Rise};
 ghost use Rattle.mc_entities.specs.Folk.{eid_of};
 ghost use Rattle.mc_entities.specs.Kept.{AreKinds, Rises};
 ghost use Rattle.mc_model.specs.Delta.{destroying};
-ghost use Rattle.mc_flush.specs.Sending.{AreClear, play_bytes};
+ghost use Rattle.mc_model.specs.World.{others};
+ghost use Rattle.mc_flush.specs.Encoding.{AreMoves};
+ghost use Rattle.mc_flush.specs.Sending.{play_bytes};
 ghost use Rattle.mc_flush.specs.Seeing.{entity_frames, gone_from, shown_now};
 ghost use Rattle.mc_flush.specs.Telling.{gone_among, rows_in, rows_packets, told_now, with_rows};
 ghost use Rattle.mc_flush.specs.Telling.{without_all};
 
-use crate::frames::put_packet;
-use crate::items::{put_entity, shown_item};
+use crate::ClientView;
+use crate::frames::put_made;
+use crate::known::put_row;
+use crate::row::row_in;
 use bytes::Bytes;
 use mc_down::{Down, Varints};
-use mc_entities::{Entity, Folk};
+use mc_entities::Entity;
+use mc_model::DESTROYED_MAX;
 use mc_nbt::NoMemory;
-use mc_view::{Tracker, ViewSet};
+use mc_view::Tracker;
 use std::alloc::Global;
 
-/// Whether the entity of a number is shown in a view.
-fn is_shown(folk: &Folk, view: &ViewSet, eid: &i32) -> bool
-    requires { Rise eid_of (pos 0) folk.now.state.entities (pos folk.now.state.given) }
-    ensures { result ≡ map.contains_key (shown_now folk.now.state.entities view.now) eid.now }
+/// Whether a client is shown the entity of a number.
+fn is_shown(view: &ClientView<'_>, eid: &i32) -> bool
+    requires { Rise eid_of (pos 0) view.now.folk.now.state.entities
+        (pos view.now.folk.now.state.given) }
+    ensures { result ≡ map.contains_key (shown_now
+        (others view.now.me view.now.folk.now.state.entities) view.now.view) eid.now }
 {
-    match folk.get(*eid) {
-        Some(entity) => shown_item(view, entity).is_some(),
+    if *eid == view.me {
+        return false;
+    }
+    match view.folk.get(*eid) {
+        Some(entity) => row_in(&view.view, entity).is_some(),
         None => false,
     }
 }
 
-/// Puts a number at the end, unless its entity is shown in a view.
-fn push_gone(folk: &Folk, view: &ViewSet, eid: &i32, gone: &mut Varints) -> Result<(), NoMemory>
-    requires { Rise eid_of (pos 0) folk.now.state.entities (pos folk.now.state.given) }
-    ensures gone { OnOk result (gone.new
-        ≡ gone.old ++ gone_among (eid.now ∷ []) folk.now.state.entities view.now) }
-    ensures fits { AllByRecursion (SFits w32) gone.old → OnOk result
-        (AllByRecursion (SFits w32) gone.new) }
+/// Puts a number at the end, unless the client is shown its entity.
+fn push_gone(view: &ClientView<'_>, eid: i32, gone: &mut Vec<i32>) -> Result<(), NoMemory>
+    requires { Rise eid_of (pos 0) view.now.folk.now.state.entities
+        (pos view.now.folk.now.state.given) }
+    ensures { OnOk result (gone.new.items ≡ gone.old.items ++ gone_among (eid ∷ [])
+        (others view.now.me view.now.folk.now.state.entities) view.now.view) }
 {
-    if is_shown(folk, view, eid) {
+    if is_shown(view, &eid) {
         return Ok(());
     }
-    gone.push(*eid)
+    gone.push(eid)?;
+    Ok(())
 }
 
 /// The numbers of those that a client was told of and that it is to be shown no more.
-fn gone_from(
-    alloc: Global,
-    folk: &Folk,
-    view: &ViewSet,
-    told: &Tracker,
-) -> Result<Varints, NoMemory>
-    requires rise { Rise eid_of (pos 0) folk.now.state.entities (pos folk.now.state.given) }
-    requires few { map.len told.now ≤ DROPPED_MAX }
-    ensures gone { IfOk result (λ gone. gone
-        ≡ gone_from told.now folk.now.state.entities view.now) }
-    ensures clear { IfOk result (λ gone. AreClear (destroying gone)) }
+fn gone_from(alloc: Global, view: &ClientView<'_>, told: &Tracker) -> Result<Vec<i32>, NoMemory>
+    requires { Rise eid_of (pos 0) view.now.folk.now.state.entities
+        (pos view.now.folk.now.state.given) }
+    ensures { IfOk result (λ gone. gone.items ≡ gone_from told.now
+        (others view.now.me view.now.folk.now.state.entities) view.now.view) }
 {
-    let mut gone = Varints::new(alloc);
+    let mut gone = Vec::new(alloc);
     let mut i = 0;
     while let Some(eid) = told.known(i) {
-        push_gone(folk, view, &eid, &mut gone)?;
+        push_gone(view, eid, &mut gone)?;
         i += 1;
     }
     Ok(gone)
@@ -82,39 +83,87 @@ fn forget(eids: &[i32], told: &mut Tracker)
     }
 }
 
-/// The frame that takes entities away, none about none.
-fn destroy_piece(alloc: Global, gone: Varints) -> Result<Bytes, NoMemory>
-    requires { AreClear (destroying gone) }
-    ensures { IfOk result (λ piece. piece ≡ play_bytes (destroying gone)) }
+/// Numbers as a packet holds them.
+fn numbers_of(alloc: Global, eids: &[i32]) -> Result<Varints, NoMemory>
+    ensures { IfOk result (λ numbers. numbers ≡ eids.now) }
+{
+    let mut numbers = Varints::new(alloc);
+    for eid in eids {
+        numbers.push(*eid)?;
+    }
+    Ok(numbers)
+}
+
+/// Appends the frame that takes entities away.
+fn put_destroy(eids: &[i32], out: &mut Vec<u8>) -> Result<(), NoMemory>
+    requires few { length eids.now ≤ DESTROYED_MAX }
+    ensures { OnOk result (out.new.items
+        ≡ out.old.items ++ play_bytes (down.Destroy eids.now ∷ [])) }
+{
+    let numbers = numbers_of(*out.allocator(), eids)?;
+    put_made(Down::Destroy(numbers), out)
+}
+
+/// Appends the frames that take entities away, each of as many as a packet holds.
+fn put_destroys(eids: &[i32], out: &mut Vec<u8>) -> Result<(), NoMemory>
+    ensures { OnOk result (out.new.items ≡ out.old.items ++ play_bytes (destroying eids.now)) }
+{
+    let mut rest = eids;
+    while !rest.is_empty() {
+        let (part, later) = rest.split_at(rest.len().min(DESTROYED_MAX));
+        put_destroy(part, out)?;
+        rest = later;
+    }
+    Ok(())
+}
+
+/// The frames that take entities away.
+fn destroy_piece(alloc: Global, gone: &[i32]) -> Result<Bytes, NoMemory>
+    ensures { IfOk result (λ piece. piece ≡ play_bytes (destroying gone.now)) }
 {
     let mut bytes = Vec::new(alloc);
-    put_destroy(gone, &mut bytes)?;
+    put_destroys(gone, &mut bytes)?;
     Ok(Bytes::from_vec(bytes)?)
 }
 
-/// Appends the frame that takes entities away, none about none.
-fn put_destroy(gone: Varints, out: &mut Vec<u8>) -> Result<(), NoMemory>
-    requires { AreClear (destroying gone) }
-    ensures { OnOk result (out.new.items ≡ out.old.items ++ play_bytes (destroying gone)) }
+/// Appends what a client is to be told of an entity, and keeps that: nothing of its own, of one that
+/// is not in its view, and of a mob.
+fn put_entity(
+    view: &ClientView<'_>,
+    entity: &Entity,
+    told: &mut Tracker,
+    out: &mut Vec<u8>,
+) -> Result<(), NoMemory>
+    requires kind { IsKind entity.now.kind }
+    requires moves { AreMoves view.now.encoded.now }
+    ensures sent { OnOk result (out.new.items ≡ out.old.items ++ play_bytes (rows_packets told.old
+        (rows_in view.now.view (others view.now.me (entity.now ∷ []))))) }
+    ensures told { OnOk result (told.new ≡ with_rows told.old
+        (rows_in view.now.view (others view.now.me (entity.now ∷ [])))) }
 {
-    if gone.as_slice().is_empty() {
+    if entity.eid == view.me {
         return Ok(());
     }
-    put_packet(&Down::Destroy(gone), out)
+    match row_in(&view.view, entity) {
+        Some(row) => put_row(view.encoded, &row, told, out),
+        None => Ok(()),
+    }
 }
 
-/// Appends what a client is to be told of entities that are shown in its view, and keeps that.
+/// Appends what a client is to be told of entities, and keeps that.
 fn put_entities(
-    view: &ViewSet,
+    view: &ClientView<'_>,
     entities: &[Entity],
     told: &mut Tracker,
     out: &mut Vec<u8>,
 ) -> Result<(), NoMemory>
     requires kinds { AreKinds entities.now }
     requires rise { Rises eid_of entities.now }
-    ensures sent { OnOk result (out.new.items ≡ out.old.items
-        ++ play_bytes (rows_packets told.old (rows_in view.now entities.now))) }
-    ensures told { OnOk result (told.new ≡ with_rows told.old (rows_in view.now entities.now)) }
+    requires moves { AreMoves view.now.encoded.now }
+    ensures sent { OnOk result (out.new.items ≡ out.old.items ++ play_bytes (rows_packets told.old
+        (rows_in view.now.view (others view.now.me entities.now)))) }
+    ensures told { OnOk result (told.new ≡ with_rows told.old
+        (rows_in view.now.view (others view.now.me entities.now))) }
 {
     for entity in entities {
         put_entity(view, entity, told, out)?;
@@ -122,45 +171,47 @@ fn put_entities(
     Ok(())
 }
 
-/// The frames of entities that are shown in a view, to a client that was told of some.
+/// The frames of the entities that a client is to be shown.
 fn shown_piece(
     alloc: Global,
-    view: &ViewSet,
+    view: &ClientView<'_>,
     entities: &[Entity],
     told: &mut Tracker,
 ) -> Result<Bytes, NoMemory>
     requires kinds { AreKinds entities.now }
     requires rise { Rises eid_of entities.now }
-    ensures sent { IfOk result (λ piece. piece
-        ≡ play_bytes (rows_packets told.old (rows_in view.now entities.now))) }
-    ensures told { OnOk result (told.new ≡ with_rows told.old (rows_in view.now entities.now)) }
+    requires moves { AreMoves view.now.encoded.now }
+    ensures sent { IfOk result (λ piece. piece ≡ play_bytes (rows_packets told.old
+        (rows_in view.now.view (others view.now.me entities.now)))) }
+    ensures told { OnOk result (told.new ≡ with_rows told.old
+        (rows_in view.now.view (others view.now.me entities.now))) }
 {
     let mut bytes = Vec::new(alloc);
     put_entities(view, entities, told, &mut bytes)?;
     Ok(Bytes::from_vec(bytes)?)
 }
 
-/// The frame of the entities that a client is to be shown no more, and those of the others, which
+/// The frames of the entities that a client is to be shown no more, and those of the others, which
 /// are then what it was told of.
 pub fn tell(
     alloc: Global,
-    folk: &Folk,
-    view: &ViewSet,
+    view: &ClientView<'_>,
     told: &mut Tracker,
 ) -> Result<(Bytes, Bytes), NoMemory>
-    requires { map.len told.old ≤ DROPPED_MAX }
-    ensures gone { IfOk result (λ pieces. pieces.0 ≡ play_bytes
-        (destroying (gone_from told.old folk.now.state.entities view.now))) }
-    ensures shown { IfOk result (λ pieces. pieces.1 ≡ play_bytes
-        (entity_frames told.old folk.now.state.entities view.now)) }
-    ensures told { OnOk result (told.new ≡ told_now folk.now.state.entities view.now) }
-    ensures few { OnOk result (map.len told.new ≤ DROPPED_MAX) }
-    ensures rise { Rise eid_of (pos 0) folk.now.state.entities (pos folk.now.state.given) }
+    requires { AreMoves view.now.encoded.now }
+    ensures gone { IfOk result (λ pieces. pieces.0 ≡ play_bytes (destroying (gone_from told.old
+        (others view.now.me view.now.folk.now.state.entities) view.now.view))) }
+    ensures shown { IfOk result (λ pieces. pieces.1 ≡ play_bytes (entity_frames told.old
+        (others view.now.me view.now.folk.now.state.entities) view.now.view)) }
+    ensures told { OnOk result (told.new ≡ told_now
+        (others view.now.me view.now.folk.now.state.entities) view.now.view) }
+    ensures rise { Rise eid_of (pos 0) view.now.folk.now.state.entities
+        (pos view.now.folk.now.state.given) }
 {
-    let entities = folk.all();
-    let gone = gone_from(alloc, folk, view, told)?;
+    let entities = view.folk.all();
+    let gone = gone_from(alloc, view, told)?;
     forget(gone.as_slice(), told);
-    let destroyed = destroy_piece(alloc, gone)?;
+    let destroyed = destroy_piece(alloc, gone.as_slice())?;
     let shown = shown_piece(alloc, view, entities, told)?;
     Ok((destroyed, shown))
 }

@@ -20,3 +20,13 @@ pub fn put_packet(packet: &Down, out: &mut Vec<u8>) -> Result<(), NoMemory>
     write_frame(&payload, out)?;
     Ok(())
 }
+
+/// Appends the frame of a packet that was made for it, and lets go of that. Without memory the buffer
+/// is as before.
+pub fn put_made(packet: Down, out: &mut Vec<u8>) -> Result<(), NoMemory>
+    requires { IsClear packet }
+    ensures ok { OnOk result (out.new.items ≡ out.old.items ++ frame_of (of_play packet)) }
+    ensures err { OnErr result (out.new.items ≡ out.old.items) }
+{
+    put_packet(&packet, out)
+}

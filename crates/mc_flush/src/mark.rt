@@ -6,6 +6,8 @@ ghost use Rattle.mc_windows.specs.Pack.{pack_size};
 ghost use Rattle.mc_entities.specs.Numbers.{Rise};
 ghost use Rattle.mc_entities.specs.Folk.{eid_of};
 ghost use Rattle.mc_model.specs.Delta.{destroying, is_told};
+ghost use Rattle.mc_model.specs.World.{others};
+ghost use Rattle.mc_flush.specs.Encoding.{AreMoves};
 ghost use Rattle.mc_view.specs.Sets.{is_within};
 ghost use Rattle.mc_flush.specs.Sending.{play_bytes};
 ghost use Rattle.mc_flush.specs.Seeing.{age_now, beat_now, entity_frames, gone_from, loaded};
@@ -14,9 +16,9 @@ ghost use Rattle.mc_flush.specs.Telling.{told_now};
 
 mod fields;
 
+use crate::ClientView;
 use crate::entities::tell;
 use bytes::Bytes;
-use mc_entities::Folk;
 use mc_model::{beat_at, shown_age};
 use mc_nbt::NoMemory;
 use mc_slots::Pile;
@@ -139,24 +141,27 @@ impl Mark {
         &self.slots
     }
 
-    /// The frame of the entities that are to be shown no more, and those of the others, which are
-    /// then what was told. Without memory nothing was.
+    /// The frames of the entities that a client is to be shown no more, and those of the others, which
+    /// are then what was told. Without memory nothing was.
     pub(crate) fn tell(
         &mut self,
         alloc: Global,
-        folk: &Folk,
-        view: &ViewSet,
+        view: &ClientView<'_>,
     ) -> Result<(Bytes, Bytes), NoMemory>
+        requires { AreMoves view.now.encoded.now }
         ensures gone { IfOk result (λ pieces. pieces.0 ≡ play_bytes
-            (destroying (gone_from self.old.told folk.now.state.entities view.now))) }
+            (destroying (gone_from self.old.told
+            (others view.now.me view.now.folk.now.state.entities) view.now.view))) }
         ensures shown { IfOk result (λ pieces. pieces.1 ≡ play_bytes
-            (entity_frames self.old.told folk.now.state.entities view.now)) }
+            (entity_frames self.old.told
+            (others view.now.me view.now.folk.now.state.entities) view.now.view)) }
         ensures mark { OnOk result (self.new ≡ record self.old {
-          told = told_now folk.now.state.entities view.now;
+          told = told_now (others view.now.me view.now.folk.now.state.entities) view.now.view;
         }) }
-        ensures rise { Rise eid_of (pos 0) folk.now.state.entities (pos folk.now.state.given) }
+        ensures rise { Rise eid_of (pos 0) view.now.folk.now.state.entities
+            (pos view.now.folk.now.state.given) }
     {
-        let pieces = tell(alloc, folk, view, &mut self.told);
+        let pieces = tell(alloc, view, &mut self.told);
         if pieces.is_err() {
             self.told = Tracker::new(alloc);
         }

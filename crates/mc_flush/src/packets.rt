@@ -1,29 +1,52 @@
-//! The packets of dropped items that hold numbers alone. Each can be sent.
+//! The packets of entities that hold numbers alone, but for their metadata. Each can be sent.
 
 ghost use Rattle.std.specs.Prelude.{◌≡◌, None, pos, true};
 ghost use Rattle.mc_down.specs.declared.down.Down.TheVariants as down;
+ghost use Rattle.mc_model.specs.Delta.{no_flags};
 ghost use Rattle.mc_flush.specs.Sending.{IsClear};
 
-use mc_down::Down;
+use mc_down::{Down, Metas};
+use mc_fields::Spot;
 
 /// The kind of an object that is a dropped item.
 const ITEM_KIND: i8 = 2;
 
 /// An object that is a dropped item, and does not move.
-pub fn object(eid: i32, x: i32, y: i32, z: i32, yaw: u8, pitch: u8) -> Down
-    ensures value { result ≡ down.SpawnObject eid (pos 2) x y z pitch yaw (pos 0) None }
+pub fn object(eid: i32, spot: &Spot) -> Down
+    ensures value { result ≡ down.SpawnObject eid (pos 2) spot.now.x spot.now.y spot.now.z
+        spot.now.pitch spot.now.yaw (pos 0) None }
     ensures clear { IsClear result }
 {
     Down::SpawnObject {
         eid,
         kind: ITEM_KIND,
-        x,
-        y,
-        z,
-        pitch,
-        yaw,
+        x: spot.x,
+        y: spot.y,
+        z: spot.z,
+        pitch: spot.pitch,
+        yaw: spot.yaw,
         extra: 0,
         speed: None,
+    }
+}
+
+/// A player, with the id of what it holds, and its flags.
+pub fn player(eid: i32, uuid: u128, spot: &Spot, held: i16, metas: Metas) -> Down
+    requires { metas ≡ no_flags }
+    ensures value { result ≡ down.SpawnPlayer eid uuid spot.now.x spot.now.y spot.now.z
+        spot.now.yaw spot.now.pitch held no_flags }
+    ensures clear { IsClear result }
+{
+    Down::SpawnPlayer {
+        eid,
+        uuid,
+        x: spot.x,
+        y: spot.y,
+        z: spot.z,
+        yaw: spot.yaw,
+        pitch: spot.pitch,
+        item: held,
+        metas,
     }
 }
 

@@ -229,6 +229,7 @@ pub fn prepare(
 {
     let mut encoded = Encoded::new(alloc);
     encoded.add_players(alloc, list.list())?;
+    encoded.add_moves(alloc, folk)?;
     prepare_clients::<Brand>(
         alloc,
         settings,

@@ -82,6 +82,32 @@ impl Tracker {
         Ok(())
     }
 
+    /// Keeps where an entity is and looks now and the pile that it holds or is, and answers what was
+    /// kept of it before; None where it was not known. It looks for the entity once. Out of memory,
+    /// the tracker is as before.
+    pub fn tell(
+        &mut self,
+        eid: i32,
+        spot: Spot,
+        pile: Pile,
+    ) -> Result<Option<(Spot, Pile)>, NoMemory>
+        ensures was { IfOk result (λ was. was ≡ map.get self.old eid) }
+        ensures ok { OnOk result (self.new ≡ map.insert self.old eid (spot, pile)) }
+        ensures err { OnErr result (self.new ≡ self.old) }
+    {
+        match place_of(self.entries.as_slice(), eid) {
+            Ok(at) => {
+                let was = (self.entries[at].spot, self.entries[at].pile);
+                self.entries[at] = Entry { eid, spot, pile };
+                Ok(Some(was))
+            }
+            Err(at) => {
+                self.entries.insert(at, Entry { eid, spot, pile })?;
+                Ok(None)
+            }
+        }
+    }
+
     /// How the client is told that a known entity is and looks there now. Keeps that. It compares
     /// with what was kept and nothing else, so two moves between two calls are told as one. It
     /// takes no memory.
