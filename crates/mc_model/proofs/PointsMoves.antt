@@ -18,8 +18,8 @@ use Rattle.mc_down.specs.declared.meta.MetaValue.TheVariants as values
 use Rattle.mc_model.specs.declared.seen.SeenKind.{SeenKind}
 use Rattle.mc_model.specs.declared.seen.SeenKind.TheVariants as seen_kinds
 use Rattle.mc_model.specs.Sight.{Seen, Sight}
-use Rattle.mc_model.specs.Replica.{Entities, apply, replay, seeing, without_eids, put_at, looking}
-use Rattle.mc_model.specs.Replica.{is_32_bits, wearing, with_metas}
+use Rattle.mc_model.specs.Replica.{Entities, apply, seeing, put_at, looking, is_32_bits, wearing}
+use Rattle.mc_model.specs.Replica.{with_metas}
 use Rattle.mc_model.specs.Replica as replica
 use Rattle.mc_model.specs.Delta.{IsSeen, pile_packet}
 use Rattle.mc_model.specs.Delta.{move_packets, head_packets}
