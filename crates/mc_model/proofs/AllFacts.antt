@@ -1,6 +1,6 @@
 -- What holds of all of a list, of what lists are made of.
 use Rattle.std.proofs.Common.{◌≡◌, ℕ, zero, suc, ◌+◌, ◌<◌, ◌≤◌, Bool, true, false, cond, List, []}
-use Rattle.std.proofs.Common.{◌∷◌, ◌++◌, drop, map, length, Option, Some, None, refl, arith}
+use Rattle.std.proofs.Common.{◌∷◌, ◌++◌, take, drop, map, length, Option, Some, None, refl, arith}
 use Rattle.std.specs.List.{filter, filter_map, cons_option, flat_map, range_with_len}
 use Rattle.std.specs.List.{AllByRecursion}
 
@@ -17,6 +17,13 @@ pub all_dropped : {A : Type 0} (P : A → Type 0) (n : ℕ) (xs : List A) → Al
 all_dropped P zero xs a = a
 all_dropped P (suc n) [] a = tt
 all_dropped P (suc n) (x ∷ xs) a = all_dropped P n xs a.1
+
+-- of some first ones
+pub all_taken : {A : Type 0} (P : A → Type 0) (n : ℕ) (xs : List A) → AllByRecursion P xs →
+    AllByRecursion P (take n xs)
+all_taken P zero xs a = tt
+all_taken P (suc n) [] a = tt
+all_taken P (suc n) (x ∷ xs) a = (a.0, all_taken P n xs a.1)
 
 -- of what is made of each
 pub all_mapped : {A B : Type 0} (P : A → Type 0) (Q : B → Type 0) (f : A → B) →

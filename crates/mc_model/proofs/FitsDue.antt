@@ -4,8 +4,7 @@ use Rattle.std.proofs.Common.{drop, length, Option, Some, None, refl, arith}
 use Rattle.std.specs.Prelude.{not}
 use Rattle.std.specs.Int.{w32, w64}
 use Rattle.std.specs.List.{AllByRecursion}
-use Rattle.std.specs.FinMap.{get, entries, keys, contains_key}
-use Rattle.std.proofs.lemmas.List.{length-map}
+use Rattle.std.specs.FinMap.{get, entries, keys}
 use lib.IntN.{ℤ, pos}
 use mir.Val.{SFits}
 use Rattle.mc_column.specs.Cells.{ColumnValue}
@@ -25,7 +24,7 @@ use Rattle.mc_model.specs.Sight.{Seen, Sight}
 use Rattle.mc_model.specs.Delta.{missing, is_named, leavers_point, joiners_point, destroys_point}
 use Rattle.mc_model.specs.Delta.{unload, unloads_point, load, loads_point, differing}
 use Rattle.mc_model.specs.Delta.{column_changes}
-use Rattle.mc_model.specs.Delta.{cells_point, is_same_slot, item_packet, item_packets}
+use Rattle.mc_model.specs.Delta.{cells_point, is_same_slot, pile_packet, pile_packets}
 use Rattle.mc_model.specs.Delta.{moves_packets, entity_packets, entities_point, slot_packets}
 use Rattle.mc_model.specs.Delta.{pack_point, delta, is_told, beat_packets, beat_point, time_packets}
 use Rattle.mc_model.specs.Delta.{time_point, chat_packet, chat_point}
@@ -43,7 +42,8 @@ use Rattle.mc_model.proofs.FitsList.{PairFits, AreClear, leavers_clear, joiners_
 use Rattle.mc_model.proofs.FitsChunk.{PlaceFits, ColumnFits, near_fits, load_clear, unload_clear}
 use Rattle.mc_model.proofs.FitsSlots.{SlotFits, slot_clear, window_clear}
 use Rattle.mc_model.proofs.FitsCells.{cells_clear, differing_fit, differing_few}
-use Rattle.mc_model.proofs.FitsEntities.{destroy_clear, item_slot_clear, spawn_clear, moves_clear}
+use Rattle.mc_model.proofs.FitsEntities.{destroying_clear, pile_slot_clear, spawn_clear}
+use Rattle.mc_model.proofs.FitsEntities.{moves_clear}
 use Rattle.mc_model.proofs.ThingsFit.{SpotFits}
 pub use Rattle.mc_model.proofs.ThingFacts.{rest_below, spawn_low, spawn_fits}
 use Rattle.mc_model.proofs.FitsSight.{SeenFits, SightFits}
@@ -59,20 +59,12 @@ missing_few p q f = let le = few_filtered (λ (e : ℕ × List ℕ). not (is_nam
 missing_fits : (p q : Sight) → SightFits p → AllByRecursion PairFits (missing p.pairs q.pairs)
 missing_fits p q f = all_filtered PairFits _ (entries p.pairs) f.pairs
 
--- the dropped items that are seen no more
+-- the entities that are seen no more
 destroys_clear : (p q : Sight) → SightFits p → AreClear (destroys_point p q)
 destroys_clear p q f =
-    let le = few_filtered (λ (eid : ℤ). not (contains_key q.entities eid)) (keys p.entities) in
-    destroy_clear _
-    (all_filtered (SFits w32) _ (keys p.entities)
+    destroying_clear _ (all_filtered (SFits w32) _ (keys p.entities)
     (all_mapped SeenFits (SFits w32) (λ (e : ℤ × Seen). e.0) (λ e fits. fits.eid)
     (entries p.entities) f.entities))
-    (omega (
-      arith,
-      le,
-      f.seen,
-      length-map (entries p.entities) (λ (e : ℤ × Seen). e.0),
-    ))
 
 -- the columns that go
 unloads_clear : (p q : Sight) → SightFits p → AreClear (unloads_point p q)
@@ -105,19 +97,19 @@ changes_clear p q f =
     (λ (e : Place × ColumnValue). column_changes e.0 (get p.columns e.0) e.1)
     (λ e fits. column_clear e fits (get p.columns e.0)) (entries q.columns) f.columns
 
--- the dropped items that come or change
+-- the entities that come or change
 entity_clear : (e : ℤ × Seen) → SeenFits e → (old : Option Seen) →
     AreClear (entity_packets e.0 old e.1)
-entity_clear e f None = spawn_clear e.0 e.1 f.eid f.spot f.item
+entity_clear e f None = spawn_clear e.0 e.1.kind e.1.spot e.1.pile f.eid f.kind f.spot f.pile
 entity_clear e f (Some old) =
     all_joined (λ (packet : Down). IsClear for_play (of_play packet))
     (moves_packets e.0 e.1.spot (moves_of old.spot e.1.spot))
-    (item_packets e.0 old.item e.1.item)
-    (moves_clear e.0 old.spot e.1.spot f.eid f.spot) (lying (is_same_slot old.item e.1.item))
+    (pile_packets e.0 e.1.kind old.pile e.1.pile)
+    (moves_clear e.0 old.spot e.1.spot f.eid f.spot) (tells (is_same_slot old.pile e.1.pile))
   where
-    lying : (same : Bool) → AreClear (cond same [] (item_packet e.0 e.1.item ∷ []))
-    lying true = tt
-    lying false = (item_slot_clear e.0 e.1.item f.eid f.item, tt)
+    tells : (same : Bool) → AreClear (cond same [] (pile_packet e.0 e.1.kind e.1.pile ∷ []))
+    tells true = tt
+    tells false = (pile_slot_clear e.0 e.1.kind e.1.pile f.eid f.pile, tt)
 
 -- each of them
 entities_clear : (p q : Sight) → SightFits q → AreClear (entities_point p q)

@@ -3,7 +3,7 @@ use Rattle.std.proofs.Common.{◌≡◌, ℕ, zero, suc, ◌+◌, ◌*◌, ◌<�
 use Rattle.std.proofs.Common.{[], ◌∷◌, map, length, Option, Some, refl, sym, subst, ap, ◌∙◌, arith}
 use Rattle.std.specs.Prelude.{unsigned_abs, replicate}
 use Rattle.std.specs.Int.{w32, w64, int_div_euclid}
-use Rattle.std.specs.List.{filter, filter_map, cons_option, range_with_len, AllByRecursion}
+use Rattle.std.specs.List.{filter_map, range_with_len, AllByRecursion}
 use Rattle.std.specs.Option.{unwrap_or}
 use Rattle.std.specs.declared.cmp.Ordering.{Ordering}
 use Rattle.std.specs.declared.cmp.Ordering.TheVariants.{Less, Equal, Greater}
@@ -21,30 +21,33 @@ use mir.Val.{SFits}
 use Rattle.mc_land.specs.Places.{Place, place_cmp}
 use Rattle.mc_land.proofs.Orders.{places_total, exact_places}
 use Rattle.mc_slots.specs.declared.slot.Slot.TheVariants as slots
+use Rattle.mc_slots.specs.declared.pile.Pile.{Pile}
 use Rattle.mc_slots.specs.declared.pile.Pile.TheVariants.{Empty, Full}
-use Rattle.mc_slots.specs.Pile.{slot_of}
+use Rattle.mc_slots.specs.Pile.{IsPile, slot_of}
 use Rattle.mc_windows.specs.Pack.{pack_size}
 use Rattle.mc_entities.specs.declared.entity.Entity.{Entity}
 use Rattle.mc_entities.specs.declared.entity.EntityKind.{EntityKind}
 use Rattle.mc_entities.specs.declared.entity.EntityKind.TheVariants as kinds
-use Rattle.mc_entities.specs.Kinds.{IsKind, is_dropped}
-use Rattle.mc_entities.specs.Folk.{dropped_in}
+use Rattle.mc_entities.specs.Kinds.{IsKind}
 use Rattle.mc_view.specs.Views.{run_of, view_of, column_of_spot, view_size}
 use Rattle.mc_model.specs.declared.ticks.TheConstants.{AGE_MAX}
+use Rattle.mc_model.specs.declared.seen.SeenKind.{SeenKind}
+use Rattle.mc_model.specs.declared.seen.SeenKind.TheVariants as seen_kinds
 use Rattle.mc_model.specs.Sight.{Seen, Sight, nothing_seen}
 use Rattle.mc_model.specs.World.{World, Player, players, column_in, spot_of, pack_of, view_in}
-use Rattle.mc_model.specs.World.{heard_by, is_in_sight, seen_as, seen_of, project}
-pub use Rattle.mc_model.proofs.AllFacts.{all_joined, all_mapped, all_filtered, few_filtered}
+use Rattle.mc_model.specs.World.{heard_by, seen_as, seen_of, project}
+pub use Rattle.mc_model.proofs.AllFacts.{all_joined, all_mapped, all_filtered}
 use Rattle.mc_model.proofs.AllFacts.{all_flat, all_range, all_chosen}
 pub use Rattle.mc_model.proofs.ThingsFit.{SpotFits}
-use Rattle.mc_model.proofs.ThingsFit.{EntityFits, ThingsFit}
+use Rattle.mc_model.proofs.ThingsFit.{KindIsNamed, EntityFits, ThingsFit}
 use Rattle.mc_model.proofs.ThingFacts.{spot_fits, pack_fits}
-use Rattle.mc_model.proofs.Projections.{column_sizes, column_small}
+use Rattle.mc_model.proofs.Projections.{column_sizes, column_small, in_sight, in_sight_fit}
 use Rattle.mc_model.proofs.FitsBeats.{ToldFits, beat_fits, shown_age_fits}
 use Rattle.mc_model.proofs.FitsChat.{LineFits}
 use Rattle.mc_model.proofs.FitsList.{PairFits}
 use Rattle.mc_model.proofs.FitsChunk.{IsNear, ColumnFits}
 use Rattle.mc_model.proofs.FitsSlots.{SlotFits, pile_slot_fits, piles_fit}
+use Rattle.mc_model.proofs.FitsEntities.{KindFits}
 
 -- ---- the entries of a map that was made of a list
 
@@ -142,13 +145,14 @@ pub size_few : (cap : ℕ) (byte : ℤ) → cap ≤ 8 → view_size cap byte ≤
 size_few cap (pos n) few = omega (arith, few)
 size_few cap (negsuc n) few = omega arith
 
--- ---- dropped items that are seen
+-- ---- entities that are seen
 
--- a dropped item that packets can carry
+-- an entity that packets can carry
 pub record SeenFits (e : ℤ × Seen) : Type 0 where
   pub eid : SFits w32 e.0
+  pub kind : KindFits e.1.kind
   pub spot : SpotFits e.1.spot
-  pub item : SlotFits e.1.item
+  pub pile : SlotFits e.1.pile
 
 -- numbers of entities fit 32 bits
 eid_fits : (eid : ℤ) → pos 1 ≤ℤ eid → eid ≤ℤ pos 2147483647 → SFits w32 eid
@@ -156,46 +160,30 @@ eid_fits (pos n) low high = record { sfits = omega (arith, ints, high) }
 eid_fits (negsuc n) low high = absurd (omega (arith, ints, low))
 
 -- an entity that fits is seen as such
-seen_fits : (e : Entity) (kind : EntityKind) → EntityFits e → IsKind kind → (row : ℤ × Seen) →
-    seen_as e kind ≡ Some row → SeenFits row
-seen_fits e (kinds.Player uuid held) fits is row found = absurd cc
-seen_fits e kinds.Mob fits is row found = absurd cc
-seen_fits e (kinds.Dropped item born) fits is row found =
-    let shown : ℤ × Seen =
-    (e.eid, record { spot = e.spot; head = e.spot.yaw; item = slot_of (Full item) }) in
-    let fit : SeenFits (
+seen_fits : (e : Entity) (kind : EntityKind) → EntityFits e → IsKind kind → KindIsNamed kind →
+    (row : ℤ × Seen) → seen_as e kind ≡ Some row → SeenFits row
+seen_fits e kind fits is named row found = cases kind is named found
+  where
+    fit : (kind : SeenKind) (pile : Pile) → KindFits kind → IsPile pile → SeenFits (
       e.eid,
-      record {
-        spot = e.spot;
-        head = e.spot.yaw;
-        item = slot_of (Full item);
-      },
-    ) = record {
+      record { kind = kind; spot = e.spot; head = e.spot.yaw; pile = slot_of pile },
+    )
+    fit kind pile in_128 is = record {
       eid = eid_fits e.eid fits.low fits.high;
+      kind = in_128;
       spot = fits.spot;
-      item = pile_slot_fits (Full item) is;
-    } in
-    subst SeenFits (ap (λ (o : Option (ℤ × Seen)). unwrap_or o row) found) fit
+      pile = pile_slot_fits pile is;
+    }
 
--- the same number of dropped items, and one that is seen or not
-seen_step : (e : Entity) (kind : EntityKind) (rows : List (ℤ × Seen)) (drops : List Entity) →
-    length rows ≤ length drops →
-    (length (cons_option (seen_as e kind) rows)
-    ≤ length (cond (is_dropped kind) (e ∷ drops) drops))
-    × (length rows ≤ length (cond (is_dropped kind) (e ∷ drops) drops))
-seen_step e (kinds.Player uuid held) rows drops le = (le, le)
-seen_step e kinds.Mob rows drops le = (le, le)
-seen_step e (kinds.Dropped item born) rows drops le = (omega (arith, le), omega (arith, le))
-
--- no more are seen than there are dropped items
-seen_few : (test : Entity → Bool) (es : List Entity) →
-    length (filter_map seen_of (filter test es)) ≤ dropped_in es
-seen_few test [] = omega arith
-seen_few test (e ∷ es) =
-    let le = seen_step e e.kind (filter_map seen_of (filter test es))
-    (filter (λ (x : Entity). is_dropped x.kind) es) (seen_few test es) in
-    elim (test e) as (λ t. length (filter_map seen_of (cond t (e ∷ filter test es)
-    (filter test es))) ≤ dropped_in (e ∷ es)) [ true ↦ le.0 | false ↦ le.1 ]
+    cases : (kind : EntityKind) → IsKind kind → KindIsNamed kind → seen_as e kind ≡ Some row →
+        SeenFits row
+    cases (kinds.Player uuid held) is named found =
+        subst SeenFits (ap (λ (o : Option (ℤ × Seen)). unwrap_or o row) found)
+        (fit (seen_kinds.Player uuid) held named is)
+    cases (kinds.Dropped item born) is named found =
+        subst SeenFits (ap (λ (o : Option (ℤ × Seen)). unwrap_or o row) found)
+        (fit seen_kinds.Item (Full item) tt is)
+    cases kinds.Mob is named found = absurd cc
 
 -- ---- sights
 
@@ -205,7 +193,6 @@ pub record SightFits (p : Sight) : Type 0 where
   pub few : length (entries p.pairs) ≤ 50
   pub columns : AllByRecursion ColumnFits (entries p.columns)
   pub entities : AllByRecursion SeenFits (entries p.entities)
-  pub seen : length (entries p.entities) ≤ 4210
   pub pack : AllByRecursion SlotFits p.pack
   pub slots : length p.pack ≡ pack_size
   pub beat : ToldFits w32 p.beat
@@ -224,7 +211,6 @@ nothing_fits = record {
   few = few_shown {X = List ℕ} nat_cmp nat_cmp_total 50 [] (omega arith);
   columns = all_entries place_cmp places_total exact_places ColumnFits [] tt;
   entities = all_entries int_cmp int_cmp_total int_cmp-IsAntisymmetric SeenFits [] tt;
-  seen = few_shown {X = Seen} int_cmp int_cmp_total 4210 [] (omega arith);
   pack = empty_fit pack_size;
   slots = refl;
   beat = tt;
@@ -270,15 +256,10 @@ project_fits w p named few near young heard fits =
           })
           (view_in w p) places);
       entities = all_entries int_cmp int_cmp_total int_cmp-IsAntisymmetric SeenFits
-          (filter_map seen_of (filter (is_in_sight w p) w.things.entities))
+          (filter_map seen_of (in_sight w p))
           (all_chosen EntityFits SeenFits seen_of
-          (λ x row fits found. seen_fits x x.kind fits fits.kind row found)
-          (filter (is_in_sight w p) w.things.entities)
-          (all_filtered EntityFits (is_in_sight w p) w.things.entities fits.entities));
-      seen = few_shown int_cmp int_cmp_total 4210
-          (filter_map seen_of (filter (is_in_sight w p) w.things.entities))
-          (let le = seen_few (is_in_sight w p) w.things.entities in
-          omega (arith, le, fits.dropped));
+          (λ x row fits found. seen_fits x x.kind fits fits.kind fits.named row found)
+          (in_sight w p) (in_sight_fit w p fits));
       pack = piles_fit (pack_of w p).slots pack.are_piles;
       slots = length-map (pack_of w p).slots slot_of ∙ pack.size;
       beat = beat_fits w.age young;

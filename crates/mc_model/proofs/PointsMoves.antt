@@ -14,11 +14,14 @@ use Rattle.mc_view.specs.declared.forms.Form.TheVariants as forms
 use Rattle.mc_view.specs.Forms.{are_bytes, are_zero, form_of, is_turned, moves_of}
 use Rattle.mc_down.specs.declared.down.Down.TheVariants.{Step, Look, StepLook}
 use Rattle.mc_down.specs.declared.down.Down.TheVariants.{Teleport, HeadLook}
+use Rattle.mc_down.specs.declared.meta.MetaValue.TheVariants as values
+use Rattle.mc_model.specs.declared.seen.SeenKind.{SeenKind}
+use Rattle.mc_model.specs.declared.seen.SeenKind.TheVariants as seen_kinds
 use Rattle.mc_model.specs.Sight.{Seen, Sight}
-use Rattle.mc_model.specs.Replica.{Entities, apply, replay, seeing, without_eids, put_at, looking}
-use Rattle.mc_model.specs.Replica.{is_32_bits}
+use Rattle.mc_model.specs.Replica.{Entities, apply, seeing, put_at, looking, is_32_bits, wearing}
+use Rattle.mc_model.specs.Replica.{with_metas}
 use Rattle.mc_model.specs.Replica as replica
-use Rattle.mc_model.specs.Delta.{IsSeen, item_packet}
+use Rattle.mc_model.specs.Delta.{IsSeen, pile_packet}
 use Rattle.mc_model.specs.Delta.{move_packets, head_packets}
 use Rattle.mc_model.proofs.FitsText.{both_true}
 use Rattle.mc_model.proofs.Maps.{altered_put}
@@ -80,13 +83,23 @@ head_leads s m k head e = record {
   is = put_altered s m k e (λ (e : Seen). record e { head = head });
 }
 
--- with something else lying there
-pub item_leads : (s : Sight) (m : Entities) (k : ℤ) (item : Slot) (e : Seen) →
-    Leads (with_seen s m k e) (item_packet k item ∷ []) (with_seen s m k (record e { item = item }))
+-- with another pile: a player that holds it, or a dropped item that is it
+pub pile_leads : (s : Sight) (m : Entities) (k : ℤ) (pile : Slot) (e : Seen) →
+    Leads (with_seen s m k e) (pile_packet k e.kind pile ∷ [])
+    (with_seen s m k (record e { pile = pile }))
 unfolding apply
-item_leads s m k item e = record {
-  is = put_altered s m k e (λ (e : Seen). record e { item = item });
-}
+pile_leads s m k pile e = cases e.kind
+  where
+    cases : (kind : SeenKind) →
+        Leads (with_seen s m k (record e { kind = kind })) (pile_packet k kind pile ∷ [])
+        (with_seen s m k (record e { kind = kind; pile = pile }))
+    cases (seen_kinds.Player uuid) = record {
+      is = put_altered s m k (record e { kind = seen_kinds.Player uuid }) (wearing (pos 0) pile);
+    }
+    cases seen_kinds.Item = record {
+      is = put_altered s m k (record e { kind = seen_kinds.Item })
+          (with_metas (record { index = 10; value = values.Slot pile } ∷ []));
+    }
 
 -- ---- where it is
 

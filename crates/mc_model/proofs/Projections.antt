@@ -1,5 +1,5 @@
--- What a projection shows: each column as it is in the world, with all its cells, dropped items and
--- a pack that packets can tell. Two projections of one terrain follow one another.
+-- What a projection shows: each column as it is in the world, with all its cells, entities and a
+-- pack that packets can tell. Two projections of one terrain follow one another.
 use Rattle.std.proofs.Common.{◌≡◌, ℕ, ◌<◌, ◌≤◌, T, Bool, true, false, cond, List, [], ◌∷◌, ◌++◌}
 use Rattle.std.proofs.Common.{map, length, Option, Some, None, is_some, refl, sym, ap, subst, ◌∙◌}
 use Rattle.std.proofs.Common.{arith}
@@ -29,11 +29,13 @@ use Rattle.mc_windows.specs.Pack.{pack_size}
 use Rattle.mc_entities.specs.declared.entity.Entity.{Entity}
 use Rattle.mc_entities.specs.declared.entity.EntityKind.{EntityKind}
 use Rattle.mc_entities.specs.declared.entity.EntityKind.TheVariants as kinds
+use Rattle.mc_model.specs.declared.seen.SeenKind.{SeenKind}
+use Rattle.mc_model.specs.declared.seen.SeenKind.TheVariants as seen_kinds
 use Rattle.mc_model.specs.Sight.{Seen, nothing_seen}
 use Rattle.mc_model.specs.Replica.{is_32_bits}
 use Rattle.mc_model.specs.Delta.{IsSeen, IsTold, Follows}
 use Rattle.mc_model.specs.World.{World, Player, pack_of, column_in, view_in, is_in_sight, seen_as}
-use Rattle.mc_model.specs.World.{heard_by, seen_of, project}
+use Rattle.mc_model.specs.World.{heard_by, others, seen_of, project}
 use Rattle.mc_model.proofs.AllFacts.{all_filtered, all_chosen}
 use Rattle.mc_model.proofs.ThingsFit.{EntityFits, ThingsFit}
 use Rattle.mc_model.proofs.ThingFacts.{pack_fits, state_small}
@@ -93,7 +95,7 @@ project_states : (w : World) (p : Player) → ThingsFit w.things → (place : Pl
 project_states w p fits place column found =
     rw (projected_column w p place column found) (column_small w place fits)
 
--- ---- the dropped items of a projection
+-- ---- the entities of a projection
 
 -- what holds of the values of all entries holds of one that is found
 found_holds : {K X : Type 0} (R : K → K → Ordering) (P : X → Type 0) (q : K) (es : List (K × X))
@@ -129,31 +131,47 @@ in_32_bits (negsuc n) small =
 -- an entity that fits is seen where packets can tell it
 seen_told : (e : Entity) (kind : EntityKind) → EntityFits e → (row : ℤ × Seen) →
     seen_as e kind ≡ Some row → IsSeen row.1
-seen_told e (kinds.Player uuid held) fits row found = absurd cc
-seen_told e kinds.Mob fits row found = absurd cc
-seen_told e (kinds.Dropped item born) fits row found =
-    let told : IsSeen (record { spot = e.spot; head = e.spot.yaw; item = slot_of (Full item) }) =
-    record {
+seen_told e kind fits row found = cases kind found
+  where
+    told : (kind : SeenKind) (pile : Slot) →
+        IsSeen (record { kind = kind; spot = e.spot; head = e.spot.yaw; pile = pile })
+    told kind pile = record {
       head = refl;
       x = in_32_bits e.spot.x fits.spot.x;
       y = in_32_bits e.spot.y (omega (arith, fits.spot.y));
       z = in_32_bits e.spot.z fits.spot.z;
-    } in
-    subst IsSeen (ap (λ (o : Option (ℤ × Seen)). (unwrap_or o row).1) found) told
+    }
 
--- each that is shown is one
+    cases : (kind : EntityKind) → seen_as e kind ≡ Some row → IsSeen row.1
+    cases (kinds.Player uuid held) found =
+        subst IsSeen (ap (λ (o : Option (ℤ × Seen)). (unwrap_or o row).1) found)
+        (told (seen_kinds.Player uuid) (slot_of held))
+    cases (kinds.Dropped item born) found =
+        subst IsSeen (ap (λ (o : Option (ℤ × Seen)). (unwrap_or o row).1) found)
+        (told seen_kinds.Item (slot_of (Full item)))
+    cases kinds.Mob found = absurd cc
+
+-- the entities that a player sees
+abbrev pub in_sight : World → Player → List Entity
+in_sight w p = filter (is_in_sight w p) (others (pos p.eid) w.things.entities)
+
+-- they fit
+pub in_sight_fit : (w : World) (p : Player) → ThingsFit w.things →
+    AllByRecursion EntityFits (in_sight w p)
+in_sight_fit w p fits =
+    all_filtered EntityFits (is_in_sight w p) (others (pos p.eid) w.things.entities)
+    (all_filtered EntityFits _ w.things.entities fits.entities)
+
+-- so each that is shown is where packets can tell it
 project_seen : (w : World) (p : Player) → ThingsFit w.things → (eid : ℤ) (e : Seen) →
     get (project w p).entities eid ≡ Some e → IsSeen e
 unfolding project
 project_seen w p fits eid e found =
-    found_holds int_cmp IsSeen eid
-    (filter_map seen_of (filter (is_in_sight w p) w.things.entities)) e
+    found_holds int_cmp IsSeen eid (filter_map seen_of (in_sight w p)) e
     (all_chosen EntityFits (λ (row : ℤ × Seen). IsSeen row.1) seen_of
     (λ x row fits found. seen_told x x.kind fits row found)
-    (filter (is_in_sight w p) w.things.entities)
-    (all_filtered EntityFits (is_in_sight w p) w.things.entities fits.entities))
-    (sym (get-from_entries int_cmp_total
-    (filter_map seen_of (filter (is_in_sight w p) w.things.entities)) eid) ∙ found)
+    (in_sight w p) (in_sight_fit w p fits))
+    (sym (get-from_entries int_cmp_total (filter_map seen_of (in_sight w p)) eid) ∙ found)
 
 -- ---- the pack of a projection
 
@@ -208,17 +226,21 @@ pub projected_chat : (w : World) (p : Player) → (project w p).chat ≡ heard_b
 unfolding project
 projected_chat w p = refl
 
--- projections of worlds with one terrain follow one another, where what was said stays
+-- projections of worlds with one terrain follow one another, where kinds and what was said stay
 pub project_follows : (w v : World) (p q : Player) → w.terrain ≡ v.terrain → ThingsFit w.things →
-    ThingsFit v.things → (more : List (List ℕ)) → heard_by v q ≡ heard_by w p ++ more →
+    ThingsFit v.things →
+    ((eid : ℤ) (old new : Seen) → get (project w p).entities eid ≡ Some old →
+    get (project v q).entities eid ≡ Some new → old.kind ≡ new.kind) →
+    (more : List (List ℕ)) → heard_by v q ≡ heard_by w p ++ more →
     Follows (project w p) (project v q)
-project_follows w v p q terrain before after more heard = record {
+project_follows w v p q terrain before after kinds more heard = record {
   old = project_told w p before;
   new = project_told v q after;
   biomes = λ place old new was is.
       ap (λ (c : ColumnValue). c.biomes) (projected_column w p place old was)
       ∙ ap (λ (land : Terrain). biomes_of land place) terrain
       ∙ sym (ap (λ (c : ColumnValue). c.biomes) (projected_column v q place new is));
+  kinds = kinds;
   beat = project_beat v q;
   age = project_age v q;
   chat = (
@@ -236,6 +258,8 @@ nothing_follows v q fits = record {
   new = project_told v q fits;
   biomes = λ place old new was is. let none : get nothing_seen.columns place ≡ None =
       get-empty place_cmp place in absurd cc;
+  kinds = λ eid old new was is. let none : get nothing_seen.entities eid ≡ None =
+      get-empty int_cmp eid in absurd cc;
   beat = project_beat v q;
   age = project_age v q;
   chat = ((project v q).chat, refl);

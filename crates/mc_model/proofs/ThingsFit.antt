@@ -1,5 +1,5 @@
 -- What is in a world so that packets can tell it.
-use Rattle.std.proofs.Common.{◌≡◌, ℕ, ◌<◌, ◌≤◌}
+use Rattle.std.proofs.Common.{◌≡◌, ℕ, ◌^◌, ◌<◌, ◌≤◌}
 use Rattle.std.specs.Prelude.{◌⊎◌, List, Some, unsigned_abs}
 use Rattle.std.specs.List.{AllByRecursion}
 use Rattle.std.specs.FinMap.{get}
@@ -9,6 +9,8 @@ use Rattle.mc_fields.specs.declared.position.Spot.{Spot}
 use Rattle.mc_land.specs.Places.{Key}
 use Rattle.mc_windows.specs.Pack.{PackValue, IsPack}
 use Rattle.mc_entities.specs.declared.entity.Entity.{Entity}
+use Rattle.mc_entities.specs.declared.entity.EntityKind.{EntityKind}
+use Rattle.mc_entities.specs.declared.entity.EntityKind.TheVariants as kinds
 use Rattle.mc_entities.specs.Kinds.{IsKind}
 use Rattle.mc_entities.specs.Folk.{dropped_in}
 use Rattle.mc_model.specs.Things.{Things}
@@ -21,12 +23,19 @@ pub record SpotFits (spot : Spot) : Type 0 where
   pub yaw : spot.yaw < 256
   pub pitch : spot.pitch < 256
 
+-- a player's identifier has 128 bits
+abbrev pub KindIsNamed : EntityKind → Type 0
+KindIsNamed (kinds.Player uuid held) = uuid < 2 ^ 128
+KindIsNamed (kinds.Dropped item born) = Unit {0}
+KindIsNamed kinds.Mob = Unit {0}
+
 -- an entity of a number that was given, with what the world holds
 pub record EntityFits (e : Entity) : Type 0 where
   pub low : pos 1 ≤ℤ e.eid
   pub high : e.eid ≤ℤ pos 2147483647
   pub spot : SpotFits e.spot
   pub kind : IsKind e.kind
+  pub named : KindIsNamed e.kind
 
 -- a pack, whoever carries it
 abbrev pub PackFits : List ℕ × PackValue → Type 0
