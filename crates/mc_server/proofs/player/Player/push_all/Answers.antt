@@ -8,6 +8,7 @@ use Rattle.mc_fields.specs.declared.position.Spot.{Spot}
 use Rattle.mc_view.specs.Views.{column_of_spot}
 use Rattle.mc_model.specs.Delta.{delta}
 use Rattle.mc_model.specs.Step.{opening_of}
+use Rattle.mc_model.specs.World.{others}
 use Rattle.mc_flush.specs.Lists.{ListValue}
 use Rattle.mc_flush.specs.Sending.{play_bytes}
 use Rattle.mc_flush.specs.Seeing.{IsReady, StandsFor, is_shown, seen, settled_parts}
@@ -42,14 +43,16 @@ returns-clause-sent c = λ seen_before stands.
     let stood = subst (λ (list : ListValue). StandsFor mark (settled_parts s.land.now list)
     seen_before) (sym lists) stands in
     let lines = c.new_lines.result.now in
-    let shown : seen s.land.now c.list.result.now s.folk.now.state.entities
+    let shown : seen s.land.now c.list.result.now (others c.own_number.result s.folk.now.state.entities)
     c.pack_of-pack.result c.view.result s.age (seen_before.chat ++ lines)
     ≡ shown_now parts seen_before.chat p =
-    ap (λ (list : ListValue). seen s.land.now list s.folk.now.state.entities
-    c.pack_of-pack.result c.view.result s.age (seen_before.chat ++ lines)) lists
-    ∙ seen_is parts p c.view.result c.pack_of-pack.result middle c.view.ensures.d
+    ap (λ (list : ListValue). seen s.land.now list
+    (others c.own_number.result s.folk.now.state.entities) c.pack_of-pack.result c.view.result s.age (seen_before.chat ++ lines)) lists
+    ∙ seen_is parts p c.own_number.result c.view.result c.pack_of-pack.result
+    c.own_number.ensures middle c.view.ensures.d
     c.pack_of-pack.ensures seen_before.chat lines c.new_lines.ensures in
-    let noted = noted_is parts p c.view.result c.pack_of-pack.result middle c.view.ensures.d
+    let noted = noted_is parts p c.own_number.result c.view.result c.pack_of-pack.result
+    c.own_number.ensures middle c.view.ensures.d
     c.pack_of-pack.ensures c.spot_of-spot.result spot in
     sent_all (joined c.args.out.now.items) (joined c.push_opening.new.out.items)
     (joined c.push_changes.new.out.items) (opening_packets parts (is_shown mark) p)
@@ -68,7 +71,8 @@ returns-clause-shows c = λ chat.
     let middle : ◌≡◌ {A = Place} (c.view.result.cx, c.view.result.cz)
     (column_of_spot (spot_now parts p)) =
     c.view.ensures.middle ∙ ap column_of_spot c.spot_of-spot.ensures.is in
-    stands_now parts p c.view.result c.pack_of-pack.result middle c.view.ensures.d
+    stands_now parts p c.own_number.result c.view.result c.pack_of-pack.result
+    c.own_number.ensures middle c.view.ensures.d
     c.pack_of-pack.ensures c.push_changes.new.mark c.list.result.now chat c.new_lines.result.now
     c.list.ensures.is c.new_lines.ensures
     (c.in_ok-push_changes.ensures.stands (chat ++ c.new_lines.result.now))
