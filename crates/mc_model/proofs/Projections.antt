@@ -210,15 +210,19 @@ projected_chat w p = refl
 
 -- projections of worlds with one terrain follow one another, where what was said stays
 pub project_follows : (w v : World) (p q : Player) → w.terrain ≡ v.terrain → ThingsFit w.things →
-    ThingsFit v.things → (more : List (List ℕ)) → heard_by v q ≡ heard_by w p ++ more →
+    ThingsFit v.things →
+    ((eid : ℤ) (old new : Seen) → get (project w p).entities eid ≡ Some old →
+    get (project v q).entities eid ≡ Some new → old.kind ≡ new.kind) →
+    (more : List (List ℕ)) → heard_by v q ≡ heard_by w p ++ more →
     Follows (project w p) (project v q)
-project_follows w v p q terrain before after more heard = record {
+project_follows w v p q terrain before after kinds_same more heard = record {
   old = project_told w p before;
   new = project_told v q after;
   biomes = λ place old new was is.
       ap (λ (c : ColumnValue). c.biomes) (projected_column w p place old was)
       ∙ ap (λ (land : Terrain). biomes_of land place) terrain
       ∙ sym (ap (λ (c : ColumnValue). c.biomes) (projected_column v q place new is));
+  kinds = kinds_same;
   beat = project_beat v q;
   age = project_age v q;
   chat = (
@@ -236,6 +240,8 @@ nothing_follows v q fits = record {
   new = project_told v q fits;
   biomes = λ place old new was is. let none : get nothing_seen.columns place ≡ None =
       get-empty place_cmp place in absurd cc;
+  kinds = λ eid old new was is. let none : get nothing_seen.entities eid ≡ None =
+      get-empty int_cmp eid in absurd cc;
   beat = project_beat v q;
   age = project_age v q;
   chat = ((project v q).chat, refl);
