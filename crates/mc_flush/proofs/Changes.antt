@@ -5,7 +5,6 @@ use Rattle.std.specs.Prelude.{unsigned_abs}
 use Rattle.std.specs.List.{AllByRecursion, Contains, filter}
 use Rattle.std.specs.Ordering.{nat_cmp}
 use Rattle.std.specs.FinMap.{empty, entries, len, len-entries, len-empty, get}
-use Rattle.std.specs.FinSet as set
 use Rattle.std.proofs.lemmas.List.{append-nil, nil_from_length}
 use Rattle.std.proofs.lemmas.List.Elements.{Contains-append_right}
 use Rattle.std.proofs.lemmas.Grind.{flat_map-append}
@@ -14,7 +13,6 @@ use lib.IntN.{ℤ, pos, negsuc, ◌-ℤ◌}
 use lib.Signed.{◌≤ℤ◌}
 use Rattle.mc_frame.specs.Kept.{joined}
 use Rattle.mc_land.specs.Places.{Place, IsPlace}
-use Rattle.mc_land.specs.Land.{LandValue}
 use Rattle.mc_down.specs.declared.down.Down.{Down}
 use Rattle.mc_view.proofs.Near.{near_both}
 use Rattle.mc_model.specs.Delta.{Pairs, missing, is_named, leaver, joiner, about}
@@ -23,7 +21,7 @@ use Rattle.mc_view.specs.declared.view_set.ViewSet.{ViewSet}
 use Rattle.mc_view.specs.Sets.{has, all_of, lacking}
 use Rattle.mc_flush.specs.Lists.{ListValue}
 use Rattle.mc_flush.specs.Sending.{play_bytes}
-use Rattle.mc_flush.specs.Seeing.{MarkValue, IsNamed, IsReady, entered_of, loaded, player_packets}
+use Rattle.mc_flush.specs.Seeing.{MarkValue, IsNamed, entered_of, loaded, player_packets}
 use Rattle.mc_flush.specs.Encoding.{player_bytes}
 use Rattle.mc_flush.proofs.Pieces.{few_filtered, all_filtered, play_bytes-append}
 
@@ -81,11 +79,6 @@ piece_pushed old new piece put =
     ap joined put ∙ flat_map-append (λ (p : List ℕ). p) old (piece ∷ [])
     ∙ ap (λ (t : List ℕ). joined old ++ t) (append-nil piece)
 
--- a buffer that began empty, as one piece
-pub buffer_pushed : (old new piece b0 b1 bytes : List ℕ) → b0 ≡ [] → b1 ≡ b0 ++ bytes → piece ≡ b1 →
-    new ≡ old ++ piece → new ≡ old ++ bytes
-buffer_pushed old new piece b0 b1 bytes none put is pushed = pushed ∙ rw (is, put, none) refl
-
 -- all of a tick, behind what was there: what differs, the cells that were noted, and all else
 pub tick_put : (old new p0 p1 p2 p3 : List (List ℕ)) (cs ds ns ms : List Down) → p0 ≡ [] →
     joined p1 ≡ joined p0 ++ play_bytes cs → joined p2 ≡ joined p1 ++ play_bytes ns →
@@ -138,14 +131,6 @@ pub view_places : (view : ViewSet) → IsMiddle view → AllByRecursion IsPlace 
 view_places view m = all_of_list IsPlace (all_of view) (λ place held. place_near view place m
     (view_near (view.cx, view.cz) view.d place held))
 
--- and may be looked at where they are ready
-pub view_ready : (land : LandValue) (view : ViewSet) → IsMiddle view → ((place : Place) →
-    has view place ≡ true → set.contains land.ready place ≡ true) →
-    AllByRecursion (IsReady land) (all_of view)
-view_ready land view m ready = all_of_list (IsReady land) (all_of view) (λ place held.
-    let near = view_near (view.cx, view.cz) view.d place held in
-    record { near = place_near view place m near; ready = ready place near })
-
 -- what holds of all columns of a view holds of those that another lacks
 pub lacking_holds : (P : Place → Type 0) (view other : ViewSet) → AllByRecursion P (all_of view) →
     AllByRecursion P (lacking view other)
@@ -157,11 +142,6 @@ entered_holds : (P : Place → Type 0) (was : Option ViewSet) (view : ViewSet) �
     AllByRecursion P (all_of view) → AllByRecursion P (entered_of was view)
 entered_holds P None view all = all
 entered_holds P (Some old) view all = lacking_holds P view old all
-
--- where all columns of a view are ready, those are that are loaded
-pub loaded_ready : (land : LandValue) (mark : MarkValue) (view : ViewSet) →
-    AllByRecursion (IsReady land) (all_of view) → AllByRecursion (IsReady land) (loaded mark view)
-loaded_ready land mark view all = entered_holds (IsReady land) mark.view view all
 
 -- what is loaded lies in the world
 pub loaded_places : (mark : MarkValue) (view : ViewSet) → IsMiddle view →

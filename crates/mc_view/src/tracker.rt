@@ -1,4 +1,4 @@
-ghost use Rattle.std.specs.Prelude.{◌≡◌, ◌↔◌, IfOk, IfErr, IfSome, IsFalse, OnOk, OnErr};
+ghost use Rattle.std.specs.Prelude.{◌≡◌, ◌<◌, ◌↔◌, IfOk, IfErr, IfSome, IsFalse, OnOk, OnErr};
 ghost use Rattle.std.specs.Prelude.{true, false, slice_get};
 ghost use Rattle.std.specs.FinMap as map;
 ghost use Rattle.mc_view.specs.Forms.{moves_of};
@@ -60,9 +60,10 @@ impl Tracker {
     }
 
     /// The number of a known entity that has `i` known ones below it; None where `i` or fewer are
-    /// known.
+    /// known. Where there is one, the next can be asked for.
     pub fn known(&self, i: usize) -> Option<i32>
-        ensures { result ≡ slice_get (map.keys self.now) i }
+        ensures eid { result ≡ slice_get (map.keys self.now) i }
+        ensures next { IfSome result (λ _. i < 18446744073709551615) }
     {
         if i >= self.entries.len() {
             return None;

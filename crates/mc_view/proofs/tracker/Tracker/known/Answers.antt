@@ -6,14 +6,14 @@ use Rattle.mc_view.specs.declared.tracker.Entry.{Entry}
 use Rattle.mc_view.proofs.TrackerFacts.{told_key, told_no_key}
 use Rattle.mc_view.proofs.tracker.Tracker.known.Goals as goal
 
-pub returns-then-i-len : goal.returns-then-i-len
-returns-then-i-len c =
+pub returns-then-i-len-clause-eid : goal.returns-then-i-len-clause-eid
+returns-then-i-len-clause-eid c =
     let es = c.self.inside.entries.items in
     let past : length es ≤ c.args.i = search rules in
     rw (← c.self.view_is) (sym (told_no_key es c.args.i c.self.invariant past))
 
-pub returns : goal.returns
-returns c =
+pub returns-clause-eid : goal.returns-clause-eid
+returns-clause-eid c =
     let es = c.self.inside.entries.items in
     let entry = c.index.result.now in
     let fits : FitsSigned w32 entry.eid = search rules in
