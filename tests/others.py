@@ -8,7 +8,7 @@ that another is due for, and a head or a hand that is not where it is due.
 from typing import NamedTuple
 from uuid import UUID
 
-from clientbound import Equipment, HeadLook, Look, SpawnPlayer, Step, StepLook, Teleport
+from clientbound import Equipment, HeadLook
 from columns import column_at
 from protocol import Malformed, Stack
 

@@ -14,10 +14,11 @@ import digging
 import endings
 import faults
 import play
+import seeing
 import talking
 
 TESTS = [*play.TESTS, *talking.TESTS, *digging.TESTS, *carrying.TESTS, *faults.TESTS]
-TESTS += [*crowds.TESTS, *endings.TESTS]
+TESTS += [*seeing.TESTS, *crowds.TESTS, *endings.TESTS]
 
 
 def run_test(test, path):
