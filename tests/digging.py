@@ -189,27 +189,33 @@ def items_come_and_go_with_the_view(path):
 
 def items_find_no_room(path):
     """Where 4,096 items lie nothing is dug or dropped; blocks are placed all the same."""
-    dug = []
     with Program(path) as program:
         anna = log_in(program.port, "Anna")
-        for x, z in STANDS:
-            cells = reach_of(x, z)
-            here = cells[: MOST_ITEMS - len(dug)]
-            anna.send(protocol.position(x + 0.5, 4.0, z + 0.5) + b"".join(map(dig, here)))
-            dug += here
-        is_full = pump([anna], lambda: len(anna.replica.items) == MOST_ITEMS, 6 * PATIENCE)
-        expect(is_full, f"{len(anna.replica.items)} items lie")
+        dug = dig_until_full(anna)
         settle([anna])
         anna.forget_news()
-        expect_no_room(anna, cells[-1])
+        left = reach_of(*STANDS[-1])[-1]
+        expect_no_room(anna, left)
         ben = log_in(program.port, "Ben", [anna])
         expect(ben.replica.items == anna.replica.items, "the two see other items")
-        above = {at_face(cells[-1], UP): STONE_STATE}
+        above = {at_face(left, UP): STONE_STATE}
         for client in (anna, ben):
             client.check_blocks(Changed(Flat(), dict.fromkeys(dug, AIR) | above))
         walk([anna, ben], ben, 500.5)
         due = [Destroy(list(range(1, 2 + MOST_ITEMS)))]
         expect(ben.news() == due, f"{len(ben.news())} packets for a walk away from all items")
+
+
+def dig_until_full(client):
+    """Let a client dig as many cells as items find room; answer them."""
+    dug = []
+    for x, z in STANDS:
+        here = reach_of(x, z)[: MOST_ITEMS - len(dug)]
+        client.send(protocol.position(x + 0.5, 4.0, z + 0.5) + b"".join(map(dig, here)))
+        dug += here
+    is_full = pump([client], lambda: len(client.replica.items) == MOST_ITEMS, 6 * PATIENCE)
+    expect(is_full, f"{len(client.replica.items)} items lie")
+    return dug
 
 
 def reach_of(x, z):
