@@ -1,5 +1,5 @@
-//! A walk: three clients of a server move and look about by the rows of a table, and at each tick
-//! each of them is compared, as it was told by its packets, with where the rows last put the others.
+//! A walk: three clients of a server move and look about by the rows of a table. At each tick what
+//! each was told of the others is compared with where the rows last put these.
 //!
 //! It has no contract of its own: it prints how many rows were played and by which packets they
 //! were told, or the first row behind which a client was told something else.
@@ -13,7 +13,7 @@ mod walk;
 mod walker;
 mod words;
 
-use fault::{Fault, Stop};
+use fault::Stop;
 use std::alloc::Global;
 use std::io;
 use std::io::{BufWriter, Write};
@@ -26,8 +26,7 @@ fn play(alloc: Global, table: &str) -> Result<Tally, Stop> {
     let mut walk = Walk::new(alloc).map_err(|fault| Stop { number, fault })?;
     for row in table.trim_end_matches('\n').split('\n') {
         number = number.saturating_add(1);
-        let played: Result<(), Fault> = walk.play(row);
-        if let Err(fault) = played {
+        if let Err(fault) = walk.play(row) {
             return Err(Stop { number, fault });
         }
     }

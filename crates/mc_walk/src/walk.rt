@@ -40,6 +40,14 @@ fn new_walkers(alloc: Global, server: &mut Server) -> Result<Vec<Walker>, NoMemo
     Ok(walkers)
 }
 
+/// A tick comes.
+fn tick(server: &mut Server) -> Result<(), NoMemory> {
+    if server.age() >= 1_000_000_000 {
+        return Err(NoMemory);
+    }
+    server.event(Input::Tick)
+}
+
 impl Walk {
     /// A walk that begins.
     pub fn new(alloc: Global) -> Result<Walk, Fault> {
@@ -88,10 +96,7 @@ impl Walk {
 
     /// A tick comes; each client reads what it is sent, and is compared with the others.
     fn tick(&mut self) -> Result<(), Fault> {
-        if self.server.age() >= 1_000_000_000 {
-            return Err(Fault::NoMemory);
-        }
-        self.server.event(Input::Tick)?;
+        tick(&mut self.server)?;
         count(&mut self.tally.ticks);
         for walker in self.walkers.iter_mut() {
             walker.read(&mut self.server, &mut self.tally)?;
@@ -111,7 +116,7 @@ impl Walk {
     fn compare(&self, walker: &Walker) -> Result<(), Fault> {
         for other in self.walkers.iter() {
             if other.number != walker.number {
-                walker.compare(other.number as i32, &other.spot)?;
+                walker.compare(other.eid, &other.spot)?;
             }
         }
         Ok(())

@@ -11,8 +11,8 @@ use mc_nbt::NoMemory;
 use mc_server::{Input, Server};
 use std::alloc::Global;
 
-/// The handshake of a client that wants to play, and what stands before the last letter of its name,
-/// which has ten, in its login.
+/// The handshake of a client that wants to play, and its login up to the last letter of its name,
+/// which has ten.
 const LOGIN: &[u8] = b"\x0f\x00\x2f\x09localhost\x63\xdd\x02\x0c\x00\x0aWalker_00";
 
 /// An answer to a beat, with a length.
@@ -34,8 +34,9 @@ const MOST: u32 = 100_000;
 #[derive(Drop)]
 pub struct Walker {
     alloc: Global,
-    /// The number of its connection and of its entity.
+    /// The number of its connection, and of its entity, which is the same.
     pub number: u32,
+    pub eid: i32,
     /// Where it said last that it is, and how it looks.
     pub spot: Spot,
     pub others: Others,
@@ -47,7 +48,7 @@ pub struct Walker {
 }
 
 impl Walker {
-    /// A client that connects and logs in. Its number is from 1 to 9, and that of its entity too.
+    /// A client that connects and logs in. It is the first of this number, from 1 to 9.
     pub fn new(alloc: Global, server: &mut Server, number: u32) -> Result<Walker, NoMemory> {
         let mut login = Vec::new(alloc);
         login.extend_from_slice(LOGIN)?;
@@ -57,6 +58,7 @@ impl Walker {
         Ok(Walker {
             alloc,
             number,
+            eid: i32::try_from(number).unwrap_or(0),
             spot: ENTRY,
             others: Others::new(alloc, number),
             splitter: Splitter::new(alloc),
