@@ -106,9 +106,9 @@ pub sound_step : (w : World) (e : Event) → Sound w → Sound (step w e).world
 sound_step w e o = record {
   orderly = orderly_step w e o.orderly;
   each = λ k. each_step IsSound sound_kept k w [] e o.orderly.apart
-      (λ s p. tick_sound w s p) (λ none new. joining_sound w k) (o.each k);
+      (λ is s p. tick_sound w s p) (λ none new. joining_sound w k) (o.each k);
   plays = λ k. each_step (λ s ps. HasPlayer s) has_kept k w [] e o.orderly.apart
-      (has_ticked w) (λ none new. joining_has w k) (o.plays k);
+      (λ is. has_ticked w) (λ none new. joining_has w k) (o.plays k);
 }
 
 pub sound_history : (events : List Event) (w : World) → Sound w → Sound (history w events)
@@ -173,7 +173,7 @@ pub shut_stays : (k : ℕ) (w : World) (s : Session) (e : Event) → Sound w →
     found k w.sessions ≡ Some s → s.stage ≡ stages.Closed →
     (t : Session) → found k (step w e).world.sessions ≡ Some t → IsShut s t (to k (step w e).out)
 shut_stays k w s e o there closed = each_step (IsShut s) (shut_kept s) k w [] e o.orderly.apart
-    (λ r p. tick_shut w s r [] p)
+    (λ is r p. tick_shut w s r [] p)
     (λ none new. absurd (some_none s _ there none))
     (λ r here. subst (λ (v : Session). IsShut s v []) (one_some s r _ there here)
     (record { stage = closed; cause = refl; nothing = refl; has = o.plays k s there }))

@@ -15,6 +15,7 @@ use Rattle.mc_model.specs.declared.stage.Stage.TheVariants as stages
 use Rattle.mc_model.specs.Sight.{Sight, nothing_seen}
 use Rattle.mc_model.specs.Replica.{Replica, new_replica, apply, replay, seeing}
 use Rattle.mc_model.specs.Delta.{Follows}
+use Rattle.mc_model.specs.Things.{Things}
 use Rattle.mc_model.specs.World.{World, Session, Player, new_world, found, is_play, is_closed}
 use Rattle.mc_model.specs.World.{last_shown, heard_by, project}
 use Rattle.mc_model.specs.Beats.{awaiting}
@@ -36,9 +37,11 @@ use Rattle.mc_model.proofs.Handing.{hand_cases, flush_cases}
 use Rattle.mc_model.proofs.AllHanded.{found_handed}
 use Rattle.mc_model.proofs.Frames.{IsKept}
 use Rattle.mc_model.proofs.RunEvents.{beat_id, orderly_step, terrain_step, old_step}
-use Rattle.mc_model.proofs.ThingsFit.{ThingsFit}
+use Rattle.mc_model.proofs.KindsSeen.{kinds_stay}
+use Rattle.mc_model.proofs.Lasting.{GivenKinds}
+use Rattle.mc_model.proofs.ThingsFit.{ThingsFit, kinds_in, Lasts}
 use Rattle.mc_model.proofs.ThingsKept.{new_things_fit}
-use Rattle.mc_model.proofs.ThingsRun.{handed_fit, things_step}
+use Rattle.mc_model.proofs.ThingsRun.{drawn_things, drawn_last, after_drawn, lasts_now, things_step}
 use Rattle.mc_model.proofs.RunOrder.{orderly_new}
 use Rattle.mc_model.proofs.RunTurns.{after_tick, tick_found, tick_cases, same_view, no_out, away}
 use Rattle.mc_model.proofs.RunTurns.{joins, arrives, each_step}
@@ -60,20 +63,35 @@ accepted_played uuid name = refl
 
 -- ---- what a client was shown
 
--- a sight that was that of some player, in a world of this terrain whose things fit
-pub record Drawn (land : Terrain) (seen : Sight) : Type 0 where
+-- a sight that was that of some player, in a world of this terrain whose things fit and last to now
+pub record Drawn (land : Terrain) (now_things : Things) (seen : Sight) : Type 0 where
   pub world : World
   pub player : Player
   pub terrain : world.terrain ≡ land
   pub things : ThingsFit world.things
+  pub last : Lasts (kinds_in world.things things) now_things
   pub is : seen ≡ project world player
 
-abbrev pub IsDrawn : Terrain → Option Sight → Type 0
-IsDrawn land None = Unit {0}
-IsDrawn land (Some seen) = Drawn land seen
+abbrev pub IsDrawn : Terrain → Things → Option Sight → Type 0
+IsDrawn land things None = Unit {0}
+IsDrawn land things (Some seen) = Drawn land things seen
+
+-- and where these last, to later ones
+drawn_later : (land : Terrain) (now_things later : Things) →
+    ((old : GivenKinds) → Lasts old now_things → Lasts old later) → (shown : Option Sight) →
+    IsDrawn land now_things shown → IsDrawn land later shown
+drawn_later land now_things later onward None d = tt
+drawn_later land now_things later onward (Some seen) d = record {
+  world = d.world;
+  player = d.player;
+  terrain = d.terrain;
+  things = d.things;
+  last = onward (kinds_in d.world.things d.things) d.last;
+  is = d.is;
+}
 
 drawn_follows : (land : Terrain) (w : World) (p : Player) (shown : Option Sight) →
-    w.terrain ≡ land → ThingsFit w.things → IsDrawn land shown →
+    w.terrain ≡ land → ThingsFit w.things → IsDrawn land w.things shown →
     p.chat ≡ (unwrap_or shown nothing_seen).chat →
     Follows (unwrap_or shown nothing_seen) (project w p)
 drawn_follows land w p None terrain things d said = nothing_follows w p things
@@ -82,25 +100,39 @@ drawn_follows land w p (Some seen) terrain things d said =
     said ∙ ap (λ (q : Sight). q.chat) d.is ∙ projected_chat d.world d.player in
     subst (λ (q : Sight). Follows q (project w p)) (sym d.is)
     (project_follows d.world w d.player p (d.terrain ∙ sym terrain) d.things things
+    (kinds_stay d.world w d.player p d.things d.last)
     (drop p.since w.lines) (ap (λ (chat : List (List ℕ)). chat ++ drop p.since w.lines) before))
 
 -- the packets that were handed to a connection show its player what it was shown last, which is
 -- all that was said before that; before it plays there are none
-pub record IsShown (land : Terrain) (s : Session) (ps : List Sent) : Type 0 where
+pub record IsShown (land : Terrain) (now_things : Things) (s : Session) (ps : List Sent) : Type 0
+    where
   pub has : HasPlayer s
   pub playing : (p : Player) → s.player ≡ Some p →
       replay new_replica (played ps) ≡ seeing (last_shown p)
   pub chat : (p : Player) → s.player ≡ Some p → p.chat ≡ (last_shown p).chat
-  pub drawn : (p : Player) → s.player ≡ Some p → IsDrawn land p.shown
+  pub drawn : (p : Player) → s.player ≡ Some p → IsDrawn land now_things p.shown
   pub waiting : is_play s.stage ≡ false → is_closed s.stage ≡ false → played ps ≡ []
 
+-- where things last, so it is of later ones
+shown_later : (land : Terrain) (now_things later : Things) (s : Session) (ps : List Sent) →
+    ((old : GivenKinds) → Lasts old now_things → Lasts old later) →
+    IsShown land now_things s ps → IsShown land later s ps
+shown_later land now_things later s ps onward h = record {
+  has = h.has;
+  playing = h.playing;
+  chat = h.chat;
+  drawn = λ p there. drawn_later land now_things later onward p.shown (h.drawn p there);
+  waiting = h.waiting;
+}
+
 -- where its player was shown nothing more, and no packet of play was handed to it
-shown_stayed : (land : Terrain) (s t : Session) (ps qs : List Sent) → Done s t qs →
-    shown_in t ≡ shown_in s → played qs ≡ [] →
+shown_stayed : (land : Terrain) (now_things : Things) (s t : Session) (ps qs : List Sent) →
+    Done s t qs → shown_in t ≡ shown_in s → played qs ≡ [] →
     (is_play t.stage ≡ false → is_closed t.stage ≡ false →
     (is_play s.stage ≡ false) × (is_closed s.stage ≡ false)) →
-    IsShown land s ps → IsShown land t (ps ++ qs)
-shown_stayed land s t ps qs done shown none was h = record {
+    IsShown land now_things s ps → IsShown land now_things t (ps ++ qs)
+shown_stayed land now_things s t ps qs done shown none was h = record {
   has = has_done s t qs done h.has;
   playing = λ q there.
       let before = shown_from s t q shown there in
@@ -112,7 +144,7 @@ shown_stayed land s t ps qs done shown none was h = record {
       ∙ ap (λ (o : Option Sight). (unwrap_or o nothing_seen).chat) (sym before.2);
   drawn = λ q there.
       let before = shown_from s t q shown there in
-      subst (IsDrawn land) (sym before.2) (h.drawn before.0 before.1);
+      subst (IsDrawn land now_things) (sym before.2) (h.drawn before.0 before.1);
   waiting = λ waits open_. let before = was waits open_ in
       played_more ps qs none ∙ h.waiting before.0 before.1;
 }
@@ -120,11 +152,11 @@ shown_stayed land s t ps qs done shown none was h = record {
 same_player : (s t : Session) → t.player ≡ s.player → shown_in t ≡ shown_in s
 same_player s t same = ap (option_map shown_said) same
 
-shown_enters : (land : Terrain) (s t : Session) (p : Player) (ps qs : List Sent) → Done s t qs →
-    s.stage ≡ stages.Login → t.stage ≡ stages.Play → t.player ≡ Some p → p.shown ≡ None →
-    p.chat ≡ [] → played qs ≡ [] →
-    IsShown land s ps → IsShown land t (ps ++ qs)
-shown_enters land s t p ps qs done from into there shown said none h = record {
+shown_enters : (land : Terrain) (now_things : Things) (s t : Session) (p : Player)
+    (ps qs : List Sent) → Done s t qs → s.stage ≡ stages.Login → t.stage ≡ stages.Play →
+    t.player ≡ Some p → p.shown ≡ None → p.chat ≡ [] → played qs ≡ [] →
+    IsShown land now_things s ps → IsShown land now_things t (ps ++ qs)
+shown_enters land now_things s t p ps qs done from into there shown said none h = record {
   has = has_done s t qs done h.has;
   playing = λ q here.
       ap (replay new_replica) (played_more ps qs none
@@ -132,7 +164,7 @@ shown_enters land s t p ps qs done from into there shown said none h = record {
       ∙ ap (λ (o : Option Sight). seeing (unwrap_or o nothing_seen)) (sym (unseen q here));
   chat = λ q here. unsaid q here
       ∙ ap (λ (o : Option Sight). (unwrap_or o nothing_seen).chat) (sym (unseen q here));
-  drawn = λ q here. subst (IsDrawn land) (sym (unseen q here)) tt;
+  drawn = λ q here. subst (IsDrawn land now_things) (sym (unseen q here)) tt;
   waiting = λ waits. absurd (not_both (is_play t.stage) (ap is_play into) waits);
 }
   where
@@ -142,9 +174,9 @@ shown_enters land s t p ps qs done from into there shown said none h = record {
     unsaid : (q : Player) → t.player ≡ Some q → q.chat ≡ []
     unsaid q here = subst (λ (v : Player). v.chat ≡ []) (one_some p q t.player there here) said
 
-shown_shut : (land : Terrain) (t : Session) (ps : List Sent) → t.stage ≡ stages.Closed →
-    t.player ≡ None → IsShown land t ps
-shown_shut land t ps closed gone = record {
+shown_shut : (land : Terrain) (now_things : Things) (t : Session) (ps : List Sent) →
+    t.stage ≡ stages.Closed → t.player ≡ None → IsShown land now_things t ps
+shown_shut land now_things t ps closed gone = record {
   has = ap is_play closed ∙ sym (ap (λ (o : Option Player). is_some o) gone);
   playing = λ q there. absurd (some_none q t.player there gone);
   chat = λ q there. absurd (some_none q t.player there gone);
@@ -152,34 +184,32 @@ shown_shut land t ps closed gone = record {
   waiting = λ waits open_. absurd (not_both (is_closed t.stage) (ap is_closed closed) open_);
 }
 
-pub shown_kept : (land : Terrain) → IsKept (IsShown land)
-shown_kept land s t ps qs (stayed stage shown cause none) h =
-    shown_stayed land s t ps qs (stayed stage shown cause none) shown (ap played none)
+pub shown_kept : (land : Terrain) (now_things : Things) → IsKept (IsShown land now_things)
+shown_kept land now_things s t ps qs (stayed stage shown cause none) h =
+    shown_stayed land now_things s t ps qs (stayed stage shown cause none) shown (ap played none)
     (λ waits open_. (ap is_play (sym stage) ∙ waits, ap is_closed (sym stage) ∙ open_)) h
-shown_kept land s t ps qs (answered from stage same cause none) h =
-    shown_stayed land s t ps qs (answered from stage same cause none) (same_player s t same) none
-    (λ waits open_. (ap is_play from, ap is_closed from)) h
-shown_kept land s t ps qs (greeted from waits open_ same cause none) h =
-    shown_stayed land s t ps qs (greeted from waits open_ same cause none) (same_player s t same)
-    (ap played none) (λ _ _. (ap is_play from, ap is_closed from)) h
-shown_kept land s t ps qs (entered p from into there shown said cause told) h =
-    shown_enters land s t p ps qs (entered p from into there shown said cause told) from into there
-    shown said (ap played told ∙ accepted_played (offline_uuid p.name) p.name) h
-shown_kept land s t ps qs (shut_for why open_ closed gone cause last) h =
-    shown_shut land t (ps ++ qs) closed gone
+shown_kept land now_things s t ps qs (answered from stage same cause none) h =
+    shown_stayed land now_things s t ps qs (answered from stage same cause none)
+    (same_player s t same) none (λ waits open_. (ap is_play from, ap is_closed from)) h
+shown_kept land now_things s t ps qs (greeted from waits open_ same cause none) h =
+    shown_stayed land now_things s t ps qs (greeted from waits open_ same cause none)
+    (same_player s t same) (ap played none) (λ _ _. (ap is_play from, ap is_closed from)) h
+shown_kept land now_things s t ps qs (entered p from into there shown said cause told) h =
+    shown_enters land now_things s t p ps qs (entered p from into there shown said cause told)
+    from into there shown said (ap played told ∙ accepted_played (offline_uuid p.name) p.name) h
+shown_kept land now_things s t ps qs (shut_for why open_ closed gone cause last) h =
+    shown_shut land now_things t (ps ++ qs) closed gone
 
 -- ---- a tick
 
 tick_keeps_shown : (land : Terrain) (w : World) (s : Session) (ps : List Sent) →
-    w.terrain ≡ land → ThingsFit (at_tick w).things → IsShown land s ps →
-    IsShown land (after_tick w s).session (ps ++ (after_tick w s).handed)
+    w.terrain ≡ land → ThingsFit (at_tick w).things → IsShown land (at_tick w).things s ps →
+    IsShown land (at_tick w).things (after_tick w s).session (ps ++ (after_tick w s).handed)
 tick_keeps_shown land w s ps terrain things h =
-    tick_cases w s (λ (h : Handing). IsShown land h.session (ps ++ h.handed))
-    (λ none. subst (IsShown land s) (sym (append-nil ps)) h)
+    tick_cases w s Shows (λ none. subst (IsShown land (at_tick w).things s) (sym (append-nil ps)) h)
     (λ p there quiet. hand_cases (mark_closed s causes.Silent) (farewell s.stage causes.Silent)
-    (λ (h : Handing). IsShown land h.session (ps ++ h.handed))
-    (λ fits. shown_shut land _ (ps ++ farewell s.stage causes.Silent) refl refl)
-    (λ much. shown_shut land _ (ps ++ []) refl refl))
+    Shows (λ fits. shown_shut land (at_tick w).things _ (ps ++ farewell s.stage causes.Silent) refl
+    refl) (λ much. shown_shut land (at_tick w).things _ (ps ++ []) refl refl))
     (λ p there speaks fits. record {
       has = h.has ∙ ap (λ (o : Option Player). is_some o) there;
       playing = λ q now. subst (λ (v : Player). replay new_replica
@@ -188,19 +218,23 @@ tick_keeps_shown land w s ps terrain things h =
       chat = λ q now. subst (λ (v : Player). v.chat ≡ (last_shown v).chat)
           (one_some (then_ p) q _ refl now)
           (sym (projected_chat (at_tick w) (awaiting (aged w) p)));
-      drawn = λ q now. subst (λ (v : Player). IsDrawn land v.shown)
+      drawn = λ q now. subst (λ (v : Player). IsDrawn land (at_tick w).things v.shown)
           (one_some (then_ p) q _ refl now) (record {
             world = at_tick w;
             player = awaiting (aged w) p;
             terrain = terrain;
             things = things;
+            last = lasts_now (at_tick w).things things;
             is = refl;
           });
       waiting = λ waits. absurd (not_both (is_play s.stage) (h.has
           ∙ ap (λ (o : Option Player). is_some o) there) waits);
     })
-    (λ p there speaks much. shown_shut land _ (ps ++ []) refl refl)
+    (λ p there speaks much. shown_shut land (at_tick w).things _ (ps ++ []) refl refl)
   where
+    Shows : Handing → Type 0
+    Shows h = IsShown land (at_tick w).things h.session (ps ++ h.handed)
+
     then_ : Player → Player
     then_ p = showing (at_tick w) (awaiting (aged w) p)
 
@@ -238,13 +272,14 @@ pub record Runs (land : Terrain) (k : ℕ) (w : World) (ps : List Sent) : Type 0
   pub terrain : w.terrain ≡ land
   pub things : ThingsFit w.things
   pub nobody : is_new k w.last ≡ true → ps ≡ []
-  pub each : (s : Session) → found k w.sessions ≡ Some s → IsShown land s ps
+  pub each : (s : Session) → found k w.sessions ≡ Some s → IsShown land w.things s ps
 
-shown_joining : (land : Terrain) (w : World) (k : ℕ) → IsShown land (joining w k) []
-shown_joining land w k = elim (is_crowded w) as
-    (λ b.
-    IsShown land (if b then mark_closed (new_session k) causes.Crowded else new_session k) []) [
-      | true ↦ shown_shut land (mark_closed (new_session k) causes.Crowded) [] refl refl
+shown_joining : (land : Terrain) (now_things : Things) (w : World) (k : ℕ) →
+    IsShown land now_things (joining w k) []
+shown_joining land now_things w k = elim (is_crowded w) as
+    (λ b. IsShown land now_things
+    (if b then mark_closed (new_session k) causes.Crowded else new_session k) []) [
+      | true ↦ shown_shut land now_things (mark_closed (new_session k) causes.Crowded) [] refl refl
       | false ↦ record {
         has = refl;
         playing = λ q there. absurd (some_none q None there refl);
@@ -269,10 +304,18 @@ runs_step land k w ps e r = record {
             (no_out k w e (r.orderly.fresh k was))
         | false ↦ λ old. absurd (not_both (is_new k (step w e).world.last) new (old_step k w e old))
       ] refl;
-  each = each_step (IsShown land) (shown_kept land) k w ps e r.orderly.apart
-      (λ s h. tick_keeps_shown land w s ps r.terrain (handed_fit beat (aged w) r.things) h)
-      (λ none new. subst (IsShown land (joining w k)) (sym (nothing_more ps [] (r.nobody new) refl))
-      (shown_joining land w k)) r.each;
+  each = λ s there. shown_later land (drawn_things w e) (step w e).world.things s _
+      (λ old t. after_drawn w e t) (each_step (IsShown land (drawn_things w e))
+      (shown_kept land (drawn_things w e)) k w ps e r.orderly.apart
+      (λ is s h. subst (λ (e : Event). IsShown land (drawn_things w e) (after_tick w s).session
+      (ps ++ (after_tick w s).handed)) (sym is)
+      (tick_keeps_shown land w s ps r.terrain
+      (drawn_last w ticked (lasts_now w.things r.things)).fits
+      (subst (λ (e : Event). IsShown land (drawn_things w e) s ps) is h)))
+      (λ none new. subst (IsShown land (drawn_things w e) (joining w k))
+      (sym (nothing_more ps [] (r.nobody new) refl)) (shown_joining land (drawn_things w e) w k))
+      (λ s there. shown_later land w.things (drawn_things w e) s ps
+      (λ old t. drawn_last w e t) (r.each s there)) s there);
 }
 
 pub runs : (land : Terrain) (k : ℕ) (events : List Event) (w : World) (ps : List Sent) →

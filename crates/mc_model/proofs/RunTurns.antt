@@ -357,7 +357,8 @@ is_tick other = inr (λ same. absurd cc)
 pub each_step : (P : Session → List Sent →
     Type 0) (kept : IsKept P) (k : ℕ) (w : World) (ps : List Sent) (e : Event) →
     AreApart w.sessions →
-    ((s : Session) → P s ps → P (after_tick w s).session (ps ++ (after_tick w s).handed)) →
+    (e ≡ ticked → (s : Session) → P s ps →
+    P (after_tick w s).session (ps ++ (after_tick w s).handed)) →
     (found k w.sessions ≡ None → is_new k w.last ≡ true → P (joining w k) (ps ++ [])) →
     ((s : Session) → found k w.sessions ≡ Some s → P s ps) →
     (t : Session) → found k (step w e).world.sessions ≡ Some t → P t (ps ++ to k (step w e).out)
@@ -378,7 +379,7 @@ each_step P kept k w ps e apart ticks joining_ each t there =
             subst (λ (v : Session). P v (ps ++ to k (step w ticked).out))
             (one_some _ t _ (tick_found k w s here) there)
             (subst (λ (hs : List Sent). P (after_tick w s).session (ps ++ hs))
-            (sym (tick_handed k w s apart here)) (ticks s (each s here)))) there
+            (sym (tick_handed k w s apart here)) (ticks is s (each s here)))) there
         | inr ne ↦ elim (remains P kept k w e s ps apart ne here (each s here)) [
           | went closed gone none ↦ absurd (some_none t _ there gone)
           | stays v found_ p ↦ subst (λ (u : Session). P u (ps ++ to k (step w e).out))

@@ -28,7 +28,7 @@ use Rattle.mc_entities.specs.declared.entity.Entity.{Entity}
 use Rattle.mc_entities.specs.declared.entity.EntityKind.TheVariants as kinds
 use Rattle.mc_entities.specs.Kinds.{is_dropped}
 use Rattle.mc_entities.specs.Folk.{dropped_in}
-use Rattle.mc_model.specs.Things.{Things, Packs, room_in, with_hand, with_new_entity}
+use Rattle.mc_model.specs.Things.{Things, Packs, holding, room_in, with_hand, with_new_entity}
 use Rattle.mc_model.specs.Things.{with_pack, with_state}
 use Rattle.mc_model.specs.World.{World, Session, Player, held_by, pack_of, spot_of, state_in}
 use Rattle.mc_model.specs.Packs.{carrying}
@@ -40,7 +40,11 @@ use Rattle.mc_model.proofs.AllFacts.{all_joined, all_mapped}
 use Rattle.mc_model.proofs.Deeds.{digging_cases, placing_cases}
 use Rattle.mc_model.proofs.FitsText.{both_true}
 use Rattle.mc_model.proofs.ThingFacts.{air, block_is_item, cell_is, pack_fits, spot_fits}
+use Rattle.mc_model.proofs.Lasting.{GivenKinds, Since}
+use Rattle.mc_model.proofs.LastingKept.{known_more, holding_steady, steady_at, since_mapped}
+use Rattle.mc_model.proofs.LastingKept.{since_more}
 use Rattle.mc_model.proofs.ThingsFit.{SpotFits, EntityFits, PackFits, IsState, ThingsFit}
+use Rattle.mc_model.proofs.ThingsFit.{Lasts}
 use Rattle.mc_model.proofs.ThingsKept.{one_if, dropped_more, dropped_held, hand_is_pile}
 use Rattle.mc_model.proofs.ThingsKept.{holding_fits}
 
@@ -75,6 +79,7 @@ with_state_fits terrain cell state things is t = record {
   whole = edited_all (λ (n : ℕ). (n ≡ 0) ⊎ (16 ≤ n)) terrain things.edits
       (key_of cell.x (unsigned_abs cell.y) cell.z) state is.whole t.whole;
   entities = t.entities;
+  known = t.known;
   dropped = t.dropped;
   eids = t.eids;
   packs = t.packs;
@@ -133,9 +138,11 @@ new_item_fits item age spot things is at room t =
           high = omega (arith, ints, room.given);
           spot = at;
           kind = is;
+          named = tt;
         },
         tt,
       );
+      known = known_more (kinds.Dropped item age) spot things.eids things.entities t.known;
       dropped = (let more = dropped_come things.entities e refl in omega (arith, more, room.lying));
       eids = omega (arith, room.given);
       packs = t.packs;
@@ -183,6 +190,7 @@ carrying_fits w p pile things is before t = holding_fits p.eid pile (record thin
   edits = t.edits;
   whole = t.whole;
   entities = t.entities;
+  known = t.known;
   dropped = t.dropped;
   eids = t.eids;
   packs = with_pack_fits p.name (with_hand pile p.hand (pack_of w p)) things.packs
@@ -297,19 +305,35 @@ pub held_is_item : (w : World) (p : Player) (item : Item) → held_by w p ≡ Fu
     ThingsFit w.things → IsItem item
 held_is_item w p item is t = subst IsPile is (held_is_pile w p t)
 
+-- what a player that has another pile in its hand carries keeps the kinds
+carrying_since : {old : GivenKinds} (w : World) (p : Player) (pile : Pile) (things : Things) →
+    Since old things.eids things.entities →
+    Since old things.eids (carrying w p pile things).entities
+carrying_since w p pile things since =
+    since_mapped _ things.entities (steady_at p.eid (holding pile) (holding_steady pile)) since
+
 -- a player that digs or drops
-pub digging_fits : (w : World) (s : Session) (p : Player) (status : ℤ) (cell : Cell) →
-    ThingsFit w.things → ThingsFit (digging w s p status cell).things
-digging_fits w s p status cell t =
-    digging_cases (λ (v : World). ThingsFit v.things) w s p status cell t
-    (λ test. dug_fits w p cell test t)
-    (λ item n some is room. dropped_fits w p item n some (held_is_item w p item is t) room t)
+pub digging_lasts : {old : GivenKinds} (w : World) (s : Session) (p : Player) (status : ℤ)
+    (cell : Cell) → Lasts old w.things → Lasts old (digging w s p status cell).things
+digging_lasts {old} w s p status cell t =
+    digging_cases (λ (v : World). Lasts old v.things) w s p status cell t
+    (λ test. record {
+      fits = dug_fits w p cell test t.fits;
+      since = since_more _ _ w.things.entities t.since;
+    })
+    (λ item n some is room. record {
+      fits = dropped_fits w p item n some (held_is_item w p item is t.fits) room t.fits;
+      since = since_more _ _ _ (carrying_since w p _ w.things t.since);
+    })
     (λ f. t)
 
 -- a player that places
-pub placing_fits : (w : World) (s : Session) (p : Player) (cell : Cell) (face : ℤ) →
-    ThingsFit w.things → ThingsFit (place_on w s p cell face).things
-placing_fits w s p cell face t =
-    placing_cases (λ (v : World). ThingsFit v.things) w s p cell face t
-    (λ target item is free. placed_fits w p target item (held_is_item w p item is t) t)
+pub placing_lasts : {old : GivenKinds} (w : World) (s : Session) (p : Player) (cell : Cell)
+    (face : ℤ) → Lasts old w.things → Lasts old (place_on w s p cell face).things
+placing_lasts {old} w s p cell face t =
+    placing_cases (λ (v : World). Lasts old v.things) w s p cell face t
+    (λ target item is free. record {
+      fits = placed_fits w p target item (held_is_item w p item is t.fits) t.fits;
+      since = carrying_since w p _ w.things t.since;
+    })
     (λ f. t)

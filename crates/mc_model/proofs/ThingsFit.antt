@@ -14,6 +14,7 @@ use Rattle.mc_entities.specs.declared.entity.EntityKind.TheVariants as kinds
 use Rattle.mc_entities.specs.Kinds.{IsKind}
 use Rattle.mc_entities.specs.Folk.{dropped_in}
 use Rattle.mc_model.specs.Things.{Things}
+use Rattle.mc_model.proofs.Lasting.{GivenKinds, HaveKinds, Since}
 
 -- where an entity is: a dropped item may lie half a block out of the range of players
 pub record SpotFits (spot : Spot) : Type 0 where
@@ -23,7 +24,7 @@ pub record SpotFits (spot : Spot) : Type 0 where
   pub yaw : spot.yaw < 256
   pub pitch : spot.pitch < 256
 
--- a player's identifier has 128 bits
+-- a player has an identifier of 128 bits
 abbrev pub KindIsNamed : EntityKind → Type 0
 KindIsNamed (kinds.Player uuid held) = uuid < 2 ^ 128
 KindIsNamed (kinds.Dropped item born) = Unit {0}
@@ -46,12 +47,23 @@ pub record IsState (state : ℕ) : Type 0 where
   pub small : state < 4096
   pub whole : (state ≡ 0) ⊎ (16 ≤ state)
 
--- such states, and no more dropped items and numbers than there may be
+-- such states, entities of which each has a kind, and no more dropped items and numbers than there
+-- may be
 pub record ThingsFit (things : Things) : Type 0 where
   pub edits : (key : Key) (state : ℕ) → get things.edits key ≡ Some state → state < 4096
   pub whole : (key : Key) (state : ℕ) → get things.edits key ≡ Some state →
       (state ≡ 0) ⊎ (16 ≤ state)
   pub entities : AllByRecursion EntityFits things.entities
+  pub known : HaveKinds things.eids things.entities
   pub dropped : dropped_in things.entities ≤ 4096
   pub eids : things.eids ≤ 2147483647
   pub packs : AllByRecursion PackFits things.packs
+
+-- how many numbers were given in them, and the kind of each
+abbrev pub kinds_in : (things : Things) → ThingsFit things → GivenKinds
+kinds_in things fits = record { given = things.eids; kind_at = fits.known.kind_at }
+
+-- such things, in which each number that was given at a time is still of the kind that it was of
+pub record Lasts (old : GivenKinds) (things : Things) : Type 0 where
+  pub fits : ThingsFit things
+  pub since : Since old things.eids things.entities

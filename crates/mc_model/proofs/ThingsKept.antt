@@ -22,6 +22,8 @@ use Rattle.mc_entities.specs.declared.entity.EntityKind.{EntityKind}
 use Rattle.mc_entities.specs.declared.entity.EntityKind.TheVariants as kinds
 use Rattle.mc_entities.specs.Kinds.{IsKind, is_dropped}
 use Rattle.mc_entities.specs.Folk.{dropped_in}
+use Rattle.mc_model.specs.declared.seen.SeenKind.{SeenKind}
+use Rattle.mc_model.specs.declared.seen.SeenKind.TheVariants as seen_kinds
 use Rattle.mc_model.specs.Names.{offline_uuid}
 use Rattle.mc_model.specs.Things.{Things, Packs, with_entity, without_entity}
 use Rattle.mc_model.specs.Things.{standing, hand_of, holding, pack_named, is_known, with_kit}
@@ -32,7 +34,11 @@ use Rattle.mc_model.specs.Step.{after_leaving, with_new_player}
 use Rattle.mc_model.proofs.Sessions.{some_none}
 use Rattle.mc_model.proofs.FitsSight.{all_joined, all_mapped, all_filtered}
 use Rattle.mc_model.proofs.FitsDue.{spawn_fits}
-use Rattle.mc_model.proofs.ThingsFit.{SpotFits, EntityFits, PackFits, ThingsFit}
+use Rattle.mc_model.proofs.FitsUuid.{offline_small}
+use Rattle.mc_model.proofs.Lasting.{kind_seen, IsSteady}
+use Rattle.mc_model.proofs.LastingKept.{standing_steady, holding_steady, steady_at}
+use Rattle.mc_model.proofs.LastingKept.{known_mapped, known_filtered, known_more}
+use Rattle.mc_model.proofs.ThingsFit.{SpotFits, KindIsNamed, EntityFits, PackFits, ThingsFit}
 
 -- ---- how many dropped items there are
 
@@ -48,14 +54,26 @@ dropped_more e es = elim (is_dropped e.kind) as (λ b. length
       | false ↦ omega arith
     ]
 
+-- whether clients see a dropped item
+abbrev is_item : Option SeenKind → Bool
+is_item (Some seen_kinds.Item) = true
+is_item other = false
+
+-- a dropped item is what they see as one
+seen_dropped : (kind : EntityKind) → is_dropped kind ≡ is_item (kind_seen kind)
+seen_dropped (kinds.Player uuid held) = refl
+seen_dropped (kinds.Dropped item born) = refl
+seen_dropped kinds.Mob = refl
+
 -- as many where no change makes another kind of an entity
-dropped_mapped : (f : Entity → Entity) → ((e : Entity) → is_dropped (f e).kind ≡ is_dropped e.kind)
-    → (es : List Entity) → dropped_in (map f es) ≡ dropped_in es
-dropped_mapped f same [] = refl
-dropped_mapped f same (e ∷ es) =
+dropped_mapped : (f : Entity → Entity) → IsSteady f → (es : List Entity) →
+    dropped_in (map f es) ≡ dropped_in es
+dropped_mapped f steady [] = refl
+dropped_mapped f steady (e ∷ es) =
     dropped_more (f e) (map f es)
-    ∙ ap (λ (b : Bool). one_if b + dropped_in (map f es)) (same e)
-    ∙ ap (λ (n : ℕ). one_if (is_dropped e.kind) + n) (dropped_mapped f same es)
+    ∙ ap (λ (b : Bool). one_if b + dropped_in (map f es))
+    (seen_dropped (f e).kind ∙ ap is_item (steady.kind e) ∙ sym (seen_dropped e.kind))
+    ∙ ap (λ (n : ℕ). one_if (is_dropped e.kind) + n) (dropped_mapped f steady es)
     ∙ sym (dropped_more e es)
 
 -- no more where some go
@@ -121,30 +139,17 @@ hand_is_pile pack hand is = is.are_piles (27 + hand)
 
 -- ---- entities
 
--- as many dropped items where one of a number is changed
-dropped_changed : (eid : ℕ) (f : Entity → Entity) (things : Things) →
-    ((e : Entity) → is_dropped (f e).kind ≡ is_dropped e.kind) →
-    dropped_in (with_entity eid f things).entities ≡ dropped_in things.entities
-dropped_changed eid f things same = dropped_mapped _ kind things.entities
-  where
-    kind : (e : Entity) →
-        is_dropped (if int_eq e.eid (pos eid) then f e else e).kind ≡ is_dropped e.kind
-    kind e = elim (int_eq e.eid (pos eid)) as
-        (λ b. is_dropped (if b then f e else e).kind ≡ is_dropped e.kind) [
-          | true ↦ same e
-          | false ↦ refl
-        ]
-
 -- one of a number changed
-entities_changed : (eid : ℕ) (f : Entity → Entity) (things : Things) →
-    ((e : Entity) → EntityFits e → EntityFits (f e)) →
-    ((e : Entity) → is_dropped (f e).kind ≡ is_dropped e.kind) → ThingsFit things →
+entities_changed : (eid : ℕ) (f : Entity → Entity) (things : Things) → IsSteady f →
+    ((e : Entity) → EntityFits e → EntityFits (f e)) → ThingsFit things →
     ThingsFit (with_entity eid f things)
-entities_changed eid f things keeps same t = record {
+entities_changed eid f things steady keeps t = record {
   edits = t.edits;
   whole = t.whole;
   entities = all_mapped EntityFits EntityFits _ one things.entities t.entities;
-  dropped = subst (λ (n : ℕ). n ≤ 4096) (sym (dropped_changed eid f things same)) t.dropped;
+  known = known_mapped _ things.eids things.entities (steady_at eid f steady) t.known;
+  dropped = subst (λ (n : ℕ). n ≤ 4096)
+      (sym (dropped_mapped _ (steady_at eid f steady) things.entities)) t.dropped;
   eids = t.eids;
   packs = t.packs;
 }
@@ -158,9 +163,14 @@ entities_changed eid f things keeps same t = record {
 -- an entity that stands somewhere else
 pub standing_fits : (eid : ℕ) (spot : Spot) (things : Things) → SpotFits spot → ThingsFit things →
     ThingsFit (with_entity eid (standing spot) things)
-standing_fits eid spot things at t = entities_changed eid (standing spot) things
-    (λ e fits. record { low = fits.low; high = fits.high; spot = at; kind = fits.kind })
-    (λ e. refl) t
+standing_fits eid spot things at t =
+    entities_changed eid (standing spot) things (standing_steady spot) (λ e fits. record {
+      low = fits.low;
+      high = fits.high;
+      spot = at;
+      kind = fits.kind;
+      named = fits.named;
+    }) t
 
 hand_is_kind : (pile : Pile) (kind : EntityKind) → IsPile pile → IsKind kind →
     IsKind (hand_of pile kind)
@@ -168,28 +178,30 @@ hand_is_kind pile (kinds.Player uuid held) is fits = is
 hand_is_kind pile (kinds.Dropped item born) is fits = fits
 hand_is_kind pile kinds.Mob is fits = tt
 
-hand_drops : (pile : Pile) (kind : EntityKind) → is_dropped (hand_of pile kind) ≡ is_dropped kind
-hand_drops pile (kinds.Player uuid held) = refl
-hand_drops pile (kinds.Dropped item born) = refl
-hand_drops pile kinds.Mob = refl
+-- a hand changes no identifier
+hand_is_named : (pile : Pile) (kind : EntityKind) → KindIsNamed kind →
+    KindIsNamed (hand_of pile kind)
+hand_is_named pile (kinds.Player uuid held) named = named
+hand_is_named pile (kinds.Dropped item born) named = named
+hand_is_named pile kinds.Mob named = named
 
 -- as many lie where one holds another pile
 pub dropped_held : (eid : ℕ) (pile : Pile) (things : Things) →
     dropped_in (with_entity eid (holding pile) things).entities ≡ dropped_in things.entities
 dropped_held eid pile things =
-    dropped_changed eid (holding pile) things (λ e. hand_drops pile e.kind)
+    dropped_mapped _ (steady_at eid (holding pile) (holding_steady pile)) things.entities
 
 -- one that holds another pile
 pub holding_fits : (eid : ℕ) (pile : Pile) (things : Things) → IsPile pile → ThingsFit things →
     ThingsFit (with_entity eid (holding pile) things)
-holding_fits eid pile things is t = entities_changed eid (holding pile) things
-    (λ e fits. record {
+holding_fits eid pile things is t =
+    entities_changed eid (holding pile) things (holding_steady pile) (λ e fits. record {
       low = fits.low;
       high = fits.high;
       spot = fits.spot;
       kind = hand_is_kind pile e.kind is fits.kind;
-    })
-    (λ e. hand_drops pile e.kind) t
+      named = hand_is_named pile e.kind fits.named;
+    }) t
 
 -- one that goes
 pub without_fits : (eid : ℕ) (things : Things) → ThingsFit things →
@@ -198,6 +210,7 @@ without_fits eid things t = record {
   edits = t.edits;
   whole = t.whole;
   entities = all_filtered EntityFits _ things.entities t.entities;
+  known = known_filtered _ things.eids things.entities t.known;
   dropped = (let fewer = dropped_filtered (λ (e : Entity). not (int_eq e.eid (pos eid)))
       things.entities in omega (arith, fewer, t.dropped));
   eids = t.eids;
@@ -227,9 +240,12 @@ new_player_fits terrain name things few t =
           spot = spawn_fits terrain;
           kind = hand_is_pile (pack_of name (with_kit name things.packs)) 0
               (pack_fits name (with_kit name things.packs) packs);
+          named = offline_small name;
         },
         tt,
       );
+      known = known_more (kinds.Player (offline_uuid name) held) (spawn_spot terrain) things.eids
+          things.entities t.known;
       dropped = subst (λ (n : ℕ). n ≤ 4096) (sym (dropped_joined things.entities (record {
         eid = pos (things.eids + 1);
         kind = kinds.Player (offline_uuid name) held;
@@ -246,6 +262,7 @@ new_things_fit = record {
   edits = λ key state there. absurd (some_none state _ there (get-empty key_cmp key));
   whole = λ key state there. absurd (some_none state _ there (get-empty key_cmp key));
   entities = tt;
+  known = record { kind_at = λ eid. None; entities = tt };
   dropped = omega arith;
   eids = omega arith;
   packs = tt;

@@ -182,7 +182,8 @@ is_same_slot (slots.Full a) slots.Empty = false
 -- what a player holds is worn in slot 0; what lies there is the slot of index 10 of the metadata
 abbrev pub pile_packet : ℤ → SeenKind → Slot → Down
 pile_packet eid (seen_kinds.Player uuid) pile = Equipment eid (pos 0) pile
-pile_packet eid seen_kinds.Item pile = Meta eid (record { index = 10; value = values.Slot pile } ∷ [])
+pile_packet eid seen_kinds.Item pile =
+    Meta eid (record { index = 10; value = values.Slot pile } ∷ [])
 
 -- the id of what is in a hand, as a player's spawn has it: 0 for an empty one
 abbrev pub id_in_hand : Slot → ℤ

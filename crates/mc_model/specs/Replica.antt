@@ -154,7 +154,8 @@ looking yaw pitch spot = record spot { yaw = yaw; pitch = pitch }
 
 -- a player has another pile in its hand, where this is what is worn in slot 0; others hold nothing
 abbrev pub worn_by : SeenKind → ℤ → Slot → Seen → Seen
-worn_by (seen_kinds.Player uuid) worn pile e = if int_eq worn (pos 0) then record e { pile = pile } else e
+worn_by (seen_kinds.Player uuid) worn pile e =
+    if int_eq worn (pos 0) then record e { pile = pile } else e
 worn_by seen_kinds.Item worn pile e = e
 
 abbrev pub wearing : ℤ → Slot → Seen → Seen

@@ -11,7 +11,8 @@ use Rattle.mc_slots.specs.declared.slot.Slot.TheVariants as slots
 use Rattle.mc_windows.specs.Pack.{pack_size}
 use Rattle.mc_model.specs.declared.seen.SeenKind.{SeenKind}
 
--- an entity: what it is, where it is and looks, where its head looks, and the pile that it holds or is
+-- an entity: what it is, where it is and looks, where its head looks, and the pile that it holds or
+-- is
 pub record Seen : Type 0 where
   pub kind : SeenKind
   pub spot : Spot
@@ -26,7 +27,7 @@ pub record Sight : Type 0 where
   pub pairs : FinMap nat_cmp (List ℕ)
   -- the columns in view, with states and biomes
   pub columns : FinMap place_cmp ColumnValue
-  -- the others' players and the dropped items in view, by their numbers
+  -- the entities in view but its own, by their numbers
   pub entities : FinMap int_cmp Seen
   -- the slots of the own pack
   pub pack : List Slot

@@ -1,9 +1,11 @@
 //! What one client is sent, on flat land whose columns from -3 to 3 are ready: `flush STEP ..`
-//! works on the players, the cells, the dropped items, the pack, what is noted and the mark.
+//! works on the list of players, the cells, the entities, the pack, what is noted and the mark.
+//! `player UUID X Y Z YAW PITCH` adds the entity of a player whose hand is empty, `hold` and `empty`
+//! change what its hand holds, and `me EID` names the client's own entity, which is none at first.
 //! `age N` makes the world N ticks old, which is 1 at first, and `say TEXT` adds a text as it stands,
-//! of which no JSON is made. `settle` settles players and land and forgets the texts, `share` has the
-//! frames encoded for all clients from now on, and `tell X Z D AT` answers the frames of a view of D
-//! around the column (X, Z), for a player at AT on x, in 1/32 blocks.
+//! of which no JSON is made. `settle` settles players, land and entities and forgets the texts,
+//! `share` has the frames encoded for all clients from now on, and `tell X Z D AT` answers the frames
+//! of a view of D around the column (X, Z), for a player at AT on x, in 1/32 blocks.
 
 ghost use Rattle.std.specs.Prelude.{◌≡◌, ◌<◌, true, IfOk};
 ghost use Rattle.std.specs.List.{AllByRecursion};
@@ -16,7 +18,10 @@ ghost use Rattle.mc_flush.specs.Seeing.{IsReady};
 use crate::answer::Answer;
 use crate::frames::put_frames;
 use crate::guests::Guests;
-use crate::things::{cell_in, change_item, drop_item, filled, move_to, set_cell, take_out};
+use crate::things::{
+    add_player, cell_in, change_item, drop_item, empty_hand, fill_hand, filled, move_to, set_cell,
+    take_out,
+};
 use crate::words::Words;
 use mc_entities::Folk;
 use mc_fields::Spot;
@@ -37,6 +42,8 @@ struct Scene {
     folk: Folk,
     pack: Pack,
     guests: Guests,
+    /// The number of the client's own entity, 0 where it has none.
+    me: i32,
     /// What was said since the last settling.
     lines: Vec<Line>,
     age: u64,
@@ -75,6 +82,10 @@ enum Call {
     Cell,
     Again,
     Set,
+    Player,
+    Hold,
+    Empty,
+    Me,
     Drop,
     Turn,
     Move,
@@ -96,6 +107,10 @@ fn call_of(name: &str) -> Option<Call> {
         "cell" => Some(Call::Cell),
         "again" => Some(Call::Again),
         "set" => Some(Call::Set),
+        "player" => Some(Call::Player),
+        "hold" => Some(Call::Hold),
+        "empty" => Some(Call::Empty),
+        "me" => Some(Call::Me),
         "drop" => Some(Call::Drop),
         "turn" => Some(Call::Turn),
         "move" => Some(Call::Move),
@@ -120,6 +135,7 @@ pub fn client(words: &mut Words<'_>, answer: &mut Answer) {
         folk: Folk::new(words.alloc),
         pack: kit(),
         guests: Guests::new(words.alloc),
+        me: 0,
         lines: Vec::new(words.alloc),
         age: 1,
         mark: Mark::new(words.alloc),
@@ -151,6 +167,10 @@ fn answer_call(call: Call, scene: &mut Scene, words: &mut Words<'_>, answer: &mu
         Call::Cell => answer.needs(scene.notes.cell(cell_in(words))),
         Call::Again => scene.notes.again(),
         Call::Set => set_cell(&mut scene.land, words, answer),
+        Call::Player => add_player(&mut scene.folk, words, answer),
+        Call::Hold => fill_hand(&mut scene.folk, words),
+        Call::Empty => empty_hand(&mut scene.folk, words),
+        Call::Me => scene.me = words.number(),
         Call::Drop => drop_item(&mut scene.folk, words, answer),
         Call::Turn => change_item(&mut scene.folk, words),
         Call::Move => move_to(&mut scene.folk, words),
@@ -163,11 +183,12 @@ fn answer_call(call: Call, scene: &mut Scene, words: &mut Words<'_>, answer: &mu
     }
 }
 
-/// All clients were shown the players, the cells and the texts as they are, and nothing is noted any
-/// more.
+/// All clients were shown the players, the cells, the entities and the texts as they are, and nothing
+/// is noted any more.
 fn settle(scene: &mut Scene, answer: &mut Answer) {
     answer.needs(scene.guests.settle());
     scene.land.settle();
+    scene.folk.settle();
     scene.lines.clear();
     scene.notes.clear();
 }
@@ -234,8 +255,8 @@ fn put_sent(bytes: &[u8], answer: &mut Answer) {
     put_frames(bytes, answer);
 }
 
-/// What is encoded for all clients: nothing, or the frames of who left and came, and of these
-/// columns.
+/// What is encoded for all clients: nothing, or the frames of who left and came, of moves, and of
+/// these columns.
 fn encode<L: Ledger>(
     alloc: Global,
     scene: &Scene,
@@ -250,6 +271,7 @@ fn encode<L: Ledger>(
         return Ok(encoded);
     }
     encoded.add_players(alloc, scene.guests.list())?;
+    encoded.add_moves(alloc, &scene.folk)?;
     for place in view.all() {
         encoded.add_load(alloc, &scene.land, &place, steps)?;
         encoded.add_changes(alloc, &scene.land, &place, steps)?;
@@ -285,7 +307,7 @@ fn flushed<L: Ledger>(
         encoded: &encoded,
         lines: scene.lines.as_slice(),
         age: scene.age,
-        me: 1,
+        me: scene.me,
         view,
         place,
     };

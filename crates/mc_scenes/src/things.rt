@@ -2,7 +2,8 @@
 
 ghost use Rattle.std.specs.Prelude.{IsTrue};
 ghost use Rattle.std.specs.Option.{IfSome};
-ghost use Rattle.mc_slots.specs.Pile.{IsItem};
+ghost use Rattle.mc_slots.specs.Pile.{IsItem, IsPile};
+ghost use Rattle.mc_entities.specs.Kinds.{IsKind};
 
 use crate::answer::Answer;
 use crate::words::Words;
@@ -72,18 +73,60 @@ pub fn set_cell(land: &mut Land, words: &mut Words<'_>, answer: &mut Answer) {
     }
 }
 
-/// Lets an item lie somewhere.
-pub fn drop_item(folk: &mut Folk, words: &mut Words<'_>, answer: &mut Answer) {
-    let Some(item) = item_in(words) else {
-        words.fail();
-        return;
-    };
-    let spot = spot_in(words);
-    match folk.spawn(EntityKind::Dropped { item, born: 0 }, spot) {
+/// Adds an entity where the next words say.
+fn add_entity(folk: &mut Folk, kind: EntityKind, words: &mut Words<'_>, answer: &mut Answer)
+    requires { IsKind kind }
+{
+    match folk.spawn(kind, spot_in(words)) {
         Ok(_) => {}
         Err(FolkFault::NoMemory) => answer.lose(),
         Err(_) => words.fail(),
     }
+}
+
+/// Lets an item lie somewhere.
+pub fn drop_item(folk: &mut Folk, words: &mut Words<'_>, answer: &mut Answer) {
+    match item_in(words) {
+        Some(item) => add_entity(folk, EntityKind::Dropped { item, born: 0 }, words, answer),
+        None => words.fail(),
+    }
+}
+
+/// Lets a player whose hand is empty stand somewhere.
+pub fn add_player(folk: &mut Folk, words: &mut Words<'_>, answer: &mut Answer) {
+    let uuid = words.number();
+    let held = Pile::Empty;
+    add_entity(folk, EntityKind::Player { uuid, held }, words, answer);
+}
+
+/// Changes what a player holds.
+fn set_held(folk: &mut Folk, eid: i32, held: Pile, words: &mut Words<'_>)
+    requires { IsPile held }
+{
+    match folk.get(eid) {
+        Some(entity) => match entity.kind {
+            EntityKind::Player { uuid, .. } => {
+                folk.set_kind(eid, EntityKind::Player { uuid, held });
+            }
+            _ => words.fail(),
+        },
+        None => words.fail(),
+    }
+}
+
+/// Gives a player something to hold.
+pub fn fill_hand(folk: &mut Folk, words: &mut Words<'_>) {
+    let eid = words.number();
+    match item_in(words) {
+        Some(item) => set_held(folk, eid, Pile::Full(item), words),
+        None => words.fail(),
+    }
+}
+
+/// Gives a player nothing to hold.
+pub fn empty_hand(folk: &mut Folk, words: &mut Words<'_>) {
+    let eid = words.number();
+    set_held(folk, eid, Pile::Empty, words);
 }
 
 /// Lets another item lie where one does.

@@ -1,5 +1,5 @@
 -- What a client is shown of the parts of a world is what the world shows it.
-use Rattle.std.proofs.Common.{◌≡◌, ℕ, Bool, true, false, cond, List, [], ◌++◌, map, length, Option}
+use Rattle.std.proofs.Common.{◌≡◌, ℕ, ℤ, Bool, true, false, cond, List, [], ◌++◌, map, length, Option}
 use Rattle.std.proofs.Common.{Some, None, is_some, refl, sym, subst, ap, ◌∙◌, append_assoc}
 use Rattle.std.specs.Prelude.{◌+◌, drop, nat_le, unwrap_or, if◌then◌else◌, option_map}
 use Rattle.std.specs.List.{filter, filter_map}
@@ -22,8 +22,8 @@ use Rattle.mc_model.specs.Ticks.{beat_at, shown_age}
 use Rattle.mc_model.specs.Packets.{Sent, of_play, bytes_of}
 use Rattle.mc_model.specs.Notes.{no_notes}
 use Rattle.mc_model.specs.Things as things
-use Rattle.mc_model.specs.World.{World, Session, Player, is_closed, pack_of, project, seen_of}
-use Rattle.mc_model.specs.World.{spot_in, spot_of}
+use Rattle.mc_model.specs.World.{World, Session, Player, is_closed, others, pack_of, project}
+use Rattle.mc_model.specs.World.{seen_of, spot_in, spot_of}
 use Rattle.mc_model.specs.Step.{Handing, hand, due, flush, mark_closed, noted_packets, notes_due}
 use Rattle.mc_model.specs.Step.{showing}
 use Rattle.mc_model.specs.Step.{notes_of, opening_of}
@@ -41,14 +41,15 @@ use Rattle.mc_flush.proofs.Pieces.{play_bytes-append}
 
 -- ---- what a flush says, of the parts
 
--- a view around a player, what it carries and where it is
-module _ (parts : Parts) (p : Player) (view : ViewSet) (pack : PackValue)
+-- a view around a player, its own number, what it carries and where it is
+module _ (parts : Parts) (p : Player) (me : ℤ) (view : ViewSet) (pack : PackValue)
+    (own : me ≡ pos p.eid)
     (middle : ◌≡◌ {A = Place} (view.cx, view.cz) (column_of_spot (spot_now parts p)))
     (d : view.d ≡ view_size parts.settings.cap p.view_byte)
     (carried : pack ≡ pack_now parts p) where
   -- what is seen of the view, with these lines
   pub seen_is : (chat lines : List (List ℕ)) → lines ≡ drop p.since parts.lines →
-      seen parts.land parts.list parts.folk.entities pack view parts.age (chat ++ lines)
+      seen parts.land parts.list (others me parts.folk.entities) pack view parts.age (chat ++ lines)
       ≡ shown_now parts chat p
   seen_is chat lines new = λ i. record {
     beat = Some (pos (beat_at parts.age));
@@ -56,7 +57,8 @@ module _ (parts : Parts) (p : Player) (view : ViewSet) (pack : PackValue)
     pairs = parts.list.present;
     columns = from_entries (map (placed_column parts.land) (view_of (middle i) (d i)));
     entities = from_entries (filter_map seen_of (filter (λ (e : Entity).
-        is_in_view (middle i) (d i) (column_of_spot e.spot)) parts.folk.entities));
+        is_in_view (middle i) (d i) (column_of_spot e.spot))
+        (others (own i) parts.folk.entities)));
     pack = map slot_of (carried i).slots;
     chat = chat ++ new i;
   }
@@ -65,13 +67,14 @@ module _ (parts : Parts) (p : Player) (view : ViewSet) (pack : PackValue)
   pub stands_now : (mark : MarkValue) (list : ListValue) (chat lines : List (List ℕ)) →
       list ≡ parts.list → lines ≡ drop p.since parts.lines →
       StandsFor mark (present_parts parts.land list)
-      (seen parts.land list parts.folk.entities pack view parts.age (chat ++ lines)) →
+      (seen parts.land list (others me parts.folk.entities) pack view parts.age (chat ++ lines)) →
       StandsFor mark (present_parts parts.land parts.list) (shown_now parts chat p)
   stands_now mark list chat lines listed new stands =
       subst (λ (q : Sight). StandsFor mark (present_parts parts.land parts.list) q)
       (seen_is chat lines new)
       (subst (λ (l : ListValue). StandsFor mark (present_parts parts.land l)
-      (seen parts.land l parts.folk.entities pack view parts.age (chat ++ lines))) listed stands)
+      (seen parts.land l (others me parts.folk.entities) pack view parts.age (chat ++ lines))) listed
+      stands)
 
   -- what was noted
   pub noted_is : (spot : Spot) → spot ≡ spot_now parts p →
@@ -118,7 +121,7 @@ scene_shown w parts chat p is = λ i. record {
   )) (view_of (column_of_spot (spot_same w parts p is i)) (view_size (is.cap i) p.view_byte)));
   entities = from_entries (filter_map seen_of (filter (λ (e : Entity).
       is_in_view (column_of_spot (spot_same w parts p is i)) (view_size (is.cap i) p.view_byte)
-      (column_of_spot e.spot)) (is.things i).entities));
+      (column_of_spot e.spot)) (others (pos p.eid) (is.things i).entities)));
   pack = map slot_of (pack_same w parts p is i).slots;
   chat = chat ++ drop p.since (is.lines i);
 }

@@ -23,7 +23,7 @@ use Rattle.mc_model.proofs.RiseFacts.{placed_at, none_changed}
 use Rattle.mc_model.proofs.Handing.{HasPlayer}
 use Rattle.mc_model.proofs.RunEvents.{depart_beside, orderly_beside, orderly_step}
 use Rattle.mc_model.proofs.BalanceRun.{balanced_step}
-use Rattle.mc_flush.specs.Seeing.{Parts, StandsFor, is_shown, nothing_shown, told_item}
+use Rattle.mc_flush.specs.Seeing.{Parts, StandsFor, is_shown, nothing_shown, kept_of, told_slot}
 use Rattle.mc_server.specs.Bare.{bare, bare_world}
 use Rattle.mc_server.specs.Served.{ConnectionValue, ServerValue, IsAt, kept_world, new_connection}
 use Rattle.mc_server.specs.Served.{sessions_of, shown_parts, with_session}
@@ -374,8 +374,8 @@ nothing_stands shown = record {
   age = refl;
   pairs = refl;
   columns = refl;
-  entities = λ eid. get-empty int_cmp eid
-      ∙ sym (ap (option_map told_item) (get-empty int_cmp eid));
+  entities = λ eid. ap (option_map kept_of) (get-empty int_cmp eid)
+      ∙ sym (ap (option_map told_slot) (get-empty int_cmp eid));
   pack = refl;
 }
 

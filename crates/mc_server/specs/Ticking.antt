@@ -20,8 +20,8 @@ use Rattle.mc_windows.specs.Pack.{PackValue}
 use Rattle.mc_entities.specs.declared.entity.Entity.{Entity}
 use Rattle.mc_entities.specs.Folk.{FolkState}
 use Rattle.mc_model.specs.Things.{Packs, pack_of}
-use Rattle.mc_model.specs.World.{World, Session, Player, is_closed, players, project, seen_of}
-use Rattle.mc_model.specs.World.{spot_in}
+use Rattle.mc_model.specs.World.{World, Session, Player, is_closed, others, players, project}
+use Rattle.mc_model.specs.World.{seen_of, spot_in}
 use Rattle.mc_model.specs.Step.{flush, noted_packets, notes_of, opening_of}
 use Rattle.mc_flush.specs.Lists.{ListValue}
 use Rattle.mc_flush.specs.Seeing.{MarkValue, StandsFor, IsReady, is_shown, placed_column}
@@ -76,8 +76,8 @@ sees_now parts p place =
 abbrev pub heard_now : Parts → List (List ℕ) → Player → List (List ℕ)
 heard_now parts chat p = chat ++ drop p.since parts.lines
 
--- the beat and the age, the players of the list, the columns around a player as they are, the dropped
--- items in them, its pack, and what was said to it, of which this came before
+-- the beat and the age, the players of the list, the columns around a player as they are, the
+-- entities in them but its own, its pack, and what was said to it, of which this came before
 abbrev pub shown_now : Parts → List (List ℕ) → Player → Sight
 shown_now parts chat p = record {
   beat = Some (pos (beat_at parts.age));
@@ -85,7 +85,8 @@ shown_now parts chat p = record {
   pairs = parts.list.present;
   columns = from_entries (map (placed_column parts.land) (columns_around parts p));
   entities = from_entries (filter_map seen_of
-      (filter (λ (e : Entity). sees_now parts p (column_of_spot e.spot)) parts.folk.entities));
+      (filter (λ (e : Entity). sees_now parts p (column_of_spot e.spot))
+      (others (pos p.eid) parts.folk.entities)));
   pack = map slot_of (pack_now parts p).slots;
   chat = heard_now parts chat p;
 }

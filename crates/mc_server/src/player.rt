@@ -11,7 +11,7 @@ ghost use Rattle.mc_model.specs.Sight.{Sight};
 ghost use Rattle.mc_model.specs.Delta.{delta};
 ghost use Rattle.mc_model.specs.Notes.{no_notes};
 ghost use Rattle.mc_model.specs.Step.{new_player, opening_of};
-ghost use Rattle.mc_model.specs.World.{AreSettings};
+ghost use Rattle.mc_model.specs.World.{AreSettings, others};
 ghost use Rattle.mc_flush.specs.Encoding.{AreFrames};
 ghost use Rattle.mc_flush.specs.Sending.{play_bytes};
 ghost use Rattle.mc_flush.specs.Seeing.{StandsFor, IsInRange, IsNamed, IsReady, is_shown, loaded};
@@ -182,7 +182,7 @@ impl Player {
             pack: &pack,
             list: scene.list.list(),
             encoded: scene.encoded,
-            me: self.eid as i32,
+            me: own_number(self.eid),
             view: self.view(scene.settings.cap, &spot),
             place: spot,
             lines: new_lines(scene.lines, self.since),
@@ -200,6 +200,14 @@ impl Player {
         self.since = 0;
         Ok(())
     }
+}
+
+/// The number of a player's own entity, as packets and entities have it.
+fn own_number(eid: u32) -> i32
+    requires { eid < 2 ^ 31 }
+    ensures { result ≡ pos eid }
+{
+    eid as i32
 }
 
 /// The lines behind so many.
@@ -230,13 +238,15 @@ fn push_changes<L: Ledger>(
     ensures sent { (p : Sight) →
         StandsFor mark.old (settled_parts view.now.land.now view.now.list.now) p →
         OnOk result (joined out.new.items ≡ joined out.old.items ++ play_bytes
-        (delta p (seen view.now.land.now view.now.list.now view.now.folk.now.state.entities
+        (delta p (seen view.now.land.now view.now.list.now
+        (others view.now.me view.now.folk.now.state.entities)
         view.now.pack.now view.now.view view.now.age (p.chat ++ view.now.lines.now))
         ++ noted_of view.now.land.now view.now.view notes.now
         view.now.place view.now.pack.now)) }
     ensures stands { (chat : List (List ℕ)) → OnOk result
         (StandsFor mark.new (present_parts view.now.land.now view.now.list.now)
-        (seen view.now.land.now view.now.list.now view.now.folk.now.state.entities
+        (seen view.now.land.now view.now.list.now
+        (others view.now.me view.now.folk.now.state.entities)
         view.now.pack.now view.now.view view.now.age chat)) }
     ensures opened { OnOk result (mark.new.view ≡ Some view.now.view) }
 {

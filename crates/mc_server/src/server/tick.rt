@@ -71,9 +71,9 @@ impl Server {
         let left = scene.show_all(self.alloc, &mut self.connections)?;
         remove_all(&mut self.folk, left.as_slice());
         let views = views_of(self.alloc, &self.settings, &self.folk, &self.connections)?;
-        self.folk.settle();
         self.land.settle();
         self.land.shed(views.as_slice());
+        self.folk.settle();
         self.lines.clear();
         Ok(())
     }

@@ -1,6 +1,20 @@
+use Rattle.std.proofs.Common.{rules, subst}
+use Rattle.mc_flush.specs.Encoding.{AreFrames}
+use Rattle.mc_flush.specs.Lists.{ListValue}
 use Rattle.mc_flush.specs.Seeing.{IsReady}
 use Rattle.mc_flush.proofs.Pieces.{next_holds}
 use Rattle.mc_scenes.proofs.flushes.encode.Goals as goal
+
+pub loop-place-init : goal.loop-place-init
+loop-place-init g c =
+    let land = c.args.scene.now.land in
+    let players = subst (λ (l : ListValue). AreFrames land l c.add_players.new.self)
+    c.list.ensures.is
+    (c.add_players.ensures.frames land (c.new-encoded.ensures.frames land c.list.result.now)) in
+    record {
+      ready = search rules;
+      frames = c.add_moves.ensures.frames land c.args.scene.now.guests players;
+    }
 
 pub add_load-requires : goal.add_load-requires
 add_load-requires g c =

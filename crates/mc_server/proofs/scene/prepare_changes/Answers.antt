@@ -19,3 +19,8 @@ loop-place-preserved g c =
           c.in-Some.ensures.steps h.near).1;
       frames = λ list are. c.prepare_change.ensures.frames list (h.frames list are);
     }
+
+pub returns-in_err-prepare_change : goal.returns-in_err-prepare_change
+returns-in_err-prepare_change g c = record {
+  frames = λ list are. c.prepare_change.ensures.frames list (c.loop-place.invariant.frames list are);
+}

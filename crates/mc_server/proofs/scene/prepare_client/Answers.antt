@@ -26,3 +26,11 @@ returns-clause-ready g c = λ p here.
 pub returns-in_default-clause-ready : goal.returns-in_default-clause-ready
 returns-in_default-clause-ready g c = λ p here. absurd
     (none_some p c.args.connection.now.session.player c.in_default.ensures.is here)
+
+pub returns-in_err-prepare_changes-clause-frames : goal.returns-in_err-prepare_changes-clause-frames
+returns-in_err-prepare_changes-clause-frames g c = λ list are.
+    c.prepare_changes.ensures.frames list (c.prepare_columns.ensures.frames list are)
+
+pub returns-clause-frames : goal.returns-clause-frames
+returns-clause-frames g c = λ list are.
+    c.prepare_changes.ensures.frames list (c.prepare_columns.ensures.frames list are)

@@ -38,3 +38,7 @@ returns-clause-ready g c =
     (AreReady c.args.settings.now c.args.folk.now.state.entities c.loop-i.land))
     (take_all c.loop-i.i cs le)
     c.loop-i.invariant.ready
+
+pub returns-in_err-prepare_client-clause-frames : goal.returns-in_err-prepare_client-clause-frames
+returns-in_err-prepare_client-clause-frames g c = λ list are.
+    c.prepare_client.ensures.frames list (c.loop-i.invariant.frames list are)

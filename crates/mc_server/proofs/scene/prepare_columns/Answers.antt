@@ -45,3 +45,7 @@ returns-clause-ready g c =
     (readying_done c.loop-place.land c.loop-place.place-iterator c.into_iter-place-iterator.result
     none
     c.loop-place.invariant.ready)
+
+pub returns-in_err-prepare_place-clause-frames : goal.returns-in_err-prepare_place-clause-frames
+returns-in_err-prepare_place-clause-frames g c = λ list are.
+    c.prepare_place.ensures.frames list (c.loop-place.invariant.frames list are)

@@ -1,4 +1,6 @@
-use Rattle.std.proofs.Common.{◌≡◌, [], ◌++◌, sym, subst, ap, ◌∙◌}
+use Rattle.std.proofs.Common.{rules, ◌≡◌, ℤ, [], ◌++◌, to_z, of_z, sym, subst, ap, ◌∙◌}
+use Rattle.std.proofs.lemmas.Int.{to_z-of_z}
+use Rattle.std.specs.Int.{w32}
 use Rattle.std.specs.List.{AllByRecursion}
 use Rattle.std.specs.Prelude.{if◌then◌else◌}
 use lib.IntN.{pos}
@@ -8,6 +10,7 @@ use Rattle.mc_fields.specs.declared.position.Spot.{Spot}
 use Rattle.mc_view.specs.Views.{column_of_spot}
 use Rattle.mc_model.specs.Delta.{delta}
 use Rattle.mc_model.specs.Step.{opening_of}
+use Rattle.mc_model.specs.World.{others}
 use Rattle.mc_flush.specs.Lists.{ListValue}
 use Rattle.mc_flush.specs.Sending.{play_bytes}
 use Rattle.mc_flush.specs.Seeing.{IsReady, StandsFor, is_shown, seen, settled_parts}
@@ -42,15 +45,18 @@ returns-clause-sent c = λ seen_before stands.
     let stood = subst (λ (list : ListValue). StandsFor mark (settled_parts s.land.now list)
     seen_before) (sym lists) stands in
     let lines = c.new_lines.result.now in
-    let shown : seen s.land.now c.list.result.now s.folk.now.state.entities
+    let me : ℤ = to_z w32 (of_z w32 c.own_number.result) in
+    let own : me ≡ pos p.eid =
+    to_z-of_z w32 c.own_number.result (search rules) ∙ c.own_number.ensures in
+    let shown : seen s.land.now c.list.result.now (others me s.folk.now.state.entities)
     c.pack_of-pack.result c.view.result s.age (seen_before.chat ++ lines)
     ≡ shown_now parts seen_before.chat p =
-    ap (λ (list : ListValue). seen s.land.now list s.folk.now.state.entities
+    ap (λ (list : ListValue). seen s.land.now list (others me s.folk.now.state.entities)
     c.pack_of-pack.result c.view.result s.age (seen_before.chat ++ lines)) lists
-    ∙ seen_is parts p c.view.result c.pack_of-pack.result middle c.view.ensures.d
+    ∙ seen_is parts p me c.view.result c.pack_of-pack.result own middle c.view.ensures.d
     c.pack_of-pack.ensures seen_before.chat lines c.new_lines.ensures in
-    let noted = noted_is parts p c.view.result c.pack_of-pack.result middle c.view.ensures.d
-    c.pack_of-pack.ensures c.spot_of-spot.result spot in
+    let noted = noted_is parts p me c.view.result c.pack_of-pack.result own middle
+    c.view.ensures.d c.pack_of-pack.ensures c.spot_of-spot.result spot in
     sent_all (joined c.args.out.now.items) (joined c.push_opening.new.out.items)
     (joined c.push_changes.new.out.items) (opening_packets parts (is_shown mark) p)
     (delta seen_before (shown_now parts seen_before.chat p) ++ noted_now parts p)
@@ -68,7 +74,10 @@ returns-clause-shows c = λ chat.
     let middle : ◌≡◌ {A = Place} (c.view.result.cx, c.view.result.cz)
     (column_of_spot (spot_now parts p)) =
     c.view.ensures.middle ∙ ap column_of_spot c.spot_of-spot.ensures.is in
-    stands_now parts p c.view.result c.pack_of-pack.result middle c.view.ensures.d
+    let me : ℤ = to_z w32 (of_z w32 c.own_number.result) in
+    let own : me ≡ pos p.eid =
+    to_z-of_z w32 c.own_number.result (search rules) ∙ c.own_number.ensures in
+    stands_now parts p me c.view.result c.pack_of-pack.result own middle c.view.ensures.d
     c.pack_of-pack.ensures c.push_changes.new.mark c.list.result.now chat c.new_lines.result.now
     c.list.ensures.is c.new_lines.ensures
     (c.in_ok-push_changes.ensures.stands (chat ++ c.new_lines.result.now))

@@ -3,7 +3,8 @@ use Rattle.mc_entities.specs.Folk.{FolkState}
 use Rattle.mc_flush.specs.Lists.{ListValue}
 use Rattle.mc_flush.specs.Seeing.{Parts, present_parts, settled_parts}
 use Rattle.mc_land.specs.Land.{LandValue}
-use Rattle.mc_server.specs.Served.{ServerValue, shown_parts, things_of}
+use Rattle.mc_server.specs.ReadyColumns.{views_of}
+use Rattle.mc_server.specs.Served.{AreInRange, ServerValue, shown_parts, things_of}
 use Rattle.mc_server.specs.Stands.{Stands}
 use Rattle.mc_server.specs.Ticking as scenes
 use Rattle.mc_server.specs.contracts.server.Server.{the_view}
@@ -41,17 +42,18 @@ invariant_of-self-in_err-views c =
     c.as_slice-2.result.now c.remove_all.ensures c.self.invariant.in_range)
     c.show_all.ensures.named c.show_all.ensures.fewer
 
--- the land is settled, and columns that are not needed are ready no more
+-- land and entities are settled, and columns that are not needed are ready no more
 pub invariant_of-self-2 : goal.invariant_of-self-2
 invariant_of-self-2 c =
     let done = shed_settled c.prepare.new.land c.settle.new.self c.shed.new.self _
     c.settle.ensures c.shed.ensures in
+    let left_ = left_in_range c.self.inside.folk.state c.remove_all.new.folk.state
+    c.as_slice-2.result.now c.remove_all.ensures c.self.invariant.in_range in
     kept_ticked c.self.inside.connections.items c.self.invariant c.shed.new.self
-    c.remove_all.new.folk.state c.show_all.new.connections.items
+    c.settle-2.new.self.state c.show_all.new.connections.items
     (ap (λ (l : LandValue). l.terrain) done ∙ c.prepare.ensures.same.terrain)
     (ap (λ (l : LandValue). l.edits) done ∙ c.prepare.ensures.same.edits)
-    (left_in_range c.self.inside.folk.state c.remove_all.new.folk.state
-    c.as_slice-2.result.now c.remove_all.ensures c.self.invariant.in_range)
+    (subst (λ (s : FolkState). AreInRange s.entities) (sym c.settle-2.ensures.state) left_)
     c.show_all.ensures.named c.show_all.ensures.fewer
 
 pub returns-clause-sheds : goal.returns-clause-sheds
@@ -60,7 +62,9 @@ returns-clause-sheds c =
     c.settle.ensures c.shed.ensures in
     sheds_ready _ c.prepare.new.land c.as_slice-3.result.now
     (ap (λ (l : LandValue). l.ready) done) (ap (λ (l : LandValue). l.edits) done)
-    (c.as_slice-3.ensures.value ∙ c.in_ok-views.ensures) c.args.self.now c.self.inside.land
+    (c.as_slice-3.ensures.value ∙ c.in_ok-views.ensures ∙ ap (λ (s : FolkState).
+    views_of c.self.inside.settings.cap c.self.inside.settings.terrain s.entities
+    c.show_all.new.connections.items) (sym c.settle-2.ensures.state)) c.args.self.now c.self.inside.land
     (ap (λ (v : ServerValue). v.ready) c.self.view_is) c.prepare.ensures.grown
 
 pub returns-clause-follows : goal.returns-clause-follows
@@ -108,7 +112,8 @@ returns-clause-follows c = λ w st orderly balanced.
     (sym (ap (λ (l : LandValue). l.settled) done)) in
     let shed : things_of c.shed.new.self state packs ≡ v.things =
     ap (λ (l : LandValue). things_of l state packs) done ∙ things in
-    let left_ = ap (λ (s : FolkState). things_of c.shed.new.self s packs) (c.remove_all.ensures
+    let left_ = ap (λ (s : FolkState). things_of c.shed.new.self s packs) c.settle-2.ensures.state
+    ∙ ap (λ (s : FolkState). things_of c.shed.new.self s packs) (c.remove_all.ensures
     ∙ ap (λ (eids : List ℤ). all_removed state eids)
     (c.as_slice-2.ensures.value ∙ c.in_ok-left.ensures.left)) in
     ticked_stands v _ w here c.shed.new.self state packs shed left_
