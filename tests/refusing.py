@@ -1,7 +1,7 @@
 """Tests of the tests: what the readers and the replica take and refuse of what tells of others.
 
-Each row is some frames in hex, worked out from the pages of wiki.vg that clientbound.py names. All
-but the last are taken, and so is the last where the row says so.
+Each row is some frames in hex, worked out from the pages of wiki.vg that clientbound.py names. Of
+what is refused the last frame is, and all before it are taken.
 """
 
 from client import expect
@@ -11,7 +11,7 @@ from replica import Replica
 
 ANNA, BEN = (offline_identifier(name).hex for name in ("Anna", "Ben"))
 
-# Where players enter flat land, without x and whole, and what Anna, the player 1, looks like there.
+# Where players enter flat land, its y and z alone, and how Anna comes there as the player 1.
 LEFT = "0000008000000110"
 FEET = "00000110" + LEFT
 SPAWN = f"0C01{ANNA}{FEET}0000000100007F"

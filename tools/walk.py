@@ -3,6 +3,8 @@
 
 usage: walk.py SEED [MOVES] > crates/mc_walk/stdin 2> crates/mc_walk/stdout
 
+What is there was made with the seed 47.
+
 Three clients move and look about by chance, mostly near each other: small steps, steps at the edge
 of what a step can tell and past it, jumps, out of view and back, turns with and without a step, and
 several of these between two ticks. By a reading of its own of docs/WORLD.md, 'Entities', it counts
