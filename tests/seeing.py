@@ -163,8 +163,7 @@ def hands_are_seen(path):
         for place, stack in held:
             anna.send(protocol.held(place))
             expect_sent({anna: [], ben: [Equipment(1, stack)]})
-        for moved in (protocol.held(0), protocol.held(9), protocol.held(-1)):
-            anna.send(moved)
+        anna.send(protocol.held(0) + protocol.held(9) + protocol.held(-1))
         expect_sent({anna: [], ben: []})
         anna.send(protocol.held(4))
         expect_sent({anna: [], ben: [Equipment(1, None)]})
@@ -356,13 +355,9 @@ def nobody_sees_itself(path):
     with Program(path) as program:
         anna = log_in(program.port, "Anna")
         anna.forget_news()
-        for said in (
-            move_to((273, 128, 272)),
-            move_to((500, 300, 272), (9, 9)),
-            protocol.look(*turn((200, 100))),
-            protocol.held(1),
-            protocol.held(8),
-        ):
+        moves = move_to((273, 128, 272)), move_to((500, 300, 272), (9, 9))
+        turns = protocol.look(*turn((200, 100))), protocol.look(*turn((200, 101)))
+        for said in (*moves, *turns, protocol.held(1), protocol.held(8)):
             anna.send(said)
             expect_sent({anna: []})
         anna.send(protocol.held(0) + drop(DROP_ONE))
