@@ -5,8 +5,8 @@ Item Change' and 'Creative Inventory Action'), docs/PROTOCOL.md and docs/WORLD.m
 """
 
 import protocol
-from client import expect, log_in, pump, wait_for_pack
-from clientbound import Change, SetSlot, WindowItems
+from client import expect, log_in, wait_for_pack
+from clientbound import Change, Equipment, HeadLook, SetSlot, Teleport, WindowItems
 from news import AIR, BENEATH, CHEST_STATE, DOWN, DROP_ONE, DROP_STACK, FACES, FLAT_FEET, NORTH
 from news import PLANKS_STATE, SOUTH, UP, at_face, dig, drop, leave, log_in_two, settle
 from news import dig_news, expect_items, expect_sent, hand_news, item_news, pack_news, window_news
@@ -73,8 +73,9 @@ def placements_take_one(path):
         for face, claim in enumerate(claims):
             anna.send(protocol.placement(middle, face, claim))
             change = Change(at_face(middle, face), STONE_STATE)
-            hand = hand_news(0, Stack(STONE, 63 - face, 0))
-            expect_sent({anna: [change, hand], ben: [change]})
+            left = Stack(STONE, 63 - face, 0)
+            due = {anna: [change, hand_news(0, left)], ben: [change, Equipment(1, left)]}
+            expect_sent(due)
         for face in (-1, 6, 127, -128):
             anna.send(protocol.placement(middle, face))
         anna.send(protocol.placement((-1, -1, -1), -1, STONE_PILE))
@@ -97,7 +98,7 @@ def refused_placements_show_both_cells(path):
             expect_sent({anna: due + window_news(KIT), ben: []})
         anna.send(protocol.held(4) + protocol.placement(BENEATH, UP, STONE_PILE))
         due = [Change(BENEATH, GRASS), Change(above, AIR)]
-        expect_sent({anna: due + window_news(KIT), ben: []})
+        expect_sent({anna: due + window_news(KIT), ben: [Equipment(1, None)]})
         anna.check_blocks(Flat())
 
 
@@ -106,13 +107,15 @@ def the_highest_cell_is_filled(path):
     highest = (8, 255, 8)
     with Program(path) as program:
         anna, ben = log_in_two(program.port)
-        anna.send(protocol.position(8.5, 255.0, 8.5) + protocol.placement((8, 254, 8), UP))
-        put = Change(highest, STONE_STATE)
-        expect_sent({anna: [put, hand_news(0, Stack(STONE, 63, 0))], ben: [put]})
+        anna.send(protocol.position(8.5, 255.0, 8.5))
+        expect_sent({anna: [], ben: [Teleport(1, (272, 8160, 272), 0, 0)]})
+        anna.send(protocol.placement((8, 254, 8), UP))
+        put, left = Change(highest, STONE_STATE), Stack(STONE, 63, 0)
+        expect_sent({anna: [put, hand_news(0, left)], ben: [put, Equipment(1, left)]})
         anna.send(protocol.placement(highest, UP))
-        left = pack_of(Stack(STONE, 63, 0), DIRT_PILE, PLANKS_PILE, CHEST_PILE)
         due = [put, Change(at_face(highest, UP), AIR)]
-        expect_sent({anna: due + window_news(left), ben: []})
+        due += window_news(pack_of(left, DIRT_PILE, PLANKS_PILE, CHEST_PILE))
+        expect_sent({anna: due, ben: []})
         anna.check_blocks(Changed(Flat(), {highest: STONE_STATE}))
 
 
@@ -134,13 +137,17 @@ def chests_are_not_built_on(path):
     chest = at_face(BENEATH, UP)
     with Program(path) as program:
         anna, ben = log_in_two(program.port)
-        anna.send(protocol.held(3) + protocol.placement(BENEATH, UP))
-        put = Change(chest, CHEST_STATE)
-        expect_sent({anna: [put, hand_news(3, Stack(CHEST, 3, 0))], ben: [put]})
-        for place in (0, 3, 8):
+        anna.send(protocol.held(3))
+        expect_sent({anna: [], ben: [Equipment(1, CHEST_PILE)]})
+        anna.send(protocol.placement(BENEATH, UP))
+        put, left = Change(chest, CHEST_STATE), Stack(CHEST, 3, 0)
+        expect_sent({anna: [put, hand_news(3, left)], ben: [put, Equipment(1, left)]})
+        for place, stack in ((0, STONE_PILE), (3, left), (8, None)):
+            anna.send(protocol.held(place))
+            expect_sent({anna: [], ben: [Equipment(1, stack)]})
             for face in FACES:
-                anna.send(protocol.held(place) + protocol.placement(chest, face))
-        expect_sent({anna: [], ben: []})
+                anna.send(protocol.placement(chest, face))
+            expect_sent({anna: [], ben: []})
         anna.send(dig(chest))
         due = dig_news(3, chest, CHEST_STATE)
         expect_sent({anna: due, ben: due})
@@ -190,14 +197,15 @@ def drops_lie_where_the_player_is(path):
     with Program(path) as program:
         anna, ben = log_in_two(program.port)
         anna.send(drop(DROP_ONE))
-        item = item_news(3, *lying[3])
-        expect_sent({anna: item + [hand_news(0, Stack(STONE, 63, 0))], ben: item})
-        anna.send(protocol.position_look(-0.53125, 7.17, 9.5, 90.0, 45.0) + drop(DROP_STACK))
-        item = item_news(4, *lying[4])
-        expect(pump([anna, ben], lambda: 4 in anna.replica.items), "no stack lies there")
+        item, left = item_news(3, *lying[3]), Stack(STONE, 63, 0)
+        expect_sent({anna: item + [hand_news(0, left)], ben: [Equipment(1, left), *item]})
+        anna.send(protocol.position_look(-0.53125, 7.17, 9.5, 90.0, 45.0))
         settle([anna, ben])
         anna.replica.changes.clear()
-        expect_sent({anna: item + [hand_news(0, None)], ben: item})
+        expect_sent({anna: [], ben: [Teleport(1, place, 64, 32), HeadLook(1, 64)]})
+        anna.send(drop(DROP_STACK))
+        item = item_news(4, *lying[4])
+        expect_sent({anna: item + [hand_news(0, None)], ben: [Equipment(1, None), *item]})
         anna.send(drop(DROP_ONE) + drop(DROP_STACK) + protocol.held(7) + drop(DROP_STACK))
         expect_sent({anna: [], ben: []})
         expect_items([anna, ben], lying)

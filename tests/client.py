@@ -238,6 +238,13 @@ def wait_for_names(clients, client, names):
     expect(done, f"the player list is {client.replica.names()}, not {sorted(names)}")
 
 
+def wait_for_others(clients, client, numbers):
+    """Wait until one of the clients sees just the other players of these numbers, and whole."""
+    others = client.replica.others
+    done = pump(clients, lambda: others.seen.keys() == set(numbers) and others.is_whole())
+    expect(done, f"the others {others.seen} are seen, not {numbers}")
+
+
 def wait_for_end(clients, client):
     """Wait until the server has closed one of the clients, without a reset or a frame cut off.
 

@@ -1,11 +1,13 @@
 """The packets that the server sends in play, as these tests read them.
 
 Sources: wiki.vg for protocol 47, 'Protocol', 'Play', 'Clientbound', with 'Data types', 'Slot Data'
-and 'Entities' (the metadata of a dropped item), and docs/PROTOCOL.md, 'Packets to the client in
-play', as far as docs/WORLD.md has it sent. They are read as strictly as those of protocol.py: of
-objects only dropped items, and of metadata only what such an item is.
+and 'Entities' (the metadata of a player and of a dropped item), and docs/PROTOCOL.md, 'Packets to
+the client in play', as far as docs/WORLD.md has it sent. They are read as strictly as those of
+protocol.py: of objects only dropped items, of metadata only what such an item is and that no flag
+of a player is set, and of what players wear only what is in the hand.
 """
 
+import uuid
 from typing import NamedTuple
 
 from protocol import LONGEST_NAME, Malformed, Stack, read_words
@@ -18,6 +20,12 @@ STATES = range(4096)
 DROPPED_ITEM = 2
 ITEM_ENTRY = 5 << 5 | 10
 NO_MORE_ENTRIES = 0x7F
+
+# The metadata of a player that comes: its flags, a Byte (0) at the index 0, of which none is set.
+NO_FLAGS = bytes((0, 0, NO_MORE_ENTRIES))
+
+# Where a player wears what is in its hand.
+IN_HAND = 0
 
 # Where a Chat is shown that a player says.
 SAID = 0
@@ -94,6 +102,64 @@ class MultiChange(NamedTuple):
 
     place: tuple
     records: list
+
+
+class Equipment(NamedTuple):
+    """What another player has in its hand now."""
+
+    entity: int
+    stack: Stack
+
+
+class SpawnPlayer(NamedTuple):
+    """Another player that comes into view, in 1/32 blocks, with the id of what it holds, or 0."""
+
+    entity: int
+    identifier: uuid.UUID
+    place: tuple
+    yaw: int
+    pitch: int
+    held: int
+
+
+class Step(NamedTuple):
+    """How far another player went, in 1/32 blocks; Entity Relative Move on the pages."""
+
+    entity: int
+    by: tuple
+
+
+class Look(NamedTuple):
+    """How another player looks now, in 1/256 of a turn."""
+
+    entity: int
+    yaw: int
+    pitch: int
+
+
+class StepLook(NamedTuple):
+    """How far another player went, and how it looks now."""
+
+    entity: int
+    by: tuple
+    yaw: int
+    pitch: int
+
+
+class Teleport(NamedTuple):
+    """Where another player is now, in 1/32 blocks, and how it looks."""
+
+    entity: int
+    place: tuple
+    yaw: int
+    pitch: int
+
+
+class HeadLook(NamedTuple):
+    """How the head of another player looks now."""
+
+    entity: int
+    yaw: int
 
 
 class SpawnItem(NamedTuple):
@@ -198,10 +264,67 @@ def read_record(reader):
     return y * 256 + across % 16 * 16 + across // 16, read_state(reader)
 
 
+def read_equipment(reader):
+    """Take the fields of Entity Equipment, which is what is in the hand."""
+    entity, worn = reader.varint(), reader.number("h")
+    if worn != IN_HAND:
+        raise Malformed(f"{entity} wears something at {worn}")
+    return Equipment(entity, reader.slot())
+
+
+def read_triple(reader, form):
+    """Take three numbers of a form: a place, or how far something went."""
+    return reader.number(form), reader.number(form), reader.number(form)
+
+
+def read_spawn_player(reader):
+    """Take the fields of Spawn Player, which is one without flags."""
+    entity, identifier, place = reader.varint(), reader.identifier(), read_triple(reader, "i")
+    spawn = SpawnPlayer(entity, identifier, place, *read_look(reader), reader.number("h"))
+    flags = reader.take(len(NO_FLAGS))
+    if flags != NO_FLAGS or spawn.held < 0:
+        raise Malformed(f"{spawn} with the metadata {flags.hex()}")
+    return spawn
+
+
+def read_look(reader):
+    """Take a yaw and a pitch in 1/256 of a turn."""
+    return reader.number("B"), reader.number("B")
+
+
+def on_ground(reader, packet):
+    """Take the last field of a packet that moves a player, which is always on the ground."""
+    if not reader.boolean():
+        raise Malformed(f"{packet} in the air")
+    return packet
+
+
+def read_step(reader):
+    """Take the fields of Entity Relative Move."""
+    return on_ground(reader, Step(reader.varint(), read_triple(reader, "b")))
+
+
+def read_turn(reader):
+    """Take the fields of Entity Look."""
+    return on_ground(reader, Look(reader.varint(), *read_look(reader)))
+
+
+def read_step_look(reader):
+    """Take the fields of Entity Look And Relative Move."""
+    entity, by = reader.varint(), read_triple(reader, "b")
+    return on_ground(reader, StepLook(entity, by, *read_look(reader)))
+
+
+def read_teleport(reader):
+    """Take the fields of Entity Teleport."""
+    entity, place = reader.varint(), read_triple(reader, "i")
+    return on_ground(reader, Teleport(entity, place, *read_look(reader)))
+
+
 def read_spawn_item(reader):
     """Take the fields of Spawn Object, which is a dropped item without a speed."""
     entity, kind = reader.varint(), reader.number("b")
-    place = reader.number("i"), reader.number("i"), reader.number("i")
+    place = read_triple(reader, "i")
     pitch, yaw, extra = reader.number("B"), reader.number("B"), reader.number("i")
     if kind != DROPPED_ITEM or extra != 0:
         raise Malformed(f"an object of the kind {kind} with the extra {extra}")
@@ -270,10 +393,17 @@ PLAY = {
     0x01: read_join_game,
     0x02: read_chat,
     0x03: lambda reader: Time(reader.number("q"), reader.number("q")),
+    0x04: read_equipment,
     0x05: lambda reader: SpawnPosition(*reader.block_position()),
     0x08: read_place,
+    0x0C: read_spawn_player,
     0x0E: read_spawn_item,
     0x13: read_destroy,
+    0x15: read_step,
+    0x16: read_turn,
+    0x17: read_step_look,
+    0x18: read_teleport,
+    0x19: lambda reader: HeadLook(reader.varint(), reader.number("B")),
     0x1C: read_item_is,
     0x21: read_chunk,
     0x22: read_multi_change,

@@ -54,9 +54,11 @@ def fifty_get_in(path):
 
 
 def are_in_play(clients):
-    """Whether each client is shown the land, and a list of as many players as they are."""
+    """Whether each client is shown the land, a list of all of them, and all others."""
     return all(
-        client.is_shown((0, 0), SMALLEST_VIEW) and len(client.replica.players) == len(clients)
+        client.is_shown((0, 0), SMALLEST_VIEW)
+        and len(client.replica.players) == len(clients)
+        and len(client.replica.others.seen) == len(clients) - 1
         for client in clients
     )
 

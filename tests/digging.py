@@ -6,16 +6,18 @@ one write may still be read in two ticks; where that would change what is sent, 
 
 import protocol
 from client import PATIENCE, SMALLEST_VIEW, expect, log_in, pump, wait_for_names, wait_for_view
-from clientbound import Change, Destroy, ItemIs, MultiChange, SpawnItem
+from client import wait_for_others
+from clientbound import Change, Destroy, Equipment, ItemIs, MultiChange, SpawnItem
 from columns import column_at
 from news import AIR, BENEATH, DIG, DROP_ONE, DROP_STACK, EAST, FLAT_FEET, UP
 from news import at_face, dig, drop, floor_of, log_in_two, one_of, settle
-from news import dig_news, expect_items, expect_sent, hand_news, item_news, window_news
+from news import dig_news, expect_items, expect_sent, hand_news, item_news, player_news
+from news import window_news
+from others import PARTS
 from packs import KIT, STONE
 from play import forget_news
 from program import Program
 from protocol import Stack
-from replica import PARTS
 from terrain import BEDROCK, DIRT, GRASS, Changed, Flat, Hills, Isle, height
 from terrain import STONE as STONE_STATE
 
@@ -31,18 +33,21 @@ def changes_are_shown_in_views(path):
     near, alone, beside = ((x, height(5, x, z), z) for x, z in ((18, 8), (10, 8), (18, 9)))
     above = at_face(beside, UP)
     changed = Changed(land, {near: AIR, alone: AIR, above: STONE_STATE})
+    feet, left = (496, 32 * int(land.spawn[1]), 272), Stack(STONE, 63, 0)
     items = {3: (floor_of(near), one_of(GRASS)), 4: (floor_of(alone), one_of(GRASS))}
     with Program(path, land=land.argument, view=SMALLEST_VIEW) as program:
         anna, ben = log_in_two(program.port)
         anna.send(protocol.position(15.5, land.spawn[1], 8.5))
+        settle([anna, ben])
         walk([anna, ben], ben, 56.5)
+        expect_sent({anna: [Destroy([2])], ben: [Destroy([1])]})
         anna.send(dig(near))
         expect_sent({anna: dig_news(3, near, GRASS), ben: dig_news(3, near, GRASS)})
         anna.send(dig(alone))
         expect_sent({anna: dig_news(4, alone, GRASS), ben: []})
         anna.send(protocol.placement(beside, UP))
         stone = Change(above, STONE_STATE)
-        expect_sent({anna: [stone, hand_news(0, Stack(STONE, 63, 0))], ben: [stone]})
+        expect_sent({anna: [stone, hand_news(0, left)], ben: [stone]})
         expect_items([ben], {3: items[3]})
         cora = log_in(program.port, "Cora", [anna, ben])
         told = changes_in(cora)
@@ -50,7 +55,8 @@ def changes_are_shown_in_views(path):
         everybody = [anna, ben, cora]
         wait_for_names(everybody, ben, ["Anna", "Ben", "Cora"])
         walk(everybody, ben, 8.5)
-        due = item_news(4, *items[4])
+        due = player_news(1, "Anna", feet, left) + item_news(4, *items[4])
+        due += player_news(5, "Cora", (272, feet[1], 272), KIT[27])
         expect(ben.news() == due, f"{ben.news()} for a view that moves, not {due}")
         expect_items(everybody, items)
         for client in everybody:
@@ -183,27 +189,33 @@ def items_come_and_go_with_the_view(path):
 
 def items_find_no_room(path):
     """Where 4,096 items lie nothing is dug or dropped; blocks are placed all the same."""
-    dug = []
     with Program(path) as program:
         anna = log_in(program.port, "Anna")
-        for x, z in STANDS:
-            cells = reach_of(x, z)
-            here = cells[: MOST_ITEMS - len(dug)]
-            anna.send(protocol.position(x + 0.5, 4.0, z + 0.5) + b"".join(map(dig, here)))
-            dug += here
-        is_full = pump([anna], lambda: len(anna.replica.items) == MOST_ITEMS, 6 * PATIENCE)
-        expect(is_full, f"{len(anna.replica.items)} items lie")
+        dug = dig_until_full(anna)
         settle([anna])
         anna.forget_news()
-        expect_no_room(anna, cells[-1])
+        left = reach_of(*STANDS[-1])[-1]
+        expect_no_room(anna, left)
         ben = log_in(program.port, "Ben", [anna])
         expect(ben.replica.items == anna.replica.items, "the two see other items")
-        above = {at_face(cells[-1], UP): STONE_STATE}
+        above = {at_face(left, UP): STONE_STATE}
         for client in (anna, ben):
             client.check_blocks(Changed(Flat(), dict.fromkeys(dug, AIR) | above))
         walk([anna, ben], ben, 500.5)
-        due = [Destroy(list(range(2, 2 + MOST_ITEMS)))]
+        due = [Destroy(list(range(1, 2 + MOST_ITEMS)))]
         expect(ben.news() == due, f"{len(ben.news())} packets for a walk away from all items")
+
+
+def dig_until_full(client):
+    """Let a client dig as many cells as items find room; answer them."""
+    dug = []
+    for x, z in STANDS:
+        here = reach_of(x, z)[: MOST_ITEMS - len(dug)]
+        client.send(protocol.position(x + 0.5, 4.0, z + 0.5) + b"".join(map(dig, here)))
+        dug += here
+    is_full = pump([client], lambda: len(client.replica.items) == MOST_ITEMS, 6 * PATIENCE)
+    expect(is_full, f"{len(client.replica.items)} items lie")
+    return dug
 
 
 def reach_of(x, z):
@@ -229,13 +241,17 @@ def empty_columns_fill_and_empty(path):
     stone, beside = (15, 63, 8), (16, 63, 8)
     with Program(path, land=Isle.argument) as program:
         anna, ben = log_in_two(program.port)
-        anna.send(protocol.position(12.5, 64.0, 8.5) + protocol.placement(stone, EAST))
-        put = Change(beside, STONE_STATE)
-        expect_sent({anna: [put, hand_news(0, Stack(STONE, 63, 0))], ben: [put]})
+        anna.send(protocol.position(12.5, 64.0, 8.5))
+        settle([anna, ben])
+        forget_news([anna, ben])
+        anna.send(protocol.placement(stone, EAST))
+        put, left = Change(beside, STONE_STATE), Stack(STONE, 63, 0)
+        expect_sent({anna: [put, hand_news(0, left)], ben: [put, Equipment(1, left)]})
         cora = log_in(program.port, "Cora", [anna, ben])
         cora.check_blocks(Changed(Isle(), {beside: STONE_STATE}))
         wait_for_names([anna, ben, cora], ben, ["Anna", "Ben", "Cora"])
         everybody = [anna, ben, cora]
+        wait_for_others(everybody, ben, [1, 3])
         settle(everybody)
         forget_news(everybody)
         anna.send(dig(beside))

@@ -1,16 +1,18 @@
-"""What clients are to be sent of cells, items and packs, and how it is found that they were.
+"""What clients are to be sent of cells, items, players and packs, and how that is found.
 
 Sources: wiki.vg, 'Protocol', 'Play', and docs/WORLD.md, 'A tick'. What is listed below is in the
 order in which a tick sends it.
 """
 
 import protocol
-from client import expect, log_in, pump, wait_for_names
-from clientbound import Change, ItemIs, SetSlot, SpawnItem, WindowItems
+from client import expect, log_in, pump, wait_for_names, wait_for_others
+from clientbound import Change, Equipment, HeadLook, ItemIs, SetSlot, SpawnItem, SpawnPlayer
+from clientbound import WindowItems
+from others import PARTS
 from packs import CHEST, FIRST_SLOT, HOTBAR, PLANKS
 from play import forget_news
-from protocol import Stack
-from replica import CURSOR_SLOT, CURSOR_WINDOW, PARTS, Item
+from protocol import Stack, offline_identifier
+from replica import CURSOR_SLOT, CURSOR_WINDOW, Item
 
 # What is done by a Player Digging: a cell is dug, or the stack in the hand or one of it is dropped.
 DIG = 2
@@ -70,6 +72,14 @@ def item_news(number, place, stack):
     return [SpawnItem(number, place, 0, 0), ItemIs(number, stack)]
 
 
+def player_news(number, name, place, stack, look=(0, 0)):
+    """List the packets of another player that comes into view, with what is in its hand."""
+    held = stack.item if stack else 0
+    spawn = SpawnPlayer(number, offline_identifier(name), place, *look, held)
+    hand = [Equipment(number, stack)] if stack else []
+    return [spawn, HeadLook(number, look[0]), *hand]
+
+
 def dig_news(number, cell, state):
     """List the packets of a cell that is dug alone in a tick, and of its item."""
     return [Change(cell, AIR), *item_news(number, floor_of(cell), one_of(state))]
@@ -92,10 +102,12 @@ def window_news(pack):
 
 
 def log_in_two(port):
-    """Log Anna in, the player 1, and Ben, the player 2, and let both hear of the other."""
+    """Log Anna in, the player 1, and Ben, the player 2, and let both see the other."""
     anna = log_in(port, "Anna")
     ben = log_in(port, "Ben", [anna])
     wait_for_names([anna, ben], anna, ["Anna", "Ben"])
+    wait_for_others([anna, ben], anna, [2])
+    wait_for_others([anna, ben], ben, [1])
     forget_news([anna, ben])
     return anna, ben
 

@@ -16,6 +16,7 @@ from client import (
     log_in,
     pump,
     wait_for_names,
+    wait_for_others,
     wait_for_view,
 )
 from clientbound import JoinGame, KeepAlive, Place, SpawnPosition, Time
@@ -24,6 +25,9 @@ from program import Program
 from terrain import Flat, Hills, Isle
 
 ODD_SIZES = (1, 2, 3, 5, 7, 11, 13)
+
+# Where nobody walks who is shown another's view.
+OUT_OF_SIGHT = 90_000.5, 70.0, 90_000.5
 
 
 def status_text(most, online):
@@ -100,6 +104,10 @@ def moves_change_the_view(path):
         wait_for_names(both, other, ["Otto", "Walda"])
         walker.send(protocol.settings(8))
         wait_for_view(both, walker, (0, 0), 3)
+        other.send(protocol.position(*OUT_OF_SIGHT))
+        wait_for_view(both, other, column_at(OUT_OF_SIGHT[0], OUT_OF_SIGHT[2]), SMALLEST_VIEW)
+        for client in both:
+            wait_for_others(both, client, [])
         forget_news(both)
         for x, z in ((16.0, 8.5), (32.5, 16.5), (-0.03125, 40.0), (-4000.5, 3000.25), (8.5, 8.5)):
             check_move(both, walker, (x, z), protocol.position(x, 70.0, z))

@@ -13,28 +13,33 @@ from clientbound import (
     Chunk,
     Destroy,
     Disconnect,
+    Equipment,
+    HeadLook,
     ItemIs,
     JoinGame,
     KeepAlive,
+    Look,
     MultiChange,
     Place,
     PlayersCame,
     PlayersLeft,
     SetSlot,
     SpawnItem,
+    SpawnPlayer,
     SpawnPosition,
+    Step,
+    StepLook,
+    Teleport,
     Time,
     WindowItems,
 )
 from columns import HEIGHT, column_at, index_of, read_column
+from others import Others, column_of_place
 from packs import FIRST_SLOT, SLOTS, pack_of
 from protocol import Malformed, Stack, offline_identifier
 
 CURSOR_WINDOW = -1
 CURSOR_SLOT = -1
-
-# A block is so many of the parts in which places of entities are told.
-PARTS = 32
 
 # How many ticks there are in a beat, from one age that is told to the next, and in a day.
 BEAT_TICKS = 100
@@ -50,13 +55,16 @@ class Item(NamedTuple):
 
 
 class Replica:
-    """All that a client is shown: its place, columns, items, pack, players, time and chat."""
+    """All that a client is shown: place, columns, others, items, pack, players, time and chat."""
 
     def __init__(self):
         self.joined = None
         self.compass = None
         self.place = None
         self.columns = {}
+        self.others = Others()
+        # Who stood in a column that was unloaded, and is to be told to have moved.
+        self.strays = set()
         self.items = {}
         self.pack = pack_of()
         self.players = {}
@@ -79,8 +87,22 @@ class Replica:
         due = NEXT.get(type(self.previous), type(packet))
         if type(packet) is not due:
             raise Malformed(f"{type(packet).__name__} where {due.__name__} is due")
+        self.others.check_next(packet)
+        self.check_others(packet)
         FOLDS[type(packet)](self, packet)
         self.previous = packet
+
+    def check_others(self, packet):
+        """Find that who is seen is in the list, and in a column that is there, where due."""
+        if type(packet) not in LEADING_TO_MOVES and self.strays:
+            raise Malformed(f"{packet} where {self.strays} stand in columns that went")
+        if type(packet) not in LEADING_TO_DESTROYS and self.unlisted():
+            raise Malformed(f"{packet} where {self.unlisted()} have left and are seen")
+
+    def unlisted(self):
+        """Answer the numbers of those that are seen and in no line of the player list."""
+        seen = self.others.seen.items()
+        return {number for number, other in seen if other.identifier not in self.players}
 
     def join(self, packet):
         """Begin; that comes once, before all else."""
@@ -121,8 +143,10 @@ class Replica:
         """Give a column up; the items in it went before."""
         if packet.body:
             raise Malformed(f"an unload of {packet.place} with {len(packet.body)} bytes")
-        if any(column_of_item(item.place) == packet.place for item in self.items.values()):
+        if any(column_of_place(item.place) == packet.place for item in self.items.values()):
             raise Malformed(f"an unload of {packet.place}, where items lie")
+        seen = self.others.seen.items()
+        self.strays |= {number for number, other in seen if other.column() == packet.place}
         del self.columns[packet.place]
 
     def set_cell(self, packet):
@@ -153,12 +177,31 @@ class Replica:
         """Answer the state of a cell of a column that is there."""
         return self.columns[column_at(cell[0], cell[2])].state_at(index_of(cell))
 
+    def check_new(self, packet):
+        """Find that an entity that comes has a number of its own, and a column that is there."""
+        known = self.items.keys() | self.others.seen.keys() | {self.joined.entity}
+        if packet.entity in known or packet.entity < 1:
+            raise Malformed(f"{packet} of a number that stands for another")
+        if column_of_place(packet.place) not in self.columns:
+            raise Malformed(f"{packet} in a column that is not there")
+
+    def add_other(self, packet):
+        """See another player, of which the list says who it is."""
+        self.check_new(packet)
+        if packet.identifier not in self.players:
+            raise Malformed(f"{packet} of nobody in the list")
+        self.others.add(packet)
+
+    def change_other(self, packet):
+        """Change how another player is seen, which is in a column that is there then."""
+        CHANGES[type(packet)](self.others, packet)
+        if self.others.seen[packet.entity].column() not in self.columns:
+            raise Malformed(f"{packet} of who is in a column that is not there")
+        self.strays.discard(packet.entity)
+
     def add_item(self, packet):
         """Put a new item into a column that is there; what it is comes next."""
-        if packet.entity in self.items or packet.entity in (0, self.joined.entity):
-            raise Malformed(f"{packet} of a number that stands for another")
-        if column_of_item(packet.place) not in self.columns:
-            raise Malformed(f"{packet} in a column that is not there")
+        self.check_new(packet)
         self.items[packet.entity] = Item(packet.place, None)
 
     def name_item(self, packet):
@@ -168,12 +211,13 @@ class Replica:
         self.items[packet.entity] = Item(self.items[packet.entity].place, packet.stack)
 
     def destroy(self, packet):
-        """Give items up, in rising numbers."""
+        """Give items and other players up, in rising numbers."""
         if not packet.entities or packet.entities != sorted(set(packet.entities)):
             raise Malformed(f"{packet} of none, or in no order")
         for entity in packet.entities:
-            if self.items.pop(entity, None) is None:
-                raise Malformed(f"{packet} of {entity}, which is not there")
+            if self.items.pop(entity, None) or self.others.seen.pop(entity, None):
+                continue
+            raise Malformed(f"{packet} of {entity}, which is not there")
 
     def set_slot(self, packet):
         """Keep what a slot of the pack holds now, or behind a whole window the empty cursor."""
@@ -238,11 +282,6 @@ class Replica:
         return sorted(self.players.values())
 
 
-def column_of_item(place):
-    """Answer the column in which an item lies."""
-    return column_at(place[0] // PARTS, place[2] // PARTS)
-
-
 OPENING = (JoinGame, SpawnPosition, Place)
 
 # What may come before all else: the opening with the first beat, or a farewell.
@@ -251,7 +290,24 @@ BEGINNING = (*OPENING, KeepAlive, Disconnect)
 # What comes next behind a packet of one kind, always.
 NEXT = {KeepAlive: Time, SpawnItem: ItemIs, WindowItems: SetSlot}
 
+# What comes of another player that is seen.
+CHANGES = {
+    HeadLook: Others.set_head,
+    Equipment: Others.set_hand,
+    Step: Others.step,
+    StepLook: Others.step_and_turn,
+    Look: Others.turn,
+    Teleport: Others.jump,
+}
+
+# What a tick sends from the unload of a column on, up to the move of who stood there; and from the
+# leaving of a player on, up to the end of its entity.
+LEADING_TO_MOVES = {Chunk, Change, MultiChange, SpawnItem, ItemIs, SpawnPlayer, *CHANGES}
+LEADING_TO_DESTROYS = {PlayersLeft, PlayersCame, Destroy}
+
 FOLDS = {
+    **dict.fromkeys(CHANGES, Replica.change_other),
+    SpawnPlayer: Replica.add_other,
     JoinGame: Replica.join,
     SpawnPosition: Replica.set_compass,
     Place: Replica.set_place,

@@ -14,10 +14,12 @@ import digging
 import endings
 import faults
 import play
+import refusing
+import seeing
 import talking
 
 TESTS = [*play.TESTS, *talking.TESTS, *digging.TESTS, *carrying.TESTS, *faults.TESTS]
-TESTS += [*crowds.TESTS, *endings.TESTS]
+TESTS += [*refusing.TESTS, *seeing.TESTS, *crowds.TESTS, *endings.TESTS]
 
 
 def run_test(test, path):

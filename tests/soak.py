@@ -158,10 +158,15 @@ class Phases:
         self.times.append((what, begun, ended))
         return answer
 
+    def ticks_of(self, what, ticks):
+        """Answer the ticks of one of the phases, of the times at which one client saw them."""
+        _, begun, ended = next(phase for phase in self.times if phase[0] == what)
+        return [tick for tick in ticks if begun <= tick <= ended]
+
     def tell_ticks(self, ticks):
         """Say of each phase how the ticks came in it, by the times at which one client saw them."""
-        for what, begun, ended in self.times:
-            seen = [tick for tick in ticks if begun <= tick <= ended]
+        for what, _, _ in self.times:
+            seen = self.ticks_of(what, ticks)
             gaps = sorted(after - before for before, after in zip(seen, seen[1:]))
             if gaps:
                 say(f"ticks while {what}: {len(seen)}, {gaps_text(gaps)}")
@@ -170,9 +175,10 @@ class Phases:
 def gaps_text(gaps):
     """Write sorted times between ticks down."""
     late = sum(1 for gap in gaps if gap > LATE_TICK)
-    longest, middle = 1000 * gaps[-1], 1000 * gaps[len(gaps) // 2]
+    longest, middle, mean = gaps[-1], gaps[len(gaps) // 2], sum(gaps) / len(gaps)
     above = f"{late} times above {1000 * LATE_TICK:.0f} ms"
-    return f"longest time between two {longest:.0f} ms, {above}, median {middle:.1f} ms"
+    usual = f"median {1000 * middle:.1f} ms, mean {1000 * mean:.1f} ms"
+    return f"longest time between two {1000 * longest:.0f} ms, {above}, {usual}"
 
 
 def watch_ticks(port, pipe):
@@ -203,13 +209,13 @@ class TickWatch:
         return ticks
 
 
-def log_in_walkers(port):
-    """Log all in that walk; the first one's packets are folded into a replica."""
+def log_in_walkers(port, view=VIEW):
+    """Log all in that walk, with a view; the first one's packets are folded into a replica."""
     walkers = [CheckedWalker(port)] + [Walker(port) for _ in range(PLAYERS - 2)]
     for number, walker in enumerate(walkers):
         walker.log_in(f"Walker_{number}")
     checked = walkers[0]
-    wait_for_view(walkers, checked, column_at(8.5, 8.5), VIEW)
+    wait_for_view(walkers, checked, column_at(8.5, 8.5), view)
     listen(walkers, 1)
     return walkers
 
@@ -221,22 +227,32 @@ def place_at(number, seconds):
     return 8.5 + way * math.cos(direction), 4.0, 8.5 + way * math.sin(direction)
 
 
-def walk(walkers, usage, minutes):
-    """Let all walk for so many minutes, and say after each how the server stands."""
+def walk_together(walkers, steps, step_of):
+    """Let all do so many steps in time, and say by how much one was late; yield behind each.
+
+    `step_of` makes a walker's packet by its number and by how long all have walked.
+    """
     begun = time.monotonic()
-    steps = round(60 * minutes * STEPS_A_SECOND)
     latest = 0.0
     for step in range(1, steps + 1):
         due = begun + step / STEPS_A_SECOND
         listen(walkers, max(0.001, due - time.monotonic()))
         latest = max(latest, time.monotonic() - due)
         for number, walker in enumerate(walkers):
-            walker.send(protocol.position(*place_at(number, step / STEPS_A_SECOND)))
-        if step % (60 * STEPS_A_SECOND) == 0:
-            say(f"  after minute {step // (60 * STEPS_A_SECOND)}: {usage.state()}")
+            walker.send(step_of(number, step / STEPS_A_SECOND))
+        yield step
     ended = [number for number, walker in enumerate(walkers) if walker.ended]
     expect(not ended, f"closed while they walked: {ended}")
     say(f"  the walkers' own latest step was {1000 * latest:.0f} ms late")
+
+
+def walk(walkers, usage, minutes):
+    """Let all walk for so many minutes, and say after each how the server stands."""
+    steps = round(60 * minutes * STEPS_A_SECOND)
+    step_of = lambda number, seconds: protocol.position(*place_at(number, seconds))
+    for step in walk_together(walkers, steps, step_of):
+        if step % (60 * STEPS_A_SECOND) == 0:
+            say(f"  after minute {step // (60 * STEPS_A_SECOND)}: {usage.state()}")
 
 
 def check_walkers(walkers, minutes):
