@@ -81,11 +81,6 @@ piece_pushed old new piece put =
     ap joined put ∙ flat_map-append (λ (p : List ℕ). p) old (piece ∷ [])
     ∙ ap (λ (t : List ℕ). joined old ++ t) (append-nil piece)
 
--- a buffer that began empty, as one piece
-pub buffer_pushed : (old new piece b0 b1 bytes : List ℕ) → b0 ≡ [] → b1 ≡ b0 ++ bytes → piece ≡ b1 →
-    new ≡ old ++ piece → new ≡ old ++ bytes
-buffer_pushed old new piece b0 b1 bytes none put is pushed = pushed ∙ rw (is, put, none) refl
-
 -- all of a tick, behind what was there: what differs, the cells that were noted, and all else
 pub tick_put : (old new p0 p1 p2 p3 : List (List ℕ)) (cs ds ns ms : List Down) → p0 ≡ [] →
     joined p1 ≡ joined p0 ++ play_bytes cs → joined p2 ≡ joined p1 ++ play_bytes ns →

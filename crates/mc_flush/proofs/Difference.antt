@@ -18,6 +18,8 @@ use Rattle.mc_land.specs.declared.ready.Touched.{Touched}
 use Rattle.mc_land.specs.Places.{Place, place_cmp}
 use Rattle.mc_land.specs.Ready.{has_changed, touched_cell}
 use Rattle.mc_land.specs.Land.{LandValue, states_of}
+use Rattle.mc_fields.specs.declared.position.Spot.{Spot}
+use Rattle.mc_slots.specs.declared.pile.Pile.{Pile}
 use Rattle.mc_slots.specs.Pile.{slot_of}
 use Rattle.mc_windows.specs.Pack.{PackValue}
 use Rattle.mc_entities.specs.declared.entity.Entity.{Entity}
@@ -26,22 +28,25 @@ use Rattle.mc_entities.specs.Numbers.{Rise}
 use Rattle.mc_down.specs.declared.down.Down.{Down}
 use Rattle.mc_view.specs.declared.view_set.ViewSet.{ViewSet}
 use Rattle.mc_view.specs.Sets.{all_of, has, is_within}
+use Rattle.mc_view.specs.Forms.{moves_of}
 use Rattle.mc_view.specs.Told.{Told}
 use Rattle.mc_model.specs.Sight.{Seen, Sight}
 use Rattle.mc_model.specs.Delta.{Pairs, delta, load, unload, cell_packets, column_changes}
 use Rattle.mc_model.specs.Delta.{beat_packets, chat_packet, destroying, entity_packets}
-use Rattle.mc_model.specs.Delta.{slot_packets, time_packets}
+use Rattle.mc_model.specs.Delta.{moves_packets, pile_packets, slot_packets, time_packets}
 use Rattle.mc_flush.specs.Lists.{ListValue}
 use Rattle.mc_flush.specs.Seeing.{MarkValue, Parts, StandsFor, age_now, beat_now, changes}
-use Rattle.mc_flush.specs.Seeing.{changed_packets, columns_in, entered_of, gone_from, left_of, listed}
+use Rattle.mc_flush.specs.Seeing.{changed_packets, columns_in, entered_of, gone_from, left_of}
+use Rattle.mc_flush.specs.Seeing.{listed}
 use Rattle.mc_flush.specs.Seeing.{leaver_packets, joiner_packets, load_packets, pairs_in}
 use Rattle.mc_flush.specs.Seeing.{packets_of}
 use Rattle.mc_flush.specs.Seeing.{place_packets, placed_column, placed_with, present_parts, seen}
-use Rattle.mc_flush.specs.Seeing.{settled_parts, shown_now, told_item, unload_packets}
+use Rattle.mc_flush.specs.Seeing.{kept_of, settled_parts, shown_now, told_as, told_slot}
+use Rattle.mc_flush.specs.Seeing.{unload_packets}
 use Rattle.mc_flush.specs.Seeing.{entity_frames}
 use Rattle.mc_flush.specs.Telling.{told_now}
 use Rattle.mc_flush.proofs.Rising.{sorted_is}
-use Rattle.mc_flush.proofs.Rows.{is_mapped, seen_rows, shown_rows, shown_told}
+use Rattle.mc_flush.proofs.Rows.{known_alike, seen_rows, shown_rows, shown_told}
 use Rattle.mc_flush.proofs.Shown.{keys_shown, same_keys, shown_entries, shown_get, shown_has}
 
 -- ---- lists
@@ -197,36 +202,50 @@ cells_are land list was m is (place ∷ places) =
 
 -- ---- entities
 
+-- of each entity what was told is what was kept of it
+abbrev pub AreTold : FinMap int_cmp Seen → Told → Type 0
+AreTold m told = (eid : ℤ) → option_map kept_of (get m eid) ≡ option_map told_slot (get told eid)
+
 -- the numbers of a sight are those that were told
-keys_told : (m : FinMap int_cmp Seen) (told : Told) →
-    ((eid : ℤ) → get m eid ≡ option_map told_item (get told eid)) → keys m ≡ keys told
+keys_told : (m : FinMap int_cmp Seen) (told : Told) → AreTold m told → keys m ≡ keys told
 keys_told m told same =
     same_keys int_cmp int_cmp_total int_cmp-IsAntisymmetric (keys m) (keys told)
     (subst T (sorted_is int_cmp (entries m)) (entries_sorted m))
     (subst T (sorted_is int_cmp (entries told)) (entries_sorted told))
-    (λ q. sym (contains_key-keys m q) ∙ ap is_some (same q) ∙ is_mapped told_item (get told q)
+    (λ q. sym (contains_key-keys m q) ∙ known_alike (get m q) (get told q) (same q)
     ∙ contains_key-keys told q)
 
--- the packet that takes entities away
+-- the packets that take entities away
 destroys_are : (m : FinMap int_cmp Seen) (told : Told) (es : List Entity) (view : ViewSet) →
-    ((eid : ℤ) → get m eid ≡ option_map told_item (get told eid)) →
+    AreTold m told →
     destroying (filter (λ (eid : ℤ). not (contains_key (shown_now es view) eid)) (keys m))
     ≡ destroying (gone_from told es view)
 destroys_are m told es view same =
     ap (λ (ks : List ℤ). destroying (filter
     (λ (eid : ℤ). not (contains_key (shown_now es view) eid)) ks)) (keys_told m told same)
 
+-- what an entity takes rests on no more than what is kept of it
+packets_alike : (eid : ℤ) (new : Seen) (o : Option Seen) (t : Option (Spot × Pile)) →
+    option_map kept_of o ≡ option_map told_slot t →
+    entity_packets eid o new ≡ entity_packets eid (option_map (told_as new.kind) t) new
+packets_alike eid new None None same = refl
+packets_alike eid new None (Some told) same = absurd cc
+packets_alike eid new (Some old) None same = absurd cc
+packets_alike eid new (Some old) (Some told) same =
+    let kept : kept_of old ≡ told_slot told = cc in
+    λ i. moves_packets eid new.spot (moves_of (kept i).0 new.spot)
+    ++ pile_packets eid new.kind (kept i).1 new.pile
+
 -- the packets of the entities that are shown
 entities_are : (m : FinMap int_cmp Seen) (told : Told) (es : List Entity) (view : ViewSet)
-    (high : ℤ) → Rise eid_of (pos 0) es high →
-    ((eid : ℤ) → get m eid ≡ option_map told_item (get told eid)) →
+    (high : ℤ) → Rise eid_of (pos 0) es high → AreTold m told →
     flat_map (λ (e : ℤ × Seen). entity_packets e.0 (get m e.0) e.1) (entries (shown_now es view))
     ≡ entity_frames told es view
 entities_are m told es view high r same =
     ap (flat_map (λ (e : ℤ × Seen). entity_packets e.0 (get m e.0) e.1))
     (shown_rows view es high r ∙ sym (seen_rows view es))
     ∙ same_joined (λ (e : ℤ × Seen). entity_packets e.0 (get m e.0) e.1) (packets_of told)
-    (λ e. ap (λ (o : Option Seen). entity_packets e.0 o e.1) (same e.0)) _
+    (λ e. packets_alike e.0 e.1 (get m e.0) (get told e.0) (same e.0)) _
 
 -- ---- all of it
 

@@ -1,5 +1,4 @@
 pub mod Loads
-pub mod Known
 pub mod Lookups
 pub mod Marks
 pub mod Missing
@@ -17,3 +16,5 @@ pub mod Touched
 pub mod Changes
 pub mod Difference
 pub mod Encodings
+pub mod SameSpots
+pub mod Parts

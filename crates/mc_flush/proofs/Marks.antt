@@ -1,15 +1,10 @@
--- The first mark holds: it says of no entity, and of a pack of empty piles.
-use Rattle.std.proofs.Common.{◌≡◌, ℕ, zero, suc, ◌≤◌, replicate, refl, ap, ◌∙◌, arith}
+-- The first mark holds: it says of a pack of empty piles.
+use Rattle.std.proofs.Common.{ℕ, zero, suc, replicate, refl}
 use Rattle.std.specs.Prelude.{None}
-use Rattle.std.specs.Ordering.{int_cmp}
-use Rattle.std.specs.FinMap.{empty, len, len-empty}
-use Rattle.mc_fields.specs.declared.position.Spot.{Spot}
-use Rattle.mc_slots.specs.declared.pile.Pile.{Pile}
 use Rattle.mc_slots.specs.declared.pile.Pile.TheVariants.{Empty}
 use Rattle.mc_slots.specs.Pile.{IsPile}
 use Rattle.mc_slots.specs.Chest.{pile_at}
 use Rattle.mc_windows.specs.Pack.{IsPack, pack_size}
-use Rattle.mc_entities.specs.declared.entity.TheConstants.{DROPPED_MAX}
 use Rattle.mc_view.specs.Told.{Told}
 use Rattle.mc_flush.specs.Seeing.{IsMark}
 
@@ -23,14 +18,8 @@ empty_piles (suc n) (suc i) = empty_piles n i
 empty_pack : IsPack (replicate pack_size Empty) Empty
 empty_pack = record { size = refl; are_piles = empty_piles pack_size; is_pile = tt }
 
--- nobody is few
-pub few_empty : (told : Told) → told ≡ empty → len told ≤ DROPPED_MAX
-few_empty told none =
-    let nobody = ap len none ∙ len-empty int_cmp (Spot × Pile) in
-    omega (arith, nobody)
-
 -- the mark of a client that was shown nothing is one
-pub first_mark : (told : Told) → told ≡ empty →
+pub first_mark : (told : Told) →
     IsMark (record {
       beat = None;
       age = None;
@@ -38,4 +27,4 @@ pub first_mark : (told : Told) → told ≡ empty →
       told = told;
       slots = replicate pack_size Empty;
     })
-first_mark told none = record { few = few_empty told none; pack = empty_pack }
+first_mark told = record { pack = empty_pack }

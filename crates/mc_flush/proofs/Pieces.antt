@@ -1,5 +1,5 @@
 -- Bytes that are appended piece after piece.
-use Rattle.std.proofs.Common.{◌≡◌, ℕ, suc, ◌+◌, ◌*◌, ◌≤◌, Bool, true, false, cond, List, [], ◌∷◌}
+use Rattle.std.proofs.Common.{◌≡◌, ℕ, suc, ◌≤◌, Bool, true, false, cond, List, [], ◌∷◌}
 use Rattle.std.proofs.Common.{◌++◌, map, length, sym, ap, ◌∙◌, arith, append_assoc}
 use Rattle.std.specs.List.{AllByRecursion, filter}
 use Rattle.std.proofs.lemmas.List.{map-append, append-nil}
@@ -35,8 +35,8 @@ pub play_bytes-one : (packet : Down) → frame_of (of_play packet) ≡ play_byte
 play_bytes-one packet = sym (append-nil (frame_of (of_play packet)))
 
 -- the next line of what is left is appended
-pub line_put : (x : List ℕ) (left rest : List (List ℕ)) (now after total : List ℕ) → left ≡ x ∷ rest →
-    now ++ play_bytes (line_packets left) ≡ total →
+pub line_put : (x : List ℕ) (left rest : List (List ℕ)) (now after total : List ℕ) →
+    left ≡ x ∷ rest → now ++ play_bytes (line_packets left) ≡ total →
     after ≡ now ++ play_bytes (chat_packet x ∷ []) →
     after ++ play_bytes (line_packets rest) ≡ total
 line_put x left rest now after total is all put =
@@ -44,16 +44,6 @@ line_put x left rest now after total is all put =
     (play_bytes (line_packets left))
     (ap (λ (lines : List (List ℕ)). play_bytes (line_packets lines)) is
     ∙ play_bytes-append (chat_packet x ∷ []) (line_packets rest)) all put
-
--- the cost of the next of so many things is counted
-pub next_cost : {A : Type 0} (each now after total : ℕ) (left rest : List A) (x : A) →
-    left ≡ x ∷ rest → now + each * length left ≡ total → after ≡ now + each →
-    after + each * length rest ≡ total
-next_cost each now after total left rest x is all put =
-    let one : each * suc (length rest) ≡ each + each * length rest = grind arith in
-    let whole : now + each * suc (length rest) ≡ total = ap (λ (n : ℕ). now + each * n) (sym (ap
-    length is)) ∙ all in
-    omega (arith, one, whole, put)
 
 -- ---- filters
 

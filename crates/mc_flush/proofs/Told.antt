@@ -1,108 +1,190 @@
 -- What a client is told of after a tick: exactly the rows of what is shown.
-use Rattle.std.proofs.Common.{◌≡◌, ℕ, ◌+◌, ◌≤◌, Bool, true, false, cond, not, T, List, [], ◌∷◌}
-use Rattle.std.proofs.Common.{◌++◌, map, length, Option, Some, None, refl, sym, subst, ap, ◌∙◌}
-use Rattle.std.specs.Prelude.{is_some, option_map}
+use Rattle.std.proofs.Common.{◌≡◌, ℕ, ◌+◌, Bool, true, false, cond, not, T, List, [], ◌∷◌, ◌++◌}
+use Rattle.std.proofs.Common.{map, Option, Some, None, refl, sym, subst, ap, ◌∙◌, append_assoc}
+use Rattle.std.proofs.Common.{arith}
+use Rattle.std.proofs.Common.{inl, inr}
+use Rattle.std.specs.Prelude.{drop, is_some, option_map, slice_get}
 use Rattle.std.specs.List.{AllByRecursion, filter, fold}
 use Rattle.std.specs.declared.cmp.Ordering.{Ordering}
 use Rattle.std.specs.declared.cmp.Ordering.TheVariants.{Less, Equal, Greater}
 use Rattle.std.specs.Ordering.{int_cmp, int_eq, is_eq, is_lt, eq_by_cmp}
 use Rattle.std.proofs.lemmas.Cmp.{int_cmp_total, int_eq_equiv}
 use Rattle.std.proofs.lemmas.Int.{ints}
-use Rattle.std.specs.Prelude.{drop, slice_get}
-use Rattle.std.proofs.Common.{append_assoc, arith, inl, inr}
-use Rattle.std.proofs.lemmas.List.{drop_all, drop_more, length-append, length-map}
+use Rattle.std.proofs.lemmas.List.{append-nil, drop_all, drop_more}
+use Rattle.std.proofs.lemmas.List.Folds.{fold-map}
 use Rattle.std.proofs.lemmas.List.Sums.{fold-append}
 use Rattle.std.proofs.lemmas.Grind.{flat_map-append}
 use Rattle.std.proofs.lemmas.Option.{get_or_from_slice_get, slice_get_cases, slice_get_within}
-use Rattle.mc_flush.specs.Sending.{play_bytes}
-use Rattle.mc_flush.proofs.Pieces.{few_filtered, play_bytes-append}
-use Rattle.mc_flush.specs.Telling.{gone_among, row_packets, with_row}
-use Rattle.std.specs.FinMap.{find, get, insert, is_sorted, entries, keys, len, len-entries}
+use Rattle.std.specs.FinMap.{find, get, insert, is_sorted, entries}
 use Rattle.std.specs.FinMap.{contains_key, get-from_entries, get-insert}
 use Rattle.std.specs.FinMap.{int_cmp-IsAntisymmetric}
 use Rattle.std.specs.FinMap.Entries.{below_all}
 use lib.IntN.{ℤ, pos}
+use lib.Signed.{◌≤ℤ◌}
 use Rattle.mc_fields.specs.declared.position.Spot.{Spot}
 use Rattle.mc_slots.specs.declared.pile.Pile.{Pile}
 use Rattle.mc_entities.specs.declared.entity.Entity.{Entity}
-use Rattle.mc_entities.specs.declared.entity.EntityKind.{EntityKind}
-use Rattle.mc_entities.specs.declared.entity.EntityKind.TheVariants.{Player, Dropped, Mob}
-use Rattle.mc_entities.specs.Folk.{dropped_in, eid_of}
-use Rattle.mc_entities.specs.Kinds.{is_dropped}
+use Rattle.mc_entities.specs.Folk.{eid_of}
 use Rattle.mc_entities.specs.Numbers.{Rise, numbered}
 use Rattle.mc_view.specs.declared.view_set.ViewSet.{ViewSet}
 use Rattle.mc_view.specs.Told.{Told}
 use Rattle.mc_down.specs.declared.down.Down.{Down}
 use Rattle.mc_model.specs.Delta.{entity_packets}
+use Rattle.mc_model.specs.World.{others}
 use Rattle.mc_model.proofs.Sessions.{some_none}
-use Rattle.mc_model.proofs.Maps.{each_found, take_out, is_without, kept, get_kept, all_put_in}
-use Rattle.mc_flush.specs.Seeing.{gone_from, is_in, shown_now, told_item}
-use Rattle.mc_flush.specs.Telling.{Row, item_in, shown_item, rows_as, rows_of, rows_in, row_of}
-use Rattle.mc_flush.specs.Telling.{rows_packets, told_now, with_rows, without_all}
+use Rattle.mc_model.proofs.Maps.{each_found, take_out, put_in, is_without, kept, get_kept}
+use Rattle.mc_model.proofs.Maps.{all_put_in}
+use Rattle.mc_flush.specs.declared.row.Row.{Row}
+use Rattle.mc_flush.specs.Sending.{play_bytes}
+use Rattle.mc_flush.specs.Seeing.{gone_from, shown_now, told_as}
+use Rattle.mc_flush.specs.Telling.{gone_among, row_in, row_packets, rows_as, rows_in, rows_of}
+use Rattle.mc_flush.specs.Telling.{rows_packets, told_now, told_row, with_row, with_rows}
+use Rattle.mc_flush.specs.Telling.{without_all}
 use Rattle.mc_flush.proofs.Difference.{all_kept, same_filter}
 use Rattle.mc_flush.proofs.Lookups.{equal}
 use Rattle.mc_flush.proofs.Ordered.{entries_made, find_below, first, second}
-use Rattle.mc_flush.proofs.Rows.{is_mapped, rows_above, rows_rise, shown_told}
+use Rattle.mc_flush.proofs.Pieces.{next_piece, play_bytes-append}
+use Rattle.mc_flush.proofs.Rows.{row_eid, rows_above, rows_rise, shown_known}
+
+-- what is kept of an entity, under its number
+abbrev Entry : Type 0
+Entry = ℤ × (Spot × Pile)
 
 -- ---- the entity of a number
 
 -- whether what is found under a number is shown
 abbrev pub shown_of : ViewSet → Option Entity → Bool
 shown_of view None = false
-shown_of view (Some e) = is_some (shown_item view e)
+shown_of view (Some e) = is_some (row_in view e)
 
 -- a number has a row where the entity that is found by it is shown
 numbered_shown : (view : ViewSet) (q low high : ℤ) (es : List Entity) → Rise eid_of low es high →
-    is_some (find int_cmp q (rows_in view es)) ≡ shown_of view (numbered eid_of q es)
+    is_some (find int_cmp q (map told_row (rows_in view es)))
+    ≡ shown_of view (numbered eid_of q es)
 numbered_shown view q low high [] r = refl
 numbered_shown view q low high (e ∷ es) r =
-    elim (int_eq e.eid q) as (λ b. int_eq e.eid q ≡ b →
-    is_some (find int_cmp q (rows_as e (shown_item view e) ++ rows_in view es))
-    ≡ shown_of view (cond b (Some e) (numbered eid_of q es))) [
-      | true ↦ λ t.
-          let same : e.eid ≡ q = int_cmp-IsAntisymmetric e.eid q (equal _ t) in
-          let ties : eq_by_cmp int_cmp q e.eid ≡ true = int_eq_equiv.symm q e.eid ∙ t in
-          elim (shown_item view e) as (λ o.
-          is_some (find int_cmp q (rows_as e o ++ rows_in view es)) ≡ is_some o) [
-            | None ↦ ap is_some (find_below int_cmp q (rows_in view es)
+    let later = map told_row (rows_in view es) in
+    elim (row_in view e) as (λ o. row_in view e ≡ o →
+    is_some (find int_cmp q (map told_row (rows_as o ++ rows_in view es)))
+    ≡ shown_of view (cond (int_eq e.eid q) (Some e) (numbered eid_of q es))) [
+      | None ↦ λ none. elim (int_eq e.eid q) as (λ b. int_eq e.eid q ≡ b →
+          is_some (find int_cmp q later) ≡ shown_of view (cond b (Some e) (numbered eid_of q es))) [
+            | true ↦ λ t.
+                let same : e.eid ≡ q = int_cmp-IsAntisymmetric e.eid q (equal _ t) in
+                ap is_some (find_below int_cmp q later
                 (rows_above view q e.eid high es (omega (arith, ints, same)) r.1))
-            | Some item ↦ ap (λ (b : Bool). is_some (cond b (Some (row_of e item).1)
-                (find int_cmp q (rows_in view es)))) ties
-          ]
-      | false ↦ λ f.
-          let apart : eq_by_cmp int_cmp q e.eid ≡ false = int_eq_equiv.symm q e.eid ∙ f in
-          let rest = numbered_shown view q e.eid high es r.1 in
-          elim (shown_item view e) as (λ o.
-          is_some (find int_cmp q (rows_as e o ++ rows_in view es))
-          ≡ shown_of view (numbered eid_of q es)) [
-            | None ↦ rest
-            | Some item ↦ ap (λ (b : Bool). is_some (cond b (Some (row_of e item).1)
-                (find int_cmp q (rows_in view es)))) apart ∙ rest
+                ∙ sym (ap is_some none)
+            | false ↦ λ f. numbered_shown view q e.eid high es r.1
+          ] refl
+      | Some row ↦ λ is.
+          let key : row.eid ≡ e.eid = row_eid view e row is in
+          let turned : eq_by_cmp int_cmp q row.eid ≡ int_eq e.eid q =
+          ap (eq_by_cmp int_cmp q) key ∙ int_eq_equiv.symm q e.eid in
+          ap (λ (b : Bool). is_some (cond b (Some (told_row row).1) (find int_cmp q later))) turned
+          ∙ elim (int_eq e.eid q) as (λ b.
+          is_some (cond b (Some (told_row row).1) (find int_cmp q later))
+          ≡ shown_of view (cond b (Some e) (numbered eid_of q es))) [
+            | true ↦ sym (ap is_some is)
+            | false ↦ numbered_shown view q e.eid high es r.1
           ]
     ] refl
 
--- an entity is shown where it is found by its number, and is a dropped item in view
-pub shown_found : (view : ViewSet) (q high : ℤ) (es : List Entity) →
-    Rise eid_of (pos 0) es high →
+-- an entity is shown where it is found by its number, and is in view and no mob
+shown_found : (view : ViewSet) (q high : ℤ) (es : List Entity) → Rise eid_of (pos 0) es high →
     contains_key (shown_now es view) q ≡ shown_of view (numbered eid_of q es)
 shown_found view q high es r =
-    ap is_some (shown_told view es q) ∙ is_mapped told_item (get (told_now es view) q)
-    ∙ ap is_some (get-from_entries int_cmp_total (rows_in view es) q)
+    shown_known view es q
+    ∙ ap is_some (get-from_entries int_cmp_total (map told_row (rows_in view es)) q)
     ∙ numbered_shown view q (pos 0) high es r
+
+-- ---- all but the own entity
+
+-- the others rise, also from below
+others_above : (me less low high : ℤ) (es : List Entity) → less ≤ℤ low →
+    Rise eid_of low es high → Rise eid_of less (others me es) high
+others_above me less low high [] le r = omega (arith, ints, le, r)
+others_above me less low high (e ∷ es) le r =
+    elim (int_eq e.eid me) as
+    (λ b. Rise eid_of less (cond (not b) (e ∷ others me es) (others me es)) high) [
+      | true ↦ others_above me less e.eid high es (omega (arith, ints, le, r.0)) r.1
+      | false ↦ (
+        omega (arith, ints, le, r.0),
+        others_above me e.eid e.eid high es (omega (arith, ints)) r.1,
+      )
+    ]
+
+-- they rise where all do
+pub others_rise : (me high : ℤ) (es : List Entity) → Rise eid_of (pos 0) es high →
+    Rise eid_of (pos 0) (others me es) high
+others_rise me high es r = others_above me (pos 0) (pos 0) high es (omega (arith, ints)) r
+
+-- the own is not found among the others
+others_own : (me : ℤ) (es : List Entity) → numbered eid_of me (others me es) ≡ None
+others_own me [] = refl
+others_own me (e ∷ es) = elim (int_eq e.eid me) as (λ b. int_eq e.eid me ≡ b →
+    numbered eid_of me (cond (not b) (e ∷ others me es) (others me es)) ≡ None) [
+      | true ↦ λ t. others_own me es
+      | false ↦ λ f. ap (λ (b : Bool). cond b (Some e) (numbered eid_of me (others me es))) f
+          ∙ others_own me es
+    ] refl
+
+-- and any other is found as among all
+others_found : (me q : ℤ) (es : List Entity) → int_eq q me ≡ false →
+    numbered eid_of q (others me es) ≡ numbered eid_of q es
+others_found me q [] apart = refl
+others_found me q (e ∷ es) apart =
+    let rest = others_found me q es apart in
+    elim (int_eq e.eid me) as (λ b. int_eq e.eid me ≡ b →
+    numbered eid_of q (cond (not b) (e ∷ others me es) (others me es))
+    ≡ cond (int_eq e.eid q) (Some e) (numbered eid_of q es)) [
+      | true ↦ λ t.
+          let same : e.eid ≡ me = int_cmp-IsAntisymmetric e.eid me (equal _ t) in
+          let other : int_eq e.eid q ≡ false =
+          ap (λ (k : ℤ). int_eq k q) same ∙ int_eq_equiv.symm me q ∙ apart in
+          rest ∙ ap (λ (b : Bool). cond b (Some e) (numbered eid_of q es)) (sym other)
+      | false ↦ λ f. ap (cond (int_eq e.eid q) (Some e)) rest
+    ] refl
+
+-- the own is not shown
+pub shown_own : (view : ViewSet) (me high : ℤ) (es : List Entity) → Rise eid_of (pos 0) es high →
+    contains_key (shown_now (others me es) view) me ≡ false
+shown_own view me high es r =
+    shown_found view me high (others me es) (others_rise me high es r)
+    ∙ ap (shown_of view) (others_own me es)
+
+-- any other is where it is found by its number, and is in view and no mob
+pub shown_other : (view : ViewSet) (me q high : ℤ) (es : List Entity) →
+    Rise eid_of (pos 0) es high → int_eq q me ≡ false →
+    contains_key (shown_now (others me es) view) q ≡ shown_of view (numbered eid_of q es)
+shown_other view me q high es r apart =
+    shown_found view q high (others me es) (others_rise me high es r)
+    ∙ ap (shown_of view) (others_found me q es apart)
+
+-- the rows of the others are those of the first, if that is one, and of those behind it
+rows_next : (view : ViewSet) (me : ℤ) (e : Entity) (es : List Entity) →
+    rows_in view (others me (e ∷ es))
+    ≡ rows_in view (others me (e ∷ [])) ++ rows_in view (others me es)
+rows_next view me e es = elim (int_eq e.eid me) as (λ b.
+    rows_in view (cond (not b) (e ∷ others me es) (others me es))
+    ≡ rows_in view (cond (not b) (e ∷ []) []) ++ rows_in view (others me es)) [
+      | true ↦ refl
+      | false ↦ ap (λ (rows : List Row). rows ++ rows_in view (others me es))
+          (sym (append-nil (rows_of view e)))
+    ]
 
 -- ---- what is told afterwards
 
--- taking out numbers that pass a test takes out the rows whose numbers pass it
-taken : (m : Told) (test : ℤ → Bool) (es : List Row) →
-    without_all m (filter test (map (λ (e : Row). e.0) es))
-    ≡ fold take_out m (filter (λ (e : Row). test e.0) es)
+-- taking out numbers that pass a test takes out the entries whose numbers pass it
+taken : (m : Told) (test : ℤ → Bool) (es : List Entry) →
+    without_all m (filter test (map (λ (e : Entry). e.0) es))
+    ≡ fold take_out m (filter (λ (e : Entry). test e.0) es)
 taken m test [] = refl
 taken m test (e ∷ es) =
     elim (test e.0) as (λ b. without_all m
-    (cond b (e.0 ∷ filter test (map (λ (f : Row). f.0) es))
-    (filter test (map (λ (f : Row). f.0) es)))
-    ≡ fold take_out m (cond b (e ∷ filter (λ (f : Row). test f.0) es)
-    (filter (λ (f : Row). test f.0) es))) [
+    (cond b (e.0 ∷ filter test (map (λ (f : Entry). f.0) es))
+    (filter test (map (λ (f : Entry). f.0) es)))
+    ≡ fold take_out m (cond b (e ∷ filter (λ (f : Entry). test f.0) es)
+    (filter (λ (f : Entry). test f.0) es))) [
       | true ↦ taken (take_out m e) test es
       | false ↦ taken m test es
     ]
@@ -114,9 +196,8 @@ gone_is : (told : Told) (es : List Entity) (view : ViewSet) →
 gone_is told es view =
     taken told (λ (eid : ℤ). not (contains_key (shown_now es view) eid)) (entries told)
     ∙ ap (fold take_out told) (same_filter
-    (λ (e : Row). not (contains_key (shown_now es view) e.0)) (is_without (told_now es view))
-    (λ e. ap not (ap is_some (shown_told view es e.0)
-    ∙ is_mapped told_item (get (told_now es view) e.0))) (entries told))
+    (λ (e : Entry). not (contains_key (shown_now es view) e.0)) (is_without (told_now es view))
+    (λ e. ap not (shown_known view es e.0)) (entries told))
 
 -- what is left is as it was, where it is shown
 gone_get : (told : Told) (es : List Entity) (view : ViewSet) (q : ℤ) →
@@ -126,9 +207,9 @@ gone_get told es view q = ap (λ (t : Told). get t q) (gone_is told es view)
 
 -- what is told now is the rows, entry by entry
 now_entries : (es : List Entity) (view : ViewSet) (high : ℤ) → Rise eid_of (pos 0) es high →
-    entries (told_now es view) ≡ rows_in view es
+    entries (told_now es view) ≡ map told_row (rows_in view es)
 now_entries es view high r = entries_made int_cmp int_cmp_total int_cmp-IsAntisymmetric
-    (rows_in view es) (rows_rise view (pos 0) high es r)
+    (map told_row (rows_in view es)) (rows_rise view (pos 0) high es r)
 
 -- without those that are gone, and with the rows of all that are shown
 pub told_after : (told : Told) (es : List Entity) (view : ViewSet) (high : ℤ) →
@@ -136,19 +217,32 @@ pub told_after : (told : Told) (es : List Entity) (view : ViewSet) (high : ℤ) 
     with_rows (without_all told (gone_from told es view)) (rows_in view es) ≡ told_now es view
 told_after told es view high r =
     let m = without_all told (gone_from told es view) in
-    ap (with_rows m) (sym (now_entries es view high r))
+    sym (fold-map (put_in {R = int_cmp}) told_row m (rows_in view es))
+    ∙ ap (fold put_in m) (sym (now_entries es view high r))
     ∙ all_put_in int_cmp_total int_cmp-IsAntisymmetric m (told_now es view)
     (λ q none. gone_get told es view q ∙ ap (kept (get told q)) none)
 
 -- ---- frames
 
--- rows take the same packets where the same was told of each
-same_packets : (m n : Told) (rows : List Row) →
-    AllByRecursion (λ (row : Row). get m row.0 ≡ get n row.0) rows →
+-- of each row the same was told
+AreAlike : Told → Told → List Row → Type 0
+AreAlike m n rows = AllByRecursion (λ (row : Row). get m row.eid ≡ get n row.eid) rows
+
+-- so they take the same packets
+same_packets : (m n : Told) (rows : List Row) → AreAlike m n rows →
     rows_packets m rows ≡ rows_packets n rows
+unfolding AreAlike
 same_packets m n [] all = refl
-same_packets m n (row ∷ rows) all = λ i. entity_packets row.0 (option_map told_item (all.0 i))
-    (told_item row.1) ++ same_packets m n rows all.1 i
+same_packets m n (row ∷ rows) all = λ i. entity_packets row.eid
+    (option_map (told_as row.kind) (all.0 i)) (told_as row.kind (row.spot, row.pile))
+    ++ same_packets m n rows all.1 i
+
+-- what holds of the entries of rows holds of the rows
+of_rows : (m n : Told) (rows : List Row) →
+    AllByRecursion (λ (e : Entry). get m e.0 ≡ get n e.0) (map told_row rows) → AreAlike m n rows
+unfolding AreAlike
+of_rows m n [] all = tt
+of_rows m n (row ∷ rows) all = (all.0, of_rows m n rows all.1)
 
 -- they are the same without those that are gone
 pub frames_after : (told : Told) (es : List Entity) (view : ViewSet) (high : ℤ) →
@@ -157,12 +251,13 @@ pub frames_after : (told : Told) (es : List Entity) (view : ViewSet) (high : ℤ
     ≡ rows_packets told (rows_in view es)
 frames_after told es view high r =
     let m = without_all told (gone_from told es view) in
-    let rows = rows_in view es in
-    let P : Row → Type 0 = λ row. get m row.0 ≡ get told row.0 in
-    same_packets m told rows (subst (AllByRecursion P) (all_kept rows)
-    (each_found int_cmp_total P (λ (row : Row). true) rows (rows_rise view (pos 0) high es r)
+    let rows = map told_row (rows_in view es) in
+    let P : Entry → Type 0 = λ e. get m e.0 ≡ get told e.0 in
+    same_packets m told (rows_in view es) (of_rows m told (rows_in view es)
+    (subst (AllByRecursion P) (all_kept rows)
+    (each_found int_cmp_total P (λ (e : Entry). true) rows (rows_rise view (pos 0) high es r)
     (λ q v found. gone_get told es view q
-    ∙ ap (kept (get told q)) (get-from_entries int_cmp_total rows q ∙ found))))
+    ∙ ap (kept (get told q)) (get-from_entries int_cmp_total rows q ∙ found)))))
 
 -- ---- row by row
 
@@ -174,101 +269,88 @@ is_less Greater h = absurd h
 
 -- a row does not change what was told of those above it
 above_same : (told : Told) (k : ℤ) (v : Spot × Pile) (rows : List Row) →
-    T (below_all int_cmp k rows) →
-    AllByRecursion (λ (row : Row). get (insert told k v) row.0 ≡ get told row.0) rows
+    T (below_all int_cmp k (map told_row rows)) → AreAlike (insert told k v) told rows
+unfolding AreAlike
 above_same told k v [] h = tt
 above_same told k v (row ∷ rows) h = (
-  get-insert int_cmp_total told k v row.0
-      ∙ ap (λ (b : Bool). cond b (Some v) (get told row.0))
-      (int_eq_equiv.symm row.0 k ∙ is_less (int_cmp k row.0) (first _ _ h)),
+  get-insert int_cmp_total told k v row.eid
+      ∙ ap (λ (b : Bool). cond b (Some v) (get told row.eid))
+      (int_eq_equiv.symm row.eid k ∙ is_less (int_cmp k row.eid) (first _ _ h)),
   above_same told k v rows (second _ _ h),
 )
 
--- the rows of one entity do not change the packets of the rows behind them
-next_packets : (told : Told) (e : Entity) (o : Option _) (rows : List Row) →
-    T (is_sorted int_cmp (rows_as e o ++ rows)) →
-    rows_packets (with_rows told (rows_as e o)) rows ≡ rows_packets told rows
-next_packets told e None rows up = refl
-next_packets told e (Some item) rows up = same_packets _ told rows
-    (above_same told e.eid (row_of e item).1 rows (first _ _ up))
+-- a number that is below rows is below those behind the first of them
+below_rest : (k : ℤ) (one rows : List Row) → T (below_all int_cmp k (map told_row (one ++ rows))) →
+    T (below_all int_cmp k (map told_row rows))
+below_rest k [] rows h = h
+below_rest k (row ∷ one) rows h = below_rest k one rows (second _ _ h)
 
--- the rows behind those of one entity rise
-rest_sorted : (e : Entity) (o : Option _) (rows : List Row) →
-    T (is_sorted int_cmp (rows_as e o ++ rows)) → T (is_sorted int_cmp rows)
-rest_sorted e None rows up = up
-rest_sorted e (Some item) rows up = second _ _ up
+-- rows do not change the packets of the rows behind them
+next_packets : (told : Told) (one rows : List Row) →
+    T (is_sorted int_cmp (map told_row (one ++ rows))) →
+    rows_packets (with_rows told one) rows ≡ rows_packets told rows
+next_packets told [] rows up = refl
+next_packets told (row ∷ one) rows up =
+    next_packets (with_row told row) one rows (second _ _ up)
+    ∙ same_packets (with_row told row) told rows (above_same told row.eid (row.spot, row.pile) rows
+    (below_rest row.eid one rows (first _ _ up)))
 
--- ---- how many
-
--- one entity gives a row at most, and that where it is a dropped item
-few_one : (b : Bool) (kind : EntityKind) (e : Entity) (rows : List Row) (fs : List Entity) →
-    length rows ≤ length fs →
-    length (rows_as e (cond b (item_in kind) None) ++ rows)
-    ≤ length (cond (is_dropped kind) (e ∷ fs) fs)
-few_one true (Player uuid held) e rows fs le = le
-few_one true (Dropped item born) e rows fs le = omega (arith, le)
-few_one true Mob e rows fs le = le
-few_one false (Player uuid held) e rows fs le = le
-few_one false (Dropped item born) e rows fs le = omega (arith, le)
-few_one false Mob e rows fs le = le
-
--- there are no more rows than dropped items
-rows_few : (view : ViewSet) (es : List Entity) → length (rows_in view es) ≤ dropped_in es
-rows_few view [] = omega arith
-rows_few view (e ∷ es) = few_one (is_in view e) e.kind e (rows_in view es)
-    (filter (λ (f : Entity). is_dropped f.kind) es) (rows_few view es)
-
--- what is told now is of no more than the dropped items
-pub now_few : (es : List Entity) (view : ViewSet) (high : ℤ) (most : ℕ) →
-    Rise eid_of (pos 0) es high → dropped_in es ≤ most → len (told_now es view) ≤ most
-now_few es view high most r few =
-    let counted : len (told_now es view) ≡ length (rows_in view es) =
-    len-entries (told_now es view) ∙ ap length (now_entries es view high r) in
-    omega (arith, counted, rows_few view es, few)
+-- the rows behind others rise
+rest_sorted : (one rows : List Row) → T (is_sorted int_cmp (map told_row (one ++ rows))) →
+    T (is_sorted int_cmp (map told_row rows))
+rest_sorted [] rows up = up
+rest_sorted (row ∷ one) rows up = rest_sorted one rows (second _ _ up)
 
 -- ---- a loop over entities
 
--- what is sent of the next, and what is left
-pub step_sent : (view : ViewSet) (old told : Told) (e : Entity) (left rest : List Entity)
-    (before after total : List ℕ) → left ≡ e ∷ rest → T (is_sorted int_cmp (rows_in view left)) →
-    told ≡ with_rows old (rows_of view e) →
-    after ≡ before ++ play_bytes (rows_packets old (rows_of view e)) →
-    before ++ play_bytes (rows_packets old (rows_in view left)) ≡ total →
-    after ++ play_bytes (rows_packets told (rows_in view rest)) ≡ total
-step_sent view old told e left rest before after total is up kept put all =
-    let one = rows_of view e in
-    let rows = rows_in view rest in
-    let sorted : T (is_sorted int_cmp (one ++ rows)) =
-    subst (λ (es : List Entity). T (is_sorted int_cmp (rows_in view es))) is up in
-    let same : rows_packets told rows ≡ rows_packets old rows =
-    ap (λ (t : Told). rows_packets t rows) kept ∙ next_packets old e (shown_item view e) rows sorted
-    in
-    let whole : play_bytes (rows_packets old (rows_in view left))
-    ≡ play_bytes (rows_packets old one) ++ play_bytes (rows_packets old rows) =
-    ap (λ (es : List Entity). play_bytes (rows_packets old (rows_in view es))) is
-    ∙ ap play_bytes (flat_map-append (row_packets old) one rows)
-    ∙ play_bytes-append (rows_packets old one) (rows_packets old rows) in
-    ap (λ (t : List ℕ). t ++ play_bytes (rows_packets told rows)) put
-    ∙ append_assoc before (play_bytes (rows_packets old one)) (play_bytes (rows_packets told rows))
-    ∙ ap (λ (t : List ℕ). before ++ t)
-    (ap (λ (ds : List Down). play_bytes (rows_packets old one) ++ play_bytes ds) same ∙ sym whole)
-    ∙ all
+-- the rows of all but the own entity
+abbrev rows : ViewSet → ℤ → List Entity → List Row
+rows view me es = rows_in view (others me es)
 
--- the rows of what is left rise
-pub step_sorted : (view : ViewSet) (e : Entity) (left rest : List Entity) → left ≡ e ∷ rest →
-    T (is_sorted int_cmp (rows_in view left)) → T (is_sorted int_cmp (rows_in view rest))
-step_sorted view e left rest is up = rest_sorted e (shown_item view e) (rows_in view rest)
-    (subst (λ (es : List Entity). T (is_sorted int_cmp (rows_in view es))) is up)
+module _ (view : ViewSet) (me : ℤ) (old told : Told) (e : Entity) (left rest : List Entity)
+    (is : left ≡ e ∷ rest) where
+  -- the rows of what is left are those of the next and those of the rest
+  cut : rows view me left ≡ rows view me (e ∷ []) ++ rows view me rest
+  cut = ap (rows view me) is ∙ rows_next view me e rest
 
--- what is kept with what is left is all
-pub step_kept : (view : ViewSet) (old told first_ : Told) (e : Entity) (left rest all : List Entity)
-    → left ≡ e ∷ rest → told ≡ with_rows old (rows_of view e) →
-    with_rows old (rows_in view left) ≡ with_rows first_ (rows_in view all) →
-    with_rows told (rows_in view rest) ≡ with_rows first_ (rows_in view all)
-step_kept view old told first_ e left rest all is kept whole =
-    ap (λ (t : Told). with_rows t (rows_in view rest)) kept
-    ∙ sym (fold-append with_row old (rows_of view e) (rows_in view rest))
-    ∙ ap (λ (es : List Entity). with_rows old (rows_in view es)) (sym is) ∙ whole
+  -- cut so, they rise as before
+  cut_sorted : T (is_sorted int_cmp (map told_row (rows view me left))) →
+      T (is_sorted int_cmp (map told_row (rows view me (e ∷ []) ++ rows view me rest)))
+  cut_sorted = subst (λ (all : List Row). T (is_sorted int_cmp (map told_row all))) cut
+
+  -- those of the rest rise
+  pub step_sorted : T (is_sorted int_cmp (map told_row (rows view me left))) →
+      T (is_sorted int_cmp (map told_row (rows view me rest)))
+  step_sorted up = rest_sorted (rows view me (e ∷ [])) (rows view me rest) (cut_sorted up)
+
+  -- what was sent of the next, and what is sent of the rest, is what is sent of all
+  pub step_sent : (before after total : List ℕ) →
+      T (is_sorted int_cmp (map told_row (rows view me left))) →
+      told ≡ with_rows old (rows view me (e ∷ [])) →
+      after ≡ before ++ play_bytes (rows_packets old (rows view me (e ∷ []))) →
+      before ++ play_bytes (rows_packets old (rows view me left)) ≡ total →
+      after ++ play_bytes (rows_packets told (rows view me rest)) ≡ total
+  step_sent before after total up keeps put all =
+      let one = rows_packets old (rows view me (e ∷ [])) in
+      let later = rows view me rest in
+      let same : rows_packets told later ≡ rows_packets old later =
+      ap (λ (t : Told). rows_packets t later) keeps
+      ∙ next_packets old (rows view me (e ∷ [])) later (cut_sorted up) in
+      let whole : play_bytes (rows_packets old (rows view me left))
+      ≡ play_bytes one ++ play_bytes (rows_packets told later) =
+      ap (λ (all : List Row). play_bytes (rows_packets old all)) cut
+      ∙ ap play_bytes (flat_map-append (row_packets old) (rows view me (e ∷ [])) later)
+      ∙ play_bytes-append one (rows_packets old later)
+      ∙ ap (λ (ds : List Down). play_bytes one ++ play_bytes ds) (sym same) in
+      next_piece before after total (play_bytes one) (play_bytes (rows_packets told later))
+      (play_bytes (rows_packets old (rows view me left))) whole all put
+
+  -- and what is kept of them is what is kept of all
+  pub step_kept : (total : Told) → told ≡ with_rows old (rows view me (e ∷ [])) →
+      with_rows old (rows view me left) ≡ total → with_rows told (rows view me rest) ≡ total
+  step_kept total keeps all = ap (λ (t : Told). with_rows t (rows view me rest)) keeps
+      ∙ sym (fold-append with_row old (rows view me (e ∷ [])) (rows view me rest))
+      ∙ ap (with_rows old) (sym cut) ∙ all
 
 -- ---- a loop over numbers
 
@@ -288,13 +370,6 @@ gone_next es view now new left rest whole eid is put all =
         cond b (eid ∷ gone_among rest es view) (gone_among rest es view)
         ≡ cond b (eid ∷ []) [] ++ gone_among rest es view) [ true ↦ refl | false ↦ refl ]
 
--- the next adds one at most to those that are gone
-pub gone_few : (es : List Entity) (view : ViewSet) (now new : List ℤ) (eid : ℤ) (i : ℕ) →
-    new ≡ now ++ gone_among (eid ∷ []) es view → length now ≤ i → length new ≤ i + 1
-gone_few es view now new eid i put few =
-    let one = few_filtered (λ (k : ℤ). not (contains_key (shown_now es view) k)) (eid ∷ []) in
-    omega (arith, one, few, ap length put, length-append now (gone_among (eid ∷ []) es view))
-
 -- what is left of the numbers begins with the next
 pub key_next : (ks : List ℤ) (i : ℕ) (eid : ℤ) → Some eid ≡ slice_get ks i →
     drop i ks ≡ eid ∷ drop (i + 1) ks
@@ -302,10 +377,6 @@ key_next ks i eid is =
     let within = slice_get_within ks i eid (sym is) in
     drop_more ks i eid within
     ∙ ap (λ (k : ℤ). k ∷ drop (i + 1) ks) (get_or_from_slice_get ks i eid eid (sym is))
-
--- there are as many numbers as entries
-pub keys_counted : (told : Told) → length (keys told) ≡ len told
-keys_counted told = length-map (entries told) (λ (e : Row). e.0) ∙ sym (len-entries told)
 
 -- nothing is left where there is no next number
 pub drop_past : (ks : List ℤ) (i : ℕ) → slice_get ks i ≡ None → drop i ks ≡ []

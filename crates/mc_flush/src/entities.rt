@@ -1,8 +1,11 @@
 //! What a client is told of all entities at a tick.
 
 ghost use Rattle.std.specs.Prelude.{◌≡◌, ◌≤◌, ◌++◌, ◌∷◌, [], IfOk, OnOk, length};
+ghost use Rattle.std.specs.Int.{w32};
+ghost use Rattle.std.specs.List.{AllByRecursion};
 ghost use Rattle.std.specs.FinMap as map;
 ghost use lib.IntN.{pos};
+ghost use mir.Val.{SFits};
 ghost use Rattle.mc_down.specs.declared.down.Down.TheVariants as down;
 ghost use Rattle.mc_entities.specs.Kinds.{IsKind};
 ghost use Rattle.mc_entities.specs.Numbers.{Rise};
@@ -85,7 +88,8 @@ fn forget(eids: &[i32], told: &mut Tracker)
 
 /// Numbers as a packet holds them.
 fn numbers_of(alloc: Global, eids: &[i32]) -> Result<Varints, NoMemory>
-    ensures { IfOk result (λ numbers. numbers ≡ eids.now) }
+    ensures value { IfOk result (λ numbers. numbers ≡ eids.now) }
+    ensures fits { IfOk result (λ numbers. AllByRecursion (SFits w32) numbers) }
 {
     let mut numbers = Varints::new(alloc);
     for eid in eids {
@@ -126,8 +130,8 @@ fn destroy_piece(alloc: Global, gone: &[i32]) -> Result<Bytes, NoMemory>
     Ok(Bytes::from_vec(bytes)?)
 }
 
-/// Appends what a client is to be told of an entity, and keeps that: nothing of its own, of one that
-/// is not in its view, and of a mob.
+/// Appends what a client is to be told of an entity, and keeps that: nothing of its own, of one
+/// that is not in its view, and of a mob.
 fn put_entity(
     view: &ClientView<'_>,
     entity: &Entity,

@@ -31,8 +31,8 @@ use std::marker::Model;
 const PILES: usize = 36;
 
 /// What a client was told, and no copy of it: the beat and the age, the columns of a view, of each
-/// entity where it is and what lies there, and the piles of its pack. The players and the cells that
-/// it was shown are those of the last settling of the list and of the land.
+/// entity where it is and its pile, and the piles of its pack. The players and the cells that it was
+/// shown are those of the last settling of the list and of the land.
 #[derive(Drop)]
 pub struct Mark {
     /// The beat that was told last.

@@ -17,14 +17,15 @@ pub fn object(eid: i32, spot: &Spot) -> Down
         spot.now.pitch spot.now.yaw (pos 0) None }
     ensures clear { IsClear result }
 {
+    let (yaw, pitch) = (spot.yaw, spot.pitch);
     Down::SpawnObject {
         eid,
         kind: ITEM_KIND,
         x: spot.x,
         y: spot.y,
         z: spot.z,
-        pitch: spot.pitch,
-        yaw: spot.yaw,
+        pitch,
+        yaw,
         extra: 0,
         speed: None,
     }
@@ -37,14 +38,15 @@ pub fn player(eid: i32, uuid: u128, spot: &Spot, held: i16, metas: Metas) -> Dow
         spot.now.yaw spot.now.pitch held no_flags }
     ensures clear { IsClear result }
 {
+    let (yaw, pitch) = (spot.yaw, spot.pitch);
     Down::SpawnPlayer {
         eid,
         uuid,
         x: spot.x,
         y: spot.y,
         z: spot.z,
-        yaw: spot.yaw,
-        pitch: spot.pitch,
+        yaw,
+        pitch,
         item: held,
         metas,
     }

@@ -5,18 +5,20 @@ use Rattle.mc_frame.specs.Kept.{joined}
 use Rattle.mc_view.specs.Sets.{has}
 use Rattle.mc_model.specs.Delta.{delta}
 use Rattle.mc_model.specs.Step.{noted_packets, notes_of}
+use Rattle.mc_model.specs.World.{others}
 use Rattle.mc_flush.specs.Sending.{play_bytes}
 use Rattle.mc_flush.specs.Seeing.{MarkValue, StandsFor, age_now, beat_now, changes}
 use Rattle.mc_flush.specs.Seeing.{present_parts, seen}
 use Rattle.mc_flush.proofs.Changes.{tick_put}
 use Rattle.mc_flush.proofs.Difference.{delta_is, stands_seen}
+use Rattle.mc_flush.proofs.Told.{others_rise}
 use Rattle.mc_flush.proofs.client_view.flush.Goals as goal
 
 pub returns-clause-sent : goal.returns-clause-sent
 returns-clause-sent g c p stands =
     let v = c.args.view.now in
     let land = v.land.now in
-    let es = v.folk.now.state.entities in
+    let es = others v.me v.folk.now.state.entities in
     let mark = c.args.mark.now in
     tick_put c.args.out.now.items c.append.new.self.items c.new-pieces.result.items
     c.push_changes.new.out.items c.push_piece.new.out.items c.push_notes.new.out.items
@@ -30,13 +32,14 @@ returns-clause-sent g c p stands =
     land.terrain land.edits (has v.view) cells)) c.cells.ensures))
     c.in_ok-push_notes.ensures c.in_ok-append.ensures.items
     (delta_is land v.list.now es v.pack.now mark v.view v.age v.lines.now p
-    (pos v.folk.now.state.given) c.in_ok-push_changes.ensures.rise stands)
+    (pos v.folk.now.state.given) (others_rise v.me (pos v.folk.now.state.given)
+    v.folk.now.state.entities c.in_ok-push_changes.ensures.rise) stands)
 
 pub returns-clause-stands : goal.returns-clause-stands
 returns-clause-stands g c chat =
     let v = c.args.view.now in
     let land = v.land.now in
-    let es = v.folk.now.state.entities in
+    let es = others v.me v.folk.now.state.entities in
     subst (λ (m : MarkValue). StandsFor m (present_parts land v.list.now)
     (seen land v.list.now es v.pack.now v.view v.age chat))
     (sym (c.keep.ensures ∙ ap (λ (m : MarkValue). record m {

@@ -1,6 +1,7 @@
 use Rattle.std.proofs.Common.{◌++◌, ℕ, List, ap, sym, subst, ◌∙◌}
 use Rattle.std.specs.List.{AllByRecursion}
 use Rattle.mc_frame.specs.Kept.{joined}
+use Rattle.mc_model.specs.World.{others}
 use Rattle.mc_flush.specs.Sending.{play_bytes}
 use Rattle.mc_flush.specs.Seeing.{IsReady, MarkValue, column_packets, loaded, pack_packets}
 use Rattle.mc_flush.proofs.Sent.{changes_put_all}
@@ -18,9 +19,10 @@ push_columns-requires g c =
 pub returns-clause-sent : goal.returns-clause-sent
 returns-clause-sent g c =
     let v = c.args.self.now in
-    changes_put_all v.land.now v.list.now v.folk.now.state.entities v.pack.now c.args.mark.now v.view
-    v.age v.lines.now (joined c.args.out.now.items) (joined c.push_age.new.out.items)
-    (joined c.push_piece.new.out.items) (joined c.push_piece-2.new.out.items)
+    changes_put_all v.land.now v.list.now (others v.me v.folk.now.state.entities) v.pack.now
+    c.args.mark.now v.view v.age v.lines.now (joined c.args.out.now.items)
+    (joined c.push_age.new.out.items) (joined c.push_piece.new.out.items)
+    (joined c.push_piece-2.new.out.items)
     (joined c.push_columns.new.out.items) (joined c.push_piece-3.new.out.items)
     (joined c.push_slots.new.out.items) (joined c.push_lines.new.out.items)
     c.in_ok-push_age.ensures

@@ -1,6 +1,7 @@
 use Rattle.std.proofs.Common.{◌≡◌, ℕ, List, false, rules, sym, subst, ap, ◌∙◌}
 use Rattle.std.specs.FinMap.{FinMap, from_entries, insert}
 use Rattle.mc_land.specs.Places.{place_cmp}
+use Rattle.mc_land.proofs.Orders.{places_total, exact_places}
 use Rattle.mc_flush.specs.Encoding.{AreFrames, EncodedValue, has_changes, change_bytes, is_clean}
 use Rattle.mc_flush.proofs.Encodings.{entry_put, changes_added, changes_new}
 use Rattle.mc_flush.proofs.encoded.Encoded.add_changes.Goals as goal
@@ -17,17 +18,20 @@ returns-clause-ok g c =
     let piece : List ℕ = c.in_ok-piece.piece in
     let put : from_entries {R = place_cmp} c.insert.new.self.entries ≡ insert (from_entries es)
     place piece =
-    entry_put es c.insert.new.self.entries place piece (λ q. c.in_ok-insert.ensures.updates.0 q) in
+    entry_put places_total exact_places es c.insert.new.self.entries place piece
+    (λ q. c.in_ok-insert.ensures.updates.0 q) in
     changes_new old _ land place none some
     (ap (λ (m : FinMap place_cmp (List ℕ)). record {
       players = inside.players;
       loads = from_entries inside.loads.entries;
       changes = m;
+      moves = from_entries inside.moves.entries;
     }) put
     ∙ ap (λ (v : List ℕ). record {
       players = inside.players;
       loads = from_entries inside.loads.entries;
       changes = insert (from_entries {R = place_cmp} es) place v;
+      moves = from_entries inside.moves.entries;
     }) c.in_ok-piece.ensures.is
     ∙ ap (λ (e : EncodedValue). record e {
       changes = insert e.changes place (change_bytes land place);

@@ -1,6 +1,7 @@
 use Rattle.std.proofs.Common.{◌≡◌, ℕ, List, false, rules, sym, subst, ap, ◌∙◌}
 use Rattle.std.specs.FinMap.{FinMap, from_entries, insert}
 use Rattle.mc_land.specs.Places.{place_cmp}
+use Rattle.mc_land.proofs.Orders.{places_total, exact_places}
 use Rattle.mc_flush.specs.Encoding.{AreFrames, EncodedValue, has_load, load_bytes}
 use Rattle.mc_flush.proofs.Encodings.{entry_put, load_added, load_new}
 use Rattle.mc_flush.proofs.encoded.Encoded.add_load.Goals as goal
@@ -16,18 +17,21 @@ returns-clause-ok g c =
     let piece : List ℕ = c.in_ok-piece.piece in
     let put : from_entries {R = place_cmp} c.insert.new.self.entries ≡ insert (from_entries es)
     place piece =
-    entry_put es c.insert.new.self.entries place piece (λ q. c.in_ok-insert.ensures.updates.0 q) in
+    entry_put places_total exact_places es c.insert.new.self.entries place piece
+    (λ q. c.in_ok-insert.ensures.updates.0 q) in
     load_new old _ land place none
     (ap (λ (m : FinMap place_cmp (List ℕ)). record {
       players = inside.players;
       loads = m;
       changes = from_entries inside.changes.entries;
+      moves = from_entries inside.moves.entries;
     }) put
     ∙ ap (λ (v : List ℕ). record {
       players = inside.players;
       loads = insert (from_entries {R =
           place_cmp} es) place v;
       changes = from_entries inside.changes.entries;
+      moves = from_entries inside.moves.entries;
     }) c.in_ok-piece.ensures.is
     ∙ ap (λ (e : EncodedValue). record e { loads = insert e.loads place (load_bytes land place) })
     c.self.view_is)

@@ -10,13 +10,20 @@ returns-clause-frames c = λ land frames.
     let inside = c.self.inside in
     let loads = from_entries inside.loads.entries in
     let changes = from_entries inside.changes.entries in
+    let moves = from_entries inside.moves.entries in
     let made : EncodedValue = record {
       players = Some c.in_ok-piece.piece;
       loads = loads;
       changes = changes;
+      moves = moves;
     } in
     let is : made ≡ with_players c.args.self.now list =
-    ap (λ (bytes : List ℕ). record { players = Some bytes; loads = loads; changes = changes })
+    ap (λ (bytes : List ℕ). record {
+      players = Some bytes;
+      loads = loads;
+      changes = changes;
+      moves = moves;
+    })
     c.in_ok-piece.ensures
     ∙ ap (λ (e : EncodedValue). record e { players = Some (player_bytes list) }) c.self.view_is in
     subst (AreFrames land list) (sym is) (players_added land list c.args.self.now frames)
