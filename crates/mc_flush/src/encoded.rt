@@ -30,8 +30,8 @@ use std::sync::ledger::Ledger;
 
 /// What is the same for all clients of a tick, encoded once, in pieces that each of them shares:
 /// the frames of who left and of who came since the last settling, by place that of a column's
-/// load, by place those of its cells that changed since the last settling, and by number those of an
-/// entity's move since then.
+/// load, by place those of its cells that changed since the last settling, and by number those of
+/// an entity's move since then.
 #[derive(Drop)]
 pub struct Encoded {
     /// The frames about players, where they were encoded.

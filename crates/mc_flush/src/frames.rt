@@ -21,8 +21,8 @@ pub fn put_packet(packet: &Down, out: &mut Vec<u8>) -> Result<(), NoMemory>
     Ok(())
 }
 
-/// Appends the frame of a packet that was made for it, and lets go of that. Without memory the buffer
-/// is as before.
+/// Appends the frame of a packet that was made for it, and lets go of that. Without memory the
+/// buffer is as before.
 pub fn put_made(packet: Down, out: &mut Vec<u8>) -> Result<(), NoMemory>
     requires { IsClear packet }
     ensures ok { OnOk result (out.new.items ≡ out.old.items ++ frame_of (of_play packet)) }

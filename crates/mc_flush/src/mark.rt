@@ -31,8 +31,8 @@ use std::marker::Model;
 const PILES: usize = 36;
 
 /// What a client was told, and no copy of it: the beat and the age, the columns of a view, of each
-/// entity where it is and what lies there, and the piles of its pack. The players and the cells that
-/// it was shown are those of the last settling of the list and of the land.
+/// entity where it is and its pile, and the piles of its pack. The players and the cells that it
+/// was shown are those of the last settling of the list and of the land.
 #[derive(Drop)]
 pub struct Mark {
     /// The beat that was told last.
@@ -141,8 +141,8 @@ impl Mark {
         &self.slots
     }
 
-    /// The frames of the entities that a client is to be shown no more, and those of the others, which
-    /// are then what was told. Without memory nothing was.
+    /// The frames of the entities that a client is to be shown no more, and those of the others,
+    /// which are then what was told. Without memory nothing was.
     pub(crate) fn tell(
         &mut self,
         alloc: Global,
@@ -168,8 +168,8 @@ impl Mark {
         pieces
     }
 
-    /// Keeps what was shown last: the beat and the age that are told at an age of the world, the view,
-    /// and the pack.
+    /// Keeps what was shown last: the beat and the age that are told at an age of the world, the
+    /// view, and the pack.
     pub(crate) fn keep(&mut self, age: u64, view: ViewSet, pack: &Pack)
         requires { age ≤ 1000000000 }
         ensures { self.new ≡ record self.old {

@@ -106,13 +106,13 @@ drawn_follows land w p (Some seen) terrain things d said =
 -- the packets that were handed to a connection show its player what it was shown last, which is
 -- all that was said before that; before it plays there are none
 pub record IsShown (land : Terrain) (now_things : Things) (s : Session) (ps : List Sent) : Type 0
-    where
-  pub has : HasPlayer s
-  pub playing : (p : Player) → s.player ≡ Some p →
-      replay new_replica (played ps) ≡ seeing (last_shown p)
-  pub chat : (p : Player) → s.player ≡ Some p → p.chat ≡ (last_shown p).chat
-  pub drawn : (p : Player) → s.player ≡ Some p → IsDrawn land now_things p.shown
-  pub waiting : is_play s.stage ≡ false → is_closed s.stage ≡ false → played ps ≡ []
+  where
+    pub has : HasPlayer s
+    pub playing : (p : Player) → s.player ≡ Some p →
+        replay new_replica (played ps) ≡ seeing (last_shown p)
+    pub chat : (p : Player) → s.player ≡ Some p → p.chat ≡ (last_shown p).chat
+    pub drawn : (p : Player) → s.player ≡ Some p → IsDrawn land now_things p.shown
+    pub waiting : is_play s.stage ≡ false → is_closed s.stage ≡ false → played ps ≡ []
 
 -- where things last, so it is of later ones
 shown_later : (land : Terrain) (now_things later : Things) (s : Session) (ps : List Sent) →

@@ -214,8 +214,8 @@ seen_as e kinds.Mob = None
 abbrev pub seen_of : Entity → Option (ℤ × Seen)
 seen_of e = seen_as e e.kind
 
--- the beat and the age, the players in play, the columns of its view as they are, the entities in it
--- but its own, its pack, and what was said since it joined
+-- the beat and the age, the players in play, the columns of its view as they are, the entities in
+-- it but its own, its pack, and what was said since it joined
 unfoldable pub project : World → Player → Sight
 project w p = record {
   beat = Some (pos (beat_at w.age));

@@ -1,5 +1,6 @@
 -- What a client is shown of the parts of a world is what the world shows it.
-use Rattle.std.proofs.Common.{◌≡◌, ℕ, ℤ, Bool, true, false, cond, List, [], ◌++◌, map, length, Option}
+use Rattle.std.proofs.Common.{◌≡◌, ℕ, ℤ, Bool, true, false, cond, List, [], ◌++◌, map, length}
+use Rattle.std.proofs.Common.{Option}
 use Rattle.std.proofs.Common.{Some, None, is_some, refl, sym, subst, ap, ◌∙◌, append_assoc}
 use Rattle.std.specs.Prelude.{◌+◌, drop, nat_le, unwrap_or, if◌then◌else◌, option_map}
 use Rattle.std.specs.List.{filter, filter_map}

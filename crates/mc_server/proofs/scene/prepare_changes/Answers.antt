@@ -22,5 +22,6 @@ loop-place-preserved g c =
 
 pub returns-in_err-prepare_change : goal.returns-in_err-prepare_change
 returns-in_err-prepare_change g c = record {
-  frames = λ list are. c.prepare_change.ensures.frames list (c.loop-place.invariant.frames list are);
+  frames = λ list are.
+      c.prepare_change.ensures.frames list (c.loop-place.invariant.frames list are);
 }

@@ -21,7 +21,8 @@ returns-clause-sent g c =
     let v = c.args.self.now in
     changes_put_all v.land.now v.list.now (others v.me v.folk.now.state.entities) v.pack.now
     c.args.mark.now v.view v.age v.lines.now (joined c.args.out.now.items)
-    (joined c.push_age.new.out.items) (joined c.push_piece.new.out.items) (joined c.push_piece-2.new.out.items)
+    (joined c.push_age.new.out.items) (joined c.push_piece.new.out.items)
+    (joined c.push_piece-2.new.out.items)
     (joined c.push_columns.new.out.items) (joined c.push_piece-3.new.out.items)
     (joined c.push_slots.new.out.items) (joined c.push_lines.new.out.items)
     c.in_ok-push_age.ensures
