@@ -5,6 +5,10 @@ use Rattle.mc_flush.specs.Seeing.{IsReady}
 use Rattle.mc_flush.proofs.Pieces.{next_holds}
 use Rattle.mc_scenes.proofs.flushes.encode.Goals as goal
 
+pub returns-then-not-scene : goal.returns-then-not-scene
+returns-then-not-scene g c =
+    c.new-encoded.ensures.frames c.args.scene.now.land c.args.scene.now.guests
+
 pub loop-place-init : goal.loop-place-init
 loop-place-init g c =
     let land = c.args.scene.now.land in
