@@ -1,14 +1,14 @@
 -- Conditions that were tried for each column of a view.
-use Rattle.std.proofs.Common.{◌≡◌, ◌↔◌, Bool, true, false, ◌||◌, List, [], ◌∷◌, refl, sym, subst}
-use Rattle.std.proofs.Common.{◌∙◌}
-use Rattle.std.specs.List.{AllByRecursion, list_any}
-use Rattle.std.specs.Ordering.{eq_by_cmp}
+use Rattle.std.proofs.Common.{◌≡◌, ◌↔◌, Bool, true, false, List, [], ◌∷◌, Option, Some, None}
+use Rattle.std.proofs.Common.{refl, sym, subst}
+use Rattle.std.specs.List.{AllByRecursion}
 use Rattle.std.specs.FinSet as set
-use Rattle.mc_land.specs.Places.{Place, place_cmp}
+use Rattle.mc_land.specs.Places.{Place, IsPlace}
 use Rattle.mc_land.specs.Land.{LandValue}
 use Rattle.mc_view.specs.declared.view_set.ViewSet.{ViewSet}
-use Rattle.mc_view.specs.Sets.{has, all_of}
-use Rattle.mc_flush.proofs.Shown.{same_place, listed_has}
+use Rattle.mc_view.specs.Sets.{all_of}
+use Rattle.mc_flush.specs.Seeing.{IsReady, entered_of}
+use Rattle.mc_flush.proofs.Changes.{lacking_holds}
 
 -- the next of those that are left passed too
 pub tried_next : {A : Type 0} (P : A → Type 0) (all left rest : List A) (x : A) →
@@ -17,27 +17,22 @@ pub tried_next : {A : Type 0} (P : A → Type 0) (all left rest : List A) (x : A
 tried_next P all left rest x next here so_far others =
     so_far (subst (AllByRecursion P) (sym next) (here, others))
 
--- what holds of each column of a list holds of one that is among them
-holds_of : (P : Place → Type 0) (places : List Place) → AllByRecursion P places → (place : Place) →
-    list_any (eq_by_cmp place_cmp place) places ≡ true → P place
-holds_of P [] all place there = absurd cc
-holds_of P (q ∷ places) all place there =
-    step (eq_by_cmp place_cmp place q) refl there (λ t. holds_of P places all.1 place t)
-  where
-    step : (b : Bool) → eq_by_cmp place_cmp place q ≡ b →
-        (b || list_any (eq_by_cmp place_cmp place) places) ≡ true →
-        (list_any (eq_by_cmp place_cmp place) places ≡ true → P place) → P place
-    step true is there rest = subst P (sym (same_place place q is)) all.0
-    step false is there rest = rest there
-
 -- a column that is ready
 abbrev pub IsThere : LandValue → Place → Type 0
 IsThere land place = set.contains land.ready place ≡ true
 
-pub all_there : (land : LandValue) (view : ViewSet) → AllByRecursion (IsThere land) (all_of view) →
-    (place : Place) → has view place ≡ true → set.contains land.ready place ≡ true
-all_there land view all place there =
-    holds_of (IsThere land) (all_of view) all place (listed_has view place ∙ there)
+-- columns that lie in the world and are ready may be looked at
+pub all_ready : (land : LandValue) (places : List Place) → AllByRecursion IsPlace places →
+    AllByRecursion (IsThere land) places → AllByRecursion (IsReady land) places
+all_ready land [] near there = tt
+all_ready land (place ∷ places) near there =
+    (record { near = near.0; ready = there.0 }, all_ready land places near.1 there.1)
+
+-- where all columns of a view may be, those may that come
+pub entered_ready : (land : LandValue) (was : Option ViewSet) (view : ViewSet) →
+    AllByRecursion (IsReady land) (all_of view) → AllByRecursion (IsReady land) (entered_of was view)
+entered_ready land None view all = all
+entered_ready land (Some old) view all = lacking_holds (IsReady land) view old all
 
 -- two tests that fail together are alike
 pub same_answer : (a b : Bool) → (a ≡ false) ↔ (b ≡ false) → a ≡ b

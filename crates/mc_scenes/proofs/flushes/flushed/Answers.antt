@@ -2,10 +2,10 @@ use Rattle.std.proofs.Common.{rules}
 use Rattle.std.specs.List.{AllByRecursion}
 use Rattle.mc_view.specs.Sets.{all_of}
 use Rattle.mc_flush.specs.Seeing.{IsReady}
-use Rattle.mc_flush.proofs.Changes.{loaded_ready}
+use Rattle.mc_scenes.proofs.Tried.{entered_ready}
 use Rattle.mc_scenes.proofs.flushes.flushed.Goals as goal
 
 pub flush-requires-clause-ready : goal.flush-requires-clause-ready
 flush-requires-clause-ready g c =
     let all : AllByRecursion (IsReady c.args.scene.now.land) (all_of c.args.view) = search rules in
-    loaded_ready c.args.scene.now.land c.args.scene.now.mark c.args.view all
+    entered_ready c.args.scene.now.land c.args.scene.now.mark.view c.args.view all

@@ -3,8 +3,8 @@ use Rattle.std.specs.List.{AllByRecursion}
 use Rattle.mc_land.specs.Places.{IsPlace}
 use Rattle.mc_view.specs.Sets.{all_of}
 use Rattle.mc_flush.proofs.Pieces.{next_holds}
-use Rattle.mc_flush.proofs.Changes.{view_places, view_ready}
-use Rattle.mc_scenes.proofs.Tried.{IsThere, tried_next, all_there}
+use Rattle.mc_flush.proofs.Changes.{view_places}
+use Rattle.mc_scenes.proofs.Tried.{IsThere, tried_next, all_ready}
 use Rattle.mc_scenes.proofs.flushes.is_ready.Goals as goal
 
 pub loop-place-init : goal.loop-place-init
@@ -30,6 +30,7 @@ loop-place-preserved g c =
     }
 
 pub returns : goal.returns
-returns g c = λ t. view_ready c.args.land.now c.args.view.now c.args.view.now.in_range
-    (all_there c.args.land.now c.args.view.now (c.loop-place.invariant.ready
-    (subst (AllByRecursion (IsThere c.args.land.now)) (sym c.in-None.ensures.steps.0) tt)))
+returns g c = λ t. all_ready c.args.land.now (all_of c.args.view.now)
+    (view_places c.args.view.now c.args.view.now.in_range)
+    (c.loop-place.invariant.ready
+    (subst (AllByRecursion (IsThere c.args.land.now)) (sym c.in-None.ensures.steps.0) tt))
