@@ -3,22 +3,24 @@
 
 usage: prove.py CRATE
 
-It works on a copy of what is needed, without wrong bodies. Crates that don't wait for each other are
-proved side by side, each by a gate of its own, which keeps on this machine what it proved. On
-standard error it says each crate as it begins, and how long all of them took.
+It runs one gate over a copy of what the program needs, without wrong bodies and without tests. The
+gate proves crates that don't wait for each other side by side, and keeps on this machine what it
+proved. On standard error it says each crate as it is done, how long the rest is likely to take, and
+in the end how long all of them took.
 """
 
+import os
+import re
 import shutil
 import subprocess
 import sys
 import tempfile
 import time
-from concurrent.futures import FIRST_COMPLETED, ThreadPoolExecutor, wait
 from pathlib import Path
 
 TOP = Path(__file__).resolve().parent.parent
-# How many crates are proved at a time. Each uses what processors it finds.
-AT_ONCE = 3
+# About how many seconds of one processor the proof of a kilobyte of code takes.
+SECONDS_OF_KILOBYTE = 4.5
 
 
 def stands_on():
@@ -39,6 +41,17 @@ def needed(crate, crates):
     return found + [crate]
 
 
+def drop_tests(crate):
+    """Takes the tests out of a copied crate: they stand last in a file, or in a file of their own."""
+    for file in crate.rglob("*.rt"):
+        code, mark, _tests = file.read_text().partition("\n#[cfg(test)]\n")
+        if mark:
+            file.write_text(code)
+    for folder in ("src", "proofs"):
+        for tests in (crate / folder).rglob("tests*"):
+            shutil.rmtree(tests) if tests.is_dir() else tests.unlink()
+
+
 def copy(names, to):
     """Copies what a gate reads of these crates."""
     shutil.copy(TOP / "HANDLES", to)
@@ -47,83 +60,82 @@ def copy(names, to):
     left_out = shutil.ignore_patterns("out", "must-fail")
     for name in names:
         shutil.copytree(TOP / "crates" / name, to / "crates" / name, ignore=left_out)
+        drop_tests(to / "crates" / name)
 
 
-def size(crate):
-    """Counts the bytes of a crate's sources, which stand for the time that its proof takes."""
-    folders = [TOP / "crates" / crate / it for it in ("src", "specs", "proofs")]
-    return sum(file.stat().st_size for folder in folders for file in folder.rglob("*.*"))
+def work_of(crate):
+    """Guesses how many seconds of one processor the proof of a crate takes: its code tells best."""
+    files = (TOP / "crates" / crate / "src").rglob("*.rt")
+    return SECONDS_OF_KILOBYTE * sum(file.stat().st_size for file in files) / 1000
 
 
-def length_of_chains(names, crates):
-    """Tells for each crate the size of the longest chain of crates that begins with it."""
-    behind = {}
-    for name in reversed(names):
-        above = [behind[it] for it in names if name in crates[it]]
-        behind[name] = size(name) + max(above, default=0)
-    return behind
+def clock_of(left, crates):
+    """Guesses how many seconds these crates take side by side: no less than the longest chain of
+    them, in which a second processor is of some use, nor than all of them on all processors."""
+    chains = {}
+    for name in left:
+        below = max((chains[it] for it in crates[name] if it in chains), default=0)
+        chains[name] = below + work_of(name) / 1.5
+    whole = sum(work_of(name) for name in left) / len(os.sched_getaffinity(0))
+    return max([whole, *chains.values()])
 
 
-def gate(folder, *names):
-    """Runs the gate over these crates, or over all. Answers what was said where it fails."""
-    done = subprocess.run(["rt", "ci", *names], cwd=folder, capture_output=True, text=True)
-    return None if done.returncode == 0 else done.stdout + done.stderr
+def say(text):
+    """Says how far it is."""
+    print(f"craft47: {text}", file=sys.stderr, flush=True)
 
 
-def takes_names(folder):
-    """Tells whether the toolchain's gate can be run over single crates: not every kit's can."""
-    done = subprocess.run(["rt", "ci", "no_crate"], cwd=folder, capture_output=True, text=True)
-    return "usage:" not in done.stdout + done.stderr
+def minutes(seconds):
+    """Words for a time that is only guessed."""
+    return "less than a minute" if seconds < 60 else f"about {round(seconds / 60)} min"
 
 
-def prove_each(folder, names, crates):
-    """Proves each crate as soon as those that it stands on are. Answers what was said at a fault."""
-    chains = length_of_chains(names, crates)
-    left, running, done = sorted(names, key=lambda it: -chains[it]), {}, set()
-    with ThreadPoolExecutor(AT_ONCE) as pool:
-        while left or running:
-            ready = [it for it in left if done.issuperset(crates[it])]
-            for name in ready[: AT_ONCE - len(running)]:
-                number = len(names) - len(left) + 1
-                print(f"craft47: {number} of {len(names)}: {name}", file=sys.stderr, flush=True)
-                running[pool.submit(gate, folder, name)] = name
-                left.remove(name)
-            for ended in wait(running, return_when=FIRST_COMPLETED).done:
-                done.add(running.pop(ended))
-                if ended.result() is not None:
-                    return ended.result()
-    return None
+def follow(gate, names, crates):
+    """Says each crate of a running gate as it is done. Returns all that the gate said."""
+    began, first = time.monotonic(), clock_of(names, crates)
+    say(f"{len(names)} crates to prove, {minutes(first)} where none was proved before")
+    left, said, kept = list(names), [], 0
+    for line in gate.stdout:
+        said.append(line)
+        done = re.match(r"(?:rt: )?(\w+) (proved|is kept)", line)
+        if done is None or done[1] not in left:
+            continue
+        left.remove(done[1])
+        kept += done[2] == "is kept"
+        rest = clock_of(left, crates) if left else 0
+        # What is done tells how fast this machine is, once some of it was proved in this run.
+        pace = (time.monotonic() - began) / (first - rest) if rest < first and not kept else 1
+        say(f"{len(names) - len(left)} of {len(names)}: {done[1]}; the rest: {minutes(rest * pace)}")
+    return "".join(said)
 
 
 def build(program):
-    """Proves a program and all that it stands on. Answers what was said where that fails."""
+    """Proves a program and all that it stands on. Returns what was said where that fails."""
     crates = stands_on()
     names = needed(program, crates)
     with tempfile.TemporaryDirectory(prefix="craft47-") as folder:
         copy(names, Path(folder))
-        # What is proved is kept, so the gate over all has only to build the program. Where it can't
-        # be run over single crates it proves all of them.
-        fault = None
-        if takes_names(folder):
-            fault = prove_each(folder, names, crates)
-        else:
-            print(f"craft47: {len(names)} crates, by one gate", file=sys.stderr, flush=True)
-        fault = fault or gate(folder)
-        if fault is None:
-            built = TOP / "crates" / program / "out"
-            built.mkdir(exist_ok=True)
-            shutil.copy(Path(folder) / "crates" / program / "out" / program, built)
-        return fault
+        gate = subprocess.Popen(
+            ["rt", "ci"], cwd=folder, text=True, env={**os.environ, "PYTHONUNBUFFERED": "1"},
+            stdin=subprocess.DEVNULL, stdout=subprocess.PIPE, stderr=subprocess.STDOUT)
+        with gate:
+            said = follow(gate, names, crates)
+        if gate.returncode != 0:
+            return said
+        built = TOP / "crates" / program / "out"
+        built.mkdir(exist_ok=True)
+        shutil.copy(Path(folder) / "crates" / program / "out" / program, built)
+        return None
 
 
 def main():
     began = time.monotonic()
     fault = build(sys.argv[1])
-    minutes, seconds = divmod(round(time.monotonic() - began), 60)
+    whole, seconds = divmod(round(time.monotonic() - began), 60)
     if fault is not None:
         print(fault, file=sys.stderr)
         return 1
-    print(f"craft47: proved and built in {minutes} min {seconds} s", file=sys.stderr)
+    say(f"proved and built in {whole} min {seconds} s")
     return 0
 
 

@@ -1,20 +1,14 @@
 //! The program: it collects its arguments, takes sockets, standard input and standard output as
 //! devices, and ends with the status that `mc_top` answers. It stands on `mc_top`, on the traits of
-//! `mc_wire` and on the sockets of the crate `mio`.
+//! `mc_wire` and on the devices of `mc_devices`.
 //!
-//! Its contracts are those of its three devices, where a failure raises the device's count and
-//! never passes for an answer, and that of `program`, which is the whole program over any three.
+//! Its one contract is that of `program`, which is the whole program over any three devices.
 #![tactic(auto)]
 
-mod input;
-mod output;
 mod program;
-mod sockets;
 
-use input::ReaderSource;
-use output::WriterSink;
+use mc_devices::{ReaderSource, SocketLobby, WriterSink};
 use program::program;
-use sockets::SocketLobby;
 use std::process::ExitCode;
 use std::rt::Env;
 use std::{env, io};

@@ -15,7 +15,7 @@ pub struct WriterSink<W> {
 }
 
 impl<W> Model for WriterSink<W> {
-    ghost use Rattle.craft47.specs.Edge.{OutputState};
+    ghost use Rattle.mc_devices.specs.Edge.{OutputState};
 
     ghost Value = { OutputState W };
 

@@ -16,7 +16,7 @@ pub struct ReaderSource<R> {
 }
 
 impl<R> Model for ReaderSource<R> {
-    ghost use Rattle.craft47.specs.Edge.{InputState};
+    ghost use Rattle.mc_devices.specs.Edge.{InputState};
 
     ghost Value = { InputState R };
 

@@ -29,7 +29,7 @@ pub struct SocketLobby<'r, R> {
 impl<'r, R> Model for SocketLobby<'r, R> {
     ghost use Rattle.std.specs.Prelude.{is_some};
     ghost use Rattle.mc_wire.specs.LobbyCounts.{NoneFalls};
-    ghost use Rattle.craft47.specs.Sockets.{SocketLobbyState, counts_of};
+    ghost use Rattle.mc_devices.specs.Sockets.{SocketLobbyState, counts_of};
 
     ghost Value = { SocketLobbyState };
 
