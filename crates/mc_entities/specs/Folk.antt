@@ -13,8 +13,8 @@ use Rattle.mc_entities.specs.Numbers.{numbered, changed, without}
 use Rattle.mc_entities.specs.Shift.{shifted_spot}
 use Rattle.mc_entities.specs.Plans.{move_at}
 
--- the entities by rising number; where each of those that were there at the last settling was
--- then, by number; and how many numbers were given: 1 up to this one
+-- the entities by rising number; the spots that the last settling kept and that were not taken out
+-- since, by number; and how many numbers were given: 1 up to this one
 pub record FolkState : Type 0 where
   pub entities : List Entity
   pub told : List (ℤ × Spot)
@@ -36,8 +36,7 @@ told_eid row = row.0
 abbrev pub entity_of : ℤ → FolkState → Option Entity
 entity_of eid state = numbered eid_of eid state.entities
 
--- where the entity of a number was at the last settling; none where no entity has the number, and
--- where that entity was not there yet
+-- the spot that the last settling kept under a number, where that is still kept
 abbrev pub told_of : ℤ → FolkState → Option Spot
 told_of eid state = option_map (λ row. row.1) (numbered told_eid eid state.told)
 

@@ -250,8 +250,8 @@ impl Folk {
         self.entities.as_slice()
     }
 
-    /// Where the entity of a number was at the last settling. None where there is no such entity,
-    /// and where it was added since.
+    /// Answers the spot that the last settling kept under a number. None where it kept none, and
+    /// where the entity of the number was taken out since.
     pub fn told(&self, eid: i32) -> Option<&Spot>
         ensures { option_copied result ≡ told_of eid self.now.state }
     {

@@ -187,10 +187,10 @@ unfolding pattern_of
 zero_stands = record { ends = omega arith; exact = refl }
 
 -- above 0
-positive_stands : (n : ℕ) → 0 < n → n < 2 ^ 31 → Represents (pos n) (pattern_with 52 1023 n + 0)
+positive_stands : (n : ℕ) → 0 < n → n < 2 ^ 32 → Represents (pos n) (pattern_with 52 1023 n + 0)
 positive_stands n some small =
-    let s = significand_is n 52 30 some small (omega arith) (omega arith) in
-    let top = top_bit_below 32 n 30 small in
+    let s = significand_is n 52 31 some small (omega arith) (omega arith) in
+    let top = top_bit_below 32 n 31 small in
     let is : (1018 + top_bit 32 n) * 4503599627370496 +
     (n * 2 ^ (52 - top_bit 32 n) - 4503599627370496) ≡ pattern_with 52 1023 n + 0 =
     omega (arith, some_pattern 52 1023 n some, s.least) in
@@ -198,11 +198,11 @@ positive_stands n some small =
     (n * 2 ^ (52 - top_bit 32 n)) s.least s.most (omega (arith, top)) refl)
 
 -- below 0
-negative_stands : (n : ℕ) → n < 2 ^ 31 → suc n < 2 ^ 31 →
+negative_stands : (n : ℕ) → n < 2 ^ 32 → suc n < 2 ^ 32 →
     Represents (negsuc n) (pattern_with 52 1023 (suc n) + 2 ^ 63)
 negative_stands n less small =
-    let s = significand_is (suc n) 52 30 (omega arith) small (omega arith) (omega arith) in
-    let top = top_bit_below 32 (suc n) 30 small in
+    let s = significand_is (suc n) 52 31 (omega arith) small (omega arith) (omega arith) in
+    let top = top_bit_below 32 (suc n) 31 small in
     let is : 9223372036854775808 + (1018 + top_bit 32 (suc n)) * 4503599627370496 +
     (suc n * 2 ^ (52 - top_bit 32 (suc n)) - 4503599627370496) ≡ pattern_with 52 1023
     (suc n) + 2 ^ 63 =
@@ -212,7 +212,7 @@ negative_stands n less small =
     (suc n * 2 ^ (52 - top_bit 32 (suc n))) s.least s.most (omega (arith, top)) refl)
 
 -- the pattern of a whole number stands for it
-pub pattern_stands : (n : ℤ) → unsigned_abs n < 2 ^ 31 → Represents n (pattern_of n)
+pub pattern_stands : (n : ℤ) → unsigned_abs n < 2 ^ 32 → Represents n (pattern_of n)
 unfolding pattern_of
 pattern_stands (pos zero) small = zero_stands
 pattern_stands (pos (suc n)) small = positive_stands (suc n) (omega arith) small

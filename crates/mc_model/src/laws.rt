@@ -39,7 +39,7 @@ pub fn numbers_are_worked_out()
     ensures endless { (p : ℕ) → fixed_of p ≡ None ↔ IsEndless p }
     ensures turn { (p a : ℕ) → turn_of p ≡ Some a → Turns p a }
     ensures vast { (p : ℕ) → turn_of p ≡ None ↔ IsVast p }
-    ensures pattern { (n : ℤ) → unsigned_abs n < 2 ^ 31 → Represents n (pattern_of n) }
+    ensures pattern { (n : ℤ) → unsigned_abs n < 2 ^ 32 → Represents n (pattern_of n) }
     ensures degrees { (a : ℕ) → a < 256 → RepresentsTurn a (degrees_of a) }
 {}
 

@@ -53,7 +53,3 @@ spelling_of (Handshake protocol address port wanted) =
 abbrev pub append_of : Hand → List ℕ → List ℕ
 append_of (Handshake protocol address port wanted) =
     append (entry_of (Handshake protocol address port wanted))
-
--- what the client wants next
-abbrev pub next_of : Hand → ℤ
-next_of (Handshake protocol address port wanted) = wanted

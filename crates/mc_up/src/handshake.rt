@@ -1,4 +1,4 @@
-ghost use Rattle.std.specs.Prelude.{◌≡◌, ◌++◌, ◌↔◌, ℕ, List, IsTrue, IfOk, OnOk, OnErr, Ok, take};
+ghost use Rattle.std.specs.Prelude.{◌≡◌, ◌++◌, ℕ, List, IfOk, OnOk, OnErr, Ok, take};
 ghost use Rattle.std.specs.Prelude.{length};
 ghost use Rattle.mc_fields.specs.Row.{GivesRow, GivesPacket, id_read, packet_read, packet_of};
 ghost use Rattle.mc_up.specs.Hand.{rows, SpellsHand, FitsHand, spelling_of, append_of};
@@ -22,19 +22,6 @@ pub enum Hand {
         port: u16,
         next: i32,
     },
-}
-
-impl Hand {
-    ghost use lib.IntN.{pos};
-    ghost use Rattle.mc_up.specs.Hand.{next_of};
-
-    /// Whether the client wants the status next.
-    pub fn wants_status(&self) -> bool
-        ensures { IsTrue result ↔ (next_of self.now ≡ pos 1) }
-    {
-        let Hand::Handshake { next, .. } = self;
-        *next == 1
-    }
 }
 
 /// What a client wants next. Contracts see it as its number.

@@ -34,7 +34,7 @@ fn put_hand(packet: &Hand, answer: &mut Answer) {
             next,
         } => fields!(
             answer, "Handshake", number *protocol, text address, number *port, number *next,
-            number packet.wants_status()
+            number *next == 1
         ),
     }
 }
