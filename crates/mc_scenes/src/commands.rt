@@ -4,12 +4,9 @@
 //! TROUBLES WRITES ARGUMENT ..` runs it over such a lobby and no text, and answers its log, too. A
 //! line of more than a thousand bytes is put frame by frame.
 
-use crate::answer::Answer;
 use crate::frames::put_frames;
 use crate::lobbies::{lobby_in, put_log};
-use crate::shown::Shown;
-use crate::texts::text_of;
-use crate::words::Words;
+use mc_rows::{Answer, Shown, Words, text_of};
 use mc_top::run;
 use mc_wire::{MemoryLobby, MemorySink, MemorySource};
 use std::alloc::Global;

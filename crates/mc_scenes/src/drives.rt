@@ -6,13 +6,12 @@
 ghost use Rattle.std.specs.Prelude.{◌≡◌, ◌≤◌, IfSome};
 ghost use Rattle.mc_server.specs.Stands.{age_of};
 
-use crate::answer::Answer;
 use crate::frames::put_frames;
 use crate::lobbies::{lobby_in, put_log};
 use crate::servers::new_server;
 use crate::terrains::terrain_in;
 use crate::untold::Untold;
-use crate::words::Words;
+use mc_rows::{Answer, Words};
 use mc_server::{Budget, DriveFault, Ended, Server, Tally, drive};
 use mc_wire::{Lobby, LogEntry};
 use std::alloc::Global;

@@ -15,20 +15,19 @@ ghost use Rattle.mc_view.specs.Sets.{all_of};
 ghost use Rattle.mc_flush.specs.Encoding.{AreFrames};
 ghost use Rattle.mc_flush.specs.Seeing.{IsReady};
 
-use crate::answer::Answer;
 use crate::frames::put_frames;
 use crate::guests::Guests;
 use crate::things::{
     add_player, cell_in, change_item, drop_item, empty_hand, fill_hand, filled, move_to, set_cell,
     take_out,
 };
-use crate::words::Words;
 use mc_entities::Folk;
 use mc_fields::Spot;
 use mc_flush::{ClientView, Encoded, Line, Mark, flush};
 use mc_land::{Land, Steps, Terrain};
 use mc_model::{AGE_MAX, Notes};
 use mc_nbt::{NoMemory, Text};
+use mc_rows::{Answer, Words};
 use mc_view::ViewSet;
 use mc_windows::{Pack, kit};
 use std::alloc::Global;

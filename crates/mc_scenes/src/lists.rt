@@ -1,11 +1,10 @@
 //! `list STEP ..` works on a list of players, and `place X Y Z YAW PITCH` answers the frame of a
 //! player's place.
 
-use crate::answer::Answer;
-use crate::words::Words;
 use mc_fields::Spot;
 use mc_flush::{PlayerList, placing_packet, put_packet};
 use mc_nbt::Text;
+use mc_rows::{Answer, Words};
 
 /// A call of a list of players.
 #[derive(Clone, Copy)]
@@ -98,5 +97,5 @@ pub fn place(words: &mut Words<'_>, answer: &mut Answer) {
     };
     let mut frame = Vec::new(words.alloc);
     answer.needs(put_packet(&placing_packet(&place), &mut frame));
-    answer.bytes(&frame);
+    answer.hex(&frame);
 }

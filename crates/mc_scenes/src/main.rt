@@ -5,7 +5,6 @@
 //! It has no contract of its own: the table that it is run on says what each row answers.
 #![tactic(auto)]
 
-mod answer;
 mod causes;
 mod commands;
 mod drives;
@@ -20,19 +19,15 @@ mod pieces;
 mod scripts;
 mod servers;
 mod sessions;
-mod shown;
 mod terrains;
-mod texts;
 mod things;
 mod untold;
 mod views;
-mod words;
 
-use answer::Answer;
+use mc_rows::{Answer, Words};
 use std::alloc::Global;
 use std::io;
 use std::io::{BufWriter, Write};
-use words::Words;
 
 /// What a row calls.
 #[derive(Clone, Copy)]

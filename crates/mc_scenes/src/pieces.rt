@@ -3,10 +3,9 @@
 //! come to a server for each size, and a tick, takes what is owed in pieces of that size, and
 //! answers how many bytes that are and whether they are those of the first.
 
-use crate::answer::Answer;
 use crate::servers::{new_server, taken, ticks};
-use crate::words::Words;
 use mc_land::Terrain;
+use mc_rows::{Answer, Words};
 use mc_server::{Input, Server};
 use std::alloc::Global;
 
@@ -46,7 +45,7 @@ pub fn cuts(words: &mut Words<'_>, answer: &mut Answer) {
     }
     answer.word(same);
     answer.word("times");
-    answer.text(&whole.unwrap_or(Vec::new(words.alloc)));
+    answer.shown(&whole.unwrap_or(Vec::new(words.alloc)));
 }
 
 /// What is owed to who says some bytes, after a tick, taken so many bytes at a time.

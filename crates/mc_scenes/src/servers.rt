@@ -3,12 +3,11 @@
 ghost use Rattle.std.specs.Prelude.{◌≡◌, IfSome};
 ghost use Rattle.mc_server.specs.Stands.{age_of};
 
-use crate::answer::Answer;
 use crate::frames::put_frames;
 use crate::terrains::terrain_in;
-use crate::words::Words;
 use mc_land::Terrain;
 use mc_nbt::NoMemory;
+use mc_rows::{Answer, Words};
 use mc_server::{Input, Server, Settings};
 use std::alloc::Global;
 
@@ -211,7 +210,7 @@ fn put_owed(server: &mut Server, words: &mut Words<'_>, answer: &mut Answer) {
     let k = words.number();
     answer.comma();
     match taken(words.alloc, server, k, words.number()) {
-        Ok(owed) if owed.len() <= PLAIN => answer.text(&owed),
+        Ok(owed) if owed.len() <= PLAIN => answer.shown(&owed),
         Ok(owed) => {
             answer.word(owed.len());
             answer.word("bytes");

@@ -3,10 +3,9 @@
 
 ghost use Rattle.std.specs.Prelude.{◌<◌};
 
-use crate::answer::Answer;
-use crate::words::Words;
 use mc_column::{Column, read_body};
 use mc_nbt::NoMemory;
+use mc_rows::{Answer, Words};
 use std::alloc::Global;
 
 /// Reads a body.

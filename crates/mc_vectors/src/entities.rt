@@ -6,13 +6,12 @@ ghost use Rattle.std.specs.Prelude.{◌≡◌, IfSome, IsTrue, true};
 ghost use Rattle.mc_entities.specs.Kinds.{IsKind, are_alike};
 ghost use Rattle.mc_entities.specs.Folk.{entity_of};
 
-use crate::answer::Answer;
 use crate::slots::{is_worldly, worldly};
 use crate::views::spot_in;
 use crate::windows::{Shown, pile_of};
-use crate::words::Words;
 use mc_entities::{Entity, EntityKind, Folk, FolkFault, Move};
 use mc_fields::Spot;
+use mc_rows::{Answer, Words};
 use mc_slots::Pile;
 
 /// A call of a folk.

@@ -1,8 +1,5 @@
 //! Single fields: `NAME BYTES` reads one, and `write BYTES NAME VALUE ..` writes some behind bytes.
 
-use crate::answer::Answer;
-use crate::marked::Marked;
-use crate::words::Words;
 use mc_fields::{
     PacketFault, PacketRead, RowError, RowFault, angle, degrees, fixed, pack, pattern, read_bool,
     read_i8, read_i16, read_i32, read_i64, read_text, read_u8, read_u16, read_u32, read_u64,
@@ -11,6 +8,7 @@ use mc_fields::{
     write_u128, write_varint,
 };
 use mc_nbt::{Cursor, Kind, NoMemory, Octets, Stop, Text, placed, write_octets};
+use mc_rows::{Answer, Marked, Words};
 use std::fmt::Display;
 
 /// What kind of number a field is.

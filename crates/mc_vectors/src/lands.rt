@@ -6,13 +6,12 @@ ghost use lib.Signed.{◌≤ℤ◌, ◌<ℤ◌};
 ghost use lib.IntN.{pos};
 ghost use Rattle.mc_land.specs.Places.{IsPlace};
 
-use crate::answer::Answer;
 use crate::columns::cell;
 use crate::slots::{put_chest, set_pile};
-use crate::words::Words;
 use mc_column::Column;
 use mc_fields::Cell;
 use mc_land::{Land, LandFault, Steps, Terrain, Touched};
+use mc_rows::{Answer, Words};
 use std::alloc::Global;
 use std::marker::Brand;
 use std::sync::ledger::{Blank, Ledger};

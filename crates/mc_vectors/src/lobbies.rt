@@ -6,10 +6,8 @@
 
 ghost use Rattle.std.specs.Prelude.{◌≡◌, true};
 
-use crate::answer::Answer;
-use crate::marked::Marked;
-use crate::words::Words;
 use mc_nbt::Octets;
+use mc_rows::{Answer, Marked, Words};
 use mc_wire::{Event, Failed, Lobby, LogEntry, MemoryLobby, Pace, SteadyLobby, Trouble, Wrote};
 use std::alloc::Global;
 

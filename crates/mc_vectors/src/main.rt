@@ -12,7 +12,6 @@ macro_rules! fields {
     }};
 }
 
-mod answer;
 mod columns;
 mod devices;
 mod down;
@@ -21,29 +20,25 @@ mod fields;
 mod frames;
 mod lands;
 mod lobbies;
-mod marked;
 mod minds;
 mod nbt;
 mod packets;
 mod parts;
-mod runs;
 mod slots;
 mod up;
 mod views;
 mod windows;
-mod words;
 
-use answer::Answer;
 use lands::Ground;
 use mc_column::Column;
 use mc_entities::Folk;
 use mc_land::Terrain;
 use mc_nbt::NoMemory;
+use mc_rows::{Answer, Words};
 use mc_view::Tracker;
 use std::alloc::Global;
 use std::io;
 use std::io::{BufWriter, Write};
-use words::Words;
 
 /// What rows change, for the rows after them.
 #[derive(Drop)]

@@ -1,6 +1,5 @@
-use crate::answer::Answer;
-use crate::words::Words;
 use crate::{down, up};
+use mc_rows::{Answer, Words};
 
 /// A row of a packet, by the phase and the way of the packet, or by what is done with it.
 #[derive(Clone, Copy)]

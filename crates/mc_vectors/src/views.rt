@@ -2,10 +2,9 @@
 //! compares two spots, each `X Y Z YAW PITCH`; and `tracker CALL ..` works on the tracker that the
 //! rows before left. A pile is one word, `IDxCOUNT:DAMAGE` or `empty`.
 
-use crate::answer::Answer;
 use crate::windows::pile_of;
-use crate::words::Words;
 use mc_fields::Spot;
+use mc_rows::{Answer, Words};
 use mc_slots::Pile;
 use mc_view::{Columns, Form, Moves, Tracker, ViewSet};
 

@@ -6,10 +6,8 @@
 
 ghost use Rattle.mc_slots.specs.Pile.{IsPile};
 
-use crate::answer::Answer;
-use crate::marked::Marked;
 use crate::slots::{is_worldly, worldly};
-use crate::words::Words;
+use mc_rows::{Answer, Marked, Words};
 use mc_slots::{Chest, Item, Pile, Slot, Stack, read_slot};
 use mc_windows::{Click, Clicked, Pack, begin, finish, kit, store};
 use std::fmt;
