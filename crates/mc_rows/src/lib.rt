@@ -16,4 +16,4 @@ pub use marked::{Marked, bytes_of};
 pub use runs::{Runs, States};
 pub use shown::{Hex, Shown};
 pub use texts::text_of;
-pub use words::Words;
+pub use words::{Words, look_up};

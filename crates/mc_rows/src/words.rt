@@ -123,3 +123,13 @@ impl<'a> Words<'a> {
         Text::from_string(self.or(read, String::new(self.alloc)))
     }
 }
+
+/// Looks a word up in a table, None where it names nothing there.
+pub fn look_up<T: Copy>(table: &[(&str, T)], name: &str) -> Option<T> {
+    for (word, value) in table {
+        if *word == name {
+            return Some(*value);
+        }
+    }
+    None
+}

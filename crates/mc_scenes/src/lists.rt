@@ -4,7 +4,7 @@
 use mc_fields::Spot;
 use mc_flush::{PlayerList, placing_packet, put_packet};
 use mc_nbt::Text;
-use mc_rows::{Answer, Words};
+use mc_rows::{Answer, Words, look_up};
 
 /// A call of a list of players.
 #[derive(Clone, Copy)]
@@ -16,16 +16,18 @@ enum Call {
     Name,
 }
 
+/// The calls by their words.
+const CALLS: [(&str, Call); 5] = [
+    ("enter", Call::Enter),
+    ("leave", Call::Leave),
+    ("settle", Call::Settle),
+    ("count", Call::Count),
+    ("name", Call::Name),
+];
+
 /// The call that a word names.
 fn call_of(name: &str) -> Option<Call> {
-    match name {
-        "enter" => Some(Call::Enter),
-        "leave" => Some(Call::Leave),
-        "settle" => Some(Call::Settle),
-        "count" => Some(Call::Count),
-        "name" => Some(Call::Name),
-        _ => None,
-    }
+    look_up(&CALLS, name)
 }
 
 /// Answers the steps of a new list.

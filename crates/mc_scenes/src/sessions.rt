@@ -4,7 +4,7 @@
 use crate::causes::{cause_in, refusal_in};
 use mc_model::{Name, Stage};
 use mc_nbt::{NoMemory, Octets, Text};
-use mc_rows::{Answer, Words};
+use mc_rows::{Answer, Words, look_up};
 use mc_session::{Session, Step, chat_json, offline_uuid};
 use mc_up::PlayUp;
 
@@ -18,16 +18,18 @@ enum Call {
     Fail,
 }
 
+/// The calls by their words.
+const CALLS: [(&str, Call); 5] = [
+    ("frame", Call::Frame),
+    ("crowd", Call::Crowd),
+    ("accept", Call::Accept),
+    ("refuse", Call::Refuse),
+    ("fail", Call::Fail),
+];
+
 /// The call that a word names.
 fn call_of(name: &str) -> Option<Call> {
-    match name {
-        "frame" => Some(Call::Frame),
-        "crowd" => Some(Call::Crowd),
-        "accept" => Some(Call::Accept),
-        "refuse" => Some(Call::Refuse),
-        "fail" => Some(Call::Fail),
-        _ => None,
-    }
+    look_up(&CALLS, name)
 }
 
 /// Answers the steps of a new session.

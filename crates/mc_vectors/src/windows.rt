@@ -7,7 +7,7 @@
 ghost use Rattle.mc_slots.specs.Pile.{IsPile};
 
 use crate::slots::{is_worldly, worldly};
-use mc_rows::{Answer, Marked, Words};
+use mc_rows::{Answer, Marked, Words, look_up};
 use mc_slots::{Chest, Item, Pile, Slot, Stack, read_slot};
 use mc_windows::{Click, Clicked, Pack, begin, finish, kit, store};
 use std::fmt;
@@ -50,17 +50,19 @@ enum Call {
     Confirm,
 }
 
+/// The calls by their words.
+const CALLS: [(&str, Call); 6] = [
+    ("kit", Call::Kit),
+    ("begin", Call::Begin),
+    ("click", Call::Click),
+    ("store", Call::Store),
+    ("finish", Call::Finish),
+    ("confirm", Call::Confirm),
+];
+
 /// The call that a word names.
 fn call_of(name: &str) -> Option<Call> {
-    match name {
-        "kit" => Some(Call::Kit),
-        "begin" => Some(Call::Begin),
-        "click" => Some(Call::Click),
-        "store" => Some(Call::Store),
-        "finish" => Some(Call::Finish),
-        "confirm" => Some(Call::Confirm),
-        _ => None,
-    }
+    look_up(&CALLS, name)
 }
 
 /// Answers a row of a pack.
