@@ -1,9 +1,9 @@
 //! Words that name a cause, or why a client may not play.
 
-use crate::words::Words;
 use mc_fields::PacketFault;
 use mc_frame::FrameFault;
 use mc_model::{Cause, Refusal};
+use mc_rows::Words;
 
 /// The next words as a fault of frames: `zero` or `long`, and where it is.
 pub fn fault_in(words: &mut Words<'_>) -> FrameFault {

@@ -4,12 +4,9 @@
 //! TROUBLES WRITES ARGUMENT ..` runs it over such a lobby and no text, and answers its log, too. A
 //! line of more than a thousand bytes is put frame by frame.
 
-use crate::answer::Answer;
 use crate::frames::put_frames;
 use crate::lobbies::{lobby_in, put_log};
-use crate::shown::Shown;
-use crate::texts::text_of;
-use crate::words::Words;
+use mc_rows::{Answer, Shown, Words, text_of};
 use mc_top::run;
 use mc_wire::{MemoryLobby, MemorySink, MemorySource};
 use std::alloc::Global;
@@ -79,9 +76,12 @@ pub fn run_failing(words: &mut Words<'_>, answer: &mut Answer) {
 fn run_over(reads: Vec<u64>, writes: Vec<u64>, words: &mut Words<'_>, answer: &mut Answer) {
     let job = job_of(words.alloc, words.rest());
     let lobby = MemoryLobby::new(words.alloc, Vec::new(words.alloc), Vec::new(words.alloc));
-    match (job, lobby) {
-        (Some(job), Some(mut lobby)) => run_job(job, &mut lobby, reads, writes, answer),
-        _ => words.fail(),
+    match job.zip(lobby) {
+        Some((job, mut lobby)) => {
+            run_job(job, &mut lobby, reads, writes, answer);
+            drop(lobby);
+        }
+        None => words.fail(),
     }
 }
 
@@ -90,14 +90,15 @@ pub fn run_lobby(words: &mut Words<'_>, answer: &mut Answer) {
     let lobby = lobby_in(words, answer);
     let writes = numbers(words, answer);
     let arguments = arguments_of(words.alloc, words.rest());
-    match (arguments, lobby) {
-        (Some(arguments), Some(mut lobby)) => {
+    match arguments.zip(lobby) {
+        Some((arguments, mut lobby)) => {
             let text = Vec::new(words.alloc);
             let reads = Vec::new(words.alloc);
             run_job(Job { arguments, text }, &mut lobby, reads, writes, answer);
             put_log(lobby.log(), answer);
+            drop(lobby);
         }
-        _ => words.fail(),
+        None => words.fail(),
     }
 }
 
@@ -115,6 +116,9 @@ fn run_job(
     let mut sink = MemorySink::new(alloc, writes);
     answer.word(run(alloc, &arguments, lobby, &mut source, &mut sink));
     put_output(sink.held(), answer);
+    drop(sink);
+    drop(source);
+    drop(arguments);
 }
 
 /// Puts what was written, where the device tells it.

@@ -6,15 +6,14 @@
 ghost use Rattle.std.specs.Prelude.{◌≡◌, ◌≤◌, IfSome};
 ghost use Rattle.mc_server.specs.Stands.{age_of};
 
-use crate::answer::Answer;
 use crate::frames::put_frames;
 use crate::lobbies::{lobby_in, put_log};
 use crate::servers::new_server;
 use crate::terrains::terrain_in;
 use crate::untold::Untold;
-use crate::words::Words;
+use mc_rows::{Answer, Words};
 use mc_server::{Budget, DriveFault, Ended, Server, Tally, drive};
-use mc_wire::{Lobby, LogEntry};
+use mc_wire::{Lobby, LogEntry, MemoryLobby};
 use std::alloc::Global;
 
 /// The server of the next words.
@@ -33,6 +32,35 @@ fn budget_in(words: &mut Words<'_>) -> Budget {
         ticks: words.number(),
         events: words.number(),
     }
+}
+
+/// A new server, the lobby that it is to serve, and how long.
+#[derive(Drop)]
+struct Service {
+    server: Server,
+    lobby: MemoryLobby,
+    budget: Budget,
+}
+
+/// The service of the next words. That there is no lobby is answered; no server makes the row a bad
+/// one.
+fn service_in(words: &mut Words<'_>, answer: &mut Answer) -> Option<Service>
+    ensures { IfSome result (λ service. age_of service.server ≡ 0) }
+{
+    let server = server_in(words);
+    let budget = budget_in(words);
+    let lobby = lobby_in(words, answer);
+    if lobby.is_none() {
+        answer.word("no lobby");
+    } else if server.is_none() {
+        words.fail();
+    }
+    let (server, lobby) = server.zip(lobby)?;
+    Some(Service {
+        server,
+        lobby,
+        budget,
+    })
 }
 
 /// Serves a lobby, where the budget is one; else the row is a bad one.
@@ -79,34 +107,24 @@ fn put_tally(name: &str, tally: Tally, answer: &mut Answer) {
 
 /// Answers how serving ended, and the log.
 pub fn log(words: &mut Words<'_>, answer: &mut Answer) {
-    let server = server_in(words);
-    let budget = budget_in(words);
-    let lobby = lobby_in(words, answer);
-    match (server, lobby) {
-        (Some(mut server), Some(mut lobby)) => {
-            serve(&mut server, &mut lobby, budget, words, answer);
-            put_log(lobby.log(), answer);
-        }
-        (_, None) => answer.word("no lobby"),
-        _ => words.fail(),
+    if let Some(mut service) = service_in(words, answer) {
+        let Service { server, lobby, .. } = &mut service;
+        serve(server, lobby, service.budget, words, answer);
+        put_log(service.lobby.log(), answer);
+        drop(service);
     }
 }
 
 /// Answers what one connection was put.
 pub fn puts(words: &mut Words<'_>, answer: &mut Answer) {
     let k = words.number();
-    let server = server_in(words);
-    let budget = budget_in(words);
-    let lobby = lobby_in(words, answer);
-    match (server, lobby) {
-        (Some(mut server), Some(mut lobby)) => {
-            serve(&mut server, &mut lobby, budget, words, answer);
-            let all = put_to(words.alloc, k, lobby.log().unwrap_or(&[]), answer);
-            answer.comma();
-            put_all(&all, answer);
-        }
-        (_, None) => answer.word("no lobby"),
-        _ => words.fail(),
+    if let Some(mut service) = service_in(words, answer) {
+        let Service { server, lobby, .. } = &mut service;
+        serve(server, lobby, service.budget, words, answer);
+        let all = put_to(words.alloc, k, service.lobby.log().unwrap_or(&[]), answer);
+        drop(service);
+        answer.comma();
+        put_all(&all, answer);
     }
 }
 
@@ -135,20 +153,25 @@ fn put_to(alloc: Global, k: u32, log: &[LogEntry], answer: &mut Answer) -> Vec<u
 
 /// Answers how serving a lobby that tells nothing ended, and which connections are left.
 pub fn untold(words: &mut Words<'_>, answer: &mut Answer) {
-    let server = server_in(words);
-    let budget = budget_in(words);
-    let lobby = lobby_in(words, answer);
-    match (server, lobby) {
-        (Some(mut server), Some(lobby)) => {
-            let mut untold = Untold::new(lobby);
-            serve(&mut server, &mut untold, budget, words, answer);
-            answer.comma();
-            answer.word("left");
-            for k in server.connections() {
-                answer.word(*k);
-            }
-        }
-        (_, None) => answer.word("no lobby"),
-        _ => words.fail(),
+    if let Some(service) = service_in(words, answer) {
+        let Service {
+            mut server,
+            lobby,
+            budget,
+        } = service;
+        let mut untold = Untold::new(lobby);
+        serve(&mut server, &mut untold, budget, words, answer);
+        drop(untold);
+        put_left(&server, answer);
+        drop(server);
+    }
+}
+
+/// Puts which connections are left.
+fn put_left(server: &Server, answer: &mut Answer) {
+    answer.comma();
+    answer.word("left");
+    for k in server.connections() {
+        answer.word(*k);
     }
 }

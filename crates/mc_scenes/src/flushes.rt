@@ -15,20 +15,19 @@ ghost use Rattle.mc_view.specs.Sets.{all_of};
 ghost use Rattle.mc_flush.specs.Encoding.{AreFrames};
 ghost use Rattle.mc_flush.specs.Seeing.{IsReady};
 
-use crate::answer::Answer;
 use crate::frames::put_frames;
 use crate::guests::Guests;
 use crate::things::{
     add_player, cell_in, change_item, drop_item, empty_hand, fill_hand, filled, move_to, set_cell,
     take_out,
 };
-use crate::words::Words;
 use mc_entities::Folk;
 use mc_fields::Spot;
 use mc_flush::{ClientView, Encoded, Line, Mark, flush};
 use mc_land::{Land, Steps, Terrain};
 use mc_model::{AGE_MAX, Notes};
 use mc_nbt::{NoMemory, Text};
+use mc_rows::{Answer, Words, look_up};
 use mc_view::ViewSet;
 use mc_windows::{Pack, kit};
 use std::alloc::Global;
@@ -97,54 +96,67 @@ enum Call {
     Tell,
 }
 
+/// The calls by their words.
+const CALLS: [(&str, Call); 20] = [
+    ("enter", Call::Enter),
+    ("settle", Call::Settle),
+    ("clear", Call::Clear),
+    ("note", Call::Note),
+    ("cell", Call::Cell),
+    ("again", Call::Again),
+    ("set", Call::Set),
+    ("player", Call::Player),
+    ("hold", Call::Hold),
+    ("empty", Call::Empty),
+    ("me", Call::Me),
+    ("drop", Call::Drop),
+    ("turn", Call::Turn),
+    ("move", Call::Move),
+    ("take", Call::Take),
+    ("pack", Call::Pack),
+    ("age", Call::Age),
+    ("say", Call::Say),
+    ("share", Call::Share),
+    ("tell", Call::Tell),
+];
+
 /// The call that a word names.
 fn call_of(name: &str) -> Option<Call> {
-    match name {
-        "enter" => Some(Call::Enter),
-        "settle" => Some(Call::Settle),
-        "clear" => Some(Call::Clear),
-        "note" => Some(Call::Note),
-        "cell" => Some(Call::Cell),
-        "again" => Some(Call::Again),
-        "set" => Some(Call::Set),
-        "player" => Some(Call::Player),
-        "hold" => Some(Call::Hold),
-        "empty" => Some(Call::Empty),
-        "me" => Some(Call::Me),
-        "drop" => Some(Call::Drop),
-        "turn" => Some(Call::Turn),
-        "move" => Some(Call::Move),
-        "take" => Some(Call::Take),
-        "pack" => Some(Call::Pack),
-        "age" => Some(Call::Age),
-        "say" => Some(Call::Say),
-        "share" => Some(Call::Share),
-        "tell" => Some(Call::Tell),
-        _ => None,
-    }
+    look_up(&CALLS, name)
+}
+
+/// What a client is shown at first.
+fn new_scene(alloc: Global) -> Result<Scene, NoMemory> {
+    Ok(Scene {
+        land: ready_land(alloc)?,
+        folk: Folk::new(alloc),
+        pack: kit(),
+        guests: Guests::new(alloc),
+        me: 0,
+        lines: Vec::new(alloc),
+        age: 1,
+        mark: Mark::new(alloc),
+        notes: Notes::new(alloc),
+        shares: false,
+    })
 }
 
 /// Answers the steps of a client.
 pub fn client(words: &mut Words<'_>, answer: &mut Answer) {
-    let Ok(land) = ready_land(words.alloc) else {
-        answer.lose();
-        return;
-    };
-    let mut scene = Scene {
-        land,
-        folk: Folk::new(words.alloc),
-        pack: kit(),
-        guests: Guests::new(words.alloc),
-        me: 0,
-        lines: Vec::new(words.alloc),
-        age: 1,
-        mark: Mark::new(words.alloc),
-        notes: Notes::new(words.alloc),
-        shares: false,
-    };
+    match new_scene(words.alloc) {
+        Ok(mut scene) => {
+            steps(&mut scene, words, answer);
+            drop(scene);
+        }
+        Err(NoMemory) => answer.lose(),
+    }
+}
+
+/// Answers the steps of a scene.
+fn steps(scene: &mut Scene, words: &mut Words<'_>, answer: &mut Answer) {
     for _ in 0..64 {
         if words.is_more() {
-            step(&mut scene, words, answer);
+            step(scene, words, answer);
         }
     }
 }

@@ -1,10 +1,10 @@
 //! Frames of a server: each in hex, but columns by their places, with one word for those of a row.
 
-use crate::answer::Answer;
 use crate::loads::{Kept, Loads};
 use mc_down::{Down, read_down};
 use mc_fields::take_varint;
 use mc_nbt::Cursor;
+use mc_rows::Answer;
 
 /// A frame with its length, and without it.
 #[derive(Clone, Copy)]
@@ -46,7 +46,7 @@ fn put_frame(frame: &Frame<'_>, kept: &mut Kept, answer: &mut Answer) {
         Some(next) => kept.add(next, answer),
         None => {
             kept.end(answer);
-            answer.bytes(frame.whole);
+            answer.hex(frame.whole);
         }
     }
 }
@@ -63,6 +63,6 @@ pub fn put_frames(bytes: &[u8], answer: &mut Answer) {
     kept.end(answer);
     if !cursor.rest().is_empty() {
         answer.word("and");
-        answer.bytes(cursor.rest());
+        answer.hex(cursor.rest());
     }
 }

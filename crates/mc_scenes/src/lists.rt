@@ -1,11 +1,10 @@
 //! `list STEP ..` works on a list of players, and `place X Y Z YAW PITCH` answers the frame of a
 //! player's place.
 
-use crate::answer::Answer;
-use crate::words::Words;
 use mc_fields::Spot;
 use mc_flush::{PlayerList, placing_packet, put_packet};
 use mc_nbt::Text;
+use mc_rows::{Answer, Words, look_up};
 
 /// A call of a list of players.
 #[derive(Clone, Copy)]
@@ -17,16 +16,18 @@ enum Call {
     Name,
 }
 
+/// The calls by their words.
+const CALLS: [(&str, Call); 5] = [
+    ("enter", Call::Enter),
+    ("leave", Call::Leave),
+    ("settle", Call::Settle),
+    ("count", Call::Count),
+    ("name", Call::Name),
+];
+
 /// The call that a word names.
 fn call_of(name: &str) -> Option<Call> {
-    match name {
-        "enter" => Some(Call::Enter),
-        "leave" => Some(Call::Leave),
-        "settle" => Some(Call::Settle),
-        "count" => Some(Call::Count),
-        "name" => Some(Call::Name),
-        _ => None,
-    }
+    look_up(&CALLS, name)
 }
 
 /// Answers the steps of a new list.
@@ -98,5 +99,5 @@ pub fn place(words: &mut Words<'_>, answer: &mut Answer) {
     };
     let mut frame = Vec::new(words.alloc);
     answer.needs(put_packet(&placing_packet(&place), &mut frame));
-    answer.bytes(&frame);
+    answer.hex(&frame);
 }

@@ -1,4 +1,4 @@
-use crate::answer::Answer;
+use mc_rows::Answer;
 use std::fmt;
 use std::fmt::Display;
 

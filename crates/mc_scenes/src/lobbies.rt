@@ -3,9 +3,8 @@
 //! `stall=I`, `break=I`, `short=I:N`, and `shorts=COUNT:N` for each write below a count. A log is
 //! put as such entries, with a comma in front of each.
 
-use crate::answer::Answer;
-use crate::words::{Words, bytes_of};
 use mc_nbt::Octets;
+use mc_rows::{Answer, Words, bytes_of};
 use mc_wire::{LogEntry, MemoryLobby, Trouble};
 use std::alloc::Global;
 
@@ -123,7 +122,7 @@ fn put_named(name: &str, k: u32, answer: &mut Answer) {
 fn put_bytes(name: &str, k: u32, bytes: &[u8], answer: &mut Answer) {
     put_named(name, k, answer);
     if bytes.len() <= PLAIN {
-        answer.bytes(bytes);
+        answer.hex(bytes);
     } else {
         answer.word(bytes.len());
         answer.word("bytes");

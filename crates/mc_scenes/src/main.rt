@@ -5,7 +5,6 @@
 //! It has no contract of its own: the table that it is run on says what each row answers.
 #![tactic(auto)]
 
-mod answer;
 mod causes;
 mod commands;
 mod drives;
@@ -20,19 +19,15 @@ mod pieces;
 mod scripts;
 mod servers;
 mod sessions;
-mod shown;
 mod terrains;
-mod texts;
 mod things;
 mod untold;
 mod views;
-mod words;
 
-use answer::Answer;
+use mc_rows::{Answer, Words, look_up};
 use std::alloc::Global;
 use std::io;
 use std::io::{BufWriter, Write};
-use words::Words;
 
 /// What a row calls.
 #[derive(Clone, Copy)]
@@ -59,31 +54,33 @@ enum Call {
     View,
 }
 
+/// The calls by their words.
+const CALLS: [(&str, Call); 20] = [
+    ("run", Call::Run),
+    ("failing", Call::Failing),
+    ("lobby", Call::Lobby),
+    ("mixes", Call::Mixes),
+    ("script", Call::Script),
+    ("session", Call::Session),
+    ("uuid", Call::Uuid),
+    ("chat", Call::Chat),
+    ("flush", Call::Flush),
+    ("list", Call::List),
+    ("place", Call::Place),
+    ("server", Call::Server),
+    ("drive", Call::Drive),
+    ("puts", Call::Puts),
+    ("untold", Call::Untold),
+    ("cuts", Call::Cuts),
+    ("pieces", Call::Pieces),
+    ("size", Call::Size),
+    ("column", Call::Column),
+    ("view", Call::View),
+];
+
 /// The call that a word names.
 fn call_of(name: &str) -> Option<Call> {
-    match name {
-        "run" => Some(Call::Run),
-        "failing" => Some(Call::Failing),
-        "lobby" => Some(Call::Lobby),
-        "mixes" => Some(Call::Mixes),
-        "script" => Some(Call::Script),
-        "session" => Some(Call::Session),
-        "uuid" => Some(Call::Uuid),
-        "chat" => Some(Call::Chat),
-        "flush" => Some(Call::Flush),
-        "list" => Some(Call::List),
-        "place" => Some(Call::Place),
-        "server" => Some(Call::Server),
-        "drive" => Some(Call::Drive),
-        "puts" => Some(Call::Puts),
-        "untold" => Some(Call::Untold),
-        "cuts" => Some(Call::Cuts),
-        "pieces" => Some(Call::Pieces),
-        "size" => Some(Call::Size),
-        "column" => Some(Call::Column),
-        "view" => Some(Call::View),
-        _ => None,
-    }
+    look_up(&CALLS, name)
 }
 
 /// Answers a call.

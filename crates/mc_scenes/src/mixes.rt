@@ -4,8 +4,7 @@
 //! first and then the second or the other way round, as the last byte of a name has its client
 //! told; and how many tell anything else.
 
-use crate::answer::Answer;
-use crate::words::Words;
+use mc_rows::{Answer, Words};
 use mc_top::run;
 use mc_wire::{MemorySink, MemorySource, SteadyLobby};
 use std::alloc::Global;

@@ -3,27 +3,37 @@
 //! come to a server for each size, and a tick, takes what is owed in pieces of that size, and
 //! answers how many bytes that are and whether they are those of the first.
 
-use crate::answer::Answer;
 use crate::servers::{new_server, taken, ticks};
-use crate::words::Words;
 use mc_land::Terrain;
+use mc_nbt::NoMemory;
+use mc_rows::{Answer, Words};
 use mc_server::{Input, Server};
 use std::alloc::Global;
 
 /// A server of flat land for two players, whose first connection says these two pieces.
 fn told(alloc: Global, front: &[u8], rest: &[u8]) -> Option<Server> {
     let mut server = new_server(alloc, 2, 6, Terrain::Flat)?;
-    server.event(Input::Join(0)).ok()?;
-    server.event(Input::Bytes(0, front)).ok()?;
-    server.event(Input::Bytes(0, rest)).ok()?;
+    if say(&mut server, front, rest).is_err() {
+        drop(server);
+        return None;
+    }
     Some(server)
+}
+
+/// The first connection joins, and says these two pieces.
+fn say(server: &mut Server, front: &[u8], rest: &[u8]) -> Result<(), NoMemory> {
+    server.event(Input::Join(0))?;
+    server.event(Input::Bytes(0, front))?;
+    server.event(Input::Bytes(0, rest))
 }
 
 /// What is owed to who says some bytes in two pieces, of which the first has so many.
 fn owed_of_cut(alloc: Global, request_of: &[u8], at: usize) -> Option<Vec<u8>> {
     let (front, rest) = request_of.split_at_checked(at)?;
     let mut server = told(alloc, front, rest)?;
-    taken(alloc, &mut server, 0, 100).ok()
+    let owed = taken(alloc, &mut server, 0, 100);
+    drop(server);
+    owed.ok()
 }
 
 /// Whether there are two lists of bytes, and they are the same.
@@ -46,14 +56,21 @@ pub fn cuts(words: &mut Words<'_>, answer: &mut Answer) {
     }
     answer.word(same);
     answer.word("times");
-    answer.text(&whole.unwrap_or(Vec::new(words.alloc)));
+    answer.shown(&whole.unwrap_or(Vec::new(words.alloc)));
 }
 
 /// What is owed to who says some bytes, after a tick, taken so many bytes at a time.
 fn owed_of_tick(alloc: Global, request_of: &[u8], size: usize) -> Option<Vec<u8>> {
     let mut server = told(alloc, request_of, &[])?;
-    ticks(&mut server, 1).ok()?;
-    taken(alloc, &mut server, 0, size).ok()
+    let owed = ticked(alloc, &mut server, size);
+    drop(server);
+    owed.ok()
+}
+
+/// A tick comes, and what is owed then is taken so many bytes at a time.
+fn ticked(alloc: Global, server: &mut Server, size: usize) -> Result<Vec<u8>, NoMemory> {
+    ticks(server, 1)?;
+    taken(alloc, server, 0, size)
 }
 
 /// Takes what is owed in pieces of each size.

@@ -1,9 +1,7 @@
 //! Scripts: `script TEXT` reads one and answers its events as lines, how many they are where they
 //! are more than ten, or the line and the kind of its first fault.
 
-use crate::answer::Answer;
-use crate::shown::Hex;
-use crate::words::Words;
+use mc_rows::{Answer, Hex, Words};
 use mc_top::{Script, ScriptError, ScriptEvent};
 
 /// Reads a script.

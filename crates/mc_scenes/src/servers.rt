@@ -3,12 +3,11 @@
 ghost use Rattle.std.specs.Prelude.{◌≡◌, IfSome};
 ghost use Rattle.mc_server.specs.Stands.{age_of};
 
-use crate::answer::Answer;
 use crate::frames::put_frames;
 use crate::terrains::terrain_in;
-use crate::words::Words;
 use mc_land::Terrain;
 use mc_nbt::NoMemory;
+use mc_rows::{Answer, Words, look_up};
 use mc_server::{Input, Server, Settings};
 use std::alloc::Global;
 
@@ -34,25 +33,27 @@ enum Call {
     Age,
 }
 
+/// The calls by their words.
+const CALLS: [(&str, Call); 14] = [
+    ("join", Call::Join),
+    ("crowd", Call::Crowd),
+    ("bytes", Call::Bytes),
+    ("gone", Call::Gone),
+    ("broke", Call::Broke),
+    ("tick", Call::Tick),
+    ("cause", Call::Cause),
+    ("owed", Call::Owed),
+    ("told", Call::Told),
+    ("took", Call::Took),
+    ("done", Call::Done),
+    ("forget", Call::Forget),
+    ("all", Call::All),
+    ("age", Call::Age),
+];
+
 /// The call that a word names.
 fn call_of(name: &str) -> Option<Call> {
-    match name {
-        "join" => Some(Call::Join),
-        "crowd" => Some(Call::Crowd),
-        "bytes" => Some(Call::Bytes),
-        "gone" => Some(Call::Gone),
-        "broke" => Some(Call::Broke),
-        "tick" => Some(Call::Tick),
-        "cause" => Some(Call::Cause),
-        "owed" => Some(Call::Owed),
-        "told" => Some(Call::Told),
-        "took" => Some(Call::Took),
-        "done" => Some(Call::Done),
-        "forget" => Some(Call::Forget),
-        "all" => Some(Call::All),
-        "age" => Some(Call::Age),
-        _ => None,
-    }
+    look_up(&CALLS, name)
 }
 
 /// A new server, with at most 50 players and a view of 2 to 8. None where the numbers are not such,
@@ -76,7 +77,10 @@ pub fn server(words: &mut Words<'_>, answer: &mut Answer) {
     let players = words.number();
     let cap = words.number();
     match new_server(words.alloc, players, cap, terrain_in(words)) {
-        Some(mut server) => steps(&mut server, words, answer),
+        Some(mut server) => {
+            steps(&mut server, words, answer);
+            drop(server);
+        }
         None => words.fail(),
     }
 }
@@ -140,6 +144,16 @@ fn crowd(words: &mut Words<'_>, server: &mut Server) -> Result<(), NoMemory> {
 
 /// A connection joins, logs in and goes.
 fn come_and_go(alloc: Global, server: &mut Server, k: u32) -> Result<(), NoMemory> {
+    let login = login_of(alloc, k)?;
+    server.event(Input::Join(k))?;
+    server.event(Input::Bytes(k, &login))?;
+    server.event(Input::Gone(k))?;
+    server.forget(k);
+    Ok(())
+}
+
+/// The login under the name of a number.
+fn login_of(alloc: Global, k: u32) -> Result<Vec<u8>, NoMemory> {
     let mut login = Vec::new(alloc);
     login.extend_from_slice(LOGIN)?;
     login.push(b'N')?;
@@ -147,11 +161,7 @@ fn come_and_go(alloc: Global, server: &mut Server, k: u32) -> Result<(), NoMemor
         let front = k.checked_div(10u32.pow(8 - place)).unwrap_or(0);
         login.push(b'0' + (front % 10) as u8)?;
     }
-    server.event(Input::Join(k))?;
-    server.event(Input::Bytes(k, &login))?;
-    server.event(Input::Gone(k))?;
-    server.forget(k);
-    Ok(())
+    Ok(login)
 }
 
 /// Bytes of a connection come.
@@ -211,7 +221,7 @@ fn put_owed(server: &mut Server, words: &mut Words<'_>, answer: &mut Answer) {
     let k = words.number();
     answer.comma();
     match taken(words.alloc, server, k, words.number()) {
-        Ok(owed) if owed.len() <= PLAIN => answer.text(&owed),
+        Ok(owed) if owed.len() <= PLAIN => answer.shown(&owed),
         Ok(owed) => {
             answer.word(owed.len());
             answer.word("bytes");

@@ -1,11 +1,10 @@
 //! Sessions: `session STEP ..` answers what each step of a new one comes to, and the stage behind
 //! it. `uuid NAME` answers an identifier, and `chat TEXT` the JSON of a text.
 
-use crate::answer::Answer;
 use crate::causes::{cause_in, refusal_in};
-use crate::words::Words;
 use mc_model::{Name, Stage};
 use mc_nbt::{NoMemory, Octets, Text};
+use mc_rows::{Answer, Words, look_up};
 use mc_session::{Session, Step, chat_json, offline_uuid};
 use mc_up::PlayUp;
 
@@ -19,16 +18,18 @@ enum Call {
     Fail,
 }
 
+/// The calls by their words.
+const CALLS: [(&str, Call); 5] = [
+    ("frame", Call::Frame),
+    ("crowd", Call::Crowd),
+    ("accept", Call::Accept),
+    ("refuse", Call::Refuse),
+    ("fail", Call::Fail),
+];
+
 /// The call that a word names.
 fn call_of(name: &str) -> Option<Call> {
-    match name {
-        "frame" => Some(Call::Frame),
-        "crowd" => Some(Call::Crowd),
-        "accept" => Some(Call::Accept),
-        "refuse" => Some(Call::Refuse),
-        "fail" => Some(Call::Fail),
-        _ => None,
-    }
+    look_up(&CALLS, name)
 }
 
 /// Answers the steps of a new session.
@@ -94,9 +95,9 @@ fn put_answered(answered: Result<Step, NoMemory>, answer: &mut Answer) {
 fn put_step(step: Step, answer: &mut Answer) {
     match step {
         Step::Nothing => answer.word("nothing"),
-        Step::Reply(reply) => answer.text(reply.as_slice()),
+        Step::Reply(reply) => answer.shown(reply.as_slice()),
         Step::ReplyClose(reply, cause) => {
-            answer.text(reply.as_slice());
+            answer.shown(reply.as_slice());
             answer.word("closes for");
             answer.name(cause);
         }
@@ -128,7 +129,7 @@ fn put_act(packet: &PlayUp, answer: &mut Answer) {
 /// Puts what a client is told, if there was memory.
 fn put_told(told: Result<Octets, NoMemory>, answer: &mut Answer) {
     match told {
-        Ok(told) => answer.text(told.as_slice()),
+        Ok(told) => answer.shown(told.as_slice()),
         Err(NoMemory) => answer.lose(),
     }
 }
@@ -169,7 +170,7 @@ fn refuse(session: &mut Session, words: &mut Words<'_>, answer: &mut Answer) {
 pub fn uuid(words: &mut Words<'_>, answer: &mut Answer) {
     let text = words.text();
     if let Some(name) = name_of(&text, words) {
-        answer.bytes(&offline_uuid(&name).to_be_bytes());
+        answer.hex(&offline_uuid(&name).to_be_bytes());
     }
 }
 
@@ -177,7 +178,7 @@ pub fn uuid(words: &mut Words<'_>, answer: &mut Answer) {
 pub fn chat(words: &mut Words<'_>, answer: &mut Answer) {
     let text = words.text();
     match chat_json(words.alloc, text.as_str()) {
-        Ok(json) => answer.text(json.as_str().as_bytes()),
+        Ok(json) => answer.shown(json.as_str().as_bytes()),
         Err(NoMemory) => answer.lose(),
     }
 }

@@ -1,5 +1,5 @@
-use crate::words::Words;
 use mc_land::Terrain;
+use mc_rows::Words;
 
 /// The next words as a terrain: `flat`, `isle`, or `hills` and a seed.
 pub fn terrain_in(words: &mut Words<'_>) -> Terrain {

@@ -5,11 +5,10 @@ ghost use Rattle.std.specs.Option.{IfSome};
 ghost use Rattle.mc_slots.specs.Pile.{IsItem, IsPile};
 ghost use Rattle.mc_entities.specs.Kinds.{IsKind};
 
-use crate::answer::Answer;
-use crate::words::Words;
 use mc_entities::{EntityKind, Folk, FolkFault};
 use mc_fields::{Cell, Spot};
 use mc_land::{Land, LandFault};
+use mc_rows::{Answer, Words};
 use mc_slots::{Item, Pile};
 use mc_windows::Pack;
 

@@ -1,9 +1,8 @@
 //! Views: `size CAP ASKED` is the size of one, `column X Z` the column of a place in 1/32 blocks,
 //! and `view X Z D` the columns of a view.
 
-use crate::answer::Answer;
-use crate::words::Words;
 use mc_fields::Spot;
+use mc_rows::{Answer, Words};
 use mc_view::{ViewSet, column_of_spot, view_size};
 
 /// Answers the size of a view.

@@ -3,10 +3,9 @@
 
 ghost use Rattle.std.specs.Prelude.{◌<◌};
 
-use crate::answer::Answer;
-use crate::words::Words;
 use mc_column::{Column, read_body};
 use mc_nbt::NoMemory;
+use mc_rows::{Answer, Words, look_up};
 use std::alloc::Global;
 
 /// Reads a body.
@@ -38,24 +37,26 @@ enum Call {
     Bytes,
 }
 
+/// The calls by their words.
+const CALLS: [(&str, Call); 13] = [
+    ("empty", Call::Empty),
+    ("copy", Call::Copy),
+    ("set", Call::Set),
+    ("layer", Call::Layer),
+    ("formula", Call::Formula),
+    ("put", Call::Put),
+    ("again", Call::Again),
+    ("differs", Call::Differs),
+    ("get", Call::Get),
+    ("biome", Call::Biome),
+    ("section", Call::Section),
+    ("write", Call::Write),
+    ("bytes", Call::Bytes),
+];
+
 /// The call that a word names.
 fn call_of(name: &str) -> Option<Call> {
-    match name {
-        "empty" => Some(Call::Empty),
-        "copy" => Some(Call::Copy),
-        "set" => Some(Call::Set),
-        "layer" => Some(Call::Layer),
-        "formula" => Some(Call::Formula),
-        "put" => Some(Call::Put),
-        "again" => Some(Call::Again),
-        "differs" => Some(Call::Differs),
-        "get" => Some(Call::Get),
-        "biome" => Some(Call::Biome),
-        "section" => Some(Call::Section),
-        "write" => Some(Call::Write),
-        "bytes" => Some(Call::Bytes),
-        _ => None,
-    }
+    look_up(&CALLS, name)
 }
 
 /// Answers a row of the column.

@@ -2,8 +2,7 @@
 //! to one. `FAILS` is `steady` for a device that never fails, or `-` or the numbers of the calls
 //! that fail, with commas between them.
 
-use crate::answer::Answer;
-use crate::words::Words;
+use mc_rows::{Answer, Words};
 use mc_wire::{
     Failed, InputError, MemorySink, MemorySource, Sink, Source, SteadySink, SteadySource,
     read_up_to, write_all,

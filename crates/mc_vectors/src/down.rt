@@ -2,14 +2,13 @@
 //! again, `again FRAME` reads a packet and says only what it is written as, and `destroy NUMBER ..`
 //! makes one.
 
-use crate::answer::Answer;
 use crate::fields::packet_read;
 use crate::parts::{
     cell, double, float, maybe_number, maybe_speed, metas, number, octets, players, records, slot,
     slots, text, texts, uuid, varints,
 };
-use crate::words::Words;
 use mc_down::{Down, Varints, read_down, read_meta, write_down, write_meta};
+use mc_rows::{Answer, Words};
 
 /// Reads a packet.
 pub fn down(words: &mut Words<'_>, answer: &mut Answer) {

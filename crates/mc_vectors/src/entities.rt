@@ -6,13 +6,12 @@ ghost use Rattle.std.specs.Prelude.{◌≡◌, IfSome, IsTrue, true};
 ghost use Rattle.mc_entities.specs.Kinds.{IsKind, are_alike};
 ghost use Rattle.mc_entities.specs.Folk.{entity_of};
 
-use crate::answer::Answer;
 use crate::slots::{is_worldly, worldly};
 use crate::views::spot_in;
 use crate::windows::{Shown, pile_of};
-use crate::words::Words;
 use mc_entities::{Entity, EntityKind, Folk, FolkFault, Move};
 use mc_fields::Spot;
+use mc_rows::{Answer, Words, look_up};
 use mc_slots::Pile;
 
 /// A call of a folk.
@@ -33,24 +32,26 @@ enum Call {
     Settle,
 }
 
+/// The calls by their words.
+const CALLS: [(&str, Call); 13] = [
+    ("new", Call::New),
+    ("room", Call::Room),
+    ("reserve", Call::Reserve),
+    ("spawn", Call::Spawn),
+    ("strew", Call::Strew),
+    ("remove", Call::Remove),
+    ("place", Call::Place),
+    ("kind", Call::Kind),
+    ("shift", Call::Shift),
+    ("get", Call::Get),
+    ("all", Call::All),
+    ("told", Call::Told),
+    ("settle", Call::Settle),
+];
+
 /// The call that a word names.
 fn call_of(name: &str) -> Option<Call> {
-    match name {
-        "new" => Some(Call::New),
-        "room" => Some(Call::Room),
-        "reserve" => Some(Call::Reserve),
-        "spawn" => Some(Call::Spawn),
-        "strew" => Some(Call::Strew),
-        "remove" => Some(Call::Remove),
-        "place" => Some(Call::Place),
-        "kind" => Some(Call::Kind),
-        "shift" => Some(Call::Shift),
-        "get" => Some(Call::Get),
-        "all" => Some(Call::All),
-        "told" => Some(Call::Told),
-        "settle" => Some(Call::Settle),
-        _ => None,
-    }
+    look_up(&CALLS, name)
 }
 
 /// Answers a row of the folk.

@@ -1,8 +1,5 @@
 //! Single fields: `NAME BYTES` reads one, and `write BYTES NAME VALUE ..` writes some behind bytes.
 
-use crate::answer::Answer;
-use crate::marked::Marked;
-use crate::words::Words;
 use mc_fields::{
     PacketFault, PacketRead, RowError, RowFault, angle, degrees, fixed, pack, pattern, read_bool,
     read_i8, read_i16, read_i32, read_i64, read_text, read_u8, read_u16, read_u32, read_u64,
@@ -11,6 +8,7 @@ use mc_fields::{
     write_u128, write_varint,
 };
 use mc_nbt::{Cursor, Kind, NoMemory, Octets, Stop, Text, placed, write_octets};
+use mc_rows::{Answer, Marked, Words, look_up};
 use std::fmt::Display;
 
 /// What kind of number a field is.
@@ -29,22 +27,24 @@ enum Number {
     Varint,
 }
 
+/// The kinds of numbers by their words.
+const NUMBERS: [(&str, Number); 11] = [
+    ("bool", Number::Bool),
+    ("i8", Number::I8),
+    ("u8", Number::U8),
+    ("i16", Number::I16),
+    ("u16", Number::U16),
+    ("i32", Number::I32),
+    ("u32", Number::U32),
+    ("i64", Number::I64),
+    ("u64", Number::U64),
+    ("u128", Number::U128),
+    ("varint", Number::Varint),
+];
+
 /// The kind that a word names.
 fn number_of(name: &str) -> Option<Number> {
-    match name {
-        "bool" => Some(Number::Bool),
-        "i8" => Some(Number::I8),
-        "u8" => Some(Number::U8),
-        "i16" => Some(Number::I16),
-        "u16" => Some(Number::U16),
-        "i32" => Some(Number::I32),
-        "u32" => Some(Number::U32),
-        "i64" => Some(Number::I64),
-        "u64" => Some(Number::U64),
-        "u128" => Some(Number::U128),
-        "varint" => Some(Number::Varint),
-        _ => None,
-    }
+    look_up(&NUMBERS, name)
 }
 
 /// Answers a row of a field.
@@ -73,24 +73,26 @@ enum Other {
     Unpack,
 }
 
+/// What else a row does, by its word.
+const OTHERS: [(&str, Other); 13] = [
+    ("write", Other::Write),
+    ("text", Other::Text),
+    ("octets", Other::Octets),
+    ("word", Other::Word),
+    ("position", Other::Position),
+    ("cursor", Other::Cursor),
+    ("whole", Other::Whole),
+    ("within", Other::Within),
+    ("fixed", Other::Fixed),
+    ("pattern", Other::Pattern),
+    ("angle", Other::Angle),
+    ("degrees", Other::Degrees),
+    ("unpack", Other::Unpack),
+];
+
 /// What a word names.
 fn other_of(name: &str) -> Option<Other> {
-    match name {
-        "write" => Some(Other::Write),
-        "text" => Some(Other::Text),
-        "octets" => Some(Other::Octets),
-        "word" => Some(Other::Word),
-        "position" => Some(Other::Position),
-        "cursor" => Some(Other::Cursor),
-        "whole" => Some(Other::Whole),
-        "within" => Some(Other::Within),
-        "fixed" => Some(Other::Fixed),
-        "pattern" => Some(Other::Pattern),
-        "angle" => Some(Other::Angle),
-        "degrees" => Some(Other::Degrees),
-        "unpack" => Some(Other::Unpack),
-        _ => None,
-    }
+    look_up(&OTHERS, name)
 }
 
 /// Answers a row of a field that is no number.
@@ -287,18 +289,20 @@ enum Step {
     Rest,
 }
 
+/// The calls of a cursor by their words.
+const STEPS: [(&str, Step); 7] = [
+    ("u8", Step::U8),
+    ("u16", Step::U16),
+    ("u32", Step::U32),
+    ("u64", Step::U64),
+    ("take", Step::Take),
+    ("left", Step::Left),
+    ("rest", Step::Rest),
+];
+
 /// The call that a word names.
 fn step_of(name: &str) -> Option<Step> {
-    match name {
-        "u8" => Some(Step::U8),
-        "u16" => Some(Step::U16),
-        "u32" => Some(Step::U32),
-        "u64" => Some(Step::U64),
-        "take" => Some(Step::Take),
-        "left" => Some(Step::Left),
-        "rest" => Some(Step::Rest),
-        _ => None,
-    }
+    look_up(&STEPS, name)
 }
 
 /// Answers the next call of a cursor.

@@ -1,11 +1,10 @@
 //! Frames and what waits to be sent: `frame BYTES` writes one, `splitter STEP ..` and `pieces SIZE
 //! BYTES` cut a stream, and `outbox STEP ..` works on what is to be sent.
 
-use crate::answer::Answer;
-use crate::words::Words;
 use bytes::Bytes;
 use mc_frame::{FrameFault, Outbox, Splitter, Take, write_frame};
 use mc_nbt::NoMemory;
+use mc_rows::{Answer, Words};
 
 /// Writes a frame with this payload.
 pub fn write(words: &mut Words<'_>, answer: &mut Answer) {

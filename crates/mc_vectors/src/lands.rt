@@ -6,13 +6,12 @@ ghost use lib.Signed.{◌≤ℤ◌, ◌<ℤ◌};
 ghost use lib.IntN.{pos};
 ghost use Rattle.mc_land.specs.Places.{IsPlace};
 
-use crate::answer::Answer;
 use crate::columns::cell;
 use crate::slots::{put_chest, set_pile};
-use crate::words::Words;
 use mc_column::Column;
 use mc_fields::Cell;
 use mc_land::{Land, LandFault, Steps, Terrain, Touched};
+use mc_rows::{Answer, Words, look_up};
 use std::alloc::Global;
 use std::marker::Brand;
 use std::sync::ledger::{Blank, Ledger};
@@ -99,23 +98,25 @@ enum Call {
     Column,
 }
 
+/// The calls by their words.
+const CALLS: [(&str, Call); 12] = [
+    ("new", Call::New),
+    ("settle", Call::Settle),
+    ("shed", Call::Shed),
+    ("edited", Call::Edited),
+    ("stored", Call::Stored),
+    ("set", Call::Set),
+    ("block", Call::Block),
+    ("chest", Call::Chest),
+    ("fill", Call::Fill),
+    ("ready", Call::Ready),
+    ("dirty", Call::Dirty),
+    ("column", Call::Column),
+];
+
 /// The call that a word names.
 fn call_of(name: &str) -> Option<Call> {
-    match name {
-        "new" => Some(Call::New),
-        "settle" => Some(Call::Settle),
-        "shed" => Some(Call::Shed),
-        "edited" => Some(Call::Edited),
-        "stored" => Some(Call::Stored),
-        "set" => Some(Call::Set),
-        "block" => Some(Call::Block),
-        "chest" => Some(Call::Chest),
-        "fill" => Some(Call::Fill),
-        "ready" => Some(Call::Ready),
-        "dirty" => Some(Call::Dirty),
-        "column" => Some(Call::Column),
-        _ => None,
-    }
+    look_up(&CALLS, name)
 }
 
 /// Answers a row of the land.

@@ -6,10 +6,8 @@
 
 ghost use Rattle.std.specs.Prelude.{◌≡◌, true};
 
-use crate::answer::Answer;
-use crate::marked::Marked;
-use crate::words::Words;
 use mc_nbt::Octets;
+use mc_rows::{Answer, Marked, Words, look_up};
 use mc_wire::{Event, Failed, Lobby, LogEntry, MemoryLobby, Pace, SteadyLobby, Trouble, Wrote};
 use std::alloc::Global;
 
@@ -128,16 +126,18 @@ enum LobbyCall {
     Close,
 }
 
+/// The calls of a lobby by their words.
+const LOBBY_CALLS: [(&str, LobbyCall); 5] = [
+    ("pace", LobbyCall::Pace),
+    ("listen", LobbyCall::Listen),
+    ("next", LobbyCall::Next),
+    ("write", LobbyCall::Write),
+    ("close", LobbyCall::Close),
+];
+
 /// The call that a word names.
 fn lobby_call_of(word: &str) -> Option<LobbyCall> {
-    match word {
-        "pace" => Some(LobbyCall::Pace),
-        "listen" => Some(LobbyCall::Listen),
-        "next" => Some(LobbyCall::Next),
-        "write" => Some(LobbyCall::Write),
-        "close" => Some(LobbyCall::Close),
-        _ => None,
-    }
+    look_up(&LOBBY_CALLS, word)
 }
 
 /// Makes a call, and puts what it answers.

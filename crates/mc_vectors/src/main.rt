@@ -12,7 +12,6 @@ macro_rules! fields {
     }};
 }
 
-mod answer;
 mod columns;
 mod devices;
 mod down;
@@ -21,29 +20,25 @@ mod fields;
 mod frames;
 mod lands;
 mod lobbies;
-mod marked;
 mod minds;
 mod nbt;
 mod packets;
 mod parts;
-mod runs;
 mod slots;
 mod up;
 mod views;
 mod windows;
-mod words;
 
-use answer::Answer;
 use lands::Ground;
 use mc_column::Column;
 use mc_entities::Folk;
 use mc_land::Terrain;
 use mc_nbt::NoMemory;
+use mc_rows::{Answer, Words, look_up};
 use mc_view::Tracker;
 use std::alloc::Global;
 use std::io;
 use std::io::{BufWriter, Write};
-use words::Words;
 
 /// What rows change, for the rows after them.
 #[derive(Drop)]
@@ -92,34 +87,36 @@ enum Call {
     Tracker,
 }
 
+/// The calls by their words.
+const CALLS: [(&str, Call); 23] = [
+    ("nbt", Call::Nbt),
+    ("same", Call::Same),
+    ("make", Call::Make),
+    ("slot", Call::Slot),
+    ("pile", Call::Pile),
+    ("chest", Call::Chest),
+    ("window", Call::Window),
+    ("frame", Call::Frame),
+    ("splitter", Call::Splitter),
+    ("pieces", Call::Pieces),
+    ("outbox", Call::Outbox),
+    ("source", Call::Source),
+    ("sink", Call::Sink),
+    ("lobby", Call::Lobby),
+    ("body", Call::Body),
+    ("column", Call::Column),
+    ("land", Call::Land),
+    ("terrain", Call::Terrain),
+    ("folk", Call::Folk),
+    ("minds", Call::Minds),
+    ("view", Call::View),
+    ("form", Call::Form),
+    ("tracker", Call::Tracker),
+];
+
 /// The call that a word names.
 fn call_of(name: &str) -> Option<Call> {
-    match name {
-        "nbt" => Some(Call::Nbt),
-        "same" => Some(Call::Same),
-        "make" => Some(Call::Make),
-        "slot" => Some(Call::Slot),
-        "pile" => Some(Call::Pile),
-        "chest" => Some(Call::Chest),
-        "window" => Some(Call::Window),
-        "frame" => Some(Call::Frame),
-        "splitter" => Some(Call::Splitter),
-        "pieces" => Some(Call::Pieces),
-        "outbox" => Some(Call::Outbox),
-        "source" => Some(Call::Source),
-        "sink" => Some(Call::Sink),
-        "lobby" => Some(Call::Lobby),
-        "body" => Some(Call::Body),
-        "column" => Some(Call::Column),
-        "land" => Some(Call::Land),
-        "terrain" => Some(Call::Terrain),
-        "folk" => Some(Call::Folk),
-        "minds" => Some(Call::Minds),
-        "view" => Some(Call::View),
-        "form" => Some(Call::Form),
-        "tracker" => Some(Call::Tracker),
-        _ => None,
-    }
+    look_up(&CALLS, name)
 }
 
 /// Answers a call.

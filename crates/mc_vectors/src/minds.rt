@@ -2,10 +2,9 @@
 //! works on the folk that the rows before it left. A step is `tick`, `dropped` for how many of the
 //! minds were dropped, or a call of the folk. At the end the minds are dropped.
 
-use crate::answer::Answer;
 use crate::entities;
-use crate::words::Words;
 use mc_entities::{Folk, Mind, Move};
+use mc_rows::{Answer, Words};
 use std::cell::Cell;
 use std::rc::Rc;
 

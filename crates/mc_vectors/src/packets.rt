@@ -1,6 +1,5 @@
-use crate::answer::Answer;
-use crate::words::Words;
 use crate::{down, up};
+use mc_rows::{Answer, Words, look_up};
 
 /// A row of a packet, by the phase and the way of the packet, or by what is done with it.
 #[derive(Clone, Copy)]
@@ -17,21 +16,23 @@ pub enum Packet {
     Meta,
 }
 
+/// The packets by their words.
+const PACKETS: [(&str, Packet); 10] = [
+    ("hand", Packet::Hand),
+    ("status_up", Packet::StatusUp),
+    ("status_down", Packet::StatusDown),
+    ("login_up", Packet::LoginUp),
+    ("login_down", Packet::LoginDown),
+    ("play_up", Packet::PlayUp),
+    ("down", Packet::Down),
+    ("again", Packet::Again),
+    ("destroy", Packet::Destroy),
+    ("meta", Packet::Meta),
+];
+
 /// The row that a word names.
 pub fn packet_of(name: &str) -> Option<Packet> {
-    match name {
-        "hand" => Some(Packet::Hand),
-        "status_up" => Some(Packet::StatusUp),
-        "status_down" => Some(Packet::StatusDown),
-        "login_up" => Some(Packet::LoginUp),
-        "login_down" => Some(Packet::LoginDown),
-        "play_up" => Some(Packet::PlayUp),
-        "down" => Some(Packet::Down),
-        "again" => Some(Packet::Again),
-        "destroy" => Some(Packet::Destroy),
-        "meta" => Some(Packet::Meta),
-        _ => None,
-    }
+    look_up(&PACKETS, name)
 }
 
 /// Answers a row of a packet.

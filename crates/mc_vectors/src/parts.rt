@@ -1,6 +1,5 @@
 //! Fields of packets, put behind what an answer has.
 
-use crate::answer::Answer;
 use crate::slots::put_slot;
 use mc_down::{
     MetaEntry, MetaValue, Metas, Player, PlayerChange, Players, Properties, Property, Record,
@@ -8,6 +7,7 @@ use mc_down::{
 };
 use mc_fields::Cell;
 use mc_nbt::{Octets, Text};
+use mc_rows::Answer;
 use mc_slots::Slot;
 use mc_up::Hit;
 use std::fmt::Display;

@@ -1,9 +1,8 @@
 //! Packets before play and to the server: `PHASE FRAME` reads one and writes it again.
 
-use crate::answer::Answer;
 use crate::fields::packet_read;
 use crate::parts::{cell, double, float, maybe_cell, maybe_hit, number, octets, slot, text, uuid};
-use crate::words::Words;
+use mc_rows::{Answer, Words};
 use mc_up::{
     Hand, LoginDown, LoginUp, PlayUp, StatusDown, StatusUp, read_hand, read_login_down,
     read_login_up, read_play_up, read_status_down, read_status_up, write_hand, write_login_down,

@@ -2,10 +2,9 @@
 //! compares two spots, each `X Y Z YAW PITCH`; and `tracker CALL ..` works on the tracker that the
 //! rows before left. A pile is one word, `IDxCOUNT:DAMAGE` or `empty`.
 
-use crate::answer::Answer;
 use crate::windows::pile_of;
-use crate::words::Words;
 use mc_fields::Spot;
+use mc_rows::{Answer, Words, look_up};
 use mc_slots::Pile;
 use mc_view::{Columns, Form, Moves, Tracker, ViewSet};
 
@@ -25,22 +24,24 @@ enum Call {
     Lose,
 }
 
+/// The calls by their words.
+const CALLS: [(&str, Call); 11] = [
+    ("has", Call::Has),
+    ("all", Call::All),
+    ("entered", Call::Entered),
+    ("left", Call::Left),
+    ("new", Call::New),
+    ("knows", Call::Knows),
+    ("known", Call::Known),
+    ("meet", Call::Meet),
+    ("moves", Call::Moves),
+    ("pile", Call::Pile),
+    ("lose", Call::Lose),
+];
+
 /// The call that a word names.
 fn call_of(name: &str) -> Option<Call> {
-    match name {
-        "has" => Some(Call::Has),
-        "all" => Some(Call::All),
-        "entered" => Some(Call::Entered),
-        "left" => Some(Call::Left),
-        "new" => Some(Call::New),
-        "knows" => Some(Call::Knows),
-        "known" => Some(Call::Known),
-        "meet" => Some(Call::Meet),
-        "moves" => Some(Call::Moves),
-        "pile" => Some(Call::Pile),
-        "lose" => Some(Call::Lose),
-        _ => None,
-    }
+    look_up(&CALLS, name)
 }
 
 /// The next three words as a view that there can be.

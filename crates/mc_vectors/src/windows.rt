@@ -6,10 +6,8 @@
 
 ghost use Rattle.mc_slots.specs.Pile.{IsPile};
 
-use crate::answer::Answer;
-use crate::marked::Marked;
 use crate::slots::{is_worldly, worldly};
-use crate::words::Words;
+use mc_rows::{Answer, Marked, Words, look_up};
 use mc_slots::{Chest, Item, Pile, Slot, Stack, read_slot};
 use mc_windows::{Click, Clicked, Pack, begin, finish, kit, store};
 use std::fmt;
@@ -52,17 +50,19 @@ enum Call {
     Confirm,
 }
 
+/// The calls by their words.
+const CALLS: [(&str, Call); 6] = [
+    ("kit", Call::Kit),
+    ("begin", Call::Begin),
+    ("click", Call::Click),
+    ("store", Call::Store),
+    ("finish", Call::Finish),
+    ("confirm", Call::Confirm),
+];
+
 /// The call that a word names.
 fn call_of(name: &str) -> Option<Call> {
-    match name {
-        "kit" => Some(Call::Kit),
-        "begin" => Some(Call::Begin),
-        "click" => Some(Call::Click),
-        "store" => Some(Call::Store),
-        "finish" => Some(Call::Finish),
-        "confirm" => Some(Call::Confirm),
-        _ => None,
-    }
+    look_up(&CALLS, name)
 }
 
 /// Answers a row of a pack.

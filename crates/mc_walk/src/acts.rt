@@ -1,7 +1,7 @@
 //! What a client does: `move X Y Z` in 1/32 blocks, `look YAW PITCH` in 1/256 turns, or `both`.
 
-use crate::words::Words;
 use mc_fields::Spot;
+use mc_rows::Words;
 
 /// What a client says of itself.
 #[derive(Clone, Copy)]

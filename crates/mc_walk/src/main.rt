@@ -11,7 +11,6 @@ mod others;
 mod tally;
 mod walk;
 mod walker;
-mod words;
 
 use fault::Stop;
 use std::alloc::Global;

@@ -4,9 +4,9 @@ use crate::acts::{act_of, spot_in};
 use crate::fault::Fault;
 use crate::tally::{Tally, count};
 use crate::walker::Walker;
-use crate::words::Words;
 use mc_land::Terrain;
 use mc_nbt::NoMemory;
+use mc_rows::Words;
 use mc_server::{Input, Server, Settings};
 use std::alloc::Global;
 
@@ -16,6 +16,7 @@ const CLIENTS: u32 = 3;
 /// A server, its clients, and what was counted.
 #[derive(Drop)]
 pub struct Walk {
+    alloc: Global,
     server: Server,
     walkers: Vec<Walker>,
     tally: Tally,
@@ -54,6 +55,7 @@ impl Walk {
         let mut server = new_server(alloc)?;
         let walkers = new_walkers(alloc, &mut server)?;
         Ok(Walk {
+            alloc,
             server,
             walkers,
             tally: Tally::new(),
@@ -70,7 +72,7 @@ impl Walk {
         if row == "tick" {
             return self.tick();
         }
-        let mut words = Words::new(row);
+        let mut words = Words::new(self.alloc, row);
         let number = words.number();
         self.act(number, &mut words)?;
         if words.are_bad() {

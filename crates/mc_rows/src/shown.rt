@@ -9,7 +9,7 @@ pub struct Shown<'a> {
 }
 
 impl<'a> Shown<'a> {
-    /// The bytes.
+    /// Takes the bytes.
     pub fn new(bytes: &'a [u8]) -> Shown<'a> {
         Shown { bytes }
     }
@@ -58,7 +58,7 @@ pub struct Hex<'a> {
 }
 
 impl<'a> Hex<'a> {
-    /// The bytes.
+    /// Takes the bytes.
     pub fn new(bytes: &'a [u8]) -> Hex<'a> {
         Hex { bytes }
     }

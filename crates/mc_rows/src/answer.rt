@@ -1,5 +1,6 @@
 use crate::marked::Marked;
 use crate::runs::{Runs, States};
+use crate::shown::{Hex, Shown};
 use mc_nbt::{FieldFault, ReadFault};
 use std::alloc::Global;
 use std::fmt;
@@ -26,7 +27,7 @@ impl Display for Answer {
 }
 
 impl Answer {
-    /// An answer without words.
+    /// Makes an answer without words.
     pub fn new(alloc: Global) -> Answer {
         Answer {
             text: String::new(alloc),
@@ -34,7 +35,7 @@ impl Answer {
         }
     }
 
-    /// The answer to a row that is none.
+    /// Makes the answer to a row that is none.
     pub fn no_such_call(alloc: Global) -> Answer {
         let mut answer = Answer::new(alloc);
         answer.word("no such call");
@@ -90,7 +91,17 @@ impl Answer {
         self.needs(done);
     }
 
-    /// Puts bytes as a word.
+    /// Puts bytes as hex.
+    pub fn hex(&mut self, bytes: &[u8]) {
+        self.word(Hex::new(bytes));
+    }
+
+    /// Puts bytes as a text with escapes.
+    pub fn shown(&mut self, bytes: &[u8]) {
+        self.word(Shown::new(bytes));
+    }
+
+    /// Puts bytes as a word, with long runs shortened.
     pub fn bytes(&mut self, bytes: &[u8]) {
         self.space();
         if bytes.is_empty() {
@@ -159,7 +170,7 @@ impl Answer {
         }
     }
 
-    /// The allocator of its text.
+    /// Gives the allocator of its text.
     pub fn alloc(&self) -> Global {
         *self.text.allocator()
     }

@@ -11,7 +11,7 @@ pub struct Runs<'a> {
 }
 
 impl<'a> Runs<'a> {
-    /// The bytes.
+    /// Takes the bytes.
     pub fn new(bytes: &'a [u8]) -> Runs<'a> {
         Runs { bytes }
     }
@@ -105,7 +105,7 @@ pub struct States<'a> {
 }
 
 impl<'a> States<'a> {
-    /// The states.
+    /// Takes the states.
     pub fn new(bytes: &'a [u8]) -> States<'a> {
         States { bytes }
     }

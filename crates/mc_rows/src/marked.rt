@@ -15,7 +15,7 @@ pub struct Marked {
 }
 
 impl Marked {
-    /// No bytes.
+    /// Makes no bytes.
     pub fn nothing(alloc: Global) -> Marked {
         Marked {
             bytes: Vec::new(alloc),
@@ -23,14 +23,14 @@ impl Marked {
         }
     }
 
-    /// The bytes before the mark, none of them where there is no memory.
+    /// Copies the bytes before the mark, none of them where there is no memory.
     pub fn front(&self) -> Vec<u8> {
         let mut front = Vec::new(*self.bytes.allocator());
         let _ = front.extend_from_slice(self.bytes.get(..self.at).unwrap_or(&[]));
         front
     }
 
-    /// The bytes of a word, None where it is none or there is no memory for them.
+    /// Reads the bytes of a word, None where it is none or there is no memory for them.
     pub fn parse(alloc: Global, word: &str) -> Option<Marked> {
         let mut bytes = Vec::new(alloc);
         let (front, rest) = word.split_once('|').unwrap_or(("", word));
@@ -44,6 +44,13 @@ impl Marked {
         }
         Some(Marked { bytes, at })
     }
+}
+
+/// Reads the bytes of a word without marks, None where it is none or there is no memory for them.
+pub fn bytes_of(alloc: Global, word: &str) -> Option<Vec<u8>> {
+    let mut bytes = Vec::new(alloc);
+    push_parts(&mut bytes, word)?;
+    Some(bytes)
 }
 
 /// Appends the bytes of some parts.
