@@ -139,11 +139,13 @@ player action = record {
   fits = (player_wire action).fits;
   spelling = (player_wire action).spelling;
   append = (player_wire action).append;
+  most = (player_wire action).most;
   found = player_found action;
   only = player_only action;
   fit = (player_wire action).fit;
   spelled = (player_wire action).spelled;
   appended = (player_wire action).appended;
+  bounded = (player_wire action).bounded;
 }
 
 -- ---- what is written of a change is known without the action

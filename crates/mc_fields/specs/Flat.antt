@@ -15,11 +15,13 @@ shaped {Rest} {A} {B} f make back again same = record {
   fits = λ b. f.fits (back b);
   spelling = λ b. f.spelling (back b);
   append = λ b out. f.append (back b) out;
+  most = λ b. f.most (back b);
   found = shaped_found f.spells f.read make back again f.found;
   only = shaped_only Rest f.spells f.read make back same f.only;
   fit = λ b bytes s. f.fit (back b) bytes s;
   spelled = λ b fits. f.spelled (back b) fits;
   appended = λ b out. f.appended (back b) out;
+  bounded = λ b bytes s. f.bounded (back b) bytes s;
 }
 
 -- ---- tuples

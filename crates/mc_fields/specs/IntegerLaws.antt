@@ -10,10 +10,10 @@ use Rattle.mc_nbt.specs.declared.fault.Kind.TheVariants.{Short}
 use Rattle.mc_nbt.specs.declared.fault.FieldFault.{FieldFault}
 use Rattle.mc_nbt.specs.declared.fault.Stop.{Stop}
 use Rattle.mc_nbt.specs.Reading.{Field, IsBytes, Yields, stop_at, ◌>>=◌}
-use Rattle.mc_nbt.specs.Format.{IsFound, IsOnly, Anything}
+use Rattle.mc_nbt.specs.Format.{IsFound, IsOnly, IsBounded, Anything}
 use Rattle.mc_nbt.specs.CombineBytes.{view_read}
 use Rattle.mc_nbt.specs.CombineLaws.{bind_ok, ok_is, Found-is}
-use Rattle.mc_nbt.specs.NumberLaws.{IsWide, number_found, number_only, wide_8}
+use Rattle.mc_nbt.specs.NumberLaws.{IsWide, number_found, number_only, number_bounded, wide_8}
 use Rattle.mc_nbt.specs.NumberBytes.{number_read, number_spells}
 use Rattle.mc_nbt.specs.Signed.{signed}
 use Rattle.mc_nbt.specs.Placed.{placed, with_rest, fault_at}
@@ -42,6 +42,9 @@ boolean_only Rest value front rest ends s =
 pub boolean_spelled : (value : Bool) → SpellsBool value (boolean_spelling value)
 boolean_spelled true = record { code = 1; spelled = (omega arith, refl); seen = refl }
 boolean_spelled false = record { code = 0; spelled = (omega arith, refl); seen = refl }
+
+pub boolean_bounded : IsBounded SpellsBool (λ value. 1)
+boolean_bounded value bytes s = number_bounded w8 wide_8 s.code bytes s.spelled
 
 -- ---- reading from an offset
 

@@ -10,6 +10,7 @@ use Rattle.mc_nbt.specs.Signed.{signed}
 use Rattle.mc_nbt.specs.SixteenLaws.{wide_128}
 use Rattle.mc_fields.specs.IntegerBytes.{SpellsBool, boolean_spelling, boolean_read}
 use Rattle.mc_fields.specs.IntegerLaws.{boolean_found, boolean_only, boolean_spelled}
+use Rattle.mc_fields.specs.IntegerLaws.{boolean_bounded}
 pub use Rattle.mc_fields.specs.IntegerBytes.{signed_spells, is_true, bool_byte, SpellsBool}
 pub use Rattle.mc_fields.specs.IntegerBytes.{boolean_spelling, boolean_read, ReadsFixed}
 
@@ -48,9 +49,11 @@ boolean {Rest} = record {
   fits = λ value. Unit {0};
   spelling = boolean_spelling;
   append = λ value out. out ++ boolean_spelling value;
+  most = λ value. 1;
   found = boolean_found;
   only = boolean_only Rest;
   fit = λ value bytes s. tt;
   spelled = λ value fits. boolean_spelled value;
   appended = λ value out. refl;
+  bounded = boolean_bounded;
 }

@@ -1,7 +1,7 @@
 -- Packets, of the page 'Protocol' of wiki.vg for protocol 47: a VarInt id, then the packet's
 -- fields, and nothing after them. A packet is one row of a table.
-use Rattle.std.specs.Prelude.{◌≡◌, ℕ, ◌-◌, ◌^◌, ◌<◌, ◌==◌, Bool, false, List, [], ◌∷◌, ◌++◌, length}
-use Rattle.std.specs.Prelude.{Result, Ok, Err, if◌then◌else◌}
+use Rattle.std.specs.Prelude.{◌≡◌, ℕ, ◌+◌, ◌-◌, ◌^◌, ◌<◌, ◌==◌, Bool, false, List, [], ◌∷◌, ◌++◌}
+use Rattle.std.specs.Prelude.{length, Result, Ok, Err, if◌then◌else◌}
 use lib.IntN.{ℤ, pos, negsuc}
 use Rattle.mc_nbt.specs.declared.fault.ReadError.{ReadError}
 use Rattle.mc_nbt.specs.declared.fault.ReadError.TheVariants as read_errors
@@ -51,6 +51,10 @@ Fits entry = (entry.row.id < 2 ^ 31) × entry.row.format.fits entry.fields
 -- the one that is written, which begins with a shortest id
 abbrev pub spelling : {P : Type 0} → Entry P → List ℕ
 spelling entry = varint_spelling (pos entry.row.id) ++ entry.row.format.spelling entry.fields
+
+-- how many bytes a spelling of the packet has at most: the id has five at most
+abbrev pub most : {P : Type 0} → Entry P → ℕ
+most entry = 5 + entry.row.format.most entry.fields
 
 -- a row's fields have a spelling
 abbrev pub row_fits : {P : Type 0} (row : Row P) → row.Fields → Type 0

@@ -1,13 +1,13 @@
 -- Laws of packets as rows, stated once for all tables.
-use Rattle.std.specs.Prelude.{◌≡◌, ℕ, Bool, true, false, cond, List, [], ◌∷◌, ◌++◌, Result, Ok, Err}
-use Rattle.std.specs.Prelude.{IfOk, refl}
+use Rattle.std.specs.Prelude.{◌≡◌, ℕ, ◌≤◌, Bool, true, false, cond, List, [], ◌∷◌, ◌++◌, length}
+use Rattle.std.specs.Prelude.{Result, Ok, Err, IfOk, refl}
 use Rattle.std.proofs.Common.{sym, subst, ap, ◌∙◌, append_assoc, eqb-true}
 use Rattle.std.proofs.lemmas.List.{append-nil}
 use lib.IntN.{ℤ, pos, negsuc}
 use Rattle.mc_nbt.specs.declared.fault.Stop.{Stop}
 use Rattle.mc_nbt.specs.Reading.{Field, IsBytes, ◌>>=◌}
 use Rattle.mc_nbt.specs.Format.{Anything}
-use Rattle.mc_nbt.specs.CombineLaws.{bind_ok, ok_is}
+use Rattle.mc_nbt.specs.CombineLaws.{bind_ok, ok_is, joined_length}
 use Rattle.mc_fields.specs.declared.packet.RowFault.{RowFault}
 use Rattle.mc_fields.specs.declared.packet.PacketFault.{PacketFault}
 use Rattle.mc_fields.specs.declared.packet.PacketRead.{PacketRead}
@@ -15,7 +15,7 @@ use Rattle.mc_fields.specs.Varint.{SpellsVarint, varint_read, varint_spelling}
 use Rattle.mc_fields.specs.VarintLaws.{varint_found, varint_only, varint_fit, varint_spelled}
 use Rattle.mc_fields.specs.VarintLaws.{varint-fits, five}
 use Rattle.mc_fields.specs.Row.Rows.{row, no_more, family}
-use Rattle.mc_fields.specs.Row.{Row, Entry, Spells, Fits, spelling, append, IsRowOf, Rows}
+use Rattle.mc_fields.specs.Row.{Row, Entry, Spells, Fits, spelling, append, most, IsRowOf, Rows}
 use Rattle.mc_fields.specs.Row.{fields_read, lifted, is_id, is_one_of, size_of, id_read, whole}
 use Rattle.mc_fields.specs.Row.{packet_read, IsTied, packet_of, GivesPacket}
 
@@ -40,6 +40,13 @@ spelled_fits entry bytes s = (
   (varint_fit 5 (pos entry.row.id) s.id_bytes s.id_spelled).0.sfits,
   entry.row.format.fit entry.fields s.field_bytes s.fields_spelled,
 )
+
+-- no spelling of a packet is longer than is said of it
+pub spells_bounded : {P : Type 0} (entry : Entry P) (bytes : List ℕ) → Spells entry bytes
+    → length bytes ≤ most entry
+spells_bounded entry bytes s =
+    joined_length bytes s.id_bytes s.field_bytes 5 (entry.row.format.most entry.fields) s.parts
+    s.id_spelled.within (entry.row.format.bounded entry.fields s.field_bytes s.fields_spelled)
 
 -- ---- what is read is spelled so
 

@@ -1,5 +1,5 @@
 -- Laws of texts: what is read is spelled so, and what is spelled so is read.
-use Rattle.std.specs.Prelude.{◌≡◌, ℕ, ◌*◌, ◌^◌, ◌<◌, ◌≤◌, Bool, true, false, List, ◌++◌, length}
+use Rattle.std.specs.Prelude.{◌≡◌, ℕ, ◌+◌, ◌*◌, ◌^◌, ◌<◌, ◌≤◌, Bool, true, false, List, ◌++◌, length}
 use Rattle.std.specs.Prelude.{take, drop, nat_lt, not, Result, Ok, Err, refl}
 use Rattle.std.specs.Str.{is_utf8, chars}
 use Rattle.std.proofs.Common.{sym, subst, ap, ◌∙◌, arith, le-ltb, ltb-false, append_assoc}
@@ -9,8 +9,8 @@ use lib.IntN.{ℤ, pos, negsuc}
 use Rattle.mc_nbt.specs.declared.fault.Kind.{Kind}
 use Rattle.mc_nbt.specs.declared.fault.Kind.TheVariants.{Short, BadText, TooLong}
 use Rattle.mc_nbt.specs.declared.fault.Stop.{Stop}
-use Rattle.mc_nbt.specs.Format.{IsFound, IsOnly, Anything}
-use Rattle.mc_nbt.specs.CombineLaws.{ok_is, passed, Found-is, bind_ok, joined}
+use Rattle.mc_nbt.specs.Format.{IsFound, IsOnly, IsBounded, Anything}
+use Rattle.mc_nbt.specs.CombineLaws.{ok_is, passed, Found-is, bind_ok, joined, joined_length}
 use Rattle.mc_nbt.specs.NumberLaws.{IsBytes-drop}
 use Rattle.mc_fields.specs.Varint.{SpellsVarint, varint_read, varint_spelling}
 use Rattle.mc_fields.specs.VarintLaws.{varint_found, varint_only, varint_fit, varint_spelled}
@@ -121,6 +121,10 @@ text_spelled points text fits = record {
   parts = refl;
   fits = fits.fits;
 }
+
+pub text_bounded : (points : ℕ) → IsBounded (SpellsText points) (λ text. 5 + length text)
+text_bounded points text bytes s = joined_length bytes s.size text 5 (length text) s.parts
+    s.sized.within (omega arith)
 
 -- a text whose length fits its VarInt
 pub text_written : (points : ℕ) (text : List ℕ) → FitsText points text → length text < 2 ^ 31

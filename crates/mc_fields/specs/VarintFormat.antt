@@ -18,11 +18,13 @@ varint_within {Rest} room some = record {
   fits = FitsVarint room;
   spelling = varint_spelling;
   append = λ value out. out ++ varint_spelling value;
+  most = λ value. room;
   found = varint_found room;
   only = varint_only room Rest;
   fit = varint_fit room;
   spelled = varint_spelled room some;
   appended = λ value out. refl;
+  bounded = λ value bytes s. s.within;
 }
 
 -- a VarInt
@@ -37,9 +39,11 @@ var_int {Rest} = record {
   fits = FitsVarint 5;
   spelling = varint_spelling;
   append = λ value out. out ++ varint_spelling value;
+  most = λ value. 5;
   found = var_int_found;
   only = var_int_only Rest;
   fit = varint_fit 5;
   spelled = varint_spelled 5 five;
   appended = λ value out. refl;
+  bounded = λ value bytes s. s.within;
 }

@@ -106,6 +106,9 @@ pub fn read_text(
     // What is spelled there is read, unless memory runs out.
     ensures only { (text : List ℕ) (end : ℕ) → SpelledAt (SpellsText n text) bytes.now at end →
         PlacedGives (λ read. read) result (Ok (text, end)) }
+    // From one place on one text is spelled at most, and it has one end.
+    ensures one { (a b : List ℕ) (m p : ℕ) → SpelledAt (SpellsText n a) bytes.now at m →
+        SpelledAt (SpellsText n b) bytes.now at p → (a ≡ b) × (m ≡ p) }
     // Which fault it is.
     ensures exact { PlacedGives (λ read. read) result
         (placed bytes.now (text_read n (drop at bytes.now))) }

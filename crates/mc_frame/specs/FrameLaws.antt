@@ -1,19 +1,21 @@
 -- Laws of frames: what is read is a spelling, each spelling is read, and what is written is the
 -- shortest one.
-use Rattle.std.specs.Prelude.{◌≡◌, ℕ, ◌<◌, ◌≤◌, Bool, true, false, cond, List, ◌++◌, length}
-use Rattle.std.specs.Prelude.{nat_lt, Ok, Err, refl}
+use Rattle.std.specs.Prelude.{◌≡◌, ℕ, ◌+◌, ◌^◌, ◌<◌, ◌≤◌, Bool, true, false, cond, List, ◌++◌}
+use Rattle.std.specs.Prelude.{length, nat_lt, Ok, Err, refl}
 use Rattle.std.proofs.Common.{sym, subst, ap, ◌∙◌, arith, append_assoc, lt-ltb, ltb-true}
 use Rattle.std.proofs.lemmas.List.{length-append}
 use lib.IntN.{ℤ, pos, negsuc}
 use Rattle.mc_nbt.specs.declared.fault.Kind.TheVariants.{BadLength}
 use Rattle.mc_nbt.specs.Reading.{Field, IsBytes, ◌>>=◌, stop_at}
-use Rattle.mc_nbt.specs.Format.{IsFound, IsOnly, Anything}
-use Rattle.mc_nbt.specs.CombineLaws.{bind_ok, joined}
+use Rattle.mc_nbt.specs.Format.{IsFound, IsOnly, IsBounded, Anything}
+use Rattle.mc_nbt.specs.CombineLaws.{bind_ok, joined, joined_length}
 use Rattle.mc_nbt.specs.NumberBytes.{octets_read}
 use Rattle.mc_nbt.specs.NumberLaws.{octets_found, octets_only}
 use Rattle.mc_fields.specs.Varint.{SpellsVarint, varint_read, varint_spelling}
 use Rattle.mc_fields.specs.VarintLaws.{varint_found, varint_only, varint_fit, varint_spelled}
-use Rattle.mc_fields.specs.VarintLaws.{varint-shortest, three}
+use Rattle.mc_fields.specs.VarintLaws.{varint-shortest, IsChain-some, three}
+use Rattle.mc_fields.specs.Row.{Entry, Fits, spelling, most}
+use Rattle.mc_fields.specs.RowLaws.{fits_spelled, spells_bounded}
 use Rattle.mc_frame.specs.Frame.{IsPayload, SpellsFrame, payload_read, frame_read, frame_spelling}
 
 -- the payload that was read
@@ -89,6 +91,21 @@ frame_spelled payload fits = record {
   some = fits.some;
   parts = refl;
 }
+
+pub frame_bounded : IsBounded SpellsFrame (λ payload. 3 + length payload)
+frame_bounded payload bytes s =
+    joined_length bytes s.size payload 3 (length payload) s.parts s.sized.within (omega arith)
+
+-- a packet that has a spelling, and by its format none of too many bytes, is what a frame can hold
+pub packet_payload : {P : Type 0} (entry : Entry P) → Fits entry → most entry < 2 ^ 21 →
+    IsPayload (spelling entry)
+packet_payload entry fits few =
+    let s = fits_spelled entry fits in
+    let id = IsChain-some s.id_bytes s.id_spelled.chain in
+    let all : length (spelling entry) ≡ length s.id_bytes + length s.field_bytes =
+    ap length s.parts ∙ length-append s.id_bytes s.field_bytes in
+    let le = spells_bounded entry (spelling entry) s in
+    record { some = omega (arith, id, all); counted = omega (arith, few, le) }
 
 -- what is written of a frame is read as its payload again, whatever follows
 pub frame_again : (payload : List ℕ) → IsPayload payload → (rest : List ℕ) →

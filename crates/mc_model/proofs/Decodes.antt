@@ -1,12 +1,19 @@
 -- What is handed out as frames, one after another, is cut into them again, and decoded as those
 -- packets.
-use Rattle.std.proofs.Common.{◌≡◌, ℕ, List, [], ◌∷◌, ◌++◌, map, refl, sym, subst, ap}
+use Rattle.std.proofs.Common.{◌≡◌, ℕ, ◌^◌, ◌<◌, List, ◌∷◌, ◌++◌, map, refl, sym, subst, ap, []}
 use Rattle.std.specs.Prelude.{Some}
 use Rattle.std.proofs.lemmas.List.{append-nil}
+use Rattle.mc_fields.specs.Row.{most}
 use Rattle.mc_frame.specs.Frame.{IsPayload, frame_spelling}
-use Rattle.mc_frame.specs.FrameLaws.{frame_spelled}
+use Rattle.mc_frame.specs.FrameLaws.{frame_spelled, packet_payload}
 use Rattle.mc_frame.specs.Cut.{SpellsFrames}
 use Rattle.mc_frame.proofs.Stops.{nothing_part}
+use Rattle.mc_up.specs.declared.status_down.StatusDown.{StatusDown}
+use Rattle.mc_up.specs.declared.status_down.StatusDown.TheVariants.{Pong}
+use Rattle.mc_up.specs.declared.login_down.LoginDown.{LoginDown}
+use Rattle.mc_up.specs.declared.login_down.LoginDown.TheVariants.{Disconnect}
+use Rattle.mc_down.specs.declared.down.Down.{Down}
+use Rattle.mc_down.specs.declared.down.Down.TheVariants.{KeepAlive}
 use Rattle.mc_up.specs.StatusDown as status
 use Rattle.mc_up.specs.LoginDown as login
 use Rattle.mc_down.specs.Down as play
@@ -37,6 +44,23 @@ IsClear for_login (of_status packet) = ⊥
 IsClear for_login (of_play packet) = ⊥
 IsClear for_play (of_status packet) = ⊥
 IsClear for_play (of_login packet) = ⊥
+
+-- a packet that has a spelling, and by its format none of too many bytes, is one
+pub status_clear : (packet : StatusDown) → status.FitsStatusDown packet
+    → most (status.entry_of packet) < 2 ^ 21 → IsClear for_status (of_status packet)
+status_clear (Pong number) fits few = (fits, packet_payload (status.entry_of (Pong number)) fits few)
+status_clear packet fits few = (fits, packet_payload (status.entry_of packet) fits few)
+
+pub login_clear : (packet : LoginDown) → login.FitsLoginDown packet
+    → most (login.entry_of packet) < 2 ^ 21 → IsClear for_login (of_login packet)
+login_clear (Disconnect reason) fits few =
+    (fits, packet_payload (login.entry_of (Disconnect reason)) fits few)
+login_clear packet fits few = (fits, packet_payload (login.entry_of packet) fits few)
+
+pub play_clear : (packet : Down) → play.FitsDown packet → most (play.entry_of packet) < 2 ^ 21
+    → IsClear for_play (of_play packet)
+play_clear (KeepAlive beat) fits few = (fits, packet_payload (play.entry_of (KeepAlive beat)) fits few)
+play_clear packet fits few = (fits, packet_payload (play.entry_of packet) fits few)
 
 -- all of these are decoded by it one after another, and what follows by that
 abbrev pub Decodes : Decoder → List Sent → Decoder → Type 0

@@ -1,13 +1,13 @@
 -- A line of chat fits its packet: its JSON is UTF-8, and of six bytes at most for each of the text.
-use Rattle.std.proofs.Common.{◌≡◌, ℕ, zero, suc, ◌+◌, ◌*◌, ◌<◌, ◌≤◌, Bool, true, false, cond}
-use Rattle.std.proofs.Common.{List, [], ◌∷◌, ◌++◌, length, inl, inr, refl, sym, ap, ap₂, ◌∙◌, subst}
-use Rattle.std.proofs.Common.{lit<, arith}
+use Rattle.std.proofs.Common.{◌≡◌, ℕ, zero, suc, ◌+◌, ◌*◌, ◌<◌, ◌≤◌, Bool, true, cond, List, ◌∷◌}
+use Rattle.std.proofs.Common.{◌++◌, length, inl, inr, refl, sym, ap, ap₂, ◌∙◌, subst, lit<, arith}
+use Rattle.std.proofs.Common.{[]}
 use Rattle.std.specs.Prelude.{◌/◌, ◌%◌, ◌==◌, ◌&&◌, ◌||◌, nat_lt, slice_index, codes}
 use Rattle.std.specs.Char.{digit_char}
-use Rattle.std.specs.Int.{w8, cast_unsigned}
+use Rattle.std.specs.Int.{w8}
 use Rattle.std.specs.List.{flat_map, list_all}
 use Rattle.std.specs.Str.{IsAscii, IsUtf8, chars}
-use Rattle.std.proofs.lemmas.Bool.{ne_eqb, le-ltb, cases_lt, cases_eq}
+use Rattle.std.proofs.lemmas.Bool.{cases_lt, cases_eq}
 use Rattle.std.proofs.lemmas.Grind.{flat_map-append}
 use Rattle.std.proofs.lemmas.List.{length-append, append-nil}
 use Rattle.std.proofs.lemmas.Str.{IsUtf8-append, IsUtf8-nil, IsUtf8-encode, IsUtf8-from_ascii}
@@ -16,18 +16,16 @@ use lib.IntN.{pos}
 use lib.Utf8.{scalar, scalars, encode, encodes}
 use Rattle.serde_json.proofs.OnLiterals.{serde_json_on_literals}
 use Rattle.mc_nbt.specs.Signed.{signed_fits}
-use Rattle.mc_nbt.specs.Numbers.{wide_8}
 use Rattle.mc_fields.specs.TextFormat.{SpellableText}
 use Rattle.mc_down.specs.declared.down.Down.TheVariants.{Chat}
-use Rattle.mc_down.specs.Down.{FitsDown, entry_of}
 use Rattle.mc_model.specs.Chat.{line_of}
 use Rattle.mc_model.specs.Delta.{chat_packet}
 use Rattle.mc_model.specs.Packets.{of_play, for_play}
 use Rattle.mc_model.specs.Texts.{chat_json}
-use Rattle.mc_model.proofs.Decodes.{IsClear}
+use Rattle.mc_model.proofs.Decodes.{IsClear, play_clear}
 use Rattle.mc_model.proofs.FitsText.{all_low, both_true, is_low}
-use Rattle.mc_model.proofs.FitsSize.{AtMost, at_most_joined, few_bytes, text_size, number_size}
-use Rattle.mc_model.proofs.FitsSize.{spelling_payload}
+use Rattle.mc_model.proofs.FitsSize.{AtMost, few_bytes}
+use Rattle.std.proofs.lemmas.Bool.Decides.{nat_tests}
 
 -- a text that a packet of chat can carry
 abbrev pub LineFits : List ℕ → Type 0
@@ -65,21 +63,12 @@ chat_parts text = refl
 
 -- six bytes at most stand for one
 escaped_few : (x : ℕ) → AtMost 6 (escaped x)
-escaped_few x = step (nat_lt 0 (letter x)) (nat_lt x 32)
-  where
-    step : (short low : Bool) →
-        AtMost 6 (cond short (92 ∷ letter x ∷ []) (cond low (by_number x) (x ∷ [])))
-    step true low = omega arith
-    step false true = omega arith
-    step false false = omega arith
+escaped_few x = grind (arith, nat_tests)
 
 -- so for all of them
 all_escaped_few : (text : List ℕ) → AtMost (6 * length text) (all_escaped text)
 all_escaped_few [] = omega arith
-all_escaped_few (x ∷ text) =
-    let one = escaped_few x in
-    let rest = all_escaped_few text in
-    omega (arith, one, rest, length-append (escaped x) (all_escaped text))
+all_escaped_few (x ∷ text) = grind (arith, nat_tests, escaped_few x, all_escaped_few text)
 
 -- the JSON is not long where the text is not
 chat_few : (text : List ℕ) → AtMost (6 * length text + 11) (chat_json text)
@@ -111,17 +100,7 @@ escaped_low x less = all_low (escaped x) (low_below 128 refl x less)
 
 -- a high byte stands for itself
 escaped_high : (x : ℕ) → 128 ≤ x → escaped x ≡ x ∷ []
-escaped_high x high =
-    rw (
-      ne_eqb x 34 (λ e. omega (arith, high, e)),
-      ne_eqb x 92 (λ e. omega (arith, high, e)),
-      ne_eqb x 8 (λ e. omega (arith, high, e)),
-      ne_eqb x 12 (λ e. omega (arith, high, e)),
-      ne_eqb x 10 (λ e. omega (arith, high, e)),
-      ne_eqb x 13 (λ e. omega (arith, high, e)),
-      ne_eqb x 9 (λ e. omega (arith, high, e)),
-      le-ltb x 32 (omega (arith, high)),
-    ) refl
+escaped_high x high = grind (arith, nat_tests)
 
 -- and so do all of them
 all_high : (xs : List ℕ) → ((i : ℕ) → i < length xs → 128 ≤ slice_index xs i) →
@@ -192,13 +171,7 @@ utf8_fits text utf8 few = record {
 -- so has the packet of such a text
 text_clear : (text : List ℕ) → IsUtf8 text → AtMost 2813 text → LineFits text
 text_clear text utf8 few =
-    let fits : FitsDown (Chat text (pos 0)) =
-    (lit< tt, (utf8_fits text utf8 few, signed_fits w8 (pos 0) (record { sfits = lit< tt }))) in
-    let size = at_most_joined 2818 1 _ _ (text_size 2813 text (omega arith) few)
-    (number_size w8 wide_8 (cast_unsigned w8 (pos 0))) in (
-      fits,
-      spelling_payload (entry_of (Chat text (pos 0))) fits (few_bytes 2819 _ (omega arith) size),
-    )
+    play_clear (Chat text (pos 0)) ((lit< tt, (utf8_fits text utf8 few, signed_fits w8 (pos 0) (record { sfits = lit< tt })))) (omega (arith, few))
 
 -- what a player of this name says is UTF-8
 spoken_utf8 : (name text : List ℕ) → IsUtf8 name → IsUtf8 text →

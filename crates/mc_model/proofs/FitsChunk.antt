@@ -1,15 +1,11 @@
 -- The packets of columns fit.
-use Rattle.std.proofs.Common.{ℕ, zero, suc, ◌+◌, ◌^◌, ◌<◌, ◌≤◌, Bool, true, false, cond, List, []}
-use Rattle.std.proofs.Common.{length, refl, lit<, arith}
-use Rattle.std.specs.Int.{w8, w16, w32, cast_unsigned}
+use Rattle.std.proofs.Common.{ℕ, zero, suc, ◌^◌, ◌<◌, ◌≤◌, Bool, true, List, length, lit<, arith}
+use Rattle.std.proofs.Common.{[]}
+use Rattle.std.specs.Int.{w32}
 use Rattle.std.specs.Prelude.{unsigned_abs}
 use Rattle.std.specs.List.{All}
 use lib.IntN.{pos}
 use mir.Val.{SFits}
-use Rattle.mc_nbt.specs.Signed.{signed_fits}
-use Rattle.mc_nbt.specs.Numbers.{wide_8, wide_16, wide_32}
-use Rattle.mc_fields.specs.VarintFormat.{varint-fits}
-use Rattle.mc_fields.specs.Integers.{bool_byte}
 use Rattle.mc_column.specs.Sizes.{section_count}
 use Rattle.mc_column.specs.SizesLaws.{section_count-is, section_cells-is, light_bytes-is}
 use Rattle.mc_column.specs.SizesLaws.{squares-is}
@@ -19,12 +15,11 @@ use Rattle.mc_column.specs.Sent.{column_mask, column_bytes}
 use Rattle.mc_column.proofs.SentFacts.{column_mask_names, body_bytes_spell}
 use Rattle.mc_land.specs.Places.{Place}
 use Rattle.mc_down.specs.declared.down.Down.TheVariants.{Chunk}
-use Rattle.mc_down.specs.Down.{FitsDown, entry_of}
 use Rattle.mc_model.specs.Packets.{of_play, for_play}
 use Rattle.mc_model.specs.Delta.{load, unload}
-use Rattle.mc_model.proofs.Decodes.{IsClear}
-use Rattle.mc_model.proofs.FitsSize.{AtMost, few_bytes, at_most_joined, varint_size, number_size}
-use Rattle.mc_model.proofs.FitsSize.{spelling_payload, number_fits}
+use Rattle.mc_model.proofs.Decodes.{IsClear, play_clear}
+use Rattle.mc_model.proofs.FitsSize.{AtMost, number_fits, fields}
+use Rattle.std.proofs.lemmas.Bool.Decides.{nat_tests}
 
 -- a place whose numbers a packet can carry
 pub record PlaceFits (place : Place) : Type 0 where
@@ -37,35 +32,13 @@ chunk_clear : (place : Place) (mask : ℕ) (body : List ℕ) → PlaceFits place
     → IsClear for_play (of_play (Chunk place.0 place.1 true mask body))
 chunk_clear place mask body at small few =
     let counted : SFits w32 (pos (length body)) = record { sfits = omega (arith, few) } in
-    let fits : FitsDown (Chunk place.0 place.1 true mask body) = (
-      lit< tt,
-      (
-        signed_fits w32 place.0 at.x,
-        (
-          signed_fits w32 place.1 at.z,
-          (tt, (small, (tt, ((tt, (varint-fits (pos (length body)) counted, refl)), refl)))),
-        ),
-      ),
-    ) in
-    let size : AtMost 200016 _ =
-    at_most_joined 4 200012 _ _ (number_size w32 wide_32 (cast_unsigned w32 place.0)) (
-    at_most_joined 4 200008 _ _ (number_size w32 wide_32 (cast_unsigned w32 place.1)) (
-    at_most_joined 1 200007 _ _ (number_size w8 wide_8 (bool_byte true)) (
-    at_most_joined 2 200005 _ _ (number_size w16 wide_16 mask) (
-    at_most_joined 5 200000 _ _ (varint_size (pos (length body)) counted).1 few)))) in (
-      fits,
-      spelling_payload (entry_of (Chunk place.0 place.1 true mask body)) fits
-          (few_bytes 200016 _ (omega arith) size),
-    )
+    play_clear (Chunk place.0 place.1 true mask body) (search (fields, at.x, at.z))
+    (omega (arith, few))
 
 -- no more numbers below n pass a test than there are
 rank_most : (test : ℕ → Bool) (n : ℕ) → rank test n ≤ n
 rank_most test zero = omega arith
-rank_most test (suc n) = step (test n) (rank_most test n)
-  where
-    step : (t : Bool) → rank test n ≤ n → rank test n + cond t 1 0 ≤ suc n
-    step true le = omega (arith, le)
-    step false le = omega (arith, le)
+rank_most test (suc n) = grind (arith, nat_tests, rank_most test n)
 
 -- a body is not long
 pub column_few : (column : ColumnValue) → HasSizes column → AtMost 200000 (column_bytes column)

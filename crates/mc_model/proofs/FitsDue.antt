@@ -1,6 +1,6 @@
 -- What is due to a client at a tick is packets that it decodes.
-use Rattle.std.proofs.Common.{ℕ, ◌+◌, ◌≤◌, Bool, true, false, cond, List, [], ◌∷◌}
-use Rattle.std.proofs.Common.{drop, length, Option, Some, None, refl, arith}
+use Rattle.std.proofs.Common.{ℕ, ◌+◌, ◌≤◌, Bool, true, false, cond, List, [], ◌∷◌, drop, length}
+use Rattle.std.proofs.Common.{Option, Some, None, arith}
 use Rattle.std.specs.Prelude.{not}
 use Rattle.std.specs.Int.{w32, w64}
 use Rattle.std.specs.List.{AllByRecursion}
@@ -10,7 +10,6 @@ use mir.Val.{SFits}
 use Rattle.mc_column.specs.Cells.{ColumnValue}
 use Rattle.mc_fields.specs.declared.position.Spot.{Spot}
 use Rattle.mc_land.specs.declared.terrain.Terrain.{Terrain}
-use Rattle.mc_land.specs.declared.terrain.Terrain.TheVariants.{Flat, Hills, Isle}
 use Rattle.mc_land.specs.Places.{Place}
 use Rattle.mc_slots.specs.declared.slot.Slot.{Slot}
 use Rattle.mc_windows.specs.Pack.{PackValue, IsPack}
@@ -23,17 +22,16 @@ use Rattle.mc_model.specs.Numbers.{pattern_of, degrees_of}
 use Rattle.mc_model.specs.Sight.{Seen, Sight}
 use Rattle.mc_model.specs.Delta.{missing, is_named, leavers_point, joiners_point, destroys_point}
 use Rattle.mc_model.specs.Delta.{unload, unloads_point, load, loads_point, differing}
-use Rattle.mc_model.specs.Delta.{column_changes}
-use Rattle.mc_model.specs.Delta.{cells_point, is_same_slot, pile_packet, pile_packets}
-use Rattle.mc_model.specs.Delta.{moves_packets, entity_packets, entities_point, slot_packets}
-use Rattle.mc_model.specs.Delta.{pack_point, delta, is_told, beat_packets, beat_point, time_packets}
-use Rattle.mc_model.specs.Delta.{time_point, chat_packet, chat_point}
+use Rattle.mc_model.specs.Delta.{column_changes, cells_point, is_same_slot, pile_packet}
+use Rattle.mc_model.specs.Delta.{pile_packets, moves_packets, entity_packets, entities_point}
+use Rattle.mc_model.specs.Delta.{slot_packets, pack_point, delta, is_told, beat_packets, beat_point}
+use Rattle.mc_model.specs.Delta.{time_packets, time_point, chat_packet, chat_point}
 use Rattle.mc_model.specs.Ticks.{time_of_day}
 use Rattle.mc_model.specs.Step.{level, placing, window_packets, notes_of}
 use Rattle.mc_model.proofs.Decodes.{IsClear}
 use Rattle.mc_model.proofs.AllFacts.{all_joined, all_dropped, all_mapped, all_filtered}
 use Rattle.mc_model.proofs.AllFacts.{few_filtered, all_flat}
-use Rattle.mc_model.proofs.FitsText.{IsShort, short_where}
+use Rattle.mc_model.proofs.FitsText.{IsShort}
 use Rattle.mc_model.proofs.FitsPlay.{place_clear}
 use Rattle.mc_model.proofs.FitsBeats.{ToldFits, beat_clear, time_clear}
 use Rattle.mc_model.proofs.FitsChat.{LineFits}
@@ -47,6 +45,7 @@ use Rattle.mc_model.proofs.FitsEntities.{moves_clear}
 use Rattle.mc_model.proofs.ThingsFit.{SpotFits}
 pub use Rattle.mc_model.proofs.ThingFacts.{rest_below, spawn_low, spawn_fits}
 use Rattle.mc_model.proofs.FitsSight.{SeenFits, SightFits}
+use Rattle.std.proofs.lemmas.Bool.Decides.{nat_tests}
 
 -- ---- the difference
 
@@ -214,6 +213,4 @@ notes_clear notes spot pack at is =
 
 -- the kind of level is a short text
 pub level_short : (terrain : Terrain) → IsShort 10 (level terrain)
-level_short Flat = short_where 10 (level Flat) refl
-level_short (Hills seed) = short_where 10 (level (Hills seed)) refl
-level_short Isle = short_where 10 (level Isle) refl
+level_short terrain = grind (arith, nat_tests)

@@ -24,16 +24,14 @@ use Rattle.mc_model.proofs.FitsCells.{change_clear}
 use Rattle.mc_model.proofs.FitsSight.{column_near, size_few}
 use Rattle.mc_model.proofs.ThingFacts.{cell_is}
 use Rattle.mc_model.proofs.ThingsFit.{SpotFits, ThingsFit}
+use Rattle.std.proofs.lemmas.Bool.Decides.{nat_tests}
 
 -- ---- positions
 
 -- a number that is near one that is not far is not far
 column_small : (c middle : ℤ) (d : ℕ) → unsigned_abs middle ≤ 1875001 → d ≤ 8 →
     unsigned_abs (c -ℤ middle) ≤ d → unsigned_abs c ≤ 1875009
-column_small (pos c) (pos m) d small few near = omega (arith, ints, small, few, near)
-column_small (pos c) (negsuc m) d small few near = omega (arith, ints, small, few, near)
-column_small (negsuc c) (pos m) d small few near = omega (arith, ints, small, few, near)
-column_small (negsuc c) (negsuc m) d small few near = omega (arith, ints, small, few, near)
+column_small c middle d small few near = grind (arith, nat_tests)
 
 -- so a position can carry the numbers of cells in such a column
 side_fits : (v : ℤ) → unsigned_abs (column_number v) ≤ 1875009 → FitsHalf (2 ^ 25) v

@@ -3,22 +3,18 @@ use Rattle.std.proofs.Common.{◌≡◌, ℕ, zero, suc, ◌+◌, ◌-◌, ◌*�
 use Rattle.std.proofs.Common.{cond, refl, arith, inl, inr}
 use Rattle.std.specs.Prelude.{nat_le, ◌==◌, unsigned_abs}
 use Rattle.std.proofs.Math.Nat.{pow-le-pow_right, pow-suc}
-use Rattle.std.proofs.lemmas.Bool.{cases_lt, leb-true, leb-false}
+use Rattle.std.proofs.lemmas.Bool.{cases_lt, leb-true}
 use lib.IntN.{ℤ}
 use Rattle.mc_fields.proofs.Floors.{raised_high}
 use Rattle.mc_model.specs.Numbers.{top_bit, pattern_with, is_below_0, pattern_of, degrees_of}
+use Rattle.std.proofs.lemmas.Bool.Decides.{nat_tests}
 
 -- ---- the highest bit
 
 -- a number is below twice its highest bit
 pub top_bit_above : (k n : ℕ) → n < 2 ^ suc k → n < 2 ^ suc (top_bit k n)
 top_bit_above zero n less = less
-top_bit_above (suc k) n less = step (nat_le (2 ^ suc k) n) refl (λ lower. top_bit_above k n lower)
-  where
-    step : (t : Bool) → nat_le (2 ^ suc k) n ≡ t → (n < 2 ^ suc k → n < 2 ^ suc (top_bit k n))
-        → n < 2 ^ suc (cond t (suc k) (top_bit k n))
-    step true t rest = less
-    step false t rest = rest (leb-false (2 ^ suc k) n t)
+top_bit_above (suc k) n less = grind (arith, nat_tests, top_bit_above k n)
 
 -- and where it is below a power, its highest bit is
 pub top_bit_below : (k n j : ℕ) → n < 2 ^ suc j → top_bit k n ≤ j
@@ -74,15 +70,4 @@ pattern_fits n small = signed_below (pattern_with 52 1023 (unsigned_abs n)) (is_
 -- the pattern of an angle has 32
 pub degrees_fit : (a : ℕ) → a < 256 → degrees_of a < 2 ^ 32
 unfolding degrees_of
-degrees_fit a small = step (a * 45 == 0)
-  where
-    top : top_bit 32 (a * 45) ≤ 13
-    top = top_bit_below 32 (a * 45) 13 (omega (arith, small))
-
-    below : a * 45 * 2 ^ (23 - top_bit 32 (a * 45)) < 2 * 2 ^ 23
-    below = significand_below (a * 45) 23 (omega (arith, small)) (omega (arith, top))
-
-    step : (t : Bool) → cond t 0 ((127 - 6 + top_bit 32 (a * 45)) * 2 ^ 23 + a * 45 * 2 ^
-        (23 - top_bit 32 (a * 45))) < 2 ^ 32
-    step true = omega arith
-    step false = omega (arith, below, top)
+degrees_fit a small = grind (arith, nat_tests)

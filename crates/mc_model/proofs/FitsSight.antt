@@ -48,6 +48,7 @@ use Rattle.mc_model.proofs.FitsList.{PairFits}
 use Rattle.mc_model.proofs.FitsChunk.{IsNear, ColumnFits}
 use Rattle.mc_model.proofs.FitsSlots.{SlotFits, pile_slot_fits, piles_fit}
 use Rattle.mc_model.proofs.FitsEntities.{KindFits}
+use Rattle.std.proofs.lemmas.Bool.Decides.{nat_tests}
 
 -- ---- the entries of a map that was made of a list
 
@@ -99,18 +100,10 @@ few_shown R o most es few =
 
 -- ---- places of a view
 
--- numbers within 1,875,010
-abs_near : (z : ℤ) → negsuc 1875009 ≤ℤ z → z ≤ℤ pos 1875010 → unsigned_abs z ≤ 1875010
-abs_near (pos n) low high = omega (arith, ints, high)
-abs_near (negsuc n) low high = omega (arith, ints, low)
-
 -- a number near one that is not far
 near_small : (m : ℤ) (d i : ℕ) → unsigned_abs m ≤ 1875001 → d ≤ 8 → i < 2 * d + 1 →
     unsigned_abs ((m -ℤ pos d) +ℤ pos i) ≤ 1875010
-near_small (pos n) d i small few less = abs_near ((pos n -ℤ pos d) +ℤ pos i)
-    (omega (arith, ints, small, few, less)) (omega (arith, ints, small, few, less))
-near_small (negsuc n) d i small few less = abs_near ((negsuc n -ℤ pos d) +ℤ pos i)
-    (omega (arith, ints, small, few, less)) (omega (arith, ints, small, few, less))
+near_small m d i small few less = grind (arith, nat_tests)
 
 -- and so are all in a row
 run_small : (m : ℤ) (d : ℕ) → unsigned_abs m ≤ 1875001 → d ≤ 8

@@ -1,11 +1,14 @@
 -- How long spellings are at most, and which packets a client so decodes.
-use Rattle.std.proofs.Common.{ℕ, ◌+◌, ◌^◌, ◌<◌, ◌≤◌, List, ◌++◌, length, arith}
+use Rattle.std.proofs.Common.{ℕ, ◌+◌, ◌*◌, ◌^◌, ◌<◌, ◌≤◌, List, ◌∷◌, ◌++◌, length, arith, []}
+use Rattle.std.specs.List.{AllByRecursion}
 use Rattle.std.specs.Int.{Width, byte_len, w32}
 use Rattle.std.proofs.lemmas.List.{length-append}
 use Rattle.std.specs.Prelude.{unsigned_abs}
 use lib.IntN.{ℤ, pos, negsuc}
 use mir.Val.{SFits}
 use Rattle.mc_nbt.specs.Numbers.{IsWide, number_spelling}
+use Rattle.mc_nbt.specs.Signed.{signed_fits}
+use Rattle.mc_nbt.specs.Many.{AllFit, all_most}
 use Rattle.mc_fields.specs.Varint.{varint_spelling}
 use Rattle.mc_fields.specs.VarintFormat.{IsChain-some, varint_spelled, varint-fits, five}
 use Rattle.mc_fields.specs.Text.{text_spelling}
@@ -58,6 +61,25 @@ spelling_payload entry fits few =
     let all = length-append (varint_spelling (pos entry.row.id))
     (entry.row.format.spelling entry.fields) in
     record { some = omega (arith, id.0, all); counted = omega (arith, id.1, all, few) }
+
+-- ---- with the bounds of formats
+
+-- by which the fields of a packet have a spelling
+pub ruleset fields = (arith, signed_fits, varint-fits)
+
+-- what holds of each of a list, for the format of the list
+pub all_fit : {A : Type 0} (P fits : A → Type 0) → ((a : A) → P a → fits a) → (xs : List A) →
+    AllByRecursion P xs → AllFit fits xs
+all_fit P fits each [] a = tt
+all_fit P fits each (x ∷ xs) a = (each x a.0, all_fit P fits each xs a.1)
+
+-- where none has a greater bound, the bound of a list is that of as many of them
+pub all_few : {A : Type 0} (P : A → Type 0) (most : A → ℕ) (each : ℕ) →
+    ((a : A) → P a → most a ≤ each) → (xs : List A) → AllByRecursion P xs →
+    all_most most xs ≤ length xs * each
+all_few P most each le [] a = omega arith
+all_few P most each le (x ∷ xs) a =
+    omega (arith, le x a.0, all_few P most each le xs a.1)
 
 -- numbers of 31 bits and a sign
 pub number_fits : (z : ℤ) → unsigned_abs z < 2 ^ 31 → SFits w32 z

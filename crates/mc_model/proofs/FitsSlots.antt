@@ -1,40 +1,34 @@
 -- The packets of slots fit: a slot of a window, and a window with all its slots.
-use Rattle.std.proofs.Common.{ℕ, suc, ◌*◌, ◌≤◌, List, [], ◌∷◌, ◌++◌, map}
-use Rattle.std.proofs.Common.{length, refl, lit<, arith}
+use Rattle.std.proofs.Common.{ℕ, suc, ◌≤◌, List, ◌∷◌, ◌++◌, map, length, lit<, arith, []}
 use Rattle.std.specs.Prelude.{replicate}
-use Rattle.std.specs.Int.{w8, w16, cast_unsigned}
+use Rattle.std.specs.Int.{w8, w16}
 use Rattle.std.specs.List.{AllByRecursion}
-use Rattle.std.proofs.lemmas.List.{length-append, length-map}
+use Rattle.std.proofs.lemmas.List.{length-map}
 use Rattle.std.proofs.lemmas.Int.{ints}
 use lib.IntN.{ℤ, pos, negsuc}
 use lib.Signed.{◌≤ℤ◌}
 use mir.Val.{SFits}
-use Rattle.mc_nbt.specs.Signed.{signed_fits}
-use Rattle.mc_nbt.specs.Numbers.{wide_8, wide_16}
-use Rattle.mc_nbt.specs.Many.{AllFit, all_spelling}
 use Rattle.mc_slots.specs.declared.slot.Slot.{Slot}
 use Rattle.mc_slots.specs.declared.slot.Slot.TheVariants as slots
 use Rattle.mc_slots.specs.declared.pile.Pile.{Pile}
 use Rattle.mc_slots.specs.declared.pile.Pile.TheVariants.{Empty, Full}
-use Rattle.mc_slots.specs.Slot.{FitsSlot, slot_spelling}
+use Rattle.mc_slots.specs.Slot.{FitsSlot, slot_most}
 use Rattle.mc_slots.specs.Pile.{IsPile, slot_of}
 use Rattle.mc_slots.specs.Chest.{pile_at}
 use Rattle.mc_windows.specs.Pack.{PackValue, IsPack}
 use Rattle.mc_down.specs.declared.down.Down.TheVariants.{SetSlot, WindowItems}
-use Rattle.mc_down.specs.Down.{FitsDown, entry_of}
 use Rattle.mc_model.specs.Packets.{of_play, for_play}
 use Rattle.mc_model.specs.Step.{window_packets}
-use Rattle.mc_model.proofs.Decodes.{IsClear}
-use Rattle.mc_model.proofs.FitsSize.{AtMost, few_bytes, at_most_joined, at_most_less, number_size}
-use Rattle.mc_model.proofs.FitsSize.{spelling_payload}
+use Rattle.mc_model.proofs.Decodes.{IsClear, play_clear}
+use Rattle.mc_model.proofs.FitsSize.{fields, all_fit, all_few}
 use Rattle.mc_model.proofs.FitsList.{AreClear}
 
 -- ---- a slot
 
--- a slot that has a spelling of not too many bytes
+-- a slot that has a spelling, and none of too many bytes
 pub record SlotFits (item : Slot) : Type 0 where
   pub fits : FitsSlot item
-  pub few : AtMost 6 (slot_spelling item)
+  pub few : slot_most item ≤ 6
 
 -- numbers of a pile fit their fields
 byte_fits : (n : ℕ) → n ≤ 64 → SFits w8 (pos n)
@@ -59,15 +53,9 @@ pile_fits (Full item) is = (
 )
 
 -- of six bytes at most
-pub pile_few : (pile : Pile) → AtMost 6 (slot_spelling (slot_of pile))
-unfolding slot_spelling
-pile_few Empty = at_most_less 2 6 _ (omega arith)
-    (at_most_joined 2 0 _ [] (number_size w16 wide_16 (cast_unsigned w16 (negsuc 0))) (omega arith))
-pile_few (Full item) =
-    at_most_joined 2 4 _ _ (number_size w16 wide_16 (cast_unsigned w16 item.id)) (
-    at_most_joined 1 3 _ _ (number_size w8 wide_8 (cast_unsigned w8 (pos item.count))) (
-    at_most_joined 2 1 _ _ (number_size w16 wide_16 (cast_unsigned w16 item.damage))
-    (number_size w8 wide_8 0)))
+pub pile_few : (pile : Pile) → slot_most (slot_of pile) ≤ 6
+pile_few Empty = omega arith
+pile_few (Full item) = omega arith
 
 -- so it fits
 pub pile_slot_fits : (pile : Pile) → IsPile pile → SlotFits (slot_of pile)
@@ -79,14 +67,7 @@ pile_slot_fits pile is = record { fits = pile_fits pile is; few = pile_few pile 
 pub slot_clear : (window i : ℤ) (item : Slot) → SFits w8 window → SFits w16 i → SlotFits item
     → IsClear for_play (of_play (SetSlot window i item))
 slot_clear window i item at_window at_i f =
-    let fits : FitsDown (SetSlot window i item) =
-    (lit< tt, (signed_fits w8 window at_window, (signed_fits w16 i at_i, f.fits))) in
-    let size : AtMost 9 _ =
-    at_most_joined 1 8 _ _ (number_size w8 wide_8 (cast_unsigned w8 window)) (
-    at_most_joined 2 6 _ _ (number_size w16 wide_16 (cast_unsigned w16 i)) f.few) in (
-      fits,
-      spelling_payload (entry_of (SetSlot window i item)) fits (few_bytes 9 _ (omega arith) size),
-    )
+    play_clear (SetSlot window i item) (search (fields, f.fits)) (omega (arith, f.few))
 
 -- and of that of a pile
 pub set_slot_clear : (window i : ℤ) (pile : Pile) → SFits w8 window → SFits w16 i → IsPile pile
@@ -96,48 +77,14 @@ set_slot_clear window i pile at_window at_i is =
 
 -- ---- all slots of a window
 
--- all of them have a spelling
-slots_fit : (items : List Slot) → AllByRecursion SlotFits items → AllFit FitsSlot items
-slots_fit [] f = tt
-slots_fit (item ∷ items) f = (f.0.fits, slots_fit items f.1)
-
--- of six bytes each at most
-slots_few : (items : List Slot) → AllByRecursion SlotFits items
-    → AtMost (length items * 6) (all_spelling slot_spelling items)
-slots_few [] f = omega arith
-slots_few (item ∷ items) f =
-    let here = f.0.few in
-    let later = slots_few items f.1 in
-    omega (
-      arith,
-      here,
-      later,
-      length-append (slot_spelling item) (all_spelling slot_spelling items),
-    )
-
 -- a window of not too many slots
 pub items_clear : (items : List Slot) → length items ≤ 100 → AllByRecursion SlotFits items
     → IsClear for_play (of_play (WindowItems 0 items))
 items_clear items few f =
     let counted : SFits w16 (pos (length items)) = record { sfits = omega (arith, few) } in
-    let fits : FitsDown (WindowItems 0 items) = (
-      lit< tt,
-      (
-        lit< tt,
-        (
-          tt,
-          ((tt, (signed_fits w16 (pos (length items)) counted, refl)), (refl, slots_fit items f)),
-        ),
-      ),
-    ) in
-    let many : AtMost 600 (all_spelling slot_spelling items) =
-    (let all = slots_few items f in omega (arith, all, few)) in
-    let size : AtMost 603 _ = at_most_joined 1 602 _ _ (number_size w8 wide_8 0)
-    (at_most_joined 2 600 _ _ (number_size w16 wide_16 (cast_unsigned w16 (pos (length items))))
-    many) in (
-      fits,
-      spelling_payload (entry_of (WindowItems 0 items)) fits (few_bytes 603 _ (omega arith) size),
-    )
+    let all = all_fit SlotFits FitsSlot (λ item fits. fits.fits) items f in
+    let le = all_few SlotFits slot_most 6 (λ item fits. fits.few) items f in
+    play_clear (WindowItems 0 items) (search (fields, all)) (omega (arith, few, le))
 
 -- ---- the window of a pack
 

@@ -1,9 +1,8 @@
 -- Which texts that are handed out fit: all are ASCII and short.
-use Rattle.std.proofs.Common.{◌≡◌, ℕ, zero, suc, ◌+◌, ◌-◌, ◌/◌, ◌%◌, ◌^◌, ◌<◌, ◌≤◌, Bool, true}
-use Rattle.std.proofs.Common.{false, cond, List, [], ◌∷◌, ◌++◌, length, refl, sym, subst, arith}
-use Rattle.std.proofs.Common.{eqb-true, ltb-true, lt-ltb, inl, inr}
-use Rattle.std.specs.Prelude.{nat_lt, nat_le, ◌==◌, ◌&&◌, ◌||◌, ◌⊎◌, slice_index, codes, decimal}
-use Rattle.std.specs.Prelude.{Option, Some, None}
+use Rattle.std.proofs.Common.{◌≡◌, ℕ, zero, suc, ◌+◌, ◌-◌, ◌^◌, ◌<◌, ◌≤◌, Bool, true, false, cond}
+use Rattle.std.proofs.Common.{List, [], ◌∷◌, ◌++◌, length, refl, sym, subst, arith, ltb-true}
+use Rattle.std.proofs.Common.{lt-ltb, inl, inr}
+use Rattle.std.specs.Prelude.{nat_lt, nat_le, ◌&&◌, ◌||◌, ◌⊎◌, codes, decimal, Option, Some, None}
 use Rattle.std.specs.List.{list_all}
 use Rattle.std.specs.Int.{to_be_bytes, w128}
 use Rattle.std.specs.Str.{IsAscii}
@@ -21,6 +20,7 @@ use Rattle.mc_model.specs.declared.cause.Refusal.TheVariants.{Version, Name, Tak
 use Rattle.mc_model.specs.declared.cause.Cause.{Cause}
 use Rattle.mc_model.specs.declared.cause.Cause.TheVariants.{Frame, Packet, BadNumber, Silent}
 use Rattle.mc_model.specs.Texts.{chat_json, status_json, refusal_text, farewell_text}
+use Rattle.std.proofs.lemmas.Bool.Decides.{nat_tests}
 
 -- ASCII, and so many bytes at most
 pub record IsShort (most : ℕ) (text : List ℕ) : Type 0 where
@@ -183,28 +183,16 @@ by_index_short (suc n) f low =
 
 -- a hex digit is low
 hex_low : (d : ℕ) → d < 16 → hex_digit lower d < 128
-hex_low d small = step (nat_lt d 10) refl
-  where
-    step : (t : Bool) → nat_lt d 10 ≡ t → cond t (48 + d) (97 + d - 10) < 128
-    step true t = omega (arith, small)
-    step false t = omega (arith, small)
+hex_low d small = grind (arith, nat_tests)
 
 -- half a byte is below 16
 nibble_low : (xs : List ℕ) (k : ℕ) → nibble xs k < 16
-nibble_low xs k = step (k % 2 == 0)
-  where
-    step : (t : Bool) → cond t (slice_index xs (k / 2) / 16 % 16) (slice_index xs (k / 2) % 16) < 16
-    step true = omega arith
-    step false = omega arith
+nibble_low xs k = grind (arith, nat_tests)
 
 -- so each place of an identifier has a low byte
 place_low : (xs : List ℕ) (k : ℕ) → cond (is_hyphen_place k) hyphen
     (hex_digit lower (nibble xs (digit_place k))) < 128
-place_low xs k = step (is_hyphen_place k)
-  where
-    step : (t : Bool) → cond t 45 (hex_digit lower (nibble xs (digit_place k))) < 128
-    step true = omega arith
-    step false = hex_low (nibble xs (digit_place k)) (nibble_low xs (digit_place k))
+place_low xs k = grind (arith, nat_tests, hex_low, nibble_low)
 
 -- an identifier is short
 pub uuid_short : (uuid : ℕ) → IsShort 36 (uuid_text uuid)
@@ -225,18 +213,7 @@ between_low low high n small t = let le =
 
 -- a byte of a name is low
 name_byte_low : (b : ℕ) → is_name_byte b ≡ true → b < 128
-name_byte_low b t = elim (either (is_between 48 57 b || is_between 65 90 b || is_between 97 122 b)
-    (b == 95) t) [
-      | inr last ↦ (let is = eqb-true b 95 last in omega (arith, is))
-      | inl some ↦
-          elim (either (is_between 48 57 b || is_between 65 90 b) (is_between 97 122 b) some) [
-            | inr small ↦ between_low 97 122 b (omega arith) small
-            | inl some ↦ elim (either (is_between 48 57 b) (is_between 65 90 b) some) [
-              | inl digit ↦ between_low 48 57 b (omega arith) digit
-              | inr large ↦ between_low 65 90 b (omega arith) large
-            ]
-          ]
-    ]
+name_byte_low b t = grind (arith, nat_tests)
 
 -- so a name is ASCII
 name_low : (text : List ℕ) → list_all is_name_byte text ≡ true → IsAscii text

@@ -10,14 +10,11 @@ use Rattle.mc_nbt.specs.Reading.{IsBytes}
 use Rattle.mc_nbt.specs.SixteenLaws.{wide_128}
 use Rattle.mc_model.specs.Names.{offline_uuid}
 use Rattle.mc_model.proofs.FitsBytes.{bytes_joined}
+use Rattle.std.proofs.lemmas.Bool.Decides.{nat_tests}
 
 -- a number of 32 bits is written as bytes
 word_bytes : (n : ℕ) → IsBytes (to_le_bytes w32 n)
-word_bytes n zero = omega arith
-word_bytes n (suc zero) = omega arith
-word_bytes n (suc (suc zero)) = omega arith
-word_bytes n (suc (suc (suc zero))) = omega arith
-word_bytes n (suc (suc (suc (suc i)))) = omega arith
+word_bytes n i = grind (arith, nat_tests)
 
 -- nothing is bytes
 no_bytes : IsBytes []

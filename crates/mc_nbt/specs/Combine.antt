@@ -1,16 +1,17 @@
 -- Formats made of formats: each is its definitions beside the laws of these.
-use Rattle.std.specs.Prelude.{◌≡◌, ℕ, Bool, true, List, [], ◌++◌, refl}
+use Rattle.std.specs.Prelude.{◌≡◌, ℕ, ◌+◌, Bool, true, List, [], ◌++◌, refl}
 use Rattle.mc_nbt.specs.declared.fault.Kind.{Kind}
 use Rattle.mc_nbt.specs.Format.{Format, Anything, Nothing}
 use Rattle.mc_nbt.specs.CombineBytes.{Sequence, sequence_read, sequence_append, tested_read}
 use Rattle.mc_nbt.specs.CombineBytes.{tested_spells, view_spells, view_read, none_spells, none_read}
 use Rattle.mc_nbt.specs.CombineLaws.{sequence_found, sequence_only, sequence_fit, sequence_spelled}
-use Rattle.mc_nbt.specs.CombineLaws.{sequence_appended, tested_found, tested_only, IsView}
-use Rattle.mc_nbt.specs.CombineLaws.{view_found, view_only, none_found, none_only, none_appended}
+use Rattle.mc_nbt.specs.CombineLaws.{sequence_appended, sequence_bounded, tested_found, tested_only}
+use Rattle.mc_nbt.specs.CombineLaws.{IsView, view_found, view_only, none_found, none_only}
+use Rattle.mc_nbt.specs.CombineLaws.{none_appended, none_bounded}
 pub use Rattle.mc_nbt.specs.CombineBytes.{Sequence, tested_read, tested_spells, view_spells}
 pub use Rattle.mc_nbt.specs.CombineBytes.{view_read}
 pub use Rattle.mc_nbt.specs.CombineLaws.{IsView, bind_ok, ok_is, passed, Found-is, joined}
-pub use Rattle.mc_nbt.specs.CombineLaws.{checked_ok}
+pub use Rattle.mc_nbt.specs.CombineLaws.{joined_length, checked_ok}
 
 -- ---- one after another; how the second is spelled may depend on the first value
 
@@ -23,6 +24,7 @@ abbrev pub ◌then◌ : {Rest : List ℕ → Type 0} {A B : Type 0} → Format A
   fits = λ v. f.fits v.0 × (g v.0).fits v.1;
   spelling = λ v. f.spelling v.0 ++ (g v.0).spelling v.1;
   append = sequence_append f.append (λ a. (g a).append);
+  most = λ v. f.most v.0 + (g v.0).most v.1;
   found = sequence_found f.spells f.read (λ a. (g a).spells) (λ a. (g a).read) f.found
       (λ a. (g a).found);
   only = sequence_only Rest f.spells f.read (λ a. (g a).spells) (λ a. (g a).read) f.only
@@ -32,6 +34,8 @@ abbrev pub ◌then◌ : {Rest : List ℕ → Type 0} {A B : Type 0} → Format A
       (λ a. (g a).spelling) f.spelled (λ a. (g a).spelled);
   appended = sequence_appended f.spelling f.append (λ a. (g a).spelling) (λ a. (g a).append)
       f.appended (λ a. (g a).appended);
+  bounded = sequence_bounded f.spells f.most (λ a. (g a).spells) (λ a. (g a).most) f.bounded
+      (λ a. (g a).bounded);
 }
 
 -- ---- a value that passes a test, or else a fault at its place
@@ -44,11 +48,13 @@ tested {Rest} {A} f test kind = record {
   fits = λ a. f.fits a × (test a ≡ true);
   spelling = f.spelling;
   append = f.append;
+  most = f.most;
   found = tested_found f.spells f.read test kind f.found;
   only = tested_only Rest f.spells f.read test kind f.only;
   fit = λ a bytes s. (f.fit a bytes s.0, s.1);
   spelled = λ a fits. (f.spelled a fits.0, fits.1);
   appended = f.appended;
+  bounded = λ a bytes s. f.bounded a bytes s.0;
 }
 
 -- ---- bytes of one value, seen as another
@@ -61,11 +67,13 @@ via {Rest} {A} {B} f Fits make back view = record {
   fits = λ b. Fits b × f.fits (back b);
   spelling = λ b. f.spelling (back b);
   append = λ b out. f.append (back b) out;
+  most = λ b. f.most (back b);
   found = view_found f.spells f.read f.fits Fits make back view f.fit f.found;
   only = view_only Rest f.spells f.read f.fits Fits make back view f.only;
   fit = λ b bytes s. (s.0, f.fit (back b) bytes s.1);
   spelled = λ b fits. (fits.0, f.spelled (back b) fits.1);
   appended = λ b out. f.appended (back b) out;
+  bounded = λ b bytes s. f.bounded (back b) bytes s.1;
 }
 
 -- ---- the last field of a frame: nothing may follow it
@@ -77,11 +85,13 @@ last {A} f = record {
   fits = f.fits;
   spelling = f.spelling;
   append = f.append;
+  most = f.most;
   found = f.found;
   only = λ a front rest ends s. f.only a front rest tt s;
   fit = f.fit;
   spelled = f.spelled;
   appended = f.appended;
+  bounded = f.bounded;
 }
 
 -- ---- no field at all
@@ -93,9 +103,11 @@ none {Rest} = record {
   fits = λ value. Unit {0};
   spelling = λ value. [];
   append = λ value out. out;
+  most = λ value. 0;
   found = none_found;
   only = none_only Rest;
   fit = λ value bytes s. tt;
   spelled = λ value fits. refl;
   appended = none_appended;
+  bounded = none_bounded;
 }

@@ -1,12 +1,13 @@
 -- Laws of formats made of formats: what holds of the parts holds of the whole.
-use Rattle.std.specs.Prelude.{◌≡◌, ℕ, Bool, true, false, List, [], ◌++◌, Result, Ok, Err, refl}
-use Rattle.std.specs.Prelude.{if◌then◌else◌}
-use Rattle.std.proofs.Common.{sym, subst, ap, ◌∙◌, append_assoc}
-use Rattle.std.proofs.lemmas.List.{append-nil}
+use Rattle.std.specs.Prelude.{◌≡◌, ℕ, ◌+◌, ◌≤◌, Bool, true, false, List, [], ◌++◌, length, Result}
+use Rattle.std.specs.Prelude.{Ok, Err, refl, if◌then◌else◌}
+use Rattle.std.proofs.Common.{sym, subst, ap, ◌∙◌, append_assoc, arith}
+use Rattle.std.proofs.lemmas.List.{append-nil, length-append}
 use Rattle.mc_nbt.specs.declared.fault.Kind.{Kind}
 use Rattle.mc_nbt.specs.declared.fault.Stop.{Stop}
 use Rattle.mc_nbt.specs.Reading.{Field, IsBytes, ◌>>=◌, stop_at}
-use Rattle.mc_nbt.specs.Format.{Format, Found, IsFound, IsOnly, IsAppended, Anything, Nothing}
+use Rattle.mc_nbt.specs.Format.{Format, Found, IsFound, IsOnly, IsAppended, IsBounded, Anything}
+use Rattle.mc_nbt.specs.Format.{Nothing}
 use Rattle.mc_nbt.specs.CombineBytes.{Sequence, sequence_read, sequence_append, tested_read}
 use Rattle.mc_nbt.specs.CombineBytes.{tested_spells, view_spells, view_read, none_spells, none_read}
 
@@ -107,6 +108,21 @@ sequence_appended fw fa gw ga first second v out =
     second v.0 v.1 (fa v.0 out) ∙ ap (λ (t : List ℕ). t ++ gw v.0 v.1) (first v.0 out) ∙
     append_assoc out (fw v.0) (gw v.0 v.1)
 
+-- two lists, one behind the other, are as long as both
+pub joined_length : (bytes front back : List ℕ) (a b : ℕ) → bytes ≡ front ++ back
+    → length front ≤ a → length back ≤ b → length bytes ≤ a + b
+joined_length bytes front back a b parts first second =
+    let all : length bytes ≡ length front + length back = ap length parts ∙
+    length-append front back in
+    omega (arith, all, first, second)
+
+pub sequence_bounded : {A B : Type 0} (fs : A → List ℕ → Type 0) (fm : A → ℕ) (gs : A → B → List ℕ
+    → Type 0) (gm : A → B → ℕ) → IsBounded fs fm → ((a : A) → IsBounded (gs a) (gm a))
+    → (v : A × B) (bytes : List ℕ) → Sequence fs gs v bytes → length bytes ≤ fm v.0 + gm v.0 v.1
+sequence_bounded fs fm gs gm first second v bytes s =
+    joined_length bytes s.front s.back (fm v.0) (gm v.0 v.1) s.parts
+    (first v.0 s.front s.first_spelled) (second v.0 v.1 s.back s.second_spelled)
+
 -- ---- a value that passes a test, or else a fault at its place
 
 pub checked_ok : {A E : Type 0} (b : Bool) (x y : A) (d : E) → (if b then Ok x else Err d) ≡ Ok y
@@ -184,6 +200,9 @@ none_only Rest value front rest ends s = rw s refl
 
 pub none_appended : (value : Unit {0}) (out : List ℕ) → out ≡ out ++ []
 none_appended value out = sym (append-nil out)
+
+pub none_bounded : IsBounded none_spells (λ value. 0)
+none_bounded value bytes s = rw s (omega arith)
 
 -- ---- all of some bytes
 

@@ -1,6 +1,6 @@
 -- A format: which bytes spell a value, what reading gives, what writing appends, and the laws that
 -- tie the three (a form of this project).
-use Rattle.std.specs.Prelude.{◌≡◌, ℕ, List, [], ◌++◌, Ok}
+use Rattle.std.specs.Prelude.{◌≡◌, ℕ, ◌≤◌, List, [], ◌++◌, length, Ok}
 use Rattle.mc_nbt.specs.Reading.{Field, IsBytes}
 
 -- what may follow a value: anything, where its spelling says where it ends
@@ -34,6 +34,10 @@ IsOnly {A} Rest spells read =
 abbrev pub IsAppended : {A : Type 0} → (A → List ℕ) → (A → List ℕ → List ℕ) → Type 0
 IsAppended {A} spelling append = (a : A) (out : List ℕ) → append a out ≡ out ++ spelling a
 
+-- no spelling of a value has more bytes than this says of it
+abbrev pub IsBounded : {A : Type 0} → (A → List ℕ → Type 0) → (A → ℕ) → Type 0
+IsBounded {A} spells most = (a : A) (bytes : List ℕ) → spells a bytes → length bytes ≤ most a
+
 -- The format of a value of type A, which Rest may follow
 pub record Format (Rest : List ℕ → Type 0) (A : Type 0) : Type 1 where
   -- these bytes spell the value
@@ -46,8 +50,11 @@ pub record Format (Rest : List ℕ → Type 0) (A : Type 0) : Type 1 where
   pub spelling : A → List ℕ
   -- the bytes with it at their end, put there field by field
   pub append : A → List ℕ → List ℕ
+  -- how many bytes a spelling of the value has at most
+  pub most : A → ℕ
   pub found : IsFound spells read
   pub only : IsOnly Rest spells read
   pub fit : (a : A) (bytes : List ℕ) → spells a bytes → fits a
   pub spelled : (a : A) → fits a → spells a (spelling a)
   pub appended : IsAppended spelling append
+  pub bounded : IsBounded spells most

@@ -21,6 +21,7 @@ pub mod Numbers
 pub mod SixteenLaws
 pub mod Placed
 pub mod PlacedLaws
+pub mod PlacedOne
 pub mod SignedLaws
 pub mod Signed
 pub mod Times

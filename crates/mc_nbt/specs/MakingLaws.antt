@@ -1,8 +1,9 @@
 -- Laws of a value that several others make.
-use Rattle.std.specs.Prelude.{◌≡◌, ℕ, List, Ok, refl}
+use Rattle.std.specs.Prelude.{◌≡◌, ℕ, ◌≤◌, List, Ok, refl}
+use Rattle.std.proofs.Common.{arith}
 use Rattle.mc_nbt.specs.declared.fault.Stop.{Stop}
 use Rattle.mc_nbt.specs.Reading.{Field}
-use Rattle.mc_nbt.specs.Format.{IsFound, IsOnly}
+use Rattle.mc_nbt.specs.Format.{IsFound, IsOnly, IsBounded}
 use Rattle.mc_nbt.specs.CombineLaws.{bind_ok, ok_is, Found-is}
 use Rattle.mc_nbt.specs.CombineBytes.{view_read}
 use Rattle.mc_nbt.specs.MakingBytes.{SpellsMade}
@@ -37,3 +38,15 @@ pub made_fit : {A B : Type 0} (spells : A → List ℕ → Type 0) (fits : A →
     → spells a bytes → fits a) → (b : B) (bytes : List ℕ) → SpellsMade spells make b bytes → Fits b
 made_fit spells fits Fits make made fit b bytes s =
     rw s.makes (made s.source (fit s.source bytes s.spelled))
+
+-- whatever makes a value has no more bytes than is said of the value
+abbrev pub IsMost : {A B : Type 0} → (A → Type 0) → (A → B) → (A → ℕ) → (B → ℕ) → Type 0
+IsMost {A} fits make most Most = (a : A) → fits a → most a ≤ Most (make a)
+
+pub made_bounded : {A B : Type 0} (spells : A → List ℕ → Type 0) (fits : A → Type 0) (make : A → B)
+    (most : A → ℕ) (Most : B → ℕ) → IsMost fits make most Most → ((a : A) (bytes : List ℕ)
+    → spells a bytes → fits a) → IsBounded spells most → IsBounded (SpellsMade spells make) Most
+made_bounded spells fits make most Most is_most fit bounded b bytes s =
+    let few = bounded s.source bytes s.spelled in
+    let more = is_most s.source (fit s.source bytes s.spelled) in
+    rw s.makes (omega (arith, few, more))

@@ -1,5 +1,5 @@
 -- A number of values of one field: what has a spelling, and what is written.
-use Rattle.std.specs.Prelude.{ℕ, List, [], ◌∷◌, ◌++◌}
+use Rattle.std.specs.Prelude.{ℕ, ◌+◌, List, [], ◌∷◌, ◌++◌}
 
 -- each value has a spelling
 abbrev pub AllFit : {A : Type 0} → (A → Type 0) → List A → Type 0
@@ -15,3 +15,8 @@ all_spelling spelling (x ∷ xs) = spelling x ++ all_spelling spelling xs
 unfoldable pub all_append : {A : Type 0} → (A → List ℕ → List ℕ) → List A → List ℕ → List ℕ
 all_append append [] out = out
 all_append append (x ∷ xs) out = all_append append xs (append x out)
+
+-- the bounds of all values, summed
+abbrev pub all_most : {A : Type 0} → (A → ℕ) → List A → ℕ
+all_most most [] = 0
+all_most most (x ∷ xs) = most x + all_most most xs

@@ -1,11 +1,12 @@
 -- Laws of a number of values, one after another.
-use Rattle.std.specs.Prelude.{◌≡◌, ℕ, zero, suc, List, [], ◌∷◌, ◌++◌, length, refl}
+use Rattle.std.specs.Prelude.{◌≡◌, ℕ, zero, suc, ◌≤◌, List, [], ◌∷◌, ◌++◌, length, refl}
 use Rattle.std.proofs.Common.{sym, ap, ◌∙◌, append_assoc, arith}
 use Rattle.std.proofs.lemmas.List.{append-nil}
 use Rattle.mc_nbt.specs.Reading.{Field}
-use Rattle.mc_nbt.specs.Format.{IsOnly, IsAppended, Anything}
+use Rattle.mc_nbt.specs.Format.{IsOnly, IsAppended, IsBounded, Anything}
+use Rattle.mc_nbt.specs.CombineLaws.{joined_length}
 use Rattle.mc_nbt.specs.Times.{AllSpelled, times_at, times_spells}
-use Rattle.mc_nbt.specs.ManyBytes.{AllFit, all_spelling, all_append}
+use Rattle.mc_nbt.specs.ManyBytes.{AllFit, all_spelling, all_append, all_most}
 
 -- each value is spelled by its own part, so all are read
 pub times_only : {A : Type 0} (spells : A → List ℕ → Type 0) (read : List ℕ → Field A)
@@ -57,3 +58,11 @@ all_appended spelling append appended (x ∷ xs) out =
     all_appended spelling append appended xs (append x out)
     ∙ ap (λ (t : List ℕ). t ++ all_spelling spelling xs) (appended x out)
     ∙ append_assoc out (spelling x) (all_spelling spelling xs)
+
+pub all_bounded : {A : Type 0} (spells : A → List ℕ → Type 0) (most : A → ℕ)
+    → IsBounded spells most → (xs : List A) (bytes : List ℕ) → AllSpelled spells xs bytes
+    → length bytes ≤ all_most most xs
+all_bounded spells most bounded [] bytes s = rw s (omega arith)
+all_bounded spells most bounded (x ∷ xs) bytes (first, others, parts, spelled, all) =
+    joined_length bytes first others (most x) (all_most most xs) parts (bounded x first spelled)
+    (all_bounded spells most bounded xs others all)

@@ -13,7 +13,7 @@ use Rattle.std.proofs.lemmas.Nat.{from_be_bytes-to_be_bytes_4, from_be_bytes-to_
 use Rattle.mc_nbt.specs.declared.fault.Kind.TheVariants.{Short}
 use Rattle.mc_nbt.specs.declared.fault.Stop.{Stop}
 use Rattle.mc_nbt.specs.Reading.{IsBytes, stop_at}
-use Rattle.mc_nbt.specs.Format.{IsFound, IsOnly}
+use Rattle.mc_nbt.specs.Format.{IsFound, IsOnly, IsBounded}
 use Rattle.mc_nbt.specs.CombineLaws.{ok_is, passed, Found-is}
 use Rattle.mc_nbt.specs.NumberBytes.{octets_spells, octets_read, number_spelling, number_read}
 use Rattle.mc_nbt.specs.NumberBytes.{number_spells}
@@ -60,6 +60,10 @@ octets_only n Rest value front rest ends s =
     le-ltb _ _ (omega (arith, length-append front rest)) in
     rw (long, take_at front rest n len, drop_at front rest n len, s.0) refl
 
+pub octets_bounded : (n : ℕ) → IsBounded (octets_spells n) (λ value. n)
+octets_bounded n value bytes s = let len : length bytes ≡ n = ap length s.0 ∙ s.1 in
+    omega (arith, len)
+
 -- ---- whole numbers
 
 -- what is known of the bytes of a number, at one width
@@ -104,6 +108,12 @@ number_only w wide Rest n front rest ends s =
           (byte_len w) len,
       wide.again n s.0,
     ) refl
+
+pub number_bounded : (w : Width) → IsWide w → IsBounded (number_spells w) (λ n. byte_len w)
+unfolding number_spelling
+number_bounded w wide n bytes s =
+    let len : length bytes ≡ byte_len w = ap length s.1 ∙ wide.len n in
+    omega (arith, len)
 
 -- what is written of a number is read as it again, whatever follows
 pub number_again : (w : Width) → IsWide w → (n : ℕ) → n < 2 ^ bits w → (rest : List ℕ)

@@ -2,11 +2,12 @@
 -- these.
 use Rattle.std.specs.Prelude.{◌≡◌, ℕ, ◌^◌, ◌<◌, List, ◌++◌, length, refl}
 use mir.Val.{bits}
-use Rattle.std.specs.Int.{Width}
+use Rattle.std.specs.Int.{Width, byte_len}
 use Rattle.mc_nbt.specs.Format.{Format}
 use Rattle.mc_nbt.specs.NumberBytes.{octets_spells, octets_read, number_spelling, number_read}
 use Rattle.mc_nbt.specs.NumberBytes.{number_spells}
-use Rattle.mc_nbt.specs.NumberLaws.{octets_found, octets_only, IsWide, number_found, number_only}
+use Rattle.mc_nbt.specs.NumberLaws.{octets_found, octets_only, octets_bounded, IsWide, number_found}
+use Rattle.mc_nbt.specs.NumberLaws.{number_only, number_bounded}
 unfoldable pub use Rattle.mc_nbt.specs.NumberBytes.{octets_spells, octets_read, number_spelling}
 unfoldable pub use Rattle.mc_nbt.specs.NumberBytes.{number_read, number_spells}
 pub use Rattle.mc_nbt.specs.NumberLaws.{IsBytes-drop, IsBytes-take, IsBytes-after, IsWide, wide_8}
@@ -23,11 +24,13 @@ octets {Rest} n = record {
   fits = λ value. length value ≡ n;
   spelling = λ value. value;
   append = λ value out. out ++ value;
+  most = λ value. n;
   found = octets_found n;
   only = octets_only n Rest;
   fit = λ value bytes s. s.1;
   spelled = λ value fits. (refl, fits);
   appended = λ value out. refl;
+  bounded = octets_bounded n;
 }
 
 -- ---- whole numbers
@@ -40,9 +43,11 @@ number {Rest} w wide = record {
   fits = λ n. n < 2 ^ bits w;
   spelling = number_spelling w;
   append = λ n out. out ++ number_spelling w n;
+  most = λ n. byte_len w;
   found = number_found w wide;
   only = number_only w wide Rest;
   fit = λ n bytes s. s.0;
   spelled = λ n fits. (fits, refl);
   appended = λ n out. refl;
+  bounded = number_bounded w wide;
 }

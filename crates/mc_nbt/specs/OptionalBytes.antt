@@ -32,3 +32,7 @@ when_spelling spelling None = []
 abbrev pub when_append : {A : Type 0} → (A → List ℕ → List ℕ) → Option A → List ℕ → List ℕ
 when_append append (Some a) out = append a out
 when_append append None out = out
+
+abbrev pub when_most : {A : Type 0} → (A → ℕ) → Option A → ℕ
+when_most most (Some a) = most a
+when_most most None = 0

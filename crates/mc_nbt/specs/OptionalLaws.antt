@@ -1,13 +1,13 @@
 -- Laws of a value that is there where a field before it says so.
 use Rattle.std.specs.Prelude.{ℕ, Bool, true, false, List, [], Option, Some, None, Ok, refl}
-use Rattle.std.proofs.Common.{sym}
+use Rattle.std.proofs.Common.{sym, arith}
 use Rattle.std.proofs.lemmas.List.{append-nil}
 use Rattle.mc_nbt.specs.declared.fault.Stop.{Stop}
 use Rattle.mc_nbt.specs.Reading.{Field}
-use Rattle.mc_nbt.specs.Format.{IsFound, IsOnly, IsAppended}
+use Rattle.mc_nbt.specs.Format.{IsFound, IsOnly, IsAppended, IsBounded}
 use Rattle.mc_nbt.specs.CombineLaws.{bind_ok, ok_is, Found-is}
 use Rattle.mc_nbt.specs.OptionalBytes.{when_spells, when_fits, when_read, when_spelling}
-use Rattle.mc_nbt.specs.OptionalBytes.{when_append}
+use Rattle.mc_nbt.specs.OptionalBytes.{when_append, when_most}
 
 pub when_found : {A : Type 0} (there : Bool) (spells : A → List ℕ → Type 0) (read : List ℕ
     → Field A) → IsFound spells read → IsFound (when_spells there spells) (when_read there read)
@@ -49,3 +49,10 @@ pub when_appended : {A : Type 0} (spelling : A → List ℕ) (append : A → Lis
     → IsAppended spelling append → IsAppended (when_spelling spelling) (when_append append)
 when_appended spelling append appended (Some a) out = appended a out
 when_appended spelling append appended None out = sym (append-nil out)
+
+pub when_bounded : {A : Type 0} (there : Bool) (spells : A → List ℕ → Type 0) (most : A → ℕ)
+    → IsBounded spells most → IsBounded (when_spells there spells) (when_most most)
+when_bounded true spells most bounded (Some a) bytes s = bounded a bytes s
+when_bounded true spells most bounded None bytes s = absurd s
+when_bounded false spells most bounded (Some a) bytes s = absurd s
+when_bounded false spells most bounded None bytes s = rw s (omega arith)

@@ -1,8 +1,8 @@
 -- The format of all bytes that are left: the last field of a frame.
-use Rattle.std.specs.Prelude.{ℕ, List, ◌++◌, refl}
+use Rattle.std.specs.Prelude.{ℕ, List, ◌++◌, length, refl}
 use Rattle.mc_nbt.specs.Format.{Format, Nothing}
 use Rattle.mc_nbt.specs.RestBytes.{rest_spells, rest_read}
-use Rattle.mc_nbt.specs.RestLaws.{rest_found, rest_only}
+use Rattle.mc_nbt.specs.RestLaws.{rest_found, rest_only, rest_bounded}
 
 abbrev pub rest : Format Nothing (List ℕ)
 rest = record {
@@ -11,9 +11,11 @@ rest = record {
   fits = λ value. Unit {0};
   spelling = λ value. value;
   append = λ value out. out ++ value;
+  most = length;
   found = rest_found;
   only = rest_only;
   fit = λ value bytes s. tt;
   spelled = λ value fits. refl;
   appended = λ value out. refl;
+  bounded = rest_bounded;
 }

@@ -1,10 +1,10 @@
 -- Laws of all bytes that are left.
-use Rattle.std.specs.Prelude.{ℕ, List, [], Ok, refl}
+use Rattle.std.specs.Prelude.{ℕ, List, [], length, Ok, refl}
 use Rattle.std.proofs.Common.{sym, ap, arith}
 use Rattle.std.proofs.lemmas.List.{append-nil}
 use Rattle.mc_nbt.specs.declared.fault.Stop.{Stop}
 use Rattle.mc_nbt.specs.Reading.{IsBytes}
-use Rattle.mc_nbt.specs.Format.{IsFound, IsOnly, Nothing}
+use Rattle.mc_nbt.specs.Format.{IsFound, IsOnly, IsBounded, Nothing}
 use Rattle.mc_nbt.specs.CombineLaws.{ok_is, Found-is}
 use Rattle.mc_nbt.specs.RestBytes.{rest_spells, rest_read}
 
@@ -23,3 +23,6 @@ rest_found bytes x fits e =
 pub rest_only : IsOnly Nothing rest_spells rest_read
 rest_only value front rest ends s =
     rw (ends, s) (ap (λ (t : List ℕ). Ok (t, [])) (append-nil value))
+
+pub rest_bounded : IsBounded rest_spells length
+rest_bounded value bytes s = rw s (omega arith)

@@ -5,11 +5,11 @@ use Rattle.mc_nbt.specs.Times.{SpelledUntil}
 use Rattle.mc_nbt.specs.TimesLaws.{until_found}
 use Rattle.mc_nbt.specs.ManyBytes.{AllFit}
 use Rattle.mc_nbt.specs.UntilBytes.{headed_read, headed_spells, IsHead, until_read, headed_fits}
-use Rattle.mc_nbt.specs.UntilBytes.{until_spelling, until_append}
+use Rattle.mc_nbt.specs.UntilBytes.{until_spelling, until_append, until_most}
 use Rattle.mc_nbt.specs.UntilLaws.{headed_found, headed_only, until_enough, until_only, until_fit}
-use Rattle.mc_nbt.specs.UntilLaws.{until_spelled, until_appended}
+use Rattle.mc_nbt.specs.UntilLaws.{until_spelled, until_appended, until_bounded}
 unfoldable pub use Rattle.mc_nbt.specs.UntilBytes.{headed_read, headed_spells, IsHead, headed_fits}
-unfoldable pub use Rattle.mc_nbt.specs.UntilBytes.{until_append}
+unfoldable pub use Rattle.mc_nbt.specs.UntilBytes.{until_append, until_most}
 pub use Rattle.mc_nbt.specs.UntilBytes.{Headed}
 pub use Rattle.mc_nbt.specs.UntilLaws.{headed_shorter}
 
@@ -25,6 +25,7 @@ until {Rest} {A} end small head_of body is_head = record {
   fits = AllFit (headed_fits end head_of (λ head. (body head).fits));
   spelling = until_spelling end head_of (λ head. (body head).spelling);
   append = until_append end head_of (λ head. (body head).append);
+  most = until_most head_of (λ head. (body head).most);
   found = λ bytes. until_found (headed_spells end head_of (λ head. (body head).spells))
       (headed_read end (λ head. (body head).read)) (headed_found end head_of
       (λ head. (body head).spells) (λ head. (body head).read) (λ head. (body head).found) is_head)
@@ -40,4 +41,6 @@ until {Rest} {A} end small head_of body is_head = record {
       (λ head. (body head).spelling) (λ head. (body head).spelled);
   appended = until_appended end head_of (λ head. (body head).spelling) (λ head. (body head).append)
       (λ head. (body head).appended);
+  bounded = until_bounded end head_of (λ head. (body head).spells) (λ head. (body head).most)
+      (λ head. (body head).bounded);
 }

@@ -1,7 +1,7 @@
 -- Values until an end byte: each has a byte before it, which is not that of the end and says how
 -- the rest is spelled.
-use Rattle.std.specs.Prelude.{◌≡◌, ◌≢◌, ℕ, suc, ◌<◌, ◌==◌, List, [], ◌∷◌, ◌++◌, length, Option}
-use Rattle.std.specs.Prelude.{Some, None, Ok, if◌then◌else◌}
+use Rattle.std.specs.Prelude.{◌≡◌, ◌≢◌, ℕ, suc, ◌+◌, ◌<◌, ◌==◌, List, [], ◌∷◌, ◌++◌, length}
+use Rattle.std.specs.Prelude.{Option, Some, None, Ok, if◌then◌else◌}
 use Rattle.std.specs.Int.{w8}
 use Rattle.mc_nbt.specs.Reading.{Field, ◌>>=◌}
 use Rattle.mc_nbt.specs.OptionalBytes.{some_read}
@@ -57,3 +57,8 @@ until_append end head_of append [] out = out ++ number_spelling w8 end
 until_append end head_of append (x ∷ xs) out =
     until_append end head_of append xs
     (append (head_of x) x (out ++ number_spelling w8 (head_of x)))
+
+-- a byte and the bound of each value, and a byte for the end
+abbrev pub until_most : {A : Type 0} → (A → ℕ) → (ℕ → A → ℕ) → List A → ℕ
+until_most head_of most [] = 1
+until_most head_of most (x ∷ xs) = 1 + most (head_of x) x + until_most head_of most xs

@@ -8,15 +8,15 @@ use Rattle.std.proofs.lemmas.Bool.{eqb-false}
 use Rattle.std.proofs.lemmas.List.{length-append}
 use Rattle.mc_nbt.specs.declared.fault.Stop.{Stop}
 use Rattle.mc_nbt.specs.Reading.{Field, IsBytes}
-use Rattle.mc_nbt.specs.Format.{Found, IsFound, IsOnly, IsAppended, Anything}
-use Rattle.mc_nbt.specs.CombineLaws.{bind_ok, ok_is, Found-is, joined}
+use Rattle.mc_nbt.specs.Format.{Found, IsFound, IsOnly, IsAppended, IsBounded, Anything}
+use Rattle.mc_nbt.specs.CombineLaws.{bind_ok, ok_is, Found-is, joined, joined_length}
 use Rattle.mc_nbt.specs.OptionalBytes.{some_read}
 use Rattle.mc_nbt.specs.NumberBytes.{number_read, number_spells, number_spelling}
-use Rattle.mc_nbt.specs.NumberLaws.{number_found, number_only, wide_8}
+use Rattle.mc_nbt.specs.NumberLaws.{number_found, number_only, number_bounded, wide_8}
 use Rattle.mc_nbt.specs.Times.{SpelledUntil, until_at}
 use Rattle.mc_nbt.specs.ManyBytes.{AllFit}
 use Rattle.mc_nbt.specs.UntilBytes.{headed_read, Headed, headed_spells, IsHead, headed_fits}
-use Rattle.mc_nbt.specs.UntilBytes.{until_spelling, until_append}
+use Rattle.mc_nbt.specs.UntilBytes.{until_spelling, until_append, until_most}
 
 headed_is : {A : Type 0} (end : ℕ) (head_of : A → ℕ) (spells : ℕ → A → List ℕ
     → Type 0) (head : ℕ) (value : A) (front back : List ℕ) → head_of value ≡ head
@@ -207,3 +207,17 @@ until_appended end head_of spelling append appended (x ∷ xs) out =
     ∙ ap (λ (t : List ℕ). t ++ others) (appended (head_of x) x (out ++ head) ∙
     append_assoc out head back)
     ∙ append_assoc out (head ++ back) others
+
+pub until_bounded : {A : Type 0} (end : ℕ) (head_of : A → ℕ) (spells : ℕ → A → List ℕ
+    → Type 0) (most : ℕ → A → ℕ) → ((head : ℕ) → IsBounded (spells head) (most head))
+    → IsBounded (SpelledUntil (headed_spells end head_of spells)) (until_most head_of most)
+unfolding number_spelling
+until_bounded end head_of spells most bounded [] bytes s =
+    let len : length bytes ≡ 1 = ap length s ∙ wide_8.len end in
+    omega (arith, len)
+until_bounded end head_of spells most bounded (x ∷ xs) bytes (first, others, parts, spelled, all) =
+    joined_length bytes first others (1 + most (head_of x) x) (until_most head_of most xs) parts
+    (joined_length first spelled.front spelled.back 1 (most (head_of x) x) spelled.parts
+    (number_bounded w8 wide_8 (head_of x) spelled.front spelled.head_spelled)
+    (bounded (head_of x) x spelled.back spelled.spelled))
+    (until_bounded end head_of spells most bounded xs others all)

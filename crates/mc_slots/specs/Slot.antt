@@ -1,6 +1,6 @@
 -- Slots on the wire, of the page 'Slot Data' of wiki.vg for protocol 47.
-use Rattle.std.specs.Prelude.{◌≡◌, ℕ, ◌==◌, List, ◌++◌, Option, Some, None, Ok, FitsSigned, ◌≤ℤ◌}
-use Rattle.std.specs.Prelude.{if◌then◌else◌}
+use Rattle.std.specs.Prelude.{◌≡◌, ℕ, ◌+◌, ◌==◌, List, ◌++◌, length, Option, Some, None, Ok}
+use Rattle.std.specs.Prelude.{FitsSigned, ◌≤ℤ◌, if◌then◌else◌}
 use Rattle.std.specs.Int.{w8, w16}
 use lib.IntN.{ℤ, pos, negsuc}
 use Rattle.mc_nbt.specs.Reading.{Field, ◌>>=◌}
@@ -29,6 +29,11 @@ FitsTag (Some tag) = IsNbt tag
 abbrev pub tag_spelling : Option Named → List ℕ
 tag_spelling None = number_spelling w8 0
 tag_spelling (Some tag) = nbt_spelling tag
+
+-- how many bytes a spelling of a tag has at most
+abbrev pub tag_most : Option Named → ℕ
+tag_most None = 1
+tag_most (Some tag) = length (nbt_spelling tag)
 
 abbrev pub compound_read : List ℕ → Field (Option Named)
 compound_read bytes = do
@@ -118,3 +123,8 @@ slot_read = view_read parts_read make
 -- the one that is written
 unfoldable pub slot_spelling : Slot → List ℕ
 slot_spelling slot = parts_spelling (pick slot)
+
+-- how many bytes a spelling of a slot has at most
+abbrev pub slot_most : Slot → ℕ
+slot_most Empty = 2
+slot_most (Full stack) = 5 + tag_most stack.tag

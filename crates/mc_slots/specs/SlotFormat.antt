@@ -2,8 +2,8 @@
 use Rattle.std.specs.Prelude.{ℕ, List, ◌++◌, refl}
 use Rattle.mc_nbt.specs.Format.{Format}
 use Rattle.mc_slots.specs.declared.slot.Slot.{Slot}
-use Rattle.mc_slots.specs.Slot.{FitsSlot, SpellsSlot, slot_read, slot_spelling}
-use Rattle.mc_slots.specs.SlotLaws.{slot_found, slot_only, slot_fit, slot_spelled}
+use Rattle.mc_slots.specs.Slot.{FitsSlot, SpellsSlot, slot_read, slot_spelling, slot_most}
+use Rattle.mc_slots.specs.SlotLaws.{slot_found, slot_only, slot_fit, slot_spelled, slot_bounded}
 
 -- a slot
 abbrev pub slot : {Rest : List ℕ → Type 0} → Format Rest Slot
@@ -13,9 +13,11 @@ slot {Rest} = record {
   fits = FitsSlot;
   spelling = slot_spelling;
   append = λ value out. out ++ slot_spelling value;
+  most = slot_most;
   found = slot_found;
   only = slot_only Rest;
   fit = slot_fit;
   spelled = slot_spelled;
   appended = λ value out. refl;
+  bounded = slot_bounded;
 }

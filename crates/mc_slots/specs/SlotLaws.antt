@@ -6,16 +6,16 @@ use Rattle.std.specs.Int.{w8, w16, cast_unsigned}
 use Rattle.std.proofs.Common.{sym, arith, rules}
 use Rattle.std.proofs.lemmas.Int.{ints}
 use lib.IntN.{ℤ, pos, negsuc}
-use Rattle.mc_nbt.specs.Format.{IsFound, IsOnly, Anything}
+use Rattle.mc_nbt.specs.Format.{IsFound, IsOnly, IsBounded, Anything}
 use Rattle.mc_nbt.specs.OptionalBytes.{when_fits}
-use Rattle.mc_nbt.specs.MakingLaws.{IsMaking, made_found, made_only, made_fit}
+use Rattle.mc_nbt.specs.MakingLaws.{IsMaking, IsMost, made_found, made_only, made_fit, made_bounded}
 use Rattle.mc_nbt.specs.Naturals.{is_natural}
 use Rattle.mc_nbt.specs.SignedLaws.{signed_fits}
 use Rattle.mc_nbt.specs.Nbt.{Named}
 use Rattle.mc_slots.specs.declared.slot.Slot.{Slot}
 use Rattle.mc_slots.specs.declared.slot.Slot.TheVariants.{Empty, Full}
 use Rattle.mc_slots.specs.Slot.{FitsTag, Parts, make, pick, FitsSlot, SpellsParts, parts_read}
-use Rattle.mc_slots.specs.Slot.{SpellsSlot, slot_read, slot_spelling}
+use Rattle.mc_slots.specs.Slot.{SpellsSlot, slot_read, slot_spelling, slot_most}
 use Rattle.mc_slots.specs.SlotParts.{parts}
 
 -- ---- what the parts make
@@ -83,6 +83,16 @@ slot_spelled value fits = record {
   makes = sym (making.same value fits);
   spelled = (parts {Rest = Anything}).spelled (pick value) (making.picked value fits);
 }
+
+is_most : IsMost (parts {Rest = Anything}).fits make (parts {Rest = Anything}).most slot_most
+is_most (id, None) fits = omega arith
+is_most (id, Some (count, (damage, tag))) fits = omega arith
+
+pub slot_bounded : IsBounded SpellsSlot slot_most
+unfolding SpellsSlot
+slot_bounded = made_bounded SpellsParts (parts {Rest = Anything}).fits make
+    (parts {Rest = Anything}).most slot_most is_most (parts {Rest = Anything}).fit
+    (parts {Rest = Anything}).bounded
 
 -- what was written as a slot is read again, whatever follows
 pub slot_again : (value : Slot) → FitsSlot value → (rest : List ℕ) →

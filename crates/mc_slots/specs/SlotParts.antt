@@ -9,8 +9,8 @@ use Rattle.mc_nbt.specs.NumberLaws.{wide_8, wide_16}
 use Rattle.mc_nbt.specs.Naturals.{is_natural}
 use Rattle.mc_nbt.specs.Signed.{signed}
 use Rattle.mc_nbt.specs.Nbt.{Named}
-use Rattle.mc_slots.specs.Slot.{SpellsTag, FitsTag, tag_spelling, tag_read, Parts}
-use Rattle.mc_slots.specs.TagLaws.{tag_found, tag_only, tag_fit, tag_spelled}
+use Rattle.mc_slots.specs.Slot.{SpellsTag, FitsTag, tag_spelling, tag_most, tag_read, Parts}
+use Rattle.mc_slots.specs.TagLaws.{tag_found, tag_only, tag_fit, tag_spelled, tag_bounded}
 
 abbrev pub tag : {Rest : List ℕ → Type 0} → Format Rest (Option Named)
 tag {Rest} = record {
@@ -19,11 +19,13 @@ tag {Rest} = record {
   fits = FitsTag;
   spelling = tag_spelling;
   append = λ value out. out ++ tag_spelling value;
+  most = tag_most;
   found = tag_found;
   only = tag_only Rest;
   fit = tag_fit;
   spelled = tag_spelled;
   appended = λ value out. refl;
+  bounded = tag_bounded;
 }
 
 -- an id, and after one that is not negative a count, a damage and a tag

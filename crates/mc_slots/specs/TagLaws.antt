@@ -5,14 +5,15 @@ use Rattle.std.specs.Int.{w8, w16}
 use Rattle.std.proofs.Common.{subst, ap, ◌∙◌, arith, append_assoc, eqb-true}
 use Rattle.mc_nbt.specs.declared.fault.Stop.{Stop}
 use Rattle.mc_nbt.specs.Reading.{IsBytes}
-use Rattle.mc_nbt.specs.Format.{Found, IsFound, IsOnly, Anything}
+use Rattle.mc_nbt.specs.Format.{Found, IsFound, IsOnly, IsBounded, Anything}
 use Rattle.mc_nbt.specs.CombineLaws.{bind_ok, ok_is, Found-is}
 use Rattle.mc_nbt.specs.NumberBytes.{number_read, number_spelling}
-use Rattle.mc_nbt.specs.NumberLaws.{number_found, number_only, wide_8}
+use Rattle.mc_nbt.specs.NumberLaws.{number_found, number_only, number_bounded, wide_8}
 use Rattle.mc_nbt.specs.Nbt.{Named, nbt_spelling, run_spelling, payload, root_of}
 use Rattle.mc_nbt.specs.NbtReading.{nbt_at}
 use Rattle.mc_nbt.specs.NbtFormat.{nbt}
-use Rattle.mc_slots.specs.Slot.{SpellsTag, FitsTag, tag_spelling, compound_read, tag_read}
+use Rattle.mc_slots.specs.Slot.{SpellsTag, FitsTag, tag_spelling, tag_most, compound_read}
+use Rattle.mc_slots.specs.Slot.{tag_read}
 
 -- what was read of a tag whose first byte is known
 tag_found_by : (bytes : List ℕ) (x : Option Named × List ℕ) (first : ℕ × List ℕ) → IsBytes bytes →
@@ -68,3 +69,7 @@ tag_fit (Some tag) bytes s = s.is_nbt
 pub tag_spelled : (tag : Option Named) → FitsTag tag → SpellsTag tag (tag_spelling tag)
 tag_spelled None fits = refl
 tag_spelled (Some tag) fits = record { is_nbt = fits; bytes_are = refl }
+
+pub tag_bounded : IsBounded SpellsTag tag_most
+tag_bounded None bytes s = number_bounded w8 wide_8 0 bytes (omega arith, s)
+tag_bounded (Some tag) bytes s = (nbt {Rest = Anything}).bounded tag bytes s

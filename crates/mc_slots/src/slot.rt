@@ -138,6 +138,9 @@ pub fn read_slot(alloc: Global, bytes: &[u8], at: usize) -> Result<(Slot, usize)
     // What is spelled there is read, unless memory runs out.
     ensures only { (slot : Slot) (end : ℕ) → SpelledAt (SpellsSlot slot) bytes.now at end →
         PlacedGives (λ read. read) result (Ok (slot, end)) }
+    // From one place on one slot is spelled at most, and it has one end.
+    ensures one { (a b : Slot) (m n : ℕ) → SpelledAt (SpellsSlot a) bytes.now at m →
+        SpelledAt (SpellsSlot b) bytes.now at n → (a ≡ b) × (m ≡ n) }
     // Which fault it is, and where.
     ensures exact { PlacedGives (λ read. read) result
         (placed bytes.now (slot_read (drop at bytes.now))) }

@@ -115,6 +115,9 @@ pub fn read_nbt(alloc: Global, bytes: &[u8], at: usize) -> Result<(Nbt, usize), 
     // What is spelled there is read, unless memory runs out.
     ensures only { (value : Named) (end : ℕ) → SpelledAt (SpellsNbt value) bytes.now at end →
         PlacedGives (λ read. read) result (Ok (value, end)) }
+    // From one place on one compound is spelled at most, and it has one end.
+    ensures one { (a b : Named) (m n : ℕ) → SpelledAt (SpellsNbt a) bytes.now at m →
+        SpelledAt (SpellsNbt b) bytes.now at n → (a ≡ b) × (m ≡ n) }
     // Which fault it is, and where.
     ensures exact { PlacedGives (λ read. read) result
         (placed bytes.now (nbt_at (drop at bytes.now))) }

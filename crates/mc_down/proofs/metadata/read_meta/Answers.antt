@@ -1,8 +1,6 @@
-use Rattle.std.proofs.Common.{sym, ap, ◌∙◌}
-use Rattle.mc_nbt.specs.declared.fault.FieldFault.{FieldFault}
 use Rattle.mc_nbt.specs.Format.{Anything}
-use Rattle.mc_nbt.specs.CombineLaws.{ok_is}
-use Rattle.mc_nbt.specs.PlacedLaws.{PlacedGives-found, PlacedGives-only, placed_only}
+use Rattle.mc_nbt.specs.PlacedLaws.{PlacedGives-found, PlacedGives-only}
+use Rattle.mc_nbt.specs.PlacedOne.{placed_one}
 use Rattle.mc_down.specs.Metadata.{SpellsMeta, meta_read, metadata}
 use Rattle.mc_down.proofs.metadata.read_meta.Goals as goal
 
@@ -17,8 +15,5 @@ returns-clause-only c value end s = PlacedGives-only (λ read. read) SpellsMeta 
     c.meta_from.ensures s
 
 pub returns-clause-one : goal.returns-clause-one
-returns-clause-one c a b m n s t =
-    let only = placed_only SpellsMeta meta_read (metadata {Rest = Anything}).only c.args.bytes.now
-    c.args.at in
-    let same = ok_is FieldFault (a, m) (b, n) (sym (only a m s) ∙ only b n t) in
-    (ap (λ read. read.0) same, ap (λ read. read.1) same)
+returns-clause-one c a b m n s t = placed_one SpellsMeta meta_read (metadata {Rest = Anything}).only
+    c.args.bytes.now c.args.at a b m n s t

@@ -1,5 +1,6 @@
 use Rattle.mc_nbt.specs.Format.{Anything}
 use Rattle.mc_nbt.specs.PlacedLaws.{PlacedGives-found, PlacedGives-only}
+use Rattle.mc_nbt.specs.PlacedOne.{placed_one}
 use Rattle.mc_fields.specs.Text.{SpellsText, text_read}
 use Rattle.mc_fields.specs.TextLaws.{text_found, text_only}
 use Rattle.mc_fields.proofs.text.read_text.Goals as goal
@@ -13,3 +14,7 @@ pub returns-clause-only : goal.returns-clause-only
 returns-clause-only c text end s = PlacedGives-only (λ read. read) (SpellsText c.args.n)
     (text_read c.args.n) (text_only c.args.n Anything) c.args.bytes.now c.args.at c.text_at.result
     text end c.text_at.ensures s
+
+pub returns-clause-one : goal.returns-clause-one
+returns-clause-one c a b m p s t = placed_one (SpellsText c.args.n) (text_read c.args.n)
+    (text_only c.args.n Anything) c.args.bytes.now c.args.at a b m p s t

@@ -1,4 +1,5 @@
 use Rattle.mc_nbt.specs.PlacedLaws.{PlacedGives-found, PlacedGives-only}
+use Rattle.mc_nbt.specs.PlacedOne.{placed_one}
 use Rattle.mc_nbt.specs.Nbt.{SpellsNbt}
 use Rattle.mc_nbt.specs.NbtReading.{nbt_at}
 use Rattle.mc_nbt.specs.NbtAgainLaws.{nbt_only}
@@ -13,3 +14,7 @@ returns-clause-found c = PlacedGives-found (λ read. read) SpellsNbt nbt_at nbt_
 pub returns-clause-only : goal.returns-clause-only
 returns-clause-only c value end s = PlacedGives-only (λ read. read) SpellsNbt nbt_at nbt_only
     c.args.bytes.now c.args.at c.nbt_from.result value end c.nbt_from.ensures s
+
+pub returns-clause-one : goal.returns-clause-one
+returns-clause-one c a b m n s t =
+    placed_one SpellsNbt nbt_at nbt_only c.args.bytes.now c.args.at a b m n s t
