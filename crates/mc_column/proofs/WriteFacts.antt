@@ -2,6 +2,7 @@
 use Rattle.std.proofs.Common.{◌≡◌, ℕ, suc, ◌+◌, ◌*◌, ◌<◌, ◌≤◌, Bool, true, false, cond, List, []}
 use Rattle.std.proofs.Common.{◌++◌, length, take, drop, replicate, Vec, Global, vec_len}
 use Rattle.std.proofs.Common.{vec_capacity, refl, sym, ap, ◌∙◌, arith, inl, inr, append_assoc}
+use Rattle.std.proofs.lemmas.Bool.Decides.{nat_tests}
 use Rattle.std.proofs.lemmas.Bool.{cases_Bool}
 use Rattle.std.proofs.lemmas.List.{append-nil, length-append, drop_all, drop-drop, take-append-drop}
 use Rattle.std.proofs.lemmas.List.{length-replicate}
@@ -30,11 +31,7 @@ pub record IsSky (named : ℕ → Bool) (states light sky : List ℕ) (i : ℕ) 
 
 pub appended_none : (named : ℕ → Bool) (sections : ℕ → List ℕ) (old : Vec ℕ Global) →
     AreAppended named sections old old 0
-appended_none named sections old = record {
-  items = sym (append-nil old.items);
-  room = omega arith;
-  len = omega arith;
-}
+appended_none named sections old = grind (arith, nat_tests, append-nil)
 
 pub appended_more : (named : ℕ → Bool) (sections : ℕ → List ℕ) (old now new : Vec ℕ Global) (i : ℕ)
     → AreAppended named sections old now i → length (sections i) ≡ section_cells →
@@ -88,20 +85,8 @@ sky_sized states = record { at = λ k lt. length-sky_bytes states (k * section_c
 pub sky_none : (named : ℕ → Bool) (states light sky : List ℕ) (i : ℕ) → i ≡ section_count →
     length states ≡ section_count * section_cells → light ≡ replicate row_bytes 255 →
     length sky ≡ rank named section_count * light_bytes → IsSky named states light sky i
-sky_none named states light sky i top len full sized = record {
-  light_is = rw full (length-replicate row_bytes 255);
-  now = full ∙ sym (sky_bytes_past states (i * section_cells) row_bytes
-      (rw top (omega (arith, len))));
-  sky_is = sized;
-  done = rw top (drop_all (rank named section_count * light_bytes) sky (omega (arith, sized)) ∙
-      sym (drop_all (rank named section_count * light_bytes)
-      (joined (picked named (section_sky states)) section_count)
-      (omega (
-        arith,
-        length-joined named (section_sky states) light_bytes section_count
-            (sky_sized states),
-      ))));
-}
+sky_none named states light sky i top len full sized =
+    grind (arith, nat_tests, length-replicate, sky_bytes_past, drop_all, length-joined, sky_sized)
 
 -- a list is its first piece and the rest
 split_at : (xs first : List ℕ) (a n : ℕ) → take n (drop a xs) ≡ first → drop a xs ≡ first ++
