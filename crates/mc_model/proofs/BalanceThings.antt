@@ -5,7 +5,7 @@ use Rattle.std.proofs.Common.{length, refl, sym, ap, ◌∙◌, arith}
 use Rattle.std.specs.Prelude.{Option, Some, None, unsigned_abs, if◌then◌else◌}
 use Rattle.std.specs.List.{AllByRecursion}
 use Rattle.std.specs.Ordering.{int_eq}
-use Rattle.std.proofs.lemmas.Bool.Decides.{Decides-int_eq}
+use Rattle.std.proofs.lemmas.Bool.Decides.{Decides-int_eq, nat_tests}
 use Rattle.std.proofs.lemmas.List.{length-map}
 use lib.IntN.{ℤ, pos}
 use Rattle.mc_fields.specs.declared.position.Cell.{Cell}
@@ -69,12 +69,8 @@ changed_keeps eid f things mild = record {
 -- leaves the balance
 changed_leads : (terrain : Terrain) (eid : ℕ) (f : Entity → Entity) (things : Things) →
     IsMild f → Leads terrain things (with_entity eid f things)
-changed_leads terrain eid f things mild = record {
-  keeps = changed_keeps eid f things mild;
-  even = even_onward terrain things (with_entity eid f things) refl (λ id damage some few low.
-      (let same = entities_changed (sort_of id damage) eid f (mild.lies (sort_of id damage))
-      things.entities in omega (arith, same)));
-}
+changed_leads terrain eid f things mild =
+    grind (arith, nat_tests, changed_keeps, even_onward, entities_changed)
 
 -- one that stands somewhere else
 pub standing_leads : (terrain : Terrain) (eid : ℕ) (spot : Spot) (things : Things) →
@@ -84,17 +80,11 @@ standing_leads terrain eid spot things = changed_leads terrain eid (standing spo
 
 -- a hand that holds another pile makes no other kind
 hand_drops : (pile : Pile) (kind : EntityKind) → is_dropped (hand_of pile kind) ≡ is_dropped kind
-hand_drops pile (kinds.Player uuid held) = refl
-hand_drops pile (kinds.Dropped item born) = refl
-hand_drops pile kinds.Mob = refl
+hand_drops pile kind = grind (arith, nat_tests)
 
 -- one that holds another pile
 holding_mild : (pile : Pile) → IsMild (holding pile)
-holding_mild pile = record {
-  eid = λ e. refl;
-  kind = λ e. hand_drops pile e.kind;
-  lies = λ sort e. hand_lies sort pile e.kind;
-}
+holding_mild pile = grind (arith, nat_tests, hand_drops, hand_lies)
 
 -- and leaves the balance
 pub holding_leads : (terrain : Terrain) (eid : ℕ) (pile : Pile) (things : Things) →
@@ -108,21 +98,8 @@ holding_leads terrain eid pile things =
 without_leads : (terrain : Terrain) (eid : ℕ) (things : Things) →
     AllByRecursion (IsNoItem eid) things.entities →
     Leads terrain things (without_entity eid things)
-without_leads terrain eid things none = record {
-  keeps = record {
-    tidy = λ t. record {
-      given = all_filtered (IsGiven things.eids) _ things.entities t.given;
-      apart = t.apart;
-      packs = t.packs;
-    };
-    known = λ name k. k;
-    given = omega arith;
-    apart = λ n le others. all_filtered (IsNoItem n) _ things.entities others;
-  };
-  even = even_onward terrain things (without_entity eid things) refl (λ id damage some few low.
-      (let same = entities_without (sort_of id damage) eid things.entities none in
-      omega (arith, same)));
-}
+without_leads terrain eid things none =
+    grind (arith, nat_tests, all_filtered, IsGiven, IsNoItem, even_onward, entities_without)
 
 -- that of a player that leaves, if it does
 pub leaving_leads : (terrain : Terrain) (before after_ : Option Player) (things : Things) →
@@ -133,11 +110,7 @@ leaving_leads terrain (Some p) (Some q) things is = leads_same terrain things
 
 -- two numbers that are not equal, as signed ones
 pub other_signed : (m n : ℕ) → m ≢ n → int_eq (pos m) (pos n) ≡ false
-other_signed m n other = elim (int_eq (pos m) (pos n)) as
-    (λ b. int_eq (pos m) (pos n) ≡ b → b ≡ false) [
-      | true ↦ λ t. absurd (other (ap unsigned_abs ((Decides-int_eq (pos m) (pos n)).0 t)))
-      | false ↦ λ f. refl
-    ] refl
+other_signed m n other = grind (arith, nat_tests)
 
 -- one more, which has a number that was not given
 pub new_keeps : (kind : EntityKind) (spot : Spot) (things : Things) →
@@ -167,13 +140,8 @@ new_keeps kind spot things = record {
 -- a player's entity
 player_comes : (terrain : Terrain) (uuid : ℕ) (pile : Pile) (spot : Spot) (things : Things) →
     Leads terrain things (with_new_entity (kinds.Player uuid pile) spot things)
-player_comes terrain uuid pile spot things = record {
-  keeps = new_keeps (kinds.Player uuid pile) spot things;
-  even = even_onward terrain things (with_new_entity (kinds.Player uuid pile) spot things) refl
-      (λ id damage some few low. (let more = entities_more (sort_of id damage) things.entities
-      (record { eid = pos (things.eids + 1); kind = kinds.Player uuid pile; spot = spot }) in
-      omega (arith, more)));
-}
+player_comes terrain uuid pile spot things =
+    grind (arith, nat_tests, new_keeps, even_onward, entities_more)
 
 -- a player that enters
 pub player_leads : (terrain : Terrain) (name : List ℕ) (things : Things) →
@@ -234,19 +202,14 @@ packed_keeps : (p : Player) (pile : Pile) (things : Things) → IsPile pile →
     Keeps things (record things {
       packs = with_pack p.name (with_hand pile p.hand (pack_of p.name things.packs)) things.packs;
     })
-packed_keeps p pile things is = record {
-  tidy = λ t.
-      let fits = pack_fits p.name things.packs t.packs in
-      let pack : PackValue = pack_of p.name things.packs in record {
-        given = t.given;
-        apart = (keeps_changed p.name (with_hand pile p.hand pack) things.packs).apart t.apart;
-        packs = with_pack_fits p.name (with_hand pile p.hand pack) things.packs
-            (with_hand_fits pile p.hand pack is fits) t.packs;
-      };
-  known = (keeps_changed p.name _ things.packs).known;
-  given = omega arith;
-  apart = λ eid le none. none;
-}
+packed_keeps p pile things is = grind (
+  arith,
+  nat_tests,
+  pack_fits p.name things.packs,
+  keeps_changed p.name,
+  with_pack_fits p.name,
+  with_hand_fits pile p.hand,
+)
 
 -- and so does all else
 pub carry_keeps : (p : Player) (pile : Pile) (things : Things) → IsPile pile →

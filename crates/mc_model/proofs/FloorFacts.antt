@@ -5,6 +5,7 @@ use Rattle.std.specs.Prelude.{◌==◌, ◌||◌, ◌↔◌, nat_le, Bool, true,
 use Rattle.std.specs.Prelude.{None, IsNone, IfSome, unsigned_abs}
 use Rattle.std.specs.Int.{int_div_euclid, int_rem_euclid}
 use Rattle.std.proofs.Common.{inl, inr}
+use Rattle.std.proofs.lemmas.Bool.Decides.{nat_tests}
 use Rattle.std.proofs.lemmas.Bool.{eqb-true, eq-eqb, ne_eqb, le-leb, leb-true}
 use lib.IntN.{ℤ, pos, negsuc}
 use lib.Signed.{shr_z}
@@ -20,11 +21,7 @@ shift_is (negsuc a) b = refl
 -- a floor is the quotient
 pub floor_is : (negative : Bool) (size b : ℕ) (n : ℤ) → 0 < b →
     IsFloor n (with_sign negative size) b → n ≡ int_div_euclid (with_sign negative size) (pos b)
-floor_is negative size b n some f =
-    floor_one n (shr_z (with_sign negative size) b) (with_sign negative size) b f
-    (shift_floor negative size b 1 1 size b some (omega arith) (omega arith) (omega arith)
-    (omega arith))
-    ∙ shift_is (with_sign negative size) b
+floor_is negative size b n some f = grind (arith, nat_tests)
 
 -- a binary64 pattern
 pub fixed_is : (p : ℕ) (o : Option ℤ) → (IsNone o ↔ IsEndless p) → IfSome o (λ n. Fixes p n) →
@@ -44,25 +41,12 @@ fixed_is p (Some n) e f =
 -- whether one of two tests passes
 vast : (p : ℕ) → IsVast p → (exponent 23 8 p == 255 || nat_le (2 ^ 31 * 2 ^ 150)
     (significand 23 8 p * 2 ^ power 23 8 p)) ≡ true
-vast p (inl ends) = rw (eq-eqb (exponent 23 8 p) 255 ends) refl
-vast p (inr large) = either (exponent 23 8 p == 255)
-    (nat_le (2 ^ 31 * 2 ^ 150) (significand 23 8 p * 2 ^ power 23 8 p)) (le-leb _ _ large)
-  where
-    either : (a b : Bool) → b ≡ true → (a || b) ≡ true
-    either true b e = refl
-    either false b e = e
+vast p h1 = grind (arith, nat_tests)
 
 not_vast : (p : ℕ) → (IsVast p → ⊥) →
     (exponent 23 8 p == 255 || nat_le (2 ^ 31 * 2 ^ 150)
     (significand 23 8 p * 2 ^ power 23 8 p)) ≡ false
-not_vast p no_ = neither (exponent 23 8 p == 255)
-    (nat_le (2 ^ 31 * 2 ^ 150) (significand 23 8 p * 2 ^ power 23 8 p))
-    (λ t. no_ (inl (eqb-true _ _ t))) (λ t. no_ (inr (leb-true _ _ t)))
-  where
-    neither : (a b : Bool) → (a ≡ true → ⊥) → (b ≡ true → ⊥) → (a || b) ≡ false
-    neither true b f g = absurd (f refl)
-    neither false true f g = absurd (g refl)
-    neither false false f g = refl
+not_vast p no_ = grind (arith, nat_tests)
 
 -- a binary32 pattern of degrees
 pub turn_is : (p : ℕ) (o : Option ℕ) → (IsNone o ↔ IsVast p) → IfSome o (λ a. Turns p a) →

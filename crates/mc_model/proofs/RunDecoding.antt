@@ -1,6 +1,8 @@
 -- What was handed to each connection up to a world of a run, and that it stays decoded where
 -- connections change.
 use Rattle.std.proofs.Common.{◌≡◌, ℕ, List, [], ◌∷◌, ◌++◌, map, drop, refl, sym, subst, ap, ◌∙◌}
+use Rattle.std.proofs.Common.{arith}
+use Rattle.std.proofs.lemmas.Bool.Decides.{nat_tests}
 use Rattle.std.specs.Prelude.{◌==◌, Bool, true, false, Option, Some, None, is_some, option_map}
 use Rattle.std.specs.Prelude.{if◌then◌else◌}
 use Rattle.std.specs.List.{AllByRecursion}
@@ -112,11 +114,7 @@ kept_mapped k w f things came earlier packets keeps still_waits hands none sound
 -- a change of one keeps the numbers
 one_keeps : (j : ℕ) (f : Session → Session) → ((s : Session) → (f s).id ≡ s.id) → (s : Session)
     → (if s.id == j then f s else s).id ≡ s.id
-one_keeps j f keeps s = step (s.id == j)
-  where
-    step : (b : Bool) → (if b then f s else s).id ≡ s.id
-    step true = keeps s
-    step false = refl
+one_keeps j f keeps s = grind (arith, nat_tests)
 
 -- a change that hands out nothing
 changed_steps : (k j : ℕ) (w : World) (f : Session →

@@ -49,9 +49,7 @@ above_other k j above same = grind (arith, nat_tests)
 -- ---- connections that keep their numbers
 
 pub gone_id : (cause : Cause) (s : Session) → (gone cause s).id ≡ s.id
-gone_id cause s = elim (is_closed s.stage) as
-    (λ b. (if b then record s { owed = [] } else
-    record (mark_closed s cause) { owed = [] }).id ≡ s.id) [ true ↦ refl | false ↦ refl ]
+gone_id cause s = grind (arith, nat_tests)
 
 pub beat_id : (w : World) (s : Session) → (beat w s).session.id ≡ s.id
 beat_id w s = beat_cases w s (λ (h : Handing). h.session.id ≡ s.id) (λ none. refl)
@@ -75,22 +73,17 @@ orderly_beside k w v b o = record {
 }
 
 orderly_join : (w : World) (k : ℕ) → Orderly w → Orderly (join w k)
-orderly_join w k o = elim (is_new k w.last) as (λ b. is_new k w.last ≡ b →
-    Orderly (if b then record w { last = Some k; sessions = w.sessions ++ joining w k ∷ [] } else
-    w)) [
-      | true ↦ λ new. record {
-        rising = joined_rise w k w.last w.sessions (joining w k) refl new o.rising;
-        apart = apart_more w.sessions (joining w k) o.apart
-            (ap (λ (n : ℕ). found n w.sessions) (joining_id w k) ∙ o.fresh k new);
-        fresh = λ j above.
-            found_behind j w.sessions (joining w k ∷ [])
-            (o.fresh j (later_new j k w.last above new))
-            ∙ ap (λ (n : ℕ). cond (n == j) (Some (joining w k)) None) (joining_id w k)
-            ∙ ap (λ (b : Bool). cond b (Some (joining w k)) None)
-            (other_number k j (above_other k j above));
-      }
-      | false ↦ λ old. o
-    ] refl
+orderly_join w k o = grind (
+  arith,
+  nat_tests,
+  joined_rise,
+  apart_more,
+  joining_id,
+  found_behind,
+  later_new,
+  other_number,
+  above_other,
+)
 
 -- one that is gone leaves all others as they are
 pub gone_beside : (k : ℕ) (w : World) (cause : Cause) → Beside k w (changed w k (gone cause))

@@ -2,6 +2,7 @@
 -- due at a tick is so.
 use Rattle.std.proofs.Common.{◌≡◌, ℕ, ◌≤◌, Bool, true, false, cond, List, [], ◌∷◌, ◌++◌, map}
 use Rattle.std.proofs.Common.{drop, length, refl, subst, ap, ◌∙◌, arith}
+use Rattle.std.proofs.lemmas.Bool.Decides.{nat_tests}
 use Rattle.std.specs.Prelude.{Option, Some, None, is_some, if◌then◌else◌, ◌==◌}
 use Rattle.std.specs.List.{AllByRecursion, cons_option, filter_map}
 use lib.IntN.{ℤ}
@@ -119,18 +120,12 @@ pub record Sound (w : World) : Type 0 where
 pub all_found : (P : Session → Type 0) (k : ℕ) (ss : List Session) (s : Session) →
     AllByRecursion P ss → found k ss ≡ Some s → P s
 all_found P k [] s a e = absurd (some_none s None e refl)
-all_found P k (x ∷ xs) s a e = step (x.id == k) e (λ later. all_found P k xs s a.1 later)
-  where
-    step : (t : Bool) → cond t (Some x) (found k xs) ≡ Some s → (found k xs ≡ Some s → P s) → P s
-    step true here rest = subst P (one_some x s (Some x) refl here) a.0
-    step false later rest = rest later
+all_found P k (x ∷ xs) s a e = grind (arith, nat_tests, all_found P k xs s a.1)
 
 -- in a sound world all that was said to a player fits
 pub sound_heard : (w : World) (p : Player) → Sound w → PlayerFits p →
     AllByRecursion LineFits (heard_by w p)
-sound_heard w p sound f =
-    all_joined LineFits p.chat (drop p.since w.lines) f.chat
-    (all_dropped LineFits p.since w.lines sound.lines)
+sound_heard w p sound f = grind (arith, nat_tests, all_joined, all_dropped)
 
 -- and a projection does
 pub sound_sight : (w : World) (p : Player) → Sound w → PlayerFits p → SightFits (project w p)
