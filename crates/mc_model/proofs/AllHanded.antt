@@ -1,12 +1,12 @@
 -- What a world keeps while each of its connections is handed something: who is there under which
 -- number, and in which order.
-use Rattle.std.proofs.Common.{◌≡◌, ℕ, length, ap, ◌∙◌, arith}
+use Rattle.std.proofs.Common.{◌≡◌, ℕ, length, arith}
 use Rattle.std.proofs.lemmas.Bool.Decides.{nat_tests}
 use Rattle.std.specs.Prelude.{option_map}
 use Rattle.std.proofs.lemmas.List.{length-map}
 use Rattle.mc_model.specs.World.{World, Session, found}
 use Rattle.mc_model.specs.Step.{Handing, all_handed}
-use Rattle.mc_model.specs.Orderly.{Orderly, next_number}
+use Rattle.mc_model.specs.Orderly.{Orderly}
 use Rattle.mc_model.proofs.Sessions.{found_map, apart_map, rise_map}
 
 -- what each connection comes to has its number

@@ -1,17 +1,13 @@
 -- What a player does loses and makes no item: it digs, drops and places, and all else that it does.
-use Rattle.std.proofs.Common.{◌≡◌, ℕ, ◌+◌, ◌-◌, ◌*◌, ◌/◌, ◌%◌, ◌≤◌, ◌&&◌, Bool, true, false, cond}
+use Rattle.std.proofs.Common.{◌≡◌, ℕ, ◌+◌, ◌*◌, ◌≤◌, ◌&&◌, Bool, true}
 use Rattle.std.proofs.Common.{refl, sym, ap, subst, ◌∙◌, arith}
 use Rattle.std.specs.Prelude.{Some, unsigned_abs, ◌==◌}
-use Rattle.std.specs.Prelude.{if◌then◌else◌}
 use Rattle.std.specs.Ordering.{int_eq}
-use Rattle.std.proofs.lemmas.Bool.{and_parts, eqb-true, eq-eqb}
-use Rattle.std.proofs.lemmas.Bool.Decides.{Decides-int_eq, nat_tests}
-use Rattle.std.proofs.lemmas.Int.{ints}
-use lib.IntN.{ℤ, pos, negsuc}
-use lib.Signed.{◌≤ℤ◌}
+use Rattle.std.proofs.lemmas.Bool.Decides.{nat_tests}
+use lib.IntN.{pos}
 use Rattle.mc_fields.specs.declared.position.Cell.{Cell}
 use Rattle.mc_fields.specs.declared.position.Spot.{Spot}
-use Rattle.mc_land.specs.Places.{is_height, is_within_border, key_of}
+use Rattle.mc_land.specs.Places.{key_of}
 use Rattle.mc_land.specs.Land.{state_at}
 use Rattle.mc_slots.specs.declared.pile.Item.{Item}
 use Rattle.mc_slots.specs.declared.pile.Pile.TheVariants.{Full}
@@ -20,7 +16,7 @@ use Rattle.mc_slots.specs.PileLaws.{part_is_pile}
 use Rattle.mc_entities.specs.declared.entity.EntityKind.{EntityKind}
 use Rattle.mc_entities.specs.declared.entity.EntityKind.TheVariants as kinds
 use Rattle.mc_model.specs.Balance.{one_of, sort_of}
-use Rattle.mc_model.specs.Things.{Things, pack_of as carried, state_of_cell}
+use Rattle.mc_model.specs.Things.{Things, pack_of as carried}
 use Rattle.mc_model.specs.Things.{with_state}
 use Rattle.mc_model.specs.World.{World, Player, held_by, spot_of, state_in}
 use Rattle.mc_model.specs.Reach.{is_in_world}

@@ -1,14 +1,11 @@
 -- What is kept along a run beside the balance of items, so that it is kept: which numbers and names
 -- players have, and which packs there are.
 use Rattle.std.proofs.Common.{◌≡◌, ℕ, ◌+◌, ◌*◌, ◌<◌, ◌≤◌, true, false, List, [], ◌∷◌, length}
-use Rattle.std.proofs.Common.{subst, ap}
-use Rattle.std.proofs.Common.{◌∙◌, sym, arith}
+use Rattle.std.proofs.Common.{arith}
 use Rattle.std.proofs.lemmas.Bool.Decides.{nat_tests}
 use Rattle.std.specs.Prelude.{Option, Some, None, ◌==◌, if◌then◌else◌}
 use Rattle.std.specs.List.{AllByRecursion}
 use Rattle.mc_land.specs.declared.terrain.Terrain.{Terrain}
-use Rattle.mc_windows.specs.Pack.{kit_pack}
-use Rattle.mc_windows.specs.Stock.{in_pack}
 use Rattle.mc_model.specs.Things.{Things, is_known}
 use Rattle.mc_model.specs.World.{World, Session, Player, put}
 pub use Rattle.mc_model.specs.Owning.{HasOwner, IsGiven, IsOwner, IsTidy, Owns}
@@ -49,12 +46,7 @@ leads_onward terrain a b c k l = grind (arith, nat_tests, keeps_onward a b c k.k
 -- no change
 pub leads_same : (terrain : Terrain) (a : Things) → Leads terrain a a
 leads_same terrain a = record {
-  keeps = record {
-    tidy = λ t. t;
-    known = λ name k. k;
-    given = omega arith;
-    apart = λ eid le n. n;
-  };
+  keeps = grind (arith, nat_tests);
   even = λ e. e;
 }
 
@@ -87,11 +79,7 @@ even_onward terrain a b same more even id damage some few low = grind (arith, na
 -- a world with other things
 pub balanced_things : (w : World) (things : Things) → Leads w.terrain w.things things →
     Balanced w → Balanced (record w { things = things })
-balanced_things w things leads b = record {
-  owners = same w.sessions b.owners;
-  tidy = leads.keeps.tidy b.tidy;
-  even = leads.even b.even;
-}
+balanced_things w things leads b = grind (arith, nat_tests, same)
   where
     same : (ss : List Session) → AllByRecursion (Owns w.things) ss →
         AllByRecursion (Owns things) ss

@@ -1,7 +1,7 @@
 -- How many items of a sort the packs of all names and the entities hold, as these change.
-use Rattle.std.proofs.Common.{◌≡◌, ℕ, zero, suc, ◌+◌, ◌<◌, ◌≤◌, true, false, cond, not}
+use Rattle.std.proofs.Common.{◌≡◌, ℕ, ◌+◌, ◌<◌, ◌≤◌, true, false, cond, not}
 use Rattle.std.proofs.Common.{List, [], ◌∷◌, ◌++◌}
-use Rattle.std.proofs.Common.{map, length, refl, sym, ap, ◌∙◌, arith}
+use Rattle.std.proofs.Common.{map, length, refl, arith}
 use Rattle.std.proofs.lemmas.Bool.Decides.{nat_tests}
 use Rattle.std.specs.Prelude.{Some, None, is_some, unwrap_or, if◌then◌else◌}
 use Rattle.std.specs.List.{sum_by, AllByRecursion}
@@ -14,14 +14,13 @@ use lib.IntN.{pos}
 use Rattle.mc_slots.specs.declared.pile.Item.{Item}
 use Rattle.mc_slots.specs.declared.pile.Pile.{Pile}
 use Rattle.mc_slots.specs.declared.pile.Pile.TheVariants.{Full}
-use Rattle.mc_slots.specs.Pile.{Sort, held, is_sort, pile_of, without as without_some}
+use Rattle.mc_slots.specs.Pile.{Sort, held, pile_of, without as without_some}
 use Rattle.mc_slots.specs.PileLaws.{split_keeps}
 use Rattle.mc_windows.specs.Pack.{PackValue, kit_pack}
 use Rattle.mc_windows.specs.Stock.{in_pack}
 use Rattle.mc_windows.proofs.Desks.{piles_with}
 use Rattle.mc_entities.specs.declared.entity.Entity.{Entity}
 use Rattle.mc_entities.specs.declared.entity.EntityKind.{EntityKind}
-use Rattle.mc_entities.specs.declared.entity.EntityKind.TheVariants as kinds
 use Rattle.mc_entities.specs.Kinds.{is_dropped}
 use Rattle.mc_entities.specs.Numbers.{changed, without}
 use Rattle.mc_entities.specs.Folk.{eid_of}
@@ -105,25 +104,19 @@ sum_packed f other name pack (e ∷ packs) apart known =
     sum_by g ((if b then (e.0, pack) else e) ∷ with_pack name pack packs)
     + f (unwrap_or (if b then Some e.1 else pack_named name packs) other)
     ≡ sum_by g (e ∷ packs) + f pack) [
-      | true ↦ λ t k.
-          let is : e.0 ≡ name = (bytes_eq-Decides e.0 name).0 t in
-          let none : pack_named name packs ≡ None =
-          ap (λ (n : List ℕ). pack_named n packs) (sym is) ∙ apart.0 in
-          let stay : sum_by g (with_pack name pack packs) ≡ sum_by g packs =
-          ap (sum_by g) (unknown_stay name pack packs none) in
-          omega (
-            arith,
-            sum_by-cons g (e.0, pack) (with_pack name pack packs),
-            sum_by-cons g e packs,
-            stay,
-          )
-      | false ↦ λ t k.
-          omega (
-            arith,
-            sum_by-cons g e (with_pack name pack packs),
-            sum_by-cons g e packs,
-            sum_packed f other name pack packs apart.1 k,
-          )
+      | true ↦ grind (
+        arith,
+        bytes_eq-Decides e.0 name,
+        unknown_stay name pack packs,
+        sum_by-cons g (e.0, pack) (with_pack name pack packs),
+        sum_by-cons g e packs,
+      )
+      | false ↦ grind (
+        arith,
+        sum_packed f other name pack packs apart.1,
+        sum_by-cons g e (with_pack name pack packs),
+        sum_by-cons g e packs,
+      )
     ] refl known
 
 -- all packs after that of a name is another

@@ -2,10 +2,10 @@
 -- of what is in a hand.
 use Rattle.std.proofs.Common.{◌≡◌, ◌≢◌, ℕ, ◌+◌, ◌<◌, true, false, List, [], ◌∷◌}
 use Rattle.std.proofs.Common.{length, refl, sym, ap, ◌∙◌, arith}
-use Rattle.std.specs.Prelude.{Option, Some, None, unsigned_abs, if◌then◌else◌}
+use Rattle.std.specs.Prelude.{Option, Some, None, if◌then◌else◌}
 use Rattle.std.specs.List.{AllByRecursion}
 use Rattle.std.specs.Ordering.{int_eq}
-use Rattle.std.proofs.lemmas.Bool.Decides.{Decides-int_eq, nat_tests}
+use Rattle.std.proofs.lemmas.Bool.Decides.{nat_tests}
 use Rattle.std.proofs.lemmas.List.{length-map}
 use lib.IntN.{ℤ, pos}
 use Rattle.mc_fields.specs.declared.position.Cell.{Cell}
@@ -18,7 +18,7 @@ use Rattle.mc_entities.specs.declared.entity.Entity.{Entity}
 use Rattle.mc_entities.specs.declared.entity.EntityKind.{EntityKind}
 use Rattle.mc_entities.specs.declared.entity.EntityKind.TheVariants as kinds
 use Rattle.mc_entities.specs.Kinds.{is_dropped}
-use Rattle.mc_model.specs.Balance.{lying, sort_of, stock}
+use Rattle.mc_model.specs.Balance.{lying, stock}
 use Rattle.mc_model.specs.Names.{offline_uuid}
 use Rattle.mc_model.specs.Things.{Things, hand_of, holding, in_hand, pack_of, standing, with_entity}
 use Rattle.mc_model.specs.Things.{with_hand, with_kit, with_new_entity, with_pack, with_state}
@@ -47,16 +47,7 @@ pub record IsMild (f : Entity → Entity) : Type 0 where
 changed_keeps : (eid : ℕ) (f : Entity → Entity) (things : Things) → IsMild f →
     Keeps things (with_entity eid f things)
 changed_keeps eid f things mild = record {
-  tidy = λ t. record {
-    given = all_mapped (IsGiven things.eids) (IsGiven things.eids) _ (λ e is n above.
-        elim (int_eq e.eid (pos eid)) as
-        (λ b. int_eq (if b then f e else e).eid (pos n) ≡ false) [
-          | true ↦ ap (λ (m : ℤ). int_eq m (pos n)) (mild.eid e) ∙ is n above
-          | false ↦ is n above
-        ]) things.entities t.given;
-    apart = t.apart;
-    packs = t.packs;
-  };
+  tidy = grind (arith, all_mapped (IsGiven things.eids) (IsGiven things.eids));
   known = λ name k. k;
   given = omega arith;
   apart = λ n le none. all_mapped (IsNoItem n) (IsNoItem n) _ (λ e is.
@@ -115,22 +106,7 @@ other_signed m n other = grind (arith, nat_tests)
 -- one more, which has a number that was not given
 pub new_keeps : (kind : EntityKind) (spot : Spot) (things : Things) →
     Keeps things (with_new_entity kind spot things)
-new_keeps kind spot things = record {
-  tidy = λ t. record {
-    given = all_joined (IsGiven (things.eids + 1)) things.entities _
-        (all_given things.entities t.given)
-        (λ n above. other_signed (things.eids + 1) n (λ same. (omega (arith, same, above))), tt);
-    apart = t.apart;
-    packs = t.packs;
-  };
-  known = λ name k. k;
-  given = omega arith;
-  apart = λ eid le others. all_joined (IsNoItem eid) things.entities _ others (
-    λ same. (let other : int_eq (pos (things.eids + 1)) (pos eid) ≡ false =
-        other_signed (things.eids + 1) eid (λ e. (omega (arith, e, le))) in absurd cc),
-    tt,
-  );
-}
+new_keeps kind spot things = grind (arith, all_joined, all_given)
   where
     all_given : (es : List Entity) → AllByRecursion (IsGiven things.eids) es →
         AllByRecursion (IsGiven (things.eids + 1)) es
@@ -157,13 +133,7 @@ player_leads terrain name things =
 pub player_owns : (terrain : Terrain) (name : List ℕ) (since : ℕ) (things : Things) →
     IsTidy things →
     IsOwner (with_new_player terrain name things) (new_player (things.eids + 1) name since)
-player_owns terrain name since things tidy = record {
-  known = kit_known name things.packs;
-  hand = omega arith;
-  given = omega arith;
-  apart = all_joined (IsNoItem (things.eids + 1)) things.entities _
-      (none things.entities tidy.given) (λ same. refl, tt);
-}
+player_owns terrain name since things tidy = grind (arith, kit_known, all_joined, none)
   where
     none : (es : List Entity) → AllByRecursion (IsGiven things.eids) es →
         AllByRecursion (IsNoItem (things.eids + 1)) es
@@ -204,7 +174,6 @@ packed_keeps : (p : Player) (pile : Pile) (things : Things) → IsPile pile →
     })
 packed_keeps p pile things is = grind (
   arith,
-  nat_tests,
   pack_fits p.name things.packs,
   keeps_changed p.name,
   with_pack_fits p.name,

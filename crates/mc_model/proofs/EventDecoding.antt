@@ -25,7 +25,7 @@ use Rattle.mc_model.proofs.ThingsKept.{new_things_fit}
 use Rattle.mc_model.proofs.Sound.{Sound}
 use Rattle.mc_model.proofs.Beside.{Beside}
 use Rattle.mc_model.proofs.FitsBytes.{bytes_joined}
-use Rattle.mc_model.proofs.StageDecoding.{DecodesAt, AreDecoded, none_decoded, at_decoded}
+use Rattle.mc_model.proofs.StageDecoding.{AreDecoded, none_decoded, at_decoded}
 use Rattle.mc_model.proofs.StageDecoding.{decodes_at_more}
 use Rattle.mc_model.proofs.TurnDecoding.{TurnDecodes}
 use Rattle.mc_model.proofs.FrameDecoding.{bytes_decode}

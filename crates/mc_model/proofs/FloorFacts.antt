@@ -4,14 +4,12 @@ use Rattle.std.proofs.Common.{◌≡◌, ◌≢◌, ℕ, ◌*◌, ◌^◌, ◌<�
 use Rattle.std.specs.Prelude.{◌==◌, ◌||◌, ◌↔◌, nat_le, Bool, true, false, Option, Some}
 use Rattle.std.specs.Prelude.{None, IsNone, IfSome, unsigned_abs}
 use Rattle.std.specs.Int.{int_div_euclid, int_rem_euclid}
-use Rattle.std.proofs.Common.{inl, inr}
 use Rattle.std.proofs.lemmas.Bool.Decides.{nat_tests}
-use Rattle.std.proofs.lemmas.Bool.{eqb-true, eq-eqb, ne_eqb, le-leb, leb-true}
+use Rattle.std.proofs.lemmas.Bool.{eq-eqb, ne_eqb}
 use lib.IntN.{ℤ, pos, negsuc}
 use lib.Signed.{shr_z}
 use Rattle.mc_fields.specs.Pattern.{is_negative, exponent, significand, power, with_sign, held}
 use Rattle.mc_fields.specs.Pattern.{IsFloor, Fixes, IsEndless, Turns, IsVast}
-use Rattle.mc_fields.specs.PatternLaws.{floor_one, shift_floor}
 use Rattle.mc_model.specs.Numbers.{fixed_of, turn_of}
 
 shift_is : (z : ℤ) (b : ℕ) → shr_z z b ≡ int_div_euclid z (pos b)

@@ -1,11 +1,11 @@
 -- What forgetting connections that are done leaves of all: the others are as they were, nobody is
 -- owed more, and of those whose numbers are among the closed ones none is done.
-use Rattle.std.proofs.Common.{◌≡◌, ◌≢◌, ℕ, List, [], ◌∷◌, map, inl, inr, refl, sym, subst, ap, ◌∙◌}
+use Rattle.std.proofs.Common.{◌≡◌, ◌≢◌, ℕ, List, [], ◌∷◌, map, refl, sym, ap, ◌∙◌}
 use Rattle.std.proofs.Common.{arith}
 use Rattle.std.proofs.lemmas.Bool.Decides.{nat_tests}
 use Rattle.std.specs.Prelude.{◌⊎◌, ◌==◌, ◌&&◌, not, Bool, true, false, cond, Option, Some, None}
 use Rattle.std.specs.List.{filter}
-use Rattle.std.proofs.lemmas.Bool.{eqb-true, eq-eqb}
+use Rattle.std.proofs.lemmas.Bool.{eq-eqb}
 use Rattle.mc_wire.specs.declared.log.LogEntry.TheVariants.{Closed}
 use Rattle.mc_model.specs.World.{World, Session, found}
 use Rattle.mc_model.specs.Step.{forgot, is_done, step}

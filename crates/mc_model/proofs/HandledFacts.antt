@@ -1,21 +1,20 @@
 -- What is made of one session at its place is what the definitions make of the world.
-use Rattle.std.proofs.Common.{◌≡◌, ℕ, true, false, List, [], ◌∷◌, get_or, set, refl, sym, ap, ◌∙◌}
+use Rattle.std.proofs.Common.{◌≡◌, ℕ, true, false, List, [], get_or, set, refl, sym, ap, ◌∙◌}
 use Rattle.std.proofs.Common.{arith}
 use Rattle.std.proofs.lemmas.Bool.Decides.{nat_tests}
 use Rattle.std.specs.Prelude.{Option, Some, None, length}
-use Rattle.std.specs.Option.{option_and_then}
 use Rattle.std.proofs.lemmas.List.{set-get_or}
 use Rattle.mc_frame.specs.declared.fault.FrameFault.{FrameFault}
 use Rattle.mc_model.specs.declared.cause.Cause.{Cause}
 use Rattle.mc_model.specs.declared.cause.Cause.TheVariants as causes
 use Rattle.mc_model.specs.Things.{Things}
 use Rattle.mc_model.specs.World.{World, Session, Player, found, put, players, is_closed}
-use Rattle.mc_model.specs.Packets.{Sent, of_status, bytes_of}
+use Rattle.mc_model.specs.Packets.{Sent, bytes_of}
 use Rattle.mc_model.specs.Talk.{ClientRequest, nothing, greets, replies, ends, enters, acts, wrong}
 use Rattle.mc_model.specs.Talk.{request_of, farewell}
-use Rattle.mc_model.specs.Step.{Handing, hand, mark_closed, disconnect, after_leaving, Turn, still}
+use Rattle.mc_model.specs.Step.{Handing, hand, disconnect, after_leaving, Turn, still}
 use Rattle.mc_model.specs.Step.{turn, perform}
-use Rattle.mc_model.specs.Step.{when_open, on_frame, on_fault, gone, changed, player_in, depart}
+use Rattle.mc_model.specs.Step.{when_open, on_frame, on_fault, gone, depart}
 use Rattle.mc_model.specs.Handled.{handled}
 use Rattle.mc_model.specs.Orderly.{Rise, IsPlaced}
 use Rattle.mc_model.proofs.RiseFacts.{at_place}

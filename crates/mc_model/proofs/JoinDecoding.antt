@@ -3,22 +3,20 @@ use Rattle.std.proofs.Common.{◌≡◌, ℕ, ◌≤◌, List, [], ◌∷◌, �
 use Rattle.std.proofs.Common.{arith}
 use Rattle.std.proofs.lemmas.Bool.Decides.{nat_tests}
 use Rattle.std.specs.Prelude.{◌==◌, Bool, true, false, cond, Option, Some, None, is_some}
-use Rattle.std.specs.Prelude.{if◌then◌else◌}
 use Rattle.std.specs.List.{filter}
-use Rattle.std.proofs.lemmas.Bool.{eqb-true, ltb-true, lt-ltb}
+use Rattle.std.proofs.lemmas.Bool.{ltb-true}
 use Rattle.std.proofs.lemmas.List.{append-nil}
-use Rattle.mc_model.specs.declared.cause.Cause.TheVariants as causes
 use Rattle.mc_model.specs.declared.stage.Stage.TheVariants as stages
 use Rattle.mc_model.specs.Packets.{Sent, Decoder}
 use Rattle.mc_model.specs.Decoding.{decoder_of}
 use Rattle.mc_model.specs.World.{World, Session, found}
-use Rattle.mc_model.specs.Step.{mark_closed, new_session, is_crowded, joining, join, is_new}
+use Rattle.mc_model.specs.Step.{new_session, joining, join, is_new}
 use Rattle.mc_model.proofs.Sessions.{found_before, found_behind, found_filter, none_filtered}
 use Rattle.mc_model.proofs.Sessions.{apart_more, apart_filter, some_none, one_some, other_number}
 use Rattle.mc_model.proofs.FitsSight.{all_joined, all_filtered}
-use Rattle.mc_model.proofs.Sound.{SessionFits, closed_fits, Sound}
-use Rattle.mc_model.proofs.SoundPut.{playing, playing_more, one_if}
-use Rattle.mc_model.proofs.StageDecoding.{DecodesAt, none_decoded}
+use Rattle.mc_model.proofs.Sound.{SessionFits, Sound}
+use Rattle.mc_model.proofs.SoundPut.{playing}
+use Rattle.mc_model.proofs.StageDecoding.{DecodesAt}
 use Rattle.mc_model.proofs.RunDecoding.{Kept, Steps}
 
 -- ---- joining
@@ -62,34 +60,16 @@ new_is_other k j later = grind (arith, nat_tests, other_number, ltb-true)
 -- the world is sound with it
 pushed_sound : (w : World) (j : ℕ) (s : Session) → is_new j w.last ≡ true → Joins j s → Sound w
     → Sound (record w { last = Some j; sessions = w.sessions ++ s ∷ [] })
-pushed_sound w j s new facts sound = grind (
-  arith,
-  nat_tests,
-  playing_pushed,
-  apart_more,
-  found_behind,
-  new_before,
-  found_pushed,
-  new_is_other,
-  all_joined,
-)
+pushed_sound w j s new facts sound =
+    grind (arith, playing_pushed, apart_more, found_behind, all_joined)
 
 -- and what was handed to each stays decoded
 pushed_kept : (k : ℕ) (w : World) (j : ℕ) (s : Session) (came : List ℕ) (earlier : List Sent) →
     is_new j w.last ≡ true → Joins j s → Sound w
     → Kept k w came earlier → Kept k
     (record w { last = Some j; sessions = w.sessions ++ s ∷ [] }) came earlier
-pushed_kept k w j s came earlier new facts sound kept = grind (
-  arith,
-  nat_tests,
-  new_before k j w.last new,
-  eqb-true s.id k,
-  one_some s,
-  one_some,
-  some_none,
-  found_before k w.sessions (s ∷ []),
-  found_behind k w.sessions (s ∷ []),
-)
+pushed_kept k w j s came earlier new facts sound kept =
+    grind (arith, found_before k w.sessions (s ∷ []), found_behind k w.sessions (s ∷ []))
 
 -- a join
 pub join_steps : (k j : ℕ) (w : World) (came : List ℕ) (earlier : List Sent) → Sound w →
@@ -97,10 +77,8 @@ pub join_steps : (k j : ℕ) (w : World) (came : List ℕ) (earlier : List Sent)
     → Steps k (join w j) came (earlier ++ [])
 join_steps k j w came earlier sound kept = grind (
   arith,
-  nat_tests,
   append-nil earlier,
   pushed_sound w j (joining w j),
-  joins w j,
   pushed_kept k w j (joining w j) came earlier,
 )
 
@@ -119,16 +97,7 @@ pub filter_steps : (k : ℕ) (w : World) (p : Session → Bool) (came : List ℕ
 filter_steps k w p came earlier sound kept =
     subst (Steps k (record w { sessions = filter p w.sessions }) came) (sym (append-nil earlier))
     (record {
-      sound = record {
-        settings = sound.settings;
-        young = sound.young;
-        things = sound.things;
-        lines = sound.lines;
-        apart = apart_filter p w.sessions sound.apart;
-        fresh = λ j new. none_filtered j p w.sessions (sound.fresh j new);
-        few = (let le = few_left p w.sessions in omega (arith, le, sound.few));
-        fits = all_filtered SessionFits p w.sessions sound.fits;
-      };
+      sound = grind (arith, nat_tests, apart_filter, none_filtered, few_left, all_filtered);
       kept = record {
         here = λ t there. (both (found k w.sessions) refl t there).0;
         waits = λ t there. (both (found k w.sessions) refl t there).1;

@@ -1,5 +1,5 @@
 -- What clients see entities as is the same for good.
-use Rattle.std.proofs.Common.{◌≡◌, List, [], ◌∷◌, Option, Some, cond, refl, sym, ap, subst}
+use Rattle.std.proofs.Common.{◌≡◌, List, [], ◌∷◌, Option, Some, sym, ap, subst}
 use Rattle.std.proofs.Common.{◌∙◌, inl, inr, arith}
 use Rattle.std.proofs.lemmas.Bool.Decides.{nat_tests}
 use Rattle.std.specs.Prelude.{◌⊎◌, ◌<ℤ◌}
@@ -7,8 +7,7 @@ use Rattle.std.specs.List.{AllByRecursion, filter, filter_map}
 use Rattle.std.specs.Cmp.{int_cmp_total}
 use Rattle.std.specs.Option.{unwrap_or}
 use Rattle.std.specs.declared.cmp.Ordering.{Ordering}
-use Rattle.std.specs.declared.cmp.Ordering.TheVariants.{Less, Equal, Greater}
-use Rattle.std.specs.Ordering.{is_eq, int_cmp}
+use Rattle.std.specs.Ordering.{int_cmp}
 use Rattle.std.specs.FinMap.{IsAntisymmetric, int_cmp-IsAntisymmetric, find, get, get-from_entries}
 use Rattle.std.proofs.lemmas.Int.{ints}
 use lib.IntN.{ℤ, pos}

@@ -1,18 +1,17 @@
 -- Where a player comes to be that goes somewhere is a place that can be told.
-use Rattle.std.proofs.Common.{◌≡◌, ℕ, suc, ◌<◌, ◌≤◌, Bool, true, false, refl, subst, arith}
+use Rattle.std.proofs.Common.{◌≡◌, ℕ, suc, ◌<◌, ◌≤◌, Bool, true, false, subst, arith}
 use Rattle.std.proofs.lemmas.Bool.Decides.{nat_tests}
-use Rattle.std.specs.Prelude.{◌&&◌, int_le, unsigned_abs, Option, Some, None, if◌then◌else◌}
+use Rattle.std.specs.Prelude.{unsigned_abs, Option, Some, None, if◌then◌else◌}
 use Rattle.std.specs.Int.{int_rem_euclid}
 use Rattle.std.specs.Option.{option_and_then}
-use Rattle.std.proofs.lemmas.Bool.{leb-true}
 use lib.IntN.{ℤ, pos, negsuc}
 use Rattle.mc_fields.specs.declared.position.Spot.{Spot}
 use Rattle.mc_entities.specs.Shift.{is_between, is_inside}
 use Rattle.mc_model.specs.Numbers.{fixed_of, turn_of}
-use Rattle.mc_model.specs.World.{World, spawn_spot}
+use Rattle.mc_model.specs.World.{World}
 use Rattle.mc_model.specs.Movement.{both, moved, turned, landing}
 use Rattle.mc_model.proofs.FitsText.{both_true}
-use Rattle.mc_model.proofs.FitsDue.{rest_below, spawn_fits}
+use Rattle.mc_model.proofs.FitsDue.{rest_below}
 use Rattle.mc_model.proofs.ThingsFit.{SpotFits}
 
 -- ---- turns

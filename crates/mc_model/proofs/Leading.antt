@@ -11,7 +11,7 @@ use Rattle.std.specs.FinMap.{FinMap, find, is_sorted, get, insert, get-insert}
 use Rattle.std.proofs.lemmas.List.Sums.{fold-append}
 use Rattle.mc_down.specs.declared.down.Down.{Down}
 use Rattle.mc_model.specs.Sight.{Sight}
-use Rattle.mc_model.specs.Replica.{Replica, apply, replay, seeing}
+use Rattle.mc_model.specs.Replica.{replay, seeing}
 use Rattle.mc_model.proofs.Maps.{second, find_again, put_in}
 
 -- the packets make of a replica that sees one thing a replica that sees another

@@ -1,17 +1,16 @@
 -- Laws of logs: one behind another, and what follows where each entry is right in the world before
 -- it.
-use Rattle.std.proofs.Common.{◌≡◌, ℕ, List, [], ◌∷◌, ◌++◌, take, length, refl, sym, subst, ap, ◌∙◌}
+use Rattle.std.proofs.Common.{◌≡◌, ℕ, List, [], ◌∷◌, ◌++◌, take, length, refl}
 use Rattle.std.proofs.Common.{arith}
 use Rattle.std.proofs.lemmas.Bool.Decides.{nat_tests}
-use Rattle.std.specs.Prelude.{◌==◌, true, false, cond, Some}
-use Rattle.std.proofs.lemmas.Bool.{eqb-true}
+use Rattle.std.specs.Prelude.{◌==◌, true, cond, Some}
 use Rattle.std.proofs.lemmas.List.Concat.{flat_map-append}
 use Rattle.std.proofs.lemmas.List.Sums.{fold-append}
 use Rattle.mc_wire.specs.declared.log.LogEntry.{LogEntry}
 use Rattle.mc_wire.specs.declared.log.LogEntry.TheVariants.{Put, Closed}
 use Rattle.mc_model.specs.World.{World, Session, found}
-use Rattle.mc_model.specs.Step.{Event, is_done, step}
-use Rattle.mc_model.specs.Run.{history, owed_in, taken}
+use Rattle.mc_model.specs.Step.{Event, is_done}
+use Rattle.mc_model.specs.Run.{owed_in, taken}
 use Rattle.mc_model.specs.Orderly.{Orderly}
 use Rattle.mc_model.specs.Log.{events_of, events_in, logged, put_by, puts}
 use Rattle.mc_model.proofs.RunOrder.{orderly_history}

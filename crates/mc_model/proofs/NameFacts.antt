@@ -1,8 +1,8 @@
 -- Which names are known, and that each has one pack: what changes of packs make of it.
-use Rattle.std.proofs.Common.{◌≡◌, ℕ, Bool, true, false, cond, List, [], ◌∷◌, ◌++◌, refl, sym, ap}
-use Rattle.std.proofs.Common.{◌∙◌, arith}
+use Rattle.std.proofs.Common.{◌≡◌, ℕ, Bool, true, false, cond, List, [], ◌∷◌, ◌++◌, refl, ap}
+use Rattle.std.proofs.Common.{arith}
 use Rattle.std.proofs.lemmas.Bool.Decides.{nat_tests}
-use Rattle.std.specs.Prelude.{Option, Some, None, is_some, if◌then◌else◌}
+use Rattle.std.specs.Prelude.{Option, Some, None, is_some}
 use Rattle.std.specs.Str.{bytes_eq}
 use Rattle.std.proofs.lemmas.Slice.Eq.{bytes_eq-Decides}
 use Rattle.mc_windows.specs.Pack.{PackValue, kit_pack}
@@ -41,13 +41,8 @@ known_changed q name pack (e ∷ packs) = grind (arith, nat_tests, known_changed
 apart_changed : (name : List ℕ) (pack : PackValue) (packs : Packs) → AreNamed packs →
     AreNamed (with_pack name pack packs)
 apart_changed name pack [] apart = tt
-apart_changed name pack (e ∷ packs) apart = grind (
-  arith,
-  nat_tests,
-  apart_changed name pack packs apart.1,
-  none_is (pack_named e.0 (with_pack name pack packs)),
-  known_changed e.0 name pack packs,
-)
+apart_changed name pack (e ∷ packs) apart =
+    grind (arith, apart_changed name pack packs apart.1, known_changed e.0 name pack packs)
 
 -- so another pack of a name keeps both
 pub keeps_changed : (name : List ℕ) (pack : PackValue) (packs : Packs) →

@@ -2,13 +2,12 @@
 use Rattle.std.proofs.Common.{◌≡◌, ℕ, ◌<◌, true, false, cond, List, [], ◌∷◌, map}
 use Rattle.std.proofs.Common.{Option, Some, None, refl, sym, ap, subst, ◌∙◌, ltb-true, arith}
 use Rattle.std.proofs.lemmas.Bool.Decides.{nat_tests}
-use Rattle.std.specs.Prelude.{nat_lt, slice_index, slice_set}
+use Rattle.std.specs.Prelude.{nat_lt, slice_index}
 use Rattle.std.specs.List.{filter}
 use Rattle.std.specs.FinMap.{get, insert}
 use Rattle.std.proofs.lemmas.List.{set-get_or}
 use Rattle.std.proofs.lemmas.List.FromFn.{get_or-map-range_with_len}
 use lib.IntN.{ℤ, pos, negsuc}
-use Rattle.mc_column.specs.Sizes.{cells}
 use Rattle.mc_column.specs.SizesLaws.{cells-is}
 use Rattle.mc_column.specs.Cells.{ColumnValue, with_state}
 use Rattle.mc_fields.specs.declared.position.Cell.{Cell}
@@ -26,7 +25,6 @@ use Rattle.mc_model.proofs.Leading.{Leads, no_packets, onward}
 use Rattle.mc_model.proofs.Maps.{put_there}
 use Rattle.mc_model.proofs.PointsCells.{state_back}
 use Rattle.mc_model.proofs.Projections.{projected_column}
-use Rattle.mc_model.proofs.ThingFacts.{rest_below}
 
 -- ---- one cell
 

@@ -19,7 +19,7 @@ use Rattle.mc_model.specs.Run.{to, owed_of, owed_in, taken_at, lost_at}
 use Rattle.mc_model.specs.Orderly.{AreApart}
 use Rattle.mc_model.proofs.Sessions.{same_number, other_number, found_before, found_filter}
 use Rattle.mc_model.proofs.Beside.{beside_changed, found_changed}
-use Rattle.mc_model.proofs.Handing.{Owes, adds, empties, owes_same, closed_done, closed_is}
+use Rattle.mc_model.proofs.Handing.{Owes, adds, empties, owes_same}
 use Rattle.mc_model.proofs.Handing.{hand_cases}
 use Rattle.mc_model.proofs.Frames.{IsKeptOwing, bytes_lead, bytes_beside}
 use Rattle.mc_model.proofs.FitsText.{both_true}

@@ -1,13 +1,12 @@
 -- The pattern of a number is the only one that stands for it, so what is said by inequalities is
 -- what is worked out.
 use Rattle.std.proofs.Common.{◌≡◌, ℕ, zero, suc, ◌+◌, ◌-◌, ◌*◌, ◌%◌, ◌^◌, ◌<◌, ◌≤◌, max, Bool}
-use Rattle.std.proofs.Common.{true, false, cond, refl, sym, ap, ◌∙◌, arith, inl, inr, ne_eqb}
-use Rattle.std.specs.Prelude.{nat_le, unsigned_abs}
-use Rattle.std.proofs.Math.Nat.{mul-le-mul_right, pow-le-pow_right, pow-suc}
+use Rattle.std.proofs.Common.{true, false, cond, refl, sym, ap, ◌∙◌, arith, ne_eqb}
+use Rattle.std.specs.Prelude.{unsigned_abs}
+use Rattle.std.proofs.Math.Nat.{mul-le-mul_right, pow-le-pow_right}
 use Rattle.std.proofs.Math.Nat.{eq_of_mul-eq-mul_right}
 use Rattle.std.proofs.lemmas.Bool.Decides.{nat_tests}
 use Rattle.std.proofs.lemmas.Bool.{cases_lt, leb-true, leb-false}
-use Rattle.std.proofs.lemmas.Int.{ints}
 use Rattle.std.proofs.lemmas.Nat.{pow-add, pow_pos}
 use lib.IntN.{ℤ, pos, negsuc, ◌*ℤ◌}
 use Rattle.mc_fields.specs.Pattern.{Represents, RepresentsTurn, exponent, power, significand}
@@ -48,13 +47,8 @@ one_exponent : (f bias n t sig e : ℕ) → 2 ^ t ≤ n → n < 2 ^ suc t → Is
     e + 5 ≡ bias + t
 one_exponent f bias n t sig e least most scaled = grind (
   arith,
-  nat_tests,
   pow_pos (bias + f),
   pow_pos e,
-  mul-le-mul_right (2 ^ e) scaled.low,
-  mul-le-mul_right (2 ^ e) scaled.high,
-  mul-le-mul_right (2 ^ (bias + f)) least,
-  mul-le-mul_right (2 ^ (bias + f)) most,
   pow-add 2 5 (f + e),
   pow-add 2 f e,
   pow-add 2 (suc t) (bias + f),
@@ -99,13 +93,7 @@ one_size f bias n e rest enough some small few fits is =
     let there : 0 < e = some_exponent f e rest n (bias + f) some fits wide is in
     let hidden : significand_of f e rest ≡ 2 ^ f + rest = significand_hidden f e rest there in
     let powered : max e 1 ≡ e = omega arith in
-    let scaled : IsScaled f bias n (2 ^ f + rest) e =
-    record {
-      low = omega arith;
-      high = rw (pow-suc 2 f) (omega arith);
-      is =
-          rw (hidden, powered) at is;
-    } in
+    let scaled : IsScaled f bias n (2 ^ f + rest) e = grind (arith, nat_tests) in
     rw (ne_eqb n 0 (omega arith)) (made f bias n (top_bit 32 n)
     (2 ^ f + rest) e rest enough few refl (top_bit_in 32 n some)
     (top_bit_last 32 n small) scaled)

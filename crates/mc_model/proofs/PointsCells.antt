@@ -1,9 +1,9 @@
 -- What the packets of changed cells make of what a client sees: each column that stays is as it is
 -- wanted.
-use Rattle.std.proofs.Common.{◌≡◌, ℕ, zero, suc, ◌+◌, ◌/◌, ◌%◌, ◌<◌, ◌≤◌, Bool, true, false}
-use Rattle.std.proofs.Common.{cond, not, List, [], ◌∷◌, map, length, Option, Some, None}
-use Rattle.std.proofs.Common.{refl, sym, ap, ◌∙◌, lt-ltb, eqb-true, inl, inr, arith}
-use Rattle.std.specs.Prelude.{◌==◌, slice_index, slice_set, nat_lt}
+use Rattle.std.proofs.Common.{◌≡◌, ℕ, zero, suc, ◌+◌, ◌<◌, ◌≤◌, false}
+use Rattle.std.proofs.Common.{List, [], ◌∷◌, map, length, Option, Some, None}
+use Rattle.std.proofs.Common.{refl, sym, ap, ◌∙◌, arith}
+use Rattle.std.specs.Prelude.{slice_index, slice_set}
 use Rattle.std.specs.List.{filter, fold, range_with_len, AllByRecursion}
 use Rattle.std.specs.FinMap.{get, insert, entries, entries_sorted, get-entries}
 use Rattle.std.proofs.lemmas.Bool.Decides.{eqb_tells, nat_tests}
@@ -11,8 +11,7 @@ use Rattle.std.proofs.lemmas.List.{get_or-set_same, get_or-set_other, length-set
 use Rattle.std.proofs.lemmas.Grind.{same_number_lists}
 use Rattle.std.proofs.lemmas.Int.{ints}
 use lib.IntN.{ℤ, pos, negsuc, ◌+ℤ◌, ◌*ℤ◌}
-use Rattle.mc_column.specs.Sizes.{cells}
-use Rattle.mc_column.specs.Cells.{ColumnValue, cell_index, with_state}
+use Rattle.mc_column.specs.Cells.{ColumnValue, with_state}
 use Rattle.mc_land.specs.Places.{Place, column_number, inside, key_of, x_of, y_of, z_of}
 use Rattle.mc_land.specs.Ready.{has_changed}
 use Rattle.mc_land.proofs.Orders.{places_total, exact_places}
@@ -190,11 +189,7 @@ cells_point_leads p q s follows =
         let same : record old {
           states = set_cells v.states old.states
               (differing old.states v.states);
-        } ≡ v =
-        λ i. record {
-          states = all_set old.states v.states cells was.states_are are.states_are i;
-          biomes = follows.biomes place old v e wanted i;
-        } in
+        } ≡ v = grind (arith, nat_tests, all_set) in
         led (ap (λ (n : Columns). record s { columns = n })
         (sym (put_there places_total exact_places m place old
         (before ∙ ap (λ (o : Option ColumnValue). joined o (Some v)) e))))

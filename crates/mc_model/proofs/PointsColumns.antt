@@ -1,10 +1,10 @@
 -- What the packets of columns that go and come make of what a client sees.
-use Rattle.std.proofs.Common.{◌≡◌, ◌==◌, Bool, true, false, cond, not, List, [], ◌∷◌, map}
-use Rattle.std.proofs.Common.{refl, ap, ◌∙◌, inl, inr, arith}
+use Rattle.std.proofs.Common.{◌≡◌, Bool, true, false, cond, not, List, [], ◌∷◌, map}
+use Rattle.std.proofs.Common.{refl, ap, ◌∙◌, arith}
 use Rattle.std.specs.List.{filter, fold, AllByRecursion}
 use Rattle.std.specs.FinMap.{insert, remove, entries, entries_sorted, contains_key, get-entries}
 use Rattle.std.proofs.lemmas.Bool.Decides.{eqb_tells, nat_tests}
-use Rattle.mc_column.specs.Cells.{ColumnValue, HasSizes, empty_column}
+use Rattle.mc_column.specs.Cells.{ColumnValue, HasSizes}
 use Rattle.mc_column.specs.Sent.{column_mask, column_bytes}
 use Rattle.mc_column.proofs.SentFacts.{column_mask_names, column_read, column_again}
 use Rattle.mc_land.specs.Places.{Place}

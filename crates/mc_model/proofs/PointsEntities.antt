@@ -1,11 +1,10 @@
 -- What the packets about entities make of what a client sees: those that are seen no more go, and
 -- each other one is as it is wanted.
-use Rattle.std.proofs.Common.{◌≡◌, ℕ, zero, suc, ◌<◌, ◌≤◌, Bool, true, false, cond, not, List, []}
+use Rattle.std.proofs.Common.{◌≡◌, ℕ, zero, suc, ◌<◌, ◌≤◌, Bool, true, not, List, []}
 use Rattle.std.proofs.Common.{◌∷◌, take, drop, length, map, Option, Some, None, refl, sym, ap}
-use Rattle.std.proofs.Common.{subst, ◌∙◌, lit<, arith}
+use Rattle.std.proofs.Common.{◌∙◌, lit<, arith}
 use Rattle.std.specs.Prelude.{is_some}
 use Rattle.std.specs.List.{filter, fold}
-use Rattle.std.specs.Ordering.{int_eq}
 use Rattle.std.specs.Cmp.{int_cmp_total}
 use Rattle.std.specs.FinMap.{get, remove, entries, entries_sorted, contains_key}
 use Rattle.std.specs.FinMap.{get-entries, int_cmp-IsAntisymmetric}
@@ -25,7 +24,7 @@ use Rattle.mc_model.specs.declared.seen.SeenKind.TheVariants as seen_kinds
 use Rattle.mc_model.specs.Sight.{Seen, Sight}
 use Rattle.mc_model.specs.Replica.{Entities, apply, replay, seeing, coming, without_eids}
 use Rattle.mc_model.specs.Delta.{Follows, IsSeen, parts_of, destroys_point, is_same_slot}
-use Rattle.mc_model.specs.Delta.{pile_packet, pile_packets, id_in_hand, hand_packets, no_flags}
+use Rattle.mc_model.specs.Delta.{pile_packets, id_in_hand, hand_packets, no_flags}
 use Rattle.mc_model.specs.Delta.{spawn_as, entity_packets, entities_point}
 use Rattle.mc_model.proofs.FitsText.{both_true}
 use Rattle.mc_model.proofs.Maps.{take_out, is_without, kept, get_kept, all_put_in, put_there}

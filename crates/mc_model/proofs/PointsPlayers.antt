@@ -1,18 +1,17 @@
 -- What the packets about the list of players make of what a client sees.
-use Rattle.std.proofs.Common.{◌≡◌, ℕ, Bool, true, false, cond, not, List, [], ◌∷◌, map}
-use Rattle.std.proofs.Common.{Option, Some, None, refl, sym, ap, ◌∙◌, arith}
+use Rattle.std.proofs.Common.{◌≡◌, ℕ, Bool, not, List, [], ◌∷◌, map}
+use Rattle.std.proofs.Common.{refl, ap, ◌∙◌, arith}
 use Rattle.std.proofs.lemmas.Bool.Decides.{nat_tests}
 use Rattle.std.specs.List.{fold}
-use Rattle.std.specs.Str.{bytes_eq}
 use Rattle.std.specs.Cmp.{nat_cmp_total}
-use Rattle.std.specs.FinMap.{get, insert, remove, nat_cmp-IsAntisymmetric}
+use Rattle.std.specs.FinMap.{get, insert, remove}
 use Rattle.std.proofs.lemmas.Slice.Eq.{bytes_eq-Decides}
 use lib.IntN.{pos}
 use Rattle.mc_model.specs.Sight.{Sight}
 use Rattle.mc_model.specs.Replica.{apply, replay, seeing, with_players}
 use Rattle.mc_model.specs.Delta.{Pairs, is_named, missing, leaver, joiner, about}
 use Rattle.mc_model.specs.Delta.{leavers_point, joiners_point}
-use Rattle.mc_model.proofs.Maps.{take_out, put_in, remade, remade_at}
+use Rattle.mc_model.proofs.Maps.{take_out, put_in, remade}
 use Rattle.mc_model.proofs.Leading.{Leads}
 
 -- the test of a pair that another list of players has not

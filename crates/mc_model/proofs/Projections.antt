@@ -1,37 +1,29 @@
 -- What a projection shows: each column as it is in the world, with all its cells, entities and a
 -- pack that packets can tell. Two projections of one terrain follow one another.
-use Rattle.std.proofs.Common.{◌≡◌, ℕ, ◌<◌, ◌≤◌, T, Bool, true, false, cond, List, [], ◌∷◌, ◌++◌}
-use Rattle.std.proofs.Common.{map, length, Option, Some, None, is_some, refl, sym, ap, subst, ◌∙◌}
+use Rattle.std.proofs.Common.{◌≡◌, ℕ, ◌<◌, ◌≤◌, true, List, [], ◌∷◌, ◌++◌}
+use Rattle.std.proofs.Common.{map, length, Some, None, is_some, refl, sym, ap, ◌∙◌}
 use Rattle.std.proofs.Common.{arith}
 use Rattle.std.proofs.lemmas.Bool.Decides.{nat_tests}
-use Rattle.std.specs.Prelude.{unsigned_abs, int_le, slice_index_or}
+use Rattle.std.specs.Prelude.{unsigned_abs, int_le}
 use Rattle.std.specs.List.{All, AllByRecursion, filter, filter_map}
 use Rattle.std.specs.Cmp.{int_cmp_total}
-use Rattle.std.specs.Option.{unwrap_or}
 use Rattle.std.specs.declared.cmp.Ordering.{Ordering}
-use Rattle.std.specs.declared.cmp.Ordering.TheVariants.{Less, Equal, Greater}
-use Rattle.std.specs.Ordering.{is_eq, int_cmp}
+use Rattle.std.specs.Ordering.{int_cmp}
 use Rattle.std.specs.FinMap.{IsAntisymmetric, find, get, get-empty, get-from_entries}
 use Rattle.std.proofs.lemmas.List.{length-map}
 use Rattle.std.proofs.lemmas.List.FromFn.{length-map-range_with_len, get_or-map-range_with_len}
-use Rattle.std.proofs.lemmas.Int.{ints}
-use lib.IntN.{ℤ, pos, negsuc}
+use lib.IntN.{ℤ, pos}
 use lib.Signed.{◌≤ℤ◌}
-use Rattle.mc_column.specs.Sizes.{cells, squares}
 use Rattle.mc_column.specs.Cells.{ColumnValue, HasSizes}
 use Rattle.mc_land.specs.Places.{Place, place_cmp}
 use Rattle.mc_land.specs.declared.terrain.Terrain.{Terrain}
-use Rattle.mc_land.specs.Land.{state_at, biomes_of}
+use Rattle.mc_land.specs.Land.{biomes_of}
 use Rattle.mc_land.proofs.Orders.{places_total, exact_places}
 use Rattle.mc_slots.specs.declared.slot.Slot.{Slot}
-use Rattle.mc_slots.specs.declared.pile.Pile.TheVariants.{Full}
 use Rattle.mc_slots.specs.Pile.{slot_of}
 use Rattle.mc_windows.specs.Pack.{pack_size}
 use Rattle.mc_entities.specs.declared.entity.Entity.{Entity}
 use Rattle.mc_entities.specs.declared.entity.EntityKind.{EntityKind}
-use Rattle.mc_entities.specs.declared.entity.EntityKind.TheVariants as kinds
-use Rattle.mc_model.specs.declared.seen.SeenKind.{SeenKind}
-use Rattle.mc_model.specs.declared.seen.SeenKind.TheVariants as seen_kinds
 use Rattle.mc_model.specs.Sight.{Seen, nothing_seen}
 use Rattle.mc_model.specs.Replica.{is_32_bits}
 use Rattle.mc_model.specs.Delta.{IsSeen, IsTold, Follows}

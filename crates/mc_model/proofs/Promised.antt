@@ -2,22 +2,22 @@
 use Rattle.std.proofs.Common.{◌≡◌, ◌≢◌, ℕ, zero, suc, List, [], ◌∷◌, ◌++◌, take, drop, refl, sym}
 use Rattle.std.proofs.Common.{subst, ap, ◌∙◌, append_assoc, arith}
 use Rattle.std.proofs.lemmas.Bool.Decides.{nat_tests}
-use Rattle.std.specs.Prelude.{Bool, true, false, Option, Some, None, is_some, if◌then◌else◌}
+use Rattle.std.specs.Prelude.{Bool, true, Option, Some, None, if◌then◌else◌}
 use Rattle.std.proofs.lemmas.List.{append-nil, take-append-drop}
 use Rattle.mc_land.specs.declared.terrain.Terrain.{Terrain}
 use Rattle.mc_model.specs.declared.cause.Cause.{Cause}
 use Rattle.mc_model.specs.declared.cause.Cause.TheVariants as causes
 use Rattle.mc_model.specs.World.{World, Session, new_world, found, is_closed}
 use Rattle.mc_model.specs.Packets.{Sent, bytes_of}
-use Rattle.mc_model.specs.Step.{Event, mark_closed, new_session, joining, is_new, is_crowded, gone}
+use Rattle.mc_model.specs.Step.{Event, mark_closed, joining, is_new, gone}
 use Rattle.mc_model.specs.Step.{step}
 use Rattle.mc_model.specs.Run.{history, handed, to, owed_of, owed_in, taken, taken_at, lost}
 use Rattle.mc_model.specs.Run.{lost_at, cause_in, first_of, why}
 use Rattle.mc_model.specs.Headline.{Promised}
 use Rattle.mc_model.proofs.Sessions.{some_none, one_some}
-use Rattle.mc_model.proofs.Handing.{Owes, adds, empties, closed_is, not_both}
+use Rattle.mc_model.proofs.Handing.{Owes, adds, empties, closed_is}
 use Rattle.mc_model.proofs.RunEvents.{orderly_step, old_step}
-use Rattle.mc_model.proofs.RunTurns.{no_out, away, joins, arrives}
+use Rattle.mc_model.proofs.RunTurns.{no_out, arrives}
 use Rattle.mc_model.proofs.CauseSound.{cause_found, cause_nowhere, Sound, sound_step, sound_new}
 use Rattle.mc_model.proofs.CauseSound.{shut_for_good}
 use Rattle.mc_model.proofs.Owing.{bytes_more, Owing, goes, owes, takes, leaves, owing, take_none}
@@ -185,18 +185,7 @@ joining_owed w k = grind (arith, nat_tests)
 next_away : (k : ℕ) (w : World) (e : Event) (ps : List Sent) (tk lo : List ℕ) (c : Option Cause) →
     found k w.sessions ≡ None → Keeps k w ps tk lo c →
     Next k (step w e).world ps tk lo (first_of c (cause_in k (step w e).world))
-next_away k w e ps tk lo c none keeps = grind (
-  arith,
-  nat_tests,
-  arrives,
-  away,
-  nowhere_cause,
-  next_none,
-  joins,
-  next_of,
-  cause_found,
-  joining_owed,
-)
+next_away k w e ps tk lo c none keeps = grind (arith, arrives)
 
 -- one that was there
 next_there : (k : ℕ) (w : World) (e : Event) (ps : List Sent) (tk lo : List ℕ) (c : Option Cause)
@@ -265,13 +254,9 @@ still_nobody : (k : ℕ) (w : World) (e : Event) (ps : List Sent) (tk lo : List 
     × (first_of c (cause_in k (step w e).world) ≡ None)
 still_nobody k w e ps tk lo c keeps new = grind (
   arith,
-  nat_tests,
   orderly_step w e keeps.sound.orderly,
   no_out k w e,
   nothing_taken k w e,
-  nothing_lost k w e,
-  nowhere_cause k,
-  not_both,
   old_step k w e,
 )
 
@@ -281,7 +266,6 @@ keeps_step : (k : ℕ) (w : World) (e : Event) (ps : List Sent) (tk lo : List �
     ++ lost_at k w e) (first_of c (cause_in k (step w e).world))
 keeps_step k w e ps tk lo c keeps = grind (
   arith,
-  nat_tests,
   next k w e ps tk lo c keeps,
   sound_step w e keeps.sound,
   still_nobody k w e ps tk lo c keeps,

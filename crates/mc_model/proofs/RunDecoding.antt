@@ -13,7 +13,7 @@ use Rattle.mc_nbt.specs.Reading.{IsBytes}
 use Rattle.mc_model.specs.Packets.{Sent}
 use Rattle.mc_model.specs.Decoding.{decoder_of}
 use Rattle.mc_model.specs.Things.{Things}
-use Rattle.mc_model.specs.World.{World, Session, found, is_closed}
+use Rattle.mc_model.specs.World.{World, Session, found}
 use Rattle.mc_model.specs.Step.{mark_closed, gone, is_new, changed, depart, after_leaving}
 use Rattle.mc_model.specs.Step.{player_in}
 use Rattle.mc_model.proofs.Sessions.{found_map, some_none, one_some}
@@ -160,12 +160,12 @@ changed_steps k j w f things came earlier keeps waits stays fits hands small sou
 pub gone_steps : (k j : ℕ) (w : World) (cause : Cause) (came : List ℕ) (earlier : List Sent) →
     Sound w → Kept k w came earlier
     → Steps k (depart w j cause) came (earlier ++ [])
-gone_steps k j w cause came earlier sound kept =
-    changed_steps k j w (gone cause) (after_leaving (player_in j w.sessions) None w.things)
-    came earlier (λ s. keeps s (is_closed s.stage))
-    (λ s. waits s (is_closed s.stage)) (λ s. stays s (is_closed s.stage))
-    (λ s f. fits s (is_closed s.stage) f) (λ s. hands s (is_closed s.stage))
-    (leaving_fits (player_in j w.sessions) None w.things sound.things) sound kept
+gone_steps k j w cause came earlier sound kept = grind (
+  arith,
+  changed_steps k j w (gone cause) (after_leaving (player_in j w.sessions) None w.things) came earlier,
+  leaving_fits (player_in j w.sessions) None w.things sound.things,
+  hands,
+)
   where
     after : Session → Bool → Session
     after s b = if b then record s { owed = [] } else

@@ -2,21 +2,21 @@
 -- that joined, and at most the one that joins is more.
 use Rattle.std.proofs.Common.{◌≡◌, ◌≢◌, ◌≤◌, ℕ, ◌+◌, [], ◌∷◌, ◌++◌, length, drop, refl, sym, subst}
 use Rattle.std.proofs.Common.{ap, ◌∙◌, arith}
-use Rattle.std.specs.Prelude.{◌==◌, ◌&&◌, not, nat_lt, Bool, true, false, cond, Option, Some, None}
+use Rattle.std.specs.Prelude.{◌==◌, ◌&&◌, not, nat_lt, Bool, true, false, Option, Some, None}
 use Rattle.std.specs.Prelude.{if◌then◌else◌}
 use Rattle.std.proofs.lemmas.Bool.Decides.{nat_tests}
 use Rattle.std.proofs.lemmas.List.{length-append}
 use Rattle.std.proofs.lemmas.List.Sums.{length-filter, count_by-le-length}
 use Rattle.mc_model.specs.declared.cause.Cause.{Cause}
 use Rattle.mc_model.specs.declared.cause.Cause.TheVariants as causes
-use Rattle.mc_model.specs.World.{World, Session, found, is_closed}
+use Rattle.mc_model.specs.World.{World, Session}
 use Rattle.mc_model.specs.Step.{Event, joined, came, left, broke, ticked, took, forgot, Handing}
 use Rattle.mc_model.specs.Step.{mark_closed, joining, join, is_new, gone, changed, depart, is_done}
 use Rattle.mc_model.specs.Step.{aged, beat, flush, at_tick, tick, on_bytes, step}
 use Rattle.mc_model.specs.Talk.{farewell}
 use Rattle.mc_model.specs.Orderly.{Orderly, Rise, next_number}
-use Rattle.mc_model.proofs.RiseFacts.{joining_id, joined_rise, rise_filter}
-use Rattle.mc_model.proofs.Sessions.{other_number, found_behind, apart_more, apart_filter}
+use Rattle.mc_model.proofs.RiseFacts.{joined_rise, rise_filter}
+use Rattle.mc_model.proofs.Sessions.{found_behind, apart_more, apart_filter}
 use Rattle.mc_model.proofs.Sessions.{none_filtered}
 use Rattle.mc_model.proofs.Beside.{Beside, beside_same, beside_onward, beside_changed}
 use Rattle.mc_model.proofs.Handing.{hand_cases, beat_cases, flush_cases}
@@ -73,17 +73,7 @@ orderly_beside k w v b o = record {
 }
 
 orderly_join : (w : World) (k : ℕ) → Orderly w → Orderly (join w k)
-orderly_join w k o = grind (
-  arith,
-  nat_tests,
-  joined_rise,
-  apart_more,
-  joining_id,
-  found_behind,
-  later_new,
-  other_number,
-  above_other,
-)
+orderly_join w k o = grind (arith, joined_rise, apart_more, found_behind)
 
 -- one that is gone leaves all others as they are
 pub gone_beside : (k : ℕ) (w : World) (cause : Cause) → Beside k w (changed w k (gone cause))

@@ -4,7 +4,6 @@ use Rattle.std.proofs.Common.{◌≡◌, ℕ, List, [], ◌∷◌, ◌++◌, map
 use Rattle.std.proofs.Common.{append_assoc, arith}
 use Rattle.std.proofs.lemmas.Bool.Decides.{nat_tests}
 use Rattle.std.specs.Prelude.{true, false, drop, Option, Some, None, is_some, option_map, unwrap_or}
-use Rattle.std.specs.Prelude.{if◌then◌else◌}
 use Rattle.std.specs.Option.{option_and_then}
 use Rattle.std.proofs.lemmas.List.{append-nil}
 use Rattle.std.proofs.lemmas.List.Elements.{filter_map-append}
@@ -23,8 +22,8 @@ use Rattle.mc_model.specs.Beats.{awaiting}
 use Rattle.mc_model.specs.Packets.{Sent, of_play, in_play, played}
 use Rattle.mc_model.specs.Names.{offline_uuid}
 use Rattle.mc_model.specs.Talk.{accepted, farewell}
-use Rattle.mc_model.specs.Step.{Event, ticked, Handing, mark_closed, new_session, joining, is_new}
-use Rattle.mc_model.specs.Step.{is_crowded, due, showing, beat, flush, aged, at_tick, player_in}
+use Rattle.mc_model.specs.Step.{Event, ticked, Handing, mark_closed, joining, is_new}
+use Rattle.mc_model.specs.Step.{due, showing, beat, flush, aged, at_tick, player_in}
 use Rattle.mc_model.specs.Step.{step}
 use Rattle.mc_model.specs.Run.{history, handed, to}
 use Rattle.mc_model.specs.Headline.{HasPlayerInPlay, ShowsWorld}
@@ -174,9 +173,7 @@ tick_keeps_shown land w s ps terrain things h =
       playing = λ q now. subst (λ (v : Player). replay new_replica
           (played (ps ++ map of_play (due (at_tick w) p))) ≡ seeing (last_shown v))
           (one_some (then_ p) q _ refl now) (sees p there);
-      chat = λ q now. subst (λ (v : Player). v.chat ≡ (last_shown v).chat)
-          (one_some (then_ p) q _ refl now)
-          (sym (projected_chat (at_tick w) (awaiting (aged w) p)));
+      chat = grind (arith, nat_tests, one_some, projected_chat);
       drawn = λ q now. subst (λ (v : Player). IsDrawn land (at_tick w).things v.shown)
           (one_some (then_ p) q _ refl now) (record {
             world = at_tick w;
@@ -246,12 +243,7 @@ runs_step land k w ps e r = record {
   orderly = orderly_step w e r.orderly;
   terrain = terrain_step w e ∙ r.terrain;
   things = things_step w e r.things;
-  nobody = λ new. elim (is_new k w.last) as (λ b. is_new k w.last ≡ b →
-      ps ++ to k (step w e).out ≡ []) [
-        | true ↦ λ was. nothing_more ps (to k (step w e).out) (r.nobody was)
-            (no_out k w e (r.orderly.fresh k was))
-        | false ↦ λ old. absurd (not_both (is_new k (step w e).world.last) new (old_step k w e old))
-      ] refl;
+  nobody = grind (arith, nat_tests, nothing_more, no_out, not_both, old_step);
   each = λ s there. shown_later land (drawn_things w e) (step w e).world.things s _
       (λ old t. after_drawn w e t) (each_step (IsShown land (drawn_things w e))
       (shown_kept land (drawn_things w e)) k w ps e r.orderly.apart
@@ -323,15 +315,7 @@ run_shows most cap terrain events k s p there playing =
     record {
       player = sees.0;
       plays = sees.1;
-      shows = record {
-        beat = ap (λ (r : Replica). r.sight.beat) all;
-        age = ap (λ (r : Replica). r.sight.age) all;
-        pairs = ap (λ (r : Replica). r.sight.pairs) all;
-        columns = ap (λ (r : Replica). r.sight.columns) all;
-        entities = ap (λ (r : Replica). r.sight.entities) all;
-        pack = ap (λ (r : Replica). r.sight.pack) all;
-        chat = ap (λ (r : Replica). r.sight.chat) all;
-      };
+      shows = grind (arith, nat_tests);
     }
 
 -- in every run a connection has a player exactly while it is in play

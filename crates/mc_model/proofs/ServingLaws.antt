@@ -1,22 +1,20 @@
 -- The promise about what a lobby took and closed holds of turns one after another.
-use Rattle.std.proofs.Common.{◌≡◌, ◌≤◌, ℕ, ◌+◌, List, [], ◌∷◌, ◌++◌, refl, sym, subst, ap, ◌∙◌}
+use Rattle.std.proofs.Common.{◌≡◌, ◌≤◌, ℕ, ◌+◌, List, [], ◌∷◌, refl, subst, ap, ◌∙◌}
 use Rattle.std.proofs.Common.{arith}
 use Rattle.std.proofs.lemmas.Bool.Decides.{nat_tests}
-use Rattle.std.specs.Prelude.{◌⊎◌, ◌==◌, Bool, true, false, cond, Some, None}
-use Rattle.std.specs.List.{Contains, count_by}
+use Rattle.std.specs.Prelude.{Bool, true, false, cond, Some, None}
+use Rattle.std.specs.List.{count_by}
 use Rattle.std.proofs.lemmas.Bool.{eqb-true}
 use Rattle.std.proofs.lemmas.List.Sums.{sum_by-cons}
 use Rattle.mc_land.specs.declared.terrain.Terrain.{Terrain}
 use Rattle.mc_wire.specs.declared.log.LogEntry.{LogEntry}
-use Rattle.mc_wire.specs.declared.log.LogEntry.TheVariants.{Stalled, Closed}
+use Rattle.mc_wire.specs.declared.log.LogEntry.TheVariants.{Closed}
 use Rattle.mc_model.specs.World.{World, found, new_world}
-use Rattle.mc_model.specs.Step.{forgot, is_new}
-use Rattle.mc_model.specs.Run.{history, lost, owed_in, taken}
+use Rattle.mc_model.specs.Step.{is_new}
 use Rattle.mc_model.specs.Orderly.{Orderly}
-use Rattle.mc_model.specs.Log.{events_in, logged, log_of, puts}
+use Rattle.mc_model.specs.Log.{events_in, logged, log_of}
 use Rattle.mc_model.specs.Turns.{AreTurns}
 use Rattle.mc_model.specs.Serving.{HasPut, closes, Serves}
-use Rattle.mc_model.proofs.Sessions.{some_none}
 use Rattle.mc_model.proofs.RunEvents.{old_step}
 use Rattle.mc_model.proofs.RunOrder.{orderly_new, old_history}
 use Rattle.mc_model.proofs.CauseSound.{gone_for_good, there_old}
@@ -68,13 +66,10 @@ closed_once : (k : ℕ) (log : List LogEntry) (w : World) → Orderly w → AreR
 closed_once k [] w o right = omega arith
 closed_once k (entry ∷ log) w o right = grind (
   arith,
-  nat_tests,
   closed_once k log (logged w (entry ∷ [])) (orderly_logged (entry ∷ []) w o) right.1,
   closed_away k w entry o right.0,
   nowhere_counts k log (logged w (entry ∷ [])) right.1,
   counted k entry log true,
-  counted k entry log false,
-  orderly_logged (entry ∷ []) w o,
 )
 
 -- ---- all of it
@@ -89,11 +84,7 @@ pub serves : (most cap : ℕ) (terrain : Terrain) (turns : List (List LogEntry))
 serves most cap terrain turns are = record {
   put = λ log later k split. has_put most cap terrain log k
       (right_first log later w (subst (AreRight w) split right));
-  emptied = λ before turn later k split.
-      subst (λ (v : World). (owed_in k v ≡ []) ⊎ Contains turn (Stalled k))
-      (sym (logged_more w (log_of before) turn))
-      (turn_empties k (logged w (log_of before)) turn (orderly_logged (log_of before) w o)
-      (turn_at before turn later w (subst (AreTurns w) split are)));
+  emptied = grind (arith, nat_tests, logged_more, turn_empties, orderly_logged, turn_at);
   all_closed = λ before turn later k s split there.
       turn_closes k s (logged w (log_of before)) turn (orderly_logged (log_of before) w o)
       (turn_at before turn later w (subst (AreTurns w) split are))

@@ -7,8 +7,8 @@ use Rattle.std.specs.Prelude.{◌⊎◌, true, false, Some}
 use Rattle.std.specs.List.{Contains}
 use Rattle.std.proofs.lemmas.List.Elements.{Contains-append_left, Contains-append_right}
 use Rattle.mc_wire.specs.declared.log.LogEntry.{LogEntry}
-use Rattle.mc_wire.specs.declared.log.LogEntry.TheVariants.{Joined, Came, Left, Ticked, Put}
-use Rattle.mc_wire.specs.declared.log.LogEntry.TheVariants.{Stalled, Broke, Closed}
+use Rattle.mc_wire.specs.declared.log.LogEntry.TheVariants.{Came}
+use Rattle.mc_wire.specs.declared.log.LogEntry.TheVariants.{Stalled, Closed}
 use Rattle.mc_model.specs.World.{World, Session, found}
 use Rattle.mc_model.specs.Step.{Event, came, is_done}
 use Rattle.mc_model.specs.Run.{AreBytes, owed_in}

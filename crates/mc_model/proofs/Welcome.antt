@@ -1,17 +1,14 @@
 -- What is known of a player that is not refused.
 use Rattle.std.proofs.Common.{◌≡◌, ℕ, ◌<◌, List, length, refl, arith}
 use Rattle.std.proofs.lemmas.Bool.Decides.{nat_tests}
-use Rattle.std.specs.Prelude.{◌==◌, ◌&&◌, ◌||◌, not, nat_lt, Bool, true, false, Option, Some, None}
+use Rattle.std.specs.Prelude.{not, Bool, true, false, Option, Some, None}
 use Rattle.std.specs.Prelude.{if◌then◌else◌}
-use Rattle.std.specs.List.{list_any}
 use Rattle.std.proofs.lemmas.Bool.{ltb-true}
 use lib.IntN.{ℤ}
 use Rattle.mc_model.specs.declared.cause.Refusal.{Refusal}
-use Rattle.mc_model.specs.declared.cause.Refusal.TheVariants as refusals
-use Rattle.mc_model.specs.Names.{is_name, offline_uuid}
-use Rattle.mc_model.specs.Things.{is_known}
-use Rattle.mc_model.specs.World.{World, Player, players}
-use Rattle.mc_model.specs.Step.{refusal, is_47}
+use Rattle.mc_model.specs.Names.{is_name}
+use Rattle.mc_model.specs.World.{World, players}
+use Rattle.mc_model.specs.Step.{refusal}
 use Rattle.mc_model.proofs.FitsText.{both_true}
 
 -- its name is one, it has a place among the players, and an entity number

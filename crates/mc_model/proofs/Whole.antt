@@ -9,7 +9,7 @@ use Rattle.mc_model.specs.World.{AreSettings, Session, Player, found, new_world}
 use Rattle.mc_model.specs.Packets.{Sent, played}
 use Rattle.mc_model.specs.Decoding.{IsDecoded, decoder_of}
 use Rattle.mc_model.specs.Step.{Event, joined, came, left, broke, ticked, took, forgot, at_tick}
-use Rattle.mc_model.specs.Run.{AreBytes, handed, history, received, stream}
+use Rattle.mc_model.specs.Run.{AreBytes, history, received, stream}
 use Rattle.mc_model.specs.Headline.{Between, ClosedForACause, Closing, Headline, LoggingIn}
 use Rattle.mc_model.specs.Headline.{ShowsWorld}
 use Rattle.mc_model.proofs.RunOrder.{orderly_run}
@@ -82,7 +82,6 @@ pub decoded_shows : (most cap : ℕ) (terrain : Terrain) (events : List Event) (
     (replay new_replica (played packets))
 decoded_shows most cap terrain events k s p packets settings are there playing decoded = grind (
   arith,
-  nat_tests,
   one_decoded,
   stream_decoded most cap terrain,
   run_shows most cap terrain events k s p there playing,
