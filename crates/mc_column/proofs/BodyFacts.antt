@@ -1,6 +1,6 @@
 -- Bodies and the bytes that spell them.
 use Rattle.std.proofs.Common.{◌≡◌, ℕ, ◌+◌, ◌*◌, ◌/◌, ◌%◌, ◌<◌, ◌≤◌, Bool, true, false, List, length}
-use Rattle.std.proofs.Common.{get_or, take, drop, refl, sym, ap, subst, ◌∙◌, arith, inl, inr, ◌↔◌}
+use Rattle.std.proofs.Common.{get_or, take, drop, refl, sym, subst, ◌∙◌, arith, inl, inr, ◌↔◌}
 use Rattle.std.proofs.Common.{Result, Ok, Err, IfOk, IsErrOf, nat_lt}
 use Rattle.std.proofs.lemmas.Bool.Decides.{nat_tests}
 use Rattle.std.proofs.lemmas.Bool.{cases_order, lt-ltb, le-ltb}
@@ -78,30 +78,15 @@ same_body mask mask' ground ground' states states' biomes biomes' m g s b = rw (
 -- what is spelled so is read
 pub body_in_only : (body : BodyValue) (mask : ℕ) (sky ground_up : Bool) (bytes : List ℕ) →
     SpellsBody body mask sky ground_up bytes → body_in mask sky ground_up bytes ≡ body
-body_in_only body mask sky ground_up bytes spells =
-    let long : block_light_at mask ≤ length bytes = omega (
-      arith,
-      blocks_within mask sky ground_up,
-      spells.size,
-    ) in
-    let sized = states_sized mask bytes long in
-    let states : paired (take (block_light_at mask) bytes) ≡ body.states =
-    ext_get_or 0 (paired (take (block_light_at mask) bytes)) body.states (sized ∙
-    sym spells.states_are) (λ i lt. state_in mask bytes i long (omega arith) ∙
-    whole (get_or bytes (2 * i) 0) (get_or bytes (2 * i + 1) 0) (get_or body.states i 0)
-    (spells.low i (omega (arith, spells.states_are)))
-    (spells.high i (omega (arith, spells.states_are)))) in
-    let rest = length-drop (biomes_at mask sky) bytes in
-    let biomes : drop (biomes_at mask sky) bytes ≡ body.biomes =
-    ext_get_or 0 (drop (biomes_at mask sky) bytes) body.biomes (omega (
-      arith,
-      spells.size,
-      spells.biomes_are,
-    )) (λ i lt. get_or-drop (biomes_at mask sky) bytes i 0 ∙
-    spells.biome i (omega (arith, spells.size, spells.biomes_are))) in
-    same_body mask body.mask ground_up body.ground_up (paired (take (block_light_at mask) bytes))
-    body.states (drop (biomes_at mask sky) bytes) body.biomes (sym spells.for_mask)
-    (sym spells.for_ground) states biomes
+body_in_only body mask sky ground_up bytes spells = grind (
+  arith,
+  states_sized mask bytes,
+  ext_get_or 0 (paired (take (block_light_at mask) bytes)) body.states,
+  ext_get_or 0 (drop (biomes_at mask sky) bytes) body.biomes,
+  state_in mask bytes,
+  length-drop (biomes_at mask sky) bytes,
+  get_or-drop (biomes_at mask sky) bytes,
+)
   where
     whole : (low high state : ℕ) → low ≡ state % 256 → high ≡ state / 256 → low + 256 * high ≡ state
     whole low high state l h = omega arith
@@ -212,9 +197,10 @@ given_short r mask sky ground_up bytes given memory = (
       let read = read_err r (body_read mask sky ground_up bytes) (fault_at Short (length bytes))
       given e in
       elim (cases_order (length bytes) (body_size mask sky ground_up)) [
-        | inl size ↦ absurd (not_both (body_in mask sky ground_up bytes)
-            (fault_at Short (length bytes)) (sym (body_read_whole mask sky ground_up bytes size) ∙
-            read))
+        | inl size ↦ grind (
+          arith,
+          not_both (body_in mask sky ground_up bytes) (fault_at Short (length bytes)) (sym (body_read_whole mask sky ground_up bytes size) ∙ read),
+        )
         | inr (inl short) ↦ short
         | inr (inr long) ↦ absurd (short_or_long (length bytes) (body_size mask sky ground_up)
             (sym read ∙ body_read_long mask sky ground_up bytes long))

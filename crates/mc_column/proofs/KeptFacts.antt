@@ -1,10 +1,9 @@
 -- How a section is kept stays right through each change.
-use Rattle.std.proofs.Common.{◌≡◌, ℕ, ◌+◌, ◌*◌, ◌-◌, ◌/◌, ◌%◌, ◌<◌, ◌≤◌, true, false, cond, eqb}
-use Rattle.std.proofs.Common.{zero, suc, List, [], ◌∷◌, length, get_or, set, replicate, refl, sym}
+use Rattle.std.proofs.Common.{◌≡◌, ℕ, ◌+◌, ◌*◌, ◌-◌, ◌/◌, ◌%◌, ◌<◌, ◌≤◌, false, eqb}
+use Rattle.std.proofs.Common.{suc, List, [], ◌∷◌, length, get_or, set, replicate, refl, sym}
 use Rattle.std.proofs.Common.{ap, ◌∙◌, arith, inl, inr, ◌↔◌, not}
 use Rattle.std.proofs.lemmas.Bool.Decides.{nat_tests}
-use Rattle.std.proofs.lemmas.Bool.{cases_lt, cases_eq, cases_Bool, eqb-true, eq-eqb, ne_eqb}
-use Rattle.std.proofs.lemmas.Bool.{false≢true}
+use Rattle.std.proofs.lemmas.Bool.{cases_lt, cases_Bool, eqb-true, eq-eqb}
 use Rattle.std.proofs.lemmas.Grind.{common_steps}
 use Rattle.std.proofs.lemmas.List.{ext_get_or, get_or-replicate, length-replicate, get_or_past}
 use Rattle.std.proofs.lemmas.List.{length-set, get_or-set_same, get_or-set_other}
@@ -34,16 +33,8 @@ kept_length bytes filled kept = length-paired bytes section_cells kept.sized
 
 byte_set : (bytes : List ℕ) (at byte : ℕ) → ((i : ℕ) → get_or bytes i 0 < 256) → byte < 256 →
     (i : ℕ) → get_or (set bytes at byte) i 0 < 256
-byte_set bytes at byte fit lt i = grind (
-  arith,
-  nat_tests,
-  cases_lt,
-  cases_eq,
-  get_or-set_same,
-  get_or-set_other,
-  get_or_past,
-  length-set,
-)
+byte_set bytes at byte fit lt i =
+    grind (arith, get_or-set_same, get_or-set_other, get_or_past, length-set)
 
 -- one state is put in place of another
 pub kept_set : (bytes : List ℕ) (filled i state old n : ℕ) → IsKept bytes filled →
@@ -52,7 +43,6 @@ pub kept_set : (bytes : List ℕ) (filled i state old n : ℕ) → IsKept bytes 
     IsKept (set (set bytes (2 * i) (state % 256)) (2 * i + 1) (state / 256)) n
 kept_set bytes filled i state old n kept lt fits is count = grind (
   arith,
-  nat_tests,
   length-set bytes (2 * i) (state % 256),
   length-set (set bytes (2 * i) (state % 256)) (2 * i + 1) (state / 256),
   kept_length bytes filled kept,
@@ -95,7 +85,6 @@ pub kept_counts : (bytes : List ℕ) (filled i : ℕ) → IsKept bytes filled �
     (filled ≤ section_cells) × (block_of (get_or (paired bytes) i 0) ≤ filled)
 kept_counts bytes filled i kept lt = grind (
   arith,
-  nat_tests,
   kept_length bytes filled kept,
   sum_by-le block_of 1 (paired bytes),
   block_at_most,
@@ -120,9 +109,7 @@ pub counted_test : (xs : List ℕ) (filled : ℕ) → filled ≡ blocks_in xs �
     not (has_block xs)
 counted_test xs filled counted =
     elim (cases_Bool (has_block xs)) [
-      | inl some ↦ rw some (ne_eqb filled 0 (λ none. let test : has_block xs ≡
-          false = air_no_block xs ((air_counted xs filled counted).0 none) in
-          false≢true (sym test ∙ some)))
+      | inl some ↦ grind (arith, air_no_block xs, air_counted xs filled counted)
       | inr none ↦ rw none (eq-eqb filled 0 ((air_counted xs filled counted).1
           (no_block_air xs none)))
     ]

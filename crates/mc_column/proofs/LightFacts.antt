@@ -2,12 +2,11 @@
 use Rattle.std.proofs.Common.{bit_or, ◌≡◌, ℕ, zero, suc, ◌+◌, ◌*◌, ◌-◌, ◌/◌, ◌%◌, ◌<◌, ◌≤◌, Bool}
 use Rattle.std.proofs.Common.{true, false, cond, eqb, ◌&&◌, List, ◌++◌, length, get_or, set, drop}
 use Rattle.std.proofs.Common.{replicate, refl, sym, ap, ◌∙◌, arith, inl, inr, ◌⊎◌}
-use Rattle.std.proofs.lemmas.Bool.{cases_lt, cases_eq, cases_Bool, eq-eqb, ne_eqb, eqb-true}
+use Rattle.std.proofs.lemmas.Bool.{cases_lt, cases_eq, cases_Bool}
 use Rattle.std.proofs.lemmas.List.{get_or_past, get_or-drop, get_or-take, length-append, ext_get_or}
 use Rattle.std.proofs.lemmas.List.{get_or-replicate, length-replicate, get_or_append_left}
 use Rattle.std.proofs.lemmas.List.{get_or-append_right, drop_all, get_or-set_same, get_or-set_other}
-use Rattle.std.proofs.lemmas.Nat.{mul-add-lt, le_or_l, le_or_r}
-use Rattle.std.proofs.Math.Nat.{mul_comm}
+use Rattle.std.proofs.lemmas.Nat.{le_or_l, le_or_r}
 use Rattle.std.proofs.lemmas.Bool.Decides.{nat_tests}
 use Rattle.std.proofs.lemmas.List.FromFn.{fill_by_all, length-map-range_with_len}
 use Rattle.std.proofs.lemmas.List.FromFn.{get_or-map-range_with_len}
@@ -71,10 +70,10 @@ pub dimmed_is : (states : List ℕ) (c n : ℕ) (layer : List ℕ) →
     dimmed (sky_bytes states (c + squares) n) layer ≡ sky_bytes states c n
 dimmed_is states c n layer at =
     let above = length-sky_bytes states (c + squares) n in
-    let len : length (dimmed (sky_bytes states (c + squares) n) layer) ≡ n =
-    length-map-range_with_len (λ j. dimmed_byte (get_or (sky_bytes states (c + squares) n) j 0)
-    (get_or layer (2 * j) 0) (get_or layer (2 * j + 1) 0)) 0
-    (length (sky_bytes states (c + squares) n)) ∙ above in
+    let len : length (dimmed (sky_bytes states (c + squares) n) layer) ≡ n = grind (
+      arith,
+      length-map-range_with_len,
+    ) in
     ext_get_or 0 (dimmed (sky_bytes states (c + squares) n) layer) (sky_bytes states c n) (len ∙
     sym (length-sky_bytes states c n)) (λ j lt.
     let below : j < n = omega arith in
@@ -97,13 +96,11 @@ pub sky_bytes-append : (states : List ℕ) (c a b d : ℕ) → d ≡ c + 2 * a �
     sky_bytes states d b ≡ sky_bytes states c (a + b)
 sky_bytes-append states c a b d e = grind (
   arith,
-  nat_tests,
   length-sky_bytes states c a,
   length-sky_bytes states d b,
   length-sky_bytes states c (a + b),
   length-append (sky_bytes states c a) (sky_bytes states d b),
   ext_get_or 0 (sky_bytes states c a ++ sky_bytes states d b) (sky_bytes states c (a + b)),
-  cases_lt,
   get_or_append_left (sky_bytes states c a) (sky_bytes states d b) 0,
   get_or-sky_bytes states c a,
   get_or-sky_bytes states c (a + b),
@@ -161,13 +158,7 @@ section_through : (states : List ℕ) (i t : ℕ) → t < squares → IsAir (sec
     t)
 section_through states i t lt air =
     light_through states (i * section_cells + t) layer_count (λ k below.
-    let inside : t + k * squares < section_cells =
-    omega (
-      arith,
-      mul-add-lt k squares t layer_count below lt,
-      mul_comm squares layer_count,
-      section-layers,
-    ) in
+    let inside : t + k * squares < section_cells = grind (arith, section-layers) in
     let place : i * section_cells + t + k * squares ≡ i * section_cells + (t + k * squares) =
     omega arith in
     rw (place, ← in_section states i (t + k * squares) inside) (air_at (section_of states i)
@@ -222,10 +213,10 @@ each_open : (n : ℕ) (states : List ℕ) (i k : ℕ) → is_open n states i ≡
     get_or states (i + k * squares) 0 ≡ 0
 each_open zero states i k e lt = absurd (omega arith)
 each_open (suc n) states i zero e lt = grind (arith, nat_tests)
-each_open (suc n) states i (suc k) e lt =
-    let up : i + squares + k * squares ≡ i + suc k * squares = omega (arith, more k squares) in
-    rw up at (each_open n states (i + squares) k (and_true_right (eqb (get_or states i 0) 0)
-    (is_open n states (i + squares)) e) (omega arith))
+each_open (suc n) states i (suc k) e lt = grind (
+  arith,
+  each_open n states (i + squares) k (and_true_right (eqb (get_or states i 0) 0) (is_open n states (i + squares)) e),
+)
   where
     more : (a b : ℕ) → suc a * b ≡ a * b + b
     more a b = grind arith
@@ -285,33 +276,15 @@ pub shaded_more : (section above light sky light' sky' layer : List ℕ) (y z : 
     get_or section (y * squares + t) 0) → light' ≡ dimmed light layer → length sky' ≡ light_bytes →
     drop (y * row_bytes) sky' ≡ light' ++ drop (y * row_bytes + row_bytes) sky →
     AreShaded section above light' sky' y
-shaded_more section above light sky light' sky' layer y z step shaded at is len put = record {
-  sky_is = len;
-  light_is = ap length is ∙ length-map-range_with_len (λ j. dimmed_byte (get_or light j 0)
-      (get_or layer (2 * j) 0) (get_or layer (2 * j + 1) 0)) 0 (length light) ∙ shaded.light_is;
-  within = omega (arith, shaded.within);
-  now = λ states i same lit. row states i same lit;
-  done = λ states i same lit.
-      let place : y * row_bytes + row_bytes ≡ z * row_bytes = rw step (next y row_bytes) in
-      let rows : row_bytes + (layer_count - z) * row_bytes ≡ (layer_count - y) * row_bytes =
-      rest_more (layer_count - z) (layer_count - y) row_bytes (omega (arith, shaded.within)) in
-      let after : i * section_cells + z * squares ≡ i * section_cells + y * squares + 2 *
-      row_bytes = omega (
-        arith,
-        ap (λ (k : ℕ). k * squares) step,
-        next y squares,
-        row_bytes-is,
-        squares-is,
-      ) in
-      put ∙ rw (
-        row states i same lit,
-        place,
-        shaded.done states i same lit,
-        sky_bytes-append states (i * section_cells + y * squares) row_bytes ((layer_count - z) *
-            row_bytes) (i * section_cells + z * squares) after,
-        rows,
-      ) refl;
-}
+shaded_more section above light sky light' sky' layer y z step shaded at is len put = grind (
+  arith,
+  row_bytes-is,
+  squares-is,
+  sky_bytes-append,
+  row,
+  next y row_bytes,
+  rest_more (layer_count - z) (layer_count - y) row_bytes,
+)
   where
     next : (a b : ℕ) → a * b + b ≡ (a + 1) * b
     next a b = grind arith
@@ -331,13 +304,7 @@ shaded_more section above light sky light' sky' layer y z step shaded at is len 
         is ∙ rw (shaded.now states i same lit, up) (dimmed_is states (i * section_cells + y *
         squares) row_bytes layer (λ t lt.
         let below : t < squares = omega (arith, row_bytes-is, squares-is) in
-        let inside : y * squares + t < section_cells =
-        omega (
-          arith,
-          mul-add-lt y squares t layer_count (omega (arith, shaded.within)) below,
-          mul_comm squares layer_count,
-          section-layers,
-        ) in
+        let inside : y * squares + t < section_cells = grind (arith, section-layers) in
         let place : i * section_cells + y * squares + t ≡ i * section_cells + (y * squares + t) =
         omega arith in
         at t below ∙ rw (same, place) (in_section states i (y * squares + t) inside)))
@@ -376,10 +343,8 @@ length-dimmed above layer = grind (arith, nat_tests, length-map-range_with_len)
 pub dimmed_dark : (above layer : List ℕ) → IsAir above → above ≡ dimmed above layer
 dimmed_dark above layer dark = grind (
   arith,
-  nat_tests,
   ext_get_or 0 (dimmed above layer) above (length-dimmed above layer),
   length-dimmed above layer,
-  air_at above,
   get_or-dimmed above layer,
 )
 
@@ -388,7 +353,6 @@ pub dimmed_air : (above bytes : List ℕ) (n : ℕ) → length bytes ≡ 2 * n �
     above ≡ dimmed above (paired bytes)
 dimmed_air above bytes n len air = grind (
   arith,
-  nat_tests,
   ext_get_or 0 (dimmed above (paired bytes)) above (length-dimmed above (paired bytes)),
   length-dimmed above (paired bytes),
   get_or-dimmed above (paired bytes),

@@ -1,7 +1,7 @@
 -- The bits of a mask.
-use Rattle.std.proofs.Common.{◌≡◌, ℕ, zero, suc, ◌+◌, ◌*◌, ◌/◌, ◌%◌, ◌^◌, ◌<◌, ◌≤◌, Bool, true}
-use Rattle.std.proofs.Common.{false, cond, eqb, refl, sym, ◌∙◌, arith}
-use Rattle.std.proofs.Math.Nat.{pow-suc, pow-le-pow_right, zero-div}
+use Rattle.std.proofs.Common.{◌≡◌, ℕ, zero, suc, ◌+◌, ◌*◌, ◌/◌, ◌^◌, ◌<◌, ◌≤◌, Bool, true}
+use Rattle.std.proofs.Common.{false, cond, refl, arith}
+use Rattle.std.proofs.Math.Nat.{pow-le-pow_right, zero-div}
 use Rattle.std.proofs.lemmas.Bool.Decides.{nat_tests}
 use Rattle.std.proofs.lemmas.Nat.{shr-shr}
 use Rattle.mc_column.specs.Body.{is_named}
@@ -30,20 +30,14 @@ bits_same f g i (suc n) same = grind (arith, nat_tests, bits_same f g (suc i) n)
 pub bits_named : (test : ℕ → Bool) (i n k : ℕ) → k < n → is_named (bits test i n) k ≡ test (i + k)
 bits_named test i zero k lt = absurd (omega arith)
 bits_named test i (suc n) zero lt = grind (arith, nat_tests)
-bits_named test i (suc n) (suc k) lt =
-    let at : i + suc k ≡ suc i + k = omega arith in
-    rw (at, shifted (cond (test i) 1 0) (bits test (suc i) n) k (small (test i)))
-    (bits_named test (suc i) n k (omega arith))
+bits_named test i (suc n) (suc k) lt = grind (arith, bits_named test (suc i) n k, shifted)
   where
     small : (b : Bool) → cond b 1 0 < 2
     small true = omega arith
     small false = omega arith
 
     shifted : (b m k : ℕ) → b < 2 → (b + 2 * m) / 2 ^ suc k ≡ m / 2 ^ k
-    shifted b m k lt =
-        let one : suc k ≡ 1 + k = omega arith in
-        let half : (b + 2 * m) / 2 ^ 1 ≡ m = omega arith in
-        rw (one, ← shr-shr (b + 2 * m) 1 k, half) refl
+    shifted b m k lt = grind (arith, nat_tests, shr-shr (b + 2 * m) 1 k)
 
 -- no bit is set in 0 alone
 pub bits_zero : (test : ℕ → Bool) (i n k : ℕ) → bits test i n ≡ 0 → k < n → test (i + k) ≡ false

@@ -1,8 +1,7 @@
 -- Lists of equal length, one after another.
-use Rattle.std.proofs.Common.{◌≡◌, ℕ, ◌+◌, ◌*◌, ◌-◌, ◌<◌, ◌≤◌, Bool, true, false, cond, zero, suc}
+use Rattle.std.proofs.Common.{◌≡◌, ℕ, ◌+◌, ◌*◌, ◌<◌, ◌≤◌, Bool, true, false, cond, zero, suc}
 use Rattle.std.proofs.Common.{List, [], ◌++◌, length, get_or, set, take, drop, replicate, refl, sym}
-use Rattle.std.proofs.Common.{ap, ◌∙◌, arith, inl, inr, append_assoc}
-use Rattle.std.proofs.Math.Nat.{mul_comm}
+use Rattle.std.proofs.Common.{ap, ◌∙◌, arith, append_assoc}
 use Rattle.std.proofs.Math.Seq.{take-add}
 use Rattle.std.proofs.lemmas.Bool.Decides.{nat_tests}
 use Rattle.std.proofs.lemmas.Bool.{cases_eq}
@@ -60,16 +59,12 @@ pub piece : (p : ℕ → Bool) (f : ℕ → List ℕ) (n i m : ℕ) → AreSized
 piece p f n i zero sized lt passes = absurd (omega arith)
 piece p f n i (suc m) sized lt passes = grind (
   arith,
-  nat_tests,
   piece p f n i m (AreSized-less f n m sized),
   length-joined p f n m (AreSized-less f n m sized),
-  AreSized-less f n m sized,
-  cases_eq i m,
   drop_at (joined (picked p f) m) (f m) (rank p i * n),
   take_all n (f m),
   times_le (rank p i + 1) (rank p m) n,
   rank_below p i m,
-  times_more (rank p i) n,
   drop_front n (rank p i * n) (joined (picked p f) m) (picked p f m),
 )
 
@@ -110,15 +105,11 @@ pub joined-set : (f g : ℕ → List ℕ) (n i k v m : ℕ) → AreSized f n m �
 joined-set f g n i k v zero sized lt inside changed kept = absurd (omega arith)
 joined-set f g n i k v (suc m) sized lt inside changed kept = grind (
   arith,
-  nat_tests,
   joined-set f g n i k v m (AreSized-less f n m sized),
   length-joined_all f n m (AreSized-less f n m sized),
-  AreSized-less f n m sized,
-  cases_eq i m,
   joined_same g f m,
   set-append_right (joined f m) (f m) (m * n) (m * n + k) v,
   mul-add-lt i n k m,
-  mul_comm n m,
   set-append_left (joined f m) (f m) (i * n + k) v,
 )
 
@@ -127,32 +118,20 @@ pub joined-put : (f g : ℕ → List ℕ) (n i m : ℕ) → AreSized f n m → i
     ((j : ℕ) → (j ≡ i → ⊥) → g j ≡ f j) → joined g m ≡ take (i * n) (joined f m) ++
     (g i ++ drop (i * n + n) (joined f m))
 joined-put f g n i zero sized lt len kept = absurd (omega arith)
-joined-put f g n i (suc m) sized lt len kept =
-    let all = length-joined_all f n m (AreSized-less f n m sized) in
-    elim (cases_eq i m) [
-      | inl e ↦
-          let before : joined g m ≡ joined f m =
-          joined_same g f m (λ j below. kept j (λ h. absurd (omega arith))) in
-          let front : take (m * n) (joined f m ++ f m) ≡ joined f m =
-          take-append-le (m * n) (joined f m) (f m) (omega (arith, all)) ∙
-          take_all (m * n) (joined f m) (omega (arith, all)) in
-          let none : drop (m * n + n) (joined f m ++ f m) ≡ [] = drop_all (m * n + n) (joined f m ++
-          f m) (omega (arith, all, length-append (joined f m) (f m), sized.at m (omega arith)))
-          in
-          rw (e, before, front, none) (ap (λ (t : List ℕ). joined f m ++
-          t) (sym (append-nil (g m))))
-      | inr ne ↦
-          let below : i < m = omega arith in
-          let room : (i + 1) * n ≤ m * n = times_le (i + 1) m n (omega arith) in
-          let enough : i * n + n ≤ length (joined f m) = omega (arith, all, room, times_more i n) in
-          let last : g m ≡ f m = kept m (λ h. ne (sym h)) in
-          let front : take (i * n) (joined f m ++ f m) ≡ take (i * n) (joined f m) =
-          take-append-le (i * n) (joined f m) (f m) (omega arith) in
-          let rest : drop (i * n + n) (joined f m ++ f m) ≡ drop (i * n + n) (joined f m) ++ f m =
-          drop-append-le (i * n + n) (joined f m) (f m) enough in
-          rw (joined-put f g n i m (AreSized-less f n m sized) below len kept, last, front, rest)
-          (regroup (take (i * n) (joined f m)) (g i) (drop (i * n + n) (joined f m)) (f m))
-    ]
+joined-put f g n i (suc m) sized lt len kept = grind (
+  arith,
+  joined-put f g n i m (AreSized-less f n m sized),
+  length-joined_all f n m (AreSized-less f n m sized),
+  joined_same g f m,
+  take-append-le (i * n) (joined f m) (f m),
+  take_all (m * n) (joined f m),
+  drop_all (m * n + n) (joined f m ++ f m),
+  length-append (joined f m) (f m),
+  append-nil (g m),
+  times_le (i + 1) m n,
+  drop-append-le (i * n + n) (joined f m) (f m),
+  regroup (take (i * n) (joined f m)) (g i) (drop (i * n + n) (joined f m)) (f m),
+)
   where
     regroup : (a b c d : List ℕ) → (a ++ (b ++ c)) ++ d ≡ a ++ (b ++ (c ++ d))
     regroup a b c d = simp append_assoc

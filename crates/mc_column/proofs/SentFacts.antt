@@ -1,13 +1,12 @@
 -- The mask and the bytes that a column is sent with.
-use Rattle.std.proofs.Common.{◌≡◌, ◌≢◌, ℕ, zero, suc, ◌+◌, ◌*◌, ◌/◌, ◌%◌, ◌^◌, ◌<◌, ◌≤◌, Bool, true}
+use Rattle.std.proofs.Common.{◌≡◌, ◌≢◌, ℕ, zero, suc, ◌+◌, ◌*◌, ◌/◌, ◌%◌, ◌^◌, ◌<◌, Bool, true}
 use Rattle.std.proofs.Common.{false, cond, List, [], ◌++◌, length, get_or, drop, replicate, Ok}
 use Rattle.std.proofs.Common.{refl, sym, ap, ◌∙◌, arith, inl, inr}
-use Rattle.std.proofs.Math.Nat.{zero-div}
 use Rattle.std.proofs.lemmas.Bool.Decides.{nat_tests}
 use Rattle.std.proofs.lemmas.Bool.{cases_eq, eq-eqb, ne_eqb, false≢true}
 use Rattle.std.proofs.lemmas.Grind.{common_steps}
-use Rattle.std.proofs.lemmas.Nat.{shr-shr, div_below, mod_below, div-add-mod'}
-use Rattle.std.proofs.lemmas.List.{length-append, length-replicate, length-take, length-drop}
+use Rattle.std.proofs.lemmas.Nat.{div_below, mod_below, div-add-mod'}
+use Rattle.std.proofs.lemmas.List.{length-replicate, length-take, length-drop}
 use Rattle.std.proofs.lemmas.List.{get_or_append_left, get_or-append-add, get_or-take, get_or-drop}
 use Rattle.std.proofs.lemmas.List.{get_or_default, take_all}
 use Rattle.mc_column.specs.Sizes.{section_count, section_cells, cells, light_bytes}
@@ -17,7 +16,7 @@ use Rattle.mc_column.specs.Cells.{ColumnValue, HasSizes, IsAir, joined, picked, 
 use Rattle.mc_column.specs.Cells.{wire}
 use Rattle.mc_column.specs.Light.{sky_light, sky_byte, section_sky, half_of}
 use Rattle.mc_column.specs.Body.{SpellsBody, is_named, named_count, block_light_at, sky_light_at}
-use Rattle.mc_column.specs.Body.{biomes_at, body_read, put_section, put_body, column_body}
+use Rattle.mc_column.specs.Body.{body_read, put_section, put_body, column_body}
 use Rattle.mc_column.specs.Sent.{bits, has_block, with_one, column_mask, body_bytes, column_bytes}
 use Rattle.mc_column.specs.Sent.{IsColumnMask, SpellsColumn}
 use Rattle.mc_column.specs.KeptColumn.{nth_section, kept_column, IsKeptColumn}
@@ -141,7 +140,6 @@ parts_of : (column : ColumnValue) (mask : ℕ) → HasSizes column →
     (joined (picked (is_named mask) (section_sky column.states)) section_count)
 parts_of column mask sizes = grind (
   arith,
-  nat_tests,
   length-wire,
   length-joined,
   sections_sized,
@@ -154,18 +152,8 @@ parts_of column mask sizes = grind (
 body_spelled : (column : ColumnValue) (mask : ℕ) (blocks dark sky : List ℕ) → HasSizes column →
     Parts column mask blocks dark sky → SpellsBody (column_body column mask) mask true true
     (blocks ++ (dark ++ (sky ++ column.biomes)))
-body_spelled column mask blocks dark sky sizes parts = grind (
-  arith,
-  common_steps,
-  length-joined,
-  sections_sized,
-  blocks_even,
-  get_or_append_left,
-  wire_low,
-  wire_high,
-  after,
-  length-append,
-)
+body_spelled column mask blocks dark sky sizes parts =
+    grind (arith, common_steps, length-joined, sections_sized, blocks_even, wire_low, wire_high)
 
 -- the light of a cell in the bytes
 cell_light : (column : ColumnValue) (mask : ℕ) (blocks dark sky : List ℕ) (i k : ℕ) →
@@ -183,19 +171,16 @@ cell_light column mask blocks dark sky i k parts lt named inside =
     omega (arith, piece_within mask i light_bytes lt named, parts.sky_len) in
     let byte : get_or (blocks ++ (dark ++ (sky ++ column.biomes))) (sky_light_at mask +
     (rank (is_named mask) i * light_bytes + k / 2)) 0 ≡
-    sky_byte column.states (i * section_cells + 2 * (k / 2)) =
-    rw place (after blocks (dark ++ (sky ++ column.biomes)) (block_light_at mask)
-    (named_count mask * light_bytes + (rank (is_named mask) i * light_bytes + k / 2))
-    parts.blocks_len
-    ∙ after dark (sky ++ column.biomes) (named_count mask * light_bytes) (rank (is_named mask) i *
-    light_bytes + k / 2) parts.dark_len
-    ∙ get_or_append_left sky column.biomes 0 (rank (is_named mask) i * light_bytes + k / 2) within
-    ∙ sym (get_or-drop (rank (is_named mask) i * light_bytes) sky (k / 2) 0)
-    ∙ sym (get_or-take light_bytes (drop (rank (is_named mask) i * light_bytes) sky) (k / 2) 0 half)
-    ∙ ap (λ (t : List ℕ). get_or t (k / 2) 0)
-    (rw parts.sky_is (piece (is_named mask) (section_sky column.states) light_bytes i
-    section_count (sky_sized column.states) lt named))
-    ∙ get_or-sky_bytes column.states (i * section_cells) light_bytes (k / 2) half) in
+    sky_byte column.states (i * section_cells + 2 * (k / 2)) = grind (
+      arith,
+      after blocks (dark ++ (sky ++ column.biomes)) (block_light_at mask) (named_count mask * light_bytes + (rank (is_named mask) i * light_bytes + k / 2)) parts.blocks_len,
+      after dark (sky ++ column.biomes) (named_count mask * light_bytes) (rank (is_named mask) i * light_bytes + k / 2) parts.dark_len,
+      get_or_append_left sky column.biomes 0 (rank (is_named mask) i * light_bytes + k / 2) within,
+      get_or-drop (rank (is_named mask) i * light_bytes) sky (k / 2) 0,
+      get_or-take light_bytes (drop (rank (is_named mask) i * light_bytes) sky) (k / 2) 0 half,
+      piece (is_named mask) (section_sky column.states) light_bytes i section_count (sky_sized column.states) lt named,
+      get_or-sky_bytes column.states (i * section_cells) light_bytes (k / 2) half,
+    ) in
     rw byte (half_of_sky column.states (i * section_cells) k)
 
 pub body_bytes_spell : (column : ColumnValue) (mask : ℕ) → HasSizes column →

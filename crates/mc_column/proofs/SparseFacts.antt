@@ -1,6 +1,6 @@
 -- A section that is kept only where it has a block.
 use Rattle.std.proofs.Common.{◌≡◌, ◌↔◌, ℕ, zero, suc, ◌+◌, ◌*◌, ◌/◌, ◌%◌, ◌<◌, ◌≤◌, Bool, true}
-use Rattle.std.proofs.Common.{false, cond, not, List, [], ◌∷◌, length, get_or, set, replicate}
+use Rattle.std.proofs.Common.{false, cond, not, List, ◌∷◌, length, get_or, set, replicate}
 use Rattle.std.proofs.Common.{Option, Some, None, IsNone, IsTrue, Bor, take, drop, ◌++◌, refl, sym}
 use Rattle.std.proofs.Common.{ap, ◌∙◌, arith, inl, inr}
 use Rattle.std.proofs.lemmas.Bool.Decides.{nat_tests}
@@ -84,16 +84,8 @@ written_none states bytes len = record { len = len; done = λ k lt. absurd (omeg
 pub written_more : (states bytes : List ℕ) (i low high : ℕ) → i < length states →
     AreWritten states bytes i → low ≡ get_or states i 0 % 256 → high ≡ get_or states i 0 / 256 →
     AreWritten states (set (set bytes (2 * i) low) (2 * i + 1) high) (i + 1)
-written_more states bytes i low high lt written l h = grind (
-  arith,
-  nat_tests,
-  length-set,
-  cases_eq,
-  get_or-set_same,
-  wire_high,
-  get_or-set_other,
-  wire_low,
-)
+written_more states bytes i low high lt written l h =
+    grind (arith, length-set, get_or-set_same, wire_high, get_or-set_other, wire_low)
 
 pub written_all : (states bytes : List ℕ) (i : ℕ) → length states ≤ i → AreWritten states bytes i →
     bytes ≡ wire states
