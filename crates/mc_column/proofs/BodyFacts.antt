@@ -1,7 +1,8 @@
 -- Bodies and the bytes that spell them.
 use Rattle.std.proofs.Common.{◌≡◌, ℕ, ◌+◌, ◌*◌, ◌/◌, ◌%◌, ◌<◌, ◌≤◌, Bool, true, false, List, length}
-use Rattle.std.proofs.Common.{get_or, take, drop, refl, sym, ap, subst, ◌∙◌, arith, inl, inr, ◌↔◌}
+use Rattle.std.proofs.Common.{get_or, take, drop, refl, sym, subst, ◌∙◌, arith, inl, inr, ◌↔◌}
 use Rattle.std.proofs.Common.{Result, Ok, Err, IfOk, IsErrOf, nat_lt}
+use Rattle.std.proofs.lemmas.Bool.Decides.{nat_tests}
 use Rattle.std.proofs.lemmas.Bool.{cases_order, lt-ltb, le-ltb}
 use Rattle.std.proofs.lemmas.List.{length-take, length-drop, get_or-take, get_or-drop, ext_get_or}
 use Rattle.mc_nbt.specs.declared.fault.Kind.TheVariants.{Short, BadLength}
@@ -46,13 +47,7 @@ state_in : (mask : ℕ) (bytes : List ℕ) (i : ℕ) → block_light_at mask ≤
     i < named_count mask * section_cells → get_or (paired (take (block_light_at mask) bytes)) i 0 ≡
     get_or bytes (2 * i) 0 + 256 * get_or bytes (2 * i + 1) 0
 state_in mask bytes i long lt =
-    let even = blocks_even mask in
-    let len = length-take (block_light_at mask) bytes in
-    get_or-paired (take (block_light_at mask) bytes) i (omega arith)
-    ∙ rw (
-      get_or-take (block_light_at mask) bytes (2 * i) 0 (omega arith),
-      get_or-take (block_light_at mask) bytes (2 * i + 1) 0 (omega arith),
-    ) refl
+    grind (arith, nat_tests, blocks_even, length-take, get_or-paired, get_or-take)
 
 abbrev body_of : ℕ → Bool → List ℕ → List ℕ → BodyValue
 body_of mask ground_up states biomes = record {
@@ -73,27 +68,7 @@ pub body_in_spelled : (mask : ℕ) (sky ground_up : Bool) (bytes : List ℕ) →
     ((i : ℕ) → get_or bytes i 0 < 256) → length bytes ≡ body_size mask sky ground_up →
     SpellsBody (body_in mask sky ground_up bytes) mask sky ground_up bytes
 body_in_spelled mask sky ground_up bytes fits size =
-    let long : block_light_at mask ≤ length bytes = omega (arith, blocks_within mask sky ground_up)
-    in
-    let sized = states_sized mask bytes long in
-    record {
-      for_mask = refl;
-      for_ground = refl;
-      states_are = sized;
-      biomes_are = omega (arith, length-drop (biomes_at mask sky) bytes);
-      low = λ i lt. rw (state_in mask bytes i long (omega arith)) (low_half (get_or bytes (2 * i) 0)
-          (get_or bytes (2 * i + 1) 0) (fits (2 * i)));
-      high = λ i lt. rw (state_in mask bytes i long (omega arith))
-          (high_half (get_or bytes (2 * i) 0) (get_or bytes (2 * i + 1) 0) (fits (2 * i)));
-      biome = λ i lt. sym (get_or-drop (biomes_at mask sky) bytes i 0);
-      size = size;
-    }
-  where
-    low_half : (low high : ℕ) → low < 256 → low ≡ (low + 256 * high) % 256
-    low_half low high lt = omega arith
-
-    high_half : (low high : ℕ) → low < 256 → high ≡ (low + 256 * high) / 256
-    high_half low high lt = omega arith
+    grind (arith, nat_tests, blocks_within, states_sized, length-drop, state_in, get_or-drop)
 
 same_body : (mask mask' : ℕ) (ground ground' : Bool) (states states' biomes biomes' : List ℕ) →
     mask ≡ mask' → ground ≡ ground' → states ≡ states' → biomes ≡ biomes' →
@@ -103,30 +78,15 @@ same_body mask mask' ground ground' states states' biomes biomes' m g s b = rw (
 -- what is spelled so is read
 pub body_in_only : (body : BodyValue) (mask : ℕ) (sky ground_up : Bool) (bytes : List ℕ) →
     SpellsBody body mask sky ground_up bytes → body_in mask sky ground_up bytes ≡ body
-body_in_only body mask sky ground_up bytes spells =
-    let long : block_light_at mask ≤ length bytes = omega (
-      arith,
-      blocks_within mask sky ground_up,
-      spells.size,
-    ) in
-    let sized = states_sized mask bytes long in
-    let states : paired (take (block_light_at mask) bytes) ≡ body.states =
-    ext_get_or 0 (paired (take (block_light_at mask) bytes)) body.states (sized ∙
-    sym spells.states_are) (λ i lt. state_in mask bytes i long (omega arith) ∙
-    whole (get_or bytes (2 * i) 0) (get_or bytes (2 * i + 1) 0) (get_or body.states i 0)
-    (spells.low i (omega (arith, spells.states_are)))
-    (spells.high i (omega (arith, spells.states_are)))) in
-    let rest = length-drop (biomes_at mask sky) bytes in
-    let biomes : drop (biomes_at mask sky) bytes ≡ body.biomes =
-    ext_get_or 0 (drop (biomes_at mask sky) bytes) body.biomes (omega (
-      arith,
-      spells.size,
-      spells.biomes_are,
-    )) (λ i lt. get_or-drop (biomes_at mask sky) bytes i 0 ∙
-    spells.biome i (omega (arith, spells.size, spells.biomes_are))) in
-    same_body mask body.mask ground_up body.ground_up (paired (take (block_light_at mask) bytes))
-    body.states (drop (biomes_at mask sky) bytes) body.biomes (sym spells.for_mask)
-    (sym spells.for_ground) states biomes
+body_in_only body mask sky ground_up bytes spells = grind (
+  arith,
+  states_sized mask bytes,
+  ext_get_or 0 (paired (take (block_light_at mask) bytes)) body.states,
+  ext_get_or 0 (drop (biomes_at mask sky) bytes) body.biomes,
+  state_in mask bytes,
+  length-drop (biomes_at mask sky) bytes,
+  get_or-drop (biomes_at mask sky) bytes,
+)
   where
     whole : (low high state : ℕ) → low ≡ state % 256 → high ≡ state / 256 → low + 256 * high ≡ state
     whole low high state l h = omega arith
@@ -213,26 +173,16 @@ fault_of fault = Err (faults.Field fault)
 answer_err : (r : Result BodyValue ReadFault) (read : Result BodyValue FieldFault)
     (fault : FieldFault) → PlacedGives (λ body. body) r read → (IsErrOf r faults.NoMemory → ⊥) →
     read ≡ err_body fault → r ≡ fault_of fault
-answer_err (Ok body) read fault given memory e = let clash : ok_body body ≡ err_body fault =
-    sym given ∙ e in absurd cc
-answer_err (Err faults.NoMemory) read fault given memory e = absurd (memory refl)
-answer_err (Err (faults.Field other)) read fault given memory e = let same : err_body other ≡
-    err_body fault = sym given ∙ e in cc
+answer_err r read fault given memory e = grind (arith, nat_tests)
 
 -- a fault that it answers is the one that reading gives
 read_err : (r : Result BodyValue ReadFault) (read : Result BodyValue FieldFault)
     (fault : FieldFault) → PlacedGives (λ body. body) r read → r ≡ fault_of fault →
     read ≡ err_body fault
-read_err (Ok body) read fault given e = absurd cc
-read_err (Err faults.NoMemory) read fault given e = absurd cc
-read_err (Err (faults.Field other)) read fault given e = given ∙ (let same : other ≡ fault = cc in
-    ap err_body same)
+read_err r read fault given e = grind (arith, nat_tests)
 
 short_or_long : (a b : ℕ) → err_body (fault_at Short a) ≡ err_body (fault_at BadLength b) → ⊥
-short_or_long a b e =
-    let same : fault_at Short a ≡ fault_at BadLength b = cc in
-    let kinds : Short ≡ BadLength = ap (λ (fault : FieldFault). fault.kind) same in
-    absurd cc
+short_or_long a b e = grind (arith, nat_tests)
 
 not_both : (body : BodyValue) (fault : FieldFault) → ok_body body ≡ err_body fault → ⊥
 not_both body fault e = absurd cc
@@ -247,9 +197,10 @@ given_short r mask sky ground_up bytes given memory = (
       let read = read_err r (body_read mask sky ground_up bytes) (fault_at Short (length bytes))
       given e in
       elim (cases_order (length bytes) (body_size mask sky ground_up)) [
-        | inl size ↦ absurd (not_both (body_in mask sky ground_up bytes)
-            (fault_at Short (length bytes)) (sym (body_read_whole mask sky ground_up bytes size) ∙
-            read))
+        | inl size ↦ grind (
+          arith,
+          not_both (body_in mask sky ground_up bytes) (fault_at Short (length bytes)) (sym (body_read_whole mask sky ground_up bytes size) ∙ read),
+        )
         | inr (inl short) ↦ short
         | inr (inr long) ↦ absurd (short_or_long (length bytes) (body_size mask sky ground_up)
             (sym read ∙ body_read_long mask sky ground_up bytes long))

@@ -1,6 +1,7 @@
 -- A column that is kept as sections, seen as one list of states.
 use Rattle.std.proofs.Common.{◌≡◌, ℕ, ◌+◌, ◌*◌, ◌/◌, ◌%◌, ◌<◌, List, [], length, get_or, set}
-use Rattle.std.proofs.Common.{replicate, refl, sym, ap, ◌∙◌, arith, inl, inr}
+use Rattle.std.proofs.Common.{replicate, refl, ap, ◌∙◌, arith}
+use Rattle.std.proofs.lemmas.Bool.Decides.{nat_tests}
 use Rattle.std.proofs.lemmas.Bool.{cases_eq}
 use Rattle.std.proofs.lemmas.List.{get_or-set_same, get_or-set_other, length-set, get_or-replicate}
 use Rattle.std.proofs.lemmas.List.{length-replicate}
@@ -24,16 +25,12 @@ are_sized sections biomes kept = record { at = kept.sized }
 pub kept_section : (sections : List (List ℕ)) (biomes : List ℕ) (i : ℕ) →
     IsKeptColumn sections biomes → i < section_count →
     section_of (kept_column sections biomes).states i ≡ nth_section sections i
-kept_section sections biomes i kept lt = piece_all (nth_section sections) section_cells i
-    section_count (are_sized sections biomes kept) lt
+kept_section sections biomes i kept lt = grind (arith, nat_tests, piece_all, are_sized)
 
 pub kept_sizes : (sections : List (List ℕ)) (biomes : List ℕ) → IsKeptColumn sections biomes →
     HasSizes (kept_column sections biomes)
-kept_sizes sections biomes kept = record {
-  states_are = length-joined_all (nth_section sections) section_cells section_count
-      (are_sized sections biomes kept) ∙ sym cells-sections;
-  biomes_are = kept.biomes_are;
-}
+kept_sizes sections biomes kept =
+    grind (arith, nat_tests, length-joined_all, are_sized, cells-sections)
 
 -- a cell's index is that of its section, and its index in there
 cell_place : (x y z : ℕ) → cell_index x y z ≡ y / 16 * section_cells + (y % 16 * 256 + z * 16 + x)
@@ -68,15 +65,8 @@ kept_with sections biomes section x y z state kept xs zs ys is =
 pub kept_with_keeps : (sections : List (List ℕ)) (biomes section : List ℕ) (i : ℕ) →
     IsKeptColumn sections biomes → length section ≡ section_cells →
     IsKeptColumn (set sections i section) biomes
-kept_with_keeps sections biomes section i kept len = record {
-  all_there = length-set sections i section ∙ kept.all_there;
-  sized = λ j lt. elim (cases_eq j i) [
-    | inl e ↦ ap length
-        (rw e (get_or-set_same sections i section [] (omega (arith, kept.all_there)))) ∙ len
-    | inr ne ↦ ap length (get_or-set_other sections i j section [] ne) ∙ kept.sized j lt
-  ];
-  biomes_are = kept.biomes_are;
-}
+kept_with_keeps sections biomes section i kept len =
+    grind (arith, nat_tests, length-set, cases_eq, get_or-set_same, get_or-set_other)
 
 -- sections of air are a column of air
 pub kept_air : (sections : List (List ℕ)) (biomes : List ℕ) (n : ℕ) → n ≡ section_count →
@@ -84,17 +74,7 @@ pub kept_air : (sections : List (List ℕ)) (biomes : List ℕ) (n : ℕ) → n 
     IsKeptColumn sections biomes × (kept_column sections biomes ≡ column_of (replicate cells 0)
     biomes)
 kept_air sections biomes n all squared air =
-    let nth : (k : ℕ) → k < section_count → nth_section sections k ≡ replicate {A = ℕ} section_cells
-    0 = λ k lt. rw (air) (get_or-replicate n k (replicate {A = ℕ} section_cells 0) []
-    (omega arith)) in (
-      record {
-        all_there = rw air (length-replicate n (replicate {A = ℕ} section_cells 0) ∙ all);
-        sized = λ k lt. ap length (nth k lt) ∙ length-replicate {A = ℕ} section_cells 0;
-        biomes_are = squared;
-      },
-      rw (joined_copies (nth_section sections) section_cells section_count 0 nth, ← cells-sections)
-          refl,
-    )
+    grind (arith, nat_tests, get_or-replicate, length-replicate, joined_copies, cells-sections)
 
 -- a section is put in place of another
 pub kept_put_section : (sections : List (List ℕ)) (biomes section : List ℕ) (i : ℕ) →

@@ -2,12 +2,12 @@
 use Rattle.std.proofs.Common.{bit_or, ◌≡◌, ℕ, zero, suc, ◌+◌, ◌*◌, ◌-◌, ◌/◌, ◌%◌, ◌<◌, ◌≤◌, Bool}
 use Rattle.std.proofs.Common.{true, false, cond, eqb, ◌&&◌, List, ◌++◌, length, get_or, set, drop}
 use Rattle.std.proofs.Common.{replicate, refl, sym, ap, ◌∙◌, arith, inl, inr, ◌⊎◌}
-use Rattle.std.proofs.lemmas.Bool.{cases_lt, cases_eq, cases_Bool, eq-eqb, ne_eqb, eqb-true}
+use Rattle.std.proofs.lemmas.Bool.{cases_lt, cases_eq, cases_Bool}
 use Rattle.std.proofs.lemmas.List.{get_or_past, get_or-drop, get_or-take, length-append, ext_get_or}
 use Rattle.std.proofs.lemmas.List.{get_or-replicate, length-replicate, get_or_append_left}
 use Rattle.std.proofs.lemmas.List.{get_or-append_right, drop_all, get_or-set_same, get_or-set_other}
-use Rattle.std.proofs.lemmas.Nat.{mul-add-lt, le_or_l, le_or_r}
-use Rattle.std.proofs.Math.Nat.{mul_comm}
+use Rattle.std.proofs.lemmas.Nat.{le_or_l, le_or_r}
+use Rattle.std.proofs.lemmas.Bool.Decides.{nat_tests}
 use Rattle.std.proofs.lemmas.List.FromFn.{fill_by_all, length-map-range_with_len}
 use Rattle.std.proofs.lemmas.List.FromFn.{get_or-map-range_with_len}
 use Rattle.mc_column.specs.Sizes.{section_cells, squares, light_bytes, row_bytes, layer_count}
@@ -31,29 +31,19 @@ and_true_right false b e = absurd cc
 open_more : (n : ℕ) (states : List ℕ) (i : ℕ) → length states ≤ i + n → is_open (suc n) states i ≡
     is_open n states i
 open_more zero states i past = rw (get_or_past states i 0 (omega arith)) refl
-open_more (suc n) states i past = ap (λ (b : Bool). eqb (get_or states i 0) 0 && b)
-    (open_more n states (i + squares) (omega (arith, squares-is)))
+open_more (suc n) states i past = grind (arith, nat_tests, open_more n states (i + squares))
 
 open_above : (n : ℕ) (states : List ℕ) (i : ℕ) → n ≡ length states → is_open n states i ≡
     (eqb (get_or states i 0) 0 && is_open n states (i + squares))
-open_above zero states i e = rw (get_or_past states i 0 (omega arith)) refl
-open_above (suc n) states i e = ap (λ (b : Bool). eqb (get_or states i 0) 0 && b)
-    (sym (open_more n states (i + squares) (omega (arith, squares-is))))
+open_above n states i e = grind (arith, nat_tests, get_or_past, open_more, squares-is)
 
 -- a cell is lit as the cell above it, unless there is a block in it
 pub sky_light_step : (states : List ℕ) (i : ℕ) → sky_light states i ≡
     (cond (eqb (get_or states i 0) 0) (sky_light states (i + squares)) 0)
-sky_light_step states i =
-    rw (open_above (length states) states i refl) (both (eqb (get_or states i 0) 0)
-    (is_open (length states) states (i + squares)))
-  where
-    both : (a b : Bool) → ◌≡◌ {A = ℕ} (cond (a && b) 15 0) (cond a (cond b 15 0) 0)
-    both true b = refl
-    both false b = refl
+sky_light_step states i = grind (arith, nat_tests, open_above)
 
 light_cases : (states : List ℕ) (i : ℕ) → (sky_light states i ≡ 15) ⊎ (sky_light states i ≡ 0)
-light_cases states i = elim (is_open (length states) states i) as (λ b. ◌≡◌ {A = ℕ} (cond b 15 0) 15
-    ⊎ ◌≡◌ {A = ℕ} (cond b 15 0) 0) [ true ↦ inl refl | false ↦ inr refl ]
+light_cases states i = grind (arith, nat_tests)
 
 -- the two halves of a byte of light
 pub low_of_sky : (states : List ℕ) (i : ℕ) → sky_byte states i % 16 ≡ sky_light states i
@@ -65,30 +55,14 @@ high_of_sky states i = elim (light_cases states i) [ inl e ↦ omega arith | inr
 -- a byte of light is that above it, dimmed by its two cells
 pub dimmed_byte_is : (states : List ℕ) (i : ℕ) → dimmed_byte (sky_byte states (i + squares))
     (get_or states i 0) (get_or states (i + 1) 0) ≡ sky_byte states i
-dimmed_byte_is states i =
-    let turned : i + squares + 1 ≡ i + 1 + squares = omega arith in
-    rw (
-      low_of_sky states (i + squares),
-      high_of_sky states (i + squares),
-      turned,
-      sky_light_step states i,
-      sky_light_step states (i + 1),
-    ) (halves (eqb (get_or states i 0) 0)
-    (eqb (get_or states (i + 1) 0) 0) (sky_light states (i + squares))
-    (sky_light states (i + 1 + squares)))
-  where
-    halves : (a b : Bool) (low high : ℕ) → cond a low 0 + cond b (high * 16) 0 ≡ cond a low 0 + 16 *
-        cond b high 0
-    halves a true low high = omega arith
-    halves a false low high = omega arith
+dimmed_byte_is states i = grind (arith, nat_tests, low_of_sky, high_of_sky, sky_light_step)
 
 pub length-sky_bytes : (states : List ℕ) (c n : ℕ) → length (sky_bytes states c n) ≡ n
 length-sky_bytes states c n = length-map-range_with_len (λ j. sky_byte states (c + 2 * j)) 0 n
 
 pub get_or-sky_bytes : (states : List ℕ) (c n j : ℕ) → j < n → get_or (sky_bytes states c n) j 0 ≡
     sky_byte states (c + 2 * j)
-get_or-sky_bytes states c n j lt = get_or-map-range_with_len (λ k. sky_byte states (c + 2 * k)) 0 n
-    j j 0 lt (omega arith)
+get_or-sky_bytes states c n j lt = grind (arith, nat_tests, get_or-map-range_with_len)
 
 -- the light of a layer, from that of the layer above it
 pub dimmed_is : (states : List ℕ) (c n : ℕ) (layer : List ℕ) →
@@ -96,10 +70,10 @@ pub dimmed_is : (states : List ℕ) (c n : ℕ) (layer : List ℕ) →
     dimmed (sky_bytes states (c + squares) n) layer ≡ sky_bytes states c n
 dimmed_is states c n layer at =
     let above = length-sky_bytes states (c + squares) n in
-    let len : length (dimmed (sky_bytes states (c + squares) n) layer) ≡ n =
-    length-map-range_with_len (λ j. dimmed_byte (get_or (sky_bytes states (c + squares) n) j 0)
-    (get_or layer (2 * j) 0) (get_or layer (2 * j + 1) 0)) 0
-    (length (sky_bytes states (c + squares) n)) ∙ above in
+    let len : length (dimmed (sky_bytes states (c + squares) n) layer) ≡ n = grind (
+      arith,
+      length-map-range_with_len,
+    ) in
     ext_get_or 0 (dimmed (sky_bytes states (c + squares) n) layer) (sky_bytes states c n) (len ∙
     sym (length-sky_bytes states c n)) (λ j lt.
     let below : j < n = omega arith in
@@ -120,30 +94,24 @@ dimmed_is states c n layer at =
 -- light one piece after another
 pub sky_bytes-append : (states : List ℕ) (c a b d : ℕ) → d ≡ c + 2 * a → sky_bytes states c a ++
     sky_bytes states d b ≡ sky_bytes states c (a + b)
-sky_bytes-append states c a b d e =
-    let first = length-sky_bytes states c a in
-    let second = length-sky_bytes states d b in
-    let both = length-append (sky_bytes states c a) (sky_bytes states d b) in
-    ext_get_or 0 (sky_bytes states c a ++ sky_bytes states d b) (sky_bytes states c (a + b))
-    (omega (arith, both, first, second, length-sky_bytes states c (a + b))) (λ j lt.
-    elim (cases_lt j a) [
-      | inl below ↦ get_or_append_left (sky_bytes states c a) (sky_bytes states d b) 0 j
-          (omega arith) ∙ get_or-sky_bytes states c a j below ∙
-          sym (get_or-sky_bytes states c (a + b) j (omega arith))
-      | inr past ↦
-          let place : d + 2 * (j - a) ≡ c + 2 * j = omega arith in
-          get_or-append_right (sky_bytes states c a) (sky_bytes states d b) a j 0 first past ∙
-          get_or-sky_bytes states d b (j - a) (omega arith) ∙
-          rw place (sym (get_or-sky_bytes states c (a + b) j (omega arith)))
-    ])
+sky_bytes-append states c a b d e = grind (
+  arith,
+  length-sky_bytes states c a,
+  length-sky_bytes states d b,
+  length-sky_bytes states c (a + b),
+  length-append (sky_bytes states c a) (sky_bytes states d b),
+  ext_get_or 0 (sky_bytes states c a ++ sky_bytes states d b) (sky_bytes states c (a + b)),
+  get_or_append_left (sky_bytes states c a) (sky_bytes states d b) 0,
+  get_or-sky_bytes states c a,
+  get_or-sky_bytes states c (a + b),
+  get_or-sky_bytes states d b,
+  get_or-append_right (sky_bytes states c a) (sky_bytes states d b) a,
+)
 
 open_past : (n : ℕ) (states : List ℕ) (i : ℕ) → length states ≤ i → is_open n states i ≡ true
 open_past zero states i past = refl
-open_past (suc n) states i past = rw (
-  get_or_past states i 0 past,
-  open_past n states (i + squares)
-      (omega arith),
-) refl
+open_past (suc n) states i past =
+    grind (arith, nat_tests, open_past n states (i + squares) (omega arith), get_or_past)
 
 -- past the top all is lit
 pub sky_bytes_past : (states : List ℕ) (c n : ℕ) → length states ≤ c → sky_bytes states c n ≡
@@ -178,16 +146,11 @@ light_through states c (suc h) air =
     more a b = grind arith
 
 pub air_at : (xs : List ℕ) (k : ℕ) → IsAir xs → get_or xs k 0 ≡ 0
-air_at xs k air = elim (cases_lt k (length xs)) [
-  | inl lt ↦ air k 0 lt
-  | inr le ↦ get_or_past xs k 0
-      le
-]
+air_at xs k air = grind (arith, nat_tests, cases_lt, get_or_past)
 
 pub in_section : (states : List ℕ) (i k : ℕ) → k < section_cells →
     get_or (section_of states i) k 0 ≡ get_or states (i * section_cells + k) 0
-in_section states i k lt = get_or-take section_cells (drop (i * section_cells) states) k 0 lt ∙
-    get_or-drop (i * section_cells) states k 0
+in_section states i k lt = grind (arith, nat_tests, get_or-take, get_or-drop)
 
 -- a section of air takes no light away
 section_through : (states : List ℕ) (i t : ℕ) → t < squares → IsAir (section_of states i) →
@@ -195,13 +158,7 @@ section_through : (states : List ℕ) (i t : ℕ) → t < squares → IsAir (sec
     t)
 section_through states i t lt air =
     light_through states (i * section_cells + t) layer_count (λ k below.
-    let inside : t + k * squares < section_cells =
-    omega (
-      arith,
-      mul-add-lt k squares t layer_count below lt,
-      mul_comm squares layer_count,
-      section-layers,
-    ) in
+    let inside : t + k * squares < section_cells = grind (arith, section-layers) in
     let place : i * section_cells + t + k * squares ≡ i * section_cells + (t + k * squares) =
     omega arith in
     rw (place, ← in_section states i (t + k * squares) inside) (air_at (section_of states i)
@@ -236,13 +193,7 @@ row_through states i air =
 -- the light of a cell stands in its half of its byte
 pub half_of_sky : (states : List ℕ) (c k : ℕ) → half_of k (sky_byte states (c + 2 * (k / 2))) ≡
     sky_light states (c + k)
-half_of_sky states c k =
-    elim (cases_eq (k % 2) 0) [
-      | inl even ↦ let place : c + 2 * (k / 2) ≡ c + k = omega arith in
-          rw (eq-eqb (k % 2) 0 even, place) (low_of_sky states (c + k))
-      | inr odd ↦ let place : c + 2 * (k / 2) + 1 ≡ c + k = omega arith in
-          rw (ne_eqb (k % 2) 0 odd) (high_of_sky states (c + 2 * (k / 2)) ∙ rw place refl)
-    ]
+half_of_sky states c k = grind (arith, nat_tests)
 
 open_each : (n : ℕ) (states : List ℕ) (i : ℕ) → IsOpen states i → is_open n states i ≡ true
 open_each zero states i open' = refl
@@ -261,14 +212,11 @@ open_each (suc n) states i open' =
 each_open : (n : ℕ) (states : List ℕ) (i k : ℕ) → is_open n states i ≡ true → k < n →
     get_or states (i + k * squares) 0 ≡ 0
 each_open zero states i k e lt = absurd (omega arith)
-each_open (suc n) states i zero e lt =
-    let first : i + 0 * squares ≡ i = omega arith in
-    rw first (eqb-true _ _ (and_true_left (eqb (get_or states i 0) 0)
-    (is_open n states (i + squares)) e))
-each_open (suc n) states i (suc k) e lt =
-    let up : i + squares + k * squares ≡ i + suc k * squares = omega (arith, more k squares) in
-    rw up at (each_open n states (i + squares) k (and_true_right (eqb (get_or states i 0) 0)
-    (is_open n states (i + squares)) e) (omega arith))
+each_open (suc n) states i zero e lt = grind (arith, nat_tests)
+each_open (suc n) states i (suc k) e lt = grind (
+  arith,
+  each_open n states (i + squares) k (and_true_right (eqb (get_or states i 0) 0) (is_open n states (i + squares)) e),
+)
   where
     more : (a b : ℕ) → suc a * b ≡ a * b + b
     more a b = grind arith
@@ -278,16 +226,7 @@ lit_open states i open' = rw (open_each (length states) states i open') refl
 
 pub dark_closed : (states : List ℕ) (i : ℕ) → ¬ (IsOpen states i) → sky_light states i ≡ 0
 dark_closed states i closed =
-    elim (cases_Bool (is_open (length states) states i)) [
-      | inl lit ↦ absurd (closed (λ k. elim (cases_lt k (length states)) [
-        | inl lt ↦ each_open (length states) states i k lit lt
-        | inr past ↦ get_or_past states (i + k * squares) 0 (omega (arith, far k))
-      ]))
-      | inr dark ↦ rw dark refl
-    ]
-  where
-    far : (k : ℕ) → k ≤ k * squares
-    far k = rw squares-is (omega arith)
+    grind (arith, nat_tests, cases_Bool, cases_lt, each_open, get_or_past, squares-is)
 
 -- ---- a layer's light, a byte at a time
 
@@ -303,14 +242,8 @@ dimmed_none above layer = record { done = λ k lt. absurd (omega arith); left = 
 pub dimmed_more : (above layer now : List ℕ) (j byte : ℕ) → j < length now →
     AreDimmed above layer now j → byte ≡ dimmed_byte (get_or now j 0) (get_or layer (2 * j) 0)
     (get_or layer (2 * j + 1) 0) → AreDimmed above layer (set now j byte) (j + 1)
-dimmed_more above layer now j byte lt dims is = record {
-  done = λ k below. elim (cases_eq k j) [
-    | inl e ↦ rw e (get_or-set_same now j byte 0 lt ∙ is ∙ rw (dims.left j (omega arith)) refl)
-    | inr ne ↦ get_or-set_other now j k byte 0 ne ∙ dims.done k (omega arith)
-  ];
-  left = λ k le. get_or-set_other now j k byte 0 (λ e. absurd (omega arith)) ∙
-      dims.left k (omega arith);
-}
+dimmed_more above layer now j byte lt dims is =
+    grind (arith, nat_tests, cases_eq, get_or-set_same, get_or-set_other)
 
 pub dimmed_all : (above layer now : List ℕ) (j : ℕ) → length now ≡ length above → length above ≤ j →
     AreDimmed above layer now j → now ≡ dimmed above layer
@@ -335,50 +268,23 @@ pub record AreShaded (section above light sky : List ℕ) (y : ℕ) : Type 0 whe
 
 pub shaded_none : (section above sky : List ℕ) (y : ℕ) → y ≡ layer_count → length above ≡
     row_bytes → length sky ≡ light_bytes → AreShaded section above above sky y
-shaded_none section above sky y top len sized = record {
-  sky_is = sized;
-  light_is = len;
-  within = omega arith;
-  now = λ states i is lit. lit ∙ rw (top, ← section-layers) refl;
-  done = λ states i is lit.
-      let none : layer_count - y ≡ 0 = omega arith in
-      let zero_rows : 0 * row_bytes ≡ 0 = omega arith in
-      let past : length sky ≤ y * row_bytes = rw (top, ← light-layers) (omega (arith, sized)) in
-      rw (none, zero_rows) (drop_all (y * row_bytes) sky past);
-}
+shaded_none section above sky y top len sized =
+    grind (arith, nat_tests, section-layers, light-layers, drop_all)
 
 pub shaded_more : (section above light sky light' sky' layer : List ℕ) (y z : ℕ) → z ≡ y + 1 →
     AreShaded section above light sky z → ((t : ℕ) → t < squares → get_or layer t 0 ≡
     get_or section (y * squares + t) 0) → light' ≡ dimmed light layer → length sky' ≡ light_bytes →
     drop (y * row_bytes) sky' ≡ light' ++ drop (y * row_bytes + row_bytes) sky →
     AreShaded section above light' sky' y
-shaded_more section above light sky light' sky' layer y z step shaded at is len put = record {
-  sky_is = len;
-  light_is = ap length is ∙ length-map-range_with_len (λ j. dimmed_byte (get_or light j 0)
-      (get_or layer (2 * j) 0) (get_or layer (2 * j + 1) 0)) 0 (length light) ∙ shaded.light_is;
-  within = omega (arith, shaded.within);
-  now = λ states i same lit. row states i same lit;
-  done = λ states i same lit.
-      let place : y * row_bytes + row_bytes ≡ z * row_bytes = rw step (next y row_bytes) in
-      let rows : row_bytes + (layer_count - z) * row_bytes ≡ (layer_count - y) * row_bytes =
-      rest_more (layer_count - z) (layer_count - y) row_bytes (omega (arith, shaded.within)) in
-      let after : i * section_cells + z * squares ≡ i * section_cells + y * squares + 2 *
-      row_bytes = omega (
-        arith,
-        ap (λ (k : ℕ). k * squares) step,
-        next y squares,
-        row_bytes-is,
-        squares-is,
-      ) in
-      put ∙ rw (
-        row states i same lit,
-        place,
-        shaded.done states i same lit,
-        sky_bytes-append states (i * section_cells + y * squares) row_bytes ((layer_count - z) *
-            row_bytes) (i * section_cells + z * squares) after,
-        rows,
-      ) refl;
-}
+shaded_more section above light sky light' sky' layer y z step shaded at is len put = grind (
+  arith,
+  row_bytes-is,
+  squares-is,
+  sky_bytes-append,
+  row,
+  next y row_bytes,
+  rest_more (layer_count - z) (layer_count - y) row_bytes,
+)
   where
     next : (a b : ℕ) → a * b + b ≡ (a + 1) * b
     next a b = grind arith
@@ -398,13 +304,7 @@ shaded_more section above light sky light' sky' layer y z step shaded at is len 
         is ∙ rw (shaded.now states i same lit, up) (dimmed_is states (i * section_cells + y *
         squares) row_bytes layer (λ t lt.
         let below : t < squares = omega (arith, row_bytes-is, squares-is) in
-        let inside : y * squares + t < section_cells =
-        omega (
-          arith,
-          mul-add-lt y squares t layer_count (omega (arith, shaded.within)) below,
-          mul_comm squares layer_count,
-          section-layers,
-        ) in
+        let inside : y * squares + t < section_cells = grind (arith, section-layers) in
         let place : i * section_cells + y * squares + t ≡ i * section_cells + (y * squares + t) =
         omega arith in
         at t below ∙ rw (same, place) (in_section states i (y * squares + t) inside)))
@@ -415,12 +315,7 @@ pub shaded_all : (section above light sky : List ℕ) (y : ℕ) → AreShaded se
     above ≡ sky_bytes states (i * section_cells + section_cells) row_bytes →
     sky ≡ section_sky states i
 shaded_all section above light sky y shaded least states i same lit =
-    let e : y ≡ 0 = omega arith in
-    let start : y * row_bytes ≡ 0 = rw e (omega arith) in
-    let bottom : y * squares ≡ 0 = rw e (omega arith) in
-    let place : i * section_cells + y * squares ≡ i * section_cells = omega arith in
-    let all : layer_count - y ≡ layer_count = omega arith in
-    rw (start, place, all, ← light-layers) at (shaded.done states i same lit)
+    grind (arith, nat_tests, light-layers)
 
 -- ---- layers that change nothing
 
@@ -434,55 +329,37 @@ zero_none bytes = record { all = λ e k lt. absurd (omega arith); none = λ each
 
 pub zero_more : (bytes : List ℕ) (any i : ℕ) → AreZero bytes any i →
     AreZero bytes (bit_or any (get_or bytes i 0)) (i + 1)
-zero_more bytes any i zero' = record {
-  all = λ e k lt.
-      let left : any ≡ 0 = omega (arith, le_or_l any (get_or bytes i 0)) in
-      let right : get_or bytes i 0 ≡ 0 = omega (arith, le_or_r any (get_or bytes i 0)) in
-      elim (cases_eq k i) [ inl is ↦ rw is right | inr ne ↦ zero'.all left k (omega arith) ];
-  none = λ each.
-      let left : any ≡ 0 = zero'.none (λ k lt. each k (omega arith)) in
-      let right : get_or bytes i 0 ≡ 0 = each i (omega arith) in
-      rw (left, right) refl;
-}
+zero_more bytes any i zero' = grind (arith, nat_tests, le_or_l, le_or_r, cases_eq)
 
 get_or-dimmed : (above layer : List ℕ) (j : ℕ) → j < length above →
     get_or (dimmed above layer) j 0 ≡ dimmed_byte (get_or above j 0) (get_or layer (2 * j) 0)
     (get_or layer (2 * j + 1) 0)
-get_or-dimmed above layer j lt = get_or-map-range_with_len (λ k. dimmed_byte (get_or above k 0)
-    (get_or layer (2 * k) 0) (get_or layer (2 * k + 1) 0)) 0 (length above) j j 0 lt (omega arith)
+get_or-dimmed above layer j lt = grind (arith, nat_tests, get_or-map-range_with_len)
 
 length-dimmed : (above layer : List ℕ) → length (dimmed above layer) ≡ length above
-length-dimmed above layer = length-map-range_with_len (λ k. dimmed_byte (get_or above k 0)
-    (get_or layer (2 * k) 0) (get_or layer (2 * k + 1) 0)) 0 (length above)
+length-dimmed above layer = grind (arith, nat_tests, length-map-range_with_len)
 
 -- under darkness all is dark
 pub dimmed_dark : (above layer : List ℕ) → IsAir above → above ≡ dimmed above layer
-dimmed_dark above layer dark =
-    sym (ext_get_or 0 (dimmed above layer) above (length-dimmed above layer) (λ j lt.
-    let zero' : get_or above j 0 ≡ 0 = air_at above j dark in
-    get_or-dimmed above layer j (omega (arith, length-dimmed above layer)) ∙
-    rw zero' (none (eqb (get_or layer (2 * j) 0) 0) (eqb (get_or layer (2 * j + 1) 0) 0))))
-  where
-    none : (a b : Bool) → ◌≡◌ {A = ℕ} (cond a (0 % 16) 0 + cond b (0 / 16 * 16) 0) 0
-    none true true = refl
-    none true false = refl
-    none false true = refl
-    none false false = refl
+dimmed_dark above layer dark = grind (
+  arith,
+  ext_get_or 0 (dimmed above layer) above (length-dimmed above layer),
+  length-dimmed above layer,
+  get_or-dimmed above layer,
+)
 
 -- air takes no light away
 pub dimmed_air : (above bytes : List ℕ) (n : ℕ) → length bytes ≡ 2 * n → IsAir bytes →
     above ≡ dimmed above (paired bytes)
-dimmed_air above bytes n len air =
-    sym (ext_get_or 0 (dimmed above (paired bytes)) above (length-dimmed above (paired bytes))
-    (λ j lt.
-    get_or-dimmed above (paired bytes) j (omega (arith, length-dimmed above (paired bytes))) ∙
-    rw (no_state (2 * j), no_state (2 * j + 1)) (whole (get_or above j 0))))
-  where
-    whole : (byte : ℕ) → byte % 16 + byte / 16 * 16 ≡ byte
-    whole byte = omega arith
-
-    no_state : (i : ℕ) → get_or (paired bytes) i 0 ≡ 0
-    no_state i = rw (air_or_zeros bytes air, len, paired-zeros n) (get_or-zeros n i)
+dimmed_air above bytes n len air = grind (
+  arith,
+  ext_get_or 0 (dimmed above (paired bytes)) above (length-dimmed above (paired bytes)),
+  length-dimmed above (paired bytes),
+  get_or-dimmed above (paired bytes),
+  air_or_zeros bytes air,
+  paired-zeros n,
+  get_or-zeros n,
+)
 
 -- a layer of air is lit as the one above it
 pub shaded_air : (above light sky sky' : List ℕ) (y z : ℕ) → z ≡ y + 1 →

@@ -1,6 +1,7 @@
 -- States and the two bytes that each is sent in.
 use Rattle.std.proofs.Common.{◌≡◌, ℕ, ◌+◌, ◌*◌, ◌/◌, ◌%◌, ◌<◌, zero, suc, List, [], ◌∷◌, ◌++◌}
 use Rattle.std.proofs.Common.{length, get_or, set, take, drop, replicate, refl, ap, arith}
+use Rattle.std.proofs.lemmas.Bool.Decides.{nat_tests}
 use Rattle.mc_column.specs.Cells.{wire, paired}
 
 double : (n : ℕ) → 2 * suc n ≡ suc (suc (2 * n))
@@ -13,8 +14,7 @@ pub length-paired : (bytes : List ℕ) (n : ℕ) → length bytes ≡ 2 * n → 
 length-paired [] n e = omega arith
 length-paired (low ∷ []) n e = absurd (omega arith)
 length-paired (low ∷ high ∷ bytes) zero e = absurd (omega arith)
-length-paired (low ∷ high ∷ bytes) (suc n) e =
-    ap (λ (k : ℕ). suc k) (length-paired bytes n (omega arith))
+length-paired (low ∷ high ∷ bytes) (suc n) e = grind (arith, nat_tests, length-paired bytes n)
 
 -- the state at a place is the two bytes at twice that place
 pub get_or-paired : (bytes : List ℕ) (i : ℕ) → 2 * i + 1 < length bytes →
@@ -32,23 +32,20 @@ paired-set [] i l h lt = absurd (omega arith)
 paired-set (low ∷ []) i l h lt = absurd (omega arith)
 paired-set (low ∷ high ∷ bytes) zero l h lt = refl
 paired-set (low ∷ high ∷ bytes) (suc i) l h lt =
-    rw (double_more i, double i) (ap (λ (t : List ℕ). (low + 256 * high) ∷
-    t) (paired-set bytes i l h (omega arith)))
+    grind (arith, nat_tests, paired-set bytes i l h (omega arith), double_more i, double i)
 
 pub paired-append : (xs ys : List ℕ) (n : ℕ) → length xs ≡ 2 * n → paired (xs ++ ys) ≡ paired xs ++
     paired ys
 paired-append [] ys n e = refl
 paired-append (low ∷ []) ys n e = absurd (omega arith)
 paired-append (low ∷ high ∷ xs) ys zero e = absurd (omega arith)
-paired-append (low ∷ high ∷ xs) ys (suc n) e = ap (λ (t : List ℕ). (low + 256 * high) ∷
-    t) (paired-append xs ys n (omega arith))
+paired-append (low ∷ high ∷ xs) ys (suc n) e = grind (arith, nat_tests, paired-append xs ys n)
 
 pub paired-take : (n : ℕ) (bytes : List ℕ) → paired (take (2 * n) bytes) ≡ take n (paired bytes)
 paired-take zero bytes = refl
 paired-take (suc n) [] = rw (double n) refl
 paired-take (suc n) (low ∷ []) = rw (double n) refl
-paired-take (suc n) (low ∷ high ∷ bytes) =
-    rw (double n) (ap (λ (t : List ℕ). (low + 256 * high) ∷ t) (paired-take n bytes))
+paired-take (suc n) (low ∷ high ∷ bytes) = grind (arith, nat_tests, paired-take n bytes, double n)
 
 pub paired-drop : (n : ℕ) (bytes : List ℕ) → paired (drop (2 * n) bytes) ≡ drop n (paired bytes)
 paired-drop zero bytes = refl
@@ -58,9 +55,7 @@ paired-drop (suc n) (low ∷ high ∷ bytes) = rw (double n) (paired-drop n byte
 
 pub paired-wire : (states : List ℕ) → paired (wire states) ≡ states
 paired-wire [] = refl
-paired-wire (state ∷ states) =
-    let whole : state % 256 + 256 * (state / 256) ≡ state = omega arith in
-    rw (whole, paired-wire states) refl
+paired-wire (state ∷ states) = grind (arith, nat_tests, paired-wire states)
 
 pub length-wire : (states : List ℕ) → length (wire states) ≡ 2 * length states
 length-wire [] = refl

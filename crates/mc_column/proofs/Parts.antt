@@ -1,5 +1,6 @@
 -- Parts of equal size, one after another.
-use Rattle.std.proofs.Common.{◌≡◌, ℕ, ◌+◌, ◌*◌, ◌-◌, ◌<◌, ◌≤◌, List, take, drop, get_or, ◌∙◌, arith}
+use Rattle.std.proofs.Common.{◌≡◌, ℕ, ◌+◌, ◌*◌, ◌-◌, ◌<◌, ◌≤◌, List, take, drop, get_or, arith}
+use Rattle.std.proofs.lemmas.Bool.Decides.{nat_tests}
 use Rattle.std.proofs.lemmas.List.{get_or-take, get_or-drop}
 use Rattle.mc_column.specs.Sizes.{section_cells, squares, layer_count}
 use Rattle.mc_column.specs.SizesLaws.{section-layers}
@@ -9,31 +10,23 @@ use Rattle.mc_column.proofs.Pairs.{paired-take, paired-drop}
 -- the y-th of n parts ends within them
 pub part_within : (y n a size total : ℕ) → y < n → size ≡ a → total ≡ n * a →
     y * size + size ≤ total
-part_within y n a size total lt is all = rw (is, all) (fits y n a lt)
-  where
-    fits : (y n a : ℕ) → y < n → y * a + a ≤ n * a
-    fits y n a lt = grind arith
+part_within y n a size total lt is all = grind (arith, nat_tests)
 
 pub section_parts : 2 * section_cells ≡ layer_count * (2 * squares)
-section_parts = rw section-layers (twice layer_count squares)
-  where
-    twice : (a b : ℕ) → 2 * (a * b) ≡ a * (2 * b)
-    twice a b = grind arith
+section_parts = grind (arith, nat_tests, section-layers)
 
 -- a state of a layer is one of its section
 pub layer_state : (bytes : List ℕ) (y size t : ℕ) → size ≡ 2 * squares → t < squares →
     get_or (paired (take (y * size + size - y * size) (drop (y * size) bytes))) t 0 ≡
     get_or (paired bytes) (y * squares + t) 0
-layer_state bytes y size t is lt =
-    let width : y * size + size - y * size ≡ size = omega arith in
-    rw (
-      width,
-      is,
-      twice y squares,
-      paired-take squares (drop (2 * (y * squares)) bytes),
-      paired-drop (y * squares) bytes,
-    ) (get_or-take squares (drop (y * squares) (paired bytes)) t
-    0 lt ∙ get_or-drop (y * squares) (paired bytes) t 0)
+layer_state bytes y size t is lt = grind (
+  arith,
+  paired-take squares (drop (2 * (y * squares)) bytes),
+  paired-drop (y * squares) bytes,
+  get_or-take squares (drop (y * squares) (paired bytes)) t 0 lt,
+  get_or-drop (y * squares) (paired bytes) t 0,
+  twice y squares,
+)
   where
     twice : (a b : ℕ) → a * (2 * b) ≡ 2 * (a * b)
     twice a b = grind arith

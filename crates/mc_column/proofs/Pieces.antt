@@ -1,9 +1,9 @@
 -- Lists of equal length, one after another.
-use Rattle.std.proofs.Common.{◌≡◌, ℕ, ◌+◌, ◌*◌, ◌-◌, ◌<◌, ◌≤◌, Bool, true, false, cond, zero, suc}
+use Rattle.std.proofs.Common.{◌≡◌, ℕ, ◌+◌, ◌*◌, ◌<◌, ◌≤◌, Bool, true, false, cond, zero, suc}
 use Rattle.std.proofs.Common.{List, [], ◌++◌, length, get_or, set, take, drop, replicate, refl, sym}
-use Rattle.std.proofs.Common.{ap, ◌∙◌, arith, inl, inr, append_assoc}
-use Rattle.std.proofs.Math.Nat.{mul_comm}
+use Rattle.std.proofs.Common.{ap, ◌∙◌, arith, append_assoc}
 use Rattle.std.proofs.Math.Seq.{take-add}
+use Rattle.std.proofs.lemmas.Bool.Decides.{nat_tests}
 use Rattle.std.proofs.lemmas.Bool.{cases_eq}
 use Rattle.std.proofs.lemmas.List.{append-nil, drop_all, length-append, length-drop, drop_at}
 use Rattle.std.proofs.lemmas.List.{take_all, take-append-le, drop-append-le, get_or-take}
@@ -21,16 +21,10 @@ AreSized-less f n m sized = record { at = λ k lt. sized.at k (omega arith) }
 
 rank_le : (p : ℕ → Bool) (i m : ℕ) → i ≤ m → rank p i ≤ rank p m
 rank_le p i zero le = let e : i ≡ 0 = omega arith in rw e (omega arith)
-rank_le p i (suc m) le =
-    elim (cases_eq i (suc m)) [
-      | inl e ↦ rw e (omega arith)
-      | inr ne ↦ omega (arith, rank_le p i m (omega arith))
-    ]
+rank_le p i (suc m) le = grind (arith, nat_tests, rank_le p i m, cases_eq i (suc m))
 
 pub rank_below : (p : ℕ → Bool) (i m : ℕ) → i < m → p i ≡ true → rank p i + 1 ≤ rank p m
-rank_below p i m lt passes =
-    let one : rank p (suc i) ≡ rank p i + 1 = rw passes refl in
-    omega (arith, rank_le p (suc i) m (omega arith))
+rank_below p i m lt passes = grind (arith, nat_tests, rank_le p (suc i) m)
 
 pub rank_all : (m : ℕ) → rank (λ _. true) m ≡ m
 rank_all zero = refl
@@ -57,35 +51,22 @@ times_le a b n le = grind arith
 -- a part that ends within a list is a part of it with anything behind
 drop_front : (n k : ℕ) (xs ys : List ℕ) → k + n ≤ length xs → take n (drop k (xs ++ ys)) ≡
     take n (drop k xs)
-drop_front n k xs ys le =
-    rw (drop-append-le k xs ys (omega arith)) (take-append-le n (drop k xs) ys
-    (omega (arith, length-drop k xs)))
+drop_front n k xs ys le = grind (arith, nat_tests, drop-append-le, take-append-le, length-drop)
 
 -- the piece of a number that passes stands after as many pieces as there are such numbers below it
 pub piece : (p : ℕ → Bool) (f : ℕ → List ℕ) (n i m : ℕ) → AreSized f n m → i < m → p i ≡ true →
     take n (drop (rank p i * n) (joined (picked p f) m)) ≡ f i
 piece p f n i zero sized lt passes = absurd (omega arith)
-piece p f n i (suc m) sized lt passes =
-    let len = length-joined p f n m (AreSized-less f n m sized) in
-    elim (cases_eq i m) [
-      | inl e ↦
-          let here : p m ≡ true = rw (← e) passes in
-          let at_end : length (joined (picked p f) m) ≡ rank p i * n = rw e len in
-          rw (
-            here,
-            drop_at (joined (picked p f) m) (f m) (rank p i * n) at_end,
-            take_all n (f m) (omega (arith, sized.at m (omega arith))),
-            e,
-          ) refl
-      | inr ne ↦
-          let below : i < m = omega arith in
-          let room : (rank p i + 1) * n ≤ rank p m * n = times_le (rank p i + 1) (rank p m) n
-          (rank_below p i m below passes) in
-          let enough : rank p i * n + n ≤ length (joined (picked p f) m) =
-          omega (arith, len, room, times_more (rank p i) n) in
-          drop_front n (rank p i * n) (joined (picked p f) m) (picked p f m) enough ∙
-          piece p f n i m (AreSized-less f n m sized) below passes
-    ]
+piece p f n i (suc m) sized lt passes = grind (
+  arith,
+  piece p f n i m (AreSized-less f n m sized),
+  length-joined p f n m (AreSized-less f n m sized),
+  drop_at (joined (picked p f) m) (f m) (rank p i * n),
+  take_all n (f m),
+  times_le (rank p i + 1) (rank p m) n,
+  rank_below p i m,
+  drop_front n (rank p i * n) (joined (picked p f) m) (picked p f m),
+)
 
 -- a piece, where each number passes
 pub piece_all : (f : ℕ → List ℕ) (n i m : ℕ) → AreSized f n m → i < m →
@@ -101,18 +82,13 @@ length-joined_all f n m sized = rw (rank_all m) at (length-joined (λ _. true) f
 pub joined_same : (f g : ℕ → List ℕ) (m : ℕ) → ((k : ℕ) → k < m → f k ≡ g k) →
     joined f m ≡ joined g m
 joined_same f g zero same = refl
-joined_same f g (suc m) same = rw (
-  joined_same f g m (λ k lt. same k (omega arith)),
-  same m (omega arith),
-) refl
+joined_same f g (suc m) same = grind (arith, nat_tests, joined_same f g m)
 
 -- a list of m pieces is these, one after another
 pub joined_pieces : (xs : List ℕ) (n m : ℕ) → joined (λ i. take n (drop (i * n) xs)) m ≡
     take (m * n) xs
 joined_pieces xs n zero = let z : 0 * n ≡ 0 = omega arith in rw z refl
-joined_pieces xs n (suc m) =
-    let e : suc m * n ≡ m * n + n = grind arith in
-    rw (joined_pieces xs n m, e) (sym (take-add (m * n) n xs))
+joined_pieces xs n (suc m) = grind (arith, nat_tests, joined_pieces xs n m, take-add (m * n) n xs)
 
 -- an element of a piece
 pub get_or-joined : (f : ℕ → List ℕ) (n i k m : ℕ) → AreSized f n m → i < m → k < n →
@@ -127,62 +103,35 @@ pub joined-set : (f g : ℕ → List ℕ) (n i k v m : ℕ) → AreSized f n m �
     g i ≡ set (f i) k v → ((j : ℕ) → (j ≡ i → ⊥) → g j ≡ f j) →
     joined g m ≡ set (joined f m) (i * n + k) v
 joined-set f g n i k v zero sized lt inside changed kept = absurd (omega arith)
-joined-set f g n i k v (suc m) sized lt inside changed kept =
-    let len = length-joined_all f n m (AreSized-less f n m sized) in
-    elim (cases_eq i m) [
-      | inl e ↦
-          let before : joined g m ≡ joined f m =
-          joined_same g f m (λ j below. kept j (λ h. absurd (omega arith))) in
-          let at_m : g m ≡ set (f m) k v = rw (← e) changed in
-          let place : m * n + k - m * n ≡ k = omega arith in
-          rw (
-            e,
-            before,
-            at_m,
-            set-append_right (joined f m) (f m) (m * n) (m * n + k) v len
-                (omega arith),
-            place,
-          ) refl
-      | inr ne ↦
-          let below : i < m = omega arith in
-          let room : i * n + k < n * m = mul-add-lt i n k m below inside in
-          let there : i * n + k < length (joined f m) = omega (arith, room, len, mul_comm n m) in
-          let last : g m ≡ f m = kept m (λ h. ne (sym h)) in
-          rw (joined-set f g n i k v m (AreSized-less f n m sized) below inside changed kept, last)
-          (sym (set-append_left (joined f m) (f m) (i * n + k) v there))
-    ]
+joined-set f g n i k v (suc m) sized lt inside changed kept = grind (
+  arith,
+  joined-set f g n i k v m (AreSized-less f n m sized),
+  length-joined_all f n m (AreSized-less f n m sized),
+  joined_same g f m,
+  set-append_right (joined f m) (f m) (m * n) (m * n + k) v,
+  mul-add-lt i n k m,
+  set-append_left (joined f m) (f m) (i * n + k) v,
+)
 
 -- another piece in place of one
 pub joined-put : (f g : ℕ → List ℕ) (n i m : ℕ) → AreSized f n m → i < m → length (g i) ≡ n →
     ((j : ℕ) → (j ≡ i → ⊥) → g j ≡ f j) → joined g m ≡ take (i * n) (joined f m) ++
     (g i ++ drop (i * n + n) (joined f m))
 joined-put f g n i zero sized lt len kept = absurd (omega arith)
-joined-put f g n i (suc m) sized lt len kept =
-    let all = length-joined_all f n m (AreSized-less f n m sized) in
-    elim (cases_eq i m) [
-      | inl e ↦
-          let before : joined g m ≡ joined f m =
-          joined_same g f m (λ j below. kept j (λ h. absurd (omega arith))) in
-          let front : take (m * n) (joined f m ++ f m) ≡ joined f m =
-          take-append-le (m * n) (joined f m) (f m) (omega (arith, all)) ∙
-          take_all (m * n) (joined f m) (omega (arith, all)) in
-          let none : drop (m * n + n) (joined f m ++ f m) ≡ [] = drop_all (m * n + n) (joined f m ++
-          f m) (omega (arith, all, length-append (joined f m) (f m), sized.at m (omega arith)))
-          in
-          rw (e, before, front, none) (ap (λ (t : List ℕ). joined f m ++
-          t) (sym (append-nil (g m))))
-      | inr ne ↦
-          let below : i < m = omega arith in
-          let room : (i + 1) * n ≤ m * n = times_le (i + 1) m n (omega arith) in
-          let enough : i * n + n ≤ length (joined f m) = omega (arith, all, room, times_more i n) in
-          let last : g m ≡ f m = kept m (λ h. ne (sym h)) in
-          let front : take (i * n) (joined f m ++ f m) ≡ take (i * n) (joined f m) =
-          take-append-le (i * n) (joined f m) (f m) (omega arith) in
-          let rest : drop (i * n + n) (joined f m ++ f m) ≡ drop (i * n + n) (joined f m) ++ f m =
-          drop-append-le (i * n + n) (joined f m) (f m) enough in
-          rw (joined-put f g n i m (AreSized-less f n m sized) below len kept, last, front, rest)
-          (regroup (take (i * n) (joined f m)) (g i) (drop (i * n + n) (joined f m)) (f m))
-    ]
+joined-put f g n i (suc m) sized lt len kept = grind (
+  arith,
+  joined-put f g n i m (AreSized-less f n m sized),
+  length-joined_all f n m (AreSized-less f n m sized),
+  joined_same g f m,
+  take-append-le (i * n) (joined f m) (f m),
+  take_all (m * n) (joined f m),
+  drop_all (m * n + n) (joined f m ++ f m),
+  length-append (joined f m) (f m),
+  append-nil (g m),
+  times_le (i + 1) m n,
+  drop-append-le (i * n + n) (joined f m) (f m),
+  regroup (take (i * n) (joined f m)) (g i) (drop (i * n + n) (joined f m)) (f m),
+)
   where
     regroup : (a b c d : List ℕ) → (a ++ (b ++ c)) ++ d ≡ a ++ (b ++ (c ++ d))
     regroup a b c d = simp append_assoc
@@ -192,9 +141,4 @@ pub joined_copies : (f : ℕ → List ℕ) (n m a : ℕ) → ((k : ℕ) → k < 
     joined f m ≡ replicate (m * n) a
 joined_copies f n zero a same = let z : 0 * n ≡ 0 = omega arith in rw z refl
 joined_copies f n (suc m) a same =
-    let e : suc m * n ≡ m * n + n = grind arith in
-    rw (
-      joined_copies f n m a (λ k lt. same k (omega arith)),
-      same m (omega arith),
-      e,
-    ) (replicate-append-replicate (m * n) n a)
+    grind (arith, nat_tests, joined_copies f n m a, replicate-append-replicate)

@@ -1,6 +1,7 @@
 -- Sections after a body is put into them.
-use Rattle.std.proofs.Common.{◌≡◌, ℕ, ◌+◌, ◌*◌, ◌<◌, ◌≤◌, ◌||◌, Bool, true, false, cond, List, []}
-use Rattle.std.proofs.Common.{length, take, drop, replicate, refl, sym, ap, ◌∙◌, arith}
+use Rattle.std.proofs.Common.{◌≡◌, ℕ, ◌+◌, ◌*◌, ◌<◌, ◌≤◌, ◌||◌, Bool, true, cond, List, []}
+use Rattle.std.proofs.Common.{length, take, drop, refl, sym, ap, ◌∙◌, arith}
+use Rattle.std.proofs.lemmas.Bool.Decides.{nat_tests}
 use Rattle.std.proofs.lemmas.List.{length-replicate, length-take, length-drop}
 use Rattle.mc_column.specs.Sizes.{section_count, section_cells, squares}
 use Rattle.mc_column.specs.Cells.{ColumnValue, joined, section_of, rank, paired}
@@ -19,59 +20,26 @@ pub laid : (mask : ℕ) (ground_up : Bool) (states : List ℕ) (old made new : L
     ((k : ℕ) → k < section_count → nth_section new k ≡ cond (ground_up || is_named mask k)
     (nth_section made k) (nth_section old k)) → (k : ℕ) → k < section_count → nth_section new k ≡
     put_section mask ground_up states k (nth_section old k)
-laid mask ground_up states old made new makes puts k lt =
-    puts k lt ∙ rw (makes k lt) (cases ground_up (is_named mask k)
-    (section_of states (rank (is_named mask) k)) (replicate section_cells 0)
-    (nth_section old k))
-  where
-    cases : (g n : Bool) (a b d : List ℕ) → cond (g || n) (cond n a b) d ≡ cond n a (cond g b d)
-    cases true true a b d = refl
-    cases true false a b d = refl
-    cases false true a b d = refl
-    cases false false a b d = refl
+laid mask ground_up states old made new makes puts k lt = grind (arith, nat_tests)
 
 -- a piece of the blocks' bytes is a section of their states
 pub piece_of_blocks : (blocks : List ℕ) (r n : ℕ) →
     paired (take (2 * n) (drop (r * (2 * n)) blocks)) ≡ take n (drop (r * n) (paired blocks))
-piece_of_blocks blocks r n = rw (
-  twice r n,
-  paired-take n (drop (2 * (r * n)) blocks),
-  paired-drop (r * n) blocks,
-) refl
-  where
-    twice : (a b : ℕ) → a * (2 * b) ≡ 2 * (a * b)
-    twice a b = grind arith
+piece_of_blocks blocks r n =
+    grind (arith, nat_tests, paired-take n (drop (2 * (r * n)) blocks), paired-drop (r * n) blocks)
 
 -- there are bytes for each section that the mask names
 pub piece_within : (mask i n : ℕ) → i < section_count → is_named mask i ≡ true →
     rank (is_named mask) i * n + n ≤ named_count mask * n
-piece_within mask i n lt named = fits (rank (is_named mask) i) (named_count mask) n
-    (rank_below (is_named mask) i section_count lt named)
-  where
-    fits : (a b n : ℕ) → a + 1 ≤ b → a * n + n ≤ b * n
-    fits a b n le = grind arith
+piece_within mask i n lt named =
+    grind (arith, nat_tests, rank_below (is_named mask) i section_count lt named)
 
 -- a section keeps its size
 pub length-put_section : (mask : ℕ) (ground_up : Bool) (states : List ℕ) (i : ℕ) (old : List ℕ) →
     i < section_count → length states ≡ named_count mask * section_cells →
     length old ≡ section_cells → length (put_section mask ground_up states i old) ≡ section_cells
 length-put_section mask ground_up states i old lt len sized =
-    elim (is_named mask i) as (λ b. is_named mask i ≡ b →
-    length (cond b (section_of states (rank (is_named mask) i))
-    (cond ground_up (replicate section_cells 0) old)) ≡ section_cells) [
-      | true ↦ λ named. omega (
-        arith,
-        length-take section_cells (drop (rank (is_named mask) i * section_cells) states),
-        length-drop (rank (is_named mask) i * section_cells) states,
-        piece_within mask i section_cells lt named,
-        len,
-      )
-      | false ↦ λ left_out. elim ground_up as (λ b. length (cond b (replicate section_cells 0) old)
-          ≡ section_cells) [
-            | true ↦ length-replicate {A = ℕ} section_cells 0
-            | false ↦ sized
-          ]
-    ] refl
+    grind (arith, nat_tests, length-take, length-drop, piece_within, length-replicate)
 
 pub kept_put_keeps : (sections new : List (List ℕ)) (biomes biomes' : List ℕ) (mask : ℕ)
     (ground_up : Bool) (states : List ℕ) → IsKeptColumn sections biomes →
@@ -79,12 +47,7 @@ pub kept_put_keeps : (sections new : List (List ℕ)) (biomes biomes' : List ℕ
     put_section mask ground_up states k (nth_section sections k)) → length states ≡
     named_count mask * section_cells → length biomes' ≡ squares → IsKeptColumn new biomes'
 kept_put_keeps sections new biomes biomes' mask ground_up states kept len each sized squared =
-    record {
-      all_there = len;
-      sized = λ i lt. ap length (each i lt) ∙ length-put_section mask ground_up states i
-          (nth_section sections i) lt sized (kept.sized i lt);
-      biomes_are = squared;
-    }
+    grind (arith, nat_tests, length-put_section)
 
 -- the column is the one that the body makes
 pub kept_put : (sections new : List (List ℕ)) (biomes biomes' : List ℕ) (body : BodyValue) →

@@ -1,11 +1,12 @@
 -- The mask and the bytes that a column is sent with.
-use Rattle.std.proofs.Common.{◌≡◌, ◌≢◌, ℕ, zero, suc, ◌+◌, ◌*◌, ◌/◌, ◌%◌, ◌^◌, ◌<◌, ◌≤◌, Bool, true}
+use Rattle.std.proofs.Common.{◌≡◌, ◌≢◌, ℕ, zero, suc, ◌+◌, ◌*◌, ◌/◌, ◌%◌, ◌^◌, ◌<◌, Bool, true}
 use Rattle.std.proofs.Common.{false, cond, List, [], ◌++◌, length, get_or, drop, replicate, Ok}
 use Rattle.std.proofs.Common.{refl, sym, ap, ◌∙◌, arith, inl, inr}
-use Rattle.std.proofs.Math.Nat.{zero-div}
+use Rattle.std.proofs.lemmas.Bool.Decides.{nat_tests}
 use Rattle.std.proofs.lemmas.Bool.{cases_eq, eq-eqb, ne_eqb, false≢true}
-use Rattle.std.proofs.lemmas.Nat.{shr-shr, div_below, mod_below, div-add-mod'}
-use Rattle.std.proofs.lemmas.List.{length-append, length-replicate, length-take, length-drop}
+use Rattle.std.proofs.lemmas.Grind.{common_steps}
+use Rattle.std.proofs.lemmas.Nat.{div_below, mod_below, div-add-mod'}
+use Rattle.std.proofs.lemmas.List.{length-replicate, length-take, length-drop}
 use Rattle.std.proofs.lemmas.List.{get_or_append_left, get_or-append-add, get_or-take, get_or-drop}
 use Rattle.std.proofs.lemmas.List.{get_or_default, take_all}
 use Rattle.mc_column.specs.Sizes.{section_count, section_cells, cells, light_bytes}
@@ -15,7 +16,7 @@ use Rattle.mc_column.specs.Cells.{ColumnValue, HasSizes, IsAir, joined, picked, 
 use Rattle.mc_column.specs.Cells.{wire}
 use Rattle.mc_column.specs.Light.{sky_light, sky_byte, section_sky, half_of}
 use Rattle.mc_column.specs.Body.{SpellsBody, is_named, named_count, block_light_at, sky_light_at}
-use Rattle.mc_column.specs.Body.{biomes_at, body_read, put_section, put_body, column_body}
+use Rattle.mc_column.specs.Body.{body_read, put_section, put_body, column_body}
 use Rattle.mc_column.specs.Sent.{bits, has_block, with_one, column_mask, body_bytes, column_bytes}
 use Rattle.mc_column.specs.Sent.{IsColumnMask, SpellsColumn}
 use Rattle.mc_column.specs.KeptColumn.{nth_section, kept_column, IsKeptColumn}
@@ -39,10 +40,7 @@ with_one_is mask some = rw (ne_eqb mask 0 some) refl
 
 one_named : (i : ℕ) → is_named 1 i ≡ true → i ≡ 0
 one_named zero e = refl
-one_named (suc k) e =
-    let up : suc k ≡ 1 + k = omega arith in
-    let none : is_named 1 (suc k) ≡ false = rw (up, ← shr-shr 1 1 k, zero-div (2 ^ k)) refl in
-    absurd (false≢true (sym none ∙ e))
+one_named (suc k) e = grind (arith, nat_tests)
 
 -- what the mask does not name fails the test
 pub mask_left_out : (test : ℕ → Bool) (i n : ℕ) → i < n → is_named (with_one (bits test 0 n)) i ≡
@@ -59,35 +57,14 @@ mask_left_out test i n lt left_out =
 pub mask_named : (test : ℕ → Bool) (i n : ℕ) → i < n → is_named (with_one (bits test 0 n)) i ≡
     true → test i ≡ false → (i ≡ 0) × (bits test 0 n ≡ 0)
 mask_named test i n lt named fails =
-    let at : 0 + i ≡ i = omega arith in
-    elim (cases_eq (bits test 0 n) 0) [
-      | inl none ↦
-          let one : with_one (bits test 0 n) ≡ 1 = rw (eq-eqb (bits test 0 n) 0 none) refl in
-          (one_named i (ap (λ (mask : ℕ). is_named mask i) (sym one) ∙ named), none)
-      | inr some ↦
-          let passes : test i ≡ true = ap test (sym at) ∙ sym (bits_named test 0 n i lt) ∙
-          rw (← with_one_is (bits test 0 n) some) named in
-          absurd (false≢true (sym fails ∙ passes))
-    ]
+    grind (arith, nat_tests, cases_eq, eq-eqb, one_named, bits_named, with_one_is, false≢true)
 
 pub mask_below : (test : ℕ → Bool) → with_one (bits test 0 section_count) < 2 ^ section_count
 mask_below test =
-    elim (cases_eq (bits test 0 section_count) 0) [
-      | inl none ↦ rw (eq-eqb (bits test 0 section_count) 0 none, section_count-is) (omega arith)
-      | inr some ↦ rw (with_one_is (bits test 0 section_count) some)
-          (bits_below test 0 section_count)
-    ]
+    grind (arith, nat_tests, cases_eq, eq-eqb, section_count-is, with_one_is, bits_below)
 
 pub mask_some : (test : ℕ → Bool) → with_one (bits test 0 section_count) ≢ 0
-mask_some test =
-    elim (cases_eq (bits test 0 section_count) 0) [
-      | inl none ↦ λ e. one_not (with_one (bits test 0 section_count))
-          (rw (eq-eqb (bits test 0 section_count) 0 none) refl) e
-      | inr some ↦ λ e. some (sym (with_one_is (bits test 0 section_count) some) ∙ e)
-    ]
-  where
-    one_not : (n : ℕ) → n ≡ 1 → n ≡ 0 → ⊥
-    one_not n a b = omega arith
+mask_some test = grind (arith, nat_tests)
 
 -- a column whose sections are air is air
 all_air : (states : List ℕ) → length states ≡ cells → ((i : ℕ) → i < section_count →
@@ -139,20 +116,7 @@ kept_mask sections biomes kept =
 
 sections_sized : (column : ColumnValue) → HasSizes column →
     AreSized (section_of column.states) section_cells section_count
-sections_sized column sizes =
-    record {
-      at = λ k lt. omega (
-        arith,
-        length-take section_cells (drop (k * section_cells) column.states),
-        length-drop (k * section_cells) column.states,
-        sizes.states_are,
-        cells-sections,
-        room k section_count section_cells lt,
-      );
-    }
-  where
-    room : (k m n : ℕ) → k < m → k * n + n ≤ m * n
-    room k m n lt = grind arith
+sections_sized column sizes = grind (arith, nat_tests, length-take, length-drop, cells-sections)
 
 sky_sized : (states : List ℕ) → AreSized (section_sky states) light_bytes section_count
 sky_sized states = record { at = λ k lt. length-sky_bytes states (k * section_cells) light_bytes }
@@ -174,58 +138,22 @@ parts_of : (column : ColumnValue) (mask : ℕ) → HasSizes column →
     Parts column mask (wire (column_body column mask).states)
     (replicate (named_count mask * light_bytes) 0)
     (joined (picked (is_named mask) (section_sky column.states)) section_count)
-parts_of column mask sizes = record {
-  blocks_are = refl;
-  dark_is = refl;
-  sky_is = refl;
-  blocks_len = length-wire (column_body column mask).states ∙
-      ap (λ (k : ℕ). 2 * k) (length-joined (is_named mask) (section_of column.states) section_cells
-      section_count (sections_sized column sizes)) ∙ sym (blocks_even mask);
-  dark_len = length-replicate {A = ℕ} (named_count mask * light_bytes) 0;
-  sky_len = length-joined (is_named mask) (section_sky column.states) light_bytes section_count
-      (sky_sized column.states);
-}
+parts_of column mask sizes = grind (
+  arith,
+  length-wire,
+  length-joined,
+  sections_sized,
+  blocks_even,
+  length-replicate,
+  sky_sized,
+)
 
 -- the body in the bytes
 body_spelled : (column : ColumnValue) (mask : ℕ) (blocks dark sky : List ℕ) → HasSizes column →
     Parts column mask blocks dark sky → SpellsBody (column_body column mask) mask true true
     (blocks ++ (dark ++ (sky ++ column.biomes)))
 body_spelled column mask blocks dark sky sizes parts =
-    let states = length-joined (is_named mask) (section_of column.states) section_cells
-    section_count (sections_sized column sizes) in
-    let even = blocks_even mask in
-    record {
-      for_mask = refl;
-      for_ground = refl;
-      states_are = states;
-      biomes_are = sizes.biomes_are;
-      low = λ i lt. get_or_append_left blocks (dark ++ (sky ++ column.biomes)) 0 (2 * i)
-          (omega (arith, parts.blocks_len, even, states)) ∙
-          rw parts.blocks_are (wire_low (column_body column mask).states i);
-      high = λ i lt. get_or_append_left blocks (dark ++ (sky ++ column.biomes)) 0 (2 * i + 1)
-          (omega (arith, parts.blocks_len, even, states)) ∙
-          rw parts.blocks_are (wire_high (column_body column mask).states i);
-      biome = λ i lt.
-          let place : biomes_at mask true + i ≡ block_light_at mask +
-          (named_count mask * light_bytes + (named_count mask * light_bytes + i)) =
-          omega arith in
-          rw place (after blocks (dark ++ (sky ++ column.biomes)) (block_light_at mask)
-          (named_count mask * light_bytes + (named_count mask * light_bytes + i))
-          parts.blocks_len
-          ∙ after dark (sky ++ column.biomes) (named_count mask * light_bytes) (named_count mask *
-          light_bytes + i) parts.dark_len
-          ∙ after sky column.biomes (named_count mask * light_bytes) i parts.sky_len);
-      size = omega (
-        arith,
-        length-append blocks (dark ++ (sky ++ column.biomes)),
-        length-append dark (sky ++ column.biomes),
-        length-append sky column.biomes,
-        parts.blocks_len,
-        parts.dark_len,
-        parts.sky_len,
-        sizes.biomes_are,
-      );
-    }
+    grind (arith, common_steps, length-joined, sections_sized, blocks_even, wire_low, wire_high)
 
 -- the light of a cell in the bytes
 cell_light : (column : ColumnValue) (mask : ℕ) (blocks dark sky : List ℕ) (i k : ℕ) →
@@ -243,19 +171,16 @@ cell_light column mask blocks dark sky i k parts lt named inside =
     omega (arith, piece_within mask i light_bytes lt named, parts.sky_len) in
     let byte : get_or (blocks ++ (dark ++ (sky ++ column.biomes))) (sky_light_at mask +
     (rank (is_named mask) i * light_bytes + k / 2)) 0 ≡
-    sky_byte column.states (i * section_cells + 2 * (k / 2)) =
-    rw place (after blocks (dark ++ (sky ++ column.biomes)) (block_light_at mask)
-    (named_count mask * light_bytes + (rank (is_named mask) i * light_bytes + k / 2))
-    parts.blocks_len
-    ∙ after dark (sky ++ column.biomes) (named_count mask * light_bytes) (rank (is_named mask) i *
-    light_bytes + k / 2) parts.dark_len
-    ∙ get_or_append_left sky column.biomes 0 (rank (is_named mask) i * light_bytes + k / 2) within
-    ∙ sym (get_or-drop (rank (is_named mask) i * light_bytes) sky (k / 2) 0)
-    ∙ sym (get_or-take light_bytes (drop (rank (is_named mask) i * light_bytes) sky) (k / 2) 0 half)
-    ∙ ap (λ (t : List ℕ). get_or t (k / 2) 0)
-    (rw parts.sky_is (piece (is_named mask) (section_sky column.states) light_bytes i
-    section_count (sky_sized column.states) lt named))
-    ∙ get_or-sky_bytes column.states (i * section_cells) light_bytes (k / 2) half) in
+    sky_byte column.states (i * section_cells + 2 * (k / 2)) = grind (
+      arith,
+      after blocks (dark ++ (sky ++ column.biomes)) (block_light_at mask) (named_count mask * light_bytes + (rank (is_named mask) i * light_bytes + k / 2)) parts.blocks_len,
+      after dark (sky ++ column.biomes) (named_count mask * light_bytes) (rank (is_named mask) i * light_bytes + k / 2) parts.dark_len,
+      get_or_append_left sky column.biomes 0 (rank (is_named mask) i * light_bytes + k / 2) within,
+      get_or-drop (rank (is_named mask) i * light_bytes) sky (k / 2) 0,
+      get_or-take light_bytes (drop (rank (is_named mask) i * light_bytes) sky) (k / 2) 0 half,
+      piece (is_named mask) (section_sky column.states) light_bytes i section_count (sky_sized column.states) lt named,
+      get_or-sky_bytes column.states (i * section_cells) light_bytes (k / 2) half,
+    ) in
     rw byte (half_of_sky column.states (i * section_cells) k)
 
 pub body_bytes_spell : (column : ColumnValue) (mask : ℕ) → HasSizes column →
@@ -290,15 +215,7 @@ section_again : (column : ColumnValue) (mask i : ℕ) (old : List ℕ) → HasSi
     i < section_count → (is_named mask i ≡ false → IsAir (section_of column.states i)) →
     put_section mask true (column_body column mask).states i old ≡ section_of column.states i
 section_again column mask i old sizes lt air =
-    elim (is_named mask i) as (λ b. is_named mask i ≡ b →
-    cond b (section_of (column_body column mask).states (rank (is_named mask) i))
-    (replicate section_cells 0) ≡ section_of column.states i) [
-      | true ↦ λ named. piece (is_named mask) (section_of column.states) section_cells i
-          section_count (sections_sized column sizes) lt named
-      | false ↦ λ left_out. ap (λ (n : ℕ). replicate {A = ℕ} n 0)
-          (sym ((sections_sized column sizes).at i lt)) ∙
-          sym (air_or_zeros (section_of column.states i) (air left_out))
-    ] refl
+    grind (arith, nat_tests, piece, sections_sized, air_or_zeros)
 
 pub column_again : (column old : ColumnValue) → HasSizes column →
     put_body old (column_body column (column_mask column)) ≡ column
@@ -337,6 +254,4 @@ kept_states sections biomes mask kept =
 pub kept_left_out : (sections : List (List ℕ)) (mask i : ℕ) →
     mask ≡ with_one (bits (λ k. has_block (nth_section sections k)) 0 section_count) →
     i < section_count → is_named mask i ≡ false → IsAir (nth_section sections i)
-kept_left_out sections mask i is lt left_out =
-    (air_test (nth_section sections i)).0 (mask_left_out (λ k. has_block (nth_section sections k)) i
-    section_count lt (ap (λ (n : ℕ). is_named n i) (sym is) ∙ left_out))
+kept_left_out sections mask i is lt left_out = grind (arith, nat_tests, air_test, mask_left_out)

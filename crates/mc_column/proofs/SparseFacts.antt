@@ -1,8 +1,9 @@
 -- A section that is kept only where it has a block.
 use Rattle.std.proofs.Common.{◌≡◌, ◌↔◌, ℕ, zero, suc, ◌+◌, ◌*◌, ◌/◌, ◌%◌, ◌<◌, ◌≤◌, Bool, true}
-use Rattle.std.proofs.Common.{false, cond, not, List, [], ◌∷◌, length, get_or, set, replicate}
+use Rattle.std.proofs.Common.{false, cond, not, List, ◌∷◌, length, get_or, set, replicate}
 use Rattle.std.proofs.Common.{Option, Some, None, IsNone, IsTrue, Bor, take, drop, ◌++◌, refl, sym}
 use Rattle.std.proofs.Common.{ap, ◌∙◌, arith, inl, inr}
+use Rattle.std.proofs.lemmas.Bool.Decides.{nat_tests}
 use Rattle.std.proofs.lemmas.Bool.{cases_eq, ne_eqb, true≢false}
 use Rattle.std.proofs.lemmas.List.{ext_get_or, get_or-set_same, get_or-set_other, length-set}
 use Rattle.std.proofs.lemmas.List.{length-replicate, take-append-le, take_all}
@@ -21,26 +22,17 @@ no_block = (air_test (replicate section_cells 0)).1 (zeros_air section_cells)
 
 -- air is kept as nothing
 pub air_sparse : IsSparse None
-air_sparse = record {
-  sized = length-replicate {A = ℕ} section_cells 0;
-  filled = λ states e. absurd cc;
-}
+air_sparse = grind (arith, nat_tests, length-replicate)
 
 -- a section with a block is kept
 pub block_sparse : (states : List ℕ) → length states ≡ section_cells → has_block states ≡ true →
     IsSparse (Some states)
-block_sparse states len block = record {
-  sized = len;
-  filled = λ other e. let same : states ≡
-      other = cc in ap has_block (sym same) ∙ block;
-}
+block_sparse states len block = grind (arith, nat_tests)
 
 -- states none of which is counted are air
 pub no_blocks_air : (states : List ℕ) (filled : ℕ) → length states ≡ section_cells →
     filled ≡ blocks_in states → filled ≡ 0 → replicate section_cells 0 ≡ states
-no_blocks_air states filled len counted none =
-    sym (air_or_zeros states ((air_counted states filled counted).0 none) ∙
-    ap (λ (n : ℕ). replicate {A = ℕ} n 0) len)
+no_blocks_air states filled len counted none = grind (arith, nat_tests, air_or_zeros, air_counted)
 
 -- states some of which are counted are kept
 pub blocks_sparse : (states : List ℕ) (filled : ℕ) → length states ≡ section_cells →
@@ -59,26 +51,17 @@ pub none_is_air : (section : Option (List ℕ)) (none : Bool) → IsSparse secti
 none_is_air None true sparse e = (λ t. zeros_air section_cells, λ air. refl)
 none_is_air None false sparse e = absurd cc
 none_is_air (Some states) true sparse e = absurd cc
-none_is_air (Some states) false sparse e = (
-  λ t. absurd cc,
-  λ air. absurd (true≢false (sym (sparse.filled states refl) ∙
-      (air_test states).1 air)),
-)
+none_is_air (Some states) false sparse e = grind (arith, nat_tests, true≢false, air_test states)
 
 pub not_some_is_air : (section : Option (List ℕ)) (result : Option (Bor (List ℕ))) →
     IsSparse section → is_some result ≡ is_some section → IsNone result ↔ IsAir (states_in section)
 not_some_is_air None result sparse same = (λ e. zeros_air section_cells, λ air. same)
-not_some_is_air (Some states) result sparse same = (
-  λ none. absurd (true≢false (sym same ∙ none)),
-  λ air. absurd (true≢false (sym (sparse.filled states refl) ∙ (air_test states).1 air)),
-)
+not_some_is_air (Some states) result sparse same =
+    grind (arith, nat_tests, true≢false, air_test states)
 
 pub none_no_block : (section : Option (List ℕ)) (none : Bool) → IsSparse section → is_some section ≡
     not none → none ≡ not (has_block (states_in section))
-none_no_block None true sparse e = rw no_block refl
-none_no_block None false sparse e = absurd cc
-none_no_block (Some states) true sparse e = absurd cc
-none_no_block (Some states) false sparse e = rw (sparse.filled states refl) refl
+none_no_block section none sparse e = grind (arith, nat_tests, no_block)
 
 -- states of air are sent as zeros
 pub wire-zeros : (n : ℕ) → replicate (2 * n) 0 ≡ wire (replicate n 0)
@@ -102,22 +85,7 @@ pub written_more : (states bytes : List ℕ) (i low high : ℕ) → i < length s
     AreWritten states bytes i → low ≡ get_or states i 0 % 256 → high ≡ get_or states i 0 / 256 →
     AreWritten states (set (set bytes (2 * i) low) (2 * i + 1) high) (i + 1)
 written_more states bytes i low high lt written l h =
-    let once = length-set bytes (2 * i) low in
-    record {
-      len = length-set (set bytes (2 * i) low) (2 * i + 1) high ∙ once ∙ written.len;
-      done = λ k below. elim (cases_eq k (2 * i + 1)) [
-        | inl odd ↦ rw odd (get_or-set_same (set bytes (2 * i) low) (2 * i + 1) high 0
-            (omega (arith, once, written.len)) ∙ h ∙ sym (wire_high states i))
-        | inr past ↦ get_or-set_other (set bytes (2 * i) low) (2 * i + 1) k high 0 past ∙
-            elim (cases_eq k (2 * i)) [
-              | inl even ↦ rw even
-                  (get_or-set_same bytes (2 * i) low 0 (omega (arith, written.len)) ∙
-                  l ∙ sym (wire_low states i))
-              | inr other ↦ get_or-set_other bytes (2 * i) k low 0 other ∙
-                  written.done k (omega arith)
-            ]
-      ];
-    }
+    grind (arith, length-set, get_or-set_same, wire_high, get_or-set_other, wire_low)
 
 pub written_all : (states bytes : List ℕ) (i : ℕ) → length states ≤ i → AreWritten states bytes i →
     bytes ≡ wire states
@@ -128,8 +96,7 @@ written_all states bytes i le written =
 -- what was written over all bytes of a list is that list
 pub all_written : (new items : List ℕ) (n : ℕ) → length new ≡ n →
     take n (new ++ drop (length new) items) ≡ new
-all_written new items n len = take-append-le n new (drop (length new) items) (omega (arith, len)) ∙
-    take_all n new (omega (arith, len))
+all_written new items n len = grind (arith, nat_tests, take-append-le, take_all)
 
 -- states that were written are kept as a section's
 pub kept_wire : (states : List ℕ) (filled : ℕ) → length states ≡ section_cells →
@@ -158,28 +125,11 @@ pub record AreSwapped (test : ℕ → Bool) (old made new left : List (List ℕ)
 
 pub swapped_none : (test : ℕ → Bool) (old made : List (List ℕ)) →
     AreSwapped test old made old made 0
-swapped_none test old made = record {
-  len = refl;
-  left_len = refl;
-  done = λ k lt. absurd (omega arith);
-  rest = λ k le. refl;
-  made_rest = λ k le. refl;
-}
+swapped_none test old made = grind (arith, nat_tests)
 
 pub swapped_more : (test : ℕ → Bool) (old made new left : List (List ℕ)) (i : ℕ)
     (section other : List ℕ) → i < length old → AreSwapped test old made new left i →
     section ≡ cond (test i) (nth_section left i) (nth_section new i) →
     AreSwapped test old made (set new i section) (set left i other) (i + 1)
-swapped_more test old made new left i section other lt swapped is = record {
-  len = length-set new i section ∙ swapped.len;
-  left_len = length-set left i other ∙ swapped.left_len;
-  done = λ k below. elim (cases_eq k i) [
-    | inl e ↦ rw e (get_or-set_same new i section [] (omega (arith, swapped.len)) ∙ is ∙
-        rw (swapped.rest i (omega arith), swapped.made_rest i (omega arith)) refl)
-    | inr ne ↦ get_or-set_other new i k section [] ne ∙ swapped.done k (omega arith)
-  ];
-  rest = λ k le. get_or-set_other new i k section [] (λ e. absurd (omega arith)) ∙
-      swapped.rest k (omega arith);
-  made_rest = λ k le. get_or-set_other left i k other [] (λ e. absurd (omega arith)) ∙
-      swapped.made_rest k (omega arith);
-}
+swapped_more test old made new left i section other lt swapped is =
+    grind (arith, nat_tests, length-set, cases_eq, get_or-set_same, get_or-set_other)

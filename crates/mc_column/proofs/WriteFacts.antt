@@ -1,8 +1,8 @@
 -- A body is appended part by part.
 use Rattle.std.proofs.Common.{◌≡◌, ℕ, suc, ◌+◌, ◌*◌, ◌<◌, ◌≤◌, Bool, true, false, cond, List, []}
 use Rattle.std.proofs.Common.{◌++◌, length, take, drop, replicate, Vec, Global, vec_len}
-use Rattle.std.proofs.Common.{vec_capacity, refl, sym, ap, ◌∙◌, arith, inl, inr, append_assoc}
-use Rattle.std.proofs.lemmas.Bool.{cases_Bool}
+use Rattle.std.proofs.Common.{vec_capacity, refl, sym, ap, ◌∙◌, arith, append_assoc}
+use Rattle.std.proofs.lemmas.Bool.Decides.{nat_tests}
 use Rattle.std.proofs.lemmas.List.{append-nil, length-append, drop_all, drop-drop, take-append-drop}
 use Rattle.std.proofs.lemmas.List.{length-replicate}
 use Rattle.mc_column.specs.Sizes.{section_count, section_cells, light_bytes, row_bytes}
@@ -30,11 +30,7 @@ pub record IsSky (named : ℕ → Bool) (states light sky : List ℕ) (i : ℕ) 
 
 pub appended_none : (named : ℕ → Bool) (sections : ℕ → List ℕ) (old : Vec ℕ Global) →
     AreAppended named sections old old 0
-appended_none named sections old = record {
-  items = sym (append-nil old.items);
-  room = omega arith;
-  len = omega arith;
-}
+appended_none named sections old = grind (arith, nat_tests, append-nil)
 
 pub appended_more : (named : ℕ → Bool) (sections : ℕ → List ℕ) (old now new : Vec ℕ Global) (i : ℕ)
     → AreAppended named sections old now i → length (sections i) ≡ section_cells →
@@ -62,23 +58,7 @@ appended_more named sections old now new i appended sized put room =
     grown : (b : Bool) → length new.items ≡ length now.items +
         length (wire (cond b (sections i) [])) → i + 1 ≡ suc i → named i ≡ b →
         vec_len new ≡ vec_len old + rank named (i + 1) * (2 * section_cells)
-    grown true len next named' = rw (next, named') (omega (
-      arith,
-      len,
-      appended.len,
-      new.ok,
-      now.ok,
-      length-wire (sections i),
-      sized,
-      more (rank named i) (2 * section_cells),
-    ))
-    grown false len next named' = rw (next, named') (omega (
-      arith,
-      len,
-      appended.len,
-      new.ok,
-      now.ok,
-    ))
+    grown b len next named' = grind (arith, nat_tests, length-wire, more)
 
 -- ---- sky light
 
@@ -88,20 +68,8 @@ sky_sized states = record { at = λ k lt. length-sky_bytes states (k * section_c
 pub sky_none : (named : ℕ → Bool) (states light sky : List ℕ) (i : ℕ) → i ≡ section_count →
     length states ≡ section_count * section_cells → light ≡ replicate row_bytes 255 →
     length sky ≡ rank named section_count * light_bytes → IsSky named states light sky i
-sky_none named states light sky i top len full sized = record {
-  light_is = rw full (length-replicate row_bytes 255);
-  now = full ∙ sym (sky_bytes_past states (i * section_cells) row_bytes
-      (rw top (omega (arith, len))));
-  sky_is = sized;
-  done = rw top (drop_all (rank named section_count * light_bytes) sky (omega (arith, sized)) ∙
-      sym (drop_all (rank named section_count * light_bytes)
-      (joined (picked named (section_sky states)) section_count)
-      (omega (
-        arith,
-        length-joined named (section_sky states) light_bytes section_count
-            (sky_sized states),
-      ))));
-}
+sky_none named states light sky i top len full sized =
+    grind (arith, nat_tests, length-replicate, sky_bytes_past, drop_all, length-joined, sky_sized)
 
 -- a list is its first piece and the rest
 split_at : (xs first : List ℕ) (a n : ℕ) → take n (drop a xs) ≡ first → drop a xs ≡ first ++
@@ -114,25 +82,8 @@ pub sky_more : (named : ℕ → Bool) (states light sky light' sky' : List ℕ) 
     (named i ≡ true → drop (rank named i * light_bytes) sky' ≡ section_sky states i ++
     drop (rank named i * light_bytes + light_bytes) sky) → (named i ≡ false → sky' ≡ sky) →
     IsSky named states light' sky' i
-sky_more named states light sky light' sky' i z step lt lit len now written kept = record {
-  light_is = rw now (length-sky_bytes states (i * section_cells) row_bytes);
-  now = now;
-  sky_is = len ∙ lit.sky_is;
-  done = elim (cases_Bool (named i)) [
-    | inl in' ↦
-        let up : rank named z * light_bytes ≡ rank named i * light_bytes + light_bytes =
-        rw (step, next, in') (more (rank named i) light_bytes) in
-        written in' ∙
-        rw (← up, lit.done, up)
-        (sym (split_at (joined (picked named (section_sky states)) section_count)
-        (section_sky states i) (rank named i * light_bytes) light_bytes
-        (piece named (section_sky states) light_bytes i section_count (sky_sized states) lt
-        in')))
-    | inr out' ↦
-        let same : rank named z ≡ rank named i = rw (step, next, out') (omega arith) in
-        rw (kept out', ← same) lit.done
-  ];
-}
+sky_more named states light sky light' sky' i z step lt lit len now written kept =
+    grind (arith, length-sky_bytes, split_at, piece, next)
   where
     next : i + 1 ≡ suc i
     next = omega arith

@@ -1,10 +1,12 @@
 -- What each change of a folk keeps of how it is kept.
 use Rattle.std.proofs.Common.{◌≡◌, ◌≢◌, ℕ, zero, suc, ◌+◌, ◌-◌, ◌≤◌, ◌<◌, List, [], ◌∷◌, ◌++◌, map}
 use Rattle.std.proofs.Common.{length, get_or, set, refl, sym, subst, ap, ◌∙◌, arith}
+use Rattle.std.proofs.lemmas.Bool.Decides.{nat_tests}
 use Rattle.std.specs.Prelude.{◌≤ℤ◌, ◌<ℤ◌, ◌==◌, ◌&&◌, Bool, true, false, cond, Result, Ok, is_ok}
 use Rattle.std.specs.Prelude.{Option, None, Some, IfSome, if◌then◌else◌}
 use Rattle.std.specs.List.{filter, remove, All}
 use Rattle.std.proofs.lemmas.Bool.{eq-eqb, true≢false}
+use Rattle.std.proofs.lemmas.Grind.{common_steps}
 use Rattle.std.proofs.lemmas.Int.{ints}
 use Rattle.std.proofs.lemmas.List.{length-append}
 use Rattle.std.proofs.lemmas.List.Edits.{length-remove}
@@ -37,16 +39,12 @@ more n = omega (arith, ints)
 
 -- it is not as high as it may be
 not_most : (n most : ℕ) → n ≤ most → (n == most) ≡ false → n < most
-not_most n most le e =
-    let ne : n ≢ most = λ same. true≢false (sym (eq-eqb n most same) ∙ e) in
-    omega (arith, le, ne)
+not_most n most le e = grind (arith, nat_tests)
 
 -- one more has room
 few_more : (b : Bool) (n total dropped most : ℕ) → n ≡ one_if b →
     dropped ≡ total → dropped ≤ most → (b && (total == most)) ≡ false → dropped + n ≤ most
-few_more true n total dropped most e same le f =
-    let lt = not_most total most (omega (arith, same, le)) f in omega (arith, e, same, lt)
-few_more false n total dropped most e same le f = omega (arith, e, le)
+few_more b n total dropped most e same le f = grind (arith, nat_tests)
 
 pub kept_more : (es now : List Entity) (told : List (ℤ × Spot)) (cap room given dropped n : ℕ)
     (e : Entity) → IsKept es told cap given dropped → IsKind e.kind →
@@ -85,22 +83,8 @@ pub kept_set : (es : List Entity) (told : List (ℤ × Spot)) (cap given dropped
     (old new : Entity) → IsKept es told cap given dropped →
     IsPlaced eid_of n i es → old ≡ get_or es i old → new.eid ≡ old.eid → IsKind new.kind →
     is_dropped new.kind ≡ is_dropped old.kind → IsKept (set es i new) told cap given dropped
-kept_set es told cap given dropped i n old new k placed is eid kind same = record {
-  rise = rise_set eid_of (pos 0) (pos given) es i new old placed.within (eid ∙ ap eid_of is) k.rise;
-  told_rise = k.told_rise;
-  kinds = All-set (λ (x : Entity). IsKind x.kind) es i new kind k.kinds;
-  numbers = k.numbers;
-  counted = k.counted
-      ∙ sym (count_set (λ (x : Entity). is_dropped x.kind) es i new old placed.within
-      (same ∙ ap (λ (x : Entity). is_dropped x.kind) is));
-  few = k.few;
-  places = let l = length_set es i new in let f = k.places in omega (arith, l, f);
-}
-  where
-    length_set : (xs : List Entity) (i : ℕ) (x : Entity) → length (set xs i x) ≡ length xs
-    length_set [] i x = refl
-    length_set (y ∷ xs) zero x = refl
-    length_set (y ∷ xs) (suc i) x = ap suc (length_set xs i x)
+kept_set es told cap given dropped i n old new k placed is eid kind same =
+    grind (arith, common_steps, rise_set, All-set, count_set)
 
 pub kept_less : (es now : List Entity) (told left : List (ℤ × Spot)) (cap given dropped i count : ℕ)
     (n : ℤ) (old : Entity) → IsKept es told cap given dropped →
@@ -140,16 +124,13 @@ kind_at es i e kinds lt is = subst (λ (x : Entity). IsKind x.kind) (sym is) (ki
 -- what a push that does not fail leaves
 pub pushed : {X R E : Type 0} {u : R} (xs ys : List X) (x : X) {r : Result R E} →
     ys ≡ (if is_ok r then xs ++ x ∷ [] else xs) → r ≡ Ok u → ys ≡ xs ++ x ∷ []
-pushed {X = X} {R = R} {E = E} xs ys x e ok =
-    e ∙ ap (λ (q : Result R E). if is_ok q then xs ++ x ∷ [] else xs) ok
+pushed {X = X} {R = R} {E = E} xs ys x e ok = grind (arith, nat_tests)
 
 -- ---- the state after a change
 
 pub absent_state : (eid : ℤ) (f : Entity → Entity) (state : FolkState) →
     entity_of eid state ≡ None → state ≡ with_entity eid f state
-absent_state eid f state none =
-    sym (ap (λ (es : List Entity). record state { entities = es })
-    (changed_none eid_of eid f state.entities none))
+absent_state eid f state none = grind (arith, nat_tests, changed_none)
 
 pub changed_state : (w : FolkValue) (state : FolkState) (high : ℤ) (eid : ℤ)
     (f : Entity → Entity) (i : ℕ) (old new : Entity) →
@@ -157,10 +138,7 @@ pub changed_state : (w : FolkValue) (state : FolkState) (high : ℤ) (eid : ℤ)
     IsPlaced eid_of eid i w.state.entities → old ≡ get_or state.entities i old →
     new ≡ f old → record state { entities = set state.entities i new } ≡ with_entity eid f w.state
 changed_state w state high eid f i old new e r placed is change =
-    let here = subst (λ (t : FolkState). IsPlaced eid_of eid i t.entities) (sym e) placed in
-    ap (λ (es : List Entity). record state { entities = es })
-    (changed_placed eid_of eid (pos 0) high f state.entities i old new r here is change)
-    ∙ ap (λ (t : FolkState). with_entity eid f t) e
+    grind (arith, nat_tests, changed_placed)
 
 pub removed_state : (w : FolkValue) (state : FolkState) (high : ℤ) (eid : ℤ) (i : ℕ)
     (old : Entity) (now : List Entity) (left : List (ℤ × Spot)) → state ≡ w.state →
@@ -168,11 +146,7 @@ pub removed_state : (w : FolkValue) (state : FolkState) (high : ℤ) (eid : ℤ)
     now ≡ remove state.entities i → left ≡ without told_eid eid state.told →
     record state { entities = now; told = left } ≡ removed eid w.state
 removed_state w state high eid i old now left e r placed is f =
-    let here = subst (λ (t : FolkState). IsPlaced eid_of eid i t.entities) (sym e) placed in
-    let rest : now ≡ without eid_of eid state.entities =
-    is ∙ sym (without_at eid_of eid (pos 0) high state.entities i old r here.within
-    (here.named old)) in
-    rw (rest, f) (ap (λ (t : FolkState). removed eid t) e)
+    grind (arith, nat_tests, without_at eid_of eid (pos 0) high state.entities i old r)
 
 -- one changed at its place, by what was seen of it
 pub kept_changed : (w : FolkValue) (es : List Entity)
@@ -188,26 +162,13 @@ kept_changed w es told cap given dropped i n old new e k placed is eid kind same
 
 -- of the same variant, so as much a dropped item as before
 alike_dropped : (a b : EntityKind) → are_alike a b ≡ true → is_dropped b ≡ is_dropped a
-alike_dropped (Player u h) (Player v k) e = refl
-alike_dropped (Player u h) (Dropped i n) e = absurd cc
-alike_dropped (Player u h) Mob e = absurd cc
-alike_dropped (Dropped i n) (Player v k) e = absurd cc
-alike_dropped (Dropped i n) (Dropped j m) e = refl
-alike_dropped (Dropped i n) Mob e = absurd cc
-alike_dropped Mob (Player v k) e = absurd cc
-alike_dropped Mob (Dropped j m) e = absurd cc
-alike_dropped Mob Mob e = refl
+alike_dropped a b e = grind (arith, nat_tests)
 
 pub kept_variant : (w : FolkValue) (es : List Entity) (i : ℕ) (n : ℤ) (old : Entity)
     (kind : EntityKind) → es ≡ w.state.entities → IsPlaced eid_of n i w.state.entities →
     old ≡ get_or es i old → IfSome (entity_of n w.state) (λ e. are_alike e.kind kind ≡ true) →
     is_dropped kind ≡ is_dropped old.kind
-kept_variant w es i n old kind e placed is alike =
-    let there : entity_of n w.state ≡ Some old =
-    placed.is old ∙ ap (λ (x : Entity). Some x)
-    (ap (λ (xs : List Entity). get_or xs i old) (sym e) ∙ sym is) in
-    alike_dropped old.kind kind
-    (subst (λ (o : Option Entity). IfSome o (λ x. are_alike x.kind kind ≡ true)) there alike)
+kept_variant w es i n old kind e placed is alike = grind (arith, nat_tests)
 
 -- what is counted of one that is there was counted
 pub counted_one : (w : FolkValue) (es : List Entity)
@@ -229,79 +190,35 @@ pub kept_without : (w : FolkValue) (es now : List Entity)
     old ≡ get_or es i old → count ≡ one_if (is_dropped old.kind) → now ≡ remove es i →
     left ≡ without told_eid n told → room ≡ cap → IsKept now left room given (dropped - count)
 kept_without w es now told left cap room given dropped i count n old e k placed is c f g same =
-    let here = subst (λ (xs : List Entity). IsPlaced eid_of n i xs) (sym e) placed in
-    subst (λ (m : ℕ). IsKept now left m given (dropped - count)) (sym same)
-    (kept_less es now told left cap given dropped i count n old k here is c f g)
+    grind (arith, nat_tests, kept_less es now told left cap given dropped i count n old k)
 
 pub kept_forgotten : (es : List Entity) (told left : List (ℤ × Spot)) (cap room given dropped : ℕ)
     (n : ℤ) → IsKept es told cap given dropped →
     left ≡ without told_eid n told → room ≡ cap → IsKept es left room given dropped
-kept_forgotten es told left cap room given dropped n k e same = record {
-  rise = k.rise;
-  told_rise = subst (λ (xs : List (ℤ × Spot)). Rise told_eid (pos 0) xs (pos given)) (sym e)
-      (rise_filter told_eid _ (pos 0) (pos given) told k.told_rise);
-  kinds = k.kinds;
-  numbers = k.numbers;
-  counted = k.counted;
-  few = k.few;
-  places = let f = k.places in omega (arith, f, same);
-}
+kept_forgotten es told left cap room given dropped n k e same =
+    grind (arith, nat_tests, rise_filter)
 
 pub forgotten_state : (w : FolkValue) (state : FolkState) (n : ℤ) (left : List (ℤ × Spot)) →
     state ≡ w.state → entity_of n w.state ≡ None →
     left ≡ without told_eid n state.told → record state { told = left } ≡ removed n w.state
-forgotten_state w state n left e none f =
-    let gone : entity_of n state ≡ None = ap (λ (t : FolkState). entity_of n t) e ∙ none in
-    ap (λ (rows : List (ℤ × Spot)). record state { told = rows }) f
-    ∙ ap (λ (es : List Entity).
-    record state { entities = es; told = without told_eid n state.told })
-    (sym (without_none eid_of n state.entities gone))
-    ∙ ap (λ (t : FolkState). removed n t) e
+forgotten_state w state n left e none f = grind (arith, nat_tests, without_none)
 
 -- all spots are kept anew
 pub kept_settled : (es : List Entity) (told left : List (ℤ × Spot)) (cap room given dropped : ℕ) →
     IsKept es told cap given dropped →
     left ≡ map (λ (e : Entity). (e.eid, e.spot)) es → cap ≤ room → IsKept es left room given dropped
-kept_settled es told left cap room given dropped k e le = record {
-  rise = k.rise;
-  told_rise = subst (λ (xs : List (ℤ × Spot)). Rise told_eid (pos 0) xs (pos given)) (sym e)
-      (rise_map eid_of told_eid (λ (x : Entity). (x.eid, x.spot)) (pos 0) (pos given) es
-      (λ x. refl) k.rise);
-  kinds = k.kinds;
-  numbers = k.numbers;
-  counted = k.counted;
-  few = k.few;
-  places = let f = k.places in omega (arith, f, le);
-}
+kept_settled es told left cap room given dropped k e le = grind (arith, nat_tests, rise_map)
 
 -- ---- mobs that move
 
 tick_keeps : (plans : List (List Move)) (es : List Entity) (e : Entity) →
     ((after_tick plans es e).eid ≡ e.eid) × ((after_tick plans es e).kind ≡ e.kind)
-tick_keeps plans es e =
-    elim (is_mob e.kind)
-    as (λ b. ((cond b (stepped (move_at plans (rank es e.eid)) e) e).eid ≡ e.eid)
-    × ((cond b (stepped (move_at plans (rank es e.eid)) e) e).kind ≡ e.kind)) [
-      | true ↦ (refl, refl)
-      | false ↦ (refl, refl)
-    ]
+tick_keeps plans es e = grind (arith, nat_tests)
 
 count_map : (f : Entity → Entity) (es : List Entity) →
     ((e : Entity) → (f e).kind ≡ e.kind) → dropped_in (map f es) ≡ dropped_in es
 count_map f [] same = refl
-count_map f (e ∷ es) same =
-    ap (λ (k : EntityKind). length (cond (is_dropped k)
-    (f e ∷ filter (λ (x : Entity). is_dropped x.kind) (map f es))
-    (filter (λ (x : Entity). is_dropped x.kind) (map f es)))) (same e)
-    ∙ step (is_dropped e.kind) (count_map f es same)
-  where
-    step : (b : Bool) → dropped_in (map f es) ≡ dropped_in es →
-        length (cond b (f e ∷ filter (λ (x : Entity). is_dropped x.kind) (map f es))
-        (filter (λ (x : Entity). is_dropped x.kind) (map f es))) ≡
-        length (cond b (e ∷ filter (λ (x : Entity). is_dropped x.kind) es)
-        (filter (λ (x : Entity). is_dropped x.kind) es))
-    step true h = ap suc h
-    step false h = h
+count_map f (e ∷ es) same = grind (arith, nat_tests, count_map f es same)
 
 length_map : (f : Entity → Entity) (es : List Entity) → length (map f es) ≡ length es
 length_map f [] = refl

@@ -7,7 +7,8 @@ use Rattle.std.specs.List.{filter, remove}
 use Rattle.std.specs.List.Sorted.{IsPartitionPoint, IsPartitionedBy}
 use Rattle.std.specs.Ordering.{int_eq}
 use Rattle.std.proofs.lemmas.Bool.{cases_lt, true≢false}
-use Rattle.std.proofs.lemmas.Bool.Decides.{Decides-int_eq}
+use Rattle.std.proofs.lemmas.Bool.Decides.{Decides-int_eq, nat_tests}
+use Rattle.std.proofs.lemmas.Grind.{common_steps}
 use Rattle.std.proofs.lemmas.Int.{ints}
 use lib.IntN.{ℤ}
 use Rattle.mc_entities.specs.Numbers.{numbered, changed, without, Rise}
@@ -19,11 +20,7 @@ pub int_same : (a b : ℤ) → a ≡ b → int_eq a b ≡ true
 int_same a b e = (Decides-int_eq a b).1 e
 
 pub int_other : (a b : ℤ) → a ≢ b → int_eq a b ≡ false
-int_other a b ne = step (int_eq a b) refl
-  where
-    step : (t : Bool) → int_eq a b ≡ t → t ≡ false
-    step true e = absurd (ne ((Decides-int_eq a b).0 e))
-    step false e = refl
+int_other a b ne = grind (arith, nat_tests)
 
 pub int_lt_true : (a b : ℤ) → int_lt a b ≡ true → a <ℤ b
 int_lt_true a b e = grind (arith, ints)
@@ -86,11 +83,7 @@ pub rise_filter : {X : Type 0} (number : X → ℤ) (p : X → Bool) (low high :
     Rise number low xs high → Rise number low (filter p xs) high
 rise_filter number p low high [] r = r
 rise_filter number p low high (x ∷ xs) r =
-    elim (p x) as (λ b. Rise number low (cond b (x ∷ filter p xs) (filter p xs)) high) [
-      | true ↦ (r.0, rise_filter number p (number x) high xs r.1)
-      | false ↦ rise_less number (number x) low high (filter p xs) (lt_le low (number x) r.0)
-          (rise_filter number p (number x) high xs r.1)
-    ]
+    grind (arith, nat_tests, rise_filter number p (number x) high xs r.1, rise_less, lt_le)
 
 -- all changed that keep their numbers
 pub rise_map : {X Y : Type 0} (number : X → ℤ) (named : Y → ℤ) (f : X → Y) (low high : ℤ)
@@ -98,16 +91,14 @@ pub rise_map : {X Y : Type 0} (number : X → ℤ) (named : Y → ℤ) (f : X �
     ((x : X) → named (f x) ≡ number x) → Rise number low xs high → Rise named low (map f xs) high
 rise_map number named f low high [] same r = r
 rise_map number named f low high (x ∷ xs) same r =
-    let P : ℤ → Type 0 = λ n. (low <ℤ n) × Rise named n (map f xs) high in
-    subst P (sym (same x)) (r.0, rise_map number named f (number x) high xs same r.1)
+    grind (arith, nat_tests, rise_map number named f (number x) high xs same r.1)
 
 -- one changed that keeps its number
 pub rise_set : {X : Type 0} (number : X → ℤ) (low high : ℤ) (xs : List X) (i : ℕ) (t d : X) →
     i < length xs → number t ≡ number (get_or xs i d) →
     Rise number low xs high → Rise number low (set xs i t) high
 rise_set number low high [] i t d lt e r = absurd (omega (arith, lt))
-rise_set number low high (x ∷ xs) zero t d lt e r =
-    let P : ℤ → Type 0 = λ n. (low <ℤ n) × Rise number n xs high in subst P (sym e) r
+rise_set number low high (x ∷ xs) zero t d lt e r = grind (arith, nat_tests)
 rise_set number low high (x ∷ xs) (suc i) t d lt e r =
     (r.0, rise_set number (number x) high xs i t d (omega (arith, lt)) e r.1)
 
@@ -117,8 +108,7 @@ pub rise_at : {X : Type 0} (number : X → ℤ) (low high : ℤ) (xs : List X) (
 rise_at number low high [] i d lt r = absurd (omega (arith, lt))
 rise_at number low high (x ∷ xs) zero d lt r = r.0
 rise_at number low high (x ∷ xs) (suc i) d lt r =
-    le_lt low (number x) (number (get_or xs i d)) (lt_le low (number x) r.0)
-    (rise_at number (number x) high xs i d (omega (arith, lt)) r.1)
+    grind (arith, nat_tests, rise_at number (number x) high xs i d (omega (arith, lt)) r.1)
 
 -- a later one is not lower
 pub rise_le : {X : Type 0} (number : X → ℤ) (low high : ℤ) (xs : List X) (i j : ℕ) (d : X) →
@@ -126,9 +116,7 @@ pub rise_le : {X : Type 0} (number : X → ℤ) (low high : ℤ) (xs : List X) (
     i ≤ j → j < length xs → number (get_or xs i d) ≤ℤ number (get_or xs j d)
 rise_le number low high [] i j d r le lt = absurd (omega (arith, lt))
 rise_le number low high (x ∷ xs) zero zero d r le lt = omega (arith, ints)
-rise_le number low high (x ∷ xs) zero (suc j) d r le lt =
-    lt_le (number x) (number (get_or xs j d))
-    (rise_at number (number x) high xs j d (omega (arith, lt)) r.1)
+rise_le number low high (x ∷ xs) zero (suc j) d r le lt = grind (arith, nat_tests, lt_le, rise_at)
 rise_le number low high (x ∷ xs) (suc i) zero d r le lt = absurd (omega (arith, le))
 rise_le number low high (x ∷ xs) (suc i) (suc j) d r le lt =
     rise_le number (number x) high xs i j d r.1 (omega (arith, le)) (omega (arith, lt))
@@ -166,40 +154,31 @@ numbered_none number n (x ∷ xs) other =
 pub placed_here : {X : Type 0} (number : X → ℤ) (n low high : ℤ) (xs : List X) (i : ℕ) →
     Rise number low xs high →
     i < length xs → ((d : X) → number (get_or xs i d) ≡ n) → IsPlaced number n i xs
-placed_here number n low high xs i r lt named = record {
-  within = lt;
-  is = λ d. numbered_at number n low high xs i d r lt (named d);
-  named = named;
-}
+placed_here number n low high xs i r lt named = grind (arith, nat_tests, numbered_at)
 
 -- those before the place are lower, and the one at the place has another number, if it is there
 pub placed_nowhere : {X : Type 0} (number : X → ℤ) (n low high : ℤ) (xs : List X) (i : ℕ) →
     Rise number low xs high →
     IsPartitionPoint (λ x. int_lt (number x) n ≡ true) (λ x. int_lt (number x) n ≡ false) xs i →
     (i < length xs → (d : X) → number (get_or xs i d) ≢ n) → numbered number n xs ≡ None
-placed_nowhere {X = X} number n low high xs i r point other = numbered_none number n xs each
-  where
-    each : (j : ℕ) (d : X) → j < length xs → number (get_or xs j d) ≢ n
-    each j d lt e = elim (cases_lt j i) [
-      | inl before ↦ below_other (number (get_or xs j d)) n
-          (int_lt_true (number (get_or xs j d)) n (point.0 j d (omega arith) before)) e
-      | inr after ↦
-          let here : i < length xs = omega (arith, lt, after) in
-          let upper : n ≤ℤ number (get_or xs i d) =
-          int_lt_false (number (get_or xs i d)) n (point.1 i d (omega arith) here) in
-          let P : ℤ → Type 0 = λ m. number (get_or xs i d) ≤ℤ m in
-          let lower : number (get_or xs i d) ≤ℤ n =
-          subst P e (rise_le number low high xs i j d r after lt) in
-          other here d (between (number (get_or xs i d)) n lower upper)
-    ]
+placed_nowhere {X = X} number n low high xs i r point other = grind (
+  arith,
+  nat_tests,
+  numbered_none number n xs,
+  cases_lt,
+  below_other,
+  int_lt_true,
+  int_lt_false,
+  rise_le number low high xs i,
+  between,
+)
 
 -- what a look at the place says
 pub placed_some : {X : Type 0} (number : X → ℤ) (n low high : ℤ) (xs : List X) (i : ℕ) (x : X) →
     Rise number low xs high → i < length xs →
     ((d : X) → x ≡ get_or xs i d) → int_eq (number x) n ≡ true → IsPlaced number n i xs
 placed_some number n low high xs i x r lt is e =
-    placed_here number n low high xs i r lt
-    (λ d. sym (ap number (is d)) ∙ (Decides-int_eq (number x) n).0 e)
+    grind (arith, nat_tests, placed_here number n low high xs i r lt, Decides-int_eq (number x) n)
 
 pub placed_other : {X : Type 0} (number : X → ℤ) (n low high : ℤ) (xs : List X) (i : ℕ) (x : X) →
     Rise number low xs high →
@@ -221,34 +200,20 @@ placed_past number n low high xs i r point past =
 pub changed_none : {X : Type 0} (number : X → ℤ) (n : ℤ) (f : X → X) (xs : List X) →
     numbered number n xs ≡ None → changed number n f xs ≡ xs
 changed_none number n f [] e = refl
-changed_none number n f (x ∷ xs) e =
-    elim (int_eq (number x) n)
-    as (λ b. cond b (Some x) (numbered number n xs) ≡ None →
-    (cond b (f x) x ∷ changed number n f xs) ≡ x ∷ xs) [
-      | true ↦ λ here. absurd cc
-      | false ↦ λ none. ap (λ ys. x ∷ ys) (changed_none number n f xs none)
-    ] e
+changed_none number n f (x ∷ xs) e = grind (arith, nat_tests, changed_none number n f xs)
 
 changed_past : {X : Type 0} (number : X → ℤ) (n low high : ℤ) (f : X → X) (xs : List X) →
     n ≤ℤ low → Rise number low xs high → changed number n f xs ≡ xs
 changed_past number n low high f [] le r = refl
 changed_past number n low high f (x ∷ xs) le r =
-    let upper : n <ℤ number x = le_lt n low (number x) le r.0 in
-    rw (
-      int_other (number x) n (λ e. below_other n (number x) upper (sym e)),
-      changed_past number n (number x) high f xs (lt_le n (number x) upper) r.1,
-    ) refl
+    grind (arith, nat_tests, changed_past number n (number x) high f xs)
 
 pub changed_at : {X : Type 0} (number : X → ℤ) (n low high : ℤ)
     (f : X → X) (xs : List X) (i : ℕ) (d : X) → Rise number low xs high → i < length xs →
     number (get_or xs i d) ≡ n → changed number n f xs ≡ set xs i (f (get_or xs i d))
 changed_at number n low high f [] i d r lt e = absurd (omega (arith, lt))
 changed_at number n low high f (x ∷ xs) zero d r lt e =
-    let P : ℤ → Type 0 = λ m. m ≤ℤ number x in
-    rw (
-      int_same (number x) n e,
-      changed_past number n (number x) high f xs (subst P e (omega (arith, ints))) r.1,
-    ) refl
+    grind (arith, nat_tests, int_same, changed_past, ints)
 changed_at number n low high f (x ∷ xs) (suc i) d r lt e =
     let later = rise_at number (number x) high xs i d (omega (arith, lt)) r.1 in
     let P : ℤ → Type 0 = λ m. number x <ℤ m in
@@ -262,34 +227,20 @@ changed_at number n low high f (x ∷ xs) (suc i) d r lt e =
 pub without_none : {X : Type 0} (number : X → ℤ) (n : ℤ) (xs : List X) →
     numbered number n xs ≡ None → without number n xs ≡ xs
 without_none number n [] e = refl
-without_none number n (x ∷ xs) e =
-    elim (int_eq (number x) n)
-    as (λ b. cond b (Some x) (numbered number n xs) ≡ None →
-    cond (not b) (x ∷ without number n xs) (without number n xs) ≡ x ∷ xs) [
-      | true ↦ λ here. absurd cc
-      | false ↦ λ none. ap (λ ys. x ∷ ys) (without_none number n xs none)
-    ] e
+without_none number n (x ∷ xs) e = grind (arith, nat_tests, without_none number n xs)
 
 without_past : {X : Type 0} (number : X → ℤ) (n low high : ℤ) (xs : List X) →
     n ≤ℤ low → Rise number low xs high → without number n xs ≡ xs
 without_past number n low high [] le r = refl
 without_past number n low high (x ∷ xs) le r =
-    let upper : n <ℤ number x = le_lt n low (number x) le r.0 in
-    rw (
-      int_other (number x) n (λ e. below_other n (number x) upper (sym e)),
-      without_past number n (number x) high xs (lt_le n (number x) upper) r.1,
-    ) refl
+    grind (arith, nat_tests, without_past number n (number x) high xs)
 
 pub without_at : {X : Type 0} (number : X → ℤ) (n low high : ℤ) (xs : List X) (i : ℕ) (d : X) →
     Rise number low xs high →
     i < length xs → number (get_or xs i d) ≡ n → without number n xs ≡ remove xs i
 without_at number n low high [] i d r lt e = absurd (omega (arith, lt))
 without_at number n low high (x ∷ xs) zero d r lt e =
-    let P : ℤ → Type 0 = λ m. m ≤ℤ number x in
-    rw (
-      int_same (number x) n e,
-      without_past number n (number x) high xs (subst P e (omega (arith, ints))) r.1,
-    ) refl
+    grind (arith, nat_tests, int_same, without_past, ints)
 without_at number n low high (x ∷ xs) (suc i) d r lt e =
     let later = rise_at number (number x) high xs i d (omega (arith, lt)) r.1 in
     let P : ℤ → Type 0 = λ m. number x <ℤ m in
@@ -302,28 +253,22 @@ without_at number n low high (x ∷ xs) (suc i) d r lt e =
 
 pub changed_absent : {X : Type 0} (number : X → ℤ) (n : ℤ) (f : X → X) (xs seen : List X) →
     seen ≡ xs → numbered number n seen ≡ None → xs ≡ changed number n f xs
-changed_absent number n f xs seen e none =
-    sym (changed_none number n f xs (ap (λ ys. numbered number n ys) (sym e) ∙ none))
+changed_absent number n f xs seen e none = grind (arith, nat_tests, changed_none)
 
 pub without_absent : {X : Type 0} (number : X → ℤ) (n : ℤ) (xs seen : List X) →
     seen ≡ xs → numbered number n seen ≡ None → xs ≡ without number n xs
-without_absent number n xs seen e none =
-    sym (without_none number n xs (ap (λ ys. numbered number n ys) (sym e) ∙ none))
+without_absent number n xs seen e none = grind (arith, nat_tests, without_none)
 
 pub without_placed : {X : Type 0} (number : X → ℤ) (n low high : ℤ)
     (xs seen ys : List X) (i : ℕ) (d : X) → seen ≡ xs →
     Rise number low xs high → IsPlaced number n i seen → ys ≡ remove xs i → ys ≡ without number n xs
 without_placed {X = X} number n low high xs seen ys i d e r placed new =
-    let P : List X → Type 0 = λ zs. IsPlaced number n i zs in
-    let here = subst P e placed in
-    new ∙ sym (without_at number n low high xs i d r here.within (here.named d))
+    grind (arith, nat_tests, without_at number n low high xs i d r)
 
 pub changed_placed : {X : Type 0} (number : X → ℤ) (n low high : ℤ) (f : X → X) (xs : List X)
     (i : ℕ) (old new : X) → Rise number low xs high → IsPlaced number n i xs →
     old ≡ get_or xs i old → new ≡ f old → set xs i new ≡ changed number n f xs
-changed_placed number n low high f xs i old new r placed is e =
-    ap (λ x. set xs i x) (e ∙ ap f is)
-    ∙ sym (changed_at number n low high f xs i old r placed.within (placed.named old))
+changed_placed number n low high f xs i old new r placed is e = grind (arith, nat_tests, changed_at)
 
 -- ---- counting
 
@@ -333,47 +278,15 @@ one b = cond b 1 0
 pub count_set : {X : Type 0} (p : X → Bool) (xs : List X) (i : ℕ) (t d : X) →
     i < length xs → p t ≡ p (get_or xs i d) → length (filter p (set xs i t)) ≡ length (filter p xs)
 count_set p [] i t d lt e = absurd (omega (arith, lt))
-count_set p (x ∷ xs) zero t d lt e =
-    ap (λ b. length (cond b (t ∷ filter p xs) (filter p xs))) e ∙ same (p x)
-  where
-    same : (b : Bool) → length (cond b (t ∷ filter p xs) (filter p xs)) ≡
-        length (cond b (x ∷ filter p xs) (filter p xs))
-    same true = refl
-    same false = refl
-count_set p (x ∷ xs) (suc i) t d lt e = more (p x) (count_set p xs i t d (omega (arith, lt)) e)
-  where
-    more : (b : Bool) → length (filter p (set xs i t)) ≡ length (filter p xs) →
-        length (cond b (x ∷ filter p (set xs i t)) (filter p (set xs i t))) ≡
-        length (cond b (x ∷ filter p xs) (filter p xs))
-    more true h = ap suc h
-    more false h = h
+count_set p (x ∷ xs) zero t d lt e = grind (arith, nat_tests)
+count_set p (x ∷ xs) (suc i) t d lt e = grind (arith, nat_tests, count_set p xs i t d)
 
 pub count_remove : {X : Type 0} (p : X → Bool) (xs : List X) (i : ℕ) (d : X) →
     i < length xs → length (filter p (remove xs i)) + one (p (get_or xs i d)) ≡ length (filter p xs)
 count_remove p [] i d lt = absurd (omega (arith, lt))
-count_remove p (x ∷ xs) zero d lt = first (p x)
-  where
-    first : (b : Bool) →
-        length (filter p xs) + one b ≡ length (cond b (x ∷ filter p xs) (filter p xs))
-    first true = omega arith
-    first false = omega arith
-count_remove p (x ∷ xs) (suc i) d lt = more (p x) (count_remove p xs i d (omega (arith, lt)))
-  where
-    more : (b : Bool) →
-        length (filter p (remove xs i)) + one (p (get_or xs i d)) ≡ length (filter p xs) →
-        length (cond b (x ∷ filter p (remove xs i)) (filter p (remove xs i)))
-        + one (p (get_or xs i d)) ≡ length (cond b (x ∷ filter p xs) (filter p xs))
-    more true h = omega (arith, h)
-    more false h = h
+count_remove p (x ∷ xs) zero d lt = grind (arith, nat_tests)
+count_remove p (x ∷ xs) (suc i) d lt = grind (arith, nat_tests, count_remove p xs i d)
 
 pub count_join : {X : Type 0} (p : X → Bool) (xs : List X) (x : X) →
     length (filter p (xs ++ x ∷ [])) ≡ length (filter p xs) + one (p x)
-count_join p [] x = elim (p x)
-    as (λ b. length (cond b (x ∷ []) []) ≡ 0 + one b) [ true ↦ refl | false ↦ refl ]
-count_join p (y ∷ xs) x = more (p y) (count_join p xs x)
-  where
-    more : (b : Bool) → length (filter p (xs ++ x ∷ [])) ≡ length (filter p xs) + one (p x) →
-        length (cond b (y ∷ filter p (xs ++ x ∷ [])) (filter p (xs ++ x ∷ []))) ≡
-        length (cond b (y ∷ filter p xs) (filter p xs)) + one (p x)
-    more true h = omega (arith, h)
-    more false h = h
+count_join p xs x = grind (arith, common_steps)

@@ -1,6 +1,8 @@
 -- Plans that lose their first moves, and mobs that make them.
 use Rattle.std.proofs.Common.{◌≡◌, ℕ, zero, suc, ◌+◌, ◌≤◌, ◌<◌, List, [], ◌∷◌, ◌++◌, map, length}
 use Rattle.std.proofs.Common.{get_or, set, take, drop, refl, sym, ap, ◌∙◌, arith}
+use Rattle.std.proofs.lemmas.Bool.Decides.{nat_tests}
+use Rattle.std.proofs.lemmas.Grind.{common_steps}
 use Rattle.std.specs.Prelude.{◌≤ℤ◌, ◌<ℤ◌, ◌&&◌, Bool, true, false, cond, int_lt}
 use Rattle.std.specs.List.{filter}
 use Rattle.std.proofs.lemmas.List.Edits.{map_over_more}
@@ -21,18 +23,13 @@ pub plans_set : {X : Type 0} (plan : X → List Move) (xs : List X) (i : ℕ) (o
     i < length xs → old ≡ get_or xs i old →
     plan new ≡ rest_of (plan old) → map plan (set xs i new) ≡ asked_at i (map plan xs)
 plans_set plan [] i old new lt is e = absurd (omega (arith, lt))
-plans_set plan (x ∷ xs) zero old new lt is e =
-    ap (λ (p : List Move). p ∷ map plan xs) (e ∙ ap (λ y. rest_of (plan y)) is)
+plans_set plan (x ∷ xs) zero old new lt is e = grind (arith, nat_tests)
 plans_set plan (x ∷ xs) (suc i) old new lt is e =
-    ap (λ (ps : List (List Move)). plan x ∷ ps)
-    (plans_set plan xs i old new (omega (arith, lt)) is e)
+    grind (arith, nat_tests, plans_set plan xs i old new (omega (arith, lt)) is e)
 
 pub plans_past : {X : Type 0} (plan : X → List Move) (xs : List X) (i : ℕ) →
     length xs ≤ i → map plan xs ≡ asked_at i (map plan xs)
-plans_past plan [] i le = refl
-plans_past plan (x ∷ xs) zero le = absurd (omega (arith, le))
-plans_past plan (x ∷ xs) (suc i) le =
-    ap (λ (ps : List (List Move)). plan x ∷ ps) (plans_past plan xs i (omega (arith, le)))
+plans_past plan xs i le = grind (arith, common_steps)
 
 -- ---- the minds are asked in turn
 
@@ -43,69 +40,37 @@ asked_none (p ∷ plans) = refl
 pub asked_next : (n : ℕ) (plans : List (List Move)) →
     asked_at n (asked n plans) ≡ asked (suc n) plans
 asked_next zero [] = refl
-asked_next zero (p ∷ plans) =
-    ap (λ (ps : List (List Move)). rest_of p ∷ ps) (sym (asked_none plans))
+asked_next zero (p ∷ plans) = grind (arith, nat_tests)
 asked_next (suc n) [] = refl
 asked_next (suc n) (p ∷ plans) = ap (λ (ps : List (List Move)). rest_of p ∷ ps) (asked_next n plans)
 
 pub move_asked : (n : ℕ) (plans : List (List Move)) → move_at (asked n plans) n ≡ move_at plans n
-move_asked zero [] = refl
-move_asked zero (p ∷ plans) = refl
-move_asked (suc n) [] = refl
-move_asked (suc n) (p ∷ plans) = move_asked n plans
+move_asked n plans = grind (arith, common_steps)
 
 -- ---- the rank of a mob
 
 rank_past : (n low high : ℤ) (es : List Entity) → n ≤ℤ low → Rise eid_of low es high → rank es n ≡ 0
 rank_past n low high [] le r = refl
-rank_past n low high (e ∷ es) le r =
-    let upper : n <ℤ e.eid = le_lt n low e.eid le r.0 in
-    rw (le_int e.eid n (lt_le n e.eid upper))
-    (skip (is_mob e.kind) (rank_past n e.eid high es (lt_le n e.eid upper) r.1))
-  where
-    skip : (b : Bool) → rank es n ≡ 0 →
-        length (cond (b && false)
-        (e ∷ filter (λ (o : Entity). is_mob o.kind && int_lt o.eid n) es)
-        (filter (λ (o : Entity). is_mob o.kind && int_lt o.eid n) es)) ≡ 0
-    skip true h = h
-    skip false h = h
+rank_past n low high (e ∷ es) le r = grind (arith, nat_tests, rank_past n e.eid high es)
 
 pub rank_at : (low high : ℤ) (es : List Entity) (i : ℕ) (d : Entity) →
     Rise eid_of low es high → i < length es → rank es (get_or es i d).eid ≡ mobs_in (take i es)
 rank_at low high [] i d r lt = absurd (omega (arith, lt))
-rank_at low high (e ∷ es) zero d r lt =
-    rw (le_int e.eid e.eid (below_self e.eid))
-    (skip (is_mob e.kind) (rank_past e.eid e.eid high es (below_self e.eid) r.1))
-  where
-    skip : (b : Bool) → rank es e.eid ≡ 0 →
-        length (cond (b && false)
-        (e ∷ filter (λ (o : Entity). is_mob o.kind && int_lt o.eid e.eid) es)
-        (filter (λ (o : Entity). is_mob o.kind && int_lt o.eid e.eid) es)) ≡ 0
-    skip true h = h
-    skip false h = h
-rank_at low high (e ∷ es) (suc i) d r lt =
-    let later = rise_at eid_of e.eid high es i d (omega (arith, lt)) r.1 in
-    rw (lt_int e.eid (get_or es i d).eid later)
-    (more (is_mob e.kind) (rank_at e.eid high es i d r.1 (omega (arith, lt))))
-  where
-    more : (b : Bool) → rank es (get_or es i d).eid ≡ mobs_in (take i es) →
-        length (cond (b && true)
-        (e ∷ filter (λ (o : Entity). is_mob o.kind && int_lt o.eid (get_or es i d).eid) es)
-        (filter (λ (o : Entity). is_mob o.kind && int_lt o.eid (get_or es i d).eid) es)) ≡
-        length (cond b (e ∷ filter (λ (o : Entity). is_mob o.kind) (take i es))
-        (filter (λ (o : Entity). is_mob o.kind) (take i es)))
-    more true h = ap suc h
-    more false h = h
+rank_at low high (e ∷ es) zero d r lt = grind (arith, nat_tests, le_int, below_self, rank_past)
+rank_at low high (e ∷ es) (suc i) d r lt = grind (
+  arith,
+  nat_tests,
+  rank_at e.eid high es i d r.1 (omega (arith, lt)),
+  rise_at eid_of e.eid high es i d,
+  lt_int e.eid,
+)
 
 -- ---- entity by entity
 
 -- what is left is as it was
 still : {X : Type 0} (f : X → X) (xs : List X) (i : ℕ) (d : X) →
     get_or (map f (take i xs) ++ drop i xs) i d ≡ get_or xs i d
-still f [] zero d = refl
-still f [] (suc i) d = refl
-still f (x ∷ xs) zero d = refl
-still f (x ∷ xs) (suc i) d = still f xs i d
+still f xs i d = grind (arith, common_steps)
 
 -- the first i have moved, and of the minds as many were asked as there are mobs among them
 pub record IsTicking (plans : List (List Move)) (old : List Entity) (i mobs : ℕ)

@@ -1,5 +1,6 @@
 -- A coordinate after a step, and a spot after a move.
 use Rattle.std.proofs.Common.{◌≡◌, refl, arith}
+use Rattle.std.proofs.lemmas.Bool.Decides.{nat_tests}
 use Rattle.std.specs.Prelude.{◌≤ℤ◌, ◌<ℤ◌, ◌+ℤ◌, ◌&&◌, Bool, true, false, cond, int_le, Option, Some}
 use Rattle.std.specs.Prelude.{None}
 use Rattle.std.proofs.lemmas.Int.{ints}
@@ -58,28 +59,14 @@ picked a b c by spot = cond (a && (b && c)) (added by spot) spot
 
 pub shift_no_x : (by : Move) (spot : Spot) →
     flat (east by spot) ≡ None → spot ≡ shifted_spot by spot
-shift_no_x by spot e =
-    let f = out (is_some_within (neg_ℤ FLAT_END) FLAT_END (east by spot)) (east by spot) e in
-    rw f refl
+shift_no_x by spot e = grind (arith, nat_tests)
 
 pub shift_no_y : (by : Move) (spot : Spot) → tall (up by spot) ≡ None → spot ≡ shifted_spot by spot
-shift_no_y by spot e = let f = out (is_some_within LOWEST HIGHEST (up by spot)) (up by spot) e in
-    rw f (elim (is_some_within (neg_ℤ FLAT_END) FLAT_END (east by spot))
-    as (λ b. spot ≡
-    picked b false (is_some_within (neg_ℤ FLAT_END) FLAT_END (south by spot)) by spot)
-    [ true ↦ refl | false ↦ refl ])
+shift_no_y by spot e = grind (arith, nat_tests)
 
 pub shift_no_z : (by : Move) (spot : Spot) →
     flat (south by spot) ≡ None → spot ≡ shifted_spot by spot
-shift_no_z by spot e =
-    let f = out (is_some_within (neg_ℤ FLAT_END) FLAT_END (south by spot)) (south by spot) e in
-    rw f (none (is_some_within (neg_ℤ FLAT_END) FLAT_END (east by spot))
-    (is_some_within LOWEST HIGHEST (up by spot)))
-  where
-    none : (a b : Bool) → spot ≡ picked a b false by spot
-    none true true = refl
-    none true false = refl
-    none false b = refl
+shift_no_z by spot e = grind (arith, nat_tests, out)
 
 pub shift_all : (by : Move) (spot : Spot) (x y z : ℤ) →
     flat (east by spot) ≡ Some x → tall (up by spot) ≡ Some y →

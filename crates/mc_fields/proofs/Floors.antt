@@ -3,6 +3,7 @@ use Rattle.std.specs.Int.{w64}
 use Rattle.std.proofs.Common.{◌≡◌, ℕ, zero, suc, ◌+◌, ◌-◌, ◌*◌, ◌^◌, ◌<◌, ◌≤◌, min, Bool, true}
 use Rattle.std.proofs.Common.{false, sym, ap, ◌∙◌, arith, inl, inr, refl}
 use Rattle.std.proofs.Math.Nat.{mul-le-mul_left, mul-le-mul_right, pow-le-pow_right}
+use Rattle.std.proofs.lemmas.Bool.Decides.{nat_tests}
 use Rattle.std.proofs.lemmas.Bool.{cases_lt}
 use Rattle.std.proofs.lemmas.Int.{ints, clamps}
 use Rattle.std.proofs.lemmas.Nat.{pow-add, pow_pos}
@@ -16,11 +17,7 @@ use Rattle.mc_fields.specs.PatternLaws.{floor_exact, shift_floor, shift_gone}
 
 pub raised_low : (size top place : ℕ) → 2 ^ top ≤ size → top ≤ place →
     2 ^ place ≤ size * 2 ^ (place - top)
-raised_low size top place least room =
-    let whole : place ≡ top + (place - top) = omega arith in
-    let parts : 2 ^ place ≡ 2 ^ top * 2 ^ (place - top) = ap (λ (n : ℕ). 2 ^ n) whole ∙
-    pow-add 2 top (place - top) in
-    omega (arith, parts, mul-le-mul_right (2 ^ (place - top)) least)
+raised_low size top place least room = grind (arith, nat_tests, pow-add, mul-le-mul_right)
 
 pub raised_high : (size top place : ℕ) → size < 2 * 2 ^ top → top ≤ place →
     size * 2 ^ (place - top) < 2 * 2 ^ place
@@ -40,16 +37,7 @@ place_few place few = pow-le-pow_right (omega arith) few
 
 pub shift_all : (z : ℤ) (right k : ℕ) → SFits w64 z → k ≡ min right 63 → shr_z z (2 ^ k) ≡
     shr_z z (2 ^ right)
-shift_all z right k fits is =
-    elim (cases_lt 63 right) [
-      | inl more ↦
-          let held : k ≡ 63 = omega (arith, is) in
-          let le : 63 ≤ right = omega arith in
-          let wide : 2 ^ 63 ≤ 2 ^ right = pow-le-pow_right (omega arith) le in
-          ap (λ (n : ℕ). shr_z z (2 ^ n)) held ∙ shift_gone z (2 ^ 63) (2 ^ right) fits.sfits
-          (omega (arith, wide, fits.sfits))
-      | inr le ↦ let same : k ≡ right = omega (arith, is) in ap (λ (n : ℕ). shr_z z (2 ^ n)) same
-    ]
+shift_all z right k fits is = grind (arith, nat_tests, cases_lt, pow-le-pow_right, shift_gone)
 
 pub shift_fits : (z : ℤ) (m : ℕ) → SFits w64 z → SFits w64 (shr_z z m)
 shift_fits z m fits = record { sfits = omega (arith, mag_shr z m, fits.sfits) }
@@ -58,9 +46,7 @@ shift_fits z m fits = record { sfits = omega (arith, mag_shr z m, fits.sfits) }
 
 pub with_sign-times : (negative : Bool) (a b : ℕ) → (with_sign negative a *ℤ pos b) ≡
     with_sign negative (a * b)
-with_sign-times false a b = refl
-with_sign-times true zero b = let none : 0 * b ≡ 0 = omega arith in rw none refl
-with_sign-times true (suc a) b = refl
+with_sign-times negative a b = grind (arith, nat_tests)
 
 held_large : (negative : Bool) (a : ℕ) → 2 ^ 40 ≤ a → with_sign negative (2 ^ 40) ≡
     held (with_sign negative a)

@@ -6,7 +6,7 @@ use Rattle.std.proofs.Common.{◌≡◌, ℕ, ◌+◌, ◌-◌, ◌*◌, ◌/◌
 use Rattle.std.proofs.Common.{false, sym, ap, ◌∙◌, arith, inl, inr, refl, ne_eqb, le-leb}
 use Rattle.std.proofs.Math.Nat.{mul-le-mul, pow-le-pow_right}
 use Rattle.std.proofs.lemmas.Bool.{cases_lt}
-use Rattle.std.proofs.lemmas.Bool.Decides.{leb_tells}
+use Rattle.std.proofs.lemmas.Bool.Decides.{leb_tells, nat_tests}
 use Rattle.std.proofs.lemmas.Int.{ints, clamps}
 use Rattle.std.proofs.lemmas.Nat.{pow-add, pow_pos}
 use lib.IntN.{ℤ, pos, negsuc, nat_abs, ◌*ℤ◌}
@@ -20,19 +20,10 @@ use Rattle.mc_fields.proofs.Floors.{with_sign-times}
 
 -- the place of a number's highest bit
 pub top_below : (size top k : ℕ) → 2 ^ top ≤ size → size < 2 ^ k → top < k
-top_below size top k least most =
-    elim (cases_lt top k) [
-      | inl lt ↦ lt
-      | inr le ↦ let some : 0 < 2 = omega arith in let wide : 2 ^ k ≤ 2 ^ top =
-          pow-le-pow_right some le in absurd (omega (arith, wide))
-    ]
+top_below size top k least most = grind (arith, nat_tests, cases_lt, pow-le-pow_right)
 
 pub not_under : (a b : ℕ) → b < a → nat_le a b ≡ false
-not_under a b lt =
-    elim (leb_tells a b) [
-      | inl told ↦ absurd (omega (arith, told.1))
-      | inr told ↦ told.0
-    ]
+not_under a b lt = grind (arith, nat_tests)
 
 -- the significand of a pattern whose exponent is not 0
 pub significand_hidden : (f e fraction : ℕ) → 0 < e → significand_of f e fraction ≡ 2 ^ f + fraction
@@ -67,23 +58,17 @@ pub stands_negative : (size top sig : ℕ) → 2 ^ 52 ≤ sig → sig < 2 * 2 ^ 
     → Represents (with_sign true size) (9223372036854775808 + (1018 + top) * 4503599627370496 +
     (sig - 4503599627370496))
 stands_negative size top sig least most few is =
-    stands_made true size top sig _ (
-      omega arith,
-      omega arith,
-      le-leb (2 ^ 63) (9223372036854775808 + (1018 + top) * 4503599627370496 +
-          (sig - 4503599627370496)) (omega arith),
-    ) least few is
+    grind (arith, nat_tests, stands_made true size top sig)
 
 pub stands_positive : (size top sig : ℕ) → 2 ^ 52 ≤ sig → sig < 2 * 2 ^ 52 → top < 32
     → sig ≡ size * 2 ^ (52 - top)
     → Represents (with_sign false size) ((1018 + top) * 4503599627370496 + (sig - 4503599627370496))
-stands_positive size top sig least most few is =
-    stands_made false size top sig _ (
-      omega arith,
-      omega arith,
-      not_under (2 ^ 63) ((1018 + top) * 4503599627370496 + (sig - 4503599627370496))
-          (omega arith),
-    ) least few is
+stands_positive size top sig least most few is = grind (
+  arith,
+  nat_tests,
+  stands_made false size top sig,
+  not_under (2 ^ 63) ((1018 + top) * 4503599627370496 + (sig - 4503599627370496)),
+)
 
 -- the pattern of a number of 32 bits is read as the number again
 pub fixes_again : (n : ℤ) (p : ℕ) → SFits w32 n → Represents n p → Fixes p n
@@ -101,11 +86,7 @@ fixes_again n p fits stands = record {
 
 -- and as no other
 pub fixes_only : (n m : ℤ) (p : ℕ) → SFits w32 n → Represents n p → Fixes p m → m ≡ n
-fixes_only n m p fits stands fixes =
-    let again = fixes_again n p fits stands in
-    let same = floor_one fixes.parts.floor again.parts.floor _ (2 ^ 1075) fixes.parts.floored
-    again.parts.floored in
-    fixes.parts.held ∙ ap held same ∙ sym again.parts.held
+fixes_only n m p fits stands fixes = grind (arith, nat_tests)
 
 -- ---- binary32
 
@@ -140,12 +121,7 @@ scaled true s k e = omega (arith, ints, e)
 turns_exact : (a p : ℕ) → RepresentsTurn a p
     → with_sign (is_negative 23 8 p) (256 * (significand 23 8 p * 2 ^ power 23 8 p)) ≡
     (pos a *ℤ pos (360 * 2 ^ 150))
-turns_exact a p stands =
-    let top : with_sign (is_negative 23 8 p) (256 * (significand 23 8 p * 2 ^ power 23 8 p)) ≡
-    pos (8 * (a * 45 * 2 ^ 150)) = scaled (is_negative 23 8 p) (significand 23 8 p * 2 ^
-    power 23 8 p) (a * 45 * 2 ^ 150) stands.exact in
-    let times : 8 * (a * 45 * 2 ^ 150) ≡ a * (360 * 2 ^ 150) = omega arith in
-    top ∙ ap pos times
+turns_exact a p stands = grind (arith, nat_tests)
 
 -- the size of a number that is not negative
 size_is : (negative : Bool) (s k : ℕ) → with_sign negative s ≡ pos k → s ≡ k
@@ -170,11 +146,7 @@ turns_again a p fits stands =
 
 -- and as no other
 pub turns_only : (a b p : ℕ) → a < 256 → RepresentsTurn a p → Turns p b → b ≡ a
-turns_only a b p fits stands turns =
-    let floored = floor_exact (pos a) _ (360 * 2 ^ 150) (omega arith) (turns_exact a p stands) in
-    let same = floor_one turns.parts.floor (pos a) _ (360 * 2 ^ 150) turns.parts.floored floored in
-    let rest = turns.parts.rest ∙ ap (λ (z : ℤ). int_rem_euclid z (pos 256)) same in
-    omega (arith, ints, rest)
+turns_only a b p fits stands turns = grind (arith, nat_tests)
 
 rem_is : (z d : ℤ) → pos (nat_abs (int_rem_euclid z d)) ≡ int_rem_euclid z d
 rem_is (pos a) d = refl
@@ -211,11 +183,7 @@ vast_above p high =
     inr (omega (arith, mul-le-mul size wide))
 
 significand_below : (e fraction : ℕ) → fraction < 2 ^ 23 → significand_of 23 e fraction < 2 ^ 24
-significand_below e fraction few = step (e == 0)
-  where
-    step : (t : Bool) → (if t then fraction else 2 ^ 23 + fraction) < 2 ^ 24
-    step true = omega arith
-    step false = omega arith
+significand_below e fraction few = grind (arith, nat_tests)
 
 -- a number with a small exponent is small
 pub small_below : (p : ℕ) → p / 2 ^ 23 % 2 ^ 8 < 158

@@ -2,6 +2,7 @@
 use Rattle.std.proofs.Common.{◌≡◌, ℕ, zero, suc, ◌+◌, ◌-◌, ◌*◌, ◌%◌, ◌<◌, ◌≤◌, ◌⊎◌, inl, inr, Bool}
 use Rattle.std.proofs.Common.{true, false, cond, nat_lt, List, [], ◌∷◌, length, drop, get_or}
 use Rattle.std.proofs.Common.{Result, Ok, Err, refl, sym, ap, ◌∙◌, arith, le-ltb, ltb-false}
+use Rattle.std.proofs.lemmas.Bool.Decides.{nat_tests}
 use Rattle.std.specs.Prelude.{◌↔◌, IsErrOf, IfErr}
 use Rattle.std.proofs.lemmas.List.{length-drop}
 use lib.IntN.{ℤ}
@@ -14,11 +15,7 @@ use Rattle.mc_fields.specs.Varint.{GoesOn, IsCut, groups_read, number_of, varint
 
 GoesOn-cons : (count b : ℕ) (bytes : List ℕ) → 128 ≤ b → GoesOn count bytes →
     GoesOn (suc count) (b ∷ bytes)
-GoesOn-cons count b bytes marked on = record { there = omega (arith, on.there); marked = each }
-  where
-    each : (k : ℕ) → k < suc count → 128 ≤ get_or (b ∷ bytes) k 0
-    each zero lt = marked
-    each (suc k) lt = on.marked k (omega arith)
+GoesOn-cons count b bytes marked on = grind (arith, nat_tests)
 
 GoesOn-tail : (count b : ℕ) (bytes : List ℕ) → GoesOn (suc count) (b ∷ bytes) → GoesOn count bytes
 GoesOn-tail count b bytes on = record {
@@ -108,15 +105,7 @@ failed_at room bytes start kind within e = rw (e, place bytes start within) refl
 fault_of : (room : ℕ) (bytes : List ℕ) (start : ℕ) (fault : FieldFault) → start ≤ length bytes →
     placed bytes (varint_read room (drop start bytes)) ≡ Err fault → (kind : Kind) ×
     (groups_read room (drop start bytes) ≡ Err kind) × (fault ≡ fault_at kind start)
-fault_of room bytes start fault within e = cases (groups_read room (drop start bytes)) refl e
-  where
-    cases : (r : Result (ℕ × List ℕ) Kind) → groups_read room (drop start bytes) ≡ r →
-        placed bytes (number_of (drop start bytes) r) ≡ Err fault → (kind : Kind) ×
-        (groups_read room (drop start bytes) ≡ Err kind) × (fault ≡ fault_at kind start)
-    cases (Ok x) is e = absurd cc
-    cases (Err kind) is e =
-        let same : fault_at kind (length bytes - length (drop start bytes)) ≡ fault = cc in
-        (kind, is, sym same ∙ ap (fault_at kind) (place bytes start within))
+fault_of room bytes start fault within e = grind (arith, nat_tests, place)
 
 pub long_at : (room : ℕ) (bytes : List ℕ) (start : ℕ) (result : Result (ℤ × ℕ) FieldFault) →
     start ≤ length bytes → result ≡ placed bytes (varint_read room (drop start bytes)) →

@@ -1,6 +1,7 @@
 -- Packets of the list of players can carry the players of a list.
 use Rattle.std.proofs.Common.{◌≡◌, ℕ, zero, suc, ◌+◌, ◌-◌, ◌*◌, ◌^◌, ◌<◌, ◌≤◌, false, true, List}
 use Rattle.std.proofs.Common.{[], ◌∷◌, ◌++◌, length, refl, lit<, arith, append_assoc, ap, sym, ◌∙◌}
+use Rattle.std.proofs.lemmas.Bool.Decides.{nat_tests}
 use Rattle.std.specs.Prelude.{None}
 use Rattle.std.specs.Int.{w8, w128}
 use Rattle.std.specs.List.{AllByRecursion}
@@ -61,11 +62,8 @@ name_fits name utf8 few = let points = chars_few name in record {
 }
 
 pub leaver_carried : (e : ℕ × List ℕ) → e.0 < 2 ^ 128 → IsCarried (pos 4) (leaver e)
-leaver_carried e uuid = record {
-  fits = (tt, (uuid, (refl, tt)));
-  few = at_most_less 16 110 _ (omega arith) (at_most_joined 16 0 _ [] (number_size w128 wide_128
-      e.0) (omega arith));
-}
+leaver_carried e uuid =
+    grind (arith, nat_tests, at_most_less, at_most_joined, number_size, wide_128)
 
 pub joiner_carried : (e : ℕ × List ℕ) → e.0 < 2 ^ 128 → IsUtf8 e.1 → length e.1 ≤ 64 →
     IsCarried (pos 0) (joiner e)
@@ -128,55 +126,27 @@ all_fit action (p ∷ players) f = (f.0.fits, all_fit action players f.1)
 all_few : (action : ℤ) (players : List Player) → AllByRecursion (IsCarried action) players →
     AtMost (length players * 110) (all_spelling (player_wire action).spelling players)
 all_few action [] f = omega arith
-all_few action (p ∷ players) f =
-    let here = f.0.few in
-    let later = all_few action players f.1 in
-    omega (
-      arith,
-      here,
-      later,
-      length-append ((player_wire action).spelling p) (all_spelling
-          (player_wire action).spelling players),
-    )
+all_few action (p ∷ players) f = grind (arith, nat_tests, all_few action players f.1, length-append)
 
 list_clear : (action : ℕ) (players : List Player) → is_action (pos action) ≡ true → action < 100 →
     length players ≤ 50 → AllByRecursion (IsCarried (pos action)) players →
     IsClear (PlayerList (pos action) players)
-list_clear action players is small few f =
-    let fits : FitsDown (PlayerList (pos action) players) = (
-      lit< tt,
-      (
-        (small_varint action small, is),
-        (
-          tt,
-          (
-            (
-              tt,
-              (
-                small_varint (length players) (omega
-                    (arith, few)),
-                refl,
-              ),
-            ),
-            (refl, all_fit (pos action) players f),
-          ),
-        ),
-      ),
-    ) in
-    let many : AtMost 5500 (all_spelling (player_wire (pos action)).spelling players) = (let all =
-    all_few (pos action) players f in omega (arith, all, few)) in
-    let size : AtMost 5510 _ = at_most_joined 5 5505 _ _ (varint_few action small) (at_most_joined 5
-    5500 _ _ (varint_few (length players) (omega (arith, few))) many) in (
-      fits,
-      spelling_payload (entry_of (PlayerList (pos action) players)) fits (few_bytes 5510 _
-          (omega arith) size),
-    )
+list_clear action players is small few f = grind (
+  arith,
+  nat_tests,
+  small_varint action small,
+  small_varint (length players),
+  all_fit (pos action) players f,
+  all_few (pos action) players f,
+  at_most_joined 5 5505,
+  at_most_joined 5 5500,
+  varint_few action small,
+  varint_few (length players),
+  spelling_payload (entry_of (PlayerList (pos action) players)),
+  few_bytes 5510,
+)
 
 pub about_clear : (action : ℕ) (players : List Player) → is_action (pos action) ≡ true →
     action < 100 → length players ≤ 50 → AllByRecursion (IsCarried (pos action)) players →
     AreClear (about (pos action) players)
-about_clear action [] is small few f = tt
-about_clear action (p ∷ players) is small few f = (
-  list_clear action (p ∷ players) is small few f,
-  tt,
-)
+about_clear action players is small few f = grind (arith, nat_tests, list_clear)

@@ -1,6 +1,7 @@
 -- Bytes about players, what is appended of a tick, and the places of a view.
 use Rattle.std.proofs.Common.{◌≡◌, ℕ, ◌≤◌, not, List, [], ◌∷◌, ◌++◌, map, Option, Some, None}
 use Rattle.std.proofs.Common.{length, true, refl, sym, ap, ◌∙◌, arith, append_assoc}
+use Rattle.std.proofs.lemmas.Bool.Decides.{nat_tests}
 use Rattle.std.specs.Prelude.{unsigned_abs}
 use Rattle.std.specs.List.{AllByRecursion, Contains, filter}
 use Rattle.std.specs.Ordering.{nat_cmp}
@@ -36,8 +37,7 @@ missing_few m n few =
 -- and their names can be carried
 pub missing_named : (m n : Pairs) → AllByRecursion IsNamed (entries m) →
     AllByRecursion IsNamed (missing m n)
-missing_named m n named = all_filtered IsNamed (λ (e : ℕ × List ℕ). not (is_named (get n e.0) e.1))
-    (entries m) named
+missing_named m n named = grind (arith, nat_tests, all_filtered)
 
 -- nobody has no entry
 no_entries : entries (empty {X = List ℕ} {R = nat_cmp}) ≡ []
@@ -45,9 +45,7 @@ no_entries = nil_from_length _ (sym (len-entries empty) ∙ len-empty nat_cmp (L
 
 -- those who leave, of nobody
 nobody_left : (n : Pairs) → about (pos 4) (map leaver (missing empty n)) ≡ []
-nobody_left n =
-    ap (λ (es : List (ℕ × List ℕ)). about (pos 4) (map leaver (filter (λ (e : ℕ × List ℕ).
-    not (is_named (get n e.0) e.1)) es))) no_entries
+nobody_left n = grind (arith, nat_tests, no_entries)
 
 -- ---- the frames about players
 
@@ -56,9 +54,7 @@ pub all_put : (list : ListValue) (all : List (ℕ × List ℕ)) (b0 b1 : List �
     all ≡ missing list.present empty → b0 ≡ [] →
     b1 ≡ b0 ++ play_bytes (about (pos 0) (map joiner all)) →
     b1 ≡ play_bytes (player_packets empty list.present)
-all_put list all b0 b1 is none put =
-    put ∙ rw (none, is) (ap (λ (ds : List Down). play_bytes (ds ++ about (pos 0)
-    (map joiner (missing list.present empty)))) (sym (nobody_left list.present)))
+all_put list all b0 b1 is none put = grind (arith, nat_tests, nobody_left)
 
 -- of who left and of who came
 pub changes_put : (list : ListValue) (left_ came : List (ℕ × List ℕ)) (b0 b1 b2 : List ℕ) →
@@ -66,18 +62,14 @@ pub changes_put : (list : ListValue) (left_ came : List (ℕ × List ℕ)) (b0 b
     b1 ≡ b0 ++ play_bytes (about (pos 4) (map leaver left_)) →
     b2 ≡ b1 ++ play_bytes (about (pos 0) (map joiner came)) → b2 ≡ player_bytes list
 changes_put list left_ came b0 b1 b2 l c none first second =
-    second ∙ rw (first, none, l, c) (sym (play_bytes-append
-    (about (pos 4) (map leaver (missing list.last list.present)))
-    (about (pos 0) (map joiner (missing list.present list.last)))))
+    grind (arith, nat_tests, play_bytes-append)
 
 -- ---- what is appended
 
 -- one more piece
 pub piece_pushed : (old new : List (List ℕ)) (piece : List ℕ) → new ≡ old ++ piece ∷ [] →
     joined new ≡ joined old ++ piece
-piece_pushed old new piece put =
-    ap joined put ∙ flat_map-append (λ (p : List ℕ). p) old (piece ∷ [])
-    ∙ ap (λ (t : List ℕ). joined old ++ t) (append-nil piece)
+piece_pushed old new piece put = grind (arith, nat_tests, flat_map-append, append-nil)
 
 -- all of a tick, behind what was there: what differs, the cells that were noted, and all else
 pub tick_put : (old new p0 p1 p2 p3 : List (List ℕ)) (cs ds ns ms : List Down) → p0 ≡ [] →
@@ -119,12 +111,7 @@ IsMiddle view = (negsuc 1874999 ≤ℤ view.cx) × (view.cx ≤ℤ pos 1875000) 
 -- and on both
 place_near : (view : ViewSet) (place : Place) → IsMiddle view → has view place ≡ true →
     IsPlace place
-place_near view place m near =
-    let apart = near_both (unsigned_abs (place.0 -ℤ view.cx)) (unsigned_abs (place.1 -ℤ view.cz))
-    view.d near in
-    let x = number_near view.cx place.0 view.d m.0 m.1 m.4 apart.0 in
-    let z = number_near view.cz place.1 view.d m.2 m.3 m.4 apart.1 in
-    record { cx_low = x.0; cx_high = x.1; cz_low = z.0; cz_high = z.1 }
+place_near view place m near = grind (arith, nat_tests, near_both, number_near)
 
 -- the places of a view lie in the world
 pub view_places : (view : ViewSet) → IsMiddle view → AllByRecursion IsPlace (all_of view)
@@ -134,8 +121,7 @@ view_places view m = all_of_list IsPlace (all_of view) (λ place held. place_nea
 -- what holds of all columns of a view holds of those that another lacks
 pub lacking_holds : (P : Place → Type 0) (view other : ViewSet) → AllByRecursion P (all_of view) →
     AllByRecursion P (lacking view other)
-lacking_holds P view other all = all_filtered P (λ (place : Place). not (has other place)) (all_of
-    view) all
+lacking_holds P view other all = grind (arith, nat_tests, all_filtered)
 
 -- and of those that come
 entered_holds : (P : Place → Type 0) (was : Option ViewSet) (view : ViewSet) →

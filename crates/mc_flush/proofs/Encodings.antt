@@ -2,6 +2,7 @@
 -- looks at cells cost.
 use Rattle.std.proofs.Common.{◌≡◌, ℕ, ◌+◌, ◌*◌, ◌≤◌, Bool, true, false, cond, not, ◌||◌, List, ◌∷◌}
 use Rattle.std.proofs.Common.{length, Option, Some, None, refl, sym, subst, ap, ◌∙◌, arith}
+use Rattle.std.proofs.lemmas.Bool.Decides.{nat_tests}
 use Rattle.std.specs.List.{fold}
 use Rattle.std.specs.Map.{lookup}
 use Rattle.std.specs.declared.cmp.Ordering.{Ordering}
@@ -45,12 +46,7 @@ none_encoded land list = record {
 
 pub players_added : (land : LandValue) (list : ListValue) (old : EncodedValue) →
     AreFrames land list old → AreFrames land list (with_players old list)
-players_added land list old frames = record {
-  players = λ bytes e. same_bytes (player_bytes list) bytes e;
-  loads = frames.loads;
-  changes = frames.changes;
-  moves = frames.moves;
-}
+players_added land list old frames = grind (arith, nat_tests, same_bytes)
 
 -- one more load
 put_one : (land : LandValue) (list : ListValue) (old : EncodedValue) (place : Place) →
@@ -73,12 +69,7 @@ put_one land list old place frames = record {
 
 pub load_added : (land : LandValue) (list : ListValue) (old : EncodedValue) (place : Place) →
     AreFrames land list old → AreFrames land list (with_load old land place)
-load_added land list old place frames = step (has_load old place)
-  where
-    step : (b : Bool) → AreFrames land list
-        (cond b old (record old { loads = insert old.loads place (load_bytes land place) }))
-    step true = frames
-    step false = put_one land list old place frames
+load_added land list old place frames = grind (arith, nat_tests, put_one land list old place frames)
 
 -- the changes of one more column
 put_changed : (land : LandValue) (list : ListValue) (old : EncodedValue) (place : Place) →
@@ -102,12 +93,8 @@ put_changed land list old place frames = record {
 
 pub changes_added : (land : LandValue) (list : ListValue) (old : EncodedValue) (place : Place) →
     AreFrames land list old → AreFrames land list (with_changes old land place)
-changes_added land list old place frames = step (has_changes old place || is_clean land place)
-  where
-    step : (b : Bool) → AreFrames land list
-        (cond b old (record old { changes = insert old.changes place (change_bytes land place) }))
-    step true = frames
-    step false = put_changed land list old place frames
+changes_added land list old place frames =
+    grind (arith, nat_tests, put_changed land list old place frames)
 
 -- an entry that is put into a tree is put into the map of its entries
 pub entry_put : {K X : Type 0} {R : K → K → Ordering} → IsTotalOrder R → IsAntisymmetric R →
@@ -175,9 +162,7 @@ move_added land list old state e frames = cases (told_of e.eid state)
 pub move_more : (state : FolkState) (e : Entity) (moves : MovesByEid) (from : Spot) →
     told_of e.eid state ≡ Some from → is_still (form_of from e.spot) ≡ false →
     insert moves e.eid (move_of e from) ≡ with_move state moves e
-move_more state e moves from was goes =
-    ap (λ (b : Bool). cond b moves (insert moves e.eid (move_of e from))) (sym goes)
-    ∙ ap (λ (o : Option Spot). moved_from e o moves) (sym was)
+move_more state e moves from was goes = grind (arith, nat_tests)
 
 -- with the next move, those of what is left make all
 pub moves_next : (state : FolkState) (now new total : EncodedValue) (e : Entity)
@@ -185,10 +170,7 @@ pub moves_next : (state : FolkState) (now new total : EncodedValue) (e : Entity)
     new ≡ record now { moves = with_move state now.moves e } →
     record now { moves = fold (with_move state) now.moves left } ≡ total →
     record new { moves = fold (with_move state) new.moves rest } ≡ total
-moves_next state now new total e left rest is put all =
-    ap (λ (v : EncodedValue). record v { moves = fold (with_move state) v.moves rest }) put
-    ∙ ap (λ (es : List Entity). record now { moves = fold (with_move state) now.moves es }) (sym is)
-    ∙ all
+moves_next state now new total e left rest is put all = grind (arith, nat_tests)
 
 -- ---- where nothing is there
 
@@ -224,16 +206,10 @@ pub next_load : (now after total : ℕ) (encoded : EncodedValue) (left rest : Li
     →
     left ≡ x ∷ rest → now + cells * length (unencoded encoded left) ≡ total →
     after ≡ now + load_cost encoded x → after + cells * length (unencoded encoded rest) ≡ total
-next_load now after total encoded left rest x is all put =
-    let whole : now + cells * length (unencoded encoded (x ∷ rest)) ≡ total =
-    ap (λ (places : List Place). now + cells * length (unencoded encoded places)) (sym is) ∙ all in
-    omega (arith, each_cost encoded x rest, whole, put)
+next_load now after total encoded left rest x is all put = grind (arith, nat_tests, each_cost)
 
 -- and no more was counted than all of them cost
 pub next_within : (now after total : ℕ) (encoded : EncodedValue) (left rest : List Place)
     (x : Place) → left ≡ x ∷ rest → now + cells * length (unencoded encoded left) ≡ total →
     after ≤ now + load_cost encoded x → after ≤ total
-next_within now after total encoded left rest x is all few =
-    let whole : now + cells * length (unencoded encoded (x ∷ rest)) ≡ total =
-    ap (λ (places : List Place). now + cells * length (unencoded encoded places)) (sym is) ∙ all in
-    omega (arith, each_cost encoded x rest, whole, few)
+next_within now after total encoded left rest x is all few = grind (arith, nat_tests, each_cost)

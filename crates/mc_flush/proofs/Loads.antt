@@ -1,6 +1,7 @@
 -- The frames of packets of columns.
 use Rattle.std.proofs.Common.{◌≡◌, ℕ, ◌+◌, ◌^◌, ◌<◌, true, List}
 use Rattle.std.proofs.Common.{◌++◌, length, sym, ap, ◌∙◌, arith, append_assoc}
+use Rattle.std.proofs.lemmas.Bool.Decides.{nat_tests}
 use Rattle.std.specs.Int.{w8, w16, w32, cast_unsigned}
 use Rattle.std.proofs.lemmas.Int.{ints}
 use Rattle.std.proofs.lemmas.List.{length-append}
@@ -30,11 +31,7 @@ number_fits (negsuc n) low high = record { sfits = omega (arith, ints, low) }
 
 -- a packet can carry a place of the land
 pub place_fits : (place : Place) → IsPlace place → PlaceFits place
-place_fits place at = record {
-  x = number_fits place.0 at.cx_low at.cx_high;
-  z = number_fits place.1
-      at.cz_low at.cz_high;
-}
+place_fits place at = grind (arith, nat_tests, number_fits)
 
 pub unload_fits : (place : Place) → IsPlace place → IsClear (unload place)
 unload_fits place at = unload_clear place (place_fits place at)
@@ -51,11 +48,7 @@ head_of place column = load_head place (column_mask column) (length (column_byte
 
 pub load_spelled : (place : Place) (column : ColumnValue) →
     spelling_of (load (place, column)) ≡ head_of place column ++ column_bytes column
-load_spelled place column =
-    regroup (varint_spelling (pos 33)) (number_spelling w32 (cast_unsigned w32 place.0))
-    (number_spelling w32 (cast_unsigned w32 place.1))
-    (boolean_spelling true) (number_spelling w16 (column_mask column)) (varint_spelling (pos (length
-    (column_bytes column)))) (column_bytes column)
+load_spelled place column = grind (arith, nat_tests, regroup)
 
 -- a head is not long
 head_few : (place : Place) (mask size : ℕ) → SFits w32 (pos size) →
@@ -74,11 +67,7 @@ head_few place mask size fits =
 -- both are short enough for a frame
 pub load_small : (place : Place) (column : ColumnValue) → IsPlace place → HasSizes column →
     length (head_of place column) + length (column_bytes column) < 2 ^ 21
-load_small place column at sizes =
-    let few = column_few column sizes in
-    let head = head_few place (column_mask column) (length (column_bytes column))
-    (record { sfits = omega (arith, few) }) in
-    omega (arith, few, head)
+load_small place column at sizes = grind (arith, nat_tests, column_few, head_few)
 
 load_framed : (place : Place) (column : ColumnValue) →
     frame_of (of_play (load (place, column))) ≡ varint_spelling (pos (length (head_of place column)
@@ -101,11 +90,7 @@ pub record IsBegun (place : Place) (column : ColumnValue) (mask size : ℕ) (hea
 pub begun_small : (place : Place) (column : ColumnValue) (mask size : ℕ) (head : List ℕ) →
     IsPlace place → HasSizes column → IsBegun place column mask size head →
     length head + size < 2 ^ 21
-begun_small place column mask size head at sizes begun = rw (
-  begun.head_is,
-  begun.mask_is,
-  begun.size_is,
-) (load_small place column at sizes)
+begun_small place column mask size head at sizes begun = grind (arith, nat_tests, load_small)
 
 pub load_put : (place : Place) (column : ColumnValue) (mask size : ℕ) (head old counted headed new :
     List ℕ) → IsBegun place column mask size head →

@@ -1,7 +1,8 @@
 -- The players of a list that another has not are found, whatever the order in which they are looked
 -- at.
 use Rattle.std.proofs.Common.{◌≡◌, ℕ, Bool, true, false, cond, not, List, [], ◌∷◌, Option, Some}
-use Rattle.std.proofs.Common.{None, refl, sym, subst, ap, ◌∙◌}
+use Rattle.std.proofs.Common.{None, refl, sym, subst, ap, ◌∙◌, arith}
+use Rattle.std.proofs.lemmas.Bool.Decides.{nat_tests}
 use Rattle.std.specs.Prelude.{nat_eq}
 use Rattle.std.specs.List.{IsDistinct}
 use Rattle.std.specs.Map.{keys_of}
@@ -44,39 +45,7 @@ pub finding_goes_on : (others found new left rest all : Players) (k : ℕ) (v : 
     ((q : ℕ) → find nat_cmp q new ≡ with_other others k v (find nat_cmp q found) q) →
     IsFinding others found left all → IsFinding others new rest all
 finding_goes_on others found new left rest all k v next apart put so_far q =
-    elim (eq_by_cmp nat_cmp q k) as (λ t. eq_by_cmp nat_cmp q k ≡ t →
-    IsFoundOf (is_other others q) (find nat_cmp q new) (find nat_cmp q rest) (find nat_cmp q
-    all)) [
-      | true ↦ λ t.
-          let same : q ≡ k = same_key q k t in
-          let here : IsFoundOf (is_other others q) (find nat_cmp q found) (Some v) (find nat_cmp q
-          all) = subst P' (ap (find nat_cmp q) next
-          ∙ ap (λ (b : Bool). cond b (Some v) (find nat_cmp q rest)) t) (so_far q) in
-          let none : find nat_cmp q rest ≡ None = rw same (not_again k v rest (subst (λ (es :
-          Players). IsDistinct nat_eq (keys_of es)) next apart)) in
-          let now : find nat_cmp q new ≡ cond (is_other others q v) (Some v) None =
-          put q ∙ rw (t, here.0) (ap (λ (u : ℕ). cond (is_other others u v) (Some v) None) (sym
-          same)) in
-          subst P (sym none) (now ∙ sym (ap (option_filter (is_other others q)) here.1))
-      | false ↦ λ t.
-          let here : IsFoundOf (is_other others q) (find nat_cmp q found) (find nat_cmp q rest)
-          (find nat_cmp q all) = subst P' (ap (find nat_cmp q) next
-          ∙ ap (λ (b : Bool). cond b (Some v) (find nat_cmp q rest)) t) (so_far q) in
-          let kept : find nat_cmp q new ≡ find nat_cmp q found = put q
-          ∙ rw t (either (is_other others k v) (find nat_cmp q found)) in
-          subst (λ (o : Option (List ℕ)). IsFoundOf (is_other others q) o (find nat_cmp q rest)
-          (find nat_cmp q all)) (sym kept) here
-    ] refl
-  where
-    P : Option (List ℕ) → Type 0
-    P o = IsFoundOf (is_other others q) (find nat_cmp q new) o (find nat_cmp q all)
-
-    P' : Option (List ℕ) → Type 0
-    P' o = IsFoundOf (is_other others q) (find nat_cmp q found) o (find nat_cmp q all)
-
-    either : (b : Bool) (o : Option (List ℕ)) → cond b o o ≡ o
-    either true o = refl
-    either false o = refl
+    grind (arith, nat_tests, same_key q k, not_again k v rest, option_filter (is_other others q))
 
 pub finding_ends : (others found all : Players) → IsStrictlySortedBy nat_cmp (keys_of found) →
     IsFinding others found [] all → found ≡ missing (from_entries all) (from_entries others)

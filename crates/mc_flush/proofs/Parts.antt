@@ -1,6 +1,7 @@
 -- Numbers of entities that go, part after part.
 use Rattle.std.proofs.Common.{◌≡◌, ℕ, zero, suc, ◌<◌, ◌≤◌, List, [], ◌∷◌, ◌++◌, take, drop, length}
 use Rattle.std.proofs.Common.{map, min, refl, ap, ◌∙◌, arith}
+use Rattle.std.proofs.lemmas.Bool.Decides.{nat_tests}
 use Rattle.std.proofs.lemmas.List.{length-drop, take_min}
 use lib.IntN.{ℤ}
 use Rattle.mc_down.specs.declared.down.Down.{Down}
@@ -20,10 +21,7 @@ parts_same (suc n) zero most [] some le less = refl
 parts_same (suc n) zero most (eid ∷ eids) some le less = absurd (omega (arith, less))
 parts_same (suc n) (suc m) most [] some le less = refl
 parts_same (suc n) (suc m) most (eid ∷ eids) some le less =
-    let left = length-drop most (eid ∷ eids) in
-    ap (λ (parts : List (List ℤ)). take most (eid ∷ eids) ∷ parts)
-    (parts_same n m most (drop most (eid ∷ eids)) some (omega (arith, some, left, le))
-    (omega (arith, some, left, less)))
+    grind (arith, nat_tests, parts_same n m most (drop most (eid ∷ eids)) some, length-drop)
 
 -- a packet about the first part, and packets about what is behind it
 parted : (eid : ℤ) (eids : List ℤ) → destroying (eid ∷ eids)

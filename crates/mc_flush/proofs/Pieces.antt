@@ -1,6 +1,7 @@
 -- Bytes that are appended piece after piece.
 use Rattle.std.proofs.Common.{◌≡◌, ℕ, suc, ◌≤◌, Bool, true, false, cond, List, [], ◌∷◌}
 use Rattle.std.proofs.Common.{◌++◌, map, length, sym, ap, ◌∙◌, arith, append_assoc}
+use Rattle.std.proofs.lemmas.Bool.Decides.{nat_tests}
 use Rattle.std.specs.List.{AllByRecursion, filter}
 use Rattle.std.proofs.lemmas.List.{map-append, append-nil}
 use Rattle.std.proofs.lemmas.Grind.{flat_map-append}
@@ -27,8 +28,7 @@ next_holds P left rest x is all = rw is at all
 
 -- packets, and others behind them
 pub play_bytes-append : (xs ys : List Down) → play_bytes (xs ++ ys) ≡ play_bytes xs ++ play_bytes ys
-play_bytes-append xs ys = ap bytes_of (map-append of_play xs ys)
-    ∙ flat_map-append frame_of (map of_play xs) (map of_play ys)
+play_bytes-append xs ys = grind (arith, nat_tests, map-append, flat_map-append)
 
 -- one packet
 pub play_bytes-one : (packet : Down) → frame_of (of_play packet) ≡ play_bytes (packet ∷ [])
@@ -51,23 +51,13 @@ line_put x left rest now after total is all put =
 pub all_filtered : {A : Type 0} (P : A → Type 0) (test : A → Bool) (xs : List A) →
     AllByRecursion P xs → AllByRecursion P (filter test xs)
 all_filtered P test [] a = tt
-all_filtered {A} P test (x ∷ xs) a = step (test x) (all_filtered P test xs a.1)
-  where
-    step : (t : Bool) → AllByRecursion P (filter test xs) →
-        AllByRecursion P (cond t (x ∷ filter test xs) (filter test xs))
-    step true rest = (a.0, rest)
-    step false rest = rest
+all_filtered {A} P test (x ∷ xs) a = grind (arith, nat_tests, all_filtered P test xs a.1)
 
 -- and those are no more
 pub few_filtered : {A : Type 0} (test : A → Bool) (xs : List A) →
     length (filter test xs) ≤ length xs
 few_filtered test [] = omega arith
-few_filtered {A} test (x ∷ xs) = step (test x) (few_filtered test xs)
-  where
-    step : (t : Bool) → length (filter test xs) ≤ length xs →
-        length (cond t (x ∷ filter test xs) (filter test xs)) ≤ suc (length xs)
-    step true le = omega (arith, le)
-    step false le = omega (arith, le)
+few_filtered {A} test (x ∷ xs) = grind (arith, nat_tests, few_filtered test xs)
 
 -- bytes behind bytes
 pub two_put : (old one two a b : List ℕ) → one ≡ old ++ a → two ≡ one ++ b → two ≡ old ++ (a ++ b)

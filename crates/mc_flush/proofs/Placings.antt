@@ -1,5 +1,6 @@
 -- The packet that says a player's place. Each number that a spot holds has a pattern.
 use Rattle.std.proofs.Common.{◌≡◌, ℕ, ◌^◌, ◌<◌, refl, subst, ◌∙◌, arith}
+use Rattle.std.proofs.lemmas.Bool.Decides.{nat_tests}
 use Rattle.std.specs.Prelude.{unsigned_abs}
 use Rattle.std.specs.Int.{w32}
 use Rattle.std.proofs.lemmas.Int.{ints, to_z-of_z}
@@ -23,11 +24,7 @@ small (negsuc n) fits = let f = fits.sfits in omega (arith, ints, f)
 pub pattern_at : (n : ℤ) (p : ℕ) → SFits w32 n → p < 2 ^ 64 → (to_z w32 (of_z w32 n) ≡ pos 0 →
     p ≡ 0)
     → Represents (to_z w32 (of_z w32 n)) p → p ≡ pattern_of n
-pattern_at n p range fits none stands =
-    let same : to_z w32 (of_z w32 n) ≡ n = to_z-of_z w32 n range in
-    let few = small n range in
-    pattern_one n p (omega (arith, few)) fits (λ e. none (same ∙ e))
-    (subst (λ (m : ℤ). Represents m p) same stands)
+pattern_at n p range fits none stands = grind (arith, nat_tests, to_z-of_z, small, pattern_one)
 
 -- the numbers of a spot, as its fields hold them
 pub record IsHeld (spot : Spot) : Type 0 where
@@ -39,11 +36,7 @@ pub record IsHeld (spot : Spot) : Type 0 where
 
 -- each place can be sent
 pub placing_clear : (spot : Spot) → IsHeld spot → IsClear (placing spot)
-placing_clear spot at =
-    place_clear (pattern_of spot.x) (pattern_of spot.y) (pattern_of spot.z) (degrees_of spot.yaw)
-    (degrees_of spot.pitch) (pattern_fits spot.x (small spot.x at.x))
-    (pattern_fits spot.y (small spot.y at.y)) (pattern_fits spot.z (small spot.z at.z))
-    (degrees_fit spot.yaw at.yaw) (degrees_fit spot.pitch at.pitch)
+placing_clear spot at = grind (arith, nat_tests, place_clear, pattern_fits, small, degrees_fit)
 
 pub placing_is : (spot : Spot) (x y z yaw pitch : ℕ) → x ≡ pattern_of spot.x →
     y ≡ pattern_of spot.y → z ≡ pattern_of spot.z → yaw ≡ degrees_of spot.yaw →

@@ -1,6 +1,7 @@
 -- Keys that strictly rise, and the columns of a view, which do.
 use Rattle.std.proofs.Common.{◌≡◌, ℕ, zero, suc, ◌+◌, ◌*◌, ◌<◌, Bool, true, ◌&&◌, T, List, [], ◌∷◌}
 use Rattle.std.proofs.Common.{◌++◌, map, refl, sym, subst, ap, ◌∙◌, arith}
+use Rattle.std.proofs.lemmas.Bool.Decides.{nat_tests}
 use Rattle.std.specs.List.{flat_map, range_with_len}
 use Rattle.std.specs.declared.cmp.Ordering.{Ordering}
 use Rattle.std.specs.declared.cmp.Ordering.TheVariants.{Less, Equal, Greater}
@@ -44,27 +45,10 @@ module _ {K : Type 0} (R : K → K → Ordering) where
 -- ---- runs of numbers
 
 pub less : (x y : ℤ) → x <ℤ y → T (is_lt (int_cmp x y))
-less x y lt = step (int_cmp x y) refl
-  where
-    step : (r : Ordering) → int_cmp x y ≡ r → T (is_lt r)
-    step Less is = tt
-    step Equal is = let same : x ≡ y = int_ranked x y Equal (sym is) in absurd (omega (
-      arith,
-      ints,
-      same,
-      lt,
-    ))
-    step Greater is = let above : y <ℤ x = int_ranked x y Greater (sym is) in absurd (omega (
-      arith,
-      ints,
-      above,
-      lt,
-    ))
+less x y lt = grind (arith, nat_tests)
 
 is_less : (r : Ordering) → T (is_lt r) → r ≡ Less
-is_less Less h = refl
-is_less Equal h = absurd h
-is_less Greater h = absurd h
+is_less r h = grind (arith, nat_tests)
 
 farther : (first : ℤ) (a b : ℕ) → a < b → (first +ℤ pos a) <ℤ (first +ℤ pos b)
 farther first a b lt = omega (arith, ints, lt)
@@ -72,8 +56,7 @@ farther first a b lt = omega (arith, ints, lt)
 run_below : (first : ℤ) (a b n : ℕ) → a < b → T (below_keys int_cmp (first +ℤ pos a) (map (λ i.
     first +ℤ pos i) (range_with_len b n)))
 run_below first a b zero lt = tt
-run_below first a b (suc n) lt = both _ _ (less (first +ℤ pos a) (first +ℤ pos b) (farther first a b
-    lt)) (run_below first a (b + 1) n (omega (arith, lt)))
+run_below first a b (suc n) lt = grind (arith, nat_tests, run_below first a (b + 1) n)
 
 run_rising : (first : ℤ) (a n : ℕ) → T (rising int_cmp (map (λ i. first +ℤ pos i) (range_with_len a
     n)))
@@ -86,8 +69,7 @@ run_rising first a (suc n) = both _ _ (run_below first a (a + 1) n (omega arith)
 row_before : (x y z : ℤ) (zs : List ℤ) → T (is_lt (int_cmp x y)) →
     T (below_keys place_cmp (x, z) (map (λ w. (y, w)) zs))
 row_before x y z [] lt = tt
-row_before x y z (w ∷ zs) lt = both _ _ (subst (λ r. T (is_lt (ordering_then r (int_cmp z w)))) (sym
-    (is_less (int_cmp x y) lt)) tt) (row_before x y z zs lt)
+row_before x y z (w ∷ zs) lt = grind (arith, nat_tests, row_before x y z zs lt)
 
 rows_before : (x z : ℤ) (xs zs : List ℤ) → T (below_keys int_cmp x xs) →
     T (below_keys place_cmp (x, z) (flat_map (λ y. map (λ w. (y, w)) zs) xs))
@@ -99,8 +81,7 @@ rows_before x z (y ∷ xs) zs h = below_joined place_cmp (x, z) (map (λ w. (y, 
 in_row_below : (x z : ℤ) (zs : List ℤ) → T (below_keys int_cmp z zs) →
     T (below_keys place_cmp (x, z) (map (λ w. (x, w)) zs))
 in_row_below x z [] h = tt
-in_row_below x z (w ∷ zs) h = both _ _ (subst (λ r. T (is_lt (ordering_then r (int_cmp z w)))) (sym
-    (tied_itself int_cmp_total x)) (first _ _ h)) (in_row_below x z zs (second _ _ h))
+in_row_below x z (w ∷ zs) h = grind (arith, nat_tests, in_row_below x z zs)
 
 -- a row before places that are after all of it
 row_then : (x : ℤ) (zs : List ℤ) (rest : List Place) → T (rising int_cmp zs) → ((z : ℤ) →
@@ -115,8 +96,7 @@ rows_rising : (xs zs : List ℤ) → T (rising int_cmp xs) → T (rising int_cmp
     T (rising place_cmp (flat_map (λ x. map (λ z. (x, z)) zs) xs))
 rows_rising [] zs ups up = tt
 rows_rising (x ∷ xs) zs ups up =
-    row_then x zs (flat_map (λ x. map (λ z. (x, z)) zs) xs) up (λ z. rows_before x z xs zs (first _
-    _ ups)) (rows_rising xs zs (second _ _ ups) up)
+    grind (arith, nat_tests, rows_rising xs zs, row_then, rows_before, first, second)
 
 -- the columns of a view rise
 pub view_rising : (middle : Place) (d : ℕ) → T (rising place_cmp (view_of middle d))

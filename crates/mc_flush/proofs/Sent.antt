@@ -1,6 +1,7 @@
 -- What is appended of a tick, part after part, and what its looks at cells cost.
 use Rattle.std.proofs.Common.{◌≡◌, ℕ, ◌+◌, Bool, true, false, cond, List, [], ◌∷◌, ◌++◌}
 use Rattle.std.proofs.Common.{zero-add, refl, sym, ap, ◌∙◌, arith, append_assoc}
+use Rattle.std.proofs.lemmas.Bool.Decides.{nat_tests}
 use Rattle.std.specs.List.{sum_by}
 use Rattle.std.proofs.lemmas.List.{append-nil}
 use Rattle.std.proofs.lemmas.List.Sums.{sum_by-append}
@@ -29,16 +30,7 @@ pub changed_next : (land : LandValue) (mark : MarkValue) (x : Place) (rest : Lis
     play_bytes (changed_packets land (shown_among mark (x ∷ rest)))
     ≡ play_bytes (changed_packets land (shown_among mark (x ∷ [])))
     ++ play_bytes (changed_packets land (shown_among mark rest))
-changed_next land mark x rest = elim (is_within mark.view x) as (λ b.
-    play_bytes (changed_packets land (cond b (x ∷ shown_among mark rest) (shown_among mark rest)))
-    ≡ play_bytes (changed_packets land (cond b (x ∷ []) []))
-    ++ play_bytes (changed_packets land (shown_among mark rest))) [
-      | true ↦ play_bytes-append (place_packets land x) (changed_packets land (shown_among mark rest))
-          ∙ ap (λ (ds : List Down). play_bytes ds
-          ++ play_bytes (changed_packets land (shown_among mark rest)))
-          (sym (append-nil (place_packets land x)))
-      | false ↦ refl
-    ]
+changed_next land mark x rest = grind (arith, nat_tests, play_bytes-append, append-nil)
 
 -- and what the looks at them cost
 pub cost_next : (encoded : EncodedValue) (land : LandValue) (mark : MarkValue) (x : Place)
@@ -46,24 +38,17 @@ pub cost_next : (encoded : EncodedValue) (land : LandValue) (mark : MarkValue) (
     changes_cost encoded land (shown_among mark (x ∷ rest))
     ≡ changes_cost encoded land (shown_among mark (x ∷ []))
     + changes_cost encoded land (shown_among mark rest)
-cost_next encoded land mark x rest = elim (is_within mark.view x) as (λ b.
-    changes_cost encoded land (cond b (x ∷ shown_among mark rest) (shown_among mark rest))
-    ≡ changes_cost encoded land (cond b (x ∷ []) [])
-    + changes_cost encoded land (shown_among mark rest)) [
-      | true ↦ let one : sum_by (change_cost encoded land) (x ∷ shown_among mark rest)
-          ≡ sum_by (change_cost encoded land) (x ∷ [])
-          + sum_by (change_cost encoded land) (shown_among mark rest) =
-          sum_by-append (change_cost encoded land) (x ∷ []) (shown_among mark rest) in one
-      | false ↦ sym (zero-add (changes_cost encoded land (shown_among mark rest)))
-    ]
+cost_next encoded land mark x rest = grind (
+  arith,
+  nat_tests,
+  sum_by-append (change_cost encoded land) (x ∷ []) (shown_among mark rest),
+)
 
 -- one column that was shown
 pub changed_one : (land : LandValue) (mark : MarkValue) (x : Place) (piece : List ℕ) →
     is_within mark.view x ≡ true → piece ≡ change_bytes land x →
     piece ≡ play_bytes (changed_packets land (shown_among mark (x ∷ [])))
-changed_one land mark x piece t is = is
-    ∙ ap play_bytes (sym (append-nil (place_packets land x)))
-    ∙ ap (λ (b : Bool). play_bytes (changed_packets land (cond b (x ∷ []) []))) (sym t)
+changed_one land mark x piece t is = grind (arith, nat_tests)
 
 -- and what it costs
 pub cost_one : (encoded : EncodedValue) (land : LandValue) (mark : MarkValue) (x : Place) →

@@ -3,6 +3,7 @@ use Rattle.std.proofs.Common.{◌≡◌, ℕ, ◌+◌, Bool, true, false, cond, 
 use Rattle.std.proofs.Common.{map, Option, Some, None, refl, sym, subst, ap, ◌∙◌, append_assoc}
 use Rattle.std.proofs.Common.{arith}
 use Rattle.std.proofs.Common.{inl, inr}
+use Rattle.std.proofs.lemmas.Bool.Decides.{nat_tests}
 use Rattle.std.specs.Prelude.{drop, is_some, option_map, slice_get}
 use Rattle.std.specs.List.{AllByRecursion, filter, fold}
 use Rattle.std.specs.declared.cmp.Ordering.{Ordering}
@@ -62,32 +63,17 @@ numbered_shown : (view : ViewSet) (q low high : ℤ) (es : List Entity) → Rise
     is_some (find int_cmp q (map told_row (rows_in view es)))
     ≡ shown_of view (numbered eid_of q es)
 numbered_shown view q low high [] r = refl
-numbered_shown view q low high (e ∷ es) r =
-    let later = map told_row (rows_in view es) in
-    elim (row_in view e) as (λ o. row_in view e ≡ o →
-    is_some (find int_cmp q (map told_row (rows_as o ++ rows_in view es)))
-    ≡ shown_of view (cond (int_eq e.eid q) (Some e) (numbered eid_of q es))) [
-      | None ↦ λ none. elim (int_eq e.eid q) as (λ b. int_eq e.eid q ≡ b →
-          is_some (find int_cmp q later) ≡ shown_of view (cond b (Some e) (numbered eid_of q es))) [
-            | true ↦ λ t.
-                let same : e.eid ≡ q = int_cmp-IsAntisymmetric e.eid q (equal _ t) in
-                ap is_some (find_below int_cmp q later
-                (rows_above view q e.eid high es (omega (arith, ints, same)) r.1))
-                ∙ sym (ap is_some none)
-            | false ↦ λ f. numbered_shown view q e.eid high es r.1
-          ] refl
-      | Some row ↦ λ is.
-          let key : row.eid ≡ e.eid = row_eid view e row is in
-          let turned : eq_by_cmp int_cmp q row.eid ≡ int_eq e.eid q =
-          ap (eq_by_cmp int_cmp q) key ∙ int_eq_equiv.symm q e.eid in
-          ap (λ (b : Bool). is_some (cond b (Some (told_row row).1) (find int_cmp q later))) turned
-          ∙ elim (int_eq e.eid q) as (λ b.
-          is_some (cond b (Some (told_row row).1) (find int_cmp q later))
-          ≡ shown_of view (cond b (Some e) (numbered eid_of q es))) [
-            | true ↦ sym (ap is_some is)
-            | false ↦ numbered_shown view q e.eid high es r.1
-          ]
-    ] refl
+numbered_shown view q low high (e ∷ es) r = grind (
+  arith,
+  nat_tests,
+  numbered_shown view q e.eid high es r.1,
+  equal,
+  find_below,
+  rows_above,
+  ints,
+  row_eid,
+  int_eq_equiv,
+)
 
 -- an entity is shown where it is found by its number, and is in view and no mob
 shown_found : (view : ViewSet) (q high : ℤ) (es : List Entity) → Rise eid_of (pos 0) es high →
@@ -103,15 +89,12 @@ shown_found view q high es r =
 others_above : (me less low high : ℤ) (es : List Entity) → less ≤ℤ low →
     Rise eid_of low es high → Rise eid_of less (others me es) high
 others_above me less low high [] le r = omega (arith, ints, le, r)
-others_above me less low high (e ∷ es) le r =
-    elim (int_eq e.eid me) as
-    (λ b. Rise eid_of less (cond (not b) (e ∷ others me es) (others me es)) high) [
-      | true ↦ others_above me less e.eid high es (omega (arith, ints, le, r.0)) r.1
-      | false ↦ (
-        omega (arith, ints, le, r.0),
-        others_above me e.eid e.eid high es (omega (arith, ints)) r.1,
-      )
-    ]
+others_above me less low high (e ∷ es) le r = grind (
+  arith,
+  nat_tests,
+  others_above me less e.eid high es (omega (arith, ints, le, r.0)) r.1,
+  others_above me e.eid e.eid high es (omega (arith, ints)) r.1,
+)
 
 -- they rise where all do
 pub others_rise : (me high : ℤ) (es : List Entity) → Rise eid_of (pos 0) es high →
@@ -121,29 +104,13 @@ others_rise me high es r = others_above me (pos 0) (pos 0) high es (omega (arith
 -- the own is not found among the others
 others_own : (me : ℤ) (es : List Entity) → numbered eid_of me (others me es) ≡ None
 others_own me [] = refl
-others_own me (e ∷ es) = elim (int_eq e.eid me) as (λ b. int_eq e.eid me ≡ b →
-    numbered eid_of me (cond (not b) (e ∷ others me es) (others me es)) ≡ None) [
-      | true ↦ λ t. others_own me es
-      | false ↦ λ f. ap (λ (b : Bool). cond b (Some e) (numbered eid_of me (others me es))) f
-          ∙ others_own me es
-    ] refl
+others_own me (e ∷ es) = grind (arith, nat_tests, others_own me es)
 
 -- and any other is found as among all
 others_found : (me q : ℤ) (es : List Entity) → int_eq q me ≡ false →
     numbered eid_of q (others me es) ≡ numbered eid_of q es
 others_found me q [] apart = refl
-others_found me q (e ∷ es) apart =
-    let rest = others_found me q es apart in
-    elim (int_eq e.eid me) as (λ b. int_eq e.eid me ≡ b →
-    numbered eid_of q (cond (not b) (e ∷ others me es) (others me es))
-    ≡ cond (int_eq e.eid q) (Some e) (numbered eid_of q es)) [
-      | true ↦ λ t.
-          let same : e.eid ≡ me = int_cmp-IsAntisymmetric e.eid me (equal _ t) in
-          let other : int_eq e.eid q ≡ false =
-          ap (λ (k : ℤ). int_eq k q) same ∙ int_eq_equiv.symm me q ∙ apart in
-          rest ∙ ap (λ (b : Bool). cond b (Some e) (numbered eid_of q es)) (sym other)
-      | false ↦ λ f. ap (cond (int_eq e.eid q) (Some e)) rest
-    ] refl
+others_found me q (e ∷ es) apart = grind (arith, nat_tests, others_found me q es apart)
 
 -- the own is not shown
 pub shown_own : (view : ViewSet) (me high : ℤ) (es : List Entity) → Rise eid_of (pos 0) es high →
@@ -164,13 +131,7 @@ shown_other view me q high es r apart =
 rows_next : (view : ViewSet) (me : ℤ) (e : Entity) (es : List Entity) →
     rows_in view (others me (e ∷ es))
     ≡ rows_in view (others me (e ∷ [])) ++ rows_in view (others me es)
-rows_next view me e es = elim (int_eq e.eid me) as (λ b.
-    rows_in view (cond (not b) (e ∷ others me es) (others me es))
-    ≡ rows_in view (cond (not b) (e ∷ []) []) ++ rows_in view (others me es)) [
-      | true ↦ refl
-      | false ↦ ap (λ (rows : List Row). rows ++ rows_in view (others me es))
-          (sym (append-nil (rows_of view e)))
-    ]
+rows_next view me e es = grind (arith, nat_tests)
 
 -- ---- what is told afterwards
 
@@ -179,37 +140,23 @@ taken : (m : Told) (test : ℤ → Bool) (es : List Entry) →
     without_all m (filter test (map (λ (e : Entry). e.0) es))
     ≡ fold take_out m (filter (λ (e : Entry). test e.0) es)
 taken m test [] = refl
-taken m test (e ∷ es) =
-    elim (test e.0) as (λ b. without_all m
-    (cond b (e.0 ∷ filter test (map (λ (f : Entry). f.0) es))
-    (filter test (map (λ (f : Entry). f.0) es)))
-    ≡ fold take_out m (cond b (e ∷ filter (λ (f : Entry). test f.0) es)
-    (filter (λ (f : Entry). test f.0) es))) [
-      | true ↦ taken (take_out m e) test es
-      | false ↦ taken m test es
-    ]
+taken m test (e ∷ es) = grind (arith, nat_tests, taken (take_out m e) test es, taken m test es)
 
 -- what is gone is what was told and has no row now
 gone_is : (told : Told) (es : List Entity) (view : ViewSet) →
     without_all told (gone_from told es view)
     ≡ fold take_out told (filter (is_without (told_now es view)) (entries told))
-gone_is told es view =
-    taken told (λ (eid : ℤ). not (contains_key (shown_now es view) eid)) (entries told)
-    ∙ ap (fold take_out told) (same_filter
-    (λ (e : Entry). not (contains_key (shown_now es view) e.0)) (is_without (told_now es view))
-    (λ e. ap not (shown_known view es e.0)) (entries told))
+gone_is told es view = grind (arith, nat_tests, taken, same_filter, shown_known)
 
 -- what is left is as it was, where it is shown
 gone_get : (told : Told) (es : List Entity) (view : ViewSet) (q : ℤ) →
     get (without_all told (gone_from told es view)) q ≡ kept (get told q) (get (told_now es view) q)
-gone_get told es view q = ap (λ (t : Told). get t q) (gone_is told es view)
-    ∙ get_kept int_cmp_total int_cmp-IsAntisymmetric told (told_now es view) q
+gone_get told es view q = grind (arith, nat_tests, gone_is, get_kept, int_cmp_total)
 
 -- what is told now is the rows, entry by entry
 now_entries : (es : List Entity) (view : ViewSet) (high : ℤ) → Rise eid_of (pos 0) es high →
     entries (told_now es view) ≡ map told_row (rows_in view es)
-now_entries es view high r = entries_made int_cmp int_cmp_total int_cmp-IsAntisymmetric
-    (map told_row (rows_in view es)) (rows_rise view (pos 0) high es r)
+now_entries es view high r = grind (arith, nat_tests, entries_made, int_cmp_total, rows_rise)
 
 -- without those that are gone, and with the rows of all that are shown
 pub told_after : (told : Told) (es : List Entity) (view : ViewSet) (high : ℤ) →
@@ -263,9 +210,7 @@ frames_after told es view high r =
 
 -- what is less is not equal
 is_less : (o : Ordering) → T (is_lt o) → is_eq o ≡ false
-is_less Less h = refl
-is_less Equal h = absurd h
-is_less Greater h = absurd h
+is_less o h = grind (arith, nat_tests)
 
 -- a row does not change what was told of those above it
 above_same : (told : Told) (k : ℤ) (v : Spot × Pile) (rows : List Row) →
@@ -380,7 +325,4 @@ key_next ks i eid is =
 
 -- nothing is left where there is no next number
 pub drop_past : (ks : List ℤ) (i : ℕ) → slice_get ks i ≡ None → drop i ks ≡ []
-drop_past ks i none = elim (slice_get_cases ks i).1 as (λ _. drop i ks ≡ []) [
-  | inl found ↦ absurd (some_none found.0 (slice_get ks i) found.2 none)
-  | inr past ↦ drop_all i ks past.0
-]
+drop_past ks i none = grind (arith, nat_tests, slice_get_cases, some_none, drop_all)

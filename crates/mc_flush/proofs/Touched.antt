@@ -1,6 +1,7 @@
 -- The cells of a column by their indices, and the packets of some of them.
 use Rattle.std.proofs.Common.{◌≡◌, ℕ, ◌<◌, ◌≤◌, List, [], ◌∷◌, ◌++◌, map}
 use Rattle.std.proofs.Common.{length, refl, sym, ap, ◌∙◌, arith, append_assoc}
+use Rattle.std.proofs.lemmas.Bool.Decides.{nat_tests}
 use Rattle.std.specs.Prelude.{nat_lt, slice_index, true, unsigned_abs, if◌then◌else◌}
 use Rattle.std.specs.List.{AllByRecursion}
 use Rattle.std.proofs.lemmas.Bool.{lt-ltb}
@@ -35,13 +36,7 @@ pub state_is : (land : LandValue) (place : Place) (i state : ℕ) (cell : Cell) 
     cell ≡ cell_at place i → state ≡ block land cell.x cell.y cell.z →
     state ≡ slice_index (states_at land place) i
 state_is land place i state cell less at is =
-    let f : ℕ → ℕ = λ j. state_at land.terrain land.edits (place, j) in
-    let low : nat_lt (y_of (place, i)) 256 ≡ true = lt-ltb _ _ (omega (arith, less)) in
-    is ∙ ap (λ (c : Cell). block land c.x c.y c.z) at
-    ∙ ap (λ b. if b then state_at land.terrain land.edits
-    (key_of (x_of (place, i)) (y_of (place, i)) (z_of (place, i))) else 0) low
-    ∙ ap (state_at land.terrain land.edits) (key_back place i less)
-    ∙ sym (get_or-map-range_with_len f 0 cells i i 0 (omega (arith, less, cells-is)) (omega arith))
+    grind (arith, nat_tests, lt-ltb, key_back, get_or-map-range_with_len, cells-is)
 
 pub is_cell : (states : List ℕ) (i state : ℕ) → i < 65536 → state < 65536 →
     state ≡ slice_index states i → IsCell states i
@@ -50,14 +45,7 @@ is_cell states i state less small is = record { index = less; state = omega (ari
 -- ---- packets of some
 
 near_place : (place : Place) → IsPlace place → IsNear place
-near_place place at = record {
-  x = size place.0 at.cx_low at.cx_high;
-  z = size place.1 at.cz_low at.cz_high;
-}
-  where
-    size : (z : ℤ) → negsuc 1875009 ≤ℤ z → z ≤ℤ pos 1875010 → unsigned_abs z ≤ 1875010
-    size (pos n) low high = omega (arith, ints, high)
-    size (negsuc n) low high = omega (arith, ints, low)
+near_place place at = grind (arith, nat_tests)
 
 fit_cells : (states is : List ℕ) → AreCells states is → AllByRecursion (CellFits states) is
 fit_cells states [] f = tt
@@ -72,9 +60,7 @@ touched_clear place states is at few f =
 -- of several there is one packet
 pub several_packets : (place : Place) (states is : List ℕ) → 2 ≤ length is →
     cell_packets place states is ≡ MultiChange place.0 place.1 (map (cell_record states) is) ∷ []
-several_packets place states [] two = absurd (omega (arith, two))
-several_packets place states (i ∷ []) two = absurd (omega (arith, two))
-several_packets place states (i ∷ j ∷ later) two = refl
+several_packets place states is two = grind (arith, nat_tests)
 
 -- ---- the records of several
 
@@ -90,15 +76,10 @@ record_next f now new left rest t r total is made put all =
 -- a state as a packet's number
 pub number_state : (z : ℤ) (state is : ℕ) → state < 65536 → z ≡ pos state → state ≡ is →
     to_z w32 (of_z w32 z) ≡ pos is
-number_state z state is small e same =
-    ap (λ (y : ℤ). to_z w32 (of_z w32 y)) (e ∙ ap pos same)
-    ∙ to_z-of_z w32 (pos is) (record { sfits = omega (arith, small, same) })
+number_state z state is small e same = grind (arith, nat_tests, to_z-of_z)
 
 -- ---- those that changed
 
 -- they are not too many
 pub dirty_few : (land : LandValue) (place : Place) → length (dirty_in land place) ≤ 65536
-dirty_few land place =
-    let was = states_of land.terrain land.settled place in
-    let now = states_at land place in
-    omega (arith, differing_few was now, length-map (differing was now) (touched_cell was))
+dirty_few land place = grind (arith, nat_tests, differing_few, length-map)

@@ -2,6 +2,7 @@
 use Rattle.std.proofs.Common.{◌≡◌, ℕ, ◌<◌, true, false, cond, List, [], ◌∷◌, ◌++◌, length, map}
 use Rattle.std.proofs.Common.{get_or, Option, Some, None, refl, sym, subst, ap, ◌∙◌, arith, inl}
 use Rattle.std.proofs.Common.{inr, ◌||◌}
+use Rattle.std.proofs.lemmas.Bool.Decides.{nat_tests}
 use Rattle.std.specs.declared.cmp.Ordering.{Ordering}
 use Rattle.std.specs.declared.cmp.Ordering.TheVariants.{Less, Equal, Greater}
 use Rattle.std.specs.Ordering.{is_eq, eq_by_cmp}
@@ -41,13 +42,11 @@ placed_settled (x ∷ xs) = ap (λ (t : Columns). (x.place, settled_ready x) ∷
 
 present_stays : (columns : Columns) → present_states (settle_each columns) ≡ present_states columns
 present_stays [] = refl
-present_stays (e ∷ es) = ap (λ (t : List (Place × List ℕ)). (e.0, e.1.present.states) ∷
-    t) (present_stays es)
+present_stays (e ∷ es) = grind (arith, nat_tests, present_stays es)
 
 settled_is : (columns : Columns) → settled_states (settle_each columns) ≡ present_states columns
 settled_is [] = refl
-settled_is (e ∷ es) = ap (λ (t : List (Place × List ℕ)). (e.0, e.1.present.states) ∷
-    t) (settled_is es)
+settled_is (e ∷ es) = grind (arith, nat_tests, settled_is es)
 
 places_stay : (columns : Columns) → map (λ e. e.0) (settle_each columns) ≡ map (λ e. e.0) columns
 places_stay [] = refl
@@ -55,11 +54,8 @@ places_stay (e ∷ es) = ap (λ (t : List Place). e.0 ∷ t) (places_stay es)
 
 land_settled : (terrain : Terrain) (columns : Columns) (chests : Chests) →
     kept_land terrain (settle_each columns) chests ≡ settled_land (kept_land terrain columns chests)
-land_settled terrain columns chests = rw (
-  present_stays columns,
-  settled_is columns,
-  places_stay columns,
-) refl
+land_settled terrain columns chests =
+    grind (arith, nat_tests, present_stays, settled_is, places_stay)
 
 kept_settled : (terrain : Terrain) (columns : Columns) (chests : Chests) →
     IsKeptLand terrain columns chests → IsKeptLand terrain (settle_each columns) chests
@@ -111,8 +107,7 @@ indexed_settled columns index is = record {
 pub settle_land : (terrain : Terrain) (columns new : List ReadyValue) (chests : Chests) →
     new ≡ map settled_ready columns → kept_land terrain (placed new) chests ≡
     settled_land (kept_land terrain (placed columns) chests)
-settle_land terrain columns new chests is =
-    rw (is, placed_settled columns) (land_settled terrain (placed columns) chests)
+settle_land terrain columns new chests is = grind (arith, nat_tests, placed_settled, land_settled)
 
 pub settle_keeps : (terrain : Terrain) (columns new : List ReadyValue) (index : List (Place × ℕ))
     (chests : Chests) → new ≡ map settled_ready columns →
@@ -195,15 +190,7 @@ puts_push : (look : ReadyValue → List ℕ) (columns : Columns) (place : Place)
     find place_cmp place columns ≡ None →
     Puts (map (λ e. (e.0, look e.1)) columns) (map (λ e. (e.0, look e.1)) (columns ++
     (place, ready) ∷ [])) place (look ready)
-puts_push look columns place ready none q =
-    find_map look q (columns ++ (place, ready) ∷ [])
-    ∙ ap (option_map look) (find_push columns place ready q none)
-    ∙ elim (eq_by_cmp place_cmp q place) as
-    (λ b. option_map look (cond b (Some ready) (find place_cmp q columns)) ≡
-    cond b (Some (look ready)) (find place_cmp q (map (λ e. (e.0, look e.1)) columns))) [
-      | true ↦ refl
-      | false ↦ sym (find_map look q columns)
-    ]
+puts_push look columns place ready none q = grind (arith, nat_tests, find_map, find_push)
 
 -- it has the terrain's own states, so no cell changes
 edits_push : (look : ReadyValue → List ℕ) (terrain : Terrain) (columns : Columns) (place : Place)
@@ -228,14 +215,7 @@ pub fresh_new : (terrain : Terrain) (place : Place) (column : ColumnValue) (read
     IsPlace place → column ≡ own_column terrain place →
     ready ≡ record { place = place; terrain = terrain; present = column; settled = column } →
     IsFresh terrain place ready
-fresh_new terrain place column ready inside own is =
-    rw is (record {
-      inside = inside;
-      at = refl;
-      terrain_is = refl;
-      present_own = own;
-      settled_own = own;
-    })
+fresh_new terrain place column ready inside own is = grind (arith, nat_tests)
 
 pub push_land : (terrain : Terrain) (columns new : List ReadyValue) (chests : Chests)
     (place : Place) (ready : ReadyValue) → new ≡ columns ++ ready ∷ [] →
@@ -258,11 +238,7 @@ push_land terrain columns new chests place ready is fresh kept none =
     refl
 
 pub own_sizes : (terrain : Terrain) (place : Place) → HasSizes (own_column terrain place)
-own_sizes terrain place =
-    record {
-      states_are = length-map-range_with_len (λ i. terrain_at terrain (place, i)) 0 cells;
-      biomes_are = length-map-range_with_len _ 0 squares;
-    }
+own_sizes terrain place = grind (arith, nat_tests, length-map-range_with_len)
 
 pub push_keeps : (terrain : Terrain) (columns new : List ReadyValue) (chests : Chests)
     (place : Place) (ready : ReadyValue) → new ≡ columns ++ ready ∷ [] →

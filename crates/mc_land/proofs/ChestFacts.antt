@@ -2,6 +2,7 @@
 use Rattle.std.proofs.Common.{◌≡◌, ◌↔◌, ℕ, ◌<◌, Bool, true, false, cond, ◌||◌, List, [], ◌∷◌, map}
 use Rattle.std.proofs.Common.{Option, Some, None, IsSome, IsNone, Bor, MutBor, refl, sym, ap, ◌∙◌}
 use Rattle.std.proofs.Common.{arith, inl, inr}
+use Rattle.std.proofs.lemmas.Bool.Decides.{nat_tests}
 use Rattle.std.proofs.lemmas.Int.{ints}
 use Rattle.std.specs.declared.cmp.Ordering.{Ordering}
 use Rattle.std.specs.declared.cmp.Ordering.TheVariants.{Less, Equal, Greater}
@@ -50,38 +51,26 @@ pub chest_there : (land : LandValue) (x y z : ℤ) (key : Key) → pos 0 ≤ℤ 
     is_chest (state_at land.terrain land.edits key)) → is_some (chest_in land x y z) ≡
     is_chest (block land x y z)
 chest_there land x (pos y) z key low high is there =
-    let lt : y < 256 = omega (arith, ints, high) in
-    let same : key ≡ key_of x y z = is y refl in
-    let here = rw same at there in
-    rw (lt-ltb y 256 lt) (here (key_within x z y lt))
+    grind (arith, nat_tests, ints, lt-ltb y 256, key_within x z y)
 chest_there land x (negsuc y) z key low high is there = absurd (omega (arith, ints, low))
 
 -- what is at a cell is what is at its key
 pub chest_in_is : (land : LandValue) (x y z : ℤ) (key : Key) → pos 0 ≤ℤ y → y <ℤ pos 256 →
     ((h : ℕ) → y ≡ pos h → key ≡ key_of x h z) → chest_in land x y z ≡ get land.chests key
-chest_in_is land x (pos y) z key low high is =
-    let lt : y < 256 = omega (arith, ints, high) in
-    rw (lt-ltb y 256 lt) (ap (get land.chests) (sym (is y refl)))
-chest_in_is land x (negsuc y) z key low high is = absurd (omega (arith, ints, low))
+chest_in_is land x y z key low high is = grind (arith, nat_tests)
 
 pub chest_put_is : (land : LandValue) (x y z : ℤ) (key : Key) (piles : List Pile) → pos 0 ≤ℤ y →
     y <ℤ pos 256 → ((h : ℕ) → y ≡ pos h → key ≡ key_of x h z) → with_chest land key piles ≡
     chest_put land x y z piles
-chest_put_is land x (pos y) z key piles low high is = ap (λ (k : Key). with_chest land k piles)
-    (is y refl)
-chest_put_is land x (negsuc y) z key piles low high is = absurd (omega (arith, ints, low))
+chest_put_is land x y z key piles low high is = grind (arith, nat_tests)
 
 pub none_there : (o : Option (Bor (List Pile))) (c : Option (List Pile)) (b : Bool) →
     option_copied o ≡ c → is_some c ≡ b → IsNone o ↔ (b ≡ false)
-none_there o c b e f =
-    let same : is_some o ≡ b = sym (copied o) ∙ ap is_some e ∙ f in
-    (λ n. sym same ∙ n, λ n. same ∙ n)
+none_there o c b e f = grind (arith, nat_tests)
 
 pub none_there_mut : (o : Option (MutBor (List Pile))) (c : Option (List Pile)) (b : Bool) →
     option_copied_mut o ≡ c → is_some c ≡ b → IsNone o ↔ (b ≡ false)
-none_there_mut o c b e f =
-    let same : is_some o ≡ b = sym (copied_mut o) ∙ ap is_some e ∙ f in
-    (λ n. sym same ∙ n, λ n. same ∙ n)
+none_there_mut o c b e f = grind (arith, nat_tests)
 
 -- ---- what is written
 
@@ -110,9 +99,7 @@ kept_piles terrain columns old new kept same = record {
 }
 
 tie_back : (o : Ordering) → is_eq (ordering_reverse o) ≡ is_eq o
-tie_back Less = refl
-tie_back Equal = refl
-tie_back Greater = refl
+tie_back o = grind (arith, nat_tests)
 
 -- the chests with other piles in one of them
 pub put_piles : (old new : Chests) (key : Key) (piles : List Pile) →
@@ -132,9 +119,7 @@ pub put_view : (terrain : Terrain) (columns : Columns) (old new : Chests) (key :
     (piles : List Pile) → ((q : Key) → lookup (λ k. is_eq (key_cmp q k)) new ≡
     cond (is_eq (key_cmp key q)) (Some piles) (lookup (λ k. is_eq (key_cmp q k)) old)) →
     kept_land terrain columns new ≡ with_chest (kept_land terrain columns old) key piles
-put_view terrain columns old new key piles given =
-    ap (λ (m : FinMap key_cmp (List Pile)). record (kept_land terrain columns old) { chests = m })
-    (put_piles old new key piles given)
+put_view terrain columns old new key piles given = grind (arith, nat_tests, put_piles)
 
 -- where one is lent, there is one
 pub lent_is : (o : Option (MutBor (List Pile))) (c : Option (List Pile)) → option_copied_mut o ≡ c →

@@ -2,6 +2,7 @@
 use Rattle.std.proofs.Common.{◌≡◌, nat_lt, ◌&&◌, ℕ, zero, suc, ◌+◌, ◌<◌, ◌≤◌, Bool, true, false}
 use Rattle.std.proofs.Common.{cond, List, [], ◌∷◌, ◌++◌, map, get_or, Option, Some, None, refl, sym}
 use Rattle.std.proofs.Common.{ap, ◌∙◌, arith, inl, inr}
+use Rattle.std.proofs.lemmas.Bool.Decides.{nat_tests}
 use Rattle.std.specs.declared.cmp.Ordering.TheVariants.{Less, Equal, Greater}
 use Rattle.std.specs.Ordering.{nat_cmp, is_eq, eq_by_cmp, ordering_then}
 use Rattle.std.specs.Cmp.{tied_itself, nat_cmp_total}
@@ -37,12 +38,7 @@ same_column c i j = ap (λ o. is_eq (ordering_then o (nat_cmp i j))) (tied_itsel
 
 pub other_column : (c d : Place) (i j : ℕ) → eq_by_cmp place_cmp c d ≡ false →
     eq_by_cmp key_cmp (c, i) (d, j) ≡ false
-other_column c d i j = elim (place_cmp c d) as (λ o. is_eq o ≡ false →
-    is_eq (ordering_then o (nat_cmp i j)) ≡ false) [
-      | Less ↦ λ e. refl
-      | Equal ↦ λ e. absurd cc
-      | Greater ↦ λ e. refl
-    ]
+other_column c d i j = grind (arith, nat_tests)
 
 -- entries of a column at some of the indices from a on
 abbrev pub listed : Place → (ℕ → Bool) → (ℕ → ℕ) → List ℕ → List (Key × ℕ)
@@ -53,21 +49,13 @@ pub found_elsewhere : (c d : Place) (test : ℕ → Bool) (state : ℕ → ℕ) 
     eq_by_cmp place_cmp c d ≡ false → find key_cmp (c, i) (listed d test state indices) ≡ None
 found_elsewhere c d test state i [] apart = refl
 found_elsewhere c d test state i (j ∷ js) apart =
-    elim (test j) as (λ b. find key_cmp (c, i) (map (λ k. ((d, k), state k))
-    (cond b (j ∷ filter test js) (filter test js))) ≡ None) [
-      | true ↦ rw (other_column c d i j apart) (found_elsewhere c d test state i js apart)
-      | false ↦ found_elsewhere c d test state i js apart
-    ]
+    grind (arith, nat_tests, found_elsewhere c d test state i js apart)
 
 pub nat_cmp_same : (i : ℕ) → is_eq (nat_cmp i i) ≡ true
 nat_cmp_same i = ap is_eq (tied_itself nat_cmp_total i)
 
 pub nat_cmp_other : (i j : ℕ) → (i ≡ j → ⊥) → is_eq (nat_cmp i j) ≡ false
-nat_cmp_other i j ne = elim (nat_cmp i j) as (λ o. nat_cmp i j ≡ o → is_eq o ≡ false) [
-  | Less ↦ λ e. refl
-  | Equal ↦ λ e. absurd (ne (exact_unsigned i j e))
-  | Greater ↦ λ e. refl
-] refl
+nat_cmp_other i j ne = grind (arith, nat_tests)
 
 -- of a column none is found where the index is not listed, or does not pass
 pub found_none : (c : Place) (test : ℕ → Bool) (state : ℕ → ℕ) (i a n : ℕ) →
@@ -75,39 +63,14 @@ pub found_none : (c : Place) (test : ℕ → Bool) (state : ℕ → ℕ) (i a n 
     find key_cmp (c, i) (listed c test state (range_with_len a n)) ≡ None
 found_none c test state i a zero fails = refl
 found_none c test state i a (suc n) fails =
-    let rest : find key_cmp (c, i) (listed c test state (range_with_len (a + 1) n)) ≡ None =
-    found_none c test state i (a + 1) n (λ le lt. fails (omega arith) (omega arith)) in
-    elim (test a) as (λ b. test a ≡ b →
-    find key_cmp (c, i) (map (λ k. ((c, k), state k))
-    (cond b (a ∷ filter test (range_with_len (a + 1) n))
-    (filter test (range_with_len (a + 1) n)))) ≡ None) [
-      | true ↦ λ passes. elim (cases_eq i a) [
-        | inl e ↦ let here : test i ≡ false = fails (omega arith) (omega arith) in let p : true ≡
-            false = sym passes ∙ ap test (sym e) ∙ here in absurd cc
-        | inr ne ↦ rw (same_column c i a, nat_cmp_other i a ne) rest
-      ]
-      | false ↦ λ fail. rest
-    ] refl
+    grind (arith, nat_tests, found_none c test state i (a + 1) n)
 
 -- and its state is found where it is listed and passes
 pub found_one : (c : Place) (test : ℕ → Bool) (state : ℕ → ℕ) (i a n : ℕ) → a ≤ i → i < a + n →
     test i ≡ true → find key_cmp (c, i) (listed c test state (range_with_len a n)) ≡ Some (state i)
 found_one c test state i a zero le lt passes = absurd (omega arith)
 found_one c test state i a (suc n) le lt passes =
-    elim (cases_eq i a) [
-      | inl e ↦ let here : test a ≡ true = ap test (sym e) ∙ passes in
-          rw (here, same_column c i a, sym e, nat_cmp_same i) refl
-      | inr ne ↦
-          let rest : find key_cmp (c, i) (listed c test state (range_with_len (a + 1) n)) ≡
-          Some (state i) = found_one c test state i (a + 1) n (omega arith) (omega arith) passes
-          in
-          elim (test a) as (λ b. find key_cmp (c, i) (map (λ k. ((c, k), state k))
-          (cond b (a ∷ filter test (range_with_len (a + 1) n))
-          (filter test (range_with_len (a + 1) n)))) ≡ Some (state i)) [
-            | true ↦ rw (same_column c i a, nat_cmp_other i a ne) rest
-            | false ↦ rest
-          ]
-    ]
+    grind (arith, nat_tests, found_one c test state i (a + 1) n)
 
 -- ---- all columns
 

@@ -3,6 +3,7 @@ use Rattle.std.proofs.Common.{◌≡◌, ℕ, zero, suc, ◌+◌, ◌*◌, ◌-�
 use Rattle.std.proofs.Common.{nat_le, eqb, Bool, true, false, cond, List, [], ◌∷◌, ◌++◌, length}
 use Rattle.std.proofs.Common.{map, get_or, take, drop, replicate, refl, sym, subst, ap, ◌∙◌, arith}
 use Rattle.std.proofs.Common.{inl, inr}
+use Rattle.std.proofs.lemmas.Bool.Decides.{nat_tests}
 use Rattle.std.proofs.lemmas.Int.{ints}
 use Rattle.std.proofs.lemmas.List.{ext_get_or, map-append, length-append, length-take, length-drop}
 use Rattle.std.proofs.lemmas.List.{length-replicate, get_or-take, get_or-drop, get_or_append_left}
@@ -42,32 +43,21 @@ listed_by f n xs len each =
 
 layer_same : (old new : List ℕ) (f g : ℕ → ℕ) → AppendsLayer old new f →
     ((i : ℕ) → i < squares → f i ≡ g i) → AppendsLayer old new g
-layer_same old new f g layer same = record {
-  len = layer.len;
-  kept = layer.kept;
-  layer = λ i lt. layer.layer i lt ∙ same i lt;
-}
+layer_same old new f g layer same = grind (arith, nat_tests)
 
 layer_y : (place : Place) (y i : ℕ) → i < squares → y_of (place, y * squares + i) ≡ y
-layer_y place y i lt = let small : i < 256 = omega (arith, squares-is) in
-    rw squares-is (omega arith)
+layer_y place y i lt = grind (arith, nat_tests, squares-is)
 
 layer_x : (place : Place) (y i : ℕ) → i < squares → x_of (place, y * squares + i) ≡ x_at place i
-layer_x place y i lt = let same : (y * squares + i) % 16 ≡ i % 16 = rw squares-is (omega arith) in
-    ap (λ (k : ℕ). place.0 *ℤ pos 16 +ℤ pos k) same
+layer_x place y i lt = grind (arith, nat_tests, squares-is)
 
 layer_z : (place : Place) (y i : ℕ) → i < squares → z_of (place, y * squares + i) ≡ z_at place i
-layer_z place y i lt =
-    let small : i < 256 = omega (arith, squares-is) in
-    let same : (y * squares + i) / 16 % 16 ≡ i / 16 = rw squares-is (omega arith) in
-    ap (λ (k : ℕ). place.1 *ℤ pos 16 +ℤ pos k) same
+layer_z place y i lt = grind (arith, nat_tests, squares-is)
 
 pub flat_layer : (place : Place) (y : ℕ) (old new : List ℕ) →
     AppendsLayer old new (λ _. flat_id y * 16) →
     AppendsLayer old new (λ i. terrain_at Flat (place, y * squares + i))
-flat_layer place y old new layer = layer_same old new (λ _. flat_id y * 16)
-    (λ i. terrain_at Flat (place, y * squares + i)) layer (λ i lt. ap (λ (h : ℕ). flat_id h * 16)
-    (sym (layer_y place y i lt)))
+flat_layer place y old new layer = grind (arith, nat_tests, layer_same old new, layer_y place y)
 
 pub hills_layer : (seed : ℕ) (place : Place) (y : ℕ) (tops old new : List ℕ) →
     AreTops (Hills seed) place tops → AppendsLayer old new (λ i. hills_id (get_or tops i 0) y * 16)
@@ -105,29 +95,19 @@ pub section_layer : (terrain : Terrain) (place : Place) (i y z : ℕ) (old new :
     z ≡ 16 * i + y → AppendsLayer old new (λ t. terrain_at terrain (place, z * squares + t)) →
     AppendsLayer old new (λ t. terrain_at terrain (place, i * section_cells + (y * squares + t)))
 section_layer terrain place i y z old new is layer =
-    layer_same old new (λ t. terrain_at terrain (place, z * squares + t))
-    (λ t. terrain_at terrain (place, i * section_cells + (y * squares + t))) layer
-    (λ t lt. let there : z * squares + t ≡ i * section_cells + (y * squares + t) = rw (
-      is,
-      section_cells-is,
-      squares-is,
-    ) (omega arith) in ap (λ (k : ℕ). terrain_at terrain (place, k))
-    there)
+    grind (arith, nat_tests, layer_same, section_cells-is, squares-is)
 
 pub section_all : (terrain : Terrain) (place : Place) (i y : ℕ) (states : List ℕ) → y ≡ 16 →
     length states ≡ y * squares → ((k : ℕ) → k < length states → get_or states k 0 ≡
     terrain_at terrain (place, i * section_cells + k)) → states ≡ own_section terrain place i
 section_all terrain place i y states all len own =
-    let whole : length states ≡ section_cells = len ∙ rw (all, squares-is, section_cells-is) refl in
-    listed_by (λ k. terrain_at terrain (place, i * section_cells + k)) section_cells states whole
-    (λ k lt. own k (omega (arith, whole)))
+    grind (arith, nat_tests, squares-is, section_cells-is, listed_by)
 
 -- ---- how many blocks a section has
 
 -- a range of numbers, from the front
 range_more : (a n m : ℕ) → range_with_len a (n + m) ≡ range_with_len a n ++ range_with_len (a + n) m
-range_more a zero m = let e : a + 0 ≡ a = omega arith in let f : 0 + m ≡ m = omega arith in
-    rw (e, f) refl
+range_more a zero m = grind (arith, nat_tests)
 range_more a (suc n) m =
     let e : suc n + m ≡ suc (n + m) = omega arith in
     let f : a + 1 + n ≡ a + suc n = omega arith in
@@ -152,58 +132,11 @@ layer_blocks g h (x ∷ xs) a b (suc n) len each e =
 -- one height more lets each top reach one block further, or not
 reach_more : (terrain : Terrain) (i n top : ℕ) → reach_in (low_of terrain i) (16 * i + n + 1) top ≡
     reach_in (low_of terrain i) (16 * i + n) top + fills terrain top (16 * i + n)
-reach_more terrain i n top = by (lowest terrain) (16 * i) (16 * i + n) top (omega arith)
-  where
-    by : (low from h top : ℕ) → from ≤ h → cond (nat_lt top (h + 1)) (top + 1) (h + 1) - cond
-        (nat_lt low from) from low ≡ cond (nat_lt top h) (top + 1) h - cond (nat_lt low from) from
-        low + cond (nat_le low h && nat_le h top) 1 0
-    by low from h top le =
-        elim (cases_lt low from) [
-          | inl below ↦ rw (lt-ltb low from below, le-leb low h (omega arith)) (inner from h top le)
-          | inr above ↦ rw (le-ltb low from above) (elim (cases_lt h low) [
-            | inl under ↦ rw (lt-leb low h under) (elim (cases_lt top h) [
-              | inl t ↦ rw (lt-ltb top (h + 1) (omega arith), lt-ltb top h t) (omega arith)
-              | inr t ↦ rw (le-ltb top h t) (elim (cases_lt top (h + 1)) [
-                | inl s ↦ rw (lt-ltb top (h + 1) s) (omega arith)
-                | inr s ↦ rw
-                    (le-ltb top (h + 1) s) (omega arith)
-              ])
-            ])
-            | inr over ↦ rw (le-leb low h over) (inner low h top over)
-          ])
-        ]
-      where
-        inner : (low h top : ℕ) → low ≤ h → cond (nat_lt top (h + 1)) (top + 1) (h + 1) - low ≡
-            cond (nat_lt top h) (top + 1) h - low + cond (nat_le h top) 1 0
-        inner low h top le = elim (cases_lt top h) [
-          | inl t ↦ rw (lt-ltb top (h + 1) (omega arith), lt-ltb top h t, lt-leb h top t)
-              (omega arith)
-          | inr t ↦ rw (le-ltb top h t, le-leb h top t) (elim (cases_lt top (h + 1)) [
-            | inl s ↦ rw (lt-ltb top (h + 1) s) (omega arith)
-            | inr s ↦ rw (le-ltb top (h + 1) s)
-                (omega arith)
-          ])
-        ]
+reach_more terrain i n top = grind (arith, nat_tests)
 
 -- below the section's first layer none reaches
 reach_none : (terrain : Terrain) (i top : ℕ) → reach_in (low_of terrain i) (16 * i + 0) top ≡ 0
-reach_none terrain i top = by (lowest terrain) (16 * i) top
-  where
-    by : (low from top : ℕ) → cond (nat_lt top (from + 0)) (top + 1) (from + 0) - cond
-        (nat_lt low from) from low ≡ 0
-    by low from top =
-        elim (cases_lt low from) [
-          | inl below ↦ rw (lt-ltb low from below) (elim (cases_lt top (from + 0)) [
-            | inl s ↦ rw (lt-ltb top (from + 0) s) (omega arith)
-            | inr s ↦ rw
-                (le-ltb top (from + 0) s) (omega arith)
-          ])
-          | inr above ↦ rw (le-ltb low from above) (elim (cases_lt top (from + 0)) [
-            | inl s ↦ rw (lt-ltb top (from + 0) s) (omega arith)
-            | inr s ↦ rw
-                (le-ltb top (from + 0) s) (omega arith)
-          ])
-        ]
+reach_none terrain i top = grind (arith, nat_tests)
 
 sum_none : (h : ℕ → ℕ) (xs : List ℕ) → ((x : ℕ) → h x ≡ 0) → sum_by h xs ≡ 0
 sum_none h [] none = refl
@@ -212,22 +145,14 @@ sum_none h (x ∷ xs) none = sum_by-cons h x xs ∙ rw (none x, sum_none h xs no
 sum_both : (f g h : ℕ → ℕ) (xs : List ℕ) → ((x : ℕ) → h x ≡ f x + g x) →
     sum_by h xs ≡ sum_by f xs + sum_by g xs
 sum_both f g h [] both = refl
-sum_both f g h (x ∷ xs) both = sum_by-cons h x xs ∙ omega (
-  arith,
-  both x,
-  sum_both f g h xs both,
-  sum_by-cons f x xs,
-  sum_by-cons g x xs,
-)
+sum_both f g h (x ∷ xs) both = grind (arith, nat_tests, sum_both f g h xs both, sum_by-cons)
 
 -- the blocks of the lowest n layers of a section
 pub layers_blocks : (terrain : Terrain) (place : Place) (tops : List ℕ) (i n : ℕ) →
     AreTops terrain place tops →
     sum_by block_of (map (λ k. terrain_at terrain (place, i * section_cells + k))
     (range_with_len 0 (n * squares))) ≡ sum_by (reach_in (low_of terrain i) (16 * i + n)) tops
-layers_blocks terrain place tops i zero are =
-    let none : 0 * squares ≡ 0 = omega arith in
-    rw none (sym (sum_none (reach_in (low_of terrain i) (16 * i + 0)) tops (reach_none terrain i)))
+layers_blocks terrain place tops i zero are = grind (arith, nat_tests, sum_none, reach_none)
 layers_blocks terrain place tops i (suc n) are =
     let f = λ (k : ℕ). terrain_at terrain (place, i * section_cells + k) in
     let more : suc n * squares ≡ n * squares + squares = grind arith in
@@ -273,11 +198,8 @@ pub filled_all : (terrain : Terrain) (place : Place) (tops : List ℕ) (i low hi
     AreTops terrain place tops → low ≡ low_of terrain i → high ≡ 16 * i + 16 → length tops ≤ k →
     total ≡ sum_by (reach_in low high) (take k tops) →
     total ≡ blocks_in (own_section terrain place i)
-filled_all terrain place tops i low high total k are l h all is = is ∙ rw (
-  take_all k tops all,
-  l,
-  h,
-) (section_blocks terrain place tops i are)
+filled_all terrain place tops i low high total k are l h all is =
+    grind (arith, nat_tests, take_all, section_blocks)
 
 -- the tops of the places below i
 pub record AreTopsTo (terrain : Terrain) (place : Place) (tops : List ℕ) (i : ℕ) : Type 0 where
@@ -292,14 +214,7 @@ pub record AreTopsTo (terrain : Terrain) (place : Place) (tops : List ℕ) (i : 
 
 pub tops_none : (terrain : Terrain) (place : Place) (tops : List ℕ) → tops ≡ [] →
     AreTopsTo terrain place tops 0
-tops_none terrain place tops none = record {
-  sized = ap length none;
-  at = λ seed k e lt. absurd (omega arith);
-  reach = λ y k lt. absurd (omega arith);
-  small = λ k lt. absurd (omega arith);
-  low = λ seed k e lt. absurd (omega arith);
-  high = λ seed k e lt. absurd (omega arith);
-}
+tops_none terrain place tops none = grind (arith, nat_tests)
 
 pub tops_more : (terrain : Terrain) (place : Place) (tops new : List ℕ) (i top : ℕ) →
     AreTopsTo terrain place tops i → new ≡ tops ++ top ∷ [] → ((seed : ℕ) → terrain ≡ Hills seed →
@@ -307,38 +222,12 @@ pub tops_more : (terrain : Terrain) (place : Place) (tops new : List ℕ) (i top
     ((y : ℕ) → block_of (terrain_at terrain (place, y * squares + i)) ≡ fills terrain top y) →
     top < 256 → ((seed : ℕ) → terrain ≡ Hills seed → 40 ≤ top) →
     ((seed : ℕ) → terrain ≡ Hills seed → top ≤ 54) → AreTopsTo terrain place new (i + 1)
-tops_more terrain place tops new i top are is at' reach' small' low' high' = rw is (record {
-  sized = omega (arith, length-append tops (top ∷ []), are.sized);
-  at = λ seed k e lt. each k (λ t. t ≡ height seed (x_at place k) (z_at place k)) lt
-      (λ same. rw same (at' seed e)) (λ less. are.at seed k e less);
-  reach = λ y k lt. each k (λ t. block_of (terrain_at terrain (place, y * squares + k)) ≡
-      fills terrain t y) lt (λ same. rw same (reach' y)) (λ less. are.reach y k less);
-  small = λ k lt. each k (λ t. t < 256) lt (λ same. small') (λ less. are.small k less);
-  low = λ seed k e lt. each k (λ t. 40 ≤ t) lt (λ same. low' seed e) (λ less. are.low seed k e
-      less);
-  high = λ seed k e lt. each k (λ t. t ≤ 54) lt (λ same. high' seed e) (λ less. are.high seed k e
-      less);
-})
-  where
-    each : (k : ℕ) (P : ℕ → Type 0) → k < i + 1 → (k ≡ i → P top) → (k < i → P (get_or tops k 0)) →
-        P (get_or (tops ++ top ∷ []) k 0)
-    each k P lt last before = elim (cases_lt k i) [
-      | inl less ↦ subst P (sym (get_or_append_left tops (top ∷ []) 0 k (omega (arith, are.sized))))
-          (before less)
-      | inr more ↦ let same : k ≡ i = omega arith in
-          subst P (sym (get_or_push tops top 0 k (are.sized ∙ sym same))) (last same)
-    ]
+tops_more terrain place tops new i top are is at' reach' small' low' high' =
+    grind (arith, nat_tests, length-append, cases_lt, get_or_append_left, get_or_push)
 
 pub tops_all : (terrain : Terrain) (place : Place) (tops : List ℕ) (i : ℕ) → i ≡ squares →
     AreTopsTo terrain place tops i → AreTops terrain place tops
-tops_all terrain place tops i all are = record {
-  sized = are.sized ∙ all;
-  at = λ seed k e lt. are.at seed k e (omega (arith, all));
-  reach = λ y k lt. are.reach y k (omega (arith, all));
-  small = λ k lt. are.small k (omega (arith, all));
-  low = λ seed k e lt. are.low seed k e (omega (arith, all));
-  high = λ seed k e lt. are.high seed k e (omega (arith, all));
-}
+tops_all terrain place tops i all are = grind (arith, nat_tests)
 
 -- ---- section upon section
 
@@ -354,15 +243,8 @@ pub grown_none : (terrain : Terrain) (place : Place) (column : ColumnValue) (bio
       states = replicate cells 0;
       biomes = biomes;
     } → IsGrown terrain place column 0
-grown_none terrain place column biomes own is = rw (is, own) (record {
-  sizes = record {
-    states_are = length-replicate {A = ℕ} cells 0;
-    biomes_are = length-map-range_with_len _ 0 squares;
-  };
-  biomes = refl;
-  own = λ k lt. absurd (omega arith);
-  air = λ k le. get_or-zeros cells k;
-})
+grown_none terrain place column biomes own is =
+    grind (arith, nat_tests, length-replicate, length-map-range_with_len, get_or-zeros)
 
 -- a section without a block is air already
 pub grown_air : (terrain : Terrain) (place : Place) (column : ColumnValue) (i filled : ℕ) →
@@ -465,13 +347,7 @@ grown_more terrain place column new i states lt own is grown =
 -- all sections are the terrain's own column
 pub grown_all : (terrain : Terrain) (place : Place) (column : ColumnValue) (i : ℕ) →
     i ≡ section_count → IsGrown terrain place column i → column ≡ own_column terrain place
-grown_all terrain place column i all grown =
-    same column (own_column terrain place) (listed_by (λ k. terrain_at terrain (place, k)) cells
-    column.states grown.sizes.states_are
-    (λ k lt. grown.own k (omega (arith, sections_all i all)))) grown.biomes
-  where
-    same : (a b : ColumnValue) → a.states ≡ b.states → a.biomes ≡ b.biomes → a ≡ b
-    same a b e f i = record { states = e i; biomes = f i }
+grown_all terrain place column i all grown = grind (arith, nat_tests, listed_by, sections_all)
 
 -- ---- the isle is one column
 
@@ -490,13 +366,7 @@ within_some (negsuc n) le lt = absurd (omega (arith, ints, le))
 -- sixteen places along an axis are all within the first sixteen, or none is
 within_all : (c : ℤ) (i j : ℕ) → i < 16 → j < 16 → is_within_16 (c *ℤ pos 16 +ℤ pos i) ≡
     is_within_16 (c *ℤ pos 16 +ℤ pos j)
-within_all (pos zero) i j lt lt' = within_some (pos 0 *ℤ pos 16 +ℤ pos i) (omega (arith, ints))
-    (omega (arith, ints)) ∙ sym (within_some (pos 0 *ℤ pos 16 +ℤ pos j) (omega (arith, ints))
-    (omega (arith, ints)))
-within_all (pos (suc n)) i j lt lt' = within_past (pos (suc n) *ℤ pos 16 +ℤ pos i)
-    (omega (arith, ints)) ∙ sym (within_past (pos (suc n) *ℤ pos 16 +ℤ pos j) (omega (arith, ints)))
-within_all (negsuc n) i j lt lt' = within_none (negsuc n *ℤ pos 16 +ℤ pos i) (omega (arith, ints)) ∙
-    sym (within_none (negsuc n *ℤ pos 16 +ℤ pos j) (omega (arith, ints)))
+within_all c i j lt lt' = grind (arith, nat_tests)
 
 isle_same : (x z v w : ℤ) (y : ℕ) → is_within_16 x ≡ is_within_16 v → is_within_16 z ≡
     is_within_16 w → isle_id x y z * 16 ≡ isle_id v y w * 16
@@ -518,10 +388,7 @@ isle_layer place y old new layer =
 
 -- a block is no air
 id_block : (id : ℕ) → block_of (id * 16) ≡ cond (eqb id 0) 0 1
-id_block zero = refl
-id_block (suc id) = let e : eqb (suc id * 16) 0 ≡ false =
-    ne_eqb (suc id * 16) 0 (λ h. absurd (omega arith)) in let f : eqb (suc id) 0 ≡ false =
-    ne_eqb (suc id) 0 (λ h. absurd (omega arith)) in rw (e, f) refl
+id_block id = grind (arith, nat_tests)
 
 -- no block where each test of a layered terrain fails
 above_all : (z l t g top : Bool) → z ≡ false → l ≡ false → t ≡ false → g ≡ true → top ≡ false →
@@ -530,100 +397,66 @@ above_all z l t g top a b d e f = rw (a, b, d, e, f) refl
 
 pub flat_reach : (place : Place) (i y : ℕ) → i < squares →
     block_of (terrain_at Flat (place, y * squares + i)) ≡ fills Flat 3 y
-flat_reach place i y lt = rw (layer_y place y i lt) (id_block (flat_id y) ∙ by y)
-  where
-    by : (y : ℕ) → ◌≡◌ {A = ℕ} (cond (eqb (flat_id y) 0) 0 1) (cond (nat_le 0 y && nat_le y 3) 1 0)
-    by y = elim (cases_eq y 0) [
-      | inl e ↦ rw e refl
-      | inr n0 ↦ elim (cases_eq y 1) [
-        | inl e ↦ rw e refl
-        | inr n1 ↦ elim (cases_eq y 2) [
-          | inl e ↦ rw e refl
-          | inr n2 ↦ elim (cases_eq y 3) [
-            | inl e ↦ rw e refl
-            | inr n3 ↦ above_all (eqb y 0) (nat_le y 2) (eqb y 3) (nat_le 0 y) (nat_le y 3)
-                (ne_eqb y 0 n0) (lt-leb y 2 (omega arith)) (ne_eqb y 3 n3)
-                (le-leb 0 y (omega arith)) (lt-leb y 3 (omega arith))
-          ]
-        ]
-      ]
-    ]
+flat_reach place i y lt = grind (
+  arith,
+  nat_tests,
+  layer_y place y i lt,
+  id_block (flat_id y),
+  cases_eq y 0,
+  cases_eq y 1,
+  cases_eq y 2,
+  cases_eq y 3,
+  above_all (eqb y 0) (nat_le y 2) (eqb y 3) (nat_le 0 y) (nat_le y 3),
+  ne_eqb y 0,
+  ne_eqb y 3,
+  lt-leb y 2,
+  lt-leb y 3,
+  le-leb 0 y,
+)
 
 pub hills_reach : (seed : ℕ) (place : Place) (i y top : ℕ) → i < squares →
     top ≡ height seed (x_at place i) (z_at place i) →
     block_of (terrain_at (Hills seed) (place, y * squares + i)) ≡ fills (Hills seed) top y
-hills_reach seed place i y top lt is =
-    rw (layer_x place y i lt, layer_y place y i lt, layer_z place y i lt, ← is)
-    (id_block (hills_id top y) ∙ by top y)
-  where
-    by : (top y : ℕ) → ◌≡◌ {A = ℕ} (cond (eqb (hills_id top y) 0) 0 1)
-        (cond (nat_le 0 y && nat_le y top) 1 0)
-    by top y = rw (le-leb 0 y (omega arith)) (elim (cases_eq y 0) [
-      | inl e ↦ rw (e, le-leb 0 top (omega arith)) refl
-      | inr ne ↦ rw (ne_eqb y 0 ne) (elim (cases_lt top y) [
-        | inl above ↦ rw (
-          lt-leb y top above,
-          lt-leb (y + 4) top (omega arith),
-          le-ltb y top (omega arith),
-          ne_eqb y top (λ h. absurd (omega arith)),
-        ) refl
-        | inr within ↦ rw (le-leb y top within) (elim (cases_lt y top) [
-          | inl below ↦ rw (lt-ltb y top below) (stone (nat_le (y + 4) top))
-          | inr at ↦ let same : y ≡ top = omega arith in rw (
-            lt-leb (y + 4) top (omega arith),
-            le-ltb y top at,
-            eq-eqb y top same,
-          ) refl
-        ])
-      ])
-    ])
-      where
-        stone : (b : Bool) → ◌≡◌ {A = ℕ} (cond (eqb (cond b 1 3) 0) 0 1) 1
-        stone true = refl
-        stone false = refl
+hills_reach seed place i y top lt is = grind (
+  arith,
+  nat_tests,
+  layer_x place y i lt,
+  layer_y place y i lt,
+  layer_z place y i lt,
+  id_block (hills_id top y),
+  le-leb 0 y,
+  le-leb 0 top,
+  le-leb y top,
+  cases_eq y 0,
+  ne_eqb y 0,
+  ne_eqb y top,
+  cases_lt top y,
+  cases_lt y top,
+  lt-leb y top,
+  lt-leb (y + 4) top,
+  le-ltb y top,
+  lt-ltb y top,
+  eq-eqb y top,
+)
 
 pub isle_reach : (place : Place) (i y top : ℕ) → i < squares →
     top ≡ cond (eqb (isle_id (place.0 *ℤ pos 16 +ℤ pos 0) 63 (place.1 *ℤ pos 16 +ℤ pos 0)) 0) 62 63
     → block_of (terrain_at Isle (place, y * squares + i)) ≡ fills Isle top y
-isle_reach place i y top lt is =
-    let small : i < 256 = omega (arith, squares-is) in
-    rw (layer_x place y i lt, layer_y place y i lt, layer_z place y i lt, is)
-    (id_block (isle_id (x_at place i) y (z_at place i)) ∙
-    rw (
-      within_all place.0 (i % 16) 0 (omega arith) (omega arith),
-      within_all place.1 (i / 16) 0
-          (omega arith) (omega arith),
-    ) (by y (is_within_16 (place.0 *ℤ pos 16 +ℤ pos 0))
-    (is_within_16 (place.1 *ℤ pos 16 +ℤ pos 0))))
-  where
-    by : (y : ℕ) (a b : Bool) → ◌≡◌ {A = ℕ} (cond (eqb (cond (eqb y 63 && a && b) 1 0) 0) 0 1)
-        (cond (nat_le 63 y && nat_le y (cond (eqb (cond (true && a && b) 1 0) 0) 62 63)) 1 0)
-    by y a b = elim (cases_eq y 63) [
-      | inl e ↦ rw e (both a b)
-      | inr ne ↦ rw (ne_eqb y 63 ne) (other a b ne)
-    ]
-      where
-        both : (a b : Bool) → ◌≡◌ {A = ℕ} (cond (eqb (cond (true && a && b) 1 0) 0) 0 1)
-            (cond (nat_le 63 63 && nat_le 63 (cond (eqb (cond (true && a && b) 1 0) 0) 62 63)) 1 0)
-        both true true = refl
-        both true false = refl
-        both false true = refl
-        both false false = refl
-
-        outside : (y top : ℕ) → (y ≡ 63 → ⊥) → top ≤ 63 →
-            ◌≡◌ {A = ℕ} 0 (cond (nat_le 63 y && nat_le y top) 1 0)
-        outside y top ne le = elim (cases_lt y 63) [
-          | inl below ↦ rw (lt-leb 63 y below) refl
-          | inr above ↦ rw (le-leb 63 y above, lt-leb y top (omega arith)) refl
-        ]
-
-        other : (a b : Bool) → (y ≡ 63 → ⊥) →
-            ◌≡◌ {A = ℕ} (cond (eqb (cond (false && a && b) 1 0) 0) 0 1)
-            (cond (nat_le 63 y && nat_le y (cond (eqb (cond (true && a && b) 1 0) 0) 62 63)) 1 0)
-        other true true ne = outside y 63 ne (omega arith)
-        other true false ne = outside y 62 ne (omega arith)
-        other false true ne = outside y 62 ne (omega arith)
-        other false false ne = outside y 62 ne (omega arith)
+isle_reach place i y top lt is = grind (
+  arith,
+  nat_tests,
+  squares-is,
+  layer_x,
+  layer_y,
+  layer_z,
+  id_block,
+  within_all,
+  cases_eq,
+  ne_eqb,
+  cases_lt,
+  lt-leb,
+  le-leb,
+)
 
 -- ---- biomes
 
@@ -631,7 +464,4 @@ pub biome_top : (terrain : Terrain) (place : Place) (tops : List ℕ) (i biome :
     AreTops terrain place tops → i < squares → ((seed : ℕ) → terrain ≡ Hills seed →
     biome ≡ hills_biome (get_or tops i 0)) → (terrain ≡ Flat → biome ≡ 1) →
     (terrain ≡ Isle → biome ≡ 1) → biome ≡ terrain_biome terrain (x_at place i) (z_at place i)
-biome_top Flat place tops i biome are lt hills flat isle = flat refl
-biome_top (Hills seed) place tops i biome are lt hills flat isle = hills seed refl ∙
-    ap hills_biome (are.at seed i refl lt)
-biome_top Isle place tops i biome are lt hills flat isle = isle refl
+biome_top terrain place tops i biome are lt hills flat isle = grind (arith, nat_tests)

@@ -1,6 +1,7 @@
 -- What is looked up in a land that is kept as columns.
 use Rattle.std.proofs.Common.{◌≡◌, ℕ, zero, suc, ◌<◌, true, false, cond, List, [], ◌∷◌, length, map}
 use Rattle.std.proofs.Common.{get_or, Some, None, refl, sym, ap, ◌∙◌, arith}
+use Rattle.std.proofs.lemmas.Bool.Decides.{nat_tests}
 use Rattle.std.specs.declared.cmp.Ordering.{Ordering}
 use Rattle.std.specs.declared.cmp.Ordering.TheVariants.{Less, Equal, Greater}
 use Rattle.std.specs.Ordering.{is_eq, eq_by_cmp}
@@ -17,24 +18,13 @@ use Rattle.mc_land.proofs.Orders.{places_total, exact_places}
 -- a tree's look-up is the first entry of the key
 pub lookup_is : {K X : Type 0} (R : K → K → Ordering) (q : K) (es : List (K × X)) →
     lookup (λ k. is_eq (R q k)) es ≡ find R q es
-lookup_is R q [] = refl
-lookup_is R q (e ∷ es) =
-    elim (is_eq (R q e.0)) as (λ b. cond b (Some e.1) (lookup (λ k. is_eq (R q k)) es) ≡
-    cond b (Some e.1) (find R q es)) [
-      | true ↦ refl
-      | false ↦ lookup_is R q es
-    ]
+lookup_is R q es = grind (arith, nat_tests)
 
 -- what is looked at in the column that is found
 pub find_map : {X Y : Type 0} (f : X → Y) (q : Place) (es : List (Place × X)) →
     find place_cmp q (map (λ e. (e.0, f e.1)) es) ≡ option_map f (find place_cmp q es)
 find_map f q [] = refl
-find_map f q (e ∷ es) = elim (eq_by_cmp place_cmp q e.0) as (λ b. cond b (Some (f e.1))
-    (find place_cmp q (map (λ e. (e.0, f e.1)) es)) ≡
-    option_map f (cond b (Some e.1) (find place_cmp q es))) [
-      | true ↦ refl
-      | false ↦ find_map f q es
-    ]
+find_map f q (e ∷ es) = grind (arith, nat_tests, find_map f q es)
 
 -- columns stay apart, whatever is looked at in them
 pub apart : {X Y : Type 0} (f : X → Y) (es : List (Place × X)) → IsApart es →
@@ -48,9 +38,7 @@ abbrev entry : ReadyValue → Place × ReadyValue
 entry ready = (ready.place, ready)
 
 is_equal : (o : Ordering) → is_eq o ≡ true → o ≡ Equal
-is_equal Less e = absurd cc
-is_equal Equal e = refl
-is_equal Greater e = absurd cc
+is_equal o e = grind (arith, nat_tests)
 
 -- the first column of a place
 found_first : (q : Place) (columns : List ReadyValue) (i : ℕ) (d : ReadyValue) →
@@ -58,8 +46,7 @@ found_first : (q : Place) (columns : List ReadyValue) (i : ℕ) (d : ReadyValue)
     ((j : ℕ) → j < i → (get_or columns j d).place ≡ q → ⊥) → find place_cmp q (placed columns) ≡
     Some (get_or columns i d)
 found_first q [] i d lt e first = absurd (omega arith)
-found_first q (x ∷ xs) zero d lt e first = let h : eq_by_cmp place_cmp q x.place ≡ true =
-    rw (sym e) (ap is_eq (tied_itself places_total x.place)) in rw h refl
+found_first q (x ∷ xs) zero d lt e first = grind (arith, nat_tests)
 found_first q (x ∷ xs) (suc i) d lt e first =
     elim (eq_by_cmp place_cmp q x.place) as (λ b. eq_by_cmp place_cmp q x.place ≡ b →
     cond b (Some x) (find place_cmp q (placed xs)) ≡ Some (get_or xs i d)) [
@@ -90,28 +77,17 @@ same_index a b e = cc
 pub found_indexed : (q : Place) (columns : List ReadyValue) (index : List (Place × ℕ)) (i : ℕ)
     (d : ReadyValue) → IsIndexed columns index → find place_cmp q index ≡ Some i →
     find place_cmp q (placed columns) ≡ Some (get_or columns i d)
-found_indexed q columns index i d is e =
-    found_first q columns i d (is.listed q i e) (is.placed_at q i d e) (λ j lt same.
-    let there : find place_cmp q index ≡ Some j = ap (λ (p : Place). find place_cmp p index)
-    (sym same) ∙ is.indexed j d (omega (arith, is.listed q i e)) in
-    absurd (omega (arith, same_index j i (sym there ∙ e))))
+found_indexed q columns index i d is e = grind (arith, nat_tests, found_first, same_index)
 
 pub found_unindexed : (q : Place) (columns : List ReadyValue) (index : List (Place × ℕ)) →
     IsIndexed columns index → find place_cmp q index ≡ None → find place_cmp q (placed columns) ≡
     None
 found_unindexed q [] index is e = refl
-found_unindexed q (d ∷ ds) index is e =
-    found_nowhere q (d ∷ ds) d (λ j lt same.
-    let there : find place_cmp q index ≡ Some j = ap (λ (p : Place). find place_cmp p index)
-    (sym same) ∙ is.indexed j d lt in
-    let none : None ≡ Some j = sym e ∙ there in absurd cc)
+found_unindexed q (d ∷ ds) index is e = grind (arith, nat_tests, found_nowhere q (d ∷ ds) d)
 
 -- what a tree's insert says of each key
 pub inserted : {X : Type 0} (old new : List (Place × X)) (k key q : Place) (v value : X) →
     lookup (λ y. is_eq (place_cmp q y)) new ≡ cond (is_eq (place_cmp k q)) (Some v)
     (lookup (λ y. is_eq (place_cmp q y)) old) → k ≡ key → v ≡ value → find place_cmp q new ≡
     cond (eq_by_cmp place_cmp q key) (Some value) (find place_cmp q old)
-inserted {X} old new k key q v value h e f =
-    let turned : eq_by_cmp place_cmp k q ≡ eq_by_cmp place_cmp q key =
-    rw e ((eq_by_cmp_equiv places_total).symm key q) in
-    sym (lookup_is place_cmp q new) ∙ h ∙ rw (turned, f, lookup_is place_cmp q old) refl
+inserted {X} old new k key q v value h e f = grind (arith, nat_tests)

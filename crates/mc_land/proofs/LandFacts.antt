@@ -1,13 +1,15 @@
 -- What happens to the edits where a column is made ready and where a cell of one is set.
 use Rattle.std.proofs.Common.{◌≡◌, ℕ, ◌<◌, nat_lt, ◌&&◌, Bool, true, false, cond, not, eqb, List}
 use Rattle.std.proofs.Common.{length, get_or, set, Option, Some, None, refl, sym, subst, ◌∙◌, inl}
-use Rattle.std.proofs.Common.{inr}
+use Rattle.std.proofs.Common.{inr, arith}
+use Rattle.std.proofs.lemmas.Bool.Decides.{nat_tests}
 use Rattle.std.specs.declared.cmp.Ordering.{Ordering}
 use Rattle.std.specs.declared.cmp.Ordering.TheVariants.{Less, Equal, Greater}
 use Rattle.std.specs.Ordering.{is_eq, eq_by_cmp}
 use Rattle.std.specs.Option.{unwrap_or}
 use Rattle.std.specs.FinMap.{FinMap, find, get, insert, remove, get-insert, get-remove, same_map}
 use Rattle.std.proofs.lemmas.Bool.{cases_eq, ltb-true, lt-ltb, eqb-true, eq-eqb}
+use Rattle.std.proofs.lemmas.Grind.{common_steps}
 use Rattle.std.proofs.lemmas.List.{get_or-set_same, get_or-set_other}
 use Rattle.mc_column.specs.Sizes.{cells}
 use Rattle.mc_land.specs.declared.terrain.Terrain.{Terrain}
@@ -34,39 +36,19 @@ same_edits terrain old new apart apart' same =
 pub none_changed : (terrain : Terrain) (c : Place) (i : ℕ) (states : List ℕ) →
     ((j : ℕ) → j < cells → get_or states j 0 ≡ terrain_at terrain (c, j)) →
     changed_at terrain c i (Some states) ≡ None
-none_changed terrain c i states own =
-    elim (nat_lt i cells) as (λ b. nat_lt i cells ≡ b →
-    cond (b && is_changed terrain c states i) (Some (get_or states i 0)) None ≡ None) [
-      | true ↦ λ inside. let e : eqb (get_or states i 0) (terrain_at terrain (c, i)) ≡ true =
-          eq-eqb (get_or states i 0) (terrain_at terrain (c, i)) (own i (ltb-true i cells inside))
-          in rw e refl
-      | false ↦ λ past. refl
-    ] refl
+none_changed terrain c i states own = grind (arith, common_steps, eq-eqb, ltb-true)
 
 -- the state of a cell is that in its column, where that is ready, else the terrain's
 pub state_ready : (terrain : Terrain) (columns : Columns) (c : Place) (i : ℕ) (states : List ℕ) →
     IsApart columns → find place_cmp c columns ≡ Some states → i < cells →
     state_at terrain (kept_edits terrain columns) (c, i) ≡ get_or states i 0
 state_ready terrain columns c i states apart found inside =
-    let test : nat_lt i cells ≡ true = lt-ltb i cells inside in
-    let is : get (kept_edits terrain columns) (c, i) ≡ cond (is_changed terrain c states i)
-    (Some (get_or states i 0)) None = get_kept terrain columns c i apart ∙
-    rw (found, test) refl in
-    rw is (elim (eqb (get_or states i 0) (terrain_at terrain (c, i))) as
-    (λ b. eqb (get_or states i 0) (terrain_at terrain (c, i)) ≡ b →
-    unwrap_or (cond (not b) (Some (get_or states i 0)) None) (terrain_at terrain (c, i)) ≡
-    get_or states i 0) [
-      | true ↦ λ e. sym (eqb-true (get_or states i 0) (terrain_at terrain (c, i)) e)
-      | false ↦ λ e. refl
-    ] refl)
+    grind (arith, nat_tests, lt-ltb, get_kept, eqb-true)
 
 pub state_else : (terrain : Terrain) (columns : Columns) (c : Place) (i : ℕ) → IsApart columns →
     find place_cmp c columns ≡ None → state_at terrain (kept_edits terrain columns) (c, i) ≡
     terrain_at terrain (c, i)
-state_else terrain columns c i apart none =
-    let is : get (kept_edits terrain columns) (c, i) ≡ None = get_kept terrain columns c i apart ∙
-    rw none refl in
-    rw is refl
+state_else terrain columns c i apart none = grind (arith, nat_tests, get_kept)
 
 -- ---- a column is made ready
 
@@ -76,20 +58,13 @@ Puts old new c states = (q : Place) → find place_cmp q new ≡ cond (eq_by_cmp
     (Some states) (find place_cmp q old)
 
 is_equal : (o : Ordering) → is_eq o ≡ true → o ≡ Equal
-is_equal Less e = absurd cc
-is_equal Equal e = refl
-is_equal Greater e = absurd cc
+is_equal o e = grind (arith, nat_tests)
 
 -- a look-up in both, by cases on the column
 by_place : (P : Option (List ℕ) → Type 0) (old new : Columns) (c d : Place) (states : List ℕ) →
     Puts old new c states → (d ≡ c → P (Some states)) → (eq_by_cmp place_cmp d c ≡ false →
     P (find place_cmp d old)) → P (find place_cmp d new)
-by_place P old new c d states puts here elsewhere =
-    subst P (sym (puts d)) (elim (eq_by_cmp place_cmp d c) as (λ b. eq_by_cmp place_cmp d c ≡ b →
-    P (cond b (Some states) (find place_cmp d old))) [
-      | true ↦ λ t. here (exact_places d c (is_equal (place_cmp d c) t))
-      | false ↦ λ t. elsewhere t
-    ] refl)
+by_place P old new c d states puts here elsewhere = grind (arith, nat_tests)
 
 -- making a column ready changes no cell
 pub ready_edits : (terrain : Terrain) (old new : Columns) (c : Place) (states : List ℕ) →
@@ -123,13 +98,7 @@ get_edited terrain edits key q state =
 set_here : (terrain : Terrain) (c : Place) (i state : ℕ) (states : List ℕ) → i < cells →
     i < length states → changed_at terrain c i (Some (set states i state)) ≡
     becomes terrain (c, i) state
-set_here terrain c i state states inside within =
-    rw (lt-ltb i cells inside, get_or-set_same states i state 0 within)
-    (turn (eqb state (terrain_at terrain (c, i))) state)
-  where
-    turn : (b : Bool) (x : ℕ) → cond (not b) (Some x) None ≡ cond b None (Some x)
-    turn true x = refl
-    turn false x = refl
+set_here terrain c i state states inside within = grind (arith, nat_tests, lt-ltb, get_or-set_same)
 
 -- the edits at the others of its column
 set_other : (terrain : Terrain) (c : Place) (i j state : ℕ) (states : List ℕ) → (j ≡ i → ⊥) →

@@ -29,6 +29,7 @@ use Rattle.std.proofs.Common.{◌||◌, ◌&&◌, ◌↔◌, ◌∷◌}
 use Rattle.std.proofs.lemmas.Bool.{true≢false}
 use Rattle.mc_land.proofs.Orders.{places_total}
 use Rattle.std.proofs.Common.{eqb}
+use Rattle.std.proofs.lemmas.Bool.Decides.{nat_tests}
 use lib.Dec.{leb, ltb}
 use Rattle.std.specs.List.Sorted.{IsStrictlySortedBy}
 use Rattle.mc_land.specs.Terrain.{height, is_within_16}
@@ -49,9 +50,7 @@ pub of_ready : (look : ReadyValue → List ℕ) (terrain : Terrain) (columns : C
     state_at terrain (kept_edits terrain (map (λ e. (e.0, look e.1)) columns)) (place, i) ≡
     get_or (look ready) i 0
 of_ready look terrain columns chests place ready i kept found lt =
-    state_ready terrain (map (λ e. (e.0, look e.1)) columns) place i (look ready)
-    (apart look columns kept.columns_apart) (find_map look place columns ∙
-    ap (option_map look) found) lt
+    grind (arith, nat_tests, state_ready, apart, find_map)
 
 -- and of one that is not ready
 pub of_none : (look : ReadyValue → List ℕ) (terrain : Terrain) (columns : Columns) (chests : Chests)
@@ -59,9 +58,7 @@ pub of_none : (look : ReadyValue → List ℕ) (terrain : Terrain) (columns : Co
     None → state_at terrain (kept_edits terrain (map (λ e. (e.0, look e.1)) columns)) (place, i) ≡
     terrain_at terrain (place, i)
 of_none look terrain columns chests place i kept none =
-    state_else terrain (map (λ e. (e.0, look e.1)) columns) place i
-    (apart look columns kept.columns_apart) (find_map look place columns ∙
-    ap (option_map look) none)
+    grind (arith, nat_tests, state_else, apart, find_map)
 
 pub block_ready : (terrain : Terrain) (columns : Columns) (chests : Chests) (x z : ℤ) (y : ℕ)
     (ready : ReadyValue) → IsKeptLand terrain columns chests →
@@ -85,9 +82,7 @@ pub states_ready : (look : ReadyValue → List ℕ) (terrain : Terrain) (columns
     find place_cmp place columns ≡ Some ready → length (look ready) ≡ cells →
     look ready ≡ states_of terrain (kept_edits terrain (map (λ e. (e.0, look e.1)) columns)) place
 states_ready look terrain columns chests place ready kept found len =
-    listed_by (λ i. state_at terrain (kept_edits terrain (map (λ e. (e.0, look e.1)) columns))
-    (place, i)) cells (look ready) len (λ i lt. sym (of_ready look terrain columns chests place
-    ready i kept found lt))
+    grind (arith, nat_tests, listed_by, of_ready look terrain columns chests place ready)
 
 -- a ready column is the one of its place
 pub column_ready : (terrain : Terrain) (columns : Columns) (chests : Chests) (place : Place)
@@ -120,33 +115,23 @@ dirty_ready terrain columns chests place ready kept found =
 pub dirty_none : (terrain : Terrain) (columns : Columns) (chests : Chests) (place : Place) →
     IsKeptLand terrain columns chests → find place_cmp place columns ≡ None →
     [] ≡ dirty_in (kept_land terrain columns chests) place
-dirty_none terrain columns chests place kept none =
-    let same : states_of terrain (kept_edits terrain (settled_states columns)) place ≡
-    states_of terrain (kept_edits terrain (present_states columns)) place =
-    listed_by (λ i. state_at terrain (kept_edits terrain (present_states columns)) (place, i))
-    cells (states_of terrain (kept_edits terrain (settled_states columns)) place)
-    (length-map-range_with_len
-    (λ i. state_at terrain (kept_edits terrain (settled_states columns)) (place, i)) 0 cells)
-    (λ i lt. get_or-map-range_with_len
-    (λ j. state_at terrain (kept_edits terrain (settled_states columns)) (place, j)) 0 cells i i
-    0 lt (omega arith) ∙ of_none settled terrain columns chests place i kept none ∙
-    sym (of_none present terrain columns chests place i kept none)) in
-    sym (ap (λ (was : List ℕ). touched_cells was
-    (states_of terrain (kept_edits terrain (present_states columns)) place)) same ∙
-    touched_none (states_of terrain (kept_edits terrain (present_states columns)) place))
+dirty_none terrain columns chests place kept none = grind (
+  arith,
+  nat_tests,
+  listed_by,
+  length-map-range_with_len,
+  get_or-map-range_with_len,
+  of_none settled terrain columns chests place,
+  of_none present terrain columns chests place,
+  touched_none (states_of terrain (kept_edits terrain (present_states columns)) place),
+)
 
 -- ---- which columns are ready
 
 among : (q : Place) (columns : Columns) → list_any (eq_by_cmp place_cmp q) (map (λ e. e.0) columns)
     ≡ is_some (find place_cmp q columns)
 among q [] = refl
-among q (e ∷ es) =
-    elim (eq_by_cmp place_cmp q e.0) as
-    (λ b. (b || list_any (eq_by_cmp place_cmp q) (map (λ e. e.0) es)) ≡
-    is_some (cond b (Some e.1) (find place_cmp q es))) [
-      | true ↦ refl
-      | false ↦ among q es
-    ]
+among q (e ∷ es) = grind (arith, nat_tests, among q es)
 
 pub is_ready : (terrain : Terrain) (columns : Columns) (chests : Chests) (place : Place) →
     set.contains (kept_land terrain columns chests).ready place ≡
@@ -158,46 +143,20 @@ pub ready_some : (terrain : Terrain) (columns : Columns) (chests : Chests) (plac
     (ready : ReadyValue) → find place_cmp place columns ≡ Some ready → (true ≡ false) ↔
     (set.contains (kept_land terrain columns chests).ready place ≡ false)
 ready_some terrain columns chests place ready found =
-    let yes' : set.contains (kept_land terrain columns chests).ready place ≡ true =
-    is_ready terrain columns chests place ∙ rw found refl in
-    (λ e. absurd (true≢false e), λ e. absurd (true≢false (sym yes' ∙ e)))
+    grind (arith, nat_tests, is_ready terrain columns chests place, true≢false)
 
 pub ready_none : (terrain : Terrain) (columns : Columns) (chests : Chests) (place : Place) →
     find place_cmp place columns ≡ None → (false ≡ false) ↔
     (set.contains (kept_land terrain columns chests).ready place ≡ false)
-ready_none terrain columns chests place none = (
-  λ e. is_ready terrain columns chests place ∙
-      rw none refl,
-  λ e. refl,
-)
+ready_none terrain columns chests place none =
+    grind (arith, nat_tests, is_ready terrain columns chests place)
 
 -- ---- a land of the terrain alone
 
 -- no block of the terrain is a chest
 pub own_no_chest : (terrain : Terrain) (x z : ℤ) (y : ℕ) → is_chest (terrain_state terrain x y z) ≡
     false
-own_no_chest Flat x z y = flat (eqb y 0) (leb y 2) (eqb y 3)
-  where
-    flat : (a b d : Bool) → eqb (cond a 7 (cond b 3 (cond d 2 0)) * 16 / 16) 54 ≡ false
-    flat true b d = refl
-    flat false true d = refl
-    flat false false true = refl
-    flat false false false = refl
-own_no_chest (Hills seed) x z y = hills (eqb y 0) (leb (y + 4) (height seed x z))
-    (ltb y (height seed x z)) (eqb y (height seed x z))
-  where
-    hills : (a b d e : Bool) → eqb (cond a 7 (cond b 1 (cond d 3 (cond e 2 0))) * 16 / 16) 54 ≡
-        false
-    hills true b d e = refl
-    hills false true d e = refl
-    hills false false true e = refl
-    hills false false false true = refl
-    hills false false false false = refl
-own_no_chest Isle x z y = isle (eqb y 63 && is_within_16 x && is_within_16 z)
-  where
-    isle : (a : Bool) → eqb (cond a 1 0 * 16 / 16) 54 ≡ false
-    isle true = refl
-    isle false = refl
+own_no_chest terrain x z y = grind (arith, nat_tests)
 
 none_in : (key : Key) (chests : Chests) → chests ≡ [] → is_some (find key_cmp key chests) ≡ true → ⊥
 none_in key [] e some = absurd cc
@@ -206,23 +165,9 @@ none_in key (x ∷ xs) e some = absurd cc
 pub kept_new : (terrain : Terrain) (columns : Columns) (chests : Chests) → columns ≡ [] →
     chests ≡ [] → IsStrictlySortedBy key_cmp (map (λ e. e.0) chests) →
     IsKeptLand terrain columns chests
-kept_new terrain columns chests none empty ordered' = record {
-  columns_apart = rw none tt;
-  chests_ordered = ordered';
-  chests_inside = λ place i some. absurd (none_in (place, i) chests empty some);
-  own = λ place ready found. let h : find place_cmp place [] ≡ Some ready = rw none at found in
-      absurd cc;
-  chests_are =
-      λ place i lt. rw (empty, none) (sym (ap is_chest (state_else terrain [] place i tt refl) ∙
-      own_no_chest terrain (x_of (place, i)) (z_of (place, i)) (y_of (place, i))));
-}
+kept_new terrain columns chests none empty ordered' =
+    grind (arith, nat_tests, none_in, state_else, own_no_chest)
 
 pub indexed_new : (columns : List ReadyValue) (index : List (Place × ℕ)) → columns ≡ [] →
     index ≡ [] → IsIndexed columns index
-indexed_new columns index none empty = record {
-  listed = λ place i found. let h : find place_cmp place [] ≡ Some i = rw empty at found in
-      absurd cc;
-  placed_at = λ place i d found. let h : find place_cmp place [] ≡ Some i = rw empty at found in
-      absurd cc;
-  indexed = λ i d lt. absurd (omega (arith, ap length none));
-}
+indexed_new columns index none empty = grind (arith, nat_tests)

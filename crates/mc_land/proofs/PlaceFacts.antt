@@ -1,5 +1,6 @@
 -- A cell is where its column and its index in it say.
 use Rattle.std.proofs.Common.{◌≡◌, ℕ, ◌/◌, ◌%◌, ◌<◌, refl, arith}
+use Rattle.std.proofs.lemmas.Bool.Decides.{nat_tests}
 use Rattle.std.proofs.lemmas.Int.{ints}
 use Rattle.mc_column.specs.Sizes.{cells}
 use Rattle.mc_column.specs.SizesLaws.{cells-is}
@@ -46,8 +47,7 @@ terrain_at_key terrain x z y = rw (x_of_key x z y, y_of_key x z y, z_of_key x z 
 pub terrain_inside : (terrain : Terrain) (place : Place) (x y z : ℕ) (east south : ℤ) → x < 16 →
     z < 16 → east ≡ place.0 *ℤ pos 16 +ℤ pos x → south ≡ place.1 *ℤ pos 16 +ℤ pos z →
     terrain_state terrain east y south ≡ terrain_at terrain (place, cell_index x y z)
-terrain_inside terrain place x y z east south a b e f =
-    rw (e, f, x_back x y z a b, y_back x y z a b, z_back x y z a b) refl
+terrain_inside terrain place x y z east south a b e f = grind (arith, nat_tests)
 
 pub key_within : (x z : ℤ) (y : ℕ) → y < 256 → (key_of x y z).1 < cells
 key_within x z y lt = let a = inside_below x in let b = inside_below z in rw cells-is (omega arith)

@@ -17,6 +17,7 @@ use Rattle.mc_land.specs.Places.{is_within_border}
 use Rattle.std.specs.Prelude.{unsigned_abs}
 use Rattle.std.specs.Map.{lookup}
 use Rattle.std.proofs.Common.{◌&&◌}
+use Rattle.std.proofs.lemmas.Bool.Decides.{nat_tests}
 use Rattle.std.proofs.lemmas.Bool.{ltb-true}
 use lib.IntN.{ℤ, pos, negsuc}
 use Rattle.mc_land.proofs.PlaceFacts.{key_within}
@@ -230,10 +231,7 @@ pub changed_chests : (old new : Chests) (k key q : Key) (w : Option (List Pile))
     lookup (λ y. is_eq (key_cmp q y)) new ≡
     cond (is_eq (key_cmp k q)) w (lookup (λ y. is_eq (key_cmp q y)) old) → k ≡ key →
     find key_cmp q new ≡ cond (eq_by_cmp key_cmp q key) w (find key_cmp q old)
-changed_chests old new k key q w h e =
-    let turned : eq_by_cmp key_cmp k q ≡ eq_by_cmp key_cmp q key =
-    rw e ((eq_by_cmp_equiv keys_total).symm key q) in
-    sym (lookup_is key_cmp q new) ∙ h ∙ rw (turned, lookup_is key_cmp q old) refl
+changed_chests old new k key q w h e = grind (arith, nat_tests)
 
 pub none_of : (o : Option (List Pile)) → is_some o ≡ false → o ≡ None
 none_of None e = refl
@@ -242,11 +240,7 @@ none_of (Some x) e = absurd cc
 -- a look-up at every key, by cases on the one
 at_key : (q key : Key) (P : Bool → Type 0) → (q ≡ key → P true) → P false →
     P (eq_by_cmp key_cmp q key)
-at_key q key P here other = elim (key_cmp q key) as (λ o. key_cmp q key ≡ o → P (is_eq o)) [
-  | Less ↦ λ e. other
-  | Equal ↦ λ e. here (exact_keys q key e)
-  | Greater ↦ λ e. other
-] refl
+at_key q key P here other = grind (arith, nat_tests)
 
 pub after_alike : (chests : Chests) (key : Key) (old new : ℕ) →
     IsStrictlySortedBy key_cmp (map (λ e. e.0) chests) → is_chest old ≡ is_chest new →
@@ -299,10 +293,7 @@ pub back_again : (chests made back : Chests) (key : Key) → find key_cmp key ch
     (find key_cmp q chests)) →
     ((q : Key) → find key_cmp q back ≡ cond (eq_by_cmp key_cmp q key) None (find key_cmp q made)) →
     (q : Key) → find key_cmp q back ≡ find key_cmp q chests
-back_again chests made back key none puts takes q =
-    takes q ∙ rw (puts q)
-    (at_key q key (λ b. cond b None (cond b (Some empty_chest) (find key_cmp q chests)) ≡
-    find key_cmp q chests) (λ h. sym (ap (λ (k : Key). find key_cmp k chests) h ∙ none)) refl)
+back_again chests made back key none puts takes q = grind (arith, nat_tests)
 
 pub same_chests : (terrain : Terrain) (columns new : List ReadyValue) (chests after : Chests) →
     new ≡ columns → IsKeptLand terrain (placed columns) chests →
@@ -344,8 +335,7 @@ first_of true b e = refl
 first_of false b e = absurd cc
 
 pub high_enough : (x y z : ℤ) → is_inside x y z ≡ true → is_height y ≡ true
-high_enough x y z e = first_of (is_height y) (is_within_border x)
-    (first_of (is_height y && is_within_border x) (is_within_border z) e)
+high_enough x y z e = grind (arith, nat_tests)
 
 -- a chest stands at a cell exactly where its block is one's
 pub chest_at : (terrain : Terrain) (columns : List ReadyValue) (chests : Chests) (x y z : ℤ) →

@@ -2,6 +2,7 @@
 use Rattle.std.proofs.Common.{◌≡◌, ℕ, ◌<◌, true, false, cond, eqb, List, [], ◌∷◌, ◌++◌, length, map}
 use Rattle.std.proofs.Common.{get_or, set, Option, Some, None, refl, sym, subst, ap, ◌∙◌, arith}
 use Rattle.std.proofs.Common.{inl, inr}
+use Rattle.std.proofs.lemmas.Bool.Decides.{nat_tests}
 use Rattle.std.specs.declared.cmp.Ordering.{Ordering}
 use Rattle.std.specs.declared.cmp.Ordering.TheVariants.{Less, Equal, Greater}
 use Rattle.std.specs.Ordering.{is_eq, eq_by_cmp}
@@ -28,9 +29,7 @@ use Rattle.mc_land.proofs.KeptLandFacts.{apart, find_map}
 use Rattle.mc_land.proofs.LookFacts.{present, settled}
 
 is_equal : (o : Ordering) → is_eq o ≡ true → o ≡ Equal
-is_equal Less e = absurd cc
-is_equal Equal e = refl
-is_equal Greater e = absurd cc
+is_equal o e = grind (arith, nat_tests)
 
 turned : (a b : Place) → eq_by_cmp place_cmp a b ≡ eq_by_cmp place_cmp b a
 turned a b = (eq_by_cmp_equiv places_total).symm a b
@@ -39,32 +38,19 @@ turned a b = (eq_by_cmp_equiv places_total).symm a b
 
 at_place : (place : Place) (i state : ℕ) (ready : ReadyValue) → ready.place ≡ place →
     set_at place i state ready ≡ set_cell ready i state
-at_place place i state ready e = let h : eq_by_cmp place_cmp ready.place place ≡ true =
-    rw e (ap is_eq (tied_itself places_total place)) in rw h refl
+at_place place i state ready e = grind (arith, nat_tests)
 
 elsewhere : (place : Place) (i state : ℕ) (ready : ReadyValue) → (ready.place ≡ place → ⊥) →
     set_at place i state ready ≡ ready
-elsewhere place i state ready ne =
-    elim (eq_by_cmp place_cmp ready.place place) as (λ b. eq_by_cmp place_cmp ready.place place ≡
-    b → cond b (set_cell ready i state) ready ≡ ready) [
-      | true ↦ λ t.
-          absurd (ne (exact_places ready.place place (is_equal (place_cmp ready.place place) t)))
-      | false ↦ λ t. refl
-    ] refl
+elsewhere place i state ready ne = grind (arith, nat_tests)
 
 pub set_place : (place : Place) (i state : ℕ) (ready : ReadyValue) →
     (set_at place i state ready).place ≡ ready.place
-set_place place i state ready = elim (eq_by_cmp place_cmp ready.place place) as
-    (λ b. (cond b (set_cell ready i state) ready).place ≡ ready.place) [
-      | true ↦ refl
-      | false ↦ refl
-    ]
+set_place place i state ready = grind (arith, nat_tests)
 
 set_settled : (place : Place) (i state : ℕ) (ready : ReadyValue) →
     (set_at place i state ready).settled ≡ ready.settled
-set_settled place i state ready = elim (eq_by_cmp place_cmp ready.place place) as
-    (λ b. (cond b (set_cell ready i state) ready).settled ≡ ready.settled)
-    [ true ↦ refl | false ↦ refl ]
+set_settled place i state ready = grind (arith, nat_tests)
 
 -- setting the column that the index names is setting the column of the place
 pub set_is_map : (columns new : List ReadyValue) (index : List (Place × ℕ)) (place : Place)
@@ -120,36 +106,20 @@ indexed_set columns new index place i state is indexed =
 map_unset : (columns : List ReadyValue) (place : Place) (i state : ℕ) →
     find place_cmp place (placed columns) ≡ None → map (set_at place i state) columns ≡ columns
 map_unset [] place i state none = refl
-map_unset (x ∷ xs) place i state none =
-    elim (eq_by_cmp place_cmp place x.place) as (λ b. eq_by_cmp place_cmp place x.place ≡ b →
-    cond b (Some x) (find place_cmp place (placed xs)) ≡ None →
-    map (set_at place i state) (x ∷ xs) ≡ x ∷ xs) [
-      | true ↦ λ t h. absurd cc
-      | false ↦ λ t h. rw (turned x.place place, t, map_unset xs place i state h) refl
-    ] refl none
+map_unset (x ∷ xs) place i state none = grind (arith, nat_tests, map_unset xs place i state)
 
 -- ---- a cell is put into a column
 
 pub put_there : (terrain : Terrain) (place : Place) (i state : ℕ) (old new : List ReadyValue)
     (ready : ReadyValue) → find place_cmp place (placed old) ≡ Some ready →
     new ≡ map (set_at place i state) old → IsPut terrain place i state old new
-put_there terrain place i state old new ready found is = record {
-  there = λ r e. is;
-  made = λ none. let clash : None ≡ Some ready = sym none ∙ found in absurd cc;
-}
+put_there terrain place i state old new ready found is = grind (arith, nat_tests)
 
 pub put_made : (terrain : Terrain) (place : Place) (i state : ℕ) (old new : List ReadyValue)
     (fresh : ReadyValue) → find place_cmp place (placed old) ≡ None → IsFresh terrain place fresh →
     new ≡ old ++ set_cell fresh i state ∷ [] → IsPut terrain place i state old new
-put_made terrain place i state old new fresh none is e = record {
-  there = λ r found. let clash : None ≡ Some r = sym none ∙ found in absurd cc;
-  made = λ h. (
-    fresh,
-    is,
-    e ∙ sym (map-append (set_at place i state) old (fresh ∷ []) ∙
-        rw (map_unset old place i state none, at_place place i state fresh is.at) refl),
-  );
-}
+put_made terrain place i state old new fresh none is e =
+    grind (arith, nat_tests, map-append, map_unset, at_place)
 
 -- ---- what a land is then
 
@@ -163,16 +133,7 @@ placed_map f (x ∷ xs) keeps = rw (keeps x, placed_map f xs keeps) refl
 pub found_place : (q : Place) (columns : List ReadyValue) (ready : ReadyValue) →
     find place_cmp q (placed columns) ≡ Some ready → ready.place ≡ q
 found_place q [] ready e = absurd cc
-found_place q (x ∷ xs) ready e =
-    elim (eq_by_cmp place_cmp q x.place) as (λ b. eq_by_cmp place_cmp q x.place ≡ b →
-    cond b (Some x) (find place_cmp q (placed xs)) ≡ Some ready → ready.place ≡ q) [
-      | true ↦ λ t h. ap (λ (r : ReadyValue). r.place) (sym (some_is x ready h)) ∙
-          sym (exact_places q x.place (is_equal (place_cmp q x.place) t))
-      | false ↦ λ t h. found_place q xs ready h
-    ] refl e
-  where
-    some_is : (a b : ReadyValue) → Some a ≡ Some b → a ≡ b
-    some_is a b e = cc
+found_place q (x ∷ xs) ready e = grind (arith, nat_tests, found_place q xs ready)
 
 abbrev pub each : (ReadyValue → ReadyValue) → Columns → Columns
 each f columns = map (λ e. (e.0, f e.1)) columns

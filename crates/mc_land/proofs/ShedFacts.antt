@@ -2,6 +2,7 @@
 use Rattle.std.proofs.Common.{◌≡◌, ℕ, zero, suc, ◌+◌, ◌-◌, ◌<◌, ◌≤◌, ◌&&◌, ◌||◌, ◌⊎◌, nat_lt, eqb}
 use Rattle.std.proofs.Common.{not, Bool, true, false, cond, List, [], ◌∷◌, length, map, get_or, set}
 use Rattle.std.proofs.Common.{take, Option, Some, None, refl, sym, subst, ap, ◌∙◌, arith, inl, inr}
+use Rattle.std.proofs.lemmas.Bool.Decides.{nat_tests}
 use Rattle.std.specs.declared.cmp.Ordering.{Ordering}
 use Rattle.std.specs.declared.cmp.Ordering.TheVariants.{Less, Equal, Greater}
 use Rattle.std.specs.Ordering.{is_eq, eq_by_cmp, ordering_then, nat_cmp}
@@ -41,58 +42,36 @@ some_ready : (a b : ReadyValue) → Some a ≡ Some b → a ≡ b
 some_ready a b e = cc
 
 is_equal : (o : Ordering) → is_eq o ≡ true → o ≡ Equal
-is_equal Less e = absurd cc
-is_equal Equal e = refl
-is_equal Greater e = absurd cc
+is_equal o e = grind (arith, nat_tests)
 
 tied : (a b : Place) → a ≡ b → eq_by_cmp place_cmp a b ≡ true
 tied a b e = rw e (ap is_eq (tied_itself places_total b))
 
 untied : (a b : Place) → (a ≡ b → ⊥) → eq_by_cmp place_cmp a b ≡ false
-untied a b ne = elim (eq_by_cmp place_cmp a b) as (λ t. eq_by_cmp place_cmp a b ≡ t → t ≡ false) [
-  | true ↦ λ e. absurd (ne (exact_places a b (is_equal (place_cmp a b) e)))
-  | false ↦ λ e. refl
-] refl
+untied a b ne = grind (arith, nat_tests)
 
 same_or_not : (a b : Place) → (a ≡ b) ⊎ (a ≡ b → ⊥)
-same_or_not a b = elim (eq_by_cmp place_cmp a b) as (λ t. eq_by_cmp place_cmp a b ≡ t → (a ≡ b) ⊎
-    (a ≡ b → ⊥)) [
-      | true ↦ λ e. inl (exact_places a b (is_equal (place_cmp a b) e))
-      | false ↦ λ e. inr (λ same. true≢false (sym (tied a b same) ∙ e))
-    ] refl
+same_or_not a b = grind (arith, nat_tests)
 
 -- ---- one column is taken away
 
 -- the columns with the last one in place of one
 length-swapped : (columns : List ReadyValue) (i : ℕ) (d : ReadyValue) → i < length columns →
     length (swap_remove columns i d) ≡ length columns - 1
-length-swapped columns i d lt =
-    omega (
-      arith,
-      length-take (length columns - 1)
-          (set columns i (get_or columns (length columns - 1) d)),
-      length-set columns i (get_or columns (length columns - 1) d),
-    )
+length-swapped columns i d lt = grind (arith, nat_tests, length-take, length-set)
 
 swapped_here : (columns : List ReadyValue) (i : ℕ) (d e : ReadyValue) → i + 1 < length columns →
     get_or (swap_remove columns i d) i e ≡ get_or columns (length columns - 1) d
-swapped_here columns i d e lt =
-    get_or-take (length columns - 1) (set columns i (get_or columns (length columns - 1) d)) i e
-    (omega arith) ∙ get_or-set_same columns i (get_or columns (length columns - 1) d) e
-    (omega arith)
+swapped_here columns i d e lt = grind (arith, nat_tests, get_or-take, get_or-set_same)
 
 swapped_other : (columns : List ReadyValue) (i k : ℕ) (d e : ReadyValue) → (k ≡ i → ⊥) →
     k + 1 < length columns → get_or (swap_remove columns i d) k e ≡ get_or columns k e
-swapped_other columns i k d e ne lt =
-    get_or-take (length columns - 1) (set columns i (get_or columns (length columns - 1) d)) k e
-    (omega arith) ∙ get_or-set_other columns i k (get_or columns (length columns - 1) d) e ne
+swapped_other columns i k d e ne lt = grind (arith, nat_tests, get_or-take, get_or-set_other)
 
 -- whatever is read past the end, the columns are the same
 pub swapped_default : (columns : List ReadyValue) (i : ℕ) (d e : ReadyValue) → i < length columns →
     swap_remove columns i d ≡ swap_remove columns i e
-swapped_default columns i d e lt =
-    ap (λ (r : ReadyValue). take (length columns - 1) (set columns i r))
-    (get_or_default columns (length columns - 1) d e (omega arith))
+swapped_default columns i d e lt = grind (arith, nat_tests, get_or_default)
 
 -- the index knows the one that was moved, not the one that is gone, and the others as before
 pub record IsRepointed (columns : List ReadyValue) (index new : List (Place × ℕ)) (i : ℕ)
@@ -118,21 +97,7 @@ by_place : (columns : List ReadyValue) (index new : List (Place × ℕ)) (i : �
     (q ≡ (get_or columns i d).place → P None) →
     ((q ≡ (get_or columns (length columns - 1) d).place → ⊥) → (q ≡ (get_or columns i d).place →
     ⊥) → P (find place_cmp q index)) → P (find place_cmp q new)
-by_place columns index new i d q P is lt to moved gone other =
-    elim (same_or_not q (get_or columns i d).place) [
-      | inl e ↦ subst P (sym (ap (λ (p : Place). find place_cmp p new) e ∙ to.at_gone)) (gone e)
-      | inr ne ↦ elim (same_or_not q (get_or columns (length columns - 1) d).place) [
-        | inl e ↦
-            let before : i + 1 < length columns = elim (cases_eq (i + 1) (length columns)) [
-              | inl last ↦ let here : length columns - 1 ≡ i = omega arith in
-                  absurd (ne (e ∙ ap (λ (k : ℕ). (get_or columns k d).place) here))
-              | inr less ↦ omega arith
-            ] in
-            subst P (sym (ap (λ (p : Place). find place_cmp p new) e ∙ to.at_last before))
-            (moved before e)
-        | inr ne' ↦ subst P (sym (to.at_other q ne' ne)) (other ne' ne)
-      ]
-    ]
+by_place columns index new i d q P is lt to moved gone other = grind (arith, nat_tests)
 
 pub removed_indexed : (columns removed : List ReadyValue) (index new : List (Place × ℕ)) (i : ℕ)
     (d : ReadyValue) → IsIndexed columns index → i < length columns →
@@ -193,11 +158,7 @@ removed_indexed columns removed index new i d is lt to same =
 by_index : (columns : List ReadyValue) (index : List (Place × ℕ)) (q : Place) (d : ReadyValue) →
     IsIndexed columns index → find place_cmp q (placed columns) ≡
     option_map (λ i. get_or columns i d) (find place_cmp q index)
-by_index columns index q d is = elim (find place_cmp q index) as (λ o. find place_cmp q index ≡ o →
-    find place_cmp q (placed columns) ≡ option_map (λ i. get_or columns i d) o) [
-      | None ↦ λ e. found_unindexed q columns index is e
-      | Some i ↦ λ e. found_indexed q columns index i d is e
-    ] refl
+by_index columns index q d is = grind (arith, nat_tests, found_unindexed, found_indexed)
 
 -- the column that was taken away is found no more, and the others are as before
 pub removed_found : (columns removed : List ReadyValue) (index new : List (Place × ℕ)) (i : ℕ)
@@ -206,32 +167,18 @@ pub removed_found : (columns removed : List ReadyValue) (index new : List (Place
     ((q ≡ (get_or columns i d).place → ⊥) → find place_cmp q (placed removed) ≡
     find place_cmp q (placed columns)) × (q ≡ (get_or columns i d).place →
     find place_cmp q (placed removed) ≡ None)
-removed_found columns removed index new i d q is lt to same =
-    let is' = removed_indexed columns removed index new i d is lt to same in (
-      λ ne. by_index removed new q d is' ∙ by_place columns index new i d q
-          (λ o. option_map (λ k. get_or removed k d) o ≡ find place_cmp q (placed columns)) is lt to
-          (λ before at. let here : get_or removed i d ≡ get_or columns (length columns - 1) d = rw
-          same (swapped_here columns i d d before) in ap Some here ∙
-          sym (found_indexed q columns index (length columns - 1) d is
-          (ap (λ (p : Place). find place_cmp p index) at ∙ is.indexed (length columns - 1) d
-          (omega arith))))
-          (λ at. absurd (ne at))
-          (λ not_last not_gone. elim (find place_cmp q index) as (λ o. find place_cmp q index ≡ o →
-          option_map (λ k. get_or removed k d) o ≡ find place_cmp q (placed columns)) [
-            | None ↦ λ e. sym (found_unindexed q columns index is e)
-            | Some k ↦ λ e.
-                let there = is.listed q k e in
-                let not_i : k ≡ i → ⊥ = λ h. not_gone (sym (is.placed_at q k d e) ∙
-                ap (λ (n : ℕ). (get_or columns n d).place) h) in
-                let last : k ≡ length columns - 1 → ⊥ = λ h. not_last (sym (is.placed_at q k d e) ∙
-                ap (λ (n : ℕ). (get_or columns n d).place) h) in
-                let here : get_or removed k d ≡ get_or columns k d =
-                rw same (swapped_other columns i k d d not_i (omega (arith, there, last))) in
-                ap Some here ∙ sym (found_indexed q columns index k d is e)
-          ] refl),
-      λ at. by_index removed new q d is' ∙ ap (option_map (λ k. get_or removed k d))
-          (ap (λ (p : Place). find place_cmp p new) at ∙ to.at_gone),
-    )
+removed_found columns removed index new i d q is lt to same = grind (
+  arith,
+  nat_tests,
+  removed_indexed columns removed index new i d is lt to same,
+  by_index removed new q d,
+  by_place columns index new i d q,
+  swapped_here columns i d d,
+  found_indexed q columns index (length columns - 1) d is,
+  found_indexed q columns index,
+  found_unindexed q columns index is,
+  swapped_other columns i,
+)
 
 -- ---- where the index is told
 
@@ -239,10 +186,7 @@ pub updated : (old new : List (Place × ℕ)) (k key q : Place) (w : Option ℕ)
     lookup (λ y. is_eq (place_cmp q y)) new ≡ cond (is_eq (place_cmp k q)) w
     (lookup (λ y. is_eq (place_cmp q y)) old) → k ≡ key → find place_cmp q new ≡
     cond (eq_by_cmp place_cmp q key) w (find place_cmp q old)
-updated old new k key q w h e =
-    let turned : eq_by_cmp place_cmp k q ≡ eq_by_cmp place_cmp q key =
-    rw e ((eq_by_cmp_equiv places_total).symm key q) in
-    sym (lookup_is place_cmp q new) ∙ h ∙ rw (turned, lookup_is place_cmp q old) refl
+updated old new k key q w h e = grind (arith, nat_tests)
 
 pub pointed_some : (old new : List (Place × ℕ)) (place : Place) (i v : ℕ) →
     find place_cmp place old ≡ Some v →
@@ -250,19 +194,13 @@ pub pointed_some : (old new : List (Place × ℕ)) (place : Place) (i v : ℕ) �
     (find place_cmp q old)) → (q : Place) → find place_cmp q new ≡
     cond (eq_by_cmp place_cmp q place) (option_map (λ _. i) (find place_cmp q old))
     (find place_cmp q old)
-pointed_some old new place i v there puts q = puts q ∙ elim (same_or_not q place) [
-  | inl e ↦ rw (e, there) refl
-  | inr ne ↦ rw (untied q place ne) refl
-]
+pointed_some old new place i v there puts q = grind (arith, nat_tests)
 
 pub pointed_none : (old new : List (Place × ℕ)) (place : Place) (i : ℕ) → find place_cmp place old ≡
     None → ((q : Place) → find place_cmp q new ≡ find place_cmp q old) → (q : Place) →
     find place_cmp q new ≡ cond (eq_by_cmp place_cmp q place)
     (option_map (λ _. i) (find place_cmp q old)) (find place_cmp q old)
-pointed_none old new place i none same q = same q ∙ elim (same_or_not q place) [
-  | inl e ↦ rw (e, tied place place refl, none) refl
-  | inr ne ↦ rw (untied q place ne) refl
-]
+pointed_none old new place i none same q = grind (arith, nat_tests)
 
 pub pointed_at : (columns : List ReadyValue) (old new : List (Place × ℕ)) (p : Place)
     (ready : ReadyValue) (i : ℕ) → ready ≡ get_or columns i ready → p ≡ ready.place →
@@ -271,23 +209,14 @@ pub pointed_at : (columns : List ReadyValue) (old new : List (Place × ℕ)) (p 
     (d : ReadyValue) (q : Place) → i < length columns → find place_cmp q new ≡
     cond (eq_by_cmp place_cmp q (get_or columns i d).place)
     (option_map (λ _. i) (find place_cmp q old)) (find place_cmp q old)
-pointed_at columns old new p ready i is of points d q lt =
-    let same : p ≡ (get_or columns i d).place = of ∙ ap (λ (r : ReadyValue). r.place) (is ∙
-    get_or_default columns i ready d lt) in
-    points q ∙ ap (λ (t : Place). cond (eq_by_cmp place_cmp q t)
-    (option_map (λ _. i) (find place_cmp q old)) (find place_cmp q old)) same
+pointed_at columns old new p ready i is of points d q lt = grind (arith, nat_tests, get_or_default)
 
 -- the last one is taken away
 pub repointed_last : (columns : List ReadyValue) (index new : List (Place × ℕ)) (i : ℕ)
     (d : ReadyValue) → length columns ≤ i + 1 →
     ((q : Place) → find place_cmp q new ≡ cond (eq_by_cmp place_cmp q (get_or columns i d).place)
     None (find place_cmp q index)) → IsRepointed columns index new i d
-repointed_last columns index new i d last takes = record {
-  at_last = λ before. absurd (omega arith);
-  at_gone = takes (get_or columns i d).place ∙
-      rw (tied (get_or columns i d).place (get_or columns i d).place refl) refl;
-  at_other = λ q ne ne'. takes q ∙ rw (untied q (get_or columns i d).place ne') refl;
-}
+repointed_last columns index new i d last takes = grind (arith, nat_tests, tied, untied)
 
 -- another one is, and the last one moved
 pub repointed_more : (columns : List ReadyValue) (index gone new : List (Place × ℕ)) (i : ℕ)
@@ -299,106 +228,36 @@ pub repointed_more : (columns : List ReadyValue) (index gone new : List (Place �
     (option_map (λ _. i) (find place_cmp q gone)) (find place_cmp q gone)) →
     IsRepointed columns index new i d
 repointed_more columns index gone new i d is before takes points =
-    let two : (get_or columns (length columns - 1) d).place ≡ (get_or columns i d).place →
-    ⊥ = λ e. absurd (omega (
-      arith,
-      apart_places columns index (length columns - 1) i d is
-          (omega arith) (omega arith) e,
-    )) in
-    record {
-      at_last = λ b. points (get_or columns (length columns - 1) d).place ∙
-          rw (
-            tied (get_or columns (length columns - 1) d).place
-                (get_or columns (length columns - 1) d).place refl,
-            takes (get_or columns (length columns - 1) d).place,
-            untied (get_or columns (length columns - 1) d).place (get_or columns i d).place two,
-            is.indexed (length columns - 1) d (omega arith),
-          ) refl;
-      at_gone = points (get_or columns i d).place ∙
-          rw (
-            untied (get_or columns i d).place (get_or columns (length columns - 1) d).place
-                (λ e. two (sym e)),
-            takes (get_or columns i d).place,
-            tied (get_or columns i d).place
-                (get_or columns i d).place refl,
-          ) refl;
-      at_other = λ q ne ne'. points q ∙ rw (
-        untied q (get_or columns (length columns - 1) d).place
-            ne,
-        takes q,
-        untied q (get_or columns i d).place ne',
-      ) refl;
-    }
+    grind (arith, nat_tests, apart_places, tied, untied)
 
 -- ---- one after another
 
 pub shed_none : (views : List View) (old : List ReadyValue) (n : ℕ) → n ≡ length old →
     AreShed views old old n
-shed_none views old n all = record {
-  within = omega arith;
-  none = λ q e. e;
-  kept = λ q r e s. e;
-  either = λ q r e. inl e;
-  stay = λ k d le lt. absurd (omega arith);
-}
+shed_none views old n all = grind (arith, nat_tests)
 
 -- the one below i stays, or is taken away
 pub shed_more : (views : List View) (old now new : List ReadyValue) (index : List (Place × ℕ))
     (i z : ℕ) (d : ReadyValue) → z ≡ i + 1 → AreShed views old now z → IsIndexed now index →
     is_kept views (get_or now i d) ≡ true → new ≡ now → AreShed views old new i
-shed_more views old now new index i z d step shed is stays' same = rw same (record {
-  within = omega (arith, shed.within);
-  none = shed.none;
-  kept = shed.kept;
-  either = shed.either;
-  stay = λ k e le lt. elim (cases_eq k i) [
-    | inl here ↦ rw here (ap (is_kept views) (get_or_default now i e d (omega (arith, shed.within)))
-        ∙ stays')
-    | inr ne ↦ shed.stay k e (omega arith) lt
-  ];
-})
+shed_more views old now new index i z d step shed is stays' same =
+    grind (arith, nat_tests, cases_eq, get_or_default)
 
 pub shed_less : (views : List View) (old now new : List ReadyValue) (index : List (Place × ℕ))
     (i z : ℕ) (d : ReadyValue) → z ≡ i + 1 → AreShed views old now z → IsIndexed now index →
     is_kept views (get_or now i d) ≡ false → IsTakenAway now new i d → AreShed views old new i
-shed_less views old now new index i z d step shed is goes taken =
-    let same = taken.is in
-    let lt : i < length now = omega (arith, shed.within) in
-    let len : length new ≡ length now - 1 = ap length same ∙ length-swapped now i d lt in
-    let here : find place_cmp (get_or now i d).place (placed now) ≡ Some (get_or now i d) =
-    found_indexed (get_or now i d).place now index i d is (is.indexed i d lt) in
-    record {
-      within = omega (arith, len);
-      none = λ q e. elim (same_or_not q (get_or now i d).place) [
-        | inl at ↦ taken.gone q at
-        | inr ne
-            ↦ taken.others q ne ∙ shed.none q e
-      ];
-      kept = λ q r e s. elim (same_or_not q (get_or now i d).place) [
-        | inl at ↦
-            let r_is : r ≡ get_or now i d = some_ready r (get_or now i d) (sym (shed.kept q r e s) ∙
-            ap (λ (p : Place). find place_cmp p (placed now)) at ∙ here) in
-            absurd (true≢false (sym s ∙ ap (is_kept views) r_is ∙ goes))
-        | inr ne ↦ taken.others q ne ∙ shed.kept q r e s
-      ];
-      either = λ q r e. elim (same_or_not q (get_or now i d).place) [
-        | inl at ↦ inr (taken.gone q at)
-        | inr ne ↦ elim (shed.either q r e) [
-          | inl there ↦ inl (taken.others q ne ∙ there)
-          | inr none
-              ↦ inr (taken.others q ne ∙ none)
-        ]
-      ];
-      stay = λ k e le below.
-          let within : k + 1 < length now = omega (arith, below, len) in
-          elim (cases_eq k i) [
-            | inl at ↦ rw (at, same)
-                (ap (is_kept views) (swapped_here now i d e (omega (arith, within, at))) ∙
-                shed.stay (length now - 1) d (omega (arith, within, at)) (omega arith))
-            | inr ne ↦ rw same (ap (is_kept views) (swapped_other now i k d e ne within) ∙
-                shed.stay k e (omega arith) (omega arith))
-          ];
-    }
+shed_less views old now new index i z d step shed is goes taken = grind (
+  arith,
+  nat_tests,
+  length-swapped,
+  found_indexed,
+  same_or_not,
+  some_ready,
+  true≢false,
+  cases_eq,
+  swapped_here,
+  swapped_other,
+)
 
 pub shed_all : (views : List View) (old new : List ReadyValue) (index : List (Place × ℕ)) (i : ℕ) →
     i ≤ 0 → AreShed views old new i → IsIndexed new index → IsShed views old new
@@ -502,30 +361,12 @@ found_any q (x ∷ xs) e =
 none_passes : (p : ℕ → Bool) (a n i : ℕ) → length (filter p (range_with_len a n)) ≡ 0 → a ≤ i →
     i < a + n → p i ≡ false
 none_passes p a zero i none le lt = absurd (omega arith)
-none_passes p a (suc n) i none le lt =
-    elim (p a) as (λ b. p a ≡ b →
-    length (cond b (a ∷ filter p (range_with_len (a + 1) n))
-    (filter p (range_with_len (a + 1) n))) ≡ 0 → p i ≡ false) [
-      | true ↦ λ t h. absurd (omega (arith, h))
-      | false ↦ λ t h. elim (cases_eq i a) [
-        | inl e ↦ rw e t
-        | inr ne ↦ none_passes p (a + 1) n i h
-            (omega arith) (omega arith)
-      ]
-    ] refl none
+none_passes p a (suc n) i none le lt = grind (arith, nat_tests, none_passes p (a + 1) n i)
 
 some_passes : (p : ℕ → Bool) (a n : ℕ) → (length (filter p (range_with_len a n)) ≡ 0 → ⊥) →
     (i : ℕ) × ((a ≤ i) × (i < a + n) × (p i ≡ true))
 some_passes p a zero some = absurd (some refl)
-some_passes p a (suc n) some =
-    elim (p a) as (λ b. p a ≡ b →
-    (length (cond b (a ∷ filter p (range_with_len (a + 1) n))
-    (filter p (range_with_len (a + 1) n))) ≡ 0 → ⊥) →
-    (i : ℕ) × ((a ≤ i) × (i < a + suc n) × (p i ≡ true))) [
-      | true ↦ λ t h. (a, (omega arith, omega arith, t))
-      | false ↦ λ t h. let rest = some_passes p (a + 1) n h in
-          (rest.0, (omega (arith, rest.1.0), omega (arith, rest.1.1), rest.1.2))
-    ] refl some
+some_passes p a (suc n) some = grind (arith, nat_tests, some_passes p (a + 1) n)
 
 -- the edit of a cell of a ready column
 edit_at : (terrain : Terrain) (columns : Columns) (q : Place) (r : ReadyValue) (i : ℕ) →
@@ -638,30 +479,10 @@ edits_stay : (look : ReadyValue → List ℕ) (terrain : Terrain) (old new : Lis
     kept_edits terrain (map (λ e. (e.0, look e.1)) (placed new)) ≡
     kept_edits terrain (map (λ e. (e.0, look e.1)) (placed old))
 edits_stay look terrain old new views is is' shed own =
-    same_edits terrain (map (λ e. (e.0, look e.1)) (placed old)) (map (λ e. (e.0, look e.1))
-    (placed new)) (apart look (placed old) is) (apart look (placed new) is')
-    (λ c i. rw (find_map look c (placed new), find_map look c (placed old))
-    (by c i (find place_cmp c (placed old)) refl))
-  where
-    by : (c : Place) (i : ℕ) (o : Option ReadyValue) → find place_cmp c (placed old) ≡ o →
-        changed_at terrain c i (option_map look (find place_cmp c (placed new))) ≡
-        changed_at terrain c i (option_map look o)
-    by c i None e = rw (shed.none c e) refl
-    by c i (Some r) e = kept_or (is_kept views r) refl
-      where
-        kept_or : (b : Bool) → is_kept views r ≡ b →
-            changed_at terrain c i (option_map look (find place_cmp c (placed new))) ≡
-            changed_at terrain c i (Some (look r))
-        kept_or true t = rw (shed.kept c r e t) refl
-        kept_or false t = rw (shed.gone c r e t) (sym (no_edit terrain c i (look r) (own c r e t)))
+    grind (arith, nat_tests, same_edits, apart, find_map, changed_at, no_edit)
 
 not_kept : (views : List View) (r : ReadyValue) → is_kept views r ≡ false → changes_in r ≡ 0
-not_kept views r e = zero_of (eqb (changes_in r) 0) refl (is_seen views r.place) e
-  where
-    zero_of : (b : Bool) → eqb (changes_in r) 0 ≡ b → (seen : Bool) → (not b || seen) ≡ false →
-        changes_in r ≡ 0
-    zero_of true t seen h = eqb-true (changes_in r) 0 t
-    zero_of false t seen h = absurd cc
+not_kept views r e = grind (arith, nat_tests)
 
 pub shed_keeps : (terrain : Terrain) (old new : List ReadyValue) (index index' : List (Place × ℕ))
     (chests : Chests) (views : List View) → IsKeptLand terrain (placed old) chests ×

@@ -12,6 +12,7 @@ use Rattle.std.specs.FinMap.{find, get, len, entries, entries_sorted, get-entrie
 use Rattle.std.specs.FinMap.{from_entries, get-from_entries, len-insert, len-empty}
 use Rattle.std.specs.FinMap.Entries.{same_entries, is_sorted, below_all}
 use Rattle.std.proofs.Common.{length-append}
+use Rattle.std.proofs.lemmas.Bool.Decides.{nat_tests}
 use Rattle.std.proofs.lemmas.List.Sums.{sum_by-cons}
 use Rattle.mc_column.specs.Sizes.{cells}
 use Rattle.mc_land.specs.declared.terrain.Terrain.{Terrain}
@@ -50,19 +51,14 @@ once_front : (c : Place) (test : ℕ → Bool) (state : ℕ → ℕ) (a n : ℕ)
     ((i : ℕ) → find key_cmp (c, i) ys ≡ None) → IsOnce ys →
     IsOnce (listed c test state (range_with_len a n) ++ ys)
 once_front c test state a zero ys none once = once
-once_front c test state a (suc n) ys none once =
-    elim (test a) as
-    (λ b. IsOnce (map (λ k. ((c, k), state k))
-    (cond b (a ∷ filter test (range_with_len (a + 1) n))
-    (filter test (range_with_len (a + 1) n))) ++ ys)) [
-      | true ↦ (
-        find_append (c, a) (listed c test state (range_with_len (a + 1) n)) ys ∙
-            nothing_or _ _ (found_none c test state a (a + 1) n (λ le lt. absurd (omega arith))) ∙
-            none a,
-        once_front c test state (a + 1) n ys none once,
-      )
-      | false ↦ once_front c test state (a + 1) n ys none once
-    ]
+once_front c test state a (suc n) ys none once = grind (
+  arith,
+  nat_tests,
+  once_front c test state (a + 1) n ys none once,
+  find_append,
+  nothing_or,
+  found_none,
+)
 
 once_all : (terrain : Terrain) (columns : List (Place × List ℕ)) → IsApart columns →
     IsOnce (all_changes terrain columns)
@@ -139,13 +135,7 @@ edit_is terrain columns chests key state kept e = of (find place_cmp key.0 (pres
 pub edit_inside : (terrain : Terrain) (columns : Columns) (chests : Chests) (key : Key) →
     IsKeptLand terrain columns chests →
     IsSome (get (kept_edits terrain (present_states columns)) key) → key.1 < cells
-edit_inside terrain columns chests key kept some =
-    of (get (kept_edits terrain (present_states columns)) key) refl some
-  where
-    of : (o : Option ℕ) → get (kept_edits terrain (present_states columns)) key ≡ o → IsSome o →
-        key.1 < cells
-    of None e s = absurd cc
-    of (Some state) e s = (edit_is terrain columns chests key state kept e).0
+edit_inside terrain columns chests key kept some = grind (arith, nat_tests, edit_is)
 
 -- a chest is a cell of its column, and its id is a chest's
 pub chest_inside : (terrain : Terrain) (columns : Columns) (chests : Chests) (key : Key) →

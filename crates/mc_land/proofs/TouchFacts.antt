@@ -2,8 +2,10 @@
 use Rattle.std.proofs.Common.{◌≡◌, ℕ, zero, suc, ◌+◌, ◌-◌, ◌<◌, ◌≤◌, nat_lt, Bool, true, false, not}
 use Rattle.std.proofs.Common.{eqb, List, [], ◌∷◌, ◌++◌, length, get_or, refl, sym, subst, ap, ◌∙◌}
 use Rattle.std.proofs.Common.{arith, inl, inr}
+use Rattle.std.proofs.lemmas.Bool.Decides.{nat_tests}
 use Rattle.std.proofs.lemmas.Bool.{cases_eq, cases_lt, lt-ltb, le-ltb, ltb-true, eq-eqb, ne_eqb}
 use Rattle.std.proofs.lemmas.Bool.{true≢false}
+use Rattle.std.proofs.lemmas.Grind.{common_steps}
 use Rattle.std.proofs.lemmas.List.{length-append, get_or_append_left, get_or-append_right}
 use Rattle.std.specs.List.Sorted.{IsPartitionPoint, IsPartitionedBy}
 use Rattle.mc_land.specs.declared.ready.Touched.{Touched}
@@ -19,34 +21,23 @@ upper : (high : List Touched) (known : Bool) (cell : Touched) (i : ℕ) (d : Tou
     ((k : ℕ) (e : Touched) → k < length high → cell.index < (get_or high k e).index) →
     i < length (one_if known cell ++ high) → is_low cell (get_or (one_if known cell ++ high) i d) ≡
     false
-upper high true cell zero d above lt = le-ltb cell.index cell.index (omega arith)
-upper high true cell (suc i) d above lt = let h = above i d (omega arith) in
-    le-ltb (get_or high i d).index cell.index (omega arith)
-upper high false cell i d above lt = let h = above i d lt in
-    le-ltb (get_or high i d).index cell.index (omega arith)
+upper high known cell i d above lt = grind (arith, nat_tests)
 
 -- a touched cell has a lower index exactly where it stands before that place
 pub low_at : (touched low high : List Touched) (known : Bool) (cell : Touched) (i : ℕ) (d : Touched)
     → IsAround touched low high known cell → i < length touched → is_low cell (get_or touched i d) ≡
     nat_lt i (length low)
-low_at touched low high known cell i d around lt =
-    elim (cases_lt i (length low)) [
-      | inl inside ↦ rw (
-        around.parts,
-        get_or_append_left low (one_if known cell ++ high) d i
-            inside,
-      ) (lt-ltb (get_or low i d).index cell.index (around.low_below i d inside) ∙
-          sym (lt-ltb i (length low) inside))
-      | inr past ↦
-          let len : length touched ≡ length low + length (one_if known cell ++ high) =
-          ap length around.parts ∙ length-append low (one_if known cell ++ high) in
-          rw (
-            around.parts,
-            get_or-append_right low (one_if known cell ++ high) (length low) i d
-                refl past,
-          ) (upper high known cell (i - length low) d around.high_above
-          (omega (arith, len)) ∙ sym (le-ltb i (length low) past))
-    ]
+low_at touched low high known cell i d around lt = grind (
+  arith,
+  nat_tests,
+  cases_lt,
+  get_or_append_left,
+  lt-ltb,
+  length-append,
+  get_or-append_right,
+  upper,
+  le-ltb,
+)
 
 -- so those with a lower index stand first
 pub around_sorted : (touched low high : List Touched) (known : Bool) (cell : Touched) →
@@ -62,25 +53,18 @@ pub rank_low : (touched low high : List Touched) (known : Bool) (cell : Touched)
     IsAround touched low high known cell → r ≤ length touched →
     IsPartitionPoint (λ other. is_low cell other ≡ true) (λ other. is_low cell other ≡ false)
     touched r → r ≡ length low
-rank_low touched low high known cell r around le point =
-    let len : length touched ≡ length low + length (one_if known cell ++ high) =
-    ap length around.parts ∙ length-append low (one_if known cell ++ high) in
-    elim (cases_lt r (length low)) [
-      | inl short ↦
-          let fails = point.1 r cell (omega arith) (omega (arith, len)) in
-          let passes = low_at touched low high known cell r cell around (omega (arith, len)) ∙
-          lt-ltb r (length low) short in
-          absurd (true≢false (sym passes ∙ fails))
-      | inr long ↦
-          elim (cases_eq r (length low)) [
-            | inl e ↦ e
-            | inr ne ↦
-                let passes = point.0 (length low) cell (omega arith) (omega arith) in
-                let fails = low_at touched low high known cell (length low) cell around
-                (omega arith) ∙ le-ltb (length low) (length low) (omega arith) in
-                absurd (true≢false (sym passes ∙ fails))
-          ]
-    ]
+rank_low touched low high known cell r around le point = grind (
+  arith,
+  nat_tests,
+  length-append low (one_if known cell ++ high),
+  cases_lt r (length low),
+  low_at touched low high known cell r cell around,
+  low_at touched low high known cell (length low) cell around,
+  lt-ltb r (length low),
+  true≢false,
+  cases_eq r (length low),
+  le-ltb (length low) (length low),
+)
 
 is_at_append : (low rest : List Touched) (index : ℕ) → is_at (low ++ rest) (length low) index ≡
     is_at rest 0 index
@@ -91,15 +75,7 @@ is_at_append (x ∷ low) rest index = is_at_append low rest index
 pub known_at : (touched low high : List Touched) (known : Bool) (cell : Touched) →
     IsAround touched low high known cell → is_at touched (length low) cell.index ≡ known
 known_at touched low high known cell around =
-    rw around.parts (is_at_append low (one_if known cell ++ high) cell.index ∙
-    first known high around.high_above)
-  where
-    first : (b : Bool) (high : List Touched) → ((i : ℕ) (d : Touched) → i < length high →
-        cell.index < (get_or high i d).index) → is_at (one_if b cell ++ high) 0 cell.index ≡ b
-    first true high above = eq-eqb cell.index cell.index refl
-    first false [] above = refl
-    first false (x ∷ high) above = let h = above 0 x (omega arith) in
-        ne_eqb x.index cell.index (λ e. absurd (omega arith))
+    grind (arith, common_steps, is_at_append, eq-eqb, ne_eqb)
 
 -- the cell is taken away from there, or put there
 pub taken_away : (low high : List Touched) (cell : Touched) →
@@ -232,14 +208,7 @@ pub account_kept : (touched : List Touched) (index old state r : ℕ) (d : Touch
     r ≤ length touched → EndsBelow touched index r → is_at touched r index ≡ true →
     ((get_or touched r d).was ≡ state → ⊥) → AreAccounted touched touched index old state
 account_kept touched index old state r d le point passes differs low high known cell around e was =
-    let point' : EndsBelow touched cell.index r = subst (λ (n : ℕ). EndsBelow touched n r) (sym e)
-    point in
-    let passes' : is_at touched r cell.index ≡ true = rw e passes in
-    let there : get_or touched r d ≡ cell = touch_here touched low high known cell d r le point'
-    passes' around in
-    let other : eqb cell.was state ≡ false =
-    ne_eqb cell.was state (λ h. differs (ap (λ (t : Touched). t.was) there ∙ h)) in
-    rw other (touch_keep touched low high known cell r le point' passes' around)
+    grind (arith, nat_tests, touch_here, ne_eqb, touch_keep)
 
 -- a cell that was not touched and changes is put there
 pub account_new : (touched new : List Touched) (index old state r : ℕ) → r ≤ length touched →
@@ -263,13 +232,7 @@ pub account_none : (touched : List Touched) (index old state r : ℕ) → r ≤ 
     EndsBelow touched index r → is_at touched r index ≡ false → old ≡ state →
     AreAccounted touched touched index old state
 account_none touched index old state r le point fails same low high known cell around e was =
-    let point' : EndsBelow touched cell.index r = subst (λ (n : ℕ). EndsBelow touched n r) (sym e)
-    point in
-    let fails' : is_at touched r cell.index ≡ false = rw e fails in
-    let was' : cell.was ≡ old = was (touch_unknown touched low high known cell r le point' fails'
-    around) in
-    let alike : eqb cell.was state ≡ true = eq-eqb cell.was state (was' ∙ same) in
-    rw alike (touch_none touched low high known cell r le point' fails' around)
+    grind (arith, nat_tests, touch_unknown, eq-eqb, touch_none)
 
 -- a place where a touched cell stands is one of theirs
 pub is_at_within : (touched : List Touched) (at index : ℕ) → is_at touched at index ≡ true →

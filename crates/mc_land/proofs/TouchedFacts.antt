@@ -2,6 +2,7 @@
 use Rattle.std.proofs.Common.{◌≡◌, ℕ, zero, suc, ◌+◌, ◌-◌, ◌<◌, ◌≤◌, ◌&&◌, nat_lt, nat_le, Bool}
 use Rattle.std.proofs.Common.{true, false, cond, not, eqb, List, [], ◌∷◌, ◌++◌, length, map, get_or}
 use Rattle.std.proofs.Common.{set, refl, sym, ap, ◌∙◌, arith, inl, inr}
+use Rattle.std.proofs.lemmas.Bool.Decides.{nat_tests}
 use Rattle.std.proofs.lemmas.Bool.{cases_eq, cases_lt, eq-eqb, eqb-true, lt-ltb, le-ltb, le-leb}
 use Rattle.std.proofs.lemmas.Bool.{lt-leb}
 use Rattle.std.proofs.lemmas.List.{get_or-set_same, get_or-set_other, map-append, ext_get_or}
@@ -28,23 +29,14 @@ use Rattle.mc_land.proofs.TouchFacts.{AreAccounted, around_sorted}
 range_parts : (a n i : ℕ) → i < n → range_with_len a n ≡ range_with_len a i ++
     ((a + i) ∷ range_with_len (a + i + 1) (n - i - 1))
 range_parts a zero i lt = absurd (omega arith)
-range_parts a (suc n) zero lt =
-    let here : a + 0 ≡ a = omega arith in
-    let rest : suc n - 0 - 1 ≡ n = omega arith in
-    rw (here, rest) refl
-range_parts a (suc n) (suc i) lt =
-    let one : a + 1 + i ≡ a + suc i = omega arith in
-    let rest : suc n - suc i - 1 ≡ n - i - 1 = omega arith in
-    ap (λ (xs : List ℕ). a ∷ xs) (range_parts (a + 1) n i (omega arith) ∙ rw (one, rest) refl)
+range_parts a (suc n) zero lt = grind (arith, nat_tests)
+range_parts a (suc n) (suc i) lt = grind (arith, nat_tests, range_parts (a + 1) n i (omega arith))
 
 -- what passes of a range depends on its numbers alone
 filter_same : (p q : ℕ → Bool) (a n : ℕ) → ((k : ℕ) → a ≤ k → k < a + n → p k ≡ q k) →
     filter p (range_with_len a n) ≡ filter q (range_with_len a n)
 filter_same p q a zero same = refl
-filter_same p q a (suc n) same = rw (
-  same a (omega arith) (omega arith),
-  filter_same p q (a + 1) n (λ k le lt. same k (omega arith) (omega arith)),
-) refl
+filter_same p q a (suc n) same = grind (arith, nat_tests, filter_same p q (a + 1) n)
 
 -- the touched cells below a cell, and those above it
 abbrev pub below : (ℕ → Bool) → List ℕ → ℕ → List Touched
@@ -147,53 +139,21 @@ length-put_back (cell ∷ cells') states = length-set (put_back cells' states) c
 back_at : (was now : List ℕ) (a n j : ℕ) → a + n ≤ length now →
     get_or (put_back (map (touched_cell was) (filter (has_changed was now) (range_with_len a n)))
     now) j 0 ≡ cond (nat_le a j && nat_lt j (a + n)) (get_or was j 0) (get_or now j 0)
-back_at was now a zero j le =
-    elim (cases_lt j a) [
-      | inl below ↦ rw (lt-leb a j below) refl
-      | inr above' ↦ rw (le-leb a j above', le-ltb j (a + 0) (omega arith)) refl
-    ]
-back_at was now a (suc n) j le =
-    let later' = map (touched_cell was) (filter (has_changed was now) (range_with_len (a + 1) n)) in
-    let rest = back_at was now (a + 1) n j (omega arith) in
-    let len = length-put_back (map (touched_cell was) (filter (has_changed was now)
-    (range_with_len (a + 1) n))) now in
-    elim (eqb (get_or was a 0) (get_or now a 0)) as (λ b. eqb (get_or was a 0) (get_or now a 0) ≡
-    b → get_or (put_back
-    (map (touched_cell was)
-    (cond (not b) (a ∷ filter (has_changed was now) (range_with_len (a + 1) n))
-    (filter (has_changed was now) (range_with_len (a + 1) n)))) now) j 0 ≡
-    cond (nat_le a j && nat_lt j (a + suc n)) (get_or was j 0) (get_or now j 0)) [
-      | true ↦ λ same. elim (cases_eq j a) [
-        | inl e ↦ rest ∙ rw (
-          e,
-          lt-leb (a + 1) a (omega arith),
-          le-leb a a (omega arith),
-          lt-ltb a (a + suc n) (omega arith),
-        )
-            (sym (eqb-true (get_or was a 0) (get_or now a 0) same))
-        | inr ne ↦ rest ∙ ap (λ (b : Bool). cond b (get_or was j 0) (get_or now j 0))
-            (same_range a n j ne)
-      ]
-      | false ↦ λ other. elim (cases_eq j a) [
-        | inl e ↦ rw (e, le-leb a a (omega arith), lt-ltb a (a + suc n) (omega arith))
-            (get_or-set_same
-            (put_back (map (touched_cell was) (filter (has_changed was now)
-            (range_with_len (a + 1) n))) now) a (get_or was a 0) 0 (omega (arith, len)))
-        | inr ne ↦ get_or-set_other
-            (put_back (map (touched_cell was) (filter (has_changed was now)
-            (range_with_len (a + 1) n))) now) a j (get_or was a 0) 0 ne ∙ rest ∙
-            ap (λ (b : Bool). cond b (get_or was j 0) (get_or now j 0)) (same_range a n j ne)
-      ]
-    ] refl
-  where
-    same_range : (a n j : ℕ) → (j ≡ a → ⊥) → (nat_le (a + 1) j && nat_lt j (a + 1 + n)) ≡
-        (nat_le a j && nat_lt j (a + suc n))
-    same_range a n j ne =
-        let end : a + 1 + n ≡ a + suc n = omega arith in
-        elim (cases_lt j a) [
-          | inl below ↦ rw (lt-leb (a + 1) j (omega arith), lt-leb a j below) refl
-          | inr le ↦ rw (le-leb (a + 1) j (omega arith), le-leb a j le, end) refl
-        ]
+back_at was now a zero j le = grind (arith, nat_tests)
+back_at was now a (suc n) j le = grind (
+  arith,
+  nat_tests,
+  back_at was now (a + 1) n j (omega arith),
+  length-put_back,
+  cases_eq,
+  lt-leb,
+  le-leb,
+  lt-ltb,
+  eqb-true,
+  get_or-set_same,
+  get_or-set_other,
+  cases_lt,
+)
 
 -- the states that a column had are those that it has, with the touched cells put back
 pub back_again : (was now : List ℕ) → length was ≡ cells → length now ≡ cells →
@@ -221,43 +181,13 @@ in_range : (test : ℕ → Bool) (was : List ℕ) (a n i : ℕ) (d : Touched) �
     (a ≤ (get_or (map (touched_cell was) (filter test (range_with_len a n))) i d).index) ×
     ((get_or (map (touched_cell was) (filter test (range_with_len a n))) i d).index < a + n)
 in_range test was a zero i d lt = absurd (omega arith)
-in_range test was a (suc n) i d lt =
-    let rest : (k : ℕ) → k < length (later test was a n) →
-    (a + 1 ≤ (get_or (later test was a n) k d).index) ×
-    ((get_or (later test was a n) k d).index < a + 1 + n) = λ k h. in_range test was (a + 1) n k
-    d h in
-    elim (test a) as
-    (λ b. i < length
-    (map (touched_cell was) (cond b (a ∷ filter test (range_with_len (a + 1) n))
-    (filter test (range_with_len (a + 1) n)))) →
-    (a ≤ (get_or (map (touched_cell was) (cond b (a ∷ filter test (range_with_len (a + 1) n))
-    (filter test (range_with_len (a + 1) n)))) i d).index) ×
-    ((get_or (map (touched_cell was) (cond b (a ∷ filter test (range_with_len (a + 1) n))
-    (filter test (range_with_len (a + 1) n)))) i d).index < a + suc n)) [
-      | true ↦ λ lt. head (later test was a n) rest i lt
-      | false ↦ λ lt. let h = rest i lt in (omega (arith, h.0), omega (arith, h.1))
-    ] lt
-  where
-    head : (others : List Touched) → ((k : ℕ) → k < length others →
-        (a + 1 ≤ (get_or others k d).index) × ((get_or others k d).index < a + 1 + n)) → (i : ℕ) →
-        i < length (touched_cell was a ∷ others) →
-        (a ≤ (get_or (touched_cell was a ∷ others) i d).index) ×
-        ((get_or (touched_cell was a ∷ others) i d).index < a + suc n)
-    head others rest zero lt = (omega arith, omega arith)
-    head others rest (suc i) lt = let h = rest i (omega arith) in
-        (omega (arith, h.0), omega (arith, h.1))
+in_range test was a (suc n) i d lt = grind (arith, nat_tests, in_range test was (a + 1) n)
 
 -- the touched cells stand around each cell
 pub stand_around : (was now : List ℕ) (i : ℕ) → i < cells →
     IsAround (touched_cells was now) (below (has_changed was now) was i)
     (above (has_changed was now) was i) (has_changed was now i) (touched_cell was i)
-stand_around was now i lt = record {
-  parts = touched_around was now i lt;
-  low_below = λ k d inside. let h = in_range (has_changed was now) was 0 i k d inside in
-      omega (arith, h.1);
-  high_above = λ k d inside. let h = in_range (has_changed was now) was (i + 1) (cells - i - 1) k d
-      inside in omega (arith, h.0);
-}
+stand_around was now i lt = grind (arith, nat_tests, touched_around, in_range)
 
 -- ---- a cell is set
 
@@ -328,51 +258,21 @@ pub count_set : (p q : ℕ → Bool) (a n i : ℕ) → a ≤ i → i < a + n →
     length (filter p (range_with_len a n)) + bit_of (q i)
 count_set p q a zero i le lt same = absurd (omega arith)
 count_set p q a (suc n) i le lt same =
-    elim (cases_eq i a) [
-      | inl e ↦
-          let rest : filter p (range_with_len (a + 1) n) ≡ filter q (range_with_len (a + 1) n) =
-          filter_same p q (a + 1) n (λ k le' lt'. same k (λ h. absurd (omega arith))) in
-          rw (e, rest) (one (p a) (q a) a (filter q (range_with_len (a + 1) n)))
-      | inr ne ↦
-          let rest = count_set p q (a + 1) n i (omega arith) (omega arith) same in
-          let here : p a ≡ q a = same a (λ h. ne (sym h)) in
-          rw here (more (q a) a (filter p (range_with_len (a + 1) n))
-          (filter q (range_with_len (a + 1) n)) (bit_of (p i)) (bit_of (q i)) rest)
-    ]
-  where
-    one : (b d : Bool) (a : ℕ) (xs : List ℕ) → length (cond d (a ∷ xs) xs) + bit_of b ≡
-        length (cond b (a ∷ xs) xs) + bit_of d
-    one true true a xs = refl
-    one true false a xs = omega arith
-    one false true a xs = omega arith
-    one false false a xs = refl
-
-    more : (b : Bool) (a : ℕ) (xs ys : List ℕ) (m k : ℕ) → length ys + m ≡ length xs + k →
-        length (cond b (a ∷ ys) ys) + m ≡ length (cond b (a ∷ xs) xs) + k
-    more true a xs ys m k e = omega (arith, e)
-    more false a xs ys m k e = e
+    grind (arith, nat_tests, count_set p q (a + 1) n i, cases_eq, filter_same)
 
 few_pass : (p : ℕ → Bool) (a n : ℕ) → length (filter p (range_with_len a n)) ≤ n
 few_pass p a zero = omega arith
-few_pass p a (suc n) =
-    elim (p a) as (λ b. length (cond b (a ∷ filter p (range_with_len (a + 1) n))
-    (filter p (range_with_len (a + 1) n))) ≤ suc n) [
-      | true ↦ omega (arith, few_pass p (a + 1) n)
-      | false ↦ omega (arith, few_pass p (a + 1) n)
-    ]
+few_pass p a (suc n) = grind (arith, nat_tests, few_pass p (a + 1) n)
 
 pub length-changes : (terrain : Terrain) (place : Place) (states : List ℕ) →
     length (changes terrain place states) ≡
     length (filter (is_changed terrain place states) (range_with_len 0 cells))
-length-changes terrain place states =
-    length-map (filter (is_changed terrain place states) (range_with_len 0 cells))
-    (λ j. ((place, j), get_or states j 0))
+length-changes terrain place states = grind (arith, nat_tests, length-map)
 
 -- no more cells are edits than there are
 pub few_changes : (terrain : Terrain) (place : Place) (states : List ℕ) →
     length (changes terrain place states) ≤ cells
-few_changes terrain place states = rw (length-changes terrain place states)
-    (few_pass (is_changed terrain place states) 0 cells)
+few_changes terrain place states = grind (arith, nat_tests, length-changes, few_pass)
 
 -- the edits of a column one of whose cells was set
 pub changes_set : (terrain : Terrain) (place : Place) (states : List ℕ) (i state : ℕ) → i < cells →
@@ -409,12 +309,7 @@ pub kept_settled : (place : Place) (terrain : Terrain) (column : ColumnValue)
     (touched none : List Touched) (edits : ℕ) → IsKeptReady place terrain column touched edits →
     none ≡ [] → IsKeptReady place terrain column none edits
 kept_settled place terrain column touched none edits kept is =
-    rw is (record {
-      inside = kept.inside;
-      sizes = kept.sizes;
-      touched_are = sym (touched_none column.states);
-      counted = kept.counted;
-    })
+    grind (arith, nat_tests, touched_none)
 
 pub kept_own : (place : Place) (terrain : Terrain) (column : ColumnValue) (touched : List Touched) →
     IsPlace place → column ≡ own_column terrain place → touched ≡ [] →

@@ -1,7 +1,8 @@
 -- What holds of all of a list, of what lists are made of.
-use Rattle.std.proofs.Common.{◌≡◌, ℕ, zero, suc, ◌+◌, ◌<◌, ◌≤◌, Bool, true, false, cond, List, []}
-use Rattle.std.proofs.Common.{◌∷◌, ◌++◌, take, drop, map, length, Option, Some, None, refl, arith}
-use Rattle.std.specs.List.{filter, filter_map, cons_option, flat_map, range_with_len}
+use Rattle.std.proofs.Common.{◌≡◌, ℕ, zero, suc, ◌+◌, ◌<◌, ◌≤◌, Bool, List, []}
+use Rattle.std.proofs.Common.{◌∷◌, ◌++◌, take, drop, map, length, Option, Some, arith}
+use Rattle.std.proofs.lemmas.Bool.Decides.{nat_tests}
+use Rattle.std.specs.List.{filter, filter_map, flat_map, range_with_len}
 use Rattle.std.specs.List.{AllByRecursion}
 
 -- of two lists, one behind the other
@@ -37,35 +38,20 @@ pub all_filtered : {A : Type 0} (P : A → Type 0) (test : A → Bool) (xs : Lis
     AllByRecursion P xs
     → AllByRecursion P (filter test xs)
 all_filtered P test [] a = tt
-all_filtered {A} P test (x ∷ xs) a = step (test x) (all_filtered P test xs a.1)
-  where
-    step : (t : Bool) → AllByRecursion P (filter test xs) →
-        AllByRecursion P (cond t (x ∷ filter test xs) (filter test xs))
-    step true rest = (a.0, rest)
-    step false rest = rest
+all_filtered {A} P test (x ∷ xs) a = grind (arith, nat_tests, all_filtered P test xs a.1)
 
 -- of what is made of some
 pub all_chosen : {A B : Type 0} (P : A → Type 0) (Q : B → Type 0) (f : A → Option B) →
     ((x : A) (y : B) → P x → f x ≡ Some y → Q y) → (xs : List A)
     → AllByRecursion P xs → AllByRecursion Q (filter_map f xs)
 all_chosen P Q f each [] a = tt
-all_chosen {B = B} P Q f each (x ∷ xs) a = step (f x) refl (all_chosen P Q f each xs a.1)
-  where
-    step : (o : Option B) → f x ≡ o → AllByRecursion Q (filter_map f xs) →
-        AllByRecursion Q (cons_option o (filter_map f xs))
-    step None e rest = rest
-    step (Some y) e rest = (each x y a.0 e, rest)
+all_chosen {B = B} P Q f each (x ∷ xs) a = grind (arith, nat_tests, all_chosen P Q f each xs a.1)
 
 -- no more pass a test than there are
 pub few_filtered : {A : Type 0} (test : A → Bool) (xs : List A) →
     length (filter test xs) ≤ length xs
 few_filtered test [] = omega arith
-few_filtered {A} test (x ∷ xs) = step (test x) (few_filtered test xs)
-  where
-    step : (t : Bool) → length (filter test xs) ≤ length xs
-        → length (cond t (x ∷ filter test xs) (filter test xs)) ≤ suc (length xs)
-    step true le = omega (arith, le)
-    step false le = omega (arith, le)
+few_filtered {A} test (x ∷ xs) = grind (arith, nat_tests, few_filtered test xs)
 
 -- of what each is spread out to
 pub all_flat : {A B : Type 0} (P : A → Type 0) (Q : B → Type 0) (f : A → List B) →
@@ -79,8 +65,4 @@ all_flat P Q f each (x ∷ xs) a = all_joined Q (f x) (flat_map f xs) (each x a.
 pub all_range : (P : ℕ → Type 0) (a n : ℕ) → ((i : ℕ) → i < a + n → P i) →
     AllByRecursion P (range_with_len a n)
 all_range P a zero each = tt
-all_range P a (suc n) each = (
-  each a (omega arith),
-  all_range P (a + 1) n
-      (λ i less. each i (omega (arith, less))),
-)
+all_range P a (suc n) each = grind (arith, nat_tests, all_range P (a + 1) n)

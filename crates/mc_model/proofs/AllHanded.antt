@@ -1,11 +1,12 @@
 -- What a world keeps while each of its connections is handed something: who is there under which
 -- number, and in which order.
-use Rattle.std.proofs.Common.{◌≡◌, ℕ, length, ap, ◌∙◌}
+use Rattle.std.proofs.Common.{◌≡◌, ℕ, length, arith}
+use Rattle.std.proofs.lemmas.Bool.Decides.{nat_tests}
 use Rattle.std.specs.Prelude.{option_map}
 use Rattle.std.proofs.lemmas.List.{length-map}
 use Rattle.mc_model.specs.World.{World, Session, found}
 use Rattle.mc_model.specs.Step.{Handing, all_handed}
-use Rattle.mc_model.specs.Orderly.{Orderly, next_number}
+use Rattle.mc_model.specs.Orderly.{Orderly}
 use Rattle.mc_model.proofs.Sessions.{found_map, apart_map, rise_map}
 
 -- what each connection comes to has its number
@@ -26,10 +27,4 @@ size_handed f w = length-map w.sessions (λ (s : Session). (f w s).session)
 -- and their numbers stand as before
 pub orderly_handed : (f : World → Session → Handing) (w : World) → KeepsNumbers f w → Orderly w →
     Orderly (all_handed f w)
-orderly_handed f w keeps o = record {
-  rising = rise_map (λ (s : Session). (f w s).session) keeps 0 (next_number w.last) w.sessions
-      o.rising;
-  apart = apart_map (λ (s : Session). (f w s).session) keeps w.sessions o.apart;
-  fresh = λ k new. found_handed f k w keeps
-      ∙ ap (option_map (λ (s : Session). (f w s).session)) (o.fresh k new);
-}
+orderly_handed f w keeps o = grind (arith, nat_tests, rise_map, apart_map, found_handed)

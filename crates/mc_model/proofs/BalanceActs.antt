@@ -1,17 +1,13 @@
 -- What a player does loses and makes no item: it digs, drops and places, and all else that it does.
-use Rattle.std.proofs.Common.{◌≡◌, ℕ, ◌+◌, ◌-◌, ◌*◌, ◌/◌, ◌%◌, ◌≤◌, ◌&&◌, Bool, true, false, cond}
+use Rattle.std.proofs.Common.{◌≡◌, ℕ, ◌+◌, ◌*◌, ◌≤◌, ◌&&◌, Bool, true}
 use Rattle.std.proofs.Common.{refl, sym, ap, subst, ◌∙◌, arith}
 use Rattle.std.specs.Prelude.{Some, unsigned_abs, ◌==◌}
-use Rattle.std.specs.Prelude.{if◌then◌else◌}
 use Rattle.std.specs.Ordering.{int_eq}
-use Rattle.std.proofs.lemmas.Bool.{and_parts, eqb-true, eq-eqb}
-use Rattle.std.proofs.lemmas.Bool.Decides.{Decides-int_eq}
-use Rattle.std.proofs.lemmas.Int.{ints}
-use lib.IntN.{ℤ, pos, negsuc}
-use lib.Signed.{◌≤ℤ◌}
+use Rattle.std.proofs.lemmas.Bool.Decides.{nat_tests}
+use lib.IntN.{pos}
 use Rattle.mc_fields.specs.declared.position.Cell.{Cell}
 use Rattle.mc_fields.specs.declared.position.Spot.{Spot}
-use Rattle.mc_land.specs.Places.{is_height, is_within_border, key_of}
+use Rattle.mc_land.specs.Places.{key_of}
 use Rattle.mc_land.specs.Land.{state_at}
 use Rattle.mc_slots.specs.declared.pile.Item.{Item}
 use Rattle.mc_slots.specs.declared.pile.Pile.TheVariants.{Full}
@@ -20,7 +16,7 @@ use Rattle.mc_slots.specs.PileLaws.{part_is_pile}
 use Rattle.mc_entities.specs.declared.entity.EntityKind.{EntityKind}
 use Rattle.mc_entities.specs.declared.entity.EntityKind.TheVariants as kinds
 use Rattle.mc_model.specs.Balance.{one_of, sort_of}
-use Rattle.mc_model.specs.Things.{Things, pack_of as carried, state_of_cell}
+use Rattle.mc_model.specs.Things.{Things, pack_of as carried}
 use Rattle.mc_model.specs.Things.{with_state}
 use Rattle.mc_model.specs.World.{World, Player, held_by, spot_of, state_in}
 use Rattle.mc_model.specs.Reach.{is_in_world}
@@ -38,78 +34,38 @@ use Rattle.mc_model.proofs.BalanceThings.{state_keeps}
 
 -- two tests that pass together
 same_test : (p q : Bool) → (p ≡ true → q ≡ true) → (q ≡ true → p ≡ true) → p ≡ q
-same_test true true f g = refl
-same_test true false f g = let clash : false ≡ true = f refl in absurd cc
-same_test false true f g = let clash : false ≡ true = g refl in absurd cc
-same_test false false f g = refl
+same_test p q f g = grind (arith, nat_tests)
 
 -- and two that both pass
 true_both : (p q : Bool) → p ≡ true → q ≡ true → (p && q) ≡ true
-true_both true true f g = refl
-true_both true false f g = g
-true_both false q f g = f
+true_both p q f g = grind (arith, nat_tests)
 
 -- an item of an id and a damage is of the sort of the state that they make
 sort_is : (id damage n m : ℕ) → damage ≤ 15 → m ≤ 15 →
     (int_eq (pos id) (pos n) && int_eq (pos damage) (pos m)) ≡ (16 * n + m == 16 * id + damage)
-sort_is id damage n m low small = same_test _ _ (λ t.
-    let parts = and_parts (int_eq (pos id) (pos n)) (int_eq (pos damage) (pos m)) t in
-    let ids : id ≡ n = ap unsigned_abs ((Decides-int_eq (pos id) (pos n)).0 parts.0) in
-    let damages : damage ≡ m =
-    ap unsigned_abs ((Decides-int_eq (pos damage) (pos m)).0 parts.1) in
-    eq-eqb (16 * n + m) (16 * id + damage) (omega (arith, ids, damages))) (λ t.
-    let is : 16 * n + m ≡ 16 * id + damage = eqb-true (16 * n + m) (16 * id + damage) t in
-    let ids : id ≡ n = omega (arith, is, low, small) in
-    let damages : damage ≡ m = omega (arith, is, low, small) in
-    true_both _ _ ((Decides-int_eq (pos id) (pos n)).1 (ap pos ids))
-    ((Decides-int_eq (pos damage) (pos m)).1 (ap pos damages)))
+sort_is id damage n m low small = grind (arith, nat_tests)
 
 -- what is dug is one of the sort of its state
 dug_counts : (id damage old : ℕ) → damage ≤ 15 →
     held (sort_of id damage) (Full (block_item old)) ≡ one_of (16 * id + damage) old
-dug_counts id damage old low =
-    let same : 16 * (old / 16) + old % 16 ≡ old = omega arith in
-    ap (λ (b : Bool). cond b 1 0) (sort_is id damage (old / 16) (old % 16) low (omega arith)
-    ∙ ap (λ (n : ℕ). n == 16 * id + damage) same)
+dug_counts id damage old low = grind (arith, nat_tests)
 
 -- and what is placed is the state of its sort
 placed_counts : (id damage : ℕ) (item : Item) → damage ≤ 15 → IsItem item →
     held (sort_of id damage) (Full (record item { count = 1 }))
     ≡ one_of (16 * id + damage) (item_state item)
-placed_counts id damage item low is = of item.id item.damage is.id is.damage
-  where
-    of : (a b : ℤ) → (pos 1 ≤ℤ a) × (a ≤ℤ pos 255) → (pos 0 ≤ℤ b) × (b ≤ℤ pos 15) →
-        ◌≡◌ {A = ℕ} (cond (int_eq (pos id) a && int_eq (pos damage) b) 1 0)
-        (one_of (16 * id + damage) (unsigned_abs a * 16 + unsigned_abs b))
-    of (pos n) (pos m) on om =
-        ap (λ (b : Bool). cond b 1 0) (sort_is id damage n m low (omega (arith, ints, om.1))
-        ∙ ap (λ (v : ℕ). v == 16 * id + damage) (omega arith))
-    of (negsuc n) b on om = absurd (omega (arith, ints, on.0))
-    of (pos n) (negsuc m) on om = absurd (omega (arith, ints, om.0))
+placed_counts id damage item low is = grind (arith, nat_tests)
 
 -- air is no item's state
 air_counts : (id damage : ℕ) → 1 ≤ id → one_of (16 * id + damage) 0 ≡ 0
-air_counts id damage some = elim (0 == 16 * id + damage) as
-    (λ b. (0 == 16 * id + damage) ≡ b → ◌≡◌ {A = ℕ} (cond b 1 0) 0) [
-      | true ↦ λ t. absurd (let is : 0 ≡ 16 * id + damage = eqb-true 0 (16 * id + damage) t in
-          omega (arith, is, some))
-      | false ↦ λ f. refl
-    ] refl
+air_counts id damage some = grind (arith, nat_tests)
 
 -- ---- cells
 
 -- a cell that is in the world has a state of its own
 pub state_inside : (w : World) (cell : Cell) → is_in_world cell ≡ true → state_in w cell
     ≡ state_at w.terrain w.things.edits (key_of cell.x (unsigned_abs cell.y) cell.z)
-state_inside w cell inside =
-    of cell.y (and_parts (is_height cell.y) (is_within_border cell.x) (and_parts
-    (is_height cell.y && is_within_border cell.x) (is_within_border cell.z) inside).0).0
-  where
-    of : (y : ℤ) → is_height y ≡ true → state_of_cell w.terrain w.things.edits cell.x y cell.z
-        ≡ state_at w.terrain w.things.edits (key_of cell.x (unsigned_abs y) cell.z)
-    of (pos y) high = ap (λ (b : Bool). if b
-        then state_at w.terrain w.things.edits (key_of cell.x y cell.z) else 0) high
-    of (negsuc y) high = absurd cc
+state_inside w cell inside = grind (arith, nat_tests)
 
 -- ---- digging
 
@@ -140,10 +96,7 @@ dug_leads w cell inside = record {
 -- what is left of a pile in a hand is a pile
 left_is_pile : (w : World) (p : Player) (item : Item) (n : ℕ) → IsTidy w.things →
     held_by w p ≡ Full item → IsPile (without (Full item) n)
-left_is_pile w p item n tidy holds =
-    let is : IsPile (Full item) = subst IsPile holds (hand_is_pile (carried p.name w.things.packs)
-    p.hand (pack_fits p.name w.things.packs tidy.packs)) in
-    part_is_pile (Full item) (item.count - n) (omega arith) is
+left_is_pile w p item n tidy holds = grind (arith, nat_tests, hand_is_pile, pack_fits, part_is_pile)
 
 -- so many of it lie where the player is, and it has the others
 pub dropped_leads : (w : World) (p : Player) (item : Item) (n : ℕ) → IsTidy w.things →

@@ -2,6 +2,7 @@
 -- makes of both counts.
 use Rattle.std.proofs.Common.{◌≡◌, ℕ, ◌+◌, Bool, true, false, cond, not, T, List, [], ◌∷◌}
 use Rattle.std.proofs.Common.{refl, sym, ap, ◌∙◌, arith}
+use Rattle.std.proofs.lemmas.Bool.Decides.{nat_tests}
 use Rattle.std.specs.Prelude.{Option, Some, None, unwrap_or, ◌==◌, if◌then◌else◌}
 use Rattle.std.specs.List.{sum_by}
 use Rattle.std.specs.declared.cmp.Ordering.{Ordering}
@@ -30,9 +31,7 @@ counted f k (Some v) = f (k, v)
 
 -- what an order says where its test passes
 less : (r : Ordering) → T (is_lt r) → r ≡ Less
-less Less h = refl
-less Equal h = absurd h
-less Greater h = absurd h
+less r h = grind (arith, nat_tests)
 
 -- a test turned over
 turned : {A : Type 0} (b : Bool) (x y : A) → cond b y x ≡ cond (not b) x y
@@ -129,10 +128,8 @@ set_counts : (now once now_then once_then old new land : ℕ) (f g : Key × ℕ 
     now_then + counted f key o ≡ now + old → once_then + counted g key o ≡ once + land →
     old + one_of s base ≡ land + new →
     now_then + once + one_of s (unwrap_or o base) ≡ now + once_then + new
-set_counts now once now_then once_then old new land f g key None s base is was n m e =
-    omega (arith, n, m, e)
-set_counts now once now_then once_then old new land f g key (Some v) s base is was n m e =
-    omega (arith, n, m, e, is v, was v)
+set_counts now once now_then once_then old new land f g key o s base is was n m e =
+    grind (arith, nat_tests)
 
 -- of each state so many more cells have it as had it before
 pub edited_counts : (s : ℕ) (terrain : Terrain) (edits : FinMap key_cmp ℕ) (key : Key) (new : ℕ) →

@@ -1,13 +1,11 @@
 -- What is kept along a run beside the balance of items, so that it is kept: which numbers and names
 -- players have, and which packs there are.
 use Rattle.std.proofs.Common.{◌≡◌, ℕ, ◌+◌, ◌*◌, ◌<◌, ◌≤◌, true, false, List, [], ◌∷◌, length}
-use Rattle.std.proofs.Common.{subst, ap}
-use Rattle.std.proofs.Common.{◌∙◌, sym, arith}
+use Rattle.std.proofs.Common.{arith}
+use Rattle.std.proofs.lemmas.Bool.Decides.{nat_tests}
 use Rattle.std.specs.Prelude.{Option, Some, None, ◌==◌, if◌then◌else◌}
 use Rattle.std.specs.List.{AllByRecursion}
 use Rattle.mc_land.specs.declared.terrain.Terrain.{Terrain}
-use Rattle.mc_windows.specs.Pack.{kit_pack}
-use Rattle.mc_windows.specs.Stock.{in_pack}
 use Rattle.mc_model.specs.Things.{Things, is_known}
 use Rattle.mc_model.specs.World.{World, Session, Player, put}
 pub use Rattle.mc_model.specs.Owning.{HasOwner, IsGiven, IsOwner, IsTidy, Owns}
@@ -43,20 +41,12 @@ keeps_onward a b c k l = record {
 -- with the balance
 pub leads_onward : (terrain : Terrain) (a b c : Things) → Leads terrain a b → Leads terrain b c →
     Leads terrain a c
-leads_onward terrain a b c k l = record {
-  keeps = keeps_onward a b c k.keeps l.keeps;
-  even = λ e. l.even (k.even e);
-}
+leads_onward terrain a b c k l = grind (arith, nat_tests, keeps_onward a b c k.keeps l.keeps)
 
 -- no change
 pub leads_same : (terrain : Terrain) (a : Things) → Leads terrain a a
 leads_same terrain a = record {
-  keeps = record {
-    tidy = λ t. t;
-    known = λ name k. k;
-    given = omega arith;
-    apart = λ eid le n. n;
-  };
+  keeps = grind (arith, nat_tests);
   even = λ e. e;
 }
 
@@ -73,13 +63,7 @@ owner_kept a b (Some p) k is = record {
 -- one that is shown something, told something, or has another hand or view
 pub owner_like : (things : Things) (p q : Player) → q.name ≡ p.name → q.eid ≡ p.eid →
     q.hand < 9 → IsOwner things p → IsOwner things q
-owner_like things p q name eid hand is = record {
-  known = ap (λ (n : List ℕ). is_known n things.packs) name ∙ is.known;
-  hand = hand;
-  given = omega (arith, eid, is.given);
-  apart = (let P : ℕ → Type 0 = λ n. AllByRecursion (IsNoItem n) things.entities in
-      subst P (sym eid) is.apart);
-}
+owner_like things p q name eid hand is = grind (arith, nat_tests, IsNoItem)
 
 -- the balance of things of as many names, where what there is more of is in cells
 pub even_onward : (terrain : Terrain) (a b : Things) → length b.packs ≡ length a.packs →
@@ -88,31 +72,14 @@ pub even_onward : (terrain : Terrain) (a b : Things) → length b.packs ≡ leng
     + once_edited (16 * id + damage) terrain a.edits
     ≡ stock (sort_of id damage) a + now_edited (16 * id + damage) a.edits
     + once_edited (16 * id + damage) terrain b.edits) → Even terrain a → Even terrain b
-even_onward terrain a b same more even id damage some few low = of_counts
-    (stock (sort_of id damage) a) (now_edited (16 * id + damage) a.edits)
-    (once_edited (16 * id + damage) terrain a.edits) (stock (sort_of id damage) b)
-    (now_edited (16 * id + damage) b.edits) (once_edited (16 * id + damage) terrain b.edits)
-    (in_pack (sort_of id damage) kit_pack * length a.packs)
-    (in_pack (sort_of id damage) kit_pack * length b.packs)
-    (ap (λ (n : ℕ). in_pack (sort_of id damage) kit_pack * n) same)
-    (more id damage some few low) (even id damage some few low)
-  where
-    of_counts : (stock now once stock_then now_then once_then kits kits_then : ℕ) →
-        kits_then ≡ kits → stock_then + now_then + once ≡ stock + now + once_then →
-        stock + now ≡ kits + once → stock_then + now_then ≡ kits_then + once_then
-    of_counts stock now once stock_then now_then once_then kits kits_then k m e =
-        omega (arith, k, m, e)
+even_onward terrain a b same more even id damage some few low = grind (arith, nat_tests)
 
 -- ---- worlds
 
 -- a world with other things
 pub balanced_things : (w : World) (things : Things) → Leads w.terrain w.things things →
     Balanced w → Balanced (record w { things = things })
-balanced_things w things leads b = record {
-  owners = same w.sessions b.owners;
-  tidy = leads.keeps.tidy b.tidy;
-  even = leads.even b.even;
-}
+balanced_things w things leads b = grind (arith, nat_tests, same)
   where
     same : (ss : List Session) → AllByRecursion (Owns w.things) ss →
         AllByRecursion (Owns things) ss

@@ -1,15 +1,15 @@
 -- A name that gets the kit: all packs fit still, and the balance is kept.
-use Rattle.std.proofs.Common.{◌≡◌, ℕ, ◌+◌, ◌*◌, true, false, List, [], ◌∷◌, ◌++◌}
-use Rattle.std.proofs.Common.{length, ap, ◌∙◌, arith}
-use Rattle.std.specs.Prelude.{if◌then◌else◌}
+use Rattle.std.proofs.Common.{◌≡◌, ℕ, ◌+◌, ◌*◌, List, [], ◌∷◌, ◌++◌}
+use Rattle.std.proofs.Common.{length, arith}
 use Rattle.std.specs.List.{AllByRecursion}
 use Rattle.std.proofs.Math.Nat.{mul-add}
 use Rattle.std.proofs.Common.{length-append}
+use Rattle.std.proofs.lemmas.Bool.Decides.{nat_tests}
 use Rattle.mc_land.specs.declared.terrain.Terrain.{Terrain}
 use Rattle.mc_windows.specs.Pack.{kit_pack}
 use Rattle.mc_windows.specs.Stock.{in_pack}
 use Rattle.mc_windows.proofs.FirstPack.{kit_is_pack}
-use Rattle.mc_model.specs.Things.{Things, Packs, is_known, with_kit}
+use Rattle.mc_model.specs.Things.{Things, Packs, with_kit}
 use Rattle.mc_model.specs.Balance.{sort_of}
 use Rattle.mc_model.proofs.AllFacts.{all_joined}
 use Rattle.mc_model.proofs.ThingsFit.{PackFits}
@@ -31,44 +31,24 @@ kit_even terrain name things even id damage some few low =
         packs_then ≡ packs + kit → more ≡ many + 1 →
         packs + entities + now ≡ kit * many + once →
         packs_then + entities + now ≡ kit * more + once
-    of_counts kit many more packs packs_then entities now once p m e =
-        let kits : kit * more ≡ kit * many + kit * 1 =
-        ap (λ (n : ℕ). kit * n) m ∙ mul-add kit many 1 in
-        omega (arith, p, e, kits)
+    of_counts kit many more packs packs_then entities now once p m e = grind (arith, mul-add)
 
 -- the balance is kept where a name gets the kit that comes for the first time
 with_kit_even : (terrain : Terrain) (name : List ℕ) (things : Things) → Even terrain things →
     Even terrain (record things { packs = with_kit name things.packs })
-with_kit_even terrain name things even = elim (is_known name things.packs) as
-    (λ b. Even terrain (record things {
-      packs = if b then things.packs else things.packs ++ (name, kit_pack) ∷ [];
-    })) [
-      | true ↦ even
-      | false ↦ kit_even terrain name things even
-    ]
+with_kit_even terrain name things even = grind (arith, nat_tests, Even, kit_even)
 
 -- so do all packs fit
 with_kit_fits : (name : List ℕ) (packs : Packs) → AllByRecursion PackFits packs →
     AllByRecursion PackFits (with_kit name packs)
-with_kit_fits name packs fits = elim (is_known name packs) as
-    (λ b. AllByRecursion PackFits (if b then packs else packs ++ (name, kit_pack) ∷ [])) [
-      | true ↦ fits
-      | false ↦ all_joined PackFits packs ((name, kit_pack) ∷ []) fits (kit_is_pack, tt)
-    ]
+with_kit_fits name packs fits = grind (arith, nat_tests, all_joined, kit_is_pack)
 
 -- and so all is kept
 pub kit_leads : (terrain : Terrain) (name : List ℕ) (things : Things) →
     Leads terrain things (record things { packs = with_kit name things.packs })
-kit_leads terrain name things = record {
-  keeps = record {
-    tidy = λ t. record {
-      given = t.given;
-      apart = (keeps_kit name things.packs).apart t.apart;
-      packs = with_kit_fits name things.packs t.packs;
-    };
-    known = (keeps_kit name things.packs).known;
-    given = omega arith;
-    apart = λ eid le none. none;
-  };
-  even = with_kit_even terrain name things;
-}
+kit_leads terrain name things = grind (
+  arith,
+  keeps_kit name things.packs,
+  with_kit_fits name things.packs,
+  with_kit_even terrain name things,
+)

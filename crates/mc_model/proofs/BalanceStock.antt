@@ -1,7 +1,8 @@
 -- How many items of a sort the packs of all names and the entities hold, as these change.
-use Rattle.std.proofs.Common.{◌≡◌, ℕ, zero, suc, ◌+◌, ◌<◌, ◌≤◌, true, false, cond, not}
+use Rattle.std.proofs.Common.{◌≡◌, ℕ, ◌+◌, ◌<◌, ◌≤◌, true, false, cond, not}
 use Rattle.std.proofs.Common.{List, [], ◌∷◌, ◌++◌}
-use Rattle.std.proofs.Common.{map, length, refl, sym, ap, ◌∙◌, arith}
+use Rattle.std.proofs.Common.{map, length, refl, arith}
+use Rattle.std.proofs.lemmas.Bool.Decides.{nat_tests}
 use Rattle.std.specs.Prelude.{Some, None, is_some, unwrap_or, if◌then◌else◌}
 use Rattle.std.specs.List.{sum_by, AllByRecursion}
 use Rattle.std.specs.Ordering.{int_eq}
@@ -13,14 +14,13 @@ use lib.IntN.{pos}
 use Rattle.mc_slots.specs.declared.pile.Item.{Item}
 use Rattle.mc_slots.specs.declared.pile.Pile.{Pile}
 use Rattle.mc_slots.specs.declared.pile.Pile.TheVariants.{Full}
-use Rattle.mc_slots.specs.Pile.{Sort, held, is_sort, pile_of, without as without_some}
+use Rattle.mc_slots.specs.Pile.{Sort, held, pile_of, without as without_some}
 use Rattle.mc_slots.specs.PileLaws.{split_keeps}
 use Rattle.mc_windows.specs.Pack.{PackValue, kit_pack}
 use Rattle.mc_windows.specs.Stock.{in_pack}
 use Rattle.mc_windows.proofs.Desks.{piles_with}
 use Rattle.mc_entities.specs.declared.entity.Entity.{Entity}
 use Rattle.mc_entities.specs.declared.entity.EntityKind.{EntityKind}
-use Rattle.mc_entities.specs.declared.entity.EntityKind.TheVariants as kinds
 use Rattle.mc_entities.specs.Kinds.{is_dropped}
 use Rattle.mc_entities.specs.Numbers.{changed, without}
 use Rattle.mc_entities.specs.Folk.{eid_of}
@@ -33,16 +33,12 @@ use Rattle.mc_model.specs.Balance.{in_entities, in_packs, lying}
 
 -- what is no dropped item does not lie there
 lying_none : (sort : Sort) (kind : EntityKind) → is_dropped kind ≡ false → lying sort kind ≡ 0
-lying_none sort (kinds.Player uuid held) none = refl
-lying_none sort (kinds.Dropped item born) none = absurd cc
-lying_none sort kinds.Mob none = refl
+lying_none sort kind none = grind (arith, nat_tests)
 
 -- a hand that holds another pile leaves what lies there
 pub hand_lies : (sort : Sort) (pile : Pile) (kind : EntityKind) →
     lying sort (hand_of pile kind) ≡ lying sort kind
-hand_lies sort pile (kinds.Player uuid held) = refl
-hand_lies sort pile (kinds.Dropped item born) = refl
-hand_lies sort pile kinds.Mob = refl
+hand_lies sort pile kind = grind (arith, nat_tests)
 
 -- as much where no change touches what lies there
 pub entities_mapped : (sort : Sort) (f : Entity → Entity) →
@@ -63,12 +59,7 @@ entities_mapped sort f same (e ∷ es) =
 pub entities_changed : (sort : Sort) (eid : ℕ) (f : Entity → Entity) →
     ((e : Entity) → lying sort (f e).kind ≡ lying sort e.kind) → (es : List Entity) →
     in_entities sort (changed eid_of (pos eid) f es) ≡ in_entities sort es
-entities_changed sort eid f same es = entities_mapped sort _ (λ e.
-    elim (int_eq e.eid (pos eid)) as
-    (λ b. lying sort (if b then f e else e).kind ≡ lying sort e.kind) [
-      | true ↦ same e
-      | false ↦ refl
-    ]) es
+entities_changed sort eid f same es = grind (arith, nat_tests, entities_mapped)
 
 -- without those of a number that no dropped item has
 pub entities_without : (sort : Sort) (eid : ℕ) (es : List Entity) →
@@ -97,12 +88,7 @@ entities_more sort es e = sum_by_push (λ (x : Entity). lying sort x.kind) es e
 unknown_stay : (name : List ℕ) (pack : PackValue) (packs : Packs) →
     pack_named name packs ≡ None → with_pack name pack packs ≡ packs
 unknown_stay name pack [] none = refl
-unknown_stay name pack (e ∷ packs) none = elim (bytes_eq e.0 name) as
-    (λ b. (if b then Some e.1 else pack_named name packs) ≡ None →
-    (if b then (e.0, pack) else e) ∷ with_pack name pack packs ≡ e ∷ packs) [
-      | true ↦ λ n. absurd cc
-      | false ↦ λ n. ap (λ (es : Packs). e ∷ es) (unknown_stay name pack packs n)
-    ] none
+unknown_stay name pack (e ∷ packs) none = grind (arith, nat_tests, unknown_stay name pack packs)
 
 -- a sum over packs after that of a name is another
 sum_packed : (f : PackValue → ℕ) (other : PackValue) (name : List ℕ) (pack : PackValue)
@@ -118,25 +104,19 @@ sum_packed f other name pack (e ∷ packs) apart known =
     sum_by g ((if b then (e.0, pack) else e) ∷ with_pack name pack packs)
     + f (unwrap_or (if b then Some e.1 else pack_named name packs) other)
     ≡ sum_by g (e ∷ packs) + f pack) [
-      | true ↦ λ t k.
-          let is : e.0 ≡ name = (bytes_eq-Decides e.0 name).0 t in
-          let none : pack_named name packs ≡ None =
-          ap (λ (n : List ℕ). pack_named n packs) (sym is) ∙ apart.0 in
-          let stay : sum_by g (with_pack name pack packs) ≡ sum_by g packs =
-          ap (sum_by g) (unknown_stay name pack packs none) in
-          omega (
-            arith,
-            sum_by-cons g (e.0, pack) (with_pack name pack packs),
-            sum_by-cons g e packs,
-            stay,
-          )
-      | false ↦ λ t k.
-          omega (
-            arith,
-            sum_by-cons g e (with_pack name pack packs),
-            sum_by-cons g e packs,
-            sum_packed f other name pack packs apart.1 k,
-          )
+      | true ↦ grind (
+        arith,
+        bytes_eq-Decides e.0 name,
+        unknown_stay name pack packs,
+        sum_by-cons g (e.0, pack) (with_pack name pack packs),
+        sum_by-cons g e packs,
+      )
+      | false ↦ grind (
+        arith,
+        sum_packed f other name pack packs apart.1,
+        sum_by-cons g e (with_pack name pack packs),
+        sum_by-cons g e packs,
+      )
     ] refl known
 
 -- all packs after that of a name is another
@@ -150,32 +130,24 @@ packs_with sort name pack packs apart known =
 -- one pack more
 pub packs_more : (sort : Sort) (packs : Packs) (name : List ℕ) (pack : PackValue) →
     in_packs sort (packs ++ (name, pack) ∷ []) ≡ in_packs sort packs + in_pack sort pack
-packs_more sort packs name pack =
-    sum_by_push (λ (e : List ℕ × PackValue). in_pack sort e.1) packs (name, pack)
+packs_more sort packs name pack = grind (arith, nat_tests, sum_by_push)
 
 -- a pack with another pile in a hand
 pub pack_handed : (sort : Sort) (pile : Pile) (hand : ℕ) (pack : PackValue) →
     27 + hand < length pack.slots →
     in_pack sort (with_hand pile hand pack) + held sort (in_hand pack hand)
     ≡ in_pack sort pack + held sort pile
-pack_handed sort pile hand pack within = omega (
-  arith,
-  piles_with sort pack.slots (27 + hand) pile
-      (lt-ltb (27 + hand) (length pack.slots) within),
-)
+pack_handed sort pile hand pack within = grind (arith, nat_tests, piles_with, lt-ltb)
 
 -- ---- parts of piles
 
 -- so many of an item, which may be none
 held_some : (sort : Sort) (item : Item) (n : ℕ) →
     held sort (pile_of item n) ≡ held sort (Full (record item { count = n }))
-held_some sort item zero = elim (is_sort sort item) as (λ b. ◌≡◌ {A = ℕ} 0 (if b then 0 else 0))
-    [ true ↦ refl | false ↦ refl ]
-held_some sort item (suc n) = refl
+held_some sort item n = grind (arith, nat_tests)
 
 -- what is taken from a pile and what is left of it are what it held
 pub parted : (sort : Sort) (item : Item) (n : ℕ) → n ≤ item.count →
     held sort (Full (record item { count = n })) + held sort (without_some (Full item) n)
     ≡ held sort (Full item)
-parted sort item n few =
-    omega (arith, split_keeps sort (Full item) n few, held_some sort item n)
+parted sort item n few = grind (arith, nat_tests, split_keeps, held_some)

@@ -2,10 +2,10 @@
 -- of what is in a hand.
 use Rattle.std.proofs.Common.{◌≡◌, ◌≢◌, ℕ, ◌+◌, ◌<◌, true, false, List, [], ◌∷◌}
 use Rattle.std.proofs.Common.{length, refl, sym, ap, ◌∙◌, arith}
-use Rattle.std.specs.Prelude.{Option, Some, None, unsigned_abs, if◌then◌else◌}
+use Rattle.std.specs.Prelude.{Option, Some, None, if◌then◌else◌}
 use Rattle.std.specs.List.{AllByRecursion}
 use Rattle.std.specs.Ordering.{int_eq}
-use Rattle.std.proofs.lemmas.Bool.Decides.{Decides-int_eq}
+use Rattle.std.proofs.lemmas.Bool.Decides.{nat_tests}
 use Rattle.std.proofs.lemmas.List.{length-map}
 use lib.IntN.{ℤ, pos}
 use Rattle.mc_fields.specs.declared.position.Cell.{Cell}
@@ -18,7 +18,7 @@ use Rattle.mc_entities.specs.declared.entity.Entity.{Entity}
 use Rattle.mc_entities.specs.declared.entity.EntityKind.{EntityKind}
 use Rattle.mc_entities.specs.declared.entity.EntityKind.TheVariants as kinds
 use Rattle.mc_entities.specs.Kinds.{is_dropped}
-use Rattle.mc_model.specs.Balance.{lying, sort_of, stock}
+use Rattle.mc_model.specs.Balance.{lying, stock}
 use Rattle.mc_model.specs.Names.{offline_uuid}
 use Rattle.mc_model.specs.Things.{Things, hand_of, holding, in_hand, pack_of, standing, with_entity}
 use Rattle.mc_model.specs.Things.{with_hand, with_kit, with_new_entity, with_pack, with_state}
@@ -47,16 +47,7 @@ pub record IsMild (f : Entity → Entity) : Type 0 where
 changed_keeps : (eid : ℕ) (f : Entity → Entity) (things : Things) → IsMild f →
     Keeps things (with_entity eid f things)
 changed_keeps eid f things mild = record {
-  tidy = λ t. record {
-    given = all_mapped (IsGiven things.eids) (IsGiven things.eids) _ (λ e is n above.
-        elim (int_eq e.eid (pos eid)) as
-        (λ b. int_eq (if b then f e else e).eid (pos n) ≡ false) [
-          | true ↦ ap (λ (m : ℤ). int_eq m (pos n)) (mild.eid e) ∙ is n above
-          | false ↦ is n above
-        ]) things.entities t.given;
-    apart = t.apart;
-    packs = t.packs;
-  };
+  tidy = grind (arith, all_mapped (IsGiven things.eids) (IsGiven things.eids));
   known = λ name k. k;
   given = omega arith;
   apart = λ n le none. all_mapped (IsNoItem n) (IsNoItem n) _ (λ e is.
@@ -69,12 +60,8 @@ changed_keeps eid f things mild = record {
 -- leaves the balance
 changed_leads : (terrain : Terrain) (eid : ℕ) (f : Entity → Entity) (things : Things) →
     IsMild f → Leads terrain things (with_entity eid f things)
-changed_leads terrain eid f things mild = record {
-  keeps = changed_keeps eid f things mild;
-  even = even_onward terrain things (with_entity eid f things) refl (λ id damage some few low.
-      (let same = entities_changed (sort_of id damage) eid f (mild.lies (sort_of id damage))
-      things.entities in omega (arith, same)));
-}
+changed_leads terrain eid f things mild =
+    grind (arith, nat_tests, changed_keeps, even_onward, entities_changed)
 
 -- one that stands somewhere else
 pub standing_leads : (terrain : Terrain) (eid : ℕ) (spot : Spot) (things : Things) →
@@ -84,17 +71,11 @@ standing_leads terrain eid spot things = changed_leads terrain eid (standing spo
 
 -- a hand that holds another pile makes no other kind
 hand_drops : (pile : Pile) (kind : EntityKind) → is_dropped (hand_of pile kind) ≡ is_dropped kind
-hand_drops pile (kinds.Player uuid held) = refl
-hand_drops pile (kinds.Dropped item born) = refl
-hand_drops pile kinds.Mob = refl
+hand_drops pile kind = grind (arith, nat_tests)
 
 -- one that holds another pile
 holding_mild : (pile : Pile) → IsMild (holding pile)
-holding_mild pile = record {
-  eid = λ e. refl;
-  kind = λ e. hand_drops pile e.kind;
-  lies = λ sort e. hand_lies sort pile e.kind;
-}
+holding_mild pile = grind (arith, nat_tests, hand_drops, hand_lies)
 
 -- and leaves the balance
 pub holding_leads : (terrain : Terrain) (eid : ℕ) (pile : Pile) (things : Things) →
@@ -108,21 +89,8 @@ holding_leads terrain eid pile things =
 without_leads : (terrain : Terrain) (eid : ℕ) (things : Things) →
     AllByRecursion (IsNoItem eid) things.entities →
     Leads terrain things (without_entity eid things)
-without_leads terrain eid things none = record {
-  keeps = record {
-    tidy = λ t. record {
-      given = all_filtered (IsGiven things.eids) _ things.entities t.given;
-      apart = t.apart;
-      packs = t.packs;
-    };
-    known = λ name k. k;
-    given = omega arith;
-    apart = λ n le others. all_filtered (IsNoItem n) _ things.entities others;
-  };
-  even = even_onward terrain things (without_entity eid things) refl (λ id damage some few low.
-      (let same = entities_without (sort_of id damage) eid things.entities none in
-      omega (arith, same)));
-}
+without_leads terrain eid things none =
+    grind (arith, nat_tests, all_filtered, IsGiven, IsNoItem, even_onward, entities_without)
 
 -- that of a player that leaves, if it does
 pub leaving_leads : (terrain : Terrain) (before after_ : Option Player) (things : Things) →
@@ -133,31 +101,12 @@ leaving_leads terrain (Some p) (Some q) things is = leads_same terrain things
 
 -- two numbers that are not equal, as signed ones
 pub other_signed : (m n : ℕ) → m ≢ n → int_eq (pos m) (pos n) ≡ false
-other_signed m n other = elim (int_eq (pos m) (pos n)) as
-    (λ b. int_eq (pos m) (pos n) ≡ b → b ≡ false) [
-      | true ↦ λ t. absurd (other (ap unsigned_abs ((Decides-int_eq (pos m) (pos n)).0 t)))
-      | false ↦ λ f. refl
-    ] refl
+other_signed m n other = grind (arith, nat_tests)
 
 -- one more, which has a number that was not given
 pub new_keeps : (kind : EntityKind) (spot : Spot) (things : Things) →
     Keeps things (with_new_entity kind spot things)
-new_keeps kind spot things = record {
-  tidy = λ t. record {
-    given = all_joined (IsGiven (things.eids + 1)) things.entities _
-        (all_given things.entities t.given)
-        (λ n above. other_signed (things.eids + 1) n (λ same. (omega (arith, same, above))), tt);
-    apart = t.apart;
-    packs = t.packs;
-  };
-  known = λ name k. k;
-  given = omega arith;
-  apart = λ eid le others. all_joined (IsNoItem eid) things.entities _ others (
-    λ same. (let other : int_eq (pos (things.eids + 1)) (pos eid) ≡ false =
-        other_signed (things.eids + 1) eid (λ e. (omega (arith, e, le))) in absurd cc),
-    tt,
-  );
-}
+new_keeps kind spot things = grind (arith, all_joined, all_given)
   where
     all_given : (es : List Entity) → AllByRecursion (IsGiven things.eids) es →
         AllByRecursion (IsGiven (things.eids + 1)) es
@@ -167,13 +116,8 @@ new_keeps kind spot things = record {
 -- a player's entity
 player_comes : (terrain : Terrain) (uuid : ℕ) (pile : Pile) (spot : Spot) (things : Things) →
     Leads terrain things (with_new_entity (kinds.Player uuid pile) spot things)
-player_comes terrain uuid pile spot things = record {
-  keeps = new_keeps (kinds.Player uuid pile) spot things;
-  even = even_onward terrain things (with_new_entity (kinds.Player uuid pile) spot things) refl
-      (λ id damage some few low. (let more = entities_more (sort_of id damage) things.entities
-      (record { eid = pos (things.eids + 1); kind = kinds.Player uuid pile; spot = spot }) in
-      omega (arith, more)));
-}
+player_comes terrain uuid pile spot things =
+    grind (arith, nat_tests, new_keeps, even_onward, entities_more)
 
 -- a player that enters
 pub player_leads : (terrain : Terrain) (name : List ℕ) (things : Things) →
@@ -189,13 +133,7 @@ player_leads terrain name things =
 pub player_owns : (terrain : Terrain) (name : List ℕ) (since : ℕ) (things : Things) →
     IsTidy things →
     IsOwner (with_new_player terrain name things) (new_player (things.eids + 1) name since)
-player_owns terrain name since things tidy = record {
-  known = kit_known name things.packs;
-  hand = omega arith;
-  given = omega arith;
-  apart = all_joined (IsNoItem (things.eids + 1)) things.entities _
-      (none things.entities tidy.given) (λ same. refl, tt);
-}
+player_owns terrain name since things tidy = grind (arith, kit_known, all_joined, none)
   where
     none : (es : List Entity) → AllByRecursion (IsGiven things.eids) es →
         AllByRecursion (IsNoItem (things.eids + 1)) es
@@ -234,19 +172,13 @@ packed_keeps : (p : Player) (pile : Pile) (things : Things) → IsPile pile →
     Keeps things (record things {
       packs = with_pack p.name (with_hand pile p.hand (pack_of p.name things.packs)) things.packs;
     })
-packed_keeps p pile things is = record {
-  tidy = λ t.
-      let fits = pack_fits p.name things.packs t.packs in
-      let pack : PackValue = pack_of p.name things.packs in record {
-        given = t.given;
-        apart = (keeps_changed p.name (with_hand pile p.hand pack) things.packs).apart t.apart;
-        packs = with_pack_fits p.name (with_hand pile p.hand pack) things.packs
-            (with_hand_fits pile p.hand pack is fits) t.packs;
-      };
-  known = (keeps_changed p.name _ things.packs).known;
-  given = omega arith;
-  apart = λ eid le none. none;
-}
+packed_keeps p pile things is = grind (
+  arith,
+  pack_fits p.name things.packs,
+  keeps_changed p.name,
+  with_pack_fits p.name,
+  with_hand_fits pile p.hand,
+)
 
 -- and so does all else
 pub carry_keeps : (p : Player) (pile : Pile) (things : Things) → IsPile pile →

@@ -2,6 +2,7 @@
 -- and so does a run.
 use Rattle.std.proofs.Common.{◌≡◌, ◌≢◌, ℕ, List, [], ◌∷◌, ◌++◌, refl, sym, subst, ap, ◌∙◌}
 use Rattle.std.proofs.Common.{append_assoc, arith}
+use Rattle.std.proofs.lemmas.Bool.Decides.{nat_tests}
 use Rattle.std.specs.Prelude.{◌==◌, ◌&&◌, not, is_some, Bool, true, false, cond, Option, Some, None}
 use Rattle.std.proofs.lemmas.Bool.{eqb-true, eq-eqb}
 use Rattle.std.proofs.lemmas.List.{append-nil}
@@ -24,7 +25,7 @@ use Rattle.mc_model.proofs.ThingsKept.{new_things_fit}
 use Rattle.mc_model.proofs.Sound.{Sound}
 use Rattle.mc_model.proofs.Beside.{Beside}
 use Rattle.mc_model.proofs.FitsBytes.{bytes_joined}
-use Rattle.mc_model.proofs.StageDecoding.{DecodesAt, AreDecoded, none_decoded, at_decoded}
+use Rattle.mc_model.proofs.StageDecoding.{AreDecoded, none_decoded, at_decoded}
 use Rattle.mc_model.proofs.StageDecoding.{decodes_at_more}
 use Rattle.mc_model.proofs.TurnDecoding.{TurnDecodes}
 use Rattle.mc_model.proofs.FrameDecoding.{bytes_decode}
@@ -47,22 +48,7 @@ own_kept : (k : ℕ) (w : World) (s : Session) (bytes came : List ℕ) (t : Turn
     IsBytes bytes → Sound w → Kept k w came earlier
     → Kept k t.world (came ++ bytes) (earlier ++ t.handed)
 own_kept k w s bytes came t earlier e h b sound kept =
-    let l = h.hands earlier (decodes_at_more came bytes s.stage earlier kept.bytes
-    (kept.here s e)) in
-    let R : Session → Type 0 = λ v. DecodesAt (decoder_of (came ++ bytes)) v.stage (earlier
-    ++ t.handed) in
-    let W : Session → Type 0 = λ v. v.stage ≡ stages.Hand → came ++ bytes ≡ v.rest in
-    let N : Option ℕ → Type 0 = λ o. is_new k o ≡ true in
-    let unread : W h.session = λ at. let was = h.waits at in
-    ap (λ (bs : List ℕ). bs ++ bytes) (kept.waits s e was.0) ∙ sym was.1 in
-    record {
-      here = λ u now. subst R (one_some h.session u (found k t.world.sessions) h.there now) l;
-      waits = λ u now. subst W (one_some h.session u (found k t.world.sessions) h.there now) unread;
-      early = λ new. absurd (some_none s (found k w.sessions) e
-          (sound.fresh k (subst N h.beside.last new)));
-      decoded = at_decoded (decoder_of (came ++ bytes)) h.session.stage (earlier ++ t.handed) l;
-      bytes = bytes_joined came bytes kept.bytes b;
-    }
+    grind (arith, nat_tests, decodes_at_more, one_some, some_none, at_decoded, bytes_joined)
 
 -- and one of another connection
 other_kept : (k j : ℕ) (w : World) (came : List ℕ) (t : Turn) (earlier : List Sent) → k ≢ j →
@@ -82,13 +68,7 @@ other_kept k j w came t earlier other beside kept =
 nothing_more : (k : ℕ) (v : World) (came more : List ℕ) (earlier later : List Sent) → more ≡ [] →
     later ≡ [] → Steps k v came earlier
     → Steps k v (came ++ more) (earlier ++ later)
-nothing_more k v came more earlier later none quiet s =
-    let same : came ≡ came ++ more =
-    sym (append-nil came) ∙ ap (λ (bs : List ℕ). came ++ bs) (sym none) in
-    let as_before : earlier ≡ earlier ++ later =
-    sym (append-nil earlier) ∙ ap (λ (ps : List Sent). earlier ++ ps) (sym quiet) in
-    let P : List ℕ → Type 0 = λ bs. Steps k v bs (earlier ++ later) in
-    subst P same (subst (Steps k v came) as_before s)
+nothing_more k v came more earlier later none quiet s = grind (arith, nat_tests, append-nil)
 
 -- bytes that came
 bytes_steps : (k j : ℕ) (w : World) (bytes came : List ℕ) (earlier : List Sent) → IsBytes bytes →
@@ -164,8 +144,7 @@ bytes_steps k j w bytes came earlier b sound kept = step (found j w.sessions) re
 -- where no bytes of the connection came, none are added
 quiet : {k : ℕ} {v : World} {came : List ℕ} {packets : List Sent} → Steps k v came packets →
     Steps k v (came ++ []) packets
-quiet {k} {v} {came} {packets} s = let P : List ℕ → Type 0 = λ bs. Steps k v bs packets in
-    subst P (sym (append-nil came)) s
+quiet {k} {v} {came} {packets} s = grind (arith, nat_tests, append-nil)
 
 -- what comes in an event is bytes
 abbrev pub IsEvent : Event → Type 0
@@ -194,22 +173,13 @@ event_steps k w (forgot j) came earlier b sound kept =
 -- bytes of all events are bytes of the first and of the others
 first_bytes : (e : Event) (events : List Event) → AreBytes (e ∷ events) →
     IsEvent e × AreBytes events
-first_bytes (joined j) events b = (tt, b)
-first_bytes (arrived j bytes) events b = b
-first_bytes (left j) events b = (tt, b)
-first_bytes (broke j) events b = (tt, b)
-first_bytes ticked events b = (tt, b)
-first_bytes (took j n) events b = (tt, b)
-first_bytes (forgot j) events b = (tt, b)
+first_bytes e events b = grind (arith, nat_tests)
 
 -- a run
 run_decoded : (k : ℕ) (events : List Event) (w : World) (came : List ℕ) (earlier : List Sent) →
     AreBytes events → Sound w → Kept k w came earlier
     → AreDecoded (decoder_of (came ++ received k w events)) (earlier ++ handed k w events)
-run_decoded k [] w came earlier b sound kept =
-    let P : List ℕ → Type 0 = λ bs. AreDecoded (decoder_of bs) (earlier ++ []) in
-    subst P (sym (append-nil came)) (subst (AreDecoded (decoder_of came))
-    (sym (append-nil earlier)) kept.decoded)
+run_decoded k [] w came earlier b sound kept = grind (arith, nat_tests, append-nil)
 run_decoded k (e ∷ events) w came earlier b sound kept =
     let parts = first_bytes e events b in
     let s = event_steps k w e came earlier parts.0 sound kept in
@@ -225,28 +195,11 @@ run_decoded k (e ∷ events) w came earlier b sound kept =
 -- a new world is sound
 new_sound : (most cap : ℕ) (terrain : Terrain) → AreSettings most cap →
     Sound (new_world most cap terrain)
-new_sound most cap terrain settings =
-    record {
-      settings = settings;
-      young = omega arith;
-      things = new_things_fit;
-      lines = tt;
-      apart = tt;
-      fresh = λ k new. refl;
-      few =
-          omega arith;
-      fits = tt;
-    }
+new_sound most cap terrain settings = grind (arith, nat_tests, new_things_fit)
 
 -- in it nothing came from anybody, and nothing was handed to anybody
 new_kept : (k most cap : ℕ) (terrain : Terrain) → Kept k (new_world most cap terrain) [] []
-new_kept k most cap terrain = record {
-  here = λ s there. absurd (some_none s None there refl);
-  waits = λ s there. absurd (some_none s None there refl);
-  early = λ new. (refl, refl);
-  decoded = none_decoded (decoder_of []) [] refl;
-  bytes = λ i. omega arith;
-}
+new_kept k most cap terrain = grind (arith, nat_tests, some_none, none_decoded)
 
 -- packets that a client decodes are decoded from their bytes
 decoded_so : (o : Option Decoder) (packets : List Sent) → AreDecoded o packets →

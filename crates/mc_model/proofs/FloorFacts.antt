@@ -4,13 +4,12 @@ use Rattle.std.proofs.Common.{◌≡◌, ◌≢◌, ℕ, ◌*◌, ◌^◌, ◌<�
 use Rattle.std.specs.Prelude.{◌==◌, ◌||◌, ◌↔◌, nat_le, Bool, true, false, Option, Some}
 use Rattle.std.specs.Prelude.{None, IsNone, IfSome, unsigned_abs}
 use Rattle.std.specs.Int.{int_div_euclid, int_rem_euclid}
-use Rattle.std.proofs.Common.{inl, inr}
-use Rattle.std.proofs.lemmas.Bool.{eqb-true, eq-eqb, ne_eqb, le-leb, leb-true}
+use Rattle.std.proofs.lemmas.Bool.Decides.{nat_tests}
+use Rattle.std.proofs.lemmas.Bool.{eq-eqb, ne_eqb}
 use lib.IntN.{ℤ, pos, negsuc}
 use lib.Signed.{shr_z}
 use Rattle.mc_fields.specs.Pattern.{is_negative, exponent, significand, power, with_sign, held}
 use Rattle.mc_fields.specs.Pattern.{IsFloor, Fixes, IsEndless, Turns, IsVast}
-use Rattle.mc_fields.specs.PatternLaws.{floor_one, shift_floor}
 use Rattle.mc_model.specs.Numbers.{fixed_of, turn_of}
 
 shift_is : (z : ℤ) (b : ℕ) → shr_z z b ≡ int_div_euclid z (pos b)
@@ -20,11 +19,7 @@ shift_is (negsuc a) b = refl
 -- a floor is the quotient
 pub floor_is : (negative : Bool) (size b : ℕ) (n : ℤ) → 0 < b →
     IsFloor n (with_sign negative size) b → n ≡ int_div_euclid (with_sign negative size) (pos b)
-floor_is negative size b n some f =
-    floor_one n (shr_z (with_sign negative size) b) (with_sign negative size) b f
-    (shift_floor negative size b 1 1 size b some (omega arith) (omega arith) (omega arith)
-    (omega arith))
-    ∙ shift_is (with_sign negative size) b
+floor_is negative size b n some f = grind (arith, nat_tests)
 
 -- a binary64 pattern
 pub fixed_is : (p : ℕ) (o : Option ℤ) → (IsNone o ↔ IsEndless p) → IfSome o (λ n. Fixes p n) →
@@ -44,25 +39,12 @@ fixed_is p (Some n) e f =
 -- whether one of two tests passes
 vast : (p : ℕ) → IsVast p → (exponent 23 8 p == 255 || nat_le (2 ^ 31 * 2 ^ 150)
     (significand 23 8 p * 2 ^ power 23 8 p)) ≡ true
-vast p (inl ends) = rw (eq-eqb (exponent 23 8 p) 255 ends) refl
-vast p (inr large) = either (exponent 23 8 p == 255)
-    (nat_le (2 ^ 31 * 2 ^ 150) (significand 23 8 p * 2 ^ power 23 8 p)) (le-leb _ _ large)
-  where
-    either : (a b : Bool) → b ≡ true → (a || b) ≡ true
-    either true b e = refl
-    either false b e = e
+vast p h1 = grind (arith, nat_tests)
 
 not_vast : (p : ℕ) → (IsVast p → ⊥) →
     (exponent 23 8 p == 255 || nat_le (2 ^ 31 * 2 ^ 150)
     (significand 23 8 p * 2 ^ power 23 8 p)) ≡ false
-not_vast p no_ = neither (exponent 23 8 p == 255)
-    (nat_le (2 ^ 31 * 2 ^ 150) (significand 23 8 p * 2 ^ power 23 8 p))
-    (λ t. no_ (inl (eqb-true _ _ t))) (λ t. no_ (inr (leb-true _ _ t)))
-  where
-    neither : (a b : Bool) → (a ≡ true → ⊥) → (b ≡ true → ⊥) → (a || b) ≡ false
-    neither true b f g = absurd (f refl)
-    neither false true f g = absurd (g refl)
-    neither false false f g = refl
+not_vast p no_ = grind (arith, nat_tests)
 
 -- a binary32 pattern of degrees
 pub turn_is : (p : ℕ) (o : Option ℕ) → (IsNone o ↔ IsVast p) → IfSome o (λ a. Turns p a) →

@@ -1,9 +1,11 @@
 -- What forgetting connections that are done leaves of all: the others are as they were, nobody is
 -- owed more, and of those whose numbers are among the closed ones none is done.
-use Rattle.std.proofs.Common.{◌≡◌, ◌≢◌, ℕ, List, [], ◌∷◌, map, inl, inr, refl, sym, subst, ap, ◌∙◌}
+use Rattle.std.proofs.Common.{◌≡◌, ◌≢◌, ℕ, List, [], ◌∷◌, map, refl, sym, ap, ◌∙◌}
+use Rattle.std.proofs.Common.{arith}
+use Rattle.std.proofs.lemmas.Bool.Decides.{nat_tests}
 use Rattle.std.specs.Prelude.{◌⊎◌, ◌==◌, ◌&&◌, not, Bool, true, false, cond, Option, Some, None}
 use Rattle.std.specs.List.{filter}
-use Rattle.std.proofs.lemmas.Bool.{eqb-true, eq-eqb}
+use Rattle.std.proofs.lemmas.Bool.{eq-eqb}
 use Rattle.mc_wire.specs.declared.log.LogEntry.TheVariants.{Closed}
 use Rattle.mc_model.specs.World.{World, Session, found}
 use Rattle.mc_model.specs.Step.{forgot, is_done, step}
@@ -104,9 +106,7 @@ pub closed_left : (k : ℕ) (t : Session) (ks : List ℕ) (w : World) → Orderl
     (found k w.sessions ≡ Some t) × (is_done t ≡ true → IsAmong k ks → ⊥)
 closed_left k t [] w o there = (there, λ done among. among)
 closed_left k t (j ∷ js) w o there =
-    let later = closed_left k t js (step w (forgot j)).world (orderly_step w (forgot j) o) there in
-    let now = forgot_left j k w t o later.0 in
-    (now.0, λ done among. elim among [ inl own ↦ now.1 done own | inr rest ↦ later.1 done rest ])
+    grind (arith, nat_tests, closed_left k t js, orderly_step, forgot_left)
 
 -- the numbers of those that are done
 abbrev pub done_of : List Session → List ℕ
@@ -115,34 +115,18 @@ done_of sessions = map (λ (s : Session). s.id) (filter is_done sessions)
 pub done_among : (k : ℕ) (s : Session) (ss : List Session) → found k ss ≡ Some s →
     is_done s ≡ true → IsAmong k (done_of ss)
 done_among k s [] there done = absurd (some_none s None there refl)
-done_among k s (x ∷ xs) there done = elim (x.id == k) as (λ b. (x.id == k) ≡ b →
-    cond b (Some x) (found k xs) ≡ Some s → IsAmong k (done_of (x ∷ xs))) [
-      | true ↦ λ own here.
-          let is : is_done x ≡ true = ap is_done (one_some x s (Some x) refl here) ∙ done in
-          subst (λ (b : Bool). IsAmong k
-          (map (λ (s : Session). s.id) (cond b (x ∷ filter is_done xs) (filter is_done xs))))
-          (sym is) (inl (eqb-true x.id k own))
-      | false ↦ λ other later. behind (is_done x) (done_among k s xs later done)
-    ] refl there
-  where
-    behind : (b : Bool) → IsAmong k (done_of xs) → IsAmong k
-        (map (λ (s : Session). s.id) (cond b (x ∷ filter is_done xs) (filter is_done xs)))
-    behind true rest = inr rest
-    behind false rest = rest
+done_among k s (x ∷ xs) there done = grind (arith, nat_tests, done_among k s xs)
 
 -- ---- all that are done
 
 -- one that stands behind another has another number
 behind_other : (k : ℕ) (x s : Session) (xs : List Session) → found x.id xs ≡ None →
     found k xs ≡ Some s → x.id ≢ k
-behind_other k x s xs apart here same =
-    some_none s (found k xs) here (subst (λ (n : ℕ). found n xs ≡ None) same apart)
+behind_other k x s xs apart here same = grind (arith, nat_tests, some_none)
 
 found_later : (k : ℕ) (x s : Session) (xs : List Session) → found x.id xs ≡ None →
     found k xs ≡ Some s → found k (x ∷ xs) ≡ Some s
-found_later k x s xs apart here =
-    ap (λ (b : Bool). cond b (Some x) (found k xs))
-    (other_number x.id k (behind_other k x s xs apart here)) ∙ here
+found_later k x s xs apart here = grind (arith, nat_tests)
 
 -- of connections that are all there, those that are done may be closed one after another
 pub closings_right : (ss : List Session) (w : World) → Orderly w → AreApart ss →

@@ -1,19 +1,20 @@
 -- What is made of one session at its place is what the definitions make of the world.
-use Rattle.std.proofs.Common.{◌≡◌, ℕ, true, false, List, [], ◌∷◌, get_or, set, refl, sym, ap, ◌∙◌}
+use Rattle.std.proofs.Common.{◌≡◌, ℕ, true, false, List, [], get_or, set, refl, sym, ap, ◌∙◌}
+use Rattle.std.proofs.Common.{arith}
+use Rattle.std.proofs.lemmas.Bool.Decides.{nat_tests}
 use Rattle.std.specs.Prelude.{Option, Some, None, length}
-use Rattle.std.specs.Option.{option_and_then}
 use Rattle.std.proofs.lemmas.List.{set-get_or}
 use Rattle.mc_frame.specs.declared.fault.FrameFault.{FrameFault}
 use Rattle.mc_model.specs.declared.cause.Cause.{Cause}
 use Rattle.mc_model.specs.declared.cause.Cause.TheVariants as causes
 use Rattle.mc_model.specs.Things.{Things}
 use Rattle.mc_model.specs.World.{World, Session, Player, found, put, players, is_closed}
-use Rattle.mc_model.specs.Packets.{Sent, of_status, bytes_of}
+use Rattle.mc_model.specs.Packets.{Sent, bytes_of}
 use Rattle.mc_model.specs.Talk.{ClientRequest, nothing, greets, replies, ends, enters, acts, wrong}
 use Rattle.mc_model.specs.Talk.{request_of, farewell}
-use Rattle.mc_model.specs.Step.{Handing, hand, mark_closed, disconnect, after_leaving, Turn, still}
+use Rattle.mc_model.specs.Step.{Handing, hand, disconnect, after_leaving, Turn, still}
 use Rattle.mc_model.specs.Step.{turn, perform}
-use Rattle.mc_model.specs.Step.{when_open, on_frame, on_fault, gone, changed, player_in, depart}
+use Rattle.mc_model.specs.Step.{when_open, on_frame, on_fault, gone, depart}
 use Rattle.mc_model.specs.Handled.{handled}
 use Rattle.mc_model.specs.Orderly.{Rise, IsPlaced}
 use Rattle.mc_model.proofs.RiseFacts.{at_place}
@@ -51,9 +52,7 @@ put_placed w k i high old new p r is same =
 pub put_same : (w : World) (k i high : ℕ) (old : Session) → IsPlaced k i w.sessions →
     Rise 0 w.sessions high → old ≡ get_or w.sessions i old → put w old ≡ w
 put_same w k i high old p r is =
-    put_placed w k i high old old p r is refl
-    ∙ ap (λ (ss : List Session). record w { sessions = ss })
-    (ap (λ (s : Session). set w.sessions i s) is ∙ set-get_or w.sessions i old)
+    grind (arith, nat_tests, put_placed w k i high old old p r is refl, set-get_or w.sessions i old)
 
 -- the session that is found is the one that stands there
 pub found_placed : (k i : ℕ) (ss : List Session) (old s : Session) → IsPlaced k i ss →
@@ -69,21 +68,15 @@ pub turn_placed : (w : World) (k i high : ℕ) (old before : Session) (h : Handi
     h.session.id ≡ old.id →
     (turn w before h).world ≡ placed_world w i before h.session
 turn_placed w k i high old before h p r is same =
-    ap (λ (v : World). record v {
-      things = after_leaving before.player h.session.player w.things;
-    }) (put_placed w k i high old h.session p r is same)
+    grind (arith, nat_tests, put_placed w k i high old h.session p r is same)
 
 -- what a handing makes of a session at its place is the turn
 pub placed_turn : (w : World) (k i high : ℕ) (old new : Session) (h : Handing) (bytes : List ℕ) →
     IsPlaced k i w.sessions → Rise 0 w.sessions high → old ≡ get_or w.sessions i old →
     new.id ≡ old.id →
     IsHanding h new bytes → IsTurn (turn w old h) (placed_world w i old new) bytes
-placed_turn w k i high old new h bytes p r is same made = record {
-  world = ap (placed_world w i old) made.session
-      ∙ sym (turn_placed w k i high old old h p r is
-      (ap (λ (s : Session). s.id) (sym made.session) ∙ same));
-  handed = made.handed;
-}
+placed_turn w k i high old new h bytes p r is same made =
+    grind (arith, nat_tests, turn_placed w k i high old old h p r is)
 
 -- a connection at its place departs with its player
 pub depart_placed : (w : World) (k i high : ℕ) (old : Session) (cause : Cause) →
@@ -93,17 +86,7 @@ pub depart_placed : (w : World) (k i high : ℕ) (old : Session) (cause : Cause)
       things = after_leaving old.player None w.things;
     }
 depart_placed w k i high old cause p r is =
-    let named : (get_or w.sessions i old).id ≡ k = p.named old in
-    let there : found k w.sessions ≡ Some old = p.is old ∙ ap Some (sym is) in
-    let player : player_in k w.sessions ≡ old.player =
-    ap (λ (o : Option Session). option_and_then (λ (s : Session). s.player) o) there in
-    let sessions : (changed w k (gone cause)).sessions ≡ set w.sessions i (gone cause old) =
-    at_place k (gone cause) 0 high w.sessions i old p.within named r
-    ∙ ap (λ (s : Session). set w.sessions i (gone cause s)) (sym is) in
-    λ j. record w {
-      sessions = sessions j;
-      things = after_leaving (player j) None w.things;
-    }
+    grind (arith, nat_tests, at_place k (gone cause) 0 high w.sessions i old p.within)
 
 -- a player that stays does not leave
 pub stays_on : (o : Option Player) (things : Things) → after_leaving o o things ≡ things
@@ -125,35 +108,14 @@ IsAlone (wrong fault) = Unit {0}
 -- what is made of the session is then the turn
 pub handled_turn : (w : World) (s : Session) (x : ClientRequest) → IsAlone x → put w s ≡ w →
     perform w s x ≡ turn w s (handled s x)
-handled_turn w s nothing alone same = λ j. record {
-  world = record (sym same j) { things = sym (stays_on s.player w.things) j };
-  handed = [];
-}
-handled_turn w s (greets protocol stage) alone same = λ j. record {
-  world = record (put w (record s { stage = stage; protocol = protocol })) {
-    things = sym (stays_on s.player w.things) j;
-  };
-  handed = [];
-}
-handled_turn w s (replies packet) alone same = refl
-handled_turn w s (ends packet) alone same = refl
-handled_turn w s (enters name) alone same = absurd alone
-handled_turn w s (acts packet) alone same = absurd alone
-handled_turn w s (wrong fault) alone same = refl
+handled_turn w s x alone same = grind (arith, nat_tests, stays_on)
 
 hand_id : (s : Session) (packets : List Sent) → (hand s packets).session.id ≡ s.id
 hand_id s packets = hand_cases s packets (λ h. h.session.id ≡ s.id) (λ fits. refl) (λ much. refl)
 
 -- it keeps the number of the session
 pub handled_id : (s : Session) (x : ClientRequest) → (handled s x).session.id ≡ s.id
-handled_id s nothing = refl
-handled_id s (greets protocol stage) = refl
-handled_id s (replies packet) = hand_id s (of_status packet ∷ [])
-handled_id s (ends packet) = hand_id (mark_closed s causes.Done) (of_status packet ∷ [])
-handled_id s (enters name) = refl
-handled_id s (acts packet) = refl
-handled_id s (wrong fault) = hand_id (mark_closed s (causes.Packet fault))
-    (farewell s.stage (causes.Packet fault))
+handled_id s x = grind (arith, nat_tests, hand_id)
 
 -- so a frame that comes to it puts that in its place
 pub handled_placed : (w : World) (k i high : ℕ) (s : Session) (x : ClientRequest) → IsAlone x →
@@ -175,24 +137,17 @@ turn_along t u w bytes e made = record {
 pub open_at : (w : World) (k i : ℕ) (old : Session) (f : Session → Turn) → IsPlaced k i w.sessions →
     old ≡ get_or w.sessions i old → is_closed old.stage ≡ false →
     when_open (found k w.sessions) w f ≡ f old
-open_at w k i old f p is open_ =
-    let there : found k w.sessions ≡ Some old = p.is old ∙ ap Some (sym is) in
-    let last : when_open (Some old) w f ≡ f old = rw open_ refl in
-    ap (λ (o : Option Session). when_open o w f) there ∙ last
+open_at w k i old f p is open_ = grind (arith, nat_tests)
 
 pub closed_at : (w : World) (k i : ℕ) (old : Session) (f : Session → Turn) →
     IsPlaced k i w.sessions → old ≡ get_or w.sessions i old → is_closed old.stage ≡ true →
     when_open (found k w.sessions) w f ≡ still w
-closed_at w k i old f p is closed =
-    let there : found k w.sessions ≡ Some old = p.is old ∙ ap Some (sym is) in
-    let last : when_open (Some old) w f ≡ still w = rw closed refl in
-    ap (λ (o : Option Session). when_open o w f) there ∙ last
+closed_at w k i old f p is closed = grind (arith, nat_tests)
 
 -- nothing is done, and nothing handed out
 pub still_turn : (w : World) (t : Turn) (bytes : List ℕ) → t ≡ still w → bytes ≡ [] →
     IsTurn t w bytes
-still_turn w t bytes e none = turn_along (still w) t w bytes (sym e)
-    (record { world = refl; handed = none })
+still_turn w t bytes e none = grind (arith, nat_tests, turn_along)
 
 pub fault_turn : (w : World) (k i high : ℕ) (old new : Session) (fault : FrameFault)
     (bytes : List ℕ) → IsPlaced k i w.sessions → Rise 0 w.sessions high →

@@ -1,13 +1,13 @@
 -- What clients see entities as is the same for good.
-use Rattle.std.proofs.Common.{◌≡◌, List, [], ◌∷◌, Option, Some, cond, refl, sym, ap, subst}
+use Rattle.std.proofs.Common.{◌≡◌, List, [], ◌∷◌, Option, Some, sym, ap, subst}
 use Rattle.std.proofs.Common.{◌∙◌, inl, inr, arith}
+use Rattle.std.proofs.lemmas.Bool.Decides.{nat_tests}
 use Rattle.std.specs.Prelude.{◌⊎◌, ◌<ℤ◌}
 use Rattle.std.specs.List.{AllByRecursion, filter, filter_map}
 use Rattle.std.specs.Cmp.{int_cmp_total}
 use Rattle.std.specs.Option.{unwrap_or}
 use Rattle.std.specs.declared.cmp.Ordering.{Ordering}
-use Rattle.std.specs.declared.cmp.Ordering.TheVariants.{Less, Equal, Greater}
-use Rattle.std.specs.Ordering.{is_eq, int_cmp}
+use Rattle.std.specs.Ordering.{int_cmp}
 use Rattle.std.specs.FinMap.{IsAntisymmetric, int_cmp-IsAntisymmetric, find, get, get-from_entries}
 use Rattle.std.proofs.lemmas.Int.{ints}
 use lib.IntN.{ℤ, pos}
@@ -27,13 +27,7 @@ found_row : {K X : Type 0} (R : K → K → Ordering) → IsAntisymmetric R → 
     (q : K) (es : List (K × X)) (v : X) → AllByRecursion P es → find R q es ≡ Some v → P (q, v)
 found_row R same P q [] v a found = absurd cc
 found_row {X = X} R same P q (e ∷ es) v a found =
-    elim (R q e.0) as (λ r. R q e.0 ≡ r →
-    cond (is_eq r) (Some e.1) (find R q es) ≡ Some v → P (q, v)) [
-      | Less ↦ λ t f. found_row R same P q es v a.1 f
-      | Equal ↦ λ t f. subst P (ap (λ k. (k, e.1)) (sym (same q e.0 t))
-          ∙ ap (λ (o : Option X). (q, unwrap_or o v)) f) a.0
-      | Greater ↦ λ t f. found_row R same P q es v a.1 f
-    ] refl found
+    grind (arith, nat_tests, found_row R same P q es v a.1)
 
 -- what holds of an entity's number and of what it is seen as
 abbrev OfKind : (ℤ → Option SeenKind → Type 0) → Entity → Type 0

@@ -1,17 +1,17 @@
 -- Where a player comes to be that goes somewhere is a place that can be told.
-use Rattle.std.proofs.Common.{◌≡◌, ℕ, suc, ◌<◌, ◌≤◌, Bool, true, false, refl, subst, arith}
-use Rattle.std.specs.Prelude.{◌&&◌, int_le, unsigned_abs, Option, Some, None, if◌then◌else◌}
+use Rattle.std.proofs.Common.{◌≡◌, ℕ, suc, ◌<◌, ◌≤◌, Bool, true, false, subst, arith}
+use Rattle.std.proofs.lemmas.Bool.Decides.{nat_tests}
+use Rattle.std.specs.Prelude.{unsigned_abs, Option, Some, None, if◌then◌else◌}
 use Rattle.std.specs.Int.{int_rem_euclid}
 use Rattle.std.specs.Option.{option_and_then}
-use Rattle.std.proofs.lemmas.Bool.{leb-true}
 use lib.IntN.{ℤ, pos, negsuc}
 use Rattle.mc_fields.specs.declared.position.Spot.{Spot}
 use Rattle.mc_entities.specs.Shift.{is_between, is_inside}
 use Rattle.mc_model.specs.Numbers.{fixed_of, turn_of}
-use Rattle.mc_model.specs.World.{World, spawn_spot}
+use Rattle.mc_model.specs.World.{World}
 use Rattle.mc_model.specs.Movement.{both, moved, turned, landing}
 use Rattle.mc_model.proofs.FitsText.{both_true}
-use Rattle.mc_model.proofs.FitsDue.{rest_below, spawn_fits}
+use Rattle.mc_model.proofs.FitsDue.{rest_below}
 use Rattle.mc_model.proofs.ThingsFit.{SpotFits}
 
 -- ---- turns
@@ -43,11 +43,7 @@ turn_low p a e = step _ _ e
 turned_so : (spot to : Spot) (a b : Option ℕ) → ((n : ℕ) → a ≡ Some n → n < 256) →
     ((n : ℕ) → b ≡ Some n → n < 256)
     → both (λ (about up : ℕ). record spot { yaw = about; pitch = up }) a b ≡ Some to → IsTurned to
-turned_so spot to None b low high e = absurd cc
-turned_so spot to (Some about) None low high e = absurd cc
-turned_so spot to (Some about) (Some up) low high e =
-    subst IsTurned (some_is (record spot { yaw = about; pitch = up }) to e)
-    (record { yaw = low about refl; pitch = high up refl })
+turned_so spot to a b low high e = grind (arith, nat_tests, some_is)
 
 -- a player that looks
 pub turned_turned : (spot to : Spot) (yaw pitch : ℕ) → turned spot yaw pitch ≡ Some to → IsTurned to
@@ -59,12 +55,7 @@ moved_so : (spot to : Spot) (a b c : Option ℤ) → IsTurned spot
     → option_and_then (λ (east : ℤ). both
     (λ (up south : ℤ). record spot { x = east; y = up; z = south }) b c) a ≡ Some to
     → IsTurned to
-moved_so spot to None b c is e = absurd cc
-moved_so spot to (Some east) None c is e = absurd cc
-moved_so spot to (Some east) (Some up) None is e = absurd cc
-moved_so spot to (Some east) (Some up) (Some south) is e =
-    subst IsTurned (some_is (record spot { x = east; y = up; z = south }) to e)
-    (record { yaw = is.yaw; pitch = is.pitch })
+moved_so spot to a b c is e = grind (arith, nat_tests, some_is)
 
 -- a player that moves
 pub moved_turned : (spot to : Spot) (x y z : ℕ) → IsTurned spot → moved spot x y z ≡ Some to →
@@ -83,35 +74,12 @@ both_turned (Some spot) to yaw pitch e = turned_turned spot to yaw pitch e
 -- what is within a range is not large
 within_small : (low high : ℕ) (n : ℤ) → suc low ≤ high →
     is_between (negsuc low) (pos high) n ≡ true → unsigned_abs n ≤ high
-within_small low high (pos n) le t =
-    leb-true n high (both_true (int_le (negsuc low) (pos n)) (int_le (pos n) (pos high)) t).1
-within_small low high (negsuc n) le t =
-    let few = leb-true n low (both_true (int_le (negsuc low) (negsuc n))
-    (int_le (negsuc n) (pos high)) t).0 in
-    omega (arith, few, le)
+within_small low high n le t = grind (arith, nat_tests)
 
 -- a place in the range of players fits
 inside_fits : (spot : Spot) → IsTurned spot → is_inside spot ≡ true → SpotFits spot
-inside_fits spot is t =
-    let x : Bool = is_between (negsuc 959999999) (pos 960000000) spot.x in
-    let y : Bool = is_between (negsuc 2047) (pos 131072) spot.y in
-    let z : Bool = is_between (negsuc 959999999) (pos 960000000) spot.z in
-    let a = both_true x (y && z) t in
-    let b = both_true y z a.1 in
-    let east = within_small 959999999 960000000 spot.x (omega arith) a.0 in
-    let south = within_small 959999999 960000000 spot.z (omega arith) b.1 in
-    record {
-      x = omega (arith, east);
-      y = within_small 2047 131072 spot.y (omega arith) b.0;
-      z = omega (arith, south);
-      yaw = is.yaw;
-      pitch = is.pitch;
-    }
+inside_fits spot is t = grind (arith, nat_tests, both_true, within_small)
 
 -- so does where a player comes to be
 pub landing_fits : (w : World) (spot : Spot) → IsTurned spot → SpotFits (landing w spot)
-landing_fits w spot is = step (is_inside spot) refl
-  where
-    step : (b : Bool) → is_inside spot ≡ b → SpotFits (if b then spot else spawn_spot w.terrain)
-    step true t = inside_fits spot is t
-    step false t = spawn_fits w.terrain
+landing_fits w spot is = grind (arith, nat_tests)

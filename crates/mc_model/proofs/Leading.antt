@@ -1,7 +1,8 @@
 -- What packets make of what a client sees: one list of packets after another, and the packets of
 -- one entry of a map after another.
 use Rattle.std.proofs.Common.{◌≡◌, true, false, cond, T, List, [], ◌∷◌, ◌++◌, Option, Some}
-use Rattle.std.proofs.Common.{refl, sym, ap, subst, ◌∙◌}
+use Rattle.std.proofs.Common.{refl, sym, ap, subst, ◌∙◌, arith}
+use Rattle.std.proofs.lemmas.Bool.Decides.{nat_tests}
 use Rattle.std.specs.List.{flat_map, fold}
 use Rattle.std.specs.declared.cmp.Ordering.{Ordering}
 use Rattle.std.specs.Ordering.{is_eq, eq_by_cmp}
@@ -10,7 +11,7 @@ use Rattle.std.specs.FinMap.{FinMap, find, is_sorted, get, insert, get-insert}
 use Rattle.std.proofs.lemmas.List.Sums.{fold-append}
 use Rattle.mc_down.specs.declared.down.Down.{Down}
 use Rattle.mc_model.specs.Sight.{Sight}
-use Rattle.mc_model.specs.Replica.{Replica, apply, replay, seeing}
+use Rattle.mc_model.specs.Replica.{replay, seeing}
 use Rattle.mc_model.proofs.Maps.{second, find_again, put_in}
 
 -- the packets make of a replica that sees one thing a replica that sees another
@@ -20,11 +21,7 @@ pub record Leads (s : Sight) (packets : List Down) (t : Sight) : Type 0 where
 -- one after the other
 pub onward : {s t u : Sight} {xs ys : List Down} → Leads s xs t → Leads t ys u →
     Leads s (xs ++ ys) u
-onward {s} {t} {u} {xs} {ys} first later =
-    record {
-      is = fold-append apply (seeing s) xs ys ∙ ap (λ (r : Replica). replay r ys) first.is
-          ∙ later.is;
-    }
+onward {s} {t} {u} {xs} {ys} first later = grind (arith, nat_tests, fold-append)
 
 -- no packets change nothing
 pub no_packets : (s : Sight) → Leads s [] s

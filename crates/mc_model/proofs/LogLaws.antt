@@ -1,15 +1,16 @@
 -- Laws of logs: one behind another, and what follows where each entry is right in the world before
 -- it.
-use Rattle.std.proofs.Common.{◌≡◌, ℕ, List, [], ◌∷◌, ◌++◌, take, length, refl, sym, subst, ap, ◌∙◌}
-use Rattle.std.specs.Prelude.{◌==◌, true, false, cond, Some}
-use Rattle.std.proofs.lemmas.Bool.{eqb-true}
+use Rattle.std.proofs.Common.{◌≡◌, ℕ, List, [], ◌∷◌, ◌++◌, take, length, refl}
+use Rattle.std.proofs.Common.{arith}
+use Rattle.std.proofs.lemmas.Bool.Decides.{nat_tests}
+use Rattle.std.specs.Prelude.{◌==◌, true, cond, Some}
 use Rattle.std.proofs.lemmas.List.Concat.{flat_map-append}
 use Rattle.std.proofs.lemmas.List.Sums.{fold-append}
 use Rattle.mc_wire.specs.declared.log.LogEntry.{LogEntry}
 use Rattle.mc_wire.specs.declared.log.LogEntry.TheVariants.{Put, Closed}
 use Rattle.mc_model.specs.World.{World, Session, found}
-use Rattle.mc_model.specs.Step.{Event, is_done, step}
-use Rattle.mc_model.specs.Run.{history, owed_in, taken}
+use Rattle.mc_model.specs.Step.{Event, is_done}
+use Rattle.mc_model.specs.Run.{owed_in, taken}
 use Rattle.mc_model.specs.Orderly.{Orderly}
 use Rattle.mc_model.specs.Log.{events_of, events_in, logged, put_by, puts}
 use Rattle.mc_model.proofs.RunOrder.{orderly_history}
@@ -22,8 +23,7 @@ events_more log later = flat_map-append events_of log later
 
 pub logged_more : (w : World) (log later : List LogEntry) →
     logged w (log ++ later) ≡ logged (logged w log) later
-logged_more w log later = ap (λ (events : List Event). history w events) (events_more log later)
-    ∙ fold-append (λ (v : World) (e : Event). (step v e).world) w (events_in log) (events_in later)
+logged_more w log later = grind (arith, nat_tests, events_more, fold-append)
 
 pub orderly_logged : (log : List LogEntry) (w : World) → Orderly w → Orderly (logged w log)
 orderly_logged log w o = orderly_history (events_in log) w o
@@ -45,11 +45,8 @@ AreRight w (entry ∷ log) = IsRight w entry × AreRight (logged w (entry ∷ []
 pub right_more : (log later : List LogEntry) (w : World) → AreRight w log →
     AreRight (logged w log) later → AreRight w (log ++ later)
 right_more [] later w first second = second
-right_more (entry ∷ log) later w first second = (
-  first.0,
-  right_more log later (logged w (entry ∷ [])) first.1
-      (subst (λ (v : World). AreRight v later) (logged_more w (entry ∷ []) log) second),
-)
+right_more (entry ∷ log) later w first second =
+    grind (arith, nat_tests, right_more log later (logged w (entry ∷ [])) first.1)
 
 -- the first entries are
 pub right_first : (log later : List LogEntry) (w : World) → AreRight w (log ++ later) →
@@ -63,31 +60,21 @@ pub right_at : (log : List LogEntry) (entry : LogEntry) (later : List LogEntry) 
     AreRight w (log ++ entry ∷ later) → IsRight (logged w log) entry
 right_at [] entry later w right = right.0
 right_at (first ∷ log) entry later w right =
-    subst (λ (v : World). IsRight v entry) (sym (logged_more w (first ∷ []) log))
-    (right_at log entry later (logged w (first ∷ [])) right.1)
+    grind (arith, nat_tests, right_at log entry later (logged w (first ∷ [])) right.1)
 
 -- ---- what was put was taken
 
 own_put : (k j : ℕ) (w : World) (bytes : List ℕ) → take (length bytes) (owed_in j w) ≡ bytes →
     cond (j == k) bytes [] ≡ cond (j == k) (take (length bytes) (owed_in k w)) []
-own_put k j w bytes right = elim (j == k) as (λ b. (j == k) ≡ b →
-    cond b bytes [] ≡ cond b (take (length bytes) (owed_in k w)) []) [
-      | true ↦ λ own. sym (subst (λ (n : ℕ). take (length bytes) (owed_in n w) ≡ bytes)
-          (eqb-true j k own) right)
-      | false ↦ λ other. refl
-    ] refl
+own_put k j w bytes right = grind (arith, nat_tests)
 
 put_taken : (k : ℕ) (w : World) (entry : LogEntry) (later : List Event) → IsRight w entry →
     put_by k entry ++ taken k (logged w (entry ∷ [])) later ≡ taken k w (events_of entry ++ later)
-put_taken k w (Put j bytes) later right =
-    ap (λ (o : List ℕ). o ++ taken k (logged w (Put j bytes ∷ [])) later)
-    (own_put k j w bytes right)
-put_taken k w other later right = refl
+put_taken k w entry later right = grind (arith, nat_tests)
 
 -- what a log puts to a connection is what it took
 pub puts_taken : (k : ℕ) (log : List LogEntry) (w : World) → AreRight w log →
     puts k log ≡ taken k w (events_in log)
 puts_taken k [] w right = refl
 puts_taken k (entry ∷ log) w right =
-    ap (λ (o : List ℕ). put_by k entry ++ o) (puts_taken k log (logged w (entry ∷ [])) right.1)
-    ∙ put_taken k w entry (events_in log) right.0
+    grind (arith, nat_tests, puts_taken k log (logged w (entry ∷ [])) right.1)

@@ -1,10 +1,11 @@
 -- Finite maps that are changed entry by entry: what stands at each key afterwards, and what
 -- removing and inserting makes of one map.
 use Rattle.std.proofs.Common.{◌≡◌, Bool, true, false, cond, not, ◌&&◌, T, List, [], ◌∷◌, Option}
-use Rattle.std.proofs.Common.{Some, None, refl, sym, ap, ◌∙◌}
+use Rattle.std.proofs.Common.{Some, None, refl, sym, ap, ◌∙◌, arith}
+use Rattle.std.proofs.lemmas.Bool.Decides.{nat_tests}
 use Rattle.std.specs.List.{filter, fold, AllByRecursion}
 use Rattle.std.specs.declared.cmp.Ordering.{Ordering}
-use Rattle.std.specs.declared.cmp.Ordering.TheVariants.{Less, Equal, Greater}
+use Rattle.std.specs.declared.cmp.Ordering.TheVariants.{Less, Equal}
 use Rattle.std.specs.Ordering.{is_lt, is_eq, eq_by_cmp}
 use Rattle.std.specs.Cmp.{IsTotalOrder, tied_itself}
 use Rattle.std.specs.FinMap.{FinMap, IsAntisymmetric, find, is_sorted, get, insert, remove, entries}
@@ -24,14 +25,10 @@ second false b h = absurd h
 
 -- what an order says where its tests pass
 less : (r : Ordering) → T (is_lt r) → r ≡ Less
-less Less h = refl
-less Equal h = absurd h
-less Greater h = absurd h
+less r h = grind (arith, nat_tests)
 
 pub equal : (r : Ordering) → is_eq r ≡ true → r ≡ Equal
-equal Less e = absurd cc
-equal Equal e = refl
-equal Greater e = absurd cc
+equal r e = grind (arith, nat_tests)
 
 -- ---- entries in order
 
@@ -88,9 +85,7 @@ change_step : {K X Y : Type 0} (test : K × X → Bool) (f : X →
     (tie ≡ true → there ≡ None) → (tie ≡ true → test (q, v) ≡ passes) →
     changed_by test f q there (cond passes (cond tie (f v) old) old) ≡ changed_by test f q
     (cond tie (Some v) there) old
-change_step test f q v true passes there old none is = rw (none refl, is refl) refl
-change_step test f q v false true there old none is = refl
-change_step test f q v false false there old none is = refl
+change_step test f q v tie passes there old none is = grind (arith, nat_tests)
 
 module _ {K X Y : Type 0} {R : K → K →
     Ordering} (o : IsTotalOrder R) (same : IsAntisymmetric R) where

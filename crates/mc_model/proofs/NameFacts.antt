@@ -1,7 +1,8 @@
 -- Which names are known, and that each has one pack: what changes of packs make of it.
-use Rattle.std.proofs.Common.{◌≡◌, ℕ, Bool, true, false, cond, List, [], ◌∷◌, ◌++◌, refl, sym, ap}
-use Rattle.std.proofs.Common.{◌∙◌}
-use Rattle.std.specs.Prelude.{Option, Some, None, is_some, if◌then◌else◌}
+use Rattle.std.proofs.Common.{◌≡◌, ℕ, Bool, true, false, cond, List, [], ◌∷◌, ◌++◌, refl, ap}
+use Rattle.std.proofs.Common.{arith}
+use Rattle.std.proofs.lemmas.Bool.Decides.{nat_tests}
+use Rattle.std.specs.Prelude.{Option, Some, None, is_some}
 use Rattle.std.specs.Str.{bytes_eq}
 use Rattle.std.proofs.lemmas.Slice.Eq.{bytes_eq-Decides}
 use Rattle.mc_windows.specs.Pack.{PackValue, kit_pack}
@@ -34,38 +35,19 @@ none_is (Some pack) e = absurd cc
 known_changed : (q name : List ℕ) (pack : PackValue) (packs : Packs) →
     is_known q (with_pack name pack packs) ≡ is_known q packs
 known_changed q name pack [] = refl
-known_changed q name pack (e ∷ packs) =
-    let later = known_changed q name pack packs in
-    elim (bytes_eq e.0 name) as (λ b. is_known q
-    ((if b then (e.0, pack) else e) ∷ with_pack name pack packs) ≡ is_known q (e ∷ packs)) [
-      | true ↦ found_first (bytes_eq e.0 q) pack e.1
-          (pack_named q (with_pack name pack packs)) (pack_named q packs) later
-      | false ↦ found_first (bytes_eq e.0 q) e.1 e.1
-          (pack_named q (with_pack name pack packs)) (pack_named q packs) later
-    ]
+known_changed q name pack (e ∷ packs) = grind (arith, nat_tests, known_changed q name pack packs)
 
 -- and none comes twice
 apart_changed : (name : List ℕ) (pack : PackValue) (packs : Packs) → AreNamed packs →
     AreNamed (with_pack name pack packs)
 apart_changed name pack [] apart = tt
 apart_changed name pack (e ∷ packs) apart =
-    let later = apart_changed name pack packs apart.1 in
-    let none : pack_named e.0 (with_pack name pack packs) ≡ None =
-    none_is (pack_named e.0 (with_pack name pack packs))
-    (known_changed e.0 name pack packs ∙ ap (λ (o : Option PackValue). is_some o) apart.0) in
-    elim (bytes_eq e.0 name) as
-    (λ b. AreNamed ((if b then (e.0, pack) else e) ∷ with_pack name pack packs)) [
-      | true ↦ (none, later)
-      | false ↦ (none, later)
-    ]
+    grind (arith, apart_changed name pack packs apart.1, known_changed e.0 name pack packs)
 
 -- so another pack of a name keeps both
 pub keeps_changed : (name : List ℕ) (pack : PackValue) (packs : Packs) →
     Keeps packs (with_pack name pack packs)
-keeps_changed name pack packs = record {
-  known = λ q known. known_changed q name pack packs ∙ known;
-  apart = apart_changed name pack packs;
-}
+keeps_changed name pack packs = grind (arith, nat_tests, known_changed, apart_changed)
 
 -- ---- a name that comes for the first time
 
@@ -73,73 +55,36 @@ keeps_changed name pack packs = record {
 known_before : (q : List ℕ) (packs more : Packs) → is_known q packs ≡ true →
     is_known q (packs ++ more) ≡ true
 known_before q [] more known = absurd cc
-known_before q (e ∷ packs) more known = elim (bytes_eq e.0 q) as
-    (λ b. is_some (cond b (Some e.1) (pack_named q packs)) ≡ true →
-    is_some (cond b (Some e.1) (pack_named q (packs ++ more))) ≡ true) [
-      | true ↦ λ here. refl
-      | false ↦ λ later. known_before q packs more later
-    ] known
+known_before q (e ∷ packs) more known = grind (arith, nat_tests, known_before q packs more)
 
 -- and it is known then
 known_behind : (name : List ℕ) (packs : Packs) →
     is_known name (packs ++ (name, kit_pack) ∷ []) ≡ true
 known_behind name [] = ap (λ (b : Bool). is_some (cond b (Some kit_pack) None))
     ((bytes_eq-Decides name name).1 refl)
-known_behind name (e ∷ packs) = elim (bytes_eq e.0 name) as
-    (λ b. is_some (cond b (Some e.1) (pack_named name (packs ++ (name, kit_pack) ∷ []))) ≡ true)
-    [ true ↦ refl | false ↦ known_behind name packs ]
+known_behind name (e ∷ packs) = grind (arith, nat_tests, known_behind name packs)
 
 -- a name that is none of them and that is not sought
 none_behind : (q name : List ℕ) (packs : Packs) → pack_named q packs ≡ None →
     bytes_eq name q ≡ false → pack_named q (packs ++ (name, kit_pack) ∷ []) ≡ None
-none_behind q name [] none other =
-    ap (λ (b : Bool). cond b (Some kit_pack) None) other
-none_behind q name (e ∷ packs) none other = elim (bytes_eq e.0 q) as
-    (λ b. cond b (Some e.1) (pack_named q packs) ≡ None →
-    cond b (Some e.1) (pack_named q (packs ++ (name, kit_pack) ∷ [])) ≡ None) [
-      | true ↦ λ here. here
-      | false ↦ λ later. none_behind q name packs later other
-    ] none
+none_behind q name [] none other = grind (arith, nat_tests)
+none_behind q name (e ∷ packs) none other = grind (arith, nat_tests, none_behind q name packs)
 
 -- two names differ both ways
 other_way : (a b : List ℕ) → bytes_eq a b ≡ false → bytes_eq b a ≡ false
-other_way a b e = elim (bytes_eq b a) as (λ t. bytes_eq b a ≡ t → t ≡ false) [
-  | true ↦ λ t. (let same : a ≡ b = sym ((bytes_eq-Decides b a).0 t) in
-      let clash : true ≡ false = sym ((bytes_eq-Decides a b).1 same) ∙ e in clash)
-  | false ↦ λ t. refl
-] refl
+other_way a b e = grind (arith, nat_tests, bytes_eq-Decides)
 
 -- a new name stands once
 apart_behind : (name : List ℕ) (packs : Packs) → is_known name packs ≡ false → AreNamed packs →
     AreNamed (packs ++ (name, kit_pack) ∷ [])
 apart_behind name [] new apart = (refl, tt)
-apart_behind name (e ∷ packs) new apart = elim (bytes_eq e.0 name) as (λ b. bytes_eq e.0 name ≡ b →
-    is_some (cond b (Some e.1) (pack_named name packs)) ≡ false →
-    AreNamed (e ∷ (packs ++ (name, kit_pack) ∷ []))) [
-      | true ↦ λ t here. absurd cc
-      | false ↦ λ t later. (
-        none_behind e.0 name packs apart.0 (other_way e.0 name t),
-        apart_behind name packs later apart.1,
-      )
-    ] refl new
+apart_behind name (e ∷ packs) new apart =
+    grind (arith, nat_tests, apart_behind name packs, none_behind, other_way)
 
 -- a kit keeps both
 pub keeps_kit : (name : List ℕ) (packs : Packs) → Keeps packs (with_kit name packs)
-keeps_kit name packs = step (is_known name packs) refl
-  where
-    step : (b : Bool) → is_known name packs ≡ b →
-        Keeps packs (if b then packs else packs ++ (name, kit_pack) ∷ [])
-    step true known = keeps_same packs
-    step false new = record {
-      known = λ q known. known_before q packs ((name, kit_pack) ∷ []) known;
-      apart = apart_behind name packs new;
-    }
+keeps_kit name packs = grind (arith, nat_tests, keeps_same, known_before, apart_behind)
 
 -- who was given a kit is known
 pub kit_known : (name : List ℕ) (packs : Packs) → is_known name (with_kit name packs) ≡ true
-kit_known name packs = step (is_known name packs) refl
-  where
-    step : (b : Bool) → is_known name packs ≡ b →
-        is_known name (if b then packs else packs ++ (name, kit_pack) ∷ []) ≡ true
-    step true known = known
-    step false new = known_behind name packs
+kit_known name packs = grind (arith, nat_tests, known_behind)

@@ -1,13 +1,13 @@
 -- The packets of noted cells change nothing of what a client sees that sees the world as it is.
 use Rattle.std.proofs.Common.{◌≡◌, ℕ, ◌<◌, true, false, cond, List, [], ◌∷◌, map}
 use Rattle.std.proofs.Common.{Option, Some, None, refl, sym, ap, subst, ◌∙◌, ltb-true, arith}
-use Rattle.std.specs.Prelude.{nat_lt, slice_index, slice_set}
+use Rattle.std.proofs.lemmas.Bool.Decides.{nat_tests}
+use Rattle.std.specs.Prelude.{nat_lt, slice_index}
 use Rattle.std.specs.List.{filter}
 use Rattle.std.specs.FinMap.{get, insert}
 use Rattle.std.proofs.lemmas.List.{set-get_or}
 use Rattle.std.proofs.lemmas.List.FromFn.{get_or-map-range_with_len}
 use lib.IntN.{ℤ, pos, negsuc}
-use Rattle.mc_column.specs.Sizes.{cells}
 use Rattle.mc_column.specs.SizesLaws.{cells-is}
 use Rattle.mc_column.specs.Cells.{ColumnValue, with_state}
 use Rattle.mc_fields.specs.declared.position.Cell.{Cell}
@@ -25,25 +25,19 @@ use Rattle.mc_model.proofs.Leading.{Leads, no_packets, onward}
 use Rattle.mc_model.proofs.Maps.{put_there}
 use Rattle.mc_model.proofs.PointsCells.{state_back}
 use Rattle.mc_model.proofs.Projections.{projected_column}
-use Rattle.mc_model.proofs.ThingFacts.{rest_below}
 
 -- ---- one cell
 
 -- the state of a cell of a column of the world
 column_state : (w : World) (place : Place) (i : ℕ) → i < 65536 →
     slice_index (column_in w place).states i ≡ state_at w.terrain w.things.edits (place, i)
-column_state w place i less = get_or-map-range_with_len
-    (λ j. state_at w.terrain w.things.edits (place, j)) 0 cells i i 0
-    (omega (arith, less, cells-is)) (omega arith)
+column_state w place i less = grind (arith, nat_tests, get_or-map-range_with_len, cells-is)
 
 -- set again, it is the same column
 column_same : (w : World) (place : Place) (i : ℕ) → i < 65536 →
     with_state (column_in w place) i (state_at w.terrain w.things.edits (place, i))
     ≡ column_in w place
-column_same w place i less =
-    let states : List ℕ = (column_in w place).states in
-    ap (λ (states : List ℕ). record (column_in w place) { states = states })
-    (ap (slice_set states i) (sym (column_state w place i less)) ∙ set-get_or states i 0)
+column_same w place i less = grind (arith, nat_tests, column_state w place i less, set-get_or)
 
 -- so the columns that are seen stay as they are, where a cell has the state that it has
 cell_stays : (w : World) (p : Player) (key : Key) → key.1 < 65536 → IsTold (project w p) →
@@ -79,10 +73,7 @@ cell_stays w p key less told = cases (get (project w p).columns key.0) refl
 
 -- an index in a column
 index_small : (x : ℤ) (y : ℕ) (z : ℤ) → y < 256 → (key_of x y z).1 < 65536
-index_small x y z low =
-    let in_x = rest_below x 16 (omega arith) in
-    let in_z = rest_below z 16 (omega arith) in
-    omega (arith, in_x, in_z, low)
+index_small x y z low = grind (arith, nat_tests)
 
 -- its packet
 cell_keeps : (w : World) (p : Player) (cell : Cell) → IsTold (project w p) →

@@ -1,6 +1,7 @@
 -- What one event makes of what a connection owes, takes and loses.
 use Rattle.std.proofs.Common.{◌≡◌, ◌≢◌, ℕ, zero, suc, List, [], ◌∷◌, ◌++◌, take, drop, inl, inr}
 use Rattle.std.proofs.Common.{refl, sym, subst, ap, ◌∙◌, append_assoc, arith}
+use Rattle.std.proofs.lemmas.Bool.Decides.{nat_tests}
 use Rattle.std.specs.Prelude.{◌==◌, ◌&&◌, not, nat_le, length, Bool, true, false, cond, Option}
 use Rattle.std.specs.Prelude.{Some, None, if◌then◌else◌}
 use Rattle.std.specs.List.{filter}
@@ -18,7 +19,7 @@ use Rattle.mc_model.specs.Run.{to, owed_of, owed_in, taken_at, lost_at}
 use Rattle.mc_model.specs.Orderly.{AreApart}
 use Rattle.mc_model.proofs.Sessions.{same_number, other_number, found_before, found_filter}
 use Rattle.mc_model.proofs.Beside.{beside_changed, found_changed}
-use Rattle.mc_model.proofs.Handing.{Owes, adds, empties, owes_same, closed_done, closed_is}
+use Rattle.mc_model.proofs.Handing.{Owes, adds, empties, owes_same}
 use Rattle.mc_model.proofs.Handing.{hand_cases}
 use Rattle.mc_model.proofs.Frames.{IsKeptOwing, bytes_lead, bytes_beside}
 use Rattle.mc_model.proofs.FitsText.{both_true}
@@ -36,10 +37,7 @@ owes_on s r t ps qs done (adds more) (adds before) =
     adds (more ∙ ap (λ (o : List ℕ). o ++ bytes_of qs) before
     ∙ append_assoc s.owed (bytes_of ps) (bytes_of qs)
     ∙ ap (λ (o : List ℕ). s.owed ++ o) (sym (bytes_more ps qs)))
-owes_on s r t ps qs done (adds more) (empties closed none full) =
-    closed_done r t qs (Owes s t (ps ++ qs)) (closed_is r.stage closed) done (λ stage cause nothing.
-    empties (ap is_closed stage ∙ closed) (more ∙ ap (λ (o : List ℕ). o ++ bytes_of qs) none
-    ∙ ap bytes_of nothing) (cause ∙ full))
+owes_on s r t ps qs done (adds more) (empties closed none full) = grind (arith, nat_tests)
 
 tick_owes : (w : World) (s : Session) → Owes s (after_tick w s).session (after_tick w s).handed
 tick_owes w s = tick_cases w s (λ (h : Handing). Owes s h.session h.handed)
@@ -194,16 +192,7 @@ take_none (suc n) = refl
 
 pub nothing_taken : (k : ℕ) (w : World) (e : Event) → found k w.sessions ≡ None →
     taken_at k w e ≡ []
-nothing_taken k w (joined j) none = refl
-nothing_taken k w (came j bytes) none = refl
-nothing_taken k w (left j) none = refl
-nothing_taken k w (broke j) none = refl
-nothing_taken k w ticked none = refl
-nothing_taken k w (took j n) none = elim (j == k) as (λ b. cond b (take n (owed_in k w)) [] ≡ []) [
-  | true ↦ ap (λ (o : Option Session). take n (owed_of o)) none ∙ take_none n
-  | false ↦ refl
-]
-nothing_taken k w (forgot j) none = refl
+nothing_taken k w e none = grind (arith, nat_tests, take_none)
 
 nothing_owed : (own : Bool) (k : ℕ) (w : World) → found k w.sessions ≡ None →
     cond own (owed_in k w) [] ≡ []
@@ -211,10 +200,4 @@ nothing_owed true k w none = ap owed_of none
 nothing_owed false k w none = refl
 
 pub nothing_lost : (k : ℕ) (w : World) (e : Event) → found k w.sessions ≡ None → lost_at k w e ≡ []
-nothing_lost k w (joined j) none = refl
-nothing_lost k w (came j bytes) none = refl
-nothing_lost k w (left j) none = nothing_owed (j == k) k w none
-nothing_lost k w (broke j) none = nothing_owed (j == k) k w none
-nothing_lost k w ticked none = refl
-nothing_lost k w (took j n) none = refl
-nothing_lost k w (forgot j) none = refl
+nothing_lost k w e none = grind (arith, nat_tests)

@@ -1,12 +1,12 @@
 -- The pattern of a number is the only one that stands for it, so what is said by inequalities is
 -- what is worked out.
 use Rattle.std.proofs.Common.{◌≡◌, ℕ, zero, suc, ◌+◌, ◌-◌, ◌*◌, ◌%◌, ◌^◌, ◌<◌, ◌≤◌, max, Bool}
-use Rattle.std.proofs.Common.{true, false, cond, refl, sym, ap, ◌∙◌, arith, inl, inr, ne_eqb}
-use Rattle.std.specs.Prelude.{nat_le, unsigned_abs}
-use Rattle.std.proofs.Math.Nat.{mul-le-mul_right, pow-le-pow_right, pow-suc}
+use Rattle.std.proofs.Common.{true, false, cond, refl, sym, ap, ◌∙◌, arith, ne_eqb}
+use Rattle.std.specs.Prelude.{unsigned_abs}
+use Rattle.std.proofs.Math.Nat.{mul-le-mul_right, pow-le-pow_right}
 use Rattle.std.proofs.Math.Nat.{eq_of_mul-eq-mul_right}
+use Rattle.std.proofs.lemmas.Bool.Decides.{nat_tests}
 use Rattle.std.proofs.lemmas.Bool.{cases_lt, leb-true, leb-false}
-use Rattle.std.proofs.lemmas.Int.{ints}
 use Rattle.std.proofs.lemmas.Nat.{pow-add, pow_pos}
 use lib.IntN.{ℤ, pos, negsuc, ◌*ℤ◌}
 use Rattle.mc_fields.specs.Pattern.{Represents, RepresentsTurn, exponent, power, significand}
@@ -20,38 +20,22 @@ use Rattle.mc_model.specs.Numbers.{top_bit, pattern_with, is_below_0, pattern_of
 -- it is in the number
 top_bit_in : (k n : ℕ) → 1 ≤ n → 2 ^ top_bit k n ≤ n
 top_bit_in zero n some = some
-top_bit_in (suc k) n some = elim (nat_le (2 ^ suc k) n) as (λ b. nat_le (2 ^ suc k) n ≡ b →
-    2 ^ cond b (suc k) (top_bit k n) ≤ n) [
-      | true ↦ λ t. leb-true (2 ^ suc k) n t
-      | false ↦ λ t. top_bit_in k n some
-    ] refl
+top_bit_in (suc k) n some = grind (arith, nat_tests, top_bit_in k n some)
 
 -- and none above it is
 top_bit_last : (k n : ℕ) → n < 2 ^ suc k → n < 2 ^ suc (top_bit k n)
 top_bit_last zero n few = few
-top_bit_last (suc k) n few = elim (nat_le (2 ^ suc k) n) as (λ b. nat_le (2 ^ suc k) n ≡ b →
-    n < 2 ^ suc (cond b (suc k) (top_bit k n))) [
-      | true ↦ λ t. few
-      | false ↦ λ t. top_bit_last k n (leb-false (2 ^ suc k) n t)
-    ] refl
+top_bit_last (suc k) n few = grind (arith, nat_tests, top_bit_last k n)
 
 -- it is at most the most that is looked at
 top_bit_most : (k n j : ℕ) → 1 ≤ n → n < 2 ^ suc j → top_bit k n ≤ j
-top_bit_most k n j some few = elim (cases_lt j (top_bit k n)) [
-  | inl lt ↦ let wide : 2 ^ suc j ≤ 2 ^ top_bit k n =
-      pow-le-pow_right (omega arith) (omega (arith, lt)) in
-      absurd (omega (arith, few, wide, top_bit_in k n some))
-  | inr le ↦ le
-]
+top_bit_most k n j some few =
+    grind (arith, nat_tests, cases_lt j (top_bit k n), pow-le-pow_right, top_bit_in k n some)
 
 -- ---- one number has one exponent and one significand
 
 below : (a b : ℕ) → 2 ^ a < 2 ^ b → a < b
-below a b lt = elim (cases_lt a b) [
-  | inl less ↦ less
-  | inr le ↦ let wide : 2 ^ b ≤ 2 ^ a = pow-le-pow_right (omega arith) le in
-      absurd (omega (arith, lt, wide))
-]
+below a b lt = grind (arith, nat_tests, cases_lt, pow-le-pow_right)
 
 -- a number of size sig * 2^e / 2^(bias + f), 32 times as large, is n
 pub record IsScaled (f bias n sig e : ℕ) : Type 0 where
@@ -61,25 +45,19 @@ pub record IsScaled (f bias n sig e : ℕ) : Type 0 where
 
 one_exponent : (f bias n t sig e : ℕ) → 2 ^ t ≤ n → n < 2 ^ suc t → IsScaled f bias n sig e →
     e + 5 ≡ bias + t
-one_exponent f bias n t sig e least most scaled =
-    let some = pow_pos (bias + f) in
-    let each = pow_pos e in
-    let from_low : 2 ^ f * 2 ^ e ≤ sig * 2 ^ e = mul-le-mul_right (2 ^ e) scaled.low in
-    let from_high : suc sig * 2 ^ e ≤ 2 ^ suc f * 2 ^ e = mul-le-mul_right (2 ^ e) scaled.high in
-    let from_least : 2 ^ t * 2 ^ (bias + f) ≤ n * 2 ^ (bias + f) =
-    mul-le-mul_right (2 ^ (bias + f)) least in
-    let from_most : suc n * 2 ^ (bias + f) ≤ 2 ^ suc t * 2 ^ (bias + f) =
-    mul-le-mul_right (2 ^ (bias + f)) most in
-    let low : 2 ^ (5 + (f + e)) < 2 ^ (suc t + (bias + f)) =
-    rw (pow-add 2 5 (f + e), pow-add 2 f e, pow-add 2 (suc t) (bias + f)) (omega arith) in
-    let high : 2 ^ (t + (bias + f)) < 2 ^ (5 + (suc f + e)) =
-    rw (pow-add 2 5 (suc f + e), pow-add 2 (suc f) e, pow-add 2 t (bias + f)) (omega arith) in
-    omega (
-      arith,
-      below (5 + (f + e)) (suc t + (bias + f)) low,
-      below (t + (bias + f))
-          (5 + (suc f + e)) high,
-    )
+one_exponent f bias n t sig e least most scaled = grind (
+  arith,
+  pow_pos (bias + f),
+  pow_pos e,
+  pow-add 2 5 (f + e),
+  pow-add 2 f e,
+  pow-add 2 (suc t) (bias + f),
+  pow-add 2 5 (suc f + e),
+  pow-add 2 (suc f) e,
+  pow-add 2 t (bias + f),
+  below (5 + (f + e)) (suc t + (bias + f)),
+  below (t + (bias + f)) (5 + (suc f + e)),
+)
 
 one_significand : (f bias n t sig e : ℕ) → t ≤ f → e + 5 ≡ bias + t → IsScaled f bias n sig e →
     sig ≡ n * 2 ^ (f - t)
@@ -104,11 +82,7 @@ made f bias n t sig e rest enough few hidden least most scaled =
 -- a pattern of a number that is not 0 has an exponent
 some_exponent : (f e rest n k : ℕ) → 1 ≤ n → rest < 2 ^ f → 2 ^ (f + 6) ≤ 2 ^ k →
     32 * (significand_of f e rest * 2 ^ max e 1) ≡ n * 2 ^ k → 0 < e
-some_exponent f zero rest n k some few wide is =
-    let each : 1 * 2 ^ k ≤ n * 2 ^ k = mul-le-mul_right (2 ^ k) some in
-    let enough : 2 ^ (f + 6) ≡ 2 ^ f * 64 = pow-add 2 f 6 in
-    absurd (omega arith)
-some_exponent f (suc e) rest n k some few wide is = omega arith
+some_exponent f e rest n k some few wide is = grind (arith, nat_tests, mul-le-mul_right, pow-add)
 
 -- the exponent and the fraction of a size that is not 0 are those that are worked out
 one_size : (f bias n e rest : ℕ) → 6 ≤ bias → 1 ≤ n → n < 2 ^ 33 → top_bit 32 n ≤ f → rest < 2 ^ f →
@@ -119,29 +93,17 @@ one_size f bias n e rest enough some small few fits is =
     let there : 0 < e = some_exponent f e rest n (bias + f) some fits wide is in
     let hidden : significand_of f e rest ≡ 2 ^ f + rest = significand_hidden f e rest there in
     let powered : max e 1 ≡ e = omega arith in
-    let scaled : IsScaled f bias n (2 ^ f + rest) e =
-    record {
-      low = omega arith;
-      high = rw (pow-suc 2 f) (omega arith);
-      is =
-          rw (hidden, powered) at is;
-    } in
+    let scaled : IsScaled f bias n (2 ^ f + rest) e = grind (arith, nat_tests) in
     rw (ne_eqb n 0 (omega arith)) (made f bias n (top_bit 32 n)
     (2 ^ f + rest) e rest enough few refl (top_bit_in 32 n some)
     (top_bit_last 32 n small) scaled)
 
 -- two equal numbers with a sign have one size, and one sign where that is not 0
 one_signed : (a b : Bool) (x y : ℕ) → with_sign a x ≡ with_sign b y → x ≡ y
-one_signed false false x y e = omega (arith, ints, e)
-one_signed false true x y e = omega (arith, ints, e)
-one_signed true false x y e = omega (arith, ints, e)
-one_signed true true x y e = omega (arith, ints, e)
+one_signed a b x y e = grind (arith, nat_tests)
 
 one_sign : (a b : Bool) (x y : ℕ) → 1 ≤ y → with_sign a x ≡ with_sign b y → a ≡ b
-one_sign false false x y some e = refl
-one_sign false true x y some e = absurd (omega (arith, ints, e))
-one_sign true false x y some e = absurd (omega (arith, ints, e))
-one_sign true true x y some e = refl
+one_sign a b x y some e = grind (arith, nat_tests)
 
 signed_is : (n : ℤ) → n ≡ with_sign (is_below_0 n) (unsigned_abs n)
 signed_is (pos m) = refl

@@ -1,18 +1,17 @@
 -- What the packets of changed cells make of what a client sees: each column that stays is as it is
 -- wanted.
-use Rattle.std.proofs.Common.{◌≡◌, ℕ, zero, suc, ◌+◌, ◌/◌, ◌%◌, ◌<◌, ◌≤◌, Bool, true, false}
-use Rattle.std.proofs.Common.{cond, not, List, [], ◌∷◌, map, length, Option, Some, None}
-use Rattle.std.proofs.Common.{refl, sym, ap, ◌∙◌, lt-ltb, eqb-true, inl, inr, arith}
-use Rattle.std.specs.Prelude.{◌==◌, slice_index, slice_set, nat_lt}
+use Rattle.std.proofs.Common.{◌≡◌, ℕ, zero, suc, ◌+◌, ◌<◌, ◌≤◌, false}
+use Rattle.std.proofs.Common.{List, [], ◌∷◌, map, length, Option, Some, None}
+use Rattle.std.proofs.Common.{refl, sym, ap, ◌∙◌, arith}
+use Rattle.std.specs.Prelude.{slice_index, slice_set}
 use Rattle.std.specs.List.{filter, fold, range_with_len, AllByRecursion}
 use Rattle.std.specs.FinMap.{get, insert, entries, entries_sorted, get-entries}
-use Rattle.std.proofs.lemmas.Bool.Decides.{eqb_tells}
+use Rattle.std.proofs.lemmas.Bool.Decides.{eqb_tells, nat_tests}
 use Rattle.std.proofs.lemmas.List.{get_or-set_same, get_or-set_other, length-set}
 use Rattle.std.proofs.lemmas.Grind.{same_number_lists}
 use Rattle.std.proofs.lemmas.Int.{ints}
 use lib.IntN.{ℤ, pos, negsuc, ◌+ℤ◌, ◌*ℤ◌}
-use Rattle.mc_column.specs.Sizes.{cells}
-use Rattle.mc_column.specs.Cells.{ColumnValue, cell_index, with_state}
+use Rattle.mc_column.specs.Cells.{ColumnValue, with_state}
 use Rattle.mc_land.specs.Places.{Place, column_number, inside, key_of, x_of, y_of, z_of}
 use Rattle.mc_land.specs.Ready.{has_changed}
 use Rattle.mc_land.proofs.Orders.{places_total, exact_places}
@@ -42,73 +41,31 @@ pub record IsFilled (old new states : List ℕ) (a : ℕ) : Type 0 where
 -- states that are equal need not be set
 unchanged : (old new : List ℕ) (i : ℕ) → has_changed old new i ≡ false →
     slice_index old i ≡ slice_index new i
-unchanged old new i e = cases (slice_index old i == slice_index new i) refl e
-  where
-    cases : (b : Bool) → (slice_index old i == slice_index new i) ≡ b → not b ≡ false →
-        slice_index old i ≡ slice_index new i
-    cases true t e = eqb-true _ _ t
-    cases false t e = absurd cc
+unchanged old new i e = grind (arith, nat_tests)
 
 -- one more index
 filled_next : (old new states : List ℕ) (a : ℕ) → a < length old → IsFilled old new states a →
     IsFilled old new (slice_set states a (slice_index new a)) (a + 1)
-filled_next old new states a less f = record {
-  done = λ j below. elim (eqb_tells j a) [
-    | inl same ↦ (ap (λ (k : ℕ). slice_index (slice_set states a (slice_index new a)) k) same.1
-        ∙ get_or-set_same states a (slice_index new a) 0 (omega (arith, less, f.size))
-        ∙ ap (slice_index new) (sym same.1))
-    | inr other ↦ (get_or-set_other states a j (slice_index new a) 0 other.1
-        ∙ f.done j (omega (arith, below, other.1)))
-  ];
-  rest = λ j above. get_or-set_other states a j (slice_index new a) 0
-      (λ same. omega (arith, same, above)) ∙ f.rest j (omega (arith, above));
-  size = length-set states a (slice_index new a) ∙ f.size;
-}
+filled_next old new states a less f =
+    grind (arith, nat_tests, eqb_tells, get_or-set_same, get_or-set_other, length-set)
 
 -- one that does not differ
 filled_kept : (old new states : List ℕ) (a : ℕ) → has_changed old new a ≡ false →
     IsFilled old new states a → IsFilled old new states (a + 1)
-filled_kept old new states a e f = record {
-  done = λ j below. elim (eqb_tells j a) [
-    | inl same ↦ (ap (slice_index states) same.1 ∙ f.rest a (omega arith) ∙ unchanged old new a e
-        ∙ ap (slice_index new) (sym same.1))
-    | inr other ↦ f.done j (omega (arith, below, other.1))
-  ];
-  rest = λ j above. f.rest j (omega (arith, above));
-  size = f.size;
-}
+filled_kept old new states a e f = grind (arith, nat_tests)
 
 -- those of a range that differ
 filled : (old new : List ℕ) (n a b : ℕ) (states : List ℕ) → a + n ≡ b → b ≤ length old →
     IsFilled old new states a →
     IsFilled old new (set_cells new states (filter (has_changed old new) (range_with_len a n))) b
-filled old new zero a b states e within f = record {
-  done = λ j below. f.done j (omega (arith, below, e));
-  rest = λ j above. f.rest j (omega (arith, above, e));
-  size = f.size;
-}
+filled old new zero a b states e within f = grind (arith, nat_tests)
 filled old new (suc n) a b states e within f =
-    let next = filled old new n (a + 1) b in
-    elim (has_changed old new a) as (λ t. has_changed old new a ≡ t →
-    IsFilled old new (set_cells new states
-    (cond t (a ∷ filter (has_changed old new) (range_with_len (a + 1) n))
-    (filter (has_changed old new) (range_with_len (a + 1) n)))) b) [
-      | true ↦ λ t. next (slice_set states a (slice_index new a)) (omega (arith, e)) within
-          (filled_next old new states a (omega (arith, e, within)) f)
-      | false ↦ λ t. next states (omega (arith, e)) within (filled_kept old new states a t f)
-    ] refl
+    grind (arith, nat_tests, filled old new n (a + 1) b, filled_next, filled_kept)
 
 -- once all that differ are set, the states are the new ones
 all_set : (old new : List ℕ) (n : ℕ) → length old ≡ n → length new ≡ n →
     set_cells new old (filter (has_changed old new) (range_with_len 0 n)) ≡ new
-all_set old new n old_size new_size =
-    let f = filled old new n 0 n old (omega arith) (omega (arith, old_size)) (record {
-      done = λ j below. absurd (omega (arith, below));
-      rest = λ j above. refl;
-      size = refl;
-    }) in
-    same_number_lists _ new (omega (arith, f.size, old_size, new_size))
-    (λ j below. f.done j (omega (arith, below, f.size, old_size)))
+all_set old new n old_size new_size = grind (arith, nat_tests, filled, same_number_lists)
 
 -- ---- where a cell is
 
@@ -125,14 +82,7 @@ inside_back c (negsuc n) i small e = omega (arith, ints, e, small)
 -- a cell's place and index are those that its numbers were made of
 pub key_back : (place : Place) (i : ℕ) → i < 65536 →
     key_of (x_of (place, i)) (y_of (place, i)) (z_of (place, i)) ≡ (place, i)
-key_back place i less =
-    let x = column_back place.0 (x_of (place, i)) (i % 16) (omega arith) refl in
-    let z = column_back place.1 (z_of (place, i)) (i / 16 % 16) (omega arith) refl in
-    let in_x = inside_back place.0 (x_of (place, i)) (i % 16) (omega arith) refl in
-    let in_z = inside_back place.1 (z_of (place, i)) (i / 16 % 16) (omega arith) refl in
-    let index : cell_index (inside (x_of (place, i))) (y_of (place, i)) (inside (z_of (place, i)))
-    ≡ i = omega (arith, in_x, in_z) in
-    λ j. ((x j, z j), index j)
+key_back place i less = grind (arith, nat_tests)
 
 -- the index that a packet about several cells means
 record_back : (states : List ℕ) (i : ℕ) → record_index (cell_record states i) ≡ i
@@ -175,13 +125,7 @@ change_set : (m : Columns) (place : Place) (column : ColumnValue) (i state : ℕ
     changed_at (insert m place column) (x_of (place, i)) (pos (y_of (place, i))) (z_of (place, i))
     (pos state)
     ≡ insert m place (with_state column i state)
-change_set m place column i state less small =
-    let low : nat_lt (y_of (place, i)) 256 ≡ true = lt-ltb _ _ (omega (arith, less)) in
-    ap (λ t. cond t (with_cell (insert m place column)
-    (key_of (x_of (place, i)) (y_of (place, i)) (z_of (place, i))) (pos state))
-    (insert m place column)) low
-    ∙ ap (λ key. with_cell (insert m place column) key (pos state)) (key_back place i less)
-    ∙ cell_set m place column i state small
+change_set m place column i state less small = grind (arith, nat_tests, key_back, cell_set)
 
 -- the packets of some cells of a column set them
 cells_lead : (s : Sight) (m : Columns) (place : Place) (column : ColumnValue)
@@ -245,11 +189,7 @@ cells_point_leads p q s follows =
         let same : record old {
           states = set_cells v.states old.states
               (differing old.states v.states);
-        } ≡ v =
-        λ i. record {
-          states = all_set old.states v.states cells was.states_are are.states_are i;
-          biomes = follows.biomes place old v e wanted i;
-        } in
+        } ≡ v = grind (arith, nat_tests, all_set) in
         led (ap (λ (n : Columns). record s { columns = n })
         (sym (put_there places_total exact_places m place old
         (before ∙ ap (λ (o : Option ColumnValue). joined o (Some v)) e))))

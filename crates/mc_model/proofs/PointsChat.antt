@@ -1,7 +1,8 @@
 -- What the packets of chat make of what a client sees: what was said to it is what is wanted.
-use Rattle.std.proofs.Common.{◌≡◌, ℕ, List, [], ◌∷◌, ◌++◌, map, drop, length, sym, ap, ◌∙◌}
-use Rattle.std.proofs.Common.{refl, subst}
+use Rattle.std.proofs.Common.{ℕ, List, [], ◌∷◌, ◌++◌, map, sym, ap}
+use Rattle.std.proofs.Common.{refl, arith}
 use Rattle.std.proofs.Math.Seq.{drop-append_seam}
+use Rattle.std.proofs.lemmas.Bool.Decides.{nat_tests}
 use Rattle.std.proofs.lemmas.List.{append_assoc, append-nil}
 use Rattle.mc_model.specs.Sight.{Sight}
 use Rattle.mc_model.specs.Replica.{apply}
@@ -30,10 +31,4 @@ texts_lead s chat (text ∷ more) =
 -- what was said is what is wanted
 pub chat_point_leads : (p q s : Sight) → Follows p q →
     Leads (record s { chat = p.chat }) (chat_point p q) (record s { chat = q.chat })
-chat_point_leads p q s follows =
-    let more : List (List ℕ) = follows.chat.0 in
-    let new : more ≡ drop (length p.chat) q.chat =
-    sym (ap (drop (length p.chat)) follows.chat.1 ∙ drop-append_seam p.chat more) in
-    subst (λ (texts : List (List ℕ)). Leads (with_chat s p.chat) (map chat_packet texts)
-    (with_chat s q.chat)) new
-    (led refl (ap (with_chat s) (sym follows.chat.1)) (texts_lead s p.chat more))
+chat_point_leads p q s follows = grind (arith, nat_tests, drop-append_seam, led, texts_lead)

@@ -1,10 +1,10 @@
 -- What the packets of columns that go and come make of what a client sees.
-use Rattle.std.proofs.Common.{◌≡◌, ◌==◌, Bool, true, false, cond, not, List, [], ◌∷◌, map}
-use Rattle.std.proofs.Common.{refl, ap, ◌∙◌, inl, inr}
+use Rattle.std.proofs.Common.{◌≡◌, Bool, true, false, cond, not, List, [], ◌∷◌, map}
+use Rattle.std.proofs.Common.{refl, ap, ◌∙◌, arith}
 use Rattle.std.specs.List.{filter, fold, AllByRecursion}
 use Rattle.std.specs.FinMap.{insert, remove, entries, entries_sorted, contains_key, get-entries}
-use Rattle.std.proofs.lemmas.Bool.Decides.{eqb_tells}
-use Rattle.mc_column.specs.Cells.{ColumnValue, HasSizes, empty_column}
+use Rattle.std.proofs.lemmas.Bool.Decides.{eqb_tells, nat_tests}
+use Rattle.mc_column.specs.Cells.{ColumnValue, HasSizes}
 use Rattle.mc_column.specs.Sent.{column_mask, column_bytes}
 use Rattle.mc_column.proofs.SentFacts.{column_mask_names, column_read, column_again}
 use Rattle.mc_land.specs.Places.{Place}
@@ -38,11 +38,7 @@ column_loaded : (columns : Columns) (place : Place) (column : ColumnValue) → H
     with_chunk true columns place true (column_mask column)
     (column_bytes column) ≡ insert columns place column
 column_loaded columns place column sizes =
-    let some : (column_mask column == 0) ≡ false = elim (eqb_tells (column_mask column) 0) [
-      | inl is_0 ↦ absurd ((column_mask_names column sizes).some is_0.1)
-      | inr other ↦ other.0
-    ] in
-    rw (some, column_read column sizes, column_again column (empty_column 0) sizes) refl
+    grind (arith, nat_tests, eqb_tells, column_mask_names, column_read, column_again)
 
 -- loading puts columns in
 pub loads_lead : (s : Sight) (es : List (Place × ColumnValue)) →

@@ -1,17 +1,16 @@
 -- What the packets about entities make of what a client sees: those that are seen no more go, and
 -- each other one is as it is wanted.
-use Rattle.std.proofs.Common.{◌≡◌, ℕ, zero, suc, ◌<◌, ◌≤◌, Bool, true, false, cond, not, List, []}
+use Rattle.std.proofs.Common.{◌≡◌, ℕ, zero, suc, ◌<◌, ◌≤◌, Bool, true, not, List, []}
 use Rattle.std.proofs.Common.{◌∷◌, take, drop, length, map, Option, Some, None, refl, sym, ap}
-use Rattle.std.proofs.Common.{subst, ◌∙◌, lit<, arith}
+use Rattle.std.proofs.Common.{◌∙◌, lit<, arith}
 use Rattle.std.specs.Prelude.{is_some}
 use Rattle.std.specs.List.{filter, fold}
-use Rattle.std.specs.Ordering.{int_eq}
 use Rattle.std.specs.Cmp.{int_cmp_total}
 use Rattle.std.specs.FinMap.{get, remove, entries, entries_sorted, contains_key}
 use Rattle.std.specs.FinMap.{get-entries, int_cmp-IsAntisymmetric}
 use Rattle.std.proofs.lemmas.List.{take-append-drop, length-drop}
 use Rattle.std.proofs.lemmas.List.Sums.{fold-append}
-use Rattle.std.proofs.lemmas.Bool.Decides.{Decides-int_eq}
+use Rattle.std.proofs.lemmas.Bool.Decides.{Decides-int_eq, nat_tests}
 use lib.IntN.{ℤ, pos}
 use Rattle.mc_fields.specs.declared.position.Spot.{Spot}
 use Rattle.mc_slots.specs.declared.slot.Slot.{Slot}
@@ -25,7 +24,7 @@ use Rattle.mc_model.specs.declared.seen.SeenKind.TheVariants as seen_kinds
 use Rattle.mc_model.specs.Sight.{Seen, Sight}
 use Rattle.mc_model.specs.Replica.{Entities, apply, replay, seeing, coming, without_eids}
 use Rattle.mc_model.specs.Delta.{Follows, IsSeen, parts_of, destroys_point, is_same_slot}
-use Rattle.mc_model.specs.Delta.{pile_packet, pile_packets, id_in_hand, hand_packets, no_flags}
+use Rattle.mc_model.specs.Delta.{pile_packets, id_in_hand, hand_packets, no_flags}
 use Rattle.mc_model.specs.Delta.{spawn_as, entity_packets, entities_point}
 use Rattle.mc_model.proofs.FitsText.{both_true}
 use Rattle.mc_model.proofs.Maps.{take_out, is_without, kept, get_kept, all_put_in, put_there}
@@ -42,24 +41,7 @@ no_tag (Some tag) e = absurd cc
 
 -- slots that pass the test are equal
 pub same_slot : (a b : Slot) → is_same_slot a b ≡ true → a ≡ b
-same_slot slots.Empty slots.Empty e = refl
-same_slot slots.Empty (slots.Full b) e = absurd cc
-same_slot (slots.Full a) slots.Empty e = absurd cc
-same_slot (slots.Full a) (slots.Full b) e =
-    let one = both_true (int_eq a.id b.id) _ e in
-    let two = both_true (int_eq a.count b.count) _ one.1 in
-    let three = both_true (int_eq a.damage b.damage) _ two.1 in
-    let four = both_true (not (is_some a.tag)) (not (is_some b.tag)) three.1 in
-    let id : a.id ≡ b.id = (Decides-int_eq a.id b.id).0 one.0 in
-    let count : a.count ≡ b.count = (Decides-int_eq a.count b.count).0 two.0 in
-    let damage : a.damage ≡ b.damage = (Decides-int_eq a.damage b.damage).0 three.0 in
-    let tag : a.tag ≡ b.tag = no_tag a.tag four.0 ∙ sym (no_tag b.tag four.1) in
-    λ i. slots.Full (record {
-      id = id i;
-      count = count i;
-      damage = damage i;
-      tag = tag i;
-    })
+same_slot a b e = grind (arith, nat_tests, both_true, Decides-int_eq, no_tag)
 
 -- ---- entities that are seen no more
 
@@ -68,20 +50,12 @@ taken : (m : Entities) (test : ℤ → Bool) (es : List (ℤ × Seen)) →
     without_eids m (filter test (map (λ e. e.0) es))
     ≡ fold take_out m (filter (λ e. test e.0) es)
 taken m test [] = refl
-taken m test (e ∷ es) =
-    elim (test e.0) as (λ b. without_eids m
-    (cond b (e.0 ∷ filter test (map (λ f. f.0) es)) (filter test (map (λ f. f.0) es)))
-    ≡ fold take_out m (cond b (e ∷ filter (λ f. test f.0) es) (filter (λ f. test f.0) es))) [
-      | true ↦ taken (remove m e.0) test es
-      | false ↦ taken m test es
-    ]
+taken m test (e ∷ es) = grind (arith, nat_tests, taken (remove m e.0) test es, taken m test es)
 
 -- numbers in two parts are all taken out
 without_parts : (m : Entities) (most : ℕ) (eids : List ℤ) →
     without_eids (without_eids m (take most eids)) (drop most eids) ≡ without_eids m eids
-without_parts m most eids =
-    sym (fold-append (λ (n : Entities) (eid : ℤ). remove n eid) m (take most eids) (drop most eids))
-    ∙ ap (without_eids m) (take-append-drop most eids)
+without_parts m most eids = grind (arith, nat_tests, fold-append, take-append-drop most eids)
 
 -- packets about entities that go, in parts of so many, change the entities alone
 parts_lead : (n most : ℕ) (s : Sight) (eids : List ℤ) → 0 < most → length eids ≤ n →
@@ -122,17 +96,7 @@ lying_leads : (s : Sight) (m : Entities) (k : ℤ) (e : Seen) (kind : SeenKind) 
     e.kind ≡ kind →
     Leads (with_seen s m k e) (pile_packets k kind e.pile new)
     (with_seen s m k (record e { kind = kind; pile = new }))
-lying_leads s m k e kind new same =
-    subst (λ (kind : SeenKind). Leads (with_seen s m k e) (pile_packets k kind e.pile new)
-    (with_seen s m k (record e { kind = kind; pile = new }))) same
-    (cases (is_same_slot e.pile new) refl)
-  where
-    cases : (alike : Bool) → is_same_slot e.pile new ≡ alike →
-        Leads (with_seen s m k e) (cond alike [] (pile_packet k e.kind new ∷ []))
-        (with_seen s m k (record e { pile = new }))
-    cases true t = led refl (ap (λ (pile : Slot). with_seen s m k (record e { pile = pile }))
-        (same_slot e.pile new t)) (no_packets (with_seen s m k e))
-    cases false t = pile_leads s m k new e
+lying_leads s m k e kind new same = grind (arith, nat_tests, led, same_slot, no_packets, pile_leads)
 
 -- an entity that was seen is as it is wanted
 change_leads : (s : Sight) (m : Entities) (k : ℤ) (old new : Seen) → get m k ≡ Some old →
@@ -189,9 +153,7 @@ spawn_as_leads s m k seen_kinds.Item spot pile =
 -- one that was not seen is as it is wanted
 spawn_leads : (s : Sight) (m : Entities) (k : ℤ) (new : Seen) → IsSeen new →
     Leads (record s { entities = m }) (entity_packets k None new) (with_seen s m k new)
-spawn_leads s m k new seen =
-    led refl (ap (λ (head : ℕ). with_seen s m k (record new { head = head })) (sym seen.head))
-    (spawn_as_leads s m k new.kind new.spot new.pile)
+spawn_leads s m k new seen = grind (arith, nat_tests, led, spawn_as_leads)
 
 -- once those that are seen no more are gone, the packets of each entity lead to what is wanted
 pub entities_point_leads : (p q s : Sight) → Follows p q →

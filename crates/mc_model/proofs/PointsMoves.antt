@@ -1,11 +1,10 @@
 -- What a packet about one entity makes of it, and that those of a move put it where it is wanted.
 use Rattle.std.proofs.Common.{◌≡◌, ℕ, ◌==◌, Bool, true, false, cond, not, ◌&&◌, [], ◌∷◌}
-use Rattle.std.proofs.Common.{refl, sym, ap, ◌∙◌, eqb-true}
+use Rattle.std.proofs.Common.{refl, ap, ◌∙◌, eqb-true, arith}
 use Rattle.std.specs.Ordering.{int_eq}
 use Rattle.std.specs.Cmp.{int_cmp_total}
 use Rattle.std.specs.FinMap.{insert}
-use Rattle.std.specs.FinMap.{int_cmp-IsAntisymmetric}
-use Rattle.std.proofs.lemmas.Bool.Decides.{Decides-int_eq}
+use Rattle.std.proofs.lemmas.Bool.Decides.{Decides-int_eq, nat_tests}
 use Rattle.std.proofs.Math.IntN.{+ℤ_comm, +ℤ_idr, -ℤ-+ℤ_cancel}
 use lib.IntN.{ℤ, pos, ◌+ℤ◌, ◌-ℤ◌}
 use Rattle.mc_fields.specs.declared.position.Spot.{Spot}
@@ -37,8 +36,7 @@ with_seen s m k e = record s { entities = insert m k e }
 pub put_altered : (s : Sight) (m : Entities) (k : ℤ) (e : Seen) (f : Seen → Seen) →
     seeing (record s { entities = replica.altered (insert m k e) k f })
     ≡ seeing (with_seen s m k (f e))
-put_altered s m k e f = ap (λ (n : Entities). seeing (record s { entities = n }))
-    (altered_put int_cmp_total int_cmp-IsAntisymmetric m k e f)
+put_altered s m k e f = grind (arith, nat_tests, altered_put, int_cmp_total)
 
 -- so much farther
 step_leads : (s : Sight) (m : Entities) (k dx dy dz : ℤ) (e : Seen) →
@@ -114,20 +112,12 @@ there a b = +ℤ_comm a (b -ℤ a) ∙ -ℤ-+ℤ_cancel b a
 
 -- where nothing is left, it is there
 arrived : (a b : ℤ) → int_eq (b -ℤ a) (pos 0) ≡ true → a ≡ b
-arrived a b t =
-    sym (+ℤ_idr a) ∙ ap (λ d. a +ℤ d) (sym ((Decides-int_eq (b -ℤ a) (pos 0)).0 t)) ∙ there a b
+arrived a b t = grind (arith, nat_tests, +ℤ_idr, Decides-int_eq, there)
 
 -- neither yaw nor pitch differs
 same_look : (old new : Spot) → is_turned old new ≡ false →
     (old.yaw ≡ new.yaw) × (old.pitch ≡ new.pitch)
-same_look old new t =
-    let parts = both_true (old.yaw == new.yaw) (old.pitch == new.pitch)
-    (negated (old.yaw == new.yaw && old.pitch == new.pitch) t) in
-    (eqb-true old.yaw new.yaw parts.0, eqb-true old.pitch new.pitch parts.1)
-  where
-    negated : (b : Bool) → not b ≡ false → b ≡ true
-    negated true e = refl
-    negated false e = absurd cc
+same_look old new t = grind (arith, nat_tests)
 
 -- the packets of a form put an entity where it is wanted
 pub form_leads : (s : Sight) (m : Entities) (k : ℤ) (e new : Seen) → IsSeen new →
@@ -147,13 +137,7 @@ form_leads s m k e new seen =
 
     is_there : are_zero dx dy dz ≡ true → (e.spot.x ≡ new.spot.x) × (e.spot.y ≡ new.spot.y)
         × (e.spot.z ≡ new.spot.z)
-    is_there t =
-        let parts = both_true (int_eq dx (pos 0) && int_eq dy (pos 0)) (int_eq dz (pos 0)) t in
-        let two = both_true (int_eq dx (pos 0)) (int_eq dy (pos 0)) parts.0 in (
-          arrived e.spot.x new.spot.x two.0,
-          arrived e.spot.y new.spot.y two.1,
-          arrived e.spot.z new.spot.z parts.1,
-        )
+    is_there t = grind (arith, nat_tests, both_true, arrived, dx, dy, dz)
 
     jump : (still turns : Bool) → Leads (with_seen s m k e) (move_packets k new.spot
         (cond (not still && false) (cond turns (forms.StepTurn dx dy dz) (forms.Step dx dy dz))
@@ -172,27 +156,16 @@ form_leads s m k e new seen =
         (ap (with_seen s m k) (taken_over new.spot e seen.x seen.y seen.z))
         (jump still turns)
     cases false true true a b =
-        let goes : looking new.spot.yaw new.spot.pitch (replica.onward dx dy dz e.spot) ≡ new.spot =
-        λ i. record {
-          x = there e.spot.x new.spot.x i;
-          y = there e.spot.y new.spot.y i;
-          z = there e.spot.z new.spot.z i;
-          yaw = new.spot.yaw;
-          pitch = new.spot.pitch;
-        } in
+        let goes : looking new.spot.yaw new.spot.pitch (replica.onward dx dy dz e.spot) ≡ new.spot = grind (
+          arith,
+          there,
+        ) in
         led refl (ap (with_seen s m k) (ap (λ spot. put_at spot e) goes
         ∙ taken_over new.spot e seen.x seen.y seen.z))
         (step_look_leads s m k dx dy dz new.spot.yaw new.spot.pitch e)
     cases false true false a b =
         let look = same_look e.spot new.spot b in
-        let goes : replica.onward dx dy dz e.spot ≡ new.spot =
-        λ i. record {
-          x = there e.spot.x new.spot.x i;
-          y = there e.spot.y new.spot.y i;
-          z = there e.spot.z new.spot.z i;
-          yaw = look.0 i;
-          pitch = look.1 i;
-        } in
+        let goes : replica.onward dx dy dz e.spot ≡ new.spot = grind (arith, nat_tests, there) in
         led refl (ap (with_seen s m k) (ap (λ spot. put_at spot e) goes
         ∙ taken_over new.spot e seen.x seen.y seen.z)) (step_leads s m k dx dy dz e)
     cases true true true a b =

@@ -1,8 +1,8 @@
 -- What the packets of slots make of what a client sees: its pack is the one that is wanted.
-use Rattle.std.proofs.Common.{◌≡◌, ℕ, ◌+◌, ◌-◌, ◌<◌, Bool, true, false, cond}
-use Rattle.std.proofs.Common.{List, [], ◌∷◌, ◌++◌, length, refl, sym, ap, ◌∙◌, le-leb, arith}
-use Rattle.std.specs.Prelude.{nat_le}
+use Rattle.std.proofs.Common.{◌≡◌, ℕ, ◌+◌, ◌<◌, Bool, true, false, cond}
+use Rattle.std.proofs.Common.{List, [], ◌∷◌, ◌++◌, length, refl, sym, ap, ◌∙◌, arith}
 use Rattle.std.proofs.Math.Seq.{set-append_seam}
+use Rattle.std.proofs.lemmas.Bool.Decides.{nat_tests}
 use Rattle.std.proofs.lemmas.List.{append_assoc, length-append}
 use lib.IntN.{pos}
 use Rattle.mc_slots.specs.declared.slot.Slot.{Slot}
@@ -20,12 +20,7 @@ with_slots s pack = record s { pack = pack }
 -- the slot behind some first ones is another
 slot_set : (front later : List Slot) (old new : Slot) → length front < 36 →
     with_slot (front ++ old ∷ later) (pos 0) (pos (length front + 9)) new ≡ front ++ new ∷ later
-slot_set front later old new few =
-    let low : nat_le 9 (length front + 9) ≡ true = le-leb 9 (length front + 9) (omega arith) in
-    let high : nat_le (length front + 9) 44 ≡ true =
-    le-leb (length front + 9) 44 (omega (arith, few)) in
-    let place : length front + 9 - 9 ≡ length front = omega arith in
-    rw (low, high, place) (set-append_seam front old later new)
+slot_set front later old new few = grind (arith, nat_tests, set-append_seam front old later new)
 
 -- a packet about that slot makes it another
 slot_leads : (s : Sight) (front later : List Slot) (old new : Slot) (i : ℕ) →

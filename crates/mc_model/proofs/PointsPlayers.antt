@@ -1,17 +1,17 @@
 -- What the packets about the list of players make of what a client sees.
-use Rattle.std.proofs.Common.{◌≡◌, ℕ, Bool, true, false, cond, not, List, [], ◌∷◌, map}
-use Rattle.std.proofs.Common.{Option, Some, None, refl, sym, ap, ◌∙◌}
+use Rattle.std.proofs.Common.{◌≡◌, ℕ, Bool, not, List, [], ◌∷◌, map}
+use Rattle.std.proofs.Common.{refl, ap, ◌∙◌, arith}
+use Rattle.std.proofs.lemmas.Bool.Decides.{nat_tests}
 use Rattle.std.specs.List.{fold}
-use Rattle.std.specs.Str.{bytes_eq}
 use Rattle.std.specs.Cmp.{nat_cmp_total}
-use Rattle.std.specs.FinMap.{get, insert, remove, nat_cmp-IsAntisymmetric}
+use Rattle.std.specs.FinMap.{get, insert, remove}
 use Rattle.std.proofs.lemmas.Slice.Eq.{bytes_eq-Decides}
 use lib.IntN.{pos}
 use Rattle.mc_model.specs.Sight.{Sight}
 use Rattle.mc_model.specs.Replica.{apply, replay, seeing, with_players}
 use Rattle.mc_model.specs.Delta.{Pairs, is_named, missing, leaver, joiner, about}
 use Rattle.mc_model.specs.Delta.{leavers_point, joiners_point}
-use Rattle.mc_model.proofs.Maps.{take_out, put_in, remade, remade_at}
+use Rattle.mc_model.proofs.Maps.{take_out, put_in, remade}
 use Rattle.mc_model.proofs.Leading.{Leads}
 
 -- the test of a pair that another list of players has not
@@ -20,23 +20,7 @@ is_other n e = not (is_named (get n e.0) e.1)
 
 -- the pairs that are missing in the other are exchanged: that is the other
 pub pairs_exchanged : (m n : Pairs) → fold put_in (fold take_out m (missing m n)) (missing n m) ≡ n
-pairs_exchanged m n = remade nat_cmp_total nat_cmp-IsAntisymmetric m n (is_other n) (is_other m)
-    (λ q. cases q (get m q) (get n q) refl refl)
-  where
-    both : (v w : List ℕ) (b : Bool) → bytes_eq v w ≡ b →
-        cond (not b) (Some w) (cond (not (bytes_eq w v)) None (Some v)) ≡ Some w
-    both v w false t = refl
-    both v w true t =
-        let same : v ≡ w = (bytes_eq-Decides v w).0 t in
-        let back : bytes_eq w v ≡ true = (bytes_eq-Decides w v).1 (sym same) in
-        rw back (ap (λ (x : List ℕ). Some x) same)
-
-    cases : (q : ℕ) (old new : Option (List ℕ)) → get m q ≡ old → get n q ≡ new →
-        remade_at (is_other n) (is_other m) q old new ≡ new
-    cases q None None a b = refl
-    cases q None (Some w) a b = rw a refl
-    cases q (Some v) None a b = rw b refl
-    cases q (Some v) (Some w) a b = rw (a, b) (both v w (bytes_eq v w) refl)
+pairs_exchanged m n = grind (arith, nat_tests, remade, nat_cmp_total, bytes_eq-Decides)
 
 -- players that leave are taken out of the list
 left : (m : Pairs) (es : List (ℕ × List ℕ)) → with_players m (map leaver es) ≡ fold take_out m es

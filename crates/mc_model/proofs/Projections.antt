@@ -1,36 +1,29 @@
 -- What a projection shows: each column as it is in the world, with all its cells, entities and a
 -- pack that packets can tell. Two projections of one terrain follow one another.
-use Rattle.std.proofs.Common.{◌≡◌, ℕ, ◌<◌, ◌≤◌, T, Bool, true, false, cond, List, [], ◌∷◌, ◌++◌}
-use Rattle.std.proofs.Common.{map, length, Option, Some, None, is_some, refl, sym, ap, subst, ◌∙◌}
+use Rattle.std.proofs.Common.{◌≡◌, ℕ, ◌<◌, ◌≤◌, true, List, [], ◌∷◌, ◌++◌}
+use Rattle.std.proofs.Common.{map, length, Some, None, is_some, refl, sym, ap, ◌∙◌}
 use Rattle.std.proofs.Common.{arith}
-use Rattle.std.specs.Prelude.{unsigned_abs, int_le, slice_index_or}
+use Rattle.std.proofs.lemmas.Bool.Decides.{nat_tests}
+use Rattle.std.specs.Prelude.{unsigned_abs, int_le}
 use Rattle.std.specs.List.{All, AllByRecursion, filter, filter_map}
 use Rattle.std.specs.Cmp.{int_cmp_total}
-use Rattle.std.specs.Option.{unwrap_or}
 use Rattle.std.specs.declared.cmp.Ordering.{Ordering}
-use Rattle.std.specs.declared.cmp.Ordering.TheVariants.{Less, Equal, Greater}
-use Rattle.std.specs.Ordering.{is_eq, int_cmp}
+use Rattle.std.specs.Ordering.{int_cmp}
 use Rattle.std.specs.FinMap.{IsAntisymmetric, find, get, get-empty, get-from_entries}
 use Rattle.std.proofs.lemmas.List.{length-map}
 use Rattle.std.proofs.lemmas.List.FromFn.{length-map-range_with_len, get_or-map-range_with_len}
-use Rattle.std.proofs.lemmas.Int.{ints}
-use lib.IntN.{ℤ, pos, negsuc}
+use lib.IntN.{ℤ, pos}
 use lib.Signed.{◌≤ℤ◌}
-use Rattle.mc_column.specs.Sizes.{cells, squares}
 use Rattle.mc_column.specs.Cells.{ColumnValue, HasSizes}
 use Rattle.mc_land.specs.Places.{Place, place_cmp}
 use Rattle.mc_land.specs.declared.terrain.Terrain.{Terrain}
-use Rattle.mc_land.specs.Land.{state_at, biomes_of}
+use Rattle.mc_land.specs.Land.{biomes_of}
 use Rattle.mc_land.proofs.Orders.{places_total, exact_places}
 use Rattle.mc_slots.specs.declared.slot.Slot.{Slot}
-use Rattle.mc_slots.specs.declared.pile.Pile.TheVariants.{Full}
 use Rattle.mc_slots.specs.Pile.{slot_of}
 use Rattle.mc_windows.specs.Pack.{pack_size}
 use Rattle.mc_entities.specs.declared.entity.Entity.{Entity}
 use Rattle.mc_entities.specs.declared.entity.EntityKind.{EntityKind}
-use Rattle.mc_entities.specs.declared.entity.EntityKind.TheVariants as kinds
-use Rattle.mc_model.specs.declared.seen.SeenKind.{SeenKind}
-use Rattle.mc_model.specs.declared.seen.SeenKind.TheVariants as seen_kinds
 use Rattle.mc_model.specs.Sight.{Seen, nothing_seen}
 use Rattle.mc_model.specs.Replica.{is_32_bits}
 use Rattle.mc_model.specs.Delta.{IsSeen, IsTold, Follows}
@@ -48,12 +41,7 @@ found_made : {K X : Type 0} (R : K → K → Ordering) → IsAntisymmetric R →
     find R q (map (λ k. (k, f k)) keys) ≡ Some v → v ≡ f q
 found_made R same f q [] v found = absurd cc
 found_made {X = X} R same f q (k ∷ ks) v found =
-    elim (R q k) as (λ r. R q k ≡ r →
-    cond (is_eq r) (Some (f k)) (find R q (map (λ j. (j, f j)) ks)) ≡ Some v → v ≡ f q) [
-      | Less ↦ λ t e. found_made R same f q ks v e
-      | Equal ↦ λ t e. sym (ap (λ (o : Option X). unwrap_or o v) e) ∙ ap f (sym (same q k t))
-      | Greater ↦ λ t e. found_made R same f q ks v e
-    ] refl found
+    grind (arith, nat_tests, found_made R same f q ks v)
 
 -- a column that is shown is that of the world
 pub projected_column : (w : World) (p : Player) (place : Place) (column : ColumnValue) →
@@ -66,21 +54,13 @@ projected_column w p place column found =
 
 -- each column of the world has all its cells
 pub column_sizes : (w : World) (place : Place) → HasSizes (column_in w place)
-column_sizes w place = record {
-  states_are = length-map-range_with_len _ 0 cells;
-  biomes_are =
-      length-map-range_with_len _ 0 squares;
-}
+column_sizes w place = grind (arith, nat_tests, length-map-range_with_len)
 
 -- and each state of them has 16 bits
 pub column_small : (w : World) (place : Place) → ThingsFit w.things →
     All (λ state. state < 65536) (column_in w place).states
 column_small w place fits k d less =
-    let f : ℕ → ℕ = λ i. state_at w.terrain w.things.edits (place, i) in
-    let size = length-map-range_with_len f 0 cells in
-    let is : slice_index_or (column_in w place).states k d ≡ f k =
-    get_or-map-range_with_len f 0 cells k k d (omega (arith, less, size)) (omega arith) in
-    rw is (state_small w (place, k) fits)
+    grind (arith, nat_tests, length-map-range_with_len, get_or-map-range_with_len, state_small)
 
 -- one that is shown has all its cells
 pub project_sizes : (w : World) (p : Player) (place : Place) (column : ColumnValue) →
@@ -101,55 +81,20 @@ project_states w p fits place column found =
 found_holds : {K X : Type 0} (R : K → K → Ordering) (P : X → Type 0) (q : K) (es : List (K × X))
     (v : X) → AllByRecursion (λ e. P e.1) es → find R q es ≡ Some v → P v
 found_holds R P q [] v a found = absurd cc
-found_holds {X = X} R P q (e ∷ es) v a found =
-    elim (is_eq (R q e.0)) as (λ b. cond b (Some e.1) (find R q es) ≡ Some v → P v) [
-      | true ↦ λ f. subst P (ap (λ (o : Option X). unwrap_or o v) f) a.0
-      | false ↦ λ f. found_holds R P q es v a.1 f
-    ] found
+found_holds {X = X} R P q (e ∷ es) v a found = grind (arith, nat_tests, found_holds R P q es v a.1)
 
 -- a test of order passes
 in_order : (a b : ℤ) → a ≤ℤ b → int_le a b ≡ true
-in_order a b le = passed (int_le a b) le.le
-  where
-    passed : (b : Bool) → T b → b ≡ true
-    passed true h = refl
-    passed false h = absurd h
+in_order a b le = grind (arith, nat_tests)
 
 -- numbers of a spot are within 32 bits
 in_32_bits : (n : ℤ) → unsigned_abs n ≤ 960000016 → is_32_bits n ≡ true
-in_32_bits (pos n) small =
-    rw (
-      in_order (negsuc 2147483647) (pos n) (omega (arith, ints)),
-      in_order (pos n) (pos 2147483647) (omega (arith, ints, small)),
-    ) refl
-in_32_bits (negsuc n) small =
-    rw (
-      in_order (negsuc 2147483647) (negsuc n) (omega (arith, ints, small)),
-      in_order (negsuc n) (pos 2147483647) (omega (arith, ints)),
-    ) refl
+in_32_bits n small = grind (arith, nat_tests)
 
 -- an entity that fits is seen where packets can tell it
 seen_told : (e : Entity) (kind : EntityKind) → EntityFits e → (row : ℤ × Seen) →
     seen_as e kind ≡ Some row → IsSeen row.1
-seen_told e kind fits row found = cases kind found
-  where
-    told : (kind : SeenKind) (pile : Slot) →
-        IsSeen (record { kind = kind; spot = e.spot; head = e.spot.yaw; pile = pile })
-    told kind pile = record {
-      head = refl;
-      x = in_32_bits e.spot.x fits.spot.x;
-      y = in_32_bits e.spot.y (omega (arith, fits.spot.y));
-      z = in_32_bits e.spot.z fits.spot.z;
-    }
-
-    cases : (kind : EntityKind) → seen_as e kind ≡ Some row → IsSeen row.1
-    cases (kinds.Player uuid held) found =
-        subst IsSeen (ap (λ (o : Option (ℤ × Seen)). (unwrap_or o row).1) found)
-        (told (seen_kinds.Player uuid) (slot_of held))
-    cases (kinds.Dropped item born) found =
-        subst IsSeen (ap (λ (o : Option (ℤ × Seen)). (unwrap_or o row).1) found)
-        (told seen_kinds.Item (slot_of (Full item)))
-    cases kinds.Mob found = absurd cc
+seen_told e kind fits row found = grind (arith, nat_tests)
 
 -- the entities that a player sees
 abbrev pub in_sight : World → Player → List Entity
@@ -158,9 +103,7 @@ in_sight w p = filter (is_in_sight w p) (others (pos p.eid) w.things.entities)
 -- they fit
 pub in_sight_fit : (w : World) (p : Player) → ThingsFit w.things →
     AllByRecursion EntityFits (in_sight w p)
-in_sight_fit w p fits =
-    all_filtered EntityFits (is_in_sight w p) (others (pos p.eid) w.things.entities)
-    (all_filtered EntityFits _ w.things.entities fits.entities)
+in_sight_fit w p fits = grind (arith, nat_tests, all_filtered)
 
 -- so each that is shown is where packets can tell it
 project_seen : (w : World) (p : Player) → ThingsFit w.things → (eid : ℤ) (e : Seen) →

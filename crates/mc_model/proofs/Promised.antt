@@ -1,22 +1,23 @@
 -- What a connection took is the first bytes of what was handed to it, and what of it is missing.
 use Rattle.std.proofs.Common.{◌≡◌, ◌≢◌, ℕ, zero, suc, List, [], ◌∷◌, ◌++◌, take, drop, refl, sym}
-use Rattle.std.proofs.Common.{subst, ap, ◌∙◌, append_assoc}
-use Rattle.std.specs.Prelude.{Bool, true, false, Option, Some, None, is_some, if◌then◌else◌}
+use Rattle.std.proofs.Common.{subst, ap, ◌∙◌, append_assoc, arith}
+use Rattle.std.proofs.lemmas.Bool.Decides.{nat_tests}
+use Rattle.std.specs.Prelude.{Bool, true, Option, Some, None, if◌then◌else◌}
 use Rattle.std.proofs.lemmas.List.{append-nil, take-append-drop}
 use Rattle.mc_land.specs.declared.terrain.Terrain.{Terrain}
 use Rattle.mc_model.specs.declared.cause.Cause.{Cause}
 use Rattle.mc_model.specs.declared.cause.Cause.TheVariants as causes
 use Rattle.mc_model.specs.World.{World, Session, new_world, found, is_closed}
 use Rattle.mc_model.specs.Packets.{Sent, bytes_of}
-use Rattle.mc_model.specs.Step.{Event, mark_closed, new_session, joining, is_new, is_crowded, gone}
+use Rattle.mc_model.specs.Step.{Event, mark_closed, joining, is_new, gone}
 use Rattle.mc_model.specs.Step.{step}
 use Rattle.mc_model.specs.Run.{history, handed, to, owed_of, owed_in, taken, taken_at, lost}
 use Rattle.mc_model.specs.Run.{lost_at, cause_in, first_of, why}
 use Rattle.mc_model.specs.Headline.{Promised}
 use Rattle.mc_model.proofs.Sessions.{some_none, one_some}
-use Rattle.mc_model.proofs.Handing.{Owes, adds, empties, closed_is, not_both}
+use Rattle.mc_model.proofs.Handing.{Owes, adds, empties, closed_is}
 use Rattle.mc_model.proofs.RunEvents.{orderly_step, old_step}
-use Rattle.mc_model.proofs.RunTurns.{no_out, away, joins, arrives}
+use Rattle.mc_model.proofs.RunTurns.{no_out, arrives}
 use Rattle.mc_model.proofs.CauseSound.{cause_found, cause_nowhere, Sound, sound_step, sound_new}
 use Rattle.mc_model.proofs.CauseSound.{shut_for_good}
 use Rattle.mc_model.proofs.Owing.{bytes_more, Owing, goes, owes, takes, leaves, owing, take_none}
@@ -47,13 +48,10 @@ record StaysShut (s t : Session) (qs : List Sent) : Type 0 where
   none : qs ≡ []
 
 owes_nothing : (s t : Session) (qs : List Sent) → Owes s t qs → s.owed ≡ [] → qs ≡ [] → t.owed ≡ []
-owes_nothing s t qs (adds more) none nothing =
-    more ∙ ap (λ (o : List ℕ). o ++ bytes_of qs) none ∙ ap bytes_of nothing
-owes_nothing s t qs (empties now empty full) none nothing = empty
+owes_nothing s t qs h3 none nothing = grind (arith, nat_tests)
 
 nothing_handed : (ps qs : List Sent) → qs ≡ [] → bytes_of (ps ++ qs) ≡ bytes_of ps
-nothing_handed ps qs none = ap (λ (hs : List Sent). bytes_of (ps ++ hs)) none
-    ∙ ap bytes_of (append-nil ps)
+nothing_handed ps qs none = grind (arith, nat_tests, append-nil)
 
 promised_owes : (tk lo : List ℕ) (s t : Session) (ps qs : List Sent) → Owes s t qs →
     (is_closed s.stage ≡ true → StaysShut s t qs) → IsPromised tk lo s ps →
@@ -65,9 +63,7 @@ promised_owes tk lo s t ps qs (empties closed none full) shut_ (stands kept befo
     spills closed none full (s.owed ++ bytes_of qs) (bytes_more ps qs
     ∙ ap (λ (o : List ℕ). o ++ bytes_of qs) before ∙ append_assoc tk s.owed (bytes_of qs))
 promised_owes tk lo s t ps qs owed shut_ (loses closed none before) =
-    let still = shut_ closed in
-    loses still.stage (owes_nothing s t qs owed none still.none) (nothing_handed ps qs still.none
-    ∙ before)
+    grind (arith, nat_tests, owes_nothing, nothing_handed)
 promised_owes tk lo s t ps qs owed shut_ (spills closed none full more before) =
     let still = shut_ closed in
     spills still.stage (owes_nothing s t qs owed none still.none) (still.cause ∙ full) more
@@ -79,9 +75,7 @@ promised_takes tk lo n s ps (stands kept before) =
     stands kept (before ∙ ap (λ (o : List ℕ). tk ++ o) (sym (take-append-drop n s.owed))
     ∙ sym (append_assoc tk (take n s.owed) (drop n s.owed)))
 promised_takes tk lo n s ps (loses closed none before) =
-    loses closed (ap (drop n) none ∙ drop_none n) (before
-    ∙ ap (λ (o : List ℕ). o ++ lo)
-    (sym (behind_none tk (take n s.owed) (ap (take n) none ∙ take_none n))))
+    grind (arith, nat_tests, drop_none, behind_none, take_none)
 promised_takes tk lo n s ps (spills closed none full more before) =
     spills closed (ap (drop n) none ∙ drop_none n) full more (before
     ∙ ap (λ (o : List ℕ). o ++ more)
@@ -90,14 +84,7 @@ promised_takes tk lo n s ps (spills closed none full more before) =
 -- one that is gone is closed and owed nothing
 gone_shut : (reason : Cause) (s : Session) →
     (is_closed (gone reason s).stage ≡ true) × ((gone reason s).owed ≡ [])
-gone_shut reason s = elim (is_closed s.stage) as (λ b. is_closed s.stage ≡ b →
-    (is_closed (gone_as b).stage ≡ true) × ((gone_as b).owed ≡ [])) [
-      | true ↦ λ closed. (closed, refl)
-      | false ↦ λ open_. (refl, refl)
-    ] refl
-  where
-    gone_as : Bool → Session
-    gone_as b = if b then record s { owed = [] } else record (mark_closed s reason) { owed = [] }
+gone_shut reason s = grind (arith, nat_tests)
 
 gone_cause : (reason : Cause) (s : Session) → is_closed s.stage ≡ true →
     (gone reason s).cause ≡ s.cause
@@ -106,29 +93,20 @@ gone_cause reason s closed = ap (λ (b : Bool). (if b then record s { owed = [] 
 
 promised_leaves : (tk lo : List ℕ) (reason : Cause) (s : Session) (ps : List Sent) →
     IsPromised tk lo s ps → IsPromised tk (lo ++ s.owed) (gone reason s) ps
-promised_leaves tk lo reason s ps (stands kept before) =
-    loses (gone_shut reason s).0 (gone_shut reason s).1 (before
-    ∙ ap (λ (o : List ℕ). tk ++ (o ++ s.owed)) (sym kept))
+promised_leaves tk lo reason s ps (stands kept before) = grind (arith, nat_tests)
 promised_leaves tk lo reason s ps (loses closed none before) =
-    loses (gone_shut reason s).0 (gone_shut reason s).1 (before
-    ∙ ap (λ (o : List ℕ). tk ++ o) (sym (behind_none lo s.owed none)))
+    grind (arith, nat_tests, gone_shut, behind_none)
 promised_leaves tk lo reason s ps (spills closed none full more before) =
     spills (gone_shut reason s).0 (gone_shut reason s).1 (gone_cause reason s closed ∙ full) more
     before
 
 promised_begun : (tk lo : List ℕ) (s : Session) (ps : List Sent) → IsPromised tk lo s ps →
     (more : List ℕ) × (bytes_of ps ≡ tk ++ more)
-promised_begun tk lo s ps (stands kept before) = (s.owed, before)
-promised_begun tk lo s ps (loses closed none before) = (lo, before)
-promised_begun tk lo s ps (spills closed none full more before) = (more, before)
+promised_begun tk lo s ps h4 = grind (arith, nat_tests)
 
 promised_whole : (tk lo : List ℕ) (s : Session) (ps : List Sent) → IsPromised tk lo s ps →
     s.cause ≢ Some causes.Backlog → bytes_of ps ≡ tk ++ (lo ++ s.owed)
-promised_whole tk lo s ps (stands kept before) fine =
-    before ∙ ap (λ (o : List ℕ). tk ++ (o ++ s.owed)) (sym kept)
-promised_whole tk lo s ps (loses closed none before) fine =
-    before ∙ ap (λ (o : List ℕ). tk ++ o) (sym (behind_none lo s.owed none))
-promised_whole tk lo s ps (spills closed none full more before) fine = absurd (fine full)
+promised_whole tk lo s ps h4 fine = grind (arith, nat_tests, behind_none)
 
 -- What every event keeps of what one number was handed, took and lost, and of the cause for which
 -- it was closed.
@@ -159,21 +137,13 @@ next_of k v t ps tk lo c there cause p = record {
 -- of one that is not
 next_none : (k : ℕ) (w v : World) (ps : List Sent) (tk lo : List ℕ) (c : Option Cause) →
     owed_in k w ≡ [] → found k v.sessions ≡ None → Keeps k w ps tk lo c → Next k v ps tk lo c
-next_none k w v ps tk lo c nothing gone_ keeps = record {
-  begun = keeps.begun;
-  whole = λ fine. keeps.whole fine ∙ ap (λ (o : List ℕ). tk ++ (lo ++ o)) (nothing
-      ∙ sym (ap owed_of gone_));
-  each = λ t there. absurd (some_none t _ there gone_);
-}
+next_none k w v ps tk lo c nothing gone_ keeps = grind (arith, nat_tests, some_none)
 
 -- where nothing more was handed out, taken or lost
 next_still : (k : ℕ) (v : World) (ps qs : List Sent) (tk rs lo ls : List ℕ) (c : Option Cause) →
     qs ≡ [] → rs ≡ [] → ls ≡ [] → Next k v ps tk lo c → Next k v (ps ++ qs) (tk ++ rs) (lo ++ ls) c
 next_still k v ps qs tk rs lo ls c none nothing kept next =
-    subst (λ (hs : List Sent). Next k v hs (tk ++ rs) (lo ++ ls) c)
-    (sym (ap (λ (hs : List Sent). ps ++ hs) none ∙ append-nil ps))
-    (subst (λ (os : List ℕ). Next k v ps os (lo ++ ls) c) (sym (behind_none tk rs nothing))
-    (subst (λ (os : List ℕ). Next k v ps tk os c) (sym (behind_none lo ls kept)) next))
+    grind (arith, nat_tests, append-nil, behind_none)
 
 -- ---- the cause
 
@@ -203,41 +173,19 @@ shut_there k w e s t o there here closed =
 next_cause : (k : ℕ) (w : World) (e : Event) (s t : Session) (c : Option Cause) → Sound w →
     found k w.sessions ≡ Some s → found k (step w e).world.sessions ≡ Some t → s.cause ≡ c →
     t.cause ≡ first_of c (cause_in k (step w e).world)
-next_cause k w e s t None o there here was = sym (cause_found k (step w e).world t here)
-next_cause k w e s t (Some cause) o there here was =
-    (shut_there k w e s t o there here (o.each k s there
-    ∙ ap (λ (c : Option Cause). is_some c) was)).cause ∙ was
+next_cause k w e s t c o there here was =
+    grind (arith, nat_tests, cause_found k, shut_there k w e s t o there here)
 
 -- ---- an event
 
 joining_owed : (w : World) (k : ℕ) → (joining w k).owed ≡ []
-joining_owed w k = elim (is_crowded w) as (λ b. (joined_as b).owed ≡ []) [
-  | true ↦ refl
-  | false ↦
-      refl
-]
-  where
-    joined_as : Bool → Session
-    joined_as b = if b then mark_closed (new_session k) causes.Crowded else new_session k
+joining_owed w k = grind (arith, nat_tests)
 
 -- a connection that was not there
 next_away : (k : ℕ) (w : World) (e : Event) (ps : List Sent) (tk lo : List ℕ) (c : Option Cause) →
     found k w.sessions ≡ None → Keeps k w ps tk lo c →
     Next k (step w e).world ps tk lo (first_of c (cause_in k (step w e).world))
-next_away k w e ps tk lo c none keeps = elim (arrives k w e none) [
-  | away gone_ ↦
-      subst (λ (d : Option Cause). Next k (step w e).world ps tk lo d)
-      (sym (nowhere_cause k (step w e).world c gone_))
-      (next_none k w (step w e).world ps tk lo c (ap owed_of none) gone_ keeps)
-  | joins is new here ↦
-      let empty = keeps.nobody new in
-      next_of k (step w e).world (joining w k) ps tk lo
-      (first_of c (cause_in k (step w e).world)) here
-      (sym (cause_found k (step w e).world (joining w k) here)
-      ∙ ap (λ (d : Option Cause). first_of d (cause_in k (step w e).world)) (sym empty.3))
-      (stands empty.2 (ap bytes_of empty.0 ∙ sym (joining_owed w k)
-      ∙ ap (λ (o : List ℕ). o ++ (joining w k).owed) (sym empty.1)))
-]
+next_away k w e ps tk lo c none keeps = grind (arith, arrives)
 
 -- one that was there
 next_there : (k : ℕ) (w : World) (e : Event) (ps : List Sent) (tk lo : List ℕ) (c : Option Cause)
@@ -304,47 +252,30 @@ still_nobody : (k : ℕ) (w : World) (e : Event) (ps : List Sent) (tk lo : List 
     (c : Option Cause) → Keeps k w ps tk lo c → is_new k (step w e).world.last ≡ true →
     (ps ++ to k (step w e).out ≡ []) × (tk ++ taken_at k w e ≡ []) × (lo ++ lost_at k w e ≡ [])
     × (first_of c (cause_in k (step w e).world) ≡ None)
-still_nobody k w e ps tk lo c keeps new = at (is_new k w.last) refl
-  where
-    at : (b : Bool) → is_new k w.last ≡ b →
-        (ps ++ to k (step w e).out ≡ []) × (tk ++ taken_at k w e ≡ []) × (lo ++ lost_at k w e ≡ [])
-        × (first_of c (cause_in k (step w e).world) ≡ None)
-    at true was =
-        let empty = keeps.nobody was in
-        let none = keeps.sound.orderly.fresh k was in
-        let later = (orderly_step w e keeps.sound.orderly).fresh k new in (
-          ap (λ (hs : List Sent). hs ++ to k (step w e).out) empty.0 ∙ no_out k w e none,
-          ap (λ (o : List ℕ). o ++ taken_at k w e) empty.1 ∙ nothing_taken k w e none,
-          ap (λ (o : List ℕ). o ++ lost_at k w e) empty.2 ∙ nothing_lost k w e none,
-          nowhere_cause k (step w e).world c later ∙ empty.3,
-        )
-    at false old = absurd (not_both (is_new k (step w e).world.last) new (old_step k w e old))
+still_nobody k w e ps tk lo c keeps new = grind (
+  arith,
+  orderly_step w e keeps.sound.orderly,
+  no_out k w e,
+  nothing_taken k w e,
+  old_step k w e,
+)
 
 keeps_step : (k : ℕ) (w : World) (e : Event) (ps : List Sent) (tk lo : List ℕ) (c : Option Cause) →
     Keeps k w ps tk lo c →
     Keeps k (step w e).world (ps ++ to k (step w e).out) (tk ++ taken_at k w e) (lo
     ++ lost_at k w e) (first_of c (cause_in k (step w e).world))
-keeps_step k w e ps tk lo c keeps =
-    let n = next k w e ps tk lo c keeps in
-    record {
-      sound = sound_step w e keeps.sound;
-      nobody =
-          still_nobody k w e ps tk lo c keeps;
-      begun = n.begun;
-      whole = n.whole;
-      each = n.each;
-    }
+keeps_step k w e ps tk lo c keeps = grind (
+  arith,
+  next k w e ps tk lo c keeps,
+  sound_step w e keeps.sound,
+  still_nobody k w e ps tk lo c keeps,
+)
 
 keeps_run : (k : ℕ) (events : List Event) (w : World) (ps : List Sent) (tk lo : List ℕ)
     (c : Option Cause) → Keeps k w ps tk lo c →
     Keeps k (history w events) (ps ++ handed k w events) (tk ++ taken k w events) (lo
     ++ lost k w events) (first_of c (why k w events))
-keeps_run k [] w ps tk lo c keeps =
-    subst (λ (hs : List Sent). Keeps k w hs (tk ++ []) (lo ++ []) (first_of c None))
-    (sym (append-nil ps))
-    (subst (λ (os : List ℕ). Keeps k w ps os (lo ++ []) (first_of c None)) (sym (append-nil tk))
-    (subst (λ (os : List ℕ). Keeps k w ps tk os (first_of c None)) (sym (append-nil lo))
-    (subst (Keeps k w ps tk lo) (sym (first_none c)) keeps)))
+keeps_run k [] w ps tk lo c keeps = grind (arith, nat_tests, append-nil, first_none)
 keeps_run k (e ∷ events) w ps tk lo c keeps =
     let v = (step w e).world in
     let after_ = history w (e ∷ events) in
@@ -366,13 +297,7 @@ keeps_run k (e ∷ events) w ps tk lo c keeps =
 
 keeps_new : (most cap : ℕ) (terrain : Terrain) (k : ℕ) →
     Keeps k (new_world most cap terrain) [] [] [] None
-keeps_new most cap terrain k = record {
-  sound = sound_new most cap terrain;
-  nobody = λ new. (refl, refl, refl, refl);
-  begun = ([], refl);
-  whole = λ fine. refl;
-  each = λ s there. absurd (some_none s None there refl);
-}
+keeps_new most cap terrain k = grind (arith, nat_tests, sound_new, some_none)
 
 pub promised : (most cap : ℕ) (terrain : Terrain) (events : List Event) (k : ℕ) →
     Promised k (new_world most cap terrain) events

@@ -1,6 +1,8 @@
 -- What was handed to each connection up to a world of a run, and that it stays decoded where
 -- connections change.
 use Rattle.std.proofs.Common.{◌≡◌, ℕ, List, [], ◌∷◌, ◌++◌, map, drop, refl, sym, subst, ap, ◌∙◌}
+use Rattle.std.proofs.Common.{arith}
+use Rattle.std.proofs.lemmas.Bool.Decides.{nat_tests}
 use Rattle.std.specs.Prelude.{◌==◌, Bool, true, false, Option, Some, None, is_some, option_map}
 use Rattle.std.specs.Prelude.{if◌then◌else◌}
 use Rattle.std.specs.List.{AllByRecursion}
@@ -11,7 +13,7 @@ use Rattle.mc_nbt.specs.Reading.{IsBytes}
 use Rattle.mc_model.specs.Packets.{Sent}
 use Rattle.mc_model.specs.Decoding.{decoder_of}
 use Rattle.mc_model.specs.Things.{Things}
-use Rattle.mc_model.specs.World.{World, Session, found, is_closed}
+use Rattle.mc_model.specs.World.{World, Session, found}
 use Rattle.mc_model.specs.Step.{mark_closed, gone, is_new, changed, depart, after_leaving}
 use Rattle.mc_model.specs.Step.{player_in}
 use Rattle.mc_model.proofs.Sessions.{found_map, some_none, one_some}
@@ -112,11 +114,7 @@ kept_mapped k w f things came earlier packets keeps still_waits hands none sound
 -- a change of one keeps the numbers
 one_keeps : (j : ℕ) (f : Session → Session) → ((s : Session) → (f s).id ≡ s.id) → (s : Session)
     → (if s.id == j then f s else s).id ≡ s.id
-one_keeps j f keeps s = step (s.id == j)
-  where
-    step : (b : Bool) → (if b then f s else s).id ≡ s.id
-    step true = keeps s
-    step false = refl
+one_keeps j f keeps s = grind (arith, nat_tests)
 
 -- a change that hands out nothing
 changed_steps : (k j : ℕ) (w : World) (f : Session →
@@ -162,12 +160,12 @@ changed_steps k j w f things came earlier keeps waits stays fits hands small sou
 pub gone_steps : (k j : ℕ) (w : World) (cause : Cause) (came : List ℕ) (earlier : List Sent) →
     Sound w → Kept k w came earlier
     → Steps k (depart w j cause) came (earlier ++ [])
-gone_steps k j w cause came earlier sound kept =
-    changed_steps k j w (gone cause) (after_leaving (player_in j w.sessions) None w.things)
-    came earlier (λ s. keeps s (is_closed s.stage))
-    (λ s. waits s (is_closed s.stage)) (λ s. stays s (is_closed s.stage))
-    (λ s f. fits s (is_closed s.stage) f) (λ s. hands s (is_closed s.stage))
-    (leaving_fits (player_in j w.sessions) None w.things sound.things) sound kept
+gone_steps k j w cause came earlier sound kept = grind (
+  arith,
+  changed_steps k j w (gone cause) (after_leaving (player_in j w.sessions) None w.things) came earlier,
+  leaving_fits (player_in j w.sessions) None w.things sound.things,
+  hands,
+)
   where
     after : Session → Bool → Session
     after s b = if b then record s { owed = [] } else

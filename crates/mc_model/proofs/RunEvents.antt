@@ -2,21 +2,21 @@
 -- that joined, and at most the one that joins is more.
 use Rattle.std.proofs.Common.{◌≡◌, ◌≢◌, ◌≤◌, ℕ, ◌+◌, [], ◌∷◌, ◌++◌, length, drop, refl, sym, subst}
 use Rattle.std.proofs.Common.{ap, ◌∙◌, arith}
-use Rattle.std.specs.Prelude.{◌==◌, ◌&&◌, not, nat_lt, Bool, true, false, cond, Option, Some, None}
+use Rattle.std.specs.Prelude.{◌==◌, ◌&&◌, not, nat_lt, Bool, true, false, Option, Some, None}
 use Rattle.std.specs.Prelude.{if◌then◌else◌}
 use Rattle.std.proofs.lemmas.Bool.Decides.{nat_tests}
 use Rattle.std.proofs.lemmas.List.{length-append}
 use Rattle.std.proofs.lemmas.List.Sums.{length-filter, count_by-le-length}
 use Rattle.mc_model.specs.declared.cause.Cause.{Cause}
 use Rattle.mc_model.specs.declared.cause.Cause.TheVariants as causes
-use Rattle.mc_model.specs.World.{World, Session, found, is_closed}
+use Rattle.mc_model.specs.World.{World, Session}
 use Rattle.mc_model.specs.Step.{Event, joined, came, left, broke, ticked, took, forgot, Handing}
 use Rattle.mc_model.specs.Step.{mark_closed, joining, join, is_new, gone, changed, depart, is_done}
 use Rattle.mc_model.specs.Step.{aged, beat, flush, at_tick, tick, on_bytes, step}
 use Rattle.mc_model.specs.Talk.{farewell}
 use Rattle.mc_model.specs.Orderly.{Orderly, Rise, next_number}
-use Rattle.mc_model.proofs.RiseFacts.{joining_id, joined_rise, rise_filter}
-use Rattle.mc_model.proofs.Sessions.{other_number, found_behind, apart_more, apart_filter}
+use Rattle.mc_model.proofs.RiseFacts.{joined_rise, rise_filter}
+use Rattle.mc_model.proofs.Sessions.{found_behind, apart_more, apart_filter}
 use Rattle.mc_model.proofs.Sessions.{none_filtered}
 use Rattle.mc_model.proofs.Beside.{Beside, beside_same, beside_onward, beside_changed}
 use Rattle.mc_model.proofs.Handing.{hand_cases, beat_cases, flush_cases}
@@ -49,9 +49,7 @@ above_other k j above same = grind (arith, nat_tests)
 -- ---- connections that keep their numbers
 
 pub gone_id : (cause : Cause) (s : Session) → (gone cause s).id ≡ s.id
-gone_id cause s = elim (is_closed s.stage) as
-    (λ b. (if b then record s { owed = [] } else
-    record (mark_closed s cause) { owed = [] }).id ≡ s.id) [ true ↦ refl | false ↦ refl ]
+gone_id cause s = grind (arith, nat_tests)
 
 pub beat_id : (w : World) (s : Session) → (beat w s).session.id ≡ s.id
 beat_id w s = beat_cases w s (λ (h : Handing). h.session.id ≡ s.id) (λ none. refl)
@@ -75,22 +73,7 @@ orderly_beside k w v b o = record {
 }
 
 orderly_join : (w : World) (k : ℕ) → Orderly w → Orderly (join w k)
-orderly_join w k o = elim (is_new k w.last) as (λ b. is_new k w.last ≡ b →
-    Orderly (if b then record w { last = Some k; sessions = w.sessions ++ joining w k ∷ [] } else
-    w)) [
-      | true ↦ λ new. record {
-        rising = joined_rise w k w.last w.sessions (joining w k) refl new o.rising;
-        apart = apart_more w.sessions (joining w k) o.apart
-            (ap (λ (n : ℕ). found n w.sessions) (joining_id w k) ∙ o.fresh k new);
-        fresh = λ j above.
-            found_behind j w.sessions (joining w k ∷ [])
-            (o.fresh j (later_new j k w.last above new))
-            ∙ ap (λ (n : ℕ). cond (n == j) (Some (joining w k)) None) (joining_id w k)
-            ∙ ap (λ (b : Bool). cond b (Some (joining w k)) None)
-            (other_number k j (above_other k j above));
-      }
-      | false ↦ λ old. o
-    ] refl
+orderly_join w k o = grind (arith, joined_rise, apart_more, found_behind)
 
 -- one that is gone leaves all others as they are
 pub gone_beside : (k : ℕ) (w : World) (cause : Cause) → Beside k w (changed w k (gone cause))

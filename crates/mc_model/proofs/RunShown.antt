@@ -1,9 +1,9 @@
 -- After each tick a client in play was handed packets that show it the world: kept by each event,
 -- so true after any of them.
 use Rattle.std.proofs.Common.{◌≡◌, ℕ, List, [], ◌∷◌, ◌++◌, map, refl, sym, subst, ap, ◌∙◌}
-use Rattle.std.proofs.Common.{append_assoc}
+use Rattle.std.proofs.Common.{append_assoc, arith}
+use Rattle.std.proofs.lemmas.Bool.Decides.{nat_tests}
 use Rattle.std.specs.Prelude.{true, false, drop, Option, Some, None, is_some, option_map, unwrap_or}
-use Rattle.std.specs.Prelude.{if◌then◌else◌}
 use Rattle.std.specs.Option.{option_and_then}
 use Rattle.std.proofs.lemmas.List.{append-nil}
 use Rattle.std.proofs.lemmas.List.Elements.{filter_map-append}
@@ -22,8 +22,8 @@ use Rattle.mc_model.specs.Beats.{awaiting}
 use Rattle.mc_model.specs.Packets.{Sent, of_play, in_play, played}
 use Rattle.mc_model.specs.Names.{offline_uuid}
 use Rattle.mc_model.specs.Talk.{accepted, farewell}
-use Rattle.mc_model.specs.Step.{Event, ticked, Handing, mark_closed, new_session, joining, is_new}
-use Rattle.mc_model.specs.Step.{is_crowded, due, showing, beat, flush, aged, at_tick, player_in}
+use Rattle.mc_model.specs.Step.{Event, ticked, Handing, mark_closed, joining, is_new}
+use Rattle.mc_model.specs.Step.{due, showing, beat, flush, aged, at_tick, player_in}
 use Rattle.mc_model.specs.Step.{step}
 use Rattle.mc_model.specs.Run.{history, handed, to}
 use Rattle.mc_model.specs.Headline.{HasPlayerInPlay, ShowsWorld}
@@ -49,8 +49,7 @@ use Rattle.mc_model.proofs.RunTurns.{joins, arrives, each_step}
 -- ---- packets of play
 
 pub played_more : (ps qs : List Sent) → played qs ≡ [] → played (ps ++ qs) ≡ played ps
-played_more ps qs e = filter_map-append in_play ps qs ∙ ap (λ (ds : List Down). played ps ++ ds) e
-    ∙ append-nil (played ps)
+played_more ps qs e = grind (arith, nat_tests, filter_map-append, append-nil)
 
 pub played_all : (ds : List Down) → played (map of_play ds) ≡ ds
 played_all [] = refl
@@ -118,13 +117,7 @@ pub record IsShown (land : Terrain) (now_things : Things) (s : Session) (ps : Li
 shown_later : (land : Terrain) (now_things later : Things) (s : Session) (ps : List Sent) →
     ((old : GivenKinds) → Lasts old now_things → Lasts old later) →
     IsShown land now_things s ps → IsShown land later s ps
-shown_later land now_things later s ps onward h = record {
-  has = h.has;
-  playing = h.playing;
-  chat = h.chat;
-  drawn = λ p there. drawn_later land now_things later onward p.shown (h.drawn p there);
-  waiting = h.waiting;
-}
+shown_later land now_things later s ps onward h = grind (arith, nat_tests, drawn_later)
 
 -- where its player was shown nothing more, and no packet of play was handed to it
 shown_stayed : (land : Terrain) (now_things : Things) (s t : Session) (ps qs : List Sent) →
@@ -132,22 +125,8 @@ shown_stayed : (land : Terrain) (now_things : Things) (s t : Session) (ps qs : L
     (is_play t.stage ≡ false → is_closed t.stage ≡ false →
     (is_play s.stage ≡ false) × (is_closed s.stage ≡ false)) →
     IsShown land now_things s ps → IsShown land now_things t (ps ++ qs)
-shown_stayed land now_things s t ps qs done shown none was h = record {
-  has = has_done s t qs done h.has;
-  playing = λ q there.
-      let before = shown_from s t q shown there in
-      ap (replay new_replica) (played_more ps qs none) ∙ h.playing before.0 before.1
-      ∙ ap (λ (o : Option Sight). seeing (unwrap_or o nothing_seen)) (sym before.2);
-  chat = λ q there.
-      let before = shown_from s t q shown there in
-      before.3 ∙ h.chat before.0 before.1
-      ∙ ap (λ (o : Option Sight). (unwrap_or o nothing_seen).chat) (sym before.2);
-  drawn = λ q there.
-      let before = shown_from s t q shown there in
-      subst (IsDrawn land now_things) (sym before.2) (h.drawn before.0 before.1);
-  waiting = λ waits open_. let before = was waits open_ in
-      played_more ps qs none ∙ h.waiting before.0 before.1;
-}
+shown_stayed land now_things s t ps qs done shown none was h =
+    grind (arith, nat_tests, has_done, shown_from, played_more)
 
 same_player : (s t : Session) → t.player ≡ s.player → shown_in t ≡ shown_in s
 same_player s t same = ap (option_map shown_said) same
@@ -156,33 +135,12 @@ shown_enters : (land : Terrain) (now_things : Things) (s t : Session) (p : Playe
     (ps qs : List Sent) → Done s t qs → s.stage ≡ stages.Login → t.stage ≡ stages.Play →
     t.player ≡ Some p → p.shown ≡ None → p.chat ≡ [] → played qs ≡ [] →
     IsShown land now_things s ps → IsShown land now_things t (ps ++ qs)
-shown_enters land now_things s t p ps qs done from into there shown said none h = record {
-  has = has_done s t qs done h.has;
-  playing = λ q here.
-      ap (replay new_replica) (played_more ps qs none
-      ∙ h.waiting (ap is_play from) (ap is_closed from))
-      ∙ ap (λ (o : Option Sight). seeing (unwrap_or o nothing_seen)) (sym (unseen q here));
-  chat = λ q here. unsaid q here
-      ∙ ap (λ (o : Option Sight). (unwrap_or o nothing_seen).chat) (sym (unseen q here));
-  drawn = λ q here. subst (IsDrawn land now_things) (sym (unseen q here)) tt;
-  waiting = λ waits. absurd (not_both (is_play t.stage) (ap is_play into) waits);
-}
-  where
-    unseen : (q : Player) → t.player ≡ Some q → q.shown ≡ None
-    unseen q here = subst (λ (v : Player). v.shown ≡ None) (one_some p q t.player there here) shown
-
-    unsaid : (q : Player) → t.player ≡ Some q → q.chat ≡ []
-    unsaid q here = subst (λ (v : Player). v.chat ≡ []) (one_some p q t.player there here) said
+shown_enters land now_things s t p ps qs done from into there shown said none h =
+    grind (arith, nat_tests, has_done, played_more, not_both, one_some)
 
 shown_shut : (land : Terrain) (now_things : Things) (t : Session) (ps : List Sent) →
     t.stage ≡ stages.Closed → t.player ≡ None → IsShown land now_things t ps
-shown_shut land now_things t ps closed gone = record {
-  has = ap is_play closed ∙ sym (ap (λ (o : Option Player). is_some o) gone);
-  playing = λ q there. absurd (some_none q t.player there gone);
-  chat = λ q there. absurd (some_none q t.player there gone);
-  drawn = λ q there. absurd (some_none q t.player there gone);
-  waiting = λ waits open_. absurd (not_both (is_closed t.stage) (ap is_closed closed) open_);
-}
+shown_shut land now_things t ps closed gone = grind (arith, nat_tests, some_none, not_both)
 
 pub shown_kept : (land : Terrain) (now_things : Things) → IsKept (IsShown land now_things)
 shown_kept land now_things s t ps qs (stayed stage shown cause none) h =
@@ -215,9 +173,7 @@ tick_keeps_shown land w s ps terrain things h =
       playing = λ q now. subst (λ (v : Player). replay new_replica
           (played (ps ++ map of_play (due (at_tick w) p))) ≡ seeing (last_shown v))
           (one_some (then_ p) q _ refl now) (sees p there);
-      chat = λ q now. subst (λ (v : Player). v.chat ≡ (last_shown v).chat)
-          (one_some (then_ p) q _ refl now)
-          (sym (projected_chat (at_tick w) (awaiting (aged w) p)));
+      chat = grind (arith, nat_tests, one_some, projected_chat);
       drawn = λ q now. subst (λ (v : Player). IsDrawn land (at_tick w).things v.shown)
           (one_some (then_ p) q _ refl now) (record {
             world = at_tick w;
@@ -276,18 +232,7 @@ pub record Runs (land : Terrain) (k : ℕ) (w : World) (ps : List Sent) : Type 0
 
 shown_joining : (land : Terrain) (now_things : Things) (w : World) (k : ℕ) →
     IsShown land now_things (joining w k) []
-shown_joining land now_things w k = elim (is_crowded w) as
-    (λ b. IsShown land now_things
-    (if b then mark_closed (new_session k) causes.Crowded else new_session k) []) [
-      | true ↦ shown_shut land now_things (mark_closed (new_session k) causes.Crowded) [] refl refl
-      | false ↦ record {
-        has = refl;
-        playing = λ q there. absurd (some_none q None there refl);
-        chat = λ q there. absurd (some_none q None there refl);
-        drawn = λ q there. absurd (some_none q None there refl);
-        waiting = λ _ _. refl;
-      }
-    ]
+shown_joining land now_things w k = grind (arith, nat_tests)
 
 nothing_more : (ps qs : List Sent) → ps ≡ [] → qs ≡ [] → ps ++ qs ≡ []
 nothing_more ps qs e f = ap (λ (rs : List Sent). rs ++ qs) e ∙ f
@@ -298,12 +243,7 @@ runs_step land k w ps e r = record {
   orderly = orderly_step w e r.orderly;
   terrain = terrain_step w e ∙ r.terrain;
   things = things_step w e r.things;
-  nobody = λ new. elim (is_new k w.last) as (λ b. is_new k w.last ≡ b →
-      ps ++ to k (step w e).out ≡ []) [
-        | true ↦ λ was. nothing_more ps (to k (step w e).out) (r.nobody was)
-            (no_out k w e (r.orderly.fresh k was))
-        | false ↦ λ old. absurd (not_both (is_new k (step w e).world.last) new (old_step k w e old))
-      ] refl;
+  nobody = grind (arith, nat_tests, nothing_more, no_out, not_both, old_step);
   each = λ s there. shown_later land (drawn_things w e) (step w e).world.things s _
       (λ old t. after_drawn w e t) (each_step (IsShown land (drawn_things w e))
       (shown_kept land (drawn_things w e)) k w ps e r.orderly.apart
@@ -345,10 +285,8 @@ ticked_sees : (k : ℕ) (w : World) (s : Session) (q : Player) (o : Option Sessi
     s.player ≡ Some q →
     (p : Player) × (player_in k (at_tick w).sessions ≡ Some p)
     × (last_shown q ≡ project (at_tick w) p)
-ticked_sees k w s q None none there playing = elim (arrives k w ticked none) [
-  | away gone ↦ absurd (some_none s _ there gone)
-  | joins is new here ↦ absurd cc
-]
+ticked_sees k w s q None none there playing =
+    grind (arith, nat_tests, arrives, away, some_none, joins)
 ticked_sees k w s q (Some r) here there playing =
     let same = one_some (after_tick w r).session s _ (tick_found k w r here) there in
     let sees = flush_sees (at_tick w) (beat (aged w) r).session q
@@ -377,15 +315,7 @@ run_shows most cap terrain events k s p there playing =
     record {
       player = sees.0;
       plays = sees.1;
-      shows = record {
-        beat = ap (λ (r : Replica). r.sight.beat) all;
-        age = ap (λ (r : Replica). r.sight.age) all;
-        pairs = ap (λ (r : Replica). r.sight.pairs) all;
-        columns = ap (λ (r : Replica). r.sight.columns) all;
-        entities = ap (λ (r : Replica). r.sight.entities) all;
-        pack = ap (λ (r : Replica). r.sight.pack) all;
-        chat = ap (λ (r : Replica). r.sight.chat) all;
-      };
+      shows = grind (arith, nat_tests);
     }
 
 -- in every run a connection has a player exactly while it is in play

@@ -1,21 +1,20 @@
 -- The promise about what a lobby took and closed holds of turns one after another.
-use Rattle.std.proofs.Common.{◌≡◌, ◌≤◌, ℕ, ◌+◌, List, [], ◌∷◌, ◌++◌, refl, sym, subst, ap, ◌∙◌}
+use Rattle.std.proofs.Common.{◌≡◌, ◌≤◌, ℕ, ◌+◌, List, [], ◌∷◌, refl, subst, ap, ◌∙◌}
 use Rattle.std.proofs.Common.{arith}
-use Rattle.std.specs.Prelude.{◌⊎◌, ◌==◌, Bool, true, false, cond, Some, None}
-use Rattle.std.specs.List.{Contains, count_by}
+use Rattle.std.proofs.lemmas.Bool.Decides.{nat_tests}
+use Rattle.std.specs.Prelude.{Bool, true, false, cond, Some, None}
+use Rattle.std.specs.List.{count_by}
 use Rattle.std.proofs.lemmas.Bool.{eqb-true}
 use Rattle.std.proofs.lemmas.List.Sums.{sum_by-cons}
 use Rattle.mc_land.specs.declared.terrain.Terrain.{Terrain}
 use Rattle.mc_wire.specs.declared.log.LogEntry.{LogEntry}
-use Rattle.mc_wire.specs.declared.log.LogEntry.TheVariants.{Stalled, Closed}
+use Rattle.mc_wire.specs.declared.log.LogEntry.TheVariants.{Closed}
 use Rattle.mc_model.specs.World.{World, found, new_world}
-use Rattle.mc_model.specs.Step.{forgot, is_new}
-use Rattle.mc_model.specs.Run.{history, lost, owed_in, taken}
+use Rattle.mc_model.specs.Step.{is_new}
 use Rattle.mc_model.specs.Orderly.{Orderly}
-use Rattle.mc_model.specs.Log.{events_in, logged, log_of, puts}
+use Rattle.mc_model.specs.Log.{events_in, logged, log_of}
 use Rattle.mc_model.specs.Turns.{AreTurns}
 use Rattle.mc_model.specs.Serving.{HasPut, closes, Serves}
-use Rattle.mc_model.proofs.Sessions.{some_none}
 use Rattle.mc_model.proofs.RunEvents.{old_step}
 use Rattle.mc_model.proofs.RunOrder.{orderly_new, old_history}
 use Rattle.mc_model.proofs.CauseSound.{gone_for_good, there_old}
@@ -36,12 +35,7 @@ counted k entry log b is = sum_by-cons (λ (e : LogEntry). cond (closes k e) 1 0
 -- one that is not there is not closed
 nowhere_closes : (k : ℕ) (w : World) (entry : LogEntry) → IsRight w entry →
     found k w.sessions ≡ None → closes k entry ≡ false
-nowhere_closes k w (Closed j) right none = elim (j == k) as (λ b. (j == k) ≡ b → b ≡ false) [
-  | true ↦ λ own. absurd (some_none right.0 (found k w.sessions)
-      (subst (λ (n : ℕ). found n w.sessions ≡ Some right.0) (eqb-true j k own) right.1) none)
-  | false ↦ λ other. refl
-] refl
-nowhere_closes k w other right none = refl
+nowhere_closes k w entry right none = grind (arith, nat_tests)
 
 -- and stays away
 nowhere_counts : (k : ℕ) (log : List LogEntry) (w : World) → AreRight w log →
@@ -61,59 +55,36 @@ record IsAway (k : ℕ) (w : World) : Type 0 where
 
 own_closed : (k : ℕ) (w : World) → Orderly w → IsRight w (Closed k) →
     IsAway k (logged w (Closed k ∷ []))
-own_closed k w o right = record {
-  nowhere = forgot_done k w right.0 o right.1 right.2;
-  old = old_step k w (forgot k) (there_old k w right.0 o right.1);
-}
+own_closed k w o right = grind (arith, nat_tests, forgot_done, old_step, there_old)
 
 closed_away : (k : ℕ) (w : World) (entry : LogEntry) → Orderly w → IsRight w entry →
     closes k entry ≡ true → IsAway k (logged w (entry ∷ []))
-closed_away k w (Closed j) o right own =
-    subst (λ (n : ℕ). IsRight w (Closed n) → IsAway k (logged w (Closed n ∷ [])))
-    (sym (eqb-true j k own)) (λ closed. own_closed k w o closed) right
-closed_away k w other o right own = absurd cc
+closed_away k w entry o right own = grind (arith, nat_tests, eqb-true, own_closed k w o)
 
 closed_once : (k : ℕ) (log : List LogEntry) (w : World) → Orderly w → AreRight w log →
     count_by (closes k) log ≤ 1
 closed_once k [] w o right = omega arith
-closed_once k (entry ∷ log) w o right = elim (closes k entry) as (λ b. closes k entry ≡ b →
-    count_by (closes k) (entry ∷ log) ≤ 1) [
-      | true ↦ λ own.
-          let away = closed_away k w entry o right.0 own in
-          let later = nowhere_counts k log (logged w (entry ∷ [])) right.1 away.nowhere away.old in
-          let now = counted k entry log true own in
-          omega (arith, now, later)
-      | false ↦ λ other.
-          let later = closed_once k log (logged w (entry ∷ [])) (orderly_logged (entry ∷ []) w o)
-          right.1 in
-          let now = counted k entry log false other in
-          omega (arith, now, later)
-    ] refl
+closed_once k (entry ∷ log) w o right = grind (
+  arith,
+  closed_once k log (logged w (entry ∷ [])) (orderly_logged (entry ∷ []) w o) right.1,
+  closed_away k w entry o right.0,
+  nowhere_counts k log (logged w (entry ∷ [])) right.1,
+  counted k entry log true,
+)
 
 -- ---- all of it
 
 has_put : (most cap : ℕ) (terrain : Terrain) (log : List LogEntry) (k : ℕ) →
     AreRight (new_world most cap terrain) log → HasPut k (new_world most cap terrain) log
 has_put most cap terrain log k right =
-    let w = new_world most cap terrain in
-    let p = promised most cap terrain (events_in log) k in
-    let same : taken k w (events_in log) ≡ puts k log = sym (puts_taken k log w right) in
-    record {
-      begun = (p.begun.0, p.begun.1 ∙ ap (λ (o : List ℕ). o ++ p.begun.0) same);
-      whole = λ fine. p.whole fine ∙ ap (λ (o : List ℕ). o ++ (lost k w (events_in log)
-          ++ owed_in k (history w (events_in log)))) same;
-    }
+    grind (arith, nat_tests, promised most cap terrain (events_in log) k, puts_taken k log)
 
 pub serves : (most cap : ℕ) (terrain : Terrain) (turns : List (List LogEntry)) →
     AreTurns (new_world most cap terrain) turns → Serves most cap terrain turns
 serves most cap terrain turns are = record {
   put = λ log later k split. has_put most cap terrain log k
       (right_first log later w (subst (AreRight w) split right));
-  emptied = λ before turn later k split.
-      subst (λ (v : World). (owed_in k v ≡ []) ⊎ Contains turn (Stalled k))
-      (sym (logged_more w (log_of before) turn))
-      (turn_empties k (logged w (log_of before)) turn (orderly_logged (log_of before) w o)
-      (turn_at before turn later w (subst (AreTurns w) split are)));
+  emptied = grind (arith, nat_tests, logged_more, turn_empties, orderly_logged, turn_at);
   all_closed = λ before turn later k s split there.
       turn_closes k s (logged w (log_of before)) turn (orderly_logged (log_of before) w o)
       (turn_at before turn later w (subst (AreTurns w) split are))

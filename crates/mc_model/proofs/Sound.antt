@@ -1,8 +1,9 @@
 -- What holds of every world of a run, so that all that is handed out can be told; and that what is
 -- due at a tick is so.
-use Rattle.std.proofs.Common.{◌≡◌, ℕ, ◌≤◌, Bool, true, false, cond, List, [], ◌∷◌, ◌++◌, map}
-use Rattle.std.proofs.Common.{drop, length, refl, subst, ap, ◌∙◌, arith}
-use Rattle.std.specs.Prelude.{Option, Some, None, is_some, if◌then◌else◌, ◌==◌}
+use Rattle.std.proofs.Common.{◌≡◌, ℕ, ◌≤◌, Bool, true, false, List, [], ◌∷◌, ◌++◌, map}
+use Rattle.std.proofs.Common.{length, refl, subst, ap, ◌∙◌, arith}
+use Rattle.std.proofs.lemmas.Bool.Decides.{nat_tests}
+use Rattle.std.specs.Prelude.{Option, Some, None, is_some, if◌then◌else◌}
 use Rattle.std.specs.List.{AllByRecursion, cons_option, filter_map}
 use lib.IntN.{ℤ}
 use Rattle.mc_nbt.specs.Reading.{IsBytes}
@@ -22,7 +23,7 @@ use Rattle.mc_model.specs.Step.{is_new, level, opening, opening_due, notes_due, 
 use Rattle.mc_model.specs.Step.{noted_packets, notes_of}
 use Rattle.mc_model.specs.Orderly.{AreApart}
 use Rattle.mc_model.proofs.AllFacts.{all_dropped}
-use Rattle.mc_model.proofs.Sessions.{some_none, one_some}
+use Rattle.mc_model.proofs.Sessions.{some_none}
 use Rattle.mc_model.proofs.Decodes.{IsClear, Decodes}
 use Rattle.mc_model.proofs.FitsPlay.{join_clear, spawn_clear}
 use Rattle.mc_model.proofs.FitsChat.{LineFits}
@@ -119,25 +120,17 @@ pub record Sound (w : World) : Type 0 where
 pub all_found : (P : Session → Type 0) (k : ℕ) (ss : List Session) (s : Session) →
     AllByRecursion P ss → found k ss ≡ Some s → P s
 all_found P k [] s a e = absurd (some_none s None e refl)
-all_found P k (x ∷ xs) s a e = step (x.id == k) e (λ later. all_found P k xs s a.1 later)
-  where
-    step : (t : Bool) → cond t (Some x) (found k xs) ≡ Some s → (found k xs ≡ Some s → P s) → P s
-    step true here rest = subst P (one_some x s (Some x) refl here) a.0
-    step false later rest = rest later
+all_found P k (x ∷ xs) s a e = grind (arith, nat_tests, all_found P k xs s a.1)
 
 -- in a sound world all that was said to a player fits
 pub sound_heard : (w : World) (p : Player) → Sound w → PlayerFits p →
     AllByRecursion LineFits (heard_by w p)
-sound_heard w p sound f =
-    all_joined LineFits p.chat (drop p.since w.lines) f.chat
-    (all_dropped LineFits p.since w.lines sound.lines)
+sound_heard w p sound f = grind (arith, nat_tests, all_joined, all_dropped)
 
 -- and a projection does
 pub sound_sight : (w : World) (p : Player) → Sound w → PlayerFits p → SightFits (project w p)
 sound_sight w p sound f =
-    project_fits w p (kept w.sessions sound.fits)
-    (omega (arith, sound.few, sound.settings.few)) sound.settings.near sound.young
-    (sound_heard w p sound f) sound.things
+    grind (arith, project_fits w p, sound_heard w p sound f, kept w.sessions sound.fits)
   where
     one : (o : Option Player) (others : List Player) → AnyFits o → AllByRecursion NamedFits others →
         AllByRecursion NamedFits (cons_option o others)

@@ -1,6 +1,7 @@
 -- What a client decodes by the stage of its connection, and what can be handed to it there; o is
 -- the decoder that its handshake asked for.
-use Rattle.std.proofs.Common.{◌≡◌, ℕ, List, [], ◌∷◌, ◌++◌, refl, sym, subst, append_assoc}
+use Rattle.std.proofs.Common.{◌≡◌, ℕ, List, [], ◌∷◌, ◌++◌, refl, sym, subst, append_assoc, arith}
+use Rattle.std.proofs.lemmas.Bool.Decides.{nat_tests}
 use Rattle.std.specs.Prelude.{true, Option, Some, None}
 use Rattle.std.proofs.lemmas.List.{append-nil}
 use Rattle.mc_nbt.specs.Reading.{IsBytes}
@@ -58,33 +59,14 @@ decoded_by o decoder end packets is h = let P : Option Decoder → Type 0 =
 -- at each stage all is decoded
 pub at_decoded : (o : Option Decoder) (stage : Stage) (packets : List Sent) →
     DecodesAt o stage packets → AreDecoded o packets
-at_decoded o stages.Hand packets l = none_decoded o packets l
-at_decoded o stages.Status packets l = decoded_by o for_status for_status packets l.0 l.1
-at_decoded o stages.Login packets l = none_decoded o packets l.1
-at_decoded o stages.Asked packets l = none_decoded o packets l.1
-at_decoded o stages.Play packets l = decoded_by o for_login for_play packets l.0 l.1
-at_decoded o stages.Closed packets l = l
+at_decoded o stage packets l = grind (arith, nat_tests, none_decoded, decoded_by)
 
 -- more bytes of its client change nothing of what it decodes
 pub decodes_at_more : (bytes more : List ℕ) (stage : Stage) (packets : List Sent) → IsBytes bytes
     → DecodesAt (decoder_of bytes) stage packets →
     DecodesAt (decoder_of (bytes ++ more)) stage packets
-decodes_at_more bytes more stages.Hand packets fits l = l
-decodes_at_more bytes more stages.Status packets fits l =
-    (decoder_more bytes more for_status fits l.0, l.1)
-decodes_at_more bytes more stages.Login packets fits l =
-    (decoder_more bytes more for_login fits l.0, l.1)
-decodes_at_more bytes more stages.Asked packets fits l =
-    (decoder_more bytes more for_login fits l.0, l.1)
-decodes_at_more bytes more stages.Play packets fits l =
-    (decoder_more bytes more for_login fits l.0, l.1)
-decodes_at_more bytes more stages.Closed packets fits l = step (decoder_of bytes) refl l
-  where
-    step : (o : Option Decoder) → decoder_of bytes ≡ o → AreDecoded o packets →
-        AreDecoded (decoder_of (bytes ++ more)) packets
-    step None is none = none_decoded (decoder_of (bytes ++ more)) packets none
-    step (Some decoder) is h = decoded_by (decoder_of (bytes ++ more)) decoder h.0 packets
-        (decoder_more bytes more decoder fits is) h.1
+decodes_at_more bytes more stage packets fits l =
+    grind (arith, nat_tests, decoder_more, none_decoded, decoded_by)
 
 -- ---- nothing is handed out
 
@@ -94,23 +76,12 @@ hands_same o stage packets l = subst (DecodesAt o stage) (sym (append-nil packet
 
 -- when it is closed
 pub hands_shut : (o : Option Decoder) (stage : Stage) → Hands o stage stages.Closed []
-hands_shut o stage packets l = subst (AreDecoded o) (sym (append-nil packets))
-    (at_decoded o stage packets l)
+hands_shut o stage packets l = grind (arith, nat_tests, append-nil, at_decoded)
 
 -- when its client said what it wants
 pub hands_start : (o : Option Decoder) (stage : Stage) → IsFirst stage →
     o ≡ Some (decoder_for stage) → Hands o stages.Hand stage []
-hands_start o stage first is packets l =
-    let P : List Sent → Type 0 = λ ps. DecodesAt o stage (ps ++ []) in
-    subst P (sym l) (start stage first is)
-  where
-    start : (stage : Stage) → IsFirst stage → o ≡ Some (decoder_for stage) → DecodesAt o stage []
-    start stages.Hand f is = absurd f
-    start stages.Status f is = (is, refl)
-    start stages.Login f is = (is, refl)
-    start stages.Asked f is = absurd f
-    start stages.Play f is = absurd f
-    start stages.Closed f is = absurd f
+hands_start o stage first is packets l = grind (arith, nat_tests)
 
 -- some packets, and then others
 pub hands_onward : (o : Option Decoder) (a b c : Stage) (packets others : List Sent) →
@@ -126,17 +97,12 @@ hands_onward o a b c packets others first second earlier l =
 pub hands_status : (o : Option Decoder) (packet : StatusDown) →
     IsClear for_status (of_status packet)
     → Hands o stages.Status stages.Status (of_status packet ∷ [])
-hands_status o packet c earlier l = (
-  l.0,
-  decodes_more for_status for_status for_status earlier
-      (of_status packet ∷ []) l.1 (c, refl),
-)
+hands_status o packet c earlier l = grind (arith, nat_tests, decodes_more)
 
 -- the last answer
 pub hands_done : (o : Option Decoder) (packet : StatusDown) → IsClear for_status (of_status packet)
     → Hands o stages.Status stages.Closed (of_status packet ∷ [])
-hands_done o packet c earlier l = let more = hands_status o packet c earlier l in
-    decoded_by o for_status for_status _ more.0 more.1
+hands_done o packet c earlier l = grind (arith, nat_tests, hands_status, decoded_by)
 
 -- the first packets of a connection
 first_decodes : (decoder end : Decoder) (packets : List Sent) → Decodes decoder packets end →
@@ -160,8 +126,7 @@ hands_welcome o uuid name is earlier l = (
 first_words : (o : Option Decoder) (packets : List Sent) → Decodes for_login packets for_login →
     (earlier : List Sent)
     → (o ≡ Some for_login) × (earlier ≡ []) → AreDecoded o (earlier ++ packets)
-first_words o packets h earlier l = decoded_by o for_login for_login (earlier ++ packets) l.0
-    (first_decodes for_login for_login packets h earlier l.1)
+first_words o packets h earlier l = grind (arith, nat_tests, decoded_by, first_decodes)
 
 -- one that may not
 pub hands_refusal : (o : Option Decoder) (why : Refusal) →
@@ -188,8 +153,7 @@ play_text_decodes (Some text) s = (leave_clear (chat_json text) s, refl)
 last_words : (o : Option Decoder) (packets : List Sent) → Decodes for_play packets for_play →
     (earlier : List Sent)
     → (o ≡ Some for_login) × Decodes for_login earlier for_play → AreDecoded o (earlier ++ packets)
-last_words o packets h earlier l = decoded_by o for_login for_play (earlier ++ packets) l.0
-    (decodes_more for_login for_play for_play earlier packets l.1 h)
+last_words o packets h earlier l = grind (arith, nat_tests, decoded_by, decodes_more)
 
 -- at each stage
 pub hands_farewell : (o : Option Decoder) (stage : Stage) (cause : Cause) →
@@ -210,8 +174,4 @@ hands_farewell o stages.Closed cause = hands_shut o stages.Closed
 -- packets of play
 pub hands_play : (o : Option Decoder) (packets : List Sent) → Decodes for_play packets for_play →
     Hands o stages.Play stages.Play packets
-hands_play o packets h earlier l = (
-  l.0,
-  decodes_more for_login for_play for_play earlier packets
-      l.1 h,
-)
+hands_play o packets h earlier l = grind (arith, nat_tests, decodes_more)

@@ -1,6 +1,7 @@
 -- A tick keeps what was handed to a connection decoded.
 use Rattle.std.proofs.Common.{◌≡◌, ℕ, List, [], ◌++◌, map, refl, sym, subst, ap, ap₂, ◌∙◌}
 use Rattle.std.proofs.Common.{append_assoc, arith}
+use Rattle.std.proofs.lemmas.Bool.Decides.{nat_tests}
 use Rattle.std.specs.Prelude.{Option, Some, None, is_some, option_map, true}
 use Rattle.std.specs.List.{AllByRecursion}
 use Rattle.mc_model.specs.declared.cause.Cause.TheVariants as causes
@@ -74,13 +75,7 @@ handed_steps k w f things lines came earlier each fit heard sound kept =
 -- a player that is there after it was there before it
 beat_stays : (w : World) (s : Session) → is_some (beat w s).session.player ≡ true →
     is_some s.player ≡ true
-beat_stays w s = beat_cases w s (λ (h : Handing). is_some h.session.player ≡ true →
-    is_some s.player ≡ true)
-    (λ none plays. plays)
-    (λ p there speaks plays. ap (λ (o : Option Player). is_some o) there)
-    (λ p there quiet. hand_cases (mark_closed s causes.Silent) (farewell s.stage causes.Silent)
-    (λ (h : Handing). is_some h.session.player ≡ true → is_some s.player ≡ true)
-    (λ fits plays. absurd cc) (λ much plays. absurd cc))
+beat_stays w s = grind (arith, nat_tests)
 
 -- it keeps what can be told
 beat_fits : (w : World) (s : Session) → SessionFits s → SessionFits (beat w s).session
@@ -113,24 +108,15 @@ beat_waits w s = beat_cases w s (λ (h : Handing). StillWaits s h.session)
 
 -- all of it
 beats : (o : Option Decoder) (w : World) → HandsEach o (beat w)
-beats o w = record {
-  ids = beat_id w;
-  stays = beat_stays w;
-  waits = beat_waits w;
-  fits = beat_fits w;
-  hands = λ s f. beat_hands o w s;
-}
+beats o w =
+    grind (arith, nat_tests, beat_id w, beat_stays w, beat_waits w, beat_fits w, beat_hands o w)
 
 -- ---- what is due
 
 -- a player that is there after a flush was there before it
 flush_stays : (w : World) (s : Session) → is_some (flush w s).session.player ≡ true →
     is_some s.player ≡ true
-flush_stays w s = flush_cases w s (λ (h : Handing). is_some h.session.player ≡ true →
-    is_some s.player ≡ true)
-    (λ none plays. plays)
-    (λ p there fits plays. ap (λ (o : Option Player). is_some o) there)
-    (λ p there much plays. absurd cc)
+flush_stays w s = grind (arith, nat_tests)
 
 -- it keeps what can be told
 flush_fits : (w : World) (s : Session) → Sound w → SessionFits s → SessionFits (flush w s).session

@@ -1,6 +1,7 @@
 -- Handing out to a connection, closing it and letting its player in: what was handed to it is
 -- decoded, and the world stays sound.
 use Rattle.std.proofs.Common.{◌≡◌, ◌≢◌, ℕ, List, [], ◌++◌, refl, arith}
+use Rattle.std.proofs.lemmas.Bool.Decides.{nat_tests}
 use Rattle.std.specs.Prelude.{false, Option, Some, None, is_some}
 use Rattle.std.specs.List.{AllByRecursion}
 use Rattle.mc_model.specs.declared.cause.Cause.{Cause}
@@ -57,14 +58,8 @@ pub turn_kept : (o : Option Decoder) (k : ℕ) (w : World) (things : Things)
     ThingsFit things → AllByRecursion LineFits lines
     → TurnDecodes o (s.stage ≡ stages.Hand) s.rest k w s
     (still (record w { things = things; lines = lines }))
-turn_kept o k w things lines s sound e fit heard = record {
-  sound = sound_things w things lines sound fit heard;
-  beside = beside_same k w things lines;
-  session = s;
-  there = e;
-  hands = hands_same o s.stage;
-  waits = λ at. (at, refl);
-}
+turn_kept o k w things lines s sound e fit heard =
+    grind (arith, nat_tests, sound_things, beside_same, hands_same)
 
 -- nothing happens
 pub turn_still : (o : Option Decoder) (k : ℕ) (w : World) (s : Session) → Sound w →
@@ -140,13 +135,5 @@ turn_farewell o k w s cause sound e f =
 -- a player that enters can be told of
 pub entered_fits : (w : World) (s : Session) (name : List ℕ) → IsWelcome w name → SessionFits s →
     SessionFits (entered w s name)
-entered_fits w s name welcome f = record {
-  plays = refl;
-  player = record {
-    named = record { uuid = offline_small name; name = name_short name welcome.named };
-    eid = omega (arith, welcome.numbers);
-    chat = tt;
-    shown = nothing_fits;
-  };
-  rest = f.rest;
-}
+entered_fits w s name welcome f =
+    grind (arith, nat_tests, offline_small name, name_short name welcome.named, nothing_fits)

@@ -1,12 +1,14 @@
 -- Laws of turns: each entry of their log is right, and at the end of each one nobody is owed
 -- anything to whom no write stalled, and nobody is done.
 use Rattle.std.proofs.Common.{◌≡◌, ℕ, List, [], ◌∷◌, ◌++◌, map, inl, inr, refl, sym, subst, ap, ◌∙◌}
+use Rattle.std.proofs.Common.{arith}
+use Rattle.std.proofs.lemmas.Bool.Decides.{nat_tests}
 use Rattle.std.specs.Prelude.{◌⊎◌, true, false, Some}
 use Rattle.std.specs.List.{Contains}
 use Rattle.std.proofs.lemmas.List.Elements.{Contains-append_left, Contains-append_right}
 use Rattle.mc_wire.specs.declared.log.LogEntry.{LogEntry}
-use Rattle.mc_wire.specs.declared.log.LogEntry.TheVariants.{Joined, Came, Left, Ticked, Put}
-use Rattle.mc_wire.specs.declared.log.LogEntry.TheVariants.{Stalled, Broke, Closed}
+use Rattle.mc_wire.specs.declared.log.LogEntry.TheVariants.{Came}
+use Rattle.mc_wire.specs.declared.log.LogEntry.TheVariants.{Stalled, Closed}
 use Rattle.mc_model.specs.World.{World, Session, found}
 use Rattle.mc_model.specs.Step.{Event, came, is_done}
 use Rattle.mc_model.specs.Run.{AreBytes, owed_in}
@@ -20,17 +22,10 @@ use Rattle.mc_model.proofs.Forgetting.{closed_owed, closed_left, done_among, clo
 -- ---- what happens and is written
 
 happened_right : (w : World) (entry : LogEntry) → Happens entry → IsRight w entry
-happened_right w (Joined k) happens = tt
-happened_right w (Came k bytes) happens = tt
-happened_right w (Left k) happens = tt
-happened_right w Ticked happens = tt
-happened_right w other happens = absurd happens
+happened_right w entry happens = grind (arith, nat_tests)
 
 written_right : (w : World) (entry : LogEntry) → IsWrite w entry → IsRight w entry
-written_right w (Put k bytes) is = is.2
-written_right w (Stalled k) is = tt
-written_right w (Broke k) is = tt
-written_right w other is = absurd is
+written_right w entry is = grind (arith, nat_tests)
 
 writes_right : (writes : List LogEntry) (w : World) → AreWrites w writes → AreRight w writes
 writes_right [] w are = tt
@@ -45,8 +40,7 @@ written w turn t = logged w (t.event ∷ t.writes)
 
 turn_ends : (w : World) (turn : List LogEntry) (t : IsTurn w turn) →
     logged w turn ≡ logged (written w turn t) (map Closed (done_in (written w turn t)))
-turn_ends w turn t = ap (λ (log : List LogEntry). logged w log) t.parts
-    ∙ logged_more w (t.event ∷ t.writes) (map Closed (done_in (written w turn t)))
+turn_ends w turn t = grind (arith, nat_tests, logged_more)
 
 turn_right : (w : World) (turn : List LogEntry) → Orderly w → IsTurn w turn → AreRight w turn
 turn_right w turn o t =
@@ -98,8 +92,7 @@ pub turn_at : (before : List (List LogEntry)) (turn : List LogEntry)
     IsTurn (logged w (log_of before)) turn
 turn_at [] turn later w are = are.0
 turn_at (first ∷ before) turn later w are =
-    subst (λ (v : World). IsTurn v turn) (sym (logged_more w first (log_of before)))
-    (turn_at before turn later (logged w first) are.1)
+    grind (arith, nat_tests, turn_at before turn later (logged w first) are.1, logged_more)
 
 -- ---- what comes in turns is bytes
 
@@ -112,8 +105,7 @@ bytes_behind (other ∷ events) later first second = bytes_behind events later f
 
 pub logs_behind : (log later : List LogEntry) → AreBytes (events_in log) →
     AreBytes (events_in later) → AreBytes (events_in (log ++ later))
-logs_behind log later first second = subst AreBytes (sym (events_more log later))
-    (bytes_behind (events_in log) (events_in later) first second)
+logs_behind log later first second = grind (arith, nat_tests, events_more, bytes_behind)
 
 happened_bytes : (entry : LogEntry) → Happens entry → AreBytes (events_of entry)
 happened_bytes (Came k bytes) happens = (happens.1, tt)
@@ -127,8 +119,7 @@ writes_bytes : (writes : List LogEntry) (w : World) → AreWrites w writes →
     AreBytes (events_in writes)
 writes_bytes [] w are = tt
 writes_bytes (write ∷ writes) w are =
-    bytes_behind (events_of write) (events_in writes) (written_bytes w write are.0)
-    (writes_bytes writes (logged w (write ∷ [])) are.1)
+    grind (arith, nat_tests, writes_bytes writes (logged w (write ∷ [])) are.1)
 
 closings_bytes : (ks : List ℕ) → AreBytes (events_in (map Closed ks))
 closings_bytes [] = tt

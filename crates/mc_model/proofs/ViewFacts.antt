@@ -1,6 +1,7 @@
 -- The columns of a view are those near its middle.
 use Rattle.std.proofs.Common.{◌≡◌, ℕ, ◌+◌, ◌*◌, ◌<◌, ◌≤◌, true, unsigned_abs, List, [], ◌∷◌, map}
-use Rattle.std.proofs.Common.{get_or, refl, sym, subst, ap, ◌∙◌, arith, inl, inr}
+use Rattle.std.proofs.Common.{get_or, refl, sym, subst, ap, arith, inl, inr}
+use Rattle.std.proofs.lemmas.Bool.Decides.{nat_tests}
 use Rattle.std.specs.List.{Contains, flat_map, range_with_len}
 use Rattle.std.proofs.lemmas.List.Elements.{Contains-append_left, Contains-append_right}
 use Rattle.std.proofs.lemmas.List.Elements.{Contains-append_cases}
@@ -64,17 +65,11 @@ joined_from f (y ∷ ys) z held = elim (Contains-append_cases (f y) (flat_map f 
 
 -- a range from 0 holds what is below its length
 range_holds : (n i : ℕ) → i < n → Contains (range_with_len 0 n) i
-range_holds n i lt = (
-  i,
-  omega (arith, lt, length-range_with_len 0 n),
-  get_or-range_with_len 0 n i i
-      lt ∙ omega arith,
-)
+range_holds n i lt =
+    grind (arith, nat_tests, length-range_with_len 0 n, get_or-range_with_len 0 n i i lt)
 
 range_below : (n i : ℕ) → Contains (range_with_len 0 n) i → i < n
-range_below n i (k, lt, is) =
-    let short : k < n = omega (arith, lt, length-range_with_len 0 n) in
-    omega (arith, short, sym is ∙ get_or-range_with_len 0 n k i short)
+range_below n i (k, lt, is) = grind (arith, nat_tests, length-range_with_len, get_or-range_with_len)
 
 -- a run of 2 d + 1 numbers from d below another on holds those that are at most d off
 run_near : (middle x : ℤ) (d : ℕ) → Contains (run_of (middle -ℤ pos d) (2 * d + 1)) x →

@@ -1,5 +1,6 @@
 -- All laws of a run in one.
-use Rattle.std.proofs.Common.{◌≡◌, ◌≢◌, ℕ, List, [], ◌∷◌, ◌++◌, subst}
+use Rattle.std.proofs.Common.{◌≡◌, ◌≢◌, ℕ, List, [], ◌∷◌, ◌++◌, subst, arith}
+use Rattle.std.proofs.lemmas.Bool.Decides.{nat_tests}
 use Rattle.std.specs.Prelude.{Some}
 use Rattle.mc_land.specs.declared.terrain.Terrain.{Terrain}
 use Rattle.mc_model.specs.Replica.{new_replica, replay}
@@ -8,7 +9,7 @@ use Rattle.mc_model.specs.World.{AreSettings, Session, Player, found, new_world}
 use Rattle.mc_model.specs.Packets.{Sent, played}
 use Rattle.mc_model.specs.Decoding.{IsDecoded, decoder_of}
 use Rattle.mc_model.specs.Step.{Event, joined, came, left, broke, ticked, took, forgot, at_tick}
-use Rattle.mc_model.specs.Run.{AreBytes, handed, history, received, stream}
+use Rattle.mc_model.specs.Run.{AreBytes, history, received, stream}
 use Rattle.mc_model.specs.Headline.{Between, ClosedForACause, Closing, Headline, LoggingIn}
 use Rattle.mc_model.specs.Headline.{ShowsWorld}
 use Rattle.mc_model.proofs.RunOrder.{orderly_run}
@@ -47,8 +48,7 @@ closing most cap terrain events e =
 pub closed_for_a_cause : (most cap : ℕ) (terrain : Terrain) (events : List Event) →
     ClosedForACause (history (new_world most cap terrain) events)
 closed_for_a_cause most cap terrain events k s there =
-    let sound = (sound_run most cap terrain events).each k s there in
-    (closed_cause s sound, λ kept. cause_closed s sound kept.0 kept.1)
+    grind (arith, nat_tests, sound_run most cap terrain events, closed_cause s, cause_closed s)
 
 -- between two ticks of a run
 pub run_between : (most cap : ℕ) (terrain : Terrain) (events : List Event) (e : Event) (k : ℕ)
@@ -80,14 +80,12 @@ pub decoded_shows : (most cap : ℕ) (terrain : Terrain) (events : List Event) (
     (stream k (new_world most cap terrain) (events ++ ticked ∷ [])) packets
     → ShowsWorld (at_tick (history (new_world most cap terrain) events)) k
     (replay new_replica (played packets))
-decoded_shows most cap terrain events k s p packets settings are there playing decoded =
-    let w = new_world most cap terrain in
-    let log = events ++ ticked ∷ [] in
-    let P : List Sent → Type 0 = λ ps. ShowsWorld (at_tick (history w events)) k
-    (replay new_replica (played ps)) in
-    subst P (one_decoded (decoder_of (received k w log)) (stream k w log) (handed k w log) packets
-    (stream_decoded most cap terrain log k settings are) decoded)
-    (run_shows most cap terrain events k s p there playing)
+decoded_shows most cap terrain events k s p packets settings are there playing decoded = grind (
+  arith,
+  one_decoded,
+  stream_decoded most cap terrain,
+  run_shows most cap terrain events k s p there playing,
+)
 
 pub headline : (most cap : ℕ) (terrain : Terrain) (log : List Event) → AreSettings most cap →
     AreBytes log → Headline most cap terrain log

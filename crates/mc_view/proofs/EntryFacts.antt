@@ -2,6 +2,7 @@
 use Rattle.std.proofs.Common.{◌≡◌, ℕ, zero, suc, ◌<◌, ◌≤◌, Bool, true, false, ◌&&◌, T, List, []}
 use Rattle.std.proofs.Common.{◌∷◌, length, get_or, Result, Ok, Err, IfOk, IfErr, refl, sym, subst}
 use Rattle.std.proofs.Common.{ap, ◌∙◌, arith, inl, inr, ◌⊎◌}
+use Rattle.std.proofs.lemmas.Bool.Decides.{nat_tests}
 use Rattle.std.specs.List.Sorted.{IsSearchInRange, IsBinarySearchResult, IsNonDecreasingBy}
 use Rattle.std.specs.declared.cmp.Ordering.{Ordering}
 use Rattle.std.specs.declared.cmp.Ordering.TheVariants.{Less, Equal, Greater}
@@ -26,9 +27,7 @@ second true b h = h
 second false b h = absurd h
 
 pub less : (r : Ordering) → T (is_lt r) → r ≡ Less
-less Less h = refl
-less Equal h = absurd h
-less Greater h = absurd h
+less r h = grind (arith, nat_tests)
 
 pub above : (x y : ℤ) → int_cmp x y ≡ Less → int_cmp y x ≡ Greater
 above x y e = int_cmp_total.antisymm y x ∙ ap ordering_reverse e
@@ -57,45 +56,24 @@ rising_at (e ∷ es) r (suc i) (suc j) d lt within =
     rising_at es (second _ _ r) i j d (omega (arith, lt)) (omega (arith, within))
 
 at_most_two : (r : Ordering) → ordering_index r ≤ 2
-at_most_two Less = omega arith
-at_most_two Equal = omega arith
-at_most_two Greater = omega arith
+at_most_two r = grind (arith, nat_tests)
 
 index_rises : (a b eid : ℤ) →
     int_cmp a b ≡ Less → ordering_index (int_cmp a eid) ≤ ordering_index (int_cmp b eid)
-index_rises a b eid lt =
-    elim (int_cmp b eid)
-    as (λ r. int_cmp b eid ≡ r → ordering_index (int_cmp a eid) ≤ ordering_index r) [
-      | Less ↦ λ e. subst (λ r. ordering_index r ≤ 0) (sym (int_cmp_total.trans a b eid lt e))
-          (omega arith)
-      | Equal ↦ λ e. subst (λ r. ordering_index r ≤ 1)
-          (sym (ap (int_cmp a) (sym (int_ranked b eid Equal (sym e))) ∙ lt)) (omega arith)
-      | Greater ↦ λ e. at_most_two (int_cmp a eid)
-    ] refl
+index_rises a b eid lt = grind (arith, nat_tests)
 
 index_same : (es : List Entry) (eid : ℤ) (i j : ℕ) (d : Entry) → i ≡ j →
     ordering_index (int_cmp (get_or es i d).eid eid) ≤
     ordering_index (int_cmp (get_or es j d).eid eid)
-index_same es eid i j d e =
-    subst (λ (k : ℕ). ordering_index (int_cmp (get_or es i d).eid eid)
-    ≤ ordering_index (int_cmp (get_or es k d).eid eid)) e (omega arith)
+index_same es eid i j d e = grind (arith, nat_tests)
 
 cases_le : (i j : ℕ) → i ≤ j → (i < j) ⊎ (i ≡ j)
-cases_le zero zero le = inr refl
-cases_le zero (suc j) le = inl (omega arith)
-cases_le (suc i) zero le = absurd (omega (arith, le))
-cases_le (suc i) (suc j) le = elim (cases_le i j (omega (arith, le))) [
-  | inl lt ↦ inl (omega (arith, lt))
-  | inr e ↦ inr (ap suc e)
-]
+cases_le i j le = grind (arith, nat_tests)
 
 searchable : (es : List Entry) (eid : ℤ) →
     IsRising es → IsNonDecreasingBy (λ e. ordering_index (int_cmp e.eid eid)) es
-searchable es eid r i j d le within = elim (cases_le i j le) [
-  | inl lt ↦
-      index_rises (get_or es i d).eid (get_or es j d).eid eid (rising_at es r i j d lt within)
-  | inr e ↦ index_same es eid i j d e
-]
+searchable es eid r i j d le within =
+    grind (arith, nat_tests, cases_le, index_rises, rising_at, index_same)
 
 pub record IsSearched (es : List Entry) (eid : ℤ) (r : Result ℕ ℕ) : Type 0 where
   pub found : IfOk r (IsAt es eid)
@@ -104,20 +82,4 @@ pub record IsSearched (es : List Entry) (eid : ℤ) (r : Result ℕ ℕ) : Type 
 pub searched : (es : List Entry) (eid : ℤ) (r : Result ℕ ℕ) →
     IsRising es → IsSearchInRange r (length es) →
     IsBinarySearchResult (λ e. int_cmp e.eid eid) es r → IsSearched es eid r
-searched es eid (Ok i) rising within is = record {
-  found = record {
-    within = within;
-    named = λ d. int_ranked (get_or es i d).eid eid Equal (sym (is d));
-  };
-  absent = tt;
-}
-searched es eid (Err i) rising within parted =
-    let parts = parted (searchable es eid rising) in
-    record {
-      found = tt;
-      absent = record {
-        within = within;
-        lower = λ j d lt. parts.0 j d (omega (arith, within, lt)) lt;
-        higher = λ j d le lt. parts.1 j d le lt;
-      };
-    }
+searched es eid r rising within is = grind (arith, nat_tests, int_ranked, searchable es eid rising)

@@ -1,6 +1,7 @@
 -- Which form a change has, by the differences that were found.
 use Rattle.std.proofs.Common.{◌≡◌, Bool, true, false, cond, not, ◌&&◌, Some, None, refl, sym, ap}
-use Rattle.std.proofs.Common.{◌∙◌}
+use Rattle.std.proofs.Common.{◌∙◌, arith}
+use Rattle.std.proofs.lemmas.Bool.Decides.{nat_tests}
 use Rattle.std.specs.Option.{unwrap_or}
 use lib.IntN.{ℤ}
 use Rattle.mc_view.specs.declared.forms.Form.{Form}
@@ -16,9 +17,7 @@ second_false true t u e = ap (λ k. k && u) e
 second_false false t u e = refl
 
 third_false : (s t u : Bool) → u ≡ false → (s && t && u) ≡ false
-third_false true true u e = e
-third_false true false u e = refl
-third_false false t u e = refl
+third_false s t u e = grind (arith, nat_tests)
 
 -- ---- what is there sometimes
 
@@ -38,33 +37,20 @@ was_same false a x e = absurd cc
 
 pub bytes_there : (a b c x y z : ℤ) → byte_between a ≡ Some x →
     byte_between b ≡ Some y → byte_between c ≡ Some z → bytes_between a b c ≡ Some (x, y, z)
-bytes_there a b c x y z e f g =
-    ap (λ t. cond t (Some (a, b, c)) None)
-    (all_true (is_byte a) (is_byte b) (is_byte c)
-    (was_true (is_byte a) a x e) (was_true (is_byte b) b y f) (was_true (is_byte c) c z g))
-    ∙ (λ i. Some (
-      was_same (is_byte a) a x e i,
-      was_same (is_byte b) b y f i,
-      was_same (is_byte c) c z g i,
-    ))
+bytes_there a b c x y z e f g = grind (arith, nat_tests)
 
 pub second_gone : (a b c : ℤ) → byte_between b ≡ None → bytes_between a b c ≡ None
-second_gone a b c e =
-    ap (λ t. cond t (Some (a, b, c)) None)
-    (second_false (is_byte a) (is_byte b) (is_byte c) (was_false (is_byte b) b e))
+second_gone a b c e = grind (arith, nat_tests)
 
 pub third_gone : (a b c : ℤ) → byte_between c ≡ None → bytes_between a b c ≡ None
-third_gone a b c e =
-    ap (λ t. cond t (Some (a, b, c)) None)
-    (third_false (is_byte a) (is_byte b) (is_byte c) (was_false (is_byte c) c e))
+third_gone a b c e = grind (arith, nat_tests)
 
 -- ---- forms
 
 pub form_there : (a b c x y z : ℤ) (turned : Bool) →
     bytes_between a b c ≡ Some (x, y, z) → form_by x y z turned ≡ form_by a b c turned
 form_there a b c x y z turned e =
-    ap (λ (step : ℤ × ℤ × ℤ). form_by step.0 step.1 step.2 turned)
-    (sym (was_same (are_bytes a b c) (a, b, c) (x, y, z) e))
+    grind (arith, nat_tests, was_same (are_bytes a b c) (a, b, c) (x, y, z) e)
 
 jumps : (zero : Bool) (f g : Form) → cond (zero && false) f (cond (not false) Jump g) ≡ Jump
 jumps true f g = refl
@@ -72,8 +58,4 @@ jumps false f g = refl
 
 pub form_gone : (a b c : ℤ) (turned : Bool) →
     bytes_between a b c ≡ None → form_by a b c turned ≡ Jump
-form_gone a b c turned e =
-    ap (λ fits. cond (not (are_zero a b c) && fits) (cond turned (StepTurn a b c) (Step a b c))
-    (cond (not fits) Jump (cond turned Turn Still))) (was_false (are_bytes a b c) (a, b, c) e)
-    ∙ jumps (not (are_zero a b c))
-    (cond turned (StepTurn a b c) (Step a b c)) (cond turned Turn Still)
+form_gone a b c turned e = grind (arith, nat_tests)

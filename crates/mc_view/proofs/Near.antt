@@ -1,5 +1,6 @@
 -- Near on both axes.
-use Rattle.std.proofs.Common.{◌≡◌, ℕ, ◌≤◌, Bool, true, false, ◌&&◌, refl}
+use Rattle.std.proofs.Common.{◌≡◌, ℕ, ◌≤◌, Bool, true, false, ◌&&◌, refl, arith}
+use Rattle.std.proofs.lemmas.Bool.Decides.{nat_tests}
 use Rattle.std.specs.Prelude.{nat_le}
 use Rattle.std.proofs.lemmas.Bool.{le-leb, leb-true}
 
@@ -12,9 +13,7 @@ true_both true b e f = f
 true_both false b e f = absurd cc
 
 pub near_both : (x z d : ℕ) → (nat_le x d && nat_le z d) ≡ true → (x ≤ d) × (z ≤ d)
-near_both x z d t =
-    let parts = both_true (nat_le x d) (nat_le z d) t in
-    (leb-true x d parts.0, leb-true z d parts.1)
+near_both x z d t = grind (arith, nat_tests)
 
 pub both_near : (x z d : ℕ) → x ≤ d → z ≤ d → (nat_le x d && nat_le z d) ≡ true
 both_near x z d p q = true_both (nat_le x d) (nat_le z d) (le-leb x d p) (le-leb z d q)

@@ -3,6 +3,7 @@ use Rattle.std.proofs.Common.{Result, Ok, Err, IfOk, IfErr, IfSome, is_ok, slice
 use Rattle.std.proofs.Common.{suc, ◌<◌, ◌≤◌, Bool, true, false, cond, not, T, List, [], ◌∷◌}
 use Rattle.std.proofs.Common.{map as listed, length, get_or, set, Option, Some, None, is_some, refl}
 use Rattle.std.proofs.Common.{sym, subst, ap, ◌∙◌, arith}
+use Rattle.std.proofs.lemmas.Bool.Decides.{nat_tests}
 use Rattle.std.specs.List.{insert, remove}
 use Rattle.std.specs.declared.cmp.Ordering.{Ordering}
 use Rattle.std.specs.declared.cmp.Ordering.TheVariants.{Less, Equal, Greater}
@@ -36,10 +37,7 @@ gap_tail e es eid i gap = record {
 -- one that stands later has a higher number than the first
 later : (e : Entry) (es : List Entry) (eid : ℤ) (i : ℕ) →
     IsRising (e ∷ es) → IsAt (e ∷ es) eid (suc i) → int_cmp eid e.eid ≡ Greater
-later e es eid i r is =
-    above e.eid eid
-    (subst (λ (k : ℤ). int_cmp e.eid k ≡ Less) (is.named e)
-    (rising_at (e ∷ es) r 0 (suc i) e (omega arith) is.within))
+later e es eid i r is = grind (arith, nat_tests, above e.eid eid, rising_at (e ∷ es) r 0 (suc i) e)
 
 -- ---- an entry put
 
@@ -81,9 +79,7 @@ put_at (e ∷ es) (suc i) new r is =
 pub find_at : (es : List Entry) (eid : ℤ) (i : ℕ) (d : Entry) → IsRising es → IsAt es eid i →
     find int_cmp eid (pairs_of es) ≡ Some ((get_or es i d).spot, (get_or es i d).pile)
 find_at [] eid i d r is = absurd (omega (arith, is.within))
-find_at (e ∷ es) eid zero d r is =
-    ap (λ (r : Ordering). cond (is_eq r) (Some (e.spot, e.pile)) (find int_cmp eid (pairs_of es)))
-    (same e.eid eid (is.named e))
+find_at (e ∷ es) eid zero d r is = grind (arith, nat_tests, same e.eid eid (is.named e))
 find_at (e ∷ es) eid (suc i) d r is =
     ap (λ (r : Ordering). cond (is_eq r) (Some (e.spot, e.pile)) (find int_cmp eid (pairs_of es)))
     (later e es eid i r is)
@@ -113,11 +109,7 @@ other eid k = not (eq_by_cmp int_cmp eid k)
 all_other : (eid : ℤ) (es : List Entry) → T (below_all int_cmp eid (pairs_of es)) →
     where_key int_cmp (other eid) (pairs_of es) ≡ pairs_of es
 all_other eid [] h = refl
-all_other eid (e ∷ es) h =
-    ap (λ (r : Ordering). cond (not (is_eq r))
-    (pair_of e ∷ where_key int_cmp (other eid) (pairs_of es))
-    (where_key int_cmp (other eid) (pairs_of es))) (less _ (first _ _ h))
-    ∙ ap (λ (ps : List Pair). pair_of e ∷ ps) (all_other eid es (second _ _ h))
+all_other eid (e ∷ es) h = grind (arith, nat_tests, all_other eid es)
 
 pub where_at : (es : List Entry) (eid : ℤ) (i : ℕ) → IsRising es →
     IsAt es eid i → where_key int_cmp (other eid) (pairs_of es) ≡ pairs_of (remove es i)
@@ -156,9 +148,7 @@ has_gap es eid i r gap = ap is_some (got_gap es eid i r gap)
 
 put_rises : (es fs : List Entry) (eid : ℤ) (v : Spot × Pile) →
     IsRising es → put int_cmp eid v (pairs_of es) ≡ pairs_of fs → IsRising fs
-put_rises es fs eid v r is =
-    subst (λ (ps : List Pair). T (is_sorted int_cmp ps)) is
-    (is_sorted-put int_cmp int_cmp_total eid v (pairs_of es) r)
+put_rises es fs eid v r is = grind (arith, nat_tests, is_sorted-put, int_cmp_total)
 
 put_told : (es fs : List Entry) (eid : ℤ) (v : Spot × Pile) → IsRising es →
     put int_cmp eid v (pairs_of es) ≡ pairs_of fs → told_of fs ≡ map.insert (told_of es) eid v
@@ -170,23 +160,19 @@ put_told es fs eid v r is =
 
 pub rises_insert : (es : List Entry) (i : ℕ) (new : Entry) →
     IsRising es → IsGap es new.eid i → IsRising (insert es i new)
-rises_insert es i new r gap =
-    put_rises es (insert es i new) new.eid (new.spot, new.pile) r (put_gap es i new gap)
+rises_insert es i new r gap = grind (arith, nat_tests, put_rises, put_gap)
 
 pub told_insert : (es : List Entry) (i : ℕ) (new : Entry) → IsRising es → IsGap es new.eid i →
     told_of (insert es i new) ≡ map.insert (told_of es) new.eid (new.spot, new.pile)
-told_insert es i new r gap =
-    put_told es (insert es i new) new.eid (new.spot, new.pile) r (put_gap es i new gap)
+told_insert es i new r gap = grind (arith, nat_tests, put_told, put_gap)
 
 pub rises_set : (es : List Entry) (i : ℕ) (new : Entry) →
     IsRising es → IsAt es new.eid i → IsRising (set es i new)
-rises_set es i new r is =
-    put_rises es (set es i new) new.eid (new.spot, new.pile) r (put_at es i new r is)
+rises_set es i new r is = grind (arith, nat_tests, put_rises, put_at)
 
 pub told_set : (es : List Entry) (i : ℕ) (new : Entry) → IsRising es → IsAt es new.eid i →
     told_of (set es i new) ≡ map.insert (told_of es) new.eid (new.spot, new.pile)
-told_set es i new r is =
-    put_told es (set es i new) new.eid (new.spot, new.pile) r (put_at es i new r is)
+told_set es i new r is = grind (arith, nat_tests, put_told, put_at)
 
 pub rises_remove : (es : List Entry) (eid : ℤ) (i : ℕ) →
     IsRising es → IsAt es eid i → IsRising (remove es i)
@@ -196,19 +182,10 @@ rises_remove es eid i r is =
 
 turned : {A : Type 0} (r : Ordering) (s : Ordering) (x y : A) →
     is_eq r ≡ is_eq s → cond (not (is_eq r)) x y ≡ cond (is_eq s) y x
-turned r s x y e = ap (λ b. cond (not b) x y) e ∙ flip (is_eq s) x y
-  where
-    flip : {A : Type 0} (b : Bool) (x y : A) → cond (not b) x y ≡ cond b y x
-    flip true x y = refl
-    flip false x y = refl
+turned r s x y e = grind (arith, nat_tests)
 
 mirrored : (x y : ℤ) → is_eq (int_cmp x y) ≡ is_eq (int_cmp y x)
-mirrored x y = ap is_eq (int_cmp_total.antisymm x y) ∙ reversed (int_cmp y x)
-  where
-    reversed : (r : Ordering) → is_eq (ordering_reverse r) ≡ is_eq r
-    reversed Less = refl
-    reversed Equal = refl
-    reversed Greater = refl
+mirrored x y = grind (arith, nat_tests)
 
 pub told_remove : (es : List Entry) (eid : ℤ) (i : ℕ) →
     IsRising es → IsAt es eid i → told_of (remove es i) ≡ map.remove (told_of es) eid
@@ -251,13 +228,11 @@ known_by es eid (Err i) r is gap = sym (has_gap es eid i r gap)
 -- a known number has no gap, and one that is not known no place
 pub no_gap : (es : List Entry) (eid : ℤ) (i : ℕ) →
     IsRising es → contains_key (told_of es) eid ≡ true → ¬ IsGap es eid i
-no_gap es eid i r known gap =
-    (let clash : true ≡ false = sym known ∙ has_gap es eid i r gap in absurd cc)
+no_gap es eid i r known gap = grind (arith, nat_tests, has_gap es eid i r gap)
 
 pub no_place : (es : List Entry) (eid : ℤ) (i : ℕ) →
     IsRising es → contains_key (told_of es) eid ≡ false → ¬ IsAt es eid i
-no_place es eid i r new is =
-    (let clash : true ≡ false = sym (has_at es eid i r is) ∙ new in absurd cc)
+no_place es eid i r new is = grind (arith, nat_tests, has_at es eid i r is)
 
 -- ---- the i-th number
 

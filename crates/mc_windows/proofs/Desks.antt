@@ -2,6 +2,7 @@
 -- items there are.
 use Rattle.std.proofs.Common.{◌≡◌, ℕ, ◌+◌, ◌<◌, ◌==◌, Bool, true, false, nat_lt, List, [], length}
 use Rattle.std.proofs.Common.{slice_set, Option, Some, None, is_some, refl, ap, arith}
+use Rattle.std.proofs.lemmas.Bool.Decides.{nat_tests}
 use Rattle.std.specs.List.{sum_by}
 use Rattle.std.proofs.lemmas.List.{get_or-set_other, length-set}
 use Rattle.std.proofs.lemmas.List.Sums.{sum_by-set}
@@ -21,13 +22,11 @@ use Rattle.mc_windows.specs.Moves.{at, is_here, same_place, stock, write}
 pub piles_with : (sort : Sort) (piles : List Pile) (i : ℕ) (pile : Pile)
     → nat_lt i (length piles) ≡ true → in_piles sort (slice_set piles i pile) + held sort
     (pile_at piles i) ≡ in_piles sort piles + held sort pile
-piles_with sort piles i pile here = sum_by-set (held sort) piles i pile Empty
-    (ltb-true i (length piles) here)
+piles_with sort piles i pile here = grind (arith, nat_tests, sum_by-set, ltb-true)
 
 other_pile : (piles : List Pile) (i j : ℕ) (pile : Pile) → (i == j) ≡ false
     → pile_at (slice_set piles i pile) j ≡ pile_at piles j
-other_pile piles i j pile other = get_or-set_other piles i j pile Empty
-    (λ e. eqb-false i j other (cc))
+other_pile piles i j pile other = grind (arith, nat_tests, get_or-set_other, eqb-false)
 
 -- the number of items with a pile at a place is what it was, without the pile that was there
 stock_chested : (sort : Sort) (pack : PackValue) (chest : Option (List Pile)) (floor : Pile)
@@ -35,20 +34,12 @@ stock_chested : (sort : Sort) (pack : PackValue) (chest : Option (List Pile)) (f
     → (let desk : Desk = record { pack = pack; chest = chest; floor = floor }
     in is_here desk (Chested i) ≡ true → stock sort (write desk (Chested i) pile) + held sort
     (at desk (Chested i)) ≡ stock sort desk + held sort pile)
-stock_chested sort pack None floor i pile here =
-    absurd (let no : i < 0 = ltb-true i 0 here in omega arith)
-stock_chested sort pack (Some piles) floor i pile here =
-    omega (arith, piles_with sort piles i pile here)
+stock_chested sort pack chest floor i pile here = grind (arith, nat_tests, ltb-true, piles_with)
 
 pub stock_with : (sort : Sort) (desk : Desk) (place : Place) (pile : Pile)
     → is_here desk place ≡ true → stock sort (write desk place pile) + held sort (at desk place)
     ≡ stock sort desk + held sort pile
-stock_with sort desk Cursor pile here = omega arith
-stock_with sort desk Floor pile here = omega arith
-stock_with sort desk (Chested i) pile here = stock_chested sort desk.pack desk.chest desk.floor i
-    pile here
-stock_with sort desk (Packed i) pile here =
-    omega (arith, piles_with sort desk.pack.slots i pile here)
+stock_with sort desk place pile here = grind (arith, nat_tests, stock_chested, piles_with)
 
 -- another place holds what it held
 at_chested : (chest : Option (List Pile)) (i j : ℕ) (pile : Pile) (pack : PackValue) (floor : Pile)
@@ -59,23 +50,7 @@ at_chested (Some piles) i j pile pack floor other = other_pile piles i j pile ot
 
 pub at_other : (desk : Desk) (place there : Place) (pile : Pile) → same_place place there ≡ false
     → at (write desk place pile) there ≡ at desk there
-at_other desk Cursor Cursor pile other = absurd (cc)
-at_other desk Cursor Floor pile other = refl
-at_other desk Cursor (Chested j) pile other = refl
-at_other desk Cursor (Packed j) pile other = refl
-at_other desk Floor Cursor pile other = refl
-at_other desk Floor Floor pile other = absurd (cc)
-at_other desk Floor (Chested j) pile other = refl
-at_other desk Floor (Packed j) pile other = refl
-at_other desk (Chested i) Cursor pile other = refl
-at_other desk (Chested i) Floor pile other = refl
-at_other desk (Chested i)
-    (Chested j) pile other = at_chested desk.chest i j pile desk.pack desk.floor other
-at_other desk (Chested i) (Packed j) pile other = refl
-at_other desk (Packed i) Cursor pile other = refl
-at_other desk (Packed i) Floor pile other = refl
-at_other desk (Packed i) (Chested j) pile other = refl
-at_other desk (Packed i) (Packed j) pile other = other_pile desk.pack.slots i j pile other
+at_other desk place there pile other = grind (arith, nat_tests, at_chested, other_pile)
 
 -- the places stay
 here_chested : (chest : Option (List Pile)) (i j : ℕ) (pile : Pile) (pack : PackValue)
@@ -86,16 +61,7 @@ here_chested (Some piles) i j pile pack floor = ap (nat_lt j) (length-set piles 
 
 pub here_still : (desk : Desk) (place there : Place) (pile : Pile)
     → is_here (write desk place pile) there ≡ is_here desk there
-here_still desk place Cursor pile = refl
-here_still desk place Floor pile = refl
-here_still desk Cursor (Chested j) pile = refl
-here_still desk Floor (Chested j) pile = refl
-here_still desk (Chested i) (Chested j) pile = here_chested desk.chest i j pile desk.pack desk.floor
-here_still desk (Packed i) (Chested j) pile = refl
-here_still desk Cursor (Packed j) pile = refl
-here_still desk Floor (Packed j) pile = refl
-here_still desk (Chested i) (Packed j) pile = refl
-here_still desk (Packed i) (Packed j) pile = ap (nat_lt j) (length-set desk.pack.slots i pile)
+here_still desk place there pile = grind (arith, nat_tests, here_chested, length-set)
 
 -- a chest neither comes nor goes
 shown_by : (chest : Option (List Pile)) (i : ℕ) (pile : Pile) (pack : PackValue) (floor : Pile)
@@ -106,7 +72,4 @@ shown_by (Some piles) i pile pack floor = refl
 
 pub shown_still : (desk : Desk) (place : Place) (pile : Pile)
     → is_some (write desk place pile).chest ≡ is_some desk.chest
-shown_still desk Cursor pile = refl
-shown_still desk Floor pile = refl
-shown_still desk (Chested i) pile = shown_by desk.chest i pile desk.pack desk.floor
-shown_still desk (Packed i) pile = refl
+shown_still desk place pile = grind (arith, nat_tests)

@@ -2,7 +2,7 @@
 use Rattle.std.proofs.Common.{◌≡◌, ℕ, ◌+◌, ◌-◌, ◌≤◌, Bool, true, false, min, refl, arith}
 use Rattle.std.proofs.Common.{if◌then◌else◌}
 use Rattle.std.proofs.lemmas.Bool.{and_parts}
-use Rattle.std.proofs.lemmas.Bool.Decides.{Decides-int_eq}
+use Rattle.std.proofs.lemmas.Bool.Decides.{Decides-int_eq, nat_tests}
 use Rattle.mc_slots.specs.declared.pile.Item.{Item}
 use Rattle.mc_slots.specs.declared.pile.Pile.{Pile}
 use Rattle.mc_slots.specs.declared.pile.Pile.TheVariants.{Empty, Full}
@@ -16,11 +16,7 @@ use Rattle.mc_windows.specs.Moves.{effect, poured, sort_of}
 
 -- items of one sort have the same id and damage
 pub alike : (a b : Item) → is_sort (sort_of a) b ≡ true → IsAlike b a
-alike a b one =
-    let both = and_parts (int_eq a.id b.id) (int_eq a.damage b.damage) one in
-    let ids : a.id ≡ b.id = (Decides-int_eq a.id b.id).0 both.0 in
-    let damages : a.damage ≡ b.damage = (Decides-int_eq a.damage b.damage).0 both.1 in
-    record { id = cc; damage = cc }
+alike a b one = grind (arith, nat_tests)
 
 put_keeps : (sort : Sort) (n : ℕ) (from : Pile)
     → held sort (without from (min n (count_of from))) + held sort

@@ -1,6 +1,7 @@
 -- The first pack holds piles of the world.
 use Rattle.std.proofs.Common.{◌≡◌, ℕ, zero, suc, ◌≤◌, List, [], ◌∷◌, ◌++◌, replicate, refl, arith}
 use Rattle.std.proofs.Common.{lit≤}
+use Rattle.std.proofs.lemmas.Bool.Decides.{nat_tests}
 use Rattle.std.proofs.lemmas.Int.{ints}
 use Rattle.mc_slots.specs.declared.pile.Pile.{Pile}
 use Rattle.mc_slots.specs.declared.pile.Pile.TheVariants.{Empty, Full}
@@ -25,11 +26,7 @@ at_empties (suc n) piles rest = at_cons Empty (replicate n Empty ++ piles) tt
 
 -- so many of an item of damage 0 are a pile
 is_pile : (id count : ℕ) → 1 ≤ id → id ≤ 255 → 1 ≤ count → count ≤ 64 → IsPile (some_of id count)
-is_pile id count low high some few = record {
-  id = (omega (arith, ints, low), omega (arith, ints, high));
-  damage = (omega (arith, ints), omega (arith, ints));
-  count = (some, few);
-}
+is_pile id count low high some few = grind (arith, nat_tests)
 
 pub kit_is_pack : IsPack kit_pack.slots kit_pack.cursor
 kit_is_pack = record {

@@ -2,6 +2,7 @@
 use Rattle.std.proofs.Common.{◌≡◌, ℕ, ◌+◌, Bool, true, false, not, ◌&&◌, List, [], ◌∷◌, Option}
 use Rattle.std.proofs.Common.{Some, None, is_some, Result, Ok, Err, refl, arith, ◌∙◌, ap, sym}
 use Rattle.std.proofs.Common.{if◌then◌else◌}
+use Rattle.std.proofs.lemmas.Bool.Decides.{nat_tests}
 use Rattle.std.specs.Option.{unwrap_or}
 use Rattle.std.proofs.lemmas.Bool.{and_parts}
 use lib.IntN.{ℤ}
@@ -37,21 +38,12 @@ put_both : (sort : Sort) (desk : Desk) (from to : Place) (left filled : Pile)
     → held sort left + held sort filled ≡ held sort (at desk from) + held sort (at desk to)
     → stock sort (write (write desk from left) to filled) ≡ stock sort desk
 put_both sort desk from to left filled here there apart whole =
-    let one = stock_with sort desk from left here in
-    let two = stock_with sort (write desk from left) to filled
-    (here_still desk from to left ∙ there) in
-    omega (arith, one, rw (at_other desk from to left apart) at two, whole)
+    grind (arith, nat_tests, stock_with, here_still, at_other)
 
 exchanged_keeps : (sort : Sort) (step : Move) (desk : Desk) → is_possible desk step.from step.to
     ≡ true → stock sort (exchanged step desk) ≡ stock sort desk
 exchanged_keeps sort step desk possible =
-    let here = and_parts (is_here desk step.from)
-    (is_here desk step.to && not (same_place step.from step.to)) possible in
-    let there = and_parts (is_here desk step.to) (not (same_place step.from step.to)) here.1 in
-    put_both sort desk step.from step.to (effect step.how (at desk step.from) (at desk step.to)).0
-    (effect step.how (at desk step.from) (at desk step.to)).1
-    here.0 there.0 (other (same_place step.from step.to) there.1)
-    (effect_keeps sort step.how (at desk step.from) (at desk step.to))
+    grind (arith, nat_tests, and_parts, put_both, other, effect_keeps)
 
 made_if : (sort : Sort) (step : Move) (desk : Desk) (possible : Bool)
     → (possible ≡ true → is_possible desk step.from step.to ≡ true)
@@ -75,12 +67,7 @@ run_keeps sort (step ∷ steps) desk = run_keeps sort steps (made step desk)
 
 shown_if : (step : Move) (desk : Desk) (possible : Bool) → is_some
     (if possible then exchanged step desk else desk).chest ≡ is_some desk.chest
-shown_if step desk true =
-    shown_still (write desk step.from
-    (effect step.how (at desk step.from) (at desk step.to)).0) step.to
-    (effect step.how (at desk step.from) (at desk step.to)).1
-    ∙ shown_still desk step.from (effect step.how (at desk step.from) (at desk step.to)).0
-shown_if step desk false = refl
+shown_if step desk possible = grind (arith, nat_tests)
 
 shown_made : (step : Move) (desk : Desk) → is_some (made step desk).chest ≡ is_some desk.chest
 unfolding made
@@ -98,14 +85,7 @@ shown_run (step ∷ steps) desk = shown_run steps (made step desk) ∙ shown_mad
 worked_cases : (P : Result Desk Why → Type 0) (desk : Desk) (room : Bool) (came : Result Row Why)
     → ((row : Row) → P (Ok (run (plan desk row) desk))) → ((why : Why) → P (Err why))
     → P (worked desk room came)
-worked_cases P desk room (Err why) done refused = refused why
-worked_cases P desk room (Ok row) done refused =
-    refuse_cases (not room && not (is_empty (run (plan desk row) desk).floor))
-    (run (plan desk row) desk) (done row)
-  where
-    refuse_cases : (fails : Bool) (end : Desk) → P (Ok end) → P (refuse fails NoRoomToDrop (Ok end))
-    refuse_cases true end is = refused NoRoomToDrop
-    refuse_cases false end is = is
+worked_cases P desk room came done refused = grind (arith, nat_tests)
 
 refused_keeps : (sort : Sort) (pack : PackValue) (number : ℤ) (why : Why)
     → in_pack sort (refused_pack pack number why) ≡ in_pack sort pack
@@ -148,9 +128,7 @@ pub refusal : (pack : PackValue) (chest : Option (List Pile)) (number : ℤ) (ca
     (why : Why) → answer_of came ≡ Refused why
     → (pack_after pack number came ≡ refused_pack pack number why) ×
     (chest_after chest came ≡ chest)
-refusal pack chest number (Ok end) why e = absurd (cc)
-refusal pack chest number (Err cause) why e = let same : cause ≡ why =
-    cc in (ap (refused_pack pack number) same, refl)
+refusal pack chest number came why e = grind (arith, nat_tests)
 
 -- what a click left holds what there was
 pub kept_by : (sort : Sort) (pack : PackValue) (chest : Option (List Pile)) (click : Click)
@@ -167,9 +145,7 @@ kept_by sort pack chest click room number after left answer a l d = rw (a, l, d)
 pub beside_left : (pack : PackValue) (chest new : List Pile) (click : Click) (room : Bool)
     (end : Desk) → outcome pack (Some chest) click room ≡ Ok end → new ≡ unwrap_or end.chest chest
     → Some new ≡ chest_after (Some chest) (outcome pack (Some chest) click room)
-beside_left pack chest new click room end came is =
-    let stays : is_some end.chest ≡ true = rw came at (chest_stays pack (Some chest) click room) in
-    rw (came, is) (some_left end.chest chest stays)
+beside_left pack chest new click room end came is = grind (arith, nat_tests, chest_stays, some_left)
 
 -- without a chest none is left
 pub none_stays : (pack : PackValue) (click : Click) (room : Bool)

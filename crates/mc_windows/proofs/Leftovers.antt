@@ -3,6 +3,7 @@
 use Rattle.std.proofs.Common.{◌≡◌, ℕ, zero, suc, ◌+◌, ◌-◌, ◌≤◌, Bool, true, false, min, List}
 use Rattle.std.proofs.Common.{Option, Some, None, is_some, refl, arith, sym, subst, ap, ◌∙◌}
 use Rattle.std.proofs.Common.{if◌then◌else◌}
+use Rattle.std.proofs.lemmas.Bool.Decides.{nat_tests}
 use Rattle.mc_slots.specs.declared.pile.Item.{Item}
 use Rattle.mc_slots.specs.declared.pile.Pile.{Pile}
 use Rattle.mc_slots.specs.declared.pile.Pile.TheVariants.{Empty, Full}
@@ -45,19 +46,11 @@ without_some item (Full some) n is = part_of item some (some.count - n) is.0 (om
 
 poured_some : (item from onto : Item) (n : ℕ) (one : Bool) → IsSomeOf item (Full from)
     → IsSomeOf item (if one then poured n from onto else (Full from, Full onto)).0
-poured_some item from onto n true is = without_some item (Full from)
-    (min (min n (most - onto.count)) from.count) is
-poured_some item from onto n false is = is
+poured_some item from onto n one is = grind (arith, nat_tests)
 
 effect_some : (item : Item) (how : How) (from to : Pile) → takes how ≡ true → IsSomeOf item from
     → IsSomeOf item (effect how from to).0
-effect_some item (Put n) from Empty e is = without_some item from (min n (count_of from)) is
-effect_some item (Put n) from (Full onto) e is = is
-effect_some item (Merge n) Empty to e is = is
-effect_some item (Merge n) (Full from) Empty e is = is
-effect_some item (Merge n) (Full from) (Full onto) e is = poured_some item from onto n
-    (is_sort (sort_of from) onto) is
-effect_some item Swap from to e is = absurd (cc)
+effect_some item how from to e is = grind (arith, nat_tests)
 
 made_some : (item : Item) (how : How) (k : ℕ) (desk : Desk) → takes how ≡ true
     → IsSomeOf item desk.floor → IsSomeOf item (made (move how Floor (Packed k)) desk).floor
@@ -98,9 +91,7 @@ stored_some pack item =
 -- some of an item is told by how many it is
 full_is : (item some : Item) (n : ℕ) → some.count ≡ n → 1 ≤ n → IsAlike some item
     → Full some ≡ pile_of item n
-full_is item some zero e many alike = absurd (omega arith)
-full_is item some (suc n) e many alike = λ i. Full
-    (record { id = alike.id i; damage = alike.damage i; count = e i })
+full_is item some n e many alike = grind (arith, nat_tests)
 
 pub some_is : (item : Item) (pile : Pile) → IsSomeOf item pile → IsPile pile
     → pile ≡ pile_of item (count_of pile)
