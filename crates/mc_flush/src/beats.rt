@@ -6,7 +6,7 @@ ghost use Rattle.mc_flush.specs.Sending.{play_bytes};
 ghost use Rattle.mc_flush.specs.Seeing.{age_now, age_packets, beat_now};
 
 use crate::Mark;
-use crate::frames::put_packet;
+use crate::frames::put_made;
 use mc_down::Down;
 use mc_model::{beat_at, shown_age, time_of_day};
 use mc_nbt::NoMemory;
@@ -21,8 +21,7 @@ fn put_beat(mark: &Mark, age: u64, out: &mut Vec<u8>) -> Result<(), NoMemory>
     if mark.was_told(beat) {
         return Ok(());
     }
-    put_packet(&Down::KeepAlive(beat), out)?;
-    Ok(())
+    put_made(Down::KeepAlive(beat), out)
 }
 
 /// Appends the frame of the age and the time of day, unless that age was told last.
@@ -35,8 +34,7 @@ fn put_time(mark: &Mark, age: u64, out: &mut Vec<u8>) -> Result<(), NoMemory>
     if mark.was_told_age(shown) {
         return Ok(());
     }
-    put_packet(&Down::Time(shown, time_of_day(shown)), out)?;
-    Ok(())
+    put_made(Down::Time(shown, time_of_day(shown)), out)
 }
 
 /// Appends the frames of the beat and of the age, each unless it was told last.

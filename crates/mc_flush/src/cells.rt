@@ -9,7 +9,7 @@ ghost use Rattle.mc_flush.specs.Sending.{play_bytes};
 ghost use Rattle.mc_flush.specs.Encoding.{change_bytes};
 ghost use Rattle.mc_flush.specs.Cells.{AreCells, IsCell, indices, states_at};
 
-use crate::frames::put_packet;
+use crate::frames::put_made;
 use bytes::Bytes;
 use mc_down::{Down, Record, Records};
 use mc_fields::Cell;
@@ -101,7 +101,7 @@ fn put_change<L: Ledger>(
     ensures cost { steps.new ≡ steps.old + 1 }
 {
     let state = state_at(land, place, index, steps);
-    put_packet(&Down::Change(cell_at(place, index), i32::from(state)), out)?;
+    put_made(Down::Change(cell_at(place, index), i32::from(state)), out)?;
     Ok(())
 }
 
@@ -122,7 +122,7 @@ fn put_changes<L: Ledger>(
     ensures bounded { steps.new ≤ steps.old + length touched.now }
 {
     let records = records_of(*out.allocator(), land, place, touched, steps)?;
-    put_packet(&Down::MultiChange(place.0, place.1, records), out)?;
+    put_made(Down::MultiChange(place.0, place.1, records), out)?;
     Ok(())
 }
 

@@ -9,7 +9,7 @@ ghost use Rattle.mc_flush.specs.Sending.{play_bytes};
 ghost use Rattle.mc_flush.specs.Seeing.{IsReady, unload_packets};
 ghost use Rattle.mc_flush.specs.Encoding.{load_bytes};
 
-use crate::frames::put_packet;
+use crate::frames::put_made;
 use bytes::Bytes;
 use mc_column::Column;
 use mc_down::Down;
@@ -104,8 +104,7 @@ fn put_unload(place: &(i32, i32), out: &mut Vec<u8>) -> Result<(), NoMemory>
     ensures { OnOk result (out.new.items
         ≡ out.old.items ++ frame_of (of_play (unload place.now))) }
 {
-    put_packet(&unload(*out.allocator(), place), out)?;
-    Ok(())
+    put_made(unload(*out.allocator(), place), out)
 }
 
 /// Appends the frames that take columns away.

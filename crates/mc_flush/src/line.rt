@@ -3,7 +3,7 @@ ghost use Rattle.mc_model.specs.Delta.{chat_packet};
 ghost use Rattle.mc_flush.specs.Sending.{IsClear, play_bytes};
 ghost use Rattle.mc_flush.specs.Seeing.{line_packets};
 
-use crate::frames::put_packet;
+use crate::frames::put_made;
 use bytes::Bytes;
 use mc_down::Down;
 use mc_nbt::{NoMemory, Text};
@@ -37,7 +37,7 @@ impl Line {
     {
         let said = text.copy()?.into_string();
         let mut bytes = Vec::new(*said.allocator());
-        put_packet(&Down::Chat(Text::from_string(said), 0), &mut bytes)?;
+        put_made(Down::Chat(Text::from_string(said), 0), &mut bytes)?;
         Ok(Line {
             text,
             frame: Bytes::from_vec(bytes)?,

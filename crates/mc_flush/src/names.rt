@@ -10,7 +10,7 @@ ghost use Rattle.mc_flush.specs.Players.{with_other};
 ghost use Rattle.mc_flush.specs.Sending.{play_bytes, AreClear};
 ghost use Rattle.mc_flush.specs.Seeing.{IsNamed};
 
-use crate::frames::put_packet;
+use crate::frames::put_made;
 use indexmap::IndexMap;
 use mc_down::{Down, Player, PlayerChange, Players, Properties};
 use mc_nbt::{NoMemory, Text};
@@ -92,8 +92,7 @@ fn put_leavers(players: Players, out: &mut Vec<u8>) -> Result<(), NoMemory>
     if players.as_slice().is_empty() {
         return Ok(());
     }
-    put_packet(&Down::List(4, players), out)?;
-    Ok(())
+    put_made(Down::List(4, players), out)
 }
 
 /// Appends the frame about players that join, and none about nobody.
@@ -105,8 +104,7 @@ fn put_joiners(players: Players, out: &mut Vec<u8>) -> Result<(), NoMemory>
     if players.as_slice().is_empty() {
         return Ok(());
     }
-    put_packet(&Down::List(0, players), out)?;
-    Ok(())
+    put_made(Down::List(0, players), out)
 }
 
 impl Names {
@@ -160,8 +158,7 @@ impl Names {
             ++ play_bytes (about (pos 4) (map leaver self.now.found.entries))) }
     {
         let players = self.leavers(alloc)?;
-        put_leavers(players, out)?;
-        Ok(())
+        put_leavers(players, out)
     }
 
     /// Appends what is sent of them as those who came.
@@ -172,7 +169,6 @@ impl Names {
             ++ play_bytes (about (pos 0) (map joiner self.now.found.entries))) }
     {
         let players = self.joiners(alloc)?;
-        put_joiners(players, out)?;
-        Ok(())
+        put_joiners(players, out)
     }
 }

@@ -8,7 +8,7 @@ ghost use Rattle.mc_model.specs.Things.{state_of_cell};
 ghost use Rattle.mc_flush.specs.Encoding.{looks_at, noted_cost};
 ghost use Rattle.mc_flush.specs.Sending.{play_bytes};
 
-use crate::frames::put_packet;
+use crate::frames::put_made;
 use bytes::Bytes;
 use mc_down::Down;
 use mc_fields::Cell;
@@ -62,8 +62,7 @@ fn put_noted<L: Ledger>(
         return Ok(());
     }
     let state = state_of(land, cell, steps);
-    put_packet(&Down::Change(*cell, i32::from(state)), out)?;
-    Ok(())
+    put_made(Down::Change(*cell, i32::from(state)), out)
 }
 
 /// The frames of the noted cells that are sent, as one piece. It looks at those that have a state

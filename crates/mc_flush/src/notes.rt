@@ -7,7 +7,7 @@ ghost use Rattle.mc_slots.specs.declared.slot.Slot.TheVariants as slots;
 ghost use Rattle.mc_model.specs.Step.{notes_of, placing};
 ghost use Rattle.mc_flush.specs.Sending.{IsClear, play_bytes};
 
-use crate::frames::put_packet;
+use crate::frames::put_made;
 use mc_down::{Down, Slots};
 use mc_fields::{Spot, degrees, pattern};
 use mc_model::Notes;
@@ -63,7 +63,7 @@ fn put_window(pack: &Pack, out: &mut Vec<u8>) -> Result<(), NoMemory>
 {
     let mut items = slots_before(*out.allocator())?;
     push_piles(&pack.slots, &mut items)?;
-    put_packet(&Down::WindowItems(0, items), out)?;
+    put_made(Down::WindowItems(0, items), out)?;
     Ok(())
 }
 
@@ -72,8 +72,7 @@ fn put_cursor(pack: &Pack, out: &mut Vec<u8>) -> Result<(), NoMemory>
     ensures { OnOk result (out.new.items ≡ out.old.items ++ play_bytes
         (down.SetSlot (negsuc 0) (negsuc 0) (slot_of pack.now.cursor) ∷ [])) }
 {
-    put_packet(&Down::SetSlot(-1, -1, pack.cursor.slot()), out)?;
-    Ok(())
+    put_made(Down::SetSlot(-1, -1, pack.cursor.slot()), out)
 }
 
 /// Appends what was noted for a client: its player's place, and the window that it is shown.
@@ -87,7 +86,7 @@ pub fn put_notes(
         ≡ out.old.items ++ play_bytes (notes_of notes.now place.now pack.now)) }
 {
     if notes.placing() {
-        put_packet(&placing_packet(place), out)?;
+        put_made(placing_packet(place), out)?;
     }
     if notes.resend() {
         put_window(pack, out)?;

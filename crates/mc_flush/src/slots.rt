@@ -7,7 +7,7 @@ ghost use Rattle.mc_model.specs.Delta.{slot_packets};
 ghost use Rattle.mc_flush.specs.Sending.{play_bytes};
 ghost use Rattle.mc_flush.specs.Seeing.{pack_packets};
 
-use crate::frames::put_packet;
+use crate::frames::put_made;
 use mc_down::Down;
 use mc_nbt::NoMemory;
 use mc_slots::Pile;
@@ -25,8 +25,7 @@ fn put_slot(at: usize, old: &Pile, new: &Pile, out: &mut Vec<u8>) -> Result<(), 
     if *old == *new {
         return Ok(());
     }
-    put_packet(&Down::SetSlot(0, at as i16, new.slot()), out)?;
-    Ok(())
+    put_made(Down::SetSlot(0, at as i16, new.slot()), out)
 }
 
 /// Appends the frames of the places of a pack whose piles differ from those that were shown.

@@ -9,8 +9,8 @@ use Rattle.mc_model.proofs.FitsBeats.{beat_clear, beat_fits}
 use Rattle.mc_flush.specs.Sending.{IsClear}
 use Rattle.mc_flush.proofs.beats.put_beat.Goals as goal
 
-pub put_packet-requires : goal.put_packet-requires
-put_packet-requires c =
+pub put_made-requires : goal.put_made-requires
+put_made-requires c =
     let beat = c.beat_at-beat.result in
     let fits = beat_fits c.args.age c.requires in
     let value : to_z w32 (of_z w32 beat) ≡ pos (beat_at c.args.age) =

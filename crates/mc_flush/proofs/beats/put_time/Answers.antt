@@ -9,8 +9,8 @@ use Rattle.mc_model.proofs.FitsBeats.{shown_age_fits, time_clear}
 use Rattle.mc_flush.specs.Sending.{IsClear}
 use Rattle.mc_flush.proofs.beats.put_time.Goals as goal
 
-pub put_packet-requires : goal.put_packet-requires
-put_packet-requires c =
+pub put_made-requires : goal.put_made-requires
+put_made-requires c =
     let age = pos (shown_age c.args.age) in
     let fits = shown_age_fits c.args.age c.requires in
     let shown : to_z w64 (of_z w64 c.shown_age-shown.result) ≡ age =

@@ -13,8 +13,8 @@ use Rattle.mc_flush.proofs.Pieces.{play_bytes-one}
 use Rattle.mc_flush.proofs.Touched.{number_state, touched_clear}
 use Rattle.mc_flush.proofs.cells.put_change.Goals as goal
 
-pub put_packet-requires : goal.put_packet-requires
-put_packet-requires g c =
+pub put_made-requires : goal.put_made-requires
+put_made-requires g c =
     let states = states_at c.args.land.now c.args.place.now in
     let n : to_z w32 (of_z w32 c.from.result) ≡ pos (slice_index states c.args.index) =
     number_state c.from.result c.state_at-state.result (slice_index states c.args.index) (omega
@@ -34,7 +34,7 @@ returns-clause-sent g c =
     let value : Change c.cell_at.result (to_z w32 (of_z w32 c.from.result))
     ≡ Change (cell_at c.args.place.now c.args.index) (pos (slice_index states c.args.index)) =
     λ i. Change (c.cell_at.ensures i) (n i) in
-    c.in_ok-put_packet.ensures.ok
+    c.in_ok-put_made.ensures.ok
     ∙ ap (λ (d : Down). c.args.out.now.items ++ frame_of (of_play d)) value
     ∙ ap (λ t. c.args.out.now.items ++ t) (play_bytes-one
     (Change (cell_at c.args.place.now c.args.index) (pos (slice_index states c.args.index))))

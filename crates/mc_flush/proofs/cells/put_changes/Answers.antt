@@ -14,8 +14,8 @@ use Rattle.mc_flush.proofs.Pieces.{play_bytes-one}
 use Rattle.mc_flush.proofs.Touched.{several_packets, touched_clear}
 use Rattle.mc_flush.proofs.cells.put_changes.Goals as goal
 
-pub put_packet-requires : goal.put_packet-requires
-put_packet-requires g c =
+pub put_made-requires : goal.put_made-requires
+put_made-requires g c =
     let place = c.args.place.now in
     let states = states_at c.args.land.now place in
     let is = indices c.args.touched.now in
@@ -38,7 +38,7 @@ returns-clause-sent g c =
     length-map c.args.touched.now (λ (t : Touched). t.index) in
     let x = to_z-of_z w32 place.0 (search rules) in
     let z = to_z-of_z w32 place.1 (search rules) in
-    c.in_ok-put_packet.ensures.ok
+    c.in_ok-put_made.ensures.ok
     ∙ ap (λ (d : Down). c.args.out.now.items ++ frame_of (of_play d))
     (λ i. MultiChange (x i) (z i) (c.in_ok-records.ensures.records i))
     ∙ ap (λ t. c.args.out.now.items ++ t)

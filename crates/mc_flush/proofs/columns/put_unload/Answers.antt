@@ -3,6 +3,6 @@ use Rattle.mc_flush.specs.Sending.{IsClear}
 use Rattle.mc_flush.proofs.Loads.{unload_fits}
 use Rattle.mc_flush.proofs.columns.put_unload.Goals as goal
 
-pub put_packet-requires : goal.put_packet-requires
-put_packet-requires c = subst IsClear (sym c.unload.ensures) (unload_fits c.args.place.now
+pub put_made-requires : goal.put_made-requires
+put_made-requires c = subst IsClear (sym c.unload.ensures) (unload_fits c.args.place.now
     c.requires)

@@ -9,8 +9,8 @@ use Rattle.mc_flush.specs.Sending.{IsClear}
 use Rattle.mc_flush.proofs.Touched.{number_state}
 use Rattle.mc_flush.proofs.noted.put_noted.Goals as goal
 
-pub put_packet-requires : goal.put_packet-requires
-put_packet-requires g c =
+pub put_made-requires : goal.put_made-requires
+put_made-requires g c =
     let land = c.args.land.now in
     let cell = c.args.cell.now in
     let state = state_of_cell land.terrain land.edits cell.x cell.y cell.z in

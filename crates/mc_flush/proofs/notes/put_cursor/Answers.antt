@@ -8,8 +8,8 @@ use Rattle.mc_model.proofs.FitsSlots.{set_slot_clear}
 use Rattle.mc_flush.specs.Sending.{IsClear}
 use Rattle.mc_flush.proofs.notes.put_cursor.Goals as goal
 
-pub put_packet-requires : goal.put_packet-requires
-put_packet-requires c =
+pub put_made-requires : goal.put_made-requires
+put_made-requires c =
     let pack : PackValue = c.args.pack.now in
     let is : IsPack pack.slots pack.cursor =
     subst (λ (p : PackValue). IsPack p.slots p.cursor) c.pack.view_is c.pack.invariant in

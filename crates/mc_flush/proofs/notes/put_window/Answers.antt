@@ -11,8 +11,8 @@ use Rattle.mc_flush.specs.Sending.{IsClear}
 use Rattle.mc_flush.proofs.Pieces.{play_bytes-one}
 use Rattle.mc_flush.proofs.notes.put_window.Goals as goal
 
-pub put_packet-requires : goal.put_packet-requires
-put_packet-requires c =
+pub put_made-requires : goal.put_made-requires
+put_made-requires c =
     let pack : PackValue = c.args.pack.now in
     let items : c.push_piles.new.items ≡ replicate 9 slots.Empty ++ map slot_of pack.slots =
     c.in_ok-push_piles.ensures ∙ (λ i. c.in_ok-items.ensures i
@@ -27,7 +27,7 @@ returns c =
     let items : c.push_piles.new.items ≡ replicate 9 slots.Empty ++ map slot_of pack.slots =
     c.in_ok-push_piles.ensures ∙ (λ i. c.in_ok-items.ensures i
     ++ map slot_of (c.pack.view_is i).slots) in
-    c.in_ok-put_packet.ensures.ok
+    c.in_ok-put_made.ensures.ok
     ∙ ap (λ (all : List Slot). c.args.out.now.items ++ frame_of (of_play (WindowItems 0 all))) items
     ∙ ap (λ t. c.args.out.now.items ++ t)
     (play_bytes-one (WindowItems 0 (replicate 9 slots.Empty ++ map slot_of pack.slots)))

@@ -9,8 +9,8 @@ use Rattle.mc_model.proofs.FitsSlots.{set_slot_clear}
 use Rattle.mc_flush.specs.Sending.{IsClear}
 use Rattle.mc_flush.proofs.slots.put_slot.Goals as goal
 
-pub put_packet-requires : goal.put_packet-requires
-put_packet-requires c =
+pub put_made-requires : goal.put_made-requires
+put_made-requires c =
     let at = c.args.at in
     let new = c.args.new.now in
     let n : to_z w16 at ≡ pos at = to_z_pos w16 at (omega (arith, c.requires.place)) in

@@ -3,8 +3,8 @@ use Rattle.mc_model.specs.Delta.{chat_packet}
 use Rattle.mc_flush.specs.Sending.{IsClear}
 use Rattle.mc_flush.proofs.line.Line.new.Goals as goal
 
-pub put_packet-requires : goal.put_packet-requires
-put_packet-requires c =
+pub put_made-requires : goal.put_made-requires
+put_made-requires c =
     subst (λ (text : List ℕ). IsClear (chat_packet text))
     (sym (c.from_string.ensures ∙ c.into_string-said.ensures ∙ c.in_ok-copy.ensures))
     c.requires.clear
