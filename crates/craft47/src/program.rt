@@ -1,7 +1,7 @@
 ghost use Rattle.std.specs.Prelude.{◌≡◌, ◌↔◌, IfOk, IfSome, IsErr};
-ghost use Rattle.mc_top.specs.Arguments.{bytes_of, command_of};
-ghost use Rattle.mc_top.specs.Devices.{devices, WroteLast};
-ghost use Rattle.mc_top.specs.Ended.{usage_line};
+ghost use Rattle.mc_words.specs.Arguments.{bytes_of, command_of};
+ghost use Rattle.mc_words.specs.Devices.{devices, WroteLast};
+ghost use Rattle.mc_words.specs.Ended.{usage_line};
 ghost use Rattle.mc_top.specs.Promises.{IsStatus, KeepsPromise, NamesNone};
 
 use mc_top::run;

@@ -31,7 +31,7 @@ mod slots;
 
 pub use client_view::{ClientView, flush};
 pub use encoded::Encoded;
-pub use frames::put_packet;
+pub use frames::{put_made, put_packet};
 pub use line::Line;
 pub use mark::Mark;
 pub use notes::placing_packet;

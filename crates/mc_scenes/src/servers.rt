@@ -1,7 +1,7 @@
 //! Servers: `server PLAYERS CAP TERRAIN STEP ..` works on a new one and answers what it is asked.
 
 ghost use Rattle.std.specs.Prelude.{◌≡◌, IfSome};
-ghost use Rattle.mc_server.specs.Stands.{age_of};
+ghost use Rattle.mc_events.specs.Stands.{age_of};
 
 use crate::frames::put_frames;
 use crate::terrains::terrain_in;

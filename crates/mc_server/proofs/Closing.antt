@@ -16,10 +16,10 @@ use Rattle.mc_model.specs.Orderly.{AreApart, next_number}
 use Rattle.mc_model.specs.Turns.{done_in}
 use Rattle.mc_model.proofs.LogLaws.{logged_more}
 use Rattle.mc_model.proofs.Sessions.{other_number, same_number, some_none}
-use Rattle.mc_server.specs.Asking.{is_done_in, is_over}
+use Rattle.mc_events.specs.Asking.{is_done_in, is_over}
 use Rattle.mc_server.specs.Drives.{ours_in}
-use Rattle.mc_server.specs.Served.{ServerValue}
-use Rattle.mc_server.specs.Stands.{Stands}
+use Rattle.mc_events.specs.Served.{ServerValue}
+use Rattle.mc_events.specs.Stands.{Stands}
 use Rattle.mc_server.specs.TurnParts.{Adds, HasClosed, closing_of, numbers_in}
 use Rattle.mc_server.proofs.LogFacts.{ours_append}
 use Rattle.mc_server.proofs.Writing.{RiseFrom, rise_from}

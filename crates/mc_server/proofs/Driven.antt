@@ -21,11 +21,11 @@ use Rattle.mc_server.specs.declared.service.Ended.{Ended}
 use Rattle.mc_server.specs.declared.service.Ended.TheVariants as ends
 use Rattle.mc_server.specs.declared.service.DriveFault.{DriveFault}
 use Rattle.mc_server.specs.declared.service.DriveFault.TheVariants.{Listen, Next, Events, NoMemory}
-use Rattle.mc_server.specs.Asking.{is_ours, ours_there}
+use Rattle.mc_events.specs.Asking.{is_ours, ours_there}
 use Rattle.mc_server.specs.Drives.{Drove, Ends, IsTally, IsWithin, is_join, is_tick}
 use Rattle.mc_server.specs.Drives.{joins_in, ours_in, ticks_in}
-use Rattle.mc_server.specs.Served.{ServerValue, one_if}
-use Rattle.mc_server.specs.Stands.{Stands, age_of}
+use Rattle.mc_events.specs.Served.{ServerValue, one_if}
+use Rattle.mc_events.specs.Stands.{Stands, age_of}
 use Rattle.mc_server.specs.TurnParts.{HasTurned}
 use Rattle.mc_server.proofs.Few.{few_log}
 use Rattle.mc_server.proofs.LogFacts.{log_of_more, ours_append, ticks_more}

@@ -14,9 +14,9 @@ use Rattle.mc_model.specs.Run.{cause_in}
 use Rattle.mc_model.specs.Log.{logged}
 use Rattle.mc_model.proofs.LogLaws.{AreRight, IsRight, logged_more}
 use Rattle.mc_model.proofs.RunEvents.{sessions_grow}
-use Rattle.mc_server.specs.Asking.{is_ours, is_over}
+use Rattle.mc_events.specs.Asking.{is_ours, is_over}
 use Rattle.mc_server.specs.Drives.{is_join, ours_at, ours_in}
-use Rattle.mc_server.specs.Served.{one_if}
+use Rattle.mc_events.specs.Served.{one_if}
 
 fewer_filtered : (p : Session → Bool) (ss : List Session) → length (filter p ss) ≤ length ss
 fewer_filtered p ss = let same = length-filter p ss in let few = count_by-le-length p ss in

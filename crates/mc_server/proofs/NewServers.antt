@@ -13,7 +13,7 @@ use Rattle.mc_server.specs.declared.service.Ended.{Ended}
 use Rattle.mc_server.specs.declared.service.DriveFault.{DriveFault}
 use Rattle.mc_server.specs.declared.service.DriveFault.TheVariants.{NoMemory}
 use Rattle.mc_server.specs.Drives.{Drove, DroveNew}
-use Rattle.mc_server.specs.Served.{ServerValue}
+use Rattle.mc_events.specs.Served.{ServerValue}
 use Rattle.mc_server.proofs.Driven.{events_all}
 
 pub drove_new : (budget : Budget) (old new : Option LobbyTold) (most cap : ℕ) (terrain : Terrain)

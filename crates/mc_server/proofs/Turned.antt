@@ -12,11 +12,11 @@ use Rattle.mc_model.specs.Run.{history, owed_in}
 use Rattle.mc_model.specs.Log.{logged}
 use Rattle.mc_model.specs.Turns.{done_in}
 use Rattle.mc_model.proofs.LogLaws.{logged_more}
-use Rattle.mc_server.specs.declared.input.Input.{Input}
+use Rattle.mc_events.specs.declared.input.Input.{Input}
 use Rattle.mc_server.specs.Drives.{is_join, is_tick}
-use Rattle.mc_server.specs.Inputs.{event_of}
-use Rattle.mc_server.specs.Served.{ServerValue, one_if}
-use Rattle.mc_server.specs.Stands.{Stands}
+use Rattle.mc_events.specs.Inputs.{event_of}
+use Rattle.mc_events.specs.Served.{ServerValue, one_if}
+use Rattle.mc_events.specs.Stands.{Stands}
 use Rattle.mc_server.specs.TurnParts.{HasClosed, HasSentAll, HasTurned, IsInputOf}
 use Rattle.mc_server.proofs.LogFacts.{IsNoWrite, ours_append}
 use Rattle.mc_server.proofs.LogFacts.{ours_happens, ours_writes, turn_count}

@@ -18,8 +18,8 @@ use Rattle.mc_model.specs.Log.{logged}
 use Rattle.mc_model.specs.Orderly.{Rise, next_number}
 use Rattle.mc_model.specs.Turns.{AreWrites, Rises}
 use Rattle.mc_model.proofs.LogLaws.{logged_more}
-use Rattle.mc_server.specs.Served.{ServerValue}
-use Rattle.mc_server.specs.Stands.{Stands}
+use Rattle.mc_events.specs.Served.{ServerValue}
+use Rattle.mc_events.specs.Stands.{Stands}
 use Rattle.mc_server.specs.TurnParts.{Adds, HasSent, HasSentAll, IsServed, Leads, numbers_in}
 use Rattle.mc_server.proofs.LogFacts.{Keeps, keeps_onward, keeps_same, took_keeps, broke_keeps}
 use Rattle.mc_server.proofs.LogFacts.{broke_owes, writes_append}

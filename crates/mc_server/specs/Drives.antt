@@ -15,15 +15,15 @@ use Rattle.mc_model.specs.Log.{events_in, log_of, logged}
 use Rattle.mc_model.specs.Turns.{AreTurns}
 use Rattle.mc_model.specs.Headline.{Headline}
 use Rattle.mc_model.specs.Serving.{Serves}
-use Rattle.mc_server.specs.Asking.{is_ours, ours_there}
+use Rattle.mc_events.specs.Asking.{is_ours, ours_there}
 use Rattle.mc_server.specs.declared.service.Budget.{Budget}
 use Rattle.mc_server.specs.declared.service.Tally.{Tally}
 use Rattle.mc_server.specs.declared.service.Ended.{Ended}
 use Rattle.mc_server.specs.declared.service.Ended.TheVariants as ends
 use Rattle.mc_server.specs.declared.service.DriveFault.{DriveFault}
 use Rattle.mc_server.specs.declared.service.DriveFault.TheVariants.{Listen, Next, Events, NoMemory}
-use Rattle.mc_server.specs.Served.{ServerValue, one_if}
-use Rattle.mc_server.specs.Stands.{Stands, age_of}
+use Rattle.mc_events.specs.Served.{ServerValue, one_if}
+use Rattle.mc_events.specs.Stands.{Stands, age_of}
 
 -- ---- counting in a log
 

@@ -10,12 +10,12 @@ use Rattle.mc_model.specs.World.{World, Session}
 use Rattle.mc_model.specs.Run.{owed_in}
 use Rattle.mc_model.specs.Log.{events_of, logged}
 use Rattle.mc_model.specs.Turns.{AreWrites, Happens, IsTurn, Rises}
-use Rattle.mc_server.specs.declared.input.Input.{Input}
-use Rattle.mc_server.specs.Asking.{is_done_in}
+use Rattle.mc_events.specs.declared.input.Input.{Input}
+use Rattle.mc_events.specs.Asking.{is_done_in}
 use Rattle.mc_server.specs.Drives.{is_join, is_tick, ours_in}
-use Rattle.mc_server.specs.Inputs.{age_after, event_of}
-use Rattle.mc_server.specs.Served.{ServerValue, one_if}
-use Rattle.mc_server.specs.Stands.{Stands}
+use Rattle.mc_events.specs.Inputs.{age_after, event_of}
+use Rattle.mc_events.specs.Served.{ServerValue, one_if}
+use Rattle.mc_events.specs.Stands.{Stands}
 
 -- the numbers of the connections
 abbrev pub numbers_in : World → List ℕ

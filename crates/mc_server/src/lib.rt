@@ -1,25 +1,11 @@
-//! The server: what it makes of each event, and what each connection is owed.
+//! The loop that serves a lobby with a server.
 //!
-//! Stands on sessions, views, flushes and the land, and on the definitions of `mc_model`. Its one
-//! contract: where a `Server` stands for a world of the definitions, it stands after each event for
-//! the world that follows, and each connection is owed exactly what that says.
+//! Stands on the server of `mc_events`, whose names it exports again, and on the lobbies of
+//! `mc_wire`. Its one contract is `drive`: a lobby is served turn by turn, the server stands for the
+//! world after the log of that, and whatever is served so was promised.
 #![tactic(auto)]
 
-mod connection;
-mod connections;
-mod input;
-mod opening;
-mod packs;
-mod player;
-mod reach;
-mod roster;
-mod scene;
-mod server;
 mod service;
-mod settings;
-mod spots;
 
-pub use input::Input;
-pub use server::Server;
+pub use mc_events::{Input, Server, Settings};
 pub use service::{Budget, DriveFault, Ended, Tally, drive};
-pub use settings::Settings;

@@ -9,16 +9,16 @@ ghost use Rattle.mc_wire.specs.Becoming.{HasLogged, ToldBecomes};
 ghost use Rattle.mc_wire.specs.Count.{Rose};
 ghost use Rattle.mc_wire.specs.LobbyCounts.{StandOrRise};
 ghost use Rattle.mc_model.specs.World.{AreSettings, World, new_world};
-ghost use Rattle.mc_server.specs.Asking.{ours_there};
+ghost use Rattle.mc_events.specs.Asking.{ours_there};
 ghost use Rattle.mc_server.specs.Drives.{Drove, DroveNew, is_join};
-ghost use Rattle.mc_server.specs.Served.{one_if};
-ghost use Rattle.mc_server.specs.Stands.{Stands, age_of};
+ghost use Rattle.mc_events.specs.Served.{one_if};
+ghost use Rattle.mc_events.specs.Stands.{Stands, age_of};
 ghost use Rattle.mc_server.specs.TurnParts.{IsInputOf};
 
 mod turn;
 
 use crate::service::turn::take_turn;
-use crate::{Input, Server};
+use mc_events::{Input, Server};
 use mc_nbt::NoMemory;
 use mc_wire::{Event, Lobby};
 use std::alloc::{AllocError, Global};

@@ -8,10 +8,12 @@
 mod identity;
 mod reply;
 mod session;
+mod silence;
 mod step;
 mod words;
 
 pub use identity::offline_uuid;
 pub use session::Session;
+pub use silence::is_silent;
 pub use step::Step;
 pub use words::chat_json;

@@ -4,11 +4,11 @@ use Rattle.std.proofs.Common.{subst, ap}
 use Rattle.std.specs.Prelude.{IfSome, IsOk, OnOk, OnErr}
 use Rattle.mc_wire.specs.Count.{Rose}
 use Rattle.mc_wire.specs.Stream.{Grows}
-use Rattle.mc_top.specs.declared.bad_input.BadInput.{BadInput}
-use Rattle.mc_top.specs.declared.ended.Ended.{Ended}
-use Rattle.mc_top.specs.declared.ended.Ended.TheVariants as ended
-use Rattle.mc_top.specs.Devices.{WroteLast}
-use Rattle.mc_top.specs.Ended.{fixed_line_of, usage_line, read_fault_line, net_fault_line}
+use Rattle.mc_words.specs.declared.bad_input.BadInput.{BadInput}
+use Rattle.mc_words.specs.declared.ended.Ended.{Ended}
+use Rattle.mc_words.specs.declared.ended.Ended.TheVariants as ended
+use Rattle.mc_words.specs.Devices.{WroteLast}
+use Rattle.mc_words.specs.Ended.{fixed_line_of, usage_line, read_fault_line, net_fault_line}
 use Rattle.mc_top.specs.Finishing.{Finishes, IsUntouched}
 use Rattle.mc_top.proofs.Inputs.{wrote_last}
 

@@ -1,21 +1,21 @@
 -- What is known of an input that was read as a text.
 use Rattle.std.proofs.Common.{◌≡◌, ℕ, ◌+◌, ◌⊎◌, inl, inr, List, [], ◌++◌, length, take, Option}
-use Rattle.std.proofs.Common.{Some, None, Result, Ok, Err, refl, sym, subst, ap, ◌∙◌, append_assoc}
+use Rattle.std.proofs.Common.{Some, None, Result, Ok, Err, refl, sym, subst, ap, ◌∙◌}
 use Rattle.std.proofs.Common.{arith}
 use Rattle.std.specs.Prelude.{IfSome, OnOk, OnErr}
 use Rattle.std.proofs.lemmas.List.{append-nil}
 use Rattle.mc_wire.specs.Count.{Rose, StandsOrRises}
 use Rattle.mc_wire.specs.Stream.{Grows, IsAtEnd}
-use Rattle.mc_top.specs.declared.bad_input.BadInput.{BadInput}
-use Rattle.mc_top.specs.declared.ended.Ended.{Ended}
-use Rattle.mc_top.specs.declared.ended.Ended.TheVariants as ended
-use Rattle.mc_top.specs.Devices.{ReadsText, WroteLast, WroteTextThenLast}
-use Rattle.mc_top.specs.Ended.{ended_after}
-use Rattle.mc_top.specs.StatusText.{Told, status_told}
-use Rattle.mc_top.specs.Lines.{text_max}
+use Rattle.mc_words.specs.declared.bad_input.BadInput.{BadInput}
+use Rattle.mc_words.specs.declared.ended.Ended.{Ended}
+use Rattle.mc_words.specs.declared.ended.Ended.TheVariants as ended
+use Rattle.mc_words.specs.Devices.{ReadsText, WroteLast, WroteTextThenLast}
+use Rattle.mc_words.specs.Ended.{ended_after}
+use Rattle.mc_words.specs.StatusText.{Told, status_told}
+use Rattle.mc_words.specs.Lines.{text_max}
 use Rattle.mc_top.specs.StatusPromise.{RepliedPart, Replied, Found}
 use Rattle.mc_top.proofs.LongTexts.{told_front, long_faulty}
-use Rattle.mc_top.specs.Received.{SendsPart}
+use Rattle.mc_words.specs.Received.{SendsPart}
 
 -- what is known of the bytes that were read is known of all that was left, where that is told, if
 -- it is alike for a text that is too long and its first bytes
@@ -50,18 +50,6 @@ wrote_last (Ok x) held held' faults faults' piece line whole part failed is =
 wrote_last (Err e) held held' faults faults' piece line whole part failed is =
     let P : List ℕ → Type 0 = λ t. Grows held held' (take part.0 t) in
     inr (failed, part.0, subst P is part.1)
-
--- nothing is behind a text
-pub grows_two : (held middle held' : Option (List ℕ)) (first second : List ℕ) →
-    Grows held middle first → Grows middle held' second → Grows held held' (first ++ second)
-grows_two None None None first second a b = tt
-grows_two None None (Some ys) first second a b = absurd b
-grows_two None (Some xs) held' first second a b = absurd a
-grows_two (Some xs) None None first second a b = tt
-grows_two (Some xs) None (Some zs) first second a b = absurd b
-grows_two (Some xs) (Some ys) None first second a b = tt
-grows_two (Some xs) (Some ys) (Some zs) first second a b =
-    b ∙ ap (λ (t : List ℕ). t ++ second) a ∙ append_assoc xs first second
 
 rose_after : (old middle new : ℕ) → StandsOrRises old middle → Rose middle new → Rose old new
 rose_after old middle new (inl same) (inl less) = inl (omega (arith, same, less))

@@ -1,14 +1,5 @@
-pub mod Cuts
-pub mod Reading
-pub mod Exchanges
-pub mod Receiving
-pub mod Answering
-pub mod StatusLines
 pub mod LongTexts
 pub mod Inputs
-pub mod DigitSteps
-pub mod Scripts
-pub mod ArgumentSteps
 pub mod LongLines
 pub mod Taking
 pub mod Playing
@@ -23,4 +14,3 @@ pub mod Serves
 pub mod ServeKept
 pub mod Runs
 pub mod Sent
-pub mod Passing

@@ -6,17 +6,17 @@ use Rattle.std.proofs.Common.{add-one, nat_lt, ltb-true, ltb-false}
 use Rattle.std.specs.Prelude.{◌&&◌, nat_le, codes}
 use Rattle.std.specs.Str.{bytes_eq, is_utf8}
 use Rattle.std.proofs.lemmas.List.{length-append}
-use Rattle.mc_top.specs.declared.bad_input.BadInput.{BadInput}
-use Rattle.mc_top.specs.declared.bad_input.InputFault.{InputFault}
-use Rattle.mc_top.specs.declared.bad_input.InputFault.TheVariants as faults
-use Rattle.mc_top.specs.declared.script_line.Before.{Before}
-use Rattle.mc_top.specs.declared.script_line.ScriptEvent.{ScriptEvent}
-use Rattle.mc_top.specs.declared.script_line.ScriptEvent.TheVariants.{Joined, Came, Gone, Ticks}
-use Rattle.mc_top.specs.Lines.{lines_of, is_skipped, text_max, goes_past, size_of, HoldsByte}
-use Rattle.mc_top.specs.Script.{words_of, is_next, number_of, hex_of, numbered, join_event}
-use Rattle.mc_top.specs.Script.{bytes_event, ticks_event, connection, words_event, some_event}
-use Rattle.mc_top.specs.Script.{line_event, after_event, with_events, then_, at_first, lines_events}
-use Rattle.mc_top.specs.Script.{script_of}
+use Rattle.mc_words.specs.declared.bad_input.BadInput.{BadInput}
+use Rattle.mc_words.specs.declared.bad_input.InputFault.{InputFault}
+use Rattle.mc_words.specs.declared.bad_input.InputFault.TheVariants as faults
+use Rattle.mc_words.specs.declared.script_line.Before.{Before}
+use Rattle.mc_words.specs.declared.script_line.ScriptEvent.{ScriptEvent}
+use Rattle.mc_words.specs.declared.script_line.ScriptEvent.TheVariants.{Joined, Came, Gone, Ticks}
+use Rattle.mc_words.specs.Lines.{lines_of, is_skipped, text_max, goes_past, size_of, HoldsByte}
+use Rattle.mc_words.specs.Script.{words_of, is_next, number_of, hex_of, numbered, join_event}
+use Rattle.mc_words.specs.Script.{bytes_event, ticks_event, connection, words_event, some_event}
+use Rattle.mc_words.specs.Script.{line_event, after_event, with_events, then_, at_first, lines_events}
+use Rattle.mc_words.specs.Script.{script_of}
 
 -- ---- no other line is too long
 

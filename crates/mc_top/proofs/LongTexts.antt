@@ -6,16 +6,16 @@ use Rattle.std.specs.Prelude.{◌&&◌}
 use Rattle.std.specs.List.{onto_first}
 use Rattle.std.proofs.lemmas.Bool.{lt-ltb, le-ltb}
 use Rattle.std.proofs.lemmas.List.{length-append}
-use Rattle.mc_top.specs.declared.bad_input.BadInput.{BadInput}
-use Rattle.mc_top.specs.declared.bad_input.InputFault.{InputFault}
-use Rattle.mc_top.specs.declared.bad_input.InputFault.TheVariants.{Long}
-use Rattle.mc_top.specs.declared.script_line.Before.{Before}
-use Rattle.mc_top.specs.declared.script_line.ScriptEvent.{ScriptEvent}
-use Rattle.mc_top.specs.Lines.{lines_of, is_line_end, line_bytes, text_max, goes_past, size_of}
-use Rattle.mc_top.specs.StatusText.{Exchange, first_exchange, receives_line, receives_next, Told}
-use Rattle.mc_top.specs.StatusText.{told_after, lines_told, status_told}
-use Rattle.mc_top.specs.Script.{line_event, after_event, with_events, then_, at_first, lines_events}
-use Rattle.mc_top.specs.Script.{script_of}
+use Rattle.mc_words.specs.declared.bad_input.BadInput.{BadInput}
+use Rattle.mc_words.specs.declared.bad_input.InputFault.{InputFault}
+use Rattle.mc_words.specs.declared.bad_input.InputFault.TheVariants.{Long}
+use Rattle.mc_words.specs.declared.script_line.Before.{Before}
+use Rattle.mc_words.specs.declared.script_line.ScriptEvent.{ScriptEvent}
+use Rattle.mc_words.specs.Lines.{lines_of, is_line_end, line_bytes, text_max, goes_past, size_of}
+use Rattle.mc_words.specs.StatusText.{Exchange, first_exchange, receives_line, receives_next, Told}
+use Rattle.mc_words.specs.StatusText.{told_after, lines_told, status_told}
+use Rattle.mc_words.specs.Script.{line_event, after_event, with_events, then_, at_first, lines_events}
+use Rattle.mc_words.specs.Script.{script_of}
 
 -- ---- the lines of a text and those of its first bytes
 

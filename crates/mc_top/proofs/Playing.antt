@@ -1,13 +1,13 @@
 -- Playing events one after another.
-use Rattle.std.proofs.Common.{◌≡◌, ℕ, suc, ◌+◌, ◌<◌, ◌≤◌, ◌⊎◌, inl, inr, List, [], ◌∷◌, ◌++◌}
+use Rattle.std.proofs.Common.{◌≡◌, ℕ, suc, ◌+◌, ◌<◌, ◌≤◌, List, [], ◌∷◌, ◌++◌}
 use Rattle.std.proofs.Common.{length, get_or, take, drop, refl, sym, subst, ap, ◌∙◌, append_assoc}
 use Rattle.std.proofs.Common.{arith}
 use Rattle.std.specs.Prelude.{Option, Some, None, replicate}
-use Rattle.std.proofs.lemmas.List.{append-nil, take_all, take-append-le, take-append-drop}
+use Rattle.std.proofs.lemmas.List.{append-nil, take_all, take-append-drop}
 use Rattle.std.proofs.lemmas.List.{take-replicate, replicate_more, take_more}
 use Rattle.std.proofs.lemmas.List.Sums.{fold-append, sum_by-cons}
 use Rattle.std.proofs.lemmas.Grind.{flat_map-append}
-use Rattle.std.proofs.Math.Seq.{take-append-add, take-append_seam, drop-cons}
+use Rattle.std.proofs.Math.Seq.{take-append-add, drop-cons}
 use Rattle.mc_land.specs.declared.terrain.Terrain.{Terrain}
 use Rattle.mc_wire.specs.Stream.{Grows}
 use Rattle.mc_model.specs.World.{World, new_world}
@@ -15,14 +15,14 @@ use Rattle.mc_model.specs.Step.{Event, ticked, step}
 use Rattle.mc_model.specs.Run.{history}
 use Rattle.mc_model.specs.Orderly.{AreApart}
 use Rattle.mc_model.proofs.RunOrder.{orderly_run}
-use Rattle.mc_server.specs.Served.{ServerValue}
-use Rattle.mc_server.specs.Stands.{Stands}
-use Rattle.mc_top.specs.declared.script_line.ScriptEvent.{ScriptEvent}
+use Rattle.mc_events.specs.Served.{ServerValue}
+use Rattle.mc_events.specs.Stands.{Stands}
+use Rattle.mc_words.specs.declared.script_line.ScriptEvent.{ScriptEvent}
 use Rattle.mc_top.specs.ReplayText.{lines_after, takings, settled, replay_text, line_events}
 use Rattle.mc_top.specs.ReplayText.{events_of}
 use Rattle.mc_top.specs.Replaying.{IsReached, HasPlayed, HasStopped, replay_world, line_ticks}
 use Rattle.mc_top.specs.Replaying.{ticks_of}
-use Rattle.mc_top.proofs.Inputs.{grows_two}
+use Rattle.mc_words.proofs.Growing.{grows_two}
 
 -- ---- worlds that come about
 
@@ -95,16 +95,6 @@ stopped_two xs ys w middle held half held' a b =
           (grows_two held half held' (replay_text w xs) (take b.len more) a.wrote b.wrote);
     }
 
--- some first part of a text is one of a longer text
-pub part_of : (n : ℕ) (text more : List ℕ) → (m : ℕ) × (take m (text ++ more) ≡ take n text)
-part_of n text more = elim (cases_le n (length text)) [
-  | inl within ↦ (n, take-append-le n text more within)
-  | inr past ↦ (length text, take-append_seam text more ∙ sym (take_all n text past))
-]
-  where
-    cases_le : (a b : ℕ) → (a ≤ b) ⊎ (b ≤ a)
-    cases_le a b = grind arith
-
 pub stopped_before : (xs ys : List Event) (w : World) (held held' : Option (List ℕ)) →
     HasStopped xs w held held' → HasStopped (xs ++ ys) w held held'
 stopped_before xs ys w held held' s =
@@ -114,18 +104,6 @@ stopped_before xs ys w held held' s =
       len = part.0;
       wrote = subst Q (sym (ap (take part.0) (text_more w xs ys) ∙ part.1)) s.wrote;
     }
-
--- ---- nothing was written
-
-pub grows_none : (held : Option (List ℕ)) → Grows held held []
-grows_none None = tt
-grows_none (Some xs) = sym (append-nil xs)
-
-pub grows_same : (A : Type 0) (view : A → Option (List ℕ)) (old new : A) → new ≡ old →
-    Grows (view old) (view new) []
-grows_same A view old new is =
-    let P : A → Type 0 = λ a. Grows (view old) (view a) [] in
-    subst P (sym is) (grows_none (view old))
 
 -- ---- one event
 

@@ -4,19 +4,19 @@ use Rattle.std.proofs.Common.{refl}
 use Rattle.mc_wire.specs.Count.{Rose}
 use Rattle.mc_wire.specs.LobbyCounts.{LobbyCounts}
 use Rattle.mc_wire.specs.LobbyTold.{LobbyTold}
-use Rattle.mc_top.specs.declared.bad_input.BadInput.{BadInput}
-use Rattle.mc_top.specs.declared.ended.Ended.{Ended}
-use Rattle.mc_top.specs.declared.ended.Ended.TheVariants as ended
-use Rattle.mc_top.specs.declared.script_line.ScriptEvent.{ScriptEvent}
-use Rattle.mc_top.specs.declared.arguments.WorldOptions.{WorldOptions}
-use Rattle.mc_top.specs.Devices.{Devices, devices}
-use Rattle.mc_top.specs.Ended.{status_of, read_fault_line, bad_input_line}
+use Rattle.mc_words.specs.declared.bad_input.BadInput.{BadInput}
+use Rattle.mc_words.specs.declared.ended.Ended.{Ended}
+use Rattle.mc_words.specs.declared.ended.Ended.TheVariants as ended
+use Rattle.mc_words.specs.declared.script_line.ScriptEvent.{ScriptEvent}
+use Rattle.mc_words.specs.declared.arguments.WorldOptions.{WorldOptions}
+use Rattle.mc_words.specs.Devices.{Devices, devices}
+use Rattle.mc_words.specs.Ended.{status_of, read_fault_line, bad_input_line}
 use Rattle.mc_top.specs.Finishing.{EndsText, Finishes}
-use Rattle.mc_top.specs.Script.{script_of}
+use Rattle.mc_words.specs.Script.{script_of}
 use Rattle.mc_top.specs.ReplayPromise.{IsScriptOf, IsFaultOf, FoundFault, Replayed, ReplayedPart}
 use Rattle.mc_top.specs.ReplayPromise.{ReplayedPartOrNothing, ReplayPromise}
 use Rattle.mc_top.proofs.Finishes.{of_left, still_holds, still_rose, only_last}
-use Rattle.mc_top.proofs.Playing.{grows_same}
+use Rattle.mc_words.proofs.Growing.{grows_same}
 
 -- what `replay` says of how it ended
 pub record ReplayEnded (A : Type 0) (view : A → Option (List ℕ)) (count : A → ℕ)

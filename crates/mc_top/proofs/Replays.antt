@@ -4,14 +4,14 @@ use Rattle.mc_wire.specs.Stream.{Grows}
 use Rattle.mc_model.specs.World.{AreSettings}
 use Rattle.mc_model.specs.Headline.{Headline}
 use Rattle.mc_model.proofs.Whole.{headline}
-use Rattle.mc_top.specs.declared.bad_input.BadInput.{BadInput}
-use Rattle.mc_top.specs.declared.ended.Ended.TheVariants as ended
-use Rattle.mc_top.specs.declared.script_line.ScriptEvent.{ScriptEvent}
-use Rattle.mc_top.specs.declared.arguments.WorldOptions.{WorldOptions}
-use Rattle.mc_top.specs.Script.{script_of}
+use Rattle.mc_words.specs.declared.bad_input.BadInput.{BadInput}
+use Rattle.mc_words.specs.declared.ended.Ended.TheVariants as ended
+use Rattle.mc_words.specs.declared.script_line.ScriptEvent.{ScriptEvent}
+use Rattle.mc_words.specs.declared.arguments.WorldOptions.{WorldOptions}
+use Rattle.mc_words.specs.Script.{script_of}
 use Rattle.mc_top.specs.ReplayText.{events_of, replay_text, replay_log}
 use Rattle.mc_top.specs.Replaying.{HasStopped}
-use Rattle.mc_top.specs.Devices.{ReadsText}
+use Rattle.mc_words.specs.Devices.{ReadsText}
 use Rattle.mc_top.specs.ReplayPromise.{world_of, Replayed, ReplayedPart, FoundFault}
 use Rattle.mc_top.proofs.Inputs.{bad_is, of_read, whole_read}
 use Rattle.mc_top.proofs.LongTexts.{script_front, long_no_script}

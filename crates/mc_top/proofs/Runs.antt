@@ -1,13 +1,13 @@
 -- Inputs that are served and refused, whatever the command.
 use Rattle.std.proofs.Common.{◌≡◌, ℕ, ◌⊎◌, List, Some}
 use Rattle.mc_wire.specs.Count.{Rose}
-use Rattle.mc_top.specs.declared.bad_input.BadInput.{BadInput}
-use Rattle.mc_top.specs.declared.ended.Ended.{Ended}
-use Rattle.mc_top.specs.declared.ended.Ended.TheVariants as ended
-use Rattle.mc_top.specs.declared.arguments.Command.{Command}
-use Rattle.mc_top.specs.declared.arguments.Command.TheVariants.{Status, Replay, Serve}
-use Rattle.mc_top.specs.Devices.{Devices}
-use Rattle.mc_top.specs.Ended.{status_of}
+use Rattle.mc_words.specs.declared.bad_input.BadInput.{BadInput}
+use Rattle.mc_words.specs.declared.ended.Ended.{Ended}
+use Rattle.mc_words.specs.declared.ended.Ended.TheVariants as ended
+use Rattle.mc_words.specs.declared.arguments.Command.{Command}
+use Rattle.mc_words.specs.declared.arguments.Command.TheVariants.{Status, Replay, Serve}
+use Rattle.mc_words.specs.Devices.{Devices}
+use Rattle.mc_words.specs.Ended.{status_of}
 use Rattle.mc_top.specs.Promises.{EndsFine, Promises, IsInputOf, HasFault}
 use Rattle.mc_top.proofs.StatusKept.{status_served, status_refused}
 use Rattle.mc_top.proofs.ReplayKept.{replay_served, replay_refused}

@@ -15,17 +15,17 @@ use Rattle.mc_nbt.specs.Reading.{IsBytes}
 use Rattle.mc_model.specs.World.{World, Session}
 use Rattle.mc_model.specs.Step.{Event, joined, came, left, broke, ticked, took, forgot, step}
 use Rattle.mc_model.specs.Run.{AreBytes}
-use Rattle.mc_top.specs.declared.bad_input.BadInput.{BadInput}
-use Rattle.mc_top.specs.declared.bad_input.InputFault.{InputFault}
-use Rattle.mc_top.specs.declared.bad_input.InputFault.TheVariants as faults
-use Rattle.mc_top.specs.declared.script_line.Before.{Before}
-use Rattle.mc_top.specs.declared.script_line.ScriptEvent.{ScriptEvent}
-use Rattle.mc_top.specs.declared.script_line.ScriptEvent.TheVariants.{Joined, Came, Gone, Ticks}
-use Rattle.mc_top.specs.Lines.{lines_of, is_skipped, goes_past}
-use Rattle.mc_top.specs.Script.{is_next, number_of, connection, numbered, hex_of, bytes_event}
-use Rattle.mc_top.specs.Script.{join_event, ticks_event, one_word, two_words, three_words}
-use Rattle.mc_top.specs.Script.{words_event, words_of, some_event, line_event, after_event}
-use Rattle.mc_top.specs.Script.{with_events, then_, at_first, lines_events, script_of}
+use Rattle.mc_words.specs.declared.bad_input.BadInput.{BadInput}
+use Rattle.mc_words.specs.declared.bad_input.InputFault.{InputFault}
+use Rattle.mc_words.specs.declared.bad_input.InputFault.TheVariants as faults
+use Rattle.mc_words.specs.declared.script_line.Before.{Before}
+use Rattle.mc_words.specs.declared.script_line.ScriptEvent.{ScriptEvent}
+use Rattle.mc_words.specs.declared.script_line.ScriptEvent.TheVariants.{Joined, Came, Gone, Ticks}
+use Rattle.mc_words.specs.Lines.{lines_of, is_skipped, goes_past}
+use Rattle.mc_words.specs.Script.{is_next, number_of, connection, numbered, hex_of, bytes_event}
+use Rattle.mc_words.specs.Script.{join_event, ticks_event, one_word, two_words, three_words}
+use Rattle.mc_words.specs.Script.{words_event, words_of, some_event, line_event, after_event}
+use Rattle.mc_words.specs.Script.{with_events, then_, at_first, lines_events, script_of}
 use Rattle.mc_top.specs.ReplayText.{owes, is_shut, takings, settled, replay_log, line_events}
 use Rattle.mc_top.specs.ReplayText.{events_of}
 use Rattle.mc_top.specs.Replaying.{line_ticks, ticks_of}

@@ -14,8 +14,8 @@ use Rattle.mc_model.specs.Run.{history, lost, lost_at, owed_in, owed_of, taken, 
 use Rattle.mc_model.specs.Headline.{Headline}
 use Rattle.mc_model.specs.Orderly.{AreApart}
 use Rattle.mc_model.proofs.Sessions.{found_map, some_none}
-use Rattle.mc_top.specs.declared.script_line.ScriptEvent.{ScriptEvent}
-use Rattle.mc_top.specs.declared.script_line.ScriptEvent.TheVariants.{Joined, Came, Gone, Ticks}
+use Rattle.mc_words.specs.declared.script_line.ScriptEvent.{ScriptEvent}
+use Rattle.mc_words.specs.declared.script_line.ScriptEvent.TheVariants.{Joined, Came, Gone, Ticks}
 use Rattle.mc_top.specs.ReplayText.{Telling, tells_sent, tells_shut, sent_for, sent_to, owes}
 use Rattle.mc_top.specs.ReplayText.{is_shut, tellings, takings, settled, replay_log}
 use Rattle.mc_top.specs.ReplayText.{replay_tellings, events_of, IsToldTaken}

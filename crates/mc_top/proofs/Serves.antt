@@ -13,10 +13,10 @@ use Rattle.mc_server.specs.declared.service.DriveFault.TheVariants.{Listen, Next
 use Rattle.mc_server.specs.declared.service.Ended as drives
 use Rattle.mc_server.specs.declared.service.Tally.{Tally}
 use Rattle.mc_server.specs.Drives.{DroveNew}
-use Rattle.mc_server.specs.Served.{ServerValue}
-use Rattle.mc_server.specs.Stands.{age_of}
-use Rattle.mc_top.specs.declared.arguments.ServeOptions.{ServeOptions}
-use Rattle.mc_top.specs.declared.ended.Ended.TheVariants as ended
+use Rattle.mc_events.specs.Served.{ServerValue}
+use Rattle.mc_events.specs.Stands.{age_of}
+use Rattle.mc_words.specs.declared.arguments.ServeOptions.{ServeOptions}
+use Rattle.mc_words.specs.declared.ended.Ended.TheVariants as ended
 use Rattle.mc_top.specs.ServePromise.{AskedAtMostOnce, HasLost, HasServed, HasServedAll, HasSpent}
 use Rattle.mc_top.specs.ServePromise.{budget_of, ended_by, summary_line, tally_of}
 

@@ -7,16 +7,16 @@ use Rattle.mc_wire.specs.Count.{Rose, StandsOrRises}
 use Rattle.mc_wire.specs.LobbyCounts.{LobbyCounts}
 use Rattle.mc_wire.specs.LobbyTold.{LobbyTold}
 use Rattle.mc_wire.specs.Stream.{Grows}
-use Rattle.mc_top.specs.declared.bad_input.BadInput.{BadInput}
-use Rattle.mc_top.specs.declared.ended.Ended.{Ended}
-use Rattle.mc_top.specs.declared.ended.Ended.TheVariants as ended
-use Rattle.mc_top.specs.Devices.{Devices, devices}
-use Rattle.mc_top.specs.Ended.{status_of, read_fault_line, bad_input_line}
+use Rattle.mc_words.specs.declared.bad_input.BadInput.{BadInput}
+use Rattle.mc_words.specs.declared.ended.Ended.{Ended}
+use Rattle.mc_words.specs.declared.ended.Ended.TheVariants as ended
+use Rattle.mc_words.specs.Devices.{Devices, devices}
+use Rattle.mc_words.specs.Ended.{status_of, read_fault_line, bad_input_line}
 use Rattle.mc_top.specs.Finishing.{EndsText, Finishes}
 use Rattle.mc_top.specs.StatusPromise.{IsFineText, IsBadText, Found, Replied, RepliedPart}
 use Rattle.mc_top.specs.StatusPromise.{RepliedPartOrNothing, StatusPromise}
 use Rattle.mc_top.proofs.Finishes.{of_left, still_holds, still_rose, only_last}
-use Rattle.mc_top.specs.StatusText.{status_told}
+use Rattle.mc_words.specs.StatusText.{status_told}
 use Rattle.mc_top.proofs.Inputs.{wrote_both, fine_not_bad, text_of}
 
 -- all of a text is some first part of it

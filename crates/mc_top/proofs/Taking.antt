@@ -17,7 +17,7 @@ use Rattle.mc_model.specs.Step.{Event, took, forgot, step, changed, is_done}
 use Rattle.mc_model.specs.Run.{history, owed_in, owed_of}
 use Rattle.mc_model.specs.Orderly.{AreApart}
 use Rattle.mc_model.proofs.Sessions.{some_none, other_number, same_number, found_map, found_behind}
-use Rattle.mc_server.specs.Asking.{is_over, is_done_in}
+use Rattle.mc_events.specs.Asking.{is_over, is_done_in}
 use Rattle.mc_top.specs.ReplayText.{owes, is_shut, tells_sent, tells_shut, telling_line, tellings}
 use Rattle.mc_top.specs.ReplayText.{lines_after, takings, settled}
 use Rattle.mc_top.specs.Replaying.{taken, sent_by, forgotten, shut_by, all_taken, all_sent}

@@ -10,15 +10,15 @@ use Rattle.mc_model.specs.World.{World}
 use Rattle.mc_model.specs.Step.{took, step}
 use Rattle.mc_wire.specs.Stream.{Grows}
 use Rattle.mc_model.specs.Orderly.{AreApart}
-use Rattle.mc_server.specs.Served.{ServerValue}
-use Rattle.mc_server.specs.Stands.{Stands}
+use Rattle.mc_events.specs.Served.{ServerValue}
+use Rattle.mc_events.specs.Stands.{Stands}
 use Rattle.mc_model.specs.Run.{owed_in}
-use Rattle.mc_top.specs.Passes.{Passes, Breaks}
+use Rattle.mc_words.specs.Passes.{Passes, Breaks}
 use Rattle.mc_top.specs.ReplayText.{lines_after, settled}
 use Rattle.mc_top.specs.Replaying.{IsReached, taken, sent_by, sent_in, all_taken, all_sent}
 use Rattle.mc_top.specs.Replaying.{all_forgotten, all_shut, TakesFront, each, each_line}
-use Rattle.mc_top.proofs.Passing.{passes_none, passes_next, passes_two, passes_all, breaks_next}
-use Rattle.mc_top.proofs.Passing.{breaks_early, breaks_two}
+use Rattle.mc_words.proofs.Passing.{passes_none, passes_next, passes_two, passes_all, breaks_next}
+use Rattle.mc_words.proofs.Passing.{breaks_early, breaks_two}
 use Rattle.mc_top.proofs.Playing.{reached_apart}
 use Rattle.mc_top.proofs.Taking.{ids_of, all_settled, all_told, owed_after, taken_after, taken_none}
 use Rattle.mc_top.proofs.Taking.{encode_parts, encode_none}

@@ -1,10 +1,10 @@
 -- What writing the last line makes of how a command ended.
 use Rattle.std.specs.Prelude.{◌≡◌, ℕ, ◌⊎◌, List, Option}
-use Rattle.mc_top.specs.declared.ended.Ended.{Ended}
-use Rattle.mc_top.specs.declared.ended.Ended.TheVariants as ended
-use Rattle.mc_top.specs.Devices.{WroteLast}
-use Rattle.mc_top.specs.Ended.{bad_input_line, budget_line, net_fault_line, usage_line}
-use Rattle.mc_top.specs.Ended.{read_fault_line}
+use Rattle.mc_words.specs.declared.ended.Ended.{Ended}
+use Rattle.mc_words.specs.declared.ended.Ended.TheVariants as ended
+use Rattle.mc_words.specs.Devices.{WroteLast}
+use Rattle.mc_words.specs.Ended.{bad_input_line, budget_line, net_fault_line, usage_line}
+use Rattle.mc_words.specs.Ended.{read_fault_line}
 
 -- ---- how a command can end before its last line is written
 

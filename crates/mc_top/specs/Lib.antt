@@ -1,16 +1,5 @@
-pub mod Lines
-pub mod FaultName
-pub mod Ended
-pub mod StatusText
-pub mod Received
-pub mod Arguments
-pub mod Devices
 pub mod StatusPromise
-pub mod Digits
-pub mod Script
-pub mod ScriptRead
 pub mod ReplayText
-pub mod Passes
 pub mod Replaying
 pub mod ReplayPromise
 pub mod ServePromise

@@ -2,18 +2,18 @@
 -- Rules of this project. A new command is a case of each of these.
 use Rattle.std.specs.Prelude.{◌≡◌, ℕ, ◌⊎◌, List, None}
 use Rattle.std.specs.declared.string.String.{String}
-use Rattle.mc_top.specs.declared.bad_input.BadInput.{BadInput}
-use Rattle.mc_top.specs.declared.ended.Ended.{Ended}
-use Rattle.mc_top.specs.declared.ended.Ended.TheVariants as ended
-use Rattle.mc_top.specs.declared.script_line.ScriptEvent.{ScriptEvent}
-use Rattle.mc_top.specs.declared.arguments.Command.{Command}
-use Rattle.mc_top.specs.declared.arguments.Command.TheVariants.{Status, Replay, Serve}
-use Rattle.mc_top.specs.Devices.{Devices, InputStays, LobbyStays}
-use Rattle.mc_top.specs.Ended.{status_of}
+use Rattle.mc_words.specs.declared.bad_input.BadInput.{BadInput}
+use Rattle.mc_words.specs.declared.ended.Ended.{Ended}
+use Rattle.mc_words.specs.declared.ended.Ended.TheVariants as ended
+use Rattle.mc_words.specs.declared.script_line.ScriptEvent.{ScriptEvent}
+use Rattle.mc_words.specs.declared.arguments.Command.{Command}
+use Rattle.mc_words.specs.declared.arguments.Command.TheVariants.{Status, Replay, Serve}
+use Rattle.mc_words.specs.Devices.{Devices, InputStays, LobbyStays}
+use Rattle.mc_words.specs.Ended.{status_of}
 use Rattle.mc_top.specs.ReplayPromise.{IsScriptOf, IsFaultOf, ReplayPromise}
 use Rattle.mc_top.specs.ServePromise.{ServePromise}
 use Rattle.mc_top.specs.StatusPromise.{IsFineText, IsBadText, StatusPromise}
-use Rattle.mc_top.specs.Arguments.{command_of, bytes_of}
+use Rattle.mc_words.specs.Arguments.{command_of, bytes_of}
 
 -- what holds where a command ended so, from the devices before it to those after it; it touches no
 -- device but its own

@@ -4,14 +4,14 @@ use Rattle.mc_wire.specs.Count.{Rose}
 use Rattle.mc_wire.specs.Stream.{Grows, IsAtEnd}
 use Rattle.mc_model.specs.World.{World, new_world}
 use Rattle.mc_model.specs.Headline.{Headline}
-use Rattle.mc_top.specs.declared.bad_input.BadInput.{BadInput}
-use Rattle.mc_top.specs.declared.script_line.ScriptEvent.{ScriptEvent}
-use Rattle.mc_top.specs.declared.arguments.WorldOptions.{WorldOptions}
-use Rattle.mc_top.specs.declared.ended.Ended.{Ended}
-use Rattle.mc_top.specs.declared.ended.Ended.TheVariants as ended
-use Rattle.mc_top.specs.Devices.{Devices, InputFailed, IsTextRead, WroteLast}
-use Rattle.mc_top.specs.Ended.{bad_input_line}
-use Rattle.mc_top.specs.Script.{script_of}
+use Rattle.mc_words.specs.declared.bad_input.BadInput.{BadInput}
+use Rattle.mc_words.specs.declared.script_line.ScriptEvent.{ScriptEvent}
+use Rattle.mc_words.specs.declared.arguments.WorldOptions.{WorldOptions}
+use Rattle.mc_words.specs.declared.ended.Ended.{Ended}
+use Rattle.mc_words.specs.declared.ended.Ended.TheVariants as ended
+use Rattle.mc_words.specs.Devices.{Devices, InputFailed, IsTextRead, WroteLast}
+use Rattle.mc_words.specs.Ended.{bad_input_line}
+use Rattle.mc_words.specs.Script.{script_of}
 use Rattle.mc_top.specs.ReplayText.{events_of, replay_text, replay_log, IsToldTaken}
 
 -- the new world that the options ask for

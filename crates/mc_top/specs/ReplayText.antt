@@ -9,8 +9,8 @@ use Rattle.mc_model.specs.declared.cause.Cause.TheVariants.{Backlog}
 use Rattle.mc_model.specs.World.{World, Session, is_closed}
 use Rattle.mc_model.specs.Step.{Event, joined, came, left, ticked, took, forgot, step}
 use Rattle.mc_model.specs.Run.{history, stream, taken, why}
-use Rattle.mc_top.specs.declared.script_line.ScriptEvent.{ScriptEvent}
-use Rattle.mc_top.specs.declared.script_line.ScriptEvent.TheVariants.{Joined, Came, Gone, Ticks}
+use Rattle.mc_words.specs.declared.script_line.ScriptEvent.{ScriptEvent}
+use Rattle.mc_words.specs.declared.script_line.ScriptEvent.TheVariants.{Joined, Came, Gone, Ticks}
 
 -- ---- what is told after an event
 

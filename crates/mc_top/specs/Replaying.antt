@@ -8,14 +8,14 @@ use Rattle.mc_wire.specs.Stream.{Grows}
 use Rattle.mc_model.specs.World.{World, new_world}
 use Rattle.mc_model.specs.Step.{Event, took, forgot, step}
 use Rattle.mc_model.specs.Run.{history, owed_in}
-use Rattle.mc_server.specs.declared.input.Input.{Input}
-use Rattle.mc_server.specs.declared.input.Input.TheVariants.{Tick}
-use Rattle.mc_server.specs.Served.{ServerValue}
-use Rattle.mc_server.specs.Stands.{Stands}
-use Rattle.mc_server.specs.Asking.{is_done_in}
-use Rattle.mc_top.specs.declared.script_line.ScriptEvent.{ScriptEvent}
-use Rattle.mc_top.specs.declared.script_line.ScriptEvent.TheVariants.{Ticks}
-use Rattle.mc_top.specs.Passes.{Passes}
+use Rattle.mc_events.specs.declared.input.Input.{Input}
+use Rattle.mc_events.specs.declared.input.Input.TheVariants.{Tick}
+use Rattle.mc_events.specs.Served.{ServerValue}
+use Rattle.mc_events.specs.Stands.{Stands}
+use Rattle.mc_events.specs.Asking.{is_done_in}
+use Rattle.mc_words.specs.declared.script_line.ScriptEvent.{ScriptEvent}
+use Rattle.mc_words.specs.declared.script_line.ScriptEvent.TheVariants.{Ticks}
+use Rattle.mc_words.specs.Passes.{Passes}
 use Rattle.mc_top.specs.ReplayText.{settled, replay_text}
 
 -- a world that some events make of a new one

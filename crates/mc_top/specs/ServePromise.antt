@@ -13,12 +13,12 @@ use Rattle.mc_server.specs.declared.service.Ended as drives
 use Rattle.mc_server.specs.declared.service.Ended.TheVariants.{Ticks, Closed}
 use Rattle.mc_server.specs.declared.service.Tally.{Tally}
 use Rattle.mc_server.specs.Drives.{DroveNew, ticks_in}
-use Rattle.mc_server.specs.Served.{ServerValue}
-use Rattle.mc_top.specs.declared.arguments.ServeOptions.{ServeOptions}
-use Rattle.mc_top.specs.declared.ended.Ended.{Ended}
-use Rattle.mc_top.specs.declared.ended.Ended.TheVariants as ended
-use Rattle.mc_top.specs.Devices.{Devices, WroteLast}
-use Rattle.mc_top.specs.Ended.{budget_line, ended_line, net_fault_line}
+use Rattle.mc_events.specs.Served.{ServerValue}
+use Rattle.mc_words.specs.declared.arguments.ServeOptions.{ServeOptions}
+use Rattle.mc_words.specs.declared.ended.Ended.{Ended}
+use Rattle.mc_words.specs.declared.ended.Ended.TheVariants as ended
+use Rattle.mc_words.specs.Devices.{Devices, WroteLast}
+use Rattle.mc_words.specs.Ended.{budget_line, ended_line, net_fault_line}
 
 abbrev pub budget_of : ServeOptions → Budget
 budget_of options =

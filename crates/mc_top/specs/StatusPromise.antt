@@ -2,12 +2,12 @@
 use Rattle.std.specs.Prelude.{◌≡◌, ℕ, ◌⊎◌, List, [], take, Option, IfSome, Some, None}
 use Rattle.mc_wire.specs.Count.{Rose}
 use Rattle.mc_wire.specs.Stream.{Grows, IsAtEnd}
-use Rattle.mc_top.specs.declared.bad_input.BadInput.{BadInput}
-use Rattle.mc_top.specs.declared.ended.Ended.{Ended}
-use Rattle.mc_top.specs.declared.ended.Ended.TheVariants as ended
-use Rattle.mc_top.specs.Devices.{Devices, InputFailed, IsTextRead, WroteTextThenLast}
-use Rattle.mc_top.specs.Ended.{bad_input_line}
-use Rattle.mc_top.specs.StatusText.{status_told}
+use Rattle.mc_words.specs.declared.bad_input.BadInput.{BadInput}
+use Rattle.mc_words.specs.declared.ended.Ended.{Ended}
+use Rattle.mc_words.specs.declared.ended.Ended.TheVariants as ended
+use Rattle.mc_words.specs.Devices.{Devices, InputFailed, IsTextRead, WroteTextThenLast}
+use Rattle.mc_words.specs.Ended.{bad_input_line}
+use Rattle.mc_words.specs.StatusText.{status_told}
 
 -- nothing is wrong with an input, and this is its text
 abbrev pub IsFineText : ℕ → List ℕ → List ℕ → Type 0

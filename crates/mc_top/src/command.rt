@@ -1,23 +1,18 @@
 ghost use Rattle.std.specs.Prelude.{◌≡◌, ◌↔◌, ℕ, List, IfOk, IfSome, string_bytes};
 ghost use Rattle.mc_wire.specs.Count.{Rose, StandsOrRises};
-ghost use Rattle.mc_top.specs.declared.bad_input.BadInput.{BadInput};
-ghost use Rattle.mc_top.specs.Devices.{devices, WroteLast};
-ghost use Rattle.mc_top.specs.Ended.{usage_line};
+ghost use Rattle.mc_words.specs.declared.bad_input.BadInput.{BadInput};
+ghost use Rattle.mc_words.specs.Devices.{devices, WroteLast};
+ghost use Rattle.mc_words.specs.Ended.{usage_line};
 ghost use Rattle.mc_top.specs.Finishing.{EndsText, Finishes, FinishesWith};
 ghost use Rattle.mc_top.specs.Promises.{IsStatus, KeepsPromise, NamesNone, Promises};
 ghost use Rattle.mc_top.specs.StatusPromise.{Found, Replied, RepliedPart, RepliedPartOrNothing};
-ghost use Rattle.mc_top.specs.Arguments.{IsSet, bytes_of, command_of};
+ghost use Rattle.mc_words.specs.Arguments.{IsSet, bytes_of, command_of};
 
-use crate::arguments::Command;
-use crate::bad_input::BadInput;
-use crate::ended::{Ended, budget_line};
-use crate::lines::read_text;
 use crate::replay::replay;
 use crate::serve::serve;
-use crate::status::write_status;
-use crate::unfinished::Unfinished;
 use mc_nbt::NoMemory;
 use mc_wire::{InputError, Lobby, Sink, Source, write_all};
+use mc_words::{BadInput, Command, Ended, Unfinished, budget_line, read_text, write_status};
 use std::alloc::Global;
 
 /// The command `status`: it reads one client's bytes as lines of hex, and writes each frame that

@@ -1,16 +1,16 @@
 ghost use Rattle.std.specs.Prelude.{◌≡◌, ◌≤◌, ◌+◌, ◌⊎◌, ℕ, List, Some, Ok, Err};
 ghost use Rattle.mc_wire.specs.Count.{Rose};
-ghost use Rattle.mc_top.specs.declared.bad_input.BadInput.{BadInput};
-ghost use Rattle.mc_top.specs.declared.bad_input.InputFault.TheVariants.{Long};
-ghost use Rattle.mc_top.specs.Lines.{HoldsByte, text_max};
-ghost use Rattle.mc_top.specs.declared.script_line.ScriptEvent.{ScriptEvent};
-ghost use Rattle.mc_top.specs.Script.{script_of};
+ghost use Rattle.mc_words.specs.declared.bad_input.BadInput.{BadInput};
+ghost use Rattle.mc_words.specs.declared.bad_input.InputFault.TheVariants.{Long};
+ghost use Rattle.mc_words.specs.Lines.{HoldsByte, text_max};
+ghost use Rattle.mc_words.specs.declared.script_line.ScriptEvent.{ScriptEvent};
+ghost use Rattle.mc_words.specs.Script.{script_of};
 ghost use Rattle.mc_top.specs.Replaying.{ticks_of};
-ghost use Rattle.mc_top.specs.declared.ended.Ended.{Ended};
-ghost use Rattle.mc_top.specs.declared.ended.Ended.TheVariants as ended;
-ghost use Rattle.mc_top.specs.declared.arguments.Command.{Command};
-ghost use Rattle.mc_top.specs.Devices.{Devices};
-ghost use Rattle.mc_top.specs.Ended.{status_of};
+ghost use Rattle.mc_words.specs.declared.ended.Ended.{Ended};
+ghost use Rattle.mc_words.specs.declared.ended.Ended.TheVariants as ended;
+ghost use Rattle.mc_words.specs.declared.arguments.Command.{Command};
+ghost use Rattle.mc_words.specs.Devices.{Devices};
+ghost use Rattle.mc_words.specs.Ended.{status_of};
 ghost use Rattle.mc_top.specs.Promises.{EndsFine, HasFault, IsInputOf, Promises};
 
 /// The line of a script that is too long is the one that holds the first byte too many.

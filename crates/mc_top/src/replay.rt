@@ -3,9 +3,9 @@ ghost use Rattle.mc_wire.specs.Count.{Rose, StandsOrRises};
 ghost use Rattle.mc_wire.specs.Stream.{Grows};
 ghost use Rattle.mc_model.specs.World.{World, AreSettings};
 ghost use Rattle.mc_model.specs.Step.{ticked};
-ghost use Rattle.mc_server.specs.Stands.{Stands, age_of};
-ghost use Rattle.mc_server.specs.Inputs.{event_of};
-ghost use Rattle.mc_top.specs.declared.bad_input.BadInput.{BadInput};
+ghost use Rattle.mc_events.specs.Stands.{Stands, age_of};
+ghost use Rattle.mc_events.specs.Inputs.{event_of};
+ghost use Rattle.mc_words.specs.declared.bad_input.BadInput.{BadInput};
 ghost use Rattle.mc_top.specs.Finishing.{EndsText};
 ghost use Rattle.mc_top.specs.ReplayText.{line_events, events_of, replay_text};
 ghost use Rattle.mc_top.specs.Replaying.{IsReached, HasPlayed, HasStopped, line_ticks, ticks_of};
@@ -13,16 +13,11 @@ ghost use Rattle.mc_top.specs.Replaying.{input_ticks};
 ghost use Rattle.mc_top.specs.ReplayPromise.{world_of, Replayed, ReplayedPart};
 ghost use Rattle.mc_top.specs.ReplayPromise.{ReplayedPartOrNothing, FoundFault};
 
-use crate::arguments::WorldOptions;
-use crate::ended::Ended;
-use crate::lines::read_text;
 use crate::replay_lines::put_lines;
-use crate::script::{Script, ScriptError};
-use crate::script_line::ScriptEvent;
-use crate::unfinished::Unfinished;
 use crate::world::new_server;
 use mc_server::{Input, Server};
 use mc_wire::{InputError, Sink, Source};
+use mc_words::{Ended, Script, ScriptError, ScriptEvent, Unfinished, WorldOptions, read_text};
 use std::alloc::Global;
 
 /// Plays one event, and writes its lines as they come. `lines` is room for those that wait.
@@ -145,8 +140,9 @@ fn play_script<O: Sink>(
     ensures counts { StandsOrRises (O.faults out.old) (O.faults out.new) }
 {
     let mut server = new_server(alloc, options)?;
-    play_all(alloc, &mut server, &script.events, out)?;
-    Ok(())
+    let played = play_all(alloc, &mut server, &script.events, out);
+    drop(server);
+    played
 }
 
 /// The command `replay`: it reads a script, plays it on a server of a new world, and writes after

@@ -3,17 +3,16 @@ ghost use Rattle.hex.specs.Hex.{encode_lower};
 ghost use Rattle.mc_wire.specs.Count.{Rose, StandsOrRises};
 ghost use Rattle.mc_wire.specs.Stream.{Grows};
 ghost use Rattle.mc_model.specs.World.{World};
-ghost use Rattle.mc_server.specs.Stands.{Stands, age_of};
+ghost use Rattle.mc_events.specs.Stands.{Stands, age_of};
 ghost use Rattle.mc_model.specs.Run.{owed_in};
-ghost use Rattle.mc_top.specs.Passes.{Breaks, Passes};
+ghost use Rattle.mc_words.specs.Passes.{Breaks, Passes};
 ghost use Rattle.mc_top.specs.ReplayText.{settled, lines_after};
 ghost use Rattle.mc_top.specs.Replaying.{IsReached, TakesFront, taken, sent_in, forgotten, shut_in};
 ghost use Rattle.mc_top.specs.Replaying.{all_taken, all_sent, all_forgotten, all_shut};
 
-use crate::pieces::{HEX_PIECE, put, put_hex, write_out};
-use crate::unfinished::Unfinished;
 use mc_server::Server;
 use mc_wire::Sink;
+use mc_words::{HEX_PIECE, Unfinished, put, put_hex, write_out};
 use std::alloc::Global;
 
 /// Takes the first bytes that a connection is owed and puts them as hex, and says whether there

@@ -1,18 +1,16 @@
 ghost use Rattle.std.specs.Prelude.{◌≡◌, ℕ, IfOk, OnOk, IsErrOf, string_bytes, take};
 ghost use Rattle.mc_wire.specs.Count.{Rose};
 ghost use Rattle.mc_wire.specs.Stream.{Grows};
-ghost use Rattle.mc_top.specs.Arguments.{CanServe};
+ghost use Rattle.mc_words.specs.Arguments.{CanServe};
 ghost use Rattle.mc_top.specs.Finishing.{EndsServing};
 ghost use Rattle.mc_top.specs.ServePromise.{AskedAtMostOnce, HasLost, HasSpent, Summed, SummedPart};
 ghost use Rattle.mc_top.specs.ServePromise.{budget_of, ended_by, summary_line, tally_of};
 
-use crate::arguments::ServeOptions;
-use crate::ended::Ended;
-use crate::unfinished::Unfinished;
 use crate::world::new_server;
 use mc_nbt::NoMemory;
 use mc_server::{Budget, DriveFault, Tally, drive};
 use mc_wire::{Lobby, Sink, write_all};
+use mc_words::{Ended, ServeOptions, Unfinished};
 use std::alloc::Global;
 
 /// How long a lobby is served, and on which port it is to listen.
@@ -103,9 +101,14 @@ pub fn serve<L: Lobby, O: Sink>(
     };
     let end = match drive(&mut server, lobby, budget_of(options)) {
         Ok(end) => end,
-        Err(fault) => return ended_by(fault),
+        Err(fault) => {
+            drop(server);
+            return ended_by(fault);
+        }
     };
-    match put_summary(alloc, server.age(), tally_of(end), out) {
+    let age = server.age();
+    drop(server);
+    match put_summary(alloc, age, tally_of(end), out) {
         Ok(()) => Ended::Done,
         Err(Unfinished::Failed) => Ended::WriteFault,
         Err(Unfinished::NoMemory) => Ended::NoMemory,

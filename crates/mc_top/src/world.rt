@@ -1,11 +1,11 @@
 ghost use Rattle.std.specs.Prelude.{◌≡◌, IfOk};
 ghost use Rattle.mc_model.specs.World.{AreSettings};
-ghost use Rattle.mc_server.specs.Stands.{Stands, age_of};
+ghost use Rattle.mc_events.specs.Stands.{Stands, age_of};
 ghost use Rattle.mc_top.specs.ReplayPromise.{world_of};
 
-use crate::arguments::WorldOptions;
 use mc_nbt::NoMemory;
 use mc_server::{Server, Settings};
+use mc_words::WorldOptions;
 use std::alloc::Global;
 
 /// A server of a new world.

@@ -4,14 +4,13 @@ ghost use Rattle.mc_wire.specs.Becoming.{HasLogged};
 ghost use Rattle.mc_wire.specs.LobbyCounts.{StandOrRise};
 ghost use Rattle.mc_model.specs.World.{World};
 ghost use Rattle.mc_model.specs.Turns.{done_in};
-ghost use Rattle.mc_server.specs.Inputs.{age_after};
-ghost use Rattle.mc_server.specs.Served.{one_if};
-ghost use Rattle.mc_server.specs.Stands.{Stands, age_of};
+ghost use Rattle.mc_events.specs.Inputs.{age_after};
+ghost use Rattle.mc_events.specs.Served.{one_if};
+ghost use Rattle.mc_events.specs.Stands.{Stands, age_of};
 ghost use Rattle.mc_server.specs.TurnParts.{HasClosed, HasSent, HasSentAll, HasTurned, IsInputOf};
 ghost use Rattle.mc_server.specs.TurnParts.{closing_of, numbers_in};
 
-use crate::connection::is_ours;
-use crate::{Input, Server};
+use mc_events::{Input, Server, is_ours};
 use mc_nbt::NoMemory;
 use mc_wire::{Lobby, Wrote};
 

@@ -1,5 +1,5 @@
 use Rattle.std.proofs.Common.{refl}
-use Rattle.mc_top.specs.declared.ended.Ended.TheVariants as ended
+use Rattle.mc_words.specs.declared.ended.Ended.TheVariants as ended
 use Rattle.craft47.proofs.program.program.Goals as goal
 
 pub returns-in-Err-clause-statuses : goal.returns-in-Err-clause-statuses

@@ -6,8 +6,8 @@ use Rattle.mc_wire.specs.LobbyAnswers.{event_entry}
 use Rattle.mc_wire.proofs.LobbyCalls.{HasLogged-trans, Logs-refl, StandOrRise-trans}
 use Rattle.mc_model.specs.Log.{log_of, logged}
 use Rattle.mc_server.specs.Drives.{is_tick}
-use Rattle.mc_server.specs.Served.{one_if}
-use Rattle.mc_server.specs.Stands.{age_of}
+use Rattle.mc_events.specs.Served.{one_if}
+use Rattle.mc_events.specs.Stands.{age_of}
 use Rattle.mc_server.proofs.Driven.{driving_next, driving_start, drove_ended, drove_events}
 use Rattle.mc_server.proofs.Driven.{drove_failed, drove_ticks, one_at_most, still_young, tally_is}
 use Rattle.mc_server.proofs.Driven.{told_same}

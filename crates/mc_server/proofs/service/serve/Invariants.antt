@@ -2,7 +2,7 @@ use Rattle.std.proofs.Common.{◌≡◌, ◌≤◌, ◌<◌, [], true}
 use Rattle.mc_wire.specs.Becoming.{HasLogged}
 use Rattle.mc_wire.specs.LobbyCounts.{StandOrRise}
 use Rattle.mc_model.specs.World.{World}
-use Rattle.mc_server.specs.Stands.{Stands, age_of}
+use Rattle.mc_events.specs.Stands.{Stands, age_of}
 use Rattle.mc_server.proofs.Driven.{IsDriving}
 use Rattle.mc_server.proofs.service.serve.Given as goal
 

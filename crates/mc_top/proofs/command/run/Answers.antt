@@ -1,5 +1,5 @@
 use Rattle.std.proofs.Common.{sym}
-use Rattle.mc_top.specs.Arguments.{bytes_of}
+use Rattle.mc_words.specs.Arguments.{bytes_of}
 use Rattle.mc_top.proofs.Settings.{named_is_set}
 use Rattle.mc_top.proofs.command.run.Goals as goal
 

@@ -1,7 +1,7 @@
 use Rattle.std.proofs.Common.{refl}
 use Rattle.std.proofs.lemmas.Result.{err_from_is_err_and}
 use Rattle.mc_model.specs.Step.{step}
-use Rattle.mc_server.specs.Inputs.{event_of}
+use Rattle.mc_events.specs.Inputs.{event_of}
 use Rattle.mc_top.specs.ReplayText.{lines_after}
 use Rattle.mc_top.proofs.Playing.{reached_step, played_one, stopped_one}
 use Rattle.mc_top.proofs.replay.play.Goals as goal

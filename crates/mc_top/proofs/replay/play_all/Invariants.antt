@@ -1,7 +1,7 @@
 use Rattle.std.proofs.Common.{◌+◌, ◌≤◌, take, drop}
 use Rattle.mc_wire.specs.Count.{StandsOrRises}
 use Rattle.mc_model.specs.World.{World}
-use Rattle.mc_server.specs.Stands.{Stands, age_of}
+use Rattle.mc_events.specs.Stands.{Stands, age_of}
 use Rattle.mc_top.specs.ReplayText.{events_of}
 use Rattle.mc_top.specs.Replaying.{IsReached, HasPlayed, ticks_of}
 use Rattle.mc_top.proofs.replay.play_all.Given as goal

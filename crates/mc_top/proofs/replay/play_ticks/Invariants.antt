@@ -3,7 +3,7 @@ use Rattle.std.specs.Prelude.{replicate}
 use Rattle.mc_wire.specs.Count.{StandsOrRises}
 use Rattle.mc_model.specs.World.{World}
 use Rattle.mc_model.specs.Step.{ticked}
-use Rattle.mc_server.specs.Stands.{Stands, age_of}
+use Rattle.mc_events.specs.Stands.{Stands, age_of}
 use Rattle.mc_top.specs.Replaying.{IsReached, HasPlayed}
 use Rattle.mc_top.proofs.replay.play_ticks.Given as goal
 

@@ -1,6 +1,6 @@
 use Rattle.std.proofs.Common.{◌≡◌, List, ℕ, [], subst, ◌∙◌}
 use Rattle.std.proofs.lemmas.Result.{err_from_is_err_and}
-use Rattle.mc_top.specs.Passes.{Passes, Breaks}
+use Rattle.mc_words.specs.Passes.{Passes, Breaks}
 use Rattle.mc_top.specs.Replaying.{all_taken, all_sent}
 use Rattle.mc_top.proofs.Taking.{ids_of}
 use Rattle.mc_top.proofs.Tellings.{lines_put, lines_break_sent, lines_break_shut, lines_break_out}

@@ -1,0 +1,75 @@
+-- Each edit is air or the state of a block with an id: setting a cell to such a state keeps that.
+-- What is dug of a cell lies where a column can be shown.
+use Rattle.std.proofs.Common.{◌≡◌, ℕ, ◌<◌, ◌≤◌, Bool, true, false, cond, sym, subst, ◌∙◌, arith}
+use Rattle.std.proofs.Common.{ℤ, pos, negsuc, ◌≤ℤ◌}
+use Rattle.std.proofs.lemmas.Bool.{leb-true, ltb-true}
+use Rattle.std.proofs.lemmas.Int.{ints}
+use Rattle.std.specs.Prelude.{◌⊎◌, ◌==◌, ◌&&◌, unsigned_abs, Some, None, if◌then◌else◌}
+use Rattle.std.specs.Ordering.{eq_by_cmp}
+use Rattle.std.specs.FinMap.{FinMap, get, insert, remove, get-insert, get-remove}
+use Rattle.mc_fields.specs.declared.position.Cell.{Cell}
+use Rattle.mc_land.specs.declared.terrain.Terrain.{Terrain}
+use Rattle.mc_land.specs.Places.{Key, key_cmp, is_height, is_inside, is_within_border}
+use Rattle.mc_land.specs.Land.{edited, terrain_at}
+use Rattle.mc_land.proofs.Orders.{keys_total}
+use Rattle.mc_flush.specs.Seeing.{IsInRange}
+use Rattle.mc_model.specs.Digging.{floor_of}
+use Rattle.mc_model.proofs.FitsText.{both_true}
+use Rattle.mc_events.specs.Served.{AreStates}
+
+-- a cell is set to a state
+pub edited_states : (terrain : Terrain) (edits : FinMap key_cmp ℕ) (key : Key) (state : ℕ) →
+    state < 4096 → (state ≡ 0) ⊎ (16 ≤ state) → AreStates edits →
+    AreStates (edited terrain edits key state)
+edited_states terrain edits key state small whole old q s =
+    elim (state == terrain_at terrain key) as
+    (λ b. get (if b then remove edits key else insert edits key state) q ≡ Some s → Is s) [
+      | true ↦ λ e. gone (eq_by_cmp key_cmp q key) (sym (get-remove keys_total edits key q) ∙ e)
+      | false ↦ λ e.
+          came (eq_by_cmp key_cmp q key) (sym (get-insert keys_total edits key state q) ∙ e)
+    ]
+  where
+    Is : ℕ → Type 0
+    Is n = ((n ≡ 0) ⊎ (16 ≤ n)) × (n < 4096)
+
+    gone : (b : Bool) → cond b None (get edits q) ≡ Some s → Is s
+    gone true e = absurd cc
+    gone false e = old q s e
+
+    came : (b : Bool) → cond b (Some state) (get edits q) ≡ Some s → Is s
+    came true e = (let same : state ≡ s = cc in subst Is same (whole, small))
+    came false e = old q s e
+
+-- ---- where what is dug lies
+
+-- a height of the world
+height_low : (y : ℤ) → is_height y ≡ true → (pos 0 ≤ℤ y) × (y ≤ℤ pos 255)
+height_low (pos y) is =
+    (let low = ltb-true y 256 is in (omega (arith, ints), omega (arith, ints, low)))
+height_low (negsuc y) is = absurd cc
+
+-- a number not past the border
+border_low : (v : ℤ) → is_within_border v ≡ true →
+    (negsuc 29999999 ≤ℤ v) × (v ≤ℤ pos 30000000)
+border_low v is =
+    let low : unsigned_abs v ≤ 30000000 = leb-true (unsigned_abs v) 30000000 is in
+    (omega (arith, ints, low), omega (arith, ints, low))
+
+-- the middle of the floor of a cell of the world
+pub floor_in_range : (cell : Cell) → is_inside cell.x cell.y cell.z ≡ true →
+    IsInRange (floor_of cell)
+floor_in_range cell is =
+    let parts = both_true (is_height cell.y && is_within_border cell.x)
+    (is_within_border cell.z) is in
+    let first = both_true (is_height cell.y) (is_within_border cell.x) parts.0 in
+    let up = height_low cell.y first.0 in
+    let east = border_low cell.x first.1 in
+    let south = border_low cell.z parts.1 in
+    record {
+      x_low = (let low = east.0 in omega (arith, ints, low));
+      x_high = (let high = east.1 in omega (arith, ints, high));
+      y_low = (let low = up.0 in omega (arith, ints, low));
+      y_high = (let high = up.1 in omega (arith, ints, high));
+      z_low = (let low = south.0 in omega (arith, ints, low));
+      z_high = (let high = south.1 in omega (arith, ints, high));
+    }

@@ -1,0 +1,24 @@
+use Rattle.std.proofs.Common.{ℕ, List, ◌++◌, length, refl, ap, ◌∙◌, arith}
+use Rattle.mc_events.specs.Served.{ConnectionValue}
+use Rattle.mc_events.specs.contracts.connection.Connection.{the_view}
+use Rattle.mc_events.proofs.Handing.{hand_fits, hand_drops, keeps_mark}
+use Rattle.mc_events.proofs.connection.Connection.hand.Goals as goal
+
+pub returns-then-not-has_room-clause-ok : goal.returns-then-not-has_room-clause-ok
+returns-then-not-has_room-clause-ok c = λ packets e.
+    hand_drops c.args.self.now c.overflow.new.self packets c.into_vec-bytes.result.items
+    (length c.self.inside.backlog) c.len.result c.has_room.result
+    c.overflow.ensures (c.into_vec-bytes.ensures ∙ e)
+    (ap (λ (d : ConnectionValue). length d.session.owed) c.self.view_is)
+    (omega (arith, c.into_vec-bytes.result.ok.0)) c.has_room.ensures c.if-not-has_room.true
+
+pub returns-clause-ok : goal.returns-clause-ok
+returns-clause-ok c = λ packets e.
+    hand_fits (the_view c.self.inside) c.args.self.now packets c.into_vec-bytes.result.items
+    c.push.new.self (length c.self.inside.backlog) c.len.result c.has_room.result
+    c.self.view_is (keeps_mark _ c.self.inside.player (the_view c.self.inside)
+    c.args.self.now c.self.invariant refl refl c.self.view_is) (c.into_vec-bytes.ensures ∙ e)
+    (c.in_ok-push.ensures ∙ ap (λ (more : List ℕ). c.self.inside.backlog ++ more)
+    c.in_ok-from_vec.ensures.ok)
+    (ap (λ (d : ConnectionValue). length d.session.owed) c.self.view_is)
+    (omega (arith, c.into_vec-bytes.result.ok.0)) c.has_room.ensures c.if-not-has_room.false

@@ -1,0 +1,12 @@
+use Rattle.mc_model.specs.Talk.{farewell}
+use Rattle.mc_events.proofs.Decoding.{on_ok_more}
+use Rattle.mc_events.proofs.Handing.{disconnected_last}
+use Rattle.mc_events.proofs.connection.Connection.try_disconnect.Goals as goal
+
+pub returns-clause-ok : goal.returns-clause-ok
+returns-clause-ok c =
+    on_ok_more c.disconnect_with.result _ _
+    (λ made. disconnected_last c.args.self.now c.last_words.new.self c.disconnect_with.new.self
+    c.args.cause _ c.in_ok-bytes.ensures.next made)
+    (c.disconnect_with.ensures.ok (farewell c.args.self.now.session.stage c.args.cause)
+    c.in_ok-bytes.ensures.bytes)

@@ -1,0 +1,14 @@
+use Rattle.std.proofs.Common.{sym, ◌∙◌, rules, tests}
+use Rattle.std.specs.Prelude.{is_some}
+use Rattle.std.proofs.lemmas.Iterator.{YieldsList-from_slice}
+use Rattle.std.proofs.lemmas.Iterator.Consumers.{YieldsList-from_filter, count_from_yields_List}
+use Rattle.mc_events.specs.Served.{ConnectionValue}
+use Rattle.mc_events.proofs.Places.{players_count}
+use Rattle.mc_events.proofs.connections.in_play.Goals as goal
+
+pub returns : goal.returns
+returns c = count_from_yields_List _ _ c.count.ensures.ran (YieldsList-from_filter _
+    (λ (d : ConnectionValue). is_some d.session.player)
+    (YieldsList-from_slice c.args.connections.now.items cc)
+    c.filter.ensures.closure (λ x r q k. search (rules, tests)))
+    ∙ sym (players_count c.args.connections.now.items)

@@ -1,0 +1,34 @@
+use Rattle.std.proofs.Common.{[], ◌∷◌}
+use Rattle.mc_model.specs.Orderly.{next_number}
+use Rattle.mc_model.specs.Packs.{with_cells}
+use Rattle.mc_model.specs.World.{Player}
+use Rattle.mc_events.specs.Served.{ConnectionValue}
+use Rattle.mc_events.specs.contracts.server.Server.{the_view}
+use Rattle.mc_events.proofs.ActFacts.{player_becomes}
+use Rattle.mc_events.proofs.Doing.{kept_tried, ok_more}
+use Rattle.mc_events.proofs.Keeping.{within_view}
+use Rattle.mc_events.proofs.server.Server.note_cell.Goals as goal
+
+pub invariant_of-self : goal.invariant_of-self
+invariant_of-self c =
+    let change : Player → Player = λ q. record q { notes = with_cells (c.args.cell ∷ []) q.notes } in
+    let v = the_view c.self.inside in
+    let i = c.args.doer.now.place in
+    let x : ConnectionValue = c.index_mut.result.now in
+    let lt = within_view i v c.args.self.now c.self.view_is c.requires.within in
+    kept_tried c.self.inside.connections.items c.self.invariant i x c.note_cell.new.self lt
+    c.index_mut.ensures.value change
+    c.note_cell.result c.note_cell.ensures.ok c.note_cell.ensures.err
+
+pub returns : goal.returns
+returns c =
+    let change : Player → Player = λ q. record q { notes = with_cells (c.args.cell ∷ []) q.notes } in
+    let v = the_view c.self.inside in
+    let i = c.args.doer.now.place in
+    let x : ConnectionValue = c.index_mut.result.now in
+    let lt = within_view i v c.args.self.now c.self.view_is c.requires.within in
+    let high = next_number c.self.inside.last in
+    rw (← c.self.view_is) (λ p plays. ok_more c.note_cell.result
+    (λ made. player_becomes v i high x c.note_cell.new.self c.self.invariant.rise lt
+    c.index_mut.ensures.value change made p plays)
+    c.note_cell.ensures.ok)

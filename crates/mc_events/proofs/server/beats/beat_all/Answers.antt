@@ -1,0 +1,82 @@
+use Rattle.std.proofs.Common.{◌<◌, ◌≤◌, ◌++◌, List, ℤ, length, length-set, refl, sym, ap, ◌∙◌}
+use Rattle.std.proofs.Common.{arith, w32}
+use Rattle.std.proofs.lemmas.Int.{to_z-of_z}
+use Rattle.mc_events.specs.Served.{ConnectionValue}
+use Rattle.mc_events.specs.Ticking.{left_one}
+use Rattle.mc_events.proofs.LeftFacts.{left_done, left_next}
+use Rattle.mc_events.proofs.Walks.{ids_same, plays_fewer, side_next, rest_next, at_rest, side_done}
+use Rattle.mc_events.proofs.server.beats.beat_all.Goals as goal
+
+pub loop-i-init : goal.loop-i-init
+loop-i-init c = record {
+  beaten = λ w told. tt;
+  gone = c.new-left.ensures.items;
+  left_ = refl;
+  named = refl;
+  fewer = omega arith;
+  many = refl;
+}
+
+pub loop-i-preserved : goal.loop-i-preserved
+loop-i-preserved c =
+    let cs = c.args.connections.now.items in
+    let ss = c.loop-i.connections.items in
+    let i = c.loop-i.i in
+    let x : ConnectionValue = c.index_mut.result.now in
+    let t : ConnectionValue = c.beat_one.new.connection in
+    let h = c.loop-i.invariant in
+    let lt : i < length cs =
+    omega (arith, c.loop-i-test.true, c.len-i-end.ensures, c.args.connections.now.ok.0) in
+    let within : i < length ss = omega (arith, lt, h.many) in
+    let is = c.index_mut.ensures.value in
+    let was = at_rest cs ss i x h.left_ is in
+    record {
+      beaten = λ w told. side_next _ cs ss i x t lt within was (h.beaten w told)
+          (c.in_ok-beat_one.ensures.beaten w told);
+      gone = c.in_ok-beat_one.ensures.left
+          ∙ ap (λ (eids : List ℤ). eids ++ left_one x.session.player t.session.player) h.gone
+          ∙ sym (left_next cs ss i x t lt h.many was);
+      left_ = rest_next cs ss i t h.left_;
+      named = ids_same ss i t x within is c.beat_one.ensures.same ∙ h.named;
+      fewer = (
+          let fewer = plays_fewer ss i t x within is c.beat_one.ensures.stays in
+          omega (arith, fewer, h.fewer));
+      many = length-set ss i t ∙ h.many;
+    }
+
+pub returns-in_err-beat_one-clause-named : goal.returns-in_err-beat_one-clause-named
+returns-in_err-beat_one-clause-named c =
+    let ss = c.loop-i.connections.items in
+    let x : ConnectionValue = c.index_mut.result.now in
+    let lt : c.loop-i.i < length c.args.connections.now.items =
+    omega (arith, c.loop-i-test.true, c.len-i-end.ensures, c.args.connections.now.ok.0) in
+    let within : c.loop-i.i < length ss = omega (arith, lt, c.loop-i.invariant.many) in
+    ids_same ss c.loop-i.i c.beat_one.new.connection x within c.index_mut.ensures.value
+    c.beat_one.ensures.same ∙ c.loop-i.invariant.named
+
+pub returns-in_err-beat_one-clause-fewer : goal.returns-in_err-beat_one-clause-fewer
+returns-in_err-beat_one-clause-fewer c =
+    let ss = c.loop-i.connections.items in
+    let x : ConnectionValue = c.index_mut.result.now in
+    let lt : c.loop-i.i < length c.args.connections.now.items =
+    omega (arith, c.loop-i-test.true, c.len-i-end.ensures, c.args.connections.now.ok.0) in
+    let within : c.loop-i.i < length ss = omega (arith, lt, c.loop-i.invariant.many) in
+    let fewer = plays_fewer ss c.loop-i.i c.beat_one.new.connection x within
+    c.index_mut.ensures.value c.beat_one.ensures.stays in
+    omega (arith, fewer, c.loop-i.invariant.fewer)
+
+pub returns-clause-beaten : goal.returns-clause-beaten
+returns-clause-beaten c = λ w told.
+    let le : length c.args.connections.now.items ≤ c.loop-i.i =
+    omega (arith, c.loop-i-test.false, c.len-i-end.ensures, c.args.connections.now.ok.0) in
+    side_done _ c.args.connections.now.items c.loop-i.connections.items c.loop-i.i le
+    c.loop-i.invariant.many (c.loop-i.invariant.beaten w
+    (to_z-of_z w32 c.args.beat c.ranges.beat ∙ told))
+
+pub returns-clause-left : goal.returns-clause-left
+returns-clause-left c =
+    let le : length c.args.connections.now.items ≤ c.loop-i.i =
+    omega (arith, c.loop-i-test.false, c.len-i-end.ensures, c.args.connections.now.ok.0) in
+    c.loop-i.invariant.gone
+    ∙ left_done c.args.connections.now.items c.loop-i.connections.items c.loop-i.i le
+    c.loop-i.invariant.many

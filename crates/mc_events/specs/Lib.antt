@@ -1,0 +1,17 @@
+pub mod Asking
+pub mod Bare
+pub mod Names
+pub mod Served
+pub mod Leaving
+pub mod SideBySide
+pub mod Frames
+pub mod Handling
+pub mod LoggingIn
+pub mod Acting
+pub mod Stands
+pub mod Inputs
+pub mod ReadyColumns
+pub mod Roster
+pub mod Ticking
+pub mod Beating
+pub mod Scenes

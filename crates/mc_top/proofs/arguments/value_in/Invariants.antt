@@ -1,7 +1,0 @@
-use Rattle.std.proofs.Common.{◌≡◌, drop}
-use Rattle.mc_top.specs.Arguments.{value_in, bytes_of}
-use Rattle.mc_top.proofs.arguments.value_in.Given as goal
-
-abbrev pub invariant-loop-argument : goal.invariant-loop-argument
-invariant-loop-argument l = value_in l.name (bytes_of (drop l.argument-index l.arguments))
-    ≡ value_in l.name (bytes_of l.arguments)

@@ -1,0 +1,182 @@
+-- Reading the arguments of the command line one by one.
+use Rattle.std.proofs.Common.{◌≡◌, ℕ, ◌+◌, ◌<◌, ◌≤◌, Bool, true, false, cond, List, [], ◌∷◌, length}
+use Rattle.std.proofs.Common.{get_or, take, drop, Option, Some, None, refl, sym, ap, ◌∙◌, arith}
+use Rattle.std.proofs.Common.{add-one, drop-cons, nat_lt, ltb-false}
+use Rattle.std.specs.Prelude.{map, position, is_some, option_map, codes}
+use Rattle.std.specs.List.{position_or_len, list_any}
+use Rattle.std.specs.Str.{bytes_eq}
+use Rattle.std.proofs.lemmas.List.{drop_all, take_all}
+use Rattle.mc_words.specs.Arguments.{is_equals, name_of, value_of, value_in, are_options, status_of}
+use Rattle.mc_words.specs.Arguments.{replay_of, serve_of, command_of}
+
+-- ---- a name and a value
+
+place_is : (p : ℕ → Bool) (argument : List ℕ) (end : ℕ) → position p argument ≡ Some end →
+    position_or_len p argument ≡ end
+place_is p argument end e = step (nat_lt (position_or_len p argument) (length argument)) e
+  where
+    step : (t : Bool) → cond t (Some (position_or_len p argument)) None ≡ Some end →
+        position_or_len p argument ≡ end
+    step true e = cc
+    step false e = absurd cc
+
+no_place : (p : ℕ → Bool) (argument : List ℕ) → position p argument ≡ None →
+    length argument ≤ position_or_len p argument
+no_place p argument e = step (nat_lt (position_or_len p argument) (length argument)) refl e
+  where
+    step : (t : Bool) → nat_lt (position_or_len p argument) (length argument) ≡ t →
+        cond t (Some (position_or_len p argument)) None ≡ None →
+        length argument ≤ position_or_len p argument
+    step true t e = absurd cc
+    step false t e = ltb-false _ _ t
+
+pub name-some : (argument : List ℕ) (end : ℕ) → position is_equals argument ≡ Some end →
+    take end argument ≡ name_of argument
+unfolding name_of
+name-some argument end e = ap (λ (n : ℕ). take n argument) (sym (place_is is_equals argument end e))
+
+pub value-some : (argument : List ℕ) (end : ℕ) → position is_equals argument ≡ Some end →
+    drop (end + 1) argument ≡ value_of argument
+unfolding value_of
+value-some argument end e =
+    ap (λ (n : ℕ). drop (n + 1) argument) (sym (place_is is_equals argument end e))
+
+pub name-none : (argument : List ℕ) → position is_equals argument ≡ None →
+    argument ≡ name_of argument
+unfolding name_of
+name-none argument e =
+    sym (take_all (position_or_len is_equals argument) argument (no_place is_equals argument e))
+
+pub value-none : (argument : List ℕ) → position is_equals argument ≡ None →
+    drop (length argument) argument ≡ value_of argument
+unfolding value_of
+value-none argument e =
+    let past = no_place is_equals argument e in
+    drop_all (length argument) argument (omega arith)
+    ∙ sym (drop_all (position_or_len is_equals argument + 1) argument (omega (arith, past)))
+
+-- ---- lists of arguments, each seen as its bytes
+
+-- the first argument that is left, and those behind it
+left_next : {X : Type 0} (bytes : X → List ℕ) (arguments : List X) (i : ℕ) (default : X)
+    (argument : List ℕ) → i < length arguments → argument ≡ bytes (get_or arguments i default) →
+    map bytes (drop i arguments) ≡ argument ∷ map bytes (drop (i + 1) arguments)
+left_next bytes arguments i default argument less is =
+    rw (add-one, drop-cons arguments i default, is) refl
+
+-- a name is that of the next argument, or that of a later one, or of none
+pub value_here : {X : Type 0} (bytes : X → List ℕ) (name : List ℕ)
+    (arguments : List X) (i : ℕ) (default : X) (argument : List ℕ) → i < length arguments →
+    argument ≡ bytes (get_or arguments i default) → bytes_eq (name_of argument) name ≡ true →
+    value_in name (map bytes (drop i arguments)) ≡ Some (value_of argument)
+value_here bytes name arguments i default argument less is same =
+    rw (left_next bytes arguments i default argument less is, same) refl
+
+pub value_later : {X : Type 0} (bytes : X → List ℕ) (name : List ℕ)
+    (arguments : List X) (i : ℕ) (default : X) (argument : List ℕ) → i < length arguments →
+    argument ≡ bytes (get_or arguments i default) →
+    bytes_eq (name_of argument) name ≡ false → value_in name (map bytes (drop i arguments))
+    ≡ value_in name (map bytes (drop (i + 1) arguments))
+value_later bytes name arguments i default argument less is other =
+    rw (left_next bytes arguments i default argument less is, other) refl
+
+pub value_nowhere : {X : Type 0} (bytes : X → List ℕ) (name : List ℕ) (arguments : List X) (i : ℕ) →
+    length arguments ≤ i → value_in name (map bytes (drop i arguments)) ≡ None
+value_nowhere bytes name arguments i past = rw (drop_all i arguments past) refl
+
+-- a test holds of the next one, or of a later one, or of none
+pub any_here : {X : Type 0} (bytes : X → List ℕ) (test : List ℕ → Bool) (arguments : List X)
+    (i : ℕ) (default : X) (argument : List ℕ) →
+    i < length arguments → argument ≡ bytes (get_or arguments i default) → test argument ≡ true →
+    list_any test (map bytes (drop i arguments)) ≡ true
+any_here bytes test arguments i default argument less is holds =
+    rw (left_next bytes arguments i default argument less is, holds) refl
+
+pub any_later : {X : Type 0} (bytes : X → List ℕ)
+    (test : List ℕ → Bool) (arguments : List X) (i : ℕ) (default : X) (argument : List ℕ) →
+    i < length arguments → argument ≡ bytes (get_or arguments i default) →
+    test argument ≡ false → list_any test (map bytes (drop i arguments))
+    ≡ list_any test (map bytes (drop (i + 1) arguments))
+any_later bytes test arguments i default argument less is fails =
+    rw (left_next bytes arguments i default argument less is, fails) refl
+
+pub any_nowhere : {X : Type 0} (bytes : X → List ℕ) (test : List ℕ → Bool) (arguments : List X)
+    (i : ℕ) → length arguments ≤ i → list_any test (map bytes (drop i arguments)) ≡ false
+any_nowhere bytes test arguments i past = rw (drop_all i arguments past) refl
+
+-- the name of the next argument is not known, or that of a later one, or is fine
+pub options_unknown : {X : Type 0} (bytes : X → List ℕ)
+    (names : List (List ℕ)) (arguments : List X) (i : ℕ) (default : X) (argument : List ℕ) →
+    i < length arguments → argument ≡ bytes (get_or arguments i default) →
+    list_any (bytes_eq (name_of argument)) names ≡ false →
+    are_options names (map bytes (drop i arguments)) ≡ false
+options_unknown bytes names arguments i default argument less is known =
+    rw (left_next bytes arguments i default argument less is, known) refl
+
+pub options_twice : {X : Type 0} (bytes : X → List ℕ) (names : List (List ℕ))
+    (arguments : List X) (i : ℕ) (default : X) (argument : List ℕ) → i < length arguments →
+    argument ≡ bytes (get_or arguments i default) →
+    list_any (bytes_eq (name_of argument)) names ≡ true →
+    is_some (value_in (name_of argument) (map bytes (drop (i + 1) arguments))) ≡ true →
+    are_options names (map bytes (drop i arguments)) ≡ false
+options_twice bytes names arguments i default argument less is known twice =
+    rw (left_next bytes arguments i default argument less is, known, twice) refl
+
+pub options_later : {X : Type 0} (bytes : X → List ℕ) (names : List (List ℕ))
+    (arguments : List X) (i : ℕ) (default : X) (argument : List ℕ) → i < length arguments →
+    argument ≡ bytes (get_or arguments i default) →
+    list_any (bytes_eq (name_of argument)) names ≡ true →
+    is_some (value_in (name_of argument) (map bytes (drop (i + 1) arguments))) ≡ false →
+    are_options names (map bytes (drop i arguments))
+    ≡ are_options names (map bytes (drop (i + 1) arguments))
+options_later bytes names arguments i default argument less is known once =
+    rw (left_next bytes arguments i default argument less is, known, once) refl
+
+pub options_done : {X : Type 0} (bytes : X → List ℕ) (names : List (List ℕ)) (arguments : List X)
+    (i : ℕ) → length arguments ≤ i → are_options names (map bytes (drop i arguments)) ≡ true
+options_done bytes names arguments i past = rw (drop_all i arguments past) refl
+
+-- whether there is a value is seen through what is made of it
+pub some_seen : {X : Type 0} (bytes : X → List ℕ) (found : Option X) →
+    is_some (option_map bytes found) ≡ is_some found
+some_seen bytes None = refl
+some_seen bytes (Some x) = refl
+
+-- ---- commands
+
+pub no_command : command_of [] ≡ None
+unfolding command_of
+no_command = refl
+
+pub named_status : (verb : List ℕ) (arguments : List (List ℕ)) →
+    bytes_eq verb (codes "status") ≡ true → command_of (verb ∷ arguments) ≡ status_of arguments
+unfolding command_of
+named_status verb arguments is = rw is refl
+
+pub named_replay : (verb : List ℕ) (arguments : List (List ℕ)) →
+    bytes_eq verb (codes "status") ≡ false → bytes_eq verb (codes "replay") ≡ true →
+    command_of (verb ∷ arguments) ≡ replay_of arguments
+unfolding command_of
+named_replay verb arguments other is = rw (other, is) refl
+
+pub named_serve : (verb : List ℕ) (arguments : List (List ℕ)) →
+    bytes_eq verb (codes "status") ≡ false → bytes_eq verb (codes "replay") ≡ false →
+    bytes_eq verb (codes "serve") ≡ true → command_of (verb ∷ arguments) ≡ serve_of arguments
+unfolding command_of
+named_serve verb arguments first second is = rw (first, second, is) refl
+
+pub named_none : (verb : List ℕ) (arguments : List (List ℕ)) →
+    bytes_eq verb (codes "status") ≡ false → bytes_eq verb (codes "replay") ≡ false →
+    bytes_eq verb (codes "serve") ≡ false → command_of (verb ∷ arguments) ≡ None
+unfolding command_of
+named_none verb arguments first second third = rw (first, second, third) refl
+
+-- what a comparison with the verb's text answered is what one with its bytes gives
+pub compared : (text verb word : List ℕ) (answer b : Bool) → text ≡ verb →
+    answer ≡ bytes_eq text word → answer ≡ b → bytes_eq verb word ≡ b
+compared text verb word answer b same is was =
+    ap (λ (t : List ℕ). bytes_eq t word) (sym same) ∙ sym is ∙ was
+
+pub empty_is : {X : Type 0} (xs : List X) → length xs ≡ 0 → xs ≡ []
+empty_is [] none = refl
+empty_is (x ∷ xs) none = absurd (omega (arith, none))

@@ -1,0 +1,70 @@
+-- The devices of a run, as its promises see them: before it, and after it. Rules of this project.
+use Rattle.std.specs.Prelude.{◌≡◌, ℕ, ◌+◌, ◌≤◌, ◌⊎◌, List, ◌++◌, take, length, Option}
+use Rattle.mc_wire.specs.Count.{Rose}
+use Rattle.mc_wire.specs.LobbyCounts.{LobbyCounts}
+use Rattle.mc_wire.specs.LobbyTold.{LobbyTold}
+use Rattle.mc_wire.specs.Stream.{Consumes, Grows, IsAtEnd}
+use Rattle.mc_words.specs.Ended.{read_fault_line}
+use Rattle.mc_words.specs.Lines.{text_max}
+
+pub record Devices : Type 0 where
+  -- what the lobby tells, where it does
+  pub told : Option LobbyTold
+  -- how many of its calls failed, stalled and broke
+  pub counts : LobbyCounts
+  -- what is left of the input, where the source tells it
+  pub left : Option (List ℕ)
+  -- how many reads failed
+  pub read_faults : ℕ
+  -- what was written, where the sink tells it
+  pub held : Option (List ℕ)
+  -- how many writes failed
+  pub write_faults : ℕ
+
+abbrev pub devices : Option LobbyTold → LobbyCounts → Option (List ℕ) → ℕ → Option (List ℕ) → ℕ →
+    Devices
+devices told counts left read_faults held write_faults = record {
+  told = told;
+  counts = counts;
+  left = left;
+  read_faults = read_faults;
+  held = held;
+  write_faults = write_faults;
+}
+
+-- the lobby was not touched
+abbrev pub LobbyStays : Devices → Devices → Type 0
+LobbyStays before after = (after.told ≡ before.told) × (after.counts ≡ before.counts)
+
+-- the input was not read
+abbrev pub InputStays : Devices → Devices → Type 0
+InputStays before after =
+    (after.left ≡ before.left) × (after.read_faults ≡ before.read_faults)
+
+-- these bytes of an input were read, which are all of it or one more than a text has at most; no
+-- more are read
+pub record ReadsText (left left' : Option (List ℕ)) (bytes : List ℕ) : Type 0 where
+  pub given : Consumes left left' bytes
+  pub within : length bytes ≤ text_max + 1
+  pub enough : IsAtEnd left' ⊎ (length bytes ≡ text_max + 1)
+
+-- a text was read to its end, or to one byte past the most that a text has
+abbrev pub IsTextRead : Option (List ℕ) → Option (List ℕ) → Type 0
+IsTextRead left left' = (bytes : List ℕ) × ReadsText left left' bytes
+
+-- a last line, with its end, was written, or some first part of it where the sink failed
+abbrev pub WroteLast : Option (List ℕ) → Option (List ℕ) → ℕ → ℕ → List ℕ → Type 0
+WroteLast held held' faults faults' line =
+    Grows held held' line ⊎ (Rose faults faults' × (len : ℕ) × Grows held held' (take len line))
+
+-- a last line was written so behind a text
+abbrev pub WroteTextThenLast : Option (List ℕ) → Option (List ℕ) → ℕ → ℕ → List ℕ → List ℕ → Type 0
+WroteTextThenLast held held' faults faults' text line =
+    Grows held held' (text ++ line)
+    ⊎ (Rose faults faults' × (len : ℕ) × Grows held held' (text ++ take len line))
+
+-- a read failed, and nothing but the last line was written
+abbrev pub InputFailed : Devices → Devices → Type 0
+InputFailed before after =
+    Rose before.read_faults after.read_faults
+    × WroteLast before.held after.held before.write_faults after.write_faults read_fault_line

@@ -1,0 +1,56 @@
+-- The statuses of the program, and the last line that each has. Rules of this project.
+use Rattle.std.specs.Prelude.{ℕ, List, [], ◌∷◌, ◌++◌, Option, Some, None, codes, decimal}
+use Rattle.mc_words.specs.declared.bad_input.BadInput.{BadInput}
+use Rattle.mc_words.specs.declared.ended.Ended.{Ended}
+use Rattle.mc_words.specs.declared.ended.Ended.TheVariants as ended
+use Rattle.mc_words.specs.declared.ended.TheConstants.{USAGE}
+use Rattle.mc_words.specs.FaultName.{fault_name}
+
+-- how a command ends whose input has this first fault
+abbrev pub ended_after : Option BadInput → Ended
+ended_after None = ended.Done
+ended_after (Some bad) = ended.BadInput bad
+
+abbrev pub status_of : Ended → ℕ
+status_of ended.Done = 0
+status_of ended.NoMemory = 1
+status_of ended.Usage = 2
+status_of ended.ReadFault = 3
+status_of ended.WriteFault = 4
+status_of ended.NetFault = 5
+status_of (ended.BadInput bad) = 6
+status_of (ended.Budget n) = 7
+
+-- a line and its end
+abbrev pub ended_line : List ℕ → List ℕ
+ended_line line = line ++ 10 ∷ []
+
+-- the last lines, with their ends
+abbrev pub usage_line : List ℕ
+usage_line = USAGE.now
+
+abbrev pub read_fault_line : List ℕ
+read_fault_line = ended_line (codes "read fault")
+
+abbrev pub net_fault_line : List ℕ
+net_fault_line = ended_line (codes "net fault")
+
+-- how many events there may be, all of which came
+abbrev pub budget_line : ℕ → List ℕ
+budget_line n = ended_line (codes "budget " ++ decimal n)
+
+-- where the first fault of a text shows, and what it is
+abbrev pub bad_input_line : BadInput → List ℕ
+bad_input_line bad =
+    ended_line (codes "bad input at " ++ decimal bad.line ++ codes ": " ++ fault_name bad.kind)
+
+-- the last line where it has no number
+abbrev pub fixed_line_of : Ended → List ℕ
+fixed_line_of ended.Usage = usage_line
+fixed_line_of ended.ReadFault = read_fault_line
+fixed_line_of ended.Done = []
+fixed_line_of ended.NoMemory = []
+fixed_line_of ended.WriteFault = []
+fixed_line_of ended.NetFault = net_fault_line
+fixed_line_of (ended.BadInput bad) = []
+fixed_line_of (ended.Budget n) = []

@@ -1,0 +1,11 @@
+pub mod Lines
+pub mod FaultName
+pub mod Ended
+pub mod StatusText
+pub mod Received
+pub mod Arguments
+pub mod Devices
+pub mod Digits
+pub mod Script
+pub mod ScriptRead
+pub mod Passes

@@ -1,0 +1,304 @@
+ghost use Rattle.std.specs.Prelude.{◌≡◌, option_map, map, position};
+ghost use Rattle.std.specs.Str.{bytes_eq};
+ghost use Rattle.std.specs.List.{list_any};
+ghost use Rattle.mc_words.specs.Arguments.{is_equals, name_of, value_of, value_in, are_options};
+ghost use Rattle.mc_words.specs.Arguments.{number_in, number_or, terrain_of, players_in, view_in};
+ghost use Rattle.mc_words.specs.Arguments.{land_in, world_in, port_in, tick_limit_in, event_limit_in};
+ghost use Rattle.mc_words.specs.Arguments.{pace_of, pace_in, takes_no_capture};
+ghost use Rattle.mc_words.specs.Arguments.{status_of, replay_of, serve_of, command_of, bytes_of};
+
+use crate::digits::{ranged_u32, seed};
+use mc_land::Terrain;
+use mc_wire::Pace;
+
+/// The options of a world, as it begins.
+#[derive(Clone, Copy, Debug, PartialEq, Eq)]
+pub struct WorldOptions {
+    /// The most players.
+    pub players: u32,
+    /// How many columns a client sees to each side.
+    pub view: u32,
+    /// What the world is made of.
+    pub terrain: Terrain,
+}
+
+/// The options of `serve`.
+#[derive(Clone, Copy, Debug, PartialEq, Eq)]
+pub struct ServeOptions {
+    /// The world that is served.
+    pub world: WorldOptions,
+    /// The port to listen on.
+    pub port: u16,
+    /// After so many ticks it ends well.
+    pub ticks: u32,
+    /// After so many events it ends in any case.
+    pub events: u32,
+    /// What ticks come by.
+    pub pace: Pace,
+}
+
+/// What the arguments of the command line say.
+#[derive(Clone, Copy, Debug, PartialEq, Eq)]
+pub enum Command {
+    /// `status`, with the most players.
+    Status(u32),
+    /// `replay`, with the options of its world.
+    Replay(WorldOptions),
+    /// `serve`, with its options.
+    Serve(ServeOptions),
+}
+
+/// The place of the first `=`.
+fn equals(argument: &[u8]) -> Option<usize>
+    ensures { result ≡ position is_equals argument.now }
+{
+    argument.iter().position(|byte| *byte == b'=')
+}
+
+/// The name and the value of an option.
+fn cut_option(argument: &[u8]) -> (&[u8], &[u8])
+    ensures name { result.0.now ≡ name_of argument.now }
+    ensures value { result.1.now ≡ value_of argument.now }
+{
+    match equals(argument) {
+        Some(end) => (&argument[..end], argument.split_at(end + 1).1),
+        None => (argument, argument.split_at(argument.len()).1),
+    }
+}
+
+/// The value of a name among some arguments.
+fn value_in<'a>(name: &[u8], arguments: &'a [String]) -> Option<&'a [u8]>
+    ensures { option_map (λ value. value.now) result ≡ value_in name.now (bytes_of arguments.now) }
+{
+    for argument in arguments {
+        let (found, value) = cut_option(argument.as_bytes());
+        if found == name {
+            return Some(value);
+        }
+    }
+    None
+}
+
+/// Whether a name is one of some names.
+fn is_one(name: &[u8], names: &[&str]) -> bool
+    ensures { result ≡ list_any (bytes_eq name.now) (map (λ known. known.now) names.now) }
+{
+    for known in names {
+        if name == known.as_bytes() {
+            return true;
+        }
+    }
+    false
+}
+
+/// Whether the name of each argument is one of some names, and stands once.
+fn are_options(names: &[&str], arguments: &[String]) -> bool
+    ensures { result ≡ are_options (map (λ known. known.now) names.now) (bytes_of arguments.now) }
+{
+    for (i, argument) in arguments.iter().enumerate() {
+        let (name, _) = cut_option(argument.as_bytes());
+        if !is_one(name, names) {
+            return false;
+        }
+        if value_in(name, arguments.split_at(i + 1).1).is_some() {
+            return false;
+        }
+    }
+    true
+}
+
+/// A number of an option that must stand.
+fn number_in(low: u32, high: u32, value: Option<&[u8]>) -> Option<u32>
+    ensures { result ≡ number_in low high (option_map (λ v. v.now) value.entry) }
+{
+    ranged_u32(value?, low, high)
+}
+
+/// A number that stands for an option, or its default.
+fn number_or(default: u32, low: u32, high: u32, value: Option<&[u8]>) -> Option<u32>
+    ensures { result ≡ number_or default low high (option_map (λ v. v.now) value.entry) }
+{
+    match value {
+        None => Some(default),
+        Some(value) => ranged_u32(value, low, high),
+    }
+}
+
+/// The terrain that a value names.
+#[tactic(auto, unfolding(crate::specs::Arguments::terrain_of))]
+fn terrain_of(value: &[u8]) -> Option<Terrain>
+    ensures { result ≡ terrain_of value.now }
+{
+    if value == b"flat".as_slice() {
+        return Some(Terrain::Flat);
+    }
+    if value == b"isle".as_slice() {
+        return Some(Terrain::Isle);
+    }
+    let digits = value.strip_prefix(b"hills:".as_slice())?;
+    Some(Terrain::Hills(seed(digits)?))
+}
+
+/// The most players.
+#[tactic(auto, unfolding(crate::specs::Arguments::players_in))]
+fn players(arguments: &[String]) -> Option<u32>
+    ensures { result ≡ players_in (bytes_of arguments.now) }
+{
+    number_or(20, 1, 50, value_in(b"players".as_slice(), arguments))
+}
+
+/// How many columns a client sees to each side.
+#[tactic(auto, unfolding(crate::specs::Arguments::view_in))]
+fn view(arguments: &[String]) -> Option<u32>
+    ensures { result ≡ view_in (bytes_of arguments.now) }
+{
+    number_or(6, 2, 8, value_in(b"view".as_slice(), arguments))
+}
+
+/// What the world is made of.
+#[tactic(auto, unfolding(crate::specs::Arguments::land_in))]
+fn land(arguments: &[String]) -> Option<Terrain>
+    ensures { result ≡ land_in (bytes_of arguments.now) }
+{
+    match value_in(b"land".as_slice(), arguments) {
+        None => Some(Terrain::Flat),
+        Some(value) => terrain_of(value),
+    }
+}
+
+/// The options of a world.
+fn world(arguments: &[String]) -> Option<WorldOptions>
+    ensures { result ≡ world_in (bytes_of arguments.now) }
+{
+    Some(WorldOptions {
+        players: players(arguments)?,
+        view: view(arguments)?,
+        terrain: land(arguments)?,
+    })
+}
+
+/// The port to listen on.
+#[tactic(auto, unfolding(crate::specs::Arguments::port_in))]
+fn port(arguments: &[String]) -> Option<u16>
+    ensures { result ≡ port_in (bytes_of arguments.now) }
+{
+    let port = number_in(1, 65_535, value_in(b"port".as_slice(), arguments))?;
+    u16::try_from(port).ok()
+}
+
+/// After how many ticks serving ends well.
+#[tactic(auto, unfolding(crate::specs::Arguments::tick_limit_in))]
+fn tick_limit(arguments: &[String]) -> Option<u32>
+    ensures { result ≡ tick_limit_in (bytes_of arguments.now) }
+{
+    number_in(1, 1_000_000_000, value_in(b"ticks".as_slice(), arguments))
+}
+
+/// After how many events serving ends in any case.
+#[tactic(auto, unfolding(crate::specs::Arguments::event_limit_in))]
+fn event_limit(arguments: &[String]) -> Option<u32>
+    ensures { result ≡ event_limit_in (bytes_of arguments.now) }
+{
+    number_or(
+        4_000_000_000,
+        1,
+        4_000_000_000,
+        value_in(b"events".as_slice(), arguments),
+    )
+}
+
+/// The pace that a value names.
+fn pace_of(value: &[u8]) -> Option<Pace>
+    ensures { result ≡ pace_of value.now }
+{
+    if value == b"clock".as_slice() {
+        return Some(Pace::Clock);
+    }
+    if value == b"turns".as_slice() {
+        return Some(Pace::Turns);
+    }
+    None
+}
+
+/// What ticks come by.
+#[tactic(auto, unfolding(crate::specs::Arguments::pace_in))]
+fn pace(arguments: &[String]) -> Option<Pace>
+    ensures { result ≡ pace_in (bytes_of arguments.now) }
+{
+    match value_in(b"pace".as_slice(), arguments) {
+        None => Some(Pace::Clock),
+        Some(value) => pace_of(value),
+    }
+}
+
+/// Whether no capture is asked for.
+#[tactic(auto, unfolding(crate::specs::Arguments::takes_no_capture))]
+fn takes_no_capture(arguments: &[String]) -> bool
+    ensures { result ≡ takes_no_capture (bytes_of arguments.now) }
+{
+    match value_in(b"capture".as_slice(), arguments) {
+        None => true,
+        Some(value) => value == b"no".as_slice(),
+    }
+}
+
+/// `status`, with its options.
+fn status(arguments: &[String]) -> Option<Command>
+    ensures { result ≡ status_of (bytes_of arguments.now) }
+{
+    if !are_options(&["players"], arguments) {
+        return None;
+    }
+    Some(Command::Status(players(arguments)?))
+}
+
+/// `replay`, with its options.
+fn replay(arguments: &[String]) -> Option<Command>
+    ensures { result ≡ replay_of (bytes_of arguments.now) }
+{
+    if !are_options(&["players", "view", "land"], arguments) {
+        return None;
+    }
+    Some(Command::Replay(world(arguments)?))
+}
+
+/// The names of the options of `serve`.
+const SERVE_NAMES: [&str; 8] = [
+    "port", "ticks", "players", "view", "land", "events", "pace", "capture",
+];
+
+/// `serve`, with its options.
+fn serve(arguments: &[String]) -> Option<Command>
+    ensures { result ≡ serve_of (bytes_of arguments.now) }
+{
+    if !are_options(&SERVE_NAMES, arguments) || !takes_no_capture(arguments) {
+        return None;
+    }
+    Some(Command::Serve(ServeOptions {
+        world: world(arguments)?,
+        port: port(arguments)?,
+        ticks: tick_limit(arguments)?,
+        events: event_limit(arguments)?,
+        pace: pace(arguments)?,
+    }))
+}
+
+impl Command {
+    /// What the arguments after the program's name say, or none where they name no command with
+    /// its options.
+    pub fn read(arguments: &[String]) -> Option<Command>
+        ensures { result ≡ command_of (bytes_of arguments.now) }
+    {
+        let (verb, options) = arguments.split_first()?;
+        if verb.as_str() == "status" {
+            return status(options);
+        }
+        if verb.as_str() == "replay" {
+            return replay(options);
+        }
+        if verb.as_str() == "serve" {
+            return serve(options);
+        }
+        None
+    }
+}

@@ -1,0 +1,79 @@
+ghost use Rattle.std.specs.Prelude.{◌≡◌, IfOk, string_bytes};
+ghost use Rattle.mc_words.specs.Ended.{status_of, fixed_line_of, ended_after, budget_line};
+
+use crate::bad_input::BadInput;
+use mc_nbt::NoMemory;
+use std::alloc::Global;
+
+/// The line that says how the program is called, with its end.
+pub const USAGE: &str = "usage: craft47 status, serve, replay, bot, view, show or load\n";
+
+/// How a command ended.
+#[derive(Clone, Copy, Debug, PartialEq, Eq)]
+pub enum Ended {
+    /// It did all that it was asked.
+    Done,
+    /// There was no memory.
+    NoMemory,
+    /// The arguments name no command.
+    Usage,
+    /// The input failed.
+    ReadFault,
+    /// The output failed.
+    WriteFault,
+    /// The lobby could not listen, or not say what comes next.
+    NetFault,
+    /// The input is not what the command reads.
+    BadInput(BadInput),
+    /// So many events came, all that may.
+    Budget(u64),
+}
+
+/// The last line of a command that used up its events, with its end.
+pub fn budget_line(alloc: Global, events: u64) -> Result<String, NoMemory>
+    ensures { IfOk result (λ text. string_bytes text ≡ budget_line events) }
+{
+    Ok(format!(in alloc; "budget {events}\n")?)
+}
+
+impl Ended {
+    /// How a command ends whose input has this first fault.
+    pub fn after(fault: Option<BadInput>) -> Ended
+        ensures { result ≡ ended_after fault }
+    {
+        match fault {
+            None => Ended::Done,
+            Some(bad) => Ended::BadInput(bad),
+        }
+    }
+
+    /// The status of the program.
+    pub fn status(self) -> u8
+        ensures { result ≡ status_of self }
+    {
+        match self {
+            Ended::Done => 0,
+            Ended::NoMemory => 1,
+            Ended::Usage => 2,
+            Ended::ReadFault => 3,
+            Ended::WriteFault => 4,
+            Ended::NetFault => 5,
+            Ended::BadInput(_) => 6,
+            Ended::Budget(_) => 7,
+        }
+    }
+
+    /// The last line of the output with its end, or nothing where there is none or where it has a
+    /// number.
+    pub fn last_line(self) -> &'static [u8]
+        ensures { result.now ≡ fixed_line_of self }
+    {
+        match self {
+            Ended::Done | Ended::NoMemory | Ended::WriteFault => b"",
+            Ended::BadInput(_) | Ended::Budget(_) => b"",
+            Ended::Usage => USAGE.as_bytes(),
+            Ended::ReadFault => b"read fault\n",
+            Ended::NetFault => b"net fault\n",
+        }
+    }
+}
