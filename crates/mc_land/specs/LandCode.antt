@@ -5,7 +5,7 @@ use lib.IntN.{ℤ}
 use Rattle.std.specs.FinMap as map
 use Rattle.std.specs.FinSet as set
 use Rattle.mc_slots.specs.declared.pile.Pile.{Pile}
-use Rattle.mc_slots.specs.declared.pile.Pile.TheVariants.{Empty, Full}
+use Rattle.mc_slots.specs.PileCode.{coded_pile}
 use Rattle.mc_land.specs.declared.terrain.Terrain.{Terrain}
 use Rattle.mc_land.specs.declared.terrain.Terrain.TheVariants.{Flat, Hills, Isle}
 use Rattle.mc_land.specs.Places.{Place, Key, place_cmp, key_cmp}
@@ -29,22 +29,6 @@ terrain_again (Hills seed) = refl
 abbrev pub coded_terrain : Coded Terrain
 coded_terrain = code_by (Option (Option ℕ)) (coded_option (coded_option coded_ℕ)) terrain_stored
     terrain_back terrain_again
-
-abbrev pub pile_stored : Pile → Option (ℤ × (ℤ × ℕ))
-pile_stored Empty = None
-pile_stored (Full item) = Some (item.id, (item.damage, item.count))
-
-abbrev pub pile_back : Option (ℤ × (ℤ × ℕ)) → Pile
-pile_back None = Empty
-pile_back (Some parts) = Full (record { id = parts.0; damage = parts.1.0; count = parts.1.1 })
-
-abbrev pub pile_again : (pile : Pile) → pile_back (pile_stored pile) ≡ pile
-pile_again Empty = refl
-pile_again (Full item) = refl
-
-abbrev pub coded_pile : Coded Pile
-coded_pile = code_by (Option (ℤ × (ℤ × ℕ))) (coded_option (coded× coded_ℤ (coded× coded_ℤ coded_ℕ)))
-    pile_stored pile_back pile_again
 
 abbrev pub coded_place : Coded Place
 coded_place = coded× coded_ℤ coded_ℤ

@@ -5,13 +5,10 @@ use Rattle.std.specs.declared.cmp.Ordering.{Ordering}
 use Rattle.std.specs.Ordering.{nat_cmp, int_cmp, ordering_then}
 use Rattle.std.specs.Int.{int_div_euclid, int_rem_euclid}
 use Rattle.mc_column.specs.Cells.{cell_index}
+pub use Rattle.mc_column.specs.Places.{Place}
 use Rattle.mc_land.specs.declared.places.TheConstants.{BORDER}
 use lib.IntN.{ℤ, pos, negsuc, ◌+ℤ◌, ◌*ℤ◌}
 use lib.Signed.{◌≤ℤ◌}
-
--- a column of cells, by its numbers cx and cz: the cells from 16 cx and 16 cz on
-abbrev pub Place : Type 0
-Place = ℤ × ℤ
 
 -- a cell: its column, and y * 256 + z * 16 + x in that
 abbrev pub Key : Type 0

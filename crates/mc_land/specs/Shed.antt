@@ -1,13 +1,14 @@
 -- Which columns stay ready when the rest is given up: those with an edit, and those that a view
 -- reaches. Rules of this project.
-use Rattle.std.specs.Prelude.{◌≡◌, ℕ, Bool, ◌&&◌, ◌||◌, nat_le, List, unsigned_abs}
+use Rattle.std.specs.Prelude.{◌≡◌, ℕ, Bool, ◌||◌, List}
 use Rattle.std.specs.Ordering.{eq_by_cmp}
 use Rattle.std.specs.List.{list_any}
 use Rattle.std.specs.FinMap.{FinMap, entries}
 use Rattle.std.specs.FinSet as set
+pub use Rattle.mc_column.specs.Places.{is_in_view}
 use Rattle.mc_land.specs.Places.{Place, place_cmp, key_cmp}
 use Rattle.mc_land.specs.Land.{LandValue}
-use lib.IntN.{ℤ, ◌-ℤ◌}
+use lib.IntN.{ℤ}
 
 -- a view is the numbers of its middle column, and how many columns it reaches on each axis
 abbrev pub View : Type 0
@@ -16,11 +17,6 @@ View = ℤ × ℤ × ℕ
 -- no cell is dirty
 pub record IsSettled (land : LandValue) : Type 0 where
   pub all : land.settled ≡ land.edits
-
--- a column is at most d columns off the middle on each axis
-abbrev pub is_in_view : Place → ℕ → Place → Bool
-is_in_view middle d place =
-    nat_le (unsigned_abs (place.0 -ℤ middle.0)) d && nat_le (unsigned_abs (place.1 -ℤ middle.1)) d
 
 -- one of the views has the column
 abbrev pub is_seen : List View → Place → Bool

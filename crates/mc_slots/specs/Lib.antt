@@ -4,5 +4,6 @@ pub mod SlotParts
 pub mod SlotLaws
 pub mod SlotFormat
 pub mod Pile
+pub mod PileCode
 pub mod PileLaws
 pub mod Chest

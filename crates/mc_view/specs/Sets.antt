@@ -2,7 +2,7 @@
 -- Rules of this project.
 use Rattle.std.specs.Prelude.{not, Bool, false, List, Option, Some, None}
 use Rattle.std.specs.List.{filter}
-use Rattle.mc_land.specs.Places.{Place}
+use Rattle.mc_column.specs.Places.{Place}
 use Rattle.mc_view.specs.Views.{is_in_view, view_of}
 use Rattle.mc_view.specs.declared.view_set.ViewSet.{ViewSet}
 

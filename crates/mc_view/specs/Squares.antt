@@ -3,7 +3,7 @@ use Rattle.std.specs.Prelude.{◌≡◌, ℕ, ◌+◌, ◌-◌, ◌<◌, ◌≤�
 use Rattle.std.specs.List.{flat_map, range_with_len}
 use lib.IntN.{ℤ, pos, negsuc, ◌+ℤ◌}
 use lib.Signed.{◌≤ℤ◌}
-use Rattle.mc_land.specs.Places.{Place}
+use Rattle.mc_column.specs.Places.{Place}
 
 -- n whole numbers, from the one that is so far from the first on
 abbrev pub run_from : ℤ → ℕ → ℕ → List ℤ

@@ -4,7 +4,7 @@ use Rattle.std.specs.Coded.{Coded, code_by, coded×, coded_ℕ, coded_ℤ}
 use Rattle.std.specs.FinMap.{code}
 use lib.IntN.{ℤ}
 use Rattle.mc_fields.specs.declared.position.Spot.{Spot}
-use Rattle.mc_land.specs.LandCode.{coded_pile}
+use Rattle.mc_slots.specs.PileCode.{coded_pile}
 use Rattle.mc_view.specs.Told.{Told}
 
 abbrev pub coded_spot : Coded Spot

@@ -3,8 +3,8 @@ use Rattle.std.specs.Prelude.{ℕ, max, min, ◌+◌, ◌*◌, List, map}
 use Rattle.std.specs.List.{flat_map, range_with_len}
 use Rattle.std.specs.Int.{int_div_euclid}
 use lib.IntN.{ℤ, pos, negsuc, ◌+ℤ◌, ◌-ℤ◌}
-use Rattle.mc_land.specs.Places.{Place}
-pub use Rattle.mc_land.specs.Shed.{is_in_view}
+use Rattle.mc_column.specs.Places.{Place}
+pub use Rattle.mc_column.specs.Places.{is_in_view}
 use Rattle.mc_fields.specs.declared.position.Spot.{Spot}
 
 -- n whole numbers, from one on

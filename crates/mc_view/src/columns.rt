@@ -17,7 +17,7 @@ pub struct Columns {
 impl Model for Columns {
     ghost use Rattle.std.specs.Prelude.{List, not};
     ghost use Rattle.std.specs.List.{filter};
-    ghost use Rattle.mc_land.specs.Places.{Place};
+    ghost use Rattle.mc_column.specs.Places.{Place};
     ghost use Rattle.mc_view.specs.Sets.{is_within};
 
     ghost Value = { List Place };

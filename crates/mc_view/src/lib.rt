@@ -1,6 +1,6 @@
 //! Which columns a client sees, which of one view another lacks, and what it was told of entities.
 //!
-//! Stands on the columns of `mc_land`, the spots of `mc_fields` and the piles of `mc_slots`. Its
+//! Stands on the columns of `mc_column`, the spots of `mc_fields` and the piles of `mc_slots`. Its
 //! one contract: a view set is the columns that are at most so many columns off its middle, what
 //! enters and what leaves a moving view are those of one set that the other lacks, in rising order,
 //! and an entity's change is told by comparing the spot and the pile that a client was told with

@@ -44,7 +44,7 @@ pub struct Square {
 
 impl Model for Square {
     ghost use Rattle.std.specs.Prelude.{List};
-    ghost use Rattle.mc_land.specs.Places.{Place};
+    ghost use Rattle.mc_column.specs.Places.{Place};
     ghost use Rattle.mc_view.specs.Squares.{IsSquare, rest_of};
 
     ghost Value = { List Place };

@@ -1,6 +1,6 @@
 use Rattle.std.proofs.Common.{◌≡◌, List, [], ◌∷◌, true, refl, ap, ◌∙◌}
 use Rattle.std.specs.List.{filter}
-use Rattle.mc_land.specs.Places.{Place}
+use Rattle.mc_column.specs.Places.{Place}
 use Rattle.mc_view.proofs.columns.Columns.all.Goals as goal
 
 -- a test that all pass leaves all

@@ -1,7 +1,7 @@
 use Rattle.std.proofs.Common.{◌≡◌, length}
 use Rattle.std.specs.Prelude.{not}
 use Rattle.std.specs.List.{filter}
-use Rattle.mc_land.specs.Places.{Place}
+use Rattle.mc_column.specs.Places.{Place}
 use Rattle.mc_view.specs.Sets.{is_within}
 use Rattle.mc_view.proofs.columns.ColumnsIterator.next.Given as goal
 

@@ -1,5 +1,5 @@
 use Rattle.std.proofs.Common.{sym, ap, ◌∙◌, ◌∷◌, ◌+◌, arith}
-use Rattle.mc_land.specs.Places.{Place}
+use Rattle.mc_column.specs.Places.{Place}
 use Rattle.mc_view.specs.Squares.{rest_of}
 use Rattle.mc_view.proofs.Rows.{in_row}
 use Rattle.mc_view.proofs.square.Square.next.Goals as goal
