@@ -123,17 +123,28 @@ fn answered(alloc: Global, row: &str) -> Answer {
     answer
 }
 
+/// Writes a row, and what it answers where it is a call.
+fn write_row<W: Write>(alloc: Global, row: &str, out: &mut W) -> io::Result<()> {
+    if row.is_empty() || row.starts_with('#') {
+        return writeln!(out, "{row}");
+    }
+    let answer = answered(alloc, row);
+    let done = writeln!(out, "{row} -> {answer}");
+    drop(answer);
+    done
+}
+
+/// Writes the rows of a table.
+fn write_rows<W: Write>(alloc: Global, table: &str, out: &mut W) -> io::Result<()> {
+    for row in table.trim_end_matches('\n').split('\n') {
+        write_row(alloc, row, out)?;
+    }
+    out.flush()
+}
+
 fn main(rt: HostRuntime) -> io::Result<()> {
     let alloc = rt.alloc();
     let table = io::read_to_string(alloc, rt.reader())?;
     let mut out = BufWriter::new(alloc, io::writer(&rt))?;
-    for row in table.as_str().trim_end_matches('\n').split('\n') {
-        if row.is_empty() || row.starts_with('#') {
-            writeln!(out, "{row}")?;
-        } else {
-            let answer = answered(alloc, row);
-            writeln!(out, "{row} -> {answer}")?;
-        }
-    }
-    out.flush()
+    write_rows(alloc, table.as_str(), &mut out)
 }

@@ -12,11 +12,16 @@ use mc_wire::{
 fn fails(words: &mut Words<'_>, answer: &mut Answer) -> Vec<u64> {
     let mut fails = Vec::new(words.alloc);
     for number in words.word().split(',') {
-        if let Ok(number) = number.parse::<u64>() {
-            answer.needs(fails.push(number));
-        }
+        push_number(&mut fails, number, answer);
     }
     fails
+}
+
+/// Appends the number that a text is, where it is one.
+fn push_number(numbers: &mut Vec<u64>, text: &str, answer: &mut Answer) {
+    if let Ok(number) = text.parse::<u64>() {
+        answer.needs(numbers.push(number));
+    }
 }
 
 /// Reads from a source.

@@ -18,6 +18,7 @@ pub fn down(words: &mut Words<'_>, answer: &mut Answer) {
             put_state(&packet, answer);
             let mut out = Vec::new(words.alloc);
             answer.needs(write_down(&packet, &mut out));
+            drop(packet);
             answer.frame_again(&frame, &out);
         }
         Err(error) => packet_read(error, answer),
@@ -31,6 +32,7 @@ pub fn again(words: &mut Words<'_>, answer: &mut Answer) {
         Ok(packet) => {
             let mut out = Vec::new(words.alloc);
             answer.needs(write_down(&packet, &mut out));
+            drop(packet);
             answer.word("read");
             answer.frame_again(&frame, &out);
         }
@@ -46,7 +48,9 @@ pub fn destroy(words: &mut Words<'_>, answer: &mut Answer) {
             answer.needs(list.push(words.number()));
         }
     }
-    put_state(&Down::Destroy(list), answer);
+    let packet = Down::Destroy(list);
+    put_state(&packet, answer);
+    drop(packet);
 }
 
 /// Reads metadata.
@@ -64,7 +68,7 @@ pub fn meta(words: &mut Words<'_>, answer: &mut Answer) {
     }
 }
 
-/// Puts the fields of a packet, in their order: the state of the connection and of the player.
+/// Puts the fields of a packet, in their order: the state of the connection.
 fn put_state(packet: &Down, answer: &mut Answer) {
     match packet {
         Down::KeepAlive(id) => fields!(answer, "KeepAlive", number * id),
@@ -78,12 +82,11 @@ fn put_state(packet: &Down, answer: &mut Answer) {
             reduced_debug_info: reduced,
         } => {
             fields!(
-                answer, "JoinGame", number *eid, number *mode, number *dimension,
-                number *difficulty, number *max_players, text level_type, number *reduced
+                answer, "JoinGame",
+                number *eid, number *mode, number *dimension, number *difficulty,
+                number *max_players,
+                text level_type, number *reduced
             )
-        }
-        Down::Health(health, food, saturation) => {
-            fields!(answer, "Health", float health, number *food, float saturation)
         }
         Down::Respawn {
             dimension,
@@ -94,6 +97,17 @@ fn put_state(packet: &Down, answer: &mut Answer) {
             answer, "Respawn", number *dimension, number *difficulty, number *mode,
             text level_type
         ),
+        Down::Disconnect(reason) => fields!(answer, "Disconnect", text reason),
+        _ => put_own(packet, answer),
+    }
+}
+
+/// Puts the fields of a packet: the state of the player.
+fn put_own(packet: &Down, answer: &mut Answer) {
+    match packet {
+        Down::Health(health, food, saturation) => {
+            fields!(answer, "Health", float health, number *food, float saturation)
+        }
         Down::PositionLook {
             x,
             y,
@@ -112,7 +126,6 @@ fn put_state(packet: &Down, answer: &mut Answer) {
         Down::Abilities(flags, flying, view) => {
             fields!(answer, "Abilities", number *flags, float flying, float view)
         }
-        Down::Disconnect(reason) => fields!(answer, "Disconnect", text reason),
         _ => put_talk(packet, answer),
     }
 }
@@ -129,7 +142,7 @@ fn put_talk(packet: &Down, answer: &mut Answer) {
     }
 }
 
-/// Puts the fields of a packet: entities that come and go.
+/// Puts the fields of a packet: entities that come.
 fn put_spawn(packet: &Down, answer: &mut Answer) {
     match packet {
         Down::SpawnPlayer {
@@ -143,10 +156,10 @@ fn put_spawn(packet: &Down, answer: &mut Answer) {
             item,
             metas: list,
         } => fields!(
-            answer, "SpawnPlayer", number *eid, uuid id, number *x, number *y, number *z,
-            number *yaw, number *pitch, number *item, metas list
+            answer, "SpawnPlayer", number *eid, uuid id,
+            number *x, number *y, number *z, number *yaw, number *pitch, number *item,
+            metas list
         ),
-        Down::Collect(item, taker) => fields!(answer, "Collect", number * item, number * taker),
         Down::SpawnObject {
             eid,
             kind,
@@ -158,8 +171,10 @@ fn put_spawn(packet: &Down, answer: &mut Answer) {
             extra,
             speed,
         } => fields!(
-            answer, "SpawnObject", number *eid, number *kind, number *x, number *y, number *z,
-            number *pitch, number *yaw, number *extra, maybe_speed speed
+            answer, "SpawnObject",
+            number *eid, number *kind, number *x, number *y, number *z, number *pitch, number *yaw,
+            number *extra,
+            maybe_speed speed
         ),
         Down::SpawnMob {
             eid,
@@ -175,15 +190,31 @@ fn put_spawn(packet: &Down, answer: &mut Answer) {
             dz,
             metas: list,
         } => fields!(
-            answer, "SpawnMob", number *eid, number *kind, number *x, number *y, number *z,
-            number *yaw, number *pitch, number *head, number *dx, number *dy, number *dz,
+            answer, "SpawnMob",
+            number *eid, number *kind, number *x, number *y, number *z, number *yaw, number *pitch,
+            number *head, number *dx, number *dy, number *dz,
             metas list
         ),
+        _ => put_entity(packet, answer),
+    }
+}
+
+/// Puts the fields of a packet: entities that go, and what they have.
+fn put_entity(packet: &Down, answer: &mut Answer) {
+    match packet {
+        Down::Collect(item, taker) => fields!(answer, "Collect", number * item, number * taker),
         Down::Destroy(list) => fields!(answer, "Destroy", varints list),
         Down::Meta(eid, list) => fields!(answer, "Meta", number *eid, metas list),
         Down::Equipment(eid, place, item) => {
             fields!(answer, "Equipment", number *eid, number *place, slot item)
         }
+        _ => put_gesture(packet, answer),
+    }
+}
+
+/// Puts the fields of a packet: what entities do.
+fn put_gesture(packet: &Down, answer: &mut Answer) {
+    match packet {
         Down::Animation(eid, kind) => fields!(answer, "Animation", number * eid, number * kind),
         Down::Status(eid, kind) => fields!(answer, "Status", number * eid, number * kind),
         Down::Attach(eid, vehicle, leash) => {
@@ -228,6 +259,32 @@ fn put_move(packet: &Down, answer: &mut Answer) {
             number * dz,
             number * ground
         ),
+        Down::Teleport {
+            eid,
+            x,
+            y,
+            z,
+            yaw,
+            pitch,
+            on_ground: ground,
+        } => fields!(
+            answer,
+            "Teleport",
+            number * eid,
+            number * x,
+            number * y,
+            number * z,
+            number * yaw,
+            number * pitch,
+            number * ground
+        ),
+        _ => put_turn(packet, answer),
+    }
+}
+
+/// Puts the fields of a packet: entities that turn.
+fn put_turn(packet: &Down, answer: &mut Answer) {
+    match packet {
         Down::Look {
             eid,
             yaw,
@@ -262,25 +319,6 @@ fn put_move(packet: &Down, answer: &mut Answer) {
             number * pitch,
             number * ground
         ),
-        Down::Teleport {
-            eid,
-            x,
-            y,
-            z,
-            yaw,
-            pitch,
-            on_ground: ground,
-        } => fields!(
-            answer,
-            "Teleport",
-            number * eid,
-            number * x,
-            number * y,
-            number * z,
-            number * yaw,
-            number * pitch,
-            number * ground
-        ),
         Down::HeadLook(eid, yaw) => fields!(answer, "HeadLook", number * eid, number * yaw),
         _ => put_world(packet, answer),
     }
@@ -291,6 +329,15 @@ fn put_world(packet: &Down, answer: &mut Answer) {
     match packet {
         Down::Time(age, day) => fields!(answer, "Time", number * age, number * day),
         Down::SpawnPosition(place) => fields!(answer, "SpawnPosition", cell place),
+        Down::GameState(kind, value) => fields!(answer, "GameState", number *kind, float value),
+        Down::Difficulty(level) => fields!(answer, "Difficulty", number * level),
+        _ => put_cells(packet, answer),
+    }
+}
+
+/// Puts the fields of a packet: cells of the world.
+fn put_cells(packet: &Down, answer: &mut Answer) {
+    match packet {
         Down::Chunk {
             cx,
             cz,
@@ -298,15 +345,14 @@ fn put_world(packet: &Down, answer: &mut Answer) {
             mask,
             body,
         } => fields!(
-            answer, "Chunk", number *cx, number *cz, number *ground_up, number *mask, octets body
+            answer, "Chunk", number *cx, number *cz, number *ground_up, number *mask,
+            octets body
         ),
         Down::MultiChange(cx, cz, list) => {
             fields!(answer, "MultiChange", number *cx, number *cz, records list)
         }
         Down::Change(place, state) => fields!(answer, "Change", cell place, number *state),
-        Down::GameState(kind, value) => fields!(answer, "GameState", number *kind, float value),
         Down::SignEditor(place) => fields!(answer, "SignEditor", cell place),
-        Down::Difficulty(level) => fields!(answer, "Difficulty", number * level),
         _ => put_window(packet, answer),
     }
 }
@@ -325,12 +371,6 @@ fn put_window(packet: &Down, answer: &mut Answer) {
             maybe_number horse
         ),
         Down::CloseWindow(window) => fields!(answer, "CloseWindow", number * window),
-        Down::SetSlot(window, index, item) => {
-            fields!(answer, "SetSlot", number *window, number *index, slot item)
-        }
-        Down::WindowItems(window, list) => {
-            fields!(answer, "WindowItems", number *window, slots list)
-        }
         Down::WindowProperty(window, property, value) => {
             fields!(
                 answer,
@@ -339,6 +379,19 @@ fn put_window(packet: &Down, answer: &mut Answer) {
                 number * property,
                 number * value
             )
+        }
+        _ => put_slots(packet, answer),
+    }
+}
+
+/// Puts the fields of a packet: what windows hold.
+fn put_slots(packet: &Down, answer: &mut Answer) {
+    match packet {
+        Down::SetSlot(window, index, item) => {
+            fields!(answer, "SetSlot", number *window, number *index, slot item)
+        }
+        Down::WindowItems(window, list) => {
+            fields!(answer, "WindowItems", number *window, slots list)
         }
         Down::Confirm(window, click, accepted) => {
             fields!(

@@ -176,20 +176,40 @@ fn answered(bench: &mut Bench, alloc: Global, row: &str) -> Answer {
     answer
 }
 
+/// Writes a row, and what it answers where it is a call.
+fn write_row<W: Write>(alloc: Global, bench: &mut Bench, row: &str, out: &mut W) -> io::Result<()> {
+    if row.is_empty() || row.starts_with('#') {
+        return writeln!(out, "{row}");
+    }
+    let answer = answered(bench, alloc, row);
+    let done = writeln!(out, "{row} -> {answer}");
+    drop(answer);
+    done
+}
+
+/// Writes the rows of a table.
+fn write_rows<W: Write>(
+    alloc: Global,
+    bench: &mut Bench,
+    table: &str,
+    out: &mut W,
+) -> io::Result<()> {
+    for row in table.trim_end_matches('\n').split('\n') {
+        write_row(alloc, bench, row, out)?;
+    }
+    out.flush()
+}
+
 fn main(rt: HostRuntime) -> io::Result<()> {
     let alloc = rt.alloc();
     let table = io::read_to_string(alloc, rt.reader())?;
-    let Ok(mut bench) = new_bench(alloc) else {
-        return println!(rt; "{NoMemory}");
-    };
     let mut out = BufWriter::new(alloc, io::writer(&rt))?;
-    for row in table.as_str().trim_end_matches('\n').split('\n') {
-        if row.is_empty() || row.starts_with('#') {
-            writeln!(out, "{row}")?;
-        } else {
-            let answer = answered(&mut bench, alloc, row);
-            writeln!(out, "{row} -> {answer}")?;
+    match new_bench(alloc) {
+        Ok(mut bench) => {
+            let done = write_rows(alloc, &mut bench, table.as_str(), &mut out);
+            drop(bench);
+            done
         }
+        Err(NoMemory) => writeln!(out, "{NoMemory}"),
     }
-    out.flush()
 }

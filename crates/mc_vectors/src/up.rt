@@ -17,6 +17,7 @@ pub fn hand(words: &mut Words<'_>, answer: &mut Answer) {
             put_hand(&packet, answer);
             let mut out = Vec::new(words.alloc);
             answer.needs(write_hand(&packet, &mut out));
+            drop(packet);
             answer.frame_again(&frame, &out);
         }
         Err(error) => packet_read(error, answer),
@@ -32,8 +33,8 @@ fn put_hand(packet: &Hand, answer: &mut Answer) {
             port,
             next,
         } => fields!(
-            answer, "Handshake", number *protocol, text address, number *port, number *next,
-            number *next == 1
+            answer, "Handshake", number *protocol, text address,
+            number *port, number *next, number *next == 1
         ),
     }
 }
@@ -49,6 +50,7 @@ pub fn status_up(words: &mut Words<'_>, answer: &mut Answer) {
             }
             let mut out = Vec::new(words.alloc);
             answer.needs(write_status_up(&packet, &mut out));
+            drop(packet);
             answer.frame_again(&frame, &out);
         }
         Err(error) => packet_read(error, answer),
@@ -63,6 +65,7 @@ pub fn status_down(words: &mut Words<'_>, answer: &mut Answer) {
             put_status_down(&packet, answer);
             let mut out = Vec::new(words.alloc);
             answer.needs(write_status_down(&packet, &mut out));
+            drop(packet);
             answer.frame_again(&frame, &out);
         }
         Err(error) => packet_read(error, answer),
@@ -86,6 +89,7 @@ pub fn login_up(words: &mut Words<'_>, answer: &mut Answer) {
             fields!(answer, "Start", text name);
             let mut out = Vec::new(words.alloc);
             answer.needs(write_login_up(&packet, &mut out));
+            drop(packet);
             answer.frame_again(&frame, &out);
         }
         Err(error) => packet_read(error, answer),
@@ -100,6 +104,7 @@ pub fn login_down(words: &mut Words<'_>, answer: &mut Answer) {
             put_login_down(&packet, answer);
             let mut out = Vec::new(words.alloc);
             answer.needs(write_login_down(&packet, &mut out));
+            drop(packet);
             answer.frame_again(&frame, &out);
         }
         Err(error) => packet_read(error, answer),
@@ -122,6 +127,7 @@ pub fn play_up(words: &mut Words<'_>, answer: &mut Answer) {
             put_play_up(&packet, answer);
             let mut out = Vec::new(words.alloc);
             answer.needs(write_play_up(&packet, &mut out));
+            drop(packet);
             answer.frame_again(&frame, &out);
         }
         Err(error) => packet_read(error, answer),
@@ -136,6 +142,16 @@ fn put_play_up(packet: &PlayUp, answer: &mut Answer) {
         PlayUp::UseEntity(target, kind, hit) => {
             fields!(answer, "UseEntity", number *target, number *kind, maybe_hit hit)
         }
+        PlayUp::Digging(status, place, face) => {
+            fields!(answer, "Digging", number *status, cell place, number *face)
+        }
+        _ => put_place_up(packet, answer),
+    }
+}
+
+/// Puts the fields of such a packet: where the player is.
+fn put_place_up(packet: &PlayUp, answer: &mut Answer) {
+    match packet {
         PlayUp::Player(ground) => fields!(answer, "Player", number * ground),
         PlayUp::Position {
             x,
@@ -157,9 +173,13 @@ fn put_play_up(packet: &PlayUp, answer: &mut Answer) {
             answer, "PositionLook", double x, double y, double z, float yaw, float pitch,
             number *ground
         ),
-        PlayUp::Digging(status, place, face) => {
-            fields!(answer, "Digging", number *status, cell place, number *face)
-        }
+        _ => put_act_up(packet, answer),
+    }
+}
+
+/// Puts the fields of such a packet: what the player does.
+fn put_act_up(packet: &PlayUp, answer: &mut Answer) {
+    match packet {
         PlayUp::Placement {
             place,
             face,
@@ -168,8 +188,8 @@ fn put_play_up(packet: &PlayUp, answer: &mut Answer) {
             y,
             z,
         } => fields!(
-            answer, "Placement", cell place, number *face, slot item, number *x, number *y,
-            number *z
+            answer, "Placement", cell place, number *face, slot item,
+            number *x, number *y, number *z
         ),
         PlayUp::Held(index) => fields!(answer, "Held", number * index),
         PlayUp::Animation => answer.word("Animation"),
@@ -185,12 +205,12 @@ fn put_play_up(packet: &PlayUp, answer: &mut Answer) {
         PlayUp::Steer(sideways, forward, flags) => {
             fields!(answer, "Steer", float sideways, float forward, number *flags)
         }
-        _ => put_later_up(packet, answer),
+        _ => put_window_up(packet, answer),
     }
 }
 
-/// Puts the fields of a packet from the second half of the table.
-fn put_later_up(packet: &PlayUp, answer: &mut Answer) {
+/// Puts the fields of such a packet: what the player does in a window.
+fn put_window_up(packet: &PlayUp, answer: &mut Answer) {
     match packet {
         PlayUp::CloseWindow(window) => fields!(answer, "CloseWindow", number * window),
         PlayUp::ClickWindow {
@@ -201,8 +221,9 @@ fn put_later_up(packet: &PlayUp, answer: &mut Answer) {
             mode,
             item,
         } => fields!(
-            answer, "ClickWindow", number *window, number *index, number *button, number *click,
-            number *mode, slot item
+            answer, "ClickWindow",
+            number *window, number *index, number *button, number *click, number *mode,
+            slot item
         ),
         PlayUp::Confirm(window, click, accepted) => {
             fields!(
@@ -217,18 +238,20 @@ fn put_later_up(packet: &PlayUp, answer: &mut Answer) {
         PlayUp::Enchant(window, enchantment) => {
             fields!(answer, "Enchant", number * window, number * enchantment)
         }
+        _ => put_words_up(packet, answer),
+    }
+}
+
+/// Puts the fields of such a packet: what the player writes.
+fn put_words_up(packet: &PlayUp, answer: &mut Answer) {
+    match packet {
         PlayUp::Sign {
             place,
             first,
             second,
             third,
             fourth,
-        } => fields!(
-            answer, "Sign", cell place, text first, text second, text third, text fourth
-        ),
-        PlayUp::Abilities(flags, flying, walking) => {
-            fields!(answer, "Abilities", number *flags, float flying, float walking)
-        }
+        } => fields!(answer, "Sign", cell place, text first, text second, text third, text fourth),
         PlayUp::TabComplete(typed, looks, place) => {
             fields!(answer, "TabComplete", text typed, number *looks, maybe_cell place)
         }
@@ -239,9 +262,19 @@ fn put_later_up(packet: &PlayUp, answer: &mut Answer) {
             colours,
             skin,
         } => fields!(
-            answer, "Settings", text locale, number *view, number *chat_mode, number *colours,
-            number *skin
+            answer, "Settings", text locale, number *view, number *chat_mode,
+            number *colours, number *skin
         ),
+        _ => put_later_up(packet, answer),
+    }
+}
+
+/// Puts the fields of such a packet: what is left.
+fn put_later_up(packet: &PlayUp, answer: &mut Answer) {
+    match packet {
+        PlayUp::Abilities(flags, flying, walking) => {
+            fields!(answer, "Abilities", number *flags, float flying, float walking)
+        }
         PlayUp::ClientStatus(action) => fields!(answer, "ClientStatus", number * action),
         PlayUp::Plugin(channel, bytes) => fields!(answer, "Plugin", text channel, octets bytes),
         PlayUp::Spectate(player) => fields!(answer, "Spectate", uuid player),

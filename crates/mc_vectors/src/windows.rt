@@ -142,6 +142,11 @@ fn set_word(window: &mut Open, word: &str) -> Option<()> {
         window.pack.waiting = Some(value.parse::<i16>().ok()?);
         return Some(());
     }
+    set_pile(window, name, value)
+}
+
+/// Puts the pile of a word where another says: on the cursor, or into slots.
+fn set_pile(window: &mut Open, name: &str, value: &str) -> Option<()> {
     let pile = worldly(pile_of(value)?)?;
     if name == "cursor" {
         window.pack.cursor = pile;
