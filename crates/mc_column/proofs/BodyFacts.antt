@@ -199,7 +199,8 @@ given_short r mask sky ground_up bytes given memory = (
       elim (cases_order (length bytes) (body_size mask sky ground_up)) [
         | inl size ↦ grind (
           arith,
-          not_both (body_in mask sky ground_up bytes) (fault_at Short (length bytes)) (sym (body_read_whole mask sky ground_up bytes size) ∙ read),
+          not_both (body_in mask sky ground_up bytes) (fault_at Short (length bytes))
+              (sym (body_read_whole mask sky ground_up bytes size) ∙ read),
         )
         | inr (inl short) ↦ short
         | inr (inr long) ↦ absurd (short_or_long (length bytes) (body_size mask sky ground_up)

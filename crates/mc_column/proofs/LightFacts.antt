@@ -215,7 +215,8 @@ each_open zero states i k e lt = absurd (omega arith)
 each_open (suc n) states i zero e lt = grind (arith, nat_tests)
 each_open (suc n) states i (suc k) e lt = grind (
   arith,
-  each_open n states (i + squares) k (and_true_right (eqb (get_or states i 0) 0) (is_open n states (i + squares)) e),
+  each_open n states (i + squares) k (and_true_right (eqb (get_or states i 0) 0)
+      (is_open n states (i + squares)) e),
 )
   where
     more : (a b : ℕ) → suc a * b ≡ a * b + b
