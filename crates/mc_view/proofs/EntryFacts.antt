@@ -1,7 +1,7 @@
 -- What a search among entries of rising numbers finds, and what an edit there makes of their pairs.
 use Rattle.std.proofs.Common.{◌≡◌, ℕ, zero, suc, ◌<◌, ◌≤◌, Bool, true, false, ◌&&◌, T, List, []}
-use Rattle.std.proofs.Common.{◌∷◌, length, get_or, Result, Ok, Err, IfOk, IfErr, refl, sym, subst}
-use Rattle.std.proofs.Common.{ap, ◌∙◌, arith, inl, inr, ◌⊎◌}
+use Rattle.std.proofs.Common.{◌∷◌, length, get_or, Result, IfOk, IfErr}
+use Rattle.std.proofs.Common.{ap, ◌∙◌, arith, ◌⊎◌}
 use Rattle.std.proofs.lemmas.Bool.Decides.{nat_tests}
 use Rattle.std.specs.List.Sorted.{IsSearchInRange, IsBinarySearchResult, IsNonDecreasingBy}
 use Rattle.std.specs.declared.cmp.Ordering.{Ordering}

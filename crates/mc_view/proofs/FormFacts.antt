@@ -1,12 +1,12 @@
 -- Which form a change has, by the differences that were found.
-use Rattle.std.proofs.Common.{◌≡◌, Bool, true, false, cond, not, ◌&&◌, Some, None, refl, sym, ap}
+use Rattle.std.proofs.Common.{◌≡◌, Bool, true, false, cond, not, ◌&&◌, Some, None, refl, ap}
 use Rattle.std.proofs.Common.{◌∙◌, arith}
 use Rattle.std.proofs.lemmas.Bool.Decides.{nat_tests}
 use Rattle.std.specs.Option.{unwrap_or}
 use lib.IntN.{ℤ}
 use Rattle.mc_view.specs.declared.forms.Form.{Form}
-use Rattle.mc_view.specs.declared.forms.Form.TheVariants.{Still, Step, StepTurn, Turn, Jump}
-use Rattle.mc_view.specs.Forms.{is_byte, are_bytes, are_zero, form_by}
+use Rattle.mc_view.specs.declared.forms.Form.TheVariants.{Jump}
+use Rattle.mc_view.specs.Forms.{are_bytes, form_by}
 use Rattle.mc_view.specs.Steps.{byte_between, bytes_between}
 
 all_true : (s t u : Bool) → s ≡ true → t ≡ true → u ≡ true → (s && t && u) ≡ true
