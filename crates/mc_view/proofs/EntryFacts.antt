@@ -55,9 +55,6 @@ rising_at (e ∷ es) r zero (suc j) d lt within =
 rising_at (e ∷ es) r (suc i) (suc j) d lt within =
     rising_at es (second _ _ r) i j d (omega (arith, lt)) (omega (arith, within))
 
-at_most_two : (r : Ordering) → ordering_index r ≤ 2
-at_most_two r = grind (arith, nat_tests)
-
 index_rises : (a b eid : ℤ) →
     int_cmp a b ≡ Less → ordering_index (int_cmp a eid) ≤ ordering_index (int_cmp b eid)
 index_rises a b eid lt = grind (arith, nat_tests)
