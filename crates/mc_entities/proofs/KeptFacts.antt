@@ -142,10 +142,6 @@ kept_changed w es told cap given dropped i n old new e k placed is eid kind same
     kept_set es told cap given dropped i n old new k here is eid
     (kind (kind_at es i old k.kinds here.within is)) same
 
--- of the same variant, so as much a dropped item as before
-alike_dropped : (a b : EntityKind) → are_alike a b ≡ true → is_dropped b ≡ is_dropped a
-alike_dropped a b e = grind (arith, nat_tests)
-
 pub kept_variant : (w : FolkValue) (es : List Entity) (i : ℕ) (n : ℤ) (old : Entity)
     (kind : EntityKind) → es ≡ w.state.entities → IsPlaced eid_of n i w.state.entities →
     old ≡ get_or es i old → IfSome (entity_of n w.state) (λ e. are_alike e.kind kind ≡ true) →

@@ -37,9 +37,6 @@ le_int a b h = grind (arith, ints)
 between : (a b : ℤ) → a ≤ℤ b → b ≤ℤ a → a ≡ b
 between a b h k = omega (arith, ints, h, k)
 
-not_below : (a b : ℤ) → a <ℤ b → b ≤ℤ a → ⊥
-not_below a b h k = omega (arith, ints, h, k)
-
 below_other : (a b : ℤ) → a <ℤ b → a ≢ b
 below_other a b h e = omega (arith, ints, h, e)
 
