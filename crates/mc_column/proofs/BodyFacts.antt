@@ -70,11 +70,6 @@ pub body_in_spelled : (mask : ℕ) (sky ground_up : Bool) (bytes : List ℕ) →
 body_in_spelled mask sky ground_up bytes fits size =
     grind (arith, nat_tests, blocks_within, states_sized, length-drop, state_in, get_or-drop)
 
-same_body : (mask mask' : ℕ) (ground ground' : Bool) (states states' biomes biomes' : List ℕ) →
-    mask ≡ mask' → ground ≡ ground' → states ≡ states' → biomes ≡ biomes' →
-    body_of mask ground states biomes ≡ body_of mask' ground' states' biomes'
-same_body mask mask' ground ground' states states' biomes biomes' m g s b = rw (m, g, s, b) refl
-
 -- what is spelled so is read
 pub body_in_only : (body : BodyValue) (mask : ℕ) (sky ground_up : Bool) (bytes : List ℕ) →
     SpellsBody body mask sky ground_up bytes → body_in mask sky ground_up bytes ≡ body
