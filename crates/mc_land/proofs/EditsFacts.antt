@@ -85,10 +85,6 @@ changed_at terrain c i (Some states) = cond (nat_lt i cells && is_changed terrai
 nothing_or : {A : Type 0} (x y : Option A) → x ≡ None → option_or x y ≡ y
 nothing_or x y e = rw e refl
 
-or_nothing : {A : Type 0} (x y : Option A) → y ≡ None → option_or x y ≡ x
-or_nothing None y e = e
-or_nothing (Some a) y e = refl
-
 -- of one column, what it is
 pub found_here : (terrain : Terrain) (c : Place) (i : ℕ) (states : List ℕ) →
     find key_cmp (c, i) (changes terrain c states) ≡ changed_at terrain c i (Some states)

@@ -1,16 +1,15 @@
 -- A column that grows layer by layer is the terrain's own.
-use Rattle.std.proofs.Common.{◌≡◌, ℕ, zero, suc, ◌+◌, ◌*◌, ◌-◌, ◌/◌, ◌%◌, ◌<◌, ◌≤◌, ◌&&◌}
-use Rattle.std.proofs.Common.{eqb, Bool, true, false, cond, List, [], ◌∷◌, ◌++◌, length}
+use Rattle.std.proofs.Common.{◌≡◌, ℕ, zero, suc, ◌+◌, ◌*◌, ◌-◌, ◌/◌, ◌%◌, ◌<◌, ◌≤◌}
+use Rattle.std.proofs.Common.{eqb, cond, List, [], ◌∷◌, ◌++◌, length}
 use Rattle.std.proofs.Common.{map, get_or, take, drop, replicate, refl, sym, ap, ◌∙◌, arith}
 use Rattle.std.proofs.Common.{inl, inr}
 use Rattle.std.proofs.lemmas.Bool.Decides.{nat_tests}
-use Rattle.std.proofs.lemmas.Int.{ints}
 use Rattle.std.proofs.lemmas.List.{ext_get_or, map-append, length-append, length-take, length-drop}
 use Rattle.std.proofs.lemmas.List.{length-replicate, get_or-take, get_or-drop, get_or_append_left}
 use Rattle.std.proofs.lemmas.List.{get_or-append_right, get_or_push, take_all}
 use Rattle.std.proofs.lemmas.List.FromFn.{get_or-map-range_with_len, length-map-range_with_len}
 use Rattle.std.proofs.lemmas.List.Sums.{sum_by-cons, sum_by-append}
-use Rattle.std.proofs.lemmas.Bool.{cases_lt, lt-ltb, le-ltb}
+use Rattle.std.proofs.lemmas.Bool.{cases_lt}
 use Rattle.std.specs.List.{range_with_len, sum_by}
 use Rattle.mc_column.specs.Sizes.{cells, section_cells, section_count, squares}
 use Rattle.mc_column.specs.SizesLaws.{squares-is}
@@ -27,8 +26,7 @@ use Rattle.mc_land.specs.Land.{terrain_at, biomes_of}
 use Rattle.mc_land.specs.Grown.{own_column, x_at, z_at}
 use Rattle.mc_land.specs.GrownCode.{AppendsLayer, AreTops, IsGrown, fills, low_of}
 use Rattle.mc_land.specs.GrownCode.{own_section, reach_in}
-use lib.IntN.{ℤ, pos, negsuc, ◌+ℤ◌, ◌*ℤ◌}
-use lib.Signed.{◌≤ℤ◌, ◌<ℤ◌}
+use lib.IntN.{ℤ, pos, ◌+ℤ◌, ◌*ℤ◌}
 
 -- a list that is known at each place
 pub listed_by : (f : ℕ → ℕ) (n : ℕ) (xs : List ℕ) → length xs ≡ n →
@@ -314,18 +312,6 @@ grown_all terrain place column i all grown = grind (arith, nat_tests, listed_by,
 
 -- ---- the isle is one column
 
-within_none : (z : ℤ) → z <ℤ pos 0 → is_within_16 z ≡ false
-within_none (pos n) lt = absurd (omega (arith, ints, lt))
-within_none (negsuc n) lt = refl
-
-within_past : (z : ℤ) → pos 16 ≤ℤ z → is_within_16 z ≡ false
-within_past (pos n) le = le-ltb n 16 (omega (arith, ints, le))
-within_past (negsuc n) le = refl
-
-within_some : (z : ℤ) → pos 0 ≤ℤ z → z <ℤ pos 16 → is_within_16 z ≡ true
-within_some (pos n) le lt = lt-ltb n 16 (omega (arith, ints, lt))
-within_some (negsuc n) le lt = absurd (omega (arith, ints, le))
-
 -- sixteen places along an axis are all within the first sixteen, or none is
 within_all : (c : ℤ) (i j : ℕ) → i < 16 → j < 16 → is_within_16 (c *ℤ pos 16 +ℤ pos i) ≡
     is_within_16 (c *ℤ pos 16 +ℤ pos j)
@@ -348,15 +334,6 @@ isle_layer place y old new layer =
     (within_all place.1 0 (i / 16) (omega arith) (omega arith))))
 
 -- ---- how high the blocks of each terrain reach
-
--- a block is no air
-id_block : (id : ℕ) → block_of (id * 16) ≡ cond (eqb id 0) 0 1
-id_block id = grind (arith, nat_tests)
-
--- no block where each test of a layered terrain fails
-above_all : (z l t g top : Bool) → z ≡ false → l ≡ false → t ≡ false → g ≡ true → top ≡ false →
-    ◌≡◌ {A = ℕ} (cond (eqb (cond z 7 (cond l 3 (cond t 2 0))) 0) 0 1) (cond (g && top) 1 0)
-above_all z l t g top a b d e f = rw (a, b, d, e, f) refl
 
 pub flat_reach : (place : Place) (i y : ℕ) → i < squares →
     block_of (terrain_at Flat (place, y * squares + i)) ≡ fills Flat 3 y

@@ -1,5 +1,5 @@
 -- Columns that are taken away one after another, and what is left of a land.
-use Rattle.std.proofs.Common.{◌≡◌, ℕ, zero, suc, ◌+◌, ◌-◌, ◌<◌, ◌≤◌, ◌&&◌, ◌||◌, ◌⊎◌, nat_lt, eqb}
+use Rattle.std.proofs.Common.{◌≡◌, ℕ, zero, suc, ◌+◌, ◌-◌, ◌<◌, ◌≤◌, ◌&&◌, ◌||◌, nat_lt, eqb}
 use Rattle.std.proofs.Common.{not, Bool, true, false, cond, List, [], ◌∷◌, length, map, get_or}
 use Rattle.std.proofs.Common.{Option, Some, None, refl, sym, ap, ◌∙◌, arith, inl, inr}
 use Rattle.std.proofs.lemmas.Bool.Decides.{nat_tests}
@@ -49,9 +49,6 @@ tied a b e = rw e (ap is_eq (tied_itself places_total b))
 
 untied : (a b : Place) → (a ≡ b → ⊥) → eq_by_cmp place_cmp a b ≡ false
 untied a b ne = grind (arith, nat_tests)
-
-same_or_not : (a b : Place) → (a ≡ b) ⊎ (a ≡ b → ⊥)
-same_or_not a b = grind (arith, nat_tests)
 
 -- ---- one column is taken away
 
