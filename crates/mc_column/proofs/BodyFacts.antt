@@ -70,11 +70,6 @@ pub body_in_spelled : (mask : ℕ) (sky ground_up : Bool) (bytes : List ℕ) →
 body_in_spelled mask sky ground_up bytes fits size =
     grind (arith, nat_tests, blocks_within, states_sized, length-drop, state_in, get_or-drop)
 
-same_body : (mask mask' : ℕ) (ground ground' : Bool) (states states' biomes biomes' : List ℕ) →
-    mask ≡ mask' → ground ≡ ground' → states ≡ states' → biomes ≡ biomes' →
-    body_of mask ground states biomes ≡ body_of mask' ground' states' biomes'
-same_body mask mask' ground ground' states states' biomes biomes' m g s b = rw (m, g, s, b) refl
-
 -- what is spelled so is read
 pub body_in_only : (body : BodyValue) (mask : ℕ) (sky ground_up : Bool) (bytes : List ℕ) →
     SpellsBody body mask sky ground_up bytes → body_in mask sky ground_up bytes ≡ body
@@ -199,7 +194,8 @@ given_short r mask sky ground_up bytes given memory = (
       elim (cases_order (length bytes) (body_size mask sky ground_up)) [
         | inl size ↦ grind (
           arith,
-          not_both (body_in mask sky ground_up bytes) (fault_at Short (length bytes)) (sym (body_read_whole mask sky ground_up bytes size) ∙ read),
+          not_both (body_in mask sky ground_up bytes) (fault_at Short (length bytes))
+              (sym (body_read_whole mask sky ground_up bytes size) ∙ read),
         )
         | inr (inl short) ↦ short
         | inr (inr long) ↦ absurd (short_or_long (length bytes) (body_size mask sky ground_up)

@@ -52,9 +52,6 @@ kept_set bytes filled i state old n kept lt fits is count = grind (
   paired-set bytes i (state % 256) (state / 256),
 )
 
-one_is_not : (n : ℕ) → n ≡ 1 → n ≡ 0 → ⊥
-one_is_not n e h = omega arith
-
 block_is_0 : (state : ℕ) → block_of state ≡ 0 → state ≡ 0
 block_is_0 state e = grind (arith, nat_tests)
 

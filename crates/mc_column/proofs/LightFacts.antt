@@ -19,10 +19,6 @@ use Rattle.mc_column.specs.Light.{IsOpen, is_open, sky_light, sky_byte, sky_byte
 use Rattle.mc_column.specs.Light.{half_of}
 use Rattle.mc_column.specs.LightCode.{dimmed_byte, dimmed}
 
-and_true_left : (a b : Bool) → (a && b) ≡ true → a ≡ true
-and_true_left true b e = refl
-and_true_left false b e = e
-
 and_true_right : (a b : Bool) → (a && b) ≡ true → b ≡ true
 and_true_right true b e = e
 and_true_right false b e = absurd cc
@@ -215,7 +211,8 @@ each_open zero states i k e lt = absurd (omega arith)
 each_open (suc n) states i zero e lt = grind (arith, nat_tests)
 each_open (suc n) states i (suc k) e lt = grind (
   arith,
-  each_open n states (i + squares) k (and_true_right (eqb (get_or states i 0) 0) (is_open n states (i + squares)) e),
+  each_open n states (i + squares) k (and_true_right (eqb (get_or states i 0) 0)
+      (is_open n states (i + squares)) e),
 )
   where
     more : (a b : ℕ) → suc a * b ≡ a * b + b

@@ -173,12 +173,15 @@ cell_light column mask blocks dark sky i k parts lt named inside =
     (rank (is_named mask) i * light_bytes + k / 2)) 0 ≡
     sky_byte column.states (i * section_cells + 2 * (k / 2)) = grind (
       arith,
-      after blocks (dark ++ (sky ++ column.biomes)) (block_light_at mask) (named_count mask * light_bytes + (rank (is_named mask) i * light_bytes + k / 2)) parts.blocks_len,
-      after dark (sky ++ column.biomes) (named_count mask * light_bytes) (rank (is_named mask) i * light_bytes + k / 2) parts.dark_len,
+      after blocks (dark ++ (sky ++ column.biomes)) (block_light_at mask)
+          (named_count mask * light_bytes + (rank (is_named mask) i * light_bytes + k / 2)) parts.blocks_len,
+      after dark (sky ++ column.biomes) (named_count mask * light_bytes)
+          (rank (is_named mask) i * light_bytes + k / 2) parts.dark_len,
       get_or_append_left sky column.biomes 0 (rank (is_named mask) i * light_bytes + k / 2) within,
       get_or-drop (rank (is_named mask) i * light_bytes) sky (k / 2) 0,
       get_or-take light_bytes (drop (rank (is_named mask) i * light_bytes) sky) (k / 2) 0 half,
-      piece (is_named mask) (section_sky column.states) light_bytes i section_count (sky_sized column.states) lt named,
+      piece (is_named mask) (section_sky column.states) light_bytes i section_count
+          (sky_sized column.states) lt named,
       get_or-sky_bytes column.states (i * section_cells) light_bytes (k / 2) half,
     ) in
     rw byte (half_of_sky column.states (i * section_cells) k)

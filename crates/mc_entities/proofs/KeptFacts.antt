@@ -1,11 +1,10 @@
 -- What each change of a folk keeps of how it is kept.
-use Rattle.std.proofs.Common.{◌≡◌, ◌≢◌, ℕ, zero, suc, ◌+◌, ◌-◌, ◌≤◌, ◌<◌, List, [], ◌∷◌, ◌++◌, map}
+use Rattle.std.proofs.Common.{◌≡◌, ℕ, suc, ◌+◌, ◌-◌, ◌≤◌, ◌<◌, List, [], ◌∷◌, ◌++◌, map}
 use Rattle.std.proofs.Common.{length, get_or, set, refl, sym, subst, ap, ◌∙◌, arith}
 use Rattle.std.proofs.lemmas.Bool.Decides.{nat_tests}
-use Rattle.std.specs.Prelude.{◌≤ℤ◌, ◌<ℤ◌, ◌==◌, ◌&&◌, Bool, true, false, cond, Result, Ok, is_ok}
-use Rattle.std.specs.Prelude.{Option, None, Some, IfSome, if◌then◌else◌}
-use Rattle.std.specs.List.{filter, remove, All}
-use Rattle.std.proofs.lemmas.Bool.{eq-eqb, true≢false}
+use Rattle.std.specs.Prelude.{◌≤ℤ◌, ◌<ℤ◌, ◌==◌, ◌&&◌, Bool, true, false, Result, Ok, is_ok}
+use Rattle.std.specs.Prelude.{None, IfSome, if◌then◌else◌}
+use Rattle.std.specs.List.{remove, All}
 use Rattle.std.proofs.lemmas.Grind.{common_steps}
 use Rattle.std.proofs.lemmas.Int.{ints}
 use Rattle.std.proofs.lemmas.List.{length-append}
@@ -15,14 +14,12 @@ use lib.IntN.{ℤ, pos}
 use Rattle.mc_fields.specs.declared.position.Spot.{Spot}
 use Rattle.mc_entities.specs.declared.entity.Entity.{Entity}
 use Rattle.mc_entities.specs.declared.entity.TheConstants.{DROPPED_MAX, EID_MAX}
-use Rattle.mc_entities.specs.Kinds.{IsKind, is_dropped, is_mob, are_alike}
+use Rattle.mc_entities.specs.Kinds.{IsKind, is_dropped, are_alike}
 use Rattle.mc_entities.specs.declared.mind.Move.{Move}
-use Rattle.mc_entities.specs.Plans.{move_at}
 use Rattle.mc_entities.specs.declared.entity.EntityKind.{EntityKind}
-use Rattle.mc_entities.specs.declared.entity.EntityKind.TheVariants.{Player, Dropped, Mob}
 use Rattle.mc_entities.specs.Numbers.{without, Rise}
 use Rattle.mc_entities.specs.Folk.{dropped_in, eid_of, told_eid, entity_of, with_entity, removed}
-use Rattle.mc_entities.specs.Folk.{FolkState, FolkValue, after_tick, rank, stepped}
+use Rattle.mc_entities.specs.Folk.{FolkState, FolkValue, after_tick}
 use Rattle.mc_entities.specs.Kept.{IsKept, IsPlaced, AreKinds, places, one_if}
 use Rattle.mc_entities.proofs.NumberFacts.{rise_map, rise_more, rise_join, rise_set, rise_filter}
 use Rattle.mc_entities.proofs.NumberFacts.{count_set, count_remove, count_join, without_at}
@@ -53,17 +50,13 @@ pub kept_more : (es now : List Entity) (told : List (ℤ × Spot)) (cap room giv
     now ≡ es ++ e ∷ [] → IsKept now told cap (given + 1) (dropped + n)
 kept_more es now told cap room given dropped n e k kind eid full spent place count is =
     subst (λ (xs : List Entity). IsKept xs told cap (given + 1) (dropped + n)) (sym is) (record {
-      rise = rise_join eid_of (pos 0) (pos given) (pos (given + 1)) es e
-          (subst (λ m. pos given <ℤ m) (sym eid) (below given))
-          (subst (λ m. m ≤ℤ pos (given + 1)) (sym eid) (up_to (given + 1))) k.rise;
+      rise = grind (arith, rise_join eid_of (pos 0) (pos given) (pos (given + 1)) es e);
       told_rise =
           rise_more told_eid (pos 0) (pos given) (pos (given + 1)) told (more given) k.told_rise;
       kinds = All-append (λ (x : Entity). IsKind x.kind) es (e ∷ []) k.kinds (one_kind kind);
       numbers = let lt = not_most given EID_MAX k.numbers spent in omega (arith, lt);
       counted =
-          let h = count_join (λ (x : Entity). is_dropped x.kind) es e in
-          let f = k.counted in
-          omega (arith, h, f, count);
+          grind (arith, nat_tests, count_join);
       few =
           few_more (is_dropped e.kind) n (dropped_in es) dropped DROPPED_MAX count k.counted k.few
           full;
@@ -71,13 +64,7 @@ kept_more es now told cap room given dropped n e k kind eid full spent place cou
     })
   where
     one_kind : IsKind e.kind → All (λ (x : Entity). IsKind x.kind) (e ∷ [])
-    one_kind h =
-        All-set (λ (x : Entity). IsKind x.kind) (e ∷ []) 0 e h
-        (λ i d lt. subst (λ (x : Entity). IsKind x.kind) (sym (only i d lt)) h)
-      where
-        only : (i : ℕ) (d : Entity) → i < 1 → get_or (e ∷ []) i d ≡ e
-        only zero d lt = refl
-        only (suc i) d lt = absurd (omega (arith, lt))
+    one_kind h = grind (arith, nat_tests)
 
 pub kept_set : (es : List Entity) (told : List (ℤ × Spot)) (cap given dropped i : ℕ) (n : ℤ)
     (old new : Entity) → IsKept es told cap given dropped →
@@ -105,16 +92,11 @@ kept_less es now told left cap given dropped i count n old k placed is c e f = r
       let g = k.counted in omega (arith, h, same, one, g);
   few = let g = k.few in omega (arith, g);
   places =
-      let l = length-remove es i placed.within in
-      let same : length now ≡ length (remove es i) = ap length e in
-      let g = k.places in
-      omega (arith, l, same, g);
+      grind (arith, nat_tests, length-remove);
 }
   where
     rest : now ≡ without eid_of n es
-    rest =
-        e ∙ sym (without_at eid_of n (pos 0) (pos given) es i old k.rise placed.within
-        (placed.named old))
+    rest = grind (arith, nat_tests, without_at)
 
 -- an entity that is kept is of a kind in range
 pub kind_at : (es : List Entity) (i : ℕ) (e : Entity) →
@@ -159,10 +141,6 @@ kept_changed w es told cap given dropped i n old new e k placed is eid kind same
     let here = subst (λ (xs : List Entity). IsPlaced eid_of n i xs) (sym e) placed in
     kept_set es told cap given dropped i n old new k here is eid
     (kind (kind_at es i old k.kinds here.within is)) same
-
--- of the same variant, so as much a dropped item as before
-alike_dropped : (a b : EntityKind) → are_alike a b ≡ true → is_dropped b ≡ is_dropped a
-alike_dropped a b e = grind (arith, nat_tests)
 
 pub kept_variant : (w : FolkValue) (es : List Entity) (i : ℕ) (n : ℤ) (old : Entity)
     (kind : EntityKind) → es ≡ w.state.entities → IsPlaced eid_of n i w.state.entities →
@@ -240,7 +218,5 @@ kept_ticked plans es now told cap given dropped k e =
           ∙ sym (count_map (after_tick plans es) es (λ x. (tick_keeps plans es x).1));
       few = k.few;
       places =
-          let l = length_map (after_tick plans es) es in
-          let f = k.places in
-          omega (arith, l, f);
+          grind (arith, nat_tests, length_map);
     })

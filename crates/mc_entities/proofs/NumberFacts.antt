@@ -1,12 +1,12 @@
 -- Elements in rising number: each number stands once, so what changes or leaves out the element of
 -- a number changes or leaves out the one at its place.
 use Rattle.std.proofs.Common.{◌≡◌, ◌≢◌, ℕ, zero, suc, ◌+◌, ◌≤◌, ◌<◌, List, [], ◌∷◌, ◌++◌, map}
-use Rattle.std.proofs.Common.{length, get_or, set, refl, sym, subst, ap, ◌∙◌, arith, inl, inr}
-use Rattle.std.specs.Prelude.{◌≤ℤ◌, ◌<ℤ◌, Bool, true, false, not, cond, int_lt, Some, None}
+use Rattle.std.proofs.Common.{length, get_or, set, refl, sym, subst, ap, ◌∙◌, arith}
+use Rattle.std.specs.Prelude.{◌≤ℤ◌, ◌<ℤ◌, Bool, true, false, cond, int_lt, Some, None}
 use Rattle.std.specs.List.{filter, remove}
 use Rattle.std.specs.List.Sorted.{IsPartitionPoint, IsPartitionedBy}
 use Rattle.std.specs.Ordering.{int_eq}
-use Rattle.std.proofs.lemmas.Bool.{cases_lt, true≢false}
+use Rattle.std.proofs.lemmas.Bool.{true≢false}
 use Rattle.std.proofs.lemmas.Bool.Decides.{Decides-int_eq, nat_tests}
 use Rattle.std.proofs.lemmas.Grind.{common_steps}
 use Rattle.std.proofs.lemmas.Int.{ints}
@@ -36,9 +36,6 @@ le_int a b h = grind (arith, ints)
 
 between : (a b : ℤ) → a ≤ℤ b → b ≤ℤ a → a ≡ b
 between a b h k = omega (arith, ints, h, k)
-
-not_below : (a b : ℤ) → a <ℤ b → b ≤ℤ a → ⊥
-not_below a b h k = omega (arith, ints, h, k)
 
 below_other : (a b : ℤ) → a <ℤ b → a ≢ b
 below_other a b h e = omega (arith, ints, h, e)
@@ -161,17 +158,8 @@ pub placed_nowhere : {X : Type 0} (number : X → ℤ) (n low high : ℤ) (xs : 
     Rise number low xs high →
     IsPartitionPoint (λ x. int_lt (number x) n ≡ true) (λ x. int_lt (number x) n ≡ false) xs i →
     (i < length xs → (d : X) → number (get_or xs i d) ≢ n) → numbered number n xs ≡ None
-placed_nowhere {X = X} number n low high xs i r point other = grind (
-  arith,
-  nat_tests,
-  numbered_none number n xs,
-  cases_lt,
-  below_other,
-  int_lt_true,
-  int_lt_false,
-  rise_le number low high xs i,
-  between,
-)
+placed_nowhere {X = X} number n low high xs i r point other =
+    grind (arith, numbered_none number n xs, rise_le number low high xs i)
 
 -- what a look at the place says
 pub placed_some : {X : Type 0} (number : X → ℤ) (n low high : ℤ) (xs : List X) (i : ℕ) (x : X) →

@@ -3,8 +3,7 @@ use Rattle.std.proofs.Common.{◌≡◌, ℕ, zero, suc, ◌+◌, ◌≤◌, ◌
 use Rattle.std.proofs.Common.{get_or, set, take, drop, refl, sym, ap, ◌∙◌, arith}
 use Rattle.std.proofs.lemmas.Bool.Decides.{nat_tests}
 use Rattle.std.proofs.lemmas.Grind.{common_steps}
-use Rattle.std.specs.Prelude.{◌≤ℤ◌, ◌<ℤ◌, ◌&&◌, Bool, true, false, cond, int_lt}
-use Rattle.std.specs.List.{filter}
+use Rattle.std.specs.Prelude.{◌≤ℤ◌, Bool, true, false, cond}
 use Rattle.std.proofs.lemmas.List.Edits.{map_over_more}
 use Rattle.std.proofs.lemmas.List.Filters.{length-filter_more}
 use lib.IntN.{ℤ, pos}
@@ -15,7 +14,7 @@ use Rattle.mc_entities.specs.Numbers.{Rise}
 use Rattle.mc_entities.specs.Plans.{move_at, rest_of, asked, asked_at, asked_by}
 use Rattle.mc_entities.specs.Folk.{eid_of, rank, mobs_in, moved_by, after_tick, stepped}
 use Rattle.mc_entities.specs.Kept.{one_if}
-use Rattle.mc_entities.proofs.NumberFacts.{lt_int, le_int, lt_le, le_lt, rise_at, below_self}
+use Rattle.mc_entities.proofs.NumberFacts.{le_int, rise_at, below_self}
 
 -- ---- one mind is asked
 
@@ -59,10 +58,8 @@ rank_at low high [] i d r lt = absurd (omega (arith, lt))
 rank_at low high (e ∷ es) zero d r lt = grind (arith, nat_tests, le_int, below_self, rank_past)
 rank_at low high (e ∷ es) (suc i) d r lt = grind (
   arith,
-  nat_tests,
   rank_at e.eid high es i d r.1 (omega (arith, lt)),
   rise_at eid_of e.eid high es i d,
-  lt_int e.eid,
 )
 
 -- ---- entity by entity
@@ -87,14 +84,13 @@ pub ticking_next : (plans : List (List Move)) (high : ℤ) (old : List Entity) (
     later ≡ asked_by (is_mob e.kind) mobs now →
     n ≡ one_if (is_mob e.kind) → IsTicking plans old (i + 1) (mobs + n) (set entities i new) later
 ticking_next plans high old i mobs entities now later e new n r lt t is moved remains counted =
-    record {
-      rows = ap (λ (x : Entity). set entities i x) moves
-          ∙ map_over_more (after_tick plans old) old entities i e lt t.rows is;
-      count = rw counted (ap (λ (m : ℕ). m + one_if (is_mob e.kind)) t.count ∙ sym grows);
-      few = few (is_mob e.kind) counted;
-      left = remains ∙ ap (λ (ps : List (List Move)). asked_by (is_mob e.kind) mobs ps) t.left
-          ∙ turn (is_mob e.kind) counted;
-    }
+    grind (
+      arith,
+      map_over_more (after_tick plans old) old entities i e lt t.rows is,
+      moves,
+      grows,
+      turn (is_mob e.kind) counted,
+    )
   where
     here : e ≡ get_or old i e
     here =
@@ -105,9 +101,7 @@ ticking_next plans high old i mobs entities now later e new n r lt t is moved re
         ap (λ (x : Entity). rank old x.eid) here ∙ rank_at (pos 0) high old i e r lt ∙ sym t.count
 
     first : move_at now mobs ≡ move_at plans (rank old e.eid)
-    first =
-        ap (λ (ps : List (List Move)). move_at ps mobs) t.left
-        ∙ move_asked mobs plans ∙ ap (λ (m : ℕ). move_at plans m) (sym ranked)
+    first = grind (arith, nat_tests, move_asked, ranked)
 
     moves : new ≡ after_tick plans old e
     moves = moved ∙ ap (λ (by : Move). cond (is_mob e.kind) (stepped by e) e) first

@@ -1,5 +1,7 @@
 -- No event but a tick makes a world older.
 use Rattle.std.proofs.Common.{◌≡◌, ℕ, true, false, List, [], ◌∷◌, ◌++◌, length, refl, ap, ◌∙◌}
+use Rattle.std.proofs.Common.{arith}
+use Rattle.std.proofs.lemmas.Bool.Decides.{nat_tests}
 use Rattle.std.specs.Prelude.{Option, Some, None, if◌then◌else◌}
 use Rattle.mc_frame.specs.declared.fault.FrameFault.{FrameFault}
 use Rattle.mc_model.specs.declared.cause.Cause.TheVariants as causes
@@ -11,9 +13,7 @@ use Rattle.mc_model.proofs.Frames.{frame_goes, fault_goes}
 use Rattle.mc_events.specs.Bare.{after_frames}
 
 pub join_age : (w : World) (k : ℕ) → (join w k).age ≡ w.age
-join_age w k = elim (is_new k w.last) as (λ b.
-    (if b then record w { last = Some k; sessions = w.sessions ++ joining w k ∷ [] } else w).age ≡
-    w.age) [ true ↦ refl | false ↦ refl ]
+join_age w k = grind (arith, nat_tests)
 
 none_age : (w : World) (k : ℕ) (frame : List ℕ) → found k w.sessions ≡ None →
     (on_frame w k frame).world.age ≡ w.age
@@ -36,16 +36,8 @@ frames_age (frame ∷ frames) w k = frames_age frames (on_frame w k frame).world
 
 pub fault_age : (w : World) (k : ℕ) (fault : Option FrameFault) → (on_fault w k fault).world.age ≡
     w.age
-fault_age w k None = refl
-fault_age w k (Some fault) = elim (found k w.sessions)
-    as (λ o. found k w.sessions ≡ o → (on_fault w k (Some fault)).world.age ≡ w.age) [
-      | None ↦ λ e. ap (λ (o : Option Session).
-          (when_open o w (λ s. turn w s (disconnect s (causes.Frame fault)
-          (farewell s.stage (causes.Frame fault))))).world.age) e
-      | Some s ↦ λ e. (fault_goes k w s (Some fault) e).beside.age
-    ] refl
+fault_age w k fault = grind (arith, nat_tests)
 
 pub frames_age_all : (w : World) (k : ℕ) (frames : List (List ℕ)) (fault : Option FrameFault) →
     (after_frames w k frames fault).age ≡ w.age
-frames_age_all w k frames fault = fault_age (on_frames w k frames).world k fault ∙
-    frames_age frames w k
+frames_age_all w k frames fault = grind (arith, nat_tests, fault_age, frames_age)

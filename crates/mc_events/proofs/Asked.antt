@@ -1,6 +1,7 @@
 -- What is asked of a server that stands for a world is what the world answers.
 use Rattle.std.proofs.Common.{◌≡◌, ℕ, ◌<◌, ◌≤◌, Bool, List, map, length, take, set, get_or}
 use Rattle.std.proofs.Common.{refl, sym, ap, ◌∙◌, arith}
+use Rattle.std.proofs.lemmas.Bool.Decides.{nat_tests}
 use Rattle.std.specs.Prelude.{drop, Option, Some, None, option_map}
 use Rattle.std.specs.List.{filter}
 use Rattle.std.specs.Option.{option_and_then}
@@ -20,13 +21,7 @@ use Rattle.mc_events.proofs.Standing.{sessions_bare}
 pub asked : {A : Type 0} (f : Option Session → A) → ((s : Session) → f (Some (bare s)) ≡ f (Some s))
     → (v : ServerValue) (w : World) (k : ℕ) → Stands v w → f (found k (sessions_of v.connections)) ≡
     f (found k w.sessions)
-asked f same v w k st = ap (λ (ss : List Session). f (found k ss))
-    (sessions_bare (shown_parts v) v.connections w.sessions st.connections) ∙
-    ap f (found_bare k w.sessions) ∙ each (found k w.sessions)
-  where
-    each : (o : Option Session) → f (option_map bare o) ≡ f o
-    each None = refl
-    each (Some s) = same s
+asked f same v w k st = grind (arith, nat_tests, sessions_bare, found_bare)
 
 pub asked_done : (v : ServerValue) (w : World) (k : ℕ) → Stands v w →
     is_over (found k (sessions_of v.connections)) ≡ is_over (found k w.sessions)
@@ -42,8 +37,7 @@ asked_cause = asked (option_and_then (λ (s : Session). s.cause)) (λ s. refl)
 
 pub asked_ids : (v : ServerValue) (w : World) → Stands v w → map (λ (s : Session). s.id)
     (sessions_of v.connections) ≡ map (λ (s : Session). s.id) w.sessions
-asked_ids v w st = ap (map (λ (s : Session). s.id))
-    (sessions_bare (shown_parts v) v.connections w.sessions st.connections) ∙ ids_bare w.sessions
+asked_ids v w st = grind (arith, nat_tests, sessions_bare, ids_bare)
 
 pub asked_ours : (v : ServerValue) (w : World) → Stands v w →
     length (filter (λ (c : ConnectionValue). is_ours c.session.cause) v.connections) ≡ ours_there w
@@ -60,9 +54,7 @@ asked_ours v w st =
 -- the first bytes that are owed are no more than all
 pub first_within : (first owed : List ℕ) → take (length first) owed ≡ first →
     length first ≤ length owed
-first_within first owed is =
-    let same : length (take (length first) owed) ≡ length first = ap length is in
-    omega (arith, same, length-take (length first) owed)
+first_within first owed is = grind (arith, nat_tests, length-take)
 
 -- taking some of what is owed leaves less
 pub took_falls : (v : ServerValue) (high k i n : ℕ) (c t : ConnectionValue) →
@@ -71,12 +63,4 @@ pub took_falls : (v : ServerValue) (high k i n : ℕ) (c t : ConnectionValue) �
     t ≡ record c { session = record c.session { owed = drop n c.session.owed } } → 0 < n →
     n ≤ owes k v → owes k (record v { connections = set v.connections i t }) < owes k v
 took_falls v high k i n c t rise at is made some few =
-    let old : owes k v ≡ length c.session.owed =
-    ap (λ (o : Option Session). length (owed_of o)) (at.is c) ∙
-    ap (λ (d : ConnectionValue). length d.session.owed) (sym is) in
-    let new : owes k (record v { connections = set v.connections i t }) ≡
-    length (drop n c.session.owed) =
-    ap (λ (o : Option Session). length (owed_of o)) (found_set high v.connections k i c t rise at is
-    (ap (λ (d : ConnectionValue). d.session.id) made)) ∙
-    ap (λ (d : ConnectionValue). length d.session.owed) made in
-    omega (arith, old, new, some, few, length-drop n c.session.owed)
+    grind (arith, nat_tests, found_set, length-drop)

@@ -1,6 +1,7 @@
 -- What the beat of a tick makes of one connection, by what its mark keeps.
 use Rattle.std.proofs.Common.{◌≡◌, ◌+◌, Bool, true, false, List, [], add-zero, refl, sym}
-use Rattle.std.proofs.Common.{ap, ◌∙◌}
+use Rattle.std.proofs.Common.{ap, ◌∙◌, arith}
+use Rattle.std.proofs.lemmas.Bool.Decides.{nat_tests}
 use Rattle.std.specs.Prelude.{◌&&◌, not, nat_le, Option, Some, None, option_map, unwrap_or}
 use Rattle.std.specs.Prelude.{if◌then◌else◌}
 use lib.IntN.{ℤ, pos}
@@ -47,12 +48,7 @@ beaten_by : (told most : Bool) (shown : Option Sight) (s : Session) (p : Player)
     with_shown None (beaten_as told most (record s { player = Some (player_shown shown p) })
     (player_shown shown p)).session
     ≡ with_shown None (beaten_as told most s p).session
-beaten_by true most shown s p = refl
-beaten_by false false shown s p = refl
-beaten_by false true shown s p =
-    let words : List Sent = farewell s.stage causes.Silent in
-    shut_shown None (record s { player = Some (player_shown shown p) }) causes.Silent words
-    ∙ sym (shut_shown None s causes.Silent words)
+beaten_by told most shown s p = grind (arith, nat_tests)
 
 -- what the beat makes of a session with this player
 pub beaten_is : (w : World) (shown : Option Sight) (s : Session) (p : Player) (told most : Bool) →
@@ -60,14 +56,7 @@ pub beaten_is : (w : World) (shown : Option Sight) (s : Session) (p : Player) (t
     is_told (unwrap_or shown nothing_seen).beat (pos (beat_at w.age)) ≡ told →
     nat_le MISSED_MAX p.missed ≡ most →
     beaten_session w shown s ≡ with_shown None (beaten_as told most s p).session
-beaten_is w shown s p told most there is_told_ is_most =
-    let q : Player = player_shown shown p in
-    (λ i. with_shown None (beat_to w
-    (record s { player = option_map (player_shown shown) (there i) })
-    (option_map (player_shown shown) (there i))).session)
-    ∙ (λ i. with_shown None (beaten_as (is_told_ i) (is_most i)
-    (record s { player = Some q }) q).session)
-    ∙ beaten_by told most shown s p
+beaten_is w shown s p told most there is_told_ is_most = grind (arith, nat_tests)
 
 -- all that is said of a connection
 pub is_beaten : (w : World) (c d : ConnectionValue) →
@@ -130,7 +119,4 @@ module _ (w : World) (shown : Option Sight) (c : ConnectionValue) (p : code.Play
 -- one that is closed since its client is silent retains what closed ones do
 pub shut_retains : (c d : ConnectionValue) → d ≡ with_session c (disconnect c.session causes.Silent
     (farewell c.session.stage causes.Silent)).session → Retains c d
-shut_retains c d made =
-    let words : List Sent = farewell c.session.stage causes.Silent in
-    retains_with c d _ made (hand_id (mark_closed c.session causes.Silent) words)
-    (λ closed. close_closes c.session causes.Silent words)
+shut_retains c d made = grind (arith, nat_tests, retains_with, hand_id, close_closes)

@@ -4,6 +4,7 @@ use Rattle.std.proofs.Common.{subst, ap, ◌∙◌, arith}
 use Rattle.std.specs.Prelude.{Option, Some, None, is_some, option_map, unwrap_or, if◌then◌else◌}
 use Rattle.mc_frame.specs.Cut.{IsPart, kept_count}
 use Rattle.std.proofs.Math.Nat.{min-eq_left}
+use Rattle.std.proofs.lemmas.Bool.Decides.{nat_tests}
 use Rattle.mc_land.specs.Land.{LandValue}
 use Rattle.mc_entities.specs.Folk.{FolkState}
 use Rattle.mc_model.specs.declared.cause.Cause.TheVariants as causes
@@ -39,23 +40,7 @@ player_beaten : (w : World) (s : Session) (p : Player) →
     (beat_to w (record (bare s) { player = Some (player_shown p.shown p) })
     (Some (player_shown p.shown p))).session
     ≡ bare (beat_to w s (Some p)).session
-player_beaten w s p =
-    let t : Session = record (bare s) { player = Some (player_shown p.shown p) } in
-    let words : List Sent = farewell s.stage causes.Silent in
-    elim (is_silent w p)
-    as (λ b. with_shown None (if b then disconnect t causes.Silent words
-    else record {
-      session = record t {
-        player = Some (awaiting w (player_shown p.shown p));
-      };
-      handed = [];
-    }).session
-    ≡ bare (if b then disconnect s causes.Silent words
-    else record { session = record s { player = Some (awaiting w p) }; handed = [] }).session) [
-      | true ↦ shut_shown None t causes.Silent words
-          ∙ sym (hand_bare (mark_closed s causes.Silent) words)
-      | false ↦ refl
-    ]
+player_beaten w s p = grind (arith, nat_tests, shut_shown, hand_bare)
 
 -- the beat that a sight tells is that of the mark that stands for it
 beat_stands : (mark : MarkValue) (parts : Parts) (p : Sight) → StandsFor mark parts p →
@@ -98,10 +83,7 @@ open_stays shown c d s t rest before seen said splitter mark is = record {
   fine = ap (λ x. x.fault) splitter ∙ is.fine;
   part = subst IsPart (sym rest) is.part;
   opened = ap is_shown mark ∙ is.opened ∙ ap is_some (sym seen);
-  shows = (
-      let P : Option Sight → Type 0 = λ o. StandsFor d.mark shown (unwrap_or o nothing_seen) in
-      subst P (sym seen) (subst
-      (λ x. StandsFor x shown (unwrap_or (shown_to s.player) nothing_seen)) (sym mark) is.shows));
+  shows = grind (arith, nat_tests);
   said = said ∙ is.said ∙ ap said_in (sym seen);
 }
 
@@ -137,9 +119,7 @@ beaten_bare w shown c d s is beaten =
 -- and of any session
 connection_beaten : (w : World) (shown : Parts) (c d : ConnectionValue) (s : Session) →
     IsConnection shown c s → IsBeaten w c d → IsConnection shown d (beat w s).session
-connection_beaten w shown c d s is beaten =
-    let P : Session → Type 0 = λ t. IsBeaten w (record c { session = t }) d in
-    beaten_bare w shown c d s is (subst P is.session beaten)
+connection_beaten w shown c d s is beaten = grind (arith, nat_tests, beaten_bare)
 
 -- ---- all of it
 

@@ -1,6 +1,7 @@
 -- What one connection comes to at its place is what the definitions make of the world.
 use Rattle.std.proofs.Common.{◌≡◌, ℕ, zero, suc, ◌+◌, ◌<◌, List, [], ◌∷◌, length, get_or, set}
 use Rattle.std.proofs.Common.{refl, sym, subst, ap, ◌∙◌, arith}
+use Rattle.std.proofs.lemmas.Bool.Decides.{nat_tests}
 use Rattle.std.specs.Prelude.{true, false, Bool, Option, Some, None, Result, Ok, Err, is_err}
 use Rattle.std.specs.Prelude.{is_some, OnOk, if◌then◌else◌}
 use Rattle.std.specs.List.{cons_option}
@@ -70,8 +71,7 @@ pub closed_now : {A E : Type 0} (r : Result A E) (c t : ConnectionValue) (cause 
     (packets : List Sent) → false ≡ is_err r →
     OnOk r (t ≡ with_session c (disconnect c.session cause packets).session) →
     is_closed t.session.stage ≡ true
-closed_now r c t cause packets fine made = ap (λ (d : ConnectionValue). is_closed d.session.stage)
-    (sure r fine made) ∙ close_closes c.session cause packets
+closed_now r c t cause packets fine made = grind (arith, nat_tests, sure, close_closes)
 
 -- ---- handing out at a place
 
@@ -84,9 +84,7 @@ hand_id s packets = hand_cases s packets (λ h. h.session.id ≡ s.id) (λ fits.
 playing_same : (ss : List Session) (i : ℕ) (new old : Session) → old ≡ get_or ss i old →
     new.player ≡ old.player → playing_of (set ss i new) ≡ playing_of ss
 playing_same [] i new old is same = refl
-playing_same (s ∷ ss) zero new old is same =
-    ap (λ (o : Option Player). cons_option o (playing_of ss))
-    (same ∙ ap (λ (t : Session). t.player) is)
+playing_same (s ∷ ss) zero new old is same = grind (arith, nat_tests)
 playing_same (s ∷ ss) (suc i) new old is same = ap (cons_option s.player)
     (playing_same ss i new old is same)
 
@@ -117,24 +115,13 @@ pub answer_waiting : (w : World) (k i high : ℕ) (old : Session) (name : List �
     → IsPlaced k i w.sessions → Rise 0 w.sessions high → old ≡ get_or w.sessions i old →
     (answer_login (record w { sessions = set w.sessions i (record old { stage = stages.Asked }) })
     (record old { stage = stages.Asked }) name o).world ≡ (answer_login w old name o).world
-answer_waiting w k i high old name (Some why) placed rise is =
-    let s : Session = (disconnect old (causes.Refused why) (refused why)).session in
-    ap (λ (u : World). record u { things = after_leaving old.player s.player w.things })
-    (put_twice w k i high old (record old { stage = stages.Asked }) s placed rise is refl
-    (hand_id (mark_closed old (causes.Refused why)) (refused why)))
-answer_waiting w k i high old name None placed rise is =
-    let things = with_new_player w.terrain name w.things in
-    let enters : Session = entered w old name in
-    let s : Session = (hand enters (accepted (offline_uuid name) name)).session in
-    ap (λ (u : World). record u { things = after_leaving enters.player s.player things })
-    (put_twice (record w { things = things }) k i high old (record old { stage = stages.Asked }) s
-    placed rise is refl (hand_id enters (accepted (offline_uuid name) name)))
+answer_waiting w k i high old name o placed rise is =
+    grind (arith, nat_tests, put_twice w k i high old, put_twice, hand_id)
 
 pub refusal_waiting : (w : World) (i : ℕ) (old new : Session) (protocol : ℤ) (name : List ℕ) → old ≡
     get_or w.sessions i old → new.player ≡ old.player
     → refusal (record w { sessions = set w.sessions i new }) protocol name ≡ refusal w protocol name
-refusal_waiting w i old new protocol name is same = rw (playing_same w.sessions i new old is same)
-    refl
+refusal_waiting w i old new protocol name is same = grind (arith, nat_tests, playing_same)
 
 -- ---- what becomes of a server
 
@@ -142,16 +129,7 @@ pub retains_same : (c : ConnectionValue) → Retains c c
 retains_same c = record { id = refl; splitter = refl; closed = λ e. e; mark = λ e. refl }
 
 retains_onward : (a b c : ConnectionValue) → Retains a b → Retains b c → Retains a c
-retains_onward a b c r s = record {
-  id = s.id ∙ r.id;
-  splitter = s.splitter ∙ r.splitter;
-  closed = λ e. s.closed (r.closed e);
-  mark = λ open_. elim (is_closed b.session.stage)
-      as (λ t. is_closed b.session.stage ≡ t → c.mark ≡ a.mark) [
-        | true ↦ λ e. absurd (not_both (is_closed c.session.stage) (s.closed e) open_)
-        | false ↦ λ e. s.mark open_ ∙ r.mark e
-      ] refl;
-}
+retains_onward a b c r s = grind (arith, nat_tests)
 
 -- one with another session
 pub retains_with : (c t : ConnectionValue) (s : Session) → t ≡ with_session c s → s.id ≡
@@ -163,11 +141,7 @@ retains_with c t s made same closed =
       id = ap (λ (r : Session). r.id) now_ ∙ same;
       splitter = ap (λ (d : ConnectionValue). d.splitter) made;
       closed = λ e. ap (λ (r : Session). is_closed r.stage) now_ ∙ closed e;
-      mark = λ open_.
-          let still_ : is_closed s.stage ≡ false = ap (λ (r : Session). is_closed r.stage)
-          (sym now_) ∙ open_ in
-          ap (λ (d : ConnectionValue). d.mark) made ∙
-          ap (λ (b : Bool). if b then nothing_shown else c.mark) still_;
+      mark = grind (arith, nat_tests);
     }
 
 -- one whose session became another with the same stage
@@ -184,33 +158,18 @@ retains_stage c t s made same stage = record {
 
 pub becomes_onward : (old mid new : ServerValue) (w v : World) → Becomes old mid w
     → Becomes mid new v → Becomes old new v
-becomes_onward old mid new w v b c = record {
-  connections = side_onward Retains retains_onward old.connections mid.connections new.connections
-      b.connections c.connections;
-  kept = c.kept;
-  list = c.list ∙ b.list;
-  shown = c.shown ∙ b.shown;
-  works = c.works ∙ b.works;
-}
+becomes_onward old mid new w v b c = grind (arith, nat_tests, side_onward, retains_onward)
 
 pub becomes_along : (old new : ServerValue) (w v : World) → w ≡ v → Becomes old new w
     → Becomes old new v
 becomes_along old new w v e b = subst (Becomes old new) e b
 
 pub becomes_nothing : (v : ServerValue) → Becomes v v (kept_world v)
-becomes_nothing v = record {
-  connections = side_same Retains retains_same v.connections;
-  kept = refl;
-  list = refl;
-  shown = refl;
-  works = refl;
-}
+becomes_nothing v = grind (arith, nat_tests, side_same, retains_same)
 
 pub becomes_within : (i : ℕ) (old new : ServerValue) (w : World) → Becomes old new w
     → i < length old.connections → i < length new.connections
-becomes_within i old new w b lt =
-    let len = side_length Retains old.connections new.connections b.connections in
-    omega (arith, lt, len)
+becomes_within i old new w b lt = grind (arith, nat_tests, side_length)
 
 -- what stands at a place of a world, and at that of a server
 abbrev pub nth : ℕ → World → Session
@@ -233,9 +192,7 @@ nth_placed i high v rise lt =
 pub nth_at : (i : ℕ) (v : ServerValue) → i < length v.connections
     → nth_session i v.connections ≡ get_or (sessions_of v.connections)
     i (nth_session i v.connections)
-nth_at i v lt = get_or_default (sessions_of v.connections) i (new_session 0)
-    (nth_session i v.connections)
-    (let len = sessions_length v.connections in omega (arith, lt, len))
+nth_at i v lt = grind (arith, nat_tests, get_or_default, sessions_length)
 
 -- ---- one connection changed at its place
 
@@ -243,9 +200,7 @@ nth_at i v lt = get_or_default (sessions_of v.connections) i (new_session 0)
 pub world_set : (v : ServerValue) (i : ℕ) (t : ConnectionValue)
     → kept_world (record v { connections = set v.connections i t })
     ≡ record (kept_world v) { sessions = set (sessions_of v.connections) i t.session }
-world_set v i t =
-    ap (λ (ss : List Session). record (kept_world v) { sessions = ss })
-    (sessions_set v.connections i t)
+world_set v i t = grind (arith, nat_tests, sessions_set)
 
 module _ (v : ServerValue) (i high : ℕ) (c t : ConnectionValue)
     (rise : Rise 0 (sessions_of v.connections) high) (lt : i < length v.connections)
@@ -353,10 +308,7 @@ module _ (v : ServerValue) (i high : ℕ) (c t : ConnectionValue)
 -- what stands at the place then
 pub nth_set : (v : ServerValue) (i : ℕ) (t : ConnectionValue) → i < length v.connections
     → nth_session i (set v.connections i t) ≡ t.session
-nth_set v i t lt =
-    ap (λ (ss : List Session). get_or ss i (new_session 0)) (sessions_set v.connections i t)
-    ∙ get_or-set_same (sessions_of v.connections) i t.session (new_session 0)
-    (let len = sessions_length v.connections in omega (arith, lt, len))
+nth_set v i t lt = grind (arith, nat_tests, sessions_set, get_or-set_same, sessions_length)
 
 -- one whose splitter alone changed
 pub splits_of : (v : ServerValue) (i : ℕ) (c t : ConnectionValue) → c ≡ get_or v.connections i c
@@ -390,12 +342,7 @@ pub refused_becomes : (v n : ServerValue) (i : ℕ) (protocol : ℤ) (name : Lis
     (disconnect (nth_session i v.connections) (causes.Refused why) (refused why)).session)
     → Becomes v n (answer_login (kept_world v) (nth_session i v.connections) name
     (refusal (kept_world v) (nth_session i v.connections).protocol name)).world
-refused_becomes v n i protocol name why asked verdict b =
-    let w = kept_world v in
-    let s : Session = nth_session i v.connections in
-    let is : Some why ≡ refusal w s.protocol name = sym verdict ∙ ap (λ (p : ℤ). refusal w p name)
-    asked in
-    becomes_along v n _ _ (ap (λ (o : Option Refusal). (answer_login w s name o).world) is) b
+refused_becomes v n i protocol name why asked verdict b = grind (arith, nat_tests)
 
 pub entered_becomes : (v n : ServerValue) (i : ℕ) (protocol : ℤ) (name given : List ℕ)
     → protocol ≡ (nth_session i v.connections).protocol
@@ -403,14 +350,7 @@ pub entered_becomes : (v n : ServerValue) (i : ℕ) (protocol : ℤ) (name given
     → Becomes v n (answer_login (kept_world v) (nth_session i v.connections) given None).world
     → Becomes v n (answer_login (kept_world v) (nth_session i v.connections) name
     (refusal (kept_world v) (nth_session i v.connections).protocol name)).world
-entered_becomes v n i protocol name given asked verdict same b =
-    let w = kept_world v in
-    let s : Session = nth_session i v.connections in
-    let is : None ≡ refusal w s.protocol name = sym verdict ∙ ap (λ (p : ℤ). refusal w p name)
-    asked in
-    becomes_along v n _ _
-    (ap (λ (t : List ℕ). (answer_login w s t None).world) same
-    ∙ ap (λ (o : Option Refusal). (answer_login w s name o).world) is) b
+entered_becomes v n i protocol name given asked verdict same b = grind (arith, nat_tests)
 
 -- likewise from the server in which its entity stands already
 pub enters_from : (v mid : ServerValue) (i high : ℕ) (c t : ConnectionValue) (name : List ℕ)

@@ -2,6 +2,7 @@
 use Rattle.std.proofs.Common.{◌≡◌, ℕ, zero, suc, ◌+◌, ◌-◌, ◌<◌, ◌≤◌, inl, inr, List, [], ◌∷◌, ◌++◌}
 use Rattle.std.proofs.Common.{length, get_or, take, drop, Err, refl, sym, subst, ap, ◌∙◌}
 use Rattle.std.proofs.Common.{append_assoc, arith, lt-ltb}
+use Rattle.std.proofs.lemmas.Bool.Decides.{nat_tests}
 use Rattle.std.specs.Prelude.{Option, Some, None}
 use Rattle.std.proofs.lemmas.Bool.{cases_lt}
 use Rattle.std.proofs.lemmas.List.{length-append, length-drop, append-nil, take-append-drop}
@@ -49,11 +50,7 @@ chain_marked (b ∷ c ∷ size) (suc k) chain lt = chain_marked (c ∷ size) k c
 part_marked : (bytes missing size payload : List ℕ) (k : ℕ) → bytes ++ missing ≡ size ++ payload →
     IsChain size → length bytes < length size → k < length bytes → 128 ≤ get_or bytes k 0
 part_marked bytes missing size payload k parts chain less lt =
-    let same : get_or bytes k 0 ≡ get_or size k 0 = sym (get_or_append_left bytes missing 0 k lt) ∙
-    ap (λ (t : List ℕ). get_or t k 0) parts ∙
-    get_or_append_left size payload 0 k (omega (arith, less, lt)) in
-    let much = chain_marked size k chain (omega (arith, less, lt)) in
-    omega (arith, same, much)
+    grind (arith, nat_tests, get_or_append_left, chain_marked)
 
 -- a part that ends inside the length
 length_reads : (bytes missing size payload : List ℕ) → bytes ++ missing ≡ size ++ payload →
@@ -106,15 +103,9 @@ part_reads bytes part =
       | inr le ↦
           let split = behind_size bytes part.missing s.size part.payload parts le in
           let all = ap length parts in
-          let fewer : length (drop (length s.size) bytes) < length part.payload =
-          omega (
+          let fewer : length (drop (length s.size) bytes) < length part.payload = grind (
             arith,
-            all,
-            part.some,
-            le,
-            length-drop (length s.size) bytes,
-            length-append bytes part.missing,
-            length-append s.size part.payload,
+            length-append,
           ) in (
             drop (length s.size) bytes,
             ap frame_read split ∙
@@ -169,15 +160,7 @@ cut_worked : (frames : List (List ℕ)) (fuel count : ℕ) (front rest : List �
     cut_from fuel count (front ++ rest) ≡ record { frames = frames; rest = rest; fault = fault }
 cut_worked frames zero count front rest fault framed ends less = absurd (omega (arith, less))
 cut_worked [] (suc fuel) count front rest fault none ends less =
-    let P : List ℕ → Type 0 = λ t. Ends (count + length t) rest fault in
-    let Q : ℕ → Type 0 = λ n. Ends n rest fault in
-    let alone : count + 0 ≡ count = omega arith in
-    let here : Ends count rest fault = subst Q alone (subst P none ends) in
-    let s = end_stops count rest fault here in
-    let later : ℕ → List ℕ → Cut = λ n after. cut_from fuel n after in
-    ap (λ (t : List ℕ). cut_by count (t ++ rest) (frame_read (t ++ rest)) later) none
-    ∙ ap (λ (r : Field (List ℕ)). cut_by count rest r later) s.reads
-    ∙ ap (λ (f : Option FrameFault). record { frames = []; rest = rest; fault = f }) s.is
+    grind (arith, nat_tests, end_stops count rest fault)
 cut_worked (payload ∷ frames) (suc fuel) count front rest fault f ends less =
     let later : ℕ → List ℕ → Cut = λ n after. cut_from fuel n after in
     let split : front ++ rest ≡ f.0 ++ (f.1 ++ rest) = ap (λ (t : List ℕ). t ++ rest) f.2 ∙
@@ -258,8 +241,7 @@ underway_frame count all frames payload old new left t u = record {
 -- a frame that is taken has a byte
 pub frame_shortens : (old : Splitting) (payload : List ℕ) (new : Splitting) →
     TakesFrame old payload new → length new.held < length old.held
-frame_shortens old payload new t = let all = ap length t.held in
-    omega (arith, all, length-append t.front new.held, frame_some payload t.front t.spelled)
+frame_shortens old payload new t = grind (arith, nat_tests, length-append, frame_some)
 
 -- ---- where it ends
 
@@ -280,29 +262,18 @@ cut_into count all frames rest fault now is holds =
 -- all bytes were fed, and what is held is a part
 pub underway_done : (count : ℕ) (all : List ℕ) (frames : List (List ℕ)) (now : Splitting) →
     IsPart now.held → IsUnderway count all frames now [] → IsCutInto count all frames None now
-underway_done count all frames now part u =
-    let parts : all ≡ u.front ++ now.held = u.parts ∙ ap (λ (t : List ℕ). u.front ++ t)
-    (append-nil now.held) in
-    let len = ap length parts in
-    let counted : count + (length all - length now.held) ≡ count + length u.front =
-    omega (arith, len, length-append u.front now.held) in
-    cut_into count all frames now.held None now
-    (record { front = u.front; parts = parts; framed = u.framed; ends = part })
-    (λ none. record {
-      held = refl;
-      before = u.before ∙ ap kept_count (sym counted);
-      fine =
-          u.fine;
-      part = part;
-    })
+underway_done count all frames now part u = grind (
+  arith,
+  append-nil now.held,
+  length-append u.front now.held,
+  cut_into count all frames now.held None now,
+)
 
 -- a length that no frame has stays one, whatever is left
 fault_more : (count before : ℕ) (held left : List ℕ) (fault : FrameFault) → before ≡
     kept_count count → Ends before held (Some fault) → Ends count (held ++ left) (Some fault)
-fault_more count before held left (LongLength at) is ends =
-    (HasLongLength-more held left ends.0, (let at_is = ends.1 in omega (arith, is, at_is)))
-fault_more count before held left (ZeroLength at) is ends =
-    (HasZeroLength-more held left ends.0, (let at_is = ends.1 in omega (arith, is, at_is)))
+fault_more count before held left fault is ends =
+    grind (arith, nat_tests, HasLongLength-more, HasZeroLength-more)
 
 never : (fault : FrameFault) → ◌≡◌ {A = Option FrameFault} (Some fault) None → ⊥
 never fault e = cc
@@ -310,16 +281,11 @@ never fault e = cc
 pub underway_bad : (count : ℕ) (all : List ℕ) (frames : List (List ℕ)) (old new : Splitting)
     (left : List ℕ) (fault : FrameFault) → Ends old.before old.held (Some fault) →
     IsUnderway count all frames old left → IsCutInto count all frames (Some fault) new
-underway_bad count all frames old new left fault ends u =
-    cut_into count all frames (old.held ++ left) (Some fault) new
-    (record {
-      front = u.front;
-      parts = u.parts;
-      framed = u.framed;
-      ends =
-          fault_more (count + length u.front) old.before old.held left fault u.before ends;
-    })
-    (λ none. absurd (never fault none))
+underway_bad count all frames old new left fault ends u = grind (
+  arith,
+  cut_into count all frames (old.held ++ left) (Some fault) new,
+  fault_more (count + length u.front) old.before old.held left fault u.before ends,
+)
 
 -- ---- all bytes were fed
 

@@ -1,6 +1,7 @@
 -- What a session makes of a frame, in the words of a connection.
 use Rattle.std.proofs.Common.{◌≡◌, ◌≢◌, Option, Some, None, Result, Ok, Err, IfOk, OnOk, refl, sym}
-use Rattle.std.proofs.Common.{ap, ◌∙◌}
+use Rattle.std.proofs.Common.{ap, ◌∙◌, arith}
+use Rattle.std.proofs.lemmas.Bool.Decides.{nat_tests}
 use Rattle.std.specs.Prelude.{OnErr}
 use Rattle.mc_model.specs.declared.cause.Cause.{Cause}
 use Rattle.mc_model.specs.declared.stage.Stage.{Stage}
@@ -24,13 +25,7 @@ next_decoded : (s : Session) (what : ClientRequest) →
       protocol =
           (next_of (state_of s) what).protocol;
     } ≡ decoded s what
-next_decoded s nothing = refl
-next_decoded s (greets protocol stage) = refl
-next_decoded s (replies packet) = refl
-next_decoded s (ends packet) = refl
-next_decoded s (enters name) = refl
-next_decoded s (acts packet) = refl
-next_decoded s (wrong fault) = refl
+next_decoded s what = grind (arith, nat_tests)
 
 -- where a connection is open, it has no cause
 no_cause : (cause : Option Cause) (stage : Stage) → stage_of cause stage ≢ stages.Closed → cause ≡
@@ -85,15 +80,7 @@ pub connection_told : (v c : ConnectionValue) (old new : State) → v ≡ c →
             new.protocol;
       };
     } ≡ record c { session = decoded c.session (say c.session.stage) }
-connection_told v c old new same open_ stage_is protocol_is say e =
-    let told : record v.session {
-      stage = stage_of v.session.cause new.stage;
-      protocol =
-          new.protocol;
-    } ≡ decoded c.session (say c.session.stage) =
-    next_told v.session c.session old (ap (λ (d : ConnectionValue). d.session) same)
-    open_ stage_is protocol_is say new e in
-    λ i. record (same i) { session = told i }
+connection_told v c old new same open_ stage_is protocol_is say e = grind (arith, nat_tests)
 
 -- what follows of an Ok follows of a call's result
 pub if_ok_more : {A E : Type 0} (r : Result A E) (P Q : A → Type 0) → ((x : A) → P x → Q x) →
@@ -119,13 +106,7 @@ on_ok_all3 (Err e) P Q R S f p q r = tt
 -- a frame makes none come or go
 next_plays : (state : State) (what : ClientRequest) → Suits state.stage what →
     is_play (next_of state what).stage ≡ is_play state.stage
-next_plays state nothing fit = refl
-next_plays state (greets protocol stage) fit = fit.1 ∙ sym (ap is_play fit.0)
-next_plays state (replies packet) fit = refl
-next_plays state (ends packet) fit = sym (ap is_play fit)
-next_plays state (enters name) fit = sym (ap is_play fit)
-next_plays state (acts packet) fit = refl
-next_plays state (wrong fault) fit = refl
+next_plays state what fit = grind (arith, nat_tests)
 
 stage_plays : (cause : Option Cause) (old new : Stage) (o : Option code.Player) → is_play new ≡
     is_play old → HasPlayer (stage_of cause old) o → HasPlayer (stage_of cause new) o
@@ -137,9 +118,4 @@ pub frame_plays : {A E : Type 0} (r : Result A E) (cause : Option Cause) (old ne
     ((stage : Stage) → Suits stage (say stage))
     → HasPlayer (stage_of cause old.stage) o → OnOk r (new ≡ next_of old (say old.stage)) →
     OnErr r (new ≡ old) → HasPlayer (stage_of cause new.stage) o
-frame_plays (Ok x) cause old new say o fits has next err =
-    stage_plays cause old.stage new.stage o
-    (ap (λ (state : State). is_play state.stage) next ∙ next_plays old (say old.stage)
-    (fits old.stage)) has
-frame_plays (Err e) cause old new say o fits has next err =
-    stage_plays cause old.stage new.stage o (ap (λ (state : State). is_play state.stage) err) has
+frame_plays r cause old new say o fits has next err = grind (arith, nat_tests)

@@ -1,7 +1,8 @@
 -- What a player does makes of a server what the definitions make of its world: things change, or
 -- what is kept of the player at its place.
 use Rattle.std.proofs.Common.{◌≡◌, ℕ, ◌<◌, ◌≤◌, List, true, length, refl, sym, subst, ap, ◌∙◌}
-use Rattle.std.proofs.Common.{get_or, set}
+use Rattle.std.proofs.Common.{get_or, set, arith}
+use Rattle.std.proofs.lemmas.Bool.Decides.{nat_tests}
 use Rattle.std.specs.Prelude.{◌⊎◌, Option, Some, is_some, unsigned_abs}
 use Rattle.std.specs.Prelude.{Result, Ok, Err, OnOk, OnErr}
 use Rattle.std.specs.FinSet as places
@@ -55,10 +56,7 @@ pub kept_set_land : {A E : Type 0} {land : LandValue} {folk : FolkState} {with_ 
     OnOk r (next ≡ with_block land (key_of cell.x (unsigned_abs cell.y) cell.z) state) →
     OnErr r (next ≡ land) → AreKept next folk with_ last ids ss
 kept_set_land {land = land} kept cell state small whole next (Ok old) ok err =
-    let key = key_of cell.x (unsigned_abs cell.y) cell.z in
-    kept_land kept next (ap (λ (l : LandValue). l.terrain) ok)
-    (subst (λ (l : LandValue). AreStates l.edits) (sym ok)
-    (edited_states land.terrain land.edits key state small whole kept.states))
+    grind (arith, nat_tests, kept_land kept next, edited_states land.terrain land.edits)
 kept_set_land {land = land} {folk} {with_} {last} {ids} {ss} kept cell state small whole next
     (Err fault) ok err =
     subst (λ (l : LandValue). AreKept l folk with_ last ids ss) (sym err) kept
@@ -69,21 +67,13 @@ kept_set_land {land = land} {folk} {with_} {last} {ids} {ss} kept cell state sma
 pub things_become : (v : ServerValue) (things : Things) (ready : places.FinSet place_cmp) →
     Becomes v (record v { things = things; ready = ready })
     (record (kept_world v) { things = things })
-things_become v things ready = record {
-  connections = side_same Retains retains_same v.connections;
-  kept = refl;
-  list = refl;
-  shown = refl;
-  works = refl;
-}
+things_become v things ready = grind (arith, nat_tests, side_same, retains_same)
 
 -- where just they are other
 pub things_set : (v n : ServerValue) (things : Things) →
     n ≡ record v { things = things; ready = n.ready } →
     Becomes v n (record (kept_world v) { things = things })
-things_set v n things is =
-    subst (λ (m : ServerValue). Becomes v m (record (kept_world v) { things = things })) (sym is)
-    (things_become v things n.ready)
+things_set v n things is = grind (arith, nat_tests, things_become v things n.ready)
 
 -- a player has another pile, and then an item lies somewhere
 pub carried_thrown : (v mid n : ServerValue) (item : Item) (spot : Spot) (things : Things) →
@@ -95,14 +85,7 @@ pub carried_thrown : (v mid n : ServerValue) (item : Item) (spot : Spot) (things
       things = with_new_entity (kinds.Dropped item v.age) spot things;
     })
 carried_thrown v mid n item spot things carried thrown =
-    let is : n ≡ record v { things = with_new_entity (kinds.Dropped item v.age) spot things } =
-    thrown ∙ ap (λ (m : ServerValue). record m {
-      things = with_new_entity (kinds.Dropped item m.age) spot m.things;
-    }) carried in
-    subst (λ (m : ServerValue). Becomes v m (record (kept_world v) {
-      things = with_new_entity (kinds.Dropped item v.age) spot things;
-    })) (sym is)
-    (things_become v (with_new_entity (kinds.Dropped item v.age) spot things) v.ready)
+    grind (arith, things_become v (with_new_entity (kinds.Dropped item v.age) spot things) v.ready)
 
 -- a cell has a state, and then a player another pile
 pub set_carried : (v mid n : ServerValue) (p : Player) (cell : Cell) (state : ℕ) (pile : Pile) →
@@ -117,10 +100,7 @@ pub set_carried : (v mid n : ServerValue) (p : Player) (cell : Cell) (state : �
 set_carried v mid n p cell state pile made carried =
     let things = with_state v.terrain cell state v.things in
     let after_ : ServerValue = record v { things = things; ready = mid.ready } in
-    let is : n ≡ record after_ { things = carrying (kept_world v) p pile things } =
-    carried ∙ ap (λ (m : ServerValue). record m {
-      things = carrying (kept_world m) p pile m.things;
-    }) made in
+    let is : n ≡ record after_ { things = carrying (kept_world v) p pile things } = grind (arith) in
     subst (λ (m : ServerValue). Becomes v m (record (kept_world v) {
       things = carrying (kept_world v) p pile things;
     })) (sym is) (things_become v (carrying (kept_world v) p pile things) mid.ready)
@@ -130,8 +110,7 @@ set_carried v mid n p cell state pile made carried =
 -- it comes to play no more than before
 pub player_calm : (c t : ConnectionValue) (f : Player → Player) → t ≡ with_player c f →
     is_some t.session.player ≡ true → is_some c.session.player ≡ true
-player_calm c t f made plays = player_kept f c.session.player
-    (ap (λ (d : ConnectionValue). is_some d.session.player) (sym made) ∙ plays)
+player_calm c t f made plays = grind (arith, nat_tests, player_kept)
 
 -- what is kept is kept then
 pub kept_player : {land : LandValue} {folk : FolkState} {with_ : Settings} {last : Option ℕ}
@@ -140,8 +119,7 @@ pub kept_player : {land : LandValue} {folk : FolkState} {with_ : Settings} {last
     i < length cs → c ≡ get_or cs i c → (f : Player → Player) → t ≡ with_player c f →
     AreKept land folk with_ last ids (sessions_of (set cs i t))
 kept_player cs kept i c t lt is f made =
-    kept_set cs kept i c t lt is (ap (λ (d : ConnectionValue). d.session.id) made)
-    (player_calm c t f made)
+    grind (arith, nat_tests, kept_set cs kept i c t lt is, player_calm c t f made)
 
 -- also where it may fail, and change nothing
 pub kept_tried : {A E : Type 0} {land : LandValue} {folk : FolkState} {with_ : Settings}
@@ -152,8 +130,7 @@ pub kept_tried : {A E : Type 0} {land : LandValue} {folk : FolkState} {with_ : S
     AreKept land folk with_ last ids (sessions_of (set cs i t))
 kept_tried cs kept i c t lt is f (Ok a) made same = kept_player cs kept i c t lt is f made
 kept_tried cs kept i c t lt is f (Err e) made same =
-    kept_set cs kept i c t lt is (ap (λ (d : ConnectionValue). d.session.id) same)
-    (λ plays. ap (λ (d : ConnectionValue). is_some d.session.player) (sym same) ∙ plays)
+    grind (arith, nat_tests, kept_set cs kept i c t lt is)
 
 -- ---- two steps
 
@@ -169,13 +146,7 @@ pub things_then_player : (old mid new : ServerValue) (i : ℕ) (f : Player → P
     (record (nth_session i mid.connections) { player = Some (f p) })) →
     Becomes old new (record (put (kept_world old)
     (record (nth_session i old.connections) { player = Some (f p) })) { things = things })
-things_then_player old mid new i f p things is =
-    subst (λ (m : ServerValue). Becomes m new (put (kept_world m)
-    (record (nth_session i m.connections) { player = Some (f p) })) →
-    Becomes old new (record (put (kept_world old)
-    (record (nth_session i old.connections) { player = Some (f p) })) { things = things }))
-    (sym is) (λ b. becomes_onward old (record old { things = things }) new _ _
-    (things_become old things old.ready) b)
+things_then_player old mid new i f p things is = grind (arith, nat_tests)
 
 -- the player that acts
 pub acts_as : (doer : Doer) (cs : List ConnectionValue) → IsDoerAt doer cs → (p : Player) →

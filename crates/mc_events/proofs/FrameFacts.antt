@@ -1,6 +1,7 @@
 -- What a frame makes of a server: its connection does its part, and the server what is left.
 use Rattle.std.proofs.Common.{◌≡◌, ◌≢◌, ℕ, List, length, get_or, set, refl, sym, ap}
-use Rattle.std.proofs.Common.{◌∙◌}
+use Rattle.std.proofs.Common.{◌∙◌, arith}
+use Rattle.std.proofs.lemmas.Bool.Decides.{nat_tests}
 use Rattle.std.specs.Prelude.{true, false, Option, Some, None, Result, is_err, is_some}
 use Rattle.std.specs.Prelude.{OnOk}
 use Rattle.std.proofs.lemmas.List.{get_or-set_same}
@@ -34,41 +35,21 @@ use Rattle.mc_events.proofs.Becoming.{refusal_waiting, sure}
 put_still : (w : World) (s t : Session) → record (put w t) {
   things = after_leaving s.player s.player w.things;
 } ≡ put w t
-put_still w s t = ap (λ (things : Things). record (put w t) { things = things })
-    (stays_on s.player w.things)
+put_still w s t = grind (arith, nat_tests, stays_on)
 
 -- where nothing is, what its connection does is all that a frame comes to
 perform_alone : (w : World) (s : Session) (x : ClientRequest) → None ≡ pending_of x → put w s ≡ w
     → put_after w s (after_request s x) ≡ (perform w s x).world
-perform_alone w s nothing none stays = put_still w s s ∙ stays
-perform_alone w s (greets protocol stage) none stays =
-    put_still w s (record s { stage = stage; protocol = protocol })
-perform_alone w s (replies packet) none stays = refl
-perform_alone w s (ends packet) none stays = refl
-perform_alone w s (enters name) none stays = absurd cc
-perform_alone w s (acts packet) none stays = absurd cc
-perform_alone w s (wrong fault) none stays = refl
+perform_alone w s x none stays = grind (arith, nat_tests)
 
 -- it says what the frame came to
 pending_login : (x : ClientRequest) (name : List ℕ) → Some (Login name) ≡ pending_of x → x ≡
     enters name
-pending_login nothing name e = absurd cc
-pending_login (greets protocol stage) name e = absurd cc
-pending_login (replies packet) name e = absurd cc
-pending_login (ends packet) name e = absurd cc
-pending_login (enters given) name e = (let same : given ≡ name = cc in ap enters same)
-pending_login (acts packet) name e = absurd cc
-pending_login (wrong fault) name e = absurd cc
+pending_login x name e = grind (arith, nat_tests)
 
 pub pending_act : (x : ClientRequest) (packet : PlayUp) → Some (Act packet) ≡ pending_of x → x ≡
     acts packet
-pending_act nothing packet e = absurd cc
-pending_act (greets protocol stage) packet e = absurd cc
-pending_act (replies reply) packet e = absurd cc
-pending_act (ends reply) packet e = absurd cc
-pending_act (enters name) packet e = absurd cc
-pending_act (acts given) packet e = (let same : given ≡ packet = cc in ap acts same)
-pending_act (wrong fault) packet e = absurd cc
+pending_act x packet e = grind (arith, nat_tests)
 
 -- ---- at the place of an open connection
 
@@ -170,31 +151,17 @@ module _ (old : ServerValue) (i high : ℕ) (frame : List ℕ)
 
 after_calm : (s : Session) (x : ClientRequest) → is_some (after_request s x).player ≡ true →
     is_some s.player ≡ true
-after_calm s nothing playing = playing
-after_calm s (greets protocol stage) playing = playing
-after_calm s (replies packet) playing = hand_calm s _ playing
-after_calm s (ends packet) playing = absurd (not_both _ playing (close_waits s causes.Done _))
-after_calm s (enters name) playing = playing
-after_calm s (acts packet) playing = playing
-after_calm s (wrong fault) playing = absurd
-    (not_both _ playing (close_waits s (causes.Packet fault) _))
+after_calm s x playing = grind (arith, nat_tests, hand_calm, not_both, close_waits)
 
 pub handled_calm : {A E : Type 0} (r : Result A E) (most online : ℕ) (frame : List ℕ)
     (s t : Session)
     → false ≡ is_err r → OnOk r (t ≡ after_request s (request_of s.stage most online frame))
     → is_some t.player ≡ true → is_some s.player ≡ true
 handled_calm r most online frame s t fine handled playing =
-    after_calm s (request_of s.stage most online frame)
-    (ap (λ (u : Session). is_some u.player) (sym (sure r fine handled)) ∙ playing)
+    grind (arith, nat_tests, after_calm, sure)
 
 pub after_id : (s : Session) (x : ClientRequest) → (after_request s x).id ≡ s.id
-after_id s nothing = refl
-after_id s (greets protocol stage) = refl
-after_id s (replies packet) = hand_id s _
-after_id s (ends packet) = hand_id (mark_closed s causes.Done) _
-after_id s (enters name) = refl
-after_id s (acts packet) = refl
-after_id s (wrong fault) = hand_id (mark_closed s (causes.Packet fault)) _
+after_id s x = grind (arith, nat_tests, hand_id)
 
 pub open_stage : (s : Session) → is_closed s.stage ≡ false → s.stage ≢ stages.Closed
 open_stage s open_ e = let clash : true ≡ false = sym (ap is_closed e) ∙ open_ in cc

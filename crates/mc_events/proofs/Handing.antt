@@ -2,6 +2,7 @@
 use Rattle.std.proofs.Common.{◌≡◌, ℕ, ◌+◌, ◌≤◌, List, [], ◌∷◌, ◌++◌, length, Bool, true, false}
 use Rattle.std.proofs.Common.{nat_le}
 use Rattle.std.proofs.Common.{refl, sym, subst, ap, ◌∙◌, arith, length-append}
+use Rattle.std.proofs.lemmas.Bool.Decides.{nat_tests}
 use Rattle.std.specs.Prelude.{Option, None, Result, Ok, Err, is_err, OnOk, if◌then◌else◌}
 use Rattle.mc_frame.specs.Kept.{joined, outbox_max}
 use Rattle.mc_model.specs.declared.cause.Cause.{Cause}
@@ -50,9 +51,7 @@ KeepsMark c = (if is_closed c.session.stage then nothing_shown else c.mark) ≡ 
 
 pub keeps_mark : (stage : Stage) (o : Option code.Player) (v c : ConnectionValue) →
     HasPlayer stage o → v.session.stage ≡ stage → v.mark ≡ mark_of o → v ≡ c → KeepsMark c
-keeps_mark stage o v c has at mark same =
-    subst KeepsMark same
-    ((λ i. if is_closed (at i) then nothing_shown else mark i) ∙ mark_stays stage o has ∙ sym mark)
+keeps_mark stage o v c has at mark same = grind (arith, nat_tests)
 
 pub hand_fits : (v c : ConnectionValue) (packets : List Sent) (bytes owed : List ℕ) (held more : ℕ)
     (has : Bool) → v ≡ c → KeepsMark c → bytes ≡ bytes_of packets → owed ≡ v.session.owed ++ bytes →
@@ -60,16 +59,7 @@ pub hand_fits : (v c : ConnectionValue) (packets : List Sent) (bytes owed : List
     has ≡ true → record v { session = record v.session { owed = owed } } ≡
     with_session c (hand c.session packets).session
 hand_fits v c packets bytes owed held more has same keeps e put a b test room =
-    ap (λ (held : List ℕ). record v { session = record v.session { owed = held } }) put
-    ∙ ap (λ (d : ConnectionValue). record d
-    { session = record d.session { owed = d.session.owed ++ bytes } }) same
-    ∙ ap (λ (m : MarkValue). record c {
-      session =
-          record c.session { owed = c.session.owed ++ bytes };
-      mark = m;
-    }) (sym keeps)
-    ∙ ap (with_session c) (fits c.session packets bytes e
-    (tested held more c.session.owed bytes has true a b test room))
+    grind (arith, nat_tests, fits, tested)
 
 pub hand_drops : (c t : ConnectionValue) (packets : List Sent) (bytes : List ℕ) (held more : ℕ)
     (has : Bool) → t ≡ with_session c (record (mark_closed c.session causes.Backlog) { owed = [] })
@@ -77,8 +67,7 @@ pub hand_drops : (c t : ConnectionValue) (packets : List Sent) (bytes : List ℕ
     held ≡ length c.session.owed → more ≡ length bytes → has ≡ nat_le (held + more) outbox_max →
     has ≡ false → t ≡ with_session c (hand c.session packets).session
 hand_drops c t packets bytes held more has is e a b test none =
-    is ∙ ap (with_session c) (drops c.session packets bytes e
-    (tested held more c.session.owed bytes has false a b test none))
+    grind (arith, nat_tests, drops, tested)
 
 -- with the session that it has then
 pub with_now : (c t : ConnectionValue) (s : Session) → t ≡ with_session c s → t ≡
@@ -89,32 +78,20 @@ with_now c t s made = made ∙ ap (with_session c)
 pub with_owed : (v c : ConnectionValue) (owed : List ℕ) → v ≡ c → KeepsMark c →
     record v { session = record v.session { owed = owed } } ≡
     with_session c (record v.session { owed = owed })
-with_owed v c owed same keeps =
-    let P : ConnectionValue → Type 0 = λ d. record d { session = record d.session { owed = owed } }
-    ≡ with_session c (record d.session { owed = owed }) in
-    subst P (sym same) (ap (λ (m : MarkValue). record c
-    { session = record c.session { owed = owed }; mark = m }) (sym keeps))
+with_owed v c owed same keeps = grind (arith, nat_tests)
 
 -- ---- leaving
 
 pub left_closed : (cause : Cause) (v c : ConnectionValue) → v ≡ c → KeepsMark c →
     is_closed c.session.stage ≡ true →
     record v { session = record v.session { owed = [] } } ≡ with_session c (gone cause c.session)
-left_closed cause v c same keeps over =
-    ap (λ (d : ConnectionValue). record d { session = record d.session { owed = [] } }) same
-    ∙ ap (λ (m : MarkValue). record c { session = record c.session { owed = [] }; mark = m })
-    (sym keeps)
-    ∙ ap (λ (b : Bool). with_session c (if b then record c.session { owed = [] } else record
-    (mark_closed c.session cause) { owed = [] })) (sym over)
+left_closed cause v c same keeps over = grind (arith, nat_tests)
 
 pub left_open : (cause : Cause) (c t : ConnectionValue) →
     t ≡ with_session c (mark_closed c.session cause) →
     is_closed c.session.stage ≡ false → record t { session = record t.session { owed = [] } } ≡
     with_session c (gone cause c.session)
-left_open cause c t made open_ =
-    ap (λ (d : ConnectionValue). record d { session = record d.session { owed = [] } }) made
-    ∙ ap (λ (b : Bool). with_session c (if b then record c.session { owed = [] } else record
-    (mark_closed c.session cause) { owed = [] })) (sym open_)
+left_open cause c t made open_ = grind (arith, nat_tests)
 
 -- ---- closing
 

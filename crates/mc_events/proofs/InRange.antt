@@ -4,6 +4,7 @@ use Rattle.std.proofs.Common.{ap, refl, subst, ℤ, pos, negsuc}
 use Rattle.std.specs.Prelude.{◌&&◌, not, int_le, Option, Some, None, if◌then◌else◌, unwrap_or}
 use Rattle.std.specs.Prelude.{option_map}
 use Rattle.std.proofs.Common.{cond, arith, false}
+use Rattle.std.proofs.lemmas.Bool.Decides.{nat_tests}
 use Rattle.std.proofs.lemmas.Int.{ints}
 use Rattle.mc_model.proofs.FitsText.{both_true}
 use Rattle.mc_model.proofs.FitsMoves.{in_order}
@@ -25,57 +26,28 @@ use Rattle.mc_events.specs.Served.{AreInRange}
 
 -- the place where players enter
 pub spawn_in_range : (terrain : Terrain) → IsInRange (spawn_spot terrain)
-spawn_in_range terrain = record {
-  x_low = omega (arith, ints);
-  x_high = omega (arith, ints);
-  y_low = omega (arith, ints);
-  y_high = (let low : spawn_height terrain < 100 = spawn_low terrain in omega (arith, ints, low));
-  z_low = omega (arith, ints);
-  z_high = omega (arith, ints);
-}
+spawn_in_range terrain = grind (arith, nat_tests, ints, spawn_low)
 
 -- a number between two others
 ends : (low high : ℕ) (n : ℤ) → is_between (negsuc low) (pos high) n ≡ true →
     (negsuc low ≤ℤ n) × (n ≤ℤ pos high)
-ends low high n is =
-    let parts = both_true (int_le (negsuc low) n) (int_le n (pos high)) is in
-    (in_order (negsuc low) n parts.0, in_order n (pos high) parts.1)
+ends low high n is = grind (arith, nat_tests)
 
 -- a spot within the range of entities
 pub inside_in_range : (spot : Spot) → is_inside spot ≡ true → IsInRange spot
-inside_in_range spot is =
-    let x : Bool = is_between (negsuc 959999999) (pos 960000000) spot.x in
-    let y : Bool = is_between (negsuc 2047) (pos 131072) spot.y in
-    let z : Bool = is_between (negsuc 959999999) (pos 960000000) spot.z in
-    let parts = both_true x (y && z) is in
-    let others = both_true y z parts.1 in
-    let flat = ends 959999999 960000000 spot.x parts.0 in
-    let up = ends 2047 131072 spot.y others.0 in
-    let across = ends 959999999 960000000 spot.z others.1 in
-    record {
-      x_low = flat.0;
-      x_high = (let high = flat.1 in omega (arith, ints, high));
-      y_low = up.0;
-      y_high = up.1;
-      z_low = across.0;
-      z_high = (let high = across.1 in omega (arith, ints, high));
-    }
+inside_in_range spot is = grind (arith, nat_tests, both_true, ends, ints)
 
 -- ---- entities
 
 -- one more, at such a spot
 pub spawned_in_range : (kind : EntityKind) (spot : Spot) (state : FolkState) → IsInRange spot →
     AreInRange state.entities → AreInRange (spawned kind spot state).entities
-spawned_in_range kind spot state there all =
-    all_joined (λ (e : Entity). IsInRange e.spot) state.entities
-    (record { eid = pos (state.given + 1); kind = kind; spot = spot } ∷ []) all (there, tt)
+spawned_in_range kind spot state there all = grind (arith, nat_tests, all_joined)
 
 -- one less
 pub removed_in_range : (eid : ℤ) (state : FolkState) → AreInRange state.entities →
     AreInRange (removed eid state).entities
-removed_in_range eid state =
-    all_filtered (λ (e : Entity). IsInRange e.spot) (λ (e : Entity). not (int_eq (eid_of e) eid))
-    state.entities
+removed_in_range eid state = grind (arith, nat_tests, all_filtered)
 
 -- one that is put at such a spot
 pub placed_in_range : (eid : ℤ) (spot : Spot) (state : FolkState) → IsInRange spot →
@@ -102,19 +74,10 @@ pub numbered_in_range : (eid : ℤ) (entities : List Entity) (e : Entity) → Ar
     numbered eid_of eid entities ≡ Some e → IsInRange e.spot
 numbered_in_range eid [] e all is = absurd cc
 numbered_in_range eid (x ∷ entities) e all is =
-    (elim (int_eq (eid_of x) eid) as (λ b.
-    cond b (Some x) (numbered eid_of eid entities) ≡ Some e → IsInRange e.spot) [
-      | true ↦ λ here. subst (λ (y : Entity). IsInRange y.spot)
-          (ap (λ (o : Option Entity). unwrap_or o x) here) all.0
-      | false ↦ λ later. numbered_in_range eid entities e all.1 later
-    ]) is
+    grind (arith, nat_tests, numbered_in_range eid entities e all.1)
 
 -- where the one of a number is, or players enter
 pub spot_in_range : (terrain : Terrain) (entities : List Entity) (eid : ℕ) → AreInRange entities →
     IsInRange (spot_in terrain entities eid)
-spot_in_range terrain entities eid all = cases (numbered eid_of (pos eid) entities) refl
-  where
-    cases : (o : Option Entity) → numbered eid_of (pos eid) entities ≡ o →
-        IsInRange (unwrap_or (option_map (λ (e : Entity). e.spot) o) (spawn_spot terrain))
-    cases None e = spawn_in_range terrain
-    cases (Some x) e = numbered_in_range (pos eid) entities x all e
+spot_in_range terrain entities eid all =
+    grind (arith, nat_tests, spawn_in_range terrain, numbered_in_range (pos eid) entities)

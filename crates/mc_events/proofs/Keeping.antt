@@ -1,6 +1,7 @@
 -- What is true of the parts of a server stays, where one connection changes, comes or goes.
 use Rattle.std.proofs.Common.{◌≡◌, ℕ, ◌≤◌, ◌<◌, List, [], ◌∷◌, ◌++◌, map, length, get_or, set}
 use Rattle.std.proofs.Common.{refl, sym, subst, ap, ◌∙◌, arith}
+use Rattle.std.proofs.lemmas.Bool.Decides.{nat_tests}
 use Rattle.std.specs.Prelude.{Bool, true, false, cond, is_some, Option, Some, None, not, ◌&&◌, ◌==◌}
 use Rattle.std.specs.Prelude.{nat_lt, ◌||◌}
 use Rattle.std.specs.List.{remove}
@@ -72,41 +73,24 @@ module _ {land : LandValue} {folk : FolkState} {with_ : Settings} {last : Option
 pub room_there : (mid v : ServerValue) (name : List ℕ) (things : Things) →
     mid ≡ record v { things = things } → has_room (kept_world v) name ≡ true →
     nat_lt (length (playing_of (sessions_of mid.connections))) mid.most ≡ true
-room_there mid v name things e room =
-    let w = kept_world v in
-    let names = is_known name w.things.packs || nat_lt (length w.things.packs) 65536 in
-    let P : ServerValue → Type 0 =
-    λ u. nat_lt (length (playing_of (sessions_of u.connections))) u.most ≡ true in
-    subst P (sym e) (both_true (nat_lt (length (players w)) w.most)
-    (nat_lt w.things.eids 2147483647 && names) room).0
+room_there mid v name things e room = grind (arith, nat_tests)
 
 -- ---- one that comes, and one that goes
 
 joining_waits : (w : World) (k : ℕ) → (joining w k).player ≡ None
-joining_waits w k = elim (is_crowded w) as (λ b.
-    (cond b (mark_closed (new_session k) causes.Crowded) (new_session k)).player ≡ None)
-    [ true ↦ refl | false ↦ refl ]
+joining_waits w k = grind (arith, nat_tests)
 
 pub kept_join : {land : LandValue} {folk : FolkState} {with_ : Settings} {last : Option ℕ} {ids : List ℕ}
     (cs : List ConnectionValue) → AreKept land folk with_ last ids (sessions_of cs) →
     (w : World) (k : ℕ) (c : ConnectionValue) → c.session ≡ joining w k → is_new k last ≡ true →
     AreKept land folk with_ (Some k) (ids ++ c.session.id ∷ []) (sessions_of (cs ++ c ∷ []))
-kept_join {land} {folk} {with_} {last} {ids} cs kept w k c e new =
-    let P : List Session → Type 0 = λ ss. AreKept land folk with_ (Some k)
-    (ids ++ c.session.id ∷ []) ss in
-    subst P (sym (sessions_join cs c)) (record {
-      own = kept.own;
-      settings = kept.settings;
-      in_range = kept.in_range;
-      states = kept.states;
-      rise = joined_rise w k last (sessions_of cs) c.session e new kept.rise;
-      named = numbers_join (sessions_of cs) c.session ∙
-          ap (λ (ns : List ℕ). ns ++ c.session.id ∷ []) kept.named;
-      few = (
-          let same = ap length (playing_join (sessions_of cs)
-          c.session (ap (λ (t : Session). t.player) e ∙ joining_waits w k)) in
-          let few = kept.few in omega (arith, same, few));
-    })
+kept_join {land} {folk} {with_} {last} {ids} cs kept w k c e new = grind (
+  arith,
+  sessions_join cs c,
+  joined_rise w k last (sessions_of cs) c.session e new kept.rise,
+  numbers_join (sessions_of cs) c.session,
+  playing_join (sessions_of cs) c.session,
+)
 
 pub forgotten_over : (high : ℕ) (cs : List ConnectionValue) (i : ℕ) (c : ConnectionValue) →
     Rise 0 (sessions_of cs) high → i < length cs → c ≡ get_or cs i c → is_done c.session ≡ true →
@@ -122,21 +106,14 @@ pub kept_forget : {land : LandValue} {folk : FolkState} {with_ : Settings} {last
     (cs : List ConnectionValue) → AreKept land folk with_ last ids (sessions_of cs) →
     (i : ℕ) (c : ConnectionValue) → i < length cs → c ≡ get_or cs i c → is_done c.session ≡ true →
     AreKept land folk with_ last (remove ids i) (sessions_of (remove cs i))
-kept_forget {land} {folk} {with_} {last} {ids} cs kept i c lt is over =
-    let P : List Session → Type 0 = λ ss. AreKept land folk with_ last (remove ids i) ss in
-    let Q : List Session → Type 0 = λ ss. Rise 0 ss (next_number last) in
-    subst P (sym (sessions_remove cs i)) (record {
-      own = kept.own;
-      settings = kept.settings;
-      in_range = kept.in_range;
-      states = kept.states;
-      rise = subst Q (forgotten_over (next_number last) cs i c kept.rise lt is over)
-          (rise_filter (λ (s : Session). not (s.id == c.session.id && is_done s))
-          0 (next_number last) (sessions_of cs) kept.rise);
-      named = numbers_remove (sessions_of cs) i ∙ ap (λ (ns : List ℕ). remove ns i) kept.named;
-      few = (let fewer = playing_remove (sessions_of cs) i in let few = kept.few in
-          omega (arith, fewer, few));
-    })
+kept_forget {land} {folk} {with_} {last} {ids} cs kept i c lt is over = grind (
+  arith,
+  sessions_remove cs i,
+  forgotten_over (next_number last) cs i c kept.rise lt is over,
+  rise_filter,
+  numbers_remove (sessions_of cs) i,
+  playing_remove (sessions_of cs) i,
+)
 
 -- ---- entities
 
@@ -166,15 +143,8 @@ pub kept_ticked : {land : LandValue} {folk : FolkState} {with_ : Settings} {last
     (sessions_of cs) →
     length (playing_of (sessions_of now_)) ≤ length (playing_of (sessions_of cs)) →
     AreKept next others with_ last ids (sessions_of now_)
-kept_ticked {last = last} cs kept next others now_ same edits there named fewer = record {
-  own = same ∙ kept.own;
-  settings = kept.settings;
-  in_range = there;
-  states = subst AreStates (sym edits) kept.states;
-  rise = rise_ids 0 (next_number last) (sessions_of cs) (sessions_of now_) named kept.rise;
-  named = named ∙ kept.named;
-  few = (let few = kept.few in omega (arith, few, fewer));
-}
+kept_ticked {last = last} cs kept next others now_ same edits there named fewer =
+    grind (arith, nat_tests, rise_ids)
 
 -- ---- what is seen
 

@@ -1,5 +1,7 @@
 -- What is left of a world's things where a connection has its player no more.
 use Rattle.std.proofs.Common.{◌≡◌, ℕ, Bool, true, false, refl, sym, ap, ◌∙◌, Option, Some, None}
+use Rattle.std.proofs.Common.{arith}
+use Rattle.std.proofs.lemmas.Bool.Decides.{nat_tests}
 use Rattle.std.specs.Prelude.{is_some, option_map, [], if◌then◌else◌}
 use lib.IntN.{pos}
 use Rattle.mc_land.specs.Land.{LandValue}
@@ -20,26 +22,17 @@ eid_in o = option_map (λ (p : Player). p.eid) o
 -- by its number alone
 pub left_is : (o now_ : Option Player) (things : Things) →
     left_with (eid_in o) now_ things ≡ after_leaving o now_ things
-left_is None now_ things = refl
-left_is (Some p) None things = refl
-left_is (Some p) (Some q) things = refl
+left_is o now_ things = grind (arith, nat_tests)
 
 -- what was shown to it is nothing to that
 pub leaving_bare : (o now_ : Option Player) (things : Things) →
     after_leaving (option_map bare_player o) (option_map bare_player now_) things
     ≡ after_leaving o now_ things
-leaving_bare None now_ things = refl
-leaving_bare (Some p) None things = refl
-leaving_bare (Some p) (Some q) things = refl
+leaving_bare o now_ things = grind (arith, nat_tests)
 
 -- one that goes has no player
 pub gone_player : (cause : Cause) (s : Session) → HasPlayer s → (gone cause s).player ≡ None
-gone_player cause s has = step (is_closed s.stage) refl
-  where
-    step : (b : Bool) → is_closed s.stage ≡ b → (if b then record s { owed = [] }
-        else record (mark_closed s cause) { owed = [] }).player ≡ None
-    step true over = no_player s.player (sym has ∙ ap is_play (closed_is s.stage over))
-    step false open_ = refl
+gone_player cause s has = grind (arith, nat_tests)
 
 -- a player that was shown something is one
 pub bare_some : (o : Option Player) → is_some (option_map bare_player o) ≡ is_some o
@@ -51,6 +44,4 @@ pub removed_left : (land : LandValue) (folk now_ : FolkState) (packs : Packs) (e
     (n : ℕ) (player : Option Player) → eid ≡ Some n → player ≡ None →
     now_ ≡ removed (pos n) folk →
     things_of land now_ packs ≡ left_with eid player (things_of land folk packs)
-removed_left land folk now_ packs eid n player some none is =
-    ap (λ (state : FolkState). things_of land state packs) is
-    ∙ λ j. left_with (sym some j) (sym none j) (things_of land folk packs)
+removed_left land folk now_ packs eid n player some none is = grind (arith, nat_tests)

@@ -2,6 +2,7 @@
 use Rattle.std.proofs.Common.{◌≡◌, ℕ, zero, suc, ◌+◌, ◌<◌, ◌≤◌, false, List, [], ◌∷◌, ◌++◌}
 use Rattle.std.proofs.Common.{map, length, take, get_or, set, Option, Some, None, is_some, refl}
 use Rattle.std.proofs.Common.{sym, subst, ap, ◌∙◌, append_assoc, append-nil, arith}
+use Rattle.std.proofs.lemmas.Bool.Decides.{nat_tests}
 use Rattle.std.specs.Prelude.{option_map}
 use Rattle.std.specs.List.{fold}
 use Rattle.std.proofs.lemmas.List.{take_more, take_more_set, take_all}
@@ -26,11 +27,7 @@ use Rattle.mc_events.proofs.InRange.{removed_in_range}
 pub left_is : (old new : Option Player) (eid : ℤ) →
     Some eid ≡ option_map (λ (p : Player). pos p.eid) old → is_some new ≡ false →
     eid ∷ [] ≡ left_one old new
-left_is None None eid is gone = absurd cc
-left_is None (Some q) eid is gone = absurd cc
-left_is (Some p) (Some q) eid is gone = absurd cc
-left_is (Some p) None eid is gone = let same : eid ≡ pos p.eid = cc in
-    ap (λ (n : ℤ). n ∷ []) same
+left_is old new eid is gone = grind (arith, nat_tests)
 
 -- one connection more
 left_joined : (xs ys : List ConnectionValue) (c t : ConnectionValue) → length xs ≡ length ys →
@@ -39,11 +36,7 @@ left_joined : (xs ys : List ConnectionValue) (c t : ConnectionValue) → length 
 left_joined [] [] c t same = append-nil (left_one c.session.player t.session.player)
 left_joined [] (y ∷ ys) c t same = absurd (omega (arith, same))
 left_joined (x ∷ xs) [] c t same = absurd (omega (arith, same))
-left_joined (x ∷ xs) (y ∷ ys) c t same =
-    ap (λ (eids : List ℤ). left_one x.session.player y.session.player ++ eids)
-    (left_joined xs ys c t (omega (arith, same)))
-    ∙ sym (append_assoc (left_one x.session.player y.session.player) (left_all xs ys)
-    (left_one c.session.player t.session.player))
+left_joined (x ∷ xs) (y ∷ ys) c t same = grind (arith, nat_tests, left_joined xs ys c t)
 
 -- the first of lists of one length
 same_lengths : (i : ℕ) (xs ys : List ConnectionValue) → length xs ≡ length ys →
@@ -51,8 +44,7 @@ same_lengths : (i : ℕ) (xs ys : List ConnectionValue) → length xs ≡ length
 same_lengths zero [] [] same = refl
 same_lengths zero (x ∷ xs) (y ∷ ys) same = refl
 same_lengths (suc i) [] [] same = refl
-same_lengths (suc i) (x ∷ xs) (y ∷ ys) same =
-    ap suc (same_lengths i xs ys (omega (arith, same)))
+same_lengths (suc i) (x ∷ xs) (y ∷ ys) same = grind (arith, nat_tests, same_lengths i xs ys)
 same_lengths i [] (y ∷ ys) same = absurd (omega (arith, same))
 same_lengths i (x ∷ xs) [] same = absurd (omega (arith, same))
 
@@ -73,8 +65,7 @@ left_next cs now_ i c t lt many is =
 pub left_done : (cs now_ : List ConnectionValue) (i : ℕ) → length cs ≤ i →
     length now_ ≡ length cs →
     left_all (take i cs) (take i now_) ≡ left_all cs now_
-left_done cs now_ i le many =
-    λ j. left_all (take_all i cs le j) (take_all i now_ (omega (arith, le, many)) j)
+left_done cs now_ i le many = grind (arith, nat_tests, take_all)
 
 -- ---- the entities
 
@@ -87,10 +78,7 @@ pub removed_next : (old new start : FolkState) (eids : List ℤ) (i : ℕ) (othe
     i < length eids → new ≡ removed (get_or eids i other) old →
     old ≡ all_removed start (take i eids) → new ≡ all_removed start (take (i + 1) eids)
 removed_next old new start eids i other lt next all =
-    next ∙ ap (removed (get_or eids i other)) all
-    ∙ sym (fold_push (λ (s : FolkState) (n : ℤ). removed n s) start (take i eids)
-    (get_or eids i other))
-    ∙ ap (all_removed start) (sym (take_more eids i other lt))
+    grind (arith, nat_tests, fold_push, take_more eids i other lt)
 
 -- and all of them
 pub removed_done : (state start : FolkState) (eids : List ℤ) (i : ℕ) → length eids ≤ i →
@@ -107,8 +95,7 @@ all_in_range (eid ∷ eids) state there =
 -- so they stay in the range of entities
 pub left_in_range : (state new : FolkState) (eids : List ℤ) → new ≡ all_removed state eids →
     AreInRange state.entities → AreInRange new.entities
-left_in_range state new eids left_ there =
-    subst (λ (s : FolkState). AreInRange s.entities) (sym left_) (all_in_range eids state there)
+left_in_range state new eids left_ there = grind (arith, nat_tests, all_in_range)
 
 -- ---- of a world
 
@@ -122,19 +109,13 @@ without_left None new state = state
 one_left : (old new : Option Player) (rest : List ℤ) (state : FolkState) →
     all_removed state (left_one (option_map bare_player old) (option_map bare_player new) ++ rest)
     ≡ all_removed (without_left old new state) rest
-one_left (Some p) None rest state = refl
-one_left (Some p) (Some q) rest state = refl
-one_left None None rest state = refl
-one_left None (Some q) rest state = refl
+one_left old new rest state = grind (arith, nat_tests)
 
 -- its entity is no more in the world
 left_things : (land : LandValue) (packs : Packs) (old new : Option Player) (state : FolkState) →
     things_of land (without_left old new state) packs
     ≡ after_leaving old new (things_of land state packs)
-left_things land packs (Some p) None state = refl
-left_things land packs (Some p) (Some q) state = refl
-left_things land packs None None state = refl
-left_things land packs None (Some q) state = refl
+left_things land packs old new state = grind (arith, nat_tests)
 
 -- what is in a world after each of these sessions became another, of which its player may leave
 abbrev pub things_after : (Session → Session) → Things → List Session → Things
@@ -149,17 +130,7 @@ pub all_left : (f : Session → Session) (last now_ : Parts) (land : LandValue) 
     ≡ things_after f (things_of land state packs) ss
 all_left f last now_ land packs [] [] [] state olds news = refl
 all_left f last now_ land packs (c ∷ cs) (d ∷ ds) (s ∷ ss) state olds news =
-    let old : c.session.player ≡ option_map bare_player s.player =
-    ap (λ (t : Session). t.player) olds.0.session in
-    let new : d.session.player ≡ option_map bare_player (f s).player =
-    ap (λ (t : Session). t.player) news.0.session in
-    (λ i. things_of land (all_removed state (left_one (old i) (new i) ++ left_all cs ds)) packs)
-    ∙ ap (λ (st : FolkState). things_of land st packs)
-    (one_left s.player (f s).player (left_all cs ds) state)
-    ∙ all_left f last now_ land packs cs ds ss
-    (without_left s.player (f s).player state) olds.1 news.1
-    ∙ ap (λ (things : Things). things_after f things ss)
-    (left_things land packs s.player (f s).player state)
+    grind (arith, nat_tests, all_left f last now_ land packs cs ds ss)
 all_left f last now_ land packs [] (d ∷ ds) [] state olds news = absurd news
 all_left f last now_ land packs [] ds (s ∷ ss) state olds news = absurd olds
 all_left f last now_ land packs (c ∷ cs) ds [] state olds news = absurd olds

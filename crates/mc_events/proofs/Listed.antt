@@ -2,6 +2,7 @@
 use Rattle.std.proofs.Common.{◌≡◌, ℕ, zero, suc, ◌+◌, ◌<◌, ◌≤◌, Bool, true, false, cond, List, []}
 use Rattle.std.proofs.Common.{◌∷◌, ◌++◌, map, length, take, get_or, Option, Some, None, is_some}
 use Rattle.std.proofs.Common.{refl, sym, subst, ap, ◌∙◌, arith}
+use Rattle.std.proofs.lemmas.Bool.Decides.{nat_tests}
 use Rattle.std.specs.Prelude.{◌==◌, if◌then◌else◌}
 use Rattle.std.specs.Cmp.{nat_cmp_total}
 use Rattle.std.specs.Ordering.{nat_cmp, eq_by_cmp}
@@ -22,13 +23,7 @@ use Rattle.std.specs.List.{cons_option}
 pub playing_more : (xs : List Session) (c : Session) → length (playing_of (xs ++ c ∷ [])) ≡
     length (playing_of xs) + length (playing_of (c ∷ []))
 playing_more [] c = omega arith
-playing_more (x ∷ xs) c =
-    let later = playing_more xs c in
-    elim (x.player) as (λ o. length (cons_option o (playing_of (xs ++ c ∷ []))) ≡
-    length (cons_option o (playing_of xs)) + length (playing_of (c ∷ []))) [
-      | Some p ↦ omega (arith, later)
-      | None ↦ later
-    ]
+playing_more (x ∷ xs) c = grind (arith, nat_tests, playing_more xs c)
 
 -- those at the front are no more than all
 pub playing_front : (i : ℕ) (xs : List Session) → length (playing_of (take i xs))
@@ -36,22 +31,14 @@ pub playing_front : (i : ℕ) (xs : List Session) → length (playing_of (take i
 playing_front zero [] = omega arith
 playing_front (suc i) [] = omega arith
 playing_front zero (x ∷ xs) = omega arith
-playing_front (suc i) (x ∷ xs) =
-    let later = playing_front i xs in
-    elim (x.player) as (λ o. length (cons_option o (playing_of (take i xs)))
-    ≤ length (cons_option o (playing_of xs))) [
-      | Some p ↦ omega (arith, later)
-      | None ↦ later
-    ]
+playing_front (suc i) (x ∷ xs) = grind (arith, nat_tests, playing_front i xs)
 
 -- the next of them is counted
 pub playing_next : (i : ℕ) (xs : List Session) (c : Session) → i < length xs → c ≡ get_or xs i c →
     length (playing_of (take (i + 1) xs)) ≡ length (playing_of (take i xs))
     + length (playing_of (c ∷ []))
 playing_next i xs c lt is =
-    ap (λ (ss : List Session). length (playing_of ss))
-    (take_more xs i c lt ∙ ap (λ (x : Session). take i xs ++ x ∷ []) (sym is)) ∙
-    playing_more (take i xs) c
+    grind (arith, nat_tests, take_more xs i c lt, playing_more (take i xs) c)
 
 pub one_plays : (c : Session) → is_some c.player ≡ true → length (playing_of (c ∷ [])) ≡ 1
 one_plays c = elim (c.player) as (λ o. is_some o ≡ true → length (cons_option o []) ≡ 1)
@@ -62,42 +49,20 @@ pub room_next : (i : ℕ) (xs : List Session) (c : Session) (n : ℕ) → i < le
     get_or xs i c → n ≤ length (playing_of (take i xs)) → length (playing_of xs) ≤ 50 →
     is_some c.player ≡ true → n < 50
 room_next i xs c n lt is le few plays =
-    let next = playing_next i xs c lt is in
-    let one = one_plays c plays in
-    let front = playing_front (i + 1) xs in
-    omega (arith, next, one, front, le, few)
+    grind (arith, nat_tests, playing_next, one_plays, playing_front)
 
 -- ---- names
 
 pub names_more : (q : ℕ) (xs : List Session) (c : Session) →
     find nat_cmp q (names_of (xs ++ c ∷ [])) ≡ name_after (find nat_cmp q (names_of xs)) c q
-names_more q [] c = elim (c.player) as (λ o. find nat_cmp q
-    (map {B = ℕ × List ℕ} (λ (p : Player). (p.uuid, p.name)) (cons_option o [])) ≡ name_of o q) [
-      | Some p ↦ ap (λ (b : Bool). cond b (Some p.name) None) (sym (key_turned p.uuid q))
-      | None ↦ refl
-    ]
-names_more q (x ∷ xs) c =
-    elim (x.player) as (λ o. find nat_cmp q
-    (map {B = ℕ × List ℕ} (λ (p : Player). (p.uuid, p.name))
-    (cons_option o (playing_of (xs ++ c ∷ []))))
-    ≡ name_after (find nat_cmp q (map {B = ℕ × List ℕ} (λ (p : Player). (p.uuid, p.name))
-    (cons_option o (playing_of xs)))) c q) [
-      | Some p ↦ elim (eq_by_cmp nat_cmp q p.uuid)
-          as (λ b. cond b (Some p.name) (find nat_cmp q (names_of (xs ++ c ∷ []))) ≡
-          name_after (cond b (Some p.name) (find nat_cmp q (names_of xs))) c q) [
-            | true ↦ refl
-            | false ↦ names_more q xs c
-          ]
-      | None ↦ names_more q xs c
-    ]
+names_more q [] c = grind (arith, nat_tests)
+names_more q (x ∷ xs) c = grind (arith, nat_tests, names_more q xs c)
 
 pub names_next : (q i : ℕ) (xs : List Session) (c : Session) (old new : Option (List ℕ)) →
     i < length xs → c ≡ get_or xs i c → old ≡ find nat_cmp q (names_of (take i xs)) → new ≡
     name_after old c q → new ≡ find nat_cmp q (names_of (take (i + 1) xs))
 names_next q i xs c old new lt is e next =
-    next ∙ ap (λ (o : Option (List ℕ)). name_after o c q) e ∙ sym (names_more q (take i xs) c)
-    ∙ ap (λ (ss : List Session). find nat_cmp q (names_of ss))
-    (sym (take_more xs i c lt ∙ ap (λ (x : Session). take i xs ++ x ∷ []) (sym is)))
+    grind (arith, nat_tests, names_more q (take i xs) c, take_more xs i c lt)
 
 -- all of them
 pub names_made : (m : Pairs) (xs : List Session) →
@@ -116,10 +81,7 @@ not_none name o some none = let clash : true ≡ false = ap is_some (sym some) �
 -- what a player in play does to a look-up, by whether it has the identifier
 name_if : (o : Option (List ℕ)) (s : Session) (p : Player) (q : ℕ) (b : Bool) → s.player ≡ Some p →
     (p.uuid == q) ≡ b → o ≡ None → name_after o s q ≡ cond b (Some p.name) None
-name_if o s p q b plays is none =
-    ap (λ (x : Option (List ℕ)). name_after x s q) none
-    ∙ ap (λ (x : Option Player). name_of x q) plays
-    ∙ ap (λ (t : Bool). cond t (Some p.name) None) is
+name_if o s p q b plays is none = grind (arith, nat_tests)
 
 name_kept : (o : Option (List ℕ)) (s : Session) (q : ℕ) (name : List ℕ) → o ≡ Some name →
     name_after o s q ≡ o
@@ -128,31 +90,13 @@ name_kept o s q name some = ap (λ (x : Option (List ℕ)). name_after x s q) so
 -- one of its identifier is there
 name_there : (m : Pairs) (s : Session) (p : Player) (q : ℕ) → s.player ≡ Some p →
     contains_key m p.uuid ≡ true → get m q ≡ name_after (get m q) s q
-name_there m s p q plays there = elim (get m q)
-    as (λ o. get m q ≡ o → get m q ≡ name_after (get m q) s q) [
-      | Some name ↦ λ e. sym (name_kept (get m q) s q name e)
-      | None ↦ λ e. elim (p.uuid == q) as (λ b. (p.uuid == q) ≡ b → get m q ≡ name_after (get m q) s q) [
-        | true ↦ λ t. absurd (not_some [] (get m q)
-            e (subst (λ (k : ℕ). is_some (get m k) ≡ true) (eqb-true p.uuid q t) there))
-        | false ↦ λ f. e ∙ sym (name_if (get m q) s p q false plays f e)
-      ] refl
-    ] refl
+name_there m s p q plays there = grind (arith, nat_tests)
 
 -- none is
 name_new : (m : Pairs) (s : Session) (p : Player) (q : ℕ) → s.player ≡ Some p →
     contains_key m p.uuid ≡ false → cond (p.uuid == q) (Some p.name) (get m q) ≡
     name_after (get m q) s q
-name_new m s p q plays absent = elim (get m q)
-    as (λ o. get m q ≡ o → cond (p.uuid == q) (Some p.name) (get m q) ≡ name_after (get m q) s q) [
-      | Some name ↦ λ e. elim (p.uuid == q) as (λ b. (p.uuid == q) ≡ b → cond b (Some p.name) (get m q)
-          ≡ name_after (get m q) s q) [
-            | true ↦ λ t. absurd (not_none name (get m q)
-                e (subst (λ (k : ℕ). is_some (get m k) ≡ false) (eqb-true p.uuid q t) absent))
-            | false ↦ λ f. sym (name_kept (get m q) s q name e)
-          ] refl
-      | None ↦ λ e. ap (cond (p.uuid == q) (Some p.name)) e ∙
-          sym (name_if (get m q) s p q (p.uuid == q) plays refl e)
-    ] refl
+name_new m s p q plays absent = grind (arith, nat_tests)
 
 -- a player was put, unless there was one of its identifier
 abbrev pub IsPut : ListValue → ListValue → Player → Type 0
@@ -202,12 +146,7 @@ few_put old new s p plays put =
     ] refl put
 
 pub last_put : (old new : ListValue) (p : Player) → IsPut old new p → new.last ≡ old.last
-last_put old new p put =
-    elim (contains_key old.present p.uuid)
-    as (λ b. new ≡ (if b then old else with_name old p.uuid p.name) → new.last ≡ old.last) [
-      | true ↦ λ is. ap (λ (list : ListValue). list.last) is
-      | false ↦ λ is. ap (λ (list : ListValue). list.last) is
-    ] put
+last_put old new p put = grind (arith, nat_tests)
 
 -- with a copy of its name
 pub copied_put : (old new : ListValue) (p : Player) (name : List ℕ) → name ≡ p.name → new ≡
@@ -221,5 +160,4 @@ pub take_past : (i : ℕ) (ss : List Session) → length ss ≤ i → take i ss 
 take_past zero [] le = refl
 take_past zero (s ∷ ss) le = absurd (omega (arith, le))
 take_past (suc i) [] le = refl
-take_past (suc i) (s ∷ ss) le = ap (λ (ts : List Session). s ∷ ts)
-    (take_past i ss (omega (arith, le)))
+take_past (suc i) (s ∷ ss) le = grind (arith, nat_tests, take_past i ss (omega (arith, le)))

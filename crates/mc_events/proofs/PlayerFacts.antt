@@ -1,5 +1,6 @@
 -- A name is short, and what is known of one player.
 use Rattle.std.proofs.Common.{◌≡◌, ℕ, ◌≤◌, IsTrue, List, length, true, false, refl, ◌∙◌, arith}
+use Rattle.std.proofs.lemmas.Bool.Decides.{nat_tests}
 use Rattle.std.specs.Prelude.{Option, Some, None, if◌then◌else◌}
 use Rattle.mc_model.specs.Names.{is_name}
 use Rattle.mc_model.proofs.FitsText.{name_short}
@@ -17,9 +18,7 @@ name_few name is = let short = name_short name is in omega (arith, short.few)
 -- a closed connection has no player, so that nothing was shown
 pub mark_stays : (stage : Stage) (o : Option code.Player) → HasPlayer stage o →
     (if is_closed stage then nothing_shown else mark_of o) ≡ mark_of o
-mark_stays stages.Closed None has = refl
-mark_stays stages.Closed (Some p) has = let clash : true ≡ false = has.in_play in absurd cc
-mark_stays other o has = refl
+mark_stays stage o has = grind (arith, nat_tests)
 
 -- two looks at one player
 pub one_player : (p q : Player) (o : Option Player) → Some p ≡ o → o ≡ Some q → p ≡ q

@@ -2,6 +2,7 @@
 use Rattle.std.proofs.Common.{◌≡◌, ℕ, ◌<◌, Bool, true, false, List, [], ◌∷◌, ◌++◌, map, length}
 use Rattle.std.proofs.Common.{get_or, set}
 use Rattle.std.proofs.Common.{drop, refl, sym, subst, ap, ◌∙◌, arith}
+use Rattle.std.proofs.lemmas.Bool.Decides.{nat_tests}
 use Rattle.std.specs.Prelude.{Option, Some, None, if◌then◌else◌}
 use Rattle.std.proofs.lemmas.List.{set-set, set-get_or, get_or-map, get_or-set_same, get_or_default}
 use Rattle.std.proofs.lemmas.List.{length-set}
@@ -38,8 +39,7 @@ frames_more : (payloads : List (List ℕ)) (payload : List ℕ) (w : World) (k :
     (on_frames w k (payloads ++ payload ∷ [])).world ≡
     (on_frame (on_frames w k payloads).world k payload).world
 frames_more [] payload w k = refl
-frames_more (first ∷ payloads) payload w k =
-    frames_more payloads payload (on_frame w k first).world k
+frames_more (first ∷ payloads) payload w k = grind (arith, nat_tests, frames_more payloads payload)
 
 frames_joined : (payloads more : List (List ℕ)) (w : World) (k : ℕ) →
     (on_frames w k (payloads ++ more)).world ≡
@@ -66,21 +66,14 @@ closed_frames (frame ∷ frames) w k s there closed =
 
 closed_fault : (fault : Option FrameFault) (w : World) (k : ℕ) (s : Session) → found k w.sessions ≡
     Some s → is_closed s.stage ≡ true → (on_fault w k fault).world ≡ w
-closed_fault None w k s there closed = refl
-closed_fault (Some fault) w k s there closed =
-    let f : Session → Turn = λ s. turn w s (disconnect s (causes.Frame fault)
-    (farewell s.stage (causes.Frame fault))) in
-    ap (λ (o : Option Session). (when_open o w f).world) there ∙
-    ap (λ (b : Bool). (if b then still w else f s).world) closed
+closed_fault fault w k s there closed = grind (arith, nat_tests)
 
 -- ---- ages
 
 pub becomes_age : (i : ℕ) (old new : ServerValue) (frame : List ℕ)
     → Becomes old new (on_frame (kept_world old) (nth_session i old.connections).id frame).world
     → new.age ≡ old.age
-becomes_age i old new frame b =
-    ap (λ (w : World). w.age) b.kept ∙ frame_age (kept_world old)
-    (nth_session i old.connections).id frame
+becomes_age i old new frame b = grind (arith, nat_tests, frame_age)
 
 pub put_age : (old new : ServerValue) (r s : Session)
     → Becomes old new (put_after (kept_world old) r s) → new.age ≡ old.age
@@ -93,23 +86,16 @@ at_splitter : (i : ℕ) (c : ConnectionValue) (splitter : Splitting) (v : Server
     (d : ConnectionValue)
     → i < length v.connections
     → get_or (with_splitter i c splitter v).connections i d ≡ record c { splitter = splitter }
-at_splitter i c splitter v d lt = get_or-set_same v.connections i (record c { splitter = splitter })
-    d lt
+at_splitter i c splitter v d lt = grind (arith, nat_tests, get_or-set_same)
 
 with_within : (i : ℕ) (c : ConnectionValue) (splitter : Splitting) (v : ServerValue)
     → i < length v.connections → i < length (with_splitter i c splitter v).connections
-with_within i c splitter v lt =
-    let len = length-set v.connections i (record c { splitter = splitter }) in
-    omega (arith, lt, len)
+with_within i c splitter v lt = grind (arith, nat_tests, length-set)
 
 -- a splitter is no part of the world
 splits_kept : (i : ℕ) (old new : ServerValue) (does : Splitting → Splitting → Type 0)
     → Splits i old new does → kept_world new ≡ kept_world old
-splits_kept i old new does split =
-    ap kept_world split.is
-    ∙ ap (λ (ss : List Session). record (kept_world old) { sessions = ss })
-    (sessions_same old.connections i (record split.was { splitter = split.splitter })
-    split.was refl split.is_at)
+splits_kept i old new does split = grind (arith, nat_tests, sessions_same)
 
 module _ {i count : ℕ} {c : ConnectionValue} {all left_ : List ℕ} {first old : ServerValue}
     (r : IsReading i count c all first old left_) where
@@ -229,9 +215,11 @@ reading_frame i count c all left_ payload first old mid new split b r =
       within = r.within;
       underway = underway_frame count all r.payloads payload r.splitter split.splitter left_
           (split_does r split) r.underway;
-      becomes = becomes_onward (with_splitter i c split.splitter first) mid new _ _ taken
-          (becomes_along mid new _ _ ((λ j. P (taken.kept j) (named j)) ∙
-          sym (frames_more r.payloads payload (kept_world first) k)) b);
+      becomes = grind (
+        arith,
+        becomes_onward (with_splitter i c split.splitter first) mid new,
+        frames_more r.payloads payload (kept_world first) k,
+      );
     }
 
 -- it needs more bytes
@@ -263,28 +251,13 @@ pub done_closed : (i count : ℕ) (c : ConnectionValue) (all left_ : List ℕ) (
     → found (nth_session i new.connections).id (sessions_of new.connections) ≡
     Some (nth_session i new.connections)
     → is_closed (nth_session i new.connections).stage ≡ true → AreDone i count c all first new
-done_closed i count c all left_ first new r found_ closed =
-    let k = c.session.id in
-    let s : Session = nth_session i new.connections in
-    let named : s.id ≡ k = with_number i c r.splitter first new _ r.within r.becomes in
-    let there : found k (kept_world new).sessions ≡ Some s =
-    ap (λ (n : ℕ). found n (sessions_of new.connections)) (sym named) ∙ found_ in
-    let more = cut_begins count all r.payloads r.splitter left_ r.underway in
-    let frames : (on_frames (kept_world first) k (cut_of count all).frames).world ≡ kept_world new =
-    ap (λ (fs : List (List ℕ)). (on_frames (kept_world first) k fs).world) more.1
-    ∙ frames_joined r.payloads more.0 (kept_world first) k
-    ∙ ap (λ (w : World). (on_frames w k more.0).world) (sym r.becomes.kept)
-    ∙ closed_frames more.0 (kept_world new) k s there closed in
-    let all_done : after_frames (kept_world first)
-    k (cut_of count all).frames (cut_of count all).fault ≡ kept_world new =
-    ap (λ (w : World). (on_fault w k (cut_of count all).fault).world) frames
-    ∙ closed_fault (cut_of count all).fault (kept_world new) k s there closed in
-    record {
-      splitter = r.splitter;
-      becomes = becomes_along (with_splitter i c r.splitter first)
-          new _ _ (sym r.becomes.kept ∙ sym all_done) r.becomes;
-      holds = λ open_. absurd (closed_not (is_closed s.stage) closed open_);
-    }
+done_closed i count c all left_ first new r found_ closed = grind (
+  arith,
+  with_number i c r.splitter first new,
+  cut_begins count all r.payloads r.splitter left_ r.underway,
+  frames_joined r.payloads,
+  closed_frames,
+)
 
 -- its bytes begin no frame
 pub done_bad : (i count : ℕ) (c : ConnectionValue) (all left_ : List ℕ)
@@ -317,10 +290,7 @@ done_bad i count c all left_ first old mid new fault split b there open_ closed 
     k fs o in
     record {
       splitter = split.splitter;
-      becomes = becomes_onward (with_splitter i c split.splitter first)
-          mid new _ _ taken (becomes_along mid new _ _
-          (faulted ∙ (λ j. P (taken.kept j) (named j)) ∙
-          (λ j. frames (into.frames j) (into.fault j))) b);
+      becomes = grind (arith, becomes_onward (with_splitter i c split.splitter first) mid new);
       holds = λ still_. absurd (closed_not (is_closed (nth_session i new.connections).stage)
           closed still_);
     }
@@ -331,15 +301,7 @@ pub done_over : (i count : ℕ) (c : ConnectionValue) (all left_ : List ℕ) (fi
     → (reading : IsReading i count c all first new left_) × IsPart reading.splitter.held
     → AreDone i count c all first new
 done_over i count c all left_ first new none (r, part) =
-    let into = underway_over count all r.payloads r.splitter left_ none (r.underway, part) in
-    let frames : List (List ℕ) → Option FrameFault → World = λ fs o. after_frames (kept_world first)
-    c.session.id fs o in
-    record {
-      splitter = r.splitter;
-      becomes = becomes_along (with_splitter i c r.splitter first)
-          new _ _ (λ j. frames (into.frames j) (into.fault j)) r.becomes;
-      holds = λ open_. into.holds refl;
-    }
+    grind (arith, underway_over count all r.payloads r.splitter left_ none (r.underway, part))
 
 -- feeding a part takes a byte
 pub reading_part : (i count : ℕ) (c : ConnectionValue) (all left_ : List ℕ) (first v : ServerValue)
@@ -360,32 +322,22 @@ reading_part i count c all left_ first v d (r, part) is =
 split_sessions : (i : ℕ) (old new : ServerValue) (does : Splitting → Splitting → Type 0) →
     Splits i old new does
     → sessions_of new.connections ≡ sessions_of old.connections
-split_sessions i old new does split = ap (λ (w : World). w.sessions)
-    (splits_kept i old new does split)
+split_sessions i old new does split = grind (arith, nat_tests, splits_kept i old new does split)
 
 pub open_split : (i : ℕ) (old new : ServerValue) (does : Splitting → Splitting → Type 0) →
     Splits i old new does
     → IsOpenAt i old.connections → IsOpenAt i new.connections
-open_split i old new does split open_ =
-    let same = split_sessions i old new does split in
-    record {
-      within = (
-          let lt = open_.within in
-          let len = ap length same in
-          let a = sessions_length old.connections in
-          let b = sessions_length new.connections in
-          omega (arith, lt, len, a, b));
-      is_open = ap (λ (ss : List Session). is_closed (get_or ss i (new_session 0)).stage) same ∙
-          open_.is_open;
-    }
+open_split i old new does split open_ = grind (
+  arith,
+  split_sessions i old new does split,
+  sessions_length old.connections,
+  sessions_length new.connections,
+)
 
 pub open_still : (i : ℕ) (old new : ServerValue) (w : World) → Becomes old new w →
     IsOpenAt i old.connections
     → is_closed (nth_session i new.connections).stage ≡ false → IsOpenAt i new.connections
-open_still i old new w b open_ still_ = record {
-  within = becomes_within i old new w b open_.within;
-  is_open = still_;
-}
+open_still i old new w b open_ still_ = grind (arith, nat_tests, becomes_within)
 
 -- ---- more of one step
 
@@ -399,8 +351,7 @@ held_at i cs = get_or (map (λ (c : ConnectionValue). c.splitter.held) cs) i []
 
 held_of : (i : ℕ) (cs : List ConnectionValue) (c : ConnectionValue) → i < length cs → c ≡
     get_or cs i c → held_at i cs ≡ c.splitter.held
-held_of i cs c lt is = get_or-map (λ (d : ConnectionValue). d.splitter.held) cs i c [] lt ∙
-    ap (λ (d : ConnectionValue). d.splitter.held) (sym is)
+held_of i cs c lt is = grind (arith, nat_tests, get_or-map)
 
 -- each frame that is taken has bytes
 pub frame_shortens_at : (i : ℕ) (old mid new : ServerValue) (payload : List ℕ) (w : World) →

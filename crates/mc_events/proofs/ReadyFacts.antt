@@ -2,6 +2,7 @@
 use Rattle.std.proofs.Common.{◌≡◌, ℕ, zero, suc, ◌+◌, ◌<◌, true, List, [], ◌∷◌, ◌++◌, length, take}
 use lib.IntN.{ℤ}
 use Rattle.std.proofs.Common.{map, get_or, Option, Some, None, refl, sym, subst, ap, ◌∙◌, arith}
+use Rattle.std.proofs.lemmas.Bool.Decides.{nat_tests}
 use Rattle.std.specs.List.{AllByRecursion, filter}
 use Rattle.std.specs.FinSet as set
 use Rattle.std.specs.Ordering.{eq_by_cmp}
@@ -42,8 +43,7 @@ IsReadying land rest places = (other : LandValue) → Grows land other →
 pub readying_next : (old new : LandValue) (x : Place) (left rest places : List Place) → left ≡ x ∷
     rest → Grows old new → IsReady new x → IsReadying old left places → IsReadying new rest places
 readying_next old new x left rest places next grown ready is other more all =
-    is other (λ place there. more place (grown place there))
-    (subst (AllByRecursion (IsReady other)) (sym next) (more x ready, all))
+    grind (arith, nat_tests)
 
 pub readying_done : (land : LandValue) (rest places : List Place) → rest ≡ [] →
     IsReadying land rest places → AllByRecursion (IsReady land) places
@@ -110,10 +110,8 @@ entered_are : (old : Option ViewSet) (cap : ℕ) (view_byte : ℤ) (spot : Spot)
     (view.cx, view.cz) ≡ column_of_spot spot → view.d ≡ view_size cap view_byte →
     entered_of old view ≡ filter (λ (place : Place). not (is_within old place))
     (columns_from cap view_byte spot)
-entered_are None cap view_byte spot view middle d =
-    (λ i. view_of (middle i) (d i)) ∙ sym (all_pass (columns_from cap view_byte spot))
-entered_are (Some old) cap view_byte spot view middle d =
-    λ i. filter (λ (place : Place). not (has old place)) (view_of (middle i) (d i))
+entered_are old cap view_byte spot view middle d =
+    grind (arith, nat_tests, all_pass (columns_from cap view_byte spot))
 
 -- those of a view around a spot
 pub columns_are : (cap : ℕ) (view_byte : ℤ) (spot : Spot) (mark : MarkValue) (view : ViewSet) →

@@ -1,6 +1,7 @@
 -- A roster with one more player.
 use Rattle.std.proofs.Common.{◌≡◌, ℕ, ◌+◌, ◌<◌, ◌≤◌, Bool, true, false, cond, List, [], ◌∷◌, length}
 use Rattle.std.proofs.Common.{sym, subst, ◌∙◌, arith}
+use Rattle.std.proofs.lemmas.Bool.Decides.{nat_tests}
 use Rattle.std.specs.List.{AllByRecursion}
 use Rattle.std.specs.Cmp.{nat_cmp_total}
 use Rattle.std.specs.declared.cmp.Ordering.TheVariants.{Less, Equal, Greater}
@@ -16,13 +17,7 @@ use Rattle.mc_events.specs.Roster.{IsRoster, turned_page}
 named_put : (k : ℕ) (name : List ℕ) (es : List (ℕ × List ℕ)) → length name ≤ 64 →
     AllByRecursion IsNamed es → AllByRecursion IsNamed (put nat_cmp k name es)
 named_put k name [] short all = (short, tt)
-named_put k name (e ∷ es) short all = elim (nat_cmp k e.0)
-    as (λ o. AllByRecursion IsNamed (by_order o ((k, name) ∷ e ∷ es) ((e.0, name) ∷ es)
-    (e ∷ put nat_cmp k name es))) [
-      | Less ↦ (short, all)
-      | Equal ↦ (short, all.1)
-      | Greater ↦ (all.0, named_put k name es short all.1)
-    ]
+named_put k name (e ∷ es) short all = grind (arith, nat_tests, named_put k name es short all.1)
 
 pub name_added : (list : ListValue) (uuid : ℕ) (name : List ℕ) → len list.present < 50 →
     length name ≤ 64 → IsRoster list → IsRoster (with_name list uuid name)

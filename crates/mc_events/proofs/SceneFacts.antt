@@ -1,7 +1,8 @@
 -- What a client is shown of the parts of a world is what the world shows it.
 use Rattle.std.proofs.Common.{◌≡◌, ℕ, ℤ, Bool, true, false, cond, List, [], ◌++◌, map, length}
 use Rattle.std.proofs.Common.{Option}
-use Rattle.std.proofs.Common.{Some, None, is_some, refl, sym, subst, ap, ◌∙◌, append_assoc}
+use Rattle.std.proofs.Common.{Some, None, is_some, refl, sym, subst, ap, ◌∙◌, append_assoc, arith}
+use Rattle.std.proofs.lemmas.Bool.Decides.{nat_tests}
 use Rattle.std.specs.Prelude.{◌+◌, drop, nat_le, unwrap_or, if◌then◌else◌, option_map}
 use Rattle.std.specs.List.{filter, filter_map}
 use Rattle.std.specs.FinMap.{from_entries}
@@ -130,11 +131,7 @@ scene_shown w parts chat p is = λ i. record {
 -- what was noted for it
 noted_due : (w : World) (parts : Parts) (p : Player) → IsScene w parts →
     noted_now parts p ≡ notes_due w p
-noted_due w parts p is = λ i.
-    noted_packets (is.own i) (is.things i).edits (λ (place : Place).
-    is_in_view (column_of_spot (spot_same w parts p is i)) (view_size (is.cap i) p.view_byte)
-    place) p.notes.cells
-    ++ notes_of p.notes (spot_same w parts p is i) (pack_same w parts p is i)
+noted_due w parts p is = grind (arith, nat_tests)
 
 -- a player that was shown this
 abbrev pub player_shown : Option Sight → Player → Player

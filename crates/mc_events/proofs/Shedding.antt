@@ -1,6 +1,7 @@
 -- What is ready in a server whose land was settled and then shed, by the views of those in play.
 use Rattle.std.proofs.Common.{◌≡◌, ℕ, ◌+◌, ◌<◌, ◌&&◌, ◌||◌, List, [], ◌∷◌, ◌++◌, length, take}
-use Rattle.std.proofs.Common.{get_or, Option, sym, ap, ◌∙◌}
+use Rattle.std.proofs.Common.{get_or, Option, sym, ap, ◌∙◌, arith}
+use Rattle.std.proofs.lemmas.Bool.Decides.{nat_tests}
 use Rattle.std.specs.Prelude.{option_map}
 use Rattle.std.specs.List.{cons_option, filter_map}
 use Rattle.std.proofs.lemmas.List.{take_more}
@@ -28,12 +29,7 @@ pub views_next : (cap : ℕ) (terrain : Terrain) (entities : List Entity)
     (option_map (view_of_player cap terrain entities) c.session.player) [] →
     more ≡ views_of cap terrain entities (take (i + 1) cs)
 views_next cap terrain entities cs i c views more lt is before next =
-    let view : ConnectionValue → Option View = λ d.
-    option_map (view_of_player cap terrain entities) d.session.player in
-    next ∙ ap (λ (vs : List View). vs ++ cons_option (view c) []) before
-    ∙ sym (filter_map-append view (take i cs) (c ∷ []))
-    ∙ ap (filter_map view) (sym (take_more cs i c lt
-    ∙ ap (λ (d : ConnectionValue). take i cs ++ d ∷ []) (sym is)))
+    grind (arith, nat_tests, filter_map-append, take_more cs i c lt)
 
 -- ---- a land that was shed
 

@@ -2,6 +2,7 @@
 -- What is dug of a cell lies where a column can be shown.
 use Rattle.std.proofs.Common.{◌≡◌, ℕ, ◌<◌, ◌≤◌, Bool, true, false, cond, sym, subst, ◌∙◌, arith}
 use Rattle.std.proofs.Common.{ℤ, pos, negsuc, ◌≤ℤ◌}
+use Rattle.std.proofs.lemmas.Bool.Decides.{nat_tests}
 use Rattle.std.proofs.lemmas.Bool.{leb-true, ltb-true}
 use Rattle.std.proofs.lemmas.Int.{ints}
 use Rattle.std.specs.Prelude.{◌⊎◌, ◌==◌, ◌&&◌, unsigned_abs, Some, None, if◌then◌else◌}
@@ -44,32 +45,14 @@ edited_states terrain edits key state small whole old q s =
 
 -- a height of the world
 height_low : (y : ℤ) → is_height y ≡ true → (pos 0 ≤ℤ y) × (y ≤ℤ pos 255)
-height_low (pos y) is =
-    (let low = ltb-true y 256 is in (omega (arith, ints), omega (arith, ints, low)))
-height_low (negsuc y) is = absurd cc
+height_low y is = grind (arith, nat_tests)
 
 -- a number not past the border
 border_low : (v : ℤ) → is_within_border v ≡ true →
     (negsuc 29999999 ≤ℤ v) × (v ≤ℤ pos 30000000)
-border_low v is =
-    let low : unsigned_abs v ≤ 30000000 = leb-true (unsigned_abs v) 30000000 is in
-    (omega (arith, ints, low), omega (arith, ints, low))
+border_low v is = grind (arith, nat_tests)
 
 -- the middle of the floor of a cell of the world
 pub floor_in_range : (cell : Cell) → is_inside cell.x cell.y cell.z ≡ true →
     IsInRange (floor_of cell)
-floor_in_range cell is =
-    let parts = both_true (is_height cell.y && is_within_border cell.x)
-    (is_within_border cell.z) is in
-    let first = both_true (is_height cell.y) (is_within_border cell.x) parts.0 in
-    let up = height_low cell.y first.0 in
-    let east = border_low cell.x first.1 in
-    let south = border_low cell.z parts.1 in
-    record {
-      x_low = (let low = east.0 in omega (arith, ints, low));
-      x_high = (let high = east.1 in omega (arith, ints, high));
-      y_low = (let low = up.0 in omega (arith, ints, low));
-      y_high = (let high = up.1 in omega (arith, ints, high));
-      z_low = (let low = south.0 in omega (arith, ints, low));
-      z_high = (let high = south.1 in omega (arith, ints, high));
-    }
+floor_in_range cell is = grind (arith, nat_tests, both_true, height_low, border_low, ints)

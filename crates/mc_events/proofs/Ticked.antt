@@ -1,6 +1,7 @@
 -- A server stands for what a tick makes of the world that it stood for.
 use Rattle.std.proofs.Common.{◌≡◌, ℕ, true, false, List, [], ◌∷◌, ◌++◌, map}
-use Rattle.std.proofs.Common.{Option, Some, None, is_some, refl, sym, subst, ap, ◌∙◌}
+use Rattle.std.proofs.Common.{Option, Some, None, is_some, refl, sym, subst, ap, ◌∙◌, arith}
+use Rattle.std.proofs.lemmas.Bool.Decides.{nat_tests}
 use Rattle.std.specs.Prelude.{option_map, unwrap_or}
 use Rattle.std.specs.List.{cons_option}
 use Rattle.std.specs.FinMap.{from_entries}
@@ -35,13 +36,7 @@ use Rattle.mc_events.proofs.Standing.{sessions_bare}
 -- the same players
 pub names_bare : (ss : List Session) → names_of (map bare ss) ≡ names_of ss
 names_bare [] = refl
-names_bare (s ∷ ss) = elim (s.player) as (λ o. map {B = ℕ × List ℕ}
-    (λ (p : Player). (p.uuid, p.name)) (cons_option (option_map bare_player o)
-    (playing_of (map bare ss))) ≡ map {B = ℕ × List ℕ} (λ (p : Player). (p.uuid, p.name))
-    (cons_option o (playing_of ss))) [
-      | Some p ↦ ap (λ (es : List (ℕ × List ℕ)). (p.uuid, p.name) ∷ es) (names_bare ss)
-      | None ↦ names_bare ss
-    ]
+names_bare (s ∷ ss) = grind (arith, nat_tests, names_bare ss)
 
 -- what was shown before is no part of what is shown
 project_bare : (w : World) (p : Player) →
@@ -67,19 +62,7 @@ player_ticked w s (Some p) said =
 session_ticked : (w : World) (last now_ : Parts) (c d : ConnectionValue) (s : Session) →
     IsConnection last c s → IsShown w last now_ (record c { session = bare s }) d →
     d.session ≡ bare (flush w s).session
-session_ticked w last now_ c d s is shown = elim (s.player)
-    as (λ o. s.player ≡ o → d.session ≡ bare (flush w s).session) [
-      | None ↦ λ none. shown.stays (ap (option_map bare_player) none) ∙
-          ap (λ (o : Option Player). bare (flush_to w s o).session) (sym none)
-      | Some p ↦ λ there. elim (is_closed s.stage)
-          as (λ b. is_closed s.stage ≡ b → d.session ≡ bare (flush w s).session) [
-            | true ↦ λ over. absurd (not_both (is_some s.player) (ap is_some there)
-                (sym is.plays ∙ ap is_play (closed_is s.stage over)))
-            | false ↦ λ open_. (let o = is.is_open open_ in
-                shown.session (shown_to s.player) o.opened o.shows
-                ∙ player_ticked w s s.player o.said)
-          ] refl
-    ] refl
+session_ticked w last now_ c d s is shown = grind (arith, player_ticked w s s.player)
 
 -- ---- one connection
 
@@ -174,8 +157,7 @@ ticked_bare w last now_ c d s is shown =
 connection_ticked : (w : World) (last now_ : Parts) (c d : ConnectionValue) (s : Session) →
     IsConnection last c s → IsShown w last now_ c d → IsConnection now_ d (flush w s).session
 connection_ticked w last now_ c d s is shown =
-    let P : Session → Type 0 = λ t. IsShown w last now_ (record c { session = t }) d in
-    ticked_bare w last now_ c d s is (subst P is.session shown)
+    grind (arith, nat_tests, ticked_bare w last now_ c d s is)
 
 -- ---- all of it
 
@@ -186,18 +168,8 @@ pub server_scene : (v : ServerValue) (w : World) (parts : scenes.Parts) → Stan
     parts.settings.cap ≡ v.cap →
     parts.list.present ≡ from_entries (names_of (sessions_of v.connections)) →
     parts.lines ≡ v.lines → parts.age ≡ v.age → IsScene w parts
-server_scene v w parts st terrain own things most cap listed lines age = record {
-  terrain = terrain ∙ st.terrain;
-  own = own ∙ terrain ∙ st.terrain;
-  things = things ∙ st.things;
-  most = most ∙ st.most;
-  cap = cap ∙ st.cap;
-  listed = listed ∙ ap (λ (ss : List Session). from_entries (names_of ss))
-      (sessions_bare (shown_parts v) v.connections w.sessions st.connections) ∙
-      ap (λ (es : List (ℕ × List ℕ)). from_entries es) (names_bare w.sessions);
-  lines = lines ∙ st.lines;
-  age = age ∙ st.age;
-}
+server_scene v w parts st terrain own things most cap listed lines age =
+    grind (arith, nat_tests, sessions_bare, names_bare)
 
 -- of the same parts
 pub same_parts : (a b : Parts) → a.players ≡ b.players → a.terrain ≡ b.terrain → a.edits ≡ b.edits →
@@ -209,9 +181,7 @@ same_parts a b players terrain edits =
 pub side_parts : (w : World) (before_ before now_ now : Parts) (cs ds : List ConnectionValue) →
     before_ ≡ before → now_ ≡ now → SideBySide (IsShown w before_ now_) cs ds →
     SideBySide (IsShown w before now) cs ds
-side_parts w before_ before now_ now cs ds one other side =
-    subst (λ (parts : Parts). SideBySide (IsShown w before parts) cs ds) other
-    (subst (λ (parts : Parts). SideBySide (IsShown w parts now_) cs ds) one side)
+side_parts w before_ before now_ now cs ds one other side = grind (arith, nat_tests)
 
 -- a server after it showed the world, of whose entities those of the players are gone that left
 module _ (v n : ServerValue) (w : World) (st : Stands v w) (land : LandValue) (state : FolkState)

@@ -2,6 +2,7 @@
 use Rattle.std.proofs.Common.{◌≡◌, ℕ, zero, suc, ◌+◌, ◌<◌, ◌≤◌, true, List, [], ◌∷◌, ◌++◌, map}
 use Rattle.std.proofs.Common.{length, take, drop, get_or, set, refl, sym, subst, ap, ◌∙◌, arith}
 use Rattle.std.proofs.Common.{add-one}
+use Rattle.std.proofs.lemmas.Bool.Decides.{nat_tests}
 use Rattle.std.proofs.lemmas.List.{take_more, take_more_set, take_all, drop-set-lt}
 use Rattle.std.specs.Prelude.{is_some}
 use Rattle.mc_model.specs.World.{Session}
@@ -51,8 +52,7 @@ later_left (x ∷ xs) (suc i) = later_left xs i
 -- one that is not behind yet is as it was
 pub at_rest : (cs now_ : List ConnectionValue) (i : ℕ) (c : ConnectionValue) → drop i now_ ≡
     drop i cs → c ≡ get_or now_ i c → c ≡ get_or cs i c
-at_rest cs now_ i c same is = is ∙ sym (first_left now_ i c) ∙
-    ap (λ (xs : List ConnectionValue). get_or xs 0 c) same ∙ first_left cs i c
+at_rest cs now_ i c same is = grind (arith, nat_tests, first_left)
 
 pub side_next : (R : ConnectionValue → ConnectionValue → Type 0) (cs now_ : List ConnectionValue)
     (i : ℕ) (c t : ConnectionValue) → i < length cs → i < length now_ → c ≡ get_or cs i c →
@@ -67,14 +67,9 @@ side_next R cs now_ i c t lt within is side r =
 
 pub rest_next : (cs now_ : List ConnectionValue) (i : ℕ) (t : ConnectionValue) → drop i now_ ≡
     drop i cs → drop (i + 1) (set now_ i t) ≡ drop (i + 1) cs
-rest_next cs now_ i t same = rw (add-one i)
-    (drop-set-lt (suc i) now_ i t (omega arith) ∙ later_left now_ i ∙ ap (drop 1) same ∙
-    sym (later_left cs i))
+rest_next cs now_ i t same = grind (arith, nat_tests, drop-set-lt, later_left)
 
 pub side_done : (R : ConnectionValue → ConnectionValue → Type 0) (cs now_ : List ConnectionValue)
     (i : ℕ) → length cs ≤ i → length now_ ≡ length cs → SideBySide R (take i cs) (take i now_) →
     SideBySide R cs now_
-side_done R cs now_ i le many side =
-    let P : List ConnectionValue → Type 0 = λ xs. SideBySide R xs (take i now_) in
-    subst (SideBySide R cs) (take_all i now_ (omega (arith, le, many)))
-    (subst P (take_all i cs le) side)
+side_done R cs now_ i le many side = grind (arith, nat_tests, take_all)

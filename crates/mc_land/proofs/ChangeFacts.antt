@@ -15,7 +15,7 @@ use Rattle.std.proofs.lemmas.Bool.{cases_lt}
 use Rattle.std.proofs.lemmas.List.{get_or-map, length-map, length-append, get_or_append_left}
 use Rattle.std.proofs.lemmas.List.{get_or_push}
 use Rattle.std.proofs.lemmas.List.FromFn.{get_or-map-range_with_len, length-map-range_with_len}
-use Rattle.mc_column.specs.Sizes.{cells, squares}
+use Rattle.mc_column.specs.Sizes.{cells}
 use Rattle.mc_column.specs.Cells.{ColumnValue, HasSizes}
 use Rattle.mc_land.specs.declared.terrain.Terrain.{Terrain}
 use Rattle.mc_land.specs.Places.{IsPlace, Place, place_cmp}
@@ -170,17 +170,7 @@ find_push columns place x q none = find-append place_cmp places_total columns pl
 apart_push : (columns : Columns) (place : Place) (ready : ReadyValue) → IsApart columns →
     find place_cmp place columns ≡ None → IsApart (columns ++ (place, ready) ∷ [])
 apart_push [] place ready is none = (refl, tt)
-apart_push (e ∷ es) place ready is none =
-    elim (eq_by_cmp place_cmp place e.0) as (λ b. eq_by_cmp place_cmp place e.0 ≡ b →
-    cond b (Some e.1) (find place_cmp place es) ≡ None →
-    (find place_cmp e.0 (es ++ (place, ready) ∷ []) ≡ None) × IsApart (es ++ (place, ready) ∷
-    [])) [
-      | true ↦ λ t h. absurd cc
-      | false ↦ λ t h. (
-        find_push es place ready e.0 h ∙ rw (turned place e.0 t) is.0,
-        apart_push es place ready is.1 h,
-      )
-    ] refl none
+apart_push (e ∷ es) place ready is none = grind (arith, apart_push es place ready is.1, find_push)
   where
     turned : (a b : Place) → eq_by_cmp place_cmp a b ≡ false → eq_by_cmp place_cmp b a ≡ false
     turned a b e = (eq_by_cmp_equiv places_total).symm b a ∙ e

@@ -5,12 +5,11 @@ use Rattle.std.proofs.Common.{arith, inl, inr}
 use Rattle.std.proofs.lemmas.Bool.Decides.{nat_tests}
 use Rattle.std.proofs.lemmas.Int.{ints}
 use Rattle.std.specs.declared.cmp.Ordering.{Ordering}
-use Rattle.std.specs.declared.cmp.Ordering.TheVariants.{Less, Equal, Greater}
 use Rattle.std.specs.Ordering.{is_eq, eq_by_cmp, ordering_reverse}
 use Rattle.std.specs.Option.{is_some, option_copied, option_copied_mut, ghost_name_of}
 use Rattle.std.specs.List.{list_any}
 use Rattle.std.specs.Map.{lookup}
-use Rattle.std.specs.FinMap.{FinMap, get, find, insert, from_entries, get-from_entries, get-insert}
+use Rattle.std.specs.FinMap.{get, find, insert, from_entries, get-from_entries, get-insert}
 use Rattle.std.specs.FinMap.{same_map}
 use Rattle.std.proofs.lemmas.Bool.{lt-ltb}
 use Rattle.mc_slots.specs.declared.pile.Pile.{Pile}

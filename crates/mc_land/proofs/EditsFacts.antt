@@ -1,14 +1,13 @@
 -- The edits that kept columns stand for, looked up at one cell.
 use Rattle.std.proofs.Common.{◌≡◌, nat_lt, ◌&&◌, ℕ, zero, suc, ◌+◌, ◌<◌, ◌≤◌, Bool, true, false}
-use Rattle.std.proofs.Common.{cond, List, [], ◌∷◌, ◌++◌, map, get_or, Option, Some, None, refl, sym}
-use Rattle.std.proofs.Common.{ap, ◌∙◌, arith, inl, inr}
+use Rattle.std.proofs.Common.{cond, List, [], ◌∷◌, ◌++◌, map, get_or, Option, Some, None, refl}
+use Rattle.std.proofs.Common.{ap, ◌∙◌, arith}
 use Rattle.std.proofs.lemmas.Bool.Decides.{nat_tests}
-use Rattle.std.specs.declared.cmp.Ordering.TheVariants.{Less, Equal, Greater}
+use Rattle.std.specs.declared.cmp.Ordering.TheVariants.{Equal}
 use Rattle.std.specs.Ordering.{nat_cmp, is_eq, eq_by_cmp, ordering_then}
 use Rattle.std.specs.Cmp.{tied_itself, nat_cmp_total}
-use Rattle.std.proofs.lemmas.Bool.{cases_eq, ltb-true, ltb-false}
+use Rattle.std.proofs.lemmas.Bool.{ltb-true, ltb-false}
 use Rattle.std.specs.declared.cmp.Ordering.{Ordering}
-use Rattle.std.proofs.lemmas.Map.Lookups.{exact_unsigned}
 use Rattle.std.specs.Option.{option_or}
 use Rattle.std.specs.List.{filter, flat_map, range_with_len}
 use Rattle.std.specs.FinMap.{find, get, get-from_entries}
@@ -86,10 +85,6 @@ changed_at terrain c i (Some states) = cond (nat_lt i cells && is_changed terrai
 nothing_or : {A : Type 0} (x y : Option A) → x ≡ None → option_or x y ≡ y
 nothing_or x y e = rw e refl
 
-or_nothing : {A : Type 0} (x y : Option A) → y ≡ None → option_or x y ≡ x
-or_nothing None y e = e
-or_nothing (Some a) y e = refl
-
 -- of one column, what it is
 pub found_here : (terrain : Terrain) (c : Place) (i : ℕ) (states : List ℕ) →
     find key_cmp (c, i) (changes terrain c states) ≡ changed_at terrain c i (Some states)
@@ -136,15 +131,13 @@ found_in terrain c i (e ∷ es) apart =
     elim (eq_by_cmp place_cmp c e.0) as (λ b. eq_by_cmp place_cmp c e.0 ≡ b →
     find key_cmp (c, i) (changes terrain e.0 e.1 ++ all_changes terrain es) ≡
     changed_at terrain c i (cond b (Some e.1) (find place_cmp c es))) [
-      | true ↦ λ t.
-          let here : c ≡ e.0 = exact_places c e.0 (is_equal (place_cmp c e.0) t) in
-          let none : find place_cmp c es ≡ None = ap (λ (d : Place). find place_cmp d es) here ∙
-          apart.0 in
-          find_append (c, i) (changes terrain e.0 e.1) (all_changes terrain es)
-          ∙ or_nothing (find key_cmp (c, i) (changes terrain e.0 e.1))
-          (find key_cmp (c, i) (all_changes terrain es)) (found_of_none terrain c i es none)
-          ∙ ap (λ (d : Place). find key_cmp (c, i) (changes terrain d e.1)) (sym here)
-          ∙ found_here terrain c i e.1
+      | true ↦ grind (
+        arith,
+        exact_places c e.0,
+        find_append (c, i) (changes terrain e.0 e.1) (all_changes terrain es),
+        found_of_none terrain c i es,
+        found_here terrain c i e.1,
+      )
       | false ↦ λ t.
           find_append (c, i) (changes terrain e.0 e.1) (all_changes terrain es)
           ∙ nothing_or (find key_cmp (c, i) (changes terrain e.0 e.1))
@@ -155,9 +148,7 @@ found_in terrain c i (e ∷ es) apart =
     ] refl
   where
     is_equal : (o : Ordering) → is_eq o ≡ true → o ≡ Equal
-    is_equal Less e = absurd cc
-    is_equal Equal e = refl
-    is_equal Greater e = absurd cc
+    is_equal o e = grind (arith, nat_tests)
 
 pub get_kept : (terrain : Terrain) (columns : List (Place × List ℕ)) (c : Place) (i : ℕ) →
     IsApart columns → get (kept_edits terrain columns) (c, i) ≡

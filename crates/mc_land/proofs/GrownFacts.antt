@@ -1,17 +1,15 @@
 -- A column that grows layer by layer is the terrain's own.
-use Rattle.std.proofs.Common.{◌≡◌, ℕ, zero, suc, ◌+◌, ◌*◌, ◌-◌, ◌/◌, ◌%◌, ◌<◌, ◌≤◌, ◌&&◌, nat_lt}
-use Rattle.std.proofs.Common.{nat_le, eqb, Bool, true, false, cond, List, [], ◌∷◌, ◌++◌, length}
-use Rattle.std.proofs.Common.{map, get_or, take, drop, replicate, refl, sym, subst, ap, ◌∙◌, arith}
+use Rattle.std.proofs.Common.{◌≡◌, ℕ, zero, suc, ◌+◌, ◌*◌, ◌-◌, ◌/◌, ◌%◌, ◌<◌, ◌≤◌}
+use Rattle.std.proofs.Common.{eqb, cond, List, [], ◌∷◌, ◌++◌, length}
+use Rattle.std.proofs.Common.{map, get_or, take, drop, replicate, refl, sym, ap, ◌∙◌, arith}
 use Rattle.std.proofs.Common.{inl, inr}
 use Rattle.std.proofs.lemmas.Bool.Decides.{nat_tests}
-use Rattle.std.proofs.lemmas.Int.{ints}
 use Rattle.std.proofs.lemmas.List.{ext_get_or, map-append, length-append, length-take, length-drop}
 use Rattle.std.proofs.lemmas.List.{length-replicate, get_or-take, get_or-drop, get_or_append_left}
 use Rattle.std.proofs.lemmas.List.{get_or-append_right, get_or_push, take_all}
 use Rattle.std.proofs.lemmas.List.FromFn.{get_or-map-range_with_len, length-map-range_with_len}
 use Rattle.std.proofs.lemmas.List.Sums.{sum_by-cons, sum_by-append}
-use Rattle.std.proofs.lemmas.Bool.{cases_eq, cases_lt, eq-eqb, ne_eqb, lt-ltb, le-ltb, le-leb}
-use Rattle.std.proofs.lemmas.Bool.{lt-leb}
+use Rattle.std.proofs.lemmas.Bool.{cases_lt}
 use Rattle.std.specs.List.{range_with_len, sum_by}
 use Rattle.mc_column.specs.Sizes.{cells, section_cells, section_count, squares}
 use Rattle.mc_column.specs.SizesLaws.{squares-is}
@@ -26,10 +24,9 @@ use Rattle.mc_land.specs.Terrain.{flat_id, hills_biome, hills_id, height, isle_i
 use Rattle.mc_land.specs.Terrain.{terrain_biome}
 use Rattle.mc_land.specs.Land.{terrain_at, biomes_of}
 use Rattle.mc_land.specs.Grown.{own_column, x_at, z_at}
-use Rattle.mc_land.specs.GrownCode.{AppendsLayer, AreTops, IsGrown, fills, low_of, lowest}
+use Rattle.mc_land.specs.GrownCode.{AppendsLayer, AreTops, IsGrown, fills, low_of}
 use Rattle.mc_land.specs.GrownCode.{own_section, reach_in}
-use lib.IntN.{ℤ, pos, negsuc, ◌+ℤ◌, ◌*ℤ◌}
-use lib.Signed.{◌≤ℤ◌, ◌<ℤ◌}
+use lib.IntN.{ℤ, pos, ◌+ℤ◌, ◌*ℤ◌}
 
 -- a list that is known at each place
 pub listed_by : (f : ℕ → ℕ) (n : ℕ) (xs : List ℕ) → length xs ≡ n →
@@ -294,54 +291,18 @@ grown_more terrain place column new i states lt own is grown =
     let both = length-append (own_section terrain place i) (drop (i * section_cells + section_cells)
     column.states) in
     rw (is, own) (record {
-      sizes = record {
-        states_are = omega (
-          arith,
-          length-append (take (i * section_cells) column.states) (own_section terrain place i ++
-              drop (i * section_cells + section_cells) column.states),
-          front,
-          both,
-          rest,
-          len,
-          all,
-          room,
-        );
-        biomes_are = grown.sizes.biomes_are;
-      };
+      sizes = grind (arith, nat_tests, length-append);
       biomes = grown.biomes;
       own = λ k below. elim (cases_lt k (i * section_cells)) [
-        | inl low ↦ get_or_append_left (take (i * section_cells) column.states)
-            (own_section terrain place i ++ drop (i * section_cells + section_cells) column.states)
-            0 k (omega (arith, front)) ∙ get_or-take (i * section_cells) column.states k 0 low ∙
-            grown.own k low
-        | inr high ↦
-            let within : k - i * section_cells < section_cells = omega (arith, next) in
-            let there : i * section_cells + (k - i * section_cells) ≡ k = omega arith in
-            get_or-append_right (take (i * section_cells) column.states) (own_section terrain place
-            i ++ drop (i * section_cells + section_cells) column.states) (i * section_cells) k 0
-            front high
-            ∙ get_or_append_left (own_section terrain place i)
-            (drop (i * section_cells + section_cells) column.states) 0 (k - i * section_cells)
-            (omega (arith, len))
-            ∙ get_or-map-range_with_len (λ n. terrain_at terrain (place, i * section_cells + n)) 0
-            section_cells (k - i * section_cells) (k - i * section_cells) 0 within (omega arith)
-            ∙ ap (λ (n : ℕ). terrain_at terrain (place, n)) there
+        | inl low ↦ grind (arith, nat_tests, get_or_append_left, get_or-take)
+        | inr high ↦ grind (
+          arith,
+          get_or-append_right,
+          get_or_append_left,
+          get_or-map-range_with_len,
+        )
       ];
-      air = λ k past.
-          let high : i * section_cells ≤ k = omega (arith, next) in
-          let beyond : section_cells ≤ k - i * section_cells = omega (arith, next) in
-          let there : i * section_cells + section_cells + (k - i * section_cells - section_cells) ≡
-          k = omega arith in
-          get_or-append_right (take (i * section_cells) column.states) (own_section terrain place i
-          ++ drop (i * section_cells + section_cells) column.states) (i * section_cells) k 0
-          front high
-          ∙ get_or-append_right (own_section terrain place i)
-          (drop (i * section_cells + section_cells) column.states) section_cells
-          (k - i * section_cells) 0 len beyond
-          ∙ get_or-drop (i * section_cells + section_cells) column.states
-          (k - i * section_cells - section_cells) 0
-          ∙ ap (λ (n : ℕ). get_or column.states n 0) there
-          ∙ grown.air k (omega (arith, next));
+      air = grind (arith, nat_tests, get_or-append_right, get_or-drop);
     })
 
 -- all sections are the terrain's own column
@@ -350,18 +311,6 @@ pub grown_all : (terrain : Terrain) (place : Place) (column : ColumnValue) (i : 
 grown_all terrain place column i all grown = grind (arith, nat_tests, listed_by, sections_all)
 
 -- ---- the isle is one column
-
-within_none : (z : ℤ) → z <ℤ pos 0 → is_within_16 z ≡ false
-within_none (pos n) lt = absurd (omega (arith, ints, lt))
-within_none (negsuc n) lt = refl
-
-within_past : (z : ℤ) → pos 16 ≤ℤ z → is_within_16 z ≡ false
-within_past (pos n) le = le-ltb n 16 (omega (arith, ints, le))
-within_past (negsuc n) le = refl
-
-within_some : (z : ℤ) → pos 0 ≤ℤ z → z <ℤ pos 16 → is_within_16 z ≡ true
-within_some (pos n) le lt = lt-ltb n 16 (omega (arith, ints, lt))
-within_some (negsuc n) le lt = absurd (omega (arith, ints, le))
 
 -- sixteen places along an axis are all within the first sixteen, or none is
 within_all : (c : ℤ) (i j : ℕ) → i < 16 → j < 16 → is_within_16 (c *ℤ pos 16 +ℤ pos i) ≡
@@ -386,77 +335,20 @@ isle_layer place y old new layer =
 
 -- ---- how high the blocks of each terrain reach
 
--- a block is no air
-id_block : (id : ℕ) → block_of (id * 16) ≡ cond (eqb id 0) 0 1
-id_block id = grind (arith, nat_tests)
-
--- no block where each test of a layered terrain fails
-above_all : (z l t g top : Bool) → z ≡ false → l ≡ false → t ≡ false → g ≡ true → top ≡ false →
-    ◌≡◌ {A = ℕ} (cond (eqb (cond z 7 (cond l 3 (cond t 2 0))) 0) 0 1) (cond (g && top) 1 0)
-above_all z l t g top a b d e f = rw (a, b, d, e, f) refl
-
 pub flat_reach : (place : Place) (i y : ℕ) → i < squares →
     block_of (terrain_at Flat (place, y * squares + i)) ≡ fills Flat 3 y
-flat_reach place i y lt = grind (
-  arith,
-  nat_tests,
-  layer_y place y i lt,
-  id_block (flat_id y),
-  cases_eq y 0,
-  cases_eq y 1,
-  cases_eq y 2,
-  cases_eq y 3,
-  above_all (eqb y 0) (nat_le y 2) (eqb y 3) (nat_le 0 y) (nat_le y 3),
-  ne_eqb y 0,
-  ne_eqb y 3,
-  lt-leb y 2,
-  lt-leb y 3,
-  le-leb 0 y,
-)
+flat_reach place i y lt = grind (arith, layer_y place y i lt)
 
 pub hills_reach : (seed : ℕ) (place : Place) (i y top : ℕ) → i < squares →
     top ≡ height seed (x_at place i) (z_at place i) →
     block_of (terrain_at (Hills seed) (place, y * squares + i)) ≡ fills (Hills seed) top y
-hills_reach seed place i y top lt is = grind (
-  arith,
-  nat_tests,
-  layer_x place y i lt,
-  layer_y place y i lt,
-  layer_z place y i lt,
-  id_block (hills_id top y),
-  le-leb 0 y,
-  le-leb 0 top,
-  le-leb y top,
-  cases_eq y 0,
-  ne_eqb y 0,
-  ne_eqb y top,
-  cases_lt top y,
-  cases_lt y top,
-  lt-leb y top,
-  lt-leb (y + 4) top,
-  le-ltb y top,
-  lt-ltb y top,
-  eq-eqb y top,
-)
+hills_reach seed place i y top lt is =
+    grind (arith, layer_x place y i lt, layer_y place y i lt, layer_z place y i lt)
 
 pub isle_reach : (place : Place) (i y top : ℕ) → i < squares →
     top ≡ cond (eqb (isle_id (place.0 *ℤ pos 16 +ℤ pos 0) 63 (place.1 *ℤ pos 16 +ℤ pos 0)) 0) 62 63
     → block_of (terrain_at Isle (place, y * squares + i)) ≡ fills Isle top y
-isle_reach place i y top lt is = grind (
-  arith,
-  nat_tests,
-  squares-is,
-  layer_x,
-  layer_y,
-  layer_z,
-  id_block,
-  within_all,
-  cases_eq,
-  ne_eqb,
-  cases_lt,
-  lt-leb,
-  le-leb,
-)
+isle_reach place i y top lt is = grind (arith, nat_tests, squares-is)
 
 -- ---- biomes
 

@@ -3,7 +3,7 @@ use Rattle.std.proofs.Common.{◌≡◌, ℕ, zero, suc, ◌<◌, true, false, c
 use Rattle.std.proofs.Common.{get_or, Some, None, refl, sym, ap, ◌∙◌, arith}
 use Rattle.std.proofs.lemmas.Bool.Decides.{nat_tests}
 use Rattle.std.specs.declared.cmp.Ordering.{Ordering}
-use Rattle.std.specs.declared.cmp.Ordering.TheVariants.{Less, Equal, Greater}
+use Rattle.std.specs.declared.cmp.Ordering.TheVariants.{Equal}
 use Rattle.std.specs.Ordering.{is_eq, eq_by_cmp}
 use Rattle.std.specs.Option.{option_map}
 use Rattle.std.specs.Map.{lookup}
@@ -12,8 +12,7 @@ use Rattle.mc_land.specs.Places.{Place, place_cmp}
 use Rattle.mc_land.specs.KeptLand.{placed, IsIndexed}
 use Rattle.mc_land.specs.Ready.{ReadyValue}
 use Rattle.mc_land.specs.Kept.{IsApart}
-use Rattle.std.specs.Cmp.{tied_itself, eq_by_cmp_equiv}
-use Rattle.mc_land.proofs.Orders.{places_total, exact_places}
+use Rattle.mc_land.proofs.Orders.{exact_places}
 
 -- a tree's look-up is the first entry of the key
 pub lookup_is : {K X : Type 0} (R : K → K → Ordering) (q : K) (es : List (K × X)) →

@@ -1,24 +1,22 @@
 -- What happens to the edits where a column is made ready and where a cell of one is set.
-use Rattle.std.proofs.Common.{◌≡◌, ℕ, ◌<◌, nat_lt, ◌&&◌, Bool, true, false, cond, not, eqb, List}
-use Rattle.std.proofs.Common.{length, get_or, set, Option, Some, None, refl, sym, subst, ◌∙◌, inl}
-use Rattle.std.proofs.Common.{inr, arith}
+use Rattle.std.proofs.Common.{◌≡◌, ℕ, ◌<◌, true, false, cond, eqb, List}
+use Rattle.std.proofs.Common.{length, get_or, set, Option, Some, None, refl, sym, ◌∙◌}
+use Rattle.std.proofs.Common.{arith}
 use Rattle.std.proofs.lemmas.Bool.Decides.{nat_tests}
 use Rattle.std.specs.declared.cmp.Ordering.{Ordering}
-use Rattle.std.specs.declared.cmp.Ordering.TheVariants.{Less, Equal, Greater}
+use Rattle.std.specs.declared.cmp.Ordering.TheVariants.{Equal}
 use Rattle.std.specs.Ordering.{is_eq, eq_by_cmp}
-use Rattle.std.specs.Option.{unwrap_or}
 use Rattle.std.specs.FinMap.{FinMap, find, get, insert, remove, get-insert, get-remove, same_map}
-use Rattle.std.proofs.lemmas.Bool.{cases_eq, ltb-true, lt-ltb, eqb-true, eq-eqb}
+use Rattle.std.proofs.lemmas.Bool.{ltb-true, lt-ltb, eqb-true, eq-eqb}
 use Rattle.std.proofs.lemmas.Grind.{common_steps}
 use Rattle.std.proofs.lemmas.List.{get_or-set_same, get_or-set_other}
 use Rattle.mc_column.specs.Sizes.{cells}
 use Rattle.mc_land.specs.declared.terrain.Terrain.{Terrain}
 use Rattle.mc_land.specs.Places.{Place, Key, place_cmp, key_cmp}
 use Rattle.mc_land.specs.Land.{terrain_at, state_at, edited}
-use Rattle.mc_land.specs.Kept.{is_changed, kept_edits, IsApart}
-use Rattle.mc_land.proofs.Orders.{keys_total, exact_places, exact_keys}
-use Rattle.mc_land.proofs.EditsFacts.{changed_at, get_kept, same_column, other_column, nat_cmp_same}
-use Rattle.mc_land.proofs.EditsFacts.{nat_cmp_other}
+use Rattle.mc_land.specs.Kept.{kept_edits, IsApart}
+use Rattle.mc_land.proofs.Orders.{keys_total, exact_keys}
+use Rattle.mc_land.proofs.EditsFacts.{changed_at, get_kept, other_column}
 
 abbrev Columns : Type 0
 Columns = List (Place × List ℕ)
@@ -123,8 +121,4 @@ set_edits terrain old new c i state states apart apart' found puts inside within
     in_column : (d : Place) (j : ℕ) → d ≡ c → changed_at terrain d j (Some (set states i state)) ≡
         cond (eq_by_cmp key_cmp (d, j) (c, i)) (becomes terrain (c, i) state)
         (get (kept_edits terrain old) (d, j))
-    in_column d j e = rw (e, same_column c j i) (elim (cases_eq j i) [
-      | inl same ↦ rw (same, nat_cmp_same i) (set_here terrain c i state states inside within)
-      | inr ne ↦ rw (nat_cmp_other j i ne) (set_other terrain c i j state states ne ∙
-          sym (get_kept terrain old c j apart ∙ rw found refl))
-    ])
+    in_column d j e = grind (arith, nat_tests, set_here, set_other, get_kept)

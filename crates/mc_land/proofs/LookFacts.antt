@@ -1,10 +1,8 @@
 -- What looking at a kept land gives.
-use Rattle.std.proofs.Common.{◌≡◌, ℕ, ◌+◌, ◌*◌, ◌/◌, ◌<◌, Bool, true, false, cond, List, [], length}
-use Rattle.std.proofs.Common.{map, get_or, Some, None, refl, sym, ap, ◌∙◌, arith}
-use Rattle.std.specs.Option.{option_map}
+use Rattle.std.proofs.Common.{◌≡◌, ℕ, ◌<◌, true, false, List, [], length}
+use Rattle.std.proofs.Common.{map, get_or, Some, None, refl, sym, ◌∙◌, arith}
 use Rattle.std.specs.FinMap.{find}
 use Rattle.std.proofs.lemmas.Bool.{lt-ltb}
-use Rattle.std.proofs.lemmas.List.FromFn.{get_or-map-range_with_len, length-map-range_with_len}
 use Rattle.mc_column.specs.Sizes.{cells}
 use Rattle.mc_column.specs.Cells.{ColumnValue, cell_index}
 use Rattle.mc_land.specs.declared.terrain.Terrain.{Terrain}
@@ -12,7 +10,7 @@ use Rattle.mc_land.specs.Places.{Key, Place, place_cmp, key_cmp, inside, place_o
 use Rattle.mc_land.specs.Terrain.{terrain_state}
 use Rattle.mc_land.specs.Land.{terrain_at, state_at, states_of, block, column_of, dirty_in}
 use Rattle.mc_land.specs.Kept.{kept_edits}
-use Rattle.mc_land.specs.KeptLand.{IsIndexed, Columns, Chests, present_states, settled_states}
+use Rattle.mc_land.specs.KeptLand.{IsIndexed, Columns, Chests, present_states}
 use Rattle.mc_land.specs.KeptLand.{kept_land, IsKeptLand}
 use Rattle.mc_land.specs.Ready.{ReadyValue, touched_cells}
 use Rattle.mc_land.proofs.LandFacts.{state_ready, state_else}
@@ -25,17 +23,12 @@ use Rattle.std.specs.FinSet as set
 use Rattle.std.specs.List.{list_any}
 use Rattle.std.specs.Ordering.{eq_by_cmp}
 use Rattle.std.specs.Option.{is_some}
-use Rattle.std.proofs.Common.{◌||◌, ◌&&◌, ◌↔◌, ◌∷◌}
+use Rattle.std.proofs.Common.{◌↔◌, ◌∷◌}
 use Rattle.std.proofs.lemmas.Bool.{true≢false}
 use Rattle.mc_land.proofs.Orders.{places_total}
-use Rattle.std.proofs.Common.{eqb}
 use Rattle.std.proofs.lemmas.Bool.Decides.{nat_tests}
-use lib.Dec.{leb, ltb}
 use Rattle.std.specs.List.Sorted.{IsStrictlySortedBy}
-use Rattle.mc_land.specs.Terrain.{height, is_within_16}
-use Rattle.mc_land.specs.Places.{x_of, y_of, z_of}
 use Rattle.mc_land.specs.Land.{is_chest}
-use Rattle.mc_land.specs.declared.terrain.Terrain.TheVariants.{Flat, Hills, Isle}
 
 abbrev pub present : ReadyValue → List ℕ
 present ready = ready.present.states
@@ -117,10 +110,6 @@ pub dirty_none : (terrain : Terrain) (columns : Columns) (chests : Chests) (plac
     [] ≡ dirty_in (kept_land terrain columns chests) place
 dirty_none terrain columns chests place kept none = grind (
   arith,
-  nat_tests,
-  listed_by,
-  length-map-range_with_len,
-  get_or-map-range_with_len,
   of_none settled terrain columns chests place,
   of_none present terrain columns chests place,
   touched_none (states_of terrain (kept_edits terrain (present_states columns)) place),

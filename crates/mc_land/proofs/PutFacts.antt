@@ -3,7 +3,7 @@ use Rattle.std.proofs.Common.{◌≡◌, ℕ, ◌<◌, Bool, true, false, cond, 
 use Rattle.std.proofs.Common.{Option, Some, None, refl, sym, subst, ap, ◌∙◌, arith}
 use Rattle.std.specs.declared.cmp.Ordering.TheVariants.{Less, Equal, Greater}
 use Rattle.std.specs.Ordering.{is_eq, eq_by_cmp}
-use Rattle.std.specs.Cmp.{tied_itself, eq_by_cmp_equiv}
+use Rattle.std.specs.Cmp.{tied_itself}
 use Rattle.std.specs.Option.{is_some}
 use Rattle.std.specs.List.Sorted.{IsStrictlySortedBy}
 use Rattle.std.specs.FinMap.{FinMap, find, get, insert, remove, from_entries, get-insert}
@@ -13,7 +13,6 @@ use Rattle.mc_slots.specs.declared.pile.Pile.{Pile}
 use Rattle.mc_slots.specs.Chest.{empty_chest}
 use Rattle.mc_land.specs.declared.terrain.Terrain.{Terrain}
 use Rattle.mc_land.specs.Places.{Place, Key, place_cmp, key_cmp, key_of, is_inside, is_height}
-use Rattle.mc_land.specs.Places.{is_within_border}
 use Rattle.std.specs.Prelude.{unsigned_abs}
 use Rattle.std.specs.Map.{lookup}
 use Rattle.std.proofs.Common.{◌&&◌}
@@ -28,7 +27,7 @@ use Rattle.mc_land.specs.KeptLand.{Chests, placed, present_states, kept_land, Is
 use Rattle.mc_land.specs.Ready.{ReadyValue}
 use Rattle.mc_land.specs.ReadyCode.{set_at}
 use Rattle.mc_land.proofs.Orders.{places_total, keys_total, exact_keys}
-use Rattle.mc_land.proofs.KeptLandFacts.{apart, lookup_is}
+use Rattle.mc_land.proofs.KeptLandFacts.{apart}
 use Rattle.mc_land.proofs.ChangeFacts.{ready_stays, push_land, push_keeps, find_push, placed_push}
 use Rattle.mc_land.proofs.SetFacts.{all_set, placed_map, set_place, edits_set, settled_set}
 use Rattle.mc_land.proofs.SetFacts.{places_same, state_edited, own_set}

@@ -1,6 +1,6 @@
 -- A kept land where a cell is set.
 use Rattle.std.proofs.Common.{◌≡◌, ℕ, ◌<◌, true, false, cond, eqb, List, [], ◌∷◌, ◌++◌, length, map}
-use Rattle.std.proofs.Common.{get_or, set, Option, Some, None, refl, sym, subst, ap, ◌∙◌, arith}
+use Rattle.std.proofs.Common.{get_or, set, Option, Some, None, refl, sym, ap, ◌∙◌, arith}
 use Rattle.std.proofs.Common.{inl, inr}
 use Rattle.std.proofs.lemmas.Bool.Decides.{nat_tests}
 use Rattle.std.specs.declared.cmp.Ordering.{Ordering}
@@ -66,15 +66,12 @@ set_is_map (d ∷ ds) new index place n i state is e each =
     let inside : k < length (d ∷ ds) =
     omega (arith, length-set (d ∷ ds) n (set_cell (get_or (d ∷ ds) n d) i state)) in
     elim (cases_eq k n) [
-      | inl same ↦ rw same (get_or-set_same (d ∷ ds) n (set_cell (get_or (d ∷ ds) n d) i state) d
-          (is.listed place n e) ∙
-          sym (at_place place i state (get_or (d ∷ ds) n d) (is.placed_at place n d e)) ∙
-          sym (get_or-map (set_at place i state) (d ∷ ds) n d d (is.listed place n e)))
-      | inr ne ↦ get_or-set_other (d ∷ ds) n k (set_cell (get_or (d ∷ ds) n d) i state) d ne ∙
-          sym (elsewhere place i state (get_or (d ∷ ds) k d)
-          (λ same. ne (some_is k n (sym (is.indexed k d inside) ∙
-          ap (λ (p : Place). find place_cmp p index) same ∙ e)))) ∙
-          sym (get_or-map (set_at place i state) (d ∷ ds) k d d inside)
+      | inl same ↦ grind (arith, nat_tests, get_or-set_same, at_place, get_or-map)
+      | inr ne ↦ grind (
+        arith,
+        get_or-set_other (d ∷ ds) n k (set_cell (get_or (d ∷ ds) n d) i state) d ne,
+        get_or-map (set_at place i state) (d ∷ ds) k d d inside,
+      )
     ])
   where
     some_is : (a b : ℕ) → Some a ≡ Some b → a ≡ b
@@ -84,12 +81,7 @@ set_is_map (d ∷ ds) new index place n i state is e each =
 pub indexed_map : (f : ReadyValue → ReadyValue) (columns : List ReadyValue) (index : List (Place ×
     ℕ)) → ((ready : ReadyValue) → (f ready).place ≡ ready.place) → IsIndexed columns index →
     IsIndexed (map f columns) index
-indexed_map f columns index keeps is = record {
-  listed = λ place i e. rw (length-map columns f) (is.listed place i e);
-  placed_at = λ place i d e. same_place i d (is.listed place i e) ∙ is.placed_at place i d e;
-  indexed = λ i d lt. let inside : i < length columns = rw (length-map columns f) at lt in
-      ap (λ (p : Place). find place_cmp p index) (same_place i d inside) ∙ is.indexed i d inside;
-}
+indexed_map f columns index keeps is = grind (arith, nat_tests, length-map, same_place)
   where
     same_place : (i : ℕ) (d : ReadyValue) → i < length columns →
         (get_or (map f columns) i d).place ≡ (get_or columns i d).place
@@ -165,12 +157,13 @@ puts_set : (columns : List ReadyValue) (place : Place) (i state : ℕ) (ready : 
     find place_cmp place (placed columns) ≡ Some ready →
     Puts (present_states (placed columns)) (present_states (all_set place i state (placed columns)))
     place (set ready.present.states i state)
-puts_set columns place i state ready found q =
-    find_map present q (all_set place i state (placed columns))
-    ∙ ap (option_map present) (find_map (set_at place i state) q (placed columns))
-    ∙ by (find place_cmp q (placed columns)) refl
-    ∙ ap (λ (o : Option (List ℕ)). cond (eq_by_cmp place_cmp q place)
-    (Some (set ready.present.states i state)) o) (sym (find_map present q (placed columns)))
+puts_set columns place i state ready found q = grind (
+  arith,
+  find_map present q (all_set place i state (placed columns)),
+  find_map (set_at place i state) q (placed columns),
+  find_map present q (placed columns),
+  by (find place_cmp q (placed columns)) refl,
+)
   where
     some_is : (a b : ReadyValue) → Some a ≡ Some b → a ≡ b
     some_is a b e = cc
@@ -181,9 +174,7 @@ puts_set columns place i state ready found q =
         (option_map present o)
     by None e = elim (eq_by_cmp place_cmp q place) as (λ b. eq_by_cmp place_cmp q place ≡ b →
         None ≡ cond b (Some (set ready.present.states i state)) None) [
-          | true ↦ λ t. let clash : None ≡ Some ready = sym e ∙
-              ap (λ (p : Place). find place_cmp p (placed columns))
-              (exact_places q place (is_equal (place_cmp q place) t)) ∙ found in absurd cc
+          | true ↦ grind (arith, nat_tests)
           | false ↦ λ t. refl
         ] refl
     by (Some r) e = elim (eq_by_cmp place_cmp q place) as (λ b. eq_by_cmp place_cmp q place ≡ b →
@@ -264,22 +255,10 @@ own_set terrain columns place i state q r own e = by (find place_cmp q (placed c
     kept : (s : ReadyValue) → IsOwn terrain q s → IsOwn terrain q (set_at place i state s)
     kept s o = elim (eq_by_cmp place_cmp s.place place) as
         (λ b. IsOwn terrain q (cond b (set_cell s i state) s)) [
-          | true ↦ record {
-            inside = o.inside;
-            terrain_is = o.terrain_is;
-            present_sizes = record {
-              states_are = length-set s.present.states i state ∙
-                  o.present_sizes.states_are;
-              biomes_are = o.present_sizes.biomes_are;
-            };
-            settled_sizes = o.settled_sizes;
-            biomes = o.biomes;
-          }
+          | true ↦ grind (arith, nat_tests, length-set)
           | false ↦ o
         ]
 
     by : (o : Option ReadyValue) → find place_cmp q (placed columns) ≡ o →
         option_map (set_at place i state) o ≡ Some r → IsOwn terrain q r
-    by None f h = absurd cc
-    by (Some s) f h = subst (λ x. IsOwn terrain q x) (some_is (set_at place i state s) r h)
-        (kept s (own s f))
+    by o f h = grind (arith, nat_tests, some_is, kept)

@@ -1,18 +1,18 @@
 -- Columns that are taken away one after another, and what is left of a land.
-use Rattle.std.proofs.Common.{◌≡◌, ℕ, zero, suc, ◌+◌, ◌-◌, ◌<◌, ◌≤◌, ◌&&◌, ◌||◌, ◌⊎◌, nat_lt, eqb}
-use Rattle.std.proofs.Common.{not, Bool, true, false, cond, List, [], ◌∷◌, length, map, get_or, set}
-use Rattle.std.proofs.Common.{take, Option, Some, None, refl, sym, subst, ap, ◌∙◌, arith, inl, inr}
+use Rattle.std.proofs.Common.{◌≡◌, ℕ, zero, suc, ◌+◌, ◌-◌, ◌<◌, ◌≤◌, ◌&&◌, ◌||◌, nat_lt, eqb}
+use Rattle.std.proofs.Common.{not, Bool, true, false, cond, List, [], ◌∷◌, length, map, get_or}
+use Rattle.std.proofs.Common.{Option, Some, None, refl, sym, ap, ◌∙◌, arith, inl, inr}
 use Rattle.std.proofs.lemmas.Bool.Decides.{nat_tests}
 use Rattle.std.specs.declared.cmp.Ordering.{Ordering}
 use Rattle.std.specs.declared.cmp.Ordering.TheVariants.{Less, Equal, Greater}
 use Rattle.std.specs.Ordering.{is_eq, eq_by_cmp, ordering_then, nat_cmp}
-use Rattle.std.specs.Cmp.{tied_itself, eq_by_cmp_equiv}
+use Rattle.std.specs.Cmp.{tied_itself}
 use Rattle.std.specs.Option.{is_some, option_map}
 use Rattle.std.specs.Map.{lookup}
 use Rattle.std.specs.List.{filter, list_any, range_with_len, swap_remove}
 use Rattle.std.specs.FinMap.{FinMap, find, get, entries, get-entries}
 use Rattle.std.specs.FinSet as set'
-use Rattle.std.proofs.lemmas.Bool.{cases_eq, cases_lt, eqb-true, lt-ltb, ltb-true, ne_eqb}
+use Rattle.std.proofs.lemmas.Bool.{cases_eq, lt-ltb, ne_eqb}
 use Rattle.std.proofs.lemmas.Bool.{true≢false}
 use Rattle.std.proofs.lemmas.List.{get_or_default, get_or-set_same, get_or-set_other, get_or-take}
 use Rattle.std.proofs.lemmas.List.{length-set, length-take}
@@ -25,12 +25,12 @@ use Rattle.mc_land.specs.KeptLand.{Columns, Chests, placed, present_states, sett
 use Rattle.mc_land.specs.KeptLand.{kept_land, IsIndexed, IsKeptLand}
 use Rattle.mc_land.specs.Ready.{ReadyValue}
 use Rattle.mc_land.specs.Sums.{changes_in}
-use Rattle.mc_land.specs.Shed.{IsSettled, View, is_edited, is_seen, shed_land, stays}
+use Rattle.mc_land.specs.Shed.{IsSettled, View, is_edited, shed_land, stays}
 use Rattle.mc_land.specs.ShedCode.{AreShed, IsShed, IsTakenAway, is_kept}
 use Rattle.mc_land.proofs.Orders.{places_total, keys_total, exact_places}
 use Rattle.mc_land.proofs.EditsFacts.{changed_at, get_kept}
 use Rattle.mc_land.proofs.LandFacts.{same_edits}
-use Rattle.mc_land.proofs.KeptLandFacts.{apart, find_map, found_indexed, found_unindexed, lookup_is}
+use Rattle.mc_land.proofs.KeptLandFacts.{apart, find_map, found_indexed, found_unindexed}
 use Rattle.mc_land.proofs.LookFacts.{present, settled, is_ready, states_ready}
 use Rattle.mc_land.proofs.SetFacts.{found_place}
 use Rattle.mc_land.proofs.TouchedFacts.{length-changes}
@@ -49,9 +49,6 @@ tied a b e = rw e (ap is_eq (tied_itself places_total b))
 
 untied : (a b : Place) → (a ≡ b → ⊥) → eq_by_cmp place_cmp a b ≡ false
 untied a b ne = grind (arith, nat_tests)
-
-same_or_not : (a b : Place) → (a ≡ b) ⊎ (a ≡ b → ⊥)
-same_or_not a b = grind (arith, nat_tests)
 
 -- ---- one column is taken away
 
@@ -105,15 +102,7 @@ pub removed_indexed : (columns removed : List ReadyValue) (index new : List (Pla
 removed_indexed columns removed index new i d is lt to same =
     let len = length-swapped columns i d lt in
     rw same (record {
-      listed = λ q k e. by_place columns index new i d q (λ o. o ≡ Some k →
-          k < length (swap_remove columns i d)) is lt to
-          (λ before at h. omega (arith, some_nat i k h, len))
-          (λ at h. absurd cc)
-          (λ ne ne' h. elim (cases_eq k (length columns - 1)) [
-            | inl last ↦ absurd (ne (sym (is.placed_at q k d h) ∙
-                ap (λ (n : ℕ). (get_or columns n d).place) last))
-            | inr less ↦ omega (arith, is.listed q k h, len)
-          ]) e;
+      listed = grind (arith, nat_tests);
       placed_at = λ q k e' e. by_place columns index new i d q (λ o. o ≡ Some k →
           (get_or (swap_remove columns i d) k e').place ≡ q) is lt to
           (λ before at h. let here : i ≡ k = some_nat i k h in
@@ -128,30 +117,7 @@ removed_indexed columns removed index new i d is lt to same =
           ap (λ (n : ℕ). (get_or columns n d).place) last) in
           ap (λ (r : ReadyValue). r.place) (swapped_other columns i k d e' not_i
           (omega (arith, there, not_last))) ∙ is.placed_at q k e' h) e;
-      indexed = λ k e' below.
-          let within : k + 1 < length columns = omega (arith, below, len) in
-          elim (cases_eq k i) [
-            | inl here ↦
-                let before : i + 1 < length columns = omega (arith, within, here) in
-                rw here (ap (λ (r : ReadyValue). find place_cmp r.place new)
-                (swapped_here columns i d e' before) ∙ to.at_last before)
-            | inr ne ↦
-                let old : get_or columns k e' ≡ get_or columns k d =
-                get_or_default columns k e' d (omega arith) in
-                let not_last : (get_or columns k d).place ≡
-                (get_or columns (length columns - 1) d).place →
-                ⊥ = λ e. absurd (omega (
-                  arith,
-                  within,
-                  apart_places columns index k (length columns - 1) d is (omega arith)
-                      (omega arith) e,
-                )) in
-                let not_gone : (get_or columns k d).place ≡ (get_or columns i d).place →
-                ⊥ = λ e. ne (apart_places columns index k i d is (omega arith) lt e) in
-                ap (λ (r : ReadyValue). find place_cmp r.place new) (swapped_other columns i k d e'
-                ne within ∙ old) ∙ to.at_other (get_or columns k d).place not_last not_gone ∙
-                is.indexed k d (omega arith)
-          ];
+      indexed = grind (arith, swapped_here, swapped_other);
     })
 
 -- what the index says is what is found, in both directions
@@ -169,12 +135,9 @@ pub removed_found : (columns removed : List ReadyValue) (index new : List (Place
     find place_cmp q (placed removed) ≡ None)
 removed_found columns removed index new i d q is lt to same = grind (
   arith,
-  nat_tests,
   removed_indexed columns removed index new i d is lt to same,
   by_index removed new q d,
-  by_place columns index new i d q,
   swapped_here columns i d d,
-  found_indexed q columns index (length columns - 1) d is,
   found_indexed q columns index,
   found_unindexed q columns index is,
   swapped_other columns i,
@@ -246,29 +209,12 @@ shed_more views old now new index i z d step shed is stays' same =
 pub shed_less : (views : List View) (old now new : List ReadyValue) (index : List (Place × ℕ))
     (i z : ℕ) (d : ReadyValue) → z ≡ i + 1 → AreShed views old now z → IsIndexed now index →
     is_kept views (get_or now i d) ≡ false → IsTakenAway now new i d → AreShed views old new i
-shed_less views old now new index i z d step shed is goes taken = grind (
-  arith,
-  nat_tests,
-  length-swapped,
-  found_indexed,
-  same_or_not,
-  some_ready,
-  true≢false,
-  cases_eq,
-  swapped_here,
-  swapped_other,
-)
+shed_less views old now new index i z d step shed is goes taken =
+    grind (arith, length-swapped, found_indexed, swapped_here, swapped_other)
 
 pub shed_all : (views : List View) (old new : List ReadyValue) (index : List (Place × ℕ)) (i : ℕ) →
     i ≤ 0 → AreShed views old new i → IsIndexed new index → IsShed views old new
-shed_all views old new index i least shed is = record {
-  none = shed.none;
-  kept = shed.kept;
-  gone = λ q r e goes. elim (shed.either q r e) [
-    | inl there ↦ absurd (true≢false (sym (stays_there q r there) ∙ goes))
-    | inr none ↦ none
-  ];
-}
+shed_all views old new index i least shed is = grind (arith, nat_tests, true≢false, stays_there)
   where
     stays_there : (q : Place) (r : ReadyValue) → find place_cmp q (placed new) ≡ Some r →
         is_kept views r ≡ true
@@ -300,19 +246,12 @@ taken_away columns removed index gone new i d e is lt same takes moved none =
     (find place_cmp q index)) here in
     let len : length removed ≡ length columns - 1 = ap length same_d ∙ length-swapped columns i d lt
     in
-    let to : IsRepointed columns index new i d = elim (cases_lt (i + 1) (length columns)) [
-      | inl before ↦
-          let last : get_or removed i d ≡ get_or columns (length columns - 1) d =
-          ap (λ (rs : List ReadyValue). get_or rs i d) same_d ∙
-          swapped_here columns i d d before in
-          repointed_more columns index gone new i d is before takes_d
-          (λ q. moved d q (omega (arith, len)) ∙
-          ap (λ (r : ReadyValue). cond (eq_by_cmp place_cmp q r.place)
-          (option_map (λ _. i) (find place_cmp q gone)) (find place_cmp q gone)) last)
-      | inr past ↦
-          let kept : new ≡ gone = none (omega (arith, len)) in
-          repointed_last columns index new i d past (λ q. ap (find place_cmp q) kept ∙ takes_d q)
-    ] in (
+    let to : IsRepointed columns index new i d = grind (
+      arith,
+      swapped_here columns i d d,
+      repointed_more columns index gone new i d is,
+      repointed_last columns index new i d,
+    ) in (
       removed_indexed columns removed index new i d is lt to same_d,
       record {
         is = same_d;
@@ -381,9 +320,11 @@ no_edit : (terrain : Terrain) (q : Place) (i : ℕ) (states : List ℕ) →
     length (changes terrain q states) ≡ 0 → changed_at terrain q i (Some states) ≡ None
 no_edit terrain q i states none = elim (nat_lt i cells) as (λ b. nat_lt i cells ≡ b →
     cond (b && is_changed terrain q states i) (Some (get_or states i 0)) None ≡ None) [
-      | true ↦ λ t. rw (none_passes (is_changed terrain q states) 0 cells i
-          (sym (length-changes terrain q states) ∙ none) (omega arith)
-          (omega (arith, ltb-true i cells t))) refl
+      | true ↦ grind (
+        arith,
+        none_passes (is_changed terrain q states) 0 cells i
+            (sym (length-changes terrain q states) ∙ none),
+      )
       | false ↦ λ t. refl
     ] refl
 

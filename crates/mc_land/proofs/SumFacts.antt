@@ -1,10 +1,9 @@
 -- Sums over a land that is kept: what its edits and its chests come to.
-use Rattle.std.proofs.Common.{◌≡◌, ℕ, zero, suc, ◌+◌, ◌<◌, nat_lt, eqb, not, Bool, true, false}
-use Rattle.std.proofs.Common.{cond, ◌&&◌, List, [], ◌∷◌, ◌++◌, map, length, get_or, Option, Some}
+use Rattle.std.proofs.Common.{◌≡◌, ℕ, zero, suc, ◌+◌, ◌<◌, Bool, true, false}
+use Rattle.std.proofs.Common.{◌&&◌, List, [], ◌∷◌, ◌++◌, map, length, get_or, Option, Some}
 use Rattle.std.proofs.Common.{None, IsSome, refl, sym, ap, ◌∙◌, arith}
-use Rattle.std.proofs.lemmas.Bool.{true≢false, ltb-true, eq-eqb}
 use Rattle.std.specs.declared.cmp.Ordering.TheVariants.{Less}
-use Rattle.std.specs.List.{filter, range_with_len, sum_by, AllByRecursion}
+use Rattle.std.specs.List.{range_with_len, sum_by, AllByRecursion}
 use Rattle.std.specs.List.Sorted.{IsStrictlySortedBy}
 use Rattle.std.specs.Prelude.{T}
 use Rattle.std.specs.Option.{is_some, option_or}
@@ -51,14 +50,8 @@ once_front : (c : Place) (test : ℕ → Bool) (state : ℕ → ℕ) (a n : ℕ)
     ((i : ℕ) → find key_cmp (c, i) ys ≡ None) → IsOnce ys →
     IsOnce (listed c test state (range_with_len a n) ++ ys)
 once_front c test state a zero ys none once = once
-once_front c test state a (suc n) ys none once = grind (
-  arith,
-  nat_tests,
-  once_front c test state (a + 1) n ys none once,
-  find_append,
-  nothing_or,
-  found_none,
-)
+once_front c test state a (suc n) ys none once =
+    grind (arith, once_front c test state (a + 1) n ys none once, find_append, found_none)
 
 once_all : (terrain : Terrain) (columns : List (Place × List ℕ)) → IsApart columns →
     IsOnce (all_changes terrain columns)
@@ -116,21 +109,7 @@ edit_is terrain columns chests key state kept e = of (find place_cmp key.0 (pres
 
     of : (o : Option (List ℕ)) → changed_at terrain key.0 key.1 o ≡ Some state → (key.1 < cells) ×
         (state ≡ terrain_at terrain key → ⊥)
-    of None h = absurd cc
-    of (Some states) h =
-        by (nat_lt key.1 cells) refl (eqb (get_or states key.1 0) (terrain_at terrain key)) refl h
-      where
-        by : (a : Bool) → nat_lt key.1 cells ≡ a → (b : Bool) →
-            eqb (get_or states key.1 0) (terrain_at terrain key) ≡ b →
-            cond (a && not b) (Some (get_or states key.1 0)) None ≡ Some state → (key.1 < cells) ×
-            (state ≡ terrain_at terrain key → ⊥)
-        by false ta b tb h = absurd cc
-        by true ta true tb h = absurd cc
-        by true ta false tb h = (
-          ltb-true key.1 cells ta,
-          λ same. true≢false (sym (eq-eqb (get_or states key.1 0) (terrain_at terrain key)
-              (some_is (get_or states key.1 0) state h ∙ same)) ∙ tb),
-        )
+    of o h = grind (arith, nat_tests)
 
 pub edit_inside : (terrain : Terrain) (columns : Columns) (chests : Chests) (key : Key) →
     IsKeptLand terrain columns chests →

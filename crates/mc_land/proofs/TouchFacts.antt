@@ -1,10 +1,9 @@
 -- Where a cell stands among the touched ones.
-use Rattle.std.proofs.Common.{◌≡◌, ℕ, zero, suc, ◌+◌, ◌-◌, ◌<◌, ◌≤◌, nat_lt, Bool, true, false, not}
+use Rattle.std.proofs.Common.{◌≡◌, ℕ, zero, suc, ◌<◌, ◌≤◌, nat_lt, Bool, true, false, not}
 use Rattle.std.proofs.Common.{eqb, List, [], ◌∷◌, ◌++◌, length, get_or, refl, sym, subst, ap, ◌∙◌}
-use Rattle.std.proofs.Common.{arith, inl, inr}
+use Rattle.std.proofs.Common.{arith}
 use Rattle.std.proofs.lemmas.Bool.Decides.{nat_tests}
-use Rattle.std.proofs.lemmas.Bool.{cases_eq, cases_lt, lt-ltb, le-ltb, ltb-true, eq-eqb, ne_eqb}
-use Rattle.std.proofs.lemmas.Bool.{true≢false}
+use Rattle.std.proofs.lemmas.Bool.{lt-ltb, ltb-true, eq-eqb, ne_eqb}
 use Rattle.std.proofs.lemmas.Grind.{common_steps}
 use Rattle.std.proofs.lemmas.List.{length-append, get_or_append_left, get_or-append_right}
 use Rattle.std.specs.List.Sorted.{IsPartitionPoint, IsPartitionedBy}
@@ -27,17 +26,8 @@ upper high known cell i d above lt = grind (arith, nat_tests)
 pub low_at : (touched low high : List Touched) (known : Bool) (cell : Touched) (i : ℕ) (d : Touched)
     → IsAround touched low high known cell → i < length touched → is_low cell (get_or touched i d) ≡
     nat_lt i (length low)
-low_at touched low high known cell i d around lt = grind (
-  arith,
-  nat_tests,
-  cases_lt,
-  get_or_append_left,
-  lt-ltb,
-  length-append,
-  get_or-append_right,
-  upper,
-  le-ltb,
-)
+low_at touched low high known cell i d around lt =
+    grind (arith, get_or_append_left, length-append, get_or-append_right)
 
 -- so those with a lower index stand first
 pub around_sorted : (touched low high : List Touched) (known : Bool) (cell : Touched) →
@@ -55,15 +45,9 @@ pub rank_low : (touched low high : List Touched) (known : Bool) (cell : Touched)
     touched r → r ≡ length low
 rank_low touched low high known cell r around le point = grind (
   arith,
-  nat_tests,
   length-append low (one_if known cell ++ high),
-  cases_lt r (length low),
   low_at touched low high known cell r cell around,
   low_at touched low high known cell (length low) cell around,
-  lt-ltb r (length low),
-  true≢false,
-  cases_eq r (length low),
-  le-ltb (length low) (length low),
 )
 
 is_at_append : (low rest : List Touched) (index : ℕ) → is_at (low ++ rest) (length low) index ≡

@@ -156,7 +156,8 @@ form_leads s m k e new seen =
         (ap (with_seen s m k) (taken_over new.spot e seen.x seen.y seen.z))
         (jump still turns)
     cases false true true a b =
-        let goes : looking new.spot.yaw new.spot.pitch (replica.onward dx dy dz e.spot) ≡ new.spot = grind (
+        let goes : looking new.spot.yaw new.spot.pitch (replica.onward dx dy dz e.spot) ≡ new.spot =
+        grind (
           arith,
           there,
         ) in

@@ -162,7 +162,8 @@ pub gone_steps : (k j : ℕ) (w : World) (cause : Cause) (came : List ℕ) (earl
     → Steps k (depart w j cause) came (earlier ++ [])
 gone_steps k j w cause came earlier sound kept = grind (
   arith,
-  changed_steps k j w (gone cause) (after_leaving (player_in j w.sessions) None w.things) came earlier,
+  changed_steps k j w (gone cause) (after_leaving (player_in j w.sessions) None w.things) came
+      earlier,
   leaving_fits (player_in j w.sessions) None w.things sound.things,
   hands,
 )

@@ -2,6 +2,7 @@
 use Rattle.std.proofs.Common.{◌≡◌, ◌≢◌, ◌+◌, ◌≤◌, ℕ, Bool, true, false, cond, not, List, []}
 use Rattle.std.proofs.Common.{◌∷◌, ◌++◌, map, Option, Some, None, refl, sym, subst, ap, ◌∙◌}
 use Rattle.std.proofs.Common.{arith, append_assoc, append-nil}
+use Rattle.std.proofs.lemmas.Bool.Decides.{nat_tests}
 use Rattle.std.specs.Prelude.{◌==◌, ◌&&◌, if◌then◌else◌}
 use Rattle.std.specs.List.{filter, flat_map}
 use Rattle.std.proofs.lemmas.Bool.{eqb-true}
@@ -29,21 +30,7 @@ use Rattle.mc_server.proofs.Writing.{RiseFrom, rise_from}
 found_kept : (j k : ℕ) (ss : List Session) → j ≢ k →
     found j (filter (λ (s : Session). not (s.id == k && is_done s)) ss) ≡ found j ss
 found_kept j k [] ne = refl
-found_kept j k (s ∷ ss) ne =
-    let rest : List Session = filter (λ (s : Session). not (s.id == k && is_done s)) ss in
-    elim (s.id == j) as (λ b. (s.id == j) ≡ b →
-    found j (cond (not (s.id == k && is_done s)) (s ∷ rest) rest) ≡ cond b (Some s) (found j ss)) [
-      | true ↦ λ e.
-          let off : (s.id == k) ≡ false = other_number s.id k
-          (λ same. ne (sym (eqb-true s.id j e) ∙ same)) in
-          ap (λ (b : Bool). found j (cond (not (b && is_done s)) (s ∷ rest) rest)) off
-          ∙ ap (λ (b : Bool). cond b (Some s) (found j rest)) e
-      | false ↦ λ e. elim (not (s.id == k && is_done s)) as
-          (λ b. found j (cond b (s ∷ rest) rest) ≡ found j ss) [
-            | true ↦ ap (λ (b : Bool). cond b (Some s) (found j rest)) e ∙ found_kept j k ss ne
-            | false ↦ found_kept j k ss ne
-          ]
-    ] refl
+found_kept j k (s ∷ ss) ne = grind (arith, nat_tests, found_kept j k ss ne)
 
 forgot_other : (j k : ℕ) (w : World) → j ≢ k →
     found j (step w (forgot k)).world.sessions ≡ found j w.sessions
@@ -64,12 +51,7 @@ closing_is k w b is = ap (λ (t : Bool). if t then Closed k ∷ [] else []) is
 
 pub closed_none : (k : ℕ) (old : Option LobbyTold) (w : World) (server : ServerValue) →
     is_done_in k w ≡ false → Stands server w → HasClosed (closing_of w k) old old w server 0
-closed_none k old w server none stands =
-    let P : List LogEntry → Type 0 = λ log. HasClosed log old old w server 0 in
-    subst P (sym (closing_is k w false none)) (record {
-      adds = record { told = Logs-refl old; stands = stands };
-      counted = refl;
-    })
+closed_none k old w server none stands = grind (arith, nat_tests, closing_is, Logs-refl)
 
 -- ---- all of them
 
@@ -86,9 +68,7 @@ each_found all (s ∷ ss) keeps apart = (
   keeps s.id s (ap (λ (b : Bool). cond b (Some s) (found s.id ss)) (same_number s.id)),
   each_found all ss (λ j t there. keeps j t (elim (s.id == j) as
       (λ b. (s.id == j) ≡ b → cond b (Some s) (found j ss) ≡ Some t) [
-        | true ↦ λ e.
-            let P : ℕ → Type 0 = λ n. found n ss ≡ None in
-            absurd (some_none t (found j ss) there (subst P (eqb-true s.id j e) apart.0))
+        | true ↦ grind (arith, nat_tests)
         | false ↦ λ e. there
       ] refl)) apart.1,
 )
@@ -97,15 +77,7 @@ closings_are : (w : World) (ss : List Session) → EachFound w.sessions ss →
     flat_map (closing_of w) (map (λ (s : Session). s.id) ss) ≡
     map Closed (map (λ (s : Session). s.id) (filter is_done ss))
 closings_are w [] each = refl
-closings_are w (s ∷ ss) each =
-    let rest : List LogEntry = flat_map (closing_of w) (map (λ (s : Session). s.id) ss) in
-    let left_ : List Session = filter is_done ss in
-    ap (λ (o : Option Session). (if is_over o then Closed s.id ∷ [] else []) ++ rest) each.0
-    ∙ elim (is_done s) as (λ b. (if b then Closed s.id ∷ [] else []) ++ rest ≡
-    map Closed (map (λ (s : Session). s.id) (cond b (s ∷ left_) left_))) [
-      | true ↦ ap (λ (xs : List LogEntry). Closed s.id ∷ xs) (closings_are w ss each.1)
-      | false ↦ closings_are w ss each.1
-    ]
+closings_are w (s ∷ ss) each = grind (arith, nat_tests, closings_are w ss each.1)
 
 -- some are closed, and the others are left
 pub record IsClosing (left_ : List ℕ) (old new : Option LobbyTold) (w : World)
@@ -120,18 +92,13 @@ pub record IsClosing (left_ : List ℕ) (old new : Option LobbyTold) (w : World)
 
 pub closing_start : (ks : List ℕ) (old : Option LobbyTold) (w : World) (server : ServerValue) →
     Stands server w → ks ≡ numbers_in w → IsClosing ks old old w server 0
-closing_start ks old w server stands named =
-    let P : List ℕ → Type 0 = λ js. IsClosing js old old w server 0 in
-    subst P (sym named) (record {
-      log = [];
-      adds = record { told = Logs-refl old; stands = stands };
-      counted = refl;
-      next = 0;
-      rising = rise_from 0 (next_number w.last) w.sessions stands.orderly.rising;
-      same = λ j le. refl;
-      all = closings_are w w.sessions (each_found w.sessions w.sessions (λ j t there. there)
-          stands.orderly.apart);
-    })
+closing_start ks old w server stands named = grind (
+  arith,
+  Logs-refl old,
+  rise_from 0 (next_number w.last) w.sessions stands.orderly.rising,
+  closings_are w w.sessions,
+  each_found w.sessions w.sessions,
+)
 
 closing_next : (k : ℕ) (ks : List ℕ) (old mid new : Option LobbyTold) (w : World)
     (before after : ServerValue) (count one : ℕ) →
@@ -150,16 +117,11 @@ closing_next k ks old mid new w before after count one closes a =
     let second = h.counted in
     record {
       log = a.log ++ closing;
-      adds = record {
-        told = Logs-trans old mid new a.log closing a.adds.told h.adds.told;
-        stands = subst P (sym world) h.adds.stands;
-      };
+      adds = grind (arith, nat_tests, Logs-trans);
       counted = omega (arith, sum, first, second);
       next = k + 1;
       rising = a.rising.1;
-      same = λ j le. ap (λ (u : World). found j u.sessions) world
-          ∙ closing_other j k v (λ same. omega (arith, same, le))
-          ∙ a.same j (let low = a.rising.0 in omega (arith, le, low));
+      same = grind (arith, nat_tests, closing_other);
       all = append_assoc a.log closing (flat_map (closing_of w) ks)
           ∙ ap (λ (xs : List LogEntry). a.log ++ (xs ++ flat_map (closing_of w) ks)) own ∙ a.all;
     }
@@ -170,8 +132,7 @@ pub closing_step : (k : ℕ) (left_ ks : List ℕ) (old mid new : Option LobbyTo
     ((v : World) → Stands before v → HasClosed (closing_of v k) mid new v after one) →
     IsClosing ks old new w after (count + one)
 closing_step k left_ ks old mid new w before after count one first a closes =
-    let P : List ℕ → Type 0 = λ js. IsClosing js old mid w before count in
-    closing_next k ks old mid new w before after count one closes (subst P first a)
+    grind (arith, nat_tests, closing_next)
 
 pub closed_all : (left_ : List ℕ) (old new : Option LobbyTold) (w : World) (server : ServerValue)
     (count : ℕ) → left_ ≡ [] → IsClosing left_ old new w server count →

@@ -2,6 +2,7 @@
 use Rattle.std.proofs.Common.{◌≡◌, ◌≢◌, ◌+◌, ◌-◌, ◌^◌, ◌<◌, ◌≤◌, min, ℕ, Bool, true, false, ◌||◌}
 use Rattle.std.proofs.Common.{List, [], ◌∷◌, ◌++◌, length, Option, Result, Ok, Err, refl, sym}
 use Rattle.std.proofs.Common.{subst, ap, ◌∙◌, arith, append-nil, length-append}
+use Rattle.std.proofs.lemmas.Bool.Decides.{nat_tests}
 use Rattle.std.proofs.lemmas.List.Sums.{count_by-le-length}
 use Rattle.mc_wire.specs.declared.log.LogEntry.{LogEntry}
 use Rattle.mc_wire.specs.declared.log.LogEntry.TheVariants as entries
@@ -50,17 +51,7 @@ pub record IsDriving (old new : Option LobbyTold) (w : World) (server : ServerVa
 
 pub driving_start : (old : Option LobbyTold) (w : World) (server : ServerValue) →
     Stands server w → age_of server ≡ 0 → IsDriving old old w server 0 0 0
-driving_start old w server stands young = record {
-  turns = [];
-  told = Logs-refl old;
-  stands = stands;
-  are_turns = tt;
-  all = refl;
-  ticks = sym young;
-  joins_are = refl;
-  closed_are = refl;
-  few = omega arith;
-}
+driving_start old w server stands young = grind (arith, nat_tests, Logs-refl)
 
 pub one_at_most : (b : Bool) → one_if b ≤ 1
 one_at_most true = omega arith
@@ -70,10 +61,7 @@ one_at_most false = omega arith
 went_few : (w : World) (turns : List (List LogEntry)) → AreTurns w turns → w.sessions ≡ [] →
     Orderly w →
     ours_in w (log_of turns) + length (logged w (log_of turns)).sessions ≤ joins_in turns
-went_few w turns are empty orderly =
-    let few = few_log (log_of turns) w (turns_right turns w orderly are) in
-    let none : length w.sessions ≡ 0 = ap length empty in
-    omega (arith, few, none)
+went_few w turns are empty orderly = grind (arith, nat_tests, few_log, turns_right)
 
 -- the sum of those that went is exact: no more went than there were turns
 pub small_sum : (a b most : ℕ) → a + b ≤ most → most < 2 ^ 64 → min (a + b) (2 ^ 64 - 1) ≡ a + b
@@ -274,46 +262,24 @@ pub drove_listened : (port : ℕ) (budget : Budget) (old mid new : Option LobbyT
     ToldBecomes old mid (with_port port) →
     Drove (λ (told : LobbyTold). told) budget mid new w server result →
     Drove (with_port port) budget old new w server result
-drove_listened port budget old mid new w server result listened d = record {
-  turns = d.turns;
-  last = d.last;
-  told = ToldBecomes-trans old mid new (with_port port)
-      (with_entries (log_of d.turns ++ d.last)) listened d.told;
-  stands = d.stands;
-  age = d.age;
-  are_turns = d.are_turns;
-  ends = d.ends;
-}
+drove_listened port budget old mid new w server result listened d =
+    grind (arith, nat_tests, ToldBecomes-trans)
 
 pub told_port : (port : ℕ) (old new : Option LobbyTold) → ToldBecomes old new (with_port port) →
     ToldBecomes old new (λ told. with_entries [] (with_port port told))
-told_port port old new listened = ToldBecomes-same old new (with_port port) _
-    (λ told. sym (with_entries-nil (with_port port told))) listened
+told_port port old new listened = grind (arith, nat_tests, ToldBecomes-same, with_entries-nil)
 
 pub drove_deaf : (budget : Budget) (old new : Option LobbyTold) (w : World)
     (server : ServerValue) → Stands server w → age_of server ≡ 0 →
     ToldBecomes old new (with_port budget.port) →
     Drove (with_port budget.port) budget old new w server (Err Listen)
-drove_deaf budget old new w server stands young listened = record {
-  turns = [];
-  last = [];
-  told = told_port budget.port old new listened;
-  stands = stands;
-  age = young;
-  are_turns = tt;
-  ends = (refl, refl);
-}
+drove_deaf budget old new w server stands young listened = grind (arith, nat_tests, told_port)
 
 -- what stands behind the turns makes nothing happen
 nothing_last : (budget : Budget) (w : World) (turns : List (List LogEntry)) (last : List LogEntry)
     (result : Result Ended DriveFault) → result ≢ Err NoMemory → Ends budget w turns last result →
     events_in last ≡ []
-nothing_last budget w turns last (Ok (ends.Ticks t)) ne end = ap events_in end.2
-nothing_last budget w turns last (Ok (ends.Closed t)) ne end = ap events_in end.1
-nothing_last budget w turns last (Err Listen) ne end = ap events_in end.1
-nothing_last budget w turns last (Err Next) ne end = ap events_in end.1
-nothing_last budget w turns last (Err (Events n)) ne end = ap events_in end.3
-nothing_last budget w turns last (Err NoMemory) ne end = absurd (ne refl)
+nothing_last budget w turns last result ne end = grind (arith, nat_tests)
 
 pub events_all : (call : LobbyTold → LobbyTold) (budget : Budget) (old new : Option LobbyTold)
     (w : World) (server : ServerValue) (result : Result Ended DriveFault) →

@@ -2,6 +2,7 @@
 -- there, are no more than there were and joined.
 use Rattle.std.proofs.Common.{◌≡◌, ◌+◌, ◌≤◌, ℕ, suc, Bool, true, false, cond, not, List, [], ◌∷◌}
 use Rattle.std.proofs.Common.{length, Some, ap, ◌∙◌, arith}
+use Rattle.std.proofs.lemmas.Bool.Decides.{nat_tests}
 use Rattle.std.specs.Prelude.{◌==◌, ◌&&◌}
 use Rattle.std.specs.List.{count_by, filter}
 use Rattle.std.proofs.lemmas.List.Sums.{count_by-le-length, length-filter, sum_by-cons}
@@ -19,25 +20,13 @@ use Rattle.mc_server.specs.Drives.{is_join, ours_at, ours_in}
 use Rattle.mc_events.specs.Served.{one_if}
 
 fewer_filtered : (p : Session → Bool) (ss : List Session) → length (filter p ss) ≤ length ss
-fewer_filtered p ss = let same = length-filter p ss in let few = count_by-le-length p ss in
-    omega (arith, same, few)
+fewer_filtered p ss = grind (arith, nat_tests, length-filter, count_by-le-length)
 
 -- who is closed and owed nothing goes
 fewer_one : (k : ℕ) (ss : List Session) → is_over (found k ss) ≡ true →
     length (filter (λ (s : Session). not (s.id == k && is_done s)) ss) + 1 ≤ length ss
 fewer_one k [] over = absurd cc
-fewer_one k (s ∷ ss) over =
-    let p : Session → Bool = λ t. not (t.id == k && is_done t) in
-    elim (s.id == k) as (λ b. is_over (cond b (Some s) (found k ss)) ≡ true →
-    length (cond (not (b && is_done s)) (s ∷ filter p ss) (filter p ss)) + 1 ≤ suc (length ss)) [
-      | true ↦ λ done.
-          let goes : length (cond (not (is_done s)) (s ∷ filter p ss) (filter p ss)) ≡
-          length (filter p ss) =
-          ap (λ (b : Bool). length (cond (not b) (s ∷ filter p ss) (filter p ss))) done in
-          let few = fewer_filtered p ss in
-          omega (arith, goes, few)
-      | false ↦ λ later. let few = fewer_one k ss later in omega (arith, few)
-    ] over
+fewer_one k (s ∷ ss) over = grind (arith, nat_tests, fewer_one k ss, fewer_filtered)
 
 forgot_fewer : (k : ℕ) (w : World) → is_over (found k w.sessions) ≡ true →
     length (step w (forgot k)).world.sessions + 1 ≤ length w.sessions

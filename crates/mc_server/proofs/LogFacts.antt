@@ -2,6 +2,7 @@
 -- closings leave alone.
 use Rattle.std.proofs.Common.{◌≡◌, ◌≢◌, ◌+◌, ℕ, Bool, true, false, cond, List, [], ◌∷◌, ◌++◌, map}
 use Rattle.std.proofs.Common.{Some, None, refl, subst, ap, ◌∙◌, arith, append-nil}
+use Rattle.std.proofs.lemmas.Bool.Decides.{nat_tests}
 use Rattle.std.specs.Prelude.{◌==◌, drop, if◌then◌else◌}
 use Rattle.std.specs.List.{count_by}
 use Rattle.std.proofs.lemmas.Grind.{flat_map-append}
@@ -32,31 +33,19 @@ log_of_more turns turn = flat_map-append (λ (t : List LogEntry). t) turns (turn
 pub ours_append : (w : World) (xs ys : List LogEntry) →
     ours_in w (xs ++ ys) ≡ ours_in w xs + ours_in (logged w xs) ys
 ours_append w [] ys = omega arith
-ours_append w (x ∷ xs) ys =
-    let later = ours_append (logged w (x ∷ [])) xs ys in
-    let same : ours_in (logged w (x ∷ xs)) ys ≡ ours_in (logged (logged w (x ∷ [])) xs) ys =
-    ap (λ (v : World). ours_in v ys) (logged_more w (x ∷ []) xs) in
-    omega (arith, later, same)
+ours_append w (x ∷ xs) ys = grind (arith, nat_tests, ours_append (logged w (x ∷ [])) xs ys)
 
 pub writes_append : (w : World) (xs ys : List LogEntry) → AreWrites w xs →
     AreWrites (logged w xs) ys → AreWrites w (xs ++ ys)
 writes_append w [] ys first second = second
 writes_append w (x ∷ xs) ys first second =
-    let P : World → Type 0 = λ v. AreWrites v ys in (
-      first.0,
-      writes_append (logged w (x ∷ [])) xs ys first.1
-          (subst P (logged_more w (x ∷ []) xs) second),
-    )
+    grind (arith, nat_tests, writes_append (logged w (x ∷ [])) xs ys first.1)
 
 pub turns_more : (w : World) (turns : List (List LogEntry)) (turn : List LogEntry) →
     AreTurns w turns → IsTurn (logged w (log_of turns)) turn → AreTurns w (turns ++ turn ∷ [])
 turns_more w [] turn all one = (one, tt)
 turns_more w (first ∷ turns) turn all one =
-    let P : World → Type 0 = λ v. IsTurn v turn in (
-      all.0,
-      turns_more (logged w first) turns turn all.1
-          (subst P (logged_more w first (log_of turns)) one),
-    )
+    grind (arith, nat_tests, turns_more (logged w first) turns turn all.1, logged_more)
 
 -- ---- counting
 
@@ -69,10 +58,7 @@ pub record IsNoWrite (test : LogEntry → Bool) : Type 0 where
 
 count_not : (test : LogEntry → Bool) (x : LogEntry) (xs : List LogEntry) → test x ≡ false →
     count_by test (x ∷ xs) ≡ count_by test xs
-count_not test x xs none =
-    let one : ◌≡◌ {A = ℕ} (cond (test x) 1 0) 0 = ap (λ (b : Bool). cond b 1 0) none in
-    let all = sum_by-cons (λ (y : LogEntry). cond (test y) 1 0) x xs in
-    omega (arith, one, all)
+count_not test x xs none = grind (arith, nat_tests)
 
 pub writes_count : (test : LogEntry → Bool) → IsNoWrite test → (w : World) (xs : List LogEntry) →
     AreWrites w xs → count_by test xs ≡ 0
@@ -88,8 +74,7 @@ writes_count test none w (other ∷ xs) are = absurd are.0
 pub closings_count : (test : LogEntry → Bool) → IsNoWrite test → (ks : List ℕ) →
     count_by test (map Closed ks) ≡ 0
 closings_count test none [] = refl
-closings_count test none (k ∷ ks) = count_not test (Closed k) (map Closed ks) (none.closed k)
-    ∙ closings_count test none ks
+closings_count test none (k ∷ ks) = grind (arith, nat_tests, closings_count test none ks)
 
 -- of a turn, what is neither a write nor a closing is what happened
 pub turn_count : (test : LogEntry → Bool) → IsNoWrite test → (w : World) (entry : LogEntry)
@@ -105,8 +90,7 @@ turn_count test none w entry writes ks are =
 
 pub ticks_more : (turns : List (List LogEntry)) (turn : List LogEntry) (test : LogEntry → Bool) →
     count_by test (log_of (turns ++ turn ∷ [])) ≡ count_by test (log_of turns) + count_by test turn
-ticks_more turns turn test = ap (count_by test) (log_of_more turns turn)
-    ∙ sum_by-append (λ (y : LogEntry). cond (test y) 1 0) (log_of turns) turn
+ticks_more turns turn test = grind (arith, nat_tests, log_of_more, sum_by-append)
 
 -- no write closes anything
 pub ours_writes : (w : World) (xs : List LogEntry) → AreWrites w xs → ours_in w xs ≡ 0
@@ -121,11 +105,7 @@ ours_writes w (other ∷ xs) are = absurd are.0
 
 -- nor does anything that happens
 pub ours_happens : (w : World) (entry : LogEntry) → Happens entry → ours_at w entry ≡ 0
-ours_happens w (Joined k) happens = refl
-ours_happens w (Came k bytes) happens = refl
-ours_happens w (Left k) happens = refl
-ours_happens w Ticked happens = refl
-ours_happens w other happens = absurd happens
+ours_happens w entry happens = grind (arith, nat_tests)
 
 -- ---- what a write leaves as it was
 
@@ -169,9 +149,7 @@ broke_keeps k w =
 
 -- who is gone is owed nothing
 gone_owed : (cause : Cause) (s : Session) → (gone cause s).owed ≡ []
-gone_owed cause s = elim (is_closed s.stage) as (λ b.
-    (if b then record s { owed = [] } else record (mark_closed s cause) { owed = [] }).owed ≡ [])
-    [ true ↦ refl | false ↦ refl ]
+gone_owed cause s = grind (arith, nat_tests)
 
 pub broke_owes : (k : ℕ) (w : World) → owed_in k (step w (broke k)).world ≡ []
 unfolding step

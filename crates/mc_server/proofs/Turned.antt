@@ -1,6 +1,7 @@
 -- A turn: what happened, the writes behind it, and the closings behind those.
 use Rattle.std.proofs.Common.{◌≡◌, ◌⊎◌, inl, inr, ℕ, Bool, true, false, cond, List, [], ◌∷◌}
 use Rattle.std.proofs.Common.{◌++◌, map, Option, refl, sym, subst, ap, ◌∙◌, arith}
+use Rattle.std.proofs.lemmas.Bool.Decides.{nat_tests}
 use Rattle.std.specs.List.{Contains}
 use Rattle.mc_wire.specs.declared.log.LogEntry.{LogEntry}
 use Rattle.mc_wire.specs.declared.log.LogEntry.TheVariants.{Stalled, Closed}
@@ -45,9 +46,7 @@ join_no_write = record {
 pub after_input : (entry : LogEntry) (input : Input) (w : World) (server : ServerValue) →
     IsInputOf entry input → Stands server (step w (event_of input)).world →
     Stands server (logged w (entry ∷ []))
-after_input entry input w server is stands =
-    let P : World → Type 0 = λ v. Stands server v in
-    subst P (sym (ap (λ es. history w (es ++ [])) is.event)) stands
+after_input entry input w server is stands = grind (arith, nat_tests)
 
 pub turned : (entry : LogEntry) (input : Input) (old mid new : Option LobbyTold) (w : World)
     (middle after : ServerValue) (count : ℕ) → IsInputOf entry input →
@@ -55,40 +54,12 @@ pub turned : (entry : LogEntry) (input : Input) (old mid new : Option LobbyTold)
     HasClosed (map Closed (done_in (logged (logged w (entry ∷ [])) sent.writes))) mid new
     (logged (logged w (entry ∷ [])) sent.writes) after count →
     HasTurned entry old new w after count
-turned entry input old mid new w middle after count is sent closed =
-    let v : World = logged w (entry ∷ []) in
-    let u : World = logged v sent.writes in
-    let ks : List ℕ = done_in u in
-    let closings : List LogEntry = map Closed ks in
-    let here : logged w (entry ∷ sent.writes) ≡ u = logged_more w (entry ∷ []) sent.writes in
-    let there : logged w (entry ∷ (sent.writes ++ closings)) ≡ logged u closings =
-    logged_more w (entry ∷ []) (sent.writes ++ closings) ∙ logged_more v sent.writes closings in
-    let P : World → Type 0 = λ x. Stands after x in
-    let first = ours_happens w entry is.happens in
-    let sum = ours_append v sent.writes closings in
-    let none = ours_writes v sent.writes sent.are_writes in
-    let counted = closed.counted in
-    record {
-      rest = sent.writes ++ closings;
-      told = Logs-trans old mid new sent.writes closings sent.adds.told closed.adds.told;
-      stands = subst P (sym there) closed.adds.stands;
-      is_turn = record {
-        event = entry;
-        writes = sent.writes;
-        parts = ap (λ (x : World). entry ∷ (sent.writes ++ map Closed (done_in x))) (sym here);
-        happens = is.happens;
-        are_writes = sent.are_writes;
-        rises = sent.rises;
-        served = λ k. elim (sent.served k) as
-            (λ x. (owed_in k (logged w (entry ∷ sent.writes)) ≡ []) ⊎
-            Contains sent.writes (Stalled k)) [
-              | inl empty ↦ inl (ap (owed_in k) here ∙ empty)
-              | inr stalled ↦ inr stalled
-            ];
-      };
-      ticks = turn_count is_tick tick_no_write v entry sent.writes ks sent.are_writes
-          ∙ one_is (is_tick entry);
-      joins = turn_count is_join join_no_write v entry sent.writes ks sent.are_writes
-          ∙ one_is (is_join entry);
-      counted = omega (arith, first, sum, none, counted);
-    }
+turned entry input old mid new w middle after count is sent closed = grind (
+  arith,
+  logged_more,
+  ours_append,
+  ours_writes,
+  Logs-trans old mid new sent.writes,
+  turn_count is_tick tick_no_write,
+  turn_count is_join join_no_write,
+)

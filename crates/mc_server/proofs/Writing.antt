@@ -2,6 +2,7 @@
 use Rattle.std.proofs.Common.{◌≡◌, ◌≢◌, ◌⊎◌, inl, inr, ◌+◌, ◌<◌, ◌≤◌, ℕ, zero, suc, List, [], ◌∷◌}
 use Rattle.std.proofs.Common.{◌++◌, map, length, take, Option, true, false, cond, refl, sym, subst}
 use Rattle.std.proofs.Common.{ap, ◌∙◌, arith, append_assoc, append-nil, length-take, take-take}
+use Rattle.std.proofs.lemmas.Bool.Decides.{nat_tests}
 use Rattle.std.specs.Prelude.{◌==◌, ◌↔◌, Some}
 use Rattle.std.specs.List.{Contains}
 use Rattle.std.proofs.lemmas.Bool.{cases_eq, eqb-true}
@@ -49,10 +50,8 @@ puts_more k bytes (other ∷ xs) are = absurd are
 puts_lead : (k next : ℕ) (xs last : List LogEntry) → ArePuts k xs → Leads k next last →
     Leads k next (xs ++ last)
 puts_lead k next [] last are lead = lead
-puts_lead k next (Put j bytes ∷ xs) last are lead = λ later r.
-    let same = are.0 in
-    let P : ℕ → Type 0 = λ i. Rises i ((xs ++ last) ++ later) in
-    (omega (arith, same), subst P (sym same) (puts_lead k next xs last are.1 lead later r))
+puts_lead k next (Put j bytes ∷ xs) last are lead =
+    grind (arith, nat_tests, puts_lead k next xs last are.1 lead)
 puts_lead k next (other ∷ xs) last are lead = absurd are
 
 -- ---- one connection
@@ -67,13 +66,7 @@ pub record IsSending (k : ℕ) (old new : Option LobbyTold) (w : World) (server 
 
 pub sending_start : (k : ℕ) (old : Option LobbyTold) (w : World) (server : ServerValue) →
     Stands server w → IsSending k old old w server
-sending_start k old w server stands = record {
-  puts = [];
-  adds = record { told = Logs-refl old; stands = stands };
-  are_writes = tt;
-  only = tt;
-  keeps = keeps_same k w;
-}
+sending_start k old w server stands = grind (arith, nat_tests, Logs-refl, keeps_same)
 
 -- the first bytes of a front are those that are owed
 piece_first : (n count : ℕ) (front owed : List ℕ) → count ≤ length front →
@@ -115,10 +108,7 @@ sending_next k n count front old mid new w before after few most first within to
     let Q : World → Type 0 = λ u. Keeps k w u in
     record {
       puts = s.puts ++ entry ∷ [];
-      adds = record {
-        told = Logs-trans old mid new s.puts (entry ∷ []) s.adds.told told;
-        stands = subst P (sym world) (follows v s.adds.stands);
-      };
+      adds = grind (arith, nat_tests, Logs-trans);
       are_writes = writes_append w s.puts (entry ∷ []) s.are_writes
           ((omega (arith, long, some), omega (arith, long, less, cut, most), owed), tt);
       only = puts_more k bytes s.puts s.only;
@@ -192,9 +182,7 @@ pub front_none : (front owed : List ℕ) → length front ≡ 0 → (front ≡ [
 front_none front owed none same = same.0 (no_bytes front none)
 
 pub front_some : (front owed : List ℕ) → 0 < length front → (front ≡ []) ↔ (owed ≡ []) → owed ≢ []
-front_some front owed some same none =
-    let zero_ : length front ≡ 0 = ap length (same.1 none) in
-    omega (arith, some, zero_)
+front_some front owed some same none = grind (arith, nat_tests)
 
 -- ---- all of them
 
@@ -236,19 +224,12 @@ pub record IsSendingAll (left_ : List ℕ) (old new : Option LobbyTold) (w : Wor
 
 pub sending_all_start : (ks : List ℕ) (old : Option LobbyTold) (w : World) (server : ServerValue) →
     Stands server w → ks ≡ numbers_in w → IsSendingAll ks old old w server
-sending_all_start ks old w server stands named =
-    let P : List ℕ → Type 0 = λ js. IsSendingAll js old old w server in
-    subst P (sym named) (record {
-      writes = [];
-      adds = record { told = Logs-refl old; stands = stands };
-      are_writes = tt;
-      next = 0;
-      leads = λ later r. r;
-      rising = rise_from 0 (next_number w.last) w.sessions stands.orderly.rising;
-      served = λ k. elim (owed_or_there k w.sessions) as (λ x. IsServed w [] k ⊎
-          Contains (numbers_in w) k) [ inl none ↦ inl (inl none) | inr there ↦ inr there ];
-      numbers = refl;
-    })
+sending_all_start ks old w server stands named = grind (
+  arith,
+  Logs-refl old,
+  rise_from 0 (next_number w.last) w.sessions stands.orderly.rising,
+  owed_or_there,
+)
 
 -- the first of those that are left is the one, or another is left
 first_or_later : (k j : ℕ) (ks : List ℕ) → Contains (k ∷ ks) j → (j ≡ k) ⊎ Contains ks j
@@ -329,9 +310,6 @@ sent_to_all left_ old new w server end a =
       adds = a.adds;
       are_writes = a.are_writes;
       rises = subst P (append-nil a.writes) (a.leads [] tt);
-      served = λ k. elim (a.served k) as (λ x. IsServed w a.writes k) [
-        | inl served ↦ served
-        | inr there ↦ absurd (none_there k (subst (λ (js : List ℕ). Contains js k) end there))
-      ];
+      served = grind (arith, nat_tests);
       numbers = a.numbers;
     }

@@ -1,7 +1,7 @@
 -- What a search among entries of rising numbers finds, and what an edit there makes of their pairs.
 use Rattle.std.proofs.Common.{◌≡◌, ℕ, zero, suc, ◌<◌, ◌≤◌, Bool, true, false, ◌&&◌, T, List, []}
-use Rattle.std.proofs.Common.{◌∷◌, length, get_or, Result, Ok, Err, IfOk, IfErr, refl, sym, subst}
-use Rattle.std.proofs.Common.{ap, ◌∙◌, arith, inl, inr, ◌⊎◌}
+use Rattle.std.proofs.Common.{◌∷◌, length, get_or, Result, IfOk, IfErr}
+use Rattle.std.proofs.Common.{ap, ◌∙◌, arith, ◌⊎◌}
 use Rattle.std.proofs.lemmas.Bool.Decides.{nat_tests}
 use Rattle.std.specs.List.Sorted.{IsSearchInRange, IsBinarySearchResult, IsNonDecreasingBy}
 use Rattle.std.specs.declared.cmp.Ordering.{Ordering}
@@ -54,9 +54,6 @@ rising_at (e ∷ es) r zero (suc j) d lt within =
     below_at e.eid es (first _ _ r) j d (omega (arith, within))
 rising_at (e ∷ es) r (suc i) (suc j) d lt within =
     rising_at es (second _ _ r) i j d (omega (arith, lt)) (omega (arith, within))
-
-at_most_two : (r : Ordering) → ordering_index r ≤ 2
-at_most_two r = grind (arith, nat_tests)
 
 index_rises : (a b eid : ℤ) →
     int_cmp a b ≡ Less → ordering_index (int_cmp a eid) ≤ ordering_index (int_cmp b eid)

@@ -1,33 +1,15 @@
 -- Which form a change has, by the differences that were found.
-use Rattle.std.proofs.Common.{◌≡◌, Bool, true, false, cond, not, ◌&&◌, Some, None, refl, sym, ap}
-use Rattle.std.proofs.Common.{◌∙◌, arith}
+use Rattle.std.proofs.Common.{◌≡◌, Bool, true, false, cond, not, ◌&&◌, Some, None, refl, ap}
+use Rattle.std.proofs.Common.{arith}
 use Rattle.std.proofs.lemmas.Bool.Decides.{nat_tests}
 use Rattle.std.specs.Option.{unwrap_or}
 use lib.IntN.{ℤ}
 use Rattle.mc_view.specs.declared.forms.Form.{Form}
-use Rattle.mc_view.specs.declared.forms.Form.TheVariants.{Still, Step, StepTurn, Turn, Jump}
-use Rattle.mc_view.specs.Forms.{is_byte, are_bytes, are_zero, form_by}
+use Rattle.mc_view.specs.declared.forms.Form.TheVariants.{Jump}
+use Rattle.mc_view.specs.Forms.{are_bytes, form_by}
 use Rattle.mc_view.specs.Steps.{byte_between, bytes_between}
 
-all_true : (s t u : Bool) → s ≡ true → t ≡ true → u ≡ true → (s && t && u) ≡ true
-all_true s t u e f g = ap (λ k. k && t && u) e ∙ ap (λ k. k && u) f ∙ g
-
-second_false : (s t u : Bool) → t ≡ false → (s && t && u) ≡ false
-second_false true t u e = ap (λ k. k && u) e
-second_false false t u e = refl
-
-third_false : (s t u : Bool) → u ≡ false → (s && t && u) ≡ false
-third_false s t u e = grind (arith, nat_tests)
-
 -- ---- what is there sometimes
-
-was_true : {A : Type 0} (t : Bool) (a x : A) → cond t (Some a) None ≡ Some x → t ≡ true
-was_true true a x e = refl
-was_true false a x e = absurd cc
-
-was_false : {A : Type 0} (t : Bool) (a : A) → cond t (Some a) None ≡ None → t ≡ false
-was_false true a e = absurd cc
-was_false false a e = refl
 
 was_same : {A : Type 0} (t : Bool) (a x : A) → cond t (Some a) None ≡ Some x → a ≡ x
 was_same true a x e = ap (λ o. unwrap_or o a) e

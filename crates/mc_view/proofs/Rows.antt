@@ -1,17 +1,11 @@
 -- A square gone through row by row.
-use Rattle.std.proofs.Common.{◌≡◌, ℕ, suc, ◌+◌, ◌-◌, ◌*◌, ◌<◌, List, [], ◌∷◌, ◌++◌, map, sym, ap}
+use Rattle.std.proofs.Common.{◌≡◌, ℕ, suc, ◌+◌, ◌-◌, ◌*◌, ◌<◌, [], ◌∷◌, map, sym, ap}
 use Rattle.std.proofs.Common.{◌∙◌, arith}
 use Rattle.std.proofs.lemmas.Bool.Decides.{nat_tests}
 use Rattle.std.specs.List.{flat_map}
 use lib.IntN.{ℤ, pos, ◌+ℤ◌, ◌-ℤ◌}
-use Rattle.mc_column.specs.Places.{Place}
 use Rattle.mc_view.specs.Views.{run_of, view_of}
 use Rattle.mc_view.specs.Squares.{run_from, row_of, rest_of}
-
--- a run of one number and more begins with the first
-run_first : (first : ℤ) (at n k : ℕ) →
-    n ≡ suc k → run_from first at n ≡ (first +ℤ pos at) ∷ run_from first (at + 1) k
-run_first first at n k e = ap (run_from first at) e
 
 -- in a row
 pub in_row : (west north : ℤ) (side row left at : ℕ) →
@@ -19,12 +13,6 @@ pub in_row : (west north : ℤ) (side row left at : ℕ) →
     rest_of west north side row left at ≡
     (west +ℤ pos row, north +ℤ pos at) ∷ rest_of west north side row left (at + 1)
 in_row west north side row left at lt = grind (arith, nat_tests)
-
--- a row that is gone through, before the others
-row_done : (west north : ℤ) (side row left : ℕ) →
-    rest_of west north side row left side ≡
-    flat_map (row_of (run_from north 0 side)) (run_from west (row + 1) left)
-row_done west north side row left = grind (arith, nat_tests)
 
 -- rows, before the first of which nothing is gone through
 rows_begin : (west north : ℤ) (side row left k : ℕ) →

@@ -7,7 +7,7 @@ use Rattle.std.proofs.lemmas.Bool.Decides.{nat_tests}
 use Rattle.std.specs.List.{insert, remove}
 use Rattle.std.specs.declared.cmp.Ordering.{Ordering}
 use Rattle.std.specs.declared.cmp.Ordering.TheVariants.{Less, Equal, Greater}
-use Rattle.std.specs.Ordering.{int_cmp, is_eq, eq_by_cmp, ordering_reverse}
+use Rattle.std.specs.Ordering.{int_cmp, is_eq, eq_by_cmp}
 use Rattle.std.specs.Cmp.{int_cmp_total}
 use Rattle.std.specs.FinMap as map
 use Rattle.std.specs.FinMap.{find, put, is_sorted, get, contains_key, entries-from_sorted}
@@ -20,7 +20,7 @@ use Rattle.mc_fields.specs.declared.position.Spot.{Spot}
 use Rattle.mc_slots.specs.declared.pile.Pile.{Pile}
 use Rattle.mc_view.specs.declared.tracker.Entry.{Entry}
 use Rattle.mc_view.specs.KeptTold.{IsAt, IsGap, IsRising, pair_of, pairs_of, told_of}
-use Rattle.mc_view.proofs.EntryFacts.{Pair, first, second, less, above, below, same, rising_at}
+use Rattle.mc_view.proofs.EntryFacts.{Pair, first, second, above, below, same, rising_at}
 
 at_tail : (e : Entry) (es : List Entry) (eid : ℤ) (i : ℕ) →
     IsAt (e ∷ es) eid (suc i) → IsAt es eid i
