@@ -148,7 +148,7 @@ chat_utf8 text utf8 =
 -- ---- its packet
 
 -- UTF-8 of not too many bytes has a spelling
-utf8_fits : (text : List ℕ) → IsUtf8 text → AtMost 2813 text → SpellableText 32767 text
+pub utf8_fits : (text : List ℕ) → IsUtf8 text → AtMost 2813 text → SpellableText 32767 text
 utf8_fits text utf8 few = grind (arith, nat_tests, encodes-chars, few_bytes, length-le-encodes)
 
 -- so has the packet of such a text
