@@ -1,5 +1,6 @@
 -- Frames that are cut from bytes are bytes, and so is what is left; what a frame of them comes to
 -- can be answered.
+use Rattle.std.proofs.lemmas.Bool.Decides.{nat_tests}
 use Rattle.std.proofs.Common.{◌≡◌, ℕ, zero, suc, ◌≤◌, List, [], ◌∷◌, ◌++◌, Result, Ok, Err, refl}
 use Rattle.std.proofs.Common.{subst, arith}
 use Rattle.std.specs.List.{AllByRecursion}
@@ -20,9 +21,7 @@ use Rattle.mc_up.specs.declared.status_up.StatusUp.TheVariants.{Request, Ping}
 use Rattle.mc_up.specs.declared.login_up.LoginUp.{LoginUp}
 use Rattle.mc_up.specs.declared.login_up.LoginUp.TheVariants.{Start}
 use Rattle.mc_up.specs.declared.play_up.PlayUp.{PlayUp}
-use Rattle.mc_up.specs.Hand as hand
 use Rattle.mc_up.specs.StatusUp as status
-use Rattle.mc_up.specs.LoginUp as login
 use Rattle.mc_up.specs.PlayUp as play
 use Rattle.mc_up.proofs.PlayUpLaws as play_laws
 use Rattle.mc_model.specs.declared.stage.Stage.{Stage}
@@ -132,14 +131,12 @@ pub request_answered : (stage : Stage) (most online : ℕ) (frame : List ℕ) �
     online ≤ 50 → IsBytes frame
     → IsAnswered (request_of stage most online frame)
 unfolding request_of
-request_answered stages.Hand most online frame few fewer b =
-    hand_answered (packet_of frame (packet_read hand.rows frame))
+request_answered stages.Hand most online frame few fewer b = grind (arith, nat_tests, hand_answered)
 request_answered stages.Status most online frame few fewer b =
-    status_answered most online frame (packet_read status.rows frame) few fewer
-    (λ number e. ping_fits frame number b e)
+    grind (arith, nat_tests, ping_fits, status_answered)
 request_answered stages.Login most online frame few fewer b =
-    login_answered (packet_of frame (packet_read login.rows frame))
+    grind (arith, nat_tests, login_answered)
 request_answered stages.Asked most online frame few fewer b = tt
 request_answered stages.Play most online frame few fewer b =
-    play_answered frame (packet_read play.rows frame) (λ packet e. play_fits frame packet b e)
+    grind (arith, nat_tests, play_answered, play_fits)
 request_answered stages.Closed most online frame few fewer b = tt

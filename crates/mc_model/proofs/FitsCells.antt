@@ -1,6 +1,6 @@
 -- The packets of changed cells fit, of places near enough and of states of 16 bits.
-use Rattle.std.proofs.Common.{◌≡◌, ℕ, ◌+◌, ◌*◌, ◌/◌, ◌%◌, ◌^◌, ◌<◌, ◌≤◌, List, ◌∷◌, map, length}
-use Rattle.std.proofs.Common.{lit<, arith, []}
+use Rattle.std.proofs.Common.{◌≡◌, ℕ, ◌+◌, ◌*◌, ◌^◌, ◌<◌, ◌≤◌, List, ◌∷◌, map, length, lit<, arith}
+use Rattle.std.proofs.Common.{[]}
 use Rattle.std.specs.Prelude.{unsigned_abs, slice_index}
 use Rattle.std.specs.Int.{w32}
 use Rattle.std.specs.List.{All, AllByRecursion, range_with_len}
@@ -41,11 +41,7 @@ number_near c i near small = grind (arith, nat_tests)
 
 -- a position can carry a cell of a near place
 cell_fits : (place : Place) (i : ℕ) → IsNear place → i < 65536 → FitsCell (cell_at place i)
-cell_fits place i near index = record {
-  x = number_near place.0 (i % 16) near.x (omega arith);
-  y = omega (arith, index);
-  z = number_near place.1 (i / 16 % 16) near.z (omega arith);
-}
+cell_fits place i near index = grind (arith, nat_tests, number_near)
 
 -- its bits are a word
 pack_fits : (cell : Cell) → FitsCell cell → pack cell < 2 ^ 64
@@ -59,12 +55,14 @@ state_fits state small = record { sfits = omega (arith, small) }
 pub change_clear : (cell : Cell) (state : ℕ) → FitsCell cell → state < 65536
     → IsClear for_play (of_play (Change cell (pos state)))
 change_clear cell state at small =
-    play_clear (Change cell (pos state)) ((lit< tt, ((at, pack_fits cell at), varint-fits (pos state) (state_fits state small)))) (lit< tt)
+    let at_state = state_fits state small in
+    play_clear (Change cell (pos state)) (search (fields, pack_fits cell at, at_state)) (lit< tt)
 
 -- ---- several
 
 -- a cell of a column has a spelling
-record_fits : (states : List ℕ) (i : ℕ) → CellFits states i → cell_change.fits (cell_record states i)
+record_fits : (states : List ℕ) (i : ℕ) → CellFits states i →
+    cell_change.fits (cell_record states i)
 record_fits states i f = (
   tt,
   (
@@ -120,6 +118,4 @@ differing_fit old new size small =
 
 -- and they are not too many
 pub differing_few : (old new : List ℕ) → length (differing old new) ≤ 65536
-differing_few old new =
-    let le = few_filtered (has_changed old new) (range_with_len 0 cells) in
-    omega (arith, le, length-range_with_len 0 cells, cells-is)
+differing_few old new = grind (arith, nat_tests, cells-is, few_filtered, length-range_with_len)

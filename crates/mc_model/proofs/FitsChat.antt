@@ -1,12 +1,10 @@
 -- A line of chat fits its packet: its JSON is UTF-8, and of six bytes at most for each of the text.
 use Rattle.std.proofs.Common.{◌≡◌, ℕ, zero, suc, ◌+◌, ◌*◌, ◌<◌, ◌≤◌, Bool, true, cond, List, ◌∷◌}
-use Rattle.std.proofs.Common.{◌++◌, length, inl, inr, refl, sym, ap, ap₂, ◌∙◌, subst, lit<, arith}
-use Rattle.std.proofs.Common.{[]}
+use Rattle.std.proofs.Common.{◌++◌, length, inl, inr, refl, sym, ap, ap₂, ◌∙◌, subst, arith, []}
 use Rattle.std.specs.Prelude.{◌/◌, ◌%◌, ◌==◌, ◌&&◌, ◌||◌, nat_lt, slice_index, codes}
 use Rattle.std.specs.Char.{digit_char}
-use Rattle.std.specs.Int.{w8}
 use Rattle.std.specs.List.{flat_map, list_all}
-use Rattle.std.specs.Str.{IsAscii, IsUtf8, chars}
+use Rattle.std.specs.Str.{IsAscii, IsUtf8}
 use Rattle.std.proofs.lemmas.Bool.{cases_lt, cases_eq}
 use Rattle.std.proofs.lemmas.Grind.{flat_map-append}
 use Rattle.std.proofs.lemmas.List.{length-append, append-nil}
@@ -15,7 +13,6 @@ use Rattle.std.proofs.lemmas.Str.{encode_ascii, encodes-chars, inside_one, lengt
 use lib.IntN.{pos}
 use lib.Utf8.{scalar, scalars, encode, encodes}
 use Rattle.serde_json.proofs.OnLiterals.{serde_json_on_literals}
-use Rattle.mc_nbt.specs.Signed.{signed_fits}
 use Rattle.mc_fields.specs.TextFormat.{SpellableText}
 use Rattle.mc_down.specs.declared.down.Down.TheVariants.{Chat}
 use Rattle.mc_model.specs.Chat.{line_of}
@@ -24,7 +21,7 @@ use Rattle.mc_model.specs.Packets.{of_play, for_play}
 use Rattle.mc_model.specs.Texts.{chat_json}
 use Rattle.mc_model.proofs.Decodes.{IsClear, play_clear}
 use Rattle.mc_model.proofs.FitsText.{all_low, both_true, is_low}
-use Rattle.mc_model.proofs.FitsSize.{AtMost, few_bytes}
+use Rattle.mc_model.proofs.FitsSize.{AtMost, few_bytes, fields}
 use Rattle.std.proofs.lemmas.Bool.Decides.{nat_tests}
 
 -- a text that a packet of chat can carry
@@ -72,11 +69,7 @@ all_escaped_few (x ∷ text) = grind (arith, nat_tests, escaped_few x, all_escap
 
 -- the JSON is not long where the text is not
 chat_few : (text : List ℕ) → AtMost (6 * length text + 11) (chat_json text)
-chat_few text =
-    let few = all_escaped_few text in
-    let body : List ℕ = all_escaped text ++ 34 ∷ [] in
-    subst (AtMost (6 * length text + 11)) (sym (chat_parts text))
-    (omega (arith, few, length-append body (125 ∷ []), length-append (all_escaped text) (34 ∷ [])))
+chat_few text = grind (arith, nat_tests, all_escaped_few, chat_parts, length-append)
 
 -- ---- that it is UTF-8
 
@@ -155,23 +148,14 @@ chat_utf8 text utf8 =
 -- ---- its packet
 
 -- UTF-8 of not too many bytes has a spelling
-utf8_fits : (text : List ℕ) → IsUtf8 text → AtMost 2813 text → SpellableText 32767 text
-utf8_fits text utf8 few = record {
-  fits = record {
-    utf8 = utf8;
-    few_bytes = omega (arith, few);
-    few_points =
-        let le = length-le-encodes (chars text) in
-        let same = ap (λ (bytes : List ℕ). length bytes) (encodes-chars text utf8) in
-        omega (arith, few, le, same);
-  };
-  sized = omega (arith, few);
-}
+pub utf8_fits : (text : List ℕ) → IsUtf8 text → AtMost 2813 text → SpellableText 32767 text
+utf8_fits text utf8 few = grind (arith, nat_tests, encodes-chars, few_bytes, length-le-encodes)
 
 -- so has the packet of such a text
 text_clear : (text : List ℕ) → IsUtf8 text → AtMost 2813 text → LineFits text
 text_clear text utf8 few =
-    play_clear (Chat text (pos 0)) ((lit< tt, (utf8_fits text utf8 few, signed_fits w8 (pos 0) (record { sfits = lit< tt })))) (omega (arith, few))
+    let fits = utf8_fits text utf8 few in
+    play_clear (Chat text (pos 0)) (search (fields, fits)) (omega (arith, few))
 
 -- what a player of this name says is UTF-8
 spoken_utf8 : (name text : List ℕ) → IsUtf8 name → IsUtf8 text →

@@ -50,9 +50,7 @@ column_few column sizes =
 
 -- a mask has 16 bits
 mask_small : (column : ColumnValue) → HasSizes column → column_mask column < 2 ^ 16
-mask_small column sizes =
-    let below = (column_mask_names column sizes).below in
-    rw section_count-is at below
+mask_small column sizes = grind (arith, nat_tests, column_mask_names, section_count-is)
 
 -- a place whose cells a position can carry
 pub record IsNear (place : Place) : Type 0 where
@@ -61,10 +59,7 @@ pub record IsNear (place : Place) : Type 0 where
 
 -- a packet can carry its numbers too
 pub near_fits : (place : Place) → IsNear place → PlaceFits place
-near_fits place near = record {
-  x = number_fits place.0 (omega (arith, near.x));
-  z = number_fits place.1 (omega (arith, near.z));
-}
+near_fits place near = grind (arith, nat_tests, number_fits)
 
 -- a column that packets can carry, whole and cell by cell
 pub record ColumnFits (e : Place × ColumnValue) : Type 0 where
@@ -72,10 +67,15 @@ pub record ColumnFits (e : Place × ColumnValue) : Type 0 where
   pub sizes : HasSizes e.1
   pub states : All (λ state. state < 65536) e.1.states
 
--- a column that comes into view
+-- a column that comes into view, of a place that fits
+pub whole_clear : (place : Place) (column : ColumnValue) → PlaceFits place → HasSizes column →
+    IsClear for_play (of_play (load (place, column)))
+whole_clear place column at sizes = chunk_clear place (column_mask column) (column_bytes column) at
+    (mask_small column sizes) (column_few column sizes)
+
+-- and of one that fits
 pub load_clear : (e : Place × ColumnValue) → ColumnFits e → IsClear for_play (of_play (load e))
-load_clear e f = chunk_clear e.0 (column_mask e.1) (column_bytes e.1) (near_fits e.0 f.near)
-    (mask_small e.1 f.sizes) (column_few e.1 f.sizes)
+load_clear e f = whole_clear e.0 e.1 (near_fits e.0 f.near) f.sizes
 
 -- one that goes
 pub unload_clear : (place : Place) → PlaceFits place → IsClear for_play (of_play (unload place))

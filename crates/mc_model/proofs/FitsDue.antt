@@ -1,7 +1,6 @@
 -- What is due to a client at a tick is packets that it decodes.
 use Rattle.std.proofs.Common.{ℕ, ◌+◌, ◌≤◌, Bool, true, false, cond, List, [], ◌∷◌, drop, length}
 use Rattle.std.proofs.Common.{Option, Some, None, arith}
-use Rattle.std.specs.Prelude.{not}
 use Rattle.std.specs.Int.{w32, w64}
 use Rattle.std.specs.List.{AllByRecursion}
 use Rattle.std.specs.FinMap.{get, entries, keys}
@@ -13,21 +12,16 @@ use Rattle.mc_land.specs.declared.terrain.Terrain.{Terrain}
 use Rattle.mc_land.specs.Places.{Place}
 use Rattle.mc_slots.specs.declared.slot.Slot.{Slot}
 use Rattle.mc_windows.specs.Pack.{PackValue, IsPack}
-use Rattle.mc_view.specs.Forms.{moves_of}
 use Rattle.mc_down.specs.declared.down.Down.{Down}
-use Rattle.mc_down.specs.declared.down.Down.TheVariants.{KeepAlive, SetSlot, Time}
+use Rattle.mc_down.specs.declared.down.Down.TheVariants.{SetSlot}
 use Rattle.mc_model.specs.Notes.{Noted}
 use Rattle.mc_model.specs.Packets.{of_play, for_play}
-use Rattle.mc_model.specs.Numbers.{pattern_of, degrees_of}
 use Rattle.mc_model.specs.Sight.{Seen, Sight}
-use Rattle.mc_model.specs.Delta.{missing, is_named, leavers_point, joiners_point, destroys_point}
-use Rattle.mc_model.specs.Delta.{unload, unloads_point, load, loads_point, differing}
-use Rattle.mc_model.specs.Delta.{column_changes, cells_point, is_same_slot, pile_packet}
-use Rattle.mc_model.specs.Delta.{pile_packets, moves_packets, entity_packets, entities_point}
-use Rattle.mc_model.specs.Delta.{slot_packets, pack_point, delta, is_told, beat_packets, beat_point}
-use Rattle.mc_model.specs.Delta.{time_packets, time_point, chat_packet, chat_point}
-use Rattle.mc_model.specs.Ticks.{time_of_day}
-use Rattle.mc_model.specs.Step.{level, placing, window_packets, notes_of}
+use Rattle.mc_model.specs.Delta.{missing, destroys_point, unload, unloads_point, load, loads_point}
+use Rattle.mc_model.specs.Delta.{column_changes, cells_point, is_same_slot, entity_packets}
+use Rattle.mc_model.specs.Delta.{entities_point, slot_packets, pack_point, delta, beat_packets}
+use Rattle.mc_model.specs.Delta.{time_packets, chat_packet, chat_point}
+use Rattle.mc_model.specs.Step.{level, placing, notes_of}
 use Rattle.mc_model.proofs.Decodes.{IsClear}
 use Rattle.mc_model.proofs.AllFacts.{all_joined, all_dropped, all_mapped, all_filtered}
 use Rattle.mc_model.proofs.AllFacts.{few_filtered, all_flat}
@@ -51,8 +45,7 @@ use Rattle.std.proofs.lemmas.Bool.Decides.{nat_tests}
 
 -- a difference of the list of players is no longer than the list
 missing_few : (p q : Sight) → SightFits p → length (missing p.pairs q.pairs) ≤ 50
-missing_few p q f = let le = few_filtered (λ (e : ℕ × List ℕ). not (is_named (get q.pairs e.0) e.1))
-    (entries p.pairs) in omega (arith, le, f.few)
+missing_few p q f = grind (arith, nat_tests, few_filtered)
 
 -- and its pairs fit
 missing_fits : (p q : Sight) → SightFits p → AllByRecursion PairFits (missing p.pairs q.pairs)
@@ -84,10 +77,7 @@ loads_clear p q f =
 column_clear : (e : Place × ColumnValue) → ColumnFits e → (old : Option ColumnValue) →
     AreClear (column_changes e.0 old e.1)
 column_clear e f None = tt
-column_clear e f (Some old) =
-    cells_clear e.0 e.1.states (differing old.states e.1.states) f.near
-    (differing_few old.states e.1.states)
-    (differing_fit old.states e.1.states f.sizes.states_are f.states)
+column_clear e f (Some old) = grind (arith, nat_tests, cells_clear, differing_few, differing_fit)
 
 -- of each column
 changes_clear : (p q : Sight) → SightFits q → AreClear (cells_point p q)
@@ -100,15 +90,7 @@ changes_clear p q f =
 entity_clear : (e : ℤ × Seen) → SeenFits e → (old : Option Seen) →
     AreClear (entity_packets e.0 old e.1)
 entity_clear e f None = spawn_clear e.0 e.1.kind e.1.spot e.1.pile f.eid f.kind f.spot f.pile
-entity_clear e f (Some old) =
-    all_joined (λ (packet : Down). IsClear for_play (of_play packet))
-    (moves_packets e.0 e.1.spot (moves_of old.spot e.1.spot))
-    (pile_packets e.0 e.1.kind old.pile e.1.pile)
-    (moves_clear e.0 old.spot e.1.spot f.eid f.spot) (tells (is_same_slot old.pile e.1.pile))
-  where
-    tells : (same : Bool) → AreClear (cond same [] (pile_packet e.0 e.1.kind e.1.pile ∷ []))
-    tells true = tt
-    tells false = (pile_slot_clear e.0 e.1.kind e.1.pile f.eid f.pile, tt)
+entity_clear e f (Some old) = grind (arith, nat_tests, all_joined, moves_clear, pile_slot_clear)
 
 -- each of them
 entities_clear : (p q : Sight) → SightFits q → AreClear (entities_point p q)
@@ -143,20 +125,12 @@ pack_clear p q f = slots_clear 9 p.pack q.pack (omega (arith, f.slots)) f.pack
 -- the beat
 beats_clear : (old new : Option ℤ) → ToldFits w32 new → AreClear (beat_packets old new)
 beats_clear old None f = tt
-beats_clear old (Some beat) f = step (is_told old beat)
-  where
-    step : (told : Bool) → AreClear (cond told [] (KeepAlive beat ∷ []))
-    step true = tt
-    step false = (beat_clear beat f, tt)
+beats_clear old (Some beat) f = grind (arith, nat_tests, beat_clear)
 
 -- the age
 times_clear : (old new : Option ℤ) → ToldFits w64 new → AreClear (time_packets old new)
 times_clear old None f = tt
-times_clear old (Some age) f = step (is_told old age)
-  where
-    step : (told : Bool) → AreClear (cond told [] (Time age (time_of_day age) ∷ []))
-    step true = tt
-    step false = (time_clear age f, tt)
+times_clear old (Some age) f = grind (arith, nat_tests, time_clear)
 
 -- what was said
 said_clear : (p q : Sight) → SightFits q → AreClear (chat_point p q)
@@ -169,47 +143,36 @@ said_clear p q f =
 pub delta_clear : (p q : Sight) → SightFits p → SightFits q → AreClear (delta p q)
 unfolding delta
 delta_clear p q f g =
-    let P : Down → Type 0 = λ packet. IsClear for_play (of_play packet) in
-    all_joined P (beat_point p q) _ (beats_clear p.beat q.beat g.beat) (
-    all_joined P (time_point p q) _ (times_clear p.age q.age g.age) (
-    all_joined P (leavers_point p q) _
-    (leavers_clear (missing p.pairs q.pairs) (missing_few p q f) (missing_fits p q f)) (
-    all_joined P (joiners_point p q) _
-    (joiners_clear (missing q.pairs p.pairs) (missing_few q p g) (missing_fits q p g)) (
-    all_joined P (destroys_point p q) _ (destroys_clear p q f) (
-    all_joined P (unloads_point p q) _ (unloads_clear p q f) (
-    all_joined P (loads_point p q) _ (loads_clear p q g) (
-    all_joined P (cells_point p q) _ (changes_clear p q g) (
-    all_joined P (entities_point p q) _ (entities_clear p q g) (
-    all_joined P (pack_point p q) _ (pack_clear p q g) (
-    all_joined P (chat_point p q) [] (said_clear p q g) tt))))))))))
+    grind (
+      arith,
+      nat_tests,
+      all_joined,
+      beats_clear,
+      changes_clear,
+      destroys_clear,
+      entities_clear,
+      joiners_clear,
+      leavers_clear,
+      loads_clear,
+      missing_few,
+      missing_fits,
+      pack_clear,
+      said_clear,
+      times_clear,
+      unloads_clear,
+    )
 
 -- ---- the opening and the notes
 
 -- a player's own place
 pub placing_clear : (spot : Spot) → SpotFits spot → IsClear for_play (of_play (placing spot))
-placing_clear spot at =
-    place_clear (pattern_of spot.x) (pattern_of spot.y) (pattern_of spot.z) (degrees_of spot.yaw)
-    (degrees_of spot.pitch)
-    (pattern_fits spot.x (omega (arith, at.x))) (pattern_fits spot.y (omega (arith, at.y)))
-    (pattern_fits spot.z (omega (arith, at.z)))
-    (degrees_fit spot.yaw at.yaw) (degrees_fit spot.pitch at.pitch)
+placing_clear spot at = grind (arith, nat_tests, degrees_fit, pattern_fits, place_clear)
 
 -- what is noted
 pub notes_clear : (notes : Noted) (spot : Spot) (pack : PackValue) → SpotFits spot →
     IsPack pack.slots pack.cursor → AreClear (notes_of notes spot pack)
 notes_clear notes spot pack at is =
-    all_joined (λ (packet : Down). IsClear for_play (of_play packet))
-    (cond notes.placing (placing spot ∷ []) []) (cond notes.resend (window_packets pack) [])
-    (places notes.placing) (resends notes.resend)
-  where
-    places : (b : Bool) → AreClear (cond b (placing spot ∷ []) [])
-    places true = (placing_clear spot at, tt)
-    places false = tt
-
-    resends : (b : Bool) → AreClear (cond b (window_packets pack) [])
-    resends true = window_clear pack is
-    resends false = tt
+    grind (arith, nat_tests, all_joined, placing_clear, window_clear)
 
 -- the kind of level is a short text
 pub level_short : (terrain : Terrain) → IsShort 10 (level terrain)

@@ -111,7 +111,8 @@ pub player_clear : (eid : ℤ) (uuid : ℕ) (x y z : ℤ) (yaw pitch : ℕ) (ite
     SFits w16 item → IsClear for_play (of_play (SpawnPlayer eid uuid x y z yaw pitch item no_flags))
 player_clear eid uuid x y z yaw pitch item in_32 in_128 at_x at_y at_z at_yaw at_pitch in_16 =
     let other : ◌≢◌ {A = ℕ} 0 127 = λ e. omega (arith, e) in
-    play_clear (SpawnPlayer eid uuid x y z yaw pitch item no_flags) (search (fields, other)) (lit< tt)
+    play_clear (SpawnPlayer eid uuid x y z yaw pitch item no_flags) (search (fields, other))
+    (lit< tt)
 
 -- what a packet can say of what an entity is: an identifier has 128 bits
 abbrev pub KindFits : SeenKind → Type 0

@@ -1,18 +1,15 @@
 -- The packets that move an entity fit.
-use Rattle.std.proofs.Common.{◌≡◌, ◌<◌, ℕ, ◌&&◌, not, Bool, true, false, cond, refl, sym, subst, T}
-use Rattle.std.proofs.Common.{lit<, arith}
+use Rattle.std.proofs.Common.{◌≡◌, ◌<◌, ℕ, not, Bool, true, sym, subst, T, lit<, arith}
 use Rattle.std.specs.Prelude.{int_le}
 use Rattle.std.specs.Int.{w8, w32}
-use lib.IntN.{ℤ, ◌-ℤ◌}
+use lib.IntN.{ℤ}
 use lib.Signed.{◌≤ℤ◌}
 use mir.Val.{SFits}
 use Rattle.mc_fields.specs.declared.position.Spot.{Spot}
-use Rattle.mc_view.specs.declared.forms.Form.TheVariants as forms
-use Rattle.mc_view.specs.Forms.{is_byte, are_bytes, are_zero, form_by, is_turned, moves_of}
-use Rattle.mc_down.specs.declared.down.Down.{Down}
+use Rattle.mc_view.specs.Forms.{is_byte, form_by, moves_of}
 use Rattle.mc_down.specs.declared.down.Down.TheVariants.{Step, Look, StepLook, Teleport, HeadLook}
 use Rattle.mc_model.specs.Packets.{of_play, for_play}
-use Rattle.mc_model.specs.Delta.{move_packets, head_packets, moves_packets}
+use Rattle.mc_model.specs.Delta.{move_packets, moves_packets}
 use Rattle.mc_model.proofs.Decodes.{IsClear, play_clear}
 use Rattle.mc_model.proofs.AllFacts.{all_joined}
 use Rattle.mc_model.proofs.ThingsFit.{SpotFits}
@@ -58,21 +55,21 @@ look_clear eid yaw pitch in_32 at_yaw at_pitch =
 
 -- a jump can be sent
 pub jump_clear : (eid x y z : ℤ) (yaw pitch : ℕ) → SFits w32 eid → SFits w32 x → SFits w32 y →
-    SFits w32 z → yaw < 256 → pitch < 256 → IsClear for_play (of_play (Teleport eid x y z yaw pitch true))
+    SFits w32 z → yaw < 256 → pitch < 256 →
+    IsClear for_play (of_play (Teleport eid x y z yaw pitch true))
 jump_clear eid x y z yaw pitch in_32 at_x at_y at_z at_yaw at_pitch =
     play_clear (Teleport eid x y z yaw pitch true) (search fields) (lit< tt)
 
 -- a turn of the head can be sent
-pub head_clear : (eid : ℤ) (yaw : ℕ) → SFits w32 eid → yaw < 256 → IsClear for_play (of_play (HeadLook eid yaw))
+pub head_clear : (eid : ℤ) (yaw : ℕ) → SFits w32 eid → yaw < 256 →
+    IsClear for_play (of_play (HeadLook eid yaw))
 head_clear eid yaw in_32 at_yaw =
     play_clear (HeadLook eid yaw) (search fields) (lit< tt)
 
 -- a jump to a spot
 jump_at : (eid : ℤ) (spot : Spot) → SFits w32 eid → SpotFits spot
     → IsClear for_play (of_play (Teleport eid spot.x spot.y spot.z spot.yaw spot.pitch true))
-jump_at eid spot in_32 at =
-    jump_clear eid spot.x spot.y spot.z spot.yaw spot.pitch in_32 (east_fits spot at)
-    (up_fits spot at) (south_fits spot at) at.yaw at.pitch
+jump_at eid spot in_32 at = grind (arith, nat_tests, east_fits, jump_clear, south_fits, up_fits)
 
 -- a test of order that passes
 pub in_order : (a b : ℤ) → int_le a b ≡ true → a ≤ℤ b
@@ -88,37 +85,19 @@ step_fits d t = grind (arith, nat_tests)
 form_clear : (eid dx dy dz : ℤ) (turned : Bool) (spot : Spot) → SFits w32 eid → SpotFits spot
     → AreClear (move_packets eid spot (form_by dx dy dz turned))
 form_clear eid dx dy dz turned spot in_32 at =
-    cases (not (are_zero dx dy dz)) (are_bytes dx dy dz) turned refl
-  where
-    cases : (moved small turns : Bool) → are_bytes dx dy dz ≡ small
-        → AreClear (move_packets eid spot (cond (moved && small)
-        (cond turns (forms.StepTurn dx dy dz) (forms.Step dx dy dz))
-        (cond (not small) forms.Jump (cond turns forms.Turn forms.Still))))
-    cases true true turns t =
-        let parts = both_true (is_byte dx && is_byte dy) (is_byte dz) t in
-        let two = both_true (is_byte dx) (is_byte dy) parts.0 in
-        let at_x = step_fits dx two.0 in
-        let at_y = step_fits dy two.1 in
-        let at_z = step_fits dz parts.1 in
-        elim turns as (λ b. AreClear (move_packets eid spot
-        (cond b (forms.StepTurn dx dy dz) (forms.Step dx dy dz)))) [
-          | true ↦ (step_look_clear eid dx dy dz spot.yaw spot.pitch in_32 at_x at_y at_z at.yaw at.pitch, tt)
-          | false ↦ (step_clear eid dx dy dz in_32 at_x at_y at_z, tt)
-        ]
-    cases true false turns t = (jump_at eid spot in_32 at, tt)
-    cases false false turns t = (jump_at eid spot in_32 at, tt)
-    cases false true true t = (look_clear eid spot.yaw spot.pitch in_32 at.yaw at.pitch, tt)
-    cases false true false t = tt
+    grind (
+      arith,
+      nat_tests,
+      both_true,
+      jump_at,
+      look_clear,
+      not,
+      step_clear,
+      step_fits,
+      step_look_clear,
+    )
 
 -- from one spot to another
 pub moves_clear : (eid : ℤ) (old new : Spot) → SFits w32 eid → SpotFits new
     → AreClear (moves_packets eid new (moves_of old new))
-moves_clear eid old new in_32 at =
-    all_joined (λ (packet : Down). IsClear for_play (of_play packet))
-    (move_packets eid new (moves_of old new).form) (head_packets eid new (moves_of old new).head)
-    (form_clear eid (new.x -ℤ old.x) (new.y -ℤ old.y) (new.z -ℤ old.z) (is_turned old new) new
-    in_32 at) (turns (moves_of old new).head)
-  where
-    turns : (b : Bool) → AreClear (head_packets eid new b)
-    turns true = (head_clear eid new.yaw in_32 at.yaw, tt)
-    turns false = tt
+moves_clear eid old new in_32 at = grind (arith, nat_tests, all_joined, form_clear, head_clear)

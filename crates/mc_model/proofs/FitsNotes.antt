@@ -1,8 +1,6 @@
 -- The packets of noted cells fit: what is sent of them has a position, and a state of 16 bits.
-use Rattle.std.proofs.Common.{◌≡◌, ℕ, ◌^◌, ◌<◌, ◌≤◌, ◌&&◌, Bool, true, false, cond, List, [], ◌∷◌}
-use Rattle.std.proofs.Common.{map, refl, arith}
+use Rattle.std.proofs.Common.{◌≡◌, ℕ, ◌^◌, ◌<◌, ◌≤◌, Bool, true, List, [], ◌∷◌, arith}
 use Rattle.std.specs.Prelude.{int_le, unsigned_abs}
-use Rattle.std.specs.List.{filter}
 use Rattle.std.specs.FinMap.{FinMap}
 use Rattle.std.proofs.lemmas.Bool.{leb-true}
 use Rattle.std.proofs.lemmas.Int.{ints}
@@ -10,7 +8,7 @@ use lib.IntN.{ℤ, pos, negsuc, ◌-ℤ◌}
 use Rattle.mc_fields.specs.declared.position.Cell.{Cell}
 use Rattle.mc_fields.specs.Position.{FitsHalf, FitsCell}
 use Rattle.mc_land.specs.declared.terrain.Terrain.{Terrain}
-use Rattle.mc_land.specs.Places.{Place, key_cmp, column_number, place_of}
+use Rattle.mc_land.specs.Places.{Place, key_cmp, column_number}
 use Rattle.mc_view.specs.Views.{column_of_spot, is_in_view, view_size}
 use Rattle.mc_view.proofs.Near.{near_both}
 use Rattle.mc_model.specs.Packets.{of_play, for_play}
@@ -49,18 +47,7 @@ pub sent_fits : (middle : Place) (d : ℕ) (cell : Cell) → unsigned_abs middle
     unsigned_abs middle.1 ≤ 1875001 → d ≤ 8 → is_sent (is_in_view middle d) cell ≡ true →
     FitsCell cell
 sent_fits middle d cell at_x at_z few sent =
-    let low : Bool = int_le (negsuc 2047) cell.y in
-    let high : Bool = int_le cell.y (pos 2047) in
-    let seen : Bool = is_in_view middle d (place_of cell.x cell.z) in
-    let a = both_true low (high && seen) sent in
-    let b = both_true high seen a.1 in
-    let near = near_both (unsigned_abs (column_number cell.x -ℤ middle.0))
-    (unsigned_abs (column_number cell.z -ℤ middle.1)) d b.1 in
-    record {
-      x = side_fits cell.x (column_small (column_number cell.x) middle.0 d at_x few near.0);
-      y = height_fits cell.y a.0 b.0;
-      z = side_fits cell.z (column_small (column_number cell.z) middle.1 d at_z few near.1);
-    }
+    grind (arith, nat_tests, both_true, column_small, height_fits, near_both, side_fits)
 
 -- ---- packets
 
@@ -68,8 +55,7 @@ sent_fits middle d cell at_x at_z few sent =
 pub noted_packet_clear : (terrain : Terrain) (edits : FinMap key_cmp ℕ) (cell : Cell) →
     FitsCell cell → state_of_cell terrain edits cell.x cell.y cell.z < 65536 →
     IsClear for_play (of_play (cell_packet terrain edits cell))
-noted_packet_clear terrain edits cell at small =
-    change_clear cell (state_of_cell terrain edits cell.x cell.y cell.z) at small
+noted_packet_clear terrain edits cell at small = grind (arith, nat_tests, change_clear)
 
 -- those of all that are sent
 pub noted_packets_clear : (terrain : Terrain) (edits : FinMap key_cmp ℕ) (seen : Place → Bool) →
@@ -78,13 +64,12 @@ pub noted_packets_clear : (terrain : Terrain) (edits : FinMap key_cmp ℕ) (seen
     (cells : List Cell) → AreClear (noted_packets terrain edits seen cells)
 noted_packets_clear terrain edits seen fit small [] = tt
 noted_packets_clear terrain edits seen fit small (cell ∷ cells) =
-    let later = noted_packets_clear terrain edits seen fit small cells in
-    elim (is_sent seen cell) as (λ b. is_sent seen cell ≡ b → AreClear
-    (map (cell_packet terrain edits) (cond b (cell ∷ filter (is_sent seen) cells)
-    (filter (is_sent seen) cells)))) [
-      | true ↦ λ sent. (noted_packet_clear terrain edits cell (fit cell sent) (small cell), later)
-      | false ↦ λ sent. later
-    ] refl
+    grind (
+      arith,
+      nat_tests,
+      noted_packet_clear,
+      noted_packets_clear terrain edits seen fit small cells,
+    )
 
 -- what a player is sent of the cells that were noted
 pub noted_clear : (w : World) (p : Player) (cells : List Cell) → ThingsFit w.things →

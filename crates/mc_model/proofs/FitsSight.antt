@@ -1,10 +1,9 @@
 -- What can be shown so that its packets fit, and that all that is projected can.
 use Rattle.std.proofs.Common.{◌≡◌, ℕ, zero, suc, ◌+◌, ◌*◌, ◌<◌, ◌≤◌, Bool, true, false, cond, List}
-use Rattle.std.proofs.Common.{[], ◌∷◌, map, length, Option, Some, refl, sym, subst, ap, ◌∙◌, arith}
+use Rattle.std.proofs.Common.{[], ◌∷◌, map, length, Some, refl, sym, subst, ◌∙◌, arith}
 use Rattle.std.specs.Prelude.{unsigned_abs, replicate}
 use Rattle.std.specs.Int.{w32, w64, int_div_euclid}
 use Rattle.std.specs.List.{filter_map, range_with_len, AllByRecursion}
-use Rattle.std.specs.Option.{unwrap_or}
 use Rattle.std.specs.declared.cmp.Ordering.{Ordering}
 use Rattle.std.specs.declared.cmp.Ordering.TheVariants.{Less, Equal, Greater}
 use Rattle.std.specs.Ordering.{nat_cmp, int_cmp}
@@ -21,23 +20,19 @@ use mir.Val.{SFits}
 use Rattle.mc_land.specs.Places.{Place, place_cmp}
 use Rattle.mc_land.proofs.Orders.{places_total, exact_places}
 use Rattle.mc_slots.specs.declared.slot.Slot.TheVariants as slots
-use Rattle.mc_slots.specs.declared.pile.Pile.{Pile}
-use Rattle.mc_slots.specs.declared.pile.Pile.TheVariants.{Empty, Full}
-use Rattle.mc_slots.specs.Pile.{IsPile, slot_of}
+use Rattle.mc_slots.specs.declared.pile.Pile.TheVariants.{Empty}
+use Rattle.mc_slots.specs.Pile.{slot_of}
 use Rattle.mc_windows.specs.Pack.{pack_size}
 use Rattle.mc_entities.specs.declared.entity.Entity.{Entity}
 use Rattle.mc_entities.specs.declared.entity.EntityKind.{EntityKind}
-use Rattle.mc_entities.specs.declared.entity.EntityKind.TheVariants as kinds
 use Rattle.mc_entities.specs.Kinds.{IsKind}
 use Rattle.mc_view.specs.Views.{run_of, view_of, column_of_spot, view_size}
 use Rattle.mc_model.specs.declared.ticks.TheConstants.{AGE_MAX}
-use Rattle.mc_model.specs.declared.seen.SeenKind.{SeenKind}
-use Rattle.mc_model.specs.declared.seen.SeenKind.TheVariants as seen_kinds
 use Rattle.mc_model.specs.Sight.{Seen, Sight, nothing_seen}
 use Rattle.mc_model.specs.World.{World, Player, players, column_in, spot_of, pack_of, view_in}
 use Rattle.mc_model.specs.World.{heard_by, seen_as, seen_of, project}
 pub use Rattle.mc_model.proofs.AllFacts.{all_joined, all_mapped, all_filtered}
-use Rattle.mc_model.proofs.AllFacts.{all_flat, all_range, all_chosen}
+use Rattle.mc_model.proofs.AllFacts.{all_flat, all_range, all_chosen, all_mapped}
 pub use Rattle.mc_model.proofs.ThingsFit.{SpotFits}
 use Rattle.mc_model.proofs.ThingsFit.{KindIsNamed, EntityFits, ThingsFit}
 use Rattle.mc_model.proofs.ThingFacts.{spot_fits, pack_fits}
@@ -155,28 +150,7 @@ eid_fits (negsuc n) low high = absurd (omega (arith, ints, low))
 -- an entity that fits is seen as such
 seen_fits : (e : Entity) (kind : EntityKind) → EntityFits e → IsKind kind → KindIsNamed kind →
     (row : ℤ × Seen) → seen_as e kind ≡ Some row → SeenFits row
-seen_fits e kind fits is named row found = cases kind is named found
-  where
-    fit : (kind : SeenKind) (pile : Pile) → KindFits kind → IsPile pile → SeenFits (
-      e.eid,
-      record { kind = kind; spot = e.spot; head = e.spot.yaw; pile = slot_of pile },
-    )
-    fit kind pile in_128 is = record {
-      eid = eid_fits e.eid fits.low fits.high;
-      kind = in_128;
-      spot = fits.spot;
-      pile = pile_slot_fits pile is;
-    }
-
-    cases : (kind : EntityKind) → IsKind kind → KindIsNamed kind → seen_as e kind ≡ Some row →
-        SeenFits row
-    cases (kinds.Player uuid held) is named found =
-        subst SeenFits (ap (λ (o : Option (ℤ × Seen)). unwrap_or o row) found)
-        (fit (seen_kinds.Player uuid) held named is)
-    cases (kinds.Dropped item born) is named found =
-        subst SeenFits (ap (λ (o : Option (ℤ × Seen)). unwrap_or o row) found)
-        (fit seen_kinds.Item (Full item) tt is)
-    cases kinds.Mob is named found = absurd cc
+seen_fits e kind fits is named row found = grind (arith, nat_tests, eid_fits, pile_slot_fits)
 
 -- ---- sights
 

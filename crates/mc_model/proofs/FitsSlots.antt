@@ -1,4 +1,5 @@
 -- The packets of slots fit: a slot of a window, and a window with all its slots.
+use Rattle.std.proofs.lemmas.Bool.Decides.{nat_tests}
 use Rattle.std.proofs.Common.{ℕ, suc, ◌≤◌, List, ◌∷◌, ◌++◌, map, length, lit<, arith, []}
 use Rattle.std.specs.Prelude.{replicate}
 use Rattle.std.specs.Int.{w8, w16}
@@ -42,15 +43,7 @@ short_fits (negsuc n) low high = absurd (omega (arith, ints, low))
 -- the slot of a pile has a spelling
 pub pile_fits : (pile : Pile) → IsPile pile → FitsSlot (slot_of pile)
 pile_fits Empty is = (tt, tt)
-pile_fits (Full item) is = (
-  omega (arith, ints, is.id.0),
-  record {
-    id = short_fits item.id (omega (arith, ints, is.id.0)) is.id.1;
-    count = byte_fits item.count is.count.1;
-    damage = short_fits item.damage is.damage.0 (omega (arith, ints, is.damage.1));
-    tag = tt;
-  },
-)
+pile_fits (Full item) is = grind (arith, nat_tests, byte_fits, short_fits)
 
 -- of six bytes at most
 pub pile_few : (pile : Pile) → slot_most (slot_of pile) ≤ 6
@@ -97,9 +90,7 @@ piles_fit (pile ∷ piles) is = (pile_slot_fits pile (is 0), piles_fit piles (λ
 -- nine empty ones before them
 window_piles : (piles : List Pile) → ((i : ℕ) → IsPile (pile_at piles i))
     → AllByRecursion SlotFits (replicate 9 slots.Empty ++ map slot_of piles)
-window_piles piles is =
-    let e : SlotFits slots.Empty = pile_slot_fits Empty tt in
-    (e, (e, (e, (e, (e, (e, (e, (e, (e, piles_fit piles is)))))))))
+window_piles piles is = grind (arith, nat_tests, pile_slot_fits, piles_fit)
 
 -- the window with all slots, and what hangs on the cursor
 pub window_clear : (pack : PackValue) → IsPack pack.slots pack.cursor →

@@ -1,8 +1,8 @@
 -- Which texts that are handed out fit: all are ASCII and short.
 use Rattle.std.proofs.Common.{◌≡◌, ℕ, zero, suc, ◌+◌, ◌-◌, ◌^◌, ◌<◌, ◌≤◌, Bool, true, false, cond}
 use Rattle.std.proofs.Common.{List, [], ◌∷◌, ◌++◌, length, refl, sym, subst, arith, ltb-true}
-use Rattle.std.proofs.Common.{lt-ltb, inl, inr}
-use Rattle.std.specs.Prelude.{nat_lt, nat_le, ◌&&◌, ◌||◌, ◌⊎◌, codes, decimal, Option, Some, None}
+use Rattle.std.proofs.Common.{lt-ltb, lit<}
+use Rattle.std.specs.Prelude.{nat_lt, nat_le, ◌&&◌, codes, decimal, Option, Some, None}
 use Rattle.std.specs.List.{list_all}
 use Rattle.std.specs.Int.{to_be_bytes, w128}
 use Rattle.std.specs.Str.{IsAscii}
@@ -14,7 +14,7 @@ use Rattle.serde_json.proofs.OnLiterals.{serde_json_on_literals}
 use Rattle.mc_fields.specs.TextFormat.{SpellableText}
 use Rattle.uuid.specs.Text.{by_index, is_hyphen_place, hyphen, hex_digit, nibble, digit_place}
 use Rattle.uuid.specs.Text.{lower}
-use Rattle.mc_model.specs.Names.{is_between, is_name_byte, is_name, uuid_text}
+use Rattle.mc_model.specs.Names.{is_name_byte, is_name, uuid_text}
 use Rattle.mc_model.specs.declared.cause.Refusal.{Refusal}
 use Rattle.mc_model.specs.declared.cause.Refusal.TheVariants.{Version, Name, Taken, Full}
 use Rattle.mc_model.specs.declared.cause.Cause.{Cause}
@@ -44,6 +44,11 @@ short_fits points text small s = record {
 pub short_less : (a b : ℕ) (text : List ℕ) → a ≤ b → IsShort a text → IsShort b text
 short_less a b text le s = record { ascii = s.ascii; few = omega (arith, s.few, le) }
 
+-- also in a field that names no limit
+pub short_string : (most : ℕ) (text : List ℕ) → most ≤ 32767 → IsShort most text →
+    SpellableText 32767 text
+short_string most text le s = short_fits 32767 text (lit< tt) (short_less most 32767 text le s)
+
 -- two of them, one behind the other
 pub short_joined : (a b : ℕ) (text other : List ℕ) → IsShort a text → IsShort b other →
     IsShort (a + b) (text ++ other)
@@ -72,9 +77,7 @@ all_low (b ∷ text) t (suc i) = all_low text (both_true (nat_lt b 128) (list_al
 -- a test that computes
 pub short_where : (most : ℕ) (text : List ℕ) →
     (list_all is_low text && nat_le (length text) most) ≡ true → IsShort most text
-short_where most text t =
-    let parts = both_true (list_all is_low text) (nat_le (length text) most) t in
-    record { ascii = all_low text parts.0; few = leb-true (length text) most parts.1 }
+short_where most text t = grind (arith, nat_tests, all_low, both_true, leb-true)
 
 -- ---- the status
 
@@ -201,16 +204,6 @@ uuid_short uuid = by_index_short 36 _ (place_low (to_be_bytes w128 uuid))
 
 -- ---- names
 
--- one of two tests passed
-either : (a b : Bool) → (a || b) ≡ true → (a ≡ true) ⊎ (b ≡ true)
-either true b e = inl refl
-either false b e = inr e
-
--- a byte of a low range is low
-between_low : (low high n : ℕ) → high < 128 → is_between low high n ≡ true → n < 128
-between_low low high n small t = let le =
-    leb-true n high (both_true (nat_le low n) (nat_le n high) t).1 in omega (arith, le, small)
-
 -- a byte of a name is low
 name_byte_low : (b : ℕ) → is_name_byte b ≡ true → b < 128
 name_byte_low b t = grind (arith, nat_tests)
@@ -226,12 +219,4 @@ name_low (b ∷ text) t (suc i) = name_low text
 -- and short
 pub name_short : (name : List ℕ) → is_name name ≡ true → IsShort 16 name
 unfolding is_name
-name_short name t =
-    let a = both_true (nat_lt 0 (length name) && nat_le (length name) 16)
-    (list_all is_name_byte name) t in
-    record {
-      ascii = name_low name a.1;
-      few =
-          leb-true (length name) 16 (both_true (nat_lt 0 (length name))
-          (nat_le (length name) 16) a.0).1;
-    }
+name_short name t = grind (arith, nat_tests, both_true, leb-true, name_low)

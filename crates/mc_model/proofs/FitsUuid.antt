@@ -1,6 +1,6 @@
 -- The identifier that goes with a name has 128 bits.
-use Rattle.std.proofs.Common.{ℕ, zero, suc, ◌/◌, ◌^◌, ◌<◌, List, [], ◌∷◌, ◌++◌, length, arith}
-use Rattle.std.specs.Prelude.{slice_index, slice_set, codes}
+use Rattle.std.proofs.Common.{ℕ, zero, suc, ◌/◌, ◌^◌, ◌<◌, List, [], ◌∷◌, length, arith}
+use Rattle.std.specs.Prelude.{slice_set}
 use Rattle.std.specs.Int.{to_le_bytes, w32}
 use Rattle.md5.specs.Md5.{padded_message, hash_after, digest_bytes, md5}
 use Rattle.uuid.specs.Parts.{with_version, with_variant}
@@ -24,8 +24,7 @@ no_bytes i = omega arith
 digest_is_bytes : (h : List ℕ) (n : ℕ) → IsBytes (digest_bytes h n)
 unfolding digest_bytes
 digest_is_bytes h zero = no_bytes
-digest_is_bytes h (suc n) = bytes_joined (digest_bytes h n) (to_le_bytes w32 (slice_index h n))
-    (digest_is_bytes h n) (word_bytes (slice_index h n))
+digest_is_bytes h (suc n) = grind (arith, nat_tests, bytes_joined, word_bytes, digest_is_bytes h n)
 
 -- and so is an MD5
 md5_bytes : (m : List ℕ) → IsBytes (md5 m)
@@ -42,12 +41,9 @@ set_bytes (x ∷ xs) (suc k) v low b (suc i) = set_bytes xs k v low (λ j. b (su
 
 -- also with the marks of a version and a variant
 marked_bytes : (xs : List ℕ) → IsBytes xs → IsBytes (with_variant (with_version xs Md5) RFC4122)
-marked_bytes xs b =
-    set_bytes (with_version xs Md5) 8 _ (omega arith) (set_bytes xs 6 _ (omega arith) b)
+marked_bytes xs b = grind (arith, nat_tests, set_bytes)
 
 -- so the identifier has 128 bits
 pub offline_small : (name : List ℕ) → offline_uuid name < 2 ^ 128
 unfolding offline_uuid
-offline_small name = wide_128.below _
-    (marked_bytes (md5 (codes "OfflinePlayer:" ++ name))
-    (md5_bytes (codes "OfflinePlayer:" ++ name)))
+offline_small name = grind (arith, nat_tests, marked_bytes, md5_bytes, wide_128)
