@@ -24,7 +24,7 @@ use Rattle.mc_model.specs.Delta.{leaver, joiner, about}
 use Rattle.mc_model.proofs.FitsSize.{AtMost, at_most_less, few_bytes, at_most_joined, varint_size}
 use Rattle.mc_model.proofs.FitsSize.{text_size, number_size, spelling_payload}
 use Rattle.mc_flush.specs.Carried.{IsCarried}
-use Rattle.mc_flush.specs.Sending.{IsClear, AreClear}
+use Rattle.mc_told.specs.Sending.{IsClear, AreClear}
 
 small_varint : (n : ℕ) → n < 100 → FitsVarint 5 (pos n)
 small_varint n small = varint-fits (pos n) (record { sfits = omega (arith, small) })

@@ -35,33 +35,19 @@ use Rattle.mc_model.specs.Delta.{Pairs, delta, load, unload, cell_packets, colum
 use Rattle.mc_model.specs.Delta.{beat_packets, chat_packet, destroying, entity_packets}
 use Rattle.mc_model.specs.Delta.{moves_packets, pile_packets, slot_packets, time_packets}
 use Rattle.mc_flush.specs.Lists.{ListValue}
-use Rattle.mc_flush.specs.Seeing.{MarkValue, Parts, StandsFor, age_now, beat_now, changes}
-use Rattle.mc_flush.specs.Seeing.{changed_packets, columns_in, entered_of, gone_from, left_of}
-use Rattle.mc_flush.specs.Seeing.{listed}
-use Rattle.mc_flush.specs.Seeing.{leaver_packets, joiner_packets, load_packets, pairs_in}
-use Rattle.mc_flush.specs.Seeing.{packets_of}
-use Rattle.mc_flush.specs.Seeing.{place_packets, placed_column, placed_with, present_parts, seen}
-use Rattle.mc_flush.specs.Seeing.{kept_of, settled_parts, shown_now, told_as, told_slot}
-use Rattle.mc_flush.specs.Seeing.{unload_packets}
-use Rattle.mc_flush.specs.Seeing.{entity_frames}
-use Rattle.mc_flush.specs.Telling.{told_now}
-use Rattle.mc_flush.proofs.Rising.{sorted_is}
-use Rattle.mc_flush.proofs.Rows.{known_alike, seen_rows, shown_rows, shown_told}
+use Rattle.mc_flush.specs.Seeing.{MarkValue, Parts, StandsFor, changes, columns_in, listed}
+use Rattle.mc_flush.specs.Seeing.{leaver_packets, joiner_packets, pairs_in, present_parts, seen}
+use Rattle.mc_flush.specs.Seeing.{settled_parts}
+use Rattle.mc_told.specs.Telling.{age_now, beat_now, gone_from, packets_of, kept_of, shown_now}
+use Rattle.mc_told.specs.Telling.{told_as, told_slot, entity_frames, told_now}
+use Rattle.mc_loads.specs.Columns.{changed_packets, entered_of, left_of, load_packets}
+use Rattle.mc_loads.specs.Columns.{place_packets, placed_column, placed_with, unload_packets}
+use Rattle.mc_told.proofs.Rising.{sorted_is}
+use Rattle.mc_told.proofs.Rows.{known_alike, seen_rows, shown_rows, shown_told}
+use Rattle.mc_told.proofs.Keys.{all_kept, same_filter}
 use Rattle.mc_flush.proofs.Shown.{keys_shown, same_keys, shown_entries, shown_get, shown_has}
 
 -- ---- lists
-
--- tests that agree keep the same
-pub same_filter : {A : Type 0} (f g : A → Bool) → ((x : A) → f x ≡ g x) → (xs : List A) →
-    filter f xs ≡ filter g xs
-same_filter f g same [] = refl
-same_filter f g same (x ∷ xs) = λ i. cond (same x i) (x ∷ same_filter f g same xs i) (same_filter f
-    g same xs i)
-
--- a test that all pass keeps all
-pub all_kept : {A : Type 0} (xs : List A) → filter (λ (x : A). true) xs ≡ xs
-all_kept [] = refl
-all_kept {A} (x ∷ xs) = ap (λ (ys : List A). x ∷ ys) (all_kept xs)
 
 -- functions that agree give the same pieces
 same_joined : {A B : Type 0} (f g : A → List B) → ((x : A) → f x ≡ g x) → (xs : List A) →

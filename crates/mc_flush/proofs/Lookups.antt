@@ -4,28 +4,16 @@ use Rattle.std.proofs.Common.{length, is_some, arith, Option, Some, None, refl, 
 use Rattle.std.specs.Prelude.{nat_eq}
 use Rattle.std.specs.List.{AllByRecursion, IsDistinct}
 use Rattle.std.specs.Map.{lookup, keys_of}
-use Rattle.std.specs.declared.cmp.Ordering.{Ordering}
-use Rattle.std.specs.declared.cmp.Ordering.TheVariants.{Less, Equal, Greater}
 use Rattle.std.specs.Ordering.{nat_cmp, is_eq, eq_by_cmp}
 use Rattle.std.specs.Cmp.{nat_cmp_total, tied_itself, eq_by_cmp_equiv, unsigned_Decides}
 use Rattle.mc_model.specs.Delta.{is_named}
 use Rattle.mc_flush.specs.Players.{with_other}
+use Rattle.mc_told.proofs.Keys.{alike, equal, tree_found}
 use Rattle.std.specs.FinMap.{find, get, len, len-empty, len-insert, contains_key, insert, remove}
 use Rattle.std.specs.FinMap.{from_entries, get-from_entries, get-insert, get-remove}
 use Rattle.std.specs.FinMap.{nat_cmp-IsAntisymmetric, same_map}
 
 -- ---- two ways to say that keys are equal
-
-pub alike : (a b : Bool) → (a ≡ true → b ≡ true) → (b ≡ true → a ≡ true) → a ≡ b
-alike true true f g = refl
-alike true false f g = sym (f refl)
-alike false true f g = g refl
-alike false false f g = refl
-
-pub equal : (r : Ordering) → is_eq r ≡ true → r ≡ Equal
-equal Less e = absurd cc
-equal Equal e = refl
-equal Greater e = absurd cc
 
 pub same_key : (q k : ℕ) → eq_by_cmp nat_cmp q k ≡ true → q ≡ k
 same_key q k t = nat_cmp-IsAntisymmetric q k (equal (nat_cmp q k) t)
@@ -41,12 +29,6 @@ pub key_turned : (k q : ℕ) → nat_eq k q ≡ eq_by_cmp nat_cmp q k
 key_turned k q = key_tests k q ∙ (eq_by_cmp_equiv nat_cmp_total).symm k q
 
 -- ---- look-ups
-
--- a tree's look-up is that of its entries
-pub tree_found : {K X : Type 0} (R : K → K → Ordering) (q : K) (es : List (K × X)) →
-    lookup (λ k. is_eq (R q k)) es ≡ find R q es
-tree_found R q [] = refl
-tree_found R q (e ∷ es) = ap (cond (is_eq (R q e.0)) (Some e.1)) (tree_found R q es)
 
 module _ {X : Type 0} where
   pub lookup_found : (q : ℕ) (es : List (ℕ × X)) → lookup (nat_eq q) es ≡ find nat_cmp q es

@@ -1,6 +1,6 @@
 -- The noted cells: what is sent of them fits, and they are sent one after another.
-use Rattle.std.proofs.Common.{◌≡◌, ℕ, ◌+◌, ◌≤◌, Bool, true, false, cond, List, [], ◌∷◌, ◌++◌}
-use Rattle.std.proofs.Common.{map, zero-add, refl, sym, ap, ◌∙◌, arith}
+use Rattle.std.proofs.Common.{◌≡◌, ℕ, ◌+◌, ◌≤◌, Bool, true, false, cond, List, [], ◌∷◌, ◌++◌, map}
+use Rattle.std.proofs.Common.{zero-add, refl, sym, ap, ◌∙◌, arith}
 use Rattle.std.specs.Prelude.{◌&&◌, int_le, unsigned_abs}
 use Rattle.std.specs.Int.Signed.{lt_z, lt_z_no}
 use Rattle.std.proofs.lemmas.Float.{T_from_false}
@@ -19,9 +19,9 @@ use Rattle.mc_view.specs.Sets.{has}
 use Rattle.mc_down.specs.declared.down.Down.{Down}
 use Rattle.mc_model.specs.Step.{cell_packet, is_sent, noted_packets}
 use Rattle.mc_model.proofs.FitsNotes.{sent_fits}
-use Rattle.mc_flush.specs.Sending.{play_bytes}
+use Rattle.mc_told.specs.Sending.{play_bytes}
 use Rattle.mc_flush.specs.Encoding.{looks_at, noted_cost}
-use Rattle.mc_flush.proofs.Pieces.{next_piece, play_bytes-append}
+use Rattle.mc_told.proofs.Pieces.{next_piece, play_bytes-append}
 
 -- ---- what is sent
 
