@@ -16,16 +16,18 @@ use Rattle.mc_land.specs.Land.{LandValue, states_of, with_ready}
 use Rattle.mc_land.specs.Ready.{touched_cells}
 use Rattle.mc_model.specs.Delta.{cell_packets, load}
 use Rattle.mc_model.specs.Packets.{frame_of, of_play}
-use Rattle.mc_flush.specs.Encoding.{AreFrames, EncodedValue, change_bytes, load_bytes}
+use Rattle.mc_flush.specs.Encoding.{AreFrames, EncodedValue}
+use Rattle.mc_loads.specs.ColumnFrames.{change_bytes, load_bytes}
 use Rattle.mc_flush.specs.Lists.{ListValue}
 use Rattle.mc_flush.specs.Readying.{SameWorld}
 use Rattle.mc_view.specs.declared.view_set.ViewSet.{ViewSet}
 use Rattle.mc_view.specs.Sets.{has, is_within}
 use Rattle.mc_view.specs.Views.{view_of, view_size, column_of_spot}
 use Rattle.mc_land.proofs.Orders.{places_total}
-use Rattle.mc_flush.specs.Seeing.{MarkValue, IsReady, entered_of, loaded}
-use Rattle.mc_flush.specs.Seeing.{placed_with}
-use Rattle.mc_flush.specs.Sending.{play_bytes}
+use Rattle.mc_flush.specs.Seeing.{MarkValue, loaded}
+use Rattle.mc_loads.specs.Columns.{IsReady, entered_of}
+use Rattle.mc_loads.specs.Columns.{placed_with}
+use Rattle.mc_told.specs.Sending.{play_bytes}
 use Rattle.mc_events.specs.declared.settings.Settings.{Settings}
 use Rattle.mc_events.specs.Served.{ConnectionValue}
 use Rattle.mc_events.specs.Ticking.{AreReady, columns_from, new_from}

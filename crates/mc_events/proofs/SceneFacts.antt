@@ -30,16 +30,17 @@ use Rattle.mc_model.specs.Step.{Handing, hand, due, flush, mark_closed, noted_pa
 use Rattle.mc_model.specs.Step.{showing}
 use Rattle.mc_model.specs.Step.{notes_of, opening_of}
 use Rattle.mc_flush.specs.Lists.{ListValue}
-use Rattle.mc_flush.specs.Seeing.{MarkValue, StandsFor, is_shown, noted_of, placed_column}
+use Rattle.mc_flush.specs.Seeing.{MarkValue, StandsFor, is_shown, noted_of}
+use Rattle.mc_loads.specs.Columns.{placed_column}
 use Rattle.mc_flush.specs.Seeing.{present_parts, seen}
 use Rattle.mc_flush.specs.Seeing as seeing
-use Rattle.mc_flush.specs.Sending.{play_bytes}
+use Rattle.mc_told.specs.Sending.{play_bytes}
 use Rattle.mc_events.specs.Served.{ConnectionValue}
 use Rattle.mc_events.specs.Stands.{said_in}
 use Rattle.mc_events.specs.Ticking.{IsScene, IsShown, Parts, due_packets, noted_now}
 use Rattle.mc_events.specs.Ticking.{opening_packets, pack_now, shown_now, spot_now}
 use Rattle.mc_events.specs.Ticking.{ticked_session, with_shown}
-use Rattle.mc_flush.proofs.Pieces.{play_bytes-append}
+use Rattle.mc_told.proofs.Pieces.{play_bytes-append}
 
 -- ---- what a flush says, of the parts
 

@@ -23,7 +23,8 @@ use Rattle.mc_model.proofs.RiseFacts.{placed_at, none_changed}
 use Rattle.mc_model.proofs.Handing.{HasPlayer}
 use Rattle.mc_model.proofs.RunEvents.{depart_beside, orderly_beside, orderly_step}
 use Rattle.mc_model.proofs.BalanceRun.{balanced_step}
-use Rattle.mc_flush.specs.Seeing.{Parts, StandsFor, is_shown, nothing_shown, kept_of, told_slot}
+use Rattle.mc_flush.specs.Seeing.{Parts, StandsFor, is_shown, nothing_shown}
+use Rattle.mc_told.specs.Telling.{kept_of, told_slot}
 use Rattle.mc_events.specs.Bare.{bare, bare_world}
 use Rattle.mc_events.specs.Served.{ConnectionValue, ServerValue, IsAt, kept_world, new_connection}
 use Rattle.mc_events.specs.Served.{sessions_of, shown_parts, with_session}

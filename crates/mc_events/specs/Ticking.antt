@@ -24,7 +24,8 @@ use Rattle.mc_model.specs.World.{World, Session, Player, is_closed, others, play
 use Rattle.mc_model.specs.World.{seen_of, spot_in}
 use Rattle.mc_model.specs.Step.{flush, noted_packets, notes_of, opening_of}
 use Rattle.mc_flush.specs.Lists.{ListValue}
-use Rattle.mc_flush.specs.Seeing.{MarkValue, StandsFor, IsReady, is_shown, placed_column}
+use Rattle.mc_flush.specs.Seeing.{MarkValue, StandsFor, is_shown}
+use Rattle.mc_loads.specs.Columns.{IsReady, placed_column}
 use Rattle.mc_flush.specs.Seeing as seeing
 use Rattle.mc_events.specs.declared.settings.Settings.{Settings}
 use Rattle.mc_events.specs.Served.{ConnectionValue, playing_of, things_of}

@@ -8,7 +8,7 @@ ghost use Rattle.mc_model.specs.Packets.{of_play, frame_of};
 ghost use Rattle.mc_model.specs.World.{spawn_height};
 ghost use Rattle.mc_model.specs.Step.{level};
 ghost use Rattle.mc_model.specs.Step.{opening_of};
-ghost use Rattle.mc_flush.specs.Sending.{IsClear, play_bytes};
+ghost use Rattle.mc_told.specs.Sending.{IsClear, play_bytes};
 
 use crate::Settings;
 use bytes::Bytes;

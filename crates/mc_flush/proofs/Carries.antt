@@ -18,7 +18,7 @@ use Rattle.mc_model.specs.Delta.{leaver, joiner, about}
 use Rattle.mc_model.proofs.FitsSize.{AtMost, few_bytes, at_most_joined, varint_size}
 use Rattle.mc_model.proofs.FitsSize.{spelling_payload, fields, all_fit}
 use Rattle.mc_flush.specs.Carried.{IsCarried}
-use Rattle.mc_flush.specs.Sending.{IsClear, AreClear}
+use Rattle.mc_told.specs.Sending.{IsClear, AreClear}
 use Rattle.mc_model.proofs.FitsChat.{utf8_fits}
 use mir.Val.{SFits}
 use Rattle.std.specs.Int.{w32}

@@ -1,7 +1,7 @@
 -- What is dirty, together with what enters, is exactly the difference of two sights: of what a mark
 -- stands for and of what is seen, also where the view moves in the tick in which blocks change.
 use Rattle.std.proofs.Common.{◌≡◌, ℕ, Bool, true, false, cond, not, List, [], ◌∷◌, ◌++◌, map, T}
-use Rattle.std.proofs.Common.{Option, Some, None, refl, sym, subst, ap, ◌∙◌, arith}
+use Rattle.std.proofs.Common.{Option, Some, None, refl, sym, subst, ap, ◌∙◌}
 use Rattle.std.specs.Prelude.{is_some, option_map, if◌then◌else◌}
 use Rattle.std.specs.List.{filter, flat_map, range_with_len}
 use Rattle.std.specs.Ordering.{int_cmp}
@@ -11,7 +11,6 @@ use Rattle.std.specs.FinMap.{int_cmp-IsAntisymmetric}
 use Rattle.std.proofs.lemmas.Cmp.{int_cmp_total}
 use Rattle.std.proofs.lemmas.List.{append-nil, nil_from_length}
 use Rattle.std.proofs.Math.Seq.{drop-append_seam}
-use Rattle.std.proofs.lemmas.Bool.Decides.{nat_tests}
 use lib.IntN.{ℤ, pos}
 use Rattle.mc_column.specs.Cells.{ColumnValue}
 use Rattle.mc_column.specs.Sizes.{cells}
@@ -36,31 +35,19 @@ use Rattle.mc_model.specs.Delta.{Pairs, delta, load, unload, cell_packets, colum
 use Rattle.mc_model.specs.Delta.{beat_packets, chat_packet, destroying, entity_packets}
 use Rattle.mc_model.specs.Delta.{moves_packets, pile_packets, slot_packets, time_packets}
 use Rattle.mc_flush.specs.Lists.{ListValue}
-use Rattle.mc_flush.specs.Seeing.{MarkValue, Parts, StandsFor, age_now, beat_now, changes}
-use Rattle.mc_flush.specs.Seeing.{changed_packets, columns_in, entered_of, gone_from, left_of}
-use Rattle.mc_flush.specs.Seeing.{listed}
-use Rattle.mc_flush.specs.Seeing.{leaver_packets, joiner_packets, load_packets, pairs_in}
-use Rattle.mc_flush.specs.Seeing.{packets_of}
-use Rattle.mc_flush.specs.Seeing.{place_packets, placed_column, placed_with, present_parts, seen}
-use Rattle.mc_flush.specs.Seeing.{kept_of, settled_parts, shown_now, told_as, told_slot}
-use Rattle.mc_flush.specs.Seeing.{unload_packets}
-use Rattle.mc_flush.specs.Seeing.{entity_frames}
-use Rattle.mc_flush.specs.Telling.{told_now}
-use Rattle.mc_flush.proofs.Rising.{sorted_is}
-use Rattle.mc_flush.proofs.Rows.{known_alike, seen_rows, shown_rows, shown_told}
+use Rattle.mc_flush.specs.Seeing.{MarkValue, Parts, StandsFor, changes, columns_in, listed}
+use Rattle.mc_flush.specs.Seeing.{leaver_packets, joiner_packets, pairs_in, present_parts, seen}
+use Rattle.mc_flush.specs.Seeing.{settled_parts}
+use Rattle.mc_told.specs.Telling.{age_now, beat_now, gone_from, packets_of, kept_of, shown_now}
+use Rattle.mc_told.specs.Telling.{told_as, told_slot, entity_frames, told_now}
+use Rattle.mc_loads.specs.Columns.{changed_packets, entered_of, left_of, load_packets}
+use Rattle.mc_loads.specs.Columns.{place_packets, placed_column, placed_with, unload_packets}
+use Rattle.mc_told.proofs.Rising.{sorted_is}
+use Rattle.mc_told.proofs.Rows.{known_alike, seen_rows, shown_rows, shown_told}
+use Rattle.mc_told.proofs.Keys.{all_kept, same_filter}
 use Rattle.mc_flush.proofs.Shown.{keys_shown, same_keys, shown_entries, shown_get, shown_has}
 
 -- ---- lists
-
--- tests that agree keep the same
-pub same_filter : {A : Type 0} (f g : A → Bool) → ((x : A) → f x ≡ g x) → (xs : List A) →
-    filter f xs ≡ filter g xs
-same_filter f g same xs = grind (arith, nat_tests)
-
--- a test that all pass keeps all
-pub all_kept : {A : Type 0} (xs : List A) → filter (λ (x : A). true) xs ≡ xs
-all_kept [] = refl
-all_kept {A} (x ∷ xs) = ap (λ (ys : List A). x ∷ ys) (all_kept xs)
 
 -- functions that agree give the same pieces
 same_joined : {A B : Type 0} (f g : A → List B) → ((x : A) → f x ≡ g x) → (xs : List A) →
@@ -73,7 +60,15 @@ filter_placed : (land : LandValue) (test : Place → Bool) (places : List Place)
     filter (λ (e : Place × ColumnValue). test e.0) (map (placed_column land) places)
     ≡ map (placed_column land) (filter test places)
 filter_placed land test [] = refl
-filter_placed land test (place ∷ places) = grind (arith, nat_tests, filter_placed land test places)
+filter_placed land test (place ∷ places) =
+    elim (test place) as (λ b. cond b (placed_column land place ∷ filter (λ (e : Place ×
+    ColumnValue). test e.0) (map (placed_column land) places)) (filter (λ (e : Place ×
+    ColumnValue). test e.0) (map (placed_column land) places)) ≡ map (placed_column land) (cond
+    b (place ∷ filter test places) (filter test places))) [
+      | true ↦ ap (λ (es : List (Place × ColumnValue)). placed_column land place ∷ es)
+          (filter_placed land test places)
+      | false ↦ filter_placed land test places
+    ]
 
 -- ---- the columns that were shown
 
@@ -123,7 +118,15 @@ unloads_are : (land : LandValue) (was : Option ViewSet) (parts : Parts) (view : 
     (record parts { terrain = land.terrain; edits = land.edits })) place)) (keys m))
     ≡ unload_packets (left_of was view)
 unloads_are land was parts view m is =
-    grind (arith, nat_tests, in_keys, same_filter, shown_has, left_is)
+    ap (map unload)
+    (ap (filter (λ (place : Place). not (contains_key (columns_in (Some view)
+    (record parts { terrain = land.terrain; edits = land.edits })) place))) (ap keys is
+    ∙ in_keys was parts)
+    ∙ same_filter (λ (place : Place). not (contains_key (columns_in (Some view)
+    (record parts { terrain = land.terrain; edits = land.edits })) place))
+    (λ (place : Place). not (has view place))
+    (λ place. ap not (shown_has land.terrain land.edits view place)) (places_in was)
+    ∙ left_is was view)
 
 -- the packets that load columns
 loads_are : (land : LandValue) (was : Option ViewSet) (parts : Parts) (view : ViewSet)
@@ -131,7 +134,12 @@ loads_are : (land : LandValue) (was : Option ViewSet) (parts : Parts) (view : Vi
     map load (filter (λ (e : Place × ColumnValue). not (contains_key m e.0))
     (map (placed_column land) (all_of view))) ≡ load_packets land (entered_of was view)
 loads_are land was parts view m is =
-    grind (arith, nat_tests, filter_placed land, same_filter, in_has was parts, entered_is was view)
+    ap (map load)
+    (filter_placed land (λ (place : Place). not (contains_key m place)) (all_of view)
+    ∙ ap (map (placed_column land)) (same_filter
+    (λ (place : Place). not (contains_key m place)) (λ (place : Place). not (is_within was place))
+    (λ place. ap (λ (n : FinMap place_cmp ColumnValue). not (contains_key n place)) is
+    ∙ ap not (in_has was parts place)) (all_of view) ∙ entered_is was view))
 
 -- ---- cells that changed
 
@@ -160,13 +168,23 @@ cells_are : (land : LandValue) (list : ListValue) (was : Option ViewSet)
     (map (placed_column land) places)
     ≡ changed_packets land (filter (is_within was) places)
 cells_are land list was m is [] = refl
-cells_are land list was m is (place ∷ places) = grind (
-  arith,
-  nat_tests,
-  cells_are land list was m is places,
-  in_get was (settled_parts land list) place,
-  dirty_differs land list place,
-)
+cells_are land list was m is (place ∷ places) =
+    let f : Place × ColumnValue → List Down = λ e. column_changes e.0 (get m e.0) e.1 in
+    let there : get m place ≡ cond (is_within was place)
+    (Some (placed_with land.terrain land.settled place).1) None =
+    ap (λ (n : FinMap place_cmp ColumnValue). get n place) is
+    ∙ in_get was (settled_parts land list) place in
+    ap (λ (o : Option ColumnValue). column_changes place o (placed_column land place).1
+    ++ flat_map f (map (placed_column land) places)) there
+    ∙ elim (is_within was place) as (λ b. column_changes place
+    (cond b (Some (placed_with land.terrain land.settled place).1) None)
+    (placed_column land place).1
+    ++ flat_map f (map (placed_column land) places)
+    ≡ flat_map (place_packets land) (cond b (place ∷ filter (is_within was) places)
+    (filter (is_within was) places))) [
+      | true ↦ λ i. dirty_differs land list place i ++ cells_are land list was m is places i
+      | false ↦ cells_are land list was m is places
+    ]
 
 -- ---- entities
 
@@ -188,13 +206,21 @@ destroys_are : (m : FinMap int_cmp Seen) (told : Told) (es : List Entity) (view 
     AreTold m told →
     destroying (filter (λ (eid : ℤ). not (contains_key (shown_now es view) eid)) (keys m))
     ≡ destroying (gone_from told es view)
-destroys_are m told es view same = grind (arith, nat_tests, keys_told)
+destroys_are m told es view same =
+    ap (λ (ks : List ℤ). destroying (filter
+    (λ (eid : ℤ). not (contains_key (shown_now es view) eid)) ks)) (keys_told m told same)
 
 -- what an entity takes rests on no more than what is kept of it
 packets_alike : (eid : ℤ) (new : Seen) (o : Option Seen) (t : Option (Spot × Pile)) →
     option_map kept_of o ≡ option_map told_slot t →
     entity_packets eid o new ≡ entity_packets eid (option_map (told_as new.kind) t) new
-packets_alike eid new o t same = grind (arith, nat_tests)
+packets_alike eid new None None same = refl
+packets_alike eid new None (Some told) same = absurd cc
+packets_alike eid new (Some old) None same = absurd cc
+packets_alike eid new (Some old) (Some told) same =
+    let kept : kept_of old ≡ told_slot told = cc in
+    λ i. moves_packets eid new.spot (moves_of (kept i).0 new.spot)
+    ++ pile_packets eid new.kind (kept i).1 new.pile
 
 -- the packets of the entities that are shown
 entities_are : (m : FinMap int_cmp Seen) (told : Told) (es : List Entity) (view : ViewSet)
@@ -202,7 +228,10 @@ entities_are : (m : FinMap int_cmp Seen) (told : Told) (es : List Entity) (view 
     flat_map (λ (e : ℤ × Seen). entity_packets e.0 (get m e.0) e.1) (entries (shown_now es view))
     ≡ entity_frames told es view
 entities_are m told es view high r same =
-    grind (arith, nat_tests, shown_rows, seen_rows, same_joined, packets_alike)
+    ap (flat_map (λ (e : ℤ × Seen). entity_packets e.0 (get m e.0) e.1))
+    (shown_rows view es high r ∙ sym (seen_rows view es))
+    ∙ same_joined (λ (e : ℤ × Seen). entity_packets e.0 (get m e.0) e.1) (packets_of told)
+    (λ e. packets_alike e.0 e.1 (get m e.0) (get told e.0) (same e.0)) _
 
 -- ---- all of it
 

@@ -1,44 +1,34 @@
 -- What a hash map finds is what the finite map of its entries has.
 use Rattle.std.proofs.Common.{◌≡◌, ℕ, suc, ◌+◌, Bool, true, false, cond, not, List, [], ◌∷◌, ◌++◌}
 use Rattle.std.proofs.Common.{length, is_some, arith, Option, Some, None, refl, sym, subst, ap, ◌∙◌}
-use Rattle.std.proofs.lemmas.Bool.Decides.{nat_tests}
 use Rattle.std.specs.Prelude.{nat_eq}
 use Rattle.std.specs.List.{AllByRecursion, IsDistinct}
 use Rattle.std.specs.Map.{lookup, keys_of}
-use Rattle.std.specs.declared.cmp.Ordering.{Ordering}
-use Rattle.std.specs.declared.cmp.Ordering.TheVariants.{Less, Equal, Greater}
 use Rattle.std.specs.Ordering.{nat_cmp, is_eq, eq_by_cmp}
 use Rattle.std.specs.Cmp.{nat_cmp_total, tied_itself, eq_by_cmp_equiv, unsigned_Decides}
 use Rattle.mc_model.specs.Delta.{is_named}
 use Rattle.mc_flush.specs.Players.{with_other}
+use Rattle.mc_told.proofs.Keys.{alike, equal, tree_found}
 use Rattle.std.specs.FinMap.{find, get, len, len-empty, len-insert, contains_key, insert, remove}
 use Rattle.std.specs.FinMap.{from_entries, get-from_entries, get-insert, get-remove}
 use Rattle.std.specs.FinMap.{nat_cmp-IsAntisymmetric, same_map}
 
 -- ---- two ways to say that keys are equal
 
-pub alike : (a b : Bool) → (a ≡ true → b ≡ true) → (b ≡ true → a ≡ true) → a ≡ b
-alike a b f g = grind (arith, nat_tests)
-
-pub equal : (r : Ordering) → is_eq r ≡ true → r ≡ Equal
-equal r e = grind (arith, nat_tests)
-
 pub same_key : (q k : ℕ) → eq_by_cmp nat_cmp q k ≡ true → q ≡ k
 same_key q k t = nat_cmp-IsAntisymmetric q k (equal (nat_cmp q k) t)
 
 pub key_tests : (q k : ℕ) → nat_eq q k ≡ eq_by_cmp nat_cmp q k
-key_tests q k = grind (arith, nat_tests)
+key_tests q k =
+    alike (nat_eq q k) (eq_by_cmp nat_cmp q k)
+    (λ t. subst (λ (x : ℕ). eq_by_cmp nat_cmp q x ≡ true) ((unsigned_Decides q k).0 t) (ap is_eq
+    (tied_itself nat_cmp_total q)))
+    (λ t. (unsigned_Decides q k).1 (same_key q k t))
 
 pub key_turned : (k q : ℕ) → nat_eq k q ≡ eq_by_cmp nat_cmp q k
 key_turned k q = key_tests k q ∙ (eq_by_cmp_equiv nat_cmp_total).symm k q
 
 -- ---- look-ups
-
--- a tree's look-up is that of its entries
-pub tree_found : {K X : Type 0} (R : K → K → Ordering) (q : K) (es : List (K × X)) →
-    lookup (λ k. is_eq (R q k)) es ≡ find R q es
-tree_found R q [] = refl
-tree_found R q (e ∷ es) = ap (cond (is_eq (R q e.0)) (Some e.1)) (tree_found R q es)
 
 module _ {X : Type 0} where
   pub lookup_found : (q : ℕ) (es : List (ℕ × X)) → lookup (nat_eq q) es ≡ find nat_cmp q es
@@ -126,7 +116,15 @@ pub kept_so : (others found new : List (ℕ × List ℕ)) (k q : ℕ) (name stor
     lookup (λ y. is_eq (nat_cmp q y)) new ≡ cond (is_eq (nat_cmp k q)) (Some stored) (lookup (λ y.
     is_eq (nat_cmp q y)) found) → find nat_cmp q new ≡ with_other others k name (find nat_cmp q
     found) q
-kept_so others found new k q name stored named is not_named copy put = grind (arith, nat_tests)
+kept_so others found new k q name stored named is not_named copy put =
+    sym (tree_found nat_cmp q new) ∙ put
+    ∙ ap (λ (b : Bool). cond b (Some stored) (lookup (λ y. is_eq (nat_cmp q y)) found))
+    ((eq_by_cmp_equiv nat_cmp_total).symm k q)
+    ∙ ap (λ (x : List ℕ). cond (eq_by_cmp nat_cmp q k) (Some x) (lookup (λ y. is_eq (nat_cmp q y))
+    found)) copy
+    ∙ ap (cond (eq_by_cmp nat_cmp q k) (Some name)) (tree_found nat_cmp q found)
+    ∙ ap (λ (b : Bool). cond (not b) (cond (eq_by_cmp nat_cmp q k) (Some name) (find nat_cmp q
+    found)) (find nat_cmp q found)) (sym not_named ∙ is)
 
 -- whether a name is that of an identifier, by a look-up
 pub named_so : (k : ℕ) (es : List (ℕ × List ℕ)) (other : Option (List ℕ)) (name : List ℕ) →

@@ -16,7 +16,7 @@ use Rattle.std.proofs.lemmas.Map.Entries.{option_filter}
 use Rattle.mc_model.specs.Delta.{is_named, missing}
 use Rattle.mc_flush.specs.Players.{is_other, with_other}
 use Rattle.mc_flush.proofs.Lookups.{same_key, not_again}
-use Rattle.mc_flush.proofs.Ordered.{sorted_from, sorted_filter, find_filter}
+use Rattle.mc_told.proofs.Ordered.{sorted_from, sorted_filter, find_filter}
 
 abbrev pub Players : Type 0
 Players = List (ℕ × List ℕ)

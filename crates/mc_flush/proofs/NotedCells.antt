@@ -1,7 +1,6 @@
 -- The noted cells: what is sent of them fits, and they are sent one after another.
-use Rattle.std.proofs.Common.{◌≡◌, ℕ, ◌+◌, ◌≤◌, Bool, true, false, cond, List, [], ◌∷◌, ◌++◌}
-use Rattle.std.proofs.Common.{map, zero-add, refl, sym, ap, ◌∙◌, arith}
-use Rattle.std.proofs.lemmas.Bool.Decides.{nat_tests}
+use Rattle.std.proofs.Common.{◌≡◌, ℕ, ◌+◌, ◌≤◌, Bool, true, false, cond, List, [], ◌∷◌, ◌++◌, map}
+use Rattle.std.proofs.Common.{zero-add, refl, sym, ap, ◌∙◌, arith}
 use Rattle.std.specs.Prelude.{◌&&◌, int_le, unsigned_abs}
 use Rattle.std.specs.Int.Signed.{lt_z, lt_z_no}
 use Rattle.std.proofs.lemmas.Float.{T_from_false}
@@ -20,9 +19,9 @@ use Rattle.mc_view.specs.Sets.{has}
 use Rattle.mc_down.specs.declared.down.Down.{Down}
 use Rattle.mc_model.specs.Step.{cell_packet, is_sent, noted_packets}
 use Rattle.mc_model.proofs.FitsNotes.{sent_fits}
-use Rattle.mc_flush.specs.Sending.{play_bytes}
+use Rattle.mc_told.specs.Sending.{play_bytes}
 use Rattle.mc_flush.specs.Encoding.{looks_at, noted_cost}
-use Rattle.mc_flush.proofs.Pieces.{next_piece, play_bytes-append}
+use Rattle.mc_told.proofs.Pieces.{next_piece, play_bytes-append}
 
 -- ---- what is sent
 
@@ -37,7 +36,15 @@ at_least a b e = in_order a b (lt_z_no (T_from_false (lt_z b a) e))
 pub sent_where : (view : ViewSet) (cell : Cell) (x y z : ℤ) (seen : Bool) → y ≡ cell.y →
     lt_z y (negsuc 2047) ≡ false → lt_z (pos 2047) y ≡ false → x ≡ column_number cell.x →
     z ≡ column_number cell.z → seen ≡ has view (x, z) → seen ≡ is_sent (has view) cell
-sent_where view cell x y z seen same low high at_x at_z is = grind (arith, nat_tests)
+sent_where view cell x y z seen same low high at_x at_z is =
+    let l : int_le (negsuc 2047) cell.y ≡ true =
+    at_least (negsuc 2047) cell.y (ap (λ (v : ℤ). lt_z v (negsuc 2047)) (sym same) ∙ low) in
+    let h : int_le cell.y (pos 2047) ≡ true =
+    at_least cell.y (pos 2047) (ap (lt_z (pos 2047)) (sym same) ∙ high) in
+    is ∙ (λ i. has view (at_x i, at_z i))
+    ∙ ap (λ (b : Bool). b && has view (place_of cell.x cell.z)) (sym h)
+    ∙ ap (λ (b : Bool). b && (int_le cell.y (pos 2047) && has view (place_of cell.x cell.z)))
+    (sym l)
 
 -- a number of a view's middle is not far
 middle_small : (z : ℤ) → negsuc 1874999 ≤ℤ z → z ≤ℤ pos 1875000 → unsigned_abs z ≤ 1875001
@@ -48,7 +55,9 @@ middle_small (negsuc n) low high = omega (arith, ints, low)
 pub cell_fits : (view : ViewSet) (cell : Cell) → negsuc 1874999 ≤ℤ view.cx →
     view.cx ≤ℤ pos 1875000 → negsuc 1874999 ≤ℤ view.cz → view.cz ≤ℤ pos 1875000 → view.d ≤ 8 →
     is_sent (has view) cell ≡ true → FitsCell cell
-cell_fits view cell x_low x_high z_low z_high few sent = grind (arith, nat_tests)
+cell_fits view cell x_low x_high z_low z_high few sent =
+    sent_fits (view.cx, view.cz) view.d cell (middle_small view.cx x_low x_high)
+    (middle_small view.cz z_low z_high) few sent
 
 -- a cell, and those behind it
 noted_next : (terrain : Terrain) (edits : FinMap key_cmp ℕ) (seen : Place → Bool) (cell : Cell)
@@ -81,9 +90,18 @@ noted_put terrain edits seen cell left rest now after total is all put =
 -- likewise what they cost
 cost_of_next : (view : ViewSet) (cell : Cell) (rest : List Cell) →
     noted_cost view (cell ∷ rest) ≡ noted_cost view (cell ∷ []) + noted_cost view rest
-cost_of_next view cell rest = grind (arith, nat_tests, sum_by-append looks_at (cell ∷ []))
+cost_of_next view cell rest =
+    let later : List Cell = filter (is_sent (has view)) rest in
+    elim (is_sent (has view) cell) as (λ b. sum_by looks_at (cond b (cell ∷ later) later)
+    ≡ sum_by looks_at (cond b (cell ∷ []) []) + sum_by looks_at later) [
+      | true ↦ sum_by-append looks_at (cell ∷ []) later
+      | false ↦ sym (zero-add (sum_by looks_at later))
+    ]
 
 pub noted_paid : (view : ViewSet) (cell : Cell) (left rest : List Cell) (now after total : ℕ) →
     left ≡ cell ∷ rest → now + noted_cost view left ≡ total →
     after ≡ now + noted_cost view (cell ∷ []) → after + noted_cost view rest ≡ total
-noted_paid view cell left rest now after total is all put = grind (arith, nat_tests, cost_of_next)
+noted_paid view cell left rest now after total is all put =
+    let whole : noted_cost view left ≡ noted_cost view (cell ∷ []) + noted_cost view rest =
+    ap (noted_cost view) is ∙ cost_of_next view cell rest in
+    omega (arith, whole, all, put)

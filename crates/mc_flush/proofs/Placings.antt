@@ -14,7 +14,7 @@ use Rattle.mc_model.specs.Step.{placing}
 use Rattle.mc_model.proofs.PatternFacts.{pattern_one}
 use Rattle.mc_model.proofs.FitsNumbers.{pattern_fits, degrees_fit}
 use Rattle.mc_model.proofs.FitsPlay.{place_clear}
-use Rattle.mc_flush.specs.Sending.{IsClear}
+use Rattle.mc_told.specs.Sending.{IsClear}
 
 small : (z : ℤ) → SFits w32 z → unsigned_abs z < 2 ^ 32
 small (pos n) fits = let f = fits.sfits in omega (arith, ints, f)

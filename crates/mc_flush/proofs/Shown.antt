@@ -6,8 +6,8 @@ use Rattle.std.specs.declared.cmp.Ordering.{Ordering}
 use Rattle.std.specs.Ordering.{eq_by_cmp}
 use Rattle.std.specs.Cmp.{IsTotalOrder, eq_by_cmp_equiv}
 use Rattle.std.specs.FinMap.{FinMap, IsAntisymmetric, find, is_sorted, keys, entries}
-use Rattle.std.specs.FinMap.{entries_sorted, contains_key, contains_key-keys, from_entries}
-use Rattle.std.specs.FinMap.{get, get-from_entries}
+use Rattle.std.specs.FinMap.{entries_sorted, contains_key, contains_key-keys, from_entries, get}
+use Rattle.std.specs.FinMap.{get-from_entries}
 use Rattle.std.specs.FinMap.Entries.{same_entries}
 use Rattle.std.proofs.lemmas.Map.Views.{list_any-from_Contains, Contains-from_any}
 use Rattle.mc_land.specs.declared.terrain.Terrain.{Terrain}
@@ -17,15 +17,13 @@ use Rattle.mc_land.proofs.Orders.{places_total, exact_places}
 use Rattle.mc_model.proofs.ViewFacts.{view_near, near_view}
 use Rattle.mc_view.specs.declared.view_set.ViewSet.{ViewSet}
 use Rattle.mc_view.specs.Sets.{has, all_of}
-use Rattle.mc_flush.specs.Seeing.{placed_with}
-use Rattle.mc_flush.proofs.Lookups.{equal, alike}
-use Rattle.mc_flush.proofs.Ordered.{entries_made}
-use Rattle.mc_flush.proofs.Rising.{rising, sorted_is, view_rising}
+use Rattle.mc_loads.specs.Columns.{placed_with}
+use Rattle.mc_told.proofs.Keys.{equal, alike}
+use Rattle.mc_loads.proofs.Places.{same_place}
+use Rattle.mc_told.proofs.Ordered.{entries_made}
+use Rattle.mc_told.proofs.Rising.{rising, sorted_is, view_rising}
 
 -- ---- which columns a view has
-
-pub same_place : (x y : Place) → eq_by_cmp place_cmp x y ≡ true → x ≡ y
-same_place x y t = exact_places x y (equal (place_cmp x y) t)
 
 -- a column is among those of a view where the view has it
 pub listed_has : (view : ViewSet) (place : Place) →

@@ -1,10 +1,6 @@
 pub mod Carried
-pub mod Cells
-pub mod Heads
 pub mod Lists
 pub mod Players
-pub mod Sending
 pub mod Seeing
 pub mod Encoding
 pub mod Readying
-pub mod Telling

@@ -1,19 +1,16 @@
 -- What a client is to be shown, of the parts that a view borrows, and what a mark stands for.
-use Rattle.std.specs.Prelude.{◌≡◌, ℕ, ◌≤◌, Bool, not, true, List, [], ◌++◌, map, length, replicate}
-use Rattle.std.specs.Prelude.{Option, Some, None, is_some, option_map, if◌then◌else◌}
-use Rattle.std.specs.List.{filter, filter_map, flat_map}
-use Rattle.std.specs.Ordering.{int_cmp}
-use Rattle.std.specs.FinMap.{FinMap, contains_key, empty, from_entries, get, keys}
+use Rattle.std.specs.Prelude.{◌≡◌, ℕ, ◌≤◌, Bool, not, List, ◌++◌, map, length, replicate, Option}
+use Rattle.std.specs.Prelude.{Some, None, is_some, option_map, if◌then◌else◌}
+use Rattle.std.specs.List.{filter, filter_map}
+use Rattle.std.specs.FinMap.{FinMap, empty, from_entries, get}
 use Rattle.std.specs.FinSet as set
 use lib.IntN.{ℤ, pos, negsuc}
 use lib.Signed.{◌≤ℤ◌}
 use Rattle.mc_column.specs.Cells.{ColumnValue}
 use Rattle.mc_fields.specs.declared.position.Spot.{Spot}
 use Rattle.mc_land.specs.declared.terrain.Terrain.{Terrain}
-use Rattle.mc_land.specs.declared.ready.Touched.{Touched}
-use Rattle.mc_land.specs.Places.{Place, key_cmp, place_cmp, IsPlace}
-use Rattle.mc_land.specs.Land.{LandValue, states_of, biomes_of, dirty_in}
-use Rattle.mc_slots.specs.declared.slot.Slot.{Slot}
+use Rattle.mc_land.specs.Places.{Place, key_cmp, place_cmp}
+use Rattle.mc_land.specs.Land.{LandValue}
 use Rattle.mc_slots.specs.declared.pile.Pile.{Pile}
 use Rattle.mc_slots.specs.declared.pile.Pile.TheVariants.{Empty}
 use Rattle.mc_slots.specs.Pile.{slot_of}
@@ -21,18 +18,18 @@ use Rattle.mc_windows.specs.Pack.{PackValue, IsPack, pack_size}
 use Rattle.mc_entities.specs.declared.entity.Entity.{Entity}
 use Rattle.mc_down.specs.declared.down.Down.{Down}
 use Rattle.mc_view.specs.declared.view_set.ViewSet.{ViewSet}
-use Rattle.mc_view.specs.Sets.{all_of, has, is_within, lacking}
+use Rattle.mc_view.specs.Sets.{all_of, has, is_within}
 use Rattle.mc_view.specs.Told.{Told}
-use Rattle.mc_view.specs.Views.{column_of_spot}
-use Rattle.mc_model.specs.declared.seen.SeenKind.{SeenKind}
-use Rattle.mc_model.specs.Sight.{Seen, Sight}
-use Rattle.mc_model.specs.Ticks.{beat_at, shown_age}
+use Rattle.mc_model.specs.Sight.{Sight}
 use Rattle.mc_model.specs.Notes.{Noted}
 use Rattle.mc_model.specs.World.{seen_of}
 use Rattle.mc_model.specs.Step.{noted_packets, notes_of}
-use Rattle.mc_model.specs.Delta.{Pairs, missing, leaver, joiner, about, unload, load}
-use Rattle.mc_model.specs.Delta.{beat_packets, time_packets, cell_packets, destroying}
-use Rattle.mc_model.specs.Delta.{entity_packets, slot_packets, chat_packet}
+use Rattle.mc_model.specs.Delta.{Pairs, missing, leaver, joiner, about, beat_packets, time_packets}
+use Rattle.mc_model.specs.Delta.{destroying, slot_packets, chat_packet}
+use Rattle.mc_told.specs.Telling.{age_now, beat_now, entity_frames, gone_from, in_view, kept_of}
+use Rattle.mc_told.specs.Telling.{told_slot}
+use Rattle.mc_loads.specs.Columns.{changed_packets, entered_of, left_of, load_packets, placed_with}
+use Rattle.mc_loads.specs.Columns.{unload_packets}
 use Rattle.mc_flush.specs.Lists.{ListValue}
 
 -- ---- what all clients are shown a part of
@@ -52,31 +49,8 @@ abbrev pub settled_parts : LandValue → ListValue → Parts
 settled_parts land list =
     record { players = list.last; terrain = land.terrain; edits = land.settled }
 
--- a column of a terrain with these edits, under its place
-abbrev pub placed_with : Terrain → FinMap key_cmp ℕ → Place → Place × ColumnValue
-placed_with terrain edits place =
-    (place, record { states = states_of terrain edits place; biomes = biomes_of terrain place })
-
--- a column as it is now
-abbrev pub placed_column : LandValue → Place → Place × ColumnValue
-placed_column land place = placed_with land.terrain land.edits place
-
 abbrev pub columns_of : Parts → ViewSet → FinMap place_cmp ColumnValue
 columns_of parts view = from_entries (map (placed_with parts.terrain parts.edits) (all_of view))
-
--- the entities that stand in a view
-abbrev pub is_in : ViewSet → Entity → Bool
-is_in view e = has view (column_of_spot e.spot)
-
-abbrev pub in_view : ViewSet → List Entity → List Entity
-in_view view entities = filter (is_in view) entities
-
--- the beat and the age that a client is told at an age
-abbrev pub beat_now : ℕ → Option ℤ
-beat_now age = Some (pos (beat_at age))
-
-abbrev pub age_now : ℕ → Option ℤ
-age_now age = Some (pos (shown_age age))
 
 -- what a client is to be shown: the beat and the age, the players that are in the list now, the columns
 -- of the view as they are, the entities in it that are not its own, its pack, and all that was said
@@ -128,19 +102,6 @@ abbrev pub columns_in : Option ViewSet → Parts → FinMap place_cmp ColumnValu
 columns_in None parts = empty
 columns_in (Some view) parts = columns_of parts view
 
--- an entity of a kind of which a client was told
-abbrev pub told_as : SeenKind → Spot × Pile → Seen
-told_as kind told =
-    record { kind = kind; spot = told.0; head = told.0.yaw; pile = slot_of told.1 }
-
--- of an entity that was seen, what is kept of it: where it was, and the pile that it held or was
-abbrev pub kept_of : Seen → Spot × Slot
-kept_of e = (e.spot, e.pile)
-
--- and of what was told
-abbrev pub told_slot : Spot × Pile → Spot × Slot
-told_slot told = (told.0, slot_of told.1)
-
 -- a mark stands for a sight, of the parts as they were; of what was said it says nothing, and of
 -- entities not what they are
 pub record Shown (mark : MarkValue) (parts : Parts) (p : Sight) : Type 0 where
@@ -160,19 +121,6 @@ pub record IsMark (mark : MarkValue) : Type 0 where
   pub pack : IsPack mark.slots Empty
 
 -- ---- what differs from what was shown
-
--- the columns of one view that another lacks, where there may be none
-abbrev pub left_of : Option ViewSet → ViewSet → List Place
-left_of None view = []
-left_of (Some old) view = lacking old view
-
-abbrev pub entered_of : Option ViewSet → ViewSet → List Place
-entered_of None view = all_of view
-entered_of (Some old) view = lacking view old
-
--- the entities that are to be shown, of those that may be
-abbrev pub shown_now : List Entity → ViewSet → FinMap int_cmp Seen
-shown_now entities view = from_entries (filter_map seen_of (in_view view entities))
 
 -- the columns that are not shown any more, those that were not shown before, and those that stay
 abbrev pub unloaded : MarkValue → ViewSet → List Place
@@ -201,41 +149,11 @@ joiner_packets before now = about (pos 0) (map joiner (missing now before))
 abbrev pub player_packets : Pairs → Pairs → List Down
 player_packets before now = leaver_packets before now ++ joiner_packets before now
 
--- the numbers of those that a client was told of and that it is to be shown no more
-abbrev pub gone_from : Told → List Entity → ViewSet → List ℤ
-gone_from told entities view =
-    filter (λ (eid : ℤ). not (contains_key (shown_now entities view) eid)) (keys told)
-
-abbrev pub unload_packets : List Place → List Down
-unload_packets places = map unload places
-
-abbrev pub load_packets : LandValue → List Place → List Down
-load_packets land places = map load (map (placed_column land) places)
-
--- the cells of a column that changed since the last settling, as they are now
-abbrev pub place_packets : LandValue → Place → List Down
-place_packets land place =
-    cell_packets place (states_of land.terrain land.edits place)
-    (map (λ (t : Touched). t.index) (dirty_in land place))
-
-abbrev pub changed_packets : LandValue → List Place → List Down
-changed_packets land places = flat_map (place_packets land) places
-
 -- what differs of columns
 abbrev pub column_packets : LandValue → MarkValue → ViewSet → List Down
 column_packets land mark view =
     unload_packets (unloaded mark view)
     ++ (load_packets land (loaded mark view) ++ changed_packets land (stayed mark view))
-
--- an entity that is shown, told to a client that was told this of it
-abbrev pub packets_of : Told → ℤ × Seen → List Down
-packets_of told e =
-    entity_packets e.0 (option_map (told_as e.1.kind) (get told e.0)) e.1
-
--- in rising number
-abbrev pub entity_frames : Told → List Entity → ViewSet → List Down
-entity_frames told entities view =
-    flat_map (packets_of told) (filter_map seen_of (in_view view entities))
 
 -- the slots of the pack that differ
 abbrev pub pack_packets : List Pile → List Pile → List Down
@@ -276,11 +194,6 @@ noted_of land view notes spot pack =
 -- a name that the list's packet can carry: 16 code points at most, of four bytes at most
 abbrev pub IsNamed : ℕ × List ℕ → Type 0
 IsNamed e = length e.1 ≤ 64
-
--- a column that may be looked at
-pub record IsReady (land : LandValue) (place : Place) : Type 0 where
-  pub near : IsPlace place
-  pub ready : set.contains land.ready place ≡ true
 
 -- A player's place is within 30,000,000 blocks on x and z, and from 64 below to 4,096 above on y. A
 -- dropped item may lie half a block further east and south.

@@ -7,22 +7,25 @@ ghost use Rattle.mc_entities.specs.Folk.{eid_of};
 ghost use Rattle.mc_model.specs.Sight.{Sight};
 ghost use Rattle.mc_model.specs.Delta.{delta};
 ghost use Rattle.mc_model.specs.World.{others};
-ghost use Rattle.mc_flush.specs.Sending.{play_bytes};
-ghost use Rattle.mc_flush.specs.Seeing.{StandsFor, IsNamed, IsReady, changes, listed, loaded};
-ghost use Rattle.mc_flush.specs.Seeing.{noted_of, player_packets, present_parts, seen};
+ghost use Rattle.mc_told.specs.Sending.{play_bytes};
+ghost use Rattle.mc_flush.specs.Seeing.{column_packets, StandsFor, IsNamed, changes, listed};
+ghost use Rattle.mc_flush.specs.Seeing.{loaded, noted_of, player_packets, present_parts, seen};
 ghost use Rattle.mc_flush.specs.Seeing.{settled_parts};
+ghost use Rattle.mc_loads.specs.Columns.{IsReady};
 ghost use Rattle.mc_flush.specs.Encoding.{AreFrames, looks, noted_looks};
-ghost use Rattle.mc_flush.specs.Telling.{told_now};
+ghost use Rattle.mc_told.specs.Telling.{told_now};
 
 use crate::noted::noted_piece;
-use crate::pushing::{push_age, push_lines, push_notes, push_piece, push_slots};
+use crate::pushing::{push_age, push_lines, push_notes, push_slots};
 use crate::{Encoded, Line, Mark, PlayerList};
 use bytes::Bytes;
 use mc_entities::Folk;
 use mc_fields::Spot;
 use mc_land::{Land, Steps};
+use mc_loads::{ColumnsView, push_piece};
 use mc_model::Notes;
 use mc_nbt::NoMemory;
+use mc_told::EntityView;
 use mc_view::ViewSet;
 use mc_windows::Pack;
 use std::alloc::Global;
@@ -55,6 +58,50 @@ pub struct ClientView<'w> {
 }
 
 impl ClientView<'_> {
+    /// What the client is shown of the entities.
+    pub(crate) fn entities(&self) -> EntityView<'_>
+        ensures folk { result.folk.now ≡ self.now.folk.now }
+        ensures moves { result.moves.now ≡ self.now.encoded.now.moves }
+        ensures me { result.me ≡ self.now.me }
+        ensures view { result.view ≡ self.now.view }
+    {
+        EntityView {
+            folk: self.folk,
+            moves: self.encoded.moves(),
+            me: self.me,
+            view: self.view,
+        }
+    }
+
+    /// Appends what differs of columns: those that are out of view, those that come, and the cells
+    /// that changed of those that stay.
+    fn push_columns<L: Ledger>(
+        &self,
+        alloc: Global,
+        mark: &Mark,
+        out: &mut Vec<Bytes>,
+        steps: &mut Steps<L>,
+    ) -> Result<(), NoMemory>
+        requires ready { AllByRecursion (IsReady self.now.land.now)
+            (loaded mark.now self.now.view) }
+        requires frames { AreFrames self.now.land.now self.now.list.now self.now.encoded.now }
+        ensures sent { OnOk result (joined out.new.items ≡ joined out.old.items ++ play_bytes
+            (column_packets self.now.land.now mark.now self.now.view)) }
+        ensures cost { OnOk result (steps.new ≡ steps.old
+            + looks self.now.encoded.now self.now.land.now mark.now self.now.view) }
+        ensures bounded { steps.new ≤ steps.old
+            + looks self.now.encoded.now self.now.land.now mark.now self.now.view }
+    {
+        let columns = ColumnsView {
+            land: self.land,
+            encoded: self.encoded.columns(),
+            was: mark.shown(),
+            view: self.view,
+        };
+        columns.push_columns(alloc, out, steps)?;
+        Ok(())
+    }
+
     /// The frames about players: of all, where nothing was shown, else of who left and of who came.
     fn players(&self, alloc: Global, mark: &Mark) -> Result<Bytes, NoMemory>
         requires few { map.len self.now.list.now.present ≤ 50 }
@@ -102,6 +149,7 @@ impl ClientView<'_> {
         ensures bounded { steps.new ≤ steps.old
             + looks self.now.encoded.now self.now.land.now mark.old self.now.view }
     {
+        // Its walk is that of eight exits, at two of which the piece of what is shown is alive.
         push_age(alloc, mark, self.age, out)?;
         push_piece(self.players(alloc, mark)?, out)?;
         let (gone, shown) = mark.tell(alloc, self)?;
@@ -156,6 +204,7 @@ pub fn flush<L: Ledger>(
         + (looks view.now.encoded.now view.now.land.now mark.old view.now.view
         + noted_looks view.now.view notes.now) }
 {
+    // The pieces are alive at each of its five exits, and die there.
     let mut pieces = Vec::new(alloc);
     view.push_changes(alloc, mark, &mut pieces, steps)?;
     push_piece(

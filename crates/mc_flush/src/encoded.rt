@@ -1,30 +1,26 @@
-ghost use Rattle.std.specs.Prelude.{◌≡◌, ◌+◌, ◌≤◌, IfSome, OnOk, OnErr};
+ghost use Rattle.std.specs.Prelude.{◌≡◌, ◌+◌, ◌≤◌, OnOk, OnErr};
 ghost use Rattle.std.specs.Option.{option_copied};
 ghost use Rattle.std.specs.List.{AllByRecursion};
 ghost use Rattle.std.specs.FinMap as map;
 ghost use Rattle.mc_land.specs.Places.{IsPlace};
 ghost use Rattle.mc_land.specs.Land.{LandValue};
 ghost use Rattle.mc_flush.specs.Lists.{ListValue};
-ghost use Rattle.mc_flush.specs.Seeing.{IsNamed, IsReady};
-ghost use Rattle.mc_flush.specs.Encoding.{AreFrames, AreMoves, change_cost, load_cost, move_bytes};
-ghost use Rattle.mc_flush.specs.Encoding.{nothing_encoded, with_changes, with_load, with_move};
-ghost use Rattle.mc_flush.specs.Encoding.{with_moves, with_players};
+ghost use Rattle.mc_flush.specs.Seeing.{IsNamed};
+ghost use Rattle.mc_loads.specs.Columns.{IsReady};
+ghost use Rattle.mc_flush.specs.Encoding.{AreFrames, change_cost, columns_in, load_cost};
+ghost use Rattle.mc_flush.specs.Encoding.{nothing_encoded, with_changes, with_load, with_moves};
+ghost use Rattle.mc_flush.specs.Encoding.{with_players};
 
 mod fields;
 
 use crate::PlayerList;
-use crate::cells::{changes_piece, dirty_cells};
-use crate::columns::load_piece;
-use crate::moved::Moved;
-use crate::moves::{is_still, moves_piece};
 use bytes::Bytes;
-use mc_entities::{Entity, Folk};
-use mc_fields::Spot;
+use mc_entities::Folk;
 use mc_land::{Land, Steps};
+use mc_loads::EncodedColumns;
 use mc_nbt::NoMemory;
-use mc_view::form;
+use mc_told::EncodedMoves;
 use std::alloc::Global;
-use std::collections::BTreeMap;
 use std::marker::Model;
 use std::sync::ledger::Ledger;
 
@@ -36,16 +32,13 @@ use std::sync::ledger::Ledger;
 pub struct Encoded {
     /// The frames about players, where they were encoded.
     players: Option<Bytes>,
-    /// By place, the frame that loads its column.
-    loads: BTreeMap<(i32, i32), Bytes>,
-    /// By place, the frames of the changed cells of its column.
-    changes: BTreeMap<(i32, i32), Bytes>,
-    /// By number, the move of an entity.
-    moves: BTreeMap<i32, Moved>,
+    /// The loads and the changed cells of columns.
+    columns: EncodedColumns,
+    /// The moves of entities.
+    moves: EncodedMoves,
 }
 
 impl Model for Encoded {
-    ghost use Rattle.std.specs.FinMap.{from_entries};
     ghost use Rattle.mc_flush.specs.Encoding.{EncodedValue, coded_encoded};
 
     ghost Value = { EncodedValue };
@@ -54,9 +47,9 @@ impl Model for Encoded {
 
     ghost view = { λ e. record {
       players = e.players;
-      loads = from_entries e.loads.entries;
-      changes = from_entries e.changes.entries;
-      moves = from_entries e.moves.entries;
+      loads = e.columns.loads;
+      changes = e.columns.changes;
+      moves = e.moves;
     } };
 }
 
@@ -68,9 +61,8 @@ impl Encoded {
     {
         Encoded {
             players: None,
-            loads: BTreeMap::new(alloc),
-            changes: BTreeMap::new(alloc),
-            moves: BTreeMap::new(alloc),
+            columns: EncodedColumns::new(alloc),
+            moves: EncodedMoves::new(alloc),
         }
     }
 
@@ -107,11 +99,7 @@ impl Encoded {
         ensures cost { OnOk result (steps.new ≡ steps.old + load_cost self.old place.now) }
         ensures bounded { steps.new ≤ steps.old + load_cost self.old place.now }
     {
-        if self.load(place).is_some() {
-            return Ok(());
-        }
-        let piece = load_piece(alloc, land, place, steps)?;
-        self.loads.insert(*place, piece)?;
+        self.columns.add_load(alloc, land, place, steps)?;
         Ok(())
     }
 
@@ -133,14 +121,7 @@ impl Encoded {
             ≡ steps.old + change_cost self.old land.now place.now) }
         ensures bounded { steps.new ≤ steps.old + change_cost self.old land.now place.now }
     {
-        if self.changes(place).is_some() {
-            return Ok(());
-        }
-        if dirty_cells(land, place).is_empty() {
-            return Ok(());
-        }
-        let piece = changes_piece(alloc, land, place, steps)?;
-        self.changes.insert(*place, piece)?;
+        self.columns.add_changes(alloc, land, place, steps)?;
         Ok(())
     }
 
@@ -151,47 +132,21 @@ impl Encoded {
         ensures frames { (land : LandValue) (list : ListValue) → AreFrames land list self.old
             → AreFrames land list self.new }
     {
-        for entity in folk.all() {
-            self.add_move(alloc, folk, entity)?;
-        }
-        Ok(())
+        self.moves.add_moves(alloc, folk)
     }
 
-    /// Adds the frames of an entity's move since the last settling, if it moved. Without memory all
-    /// is as before.
-    fn add_move(&mut self, alloc: Global, folk: &Folk, entity: &Entity) -> Result<(), NoMemory>
-        ensures ok { OnOk result (self.new ≡ record self.old {
-          moves = with_move folk.now.state self.old.moves entity.now;
-        }) }
-        ensures frames { (land : LandValue) (list : ListValue) → AreFrames land list self.old
-            → AreFrames land list self.new }
+    /// The loads and the changed cells that were encoded.
+    pub(crate) fn columns(&self) -> &EncodedColumns
+        ensures { result.now ≡ columns_in self.now }
     {
-        let Some(from) = folk.told(entity.eid) else {
-            return Ok(());
-        };
-        if is_still(&form(*from, entity.spot).form) {
-            return Ok(());
-        }
-        let moved = Moved {
-            from: *from,
-            to: entity.spot,
-            frames: moves_piece(alloc, entity.eid, from, &entity.spot)?,
-        };
-        self.moves.insert(entity.eid, moved)?;
-        Ok(())
+        &self.columns
     }
 
-    /// The frames of an entity's move from one spot to another, None where they were not encoded.
-    pub(crate) fn moved(&self, eid: i32, from: &Spot, to: &Spot) -> Option<&Bytes>
-        ensures { AreMoves self.now →
-            IfSome (option_copied result) (λ bytes. bytes ≡ move_bytes eid from.now to.now) }
+    /// The moves that were encoded.
+    pub(crate) fn moves(&self) -> &EncodedMoves
+        ensures { result.now ≡ self.now.moves }
     {
-        let moved = self.moves.get(&eid)?;
-        if moved.from == *from && moved.to == *to {
-            Some(&moved.frames)
-        } else {
-            None
-        }
+        &self.moves
     }
 
     /// The frames about players, None where they were not encoded.
@@ -199,19 +154,5 @@ impl Encoded {
         ensures { option_copied result ≡ self.now.players }
     {
         self.players.as_ref()
-    }
-
-    /// The frame that loads the column of a place, None where it was not encoded.
-    pub(crate) fn load(&self, place: &(i32, i32)) -> Option<&Bytes>
-        ensures { option_copied result ≡ map.get self.now.loads place.now }
-    {
-        self.loads.get(place)
-    }
-
-    /// The frames of the changed cells of the column of a place, None where they were not encoded.
-    pub(crate) fn changes(&self, place: &(i32, i32)) -> Option<&Bytes>
-        ensures { option_copied result ≡ map.get self.now.changes place.now }
-    {
-        self.changes.get(place)
     }
 }

@@ -1,27 +1,21 @@
-ghost use Rattle.std.specs.Prelude.{◌≡◌, ◌≤◌, ℕ, IfOk, OnOk, Some, pos};
+ghost use Rattle.std.specs.Prelude.{◌≡◌, ◌≤◌, IfOk, OnOk, Some, pos};
 ghost use Rattle.std.specs.Option.{option_copied};
-ghost use Rattle.mc_slots.specs.Pile.{IsPile};
-ghost use Rattle.mc_slots.specs.Chest.{pile_at};
-ghost use Rattle.mc_windows.specs.Pack.{pack_size};
 ghost use Rattle.mc_entities.specs.Numbers.{Rise};
 ghost use Rattle.mc_entities.specs.Folk.{eid_of};
 ghost use Rattle.mc_model.specs.Delta.{destroying, is_told};
 ghost use Rattle.mc_model.specs.World.{others};
-ghost use Rattle.mc_flush.specs.Encoding.{AreMoves};
-ghost use Rattle.mc_view.specs.Sets.{is_within};
-ghost use Rattle.mc_flush.specs.Sending.{play_bytes};
-ghost use Rattle.mc_flush.specs.Seeing.{age_now, beat_now, entity_frames, gone_from, loaded};
-ghost use Rattle.mc_flush.specs.Seeing.{nothing_shown};
-ghost use Rattle.mc_flush.specs.Telling.{told_now};
+ghost use Rattle.mc_told.specs.MoveFrames.{AreMoves};
+ghost use Rattle.mc_told.specs.Sending.{play_bytes};
+ghost use Rattle.mc_flush.specs.Seeing.{loaded, nothing_shown};
+ghost use Rattle.mc_told.specs.Telling.{age_now, beat_now, entity_frames, gone_from, told_now};
 
 mod fields;
 
 use crate::ClientView;
-use crate::entities::tell;
 use bytes::Bytes;
-use mc_model::{beat_at, shown_age};
 use mc_nbt::NoMemory;
 use mc_slots::Pile;
+use mc_told::{Clock, tell};
 use mc_view::{Columns, Tracker, ViewSet};
 use mc_windows::Pack;
 use std::alloc::Global;
@@ -35,10 +29,8 @@ const PILES: usize = 36;
 /// was shown are those of the last settling of the list and of the land.
 #[derive(Drop)]
 pub struct Mark {
-    /// The beat that was told last.
-    beat: Option<i32>,
-    /// The age that was told last.
-    age: Option<i64>,
+    /// The beat and the age that were told last.
+    clock: Clock,
     /// The view, None before the first tick.
     shown: Option<ViewSet>,
     /// What was told of entities.
@@ -57,16 +49,16 @@ impl Model for Mark {
     ghost coded = { Prim.hlevel (codes, coded_told) };
 
     ghost view = { λ mark. record {
-      beat = mark.beat;
-      age = mark.age;
+      beat = mark.clock.beat;
+      age = mark.clock.age;
       view = mark.shown;
       told = mark.told;
       slots = mark.slots;
     } };
 
     ghost invariant = { λ mark. IsMark (record {
-      beat = mark.beat;
-      age = mark.age;
+      beat = mark.clock.beat;
+      age = mark.clock.age;
       view = mark.shown;
       told = mark.told;
       slots = mark.slots;
@@ -79,8 +71,7 @@ impl Mark {
         ensures { result ≡ nothing_shown }
     {
         Mark {
-            beat: None,
-            age: None,
+            clock: Clock::new(),
             shown: None,
             told: Tracker::new(alloc),
             slots: [Pile::Empty; PILES],
@@ -91,20 +82,14 @@ impl Mark {
     pub fn was_told(&self, beat: i32) -> bool
         ensures { result ≡ is_told self.now.beat beat }
     {
-        match self.beat {
-            Some(told) => told == beat,
-            None => false,
-        }
+        self.clock.was_told(beat)
     }
 
-    /// Whether the client was told this age last.
-    pub(crate) fn was_told_age(&self, age: i64) -> bool
-        ensures { result ≡ is_told self.now.age age }
+    /// The beat and the age that the client was told last.
+    pub(crate) fn clock(&self) -> &Clock
+        ensures { result.now ≡ record { beat = self.now.beat; age = self.now.age } }
     {
-        match self.age {
-            Some(told) => told == age,
-            None => false,
-        }
+        &self.clock
     }
 
     /// The view whose columns were shown, None before the first tick.
@@ -124,14 +109,11 @@ impl Mark {
         }
     }
 
-    /// Whether a column was shown.
-    pub(crate) fn has(&self, place: &(i32, i32)) -> bool
-        ensures { result ≡ is_within self.now.view place.now }
+    /// The view whose columns were shown, None before the first tick, as a copy.
+    pub(crate) fn shown(&self) -> Option<ViewSet>
+        ensures { result ≡ self.now.view }
     {
-        match self.view() {
-            Some(view) => view.has(place.0, place.1),
-            None => false,
-        }
+        self.shown
     }
 
     /// The piles of the pack that were shown.
@@ -148,7 +130,7 @@ impl Mark {
         alloc: Global,
         view: &ClientView<'_>,
     ) -> Result<(Bytes, Bytes), NoMemory>
-        requires { AreMoves view.now.encoded.now }
+        requires { AreMoves view.now.encoded.now.moves }
         ensures gone { IfOk result (λ pieces. pieces.0 ≡ play_bytes
             (destroying (gone_from self.old.told
             (others view.now.me view.now.folk.now.state.entities) view.now.view))) }
@@ -161,7 +143,7 @@ impl Mark {
         ensures rise { Rise eid_of (pos 0) view.now.folk.now.state.entities
             (pos view.now.folk.now.state.given) }
     {
-        let pieces = tell(alloc, view, &mut self.told);
+        let pieces = tell(alloc, &view.entities(), &mut self.told);
         if pieces.is_err() {
             self.told = Tracker::new(alloc);
         }
@@ -179,8 +161,7 @@ impl Mark {
           slots = pack.now.slots;
         } }
     {
-        self.beat = Some(beat_at(age));
-        self.age = Some(shown_age(age));
+        self.clock.keep(age);
         self.shown = Some(view);
         self.slots = pack.slots;
     }

@@ -5,14 +5,14 @@ ghost use Rattle.mc_slots.specs.Chest.{pile_at};
 ghost use Rattle.mc_down.specs.declared.down.Down.TheVariants as down;
 ghost use Rattle.mc_slots.specs.declared.slot.Slot.TheVariants as slots;
 ghost use Rattle.mc_model.specs.Step.{notes_of, placing};
-ghost use Rattle.mc_flush.specs.Sending.{IsClear, play_bytes};
+ghost use Rattle.mc_told.specs.Sending.{IsClear, play_bytes};
 
-use crate::frames::put_made;
 use mc_down::{Down, Slots};
 use mc_fields::{Spot, degrees, pattern};
 use mc_model::Notes;
 use mc_nbt::NoMemory;
 use mc_slots::{Pile, Slot};
+use mc_told::put_made;
 use mc_windows::Pack;
 use std::alloc::Global;
 
@@ -63,8 +63,7 @@ fn put_window(pack: &Pack, out: &mut Vec<u8>) -> Result<(), NoMemory>
 {
     let mut items = slots_before(*out.allocator())?;
     push_piles(&pack.slots, &mut items)?;
-    put_made(Down::WindowItems(0, items), out)?;
-    Ok(())
+    put_made(Down::WindowItems(0, items), out)
 }
 
 /// Appends the frame of what hangs on the cursor.

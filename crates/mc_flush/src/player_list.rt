@@ -1,4 +1,4 @@
-ghost use Rattle.std.specs.Prelude.{◌≡◌, ◌≤◌, nat_eq, true, false, OnOk, OnErr, IfOk};
+ghost use Rattle.std.specs.Prelude.{◌≡◌, ◌≤◌, nat_eq, false, OnOk, OnErr, IfOk};
 ghost use Rattle.std.specs.List.{AllByRecursion};
 ghost use Rattle.std.specs.Option.{option_copied};
 ghost use Rattle.std.specs.FinMap as map;
@@ -6,7 +6,7 @@ ghost use Rattle.indexmap.specs.IndexMap.{insert_entry};
 ghost use Rattle.mc_model.specs.Delta.{missing};
 ghost use Rattle.mc_flush.specs.Lists.{new_list, with_name, without_name, settled_list};
 ghost use Rattle.mc_flush.specs.Seeing.{IsNamed, player_packets};
-ghost use Rattle.mc_flush.specs.Sending.{play_bytes};
+ghost use Rattle.mc_told.specs.Sending.{play_bytes};
 ghost use Rattle.mc_flush.specs.Encoding.{player_bytes};
 
 use crate::names::Names;
@@ -160,6 +160,7 @@ impl PlayerList {
         requires named { AllByRecursion IsNamed (map.entries self.now.present) }
         ensures { IfOk result (λ piece. piece ≡ player_bytes self.now) }
     {
+        // Two sets of names and the bytes are alive at its last exits, and die there.
         let mut bytes = Vec::new(alloc);
         let left = self.left(alloc)?;
         left.put_left(alloc, &mut bytes)?;

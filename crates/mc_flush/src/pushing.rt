@@ -1,38 +1,22 @@
 //! Frames as pieces of what is sent.
 
 ghost use Rattle.std.specs.Prelude.{◌≡◌, ◌≤◌, ◌++◌, OnOk};
-ghost use Rattle.std.specs.List.{AllByRecursion};
 ghost use Rattle.mc_frame.specs.Kept.{joined};
-ghost use Rattle.mc_land.specs.Places.{IsPlace};
 ghost use Rattle.mc_model.specs.Step.{notes_of};
-ghost use Rattle.mc_flush.specs.Sending.{play_bytes};
+ghost use Rattle.mc_told.specs.Sending.{play_bytes};
 ghost use Rattle.mc_flush.specs.Seeing.{age_packets, line_packets, pack_packets};
-ghost use Rattle.mc_flush.specs.Seeing.{unload_packets};
 
-use crate::beats::put_age;
-use crate::columns::put_unloads;
 use crate::line::put_lines;
 use crate::notes::put_notes;
 use crate::slots::put_slots;
 use crate::{Line, Mark};
 use bytes::Bytes;
 use mc_fields::Spot;
+use mc_loads::push_piece;
 use mc_model::Notes;
 use mc_nbt::NoMemory;
-use mc_view::Columns;
 use mc_windows::Pack;
 use std::alloc::Global;
-
-/// Appends a piece, unless it is empty.
-pub fn push_piece(piece: Bytes, out: &mut Vec<Bytes>) -> Result<(), NoMemory>
-    ensures { OnOk result (joined out.new.items ≡ joined out.old.items ++ piece) }
-{
-    if piece.is_empty() {
-        return Ok(());
-    }
-    out.push(piece)?;
-    Ok(())
-}
 
 /// Appends the frames of the beat and of the age, each unless it was told last, as one piece.
 pub fn push_age(alloc: Global, mark: &Mark, age: u64, out: &mut Vec<Bytes>) -> Result<(), NoMemory>
@@ -41,18 +25,7 @@ pub fn push_age(alloc: Global, mark: &Mark, age: u64, out: &mut Vec<Bytes>) -> R
         ≡ joined out.old.items ++ play_bytes (age_packets mark.now age)) }
 {
     let mut bytes = Vec::new(alloc);
-    put_age(mark, age, &mut bytes)?;
-    push_piece(Bytes::from_vec(bytes)?, out)
-}
-
-/// Appends the frames that take columns away, as one piece.
-pub fn push_unloads(alloc: Global, columns: Columns, out: &mut Vec<Bytes>) -> Result<(), NoMemory>
-    requires { AllByRecursion IsPlace columns }
-    ensures { OnOk result (joined out.new.items
-        ≡ joined out.old.items ++ play_bytes (unload_packets columns)) }
-{
-    let mut bytes = Vec::new(alloc);
-    put_unloads(columns, &mut bytes)?;
+    mark.clock().put_age(age, &mut bytes)?;
     push_piece(Bytes::from_vec(bytes)?, out)
 }
 

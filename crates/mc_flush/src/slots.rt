@@ -4,13 +4,13 @@ ghost use Rattle.std.specs.Prelude.{◌≡◌, ◌<◌, ◌++◌, ◌∷◌, ℕ
 ghost use Rattle.mc_slots.specs.Pile.{IsPile, slot_of};
 ghost use Rattle.mc_slots.specs.Chest.{pile_at};
 ghost use Rattle.mc_model.specs.Delta.{slot_packets};
-ghost use Rattle.mc_flush.specs.Sending.{play_bytes};
+ghost use Rattle.mc_told.specs.Sending.{play_bytes};
 ghost use Rattle.mc_flush.specs.Seeing.{pack_packets};
 
-use crate::frames::put_made;
 use mc_down::Down;
 use mc_nbt::NoMemory;
 use mc_slots::Pile;
+use mc_told::put_made;
 
 /// The slot of window 0 that a pack begins at.
 const FIRST: usize = 9;

@@ -12,7 +12,7 @@ use Rattle.mc_down.specs.Down.{FitsDown, entry_of}
 use Rattle.mc_model.specs.Delta.{chat_packet}
 use Rattle.mc_model.proofs.FitsSize.{AtMost, at_most_joined, few_bytes, text_size, number_size}
 use Rattle.mc_model.proofs.FitsSize.{spelling_payload}
-use Rattle.mc_flush.specs.Sending.{IsClear}
+use Rattle.mc_told.specs.Sending.{IsClear}
 
 -- a short text has a spelling
 short_fits : (text : List ℕ) → IsUtf8 text → AtMost 400 text → SpellableText 32767 text

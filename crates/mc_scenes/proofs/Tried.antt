@@ -7,8 +7,8 @@ use Rattle.mc_land.specs.Places.{Place, IsPlace}
 use Rattle.mc_land.specs.Land.{LandValue}
 use Rattle.mc_view.specs.declared.view_set.ViewSet.{ViewSet}
 use Rattle.mc_view.specs.Sets.{all_of}
-use Rattle.mc_flush.specs.Seeing.{IsReady, entered_of}
-use Rattle.mc_flush.proofs.Changes.{lacking_holds}
+use Rattle.mc_loads.specs.Columns.{IsReady, entered_of}
+use Rattle.mc_loads.proofs.Places.{lacking_holds}
 
 -- the next of those that are left passed too
 pub tried_next : {A : Type 0} (P : A → Type 0) (all left rest : List A) (x : A) →

@@ -13,7 +13,7 @@ ghost use Rattle.std.specs.FinSet as set;
 ghost use Rattle.mc_land.specs.Places.{IsPlace};
 ghost use Rattle.mc_view.specs.Sets.{all_of};
 ghost use Rattle.mc_flush.specs.Encoding.{AreFrames};
-ghost use Rattle.mc_flush.specs.Seeing.{IsReady};
+ghost use Rattle.mc_loads.specs.Columns.{IsReady};
 
 use crate::frames::put_frames;
 use crate::guests::Guests;

@@ -1,28 +1,26 @@
-//! What is kept of what was encoded, field by field: a new one is named here before the crate is built
-//! again.
+//! What is kept of what was encoded, field by field: a new one is named here before the crate is
+//! built again.
 
 use super::Encoded;
-use crate::moved::Moved;
 use bytes::Bytes;
-use std::collections::BTreeMap;
+use mc_loads::EncodedColumns;
+use mc_told::EncodedMoves;
 
 fn a_piece(_part: &Option<Bytes>) {}
 
-fn pieces_by_place(_part: &BTreeMap<(i32, i32), Bytes>) {}
+fn pieces_by_place(_part: &EncodedColumns) {}
 
-fn moves_by_number(_part: &BTreeMap<i32, Moved>) {}
+fn moves_by_number(_part: &EncodedMoves) {}
 
 /// Names every field of what was encoded.
 fn name_fields(encoded: &Encoded) {
     let Encoded {
         players,
-        loads,
-        changes,
+        columns,
         moves,
     } = encoded;
     a_piece(players);
-    pieces_by_place(loads);
-    pieces_by_place(changes);
+    pieces_by_place(columns);
     moves_by_number(moves);
 }
 

@@ -2,11 +2,10 @@
 
 use super::Mark;
 use mc_slots::Pile;
+use mc_told::Clock;
 use mc_view::{Tracker, ViewSet};
 
-fn a_beat(_part: &Option<i32>) {}
-
-fn an_age(_part: &Option<i64>) {}
+fn a_clock(_part: &Clock) {}
 
 fn a_view(_part: &Option<ViewSet>) {}
 
@@ -17,14 +16,12 @@ fn piles(_part: &[Pile; 36]) {}
 /// Names every field of a mark.
 fn name_fields(mark: &Mark) {
     let Mark {
-        beat,
-        age,
+        clock,
         shown,
         told,
         slots,
     } = mark;
-    a_beat(beat);
-    an_age(age);
+    a_clock(clock);
     a_view(shown);
     a_tracker(told);
     piles(slots);

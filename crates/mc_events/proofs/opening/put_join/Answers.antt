@@ -6,7 +6,7 @@ use Rattle.mc_down.specs.declared.down.Down.TheVariants.{JoinGame}
 use Rattle.mc_model.specs.Step.{level}
 use Rattle.mc_model.proofs.FitsDue.{level_short}
 use Rattle.mc_model.proofs.FitsPlay.{join_clear}
-use Rattle.mc_flush.specs.Sending.{IsClear}
+use Rattle.mc_told.specs.Sending.{IsClear}
 use Rattle.mc_events.proofs.opening.put_join.Goals as goal
 
 pub put_made-requires : goal.put_made-requires

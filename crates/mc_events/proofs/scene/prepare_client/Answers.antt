@@ -1,7 +1,7 @@
 use Rattle.std.proofs.Common.{◌≡◌, subst, ap, ◌∙◌}
 use Rattle.std.specs.List.{AllByRecursion}
 use Rattle.mc_model.specs.World.{Player, spot_in}
-use Rattle.mc_flush.specs.Seeing.{IsReady}
+use Rattle.mc_loads.specs.Columns.{IsReady}
 use Rattle.mc_events.specs.Served.{player_of}
 use Rattle.mc_events.specs.Ticking.{new_from}
 use Rattle.mc_events.proofs.PlayerFacts.{one_player, none_some}

@@ -6,12 +6,12 @@ use Rattle.mc_view.specs.Sets.{has}
 use Rattle.mc_model.specs.Delta.{delta}
 use Rattle.mc_model.specs.Step.{noted_packets, notes_of}
 use Rattle.mc_model.specs.World.{others}
-use Rattle.mc_flush.specs.Sending.{play_bytes}
-use Rattle.mc_flush.specs.Seeing.{MarkValue, StandsFor, age_now, beat_now, changes}
-use Rattle.mc_flush.specs.Seeing.{present_parts, seen}
+use Rattle.mc_told.specs.Sending.{play_bytes}
+use Rattle.mc_flush.specs.Seeing.{MarkValue, StandsFor, changes, present_parts, seen}
+use Rattle.mc_told.specs.Telling.{age_now, beat_now}
 use Rattle.mc_flush.proofs.Changes.{tick_put}
 use Rattle.mc_flush.proofs.Difference.{delta_is, stands_seen}
-use Rattle.mc_flush.proofs.Told.{others_rise}
+use Rattle.mc_told.proofs.Told.{others_rise}
 use Rattle.mc_flush.proofs.client_view.flush.Goals as goal
 
 pub returns-clause-sent : goal.returns-clause-sent

@@ -1,6 +1,6 @@
 use Rattle.std.proofs.Common.{◌≡◌, ℕ, ◌+◌, ◌++◌, ◌∷◌, drop, List, ap, sym, ◌∙◌}
 use Rattle.std.proofs.lemmas.List.{drop_more}
-use Rattle.mc_flush.proofs.Pieces.{line_put}
+use Rattle.mc_flush.proofs.Lines.{line_put}
 use Rattle.mc_flush.proofs.line.put_lines.Goals as goal
 
 pub loop-line-preserved : goal.loop-line-preserved

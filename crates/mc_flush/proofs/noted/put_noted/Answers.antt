@@ -5,8 +5,8 @@ use mir.Val.{to_z, of_z}
 use Rattle.mc_down.specs.declared.down.Down.TheVariants.{Change}
 use Rattle.mc_model.specs.Things.{state_of_cell}
 use Rattle.mc_model.proofs.FitsNotes.{noted_packet_clear}
-use Rattle.mc_flush.specs.Sending.{IsClear}
-use Rattle.mc_flush.proofs.Touched.{number_state}
+use Rattle.mc_told.specs.Sending.{IsClear}
+use Rattle.mc_loads.proofs.Touched.{number_state}
 use Rattle.mc_flush.proofs.noted.put_noted.Goals as goal
 
 pub put_made-requires : goal.put_made-requires

@@ -5,10 +5,11 @@ use Rattle.mc_slots.specs.declared.slot.Slot.TheVariants as slots
 use Rattle.mc_slots.specs.Pile.{slot_of}
 use Rattle.mc_windows.specs.Pack.{IsPack, PackValue}
 use Rattle.mc_down.specs.declared.down.Down.TheVariants.{WindowItems}
+use Rattle.mc_down.proofs.Begun.{ok_as}
 use Rattle.mc_model.specs.Packets.{frame_of, of_play}
 use Rattle.mc_model.proofs.FitsSlots.{window_clear}
-use Rattle.mc_flush.specs.Sending.{IsClear}
-use Rattle.mc_flush.proofs.Pieces.{play_bytes-one}
+use Rattle.mc_told.specs.Sending.{IsClear}
+use Rattle.mc_told.proofs.Pieces.{play_bytes-one}
 use Rattle.mc_flush.proofs.notes.put_window.Goals as goal
 
 pub put_made-requires : goal.put_made-requires
@@ -27,7 +28,8 @@ returns c =
     let items : c.push_piles.new.items ≡ replicate 9 slots.Empty ++ map slot_of pack.slots =
     c.in_ok-push_piles.ensures ∙ (λ i. c.in_ok-items.ensures i
     ++ map slot_of (c.pack.view_is i).slots) in
-    c.in_ok-put_made.ensures.ok
-    ∙ ap (λ (all : List Slot). c.args.out.now.items ++ frame_of (of_play (WindowItems 0 all))) items
+    ok_as c.put_made.result c.put_made.new.out.items _ _
+    (ap (λ (all : List Slot). c.args.out.now.items ++ frame_of (of_play (WindowItems 0 all))) items
     ∙ ap (λ t. c.args.out.now.items ++ t)
-    (play_bytes-one (WindowItems 0 (replicate 9 slots.Empty ++ map slot_of pack.slots)))
+    (play_bytes-one (WindowItems 0 (replicate 9 slots.Empty ++ map slot_of pack.slots))))
+    c.put_made.ensures.ok

@@ -6,7 +6,7 @@ use mir.Val.{to_z}
 use Rattle.mc_slots.specs.Pile.{slot_of}
 use Rattle.mc_down.specs.declared.down.Down.TheVariants.{SetSlot}
 use Rattle.mc_model.proofs.FitsSlots.{set_slot_clear}
-use Rattle.mc_flush.specs.Sending.{IsClear}
+use Rattle.mc_told.specs.Sending.{IsClear}
 use Rattle.mc_flush.proofs.slots.put_slot.Goals as goal
 
 pub put_made-requires : goal.put_made-requires

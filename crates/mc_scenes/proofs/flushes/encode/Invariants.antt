@@ -1,6 +1,6 @@
 use Rattle.std.specs.List.{AllByRecursion}
 use Rattle.mc_flush.specs.Encoding.{AreFrames}
-use Rattle.mc_flush.specs.Seeing.{IsReady}
+use Rattle.mc_loads.specs.Columns.{IsReady}
 use Rattle.mc_scenes.proofs.flushes.encode.Given as goal
 
 -- what is left is ready, and what was encoded are the frames

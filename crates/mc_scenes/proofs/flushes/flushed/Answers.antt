@@ -1,7 +1,7 @@
 use Rattle.std.proofs.Common.{rules}
 use Rattle.std.specs.List.{AllByRecursion}
 use Rattle.mc_view.specs.Sets.{all_of}
-use Rattle.mc_flush.specs.Seeing.{IsReady}
+use Rattle.mc_loads.specs.Columns.{IsReady}
 use Rattle.mc_scenes.proofs.Tried.{entered_ready}
 use Rattle.mc_scenes.proofs.flushes.flushed.Goals as goal
 

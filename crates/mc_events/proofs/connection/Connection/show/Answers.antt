@@ -1,7 +1,8 @@
 use Rattle.std.proofs.Common.{sym, subst, ap}
 use Rattle.std.specs.List.{AllByRecursion}
 use Rattle.std.specs.Prelude.{option_map}
-use Rattle.mc_flush.specs.Seeing.{IsReady, MarkValue}
+use Rattle.mc_flush.specs.Seeing.{MarkValue}
+use Rattle.mc_loads.specs.Columns.{IsReady}
 use Rattle.mc_events.specs.Served.{ConnectionValue, mark_of, player_of}
 use Rattle.mc_events.specs.Scenes.{parts_of}
 use Rattle.mc_events.specs.Ticking.{IsPrepared, new_columns}

@@ -1,7 +1,7 @@
 use Rattle.std.proofs.Common.{sym, subst}
 use Rattle.std.specs.List.{AllByRecursion}
 use Rattle.mc_land.specs.Places.{IsPlace}
-use Rattle.mc_flush.proofs.Changes.{view_places}
+use Rattle.mc_loads.proofs.Places.{view_places}
 use Rattle.mc_events.proofs.player.Player.all_columns.Goals as goal
 
 pub returns : goal.returns

@@ -2,8 +2,9 @@ use Rattle.std.proofs.Common.{◌++◌, ℕ, List, ap, sym, subst, ◌∙◌}
 use Rattle.std.specs.List.{AllByRecursion}
 use Rattle.mc_frame.specs.Kept.{joined}
 use Rattle.mc_model.specs.World.{others}
-use Rattle.mc_flush.specs.Sending.{play_bytes}
-use Rattle.mc_flush.specs.Seeing.{IsReady, MarkValue, column_packets, loaded, pack_packets}
+use Rattle.mc_told.specs.Sending.{play_bytes}
+use Rattle.mc_flush.specs.Seeing.{MarkValue, column_packets, loaded, pack_packets}
+use Rattle.mc_loads.specs.Columns.{IsReady}
 use Rattle.mc_flush.proofs.Sent.{changes_put_all}
 use Rattle.mc_flush.proofs.client_view.ClientView.push_changes.Goals as goal
 

@@ -1,47 +1,40 @@
-use Rattle.std.proofs.Common.{◌*◌, ◌++◌, length, List, arith, ap, sym, subst, ◌∙◌}
+use Rattle.std.proofs.Common.{◌≤◌, ◌+◌, ◌++◌, ℕ, Option, ap, sym, subst, ◌∙◌}
 use Rattle.std.specs.List.{AllByRecursion}
 use Rattle.mc_frame.specs.Kept.{joined}
-use Rattle.mc_column.specs.Sizes.{cells}
-use Rattle.mc_land.specs.Places.{Place, IsPlace}
-use Rattle.mc_flush.specs.Sending.{play_bytes}
-use Rattle.mc_flush.specs.Seeing.{changed_packets, load_packets, shown_among}
-use Rattle.mc_flush.specs.Encoding.{changes_cost, unencoded}
-use Rattle.mc_flush.proofs.Changes.{view_places}
-use Rattle.mc_flush.proofs.Sent.{columns_put}
+use Rattle.mc_view.specs.declared.view_set.ViewSet.{ViewSet}
+use Rattle.mc_told.specs.Sending.{play_bytes}
+use Rattle.mc_loads.specs.Columns.{IsReady, entered_of, packets_between}
+use Rattle.mc_loads.specs.ColumnFrames.{AreColumnFrames, looks}
 use Rattle.mc_flush.proofs.client_view.ClientView.push_columns.Goals as goal
 
-pub push_changed-requires : goal.push_changed-requires
-push_changed-requires g c =
-    let view = c.args.self.now.view in
+pub push_columns-requires : goal.push_columns-requires
+push_columns-requires g c =
+    let v = c.args.self.now in
+    let frames : AreColumnFrames v.land.now
+    (record { loads = v.encoded.now.loads; changes = v.encoded.now.changes }) =
+    record { loads = c.requires.frames.loads; changes = c.requires.frames.changes } in
     record {
-      places = subst (AllByRecursion IsPlace) (sym c.all.ensures)
-          (view_places view view.in_range);
-      frames = c.requires.frames;
+      ready = subst (λ (was : Option ViewSet). AllByRecursion (IsReady v.land.now)
+          (entered_of was v.view)) (sym c.shown.ensures) c.requires.ready;
+      frames = subst (AreColumnFrames v.land.now) (sym c.columns.ensures) frames;
     }
 
 pub returns-clause-sent : goal.returns-clause-sent
 returns-clause-sent g c =
     let v = c.args.self.now in
-    let mark = c.args.mark.now in
-    columns_put v.land.now mark v.view (joined c.args.out.now.items)
-    (joined c.push_left.new.out.items) (joined c.push_loads.new.out.items)
-    (joined c.push_changed.new.out.items) c.in_ok-push_left.ensures
-    (c.in_ok-push_loads.ensures.sent ∙ ap (λ (places : List Place).
-    joined c.push_left.new.out.items ++ play_bytes (load_packets v.land.now places))
-    c.entered.ensures)
-    (c.in_ok-push_changed.ensures.sent ∙ ap (λ (places : List Place).
-    joined c.push_loads.new.out.items ++ play_bytes (changed_packets v.land.now
-    (shown_among mark places))) c.all.ensures)
+    c.in_ok-push_columns.ensures.sent
+    ∙ ap (λ (was : Option ViewSet). joined c.args.out.now.items
+    ++ play_bytes (packets_between v.land.now was v.view)) c.shown.ensures
 
 pub returns-clause-cost : goal.returns-clause-cost
 returns-clause-cost g c =
     let v = c.args.self.now in
-    omega (
-      arith,
-      c.in_ok-push_loads.ensures.cost,
-      c.in_ok-push_changed.ensures.cost,
-      ap (λ (places : List Place). cells * length (unencoded v.encoded.now places))
-          c.entered.ensures,
-      ap (λ (places : List Place). changes_cost v.encoded.now v.land.now
-          (shown_among c.args.mark.now places)) c.all.ensures,
-    )
+    c.in_ok-push_columns.ensures.cost
+    ∙ (λ i. c.args.steps.now + looks (c.columns.ensures i) v.land.now (c.shown.ensures i) v.view)
+
+pub returns-in_err-push_columns-clause-bounded : goal.returns-in_err-push_columns-clause-bounded
+returns-in_err-push_columns-clause-bounded g c =
+    let v = c.args.self.now in
+    subst (λ (n : ℕ). c.push_columns.new.steps ≤ c.args.steps.now + n)
+    (λ i. looks (c.columns.ensures i) v.land.now (c.shown.ensures i) v.view)
+    c.push_columns.ensures.bounded

@@ -1,44 +1,45 @@
-use Rattle.std.proofs.Common.{◌≡◌, ℕ, List, false, rules, sym, subst, ap, ◌∙◌}
-use Rattle.std.specs.FinMap.{FinMap, from_entries, insert}
-use Rattle.mc_land.specs.Places.{place_cmp}
-use Rattle.mc_land.proofs.Orders.{places_total, exact_places}
-use Rattle.mc_flush.specs.Encoding.{AreFrames, EncodedValue, has_changes, change_bytes, is_clean}
-use Rattle.mc_flush.proofs.Encodings.{entry_put, changes_added, changes_new}
+use Rattle.std.proofs.Common.{ap, sym, subst, ◌∙◌}
+use Rattle.mc_loads.specs.ColumnFrames.{ColumnsValue}
+use Rattle.mc_loads.specs.ColumnFrames as columns
+use Rattle.mc_flush.specs.Encoding.{AreFrames, EncodedValue, columns_in}
+use Rattle.mc_flush.proofs.Encodings.{columns_added, changes_is, with_columns}
 use Rattle.mc_flush.proofs.encoded.Encoded.add_changes.Goals as goal
 
 pub returns-clause-ok : goal.returns-clause-ok
 returns-clause-ok g c =
-    let old = c.args.self.now in
     let land = c.args.land.now in
     let place = c.args.place.now in
-    let none : has_changes old place ≡ false = search rules in
-    let some : is_clean land place ≡ false = search rules in
     let inside = c.self.inside in
-    let es = inside.changes.entries in
-    let piece : List ℕ = c.in_ok-piece.piece in
-    let put : from_entries {R = place_cmp} c.insert.new.self.entries ≡ insert (from_entries es)
-    place piece =
-    entry_put places_total exact_places es c.insert.new.self.entries place piece
-    (λ q. c.in_ok-insert.ensures.updates.0 q) in
-    changes_new old _ land place none some
-    (ap (λ (m : FinMap place_cmp (List ℕ)). record {
+    ap (λ (v : ColumnsValue). record {
       players = inside.players;
-      loads = from_entries inside.loads.entries;
-      changes = m;
-      moves = from_entries inside.moves.entries;
-    }) put
-    ∙ ap (λ (v : List ℕ). record {
-      players = inside.players;
-      loads = from_entries inside.loads.entries;
-      changes = insert (from_entries {R = place_cmp} es) place v;
-      moves = from_entries inside.moves.entries;
-    }) c.in_ok-piece.ensures.is
-    ∙ ap (λ (e : EncodedValue). record e {
-      changes = insert e.changes place (change_bytes land place);
-    })
-    c.self.view_is)
+      loads = v.loads;
+      changes = v.changes;
+      moves = inside.moves;
+    }) c.in_ok-add_changes.ensures.ok
+    ∙ ap (λ (e : EncodedValue). with_columns e (columns.with_changes (columns_in e) land place))
+    c.self.view_is
+    ∙ changes_is c.args.self.now land place
 
 pub returns-clause-frames : goal.returns-clause-frames
 returns-clause-frames g c = λ list frames.
-    subst (AreFrames c.args.land.now list) (sym (returns-clause-ok g c))
-    (changes_added c.args.land.now list c.args.self.now c.args.place.now frames)
+    let land = c.args.land.now in
+    let inside = c.self.inside in
+    columns_added land list (record {
+      players = inside.players;
+      loads = inside.columns.loads;
+      changes = inside.columns.changes;
+      moves = inside.moves;
+    }) c.add_changes.new.self (subst (AreFrames land list) (sym c.self.view_is) frames)
+    c.add_changes.ensures.frames
+
+pub returns-in_err-add_changes-clause-frames : goal.returns-in_err-add_changes-clause-frames
+returns-in_err-add_changes-clause-frames g c = λ list frames.
+    let land = c.args.land.now in
+    let inside = c.self.inside in
+    columns_added land list (record {
+      players = inside.players;
+      loads = inside.columns.loads;
+      changes = inside.columns.changes;
+      moves = inside.moves;
+    }) c.add_changes.new.self (subst (AreFrames land list) (sym c.self.view_is) frames)
+    c.add_changes.ensures.frames

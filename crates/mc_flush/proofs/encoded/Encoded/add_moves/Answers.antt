@@ -1,21 +1,18 @@
-use Rattle.std.proofs.Common.{◌+◌, drop}
-use Rattle.std.proofs.lemmas.List.{drop_more}
-use Rattle.mc_flush.proofs.Encodings.{moves_next}
+use Rattle.std.proofs.Common.{sym, subst}
+use Rattle.mc_flush.specs.Encoding.{AreFrames}
 use Rattle.mc_flush.proofs.encoded.Encoded.add_moves.Goals as goal
 
-pub returns-in_err-add_move-clause-frames : goal.returns-in_err-add_move-clause-frames
-returns-in_err-add_move-clause-frames c = λ land list frames.
-    c.add_move.ensures.frames land list (c.loop-entity.invariant.frames land list frames)
-
-pub loop-entity-preserved : goal.loop-entity-preserved
-loop-entity-preserved c =
-    let es = c.all-entity-items.result.now in
-    let i = c.loop-entity.entity-index in
-    let h = c.loop-entity.invariant in
+pub returns-clause-frames : goal.returns-clause-frames
+returns-clause-frames c = λ land list frames.
+    let all : AreFrames land list (record {
+      players = c.self.inside.players;
+      loads = c.self.inside.columns.loads;
+      changes = c.self.inside.columns.changes;
+      moves = c.self.inside.moves;
+    }) = subst (AreFrames land list) (sym c.self.view_is) frames in
     record {
-      moves = moves_next c.args.folk.now.state c.loop-entity.self c.add_move.new.self _ _
-          (drop i es) (drop (i + 1) es) (drop_more es i _ c.loop-entity-test.true)
-          c.in_ok-add_move.ensures.ok h.moves;
-      frames = λ land list frames. c.in_ok-add_move.ensures.frames land list
-          (h.frames land list frames);
+      players = all.players;
+      loads = all.loads;
+      changes = all.changes;
+      moves = c.add_moves.ensures.frames all.moves;
     }

@@ -1,5 +1,4 @@
 use Rattle.std.proofs.Common.{◌≡◌, ℕ, List, Some, sym, subst, ap, ◌∙◌}
-use Rattle.std.specs.FinMap.{from_entries}
 use Rattle.mc_flush.specs.Encoding.{AreFrames, EncodedValue, player_bytes, with_players}
 use Rattle.mc_flush.proofs.Encodings.{players_added}
 use Rattle.mc_flush.proofs.encoded.Encoded.add_players.Goals as goal
@@ -8,9 +7,9 @@ pub returns-clause-frames : goal.returns-clause-frames
 returns-clause-frames c = λ land frames.
     let list = c.args.list.now in
     let inside = c.self.inside in
-    let loads = from_entries inside.loads.entries in
-    let changes = from_entries inside.changes.entries in
-    let moves = from_entries inside.moves.entries in
+    let loads = inside.columns.loads in
+    let changes = inside.columns.changes in
+    let moves = inside.moves in
     let made : EncodedValue = record {
       players = Some c.in_ok-piece.piece;
       loads = loads;

@@ -6,7 +6,7 @@ use Rattle.mc_model.specs.Delta.{joiner}
 use Rattle.mc_flush.specs.Carried.{IsCarried}
 use Rattle.mc_flush.specs.Seeing.{IsNamed}
 use Rattle.mc_flush.proofs.Carries.{carried_more, next_made}
-use Rattle.mc_flush.proofs.Pieces.{next_holds}
+use Rattle.mc_told.proofs.Pieces.{next_holds}
 use Rattle.mc_flush.proofs.names.Names.joiners.Goals as goal
 
 pub joiner-requires : goal.joiner-requires

@@ -1,8 +1,0 @@
-use Rattle.std.proofs.Common.{sym, subst}
-use Rattle.mc_flush.specs.Sending.{IsClear}
-use Rattle.mc_flush.proofs.Loads.{unload_fits}
-use Rattle.mc_flush.proofs.columns.put_unload.Goals as goal
-
-pub put_made-requires : goal.put_made-requires
-put_made-requires c = subst IsClear (sym c.unload.ensures) (unload_fits c.args.place.now
-    c.requires)

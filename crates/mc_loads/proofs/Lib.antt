@@ -1,0 +1,4 @@
+pub mod Loads
+pub mod Places
+pub mod Touched
+pub mod ColumnFrames

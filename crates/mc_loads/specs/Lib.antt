@@ -1,0 +1,4 @@
+pub mod Cells
+pub mod Columns
+pub mod ColumnFrames
+pub mod Heads

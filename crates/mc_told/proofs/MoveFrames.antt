@@ -1,0 +1,90 @@
+-- Moves that were encoded stay the frames of moves as more are encoded.
+use Rattle.std.proofs.Common.{◌≡◌, Bool, true, false, cond, List, ◌∷◌, Option, Some, None, refl}
+use Rattle.std.proofs.Common.{sym, subst, ap, ◌∙◌}
+use Rattle.std.specs.List.{fold}
+use Rattle.std.specs.Map.{lookup}
+use Rattle.std.specs.declared.cmp.Ordering.{Ordering}
+use Rattle.std.specs.Ordering.{int_cmp, is_eq, eq_by_cmp}
+use Rattle.std.specs.Cmp.{IsTotalOrder, eq_by_cmp_equiv}
+use Rattle.std.proofs.lemmas.Cmp.{int_cmp_total}
+use Rattle.std.specs.FinMap.{IsAntisymmetric, empty, get, get-empty, get-insert, insert}
+use Rattle.std.specs.FinMap.{from_entries, get-from_entries, same_map, int_cmp-IsAntisymmetric}
+use lib.IntN.{ℤ}
+use Rattle.mc_fields.specs.declared.position.Spot.{Spot}
+use Rattle.mc_entities.specs.declared.entity.Entity.{Entity}
+use Rattle.mc_entities.specs.Folk.{FolkState, told_of}
+use Rattle.mc_view.specs.Forms.{form_of}
+use Rattle.mc_told.specs.declared.moved.Moved.{Moved}
+use Rattle.mc_told.specs.MoveFrames.{AreMoves, MovesByEid, is_still, move_bytes, moved_from}
+use Rattle.mc_told.specs.MoveFrames.{with_move}
+use Rattle.mc_told.proofs.Keys.{equal, tree_found}
+
+-- an entry that is put into a tree is put into the map of its entries
+pub entry_put : {K X : Type 0} {R : K → K → Ordering} → IsTotalOrder R → IsAntisymmetric R →
+    (old new : List (K × X)) (k : K) (v : X) →
+    ((q : K) → lookup (λ y. is_eq (R q y)) new
+    ≡ cond (is_eq (R k q)) (Some v) (lookup (λ y. is_eq (R q y)) old)) →
+    from_entries {R = R} new ≡ insert (from_entries old) k v
+entry_put {R = R} total exact old new k v given =
+    same_map total exact (from_entries new) (insert (from_entries old) k v) (λ q.
+    get-from_entries total new q ∙ sym (tree_found R q new) ∙ given q
+    ∙ ap (λ (b : Bool). cond b (Some v) (lookup (λ y. is_eq (R q y)) old))
+    ((eq_by_cmp_equiv total).symm k q)
+    ∙ ap (cond (eq_by_cmp R q k) (Some v))
+    (tree_found R q old ∙ sym (get-from_entries total old q))
+    ∙ sym (get-insert total (from_entries old) k v q))
+
+-- none was encoded yet
+pub none_moved : AreMoves empty
+none_moved = λ eid moved e. let none : None ≡ Some moved = sym (get-empty int_cmp eid)
+    ∙ e in absurd cc
+
+-- a move of an entity from one spot to where it is
+abbrev move_of : Entity → Spot → Moved
+move_of e from = record { from = from; to = e.spot; frames = move_bytes e.eid from e.spot }
+
+-- one more move
+move_put : (old : MovesByEid) (e : Entity) (from : Spot) → AreMoves old →
+    AreMoves (insert old e.eid (move_of e from))
+move_put old e from frames = λ q moved is. at q moved (eq_by_cmp int_cmp q e.eid) refl
+    (sym (get-insert int_cmp_total old e.eid (move_of e from) q) ∙ is)
+  where
+    at : (q : ℤ) (moved : Moved) (t : Bool) → eq_by_cmp int_cmp q e.eid ≡ t →
+        cond t (Some (move_of e from)) (get old q) ≡ Some moved →
+        moved.frames ≡ move_bytes q moved.from moved.to
+    at q moved true t is =
+        let same : move_of e from ≡ moved = cc in
+        let key : e.eid ≡ q = sym (int_cmp-IsAntisymmetric q e.eid (equal _ t)) in
+        subst (λ (m : Moved). m.frames ≡ move_bytes q m.from m.to) same
+        (ap (λ (k : ℤ). move_bytes k from e.spot) key)
+    at q moved false t is = frames q moved is
+
+-- the move of an entity that was at a spot, if it was anywhere
+pub move_added : (old : MovesByEid) (state : FolkState) (e : Entity) → AreMoves old →
+    AreMoves (with_move state old e)
+move_added old state e frames = cases (told_of e.eid state)
+  where
+    cases : (o : Option Spot) → AreMoves (moved_from e o old)
+    cases None = frames
+    cases (Some from) = elim (is_still (form_of from e.spot)) as (λ b. AreMoves
+        (cond b old (insert old e.eid (move_of e from)))) [
+          | true ↦ frames
+          | false ↦ move_put old e from frames
+        ]
+
+-- one that was elsewhere has one more
+pub move_more : (state : FolkState) (e : Entity) (moves : MovesByEid) (from : Spot) →
+    told_of e.eid state ≡ Some from → is_still (form_of from e.spot) ≡ false →
+    insert moves e.eid (move_of e from) ≡ with_move state moves e
+move_more state e moves from was goes =
+    ap (λ (b : Bool). cond b moves (insert moves e.eid (move_of e from))) (sym goes)
+    ∙ ap (λ (o : Option Spot). moved_from e o moves) (sym was)
+
+-- with the next move, those of what is left make all
+pub moves_next : (state : FolkState) (now new total : MovesByEid) (e : Entity)
+    (left rest : List Entity) → left ≡ e ∷ rest → new ≡ with_move state now e →
+    fold (with_move state) now left ≡ total → fold (with_move state) new rest ≡ total
+moves_next state now new total e left rest is put all =
+    ap (λ (m : MovesByEid). fold (with_move state) m rest) put
+    ∙ ap (λ (es : List Entity). fold (with_move state) now es) (sym is)
+    ∙ all

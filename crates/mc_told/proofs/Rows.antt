@@ -1,0 +1,188 @@
+-- Entities row by row: the rows of rising entities rise, and what is shown is shown by them.
+use Rattle.std.proofs.Common.{◌≡◌, true, false, cond, T, List, [], ◌∷◌, ◌++◌, map, Option, Some}
+use Rattle.std.proofs.Common.{None, refl, sym, subst, ap, ◌∙◌, arith}
+use Rattle.std.specs.Prelude.{is_some, option_map}
+use Rattle.std.specs.List.{filter_map, flat_map}
+use Rattle.std.specs.Ordering.{int_cmp, eq_by_cmp}
+use Rattle.std.proofs.lemmas.Cmp.{int_cmp_total}
+use Rattle.std.proofs.lemmas.Int.{ints}
+use Rattle.std.specs.FinMap.{contains_key, find, get, is_sorted, entries, from_entries}
+use Rattle.std.specs.FinMap.{get-from_entries, int_cmp-IsAntisymmetric}
+use Rattle.std.specs.FinMap.Entries.{below_all}
+use lib.IntN.{ℤ, pos}
+use lib.Signed.{◌<ℤ◌, ◌≤ℤ◌}
+use Rattle.mc_fields.specs.declared.position.Spot.{Spot}
+use Rattle.mc_slots.specs.declared.pile.Pile.{Pile}
+use Rattle.mc_slots.specs.declared.pile.Pile.TheVariants.{Full}
+use Rattle.mc_entities.specs.declared.entity.Entity.{Entity}
+use Rattle.mc_entities.specs.declared.entity.EntityKind.{EntityKind}
+use Rattle.mc_entities.specs.declared.entity.EntityKind.TheVariants.{Player, Dropped, Mob}
+use Rattle.mc_entities.specs.Folk.{eid_of}
+use Rattle.mc_entities.specs.Numbers.{Rise}
+use Rattle.mc_view.specs.declared.view_set.ViewSet.{ViewSet}
+use Rattle.mc_view.specs.Told.{Told}
+use Rattle.mc_down.specs.declared.down.Down.{Down}
+use Rattle.mc_model.specs.declared.seen.SeenKind.TheVariants as seen_kinds
+use Rattle.mc_model.specs.Sight.{Seen}
+use Rattle.mc_model.specs.World.{seen_of}
+use Rattle.mc_told.specs.declared.row.Row.{Row}
+use Rattle.mc_told.specs.Telling.{entity_frames, in_view, is_in, kept_of, packets_of, shown_now}
+use Rattle.mc_told.specs.Telling.{told_slot, row_as, row_in, rows_as, rows_in, rows_packets}
+use Rattle.mc_told.specs.Telling.{row_packets, seen_row, told_now, told_row}
+use Rattle.mc_told.proofs.Ordered.{both, entries_made}
+use Rattle.mc_told.proofs.Rising.{less, sorted_is, rising}
+
+-- ---- rows
+
+-- what is shown of one entity, in front of others
+seen_one : (eid : ℤ) (spot : Spot) (kind : EntityKind) (es : List Entity) (rows : List Row) →
+    filter_map seen_of es ≡ map seen_row rows →
+    filter_map seen_of (record { eid = eid; spot = spot; kind = kind } ∷ es)
+    ≡ map seen_row (rows_as (row_as (record { eid = eid; spot = spot; kind = kind }) kind) ++ rows)
+seen_one eid spot (Player uuid held) es rows same = ap (λ (ss : List (ℤ × Seen)).
+    seen_row (record { eid = eid; kind = seen_kinds.Player uuid; spot = spot; pile = held }) ∷ ss)
+    same
+seen_one eid spot (Dropped item born) es rows same = ap (λ (ss : List (ℤ × Seen)).
+    seen_row (record { eid = eid; kind = seen_kinds.Item; spot = spot; pile = Full item }) ∷ ss)
+    same
+seen_one eid spot Mob es rows same = same
+
+-- what is shown is shown by the rows
+pub seen_rows : (view : ViewSet) (es : List Entity) →
+    filter_map seen_of (in_view view es) ≡ map seen_row (rows_in view es)
+seen_rows view [] = refl
+seen_rows view (e ∷ es) =
+    elim (is_in view e) as (λ b. filter_map seen_of (cond b (e ∷ in_view view es) (in_view view es))
+    ≡ map seen_row (rows_as (cond b (row_as e e.kind) None) ++ rows_in view es)) [
+      | true ↦ seen_one e.eid e.spot e.kind (in_view view es) (rows_in view es) (seen_rows view es)
+      | false ↦ seen_rows view es
+    ]
+
+-- a row has the number of its entity, of whatever kind that is
+kind_eid : (e : Entity) (kind : EntityKind) (row : Row) →
+    row_as e kind ≡ Some row → row.eid ≡ e.eid
+kind_eid e (Player uuid held) row is = sym (let same : record {
+  eid = e.eid;
+  kind = seen_kinds.Player uuid;
+  spot = e.spot;
+  pile = held;
+} ≡ row = cc in ap (λ (r : Row). r.eid) same)
+kind_eid e (Dropped item born) row is = sym (let same : record {
+  eid = e.eid;
+  kind = seen_kinds.Item;
+  spot = e.spot;
+  pile = Full item;
+} ≡ row = cc in ap (λ (r : Row). r.eid) same)
+kind_eid e Mob row is = absurd cc
+
+-- and wherever it stands
+pub row_eid : (view : ViewSet) (e : Entity) (row : Row) →
+    row_in view e ≡ Some row → row.eid ≡ e.eid
+row_eid view e row is = elim (is_in view e) as
+    (λ b. cond b (row_as e e.kind) None ≡ Some row → row.eid ≡ e.eid) [
+      | true ↦ kind_eid e e.kind row
+      | false ↦ λ none. absurd cc
+    ] is
+
+-- all rows are above a number that entities are above
+pub rows_above : (view : ViewSet) (k low high : ℤ) (es : List Entity) → k ≤ℤ low →
+    Rise eid_of low es high → T (below_all int_cmp k (map told_row (rows_in view es)))
+rows_above view k low high [] le r = tt
+rows_above view k low high (e ∷ es) le r =
+    let lt : k <ℤ e.eid = omega (arith, ints, le, r.0) in
+    let rest = rows_above view k e.eid high es (omega (arith, ints, lt)) r.1 in
+    elim (row_in view e) as (λ o. row_in view e ≡ o →
+    T (below_all int_cmp k (map told_row (rows_as o ++ rows_in view es)))) [
+      | None ↦ λ none. rest
+      | Some row ↦ λ is. both _ _ (less k row.eid
+          (subst (λ (q : ℤ). k <ℤ q) (sym (row_eid view e row is)) lt)) rest
+    ] refl
+
+-- the rows of rising entities rise
+pub rows_rise : (view : ViewSet) (low high : ℤ) (es : List Entity) → Rise eid_of low es high →
+    T (is_sorted int_cmp (map told_row (rows_in view es)))
+rows_rise view low high [] r = tt
+rows_rise view low high (e ∷ es) r =
+    let rest = rows_rise view e.eid high es r.1 in
+    elim (row_in view e) as (λ o. row_in view e ≡ o →
+    T (is_sorted int_cmp (map told_row (rows_as o ++ rows_in view es)))) [
+      | None ↦ λ none. rest
+      | Some row ↦ λ is. both _ _ (rows_above view row.eid e.eid high es
+          (subst (λ (q : ℤ). q ≤ℤ e.eid) (sym (row_eid view e row is)) (omega (arith, ints))) r.1)
+          rest
+    ] refl
+
+-- ---- what is shown
+
+-- rows are shown under their own numbers
+same_firsts : (rows : List Row) → map (λ (e : ℤ × Seen). e.0) (map seen_row rows)
+    ≡ map (λ (e : ℤ × (Spot × Pile)). e.0) (map told_row rows)
+same_firsts [] = refl
+same_firsts (row ∷ rows) = ap (λ (ks : List ℤ). row.eid ∷ ks) (same_firsts rows)
+
+-- what is shown by rising rows rises
+seen_sorted : (rows : List Row) → T (is_sorted int_cmp (map told_row rows)) →
+    T (is_sorted int_cmp (map seen_row rows))
+seen_sorted rows up =
+    subst T (sorted_is int_cmp (map told_row rows) ∙ ap (rising int_cmp) (sym (same_firsts rows))
+    ∙ sym (sorted_is int_cmp (map seen_row rows))) up
+
+-- entry by entry
+pub shown_rows : (view : ViewSet) (es : List Entity) (high : ℤ) → Rise eid_of (pos 0) es high →
+    entries (shown_now es view) ≡ map seen_row (rows_in view es)
+shown_rows view es high r =
+    ap (λ (rows : List (ℤ × Seen)). entries (from_entries {R = int_cmp} rows)) (seen_rows view es)
+    ∙ entries_made int_cmp int_cmp_total int_cmp-IsAntisymmetric (map seen_row (rows_in view es))
+    (seen_sorted (rows_in view es) (rows_rise view (pos 0) high es r))
+
+-- what is kept of what is shown by a row is what is told of the row
+find_seen : (q : ℤ) (rows : List Row) → option_map kept_of (find int_cmp q (map seen_row rows))
+    ≡ option_map told_slot (find int_cmp q (map told_row rows))
+find_seen q [] = refl
+find_seen q (row ∷ rows) = elim (eq_by_cmp int_cmp q row.eid) as
+    (λ b. option_map kept_of (cond b (Some (seen_row row).1) (find int_cmp q (map seen_row rows)))
+    ≡ option_map told_slot (cond b (Some (told_row row).1) (find int_cmp q (map told_row rows)))) [
+      | true ↦ refl
+      | false ↦ find_seen q rows
+    ]
+
+-- what is shown under a number is what is told then
+pub shown_told : (view : ViewSet) (es : List Entity) (q : ℤ) →
+    option_map kept_of (get (shown_now es view) q)
+    ≡ option_map told_slot (get (told_now es view) q)
+shown_told view es q =
+    ap (λ (rows : List (ℤ × Seen)). option_map kept_of (get (from_entries {R = int_cmp} rows) q))
+    (seen_rows view es)
+    ∙ ap (option_map kept_of) (get-from_entries int_cmp_total (map seen_row (rows_in view es)) q)
+    ∙ find_seen q (rows_in view es)
+    ∙ ap (option_map told_slot)
+    (sym (get-from_entries int_cmp_total (map told_row (rows_in view es)) q))
+
+-- something is seen where something was told
+pub known_alike : (o : Option Seen) (t : Option (Spot × Pile)) →
+    option_map kept_of o ≡ option_map told_slot t → is_some o ≡ is_some t
+known_alike None None same = refl
+known_alike None (Some t) same = absurd cc
+known_alike (Some e) None same = absurd cc
+known_alike (Some e) (Some t) same = refl
+
+-- an entity is shown where it is told
+pub shown_known : (view : ViewSet) (es : List Entity) (q : ℤ) →
+    contains_key (shown_now es view) q ≡ contains_key (told_now es view) q
+shown_known view es q = known_alike (get (shown_now es view) q) (get (told_now es view) q)
+    (shown_told view es q)
+
+-- ---- frames
+
+-- the packets of what rows show are those of the rows
+mapped_packets : (told : Told) (rows : List Row) →
+    flat_map (packets_of told) (map seen_row rows) ≡ rows_packets told rows
+mapped_packets told [] = refl
+mapped_packets told (row ∷ rows) =
+    ap (λ (ds : List Down). row_packets told row ++ ds) (mapped_packets told rows)
+
+-- the frames of entities are those of their rows
+pub frames_are : (told : Told) (es : List Entity) (view : ViewSet) →
+    entity_frames told es view ≡ rows_packets told (rows_in view es)
+frames_are told es view = ap (flat_map (packets_of told)) (seen_rows view es)
+    ∙ mapped_packets told (rows_in view es)

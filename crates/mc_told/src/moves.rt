@@ -1,0 +1,92 @@
+//! How a client is told that an entity moved.
+
+ghost use Rattle.std.specs.Prelude.{◌≡◌, ◌++◌, IfOk, OnOk};
+ghost use Rattle.mc_view.specs.Forms.{moves_of};
+ghost use Rattle.mc_model.specs.Delta.{head_packets, move_packets, moves_packets};
+ghost use Rattle.mc_told.specs.MoveFrames.{AreMoves, is_still, move_bytes};
+ghost use Rattle.mc_told.specs.Sending.{play_bytes};
+
+use crate::EncodedMoves;
+use crate::frames::put_made;
+use crate::packets::{head_look, jump, step, step_turn, turn};
+use bytes::Bytes;
+use mc_fields::Spot;
+use mc_nbt::NoMemory;
+use mc_view::{Form, Moves, form};
+use std::alloc::Global;
+
+/// Whether neither place nor look is told.
+pub fn is_still(form: &Form) -> bool
+    ensures { result ≡ is_still form.now }
+{
+    matches!(form, Form::Still)
+}
+
+/// Appends the frame that says where it is and looks now, if it takes one.
+fn put_form(eid: i32, spot: &Spot, form: Form, out: &mut Vec<u8>) -> Result<(), NoMemory>
+    ensures { OnOk result (out.new.items
+        ≡ out.old.items ++ play_bytes (move_packets eid spot.now form)) }
+{
+    match form {
+        Form::Still => Ok(()),
+        Form::Step(dx, dy, dz) => put_made(step(eid, dx, dy, dz), out),
+        Form::StepTurn(dx, dy, dz) => {
+            put_made(step_turn(eid, dx, dy, dz, spot.yaw, spot.pitch), out)
+        }
+        Form::Turn => put_made(turn(eid, spot.yaw, spot.pitch), out),
+        Form::Jump => put_made(jump(eid, spot.x, spot.y, spot.z, spot.yaw, spot.pitch), out),
+    }
+}
+
+/// Appends the frame that turns its head, where that turns.
+fn put_head(eid: i32, spot: &Spot, head: bool, out: &mut Vec<u8>) -> Result<(), NoMemory>
+    ensures { OnOk result (out.new.items
+        ≡ out.old.items ++ play_bytes (head_packets eid spot.now head)) }
+{
+    if head {
+        put_made(head_look(eid, spot.yaw), out)?;
+    }
+    Ok(())
+}
+
+/// Appends the frames of a move to a spot.
+fn put_own(eid: i32, to: &Spot, moves: Moves, out: &mut Vec<u8>) -> Result<(), NoMemory>
+    ensures { OnOk result (out.new.items
+        ≡ out.old.items ++ play_bytes (moves_packets eid to.now moves)) }
+{
+    put_form(eid, to, moves.form, out)?;
+    put_head(eid, to, moves.head, out)?;
+    Ok(())
+}
+
+/// The frames that tell a client that an entity moved from one spot to another.
+pub fn moves_piece(alloc: Global, eid: i32, from: &Spot, to: &Spot) -> Result<Bytes, NoMemory>
+    ensures { IfOk result (λ piece. piece ≡ move_bytes eid from.now to.now) }
+{
+    let mut bytes = Vec::new(alloc);
+    put_own(eid, to, form(*from, *to), &mut bytes)?;
+    Ok(Bytes::from_vec(bytes)?)
+}
+
+/// Appends the frames that tell a client that an entity moved from one spot to another: those that
+/// were encoded, where it is that move, by one copy.
+pub fn put_moves(
+    encoded: &EncodedMoves,
+    eid: i32,
+    from: &Spot,
+    to: &Spot,
+    out: &mut Vec<u8>,
+) -> Result<(), NoMemory>
+    requires { AreMoves encoded.now }
+    ensures { OnOk result (out.new.items
+        ≡ out.old.items ++ play_bytes (moves_packets eid to.now (moves_of from.now to.now))) }
+{
+    let moves = form(*from, *to);
+    if is_still(&moves.form) {
+        return put_head(eid, to, moves.head, out);
+    }
+    match encoded.moved(eid, from, to) {
+        Some(frames) => Ok(out.extend_from_slice(frames)?),
+        None => put_own(eid, to, moves, out),
+    }
+}
