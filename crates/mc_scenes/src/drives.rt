@@ -108,8 +108,12 @@ fn put_tally(name: &str, tally: Tally, answer: &mut Answer) {
 /// Answers how serving ended, and the log.
 pub fn log(words: &mut Words<'_>, answer: &mut Answer) {
     if let Some(mut service) = service_in(words, answer) {
-        let Service { server, lobby, .. } = &mut service;
-        serve(server, lobby, service.budget, words, answer);
+        let Service {
+            server,
+            lobby,
+            budget,
+        } = &mut service;
+        serve(server, lobby, *budget, words, answer);
         put_log(service.lobby.log(), answer);
         drop(service);
     }
@@ -119,8 +123,12 @@ pub fn log(words: &mut Words<'_>, answer: &mut Answer) {
 pub fn puts(words: &mut Words<'_>, answer: &mut Answer) {
     let k = words.number();
     if let Some(mut service) = service_in(words, answer) {
-        let Service { server, lobby, .. } = &mut service;
-        serve(server, lobby, service.budget, words, answer);
+        let Service {
+            server,
+            lobby,
+            budget,
+        } = &mut service;
+        serve(server, lobby, *budget, words, answer);
         let all = put_to(words.alloc, k, service.lobby.log().unwrap_or(&[]), answer);
         drop(service);
         answer.comma();
