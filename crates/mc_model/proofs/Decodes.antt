@@ -1,6 +1,6 @@
 -- What is handed out as frames, one after another, is cut into them again, and decoded as those
 -- packets.
-use Rattle.std.proofs.Common.{◌≡◌, ℕ, ◌^◌, ◌<◌, List, ◌∷◌, ◌++◌, map, refl, sym, subst, ap, []}
+use Rattle.std.proofs.Common.{arith, ◌≡◌, ℕ, ◌^◌, ◌<◌, List, ◌∷◌, ◌++◌, map, refl, sym, ap, []}
 use Rattle.std.specs.Prelude.{Some}
 use Rattle.std.proofs.lemmas.List.{append-nil}
 use Rattle.mc_fields.specs.Row.{most}
@@ -48,7 +48,8 @@ IsClear for_play (of_login packet) = ⊥
 -- a packet that has a spelling, and by its format none of too many bytes, is one
 pub status_clear : (packet : StatusDown) → status.FitsStatusDown packet
     → most (status.entry_of packet) < 2 ^ 21 → IsClear for_status (of_status packet)
-status_clear (Pong number) fits few = (fits, packet_payload (status.entry_of (Pong number)) fits few)
+status_clear (Pong number) fits few =
+    (fits, packet_payload (status.entry_of (Pong number)) fits few)
 status_clear packet fits few = (fits, packet_payload (status.entry_of packet) fits few)
 
 pub login_clear : (packet : LoginDown) → login.FitsLoginDown packet
@@ -59,7 +60,8 @@ login_clear packet fits few = (fits, packet_payload (login.entry_of packet) fits
 
 pub play_clear : (packet : Down) → play.FitsDown packet → most (play.entry_of packet) < 2 ^ 21
     → IsClear for_play (of_play packet)
-play_clear (KeepAlive beat) fits few = (fits, packet_payload (play.entry_of (KeepAlive beat)) fits few)
+play_clear (KeepAlive beat) fits few =
+    (fits, packet_payload (play.entry_of (KeepAlive beat)) fits few)
 play_clear packet fits few = (fits, packet_payload (play.entry_of packet) fits few)
 
 -- all of these are decoded by it one after another, and what follows by that
@@ -72,10 +74,9 @@ Decodes decoder (packet ∷ packets) end =
 pub decodes_more : (decoder middle end : Decoder) (packets others : List Sent) →
     Decodes decoder packets middle → Decodes middle others end
     → Decodes decoder (packets ++ others) end
-decodes_more decoder middle end [] others h later = let P : Decoder → Type 0 =
-    λ e. Decodes e others end in subst P (sym h) later
+decodes_more decoder middle end [] others h later = search (arith)
 decodes_more decoder middle end (packet ∷ packets) others h later =
-    (h.0, decodes_more (decoder_after decoder packet) middle end packets others h.1 later)
+    search (arith, decodes_more (decoder_after decoder packet) middle end packets others h.1 later)
 
 -- it fits a frame
 clear_payload : (decoder : Decoder) (packet : Sent) → IsClear decoder packet →

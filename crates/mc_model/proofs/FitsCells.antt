@@ -10,7 +10,6 @@ use lib.IntN.{ℤ, pos, ◌+ℤ◌, ◌*ℤ◌}
 use mir.Val.{SFits}
 use Rattle.mc_fields.specs.declared.position.Cell.{Cell}
 use Rattle.mc_fields.specs.Position.{FitsHalf, FitsCell, pack}
-use Rattle.mc_fields.specs.VarintFormat.{varint-fits}
 use Rattle.mc_column.specs.Sizes.{cells}
 use Rattle.mc_column.specs.SizesLaws.{cells-is}
 use Rattle.mc_land.specs.Places.{Place}
@@ -63,17 +62,9 @@ change_clear cell state at small =
 -- a cell of a column has a spelling
 record_fits : (states : List ℕ) (i : ℕ) → CellFits states i →
     cell_change.fits (cell_record states i)
-record_fits states i f = (
-  tt,
-  (
-    omega arith,
-    (
-      omega (arith, f.index),
-      varint-fits (pos (slice_index states i))
-          (state_fits (slice_index states i) f.state),
-    ),
-  ),
-)
+record_fits states i f =
+    let at_state = state_fits (slice_index states i) f.state in
+    search (fields, f.index, at_state)
 
 -- MultiChange
 records_clear : (place : Place) (records : List Record) → IsNear place →

@@ -70,8 +70,7 @@ pub record ColumnFits (e : Place × ColumnValue) : Type 0 where
 -- a column that comes into view, of a place that fits
 pub whole_clear : (place : Place) (column : ColumnValue) → PlaceFits place → HasSizes column →
     IsClear for_play (of_play (load (place, column)))
-whole_clear place column at sizes = chunk_clear place (column_mask column) (column_bytes column) at
-    (mask_small column sizes) (column_few column sizes)
+whole_clear place column at sizes = search (arith, chunk_clear, column_few, mask_small)
 
 -- and of one that fits
 pub load_clear : (e : Place × ColumnValue) → ColumnFits e → IsClear for_play (of_play (load e))

@@ -3,7 +3,7 @@ use Rattle.std.proofs.Common.{ℕ, ◌+◌, ◌≤◌, Bool, true, false, cond, 
 use Rattle.std.proofs.Common.{Option, Some, None, arith}
 use Rattle.std.specs.Int.{w32, w64}
 use Rattle.std.specs.List.{AllByRecursion}
-use Rattle.std.specs.FinMap.{get, entries, keys}
+use Rattle.std.specs.FinMap.{entries, keys}
 use lib.IntN.{ℤ, pos}
 use mir.Val.{SFits}
 use Rattle.mc_column.specs.Cells.{ColumnValue}
@@ -81,10 +81,7 @@ column_clear e f (Some old) = grind (arith, nat_tests, cells_clear, differing_fe
 
 -- of each column
 changes_clear : (p q : Sight) → SightFits q → AreClear (cells_point p q)
-changes_clear p q f =
-    all_flat ColumnFits (λ (packet : Down). IsClear for_play (of_play packet))
-    (λ (e : Place × ColumnValue). column_changes e.0 (get p.columns e.0) e.1)
-    (λ e fits. column_clear e fits (get p.columns e.0)) (entries q.columns) f.columns
+changes_clear p q f = search (arith, all_flat, column_clear)
 
 -- the entities that come or change
 entity_clear : (e : ℤ × Seen) → SeenFits e → (old : Option Seen) →
@@ -94,10 +91,7 @@ entity_clear e f (Some old) = grind (arith, nat_tests, all_joined, moves_clear, 
 
 -- each of them
 entities_clear : (p q : Sight) → SightFits q → AreClear (entities_point p q)
-entities_clear p q f =
-    all_flat SeenFits (λ (packet : Down). IsClear for_play (of_play packet))
-    (λ (e : ℤ × Seen). entity_packets e.0 (get p.entities e.0) e.1)
-    (λ e fits. entity_clear e fits (get p.entities e.0)) (entries q.entities) f.entities
+entities_clear p q f = search (arith, all_flat, entity_clear)
 
 -- the slots that change
 slots_clear : (i : ℕ) (olds news : List Slot) → i + length news ≤ 100 →
@@ -171,8 +165,7 @@ placing_clear spot at = grind (arith, nat_tests, degrees_fit, pattern_fits, plac
 -- what is noted
 pub notes_clear : (notes : Noted) (spot : Spot) (pack : PackValue) → SpotFits spot →
     IsPack pack.slots pack.cursor → AreClear (notes_of notes spot pack)
-notes_clear notes spot pack at is =
-    grind (arith, nat_tests, all_joined, placing_clear, window_clear)
+notes_clear notes spot pack at is = search (arith, all_joined, placing_clear, window_clear)
 
 -- the kind of level is a short text
 pub level_short : (terrain : Terrain) → IsShort 10 (level terrain)

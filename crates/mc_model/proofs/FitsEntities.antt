@@ -1,6 +1,6 @@
 -- The packets of entities fit: those that show one, say what it holds or is, and take some away.
-use Rattle.std.proofs.Common.{◌≡◌, ◌^◌, ◌<◌, ◌≤◌, ℕ, zero, suc, List, ◌∷◌, take, drop, length, map}
-use Rattle.std.proofs.Common.{refl, lit<, arith, ◌≢◌, []}
+use Rattle.std.proofs.Common.{◌^◌, ◌<◌, ◌≤◌, ℕ, zero, suc, List, ◌∷◌, take, drop, length, map, lit<}
+use Rattle.std.proofs.Common.{arith, ◌≢◌, []}
 use Rattle.std.specs.Prelude.{None}
 use Rattle.std.specs.Int.{w16, w32}
 use Rattle.std.specs.List.{AllByRecursion}
@@ -72,13 +72,9 @@ worn_clear eid pile at f =
 lying_clear : (eid : ℤ) (pile : Slot) → SFits w32 eid → SlotFits pile →
     IsClear for_play (of_play (pile_packet eid seen_kinds.Item pile))
 lying_clear eid pile at f =
-    play_clear (pile_packet eid seen_kinds.Item pile) (
-      lit< tt,
-      (
-        varint-fits eid at,
-        ((lit< tt, λ (e : 170 ≡ 127). omega (arith, e), (refl, (refl, f.fits))), tt),
-      ),
-    ) (omega (arith, f.few))
+    let other : ◌≢◌ {A = ℕ} 170 127 = λ e. omega (arith, e) in
+    play_clear (pile_packet eid seen_kinds.Item pile) (search (fields, other, f.fits))
+    (omega (arith, f.few))
 
 -- whichever it is, of a slot that fits
 pub pile_slot_clear : (eid : ℤ) (kind : SeenKind) (pile : Slot) → SFits w32 eid → SlotFits pile →

@@ -61,8 +61,7 @@ about_clear : (action : ℕ) (players : List Player) → is_action (pos action) 
     length players ≤ 50
     → AllByRecursion (PlayerFits (pos action)) players → AreClear (about (pos action) players)
 about_clear action [] is small few f = tt
-about_clear action (p ∷ players) is small few f =
-    (list_clear action (p ∷ players) is small few f, tt)
+about_clear action (p ∷ players) is small few f = search (arith, list_clear)
 
 -- the packet about those that left
 pub leavers_clear : (es : List (ℕ × List ℕ)) → length es ≤ 50 → AllByRecursion PairFits es

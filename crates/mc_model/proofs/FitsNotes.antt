@@ -64,12 +64,7 @@ pub noted_packets_clear : (terrain : Terrain) (edits : FinMap key_cmp ℕ) (seen
     (cells : List Cell) → AreClear (noted_packets terrain edits seen cells)
 noted_packets_clear terrain edits seen fit small [] = tt
 noted_packets_clear terrain edits seen fit small (cell ∷ cells) =
-    grind (
-      arith,
-      nat_tests,
-      noted_packet_clear,
-      noted_packets_clear terrain edits seen fit small cells,
-    )
+    search (arith, noted_packet_clear, noted_packets_clear terrain edits seen fit small cells)
 
 -- what a player is sent of the cells that were noted
 pub noted_clear : (w : World) (p : Player) (cells : List Cell) → ThingsFit w.things →

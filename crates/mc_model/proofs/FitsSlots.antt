@@ -65,8 +65,7 @@ slot_clear window i item at_window at_i f =
 -- and of that of a pile
 pub set_slot_clear : (window i : ℤ) (pile : Pile) → SFits w8 window → SFits w16 i → IsPile pile
     → IsClear for_play (of_play (SetSlot window i (slot_of pile)))
-set_slot_clear window i pile at_window at_i is =
-    slot_clear window i (slot_of pile) at_window at_i (pile_slot_fits pile is)
+set_slot_clear window i pile at_window at_i is = search (arith, pile_slot_fits, slot_clear)
 
 -- ---- all slots of a window
 

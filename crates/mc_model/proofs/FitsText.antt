@@ -1,7 +1,6 @@
 -- Which texts that are handed out fit: all are ASCII and short.
 use Rattle.std.proofs.Common.{◌≡◌, ℕ, zero, suc, ◌+◌, ◌-◌, ◌^◌, ◌<◌, ◌≤◌, Bool, true, false, cond}
-use Rattle.std.proofs.Common.{List, [], ◌∷◌, ◌++◌, length, refl, sym, subst, arith, ltb-true}
-use Rattle.std.proofs.Common.{lt-ltb, lit<}
+use Rattle.std.proofs.Common.{List, [], ◌∷◌, ◌++◌, length, refl, arith, ltb-true, lt-ltb, lit<}
 use Rattle.std.specs.Prelude.{nat_lt, nat_le, ◌&&◌, codes, decimal, Option, Some, None}
 use Rattle.std.specs.List.{list_all}
 use Rattle.std.specs.Int.{to_be_bytes, w128}
@@ -122,9 +121,7 @@ short_around most online protocol m o p =
 pub status_short : (most online : ℕ) → most ≤ 50 → online ≤ 50 →
     IsShort 200 (status_json most online)
 status_short most online few fewer =
-    subst (IsShort 200) (sym (status_parts most online))
-    (short_around (decimal most) (decimal online) (decimal 47) (short_number most few)
-    (short_number online fewer) (short_number 47 (leb-true 47 50 refl)))
+    search (arith, leb-true, short_around, short_number, status_parts)
 
 -- ---- last words
 
@@ -211,10 +208,8 @@ name_byte_low b t = grind (arith, nat_tests)
 -- so a name is ASCII
 name_low : (text : List ℕ) → list_all is_name_byte text ≡ true → IsAscii text
 name_low [] t i = omega arith
-name_low (b ∷ text) t zero = name_byte_low b
-    (both_true (is_name_byte b) (list_all is_name_byte text) t).0
-name_low (b ∷ text) t (suc i) = name_low text
-    (both_true (is_name_byte b) (list_all is_name_byte text) t).1 i
+name_low (b ∷ text) t zero = grind (arith, nat_tests, both_true, name_byte_low)
+name_low (b ∷ text) t (suc i) = grind (arith, nat_tests, both_true, name_low text)
 
 -- and short
 pub name_short : (name : List ℕ) → is_name name ≡ true → IsShort 16 name
