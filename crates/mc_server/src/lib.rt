@@ -1,8 +1,8 @@
 //! The loop that serves a lobby with a server.
 //!
 //! Stands on the server of `mc_events`, whose names it exports again, and on the lobbies of
-//! `mc_wire`. Its one contract is `drive`: a lobby is served turn by turn, the server stands for the
-//! world after the log of that, and whatever is served so was promised.
+//! `mc_wire`. Its one contract is `drive`: a lobby is served turn by turn, the server stands for
+//! the world after the log of that, and whatever is served so was promised.
 #![tactic(auto)]
 
 mod service;

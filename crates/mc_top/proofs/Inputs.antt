@@ -16,6 +16,7 @@ use Rattle.mc_words.specs.Lines.{text_max}
 use Rattle.mc_top.specs.StatusPromise.{RepliedPart, Replied, Found}
 use Rattle.mc_top.proofs.LongTexts.{told_front, long_faulty}
 use Rattle.mc_words.specs.Received.{SendsPart}
+use Rattle.mc_words.proofs.Growing.{grows_two}
 
 -- what is known of the bytes that were read is known of all that was left, where that is told, if
 -- it is alike for a text that is too long and its first bytes

@@ -15,7 +15,8 @@ use Rattle.mc_words.specs.declared.script_line.ScriptEvent.TheVariants.{Joined, 
 use Rattle.mc_words.specs.Lines.{lines_of, is_skipped, text_max, goes_past, size_of, HoldsByte}
 use Rattle.mc_words.specs.Script.{words_of, is_next, number_of, hex_of, numbered, join_event}
 use Rattle.mc_words.specs.Script.{bytes_event, ticks_event, connection, words_event, some_event}
-use Rattle.mc_words.specs.Script.{line_event, after_event, with_events, then_, at_first, lines_events}
+use Rattle.mc_words.specs.Script.{line_event, after_event, with_events, then_, at_first}
+use Rattle.mc_words.specs.Script.{lines_events}
 use Rattle.mc_words.specs.Script.{script_of}
 
 -- ---- no other line is too long

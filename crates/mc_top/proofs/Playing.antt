@@ -22,7 +22,7 @@ use Rattle.mc_top.specs.ReplayText.{lines_after, takings, settled, replay_text, 
 use Rattle.mc_top.specs.ReplayText.{events_of}
 use Rattle.mc_top.specs.Replaying.{IsReached, HasPlayed, HasStopped, replay_world, line_ticks}
 use Rattle.mc_top.specs.Replaying.{ticks_of}
-use Rattle.mc_words.proofs.Growing.{grows_two}
+use Rattle.mc_words.proofs.Growing.{grows_two, part_of}
 
 -- ---- worlds that come about
 

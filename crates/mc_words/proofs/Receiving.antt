@@ -40,7 +40,8 @@ use Rattle.mc_session.proofs.Status.{status_short}
 use Rattle.mc_words.specs.declared.bad_input.InputFault.{InputFault}
 use Rattle.mc_words.specs.declared.client.Client.{Client}
 use Rattle.mc_words.specs.StatusText.{Exchange, hex_line, receives}
-use Rattle.mc_words.specs.Received.{IsOpen, IsAt, Received, is_over, IsAsking, said_fault, said_lines}
+use Rattle.mc_words.specs.Received.{IsOpen, IsAt, Received, is_over, IsAsking, said_fault}
+use Rattle.mc_words.specs.Received.{said_lines}
 use Rattle.mc_words.specs.Received.{Sends, SendsPart}
 use Rattle.mc_words.proofs.Exchanges.{IsWanted, FitsSaid, fault_stays, done_stays, Begins}
 use Rattle.mc_words.proofs.Exchanges.{received_begins}

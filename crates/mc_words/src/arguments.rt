@@ -3,7 +3,8 @@ ghost use Rattle.std.specs.Str.{bytes_eq};
 ghost use Rattle.std.specs.List.{list_any};
 ghost use Rattle.mc_words.specs.Arguments.{is_equals, name_of, value_of, value_in, are_options};
 ghost use Rattle.mc_words.specs.Arguments.{number_in, number_or, terrain_of, players_in, view_in};
-ghost use Rattle.mc_words.specs.Arguments.{land_in, world_in, port_in, tick_limit_in, event_limit_in};
+ghost use Rattle.mc_words.specs.Arguments.{land_in, world_in, port_in, tick_limit_in};
+ghost use Rattle.mc_words.specs.Arguments.{event_limit_in};
 ghost use Rattle.mc_words.specs.Arguments.{pace_of, pace_in, takes_no_capture};
 ghost use Rattle.mc_words.specs.Arguments.{status_of, replay_of, serve_of, command_of, bytes_of};
 

@@ -1,9 +1,9 @@
 //! What commands read and say that need no server: the arguments, scripts, lines of hex, the
 //! answers of `status`, and how a command ends.
 //!
-//! Stands on the sessions of `mc_session`, the frames of `mc_frame`, the devices of `mc_wire` and the
-//! hex of the crate `hex`. Its one contract: each text is read as the definitions of `specs` say, to
-//! its first fault, and what is answered is exactly what they say of it.
+//! Stands on the sessions of `mc_session`, the frames of `mc_frame`, the devices of `mc_wire` and
+//! the hex of the crate `hex`. Its one contract: each text is read as the definitions of `specs`
+//! say, to its first fault, and what is answered is exactly what they say of it.
 #![tactic(auto)]
 
 mod arguments;

@@ -2,7 +2,8 @@ ghost use Rattle.std.specs.Prelude.{◌≡◌, ◌==◌, ◌-◌, slice_index, �
 ghost use Rattle.std.specs.Prelude.{IfOk, OnOk, OnErr, IsErrOf};
 ghost use Rattle.mc_wire.specs.Count.{Rose, StandsOrRises};
 ghost use Rattle.mc_wire.specs.Stream.{Grows};
-ghost use Rattle.mc_words.specs.StatusText.{Exchange, first_exchange, receives_next, last_byte_line};
+ghost use Rattle.mc_words.specs.StatusText.{Exchange, first_exchange, receives_next};
+ghost use Rattle.mc_words.specs.StatusText.{last_byte_line};
 ghost use Rattle.mc_words.specs.StatusText.{status_told};
 ghost use Rattle.mc_words.specs.Lines.{lines_of};
 ghost use Rattle.mc_words.specs.Received.{Received, IsIdle, Sends, SendsPart};

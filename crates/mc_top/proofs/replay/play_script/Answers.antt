@@ -6,12 +6,12 @@ use Rattle.mc_top.proofs.replay.play_script.Goals as goal
 pub returns-clause-played : goal.returns-clause-played
 returns-clause-played g c =
     let o = c.args.options in
-    on_ok_weaker c.play_all.result (λ played. played.wrote)
-    (rw c.deref.ensures.value at (c.play_all.ensures.played (world_of o)
+    on_ok_weaker c.play_all-played.result (λ played. played.wrote)
+    (rw c.deref.ensures.value at (c.play_all-played.ensures.played (world_of o)
     c.in_ok-server.ensures.stands (reached_new o.players o.view o.terrain)))
 
 pub returns-clause-stopped : goal.returns-clause-stopped
 returns-clause-stopped g c =
     let o = c.args.options in
-    rw c.deref.ensures.value at (c.play_all.ensures.stopped (world_of o)
+    rw c.deref.ensures.value at (c.play_all-played.ensures.stopped (world_of o)
     c.in_ok-server.ensures.stands (reached_new o.players o.view o.terrain))

@@ -32,11 +32,11 @@ returns-in-Err-clause-no_memory g c is = (
 
 pub returns-in-Ok-put_summary-clause-done : goal.returns-in-Ok-put_summary-clause-done
 returns-in-Ok-put_summary-clause-done g c is = record {
-  line = summary_line c.age.result c.tally_of.result;
+  line = summary_line c.age-age.result c.tally_of.result;
   all = served_all c.args.options _ _ _ c.pace.ensures.tells c.budget_of.result
-      c.budget_of.ensures c.drive.new.server c.in-Ok-drive.end c.age.result c.tally_of.result
+      c.budget_of.ensures c.drive.new.server c.in-Ok-drive.end c.age-age.result c.tally_of.result
       (c.in-Ok-drive.ensures.drove _ _ _ c.requires.world c.in-Ok.ensures.stands (λ e. cc))
-      c.age.ensures.is c.tally_of.ensures;
+      c.age-age.ensures.is c.tally_of.ensures;
   wrote = c.in-Ok-put_summary.ensures.wrote;
 }
 
@@ -45,18 +45,18 @@ returns-in-Err-Failed-clause-write_fault g c is =
     let part = c.in-Err-Failed.ensures.part (search rules) in (
       part.0,
       record {
-        line = summary_line c.age.result c.tally_of.result;
+        line = summary_line c.age-age.result c.tally_of.result;
         all = served_all c.args.options _ _ _ c.pace.ensures.tells c.budget_of.result
-            c.budget_of.ensures c.drive.new.server c.in-Ok-drive.end c.age.result c.tally_of.result
+            c.budget_of.ensures c.drive.new.server c.in-Ok-drive.end c.age-age.result c.tally_of.result
             (c.in-Ok-drive.ensures.drove _ _ _ c.requires.world c.in-Ok.ensures.stands (λ e. cc))
-            c.age.ensures.is c.tally_of.ensures;
+            c.age-age.ensures.is c.tally_of.ensures;
         len = part.1;
         wrote = part.2;
       },
     )
 
-pub returns-clause-no_memory : goal.returns-clause-no_memory
-returns-clause-no_memory g c is = (
+pub returns-in-Err-NoMemory-clause-no_memory : goal.returns-in-Err-NoMemory-clause-no_memory
+returns-in-Err-NoMemory-clause-no_memory g c is = (
   asked c.args.options _ _ _ c.pace.ensures.tells c.budget_of.result c.budget_of.ensures
       c.drive.ensures.asks.0 c.drive.ensures.asks.1,
   c.in-Err-NoMemory.ensures.none (search rules),

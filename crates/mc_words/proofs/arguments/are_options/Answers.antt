@@ -3,7 +3,8 @@ use Rattle.std.specs.Prelude.{string_bytes, is_some}
 use Rattle.std.specs.List.{list_any}
 use Rattle.std.specs.Str.{bytes_eq}
 use Rattle.mc_words.specs.Arguments.{name_of, value_in, bytes_of}
-use Rattle.mc_words.proofs.ArgumentSteps.{options_unknown, options_twice, options_later, options_done}
+use Rattle.mc_words.proofs.ArgumentSteps.{options_unknown, options_twice, options_later}
+use Rattle.mc_words.proofs.ArgumentSteps.{options_done}
 use Rattle.mc_words.proofs.ArgumentSteps.{some_seen}
 use Rattle.mc_words.proofs.arguments.are_options.Goals as goal
 

@@ -5,7 +5,8 @@ use Rattle.mc_words.specs.declared.bad_input.InputFault.TheVariants as faults
 use Rattle.mc_words.specs.StatusText.{Exchange, receives_next}
 use Rattle.mc_words.specs.Received.{Received, SendsPart}
 use Rattle.mc_words.proofs.Receiving.{received_part, part_begins}
-use Rattle.mc_words.proofs.Answering.{received_fault, next_long, next_not_hex, next_hex, next_begins}
+use Rattle.mc_words.proofs.Answering.{received_fault, next_long, next_not_hex, next_hex}
+use Rattle.mc_words.proofs.Answering.{next_begins}
 use Rattle.mc_words.proofs.status.receive_next.Goals as goal
 
 pub returns-then-goes_past-clause-received : goal.returns-then-goes_past-clause-received

@@ -37,8 +37,8 @@ returns-in-Login c =
     (sym (c.in-Some.is ∙ ap Some c.in-Login.is) ∙ c.in_ok-pending.ensures.pending)
     c.in_ok-pending.ensures.is b) c.log_in.ensures
 
-pub act-requires : goal.act-requires
-act-requires c =
+pub act-done-requires : goal.act-done-requires
+act-done-requires c =
     let v = c.args.self.now in
     let s : Session = nth_session c.args.i v.connections in
     let w = kept_world v in
@@ -54,8 +54,8 @@ act-requires c =
 pub returns-in-Act : goal.returns-in-Act
 returns-in-Act c =
     let v = c.args.self.now in
-    on_ok_more c.act.result _ _ (λ b. frame_acts v c.args.i (next_number v.last)
+    on_ok_more c.act-done.result _ _ (λ b. frame_acts v c.args.i (next_number v.last)
     c.args.frame.now c.in_ok-pending.ensures.rise c.requires.open_ c.handle.new.self
-    c.act.new.self c.in-Act.packet
+    c.act-done.new.self c.in-Act.packet
     (sym (c.in-Some.is ∙ ap Some c.in-Act.is) ∙ c.in_ok-pending.ensures.pending)
-    c.in_ok-pending.ensures.is b) c.act.ensures
+    c.in_ok-pending.ensures.is b) c.act-done.ensures
