@@ -174,7 +174,8 @@ cell_light column mask blocks dark sky i k parts lt named inside =
     sky_byte column.states (i * section_cells + 2 * (k / 2)) = grind (
       arith,
       after blocks (dark ++ (sky ++ column.biomes)) (block_light_at mask)
-          (named_count mask * light_bytes + (rank (is_named mask) i * light_bytes + k / 2)) parts.blocks_len,
+          (named_count mask * light_bytes + (rank (is_named mask) i * light_bytes + k / 2))
+          parts.blocks_len,
       after dark (sky ++ column.biomes) (named_count mask * light_bytes)
           (rank (is_named mask) i * light_bytes + k / 2) parts.dark_len,
       get_or_append_left sky column.biomes 0 (rank (is_named mask) i * light_bytes + k / 2) within,

@@ -104,6 +104,7 @@ pub fn put_last(
     ensures ids_stay { OnErr result (ids.new.items ≡ ids.old.items) }
     ensures connections_stay { OnErr result (connections.new.items ≡ connections.old.items) }
 {
+    // Dear to prove: the connection is let go at each exit before it is put.
     let id = connection.id();
     connections.reserve(1)?;
     ids.push(id)?;

@@ -174,6 +174,7 @@ impl Player {
           mark = self.new.mark;
         } }
     {
+        // Dear to prove: one client is sent parts of all that a scene has.
         let spot = spot_of(scene.folk, &scene.settings.terrain, self.eid);
         self.push_opening(alloc, scene, &spot, out)?;
         let pack = pack_of(scene.packs, &self.name);

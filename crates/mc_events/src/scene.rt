@@ -228,6 +228,7 @@ pub fn prepare(
     ensures frames { IfOk result (AreFrames land.new list.now) }
     ensures same { SameWorld land.old land.new }
 {
+    // Dear to prove: what was encoded is let go at each exit.
     let mut encoded = Encoded::new(alloc);
     encoded.add_players(alloc, list.list())?;
     encoded.add_moves(alloc, folk)?;

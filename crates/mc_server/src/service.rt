@@ -154,6 +154,7 @@ fn serve<L: Lobby>(
         Rose (L.counts lobby.old).faults (L.counts lobby.new).faults }
     ensures falls { StandOrRise (L.counts lobby.old) (L.counts lobby.new) }
 {
+    // Dear to prove: a loop with an exit for each way to end.
     let mut joins = 0;
     // There are no more connections than turns, so this sum is exact.
     let mut closed: u64 = 0;

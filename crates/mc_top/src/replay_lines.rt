@@ -88,6 +88,7 @@ fn put_sent<O: Sink>(
     ensures failed { IsErrOf result Unfinished.Failed → Rose (O.faults out.old) (O.faults out.new) }
     ensures counts { StandsOrRises (O.faults out.old) (O.faults out.new) }
 {
+    // Dear to prove: each step between the borrows of the server can fail.
     if server.front(connection).is_empty() {
         return Ok(());
     }

@@ -97,6 +97,7 @@ impl Server {
             Comes result self.old self.new (act (kept_world self.old)
             (nth_session doer.now.place self.old.connections) p packet.now) }
     {
+        // Dear to prove: an arm for each kind of packet, each with the whole server in hand.
         match packet {
             PlayUp::KeepAlive(_) => {
                 self.answer(doer);

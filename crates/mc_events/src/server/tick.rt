@@ -48,6 +48,7 @@ impl Server {
         ensures age { OnOk result (age_of self.new ≡ age_of self.old) }
         ensures sheds { OnOk result (Sheds self.old self.new) }
     {
+        // Dear to prove: what was encoded and who left are let go at each exit behind them.
         self.list.turn()?;
         self.list.list_all(&self.connections)?;
         let encoded = prepare(

@@ -47,7 +47,8 @@ returns-in-Err-Failed-clause-write_fault g c is =
       record {
         line = summary_line c.age-age.result c.tally_of.result;
         all = served_all c.args.options _ _ _ c.pace.ensures.tells c.budget_of.result
-            c.budget_of.ensures c.drive.new.server c.in-Ok-drive.end c.age-age.result c.tally_of.result
+            c.budget_of.ensures c.drive.new.server c.in-Ok-drive.end c.age-age.result
+            c.tally_of.result
             (c.in-Ok-drive.ensures.drove _ _ _ c.requires.world c.in-Ok.ensures.stands (λ e. cc))
             c.age-age.ensures.is c.tally_of.ensures;
         len = part.1;
