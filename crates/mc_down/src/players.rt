@@ -39,9 +39,7 @@ pub fn take_action(cursor: &mut Cursor<'_>) -> Result<i32, Stop>
 fn take_property(alloc: Global, cursor: &mut Cursor<'_>) -> Result<Property, ReadError>
     ensures { Gives (λ value. (value, cursor.new)) result (property.read cursor.old) }
 {
-    let name = Text::get(alloc, cursor)?;
-    let value = Text::get(alloc, cursor)?;
-    let is_signed = bool::get(alloc, cursor)?;
+    let (name, value, is_signed): (Text, Text, bool) = Field::get(alloc, cursor)?;
     let signature = take_text_if(is_signed, alloc, cursor)?;
     Ok(Property {
         name,
@@ -87,10 +85,8 @@ fn take_name_shown(
 fn take_join(alloc: Global, cursor: &mut Cursor<'_>) -> Result<PlayerChange, ReadError>
     ensures { Gives (λ what. (what, cursor.new)) result (joining.read cursor.old) }
 {
-    let name = Text::get(alloc, cursor)?;
-    let properties = Properties::get(alloc, cursor)?;
-    let VarInt(mode) = VarInt::get(alloc, cursor)?;
-    let VarInt(ping) = VarInt::get(alloc, cursor)?;
+    let (name, properties, VarInt(mode), VarInt(ping)): (Text, Properties, VarInt, VarInt) =
+        Field::get(alloc, cursor)?;
     let (is_shown, shown) = take_name_shown(alloc, cursor)?;
     Ok(PlayerChange::Join {
         name,

@@ -41,10 +41,8 @@ impl<A: Field, B: Field, C: Field, D: Field> Field for (A, B, C, D) {
     ghost format = { tuple4 A.format B.format C.format D.format };
 
     fn get(alloc: Global, cursor: &mut Cursor<'_>) -> Result<(A, B, C, D), ReadError> {
-        let a = A::get(alloc, cursor)?;
-        let b = B::get(alloc, cursor)?;
-        let c = C::get(alloc, cursor)?;
-        let d = D::get(alloc, cursor)?;
+        let (a, b): (A, B) = Field::get(alloc, cursor)?;
+        let (c, d): (C, D) = Field::get(alloc, cursor)?;
         Ok((a, b, c, d))
     }
 
@@ -57,11 +55,8 @@ impl<A: Field, B: Field, C: Field, D: Field, E: Field> Field for (A, B, C, D, E)
     ghost format = { tuple5 A.format B.format C.format D.format E.format };
 
     fn get(alloc: Global, cursor: &mut Cursor<'_>) -> Result<(A, B, C, D, E), ReadError> {
-        let a = A::get(alloc, cursor)?;
-        let b = B::get(alloc, cursor)?;
-        let c = C::get(alloc, cursor)?;
-        let d = D::get(alloc, cursor)?;
-        let e = E::get(alloc, cursor)?;
+        let (a, b, c): (A, B, C) = Field::get(alloc, cursor)?;
+        let (d, e): (D, E) = Field::get(alloc, cursor)?;
         Ok((a, b, c, d, e))
     }
 
@@ -74,12 +69,8 @@ impl<A: Field, B: Field, C: Field, D: Field, E: Field, F: Field> Field for (A, B
     ghost format = { tuple6 A.format B.format C.format D.format E.format F.format };
 
     fn get(alloc: Global, cursor: &mut Cursor<'_>) -> Result<(A, B, C, D, E, F), ReadError> {
-        let a = A::get(alloc, cursor)?;
-        let b = B::get(alloc, cursor)?;
-        let c = C::get(alloc, cursor)?;
-        let d = D::get(alloc, cursor)?;
-        let e = E::get(alloc, cursor)?;
-        let f = F::get(alloc, cursor)?;
+        let (a, b, c): (A, B, C) = Field::get(alloc, cursor)?;
+        let (d, e, f): (D, E, F) = Field::get(alloc, cursor)?;
         Ok((a, b, c, d, e, f))
     }
 
@@ -93,13 +84,8 @@ impl<A: Field, B: Field, C: Field, D: Field, E: Field, F: Field, G: Field> Field
     ghost format = { tuple7 A.format B.format C.format D.format E.format F.format G.format };
 
     fn get(alloc: Global, cursor: &mut Cursor<'_>) -> Result<(A, B, C, D, E, F, G), ReadError> {
-        let a = A::get(alloc, cursor)?;
-        let b = B::get(alloc, cursor)?;
-        let c = C::get(alloc, cursor)?;
-        let d = D::get(alloc, cursor)?;
-        let e = E::get(alloc, cursor)?;
-        let f = F::get(alloc, cursor)?;
-        let g = G::get(alloc, cursor)?;
+        let (a, b, c, d): (A, B, C, D) = Field::get(alloc, cursor)?;
+        let (e, f, g): (E, F, G) = Field::get(alloc, cursor)?;
         Ok((a, b, c, d, e, f, g))
     }
 

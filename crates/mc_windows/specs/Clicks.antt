@@ -32,7 +32,8 @@ use Rattle.mc_windows.specs.declared.moves.How.{How}
 use Rattle.mc_windows.specs.declared.moves.How.TheVariants.{Put, Merge, Swap}
 use Rattle.mc_windows.specs.declared.moves.Move.{Move}
 use Rattle.mc_windows.specs.declared.desk.Desk.{Desk}
-use Rattle.mc_windows.specs.Pack.{PackValue}
+use Rattle.mc_slots.specs.Chest.{chest_size}
+use Rattle.mc_windows.specs.Pack.{PackValue, pack_size}
 use Rattle.mc_windows.specs.Moves.{at, move, run, sort_of}
 
 -- ---- where a click goes
@@ -90,11 +91,11 @@ row_of (On place) mode button =
 
 -- how many places an order has, and the one with k before it
 abbrev pub places : Order → ℕ
-places ToPlayer = 36
-places ToChest = 27
+places ToPlayer = pack_size
+places ToChest = chest_size
 places ToHotbar = 9
 places ToMain = 27
-places PickedUp = 36
+places PickedUp = pack_size
 
 abbrev pub picked_up : ℕ → ℕ
 picked_up k = if nat_lt k 9 then 27 + k else k - 9

@@ -7,10 +7,11 @@ use Rattle.mc_slots.specs.declared.pile.Pile.{Pile}
 use Rattle.mc_slots.specs.declared.pile.Pile.TheVariants.{Empty, Full}
 use Rattle.mc_slots.specs.Pile.{IsPile}
 use Rattle.mc_slots.specs.Chest.{pile_at}
+use Rattle.mc_windows.specs.declared.pack.TheConstants.{PACK_PILES, LAST_WINDOW}
 
 -- how many piles a pack has, without the cursor
 abbrev pub pack_size : ℕ
-pack_size = 36
+pack_size = PACK_PILES
 
 -- the piles of the main part and then those of the hotbar, what hangs on the cursor, the number of
 -- the shown chest window (0 where none is), that of the last one, and the number of the refused
@@ -57,8 +58,8 @@ answered_pack window number pack =
 -- the next chest window is shown: the numbers go from 1 to 100 and begin again
 abbrev pub begun_pack : PackValue → PackValue
 begun_pack pack = record pack {
-  window = pack.last % 100 + 1;
-  last = pack.last % 100 + 1;
+  window = pack.last % LAST_WINDOW + 1;
+  last = pack.last % LAST_WINDOW + 1;
   waiting = None;
 }
 

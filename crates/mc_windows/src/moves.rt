@@ -8,10 +8,7 @@ ghost use Rattle.mc_windows.specs.Moves.{effect, poured};
 
 use crate::piles::is_one_sort;
 use crate::place::Place;
-use mc_slots::{Item, Pile, split};
-
-/// How many of one item a pile holds at most.
-const MOST: u8 = 64;
+use mc_slots::{Item, PILE_MAX, Pile, split};
 
 /// How piles move from one place to another.
 #[derive(Clone, Copy)]
@@ -96,7 +93,7 @@ fn pour(n: u8, from: Item, onto: Item) -> (Pile, Pile)
     ensures piles { result ≡ poured n from onto }
     ensures range { IsPile result.0 × IsPile result.1 }
 {
-    let room = n.min(MOST.saturating_sub(onto.count));
+    let room = n.min(PILE_MAX.saturating_sub(onto.count));
     let count = room.min(from.count);
     let mut left = Pile::Full(from);
     let _poured = split(&mut left, room);

@@ -1,7 +1,9 @@
 ghost use Rattle.std.specs.Prelude.{◌≡◌, ◌<◌};
 ghost use Rattle.mc_windows.specs.Clicks.{picked_up, place_in, places};
 
+use crate::PACK_PILES;
 use crate::place::Place;
+use mc_slots::CHEST_PILES;
 
 /// The places to which a pile may go by itself, in their order.
 #[derive(Clone, Copy)]
@@ -24,8 +26,9 @@ impl Order {
         ensures { result ≡ places self }
     {
         match self {
-            Order::ToPlayer | Order::PickedUp => 36,
-            Order::ToChest | Order::ToMain => 27,
+            Order::ToPlayer | Order::PickedUp => PACK_PILES,
+            Order::ToChest => CHEST_PILES,
+            Order::ToMain => 27,
             Order::ToHotbar => 9,
         }
     }

@@ -4,15 +4,16 @@ ghost use Rattle.mc_slots.specs.declared.pile.Pile.TheVariants.{Full};
 ghost use Rattle.mc_slots.specs.Chest.{pile_at};
 ghost use Rattle.mc_windows.specs.Pack.{answered_pack, begun_pack, finished_pack, kit_pack};
 ghost use Rattle.mc_windows.specs.Stock.{in_pack};
+ghost use Rattle.mc_windows.specs.declared.pack.TheConstants.{LAST_WINDOW};
 
 use mc_slots::{Item, Pile};
 use std::marker::Model;
 
 /// How many piles a pack has, without the cursor.
-const PILES: usize = 36;
+pub const PACK_PILES: usize = 36;
 
 /// The highest number of a window; after it they begin at 1 again.
-const LAST_WINDOW: u8 = 100;
+pub const LAST_WINDOW: u8 = 100;
 
 /// What a player carries, and which window it is shown in.
 ///
@@ -21,7 +22,7 @@ const LAST_WINDOW: u8 = 100;
 pub struct Pack {
     /// Pile i is slot `9 + i` of window 0 and slot `27 + i` of a chest window: the first 27 are the
     /// main part, the others the hotbar.
-    pub slots: [Pile; PILES],
+    pub slots: [Pile; PACK_PILES],
     /// What hangs on the cursor.
     pub cursor: Pile,
     /// The number of the shown chest window, or 0 where none is shown.
@@ -63,7 +64,7 @@ impl Pack {
     {
         // A pack has 36 piles, says its invariant.
         let _slots = &self.slots;
-        i < PILES
+        i < PACK_PILES
     }
 
     /// The pile at a place from 0 to 35; none elsewhere.
@@ -71,7 +72,7 @@ impl Pack {
         ensures pile { result ≡ pile_at self.now.slots i }
         ensures range { IsPile result }
     {
-        if i < PILES {
+        if i < PACK_PILES {
             self.slots[i]
         } else {
             Pile::Empty
@@ -121,7 +122,7 @@ fn some_of(id: i16, count: u8) -> Pile
 pub fn kit() -> Pack
     ensures { result ≡ kit_pack }
 {
-    let mut slots = [Pile::Empty; PILES];
+    let mut slots = [Pile::Empty; PACK_PILES];
     slots[27] = some_of(1, 64);
     slots[28] = some_of(3, 64);
     slots[29] = some_of(5, 64);
@@ -148,8 +149,8 @@ pub fn answer(pack: &mut Pack, window: u8, number: i16)
 /// and begin again.
 pub fn begin(pack: &mut Pack) -> u8
     ensures pack { pack.new ≡ begun_pack pack.old }
-    ensures number { result ≡ pack.old.last % 100 + 1 }
-    ensures range { (1 ≤ result) × (result ≤ 100) }
+    ensures number { result ≡ pack.old.last % LAST_WINDOW + 1 }
+    ensures range { (1 ≤ result) × (result ≤ LAST_WINDOW) }
 {
     let number = pack.last % LAST_WINDOW + 1;
     pack.window = number;

@@ -10,7 +10,7 @@ ghost use Rattle.mc_land.specs.Sums.{changes_in};
 use super::Land;
 use crate::places::Place;
 use crate::ready::Ready;
-use mc_slots::{Chest, Pile};
+use mc_slots::{CHEST_PILES, Chest, Pile};
 use std::collections::BTreeMap;
 
 impl Land {
@@ -56,7 +56,7 @@ fn piles_of(chest: &Chest) -> u16
     ensures few { result ≤ 1728 }
 {
     let mut total: u16 = 0;
-    for i in 0..27 {
+    for i in 0..CHEST_PILES {
         total += u16::from(count_of(&chest.get(i)));
     }
     total
