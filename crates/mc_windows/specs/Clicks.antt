@@ -11,7 +11,7 @@ use Rattle.mc_slots.specs.declared.slot.Slot.{Slot}
 use Rattle.mc_slots.specs.declared.slot.Slot.TheVariants as slots
 use Rattle.mc_slots.specs.declared.pile.Pile.{Pile}
 use Rattle.mc_slots.specs.declared.pile.Pile.TheVariants.{Empty, Full}
-use Rattle.mc_slots.specs.Pile.{count_of, is_sort}
+use Rattle.mc_slots.specs.Pile.{count_of, is_sort, most}
 use Rattle.mc_windows.specs.declared.request.Click.{Click}
 use Rattle.mc_windows.specs.declared.request.Why.{Why}
 use Rattle.mc_windows.specs.declared.request.Why.TheVariants.{WrongWindow, Waiting, NoSlot, NoMode}
@@ -114,7 +114,7 @@ to_each how from order (suc n) = to_each how from order n ++ move how from (plac
 
 -- stacks of the same item first, and then the first place with nothing
 abbrev pub sent : Place → Order → List Move
-sent from order = to_each (Merge 64) from order (places order) ++ to_each (Put 64) from order
+sent from order = to_each (Merge most) from order (places order) ++ to_each (Put most) from order
     (places order)
 
 -- with a chest, piles go from it to the player and from the player to it; else from the main part
@@ -148,13 +148,13 @@ fallen desk place n = if is_empty (at desk Cursor) then move (Put n) place Floor
 
 abbrev pub plan : Desk → Row → List Move
 plan desk (Left place) = (if are_alike (at desk Cursor) (at desk place)
-    then move (Merge 64) Cursor place else move Swap Cursor place) ∷ []
+    then move (Merge most) Cursor place else move Swap Cursor place) ∷ []
 plan desk (Right place) = right place (at desk Cursor) (at desk place) ∷ []
 plan desk (Shift place) = sent place (order_from (is_some desk.chest) place)
 plan desk (Number key place) = move Swap place (Packed (27 + key)) ∷ []
 plan desk (DropOne place) = fallen desk place 1
-plan desk (DropAll place) = fallen desk place 64
-plan desk ThrowAll = move (Put 64) Cursor Floor ∷ []
+plan desk (DropAll place) = fallen desk place most
+plan desk ThrowAll = move (Put most) Cursor Floor ∷ []
 plan desk ThrowOne = move (Put 1) Cursor Floor ∷ []
 plan desk Nothing = []
 

@@ -18,7 +18,7 @@ use crate::piles::{are_alike, count, is_empty};
 use crate::place::Place;
 use crate::request::{Click, Why};
 use crate::row::{Row, row_of, target_of};
-use mc_slots::{Chest, Pile, Slot, fits};
+use mc_slots::{Chest, PILE_MAX, Pile, Slot, fits};
 
 /// What became of a click.
 #[derive(Clone, Copy, Debug, PartialEq, Eq)]
@@ -198,8 +198,8 @@ impl Desk {
                 self.make(How::Swap, place, Place::Packed(27 + usize::from(key)));
             }
             Row::DropOne(place) => self.let_fall(place, 1),
-            Row::DropAll(place) => self.let_fall(place, 64),
-            Row::ThrowAll => self.make(How::Put(64), Place::Cursor, Place::Floor),
+            Row::DropAll(place) => self.let_fall(place, PILE_MAX),
+            Row::ThrowAll => self.make(How::Put(PILE_MAX), Place::Cursor, Place::Floor),
             Row::ThrowOne => self.make(How::Put(1), Place::Cursor, Place::Floor),
             Row::Nothing => {}
         }
@@ -211,7 +211,7 @@ impl Desk {
         ensures { self.new ≡ run (plan self.old (Left place)) self.old }
     {
         let how = if are_alike(self.get(Place::Cursor), self.get(place)) {
-            How::Merge(64)
+            How::Merge(PILE_MAX)
         } else {
             How::Swap
         };

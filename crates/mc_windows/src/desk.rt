@@ -11,7 +11,7 @@ use crate::moves::How;
 use crate::order::Order;
 use crate::pack::Pack;
 use crate::place::Place;
-use mc_slots::{Chest, Pile};
+use mc_slots::{Chest, PILE_MAX, Pile};
 
 /// The piles that a click may move: those of the pack, those of the chest that it shows, and what
 /// lies outside the window. It is a copy, which is put back only where the click is not refused.
@@ -142,8 +142,8 @@ impl Desk {
     pub(crate) fn send(&mut self, from: Place, order: Order)
         ensures { self.new ≡ run (sent from order) self.old }
     {
-        self.make_each(How::Merge(64), from, order);
-        self.make_each(How::Put(64), from, order);
+        self.make_each(How::Merge(PILE_MAX), from, order);
+        self.make_each(How::Put(PILE_MAX), from, order);
     }
 }
 
