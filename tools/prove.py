@@ -19,8 +19,10 @@ import time
 from pathlib import Path
 
 TOP = Path(__file__).resolve().parent.parent
+# How many processors there are.
+PROCESSORS = len(os.sched_getaffinity(0))
 # About how many seconds of one processor the proof of a kilobyte of code takes.
-SECONDS_OF_KILOBYTE = 4.5
+SECONDS_OF_KILOBYTE = 2.8
 
 
 def stands_on():
@@ -71,12 +73,12 @@ def work_of(crate):
 
 def clock_of(left, crates):
     """Guesses how many seconds these crates take side by side: no less than the longest chain of
-    them, in which a second processor is of some use, nor than all of them on all processors."""
+    them, where each gets two processors, nor than all of them on all processors."""
     chains = {}
     for name in left:
         below = max((chains[it] for it in crates[name] if it in chains), default=0)
-        chains[name] = below + work_of(name) / 1.5
-    whole = sum(work_of(name) for name in left) / len(os.sched_getaffinity(0))
+        chains[name] = below + work_of(name) / min(PROCESSORS, 2)
+    whole = sum(work_of(name) for name in left) / PROCESSORS
     return max([whole, *chains.values()])
 
 
@@ -94,18 +96,20 @@ def follow(gate, names, crates):
     """Says each crate of a running gate as it is done. Returns all that the gate said."""
     began, first = time.monotonic(), clock_of(names, crates)
     say(f"{len(names)} crates to prove, {minutes(first)} where none was proved before")
-    left, said, kept = list(names), [], 0
+    left, said, rest, due, kept = list(names), [], first, first, False
     for line in gate.stdout:
         said.append(line)
         done = re.match(r"(?:rt: )?(\w+) (proved|is kept)", line)
         if done is None or done[1] not in left:
             continue
         left.remove(done[1])
-        kept += done[2] == "is kept"
-        rest = clock_of(left, crates) if left else 0
-        # What is done tells how fast this machine is, once some of it was proved in this run.
-        pace = (time.monotonic() - began) / (first - rest) if rest < first and not kept else 1
-        say(f"{len(names) - len(left)} of {len(names)}: {done[1]}; the rest: {minutes(rest * pace)}")
+        kept = kept or done[2] == "is kept"
+        now, still = time.monotonic() - began, clock_of(left, crates) if left else 0
+        if still < rest:
+            # One of the longest chain is done, which tells how fast this machine is.
+            due = now + still * (1 if kept else now / (first - still))
+            rest = still
+        say(f"{len(names) - len(left)} of {len(names)}: {done[1]}; the rest: {minutes(due - now)}")
     return "".join(said)
 
 
