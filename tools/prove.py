@@ -21,6 +21,8 @@ from pathlib import Path
 TOP = Path(__file__).resolve().parent.parent
 # How many processors there are.
 PROCESSORS = len(os.sched_getaffinity(0))
+# How many processors the proof of a crate uses on which all others wait.
+ALONG_A_CHAIN = 1.2
 # About how many seconds of one processor the proof of a kilobyte of code takes.
 SECONDS_OF_KILOBYTE = 2.8
 
@@ -73,11 +75,11 @@ def work_of(crate):
 
 def clock_of(left, crates):
     """Guesses how many seconds these crates take side by side: no less than the longest chain of
-    them, where each gets two processors, nor than all of them on all processors."""
+    them, in which a second processor is of little use, nor than all of them on all processors."""
     chains = {}
     for name in left:
         below = max((chains[it] for it in crates[name] if it in chains), default=0)
-        chains[name] = below + work_of(name) / min(PROCESSORS, 2)
+        chains[name] = below + work_of(name) / ALONG_A_CHAIN
     whole = sum(work_of(name) for name in left) / PROCESSORS
     return max([whole, *chains.values()])
 
