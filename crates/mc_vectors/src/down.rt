@@ -144,6 +144,7 @@ fn put_talk(packet: &Down, answer: &mut Answer) {
 
 /// Puts the fields of a packet: entities that come.
 fn put_spawn(packet: &Down, answer: &mut Answer) {
+    // Dear to prove: a call for each field, in a match on an enum of many forms.
     match packet {
         Down::SpawnPlayer {
             eid,
@@ -232,6 +233,7 @@ fn put_gesture(packet: &Down, answer: &mut Answer) {
 
 /// Puts the fields of a packet: entities that move.
 fn put_move(packet: &Down, answer: &mut Answer) {
+    // Dear to prove: a call for each field, in a match on an enum of many forms.
     match packet {
         Down::Velocity { eid, dx, dy, dz } => {
             fields!(
