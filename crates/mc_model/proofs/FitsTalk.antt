@@ -3,8 +3,8 @@ use Rattle.std.proofs.Common.{ℕ, List, lit<, arith, lit≤}
 use Rattle.std.specs.Int.{w64}
 use lib.IntN.{ℤ}
 use mir.Val.{SFits}
-use Rattle.mc_up.specs.declared.status_down.StatusDown.TheVariants.{Response, Pong}
-use Rattle.mc_up.specs.declared.login_down.LoginDown.TheVariants.{Disconnect, Success}
+use Rattle.mc_hello.specs.declared.status_down.StatusDown.TheVariants.{Response, Pong}
+use Rattle.mc_hello.specs.declared.login_down.LoginDown.TheVariants.{Disconnect, Success}
 use Rattle.mc_model.specs.Packets.{of_status, of_login, for_status, for_login}
 use Rattle.mc_model.proofs.Decodes.{IsClear, status_clear, login_clear}
 use Rattle.mc_model.proofs.FitsText.{IsShort, short_fits, short_string}

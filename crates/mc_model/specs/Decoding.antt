@@ -4,9 +4,9 @@
 use Rattle.std.specs.Prelude.{◌≡◌, ℕ, List, [], ◌∷◌, Option, Some, None, Result, Ok, Err}
 use Rattle.mc_fields.specs.declared.packet.PacketFault.{PacketFault}
 use Rattle.mc_fields.specs.Row.{packet_read, packet_of}
-use Rattle.mc_up.specs.declared.handshake.Hand.{Hand}
-use Rattle.mc_up.specs.declared.handshake.Hand.TheVariants.{Handshake}
-use Rattle.mc_up.specs.Hand as hand
+use Rattle.mc_hello.specs.declared.handshake.Hand.{Hand}
+use Rattle.mc_hello.specs.declared.handshake.Hand.TheVariants.{Handshake}
+use Rattle.mc_hello.specs.Hand as hand
 use Rattle.mc_model.specs.declared.stage.Stage.{Stage}
 use Rattle.mc_model.specs.declared.stage.Stage.TheVariants as stages
 use Rattle.mc_model.specs.Cutting.{cut_of}

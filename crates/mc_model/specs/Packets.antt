@@ -7,11 +7,11 @@ use Rattle.mc_fields.specs.declared.packet.RowFault.{RowFault}
 use Rattle.mc_fields.specs.Row.{packet_read}
 use Rattle.mc_frame.specs.Frame.{frame_spelling}
 use Rattle.mc_frame.specs.Cut.{IsCut}
-use Rattle.mc_up.specs.declared.status_down.StatusDown.{StatusDown}
-use Rattle.mc_up.specs.declared.login_down.LoginDown.{LoginDown}
-use Rattle.mc_up.specs.declared.login_down.LoginDown.TheVariants.{Success}
-use Rattle.mc_up.specs.StatusDown as status
-use Rattle.mc_up.specs.LoginDown as login
+use Rattle.mc_hello.specs.declared.status_down.StatusDown.{StatusDown}
+use Rattle.mc_hello.specs.declared.login_down.LoginDown.{LoginDown}
+use Rattle.mc_hello.specs.declared.login_down.LoginDown.TheVariants.{Success}
+use Rattle.mc_hello.specs.StatusDown as status
+use Rattle.mc_hello.specs.LoginDown as login
 use Rattle.mc_down.specs.declared.down.Down.{Down}
 use Rattle.mc_down.specs.Down as play
 

@@ -1,10 +1,10 @@
 ghost use Rattle.std.specs.Prelude.{◌≡◌, IfOk};
 ghost use Rattle.mc_frame.specs.Frame.{IsPayload, frame_spelling};
-ghost use Rattle.mc_up.specs.StatusDown as status;
-ghost use Rattle.mc_up.specs.LoginDown as login;
+ghost use Rattle.mc_hello.specs.StatusDown as status;
+ghost use Rattle.mc_hello.specs.LoginDown as login;
 ghost use Rattle.mc_down.specs.Down as play;
-ghost use Rattle.mc_up.specs.declared.status_down.StatusDown.TheVariants.{Response, Pong};
-ghost use Rattle.mc_up.specs.declared.login_down.LoginDown.TheVariants as login_down;
+ghost use Rattle.mc_hello.specs.declared.status_down.StatusDown.TheVariants.{Response, Pong};
+ghost use Rattle.mc_hello.specs.declared.login_down.LoginDown.TheVariants as login_down;
 ghost use Rattle.mc_down.specs.declared.down.Down.TheVariants as down;
 ghost use Rattle.mc_model.specs.Names.{offline_uuid};
 ghost use Rattle.mc_model.specs.Texts.{status_json, farewell_text};

@@ -1,8 +1,8 @@
 ghost use Rattle.std.specs.Prelude.{◌≡◌, ◌≢◌, IfOk, OnOk, OnErr, Result};
 ghost use Rattle.mc_fields.specs.Row.{packet_read, packet_of};
-ghost use Rattle.mc_up.specs.Hand as hand;
-ghost use Rattle.mc_up.specs.StatusUp as status;
-ghost use Rattle.mc_up.specs.LoginUp as login;
+ghost use Rattle.mc_hello.specs.Hand as hand;
+ghost use Rattle.mc_hello.specs.StatusUp as status;
+ghost use Rattle.mc_hello.specs.LoginUp as login;
 ghost use Rattle.mc_up.specs.PlayUp as play;
 ghost use Rattle.mc_model.specs.Names.{offline_uuid};
 ghost use Rattle.mc_model.specs.Packets.{bytes_of};

@@ -1,7 +1,1 @@
-pub mod HandLaws
-pub mod StatusUpLaws
-pub mod StatusDownLaws
-pub mod LoginUpLaws
-pub mod LoginDownLaws
 pub mod PlayUpLaws
-pub mod Wider

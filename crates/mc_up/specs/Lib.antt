@@ -1,6 +1,1 @@
-pub mod Hand
-pub mod StatusUp
-pub mod StatusDown
-pub mod LoginUp
-pub mod LoginDown
 pub mod PlayUp

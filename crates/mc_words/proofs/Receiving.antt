@@ -13,16 +13,16 @@ use Rattle.mc_fields.specs.Row.{packet_read, packet_of}
 use Rattle.mc_fields.specs.Varint.{varint_spelling, groups_spelling}
 use Rattle.mc_frame.specs.Frame.{IsPayload, frame_spelling}
 use Rattle.mc_frame.specs.Kept.{outbox_max}
-use Rattle.mc_up.specs.declared.handshake.Hand.{Hand}
-use Rattle.mc_up.specs.declared.handshake.Hand.TheVariants.{Handshake}
-use Rattle.mc_up.specs.declared.status_up.StatusUp.{StatusUp}
-use Rattle.mc_up.specs.declared.status_up.StatusUp.TheVariants.{Request, Ping}
-use Rattle.mc_up.specs.declared.status_down.StatusDown.{StatusDown}
-use Rattle.mc_up.specs.declared.status_down.StatusDown.TheVariants.{Response, Pong}
+use Rattle.mc_hello.specs.declared.handshake.Hand.{Hand}
+use Rattle.mc_hello.specs.declared.handshake.Hand.TheVariants.{Handshake}
+use Rattle.mc_hello.specs.declared.status_up.StatusUp.{StatusUp}
+use Rattle.mc_hello.specs.declared.status_up.StatusUp.TheVariants.{Request, Ping}
+use Rattle.mc_hello.specs.declared.status_down.StatusDown.{StatusDown}
+use Rattle.mc_hello.specs.declared.status_down.StatusDown.TheVariants.{Response, Pong}
 use Rattle.mc_up.specs.declared.play_up.PlayUp.{PlayUp}
-use Rattle.mc_up.specs.Hand as hand
-use Rattle.mc_up.specs.StatusUp as up
-use Rattle.mc_up.specs.StatusDown as down
+use Rattle.mc_hello.specs.Hand as hand
+use Rattle.mc_hello.specs.StatusUp as up
+use Rattle.mc_hello.specs.StatusDown as down
 use Rattle.mc_wire.specs.Stream.{Grows}
 use Rattle.mc_model.specs.declared.cause.Cause.{Cause}
 use Rattle.mc_model.specs.declared.stage.Stage.{Stage}

@@ -25,7 +25,7 @@ fn put_plugin(channel: &Text, bytes: &Octets, out: &mut Vec<u8>) -> Result<(), N
 }
 
 /// The id and the fields of a packet; without memory some first part of them.
-#[tactic(auto, using(crate::proofs::Wider::wider_100))]
+#[tactic(auto, using(mc_hello::proofs::Wider::wider_100))]
 pub fn write_fields(packet: &PlayUp, out: &mut Vec<u8>) -> Result<(), NoMemory>
     requires { FitsPlayUp packet.now }
     ensures ok { OnOk result (out.new.items ≡ append_of packet.now out.old.items) }

@@ -1,5 +1,5 @@
-use Rattle.mc_up.specs.LoginDown.{spelling_of}
-use Rattle.mc_up.proofs.LoginDownLaws.{spelled}
+use Rattle.mc_hello.specs.LoginDown.{spelling_of}
+use Rattle.mc_hello.proofs.LoginDownLaws.{spelled}
 use Rattle.mc_session.proofs.reply.login_frame.Goals as goal
 
 pub write_login_down-requires : goal.write_login_down-requires

@@ -1,5 +1,5 @@
 use Rattle.std.proofs.Common.{ap, ◌∙◌}
-use Rattle.mc_up.specs.declared.login_down.LoginDown.TheVariants.{Disconnect}
+use Rattle.mc_hello.specs.declared.login_down.LoginDown.TheVariants.{Disconnect}
 use Rattle.mc_model.specs.Texts.{chat_json}
 use Rattle.mc_model.specs.Packets.{of_login}
 use Rattle.mc_model.specs.Talk.{refused}

@@ -1,5 +1,5 @@
-use Rattle.mc_up.specs.StatusDown.{spelling_of}
-use Rattle.mc_up.proofs.StatusDownLaws.{spelled}
+use Rattle.mc_hello.specs.StatusDown.{spelling_of}
+use Rattle.mc_hello.proofs.StatusDownLaws.{spelled}
 use Rattle.mc_session.proofs.reply.status_frame.Goals as goal
 
 pub write_status_down-requires : goal.write_status_down-requires
