@@ -1,14 +1,14 @@
 -- The touched cells of a column, around one cell.
 use Rattle.std.proofs.Common.{◌≡◌, ℕ, zero, suc, ◌+◌, ◌-◌, ◌<◌, ◌≤◌, ◌&&◌, nat_lt, nat_le, Bool}
 use Rattle.std.proofs.Common.{true, false, cond, not, eqb, List, [], ◌∷◌, ◌++◌, length, map, get_or}
-use Rattle.std.proofs.Common.{set, refl, sym, ◌∙◌, arith, inl, inr}
+use Rattle.std.proofs.Common.{set, refl, sym, ap, ◌∙◌, arith, inl, inr}
 use Rattle.std.proofs.lemmas.Bool.Decides.{nat_tests}
 use Rattle.std.proofs.lemmas.Bool.{cases_eq, eq-eqb, eqb-true, lt-ltb, le-leb}
 use Rattle.std.proofs.lemmas.List.{get_or-set_same, get_or-set_other, map-append, ext_get_or}
 use Rattle.std.proofs.lemmas.List.{length-map, length-set}
 use Rattle.std.proofs.lemmas.List.Elements.{filter-append}
 use Rattle.std.specs.List.{filter, range_with_len}
-use Rattle.mc_column.specs.Sizes.{cells}
+use Rattle.mc_column.specs.Sizes.{cells, squares}
 use Rattle.mc_column.specs.SizesLaws.{cells-is}
 use Rattle.mc_land.specs.declared.ready.Touched.{Touched}
 use Rattle.mc_land.specs.ReadyCode.{IsAround}
@@ -50,13 +50,15 @@ here test was i = cond (test i) (touched_cell was i ∷ []) []
 around : (test : ℕ → Bool) (was : List ℕ) (i : ℕ) → i < cells →
     map (touched_cell was) (filter test (range_with_len 0 cells)) ≡ below test was i ++
     (here test was i ++ above test was i)
-around test was i lt = grind (
-  arith,
-  range_parts 0 cells i lt,
-  filter-append test (range_with_len 0 i) (i ∷ range_with_len (i + 1) (cells - i - 1)),
-  map-append (touched_cell was) (filter test (range_with_len 0 i))
-      (filter test (i ∷ range_with_len (i + 1) (cells - i - 1))),
-)
+around test was i lt =
+    let parts : range_with_len 0 cells ≡ range_with_len 0 i ++ i ∷
+    range_with_len (i + 1) (cells - i - 1) = range_parts 0 cells i lt ∙ rw (zero_left i) refl in
+    ap (λ (xs : List ℕ). map (touched_cell was) (filter test xs)) parts
+    ∙ ap (map (touched_cell was)) (filter-append test (range_with_len 0 i) (i ∷
+    range_with_len (i + 1) (cells - i - 1)))
+    ∙ map-append (touched_cell was) (filter test (range_with_len 0 i))
+    (filter test (i ∷ range_with_len (i + 1) (cells - i - 1)))
+    ∙ ap (λ (ys : List Touched). below test was i ++ ys) (rest (test i))
   where
     zero_left : (i : ℕ) → 0 + i ≡ i
     zero_left i = omega arith
@@ -177,7 +179,13 @@ in_range test was a (suc n) i d lt = grind (arith, nat_tests, in_range test was 
 pub stand_around : (was now : List ℕ) (i : ℕ) → i < cells →
     IsAround (touched_cells was now) (below (has_changed was now) was i)
     (above (has_changed was now) was i) (has_changed was now i) (touched_cell was i)
-stand_around was now i lt = grind (arith, nat_tests, touched_around, in_range)
+stand_around was now i lt = record {
+  parts = touched_around was now i lt;
+  low_below = λ k d inside. let h = in_range (has_changed was now) was 0 i k d inside in
+      omega (arith, h.1);
+  high_above = λ k d inside. let h = in_range (has_changed was now) was (i + 1) (cells - i - 1) k d
+      inside in omega (arith, h.0);
+}
 
 -- ---- a cell is set
 
@@ -215,7 +223,9 @@ kept_set place terrain column new touched before after edits edits' index old i 
     get_or (put_back touched column.states) i 0 ≡ old =
     λ e. unchanged (put_back touched column.states) column.states i e ∙ sym had in
     let after_is : after ≡ touched_cells (put_back touched column.states)
-    (set column.states i state) = grind (arith, nat_tests, around, touched_set) in
+    (set column.states i state) = does (below (has_changed was now) was i)
+    (above (has_changed was now) was i) (has_changed was now i) (touched_cell was i) around
+    (sym at') same_before ∙ sym (touched_set was now i state lt within) in
     let back : put_back after (set column.states i state) ≡ put_back touched column.states =
     rw after_is (back_again (put_back touched column.states) (set column.states i state) was_len
     new_len) in
@@ -250,12 +260,15 @@ few_pass p a (suc n) = grind (arith, nat_tests, few_pass p (a + 1) n)
 pub length-changes : (terrain : Terrain) (place : Place) (states : List ℕ) →
     length (changes terrain place states) ≡
     length (filter (is_changed terrain place states) (range_with_len 0 cells))
-length-changes terrain place states = grind (arith, nat_tests, length-map)
+length-changes terrain place states =
+    length-map (filter (is_changed terrain place states) (range_with_len 0 cells))
+    (λ j. ((place, j), get_or states j 0))
 
 -- no more cells are edits than there are
 pub few_changes : (terrain : Terrain) (place : Place) (states : List ℕ) →
     length (changes terrain place states) ≤ cells
-few_changes terrain place states = grind (arith, nat_tests, length-changes, few_pass)
+few_changes terrain place states = rw (length-changes terrain place states)
+    (few_pass (is_changed terrain place states) 0 cells)
 
 -- the edits of a column one of whose cells was set
 pub changes_set : (terrain : Terrain) (place : Place) (states : List ℕ) (i state : ℕ) → i < cells →
@@ -292,20 +305,31 @@ pub kept_settled : (place : Place) (terrain : Terrain) (column : ColumnValue)
     (touched none : List Touched) (edits : ℕ) → IsKeptReady place terrain column touched edits →
     none ≡ [] → IsKeptReady place terrain column none edits
 kept_settled place terrain column touched none edits kept is =
-    grind (arith, nat_tests, touched_none)
+    rw is (record {
+      inside = kept.inside;
+      sizes = kept.sizes;
+      touched_are = sym (touched_none column.states);
+      counted = kept.counted;
+    })
 
 pub kept_own : (place : Place) (terrain : Terrain) (column : ColumnValue) (touched : List Touched) →
     IsPlace place → column ≡ own_column terrain place → touched ≡ [] →
     IsKeptReady place terrain column touched 0
-kept_own place terrain column touched inside own none = grind (
-  arith,
-  nat_tests,
-  length-map-range_with_len,
-  touched_none,
-  length-changes,
-  get_or-map-range_with_len,
-  nothing,
-)
+kept_own place terrain column touched inside own none = rw none (record {
+  inside = inside;
+  sizes = rw own (record {
+    states_are = length-map-range_with_len (λ i. terrain_at terrain (
+      place,
+      i,
+    )) 0 cells;
+    biomes_are = length-map-range_with_len _ 0 squares;
+  });
+  touched_are = sym (touched_none column.states);
+  counted = sym (length-changes terrain place column.states ∙
+      nothing 0 cells (λ k le lt.
+      rw own (eq-eqb _ _ (get_or-map-range_with_len (λ i. terrain_at terrain (place, i)) 0 cells k k
+      0 (omega (arith, lt)) (omega arith)))));
+})
   where
     nothing : (a n : ℕ) → ((k : ℕ) → a ≤ k → k < a + n →
         eqb (get_or column.states k 0) (terrain_at terrain (place, k)) ≡ true) →
