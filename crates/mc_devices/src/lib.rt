@@ -1,9 +1,10 @@
 //! The devices of the program: standard input as a source, standard output as a sink, and sockets
 //! on 127.0.0.1 as a lobby, each behind its trait of `mc_wire`. It stands on `mc_wire` and on the
-//! sockets of the crate `mio`, and the program alone stands on it.
+//! sockets of the crate `mio`, and the program stands on it.
 //!
 //! Its one contract: a failure raises the device's count and never passes for an answer. What the
-//! system gives and takes beyond that no contract can say, so each device has a test.
+//! system gives and takes beyond that no contract can say, so each device has a test, in
+//! `mc_device_tests`.
 #![tactic(auto)]
 
 mod input;

@@ -114,6 +114,3 @@ impl<'r, R: Net + Clock + Eprint> Lobby for SocketLobby<'r, R> {
         self.rounds.close(k);
     }
 }
-
-#[cfg(test)]
-mod tests;
