@@ -12,7 +12,8 @@ use Rattle.mc_land.specs.Places.{Place, place_cmp}
 use Rattle.mc_land.specs.KeptLand.{placed, IsIndexed}
 use Rattle.mc_land.specs.Ready.{ReadyValue}
 use Rattle.mc_land.specs.Kept.{IsApart}
-use Rattle.mc_land.proofs.Orders.{exact_places}
+use Rattle.std.specs.Cmp.{tied_itself, eq_by_cmp_equiv}
+use Rattle.mc_land.proofs.Orders.{places_total, exact_places}
 
 -- a tree's look-up is the first entry of the key
 pub lookup_is : {K X : Type 0} (R : K → K → Ordering) (q : K) (es : List (K × X)) →
@@ -45,7 +46,8 @@ found_first : (q : Place) (columns : List ReadyValue) (i : ℕ) (d : ReadyValue)
     ((j : ℕ) → j < i → (get_or columns j d).place ≡ q → ⊥) → find place_cmp q (placed columns) ≡
     Some (get_or columns i d)
 found_first q [] i d lt e first = absurd (omega arith)
-found_first q (x ∷ xs) zero d lt e first = grind (arith, nat_tests)
+found_first q (x ∷ xs) zero d lt e first = let h : eq_by_cmp place_cmp q x.place ≡ true =
+    rw (sym e) (ap is_eq (tied_itself places_total x.place)) in rw h refl
 found_first q (x ∷ xs) (suc i) d lt e first =
     elim (eq_by_cmp place_cmp q x.place) as (λ b. eq_by_cmp place_cmp q x.place ≡ b →
     cond b (Some x) (find place_cmp q (placed xs)) ≡ Some (get_or xs i d)) [
@@ -76,17 +78,28 @@ same_index a b e = cc
 pub found_indexed : (q : Place) (columns : List ReadyValue) (index : List (Place × ℕ)) (i : ℕ)
     (d : ReadyValue) → IsIndexed columns index → find place_cmp q index ≡ Some i →
     find place_cmp q (placed columns) ≡ Some (get_or columns i d)
-found_indexed q columns index i d is e = grind (arith, nat_tests, found_first, same_index)
+found_indexed q columns index i d is e =
+    found_first q columns i d (is.listed q i e) (is.placed_at q i d e) (λ j lt same.
+    let there : find place_cmp q index ≡ Some j = ap (λ (p : Place). find place_cmp p index)
+    (sym same) ∙ is.indexed j d (omega (arith, is.listed q i e)) in
+    absurd (omega (arith, same_index j i (sym there ∙ e))))
 
 pub found_unindexed : (q : Place) (columns : List ReadyValue) (index : List (Place × ℕ)) →
     IsIndexed columns index → find place_cmp q index ≡ None → find place_cmp q (placed columns) ≡
     None
 found_unindexed q [] index is e = refl
-found_unindexed q (d ∷ ds) index is e = grind (arith, nat_tests, found_nowhere q (d ∷ ds) d)
+found_unindexed q (d ∷ ds) index is e =
+    found_nowhere q (d ∷ ds) d (λ j lt same.
+    let there : find place_cmp q index ≡ Some j = ap (λ (p : Place). find place_cmp p index)
+    (sym same) ∙ is.indexed j d lt in
+    let none : None ≡ Some j = sym e ∙ there in absurd cc)
 
 -- what a tree's insert says of each key
 pub inserted : {X : Type 0} (old new : List (Place × X)) (k key q : Place) (v value : X) →
     lookup (λ y. is_eq (place_cmp q y)) new ≡ cond (is_eq (place_cmp k q)) (Some v)
     (lookup (λ y. is_eq (place_cmp q y)) old) → k ≡ key → v ≡ value → find place_cmp q new ≡
     cond (eq_by_cmp place_cmp q key) (Some value) (find place_cmp q old)
-inserted {X} old new k key q v value h e f = grind (arith, nat_tests)
+inserted {X} old new k key q v value h e f =
+    let turned : eq_by_cmp place_cmp k q ≡ eq_by_cmp place_cmp q key =
+    rw e ((eq_by_cmp_equiv places_total).symm key q) in
+    sym (lookup_is place_cmp q new) ∙ h ∙ rw (turned, f, lookup_is place_cmp q old) refl

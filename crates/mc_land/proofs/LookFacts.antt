@@ -1,6 +1,9 @@
 -- What looking at a kept land gives.
 use Rattle.std.proofs.Common.{◌≡◌, ℕ, ◌<◌, true, false, List, [], length}
-use Rattle.std.proofs.Common.{map, get_or, Some, None, refl, sym, ◌∙◌, arith}
+use Rattle.std.proofs.Common.{map, get_or, Some, None, refl, sym, ap, ◌∙◌, arith}
+use Rattle.std.specs.Option.{option_map}
+use Rattle.std.proofs.lemmas.List.FromFn.{get_or-map-range_with_len, length-map-range_with_len}
+use Rattle.mc_land.specs.Places.{x_of, y_of, z_of}
 use Rattle.std.specs.FinMap.{find}
 use Rattle.std.proofs.lemmas.Bool.{lt-ltb}
 use Rattle.mc_column.specs.Sizes.{cells}
@@ -10,7 +13,7 @@ use Rattle.mc_land.specs.Places.{Key, Place, place_cmp, key_cmp, inside, place_o
 use Rattle.mc_land.specs.Terrain.{terrain_state}
 use Rattle.mc_land.specs.Land.{terrain_at, state_at, states_of, block, column_of, dirty_in}
 use Rattle.mc_land.specs.Kept.{kept_edits}
-use Rattle.mc_land.specs.KeptLand.{IsIndexed, Columns, Chests, present_states}
+use Rattle.mc_land.specs.KeptLand.{IsIndexed, Columns, Chests, present_states, settled_states}
 use Rattle.mc_land.specs.KeptLand.{kept_land, IsKeptLand}
 use Rattle.mc_land.specs.Ready.{ReadyValue, touched_cells}
 use Rattle.mc_land.proofs.LandFacts.{state_ready, state_else}
@@ -43,7 +46,9 @@ pub of_ready : (look : ReadyValue → List ℕ) (terrain : Terrain) (columns : C
     state_at terrain (kept_edits terrain (map (λ e. (e.0, look e.1)) columns)) (place, i) ≡
     get_or (look ready) i 0
 of_ready look terrain columns chests place ready i kept found lt =
-    grind (arith, nat_tests, state_ready, apart, find_map)
+    state_ready terrain (map (λ e. (e.0, look e.1)) columns) place i (look ready)
+    (apart look columns kept.columns_apart) (find_map look place columns ∙
+    ap (option_map look) found) lt
 
 -- and of one that is not ready
 pub of_none : (look : ReadyValue → List ℕ) (terrain : Terrain) (columns : Columns) (chests : Chests)
@@ -51,7 +56,9 @@ pub of_none : (look : ReadyValue → List ℕ) (terrain : Terrain) (columns : Co
     None → state_at terrain (kept_edits terrain (map (λ e. (e.0, look e.1)) columns)) (place, i) ≡
     terrain_at terrain (place, i)
 of_none look terrain columns chests place i kept none =
-    grind (arith, nat_tests, state_else, apart, find_map)
+    state_else terrain (map (λ e. (e.0, look e.1)) columns) place i
+    (apart look columns kept.columns_apart) (find_map look place columns ∙
+    ap (option_map look) none)
 
 pub block_ready : (terrain : Terrain) (columns : Columns) (chests : Chests) (x z : ℤ) (y : ℕ)
     (ready : ReadyValue) → IsKeptLand terrain columns chests →
@@ -75,7 +82,9 @@ pub states_ready : (look : ReadyValue → List ℕ) (terrain : Terrain) (columns
     find place_cmp place columns ≡ Some ready → length (look ready) ≡ cells →
     look ready ≡ states_of terrain (kept_edits terrain (map (λ e. (e.0, look e.1)) columns)) place
 states_ready look terrain columns chests place ready kept found len =
-    grind (arith, nat_tests, listed_by, of_ready look terrain columns chests place ready)
+    listed_by (λ i. state_at terrain (kept_edits terrain (map (λ e. (e.0, look e.1)) columns))
+    (place, i)) cells (look ready) len (λ i lt. sym (of_ready look terrain columns chests place
+    ready i kept found lt))
 
 -- a ready column is the one of its place
 pub column_ready : (terrain : Terrain) (columns : Columns) (chests : Chests) (place : Place)
@@ -108,12 +117,20 @@ dirty_ready terrain columns chests place ready kept found =
 pub dirty_none : (terrain : Terrain) (columns : Columns) (chests : Chests) (place : Place) →
     IsKeptLand terrain columns chests → find place_cmp place columns ≡ None →
     [] ≡ dirty_in (kept_land terrain columns chests) place
-dirty_none terrain columns chests place kept none = grind (
-  arith,
-  of_none settled terrain columns chests place,
-  of_none present terrain columns chests place,
-  touched_none (states_of terrain (kept_edits terrain (present_states columns)) place),
-)
+dirty_none terrain columns chests place kept none =
+    let same : states_of terrain (kept_edits terrain (settled_states columns)) place ≡
+    states_of terrain (kept_edits terrain (present_states columns)) place =
+    listed_by (λ i. state_at terrain (kept_edits terrain (present_states columns)) (place, i))
+    cells (states_of terrain (kept_edits terrain (settled_states columns)) place)
+    (length-map-range_with_len
+    (λ i. state_at terrain (kept_edits terrain (settled_states columns)) (place, i)) 0 cells)
+    (λ i lt. get_or-map-range_with_len
+    (λ j. state_at terrain (kept_edits terrain (settled_states columns)) (place, j)) 0 cells i i
+    0 lt (omega arith) ∙ of_none settled terrain columns chests place i kept none ∙
+    sym (of_none present terrain columns chests place i kept none)) in
+    sym (ap (λ (was : List ℕ). touched_cells was
+    (states_of terrain (kept_edits terrain (present_states columns)) place)) same ∙
+    touched_none (states_of terrain (kept_edits terrain (present_states columns)) place))
 
 -- ---- which columns are ready
 
@@ -155,8 +172,24 @@ pub kept_new : (terrain : Terrain) (columns : Columns) (chests : Chests) → col
     chests ≡ [] → IsStrictlySortedBy key_cmp (map (λ e. e.0) chests) →
     IsKeptLand terrain columns chests
 kept_new terrain columns chests none empty ordered' =
-    grind (arith, nat_tests, none_in, state_else, own_no_chest)
+    record {
+      columns_apart = rw none tt;
+      chests_ordered = ordered';
+      chests_inside = λ place i some. absurd (none_in (place, i) chests empty some);
+      own = λ place ready found. let h : find place_cmp place [] ≡ Some ready = rw none at found in
+          absurd cc;
+      chests_are =
+          λ place i lt. rw (empty, none)
+          (sym (ap is_chest (state_else terrain [] place i tt refl) ∙
+          own_no_chest terrain (x_of (place, i)) (z_of (place, i)) (y_of (place, i))));
+    }
 
 pub indexed_new : (columns : List ReadyValue) (index : List (Place × ℕ)) → columns ≡ [] →
     index ≡ [] → IsIndexed columns index
-indexed_new columns index none empty = grind (arith, nat_tests)
+indexed_new columns index none empty = record {
+  listed = λ place i found. let h : find place_cmp place [] ≡ Some i = rw empty at found in
+      absurd cc;
+  placed_at = λ place i d found. let h : find place_cmp place [] ≡ Some i = rw empty at found in
+      absurd cc;
+  indexed = λ i d lt. absurd (omega (arith, ap length none));
+}
