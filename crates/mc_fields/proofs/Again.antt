@@ -1,6 +1,5 @@
 -- What is written of a field is a spelling of it, and is read as it again, whatever follows.
 use Rattle.std.proofs.Common.{◌≡◌, ℕ, ◌^◌, ◌<◌, Bool, List, ◌++◌, length, Ok, arith, refl}
-use Rattle.std.proofs.lemmas.Bool.Decides.{nat_tests}
 use Rattle.std.specs.Int.{Width, w32}
 use lib.IntN.{ℤ}
 use mir.Val.{SFits}
@@ -40,7 +39,8 @@ boolean_again value rest =
 
 pub signed_spelled : (w : Width) → IsWide w → (value : ℤ) → SFits w value
     → signed_spells w value (signed_spelling w value)
-signed_spelled w wide value fits = grind (arith, nat_tests)
+signed_spelled w wide value fits =
+    (signed {Rest = Anything} w wide).spelled value (signed_fits w value fits)
 
 pub signed_again : (w : Width) → IsWide w → (value : ℤ) → SFits w value → (rest : List ℕ)
     → signed_read w (signed_spelling w value ++ rest) ≡ Ok (value, rest)
@@ -50,7 +50,11 @@ signed_again w wide value fits rest =
 
 -- a packed place has 64 bits
 pack-below : (cell : Cell) → FitsCell cell → pack cell < 2 ^ 64
-pack-below cell fits = grind (arith, nat_tests)
+pack-below cell fits =
+    let x = low_bits-below (2 ^ 25) cell.x fits.x in
+    let y = low_bits-below (2 ^ 11) cell.y fits.y in
+    let z = low_bits-below (2 ^ 25) cell.z fits.z in
+    omega (arith, x, y, z)
 
 pub position_spelled : (cell : Cell) → FitsCell cell → SpellsPosition cell (position_spelling cell)
 position_spelled cell fits = (fits, (pack-below cell fits, refl))

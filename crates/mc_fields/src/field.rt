@@ -226,8 +226,7 @@ impl Field for Octets {
 
     fn put(&self, out: &mut Vec<u8>) -> Result<(), NoMemory> {
         let bytes = self.as_slice();
-        write_varint(bytes.len() as i32, out)?;
-        write_octets(bytes, out)?;
-        Ok(())
+        VarInt(bytes.len() as i32).put(out)?;
+        write_octets(bytes, out)
     }
 }

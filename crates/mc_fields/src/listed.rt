@@ -1,5 +1,5 @@
 //! Lists of fields. No memory is taken for what was not read.
-#![tactic(auto, using(mc_nbt::proofs::Loops::times_next, mc_nbt::proofs::Loops::times_stop, mc_nbt::proofs::Loops::times_halt, mc_nbt::proofs::Loops::times_done, mc_nbt::proofs::Loops::times_first, mc_nbt::proofs::Kept::kept_whole, mc_nbt::proofs::Kept::kept_same, mc_nbt::proofs::Kept::kept_by, mc_nbt::proofs::Kept::kept_past))]
+#![tactic(auto, using(mc_nbt::proofs::Kept::kept_whole, mc_nbt::proofs::Kept::kept_same, mc_nbt::proofs::Kept::kept_by, mc_nbt::proofs::Kept::kept_past))]
 
 ghost use Rattle.std.specs.Prelude.{◌≡◌, ◌++◌, ◌∷◌, [], length, take, OnOk, OnErr};
 ghost use Rattle.mc_nbt.specs.Reading.{Yields, Gives};
@@ -7,7 +7,7 @@ ghost use Rattle.mc_nbt.specs.Times.{times_at};
 ghost use Rattle.mc_nbt.specs.Many.{AllFit, all_append};
 ghost use Rattle.mc_fields.specs.Counted.{count, counted, short_count};
 
-use crate::{Field, take_i16, take_varint, write_varint};
+use crate::{Field, VarInt, take_i16, take_varint};
 use mc_nbt::{Cursor, Kind, NoMemory, ReadError, Stop};
 use std::alloc::Global;
 use std::marker::Model;
@@ -78,6 +78,7 @@ pub fn take_short_count(cursor: &mut Cursor<'_>) -> Result<usize, Stop>
 }
 
 /// So many items, one after another.
+#[tactic(auto, using(mc_nbt::proofs::Loops::times_next, mc_nbt::proofs::Loops::times_stop, mc_nbt::proofs::Loops::times_halt, mc_nbt::proofs::Loops::times_done, mc_nbt::proofs::Loops::times_first))]
 pub fn take_items<T: Field>(
     alloc: Global,
     cursor: &mut Cursor<'_>,
@@ -115,8 +116,7 @@ impl<T: Field> Field for Listed<T> {
 
     fn put(&self, out: &mut Vec<u8>) -> Result<(), NoMemory> {
         let items = self.as_slice();
-        write_varint(items.len() as i32, out)?;
-        put_items(items, out)?;
-        Ok(())
+        VarInt(items.len() as i32).put(out)?;
+        put_items(items, out)
     }
 }

@@ -11,6 +11,7 @@ use std::alloc::Global;
 impl<A: Field, B: Field> Field for (A, B) {
     ghost format = { tuple2 A.format B.format };
 
+    #[tactic(auto)]
     fn get(alloc: Global, cursor: &mut Cursor<'_>) -> Result<(A, B), ReadError> {
         let a = A::get(alloc, cursor)?;
         let b = B::get(alloc, cursor)?;
@@ -25,6 +26,7 @@ impl<A: Field, B: Field> Field for (A, B) {
 impl<A: Field, B: Field, C: Field> Field for (A, B, C) {
     ghost format = { tuple3 A.format B.format C.format };
 
+    #[tactic(auto)]
     fn get(alloc: Global, cursor: &mut Cursor<'_>) -> Result<(A, B, C), ReadError> {
         let a = A::get(alloc, cursor)?;
         let b = B::get(alloc, cursor)?;
@@ -40,6 +42,7 @@ impl<A: Field, B: Field, C: Field> Field for (A, B, C) {
 impl<A: Field, B: Field, C: Field, D: Field> Field for (A, B, C, D) {
     ghost format = { tuple4 A.format B.format C.format D.format };
 
+    #[tactic(auto)]
     fn get(alloc: Global, cursor: &mut Cursor<'_>) -> Result<(A, B, C, D), ReadError> {
         let (a, b): (A, B) = Field::get(alloc, cursor)?;
         let (c, d): (C, D) = Field::get(alloc, cursor)?;
@@ -54,6 +57,7 @@ impl<A: Field, B: Field, C: Field, D: Field> Field for (A, B, C, D) {
 impl<A: Field, B: Field, C: Field, D: Field, E: Field> Field for (A, B, C, D, E) {
     ghost format = { tuple5 A.format B.format C.format D.format E.format };
 
+    #[tactic(auto)]
     fn get(alloc: Global, cursor: &mut Cursor<'_>) -> Result<(A, B, C, D, E), ReadError> {
         let (a, b, c): (A, B, C) = Field::get(alloc, cursor)?;
         let (d, e): (D, E) = Field::get(alloc, cursor)?;
@@ -68,6 +72,7 @@ impl<A: Field, B: Field, C: Field, D: Field, E: Field> Field for (A, B, C, D, E)
 impl<A: Field, B: Field, C: Field, D: Field, E: Field, F: Field> Field for (A, B, C, D, E, F) {
     ghost format = { tuple6 A.format B.format C.format D.format E.format F.format };
 
+    #[tactic(auto)]
     fn get(alloc: Global, cursor: &mut Cursor<'_>) -> Result<(A, B, C, D, E, F), ReadError> {
         let (a, b, c): (A, B, C) = Field::get(alloc, cursor)?;
         let (d, e, f): (D, E, F) = Field::get(alloc, cursor)?;
@@ -83,6 +88,7 @@ impl<A: Field, B: Field, C: Field, D: Field, E: Field, F: Field, G: Field> Field
     for (A, B, C, D, E, F, G) {
     ghost format = { tuple7 A.format B.format C.format D.format E.format F.format G.format };
 
+    #[tactic(auto)]
     fn get(alloc: Global, cursor: &mut Cursor<'_>) -> Result<(A, B, C, D, E, F, G), ReadError> {
         let (a, b, c, d): (A, B, C, D) = Field::get(alloc, cursor)?;
         let (e, f, g): (E, F, G) = Field::get(alloc, cursor)?;
