@@ -2,10 +2,15 @@
 -- a number changes or leaves out the one at its place.
 use Rattle.std.proofs.Common.{◌≡◌, ◌≢◌, ℕ, zero, suc, ◌+◌, ◌≤◌, ◌<◌, List, [], ◌∷◌, ◌++◌, map}
 use Rattle.std.proofs.Common.{length, get_or, set, refl, sym, subst, ap, ◌∙◌, arith}
-use Rattle.std.specs.Prelude.{◌≤ℤ◌, ◌<ℤ◌, Bool, true, false, cond, int_lt, Some, None}
+use Rattle.std.specs.Prelude.{◌≤ℤ◌, ◌<ℤ◌, Bool, true, false, cond, int_lt, Option, Some, None}
+use Rattle.std.specs.Prelude.{Result, Ok, Err, IfSome}
+use Rattle.std.specs.Result.{result_ok}
 use Rattle.std.specs.List.{filter, remove}
-use Rattle.std.specs.List.Sorted.{IsPartitionPoint, IsPartitionedBy}
-use Rattle.std.specs.Ordering.{int_eq}
+use Rattle.std.specs.List.Sorted.{IsPartitionPoint, IsSearchInRange, IsBinarySearchResult}
+use Rattle.std.specs.List.Sorted.{IsNonDecreasingBy}
+use Rattle.std.specs.declared.cmp.Ordering.TheVariants.{Less, Greater}
+use Rattle.std.specs.Ordering.{int_eq, int_cmp, ordering_index}
+use Rattle.std.specs.Cmp.{int_ranked}
 use Rattle.std.proofs.lemmas.Bool.{true≢false}
 use Rattle.std.proofs.lemmas.Bool.Decides.{Decides-int_eq, nat_tests}
 use Rattle.std.proofs.lemmas.Grind.{common_steps}
@@ -118,13 +123,11 @@ rise_le number low high (x ∷ xs) (suc i) zero d r le lt = absurd (omega (arith
 rise_le number low high (x ∷ xs) (suc i) (suc j) d r le lt =
     rise_le number (number x) high xs i j d r.1 (omega (arith, le)) (omega (arith, lt))
 
-pub rise_parted : {X : Type 0} (number : X → ℤ) (low high n : ℤ) (xs : List X) →
-    Rise number low xs high → IsPartitionedBy (λ x. int_lt (number x) n) xs
-rise_parted number low high n xs r i j d le lt e =
-    let upper = int_lt_true (number (get_or xs j d)) n e in
-    lt_int (number (get_or xs i d)) n
-    (le_lt (number (get_or xs i d)) (number (get_or xs j d)) n
-    (rise_le number low high xs i j d r le lt) upper)
+-- so a search by number goes the right way
+searchable : {X : Type 0} (number : X → ℤ) (low high n : ℤ) (xs : List X) →
+    Rise number low xs high → IsNonDecreasingBy (λ x. ordering_index (int_cmp (number x) n)) xs
+searchable number low high n xs r i j d le lt =
+    grind (arith, nat_tests, ints, rise_le number low high xs i j d r le lt)
 
 -- ---- the one of a number
 
@@ -153,35 +156,30 @@ pub placed_here : {X : Type 0} (number : X → ℤ) (n low high : ℤ) (xs : Lis
     i < length xs → ((d : X) → number (get_or xs i d) ≡ n) → IsPlaced number n i xs
 placed_here number n low high xs i r lt named = grind (arith, nat_tests, numbered_at)
 
--- those before the place are lower, and the one at the place has another number, if it is there
-pub placed_nowhere : {X : Type 0} (number : X → ℤ) (n low high : ℤ) (xs : List X) (i : ℕ) →
-    Rise number low xs high →
-    IsPartitionPoint (λ x. int_lt (number x) n ≡ true) (λ x. int_lt (number x) n ≡ false) xs i →
-    (i < length xs → (d : X) → number (get_or xs i d) ≢ n) → numbered number n xs ≡ None
-placed_nowhere {X = X} number n low high xs i r point other =
-    grind (arith, numbered_none number n xs, rise_le number low high xs i)
+-- where a search ends without it, it is nowhere
+placed_nowhere : {X : Type 0} (number : X → ℤ) (n : ℤ) (xs : List X) (i : ℕ) →
+    IsPartitionPoint (λ x. int_cmp (number x) n ≡ Less) (λ x. int_cmp (number x) n ≡ Greater) xs i →
+    numbered number n xs ≡ None
+placed_nowhere number n xs i point = grind (arith, nat_tests, ints, numbered_none number n xs)
 
--- what a look at the place says
-pub placed_some : {X : Type 0} (number : X → ℤ) (n low high : ℤ) (xs : List X) (i : ℕ) (x : X) →
-    Rise number low xs high → i < length xs →
-    ((d : X) → x ≡ get_or xs i d) → int_eq (number x) n ≡ true → IsPlaced number n i xs
-placed_some number n low high xs i x r lt is e =
-    grind (arith, nat_tests, placed_here number n low high xs i r lt, Decides-int_eq (number x) n)
+-- what a search finds
+pub searched_some : {X : Type 0} (number : X → ℤ) (n low high : ℤ) (xs : List X) (r : Result ℕ ℕ)
+    (o : Option ℕ) → Rise number low xs high → IsSearchInRange r (length xs) →
+    IsBinarySearchResult (λ x. int_cmp (number x) n) xs r → o ≡ result_ok r →
+    IfSome o (λ i. IsPlaced number n i xs)
+searched_some number n low high xs (Ok i) o rise within is e = rw e
+    (placed_here number n low high xs i rise within (λ d. int_ranked _ _ _ (sym (is d))))
+searched_some number n low high xs (Err i) o rise within is e = rw e tt
 
-pub placed_other : {X : Type 0} (number : X → ℤ) (n low high : ℤ) (xs : List X) (i : ℕ) (x : X) →
-    Rise number low xs high →
-    IsPartitionPoint (λ x. int_lt (number x) n ≡ true) (λ x. int_lt (number x) n ≡ false) xs i →
-    ((d : X) → x ≡ get_or xs i d) → int_eq (number x) n ≡ false → numbered number n xs ≡ None
-placed_other number n low high xs i x r point is e =
-    placed_nowhere number n low high xs i r point
-    (λ lt d same. true≢false (sym (int_same (number x) n (ap number (is d) ∙ same)) ∙ e))
-
-pub placed_past : {X : Type 0} (number : X → ℤ) (n low high : ℤ) (xs : List X) (i : ℕ) →
-    Rise number low xs high →
-    IsPartitionPoint (λ x. int_lt (number x) n ≡ true) (λ x. int_lt (number x) n ≡ false) xs i →
-    length xs ≤ i → numbered number n xs ≡ None
-placed_past number n low high xs i r point past =
-    placed_nowhere number n low high xs i r point (λ lt d same. omega (arith, lt, past))
+-- and where it finds nothing
+pub searched_none : {X : Type 0} (number : X → ℤ) (n low high : ℤ) (xs : List X) (r : Result ℕ ℕ)
+    (o : Option ℕ) → Rise number low xs high → IsSearchInRange r (length xs) →
+    IsBinarySearchResult (λ x. int_cmp (number x) n) xs r → o ≡ result_ok r →
+    o ≡ None → numbered number n xs ≡ None
+searched_none number n low high xs (Ok i) o rise within is e none =
+    grind (arith, nat_tests)
+searched_none number n low high xs (Err i) o rise within is e none =
+    placed_nowhere number n xs i (is (searchable number low high n xs rise))
 
 -- ---- one changed
 

@@ -16,10 +16,7 @@ use mc_model::spawn_spot;
 use mc_nbt::Text;
 use mc_slots::Pile;
 use mc_view::{column_of_spot, view_size};
-use mc_windows::{Pack, kit};
-
-/// Where the first place of the hotbar stands among the piles of a pack.
-const HOTBAR: usize = 27;
+use mc_windows::{MAIN_PILES, Pack, kit};
 
 /// Where the entity of a number is and looks; where players enter, if there is none.
 pub fn spot_of(folk: &Folk, terrain: &Terrain, eid: u32) -> Spot
@@ -58,7 +55,7 @@ pub fn in_hand(pack: &Pack, hand: u8) -> Pile
     ensures is { result ≡ in_hand pack.now hand }
     ensures range { IsPile result }
 {
-    pack.pile(HOTBAR + usize::from(hand))
+    pack.pile(MAIN_PILES + usize::from(hand))
 }
 
 /// A pack with another pile at a place of the hotbar; the same, where it has no such place.
@@ -67,7 +64,7 @@ pub fn with_hand(pack: Pack, hand: u8, pile: Pile) -> Pack
     ensures { result ≡ with_hand pile hand pack }
 {
     let mut pack = pack;
-    let place = HOTBAR + usize::from(hand);
+    let place = MAIN_PILES + usize::from(hand);
     if place < pack.slots.len() {
         pack.put(place, pile);
     }

@@ -11,6 +11,8 @@ use Rattle.std.specs.FinMap.{int_cmp-IsAntisymmetric}
 use Rattle.std.proofs.lemmas.Cmp.{int_cmp_total}
 use Rattle.std.proofs.lemmas.List.{append-nil, nil_from_length}
 use Rattle.std.proofs.Math.Seq.{drop-append_seam}
+use Rattle.std.proofs.Common.{arith}
+use Rattle.std.proofs.lemmas.Bool.Decides.{nat_tests}
 use lib.IntN.{ℤ, pos}
 use Rattle.mc_column.specs.Cells.{ColumnValue}
 use Rattle.mc_column.specs.Sizes.{cells}
@@ -59,16 +61,8 @@ same_joined f g same (x ∷ xs) = λ i. same x i ++ same_joined f g same xs i
 filter_placed : (land : LandValue) (test : Place → Bool) (places : List Place) →
     filter (λ (e : Place × ColumnValue). test e.0) (map (placed_column land) places)
     ≡ map (placed_column land) (filter test places)
-filter_placed land test [] = refl
-filter_placed land test (place ∷ places) =
-    elim (test place) as (λ b. cond b (placed_column land place ∷ filter (λ (e : Place ×
-    ColumnValue). test e.0) (map (placed_column land) places)) (filter (λ (e : Place ×
-    ColumnValue). test e.0) (map (placed_column land) places)) ≡ map (placed_column land) (cond
-    b (place ∷ filter test places) (filter test places))) [
-      | true ↦ ap (λ (es : List (Place × ColumnValue)). placed_column land place ∷ es)
-          (filter_placed land test places)
-      | false ↦ filter_placed land test places
-    ]
+filter_placed land test [] = grind (arith, nat_tests)
+filter_placed land test (place ∷ places) = grind (arith, nat_tests, filter_placed land test places)
 
 -- ---- the columns that were shown
 
@@ -214,13 +208,7 @@ destroys_are m told es view same =
 packets_alike : (eid : ℤ) (new : Seen) (o : Option Seen) (t : Option (Spot × Pile)) →
     option_map kept_of o ≡ option_map told_slot t →
     entity_packets eid o new ≡ entity_packets eid (option_map (told_as new.kind) t) new
-packets_alike eid new None None same = refl
-packets_alike eid new None (Some told) same = absurd cc
-packets_alike eid new (Some old) None same = absurd cc
-packets_alike eid new (Some old) (Some told) same =
-    let kept : kept_of old ≡ told_slot told = cc in
-    λ i. moves_packets eid new.spot (moves_of (kept i).0 new.spot)
-    ++ pile_packets eid new.kind (kept i).1 new.pile
+packets_alike eid new o t same = grind (arith, nat_tests)
 
 -- the packets of the entities that are shown
 entities_are : (m : FinMap int_cmp Seen) (told : Told) (es : List Entity) (view : ViewSet)

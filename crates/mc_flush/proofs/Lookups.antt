@@ -12,6 +12,7 @@ use Rattle.mc_told.proofs.Keys.{alike, equal, tree_found}
 use Rattle.std.specs.FinMap.{find, get, len, len-empty, len-insert, contains_key, insert, remove}
 use Rattle.std.specs.FinMap.{from_entries, get-from_entries, get-insert, get-remove}
 use Rattle.std.specs.FinMap.{nat_cmp-IsAntisymmetric, same_map}
+use Rattle.std.proofs.lemmas.Bool.Decides.{nat_tests}
 
 -- ---- two ways to say that keys are equal
 
@@ -19,11 +20,7 @@ pub same_key : (q k : ℕ) → eq_by_cmp nat_cmp q k ≡ true → q ≡ k
 same_key q k t = nat_cmp-IsAntisymmetric q k (equal (nat_cmp q k) t)
 
 pub key_tests : (q k : ℕ) → nat_eq q k ≡ eq_by_cmp nat_cmp q k
-key_tests q k =
-    alike (nat_eq q k) (eq_by_cmp nat_cmp q k)
-    (λ t. subst (λ (x : ℕ). eq_by_cmp nat_cmp q x ≡ true) ((unsigned_Decides q k).0 t) (ap is_eq
-    (tied_itself nat_cmp_total q)))
-    (λ t. (unsigned_Decides q k).1 (same_key q k t))
+key_tests q k = grind (arith, nat_tests)
 
 pub key_turned : (k q : ℕ) → nat_eq k q ≡ eq_by_cmp nat_cmp q k
 key_turned k q = key_tests k q ∙ (eq_by_cmp_equiv nat_cmp_total).symm k q
@@ -116,15 +113,7 @@ pub kept_so : (others found new : List (ℕ × List ℕ)) (k q : ℕ) (name stor
     lookup (λ y. is_eq (nat_cmp q y)) new ≡ cond (is_eq (nat_cmp k q)) (Some stored) (lookup (λ y.
     is_eq (nat_cmp q y)) found) → find nat_cmp q new ≡ with_other others k name (find nat_cmp q
     found) q
-kept_so others found new k q name stored named is not_named copy put =
-    sym (tree_found nat_cmp q new) ∙ put
-    ∙ ap (λ (b : Bool). cond b (Some stored) (lookup (λ y. is_eq (nat_cmp q y)) found))
-    ((eq_by_cmp_equiv nat_cmp_total).symm k q)
-    ∙ ap (λ (x : List ℕ). cond (eq_by_cmp nat_cmp q k) (Some x) (lookup (λ y. is_eq (nat_cmp q y))
-    found)) copy
-    ∙ ap (cond (eq_by_cmp nat_cmp q k) (Some name)) (tree_found nat_cmp q found)
-    ∙ ap (λ (b : Bool). cond (not b) (cond (eq_by_cmp nat_cmp q k) (Some name) (find nat_cmp q
-    found)) (find nat_cmp q found)) (sym not_named ∙ is)
+kept_so others found new k q name stored named is not_named copy put = grind (arith, nat_tests)
 
 -- whether a name is that of an identifier, by a look-up
 pub named_so : (k : ℕ) (es : List (ℕ × List ℕ)) (other : Option (List ℕ)) (name : List ℕ) →

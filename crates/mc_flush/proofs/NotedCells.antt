@@ -8,13 +8,15 @@ use Rattle.std.specs.List.{filter, sum_by}
 use Rattle.std.specs.FinMap.{FinMap}
 use Rattle.std.proofs.lemmas.Int.{ints}
 use Rattle.std.proofs.lemmas.List.Sums.{sum_by-append}
-use lib.IntN.{ℤ, pos, negsuc}
+use Rattle.std.proofs.lemmas.Bool.Decides.{nat_tests}
+use lib.IntN.{ℤ, pos, negsuc, neg_ℤ}
 use lib.Signed.{◌≤ℤ◌}
 use Rattle.mc_fields.specs.declared.position.Cell.{Cell}
 use Rattle.mc_fields.specs.Position.{FitsCell}
 use Rattle.mc_land.specs.declared.terrain.Terrain.{Terrain}
 use Rattle.mc_land.specs.Places.{Place, column_number, key_cmp, place_of}
 use Rattle.mc_view.specs.declared.view_set.ViewSet.{ViewSet}
+use Rattle.mc_view.specs.declared.view_set.TheConstants.{MIDDLE_BORDER}
 use Rattle.mc_view.specs.Sets.{has}
 use Rattle.mc_down.specs.declared.down.Down.{Down}
 use Rattle.mc_model.specs.Step.{cell_packet, is_sent, noted_packets}
@@ -36,24 +38,18 @@ at_least a b e = in_order a b (lt_z_no (T_from_false (lt_z b a) e))
 pub sent_where : (view : ViewSet) (cell : Cell) (x y z : ℤ) (seen : Bool) → y ≡ cell.y →
     lt_z y (negsuc 2047) ≡ false → lt_z (pos 2047) y ≡ false → x ≡ column_number cell.x →
     z ≡ column_number cell.z → seen ≡ has view (x, z) → seen ≡ is_sent (has view) cell
-sent_where view cell x y z seen same low high at_x at_z is =
-    let l : int_le (negsuc 2047) cell.y ≡ true =
-    at_least (negsuc 2047) cell.y (ap (λ (v : ℤ). lt_z v (negsuc 2047)) (sym same) ∙ low) in
-    let h : int_le cell.y (pos 2047) ≡ true =
-    at_least cell.y (pos 2047) (ap (lt_z (pos 2047)) (sym same) ∙ high) in
-    is ∙ (λ i. has view (at_x i, at_z i))
-    ∙ ap (λ (b : Bool). b && has view (place_of cell.x cell.z)) (sym h)
-    ∙ ap (λ (b : Bool). b && (int_le cell.y (pos 2047) && has view (place_of cell.x cell.z)))
-    (sym l)
+sent_where view cell x y z seen same low high at_x at_z is = grind (arith, nat_tests)
 
 -- a number of a view's middle is not far
-middle_small : (z : ℤ) → negsuc 1874999 ≤ℤ z → z ≤ℤ pos 1875000 → unsigned_abs z ≤ 1875001
+middle_small : (z : ℤ) → neg_ℤ (pos MIDDLE_BORDER) ≤ℤ z → z ≤ℤ pos MIDDLE_BORDER →
+    unsigned_abs z ≤ MIDDLE_BORDER + 1
 middle_small (pos n) low high = omega (arith, ints, high)
 middle_small (negsuc n) low high = omega (arith, ints, low)
 
 -- a cell that is sent where a view is shown has a position
-pub cell_fits : (view : ViewSet) (cell : Cell) → negsuc 1874999 ≤ℤ view.cx →
-    view.cx ≤ℤ pos 1875000 → negsuc 1874999 ≤ℤ view.cz → view.cz ≤ℤ pos 1875000 → view.d ≤ 8 →
+pub cell_fits : (view : ViewSet) (cell : Cell) → neg_ℤ (pos MIDDLE_BORDER) ≤ℤ view.cx →
+    view.cx ≤ℤ pos MIDDLE_BORDER → neg_ℤ (pos MIDDLE_BORDER) ≤ℤ view.cz →
+    view.cz ≤ℤ pos MIDDLE_BORDER → view.d ≤ 8 →
     is_sent (has view) cell ≡ true → FitsCell cell
 cell_fits view cell x_low x_high z_low z_high few sent =
     sent_fits (view.cx, view.cz) view.d cell (middle_small view.cx x_low x_high)

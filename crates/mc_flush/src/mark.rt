@@ -17,12 +17,9 @@ use mc_nbt::NoMemory;
 use mc_slots::Pile;
 use mc_told::{Clock, tell};
 use mc_view::{Columns, Tracker, ViewSet};
-use mc_windows::Pack;
+use mc_windows::{PACK_PILES, Pack};
 use std::alloc::Global;
 use std::marker::Model;
-
-/// How many piles a pack has, without the cursor.
-const PILES: usize = 36;
 
 /// What a client was told, and no copy of it: the beat and the age, the columns of a view, of each
 /// entity where it is and its pile, and the piles of its pack. The players and the cells that it
@@ -36,7 +33,7 @@ pub struct Mark {
     /// What was told of entities.
     told: Tracker,
     /// The piles of the pack that were shown.
-    slots: [Pile; PILES],
+    slots: [Pile; PACK_PILES],
 }
 
 impl Model for Mark {
@@ -74,7 +71,7 @@ impl Mark {
             clock: Clock::new(),
             shown: None,
             told: Tracker::new(alloc),
-            slots: [Pile::Empty; PILES],
+            slots: [Pile::Empty; PACK_PILES],
         }
     }
 
@@ -117,7 +114,7 @@ impl Mark {
     }
 
     /// The piles of the pack that were shown.
-    pub(crate) fn slots(&self) -> &[Pile; PILES]
+    pub(crate) fn slots(&self) -> &[Pile; PACK_PILES]
         ensures { result.now ≡ self.now.slots }
     {
         &self.slots

@@ -11,6 +11,7 @@ use mc_down::Down;
 use mc_nbt::NoMemory;
 use mc_slots::Pile;
 use mc_told::put_made;
+use mc_windows::PACK_PILES;
 
 /// The slot of window 0 that a pack begins at.
 const FIRST: usize = 9;
@@ -29,12 +30,16 @@ fn put_slot(at: usize, old: &Pile, new: &Pile, out: &mut Vec<u8>) -> Result<(), 
 }
 
 /// Appends the frames of the places of a pack whose piles differ from those that were shown.
-pub fn put_slots(old: &[Pile; 36], new: &[Pile; 36], out: &mut Vec<u8>) -> Result<(), NoMemory>
+pub fn put_slots(
+    old: &[Pile; PACK_PILES],
+    new: &[Pile; PACK_PILES],
+    out: &mut Vec<u8>,
+) -> Result<(), NoMemory>
     requires { (i : ℕ) → IsPile (pile_at new.now i) }
     ensures { OnOk result (out.new.items
         ≡ out.old.items ++ play_bytes (pack_packets old.now new.now)) }
 {
-    for i in 0..36 {
+    for i in 0..PACK_PILES {
         put_slot(FIRST + i, &old[i], &new[i], out)?;
     }
     Ok(())

@@ -6,8 +6,8 @@ use Rattle.std.specs.Ordering.{nat_cmp, int_cmp, ordering_then}
 use Rattle.std.specs.Int.{int_div_euclid, int_rem_euclid}
 use Rattle.mc_column.specs.Cells.{cell_index}
 pub use Rattle.mc_column.specs.Places.{Place}
-use Rattle.mc_land.specs.declared.places.TheConstants.{BORDER}
-use lib.IntN.{ℤ, pos, negsuc, ◌+ℤ◌, ◌*ℤ◌}
+use Rattle.mc_land.specs.declared.places.TheConstants.{BORDER, COLUMN_BORDER}
+use lib.IntN.{ℤ, pos, negsuc, neg_ℤ, ◌+ℤ◌, ◌*ℤ◌}
 use lib.Signed.{◌≤ℤ◌}
 
 -- a cell: its column, and y * 256 + z * 16 + x in that
@@ -47,10 +47,10 @@ z_of key = key.0.1 *ℤ pos 16 +ℤ pos (key.1 / 16 % 16)
 
 -- columns within 30,000,160 blocks of the middle, of which the calls of a land may be told
 pub record IsPlace (place : Place) : Type 0 where
-  pub cx_low : negsuc 1875009 ≤ℤ place.0
-  pub cx_high : place.0 ≤ℤ pos 1875010
-  pub cz_low : negsuc 1875009 ≤ℤ place.1
-  pub cz_high : place.1 ≤ℤ pos 1875010
+  pub cx_low : neg_ℤ (pos COLUMN_BORDER) ≤ℤ place.0
+  pub cx_high : place.0 ≤ℤ pos COLUMN_BORDER
+  pub cz_low : neg_ℤ (pos COLUMN_BORDER) ≤ℤ place.1
+  pub cz_high : place.1 ≤ℤ pos COLUMN_BORDER
 
 -- the world of cells that can be set: y from 0 to 255, and x and z not past 30,000,000 in size
 abbrev pub is_height : ℤ → Bool

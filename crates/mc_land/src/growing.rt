@@ -1,12 +1,13 @@
 ghost use Rattle.std.specs.Prelude.{◌≡◌, ◌+◌, ◌*◌, ◌<◌, ◌≤◌, ◌==◌, ℕ, [], IfOk, IfSome, OnOk};
 ghost use Rattle.std.specs.Prelude.{length, slice_index, if◌then◌else◌};
-ghost use lib.IntN.{pos, negsuc, ◌+ℤ◌, ◌*ℤ◌};
+ghost use lib.IntN.{pos, neg_ℤ, ◌+ℤ◌, ◌*ℤ◌};
 ghost use lib.Signed.{◌≤ℤ◌};
 ghost use Rattle.mc_land.specs.declared.terrain.Terrain.TheVariants.{Flat, Hills, Isle};
 ghost use Rattle.mc_column.specs.Sizes.{squares};
 ghost use Rattle.mc_column.specs.Kept.{block_of, blocks_in};
 ghost use Rattle.mc_land.specs.Terrain.{height, hills_biome, hills_id, isle_id};
 ghost use Rattle.mc_land.specs.Places.{IsPlace};
+ghost use Rattle.mc_land.specs.declared.places.TheConstants.{COLUMN_BORDER};
 ghost use Rattle.mc_land.specs.Land.{terrain_at, biomes_of};
 ghost use Rattle.mc_land.specs.Grown.{own_column, x_at, z_at};
 ghost use Rattle.mc_land.specs.GrownCode.{AppendsLayer, AreTops, IsGrown, fills, low_of};
@@ -135,8 +136,8 @@ fn push_section(
 
 /// The block that place `at` of sixteen along an axis is at, in column `c` of that axis.
 pub(crate) fn block_at(c: i32, at: usize) -> i32
-    requires low { negsuc 1875009 ≤ℤ c }
-    requires high { c ≤ℤ pos 1875010 }
+    requires low { neg_ℤ (pos COLUMN_BORDER) ≤ℤ c }
+    requires high { c ≤ℤ pos COLUMN_BORDER }
     requires inside { at < 16 }
     ensures { result ≡ c *ℤ pos 16 +ℤ pos at }
 {

@@ -10,6 +10,10 @@ use mc_fields::Cell;
 /// How far from the middle a cell can be set, along x and along z.
 pub const BORDER: u32 = 30_000_000;
 
+/// How far from the middle the columns lie of which the calls of a land may be told, along each
+/// axis, in columns.
+pub const COLUMN_BORDER: u32 = 1_875_010;
+
 /// A column of cells by its numbers: 16 times the first is its lowest x, and 16 times the second
 /// its lowest z.
 pub(crate) type Place = (i32, i32);

@@ -24,6 +24,7 @@ use Rattle.mc_loads.specs.ColumnFrames.{AreColumnFrames, ColumnsValue, change_by
 use Rattle.mc_loads.specs.ColumnFrames.{changes_cost, has_changes, has_load, is_clean, load_bytes}
 use Rattle.mc_loads.specs.ColumnFrames.{load_cost, no_columns, unencoded, with_changes, with_load}
 use Rattle.mc_loads.proofs.Places.{same_place}
+use Rattle.std.proofs.lemmas.Bool.Decides.{nat_tests}
 
 same_bytes : (a b : List ℕ) → Some a ≡ Some b → b ≡ a
 same_bytes a b e = sym cc
@@ -178,9 +179,7 @@ cost_next encoded land was x rest = elim (is_within was x) as (λ b.
 pub changed_one : (land : LandValue) (was : Option ViewSet) (x : Place) (piece : List ℕ) →
     is_within was x ≡ true → piece ≡ change_bytes land x →
     piece ≡ play_bytes (changed_packets land (stayed_among was (x ∷ [])))
-changed_one land was x piece t is = is
-    ∙ ap play_bytes (sym (append-nil (place_packets land x)))
-    ∙ ap (λ (b : Bool). play_bytes (changed_packets land (cond b (x ∷ []) []))) (sym t)
+changed_one land was x piece t is = grind (arith, nat_tests)
 
 -- and what it costs
 pub cost_one : (encoded : ColumnsValue) (land : LandValue) (was : Option ViewSet) (x : Place) →

@@ -4,7 +4,7 @@ use Rattle.std.proofs.Common.{append_assoc}
 use Rattle.std.specs.Int.{w16, w32, cast_unsigned}
 use Rattle.std.proofs.lemmas.Int.{ints}
 use Rattle.std.proofs.lemmas.List.{length-append}
-use lib.IntN.{ℤ, pos, negsuc}
+use lib.IntN.{ℤ, pos, negsuc, neg_ℤ}
 use lib.Signed.{◌≤ℤ◌}
 use mir.Val.{SFits}
 use Rattle.mc_nbt.specs.Numbers.{number_spelling}
@@ -14,6 +14,7 @@ use Rattle.mc_frame.specs.Frame.{frame_spelling}
 use Rattle.mc_column.specs.Cells.{ColumnValue, HasSizes}
 use Rattle.mc_column.specs.Sent.{column_mask, column_bytes}
 use Rattle.mc_land.specs.Places.{Place, IsPlace}
+use Rattle.mc_land.specs.declared.places.TheConstants.{COLUMN_BORDER}
 use Rattle.mc_down.specs.Down.{spelling_of}
 use Rattle.mc_model.specs.Packets.{of_play, frame_of}
 use Rattle.mc_model.specs.Delta.{load, unload}
@@ -23,7 +24,7 @@ use Rattle.mc_told.specs.Sending.{IsClear}
 
 -- ---- places
 
-number_fits : (z : ℤ) → negsuc 1875009 ≤ℤ z → z ≤ℤ pos 1875010 → SFits w32 z
+number_fits : (z : ℤ) → neg_ℤ (pos COLUMN_BORDER) ≤ℤ z → z ≤ℤ pos COLUMN_BORDER → SFits w32 z
 number_fits (pos n) low high = record { sfits = omega (arith, ints, high) }
 number_fits (negsuc n) low high = record { sfits = omega (arith, ints, low) }
 

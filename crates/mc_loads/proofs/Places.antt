@@ -8,14 +8,16 @@ use Rattle.std.proofs.lemmas.List.{append-nil}
 use Rattle.std.proofs.lemmas.List.Elements.{Contains-append_right}
 use Rattle.std.proofs.lemmas.Grind.{flat_map-append}
 use Rattle.std.proofs.lemmas.Int.{ints}
-use lib.IntN.{ℤ, pos, negsuc, ◌-ℤ◌}
+use lib.IntN.{ℤ, pos, neg_ℤ, ◌-ℤ◌}
 use lib.Signed.{◌≤ℤ◌}
 use Rattle.mc_frame.specs.Kept.{joined}
 use Rattle.mc_land.specs.Places.{Place, IsPlace, place_cmp}
+use Rattle.mc_land.specs.declared.places.TheConstants.{COLUMN_BORDER}
 use Rattle.mc_land.proofs.Orders.{exact_places}
 use Rattle.mc_view.proofs.Near.{near_both}
 use Rattle.mc_model.proofs.ViewFacts.{view_near}
 use Rattle.mc_view.specs.declared.view_set.ViewSet.{ViewSet}
+use Rattle.mc_view.specs.declared.view_set.TheConstants.{MIDDLE_BORDER}
 use Rattle.mc_view.specs.Sets.{has, all_of, lacking}
 use Rattle.mc_told.proofs.Keys.{equal}
 use Rattle.mc_told.proofs.Pieces.{all_filtered}
@@ -44,14 +46,14 @@ all_of_list P (x ∷ xs) each = (
 )
 
 -- what is near a middle is within the world, on one axis
-number_near : (m z : ℤ) (d : ℕ) → negsuc 1874999 ≤ℤ m → m ≤ℤ pos 1875000 → d ≤ 8 →
-    unsigned_abs (z -ℤ m) ≤ d → (negsuc 1875009 ≤ℤ z) × (z ≤ℤ pos 1875010)
+number_near : (m z : ℤ) (d : ℕ) → neg_ℤ (pos MIDDLE_BORDER) ≤ℤ m → m ≤ℤ pos MIDDLE_BORDER → d ≤ 8 →
+    unsigned_abs (z -ℤ m) ≤ d → (neg_ℤ (pos COLUMN_BORDER) ≤ℤ z) × (z ≤ℤ pos COLUMN_BORDER)
 number_near m z d low high few near = (omega (arith, ints), omega (arith, ints))
 
 -- where the middle of a view can be
 abbrev pub IsMiddle : ViewSet → Type 0
-IsMiddle view = (negsuc 1874999 ≤ℤ view.cx) × (view.cx ≤ℤ pos 1875000) × (negsuc 1874999 ≤ℤ view.cz)
-    × (view.cz ≤ℤ pos 1875000) × (view.d ≤ 8)
+IsMiddle view = (neg_ℤ (pos MIDDLE_BORDER) ≤ℤ view.cx) × (view.cx ≤ℤ pos MIDDLE_BORDER)
+    × (neg_ℤ (pos MIDDLE_BORDER) ≤ℤ view.cz) × (view.cz ≤ℤ pos MIDDLE_BORDER) × (view.d ≤ 8)
 
 -- and on both
 place_near : (view : ViewSet) (place : Place) → IsMiddle view → has view place ≡ true →

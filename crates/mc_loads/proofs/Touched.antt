@@ -7,7 +7,8 @@ use Rattle.std.proofs.lemmas.Bool.{lt-ltb}
 use Rattle.std.proofs.lemmas.Int.{ints, to_z-of_z}
 use Rattle.std.proofs.lemmas.List.{length-map}
 use Rattle.std.proofs.lemmas.List.FromFn.{get_or-map-range_with_len}
-use lib.IntN.{ℤ, pos, negsuc}
+use Rattle.std.proofs.lemmas.Bool.Decides.{nat_tests}
+use lib.IntN.{ℤ, pos, negsuc, neg_ℤ}
 use lib.Signed.{◌≤ℤ◌}
 use mir.Val.{to_z, of_z}
 use Rattle.std.specs.Int.{w32}
@@ -17,6 +18,7 @@ use Rattle.mc_column.specs.Sizes.{cells}
 use Rattle.mc_column.specs.SizesLaws.{cells-is}
 use Rattle.mc_fields.specs.declared.position.Cell.{Cell}
 use Rattle.mc_land.specs.Places.{Place, IsPlace, key_of, x_of, y_of, z_of}
+use Rattle.mc_land.specs.declared.places.TheConstants.{COLUMN_BORDER}
 use Rattle.mc_land.specs.Land.{LandValue, block, dirty_in, state_at, states_of}
 use Rattle.mc_land.specs.Ready.{touched_cell}
 use Rattle.mc_down.specs.declared.down.Down.TheVariants.{MultiChange}
@@ -54,7 +56,8 @@ near_place place at = record {
   z = size place.1 at.cz_low at.cz_high;
 }
   where
-    size : (z : ℤ) → negsuc 1875009 ≤ℤ z → z ≤ℤ pos 1875010 → unsigned_abs z ≤ 1875010
+    size : (z : ℤ) → neg_ℤ (pos COLUMN_BORDER) ≤ℤ z → z ≤ℤ pos COLUMN_BORDER →
+        unsigned_abs z ≤ COLUMN_BORDER
     size (pos n) low high = omega (arith, ints, high)
     size (negsuc n) low high = omega (arith, ints, low)
 
@@ -71,9 +74,7 @@ touched_clear place states is at few f =
 -- of several there is one packet
 pub several_packets : (place : Place) (states is : List ℕ) → 2 ≤ length is →
     cell_packets place states is ≡ MultiChange place.0 place.1 (map (cell_record states) is) ∷ []
-several_packets place states [] two = absurd (omega (arith, two))
-several_packets place states (i ∷ []) two = absurd (omega (arith, two))
-several_packets place states (i ∷ j ∷ later) two = refl
+several_packets place states is two = grind (arith, nat_tests)
 
 -- ---- the records of several
 

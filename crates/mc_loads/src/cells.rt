@@ -1,8 +1,10 @@
 //! The cells of a column that changed since the last settling, as packets.
 
 ghost use Rattle.std.specs.Prelude.{◌≡◌, ◌≤◌, ◌+◌, ◌++◌, ◌∷◌, [], IfOk, OnOk, length, map};
-ghost use Rattle.std.specs.Prelude.{slice_index, negsuc, pos, ◌<◌, ◌+ℤ◌, ◌*ℤ◌, ◌≤ℤ◌};
+ghost use Rattle.std.specs.Prelude.{slice_index, pos, ◌<◌, ◌+ℤ◌, ◌*ℤ◌, ◌≤ℤ◌};
+ghost use lib.IntN.{neg_ℤ};
 ghost use Rattle.mc_land.specs.Places.{IsPlace};
+ghost use Rattle.mc_land.specs.declared.places.TheConstants.{COLUMN_BORDER};
 ghost use Rattle.mc_land.specs.Land.{dirty_in};
 ghost use Rattle.mc_model.specs.Delta.{cell_at, cell_packets, cell_record};
 ghost use Rattle.mc_told.specs.Sending.{play_bytes};
@@ -20,8 +22,8 @@ use std::sync::ledger::Ledger;
 
 /// The number of a cell along an axis, by that of its column and its place in that.
 fn along(column: i32, inside: u16) -> i32
-    requires low { negsuc 1875009 ≤ℤ column }
-    requires high { column ≤ℤ pos 1875010 }
+    requires low { neg_ℤ (pos COLUMN_BORDER) ≤ℤ column }
+    requires high { column ≤ℤ pos COLUMN_BORDER }
     requires small { inside < 16 }
     ensures { result ≡ column *ℤ pos 16 +ℤ pos inside }
 {

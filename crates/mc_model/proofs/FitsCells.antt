@@ -13,6 +13,7 @@ use Rattle.mc_fields.specs.Position.{FitsHalf, FitsCell, pack}
 use Rattle.mc_column.specs.Sizes.{cells}
 use Rattle.mc_column.specs.SizesLaws.{cells-is}
 use Rattle.mc_land.specs.Places.{Place}
+use Rattle.mc_land.specs.declared.places.TheConstants.{COLUMN_BORDER}
 use Rattle.mc_land.specs.Ready.{has_changed}
 use Rattle.mc_down.specs.declared.record.Record.{Record}
 use Rattle.mc_down.specs.declared.down.Down.TheVariants.{MultiChange, Change}
@@ -34,7 +35,7 @@ pub record CellFits (states : List ℕ) (i : ℕ) : Type 0 where
 -- ---- one cell
 
 -- a cell's number, by that of its column
-pub number_near : (c : ℤ) (i : ℕ) → unsigned_abs c ≤ 1875010 → i < 16
+pub number_near : (c : ℤ) (i : ℕ) → unsigned_abs c ≤ COLUMN_BORDER → i < 16
     → FitsHalf (2 ^ 25) (c *ℤ pos 16 +ℤ pos i)
 number_near c i near small = grind (arith, nat_tests)
 

@@ -14,6 +14,7 @@ use Rattle.mc_column.specs.Body.{is_named}
 use Rattle.mc_column.specs.Sent.{column_mask, column_bytes}
 use Rattle.mc_column.proofs.SentFacts.{column_mask_names, body_bytes_spell}
 use Rattle.mc_land.specs.Places.{Place}
+use Rattle.mc_land.specs.declared.places.TheConstants.{COLUMN_BORDER}
 use Rattle.mc_down.specs.declared.down.Down.TheVariants.{Chunk}
 use Rattle.mc_model.specs.Packets.{of_play, for_play}
 use Rattle.mc_model.specs.Delta.{load, unload}
@@ -54,8 +55,8 @@ mask_small column sizes = grind (arith, nat_tests, column_mask_names, section_co
 
 -- a place whose cells a position can carry
 pub record IsNear (place : Place) : Type 0 where
-  pub x : unsigned_abs place.0 ≤ 1875010
-  pub z : unsigned_abs place.1 ≤ 1875010
+  pub x : unsigned_abs place.0 ≤ COLUMN_BORDER
+  pub z : unsigned_abs place.1 ≤ COLUMN_BORDER
 
 -- a packet can carry its numbers too
 pub near_fits : (place : Place) → IsNear place → PlaceFits place

@@ -1,5 +1,5 @@
 -- The packets of noted cells fit: what is sent of them has a position, and a state of 16 bits.
-use Rattle.std.proofs.Common.{◌≡◌, ℕ, ◌^◌, ◌<◌, ◌≤◌, Bool, true, List, [], ◌∷◌, arith}
+use Rattle.std.proofs.Common.{◌≡◌, ℕ, ◌+◌, ◌^◌, ◌<◌, ◌≤◌, Bool, true, List, [], ◌∷◌, arith}
 use Rattle.std.specs.Prelude.{int_le, unsigned_abs}
 use Rattle.std.specs.FinMap.{FinMap}
 use Rattle.std.proofs.lemmas.Bool.{leb-true}
@@ -9,6 +9,7 @@ use Rattle.mc_fields.specs.declared.position.Cell.{Cell}
 use Rattle.mc_fields.specs.Position.{FitsHalf, FitsCell}
 use Rattle.mc_land.specs.declared.terrain.Terrain.{Terrain}
 use Rattle.mc_land.specs.Places.{Place, key_cmp, column_number}
+use Rattle.mc_view.specs.declared.view_set.TheConstants.{MIDDLE_BORDER}
 use Rattle.mc_view.specs.Views.{column_of_spot, is_in_view, view_size}
 use Rattle.mc_view.proofs.Near.{near_both}
 use Rattle.mc_model.specs.Packets.{of_play, for_play}
@@ -27,12 +28,12 @@ use Rattle.std.proofs.lemmas.Bool.Decides.{nat_tests}
 -- ---- positions
 
 -- a number that is near one that is not far is not far
-column_small : (c middle : ℤ) (d : ℕ) → unsigned_abs middle ≤ 1875001 → d ≤ 8 →
-    unsigned_abs (c -ℤ middle) ≤ d → unsigned_abs c ≤ 1875009
+column_small : (c middle : ℤ) (d : ℕ) → unsigned_abs middle ≤ MIDDLE_BORDER + 1 → d ≤ 8 →
+    unsigned_abs (c -ℤ middle) ≤ d → unsigned_abs c ≤ MIDDLE_BORDER + 9
 column_small c middle d small few near = grind (arith, nat_tests)
 
 -- so a position can carry the numbers of cells in such a column
-side_fits : (v : ℤ) → unsigned_abs (column_number v) ≤ 1875009 → FitsHalf (2 ^ 25) v
+side_fits : (v : ℤ) → unsigned_abs (column_number v) ≤ MIDDLE_BORDER + 9 → FitsHalf (2 ^ 25) v
 side_fits (pos n) small = omega (arith, ints, small)
 side_fits (negsuc n) small = omega (arith, ints, small)
 
@@ -43,8 +44,8 @@ height_fits (pos n) low high = let le = leb-true n 2047 high in omega (arith, le
 height_fits (negsuc n) low high = let le = leb-true n 2047 low in omega (arith, le)
 
 -- a cell that is sent where a view is seen has a position
-pub sent_fits : (middle : Place) (d : ℕ) (cell : Cell) → unsigned_abs middle.0 ≤ 1875001 →
-    unsigned_abs middle.1 ≤ 1875001 → d ≤ 8 → is_sent (is_in_view middle d) cell ≡ true →
+pub sent_fits : (middle : Place) (d : ℕ) (cell : Cell) → unsigned_abs middle.0 ≤ MIDDLE_BORDER + 1 →
+    unsigned_abs middle.1 ≤ MIDDLE_BORDER + 1 → d ≤ 8 → is_sent (is_in_view middle d) cell ≡ true →
     FitsCell cell
 sent_fits middle d cell at_x at_z few sent =
     grind (arith, nat_tests, both_true, column_small, height_fits, near_both, side_fits)

@@ -18,6 +18,7 @@ use lib.IntN.{ℤ, pos, negsuc, ◌+ℤ◌, ◌-ℤ◌}
 use lib.Signed.{◌≤ℤ◌}
 use mir.Val.{SFits}
 use Rattle.mc_land.specs.Places.{Place, place_cmp}
+use Rattle.mc_land.specs.declared.places.TheConstants.{COLUMN_BORDER}
 use Rattle.mc_land.proofs.Orders.{places_total, exact_places}
 use Rattle.mc_slots.specs.declared.slot.Slot.TheVariants as slots
 use Rattle.mc_slots.specs.declared.pile.Pile.TheVariants.{Empty}
@@ -26,6 +27,7 @@ use Rattle.mc_windows.specs.Pack.{pack_size}
 use Rattle.mc_entities.specs.declared.entity.Entity.{Entity}
 use Rattle.mc_entities.specs.declared.entity.EntityKind.{EntityKind}
 use Rattle.mc_entities.specs.Kinds.{IsKind}
+use Rattle.mc_view.specs.declared.view_set.TheConstants.{MIDDLE_BORDER}
 use Rattle.mc_view.specs.Views.{run_of, view_of, column_of_spot, view_size}
 use Rattle.mc_model.specs.declared.ticks.TheConstants.{AGE_MAX}
 use Rattle.mc_model.specs.Sight.{Seen, Sight, nothing_seen}
@@ -96,35 +98,35 @@ few_shown R o most es few =
 -- ---- places of a view
 
 -- a number near one that is not far
-near_small : (m : ℤ) (d i : ℕ) → unsigned_abs m ≤ 1875001 → d ≤ 8 → i < 2 * d + 1 →
-    unsigned_abs ((m -ℤ pos d) +ℤ pos i) ≤ 1875010
+near_small : (m : ℤ) (d i : ℕ) → unsigned_abs m ≤ MIDDLE_BORDER + 1 → d ≤ 8 → i < 2 * d + 1 →
+    unsigned_abs ((m -ℤ pos d) +ℤ pos i) ≤ COLUMN_BORDER
 near_small m d i small few less = grind (arith, nat_tests)
 
 -- and so are all in a row
-run_small : (m : ℤ) (d : ℕ) → unsigned_abs m ≤ 1875001 → d ≤ 8
-    → AllByRecursion (λ (z : ℤ). unsigned_abs z ≤ 1875010) (run_of (m -ℤ pos d) (2 * d + 1))
+run_small : (m : ℤ) (d : ℕ) → unsigned_abs m ≤ MIDDLE_BORDER + 1 → d ≤ 8
+    → AllByRecursion (λ (z : ℤ). unsigned_abs z ≤ COLUMN_BORDER) (run_of (m -ℤ pos d) (2 * d + 1))
 run_small m d small few =
     let P : ℕ → Type 0 = λ i. i < 2 * d + 1 in
-    all_mapped P (λ (z : ℤ). unsigned_abs z ≤ 1875010) (λ (i : ℕ). (m -ℤ pos d) +ℤ pos i)
+    all_mapped P (λ (z : ℤ). unsigned_abs z ≤ COLUMN_BORDER) (λ (i : ℕ). (m -ℤ pos d) +ℤ pos i)
     (λ i less. near_small m d i small few less)
     (range_with_len 0 (2 * d + 1)) (all_range P 0 (2 * d + 1) (λ i less. omega (arith, less)))
 
 -- and all places of a view
-view_near : (middle : Place) (d : ℕ) → unsigned_abs middle.0 ≤ 1875001 →
-    unsigned_abs middle.1 ≤ 1875001 → d ≤ 8
+view_near : (middle : Place) (d : ℕ) → unsigned_abs middle.0 ≤ MIDDLE_BORDER + 1 →
+    unsigned_abs middle.1 ≤ MIDDLE_BORDER + 1 → d ≤ 8
     → AllByRecursion IsNear (view_of middle d)
 unfolding view_of
 view_near middle d at_x at_z few =
-    all_flat (λ (z : ℤ). unsigned_abs z ≤ 1875010) IsNear
+    all_flat (λ (z : ℤ). unsigned_abs z ≤ COLUMN_BORDER) IsNear
     (λ (x : ℤ). map (λ (z : ℤ). (x, z)) (run_of (middle.1 -ℤ pos d) (2 * d + 1)))
-    (λ x near. all_mapped (λ (z : ℤ). unsigned_abs z ≤ 1875010) IsNear (λ (z : ℤ). (x, z))
+    (λ x near. all_mapped (λ (z : ℤ). unsigned_abs z ≤ COLUMN_BORDER) IsNear (λ (z : ℤ). (x, z))
     (λ z also. record { x = near; z = also })
     (run_of (middle.1 -ℤ pos d) (2 * d + 1)) (run_small middle.1 d at_z few))
     (run_of (middle.0 -ℤ pos d) (2 * d + 1)) (run_small middle.0 d at_x few)
 
 -- the number of a place's column
 pub column_near : (x : ℤ) → unsigned_abs x ≤ 960000016 →
-    unsigned_abs (int_div_euclid x (pos 512)) ≤ 1875001
+    unsigned_abs (int_div_euclid x (pos 512)) ≤ MIDDLE_BORDER + 1
 column_near (pos n) small = omega (arith, small)
 column_near (negsuc n) small = omega (arith, small)
 

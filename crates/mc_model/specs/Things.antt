@@ -13,6 +13,7 @@ use Rattle.mc_slots.specs.Chest.{pile_at}
 use Rattle.mc_land.specs.declared.terrain.Terrain.{Terrain}
 use Rattle.mc_land.specs.Places.{key_cmp, key_of}
 use Rattle.mc_land.specs.Land.{edited, state_at}
+use Rattle.mc_windows.specs.declared.pack.TheConstants.{MAIN_PILES}
 use Rattle.mc_windows.specs.Pack.{PackValue, kit_pack}
 use Rattle.mc_entities.specs.declared.entity.Entity.{Entity}
 use Rattle.mc_entities.specs.declared.entity.EntityKind.{EntityKind}
@@ -115,8 +116,8 @@ with_pack name pack packs =
 
 -- the pile at a place of the hotbar, from 0 to 8, which a hand is on
 abbrev pub in_hand : PackValue → ℕ → Pile
-in_hand pack hand = pile_at pack.slots (27 + hand)
+in_hand pack hand = pile_at pack.slots (MAIN_PILES + hand)
 
 -- and another pile there
 abbrev pub with_hand : Pile → ℕ → PackValue → PackValue
-with_hand pile hand pack = record pack { slots = slice_set pack.slots (27 + hand) pile }
+with_hand pile hand pack = record pack { slots = slice_set pack.slots (MAIN_PILES + hand) pile }

@@ -9,6 +9,8 @@ use Rattle.std.specs.Cmp.{IsTotalOrder, eq_by_cmp_equiv}
 use Rattle.std.proofs.lemmas.Cmp.{int_cmp_total}
 use Rattle.std.specs.FinMap.{IsAntisymmetric, empty, get, get-empty, get-insert, insert}
 use Rattle.std.specs.FinMap.{from_entries, get-from_entries, same_map, int_cmp-IsAntisymmetric}
+use Rattle.std.proofs.Common.{arith}
+use Rattle.std.proofs.lemmas.Bool.Decides.{nat_tests}
 use lib.IntN.{ℤ}
 use Rattle.mc_fields.specs.declared.position.Spot.{Spot}
 use Rattle.mc_entities.specs.declared.entity.Entity.{Entity}
@@ -76,15 +78,10 @@ move_added old state e frames = cases (told_of e.eid state)
 pub move_more : (state : FolkState) (e : Entity) (moves : MovesByEid) (from : Spot) →
     told_of e.eid state ≡ Some from → is_still (form_of from e.spot) ≡ false →
     insert moves e.eid (move_of e from) ≡ with_move state moves e
-move_more state e moves from was goes =
-    ap (λ (b : Bool). cond b moves (insert moves e.eid (move_of e from))) (sym goes)
-    ∙ ap (λ (o : Option Spot). moved_from e o moves) (sym was)
+move_more state e moves from was goes = grind (arith, nat_tests)
 
 -- with the next move, those of what is left make all
 pub moves_next : (state : FolkState) (now new total : MovesByEid) (e : Entity)
     (left rest : List Entity) → left ≡ e ∷ rest → new ≡ with_move state now e →
     fold (with_move state) now left ≡ total → fold (with_move state) new rest ≡ total
-moves_next state now new total e left rest is put all =
-    ap (λ (m : MovesByEid). fold (with_move state) m rest) put
-    ∙ ap (λ (es : List Entity). fold (with_move state) now es) (sym is)
-    ∙ all
+moves_next state now new total e left rest is put all = grind (arith, nat_tests)

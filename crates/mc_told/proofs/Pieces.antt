@@ -7,6 +7,7 @@ use Rattle.std.proofs.lemmas.Grind.{flat_map-append}
 use Rattle.mc_down.specs.declared.down.Down.{Down}
 use Rattle.mc_model.specs.Packets.{of_play, frame_of, bytes_of}
 use Rattle.mc_told.specs.Sending.{play_bytes}
+use Rattle.std.proofs.lemmas.Bool.Decides.{nat_tests}
 
 -- the next piece of what is left is appended
 pub next_piece : (now after total piece rest left : List ℕ) → left ≡ piece ++ rest →
@@ -48,13 +49,8 @@ all_filtered {A} P test (x ∷ xs) a = step (test x) (all_filtered P test xs a.1
 -- and those are no more
 pub few_filtered : {A : Type 0} (test : A → Bool) (xs : List A) →
     length (filter test xs) ≤ length xs
-few_filtered test [] = omega arith
-few_filtered {A} test (x ∷ xs) = step (test x) (few_filtered test xs)
-  where
-    step : (t : Bool) → length (filter test xs) ≤ length xs →
-        length (cond t (x ∷ filter test xs) (filter test xs)) ≤ suc (length xs)
-    step true le = omega (arith, le)
-    step false le = omega (arith, le)
+few_filtered test [] = grind (arith, nat_tests)
+few_filtered {A} test (x ∷ xs) = grind (arith, nat_tests, few_filtered test xs)
 
 -- bytes behind bytes
 pub two_put : (old one two a b : List ℕ) → one ≡ old ++ a → two ≡ one ++ b → two ≡ old ++ (a ++ b)

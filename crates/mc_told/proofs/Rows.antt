@@ -9,6 +9,7 @@ use Rattle.std.proofs.lemmas.Int.{ints}
 use Rattle.std.specs.FinMap.{contains_key, find, get, is_sorted, entries, from_entries}
 use Rattle.std.specs.FinMap.{get-from_entries, int_cmp-IsAntisymmetric}
 use Rattle.std.specs.FinMap.Entries.{below_all}
+use Rattle.std.proofs.lemmas.Bool.Decides.{nat_tests}
 use lib.IntN.{ℤ, pos}
 use lib.Signed.{◌<ℤ◌, ◌≤ℤ◌}
 use Rattle.mc_fields.specs.declared.position.Spot.{Spot}
@@ -50,13 +51,8 @@ seen_one eid spot Mob es rows same = same
 -- what is shown is shown by the rows
 pub seen_rows : (view : ViewSet) (es : List Entity) →
     filter_map seen_of (in_view view es) ≡ map seen_row (rows_in view es)
-seen_rows view [] = refl
-seen_rows view (e ∷ es) =
-    elim (is_in view e) as (λ b. filter_map seen_of (cond b (e ∷ in_view view es) (in_view view es))
-    ≡ map seen_row (rows_as (cond b (row_as e e.kind) None) ++ rows_in view es)) [
-      | true ↦ seen_one e.eid e.spot e.kind (in_view view es) (rows_in view es) (seen_rows view es)
-      | false ↦ seen_rows view es
-    ]
+seen_rows view [] = grind (arith, nat_tests)
+seen_rows view (e ∷ es) = grind (arith, nat_tests, seen_rows view es)
 
 -- a row has the number of its entity, of whatever kind that is
 kind_eid : (e : Entity) (kind : EntityKind) (row : Row) →
@@ -78,11 +74,7 @@ kind_eid e Mob row is = absurd cc
 -- and wherever it stands
 pub row_eid : (view : ViewSet) (e : Entity) (row : Row) →
     row_in view e ≡ Some row → row.eid ≡ e.eid
-row_eid view e row is = elim (is_in view e) as
-    (λ b. cond b (row_as e e.kind) None ≡ Some row → row.eid ≡ e.eid) [
-      | true ↦ kind_eid e e.kind row
-      | false ↦ λ none. absurd cc
-    ] is
+row_eid view e row is = grind (arith, nat_tests)
 
 -- all rows are above a number that entities are above
 pub rows_above : (view : ViewSet) (k low high : ℤ) (es : List Entity) → k ≤ℤ low →
@@ -138,13 +130,8 @@ shown_rows view es high r =
 -- what is kept of what is shown by a row is what is told of the row
 find_seen : (q : ℤ) (rows : List Row) → option_map kept_of (find int_cmp q (map seen_row rows))
     ≡ option_map told_slot (find int_cmp q (map told_row rows))
-find_seen q [] = refl
-find_seen q (row ∷ rows) = elim (eq_by_cmp int_cmp q row.eid) as
-    (λ b. option_map kept_of (cond b (Some (seen_row row).1) (find int_cmp q (map seen_row rows)))
-    ≡ option_map told_slot (cond b (Some (told_row row).1) (find int_cmp q (map told_row rows)))) [
-      | true ↦ refl
-      | false ↦ find_seen q rows
-    ]
+find_seen q [] = grind (arith, nat_tests)
+find_seen q (row ∷ rows) = grind (arith, nat_tests, find_seen q rows)
 
 -- what is shown under a number is what is told then
 pub shown_told : (view : ViewSet) (es : List Entity) (q : ℤ) →
@@ -161,10 +148,7 @@ shown_told view es q =
 -- something is seen where something was told
 pub known_alike : (o : Option Seen) (t : Option (Spot × Pile)) →
     option_map kept_of o ≡ option_map told_slot t → is_some o ≡ is_some t
-known_alike None None same = refl
-known_alike None (Some t) same = absurd cc
-known_alike (Some e) None same = absurd cc
-known_alike (Some e) (Some t) same = refl
+known_alike o t same = grind (arith, nat_tests)
 
 -- an entity is shown where it is told
 pub shown_known : (view : ViewSet) (es : List Entity) (q : ℤ) →
@@ -177,9 +161,8 @@ shown_known view es q = known_alike (get (shown_now es view) q) (get (told_now e
 -- the packets of what rows show are those of the rows
 mapped_packets : (told : Told) (rows : List Row) →
     flat_map (packets_of told) (map seen_row rows) ≡ rows_packets told rows
-mapped_packets told [] = refl
-mapped_packets told (row ∷ rows) =
-    ap (λ (ds : List Down). row_packets told row ++ ds) (mapped_packets told rows)
+mapped_packets told [] = grind (arith, nat_tests)
+mapped_packets told (row ∷ rows) = grind (arith, nat_tests, mapped_packets told rows)
 
 -- the frames of entities are those of their rows
 pub frames_are : (told : Told) (es : List Entity) (view : ViewSet) →

@@ -17,6 +17,7 @@ use Rattle.std.proofs.lemmas.Option.{get_or_from_slice_get, slice_get_cases, sli
 use Rattle.std.specs.FinMap.{find, get, insert, is_sorted, entries, contains_key, get-from_entries}
 use Rattle.std.specs.FinMap.{get-insert, int_cmp-IsAntisymmetric}
 use Rattle.std.specs.FinMap.Entries.{below_all}
+use Rattle.std.proofs.lemmas.Bool.Decides.{nat_tests}
 use lib.IntN.{ℤ, pos}
 use lib.Signed.{◌≤ℤ◌}
 use Rattle.mc_fields.specs.declared.position.Spot.{Spot}
@@ -98,16 +99,10 @@ shown_found view q high es r =
 -- the others rise, also from below
 others_above : (me less low high : ℤ) (es : List Entity) → less ≤ℤ low →
     Rise eid_of low es high → Rise eid_of less (others me es) high
-others_above me less low high [] le r = omega (arith, ints, le, r)
+others_above me less low high [] le r = grind (arith, nat_tests)
 others_above me less low high (e ∷ es) le r =
-    elim (int_eq e.eid me) as
-    (λ b. Rise eid_of less (cond (not b) (e ∷ others me es) (others me es)) high) [
-      | true ↦ others_above me less e.eid high es (omega (arith, ints, le, r.0)) r.1
-      | false ↦ (
-        omega (arith, ints, le, r.0),
-        others_above me e.eid e.eid high es (omega (arith, ints)) r.1,
-      )
-    ]
+    grind (arith, nat_tests, others_above me less e.eid high es (omega (arith, ints, le, r.0)) r.1,
+      others_above me e.eid e.eid high es (omega (arith, ints)) r.1)
 
 -- they rise where all do
 pub others_rise : (me high : ℤ) (es : List Entity) → Rise eid_of (pos 0) es high →
@@ -116,30 +111,14 @@ others_rise me high es r = others_above me (pos 0) (pos 0) high es (omega (arith
 
 -- the own is not found among the others
 others_own : (me : ℤ) (es : List Entity) → numbered eid_of me (others me es) ≡ None
-others_own me [] = refl
-others_own me (e ∷ es) = elim (int_eq e.eid me) as (λ b. int_eq e.eid me ≡ b →
-    numbered eid_of me (cond (not b) (e ∷ others me es) (others me es)) ≡ None) [
-      | true ↦ λ t. others_own me es
-      | false ↦ λ f. ap (λ (b : Bool). cond b (Some e) (numbered eid_of me (others me es))) f
-          ∙ others_own me es
-    ] refl
+others_own me [] = grind (arith, nat_tests)
+others_own me (e ∷ es) = grind (arith, nat_tests, others_own me es)
 
 -- and any other is found as among all
 others_found : (me q : ℤ) (es : List Entity) → int_eq q me ≡ false →
     numbered eid_of q (others me es) ≡ numbered eid_of q es
-others_found me q [] apart = refl
-others_found me q (e ∷ es) apart =
-    let rest = others_found me q es apart in
-    elim (int_eq e.eid me) as (λ b. int_eq e.eid me ≡ b →
-    numbered eid_of q (cond (not b) (e ∷ others me es) (others me es))
-    ≡ cond (int_eq e.eid q) (Some e) (numbered eid_of q es)) [
-      | true ↦ λ t.
-          let same : e.eid ≡ me = int_cmp-IsAntisymmetric e.eid me (equal _ t) in
-          let other : int_eq e.eid q ≡ false =
-          ap (λ (k : ℤ). int_eq k q) same ∙ int_eq_equiv.symm me q ∙ apart in
-          rest ∙ ap (λ (b : Bool). cond b (Some e) (numbered eid_of q es)) (sym other)
-      | false ↦ λ f. ap (cond (int_eq e.eid q) (Some e)) rest
-    ] refl
+others_found me q [] apart = grind (arith, nat_tests)
+others_found me q (e ∷ es) apart = grind (arith, nat_tests, others_found me q es apart)
 
 -- the own is not shown
 pub shown_own : (view : ViewSet) (me high : ℤ) (es : List Entity) → Rise eid_of (pos 0) es high →
@@ -160,13 +139,7 @@ shown_other view me q high es r apart =
 rows_next : (view : ViewSet) (me : ℤ) (e : Entity) (es : List Entity) →
     rows_in view (others me (e ∷ es))
     ≡ rows_in view (others me (e ∷ [])) ++ rows_in view (others me es)
-rows_next view me e es = elim (int_eq e.eid me) as (λ b.
-    rows_in view (cond (not b) (e ∷ others me es) (others me es))
-    ≡ rows_in view (cond (not b) (e ∷ []) []) ++ rows_in view (others me es)) [
-      | true ↦ refl
-      | false ↦ ap (λ (rows : List Row). rows ++ rows_in view (others me es))
-          (sym (append-nil (rows_of view e)))
-    ]
+rows_next view me e es = grind (arith, nat_tests)
 
 -- ---- what is told afterwards
 
@@ -228,10 +201,8 @@ AreAlike m n rows = AllByRecursion (λ (row : Row). get m row.eid ≡ get n row.
 same_packets : (m n : Told) (rows : List Row) → AreAlike m n rows →
     rows_packets m rows ≡ rows_packets n rows
 unfolding AreAlike
-same_packets m n [] all = refl
-same_packets m n (row ∷ rows) all = λ i. entity_packets row.eid
-    (option_map (told_as row.kind) (all.0 i)) (told_as row.kind (row.spot, row.pile))
-    ++ same_packets m n rows all.1 i
+same_packets m n [] all = grind (arith, nat_tests)
+same_packets m n (row ∷ rows) all = grind (arith, nat_tests, same_packets m n rows all.1)
 
 -- what holds of the entries of rows holds of the rows
 of_rows : (m n : Told) (rows : List Row) →
@@ -259,9 +230,7 @@ frames_after told es view high r =
 
 -- what is less is not equal
 is_less : (o : Ordering) → T (is_lt o) → is_eq o ≡ false
-is_less Less h = refl
-is_less Equal h = absurd h
-is_less Greater h = absurd h
+is_less o h = grind (arith, nat_tests)
 
 -- a row does not change what was told of those above it
 above_same : (told : Told) (k : ℤ) (v : Spot × Pile) (rows : List Row) →

@@ -20,4 +20,4 @@ pub use columns::Columns;
 pub use forms::{Form, Moves};
 pub use spots::form;
 pub use tracker::Tracker;
-pub use view_set::ViewSet;
+pub use view_set::{MIDDLE_BORDER, ViewSet};

@@ -1,8 +1,12 @@
 ghost use Rattle.std.specs.Prelude.{◌≡◌, ◌≤◌};
-ghost use lib.IntN.{pos, negsuc};
+ghost use lib.IntN.{pos, neg_ℤ};
 ghost use lib.Signed.{◌≤ℤ◌};
+ghost use Rattle.mc_view.specs.declared.view_set.TheConstants.{MIDDLE_BORDER};
 
 use crate::columns::Columns;
+
+/// How far from the middle of the world that of a view is at most, along each axis, in columns.
+pub const MIDDLE_BORDER: u32 = 1_875_000;
 
 /// The columns around a middle: those that are at most `d` columns off it on each axis.
 #[derive(Clone, Copy, Debug, PartialEq, Eq)]
@@ -13,8 +17,8 @@ pub struct ViewSet {
     pub cz: i32,
     /// How far it reaches, in columns.
     pub d: u8,
-    ghost in_range: { (negsuc 1874999 ≤ℤ cx) × (cx ≤ℤ pos 1875000) ×
-        (negsuc 1874999 ≤ℤ cz) × (cz ≤ℤ pos 1875000) × (d ≤ 8) },
+    ghost in_range: { (neg_ℤ (pos MIDDLE_BORDER) ≤ℤ cx) × (cx ≤ℤ pos MIDDLE_BORDER) ×
+        (neg_ℤ (pos MIDDLE_BORDER) ≤ℤ cz) × (cz ≤ℤ pos MIDDLE_BORDER) × (d ≤ 8) },
 }
 
 impl ViewSet {
@@ -22,10 +26,10 @@ impl ViewSet {
 
     /// The set around a middle.
     pub fn of(cx: i32, cz: i32, d: u8) -> ViewSet
-        requires cx_low { negsuc 1874999 ≤ℤ cx }
-        requires cx_high { cx ≤ℤ pos 1875000 }
-        requires cz_low { negsuc 1874999 ≤ℤ cz }
-        requires cz_high { cz ≤ℤ pos 1875000 }
+        requires cx_low { neg_ℤ (pos MIDDLE_BORDER) ≤ℤ cx }
+        requires cx_high { cx ≤ℤ pos MIDDLE_BORDER }
+        requires cz_low { neg_ℤ (pos MIDDLE_BORDER) ≤ℤ cz }
+        requires cz_high { cz ≤ℤ pos MIDDLE_BORDER }
         requires near { d ≤ 8 }
         ensures cx { result.cx ≡ cx }
         ensures cz { result.cz ≡ cz }

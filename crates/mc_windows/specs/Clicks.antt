@@ -33,6 +33,7 @@ use Rattle.mc_windows.specs.declared.moves.How.TheVariants.{Put, Merge, Swap}
 use Rattle.mc_windows.specs.declared.moves.Move.{Move}
 use Rattle.mc_windows.specs.declared.desk.Desk.{Desk}
 use Rattle.mc_slots.specs.Chest.{chest_size}
+use Rattle.mc_windows.specs.declared.pack.TheConstants.{MAIN_PILES}
 use Rattle.mc_windows.specs.Pack.{PackValue, pack_size}
 use Rattle.mc_windows.specs.Moves.{at, move, run, sort_of}
 
@@ -94,16 +95,16 @@ abbrev pub places : Order → ℕ
 places ToPlayer = pack_size
 places ToChest = chest_size
 places ToHotbar = 9
-places ToMain = 27
+places ToMain = MAIN_PILES
 places PickedUp = pack_size
 
 abbrev pub picked_up : ℕ → ℕ
-picked_up k = if nat_lt k 9 then 27 + k else k - 9
+picked_up k = if nat_lt k 9 then MAIN_PILES + k else k - 9
 
 abbrev pub place_in : Order → ℕ → Place
 place_in ToPlayer k = Packed (35 - k)
 place_in ToChest k = Chested k
-place_in ToHotbar k = Packed (27 + k)
+place_in ToHotbar k = Packed (MAIN_PILES + k)
 place_in ToMain k = Packed k
 place_in PickedUp k = Packed (picked_up k)
 
@@ -122,7 +123,7 @@ sent from order = to_each (Merge most) from order (places order) ++ to_each (Put
 abbrev pub order_from : Bool → Place → Order
 order_from true (Chested i) = ToPlayer
 order_from true place = ToChest
-order_from false (Packed i) = if nat_lt i 27 then ToHotbar else ToMain
+order_from false (Packed i) = if nat_lt i MAIN_PILES then ToHotbar else ToMain
 order_from false place = ToMain
 
 -- ---- the moves of a row
@@ -151,7 +152,7 @@ plan desk (Left place) = (if are_alike (at desk Cursor) (at desk place)
     then move (Merge most) Cursor place else move Swap Cursor place) ∷ []
 plan desk (Right place) = right place (at desk Cursor) (at desk place) ∷ []
 plan desk (Shift place) = sent place (order_from (is_some desk.chest) place)
-plan desk (Number key place) = move Swap place (Packed (27 + key)) ∷ []
+plan desk (Number key place) = move Swap place (Packed (MAIN_PILES + key)) ∷ []
 plan desk (DropOne place) = fallen desk place 1
 plan desk (DropAll place) = fallen desk place most
 plan desk ThrowAll = move (Put most) Cursor Floor ∷ []

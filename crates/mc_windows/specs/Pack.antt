@@ -7,7 +7,7 @@ use Rattle.mc_slots.specs.declared.pile.Pile.{Pile}
 use Rattle.mc_slots.specs.declared.pile.Pile.TheVariants.{Empty, Full}
 use Rattle.mc_slots.specs.Pile.{IsPile}
 use Rattle.mc_slots.specs.Chest.{pile_at}
-use Rattle.mc_windows.specs.declared.pack.TheConstants.{PACK_PILES, LAST_WINDOW}
+use Rattle.mc_windows.specs.declared.pack.TheConstants.{PACK_PILES, MAIN_PILES, LAST_WINDOW}
 
 -- how many piles a pack has, without the cursor
 abbrev pub pack_size : ℕ
@@ -36,7 +36,7 @@ some_of id count = Full (record { id = pos id; damage = pos 0; count = count })
 -- the pack of who joins for the first time: in the hotbar stone, dirt, planks and chests
 abbrev pub kit_pack : PackValue
 kit_pack = record {
-  slots = replicate 27 Empty ++ some_of 1 64 ∷ some_of 3 64 ∷ some_of 5 64 ∷ some_of 54 4 ∷
+  slots = replicate MAIN_PILES Empty ++ some_of 1 64 ∷ some_of 3 64 ∷ some_of 5 64 ∷ some_of 54 4 ∷
       replicate 5 Empty;
   cursor = Empty;
   window = 0;

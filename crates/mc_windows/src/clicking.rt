@@ -13,7 +13,7 @@ use crate::desk::Desk;
 use crate::floor::Floor;
 use crate::moves::How;
 use crate::order::Order;
-use crate::pack::Pack;
+use crate::pack::{MAIN_PILES, Pack};
 use crate::piles::{are_alike, count, is_empty};
 use crate::place::Place;
 use crate::request::{Click, Why};
@@ -195,7 +195,11 @@ impl Desk {
             Row::Right(place) => self.press_right(place),
             Row::Shift(place) => self.send(place, order_from(self.has_chest(), place)),
             Row::Number(key, place) => {
-                self.make(How::Swap, place, Place::Packed(27 + usize::from(key)));
+                self.make(
+                    How::Swap,
+                    place,
+                    Place::Packed(MAIN_PILES + usize::from(key)),
+                );
             }
             Row::DropOne(place) => self.let_fall(place, 1),
             Row::DropAll(place) => self.let_fall(place, PILE_MAX),
@@ -256,7 +260,7 @@ fn order_from(has_chest: bool, place: Place) -> Order
     match (has_chest, place) {
         (true, Place::Chested(_)) => Order::ToPlayer,
         (true, _) => Order::ToChest,
-        (false, Place::Packed(i)) if i < 27 => Order::ToHotbar,
+        (false, Place::Packed(i)) if i < MAIN_PILES => Order::ToHotbar,
         (false, _) => Order::ToMain,
     }
 }

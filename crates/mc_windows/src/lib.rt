@@ -19,6 +19,6 @@ mod row;
 mod storing;
 
 pub use clicking::{Clicked, click};
-pub use pack::{LAST_WINDOW, PACK_PILES, Pack, answer, begin, finish, kit};
+pub use pack::{LAST_WINDOW, MAIN_PILES, PACK_PILES, Pack, answer, begin, finish, kit};
 pub use request::{Click, Why};
 pub use storing::store;

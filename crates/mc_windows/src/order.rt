@@ -1,8 +1,8 @@
 ghost use Rattle.std.specs.Prelude.{◌≡◌, ◌<◌};
 ghost use Rattle.mc_windows.specs.Clicks.{picked_up, place_in, places};
 
-use crate::PACK_PILES;
 use crate::place::Place;
+use crate::{MAIN_PILES, PACK_PILES};
 use mc_slots::CHEST_PILES;
 
 /// The places to which a pile may go by itself, in their order.
@@ -28,7 +28,7 @@ impl Order {
         match self {
             Order::ToPlayer | Order::PickedUp => PACK_PILES,
             Order::ToChest => CHEST_PILES,
-            Order::ToMain => 27,
+            Order::ToMain => MAIN_PILES,
             Order::ToHotbar => 9,
         }
     }
@@ -41,7 +41,7 @@ impl Order {
         match self {
             Order::ToPlayer => Place::Packed(35 - k),
             Order::ToChest => Place::Chested(k),
-            Order::ToHotbar => Place::Packed(27 + k),
+            Order::ToHotbar => Place::Packed(MAIN_PILES + k),
             Order::ToMain => Place::Packed(k),
             Order::PickedUp => Place::Packed(picked_up(k)),
         }
@@ -53,5 +53,5 @@ fn picked_up(k: usize) -> usize
     requires { k < 36 }
     ensures { result ≡ picked_up k }
 {
-    if k < 9 { 27 + k } else { k - 9 }
+    if k < 9 { MAIN_PILES + k } else { k - 9 }
 }

@@ -12,6 +12,9 @@ use std::marker::Model;
 /// How many piles a pack has, without the cursor.
 pub const PACK_PILES: usize = 36;
 
+/// How many of them are its main part; those behind them are the hotbar.
+pub const MAIN_PILES: usize = 27;
+
 /// The highest number of a window; after it they begin at 1 again.
 pub const LAST_WINDOW: u8 = 100;
 
@@ -123,10 +126,10 @@ pub fn kit() -> Pack
     ensures { result ≡ kit_pack }
 {
     let mut slots = [Pile::Empty; PACK_PILES];
-    slots[27] = some_of(1, 64);
-    slots[28] = some_of(3, 64);
-    slots[29] = some_of(5, 64);
-    slots[30] = some_of(54, 4);
+    slots[MAIN_PILES] = some_of(1, 64);
+    slots[MAIN_PILES + 1] = some_of(3, 64);
+    slots[MAIN_PILES + 2] = some_of(5, 64);
+    slots[MAIN_PILES + 3] = some_of(54, 4);
     Pack {
         slots,
         cursor: Pile::Empty,

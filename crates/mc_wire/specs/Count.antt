@@ -1,3 +1,5 @@
+-- How a count of a device changes over a call, and over any number of calls (a rule of this
+-- project).
 use Rattle.std.specs.Prelude.{◌≡◌, ℕ, ◌+◌, ◌-◌, ◌^◌, ◌<◌, ◌≤◌, ◌⊎◌, min}
 
 -- a count that stands still at the end of its type, after one more

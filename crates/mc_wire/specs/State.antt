@@ -1,3 +1,4 @@
+-- What contracts see of the sources and sinks in memory, and of which of their calls fail.
 use Rattle.std.specs.Prelude.{ℕ, Option, List}
 
 -- a source in memory: the bytes that are left, the numbers of the reads that fail, how many reads

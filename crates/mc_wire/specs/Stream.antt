@@ -1,3 +1,5 @@
+-- How what is left in a source and what a sink holds change over a call, where they tell it (a rule
+-- of this project).
 use Rattle.std.specs.Prelude.{◌≡◌, ℕ, Option, None, Some, List, [], ◌++◌}
 
 -- what was left to read is the bytes and then what is left now, where both are told

@@ -4,6 +4,7 @@ use super::Mark;
 use mc_slots::Pile;
 use mc_told::Clock;
 use mc_view::{Tracker, ViewSet};
+use mc_windows::PACK_PILES;
 
 fn a_clock(_part: &Clock) {}
 
@@ -11,7 +12,7 @@ fn a_view(_part: &Option<ViewSet>) {}
 
 fn a_tracker(_part: &Tracker) {}
 
-fn piles(_part: &[Pile; 36]) {}
+fn piles(_part: &[Pile; PACK_PILES]) {}
 
 /// Names every field of a mark.
 fn name_fields(mark: &Mark) {

@@ -70,8 +70,7 @@ impl Nbt {
         let bytes = input.rest();
         let (name, entries) = read_parts(alloc, input)?;
         let read = Ok(Nbt { name, entries });
-        // For the prover: reading went forward.
-        // Only the prover needs these lines: reading went forward.
+        // Only the prover needs these lines: while the bytes are in use, it knows them to be bytes.
         let left = input.rest().len();
         prove!(left <= bytes.len());
         read
@@ -106,8 +105,8 @@ fn nbt_from(alloc: Global, bytes: &[u8], at: usize) -> Result<(Nbt, usize), Read
 /// The first fault in the order of the bytes, at the first byte of the innermost field that fails:
 /// `Short` where the bytes end in it, `BadTag` at a tag byte that names no kind, or at a first byte
 /// other than that of a compound, `BadLength` at a length that is negative, or not 0 in a list of
-/// End, and `Deep` at the first byte of a list or a compound that stands in 512 others. Repeated
-/// names are kept, in order; names and texts are kept as they are.
+/// End, and `Deep` where a list or a compound stands in 512 others, at the first byte after its
+/// kind and its name. Repeated names are kept, in order; names and texts are kept as they are.
 pub fn read_nbt(alloc: Global, bytes: &[u8], at: usize) -> Result<(Nbt, usize), ReadFault>
     requires { at ≤ length bytes.now }
     // What is read is spelled there.

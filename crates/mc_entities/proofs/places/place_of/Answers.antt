@@ -1,19 +1,17 @@
 use Rattle.std.proofs.Common.{rules}
+use Rattle.std.proofs.lemmas.List.Sorted.{answers_always}
 use Rattle.mc_entities.specs.Folk.{eid_of}
-use Rattle.mc_entities.proofs.NumberFacts.{rise_parted, placed_some, placed_other, placed_past}
+use Rattle.mc_entities.proofs.NumberFacts.{searched_none, searched_some}
 use Rattle.mc_entities.proofs.places.place_of.Goals as goal
 
-pub rank-at-requires : goal.rank-at-requires
-rank-at-requires c = rise_parted eid_of _ _ _ _ c.requires.1
+pub returns-clause-none : goal.returns-clause-none
+returns-clause-none c = searched_none eid_of _ _ _ _ _ _ c.requires.1
+    c.binary_search_by_key.ensures.bound
+    (c.binary_search_by_key.ensures.position eid_of
+    (answers_always _ _ _ (λ f a r g called. search rules))) c.ok.ensures.value
 
-pub returns-then-are_same-clause-some : goal.returns-then-are_same-clause-some
-returns-then-are_same-clause-some c = placed_some eid_of _ _ _ _ _ c.in-Some.entity.now c.requires.1
-    c.in-Some.ensures.lookup.3.0 c.in-Some.ensures.lookup.3.1 (search rules)
-
-pub returns-else-are_same-clause-none : goal.returns-else-are_same-clause-none
-returns-else-are_same-clause-none c = λ _. placed_other eid_of _ _ _ _ _ c.in-Some.entity.now
-    c.requires.1 c.rank-at.ensures.point c.in-Some.ensures.lookup.3.1 (search rules)
-
-pub returns-in-None-clause-none : goal.returns-in-None-clause-none
-returns-in-None-clause-none c = λ _. placed_past eid_of _ _ _ _ _ c.requires.1
-    c.rank-at.ensures.point c.in-None.ensures.lookup.3
+pub returns-clause-some : goal.returns-clause-some
+returns-clause-some c = searched_some eid_of _ _ _ _ _ _ c.requires.1
+    c.binary_search_by_key.ensures.bound
+    (c.binary_search_by_key.ensures.position eid_of
+    (answers_always _ _ _ (λ f a r g called. search rules))) c.ok.ensures.value
