@@ -1,6 +1,7 @@
 ghost use Rattle.std.specs.Prelude.{◌≡◌, ◌+◌, ◌-◌, ◌<◌, ◌≤◌, length, IfOk, OnOk, option_map};
 ghost use Rattle.std.specs.Int.{w8, w16, w32, w64};
 ghost use Rattle.mc_nbt.specs.Reading.{Yields, Gives};
+ghost use Rattle.mc_nbt.specs.CombineBytes.{view_read};
 ghost use Rattle.mc_nbt.specs.NumberBytes.{number_read};
 ghost use Rattle.mc_nbt.specs.Times.{times_at};
 ghost use Rattle.mc_nbt.specs.NbtReading.{signed_at, kind_at, count_at, name_at, bytes_at, ints_at};
@@ -8,6 +9,8 @@ ghost use Rattle.mc_nbt.specs.NbtReading.{leaf_at, list_at, named_at, member_at,
 ghost use Rattle.mc_nbt.specs.NbtReading.{compound_at, value_at, root_at, nbt_at};
 ghost use Rattle.mc_nbt.specs.Nbt.{named};
 ghost use Rattle.mc_nbt.specs.TagView.{tree_of, member_of};
+ghost use Rattle.mc_nbt.specs.Tree.{byte, short, int, long, float, double, byte_array, text};
+ghost use Rattle.mc_nbt.specs.Tree.{int_array};
 
 use crate::values::limits::{COMPOUND, DEPTH_MAX, END, ITEMS_MAX, KIND_MAX};
 use crate::{Cursor, Entries, Ints, Kind, Octets, ReadError, Stop, Tag, Tags};
@@ -41,22 +44,6 @@ fn read_count(input: &mut Cursor<'_>, kind: u8) -> Result<u32, Stop>
 }
 
 #[tactic(auto, unfolding(crate::specs::NbtReading::signed_at, crate::specs::NumberBytes::number_read))]
-fn read_i8(input: &mut Cursor<'_>) -> Result<i8, Stop>
-    ensures gives { Yields (λ number. (number, input.new)) result (signed_at w8 input.old) }
-    ensures shorter { OnOk result (length input.new < length input.old) }
-{
-    Ok(input.u8()?.cast_signed())
-}
-
-#[tactic(auto, unfolding(crate::specs::NbtReading::signed_at, crate::specs::NumberBytes::number_read))]
-fn read_i16(input: &mut Cursor<'_>) -> Result<i16, Stop>
-    ensures gives { Yields (λ number. (number, input.new)) result (signed_at w16 input.old) }
-    ensures shorter { OnOk result (length input.new < length input.old) }
-{
-    Ok(input.u16()?.cast_signed())
-}
-
-#[tactic(auto, unfolding(crate::specs::NbtReading::signed_at, crate::specs::NumberBytes::number_read))]
 fn read_i32(input: &mut Cursor<'_>) -> Result<i32, Stop>
     ensures gives { Yields (λ number. (number, input.new)) result (signed_at w32 input.old) }
     ensures shorter { OnOk result (length input.new < length input.old) }
@@ -64,28 +51,64 @@ fn read_i32(input: &mut Cursor<'_>) -> Result<i32, Stop>
     Ok(input.u32()?.cast_signed())
 }
 
+/// A number of one byte.
 #[tactic(auto, unfolding(crate::specs::NbtReading::signed_at, crate::specs::NumberBytes::number_read))]
-fn read_i64(input: &mut Cursor<'_>) -> Result<i64, Stop>
-    ensures gives { Yields (λ number. (number, input.new)) result (signed_at w64 input.old) }
-    ensures shorter { OnOk result (length input.new < length input.old) }
+fn read_byte(input: &mut Cursor<'_>) -> Result<Tag, ReadError>
+    ensures gives { Gives (λ tag. (tree_of tag, input.new)) result
+        (view_read (signed_at w8) byte input.old) }
+    ensures shorter { OnOk result (length input.new ≤ length input.old) }
 {
-    Ok(input.u64()?.cast_signed())
+    Ok(Tag::Byte(input.u8()?.cast_signed()))
 }
 
-#[tactic(auto, unfolding(crate::specs::NumberBytes::number_read))]
-fn read_u32(input: &mut Cursor<'_>) -> Result<u32, Stop>
-    ensures gives { Yields (λ pattern. (pattern, input.new)) result (number_read w32 input.old) }
-    ensures shorter { OnOk result (length input.new < length input.old) }
+/// A number of two bytes.
+#[tactic(auto, unfolding(crate::specs::NbtReading::signed_at, crate::specs::NumberBytes::number_read))]
+fn read_short(input: &mut Cursor<'_>) -> Result<Tag, ReadError>
+    ensures gives { Gives (λ tag. (tree_of tag, input.new)) result
+        (view_read (signed_at w16) short input.old) }
+    ensures shorter { OnOk result (length input.new ≤ length input.old) }
 {
-    Ok(input.u32()?)
+    Ok(Tag::Short(input.u16()?.cast_signed()))
 }
 
-#[tactic(auto, unfolding(crate::specs::NumberBytes::number_read))]
-fn read_u64(input: &mut Cursor<'_>) -> Result<u64, Stop>
-    ensures gives { Yields (λ pattern. (pattern, input.new)) result (number_read w64 input.old) }
-    ensures shorter { OnOk result (length input.new < length input.old) }
+/// A number of four bytes.
+#[tactic(auto, unfolding(crate::specs::NbtReading::signed_at, crate::specs::NumberBytes::number_read))]
+fn read_int(input: &mut Cursor<'_>) -> Result<Tag, ReadError>
+    ensures gives { Gives (λ tag. (tree_of tag, input.new)) result
+        (view_read (signed_at w32) int input.old) }
+    ensures shorter { OnOk result (length input.new ≤ length input.old) }
 {
-    Ok(input.u64()?)
+    Ok(Tag::Int(input.u32()?.cast_signed()))
+}
+
+/// A number of eight bytes.
+#[tactic(auto, unfolding(crate::specs::NbtReading::signed_at, crate::specs::NumberBytes::number_read))]
+fn read_long(input: &mut Cursor<'_>) -> Result<Tag, ReadError>
+    ensures gives { Gives (λ tag. (tree_of tag, input.new)) result
+        (view_read (signed_at w64) long input.old) }
+    ensures shorter { OnOk result (length input.new ≤ length input.old) }
+{
+    Ok(Tag::Long(input.u64()?.cast_signed()))
+}
+
+/// The pattern of a binary32 number.
+#[tactic(auto, unfolding(crate::specs::NumberBytes::number_read))]
+fn read_float(input: &mut Cursor<'_>) -> Result<Tag, ReadError>
+    ensures gives { Gives (λ tag. (tree_of tag, input.new)) result
+        (view_read (number_read w32) float input.old) }
+    ensures shorter { OnOk result (length input.new ≤ length input.old) }
+{
+    Ok(Tag::Float(input.u32()?))
+}
+
+/// The pattern of a binary64 number.
+#[tactic(auto, unfolding(crate::specs::NumberBytes::number_read))]
+fn read_double(input: &mut Cursor<'_>) -> Result<Tag, ReadError>
+    ensures gives { Gives (λ tag. (tree_of tag, input.new)) result
+        (view_read (number_read w64) double input.old) }
+    ensures shorter { OnOk result (length input.new ≤ length input.old) }
+{
+    Ok(Tag::Double(input.u64()?))
 }
 
 #[tactic(auto, unfolding(crate::specs::NbtReading::name_at, crate::specs::NbtReading::run_at, crate::specs::NumberBytes::number_read, crate::specs::NumberBytes::octets_read))]
@@ -114,6 +137,24 @@ fn read_bytes(alloc: Global, input: &mut Cursor<'_>) -> Result<Octets, ReadError
     Ok(Octets::from_slice(alloc, bytes)?)
 }
 
+/// Bytes behind their number.
+fn read_byte_array(alloc: Global, input: &mut Cursor<'_>) -> Result<Tag, ReadError>
+    ensures gives { Gives (λ tag. (tree_of tag, input.new)) result
+        (view_read bytes_at byte_array input.old) }
+    ensures shorter { OnOk result (length input.new ≤ length input.old) }
+{
+    Ok(Tag::ByteArray(read_bytes(alloc, input)?))
+}
+
+/// A text behind the number of its bytes.
+fn read_str(alloc: Global, input: &mut Cursor<'_>) -> Result<Tag, ReadError>
+    ensures gives { Gives (λ tag. (tree_of tag, input.new)) result
+        (view_read name_at text input.old) }
+    ensures shorter { OnOk result (length input.new ≤ length input.old) }
+{
+    Ok(Tag::Str(read_name(alloc, input)?))
+}
+
 #[tactic(auto, using(crate::proofs::Loops::times_next, crate::proofs::Loops::times_halt, crate::proofs::Loops::times_done, crate::proofs::Loops::times_first))]
 fn read_ints(alloc: Global, input: &mut Cursor<'_>, count: u32) -> Result<Ints, ReadError>
     ensures gives { Gives (λ ints. (ints, input.new)) result (times_at (signed_at w32) count
@@ -127,32 +168,34 @@ fn read_ints(alloc: Global, input: &mut Cursor<'_>, count: u32) -> Result<Ints, 
     Ok(ints)
 }
 
+/// Numbers of four bytes behind how many they are.
 #[tactic(auto, unfolding(crate::specs::NbtReading::ints_at))]
-fn read_int_array(alloc: Global, input: &mut Cursor<'_>) -> Result<Ints, ReadError>
-    ensures gives { Gives (λ ints. (ints, input.new)) result (ints_at input.old) }
+fn read_int_array(alloc: Global, input: &mut Cursor<'_>) -> Result<Tag, ReadError>
+    ensures gives { Gives (λ tag. (tree_of tag, input.new)) result
+        (view_read ints_at int_array input.old) }
     ensures shorter { OnOk result (length input.new ≤ length input.old) }
 {
     let count = read_count(input, 11)?;
-    let ints = read_ints(alloc, input, count)?;
-    Ok(ints)
+    Ok(Tag::IntArray(read_ints(alloc, input, count)?))
 }
 
-/// A value that holds no others. `BadTag` at another kind.
+/// A value that holds no others. `BadTag` at another kind. Each arm is one call, since an arm with
+/// exits of its own is dear to prove.
 #[tactic(auto, unfolding(crate::specs::NbtReading::leaf_at))]
 fn read_leaf(alloc: Global, input: &mut Cursor<'_>, kind: u8) -> Result<Tag, ReadError>
     ensures gives { Gives (λ tag. (tree_of tag, input.new)) result (leaf_at kind input.old) }
     ensures shorter { OnOk result (length input.new ≤ length input.old) }
 {
     match kind {
-        1 => Ok(Tag::Byte(read_i8(input)?)),
-        2 => Ok(Tag::Short(read_i16(input)?)),
-        3 => Ok(Tag::Int(read_i32(input)?)),
-        4 => Ok(Tag::Long(read_i64(input)?)),
-        5 => Ok(Tag::Float(read_u32(input)?)),
-        6 => Ok(Tag::Double(read_u64(input)?)),
-        7 => Ok(Tag::ByteArray(read_bytes(alloc, input)?)),
-        8 => Ok(Tag::Str(read_name(alloc, input)?)),
-        11 => Ok(Tag::IntArray(read_int_array(alloc, input)?)),
+        1 => read_byte(input),
+        2 => read_short(input),
+        3 => read_int(input),
+        4 => read_long(input),
+        5 => read_float(input),
+        6 => read_double(input),
+        7 => read_byte_array(alloc, input),
+        8 => read_str(alloc, input),
+        11 => read_int_array(alloc, input),
         _ => Err(ReadError::Stop(input.stop(Kind::BadTag))),
     }
 }

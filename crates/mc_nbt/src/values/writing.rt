@@ -77,25 +77,25 @@ pub fn kind(tag: &Tag) -> u8
 }
 
 #[cycle(writing)]
+#[tactic(auto, using(crate::proofs::Kept::kept_whole, crate::proofs::Kept::kept_same))]
 fn write_value(tag: &Tag, out: &mut Vec<u8>) -> Result<(), NoMemory>
     requires { Fits (tree_of tag.now) }
     ensures ok { OnOk result (out.new.items ≡ out.old.items ++ payload (tree_of tag.now)) }
     ensures err { OnErr result (take (length out.old.items) out.new.items ≡ out.old.items) }
 {
     match tag {
-        Tag::Byte(number) => write_u8(number.cast_unsigned(), out)?,
-        Tag::Short(number) => write_u16(number.cast_unsigned(), out)?,
-        Tag::Int(number) => write_i32(*number, out)?,
-        Tag::Long(number) => write_u64(number.cast_unsigned(), out)?,
-        Tag::Float(pattern) => write_u32(*pattern, out)?,
-        Tag::Double(pattern) => write_u64(*pattern, out)?,
-        Tag::ByteArray(octets) => write_bytes(octets, out)?,
-        Tag::Str(text) => write_name(text, out)?,
-        Tag::List(kind, tags) => write_list(*kind, tags, out)?,
-        Tag::Compound(entries) => write_entries(entries, out)?,
-        Tag::IntArray(numbers) => write_int_array(numbers.as_slice(), out)?,
+        Tag::Byte(number) => write_u8(number.cast_unsigned(), out),
+        Tag::Short(number) => write_u16(number.cast_unsigned(), out),
+        Tag::Int(number) => write_i32(*number, out),
+        Tag::Long(number) => write_u64(number.cast_unsigned(), out),
+        Tag::Float(pattern) => write_u32(*pattern, out),
+        Tag::Double(pattern) => write_u64(*pattern, out),
+        Tag::ByteArray(octets) => write_bytes(octets, out),
+        Tag::Str(text) => write_name(text, out),
+        Tag::List(kind, tags) => write_list(*kind, tags, out),
+        Tag::Compound(entries) => write_entries(entries, out),
+        Tag::IntArray(numbers) => write_int_array(numbers.as_slice(), out),
     }
-    Ok(())
 }
 
 #[cycle(writing)]
