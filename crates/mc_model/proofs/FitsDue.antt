@@ -12,13 +12,16 @@ use Rattle.mc_land.specs.declared.terrain.Terrain.{Terrain}
 use Rattle.mc_land.specs.Places.{Place}
 use Rattle.mc_slots.specs.declared.slot.Slot.{Slot}
 use Rattle.mc_windows.specs.Pack.{PackValue, IsPack}
+use Rattle.mc_view.specs.Forms.{moves_of}
 use Rattle.mc_down.specs.declared.down.Down.{Down}
 use Rattle.mc_down.specs.declared.down.Down.TheVariants.{SetSlot}
 use Rattle.mc_model.specs.Notes.{Noted}
 use Rattle.mc_model.specs.Packets.{of_play, for_play}
 use Rattle.mc_model.specs.Sight.{Seen, Sight}
-use Rattle.mc_model.specs.Delta.{missing, destroys_point, unload, unloads_point, load, loads_point}
+use Rattle.mc_model.specs.Delta.{missing, leavers_point, joiners_point, destroys_point, unload}
+use Rattle.mc_model.specs.Delta.{unloads_point, load, loads_point, differing, pile_packet}
 use Rattle.mc_model.specs.Delta.{column_changes, cells_point, is_same_slot, entity_packets}
+use Rattle.mc_model.specs.Delta.{pile_packets, moves_packets, beat_point, time_point}
 use Rattle.mc_model.specs.Delta.{entities_point, slot_packets, pack_point, delta, beat_packets}
 use Rattle.mc_model.specs.Delta.{time_packets, chat_packet, chat_point}
 use Rattle.mc_model.specs.Step.{level, placing, notes_of}
@@ -77,7 +80,10 @@ loads_clear p q f =
 column_clear : (e : Place × ColumnValue) → ColumnFits e → (old : Option ColumnValue) →
     AreClear (column_changes e.0 old e.1)
 column_clear e f None = tt
-column_clear e f (Some old) = grind (arith, nat_tests, cells_clear, differing_few, differing_fit)
+column_clear e f (Some old) =
+    cells_clear e.0 e.1.states (differing old.states e.1.states) f.near
+    (differing_few old.states e.1.states)
+    (differing_fit old.states e.1.states f.sizes.states_are f.states)
 
 -- of each column
 changes_clear : (p q : Sight) → SightFits q → AreClear (cells_point p q)
@@ -87,7 +93,15 @@ changes_clear p q f = search (arith, all_flat, column_clear)
 entity_clear : (e : ℤ × Seen) → SeenFits e → (old : Option Seen) →
     AreClear (entity_packets e.0 old e.1)
 entity_clear e f None = spawn_clear e.0 e.1.kind e.1.spot e.1.pile f.eid f.kind f.spot f.pile
-entity_clear e f (Some old) = grind (arith, nat_tests, all_joined, moves_clear, pile_slot_clear)
+entity_clear e f (Some old) =
+    all_joined (λ (packet : Down). IsClear for_play (of_play packet))
+    (moves_packets e.0 e.1.spot (moves_of old.spot e.1.spot))
+    (pile_packets e.0 e.1.kind old.pile e.1.pile)
+    (moves_clear e.0 old.spot e.1.spot f.eid f.spot) (tells (is_same_slot old.pile e.1.pile))
+  where
+    tells : (same : Bool) → AreClear (cond same [] (pile_packet e.0 e.1.kind e.1.pile ∷ []))
+    tells true = tt
+    tells false = (pile_slot_clear e.0 e.1.kind e.1.pile f.eid f.pile, tt)
 
 -- each of them
 entities_clear : (p q : Sight) → SightFits q → AreClear (entities_point p q)
@@ -137,24 +151,20 @@ said_clear p q f =
 pub delta_clear : (p q : Sight) → SightFits p → SightFits q → AreClear (delta p q)
 unfolding delta
 delta_clear p q f g =
-    grind (
-      arith,
-      nat_tests,
-      all_joined,
-      beats_clear,
-      changes_clear,
-      destroys_clear,
-      entities_clear,
-      joiners_clear,
-      leavers_clear,
-      loads_clear,
-      missing_few,
-      missing_fits,
-      pack_clear,
-      said_clear,
-      times_clear,
-      unloads_clear,
-    )
+    let P : Down → Type 0 = λ packet. IsClear for_play (of_play packet) in
+    all_joined P (beat_point p q) _ (beats_clear p.beat q.beat g.beat) (
+    all_joined P (time_point p q) _ (times_clear p.age q.age g.age) (
+    all_joined P (leavers_point p q) _
+    (leavers_clear (missing p.pairs q.pairs) (missing_few p q f) (missing_fits p q f)) (
+    all_joined P (joiners_point p q) _
+    (joiners_clear (missing q.pairs p.pairs) (missing_few q p g) (missing_fits q p g)) (
+    all_joined P (destroys_point p q) _ (destroys_clear p q f) (
+    all_joined P (unloads_point p q) _ (unloads_clear p q f) (
+    all_joined P (loads_point p q) _ (loads_clear p q g) (
+    all_joined P (cells_point p q) _ (changes_clear p q g) (
+    all_joined P (entities_point p q) _ (entities_clear p q g) (
+    all_joined P (pack_point p q) _ (pack_clear p q g) (
+    all_joined P (chat_point p q) [] (said_clear p q g) tt))))))))))
 
 -- ---- the opening and the notes
 
