@@ -6,7 +6,7 @@ use crate::windows::pile_of;
 use mc_fields::Spot;
 use mc_rows::{Answer, Words, look_up};
 use mc_slots::Pile;
-use mc_view::{Columns, Form, Moves, Tracker, ViewSet};
+use mc_view::{Columns, Form, MIDDLE_BORDER, Moves, Tracker, ViewSet};
 
 /// A call of a view or of a tracker.
 #[derive(Clone, Copy)]
@@ -49,10 +49,10 @@ fn view_in(words: &mut Words<'_>) -> Option<ViewSet> {
     let cx: i32 = words.number();
     let cz: i32 = words.number();
     let d: u8 = words.number();
-    if cx < -1_875_000 || 1_875_000 < cx {
+    if MIDDLE_BORDER < cx.unsigned_abs() {
         return None;
     }
-    if cz < -1_875_000 || 1_875_000 < cz || 8 < d {
+    if MIDDLE_BORDER < cz.unsigned_abs() || 8 < d {
         return None;
     }
     Some(ViewSet::of(cx, cz, d))
