@@ -187,6 +187,7 @@ fn text(words: &mut Words<'_>, answer: &mut Answer) {
             answer.text(text.as_str());
             answer.at(end);
             text_again(&input, end, &text, answer);
+            drop(text);
         }
         Err(fault) => answer.read_fault(fault),
     }

@@ -7,6 +7,7 @@ use mc_fields::Spot;
 use mc_rows::{Answer, Words, look_up};
 use mc_slots::Pile;
 use mc_view::{Columns, Form, Moves, Tracker, ViewSet};
+use std::mem::replace;
 
 /// A call of a view or of a tracker.
 #[derive(Clone, Copy)]
@@ -158,7 +159,7 @@ fn put_step(name: &str, dx: i8, dy: i8, dz: i8, answer: &mut Answer) {
 /// Answers a row of the tracker.
 pub fn tracker(tracker: &mut Tracker, words: &mut Words<'_>, answer: &mut Answer) {
     match call_of(words.word()) {
-        Some(Call::New) => *tracker = Tracker::new(words.alloc),
+        Some(Call::New) => drop(replace(tracker, Tracker::new(words.alloc))),
         Some(Call::Knows) => answer.word(tracker.knows(words.number())),
         Some(Call::Known) => match tracker.known(words.number()) {
             Some(eid) => answer.word(eid),

@@ -323,6 +323,7 @@ fn click_in(words: &mut Words<'_>, answer: &mut Answer) {
     let click = click_of(words, window.pack.window);
     let room = window.room;
     let clicked = mc_windows::click(&mut window.pack, window.chest.as_mut(), &click, room);
+    drop(click);
     put_clicked(clicked, answer);
     put_window(&window, answer);
 }
