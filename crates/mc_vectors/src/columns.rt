@@ -72,6 +72,7 @@ pub fn column(column: &mut Column, words: &mut Words<'_>, answer: &mut Answer) {
 }
 
 /// Answers a call of the column.
+/// Dear to prove: thirteen arms over a column that is lent.
 fn answer_call(call: Call, column: &mut Column, words: &mut Words<'_>, answer: &mut Answer) {
     match call {
         Call::Empty => empty(column, words, answer),

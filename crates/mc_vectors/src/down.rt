@@ -100,6 +100,7 @@ fn put_state(packet: &Down, answer: &mut Answer) {
 }
 
 /// Puts the fields of a packet: the state of the player, and what is kept as it is.
+/// Dear to prove: eight arms in a match on an enum of many forms.
 fn put_own(packet: &Down, answer: &mut Answer) {
     match packet {
         Down::Health(health, food, saturation) => {

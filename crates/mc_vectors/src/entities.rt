@@ -64,6 +64,7 @@ pub fn folk(folk: &mut Folk, words: &mut Words<'_>, answer: &mut Answer) {
 }
 
 /// Answers a call of the folk.
+/// Dear to prove: thirteen arms over a folk that is lent.
 fn answer_call(call: Call, folk: &mut Folk, words: &mut Words<'_>, answer: &mut Answer) {
     match call {
         Call::New => drop(replace(folk, Folk::new(words.alloc))),

@@ -112,6 +112,7 @@ fn call_of(name: &str) -> Option<Call> {
 }
 
 /// Answers a call.
+/// Dear to prove: an arm for each of twenty-three calls.
 fn answer_call(bench: &mut Bench, call: Call, words: &mut Words<'_>, answer: &mut Answer) {
     match call {
         Call::Nbt => nbt::read(words, answer),

@@ -206,6 +206,7 @@ fn nest(maker: &mut Maker, words: &mut Words<'_>, answer: &mut Answer) {
 }
 
 /// Makes a value that is no list and no compound.
+/// Dear to prove: nine words, and a value of many forms for each.
 fn leaf(kind: &str, words: &mut Words<'_>, answer: &mut Answer) -> Tag {
     match kind {
         "byte" => Tag::Byte(words.number()),

@@ -209,6 +209,7 @@ fn put_act_up(packet: &PlayUp, answer: &mut Answer) {
 }
 
 /// Puts the fields of such a packet: what the player writes and sets.
+/// Dear to prove: eight arms in a match on an enum of many forms.
 fn put_words_up(packet: &PlayUp, answer: &mut Answer) {
     match packet {
         PlayUp::Sign {

@@ -156,6 +156,7 @@ fn set_pile(window: &mut Open, name: &str, value: &str) -> Option<()> {
 }
 
 /// The pile of a word.
+/// Dear to prove: five exits.
 pub fn pile_of(word: &str) -> Option<Pile> {
     if word == "empty" {
         return Some(Pile::Empty);
