@@ -18,37 +18,27 @@ impl<'a> Shown<'a> {
 impl<'a> Display for Shown<'a> {
     fn fmt<W: fmt::Write>(&self, f: &mut fmt::Formatter<W>) -> fmt::Result {
         if self.bytes.is_empty() {
-            return write!(f, "-");
+            return f.write_str("-");
         }
         for byte in self.bytes {
-            let byte = OneByte { byte: *byte };
-            write!(f, "{byte}")?;
+            put_shown(*byte, f)?;
         }
         Ok(())
     }
 }
 
-/// One byte as text.
-#[derive(Clone, Copy)]
-struct OneByte {
-    byte: u8,
-}
-
-impl Display for OneByte {
-    fn fmt<W: fmt::Write>(&self, f: &mut fmt::Formatter<W>) -> fmt::Result {
-        let byte = self.byte;
-        if byte == b'\n' {
-            return write!(f, "|");
-        }
-        if byte == b'\\' {
-            return write!(f, "\\\\");
-        }
-        if byte < 0x20 || byte > 0x7e || byte == b'|' {
-            return write!(f, "\\x{byte:02x}");
-        }
-        let letter = char::from(byte);
-        write!(f, "{letter}")
+/// Writes one byte as text.
+fn put_shown<W: fmt::Write>(byte: u8, f: &mut fmt::Formatter<W>) -> fmt::Result {
+    if byte == b'\n' {
+        return f.write_str("|");
     }
+    if byte == b'\\' {
+        return f.write_str("\\\\");
+    }
+    if byte < 0x20 || byte > 0x7e || byte == b'|' {
+        return write!(f, "\\x{byte:02x}");
+    }
+    f.write_char(char::from(byte))
 }
 
 /// Bytes as hex. No bytes are `-`.
@@ -67,7 +57,7 @@ impl<'a> Hex<'a> {
 impl<'a> Display for Hex<'a> {
     fn fmt<W: fmt::Write>(&self, f: &mut fmt::Formatter<W>) -> fmt::Result {
         if self.bytes.is_empty() {
-            return write!(f, "-");
+            return f.write_str("-");
         }
         for byte in self.bytes {
             write!(f, "{byte:02x}")?;

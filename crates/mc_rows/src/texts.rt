@@ -1,6 +1,7 @@
 //! Texts with escapes: `|` is the end of a line, `\xHH` a byte, `\t` a tab, `\r` a return, `\s` a
 //! space, `\e` nothing, and `{UNIT*N}` N times the unit, which has no escapes of its own.
 
+use crate::words::look_up;
 use std::alloc::Global;
 
 /// The bytes of a text with escapes, None where it is none or there is no memory.
@@ -54,16 +55,17 @@ fn push_pieces(bytes: &mut Vec<u8>, text: &str) -> Option<()> {
     Some(())
 }
 
+/// The bytes that a letter behind a backslash stands for.
+const ESCAPES: [(&str, u8); 3] = [("t", b'\t'), ("r", b'\r'), ("s", b' ')];
+
 /// Appends an escape, and what stands behind it.
 fn push_escape(bytes: &mut Vec<u8>, piece: &str) -> Option<()> {
     let (name, rest) = piece.split_at_checked(1)?;
-    match name {
-        "t" => bytes.push(b'\t').ok()?,
-        "r" => bytes.push(b'\r').ok()?,
-        "s" => bytes.push(b' ').ok()?,
-        "x" => return push_byte(bytes, rest),
-        "e" => {}
-        _ => return None,
+    if name == "x" {
+        return push_byte(bytes, rest);
+    }
+    if name != "e" {
+        bytes.push(look_up(&ESCAPES, name)?).ok()?;
     }
     push_plain(bytes, rest.as_bytes())
 }

@@ -31,10 +31,12 @@ pub fn source(words: &mut Words<'_>, answer: &mut Answer) {
         let mut source = SteadySource::new(bytes);
         read_steps(&mut source, words, answer);
         put_held("left", Some(source.left()), answer);
+        drop(source);
     } else {
         let mut source = MemorySource::new(bytes, fails(words, answer));
         read_steps(&mut source, words, answer);
         put_held("left", Some(source.left()), answer);
+        drop(source);
     }
 }
 
@@ -102,11 +104,13 @@ pub fn sink(words: &mut Words<'_>, answer: &mut Answer) {
         let mut sink = SteadySink::new(words.alloc);
         write_steps(&mut sink, words, answer);
         put_held("held", sink.held(), answer);
+        drop(sink);
     } else {
         let fails = fails(words, answer);
         let mut sink = MemorySink::new(words.alloc, fails);
         write_steps(&mut sink, words, answer);
         put_held("held", sink.held(), answer);
+        drop(sink);
     }
 }
 

@@ -3,10 +3,7 @@
 //! makes one.
 
 use crate::fields::packet_read;
-use crate::parts::{
-    cell, double, float, maybe_number, maybe_speed, metas, number, octets, players, records, slot,
-    slots, text, texts, uuid, varints,
-};
+use crate::parts::{Put, put_named};
 use mc_down::{Down, Varints, read_down, read_meta, write_down, write_meta};
 use mc_rows::{Answer, Words};
 
@@ -58,20 +55,21 @@ pub fn meta(words: &mut Words<'_>, answer: &mut Answer) {
     let input = words.marked();
     match read_meta(words.alloc, &input.bytes, input.at) {
         Ok((list, end)) => {
-            metas(&list, answer);
+            (&list).put(answer);
             answer.at(end);
             let mut out = input.front();
             answer.needs(write_meta(&list, &mut out));
+            drop(list);
             answer.again(&input, end, &out);
         }
         Err(fault) => answer.read_fault(fault),
     }
 }
 
-/// Puts the fields of a packet, in their order: the state of the connection.
+/// Puts the fields of a packet, in their order: the connection and what is said.
 fn put_state(packet: &Down, answer: &mut Answer) {
     match packet {
-        Down::KeepAlive(id) => fields!(answer, "KeepAlive", number * id),
+        Down::KeepAlive(id) => put_named("KeepAlive", id, answer),
         Down::JoinGame {
             eid,
             mode,
@@ -79,34 +77,34 @@ fn put_state(packet: &Down, answer: &mut Answer) {
             difficulty,
             max_players,
             level_type,
-            reduced_debug_info: reduced,
+            reduced_debug_info,
         } => {
-            fields!(
-                answer, "JoinGame",
-                number *eid, number *mode, number *dimension, number *difficulty,
-                number *max_players,
-                text level_type, number *reduced
-            )
+            let players = (max_players, level_type, reduced_debug_info);
+            put_named(
+                "JoinGame",
+                ((eid, mode), (dimension, difficulty), players),
+                answer,
+            );
         }
         Down::Respawn {
             dimension,
             difficulty,
             mode,
             level_type,
-        } => fields!(
-            answer, "Respawn", number *dimension, number *difficulty, number *mode,
-            text level_type
-        ),
-        Down::Disconnect(reason) => fields!(answer, "Disconnect", text reason),
+        } => put_named("Respawn", (dimension, difficulty, mode, level_type), answer),
+        Down::Disconnect(reason) => put_named("Disconnect", reason, answer),
+        Down::Chat(json, place) => put_named("Chat", (json, place), answer),
+        Down::List(action, list) => put_named("List", (action, list), answer),
         _ => put_own(packet, answer),
     }
 }
 
-/// Puts the fields of a packet: the state of the player.
+/// Puts the fields of a packet: the state of the player, and what is kept as it is.
+/// Dear to prove: eight arms in a match on an enum of many forms.
 fn put_own(packet: &Down, answer: &mut Answer) {
     match packet {
         Down::Health(health, food, saturation) => {
-            fields!(answer, "Health", float health, number *food, float saturation)
+            put_named("Health", (health, food, saturation), answer);
         }
         Down::PositionLook {
             x,
@@ -115,52 +113,38 @@ fn put_own(packet: &Down, answer: &mut Answer) {
             yaw,
             pitch,
             flags,
-        } => fields!(
-            answer, "PositionLook", double x, double y, double z, float yaw, float pitch,
-            number *flags
+        } => put_named("PositionLook", ((x, y, z), (yaw, pitch, flags)), answer),
+        Down::Held(index) => put_named("Held", index, answer),
+        Down::Experience(bar, level, all) => put_named("Experience", (bar, level, all), answer),
+        Down::Abilities(flags, flying, view) => put_named(
+            "Abilities",
+            (flags, flying, view),
+            answer,
         ),
-        Down::Held(index) => fields!(answer, "Held", number * index),
-        Down::Experience(bar, level, all) => {
-            fields!(answer, "Experience", float bar, number *level, number *all)
-        }
-        Down::Abilities(flags, flying, view) => {
-            fields!(answer, "Abilities", number *flags, float flying, float view)
-        }
-        _ => put_talk(packet, answer),
-    }
-}
-
-/// Puts the fields of a packet: what is said, the list of players, and what is kept as it is.
-fn put_talk(packet: &Down, answer: &mut Answer) {
-    match packet {
-        Down::Chat(json, place) => fields!(answer, "Chat", text json, number *place),
-        Down::List(action, list) => fields!(answer, "List", number *action, players list),
-        Down::TabComplete(list) => fields!(answer, "TabComplete", texts list),
-        Down::Plugin(channel, bytes) => fields!(answer, "Plugin", text channel, octets bytes),
-        Down::Raw(id, bytes) => fields!(answer, "Raw", number *id, octets bytes),
+        Down::TabComplete(list) => put_named("TabComplete", list, answer),
+        Down::Plugin(channel, bytes) => put_named("Plugin", (channel, bytes), answer),
+        Down::Raw(id, bytes) => put_named("Raw", (id, bytes), answer),
         _ => put_spawn(packet, answer),
     }
 }
 
 /// Puts the fields of a packet: entities that come.
 fn put_spawn(packet: &Down, answer: &mut Answer) {
-    // Dear to prove: a call for each field, in a match on an enum of many forms.
     match packet {
         Down::SpawnPlayer {
             eid,
-            uuid: id,
+            uuid,
             x,
             y,
             z,
             yaw,
             pitch,
             item,
-            metas: list,
-        } => fields!(
-            answer, "SpawnPlayer", number *eid, uuid id,
-            number *x, number *y, number *z, number *yaw, number *pitch, number *item,
-            metas list
-        ),
+            metas,
+        } => {
+            let look = (yaw, pitch, item, metas);
+            put_named("SpawnPlayer", ((eid, uuid), (x, y, z), look), answer);
+        }
         Down::SpawnObject {
             eid,
             kind,
@@ -171,12 +155,17 @@ fn put_spawn(packet: &Down, answer: &mut Answer) {
             yaw,
             extra,
             speed,
-        } => fields!(
-            answer, "SpawnObject",
-            number *eid, number *kind, number *x, number *y, number *z, number *pitch, number *yaw,
-            number *extra,
-            maybe_speed speed
-        ),
+        } => {
+            let look = (pitch, yaw, extra, speed);
+            put_named("SpawnObject", ((eid, kind), (x, y, z), look), answer);
+        }
+        _ => put_mob(packet, answer),
+    }
+}
+
+/// Puts the fields of a packet: mobs that come, entities that go, and what they have.
+fn put_mob(packet: &Down, answer: &mut Answer) {
+    match packet {
         Down::SpawnMob {
             eid,
             kind,
@@ -189,78 +178,45 @@ fn put_spawn(packet: &Down, answer: &mut Answer) {
             dx,
             dy,
             dz,
-            metas: list,
-        } => fields!(
-            answer, "SpawnMob",
-            number *eid, number *kind, number *x, number *y, number *z, number *yaw, number *pitch,
-            number *head, number *dx, number *dy, number *dz,
-            metas list
-        ),
-        _ => put_entity(packet, answer),
-    }
-}
-
-/// Puts the fields of a packet: entities that go, and what they have.
-fn put_entity(packet: &Down, answer: &mut Answer) {
-    match packet {
-        Down::Collect(item, taker) => fields!(answer, "Collect", number * item, number * taker),
-        Down::Destroy(list) => fields!(answer, "Destroy", varints list),
-        Down::Meta(eid, list) => fields!(answer, "Meta", number *eid, metas list),
-        Down::Equipment(eid, place, item) => {
-            fields!(answer, "Equipment", number *eid, number *place, slot item)
+            metas,
+        } => {
+            let speed = (dx, dy, dz, metas);
+            put_named(
+                "SpawnMob",
+                ((eid, kind), (x, y, z), (yaw, pitch, head), speed),
+                answer,
+            );
         }
+        Down::Collect(item, taker) => put_named("Collect", (item, taker), answer),
+        Down::Destroy(list) => put_named("Destroy", list, answer),
+        Down::Meta(eid, list) => put_named("Meta", (eid, list), answer),
+        Down::Equipment(eid, place, item) => put_named("Equipment", (eid, place, item), answer),
         _ => put_gesture(packet, answer),
     }
 }
 
-/// Puts the fields of a packet: what entities do.
+/// Puts the fields of a packet: what entities do, and their steps.
 fn put_gesture(packet: &Down, answer: &mut Answer) {
     match packet {
-        Down::Animation(eid, kind) => fields!(answer, "Animation", number * eid, number * kind),
-        Down::Status(eid, kind) => fields!(answer, "Status", number * eid, number * kind),
-        Down::Attach(eid, vehicle, leash) => {
-            fields!(
-                answer,
-                "Attach",
-                number * eid,
-                number * vehicle,
-                number * leash
-            )
-        }
-        _ => put_move(packet, answer),
-    }
-}
-
-/// Puts the fields of a packet: entities that move.
-fn put_move(packet: &Down, answer: &mut Answer) {
-    // Dear to prove: a call for each field, in a match on an enum of many forms.
-    match packet {
-        Down::Velocity { eid, dx, dy, dz } => {
-            fields!(
-                answer,
-                "Velocity",
-                number * eid,
-                number * dx,
-                number * dy,
-                number * dz
-            )
-        }
-        Down::Entity(eid) => fields!(answer, "Entity", number * eid),
+        Down::Animation(eid, kind) => put_named("Animation", (eid, kind), answer),
+        Down::Status(eid, kind) => put_named("Status", (eid, kind), answer),
+        Down::Attach(eid, vehicle, leash) => put_named("Attach", (eid, vehicle, leash), answer),
+        Down::Velocity { eid, dx, dy, dz } => put_named("Velocity", (eid, dx, dy, dz), answer),
+        Down::Entity(eid) => put_named("Entity", eid, answer),
         Down::Step {
             eid,
             dx,
             dy,
             dz,
-            on_ground: ground,
-        } => fields!(
-            answer,
-            "Step",
-            number * eid,
-            number * dx,
-            number * dy,
-            number * dz,
-            number * ground
-        ),
+            on_ground,
+        } => put_named("Step", ((eid, dx, dy), (dz, on_ground)), answer),
+        _ => put_move(packet, answer),
+    }
+}
+
+/// Puts the fields of a packet: entities that are elsewhere or look elsewhere.
+fn put_move(packet: &Down, answer: &mut Answer) {
+    match packet {
         Down::Teleport {
             eid,
             x,
@@ -268,40 +224,18 @@ fn put_move(packet: &Down, answer: &mut Answer) {
             z,
             yaw,
             pitch,
-            on_ground: ground,
-        } => fields!(
-            answer,
+            on_ground,
+        } => put_named(
             "Teleport",
-            number * eid,
-            number * x,
-            number * y,
-            number * z,
-            number * yaw,
-            number * pitch,
-            number * ground
+            ((eid, x, y, z), (yaw, pitch, on_ground)),
+            answer,
         ),
-        _ => put_turn(packet, answer),
-    }
-}
-
-/// Puts the fields of a packet: entities that turn.
-fn put_turn(packet: &Down, answer: &mut Answer) {
-    match packet {
         Down::Look {
             eid,
             yaw,
             pitch,
-            on_ground: ground,
-        } => {
-            fields!(
-                answer,
-                "Look",
-                number * eid,
-                number * yaw,
-                number * pitch,
-                number * ground
-            )
-        }
+            on_ground,
+        } => put_named("Look", (eid, yaw, pitch, on_ground), answer),
         Down::StepLook {
             eid,
             dx,
@@ -309,19 +243,13 @@ fn put_turn(packet: &Down, answer: &mut Answer) {
             dz,
             yaw,
             pitch,
-            on_ground: ground,
-        } => fields!(
-            answer,
+            on_ground,
+        } => put_named(
             "StepLook",
-            number * eid,
-            number * dx,
-            number * dy,
-            number * dz,
-            number * yaw,
-            number * pitch,
-            number * ground
+            ((eid, dx, dy, dz), (yaw, pitch, on_ground)),
+            answer,
         ),
-        Down::HeadLook(eid, yaw) => fields!(answer, "HeadLook", number * eid, number * yaw),
+        Down::HeadLook(eid, yaw) => put_named("HeadLook", (eid, yaw), answer),
         _ => put_world(packet, answer),
     }
 }
@@ -329,32 +257,20 @@ fn put_turn(packet: &Down, answer: &mut Answer) {
 /// Puts the fields of a packet: the world.
 fn put_world(packet: &Down, answer: &mut Answer) {
     match packet {
-        Down::Time(age, day) => fields!(answer, "Time", number * age, number * day),
-        Down::SpawnPosition(place) => fields!(answer, "SpawnPosition", cell place),
-        Down::GameState(kind, value) => fields!(answer, "GameState", number *kind, float value),
-        Down::Difficulty(level) => fields!(answer, "Difficulty", number * level),
-        _ => put_cells(packet, answer),
-    }
-}
-
-/// Puts the fields of a packet: cells of the world.
-fn put_cells(packet: &Down, answer: &mut Answer) {
-    match packet {
+        Down::Time(age, day) => put_named("Time", (age, day), answer),
+        Down::SpawnPosition(place) => put_named("SpawnPosition", place, answer),
+        Down::GameState(kind, value) => put_named("GameState", (kind, value), answer),
+        Down::Difficulty(level) => put_named("Difficulty", level, answer),
         Down::Chunk {
             cx,
             cz,
             ground_up,
             mask,
             body,
-        } => fields!(
-            answer, "Chunk", number *cx, number *cz, number *ground_up, number *mask,
-            octets body
-        ),
-        Down::MultiChange(cx, cz, list) => {
-            fields!(answer, "MultiChange", number *cx, number *cz, records list)
-        }
-        Down::Change(place, state) => fields!(answer, "Change", cell place, number *state),
-        Down::SignEditor(place) => fields!(answer, "SignEditor", cell place),
+        } => put_named("Chunk", ((cx, cz), (ground_up, mask), body), answer),
+        Down::MultiChange(cx, cz, list) => put_named("MultiChange", (cx, cz, list), answer),
+        Down::Change(place, state) => put_named("Change", (place, state), answer),
+        Down::SignEditor(place) => put_named("SignEditor", place, answer),
         _ => put_window(packet, answer),
     }
 }
@@ -366,43 +282,21 @@ fn put_window(packet: &Down, answer: &mut Answer) {
             window,
             kind,
             title,
-            slots: count,
+            slots,
             horse,
-        } => fields!(
-            answer, "OpenWindow", number *window, text kind, text title, number *count,
-            maybe_number horse
+        } => put_named(
+            "OpenWindow",
+            ((window, kind, title), (slots, horse)),
+            answer,
         ),
-        Down::CloseWindow(window) => fields!(answer, "CloseWindow", number * window),
+        Down::CloseWindow(window) => put_named("CloseWindow", window, answer),
         Down::WindowProperty(window, property, value) => {
-            fields!(
-                answer,
-                "WindowProperty",
-                number * window,
-                number * property,
-                number * value
-            )
+            put_named("WindowProperty", (window, property, value), answer);
         }
-        _ => put_slots(packet, answer),
-    }
-}
-
-/// Puts the fields of a packet: what windows hold.
-fn put_slots(packet: &Down, answer: &mut Answer) {
-    match packet {
-        Down::SetSlot(window, index, item) => {
-            fields!(answer, "SetSlot", number *window, number *index, slot item)
-        }
-        Down::WindowItems(window, list) => {
-            fields!(answer, "WindowItems", number *window, slots list)
-        }
+        Down::SetSlot(window, index, item) => put_named("SetSlot", (window, index, item), answer),
+        Down::WindowItems(window, list) => put_named("WindowItems", (window, list), answer),
         Down::Confirm(window, click, accepted) => {
-            fields!(
-                answer,
-                "Confirm",
-                number * window,
-                number * click,
-                number * accepted
-            )
+            put_named("Confirm", (window, click, accepted), answer);
         }
         _ => answer.word("another packet"),
     }

@@ -13,6 +13,7 @@ use mc_entities::{Entity, EntityKind, Folk, FolkFault, Move};
 use mc_fields::Spot;
 use mc_rows::{Answer, Words, look_up};
 use mc_slots::Pile;
+use std::mem::replace;
 
 /// A call of a folk.
 #[derive(Clone, Copy)]
@@ -63,9 +64,10 @@ pub fn folk(folk: &mut Folk, words: &mut Words<'_>, answer: &mut Answer) {
 }
 
 /// Answers a call of the folk.
+/// Dear to prove: thirteen arms over a folk that is lent.
 fn answer_call(call: Call, folk: &mut Folk, words: &mut Words<'_>, answer: &mut Answer) {
     match call {
-        Call::New => *folk = Folk::new(words.alloc),
+        Call::New => drop(replace(folk, Folk::new(words.alloc))),
         Call::Room => answer.word(folk.room()),
         Call::Reserve => answer.needs(folk.reserve(words.number())),
         Call::Spawn => spawn(folk, words, answer),

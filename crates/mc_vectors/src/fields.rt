@@ -96,6 +96,7 @@ fn other_of(name: &str) -> Option<Other> {
 }
 
 /// Answers a row of a field that is no number.
+/// Dear to prove: an arm for each of thirteen calls.
 fn answer_other(other: Other, words: &mut Words<'_>, answer: &mut Answer) {
     match other {
         Other::Write => write(words, answer),
@@ -162,6 +163,7 @@ fn write_next(words: &mut Words<'_>, out: &mut Vec<u8>, answer: &mut Answer) {
 }
 
 /// Writes a number or a truth value.
+/// Dear to prove: eleven arms, each of which reads and writes.
 fn write_number(number: Number, words: &mut Words<'_>, out: &mut Vec<u8>) -> Result<(), NoMemory> {
     match number {
         Number::Bool => write_bool(words.number(), out),
@@ -187,6 +189,7 @@ fn text(words: &mut Words<'_>, answer: &mut Answer) {
             answer.text(text.as_str());
             answer.at(end);
             text_again(&input, end, &text, answer);
+            drop(text);
         }
         Err(fault) => answer.read_fault(fault),
     }
@@ -314,6 +317,7 @@ fn next_step(bytes: &[u8], cursor: &mut Cursor<'_>, words: &mut Words<'_>, answe
 }
 
 /// Reads the next field with a cursor.
+/// Dear to prove: four arms give a result with its place.
 fn take_step(
     step: Step,
     bytes: &[u8],

@@ -19,7 +19,7 @@ pub fn write(words: &mut Words<'_>, answer: &mut Answer) {
 }
 
 /// Puts what a splitter answered, and says whether that is a frame.
-fn put_take(take: Take, answer: &mut Answer) -> bool {
+fn put_take(take: &Take, answer: &mut Answer) -> bool {
     answer.comma();
     match take {
         Take::Frame(frame) => {
@@ -31,7 +31,7 @@ fn put_take(take: Take, answer: &mut Answer) -> bool {
             false
         }
         Take::Bad(fault) => {
-            put_fault(fault, answer);
+            put_fault(*fault, answer);
             false
         }
     }
@@ -51,7 +51,11 @@ fn put_fault(fault: FrameFault, answer: &mut Answer) {
 /// Takes once, and says whether that was a frame.
 fn take(splitter: &mut Splitter, answer: &mut Answer) -> bool {
     match splitter.take() {
-        Ok(take) => put_take(take, answer),
+        Ok(take) => {
+            let is_frame = put_take(&take, answer);
+            drop(take);
+            is_frame
+        }
         Err(NoMemory) => {
             answer.lose();
             false
@@ -77,6 +81,7 @@ pub fn split(words: &mut Words<'_>, answer: &mut Answer) {
             split_step(&mut splitter, words, answer);
         }
     }
+    drop(splitter);
 }
 
 /// Feeds the next bytes, or takes one frame or all.
@@ -117,13 +122,17 @@ pub fn pieces(words: &mut Words<'_>, answer: &mut Answer) {
         take_frames(&mut splitter, answer);
     }
     let _ = take(&mut splitter, answer);
+    drop(splitter);
 }
 
 /// Takes the frames that are there, and says nothing where there are no more.
 fn take_frames(splitter: &mut Splitter, answer: &mut Answer) {
     for _ in 0..20 {
         match splitter.take() {
-            Ok(take) => put_frame(&take, answer),
+            Ok(take) => {
+                put_frame(&take, answer);
+                drop(take);
+            }
             Err(NoMemory) => answer.lose(),
         }
     }
@@ -145,6 +154,7 @@ pub fn outbox(words: &mut Words<'_>, answer: &mut Answer) {
             outbox_step(&mut outbox, words, answer);
         }
     }
+    drop(outbox);
 }
 
 /// The next step with an outbox.
@@ -167,11 +177,18 @@ fn outbox_step(outbox: &mut Outbox, words: &mut Words<'_>, answer: &mut Answer) 
 /// Pushes the next bytes.
 fn push(outbox: &mut Outbox, words: &mut Words<'_>, answer: &mut Answer) {
     match Bytes::copy_from_slice(words.alloc, &words.bytes()) {
-        Ok(piece) if piece.len() <= 1_000_000 && outbox.len() <= 1_000_000 => {
-            answer.needs(outbox.push(piece));
-        }
-        Ok(_) => words.fail(),
+        Ok(piece) => push_piece(outbox, piece, words, answer),
         Err(_) => answer.lose(),
+    }
+}
+
+/// Pushes a piece, where neither it nor what is held is long.
+fn push_piece(outbox: &mut Outbox, piece: Bytes, words: &mut Words<'_>, answer: &mut Answer) {
+    if piece.len() <= 1_000_000 && outbox.len() <= 1_000_000 {
+        answer.needs(outbox.push(piece));
+    } else {
+        drop(piece);
+        words.fail();
     }
 }
 

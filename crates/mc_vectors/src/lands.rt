@@ -14,6 +14,7 @@ use mc_land::{Land, LandFault, Steps, Terrain, Touched};
 use mc_rows::{Answer, Words, look_up};
 use std::alloc::Global;
 use std::marker::Brand;
+use std::mem::replace;
 use std::sync::ledger::{Blank, Ledger};
 
 /// The next words as a terrain.
@@ -130,7 +131,7 @@ pub fn land(ground: &mut Ground, words: &mut Words<'_>, answer: &mut Answer) {
 /// Answers a call of the land.
 fn answer_call(call: Call, ground: &mut Ground, words: &mut Words<'_>, answer: &mut Answer) {
     match call {
-        Call::New => *ground = Ground::new(words.alloc, terrain_in(words)),
+        Call::New => renew(ground, words),
         Call::Settle => ground.land.settle(),
         Call::Shed => shed(&mut ground.land, words),
         Call::Edited => answer.word(ground.land.edited()),
@@ -143,6 +144,12 @@ fn answer_call(call: Call, ground: &mut Ground, words: &mut Words<'_>, answer: &
         Call::Dirty => dirty(&ground.land, words, answer),
         Call::Column => column(ground, words, answer),
     }
+}
+
+/// Makes a land of the next words' terrain alone.
+fn renew(ground: &mut Ground, words: &mut Words<'_>) {
+    let new = Ground::new(words.alloc, terrain_in(words));
+    drop(replace(ground, new));
 }
 
 /// Sets a cell, and puts the state that it had.

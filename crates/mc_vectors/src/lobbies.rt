@@ -15,18 +15,39 @@ use std::alloc::Global;
 pub fn lobby(words: &mut Words<'_>, answer: &mut Answer) {
     let events = entries(words, answer);
     if words.is_next("steady") {
-        let Some(mut lobby) = SteadyLobby::new(words.alloc, events) else {
-            return answer.word("none");
-        };
-        listen(&mut lobby, words, answer);
-        put_log(lobby.log(), answer);
+        steady(events, words, answer);
     } else {
         let troubles = troubles(words, answer);
-        let Some(mut lobby) = MemoryLobby::new(words.alloc, events, troubles) else {
-            return answer.word("none");
-        };
-        listen(&mut lobby, words, answer);
-        put_log(lobby.log(), answer);
+        troubled(events, troubles, words, answer);
+    }
+}
+
+/// Makes a lobby without troubles.
+fn steady(events: Vec<LogEntry>, words: &mut Words<'_>, answer: &mut Answer) {
+    match SteadyLobby::new(words.alloc, events) {
+        Some(mut lobby) => {
+            listen(&mut lobby, words, answer);
+            put_log(lobby.log(), answer);
+            drop(lobby);
+        }
+        None => answer.word("none"),
+    }
+}
+
+/// Makes a lobby with troubles.
+fn troubled(
+    events: Vec<LogEntry>,
+    troubles: Vec<Trouble>,
+    words: &mut Words<'_>,
+    answer: &mut Answer,
+) {
+    match MemoryLobby::new(words.alloc, events, troubles) {
+        Some(mut lobby) => {
+            listen(&mut lobby, words, answer);
+            put_log(lobby.log(), answer);
+            drop(lobby);
+        }
+        None => answer.word("none"),
     }
 }
 
@@ -34,13 +55,19 @@ pub fn lobby(words: &mut Words<'_>, answer: &mut Answer) {
 fn entries(words: &mut Words<'_>, answer: &mut Answer) -> Vec<LogEntry> {
     let mut entries = Vec::new(words.alloc);
     for text in words.word().split(',') {
-        match entry_of(words.alloc, text) {
-            Some(entry) => answer.needs(entries.push(entry)),
-            None if text == "-" => {}
-            None => words.fail(),
+        if text != "-" {
+            push_entry(&mut entries, text, words, answer);
         }
     }
     entries
+}
+
+/// Appends the entry that a text names.
+fn push_entry(entries: &mut Vec<LogEntry>, text: &str, words: &mut Words<'_>, answer: &mut Answer) {
+    match entry_of(words.alloc, text) {
+        Some(entry) => answer.needs(entries.push(entry)),
+        None => words.fail(),
+    }
 }
 
 /// The entry that a text names.

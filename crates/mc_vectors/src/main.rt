@@ -4,14 +4,6 @@
 //! It has no contract of its own: the table that it is run on says what each row answers.
 #![tactic(auto)]
 
-/// Puts a name, and behind it each value as the function before it puts it.
-macro_rules! fields {
-    ($answer:ident, $name:literal, $($put:ident $value:expr),+) => {{
-        $answer.word($name);
-        $($put($value, $answer);)+
-    }};
-}
-
 mod columns;
 mod devices;
 mod down;
@@ -120,6 +112,7 @@ fn call_of(name: &str) -> Option<Call> {
 }
 
 /// Answers a call.
+/// Dear to prove: an arm for each of twenty-three calls.
 fn answer_call(bench: &mut Bench, call: Call, words: &mut Words<'_>, answer: &mut Answer) {
     match call {
         Call::Nbt => nbt::read(words, answer),
@@ -171,6 +164,7 @@ fn answered(bench: &mut Bench, alloc: Global, row: &str) -> Answer {
     let name = words.word();
     call_or_other(bench, name, &mut words, &mut answer);
     if words.are_bad() {
+        drop(answer);
         return Answer::no_such_call(alloc);
     }
     answer

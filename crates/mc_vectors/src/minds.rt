@@ -59,6 +59,7 @@ fn walker_of(dropped: &Rc<Cell<u32>>, text: &str) -> Option<Walker> {
 }
 
 /// Makes minds, goes on with the steps, and drops the minds.
+/// Dear to prove: boxed minds that live through two loops.
 pub fn minds(folk: &mut Folk, words: &mut Words<'_>, answer: &mut Answer) {
     let Ok(dropped) = Rc::new(words.alloc, Cell::new(0)) else {
         return answer.lose();

@@ -11,6 +11,7 @@ pub fn read(words: &mut Words<'_>, answer: &mut Answer) {
         Ok((value, end)) => {
             answer.at(end);
             again(&input, end, &value, answer);
+            drop(value);
         }
         Err(fault) => answer.read_fault(fault),
     }
@@ -20,7 +21,10 @@ pub fn read(words: &mut Words<'_>, answer: &mut Answer) {
 fn again(input: &Marked, end: usize, value: &Nbt, answer: &mut Answer) {
     let mut out = input.front();
     match value.copy() {
-        Ok(copy) => answer.needs(write_nbt(&copy, &mut out)),
+        Ok(copy) => {
+            answer.needs(write_nbt(&copy, &mut out));
+            drop(copy);
+        }
         Err(NoMemory) => answer.lose(),
     }
     answer.again(input, end, &out);
@@ -30,7 +34,10 @@ fn again(input: &Marked, end: usize, value: &Nbt, answer: &mut Answer) {
 pub fn compare(words: &mut Words<'_>, answer: &mut Answer) {
     let one = words.bytes();
     match read_nbt(words.alloc, &one, 0) {
-        Ok((one, _)) => compare_with(&one, words, answer),
+        Ok((one, _)) => {
+            compare_with(&one, words, answer);
+            drop(one);
+        }
         Err(_) => words.fail(),
     }
 }
@@ -39,7 +46,10 @@ pub fn compare(words: &mut Words<'_>, answer: &mut Answer) {
 fn compare_with(one: &Nbt, words: &mut Words<'_>, answer: &mut Answer) {
     let other = words.bytes();
     match read_nbt(words.alloc, &other, 0) {
-        Ok((other, _)) => answer.word(same(one, &other)),
+        Ok((other, _)) => {
+            answer.word(same(one, &other));
+            drop(other);
+        }
         Err(_) => words.fail(),
     }
 }
@@ -94,22 +104,32 @@ impl Maker {
 
     /// Puts a value under a name into what is open; a list takes no name.
     fn put(&mut self, name: Octets, tag: Tag, answer: &mut Answer) {
-        if let Some(open) = self.open.last_mut() {
-            answer.needs(open.put(name, tag));
+        match self.open.last_mut() {
+            Some(open) => answer.needs(open.put(name, tag)),
+            None => {
+                drop(tag);
+                drop(name);
+            }
         }
     }
 
     /// Closes what was opened last.
     fn end(&mut self, answer: &mut Answer) {
-        let Some(open) = self.open.pop() else {
-            return;
-        };
-        let Some(name) = self.names.pop() else {
-            return;
-        };
-        match open.tag() {
+        if let Some(open) = self.open.pop() {
+            self.close(&open, answer);
+            drop(open);
+        }
+    }
+
+    /// Puts a copy of what was closed into what is open then, under its name.
+    fn close(&mut self, closed: &Open, answer: &mut Answer) {
+        let name = self.names.pop().unwrap_or(Octets::new(answer.alloc()));
+        match closed.tag() {
             Ok(tag) => self.put(name, tag, answer),
-            Err(NoMemory) => answer.lose(),
+            Err(NoMemory) => {
+                drop(name);
+                answer.lose();
+            }
         }
     }
 }
@@ -127,9 +147,14 @@ pub fn make(words: &mut Words<'_>, answer: &mut Answer) {
             step(&mut maker, words, answer);
         }
     }
-    match maker.open.pop() {
+    let open = maker.open.pop();
+    drop(maker);
+    match open {
         Some(open) => made(open.named(name), answer),
-        None => words.fail(),
+        None => {
+            drop(name);
+            words.fail();
+        }
     }
 }
 
@@ -139,6 +164,7 @@ fn made(made: Option<Nbt>, answer: &mut Answer) {
         Some(value) => {
             let mut out = Vec::new(answer.alloc());
             answer.needs(write_nbt(&value, &mut out));
+            drop(value);
             answer.bytes(&out);
         }
         None => answer.word("none"),
@@ -180,6 +206,7 @@ fn nest(maker: &mut Maker, words: &mut Words<'_>, answer: &mut Answer) {
 }
 
 /// Makes a value that is no list and no compound.
+/// Dear to prove: nine words, and a value of many forms for each.
 fn leaf(kind: &str, words: &mut Words<'_>, answer: &mut Answer) -> Tag {
     match kind {
         "byte" => Tag::Byte(words.number()),

@@ -10,212 +10,307 @@ use mc_nbt::{Octets, Text};
 use mc_rows::Answer;
 use mc_slots::Slot;
 use mc_up::Hit;
-use std::fmt::Display;
 
-/// Puts a number or a truth value.
-pub fn number<T: Display + Drop>(value: T, answer: &mut Answer) {
-    answer.word(value);
+/// A field, or several in their order.
+pub trait Put: Copy + Drop {
+    /// Puts it behind what an answer has.
+    fn put(self, answer: &mut Answer);
 }
 
-/// Puts a pattern of a binary32 number.
-pub fn float(value: &u32, answer: &mut Answer) {
-    answer.bytes(&value.to_be_bytes());
+/// Puts a name, and fields behind it.
+pub fn put_named<F: Put>(name: &str, fields: F, answer: &mut Answer) {
+    answer.word(name);
+    fields.put(answer);
 }
 
-/// Puts a pattern of a binary64 number.
-pub fn double(value: &u64, answer: &mut Answer) {
-    answer.bytes(&value.to_be_bytes());
+impl<A: Put, B: Put> Put for (A, B) {
+    fn put(self, answer: &mut Answer) {
+        self.0.put(answer);
+        self.1.put(answer);
+    }
 }
 
-/// Puts a UUID.
-pub fn uuid(value: &u128, answer: &mut Answer) {
-    answer.bytes(&value.to_be_bytes());
+impl<A: Put, B: Put, C: Put> Put for (A, B, C) {
+    fn put(self, answer: &mut Answer) {
+        self.0.put(answer);
+        self.1.put(answer);
+        self.2.put(answer);
+    }
 }
 
-/// Puts a text.
-pub fn text(value: &Text, answer: &mut Answer) {
-    answer.text(value.as_str());
+impl<A: Put, B: Put, C: Put, D: Put> Put for (A, B, C, D) {
+    fn put(self, answer: &mut Answer) {
+        self.0.put(answer);
+        self.1.put(answer);
+        self.2.put(answer);
+        self.3.put(answer);
+    }
 }
 
-/// Puts bytes.
-pub fn octets(value: &Octets, answer: &mut Answer) {
-    answer.bytes(value.as_slice());
+impl Put for &bool {
+    fn put(self, answer: &mut Answer) {
+        answer.word(*self);
+    }
 }
 
-/// Puts x, y and z of a place.
-pub fn cell(value: &Cell, answer: &mut Answer) {
-    answer.word(value.x);
-    answer.word(value.y);
-    answer.word(value.z);
+impl Put for &i8 {
+    fn put(self, answer: &mut Answer) {
+        answer.word(*self);
+    }
 }
 
-/// Puts a slot.
-pub fn slot(value: &Slot, answer: &mut Answer) {
-    put_slot(value, answer);
+impl Put for &u8 {
+    fn put(self, answer: &mut Answer) {
+        answer.word(*self);
+    }
 }
 
-/// Puts a text that is there only sometimes.
-pub fn maybe_text(value: &Option<Text>, answer: &mut Answer) {
+impl Put for &i16 {
+    fn put(self, answer: &mut Answer) {
+        answer.word(*self);
+    }
+}
+
+impl Put for &u16 {
+    fn put(self, answer: &mut Answer) {
+        answer.word(*self);
+    }
+}
+
+impl Put for &i32 {
+    fn put(self, answer: &mut Answer) {
+        answer.word(*self);
+    }
+}
+
+impl Put for &i64 {
+    fn put(self, answer: &mut Answer) {
+        answer.word(*self);
+    }
+}
+
+/// The pattern of a binary32 number.
+impl Put for &u32 {
+    fn put(self, answer: &mut Answer) {
+        answer.bytes(&self.to_be_bytes());
+    }
+}
+
+/// The pattern of a binary64 number.
+impl Put for &u64 {
+    fn put(self, answer: &mut Answer) {
+        answer.bytes(&self.to_be_bytes());
+    }
+}
+
+/// A UUID.
+impl Put for &u128 {
+    fn put(self, answer: &mut Answer) {
+        answer.bytes(&self.to_be_bytes());
+    }
+}
+
+impl Put for &Text {
+    fn put(self, answer: &mut Answer) {
+        answer.text(self.as_str());
+    }
+}
+
+impl Put for &Octets {
+    fn put(self, answer: &mut Answer) {
+        answer.bytes(self.as_slice());
+    }
+}
+
+impl Put for &Cell {
+    fn put(self, answer: &mut Answer) {
+        (&self.x, &self.y, &self.z).put(answer);
+    }
+}
+
+impl Put for &Slot {
+    fn put(self, answer: &mut Answer) {
+        put_slot(self, answer);
+    }
+}
+
+/// Puts what is there only sometimes.
+fn put_maybe<'a, T>(value: &'a Option<T>, answer: &mut Answer)
+where
+    &'a T: Put,
+{
     match value {
-        Some(value) => text(value, answer),
+        Some(value) => value.put(answer),
         None => answer.word("none"),
     }
 }
 
-/// Puts a number that is there only sometimes.
-pub fn maybe_number(value: &Option<i32>, answer: &mut Answer) {
-    match value {
-        Some(value) => answer.word(*value),
-        None => answer.word("none"),
+impl Put for &Option<i32> {
+    fn put(self, answer: &mut Answer) {
+        put_maybe(self, answer);
     }
 }
 
-/// Puts a cell that is there only sometimes.
-pub fn maybe_cell(value: &Option<Cell>, answer: &mut Answer) {
-    match value {
-        Some(value) => cell(value, answer),
-        None => answer.word("none"),
+impl Put for &Option<Text> {
+    fn put(self, answer: &mut Answer) {
+        put_maybe(self, answer);
     }
 }
 
-/// Puts where an entity was hit.
-pub fn maybe_hit(value: &Option<Hit>, answer: &mut Answer) {
-    match value {
-        Some(hit) => {
-            float(&hit.x, answer);
-            float(&hit.y, answer);
-            float(&hit.z, answer);
+impl Put for &Option<Cell> {
+    fn put(self, answer: &mut Answer) {
+        put_maybe(self, answer);
+    }
+}
+
+impl Put for &Option<Hit> {
+    fn put(self, answer: &mut Answer) {
+        put_maybe(self, answer);
+    }
+}
+
+impl Put for &Option<Speed> {
+    fn put(self, answer: &mut Answer) {
+        put_maybe(self, answer);
+    }
+}
+
+/// Where an entity was hit.
+impl Put for &Hit {
+    fn put(self, answer: &mut Answer) {
+        (&self.x, &self.y, &self.z).put(answer);
+    }
+}
+
+/// How fast an object moves.
+impl Put for &Speed {
+    fn put(self, answer: &mut Answer) {
+        (&self.x, &self.y, &self.z).put(answer);
+    }
+}
+
+/// A change of a cell.
+impl Put for &Record {
+    fn put(self, answer: &mut Answer) {
+        (&self.place, &self.y, &self.state).put(answer);
+    }
+}
+
+impl Put for &Varints {
+    fn put(self, answer: &mut Answer) {
+        answer.word('[');
+        for value in self.as_slice() {
+            answer.word(*value);
         }
-        None => answer.word("none"),
+        answer.put(']');
     }
 }
 
-/// Puts how fast an object moves.
-pub fn maybe_speed(value: &Option<Speed>, answer: &mut Answer) {
-    match value {
-        Some(speed) => {
-            answer.word(speed.x);
-            answer.word(speed.y);
-            answer.word(speed.z);
+impl Put for &Texts {
+    fn put(self, answer: &mut Answer) {
+        answer.word('[');
+        for value in self.as_slice() {
+            answer.text(value.as_str());
         }
-        None => answer.word("none"),
+        answer.put(']');
     }
 }
 
-/// Puts numbers.
-pub fn varints(list: &Varints, answer: &mut Answer) {
+/// Puts a list, with commas between its elements.
+fn put_all<'a, T>(list: &'a [T], answer: &mut Answer)
+where
+    &'a T: Put,
+{
     answer.word('[');
-    for value in list.as_slice() {
-        answer.word(*value);
-    }
-    answer.put(']');
-}
-
-/// Puts texts.
-pub fn texts(list: &Texts, answer: &mut Answer) {
-    answer.word('[');
-    for value in list.as_slice() {
-        text(value, answer);
-    }
-    answer.put(']');
-}
-
-/// Puts slots, with commas between them.
-pub fn slots(list: &Slots, answer: &mut Answer) {
-    answer.word('[');
-    for value in list.as_slice() {
+    for value in list {
         answer.comma();
-        slot(value, answer);
+        value.put(answer);
     }
     answer.put(']');
 }
 
-/// Puts changes of cells, with commas between them.
-pub fn records(list: &Records, answer: &mut Answer) {
-    answer.word('[');
-    for Record { place, y, state } in list.as_slice() {
-        answer.comma();
-        answer.word(*place);
-        answer.word(*y);
-        answer.word(*state);
+impl Put for &Slots {
+    fn put(self, answer: &mut Answer) {
+        put_all(self.as_slice(), answer);
     }
-    answer.put(']');
 }
 
-/// Puts metadata, with commas between its entries.
-pub fn metas(list: &Metas, answer: &mut Answer) {
-    answer.word('[');
-    for MetaEntry { index, value } in list.as_slice() {
-        answer.comma();
-        answer.word(*index);
-        meta_value(value, answer);
+impl Put for &Records {
+    fn put(self, answer: &mut Answer) {
+        put_all(self.as_slice(), answer);
     }
-    answer.put(']');
 }
 
-/// Puts the value of an entry of metadata.
-fn meta_value(value: &MetaValue, answer: &mut Answer) {
-    match value {
-        MetaValue::Byte(value) => fields!(answer, "byte", number * value),
-        MetaValue::Short(value) => fields!(answer, "short", number * value),
-        MetaValue::Int(value) => fields!(answer, "int", number * value),
-        MetaValue::Float(value) => fields!(answer, "float", float value),
-        MetaValue::Text(value) => fields!(answer, "text", text value),
-        MetaValue::Slot(value) => fields!(answer, "slot", slot value),
-        MetaValue::Ints([x, y, z]) => {
-            fields!(answer, "ints", number * x, number * y, number * z)
+impl Put for &Metas {
+    fn put(self, answer: &mut Answer) {
+        put_all(self.as_slice(), answer);
+    }
+}
+
+impl Put for &Players {
+    fn put(self, answer: &mut Answer) {
+        put_all(self.as_slice(), answer);
+    }
+}
+
+impl Put for &Properties {
+    fn put(self, answer: &mut Answer) {
+        put_all(self.as_slice(), answer);
+    }
+}
+
+impl Put for &MetaEntry {
+    fn put(self, answer: &mut Answer) {
+        (&self.index, &self.value).put(answer);
+    }
+}
+
+impl Put for &MetaValue {
+    fn put(self, answer: &mut Answer) {
+        match self {
+            MetaValue::Byte(value) => put_named("byte", value, answer),
+            MetaValue::Short(value) => put_named("short", value, answer),
+            MetaValue::Int(value) => put_named("int", value, answer),
+            MetaValue::Float(value) => put_named("float", value, answer),
+            MetaValue::Text(value) => put_named("text", value, answer),
+            MetaValue::Slot(value) => put_named("slot", value, answer),
+            MetaValue::Ints([x, y, z]) => put_named("ints", (x, y, z), answer),
+            MetaValue::Floats([x, y, z]) => put_named("floats", (x, y, z), answer),
         }
-        MetaValue::Floats([x, y, z]) => { fields!(answer, "floats", float x, float y, float z) }
     }
 }
 
-/// Puts players, with commas between them.
-pub fn players(list: &Players, answer: &mut Answer) {
-    answer.word('[');
-    for Player { uuid, change } in list.as_slice() {
-        answer.comma();
-        answer.bytes(&uuid.to_be_bytes());
-        player_change(change, answer);
+impl Put for &Player {
+    fn put(self, answer: &mut Answer) {
+        (&self.uuid, &self.change).put(answer);
     }
-    answer.put(']');
 }
 
-/// Puts what changes of a player.
-fn player_change(change: &PlayerChange, answer: &mut Answer) {
-    match change {
-        PlayerChange::Join {
-            name,
-            properties: skin,
-            mode,
-            ping,
-            is_shown,
-            shown,
-        } => fields!(
-            answer, "joins", text name, properties skin, number *mode, number *ping,
-            number *is_shown, maybe_text shown
-        ),
-        PlayerChange::Number(value) => fields!(answer, "has", number * value),
-        PlayerChange::Shown(is_shown, shown) => {
-            fields!(answer, "shows", number *is_shown, maybe_text shown)
+impl Put for &PlayerChange {
+    fn put(self, answer: &mut Answer) {
+        match self {
+            PlayerChange::Join {
+                name,
+                properties,
+                mode,
+                ping,
+                is_shown,
+                shown,
+            } => put_named(
+                "joins",
+                ((name, properties), (mode, ping), (is_shown, shown)),
+                answer,
+            ),
+            PlayerChange::Number(value) => put_named("has", value, answer),
+            PlayerChange::Shown(is_shown, shown) => put_named("shows", (is_shown, shown), answer),
+            PlayerChange::Leave => answer.word("leaves"),
         }
-        PlayerChange::Leave => answer.word("leaves"),
     }
 }
 
-/// Puts properties of a player, with commas between them.
-fn properties(list: &Properties, answer: &mut Answer) {
-    answer.word('[');
-    for property in list.as_slice() {
-        answer.comma();
-        one_property(property, answer);
+impl Put for &Property {
+    fn put(self, answer: &mut Answer) {
+        let name = (&self.name, &self.value);
+        (name, &self.is_signed, &self.signature).put(answer);
     }
-    answer.put(']');
-}
-
-/// Puts a property of a player.
-fn one_property(property: &Property, answer: &mut Answer) {
-    text(&property.name, answer);
-    text(&property.value, answer);
-    answer.word(property.is_signed);
-    maybe_text(&property.signature, answer);
 }

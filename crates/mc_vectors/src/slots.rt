@@ -19,6 +19,7 @@ pub fn read(words: &mut Words<'_>, answer: &mut Answer) {
             put_slot(&slot, answer);
             answer.at(end);
             again(&input, end, &slot, answer);
+            drop(slot);
         }
         Err(fault) => answer.read_fault(fault),
     }
@@ -30,7 +31,10 @@ fn again(input: &Marked, end: usize, slot: &Slot, answer: &mut Answer)
 {
     let mut out = input.front();
     match slot.copy() {
-        Ok(copy) => answer.needs(write_slot(&copy, &mut out)),
+        Ok(copy) => {
+            answer.needs(write_slot(&copy, &mut out));
+            drop(copy);
+        }
         Err(NoMemory) => answer.lose(),
     }
     answer.again(input, end, &out);
@@ -144,7 +148,10 @@ fn split_pile(words: &mut Words<'_>, answer: &mut Answer) {
 fn fits_pile(words: &mut Words<'_>, answer: &mut Answer) {
     let bytes = words.bytes();
     match read_slot(words.alloc, &bytes, 0) {
-        Ok((slot, _)) => answer.word(fits(&slot, pile_in(words))),
+        Ok((slot, _)) => {
+            answer.word(fits(&slot, pile_in(words)));
+            drop(slot);
+        }
         Err(_) => words.fail(),
     }
 }
@@ -177,7 +184,9 @@ fn show_pile(words: &mut Words<'_>, answer: &mut Answer) {
     match worldly(pile_in(words)) {
         Some(pile) => {
             let mut out = Vec::new(words.alloc);
-            answer.needs(write_slot(&pile.slot(), &mut out));
+            let slot = pile.slot();
+            answer.needs(write_slot(&slot, &mut out));
+            drop(slot);
             answer.bytes(&out);
         }
         None => words.fail(),

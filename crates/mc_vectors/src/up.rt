@@ -1,7 +1,7 @@
 //! Packets before play and to the server: `PHASE FRAME` reads one and writes it again.
 
 use crate::fields::packet_read;
-use crate::parts::{cell, double, float, maybe_cell, maybe_hit, number, octets, slot, text, uuid};
+use crate::parts::put_named;
 use mc_rows::{Answer, Words};
 use mc_up::{
     Hand, LoginDown, LoginUp, PlayUp, StatusDown, StatusUp, read_hand, read_login_down,
@@ -32,10 +32,10 @@ fn put_hand(packet: &Hand, answer: &mut Answer) {
             address,
             port,
             next,
-        } => fields!(
-            answer, "Handshake", number *protocol, text address,
-            number *port, number *next, number *next == 1
-        ),
+        } => {
+            put_named("Handshake", (protocol, address, port, next), answer);
+            answer.word(*next == 1);
+        }
     }
 }
 
@@ -46,7 +46,7 @@ pub fn status_up(words: &mut Words<'_>, answer: &mut Answer) {
         Ok(packet) => {
             match packet {
                 StatusUp::Request => answer.word("Request"),
-                StatusUp::Ping(ping) => fields!(answer, "Ping", number ping),
+                StatusUp::Ping(ping) => put_named("Ping", &ping, answer),
             }
             let mut out = Vec::new(words.alloc);
             answer.needs(write_status_up(&packet, &mut out));
@@ -75,8 +75,8 @@ pub fn status_down(words: &mut Words<'_>, answer: &mut Answer) {
 /// Puts the fields of such a packet.
 fn put_status_down(packet: &StatusDown, answer: &mut Answer) {
     match packet {
-        StatusDown::Response(json) => fields!(answer, "Response", text json),
-        StatusDown::Pong(ping) => fields!(answer, "Pong", number * ping),
+        StatusDown::Response(json) => put_named("Response", json, answer),
+        StatusDown::Pong(ping) => put_named("Pong", ping, answer),
     }
 }
 
@@ -86,7 +86,7 @@ pub fn login_up(words: &mut Words<'_>, answer: &mut Answer) {
     match read_login_up(words.alloc, &frame) {
         Ok(packet) => {
             let LoginUp::Start(name) = &packet;
-            fields!(answer, "Start", text name);
+            put_named("Start", name, answer);
             let mut out = Vec::new(words.alloc);
             answer.needs(write_login_up(&packet, &mut out));
             drop(packet);
@@ -114,8 +114,8 @@ pub fn login_down(words: &mut Words<'_>, answer: &mut Answer) {
 /// Puts the fields of such a packet.
 fn put_login_down(packet: &LoginDown, answer: &mut Answer) {
     match packet {
-        LoginDown::Disconnect(reason) => fields!(answer, "Disconnect", text reason),
-        LoginDown::Success(id, name) => fields!(answer, "Success", text id, text name),
+        LoginDown::Disconnect(reason) => put_named("Disconnect", reason, answer),
+        LoginDown::Success(id, name) => put_named("Success", (id, name), answer),
     }
 }
 
@@ -137,14 +137,16 @@ pub fn play_up(words: &mut Words<'_>, answer: &mut Answer) {
 /// Puts the fields of such a packet, in their order.
 fn put_play_up(packet: &PlayUp, answer: &mut Answer) {
     match packet {
-        PlayUp::KeepAlive(id) => fields!(answer, "KeepAlive", number * id),
-        PlayUp::Chat(said) => fields!(answer, "Chat", text said),
-        PlayUp::UseEntity(target, kind, hit) => {
-            fields!(answer, "UseEntity", number *target, number *kind, maybe_hit hit)
+        PlayUp::KeepAlive(id) => put_named("KeepAlive", id, answer),
+        PlayUp::Chat(said) => put_named("Chat", said, answer),
+        PlayUp::UseEntity(target, kind, hit) => put_named("UseEntity", (target, kind, hit), answer),
+        PlayUp::Digging(status, place, face) => put_named("Digging", (status, place, face), answer),
+        PlayUp::CloseWindow(window) => put_named("CloseWindow", window, answer),
+        PlayUp::Confirm(window, click, accepted) => {
+            put_named("Confirm", (window, click, accepted), answer);
         }
-        PlayUp::Digging(status, place, face) => {
-            fields!(answer, "Digging", number *status, cell place, number *face)
-        }
+        PlayUp::Creative(index, item) => put_named("Creative", (index, item), answer),
+        PlayUp::Enchant(window, enchantment) => put_named("Enchant", (window, enchantment), answer),
         _ => put_place_up(packet, answer),
     }
 }
@@ -152,27 +154,21 @@ fn put_play_up(packet: &PlayUp, answer: &mut Answer) {
 /// Puts the fields of such a packet: where the player is.
 fn put_place_up(packet: &PlayUp, answer: &mut Answer) {
     match packet {
-        PlayUp::Player(ground) => fields!(answer, "Player", number * ground),
-        PlayUp::Position {
-            x,
-            y,
-            z,
-            on_ground: ground,
-        } => { fields!(answer, "Position", double x, double y, double z, number *ground) }
-        PlayUp::Look(yaw, pitch, ground) => {
-            fields!(answer, "Look", float yaw, float pitch, number *ground)
-        }
+        PlayUp::Player(on_ground) => put_named("Player", on_ground, answer),
+        PlayUp::Position { x, y, z, on_ground } => put_named(
+            "Position",
+            (x, y, z, on_ground),
+            answer,
+        ),
+        PlayUp::Look(yaw, pitch, on_ground) => put_named("Look", (yaw, pitch, on_ground), answer),
         PlayUp::PositionLook {
             x,
             y,
             z,
             yaw,
             pitch,
-            on_ground: ground,
-        } => fields!(
-            answer, "PositionLook", double x, double y, double z, float yaw, float pitch,
-            number *ground
-        ),
+            on_ground,
+        } => put_named("PositionLook", ((x, y, z), (yaw, pitch, on_ground)), answer),
         _ => put_act_up(packet, answer),
     }
 }
@@ -187,62 +183,33 @@ fn put_act_up(packet: &PlayUp, answer: &mut Answer) {
             x,
             y,
             z,
-        } => fields!(
-            answer, "Placement", cell place, number *face, slot item,
-            number *x, number *y, number *z
-        ),
-        PlayUp::Held(index) => fields!(answer, "Held", number * index),
-        PlayUp::Animation => answer.word("Animation"),
-        PlayUp::EntityAction(entity, action, boost) => {
-            fields!(
-                answer,
-                "EntityAction",
-                number * entity,
-                number * action,
-                number * boost
-            )
-        }
-        PlayUp::Steer(sideways, forward, flags) => {
-            fields!(answer, "Steer", float sideways, float forward, number *flags)
-        }
-        _ => put_window_up(packet, answer),
-    }
-}
-
-/// Puts the fields of such a packet: what the player does in a window.
-fn put_window_up(packet: &PlayUp, answer: &mut Answer) {
-    match packet {
-        PlayUp::CloseWindow(window) => fields!(answer, "CloseWindow", number * window),
+        } => put_named("Placement", ((place, face, item), (x, y, z)), answer),
         PlayUp::ClickWindow {
             window,
-            slot: index,
+            slot,
             button,
-            number: click,
+            number,
             mode,
             item,
-        } => fields!(
-            answer, "ClickWindow",
-            number *window, number *index, number *button, number *click, number *mode,
-            slot item
+        } => put_named(
+            "ClickWindow",
+            ((window, slot, button), (number, mode, item)),
+            answer,
         ),
-        PlayUp::Confirm(window, click, accepted) => {
-            fields!(
-                answer,
-                "Confirm",
-                number * window,
-                number * click,
-                number * accepted
-            )
+        PlayUp::Held(index) => put_named("Held", index, answer),
+        PlayUp::Animation => answer.word("Animation"),
+        PlayUp::EntityAction(entity, action, boost) => {
+            put_named("EntityAction", (entity, action, boost), answer);
         }
-        PlayUp::Creative(index, item) => fields!(answer, "Creative", number *index, slot item),
-        PlayUp::Enchant(window, enchantment) => {
-            fields!(answer, "Enchant", number * window, number * enchantment)
+        PlayUp::Steer(sideways, forward, flags) => {
+            put_named("Steer", (sideways, forward, flags), answer);
         }
         _ => put_words_up(packet, answer),
     }
 }
 
-/// Puts the fields of such a packet: what the player writes.
+/// Puts the fields of such a packet: what the player writes and sets.
+/// Dear to prove: eight arms in a match on an enum of many forms.
 fn put_words_up(packet: &PlayUp, answer: &mut Answer) {
     match packet {
         PlayUp::Sign {
@@ -251,9 +218,9 @@ fn put_words_up(packet: &PlayUp, answer: &mut Answer) {
             second,
             third,
             fourth,
-        } => fields!(answer, "Sign", cell place, text first, text second, text third, text fourth),
+        } => put_named("Sign", ((place, first), (second, third, fourth)), answer),
         PlayUp::TabComplete(typed, looks, place) => {
-            fields!(answer, "TabComplete", text typed, number *looks, maybe_cell place)
+            put_named("TabComplete", (typed, looks, place), answer);
         }
         PlayUp::Settings {
             locale,
@@ -261,26 +228,18 @@ fn put_words_up(packet: &PlayUp, answer: &mut Answer) {
             chat_mode,
             colours,
             skin,
-        } => fields!(
-            answer, "Settings", text locale, number *view, number *chat_mode,
-            number *colours, number *skin
+        } => put_named(
+            "Settings",
+            ((locale, view, chat_mode), (colours, skin)),
+            answer,
         ),
-        _ => put_later_up(packet, answer),
-    }
-}
-
-/// Puts the fields of such a packet: what is left.
-fn put_later_up(packet: &PlayUp, answer: &mut Answer) {
-    match packet {
         PlayUp::Abilities(flags, flying, walking) => {
-            fields!(answer, "Abilities", number *flags, float flying, float walking)
+            put_named("Abilities", (flags, flying, walking), answer);
         }
-        PlayUp::ClientStatus(action) => fields!(answer, "ClientStatus", number * action),
-        PlayUp::Plugin(channel, bytes) => fields!(answer, "Plugin", text channel, octets bytes),
-        PlayUp::Spectate(player) => fields!(answer, "Spectate", uuid player),
-        PlayUp::ResourcePack(hash, outcome) => {
-            fields!(answer, "ResourcePack", text hash, number *outcome)
-        }
+        PlayUp::ClientStatus(action) => put_named("ClientStatus", action, answer),
+        PlayUp::Plugin(channel, bytes) => put_named("Plugin", (channel, bytes), answer),
+        PlayUp::Spectate(player) => put_named("Spectate", player, answer),
+        PlayUp::ResourcePack(hash, outcome) => put_named("ResourcePack", (hash, outcome), answer),
         _ => answer.word("another packet"),
     }
 }

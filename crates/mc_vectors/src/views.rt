@@ -7,6 +7,7 @@ use mc_fields::Spot;
 use mc_rows::{Answer, Words, look_up};
 use mc_slots::Pile;
 use mc_view::{Columns, Form, MIDDLE_BORDER, Moves, Tracker, ViewSet};
+use std::mem::replace;
 
 /// A call of a view or of a tracker.
 #[derive(Clone, Copy)]
@@ -81,6 +82,7 @@ fn pile_in(words: &mut Words<'_>) -> Pile {
 }
 
 /// Answers a row of views.
+/// Dear to prove: two exits, and arms with a match in them.
 pub fn view(words: &mut Words<'_>, answer: &mut Answer) {
     let Some(call) = call_of(words.word()) else {
         return words.fail();
@@ -156,9 +158,10 @@ fn put_step(name: &str, dx: i8, dy: i8, dz: i8, answer: &mut Answer) {
 }
 
 /// Answers a row of the tracker.
+/// Dear to prove: seven arms over a tracker that is lent.
 pub fn tracker(tracker: &mut Tracker, words: &mut Words<'_>, answer: &mut Answer) {
     match call_of(words.word()) {
-        Some(Call::New) => *tracker = Tracker::new(words.alloc),
+        Some(Call::New) => drop(replace(tracker, Tracker::new(words.alloc))),
         Some(Call::Knows) => answer.word(tracker.knows(words.number())),
         Some(Call::Known) => match tracker.known(words.number()) {
             Some(eid) => answer.word(eid),

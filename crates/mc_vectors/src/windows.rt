@@ -156,6 +156,7 @@ fn set_pile(window: &mut Open, name: &str, value: &str) -> Option<()> {
 }
 
 /// The pile of a word.
+/// Dear to prove: five exits.
 pub fn pile_of(word: &str) -> Option<Pile> {
     if word == "empty" {
         return Some(Pile::Empty);
@@ -323,6 +324,7 @@ fn click_in(words: &mut Words<'_>, answer: &mut Answer) {
     let click = click_of(words, window.pack.window);
     let room = window.room;
     let clicked = mc_windows::click(&mut window.pack, window.chest.as_mut(), &click, room);
+    drop(click);
     put_clicked(clicked, answer);
     put_window(&window, answer);
 }
