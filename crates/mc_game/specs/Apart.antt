@@ -1,10 +1,48 @@
--- Two worlds that are the same but for one connection, which is closed or not there in both. Rules
--- of this project.
-use Rattle.std.specs.Prelude.{◌≡◌, ◌≢◌, ℕ, true, Option, Some, None}
+-- What one connection does not change of another; and two worlds that are the same but for one
+-- connection, which is closed or not there in both. Rules of this project.
+use Rattle.std.specs.Prelude.{◌≡◌, ◌≢◌, ℕ, true, List, [], Option, Some, None, option_map}
 use Rattle.std.specs.FinMap.{get}
+use lib.IntN.{ℤ}
+use Rattle.mc_model.specs.Run.{to}
 use Rattle.mc_model.specs.World.{is_closed}
+use Rattle.mc_game.specs.declared.player.Player.{Player}
 use Rattle.mc_game.specs.Link.{Link}
-use Rattle.mc_game.specs.World.{World}
+use Rattle.mc_game.specs.World.{Outcome, World}
+
+-- ---- what only its own connection changes
+
+-- what of a player only its own connection changes
+pub record Traits : Type 0 where
+  pub name : List ℕ
+  pub uuid : ℕ
+  pub eid : ℕ
+  pub view_byte : ℤ
+  pub hand : ℕ
+  pub since : ℕ
+
+abbrev pub traits_of : Player → Traits
+traits_of p = record {
+  name = p.name;
+  uuid = p.uuid;
+  eid = p.eid;
+  view_byte = p.view_byte;
+  hand = p.hand;
+  since = p.since;
+}
+
+-- what becomes of the world by one connection hands nothing to any other, and changes of each
+-- neither its stage, its cause, what it is owed and how many answers it misses, nor what is unread
+-- of it, what it was shown, and who its player is
+pub record OnlySender (k : ℕ) (w : World) (o : Outcome) : Type 0 where
+  pub handed : (j : ℕ) → j ≢ k → to j o.out ≡ []
+  pub links : (j : ℕ) → j ≢ k → get o.world.links j ≡ get w.links j
+  pub unread : (j : ℕ) → j ≢ k → get o.world.unread j ≡ get w.unread j
+  pub shown : (j : ℕ) → j ≢ k → get o.world.shown j ≡ get w.shown j
+  pub traits : (j : ℕ) → j ≢ k →
+      option_map traits_of (get o.world.game.players j)
+      ≡ option_map traits_of (get w.game.players j)
+
+-- ---- the same but for one connection
 
 -- a connection is closed, or is not there
 abbrev pub IsShut : Option Link → Type 0

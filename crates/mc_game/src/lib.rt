@@ -5,6 +5,7 @@
 //! the next, and how packets are read and answered.
 #![tactic(auto)]
 
+mod laws;
 mod player;
 mod settings;
 
