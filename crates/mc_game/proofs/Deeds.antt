@@ -3,3 +3,4 @@ pub mod Keeping
 pub mod Coming
 pub mod Packs
 pub mod Onwards
+pub mod Leaving

@@ -1,3 +1,5 @@
 pub mod Maps
 pub mod Deeds
 pub mod Acts
+pub mod Walk
+pub mod Runs

@@ -1,6 +1,7 @@
 -- What holds of a game along every run: whom numbers and names are of, and that a player is one
 -- entity, which holds what its pack has at its hand. Rules of this project.
 use Rattle.std.specs.Prelude.{◌≡◌, ◌≢◌, ◌<◌, ◌≤◌, ℕ, Bool, true, false, List, Option, Some, None}
+use Rattle.std.specs.Prelude.{is_some}
 use Rattle.std.specs.Ordering.{nat_cmp}
 use Rattle.std.specs.FinMap.{FinMap, get}
 use lib.IntN.{pos}
@@ -11,10 +12,14 @@ use Rattle.mc_entities.specs.declared.entity.EntityKind.TheVariants as kinds
 use Rattle.mc_entities.specs.Numbers.{numbered}
 use Rattle.mc_entities.specs.Folk.{eid_of}
 use Rattle.mc_model.specs.Names.{offline_uuid}
+use Rattle.mc_model.specs.Step.{is_new}
 use Rattle.mc_model.specs.Things.{in_hand}
+use Rattle.mc_model.specs.World.{is_play}
 use Rattle.mc_game.specs.declared.player.Player.{Player}
 use Rattle.mc_game.specs.Maps.{name_cmp}
 use Rattle.mc_game.specs.Game.{Game}
+use Rattle.mc_game.specs.Link.{Link}
+use Rattle.mc_game.specs.World.{World}
 
 -- the entity of a player that carries a pack and stands at a spot
 abbrev pub body_of : Player → PackValue → Spot → Entity
@@ -54,3 +59,17 @@ pub record IsWhole (players : FinMap nat_cmp Player) (entities : List Entity) (e
 
 abbrev pub Good : Game → Type 0
 Good g = IsWhole g.players g.entities g.eids g.packs
+
+-- ---- a world
+
+-- whether a connection is in play; one that is not there is not
+abbrev pub in_play : Option Link → Bool
+in_play None = false
+in_play (Some l) = is_play l.stage
+
+-- A game is good, it has players exactly for the connections in play, and no connection has a number
+-- that may join next.
+pub record GoodWorld (w : World) : Type 0 where
+  pub game : Good w.game
+  pub plays : (k : ℕ) → is_some (get w.game.players k) ≡ in_play (get w.links k)
+  pub fresh : (k : ℕ) → is_new k w.last ≡ true → get w.links k ≡ None

@@ -1,14 +1,15 @@
 -- What is found in a finite map of which a value was put in, taken out or changed.
 use Rattle.std.proofs.Common.{◌≡◌, ◌≢◌, ℕ, Bool, true, false, cond, List, [], ◌∷◌, map, arith}
-use Rattle.std.proofs.Common.{Option, Some, None, refl, sym, ap, ◌∙◌, inl, inr}
-use Rattle.std.specs.Prelude.{◌⊎◌, option_map}
+use Rattle.std.proofs.Common.{Option, Some, None, refl, sym, subst, ap, ◌∙◌, inl, inr}
+use Rattle.std.specs.Prelude.{◌⊎◌, ◌||◌, option_map}
 use Rattle.std.proofs.lemmas.Bool.Decides.{nat_tests}
 use Rattle.std.proofs.lemmas.Bool.{eq-eqb, ne_eqb}
+use Rattle.std.specs.List.{list_any}
 use Rattle.std.specs.declared.cmp.Ordering.{Ordering}
 use Rattle.std.specs.Ordering.{nat_cmp, is_eq, eq_by_cmp}
 use Rattle.std.specs.Cmp.{IsTotalOrder, tied_itself, nat_cmp_total, unsigned_tied}
 use Rattle.std.specs.Cmp.Lexicographic.{nat_list_cmp_total}
-use Rattle.std.specs.FinMap.{FinMap, IsAntisymmetric, find, get, insert, remove, entries}
+use Rattle.std.specs.FinMap.{FinMap, IsAntisymmetric, find, get, insert, remove, entries, values}
 use Rattle.std.specs.FinMap.{from_entries, get-entries, get-from_entries, get-insert, get-remove}
 use Rattle.std.specs.FinMap.{same_map, nat_cmp-IsAntisymmetric, slice_cmp-IsAntisymmetric}
 use Rattle.mc_model.proofs.Maps.{equal}
@@ -76,6 +77,32 @@ module _ {K X Y : Type 0} {R : K → K → Ordering} (o : IsTotalOrder R) (same 
       ∙ found_keyed f q (entries m) ∙ ap (option_map (f q)) (sym (get-entries m q))
 
 -- ---- by numbers
+
+pub tied_number : (k : ℕ) → eq_by_cmp nat_cmp k k ≡ true
+tied_number k = tied nat_cmp_total nat_cmp-IsAntisymmetric k
+
+pub untied_number : (j k : ℕ) → j ≢ k → eq_by_cmp nat_cmp j k ≡ false
+untied_number j k ne = apart nat_cmp_total nat_cmp-IsAntisymmetric j k ne
+
+-- what a test says of all values it says of one that is found
+pub any_found : {X : Type 0} (test : X → Bool) (m : FinMap nat_cmp X) (q : ℕ) (x : X) →
+    list_any test (values m) ≡ false → get m q ≡ Some x → test x ≡ false
+any_found {X} test m q x none is = walk (entries m) none (sym (get-entries m q) ∙ is)
+  where
+    walk : (es : List (ℕ × X)) → list_any test (map (λ (e : ℕ × X). e.1) es) ≡ false →
+        find nat_cmp q es ≡ Some x → test x ≡ false
+    walk [] none is = absurd cc
+    walk (e ∷ es) none is = step (eq_by_cmp nat_cmp q e.0) (test e.1) refl none is (walk es)
+      where
+        step : (b t : Bool) → test e.1 ≡ t →
+            (t || list_any test (map (λ (e : ℕ × X). e.1) es)) ≡ false →
+            cond b (Some e.1) (find nat_cmp q es) ≡ Some x →
+            (list_any test (map (λ (e : ℕ × X). e.1) es) ≡ false →
+            find nat_cmp q es ≡ Some x → test x ≡ false) → test x ≡ false
+        step b true t none is later = absurd cc
+        step true false t none is later =
+            (let same : e.1 ≡ x = cc in subst (λ (y : X). test y ≡ false) same t)
+        step false false t none is later = later none is
 
 module _ {X : Type 0} where
   pub put_same : (m : FinMap nat_cmp X) (k : ℕ) (x : X) → get (insert m k x) k ≡ Some x

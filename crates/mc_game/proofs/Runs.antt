@@ -1,0 +1,2 @@
+-- Laws over runs, a file each.
+pub mod Seats

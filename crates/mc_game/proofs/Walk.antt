@@ -1,0 +1,3 @@
+-- What a step can be: the moves of one connection, and of the world.
+pub mod Handings
+pub mod Moves
