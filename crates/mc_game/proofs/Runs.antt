@@ -1,2 +1,3 @@
 -- Laws over runs, a file each.
 pub mod Seats
+pub mod Worlds
