@@ -3,3 +3,4 @@ pub mod Deeds
 pub mod Acts
 pub mod Walk
 pub mod Runs
+pub mod Apart

@@ -4,10 +4,21 @@ use Rattle.std.specs.Prelude.{◌≡◌, ◌≢◌, ℕ, true, List, [], Option,
 use Rattle.std.specs.FinMap.{get}
 use lib.IntN.{ℤ}
 use Rattle.mc_model.specs.Run.{to}
+use Rattle.mc_model.specs.Step.{Event, joined, came, left, broke, ticked, took, forgot}
 use Rattle.mc_model.specs.World.{is_closed}
 use Rattle.mc_game.specs.declared.player.Player.{Player}
 use Rattle.mc_game.specs.Link.{Link}
 use Rattle.mc_game.specs.World.{Outcome, World}
+
+-- an event is of a connection
+abbrev pub IsOf : ℕ → Event → Type 0
+IsOf k (joined j) = j ≡ k
+IsOf k (came j bytes) = j ≡ k
+IsOf k (left j) = j ≡ k
+IsOf k (broke j) = j ≡ k
+IsOf k ticked = ⊥
+IsOf k (took j n) = j ≡ k
+IsOf k (forgot j) = j ≡ k
 
 -- ---- what only its own connection changes
 
@@ -30,9 +41,9 @@ traits_of p = record {
   since = p.since;
 }
 
--- what becomes of the world by one connection hands nothing to any other, and changes of each
--- neither its stage, its cause, what it is owed and how many answers it misses, nor what is unread
--- of it, what it was shown, and who its player is
+-- What becomes of the world by one connection hands nothing to any other. It changes of none its
+-- stage, its cause, what it is owed, how many answers it misses, what is unread of it, what it was
+-- shown, and who its player is.
 pub record OnlySender (k : ℕ) (w : World) (o : Outcome) : Type 0 where
   pub handed : (j : ℕ) → j ≢ k → to j o.out ≡ []
   pub links : (j : ℕ) → j ≢ k → get o.world.links j ≡ get w.links j
@@ -57,3 +68,13 @@ pub record SameBut (k : ℕ) (w v : World) : Type 0 where
   pub shown : (j : ℕ) → j ≢ k → get w.shown j ≡ get v.shown j
   pub shut : IsShut (get w.links k)
   pub shut_too : IsShut (get v.links k)
+
+-- each other connection is handed the same
+abbrev pub HandsAlike : ℕ → Outcome → Outcome → Type 0
+HandsAlike k o q = (j : ℕ) → j ≢ k → to j o.out ≡ to j q.out
+
+-- one step in two worlds that are the same but for a connection: they stay so, and all others are
+-- handed the same
+pub record AlikeBut (k : ℕ) (o q : Outcome) : Type 0 where
+  pub worlds : SameBut k o.world q.world
+  pub hands : HandsAlike k o q

@@ -1,0 +1,5 @@
+-- What connections have to do with one another: nothing but the game.
+pub mod Outs
+pub mod Senders
+pub mod Twins
+pub mod Ticks
