@@ -3,3 +3,4 @@ pub mod Outs
 pub mod Senders
 pub mod Twins
 pub mod Ticks
+pub mod Isolation

@@ -1,6 +1,6 @@
 -- What one connection does not change of another; and two worlds that are the same but for one
 -- connection, which is closed or not there in both. Rules of this project.
-use Rattle.std.specs.Prelude.{◌≡◌, ◌≢◌, ℕ, true, List, [], Option, Some, None, option_map}
+use Rattle.std.specs.Prelude.{◌≡◌, ◌≢◌, ℕ, true, false, List, [], Option, Some, None, option_map}
 use Rattle.std.specs.FinMap.{get}
 use lib.IntN.{ℤ}
 use Rattle.mc_model.specs.Run.{to}
@@ -9,6 +9,7 @@ use Rattle.mc_model.specs.World.{is_closed}
 use Rattle.mc_game.specs.declared.player.Player.{Player}
 use Rattle.mc_game.specs.Link.{Link}
 use Rattle.mc_game.specs.World.{Outcome, World}
+use Rattle.mc_game.specs.Step.{is_crowded}
 
 -- an event is of a connection
 abbrev pub IsOf : ℕ → Event → Type 0
@@ -78,3 +79,13 @@ HandsAlike k o q = (j : ℕ) → j ≢ k → to j o.out ≡ to j q.out
 pub record AlikeBut (k : ℕ) (o q : Outcome) : Type 0 where
   pub worlds : SameBut k o.world q.world
   pub hands : HandsAlike k o q
+
+-- nobody is crowded out by an event
+abbrev pub LetsIn : World → Event → Type 0
+LetsIn w (joined j) = is_crowded w ≡ false
+LetsIn w other = Unit {0}
+
+-- an event that is no join
+abbrev pub IsNoJoin : Event → Type 0
+IsNoJoin (joined j) = ⊥
+IsNoJoin other = Unit {0}

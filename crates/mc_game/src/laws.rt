@@ -1,11 +1,13 @@
-ghost use Rattle.std.specs.Prelude.{List, ℕ};
-ghost use Rattle.mc_model.specs.Step.{Event};
+ghost use Rattle.std.specs.Prelude.{◌≡◌, List, Some, ℕ};
+ghost use Rattle.std.specs.FinMap.{get};
+ghost use Rattle.mc_model.specs.Step.{Event, broke, left};
 ghost use Rattle.mc_game.specs.declared.settings.Settings.{Settings as Begun};
-ghost use Rattle.mc_game.specs.Apart.{IsOf, OnlySender};
+ghost use Rattle.mc_game.specs.Apart.{AlikeBut, IsNoJoin, IsOf, LetsIn, OnlySender, SameBut};
 ghost use Rattle.mc_game.specs.Good.{GoodWorld};
+ghost use Rattle.mc_game.specs.Link.{Link};
 ghost use Rattle.mc_game.specs.Run.{history};
 ghost use Rattle.mc_game.specs.Step.{step};
-ghost use Rattle.mc_game.specs.World.{new_world};
+ghost use Rattle.mc_game.specs.World.{World, new_world};
 
 /// Along every run each player is one entity, which holds what its pack has at its hand; numbers
 /// and identifiers are of one player each; packs are of what a world holds; and there are players
@@ -20,4 +22,19 @@ pub fn only_senders_change()
     ensures { (settings : Begun) (events : List Event) (e : Event) (k : ℕ) → IsOf k e →
         OnlySender k (history (new_world settings) events)
         (step (history (new_world settings) events) e) }
+{}
+
+/// What others do, and ticks, in two worlds that are the same but for one connection leaves them so
+/// and hands all others the same; and whatever is done to that connection in one of them leaves them
+/// so. One that broke leaves the world, but for itself, as if it had gone.
+pub fn connections_are_apart()
+    ensures others { (settings : Begun) (events : List Event) (v : World) (k : ℕ) (e : Event) →
+        SameBut k (history (new_world settings) events) v → (IsOf k e → ⊥) →
+        LetsIn (history (new_world settings) events) e → LetsIn v e →
+        AlikeBut k (step (history (new_world settings) events) e) (step v e) }
+    ensures own { (settings : Begun) (events : List Event) (v : World) (k : ℕ) (e : Event) →
+        SameBut k (history (new_world settings) events) v → IsOf k e → IsNoJoin e →
+        SameBut k (step (history (new_world settings) events) e).world v }
+    ensures broke { (w : World) (k : ℕ) (l : Link) → get w.links k ≡ Some l →
+        SameBut k (step w (broke k)).world (step w (left k)).world }
 {}

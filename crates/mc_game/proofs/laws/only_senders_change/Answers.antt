@@ -1,6 +1,4 @@
 use Rattle.mc_game.proofs.Apart.Senders.{only_sender}
-use Rattle.mc_game.proofs.Apart.Twins.{forget_apart}
-use Rattle.mc_game.proofs.Apart.Ticks.{tick_apart}
 use Rattle.mc_game.proofs.Runs.Worlds.{always_good}
 use Rattle.mc_game.proofs.laws.only_senders_change.Goals as goal
 use Rattle.mc_game.specs.Run.{history}
