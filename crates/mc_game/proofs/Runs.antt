@@ -1,3 +1,4 @@
 -- Laws over runs, a file each.
 pub mod Seats
 pub mod Worlds
+pub mod Owing

@@ -12,8 +12,9 @@ use Rattle.mc_game.specs.Step.{depart, forget, join, joining, on_bytes, step, ta
 use Rattle.mc_game.specs.Good.{GoodWorld}
 use Rattle.mc_game.specs.Apart.{IsOf, OnlySender}
 use Rattle.mc_game.proofs.Maps.Lookups.{gone_other, put_other}
-use Rattle.mc_game.proofs.Walk.Moves.{Walked, bytes_walk, departing_walks, taking_walks}
-use Rattle.mc_game.proofs.Runs.Worlds.{seat_good}
+use Rattle.mc_game.proofs.Walk.Moves.{bytes_walk}
+use Rattle.mc_game.proofs.Runs.Seats.{GoodSeat, departed_seat, taken_seat}
+use Rattle.mc_game.proofs.Runs.Worlds.{first_seat, walked_seat}
 use Rattle.mc_game.proofs.Apart.Outs.{to_other}
 
 nothing_only : (k : ℕ) (w : World) → OnlySender k w (silent w)
@@ -25,14 +26,15 @@ nothing_only k w = record {
   traits = λ j ne. refl;
 }
 
-seat_only : (k : ℕ) (w : World) (f : Seat → Turn) → ((s : Seat) → Walked k s (f s)) →
-    GoodWorld w → OnlySender k w (on_seat w k f)
-seat_only k w f walks a = at_link (get w.links k) refl
+seat_only : (k : ℕ) (w : World) (f : Seat → Turn) →
+    ((l : Link) → get w.links k ≡ Some l → GoodSeat k w.game (f (seat_of w k l)).seat) →
+    OnlySender k w (on_seat w k f)
+seat_only k w f good = at_link (get w.links k) refl
   where
     at_link : (o : Option Link) → get w.links k ≡ o → OnlySender k w (on_link w k f o)
     at_link None is = nothing_only k w
     at_link (Some l) is =
-        let s = seat_good w k l (f (seat_of w k l)) is (walks (seat_of w k l)) a in
+        let s = good l is in
         record {
           handed = λ j ne. to_other k j _ ne;
           links = λ j ne. put_other w.links k j _ ne;
@@ -79,17 +81,21 @@ own_event w (joined j) k is a =
     subst (λ (n : ℕ). OnlySender n w (silent (join w j))) is (join_only j w)
 own_event w (came j bytes) k is a =
     subst (λ (n : ℕ). OnlySender n w (on_seat w j (λ (s : Seat). on_bytes j s bytes))) is
-    (seat_only j w (λ (s : Seat). on_bytes j s bytes) (λ s. bytes_walk j s bytes) a)
+    (seat_only j w (λ (s : Seat). on_bytes j s bytes)
+    (λ l there. walked_seat w j l _ there (bytes_walk j (seat_of w j l) bytes) a))
 own_event w (left j) k is a =
     subst (λ (n : ℕ). OnlySender n w (on_seat w j (depart j causes.Gone))) is
-    (seat_only j w (depart j causes.Gone) (departing_walks j causes.Gone) a)
+    (seat_only j w (depart j causes.Gone)
+    (λ l there. departed_seat j w.game causes.Gone (seat_of w j l) (first_seat w j l there a)))
 own_event w (broke j) k is a =
     subst (λ (n : ℕ). OnlySender n w (on_seat w j (depart j causes.Broke))) is
-    (seat_only j w (depart j causes.Broke) (departing_walks j causes.Broke) a)
+    (seat_only j w (depart j causes.Broke)
+    (λ l there. departed_seat j w.game causes.Broke (seat_of w j l) (first_seat w j l there a)))
 own_event w ticked k is a = absurd is
 own_event w (took j n) k is a =
     subst (λ (m : ℕ). OnlySender m w (on_seat w j (take_from n))) is
-    (seat_only j w (take_from n) (taking_walks j n) a)
+    (seat_only j w (take_from n)
+    (λ l there. taken_seat j w.game n (seat_of w j l) (first_seat w j l there a)))
 own_event w (forgot j) k is a =
     subst (λ (n : ℕ). OnlySender n w (silent (forget w j (get w.links j)))) is
     (forget_only j w (get w.links j))

@@ -8,6 +8,7 @@ use Rattle.std.specs.List.{list_any}
 use Rattle.std.specs.FinMap.{get, len}
 use lib.IntN.{ℤ}
 use Rattle.mc_entities.specs.declared.entity.TheConstants.{EID_MAX}
+use Rattle.mc_model.specs.declared.cause.Cause.{Cause}
 use Rattle.mc_model.specs.declared.cause.Refusal.{Refusal}
 use Rattle.mc_model.specs.declared.cause.Refusal.TheVariants as refusals
 use Rattle.mc_model.specs.declared.stage.Stage.{Stage}
@@ -23,7 +24,7 @@ use Rattle.mc_game.specs.Deeds.{enter_as, new_player}
 use Rattle.mc_game.specs.Leaving.{leave, left_by}
 use Rattle.mc_game.specs.Link.{Handing, Link, gone, hand, mark_closed, quiet}
 use Rattle.mc_game.specs.World.{Seat, Turn}
-use Rattle.mc_game.specs.Step.{entered, heard, refusal, turn}
+use Rattle.mc_game.specs.Step.{depart, entered, heard, refusal, take_from, turn}
 use Rattle.mc_game.specs.Good.{Good}
 use Rattle.mc_game.specs.Apart.{traits_of}
 use Rattle.mc_game.proofs.Maps.Lookups.{any_found, put_other, put_same}
@@ -32,7 +33,7 @@ use Rattle.mc_game.proofs.Deeds.Leaving.{leave_good, leave_other, leave_same, le
 use Rattle.mc_game.proofs.Acts.ActOn.{act_on}
 use Rattle.mc_game.proofs.Walk.Handings.{gone_closed, hand_cases, heard_stage, not_in_play}
 use Rattle.mc_game.proofs.Walk.Moves.{Kept, OutMove, keeps, does, shakes, answers, closes}
-use Rattle.mc_game.proofs.Walk.Moves.{comes_in, departs, takes}
+use Rattle.mc_game.proofs.Walk.Moves.{comes_in}
 
 -- what of a game one connection leaves as it was: the players of others, and what all rests on
 pub record OthersStay (k : ℕ) (g v : Game) : Type 0 where
@@ -168,9 +169,13 @@ seat_kept k before s t ps (comes_in name at free is) a =
     (enter_good k name s.game a.game (free_name s.game s.link.protocol name free))
     (stay_on k before s.game (enter_as k name s.game) a.others (enter_stay k name s.game))
     (λ open_. ap is_some (put_same s.game.players k _)))
-seat_kept k before s t ps (departs cause is) a =
-    subst (λ (x : Turn). GoodSeat k before x.seat) (sym is)
-    (closed_seat k before s (gone cause s.link) a.game a.others (gone_closed cause s.link))
-seat_kept k before s t ps (takes n is) a =
-    subst (λ (x : Turn). GoodSeat k before x.seat) (sym is)
-    (record { game = a.game; plays = a.plays; others = a.others })
+
+-- it goes, or takes some of what it is owed
+pub departed_seat : (k : ℕ) (before : Game) (cause : Cause) (s : Seat) → GoodSeat k before s →
+    GoodSeat k before (depart k cause s).seat
+departed_seat k before cause s a =
+    closed_seat k before s (gone cause s.link) a.game a.others (gone_closed cause s.link)
+
+pub taken_seat : (k : ℕ) (before : Game) (n : ℕ) (s : Seat) → GoodSeat k before s →
+    GoodSeat k before (take_from n s).seat
+taken_seat k before n s a = record { game = a.game; plays = a.plays; others = a.others }

@@ -16,7 +16,7 @@ use Rattle.mc_game.specs.World.{Outcome, Seat, Turn, World, each, new_world, sea
 use Rattle.mc_game.specs.World.{is_closing, with_seat}
 use Rattle.mc_game.specs.Tick.{aged, at_tick, beat, beats, flush, flushed, shown_all, tick, told}
 use Rattle.mc_game.specs.Tick.{told_player}
-use Rattle.mc_game.specs.Step.{is_crowded, joining, step}
+use Rattle.mc_game.specs.Step.{depart, is_crowded, joining, step, take_from}
 use Rattle.mc_game.specs.Run.{history}
 use Rattle.mc_game.specs.Good.{Good, GoodWorld, in_play}
 use Rattle.mc_game.specs.Apart.{traits_of}
@@ -25,20 +25,25 @@ use Rattle.mc_game.proofs.Walk.Each.{ClosesOrStays, beat_stage, closing_plays, e
 use Rattle.mc_game.proofs.Walk.Each.{each_links, each_players, flush_stage, told_good, told_players}
 use Rattle.mc_game.proofs.Walk.Handings.{not_in_play}
 use Rattle.mc_game.proofs.Walk.Moves.{Walked, walked_keeps}
-use Rattle.mc_game.proofs.Walk.Steps.{Move, forgets, joins, passes, rests, sits, step_moves}
-use Rattle.mc_game.proofs.Runs.Seats.{GoodSeat, all_stay, seat_kept}
+use Rattle.mc_game.proofs.Walk.Steps.{Move, departs, forgets, joins, passes, rests, sits}
+use Rattle.mc_game.proofs.Walk.Steps.{step_moves, takes}
+use Rattle.mc_game.proofs.Runs.Seats.{GoodSeat, all_stay, departed_seat, seat_kept, taken_seat}
 
 -- ---- one connection
 
-pub seat_good : (w : World) (k : ℕ) (l : Link) (t : Turn) → get w.links k ≡ Some l →
+pub first_seat : (w : World) (k : ℕ) (l : Link) → get w.links k ≡ Some l → GoodWorld w →
+    GoodSeat k w.game (seat_of w k l)
+first_seat w k l there a = record {
+  game = a.game;
+  plays = a.plays k ∙ ap in_play there;
+  others = all_stay k w.game;
+}
+
+pub walked_seat : (w : World) (k : ℕ) (l : Link) (t : Turn) → get w.links k ≡ Some l →
     Walked k (seat_of w k l) t → GoodWorld w → GoodSeat k w.game t.seat
-seat_good w k l t there walked a =
+walked_seat w k l t there walked a =
     walked_keeps k (λ (s : Seat) ps. GoodSeat k w.game s) (seat_kept k w.game) (seat_of w k l) t []
-    walked (record {
-      game = a.game;
-      plays = a.plays k ∙ ap in_play there;
-      others = all_stay k w.game;
-    })
+    walked (first_seat w k l there a)
 
 -- the traits of nobody are none
 same_there : (a b : Option Player) → option_map traits_of a ≡ option_map traits_of b →
@@ -50,8 +55,8 @@ same_there a b same = sym (traits a) ∙ ap is_some same ∙ traits b
     traits (Some p) = refl
 
 sits_good : (w : World) (k : ℕ) (l : Link) (t : Turn) → get w.links k ≡ Some l →
-    Walked k (seat_of w k l) t → GoodWorld w → GoodWorld (with_seat w k t.seat)
-sits_good w k l t there walked a = let s = seat_good w k l t there walked a in record {
+    GoodSeat k w.game t.seat → GoodWorld w → GoodWorld (with_seat w k t.seat)
+sits_good w k l t there s a = record {
   game = s.game;
   plays = λ j. elim (cases_eq j k) [
     | inl same ↦ rw same (s.plays ∙ ap in_play (sym (put_same w.links k t.seat.link)))
@@ -162,7 +167,16 @@ flushed_world w a = each_world _ (shown_all w)
 moves_good : (w : World) (o : Outcome) → Move w o → GoodWorld w → GoodWorld o.world
 moves_good w o (rests is) a = subst (λ (x : Outcome). GoodWorld x.world) (sym is) a
 moves_good w o (sits k l t there walked is) a =
-    subst (λ (x : Outcome). GoodWorld x.world) (sym is) (sits_good w k l t there walked a)
+    subst (λ (x : Outcome). GoodWorld x.world) (sym is)
+    (sits_good w k l t there (walked_seat w k l t there walked a) a)
+moves_good w o (departs k l cause there wordless is) a =
+    subst (λ (x : Outcome). GoodWorld x.world) (sym is)
+    (sits_good w k l (depart k cause (seat_of w k l)) there
+    (departed_seat k w.game cause (seat_of w k l) (first_seat w k l there a)) a)
+moves_good w o (takes k n l there is) a =
+    subst (λ (x : Outcome). GoodWorld x.world) (sym is)
+    (sits_good w k l (take_from n (seat_of w k l)) there
+    (taken_seat k w.game n (seat_of w k l) (first_seat w k l there a)) a)
 moves_good w o (joins k new is) a =
     subst (λ (x : Outcome). GoodWorld x.world) (sym is) (joins_good w k new a)
 moves_good w o (forgets k l there done is) a =

@@ -1,5 +1,5 @@
--- What can happen to one connection, case by case, with what it is handed: the one relation that
--- every law over runs is proved by. And that whatever bytes come do no more.
+-- What the bytes of one connection can do, case by case, with what it is handed: the one relation
+-- that every law over runs is proved by. And that whatever bytes come do no more.
 use Rattle.std.proofs.Common.{◌≡◌, ℕ, ◌+◌, List, [], ◌∷◌, ◌++◌, refl, sym, subst, ap, ◌∙◌, append_assoc}
 use Rattle.std.specs.Prelude.{Bool, true, false, Option, Some, None, Result, Ok, Err, length}
 use Rattle.std.specs.Prelude.{◌==◌, if◌then◌else◌}
@@ -37,10 +37,10 @@ use Rattle.mc_game.specs.Game.{Game}
 use Rattle.mc_game.specs.Acts.{act}
 use Rattle.mc_game.specs.Link.{disconnect, hand}
 use Rattle.mc_game.specs.World.{Seat, Turn, Unread}
-use Rattle.mc_game.specs.Step.{acted, after, answer_login, asked_by, depart, disconnect_for}
+use Rattle.mc_game.specs.Step.{acted, after, answer_login, asked_by, disconnect_for}
 use Rattle.mc_game.specs.Step.{entered, heard, on_bytes}
 use Rattle.mc_game.specs.Step.{on_cut, on_fault, on_frame, on_frames, perform, read_to, refusal}
-use Rattle.mc_game.specs.Step.{still, take_from, turn, when_open}
+use Rattle.mc_game.specs.Step.{still, turn, when_open}
 
 -- ---- which answers a stage has
 
@@ -130,10 +130,6 @@ pub data OutMove (k : ℕ) (s : Seat) (t : Turn) : Type 0 where
       refusal s.game s.link.protocol name ≡ None →
       t ≡ turn k (entered k s name)
       (hand (entered k s name).link (accepted (offline_uuid name) name)) → OutMove k s t
-  -- it goes
-  departs : (cause : Cause) → t ≡ depart k cause s → OutMove k s t
-  -- it takes some of what it is owed
-  takes : (n : ℕ) → t ≡ take_from n s → OutMove k s t
 
 -- moves one after another
 abbrev pub AreMoves : ℕ → Seat → List Turn → Turn → Type 0
@@ -279,9 +275,3 @@ bytes_walk k s bytes = open_case k s
     (cut_of s.unread.before (s.unread.rest ++ bytes)))
     (λ open_. cut_walks k s (length (s.unread.rest ++ bytes))
     (cut_of s.unread.before (s.unread.rest ++ bytes)))
-
-pub departing_walks : (k : ℕ) (cause : Cause) (s : Seat) → Walked k s (depart k cause s)
-departing_walks k cause s = walked_by k s _ (departs cause refl)
-
-pub taking_walks : (k n : ℕ) (s : Seat) → Walked k s (take_from n s)
-taking_walks k n s = walked_by k s _ (takes n refl)

@@ -1,3 +1,4 @@
+use Rattle.mc_game.proofs.Runs.Owing.{owes_kept}
 use Rattle.mc_game.proofs.Runs.Worlds.{always_good}
 use Rattle.mc_game.proofs.laws.worlds_stay_good.Goals as goal
 
