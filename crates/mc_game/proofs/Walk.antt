@@ -3,3 +3,4 @@ pub mod Handings
 pub mod Moves
 pub mod Each
 pub mod Steps
+pub mod Ticking
