@@ -2,3 +2,5 @@
 pub mod Seats
 pub mod Worlds
 pub mod Owing
+pub mod Effects
+pub mod Promises

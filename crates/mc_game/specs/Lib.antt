@@ -17,3 +17,4 @@ pub mod Step
 pub mod Run
 pub mod Good
 pub mod Apart
+pub mod Promised

@@ -5,6 +5,7 @@ ghost use Rattle.mc_game.specs.declared.settings.Settings.{Settings as Begun};
 ghost use Rattle.mc_game.specs.Apart.{AlikeBut, IsNoJoin, IsOf, LetsIn, OnlySender, SameBut};
 ghost use Rattle.mc_game.specs.Good.{GoodWorld};
 ghost use Rattle.mc_game.specs.Link.{Link};
+ghost use Rattle.mc_game.specs.Promised.{Promised};
 ghost use Rattle.mc_game.specs.Run.{history};
 ghost use Rattle.mc_game.specs.Step.{step};
 ghost use Rattle.mc_game.specs.World.{World, new_world};
@@ -37,4 +38,13 @@ pub fn connections_are_apart()
         SameBut k (step (history (new_world settings) events) e).world v }
     ensures broke { (w : World) (k : ℕ) (l : Link) → get w.links k ≡ Some l →
         SameBut k (step w (broke k)).world (step w (left k)).world }
+{}
+
+/// What a connection took is the first bytes of what was handed to it, also once it is closed and
+/// forgotten. No others are missing but those that it is owed, those that it was owed when it left
+/// or a write to it broke, and those of a connection that was closed since it was owed too many. It
+/// is closed just where a cause is kept of it, which is the first.
+pub fn bytes_are_promised()
+    ensures { (settings : Begun) (events : List Event) (k : ℕ) →
+        Promised k (new_world settings) events }
 {}

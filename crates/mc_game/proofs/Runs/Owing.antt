@@ -1,5 +1,5 @@
 -- What a connection is owed, and why it is closed, after whatever its bytes do.
-use Rattle.std.proofs.Common.{◌≡◌, ℕ, ◌+◌, Bool, true, false, List, [], ◌∷◌, ◌++◌, Option, Some, None}
+use Rattle.std.proofs.Common.{◌≡◌, ◌≢◌, ℕ, ◌+◌, Bool, true, false, List, [], ◌∷◌, ◌++◌, Option, Some, None}
 use Rattle.std.proofs.Common.{refl, sym, subst, ap, ◌∙◌, append_assoc, inl, inr, length}
 use Rattle.std.specs.Prelude.{◌⊎◌, is_some, if◌then◌else◌}
 use Rattle.std.specs.List.{flat_map}
@@ -15,22 +15,23 @@ use Rattle.mc_model.specs.World.{is_closed}
 use Rattle.mc_game.specs.Link.{Handing, Link, gone, hand, mark_closed}
 use Rattle.mc_game.specs.World.{Seat, Turn}
 use Rattle.mc_game.specs.Step.{heard, turn}
+use Rattle.mc_game.specs.Promised.{HasCause}
 use Rattle.mc_game.proofs.Walk.Handings.{hand_cases}
 use Rattle.mc_game.proofs.Walk.Moves.{Kept, OutMove, keeps, does, shakes, answers, closes}
 use Rattle.mc_game.proofs.Walk.Moves.{comes_in}
+
+some_is : {A : Type 0} (a b : A) → ◌≡◌ {A = Option A} (Some a) (Some b) → a ≡ b
+some_is a b e = cc
 
 pub bytes_joined : (ps qs : List Sent) → bytes_of (ps ++ qs) ≡ bytes_of ps ++ bytes_of qs
 bytes_joined [] qs = refl
 bytes_joined (p ∷ ps) qs = ap (λ (bs : List ℕ). frame_of p ++ bs) (bytes_joined ps qs)
     ∙ sym (append_assoc (frame_of p) (bytes_of ps) (bytes_of qs))
 
--- a link is closed just where a cause is kept of it
-pub record HasCause (l : Link) : Type 0 where
-  pub is : is_closed l.stage ≡ is_some l.cause
-
 -- it is owed what it was and what it was handed; or that was too much, and it is closed for it
 abbrev pub IsOwed : Link → List Sent → Link → Type 0
-IsOwed l ps m = (m.owed ≡ l.owed ++ bytes_of ps) ⊎ ((m.owed ≡ []) × (m.cause ≡ Some causes.Backlog))
+IsOwed l ps m = ((m.owed ≡ l.owed ++ bytes_of ps) × (m.cause ≢ Some causes.Backlog))
+    ⊎ ((m.owed ≡ []) × (m.cause ≡ Some causes.Backlog))
 
 -- what becomes of a link by a walk: from an open one on, a first cause is kept
 pub record Owes (l : Link) (m : Link) (ps : List Sent) : Type 0 where
@@ -38,20 +39,24 @@ pub record Owes (l : Link) (m : Link) (ps : List Sent) : Type 0 where
   pub cause : HasCause m
 
 pub handed_owes : (l s m : Link) (ps qs : List Sent) → s.owed ≡ l.owed ++ bytes_of ps →
-    m.owed ≡ s.owed → HasCause m → Owes l (hand m qs).link (ps ++ (hand m qs).handed)
-handed_owes l s m ps qs owed same cause =
+    m.owed ≡ s.owed → m.cause ≢ Some causes.Backlog → HasCause m →
+    Owes l (hand m qs).link (ps ++ (hand m qs).handed)
+handed_owes l s m ps qs owed same other cause =
     hand_cases m qs (λ (h : Handing). Owes l h.link (ps ++ h.handed))
     (λ fits. record {
-      owed = inl (ap (λ (bs : List ℕ). bs ++ bytes_of qs) (same ∙ owed)
-          ∙ append_assoc l.owed (bytes_of ps) (bytes_of qs)
-          ∙ ap (λ (bs : List ℕ). l.owed ++ bs) (sym (bytes_joined ps qs)));
+      owed = inl (
+        ap (λ (bs : List ℕ). bs ++ bytes_of qs) (same ∙ owed)
+            ∙ append_assoc l.owed (bytes_of ps) (bytes_of qs)
+            ∙ ap (λ (bs : List ℕ). l.owed ++ bs) (sym (bytes_joined ps qs)),
+        other,
+      );
       cause = record { is = cause.is };
     })
     (λ much. record { owed = inr (refl, refl); cause = record { is = refl } })
 
 -- an open link owes what it was handed
 open_owed : (l m : Link) (ps : List Sent) → is_closed m.stage ≡ false → Owes l m ps →
-    m.owed ≡ l.owed ++ bytes_of ps
+    (m.owed ≡ l.owed ++ bytes_of ps) × (m.cause ≢ Some causes.Backlog)
 open_owed l m ps open_ o = elim o.owed [
   | inl is ↦ is
   | inr much ↦ (let clash : true ≡ false =
@@ -69,7 +74,7 @@ same_owes : (l m n : Link) (ps : List Sent) → n.owed ≡ m.owed → n.cause �
 same_owes l m n ps owed cause stage o = subst (λ (qs : List Sent). Owes l n qs)
     (sym (append-nil ps)) (record {
       owed = elim (o.owed) as (λ (x : IsOwed l ps m). IsOwed l ps n) [
-        | inl is ↦ inl (owed ∙ is)
+        | inl is ↦ inl (owed ∙ is.0, λ e. is.1 (sym cause ∙ e))
         | inr much ↦ inr (owed ∙ much.0, cause ∙ much.1)
       ];
       cause = record { is = stage ∙ o.cause.is ∙ ap is_some (sym cause) };
@@ -91,14 +96,15 @@ owes_kept k l s t ps (shakes protocol stage at play closed is) o =
     (closed ∙ sym (open_at s.link.stage stages.Hand at refl)) o)
 owes_kept k l s t ps (answers packet at is) o =
     subst (λ (x : Turn). Owes l x.seat.link (ps ++ x.handed)) (sym is)
-    (handed_owes l s.link s.link ps _
-    (open_owed l s.link ps (open_at s.link.stage stages.Status at refl) o) refl o.cause)
-owes_kept k l s t ps (closes cause packets open_ last is) o =
+    (let a = open_owed l s.link ps (open_at s.link.stage stages.Status at refl) o in
+    handed_owes l s.link s.link ps _ a.0 refl a.1 o.cause)
+owes_kept k l s t ps (closes cause packets open_ last other is) o =
     subst (λ (x : Turn). Owes l x.seat.link (ps ++ x.handed)) (sym is)
-    (handed_owes l s.link (mark_closed s.link cause) ps packets (open_owed l s.link ps open_ o) refl
-    (record { is = refl }))
+    (handed_owes l s.link (mark_closed s.link cause) ps packets (open_owed l s.link ps open_ o).0
+    refl (λ e. other (some_is cause causes.Backlog e)) (record { is = refl }))
 owes_kept k l s t ps (comes_in name at free is) o =
     (let open_ = open_at s.link.stage stages.Login at refl in
     subst (λ (x : Turn). Owes l x.seat.link (ps ++ x.handed)) (sym is)
-    (handed_owes l s.link (record s.link { stage = stages.Play }) ps _
-    (open_owed l s.link ps open_ o) refl (record { is = sym open_ ∙ o.cause.is })))
+    (let a = open_owed l s.link ps open_ o in
+    handed_owes l s.link (record s.link { stage = stages.Play }) ps _ a.0 refl a.1
+    (record { is = sym open_ ∙ o.cause.is })))

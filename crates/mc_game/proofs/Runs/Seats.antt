@@ -159,7 +159,7 @@ seat_kept k before s t ps (shakes protocol stage at play closed is) a =
 seat_kept k before s t ps (answers packet at is) a =
     subst (λ (x : Turn). GoodSeat k before x.seat) (sym is)
     (handed_seat k before s s.link _ a.game a.others (λ open_. a.plays))
-seat_kept k before s t ps (closes cause packets open_ last is) a =
+seat_kept k before s t ps (closes cause packets open_ last other is) a =
     subst (λ (x : Turn). GoodSeat k before x.seat) (sym is)
     (handed_seat k before s (mark_closed s.link cause) packets a.game a.others
     (λ open_. absurd cc))

@@ -79,7 +79,7 @@ joining_waits w = elim (is_crowded w) as
     [ true ↦ refl | false ↦ refl ]
 
 -- who may join after another may have joined before it
-new_after : (j k : ℕ) (last : Option ℕ) → is_new k last ≡ true → is_new j (Some k) ≡ true →
+pub new_after : (j k : ℕ) (last : Option ℕ) → is_new k last ≡ true → is_new j (Some k) ≡ true →
     (is_new j last ≡ true) × (j ≢ k)
 new_after j k None new later = (refl, λ same. absurd (omega (arith, same, ltb-true k j later)))
 new_after j k (Some m) new later =
@@ -191,7 +191,7 @@ pub run_good : (w : World) (events : List Event) → GoodWorld w → GoodWorld (
 run_good w [] a = a
 run_good w (e ∷ events) a = run_good (step w e).world events (step_good w e a)
 
-new_good : (settings : Settings) → GoodWorld (new_world settings)
+pub new_good : (settings : Settings) → GoodWorld (new_world settings)
 new_good settings = record {
   game = record {
     own = λ k p is. absurd (nobody (sym (get-empty nat_cmp k) ∙ is));

@@ -1,6 +1,6 @@
 -- What the bytes of one connection can do, case by case, with what it is handed: the one relation
 -- that every law over runs is proved by. And that whatever bytes come do no more.
-use Rattle.std.proofs.Common.{◌≡◌, ℕ, ◌+◌, List, [], ◌∷◌, ◌++◌, refl, sym, subst, ap, ◌∙◌, append_assoc}
+use Rattle.std.proofs.Common.{◌≡◌, ◌≢◌, ℕ, ◌+◌, List, [], ◌∷◌, ◌++◌, refl, sym, subst, ap, ◌∙◌, append_assoc}
 use Rattle.std.specs.Prelude.{Bool, true, false, Option, Some, None, Result, Ok, Err, length}
 use Rattle.std.specs.Prelude.{◌==◌, if◌then◌else◌}
 use Rattle.std.proofs.lemmas.List.{append-nil}
@@ -123,7 +123,7 @@ pub data OutMove (k : ℕ) (s : Seat) (t : Turn) : Type 0 where
       t ≡ turn k s (hand s.link (of_status packet ∷ [])) → OutMove k s t
   -- it is closed, with its last packets
   closes : (cause : Cause) (packets : List Sent) → is_closed s.link.stage ≡ false →
-      AreLast s.link.stage cause packets →
+      AreLast s.link.stage cause packets → cause ≢ causes.Backlog →
       t ≡ turn k s (disconnect s.link cause packets) → OutMove k s t
   -- its player enters
   comes_in : (name : List ℕ) → s.link.stage ≡ stages.Login →
@@ -214,7 +214,8 @@ login_moves : (k : ℕ) (s : Seat) (name : List ℕ) (o : Option Refusal) →
     refusal s.game s.link.protocol name ≡ o → s.link.stage ≡ stages.Login →
     is_closed s.link.stage ≡ false → OutMove k s (answer_login k s name o)
 login_moves k s name (Some why) is at open_ =
-    closes (causes.Refused why) (refused why) open_ (refuses why at refl refl) refl
+    closes (causes.Refused why) (refused why) open_ (refuses why at refl refl)
+    (λ e. cc) refl
 login_moves k s name None is at open_ = comes_in name at is refl
 
 acted_moves : (k : ℕ) (s : Seat) (packet : PlayUp) (o : Option Game) → act s.game k packet ≡ o →
@@ -222,7 +223,8 @@ acted_moves : (k : ℕ) (s : Seat) (packet : PlayUp) (o : Option Game) → act s
     OutMove k s (acted k s packet o)
 acted_moves k s packet (Some g) is at open_ = does packet g at is refl
 acted_moves k s packet None is at open_ =
-    closes causes.BadNumber (farewell s.link.stage causes.BadNumber) open_ (bids_farewell refl) refl
+    closes causes.BadNumber (farewell s.link.stage causes.BadNumber) open_ (bids_farewell refl)
+    (λ e. cc) refl
 
 perform_walks : (k : ℕ) (s : Seat) (x : ClientRequest) → is_closed s.link.stage ≡ false →
     Suits s.link.stage x → Walked k s (perform k s x)
@@ -232,14 +234,14 @@ perform_walks k s (greets protocol stage) open_ fit =
 perform_walks k s (replies packet) open_ fit = walked_by k s _ (answers packet fit refl)
 perform_walks k s (ends packet) open_ fit =
     walked_by k s _ (closes causes.Done (of_status packet ∷ []) open_
-    (pongs packet fit refl refl) refl)
+    (pongs packet fit refl refl) (λ e. cc) refl)
 perform_walks k s (enters name) open_ fit =
     walked_by k s _ (login_moves k s name (refusal s.game s.link.protocol name) refl fit open_)
 perform_walks k s (acts packet) open_ fit =
     walked_by k s _ (acted_moves k s packet (act s.game k packet) refl fit open_)
 perform_walks k s (wrong fault) open_ fit =
     walked_by k s _ (closes (causes.Packet fault) (farewell s.link.stage (causes.Packet fault))
-    open_ (bids_farewell refl) refl)
+    open_ (bids_farewell refl) (λ e. cc) refl)
 
 frame_walks : (k : ℕ) (s : Seat) (frame : List ℕ) → Walked k s (on_frame k s frame)
 unfolding on_frame
@@ -257,7 +259,7 @@ fault_walks k s None = walked_still k s
 fault_walks k s (Some fault) = open_case k s
     (λ (s : Seat). disconnect_for k s (causes.Frame fault))
     (λ open_. walked_by k s _ (closes (causes.Frame fault)
-    (farewell s.link.stage (causes.Frame fault)) open_ (bids_farewell refl) refl))
+    (farewell s.link.stage (causes.Frame fault)) open_ (bids_farewell refl) (λ e. cc) refl))
 
 cut_walks : (k : ℕ) (s : Seat) (count : ℕ) (cut : Cut) → Walked k s (on_cut k s count cut)
 cut_walks k s count cut =

@@ -1,5 +1,3 @@
-use Rattle.mc_game.proofs.Runs.Owing.{owes_kept}
-use Rattle.mc_game.proofs.Walk.Ticking.{tick_cases}
 use Rattle.mc_game.proofs.Runs.Worlds.{always_good}
 use Rattle.mc_game.proofs.laws.worlds_stay_good.Goals as goal
 
