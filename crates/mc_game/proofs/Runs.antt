@@ -4,3 +4,5 @@ pub mod Worlds
 pub mod Owing
 pub mod Effects
 pub mod Promises
+pub mod Closings
+pub mod FirstCauses

@@ -18,3 +18,4 @@ pub mod Run
 pub mod Good
 pub mod Apart
 pub mod Promised
+pub mod Causes

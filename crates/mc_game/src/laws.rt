@@ -3,6 +3,7 @@ ghost use Rattle.std.specs.FinMap.{get};
 ghost use Rattle.mc_model.specs.Step.{Event, broke, left};
 ghost use Rattle.mc_game.specs.declared.settings.Settings.{Settings as Begun};
 ghost use Rattle.mc_game.specs.Apart.{AlikeBut, IsNoJoin, IsOf, LetsIn, OnlySender, SameBut};
+ghost use Rattle.mc_game.specs.Causes.{ClosesFirst};
 ghost use Rattle.mc_game.specs.Good.{GoodWorld};
 ghost use Rattle.mc_game.specs.Link.{Link};
 ghost use Rattle.mc_game.specs.Promised.{Promised};
@@ -47,4 +48,10 @@ pub fn connections_are_apart()
 pub fn bytes_are_promised()
     ensures { (settings : Begun) (events : List Event) (k : ℕ) →
         Promised k (new_world settings) events }
+{}
+
+/// Each event closes just the connections that it has a cause to close, each for that.
+pub fn closed_for_the_first_cause()
+    ensures { (settings : Begun) (events : List Event) (e : Event) →
+        ClosesFirst (history (new_world settings) events) e }
 {}

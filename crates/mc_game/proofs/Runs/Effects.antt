@@ -59,7 +59,7 @@ abbrev Result : ℕ → World → Event → Type 0
 Result k w e = Effect k w.last (get w.links k) (get (step w e).world.links k)
     (to k (step w e).out) (taken_at k w e) (lost_at k w e)
 
-seat_rests : (w : World) (k j : ℕ) (f : Seat → Turn) → j ≢ k →
+pub seat_rests : (w : World) (k j : ℕ) (f : Seat → Turn) → j ≢ k →
     (get (on_seat w j f).world.links k ≡ get w.links k) × (to k (on_seat w j f).out ≡ [])
 seat_rests w k j f ne = at_link (get w.links j)
   where
@@ -91,13 +91,13 @@ not_backlog : (o : Option Cause) → o ≡ None → o ≢ Some causes.Backlog
 not_backlog o none is = (let clash : ◌≡◌ {A = Option Cause} None (Some causes.Backlog) =
     sym none ∙ is in cc)
 
-owes_first : (l : Link) → HasCause l → is_closed l.stage ≡ false → Owes l l []
+pub owes_first : (l : Link) → HasCause l → is_closed l.stage ≡ false → Owes l l []
 owes_first l cause open_ = record {
   owed = inl (sym (append-nil l.owed), not_backlog l.cause (no_cause l cause open_));
   cause = cause;
 }
 
-seat_own : (w : World) (k : ℕ) (l : Link) (f : Seat → Turn) → get w.links k ≡ Some l →
+pub seat_own : (w : World) (k : ℕ) (l : Link) (f : Seat → Turn) → get w.links k ≡ Some l →
     (get (on_seat w k f).world.links k ≡ Some (f (seat_of w k l)).seat.link)
     × (to k (on_seat w k f).out ≡ (f (seat_of w k l)).handed)
 seat_own w k l f there = subst (λ (o : Option Link).

@@ -63,7 +63,7 @@ open_owed l m ps open_ o = elim o.owed [
       sym (ap is_some much.1) ∙ sym o.cause.is ∙ open_ in absurd cc)
 ]
 
-heard_link : (packet : PlayUp) (l : Link) → ((heard packet l).owed ≡ l.owed)
+pub heard_link : (packet : PlayUp) (l : Link) → ((heard packet l).owed ≡ l.owed)
     × ((heard packet l).cause ≡ l.cause) × ((heard packet l).stage ≡ l.stage)
 heard_link (KeepAlive beat) l = (refl, refl, refl)
 heard_link other l = (refl, refl, refl)

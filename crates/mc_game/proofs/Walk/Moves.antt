@@ -243,7 +243,7 @@ perform_walks k s (wrong fault) open_ fit =
     walked_by k s _ (closes (causes.Packet fault) (farewell s.link.stage (causes.Packet fault))
     open_ (bids_farewell refl) (λ e. cc) refl)
 
-frame_walks : (k : ℕ) (s : Seat) (frame : List ℕ) → Walked k s (on_frame k s frame)
+pub frame_walks : (k : ℕ) (s : Seat) (frame : List ℕ) → Walked k s (on_frame k s frame)
 unfolding on_frame
 frame_walks k s frame = open_case k s (λ (s : Seat). perform k s (asked_by s frame))
     (λ open_. perform_walks k s (asked_by s frame) open_ (suits s.link.stage _ _ frame))
