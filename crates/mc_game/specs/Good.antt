@@ -8,8 +8,9 @@ use lib.IntN.{pos}
 use Rattle.mc_fields.specs.declared.position.Spot.{Spot}
 use Rattle.mc_windows.specs.Pack.{PackValue, IsPack}
 use Rattle.mc_entities.specs.declared.entity.Entity.{Entity}
+use Rattle.mc_entities.specs.declared.entity.EntityKind.{EntityKind}
 use Rattle.mc_entities.specs.declared.entity.EntityKind.TheVariants as kinds
-use Rattle.mc_entities.specs.Numbers.{numbered}
+use Rattle.mc_entities.specs.Numbers.{Rise, numbered}
 use Rattle.mc_entities.specs.Folk.{eid_of}
 use Rattle.mc_model.specs.Names.{offline_uuid}
 use Rattle.mc_model.specs.Step.{is_new}
@@ -46,6 +47,18 @@ pub record AreApart (p q : Player) : Type 0 where
   pub eid : p.eid ≢ q.eid
   pub uuid : p.uuid ≢ q.uuid
 
+-- what players have for an entity
+abbrev pub is_body : EntityKind → Bool
+is_body (kinds.Player uuid held) = true
+is_body other = false
+
+-- a number is of a player in play
+pub record IsPlayed (players : FinMap nat_cmp Player) (n : ℕ) : Type 0 where
+  pub k : ℕ
+  pub player : Player
+  pub plays : get players k ≡ Some player
+  pub number : player.eid ≡ n
+
 pub record IsWhole (players : FinMap nat_cmp Player) (entities : List Entity) (eids : ℕ)
     (packs : FinMap name_cmp PackValue) : Type 0 where
   pub own : (k : ℕ) (p : Player) → get players k ≡ Some p → IsOwn entities eids packs p
@@ -56,6 +69,11 @@ pub record IsWhole (players : FinMap nat_cmp Player) (entities : List Entity) (e
       IsPack pack.slots pack.cursor
   -- no entity has a number that was not given
   pub fresh : (n : ℕ) → eids < n → numbered eid_of (pos n) entities ≡ None
+  -- the numbers of entities rise, so each stands once
+  pub rise : Rise eid_of (pos 0) entities (pos eids)
+  -- each entity of a player is of one in play
+  pub bodies : (n : ℕ) (e : Entity) → numbered eid_of (pos n) entities ≡ Some e →
+      is_body e.kind ≡ true → IsPlayed players n
 
 abbrev pub Good : Game → Type 0
 Good g = IsWhole g.players g.entities g.eids g.packs

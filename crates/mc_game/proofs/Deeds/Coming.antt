@@ -1,8 +1,9 @@
 -- A game stays good where an item is thrown, where a player enters and where one goes.
 use Rattle.std.proofs.Common.{◌≡◌, ◌≢◌, ℕ, ◌+◌, ◌<◌, ◌≤◌, List, [], ◌∷◌, ◌++◌, refl, sym, subst}
-use Rattle.std.proofs.Common.{ap, ◌∙◌, inl, inr, arith, Option, Some, None}
+use Rattle.std.proofs.Common.{ap, ◌∙◌, inl, inr, arith, Option, Some, None, Bool, true, false}
 use Rattle.std.specs.Prelude.{◌⊎◌, length}
 use Rattle.std.proofs.lemmas.Bool.{cases_eq}
+use Rattle.std.proofs.lemmas.Int.{ints}
 use Rattle.std.specs.Ordering.{nat_cmp}
 use Rattle.std.specs.FinMap.{FinMap, get, insert, remove}
 use lib.IntN.{pos}
@@ -10,7 +11,7 @@ use Rattle.mc_fields.specs.declared.position.Spot.{Spot}
 use Rattle.mc_windows.specs.Pack.{PackValue, IsPack}
 use Rattle.mc_entities.specs.declared.entity.Entity.{Entity}
 use Rattle.mc_entities.specs.declared.entity.EntityKind.{EntityKind}
-use Rattle.mc_entities.specs.Numbers.{numbered, without}
+use Rattle.mc_entities.specs.Numbers.{Rise, numbered, without}
 use Rattle.mc_entities.specs.Folk.{eid_of}
 use Rattle.mc_model.specs.Names.{offline_uuid}
 use Rattle.mc_model.specs.World.{spawn_spot}
@@ -18,10 +19,11 @@ use Rattle.mc_game.specs.declared.player.Player.{Player}
 use Rattle.mc_game.specs.Maps.{name_cmp}
 use Rattle.mc_game.specs.Game.{Game, pack_named}
 use Rattle.mc_game.specs.Deeds.{enter_as, go_of, new_player, spawned}
-use Rattle.mc_game.specs.Good.{AreApart, Good, IsOwn, IsWhole}
+use Rattle.mc_game.specs.Good.{AreApart, Good, IsOwn, IsPlayed, IsWhole, is_body}
 use Rattle.mc_game.proofs.Maps.Lookups.{gone_other, gone_same, name_cases, name_put_other}
 use Rattle.mc_game.proofs.Maps.Lookups.{name_put_same, put_other, put_same}
-use Rattle.mc_game.proofs.Maps.Entities.{found_before, found_behind, other_eid, same_eid}
+use Rattle.mc_game.proofs.Maps.Entities.{found_before, found_behind, found_either}
+use Rattle.mc_game.proofs.Maps.Entities.{other_eid, rise_join, same_eid, without_rise}
 use Rattle.mc_game.proofs.Maps.Entities.{without_eid, without_no_eid}
 use Rattle.mc_game.proofs.Deeds.Packs.{named_is_pack}
 
@@ -55,12 +57,28 @@ spawned_own entities more eids packs p o = record {
   body = found_before (pos p.eid) entities more _ o.body;
 }
 
-pub spawned_good : (kind : EntityKind) (spot : Spot) (g : Game) → Good g → Good (spawned kind spot g)
-spawned_good kind spot g w = record {
+-- and numbers rise with it
+pub spawned_rise : (entities : List Entity) (eids : ℕ) (kind : EntityKind) (spot : Spot) →
+    Rise eid_of (pos 0) entities (pos eids) →
+    Rise eid_of (pos 0)
+    (entities ++ record { eid = pos (eids + 1); kind = kind; spot = spot } ∷ []) (pos (eids + 1))
+spawned_rise entities eids kind spot r = rise_join (pos 0) (pos eids) (pos (eids + 1))
+    entities _ (omega (arith, ints)) (omega (arith, ints)) r
+
+pub spawned_good : (kind : EntityKind) (spot : Spot) (g : Game) → is_body kind ≡ false → Good g →
+    Good (spawned kind spot g)
+spawned_good kind spot g no_body w = record {
   own = λ j p is. spawned_own g.entities _ g.eids g.packs p (w.own j p is);
   apart = w.apart;
   piles = w.piles;
   fresh = λ n above. spawned_fresh g.entities g.eids n kind spot w.fresh above;
+  rise = spawned_rise g.entities g.eids kind spot w.rise;
+  bodies = λ n e found is. elim (found_either (pos n) g.entities
+      (record { eid = pos (g.eids + 1); kind = kind; spot = spot }) e found) [
+        | inl old ↦ w.bodies n e old is
+        | inr new ↦ (let clash : false ≡ true = sym no_body
+            ∙ ap (λ (x : Entity). is_body x.kind) (sym new.0) ∙ is in absurd cc)
+      ];
 }
 
 -- ---- one player less
@@ -89,15 +107,41 @@ go_good k p g there w = record {
   fresh = λ n above. without_no_eid n p.eid g.entities
       (let o = w.own k p there in λ same. absurd (omega (arith, same, above, o.given)))
       ∙ w.fresh n above;
+  rise = without_rise (pos p.eid) (pos 0) (pos g.eids) g.entities w.rise;
+  bodies = λ n e found is. elim (cases_eq n p.eid) [
+    | inl same ↦ absurd (none_here e (sym (without_eid p.eid g.entities)
+        ∙ ap (λ (m : ℕ). numbered eid_of (pos m) (without eid_of (pos p.eid) g.entities))
+        (sym same) ∙ found))
+    | inr far ↦ left_played n far
+        (w.bodies n e (sym (without_no_eid n p.eid g.entities far) ∙ found) is)
+  ];
 }
   where
+    none_here : (e : Entity) → ◌≡◌ {A = Option Entity} None (Some e) → ⊥
+    none_here e is = cc
+
+    left_played : (n : ℕ) → n ≢ p.eid → IsPlayed g.players n →
+        IsPlayed (remove g.players k) n
+    left_played n far b = elim (cases_eq b.k k) [
+      | inl same ↦ (let is_p = some_is p b.player
+          (sym there ∙ ap (get g.players) (sym same) ∙ b.plays) in
+          absurd (far (sym b.number ∙ ap (λ (x : Player). x.eid) (sym is_p))))
+      | inr ne ↦ record {
+        k = b.k;
+        player = b.player;
+        plays = gone_other g.players k b.k ne ∙ b.plays;
+        number = b.number;
+      }
+    ]
+
     still : (j : ℕ) (q : Player) → get (remove g.players k) j ≡ Some q → j ≢ k
     still j q is same = none_some q (sym (gone_same g.players k) ∙ (rw same at is))
 
 -- ---- one player more
 
 module _ (k : ℕ) (name : List ℕ) (g : Game) (w : Good g)
-    (free : (j : ℕ) (q : Player) → get g.players j ≡ Some q → q.uuid ≢ offline_uuid name) where
+    (free : (j : ℕ) (q : Player) → get g.players j ≡ Some q → q.uuid ≢ offline_uuid name)
+    (new : get g.players k ≡ None) where
   abbrev comes : Player
   comes = new_player (g.eids + 1) name (length g.lines)
 
@@ -177,10 +221,29 @@ module _ (k : ℕ) (name : List ℕ) (g : Game) (w : Good g)
         (sym (name_put_other g.packs name other (pack_named g name) ne) ∙ is)
   ]
 
+  played_still : (n : ℕ) → IsPlayed g.players n → IsPlayed (enter_as k name g).players n
+  played_still n b = record {
+    k = b.k;
+    player = b.player;
+    plays = put_other g.players k b.k comes (λ same. none_some b.player
+        (sym new ∙ ap (get g.players) (sym same) ∙ b.plays)) ∙ b.plays;
+    number = b.number;
+  }
+
   pub enter_good : Good (enter_as k name g)
   enter_good = record {
     own = own_each;
     apart = apart_each;
     piles = piles_each;
     fresh = λ n above. spawned_fresh g.entities g.eids n _ _ w.fresh above;
+    rise = spawned_rise g.entities g.eids _ _ w.rise;
+    bodies = λ n e found is. elim (found_either (pos n) g.entities _ e found) [
+      | inl old ↦ played_still n (w.bodies n e old is)
+      | inr now ↦ record {
+        k = k;
+        player = comes;
+        plays = put_same g.players k comes;
+        number = omega (arith, ints, now.1);
+      }
+    ];
   }

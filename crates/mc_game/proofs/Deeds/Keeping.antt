@@ -1,6 +1,6 @@
 -- A game stays good where its players are as they were but for what the law does not read, and where
 -- one of them changes together with its pack and its entity.
-use Rattle.std.proofs.Common.{◌≡◌, ◌≢◌, ℕ, ◌<◌, ◌≤◌, List, Option, Some, None, refl, sym, subst}
+use Rattle.std.proofs.Common.{◌≡◌, ◌≢◌, ℕ, ◌<◌, ◌≤◌, true, List, Option, Some, None, refl, sym, subst}
 use Rattle.std.proofs.Common.{ap, ◌∙◌, inl, inr, arith}
 use Rattle.std.specs.Prelude.{◌⊎◌, option_map}
 use Rattle.std.proofs.lemmas.Bool.{cases_eq}
@@ -10,13 +10,13 @@ use lib.IntN.{pos}
 use Rattle.mc_fields.specs.declared.position.Spot.{Spot}
 use Rattle.mc_windows.specs.Pack.{PackValue, IsPack}
 use Rattle.mc_entities.specs.declared.entity.Entity.{Entity}
-use Rattle.mc_entities.specs.Numbers.{numbered}
+use Rattle.mc_entities.specs.Numbers.{Rise, numbered}
 use Rattle.mc_entities.specs.Folk.{eid_of}
 use Rattle.mc_model.specs.Names.{offline_uuid}
 use Rattle.mc_game.specs.declared.player.Player.{Player}
 use Rattle.mc_game.specs.Maps.{modify, name_cmp}
 use Rattle.mc_game.specs.Game.{Game}
-use Rattle.mc_game.specs.Good.{AreApart, Good, IsOwn, IsWhole, body_of}
+use Rattle.mc_game.specs.Good.{AreApart, Good, IsOwn, IsPlayed, IsWhole, body_of, is_body}
 use Rattle.mc_game.proofs.Maps.Lookups.{changed_other, changed_same, name_cases}
 
 -- ---- players but for what the law does not read
@@ -51,11 +51,18 @@ own_like entities eids packs p q like o =
       body = rw (e, u, h) o.body;
     }
 
+-- and it is there still, with its number
+pub record Will (players : FinMap nat_cmp Player) (j : ℕ) (p : Player) : Type 0 where
+  pub later : Player
+  pub there : get players j ≡ Some later
+  pub eid : later.eid ≡ p.eid
+
 pub refined : (old new : FinMap nat_cmp Player) (entities : List Entity) (eids : ℕ)
     (packs : FinMap name_cmp PackValue) →
     ((j : ℕ) (p : Player) → get new j ≡ Some p → Was old j p) →
+    ((j : ℕ) (p : Player) → get old j ≡ Some p → Will new j p) →
     IsWhole old entities eids packs → IsWhole new entities eids packs
-refined old new entities eids packs was w = record {
+refined old new entities eids packs was will w = record {
   own = λ j p is.
       let a = was j p is in
       own_like entities eids packs p a.before a.like (w.own j a.before a.there);
@@ -69,6 +76,11 @@ refined old new entities eids packs was w = record {
       };
   piles = w.piles;
   fresh = w.fresh;
+  rise = w.rise;
+  bodies = λ n e found is.
+      let b = w.bodies n e found is in
+      let a = will b.k b.player b.plays in
+      record { k = b.k; player = a.later; plays = a.there; number = a.eid ∙ b.number };
 }
 
 -- a player that is changed by what keeps it like it was
@@ -94,6 +106,21 @@ was_changed players k f keeps j p is = elim (cases_eq j k) [
       like = subst (λ (x : Player). IsLike x q) same (keeps q);
     })
 
+pub will_change : (players : FinMap nat_cmp Player) (k : ℕ) (f : Player → Player) →
+    ((p : Player) → IsLike (f p) p) → (j : ℕ) (p : Player) →
+    get players j ≡ Some p → Will (modify k f players) j p
+will_change players k f keeps j p is = elim (cases_eq j k) [
+  | inl same ↦ record {
+    later = f p;
+    there = rw same (changed_same players k f) ∙ ap (option_map f) (rw same at is);
+    eid = like.eid;
+  }
+  | inr ne ↦ record { later = p; there = changed_other players k j f ne ∙ is; eid = refl }
+]
+  where
+    like : IsLike (f p) p
+    like = keeps p
+
 -- ---- one player, its pack and its entity
 
 -- one player changed: its view of itself, what it carries, and its entity, which is its body again
@@ -114,6 +141,7 @@ pub record ChangesOne (k : ℕ) (p q : Player) (g v : Game) : Type 0 where
   pub entities : (n : ℕ) → n ≢ p.eid →
       numbered eid_of (pos n) v.entities ≡ numbered eid_of (pos n) g.entities
   pub eids : v.eids ≡ g.eids
+  pub rise : Rise eid_of (pos 0) v.entities (pos v.eids)
 
 names_apart : (entities : List Entity) (eids : ℕ) (packs : FinMap name_cmp PackValue)
     (p q : Player) → IsOwn entities eids packs p → IsOwn entities eids packs q → AreApart p q →
@@ -210,10 +238,33 @@ module _ (k : ℕ) (p q : Player) (g v : Game) (c : ChangesOne k p q g v) (w : G
       let ne : n ≢ p.eid = λ same. absurd (omega (arith, same, above, cs, o.given)) in
       c.entities n ne ∙ w.fresh n (omega (arith, cs, above))
 
+  -- of another player
+  played_on : (n : ℕ) → n ≢ p.eid → IsPlayed g.players n → IsPlayed v.players n
+  played_on n far b = elim (cases_eq b.k k) [
+    | inl same ↦ (let is_p = some_is p b.player
+        (sym c.there ∙ ap (get g.players) (sym same) ∙ b.plays) in
+        absurd (far (sym b.number ∙ ap (λ (x : Player). x.eid) (sym is_p))))
+    | inr ne ↦ record {
+      k = b.k;
+      player = b.player;
+      plays = c.others b.k ne ∙ b.plays;
+      number = b.number;
+    }
+  ]
+
+  bodies_each : (n : ℕ) (e : Entity) → numbered eid_of (pos n) v.entities ≡ Some e →
+      is_body e.kind ≡ true → IsPlayed v.players n
+  bodies_each n e found is = elim (cases_eq n p.eid) [
+    | inl same ↦ record { k = k; player = q; plays = c.here; number = c.eid ∙ sym same }
+    | inr far ↦ played_on n far (w.bodies n e (sym (c.entities n far) ∙ found) is)
+  ]
+
   pub one_changed : Good v
   one_changed = record {
     own = own_each;
     apart = apart_each;
     piles = piles_each;
     fresh = fresh_each;
+    rise = c.rise;
+    bodies = bodies_each;
   }

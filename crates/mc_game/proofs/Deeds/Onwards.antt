@@ -28,8 +28,9 @@ use Rattle.mc_game.specs.Good.{Good, IsOwn, IsWhole, body_of}
 use Rattle.mc_game.specs.Apart.{Traits, traits_of}
 use Rattle.mc_game.proofs.Maps.Lookups.{changed_other, changed_same, name_changed_other}
 use Rattle.mc_game.proofs.Maps.Lookups.{name_changed_same}
-use Rattle.mc_game.proofs.Maps.Entities.{KeepsEid, changed_eid, changed_no_eid}
-use Rattle.mc_game.proofs.Deeds.Keeping.{ChangesOne, IsLike, Was, one_changed, refined, was_changed}
+use Rattle.mc_game.proofs.Maps.Entities.{KeepsEid, changed_eid, changed_no_eid, changed_rise}
+use Rattle.mc_game.proofs.Deeds.Keeping.{ChangesOne, IsLike, one_changed, refined, was_changed}
+use Rattle.mc_game.proofs.Deeds.Keeping.{will_change}
 use Rattle.mc_game.proofs.Deeds.Coming.{spawned_good}
 use Rattle.mc_game.proofs.Deeds.Packs.{named_is_pack, with_hand_is_pack}
 
@@ -86,7 +87,7 @@ pub with_player_on : (k : ℕ) (f : Player → Player) (g : Game) → ((p : Play
     Onward k g (with_player k f g)
 with_player_on k f g keeps = record {
   good = λ w. refined g.players (modify k f g.players) g.entities g.eids g.packs
-      (was_changed g.players k f keeps) w;
+      (was_changed g.players k f keeps) (will_change g.players k f keeps) w;
   keys = keys_changed k f g;
   traits = traits_changed k f g;
   settings = refl;
@@ -134,6 +135,8 @@ repack_on k p pack g there is = record {
       entities = λ n ne. changed_no_eid n p.eid (holding (in_hand pack p.hand)) g.entities
           (holds _) ne;
       eids = refl;
+      rise = changed_rise p.eid (holding (in_hand pack p.hand)) (pos 0) (pos g.eids) g.entities
+          (holds _) w.rise;
     }
 
 pub carrying_on : (k : ℕ) (p : Player) (pile : Pile) (g : Game) → get g.players k ≡ Some p →
@@ -180,6 +183,8 @@ rehand_on k p hand g there small = record {
           entities = λ n ne. changed_no_eid n p.eid (holding (in_hand (pack_of g p) hand))
               g.entities (holds _) ne;
           eids = refl;
+          rise = changed_rise p.eid (holding (in_hand (pack_of g p) hand)) (pos 0) (pos g.eids)
+              g.entities (holds _) w.rise;
         }
 
 pub stand_on : (k : ℕ) (p : Player) (spot : Spot) (g : Game) → get g.players k ≡ Some p →
@@ -210,13 +215,15 @@ stand_on k p spot g there = record {
           ∙ ap (option_map (standing spot)) o.body;
       entities = λ n ne. changed_no_eid n p.eid (standing spot) g.entities (stands spot) ne;
       eids = refl;
+      rise = changed_rise p.eid (standing spot) (pos 0) (pos g.eids) g.entities (stands spot)
+          w.rise;
     }
 
 -- ---- of all
 
 pub thrown_on : (k : ℕ) (item : Item) (spot : Spot) (g : Game) → Onward k g (thrown item spot g)
 thrown_on k item spot g = record {
-  good = spawned_good _ spot g;
+  good = spawned_good _ spot g refl;
   keys = λ j. refl;
   traits = λ j ne. refl;
   settings = refl;

@@ -1,13 +1,14 @@
 -- Which entity is found under a number once one was changed, taken out or added.
 use Rattle.std.proofs.Common.{◌≡◌, ◌≢◌, ℕ, ◌+◌, Bool, true, false, List, [], ◌∷◌, ◌++◌, map, arith}
-use Rattle.std.proofs.Common.{Option, Some, None, refl, sym, subst, ap, ◌∙◌}
-use Rattle.std.specs.Prelude.{not, option_map, if◌then◌else◌}
+use Rattle.std.proofs.Common.{Option, Some, None, refl, sym, subst, ap, ◌∙◌, inl, inr}
+use Rattle.std.specs.Prelude.{◌⊎◌, ◌≤ℤ◌, ◌<ℤ◌, not, option_map, if◌then◌else◌}
 use Rattle.std.proofs.lemmas.Bool.Decides.{nat_tests, Decides-int_eq}
+use Rattle.std.proofs.lemmas.Int.{ints}
 use Rattle.std.specs.List.{filter}
 use Rattle.std.specs.Ordering.{int_eq}
 use lib.IntN.{ℤ, pos}
 use Rattle.mc_entities.specs.declared.entity.Entity.{Entity}
-use Rattle.mc_entities.specs.Numbers.{numbered, changed, without}
+use Rattle.mc_entities.specs.Numbers.{Rise, numbered, changed, without}
 use Rattle.mc_entities.specs.Folk.{eid_of}
 
 -- ---- numbers
@@ -129,3 +130,58 @@ found_behind n (x ∷ xs) more none =
       | true ↦ λ here. absurd cc
       | false ↦ λ later. found_behind n xs more later
     ] none
+
+-- ---- numbers that rise
+
+rise_less : (low less high : ℤ) (es : List Entity) → less ≤ℤ low → Rise eid_of low es high →
+    Rise eid_of less es high
+rise_less low less high [] le r = omega (arith, ints, le, r)
+rise_less low less high (e ∷ es) le r =
+    (let first = r.0 in (omega (arith, ints, le, first), r.1))
+
+pub rise_join : (low high more : ℤ) (es : List Entity) (x : Entity) → high <ℤ x.eid →
+    x.eid ≤ℤ more → Rise eid_of low es high → Rise eid_of low (es ++ x ∷ []) more
+rise_join low high more [] x lt le r = (omega (arith, ints, r, lt), le)
+rise_join low high more (e ∷ es) x lt le r = (r.0, rise_join e.eid high more es x lt le r.1)
+
+pub without_rise : (n low high : ℤ) (es : List Entity) → Rise eid_of low es high →
+    Rise eid_of low (without eid_of n es) high
+without_rise n low high [] r = r
+without_rise n low high (e ∷ es) r = step (int_eq e.eid n) (without_rise n e.eid high es r.1)
+  where
+    step : (b : Bool) → Rise eid_of e.eid (without eid_of n es) high →
+        Rise eid_of low (if not b then e ∷ without eid_of n es else without eid_of n es) high
+    step true rest = rise_less e.eid low high (without eid_of n es)
+        (let first = r.0 in omega (arith, ints, first)) rest
+    step false rest = (r.0, rest)
+
+pub changed_rise : (n : ℕ) (f : Entity → Entity) (low high : ℤ) (es : List Entity) → KeepsEid f →
+    Rise eid_of low es high → Rise eid_of low (changed eid_of (pos n) f es) high
+changed_rise n f low high [] keeps r = r
+changed_rise n f low high (e ∷ es) keeps r =
+    step (int_eq e.eid (pos n)) (changed_rise n f e.eid high es keeps r.1)
+  where
+    step : (b : Bool) → Rise eid_of e.eid (changed eid_of (pos n) f es) high →
+        Rise eid_of low ((if b then f e else e) ∷ changed eid_of (pos n) f es) high
+    step true rest = (
+      subst (λ (z : ℤ). low <ℤ z) (sym (keeps.is e)) r.0,
+      subst (λ (z : ℤ). Rise eid_of z (changed eid_of (pos n) f es) high) (sym (keeps.is e)) rest,
+    )
+    step false rest = (r.0, rest)
+
+-- one that is found once another came was there, or is that
+pub found_either : (n : ℤ) (es : List Entity) (x e : Entity) →
+    numbered eid_of n (es ++ x ∷ []) ≡ Some e →
+    (numbered eid_of n es ≡ Some e) ⊎ ((e ≡ x) × (x.eid ≡ n))
+found_either n es x e is = step (numbered eid_of n es) refl
+  where
+    new : (b : Bool) → int_eq x.eid n ≡ b → (if b then Some x else None) ≡ Some e →
+        (e ≡ x) × (x.eid ≡ n)
+    new true t found = (let same : e ≡ x = cc in (same, (Decides-int_eq x.eid n).0 t))
+    new false t found = absurd cc
+
+    step : (o : Option Entity) → numbered eid_of n es ≡ o →
+        (numbered eid_of n es ≡ Some e) ⊎ ((e ≡ x) × (x.eid ≡ n))
+    step None none = inr (new (int_eq x.eid n) refl
+        (sym (found_behind n es (x ∷ []) none) ∙ is))
+    step (Some y) some = inl (some ∙ sym (found_before n es (x ∷ []) y some) ∙ is)

@@ -135,6 +135,10 @@ enter_stay k name g = record {
 
 -- ---- any move
 
+nobody_yet : (o : Option Player) → is_some o ≡ false → o ≡ None
+nobody_yet None e = refl
+nobody_yet (Some p) e = absurd cc
+
 no_play : (stage : Stage) → stage ≡ stages.Hand → is_play stage ≡ false
 no_play stage is = ap is_play is
 
@@ -166,7 +170,8 @@ seat_kept k before s t ps (closes cause packets open_ last other is) a =
 seat_kept k before s t ps (comes_in name at free is) a =
     subst (λ (x : Turn). GoodSeat k before x.seat) (sym is)
     (handed_seat k before (entered k s name) (entered k s name).link _
-    (enter_good k name s.game a.game (free_name s.game s.link.protocol name free))
+    (enter_good k name s.game a.game (free_name s.game s.link.protocol name free)
+    (nobody_yet (get s.game.players k) (a.plays ∙ ap is_play at)))
     (stay_on k before s.game (enter_as k name s.game) a.others (enter_stay k name s.game))
     (λ open_. ap is_some (put_same s.game.players k _)))
 

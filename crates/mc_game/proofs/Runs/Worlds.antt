@@ -3,6 +3,7 @@ use Rattle.std.proofs.Common.{◌≡◌, ◌≢◌, ℕ, ◌<◌, Bool, true, fa
 use Rattle.std.proofs.Common.{None, refl, sym, subst, ap, ◌∙◌, inl, inr, arith}
 use Rattle.std.specs.Prelude.{◌⊎◌, ◌&&◌, nat_lt, nat_le, length, is_some, option_map, if◌then◌else◌}
 use Rattle.std.proofs.lemmas.Bool.{cases_eq, lt-ltb, ltb-true, and_parts}
+use Rattle.std.proofs.lemmas.Int.{ints}
 use Rattle.std.specs.Ordering.{nat_cmp}
 use Rattle.std.specs.FinMap.{FinMap, empty, get, get-empty, insert, remove}
 use Rattle.mc_model.specs.declared.cause.Cause.TheVariants as causes
@@ -198,6 +199,8 @@ new_good settings = record {
     apart = λ j k p q is too ne. absurd (nobody (sym (get-empty nat_cmp j) ∙ is));
     piles = λ name pack is. absurd (nothing_there (sym (get-empty _ name) ∙ is));
     fresh = λ n above. refl;
+    rise = omega (arith, ints);
+    bodies = λ n e found is. absurd (nothing_there found);
   };
   plays = λ k. ap is_some (get-empty nat_cmp k) ∙ ap in_play (sym (get-empty nat_cmp k));
   fresh = λ k new. get-empty nat_cmp k;

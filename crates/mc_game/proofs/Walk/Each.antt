@@ -20,7 +20,7 @@ use Rattle.mc_game.specs.World.{World, closed_by, each, is_closing}
 use Rattle.mc_game.specs.Tick.{awaiting, beat, beat_of, flush, flush_of, is_silent, told, told_player}
 use Rattle.mc_game.specs.Good.{Good, in_play}
 use Rattle.mc_game.proofs.Maps.Lookups.{get_keyed}
-use Rattle.mc_game.proofs.Deeds.Keeping.{Was, refined}
+use Rattle.mc_game.proofs.Deeds.Keeping.{Was, Will, refined}
 use Rattle.mc_game.proofs.Deeds.Leaving.{Stays, leave_all_good, leave_all_stays, left_of_all}
 use Rattle.mc_game.proofs.Walk.Handings.{hand_cases, not_in_play}
 
@@ -110,8 +110,15 @@ pub told_players : (g : Game) (j : ℕ) →
 told_players g j = get_keyed (λ (k : ℕ) (p : Player). told_player p) g.players j
 
 pub told_good : (g : Game) → Good g → Good (told g)
-told_good g w = refined g.players (told g).players g.entities g.eids g.packs was w
+told_good g w = refined g.players (told g).players g.entities g.eids g.packs was will w
   where
+    will : (j : ℕ) (p : Player) → get g.players j ≡ Some p → Will (told g).players j p
+    will j p is = record {
+      later = told_player p;
+      there = told_players g j ∙ ap (option_map told_player) is;
+      eid = refl;
+    }
+
     was : (j : ℕ) (p : Player) → get (told g).players j ≡ Some p → Was g.players j p
     was j p is = step (get g.players j) refl (sym (told_players g j) ∙ is)
       where
