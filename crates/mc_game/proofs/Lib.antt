@@ -4,3 +4,4 @@ pub mod Acts
 pub mod Walk
 pub mod Runs
 pub mod Apart
+pub mod Weighing

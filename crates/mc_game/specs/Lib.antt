@@ -19,3 +19,4 @@ pub mod Good
 pub mod Apart
 pub mod Promised
 pub mod Causes
+pub mod Balance

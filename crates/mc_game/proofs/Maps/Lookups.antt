@@ -135,7 +135,7 @@ get_keyed f m q = keyed nat_cmp_total nat_cmp-IsAntisymmetric f m q
 
 -- ---- by names
 
-names_apart : IsAntisymmetric name_cmp
+pub names_apart : IsAntisymmetric name_cmp
 names_apart = slice_cmp-IsAntisymmetric nat_cmp-IsAntisymmetric
 
 pub name_cases : (a b : List ℕ) → (a ≡ b) ⊎ (a ≢ b)

@@ -1,0 +1,2 @@
+-- How many items deeds spend and gain, and that none is lost or made along a run.
+pub mod Deeds
