@@ -3,6 +3,7 @@ ghost use Rattle.std.specs.FinMap.{get};
 ghost use Rattle.mc_model.specs.Step.{Event, broke, left};
 ghost use Rattle.mc_game.specs.declared.settings.Settings.{Settings as Begun};
 ghost use Rattle.mc_game.specs.Apart.{AlikeBut, IsNoJoin, IsOf, LetsIn, OnlySender, SameBut};
+ghost use Rattle.mc_game.specs.Balance.{Balance};
 ghost use Rattle.mc_game.specs.Causes.{ClosesFirst};
 ghost use Rattle.mc_game.specs.Good.{GoodWorld};
 ghost use Rattle.mc_game.specs.Link.{Link};
@@ -54,4 +55,11 @@ pub fn bytes_are_promised()
 pub fn closed_for_the_first_cause()
     ensures { (settings : Begun) (events : List Event) (e : Event) →
         ClosesFirst (history (new_world settings) events) e }
+{}
+
+/// No item is lost or made: of each sort, what all names carry, what lies in the world and what was
+/// placed is what the kits of all names had and what was dug.
+pub fn items_are_kept()
+    ensures { (settings : Begun) (events : List Event) →
+        Balance (history (new_world settings) events).game }
 {}

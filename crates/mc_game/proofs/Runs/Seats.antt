@@ -135,7 +135,7 @@ enter_stay k name g = record {
 
 -- ---- any move
 
-nobody_yet : (o : Option Player) → is_some o ≡ false → o ≡ None
+pub nobody_yet : (o : Option Player) → is_some o ≡ false → o ≡ None
 nobody_yet None e = refl
 nobody_yet (Some p) e = absurd cc
 
