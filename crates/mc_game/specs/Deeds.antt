@@ -1,6 +1,6 @@
 -- Deeds: the small changes of a game of which all that players do is made. Nothing else changes a
 -- game, but a tick that passes (`Tick`). Rules of this project.
-use Rattle.std.specs.Prelude.{ℕ, ◌+◌, List, [], ◌∷◌, ◌++◌, length, unsigned_abs, if◌then◌else◌}
+use Rattle.std.specs.Prelude.{ℕ, ◌+◌, List, [], ◌∷◌, ◌++◌, length, unsigned_abs}
 use Rattle.std.specs.FinMap.{insert, remove}
 use lib.IntN.{pos}
 use Rattle.mc_fields.specs.declared.position.Cell.{Cell}
@@ -9,7 +9,6 @@ use Rattle.mc_slots.specs.declared.pile.Item.{Item}
 use Rattle.mc_land.specs.Land.{edited}
 use Rattle.mc_land.specs.Places.{key_of}
 use Rattle.mc_windows.specs.Pack.{PackValue}
-use Rattle.mc_entities.specs.declared.entity.Entity.{Entity}
 use Rattle.mc_entities.specs.declared.entity.EntityKind.{EntityKind}
 use Rattle.mc_entities.specs.declared.entity.EntityKind.TheVariants as kinds
 use Rattle.mc_entities.specs.Numbers.{changed, without}

@@ -1,12 +1,10 @@
 -- The game: all that is played, apart from the connections. The land, the entities, what each name
 -- carries, what was said, and the players in play by the numbers of their connections. Plain lists
 -- and finite maps. Rules of this project.
-use Rattle.std.specs.Prelude.{ℕ, ◌-◌, Bool, List, [], map, min, drop, ◌++◌}
+use Rattle.std.specs.Prelude.{ℕ, ◌-◌, Bool, List, [], min}
 use Rattle.std.specs.Prelude.{unwrap_or, is_some}
-use Rattle.std.specs.List.{filter, filter_map}
 use Rattle.std.specs.Ordering.{nat_cmp}
 use Rattle.std.specs.FinMap.{FinMap, empty, get, values}
-use lib.IntN.{pos}
 use Rattle.mc_column.specs.Cells.{ColumnValue}
 use Rattle.mc_fields.specs.declared.position.Cell.{Cell}
 use Rattle.mc_fields.specs.declared.position.Spot.{Spot}

@@ -85,8 +85,8 @@ abbrev pub in_play : Option Link → Bool
 in_play None = false
 in_play (Some l) = is_play l.stage
 
--- A game is good, it has players exactly for the connections in play, and no connection has a number
--- that may join next.
+-- A game is good, it has players exactly for the connections in play, and no connection has a
+-- number that may join next.
 pub record GoodWorld (w : World) : Type 0 where
   pub game : Good w.game
   pub plays : (k : ℕ) → is_some (get w.game.players k) ≡ in_play (get w.links k)

@@ -1,5 +1,5 @@
--- Which bytes a connection took of those that it was handed, and for which cause it is closed. Rules
--- of this project.
+-- Which bytes a connection took of those that it was handed, and for which cause it is closed.
+-- Rules of this project.
 use Rattle.std.specs.Prelude.{◌≡◌, ◌≢◌, ℕ, List, ◌++◌, Some, is_some}
 use Rattle.std.specs.FinMap.{get}
 use Rattle.mc_model.specs.declared.cause.Cause.TheVariants as causes

@@ -17,7 +17,7 @@ use Rattle.mc_model.specs.declared.cause.Refusal.TheVariants as refusals
 use Rattle.mc_model.specs.declared.stage.Stage.TheVariants as stages
 use Rattle.mc_model.specs.Cutting.{cut_of}
 use Rattle.mc_model.specs.Names.{is_name, offline_uuid}
-use Rattle.mc_model.specs.Packets.{Sent, of_status}
+use Rattle.mc_model.specs.Packets.{of_status}
 use Rattle.mc_model.specs.Step.{Event, joined, came, left, broke, ticked, took, forgot}
 use Rattle.mc_model.specs.Step.{is_47, is_new}
 use Rattle.mc_model.specs.Talk.{ClientRequest, nothing, greets, replies, ends, enters, acts, wrong}
@@ -30,7 +30,7 @@ use Rattle.mc_game.specs.Leaving.{left_by}
 use Rattle.mc_game.specs.Acts.{act}
 use Rattle.mc_game.specs.Link.{Handing, Link, disconnect, gone, hand, is_done, is_kept, mark_closed}
 use Rattle.mc_game.specs.Link.{new_link, quiet}
-use Rattle.mc_game.specs.World.{Outcome, Seat, Turn, Unread, World, on_seat, silent}
+use Rattle.mc_game.specs.World.{Outcome, Seat, Turn, World, on_seat, silent}
 use Rattle.mc_game.specs.Tick.{tick}
 
 -- ---- turns of one connection

@@ -1,6 +1,7 @@
--- What a player that moves, digs, drops or places makes of a game, topic by topic: a chain of deeds.
+-- What a player that moves, digs, drops or places makes of a game, topic by topic: a chain of
+-- deeds.
 use Rattle.std.proofs.Common.{◌≡◌, ℕ, ◌<◌, Bool, true, false, [], ◌∷◌, Option, Some, None, refl}
-use Rattle.std.proofs.Common.{subst, arith}
+use Rattle.std.proofs.Common.{subst}
 use Rattle.std.specs.Prelude.{not, min, nat_lt, if◌then◌else◌}
 use Rattle.std.proofs.lemmas.Bool.{ltb-true}
 use Rattle.std.specs.Ordering.{int_eq}
@@ -21,13 +22,12 @@ use Rattle.mc_model.specs.Reach.{at_face}
 use Rattle.mc_model.specs.World.{spawn_spot}
 use Rattle.mc_game.specs.declared.player.Player.{Player}
 use Rattle.mc_game.specs.Game.{Game, held_by, room_in, state_in}
-use Rattle.mc_game.specs.Deeds.{noting, stand_of, with_state}
+use Rattle.mc_game.specs.Deeds.{with_state}
 use Rattle.mc_game.specs.Hands.{carrying, take_up}
 use Rattle.mc_game.specs.Movement.{arrive, arrived, placed_again}
-use Rattle.mc_game.specs.Digging.{can_dig, dig, digging, drop_held, dropped, dug, feet_of}
+use Rattle.mc_game.specs.Digging.{can_dig, digging, drop_held, dropped, dug, feet_of}
 use Rattle.mc_game.specs.Placing.{is_free, place_at, place_on, placed, put_block}
 use Rattle.mc_game.specs.Reaching.{is_in_reach}
-use Rattle.mc_game.specs.Good.{Good}
 use Rattle.mc_game.proofs.Deeds.Onwards.{Onward, carrying_on, either, nothing_on, noting_on}
 use Rattle.mc_game.proofs.Deeds.Onwards.{rehand_on, so, stand_on, thrown_on, with_state_on}
 use Rattle.mc_game.proofs.Deeds.Packs.{held_is_item, left_is_pile}

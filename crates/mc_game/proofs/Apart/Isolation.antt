@@ -1,10 +1,10 @@
 -- Isolation, step by step: what others and ticks make of two worlds that are the same but for one
 -- connection, and what is done to that connection in one of them alone; and that a connection that
 -- broke leaves the world that it would have left by going.
-use Rattle.std.proofs.Common.{◌≡◌, ◌≢◌, ℕ, Bool, true, false, List, [], ◌∷◌, ◌++◌, Option, Some, None}
-use Rattle.std.proofs.Common.{refl, sym, subst, ap, ◌∙◌}
-use Rattle.std.specs.Prelude.{drop, length, if◌then◌else◌}
-use Rattle.std.specs.FinMap.{get, insert, remove}
+use Rattle.std.proofs.Common.{◌≡◌, ℕ, true, false, List, Option, Some, None}
+use Rattle.std.proofs.Common.{refl, sym, subst, ◌∙◌}
+use Rattle.std.specs.Prelude.{if◌then◌else◌}
+use Rattle.std.specs.FinMap.{get, remove}
 use Rattle.mc_model.specs.declared.cause.Cause.{Cause}
 use Rattle.mc_model.specs.declared.cause.Cause.TheVariants as causes
 use Rattle.mc_model.specs.Step.{Event, joined, came, left, broke, ticked, took, forgot}
@@ -12,15 +12,14 @@ use Rattle.mc_model.specs.World.{is_closed}
 use Rattle.mc_game.specs.Game.{Game}
 use Rattle.mc_game.specs.Leaving.{leave, left_by}
 use Rattle.mc_game.specs.Link.{Link, gone, is_done}
-use Rattle.mc_game.specs.World.{Outcome, Seat, Turn, World, on_link, on_seat, seat_of, silent}
+use Rattle.mc_game.specs.World.{Seat, Turn, World, on_link, on_seat, seat_of, silent}
 use Rattle.mc_game.specs.World.{with_seat}
-use Rattle.mc_game.specs.Step.{depart, forget, on_bytes, on_cut, step, still, take_from}
+use Rattle.mc_game.specs.Step.{depart, forget, on_bytes, step, take_from}
 use Rattle.mc_game.specs.Good.{GoodWorld}
-use Rattle.mc_game.specs.Apart.{AlikeBut, HandsAlike, IsNoJoin, IsOf, IsShut, LetsIn, SameBut}
+use Rattle.mc_game.specs.Apart.{AlikeBut, IsNoJoin, IsOf, IsShut, LetsIn, SameBut}
 use Rattle.mc_game.proofs.Maps.Lookups.{gone_other, gone_same, put_other, put_same}
 use Rattle.mc_game.proofs.Deeds.Leaving.{leave_nobody}
 use Rattle.mc_game.proofs.Walk.Handings.{gone_closed}
-use Rattle.mc_game.proofs.Apart.Outs.{to_other}
 use Rattle.mc_game.proofs.Apart.Ticks.{nobody, tick_apart}
 use Rattle.mc_game.proofs.Apart.Twins.{forget_apart, join_apart, seat_apart}
 

@@ -1,13 +1,13 @@
 -- What one connection does hands nothing to any other, and changes nothing of it but what is noted
 -- for its player.
-use Rattle.std.proofs.Common.{◌≡◌, ◌≢◌, ℕ, Bool, true, false, [], ◌∷◌, Option, Some, None, refl}
-use Rattle.std.proofs.Common.{sym, subst, ap}
+use Rattle.std.proofs.Common.{◌≡◌, ℕ, true, false, Option, Some, None, refl}
+use Rattle.std.proofs.Common.{subst}
 use Rattle.std.specs.Prelude.{if◌then◌else◌}
 use Rattle.std.specs.FinMap.{get, insert, remove}
 use Rattle.mc_model.specs.declared.cause.Cause.TheVariants as causes
 use Rattle.mc_model.specs.Step.{Event, joined, came, left, broke, ticked, took, forgot, is_new}
 use Rattle.mc_game.specs.Link.{Link, is_done}
-use Rattle.mc_game.specs.World.{Outcome, Seat, Turn, World, on_link, on_seat, seat_of, silent}
+use Rattle.mc_game.specs.World.{Seat, Turn, World, on_link, on_seat, seat_of, silent}
 use Rattle.mc_game.specs.Step.{depart, forget, join, joining, on_bytes, step, take_from}
 use Rattle.mc_game.specs.Good.{GoodWorld}
 use Rattle.mc_game.specs.Apart.{IsOf, OnlySender}

@@ -1,15 +1,13 @@
--- Two worlds that are the same but for one connection stay so over a tick, and all others are handed
--- the same.
-use Rattle.std.proofs.Common.{◌≡◌, ◌≢◌, ℕ, Bool, true, false, cond, List, [], ◌∷◌, ◌++◌, Option, Some}
+-- Two worlds that are the same but for one connection stay so over a tick, and all others are
+-- handed the same.
+use Rattle.std.proofs.Common.{◌≡◌, ◌≢◌, ℕ, Bool, true, false, cond, List, [], ◌∷◌, ◌++◌, Option}
+use Rattle.std.proofs.Common.{Some}
 use Rattle.std.proofs.Common.{None, refl, sym, subst, ap, ◌∙◌}
 use Rattle.std.specs.Prelude.{◌||◌, is_some, option_map}
 use Rattle.std.specs.List.{filter, list_any}
 use Rattle.std.specs.Ordering.{nat_cmp, eq_by_cmp}
 use Rattle.std.specs.FinMap.{contains_key-keys, get, keys}
-use Rattle.mc_model.specs.Packets.{Sent}
-use Rattle.mc_model.specs.Sight.{Sight}
-use Rattle.mc_model.specs.Run.{to}
-use Rattle.mc_model.specs.World.{is_closed, is_play}
+use Rattle.mc_model.specs.World.{is_closed}
 use Rattle.mc_game.specs.declared.player.Player.{Player}
 use Rattle.mc_game.specs.Game.{Game}
 use Rattle.mc_game.specs.Leaving.{leave_all}
@@ -22,7 +20,7 @@ use Rattle.mc_game.specs.Good.{GoodWorld, in_play}
 use Rattle.mc_game.specs.Apart.{AlikeBut, IsShut, SameBut}
 use Rattle.mc_game.proofs.Maps.Lookups.{get_keyed, tied_number}
 use Rattle.mc_game.proofs.Walk.Handings.{not_in_play}
-use Rattle.mc_game.proofs.Walk.Each.{each_last, each_links, each_shown, each_unread}
+use Rattle.mc_game.proofs.Walk.Each.{each_links}
 use Rattle.mc_game.proofs.Runs.Worlds.{at_tick_world}
 use Rattle.mc_game.proofs.Apart.Outs.{handed_by, to_each}
 

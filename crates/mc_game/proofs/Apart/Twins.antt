@@ -1,21 +1,17 @@
 -- Two worlds that are the same but for one connection stay so, whatever others do in both.
-use Rattle.std.proofs.Common.{◌≡◌, ◌≢◌, ℕ, Bool, true, false, cond, List, [], ◌∷◌, Option, Some, None}
+use Rattle.std.proofs.Common.{◌≡◌, ◌≢◌, ℕ, Bool, true, false, Option, Some, None}
 use Rattle.std.proofs.Common.{refl, sym, subst, ap, ◌∙◌, inl, inr}
-use Rattle.std.specs.Prelude.{◌⊎◌, ◌||◌, option_map, unwrap_or, if◌then◌else◌}
+use Rattle.std.specs.Prelude.{unwrap_or, if◌then◌else◌}
 use Rattle.std.proofs.lemmas.Bool.{cases_eq}
-use Rattle.std.specs.List.{filter, list_any}
-use Rattle.std.specs.Ordering.{nat_cmp, eq_by_cmp}
-use Rattle.std.specs.FinMap.{FinMap, contains_key-keys, get, insert, keys, remove}
-use Rattle.mc_model.specs.declared.cause.Cause.TheVariants as causes
-use Rattle.mc_model.specs.Step.{Event, joined, came, left, broke, ticked, took, forgot, is_new}
-use Rattle.mc_model.specs.World.{is_closed}
+use Rattle.std.specs.Ordering.{nat_cmp}
+use Rattle.std.specs.FinMap.{FinMap, get, insert, remove}
+use Rattle.mc_model.specs.Step.{is_new}
 use Rattle.mc_game.specs.Link.{Link, is_done}
-use Rattle.mc_game.specs.World.{Outcome, Seat, Turn, World, on_link, on_seat, seat_of, seated, silent}
-use Rattle.mc_game.specs.World.{nothing_unread, with_seat}
-use Rattle.mc_game.specs.Step.{depart, forget, join, joining, is_crowded, on_bytes, step, take_from}
-use Rattle.mc_game.specs.Apart.{AlikeBut, IsOf, IsShut, SameBut}
+use Rattle.mc_game.specs.World.{Seat, Turn, World, on_link, on_seat, seat_of, seated, silent}
+use Rattle.mc_game.specs.World.{nothing_unread}
+use Rattle.mc_game.specs.Step.{forget, join, joining, is_crowded}
+use Rattle.mc_game.specs.Apart.{AlikeBut, IsShut, SameBut}
 use Rattle.mc_game.proofs.Maps.Lookups.{gone_other, gone_same, put_other, put_same}
-use Rattle.mc_game.proofs.Apart.Outs.{to_other, to_own}
 
 same_alike : (k : ℕ) (w v : World) → SameBut k w v → AlikeBut k (silent w) (silent v)
 same_alike k w v a = record { worlds = a; hands = λ j ne. refl }

@@ -1,11 +1,10 @@
 -- A game stays good where an item is thrown, where a player enters and where one goes.
-use Rattle.std.proofs.Common.{◌≡◌, ◌≢◌, ℕ, ◌+◌, ◌<◌, ◌≤◌, List, [], ◌∷◌, ◌++◌, refl, sym, subst}
-use Rattle.std.proofs.Common.{ap, ◌∙◌, inl, inr, arith, Option, Some, None, Bool, true, false}
-use Rattle.std.specs.Prelude.{◌⊎◌, length}
+use Rattle.std.proofs.Common.{◌≡◌, ◌≢◌, ℕ, ◌+◌, ◌<◌, List, [], ◌∷◌, ◌++◌, refl, sym, subst}
+use Rattle.std.proofs.Common.{ap, ◌∙◌, inl, inr, arith, Option, Some, None, true, false}
+use Rattle.std.specs.Prelude.{length}
 use Rattle.std.proofs.lemmas.Bool.{cases_eq}
 use Rattle.std.proofs.lemmas.Int.{ints}
-use Rattle.std.specs.Ordering.{nat_cmp}
-use Rattle.std.specs.FinMap.{FinMap, get, insert, remove}
+use Rattle.std.specs.FinMap.{FinMap, get, remove}
 use lib.IntN.{pos}
 use Rattle.mc_fields.specs.declared.position.Spot.{Spot}
 use Rattle.mc_windows.specs.Pack.{PackValue, IsPack}
@@ -19,7 +18,7 @@ use Rattle.mc_game.specs.declared.player.Player.{Player}
 use Rattle.mc_game.specs.Maps.{name_cmp}
 use Rattle.mc_game.specs.Game.{Game, pack_named}
 use Rattle.mc_game.specs.Deeds.{enter_as, go_of, new_player, spawned}
-use Rattle.mc_game.specs.Good.{AreApart, Good, IsOwn, IsPlayed, IsWhole, is_body}
+use Rattle.mc_game.specs.Good.{AreApart, Good, IsOwn, IsPlayed, is_body}
 use Rattle.mc_game.proofs.Maps.Lookups.{gone_other, gone_same, name_cases, name_put_other}
 use Rattle.mc_game.proofs.Maps.Lookups.{name_put_same, put_other, put_same}
 use Rattle.mc_game.proofs.Maps.Entities.{found_before, found_behind, found_either}

@@ -1,9 +1,9 @@
 -- What is left of a game that players leave, one or several.
-use Rattle.std.proofs.Common.{◌≡◌, ◌≢◌, ℕ, Bool, true, false, cond, List, [], ◌∷◌, Option, Some, None}
-use Rattle.std.proofs.Common.{refl, sym, subst, ap, ◌∙◌, inl, inr, arith}
-use Rattle.std.specs.Prelude.{◌&&◌, ◌||◌, is_some, if◌then◌else◌}
+use Rattle.std.proofs.Common.{◌≡◌, ◌≢◌, ℕ, Bool, true, false, cond, List, [], ◌∷◌, Option, Some}
+use Rattle.std.proofs.Common.{None}
+use Rattle.std.proofs.Common.{refl, sym, subst, ap, ◌∙◌, inl, inr}
+use Rattle.std.specs.Prelude.{◌&&◌, ◌||◌, is_some}
 use Rattle.std.proofs.lemmas.Bool.{cases_eq}
-use Rattle.std.proofs.lemmas.Bool.Decides.{nat_tests}
 use Rattle.std.specs.List.{filter, list_any}
 use Rattle.std.specs.Ordering.{nat_cmp, eq_by_cmp}
 use Rattle.std.specs.FinMap.{contains_key-keys, get, keys}
@@ -54,10 +54,20 @@ pub record Stays (g v : Game) : Type 0 where
 pub leave_stays : (k : ℕ) (g : Game) → Stays g (leave k g)
 leave_stays k g = leave_cases k g (λ (v : Game). Stays g v)
     (λ none. record {
-      settings = refl; eids = refl; age = refl; edits = refl; packs = refl; lines = refl;
+      settings = refl;
+      eids = refl;
+      age = refl;
+      edits = refl;
+      packs = refl;
+      lines = refl;
     })
     (λ p there. record {
-      settings = refl; eids = refl; age = refl; edits = refl; packs = refl; lines = refl;
+      settings = refl;
+      eids = refl;
+      age = refl;
+      edits = refl;
+      packs = refl;
+      lines = refl;
     })
 
 -- ---- several
@@ -68,7 +78,12 @@ leave_all_good (k ∷ ks) g w = leave_all_good ks (leave k g) (leave_good k g w)
 
 pub leave_all_stays : (ks : List ℕ) (g : Game) → Stays g (leave_all ks g)
 leave_all_stays [] g = record {
-  settings = refl; eids = refl; age = refl; edits = refl; packs = refl; lines = refl;
+  settings = refl;
+  eids = refl;
+  age = refl;
+  edits = refl;
+  packs = refl;
+  lines = refl;
 }
 leave_all_stays (k ∷ ks) g =
     let a = leave_stays k g in

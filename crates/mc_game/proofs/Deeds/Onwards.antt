@@ -1,7 +1,7 @@
 -- What each deed of a player makes of a game: it stays good, the same are in play, and of no other
 -- player anything changes but what is noted for it.
-use Rattle.std.proofs.Common.{◌≡◌, ◌≢◌, ℕ, ◌+◌, ◌<◌, ◌≤◌, Bool, true, false, List, Option, Some}
-use Rattle.std.proofs.Common.{None, refl, sym, subst, ap, ◌∙◌, inl, inr, arith}
+use Rattle.std.proofs.Common.{◌≡◌, ◌≢◌, ℕ, ◌<◌, ◌≤◌, Bool, true, false, List, Option, Some}
+use Rattle.std.proofs.Common.{None, refl, ap, ◌∙◌, inl, inr, arith}
 use Rattle.std.specs.Prelude.{is_some, option_map, unwrap_or, if◌then◌else◌}
 use Rattle.std.proofs.lemmas.Bool.{cases_eq}
 use Rattle.std.specs.FinMap.{get}
@@ -12,20 +12,16 @@ use Rattle.mc_slots.specs.declared.pile.Item.{Item}
 use Rattle.mc_slots.specs.declared.pile.Pile.{Pile}
 use Rattle.mc_slots.specs.Pile.{IsPile}
 use Rattle.mc_windows.specs.Pack.{PackValue, IsPack, kit_pack}
-use Rattle.mc_entities.specs.declared.entity.Entity.{Entity}
-use Rattle.mc_entities.specs.declared.entity.EntityKind.{EntityKind}
-use Rattle.mc_entities.specs.Folk.{eid_of}
 use Rattle.mc_model.specs.Notes.{Noted}
 use Rattle.mc_model.specs.Things.{in_hand, holding, standing, with_hand}
 use Rattle.mc_game.specs.declared.player.Player.{Player}
-use Rattle.mc_game.specs.declared.settings.Settings.{Settings}
 use Rattle.mc_game.specs.Maps.{modify}
 use Rattle.mc_game.specs.Game.{Game, pack_of}
-use Rattle.mc_game.specs.Deeds.{noting, rehand_of, repack_of, said, spawned, stand_of, thrown}
+use Rattle.mc_game.specs.Deeds.{noting, rehand_of, repack_of, said, stand_of, thrown}
 use Rattle.mc_game.specs.Deeds.{with_player, with_state}
 use Rattle.mc_game.specs.Hands.{carrying}
-use Rattle.mc_game.specs.Good.{Good, IsOwn, IsWhole, body_of}
-use Rattle.mc_game.specs.Apart.{Traits, traits_of}
+use Rattle.mc_game.specs.Good.{Good, body_of}
+use Rattle.mc_game.specs.Apart.{traits_of}
 use Rattle.mc_game.proofs.Maps.Lookups.{changed_other, changed_same, name_changed_other}
 use Rattle.mc_game.proofs.Maps.Lookups.{name_changed_same}
 use Rattle.mc_game.proofs.Maps.Entities.{KeepsEid, changed_eid, changed_no_eid, changed_rise}

@@ -1,6 +1,6 @@
 -- A pack of which what is in the hand is another pile is one of what the world holds.
 use Rattle.std.proofs.Common.{◌≡◌, ℕ, zero, suc, ◌+◌, ◌-◌, ◌≤◌, List, [], ◌∷◌, refl, ◌∙◌, arith}
-use Rattle.std.proofs.Common.{subst, sym, ap, Some, None}
+use Rattle.std.proofs.Common.{subst, Some, None}
 use Rattle.std.specs.Prelude.{slice_set, unwrap_or}
 use Rattle.std.proofs.lemmas.List.{length-set}
 use Rattle.std.specs.FinMap.{get}
@@ -13,7 +13,7 @@ use Rattle.mc_windows.specs.Pack.{PackValue, IsPack, kit_pack}
 use Rattle.mc_windows.proofs.FirstPack.{kit_is_pack}
 use Rattle.mc_model.specs.Things.{with_hand}
 use Rattle.mc_game.specs.declared.player.Player.{Player}
-use Rattle.mc_game.specs.Game.{Game, held_by, pack_named, pack_of}
+use Rattle.mc_game.specs.Game.{Game, held_by, pack_named}
 use Rattle.mc_game.specs.Good.{Good}
 
 -- piles of which one is another pile

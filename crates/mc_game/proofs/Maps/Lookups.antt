@@ -1,16 +1,14 @@
 -- What is found in a finite map of which a value was put in, taken out or changed.
-use Rattle.std.proofs.Common.{◌≡◌, ◌≢◌, ℕ, Bool, true, false, cond, List, [], ◌∷◌, map, arith}
-use Rattle.std.proofs.Common.{Option, Some, None, refl, sym, subst, ap, ◌∙◌, inl, inr}
+use Rattle.std.proofs.Common.{◌≡◌, ◌≢◌, ℕ, Bool, true, false, cond, List, [], ◌∷◌, map}
+use Rattle.std.proofs.Common.{Some, None, refl, sym, subst, ap, ◌∙◌, inl, inr}
 use Rattle.std.specs.Prelude.{◌⊎◌, ◌||◌, option_map}
-use Rattle.std.proofs.lemmas.Bool.Decides.{nat_tests}
-use Rattle.std.proofs.lemmas.Bool.{eq-eqb, ne_eqb}
 use Rattle.std.specs.List.{list_any}
 use Rattle.std.specs.declared.cmp.Ordering.{Ordering}
 use Rattle.std.specs.Ordering.{nat_cmp, is_eq, eq_by_cmp}
-use Rattle.std.specs.Cmp.{IsTotalOrder, tied_itself, nat_cmp_total, unsigned_tied}
+use Rattle.std.specs.Cmp.{IsTotalOrder, tied_itself, nat_cmp_total}
 use Rattle.std.specs.Cmp.Lexicographic.{nat_list_cmp_total}
 use Rattle.std.specs.FinMap.{FinMap, IsAntisymmetric, find, get, insert, remove, entries, values}
-use Rattle.std.specs.FinMap.{from_entries, get-entries, get-from_entries, get-insert, get-remove}
+use Rattle.std.specs.FinMap.{get-entries, get-from_entries, get-insert, get-remove}
 use Rattle.std.specs.FinMap.{same_map, nat_cmp-IsAntisymmetric, slice_cmp-IsAntisymmetric}
 use Rattle.mc_model.proofs.Maps.{equal}
 use Rattle.mc_game.specs.Maps.{map_keyed, modify, name_cmp, with_value}
@@ -59,22 +57,22 @@ module _ {K X : Type 0} {R : K → K → Ordering} (o : IsTotalOrder R) (same : 
 
 -- each value changed by its key
 module _ {K X Y : Type 0} {R : K → K → Ordering} (o : IsTotalOrder R) (same : IsAntisymmetric R)
-    where
-  found_keyed : (f : K → X → Y) (q : K) (es : List (K × X)) →
-      find R q (map (λ (e : K × X). (e.0, f e.0 e.1)) es) ≡ option_map (f q) (find R q es)
-  found_keyed f q [] = refl
-  found_keyed f q (e ∷ es) = elim (eq_by_cmp R q e.0) as (λ b. eq_by_cmp R q e.0 ≡ b →
-      cond b (Some (f e.0 e.1)) (find R q (map (λ (e : K × X). (e.0, f e.0 e.1)) es))
-      ≡ option_map (f q) (cond b (Some e.1) (find R q es))) [
-        | true ↦ λ t. ap (λ k. Some (f k e.1)) (sym (same q e.0 (equal _ t)))
-        | false ↦ λ t. found_keyed f q es
-      ] refl
+  where
+    found_keyed : (f : K → X → Y) (q : K) (es : List (K × X)) →
+        find R q (map (λ (e : K × X). (e.0, f e.0 e.1)) es) ≡ option_map (f q) (find R q es)
+    found_keyed f q [] = refl
+    found_keyed f q (e ∷ es) = elim (eq_by_cmp R q e.0) as (λ b. eq_by_cmp R q e.0 ≡ b →
+        cond b (Some (f e.0 e.1)) (find R q (map (λ (e : K × X). (e.0, f e.0 e.1)) es))
+        ≡ option_map (f q) (cond b (Some e.1) (find R q es))) [
+          | true ↦ λ t. ap (λ k. Some (f k e.1)) (sym (same q e.0 (equal _ t)))
+          | false ↦ λ t. found_keyed f q es
+        ] refl
 
-  keyed : (f : K → X → Y) (m : FinMap R X) (q : K) →
-      get (map_keyed f m) q ≡ option_map (f q) (get m q)
-  unfolding map_keyed
-  keyed f m q = get-from_entries o (map (λ (e : K × X). (e.0, f e.0 e.1)) (entries m)) q
-      ∙ found_keyed f q (entries m) ∙ ap (option_map (f q)) (sym (get-entries m q))
+    keyed : (f : K → X → Y) (m : FinMap R X) (q : K) →
+        get (map_keyed f m) q ≡ option_map (f q) (get m q)
+    unfolding map_keyed
+    keyed f m q = get-from_entries o (map (λ (e : K × X). (e.0, f e.0 e.1)) (entries m)) q
+        ∙ found_keyed f q (entries m) ∙ ap (option_map (f q)) (sym (get-entries m q))
 
 -- ---- by numbers
 

@@ -1,19 +1,15 @@
 -- Bytes close a connection just for the cause of the first frame that closes it.
-use Rattle.std.proofs.Common.{◌≡◌, ◌≢◌, ℕ, ◌+◌, ◌<◌, ◌≤◌, Bool, true, false, List, [], ◌∷◌, ◌++◌, map}
-use Rattle.std.proofs.Common.{Option, Some, None, refl, sym, subst, ap, ◌∙◌, length, arith}
-use Rattle.std.specs.Prelude.{◌↔◌, nat_le, is_some, if◌then◌else◌}
-use Rattle.std.proofs.lemmas.Bool.{leb-true, leb-false, lt-leb}
-use Rattle.std.specs.FinMap.{get}
+use Rattle.std.proofs.Common.{◌≡◌, ℕ, Bool, true, false, List, [], ◌∷◌, ◌++◌}
+use Rattle.std.proofs.Common.{Option, Some, None, refl, sym, subst, ap, ◌∙◌, arith}
+use Rattle.std.specs.Prelude.{◌↔◌}
+use Rattle.std.proofs.lemmas.Bool.{leb-true, leb-false}
 use Rattle.mc_frame.specs.declared.fault.FrameFault.{FrameFault}
-use Rattle.mc_frame.specs.Cut.{Cut}
-use Rattle.mc_frame.specs.Kept.{outbox_max}
 use Rattle.mc_up.specs.declared.play_up.PlayUp.{PlayUp}
 use Rattle.mc_model.specs.declared.cause.Cause.{Cause}
 use Rattle.mc_model.specs.declared.cause.Cause.TheVariants as causes
 use Rattle.mc_model.specs.declared.cause.Refusal.{Refusal}
-use Rattle.mc_model.specs.declared.stage.Stage.TheVariants as stages
 use Rattle.mc_model.specs.Names.{offline_uuid}
-use Rattle.mc_model.specs.Packets.{Sent, of_status, bytes_of}
+use Rattle.mc_model.specs.Packets.{Sent, of_status}
 use Rattle.mc_model.specs.Talk.{ClientRequest, nothing, greets, replies, ends, enters, acts, wrong}
 use Rattle.mc_model.specs.Talk.{farewell, refused, accepted}
 use Rattle.mc_model.specs.World.{is_closed}
@@ -21,8 +17,8 @@ use Rattle.mc_game.specs.Game.{Game}
 use Rattle.mc_game.specs.Acts.{act}
 use Rattle.mc_game.specs.Link.{Handing, Link, hand, mark_closed}
 use Rattle.mc_game.specs.World.{Seat, Turn}
-use Rattle.mc_game.specs.Step.{acted, answer_login, asked_by, entered, heard, on_fault, on_frame}
-use Rattle.mc_game.specs.Step.{on_frames, perform, refusal, when_open}
+use Rattle.mc_game.specs.Step.{acted, answer_login, asked_by, entered, on_fault, on_frame}
+use Rattle.mc_game.specs.Step.{on_frames, perform, refusal}
 use Rattle.mc_game.specs.Promised.{HasCause}
 use Rattle.mc_game.specs.Causes.{EnteringCloses, FirstCloses, IsTooMuch, NextCloses, RequestCloses}
 use Rattle.mc_game.specs.Causes.{or_backlog}
@@ -158,8 +154,7 @@ pub frames_close : (k : ℕ) (frames : List (List ℕ)) (s : Seat) (fault : Opti
     (c : Cause) → is_closed s.link.stage ≡ false → HasCause s.link →
     ((after_all k s frames fault).link.cause ≡ Some c ↔ FirstCloses k s frames fault c)
 frames_close k [] s fault c open_ has =
-    let f = fault_closes k s fault c open_ (no_cause s.link has open_) in
-    (
+    let f = fault_closes k s fault c open_ (no_cause s.link has open_) in (
       λ e. record { good = []; later = []; parts = refl; still_open = open_; closes = f.0 e },
       λ first. (let none = no_frames first.good first.later first.parts in
           f.1 (subst (λ (later : List (List ℕ)). NextCloses k s later fault c) none.1
@@ -215,8 +210,7 @@ frames_close k (frame ∷ frames) s fault c open_ has =
         let stays : after_all k (on_frame k s frame).seat frames fault ≡ (on_frame k s frame).seat =
         ap (λ (x : Seat). (on_fault k x fault).seat)
         (closed_frames k (on_frame k s frame).seat frames t)
-        ∙ closed_fault k (on_frame k s frame).seat fault t in
-        (
+        ∙ closed_fault k (on_frame k s frame).seat fault t in (
           λ e. record {
             good = [];
             later = frame ∷ frames;
@@ -236,8 +230,7 @@ frames_close k (frame ∷ frames) s fault c open_ has =
             (closed_frames k (on_frame k s frame).seat behind.good t) ∙ t)
             ∙ behind.still_open in cc)
     at_stage false t later =
-        let i = later refl in
-        (
+        let i = later refl in (
           λ e. (let first = i.0 e in record {
             good = frame ∷ first.good;
             later = first.later;

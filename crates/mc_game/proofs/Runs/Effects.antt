@@ -1,34 +1,34 @@
 -- What an event makes of one connection: what it is handed, what it takes and what is lost of it.
-use Rattle.std.proofs.Common.{◌≡◌, ◌≢◌, ℕ, zero, suc, ◌+◌, Bool, true, false, cond, List, [], ◌∷◌, ◌++◌, length}
-use Rattle.std.proofs.Common.{Option, Some, None, refl, sym, subst, ap, ◌∙◌, inl, inr, drop, take, arith}
-use Rattle.std.specs.Prelude.{◌⊎◌, ◌==◌, ◌&&◌, nat_le, is_some, map, option_map, if◌then◌else◌}
+use Rattle.std.proofs.Common.{◌≡◌, ◌≢◌, ℕ, zero, suc, Bool, true, false, List, [], ◌∷◌, length}
+use Rattle.std.proofs.Common.{Option, Some, None, refl, sym, subst, ap, ◌∙◌, inl, inr, drop, take}
+use Rattle.std.proofs.Common.{arith}
+use Rattle.std.specs.Prelude.{◌==◌, nat_le, is_some, map, option_map, if◌then◌else◌}
 use Rattle.std.proofs.lemmas.Bool.{cases_eq, eq-eqb, ne_eqb, and_parts, leb-true}
 use Rattle.std.proofs.lemmas.List.{append-nil}
 use Rattle.std.specs.FinMap.{get, insert, remove}
 use Rattle.mc_model.specs.declared.cause.Cause.{Cause}
 use Rattle.mc_model.specs.declared.cause.Cause.TheVariants as causes
-use Rattle.mc_model.specs.declared.stage.Stage.TheVariants as stages
 use Rattle.mc_model.specs.Packets.{Sent, of_play}
 use Rattle.mc_model.specs.Run.{to}
 use Rattle.mc_model.specs.Step.{Event, joined, came, left, broke, ticked, took, forgot, is_new}
 use Rattle.mc_model.specs.Talk.{farewell}
-use Rattle.mc_model.specs.World.{is_closed, is_play}
+use Rattle.mc_model.specs.World.{is_closed}
 use Rattle.mc_game.specs.declared.player.Player.{Player}
-use Rattle.mc_game.specs.Link.{Handing, Link, disconnect, gone, hand, is_done, mark_closed, new_link}
-use Rattle.mc_game.specs.Link.{quiet}
+use Rattle.mc_game.specs.Link.{Handing, Link, disconnect, gone, hand, is_done, mark_closed}
+use Rattle.mc_game.specs.Link.{new_link}
 use Rattle.mc_game.specs.Showing.{due}
-use Rattle.mc_game.specs.World.{Outcome, Seat, Turn, World, on_link, on_seat, seat_of, silent}
-use Rattle.mc_game.specs.Tick.{at_tick, awaiting, grown, is_silent, tick, tick_hands}
+use Rattle.mc_game.specs.World.{Seat, Turn, World, on_link, on_seat, seat_of}
+use Rattle.mc_game.specs.Tick.{at_tick, awaiting, grown, tick, tick_hands}
 use Rattle.mc_game.specs.Step.{depart, forget, is_crowded, join, joining, on_bytes, step, take_from}
 use Rattle.mc_game.specs.Run.{lost_at, owed_in, owed_of, taken_at}
 use Rattle.mc_game.specs.Good.{GoodWorld, in_play}
 use Rattle.mc_game.specs.Promised.{HasCause}
 use Rattle.mc_game.proofs.Maps.Lookups.{gone_other, gone_same, put_other, put_same}
-use Rattle.mc_game.proofs.Walk.Handings.{gone_closed, hand_cases, not_in_play}
+use Rattle.mc_game.proofs.Walk.Handings.{not_in_play}
 use Rattle.mc_game.proofs.Walk.Moves.{bytes_walk, walked_keeps}
 use Rattle.mc_game.proofs.Walk.Ticking.{after_tick, tick_cases, tick_handed, tick_link}
 use Rattle.mc_game.proofs.Apart.Outs.{handed_by, to_other, to_own}
-use Rattle.mc_game.proofs.Runs.Owing.{IsOwed, Owes, handed_owes, owes_kept}
+use Rattle.mc_game.proofs.Runs.Owing.{Owes, handed_owes, owes_kept}
 
 -- what is left of a link once what it did is handed out, taken and lost
 pub data Effect (k : ℕ) (last : Option ℕ) (o q : Option Link) (ps : List Sent)
@@ -103,9 +103,9 @@ pub seat_own : (w : World) (k : ℕ) (l : Link) (f : Seat → Turn) → get w.li
 seat_own w k l f there = subst (λ (o : Option Link).
     (get (on_link w k f o).world.links k ≡ Some (f (seat_of w k l)).seat.link)
     × (to k (on_link w k f o).out ≡ (f (seat_of w k l)).handed)) (sym there) (
-  put_same w.links k (f (seat_of w k l)).seat.link,
-  to_own k (f (seat_of w k l)).handed,
-)
+      put_same w.links k (f (seat_of w k l)).seat.link,
+      to_own k (f (seat_of w k l)).handed,
+    )
 
 seat_away : (w : World) (k : ℕ) (f : Seat → Turn) → get w.links k ≡ None →
     (get (on_seat w k f).world.links k ≡ get w.links k) × (to k (on_seat w k f).out ≡ [])

@@ -1,31 +1,28 @@
 -- Each event closes just the connections that it has a cause to close, each for that.
-use Rattle.std.proofs.Common.{◌≡◌, ◌≢◌, ℕ, Bool, true, false, List, [], ◌∷◌, ◌++◌, map, Option, Some}
-use Rattle.std.proofs.Common.{None, refl, sym, subst, ap, ◌∙◌, inl, inr, length, drop}
-use Rattle.std.specs.Prelude.{◌↔◌, ◌⊎◌, is_some, option_map, if◌then◌else◌}
+use Rattle.std.proofs.Common.{◌≡◌, ◌≢◌, ℕ, Bool, true, false, List, ◌++◌, map, Option, Some}
+use Rattle.std.proofs.Common.{None, refl, sym, subst, ap, ◌∙◌, inl, inr, length}
+use Rattle.std.specs.Prelude.{◌↔◌, is_some, option_map, if◌then◌else◌}
 use Rattle.std.specs.Option.{option_and_then}
 use Rattle.std.proofs.lemmas.Bool.{cases_eq}
 use Rattle.std.specs.FinMap.{get, insert, remove}
 use Rattle.mc_model.specs.declared.cause.Cause.{Cause}
 use Rattle.mc_model.specs.declared.cause.Cause.TheVariants as causes
 use Rattle.mc_model.specs.Cutting.{cut_of}
-use Rattle.mc_model.specs.Packets.{Sent, of_play}
+use Rattle.mc_model.specs.Packets.{of_play}
 use Rattle.mc_model.specs.Step.{Event, joined, came, left, broke, ticked, took, forgot, is_new}
 use Rattle.mc_model.specs.Talk.{farewell}
-use Rattle.mc_model.specs.World.{is_closed, is_play}
 use Rattle.mc_game.specs.declared.player.Player.{Player}
-use Rattle.mc_game.specs.Link.{Handing, Link, disconnect, gone, hand, is_done, mark_closed, new_link}
-use Rattle.mc_game.specs.Link.{quiet}
+use Rattle.mc_game.specs.Link.{Handing, Link, is_done, mark_closed, new_link}
 use Rattle.mc_game.specs.Showing.{due}
 use Rattle.mc_game.specs.World.{Seat, Turn, World, on_link, on_seat, seat_of}
 use Rattle.mc_game.specs.Tick.{at_tick, awaiting, grown, is_silent, tick}
-use Rattle.mc_game.specs.Step.{depart, forget, is_crowded, join, joining, on_bytes, on_cut, read_to}
+use Rattle.mc_game.specs.Step.{depart, forget, is_crowded, join, joining, on_bytes, read_to}
 use Rattle.mc_game.specs.Step.{step, take_from}
 use Rattle.mc_game.specs.Run.{cause_in}
-use Rattle.mc_game.specs.Good.{GoodWorld, in_play}
+use Rattle.mc_game.specs.Good.{GoodWorld}
 use Rattle.mc_game.specs.Promised.{HasCause}
-use Rattle.mc_game.specs.Causes.{BytesClose, Closes, IsOpen, IsTooMuch, TickCloses, or_backlog}
+use Rattle.mc_game.specs.Causes.{BytesClose, Closes, IsOpen, TickCloses}
 use Rattle.mc_game.proofs.Maps.Lookups.{gone_other, gone_same, put_other, put_same}
-use Rattle.mc_game.proofs.Walk.Handings.{not_in_play}
 use Rattle.mc_game.proofs.Walk.Ticking.{after_tick, tick_cases, tick_link}
 use Rattle.mc_game.proofs.Runs.Effects.{seat_own, seat_rests}
 use Rattle.mc_game.proofs.Runs.Closings.{frames_close, hand_closes, last_closes}
@@ -79,8 +76,7 @@ module _ (w : World) (k : ℕ) (c : Cause) (none : cause_in k w ≡ None)
           else w).links k) ≡ Some c
           ↔ ((is_new k w.last ≡ true) × (is_crowded w ≡ true) × (c ≡ causes.Crowded)))
       at_new true t =
-          let x = crowd (is_crowded w) in
-          (
+          let x = crowd (is_crowded w) in (
             λ e. (let both = x.0 (sym (ap cause_of (put_same w.links k (joining w))) ∙ e) in
                 (t, both.0, both.1)),
             λ all. ap cause_of (put_same w.links k (joining w)) ∙ x.1 (all.1, all.2),
@@ -104,8 +100,7 @@ module _ (w : World) (k : ℕ) (c : Cause) (none : cause_in k w ≡ None)
       at_link (Some l) is =
           let o = opens l is in
           let a = (seat_own w k l f is).0 in
-          let d = does l o in
-          (
+          let d = does l o in (
             λ e. (l, o, d.0 (sym (ap cause_of a) ∙ e)),
             λ all. ap cause_of a ∙ d.1 (subst (λ (x : Link). Q x)
                 (same_link all.0 l all.1.is_there is) all.2),
@@ -143,16 +138,14 @@ module _ (w : World) (k : ℕ) (c : Cause) (none : cause_in k w ≡ None)
           (λ all. none_some (get w.game.players k) all.0 nobody all.1))
           (λ p there. o.open_)
           (λ p there silent.
-          let x = last_closes l causes.Silent (farewell l.stage causes.Silent) c in
-          (
+          let x = last_closes l causes.Silent (farewell l.stage causes.Silent) c in (
             λ e. (p, there, rw silent (x.0 e)),
             λ all. x.1 (rw silent at all.2),
           ))
           (λ p there speaks.
           let x = hand_closes (awaiting (grown w.game) (get w.shown k) l)
           (map of_play (due (at_tick w).game (get w.shown k) p)) c
-          (ap cause_of (sym o.is_there) ∙ none) in
-          (
+          (ap cause_of (sym o.is_there) ∙ none) in (
             λ e. (p, there, rw speaks (x.0 e)),
             λ all. x.1 (subst (λ (q : Player). TickCloses false w k l q c)
                 (some_is all.0 p (sym all.1 ∙ there)) (rw speaks at all.2)),
@@ -168,8 +161,7 @@ module _ (w : World) (k : ℕ) (c : Cause) (none : cause_in k w ≡ None)
       at_link (Some l) is =
           let o = opens l is in
           let x = of_player l o in
-          let a = tick_link w k ∙ ap (option_map (λ (l : Link). (after_tick w k l).link)) is in
-          (
+          let a = tick_link w k ∙ ap (option_map (λ (l : Link). (after_tick w k l).link)) is in (
             λ e. (let y = x.0 (sym (ap cause_of a) ∙ e) in (l, y.0, o, y.1, y.2)),
             λ all. ap cause_of a ∙ x.1 (subst (λ (m : Link). closes_by m)
                 (same_link all.0 l all.2.is_there is) (all.1, all.3, all.4)),
@@ -243,8 +235,7 @@ closing w (left j) k c good has none = elim (cases_eq j k) [
       (cause_in k (on_seat w n (depart n causes.Gone)).world ≡ Some c
       ↔ ((l : Link) × IsOpen w k l × (c ≡ causes.Gone)))) (sym same)
       (own w k c none has (depart k causes.Gone) (λ (l : Link). c ≡ causes.Gone)
-      (gone_own w k c none has causes.Gone)) in
-      (
+      (gone_own w k c none has causes.Gone)) in (
         λ e. (let a = i.0 e in (same, (a.0, a.1), a.2)),
         λ all. i.1 (all.1.0, all.1.1, all.2),
       ))
@@ -255,8 +246,7 @@ closing w (broke j) k c good has none = elim (cases_eq j k) [
       (cause_in k (on_seat w n (depart n causes.Broke)).world ≡ Some c
       ↔ ((l : Link) × IsOpen w k l × (c ≡ causes.Broke)))) (sym same)
       (own w k c none has (depart k causes.Broke) (λ (l : Link). c ≡ causes.Broke)
-      (gone_own w k c none has causes.Broke)) in
-      (
+      (gone_own w k c none has causes.Broke)) in (
         λ e. (let a = i.0 e in (same, (a.0, a.1), a.2)),
         λ all. i.1 (all.1.0, all.1.1, all.2),
       ))
@@ -267,8 +257,10 @@ closing w (took j n) k c good has none = neither
     (elim (cases_eq j k) [
       | inl same ↦ subst (λ (m : ℕ). cause_in k (on_seat w m (take_from n)).world ≡ Some c → ⊥)
           (sym same) (λ e. (let a = (own w k c none has (take_from n) (λ (l : Link). ⊥)
-          (λ l o. (λ is. none_some (cause_in k w) c none (ap cause_of o.is_there ∙ is),
-          λ no_way. absurd no_way))).0 e in a.2))
+          (λ l o. (
+            λ is. none_some (cause_in k w) c none (ap cause_of o.is_there ∙ is),
+            λ no_way. absurd no_way,
+          ))).0 e in a.2))
       | inr ne ↦ others w k c none has j (take_from n) ne
     ])
     (λ no_way. no_way)

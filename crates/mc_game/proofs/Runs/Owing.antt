@@ -1,23 +1,21 @@
 -- What a connection is owed, and why it is closed, after whatever its bytes do.
-use Rattle.std.proofs.Common.{◌≡◌, ◌≢◌, ℕ, ◌+◌, Bool, true, false, List, [], ◌∷◌, ◌++◌, Option, Some, None}
-use Rattle.std.proofs.Common.{refl, sym, subst, ap, ◌∙◌, append_assoc, inl, inr, length}
-use Rattle.std.specs.Prelude.{◌⊎◌, is_some, if◌then◌else◌}
-use Rattle.std.specs.List.{flat_map}
+use Rattle.std.proofs.Common.{◌≡◌, ◌≢◌, ℕ, true, false, List, [], ◌∷◌, ◌++◌, Option, Some}
+use Rattle.std.proofs.Common.{refl, sym, subst, ap, ◌∙◌, append_assoc, inl, inr}
+use Rattle.std.specs.Prelude.{◌⊎◌, is_some}
 use Rattle.std.proofs.lemmas.List.{append-nil}
 use Rattle.mc_up.specs.declared.play_up.PlayUp.{PlayUp}
 use Rattle.mc_up.specs.declared.play_up.PlayUp.TheVariants.{KeepAlive}
-use Rattle.mc_model.specs.declared.cause.Cause.{Cause}
 use Rattle.mc_model.specs.declared.cause.Cause.TheVariants as causes
 use Rattle.mc_model.specs.declared.stage.Stage.{Stage}
 use Rattle.mc_model.specs.declared.stage.Stage.TheVariants as stages
 use Rattle.mc_model.specs.Packets.{Sent, bytes_of, frame_of}
 use Rattle.mc_model.specs.World.{is_closed}
-use Rattle.mc_game.specs.Link.{Handing, Link, gone, hand, mark_closed}
+use Rattle.mc_game.specs.Link.{Handing, Link, hand, mark_closed}
 use Rattle.mc_game.specs.World.{Seat, Turn}
-use Rattle.mc_game.specs.Step.{heard, turn}
+use Rattle.mc_game.specs.Step.{heard}
 use Rattle.mc_game.specs.Promised.{HasCause}
 use Rattle.mc_game.proofs.Walk.Handings.{hand_cases}
-use Rattle.mc_game.proofs.Walk.Moves.{Kept, OutMove, keeps, does, shakes, answers, closes}
+use Rattle.mc_game.proofs.Walk.Moves.{Kept, keeps, does, shakes, answers, closes}
 use Rattle.mc_game.proofs.Walk.Moves.{comes_in}
 
 some_is : {A : Type 0} (a b : A) → ◌≡◌ {A = Option A} (Some a) (Some b) → a ≡ b

@@ -1,6 +1,7 @@
 -- What a connection took, what was lost of it and what it is owed are what it was handed; and the
 -- cause that is kept of it is its first.
-use Rattle.std.proofs.Common.{◌≡◌, ◌≢◌, ℕ, zero, suc, Bool, true, false, List, [], ◌∷◌, ◌++◌, Option, Some, None}
+use Rattle.std.proofs.Common.{◌≡◌, ◌≢◌, ℕ, zero, suc, Bool, true, false, List, [], ◌∷◌, ◌++◌}
+use Rattle.std.proofs.Common.{Option, Some, None}
 use Rattle.std.proofs.Common.{refl, sym, subst, ap, ◌∙◌, inl, inr, append_assoc, drop, take}
 use Rattle.std.specs.Prelude.{◌⊎◌, is_some}
 use Rattle.std.specs.Option.{option_and_then}
@@ -16,7 +17,7 @@ use Rattle.mc_model.specs.World.{is_closed}
 use Rattle.mc_game.specs.declared.settings.Settings.{Settings}
 use Rattle.mc_game.specs.Link.{Link}
 use Rattle.mc_game.specs.World.{Outcome, World, new_world}
-use Rattle.mc_game.specs.Tick.{aged, at_tick, shown_all, tick}
+use Rattle.mc_game.specs.Tick.{aged, at_tick, shown_all}
 use Rattle.mc_game.specs.Step.{step}
 use Rattle.mc_game.specs.Run.{cause_in, handed, history, lost, lost_at, owed_of, stream, taken}
 use Rattle.mc_game.specs.Run.{taken_at, why}
@@ -165,8 +166,11 @@ module _ (k : ℕ) (last later : Option ℕ) (o q : Option Link) (st tk lo : Lis
   going l m is now owed closed caused kept =
       let owed_now : owed_of q ≡ [] = ap owed_of now ∙ owed in
       record {
-        begun = (a.begun.0, append-nil st ∙ a.begun.1
-            ∙ ap (λ (xs : List ℕ). xs ++ a.begun.0) (sym (append-nil tk)));
+        begun = (
+          a.begun.0,
+          append-nil st ∙ a.begun.1
+              ∙ ap (λ (xs : List ℕ). xs ++ a.begun.0) (sym (append-nil tk)),
+        );
         whole = λ ne.
             append-nil st ∙ a.whole (first_not y (cause_of q) causes.Backlog ne)
             ∙ ap (λ (x : Option Link). tk ++ (lo ++ owed_of x)) is
@@ -203,8 +207,11 @@ module _ (k : ℕ) (last later : Option ℕ) (o q : Option Link) (st tk lo : Lis
       let owed_is : owed_of o ≡ l.owed = ap owed_of is in
       record {
         begun = elim (is_backlog y) [
-          | inl much ↦ (a.begun.0, append-nil st ∙ a.begun.1
-              ∙ ap (λ (xs : List ℕ). xs ++ a.begun.0) (sym (no_more n l much owed_is)))
+          | inl much ↦ (
+            a.begun.0,
+            append-nil st ∙ a.begun.1
+                ∙ ap (λ (xs : List ℕ). xs ++ a.begun.0) (sym (no_more n l much owed_is)),
+          )
           | inr ne ↦ (
             lo ++ drop n l.owed,
             append-nil st ∙ a.whole ne ∙ ap (λ (xs : List ℕ). tk ++ (lo ++ xs)) owed_is
@@ -363,7 +370,7 @@ module _ (k : ℕ) where
             ← append_assoc st (bytes_of (to k (step w e).out)) (stream k (step w e).world events),
             ← append_assoc tk (taken_at k w e) (taken k (step w e).world events),
             ← append_assoc lo (lost_at k w e) (lost k (step w e).world events),
-            ← first_again y (cause_in k (step w e).world) (why k (step w e).world events)
+            ← first_again y (cause_in k (step w e).world) (why k (step w e).world events),
           ) account
 
 nothing_yet : (k : ℕ) (settings : Settings) →

@@ -1,30 +1,27 @@
 -- Whatever happens to one connection, its seat stays good, and of the players of others nothing
 -- changes but what is noted for them.
-use Rattle.std.proofs.Common.{◌≡◌, ◌≢◌, ℕ, ◌+◌, ◌≤◌, Bool, true, false, List, Option, Some, None}
+use Rattle.std.proofs.Common.{◌≡◌, ◌≢◌, ℕ, ◌≤◌, Bool, true, false, List, Option, Some, None}
 use Rattle.std.proofs.Common.{refl, sym, subst, ap, ◌∙◌, arith}
-use Rattle.std.specs.Prelude.{◌==◌, ◌&&◌, ◌||◌, not, nat_lt, is_some, option_map, if◌then◌else◌}
+use Rattle.std.specs.Prelude.{◌==◌, not, is_some, option_map, if◌then◌else◌}
 use Rattle.std.proofs.lemmas.Bool.{eq-eqb}
 use Rattle.std.specs.List.{list_any}
-use Rattle.std.specs.FinMap.{get, len}
+use Rattle.std.specs.FinMap.{get}
 use lib.IntN.{ℤ}
-use Rattle.mc_entities.specs.declared.entity.TheConstants.{EID_MAX}
 use Rattle.mc_model.specs.declared.cause.Cause.{Cause}
-use Rattle.mc_model.specs.declared.cause.Refusal.{Refusal}
 use Rattle.mc_model.specs.declared.cause.Refusal.TheVariants as refusals
 use Rattle.mc_model.specs.declared.stage.Stage.{Stage}
 use Rattle.mc_model.specs.declared.stage.Stage.TheVariants as stages
 use Rattle.mc_model.specs.Names.{is_name, offline_uuid}
-use Rattle.mc_model.specs.Packets.{Sent, of_status}
+use Rattle.mc_model.specs.Packets.{Sent}
 use Rattle.mc_model.specs.Step.{is_47}
-use Rattle.mc_model.specs.Talk.{accepted}
 use Rattle.mc_model.specs.World.{is_closed, is_play}
 use Rattle.mc_game.specs.declared.player.Player.{Player}
-use Rattle.mc_game.specs.Game.{Game, is_known, players_of}
-use Rattle.mc_game.specs.Deeds.{enter_as, new_player}
-use Rattle.mc_game.specs.Leaving.{leave, left_by}
+use Rattle.mc_game.specs.Game.{Game, players_of}
+use Rattle.mc_game.specs.Deeds.{enter_as}
+use Rattle.mc_game.specs.Leaving.{leave}
 use Rattle.mc_game.specs.Link.{Handing, Link, gone, hand, mark_closed, quiet}
 use Rattle.mc_game.specs.World.{Seat, Turn}
-use Rattle.mc_game.specs.Step.{depart, entered, heard, refusal, take_from, turn}
+use Rattle.mc_game.specs.Step.{depart, entered, refusal, take_from, turn}
 use Rattle.mc_game.specs.Good.{Good}
 use Rattle.mc_game.specs.Apart.{traits_of}
 use Rattle.mc_game.proofs.Maps.Lookups.{any_found, put_other, put_same}
@@ -32,7 +29,7 @@ use Rattle.mc_game.proofs.Deeds.Coming.{enter_good}
 use Rattle.mc_game.proofs.Deeds.Leaving.{leave_good, leave_other, leave_same, leave_stays}
 use Rattle.mc_game.proofs.Acts.ActOn.{act_on}
 use Rattle.mc_game.proofs.Walk.Handings.{gone_closed, hand_cases, heard_stage, not_in_play}
-use Rattle.mc_game.proofs.Walk.Moves.{Kept, OutMove, keeps, does, shakes, answers, closes}
+use Rattle.mc_game.proofs.Walk.Moves.{Kept, keeps, does, shakes, answers, closes}
 use Rattle.mc_game.proofs.Walk.Moves.{comes_in}
 
 -- what of a game one connection leaves as it was: the players of others, and what all rests on

@@ -1,25 +1,24 @@
 -- A world is good along every run.
-use Rattle.std.proofs.Common.{◌≡◌, ◌≢◌, ℕ, ◌<◌, Bool, true, false, cond, List, [], ◌∷◌, Option, Some}
+use Rattle.std.proofs.Common.{◌≡◌, ◌≢◌, ℕ, true, false, cond, List, [], ◌∷◌, Option, Some}
 use Rattle.std.proofs.Common.{None, refl, sym, subst, ap, ◌∙◌, inl, inr, arith}
-use Rattle.std.specs.Prelude.{◌⊎◌, ◌&&◌, nat_lt, nat_le, length, is_some, option_map, if◌then◌else◌}
+use Rattle.std.specs.Prelude.{nat_le, length, is_some, option_map, if◌then◌else◌}
 use Rattle.std.proofs.lemmas.Bool.{cases_eq, lt-ltb, ltb-true, and_parts}
 use Rattle.std.proofs.lemmas.Int.{ints}
 use Rattle.std.specs.Ordering.{nat_cmp}
-use Rattle.std.specs.FinMap.{FinMap, empty, get, get-empty, insert, remove}
+use Rattle.std.specs.FinMap.{get, get-empty, insert, remove}
 use Rattle.mc_model.specs.declared.cause.Cause.TheVariants as causes
 use Rattle.mc_model.specs.Step.{Event, is_new}
 use Rattle.mc_model.specs.World.{is_closed, is_play}
 use Rattle.mc_game.specs.declared.player.Player.{Player}
 use Rattle.mc_game.specs.declared.settings.Settings.{Settings}
-use Rattle.mc_game.specs.Game.{Game, new_game}
 use Rattle.mc_game.specs.Link.{Handing, Link, is_done, mark_closed, new_link}
-use Rattle.mc_game.specs.World.{Outcome, Seat, Turn, World, each, new_world, seat_of, seated, silent}
+use Rattle.mc_game.specs.World.{Outcome, Seat, Turn, World, each, new_world, seat_of}
 use Rattle.mc_game.specs.World.{is_closing, with_seat}
-use Rattle.mc_game.specs.Tick.{aged, at_tick, beat, beats, flush, flushed, shown_all, tick, told}
+use Rattle.mc_game.specs.Tick.{aged, at_tick, flushed, shown_all}
 use Rattle.mc_game.specs.Tick.{told_player}
 use Rattle.mc_game.specs.Step.{depart, is_crowded, joining, step, take_from}
 use Rattle.mc_game.specs.Run.{history}
-use Rattle.mc_game.specs.Good.{Good, GoodWorld, in_play}
+use Rattle.mc_game.specs.Good.{GoodWorld, in_play}
 use Rattle.mc_game.specs.Apart.{traits_of}
 use Rattle.mc_game.proofs.Maps.Lookups.{gone_other, gone_same, put_other, put_same}
 use Rattle.mc_game.proofs.Walk.Each.{ClosesOrStays, beat_stage, closing_plays, each_good, each_last}
@@ -208,6 +207,7 @@ new_good settings = record {
   where
     nobody : {p : Player} → ◌≡◌ {A = Option Player} None (Some p) → ⊥
     nobody e = cc
+
     nothing_there : {A : Type 0} {x : A} → ◌≡◌ {A = Option A} None (Some x) → ⊥
     nothing_there e = cc
 

@@ -1,9 +1,8 @@
 -- The world after each connection was handed something: who is there, and who is in play.
-use Rattle.std.proofs.Common.{◌≡◌, ℕ, ◌+◌, Bool, true, false, cond, List, [], ◌∷◌, ◌++◌, map, length}
+use Rattle.std.proofs.Common.{◌≡◌, ℕ, Bool, true, false, cond, List, map}
 use Rattle.std.proofs.Common.{Option, Some, None, refl, sym, subst, ap, ◌∙◌, inl, inr}
-use Rattle.std.specs.Prelude.{◌⊎◌, nat_le, is_some, option_map, if◌then◌else◌}
-use Rattle.std.specs.FinMap.{FinMap, get}
-use Rattle.mc_frame.specs.Kept.{outbox_max}
+use Rattle.std.specs.Prelude.{◌⊎◌, is_some, option_map, if◌then◌else◌}
+use Rattle.std.specs.FinMap.{get}
 use Rattle.mc_model.specs.declared.cause.Cause.{Cause}
 use Rattle.mc_model.specs.declared.cause.Cause.TheVariants as causes
 use Rattle.mc_model.specs.declared.stage.Stage.{Stage}
@@ -12,13 +11,13 @@ use Rattle.mc_model.specs.Sight.{Sight}
 use Rattle.mc_model.specs.Talk.{farewell}
 use Rattle.mc_model.specs.World.{is_closed, is_play}
 use Rattle.mc_game.specs.declared.player.Player.{Player}
-use Rattle.mc_game.specs.Maps.{map_keyed}
 use Rattle.mc_game.specs.Game.{Game}
 use Rattle.mc_game.specs.Link.{Handing, Link, disconnect, hand, mark_closed, quiet}
 use Rattle.mc_game.specs.Showing.{due}
 use Rattle.mc_game.specs.World.{World, closed_by, each, is_closing}
-use Rattle.mc_game.specs.Tick.{awaiting, beat, beat_of, flush, flush_of, is_silent, told, told_player}
-use Rattle.mc_game.specs.Good.{Good, in_play}
+use Rattle.mc_game.specs.Tick.{awaiting, beat, beat_of, flush, flush_of, is_silent, told}
+use Rattle.mc_game.specs.Tick.{told_player}
+use Rattle.mc_game.specs.Good.{Good}
 use Rattle.mc_game.proofs.Maps.Lookups.{get_keyed}
 use Rattle.mc_game.proofs.Deeds.Keeping.{Was, Will, refined}
 use Rattle.mc_game.proofs.Deeds.Leaving.{Stays, leave_all_good, leave_all_stays, left_of_all}

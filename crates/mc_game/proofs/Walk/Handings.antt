@@ -1,6 +1,6 @@
 -- Handing out and closing: what a link becomes, case by case.
-use Rattle.std.proofs.Common.{◌≡◌, ℕ, ◌+◌, Bool, true, false, [], ◌++◌, length, refl}
-use Rattle.std.specs.Prelude.{nat_le, Some, if◌then◌else◌}
+use Rattle.std.proofs.Common.{◌≡◌, ◌+◌, Bool, true, false, [], ◌++◌, length, refl}
+use Rattle.std.specs.Prelude.{nat_le, if◌then◌else◌}
 use Rattle.mc_frame.specs.Kept.{outbox_max}
 use Rattle.mc_up.specs.declared.play_up.PlayUp.{PlayUp}
 use Rattle.mc_up.specs.declared.play_up.PlayUp.TheVariants.{KeepAlive}

@@ -1,6 +1,7 @@
 -- What the bytes of one connection can do, case by case, with what it is handed: the one relation
 -- that every law over runs is proved by. And that whatever bytes come do no more.
-use Rattle.std.proofs.Common.{◌≡◌, ◌≢◌, ℕ, ◌+◌, List, [], ◌∷◌, ◌++◌, refl, sym, subst, ap, ◌∙◌, append_assoc}
+use Rattle.std.proofs.Common.{◌≡◌, ◌≢◌, ℕ, List, [], ◌∷◌, ◌++◌, refl, sym, subst, ap, ◌∙◌}
+use Rattle.std.proofs.Common.{append_assoc}
 use Rattle.std.specs.Prelude.{Bool, true, false, Option, Some, None, Result, Ok, Err, length}
 use Rattle.std.specs.Prelude.{◌==◌, if◌then◌else◌}
 use Rattle.std.proofs.lemmas.List.{append-nil}
@@ -37,7 +38,7 @@ use Rattle.mc_game.specs.Game.{Game}
 use Rattle.mc_game.specs.Acts.{act}
 use Rattle.mc_game.specs.Link.{disconnect, hand}
 use Rattle.mc_game.specs.World.{Seat, Turn, Unread}
-use Rattle.mc_game.specs.Step.{acted, after, answer_login, asked_by, disconnect_for}
+use Rattle.mc_game.specs.Step.{acted, answer_login, asked_by, disconnect_for}
 use Rattle.mc_game.specs.Step.{entered, heard, on_bytes}
 use Rattle.mc_game.specs.Step.{on_cut, on_fault, on_frame, on_frames, perform, read_to, refusal}
 use Rattle.mc_game.specs.Step.{still, turn, when_open}
@@ -149,8 +150,12 @@ walked_by k s t move = record {
   moves = t ∷ [];
   are = (
     move,
-    (still t.seat, refl, ap (λ (ps : List Sent). record { seat = t.seat; handed = ps })
-        (sym (append-nil t.handed))),
+    (
+      still t.seat,
+      refl,
+      ap (λ (ps : List Sent). record { seat = t.seat; handed = ps })
+          (sym (append-nil t.handed)),
+    ),
   );
 }
 
@@ -169,16 +174,15 @@ walked_on k s t u a b = record {
         (λ are. are) then_
     join k s u later (m ∷ us) t are then_ =
         let v = are.1.0 in
-        let is = are.1.2 in
-        (
+        let is = are.1.2 in (
           are.0,
           (
             record { seat = u.seat; handed = v.handed ++ u.handed },
             join k m.seat u later us v are.1.1
-            (subst (λ (x : Turn). AreMoves k x.seat later u) is then_),
+                (subst (λ (x : Turn). AreMoves k x.seat later u) is then_),
             ap (λ (x : Turn). record { seat = u.seat; handed = x.handed ++ u.handed }) is
-            ∙ ap (λ (ps : List Sent). record { seat = u.seat; handed = ps })
-            (append_assoc m.handed v.handed u.handed),
+                ∙ ap (λ (ps : List Sent). record { seat = u.seat; handed = ps })
+                (append_assoc m.handed v.handed u.handed),
           ),
         )
 

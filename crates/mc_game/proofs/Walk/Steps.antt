@@ -1,5 +1,5 @@
 -- What an event makes of the world, case by case.
-use Rattle.std.proofs.Common.{◌≡◌, ℕ, Bool, true, false, Option, Some, None, refl, subst, sym, ap}
+use Rattle.std.proofs.Common.{◌≡◌, ℕ, Bool, true, false, Option, Some, None, refl}
 use Rattle.std.specs.Prelude.{if◌then◌else◌}
 use Rattle.std.specs.FinMap.{get, insert, remove}
 use Rattle.mc_model.specs.declared.cause.Cause.{Cause}
@@ -7,7 +7,8 @@ use Rattle.mc_model.specs.declared.cause.Cause.TheVariants as causes
 use Rattle.mc_model.specs.Step.{Event, joined, came, left, broke, ticked, took, forgot, is_new}
 use Rattle.mc_model.specs.Texts.{farewell_text}
 use Rattle.mc_game.specs.Link.{Link, is_done}
-use Rattle.mc_game.specs.World.{Outcome, Seat, Turn, World, on_link, on_seat, seat_of, seated, silent}
+use Rattle.mc_game.specs.World.{Outcome, Seat, Turn, World, on_link, on_seat, seat_of, seated}
+use Rattle.mc_game.specs.World.{silent}
 use Rattle.mc_game.specs.Tick.{tick}
 use Rattle.mc_game.specs.Step.{depart, forget, join, joining, on_bytes, step, take_from}
 use Rattle.mc_game.proofs.Walk.Moves.{Walked, bytes_walk}

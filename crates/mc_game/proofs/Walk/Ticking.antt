@@ -1,7 +1,7 @@
 -- What a tick makes of one connection, case by case, with what it is handed.
-use Rattle.std.proofs.Common.{◌≡◌, ℕ, Bool, true, false, cond, List, [], ◌++◌, map, Option, Some, None}
+use Rattle.std.proofs.Common.{◌≡◌, ℕ, Bool, true, false, cond, List, ◌++◌, map, Option, Some, None}
 use Rattle.std.proofs.Common.{refl, sym, subst, ap, ◌∙◌}
-use Rattle.std.specs.Prelude.{option_map, if◌then◌else◌}
+use Rattle.std.specs.Prelude.{option_map}
 use Rattle.std.proofs.lemmas.List.{append-nil}
 use Rattle.std.specs.FinMap.{get}
 use Rattle.mc_model.specs.declared.cause.Cause.TheVariants as causes
@@ -11,11 +11,10 @@ use Rattle.mc_model.specs.Sight.{Sight}
 use Rattle.mc_model.specs.Talk.{farewell}
 use Rattle.mc_model.specs.World.{is_closed}
 use Rattle.mc_game.specs.declared.player.Player.{Player}
-use Rattle.mc_game.specs.Game.{Game}
 use Rattle.mc_game.specs.Link.{Handing, Link, disconnect, hand, quiet}
 use Rattle.mc_game.specs.Showing.{due}
-use Rattle.mc_game.specs.World.{World, each, is_closing}
-use Rattle.mc_game.specs.Tick.{aged, at_tick, awaiting, beat, beat_of, flush, flush_of, flushed, grown}
+use Rattle.mc_game.specs.World.{World, is_closing}
+use Rattle.mc_game.specs.Tick.{aged, at_tick, awaiting, beat, beat_of, flush, flush_of, grown}
 use Rattle.mc_game.specs.Tick.{is_silent, shown_all, tick, tick_hands}
 use Rattle.mc_game.proofs.Walk.Each.{disconnect_closes, each_links, each_players, each_shown}
 use Rattle.mc_game.proofs.Apart.Outs.{handed_by, to_each}
@@ -86,8 +85,11 @@ module _ (w : World) (k : ℕ) (l : Link) (P : Handing → Type 0)
       is_silent (grown w.game) (get w.shown k) l ≡ true →
       now ≡ cond (is_closed (beat_of (grown w.game) (get w.shown k) l (Some p)).link.stage) None
       (Some p) → now ≡ None
-  gone_now p now quiet_ is = is ∙ rw (quiet_, disconnect_closes l causes.Silent
-      (farewell l.stage causes.Silent)) refl
+  gone_now p now quiet_ is = is ∙ rw (
+    quiet_,
+    disconnect_closes l causes.Silent
+        (farewell l.stage causes.Silent),
+  ) refl
 
   alone : (h : Handing) (now : Option Player) → now ≡ None → P h → P (then_flushed w k h now)
   alone h now none p = subst (λ (o : Option Player). P (then_flushed w k h o)) (sym none)

@@ -1,6 +1,7 @@
 -- No player loses or makes an item by what it does.
-use Rattle.std.proofs.Common.{◌≡◌, ℕ, ◌+◌, ◌*◌, ◌≤◌, Bool, true, false, List, [], ◌∷◌, Option, Some, None}
-use Rattle.std.proofs.Common.{refl, sym, subst, ap, ◌∙◌, arith}
+use Rattle.std.proofs.Common.{◌≡◌, ℕ, ◌+◌, ◌*◌, ◌≤◌, Bool, true, false, List, [], ◌∷◌, Option, Some}
+use Rattle.std.proofs.Common.{None}
+use Rattle.std.proofs.Common.{refl, subst, ap, arith}
 use Rattle.std.specs.Prelude.{◌&&◌, ◌==◌, not, min, nat_lt, if◌then◌else◌}
 use Rattle.std.specs.Option.{option_and_then}
 use Rattle.std.proofs.lemmas.Bool.{and_parts, eqb-true}
@@ -35,7 +36,7 @@ use Rattle.mc_game.specs.Deeds.{noting, said, stand_of, with_player, with_state}
 use Rattle.mc_game.specs.Hands.{carrying, take_up}
 use Rattle.mc_game.specs.Movement.{arrive, arrived, placed_again}
 use Rattle.mc_game.specs.Digging.{can_dig, digging, drop_held, dropped, dug, feet_of}
-use Rattle.mc_game.specs.Placing.{is_free, place_at, place_on, placed, put_block}
+use Rattle.mc_game.specs.Placing.{is_free, place_at, placed, put_block}
 use Rattle.mc_game.specs.Reaching.{is_in_reach}
 use Rattle.mc_game.specs.Acts.{act, act_by, act_of}
 use Rattle.mc_game.specs.Good.{Good}

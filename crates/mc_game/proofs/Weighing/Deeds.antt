@@ -1,15 +1,14 @@
 -- How many items of a sort each deed spends and gains.
-use Rattle.std.proofs.Common.{◌≡◌, ◌≢◌, ℕ, ◌+◌, ◌*◌, ◌<◌, ◌≤◌, Bool, true, false, cond, not, List, []}
-use Rattle.std.proofs.Common.{◌∷◌, ◌++◌, Option, Some, None, refl, sym, subst, ap, ◌∙◌, arith, length}
-use Rattle.std.specs.Prelude.{◌&&◌, ◌==◌, ◌≤ℤ◌, ◌<ℤ◌, is_some, option_map, unsigned_abs, unwrap_or}
+use Rattle.std.proofs.Common.{◌≡◌, ℕ, ◌+◌, ◌*◌, ◌<◌, ◌≤◌, Bool, true, false, cond, not, List, []}
+use Rattle.std.proofs.Common.{◌∷◌, Option, Some, None, refl, ap, ◌∙◌, arith, length}
+use Rattle.std.specs.Prelude.{◌&&◌, ◌==◌, ◌≤ℤ◌, is_some, option_map, unsigned_abs, unwrap_or}
 use Rattle.std.specs.Prelude.{if◌then◌else◌}
 use Rattle.std.proofs.lemmas.Bool.Decides.{nat_tests, Decides-int_eq}
 use Rattle.std.proofs.lemmas.Int.{ints}
 use Rattle.std.proofs.lemmas.List.Sums.{sum_by-cons}
-use Rattle.std.specs.List.{sum_by}
 use Rattle.std.specs.Ordering.{int_eq}
 use Rattle.std.specs.Cmp.Lexicographic.{nat_list_cmp_total}
-use Rattle.std.specs.FinMap.{entries, get, insert, len, len-insert}
+use Rattle.std.specs.FinMap.{get, insert, len, len-insert}
 use lib.IntN.{ℤ, pos}
 use Rattle.mc_fields.specs.declared.position.Cell.{Cell}
 use Rattle.mc_fields.specs.declared.position.Spot.{Spot}
@@ -19,7 +18,7 @@ use Rattle.mc_slots.specs.declared.pile.Item.{Item}
 use Rattle.mc_slots.specs.declared.pile.Pile.{Pile}
 use Rattle.mc_slots.specs.declared.pile.Pile.TheVariants.{Full}
 use Rattle.mc_slots.specs.Pile.{IsItem, Sort, held}
-use Rattle.mc_windows.specs.Pack.{PackValue, IsPack, kit_pack}
+use Rattle.mc_windows.specs.Pack.{PackValue, kit_pack}
 use Rattle.mc_windows.specs.Stock.{in_pack}
 use Rattle.mc_entities.specs.declared.entity.Entity.{Entity}
 use Rattle.mc_entities.specs.declared.entity.EntityKind.{EntityKind}
@@ -39,7 +38,7 @@ use Rattle.mc_game.specs.declared.player.Player.{Player}
 use Rattle.mc_game.specs.declared.settings.Settings.{Settings}
 use Rattle.mc_game.specs.Maps.{modify, with_value}
 use Rattle.mc_game.specs.Game.{Game, held_by, pack_named, pack_of, state_in}
-use Rattle.mc_game.specs.Deeds.{enter_as, go_of, rehand_of, spawned, stand_of, thrown, with_state}
+use Rattle.mc_game.specs.Deeds.{enter_as, go_of, rehand_of, stand_of, thrown, with_state}
 use Rattle.mc_game.specs.Hands.{carrying}
 use Rattle.mc_game.specs.Good.{Good, IsOwn, is_body}
 use Rattle.mc_game.specs.Balance.{Balance, in_packs, stock}
@@ -259,7 +258,8 @@ pub go_weighs : (id damage k : ℕ) (p : Player) (g : Game) → Good g → get g
     Weighs id damage 0 0 g (go_of k p g)
 go_weighs id damage k p g w there = (let o = w.own k p there in
     same_weighs id damage g (go_of k p g) refl refl refl
-    (body_gone (sort_of id damage) (pos p.eid) (pos 0) (pos g.eids) g.entities _ w.rise o.body refl))
+    (body_gone (sort_of id damage) (pos p.eid) (pos 0) (pos g.eids) g.entities _ w.rise o.body
+    refl))
 
 -- a name that comes for the first time has the kit
 pub enter_balance : (k : ℕ) (name : List ℕ) (g : Game) → Balance g → Balance (enter_as k name g)

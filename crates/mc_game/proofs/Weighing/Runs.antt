@@ -1,7 +1,7 @@
 -- No item is lost or made along a run.
-use Rattle.std.proofs.Common.{◌≡◌, ℕ, Bool, true, false, List, [], ◌∷◌, ◌++◌, Option, Some, None, length}
+use Rattle.std.proofs.Common.{◌≡◌, ℕ, true, false, List, [], ◌∷◌, length}
 use Rattle.std.proofs.Common.{refl, sym, subst, ap, ◌∙◌, arith}
-use Rattle.std.specs.Prelude.{is_some, if◌then◌else◌}
+use Rattle.std.specs.Prelude.{if◌then◌else◌}
 use Rattle.std.specs.declared.cmp.Ordering.{Ordering}
 use Rattle.std.specs.FinMap.{empty, entries, get, len-empty, len-entries}
 use Rattle.mc_land.specs.Places.{key_cmp}
@@ -19,16 +19,15 @@ use Rattle.mc_game.specs.Deeds.{enter_as}
 use Rattle.mc_game.specs.Leaving.{leave, leave_all, left_by}
 use Rattle.mc_game.specs.Link.{Handing, Link, disconnect, gone, hand}
 use Rattle.mc_game.specs.World.{Outcome, Seat, Turn, World, closed_by, each, new_world, seat_of}
-use Rattle.mc_game.specs.World.{with_seat}
-use Rattle.mc_game.specs.Tick.{aged, at_tick, flushed, shown_all, tick}
-use Rattle.mc_game.specs.Step.{depart, entered, step, take_from}
+use Rattle.mc_game.specs.Tick.{aged, at_tick, shown_all}
+use Rattle.mc_game.specs.Step.{entered, step}
 use Rattle.mc_game.specs.Run.{history}
 use Rattle.mc_game.specs.Good.{Good, GoodWorld}
 use Rattle.mc_game.specs.Balance.{Balance}
 use Rattle.mc_game.proofs.Deeds.Coming.{enter_good}
 use Rattle.mc_game.proofs.Deeds.Leaving.{leave_cases, leave_good}
 use Rattle.mc_game.proofs.Walk.Each.{told_good}
-use Rattle.mc_game.proofs.Walk.Moves.{Kept, OutMove, Walked, keeps, does, shakes, answers, closes}
+use Rattle.mc_game.proofs.Walk.Moves.{Kept, OutMove, keeps, does, shakes, answers, closes}
 use Rattle.mc_game.proofs.Walk.Moves.{comes_in, walked_keeps}
 use Rattle.mc_game.proofs.Walk.Steps.{Move, departs, forgets, joins, passes, rests, sits}
 use Rattle.mc_game.proofs.Walk.Steps.{step_moves, takes}
