@@ -4,3 +4,4 @@ pub mod Senders
 pub mod Twins
 pub mod Ticks
 pub mod Isolation
+pub mod BadFrames

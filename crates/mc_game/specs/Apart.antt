@@ -1,15 +1,20 @@
 -- What one connection does not change of another; and two worlds that are the same but for one
 -- connection, which is closed or not there in both. Rules of this project.
-use Rattle.std.specs.Prelude.{◌≡◌, ◌≢◌, ℕ, true, false, List, [], Option, Some, None, option_map}
+use Rattle.std.specs.Prelude.{◌≡◌, ◌≢◌, ℕ, true, false, List, [], ◌∷◌, ◌++◌, Option, Some, None, option_map}
 use Rattle.std.specs.FinMap.{get}
 use lib.IntN.{ℤ}
+use Rattle.mc_frame.specs.declared.fault.FrameFault.{FrameFault}
+use Rattle.mc_frame.specs.Cut.{Cut}
+use Rattle.mc_model.specs.Cutting.{cut_of}
 use Rattle.mc_model.specs.Run.{to}
 use Rattle.mc_model.specs.Step.{Event, joined, came, left, broke, ticked, took, forgot}
+use Rattle.mc_model.specs.Talk.{ClientRequest, nothing, greets, replies, ends, enters, acts, wrong}
 use Rattle.mc_model.specs.World.{is_closed}
 use Rattle.mc_game.specs.declared.player.Player.{Player}
 use Rattle.mc_game.specs.Link.{Link}
-use Rattle.mc_game.specs.World.{Outcome, World}
-use Rattle.mc_game.specs.Step.{is_crowded}
+use Rattle.mc_game.specs.Acts.{act}
+use Rattle.mc_game.specs.World.{Outcome, Seat, World, seat_of, unread_of}
+use Rattle.mc_game.specs.Step.{asked_by, is_crowded, on_frames}
 
 -- an event is of a connection
 abbrev pub IsOf : ℕ → Event → Type 0
@@ -89,3 +94,36 @@ LetsIn w other = Unit {0}
 abbrev pub IsNoJoin : Event → Type 0
 IsNoJoin (joined j) = ⊥
 IsNoJoin other = Unit {0}
+
+-- ---- a bad frame
+
+-- the cut of bytes behind those of a connection that were not read
+abbrev pub cut_behind : World → ℕ → List ℕ → Cut
+cut_behind w k bytes =
+    cut_of (unread_of k w).before ((unread_of k w).rest ++ bytes)
+
+-- the next frame, or the length behind them, closes a connection for what it is: no packet, a
+-- number that stands for none, or no length
+abbrev pub IsBadRequest : ℕ → Seat → ClientRequest → Type 0
+IsBadRequest k s (wrong fault) = Unit {0}
+IsBadRequest k s (acts packet) = act s.game k packet ≡ None
+IsBadRequest k s other = ⊥
+
+abbrev pub IsBad : ℕ → Seat → List (List ℕ) → Option FrameFault → Type 0
+IsBad k s (frame ∷ later) fault = IsBadRequest k s (asked_by s frame)
+IsBad k s [] (Some fault) = Unit {0}
+IsBad k s [] None = ⊥
+
+-- Bytes come to an open connection of which a bad frame closes it; what stands before that frame
+-- are whole frames, after which it is open still.
+pub record HasBadFrame (k : ℕ) (w : World) (bytes before : List ℕ) : Type 0 where
+  pub link : Link
+  pub there : get w.links k ≡ Some link
+  pub open_ : is_closed link.stage ≡ false
+  pub good : List (List ℕ)
+  pub later : List (List ℕ)
+  pub parts : (cut_behind w k bytes).frames ≡ good ++ later
+  pub whole : (cut_behind w k before).frames ≡ good
+  pub clean : (cut_behind w k before).fault ≡ None
+  pub still_open : is_closed (on_frames k (seat_of w k link) good).seat.link.stage ≡ false
+  pub bad : IsBad k (on_frames k (seat_of w k link) good).seat later (cut_behind w k bytes).fault

@@ -101,7 +101,7 @@ request_closes k s (acts packet) c none =
 request_closes k s (wrong fault) c none = last_closes s.link (causes.Packet fault)
     (farewell s.link.stage (causes.Packet fault)) c
 
-frame_is : (k : ℕ) (s : Seat) (frame : List ℕ) → is_closed s.link.stage ≡ false →
+pub frame_is : (k : ℕ) (s : Seat) (frame : List ℕ) → is_closed s.link.stage ≡ false →
     on_frame k s frame ≡ perform k s (asked_by s frame)
 unfolding on_frame
 frame_is k s frame open_ = rw open_ refl
@@ -119,7 +119,7 @@ closed_frames k s (frame ∷ frames) closed =
     ap (λ (t : Seat). (on_frames k t frames).seat) (closed_frame k s frame closed)
     ∙ closed_frames k s frames closed
 
-closed_fault : (k : ℕ) (s : Seat) (fault : Option FrameFault) → is_closed s.link.stage ≡ true →
+pub closed_fault : (k : ℕ) (s : Seat) (fault : Option FrameFault) → is_closed s.link.stage ≡ true →
     (on_fault k s fault).seat ≡ s
 closed_fault k s None closed = refl
 closed_fault k s (Some fault) closed = rw closed refl

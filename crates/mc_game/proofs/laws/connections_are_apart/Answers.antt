@@ -1,3 +1,4 @@
+use Rattle.mc_game.proofs.Apart.BadFrames.{frames_elsewhere}
 use Rattle.mc_game.proofs.Apart.Isolation.{broke_as_left, others_apart, own_step_apart}
 use Rattle.mc_game.proofs.Runs.Worlds.{always_good}
 use Rattle.mc_game.proofs.laws.connections_are_apart.Goals as goal
