@@ -1,6 +1,7 @@
 -- What one connection does not change of another; and two worlds that are the same but for one
 -- connection, which is closed or not there in both. Rules of this project.
-use Rattle.std.specs.Prelude.{◌≡◌, ◌≢◌, ℕ, true, false, List, [], ◌∷◌, ◌++◌, Option, Some, None, option_map}
+use Rattle.std.specs.Prelude.{◌≡◌, ◌≢◌, ℕ, true, false, List, [], ◌∷◌, ◌++◌, Option, Some, None}
+use Rattle.std.specs.Prelude.{option_map}
 use Rattle.std.specs.FinMap.{get}
 use lib.IntN.{ℤ}
 use Rattle.mc_frame.specs.declared.fault.FrameFault.{FrameFault}
@@ -8,7 +9,7 @@ use Rattle.mc_frame.specs.Cut.{Cut}
 use Rattle.mc_model.specs.Cutting.{cut_of}
 use Rattle.mc_model.specs.Run.{to}
 use Rattle.mc_model.specs.Step.{Event, joined, came, left, broke, ticked, took, forgot}
-use Rattle.mc_model.specs.Talk.{ClientRequest, nothing, greets, replies, ends, enters, acts, wrong}
+use Rattle.mc_model.specs.Talk.{ClientRequest, acts, wrong}
 use Rattle.mc_model.specs.World.{is_closed}
 use Rattle.mc_game.specs.declared.player.Player.{Player}
 use Rattle.mc_game.specs.Link.{Link}

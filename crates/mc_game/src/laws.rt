@@ -1,8 +1,9 @@
 ghost use Rattle.std.specs.Prelude.{◌≡◌, List, Some, ℕ};
 ghost use Rattle.std.specs.FinMap.{get};
-ghost use Rattle.mc_model.specs.Step.{Event, broke, left};
+ghost use Rattle.mc_model.specs.Step.{Event, broke, came, left};
 ghost use Rattle.mc_game.specs.declared.settings.Settings.{Settings as Begun};
-ghost use Rattle.mc_game.specs.Apart.{AlikeBut, IsNoJoin, IsOf, LetsIn, OnlySender, SameBut};
+ghost use Rattle.mc_game.specs.Apart.{AlikeBut, HasBadFrame, IsNoJoin, IsOf, LetsIn, OnlySender};
+ghost use Rattle.mc_game.specs.Apart.{SameBut};
 ghost use Rattle.mc_game.specs.Balance.{Balance};
 ghost use Rattle.mc_game.specs.Causes.{ClosesFirst};
 ghost use Rattle.mc_game.specs.Good.{GoodWorld};
@@ -29,7 +30,8 @@ pub fn only_senders_change()
 
 /// What others do, and ticks, in two worlds that are the same but for one connection leaves them so
 /// and hands all others the same; and whatever is done to that connection in one of them leaves
-/// them so. One that broke leaves the world, but for itself, as if it had gone.
+/// them so. One that broke leaves the world, but for itself, as if it had gone; and so does one that a
+/// bad frame closes, as if only what stands before that frame had come.
 pub fn connections_are_apart()
     ensures others { (settings : Begun) (events : List Event) (v : World) (k : ℕ) (e : Event) →
         SameBut k (history (new_world settings) events) v → (IsOf k e → ⊥) →
@@ -40,6 +42,9 @@ pub fn connections_are_apart()
         SameBut k (step (history (new_world settings) events) e).world v }
     ensures broke { (w : World) (k : ℕ) (l : Link) → get w.links k ≡ Some l →
         SameBut k (step w (broke k)).world (step w (left k)).world }
+    ensures bad { (w : World) (k : ℕ) (bytes before : List ℕ) → HasBadFrame k w bytes before →
+        SameBut k (step w (came k bytes)).world
+        (step (step w (came k before)).world (left k)).world }
 {}
 
 /// What a connection took is the first bytes of what was handed to it, also once it is closed and

@@ -1,4 +1,4 @@
-use Rattle.mc_game.proofs.Apart.BadFrames.{frames_elsewhere}
+use Rattle.mc_game.proofs.Apart.BadFrames.{bad_twin}
 use Rattle.mc_game.proofs.Apart.Isolation.{broke_as_left, others_apart, own_step_apart}
 use Rattle.mc_game.proofs.Runs.Worlds.{always_good}
 use Rattle.mc_game.proofs.laws.connections_are_apart.Goals as goal
@@ -14,4 +14,5 @@ returns c = record {
       own_step_apart k (history (new_world settings) events) v e is no_join
       (always_good settings events) same;
   broke = λ w k l there. broke_as_left k w l there;
+  bad = λ w k bytes before bad. bad_twin k w bytes before bad;
 }
