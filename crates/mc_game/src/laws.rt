@@ -30,8 +30,8 @@ pub fn only_senders_change()
 
 /// What others do, and ticks, in two worlds that are the same but for one connection leaves them so
 /// and hands all others the same; and whatever is done to that connection in one of them leaves
-/// them so. One that broke leaves the world, but for itself, as if it had gone; and so does one that a
-/// bad frame closes, as if only what stands before that frame had come.
+/// them so. One that broke leaves the world, but for itself, as if it had gone; and so does one
+/// that a bad frame closes, as if only what stands before that frame had come.
 pub fn connections_are_apart()
     ensures others { (settings : Begun) (events : List Event) (v : World) (k : ℕ) (e : Event) →
         SameBut k (history (new_world settings) events) v → (IsOf k e → ⊥) →
