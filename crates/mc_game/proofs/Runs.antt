@@ -6,3 +6,4 @@ pub mod Effects
 pub mod Promises
 pub mod Closings
 pub mod FirstCauses
+pub mod Lasting

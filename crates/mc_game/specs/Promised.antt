@@ -1,12 +1,13 @@
 -- Which bytes a connection took of those that it was handed, and for which cause it is closed.
 -- Rules of this project.
-use Rattle.std.specs.Prelude.{◌≡◌, ◌≢◌, ℕ, List, ◌++◌, Some, is_some}
+use Rattle.std.specs.Prelude.{◌≡◌, ◌≢◌, ℕ, true, List, [], ◌++◌, Some, None, is_some}
 use Rattle.std.specs.FinMap.{get}
 use Rattle.mc_model.specs.declared.cause.Cause.TheVariants as causes
 use Rattle.mc_model.specs.Step.{Event}
 use Rattle.mc_model.specs.World.{is_closed}
 use Rattle.mc_game.specs.Link.{Link}
 use Rattle.mc_game.specs.World.{World}
+use Rattle.mc_game.specs.Step.{step}
 use Rattle.mc_game.specs.Run.{history, lost, owed_in, stream, taken, why}
 
 -- a link is closed just where a cause is kept of it
@@ -22,3 +23,9 @@ pub record Promised (k : ℕ) (w : World) (events : List Event) : Type 0 where
       stream k w events ≡ taken k w events ++ (lost k w events ++ owed_in k (history w events))
   pub closed : (l : Link) → get (history w events).links k ≡ Some l → HasCause l
   pub cause : (l : Link) → get (history w events).links k ≡ Some l → l.cause ≡ why k w events
+
+-- after an event a connection is there still, or it was closed and owed nothing, and was forgotten
+pub data Lasts (k : ℕ) (w : World) (e : Event) (l : Link) : Type 0 where
+  stays : (m : Link) → get (step w e).world.links k ≡ Some m → Lasts k w e l
+  is_forgotten : is_closed l.stage ≡ true → l.owed ≡ [] →
+      get (step w e).world.links k ≡ None → Lasts k w e l

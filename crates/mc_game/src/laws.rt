@@ -8,7 +8,7 @@ ghost use Rattle.mc_game.specs.Balance.{Balance};
 ghost use Rattle.mc_game.specs.Causes.{ClosesFirst};
 ghost use Rattle.mc_game.specs.Good.{GoodWorld};
 ghost use Rattle.mc_game.specs.Link.{Link};
-ghost use Rattle.mc_game.specs.Promised.{Promised};
+ghost use Rattle.mc_game.specs.Promised.{Lasts, Promised};
 ghost use Rattle.mc_game.specs.Run.{history};
 ghost use Rattle.mc_game.specs.Step.{step};
 ghost use Rattle.mc_game.specs.World.{World, new_world};
@@ -67,4 +67,12 @@ pub fn closed_for_the_first_cause()
 pub fn items_are_kept()
     ensures { (settings : Begun) (events : List Event) →
         Balance (history (new_world settings) events).game }
+{}
+
+/// A connection is there from its joining until it is forgotten, and is forgotten only where it is
+/// closed and owed nothing.
+pub fn connections_last()
+    ensures { (settings : Begun) (events : List Event) (e : Event) (k : ℕ) (l : Link) →
+        get (history (new_world settings) events).links k ≡ Some l →
+        Lasts k (history (new_world settings) events) e l }
 {}
