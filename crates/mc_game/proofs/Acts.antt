@@ -1,0 +1,3 @@
+-- What each packet of a player makes of a game.
+pub mod Topics
+pub mod ActOn

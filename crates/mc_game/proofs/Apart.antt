@@ -1,0 +1,7 @@
+-- What connections have to do with one another: nothing but the game.
+pub mod Outs
+pub mod Senders
+pub mod Twins
+pub mod Ticks
+pub mod Isolation
+pub mod BadFrames

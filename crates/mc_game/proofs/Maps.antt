@@ -1,0 +1,3 @@
+-- Finite maps and lists of numbered things: what is found in one that was changed.
+pub mod Lookups
+pub mod Entities

@@ -1,0 +1,9 @@
+-- Laws over runs, a file each.
+pub mod Seats
+pub mod Worlds
+pub mod Owing
+pub mod Effects
+pub mod Promises
+pub mod Closings
+pub mod FirstCauses
+pub mod Lasting

@@ -1,0 +1,18 @@
+use Rattle.mc_game.proofs.Apart.BadFrames.{bad_twin}
+use Rattle.mc_game.proofs.Apart.Isolation.{broke_as_left, others_apart, own_step_apart}
+use Rattle.mc_game.proofs.Runs.Worlds.{always_good}
+use Rattle.mc_game.proofs.laws.connections_are_apart.Goals as goal
+use Rattle.mc_game.specs.Run.{history}
+use Rattle.mc_game.specs.World.{new_world}
+
+pub returns : goal.returns
+returns c = record {
+  others = λ settings events v k e same no_own few few_too.
+      others_apart k (history (new_world settings) events) v e no_own few few_too
+      (always_good settings events) same;
+  own = λ settings events v k e same is no_join.
+      own_step_apart k (history (new_world settings) events) v e is no_join
+      (always_good settings events) same;
+  broke = λ w k l there. broke_as_left k w l there;
+  bad = λ w k bytes before bad. bad_twin k w bytes before bad;
+}

@@ -1,0 +1,56 @@
+-- What a player digs and what it drops. Rules of this project; what the numbers of a Player Digging
+-- mean is of the page 'Protocol' of wiki.vg for protocol 47.
+use Rattle.std.specs.Prelude.{ℕ, ◌&&◌, Bool, min, nat_lt, [], ◌∷◌, if◌then◌else◌}
+use Rattle.std.specs.Ordering.{int_eq}
+use lib.IntN.{ℤ, pos}
+use Rattle.mc_fields.specs.declared.position.Cell.{Cell}
+use Rattle.mc_fields.specs.declared.position.Spot.{Spot}
+use Rattle.mc_slots.specs.declared.pile.Item.{Item}
+use Rattle.mc_slots.specs.declared.pile.Pile.{Pile}
+use Rattle.mc_slots.specs.declared.pile.Pile.TheVariants.{Empty, Full}
+use Rattle.mc_slots.specs.Pile.{without}
+use Rattle.mc_model.specs.Packs.{again, with_cells}
+use Rattle.mc_model.specs.Digging.{block_item, floor_of, is_dug}
+use Rattle.mc_game.specs.declared.player.Player.{Player}
+use Rattle.mc_game.specs.Game.{Game, held_by, room_in, spot_of, state_in}
+use Rattle.mc_game.specs.Deeds.{noting, thrown, with_state}
+use Rattle.mc_game.specs.Hands.{carrying}
+use Rattle.mc_game.specs.Reaching.{is_in_reach}
+
+-- ---- digging
+
+-- within reach, and with room for the item
+abbrev pub can_dig : Player → Cell → Game → Bool
+can_dig p cell g = is_in_reach g p cell && (is_dug (state_in g cell) && nat_lt 0 (room_in g))
+
+-- the cell is air, and what it was lies there
+abbrev pub dug : Cell → Game → Game
+dug cell g = thrown (block_item (state_in g cell)) (floor_of cell) (with_state cell 0 g)
+
+abbrev pub dig : ℕ → Player → Cell → Game → Game
+dig k p cell g = if can_dig p cell g then dug cell g else noting (with_cells (cell ∷ [])) k g
+
+-- ---- dropping
+
+-- where what a player drops lies: where it is, and turned to nothing
+abbrev pub feet_of : Player → Game → Spot
+feet_of p g = record (spot_of g p) { yaw = 0; pitch = 0 }
+
+-- so many of the item in its hand lie there, and it has the others
+abbrev pub dropped : Player → Item → ℕ → Game → Game
+dropped p item n g = thrown (record item { count = n }) (feet_of p g)
+    (carrying p (without (Full item) n) g)
+
+-- at most so many of what it has in its hand; nothing of nothing
+abbrev pub drop_held : ℕ → Player → ℕ → Pile → Game → Game
+drop_held k p n Empty g = g
+drop_held k p n (Full item) g =
+    if nat_lt 0 (room_in g) then dropped p item (min n item.count) g else noting again k g
+
+-- 2 digs a cell, 3 drops what is held and 4 one of it; others do nothing
+abbrev pub digging : ℕ → Player → ℤ → Cell → Game → Game
+digging k p status cell g =
+    if int_eq status (pos 2) then dig k p cell g
+    else if int_eq status (pos 3) then drop_held k p 64 (held_by g p) g
+    else if int_eq status (pos 4) then drop_held k p 1 (held_by g p) g
+    else g
