@@ -1,0 +1,8 @@
+use Rattle.std.proofs.Common.{◌∙◌}
+use Rattle.std.proofs.lemmas.Cmp.{nat_cmp_total}
+use Rattle.mc_play.proofs.Trees.{tree_get}
+use Rattle.mc_play.proofs.players.Players.find.Goals as goal
+
+pub returns : goal.returns
+returns c = rw (← c.self.view_is) (c.get.ensures.value
+    ∙ tree_get nat_cmp_total c.args.connection c.self.inside.by_connection.entries)

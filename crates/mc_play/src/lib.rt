@@ -1,0 +1,11 @@
+//! The game as a server keeps it: who is in play.
+//!
+//! Stands on the definitions of `mc_game`. Its one contract: each call makes of what is kept exactly
+//! what the definition makes of the game that it stands for.
+#![tactic(auto)]
+
+mod packs;
+mod players;
+
+pub use packs::Packs;
+pub use players::Players;

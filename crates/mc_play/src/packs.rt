@@ -1,0 +1,81 @@
+ghost use Rattle.std.specs.Prelude.{◌≡◌, OnErr, OnOk, unwrap_or};
+ghost use Rattle.std.specs.Option.{option_copied};
+ghost use Rattle.std.specs.FinMap.{empty, get, insert, len};
+ghost use Rattle.mc_windows.specs.Pack.{PackValue, kit_pack};
+ghost use Rattle.mc_game.specs.Maps.{modify};
+
+use indexmap::IndexMap;
+use mc_nbt::{NoMemory, Text};
+use mc_windows::{Pack, kit};
+use std::alloc::Global;
+use std::marker::Model;
+
+/// What each name carries that was ever in play, also while it is not. Contracts see it as the map
+/// of the names and their packs.
+#[derive(Drop)]
+pub struct Packs {
+    by_name: IndexMap<String, Pack>,
+}
+
+impl Model for Packs {
+    ghost use Rattle.std.specs.FinMap.{FinMap};
+    ghost use Rattle.mc_windows.specs.Pack.{PackValue};
+    ghost use Rattle.mc_game.specs.Maps.{name_cmp};
+    ghost use Rattle.mc_play.specs.Codes.{coded_packs};
+    ghost use Rattle.mc_play.specs.Named.{packs_of};
+
+    ghost Value = { FinMap name_cmp PackValue };
+
+    ghost coded = { coded_packs };
+
+    ghost view = { λ packs. packs_of packs.by_name.entries };
+}
+
+impl Packs {
+    /// No name was in play.
+    pub fn new(alloc: Global) -> Packs
+        ensures { result ≡ empty }
+    {
+        Packs {
+            by_name: IndexMap::new(alloc),
+        }
+    }
+
+    /// How many names there are.
+    pub fn len(&self) -> usize
+        ensures { result ≡ len self.now }
+    {
+        self.by_name.len()
+    }
+
+    /// What a name carries, None where it never was in play.
+    pub fn get(&self, name: &Text) -> Option<&Pack>
+        ensures { option_copied result ≡ get self.now name.now }
+    {
+        self.by_name.get(name.as_str())
+    }
+
+    /// Gives a name the kit, unless it was in play before. Without memory all is as before.
+    pub fn admit(&mut self, name: &Text) -> Result<(), NoMemory>
+        ensures ok { OnOk result (self.new
+            ≡ insert self.old name.now (unwrap_or (get self.old name.now) kit_pack)) }
+        ensures err { OnErr result (self.new ≡ self.old) }
+    {
+        if self.get(name).is_some() {
+            return Ok(());
+        }
+        let alloc = *self.by_name.allocator();
+        let name = String::from_str(alloc, name.as_str())?;
+        self.by_name.insert(name, kit())?;
+        Ok(())
+    }
+
+    /// Gives a name another pack, if it was ever in play. It takes no memory.
+    pub fn put(&mut self, name: &Text, pack: Pack)
+        ensures { self.new ≡ modify name.now (λ (old : PackValue). pack) self.old }
+    {
+        if let Some(kept) = self.by_name.get_mut(name.as_str()) {
+            *kept = pack;
+        }
+    }
+}
