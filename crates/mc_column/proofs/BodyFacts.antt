@@ -5,16 +5,16 @@ use Rattle.std.proofs.Common.{Result, Ok, Err, IfOk, IsErrOf, nat_lt}
 use Rattle.std.proofs.lemmas.Bool.Decides.{nat_tests}
 use Rattle.std.proofs.lemmas.Bool.{cases_order, lt-ltb, le-ltb}
 use Rattle.std.proofs.lemmas.List.{length-take, length-drop, get_or-take, get_or-drop, ext_get_or}
-use Rattle.mc_nbt.specs.declared.fault.Kind.TheVariants.{Short, BadLength}
-use Rattle.mc_nbt.specs.declared.fault.ReadFault.{ReadFault}
-use Rattle.mc_nbt.specs.declared.fault.ReadFault.TheVariants as faults
-use Rattle.mc_nbt.specs.declared.fault.FieldFault.{FieldFault}
+use Rattle.mc_bytes.specs.declared.fault.Kind.TheVariants.{Short, BadLength}
+use Rattle.mc_bytes.specs.declared.fault.ReadFault.{ReadFault}
+use Rattle.mc_bytes.specs.declared.fault.ReadFault.TheVariants as faults
+use Rattle.mc_bytes.specs.declared.fault.FieldFault.{FieldFault}
 use Rattle.mc_column.specs.Sizes.{section_cells, light_bytes}
 use Rattle.mc_column.specs.SizesLaws.{section_cells-is, light_bytes-is}
 use Rattle.mc_column.specs.Cells.{paired}
 use Rattle.mc_column.specs.Body.{BodyValue, SpellsBody, named_count, block_light_at, biomes_at}
 use Rattle.mc_column.specs.Body.{body_size, body_in, body_read}
-use Rattle.mc_nbt.specs.Placed.{PlacedGives, fault_at}
+use Rattle.mc_bytes.specs.Placed.{PlacedGives, fault_at}
 use Rattle.mc_column.proofs.Pairs.{length-paired, get_or-paired}
 
 pub biomes_with_sky : (count : ℕ) → count * 12288 ≡ count * (2 * section_cells) + count *

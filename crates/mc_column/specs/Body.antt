@@ -3,9 +3,9 @@
 use Rattle.std.specs.Prelude.{◌≡◌, ℕ, ◌+◌, ◌*◌, ◌/◌, ◌%◌, ◌^◌, ◌<◌, Bool, true, List, length, take}
 use Rattle.std.specs.Prelude.{drop, replicate, slice_index, nat_lt, ◌==◌, Result, Ok, Err}
 use Rattle.std.specs.Prelude.{if◌then◌else◌}
-use Rattle.mc_nbt.specs.declared.fault.Kind.TheVariants.{Short, BadLength}
-use Rattle.mc_nbt.specs.declared.fault.FieldFault.{FieldFault}
-use Rattle.mc_nbt.specs.Placed.{fault_at}
+use Rattle.mc_bytes.specs.declared.fault.Kind.TheVariants.{Short, BadLength}
+use Rattle.mc_bytes.specs.declared.fault.FieldFault.{FieldFault}
+use Rattle.mc_bytes.specs.Placed.{fault_at}
 use Rattle.mc_column.specs.Sizes.{section_count, section_cells, squares, light_bytes}
 use Rattle.mc_column.specs.Cells.{ColumnValue, section_of, joined, picked, rank, paired}
 

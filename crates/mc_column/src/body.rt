@@ -1,14 +1,14 @@
 ghost use Rattle.std.specs.Prelude.{◌≡◌, ◌*◌, ◌<◌, ◌≤◌, ◌↔◌, Ok, IfOk, IsErrOf, length, take, drop};
-ghost use Rattle.mc_nbt.specs.declared.fault.Kind.TheVariants.{Short, BadLength};
-ghost use Rattle.mc_nbt.specs.declared.fault.ReadFault.TheVariants as faults;
-ghost use Rattle.mc_nbt.specs.Placed.{PlacedGives, fault_at};
+ghost use Rattle.mc_bytes.specs.declared.fault.Kind.TheVariants.{Short, BadLength};
+ghost use Rattle.mc_bytes.specs.declared.fault.ReadFault.TheVariants as faults;
+ghost use Rattle.mc_bytes.specs.Placed.{PlacedGives, fault_at};
 ghost use Rattle.mc_column.specs.Sizes.{light_bytes};
 ghost use Rattle.mc_column.specs.Cells.{paired};
 ghost use Rattle.mc_column.specs.Body as spec;
 
 use crate::mask::rank;
 use crate::sizes::sections_of_column;
-use mc_nbt::{FieldFault, Kind, NoMemory, ReadFault};
+use mc_bytes::{FieldFault, Kind, NoMemory, ReadFault};
 use std::alloc::Global;
 use std::marker::Model;
 

@@ -15,7 +15,7 @@ use crate::section::Section;
 use crate::sizes::{biomes_of_column, sections_of_column};
 use crate::sparse::SparseSection;
 use crate::write::append_body;
-use mc_nbt::NoMemory;
+use mc_bytes::NoMemory;
 use std::alloc::Global;
 use std::marker::Model;
 

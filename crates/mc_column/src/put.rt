@@ -9,7 +9,7 @@ ghost use Rattle.mc_column.specs.KeptColumn.{nth_section};
 use crate::mask::{names, rank};
 use crate::sizes::{bytes_of_section, sections_of_column};
 use crate::sparse::SparseSection;
-use mc_nbt::NoMemory;
+use mc_bytes::NoMemory;
 use std::alloc::Global;
 use std::mem::swap;
 

@@ -9,7 +9,7 @@ ghost use Rattle.mc_column.specs.Sent.{has_block};
 
 use crate::light::{dim, put_row};
 use crate::sizes::{bytes_of_layer, bytes_of_section, layers_of_section};
-use mc_nbt::NoMemory;
+use mc_bytes::NoMemory;
 use std::alloc::Global;
 use std::marker::Model;
 

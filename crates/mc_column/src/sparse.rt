@@ -12,7 +12,7 @@ use crate::light::put_row;
 use crate::section::{Section, blocks};
 use crate::sizes::{bytes_of_section, layers_of_section};
 use crate::write::{append, append_zeros};
-use mc_nbt::NoMemory;
+use mc_bytes::NoMemory;
 use std::alloc::Global;
 use std::marker::Model;
 

@@ -1,18 +1,17 @@
 //! Packets to a client, read.
 
 ghost use Rattle.std.specs.Prelude.{◌≡◌, true, List, ℕ, Ok, IfOk};
-ghost use Rattle.mc_nbt.specs.Reading.{Gives};
+ghost use Rattle.mc_bytes.specs.Reading.{Gives};
 ghost use Rattle.mc_fields.specs.Row.{GivesRow, GivesPacket, fields_read, id_read, packet_read};
 ghost use Rattle.mc_fields.specs.Row.{packet_of, is_one_of};
-ghost use Rattle.mc_down.specs.declared.down.Down.{Down};
-ghost use Rattle.mc_down.specs.Down.{is_raw, raw, plugin, rows_from_00, rows_from_08, rows_from_13};
-ghost use Rattle.mc_down.specs.Down.{rows_from_1B, rows_from_2E, rows_from_3A, rows, SpellsDown};
+ghost use Rattle.mc_packets.specs.declared.down.Down.{Down};
+ghost use Rattle.mc_packets.specs.Down.{is_raw, raw, plugin, rows_from_00, rows_from_08};
+ghost use Rattle.mc_packets.specs.Down.{rows_from_13};
+ghost use Rattle.mc_packets.specs.Down.{rows_from_1B, rows_from_2E, rows_from_3A, rows, SpellsDown};
 
-use crate::Down;
-use crate::parts::{is_horse, take_horse_if, take_rest, take_speed_if};
-use crate::player_list::read_player_list;
+use mc_bytes::{Cursor, ReadError, Text};
 use mc_fields::{Field, PacketRead, RowError, RowFault, VarInt, take_varint, whole};
-use mc_nbt::{Cursor, ReadError, Text};
+use mc_packets::{Down, is_horse, read_player_list, take_horse_if, take_rest, take_speed_if};
 use std::alloc::Global;
 
 /// Whether a packet's fields are not taken apart.
@@ -55,7 +54,7 @@ fn read_plugin(alloc: Global, cursor: &mut Cursor<'_>) -> Result<Down, ReadError
 }
 
 /// The fields of the packet with this id, from 3A on.
-#[tactic(auto, unfolding(crate::specs::Down::rows_from_3A))]
+#[tactic(auto, unfolding(mc_packets::specs::Down::rows_from_3A))]
 fn read_from_3a(alloc: Global, cursor: &mut Cursor<'_>, id: i32) -> Result<Down, RowError>
     ensures { GivesRow (λ read. (read, cursor.new)) result (id_read rows_from_3A id cursor.old) }
 {
@@ -69,7 +68,7 @@ fn read_from_3a(alloc: Global, cursor: &mut Cursor<'_>, id: i32) -> Result<Down,
 }
 
 /// The fields of the packet with this id, from 2E on.
-#[tactic(auto, unfolding(crate::specs::Down::rows_from_2E))]
+#[tactic(auto, unfolding(mc_packets::specs::Down::rows_from_2E))]
 fn read_from_2e(alloc: Global, cursor: &mut Cursor<'_>, id: i32) -> Result<Down, RowError>
     ensures { GivesRow (λ read. (read, cursor.new)) result (id_read rows_from_2E id cursor.old) }
 {
@@ -102,7 +101,7 @@ fn read_from_2e(alloc: Global, cursor: &mut Cursor<'_>, id: i32) -> Result<Down,
 }
 
 /// The fields of the packet with this id, from 1B on.
-#[tactic(auto, unfolding(crate::specs::Down::rows_from_1B))]
+#[tactic(auto, unfolding(mc_packets::specs::Down::rows_from_1B))]
 fn read_from_1b(alloc: Global, cursor: &mut Cursor<'_>, id: i32) -> Result<Down, RowError>
     ensures { GivesRow (λ read. (read, cursor.new)) result (id_read rows_from_1B id cursor.old) }
 {
@@ -157,7 +156,7 @@ fn read_from_1b(alloc: Global, cursor: &mut Cursor<'_>, id: i32) -> Result<Down,
 }
 
 /// The fields of the packet with this id, from 13 on.
-#[tactic(auto, unfolding(crate::specs::Down::rows_from_13))]
+#[tactic(auto, unfolding(mc_packets::specs::Down::rows_from_13))]
 fn read_from_13(alloc: Global, cursor: &mut Cursor<'_>, id: i32) -> Result<Down, RowError>
     ensures { GivesRow (λ read. (read, cursor.new)) result (id_read rows_from_13 id cursor.old) }
 {
@@ -223,7 +222,7 @@ fn read_from_13(alloc: Global, cursor: &mut Cursor<'_>, id: i32) -> Result<Down,
 }
 
 /// The fields of the packet with this id, from 08 on.
-#[tactic(auto, unfolding(crate::specs::Down::rows_from_08))]
+#[tactic(auto, unfolding(mc_packets::specs::Down::rows_from_08))]
 fn read_from_08(alloc: Global, cursor: &mut Cursor<'_>, id: i32) -> Result<Down, RowError>
     ensures { GivesRow (λ read. (read, cursor.new)) result (id_read rows_from_08 id cursor.old) }
 {
@@ -306,7 +305,7 @@ fn read_from_08(alloc: Global, cursor: &mut Cursor<'_>, id: i32) -> Result<Down,
 }
 
 /// The fields of the packet with this id, from 00 on, where they are taken apart.
-#[tactic(auto, unfolding(crate::specs::Down::rows_from_00))]
+#[tactic(auto, unfolding(mc_packets::specs::Down::rows_from_00))]
 fn read_from_00(alloc: Global, cursor: &mut Cursor<'_>, id: i32) -> Result<Down, RowError>
     ensures { GivesRow (λ read. (read, cursor.new)) result (id_read rows_from_00 id cursor.old) }
 {
@@ -359,7 +358,7 @@ fn read_from_00(alloc: Global, cursor: &mut Cursor<'_>, id: i32) -> Result<Down,
 }
 
 /// The fields of the packet with this id.
-#[tactic(auto, unfolding(crate::specs::Down::rows))]
+#[tactic(auto, unfolding(mc_packets::specs::Down::rows))]
 fn read_fields(alloc: Global, cursor: &mut Cursor<'_>, id: i32) -> Result<Down, RowError>
     ensures { GivesRow (λ packet. (packet, cursor.new)) result (id_read rows id cursor.old) }
 {

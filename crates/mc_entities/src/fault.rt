@@ -1,7 +1,7 @@
 ghost use Rattle.std.specs.Prelude.{◌≡◌};
 ghost use Rattle.mc_entities.specs.declared.fault.FolkFault.TheVariants as folk_faults;
 
-use mc_nbt::NoMemory;
+use mc_bytes::NoMemory;
 use std::error::Error;
 use std::fmt;
 

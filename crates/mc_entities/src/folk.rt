@@ -19,8 +19,8 @@ use crate::mind::{Mind, Move};
 use crate::places::{forget, place_of, settle_told, told_place};
 use crate::shifting::shift_spot;
 use crate::ticking::tick_all;
+use mc_bytes::NoMemory;
 use mc_fields::Spot;
-use mc_nbt::NoMemory;
 use std::alloc::Global;
 use std::marker::Model;
 

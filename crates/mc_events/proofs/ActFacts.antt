@@ -1,5 +1,6 @@
 -- What a player does makes of a server what the definitions make of its world.
-use Rattle.std.proofs.Common.{◌≡◌, ℕ, ◌<◌, Bool, true, false, List, [], ◌∷◌, ◌++◌, length, refl, sym, ap, ◌∙◌}
+use Rattle.std.proofs.Common.{◌≡◌, ℕ, ◌<◌, Bool, true, false, List, [], ◌∷◌, ◌++◌, length, refl}
+use Rattle.std.proofs.Common.{sym, ap, ◌∙◌}
 use Rattle.std.proofs.Common.{get_or, set}
 use Rattle.std.specs.Prelude.{Option, Some, None, Ok, Err, is_some, option_map}
 use Rattle.std.specs.Prelude.{if◌then◌else◌}
@@ -10,7 +11,7 @@ use Rattle.mc_up.specs.declared.play_up.PlayUp.TheVariants.{KeepAlive, Chat, Pos
 use Rattle.mc_up.specs.declared.play_up.PlayUp.TheVariants.{PositionLook, Settings}
 use Rattle.mc_up.specs.declared.play_up.PlayUp.TheVariants.{Creative, Digging, Held, Placement}
 use Rattle.mc_fields.specs.declared.position.Cell.{Cell}
-use Rattle.mc_nbt.specs.declared.bytes.Text.{Text}
+use Rattle.mc_bytes.specs.declared.bytes.Text.{Text}
 use Rattle.mc_slots.specs.declared.slot.Slot.{Slot}
 use lib.IntN.{ℤ}
 use Rattle.mc_model.specs.declared.cause.Cause.TheVariants as causes

@@ -8,11 +8,11 @@ use Rattle.std.proofs.lemmas.Bool.{cases_lt}
 use Rattle.std.proofs.lemmas.List.{length-append, length-drop, append-nil, take-append-drop}
 use Rattle.std.proofs.lemmas.List.{take-append-le, take_at, get_or_append_left}
 use lib.IntN.{pos}
-use Rattle.mc_nbt.specs.declared.fault.Kind.TheVariants.{Short, LongVarInt, BadLength}
-use Rattle.mc_nbt.specs.declared.fault.Stop.{Stop}
-use Rattle.mc_nbt.specs.Reading.{Field, stop_at}
-use Rattle.mc_nbt.specs.Format.{Anything}
-use Rattle.mc_nbt.specs.Numbers.{octets_read}
+use Rattle.mc_bytes.specs.declared.fault.Kind.TheVariants.{Short, LongVarInt, BadLength}
+use Rattle.mc_bytes.specs.declared.fault.Stop.{Stop}
+use Rattle.mc_bytes.specs.Reading.{Field, stop_at}
+use Rattle.mc_bytes.specs.Format.{Anything}
+use Rattle.mc_bytes.specs.Numbers.{octets_read}
 use Rattle.mc_fields.specs.Varint.{IsChain, SpellsVarint, GoesOn}
 use Rattle.mc_fields.specs.VarintFormat.{varint_only}
 use Rattle.mc_fields.proofs.VarintFaults.{groups-long, groups-cut}

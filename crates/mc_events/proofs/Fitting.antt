@@ -4,7 +4,7 @@ use Rattle.std.specs.Prelude.{Result, Ok, Err}
 use Rattle.mc_fields.specs.Row.{packet_of, packet_read}
 use Rattle.mc_fields.specs.RowLaws.{packet_found_all}
 use Rattle.mc_fields.specs.declared.packet.PacketFault.{PacketFault}
-use Rattle.mc_nbt.specs.Reading.{IsBytes}
+use Rattle.mc_bytes.specs.Reading.{IsBytes}
 use Rattle.mc_up.specs.declared.play_up.PlayUp.{PlayUp}
 use Rattle.mc_up.specs.PlayUp.{FitsPlayUp, SpellsPlayUp, rows}
 use Rattle.mc_up.proofs.PlayUpLaws.{fit, seen}

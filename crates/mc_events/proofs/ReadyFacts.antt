@@ -27,7 +27,7 @@ use Rattle.mc_land.proofs.Orders.{places_total}
 use Rattle.mc_flush.specs.Seeing.{MarkValue, loaded}
 use Rattle.mc_loads.specs.Columns.{IsReady, entered_of}
 use Rattle.mc_loads.specs.Columns.{placed_with}
-use Rattle.mc_told.specs.Sending.{play_bytes}
+use Rattle.mc_sending.specs.Sending.{play_bytes}
 use Rattle.mc_events.specs.declared.settings.Settings.{Settings}
 use Rattle.mc_events.specs.Served.{ConnectionValue}
 use Rattle.mc_events.specs.Ticking.{AreReady, columns_from, new_from}

@@ -11,7 +11,7 @@ use Rattle.mc_fields.specs.declared.position.Spot.{Spot}
 use Rattle.mc_frame.specs.Kept.{outbox_max}
 use Rattle.mc_land.specs.Places.{Place}
 use Rattle.mc_land.specs.Land.{states_of, biomes_of}
-use Rattle.mc_down.specs.declared.down.Down.{Down}
+use Rattle.mc_packets.specs.declared.down.Down.{Down}
 use Rattle.mc_entities.specs.declared.entity.Entity.{Entity}
 use Rattle.mc_slots.specs.Pile.{slot_of}
 use Rattle.mc_windows.specs.Pack.{PackValue}
@@ -34,13 +34,13 @@ use Rattle.mc_flush.specs.Seeing.{MarkValue, StandsFor, is_shown, noted_of}
 use Rattle.mc_loads.specs.Columns.{placed_column}
 use Rattle.mc_flush.specs.Seeing.{present_parts, seen}
 use Rattle.mc_flush.specs.Seeing as seeing
-use Rattle.mc_told.specs.Sending.{play_bytes}
+use Rattle.mc_sending.specs.Sending.{play_bytes}
 use Rattle.mc_events.specs.Served.{ConnectionValue}
 use Rattle.mc_events.specs.Stands.{said_in}
 use Rattle.mc_events.specs.Ticking.{IsScene, IsShown, Parts, due_packets, noted_now}
 use Rattle.mc_events.specs.Ticking.{opening_packets, pack_now, shown_now, spot_now}
 use Rattle.mc_events.specs.Ticking.{ticked_session, with_shown}
-use Rattle.mc_told.proofs.Pieces.{play_bytes-append}
+use Rattle.mc_sending.proofs.Pieces.{play_bytes-append}
 
 -- ---- what a flush says, of the parts
 

@@ -3,7 +3,7 @@ use Rattle.std.specs.Prelude.{◌≡◌, IfOk, OnOk, Option, Result, Some, None,
 use Rattle.mc_model.specs.declared.cause.Cause.{Cause}
 use Rattle.mc_model.specs.declared.stage.Stage.{Stage}
 use Rattle.mc_model.specs.declared.stage.Stage.TheVariants as stages
-use Rattle.mc_nbt.specs.declared.memory.NoMemory.{NoMemory}
+use Rattle.mc_bytes.specs.declared.memory.NoMemory.{NoMemory}
 use Rattle.mc_model.specs.World.{World, Session, is_closed, players}
 use Rattle.mc_model.specs.Talk.{ClientRequest, greets, ends, enters, acts, request_of}
 use Rattle.mc_model.specs.Handled.{handled}

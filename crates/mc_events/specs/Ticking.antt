@@ -7,7 +7,7 @@ use Rattle.std.specs.FinMap.{from_entries}
 use lib.IntN.{ℤ, pos}
 use Rattle.mc_land.specs.Places.{Place}
 use Rattle.mc_land.specs.Land.{LandValue}
-use Rattle.mc_down.specs.declared.down.Down.{Down}
+use Rattle.mc_packets.specs.declared.down.Down.{Down}
 use Rattle.mc_model.specs.Sight.{Sight, nothing_seen}
 use Rattle.mc_model.specs.Delta.{delta}
 use Rattle.mc_model.specs.Ticks.{beat_at, shown_age}

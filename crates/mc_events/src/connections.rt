@@ -10,8 +10,8 @@ ghost use Rattle.mc_events.specs.Served.{AreInRange, ConnectionValue, playing_of
 use crate::Settings;
 use crate::connection::Connection;
 use crate::spots::{spot_of, view_around};
+use mc_bytes::NoMemory;
 use mc_entities::Folk;
-use mc_nbt::NoMemory;
 use std::alloc::Global;
 
 /// How many connections are open, or owed bytes still.

@@ -3,21 +3,21 @@
 
 ghost use Rattle.std.specs.Prelude.{◌≡◌, ◌≤◌, ◌<◌, ◌^◌, ◌++◌, false, IfOk, OnOk};
 ghost use lib.IntN.{pos};
-ghost use Rattle.mc_down.specs.declared.down.Down.TheVariants.{JoinGame, SpawnPosition};
+ghost use Rattle.mc_packets.specs.declared.down.Down.TheVariants.{JoinGame, SpawnPosition};
 ghost use Rattle.mc_model.specs.Packets.{of_play, frame_of};
 ghost use Rattle.mc_model.specs.World.{spawn_height};
 ghost use Rattle.mc_model.specs.Step.{level};
 ghost use Rattle.mc_model.specs.Step.{opening_of};
-ghost use Rattle.mc_told.specs.Sending.{IsClear, play_bytes};
+ghost use Rattle.mc_sending.specs.Sending.{IsClear, play_bytes};
 
 use crate::Settings;
 use bytes::Bytes;
-use mc_down::Down;
+use mc_bytes::NoMemory;
 use mc_fields::{Cell, Spot};
 use mc_flush::{placing_packet, put_made};
 use mc_land::Terrain;
 use mc_model::{level, spawn_height};
-use mc_nbt::NoMemory;
+use mc_packets::Down;
 use std::alloc::Global;
 
 /// Which game a client is in: entity number, game mode, dimension, difficulty, and how many may

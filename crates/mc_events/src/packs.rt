@@ -3,7 +3,7 @@ ghost use Rattle.std.specs.Option.{option_copied};
 ghost use Rattle.mc_model.specs.Things.{pack_named, with_kit, with_pack};
 
 use indexmap::IndexMap;
-use mc_nbt::{NoMemory, Text};
+use mc_bytes::{NoMemory, Text};
 use mc_windows::{Pack, kit};
 use std::alloc::Global;
 use std::marker::Model;

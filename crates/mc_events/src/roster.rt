@@ -10,8 +10,8 @@ ghost use Rattle.mc_events.specs.Served.{playing_of, sessions_of};
 ghost use Rattle.mc_events.specs.Ticking.{name_after, names_of};
 
 use crate::connection::Connection;
+use mc_bytes::{NoMemory, Text};
 use mc_flush::PlayerList;
-use mc_nbt::{NoMemory, Text};
 use std::alloc::Global;
 use std::marker::Model;
 

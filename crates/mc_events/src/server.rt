@@ -35,11 +35,11 @@ use crate::connections::{kept, ours, put_last};
 use crate::packs::Packs;
 use crate::roster::Roster;
 use crate::{Input, Settings};
+use mc_bytes::NoMemory;
 use mc_entities::Folk;
 use mc_flush::Line;
 use mc_land::Land;
 use mc_model::Cause;
-use mc_nbt::NoMemory;
 use std::alloc::Global;
 use std::marker::Model;
 

@@ -9,11 +9,11 @@ ghost use Rattle.mc_events.specs.ReadyColumns.{view_around};
 ghost use Rattle.mc_events.specs.Served.{AreInRange};
 
 use crate::packs::Packs;
+use mc_bytes::Text;
 use mc_entities::Folk;
 use mc_fields::Spot;
 use mc_land::Terrain;
 use mc_model::spawn_spot;
-use mc_nbt::Text;
 use mc_slots::Pile;
 use mc_view::{column_of_spot, view_size};
 use mc_windows::{MAIN_PILES, Pack, kit};

@@ -3,10 +3,10 @@ use Rattle.std.proofs.Common.{◌≡◌, ℕ, ◌^◌, ◌<◌, Bool, List, ◌+
 use Rattle.std.specs.Int.{Width, w32}
 use lib.IntN.{ℤ}
 use mir.Val.{SFits}
-use Rattle.mc_nbt.specs.Format.{Anything}
-use Rattle.mc_nbt.specs.NumberLaws.{IsWide}
-use Rattle.mc_nbt.specs.Signed.{signed}
-use Rattle.mc_nbt.specs.SignedLaws.{signed_fits}
+use Rattle.mc_bytes.specs.Format.{Anything}
+use Rattle.mc_bytes.specs.NumberLaws.{IsWide}
+use Rattle.mc_bytes.specs.Signed.{signed}
+use Rattle.mc_bytes.specs.SignedLaws.{signed_fits}
 use Rattle.mc_fields.specs.declared.position.Cell.{Cell}
 use Rattle.mc_fields.specs.Varint.{varint_read, varint_spelling}
 use Rattle.mc_fields.specs.VarintLaws.{varint_only, varint_spelled, varint-fits, five}

@@ -5,9 +5,9 @@ use Rattle.std.proofs.Common.{refl, sym, ap, ◌∙◌, arith, add-one, lt-ltb}
 use Rattle.std.proofs.lemmas.Bool.{le-ltb}
 use Rattle.std.proofs.Math.ListN.{drop_of_length-le}
 use Rattle.std.proofs.Math.Seq.{drop-cons, take-suc-set}
-use Rattle.mc_nbt.specs.declared.fault.Kind.{Kind}
-use Rattle.mc_nbt.specs.declared.fault.Kind.TheVariants.{Short, LongVarInt}
-use Rattle.mc_nbt.specs.Reading.{◌>>=◌}
+use Rattle.mc_bytes.specs.declared.fault.Kind.{Kind}
+use Rattle.mc_bytes.specs.declared.fault.Kind.TheVariants.{Short, LongVarInt}
+use Rattle.mc_bytes.specs.Reading.{◌>>=◌}
 use Rattle.mc_fields.specs.Varint.{groups_read, groups_spelling}
 
 -- what was read, raised by the groups before it

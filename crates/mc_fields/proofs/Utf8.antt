@@ -4,7 +4,7 @@ use Rattle.std.proofs.Common.{le-ltb, lt-ltb, arith}
 use Rattle.std.proofs.lemmas.Bool.Decides.{nat_tests}
 use Rattle.std.specs.Str.{IsUtf8, is_utf8, chars}
 use Rattle.std.proofs.lemmas.Str.{IsUtf8-from_is_utf8, is_utf8-from_IsUtf8}
-use Rattle.mc_nbt.specs.declared.fault.Kind.TheVariants.{BadText, TooLong}
+use Rattle.mc_bytes.specs.declared.fault.Kind.TheVariants.{BadText, TooLong}
 use Rattle.mc_fields.specs.Text.{checked_text}
 
 not_utf8 : (bytes : List ℕ) → ¬ IsUtf8 bytes → is_utf8 bytes ≡ false

@@ -6,11 +6,11 @@ use Rattle.std.proofs.lemmas.Bool.Decides.{nat_tests}
 use Rattle.std.specs.Prelude.{◌↔◌, IsErrOf, IfErr}
 use Rattle.std.proofs.lemmas.List.{length-drop}
 use lib.IntN.{ℤ}
-use Rattle.mc_nbt.specs.declared.fault.Kind.{Kind}
-use Rattle.mc_nbt.specs.declared.fault.Kind.TheVariants.{Short, LongVarInt}
-use Rattle.mc_nbt.specs.declared.fault.FieldFault.{FieldFault}
-use Rattle.mc_nbt.specs.Reading.{◌>>=◌}
-use Rattle.mc_nbt.specs.Placed.{placed, fault_at}
+use Rattle.mc_bytes.specs.declared.fault.Kind.{Kind}
+use Rattle.mc_bytes.specs.declared.fault.Kind.TheVariants.{Short, LongVarInt}
+use Rattle.mc_bytes.specs.declared.fault.FieldFault.{FieldFault}
+use Rattle.mc_bytes.specs.Reading.{◌>>=◌}
+use Rattle.mc_bytes.specs.Placed.{placed, fault_at}
 use Rattle.mc_fields.specs.Varint.{GoesOn, IsCut, groups_read, number_of, varint_read}
 
 GoesOn-cons : (count b : ℕ) (bytes : List ℕ) → 128 ≤ b → GoesOn count bytes →

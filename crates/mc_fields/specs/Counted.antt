@@ -2,15 +2,15 @@
 -- BadLength at it (a rule of this project).
 use Rattle.std.specs.Prelude.{ℕ, List, length}
 use lib.IntN.{ℤ, pos}
-use Rattle.mc_nbt.specs.declared.fault.Kind.TheVariants.{BadLength}
-use Rattle.mc_nbt.specs.Format.{Format, Anything}
-use Rattle.mc_nbt.specs.Combine.{◌then◌, tested, via}
-use Rattle.mc_nbt.specs.Numbers.{octets}
-use Rattle.mc_nbt.specs.Many.{times}
+use Rattle.mc_bytes.specs.declared.fault.Kind.TheVariants.{BadLength}
+use Rattle.mc_bytes.specs.Format.{Format, Anything}
+use Rattle.mc_bytes.specs.Combine.{◌then◌, tested, via}
+use Rattle.mc_bytes.specs.Numbers.{octets}
+use Rattle.mc_bytes.specs.Many.{times}
 use Rattle.mc_fields.specs.VarintFormat.{varint}
 use Rattle.mc_fields.specs.Integers.{short}
 use Rattle.mc_fields.specs.CountedLaws.{natural_view, listed_view, sized_view}
-use Rattle.mc_nbt.specs.Naturals.{is_natural, natural_of}
+use Rattle.mc_bytes.specs.Naturals.{is_natural, natural_of}
 
 -- a number that is not negative, in a field that has negative ones
 abbrev pub natural : Format Anything ℤ → Format Anything ℕ

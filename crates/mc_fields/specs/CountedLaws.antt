@@ -1,9 +1,9 @@
 -- Laws of lists behind their number.
 use Rattle.std.specs.Prelude.{◌≡◌, ℕ, true, List, length, refl}
 use lib.IntN.{ℤ, pos, negsuc}
-use Rattle.mc_nbt.specs.CombineLaws.{IsView}
-use Rattle.mc_nbt.specs.ManyBytes.{AllFit}
-use Rattle.mc_nbt.specs.Naturals.{is_natural, natural_of}
+use Rattle.mc_bytes.specs.CombineLaws.{IsView}
+use Rattle.mc_bytes.specs.ManyBytes.{AllFit}
+use Rattle.mc_bytes.specs.Naturals.{is_natural, natural_of}
 
 natural_again : (z : ℤ) → is_natural z ≡ true → pos (natural_of z) ≡ z
 natural_again (pos n) e = refl

@@ -1,7 +1,7 @@
 -- Fields in a tuple: one after another, seen as a flat tuple of their values.
 use Rattle.std.specs.Prelude.{◌≡◌, ℕ, List, refl}
-use Rattle.mc_nbt.specs.Format.{Format, Anything}
-use Rattle.mc_nbt.specs.Combine.{◌then◌, view_read}
+use Rattle.mc_bytes.specs.Format.{Format, Anything}
+use Rattle.mc_bytes.specs.Combine.{◌then◌, view_read}
 use Rattle.mc_fields.specs.Shape.{shaped_spells}
 use Rattle.mc_fields.specs.ShapeLaws.{shaped_found, shaped_only}
 

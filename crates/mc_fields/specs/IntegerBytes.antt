@@ -6,12 +6,12 @@ use Rattle.std.specs.Prelude.{Result, Ok, IfOk, IfErr, IsErrOf}
 use Rattle.std.specs.Int.{Width, w8, cast_signed, cast_unsigned}
 use lib.IntN.{ℤ}
 use mir.Val.{SFits}
-use Rattle.mc_nbt.specs.declared.fault.Kind.TheVariants.{Short}
-use Rattle.mc_nbt.specs.declared.fault.FieldFault.{FieldFault}
-use Rattle.mc_nbt.specs.Reading.{Field}
-use Rattle.mc_nbt.specs.CombineBytes.{view_read, view_spells}
-use Rattle.mc_nbt.specs.NumberBytes.{number_read, number_spells, number_spelling}
-use Rattle.mc_nbt.specs.Placed.{SpelledAt, fault_at}
+use Rattle.mc_bytes.specs.declared.fault.Kind.TheVariants.{Short}
+use Rattle.mc_bytes.specs.declared.fault.FieldFault.{FieldFault}
+use Rattle.mc_bytes.specs.Reading.{Field}
+use Rattle.mc_bytes.specs.CombineBytes.{view_read, view_spells}
+use Rattle.mc_bytes.specs.NumberBytes.{number_read, number_spells, number_spelling}
+use Rattle.mc_bytes.specs.Placed.{SpelledAt, fault_at}
 
 abbrev pub signed_spells : Width → ℤ → List ℕ → Type 0
 signed_spells w = view_spells (number_spells w) (SFits w) (cast_unsigned w)

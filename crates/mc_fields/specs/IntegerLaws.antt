@@ -6,18 +6,18 @@ use Rattle.std.proofs.Common.{sym, ap, ◌∙◌, arith, le-ltb, lt-ltb, inl, in
 use Rattle.std.proofs.lemmas.Bool.{cases_lt}
 use Rattle.std.proofs.lemmas.List.{length-drop}
 use lib.IntN.{ℤ}
-use Rattle.mc_nbt.specs.declared.fault.Kind.TheVariants.{Short}
-use Rattle.mc_nbt.specs.declared.fault.FieldFault.{FieldFault}
-use Rattle.mc_nbt.specs.declared.fault.Stop.{Stop}
-use Rattle.mc_nbt.specs.Reading.{Field, IsBytes, Yields, stop_at, ◌>>=◌}
-use Rattle.mc_nbt.specs.Format.{IsFound, IsOnly, IsBounded, Anything}
-use Rattle.mc_nbt.specs.CombineBytes.{view_read}
-use Rattle.mc_nbt.specs.CombineLaws.{bind_ok, ok_is, Found-is}
-use Rattle.mc_nbt.specs.NumberLaws.{IsWide, number_found, number_only, number_bounded, wide_8}
-use Rattle.mc_nbt.specs.NumberBytes.{number_read, number_spells}
-use Rattle.mc_nbt.specs.Signed.{signed}
-use Rattle.mc_nbt.specs.Placed.{placed, with_rest, fault_at}
-use Rattle.mc_nbt.specs.PlacedLaws.{found_at, placed_only, placed-Yields}
+use Rattle.mc_bytes.specs.declared.fault.Kind.TheVariants.{Short}
+use Rattle.mc_bytes.specs.declared.fault.FieldFault.{FieldFault}
+use Rattle.mc_bytes.specs.declared.fault.Stop.{Stop}
+use Rattle.mc_bytes.specs.Reading.{Field, IsBytes, Yields, stop_at, ◌>>=◌}
+use Rattle.mc_bytes.specs.Format.{IsFound, IsOnly, IsBounded, Anything}
+use Rattle.mc_bytes.specs.CombineBytes.{view_read}
+use Rattle.mc_bytes.specs.CombineLaws.{bind_ok, ok_is, Found-is}
+use Rattle.mc_bytes.specs.NumberLaws.{IsWide, number_found, number_only, number_bounded, wide_8}
+use Rattle.mc_bytes.specs.NumberBytes.{number_read, number_spells}
+use Rattle.mc_bytes.specs.Signed.{signed}
+use Rattle.mc_bytes.specs.Placed.{placed, with_rest, fault_at}
+use Rattle.mc_bytes.specs.PlacedLaws.{found_at, placed_only, placed-Yields}
 use Rattle.mc_fields.specs.IntegerBytes.{signed_spells, signed_read, is_true, SpellsBool}
 use Rattle.mc_fields.specs.IntegerBytes.{boolean_spelling, boolean_read, ReadsFixed}
 

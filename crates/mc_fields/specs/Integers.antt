@@ -3,11 +3,11 @@
 use Rattle.std.specs.Prelude.{ℕ, Bool, List, ◌++◌, refl}
 use Rattle.std.specs.Int.{w8, w16, w32, w64, w128}
 use lib.IntN.{ℤ}
-use Rattle.mc_nbt.specs.Format.{Format}
-use Rattle.mc_nbt.specs.NumberLaws.{wide_8, wide_16, wide_32, wide_64}
-use Rattle.mc_nbt.specs.Numbers.{number}
-use Rattle.mc_nbt.specs.Signed.{signed}
-use Rattle.mc_nbt.specs.SixteenLaws.{wide_128}
+use Rattle.mc_bytes.specs.Format.{Format}
+use Rattle.mc_bytes.specs.NumberLaws.{wide_8, wide_16, wide_32, wide_64}
+use Rattle.mc_bytes.specs.Numbers.{number}
+use Rattle.mc_bytes.specs.Signed.{signed}
+use Rattle.mc_bytes.specs.SixteenLaws.{wide_128}
 use Rattle.mc_fields.specs.IntegerBytes.{SpellsBool, boolean_spelling, boolean_read}
 use Rattle.mc_fields.specs.IntegerLaws.{boolean_found, boolean_only, boolean_spelled}
 use Rattle.mc_fields.specs.IntegerLaws.{boolean_bounded}

@@ -1,7 +1,7 @@
 -- What is printed where a frame is no packet (rules of this project).
 use Rattle.std.specs.Prelude.{ℕ, List, ◌++◌, codes, decimal}
 use Rattle.std.specs.Fmt.{signed_decimal}
-use Rattle.mc_nbt.specs.FaultText.{field_fault_text, no_memory_text}
+use Rattle.mc_bytes.specs.FaultText.{field_fault_text, no_memory_text}
 use Rattle.mc_fields.specs.declared.packet.PacketFault.{PacketFault}
 use Rattle.mc_fields.specs.declared.packet.PacketFault.TheVariants.{UnknownId, Field, Trailing}
 use Rattle.mc_fields.specs.declared.packet.PacketRead.{PacketRead}

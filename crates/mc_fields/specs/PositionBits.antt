@@ -4,9 +4,9 @@ use Rattle.std.specs.Prelude.{ℕ, suc, ◌+◌, ◌-◌, ◌*◌, ◌/◌, ◌%
 use Rattle.std.specs.Prelude.{if◌then◌else◌}
 use lib.IntN.{ℤ, pos, negsuc}
 use Rattle.std.specs.Int.{w64}
-use Rattle.mc_nbt.specs.Reading.{Field}
-use Rattle.mc_nbt.specs.CombineBytes.{view_read}
-use Rattle.mc_nbt.specs.NumberBytes.{number_read, number_spells, number_spelling}
+use Rattle.mc_bytes.specs.Reading.{Field}
+use Rattle.mc_bytes.specs.CombineBytes.{view_read}
+use Rattle.mc_bytes.specs.NumberBytes.{number_read, number_spells, number_spelling}
 use Rattle.mc_fields.specs.declared.position.Cell.{Cell}
 
 -- numbers from -half to half - 1

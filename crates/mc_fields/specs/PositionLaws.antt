@@ -3,7 +3,7 @@ use Rattle.std.specs.Prelude.{◌≡◌, ℕ, suc, ◌-◌, ◌*◌, ◌/◌, �
 use Rattle.std.specs.Prelude.{if◌then◌else◌, refl}
 use Rattle.std.proofs.Common.{arith, le-ltb, lt-ltb, ltb-true, ltb-false}
 use lib.IntN.{ℤ, pos, negsuc}
-use Rattle.mc_nbt.specs.CombineLaws.{IsView}
+use Rattle.mc_bytes.specs.CombineLaws.{IsView}
 use Rattle.mc_fields.specs.declared.position.Cell.{Cell}
 use Rattle.mc_fields.specs.PositionBits.{FitsHalf, low_bits, signed_bits, FitsCell, pack, unpack}
 

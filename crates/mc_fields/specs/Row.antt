@@ -3,11 +3,11 @@
 use Rattle.std.specs.Prelude.{◌≡◌, ℕ, ◌+◌, ◌-◌, ◌^◌, ◌<◌, ◌==◌, Bool, false, List, [], ◌∷◌, ◌++◌}
 use Rattle.std.specs.Prelude.{length, Result, Ok, Err, if◌then◌else◌}
 use lib.IntN.{ℤ, pos, negsuc}
-use Rattle.mc_nbt.specs.declared.fault.ReadError.{ReadError}
-use Rattle.mc_nbt.specs.declared.fault.ReadError.TheVariants as read_errors
-use Rattle.mc_nbt.specs.Reading.{Field, ◌>>=◌}
-use Rattle.mc_nbt.specs.Format.{Format, Nothing}
-use Rattle.mc_nbt.specs.Placed.{fault_at}
+use Rattle.mc_bytes.specs.declared.fault.ReadError.{ReadError}
+use Rattle.mc_bytes.specs.declared.fault.ReadError.TheVariants as read_errors
+use Rattle.mc_bytes.specs.Reading.{Field, ◌>>=◌}
+use Rattle.mc_bytes.specs.Format.{Format, Nothing}
+use Rattle.mc_bytes.specs.Placed.{fault_at}
 use Rattle.mc_fields.specs.declared.packet.RowFault.{RowFault}
 use Rattle.mc_fields.specs.declared.packet.RowFault.TheVariants as faults
 use Rattle.mc_fields.specs.declared.packet.RowError.{RowError}

@@ -4,10 +4,10 @@ use Rattle.std.specs.Prelude.{Result, Ok, Err, IfOk, refl}
 use Rattle.std.proofs.Common.{sym, subst, ap, ◌∙◌, append_assoc, eqb-true}
 use Rattle.std.proofs.lemmas.List.{append-nil}
 use lib.IntN.{ℤ, pos, negsuc}
-use Rattle.mc_nbt.specs.declared.fault.Stop.{Stop}
-use Rattle.mc_nbt.specs.Reading.{Field, IsBytes, ◌>>=◌}
-use Rattle.mc_nbt.specs.Format.{Anything}
-use Rattle.mc_nbt.specs.CombineLaws.{bind_ok, ok_is, joined_length}
+use Rattle.mc_bytes.specs.declared.fault.Stop.{Stop}
+use Rattle.mc_bytes.specs.Reading.{Field, IsBytes, ◌>>=◌}
+use Rattle.mc_bytes.specs.Format.{Anything}
+use Rattle.mc_bytes.specs.CombineLaws.{bind_ok, ok_is, joined_length}
 use Rattle.mc_fields.specs.declared.packet.RowFault.{RowFault}
 use Rattle.mc_fields.specs.declared.packet.PacketFault.{PacketFault}
 use Rattle.mc_fields.specs.declared.packet.PacketRead.{PacketRead}

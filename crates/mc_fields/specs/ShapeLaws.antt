@@ -1,11 +1,11 @@
 -- Laws of values in another shape: what is read is a spelling, and each spelling is read.
 use Rattle.std.specs.Prelude.{◌≡◌, ℕ, List, Ok, refl}
 use Rattle.std.proofs.Common.{sym, subst}
-use Rattle.mc_nbt.specs.declared.fault.Stop.{Stop}
-use Rattle.mc_nbt.specs.Reading.{Field}
-use Rattle.mc_nbt.specs.Format.{IsFound, IsOnly}
-use Rattle.mc_nbt.specs.CombineBytes.{view_read}
-use Rattle.mc_nbt.specs.CombineLaws.{bind_ok, ok_is, Found-is}
+use Rattle.mc_bytes.specs.declared.fault.Stop.{Stop}
+use Rattle.mc_bytes.specs.Reading.{Field}
+use Rattle.mc_bytes.specs.Format.{IsFound, IsOnly}
+use Rattle.mc_bytes.specs.CombineBytes.{view_read}
+use Rattle.mc_bytes.specs.CombineLaws.{bind_ok, ok_is, Found-is}
 use Rattle.mc_fields.specs.Shape.{shaped_spells}
 
 pub shaped_found : {A B : Type 0} (spells : A → List ℕ → Type 0) (read : List ℕ → Field A)

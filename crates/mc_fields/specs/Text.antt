@@ -5,9 +5,9 @@ use Rattle.std.specs.Prelude.{◌≡◌, ℕ, ◌*◌, ◌^◌, ◌<◌, ◌≤�
 use Rattle.std.specs.Prelude.{not, Result, Ok, Err, if◌then◌else◌}
 use Rattle.std.specs.Str.{IsUtf8, is_utf8, chars}
 use lib.IntN.{ℤ, pos, negsuc}
-use Rattle.mc_nbt.specs.declared.fault.Kind.{Kind}
-use Rattle.mc_nbt.specs.declared.fault.Kind.TheVariants.{Short, BadText, TooLong, BadLength}
-use Rattle.mc_nbt.specs.Reading.{Field, ◌>>=◌, stop_at}
+use Rattle.mc_bytes.specs.declared.fault.Kind.{Kind}
+use Rattle.mc_bytes.specs.declared.fault.Kind.TheVariants.{Short, BadText, TooLong, BadLength}
+use Rattle.mc_bytes.specs.Reading.{Field, ◌>>=◌, stop_at}
 use Rattle.mc_fields.specs.Varint.{SpellsVarint, varint_read, varint_spelling}
 
 -- a text with so many code points at most, and four bytes for each of them at most

@@ -1,6 +1,6 @@
 -- The format of texts, of the page 'Data types' of wiki.vg for protocol 47.
 use Rattle.std.specs.Prelude.{ℕ, ◌+◌, List, ◌++◌, length, refl}
-use Rattle.mc_nbt.specs.Format.{Format}
+use Rattle.mc_bytes.specs.Format.{Format}
 use Rattle.mc_fields.specs.declared.field.TheConstants.{STRING_MAX}
 use Rattle.mc_fields.specs.Text.{SpellsText, text_read, text_spelling}
 use Rattle.mc_fields.specs.Text.{SpellableText}

@@ -6,12 +6,12 @@ use Rattle.std.proofs.Common.{sym, subst, ap, ◌∙◌, arith, le-ltb, ltb-fals
 use Rattle.std.proofs.lemmas.List.{take_at, drop_at, take-append-drop, length-append, length-take}
 use Rattle.std.proofs.lemmas.Str.{IsUtf8-from_is_utf8, is_utf8-from_IsUtf8}
 use lib.IntN.{ℤ, pos, negsuc}
-use Rattle.mc_nbt.specs.declared.fault.Kind.{Kind}
-use Rattle.mc_nbt.specs.declared.fault.Kind.TheVariants.{Short, BadText, TooLong}
-use Rattle.mc_nbt.specs.declared.fault.Stop.{Stop}
-use Rattle.mc_nbt.specs.Format.{IsFound, IsOnly, IsBounded, Anything}
-use Rattle.mc_nbt.specs.CombineLaws.{ok_is, passed, Found-is, bind_ok, joined, joined_length}
-use Rattle.mc_nbt.specs.NumberLaws.{IsBytes-drop}
+use Rattle.mc_bytes.specs.declared.fault.Kind.{Kind}
+use Rattle.mc_bytes.specs.declared.fault.Kind.TheVariants.{Short, BadText, TooLong}
+use Rattle.mc_bytes.specs.declared.fault.Stop.{Stop}
+use Rattle.mc_bytes.specs.Format.{IsFound, IsOnly, IsBounded, Anything}
+use Rattle.mc_bytes.specs.CombineLaws.{ok_is, passed, Found-is, bind_ok, joined, joined_length}
+use Rattle.mc_bytes.specs.NumberLaws.{IsBytes-drop}
 use Rattle.mc_fields.specs.Varint.{SpellsVarint, varint_read, varint_spelling}
 use Rattle.mc_fields.specs.VarintLaws.{varint_found, varint_only, varint_fit, varint_spelled}
 use Rattle.mc_fields.specs.VarintLaws.{varint-fits, five}

@@ -6,9 +6,9 @@ use Rattle.std.specs.Prelude.{length, slice_index, nat_lt, Result, Ok, Err, if�
 use Rattle.std.specs.Int.{w32, cast_signed, cast_unsigned}
 use lib.IntN.{ℤ}
 use mir.Val.{SFits}
-use Rattle.mc_nbt.specs.declared.fault.Kind.{Kind}
-use Rattle.mc_nbt.specs.declared.fault.Kind.TheVariants.{Short, LongVarInt}
-use Rattle.mc_nbt.specs.Reading.{Field, ◌>>=◌, stop_at}
+use Rattle.mc_bytes.specs.declared.fault.Kind.{Kind}
+use Rattle.mc_bytes.specs.declared.fault.Kind.TheVariants.{Short, LongVarInt}
+use Rattle.mc_bytes.specs.Reading.{Field, ◌>>=◌, stop_at}
 
 -- the low seven bits of each byte, weighed by powers of 128
 abbrev pub weighed : List ℕ → ℕ

@@ -1,7 +1,7 @@
 -- The format of VarInts, of the page 'Data types' of wiki.vg for protocol 47.
 use Rattle.std.specs.Prelude.{ℕ, ◌<◌, List, ◌++◌, refl}
 use lib.IntN.{ℤ}
-use Rattle.mc_nbt.specs.Format.{Format}
+use Rattle.mc_bytes.specs.Format.{Format}
 use Rattle.mc_fields.specs.Varint.{SpellsVarint, varint_read, varint_spelling}
 use Rattle.mc_fields.specs.Varint.{FitsVarint, var_int_read}
 use Rattle.mc_fields.specs.VarintLaws.{varint_found, varint_only, varint_fit, varint_spelled, five}

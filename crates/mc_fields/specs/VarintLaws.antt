@@ -10,12 +10,12 @@ use Rattle.std.proofs.Math.Facts.{sfits_to_z, Fits-of_z}
 use Rattle.std.proofs.lemmas.Int.{of_z-to_z, to_z-of_z}
 use lib.IntN.{ℤ}
 use mir.Val.{SFits, Fits}
-use Rattle.mc_nbt.specs.declared.fault.Kind.{Kind}
-use Rattle.mc_nbt.specs.declared.fault.Stop.{Stop}
-use Rattle.mc_nbt.specs.Reading.{IsBytes, ◌>>=◌}
-use Rattle.mc_nbt.specs.Format.{IsFound, IsOnly}
-use Rattle.mc_nbt.specs.CombineLaws.{ok_is, Found-is, bind_ok}
-use Rattle.mc_nbt.specs.NumberLaws.{IsBytes-after}
+use Rattle.mc_bytes.specs.declared.fault.Kind.{Kind}
+use Rattle.mc_bytes.specs.declared.fault.Stop.{Stop}
+use Rattle.mc_bytes.specs.Reading.{IsBytes, ◌>>=◌}
+use Rattle.mc_bytes.specs.Format.{IsFound, IsOnly}
+use Rattle.mc_bytes.specs.CombineLaws.{ok_is, Found-is, bind_ok}
+use Rattle.mc_bytes.specs.NumberLaws.{IsBytes-after}
 use Rattle.mc_fields.specs.Varint.{weighed, IsChain, SpellsVarint, groups_read, number_of}
 use Rattle.mc_fields.specs.Varint.{varint_read, groups_spelling, varint_spelling}
 use Rattle.mc_fields.specs.Varint.{FitsVarint, var_int_read}

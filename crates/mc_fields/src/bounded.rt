@@ -1,11 +1,11 @@
 //! Texts whose field names a limit.
-#![tactic(auto, using(mc_nbt::proofs::Kept::kept_whole, mc_nbt::proofs::Kept::kept_same, mc_nbt::proofs::Kept::kept_by))]
+#![tactic(auto, using(mc_bytes::proofs::Kept::kept_whole, mc_bytes::proofs::Kept::kept_same, mc_bytes::proofs::Kept::kept_by))]
 
 ghost use Rattle.std.specs.Prelude.{◌≡◌};
 ghost use Rattle.mc_fields.specs.TextFormat.{text};
 
 use crate::{Field, take_text, write_text};
-use mc_nbt::{Cursor, NoMemory, ReadError, Text};
+use mc_bytes::{Cursor, NoMemory, ReadError, Text};
 use std::alloc::Global;
 use std::marker::Model;
 

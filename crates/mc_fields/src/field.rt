@@ -1,10 +1,10 @@
 //! Values that know how they are spelled, so that what is made of them needs no reader and no
 //! writer of its own.
-#![tactic(auto, using(mc_nbt::proofs::Kept::kept_whole, mc_nbt::proofs::Kept::kept_same, mc_nbt::proofs::Kept::kept_by, mc_nbt::proofs::Kept::kept_past))]
+#![tactic(auto, using(mc_bytes::proofs::Kept::kept_whole, mc_bytes::proofs::Kept::kept_same, mc_bytes::proofs::Kept::kept_by, mc_bytes::proofs::Kept::kept_past))]
 
 ghost use Rattle.std.specs.Prelude.{◌≡◌, List, ℕ, length, take, OnOk};
-ghost use Rattle.mc_nbt.specs.Reading.{Gives};
-ghost use Rattle.mc_nbt.specs.Format.{Format, Anything};
+ghost use Rattle.mc_bytes.specs.Reading.{Gives};
+ghost use Rattle.mc_bytes.specs.Format.{Format, Anything};
 ghost use Rattle.mc_fields.specs.Integers.{byte, ubyte, short, ushort, int, long};
 ghost use Rattle.mc_fields.specs.Integers.{float, double, uuid, boolean};
 ghost use Rattle.mc_fields.specs.VarintFormat.{var_int};
@@ -18,7 +18,7 @@ use crate::{
     write_bool, write_i8, write_i16, write_i32, write_i64, write_position, write_text, write_u8,
     write_u16, write_u32, write_u64, write_u128, write_varint,
 };
-use mc_nbt::{Cursor, NoMemory, Octets, ReadError, Text, write_octets};
+use mc_bytes::{Cursor, NoMemory, Octets, ReadError, Text, write_octets};
 use std::alloc::Global;
 use std::marker::Model;
 

@@ -1,12 +1,12 @@
 ghost use Rattle.std.specs.Prelude.{◌≡◌, ◌≤◌, ◌++◌, ℕ, List, Ok, OnOk, OnErr, length};
 ghost use Rattle.std.specs.Int.{w8, w16, w32, w64, w128};
-ghost use Rattle.mc_nbt.specs.Reading.{Yields};
-ghost use Rattle.mc_nbt.specs.NumberBytes.{number_spells};
+ghost use Rattle.mc_bytes.specs.Reading.{Yields};
+ghost use Rattle.mc_bytes.specs.NumberBytes.{number_spells};
 ghost use Rattle.mc_fields.specs.IntegerBytes.{ReadsFixed, SpellsBool, boolean_read};
 ghost use Rattle.mc_fields.specs.IntegerBytes.{boolean_spelling, signed_read, signed_spelling};
 ghost use Rattle.mc_fields.specs.IntegerBytes.{signed_spells};
 
-use mc_nbt::{
+use mc_bytes::{
     Cursor, FieldFault, NoMemory, Stop, placed, write_u8, write_u16, write_u32, write_u64,
 };
 

@@ -1,6 +1,6 @@
 //! The fields of the protocol's packets, read and written exactly, and packets as rows of them.
 //!
-//! Stands on the formats of `mc_nbt`. Its one contract: a reader takes exactly the bytes that spell
+//! Stands on the formats of `mc_bytes`. Its one contract: a reader takes exactly the bytes that spell
 //! its field and says of all others the first fault and its place, and a writer appends a spelling
 //! or leaves what was there; a table of rows makes the same of whole packets. Patterns of numbers
 //! with a fraction are whole numbers here, and are mapped to 1/32 blocks and 1/256 turns.
@@ -30,7 +30,7 @@ pub use integers::{
     write_i32, write_i64,
 };
 pub use listed::{Listed, put_items, take_count, take_items, take_short_count};
-pub use mc_nbt::{write_u8, write_u16, write_u32, write_u64, write_u128};
+pub use mc_bytes::{write_u8, write_u16, write_u32, write_u64, write_u128};
 pub use packet::{PacketFault, PacketRead, RowError, RowFault, whole};
 pub use position::{Cell, Spot, pack, take_position, unpack, write_position};
 pub use row::{put_row, put_row2, put_row3, put_row4, put_row5, put_row6, put_row7};

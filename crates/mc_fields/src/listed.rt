@@ -1,14 +1,14 @@
 //! Lists of fields. No memory is taken for what was not read.
-#![tactic(auto, using(mc_nbt::proofs::Kept::kept_whole, mc_nbt::proofs::Kept::kept_same, mc_nbt::proofs::Kept::kept_by, mc_nbt::proofs::Kept::kept_past))]
+#![tactic(auto, using(mc_bytes::proofs::Kept::kept_whole, mc_bytes::proofs::Kept::kept_same, mc_bytes::proofs::Kept::kept_by, mc_bytes::proofs::Kept::kept_past))]
 
 ghost use Rattle.std.specs.Prelude.{◌≡◌, ◌++◌, ◌∷◌, [], length, take, OnOk, OnErr};
-ghost use Rattle.mc_nbt.specs.Reading.{Yields, Gives};
-ghost use Rattle.mc_nbt.specs.Times.{times_at};
-ghost use Rattle.mc_nbt.specs.Many.{AllFit, all_append};
+ghost use Rattle.mc_bytes.specs.Reading.{Yields, Gives};
+ghost use Rattle.mc_bytes.specs.Times.{times_at};
+ghost use Rattle.mc_bytes.specs.Many.{AllFit, all_append};
 ghost use Rattle.mc_fields.specs.Counted.{count, counted, short_count};
 
 use crate::{Field, VarInt, take_i16, take_varint};
-use mc_nbt::{Cursor, Kind, NoMemory, ReadError, Stop};
+use mc_bytes::{Cursor, Kind, NoMemory, ReadError, Stop};
 use std::alloc::Global;
 use std::marker::Model;
 
@@ -78,7 +78,7 @@ pub fn take_short_count(cursor: &mut Cursor<'_>) -> Result<usize, Stop>
 }
 
 /// So many items, one after another.
-#[tactic(auto, using(mc_nbt::proofs::Loops::times_next, mc_nbt::proofs::Loops::times_stop, mc_nbt::proofs::Loops::times_halt, mc_nbt::proofs::Loops::times_done, mc_nbt::proofs::Loops::times_first))]
+#[tactic(auto, using(mc_bytes::proofs::Loops::times_next, mc_bytes::proofs::Loops::times_stop, mc_bytes::proofs::Loops::times_halt, mc_bytes::proofs::Loops::times_done, mc_bytes::proofs::Loops::times_first))]
 pub fn take_items<T: Field>(
     alloc: Global,
     cursor: &mut Cursor<'_>,

@@ -1,9 +1,9 @@
 ghost use Rattle.std.specs.Prelude.{◌≡◌};
-ghost use Rattle.mc_nbt.specs.Reading.{Yields};
+ghost use Rattle.mc_bytes.specs.Reading.{Yields};
 ghost use Rattle.mc_fields.specs.declared.packet.RowError.TheVariants as row_errors;
 ghost use Rattle.mc_fields.specs.Row.{whole, packet_fault, row_error_of, packet_read_of};
 
-use mc_nbt::{Cursor, FieldFault, NoMemory, ReadError, Stop};
+use mc_bytes::{Cursor, FieldFault, NoMemory, ReadError, Stop};
 use std::error::Error;
 use std::fmt;
 

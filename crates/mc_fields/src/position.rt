@@ -1,10 +1,10 @@
 ghost use Rattle.std.specs.Prelude.{◌≡◌, ◌*◌, ◌^◌, ◌<◌, ◌≤◌, ◌++◌, ℕ, List, Ok, OnOk, OnErr};
-ghost use Rattle.mc_nbt.specs.Reading.{Yields};
+ghost use Rattle.mc_bytes.specs.Reading.{Yields};
 ghost use Rattle.mc_fields.specs.PositionBits.{FitsCell, FitsHalf, low_bits, signed_bits};
 ghost use Rattle.mc_fields.specs.PositionBits.{SpellsPosition, pack, unpack};
 ghost use Rattle.mc_fields.specs.PositionBits.{position_read, position_spelling};
 
-use mc_nbt::{Cursor, NoMemory, Stop, write_u64};
+use mc_bytes::{Cursor, NoMemory, Stop, write_u64};
 
 /// Half of how many values x and z of a packed position have.
 const FLAT_HALF: u64 = 1 << 25;

@@ -1,12 +1,12 @@
 //! The id of a packet and its fields, written. Without memory some first part of them may be there.
-#![tactic(auto, using(mc_nbt::proofs::Kept::kept_whole, mc_nbt::proofs::Kept::kept_same, mc_nbt::proofs::Kept::kept_by, mc_nbt::proofs::Kept::kept_past, crate::proofs::Ids::id_fits))]
+#![tactic(auto, using(mc_bytes::proofs::Kept::kept_whole, mc_bytes::proofs::Kept::kept_same, mc_bytes::proofs::Kept::kept_by, mc_bytes::proofs::Kept::kept_past, crate::proofs::Ids::id_fits))]
 
 ghost use Rattle.std.specs.Prelude.{◌≡◌, ◌++◌, length, take, OnOk};
 ghost use Rattle.mc_fields.specs.Flat.{tuple2, tuple3, tuple4, tuple5, tuple6, tuple7};
 ghost use Rattle.mc_fields.specs.Varint.{varint_spelling};
 
 use crate::{Field, VarInt, put2, put3, put4, put5, put6, put7};
-use mc_nbt::NoMemory;
+use mc_bytes::NoMemory;
 
 /// Appends a packet of one field.
 pub fn put_row<F: Field>(id: i32, fields: &F, out: &mut Vec<u8>) -> Result<(), NoMemory>

@@ -1,13 +1,13 @@
 ghost use Rattle.std.specs.Prelude.{◌≡◌, ◌≤◌, ◌<◌, ◌^◌, ◌++◌, ℕ, List, Ok, IfOk, OnOk, OnErr, drop};
 ghost use Rattle.std.specs.Prelude.{length};
 ghost use Rattle.std.specs.Str.{chars};
-ghost use Rattle.mc_nbt.specs.Reading.{Yields, Gives};
-ghost use Rattle.mc_nbt.specs.Placed.{SpelledAt, PlacedGives, placed};
+ghost use Rattle.mc_bytes.specs.Reading.{Yields, Gives};
+ghost use Rattle.mc_bytes.specs.Placed.{SpelledAt, PlacedGives, placed};
 ghost use Rattle.mc_fields.specs.Text.{FitsText, SpellsText, checked_text, text_front, text_read};
 ghost use Rattle.mc_fields.specs.Text.{text_spelling};
 
 use crate::varint::{take_varint, write_varint};
-use mc_nbt::{Cursor, Kind, NoMemory, ReadError, ReadFault, Stop, Text, placed};
+use mc_bytes::{Cursor, Kind, NoMemory, ReadError, ReadFault, Stop, Text, placed};
 use std::alloc::Global;
 
 /// How many code points a text has.

@@ -1,11 +1,11 @@
 //! Fields in a tuple, one after another.
-#![tactic(auto, using(mc_nbt::proofs::Kept::kept_whole, mc_nbt::proofs::Kept::kept_same, mc_nbt::proofs::Kept::kept_by, mc_nbt::proofs::Kept::kept_past))]
+#![tactic(auto, using(mc_bytes::proofs::Kept::kept_whole, mc_bytes::proofs::Kept::kept_same, mc_bytes::proofs::Kept::kept_by, mc_bytes::proofs::Kept::kept_past))]
 
 ghost use Rattle.std.specs.Prelude.{◌≡◌, length, take, OnOk};
 ghost use Rattle.mc_fields.specs.Flat.{tuple2, tuple3, tuple4, tuple5, tuple6, tuple7};
 
 use crate::Field;
-use mc_nbt::{Cursor, NoMemory, ReadError};
+use mc_bytes::{Cursor, NoMemory, ReadError};
 use std::alloc::Global;
 
 impl<A: Field, B: Field> Field for (A, B) {

@@ -3,12 +3,12 @@ ghost use Rattle.std.specs.Prelude.{List, Ok, IfOk, OnOk, OnErr, IfErr, IsErrOf,
 ghost use Rattle.std.specs.Prelude.{length};
 ghost use Rattle.std.specs.Int.{w32, cast_signed};
 ghost use lib.IntN.{ℤ};
-ghost use Rattle.mc_nbt.specs.Reading.{Yields};
-ghost use Rattle.mc_nbt.specs.Placed.{SpelledAt, placed, fault_at};
+ghost use Rattle.mc_bytes.specs.Reading.{Yields};
+ghost use Rattle.mc_bytes.specs.Placed.{SpelledAt, placed, fault_at};
 ghost use Rattle.mc_fields.specs.Varint.{SpellsVarint, GoesOn, IsCut, groups_read, groups_spelling};
 ghost use Rattle.mc_fields.specs.Varint.{varint_read, varint_spelling};
 
-use mc_nbt::{Cursor, FieldFault, Kind, NoMemory, Stop, placed, write_octets};
+use mc_bytes::{Cursor, FieldFault, Kind, NoMemory, Stop, placed, write_octets};
 
 /// The most bytes that a VarInt has.
 pub const VARINT_MAX: usize = 5;

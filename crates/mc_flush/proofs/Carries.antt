@@ -6,19 +6,19 @@ use Rattle.std.specs.List.{AllByRecursion}
 use Rattle.std.specs.Str.{IsUtf8}
 use Rattle.std.proofs.lemmas.List.{length-append}
 use lib.IntN.{ℤ, pos}
-use Rattle.mc_nbt.specs.Many.{all_spelling}
+use Rattle.mc_bytes.specs.Many.{all_spelling}
 use Rattle.mc_fields.specs.Varint.{varint_spelling}
-use Rattle.mc_down.specs.declared.down.Down.TheVariants.{List as PlayerList}
-use Rattle.mc_down.specs.declared.player.Player.{Player}
-use Rattle.mc_down.specs.declared.player.Property.{Property}
-use Rattle.mc_down.specs.declared.player.PlayerChange.TheVariants.{Join}
-use Rattle.mc_down.specs.PlayerChange.{is_action, player_wire}
-use Rattle.mc_down.specs.Down.{FitsDown, entry_of}
+use Rattle.mc_packets.specs.declared.down.Down.TheVariants.{List as PlayerList}
+use Rattle.mc_packets.specs.declared.player.Player.{Player}
+use Rattle.mc_packets.specs.declared.player.Property.{Property}
+use Rattle.mc_packets.specs.declared.player.PlayerChange.TheVariants.{Join}
+use Rattle.mc_packets.specs.PlayerChange.{is_action, player_wire}
+use Rattle.mc_packets.specs.Down.{FitsDown, entry_of}
 use Rattle.mc_model.specs.Delta.{leaver, joiner, about}
 use Rattle.mc_model.proofs.FitsSize.{AtMost, few_bytes, at_most_joined, varint_size}
 use Rattle.mc_model.proofs.FitsSize.{spelling_payload, fields, all_fit}
 use Rattle.mc_flush.specs.Carried.{IsCarried}
-use Rattle.mc_told.specs.Sending.{IsClear, AreClear}
+use Rattle.mc_sending.specs.Sending.{IsClear, AreClear}
 use Rattle.mc_model.proofs.FitsChat.{utf8_fits}
 use mir.Val.{SFits}
 use Rattle.std.specs.Int.{w32}

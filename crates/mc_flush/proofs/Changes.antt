@@ -9,16 +9,16 @@ use Rattle.std.proofs.lemmas.Grind.{flat_map-append}
 use lib.IntN.{pos}
 use Rattle.mc_frame.specs.Kept.{joined}
 use Rattle.mc_land.specs.Places.{IsPlace}
-use Rattle.mc_down.specs.declared.down.Down.{Down}
+use Rattle.mc_packets.specs.declared.down.Down.{Down}
 use Rattle.mc_model.specs.Delta.{Pairs, missing, is_named, leaver, joiner, about}
 use Rattle.mc_view.specs.declared.view_set.ViewSet.{ViewSet}
 use Rattle.mc_view.specs.Sets.{has}
 use Rattle.mc_flush.specs.Lists.{ListValue}
-use Rattle.mc_told.specs.Sending.{play_bytes}
+use Rattle.mc_sending.specs.Sending.{play_bytes}
 use Rattle.mc_flush.specs.Seeing.{MarkValue, IsNamed, loaded, player_packets}
 use Rattle.mc_flush.specs.Encoding.{player_bytes}
 use Rattle.mc_loads.proofs.Places.{IsMiddle, entered_holds, view_places}
-use Rattle.mc_told.proofs.Pieces.{few_filtered, all_filtered, play_bytes-append}
+use Rattle.mc_sending.proofs.Pieces.{few_filtered, all_filtered, play_bytes-append}
 
 -- ---- players
 

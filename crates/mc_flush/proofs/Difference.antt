@@ -27,7 +27,7 @@ use Rattle.mc_windows.specs.Pack.{PackValue}
 use Rattle.mc_entities.specs.declared.entity.Entity.{Entity}
 use Rattle.mc_entities.specs.Folk.{eid_of}
 use Rattle.mc_entities.specs.Numbers.{Rise}
-use Rattle.mc_down.specs.declared.down.Down.{Down}
+use Rattle.mc_packets.specs.declared.down.Down.{Down}
 use Rattle.mc_view.specs.declared.view_set.ViewSet.{ViewSet}
 use Rattle.mc_view.specs.Sets.{all_of, has, is_within}
 use Rattle.mc_view.specs.Forms.{moves_of}
@@ -46,7 +46,7 @@ use Rattle.mc_loads.specs.Columns.{changed_packets, entered_of, left_of, load_pa
 use Rattle.mc_loads.specs.Columns.{place_packets, placed_column, placed_with, unload_packets}
 use Rattle.mc_told.proofs.Rising.{sorted_is}
 use Rattle.mc_told.proofs.Rows.{known_alike, seen_rows, shown_rows, shown_told}
-use Rattle.mc_told.proofs.Keys.{all_kept, same_filter}
+use Rattle.mc_sending.proofs.Keys.{all_kept, same_filter}
 use Rattle.mc_flush.proofs.Shown.{keys_shown, same_keys, shown_entries, shown_get, shown_has}
 
 -- ---- lists

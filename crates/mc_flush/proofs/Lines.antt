@@ -1,9 +1,9 @@
 -- Lines that are appended one after another.
 use Rattle.std.proofs.Common.{◌≡◌, ℕ, List, [], ◌∷◌, ◌++◌, ap, ◌∙◌}
 use Rattle.mc_model.specs.Delta.{chat_packet}
-use Rattle.mc_told.specs.Sending.{play_bytes}
+use Rattle.mc_sending.specs.Sending.{play_bytes}
 use Rattle.mc_flush.specs.Seeing.{line_packets}
-use Rattle.mc_told.proofs.Pieces.{next_piece, play_bytes-append}
+use Rattle.mc_sending.proofs.Pieces.{next_piece, play_bytes-append}
 
 -- the next line of what is left is appended
 pub line_put : (x : List ℕ) (left rest : List (List ℕ)) (now after total : List ℕ) →

@@ -8,7 +8,8 @@ use Rattle.std.specs.Ordering.{nat_cmp, is_eq, eq_by_cmp}
 use Rattle.std.specs.Cmp.{nat_cmp_total, tied_itself, eq_by_cmp_equiv, unsigned_Decides}
 use Rattle.mc_model.specs.Delta.{is_named}
 use Rattle.mc_flush.specs.Players.{with_other}
-use Rattle.mc_told.proofs.Keys.{alike, equal, tree_found}
+use Rattle.mc_bytes.proofs.Trees.{equal, tree_found}
+use Rattle.mc_sending.proofs.Keys.{alike}
 use Rattle.std.specs.FinMap.{find, get, len, len-empty, len-insert, contains_key, insert, remove}
 use Rattle.std.specs.FinMap.{from_entries, get-from_entries, get-insert, get-remove}
 use Rattle.std.specs.FinMap.{nat_cmp-IsAntisymmetric, same_map}

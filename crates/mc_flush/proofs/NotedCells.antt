@@ -18,12 +18,12 @@ use Rattle.mc_land.specs.Places.{Place, column_number, key_cmp, place_of}
 use Rattle.mc_view.specs.declared.view_set.ViewSet.{ViewSet}
 use Rattle.mc_view.specs.declared.view_set.TheConstants.{MIDDLE_BORDER}
 use Rattle.mc_view.specs.Sets.{has}
-use Rattle.mc_down.specs.declared.down.Down.{Down}
+use Rattle.mc_packets.specs.declared.down.Down.{Down}
 use Rattle.mc_model.specs.Step.{cell_packet, is_sent, noted_packets}
 use Rattle.mc_model.proofs.FitsNotes.{sent_fits}
-use Rattle.mc_told.specs.Sending.{play_bytes}
+use Rattle.mc_sending.specs.Sending.{play_bytes}
 use Rattle.mc_flush.specs.Encoding.{looks_at, noted_cost}
-use Rattle.mc_told.proofs.Pieces.{next_piece, play_bytes-append}
+use Rattle.mc_sending.proofs.Pieces.{next_piece, play_bytes-append}
 
 -- ---- what is sent
 

@@ -8,13 +8,13 @@ use mir.Val.{SFits, to_z, of_z}
 use lib.IntN.{ℤ, pos, negsuc}
 use Rattle.mc_fields.specs.Pattern.{Represents}
 use Rattle.mc_fields.specs.declared.position.Spot.{Spot}
-use Rattle.mc_down.specs.declared.down.Down.TheVariants.{PositionLook}
+use Rattle.mc_packets.specs.declared.down.Down.TheVariants.{PositionLook}
 use Rattle.mc_model.specs.Numbers.{pattern_of, degrees_of}
 use Rattle.mc_model.specs.Step.{placing}
 use Rattle.mc_model.proofs.PatternFacts.{pattern_one}
 use Rattle.mc_model.proofs.FitsNumbers.{pattern_fits, degrees_fit}
 use Rattle.mc_model.proofs.FitsPlay.{place_clear}
-use Rattle.mc_told.specs.Sending.{IsClear}
+use Rattle.mc_sending.specs.Sending.{IsClear}
 
 small : (z : ℤ) → SFits w32 z → unsigned_abs z < 2 ^ 32
 small (pos n) fits = let f = fits.sfits in omega (arith, ints, f)

@@ -3,17 +3,17 @@ use Rattle.std.proofs.Common.{◌≡◌, ℕ, ◌+◌, List, ◌++◌, ap, ◌�
 use Rattle.mc_land.specs.Land.{LandValue}
 use Rattle.mc_windows.specs.Pack.{PackValue}
 use Rattle.mc_entities.specs.declared.entity.Entity.{Entity}
-use Rattle.mc_down.specs.declared.down.Down.{Down}
+use Rattle.mc_packets.specs.declared.down.Down.{Down}
 use Rattle.mc_view.specs.declared.view_set.ViewSet.{ViewSet}
 use Rattle.mc_model.specs.Delta.{beat_packets, destroying, time_packets}
 use Rattle.mc_flush.specs.Lists.{ListValue}
-use Rattle.mc_told.specs.Sending.{play_bytes}
+use Rattle.mc_sending.specs.Sending.{play_bytes}
 use Rattle.mc_flush.specs.Seeing.{MarkValue, age_packets, changes, column_packets, joiner_packets}
 use Rattle.mc_flush.specs.Seeing.{leaver_packets, line_packets, listed, loaded, pack_packets}
 use Rattle.mc_flush.specs.Seeing.{player_packets, stayed, unloaded}
 use Rattle.mc_loads.specs.Columns.{changed_packets, load_packets, unload_packets}
 use Rattle.mc_told.specs.Telling.{age_now, beat_now, entity_frames, gone_from}
-use Rattle.mc_told.proofs.Pieces.{play_bytes-append}
+use Rattle.mc_sending.proofs.Pieces.{play_bytes-append}
 
 -- ---- part after part
 

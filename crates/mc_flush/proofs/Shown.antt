@@ -18,7 +18,8 @@ use Rattle.mc_model.proofs.ViewFacts.{view_near, near_view}
 use Rattle.mc_view.specs.declared.view_set.ViewSet.{ViewSet}
 use Rattle.mc_view.specs.Sets.{has, all_of}
 use Rattle.mc_loads.specs.Columns.{placed_with}
-use Rattle.mc_told.proofs.Keys.{equal, alike}
+use Rattle.mc_bytes.proofs.Trees.{equal}
+use Rattle.mc_sending.proofs.Keys.{alike}
 use Rattle.mc_loads.proofs.Places.{same_place}
 use Rattle.mc_told.proofs.Ordered.{entries_made}
 use Rattle.mc_told.proofs.Rising.{rising, sorted_is, view_rising}

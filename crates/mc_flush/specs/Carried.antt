@@ -1,8 +1,8 @@
 -- Players that a packet of the list of players can carry.
 use Rattle.std.specs.Prelude.{◌≤◌, length}
 use lib.IntN.{ℤ}
-use Rattle.mc_down.specs.declared.player.Player.{Player}
-use Rattle.mc_down.specs.PlayerChange.{player_wire}
+use Rattle.mc_packets.specs.declared.player.Player.{Player}
+use Rattle.mc_packets.specs.PlayerChange.{player_wire}
 
 -- a player that has a spelling, of not too many bytes
 pub record IsCarried (action : ℤ) (p : Player) : Type 0 where

@@ -21,7 +21,7 @@ use Rattle.mc_loads.specs.ColumnFrames as columns
 use Rattle.mc_flush.specs.Lists.{ListValue}
 use Rattle.mc_told.specs.MoveFrames.{AreMoves, coded_moves, with_move}
 use Rattle.mc_flush.specs.Seeing.{MarkValue, player_packets}
-use Rattle.mc_told.specs.Sending.{play_bytes}
+use Rattle.mc_sending.specs.Sending.{play_bytes}
 
 pub record EncodedValue : Type 0 where
   -- the frames of who left and of who came, where they were encoded

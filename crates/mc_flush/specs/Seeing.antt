@@ -16,7 +16,7 @@ use Rattle.mc_slots.specs.declared.pile.Pile.TheVariants.{Empty}
 use Rattle.mc_slots.specs.Pile.{slot_of}
 use Rattle.mc_windows.specs.Pack.{PackValue, IsPack, pack_size}
 use Rattle.mc_entities.specs.declared.entity.Entity.{Entity}
-use Rattle.mc_down.specs.declared.down.Down.{Down}
+use Rattle.mc_packets.specs.declared.down.Down.{Down}
 use Rattle.mc_view.specs.declared.view_set.ViewSet.{ViewSet}
 use Rattle.mc_view.specs.Sets.{all_of, has, is_within}
 use Rattle.mc_view.specs.Told.{Told}

@@ -15,10 +15,10 @@ mod fields;
 
 use crate::PlayerList;
 use bytes::Bytes;
+use mc_bytes::NoMemory;
 use mc_entities::Folk;
 use mc_land::{Land, Steps};
 use mc_loads::EncodedColumns;
-use mc_nbt::NoMemory;
 use mc_told::EncodedMoves;
 use std::alloc::Global;
 use std::marker::Model;

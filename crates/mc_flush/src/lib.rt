@@ -22,6 +22,6 @@ pub use client_view::{ClientView, flush};
 pub use encoded::Encoded;
 pub use line::Line;
 pub use mark::Mark;
-pub use mc_told::{put_made, put_packet};
+pub use mc_sending::{put_made, put_packet};
 pub use notes::placing_packet;
 pub use player_list::PlayerList;

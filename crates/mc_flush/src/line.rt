@@ -1,12 +1,12 @@
 ghost use Rattle.std.specs.Prelude.{◌≡◌, ◌++◌, ◌∷◌, [], IfOk, OnOk};
 ghost use Rattle.mc_model.specs.Delta.{chat_packet};
-ghost use Rattle.mc_told.specs.Sending.{IsClear, play_bytes};
+ghost use Rattle.mc_sending.specs.Sending.{IsClear, play_bytes};
 ghost use Rattle.mc_flush.specs.Seeing.{line_packets};
 
 use bytes::Bytes;
-use mc_down::Down;
-use mc_nbt::{NoMemory, Text};
-use mc_told::put_made;
+use mc_bytes::{NoMemory, Text};
+use mc_packets::Down;
+use mc_sending::put_made;
 use std::marker::Model;
 
 /// What was said, encoded once for all clients. Contracts see it as its text.
@@ -20,7 +20,7 @@ pub struct Line {
 impl Model for Line {
     ghost use Rattle.std.specs.Prelude.{◌≡◌, ◌∷◌, [], List, ℕ};
     ghost use Rattle.mc_model.specs.Delta.{chat_packet};
-    ghost use Rattle.mc_told.specs.Sending.{play_bytes};
+    ghost use Rattle.mc_sending.specs.Sending.{play_bytes};
 
     ghost Value = { List ℕ };
 

@@ -5,7 +5,7 @@ ghost use Rattle.mc_entities.specs.Folk.{eid_of};
 ghost use Rattle.mc_model.specs.Delta.{destroying, is_told};
 ghost use Rattle.mc_model.specs.World.{others};
 ghost use Rattle.mc_told.specs.MoveFrames.{AreMoves};
-ghost use Rattle.mc_told.specs.Sending.{play_bytes};
+ghost use Rattle.mc_sending.specs.Sending.{play_bytes};
 ghost use Rattle.mc_flush.specs.Seeing.{loaded, nothing_shown};
 ghost use Rattle.mc_told.specs.Telling.{age_now, beat_now, entity_frames, gone_from, told_now};
 
@@ -13,7 +13,7 @@ mod fields;
 
 use crate::ClientView;
 use bytes::Bytes;
-use mc_nbt::NoMemory;
+use mc_bytes::NoMemory;
 use mc_slots::Pile;
 use mc_told::{Clock, tell};
 use mc_view::{Columns, Tracker, ViewSet};

@@ -7,13 +7,13 @@ ghost use lib.IntN.{pos};
 ghost use Rattle.mc_model.specs.Delta.{leaver, joiner, about, is_named, missing};
 ghost use Rattle.mc_flush.specs.Carried.{IsCarried};
 ghost use Rattle.mc_flush.specs.Players.{with_other};
-ghost use Rattle.mc_told.specs.Sending.{play_bytes, AreClear};
+ghost use Rattle.mc_sending.specs.Sending.{play_bytes, AreClear};
 ghost use Rattle.mc_flush.specs.Seeing.{IsNamed};
 
 use indexmap::IndexMap;
-use mc_down::{Down, Player, PlayerChange, Players, Properties};
-use mc_nbt::{NoMemory, Text};
-use mc_told::put_made;
+use mc_bytes::{NoMemory, Text};
+use mc_packets::{Down, Player, PlayerChange, Players, Properties};
+use mc_sending::put_made;
 use std::alloc::Global;
 use std::collections::BTreeMap;
 

@@ -6,14 +6,14 @@ ghost use Rattle.mc_view.specs.Sets.{has};
 ghost use Rattle.mc_model.specs.Step.{is_sent, noted_packets};
 ghost use Rattle.mc_model.specs.Things.{state_of_cell};
 ghost use Rattle.mc_flush.specs.Encoding.{looks_at, noted_cost};
-ghost use Rattle.mc_told.specs.Sending.{play_bytes};
+ghost use Rattle.mc_sending.specs.Sending.{play_bytes};
 
 use bytes::Bytes;
-use mc_down::Down;
+use mc_bytes::NoMemory;
 use mc_fields::Cell;
 use mc_land::{Land, Steps};
-use mc_nbt::NoMemory;
-use mc_told::put_made;
+use mc_packets::Down;
+use mc_sending::put_made;
 use mc_view::ViewSet;
 use std::alloc::Global;
 use std::sync::ledger::Ledger;

@@ -2,17 +2,17 @@ ghost use Rattle.std.specs.Prelude.{◌≡◌, ◌++◌, ◌∷◌, ℕ, [], IfO
 ghost use lib.IntN.{negsuc};
 ghost use Rattle.mc_slots.specs.Pile.{IsPile, slot_of};
 ghost use Rattle.mc_slots.specs.Chest.{pile_at};
-ghost use Rattle.mc_down.specs.declared.down.Down.TheVariants as down;
+ghost use Rattle.mc_packets.specs.declared.down.Down.TheVariants as down;
 ghost use Rattle.mc_slots.specs.declared.slot.Slot.TheVariants as slots;
 ghost use Rattle.mc_model.specs.Step.{notes_of, placing};
-ghost use Rattle.mc_told.specs.Sending.{IsClear, play_bytes};
+ghost use Rattle.mc_sending.specs.Sending.{IsClear, play_bytes};
 
-use mc_down::{Down, Slots};
+use mc_bytes::NoMemory;
 use mc_fields::{Spot, degrees, pattern};
 use mc_model::Notes;
-use mc_nbt::NoMemory;
+use mc_packets::{Down, Slots};
+use mc_sending::put_made;
 use mc_slots::{Pile, Slot};
-use mc_told::put_made;
 use mc_windows::Pack;
 use std::alloc::Global;
 

@@ -6,13 +6,13 @@ ghost use Rattle.indexmap.specs.IndexMap.{insert_entry};
 ghost use Rattle.mc_model.specs.Delta.{missing};
 ghost use Rattle.mc_flush.specs.Lists.{new_list, with_name, without_name, settled_list};
 ghost use Rattle.mc_flush.specs.Seeing.{IsNamed, player_packets};
-ghost use Rattle.mc_told.specs.Sending.{play_bytes};
+ghost use Rattle.mc_sending.specs.Sending.{play_bytes};
 ghost use Rattle.mc_flush.specs.Encoding.{player_bytes};
 
 use crate::names::Names;
 use bytes::Bytes;
 use indexmap::IndexMap;
-use mc_nbt::{NoMemory, Text};
+use mc_bytes::{NoMemory, Text};
 use std::alloc::Global;
 use std::marker::Model;
 

@@ -3,7 +3,7 @@
 ghost use Rattle.std.specs.Prelude.{◌≡◌, ◌≤◌, ◌++◌, OnOk};
 ghost use Rattle.mc_frame.specs.Kept.{joined};
 ghost use Rattle.mc_model.specs.Step.{notes_of};
-ghost use Rattle.mc_told.specs.Sending.{play_bytes};
+ghost use Rattle.mc_sending.specs.Sending.{play_bytes};
 ghost use Rattle.mc_flush.specs.Seeing.{age_packets, line_packets, pack_packets};
 
 use crate::line::put_lines;
@@ -11,10 +11,10 @@ use crate::notes::put_notes;
 use crate::slots::put_slots;
 use crate::{Line, Mark};
 use bytes::Bytes;
+use mc_bytes::NoMemory;
 use mc_fields::Spot;
 use mc_loads::push_piece;
 use mc_model::Notes;
-use mc_nbt::NoMemory;
 use mc_windows::Pack;
 use std::alloc::Global;
 

@@ -4,13 +4,13 @@ ghost use Rattle.std.specs.Prelude.{◌≡◌, ◌<◌, ◌++◌, ◌∷◌, ℕ
 ghost use Rattle.mc_slots.specs.Pile.{IsPile, slot_of};
 ghost use Rattle.mc_slots.specs.Chest.{pile_at};
 ghost use Rattle.mc_model.specs.Delta.{slot_packets};
-ghost use Rattle.mc_told.specs.Sending.{play_bytes};
+ghost use Rattle.mc_sending.specs.Sending.{play_bytes};
 ghost use Rattle.mc_flush.specs.Seeing.{pack_packets};
 
-use mc_down::Down;
-use mc_nbt::NoMemory;
+use mc_bytes::NoMemory;
+use mc_packets::Down;
+use mc_sending::put_made;
 use mc_slots::Pile;
-use mc_told::put_made;
 use mc_windows::PACK_PILES;
 
 /// The slot of window 0 that a pack begins at.

@@ -4,12 +4,12 @@ use Rattle.std.proofs.Common.{refl, sym, subst, ap, ◌∙◌, append_assoc, ari
 use Rattle.std.specs.Prelude.{Option, Some, None}
 use Rattle.std.proofs.lemmas.List.{length-append, append-nil, get_or_append_left}
 use lib.IntN.{pos}
-use Rattle.mc_nbt.specs.declared.fault.Kind.{Kind}
-use Rattle.mc_nbt.specs.declared.fault.Kind.TheVariants.{Short, LongVarInt, BadLength}
-use Rattle.mc_nbt.specs.declared.fault.Stop.{Stop}
-use Rattle.mc_nbt.specs.Reading.{Field, IsBytes, stop_at}
-use Rattle.mc_nbt.specs.Format.{Anything}
-use Rattle.mc_nbt.specs.CombineLaws.{ok_is}
+use Rattle.mc_bytes.specs.declared.fault.Kind.{Kind}
+use Rattle.mc_bytes.specs.declared.fault.Kind.TheVariants.{Short, LongVarInt, BadLength}
+use Rattle.mc_bytes.specs.declared.fault.Stop.{Stop}
+use Rattle.mc_bytes.specs.Reading.{Field, IsBytes, stop_at}
+use Rattle.mc_bytes.specs.Format.{Anything}
+use Rattle.mc_bytes.specs.CombineLaws.{ok_is}
 use Rattle.mc_fields.specs.VarintLaws.{varint_only}
 use Rattle.mc_fields.proofs.VarintFaults.{groups-long}
 use Rattle.mc_frame.specs.declared.fault.FrameFault.{FrameFault}

@@ -4,8 +4,8 @@ use Rattle.std.proofs.Common.{Err, refl, sym, subst, ap, ◌∙◌, arith}
 use Rattle.std.specs.Prelude.{Option, Some, None, min}
 use Rattle.std.proofs.lemmas.List.{length-append, length-take-le, take_at, take-append-drop}
 use Rattle.std.proofs.lemmas.List.{drop-drop}
-use Rattle.mc_nbt.specs.declared.fault.Stop.{Stop}
-use Rattle.mc_nbt.specs.Reading.{IsBytes}
+use Rattle.mc_bytes.specs.declared.fault.Stop.{Stop}
+use Rattle.mc_bytes.specs.Reading.{IsBytes}
 use Rattle.mc_frame.specs.declared.fault.FrameFault.{FrameFault}
 use Rattle.mc_frame.specs.Faults.{fault_of}
 use Rattle.mc_frame.specs.Frame.{SpellsFrame, frame_read}

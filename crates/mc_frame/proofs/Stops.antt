@@ -10,11 +10,11 @@ use Rattle.std.proofs.lemmas.Int.{to_z-of_z}
 use Rattle.std.proofs.Math.Nat.{pow-le-pow_right}
 use lib.IntN.{ℤ, pos, negsuc}
 use mir.Val.{SFits}
-use Rattle.mc_nbt.specs.declared.fault.Kind.{Kind}
-use Rattle.mc_nbt.specs.declared.fault.Kind.TheVariants.{Short, LongVarInt, BadLength}
-use Rattle.mc_nbt.specs.declared.fault.Stop.{Stop}
-use Rattle.mc_nbt.specs.Reading.{Field, IsBytes, ◌>>=◌, stop_at}
-use Rattle.mc_nbt.specs.NumberBytes.{octets_read}
+use Rattle.mc_bytes.specs.declared.fault.Kind.{Kind}
+use Rattle.mc_bytes.specs.declared.fault.Kind.TheVariants.{Short, LongVarInt, BadLength}
+use Rattle.mc_bytes.specs.declared.fault.Stop.{Stop}
+use Rattle.mc_bytes.specs.Reading.{Field, IsBytes, ◌>>=◌, stop_at}
+use Rattle.mc_bytes.specs.NumberBytes.{octets_read}
 use Rattle.mc_fields.specs.Varint.{weighed, IsChain, SpellsVarint, GoesOn, IsCut, groups_read}
 use Rattle.mc_fields.specs.Varint.{number_of, varint_read}
 use Rattle.mc_fields.specs.VarintLaws.{IsChain-cons, weighed-below, varint_found, varint_fit}

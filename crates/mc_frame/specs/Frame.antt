@@ -3,9 +3,9 @@
 use Rattle.std.specs.Prelude.{◌≡◌, ℕ, ◌^◌, ◌<◌, Bool, true, false, List, ◌++◌, length}
 use Rattle.std.specs.Prelude.{nat_lt, Err, if◌then◌else◌}
 use lib.IntN.{ℤ, pos, negsuc}
-use Rattle.mc_nbt.specs.declared.fault.Kind.TheVariants.{BadLength}
-use Rattle.mc_nbt.specs.Reading.{Field, ◌>>=◌, stop_at}
-use Rattle.mc_nbt.specs.NumberBytes.{octets_read}
+use Rattle.mc_bytes.specs.declared.fault.Kind.TheVariants.{BadLength}
+use Rattle.mc_bytes.specs.Reading.{Field, ◌>>=◌, stop_at}
+use Rattle.mc_bytes.specs.NumberBytes.{octets_read}
 use Rattle.mc_fields.specs.Varint.{SpellsVarint, varint_read, varint_spelling}
 
 -- what a frame can hold: one byte at least, and no more than three bytes of length count

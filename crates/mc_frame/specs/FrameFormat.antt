@@ -1,6 +1,6 @@
 -- The format of frames, of the page 'Protocol' of wiki.vg for protocol 47.
 use Rattle.std.specs.Prelude.{ℕ, ◌+◌, List, ◌++◌, length, refl}
-use Rattle.mc_nbt.specs.Format.{Format}
+use Rattle.mc_bytes.specs.Format.{Format}
 use Rattle.mc_frame.specs.Frame.{IsPayload, SpellsFrame, frame_read, frame_spelling}
 use Rattle.mc_frame.specs.FrameLaws.{frame_found, frame_only, frame_fit, frame_spelled}
 use Rattle.mc_frame.specs.FrameLaws.{frame_bounded}

@@ -5,12 +5,12 @@ use Rattle.std.specs.Prelude.{length, nat_lt, Ok, Err, refl}
 use Rattle.std.proofs.Common.{sym, subst, ap, ◌∙◌, arith, append_assoc, lt-ltb, ltb-true}
 use Rattle.std.proofs.lemmas.List.{length-append}
 use lib.IntN.{ℤ, pos, negsuc}
-use Rattle.mc_nbt.specs.declared.fault.Kind.TheVariants.{BadLength}
-use Rattle.mc_nbt.specs.Reading.{Field, IsBytes, ◌>>=◌, stop_at}
-use Rattle.mc_nbt.specs.Format.{IsFound, IsOnly, IsBounded, Anything}
-use Rattle.mc_nbt.specs.CombineLaws.{bind_ok, joined, joined_length}
-use Rattle.mc_nbt.specs.NumberBytes.{octets_read}
-use Rattle.mc_nbt.specs.NumberLaws.{octets_found, octets_only}
+use Rattle.mc_bytes.specs.declared.fault.Kind.TheVariants.{BadLength}
+use Rattle.mc_bytes.specs.Reading.{Field, IsBytes, ◌>>=◌, stop_at}
+use Rattle.mc_bytes.specs.Format.{IsFound, IsOnly, IsBounded, Anything}
+use Rattle.mc_bytes.specs.CombineLaws.{bind_ok, joined, joined_length}
+use Rattle.mc_bytes.specs.NumberBytes.{octets_read}
+use Rattle.mc_bytes.specs.NumberLaws.{octets_found, octets_only}
 use Rattle.mc_fields.specs.Varint.{SpellsVarint, varint_read, varint_spelling}
 use Rattle.mc_fields.specs.VarintLaws.{varint_found, varint_only, varint_fit, varint_spelled}
 use Rattle.mc_fields.specs.VarintLaws.{varint-shortest, IsChain-some, three}

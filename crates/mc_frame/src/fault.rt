@@ -1,4 +1,4 @@
-use mc_nbt::Octets;
+use mc_bytes::Octets;
 use std::error::Error;
 use std::fmt;
 

@@ -1,13 +1,13 @@
 ghost use Rattle.std.specs.Prelude.{◌≡◌, ◌≤◌, ◌++◌, ℕ, List, Ok, OnOk, OnErr, IfOk, IfErr, length};
 ghost use Rattle.std.specs.Prelude.{take};
-ghost use Rattle.mc_nbt.specs.Reading.{Yields};
+ghost use Rattle.mc_bytes.specs.Reading.{Yields};
 ghost use Rattle.mc_frame.specs.Frame.{IsPayload, SpellsFrame, frame_read, frame_spelling};
 ghost use Rattle.mc_frame.specs.Cut.{Ends};
 ghost use Rattle.mc_frame.specs.Faults.{fault_of};
 
 use crate::FrameFault;
+use mc_bytes::{Cursor, Kind, NoMemory, Stop, write_octets};
 use mc_fields::{take_varint_within, write_varint};
-use mc_nbt::{Cursor, Kind, NoMemory, Stop, write_octets};
 
 /// The most bytes that a frame's length has.
 const LENGTH_MAX: usize = 3;

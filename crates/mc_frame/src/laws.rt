@@ -1,5 +1,5 @@
 ghost use Rattle.std.specs.Prelude.{◌≡◌, ◌++◌, ℕ, List, Some, None, length};
-ghost use Rattle.mc_nbt.specs.Reading.{IsBytes};
+ghost use Rattle.mc_bytes.specs.Reading.{IsBytes};
 ghost use Rattle.mc_frame.specs.Cut.{Cut, IsCut};
 ghost use Rattle.mc_frame.specs.Held.{Splitting, nothing_held};
 ghost use Rattle.mc_frame.specs.Splitting.{Event, Runs, Takes, Answers, fed_bytes, taken_frames};

@@ -2,7 +2,7 @@ ghost use Rattle.std.specs.Prelude.{◌≡◌, ◌+◌, ◌≤◌, ◌++◌, ◌
 ghost use Rattle.mc_frame.specs.Kept.{joined, outbox_max, IsInFirst, ArePieces};
 
 use bytes::Bytes;
-use mc_nbt::NoMemory;
+use mc_bytes::NoMemory;
 use std::alloc::Global;
 use std::collections::VecDeque;
 use std::marker::Model;

@@ -7,7 +7,7 @@ ghost use Rattle.mc_frame.specs.Splitting.{Feeds, Takes, held_max, room_for};
 
 use crate::frame::front_frame;
 use crate::{FrameFault, Take};
-use mc_nbt::{NoMemory, Octets};
+use mc_bytes::{NoMemory, Octets};
 use std::alloc::Global;
 use std::marker::Model;
 

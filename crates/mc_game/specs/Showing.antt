@@ -5,7 +5,7 @@ use Rattle.std.specs.Prelude.{if◌then◌else◌}
 use Rattle.std.specs.List.{filter, filter_map}
 use Rattle.std.specs.FinMap.{from_entries}
 use lib.IntN.{pos}
-use Rattle.mc_down.specs.declared.down.Down.{Down}
+use Rattle.mc_packets.specs.declared.down.Down.{Down}
 use Rattle.mc_land.specs.Places.{Place}
 use Rattle.mc_slots.specs.Pile.{slot_of}
 use Rattle.mc_model.specs.Delta.{delta}

@@ -1,5 +1,5 @@
+use mc_bytes::Text;
 use mc_model::Notes;
-use mc_nbt::Text;
 
 /// One player, in play.
 #[derive(Drop)]

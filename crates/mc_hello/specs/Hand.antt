@@ -1,9 +1,9 @@
 -- The packet before any other, of the page 'Protocol' of wiki.vg for protocol 47.
 use Rattle.std.specs.Prelude.{ℕ, ◌==◌, ◌||◌, Bool, false, List}
 use lib.IntN.{ℤ, pos, negsuc}
-use Rattle.mc_nbt.specs.declared.fault.Kind.TheVariants.{BadNumber}
-use Rattle.mc_nbt.specs.Format.{Format}
-use Rattle.mc_nbt.specs.Combine.{tested, last}
+use Rattle.mc_bytes.specs.declared.fault.Kind.TheVariants.{BadNumber}
+use Rattle.mc_bytes.specs.Format.{Format}
+use Rattle.mc_bytes.specs.Combine.{tested, last}
 use Rattle.mc_fields.specs.VarintFormat.{var_int}
 use Rattle.mc_fields.specs.Flat.{tuple4}
 use Rattle.mc_fields.specs.TextFormat.{text}

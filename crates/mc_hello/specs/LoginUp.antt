@@ -1,7 +1,7 @@
 -- The packet of a client that logs in, of the page 'Protocol' of wiki.vg for protocol 47, without
 -- encryption.
 use Rattle.std.specs.Prelude.{ℕ, List}
-use Rattle.mc_nbt.specs.Combine.{last}
+use Rattle.mc_bytes.specs.Combine.{last}
 use Rattle.mc_fields.specs.TextFormat.{text}
 use Rattle.mc_fields.specs.Row.{Row, packet, Entry, of_row, Spells, Fits, spelling, append, Rows}
 use Rattle.mc_fields.specs.Row.Rows.{row, no_more}

@@ -1,7 +1,7 @@
 -- The packets to a client that asks for the status, of the page 'Protocol' of wiki.vg for protocol
 -- 47.
 use Rattle.std.specs.Prelude.{ℕ, List}
-use Rattle.mc_nbt.specs.Combine.{last}
+use Rattle.mc_bytes.specs.Combine.{last}
 use Rattle.mc_fields.specs.TextFormat.{string}
 use Rattle.mc_fields.specs.Integers.{long}
 use Rattle.mc_fields.specs.Row.{Row, packet, Entry, of_row, Spells, Fits, spelling, append, Rows}

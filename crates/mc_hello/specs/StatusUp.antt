@@ -1,7 +1,7 @@
 -- The packets of a client that asks for the status, of the page 'Protocol' of wiki.vg for protocol
 -- 47.
 use Rattle.std.specs.Prelude.{ℕ, List}
-use Rattle.mc_nbt.specs.Combine.{last, none}
+use Rattle.mc_bytes.specs.Combine.{last, none}
 use Rattle.mc_fields.specs.Integers.{long}
 use Rattle.mc_fields.specs.Row.{Row, packet, Entry, of_row, Spells, Fits, spelling, append, Rows}
 use Rattle.mc_fields.specs.Row.Rows.{row, no_more}

@@ -3,11 +3,11 @@ ghost use Rattle.std.specs.Prelude.{length};
 ghost use Rattle.mc_fields.specs.Row.{GivesRow, GivesPacket, id_read, packet_read, packet_of};
 ghost use Rattle.mc_hello.specs.Hand.{rows, SpellsHand, FitsHand, spelling_of, append_of};
 
+use mc_bytes::{Cursor, Kind, NoMemory, ReadError, Text};
 use mc_fields::{
     Bounded, Field, PacketRead, RowError, RowFault, VarInt, put_row4, take_varint, whole,
     write_varint,
 };
-use mc_nbt::{Cursor, Kind, NoMemory, ReadError, Text};
 use std::alloc::Global;
 use std::marker::Model;
 

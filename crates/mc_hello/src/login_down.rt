@@ -3,10 +3,10 @@ ghost use Rattle.mc_fields.specs.Row.{GivesRow, GivesPacket, id_read, packet_rea
 ghost use Rattle.mc_hello.specs.LoginDown.{rows, SpellsLoginDown, FitsLoginDown};
 ghost use Rattle.mc_hello.specs.LoginDown.{spelling_of, append_of};
 
+use mc_bytes::{Cursor, NoMemory, Text};
 use mc_fields::{
     Bounded, Field, PacketRead, RowError, RowFault, put_row, put_row2, take_varint, whole,
 };
-use mc_nbt::{Cursor, NoMemory, Text};
 use std::alloc::Global;
 
 /// A packet to a client that logs in.

@@ -2,8 +2,8 @@ ghost use Rattle.std.specs.Prelude.{◌≡◌, ◌++◌, ℕ, List, IfOk, OnOk, 
 ghost use Rattle.mc_fields.specs.Row.{GivesRow, GivesPacket, id_read, packet_read, packet_of};
 ghost use Rattle.mc_hello.specs.LoginUp.{rows, SpellsLoginUp, FitsLoginUp, spelling_of, append_of};
 
+use mc_bytes::{Cursor, NoMemory, Text};
 use mc_fields::{Bounded, Field, PacketRead, RowError, RowFault, put_row, take_varint, whole};
-use mc_nbt::{Cursor, NoMemory, Text};
 use std::alloc::Global;
 
 /// A packet of a client that logs in.

@@ -3,8 +3,8 @@ ghost use Rattle.mc_fields.specs.Row.{GivesRow, GivesPacket, id_read, packet_rea
 ghost use Rattle.mc_hello.specs.StatusDown.{rows, SpellsStatusDown, FitsStatusDown};
 ghost use Rattle.mc_hello.specs.StatusDown.{spelling_of, append_of};
 
+use mc_bytes::{Cursor, NoMemory, Text};
 use mc_fields::{Field, PacketRead, RowError, RowFault, put_row, take_varint, whole};
-use mc_nbt::{Cursor, NoMemory, Text};
 use std::alloc::Global;
 
 /// A packet to a client that asks for the status.

@@ -1,12 +1,12 @@
 ghost use Rattle.std.specs.Prelude.{◌≡◌, ◌≢◌, ◌++◌, ℕ, List, IfOk, IfErr, OnOk, OnErr, Ok, take};
 ghost use Rattle.std.specs.Prelude.{length};
-ghost use Rattle.mc_nbt.specs.Reading.{Yields};
+ghost use Rattle.mc_bytes.specs.Reading.{Yields};
 ghost use Rattle.mc_fields.specs.Row.{GivesPacket, id_read, packet_read, packet_of};
 ghost use Rattle.mc_hello.specs.StatusUp.{rows, SpellsStatusUp, FitsStatusUp, spelling_of};
 ghost use Rattle.mc_hello.specs.StatusUp.{append_of};
 
+use mc_bytes::{Cursor, NoMemory};
 use mc_fields::{PacketRead, RowFault, put_row, take_i64, take_varint, whole, write_varint};
-use mc_nbt::{Cursor, NoMemory};
 
 /// A packet of a client that asks for the status.
 #[derive(Clone, Copy, Debug, PartialEq, Eq)]

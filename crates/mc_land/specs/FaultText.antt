@@ -1,6 +1,6 @@
 -- What is printed where a cell was not set (rules of this project).
 use Rattle.std.specs.Prelude.{ℕ, List, codes}
-use Rattle.mc_nbt.specs.FaultText.{no_memory_text}
+use Rattle.mc_bytes.specs.FaultText.{no_memory_text}
 use Rattle.mc_land.specs.declared.fault.LandFault.{LandFault}
 use Rattle.mc_land.specs.declared.fault.LandFault.TheVariants.{Outside, NoMemory}
 

@@ -16,8 +16,8 @@ ghost use Rattle.mc_land.specs.GrownCode.{own_section, reach_in};
 use crate::places::Place;
 use crate::sizes::{cells_of_layer, cells_of_section, sections_of_column};
 use crate::terrain::{PLAINS, Terrain, flat_id, height, hills_biome, hills_id, isle_id};
+use mc_bytes::NoMemory;
 use mc_column::Column;
-use mc_nbt::NoMemory;
 use std::alloc::Global;
 
 /// The lowest grass of the hills.

@@ -15,8 +15,8 @@ ghost use Rattle.mc_land.specs.ReadyCode.{IsAround, is_at, one_if};
 use crate::growing::block_at;
 use crate::places::Place;
 use crate::terrain::Terrain;
+use mc_bytes::NoMemory;
 use mc_column::Column;
-use mc_nbt::NoMemory;
 use std::alloc::Global;
 use std::marker::Model;
 

@@ -12,11 +12,11 @@ use Rattle.mc_column.specs.Sizes.{cells}
 use Rattle.mc_land.specs.Places.{Place, place_cmp}
 use Rattle.mc_land.specs.Land.{LandValue}
 use Rattle.mc_land.proofs.Orders.{places_total}
-use Rattle.mc_down.specs.declared.down.Down.{Down}
+use Rattle.mc_packets.specs.declared.down.Down.{Down}
 use Rattle.mc_view.specs.declared.view_set.ViewSet.{ViewSet}
 use Rattle.mc_view.specs.Sets.{is_within}
-use Rattle.mc_told.specs.Sending.{play_bytes}
-use Rattle.mc_told.proofs.Pieces.{play_bytes-append}
+use Rattle.mc_sending.specs.Sending.{play_bytes}
+use Rattle.mc_sending.proofs.Pieces.{play_bytes-append}
 use Rattle.mc_loads.specs.Columns.{changed_packets, entered_of, left_of, load_packets}
 use Rattle.mc_loads.specs.Columns.{place_packets, packets_between, stayed_among, stayed_of}
 use Rattle.mc_loads.specs.Columns.{unload_packets}

@@ -7,7 +7,7 @@ use Rattle.std.proofs.lemmas.List.{length-append}
 use lib.IntN.{ℤ, pos, negsuc, neg_ℤ}
 use lib.Signed.{◌≤ℤ◌}
 use mir.Val.{SFits}
-use Rattle.mc_nbt.specs.Numbers.{number_spelling}
+use Rattle.mc_bytes.specs.Numbers.{number_spelling}
 use Rattle.mc_fields.specs.Varint.{varint_spelling}
 use Rattle.mc_fields.specs.Integers.{boolean_spelling}
 use Rattle.mc_frame.specs.Frame.{frame_spelling}
@@ -15,12 +15,12 @@ use Rattle.mc_column.specs.Cells.{ColumnValue, HasSizes}
 use Rattle.mc_column.specs.Sent.{column_mask, column_bytes}
 use Rattle.mc_land.specs.Places.{Place, IsPlace}
 use Rattle.mc_land.specs.declared.places.TheConstants.{COLUMN_BORDER}
-use Rattle.mc_down.specs.Down.{spelling_of}
+use Rattle.mc_packets.specs.Down.{spelling_of}
 use Rattle.mc_model.specs.Packets.{of_play, frame_of}
 use Rattle.mc_model.specs.Delta.{load, unload}
 use Rattle.mc_model.proofs.FitsChunk.{PlaceFits, whole_clear, unload_clear}
 use Rattle.mc_loads.specs.Heads.{load_head}
-use Rattle.mc_told.specs.Sending.{IsClear}
+use Rattle.mc_sending.specs.Sending.{IsClear}
 
 -- ---- places
 

@@ -19,8 +19,8 @@ use Rattle.mc_model.proofs.ViewFacts.{view_near}
 use Rattle.mc_view.specs.declared.view_set.ViewSet.{ViewSet}
 use Rattle.mc_view.specs.declared.view_set.TheConstants.{MIDDLE_BORDER}
 use Rattle.mc_view.specs.Sets.{has, all_of, lacking}
-use Rattle.mc_told.proofs.Keys.{equal}
-use Rattle.mc_told.proofs.Pieces.{all_filtered}
+use Rattle.mc_bytes.proofs.Trees.{equal}
+use Rattle.mc_sending.proofs.Pieces.{all_filtered}
 use Rattle.mc_loads.specs.Columns.{entered_of}
 
 -- one more piece

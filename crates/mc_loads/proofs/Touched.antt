@@ -13,7 +13,7 @@ use lib.Signed.{◌≤ℤ◌}
 use mir.Val.{to_z, of_z}
 use Rattle.std.specs.Int.{w32}
 use Rattle.mc_land.specs.declared.ready.Touched.{Touched}
-use Rattle.mc_down.specs.declared.record.Record.{Record}
+use Rattle.mc_packets.specs.declared.record.Record.{Record}
 use Rattle.mc_column.specs.Sizes.{cells}
 use Rattle.mc_column.specs.SizesLaws.{cells-is}
 use Rattle.mc_fields.specs.declared.position.Cell.{Cell}
@@ -21,13 +21,13 @@ use Rattle.mc_land.specs.Places.{Place, IsPlace, key_of, x_of, y_of, z_of}
 use Rattle.mc_land.specs.declared.places.TheConstants.{COLUMN_BORDER}
 use Rattle.mc_land.specs.Land.{LandValue, block, dirty_in, state_at, states_of}
 use Rattle.mc_land.specs.Ready.{touched_cell}
-use Rattle.mc_down.specs.declared.down.Down.TheVariants.{MultiChange}
+use Rattle.mc_packets.specs.declared.down.Down.TheVariants.{MultiChange}
 use Rattle.mc_model.specs.Delta.{cell_at, cell_packets, cell_record, differing}
 use Rattle.mc_model.proofs.FitsCells.{CellFits, cells_clear, differing_few}
 use Rattle.mc_model.proofs.FitsChunk.{IsNear}
 use Rattle.mc_model.proofs.PointsCells.{key_back}
 use Rattle.mc_loads.specs.Cells.{AreCells, IsCell, indices, states_at}
-use Rattle.mc_told.specs.Sending.{AreClear}
+use Rattle.mc_sending.specs.Sending.{AreClear}
 
 -- ---- where a cell is
 

@@ -11,7 +11,7 @@ use Rattle.mc_land.specs.Land.{LandValue, dirty_in}
 use Rattle.mc_view.specs.declared.view_set.ViewSet.{ViewSet}
 use Rattle.mc_model.specs.Packets.{of_play, frame_of}
 use Rattle.mc_model.specs.Delta.{load}
-use Rattle.mc_told.specs.Sending.{play_bytes}
+use Rattle.mc_sending.specs.Sending.{play_bytes}
 use Rattle.mc_loads.specs.Columns.{entered_of, place_packets, placed_column, stayed_of}
 
 pub record ColumnsValue : Type 0 where

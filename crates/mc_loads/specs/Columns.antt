@@ -8,7 +8,7 @@ use Rattle.mc_land.specs.declared.terrain.Terrain.{Terrain}
 use Rattle.mc_land.specs.declared.ready.Touched.{Touched}
 use Rattle.mc_land.specs.Places.{Place, IsPlace, key_cmp}
 use Rattle.mc_land.specs.Land.{LandValue, states_of, biomes_of, dirty_in}
-use Rattle.mc_down.specs.declared.down.Down.{Down}
+use Rattle.mc_packets.specs.declared.down.Down.{Down}
 use Rattle.mc_view.specs.declared.view_set.ViewSet.{ViewSet}
 use Rattle.mc_view.specs.Sets.{all_of, is_within, lacking}
 use Rattle.mc_model.specs.Delta.{cell_packets, load, unload}

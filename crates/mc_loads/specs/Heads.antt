@@ -2,7 +2,7 @@
 use Rattle.std.specs.Prelude.{ℕ, true, List, ◌++◌}
 use Rattle.std.specs.Int.{w16, w32, cast_unsigned}
 use lib.IntN.{pos}
-use Rattle.mc_nbt.specs.Numbers.{number_spelling}
+use Rattle.mc_bytes.specs.Numbers.{number_spelling}
 use Rattle.mc_fields.specs.Varint.{varint_spelling}
 use Rattle.mc_fields.specs.Integers.{boolean_spelling}
 use Rattle.mc_land.specs.Places.{Place}

@@ -7,16 +7,16 @@ ghost use Rattle.mc_land.specs.Places.{IsPlace};
 ghost use Rattle.mc_land.specs.declared.places.TheConstants.{COLUMN_BORDER};
 ghost use Rattle.mc_land.specs.Land.{dirty_in};
 ghost use Rattle.mc_model.specs.Delta.{cell_at, cell_packets, cell_record};
-ghost use Rattle.mc_told.specs.Sending.{play_bytes};
+ghost use Rattle.mc_sending.specs.Sending.{play_bytes};
 ghost use Rattle.mc_loads.specs.ColumnFrames.{change_bytes};
 ghost use Rattle.mc_loads.specs.Cells.{AreCells, IsCell, indices, states_at};
 
 use bytes::Bytes;
-use mc_down::{Down, Record, Records};
+use mc_bytes::NoMemory;
 use mc_fields::Cell;
 use mc_land::{Land, Steps, Touched};
-use mc_nbt::NoMemory;
-use mc_told::put_made;
+use mc_packets::{Down, Record, Records};
+use mc_sending::put_made;
 use std::alloc::Global;
 use std::sync::ledger::Ledger;
 

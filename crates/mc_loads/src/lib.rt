@@ -1,6 +1,6 @@
 //! What one client is told of columns: loads, changed cells, and what takes a column away.
 //!
-//! Stands on the land of `mc_land`, the views of `mc_view`, and the frames of `mc_told`. Its one
+//! Stands on the land of `mc_land`, the views of `mc_view`, and the frames of `mc_sending`. Its one
 //! contract: `push_columns` appends exactly the frames of what differs between the columns of the
 //! view that was shown and those of the view that is, and counts exactly the looks at cells that
 //! this takes.

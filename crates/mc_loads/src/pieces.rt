@@ -4,12 +4,12 @@ ghost use Rattle.std.specs.Prelude.{◌≡◌, ◌++◌, OnOk};
 ghost use Rattle.std.specs.List.{AllByRecursion};
 ghost use Rattle.mc_frame.specs.Kept.{joined};
 ghost use Rattle.mc_land.specs.Places.{IsPlace};
-ghost use Rattle.mc_told.specs.Sending.{play_bytes};
+ghost use Rattle.mc_sending.specs.Sending.{play_bytes};
 ghost use Rattle.mc_loads.specs.Columns.{unload_packets};
 
 use crate::columns::put_unloads;
 use bytes::Bytes;
-use mc_nbt::NoMemory;
+use mc_bytes::NoMemory;
 use mc_view::Columns;
 use std::alloc::Global;
 

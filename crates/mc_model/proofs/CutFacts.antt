@@ -2,7 +2,7 @@
 use Rattle.std.proofs.Common.{◌≡◌, ℕ, zero, suc, ◌+◌, ◌-◌, ◌<◌, List, [], length, Ok, Err, refl}
 use Rattle.std.proofs.Common.{sym, subst, ap, arith}
 use Rattle.std.proofs.lemmas.List.{length-append}
-use Rattle.mc_nbt.specs.Reading.{Field, IsBytes}
+use Rattle.mc_bytes.specs.Reading.{Field, IsBytes}
 use Rattle.mc_frame.specs.Frame.{frame_read}
 use Rattle.mc_frame.specs.FrameLaws.{frame_found}
 use Rattle.mc_frame.specs.Cut.{IsCutAt, kept_count}

@@ -5,8 +5,8 @@ use Rattle.std.proofs.Common.{append_assoc}
 use Rattle.std.specs.Prelude.{◌==◌, true, false, Option, Some, None, Result, Ok, Err}
 use Rattle.std.specs.Prelude.{if◌then◌else◌}
 use lib.IntN.{ℤ, pos, negsuc}
-use Rattle.mc_nbt.specs.Reading.{Field, IsBytes}
-use Rattle.mc_nbt.specs.Format.{Anything}
+use Rattle.mc_bytes.specs.Reading.{Field, IsBytes}
+use Rattle.mc_bytes.specs.Format.{Anything}
 use Rattle.mc_fields.specs.declared.packet.PacketFault.{PacketFault}
 use Rattle.mc_fields.specs.Row as rows
 use Rattle.mc_hello.specs.declared.handshake.Hand.{Hand}

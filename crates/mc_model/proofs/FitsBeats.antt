@@ -4,7 +4,7 @@ use Rattle.std.specs.Prelude.{Option, Some, None}
 use Rattle.std.specs.Int.{Width, w32, w64}
 use lib.IntN.{ℤ, pos, negsuc}
 use mir.Val.{SFits}
-use Rattle.mc_down.specs.declared.down.Down.TheVariants.{KeepAlive, Time}
+use Rattle.mc_packets.specs.declared.down.Down.TheVariants.{KeepAlive, Time}
 use Rattle.mc_model.specs.declared.ticks.TheConstants.{AGE_MAX}
 use Rattle.mc_model.specs.Packets.{of_play, for_play}
 use Rattle.mc_model.specs.Ticks.{time_of_day, beat_at, shown_age}

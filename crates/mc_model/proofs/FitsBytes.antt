@@ -7,8 +7,8 @@ use Rattle.std.specs.List.{AllByRecursion}
 use Rattle.std.specs.Int.{w64}
 use lib.IntN.{ℤ}
 use mir.Val.{SFits}
-use Rattle.mc_nbt.specs.Reading.{IsBytes}
-use Rattle.mc_nbt.specs.Numbers.{IsBytes-after}
+use Rattle.mc_bytes.specs.Reading.{IsBytes}
+use Rattle.mc_bytes.specs.Numbers.{IsBytes-after}
 use Rattle.mc_fields.specs.declared.packet.RowFault.{RowFault}
 use Rattle.mc_fields.specs.declared.packet.PacketFault.{PacketFault}
 use Rattle.mc_fields.specs.Row.{packet_read, packet_of}

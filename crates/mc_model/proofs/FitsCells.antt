@@ -15,9 +15,9 @@ use Rattle.mc_column.specs.SizesLaws.{cells-is}
 use Rattle.mc_land.specs.Places.{Place}
 use Rattle.mc_land.specs.declared.places.TheConstants.{COLUMN_BORDER}
 use Rattle.mc_land.specs.Ready.{has_changed}
-use Rattle.mc_down.specs.declared.record.Record.{Record}
-use Rattle.mc_down.specs.declared.down.Down.TheVariants.{MultiChange, Change}
-use Rattle.mc_down.specs.Fields.{cell_change}
+use Rattle.mc_packets.specs.declared.record.Record.{Record}
+use Rattle.mc_packets.specs.declared.down.Down.TheVariants.{MultiChange, Change}
+use Rattle.mc_packets.specs.Fields.{cell_change}
 use Rattle.mc_model.specs.Packets.{of_play, for_play}
 use Rattle.mc_model.specs.Delta.{cell_at, cell_record, cell_packets, differing}
 use Rattle.mc_model.proofs.Decodes.{IsClear, play_clear}

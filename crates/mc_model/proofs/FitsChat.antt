@@ -14,7 +14,7 @@ use lib.IntN.{pos}
 use lib.Utf8.{scalar, scalars, encode, encodes}
 use Rattle.serde_json.proofs.OnLiterals.{serde_json_on_literals}
 use Rattle.mc_fields.specs.TextFormat.{SpellableText}
-use Rattle.mc_down.specs.declared.down.Down.TheVariants.{Chat}
+use Rattle.mc_packets.specs.declared.down.Down.TheVariants.{Chat}
 use Rattle.mc_model.specs.Chat.{line_of}
 use Rattle.mc_model.specs.Delta.{chat_packet}
 use Rattle.mc_model.specs.Packets.{of_play, for_play}

@@ -15,7 +15,7 @@ use Rattle.mc_column.specs.Sent.{column_mask, column_bytes}
 use Rattle.mc_column.proofs.SentFacts.{column_mask_names, body_bytes_spell}
 use Rattle.mc_land.specs.Places.{Place}
 use Rattle.mc_land.specs.declared.places.TheConstants.{COLUMN_BORDER}
-use Rattle.mc_down.specs.declared.down.Down.TheVariants.{Chunk}
+use Rattle.mc_packets.specs.declared.down.Down.TheVariants.{Chunk}
 use Rattle.mc_model.specs.Packets.{of_play, for_play}
 use Rattle.mc_model.specs.Delta.{load, unload}
 use Rattle.mc_model.proofs.Decodes.{IsClear, play_clear}

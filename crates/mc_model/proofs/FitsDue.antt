@@ -13,8 +13,8 @@ use Rattle.mc_land.specs.Places.{Place}
 use Rattle.mc_slots.specs.declared.slot.Slot.{Slot}
 use Rattle.mc_windows.specs.Pack.{PackValue, IsPack}
 use Rattle.mc_view.specs.Forms.{moves_of}
-use Rattle.mc_down.specs.declared.down.Down.{Down}
-use Rattle.mc_down.specs.declared.down.Down.TheVariants.{SetSlot}
+use Rattle.mc_packets.specs.declared.down.Down.{Down}
+use Rattle.mc_packets.specs.declared.down.Down.TheVariants.{SetSlot}
 use Rattle.mc_model.specs.Notes.{Noted}
 use Rattle.mc_model.specs.Packets.{of_play, for_play}
 use Rattle.mc_model.specs.Sight.{Seen, Sight}

@@ -14,8 +14,8 @@ use Rattle.mc_slots.specs.declared.slot.Slot.TheVariants as slots
 use Rattle.mc_slots.specs.declared.pile.Pile.{Pile}
 use Rattle.mc_slots.specs.Pile.{IsPile, slot_of}
 use Rattle.mc_slots.specs.Slot.{FitsSlot}
-use Rattle.mc_down.specs.declared.down.Down.TheVariants.{SpawnPlayer, SpawnObject, Equipment}
-use Rattle.mc_down.specs.declared.down.Down.TheVariants.{Destroy}
+use Rattle.mc_packets.specs.declared.down.Down.TheVariants.{SpawnPlayer, SpawnObject, Equipment}
+use Rattle.mc_packets.specs.declared.down.Down.TheVariants.{Destroy}
 use Rattle.mc_model.specs.declared.seen.TheConstants.{DESTROYED_MAX}
 use Rattle.mc_model.specs.declared.seen.SeenKind.{SeenKind}
 use Rattle.mc_model.specs.declared.seen.SeenKind.TheVariants as seen_kinds

@@ -4,10 +4,10 @@ use Rattle.std.proofs.Common.{lit≤}
 use Rattle.std.specs.List.{AllByRecursion}
 use Rattle.std.proofs.lemmas.List.{length-map}
 use lib.IntN.{ℤ, pos}
-use Rattle.mc_down.specs.declared.down.Down.{Down}
-use Rattle.mc_down.specs.declared.down.Down.TheVariants.{List as PlayerList}
-use Rattle.mc_down.specs.declared.player.Player.{Player}
-use Rattle.mc_down.specs.PlayerChange.{is_action, player_wire}
+use Rattle.mc_packets.specs.declared.down.Down.{Down}
+use Rattle.mc_packets.specs.declared.down.Down.TheVariants.{List as PlayerList}
+use Rattle.mc_packets.specs.declared.player.Player.{Player}
+use Rattle.mc_packets.specs.PlayerChange.{is_action, player_wire}
 use Rattle.mc_model.specs.Packets.{of_play, for_play}
 use Rattle.mc_model.specs.Delta.{leaver, joiner, about}
 use Rattle.mc_model.proofs.Decodes.{IsClear, play_clear}

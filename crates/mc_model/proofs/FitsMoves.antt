@@ -7,7 +7,8 @@ use lib.Signed.{◌≤ℤ◌}
 use mir.Val.{SFits}
 use Rattle.mc_fields.specs.declared.position.Spot.{Spot}
 use Rattle.mc_view.specs.Forms.{is_byte, form_by, moves_of}
-use Rattle.mc_down.specs.declared.down.Down.TheVariants.{Step, Look, StepLook, Teleport, HeadLook}
+use Rattle.mc_packets.specs.declared.down.Down.TheVariants.{Step, Look, StepLook, Teleport}
+use Rattle.mc_packets.specs.declared.down.Down.TheVariants.{HeadLook}
 use Rattle.mc_model.specs.Packets.{of_play, for_play}
 use Rattle.mc_model.specs.Delta.{move_packets, moves_packets}
 use Rattle.mc_model.proofs.Decodes.{IsClear, play_clear}

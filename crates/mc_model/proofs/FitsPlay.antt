@@ -1,8 +1,8 @@
 -- The packets of play that are handed out beside the difference fit.
 use Rattle.std.proofs.Common.{ℕ, ◌^◌, ◌<◌, ◌≤◌, false, List, lit<, arith, lit≤}
 use lib.IntN.{pos}
-use Rattle.mc_down.specs.declared.down.Down.TheVariants.{JoinGame, SpawnPosition, PositionLook}
-use Rattle.mc_down.specs.declared.down.Down.TheVariants.{Disconnect}
+use Rattle.mc_packets.specs.declared.down.Down.TheVariants.{JoinGame, SpawnPosition, PositionLook}
+use Rattle.mc_packets.specs.declared.down.Down.TheVariants.{Disconnect}
 use Rattle.mc_model.specs.Packets.{of_play, for_play}
 use Rattle.mc_model.proofs.Decodes.{IsClear, play_clear}
 use Rattle.mc_model.proofs.FitsText.{IsShort, short_string}

@@ -6,9 +6,9 @@ use Rattle.std.proofs.lemmas.List.{length-append}
 use Rattle.std.specs.Prelude.{unsigned_abs}
 use lib.IntN.{ℤ, pos, negsuc}
 use mir.Val.{SFits}
-use Rattle.mc_nbt.specs.Numbers.{IsWide, number_spelling}
-use Rattle.mc_nbt.specs.Signed.{signed_fits}
-use Rattle.mc_nbt.specs.Many.{AllFit, all_most}
+use Rattle.mc_bytes.specs.Numbers.{IsWide, number_spelling}
+use Rattle.mc_bytes.specs.Signed.{signed_fits}
+use Rattle.mc_bytes.specs.Many.{AllFit, all_most}
 use Rattle.mc_fields.specs.Varint.{varint_spelling}
 use Rattle.mc_fields.specs.VarintFormat.{IsChain-some, varint_spelled, varint-fits, five}
 use Rattle.mc_fields.specs.Text.{text_spelling}

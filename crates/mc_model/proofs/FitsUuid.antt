@@ -6,8 +6,8 @@ use Rattle.md5.specs.Md5.{padded_message, hash_after, digest_bytes, md5}
 use Rattle.uuid.specs.Parts.{with_version, with_variant}
 use Rattle.uuid.specs.declared.Version.TheVariants.{Md5}
 use Rattle.uuid.specs.declared.Variant.TheVariants.{RFC4122}
-use Rattle.mc_nbt.specs.Reading.{IsBytes}
-use Rattle.mc_nbt.specs.SixteenLaws.{wide_128}
+use Rattle.mc_bytes.specs.Reading.{IsBytes}
+use Rattle.mc_bytes.specs.SixteenLaws.{wide_128}
 use Rattle.mc_model.specs.Names.{offline_uuid}
 use Rattle.mc_model.proofs.FitsBytes.{bytes_joined}
 use Rattle.std.proofs.lemmas.Bool.Decides.{nat_tests}

@@ -4,7 +4,7 @@ use Rattle.std.proofs.Common.{◌≡◌, ◌≢◌, ℕ, ◌+◌, ◌-◌, List,
 use Rattle.std.proofs.Common.{ap, ◌∙◌, arith, inl, inr}
 use Rattle.std.specs.Prelude.{Bool, true, false, Option, Some, None, if◌then◌else◌}
 use Rattle.std.specs.List.{AllByRecursion}
-use Rattle.mc_nbt.specs.Reading.{IsBytes}
+use Rattle.mc_bytes.specs.Reading.{IsBytes}
 use Rattle.mc_up.specs.declared.play_up.PlayUp.{PlayUp}
 use Rattle.mc_up.specs.PlayUp.{FitsPlayUp}
 use Rattle.mc_frame.specs.declared.fault.FrameFault.{FrameFault}

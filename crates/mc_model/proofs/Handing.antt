@@ -5,7 +5,7 @@ use Rattle.std.specs.Prelude.{option_map, unwrap_or, if◌then◌else◌}
 use Rattle.std.proofs.lemmas.List.{append-nil}
 use Rattle.mc_frame.specs.Kept.{outbox_max}
 use Rattle.mc_hello.specs.declared.login_down.LoginDown.TheVariants as login_down
-use Rattle.mc_down.specs.declared.down.Down.TheVariants as down
+use Rattle.mc_packets.specs.declared.down.Down.TheVariants as down
 use Rattle.mc_model.specs.declared.cause.Cause.{Cause}
 use Rattle.mc_model.specs.declared.cause.Cause.TheVariants as causes
 use Rattle.mc_model.specs.declared.cause.Refusal.{Refusal}

@@ -9,7 +9,7 @@ use Rattle.std.specs.Ordering.{is_eq, eq_by_cmp}
 use Rattle.std.specs.Cmp.{IsTotalOrder, tied_itself}
 use Rattle.std.specs.FinMap.{FinMap, find, is_sorted, get, insert, get-insert}
 use Rattle.std.proofs.lemmas.List.Sums.{fold-append}
-use Rattle.mc_down.specs.declared.down.Down.{Down}
+use Rattle.mc_packets.specs.declared.down.Down.{Down}
 use Rattle.mc_model.specs.Sight.{Sight}
 use Rattle.mc_model.specs.Replica.{replay, seeing}
 use Rattle.mc_model.proofs.Maps.{second, find_again, put_in}

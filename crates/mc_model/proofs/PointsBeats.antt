@@ -4,7 +4,7 @@ use Rattle.std.proofs.Common.{◌≡◌, Bool, true, false, cond, [], ◌∷◌,
 use Rattle.std.proofs.Common.{is_some, refl, ap}
 use Rattle.std.proofs.lemmas.Bool.Decides.{Decides-int_eq}
 use lib.IntN.{ℤ}
-use Rattle.mc_down.specs.declared.down.Down.TheVariants.{KeepAlive, Time}
+use Rattle.mc_packets.specs.declared.down.Down.TheVariants.{KeepAlive, Time}
 use Rattle.mc_model.specs.Sight.{Sight}
 use Rattle.mc_model.specs.Replica.{apply}
 use Rattle.mc_model.specs.Ticks.{time_of_day}

@@ -16,8 +16,8 @@ use Rattle.mc_fields.specs.declared.position.Spot.{Spot}
 use Rattle.mc_slots.specs.declared.slot.Slot.{Slot}
 use Rattle.mc_slots.specs.declared.slot.Slot.TheVariants as slots
 use Rattle.mc_nbt.specs.Nbt.{Named}
-use Rattle.mc_down.specs.declared.down.Down.TheVariants.{SpawnPlayer, SpawnObject, Destroy}
-use Rattle.mc_down.specs.declared.meta.MetaEntry.{MetaEntry}
+use Rattle.mc_packets.specs.declared.down.Down.TheVariants.{SpawnPlayer, SpawnObject, Destroy}
+use Rattle.mc_packets.specs.declared.meta.MetaEntry.{MetaEntry}
 use Rattle.mc_model.specs.declared.seen.TheConstants.{DESTROYED_MAX}
 use Rattle.mc_model.specs.declared.seen.SeenKind.{SeenKind}
 use Rattle.mc_model.specs.declared.seen.SeenKind.TheVariants as seen_kinds

@@ -11,9 +11,9 @@ use Rattle.mc_fields.specs.declared.position.Spot.{Spot}
 use Rattle.mc_slots.specs.declared.slot.Slot.{Slot}
 use Rattle.mc_view.specs.declared.forms.Form.TheVariants as forms
 use Rattle.mc_view.specs.Forms.{are_bytes, are_zero, form_of, is_turned, moves_of}
-use Rattle.mc_down.specs.declared.down.Down.TheVariants.{Step, Look, StepLook}
-use Rattle.mc_down.specs.declared.down.Down.TheVariants.{Teleport, HeadLook}
-use Rattle.mc_down.specs.declared.meta.MetaValue.TheVariants as values
+use Rattle.mc_packets.specs.declared.down.Down.TheVariants.{Step, Look, StepLook}
+use Rattle.mc_packets.specs.declared.down.Down.TheVariants.{Teleport, HeadLook}
+use Rattle.mc_packets.specs.declared.meta.MetaValue.TheVariants as values
 use Rattle.mc_model.specs.declared.seen.SeenKind.{SeenKind}
 use Rattle.mc_model.specs.declared.seen.SeenKind.TheVariants as seen_kinds
 use Rattle.mc_model.specs.Sight.{Seen, Sight}

@@ -6,7 +6,7 @@ use Rattle.std.proofs.lemmas.Bool.Decides.{nat_tests}
 use Rattle.std.proofs.lemmas.List.{append_assoc, length-append}
 use lib.IntN.{pos}
 use Rattle.mc_slots.specs.declared.slot.Slot.{Slot}
-use Rattle.mc_down.specs.declared.down.Down.TheVariants.{SetSlot}
+use Rattle.mc_packets.specs.declared.down.Down.TheVariants.{SetSlot}
 use Rattle.mc_model.specs.Sight.{Sight}
 use Rattle.mc_model.specs.Replica.{apply, seeing, with_slot}
 use Rattle.mc_model.specs.Delta.{Follows, is_same_slot, slot_packets, pack_point}

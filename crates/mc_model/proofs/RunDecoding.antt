@@ -9,7 +9,7 @@ use Rattle.std.specs.List.{AllByRecursion}
 use Rattle.std.proofs.lemmas.List.{append-nil}
 use Rattle.mc_model.specs.declared.cause.Cause.{Cause}
 use Rattle.mc_model.specs.declared.stage.Stage.TheVariants as stages
-use Rattle.mc_nbt.specs.Reading.{IsBytes}
+use Rattle.mc_bytes.specs.Reading.{IsBytes}
 use Rattle.mc_model.specs.Packets.{Sent}
 use Rattle.mc_model.specs.Decoding.{decoder_of}
 use Rattle.mc_model.specs.Things.{Things}

@@ -4,14 +4,14 @@ use Rattle.std.proofs.Common.{◌≡◌, ℕ, List, [], ◌∷◌, ◌++◌, ref
 use Rattle.std.proofs.lemmas.Bool.Decides.{nat_tests}
 use Rattle.std.specs.Prelude.{true, Option, Some, None}
 use Rattle.std.proofs.lemmas.List.{append-nil}
-use Rattle.mc_nbt.specs.Reading.{IsBytes}
+use Rattle.mc_bytes.specs.Reading.{IsBytes}
 use Rattle.mc_model.specs.declared.cause.Cause.{Cause}
 use Rattle.mc_model.specs.declared.cause.Refusal.{Refusal}
 use Rattle.mc_model.specs.declared.stage.Stage.{Stage}
 use Rattle.mc_model.specs.declared.stage.Stage.TheVariants as stages
 use Rattle.mc_hello.specs.declared.status_down.StatusDown.{StatusDown}
 use Rattle.mc_hello.specs.declared.login_down.LoginDown.TheVariants as login_down
-use Rattle.mc_down.specs.declared.down.Down.TheVariants as down
+use Rattle.mc_packets.specs.declared.down.Down.TheVariants as down
 use Rattle.mc_model.specs.Names.{is_name, uuid_text}
 use Rattle.mc_model.specs.Texts.{chat_json, refusal_text, farewell_text}
 use Rattle.mc_model.proofs.FirstFrame.{IsFirst, decoder_more}

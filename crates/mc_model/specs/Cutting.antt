@@ -1,7 +1,7 @@
 -- The cut of a stream, worked out frame by frame. `mc_frame` says what a cut is, and that there is
 -- one of every stream.
 use Rattle.std.specs.Prelude.{ℕ, zero, suc, ◌+◌, ◌-◌, List, [], ◌∷◌, length, None, Ok, Err}
-use Rattle.mc_nbt.specs.Reading.{Field}
+use Rattle.mc_bytes.specs.Reading.{Field}
 use Rattle.mc_frame.specs.Frame.{frame_read}
 use Rattle.mc_frame.specs.Faults.{fault_of}
 use Rattle.mc_frame.specs.Cut.{Cut, kept_count}

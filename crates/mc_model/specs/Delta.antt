@@ -22,17 +22,18 @@ use Rattle.mc_view.specs.declared.forms.Form.{Form}
 use Rattle.mc_view.specs.declared.forms.Form.TheVariants as forms
 use Rattle.mc_view.specs.declared.forms.Moves.{Moves}
 use Rattle.mc_view.specs.Forms.{moves_of}
-use Rattle.mc_down.specs.declared.down.Down.{Down}
-use Rattle.mc_down.specs.declared.down.Down.TheVariants.{KeepAlive, Chat, Time, Chunk, MultiChange}
-use Rattle.mc_down.specs.declared.down.Down.TheVariants.{List as PlayerList, Change, SpawnPlayer}
-use Rattle.mc_down.specs.declared.down.Down.TheVariants.{SpawnObject, Equipment}
-use Rattle.mc_down.specs.declared.down.Down.TheVariants.{Destroy, Step, Look, StepLook, Teleport}
-use Rattle.mc_down.specs.declared.down.Down.TheVariants.{HeadLook, Meta, SetSlot}
-use Rattle.mc_down.specs.declared.meta.MetaEntry.{MetaEntry}
-use Rattle.mc_down.specs.declared.meta.MetaValue.TheVariants as values
-use Rattle.mc_down.specs.declared.player.Player.{Player}
-use Rattle.mc_down.specs.declared.player.PlayerChange.TheVariants.{Join, Leave}
-use Rattle.mc_down.specs.declared.record.Record.{Record}
+use Rattle.mc_packets.specs.declared.down.Down.{Down}
+use Rattle.mc_packets.specs.declared.down.Down.TheVariants.{KeepAlive, Chat, Time, Chunk}
+use Rattle.mc_packets.specs.declared.down.Down.TheVariants.{MultiChange}
+use Rattle.mc_packets.specs.declared.down.Down.TheVariants.{List as PlayerList, Change, SpawnPlayer}
+use Rattle.mc_packets.specs.declared.down.Down.TheVariants.{SpawnObject, Equipment}
+use Rattle.mc_packets.specs.declared.down.Down.TheVariants.{Destroy, Step, Look, StepLook, Teleport}
+use Rattle.mc_packets.specs.declared.down.Down.TheVariants.{HeadLook, Meta, SetSlot}
+use Rattle.mc_packets.specs.declared.meta.MetaEntry.{MetaEntry}
+use Rattle.mc_packets.specs.declared.meta.MetaValue.TheVariants as values
+use Rattle.mc_packets.specs.declared.player.Player.{Player}
+use Rattle.mc_packets.specs.declared.player.PlayerChange.TheVariants.{Join, Leave}
+use Rattle.mc_packets.specs.declared.record.Record.{Record}
 use Rattle.mc_model.specs.declared.seen.TheConstants.{DESTROYED_MAX}
 use Rattle.mc_model.specs.declared.seen.SeenKind.{SeenKind}
 use Rattle.mc_model.specs.declared.seen.SeenKind.TheVariants as seen_kinds

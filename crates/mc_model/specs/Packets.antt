@@ -12,8 +12,8 @@ use Rattle.mc_hello.specs.declared.login_down.LoginDown.{LoginDown}
 use Rattle.mc_hello.specs.declared.login_down.LoginDown.TheVariants.{Success}
 use Rattle.mc_hello.specs.StatusDown as status
 use Rattle.mc_hello.specs.LoginDown as login
-use Rattle.mc_down.specs.declared.down.Down.{Down}
-use Rattle.mc_down.specs.Down as play
+use Rattle.mc_packets.specs.declared.down.Down.{Down}
+use Rattle.mc_packets.specs.Down as play
 
 pub data Sent : Type 0 where
   of_status : StatusDown → Sent

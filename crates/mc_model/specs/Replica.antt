@@ -11,27 +11,28 @@ use Rattle.std.specs.Ordering.{nat_cmp, int_cmp, int_eq}
 use Rattle.std.specs.declared.cmp.Ordering.{Ordering}
 use Rattle.std.specs.FinMap.{FinMap, get, insert, remove}
 use lib.IntN.{ℤ, pos, negsuc, ◌+ℤ◌}
-use Rattle.mc_nbt.specs.declared.fault.FieldFault.{FieldFault}
+use Rattle.mc_bytes.specs.declared.fault.FieldFault.{FieldFault}
 use Rattle.mc_column.specs.Cells.{ColumnValue, cell_index, empty_column, with_state}
 use Rattle.mc_column.specs.Body.{BodyValue, body_read, put_body}
 use Rattle.mc_fields.specs.declared.position.Spot.{Spot}
 use Rattle.mc_land.specs.Places.{Place, Key, place_cmp, key_of}
 use Rattle.mc_slots.specs.declared.slot.Slot.{Slot}
 use Rattle.mc_slots.specs.declared.slot.Slot.TheVariants as slots
-use Rattle.mc_down.specs.declared.down.Down.{Down}
-use Rattle.mc_down.specs.declared.down.Down.TheVariants.{KeepAlive, JoinGame, Chat, Time, Chunk}
-use Rattle.mc_down.specs.declared.down.Down.TheVariants.{List as PlayerList}
-use Rattle.mc_down.specs.declared.down.Down.TheVariants.{MultiChange, Change, SpawnPlayer}
-use Rattle.mc_down.specs.declared.down.Down.TheVariants.{SpawnObject, Equipment, Destroy}
-use Rattle.mc_down.specs.declared.down.Down.TheVariants.{Step, Look, StepLook, Teleport, HeadLook}
-use Rattle.mc_down.specs.declared.down.Down.TheVariants.{Meta, SetSlot, WindowItems}
-use Rattle.mc_down.specs.declared.meta.MetaEntry.{MetaEntry}
-use Rattle.mc_down.specs.declared.meta.MetaValue.{MetaValue}
-use Rattle.mc_down.specs.declared.meta.MetaValue.TheVariants as values
-use Rattle.mc_down.specs.declared.player.Player.{Player}
-use Rattle.mc_down.specs.declared.player.PlayerChange.{PlayerChange}
-use Rattle.mc_down.specs.declared.player.PlayerChange.TheVariants.{Join, Leave}
-use Rattle.mc_down.specs.declared.record.Record.{Record}
+use Rattle.mc_packets.specs.declared.down.Down.{Down}
+use Rattle.mc_packets.specs.declared.down.Down.TheVariants.{KeepAlive, JoinGame, Chat, Time, Chunk}
+use Rattle.mc_packets.specs.declared.down.Down.TheVariants.{List as PlayerList}
+use Rattle.mc_packets.specs.declared.down.Down.TheVariants.{MultiChange, Change, SpawnPlayer}
+use Rattle.mc_packets.specs.declared.down.Down.TheVariants.{SpawnObject, Equipment, Destroy}
+use Rattle.mc_packets.specs.declared.down.Down.TheVariants.{Step, Look, StepLook, Teleport}
+use Rattle.mc_packets.specs.declared.down.Down.TheVariants.{HeadLook}
+use Rattle.mc_packets.specs.declared.down.Down.TheVariants.{Meta, SetSlot, WindowItems}
+use Rattle.mc_packets.specs.declared.meta.MetaEntry.{MetaEntry}
+use Rattle.mc_packets.specs.declared.meta.MetaValue.{MetaValue}
+use Rattle.mc_packets.specs.declared.meta.MetaValue.TheVariants as values
+use Rattle.mc_packets.specs.declared.player.Player.{Player}
+use Rattle.mc_packets.specs.declared.player.PlayerChange.{PlayerChange}
+use Rattle.mc_packets.specs.declared.player.PlayerChange.TheVariants.{Join, Leave}
+use Rattle.mc_packets.specs.declared.record.Record.{Record}
 use Rattle.mc_model.specs.declared.seen.SeenKind.{SeenKind}
 use Rattle.mc_model.specs.declared.seen.SeenKind.TheVariants as seen_kinds
 use Rattle.mc_model.specs.Sight.{Seen, Sight, nothing_seen}

@@ -7,7 +7,7 @@ use Rattle.std.specs.Option.{option_and_then}
 use Rattle.mc_model.specs.declared.cause.Cause.{Cause}
 use Rattle.mc_model.specs.World.{World, Session, found}
 use Rattle.mc_model.specs.Packets.{Sent, bytes_of}
-use Rattle.mc_nbt.specs.Reading.{IsBytes}
+use Rattle.mc_bytes.specs.Reading.{IsBytes}
 use Rattle.mc_model.specs.Step.{Event, came, left, broke, took, step}
 
 -- the world after events

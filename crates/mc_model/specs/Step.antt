@@ -1,5 +1,6 @@
 -- What an event makes of the world, and what it hands out to whom. Rules of this project.
-use Rattle.std.specs.Prelude.{ℕ, ◌+◌, ◌-◌, ◌==◌, ◌&&◌, ◌||◌, not, nat_lt, nat_le, int_le, Bool, true}
+use Rattle.std.specs.Prelude.{ℕ, ◌+◌, ◌-◌, ◌==◌, ◌&&◌, ◌||◌, not, nat_lt, nat_le, int_le, Bool}
+use Rattle.std.specs.Prelude.{true}
 use Rattle.std.specs.Prelude.{false}
 use Rattle.std.specs.Prelude.{List, [], ◌∷◌, ◌++◌, length, map, drop, codes}
 use Rattle.std.specs.Prelude.{replicate, Option, Some, None, is_some, if◌then◌else◌}
@@ -15,13 +16,13 @@ use Rattle.mc_frame.specs.Kept.{outbox_max}
 use Rattle.mc_land.specs.declared.terrain.Terrain.{Terrain}
 use Rattle.mc_land.specs.declared.terrain.Terrain.TheVariants.{Flat}
 use Rattle.mc_land.specs.Places.{Place, key_cmp, place_of}
-use Rattle.mc_down.specs.declared.down.Down.{Down}
+use Rattle.mc_packets.specs.declared.down.Down.{Down}
 use Rattle.mc_slots.specs.declared.slot.Slot.TheVariants as slots
 use Rattle.mc_slots.specs.Pile.{slot_of}
 use Rattle.mc_windows.specs.Pack.{PackValue}
 use Rattle.mc_entities.specs.declared.entity.EntityKind.TheVariants as kinds
-use Rattle.mc_down.specs.declared.down.Down.TheVariants.{JoinGame, SpawnPosition, PositionLook}
-use Rattle.mc_down.specs.declared.down.Down.TheVariants.{Change, SetSlot, WindowItems}
+use Rattle.mc_packets.specs.declared.down.Down.TheVariants.{JoinGame, SpawnPosition, PositionLook}
+use Rattle.mc_packets.specs.declared.down.Down.TheVariants.{Change, SetSlot, WindowItems}
 use Rattle.mc_up.specs.declared.play_up.PlayUp.{PlayUp}
 use Rattle.mc_model.specs.declared.cause.Cause.{Cause}
 use Rattle.mc_model.specs.declared.cause.Cause.TheVariants as causes

@@ -19,7 +19,7 @@ use Rattle.mc_hello.specs.Hand as hand
 use Rattle.mc_hello.specs.StatusUp as status
 use Rattle.mc_hello.specs.LoginUp as login
 use Rattle.mc_up.specs.PlayUp as play
-use Rattle.mc_down.specs.declared.down.Down.TheVariants as down
+use Rattle.mc_packets.specs.declared.down.Down.TheVariants as down
 use Rattle.mc_model.specs.declared.cause.Cause.{Cause}
 use Rattle.mc_model.specs.declared.cause.Refusal.{Refusal}
 use Rattle.mc_model.specs.declared.stage.Stage.{Stage}

@@ -4,7 +4,7 @@ ghost use Rattle.std.specs.List.{Contains};
 ghost use Rattle.mc_fields.specs.Pattern.{Fixes, IsEndless, Represents, RepresentsTurn, Turns};
 ghost use Rattle.mc_fields.specs.Pattern.{IsVast};
 ghost use Rattle.mc_frame.specs.Cut.{IsCutAt};
-ghost use Rattle.mc_nbt.specs.Reading.{IsBytes};
+ghost use Rattle.mc_bytes.specs.Reading.{IsBytes};
 ghost use Rattle.mc_land.specs.declared.terrain.Terrain.{Terrain};
 ghost use Rattle.mc_land.specs.Places.{Place};
 ghost use Rattle.mc_wire.specs.declared.log.LogEntry.{LogEntry};

@@ -2,7 +2,7 @@ ghost use Rattle.std.specs.Prelude.{◌≡◌, false, Ok, None, Some, IfOk, IsTr
 ghost use Rattle.std.specs.List.{list_all};
 ghost use Rattle.mc_model.specs.Names.{is_name, is_name_byte};
 
-use mc_nbt::{NoMemory, Text};
+use mc_bytes::{NoMemory, Text};
 use std::marker::Model;
 
 /// A player's name: 1 to 16 letters from A to Z and a to z, digits and `_`.

@@ -1,8 +1,8 @@
 ghost use Rattle.std.specs.Prelude.{◌≡◌, ◌++◌, ◌∷◌, [], true, OnOk, OnErr};
 ghost use Rattle.mc_model.specs.Notes.{no_notes};
 
+use mc_bytes::NoMemory;
 use mc_fields::Cell;
-use mc_nbt::NoMemory;
 use std::alloc::Global;
 use std::marker::Model;
 

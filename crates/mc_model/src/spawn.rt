@@ -2,9 +2,9 @@ ghost use Rattle.std.specs.Prelude.{◌≡◌, ◌≤◌, IfOk};
 ghost use Rattle.mc_model.specs.Step.{level};
 ghost use Rattle.mc_model.specs.World.{spawn_height, spawn_spot};
 
+use mc_bytes::{NoMemory, Text};
 use mc_fields::Spot;
 use mc_land::{Terrain, height};
-use mc_nbt::{NoMemory, Text};
 use std::alloc::Global;
 
 /// How high the ground is where players enter.

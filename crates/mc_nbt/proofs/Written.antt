@@ -4,7 +4,7 @@ use Rattle.std.proofs.Common.{map, ap, sym, ◌∙◌, append_assoc, add-one}
 use Rattle.std.specs.Prelude.{FitsSigned}
 use Rattle.std.specs.Int.{Width, w8, w16, w32}
 use Rattle.std.proofs.Math.Seq.{drop-cons, take-append_seam}
-use Rattle.mc_nbt.specs.NumberBytes.{number_spelling}
+use Rattle.mc_bytes.specs.NumberBytes.{number_spelling}
 use Rattle.mc_nbt.specs.Tree.{Tree, list, kind_of, trees_of, members_of}
 use Rattle.mc_nbt.specs.Nbt.{signed_spelling, run_spelling, ints_spelling, payload, trees_payload}
 use Rattle.mc_nbt.specs.Nbt.{members_payload, AllFitSigned}

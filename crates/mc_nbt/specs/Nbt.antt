@@ -4,7 +4,7 @@ use Rattle.std.specs.Prelude.{◌≡◌, ℕ, ℤ, ◌<◌, ◌≤◌, ◌^◌, 
 use Rattle.std.specs.Prelude.{FitsSigned}
 use Rattle.std.specs.Int.{Width, w8, w16, w32, w64, cast_unsigned}
 use Rattle.mc_nbt.specs.declared.values.limits.TheConstants.{DEPTH_MAX}
-use Rattle.mc_nbt.specs.NumberBytes.{number_spelling}
+use Rattle.mc_bytes.specs.NumberBytes.{number_spelling}
 use Rattle.mc_nbt.specs.Tree.{Tree, byte, short, int, long, float, double, byte_array, text, list}
 use Rattle.mc_nbt.specs.Tree.{compound, int_array, Trees, no_trees, one_tree, Members, no_members}
 use Rattle.mc_nbt.specs.Tree.{one_member, members_of, kind_of, depth}

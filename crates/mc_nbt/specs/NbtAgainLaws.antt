@@ -7,15 +7,15 @@ use Rattle.std.proofs.Common.{ap, ◌∙◌, append_assoc, arith}
 use Rattle.std.proofs.Math.Facts.{Fits-of_z}
 use Rattle.std.proofs.lemmas.Bool.{le-ltb, lt-ltb, le-leb, ne_eqb}
 use Rattle.std.proofs.lemmas.List.{take_at, drop_at, length-append}
-use Rattle.mc_nbt.specs.declared.fault.Kind.TheVariants.{BadTag, BadLength}
-use Rattle.mc_nbt.specs.Reading.{Field}
-use Rattle.mc_nbt.specs.Format.{Anything, IsOnly}
-use Rattle.mc_nbt.specs.Combine.{tested}
-use Rattle.mc_nbt.specs.NumberLaws.{IsWide, wide_8, wide_16, wide_32, wide_64, number_only}
-use Rattle.mc_nbt.specs.Numbers.{number}
-use Rattle.mc_nbt.specs.NumberBytes.{number_read, number_spelling}
-use Rattle.mc_nbt.specs.Signed.{signed}
-use Rattle.mc_nbt.specs.Times.{times_at, until_at}
+use Rattle.mc_bytes.specs.declared.fault.Kind.TheVariants.{BadTag, BadLength}
+use Rattle.mc_bytes.specs.Reading.{Field}
+use Rattle.mc_bytes.specs.Format.{Anything, IsOnly}
+use Rattle.mc_bytes.specs.Combine.{tested}
+use Rattle.mc_bytes.specs.NumberLaws.{IsWide, wide_8, wide_16, wide_32, wide_64, number_only}
+use Rattle.mc_bytes.specs.Numbers.{number}
+use Rattle.mc_bytes.specs.NumberBytes.{number_read, number_spelling}
+use Rattle.mc_bytes.specs.Signed.{signed}
+use Rattle.mc_bytes.specs.Times.{times_at, until_at}
 use Rattle.mc_nbt.specs.Tree.{Tree, byte, short, int, long, float, double, byte_array, text, list}
 use Rattle.mc_nbt.specs.Tree.{compound, int_array, Trees, no_trees, one_tree, trees_back, Members}
 use Rattle.mc_nbt.specs.Tree.{no_members, one_member, members_of, members_back, kind_of, depth}

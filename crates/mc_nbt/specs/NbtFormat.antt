@@ -1,7 +1,7 @@
 -- The format of a named compound, for the formats that hold one, and how it is stored.
 use Rattle.std.specs.Prelude.{ℕ, List, ◌++◌, length, refl}
 use Rattle.std.specs.Coded.{Coded, code_by, coded_list, coded×, coded_ℕ}
-use Rattle.mc_nbt.specs.Format.{Format}
+use Rattle.mc_bytes.specs.Format.{Format}
 use Rattle.mc_nbt.specs.Tree.{Tree}
 use Rattle.mc_nbt.specs.TreeCode.{coded_tree}
 use Rattle.mc_nbt.specs.Nbt.{Named, IsNbt, nbt_spelling, SpellsNbt}

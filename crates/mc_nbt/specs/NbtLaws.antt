@@ -1,7 +1,7 @@
 -- Laws of the rows of a list, and that a named compound has one spelling and so no longer one.
 use Rattle.std.specs.Prelude.{◌≡◌, suc, List, [], ◌∷◌, length, refl}
 use Rattle.std.proofs.Common.{ap, arith}
-use Rattle.mc_nbt.specs.Format.{IsBounded}
+use Rattle.mc_bytes.specs.Format.{IsBounded}
 use Rattle.mc_nbt.specs.Tree.{Tree, trees_of}
 use Rattle.mc_nbt.specs.Nbt.{count_of, nbt_spelling, SpellsNbt}
 

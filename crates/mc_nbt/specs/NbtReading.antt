@@ -3,11 +3,11 @@
 use Rattle.std.specs.Prelude.{ℕ, ℤ, zero, suc, ◌-◌, ◌^◌, Bool, ◌==◌, List, length, take, drop}
 use Rattle.std.specs.Prelude.{Option, Some, None, nat_lt, nat_le, Ok, Err, if◌then◌else◌}
 use Rattle.std.specs.Int.{Width, w8, w16, w32, w64, cast_signed}
-use Rattle.mc_nbt.specs.declared.fault.Kind.TheVariants.{Short, BadTag, BadLength, Deep}
-use Rattle.mc_nbt.specs.Reading.{Field, ◌>>=◌, stop_at}
-use Rattle.mc_nbt.specs.CombineBytes.{tested_read, view_read}
-use Rattle.mc_nbt.specs.NumberBytes.{number_read}
-use Rattle.mc_nbt.specs.Times.{times_at, until_at}
+use Rattle.mc_bytes.specs.declared.fault.Kind.TheVariants.{Short, BadTag, BadLength, Deep}
+use Rattle.mc_bytes.specs.Reading.{Field, ◌>>=◌, stop_at}
+use Rattle.mc_bytes.specs.CombineBytes.{tested_read, view_read}
+use Rattle.mc_bytes.specs.NumberBytes.{number_read}
+use Rattle.mc_bytes.specs.Times.{times_at, until_at}
 use Rattle.mc_nbt.specs.Tree.{Tree, byte, short, int, long, float, double, byte_array, text, list}
 use Rattle.mc_nbt.specs.Tree.{compound, int_array, trees_of, members_of}
 use Rattle.mc_nbt.specs.Nbt.{Named, named, deepest}

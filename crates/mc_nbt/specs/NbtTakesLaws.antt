@@ -6,20 +6,20 @@ use Rattle.std.specs.Int.{Width, w8, w16, w32, w64}
 use Rattle.std.proofs.Common.{sym, ap, subst, ◌∙◌, append_assoc, arith}
 use Rattle.std.proofs.lemmas.Bool.{ltb-false, ltb-true, leb-true, eqb-true}
 use Rattle.std.proofs.lemmas.List.{take-append-drop, length-take}
-use Rattle.mc_nbt.specs.declared.fault.Kind.TheVariants.{Short, BadTag, BadLength}
-use Rattle.mc_nbt.specs.declared.fault.Stop.{Stop}
-use Rattle.mc_nbt.specs.Reading.{Field, ◌>>=◌, stop_at}
-use Rattle.mc_nbt.specs.Format.{Anything, Found, IsFound}
-use Rattle.mc_nbt.specs.CombineLaws.{bind_ok, ok_is, passed, Found-is}
-use Rattle.mc_nbt.specs.Combine.{tested}
-use Rattle.mc_nbt.specs.CombineBytes.{view_read}
-use Rattle.mc_nbt.specs.NumberLaws.{IsWide, IsBytes-drop, wide_8, wide_16, wide_32, wide_64}
-use Rattle.mc_nbt.specs.NumberLaws.{number_found}
-use Rattle.mc_nbt.specs.Numbers.{number}
-use Rattle.mc_nbt.specs.NumberBytes.{number_read, number_spelling}
-use Rattle.mc_nbt.specs.Signed.{signed}
-use Rattle.mc_nbt.specs.Times.{times_at, AllSpelled, SpelledUntil}
-use Rattle.mc_nbt.specs.TimesLaws.{times_found, until_found}
+use Rattle.mc_bytes.specs.declared.fault.Kind.TheVariants.{Short, BadTag, BadLength}
+use Rattle.mc_bytes.specs.declared.fault.Stop.{Stop}
+use Rattle.mc_bytes.specs.Reading.{Field, ◌>>=◌, stop_at}
+use Rattle.mc_bytes.specs.Format.{Anything, Found, IsFound}
+use Rattle.mc_bytes.specs.CombineLaws.{bind_ok, ok_is, passed, Found-is}
+use Rattle.mc_bytes.specs.Combine.{tested}
+use Rattle.mc_bytes.specs.CombineBytes.{view_read}
+use Rattle.mc_bytes.specs.NumberLaws.{IsWide, IsBytes-drop, wide_8, wide_16, wide_32, wide_64}
+use Rattle.mc_bytes.specs.NumberLaws.{number_found}
+use Rattle.mc_bytes.specs.Numbers.{number}
+use Rattle.mc_bytes.specs.NumberBytes.{number_read, number_spelling}
+use Rattle.mc_bytes.specs.Signed.{signed}
+use Rattle.mc_bytes.specs.Times.{times_at, AllSpelled, SpelledUntil}
+use Rattle.mc_bytes.specs.TimesLaws.{times_found, until_found}
 use Rattle.mc_nbt.specs.Tree.{Tree, byte, short, int, long, float, double, byte_array, text, list}
 use Rattle.mc_nbt.specs.Tree.{compound, int_array, trees_of, members_of, kind_of, depth}
 use Rattle.mc_nbt.specs.Tree.{trees_depth, members_depth}

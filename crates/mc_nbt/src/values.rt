@@ -10,9 +10,9 @@ mod limits;
 mod reading;
 mod writing;
 
-use crate::{NoMemory, Octets};
 pub use document::{Nbt, read_nbt, same, write_nbt};
 pub use limits::DEPTH_MAX;
+use mc_bytes::{NoMemory, Octets};
 use std::alloc::Global;
 use std::marker::Model;
 

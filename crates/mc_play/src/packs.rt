@@ -5,7 +5,7 @@ ghost use Rattle.mc_windows.specs.Pack.{PackValue, kit_pack};
 ghost use Rattle.mc_game.specs.Maps.{modify};
 
 use indexmap::IndexMap;
-use mc_nbt::{NoMemory, Text};
+use mc_bytes::{NoMemory, Text};
 use mc_windows::{Pack, kit};
 use std::alloc::Global;
 use std::marker::Model;

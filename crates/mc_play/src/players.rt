@@ -9,9 +9,9 @@ ghost use Rattle.mc_game.specs.Movement.{placed_again};
 ghost use Rattle.mc_game.specs.Tick.{told_player};
 ghost use Rattle.mc_game.specs.declared.player.Player as declared;
 
+use mc_bytes::NoMemory;
 use mc_fields::Cell;
 use mc_game::Player;
-use mc_nbt::NoMemory;
 use std::alloc::Global;
 use std::collections::BTreeMap;
 use std::marker::Model;

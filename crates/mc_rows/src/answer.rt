@@ -1,7 +1,7 @@
 use crate::marked::Marked;
 use crate::runs::{Runs, States};
 use crate::shown::{Hex, Shown};
-use mc_nbt::{FieldFault, ReadFault};
+use mc_bytes::{FieldFault, ReadFault};
 use std::alloc::Global;
 use std::fmt;
 use std::fmt::{Debug, Display, Write};

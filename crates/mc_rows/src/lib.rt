@@ -1,5 +1,5 @@
 //! Words and answers of the tables of rows: what a row is read from, and what it answers as words.
-//! It stands on `mc_nbt` and on the crate `hex`, and the programs of tables stand on it.
+//! It stands on `mc_bytes` and on the crate `hex`, and the programs of tables stand on it.
 //!
 //! It has no contract of its own: the tables say what each of their rows answers.
 #![tactic(auto)]

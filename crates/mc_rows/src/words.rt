@@ -1,6 +1,6 @@
 use crate::marked::{Marked, bytes_of};
 use crate::texts::text_of;
-use mc_nbt::{Octets, Text};
+use mc_bytes::{Octets, Text};
 use std::alloc::Global;
 use std::str::FromStr;
 

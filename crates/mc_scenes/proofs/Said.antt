@@ -4,15 +4,15 @@ use Rattle.std.specs.Int.{w8, cast_unsigned}
 use Rattle.std.specs.Str.{IsUtf8, chars}
 use Rattle.std.proofs.lemmas.Str.{encodes-chars, length-le-encodes}
 use lib.IntN.{pos}
-use Rattle.mc_nbt.specs.Signed.{signed_fits}
-use Rattle.mc_nbt.specs.Numbers.{wide_8}
+use Rattle.mc_bytes.specs.Signed.{signed_fits}
+use Rattle.mc_bytes.specs.Numbers.{wide_8}
 use Rattle.mc_fields.specs.TextFormat.{SpellableText}
-use Rattle.mc_down.specs.declared.down.Down.TheVariants.{Chat}
-use Rattle.mc_down.specs.Down.{FitsDown, entry_of}
+use Rattle.mc_packets.specs.declared.down.Down.TheVariants.{Chat}
+use Rattle.mc_packets.specs.Down.{FitsDown, entry_of}
 use Rattle.mc_model.specs.Delta.{chat_packet}
 use Rattle.mc_model.proofs.FitsSize.{AtMost, at_most_joined, few_bytes, text_size, number_size}
 use Rattle.mc_model.proofs.FitsSize.{spelling_payload}
-use Rattle.mc_told.specs.Sending.{IsClear}
+use Rattle.mc_sending.specs.Sending.{IsClear}
 
 -- a short text has a spelling
 short_fits : (text : List ℕ) → IsUtf8 text → AtMost 400 text → SpellableText 32767 text

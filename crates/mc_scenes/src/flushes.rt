@@ -21,12 +21,12 @@ use crate::things::{
     add_player, cell_in, change_item, drop_item, empty_hand, fill_hand, filled, move_to, set_cell,
     take_out,
 };
+use mc_bytes::{NoMemory, Text};
 use mc_entities::Folk;
 use mc_fields::Spot;
 use mc_flush::{ClientView, Encoded, Line, Mark, flush};
 use mc_land::{Land, Steps, Terrain};
 use mc_model::{AGE_MAX, Notes};
-use mc_nbt::{NoMemory, Text};
 use mc_rows::{Answer, Words, look_up};
 use mc_view::ViewSet;
 use mc_windows::{Pack, kit};

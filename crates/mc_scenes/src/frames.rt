@@ -1,9 +1,10 @@
 //! Frames of a server: each in hex, but columns by their places, with one word for those of a row.
 
 use crate::loads::{Kept, Loads};
-use mc_down::{Down, read_down};
+use mc_bytes::Cursor;
+use mc_down::read_down;
 use mc_fields::take_varint;
-use mc_nbt::Cursor;
+use mc_packets::Down;
 use mc_rows::Answer;
 
 /// A frame with its length, and without it.

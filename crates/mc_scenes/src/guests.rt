@@ -3,8 +3,8 @@ ghost use Rattle.std.specs.List.{AllByRecursion};
 ghost use Rattle.std.specs.FinMap as map;
 ghost use Rattle.mc_flush.specs.Seeing.{IsNamed};
 
+use mc_bytes::{NoMemory, Text};
 use mc_flush::PlayerList;
-use mc_nbt::{NoMemory, Text};
 use std::alloc::Global;
 use std::marker::Model;
 

@@ -1,9 +1,9 @@
 //! `list STEP ..` works on a list of players, and `place X Y Z YAW PITCH` answers the frame of a
 //! player's place.
 
+use mc_bytes::Text;
 use mc_fields::Spot;
 use mc_flush::{PlayerList, placing_packet, put_packet};
-use mc_nbt::Text;
 use mc_rows::{Answer, Words, look_up};
 
 /// A call of a list of players.

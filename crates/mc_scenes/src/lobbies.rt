@@ -3,7 +3,7 @@
 //! `stall=I`, `break=I`, `short=I:N`, and `shorts=COUNT:N` for each write below a count. A log is
 //! put as such entries, with a comma in front of each.
 
-use mc_nbt::Octets;
+use mc_bytes::Octets;
 use mc_rows::{Answer, Words, bytes_of};
 use mc_wire::{LogEntry, MemoryLobby, Trouble};
 use std::alloc::Global;

@@ -4,8 +4,8 @@
 //! answers how many bytes that are and whether they are those of the first.
 
 use crate::servers::{new_server, taken, ticks};
+use mc_bytes::NoMemory;
 use mc_land::Terrain;
-use mc_nbt::NoMemory;
 use mc_rows::{Answer, Words};
 use mc_server::{Input, Server};
 use std::alloc::Global;

@@ -5,8 +5,8 @@ ghost use Rattle.mc_events.specs.Stands.{age_of};
 
 use crate::frames::put_frames;
 use crate::terrains::terrain_in;
+use mc_bytes::NoMemory;
 use mc_land::Terrain;
-use mc_nbt::NoMemory;
 use mc_rows::{Answer, Words, look_up};
 use mc_server::{Input, Server, Settings};
 use std::alloc::Global;

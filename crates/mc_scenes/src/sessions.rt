@@ -2,8 +2,8 @@
 //! it. `uuid NAME` answers an identifier, and `chat TEXT` the JSON of a text.
 
 use crate::causes::{cause_in, refusal_in};
+use mc_bytes::{NoMemory, Octets, Text};
 use mc_model::{Name, Stage};
-use mc_nbt::{NoMemory, Octets, Text};
 use mc_rows::{Answer, Words, look_up};
 use mc_session::{Session, Step, chat_json, offline_uuid};
 use mc_up::PlayUp;

@@ -18,8 +18,8 @@ ghost use Rattle.mc_server.specs.TurnParts.{IsInputOf};
 mod turn;
 
 use crate::service::turn::take_turn;
+use mc_bytes::NoMemory;
 use mc_events::{Input, Server};
-use mc_nbt::NoMemory;
 use mc_wire::{Event, Lobby};
 use std::alloc::{AllocError, Global};
 

@@ -3,7 +3,7 @@ use Rattle.std.proofs.Common.{◌≡◌, ℕ, List, [], ◌∷◌, ap, sym, subs
 use Rattle.std.specs.Prelude.{Result, IfOk, Some}
 use Rattle.std.proofs.lemmas.List.{append-nil}
 use Rattle.std.proofs.lemmas.Result.{IfOk-weaker}
-use Rattle.mc_nbt.specs.declared.memory.NoMemory.{NoMemory}
+use Rattle.mc_bytes.specs.declared.memory.NoMemory.{NoMemory}
 use Rattle.mc_model.specs.declared.cause.Cause.{Cause}
 use Rattle.mc_model.specs.Texts.{chat_json, farewell_text}
 use Rattle.mc_model.specs.Packets.{Sent, frame_of, bytes_of}

@@ -2,8 +2,8 @@ ghost use Rattle.std.specs.Prelude.{◌≡◌, ◌++◌, IfOk, codes};
 ghost use Rattle.md5.specs.Md5.{md5};
 ghost use Rattle.mc_model.specs.Names.{offline_uuid, uuid_text};
 
+use mc_bytes::{NoMemory, Text};
 use mc_model::Name;
-use mc_nbt::{NoMemory, Text};
 use md5::{Digest, Md5};
 use std::alloc::Global;
 use uuid::{Builder, Uuid, Variant, Version};

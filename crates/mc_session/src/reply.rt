@@ -2,10 +2,10 @@ ghost use Rattle.std.specs.Prelude.{◌≡◌, IfOk};
 ghost use Rattle.mc_frame.specs.Frame.{IsPayload, frame_spelling};
 ghost use Rattle.mc_hello.specs.StatusDown as status;
 ghost use Rattle.mc_hello.specs.LoginDown as login;
-ghost use Rattle.mc_down.specs.Down as play;
+ghost use Rattle.mc_packets.specs.Down as play;
 ghost use Rattle.mc_hello.specs.declared.status_down.StatusDown.TheVariants.{Response, Pong};
 ghost use Rattle.mc_hello.specs.declared.login_down.LoginDown.TheVariants as login_down;
-ghost use Rattle.mc_down.specs.declared.down.Down.TheVariants as down;
+ghost use Rattle.mc_packets.specs.declared.down.Down.TheVariants as down;
 ghost use Rattle.mc_model.specs.Names.{offline_uuid};
 ghost use Rattle.mc_model.specs.Texts.{status_json, farewell_text};
 ghost use Rattle.mc_model.specs.Packets.{frame_of, of_status, of_login, of_play, bytes_of};
@@ -13,10 +13,10 @@ ghost use Rattle.mc_model.specs.Talk.{accepted, refused, as_chat, farewell};
 
 use crate::identity::{offline_uuid, uuid_text};
 use crate::words::{chat_json, farewell_text, refusal_text, status_json};
-use mc_down::{Down, write_down};
+use mc_bytes::{NoMemory, Octets};
 use mc_frame::write_frame;
 use mc_model::{Cause, Name, Refusal, Stage};
-use mc_nbt::{NoMemory, Octets};
+use mc_packets::{Down, write_down};
 use mc_up::{LoginDown, StatusDown, write_login_down, write_status_down};
 use std::alloc::Global;
 

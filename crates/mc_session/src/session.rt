@@ -12,8 +12,8 @@ ghost use Rattle.mc_session.specs.State.{new_state};
 ghost use Rattle.mc_session.specs.Answers.{step_of, next_of};
 
 use crate::{Step, reply};
+use mc_bytes::{NoMemory, Octets};
 use mc_model::{Cause, Name, Refusal, Stage};
-use mc_nbt::{NoMemory, Octets};
 use mc_up::{
     Hand, LoginUp, PacketRead, StatusUp, read_hand, read_login_up, read_play_up, read_status_up,
 };

@@ -1,5 +1,5 @@
+use mc_bytes::{Octets, Text};
 use mc_model::Cause;
-use mc_nbt::{Octets, Text};
 use mc_up::PlayUp;
 
 /// What is to be done about a frame.

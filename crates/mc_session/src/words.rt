@@ -3,8 +3,8 @@ ghost use Rattle.serde_json.specs.View.{view};
 ghost use Rattle.mc_model.specs.Texts.{chat_data, chat_json, status_data, status_json};
 ghost use Rattle.mc_model.specs.Texts.{refusal_text, farewell_text};
 
+use mc_bytes::{NoMemory, Text};
 use mc_model::{Cause, Refusal};
-use mc_nbt::{NoMemory, Text};
 use serde_json::{Value, json};
 use std::alloc::{AllocError, Global};
 

@@ -3,12 +3,12 @@ use Rattle.std.specs.Prelude.{◌≡◌, ℕ, ◌+◌, ◌==◌, List, ◌++◌,
 use Rattle.std.specs.Prelude.{FitsSigned, ◌≤ℤ◌, if◌then◌else◌}
 use Rattle.std.specs.Int.{w8, w16}
 use lib.IntN.{ℤ, pos, negsuc}
-use Rattle.mc_nbt.specs.Reading.{Field, ◌>>=◌}
-use Rattle.mc_nbt.specs.NumberBytes.{number_read, number_spelling}
-use Rattle.mc_nbt.specs.CombineBytes.{Sequence, sequence_read, view_read}
-use Rattle.mc_nbt.specs.OptionalBytes.{when_spells, when_read, when_spelling}
-use Rattle.mc_nbt.specs.MakingBytes.{SpellsMade}
-use Rattle.mc_nbt.specs.Naturals.{is_natural}
+use Rattle.mc_bytes.specs.Reading.{Field, ◌>>=◌}
+use Rattle.mc_bytes.specs.NumberBytes.{number_read, number_spelling}
+use Rattle.mc_bytes.specs.CombineBytes.{Sequence, sequence_read, view_read}
+use Rattle.mc_bytes.specs.OptionalBytes.{when_spells, when_read, when_spelling}
+use Rattle.mc_bytes.specs.MakingBytes.{SpellsMade}
+use Rattle.mc_bytes.specs.Naturals.{is_natural}
 use Rattle.mc_fields.specs.IntegerBytes.{signed_spells, signed_read, signed_spelling}
 use Rattle.mc_nbt.specs.Nbt.{Named, IsNbt, nbt_spelling, SpellsNbt}
 use Rattle.mc_nbt.specs.NbtReading.{nbt_at}

@@ -1,6 +1,6 @@
 -- The format of slots, of the page 'Slot Data' of wiki.vg for protocol 47.
 use Rattle.std.specs.Prelude.{ℕ, List, ◌++◌, refl}
-use Rattle.mc_nbt.specs.Format.{Format}
+use Rattle.mc_bytes.specs.Format.{Format}
 use Rattle.mc_slots.specs.declared.slot.Slot.{Slot}
 use Rattle.mc_slots.specs.Slot.{FitsSlot, SpellsSlot, slot_read, slot_spelling, slot_most}
 use Rattle.mc_slots.specs.SlotLaws.{slot_found, slot_only, slot_fit, slot_spelled, slot_bounded}

@@ -6,11 +6,12 @@ use Rattle.std.specs.Int.{w8, w16, cast_unsigned}
 use Rattle.std.proofs.Common.{sym, arith, rules}
 use Rattle.std.proofs.lemmas.Int.{ints}
 use lib.IntN.{ℤ, pos, negsuc}
-use Rattle.mc_nbt.specs.Format.{IsFound, IsOnly, IsBounded, Anything}
-use Rattle.mc_nbt.specs.OptionalBytes.{when_fits}
-use Rattle.mc_nbt.specs.MakingLaws.{IsMaking, IsMost, made_found, made_only, made_fit, made_bounded}
-use Rattle.mc_nbt.specs.Naturals.{is_natural}
-use Rattle.mc_nbt.specs.SignedLaws.{signed_fits}
+use Rattle.mc_bytes.specs.Format.{IsFound, IsOnly, IsBounded, Anything}
+use Rattle.mc_bytes.specs.OptionalBytes.{when_fits}
+use Rattle.mc_bytes.specs.MakingLaws.{IsMaking, IsMost, made_found, made_only, made_fit}
+use Rattle.mc_bytes.specs.MakingLaws.{made_bounded}
+use Rattle.mc_bytes.specs.Naturals.{is_natural}
+use Rattle.mc_bytes.specs.SignedLaws.{signed_fits}
 use Rattle.mc_nbt.specs.Nbt.{Named}
 use Rattle.mc_slots.specs.declared.slot.Slot.{Slot}
 use Rattle.mc_slots.specs.declared.slot.Slot.TheVariants.{Empty, Full}

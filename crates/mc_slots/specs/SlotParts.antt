@@ -2,12 +2,12 @@
 -- of these.
 use Rattle.std.specs.Prelude.{ℕ, List, ◌++◌, Option, refl}
 use Rattle.std.specs.Int.{w8, w16}
-use Rattle.mc_nbt.specs.Format.{Format}
-use Rattle.mc_nbt.specs.Combine.{◌then◌}
-use Rattle.mc_nbt.specs.Optional.{when}
-use Rattle.mc_nbt.specs.NumberLaws.{wide_8, wide_16}
-use Rattle.mc_nbt.specs.Naturals.{is_natural}
-use Rattle.mc_nbt.specs.Signed.{signed}
+use Rattle.mc_bytes.specs.Format.{Format}
+use Rattle.mc_bytes.specs.Combine.{◌then◌}
+use Rattle.mc_bytes.specs.Optional.{when}
+use Rattle.mc_bytes.specs.NumberLaws.{wide_8, wide_16}
+use Rattle.mc_bytes.specs.Naturals.{is_natural}
+use Rattle.mc_bytes.specs.Signed.{signed}
 use Rattle.mc_nbt.specs.Nbt.{Named}
 use Rattle.mc_slots.specs.Slot.{SpellsTag, FitsTag, tag_spelling, tag_most, tag_read, Parts}
 use Rattle.mc_slots.specs.TagLaws.{tag_found, tag_only, tag_fit, tag_spelled, tag_bounded}

@@ -3,12 +3,12 @@ use Rattle.std.specs.Prelude.{◌≡◌, ℕ, ◌==◌, Bool, true, false, List,
 use Rattle.std.specs.Prelude.{refl, if◌then◌else◌}
 use Rattle.std.specs.Int.{w8, w16}
 use Rattle.std.proofs.Common.{subst, ap, ◌∙◌, arith, append_assoc, eqb-true}
-use Rattle.mc_nbt.specs.declared.fault.Stop.{Stop}
-use Rattle.mc_nbt.specs.Reading.{IsBytes}
-use Rattle.mc_nbt.specs.Format.{Found, IsFound, IsOnly, IsBounded, Anything}
-use Rattle.mc_nbt.specs.CombineLaws.{bind_ok, ok_is, Found-is}
-use Rattle.mc_nbt.specs.NumberBytes.{number_read, number_spelling}
-use Rattle.mc_nbt.specs.NumberLaws.{number_found, number_only, number_bounded, wide_8}
+use Rattle.mc_bytes.specs.declared.fault.Stop.{Stop}
+use Rattle.mc_bytes.specs.Reading.{IsBytes}
+use Rattle.mc_bytes.specs.Format.{Found, IsFound, IsOnly, IsBounded, Anything}
+use Rattle.mc_bytes.specs.CombineLaws.{bind_ok, ok_is, Found-is}
+use Rattle.mc_bytes.specs.NumberBytes.{number_read, number_spelling}
+use Rattle.mc_bytes.specs.NumberLaws.{number_found, number_only, number_bounded, wide_8}
 use Rattle.mc_nbt.specs.Nbt.{Named, nbt_spelling, run_spelling, payload, root_of}
 use Rattle.mc_nbt.specs.NbtReading.{nbt_at}
 use Rattle.mc_nbt.specs.NbtFormat.{nbt}

@@ -1,11 +1,11 @@
 //! A slot as a field of packets.
-#![tactic(auto, using(mc_nbt::proofs::Kept::kept_whole, mc_nbt::proofs::Kept::kept_same, mc_nbt::proofs::Kept::kept_by))]
+#![tactic(auto, using(mc_bytes::proofs::Kept::kept_whole, mc_bytes::proofs::Kept::kept_same, mc_bytes::proofs::Kept::kept_by))]
 
 ghost use Rattle.mc_slots.specs.SlotFormat.{slot};
 
 use crate::{Slot, take_slot, write_slot};
+use mc_bytes::{Cursor, NoMemory, ReadError};
 use mc_fields::Field;
-use mc_nbt::{Cursor, NoMemory, ReadError};
 use std::alloc::Global;
 
 impl Field for Slot {

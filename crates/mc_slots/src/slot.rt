@@ -1,13 +1,14 @@
 ghost use Rattle.std.specs.Prelude.{◌≡◌, ◌≤◌, ◌++◌, ℕ, List, Ok, IfOk, OnOk, OnErr, take, drop};
 ghost use Rattle.std.specs.Prelude.{length};
-ghost use Rattle.mc_nbt.specs.Reading.{Gives};
-ghost use Rattle.mc_nbt.specs.Placed.{SpelledAt, PlacedGives, placed};
-ghost use Rattle.mc_nbt.specs.Format.{Anything};
+ghost use Rattle.mc_bytes.specs.Reading.{Gives};
+ghost use Rattle.mc_bytes.specs.Placed.{SpelledAt, PlacedGives, placed};
+ghost use Rattle.mc_bytes.specs.Format.{Anything};
 ghost use Rattle.mc_slots.specs.Slot.{FitsTag, tag_read, tag_spelling, pick, HasId, IsTyped};
 ghost use Rattle.mc_slots.specs.Slot.{slot_read, slot_spelling, SpellsSlot};
 ghost use Rattle.mc_slots.specs.SlotParts.{parts};
 
-use mc_nbt::{Cursor, Nbt, NoMemory, ReadError, ReadFault, write_nbt, write_u8, write_u16};
+use mc_bytes::{Cursor, NoMemory, ReadError, ReadFault, write_u8, write_u16};
+use mc_nbt::{Nbt, write_nbt};
 use std::alloc::Global;
 
 /// The byte that stands where a stack has no tag.
@@ -164,7 +165,7 @@ fn write_tag(tag: &Option<Nbt>, out: &mut Vec<u8>) -> Result<(), NoMemory>
 }
 
 /// Appends a slot's id and what follows it. Without memory some of that may be there.
-#[tactic(auto, using(mc_nbt::proofs::Kept::kept_before))]
+#[tactic(auto, using(mc_bytes::proofs::Kept::kept_before))]
 fn write_parts(slot: &Slot, out: &mut Vec<u8>) -> Result<(), NoMemory>
     ensures ok { OnOk result (out.new.items ≡ (parts {Rest = Anything}).append (pick slot.now)
         out.old.items) }

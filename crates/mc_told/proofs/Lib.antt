@@ -1,8 +1,6 @@
-pub mod Keys
 pub mod MoveFrames
 pub mod Ordered
 pub mod Parts
-pub mod Pieces
 pub mod Rising
 pub mod Rows
 pub mod SameSpots

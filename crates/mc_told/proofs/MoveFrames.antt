@@ -19,22 +19,7 @@ use Rattle.mc_view.specs.Forms.{form_of}
 use Rattle.mc_told.specs.declared.moved.Moved.{Moved}
 use Rattle.mc_told.specs.MoveFrames.{AreMoves, MovesByEid, is_still, move_bytes, moved_from}
 use Rattle.mc_told.specs.MoveFrames.{with_move}
-use Rattle.mc_told.proofs.Keys.{equal, tree_found}
-
--- an entry that is put into a tree is put into the map of its entries
-pub entry_put : {K X : Type 0} {R : K → K → Ordering} → IsTotalOrder R → IsAntisymmetric R →
-    (old new : List (K × X)) (k : K) (v : X) →
-    ((q : K) → lookup (λ y. is_eq (R q y)) new
-    ≡ cond (is_eq (R k q)) (Some v) (lookup (λ y. is_eq (R q y)) old)) →
-    from_entries {R = R} new ≡ insert (from_entries old) k v
-entry_put {R = R} total exact old new k v given =
-    same_map total exact (from_entries new) (insert (from_entries old) k v) (λ q.
-    get-from_entries total new q ∙ sym (tree_found R q new) ∙ given q
-    ∙ ap (λ (b : Bool). cond b (Some v) (lookup (λ y. is_eq (R q y)) old))
-    ((eq_by_cmp_equiv total).symm k q)
-    ∙ ap (cond (eq_by_cmp R q k) (Some v))
-    (tree_found R q old ∙ sym (get-from_entries total old q))
-    ∙ sym (get-insert total (from_entries old) k v q))
+use Rattle.mc_bytes.proofs.Trees.{equal, tree_found}
 
 -- none was encoded yet
 pub none_moved : AreMoves empty

@@ -12,7 +12,7 @@ use Rattle.std.specs.FinMap.{IsAntisymmetric, find, is_sorted, entries, entries_
 use Rattle.std.specs.FinMap.{from_entries, get-entries, get-from_entries}
 use Rattle.std.specs.FinMap.Entries.{below_all, find_tied, same_entries}
 use Rattle.std.proofs.lemmas.Map.Entries.{option_filter}
-use Rattle.mc_told.proofs.Keys.{equal}
+use Rattle.mc_bytes.proofs.Trees.{equal}
 
 pub both : (a b : Bool) → T a → T b → T (a && b)
 both true b p q = q

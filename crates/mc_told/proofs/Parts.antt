@@ -4,12 +4,12 @@ use Rattle.std.proofs.Common.{map, min, refl, ap, ◌∙◌, arith}
 use Rattle.std.proofs.lemmas.Bool.Decides.{nat_tests}
 use Rattle.std.proofs.lemmas.List.{length-drop, take_min}
 use lib.IntN.{ℤ}
-use Rattle.mc_down.specs.declared.down.Down.{Down}
-use Rattle.mc_down.specs.declared.down.Down.TheVariants.{Destroy}
+use Rattle.mc_packets.specs.declared.down.Down.{Down}
+use Rattle.mc_packets.specs.declared.down.Down.TheVariants.{Destroy}
 use Rattle.mc_model.specs.declared.seen.TheConstants.{DESTROYED_MAX}
 use Rattle.mc_model.specs.Delta.{destroying, parts_of}
-use Rattle.mc_told.specs.Sending.{play_bytes}
-use Rattle.mc_told.proofs.Pieces.{next_piece, play_bytes-append}
+use Rattle.mc_sending.specs.Sending.{play_bytes}
+use Rattle.mc_sending.proofs.Pieces.{next_piece, play_bytes-append}
 
 -- any two numbers that are at least a list's length give the same parts of it
 parts_same : (n m most : ℕ) (eids : List ℤ) → 0 < most → length eids ≤ n → length eids ≤ m →

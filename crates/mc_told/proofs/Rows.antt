@@ -22,7 +22,7 @@ use Rattle.mc_entities.specs.Folk.{eid_of}
 use Rattle.mc_entities.specs.Numbers.{Rise}
 use Rattle.mc_view.specs.declared.view_set.ViewSet.{ViewSet}
 use Rattle.mc_view.specs.Told.{Told}
-use Rattle.mc_down.specs.declared.down.Down.{Down}
+use Rattle.mc_packets.specs.declared.down.Down.{Down}
 use Rattle.mc_model.specs.declared.seen.SeenKind.TheVariants as seen_kinds
 use Rattle.mc_model.specs.Sight.{Seen}
 use Rattle.mc_model.specs.World.{seen_of}

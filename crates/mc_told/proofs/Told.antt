@@ -27,20 +27,21 @@ use Rattle.mc_entities.specs.Folk.{eid_of}
 use Rattle.mc_entities.specs.Numbers.{Rise, numbered}
 use Rattle.mc_view.specs.declared.view_set.ViewSet.{ViewSet}
 use Rattle.mc_view.specs.Told.{Told}
-use Rattle.mc_down.specs.declared.down.Down.{Down}
+use Rattle.mc_packets.specs.declared.down.Down.{Down}
 use Rattle.mc_model.specs.Delta.{entity_packets}
 use Rattle.mc_model.specs.World.{others}
 use Rattle.mc_model.proofs.Sessions.{some_none}
 use Rattle.mc_model.proofs.Maps.{each_found, take_out, put_in, is_without, kept, get_kept}
 use Rattle.mc_model.proofs.Maps.{all_put_in}
 use Rattle.mc_told.specs.declared.row.Row.{Row}
-use Rattle.mc_told.specs.Sending.{play_bytes}
+use Rattle.mc_sending.specs.Sending.{play_bytes}
 use Rattle.mc_told.specs.Telling.{gone_from, shown_now, told_as, gone_among, row_in, row_packets}
 use Rattle.mc_told.specs.Telling.{rows_as, rows_in, rows_of, rows_packets, told_now, told_row}
 use Rattle.mc_told.specs.Telling.{with_row, with_rows, without_all}
-use Rattle.mc_told.proofs.Keys.{all_kept, same_filter, equal}
+use Rattle.mc_bytes.proofs.Trees.{equal}
+use Rattle.mc_sending.proofs.Keys.{all_kept, same_filter}
 use Rattle.mc_told.proofs.Ordered.{entries_made, find_below, first, second}
-use Rattle.mc_told.proofs.Pieces.{next_piece, play_bytes-append}
+use Rattle.mc_sending.proofs.Pieces.{next_piece, play_bytes-append}
 use Rattle.mc_told.proofs.Rows.{row_eid, rows_above, rows_rise, shown_known}
 
 -- what is kept of an entity, under its number
@@ -101,8 +102,12 @@ others_above : (me less low high : ℤ) (es : List Entity) → less ≤ℤ low �
     Rise eid_of low es high → Rise eid_of less (others me es) high
 others_above me less low high [] le r = grind (arith, nat_tests)
 others_above me less low high (e ∷ es) le r =
-    grind (arith, nat_tests, others_above me less e.eid high es (omega (arith, ints, le, r.0)) r.1,
-      others_above me e.eid e.eid high es (omega (arith, ints)) r.1)
+    grind (
+      arith,
+      nat_tests,
+      others_above me less e.eid high es (omega (arith, ints, le, r.0)) r.1,
+      others_above me e.eid e.eid high es (omega (arith, ints)) r.1,
+    )
 
 -- they rise where all do
 pub others_rise : (me high : ℤ) (es : List Entity) → Rise eid_of (pos 0) es high →

@@ -14,7 +14,7 @@ use Rattle.mc_view.specs.Forms.{form_of, moves_of}
 use Rattle.mc_view.specs.ToldCode.{coded_spot}
 use Rattle.mc_model.specs.Delta.{moves_packets}
 use Rattle.mc_told.specs.declared.moved.Moved.{Moved}
-use Rattle.mc_told.specs.Sending.{play_bytes}
+use Rattle.mc_sending.specs.Sending.{play_bytes}
 
 abbrev pub coded_moved : Coded Moved
 coded_moved =

@@ -1,14 +1,14 @@
 ghost use Rattle.std.specs.Prelude.{◌≡◌, ◌≤◌, ◌++◌, OnOk, None};
 ghost use Rattle.mc_model.specs.Delta.{beat_packets, is_told, time_packets};
-ghost use Rattle.mc_told.specs.Sending.{play_bytes};
+ghost use Rattle.mc_sending.specs.Sending.{play_bytes};
 ghost use Rattle.mc_told.specs.Telling.{age_now, beat_now};
 
 mod fields;
 
-use crate::frames::put_made;
-use mc_down::Down;
+use mc_bytes::NoMemory;
 use mc_model::{beat_at, shown_age, time_of_day};
-use mc_nbt::NoMemory;
+use mc_packets::Down;
+use mc_sending::put_made;
 
 /// The beat and the age that a client was told last, None before the first tick.
 #[derive(Clone, Copy)]

@@ -6,18 +6,18 @@ ghost use Rattle.mc_model.specs.Delta.{entity_packets, hand_packets, id_in_hand,
 ghost use Rattle.mc_model.specs.Delta.{spawn_as};
 ghost use Rattle.mc_model.specs.declared.seen.SeenKind.TheVariants as seen_kinds;
 ghost use Rattle.mc_told.specs.MoveFrames.{AreMoves};
-ghost use Rattle.mc_told.specs.Sending.{play_bytes};
+ghost use Rattle.mc_sending.specs.Sending.{play_bytes};
 ghost use Rattle.mc_told.specs.Telling.{told_as, row_packets, with_row};
 
 use crate::EncodedMoves;
-use crate::frames::put_made;
 use crate::moves::put_moves;
 use crate::packets::{head_look, object, player};
 use crate::piles::{no_flags, put_pile};
 use crate::row::Row;
+use mc_bytes::NoMemory;
 use mc_fields::Spot;
 use mc_model::SeenKind;
-use mc_nbt::NoMemory;
+use mc_sending::put_made;
 use mc_slots::Pile;
 use mc_view::Tracker;
 

@@ -8,7 +8,6 @@
 mod clock;
 mod encoded_moves;
 mod entities;
-mod frames;
 mod known;
 mod moved;
 mod moves;
@@ -19,4 +18,3 @@ mod row;
 pub use clock::Clock;
 pub use encoded_moves::EncodedMoves;
 pub use entities::{EntityView, tell};
-pub use frames::{put_made, put_packet};

@@ -4,14 +4,14 @@ ghost use Rattle.std.specs.Prelude.{◌≡◌, ◌++◌, IfOk, OnOk};
 ghost use Rattle.mc_view.specs.Forms.{moves_of};
 ghost use Rattle.mc_model.specs.Delta.{head_packets, move_packets, moves_packets};
 ghost use Rattle.mc_told.specs.MoveFrames.{AreMoves, is_still, move_bytes};
-ghost use Rattle.mc_told.specs.Sending.{play_bytes};
+ghost use Rattle.mc_sending.specs.Sending.{play_bytes};
 
 use crate::EncodedMoves;
-use crate::frames::put_made;
 use crate::packets::{head_look, jump, step, step_turn, turn};
 use bytes::Bytes;
+use mc_bytes::NoMemory;
 use mc_fields::Spot;
-use mc_nbt::NoMemory;
+use mc_sending::put_made;
 use mc_view::{Form, Moves, form};
 use std::alloc::Global;
 

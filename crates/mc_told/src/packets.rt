@@ -1,12 +1,12 @@
 //! The packets of entities that hold numbers alone, but for their metadata. Each can be sent.
 
 ghost use Rattle.std.specs.Prelude.{◌≡◌, None, pos, true};
-ghost use Rattle.mc_down.specs.declared.down.Down.TheVariants as down;
+ghost use Rattle.mc_packets.specs.declared.down.Down.TheVariants as down;
 ghost use Rattle.mc_model.specs.Delta.{no_flags};
-ghost use Rattle.mc_told.specs.Sending.{IsClear};
+ghost use Rattle.mc_sending.specs.Sending.{IsClear};
 
-use mc_down::{Down, Metas};
 use mc_fields::Spot;
+use mc_packets::{Down, Metas};
 
 /// The kind of an object that is a dropped item.
 const ITEM_KIND: i8 = 2;

@@ -4,13 +4,13 @@ ghost use Rattle.std.specs.Prelude.{◌≡◌, ◌++◌, ◌∷◌, [], ℕ, IfO
 ghost use Rattle.mc_slots.specs.Pile.{IsPile, slot_of};
 ghost use Rattle.mc_model.specs.declared.seen.SeenKind.TheVariants as seen_kinds;
 ghost use Rattle.mc_model.specs.Delta.{no_flags, pile_packet};
-ghost use Rattle.mc_told.specs.Sending.{play_bytes};
+ghost use Rattle.mc_sending.specs.Sending.{play_bytes};
 
-use crate::frames::put_made;
 use crate::row::Row;
-use mc_down::{Down, MetaEntry, MetaValue, Metas};
+use mc_bytes::NoMemory;
 use mc_model::SeenKind;
-use mc_nbt::NoMemory;
+use mc_packets::{Down, MetaEntry, MetaValue, Metas};
+use mc_sending::put_made;
 use mc_slots::Pile;
 use std::alloc::Global;
 

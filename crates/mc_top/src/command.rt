@@ -10,7 +10,7 @@ ghost use Rattle.mc_words.specs.Arguments.{IsSet, bytes_of, command_of};
 
 use crate::replay::replay;
 use crate::serve::serve;
-use mc_nbt::NoMemory;
+use mc_bytes::NoMemory;
 use mc_wire::{InputError, Lobby, Sink, Source, write_all};
 use mc_words::{BadInput, Command, Ended, Unfinished, budget_line, read_text, write_status};
 use std::alloc::Global;

@@ -7,7 +7,7 @@ ghost use Rattle.mc_top.specs.ServePromise.{AskedAtMostOnce, HasLost, HasSpent, 
 ghost use Rattle.mc_top.specs.ServePromise.{budget_of, ended_by, summary_line, tally_of};
 
 use crate::world::new_server;
-use mc_nbt::NoMemory;
+use mc_bytes::NoMemory;
 use mc_server::{Budget, DriveFault, Tally, drive};
 use mc_wire::{Lobby, Sink, write_all};
 use mc_words::{Ended, ServeOptions, Unfinished};

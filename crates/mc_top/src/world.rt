@@ -3,7 +3,7 @@ ghost use Rattle.mc_model.specs.World.{AreSettings};
 ghost use Rattle.mc_events.specs.Stands.{Stands, age_of};
 ghost use Rattle.mc_top.specs.ReplayPromise.{world_of};
 
-use mc_nbt::NoMemory;
+use mc_bytes::NoMemory;
 use mc_server::{Server, Settings};
 use mc_words::WorldOptions;
 use std::alloc::Global;

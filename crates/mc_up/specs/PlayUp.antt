@@ -2,10 +2,10 @@
 -- with a fraction are kept as their patterns.
 use Rattle.std.specs.Prelude.{ℕ, ◌==◌, Bool, false, List, Option, refl}
 use lib.IntN.{ℤ, pos, negsuc}
-use Rattle.mc_nbt.specs.Format.{Format}
-use Rattle.mc_nbt.specs.Combine.{◌then◌, via, last, none}
-use Rattle.mc_nbt.specs.Optional.{when}
-use Rattle.mc_nbt.specs.Rest.{rest}
+use Rattle.mc_bytes.specs.Format.{Format}
+use Rattle.mc_bytes.specs.Combine.{◌then◌, via, last, none}
+use Rattle.mc_bytes.specs.Optional.{when}
+use Rattle.mc_bytes.specs.Rest.{rest}
 use Rattle.mc_fields.specs.VarintFormat.{var_int}
 use Rattle.mc_fields.specs.TextFormat.{text, string}
 use Rattle.mc_fields.specs.Integers.{byte, ubyte, short, float, double, uuid, boolean}

@@ -11,8 +11,8 @@ mod writing;
 pub use self::parts::Hit;
 use self::reading::read_fields;
 use self::writing::write_fields;
+use mc_bytes::{Cursor, NoMemory, Octets, Text};
 use mc_fields::{Cell, PacketRead, RowError, take_varint, whole};
-use mc_nbt::{Cursor, NoMemory, Octets, Text};
 use mc_slots::Slot;
 use std::alloc::Global;
 

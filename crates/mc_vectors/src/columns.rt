@@ -3,8 +3,8 @@
 
 ghost use Rattle.std.specs.Prelude.{◌<◌};
 
+use mc_bytes::NoMemory;
 use mc_column::{Column, read_body};
-use mc_nbt::NoMemory;
 use mc_rows::{Answer, Words, look_up};
 use std::alloc::Global;
 use std::mem::replace;

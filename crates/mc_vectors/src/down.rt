@@ -4,7 +4,8 @@
 
 use crate::fields::packet_read;
 use crate::parts::{Put, put_named};
-use mc_down::{Down, Varints, read_down, read_meta, write_down, write_meta};
+use mc_down::read_down;
+use mc_packets::{Down, Varints, read_meta, write_down, write_meta};
 use mc_rows::{Answer, Words};
 
 /// Reads a packet.

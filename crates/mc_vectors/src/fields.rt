@@ -1,5 +1,6 @@
 //! Single fields: `NAME BYTES` reads one, and `write BYTES NAME VALUE ..` writes some behind bytes.
 
+use mc_bytes::{Cursor, Kind, NoMemory, Octets, Stop, Text, placed, write_octets};
 use mc_fields::{
     PacketFault, PacketRead, RowError, RowFault, angle, degrees, fixed, pack, pattern, read_bool,
     read_i8, read_i16, read_i32, read_i64, read_text, read_u8, read_u16, read_u32, read_u64,
@@ -7,7 +8,6 @@ use mc_fields::{
     write_i32, write_i64, write_position, write_text, write_u8, write_u16, write_u32, write_u64,
     write_u128, write_varint,
 };
-use mc_nbt::{Cursor, Kind, NoMemory, Octets, Stop, Text, placed, write_octets};
 use mc_rows::{Answer, Marked, Words, look_up};
 use std::fmt::Display;
 

@@ -2,8 +2,8 @@
 //! BYTES` cut a stream, and `outbox STEP ..` works on what is to be sent.
 
 use bytes::Bytes;
+use mc_bytes::NoMemory;
 use mc_frame::{FrameFault, Outbox, Splitter, Take, write_frame};
-use mc_nbt::NoMemory;
 use mc_rows::{Answer, Words};
 
 /// Writes a frame with this payload.

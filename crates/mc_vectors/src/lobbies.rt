@@ -6,7 +6,7 @@
 
 ghost use Rattle.std.specs.Prelude.{◌≡◌, true};
 
-use mc_nbt::Octets;
+use mc_bytes::Octets;
 use mc_rows::{Answer, Marked, Words, look_up};
 use mc_wire::{Event, Failed, Lobby, LogEntry, MemoryLobby, Pace, SteadyLobby, Trouble, Wrote};
 use std::alloc::Global;

@@ -22,10 +22,10 @@ mod views;
 mod windows;
 
 use lands::Ground;
+use mc_bytes::NoMemory;
 use mc_column::Column;
 use mc_entities::Folk;
 use mc_land::Terrain;
-use mc_nbt::NoMemory;
 use mc_rows::{Answer, Words, look_up};
 use mc_view::Tracker;
 use std::alloc::Global;

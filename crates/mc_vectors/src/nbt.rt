@@ -1,7 +1,8 @@
 //! Named compounds: `nbt BYTES` reads one and writes a copy of it, `same BYTES BYTES` compares two,
 //! and `make NAME STEP ..` makes one.
 
-use mc_nbt::{Entries, Ints, Nbt, NoMemory, Octets, Tag, Tags, read_nbt, same, write_nbt};
+use mc_bytes::{NoMemory, Octets};
+use mc_nbt::{Entries, Ints, Nbt, Tag, Tags, read_nbt, same, write_nbt};
 use mc_rows::{Answer, Marked, Words};
 
 /// Reads a named compound, and writes a copy of it.

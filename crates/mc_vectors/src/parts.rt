@@ -1,12 +1,12 @@
 //! Fields of packets, put behind what an answer has.
 
 use crate::slots::put_slot;
-use mc_down::{
+use mc_bytes::{Octets, Text};
+use mc_fields::Cell;
+use mc_packets::{
     MetaEntry, MetaValue, Metas, Player, PlayerChange, Players, Properties, Property, Record,
     Records, Slots, Speed, Texts, Varints,
 };
-use mc_fields::Cell;
-use mc_nbt::{Octets, Text};
 use mc_rows::Answer;
 use mc_slots::Slot;
 use mc_up::Hit;

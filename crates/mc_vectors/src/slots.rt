@@ -6,7 +6,8 @@ ghost use Rattle.std.specs.Prelude.{IsTrue, IfSome};
 ghost use Rattle.mc_slots.specs.Slot.{HasId};
 ghost use Rattle.mc_slots.specs.Pile.{IsItem, IsPile, Joins};
 
-use mc_nbt::{Nbt, NoMemory, write_nbt};
+use mc_bytes::NoMemory;
+use mc_nbt::{Nbt, write_nbt};
 use mc_rows::{Answer, Marked, Words};
 use mc_slots::{Chest, Item, Pile, Slot, alike, fits, merge, read_slot, split, write_slot};
 use std::fmt::Display;

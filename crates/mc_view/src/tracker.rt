@@ -6,8 +6,8 @@ ghost use Rattle.mc_view.specs.KeptTold.{IsAt, IsGap, IsRising, told_of};
 
 use crate::forms::Moves;
 use crate::spots::form;
+use mc_bytes::NoMemory;
 use mc_fields::Spot;
-use mc_nbt::NoMemory;
 use mc_slots::Pile;
 use std::alloc::Global;
 use std::marker::Model;

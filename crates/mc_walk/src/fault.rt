@@ -1,6 +1,6 @@
 use crate::others::Told;
+use mc_bytes::NoMemory;
 use mc_fields::Spot;
-use mc_nbt::NoMemory;
 use std::fmt;
 use std::fmt::Display;
 

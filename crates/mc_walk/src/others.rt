@@ -2,9 +2,9 @@
 
 use crate::fault::Fault;
 use crate::tally::{Tally, count};
-use mc_down::Down;
+use mc_bytes::NoMemory;
 use mc_fields::Spot;
-use mc_nbt::NoMemory;
+use mc_packets::Down;
 use std::alloc::Global;
 
 /// Another as it was told last: its number, place and look, and where its head looks. A head of

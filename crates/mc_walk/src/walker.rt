@@ -4,10 +4,11 @@ use crate::acts::Act;
 use crate::fault::Fault;
 use crate::others::Others;
 use crate::tally::Tally;
-use mc_down::{Down, read_down};
+use mc_bytes::NoMemory;
+use mc_down::read_down;
 use mc_fields::{Spot, degrees, pattern, write_u8, write_u32, write_u64};
 use mc_frame::{Splitter, Take};
-use mc_nbt::NoMemory;
+use mc_packets::Down;
 use mc_server::{Input, Server};
 use std::alloc::Global;
 

@@ -1,6 +1,6 @@
 -- What is printed of a device that failed (a rule of this project).
 use Rattle.std.specs.Prelude.{ℕ, List, codes}
-use Rattle.mc_nbt.specs.FaultText.{no_memory_text}
+use Rattle.mc_bytes.specs.FaultText.{no_memory_text}
 use Rattle.mc_wire.specs.declared.input_error.InputError.{InputError}
 use Rattle.mc_wire.specs.declared.input_error.InputError.TheVariants.{Failed, NoMemory}
 

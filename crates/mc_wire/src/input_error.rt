@@ -3,7 +3,7 @@ ghost use Rattle.mc_wire.specs.declared.input_error.InputError.TheVariants.{Fail
 ghost use Rattle.mc_wire.specs.declared.input_error.InputError.TheVariants.{NoMemory as no_memory};
 
 use crate::Failed;
-use mc_nbt::NoMemory;
+use mc_bytes::NoMemory;
 use std::alloc::AllocError;
 use std::error::Error;
 use std::fmt;

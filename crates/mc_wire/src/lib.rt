@@ -1,5 +1,5 @@
 //! The outside as traits, a source that is read and a sink that is written, and devices in memory
-//! that stand for it. It stands on the byte lists of `mc_nbt`. Its one contract: where a device
+//! that stand for it. It stands on the byte lists of `mc_bytes`. Its one contract: where a device
 //! tells what it has, a call that succeeds moves exactly the bytes that it says and a call that
 //! fails moves none; and a call that fails raises the device's count of failures.
 #![tactic(auto)]

@@ -5,7 +5,7 @@ ghost use Rattle.mc_wire.specs.LobbyAnswers.{IsInBuffer, IsInPiece};
 ghost use Rattle.mc_wire.specs.Becoming.{ToldBecomes, Logs};
 
 use crate::{Event, LogEntry, Pace, Wrote};
-use mc_nbt::{NoMemory, Octets};
+use mc_bytes::{NoMemory, Octets};
 use std::alloc::Global;
 use std::marker::Model;
 

@@ -1,4 +1,4 @@
-use mc_nbt::Octets;
+use mc_bytes::Octets;
 
 /// What a lobby of connections answered or did. A log has these in the order in which they
 /// happened; the number in an entry is that of its connection.

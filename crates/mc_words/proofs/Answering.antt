@@ -7,8 +7,8 @@ use Rattle.std.specs.List.{fold}
 use Rattle.std.proofs.lemmas.List.{append-nil, take-append-drop, nil_from_length}
 use Rattle.std.proofs.lemmas.List.Sums.{fold-append}
 use lib.IntN.{ℤ, pos}
-use Rattle.mc_nbt.specs.Reading.{IsBytes}
-use Rattle.mc_nbt.specs.Numbers.{IsBytes-after, IsBytes-take}
+use Rattle.mc_bytes.specs.Reading.{IsBytes}
+use Rattle.mc_bytes.specs.Numbers.{IsBytes-after, IsBytes-take}
 use Rattle.mc_frame.specs.declared.fault.FrameFault.{FrameFault}
 use Rattle.mc_frame.specs.Cut.{IsPart, Ends}
 use Rattle.mc_frame.specs.Held.{Splitting, nothing_held}

@@ -9,7 +9,7 @@ use Rattle.std.proofs.lemmas.List.{length-append, append-nil}
 use Rattle.std.proofs.lemmas.List.Sums.{fold-append}
 use Rattle.std.proofs.lemmas.Bool.{le-leb, lt-leb}
 use lib.IntN.{ℤ, pos}
-use Rattle.mc_nbt.specs.Reading.{Field, IsBytes}
+use Rattle.mc_bytes.specs.Reading.{Field, IsBytes}
 use Rattle.mc_frame.specs.declared.fault.FrameFault.{FrameFault}
 use Rattle.mc_frame.specs.declared.fault.FrameFault.TheVariants.{LongLength, ZeroLength}
 use Rattle.mc_frame.specs.Frame.{SpellsFrame, frame_read}

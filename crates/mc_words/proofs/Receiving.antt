@@ -7,7 +7,7 @@ use Rattle.std.specs.List.{fold}
 use Rattle.std.proofs.lemmas.List.{length-append, append-nil, take_all, take-append-le}
 use Rattle.std.proofs.Math.Seq.{take-append-add}
 use lib.IntN.{ℤ, pos, negsuc}
-use Rattle.mc_nbt.specs.Numbers.{number_spelling}
+use Rattle.mc_bytes.specs.Numbers.{number_spelling}
 use Rattle.mc_fields.specs.declared.packet.PacketFault.{PacketFault}
 use Rattle.mc_fields.specs.Row.{packet_read, packet_of}
 use Rattle.mc_fields.specs.Varint.{varint_spelling, groups_spelling}

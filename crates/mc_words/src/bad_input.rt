@@ -1,7 +1,7 @@
 ghost use Rattle.std.specs.Prelude.{◌≡◌, IfOk, string_bytes};
 ghost use Rattle.mc_words.specs.Ended.{bad_input_line};
 
-use mc_nbt::NoMemory;
+use mc_bytes::NoMemory;
 use std::alloc::Global;
 use std::fmt;
 

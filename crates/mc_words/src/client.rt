@@ -13,9 +13,9 @@ ghost use Rattle.mc_words.specs.Received.{said_lines, Answers, Sends, SendsPart}
 use crate::bad_input::InputFault;
 use crate::pieces::PIECE;
 use crate::unfinished::Unfinished;
+use mc_bytes::NoMemory;
 use mc_frame::{Splitter, Take};
 use mc_model::Stage;
-use mc_nbt::NoMemory;
 use mc_session::{Session, Step};
 use mc_wire::{Failed, Sink, write_all};
 use std::alloc::Global;

@@ -2,7 +2,7 @@ ghost use Rattle.std.specs.Prelude.{◌≡◌, IfOk, string_bytes};
 ghost use Rattle.mc_words.specs.Ended.{status_of, fixed_line_of, ended_after, budget_line};
 
 use crate::bad_input::BadInput;
-use mc_nbt::NoMemory;
+use mc_bytes::NoMemory;
 use std::alloc::Global;
 
 /// The line that says how the program is called, with its end.

@@ -6,7 +6,7 @@ ghost use Rattle.hex.specs.Hex.{decode_of};
 ghost use Rattle.mc_wire.specs.Count.{Rose};
 ghost use Rattle.mc_words.specs.Devices.{ReadsText};
 
-use mc_nbt::NoMemory;
+use mc_bytes::NoMemory;
 use mc_wire::{InputError, Source, read_up_to};
 use std::alloc::Global;
 

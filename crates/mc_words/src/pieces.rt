@@ -4,7 +4,7 @@ ghost use Rattle.mc_wire.specs.Count.{Rose, StandsOrRises};
 ghost use Rattle.mc_words.specs.Passes.{Breaks, Passes};
 
 use crate::unfinished::Unfinished;
-use mc_nbt::NoMemory;
+use mc_bytes::NoMemory;
 use mc_wire::{Failed, Sink, write_all};
 
 /// The most bytes of lines that wait, and are written at once.

@@ -5,7 +5,7 @@ ghost use Rattle.mc_words.specs.ScriptRead.{PutsEvent, after_line, IsScript};
 use crate::bad_input::BadInput;
 use crate::lines::cut_line;
 use crate::script_line::{Before, ScriptEvent, Unread, line_event};
-use mc_nbt::NoMemory;
+use mc_bytes::NoMemory;
 use std::alloc::Global;
 
 /// A script: events, in the order in which they happen.

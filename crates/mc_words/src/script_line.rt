@@ -8,7 +8,7 @@ ghost use Rattle.mc_words.specs.ScriptRead.{IsRead, CutsWord, IsLastWord};
 use crate::bad_input::InputFault;
 use crate::digits::ranged_u32;
 use crate::lines::{goes_past, is_skipped, put_hex};
-use mc_nbt::{NoMemory, Octets};
+use mc_bytes::{NoMemory, Octets};
 use std::alloc::Global;
 
 /// What a line of a script says.

@@ -1,6 +1,6 @@
 ghost use Rattle.std.specs.Prelude.{◌≡◌};
 
-use mc_nbt::NoMemory;
+use mc_bytes::NoMemory;
 use mc_wire::Failed;
 use std::alloc::AllocError;
 

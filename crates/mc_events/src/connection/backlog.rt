@@ -2,8 +2,8 @@ ghost use Rattle.std.specs.Prelude.{◌≡◌, ◌+◌, ◌++◌, ◌≤◌, ◌
 ghost use Rattle.mc_frame.specs.Kept.{joined, outbox_max};
 
 use bytes::Bytes;
+use mc_bytes::NoMemory;
 use mc_frame::{OUTBOX_MAX, Outbox};
-use mc_nbt::NoMemory;
 use std::alloc::Global;
 use std::marker::Model;
 

@@ -11,8 +11,8 @@ ghost use Rattle.mc_events.specs.Frames.{Retains};
 ghost use Rattle.mc_events.specs.Served.{with_player};
 
 use crate::connection::Connection;
+use mc_bytes::NoMemory;
 use mc_model::Cause;
-use mc_nbt::NoMemory;
 use mc_session::is_silent;
 
 impl Connection {

@@ -4,10 +4,10 @@
 use super::Connection;
 use super::backlog::Backlog;
 use crate::player::Player;
+use mc_bytes::Text;
 use mc_flush::Mark;
 use mc_frame::Splitter;
 use mc_model::{Cause, Notes};
-use mc_nbt::Text;
 use mc_session::Session;
 use std::alloc::Global;
 

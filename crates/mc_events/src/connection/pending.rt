@@ -6,8 +6,8 @@ ghost use Rattle.mc_session.specs.Answers.{step_of};
 ghost use Rattle.mc_events.specs.Handling.{Handles, after_request, decoded, pending_of};
 
 use crate::connection::Connection;
+use mc_bytes::{NoMemory, Text};
 use mc_model::{Cause, Stage};
-use mc_nbt::{NoMemory, Text};
 use mc_session::Step;
 use mc_up::PlayUp;
 

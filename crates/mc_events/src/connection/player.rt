@@ -1,7 +1,8 @@
 //! What a connection does with its player: what it asks for, what is noted for its client, what
 //! that sees.
 
-ghost use Rattle.std.specs.Prelude.{◌≡◌, ◌≤◌, ◌++◌, ◌∷◌, ℕ, List, [], true, false, None, OnErr, OnOk, is_some, map};
+ghost use Rattle.std.specs.Prelude.{◌≡◌, ◌≤◌, ◌++◌, ◌∷◌, ℕ, List, [], true, false, None, OnErr};
+ghost use Rattle.std.specs.Prelude.{OnOk, is_some, map};
 ghost use Rattle.mc_flush.specs.Encoding.{AreFrames};
 ghost use Rattle.mc_flush.specs.Seeing.{StandsFor, is_shown, present_parts, settled_parts};
 ghost use Rattle.mc_model.specs.Notes.{no_notes};
@@ -17,8 +18,8 @@ ghost use Rattle.mc_events.specs.Ticking.{IsPrepared, due_packets, shown_now};
 
 use crate::connection::Connection;
 use crate::scene::Scene;
+use mc_bytes::NoMemory;
 use mc_fields::Cell;
-use mc_nbt::NoMemory;
 use std::alloc::Global;
 
 impl Connection {

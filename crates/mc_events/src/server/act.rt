@@ -12,9 +12,9 @@ ghost use Rattle.mc_events.specs.Served.{kept_world, nth_session};
 use crate::server::Server;
 use crate::server::movement::move_and_turn;
 use crate::spots::spot_of;
+use mc_bytes::NoMemory;
 use mc_fields::Spot;
 use mc_model::{Cause, Wish};
-use mc_nbt::NoMemory;
 use mc_up::PlayUp;
 
 /// Why an act is not done.

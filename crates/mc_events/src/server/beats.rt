@@ -1,6 +1,7 @@
 //! Beats, and the answers to them: the beat of a tick comes before all else of it.
 
-ghost use Rattle.std.specs.Prelude.{◌≡◌, ◌≤◌, ◌<◌, ◌+◌, ◌++◌, true, Some, IfOk, OnOk, is_some, length};
+ghost use Rattle.std.specs.Prelude.{◌≡◌, ◌≤◌, ◌<◌, ◌+◌, ◌++◌, true, Some, IfOk, OnOk, is_some};
+ghost use Rattle.std.specs.Prelude.{length};
 ghost use Rattle.std.specs.Prelude.{map};
 ghost use lib.IntN.{pos};
 ghost use Rattle.mc_model.specs.Beats.{answer};
@@ -21,8 +22,8 @@ use crate::connections::eid_of;
 use crate::server::Server;
 use crate::server::act::Doer;
 use crate::server::tick::remove_all;
+use mc_bytes::NoMemory;
 use mc_model::beat_at;
-use mc_nbt::NoMemory;
 use std::alloc::Global;
 
 /// A beat comes to a connection; the number of its player is noted where that leaves.

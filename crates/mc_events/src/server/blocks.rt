@@ -7,9 +7,9 @@ ghost use Rattle.mc_model.specs.World.{state_in};
 ghost use Rattle.mc_events.specs.Served.{kept_world};
 
 use crate::server::Server;
+use mc_bytes::NoMemory;
 use mc_fields::Cell;
 use mc_land::{Land, Steps, is_inside};
-use mc_nbt::NoMemory;
 use std::marker::Brand;
 use std::sync::ledger::{Blank, Ledger};
 

@@ -9,8 +9,8 @@ ghost use Rattle.mc_events.specs.Served.{kept_world, nth_session};
 
 use crate::server::Server;
 use crate::server::act::{ActFault, Doer};
+use mc_bytes::{NoMemory, Text};
 use mc_flush::Line;
-use mc_nbt::{NoMemory, Text};
 use mc_session::chat_json;
 use std::alloc::Global;
 

@@ -18,10 +18,10 @@ use crate::reach::is_near;
 use crate::server::Server;
 use crate::server::act::{ActFault, Doer};
 use crate::spots::spot_of;
+use mc_bytes::NoMemory;
 use mc_entities::EntityKind;
 use mc_fields::{Cell, Spot};
 use mc_land::is_inside;
-use mc_nbt::NoMemory;
 use mc_slots::{Item, Pile, split};
 
 /// Whether a block of a state is dug: not air, and not bedrock.

@@ -20,9 +20,9 @@ ghost use Rattle.mc_events.specs.Stands.{Stands, age_of};
 use crate::connection::Pending;
 use crate::connections::playing;
 use crate::server::Server;
+use mc_bytes::NoMemory;
 use mc_frame::Take;
 use mc_model::Cause;
-use mc_nbt::NoMemory;
 
 impl Server {
     /// Handles bytes of a connection.

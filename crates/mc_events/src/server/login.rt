@@ -17,9 +17,9 @@ use crate::connections::playing;
 use crate::player::Player;
 use crate::server::Server;
 use crate::spots::{in_hand, pack_of};
+use mc_bytes::{NoMemory, Text};
 use mc_entities::{EntityKind, Folk};
 use mc_model::{Name, Refusal, spawn_spot};
-use mc_nbt::{NoMemory, Text};
 use mc_session::offline_uuid;
 
 /// How many names there may be that ever were in play.

@@ -14,9 +14,9 @@ ghost use Rattle.mc_events.specs.Served.{kept_world, nth_session};
 use crate::reach::at_face;
 use crate::server::Server;
 use crate::server::act::{ActFault, Doer};
+use mc_bytes::NoMemory;
 use mc_fields::Cell;
 use mc_land::is_chest;
-use mc_nbt::NoMemory;
 use mc_slots::{Item, Pile, split};
 
 /// The state that an item makes: its damage is the metadata.

@@ -12,8 +12,8 @@ ghost use Rattle.mc_events.specs.Stands.{Stands, age_of};
 use crate::connections::views_of;
 use crate::scene::{Scene, prepare};
 use crate::server::Server;
+use mc_bytes::NoMemory;
 use mc_entities::Folk;
-use mc_nbt::NoMemory;
 
 /// Takes entities out, by their numbers.
 pub(super) fn remove_all(folk: &mut Folk, eids: &[i32])

@@ -13,8 +13,8 @@ use crate::land::{Land, index_at, push_ready};
 use crate::places::{Place, height_of, is_inside, key_of, place_of, x_inside, z_inside};
 use crate::ready::Ready;
 use crate::terrain::Terrain;
+use mc_bytes::NoMemory;
 use mc_fields::Cell;
-use mc_nbt::NoMemory;
 use mc_slots::Chest;
 use std::collections::BTreeMap;
 

@@ -2,7 +2,8 @@ ghost use Rattle.std.specs.Prelude.{◌≡◌, ◌↔◌, IsTrue};
 ghost use Rattle.mc_nbt.specs.TagView.{tree_of, member_of};
 ghost use Rattle.mc_nbt.specs.Tree.{list, trees_of};
 
-use crate::{Entries, Octets, Tag, Tags};
+use crate::{Entries, Tag, Tags};
+use mc_bytes::Octets;
 
 #[cycle(comparing)]
 fn same_tag(a: &Tag, b: &Tag) -> bool

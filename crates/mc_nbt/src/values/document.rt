@@ -1,16 +1,17 @@
 ghost use Rattle.std.specs.Prelude.{◌≡◌, ◌++◌, ◌≤◌, ◌↔◌, ℕ, List, drop, length, IsTrue, IsSome};
 ghost use Rattle.std.specs.Prelude.{IfOk, IfSome, OnOk, OnErr};
-ghost use Rattle.mc_nbt.specs.Reading.{Gives};
-ghost use Rattle.mc_nbt.specs.Placed.{SpelledAt, PlacedGives, placed};
+ghost use Rattle.mc_bytes.specs.Reading.{Gives};
+ghost use Rattle.mc_bytes.specs.Placed.{SpelledAt, PlacedGives, placed};
 ghost use Rattle.mc_nbt.specs.Nbt.{Named, named, IsNbt, nbt_spelling, SpellsNbt};
 ghost use Rattle.mc_nbt.specs.NbtReading.{nbt_at};
 
+use crate::Entries;
 use crate::values::comparing::same_entries;
 use crate::values::fitting::{entries_fit, name_fits};
 use crate::values::limits::DEPTH_MAX;
 use crate::values::reading::read_parts;
 use crate::values::writing::write_parts;
-use crate::{Cursor, Entries, NoMemory, Octets, ReadError, ReadFault};
+use mc_bytes::{Cursor, NoMemory, Octets, ReadError, ReadFault};
 use std::alloc::Global;
 use std::marker::Model;
 

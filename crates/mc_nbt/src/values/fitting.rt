@@ -6,7 +6,8 @@ ghost use Rattle.mc_nbt.specs.Nbt.{Fits, TreesFit, MembersFit};
 
 use crate::values::limits::{ITEMS_MAX, KIND_MAX, NAME_MAX};
 use crate::values::writing::kind;
-use crate::{Entries, Octets, Tag, Tags};
+use crate::{Entries, Tag, Tags};
+use mc_bytes::Octets;
 
 #[cycle(fitting)]
 fn fits(tag: &Tag, room: usize) -> bool

@@ -1,9 +1,9 @@
 ghost use Rattle.std.specs.Prelude.{◌≡◌, ◌+◌, ◌-◌, ◌<◌, ◌≤◌, length, IfOk, OnOk, option_map};
 ghost use Rattle.std.specs.Int.{w8, w16, w32, w64};
-ghost use Rattle.mc_nbt.specs.Reading.{Yields, Gives};
-ghost use Rattle.mc_nbt.specs.CombineBytes.{view_read};
-ghost use Rattle.mc_nbt.specs.NumberBytes.{number_read};
-ghost use Rattle.mc_nbt.specs.Times.{times_at};
+ghost use Rattle.mc_bytes.specs.Reading.{Yields, Gives};
+ghost use Rattle.mc_bytes.specs.CombineBytes.{view_read};
+ghost use Rattle.mc_bytes.specs.NumberBytes.{number_read};
+ghost use Rattle.mc_bytes.specs.Times.{times_at};
 ghost use Rattle.mc_nbt.specs.NbtReading.{signed_at, kind_at, count_at, name_at, bytes_at, ints_at};
 ghost use Rattle.mc_nbt.specs.NbtReading.{leaf_at, list_at, named_at, member_at, members_at};
 ghost use Rattle.mc_nbt.specs.NbtReading.{compound_at, value_at, root_at, nbt_at};
@@ -13,10 +13,11 @@ ghost use Rattle.mc_nbt.specs.Tree.{byte, short, int, long, float, double, byte_
 ghost use Rattle.mc_nbt.specs.Tree.{int_array};
 
 use crate::values::limits::{COMPOUND, DEPTH_MAX, END, ITEMS_MAX, KIND_MAX};
-use crate::{Cursor, Entries, Ints, Kind, Octets, ReadError, Stop, Tag, Tags};
+use crate::{Entries, Ints, Tag, Tags};
+use mc_bytes::{Cursor, Kind, Octets, ReadError, Stop};
 use std::alloc::Global;
 
-#[tactic(auto, unfolding(crate::specs::NbtReading::kind_at, crate::specs::NumberBytes::number_read))]
+#[tactic(auto, unfolding(crate::specs::NbtReading::kind_at, mc_bytes::specs::NumberBytes::number_read))]
 fn read_kind(input: &mut Cursor<'_>) -> Result<u8, Stop>
     ensures gives { Yields (λ kind. (kind, input.new)) result (kind_at input.old) }
     ensures shorter { OnOk result (length input.new < length input.old) }
@@ -29,7 +30,7 @@ fn read_kind(input: &mut Cursor<'_>) -> Result<u8, Stop>
     Ok(kind)
 }
 
-#[tactic(auto, unfolding(crate::specs::NbtReading::count_at, crate::specs::NumberBytes::number_read))]
+#[tactic(auto, unfolding(crate::specs::NbtReading::count_at, mc_bytes::specs::NumberBytes::number_read))]
 fn read_count(input: &mut Cursor<'_>, kind: u8) -> Result<u32, Stop>
     ensures gives { Yields (λ count. (count, input.new)) result (count_at kind input.old) }
     ensures shorter { OnOk result (length input.new < length input.old) }
@@ -43,7 +44,7 @@ fn read_count(input: &mut Cursor<'_>, kind: u8) -> Result<u32, Stop>
     Ok(count)
 }
 
-#[tactic(auto, unfolding(crate::specs::NbtReading::signed_at, crate::specs::NumberBytes::number_read))]
+#[tactic(auto, unfolding(crate::specs::NbtReading::signed_at, mc_bytes::specs::NumberBytes::number_read))]
 fn read_i32(input: &mut Cursor<'_>) -> Result<i32, Stop>
     ensures gives { Yields (λ number. (number, input.new)) result (signed_at w32 input.old) }
     ensures shorter { OnOk result (length input.new < length input.old) }
@@ -52,7 +53,7 @@ fn read_i32(input: &mut Cursor<'_>) -> Result<i32, Stop>
 }
 
 /// A number of one byte.
-#[tactic(auto, unfolding(crate::specs::NbtReading::signed_at, crate::specs::NumberBytes::number_read))]
+#[tactic(auto, unfolding(crate::specs::NbtReading::signed_at, mc_bytes::specs::NumberBytes::number_read))]
 fn read_byte(input: &mut Cursor<'_>) -> Result<Tag, ReadError>
     ensures gives { Gives (λ tag. (tree_of tag, input.new)) result
         (view_read (signed_at w8) byte input.old) }
@@ -62,7 +63,7 @@ fn read_byte(input: &mut Cursor<'_>) -> Result<Tag, ReadError>
 }
 
 /// A number of two bytes.
-#[tactic(auto, unfolding(crate::specs::NbtReading::signed_at, crate::specs::NumberBytes::number_read))]
+#[tactic(auto, unfolding(crate::specs::NbtReading::signed_at, mc_bytes::specs::NumberBytes::number_read))]
 fn read_short(input: &mut Cursor<'_>) -> Result<Tag, ReadError>
     ensures gives { Gives (λ tag. (tree_of tag, input.new)) result
         (view_read (signed_at w16) short input.old) }
@@ -72,7 +73,7 @@ fn read_short(input: &mut Cursor<'_>) -> Result<Tag, ReadError>
 }
 
 /// A number of four bytes.
-#[tactic(auto, unfolding(crate::specs::NbtReading::signed_at, crate::specs::NumberBytes::number_read))]
+#[tactic(auto, unfolding(crate::specs::NbtReading::signed_at, mc_bytes::specs::NumberBytes::number_read))]
 fn read_int(input: &mut Cursor<'_>) -> Result<Tag, ReadError>
     ensures gives { Gives (λ tag. (tree_of tag, input.new)) result
         (view_read (signed_at w32) int input.old) }
@@ -82,7 +83,7 @@ fn read_int(input: &mut Cursor<'_>) -> Result<Tag, ReadError>
 }
 
 /// A number of eight bytes.
-#[tactic(auto, unfolding(crate::specs::NbtReading::signed_at, crate::specs::NumberBytes::number_read))]
+#[tactic(auto, unfolding(crate::specs::NbtReading::signed_at, mc_bytes::specs::NumberBytes::number_read))]
 fn read_long(input: &mut Cursor<'_>) -> Result<Tag, ReadError>
     ensures gives { Gives (λ tag. (tree_of tag, input.new)) result
         (view_read (signed_at w64) long input.old) }
@@ -92,7 +93,7 @@ fn read_long(input: &mut Cursor<'_>) -> Result<Tag, ReadError>
 }
 
 /// The pattern of a binary32 number.
-#[tactic(auto, unfolding(crate::specs::NumberBytes::number_read))]
+#[tactic(auto, unfolding(mc_bytes::specs::NumberBytes::number_read))]
 fn read_float(input: &mut Cursor<'_>) -> Result<Tag, ReadError>
     ensures gives { Gives (λ tag. (tree_of tag, input.new)) result
         (view_read (number_read w32) float input.old) }
@@ -102,7 +103,7 @@ fn read_float(input: &mut Cursor<'_>) -> Result<Tag, ReadError>
 }
 
 /// The pattern of a binary64 number.
-#[tactic(auto, unfolding(crate::specs::NumberBytes::number_read))]
+#[tactic(auto, unfolding(mc_bytes::specs::NumberBytes::number_read))]
 fn read_double(input: &mut Cursor<'_>) -> Result<Tag, ReadError>
     ensures gives { Gives (λ tag. (tree_of tag, input.new)) result
         (view_read (number_read w64) double input.old) }
@@ -111,7 +112,7 @@ fn read_double(input: &mut Cursor<'_>) -> Result<Tag, ReadError>
     Ok(Tag::Double(input.u64()?))
 }
 
-#[tactic(auto, unfolding(crate::specs::NbtReading::name_at, crate::specs::NbtReading::run_at, crate::specs::NumberBytes::number_read, crate::specs::NumberBytes::octets_read))]
+#[tactic(auto, unfolding(crate::specs::NbtReading::name_at, crate::specs::NbtReading::run_at, mc_bytes::specs::NumberBytes::number_read, mc_bytes::specs::NumberBytes::octets_read))]
 fn read_name(alloc: Global, input: &mut Cursor<'_>) -> Result<Octets, ReadError>
     ensures gives { Gives (λ name. (name, input.new)) result (name_at input.old) }
     ensures shorter { OnOk result (length input.new < length input.old) }
@@ -124,7 +125,7 @@ fn read_name(alloc: Global, input: &mut Cursor<'_>) -> Result<Octets, ReadError>
     Ok(Octets::from_slice(alloc, bytes)?)
 }
 
-#[tactic(auto, unfolding(crate::specs::NbtReading::bytes_at, crate::specs::NbtReading::run_at, crate::specs::NumberBytes::octets_read))]
+#[tactic(auto, unfolding(crate::specs::NbtReading::bytes_at, crate::specs::NbtReading::run_at, mc_bytes::specs::NumberBytes::octets_read))]
 fn read_bytes(alloc: Global, input: &mut Cursor<'_>) -> Result<Octets, ReadError>
     ensures gives { Gives (λ bytes. (bytes, input.new)) result (bytes_at input.old) }
     ensures shorter { OnOk result (length input.new < length input.old) }
@@ -155,7 +156,7 @@ fn read_str(alloc: Global, input: &mut Cursor<'_>) -> Result<Tag, ReadError>
     Ok(Tag::Str(read_name(alloc, input)?))
 }
 
-#[tactic(auto, using(crate::proofs::Loops::times_next, crate::proofs::Loops::times_halt, crate::proofs::Loops::times_done, crate::proofs::Loops::times_first))]
+#[tactic(auto, using(mc_bytes::proofs::Loops::times_next, mc_bytes::proofs::Loops::times_halt, mc_bytes::proofs::Loops::times_done, mc_bytes::proofs::Loops::times_first))]
 fn read_ints(alloc: Global, input: &mut Cursor<'_>, count: u32) -> Result<Ints, ReadError>
     ensures gives { Gives (λ ints. (ints, input.new)) result (times_at (signed_at w32) count
         input.old) }
@@ -240,7 +241,7 @@ fn read_list(alloc: Global, input: &mut Cursor<'_>, room: usize) -> Result<Tag, 
 }
 
 #[cycle(reading)]
-#[tactic(auto, using(crate::proofs::Loops::times_next, crate::proofs::Loops::times_stop, crate::proofs::Loops::times_done, crate::proofs::Loops::times_first))]
+#[tactic(auto, using(mc_bytes::proofs::Loops::times_next, mc_bytes::proofs::Loops::times_stop, mc_bytes::proofs::Loops::times_done, mc_bytes::proofs::Loops::times_first))]
 fn read_items(
     alloc: Global,
     input: &mut Cursor<'_>,
@@ -262,7 +263,7 @@ fn read_items(
 /// The entries of a compound and the byte of its end, where `room` more lists and compounds may be
 /// open in them.
 #[cycle(reading)]
-#[tactic(auto, using(crate::proofs::Loops::until_next, crate::proofs::Loops::until_stop, crate::proofs::Loops::until_done, crate::proofs::Loops::until_begins), unfolding(crate::specs::NbtReading::members_at))]
+#[tactic(auto, using(mc_bytes::proofs::Loops::until_next, mc_bytes::proofs::Loops::until_stop, mc_bytes::proofs::Loops::until_done, mc_bytes::proofs::Loops::until_begins), unfolding(crate::specs::NbtReading::members_at))]
 pub fn read_entries(
     alloc: Global,
     input: &mut Cursor<'_>,
@@ -317,7 +318,7 @@ fn read_named(
 }
 
 /// The byte of a compound. `BadTag` at another one.
-#[tactic(auto, unfolding(crate::specs::NbtReading::root_at, crate::specs::NumberBytes::number_read))]
+#[tactic(auto, unfolding(crate::specs::NbtReading::root_at, mc_bytes::specs::NumberBytes::number_read))]
 fn read_root(input: &mut Cursor<'_>) -> Result<u8, Stop>
     ensures gives { Yields (λ kind. (kind, input.new)) result (root_at input.old) }
     ensures shorter { OnOk result (length input.new < length input.old) }

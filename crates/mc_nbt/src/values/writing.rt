@@ -1,13 +1,14 @@
 ghost use Rattle.std.specs.Prelude.{◌≡◌, ◌++◌, ◌<◌, ◌^◌, take, length, OnOk, OnErr};
 ghost use Rattle.std.specs.Int.{w8, w16, w32, w64};
-ghost use Rattle.mc_nbt.specs.NumberBytes.{number_spelling};
+ghost use Rattle.mc_bytes.specs.NumberBytes.{number_spelling};
 ghost use Rattle.mc_nbt.specs.Tree.{Tree, list, compound, kind_of, trees_of, members_of};
 ghost use Rattle.mc_nbt.specs.TagView.{tree_of};
 ghost use Rattle.mc_nbt.specs.Nbt.{signed_spelling, run_spelling, ints_spelling, payload, Fits};
 ghost use Rattle.mc_nbt.specs.Nbt.{named, nbt_spelling};
 
 use crate::values::limits::{COMPOUND, END};
-use crate::{Entries, NoMemory, Octets, Tag, Tags, write_u8, write_u16, write_u32, write_u64};
+use crate::{Entries, Tag, Tags};
+use mc_bytes::{NoMemory, Octets, write_u8, write_u16, write_u32, write_u64};
 
 fn write_i32(number: i32, out: &mut Vec<u8>) -> Result<(), NoMemory>
     ensures ok { OnOk result (out.new.items ≡ out.old.items ++ signed_spelling w32 number) }
@@ -18,7 +19,7 @@ fn write_i32(number: i32, out: &mut Vec<u8>) -> Result<(), NoMemory>
 }
 
 /// A name or a text: its length in two bytes, and its bytes.
-#[tactic(auto, using(crate::proofs::Kept::kept_before))]
+#[tactic(auto, using(mc_bytes::proofs::Kept::kept_before))]
 pub fn write_name(name: &Octets, out: &mut Vec<u8>) -> Result<(), NoMemory>
     requires { length name.now < 2 ^ 16 }
     ensures ok { OnOk result (out.new.items ≡ out.old.items ++ run_spelling w16 name.now) }
@@ -31,7 +32,7 @@ pub fn write_name(name: &Octets, out: &mut Vec<u8>) -> Result<(), NoMemory>
 }
 
 /// Bytes: their number in four bytes, and they.
-#[tactic(auto, using(crate::proofs::Kept::kept_before))]
+#[tactic(auto, using(mc_bytes::proofs::Kept::kept_before))]
 fn write_bytes(octets: &Octets, out: &mut Vec<u8>) -> Result<(), NoMemory>
     requires { length octets.now < 2 ^ 31 }
     ensures ok { OnOk result (out.new.items ≡ out.old.items ++ run_spelling w32 octets.now) }
@@ -43,7 +44,7 @@ fn write_bytes(octets: &Octets, out: &mut Vec<u8>) -> Result<(), NoMemory>
     Ok(())
 }
 
-#[tactic(auto, using(crate::proofs::Kept::kept_before))]
+#[tactic(auto, using(mc_bytes::proofs::Kept::kept_before))]
 fn write_int_array(numbers: &[i32], out: &mut Vec<u8>) -> Result<(), NoMemory>
     requires { length numbers.now < 2 ^ 31 }
     ensures ok { OnOk result (out.new.items ≡ out.old.items ++
@@ -77,7 +78,7 @@ pub fn kind(tag: &Tag) -> u8
 }
 
 #[cycle(writing)]
-#[tactic(auto, using(crate::proofs::Kept::kept_whole, crate::proofs::Kept::kept_same))]
+#[tactic(auto, using(mc_bytes::proofs::Kept::kept_whole, mc_bytes::proofs::Kept::kept_same))]
 fn write_value(tag: &Tag, out: &mut Vec<u8>) -> Result<(), NoMemory>
     requires { Fits (tree_of tag.now) }
     ensures ok { OnOk result (out.new.items ≡ out.old.items ++ payload (tree_of tag.now)) }
@@ -99,7 +100,7 @@ fn write_value(tag: &Tag, out: &mut Vec<u8>) -> Result<(), NoMemory>
 }
 
 #[cycle(writing)]
-#[tactic(auto, using(crate::proofs::Kept::kept_before))]
+#[tactic(auto, using(mc_bytes::proofs::Kept::kept_before))]
 fn write_list(kind: u8, tags: &Tags, out: &mut Vec<u8>) -> Result<(), NoMemory>
     requires { Fits (list kind (trees_of tags.now)) }
     ensures ok { OnOk result (out.new.items ≡ out.old.items ++
@@ -117,7 +118,7 @@ fn write_list(kind: u8, tags: &Tags, out: &mut Vec<u8>) -> Result<(), NoMemory>
 
 /// The entries of a compound, and the byte of its end.
 #[cycle(writing)]
-#[tactic(auto, using(crate::proofs::Kept::kept_before))]
+#[tactic(auto, using(mc_bytes::proofs::Kept::kept_before))]
 pub fn write_entries(entries: &Entries, out: &mut Vec<u8>) -> Result<(), NoMemory>
     requires { Fits (compound (members_of entries.now)) }
     ensures ok { OnOk result (out.new.items ≡ out.old.items ++
@@ -132,7 +133,7 @@ pub fn write_entries(entries: &Entries, out: &mut Vec<u8>) -> Result<(), NoMemor
 }
 
 #[cycle(writing)]
-#[tactic(auto, using(crate::proofs::Kept::kept_before))]
+#[tactic(auto, using(mc_bytes::proofs::Kept::kept_before))]
 fn write_entry(name: &Octets, tag: &Tag, out: &mut Vec<u8>) -> Result<(), NoMemory>
     requires name { length name.now < 2 ^ 16 }
     requires value { Fits (tree_of tag.now) }
@@ -148,7 +149,7 @@ fn write_entry(name: &Octets, tag: &Tag, out: &mut Vec<u8>) -> Result<(), NoMemo
 }
 
 /// The byte of a compound, its name and its entries.
-#[tactic(auto, using(crate::proofs::Kept::kept_before))]
+#[tactic(auto, using(mc_bytes::proofs::Kept::kept_before))]
 pub fn write_parts(name: &Octets, entries: &Entries, out: &mut Vec<u8>) -> Result<(), NoMemory>
     requires name { length name.now < 2 ^ 16 }
     requires entries { Fits (compound (members_of entries.now)) }

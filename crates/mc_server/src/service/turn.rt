@@ -10,8 +10,8 @@ ghost use Rattle.mc_events.specs.Stands.{Stands, age_of};
 ghost use Rattle.mc_server.specs.TurnParts.{HasClosed, HasSent, HasSentAll, HasTurned, IsInputOf};
 ghost use Rattle.mc_server.specs.TurnParts.{closing_of, numbers_in};
 
+use mc_bytes::NoMemory;
 use mc_events::{Input, Server, is_ours};
-use mc_nbt::NoMemory;
 use mc_wire::{Lobby, Wrote};
 
 /// The most bytes of one write.

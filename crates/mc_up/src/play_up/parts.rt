@@ -1,11 +1,11 @@
 //! The parts of packets that are there only where the part before them says so.
-#![tactic(auto, using(mc_nbt::proofs::Kept::kept_whole, mc_nbt::proofs::Kept::kept_same, mc_nbt::proofs::Kept::kept_by, mc_nbt::proofs::Kept::kept_past))]
+#![tactic(auto, using(mc_bytes::proofs::Kept::kept_whole, mc_bytes::proofs::Kept::kept_same, mc_bytes::proofs::Kept::kept_by, mc_bytes::proofs::Kept::kept_past))]
 
 ghost use Rattle.std.specs.Prelude.{◌≡◌};
 ghost use Rattle.mc_up.specs.PlayUp.{has_hit, hit, used, looked};
 
+use mc_bytes::{Cursor, NoMemory, ReadError, write_u32};
 use mc_fields::{Cell, Field, take_bool, take_varint, write_bool, write_varint};
-use mc_nbt::{Cursor, NoMemory, ReadError, write_u32};
 use std::alloc::Global;
 use std::marker::Model;
 

@@ -1,13 +1,13 @@
 //! The fields of each packet of a client that plays, read by its id: one arm a packet.
 
-ghost use Rattle.mc_nbt.specs.Reading.{Gives};
+ghost use Rattle.mc_bytes.specs.Reading.{Gives};
 ghost use Rattle.mc_fields.specs.Row.{GivesRow, fields_read, id_read};
 ghost use Rattle.mc_up.specs.PlayUp.{plugin, rows, rows_08, rows_10, rows_18};
 
 use crate::PlayUp;
 use crate::play_up::parts::{Looked, Used};
+use mc_bytes::{Cursor, Octets, ReadError, Text};
 use mc_fields::{Bounded, Cell, Field, RowError, RowFault, VarInt};
-use mc_nbt::{Cursor, Octets, ReadError, Text};
 use mc_slots::Slot;
 use std::alloc::Global;
 

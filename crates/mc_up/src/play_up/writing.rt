@@ -1,16 +1,16 @@
 //! The id and the fields of each packet of a client that plays, written: one arm a packet.
-#![tactic(auto, using(mc_nbt::proofs::Kept::kept_whole, mc_nbt::proofs::Kept::kept_same, mc_nbt::proofs::Kept::kept_by, mc_nbt::proofs::Kept::kept_past))]
+#![tactic(auto, using(mc_bytes::proofs::Kept::kept_whole, mc_bytes::proofs::Kept::kept_same, mc_bytes::proofs::Kept::kept_by, mc_bytes::proofs::Kept::kept_past))]
 
 ghost use Rattle.std.specs.Prelude.{◌≡◌, OnOk, OnErr, take, length};
-ghost use Rattle.mc_nbt.specs.Format.{Anything};
+ghost use Rattle.mc_bytes.specs.Format.{Anything};
 ghost use Rattle.mc_fields.specs.Row.{row_append};
 ghost use Rattle.mc_fields.specs.TextFormat.{string};
 ghost use Rattle.mc_up.specs.PlayUp.{FitsPlayUp, append_of, plugin};
 
 use crate::PlayUp;
 use crate::play_up::parts::{Looked, Used};
+use mc_bytes::{NoMemory, Octets, Text, write_octets};
 use mc_fields::{VarInt, put_row, put_row2, put_row3, put_row4, put_row5, put_row6, write_varint};
-use mc_nbt::{NoMemory, Octets, Text, write_octets};
 
 /// A message of a plugin, whose bytes go to the end of the frame.
 fn put_plugin(channel: &Text, bytes: &Octets, out: &mut Vec<u8>) -> Result<(), NoMemory>

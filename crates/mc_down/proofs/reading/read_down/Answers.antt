@@ -1,7 +1,7 @@
 use Rattle.std.proofs.Common.{rules}
 use Rattle.mc_fields.specs.RowLaws.{packet_found, packet_only, spelled_one}
-use Rattle.mc_down.specs.Down.{rows, SpellsDown}
-use Rattle.mc_down.proofs.DownLaws.{tied, seen, entry}
+use Rattle.mc_packets.specs.Down.{rows, SpellsDown}
+use Rattle.mc_packets.proofs.DownLaws.{tied, seen, entry}
 use Rattle.mc_down.proofs.reading.read_down.Goals as goal
 
 pub returns-clause-found : goal.returns-clause-found

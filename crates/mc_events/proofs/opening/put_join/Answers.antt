@@ -2,11 +2,11 @@ use Rattle.std.proofs.Common.{ℕ, List, false, sym, subst}
 use Rattle.std.specs.Int.{w32}
 use Rattle.std.proofs.lemmas.Int.{to_z_pos}
 use lib.IntN.{ℤ, pos}
-use Rattle.mc_down.specs.declared.down.Down.TheVariants.{JoinGame}
+use Rattle.mc_packets.specs.declared.down.Down.TheVariants.{JoinGame}
 use Rattle.mc_model.specs.Step.{level}
 use Rattle.mc_model.proofs.FitsDue.{level_short}
 use Rattle.mc_model.proofs.FitsPlay.{join_clear}
-use Rattle.mc_told.specs.Sending.{IsClear}
+use Rattle.mc_sending.specs.Sending.{IsClear}
 use Rattle.mc_events.proofs.opening.put_join.Goals as goal
 
 pub put_made-requires : goal.put_made-requires

@@ -1,6 +1,6 @@
 use Rattle.std.proofs.Common.{rules}
 use Rattle.mc_land.specs.Places.{IsPlace}
-use Rattle.mc_told.proofs.Pieces.{next_holds}
+use Rattle.mc_sending.proofs.Pieces.{next_holds}
 use Rattle.mc_events.proofs.scene.prepare_changes.Goals as goal
 
 pub loop-place-init : goal.loop-place-init

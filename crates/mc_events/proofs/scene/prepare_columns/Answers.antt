@@ -2,7 +2,7 @@ use Rattle.std.proofs.Common.{◌≡◌, [], rules, subst}
 use Rattle.std.specs.List.{AllByRecursion}
 use Rattle.mc_loads.specs.Columns.{IsReady}
 use Rattle.mc_land.specs.Places.{IsPlace}
-use Rattle.mc_told.proofs.Pieces.{next_holds}
+use Rattle.mc_sending.proofs.Pieces.{next_holds}
 use Rattle.mc_events.proofs.ReadyFacts.{readying_next, readying_done, same_itself, same_onward}
 use Rattle.mc_events.proofs.scene.prepare_columns.Goals as goal
 

@@ -1,5 +1,5 @@
 use Rattle.std.specs.Int.{w16}
-use Rattle.mc_nbt.specs.NumberLaws.{wide_16}
+use Rattle.mc_bytes.specs.NumberLaws.{wide_16}
 use Rattle.mc_fields.specs.IntegerLaws.{signed_reads}
 use Rattle.mc_fields.proofs.integers.read_i16.Goals as goal
 

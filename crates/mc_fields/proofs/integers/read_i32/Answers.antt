@@ -1,5 +1,5 @@
 use Rattle.std.specs.Int.{w32}
-use Rattle.mc_nbt.specs.NumberLaws.{wide_32}
+use Rattle.mc_bytes.specs.NumberLaws.{wide_32}
 use Rattle.mc_fields.specs.IntegerLaws.{signed_reads}
 use Rattle.mc_fields.proofs.integers.read_i32.Goals as goal
 

@@ -1,5 +1,5 @@
 use Rattle.std.specs.Int.{w64}
-use Rattle.mc_nbt.specs.NumberLaws.{wide_64}
+use Rattle.mc_bytes.specs.NumberLaws.{wide_64}
 use Rattle.mc_fields.specs.IntegerLaws.{signed_reads}
 use Rattle.mc_fields.proofs.integers.read_i64.Goals as goal
 

@@ -1,5 +1,5 @@
 use Rattle.std.specs.Int.{w128}
-use Rattle.mc_nbt.specs.SixteenLaws.{wide_128}
+use Rattle.mc_bytes.specs.SixteenLaws.{wide_128}
 use Rattle.mc_fields.specs.IntegerLaws.{number_reads}
 use Rattle.mc_fields.proofs.integers.read_u128.Goals as goal
 

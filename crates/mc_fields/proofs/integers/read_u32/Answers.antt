@@ -1,5 +1,5 @@
 use Rattle.std.specs.Int.{w32}
-use Rattle.mc_nbt.specs.NumberLaws.{wide_32}
+use Rattle.mc_bytes.specs.NumberLaws.{wide_32}
 use Rattle.mc_fields.specs.IntegerLaws.{number_reads}
 use Rattle.mc_fields.proofs.integers.read_u32.Goals as goal
 

@@ -1,5 +1,5 @@
 use Rattle.std.specs.Int.{w8}
-use Rattle.mc_nbt.specs.NumberLaws.{wide_8}
+use Rattle.mc_bytes.specs.NumberLaws.{wide_8}
 use Rattle.mc_fields.specs.IntegerLaws.{number_reads}
 use Rattle.mc_fields.proofs.integers.read_u8.Goals as goal
 

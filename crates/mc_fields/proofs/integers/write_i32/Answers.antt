@@ -1,5 +1,5 @@
 use Rattle.std.specs.Int.{w32}
-use Rattle.mc_nbt.specs.NumberLaws.{wide_32}
+use Rattle.mc_bytes.specs.NumberLaws.{wide_32}
 use Rattle.mc_fields.proofs.Again.{signed_spelled, signed_again}
 use Rattle.mc_fields.proofs.integers.write_i32.Goals as goal
 

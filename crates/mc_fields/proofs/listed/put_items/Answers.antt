@@ -1,5 +1,5 @@
 use Rattle.std.proofs.Common.{rules}
-use Rattle.mc_nbt.proofs.Appends.{writing_next, writing_done}
+use Rattle.mc_bytes.proofs.Appends.{writing_next, writing_done}
 use Rattle.mc_fields.proofs.listed.put_items.Goals as goal
 
 pub loop-item-preserved : goal.loop-item-preserved

@@ -1,5 +1,5 @@
 use Rattle.std.proofs.Common.{drop}
-use Rattle.mc_nbt.proofs.Appends.{IsWriting}
+use Rattle.mc_bytes.proofs.Appends.{IsWriting}
 use Rattle.mc_fields.proofs.listed.put_items.Given as goal
 
 abbrev pub invariant-loop-item : goal.invariant-loop-item

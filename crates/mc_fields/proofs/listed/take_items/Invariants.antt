@@ -1,6 +1,6 @@
 use Rattle.std.proofs.Common.{◌≡◌, ◌-◌}
-use Rattle.mc_nbt.specs.Times.{times_at}
-use Rattle.mc_nbt.proofs.Loops.{with_front}
+use Rattle.mc_bytes.specs.Times.{times_at}
+use Rattle.mc_bytes.proofs.Loops.{with_front}
 use Rattle.mc_fields.proofs.listed.take_items.Given as goal
 
 abbrev pub invariant-loop : goal.invariant-loop

@@ -1,6 +1,6 @@
-use Rattle.mc_nbt.specs.Format.{Anything}
-use Rattle.mc_nbt.specs.PlacedLaws.{PlacedGives-found, PlacedGives-only}
-use Rattle.mc_nbt.specs.PlacedOne.{placed_one}
+use Rattle.mc_bytes.specs.Format.{Anything}
+use Rattle.mc_bytes.specs.PlacedLaws.{PlacedGives-found, PlacedGives-only}
+use Rattle.mc_bytes.specs.PlacedOne.{placed_one}
 use Rattle.mc_fields.specs.Text.{SpellsText, text_read}
 use Rattle.mc_fields.specs.TextLaws.{text_found, text_only}
 use Rattle.mc_fields.proofs.text.read_text.Goals as goal

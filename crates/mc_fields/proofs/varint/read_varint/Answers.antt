@@ -1,7 +1,7 @@
 use Rattle.std.proofs.Common.{◌≡◌, ap, ◌∙◌, drop}
-use Rattle.mc_nbt.specs.Format.{Anything}
-use Rattle.mc_nbt.specs.Placed.{placed}
-use Rattle.mc_nbt.specs.PlacedLaws.{placed-Yields, found_at, placed_only}
+use Rattle.mc_bytes.specs.Format.{Anything}
+use Rattle.mc_bytes.specs.Placed.{placed}
+use Rattle.mc_bytes.specs.PlacedLaws.{placed-Yields, found_at, placed_only}
 use Rattle.mc_fields.specs.Varint.{SpellsVarint, varint_read}
 use Rattle.mc_fields.specs.VarintLaws.{varint_found, varint_only}
 use Rattle.mc_fields.proofs.VarintFaults.{long_at, short_at, faults_at}

@@ -2,7 +2,7 @@ use Rattle.std.proofs.Common.{◌≡◌, ◌+◌, ◌++◌, drop}
 use Rattle.mc_view.specs.Sets.{has}
 use Rattle.mc_model.specs.Step.{noted_packets}
 use Rattle.mc_flush.specs.Encoding.{noted_cost}
-use Rattle.mc_told.specs.Sending.{play_bytes}
+use Rattle.mc_sending.specs.Sending.{play_bytes}
 use Rattle.mc_flush.proofs.noted.noted_piece.Given as goal
 
 -- what was sent and what is left make all, and so do the looks

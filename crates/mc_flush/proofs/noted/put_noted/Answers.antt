@@ -2,10 +2,10 @@ use Rattle.std.proofs.Common.{◌≡◌, arith, sym, subst}
 use Rattle.std.specs.Int.{w32}
 use lib.IntN.{ℤ, pos}
 use mir.Val.{to_z, of_z}
-use Rattle.mc_down.specs.declared.down.Down.TheVariants.{Change}
+use Rattle.mc_packets.specs.declared.down.Down.TheVariants.{Change}
 use Rattle.mc_model.specs.Things.{state_of_cell}
 use Rattle.mc_model.proofs.FitsNotes.{noted_packet_clear}
-use Rattle.mc_told.specs.Sending.{IsClear}
+use Rattle.mc_sending.specs.Sending.{IsClear}
 use Rattle.mc_loads.proofs.Touched.{number_state}
 use Rattle.mc_flush.proofs.noted.put_noted.Goals as goal
 

@@ -1,6 +1,6 @@
 use Rattle.std.proofs.Common.{arith, rules, sym, subst}
 use Rattle.mc_model.proofs.PatternFacts.{degrees_one}
-use Rattle.mc_told.specs.Sending.{IsClear}
+use Rattle.mc_sending.specs.Sending.{IsClear}
 use Rattle.mc_flush.proofs.Placings.{IsHeld, pattern_at, placing_is, placing_clear}
 use Rattle.mc_flush.proofs.notes.placing_packet.Goals as goal
 

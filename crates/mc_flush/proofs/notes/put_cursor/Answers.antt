@@ -3,9 +3,9 @@ use lib.IntN.{negsuc}
 use Rattle.mc_slots.specs.declared.slot.Slot.{Slot}
 use Rattle.mc_slots.specs.Pile.{slot_of}
 use Rattle.mc_windows.specs.Pack.{IsPack, PackValue}
-use Rattle.mc_down.specs.declared.down.Down.TheVariants.{SetSlot}
+use Rattle.mc_packets.specs.declared.down.Down.TheVariants.{SetSlot}
 use Rattle.mc_model.proofs.FitsSlots.{set_slot_clear}
-use Rattle.mc_told.specs.Sending.{IsClear}
+use Rattle.mc_sending.specs.Sending.{IsClear}
 use Rattle.mc_flush.proofs.notes.put_cursor.Goals as goal
 
 pub put_made-requires : goal.put_made-requires

@@ -4,12 +4,12 @@ use Rattle.mc_slots.specs.declared.slot.Slot.{Slot}
 use Rattle.mc_slots.specs.declared.slot.Slot.TheVariants as slots
 use Rattle.mc_slots.specs.Pile.{slot_of}
 use Rattle.mc_windows.specs.Pack.{IsPack, PackValue}
-use Rattle.mc_down.specs.declared.down.Down.TheVariants.{WindowItems}
-use Rattle.mc_down.proofs.Begun.{ok_as}
+use Rattle.mc_packets.specs.declared.down.Down.TheVariants.{WindowItems}
+use Rattle.mc_packets.proofs.Begun.{ok_as}
 use Rattle.mc_model.specs.Packets.{frame_of, of_play}
 use Rattle.mc_model.proofs.FitsSlots.{window_clear}
-use Rattle.mc_told.specs.Sending.{IsClear}
-use Rattle.mc_told.proofs.Pieces.{play_bytes-one}
+use Rattle.mc_sending.specs.Sending.{IsClear}
+use Rattle.mc_sending.proofs.Pieces.{play_bytes-one}
 use Rattle.mc_flush.proofs.notes.put_window.Goals as goal
 
 pub put_made-requires : goal.put_made-requires

@@ -4,9 +4,9 @@ use Rattle.std.proofs.lemmas.Int.{to_z_pos}
 use lib.IntN.{pos}
 use mir.Val.{to_z}
 use Rattle.mc_slots.specs.Pile.{slot_of}
-use Rattle.mc_down.specs.declared.down.Down.TheVariants.{SetSlot}
+use Rattle.mc_packets.specs.declared.down.Down.TheVariants.{SetSlot}
 use Rattle.mc_model.proofs.FitsSlots.{set_slot_clear}
-use Rattle.mc_told.specs.Sending.{IsClear}
+use Rattle.mc_sending.specs.Sending.{IsClear}
 use Rattle.mc_flush.proofs.slots.put_slot.Goals as goal
 
 pub put_made-requires : goal.put_made-requires

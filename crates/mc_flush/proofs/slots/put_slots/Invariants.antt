@@ -1,7 +1,7 @@
 use Rattle.std.proofs.Common.{◌≡◌, ◌+◌, ◌++◌, drop, map}
 use Rattle.mc_slots.specs.Pile.{slot_of}
 use Rattle.mc_model.specs.Delta.{slot_packets}
-use Rattle.mc_told.specs.Sending.{play_bytes}
+use Rattle.mc_sending.specs.Sending.{play_bytes}
 use Rattle.mc_flush.specs.Seeing.{pack_packets}
 use Rattle.mc_flush.proofs.slots.put_slots.Given as goal
 

@@ -3,14 +3,14 @@ use Rattle.std.specs.Prelude.{slice_index}
 use Rattle.std.specs.Int.{w32}
 use lib.IntN.{pos}
 use mir.Val.{to_z, of_z}
-use Rattle.mc_down.specs.declared.down.Down.{Down}
-use Rattle.mc_down.specs.declared.down.Down.TheVariants.{Change}
+use Rattle.mc_packets.specs.declared.down.Down.{Down}
+use Rattle.mc_packets.specs.declared.down.Down.TheVariants.{Change}
 use Rattle.mc_model.specs.Delta.{cell_at}
-use Rattle.mc_down.proofs.Begun.{ok_as}
+use Rattle.mc_packets.proofs.Begun.{ok_as}
 use Rattle.mc_model.specs.Packets.{frame_of, of_play}
 use Rattle.mc_loads.specs.Cells.{states_at}
-use Rattle.mc_told.specs.Sending.{IsClear}
-use Rattle.mc_told.proofs.Pieces.{play_bytes-one}
+use Rattle.mc_sending.specs.Sending.{IsClear}
+use Rattle.mc_sending.proofs.Pieces.{play_bytes-one}
 use Rattle.mc_loads.proofs.Touched.{number_state, touched_clear}
 use Rattle.mc_loads.proofs.cells.put_change.Goals as goal
 

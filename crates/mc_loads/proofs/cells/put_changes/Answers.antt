@@ -3,14 +3,14 @@ use Rattle.std.specs.Int.{w32}
 use Rattle.std.proofs.lemmas.Int.{to_z-of_z}
 use Rattle.std.proofs.lemmas.List.{length-map}
 use Rattle.mc_land.specs.declared.ready.Touched.{Touched}
-use Rattle.mc_down.specs.declared.down.Down.{Down}
-use Rattle.mc_down.specs.declared.down.Down.TheVariants.{MultiChange}
+use Rattle.mc_packets.specs.declared.down.Down.{Down}
+use Rattle.mc_packets.specs.declared.down.Down.TheVariants.{MultiChange}
 use Rattle.mc_model.specs.Delta.{cell_record}
-use Rattle.mc_down.proofs.Begun.{ok_as}
+use Rattle.mc_packets.proofs.Begun.{ok_as}
 use Rattle.mc_model.specs.Packets.{frame_of, of_play}
 use Rattle.mc_loads.specs.Cells.{indices, states_at}
-use Rattle.mc_told.specs.Sending.{AreClear, IsClear, play_bytes}
-use Rattle.mc_told.proofs.Pieces.{play_bytes-one}
+use Rattle.mc_sending.specs.Sending.{AreClear, IsClear, play_bytes}
+use Rattle.mc_sending.proofs.Pieces.{play_bytes-one}
 use Rattle.mc_loads.proofs.Touched.{several_packets, touched_clear}
 use Rattle.mc_loads.proofs.cells.put_changes.Goals as goal
 

@@ -1,7 +1,7 @@
 use Rattle.std.proofs.Common.{◌+◌, ◌++◌, List, drop, map, arith, ap, sym, subst, ◌∙◌, length, refl}
 use Rattle.std.proofs.lemmas.List.{append-nil, drop_all, drop_more}
 use Rattle.mc_land.specs.declared.ready.Touched.{Touched}
-use Rattle.mc_down.specs.declared.record.Record.{Record}
+use Rattle.mc_packets.specs.declared.record.Record.{Record}
 use Rattle.mc_model.specs.Delta.{cell_record}
 use Rattle.mc_loads.specs.Cells.{AreCells, indices, states_at}
 use Rattle.mc_loads.proofs.Touched.{record_next}

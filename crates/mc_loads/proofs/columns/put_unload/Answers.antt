@@ -1,5 +1,5 @@
 use Rattle.std.proofs.Common.{sym, subst}
-use Rattle.mc_told.specs.Sending.{IsClear}
+use Rattle.mc_sending.specs.Sending.{IsClear}
 use Rattle.mc_loads.proofs.Loads.{unload_fits}
 use Rattle.mc_loads.proofs.columns.put_unload.Goals as goal
 

@@ -2,7 +2,7 @@ use Rattle.std.proofs.Common.{rules, subst}
 use Rattle.mc_flush.specs.Encoding.{AreFrames}
 use Rattle.mc_flush.specs.Lists.{ListValue}
 use Rattle.mc_loads.specs.Columns.{IsReady}
-use Rattle.mc_told.proofs.Pieces.{next_holds}
+use Rattle.mc_sending.proofs.Pieces.{next_holds}
 use Rattle.mc_scenes.proofs.flushes.encode.Goals as goal
 
 pub returns-then-not-scene : goal.returns-then-not-scene

@@ -2,7 +2,7 @@ use Rattle.std.proofs.Common.{rules, ◌≡◌, sym, subst, ◌∙◌}
 use Rattle.std.specs.List.{AllByRecursion}
 use Rattle.mc_land.specs.Places.{IsPlace}
 use Rattle.mc_view.specs.Sets.{all_of}
-use Rattle.mc_told.proofs.Pieces.{next_holds}
+use Rattle.mc_sending.proofs.Pieces.{next_holds}
 use Rattle.mc_loads.proofs.Places.{view_places}
 use Rattle.mc_scenes.proofs.Tried.{IsThere, tried_next, all_ready}
 use Rattle.mc_scenes.proofs.flushes.is_ready.Goals as goal

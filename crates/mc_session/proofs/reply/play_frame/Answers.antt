@@ -1,5 +1,5 @@
-use Rattle.mc_down.specs.Down.{spelling_of}
-use Rattle.mc_down.proofs.DownLaws.{spelled}
+use Rattle.mc_packets.specs.Down.{spelling_of}
+use Rattle.mc_packets.proofs.DownLaws.{spelled}
 use Rattle.mc_session.proofs.reply.play_frame.Goals as goal
 
 pub write_down-requires : goal.write_down-requires

@@ -1,6 +1,6 @@
-use Rattle.mc_nbt.specs.Format.{Anything}
-use Rattle.mc_nbt.specs.PlacedLaws.{PlacedGives-found, PlacedGives-only}
-use Rattle.mc_nbt.specs.PlacedOne.{placed_one}
+use Rattle.mc_bytes.specs.Format.{Anything}
+use Rattle.mc_bytes.specs.PlacedLaws.{PlacedGives-found, PlacedGives-only}
+use Rattle.mc_bytes.specs.PlacedOne.{placed_one}
 use Rattle.mc_slots.specs.Slot.{SpellsSlot, slot_read}
 use Rattle.mc_slots.specs.SlotLaws.{slot_found, slot_only}
 use Rattle.mc_slots.proofs.slot.read_slot.Goals as goal

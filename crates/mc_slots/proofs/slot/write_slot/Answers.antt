@@ -1,5 +1,5 @@
 use Rattle.std.proofs.Common.{◌≡◌, ◌∙◌, rules}
-use Rattle.mc_nbt.specs.Format.{Anything}
+use Rattle.mc_bytes.specs.Format.{Anything}
 use Rattle.mc_slots.specs.Slot.{IsTyped, pick}
 use Rattle.mc_slots.specs.SlotParts.{parts}
 use Rattle.mc_slots.specs.SlotLaws.{slot_appended, slot_spelled, slot_again}

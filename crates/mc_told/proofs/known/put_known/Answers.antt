@@ -5,8 +5,8 @@ use lib.IntN.{ℤ}
 use Rattle.mc_slots.specs.Pile.{slot_of}
 use Rattle.mc_view.specs.Forms.{moves_of}
 use Rattle.mc_model.specs.Delta.{moves_packets, pile_packets}
-use Rattle.mc_told.specs.Sending.{play_bytes}
-use Rattle.mc_told.proofs.Pieces.{play_bytes-append, two_put}
+use Rattle.mc_sending.specs.Sending.{play_bytes}
+use Rattle.mc_sending.proofs.Pieces.{play_bytes-append, two_put}
 use Rattle.mc_told.proofs.known.put_known.Goals as goal
 
 pub returns : goal.returns

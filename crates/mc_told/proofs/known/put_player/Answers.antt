@@ -4,13 +4,13 @@ use Rattle.std.proofs.lemmas.Int.{to_z-of_z}
 use lib.IntN.{ℤ}
 use mir.Val.{to_z, of_z}
 use Rattle.mc_slots.specs.Pile.{slot_of}
-use Rattle.mc_down.specs.declared.down.Down.{Down}
-use Rattle.mc_down.specs.declared.down.Down.TheVariants.{HeadLook, SpawnPlayer}
+use Rattle.mc_packets.specs.declared.down.Down.{Down}
+use Rattle.mc_packets.specs.declared.down.Down.TheVariants.{HeadLook, SpawnPlayer}
 use Rattle.mc_model.specs.declared.seen.SeenKind.{SeenKind}
 use Rattle.mc_model.specs.Packets.{frame_of, of_play}
 use Rattle.mc_model.specs.Delta.{hand_packets, id_in_hand, no_flags, spawn_as}
-use Rattle.mc_told.specs.Sending.{play_bytes}
-use Rattle.mc_told.proofs.Pieces.{two_put}
+use Rattle.mc_sending.specs.Sending.{play_bytes}
+use Rattle.mc_sending.proofs.Pieces.{two_put}
 use Rattle.mc_told.proofs.known.put_player.Goals as goal
 
 pub returns : goal.returns

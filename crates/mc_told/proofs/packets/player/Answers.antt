@@ -1,10 +1,10 @@
 use Rattle.std.proofs.Common.{◌<◌, ◌^◌, List, rules, Fits, FitsSigned, sym, subst}
 use Rattle.std.specs.Int.{w8, w16, w32}
 use Rattle.std.proofs.lemmas.Int.{to_z-of_z}
-use Rattle.mc_down.specs.declared.meta.MetaEntry.{MetaEntry}
-use Rattle.mc_down.specs.declared.down.Down.TheVariants.{SpawnPlayer}
+use Rattle.mc_packets.specs.declared.meta.MetaEntry.{MetaEntry}
+use Rattle.mc_packets.specs.declared.down.Down.TheVariants.{SpawnPlayer}
 use Rattle.mc_model.proofs.FitsEntities.{player_clear}
-use Rattle.mc_told.specs.Sending.{IsClear}
+use Rattle.mc_sending.specs.Sending.{IsClear}
 use Rattle.mc_told.proofs.packets.player.Goals as goal
 
 pub returns-clause-clear : goal.returns-clause-clear

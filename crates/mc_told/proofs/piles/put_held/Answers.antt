@@ -2,10 +2,10 @@ use Rattle.std.proofs.Common.{pos, sym, subst}
 use Rattle.std.specs.Int.{w32}
 use Rattle.std.proofs.lemmas.Int.{to_z-of_z}
 use Rattle.mc_slots.specs.declared.slot.Slot.{Slot}
-use Rattle.mc_down.specs.declared.down.Down.TheVariants.{Equipment}
+use Rattle.mc_packets.specs.declared.down.Down.TheVariants.{Equipment}
 use Rattle.mc_model.specs.declared.seen.SeenKind.TheVariants as seen_kinds
 use Rattle.mc_model.proofs.FitsEntities.{pile_clear}
-use Rattle.mc_told.specs.Sending.{IsClear}
+use Rattle.mc_sending.specs.Sending.{IsClear}
 use Rattle.mc_told.proofs.piles.put_held.Goals as goal
 
 pub put_made-requires : goal.put_made-requires

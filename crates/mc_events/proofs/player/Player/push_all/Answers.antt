@@ -12,7 +12,7 @@ use Rattle.mc_model.specs.Delta.{delta}
 use Rattle.mc_model.specs.Step.{opening_of}
 use Rattle.mc_model.specs.World.{others}
 use Rattle.mc_flush.specs.Lists.{ListValue}
-use Rattle.mc_told.specs.Sending.{play_bytes}
+use Rattle.mc_sending.specs.Sending.{play_bytes}
 use Rattle.mc_flush.specs.Seeing.{StandsFor, is_shown, seen, settled_parts}
 use Rattle.mc_loads.specs.Columns.{IsReady}
 use Rattle.mc_events.specs.Served.{player_of}

@@ -2,7 +2,7 @@ use Rattle.std.proofs.Common.{◌≤◌, ◌+◌, ◌++◌, ℕ, Option, ap, sym
 use Rattle.std.specs.List.{AllByRecursion}
 use Rattle.mc_frame.specs.Kept.{joined}
 use Rattle.mc_view.specs.declared.view_set.ViewSet.{ViewSet}
-use Rattle.mc_told.specs.Sending.{play_bytes}
+use Rattle.mc_sending.specs.Sending.{play_bytes}
 use Rattle.mc_loads.specs.Columns.{IsReady, entered_of, packets_between}
 use Rattle.mc_loads.specs.ColumnFrames.{AreColumnFrames, looks}
 use Rattle.mc_flush.proofs.client_view.ClientView.push_columns.Goals as goal

@@ -1,6 +1,6 @@
 use Rattle.std.proofs.Common.{ℕ, List, sym, subst, ◌∙◌}
 use Rattle.mc_model.specs.Delta.{chat_packet}
-use Rattle.mc_told.specs.Sending.{IsClear}
+use Rattle.mc_sending.specs.Sending.{IsClear}
 use Rattle.mc_flush.proofs.line.Line.new.Goals as goal
 
 pub put_made-requires : goal.put_made-requires

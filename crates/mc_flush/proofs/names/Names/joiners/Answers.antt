@@ -1,12 +1,12 @@
 use Rattle.std.proofs.Common.{[], ◌∷◌, ◌++◌, map, sym, subst, ap, ◌∙◌}
 use Rattle.std.specs.List.{AllByRecursion}
 use lib.IntN.{pos}
-use Rattle.mc_down.specs.declared.player.Player.{Player}
+use Rattle.mc_packets.specs.declared.player.Player.{Player}
 use Rattle.mc_model.specs.Delta.{joiner}
 use Rattle.mc_flush.specs.Carried.{IsCarried}
 use Rattle.mc_flush.specs.Seeing.{IsNamed}
 use Rattle.mc_flush.proofs.Carries.{carried_more, next_made}
-use Rattle.mc_told.proofs.Pieces.{next_holds}
+use Rattle.mc_sending.proofs.Pieces.{next_holds}
 use Rattle.mc_flush.proofs.names.Names.joiners.Goals as goal
 
 pub joiner-requires : goal.joiner-requires

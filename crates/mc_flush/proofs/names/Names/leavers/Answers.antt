@@ -1,7 +1,7 @@
 use Rattle.std.proofs.Common.{[], ◌∷◌, ◌++◌, map, sym, subst, ap, ◌∙◌}
 use Rattle.std.specs.List.{AllByRecursion}
 use lib.IntN.{pos}
-use Rattle.mc_down.specs.declared.player.Player.{Player}
+use Rattle.mc_packets.specs.declared.player.Player.{Player}
 use Rattle.mc_model.specs.Delta.{leaver}
 use Rattle.mc_flush.specs.Carried.{IsCarried}
 use Rattle.mc_flush.proofs.Carries.{carried_more, next_made}

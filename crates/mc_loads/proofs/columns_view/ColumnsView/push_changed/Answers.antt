@@ -1,10 +1,10 @@
 use Rattle.std.proofs.Common.{◌++◌, [], ◌∷◌, List, arith, ap, ◌∙◌}
 use Rattle.mc_frame.specs.Kept.{joined}
 use Rattle.mc_land.specs.Places.{Place, IsPlace}
-use Rattle.mc_told.specs.Sending.{play_bytes}
+use Rattle.mc_sending.specs.Sending.{play_bytes}
 use Rattle.mc_loads.specs.Columns.{changed_packets, stayed_among}
 use Rattle.mc_loads.specs.ColumnFrames.{changes_cost}
-use Rattle.mc_told.proofs.Pieces.{next_piece, next_holds}
+use Rattle.mc_sending.proofs.Pieces.{next_piece, next_holds}
 use Rattle.mc_loads.proofs.ColumnFrames.{changed_next, cost_next}
 use Rattle.mc_loads.proofs.columns_view.ColumnsView.push_changed.Goals as goal
 

@@ -2,7 +2,7 @@ use Rattle.std.proofs.Common.{◌≡◌, ◌+◌, ◌++◌}
 use Rattle.std.specs.List.{AllByRecursion}
 use Rattle.mc_frame.specs.Kept.{joined}
 use Rattle.mc_land.specs.Places.{IsPlace}
-use Rattle.mc_told.specs.Sending.{play_bytes}
+use Rattle.mc_sending.specs.Sending.{play_bytes}
 use Rattle.mc_loads.specs.Columns.{changed_packets, stayed_among}
 use Rattle.mc_loads.specs.ColumnFrames.{changes_cost}
 use Rattle.mc_loads.proofs.columns_view.ColumnsView.push_changed.Given as goal

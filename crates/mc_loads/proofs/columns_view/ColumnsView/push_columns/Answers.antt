@@ -3,7 +3,7 @@ use Rattle.std.specs.List.{AllByRecursion}
 use Rattle.mc_frame.specs.Kept.{joined}
 use Rattle.mc_column.specs.Sizes.{cells}
 use Rattle.mc_land.specs.Places.{Place, IsPlace}
-use Rattle.mc_told.specs.Sending.{play_bytes}
+use Rattle.mc_sending.specs.Sending.{play_bytes}
 use Rattle.mc_loads.specs.Columns.{changed_packets, load_packets, stayed_among}
 use Rattle.mc_loads.specs.ColumnFrames.{changes_cost, unencoded}
 use Rattle.mc_loads.proofs.Places.{view_places}

@@ -2,12 +2,12 @@ use Rattle.std.proofs.Common.{◌≡◌, ◌≤◌, ℕ, ◌+◌, ◌*◌, ◌++
 use Rattle.mc_column.specs.Sizes.{cells}
 use Rattle.mc_frame.specs.Kept.{joined}
 use Rattle.mc_land.specs.Places.{Place}
-use Rattle.mc_told.specs.Sending.{play_bytes}
+use Rattle.mc_sending.specs.Sending.{play_bytes}
 use Rattle.mc_loads.specs.ColumnFrames.{unencoded}
 use Rattle.mc_loads.specs.Columns.{IsReady, load_packets}
 use Rattle.mc_loads.proofs.Places.{piece_pushed}
 use Rattle.mc_loads.proofs.ColumnFrames.{next_load, next_within}
-use Rattle.mc_told.proofs.Pieces.{next_piece, next_holds}
+use Rattle.mc_sending.proofs.Pieces.{next_piece, next_holds}
 use Rattle.mc_loads.proofs.columns_view.ColumnsView.push_loads.Goals as goal
 
 pub loop-place-preserved : goal.loop-place-preserved

@@ -2,7 +2,7 @@ use Rattle.std.proofs.Common.{◌≡◌, ◌+◌, ◌*◌, ◌++◌, length}
 use Rattle.std.specs.List.{AllByRecursion}
 use Rattle.mc_column.specs.Sizes.{cells}
 use Rattle.mc_frame.specs.Kept.{joined}
-use Rattle.mc_told.specs.Sending.{play_bytes}
+use Rattle.mc_sending.specs.Sending.{play_bytes}
 use Rattle.mc_loads.specs.Columns.{IsReady, load_packets}
 use Rattle.mc_loads.specs.ColumnFrames.{unencoded}
 use Rattle.mc_loads.proofs.columns_view.ColumnsView.push_loads.Given as goal

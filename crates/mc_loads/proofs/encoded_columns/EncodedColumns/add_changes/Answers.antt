@@ -5,7 +5,7 @@ use Rattle.mc_land.proofs.Orders.{places_total, exact_places}
 use Rattle.mc_loads.specs.ColumnFrames.{AreColumnFrames, ColumnsValue, has_changes, change_bytes}
 use Rattle.mc_loads.specs.ColumnFrames.{is_clean}
 use Rattle.mc_loads.proofs.ColumnFrames.{changes_added, changes_new}
-use Rattle.mc_told.proofs.MoveFrames.{entry_put}
+use Rattle.mc_bytes.proofs.Trees.{entry_put}
 use Rattle.mc_loads.proofs.encoded_columns.EncodedColumns.add_changes.Goals as goal
 
 pub returns-clause-ok : goal.returns-clause-ok

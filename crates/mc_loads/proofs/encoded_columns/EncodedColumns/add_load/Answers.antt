@@ -4,7 +4,7 @@ use Rattle.mc_land.specs.Places.{place_cmp}
 use Rattle.mc_land.proofs.Orders.{places_total, exact_places}
 use Rattle.mc_loads.specs.ColumnFrames.{AreColumnFrames, ColumnsValue, has_load, load_bytes}
 use Rattle.mc_loads.proofs.ColumnFrames.{load_added, load_new}
-use Rattle.mc_told.proofs.MoveFrames.{entry_put}
+use Rattle.mc_bytes.proofs.Trees.{entry_put}
 use Rattle.mc_loads.proofs.encoded_columns.EncodedColumns.add_load.Goals as goal
 
 pub returns-clause-ok : goal.returns-clause-ok

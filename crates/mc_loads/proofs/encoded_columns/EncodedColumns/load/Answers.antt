@@ -2,7 +2,7 @@ use Rattle.std.proofs.Common.{◌∙◌, sym}
 use Rattle.std.specs.FinMap.{get-from_entries}
 use Rattle.mc_land.specs.Places.{place_cmp}
 use Rattle.mc_land.proofs.Orders.{places_total}
-use Rattle.mc_told.proofs.Keys.{tree_found}
+use Rattle.mc_bytes.proofs.Trees.{tree_found}
 use Rattle.mc_loads.proofs.encoded_columns.EncodedColumns.load.Goals as goal
 
 pub returns : goal.returns

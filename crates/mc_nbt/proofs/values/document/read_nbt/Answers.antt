@@ -1,5 +1,5 @@
-use Rattle.mc_nbt.specs.PlacedLaws.{PlacedGives-found, PlacedGives-only}
-use Rattle.mc_nbt.specs.PlacedOne.{placed_one}
+use Rattle.mc_bytes.specs.PlacedLaws.{PlacedGives-found, PlacedGives-only}
+use Rattle.mc_bytes.specs.PlacedOne.{placed_one}
 use Rattle.mc_nbt.specs.Nbt.{SpellsNbt}
 use Rattle.mc_nbt.specs.NbtReading.{nbt_at}
 use Rattle.mc_nbt.specs.NbtAgainLaws.{nbt_only}

@@ -1,6 +1,6 @@
 use Rattle.std.proofs.lemmas.Result.{err_from_is_err_and}
 use Rattle.mc_nbt.specs.NbtReading.{value_at, member_at, members_at}
-use Rattle.mc_nbt.proofs.Loops.{until_stop, until_done}
+use Rattle.mc_bytes.proofs.Loops.{until_stop, until_done}
 use Rattle.mc_nbt.proofs.values.reading.+reading.Goals as goal
 
 pub read_entries-returns-in_err-entry-clause-gives :

@@ -1,7 +1,7 @@
 use Rattle.std.proofs.Common.{◌≡◌, ◌-◌, ◌+◌, ◌*◌, ◌≤◌, length}
-use Rattle.mc_nbt.specs.Times.{times_at}
+use Rattle.mc_bytes.specs.Times.{times_at}
 use Rattle.mc_nbt.specs.NbtReading.{value_at, member_at, members_at}
-use Rattle.mc_nbt.proofs.Loops.{with_front, IsUnderway}
+use Rattle.mc_bytes.proofs.Loops.{with_front, IsUnderway}
 use Rattle.mc_nbt.proofs.values.reading.+reading.Given as goal
 
 abbrev pub decreases-read_value : goal.decreases-read_value

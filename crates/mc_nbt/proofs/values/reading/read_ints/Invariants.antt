@@ -1,8 +1,8 @@
 use Rattle.std.proofs.Common.{◌≡◌, ◌-◌, ◌≤◌, length}
 use Rattle.std.specs.Int.{w32}
-use Rattle.mc_nbt.specs.Times.{times_at}
+use Rattle.mc_bytes.specs.Times.{times_at}
 use Rattle.mc_nbt.specs.NbtReading.{signed_at}
-use Rattle.mc_nbt.proofs.Loops.{with_front}
+use Rattle.mc_bytes.proofs.Loops.{with_front}
 use Rattle.mc_nbt.proofs.values.reading.read_ints.Given as goal
 
 abbrev pub invariant-loop : goal.invariant-loop

@@ -5,7 +5,7 @@ use Rattle.mc_nbt.specs.Tree.{Tree, depth, trees_of, trees_depth, members_of, me
 use Rattle.mc_nbt.specs.TagView.{tree_of, member_of}
 use Rattle.mc_nbt.specs.Nbt.{payload, trees_payload, members_payload, count_of, TreesFit}
 use Rattle.mc_nbt.specs.Nbt.{MembersFit}
-use Rattle.mc_nbt.proofs.Kept.{kept_more}
+use Rattle.mc_bytes.proofs.Kept.{kept_more}
 use Rattle.mc_nbt.proofs.Fit.{items_length, item_at, entry_at}
 use Rattle.mc_nbt.proofs.Written.{next_written, trees_payload-drop, members_payload-drop}
 use Rattle.mc_nbt.proofs.Written.{entry_payload, list_begins}

@@ -3,7 +3,7 @@ use Rattle.std.specs.Prelude.{FitsSigned}
 use Rattle.std.specs.Int.{w32}
 use Rattle.std.proofs.lemmas.Int.{to_z-of_z}
 use Rattle.mc_nbt.specs.Nbt.{signed_spelling}
-use Rattle.mc_nbt.proofs.Kept.{kept_more}
+use Rattle.mc_bytes.proofs.Kept.{kept_more}
 use Rattle.mc_nbt.proofs.Written.{next_written, ints_spelling-drop}
 use Rattle.mc_nbt.proofs.values.writing.write_int_array.Goals as goal
 

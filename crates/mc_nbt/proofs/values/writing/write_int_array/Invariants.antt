@@ -1,6 +1,6 @@
 use Rattle.std.proofs.Common.{◌≡◌, ◌++◌, length, take, drop}
 use Rattle.std.specs.Int.{w32}
-use Rattle.mc_nbt.specs.NumberBytes.{number_spelling}
+use Rattle.mc_bytes.specs.NumberBytes.{number_spelling}
 use Rattle.mc_nbt.specs.Nbt.{ints_spelling}
 use Rattle.mc_nbt.proofs.values.writing.write_int_array.Given as goal
 

@@ -1,6 +1,6 @@
 use Rattle.std.specs.FinMap.{nat_cmp-IsAntisymmetric}
 use Rattle.std.proofs.lemmas.Cmp.{nat_cmp_total}
-use Rattle.mc_play.proofs.Trees.{entry_put}
+use Rattle.mc_bytes.proofs.Trees.{entry_put}
 use Rattle.mc_play.proofs.players.Players.add.Goals as goal
 
 pub returns-clause-ok : goal.returns-clause-ok

@@ -1,6 +1,6 @@
 use Rattle.std.proofs.Common.{◌∙◌}
 use Rattle.std.proofs.lemmas.Cmp.{nat_cmp_total}
-use Rattle.mc_play.proofs.Trees.{tree_get}
+use Rattle.mc_bytes.proofs.Trees.{tree_get}
 use Rattle.mc_play.proofs.players.Players.find.Goals as goal
 
 pub returns : goal.returns

@@ -2,7 +2,7 @@ use Rattle.std.proofs.Common.{◌∙◌}
 use Rattle.std.specs.FinMap.{from_entries, nat_cmp-IsAntisymmetric}
 use Rattle.std.specs.Ordering.{nat_cmp}
 use Rattle.std.proofs.lemmas.Cmp.{nat_cmp_total}
-use Rattle.mc_play.proofs.Trees.{entry_put, lends_alike, lent_is, tree_get}
+use Rattle.mc_bytes.proofs.Trees.{entry_put, lends_alike, lent_is, tree_get}
 use Rattle.mc_play.proofs.players.Players.find_mut.Goals as goal
 
 pub returns : goal.returns

@@ -3,7 +3,7 @@ use Rattle.std.specs.List.{list_any}
 use Rattle.std.specs.FinMap.{nat_cmp-IsAntisymmetric}
 use Rattle.std.proofs.lemmas.Cmp.{nat_cmp_total}
 use Rattle.mc_game.specs.declared.player.Player.{Player}
-use Rattle.mc_play.proofs.Trees.{entries_are}
+use Rattle.mc_bytes.proofs.Trees.{entries_are}
 use Rattle.mc_play.proofs.players.Players.has.Goals as goal
 
 pub returns : goal.returns

@@ -2,7 +2,7 @@ use Rattle.std.proofs.Common.{ap}
 use Rattle.std.specs.FinMap.{nat_cmp-IsAntisymmetric}
 use Rattle.std.proofs.lemmas.Cmp.{nat_cmp_total}
 use Rattle.mc_model.specs.Notes.{Noted}
-use Rattle.mc_play.proofs.Trees.{lent_back, on_err}
+use Rattle.mc_bytes.proofs.Trees.{lent_back, on_err}
 use Rattle.mc_play.proofs.players.Players.note_cell.Goals as goal
 
 pub returns-in_err-cell-clause-err : goal.returns-in_err-cell-clause-err

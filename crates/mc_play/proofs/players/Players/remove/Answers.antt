@@ -1,7 +1,7 @@
 use Rattle.std.proofs.Common.{◌∙◌}
 use Rattle.std.specs.FinMap.{nat_cmp-IsAntisymmetric}
 use Rattle.std.proofs.lemmas.Cmp.{nat_cmp_total}
-use Rattle.mc_play.proofs.Trees.{entry_gone, tree_get}
+use Rattle.mc_bytes.proofs.Trees.{entry_gone, tree_get}
 use Rattle.mc_play.proofs.players.Players.remove.Goals as goal
 
 pub returns-clause-was : goal.returns-clause-was

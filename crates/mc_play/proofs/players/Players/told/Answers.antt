@@ -6,14 +6,14 @@ use Rattle.std.proofs.lemmas.Map.Made.{map_same_pairs}
 use Rattle.mc_game.specs.Maps.{map_keyed}
 use Rattle.mc_game.specs.Tick.{told_player}
 use Rattle.mc_game.specs.declared.player.Player.{Player}
-use Rattle.mc_play.proofs.Trees.{entries_are}
+use Rattle.mc_bytes.proofs.Trees.{entries_are}
 use Rattle.mc_play.proofs.players.Players.told.Goals as goal
 
 pub returns : goal.returns
 unfolding map_keyed
 returns c = rw (← c.self.view_is) (
-  ap (from_entries {R = nat_cmp}) (map_same_pairs _ told_player _ (λ k v b w f t. search rules) _ _
-      c.retain.ensures.filtered)
-      ∙ ap (λ es. from_entries {R = nat_cmp} (map (λ (e : ℕ × Player). (e.0, told_player e.1)) es))
-      (sym (entries_are nat_cmp_total nat_cmp-IsAntisymmetric
-      c.self.inside.by_connection.entries c.retain.ensures.was_ordered)))
+    ap (from_entries {R = nat_cmp}) (map_same_pairs _ told_player _ (λ k v b w f t. search rules) _ _
+    c.retain.ensures.filtered)
+    ∙ ap (λ es. from_entries {R = nat_cmp} (map (λ (e : ℕ × Player). (e.0, told_player e.1)) es))
+    (sym (entries_are nat_cmp_total nat_cmp-IsAntisymmetric
+    c.self.inside.by_connection.entries c.retain.ensures.was_ordered)))

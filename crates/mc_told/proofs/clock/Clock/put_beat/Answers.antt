@@ -3,10 +3,10 @@ use Rattle.std.specs.Int.{w32}
 use Rattle.std.proofs.lemmas.Int.{to_z-of_z}
 use lib.IntN.{pos}
 use mir.Val.{to_z, of_z}
-use Rattle.mc_down.specs.declared.down.Down.TheVariants.{KeepAlive}
+use Rattle.mc_packets.specs.declared.down.Down.TheVariants.{KeepAlive}
 use Rattle.mc_model.specs.Ticks.{beat_at}
 use Rattle.mc_model.proofs.FitsBeats.{beat_clear, beat_fits}
-use Rattle.mc_told.specs.Sending.{IsClear}
+use Rattle.mc_sending.specs.Sending.{IsClear}
 use Rattle.mc_told.proofs.clock.Clock.put_beat.Goals as goal
 
 pub put_made-requires : goal.put_made-requires

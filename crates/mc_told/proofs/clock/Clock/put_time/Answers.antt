@@ -3,10 +3,10 @@ use Rattle.std.specs.Int.{w64}
 use Rattle.std.proofs.lemmas.Int.{to_z-of_z}
 use lib.IntN.{pos}
 use mir.Val.{to_z, of_z}
-use Rattle.mc_down.specs.declared.down.Down.TheVariants.{Time}
+use Rattle.mc_packets.specs.declared.down.Down.TheVariants.{Time}
 use Rattle.mc_model.specs.Ticks.{shown_age, time_of_day}
 use Rattle.mc_model.proofs.FitsBeats.{shown_age_fits, time_clear}
-use Rattle.mc_told.specs.Sending.{IsClear}
+use Rattle.mc_sending.specs.Sending.{IsClear}
 use Rattle.mc_told.proofs.clock.Clock.put_time.Goals as goal
 
 pub put_made-requires : goal.put_made-requires

@@ -10,7 +10,8 @@ use Rattle.mc_entities.specs.Folk.{told_of}
 use Rattle.mc_view.specs.Forms.{form_of}
 use Rattle.mc_told.specs.declared.moved.Moved.{Moved}
 use Rattle.mc_told.specs.MoveFrames.{AreMoves, MovesByEid, is_still, move_bytes}
-use Rattle.mc_told.proofs.MoveFrames.{entry_put, move_added, move_more}
+use Rattle.mc_bytes.proofs.Trees.{entry_put}
+use Rattle.mc_told.proofs.MoveFrames.{move_added, move_more}
 use Rattle.mc_told.proofs.encoded_moves.EncodedMoves.add_move.Goals as goal
 
 pub returns-clause-ok : goal.returns-clause-ok

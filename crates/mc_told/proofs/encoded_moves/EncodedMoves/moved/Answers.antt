@@ -8,7 +8,7 @@ use lib.IntN.{ℤ}
 use mir.Val.{to_z, of_z}
 use Rattle.mc_told.specs.declared.moved.Moved.{Moved}
 use Rattle.mc_told.specs.MoveFrames.{MovesByEid, move_bytes}
-use Rattle.mc_told.proofs.Keys.{tree_found}
+use Rattle.mc_bytes.proofs.Trees.{tree_found}
 use Rattle.mc_told.proofs.SameSpots.{same_spot, spot_is}
 use Rattle.mc_told.proofs.encoded_moves.EncodedMoves.moved.Goals as goal
 use Rattle.mc_told.proofs.encoded_moves.EncodedMoves.moved.Goals.{else-eq-via-else-eq}

@@ -1,5 +1,5 @@
 use Rattle.std.proofs.Common.{subst, arith, List, ℕ}
-use Rattle.mc_nbt.specs.Reading.{IsBytes}
+use Rattle.mc_bytes.specs.Reading.{IsBytes}
 use Rattle.mc_nbt.specs.NbtTakesLaws.{nbt_found}
 use Rattle.mc_nbt.specs.Nbt.{named}
 use Rattle.mc_nbt.proofs.values.document.Nbt.read.Goals as goal

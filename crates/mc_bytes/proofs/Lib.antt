@@ -1,0 +1,4 @@
+pub mod Loops
+pub mod Kept
+pub mod Appends
+pub mod Trees

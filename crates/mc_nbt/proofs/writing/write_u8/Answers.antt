@@ -1,6 +1,0 @@
-use Rattle.std.specs.Int.{w8}
-use Rattle.mc_nbt.specs.NumberLaws.{wide_8, number_again}
-use Rattle.mc_nbt.proofs.writing.write_u8.Goals as goal
-
-pub returns-clause-again : goal.returns-clause-again
-returns-clause-again c = number_again w8 wide_8 c.args.n c.ranges.n.fits
