@@ -10,17 +10,17 @@ use Rattle.mc_fields.specs.declared.packet.PacketFault.{PacketFault}
 use Rattle.mc_fields.specs.Row.{packet_read, packet_of}
 use Rattle.mc_frame.specs.declared.fault.FrameFault.{FrameFault}
 use Rattle.mc_frame.specs.Cut.{Cut}
-use Rattle.mc_up.specs.declared.handshake.Hand.{Hand}
-use Rattle.mc_up.specs.declared.handshake.Hand.TheVariants.{Handshake}
-use Rattle.mc_up.specs.declared.status_up.StatusUp.{StatusUp}
-use Rattle.mc_up.specs.declared.status_up.StatusUp.TheVariants.{Request, Ping}
-use Rattle.mc_up.specs.declared.status_down.StatusDown.{StatusDown}
-use Rattle.mc_up.specs.declared.login_up.LoginUp.{LoginUp}
-use Rattle.mc_up.specs.declared.login_up.LoginUp.TheVariants.{Start}
+use Rattle.mc_hello.specs.declared.handshake.Hand.{Hand}
+use Rattle.mc_hello.specs.declared.handshake.Hand.TheVariants.{Handshake}
+use Rattle.mc_hello.specs.declared.status_up.StatusUp.{StatusUp}
+use Rattle.mc_hello.specs.declared.status_up.StatusUp.TheVariants.{Request, Ping}
+use Rattle.mc_hello.specs.declared.status_down.StatusDown.{StatusDown}
+use Rattle.mc_hello.specs.declared.login_up.LoginUp.{LoginUp}
+use Rattle.mc_hello.specs.declared.login_up.LoginUp.TheVariants.{Start}
 use Rattle.mc_up.specs.declared.play_up.PlayUp.{PlayUp}
-use Rattle.mc_up.specs.Hand as hand_rows
-use Rattle.mc_up.specs.StatusUp as status
-use Rattle.mc_up.specs.LoginUp as login
+use Rattle.mc_hello.specs.Hand as hand_rows
+use Rattle.mc_hello.specs.StatusUp as status
+use Rattle.mc_hello.specs.LoginUp as login
 use Rattle.mc_up.specs.PlayUp as play
 use Rattle.mc_model.specs.declared.cause.Cause.{Cause}
 use Rattle.mc_model.specs.declared.cause.Cause.TheVariants as causes
