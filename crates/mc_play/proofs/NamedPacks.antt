@@ -31,7 +31,8 @@ Entries = List (String Global × PackValue)
 
 -- a scan by a name is that of the names alone
 scanned : (name : List ℕ) (es : Entries) →
-    lookup (λ (k : String Global). bytes_eq name (string_bytes k)) es ≡ find name_cmp name (named es)
+    lookup (λ (k : String Global). bytes_eq name (string_bytes k)) es
+    ≡ find name_cmp name (named es)
 scanned name [] = refl
 scanned name (e ∷ es) = λ i. cond (sym (is_eq-slice_cmp name (string_bytes e.0)) i) (Some e.1)
     (scanned name es i)
@@ -45,7 +46,8 @@ looked_up name es = scanned name es ∙ sym (get-from_entries nat_list_cmp_total
 
 -- a string that is apart from others has a name that is none of theirs
 none_there : (k : String Global) (es : Entries) →
-    AllByRecursion (λ y. string_eq k y ≡ false) (keys_of es) → get (packs_of es) (string_bytes k) ≡ None
+    AllByRecursion (λ y. string_eq k y ≡ false) (keys_of es) →
+    get (packs_of es) (string_bytes k) ≡ None
 none_there k es apart = sym (looked_up (string_bytes k) es) ∙ absent es apart
   where
     absent : (es : Entries) → AllByRecursion (λ y. string_eq k y ≡ false) (keys_of es) →
@@ -167,8 +169,10 @@ one_more k kit (e ∷ es) none = same_map nat_list_cmp_total names_exact _ _ (λ
   get-insert nat_list_cmp_total (packs_of es) (string_bytes e.0) e.1 q,
   get-insert nat_list_cmp_total (packs_of es) (string_bytes e.0) e.1 (string_bytes k),
   get-insert nat_list_cmp_total (packs_of es) (string_bytes k) kit q,
-  get-insert nat_list_cmp_total (insert (packs_of es) (string_bytes k) kit) (string_bytes e.0) e.1 q,
-  get-insert nat_list_cmp_total (insert (packs_of es) (string_bytes e.0) e.1) (string_bytes k) kit q,
+  get-insert nat_list_cmp_total (insert (packs_of es) (string_bytes k) kit) (string_bytes e.0) e.1
+      q,
+  get-insert nat_list_cmp_total (insert (packs_of es) (string_bytes e.0) e.1) (string_bytes k) kit
+      q,
   same_name,
   bytes_eq-Decides,
   none,

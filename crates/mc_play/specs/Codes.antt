@@ -37,7 +37,8 @@ coded_bool = code_by (Option ℕ) (coded_option coded_ℕ) bool_stored bool_back
 
 abbrev pub coded_noted : Coded Noted
 coded_noted =
-    code_by (List Cell × (Bool × Bool)) (coded× (coded_list coded_cell) (coded× coded_bool coded_bool))
+    code_by (List Cell × (Bool × Bool))
+    (coded× (coded_list coded_cell) (coded× coded_bool coded_bool))
     (λ notes. (notes.cells, (notes.placing, notes.resend)))
     (λ parts. record { cells = parts.0; placing = parts.1.0; resend = parts.1.1 })
     (λ notes. refl)

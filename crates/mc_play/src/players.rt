@@ -37,7 +37,8 @@ impl Model for Players {
 
 /// Whether one of these players has an identifier.
 fn is_among(players: &BTreeMap<u32, Player>, uuid: u128) -> bool
-    ensures { result ≡ list_any (λ (p : declared.Player). p.uuid == uuid) (tree.values players.now) }
+    ensures { result
+        ≡ list_any (λ (p : declared.Player). p.uuid == uuid) (tree.values players.now) }
 {
     players.values().any(|player| player.uuid == uuid)
 }

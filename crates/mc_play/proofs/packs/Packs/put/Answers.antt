@@ -15,7 +15,8 @@ returns c = elim c.match-get_mut.branch [
   | in-Some w ↦ ap the_view w.self-inside-is
       ∙ ap packs_of (c.get_mut.follows.holds c.args.pack).0
       ∙ written c.as_str.result.now c.args.pack c.self.inside.by_name.entries
-      ∙ (λ i. modify (c.as_str.ensures.value i) (λ (old : PackValue). c.args.pack) (c.self.view_is i))
+      ∙ (λ i. modify (c.as_str.ensures.value i) (λ (old : PackValue). c.args.pack)
+      (c.self.view_is i))
   | in_default w ↦ ap the_view w.self-inside-is
       ∙ ap (λ m. packs_of m.entries) c.get_mut.follows.holds-at-none
       ∙ c.self.view_is

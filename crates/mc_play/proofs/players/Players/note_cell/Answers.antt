@@ -9,4 +9,5 @@ pub returns-in_err-cell-clause-err : goal.returns-in_err-cell-clause-err
 returns-in_err-cell-clause-err c = on_err c.from_residual.result (lent_back nat_cmp_total
     nat_cmp-IsAntisymmetric c.find_mut.result c.args.self.now c.args.connection c.in-Some.player _
     c.find_mut.ensures.is c.in-Some.is
-    (ap (λ (notes : Noted). record c.in-Some.player.now { notes = notes }) c.in_err-cell.ensures.err))
+    (ap (λ (notes : Noted). record c.in-Some.player.now { notes = notes })
+    c.in_err-cell.ensures.err))

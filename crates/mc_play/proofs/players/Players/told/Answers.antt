@@ -12,7 +12,8 @@ use Rattle.mc_play.proofs.players.Players.told.Goals as goal
 pub returns : goal.returns
 unfolding map_keyed
 returns c = rw (← c.self.view_is) (
-    ap (from_entries {R = nat_cmp}) (map_same_pairs _ told_player _ (λ k v b w f t. search rules) _ _
+    ap (from_entries {R = nat_cmp})
+    (map_same_pairs _ told_player _ (λ k v b w f t. search rules) _ _
     c.retain.ensures.filtered)
     ∙ ap (λ es. from_entries {R = nat_cmp} (map (λ (e : ℕ × Player). (e.0, told_player e.1)) es))
     (sym (entries_are nat_cmp_total nat_cmp-IsAntisymmetric
