@@ -5,3 +5,6 @@ pub mod Twins
 pub mod Ticks
 pub mod Isolation
 pub mod BadFrames
+pub mod Befores
+pub mod Full
+pub mod Silent

@@ -4,3 +4,4 @@ pub mod Coming
 pub mod Packs
 pub mod Onwards
 pub mod Leaving
+pub mod Swaps

@@ -5,3 +5,8 @@ pub mod Walk
 pub mod Runs
 pub mod Apart
 pub mod Weighing
+pub mod Fits
+pub mod Decoding
+pub mod Shown
+pub mod Headline
+pub mod Serving

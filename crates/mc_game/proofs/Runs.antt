@@ -7,3 +7,4 @@ pub mod Promises
 pub mod Closings
 pub mod FirstCauses
 pub mod Lasting
+pub mod OneSteps

@@ -1,12 +1,14 @@
 -- What one connection does not change of another; and two worlds that are the same but for one
 -- connection, which is closed or not there in both. Rules of this project.
-use Rattle.std.specs.Prelude.{◌≡◌, ◌≢◌, ℕ, true, false, List, [], ◌∷◌, ◌++◌, Option, Some, None}
+use Rattle.std.specs.Prelude.{◌≡◌, ◌≢◌, ℕ, true, false, List, [], ◌∷◌, ◌++◌, map, Option, Some}
+use Rattle.std.specs.Prelude.{None}
 use Rattle.std.specs.Prelude.{option_map}
 use Rattle.std.specs.FinMap.{get}
 use lib.IntN.{ℤ}
 use Rattle.mc_frame.specs.declared.fault.FrameFault.{FrameFault}
 use Rattle.mc_frame.specs.Cut.{Cut}
 use Rattle.mc_model.specs.Cutting.{cut_of}
+use Rattle.mc_model.specs.Packets.{of_play}
 use Rattle.mc_model.specs.Run.{to}
 use Rattle.mc_model.specs.Step.{Event, joined, came, left, broke, ticked, took, forgot}
 use Rattle.mc_model.specs.Talk.{ClientRequest, acts, wrong}
@@ -14,6 +16,9 @@ use Rattle.mc_model.specs.World.{is_closed}
 use Rattle.mc_game.specs.declared.player.Player.{Player}
 use Rattle.mc_game.specs.Link.{Link}
 use Rattle.mc_game.specs.Acts.{act}
+use Rattle.mc_game.specs.Showing.{due}
+use Rattle.mc_game.specs.Tick.{at_tick, grown, is_silent}
+use Rattle.mc_game.specs.Causes.{IsTooMuch}
 use Rattle.mc_game.specs.World.{Outcome, Seat, World, seat_of, unread_of}
 use Rattle.mc_game.specs.Step.{asked_by, is_crowded, on_frames}
 
@@ -115,16 +120,55 @@ IsBad k s (frame ∷ later) fault = IsBadRequest k s (asked_by s frame)
 IsBad k s [] (Some fault) = Unit {0}
 IsBad k s [] None = ⊥
 
--- Bytes come to an open connection of which a bad frame closes it; what stands before that frame
--- are whole frames, after which it is open still.
-pub record HasBadFrame (k : ℕ) (w : World) (bytes before : List ℕ) : Type 0 where
+-- bytes come to an open connection of which a bad frame closes it; after those before that frame it
+-- is open still
+pub record HasBadFrame (k : ℕ) (w : World) (bytes : List ℕ) : Type 0 where
   pub link : Link
   pub there : get w.links k ≡ Some link
   pub open_ : is_closed link.stage ≡ false
   pub good : List (List ℕ)
   pub later : List (List ℕ)
   pub parts : (cut_behind w k bytes).frames ≡ good ++ later
-  pub whole : (cut_behind w k before).frames ≡ good
-  pub clean : (cut_behind w k before).fault ≡ None
   pub still_open : is_closed (on_frames k (seat_of w k link) good).seat.link.stage ≡ false
   pub bad : IsBad k (on_frames k (seat_of w k link) good).seat later (cut_behind w k bytes).fault
+
+-- the first of these bytes that stand before a frame: with what was not read they are just the
+-- frames before it, and no fault
+pub record StandsBefore (k : ℕ) (w : World) (bytes : List ℕ) (good : List (List ℕ))
+    (before : List ℕ) : Type 0 where
+  pub first : (more : List ℕ) × (bytes ≡ before ++ more)
+  pub whole : (cut_behind w k before).frames ≡ good
+  pub clean : (cut_behind w k before).fault ≡ None
+
+-- ---- a tick that closes
+
+-- two worlds that are the same but for the bytes that one connection is owed
+pub record OwesOther (k : ℕ) (w v : World) : Type 0 where
+  pub game : w.game ≡ v.game
+  pub last : w.last ≡ v.last
+  pub links : (j : ℕ) → j ≢ k → get w.links j ≡ get v.links j
+  pub unread : (j : ℕ) → j ≢ k → get w.unread j ≡ get v.unread j
+  pub shown : w.shown ≡ v.shown
+  pub link : Link
+  pub owed : List ℕ
+  pub here : get w.links k ≡ Some link
+  pub there : get v.links k ≡ Some (record link { owed = owed })
+
+-- a client in play that is not silent is due too much at a tick in the first of them, and not in
+-- the second, where its outbox has room
+pub record IsFullIn (k : ℕ) (w v : World) : Type 0 where
+  pub alike : OwesOther k w v
+  pub player : Player
+  pub plays : get w.game.players k ≡ Some player
+  pub speaks : is_silent (grown w.game) (get w.shown k) alike.link ≡ false
+  pub much : IsTooMuch alike.link (map of_play (due (at_tick w).game (get w.shown k) player))
+  pub fits : ¬ IsTooMuch (record alike.link { owed = alike.owed })
+      (map of_play (due (at_tick w).game (get w.shown k) player))
+
+-- a client in play has been silent for too long at a tick
+pub record FallsSilent (k : ℕ) (w : World) : Type 0 where
+  pub link : Link
+  pub player : Player
+  pub here : get w.links k ≡ Some link
+  pub plays : get w.game.players k ≡ Some player
+  pub silent : is_silent (grown w.game) (get w.shown k) link ≡ true

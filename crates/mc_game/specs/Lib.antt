@@ -20,3 +20,7 @@ pub mod Apart
 pub mod Promised
 pub mod Causes
 pub mod Balance
+pub mod Headline
+pub mod Log
+pub mod Turns
+pub mod Serving

@@ -1,9 +1,12 @@
 ghost use Rattle.std.specs.Prelude.{◌≡◌, List, Some, ℕ};
 ghost use Rattle.std.specs.FinMap.{get};
-ghost use Rattle.mc_model.specs.Step.{Event, broke, came, left};
+ghost use Rattle.mc_bytes.specs.Reading.{IsBytes};
+ghost use Rattle.mc_model.specs.Run.{AreBytes};
+ghost use Rattle.mc_model.specs.Step.{Event, broke, came, left, ticked, took};
 ghost use Rattle.mc_game.specs.declared.settings.Settings.{Settings as Begun};
-ghost use Rattle.mc_game.specs.Apart.{AlikeBut, HasBadFrame, IsNoJoin, IsOf, LetsIn, OnlySender};
-ghost use Rattle.mc_game.specs.Apart.{SameBut};
+ghost use Rattle.mc_game.specs.Apart.{AlikeBut, FallsSilent, HandsAlike, HasBadFrame};
+ghost use Rattle.mc_game.specs.Apart.{IsFullIn, IsNoJoin, IsOf, LetsIn, OnlySender, OwesOther};
+ghost use Rattle.mc_game.specs.Apart.{SameBut, StandsBefore};
 ghost use Rattle.mc_game.specs.Balance.{Balance};
 ghost use Rattle.mc_game.specs.Causes.{ClosesFirst};
 ghost use Rattle.mc_game.specs.Good.{GoodWorld};
@@ -31,7 +34,10 @@ pub fn only_senders_change()
 /// What others do, and ticks, in two worlds that are the same but for one connection leaves them so
 /// and hands all others the same; and whatever is done to that connection in one of them leaves
 /// them so. One that broke leaves the world, but for itself, as if it had gone; and so does one
-/// that a bad frame closes, as if only what stands before that frame had come.
+/// that a bad frame closes, as if only what stands before that frame had come: there are first
+/// bytes that do. One to whom too much is due at a tick leaves the world, but for itself, as if its
+/// outbox had had room, since it took what it was owed, and it had gone after the tick; and one
+/// that was silent for too long as if it had gone before it.
 pub fn connections_are_apart()
     ensures others { (settings : Begun) (events : List Event) (v : World) (k : ℕ) (e : Event) →
         SameBut k (history (new_world settings) events) v → (IsOf k e → ⊥) →
@@ -42,9 +48,28 @@ pub fn connections_are_apart()
         SameBut k (step (history (new_world settings) events) e).world v }
     ensures broke { (w : World) (k : ℕ) (l : Link) → get w.links k ≡ Some l →
         SameBut k (step w (broke k)).world (step w (left k)).world }
-    ensures bad { (w : World) (k : ℕ) (bytes before : List ℕ) → HasBadFrame k w bytes before →
+    ensures bad { (w : World) (k : ℕ) (bytes before : List ℕ) (bad : HasBadFrame k w bytes) →
+        StandsBefore k w bytes bad.good before →
         SameBut k (step w (came k bytes)).world
         (step (step w (came k before)).world (left k)).world }
+    ensures found { (settings : Begun) (events : List Event) (k : ℕ) (bytes : List ℕ) →
+        AreBytes events → IsBytes bytes →
+        (bad : HasBadFrame k (history (new_world settings) events) bytes) →
+        (before : List ℕ)
+        × StandsBefore k (history (new_world settings) events) bytes bad.good before }
+    ensures full { (settings : Begun) (events : List Event) (v : World) (k : ℕ) →
+        IsFullIn k (history (new_world settings) events) v →
+        SameBut k (step (history (new_world settings) events) ticked).world
+        (step (step v ticked).world (left k)).world
+        × HandsAlike k (step (history (new_world settings) events) ticked) (step v ticked) }
+    ensures room { (w : World) (k n : ℕ) (l : Link) → get w.links k ≡ Some l →
+        OwesOther k w (step w (took k n)).world }
+    ensures silent { (settings : Begun) (events : List Event) (k : ℕ) →
+        FallsSilent k (history (new_world settings) events) →
+        SameBut k (step (history (new_world settings) events) ticked).world
+        (step (step (history (new_world settings) events) (left k)).world ticked).world
+        × HandsAlike k (step (history (new_world settings) events) ticked)
+        (step (step (history (new_world settings) events) (left k)).world ticked) }
 {}
 
 /// What a connection took is the first bytes of what was handed to it, also once it is closed and

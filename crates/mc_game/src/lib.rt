@@ -5,9 +5,12 @@
 //! the next, and how packets are read and answered.
 #![tactic(auto)]
 
+mod eid;
 mod laws;
 mod player;
+mod promise;
 mod settings;
 
+pub use eid::Eid;
 pub use player::Player;
 pub use settings::Settings;

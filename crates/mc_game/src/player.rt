@@ -1,15 +1,15 @@
-use mc_bytes::Text;
-use mc_model::Notes;
+use crate::Eid;
+use mc_model::{Name, Notes};
 
 /// One player, in play.
 #[derive(Drop)]
 pub struct Player {
     /// Its name.
-    pub name: Text,
+    pub name: Name,
     /// Its identifier.
     pub uuid: u128,
     /// The number of its entity.
-    pub eid: u32,
+    pub eid: Eid,
     /// The size of view that it asked for, as its packet has it.
     pub view_byte: i8,
     /// The place of the hotbar that its hand is on, 0 to 8.

@@ -13,8 +13,9 @@ use Rattle.mc_model.specs.Packs.{again}
 use Rattle.mc_game.specs.declared.player.Player.{Player}
 use Rattle.mc_game.specs.Game.{Game, spot_of}
 use Rattle.mc_game.specs.Acts.{act, act_by, act_of}
+use Rattle.mc_game.proofs.Maps.Options.{some_is}
 use Rattle.mc_game.proofs.Deeds.Onwards.{Onward, nothing_on, noting_on, said_on, with_player_on}
-use Rattle.mc_game.proofs.Acts.Topics.{arrive_on, digging_on, place_on_on, some_is, take_up_on}
+use Rattle.mc_game.proofs.Acts.Topics.{arrive_on, digging_on, place_on_on, take_up_on}
 
 done : (k : ℕ) (g u v : Game) → Some u ≡ Some v → Onward k g u → Onward k g v
 done k g u v e on = subst (λ (x : Game). Onward k g x) (some_is u v e) on

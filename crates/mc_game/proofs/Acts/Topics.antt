@@ -28,12 +28,10 @@ use Rattle.mc_game.specs.Movement.{arrive, arrived, placed_again}
 use Rattle.mc_game.specs.Digging.{can_dig, digging, drop_held, dropped, dug, feet_of}
 use Rattle.mc_game.specs.Placing.{is_free, place_at, place_on, placed, put_block}
 use Rattle.mc_game.specs.Reaching.{is_in_reach}
+use Rattle.mc_game.proofs.Maps.Options.{some_is}
 use Rattle.mc_game.proofs.Deeds.Onwards.{Onward, carrying_on, either, nothing_on, noting_on}
 use Rattle.mc_game.proofs.Deeds.Onwards.{rehand_on, so, stand_on, thrown_on, with_state_on}
 use Rattle.mc_game.proofs.Deeds.Packs.{held_is_item, left_is_pile}
-
-pub some_is : {A : Type 0} (a b : A) → ◌≡◌ {A = Option A} (Some a) (Some b) → a ≡ b
-some_is a b e = cc
 
 -- ---- moving
 

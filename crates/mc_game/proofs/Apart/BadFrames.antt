@@ -21,7 +21,8 @@ use Rattle.mc_game.specs.World.{Seat, Turn, Unread, World, seat_of, unread_of, w
 use Rattle.mc_game.specs.Step.{acted, after, answer_login, asked_by, on_frame, on_frames, perform}
 use Rattle.mc_game.specs.Step.{depart, disconnect_for, on_bytes, on_fault, read_to, refusal}
 use Rattle.mc_game.specs.Step.{step, still}
-use Rattle.mc_game.specs.Apart.{HasBadFrame, IsBad, IsBadRequest, IsShut, SameBut, cut_behind}
+use Rattle.mc_game.specs.Apart.{HasBadFrame, IsBad, IsBadRequest, IsShut, SameBut, StandsBefore}
+use Rattle.mc_game.specs.Apart.{cut_behind}
 use Rattle.mc_game.proofs.Maps.Lookups.{put_other, put_same}
 use Rattle.mc_game.proofs.Walk.Handings.{gone_closed}
 use Rattle.mc_game.proofs.Walk.Each.{disconnect_closes}
@@ -137,7 +138,8 @@ bad_too k s u [] None bad = bad
 bad_too k s u [] (Some fault) bad = bad
 bad_too k s u (frame ∷ later) fault bad = bad_request_too k s u (asked_by s frame) bad
 
-module _ (k : ℕ) (w : World) (bytes before : List ℕ) (h : HasBadFrame k w bytes before) where
+module _ (k : ℕ) (w : World) (bytes before : List ℕ) (h : HasBadFrame k w bytes)
+    (stands : StandsBefore k w bytes h.good before) where
   abbrev seat : Seat
   seat = seat_of w k h.link
 
@@ -172,7 +174,8 @@ module _ (k : ℕ) (w : World) (bytes before : List ℕ) (h : HasBadFrame k w by
   unfolding on_bytes
   after_before = rw h.open_ (ap (λ (fault : Option FrameFault).
       (on_fault k (on_frames k (reading before) (cut_behind w k before).frames).seat fault).seat)
-      h.clean ∙ ap (λ (fs : List (List ℕ)). (on_frames k (reading before) fs).seat) h.whole
+      stands.clean
+      ∙ ap (λ (fs : List (List ℕ)). (on_frames k (reading before) fs).seat) stands.whole
       ∙ passed_by before)
 
   -- and then it leaves

@@ -19,15 +19,13 @@ use Rattle.mc_game.specs.Maps.{name_cmp}
 use Rattle.mc_game.specs.Game.{Game, pack_named}
 use Rattle.mc_game.specs.Deeds.{enter_as, go_of, new_player, spawned}
 use Rattle.mc_game.specs.Good.{AreApart, Good, IsOwn, IsPlayed, is_body}
+use Rattle.mc_game.proofs.Maps.Options.{some_is}
 use Rattle.mc_game.proofs.Maps.Lookups.{gone_other, gone_same, name_cases, name_put_other}
 use Rattle.mc_game.proofs.Maps.Lookups.{name_put_same, put_other, put_same}
 use Rattle.mc_game.proofs.Maps.Entities.{found_before, found_behind, found_either}
 use Rattle.mc_game.proofs.Maps.Entities.{other_eid, rise_join, same_eid, without_rise}
 use Rattle.mc_game.proofs.Maps.Entities.{without_eid, without_no_eid}
 use Rattle.mc_game.proofs.Deeds.Packs.{named_is_pack}
-
-some_is : {A : Type 0} (a b : A) → ◌≡◌ {A = Option A} (Some a) (Some b) → a ≡ b
-some_is a b e = cc
 
 none_some : {A : Type 0} (a : A) → ◌≡◌ {A = Option A} None (Some a) → ⊥
 none_some a e = cc

@@ -17,6 +17,7 @@ use Rattle.mc_game.specs.declared.player.Player.{Player}
 use Rattle.mc_game.specs.Maps.{modify, name_cmp}
 use Rattle.mc_game.specs.Game.{Game}
 use Rattle.mc_game.specs.Good.{AreApart, Good, IsOwn, IsPlayed, IsWhole, body_of, is_body}
+use Rattle.mc_game.proofs.Maps.Options.{some_is}
 use Rattle.mc_game.proofs.Maps.Lookups.{changed_other, changed_same, name_cases}
 
 -- ---- players but for what the law does not read
@@ -148,9 +149,6 @@ names_apart : (entities : List Entity) (eids : ℕ) (packs : FinMap name_cmp Pac
     p.name ≢ q.name
 names_apart entities eids packs p q a b apart same =
     apart.uuid (a.uuid ∙ ap offline_uuid same ∙ sym b.uuid)
-
-some_is : {A : Type 0} (a b : A) → ◌≡◌ {A = Option A} (Some a) (Some b) → a ≡ b
-some_is a b e = cc
 
 module _ (k : ℕ) (p q : Player) (g v : Game) (c : ChangesOne k p q g v) (w : Good g) where
   mine : (r : Player) → get v.players k ≡ Some r → r ≡ q

@@ -4,7 +4,8 @@ use Rattle.std.proofs.Common.{◌≡◌, ◌≢◌, ℕ, ◌<◌, ◌≤◌, Boo
 use Rattle.std.proofs.Common.{None, refl, ap, ◌∙◌, inl, inr, arith}
 use Rattle.std.specs.Prelude.{is_some, option_map, unwrap_or, if◌then◌else◌}
 use Rattle.std.proofs.lemmas.Bool.{cases_eq}
-use Rattle.std.specs.FinMap.{get}
+use Rattle.std.specs.Cmp.{nat_cmp_total}
+use Rattle.std.specs.FinMap.{get, len, len-insert}
 use lib.IntN.{pos}
 use Rattle.mc_fields.specs.declared.position.Cell.{Cell}
 use Rattle.mc_fields.specs.declared.position.Spot.{Spot}
@@ -14,8 +15,11 @@ use Rattle.mc_slots.specs.Pile.{IsPile}
 use Rattle.mc_windows.specs.Pack.{PackValue, IsPack, kit_pack}
 use Rattle.mc_model.specs.Notes.{Noted}
 use Rattle.mc_model.specs.Things.{in_hand, holding, standing, with_hand}
+use Rattle.mc_model.proofs.Lasting.{GivenKinds, Since}
+use Rattle.mc_model.proofs.LastingKept.{holding_steady, since_mapped, since_more, standing_steady}
+use Rattle.mc_model.proofs.LastingKept.{steady_at}
 use Rattle.mc_game.specs.declared.player.Player.{Player}
-use Rattle.mc_game.specs.Maps.{modify}
+use Rattle.mc_game.specs.Maps.{modify, with_value}
 use Rattle.mc_game.specs.Game.{Game, pack_of}
 use Rattle.mc_game.specs.Deeds.{noting, rehand_of, repack_of, said, stand_of, thrown}
 use Rattle.mc_game.specs.Deeds.{with_player, with_state}
@@ -30,13 +34,22 @@ use Rattle.mc_game.proofs.Deeds.Keeping.{will_change}
 use Rattle.mc_game.proofs.Deeds.Coming.{spawned_good}
 use Rattle.mc_game.proofs.Deeds.Packs.{named_is_pack, with_hand_is_pack}
 
+abbrev pub name_of : Player → List ℕ
+name_of p = p.name
+
 -- what the player of a connection makes of a game
 pub record Onward (k : ℕ) (g v : Game) : Type 0 where
   pub good : Good g → Good v
   pub keys : (j : ℕ) → is_some (get v.players j) ≡ is_some (get g.players j)
   pub traits : (j : ℕ) → j ≢ k →
       option_map traits_of (get v.players j) ≡ option_map traits_of (get g.players j)
+  pub names : (j : ℕ) →
+      option_map name_of (get v.players j) ≡ option_map name_of (get g.players j)
+  pub few : len v.players ≤ len g.players
+  -- an entity stays of its kind
+  pub since : (old : GivenKinds) → Since old g.eids g.entities → Since old v.eids v.entities
   pub settings : v.settings ≡ g.settings
+  pub age : v.age ≡ g.age
   pub more : g.eids ≤ v.eids
 
 pub nothing_on : (k : ℕ) (g : Game) → Onward k g g
@@ -44,7 +57,11 @@ nothing_on k g = record {
   good = λ w. w;
   keys = λ j. refl;
   traits = λ j ne. refl;
+  names = λ j. refl;
+  few = omega arith;
+  since = λ old since. since;
   settings = refl;
+  age = refl;
   more = omega arith;
 }
 
@@ -53,7 +70,11 @@ so k g v u a b = record {
   good = λ w. b.good (a.good w);
   keys = λ j. b.keys j ∙ a.keys j;
   traits = λ j ne. b.traits j ne ∙ a.traits j ne;
+  names = λ j. b.names j ∙ a.names j;
+  few = (let m = a.few in let n = b.few in omega (arith, m, n));
+  since = λ old since. b.since old (a.since old since);
   settings = b.settings ∙ a.settings;
+  age = b.age ∙ a.age;
   more = (let m = a.more in let n = b.more in omega (arith, m, n));
 }
 
@@ -79,6 +100,31 @@ module _ (k : ℕ) (f : Player → Player) (g : Game) where
       ≡ option_map traits_of (get g.players j)
   traits_changed j ne = ap (option_map traits_of) (changed_other g.players k j f ne)
 
+  names_changed : ((p : Player) → (f p).name ≡ p.name) → (j : ℕ) →
+      option_map name_of (get (modify k f g.players) j)
+      ≡ option_map name_of (get g.players j)
+  names_changed keeps j = elim (cases_eq j k) [
+    | inl same ↦ rw same (ap (option_map name_of) (changed_same g.players k f)
+        ∙ mapped (get g.players k))
+    | inr ne ↦ ap (option_map name_of) (changed_other g.players k j f ne)
+  ]
+    where
+      mapped : (o : Option Player) →
+          option_map name_of (option_map f o) ≡ option_map name_of o
+      mapped None = refl
+      mapped (Some p) = ap Some (keeps p)
+
+  few_changed : len (modify k f g.players) ≤ len g.players
+  few_changed = step (get g.players k) refl
+    where
+      step : (o : Option Player) → get g.players k ≡ o →
+          len (with_value g.players k (option_map f o)) ≤ len g.players
+      step None is = omega arith
+      step (Some p) is =
+          let added = len-insert nat_cmp_total g.players k (f p) in
+          let there = ap is_some is in
+          grind (arith, added, there)
+
 pub with_player_on : (k : ℕ) (f : Player → Player) (g : Game) → ((p : Player) → IsLike (f p) p) →
     Onward k g (with_player k f g)
 with_player_on k f g keeps = record {
@@ -86,7 +132,11 @@ with_player_on k f g keeps = record {
       (was_changed g.players k f keeps) (will_change g.players k f keeps) w;
   keys = keys_changed k f g;
   traits = traits_changed k f g;
+  names = names_changed k f g (λ p. (keeps p).name);
+  few = few_changed k f g;
+  since = λ old since. since;
   settings = refl;
+  age = refl;
   more = omega arith;
 }
 
@@ -107,7 +157,12 @@ repack_on k p pack g there is = record {
   good = λ w. one_changed k p p g (repack_of p pack g) (changes w) w;
   keys = λ j. refl;
   traits = λ j ne. refl;
+  names = λ j. refl;
+  few = omega arith;
+  since = λ old since. since_mapped _ g.entities
+      (steady_at p.eid (holding (in_hand pack p.hand)) (holding_steady _)) since;
   settings = refl;
+  age = refl;
   more = omega arith;
 }
   where
@@ -146,7 +201,12 @@ rehand_on k p hand g there small = record {
   good = λ w. one_changed k p (record p { hand = hand }) g (rehand_of k p hand g) (changes w) w;
   keys = keys_changed k f g;
   traits = traits_changed k f g;
+  names = names_changed k f g (λ q. refl);
+  few = few_changed k f g;
+  since = λ old since. since_mapped _ g.entities
+      (steady_at p.eid (holding (in_hand (pack_of g p) hand)) (holding_steady _)) since;
   settings = refl;
+  age = refl;
   more = omega arith;
 }
   where
@@ -189,7 +249,12 @@ stand_on k p spot g there = record {
   good = λ w. one_changed k p p g (stand_of p spot g) (changes w) w;
   keys = λ j. refl;
   traits = λ j ne. refl;
+  names = λ j. refl;
+  few = omega arith;
+  since = λ old since. since_mapped _ g.entities
+      (steady_at p.eid (standing spot) (standing_steady spot)) since;
   settings = refl;
+  age = refl;
   more = omega arith;
 }
   where
@@ -222,7 +287,11 @@ thrown_on k item spot g = record {
   good = spawned_good _ spot g refl;
   keys = λ j. refl;
   traits = λ j ne. refl;
+  names = λ j. refl;
+  few = omega arith;
+  since = λ old since. since_more _ spot g.entities since;
   settings = refl;
+  age = refl;
   more = omega arith;
 }
 
@@ -232,7 +301,11 @@ with_state_on k cell state g = record {
   good = λ w. w;
   keys = λ j. refl;
   traits = λ j ne. refl;
+  names = λ j. refl;
+  few = omega arith;
+  since = λ old since. since;
   settings = refl;
+  age = refl;
   more = omega arith;
 }
 
@@ -241,6 +314,10 @@ said_on k line g = record {
   good = λ w. w;
   keys = λ j. refl;
   traits = λ j ne. refl;
+  names = λ j. refl;
+  few = omega arith;
+  since = λ old since. since;
   settings = refl;
+  age = refl;
   more = omega arith;
 }

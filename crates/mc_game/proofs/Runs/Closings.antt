@@ -22,16 +22,11 @@ use Rattle.mc_game.specs.Step.{on_frames, perform, refusal}
 use Rattle.mc_game.specs.Promised.{HasCause}
 use Rattle.mc_game.specs.Causes.{EnteringCloses, FirstCloses, IsTooMuch, NextCloses, RequestCloses}
 use Rattle.mc_game.specs.Causes.{or_backlog}
+use Rattle.mc_game.proofs.Maps.Options.{none_some, some_is}
 use Rattle.mc_game.proofs.Walk.Handings.{hand_cases}
 use Rattle.mc_game.proofs.Walk.Moves.{frame_walks, walked_keeps}
 use Rattle.mc_game.proofs.Runs.Owing.{Owes, heard_link, owes_kept}
 use Rattle.mc_game.proofs.Runs.Effects.{no_cause, owes_first}
-
-some_is : {A : Type 0} (a b : A) → ◌≡◌ {A = Option A} (Some a) (Some b) → a ≡ b
-some_is a b e = cc
-
-none_some : {A : Type 0} (o : Option A) (a : A) → o ≡ None → o ≡ Some a → ⊥
-none_some o a none some = (let clash = sym none ∙ some in cc)
 
 -- ---- handing
 

@@ -22,16 +22,11 @@ use Rattle.mc_game.specs.Run.{cause_in}
 use Rattle.mc_game.specs.Good.{GoodWorld}
 use Rattle.mc_game.specs.Promised.{HasCause}
 use Rattle.mc_game.specs.Causes.{BytesClose, Closes, IsOpen, TickCloses}
+use Rattle.mc_game.proofs.Maps.Options.{none_some, some_is}
 use Rattle.mc_game.proofs.Maps.Lookups.{gone_other, gone_same, put_other, put_same}
 use Rattle.mc_game.proofs.Walk.Ticking.{after_tick, tick_cases, tick_link}
 use Rattle.mc_game.proofs.Runs.Effects.{seat_own, seat_rests}
 use Rattle.mc_game.proofs.Runs.Closings.{frames_close, hand_closes, last_closes}
-
-some_is : {A : Type 0} (a b : A) → ◌≡◌ {A = Option A} (Some a) (Some b) → a ≡ b
-some_is a b e = cc
-
-none_some : {A : Type 0} (o : Option A) (a : A) → o ≡ None → o ≡ Some a → ⊥
-none_some o a none some = (let clash = sym none ∙ some in cc)
 
 abbrev cause_of : Option Link → Option Cause
 cause_of o = option_and_then (λ (l : Link). l.cause) o

@@ -1,5 +1,5 @@
 -- A connection is there until it is forgotten, which is when it is closed and owed nothing.
-use Rattle.std.proofs.Common.{◌≡◌, ℕ, true, List, [], Option, Some, None, sym, ap, ◌∙◌}
+use Rattle.std.proofs.Common.{◌≡◌, ℕ, List, Option, Some, sym, ap, ◌∙◌}
 use Rattle.std.specs.FinMap.{get}
 use Rattle.mc_model.specs.Packets.{Sent}
 use Rattle.mc_model.specs.Step.{Event}
@@ -9,10 +9,8 @@ use Rattle.mc_game.specs.World.{World}
 use Rattle.mc_game.specs.Step.{step}
 use Rattle.mc_game.specs.Good.{GoodWorld}
 use Rattle.mc_game.specs.Promised.{HasCause, Lasts, is_forgotten, stays}
+use Rattle.mc_game.proofs.Maps.Options.{some_is}
 use Rattle.mc_game.proofs.Runs.Effects.{Effect, effect, ends, goes, hands, joins, rests, takes}
-
-some_is : {A : Type 0} (a b : A) → ◌≡◌ {A = Option A} (Some a) (Some b) → a ≡ b
-some_is a b e = cc
 
 lasts_by : (k : ℕ) (w : World) (e : Event) (l : Link) (o : Option Link) (last : Option ℕ)
     (ps : List Sent) (taken lost : List ℕ) → o ≡ Some l →

@@ -1,5 +1,5 @@
 -- What a connection is owed, and why it is closed, after whatever its bytes do.
-use Rattle.std.proofs.Common.{◌≡◌, ◌≢◌, ℕ, true, false, List, [], ◌∷◌, ◌++◌, Option, Some}
+use Rattle.std.proofs.Common.{◌≡◌, ◌≢◌, ℕ, true, false, List, [], ◌∷◌, ◌++◌, Some}
 use Rattle.std.proofs.Common.{refl, sym, subst, ap, ◌∙◌, append_assoc, inl, inr}
 use Rattle.std.specs.Prelude.{◌⊎◌, is_some}
 use Rattle.std.proofs.lemmas.List.{append-nil}
@@ -14,12 +14,10 @@ use Rattle.mc_game.specs.Link.{Handing, Link, hand, mark_closed}
 use Rattle.mc_game.specs.World.{Seat, Turn}
 use Rattle.mc_game.specs.Step.{heard}
 use Rattle.mc_game.specs.Promised.{HasCause}
+use Rattle.mc_game.proofs.Maps.Options.{some_is}
 use Rattle.mc_game.proofs.Walk.Handings.{hand_cases}
 use Rattle.mc_game.proofs.Walk.Moves.{Kept, keeps, does, shakes, answers, closes}
 use Rattle.mc_game.proofs.Walk.Moves.{comes_in}
-
-some_is : {A : Type 0} (a b : A) → ◌≡◌ {A = Option A} (Some a) (Some b) → a ≡ b
-some_is a b e = cc
 
 pub bytes_joined : (ps qs : List Sent) → bytes_of (ps ++ qs) ≡ bytes_of ps ++ bytes_of qs
 bytes_joined [] qs = refl

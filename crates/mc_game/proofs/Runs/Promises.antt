@@ -24,6 +24,7 @@ use Rattle.mc_game.specs.Run.{taken_at, why}
 use Rattle.mc_game.specs.Good.{GoodWorld}
 use Rattle.mc_game.specs.Apart.{IsShut}
 use Rattle.mc_game.specs.Promised.{HasCause, Promised}
+use Rattle.mc_game.proofs.Maps.Options.{none_some, some_is}
 use Rattle.mc_game.proofs.Walk.Each.{each_last}
 use Rattle.mc_game.proofs.Walk.Steps.{Move, departs, forgets as forgetting, joins as joining_in}
 use Rattle.mc_game.proofs.Walk.Steps.{passes, rests as resting, sits, step_moves, takes as taking}
@@ -63,12 +64,6 @@ first_not (Some d) z c ne e = ne e
 first_again : (x y z : Option Cause) → first_of (first_of x y) z ≡ first_of x (first_of y z)
 first_again None y z = refl
 first_again (Some c) y z = refl
-
-some_is : {A : Type 0} (a b : A) → ◌≡◌ {A = Option A} (Some a) (Some b) → a ≡ b
-some_is a b e = cc
-
-none_some : {A : Type 0} (o : Option A) (a : A) → o ≡ None → o ≡ Some a → ⊥
-none_some o a none some = (let clash = sym none ∙ some in cc)
 
 is_backlog : (y : Option Cause) → (y ≡ Some causes.Backlog) ⊎ (y ≢ Some causes.Backlog)
 is_backlog None = inr (λ e. cc)
@@ -313,7 +308,7 @@ module _ (k : ℕ) (last later : Option ℕ) (o q : Option Link) (st tk lo : Lis
 -- ---- runs
 
 -- who may join after an event may have joined before it
-still_new : (w : World) (o : Outcome) (k : ℕ) → Move w o → is_new k o.world.last ≡ true →
+pub still_new : (w : World) (o : Outcome) (k : ℕ) → Move w o → is_new k o.world.last ≡ true →
     is_new k w.last ≡ true
 still_new w o k (resting is) new = subst (λ (x : Outcome). is_new k x.world.last ≡ true) is new
 still_new w o k (sits j l t there walked is) new =

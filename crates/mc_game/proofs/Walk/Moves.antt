@@ -84,7 +84,7 @@ play_suits : (r : Result PlayUp PacketFault) → Suits stages.Play (in_play r)
 play_suits (Ok packet) = refl
 play_suits (Err fault) = tt
 
-suits : (stage : Stage) (most online : ℕ) (frame : List ℕ) →
+pub suits : (stage : Stage) (most online : ℕ) (frame : List ℕ) →
     Suits stage (request_of stage most online frame)
 unfolding request_of
 suits stages.Hand most online frame =
@@ -252,13 +252,13 @@ unfolding on_frame
 frame_walks k s frame = open_case k s (λ (s : Seat). perform k s (asked_by s frame))
     (λ open_. perform_walks k s (asked_by s frame) open_ (suits s.link.stage _ _ frame))
 
-frames_walk : (k : ℕ) (s : Seat) (frames : List (List ℕ)) → Walked k s (on_frames k s frames)
+pub frames_walk : (k : ℕ) (s : Seat) (frames : List (List ℕ)) → Walked k s (on_frames k s frames)
 frames_walk k s [] = walked_still k s
 frames_walk k s (frame ∷ frames) =
     walked_on k s (on_frame k s frame) (on_frames k (on_frame k s frame).seat frames)
     (frame_walks k s frame) (frames_walk k (on_frame k s frame).seat frames)
 
-fault_walks : (k : ℕ) (s : Seat) (o : Option FrameFault) → Walked k s (on_fault k s o)
+pub fault_walks : (k : ℕ) (s : Seat) (o : Option FrameFault) → Walked k s (on_fault k s o)
 fault_walks k s None = walked_still k s
 fault_walks k s (Some fault) = open_case k s
     (λ (s : Seat). disconnect_for k s (causes.Frame fault))

@@ -12,11 +12,14 @@ use Rattle.mc_model.specs.Talk.{farewell}
 use Rattle.mc_model.specs.World.{is_closed}
 use Rattle.mc_game.specs.declared.player.Player.{Player}
 use Rattle.mc_game.specs.Link.{Handing, Link, disconnect, hand, quiet}
-use Rattle.mc_game.specs.Showing.{due}
+use Rattle.mc_game.specs.Showing.{due, last_shown, sight_of}
 use Rattle.mc_game.specs.World.{World, is_closing}
 use Rattle.mc_game.specs.Tick.{aged, at_tick, awaiting, beat, beat_of, flush, flush_of, grown}
-use Rattle.mc_game.specs.Tick.{is_silent, shown_all, tick, tick_hands}
+use Rattle.mc_game.specs.Tick.{is_silent, shown_all, tick, tick_hands, told, told_player}
+use Rattle.mc_game.proofs.Maps.Options.{some_is}
+use Rattle.mc_game.proofs.Maps.Lookups.{get_keyed}
 use Rattle.mc_game.proofs.Walk.Each.{disconnect_closes, each_links, each_players, each_shown}
+use Rattle.mc_game.proofs.Walk.Each.{each_last, each_unread, told_players}
 use Rattle.mc_game.proofs.Apart.Outs.{handed_by, to_each}
 
 -- first by its beat, then by what is due
@@ -54,8 +57,38 @@ pub tick_handed : (w : World) (k : ℕ) → to k (tick w).out
     ≡ handed_by (λ (j : ℕ) (l : Link). tick_hands w j l) k (get w.links k)
 tick_handed w k = to_each (λ (j : ℕ) (l : Link). tick_hands w j l) k w.links
 
+-- its world has what was shown before, and the number of the last join
+pub at_tick_shown : (w : World) → (at_tick w).shown ≡ w.shown
+at_tick_shown w =
+    each_shown (λ (j : ℕ) (l : Link). beat (grown w.game) (get w.shown j) j l) (aged w)
+
+pub at_tick_last : (w : World) → (at_tick w).last ≡ w.last
+at_tick_last w =
+    each_last (λ (j : ℕ) (l : Link). beat (grown w.game) (get w.shown j) j l) (aged w)
+
+-- what of it was not read, it stays
+pub tick_unread : (w : World) → (tick w).world.unread ≡ w.unread
+tick_unread w =
+    each_unread (λ (j : ℕ) (l : Link). flush (at_tick w).game (get (at_tick w).shown j) j l)
+    (shown_all (at_tick w))
+    ∙ each_unread (λ (j : ℕ) (l : Link). beat (grown w.game) (get w.shown j) j l) (aged w)
+
+-- whoever is in play in the world of a tick was shown its game
+pub tick_shown : (w : World) (k : ℕ) → get (tick w).world.shown k
+    ≡ option_map (λ (p : Player). sight_of (at_tick w).game p (last_shown (get w.shown k)))
+    (get (at_tick w).game.players k)
+tick_shown w k =
+    ap (λ m. get m k)
+    (each_shown (λ (j : ℕ) (l : Link). flush (at_tick w).game (get (at_tick w).shown j) j l)
+    (shown_all (at_tick w)))
+    ∙ get_keyed (λ (j : ℕ) (p : Player).
+    sight_of (at_tick w).game p (last_shown (get (at_tick w).shown j))) (at_tick w).game.players k
+    ∙ ap (λ m. option_map (λ (p : Player). sight_of (at_tick w).game p (last_shown (get m k)))
+    (get (at_tick w).game.players k))
+    (each_shown (λ (j : ℕ) (l : Link). beat (grown w.game) (get w.shown j) j l) (aged w))
+
 -- who is in play in the world of a tick
-at_tick_player : (w : World) (k : ℕ) (l : Link) → get w.links k ≡ Some l →
+pub at_tick_player : (w : World) (k : ℕ) (l : Link) → get w.links k ≡ Some l →
     get (at_tick w).game.players k
     ≡ cond (is_closed (beat (grown w.game) (get w.shown k) k l).link.stage) None
     (get w.game.players k)
@@ -64,6 +97,51 @@ at_tick_player w k l there =
     ∙ ap (λ (o : Option Link). cond (is_closing
     (λ (j : ℕ) (m : Link). beat (grown w.game) (get w.shown j) j m) k o) None
     (get w.game.players k)) there
+
+-- one that is not silent is in play in it, and whoever is not was not before
+pub speaks_there : (w : World) (k : ℕ) (l : Link) (p : Player) → get w.links k ≡ Some l →
+    get w.game.players k ≡ Some p → is_closed l.stage ≡ false →
+    is_silent (grown w.game) (get w.shown k) l ≡ false →
+    get (at_tick w).game.players k ≡ Some p
+speaks_there w k l p there plays open_ speaks = at_tick_player w k l there
+    ∙ ap (λ (o : Option Player). cond (is_closed
+    (beat_of (grown w.game) (get w.shown k) l o).link.stage) None o) plays
+    ∙ rw (speaks, open_) refl
+
+pub nobody_there : (w : World) (k : ℕ) (l : Link) → get w.links k ≡ Some l →
+    get w.game.players k ≡ None → get (at_tick w).game.players k ≡ None
+nobody_there w k l there none = at_tick_player w k l there
+    ∙ ap (λ (o : Option Player). cond (is_closed
+    (beat_of (grown w.game) (get w.shown k) l o).link.stage) None o) none
+    ∙ either_none (is_closed l.stage)
+  where
+    either_none : (b : Bool) → ◌≡◌ {A = Option Player} (cond b None None) None
+    either_none true = refl
+    either_none false = refl
+
+-- who is in play after a tick was so in its world, and was told what it was shown
+pub tick_player : (w : World) (k : ℕ) (p : Player) →
+    get (tick w).world.game.players k ≡ Some p →
+    (q : Player) × (get (at_tick w).game.players k ≡ Some q) × (told_player q ≡ p)
+tick_player w k p there =
+    at_player (get (at_tick w).game.players k) refl (sym (told_players (at_tick w).game k))
+    (is_closing (λ (j : ℕ) (l : Link). flush (at_tick w).game (get (at_tick w).shown j) j l) k
+    (get (at_tick w).links k))
+    (sym (each_players (λ (j : ℕ) (l : Link).
+    flush (at_tick w).game (get (at_tick w).shown j) j l) (shown_all (at_tick w)) k) ∙ there)
+  where
+    at_player : (o : Option Player) → get (at_tick w).game.players k ≡ o →
+        option_map told_player (get (at_tick w).game.players k)
+        ≡ get (told (at_tick w).game).players k →
+        (b : Bool) → cond b None (get (told (at_tick w).game).players k) ≡ Some p →
+        (q : Player) × (get (at_tick w).game.players k ≡ Some q) × (told_player q ≡ p)
+    at_player o is same true e = absurd cc
+    at_player None is same false e =
+        (let clash : ◌≡◌ {A = Option Player} None (Some p) =
+        sym (ap (option_map told_player) is) ∙ same ∙ e in absurd cc)
+    at_player (Some q) is same false e =
+        (let now : ◌≡◌ {A = Option Player} (Some (told_player q)) (Some p) =
+        sym (ap (option_map told_player) is) ∙ same ∙ e in (q, is, some_is (told_player q) p now))
 
 -- who is handed something by its beat, and then what is due
 abbrev then_flushed : World → ℕ → Handing → Option Player → Handing

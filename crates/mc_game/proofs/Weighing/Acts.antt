@@ -40,9 +40,9 @@ use Rattle.mc_game.specs.Placing.{is_free, place_at, placed, put_block}
 use Rattle.mc_game.specs.Reaching.{is_in_reach}
 use Rattle.mc_game.specs.Acts.{act, act_by, act_of}
 use Rattle.mc_game.specs.Good.{Good}
+use Rattle.mc_game.proofs.Maps.Options.{some_is}
 use Rattle.mc_game.proofs.Deeds.Onwards.{Onward, with_state_on}
 use Rattle.mc_game.proofs.Deeds.Packs.{held_is_item}
-use Rattle.mc_game.proofs.Acts.Topics.{some_is}
 use Rattle.mc_game.proofs.Weighing.Deeds.{Weighs, air_counts, carrying_weighs, dug_counts}
 use Rattle.mc_game.proofs.Weighing.Deeds.{placed_counts, rehand_weighs, stand_weighs, state_weighs}
 use Rattle.mc_game.proofs.Weighing.Deeds.{still_weighs, thrown_weighs, weighs_even, weighs_on}
