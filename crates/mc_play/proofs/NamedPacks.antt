@@ -1,19 +1,18 @@
 -- Packs by names: looking one up, another pack under a name, and a name that is new, among the
 -- strings that a server keeps.
-use Rattle.std.proofs.Common.{◌≡◌, ◌+◌, Bool, true, false, cond, List, [], ◌∷◌, ◌++◌, map, length}
-use Rattle.std.proofs.Common.{Option, Some, None, IsSome, refl, sym, ap, ◌∙◌, ℕ, arith, is_some}
+use Rattle.std.proofs.Common.{◌≡◌, ◌+◌, Bool, true, false, cond, List, [], ◌∷◌, ◌++◌, length}
+use Rattle.std.proofs.Common.{Option, Some, None, refl, sym, ap, ◌∙◌, ℕ, arith, is_some}
 use Rattle.std.proofs.Common.{option_map, unwrap_or, Bor}
 use Rattle.std.specs.Option.{option_copied}
 use Rattle.indexmap.specs.IndexMap.{insert_entry}
 use Rattle.indexmap.proofs.MapLemmas.{absent_from_lookup, insert_entry-absent}
 use Rattle.std.proofs.lemmas.Bool.Decides.{nat_tests}
-use Rattle.std.specs.Ordering.{is_eq, eq_by_cmp, nat_cmp}
-use Rattle.std.specs.Cmp.Lexicographic.{slice_cmp}
+use Rattle.std.specs.Ordering.{eq_by_cmp}
 use Rattle.std.proofs.lemmas.Cmp.{nat_list_cmp_total}
 use Rattle.std.proofs.lemmas.Map.Text.{is_eq-slice_cmp}
-use Rattle.std.specs.FinMap.{FinMap, find, from_entries, get, get-from_entries, get-insert, insert}
+use Rattle.std.specs.FinMap.{FinMap, find, get, get-from_entries, get-insert, insert}
 use Rattle.std.specs.FinMap.{same_map, slice_cmp-IsAntisymmetric, nat_cmp-IsAntisymmetric}
-use Rattle.std.specs.FinMap.{IsAntisymmetric, contains_key, get-empty, len, len-empty, len-insert}
+use Rattle.std.specs.FinMap.{IsAntisymmetric, get-empty, len, len-empty, len-insert}
 use Rattle.std.specs.List.{AllByRecursion, IsDistinct}
 use Rattle.std.proofs.lemmas.Map.Keys.{IsDistinct-head, IsDistinct-tail}
 use Rattle.std.specs.Map.{keys_of, lookup, set_value}

@@ -6,6 +6,8 @@ use Rattle.std.specs.Coded.{coded_option}
 use Rattle.std.specs.FinMap.{FinMap, code}
 use lib.IntN.{ℤ}
 use Rattle.mc_fields.specs.declared.position.Cell.{Cell}
+use Rattle.mc_land.specs.LandCode.{coded_key}
+use Rattle.mc_land.specs.Places.{key_cmp}
 use Rattle.mc_slots.specs.declared.pile.Pile.{Pile}
 use Rattle.mc_slots.specs.PileCode.{coded_pile}
 use Rattle.mc_windows.specs.Pack.{PackValue}
@@ -80,3 +82,6 @@ coded_pack =
 
 abbrev pub coded_packs : Coded (FinMap name_cmp PackValue)
 coded_packs = code (coded_list coded_ℕ) coded_pack
+
+abbrev pub coded_chests : Coded (FinMap key_cmp (List Pile))
+coded_chests = code coded_key (coded_list coded_pile)

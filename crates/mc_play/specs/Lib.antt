@@ -1,2 +1,5 @@
+pub mod Acting
+pub mod Admitting
 pub mod Codes
+pub mod Kept
 pub mod Named

@@ -1,11 +1,21 @@
-//! The game as a server keeps it: who is in play, and what each name carries.
+//! The game as a server keeps it: the land, the entities, who is in play, and what each name
+//! carries.
 //!
 //! Stands on the definitions of `mc_game`. Its one contract: each call makes of what is kept
-//! exactly what the definition makes of the finite map that it stands for.
+//! exactly what the definition makes of the game that it stands for.
 #![tactic(auto)]
 
+mod entities;
+mod game;
+mod ground;
+mod hands;
+mod limits;
 mod packs;
 mod players;
+mod reach;
+mod said;
 
+pub use game::{ActFault, Game};
 pub use packs::Packs;
 pub use players::Players;
+pub use said::Said;

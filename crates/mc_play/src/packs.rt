@@ -4,6 +4,8 @@ ghost use Rattle.std.specs.FinMap.{empty, get, insert, len};
 ghost use Rattle.mc_windows.specs.Pack.{PackValue, kit_pack};
 ghost use Rattle.mc_game.specs.Maps.{modify};
 
+mod fields;
+
 use indexmap::IndexMap;
 use mc_bytes::{NoMemory, Text};
 use mc_windows::{Pack, kit};

@@ -2,18 +2,23 @@ ghost use Rattle.std.specs.Prelude.{◌≡◌, ◌==◌, ◌∷◌, ℕ, [], OnE
 ghost use Rattle.std.specs.List.{list_any};
 ghost use Rattle.std.specs.Option.{option_copied, option_copied_mut};
 ghost use Rattle.std.specs.BTreeMap as tree;
+ghost use Rattle.std.specs.Map.Iter.{ShowsInOrder, deref};
 ghost use Rattle.std.specs.FinMap.{empty, get, insert, len, remove, values};
 ghost use Rattle.mc_model.specs.Packs.{again, with_cells};
+ghost use Rattle.mc_model.specs.Placing.{placing_refused};
 ghost use Rattle.mc_game.specs.Maps.{map_keyed, modify};
 ghost use Rattle.mc_game.specs.Movement.{placed_again};
 ghost use Rattle.mc_game.specs.Tick.{told_player};
 ghost use Rattle.mc_game.specs.declared.player.Player as declared;
+
+mod fields;
 
 use mc_bytes::NoMemory;
 use mc_fields::Cell;
 use mc_game::Player;
 use std::alloc::Global;
 use std::collections::BTreeMap;
+use std::collections::btree_map::Values;
 use std::marker::Model;
 
 /// The players in play, by the numbers of their connections. Contracts see them as that map.
@@ -55,6 +60,14 @@ impl Players {
         Players {
             by_connection: BTreeMap::new(alloc),
         }
+    }
+
+    /// Those in play, in the order of their connections.
+    pub fn all(&self) -> Values<'_, u32, Player>
+        ensures are { result ≡ values self.now }
+        ensures runs { ShowsInOrder (deref {X = declared.Player}) }
+    {
+        self.by_connection.values()
     }
 
     /// The player of a connection, if it has one.
@@ -162,6 +175,26 @@ impl Players {
     {
         if let Some(player) = self.find_mut(connection) {
             player.notes.cell(cell)?;
+        }
+        Ok(())
+    }
+
+    /// Notes two cells that the client of a connection is to be sent, and that it is to be sent its
+    /// window again, if it has a player.
+    pub fn refuse_placing(
+        &mut self,
+        connection: u32,
+        cell: Cell,
+        target: Cell,
+    ) -> Result<(), NoMemory>
+        ensures { OnOk result (self.new ≡ modify connection (λ (p : declared.Player). record p {
+          notes = placing_refused cell target p.notes;
+        }) self.old) }
+    {
+        if let Some(player) = self.find_mut(connection) {
+            player.notes.cell(cell)?;
+            player.notes.cell(target)?;
+            player.notes.again();
         }
         Ok(())
     }

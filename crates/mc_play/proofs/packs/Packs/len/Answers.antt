@@ -1,4 +1,4 @@
-use Rattle.std.proofs.Common.{◌∙◌, rules}
+use Rattle.std.proofs.Common.{◌∙◌}
 use Rattle.mc_play.proofs.NamedPacks.{counted}
 use Rattle.mc_play.proofs.packs.Packs.len.Goals as goal
 

@@ -1,0 +1,122 @@
+-- What contracts see of a game as it is kept: the game of the definitions, the cells at the last
+-- settling, and what is kept beside them for speed alone.
+use Rattle.std.specs.Prelude.{◌≡◌, ◌⊎◌, ℕ, ◌≤◌, ◌<◌, List, [], Option, Some, None}
+use Rattle.std.specs.List.{AllByRecursion}
+use Rattle.std.specs.FinMap.{FinMap, empty, get}
+use Rattle.std.specs.FinSet as set
+use Rattle.std.specs.Ordering.{nat_cmp}
+use lib.IntN.{ℤ, pos, negsuc}
+use lib.Signed.{◌≤ℤ◌}
+use Rattle.mc_fields.specs.declared.position.Spot.{Spot}
+use Rattle.mc_land.specs.Places.{Key, key_cmp, place_cmp}
+use Rattle.mc_land.specs.Land.{LandValue}
+use Rattle.mc_slots.specs.declared.pile.Pile.{Pile}
+use Rattle.mc_windows.specs.Pack.{PackValue}
+use Rattle.mc_entities.specs.declared.entity.Entity.{Entity}
+use Rattle.mc_entities.specs.Folk.{FolkValue}
+use Rattle.mc_game.specs.declared.player.Player.{Player}
+use Rattle.mc_game.specs.declared.settings.Settings.{Settings}
+use Rattle.mc_game.specs.Maps.{name_cmp}
+use Rattle.mc_game.specs.Game.{Game, new_game}
+use Rattle.mc_game.specs.Leaving.{of_player}
+
+-- ---- parts
+
+-- how many players may be in play, and how large a view may be
+pub record LimitsValue : Type 0 where
+  pub players : ℕ
+  pub cap : ℕ
+
+-- A player's place is within 30,000,000 blocks on x and z, and from 64 below to 4,096 above on y. A
+-- dropped item may lie half a block further east and south.
+pub record IsNear (spot : Spot) : Type 0 where
+  pub x_low : negsuc 959999999 ≤ℤ spot.x
+  pub x_high : spot.x ≤ℤ pos 960000016
+  pub y_low : negsuc 2047 ≤ℤ spot.y
+  pub y_high : spot.y ≤ℤ pos 131072
+  pub z_low : negsuc 959999999 ≤ℤ spot.z
+  pub z_high : spot.z ≤ℤ pos 960000016
+
+-- each entity stands at such a spot
+abbrev pub AreNear : List Entity → Type 0
+AreNear entities = AllByRecursion (λ (e : Entity). IsNear e.spot) entities
+
+-- each edit is air, or the state of a block with an id
+abbrev pub AreStates : FinMap key_cmp ℕ → Type 0
+AreStates edits = (key : Key) (state : ℕ) → get edits key ≡ Some state →
+    ((state ≡ 0) ⊎ (16 ≤ state)) × (state < 4096)
+
+-- ---- the game
+
+-- the piles of chests, the columns that are ready to be looked at, where each entity was at the last
+-- settling, and for how many more there are places
+pub record Aside : Type 0 where
+  pub chests : FinMap key_cmp (List Pile)
+  pub ready : set.FinSet place_cmp
+  pub told : List (ℤ × Spot)
+  pub reserve : ℕ
+
+pub record GameValue : Type 0 where
+  pub game : Game
+  -- the edits at the last settling
+  pub settled : FinMap key_cmp ℕ
+  pub aside : Aside
+
+-- of the parts in which it is kept
+abbrev pub value_of : LimitsValue → ℕ → LandValue → FolkValue → FinMap name_cmp PackValue →
+    List (List ℕ) → FinMap nat_cmp Player → GameValue
+value_of limits age land folk packs lines players = record {
+  game = record {
+    settings =
+        record { players = limits.players; cap = limits.cap; terrain = land.terrain };
+    age = age;
+    edits = land.edits;
+    entities = folk.state.entities;
+    eids = folk.state.given;
+    packs = packs;
+    lines = lines;
+    players = players;
+  };
+  settled = land.settled;
+  aside = record {
+    chests = land.chests;
+    ready = land.ready;
+    told = folk.state.told;
+    reserve = folk.reserve;
+  };
+}
+
+abbrev pub new_value : Settings → GameValue
+new_value settings = record {
+  game = new_game settings;
+  settled = empty;
+  aside = record { chests = empty; ready = set.empty; told = []; reserve = 0 };
+}
+
+-- another game, of which nothing is settled yet
+abbrev pub played : GameValue → Game → Aside → GameValue
+played v g aside = record { game = g; settled = v.settled; aside = aside }
+
+-- its land
+abbrev pub land_of : GameValue → LandValue
+land_of v = record {
+  terrain = v.game.settings.terrain;
+  edits = v.game.edits;
+  settled = v.settled;
+  chests = v.aside.chests;
+  ready = v.aside.ready;
+}
+
+-- ---- what a player does
+
+-- a game after what the player of a connection does to it, if there is one
+abbrev pub by_player : ℕ → (Player → Game → Game) → Game → Game
+by_player k f g = of_player g (λ (p : Player). f p g) (get g.players k)
+
+-- or none where that may not be
+abbrev pub try_of : Game → (Player → Game → Option Game) → Option Player → Option Game
+try_of g f None = Some g
+try_of g f (Some p) = f p g
+
+abbrev pub try_player : ℕ → (Player → Game → Option Game) → Game → Option Game
+try_player k f g = try_of g f (get g.players k)

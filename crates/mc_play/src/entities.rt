@@ -1,0 +1,177 @@
+ghost use Rattle.std.specs.Prelude.{◌≡◌, ◌≤◌, ◌<◌, ◌+◌, None, IfOk, IfSome, OnErr, OnOk};
+ghost use Rattle.std.specs.Prelude.{nat_lt, true};
+ghost use lib.IntN.{pos};
+ghost use Rattle.mc_slots.specs.Pile.{IsItem, IsPile};
+ghost use Rattle.mc_slots.specs.declared.pile.Pile as piles;
+ghost use Rattle.mc_entities.specs.declared.entity.EntityKind.TheVariants as kinds;
+ghost use Rattle.mc_entities.specs.declared.entity.TheConstants.{EID_MAX};
+ghost use Rattle.mc_entities.specs.Folk.{entity_of, new_state, placed, removed, room_of, settled};
+ghost use Rattle.mc_entities.specs.Folk.{spawned, with_entity, with_kind};
+ghost use Rattle.mc_entities.specs.Kinds.{are_alike};
+ghost use Rattle.mc_model.specs.Things.{holding};
+ghost use Rattle.mc_model.specs.World.{spot_in};
+ghost use Rattle.mc_play.specs.Kept.{AreNear, IsNear};
+
+mod fields;
+
+use mc_bytes::NoMemory;
+use mc_entities::{EntityKind, Folk};
+use mc_fields::Spot;
+use mc_game::Eid;
+use mc_land::Terrain;
+use mc_model::spawn_spot;
+use mc_slots::{Item, Pile};
+use std::alloc::Global;
+use std::marker::Model;
+
+/// The players in play and the dropped items, each where its column can be shown.
+#[derive(Drop)]
+pub struct Entities {
+    folk: Folk,
+}
+
+impl Model for Entities {
+    ghost use Rattle.mc_entities.specs.Folk.{FolkValue};
+    ghost use Rattle.mc_play.specs.Kept.{AreNear};
+
+    ghost Value = { FolkValue };
+
+    ghost view = { λ entities. entities.folk };
+
+    ghost invariant = { λ entities. AreNear entities.folk.state.entities };
+}
+
+impl Entities {
+    /// Nobody, and nothing.
+    pub fn new(alloc: Global) -> Entities
+        ensures { result ≡ record { state = new_state; reserve = 0 } }
+    {
+        Entities {
+            folk: Folk::new(alloc),
+        }
+    }
+
+    /// All of them.
+    pub fn folk(&self) -> &Folk
+        ensures is { result.now ≡ self.now }
+        ensures near { AreNear result.now.state.entities }
+    {
+        &self.folk
+    }
+
+    /// How many more dropped items may lie.
+    pub fn room(&self) -> u32
+        ensures { result ≡ room_of self.now.state }
+    {
+        self.folk.room()
+    }
+
+    /// Whether one more can have a number.
+    pub fn has_number(&self) -> bool
+        ensures { result ≡ nat_lt self.now.state.given EID_MAX }
+    {
+        // All of them tell that no number above the last one was given.
+        let _all = self.folk.all();
+        !self.folk.is_spent()
+    }
+
+    /// Where the one of a number is and looks; where players enter, if there is none.
+    pub fn spot_of(&self, terrain: &Terrain, eid: Eid) -> Spot
+        ensures is { result ≡ spot_in terrain.now self.now.state.entities eid }
+        ensures near { IsNear result }
+    {
+        match self.folk.get(eid.number()) {
+            Some(entity) => entity.spot,
+            None => spawn_spot(terrain),
+        }
+    }
+
+    /// Makes a place for one more. Without memory all is as before.
+    pub fn reserve(&mut self) -> Result<(), NoMemory>
+        ensures ok { OnOk result (1 ≤ self.new.reserve) }
+        ensures same { self.new.state ≡ self.old.state }
+    {
+        self.folk.reserve(1)
+    }
+
+    /// Adds a player under the next number, and answers that. Without memory all is as before.
+    pub fn enter(&mut self, uuid: u128, held: Pile, spot: Spot) -> Result<Eid, NoMemory>
+        requires number { self.old.state.given < EID_MAX }
+        requires pile { IsPile held }
+        requires near { IsNear spot }
+        ensures eid { IfOk result (λ eid. eid ≡ self.old.state.given + 1) }
+        ensures state { OnOk result (self.new.state
+            ≡ spawned (kinds.Player uuid held) spot self.old.state) }
+        ensures err { OnErr result (self.new.state ≡ self.old.state) }
+    {
+        match self.folk.spawn(EntityKind::Player { uuid, held }, spot) {
+            Ok(eid) => Ok(Eid::of(eid)),
+            Err(_) => Err(NoMemory),
+        }
+    }
+
+    /// Lets an item lie at a spot, for which there is a place, if there is room for it.
+    pub fn drop_item(&mut self, item: Item, born: u64, spot: Spot)
+        requires item { IsItem item }
+        requires near { IsNear spot }
+        requires room { 0 < room_of self.old.state }
+        requires place { 0 < self.old.reserve }
+        ensures { self.new.state ≡ spawned (kinds.Dropped item born) spot self.old.state }
+    {
+        let _eid = self.folk.spawn(EntityKind::Dropped { item, born }, spot);
+    }
+
+    /// Puts the one of a number at a spot.
+    pub fn place(&mut self, eid: Eid, spot: Spot)
+        requires { IsNear spot }
+        ensures { self.new ≡ record self.old { state = placed (pos eid) spot self.old.state } }
+    {
+        self.folk.place(eid.number(), spot);
+    }
+
+    /// Gives the player of a number another pile to hold.
+    pub fn hold(&mut self, eid: Eid, pile: Pile)
+        requires { IsPile pile }
+        ensures { self.new
+            ≡ record self.old { state = with_entity (pos eid) (holding pile) self.old.state } }
+    {
+        let eid = eid.number();
+        if let Some(uuid) = who_is(&self.folk, eid) {
+            self.folk
+                .set_kind(eid, EntityKind::Player { uuid, held: pile });
+        }
+    }
+
+    /// Takes the one of a number out.
+    pub fn remove(&mut self, eid: Eid)
+        ensures { self.new.state ≡ removed (pos eid) self.old.state }
+    {
+        let _gone = self.folk.remove(eid.number());
+    }
+
+    /// Keeps where each is, as what everyone who knows it was told of it. It takes no memory.
+    pub fn settle(&mut self)
+        ensures { self.new.state ≡ settled self.old.state }
+    {
+        self.folk.settle();
+    }
+}
+
+/// Who the player of a number is; None where the number is no player's.
+fn who_is(folk: &Folk, eid: i32) -> Option<u128>
+    ensures some { IfSome result (λ uuid. (pile : piles.Pile) →
+        with_kind eid (kinds.Player uuid pile) folk.now.state
+        ≡ with_entity eid (holding pile) folk.now.state) }
+    ensures alike { IfSome result (λ uuid. (pile : piles.Pile) →
+        IfSome (entity_of eid folk.now.state)
+        (λ e. are_alike e.kind (kinds.Player uuid pile) ≡ true)) }
+    ensures none { result ≡ None → (pile : piles.Pile) →
+        with_entity eid (holding pile) folk.now.state ≡ folk.now.state }
+{
+    // Numbers rise among all entities.
+    let _all = folk.all();
+    match folk.get(eid)?.kind {
+        EntityKind::Player { uuid, .. } => Some(uuid),
+        _ => None,
+    }
+}

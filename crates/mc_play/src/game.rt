@@ -1,0 +1,190 @@
+ghost use Rattle.std.specs.Prelude.{◌≡◌, ◌≤◌, IfOk};
+ghost use Rattle.std.specs.FinMap.{len};
+ghost use Rattle.mc_model.specs.World.{AreSettings};
+ghost use Rattle.mc_game.specs.Game.{pack_named, pack_of, spot_of};
+ghost use Rattle.mc_play.specs.Kept.{AreNear, IsNear, land_of, new_value};
+
+mod acts;
+mod chat;
+mod coming;
+mod digging;
+mod fields;
+mod hands;
+mod movement;
+mod placing;
+mod reaching;
+mod tick;
+
+use crate::entities::Entities;
+use crate::ground::Ground;
+use crate::limits::Limits;
+use crate::{Packs, Players, Said};
+pub use acts::ActFault;
+use mc_bytes::{NoMemory, Text};
+use mc_entities::Folk;
+use mc_fields::Spot;
+use mc_game::{Player, Settings};
+use mc_land::{Land, Terrain};
+use mc_windows::{Pack, kit};
+use std::alloc::Global;
+use std::marker::Model;
+
+/// All that is played, apart from the connections: the land, the entities, what each name carries,
+/// what was said, and the players in play by the numbers of their connections.
+#[derive(Drop)]
+pub struct Game {
+    /// Where its memory comes from.
+    alloc: Global,
+    limits: Limits,
+    /// The ticks that came.
+    age: u64,
+    ground: Ground,
+    /// The players in play and the dropped items.
+    entities: Entities,
+    /// What each name carries that was ever in play.
+    packs: Packs,
+    /// What was said since the last tick.
+    lines: Vec<Said>,
+    players: Players,
+}
+
+impl Model for Game {
+    ghost use Rattle.std.specs.Coded.{codes};
+    ghost use Rattle.std.specs.FinSet as set;
+    ghost use Rattle.mc_land.specs.LandCode.{coded_place};
+    ghost use Rattle.mc_land.specs.Places.{place_cmp};
+    ghost use Rattle.mc_model.specs.Stored.{coded_edits};
+    ghost use Rattle.mc_play.specs.Codes.{coded_chests, coded_packs, coded_players};
+    ghost use Rattle.mc_play.specs.Kept.{GameValue, value_of};
+
+    ghost Value = { GameValue };
+
+    ghost coded = { Prim.hlevel (
+      codes,
+      coded_edits,
+      coded_chests,
+      coded_packs,
+      coded_players,
+      set.code {R = place_cmp} coded_place,
+    ) };
+
+    ghost view = { λ g. value_of g.limits g.age g.ground g.entities g.packs g.lines.items
+        g.players };
+}
+
+impl Game {
+    /// A game that nobody came to yet.
+    pub fn new(alloc: Global, settings: Settings) -> Game
+        requires { AreSettings settings.players settings.cap }
+        ensures { result ≡ new_value settings }
+    {
+        Game {
+            alloc,
+            limits: Limits::new(settings.players, settings.cap),
+            age: 0,
+            ground: Ground::new(alloc, settings.terrain),
+            entities: Entities::new(alloc),
+            packs: Packs::new(alloc),
+            lines: Vec::new(alloc),
+            players: Players::new(alloc),
+        }
+    }
+
+    // ---- what is asked of a game
+
+    /// How many players may be in play.
+    pub fn most(&self) -> u32
+        ensures is { result ≡ self.now.game.settings.players }
+        ensures few { result ≤ 50 }
+    {
+        self.limits.players()
+    }
+
+    /// How large a view may be, in columns on each side of a player's own.
+    pub fn cap(&self) -> u8
+        ensures is { result ≡ self.now.game.settings.cap }
+        ensures few { result ≤ 8 }
+    {
+        self.limits.cap()
+    }
+
+    /// What the land is where nothing was changed.
+    pub fn terrain(&self) -> &Terrain
+        ensures { result.now ≡ self.now.game.settings.terrain }
+    {
+        self.ground.terrain()
+    }
+
+    /// How many ticks came.
+    pub fn age(&self) -> u64
+        ensures { result ≡ self.now.game.age }
+    {
+        self.age
+    }
+
+    /// The land.
+    pub fn land(&self) -> &Land
+        ensures { result.now ≡ land_of self.now }
+    {
+        self.ground.land()
+    }
+
+    /// The players in play and the dropped items.
+    pub fn folk(&self) -> &Folk
+        ensures entities { result.now.state.entities ≡ self.now.game.entities }
+        ensures given { result.now.state.given ≡ self.now.game.eids }
+        ensures near { AreNear self.now.game.entities }
+    {
+        self.entities.folk()
+    }
+
+    /// What was said since the last tick.
+    pub fn lines(&self) -> &[Said]
+        ensures { result.now ≡ self.now.game.lines }
+    {
+        self.lines.as_slice()
+    }
+
+    /// Those in play.
+    pub fn players(&self) -> &Players
+        ensures { result.now ≡ self.now.game.players }
+    {
+        &self.players
+    }
+
+    /// How many are in play. More than a number can hold are out of memory, as they would be long
+    /// before.
+    pub fn online(&self) -> Result<u32, NoMemory>
+        ensures { IfOk result (λ online. online ≡ len self.now.game.players) }
+    {
+        match u32::try_from(self.players.len()) {
+            Ok(online) => Ok(online),
+            Err(_) => Err(NoMemory),
+        }
+    }
+
+    /// What a player carries; the kit, where its name never was in play.
+    pub fn pack_of(&self, player: &Player) -> Pack
+        ensures { result ≡ pack_of self.now.game player.now }
+    {
+        self.pack_named(player.name.text())
+    }
+
+    /// What a name carries; the kit, where it never was in play.
+    fn pack_named(&self, name: &Text) -> Pack
+        ensures { result ≡ pack_named self.now.game name.now }
+    {
+        match self.packs.get(name) {
+            Some(pack) => *pack,
+            None => kit(),
+        }
+    }
+
+    /// Where a player is, and how it looks; where players enter, if it has no entity.
+    pub fn spot_of(&self, player: &Player) -> Spot
+        ensures is { result ≡ spot_of self.now.game player.now }
+        ensures near { IsNear result }
+    {
+        self.entities.spot_of(self.ground.terrain(), player.eid)
+    }
+}

@@ -1,0 +1,183 @@
+//! What players dig and drop.
+
+ghost use Rattle.std.specs.Prelude.{◌≡◌, ◌⊎◌, ◌<◌, ◌≤◌, ◌&&◌, ◌+ℤ◌, ◌*ℤ◌, nat_lt, true, OnErr, OnOk};
+ghost use Rattle.std.specs.Prelude.{unsigned_abs};
+ghost use lib.IntN.{pos};
+ghost use Rattle.mc_land.specs.Places.{is_inside};
+ghost use Rattle.mc_slots.specs.Pile.{IsItem};
+ghost use Rattle.mc_model.specs.Digging.{block_item, floor_of, is_dug};
+ghost use Rattle.mc_game.specs.Deeds.{thrown};
+ghost use Rattle.mc_game.specs.Digging.{dig, digging, drop_held, dug, feet_of};
+ghost use Rattle.mc_game.specs.Game.{held_by, room_in, state_in};
+ghost use Rattle.mc_play.specs.Kept.{IsNear, by_player, played};
+
+use crate::game::Game;
+use mc_bytes::NoMemory;
+use mc_fields::{Cell, Spot};
+use mc_game::Player;
+use mc_slots::{Item, Pile, split};
+
+/// Whether a block of a state is dug: not air, and not bedrock.
+fn is_dug(state: u16) -> bool
+    ensures { result ≡ is_dug state }
+{
+    state != 0 && state / 16 != 7
+}
+
+/// One of what a cell of a state was.
+fn block_item(state: u16) -> Item
+    ensures { result ≡ block_item state }
+{
+    Item {
+        id: (state / 16) as i16,
+        damage: (state % 16) as i16,
+        count: 1,
+    }
+}
+
+/// Where a block begins along an axis.
+fn edge_of(block: i32) -> i32
+    requires { unsigned_abs block ≤ 30000000 }
+    ensures { result ≡ pos 32 *ℤ block }
+{
+    32 * block
+}
+
+/// Where its middle is.
+fn middle_of(block: i32) -> i32
+    requires { unsigned_abs block ≤ 30000000 }
+    ensures { result ≡ pos 32 *ℤ block +ℤ pos 16 }
+{
+    32 * block + 16
+}
+
+/// The middle of the floor of a cell.
+fn floor_of(cell: &Cell) -> Spot
+    requires { is_inside cell.now.x cell.now.y cell.now.z ≡ true }
+    ensures { result ≡ floor_of cell.now }
+{
+    Spot {
+        x: middle_of(cell.x),
+        y: edge_of(cell.y),
+        z: middle_of(cell.z),
+        yaw: 0,
+        pitch: 0,
+    }
+}
+
+impl Game {
+    /// Whether one more dropped item may lie.
+    fn may_drop(&self) -> bool
+        ensures { result ≡ nat_lt 0 (room_in self.now.game) }
+    {
+        self.entities.room() > 0
+    }
+
+    /// Lets an item lie at a spot, for which there are room and a place.
+    fn drop_item(&mut self, item: Item, spot: Spot)
+        requires item { IsItem item }
+        requires near { IsNear spot }
+        requires room { 0 < room_in self.old.game }
+        requires place { 0 < self.old.aside.reserve }
+        ensures { self.new ≡ played self.old (thrown item spot self.old.game) self.new.aside }
+    {
+        self.entities.drop_item(item, self.age, spot);
+    }
+
+    /// Makes a cell air; what it was lies there. Without memory all is as before.
+    fn take_out(&mut self, cell: Cell, state: u16) -> Result<(), NoMemory>
+        requires inside { is_inside cell.x cell.y cell.z ≡ true }
+        requires is { state ≡ state_in self.old.game cell }
+        requires dug { is_dug state ≡ true }
+        requires small { state < 4096 }
+        requires whole { (state ≡ 0) ⊎ (16 ≤ state) }
+        requires room { 0 < room_in self.old.game }
+        ensures ok { OnOk result (self.new
+            ≡ played self.old (dug cell self.old.game) self.new.aside) }
+        ensures err { OnErr result (self.new
+            ≡ played self.old self.old.game self.new.aside) }
+    {
+        self.entities.reserve()?;
+        self.ground.set(cell, 0)?;
+        self.drop_item(block_item(state), floor_of(&cell));
+        Ok(())
+    }
+
+    /// Digs a cell for the player of a connection, or notes it where that may not be. Without memory
+    /// all is as before.
+    fn dig(&mut self, connection: u32, cell: Cell) -> Result<(), NoMemory>
+        ensures ok { OnOk result (self.new ≡ played self.old (by_player connection
+            (λ p. dig connection p cell) self.old.game) self.new.aside) }
+        ensures err { OnErr result (self.new
+            ≡ played self.old self.old.game self.new.aside) }
+    {
+        let Some(player) = self.players.find(connection) else {
+            return Ok(());
+        };
+        match self.reach(player, &cell) {
+            Some(state) if is_dug(state) && self.may_drop() => self.take_out(cell, state),
+            _ => self.players.note_cell(connection, cell),
+        }
+    }
+
+    /// Where lies what a player drops.
+    fn feet_of(&self, player: &Player) -> Spot
+        ensures is { result ≡ feet_of player.now self.now.game }
+        ensures near { IsNear result }
+    {
+        Spot {
+            yaw: 0,
+            pitch: 0,
+            ..self.spot_of(player)
+        }
+    }
+
+    /// Drops at most so many of what the player of a connection has in its hand, or notes that its
+    /// client is to be sent its window again, where there is no room. Without memory all is as
+    /// before.
+    fn drop_held(&mut self, connection: u32, n: u8) -> Result<(), NoMemory>
+        requires { 0 < n }
+        ensures ok { OnOk result (self.new ≡ played self.old (by_player connection
+            (λ p g. drop_held connection p n (held_by g p) g) self.old.game) self.new.aside) }
+        ensures err { OnErr result (self.new
+            ≡ played self.old self.old.game self.new.aside) }
+    {
+        let Some(player) = self.players.find(connection) else {
+            return Ok(());
+        };
+        let mut left = self.held_by(player);
+        let Pile::Full(item) = split(&mut left, n) else {
+            return Ok(());
+        };
+        if !self.may_drop() {
+            self.players.note_window(connection);
+            return Ok(());
+        }
+        let spot = self.feet_of(player);
+        self.entities.reserve()?;
+        self.carry(connection, left);
+        self.drop_item(item, spot);
+        Ok(())
+    }
+
+    /// Does what a digging of the player of a connection says: 2 digs a cell, 3 drops what is held
+    /// and 4 one of it. Without memory all is as before.
+    pub(super) fn digging(
+        &mut self,
+        connection: u32,
+        status: i8,
+        cell: Cell,
+    ) -> Result<(), NoMemory>
+        ensures ok { OnOk result (self.new ≡ played self.old (by_player connection
+            (λ p. digging connection p status cell) self.old.game) self.new.aside) }
+        ensures err { OnErr result (self.new
+            ≡ played self.old self.old.game self.new.aside) }
+    {
+        match status {
+            2 => self.dig(connection, cell),
+            3 => self.drop_held(connection, 64),
+            4 => self.drop_held(connection, 1),
+            _ => Ok(()),
+        }
+    }
+}

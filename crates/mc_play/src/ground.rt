@@ -1,0 +1,127 @@
+ghost use Rattle.std.specs.Prelude.{◌≡◌, ◌⊎◌, ◌<◌, ◌≤◌, true, OnErr, OnOk, unsigned_abs};
+ghost use Rattle.mc_land.specs.Land.{block, new_land, settled_land, with_block, with_ready};
+ghost use Rattle.mc_land.specs.Places.{IsPlace, is_inside, key_of};
+ghost use Rattle.mc_land.specs.Shed.{IsSettled, shed_land};
+ghost use Rattle.mc_play.specs.Kept.{AreStates};
+
+mod fields;
+
+use mc_bytes::NoMemory;
+use mc_fields::Cell;
+use mc_land::{Land, Steps, Terrain};
+use std::alloc::Global;
+use std::marker::{Brand, Model};
+use std::sync::ledger::{Blank, Ledger};
+
+/// A land of which each cell that was changed is air or a block with an id. It knows its terrain.
+#[derive(Drop)]
+pub struct Ground {
+    terrain: Terrain,
+    land: Land,
+}
+
+impl Model for Ground {
+    ghost use Rattle.std.specs.Prelude.{◌≡◌};
+    ghost use Rattle.mc_land.specs.Land.{LandValue};
+    ghost use Rattle.mc_land.specs.LandCode.{coded_land};
+    ghost use Rattle.mc_play.specs.Kept.{AreStates};
+
+    ghost Value = { LandValue };
+
+    ghost coded = { coded_land };
+
+    ghost view = { λ ground. ground.land };
+
+    ghost invariant = { λ ground.
+        (ground.land.terrain ≡ ground.terrain) × AreStates ground.land.edits };
+}
+
+/// The state of a cell of a land. The look is not counted.
+fn state_of<L: Ledger>(land: &Land, cell: &Cell, blank: Blank) -> u16
+    requires name { blank.name ≡ L.name }
+    requires parts { blank.parts ≡ L.parts }
+    requires some { 0 < blank.parts }
+    requires inside { is_inside cell.now.x cell.now.y cell.now.z ≡ true }
+    ensures { result ≡ block land.now cell.now.x cell.now.y cell.now.z }
+{
+    let mut steps = Steps::<L>::new(blank);
+    land.block(*cell, &mut steps)
+}
+
+impl Ground {
+    /// The terrain alone.
+    pub fn new(alloc: Global, terrain: Terrain) -> Ground
+        ensures { result ≡ new_land terrain }
+    {
+        Ground {
+            terrain,
+            land: Land::new(alloc, terrain),
+        }
+    }
+
+    /// What it is where nothing was changed.
+    pub fn terrain(&self) -> &Terrain
+        ensures { result.now ≡ self.now.terrain }
+    {
+        &self.terrain
+    }
+
+    /// The land.
+    pub fn land(&self) -> &Land
+        ensures { result.now ≡ self.now }
+    {
+        &self.land
+    }
+
+    /// The state of a cell of the world.
+    pub fn state(&self, cell: &Cell) -> u16
+        requires { is_inside cell.now.x cell.now.y cell.now.z ≡ true }
+        ensures is { result ≡ block self.now cell.now.x cell.now.y cell.now.z }
+        ensures small { result < 4096 }
+        ensures whole { (result ≡ 0) ⊎ (16 ≤ result) }
+    {
+        state_of::<Brand>(&self.land, cell, Blank::new(1))
+    }
+
+    /// Sets a cell of the world to air or to a state of a block. Without memory all is as before.
+    pub fn set(&mut self, cell: Cell, state: u16) -> Result<(), NoMemory>
+        requires inside { is_inside cell.x cell.y cell.z ≡ true }
+        requires small { state < 4096 }
+        requires whole { (state ≡ 0) ⊎ (16 ≤ state) }
+        ensures ok { OnOk result (self.new
+            ≡ with_block self.old (key_of cell.x (unsigned_abs cell.y) cell.z) state) }
+        ensures err { OnErr result (self.new ≡ self.old) }
+    {
+        match self.land.set(cell, state) {
+            Ok(_) => Ok(()),
+            Err(_) => Err(NoMemory),
+        }
+    }
+
+    // ---- a tick
+
+    /// Makes a column ready to be looked at. Without memory all is as before.
+    pub fn ready(&mut self, place: &(i32, i32)) -> Result<(), NoMemory>
+        requires { IsPlace place.now }
+        ensures ok { OnOk result (self.new ≡ with_ready self.old place.now) }
+        ensures err { OnErr result (self.new ≡ self.old) }
+    {
+        self.land.ready(place.0, place.1)
+    }
+
+    /// Keeps the cells as they are, as what everyone who sees them was shown. It takes no memory.
+    pub fn settle(&mut self)
+        ensures { self.new ≡ settled_land self.old }
+    {
+        self.land.settle();
+    }
+
+    /// Gives up those ready columns all of whose cells are as the terrain has them and that no view
+    /// reaches.
+    pub fn shed(&mut self, views: &[(i32, i32, u8)])
+        requires { IsSettled self.old }
+        ensures { self.new ≡ shed_land self.old views.now }
+    {
+        self.land.shed(views);
+    }
+}
