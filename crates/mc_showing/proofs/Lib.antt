@@ -1,0 +1,7 @@
+pub mod JoinFacts
+pub mod ColumnFacts
+pub mod SceneFacts
+pub mod ReadyFacts
+pub mod RosterFacts
+pub mod PairFacts
+pub mod ShedFacts

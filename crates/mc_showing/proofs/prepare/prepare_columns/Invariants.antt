@@ -1,0 +1,18 @@
+use Rattle.std.specs.List.{AllByRecursion}
+use Rattle.mc_land.specs.Places.{IsPlace}
+use Rattle.mc_flush.specs.Encoding.{AreFrames}
+use Rattle.mc_flush.specs.Lists.{ListValue}
+use Rattle.mc_play.specs.Kept.{land_of}
+use Rattle.mc_showing.specs.Preparing.{Prepares}
+use Rattle.mc_showing.proofs.ReadyFacts.{IsReadying}
+use Rattle.mc_showing.proofs.prepare.prepare_columns.Given as goal
+
+-- where those that are left are ready, all are
+abbrev pub invariant-loop-place : goal.invariant-loop-place
+invariant-loop-place g l = record {
+  near : AllByRecursion IsPlace l.place-iterator;
+  ready : IsReadying l.game l.place-iterator l.initial.place-iterator;
+  same : Prepares l.initial.game l.game;
+  frames : (list : ListValue) → AreFrames (land_of l.initial.game) list l.initial.encoded
+      → AreFrames (land_of l.game) list l.encoded;
+}

@@ -1,0 +1,19 @@
+use Rattle.std.proofs.Common.{sym, ap, ◌∙◌}
+use Rattle.std.proofs.lemmas.Result.{on_ok_weaker}
+use Rattle.std.specs.FinMap.{FinMap, get}
+use Rattle.std.specs.Ordering.{nat_cmp}
+use Rattle.mc_game.specs.declared.player.Player.{Player}
+use Rattle.mc_showing.proofs.ColumnFacts.{loaded_are}
+use Rattle.mc_showing.proofs.ReadyFacts.{ready_for}
+use Rattle.mc_showing.proofs.prepare.prepare_one.Goals as goal
+
+pub returns-clause-ready : goal.returns-clause-ready
+returns-clause-ready c =
+    let p = c.in-Some.player.now in
+    on_ok_weaker c.prepare_view.result
+    (ready_for c.args.game.now c.prepare_view.new.game c.args.connection p c.args.mark.now
+    _ (ap (λ (m : FinMap nat_cmp Player). get m c.args.connection) (sym c.players.ensures)
+    ∙ sym c.in-Some.ensures)
+    (loaded_are c.args.game.now.game p c.args.mark.now c.view_of-view.result
+    c.view_of-view.ensures) c.prepare_view.ensures.same)
+    c.prepare_view.ensures.ready

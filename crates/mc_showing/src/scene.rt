@@ -1,0 +1,161 @@
+ghost use Rattle.std.specs.Prelude.{◌≡◌, ◌≤◌, ◌<◌, ◌++◌, [], List, ℕ, Option, Some, OnOk, drop};
+ghost use Rattle.std.specs.Prelude.{if◌then◌else◌};
+ghost use Rattle.std.specs.List.{AllByRecursion};
+ghost use Rattle.std.specs.FinMap as finmap;
+ghost use lib.IntN.{pos};
+ghost use Rattle.mc_frame.specs.Kept.{joined};
+ghost use Rattle.mc_model.specs.Delta.{delta};
+ghost use Rattle.mc_model.specs.Sight.{Sight};
+ghost use Rattle.mc_model.specs.Step.{opening_of};
+ghost use Rattle.mc_model.specs.World.{others};
+ghost use Rattle.mc_game.specs.Game.{pack_of, spot_of};
+ghost use Rattle.mc_game.specs.Showing.{due, sight_of};
+ghost use Rattle.mc_play.specs.Kept.{land_of};
+ghost use Rattle.mc_sending.specs.Sending.{play_bytes};
+ghost use Rattle.mc_loads.specs.Columns.{IsReady};
+ghost use Rattle.mc_flush.specs.Encoding.{AreFrames};
+ghost use Rattle.mc_flush.specs.Seeing.{IsNamed, StandsFor, is_shown, loaded, noted_of};
+ghost use Rattle.mc_flush.specs.Seeing.{present_parts, seen, settled_parts};
+ghost use Rattle.mc_showing.specs.Around.{new_columns};
+ghost use Rattle.mc_showing.specs.Shown.{IsListed, Shows};
+ghost use Rattle.mc_showing.specs.Scenes.{IsPart, IsScene};
+
+use crate::opening::push_opening;
+use crate::views::view_of;
+use bytes::Bytes;
+use mc_bytes::NoMemory;
+use mc_fields::Spot;
+use mc_flush::{ClientView, Encoded, Line, Mark, PlayerList, flush};
+use mc_game::Player;
+use mc_land::Steps;
+use mc_model::Notes;
+use mc_play::Game;
+use mc_windows::Pack;
+use std::alloc::Global;
+use std::marker::Brand;
+use std::sync::ledger::{Blank, Ledger};
+
+/// All that clients are shown a part of at a tick, and what was encoded of it for all of them.
+#[derive(Drop)]
+pub struct Scene<'w> {
+    /// The game.
+    pub game: &'w Game,
+    /// What was said since the last tick.
+    pub lines: &'w [Line],
+    /// The players in play, and those who were at the last tick.
+    pub list: &'w PlayerList,
+    /// The frames that more than one client may be sent.
+    pub encoded: &'w Encoded,
+}
+
+/// The lines behind so many.
+fn new_lines(lines: &[Line], since: usize) -> &[Line]
+    ensures { result.now ≡ drop since lines.now }
+{
+    lines.split_at(since.min(lines.len())).1
+}
+
+/// Appends what a client is sent beside the opening. The looks at cells are not counted on.
+fn push_changes<L: Ledger>(
+    alloc: Global,
+    view: &ClientView<'_>,
+    mark: &mut Mark,
+    notes: &Notes,
+    out: &mut Vec<Bytes>,
+    blank: Blank,
+) -> Result<(), NoMemory>
+    requires name { blank.name ≡ L.name }
+    requires parts { blank.parts ≡ L.parts }
+    requires some { 0 < blank.parts }
+    requires young { view.now.age ≤ 1000000000 }
+    requires few { finmap.len view.now.list.now.present ≤ 50 }
+    requires few_before { finmap.len view.now.list.now.last ≤ 50 }
+    requires named { AllByRecursion IsNamed (finmap.entries view.now.list.now.present) }
+    requires ready { AllByRecursion (IsReady view.now.land.now) (loaded mark.old view.now.view) }
+    requires frames { AreFrames view.now.land.now view.now.list.now view.now.encoded.now }
+    ensures sent { (p : Sight) →
+        StandsFor mark.old (settled_parts view.now.land.now view.now.list.now) p →
+        OnOk result (joined out.new.items ≡ joined out.old.items ++ play_bytes
+        (delta p (seen view.now.land.now view.now.list.now
+        (others view.now.me view.now.folk.now.state.entities)
+        view.now.pack.now view.now.view view.now.age (p.chat ++ view.now.lines.now))
+        ++ noted_of view.now.land.now view.now.view notes.now
+        view.now.place view.now.pack.now)) }
+    ensures stands { (chat : List (List ℕ)) → OnOk result
+        (StandsFor mark.new (present_parts view.now.land.now view.now.list.now)
+        (seen view.now.land.now view.now.list.now
+        (others view.now.me view.now.folk.now.state.entities)
+        view.now.pack.now view.now.view view.now.age chat)) }
+    ensures opened { OnOk result (mark.new.view ≡ Some view.now.view) }
+{
+    let mut steps = Steps::<L>::new(blank);
+    flush(alloc, view, mark, notes, out, &mut steps)
+}
+
+impl Scene<'_> {
+    /// The parts of all that a player is shown.
+    fn part_of<'a>(&'a self, player: &Player, pack: &'a Pack) -> ClientView<'a>
+        requires { pack.now ≡ pack_of self.now.game.now.game player.now }
+        ensures { IsPart self.now player.now result }
+    {
+        ClientView {
+            land: self.game.land(),
+            folk: self.game.folk(),
+            pack,
+            list: self.list,
+            encoded: self.encoded,
+            lines: new_lines(self.lines, player.since),
+            age: self.game.age(),
+            me: player.eid.number(),
+            view: view_of(self.game, player),
+            place: self.game.spot_of(player),
+        }
+    }
+
+    /// Appends the opening, unless a client was shown something.
+    fn push_opening(
+        &self,
+        alloc: Global,
+        player: &Player,
+        mark: &Mark,
+        out: &mut Vec<Bytes>,
+    ) -> Result<(), NoMemory>
+        ensures { OnOk result (joined out.new.items ≡ joined out.old.items ++ play_bytes
+            (if is_shown mark.now then [] else
+            opening_of self.now.game.now.game.settings.terrain
+            self.now.game.now.game.settings.players (pos player.now.eid)
+            (spot_of self.now.game.now.game player.now))) }
+    {
+        let spot = self.game.spot_of(player);
+        let most = self.game.most();
+        let eid = player.eid.number();
+        push_opening(alloc, self.game.terrain(), most, eid, &spot, mark, out)
+    }
+
+    /// Appends what is due to a client at a tick, where the list has just the players in play. Its
+    /// mark then stands for what it is shown, once list and game are settled.
+    pub fn push_for(
+        &self,
+        alloc: Global,
+        player: &Player,
+        mark: &mut Mark,
+        out: &mut Vec<Bytes>,
+    ) -> Result<(), NoMemory>
+        requires scene { IsScene self.now }
+        requires ready { AllByRecursion (IsReady (land_of self.now.game.now))
+            (new_columns self.now.game.now.game player.now mark.old) }
+        ensures sent { (shown : Option Sight) → IsListed self.now.list.now self.now.game.now.game →
+            Shows (settled_parts (land_of self.now.game.now) self.now.list.now) mark.old shown →
+            OnOk result (joined out.new.items ≡ joined out.old.items
+            ++ play_bytes (due self.now.game.now.game shown player.now)) }
+        ensures shows { (last : Sight) → IsListed self.now.list.now self.now.game.now.game →
+            OnOk result (Shows (present_parts (land_of self.now.game.now) self.now.list.now) mark.new
+            (Some (sight_of self.now.game.now.game player.now last))) }
+    {
+        self.push_opening(alloc, player, mark, out)?;
+        let pack = self.game.pack_of(player);
+        let part = self.part_of(player, &pack);
+        push_changes::<Brand>(alloc, &part, mark, &player.notes, out, Blank::new(1))?;
+        Ok(())
+    }
+}
