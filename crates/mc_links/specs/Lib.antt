@@ -1,0 +1,5 @@
+pub mod Kept
+pub mod Sitting
+pub mod Seats
+pub mod Beating
+pub mod Showing
