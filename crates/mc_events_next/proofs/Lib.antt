@@ -1,0 +1,15 @@
+pub mod Absent
+pub mod Beaten
+pub mod Dismissing
+pub mod Flushed
+pub mod Listed
+pub mod Loops
+pub mod Numbered
+pub mod Numbers
+pub mod Preparings
+pub mod Reached
+pub mod Seating
+pub mod Shedding
+pub mod Sitting
+pub mod Standing
+pub mod TickEnds
