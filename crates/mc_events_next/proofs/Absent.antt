@@ -1,4 +1,5 @@
--- Of a connection that is not there nothing is unread, and nothing was shown to it: along every run.
+-- Of a connection that is not there nothing is unread, and nothing was shown to it:
+-- along every run.
 use Rattle.std.proofs.Common.{◌≡◌, ℕ, false, List, [], ◌∷◌, Option, Some, None, refl, sym}
 use Rattle.std.proofs.Common.{subst, ap, ◌∙◌, inl, inr}
 use Rattle.std.specs.Prelude.{is_some, option_map}
@@ -16,7 +17,8 @@ use Rattle.mc_game.specs.Tick.{aged, at_tick, beat, grown, tick}
 use Rattle.mc_game.specs.World.{Outcome, Turn, World, new_world, seat_of, seated}
 use Rattle.mc_game.proofs.Maps.Lookups.{gone_other, gone_same, put_other, put_same}
 use Rattle.mc_game.proofs.Runs.Worlds.{at_tick_world, new_good, step_good}
-use Rattle.mc_game.proofs.Walk.Steps.{Move, departs, forgets, joins, passes, rests, sits, step_moves}
+use Rattle.mc_game.proofs.Walk.Steps.{Move, departs, forgets, joins, passes, rests, sits}
+use Rattle.mc_game.proofs.Walk.Steps.{step_moves}
 use Rattle.mc_game.proofs.Walk.Steps.{takes}
 use Rattle.mc_game.proofs.Walk.Each.{each_links}
 use Rattle.mc_events_next.specs.Stands.{IsReached}

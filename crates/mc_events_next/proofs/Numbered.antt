@@ -1,4 +1,5 @@
--- A loop over the numbers of connections by their places: each is looked up and changed in its turn.
+-- A loop over the numbers of connections by their places: each is looked up and changed in its
+-- turn.
 use Rattle.std.proofs.Common.{◌≡◌, ℕ, ◌+◌, ◌<◌, true, List, ◌∷◌, drop, length, get_or, sym, subst}
 use Rattle.std.proofs.Common.{arith}
 use Rattle.std.proofs.lemmas.Bool.Decides.{nat_tests}

@@ -1,6 +1,7 @@
 -- The numbers of connections: that they are those that are listed is kept where one changes, comes
 -- above all others, or goes.
-use Rattle.std.proofs.Common.{◌≡◌, ℕ, ◌+◌, ◌<◌, ◌≤◌, Bool, true, false, cond, List, [], ◌∷◌, ◌++◌, T}
+use Rattle.std.proofs.Common.{◌≡◌, ℕ, ◌+◌, ◌<◌, ◌≤◌, Bool, true, false, cond, List, [], ◌∷◌}
+use Rattle.std.proofs.Common.{◌++◌, T}
 use Rattle.std.proofs.Common.{map, refl, sym, subst, ap, ◌∙◌, arith}
 use Rattle.std.proofs.lemmas.Bool.Decides.{nat_tests}
 use Rattle.std.specs.Prelude.{◌==◌, not, Option, Some, None, is_some, option_map}
@@ -168,7 +169,8 @@ numbers_less ids m last k is = record {
 below_none : (k : ℕ) (ks : List ℕ) → T (below_keys nat_cmp k ks) → is_of k ks ≡ false
 below_none k [] below = refl
 below_none k (j ∷ ks) below =
-    let here : T (is_lt (nat_cmp k j)) = first (is_lt (nat_cmp k j)) (below_keys nat_cmp k ks) below in
+    let here : T (is_lt (nat_cmp k j)) =
+    first (is_lt (nat_cmp k j)) (below_keys nat_cmp k ks) below in
     let later = below_none k ks (second (is_lt (nat_cmp k j)) (below_keys nat_cmp k ks) below) in
     grind (arith, nat_tests, here, later)
 

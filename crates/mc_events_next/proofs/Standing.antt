@@ -9,7 +9,8 @@ use Rattle.std.specs.List.{filter}
 use Rattle.std.specs.Cmp.{nat_cmp_total}
 use Rattle.std.specs.Ordering.{nat_cmp}
 use Rattle.std.specs.FinMap.{FinMap, empty, entries, entries_sorted, find, from_entries, get}
-use Rattle.std.specs.FinMap.{get-empty, get-entries, insert, is_sorted, keys, nat_cmp-IsAntisymmetric}
+use Rattle.std.specs.FinMap.{get-empty, get-entries, insert, is_sorted, keys}
+use Rattle.std.specs.FinMap.{nat_cmp-IsAntisymmetric}
 use Rattle.std.specs.FinMap.{remove, values, len-empty, len-entries}
 use Rattle.std.specs.FinMap.Entries.{same_entries}
 use Rattle.std.proofs.lemmas.List.{nil_from_length}
@@ -223,7 +224,8 @@ module _ (v : ServerValue) (w : World) (k : ℕ) (st : Stands v w) where
       is_done c.link ≡ false → Stands v (step w (forgot k)).world
   unfolding step
   forgot_still c there still =
-      let link : get w.links k ≡ Some c.link = sym (linked v w st k) ∙ ap (option_map link_of) there in
+      let link : get w.links k ≡ Some c.link =
+      sym (linked v w st k) ∙ ap (option_map link_of) there in
       rw (link, still) st
 
   pub forgot_none : get v.connections k ≡ None → Stands v (step w (forgot k)).world
@@ -238,7 +240,8 @@ module _ (v : ServerValue) (w : World) (k : ℕ) (st : Stands v w) where
       Stands (record v { connections = remove v.connections k }) (step w (forgot k)).world
   unfolding step
   forgot_stands c there done =
-      let link : get w.links k ≡ Some c.link = sym (linked v w st k) ∙ ap (option_map link_of) there in
+      let link : get w.links k ≡ Some c.link =
+      sym (linked v w st k) ∙ ap (option_map link_of) there in
       let reached = reached_next w (forgot k) tt st.reached in
       let goal : World → Type 0 = λ u. IsReached u → Stands
       (record v { connections = remove v.connections k }) u in

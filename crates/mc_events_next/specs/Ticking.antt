@@ -59,8 +59,8 @@ abbrev pub AreReady : GameValue → FinMap nat_cmp ConnectionValue → Type 0
 AreReady v connections = (k : ℕ) (c : ConnectionValue) → get connections k ≡ Some c →
     IsReadyFor v c.id c.mark
 
--- each connection is shown the game, as the players of the list and the cells were and are, where the
--- list has just the players in play
+-- each connection is shown the game, as the players of the list and the cells were and are, where
+-- the list has just the players in play
 abbrev pub AreShown : GameValue → ListValue → FinMap nat_cmp ConnectionValue →
     FinMap nat_cmp ConnectionValue → Type 0
 AreShown v list old new = Each (λ (k : ℕ) (c d : ConnectionValue). IsListed list v.game →

@@ -6,6 +6,8 @@ ghost use Rattle.std.specs.FinMap.{empty, get, insert, remove, values};
 ghost use Rattle.mc_game.specs.Link.{is_kept};
 ghost use Rattle.mc_links.specs.Kept.{ConnectionValue, is_ours};
 
+mod fields;
+
 use mc_bytes::NoMemory;
 use mc_links::Connection;
 use std::alloc::Global;
@@ -109,7 +111,8 @@ fn kept_among(connections: &BTreeMap<u32, Connection>) -> usize
     connections.values().filter(|c| c.is_kept()).count()
 }
 
-/// How many of these were closed, and not since they left, a write to them broke, or they were done.
+/// How many of these were closed, and not since they left, a write to them broke, or they were
+/// done.
 fn ours_among(connections: &BTreeMap<u32, Connection>) -> usize
     ensures { result ≡ length (filter (λ (c : ConnectionValue). is_ours c.link.cause)
         (tree.values connections.now)) }

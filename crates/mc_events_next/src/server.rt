@@ -11,6 +11,7 @@ ghost use Rattle.mc_events_next.specs.ReadyColumns.{ShedsAt};
 ghost use Rattle.mc_events_next.specs.Served.{age_of};
 ghost use Rattle.mc_events_next.specs.Stands.{HasFailed, Stands, owes};
 
+mod fields;
 mod joining;
 mod sitting;
 mod ticking;

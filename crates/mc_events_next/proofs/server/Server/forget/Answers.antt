@@ -44,6 +44,7 @@ returns-else-is_done-clause-follows c = λ w st.
     let v = the_view c.self.inside in
     let there : get v.connections c.args.k ≡ Some c.in-Some.connection.now =
     sym c.find.ensures ∙ ap option_copied c.in-Some.is in
-    subst (λ (u : ServerValue). Stands u (step w (forgot c.args.k)).world) c.self.view_is (forgot_still v w c.args.k
+    subst (λ (u : ServerValue). Stands u (step w (forgot c.args.k)).world) c.self.view_is
+    (forgot_still v w c.args.k
     (subst (λ (u : ServerValue). Stands u w) (sym c.self.view_is) st)
     c.in-Some.connection.now there (sym c.if-is_done.ensures))
