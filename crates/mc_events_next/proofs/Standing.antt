@@ -1,20 +1,16 @@
 -- What a server that stands for a world has, and what joining and being forgotten make of both.
-use Rattle.std.proofs.Common.{◌≡◌, ℕ, ◌+◌, Bool, true, false, List, [], ◌∷◌, T, map}
+use Rattle.std.proofs.Common.{◌≡◌, ℕ, ◌+◌, Bool, true, false, List, [], ◌∷◌, map}
 use Rattle.std.proofs.Common.{length, refl, sym, subst, ap, ◌∙◌, inl, inr}
 use Rattle.std.proofs.lemmas.Bool.{cases_eq}
 use Rattle.std.proofs.lemmas.Bool.Decides.{nat_tests}
 use Rattle.std.proofs.Common.{arith}
 use Rattle.std.specs.Prelude.{Option, Some, None, is_some, option_map, nat_le, if◌then◌else◌}
 use Rattle.std.specs.List.{filter}
-use Rattle.std.specs.Cmp.{nat_cmp_total}
 use Rattle.std.specs.Ordering.{nat_cmp}
-use Rattle.std.specs.FinMap.{FinMap, empty, entries, entries_sorted, find, from_entries, get}
-use Rattle.std.specs.FinMap.{get-empty, get-entries, insert, is_sorted, keys}
-use Rattle.std.specs.FinMap.{nat_cmp-IsAntisymmetric}
+use Rattle.std.specs.FinMap.{empty, entries, from_entries, get}
+use Rattle.std.specs.FinMap.{get-empty, insert, keys}
 use Rattle.std.specs.FinMap.{remove, values, len-empty, len-entries}
-use Rattle.std.specs.FinMap.Entries.{same_entries}
 use Rattle.std.proofs.lemmas.List.{nil_from_length}
-use Rattle.mc_told.proofs.Rising.{rising, sorted_is}
 use Rattle.mc_frame.proofs.Stops.{nothing_part}
 use Rattle.mc_frame.specs.Held.{nothing_held}
 use Rattle.mc_model.specs.Sight.{Sight}
@@ -31,6 +27,7 @@ use Rattle.mc_game.proofs.Maps.Lookups.{gone_other, gone_same, put_other, put_sa
 use Rattle.mc_links.specs.Kept.{ConnectionValue, is_ours, new_connection}
 use Rattle.mc_links.specs.Sitting.{Holds}
 use Rattle.mc_play.specs.Kept.{new_value}
+use Rattle.mc_showing.proofs.Mapped.{values_mapped}
 use Rattle.mc_showing.specs.Shown.{pairs_of}
 use Rattle.mc_events_next.specs.Asking.{ours_there}
 use Rattle.mc_events_next.specs.Served.{ServerValue, shown_parts}
@@ -64,40 +61,6 @@ module _ (parts : Parts) (k : ℕ) (unread : Unread) (shown : Option Sight) wher
   pair_of_none = tt
 
 -- ---- lists of both
-
-sorted_mapped : {X Y : Type 0} (f : X → Y) (es : List (ℕ × X)) → T (is_sorted nat_cmp es) →
-    T (is_sorted nat_cmp (map (λ (e : ℕ × X). (e.0, f e.1)) es))
-sorted_mapped f es = subst T (sorted_is nat_cmp es
-    ∙ ap (rising nat_cmp) (keys_same f es)
-    ∙ sym (sorted_is nat_cmp (map (λ e. (e.0, f e.1)) es)))
-  where
-    keys_same : {X Y : Type 0} (f : X → Y) (es : List (ℕ × X)) →
-        map (λ (e : ℕ × X). e.0) es
-        ≡ map (λ (e : ℕ × Y). e.0) (map (λ (e : ℕ × X). (e.0, f e.1)) es)
-    keys_same f [] = refl
-    keys_same f (e ∷ es) = ap (λ (ks : List ℕ). e.0 ∷ ks) (keys_same f es)
-
-found_mapped : {X Y : Type 0} (f : X → Y) (q : ℕ) (es : List (ℕ × X)) →
-    find nat_cmp q (map (λ (e : ℕ × X). (e.0, f e.1)) es) ≡ option_map f (find nat_cmp q es)
-found_mapped f q [] = refl
-found_mapped f q (e ∷ es) = grind (arith, nat_tests, found_mapped f q es)
-
--- what is found in one map is made of what is found in another: so are all values
-values_mapped : {X Y : Type 0} (f : X → Y) (m : FinMap nat_cmp X) (n : FinMap nat_cmp Y) →
-    ((q : ℕ) → option_map f (get m q) ≡ get n q) → map f (values m) ≡ values n
-values_mapped {X} {Y} f m n same =
-    seconds (entries m)
-    ∙ ap (map (λ (e : ℕ × Y). e.1))
-    (same_entries nat_cmp nat_cmp_total nat_cmp-IsAntisymmetric
-    (map (λ (e : ℕ × X). (e.0, f e.1)) (entries m)) (entries n)
-    (sorted_mapped f (entries m) (entries_sorted m)) (entries_sorted n) (λ q.
-    found_mapped f q (entries m) ∙ ap (option_map f) (sym (get-entries m q)) ∙ same q
-    ∙ get-entries n q))
-  where
-    seconds : (es : List (ℕ × X)) → map f (map (λ (e : ℕ × X). e.1) es) ≡
-        map (λ (e : ℕ × Y). e.1) (map (λ (e : ℕ × X). (e.0, f e.1)) es)
-    seconds [] = refl
-    seconds (e ∷ es) = ap (λ (ys : List Y). f e.1 ∷ ys) (seconds es)
 
 filter_mapped : {X Y : Type 0} (f : X → Y) (test : Y → Bool) (xs : List X) →
     length (filter test (map f xs)) ≡ length (filter (λ (x : X). test (f x)) xs)

@@ -19,9 +19,10 @@ pub record IsFlushed (v : GameValue) (present : Parts) (p : Player) (shown : Opt
       ≡ record old { link = (flush v.game shown old.id old.link).link; mark = new.mark }
   pub shows : (last : Sight) → Shows present new.mark (Some (sight_of v.game p last))
 
--- a connection without a player is as it was, and the client of another was shown the game, whatever
--- its mark says, of the parts as they were, that it had been shown
-pub record IsShown (v : GameValue) (before present : Parts) (old new : ConnectionValue) : Type 0 where
+-- a connection without a player is as it was, and the client of another was shown the game,
+-- whatever its mark says, of the parts as they were, that it had been shown
+pub record IsShown (v : GameValue) (before present : Parts) (old new : ConnectionValue)
+    : Type 0 where
   pub waits : get v.game.players old.id ≡ None → new ≡ old
   pub plays : (p : Player) (shown : Option Sight) → get v.game.players old.id ≡ Some p →
       Shows before old.mark shown → IsFlushed v present p shown old new

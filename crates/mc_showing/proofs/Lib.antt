@@ -3,5 +3,6 @@ pub mod ColumnFacts
 pub mod SceneFacts
 pub mod ReadyFacts
 pub mod RosterFacts
+pub mod Mapped
 pub mod PairFacts
 pub mod ShedFacts

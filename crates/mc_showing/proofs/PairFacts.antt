@@ -1,5 +1,5 @@
 -- The names of those in play by their identifiers, once a player came, went or changed.
-use Rattle.std.proofs.Common.{◌≡◌, ◌≢◌, ℕ, ◌+◌, ◌≤◌, Bool, true, false, cond, List, [], ◌∷◌, T}
+use Rattle.std.proofs.Common.{◌≡◌, ◌≢◌, ℕ, ◌+◌, ◌≤◌, Bool, true, false, cond, List, [], ◌∷◌}
 use Rattle.std.proofs.Common.{map, length, is_some, refl, sym, subst, ap, ◌∙◌, arith, not}
 use Rattle.std.proofs.lemmas.Bool.Decides.{nat_tests}
 use Rattle.std.specs.Prelude.{◌==◌, Some, None, option_map}
@@ -8,16 +8,16 @@ use Rattle.std.specs.Cmp.{nat_cmp_total}
 use Rattle.std.specs.Ordering.{eq_by_cmp, nat_cmp}
 use Rattle.std.specs.FinMap.{FinMap, contains_key, entries, entries-insert, entries_sorted, find}
 use Rattle.std.specs.FinMap.{from_entries, get, get-entries, get-from_entries, get-insert}
-use Rattle.std.specs.FinMap.{get-remove, insert, is_sorted, len, len-empty, len-entries}
+use Rattle.std.specs.FinMap.{get-remove, insert, len, len-empty, len-entries}
 use Rattle.std.specs.FinMap.{len-insert, put, remove}
 use Rattle.std.specs.FinMap.{nat_cmp-IsAntisymmetric, same_map, values}
-use Rattle.std.specs.FinMap.Entries.{same_entries, where_key}
+use Rattle.std.specs.FinMap.Entries.{where_key}
 use Rattle.mc_model.proofs.Maps.{each_found, equal}
-use Rattle.mc_told.proofs.Rising.{rising, sorted_is}
 use Rattle.mc_game.specs.declared.player.Player.{Player}
 use Rattle.mc_game.specs.Game.{Game, players_of}
 use Rattle.mc_game.proofs.Maps.Lookups.{tied_number}
 use Rattle.mc_showing.specs.Shown.{pairs_of}
+use Rattle.mc_showing.proofs.Mapped.{values_alike}
 use Rattle.mc_showing.proofs.RosterFacts.{entries_removed}
 
 -- the name of a player, by its identifier
@@ -160,41 +160,8 @@ pairs_left g h k p is here apart =
 
 -- ---- others, of the same names
 
-sorted_mapped : {X Y : Type 0} (f : X → Y) (es : List (ℕ × X)) → T (is_sorted nat_cmp es) →
-    T (is_sorted nat_cmp (map (λ (e : ℕ × X). (e.0, f e.1)) es))
-sorted_mapped f es = subst T (sorted_is nat_cmp es
-    ∙ ap (rising nat_cmp) (keys_same f es)
-    ∙ sym (sorted_is nat_cmp (map (λ e. (e.0, f e.1)) es)))
-  where
-    keys_same : {X Y : Type 0} (f : X → Y) (es : List (ℕ × X)) →
-        map (λ (e : ℕ × X). e.0) es
-        ≡ map (λ (e : ℕ × Y). e.0) (map (λ (e : ℕ × X). (e.0, f e.1)) es)
-    keys_same f [] = refl
-    keys_same f (e ∷ es) = ap (λ (ks : List ℕ). e.0 ∷ ks) (keys_same f es)
-
-found_mapped : {X Y : Type 0} (f : X → Y) (q : ℕ) (es : List (ℕ × X)) →
-    find nat_cmp q (map (λ (e : ℕ × X). (e.0, f e.1)) es) ≡ option_map f (find nat_cmp q es)
-found_mapped f q [] = refl
-found_mapped f q (e ∷ es) = grind (arith, nat_tests, found_mapped f q es)
-
 -- all players have the identifiers and names that they had
 pub pairs_alike : (g h : Game) →
     ((k : ℕ) → option_map pair (get h.players k) ≡ option_map pair (get g.players k)) →
     pairs_of h ≡ pairs_of g
-pairs_alike g h same =
-    let keyed : FinMap nat_cmp Player → List (ℕ × (ℕ × List ℕ)) =
-    λ m. map (λ (e : ℕ × Player). (e.0, pair e.1)) (entries m) in
-    let is : keyed h.players ≡ keyed g.players =
-    same_entries nat_cmp nat_cmp_total nat_cmp-IsAntisymmetric (keyed h.players) (keyed g.players)
-    (sorted_mapped pair (entries h.players) (entries_sorted h.players))
-    (sorted_mapped pair (entries g.players) (entries_sorted g.players)) (λ q.
-    found_mapped pair q (entries h.players) ∙ ap (option_map pair) (sym (get-entries h.players q))
-    ∙ same q ∙ ap (option_map pair) (get-entries g.players q)
-    ∙ sym (found_mapped pair q (entries g.players))) in
-    ap from_entries (seconds (entries h.players)
-    ∙ ap (map (λ (e : ℕ × (ℕ × List ℕ)). e.1)) is ∙ sym (seconds (entries g.players)))
-  where
-    seconds : (es : List (ℕ × Player)) → map pair (map (λ (e : ℕ × Player). e.1) es) ≡
-        map (λ (e : ℕ × (ℕ × List ℕ)). e.1) (map (λ (e : ℕ × Player). (e.0, pair e.1)) es)
-    seconds [] = refl
-    seconds (e ∷ es) = ap (λ (ps : List (ℕ × List ℕ)). pair e.1 ∷ ps) (seconds es)
+pairs_alike g h same = ap from_entries (values_alike pair pair h.players g.players same)

@@ -12,8 +12,8 @@ use Rattle.mc_flush.specs.Seeing.{IsNamed}
 use Rattle.mc_showing.specs.declared.scene.Scene.{Scene}
 use Rattle.mc_showing.specs.Around.{IsAround}
 
--- the lines are those that were said, the list can be sent, what was encoded are frames of the game,
--- and ages can be told
+-- the lines are those that were said, the list can be sent, what was encoded are frames of the
+-- game, and ages can be told
 pub record IsScene (scene : Scene) : Type 0 where
   pub said : scene.lines.now ≡ scene.game.now.game.lines
   pub few : len scene.list.now.present ≤ 50

@@ -14,6 +14,6 @@ mod views;
 
 pub use lines::encode_lines;
 pub use prepare::{prepare_one, start};
-pub use roster::Roster;
+pub use roster::{LISTED_MAX, Roster};
 pub use scene::Scene;
 pub use views::views_of;

@@ -10,6 +10,9 @@ use mc_model::Name;
 use std::alloc::Global;
 use std::marker::Model;
 
+/// How many players a list may have.
+pub const LISTED_MAX: usize = 50;
+
 /// The players in play that clients are shown, and those that they were shown last: at most 50
 /// each, with names that a packet can carry.
 #[derive(Drop)]

@@ -149,8 +149,8 @@ impl Scene<'_> {
             OnOk result (joined out.new.items ≡ joined out.old.items
             ++ play_bytes (due self.now.game.now.game shown player.now)) }
         ensures shows { (last : Sight) → IsListed self.now.list.now self.now.game.now.game →
-            OnOk result (Shows (present_parts (land_of self.now.game.now) self.now.list.now) mark.new
-            (Some (sight_of self.now.game.now.game player.now last))) }
+            OnOk result (Shows (present_parts (land_of self.now.game.now) self.now.list.now)
+            mark.new (Some (sight_of self.now.game.now.game player.now last))) }
     {
         self.push_opening(alloc, player, mark, out)?;
         let pack = self.game.pack_of(player);

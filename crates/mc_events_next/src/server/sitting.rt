@@ -16,10 +16,7 @@ use mc_bytes::NoMemory;
 use mc_game::Player;
 use mc_links::{depart, on_bytes};
 use mc_model::Cause;
-use mc_showing::Roster;
-
-/// How many players a list may have.
-const LISTED_MAX: usize = 50;
+use mc_showing::{LISTED_MAX, Roster};
 
 /// Lists a player, unless one of its identifier is listed or the list is full.
 fn add_player(list: &mut Roster, player: &Player) -> Result<(), NoMemory>
