@@ -1,174 +1,259 @@
--- A server stands for what the beat of a tick makes of the world that it stood for.
-use Rattle.std.proofs.Common.{◌≡◌, ℕ, ◌+◌, ◌<◌, true, false, List, [], map, refl, sym}
-use Rattle.std.proofs.Common.{subst, ap, ◌∙◌, arith}
-use Rattle.std.specs.Prelude.{Option, Some, None, is_some, option_map, unwrap_or, if◌then◌else◌}
-use Rattle.mc_frame.specs.Cut.{IsPart, kept_count}
-use Rattle.std.proofs.Math.Nat.{min-eq_left}
+-- The server after a beat stands for the world of the tick.
+use Rattle.std.proofs.Common.{◌≡◌, ℕ, ◌+◌, Bool, true, false, List, refl, sym, subst, ap, ◌∙◌, inl}
+use Rattle.std.proofs.Common.{inr, ◌<◌, arith}
 use Rattle.std.proofs.lemmas.Bool.Decides.{nat_tests}
-use Rattle.mc_land.specs.Land.{LandValue}
-use Rattle.mc_entities.specs.Folk.{FolkState}
-use Rattle.mc_model.specs.declared.cause.Cause.TheVariants as causes
-use Rattle.mc_model.specs.Beats.{awaiting, is_silent}
-use Rattle.mc_model.specs.Packets.{Sent}
+use Rattle.std.specs.Prelude.{◌⊎◌, Option, Some, None, is_some, option_map}
+use Rattle.std.specs.List.{filter}
+use Rattle.std.specs.Ordering.{nat_cmp}
+use Rattle.std.specs.FinMap.{FinMap, get, keys}
+use Rattle.mc_flush.specs.Seeing.{MarkValue, Parts, StandsFor}
 use Rattle.mc_model.specs.Sight.{Sight, nothing_seen}
-use Rattle.mc_model.specs.Step.{aged, at_tick, beat, beat_to, disconnect, mark_closed}
-use Rattle.mc_model.specs.Talk.{farewell}
-use Rattle.mc_model.specs.Things.{Packs, Things}
 use Rattle.mc_model.specs.Ticks.{older}
-use Rattle.mc_model.specs.World.{World, Session, Player, is_play, is_closed}
-use Rattle.mc_model.proofs.Handing.{beat_cases, closed_is, hand_cases, has_beaten, not_both}
-use Rattle.mc_model.proofs.RunEvents.{orderly_beaten}
-use Rattle.mc_model.proofs.BalanceRun.{beaten_balanced}
-use Rattle.mc_flush.specs.Seeing.{MarkValue, Parts, StandsFor, is_shown}
-use Rattle.mc_events.specs.Bare.{bare, bare_player}
-use Rattle.mc_events.specs.Beating.{IsBeaten, beaten_session}
-use Rattle.mc_events.specs.Served.{ConnectionValue, ServerValue, shown_parts, things_of}
-use Rattle.mc_events.specs.SideBySide.{SideBySide}
-use Rattle.mc_events.specs.Stands.{IsConnection, IsOpen, Stands, said_in, said_to, shown_to}
-use Rattle.mc_events.specs.Ticking.{left_all, with_shown}
-use Rattle.mc_events.proofs.Bare.{hand_bare}
-use Rattle.mc_events.proofs.BeatFacts.{shut_shown}
-use Rattle.mc_events.proofs.LeftFacts.{all_left, all_removed, things_after}
-use Rattle.mc_events.proofs.SceneFacts.{player_shown}
-use Rattle.mc_events.proofs.Sides.{side_map}
+use Rattle.mc_model.specs.Stages.{is_closed, is_play}
+use Rattle.mc_model.specs.declared.player.Player.{Player}
+use Rattle.mc_model.specs.Game.{Game}
+use Rattle.mc_model.specs.Good.{Good, GoodWorld, in_play}
+use Rattle.mc_model.specs.Leaving.{leave_all}
+use Rattle.mc_model.specs.Link.{Handing, Link}
+use Rattle.mc_model.specs.Showing.{last_shown}
+use Rattle.mc_model.specs.Tick.{aged, at_tick, beat, beat_of, grown}
+use Rattle.mc_model.specs.World.{Unread, World, each, is_closing, unread_of}
+use Rattle.mc_laws.proofs.Deeds.Leaving.{leave_all_stays}
+use Rattle.mc_laws.proofs.Runs.Worlds.{at_tick_world}
+use Rattle.mc_laws.proofs.Walk.Each.{beat_stage, each_links}
+use Rattle.mc_laws.proofs.Walk.Handings.{not_in_play}
+use Rattle.mc_laws.proofs.Walk.Ticking.{at_tick_last, at_tick_shown}
+use Rattle.mc_links.specs.Beating.{IsBeaten}
+use Rattle.mc_links.specs.Kept.{ConnectionValue}
+use Rattle.mc_showing.specs.Shown.{Shows, pairs_of}
+use Rattle.mc_events.specs.Served.{Both, Each, ServerValue, shown_parts}
+use Rattle.mc_events.specs.Stands.{IsLinked, Pair}
+use Rattle.mc_events.specs.Ticking.{IsBare, StandsAmid, dismissed, is_shut, is_shut_in}
+use Rattle.mc_events.proofs.Dismissing.{leave_among}
 
--- ---- one session
+-- ---- who is in play, and who is closed
 
--- of a session with this player, whose client was shown what its mark keeps
-player_beaten : (w : World) (s : Session) (p : Player) →
-    with_shown None
-    (beat_to w (record (bare s) { player = Some (player_shown p.shown p) })
-    (Some (player_shown p.shown p))).session
-    ≡ bare (beat_to w s (Some p)).session
-player_beaten w s p = grind (arith, nat_tests, shut_shown, hand_bare)
+pub no_player : (k : ℕ) (w : World) (l : Link) → GoodWorld w → get w.links k ≡ Some l →
+    is_play l.stage ≡ false → get w.game.players k ≡ None
+no_player k w l good there waits =
+    none_of (get w.game.players k) (good.plays k ∙ ap in_play there ∙ waits)
+  where
+    none_of : (o : Option Player) → is_some o ≡ false → o ≡ None
+    none_of None is = refl
+    none_of (Some p) is = absurd cc
 
--- the beat that a sight tells is that of the mark that stands for it
-beat_stands : (mark : MarkValue) (parts : Parts) (p : Sight) → StandsFor mark parts p →
-    p.beat ≡ mark.beat
-unfolding StandsFor
-beat_stands mark parts p stands = stands.beat
+pub closed_alone : (k : ℕ) (w : World) (l : Link) → GoodWorld w → get w.links k ≡ Some l →
+    is_closed l.stage ≡ true → get w.game.players k ≡ None
+closed_alone k w l good there closed =
+    no_player k w l good there (not_in_play l.stage closed)
 
--- of a session of a connection
-session_beaten : (w : World) (shown : Parts) (c d : ConnectionValue) (s : Session) →
-    IsConnection shown c s → IsBeaten w (record c { session = bare s }) d →
-    d.session ≡ bare (beat w s).session
-session_beaten w shown c d s is beaten = elim (s.player)
-    as (λ o. s.player ≡ o → d.session ≡ bare (beat_to w s o).session) [
-      | None ↦ λ none. beaten.stays (ap (option_map bare_player) none)
-      | Some p ↦ λ there. elim (is_closed s.stage)
-          as (λ b. is_closed s.stage ≡ b → d.session ≡ bare (beat_to w s (Some p)).session) [
-            | true ↦ λ over. absurd (not_both (is_some s.player) (ap is_some there)
-                (sym is.plays ∙ ap is_play (closed_is s.stage over)))
-            | false ↦ λ open_. (let o = is.is_open open_ in
-                beaten.session p.shown
-                (ap (λ (q : Option Player). (unwrap_or (shown_to q) nothing_seen).beat) (sym there)
-                ∙ beat_stands c.mark shown _ o.shows)
-                ∙ (λ i. beaten_session w p.shown (record (bare s) {
-                  player = option_map bare_player (there i);
-                }))
-                ∙ player_beaten w s p)
-          ] refl
-    ] refl
+-- where a connection stands for a link that was handed something, both are closed or none is
+pub shut_alike : (parts : Parts) (k : ℕ) (unread : Unread) (shown : Option Sight)
+    (f : ℕ → Link → Handing) (o : Option ConnectionValue) (m : Option Link) →
+    Pair parts k unread shown o (option_map (λ (l : Link). (f k l).link) m) →
+    is_shut o ≡ is_closing f k m
+shut_alike parts k unread shown f (Some c) (Some l) pair =
+    ap (λ (x : Link). is_closed x.stage) pair.link
+shut_alike parts k unread shown f None None pair = refl
+shut_alike parts k unread shown f (Some c) None pair = absurd pair
+shut_alike parts k unread shown f None (Some l) pair = absurd pair
+
+-- where a link is, a connection is
+pub there_alike : (parts : Parts) (k : ℕ) (unread : Unread) (shown : Option Sight)
+    (o : Option ConnectionValue) (m : Option Link) → Pair parts k unread shown o m →
+    is_some o ≡ is_some m
+there_alike parts k unread shown (Some c) (Some l) pair = refl
+there_alike parts k unread shown None None pair = refl
+there_alike parts k unread shown (Some c) None pair = absurd pair
+there_alike parts k unread shown None (Some l) pair = absurd pair
+
+-- Over all numbers of connections those leave that are closed. It is who leaves of a world in which
+-- each link was handed something, where that has the same game.
+module _ (f : ℕ → Link → Handing) (w : World) (cs : FinMap nat_cmp ConnectionValue)
+    (ids : List ℕ) (are : ids ≡ keys cs)
+    (shut : (k : ℕ) → is_shut (get cs k) ≡ is_closing f k (get w.links k))
+    (there : (k : ℕ) → is_some (get cs k) ≡ is_some (get w.links k))
+    (plays : (k : ℕ) → is_some (get w.game.players k) ≡ in_play (get w.links k)) where
+  has : (k : ℕ) → is_some (get w.game.players k) ≡ true → is_some (get cs k) ≡ true
+  has k player = there k ∙ link_there (get w.links k) (sym (plays k) ∙ player)
+    where
+      link_there : (m : Option Link) → in_play m ≡ true → is_some m ≡ true
+      link_there None is = absurd cc
+      link_there (Some l) is = refl
+
+  pub dismissed_each : leave_all (filter (is_shut_in cs) ids) w.game ≡ (each f w).game
+  unfolding each
+  dismissed_each =
+      ap (λ (ks : List ℕ). leave_all (filter (is_shut_in cs) ks) w.game) are
+      ∙ leave_among (is_shut_in cs) w.game cs has
+      ∙ (λ i. leave_all (filter (λ (k : ℕ). shut k i) (keys w.game.players)) w.game)
 
 -- ---- one connection
 
--- an open one whose splitter and mark are as before
-open_stays : (shown : Parts) (c d : ConnectionValue) (s t : Session) → t.rest ≡ s.rest →
-    t.before ≡ s.before → shown_to t.player ≡ shown_to s.player →
-    said_to t.player ≡ said_to s.player → d.splitter ≡ c.splitter → d.mark ≡ c.mark →
-    IsOpen shown c s → IsOpen shown d t
-open_stays shown c d s t rest before seen said splitter mark is = record {
-  held = ap (λ x. x.held) splitter ∙ is.held ∙ sym rest;
-  before = ap (λ x. x.before) splitter ∙ is.before ∙ ap kept_count (sym before);
-  fine = ap (λ x. x.fault) splitter ∙ is.fine;
-  part = subst IsPart (sym rest) is.part;
-  opened = ap is_shown mark ∙ is.opened ∙ ap is_some (sym seen);
-  shows = grind (arith, nat_tests);
-  said = said ∙ is.said ∙ ap said_in (sym seen);
-}
+-- the beat that a client was told is that of its mark
+told_beat : (parts : Parts) (mark : MarkValue) (shown : Option Sight) → Shows parts mark shown →
+    (last_shown shown).beat ≡ mark.beat
+unfolding StandsFor
+told_beat parts mark None is = sym (ap (λ (m : MarkValue). m.beat) is)
+told_beat parts mark (Some s) shows = shows.1.beat
 
--- where its session is bare
-beaten_bare : (w : World) (shown : Parts) (c d : ConnectionValue) (s : Session) →
-    IsConnection shown c s → IsBeaten w (record c { session = bare s }) d →
-    IsConnection shown d (beat w s).session
-beaten_bare w shown c d s is beaten =
-    let session : d.session ≡ bare (beat w s).session =
-    session_beaten w shown c d s is beaten in
-    let keeps = beaten.retains in
-    record {
-      session = session;
-      is_open = λ open_here.
-          beat_cases w s (λ h. h.session ≡ (beat w s).session → is_closed h.session.stage ≡ false →
-          IsOpen shown d h.session)
-          (λ none same open_. open_stays shown c d s s refl refl refl refl keeps.splitter
-          (keeps.mark (ap (λ (t : Session). is_closed t.stage) (session ∙ ap bare (sym same))
-          ∙ open_)) (is.is_open open_))
-          (λ p there speaks same open_.
-          open_stays shown c d s (record s { player = Some (awaiting w p) }) refl refl
-          (ap shown_to (sym there)) (ap said_to (sym there)) keeps.splitter
-          (keeps.mark (ap (λ (t : Session). is_closed t.stage) (session ∙ ap bare (sym same))
-          ∙ open_)) (is.is_open open_))
-          (λ p there quiet. hand_cases (mark_closed s causes.Silent) (farewell s.stage causes.Silent)
-          (λ h. h.session ≡ (beat w s).session → is_closed h.session.stage ≡ false →
-          IsOpen shown d h.session)
-          (λ fits same open_. absurd (not_both true refl open_))
-          (λ much same open_. absurd (not_both true refl open_))) refl open_here;
-      plays = has_beaten w s is.plays;
-    }
+module _ (g : Game) (parts : Parts) (k : ℕ) (unread : Unread) (shown : Option Sight) where
+  beaten_as : (c d : ConnectionValue) (l : Link) (told : Option Sight) →
+      IsLinked parts k unread shown c l →
+      d ≡ record c { link = (beat g told c.id c.link).link } →
+      (beat g told k l).link ≡ (beat g shown k l).link →
+      (is_closed (beat g shown k l).link.stage ≡ false → is_closed l.stage ≡ false) →
+      IsLinked parts k unread shown d (beat g shown k l).link
+  beaten_as c d l told is made same opens =
+      subst (λ (x : ConnectionValue). IsLinked parts k unread shown x (beat g shown k l).link)
+      (sym made) (record {
+        id = is.id;
+        link = (λ i. (beat g told (is.id i) (is.link i)).link) ∙ same;
+        remembers = λ open_. let r = is.remembers (opens open_) in
+            record { holds = r.holds; shows = r.shows };
+      })
 
--- and of any session
-connection_beaten : (w : World) (shown : Parts) (c d : ConnectionValue) (s : Session) →
-    IsConnection shown c s → IsBeaten w c d → IsConnection shown d (beat w s).session
-connection_beaten w shown c d s is beaten = grind (arith, nat_tests, beaten_bare)
+  beaten_link : (c d : ConnectionValue) (l : Link) → IsBeaten g c d →
+      IsLinked parts k unread shown c l →
+      (is_closed l.stage ≡ true → get g.players k ≡ None) →
+      IsLinked parts k unread shown d (beat g shown k l).link
+  beaten_link c d l beaten is alone = step (is_closed l.stage) refl
+    where
+      step : (b : Bool) → is_closed l.stage ≡ b →
+          IsLinked parts k unread shown d (beat g shown k l).link
+      step true closed =
+          let told : Option Sight = Some (record nothing_seen { beat = c.mark.beat }) in
+          let none = alone closed in
+          beaten_as c d l told is (beaten told refl)
+          (ap (λ (o : Option Player). (beat_of g told l o).link) none
+          ∙ sym (ap (λ (o : Option Player). (beat_of g shown l o).link) none))
+          (λ open_. let clash : true ≡ false = sym closed
+          ∙ sym (ap (λ (o : Option Player). is_closed (beat_of g shown l o).link.stage) none)
+          ∙ open_ in absurd cc)
+      step false open_ =
+          beaten_as c d l shown is
+          (beaten shown (told_beat parts c.mark shown (is.remembers open_).shows))
+          refl (λ _. open_)
 
--- ---- all of it
+  beaten_pair : (o n : Option ConnectionValue) (m : Option Link) →
+      Both (IsBeaten g) o n → Pair parts k unread shown o m →
+      ((l : Link) → m ≡ Some l → is_closed l.stage ≡ true → get g.players k ≡ None) →
+      Pair parts k unread shown n (option_map (λ (l : Link). (beat g shown k l).link) m)
+  beaten_pair (Some c) (Some d) (Some l) both pair alone =
+      beaten_link c d l both pair (alone l refl)
+  beaten_pair None None None both pair alone = tt
+  beaten_pair (Some c) (Some d) None both pair alone = absurd pair
+  beaten_pair None None (Some l) both pair alone = absurd pair
+  beaten_pair (Some c) None m both pair alone = absurd both
+  beaten_pair None (Some d) m both pair alone = absurd both
 
--- a world that is young enough is a tick older
-pub young_older : (age : ℕ) → age < 1000000000 → older age ≡ age + 1
-young_older age young = min-eq_left (omega (arith, young))
+-- ---- all of them
 
--- a server after the beat of a tick, of whose entities those of the players are gone that left
-module _ (v n : ServerValue) (w : World) (st : Stands v w) (land : LandValue) (state : FolkState)
-    (packs : Packs)
-    (was : things_of land state packs ≡ v.things)
-    (left_ : n.things
-    ≡ things_of land (all_removed state (left_all v.connections n.connections)) packs)
-    (shown : shown_parts n ≡ shown_parts v)
-    (side : SideBySide (IsBeaten (aged w)) v.connections n.connections) where
-  -- what becomes of a session
-  abbrev after : Session → Session
-  after s = (beat (aged w) s).session
+bare_at_tick : (w : World) → IsBare w → IsBare (at_tick w)
+bare_at_tick w bare k l there waits open_ =
+    ap (λ m. get m k) (at_tick_shown w)
+    ∙ step (get w.links k) refl
+    (sym (each_links (λ (j : ℕ) (x : Link). beat (grown w.game) (get w.shown j) j x) (aged w) k)
+    ∙ there)
+  where
+    step : (o : Option Link) → get w.links k ≡ o →
+        option_map (λ (x : Link). (beat (grown w.game) (get w.shown k) k x).link) o ≡ Some l →
+        get w.shown k ≡ None
+    step None is none = absurd cc
+    step (Some x) is some =
+        (let same : (beat (grown w.game) (get w.shown k) k x).link ≡ l = cc in
+        stays x is same (beat_stage (grown w.game) (get w.shown k) k x))
+      where
+        stays : (y : Link) → get w.links k ≡ Some y →
+            (beat (grown w.game) (get w.shown k) k y).link ≡ l →
+            (is_closed (beat (grown w.game) (get w.shown k) k y).link.stage ≡ true)
+            ⊎ ((beat (grown w.game) (get w.shown k) k y).link.stage ≡ y.stage) →
+            get w.shown k ≡ None
+        stays y is same (inl closed) =
+            (let clash : true ≡ false = sym closed
+            ∙ ap (λ (z : Link). is_closed z.stage) same ∙ open_ in absurd cc)
+        stays y is same (inr stage) =
+            let at : y.stage ≡ l.stage = sym stage ∙ ap (λ (z : Link). z.stage) same in
+            bare k y is (ap is_play at ∙ waits) (ap is_closed at ∙ open_)
 
-  -- its connections stand for those of the world
-  sides_beaten : SideBySide (IsConnection (shown_parts v)) n.connections (map after w.sessions)
-  sides_beaten =
-      side_map (IsConnection (shown_parts v)) (IsBeaten (aged w)) (IsConnection (shown_parts v)) after
-      (λ c d s is beaten. connection_beaten (aged w) (shown_parts v) c d s is beaten)
-      v.connections n.connections w.sessions st.connections side
+-- The beat came to each connection, and then those leave that are closed.
+module _ (old new : ServerValue) (w : World) (s : StandsAmid old w) (ids : List ℕ)
+    (are : ids ≡ keys new.connections)
+    (beaten : Each (λ (k : ℕ). IsBeaten (grown old.game.game)) old.connections new.connections)
+    (game : new.game.game
+    ≡ leave_all (filter (is_shut_in new.connections) ids) (grown old.game.game))
+    (settled : new.game.settled ≡ old.game.settled)
+    (listed : Good (grown old.game.game) → old.list.present ≡ pairs_of (grown old.game.game) →
+    new.list.present ≡ pairs_of new.game.game)
+    (before : new.list.last ≡ old.list.last) (last : new.last ≡ old.last)
+    (failed : new.failed ≡ old.failed) where
+  abbrev f : ℕ → Link → Handing
+  f k l = beat (grown w.game) (get w.shown k) k l
 
-  -- and what is in it for what is in the world
-  things_beaten : n.things ≡ things_after after w.things w.sessions
-  things_beaten =
-      left_
-      ∙ all_left after (shown_parts v) (shown_parts v) land packs v.connections
-      n.connections w.sessions state st.connections sides_beaten
-      ∙ ap (λ (things : Things). things_after after things w.sessions) (was ∙ st.things)
+  parts_same : shown_parts old ≡ shown_parts new
+  parts_same =
+      let stays = leave_all_stays (filter (is_shut_in new.connections) ids) (grown old.game.game) in
+      let settings = ap (λ (g : Game). g.settings) game ∙ stays.settings in
+      sym (λ i. record {
+        players = before i;
+        terrain = (settings i).terrain;
+        edits = settled i;
+      })
 
-  -- so it stands for the world of the tick
-  pub beaten_stands : n.failed ≡ v.failed → n.age ≡ older w.age → n.terrain ≡ v.terrain →
-      n.most ≡ v.most → n.cap ≡ v.cap → n.last ≡ v.last → n.lines ≡ v.lines → Stands n (at_tick w)
-  beaten_stands works age terrain most cap joined lines = record {
-    works = works ∙ st.works;
-    age = age;
-    terrain = terrain ∙ st.terrain;
-    things = things_beaten;
-    lines = lines ∙ st.lines;
-    most = most ∙ st.most;
-    cap = cap ∙ st.cap;
-    last = joined ∙ st.last;
-    connections = subst
-        (λ parts. SideBySide (IsConnection parts) n.connections (map after w.sessions))
-        (sym shown) sides_beaten;
-    orderly = orderly_beaten w st.orderly;
-    balanced = beaten_balanced w st.balanced;
+  at : (k : ℕ) → Pair (shown_parts old) k (unread_of k w) (get w.shown k)
+      (get new.connections k) (option_map (λ (l : Link). (f k l).link) (get w.links k))
+  at k = beaten_pair (grown w.game) (shown_parts old) k (unread_of k w) (get w.shown k)
+      (get old.connections k) (get new.connections k) (get w.links k)
+      (subst (λ (g : Game). Both (IsBeaten (grown g)) (get old.connections k)
+      (get new.connections k)) s.game (beaten k)) (s.each k)
+      (λ l there closed. closed_alone k w l s.good there closed)
+
+  there : (k : ℕ) → is_some (get new.connections k) ≡ is_some (get w.links k)
+  there k = there_alike (shown_parts old) k (unread_of k w) (get w.shown k)
+      (get new.connections k) (option_map (λ (l : Link). (f k l).link) (get w.links k)) (at k)
+      ∙ mapped (get w.links k)
+    where
+      mapped : (m : Option Link) → is_some (option_map (λ (l : Link). (f k l).link) m) ≡ is_some m
+      mapped None = refl
+      mapped (Some l) = refl
+
+  game_is : new.game.game ≡ (at_tick w).game
+  game_is = game
+      ∙ ap (λ (g : Game). leave_all (filter (is_shut_in new.connections) ids) (grown g)) s.game
+      ∙ dismissed_each f (aged w) new.connections ids are
+      (λ k. shut_alike (shown_parts old) k (unread_of k w) (get w.shown k) f
+      (get new.connections k) (get w.links k) (at k)) there s.good.plays
+
+  pub beaten_stands : StandsAmid new (at_tick w)
+  unfolding each
+  beaten_stands = record {
+    works = failed ∙ s.works;
+    game = game_is;
+    last = last ∙ s.last ∙ sym (at_tick_last w);
+    listed = listed (subst (λ (g : Game). Good (grown g)) (sym s.game) s.good.game)
+        (s.listed ∙ ap pairs_of (sym s.game)) ∙ ap pairs_of game_is;
+    each = λ k.
+        let P : Option Sight → Option Link → Type 0 = λ o m.
+        Pair (shown_parts new) k (unread_of k (at_tick w)) o (get new.connections k) m in
+        subst (λ (o : Option Sight). P o (get (at_tick w).links k))
+        (ap (λ m. get m k) (sym (at_tick_shown w)))
+        (subst (P (get w.shown k)) (sym (each_links f (aged w) k))
+        (moved k));
+    good = at_tick_world w s.good;
+    bare = bare_at_tick w s.bare;
   }
+    where
+      moved : (k : ℕ) → Pair (shown_parts new) k (unread_of k (at_tick w)) (get w.shown k)
+          (get new.connections k) (option_map (λ (l : Link). (f k l).link) (get w.links k))
+      moved k = subst (λ (parts : Parts). Pair parts k (unread_of k w) (get w.shown k)
+          (get new.connections k) (option_map (λ (l : Link). (f k l).link) (get w.links k)))
+          parts_same (at k)
+
+-- those that leave change no age
+pub grown_age : (cs : FinMap nat_cmp ConnectionValue) (ids : List ℕ) (g h : Game) → h ≡ grown g →
+    g.age < 1000000000 → (dismissed cs ids h).age ≡ g.age + 1
+grown_age cs ids g h is young = (leave_all_stays (filter (is_shut_in cs) ids) h).age
+    ∙ ap (λ (x : Game). x.age) is ∙ within g.age young
+  where
+    within : (n : ℕ) → n < 1000000000 → older n ≡ n + 1
+    within n lt = grind (arith, nat_tests)

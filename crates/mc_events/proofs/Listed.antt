@@ -1,163 +1,232 @@
--- The names of those in play, listed one after another.
-use Rattle.std.proofs.Common.{◌≡◌, ℕ, zero, suc, ◌+◌, ◌<◌, ◌≤◌, Bool, true, false, cond, List, []}
-use Rattle.std.proofs.Common.{◌∷◌, ◌++◌, map, length, take, get_or, Option, Some, None, is_some}
-use Rattle.std.proofs.Common.{refl, sym, subst, ap, ◌∙◌, arith}
-use Rattle.std.proofs.lemmas.Bool.Decides.{nat_tests}
-use Rattle.std.specs.Prelude.{◌==◌, if◌then◌else◌}
+-- The list of players after a step of one connection is that of the players in play.
+use Rattle.std.proofs.Common.{◌≡◌, ◌≢◌, ℕ, ◌+◌, ◌<◌, ◌≤◌, Bool, true, false, cond, List, [], ◌∷◌}
+use Rattle.std.proofs.Common.{map, refl, sym, subst, ap, ◌∙◌, arith, inl, inr}
+use Rattle.std.specs.Prelude.{◌==◌, ◌||◌, Option, Some, None, is_some, option_map}
+use Rattle.std.specs.List.{AllByRecursion, filter, list_any}
 use Rattle.std.specs.Cmp.{nat_cmp_total}
-use Rattle.std.specs.Ordering.{nat_cmp, eq_by_cmp}
-use Rattle.std.specs.FinMap.{find, get, get-from_entries, from_entries, get-insert, len, len-insert}
-use Rattle.std.specs.FinMap.{contains_key, same_map, nat_cmp-IsAntisymmetric}
-use Rattle.std.proofs.lemmas.List.{take_more}
-use Rattle.std.proofs.lemmas.Bool.{eqb-true}
-use Rattle.mc_model.specs.Delta.{Pairs}
-use Rattle.mc_model.specs.World.{Session, Player}
-use Rattle.mc_flush.specs.Lists.{ListValue, with_name}
-use Rattle.mc_flush.proofs.Lookups.{key_turned}
-use Rattle.mc_events.specs.Served.{playing_of}
-use Rattle.mc_events.specs.Ticking.{name_after, name_of, names_of}
-use Rattle.std.specs.List.{cons_option}
+use Rattle.std.specs.FinMap.{FinMap, contains_key, entries, entries_sorted, get, get-entries}
+use Rattle.std.specs.FinMap.{insert, len, len-insert, remove, values}
+use Rattle.std.specs.Ordering.{nat_cmp}
+use Rattle.std.proofs.lemmas.Bool.{cases_eq}
+use Rattle.std.proofs.lemmas.Bool.Decides.{nat_tests}
+use Rattle.mc_model.proofs.Maps.Sorted.{each_found}
+use Rattle.mc_model.specs.Names.{offline_uuid}
+use Rattle.mc_model.specs.Step.{Event, step}
+use Rattle.mc_flush.specs.Lists.{ListValue}
+use Rattle.mc_model.specs.declared.player.Player.{Player}
+use Rattle.mc_model.specs.Apart.{IsOf, Traits, traits_of}
+use Rattle.mc_model.specs.Game.{Game, players_of}
+use Rattle.mc_model.specs.Good.{Good}
+use Rattle.mc_model.specs.Headline.{Between, ends, plays_on}
+use Rattle.mc_model.specs.World.{World}
+use Rattle.mc_model.proofs.Maps.Lookups.{gone_other, gone_same, maps_alike, put_other, put_same}
+use Rattle.mc_model.proofs.Maps.Options.{none_some, some_is}
+use Rattle.mc_showing.specs.Shown.{pairs_of}
+use Rattle.mc_showing.proofs.PairFacts.{pairs_alike, pairs_entered, pairs_few, pairs_has}
+use Rattle.mc_showing.proofs.PairFacts.{pairs_left}
+use Rattle.mc_events.specs.Listing.{Follows}
+use Rattle.mc_events.specs.Stands.{IsReached}
+use Rattle.mc_events.proofs.Reached.{reached_between, reached_few, reached_good, reached_only}
 
--- ---- how many are in play
+-- the name of a player, by its identifier
+abbrev pair : Player → ℕ × List ℕ
+pair p = (p.uuid, p.name)
 
-pub playing_more : (xs : List Session) (c : Session) → length (playing_of (xs ++ c ∷ [])) ≡
-    length (playing_of xs) + length (playing_of (c ∷ []))
-playing_more [] c = omega arith
-playing_more (x ∷ xs) c = grind (arith, nat_tests, playing_more xs c)
+-- the identifier of a player, if there is one
+abbrev pub uuid_of : Option Player → Option ℕ
+uuid_of o = option_map (λ (p : Player). p.uuid) o
 
--- those at the front are no more than all
-pub playing_front : (i : ℕ) (xs : List Session) → length (playing_of (take i xs))
-    ≤ length (playing_of xs)
-playing_front zero [] = omega arith
-playing_front (suc i) [] = omega arith
-playing_front zero (x ∷ xs) = omega arith
-playing_front (suc i) (x ∷ xs) = grind (arith, nat_tests, playing_front i xs)
+pair_by : (o q : Option Player) → option_map traits_of o ≡ option_map traits_of q →
+    option_map pair o ≡ option_map pair q
+pair_by o q same =
+    sym (named o) ∙ ap (option_map (λ (t : Traits). (t.uuid, t.name))) same ∙ named q
+  where
+    named : (p : Option Player) → option_map (λ (t : Traits). (t.uuid, t.name))
+        (option_map traits_of p) ≡ option_map pair p
+    named None = refl
+    named (Some p) = refl
 
--- the next of them is counted
-pub playing_next : (i : ℕ) (xs : List Session) (c : Session) → i < length xs → c ≡ get_or xs i c →
-    length (playing_of (take (i + 1) xs)) ≡ length (playing_of (take i xs))
-    + length (playing_of (c ∷ []))
-playing_next i xs c lt is =
-    grind (arith, nat_tests, take_more xs i c lt, playing_more (take i xs) c)
+-- ---- but for one connection
 
-pub one_plays : (c : Session) → is_some c.player ≡ true → length (playing_of (c ∷ [])) ≡ 1
-one_plays c = elim (c.player) as (λ o. is_some o ≡ true → length (cons_option o []) ≡ 1)
-    [ Some p ↦ λ e. refl | None ↦ λ e. absurd cc ]
+-- a game without the player of a connection
+abbrev without : ℕ → Game → Game
+without k g = record g { players = remove g.players k }
 
--- so there is room for it
-pub room_next : (i : ℕ) (xs : List Session) (c : Session) (n : ℕ) → i < length xs → c ≡
-    get_or xs i c → n ≤ length (playing_of (take i xs)) → length (playing_of xs) ≤ 50 →
-    is_some c.player ≡ true → n < 50
-room_next i xs c n lt is le few plays =
-    grind (arith, nat_tests, playing_next, one_plays, playing_front)
+-- where all others are alike, the lists without it are the same
+others_alike : (k : ℕ) (g h : Game) →
+    ((j : ℕ) → j ≢ k → option_map traits_of (get h.players j)
+    ≡ option_map traits_of (get g.players j)) →
+    pairs_of (without k h) ≡ pairs_of (without k g)
+others_alike k g h same = pairs_alike (without k g) (without k h) (λ j.
+    elim (cases_eq j k) [
+      | inl is ↦ rw (is, gone_same h.players k, gone_same g.players k) refl
+      | inr ne ↦ rw (gone_other h.players k j ne, gone_other g.players k j ne)
+          (pair_by (get h.players j) (get g.players j) (same j ne))
+    ])
 
--- ---- names
+-- nothing is taken out where nobody is
+without_nobody : (k : ℕ) (g : Game) → get g.players k ≡ None → remove g.players k ≡ g.players
+without_nobody k g none = maps_alike (remove g.players k) g.players (λ j. elim (cases_eq j k) [
+  | inl is ↦ rw is (gone_same g.players k ∙ sym none)
+  | inr ne ↦ gone_other g.players k j ne
+])
 
-pub names_more : (q : ℕ) (xs : List Session) (c : Session) →
-    find nat_cmp q (names_of (xs ++ c ∷ [])) ≡ name_after (find nat_cmp q (names_of xs)) c q
-names_more q [] c = grind (arith, nat_tests)
-names_more q (x ∷ xs) c = grind (arith, nat_tests, names_more q xs c)
+-- a player that is taken out and put in again
+put_again : (k : ℕ) (g : Game) (p : Player) → get g.players k ≡ Some p →
+    g.players ≡ insert (remove g.players k) k p
+put_again k g p there = maps_alike g.players (insert (remove g.players k) k p) (λ j.
+    elim (cases_eq j k) [
+      | inl is ↦ rw is (there ∙ sym (put_same (remove g.players k) k p))
+      | inr ne ↦ sym (put_other (remove g.players k) k j p ne ∙ gone_other g.players k j ne)
+    ])
 
-pub names_next : (q i : ℕ) (xs : List Session) (c : Session) (old new : Option (List ℕ)) →
-    i < length xs → c ≡ get_or xs i c → old ≡ find nat_cmp q (names_of (take i xs)) → new ≡
-    name_after old c q → new ≡ find nat_cmp q (names_of (take (i + 1) xs))
-names_next q i xs c old new lt is e next =
-    grind (arith, nat_tests, names_more q (take i xs) c, take_more xs i c lt)
+-- no test holds of any value where it holds of none that is found
+none_any : (test : Player → Bool) (m : FinMap nat_cmp Player) →
+    ((j : ℕ) (q : Player) → get m j ≡ Some q → test q ≡ false) → list_any test (values m) ≡ false
+none_any test m each = walk (entries m)
+    (each_found nat_cmp_total (λ (e : ℕ × Player). test e.1 ≡ false) (λ (e : ℕ × Player). true)
+    (entries m) (entries_sorted m) (λ j q found. each j q (get-entries m j ∙ found)))
+  where
+    walk : (es : List (ℕ × Player)) →
+        AllByRecursion (λ (e : ℕ × Player). test e.1 ≡ false)
+        (filter (λ (e : ℕ × Player). true) es) →
+        list_any test (map (λ (e : ℕ × Player). e.1) es) ≡ false
+    walk [] all = refl
+    walk (e ∷ es) all = ap (λ b. b || list_any test (map (λ (e : ℕ × Player). e.1) es)) all.0
+        ∙ walk es all.1
 
--- all of them
-pub names_made : (m : Pairs) (xs : List Session) →
-    ((q : ℕ) → get m q ≡ find nat_cmp q (names_of xs)) → m ≡ from_entries (names_of xs)
-names_made m xs each = same_map nat_cmp_total nat_cmp-IsAntisymmetric m (from_entries (names_of xs))
-    (λ q. each q ∙ sym (get-from_entries nat_cmp_total (names_of xs) q))
+-- no other has the identifier of a player
+nobody_else : (k : ℕ) (g : Game) (p : Player) → Good g → get g.players k ≡ Some p →
+    list_any (λ (q : Player). q.uuid == p.uuid) (players_of (without k g)) ≡ false
+nobody_else k g p good there =
+    none_any (λ (q : Player). q.uuid == p.uuid) (remove g.players k) (λ j q is.
+    elim (cases_eq j k) [
+      | inl same ↦ absurd (none_some _ q (ap (get (remove g.players k)) same
+          ∙ gone_same g.players k) is)
+      | inr ne ↦ differ q.uuid p.uuid (good.apart j k q p
+          (sym (gone_other g.players k j ne) ∙ is) there ne).uuid
+    ])
+  where
+    differ : (a b : ℕ) → a ≢ b → (a == b) ≡ false
+    differ a b ne = grind (arith, nat_tests, ne)
 
--- ---- one of them
+-- ---- one that comes
 
-not_some : (name : List ℕ) (o : Option (List ℕ)) → o ≡ None → is_some o ≡ true → ⊥
-not_some name o none some = let clash : false ≡ true = ap is_some (sym none) ∙ some in cc
+-- the list without it was the one before
+before_coming : (k : ℕ) (g h : Game) → get g.players k ≡ None →
+    ((j : ℕ) → j ≢ k → option_map traits_of (get h.players j)
+    ≡ option_map traits_of (get g.players j)) →
+    pairs_of (without k h) ≡ pairs_of g
+before_coming k g h none same =
+    others_alike k g h same
+    ∙ ap (λ (m : FinMap nat_cmp Player). pairs_of (record g { players = m }))
+    (without_nobody k g none)
 
-not_none : (name : List ℕ) (o : Option (List ℕ)) → o ≡ Some name → is_some o ≡ false → ⊥
-not_none name o some none = let clash : true ≡ false = ap is_some (sym some) ∙ none in cc
+-- fewer were there than are now
+fewer_before : (k : ℕ) (h : Game) (p : Player) → get h.players k ≡ Some p →
+    len h.players ≤ 50 → len (pairs_of (without k h)) < 50
+fewer_before k h p there few =
+    let pairs = pairs_few (without k h) in
+    let one : len h.players ≡ len (remove h.players k) + 1 =
+    ap len (put_again k h p there)
+    ∙ len-insert nat_cmp_total (remove h.players k) k p
+    ∙ ap (λ (o : Option Player).
+    cond (is_some o) (len (remove h.players k)) (len (remove h.players k) + 1))
+    (gone_same h.players k) in
+    omega (arith, pairs, one, few)
 
--- what a player in play does to a look-up, by whether it has the identifier
-name_if : (o : Option (List ℕ)) (s : Session) (p : Player) (q : ℕ) (b : Bool) → s.player ≡ Some p →
-    (p.uuid == q) ≡ b → o ≡ None → name_after o s q ≡ cond b (Some p.name) None
-name_if o s p q b plays is none = grind (arith, nat_tests)
+came_listed : (k : ℕ) (g h : Game) (p : Player) (old new : ListValue) → Good h →
+    len h.players ≤ 50 → get g.players k ≡ None → get h.players k ≡ Some p →
+    ((j : ℕ) → j ≢ k → option_map traits_of (get h.players j)
+    ≡ option_map traits_of (get g.players j)) →
+    old.present ≡ pairs_of g → Follows None (Some p) old new → new.present ≡ pairs_of h
+came_listed k g h p old new good few none there same is follows =
+    let before : old.present ≡ pairs_of (without k h) =
+    is ∙ sym (before_coming k g h none same) in
+    let other = nobody_else k h p good there in
+    let unlisted : contains_key old.present p.uuid ≡ false =
+    ap (λ pairs. contains_key pairs p.uuid) before ∙ pairs_has (without k h) p.uuid ∙ other in
+    let room : len old.present < 50 =
+    subst (λ pairs. len pairs < 50) (sym before) (fewer_before k h p there few) in
+    ap (λ (list : ListValue). list.present) (follows unlisted room)
+    ∙ ap (λ pairs. insert pairs p.uuid p.name) before
+    ∙ sym (pairs_entered (without k h) h k p (put_again k h p there) (gone_same h.players k)
+    other)
 
-name_kept : (o : Option (List ℕ)) (s : Session) (q : ℕ) (name : List ℕ) → o ≡ Some name →
-    name_after o s q ≡ o
-name_kept o s q name some = ap (λ (x : Option (List ℕ)). name_after x s q) some ∙ sym some
+-- ---- one that goes
 
--- one of its identifier is there
-name_there : (m : Pairs) (s : Session) (p : Player) (q : ℕ) → s.player ≡ Some p →
-    contains_key m p.uuid ≡ true → get m q ≡ name_after (get m q) s q
-name_there m s p q plays there = grind (arith, nat_tests)
+went_listed : (k : ℕ) (g h : Game) (p : Player) (old new : ListValue) → Good g →
+    get g.players k ≡ Some p → get h.players k ≡ None →
+    ((j : ℕ) → j ≢ k → option_map traits_of (get h.players j)
+    ≡ option_map traits_of (get g.players j)) →
+    old.present ≡ pairs_of g → Follows (Some p.uuid) None old new → new.present ≡ pairs_of h
+went_listed k g h p old new good there none same is follows =
+    ap (λ (list : ListValue). list.present) follows
+    ∙ ap (λ pairs. remove pairs p.uuid) is
+    ∙ sym (pairs_left g (without k g) k p refl there
+    (λ j o here ne. (good.apart j k o p here there ne).uuid))
+    ∙ sym (others_alike k g h same)
+    ∙ ap (λ (m : FinMap nat_cmp Player). pairs_of (record h { players = m }))
+    (without_nobody k h none)
 
--- none is
-name_new : (m : Pairs) (s : Session) (p : Player) (q : ℕ) → s.player ≡ Some p →
-    contains_key m p.uuid ≡ false → cond (p.uuid == q) (Some p.name) (get m q) ≡
-    name_after (get m q) s q
-name_new m s p q plays absent = grind (arith, nat_tests)
+-- ---- one that stays, or nobody
 
--- a player was put, unless there was one of its identifier
-abbrev pub IsPut : ListValue → ListValue → Player → Type 0
-IsPut old new p = new ≡ (if contains_key old.present p.uuid then old else with_name old p.uuid
-    p.name)
+stays_listed : (k : ℕ) (g h : Game) (old new : ListValue) →
+    option_map pair (get h.players k) ≡ option_map pair (get g.players k) →
+    ((j : ℕ) → j ≢ k → option_map traits_of (get h.players j)
+    ≡ option_map traits_of (get g.players j)) →
+    old.present ≡ pairs_of g → new ≡ old → new.present ≡ pairs_of h
+stays_listed k g h old new own same is follows =
+    ap (λ (list : ListValue). list.present) follows ∙ is
+    ∙ sym (pairs_alike g h (λ j. elim (cases_eq j k) [
+      | inl at ↦ rw at own
+      | inr ne ↦ pair_by (get h.players j) (get g.players j) (same j ne)
+    ]))
 
-pub name_put : (old new : ListValue) (s : Session) (p : Player) (q : ℕ) → s.player ≡ Some p →
-    IsPut old new p →
-    get new.present q ≡ name_after (get old.present q) s q
-name_put old new s p q plays put =
-    elim (contains_key old.present p.uuid)
-    as (λ b. contains_key old.present p.uuid ≡ b → new ≡
-    (if b then old else with_name old p.uuid p.name) → get new.present q ≡
-    name_after (get old.present q) s q) [
-      | true ↦ λ there is. ap (λ (list : ListValue). get list.present q) is ∙
-          name_there old.present s p q plays there
-      | false ↦ λ absent is.
-          ap (λ (list : ListValue). get list.present q) is ∙
-          get-insert nat_cmp_total old.present p.uuid p.name q
-          ∙ ap (λ (b : Bool). cond b (Some p.name) (get old.present q)) (sym (key_turned p.uuid q))
-          ∙ name_new old.present s p q plays absent
-    ] refl put
+-- a player that stays has its name, and so its identifier
+same_pair : (w : World) (e : Event) (k : ℕ) (p q : Player) → Good w.game →
+    Good (step w e).world.game → get w.game.players k ≡ Some p →
+    get (step w e).world.game.players k ≡ Some q → Between w e k p → pair q ≡ pair p
+same_pair w e k p q before good there here (plays_on m r link at plays name shown handed) =
+    let named : q.name ≡ p.name =
+    ap (λ (x : Player). x.name) (some_is q r (sym here ∙ plays)) ∙ name in
+    let uuid : q.uuid ≡ p.uuid = (good.own k q here).uuid ∙ ap offline_uuid named
+    ∙ sym (before.own k p there).uuid in
+    λ i. (uuid i, named i)
+same_pair w e k p q before good there here (ends cause m link at caused gone handed) =
+    absurd (none_some _ q gone here)
 
--- one that is not in play is not listed
-pub name_passed : (o : Option (List ℕ)) (s : Session) (q : ℕ) → s.player ≡ None → o ≡
-    name_after o s q
-name_passed None s q none = ap (λ (x : Option Player). name_of x q) (sym none)
-name_passed (Some name) s q none = refl
+-- ---- all of it
 
--- the list is no longer than by one
-pub few_put : (old new : ListValue) (s : Session) (p : Player) → s.player ≡ Some p →
-    IsPut old new p →
-    len new.present ≤ len old.present + length (playing_of (s ∷ []))
-few_put old new s p plays put =
-    let one = one_plays s (ap is_some plays) in
-    elim (contains_key old.present p.uuid)
-    as (λ b. contains_key old.present p.uuid ≡ b → new ≡
-    (if b then old else with_name old p.uuid p.name) →
-    len new.present ≤ len old.present + length (playing_of (s ∷ []))) [
-      | true ↦ λ there is. (let same = ap (λ (list : ListValue). len list.present) is in
-          omega (arith, same))
-      | false ↦ λ absent is.
-          (let more = ap (λ (list : ListValue). len list.present) is ∙
-          len-insert nat_cmp_total old.present p.uuid p.name ∙
-          ap (λ (b : Bool). cond b (len old.present) (len old.present + 1)) absent in
-          omega (arith, more, one))
-    ] refl put
+pub listed : (w : World) (e : Event) (k : ℕ) (old new : ListValue) → IsOf k e → IsReached w →
+    IsReached (step w e).world → old.present ≡ pairs_of w.game →
+    Follows (uuid_of (get w.game.players k)) (get (step w e).world.game.players k) old new →
+    new.present ≡ pairs_of (step w e).world.game
+listed w e k old new own reached later is follows =
+    by_cases (get w.game.players k) (get (step w e).world.game.players k) refl refl follows
+  where
+    g : Game
+    g = w.game
 
-pub last_put : (old new : ListValue) (p : Player) → IsPut old new p → new.last ≡ old.last
-last_put old new p put = grind (arith, nat_tests)
+    h : Game
+    h = (step w e).world.game
 
--- with a copy of its name
-pub copied_put : (old new : ListValue) (p : Player) (name : List ℕ) → name ≡ p.name → new ≡
-    (if contains_key old.present p.uuid then old else with_name old p.uuid name) → IsPut old new p
-copied_put old new p name copied put = put ∙
-    (λ i. if contains_key old.present p.uuid then old else with_name old p.uuid (copied i))
+    same : (j : ℕ) → j ≢ k → option_map traits_of (get h.players j)
+        ≡ option_map traits_of (get g.players j)
+    same = (reached_only w e k own reached).traits
 
--- ---- the end
-
-pub take_past : (i : ℕ) (ss : List Session) → length ss ≤ i → take i ss ≡ ss
-take_past zero [] le = refl
-take_past zero (s ∷ ss) le = absurd (omega (arith, le))
-take_past (suc i) [] le = refl
-take_past (suc i) (s ∷ ss) le = grind (arith, nat_tests, take_past i ss (omega (arith, le)))
+    by_cases : (o q : Option Player) → get g.players k ≡ o → get h.players k ≡ q →
+        Follows (uuid_of o) q old new → new.present ≡ pairs_of h
+    by_cases None None there here follows = stays_listed k g h old new
+        (ap (option_map pair) (here ∙ sym there)) same is follows
+    by_cases None (Some q) there here follows =
+        came_listed k g h q old new (reached_good (step w e).world later).game
+        (reached_few (step w e).world later) there here same is follows
+    by_cases (Some p) None there here follows =
+        went_listed k g h p old new (reached_good w reached).game there here same is follows
+    by_cases (Some p) (Some q) there here follows = stays_listed k g h old new
+        (ap (option_map pair) here
+        ∙ ap (λ (x : ℕ × List ℕ). Some x) (same_pair w e k p q (reached_good w reached).game
+        (reached_good (step w e).world later).game there here
+        (reached_between w e k p reached there (λ tick. subst (IsOf k) tick own)))
+        ∙ sym (ap (option_map pair) there)) same is follows

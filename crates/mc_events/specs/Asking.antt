@@ -1,27 +1,20 @@
 -- What is asked of a world's connections.
-use Rattle.std.specs.Prelude.{ℕ, Bool, true, false, Option, Some, None}
-use Rattle.std.specs.List.{count_by}
-use Rattle.mc_model.specs.declared.cause.Cause.{Cause}
-use Rattle.mc_model.specs.declared.cause.Cause.TheVariants as causes
-use Rattle.mc_model.specs.World.{World, Session, found}
-use Rattle.mc_model.specs.Step.{is_done}
+use Rattle.std.specs.Prelude.{ℕ, Bool, false, Option, Some, None, length}
+use Rattle.std.specs.List.{filter}
+use Rattle.std.specs.FinMap.{get, values}
+use Rattle.mc_model.specs.Link.{Link, is_done}
+use Rattle.mc_model.specs.World.{World}
+use Rattle.mc_links.specs.Kept.{is_ours}
 
 -- whether a connection is closed and owed nothing
-abbrev pub is_over : Option Session → Bool
+abbrev pub is_over : Option Link → Bool
 is_over None = false
-is_over (Some s) = is_done s
+is_over (Some l) = is_done l
 
 abbrev pub is_done_in : ℕ → World → Bool
-is_done_in k w = is_over (found k w.sessions)
+is_done_in k w = is_over (get w.links k)
 
--- a connection was closed, and not since it left, a write to it broke, or it was done
-abbrev pub is_ours : Option Cause → Bool
-is_ours None = false
-is_ours (Some causes.Gone) = false
-is_ours (Some causes.Broke) = false
-is_ours (Some causes.Done) = false
-is_ours (Some other) = true
-
--- how many of those that are there were closed so
+-- how many of those that are there were closed, and not since they left, a write to them broke, or
+-- they were done
 abbrev pub ours_there : World → ℕ
-ours_there w = count_by (λ (s : Session). is_ours s.cause) w.sessions
+ours_there w = length (filter (λ (l : Link). is_ours l.cause) (values w.links))

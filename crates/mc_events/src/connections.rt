@@ -1,113 +1,121 @@
-ghost use Rattle.std.specs.Prelude.{◌≡◌, ◌++◌, ◌∷◌, ◌≤◌, [], IfOk, OnErr, OnOk, length, option_map};
-ghost use Rattle.std.specs.List.{cons_option, filter};
-ghost use lib.IntN.{pos};
-ghost use Rattle.mc_model.specs.Step.{is_kept};
-ghost use Rattle.mc_model.specs.World as spec;
-ghost use Rattle.mc_events.specs.Asking.{is_ours};
-ghost use Rattle.mc_events.specs.ReadyColumns.{view_of_player, views_of};
-ghost use Rattle.mc_events.specs.Served.{AreInRange, ConnectionValue, playing_of, sessions_of};
+ghost use Rattle.std.specs.Prelude.{◌≡◌, OnErr, OnOk, length};
+ghost use Rattle.std.specs.List.{filter};
+ghost use Rattle.std.specs.Option.{option_copied, option_copied_mut};
+ghost use Rattle.std.specs.BTreeMap as tree;
+ghost use Rattle.std.specs.FinMap.{empty, get, insert, remove, values};
+ghost use Rattle.mc_model.specs.Link.{is_kept};
+ghost use Rattle.mc_links.specs.Kept.{ConnectionValue, is_ours};
 
-use crate::Settings;
-use crate::connection::Connection;
-use crate::spots::{spot_of, view_around};
+mod fields;
+
 use mc_bytes::NoMemory;
-use mc_entities::Folk;
+use mc_links::Connection;
 use std::alloc::Global;
+use std::collections::BTreeMap;
+use std::marker::Model;
 
-/// How many connections are open, or owed bytes still.
-pub fn kept(connections: &Vec<Connection>) -> usize
-    ensures { result
-        ≡ length (filter (λ (c : ConnectionValue). is_kept c.session) connections.now.items) }
-{
-    connections.iter().filter(|c| c.is_kept()).count()
+/// The connections by their numbers. Contracts see them as that map.
+#[derive(Drop)]
+pub struct Connections {
+    by_number: BTreeMap<u32, Connection>,
 }
 
-/// How many were closed, and not since they left, a write to them broke, or they were done.
-pub fn ours(connections: &Vec<Connection>) -> usize
-    ensures { result
-        ≡ length (filter (λ (c : ConnectionValue). is_ours c.session.cause) connections.now.items) }
-{
-    connections.iter().filter(|c| c.is_ours()).count()
+impl Model for Connections {
+    ghost use Rattle.std.specs.Coded.{coded_ℕ, codes};
+    ghost use Rattle.std.specs.FinMap.{FinMap, code, from_entries};
+    ghost use Rattle.std.specs.Ordering.{nat_cmp};
+    ghost use Rattle.mc_view.specs.ToldCode.{coded_told};
+    ghost use Rattle.mc_links.specs.Kept.{ConnectionValue};
+
+    ghost Value = { FinMap nat_cmp ConnectionValue };
+
+    ghost coded = { code coded_ℕ (Prim.hlevel (codes, coded_told)) };
+
+    ghost view = { λ c. from_entries c.by_number.entries };
 }
 
-/// How many are in play.
-fn in_play(connections: &Vec<Connection>) -> usize
-    ensures { result ≡ length (playing_of (sessions_of connections.now.items)) }
-{
-    connections.iter().filter(|c| c.is_play()).count()
-}
+impl Connections {
+    ghost use Rattle.std.specs.Borrow.{LendsIf, sem};
+    ghost use Rattle.mc_links.specs.contracts.connection.Connection.{the_row as connection_row};
+    ghost use Rattle.mc_events.specs.contracts.connections.Connections.{the_row};
 
-/// How many are in play, where they are few.
-pub fn playing(connections: &Vec<Connection>) -> u32
-    requires { length (playing_of (sessions_of connections.now.items)) ≤ 50 }
-    ensures { result ≡ length (playing_of (sessions_of connections.now.items)) }
-{
-    in_play(connections) as u32
-}
+    /// Nobody.
+    pub fn new(alloc: Global) -> Connections
+        ensures { result ≡ empty }
+    {
+        Connections {
+            by_number: BTreeMap::new(alloc),
+        }
+    }
 
-/// The number of the entity of a connection's player, if it is in play.
-pub fn eid_of(connection: &Connection) -> Option<i32>
-    ensures { result ≡ option_map (λ (p : spec.Player). pos p.eid) connection.now.session.player }
-{
-    match connection.player() {
-        Some(player) => Some(player.eid as i32),
-        None => None,
+    /// The one of a number, if it is there.
+    pub fn find(&self, k: u32) -> Option<&Connection>
+        ensures { option_copied result ≡ get self.now k }
+    {
+        self.by_number.get(&k)
+    }
+
+    /// The one of a number to write into, if it is there; nothing else changes.
+    pub fn find_mut(&mut self, k: u32) -> Option<&mut Connection>
+        ensures* lends { sem 𝓛 (LendsIf the_row connection_row self.entry result
+            (insert self.old k) self.old) }
+        ensures is { option_copied_mut result ≡ get self.old k }
+    {
+        self.by_number.get_mut(&k)
+    }
+
+    /// Adds one of a number, in the place of one that had it. Without memory all is as before.
+    pub fn add(&mut self, k: u32, connection: Connection) -> Result<(), NoMemory>
+        ensures ok { OnOk result (self.new ≡ insert self.old k connection) }
+        ensures err { OnErr result (self.new ≡ self.old) }
+    {
+        let _before = self.by_number.insert(k, connection)?;
+        Ok(())
+    }
+
+    /// Takes the one of a number out.
+    pub fn remove(&mut self, k: u32)
+        ensures { self.new ≡ remove self.old k }
+    {
+        let _connection = self.by_number.remove(&k);
+    }
+
+    // ---- how many
+
+    /// How many are open, or owed bytes still.
+    pub fn kept(&self) -> usize
+        ensures { result ≡ length (filter (λ (c : ConnectionValue). is_kept c.link)
+            (values self.now)) }
+    {
+        // The numbers rise.
+        let _many = self.by_number.len();
+        kept_among(&self.by_number)
+    }
+
+    /// How many were closed, and not since they left, a write to them broke, or they were done.
+    pub fn ours(&self) -> usize
+        ensures { result ≡ length (filter (λ (c : ConnectionValue). is_ours c.link.cause)
+            (values self.now)) }
+    {
+        // The numbers rise.
+        let _many = self.by_number.len();
+        ours_among(&self.by_number)
     }
 }
 
-/// The views of those in play, where views have at most this size.
-pub fn views_of(
-    alloc: Global,
-    settings: &Settings,
-    folk: &Folk,
-    connections: &Vec<Connection>,
-) -> Result<Vec<(i32, i32, u8)>, NoMemory>
-    requires { AreInRange folk.now.state.entities }
-    ensures { IfOk result (λ views. views.items ≡ views_of settings.now.cap settings.now.terrain
-        folk.now.state.entities connections.now.items) }
+/// How many of these are open, or owed bytes still.
+fn kept_among(connections: &BTreeMap<u32, Connection>) -> usize
+    ensures { result ≡ length (filter (λ (c : ConnectionValue). is_kept c.link)
+        (tree.values connections.now)) }
 {
-    let mut views = Vec::new(alloc);
-    for connection in connections.iter() {
-        push_view(settings, folk, connection, &mut views)?;
-    }
-    Ok(views)
+    connections.values().filter(|c| c.is_kept()).count()
 }
 
-/// Appends the view of a connection's player, if it is in play.
-fn push_view(
-    settings: &Settings,
-    folk: &Folk,
-    connection: &Connection,
-    views: &mut Vec<(i32, i32, u8)>,
-) -> Result<(), NoMemory>
-    requires { AreInRange folk.now.state.entities }
-    ensures { OnOk result (views.new.items ≡ views.old.items ++ cons_option
-        (option_map (view_of_player settings.now.cap settings.now.terrain folk.now.state.entities)
-        connection.now.session.player) []) }
+/// How many of these were closed, and not since they left, a write to them broke, or they were
+/// done.
+fn ours_among(connections: &BTreeMap<u32, Connection>) -> usize
+    ensures { result ≡ length (filter (λ (c : ConnectionValue). is_ours c.link.cause)
+        (tree.values connections.now)) }
 {
-    if let Some(player) = connection.player() {
-        let spot = spot_of(folk, &settings.terrain, player.eid);
-        views.push(view_around(settings.cap, player.view_byte, &spot))?;
-    }
-    Ok(())
-}
-
-/// Puts a connection and its number behind the others. Without memory they are as before.
-pub fn put_last(
-    ids: &mut Vec<u32>,
-    connections: &mut Vec<Connection>,
-    connection: Connection,
-) -> Result<(), NoMemory>
-    ensures ids { OnOk result (ids.new.items ≡ ids.old.items ++ connection.session.id ∷ []) }
-    ensures connections { OnOk result
-        (connections.new.items ≡ connections.old.items ++ connection ∷ []) }
-    ensures ids_stay { OnErr result (ids.new.items ≡ ids.old.items) }
-    ensures connections_stay { OnErr result (connections.new.items ≡ connections.old.items) }
-{
-    // Dear to prove: the connection is let go at each exit before it is put.
-    let id = connection.id();
-    connections.reserve(1)?;
-    ids.push(id)?;
-    connections.push(connection)?;
-    Ok(())
+    connections.values().filter(|c| c.is_ours()).count()
 }

@@ -1,9 +1,8 @@
 -- The noted cells: what is sent of them fits, and they are sent one after another.
 use Rattle.std.proofs.Common.{◌≡◌, ℕ, ◌+◌, ◌≤◌, Bool, true, false, cond, List, [], ◌∷◌, ◌++◌, map}
 use Rattle.std.proofs.Common.{zero-add, refl, sym, ap, ◌∙◌, arith}
-use Rattle.std.specs.Prelude.{◌&&◌, int_le, unsigned_abs}
-use Rattle.std.specs.Int.Signed.{lt_z, lt_z_no}
-use Rattle.std.proofs.lemmas.Float.{T_from_false}
+use Rattle.std.specs.Prelude.{unsigned_abs}
+use Rattle.std.specs.Int.Signed.{lt_z}
 use Rattle.std.specs.List.{filter, sum_by}
 use Rattle.std.specs.FinMap.{FinMap}
 use Rattle.std.proofs.lemmas.Int.{ints}
@@ -14,25 +13,16 @@ use lib.Signed.{◌≤ℤ◌}
 use Rattle.mc_fields.specs.declared.position.Cell.{Cell}
 use Rattle.mc_fields.specs.Position.{FitsCell}
 use Rattle.mc_land.specs.declared.terrain.Terrain.{Terrain}
-use Rattle.mc_land.specs.Places.{Place, column_number, key_cmp, place_of}
+use Rattle.mc_land.specs.Places.{Place, column_number, key_cmp}
 use Rattle.mc_view.specs.declared.view_set.ViewSet.{ViewSet}
 use Rattle.mc_view.specs.declared.view_set.TheConstants.{MIDDLE_BORDER}
 use Rattle.mc_view.specs.Sets.{has}
 use Rattle.mc_packets.specs.declared.down.Down.{Down}
-use Rattle.mc_model.specs.Step.{cell_packet, is_sent, noted_packets}
+use Rattle.mc_model.specs.Notes.{cell_packet, is_sent, noted_packets}
 use Rattle.mc_model.proofs.FitsNotes.{sent_fits}
 use Rattle.mc_sending.specs.Sending.{play_bytes}
 use Rattle.mc_flush.specs.Encoding.{looks_at, noted_cost}
 use Rattle.mc_sending.proofs.Pieces.{next_piece, play_bytes-append}
-
--- ---- what is sent
-
--- what is not below is at least as high
-in_order : (a b : ℤ) → a ≤ℤ b → int_le a b ≡ true
-in_order a b h = grind (arith, ints)
-
-at_least : (a b : ℤ) → lt_z b a ≡ false → int_le a b ≡ true
-at_least a b e = in_order a b (lt_z_no (T_from_false (lt_z b a) e))
 
 -- a cell that is not too low and not too high is sent where its column is shown
 pub sent_where : (view : ViewSet) (cell : Cell) (x y z : ℤ) (seen : Bool) → y ≡ cell.y →

@@ -10,7 +10,7 @@ use Rattle.mc_fields.specs.Pattern.{Represents}
 use Rattle.mc_fields.specs.declared.position.Spot.{Spot}
 use Rattle.mc_packets.specs.declared.down.Down.TheVariants.{PositionLook}
 use Rattle.mc_model.specs.Numbers.{pattern_of, degrees_of}
-use Rattle.mc_model.specs.Step.{placing}
+use Rattle.mc_model.specs.Opening.{placing}
 use Rattle.mc_model.proofs.PatternFacts.{pattern_one}
 use Rattle.mc_model.proofs.FitsNumbers.{pattern_fits, degrees_fit}
 use Rattle.mc_model.proofs.FitsPlay.{place_clear}

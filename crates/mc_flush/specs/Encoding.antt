@@ -12,8 +12,7 @@ use Rattle.mc_land.specs.Land.{LandValue}
 use Rattle.mc_entities.specs.Folk.{FolkState}
 use Rattle.mc_view.specs.declared.view_set.ViewSet.{ViewSet}
 use Rattle.mc_view.specs.Sets.{has}
-use Rattle.mc_model.specs.Notes.{Noted}
-use Rattle.mc_model.specs.Step.{is_sent}
+use Rattle.mc_model.specs.Notes.{Noted, is_sent}
 use Rattle.mc_model.specs.Delta.{load}
 use Rattle.mc_told.specs.declared.moved.Moved.{Moved}
 use Rattle.mc_loads.specs.ColumnFrames.{ColumnsValue, change_bytes, is_clean, load_bytes}

@@ -3,4 +3,3 @@ pub mod Lists
 pub mod Players
 pub mod Seeing
 pub mod Encoding
-pub mod Readying

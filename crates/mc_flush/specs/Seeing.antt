@@ -4,8 +4,7 @@ use Rattle.std.specs.Prelude.{Some, None, is_some, option_map, if◌then◌else�
 use Rattle.std.specs.List.{filter, filter_map}
 use Rattle.std.specs.FinMap.{FinMap, empty, from_entries, get}
 use Rattle.std.specs.FinSet as set
-use lib.IntN.{ℤ, pos, negsuc}
-use lib.Signed.{◌≤ℤ◌}
+use lib.IntN.{ℤ, pos}
 use Rattle.mc_column.specs.Cells.{ColumnValue}
 use Rattle.mc_fields.specs.declared.position.Spot.{Spot}
 use Rattle.mc_land.specs.declared.terrain.Terrain.{Terrain}
@@ -20,10 +19,8 @@ use Rattle.mc_packets.specs.declared.down.Down.{Down}
 use Rattle.mc_view.specs.declared.view_set.ViewSet.{ViewSet}
 use Rattle.mc_view.specs.Sets.{all_of, has, is_within}
 use Rattle.mc_view.specs.Told.{Told}
-use Rattle.mc_model.specs.Sight.{Sight}
-use Rattle.mc_model.specs.Notes.{Noted}
-use Rattle.mc_model.specs.World.{seen_of}
-use Rattle.mc_model.specs.Step.{noted_packets, notes_of}
+use Rattle.mc_model.specs.Sight.{Sight, seen_of}
+use Rattle.mc_model.specs.Notes.{Noted, noted_packets, notes_of}
 use Rattle.mc_model.specs.Delta.{Pairs, missing, leaver, joiner, about, beat_packets, time_packets}
 use Rattle.mc_model.specs.Delta.{destroying, slot_packets, chat_packet}
 use Rattle.mc_told.specs.Telling.{age_now, beat_now, entity_frames, gone_from, in_view, kept_of}
@@ -52,8 +49,9 @@ settled_parts land list =
 abbrev pub columns_of : Parts → ViewSet → FinMap place_cmp ColumnValue
 columns_of parts view = from_entries (map (placed_with parts.terrain parts.edits) (all_of view))
 
--- what a client is to be shown: the beat and the age, the players that are in the list now, the columns
--- of the view as they are, the entities in it that are not its own, its pack, and all that was said
+-- what a client is to be shown: the beat and the age, the players that are in the list now, the
+-- columns of the view as they are, the entities in it that are not its own, its pack, and all that
+-- was said
 abbrev pub seen : LandValue → ListValue → List Entity → PackValue → ViewSet → ℕ → List (List ℕ) →
     Sight
 seen land list entities pack view age chat = record {
@@ -194,13 +192,3 @@ noted_of land view notes spot pack =
 -- a name that the list's packet can carry: 16 code points at most, of four bytes at most
 abbrev pub IsNamed : ℕ × List ℕ → Type 0
 IsNamed e = length e.1 ≤ 64
-
--- A player's place is within 30,000,000 blocks on x and z, and from 64 below to 4,096 above on y. A
--- dropped item may lie half a block further east and south.
-pub record IsInRange (spot : Spot) : Type 0 where
-  pub x_low : negsuc 959999999 ≤ℤ spot.x
-  pub x_high : spot.x ≤ℤ pos 960000016
-  pub y_low : negsuc 2047 ≤ℤ spot.y
-  pub y_high : spot.y ≤ℤ pos 131072
-  pub z_low : negsuc 959999999 ≤ℤ spot.z
-  pub z_high : spot.z ≤ℤ pos 960000016

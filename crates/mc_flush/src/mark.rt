@@ -3,7 +3,7 @@ ghost use Rattle.std.specs.Option.{option_copied};
 ghost use Rattle.mc_entities.specs.Numbers.{Rise};
 ghost use Rattle.mc_entities.specs.Folk.{eid_of};
 ghost use Rattle.mc_model.specs.Delta.{destroying, is_told};
-ghost use Rattle.mc_model.specs.World.{others};
+ghost use Rattle.mc_model.specs.Sight.{others};
 ghost use Rattle.mc_told.specs.MoveFrames.{AreMoves};
 ghost use Rattle.mc_sending.specs.Sending.{play_bytes};
 ghost use Rattle.mc_flush.specs.Seeing.{loaded, nothing_shown};

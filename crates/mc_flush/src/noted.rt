@@ -3,7 +3,7 @@
 ghost use Rattle.std.specs.Prelude.{◌≡◌, ◌≤◌, ◌+◌, ◌++◌, ◌∷◌, [], IfOk, OnOk, true};
 ghost use Rattle.mc_fields.specs.Position.{FitsCell};
 ghost use Rattle.mc_view.specs.Sets.{has};
-ghost use Rattle.mc_model.specs.Step.{is_sent, noted_packets};
+ghost use Rattle.mc_model.specs.Notes.{is_sent, noted_packets};
 ghost use Rattle.mc_model.specs.Things.{state_of_cell};
 ghost use Rattle.mc_flush.specs.Encoding.{looks_at, noted_cost};
 ghost use Rattle.mc_sending.specs.Sending.{play_bytes};

@@ -4,7 +4,8 @@ ghost use Rattle.mc_slots.specs.Pile.{IsPile, slot_of};
 ghost use Rattle.mc_slots.specs.Chest.{pile_at};
 ghost use Rattle.mc_packets.specs.declared.down.Down.TheVariants as down;
 ghost use Rattle.mc_slots.specs.declared.slot.Slot.TheVariants as slots;
-ghost use Rattle.mc_model.specs.Step.{notes_of, placing};
+ghost use Rattle.mc_model.specs.Notes.{notes_of};
+ghost use Rattle.mc_model.specs.Opening.{placing};
 ghost use Rattle.mc_sending.specs.Sending.{IsClear, play_bytes};
 
 use mc_bytes::NoMemory;

@@ -2,7 +2,7 @@
 
 ghost use Rattle.std.specs.Prelude.{◌≡◌, ◌≤◌, ◌++◌, OnOk};
 ghost use Rattle.mc_frame.specs.Kept.{joined};
-ghost use Rattle.mc_model.specs.Step.{notes_of};
+ghost use Rattle.mc_model.specs.Notes.{notes_of};
 ghost use Rattle.mc_sending.specs.Sending.{play_bytes};
 ghost use Rattle.mc_flush.specs.Seeing.{age_packets, line_packets, pack_packets};
 

@@ -6,16 +6,16 @@ use Rattle.mc_model.specs.declared.cause.Cause.{Cause}
 use Rattle.mc_model.specs.Names.{offline_uuid}
 use Rattle.mc_model.specs.Packets.{Sent, of_status}
 use Rattle.mc_model.specs.Talk.{accepted, farewell}
-use Rattle.mc_model.specs.World.{is_closed}
-use Rattle.mc_game.specs.Game.{Game}
-use Rattle.mc_game.specs.Leaving.{leave, left_by}
-use Rattle.mc_game.specs.Link.{Handing, disconnect, hand}
-use Rattle.mc_game.specs.Step.{disconnect_for, entered, on_frame, turn}
-use Rattle.mc_game.specs.World.{Seat, Turn, nothing_unread}
-use Rattle.mc_game.proofs.Acts.ActOn.{act_on}
-use Rattle.mc_game.proofs.Deeds.Leaving.{leave_stays}
-use Rattle.mc_game.proofs.Walk.Moves.{Kept, answers, closes, comes_in, does, frame_walks, keeps}
-use Rattle.mc_game.proofs.Walk.Moves.{shakes, walked_keeps}
+use Rattle.mc_model.specs.Stages.{is_closed}
+use Rattle.mc_model.specs.Game.{Game}
+use Rattle.mc_model.specs.Leaving.{leave, left_by}
+use Rattle.mc_model.specs.Link.{Handing, disconnect, hand}
+use Rattle.mc_model.specs.Step.{disconnect_for, entered, on_frame, turn}
+use Rattle.mc_model.specs.World.{Seat, Turn, nothing_unread}
+use Rattle.mc_laws.proofs.Acts.ActOn.{act_on}
+use Rattle.mc_laws.proofs.Deeds.Leaving.{leave_stays}
+use Rattle.mc_laws.proofs.Walk.Moves.{Kept, answers, closes, comes_in, does, frame_walks, keeps}
+use Rattle.mc_laws.proofs.Walk.Moves.{shakes, walked_keeps}
 use Rattle.mc_play.specs.Kept.{GameValue}
 use Rattle.mc_links.specs.Kept.{ConnectionValue}
 use Rattle.mc_links.specs.Seats.{Becomes, seat_with}

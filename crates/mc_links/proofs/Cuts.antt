@@ -5,8 +5,8 @@ use Rattle.std.proofs.Common.{append_assoc, arith, lt-ltb}
 use Rattle.std.proofs.lemmas.Bool.Decides.{nat_tests}
 use Rattle.std.specs.Prelude.{Option, Some, None}
 use Rattle.std.proofs.lemmas.Bool.{cases_lt}
-use Rattle.std.proofs.lemmas.List.{length-append, append-nil, take-append-drop}
-use Rattle.std.proofs.lemmas.List.{take-append-le, take_at, get_or_append_left}
+use Rattle.std.proofs.lemmas.List.{length-append, append-nil, take-append-drop, take-append-le}
+use Rattle.std.proofs.lemmas.List.{take_at, get_or_append_left}
 use lib.IntN.{pos}
 use Rattle.mc_bytes.specs.declared.fault.Kind.TheVariants.{Short, LongVarInt, BadLength}
 use Rattle.mc_bytes.specs.declared.fault.Stop.{Stop}
@@ -275,9 +275,6 @@ fault_more : (count before : ℕ) (held left : List ℕ) (fault : FrameFault) �
     kept_count count → Ends before held (Some fault) → Ends count (held ++ left) (Some fault)
 fault_more count before held left fault is ends =
     grind (arith, nat_tests, HasLongLength-more, HasZeroLength-more)
-
-never : (fault : FrameFault) → ◌≡◌ {A = Option FrameFault} (Some fault) None → ⊥
-never fault e = cc
 
 pub underway_bad : (count : ℕ) (all : List ℕ) (frames : List (List ℕ)) (old new : Splitting)
     (left : List ℕ) (fault : FrameFault) → Ends old.before old.held (Some fault) →

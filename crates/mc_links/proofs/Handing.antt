@@ -7,8 +7,8 @@ use Rattle.mc_model.specs.declared.cause.Cause.{Cause}
 use Rattle.mc_model.specs.declared.cause.Cause.TheVariants as causes
 use Rattle.mc_model.specs.declared.stage.Stage.TheVariants as stages
 use Rattle.mc_model.specs.Packets.{Sent, bytes_of}
-use Rattle.mc_model.specs.World.{is_closed}
-use Rattle.mc_game.specs.Link.{Link, disconnect, gone, hand, mark_closed}
+use Rattle.mc_model.specs.Stages.{is_closed}
+use Rattle.mc_model.specs.Link.{Link, disconnect, gone, hand, mark_closed}
 use Rattle.mc_links.specs.Kept.{ConnectionValue}
 
 -- ---- handing out

@@ -27,18 +27,18 @@ use Rattle.mc_model.specs.declared.cause.Refusal.{Refusal}
 use Rattle.mc_model.specs.declared.stage.Stage.{Stage}
 use Rattle.mc_model.specs.declared.stage.Stage.TheVariants as stages
 use Rattle.mc_model.specs.Packets.{Sent, bytes_of, frame_of, of_status}
-use Rattle.mc_model.specs.Talk.{ClientRequest, replies, ends, enters, acts, wrong}
-use Rattle.mc_model.specs.Talk.{in_hand, in_login, in_play, in_status, request_of}
-use Rattle.mc_model.specs.World.{is_closed}
+use Rattle.mc_model.specs.Talk.{ClientRequest, replies, ends, enters, acts, wrong, in_hand}
+use Rattle.mc_model.specs.Talk.{in_login, in_play, in_status, request_of}
+use Rattle.mc_model.specs.Stages.{is_closed}
 use Rattle.mc_session.specs.State.{State}
 use Rattle.mc_session.specs.Answers.{step_of}
 use Rattle.mc_session.specs.declared.step.Step.TheVariants as steps
-use Rattle.mc_game.specs.Acts.{act}
-use Rattle.mc_game.specs.Game.{Game}
-use Rattle.mc_game.specs.Link.{Link, disconnect, hand}
-use Rattle.mc_game.specs.Step.{acted, answer_login, disconnect_for, on_frame, perform, refusal}
-use Rattle.mc_game.specs.Step.{still, turn}
-use Rattle.mc_game.specs.World.{Seat, Unread}
+use Rattle.mc_model.specs.Acts.{act}
+use Rattle.mc_model.specs.Game.{Game}
+use Rattle.mc_model.specs.Link.{Link, disconnect, hand}
+use Rattle.mc_model.specs.Step.{acted, answer_login, disconnect_for, on_frame, perform, refusal}
+use Rattle.mc_model.specs.Step.{still, turn}
+use Rattle.mc_model.specs.World.{Seat, Unread}
 use Rattle.mc_play.specs.Admitting.{IsAnswer}
 use Rattle.mc_play.specs.Kept.{GameValue}
 use Rattle.mc_links.specs.Kept.{ConnectionValue, decoded, state_of}

@@ -1,9 +1,9 @@
 -- Frames of one connection, taken and done one after another.
-use Rattle.std.proofs.Common.{◌≡◌, ℕ, Bool, true, false, List, [], ◌∷◌, ◌++◌, length, drop}
-use Rattle.std.proofs.Common.{refl, sym, subst, ap, ◌∙◌}
+use Rattle.std.proofs.Common.{◌≡◌, ℕ, Bool, true, false, List, [], ◌∷◌, ◌++◌, length, drop, refl}
+use Rattle.std.proofs.Common.{sym, subst, ap, ◌∙◌}
 use Rattle.std.specs.Prelude.{Option, Some}
 use Rattle.mc_frame.specs.declared.fault.FrameFault.{FrameFault}
-use Rattle.mc_frame.specs.declared.fault.Take.TheVariants.{Frame, More, Bad}
+use Rattle.mc_frame.specs.declared.fault.Take.TheVariants.{Frame, Bad}
 use Rattle.mc_frame.specs.Cut.{IsPart}
 use Rattle.mc_frame.specs.Held.{Splitting}
 use Rattle.mc_frame.specs.Splitting.{Feeds, Takes}
@@ -12,19 +12,19 @@ use Rattle.mc_model.specs.declared.cause.Cause.TheVariants as causes
 use Rattle.mc_model.specs.Cutting.{cut_of}
 use Rattle.mc_model.specs.Packets.{Sent}
 use Rattle.mc_model.specs.Talk.{farewell}
-use Rattle.mc_model.specs.World.{is_closed}
-use Rattle.mc_game.specs.Link.{Link, disconnect, mark_closed}
-use Rattle.mc_game.specs.Step.{disconnect_for, on_bytes, on_cut, on_fault, on_frame, on_frames}
-use Rattle.mc_game.specs.World.{Seat, Unread, nothing_unread}
-use Rattle.mc_game.proofs.Walk.Handings.{hand_cases}
+use Rattle.mc_model.specs.Stages.{is_closed}
+use Rattle.mc_model.specs.Link.{Link, disconnect, mark_closed}
+use Rattle.mc_model.specs.Step.{disconnect_for, on_bytes, on_cut, on_fault, on_frame, on_frames}
+use Rattle.mc_model.specs.World.{Seat, Unread, nothing_unread}
+use Rattle.mc_laws.proofs.Walk.Handings.{hand_cases}
 use Rattle.mc_play.specs.Kept.{GameValue}
 use Rattle.mc_links.specs.Kept.{ConnectionValue}
 use Rattle.mc_links.specs.Sitting.{Holds, IsUnderway, Sits, unread_after}
 use Rattle.mc_links.specs.Seats.{AreDone, Becomes, HasRead, IsReading, seat_with}
 use Rattle.mc_links.proofs.Cuts.{cut_begins, underway_bad, underway_fed, underway_first}
 use Rattle.mc_links.proofs.Cuts.{underway_frame, underway_over}
-use Rattle.mc_links.proofs.Turns.{closed_fault, closed_frames, deaf, fault_unread}
-use Rattle.mc_links.proofs.Turns.{frames_joined, frames_unread, heeds}
+use Rattle.mc_links.proofs.Turns.{closed_fault, closed_frames, deaf, fault_unread, frames_joined}
+use Rattle.mc_links.proofs.Turns.{frames_unread, heeds}
 
 -- ---- turns of a seat
 
@@ -81,20 +81,6 @@ reading_fed count all left_ v w c d e n same fed r = record {
   underway = underway_fed count all r.payloads d.splitter e.splitter left_ n fed r.underway;
   becomes = λ u. splits v w c d e _ same (r.becomes u);
 }
-
--- it needs more bytes
-pub reading_more : (count : ℕ) (all left_ : List ℕ) (v w : GameValue) (c d e : ConnectionValue) →
-    e ≡ record d { splitter = e.splitter } → Takes d.splitter More e.splitter →
-    IsReading count all v w c d left_ → HasRead true count all v w c e left_
-reading_more count all left_ v w c d e same t r = (
-  record {
-    payloads = r.payloads;
-    underway = subst (λ (s : Splitting). IsUnderway count all r.payloads s left_) (sym t.2)
-        r.underway;
-    becomes = λ u. splits v w c d e _ same (r.becomes u);
-  },
-  subst (λ (s : Splitting). IsPart s.held) (sym t.2) t.0,
-)
 
 module _ {count : ℕ} {all left_ : List ℕ} {v w : GameValue} {c d : ConnectionValue}
     (r : IsReading count all v w c d left_) where

@@ -7,12 +7,12 @@ use Rattle.mc_up.specs.declared.play_up.PlayUp.{PlayUp}
 use Rattle.mc_model.specs.declared.cause.Cause.TheVariants as causes
 use Rattle.mc_model.specs.declared.cause.Refusal.{Refusal}
 use Rattle.mc_model.specs.Talk.{ClientRequest, nothing, greets, replies, ends, enters, acts, wrong}
-use Rattle.mc_model.specs.World.{is_closed}
-use Rattle.mc_game.specs.Acts.{act}
-use Rattle.mc_game.specs.Game.{Game}
-use Rattle.mc_game.specs.Step.{acted, answer_login, asked_by, disconnect_for, on_fault, on_frame}
-use Rattle.mc_game.specs.Step.{on_frames, perform, refusal, still, when_open}
-use Rattle.mc_game.specs.World.{Seat, Turn}
+use Rattle.mc_model.specs.Stages.{is_closed}
+use Rattle.mc_model.specs.Acts.{act}
+use Rattle.mc_model.specs.Game.{Game}
+use Rattle.mc_model.specs.Step.{acted, answer_login, asked_by, disconnect_for, on_fault, on_frame}
+use Rattle.mc_model.specs.Step.{on_frames, perform, refusal, still, when_open}
+use Rattle.mc_model.specs.World.{Seat, Turn}
 
 -- ---- what is not read stays
 

@@ -1,9 +1,9 @@
 -- What the beat of a tick makes of a connection as the server keeps it. Rules of this project.
 use Rattle.std.specs.Prelude.{◌≡◌, Option}
 use Rattle.mc_model.specs.Sight.{Sight}
-use Rattle.mc_game.specs.Game.{Game}
-use Rattle.mc_game.specs.Showing.{last_shown}
-use Rattle.mc_game.specs.Tick.{beat}
+use Rattle.mc_model.specs.Game.{Game}
+use Rattle.mc_model.specs.Showing.{last_shown}
+use Rattle.mc_model.specs.Tick.{beat}
 use Rattle.mc_links.specs.Kept.{ConnectionValue}
 
 -- its link is what the beat makes of it, whatever its client was shown with the beat that its mark

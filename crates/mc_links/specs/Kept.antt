@@ -9,7 +9,7 @@ use Rattle.mc_model.specs.declared.stage.Stage.TheVariants as stages
 use Rattle.mc_model.specs.Talk.{ClientRequest}
 use Rattle.mc_session.specs.State.{State}
 use Rattle.mc_session.specs.Answers.{next_of}
-use Rattle.mc_game.specs.Link.{Link, new_link}
+use Rattle.mc_model.specs.Link.{Link, new_link}
 use Rattle.mc_flush.specs.Seeing.{MarkValue, nothing_shown}
 
 pub record ConnectionValue : Type 0 where

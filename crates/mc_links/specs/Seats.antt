@@ -3,8 +3,8 @@
 use Rattle.std.specs.Prelude.{◌≡◌, ℕ, Bool, true, false, List}
 use Rattle.mc_frame.specs.Cut.{IsPart}
 use Rattle.mc_model.specs.Cutting.{cut_of}
-use Rattle.mc_game.specs.Step.{on_fault, on_frames}
-use Rattle.mc_game.specs.World.{Seat, Unread}
+use Rattle.mc_model.specs.Step.{on_fault, on_frames}
+use Rattle.mc_model.specs.World.{Seat, Unread}
 use Rattle.mc_play.specs.Kept.{GameValue, played}
 use Rattle.mc_links.specs.Kept.{ConnectionValue}
 use Rattle.mc_links.specs.Sitting.{IsUnderway, Sits, unread_after}

@@ -4,9 +4,9 @@ use Rattle.std.specs.Prelude.{◌≡◌, Option, Some, None}
 use Rattle.std.specs.FinMap.{get}
 use Rattle.mc_model.specs.Sight.{Sight}
 use Rattle.mc_flush.specs.Seeing.{Parts}
-use Rattle.mc_game.specs.declared.player.Player.{Player}
-use Rattle.mc_game.specs.Showing.{sight_of}
-use Rattle.mc_game.specs.Tick.{flush}
+use Rattle.mc_model.specs.declared.player.Player.{Player}
+use Rattle.mc_model.specs.Showing.{sight_of}
+use Rattle.mc_model.specs.Tick.{flush}
 use Rattle.mc_play.specs.Kept.{GameValue}
 use Rattle.mc_links.specs.Kept.{ConnectionValue}
 use Rattle.mc_showing.specs.Shown.{Shows}

@@ -4,8 +4,8 @@ use Rattle.std.specs.Prelude.{◌≡◌, ℕ, ◌+◌, ◌-◌, false, List, ◌
 use Rattle.mc_frame.specs.Cut.{IsPart, SpellsFrames, kept_count}
 use Rattle.mc_frame.specs.Held.{Splitting}
 use Rattle.mc_model.specs.Cutting.{cut_of}
-use Rattle.mc_model.specs.World.{is_closed}
-use Rattle.mc_game.specs.World.{Unread}
+use Rattle.mc_model.specs.Stages.{is_closed}
+use Rattle.mc_model.specs.World.{Unread}
 use Rattle.mc_links.specs.Kept.{ConnectionValue}
 
 -- a splitter holds what is not read, and that is a part of a frame

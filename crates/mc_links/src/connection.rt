@@ -10,10 +10,10 @@ ghost use Rattle.mc_model.specs.Delta.{is_told};
 ghost use Rattle.mc_model.specs.Names.{offline_uuid};
 ghost use Rattle.mc_model.specs.Packets.{Sent, bytes_of};
 ghost use Rattle.mc_model.specs.Talk.{accepted, farewell, refused, request_of};
-ghost use Rattle.mc_model.specs.World.{is_closed, is_play};
+ghost use Rattle.mc_model.specs.Stages.{is_closed, is_play};
 ghost use Rattle.mc_session.specs.Answers.{next_of, step_of};
-ghost use Rattle.mc_game.specs.Link.{disconnect, gone, hand, is_done, is_kept, mark_closed};
-ghost use Rattle.mc_game.specs.Step.{heard};
+ghost use Rattle.mc_model.specs.Link.{disconnect, gone, hand, is_done, is_kept, mark_closed};
+ghost use Rattle.mc_model.specs.Step.{heard};
 ghost use Rattle.mc_links.specs.Kept.{decoded, is_ours, new_connection, state_of};
 
 mod fields;

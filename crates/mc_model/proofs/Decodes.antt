@@ -12,13 +12,13 @@ use Rattle.mc_hello.specs.declared.status_down.StatusDown.{StatusDown}
 use Rattle.mc_hello.specs.declared.status_down.StatusDown.TheVariants.{Pong}
 use Rattle.mc_hello.specs.declared.login_down.LoginDown.{LoginDown}
 use Rattle.mc_hello.specs.declared.login_down.LoginDown.TheVariants.{Disconnect}
-use Rattle.mc_packets.specs.declared.down.Down.{Down}
-use Rattle.mc_packets.specs.declared.down.Down.TheVariants.{KeepAlive}
 use Rattle.mc_hello.specs.StatusDown as status
 use Rattle.mc_hello.specs.LoginDown as login
-use Rattle.mc_packets.specs.Down as play
 use Rattle.mc_hello.proofs.StatusDownLaws as status_laws
 use Rattle.mc_hello.proofs.LoginDownLaws as login_laws
+use Rattle.mc_packets.specs.declared.down.Down.{Down}
+use Rattle.mc_packets.specs.declared.down.Down.TheVariants.{KeepAlive}
+use Rattle.mc_packets.specs.Down as play
 use Rattle.mc_packets.proofs.DownLaws as play_laws
 use Rattle.mc_model.specs.Packets.{Sent, of_status, of_login, of_play, frame_of, bytes_of, Decoder}
 use Rattle.mc_model.specs.Packets.{for_status, for_login, for_play, sent_status, sent_login}

@@ -20,8 +20,8 @@ use Rattle.mc_hello.specs.declared.status_up.StatusUp.{StatusUp}
 use Rattle.mc_hello.specs.declared.status_up.StatusUp.TheVariants.{Request, Ping}
 use Rattle.mc_hello.specs.declared.login_up.LoginUp.{LoginUp}
 use Rattle.mc_hello.specs.declared.login_up.LoginUp.TheVariants.{Start}
-use Rattle.mc_up.specs.declared.play_up.PlayUp.{PlayUp}
 use Rattle.mc_hello.specs.StatusUp as status
+use Rattle.mc_up.specs.declared.play_up.PlayUp.{PlayUp}
 use Rattle.mc_up.specs.PlayUp as play
 use Rattle.mc_up.proofs.PlayUpLaws as play_laws
 use Rattle.mc_model.specs.declared.stage.Stage.{Stage}

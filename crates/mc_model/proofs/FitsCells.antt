@@ -6,18 +6,19 @@ use Rattle.std.specs.Int.{w32}
 use Rattle.std.specs.List.{All, AllByRecursion, range_with_len}
 use Rattle.std.proofs.lemmas.List.FromFn.{length-range_with_len}
 use Rattle.std.proofs.lemmas.List.{length-map}
+use Rattle.std.proofs.lemmas.Bool.Decides.{nat_tests}
 use lib.IntN.{ℤ, pos, ◌+ℤ◌, ◌*ℤ◌}
 use mir.Val.{SFits}
 use Rattle.mc_fields.specs.declared.position.Cell.{Cell}
 use Rattle.mc_fields.specs.Position.{FitsHalf, FitsCell, pack}
 use Rattle.mc_column.specs.Sizes.{cells}
 use Rattle.mc_column.specs.SizesLaws.{cells-is}
-use Rattle.mc_land.specs.Places.{Place}
-use Rattle.mc_land.specs.declared.places.TheConstants.{COLUMN_BORDER}
-use Rattle.mc_land.specs.Ready.{has_changed}
 use Rattle.mc_packets.specs.declared.record.Record.{Record}
 use Rattle.mc_packets.specs.declared.down.Down.TheVariants.{MultiChange, Change}
 use Rattle.mc_packets.specs.Fields.{cell_change}
+use Rattle.mc_land.specs.declared.places.TheConstants.{COLUMN_BORDER}
+use Rattle.mc_land.specs.Places.{Place}
+use Rattle.mc_land.specs.Ready.{has_changed}
 use Rattle.mc_model.specs.Packets.{of_play, for_play}
 use Rattle.mc_model.specs.Delta.{cell_at, cell_record, cell_packets, differing}
 use Rattle.mc_model.proofs.Decodes.{IsClear, play_clear}
@@ -25,7 +26,6 @@ use Rattle.mc_model.proofs.AllFacts.{all_mapped, all_filtered, few_filtered, all
 use Rattle.mc_model.proofs.FitsSize.{number_fits, fields, all_few}
 use Rattle.mc_model.proofs.FitsList.{AreClear}
 use Rattle.mc_model.proofs.FitsChunk.{IsNear}
-use Rattle.std.proofs.lemmas.Bool.Decides.{nat_tests}
 
 -- a cell of a column, with a state that a packet can carry
 pub record CellFits (states : List ℕ) (i : ℕ) : Type 0 where

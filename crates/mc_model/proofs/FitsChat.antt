@@ -10,6 +10,7 @@ use Rattle.std.proofs.lemmas.Grind.{flat_map-append}
 use Rattle.std.proofs.lemmas.List.{length-append, append-nil}
 use Rattle.std.proofs.lemmas.Str.{IsUtf8-append, IsUtf8-nil, IsUtf8-encode, IsUtf8-from_ascii}
 use Rattle.std.proofs.lemmas.Str.{encode_ascii, encodes-chars, inside_one, length-le-encodes}
+use Rattle.std.proofs.lemmas.Bool.Decides.{nat_tests}
 use lib.IntN.{pos}
 use lib.Utf8.{scalar, scalars, encode, encodes}
 use Rattle.serde_json.proofs.OnLiterals.{serde_json_on_literals}
@@ -22,7 +23,6 @@ use Rattle.mc_model.specs.Texts.{chat_json}
 use Rattle.mc_model.proofs.Decodes.{IsClear, play_clear}
 use Rattle.mc_model.proofs.FitsText.{all_low, both_true, is_low}
 use Rattle.mc_model.proofs.FitsSize.{AtMost, few_bytes, fields}
-use Rattle.std.proofs.lemmas.Bool.Decides.{nat_tests}
 
 -- a text that a packet of chat can carry
 abbrev pub LineFits : List ℕ → Type 0

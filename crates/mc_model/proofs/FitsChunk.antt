@@ -4,6 +4,7 @@ use Rattle.std.proofs.Common.{[]}
 use Rattle.std.specs.Int.{w32}
 use Rattle.std.specs.Prelude.{unsigned_abs}
 use Rattle.std.specs.List.{All}
+use Rattle.std.proofs.lemmas.Bool.Decides.{nat_tests}
 use lib.IntN.{pos}
 use mir.Val.{SFits}
 use Rattle.mc_column.specs.Sizes.{section_count}
@@ -13,14 +14,13 @@ use Rattle.mc_column.specs.Cells.{ColumnValue, HasSizes, rank}
 use Rattle.mc_column.specs.Body.{is_named}
 use Rattle.mc_column.specs.Sent.{column_mask, column_bytes}
 use Rattle.mc_column.proofs.SentFacts.{column_mask_names, body_bytes_spell}
-use Rattle.mc_land.specs.Places.{Place}
-use Rattle.mc_land.specs.declared.places.TheConstants.{COLUMN_BORDER}
 use Rattle.mc_packets.specs.declared.down.Down.TheVariants.{Chunk}
+use Rattle.mc_land.specs.declared.places.TheConstants.{COLUMN_BORDER}
+use Rattle.mc_land.specs.Places.{Place}
 use Rattle.mc_model.specs.Packets.{of_play, for_play}
 use Rattle.mc_model.specs.Delta.{load, unload}
 use Rattle.mc_model.proofs.Decodes.{IsClear, play_clear}
 use Rattle.mc_model.proofs.FitsSize.{AtMost, number_fits, fields}
-use Rattle.std.proofs.lemmas.Bool.Decides.{nat_tests}
 
 -- a place whose numbers a packet can carry
 pub record PlaceFits (place : Place) : Type 0 where

@@ -1,83 +1,31 @@
 -- What is due to a client at a tick is packets that it decodes.
-use Rattle.std.proofs.Common.{ℕ, ◌+◌, ◌≤◌, Bool, true, false, cond, List, [], ◌∷◌, drop, length}
-use Rattle.std.proofs.Common.{Option, Some, None, arith}
+use Rattle.std.proofs.Common.{ℕ, ◌+◌, ◌≤◌, Bool, true, false, cond, List, [], ◌∷◌, length, Option}
+use Rattle.std.proofs.Common.{Some, None, arith}
 use Rattle.std.specs.Int.{w32, w64}
 use Rattle.std.specs.List.{AllByRecursion}
-use Rattle.std.specs.FinMap.{entries, keys}
+use Rattle.std.proofs.lemmas.Bool.Decides.{nat_tests}
 use lib.IntN.{ℤ, pos}
-use mir.Val.{SFits}
-use Rattle.mc_column.specs.Cells.{ColumnValue}
-use Rattle.mc_fields.specs.declared.position.Spot.{Spot}
-use Rattle.mc_land.specs.declared.terrain.Terrain.{Terrain}
-use Rattle.mc_land.specs.Places.{Place}
 use Rattle.mc_slots.specs.declared.slot.Slot.{Slot}
-use Rattle.mc_windows.specs.Pack.{PackValue, IsPack}
-use Rattle.mc_view.specs.Forms.{moves_of}
+use Rattle.mc_column.specs.Cells.{ColumnValue}
 use Rattle.mc_packets.specs.declared.down.Down.{Down}
 use Rattle.mc_packets.specs.declared.down.Down.TheVariants.{SetSlot}
-use Rattle.mc_model.specs.Notes.{Noted}
+use Rattle.mc_land.specs.declared.terrain.Terrain.{Terrain}
+use Rattle.mc_land.specs.Places.{Place}
 use Rattle.mc_model.specs.Packets.{of_play, for_play}
-use Rattle.mc_model.specs.Sight.{Seen, Sight}
-use Rattle.mc_model.specs.Delta.{missing, leavers_point, joiners_point, destroys_point, unload}
-use Rattle.mc_model.specs.Delta.{unloads_point, load, loads_point, differing, pile_packet}
-use Rattle.mc_model.specs.Delta.{column_changes, cells_point, is_same_slot, entity_packets}
-use Rattle.mc_model.specs.Delta.{pile_packets, moves_packets, beat_point, time_point}
-use Rattle.mc_model.specs.Delta.{entities_point, slot_packets, pack_point, delta, beat_packets}
-use Rattle.mc_model.specs.Delta.{time_packets, chat_packet, chat_point}
-use Rattle.mc_model.specs.Step.{level, placing, notes_of}
+use Rattle.mc_model.specs.Delta.{differing, column_changes, is_same_slot, slot_packets}
+use Rattle.mc_model.specs.Delta.{beat_packets, time_packets}
+use Rattle.mc_model.specs.Opening.{level}
 use Rattle.mc_model.proofs.Decodes.{IsClear}
-use Rattle.mc_model.proofs.AllFacts.{all_joined, all_dropped, all_mapped, all_filtered}
-use Rattle.mc_model.proofs.AllFacts.{few_filtered, all_flat}
+use Rattle.mc_model.proofs.AllFacts.{all_joined}
 use Rattle.mc_model.proofs.FitsText.{IsShort}
-use Rattle.mc_model.proofs.FitsPlay.{place_clear}
 use Rattle.mc_model.proofs.FitsBeats.{ToldFits, beat_clear, time_clear}
-use Rattle.mc_model.proofs.FitsChat.{LineFits}
-use Rattle.mc_model.proofs.FitsNumbers.{pattern_fits, degrees_fit}
-use Rattle.mc_model.proofs.FitsList.{PairFits, AreClear, leavers_clear, joiners_clear}
-use Rattle.mc_model.proofs.FitsChunk.{PlaceFits, ColumnFits, near_fits, load_clear, unload_clear}
-use Rattle.mc_model.proofs.FitsSlots.{SlotFits, slot_clear, window_clear}
+use Rattle.mc_model.proofs.FitsList.{AreClear}
+use Rattle.mc_model.proofs.FitsChunk.{ColumnFits}
+use Rattle.mc_model.proofs.FitsSlots.{SlotFits, slot_clear}
 use Rattle.mc_model.proofs.FitsCells.{cells_clear, differing_fit, differing_few}
-use Rattle.mc_model.proofs.FitsEntities.{destroying_clear, pile_slot_clear, spawn_clear}
-use Rattle.mc_model.proofs.FitsEntities.{moves_clear}
-use Rattle.mc_model.proofs.ThingsFit.{SpotFits}
-pub use Rattle.mc_model.proofs.ThingFacts.{rest_below, spawn_low, spawn_fits}
-use Rattle.mc_model.proofs.FitsSight.{SeenFits, SightFits}
-use Rattle.std.proofs.lemmas.Bool.Decides.{nat_tests}
-
--- ---- the difference
-
--- a difference of the list of players is no longer than the list
-missing_few : (p q : Sight) → SightFits p → length (missing p.pairs q.pairs) ≤ 50
-missing_few p q f = grind (arith, nat_tests, few_filtered)
-
--- and its pairs fit
-missing_fits : (p q : Sight) → SightFits p → AllByRecursion PairFits (missing p.pairs q.pairs)
-missing_fits p q f = all_filtered PairFits _ (entries p.pairs) f.pairs
-
--- the entities that are seen no more
-destroys_clear : (p q : Sight) → SightFits p → AreClear (destroys_point p q)
-destroys_clear p q f =
-    destroying_clear _ (all_filtered (SFits w32) _ (keys p.entities)
-    (all_mapped SeenFits (SFits w32) (λ (e : ℤ × Seen). e.0) (λ e fits. fits.eid)
-    (entries p.entities) f.entities))
-
--- the columns that go
-unloads_clear : (p q : Sight) → SightFits p → AreClear (unloads_point p q)
-unloads_clear p q f =
-    all_mapped PlaceFits (λ (packet : Down). IsClear for_play (of_play packet)) unload unload_clear
-    _
-    (all_filtered PlaceFits _ (keys p.columns)
-    (all_mapped ColumnFits PlaceFits (λ (e : Place × ColumnValue). e.0)
-    (λ e fits. near_fits e.0 fits.near) (entries p.columns) f.columns))
-
--- the columns that come
-loads_clear : (p q : Sight) → SightFits q → AreClear (loads_point p q)
-loads_clear p q f =
-    all_mapped ColumnFits (λ (packet : Down). IsClear for_play (of_play packet)) load load_clear _
-    (all_filtered ColumnFits _ (entries q.columns) f.columns)
 
 -- the cells that change
-column_clear : (e : Place × ColumnValue) → ColumnFits e → (old : Option ColumnValue) →
+pub column_clear : (e : Place × ColumnValue) → ColumnFits e → (old : Option ColumnValue) →
     AreClear (column_changes e.0 old e.1)
 column_clear e f None = tt
 column_clear e f (Some old) =
@@ -85,30 +33,8 @@ column_clear e f (Some old) =
     (differing_few old.states e.1.states)
     (differing_fit old.states e.1.states f.sizes.states_are f.states)
 
--- of each column
-changes_clear : (p q : Sight) → SightFits q → AreClear (cells_point p q)
-changes_clear p q f = search (arith, all_flat, column_clear)
-
--- the entities that come or change
-entity_clear : (e : ℤ × Seen) → SeenFits e → (old : Option Seen) →
-    AreClear (entity_packets e.0 old e.1)
-entity_clear e f None = spawn_clear e.0 e.1.kind e.1.spot e.1.pile f.eid f.kind f.spot f.pile
-entity_clear e f (Some old) =
-    all_joined (λ (packet : Down). IsClear for_play (of_play packet))
-    (moves_packets e.0 e.1.spot (moves_of old.spot e.1.spot))
-    (pile_packets e.0 e.1.kind old.pile e.1.pile)
-    (moves_clear e.0 old.spot e.1.spot f.eid f.spot) (tells (is_same_slot old.pile e.1.pile))
-  where
-    tells : (same : Bool) → AreClear (cond same [] (pile_packet e.0 e.1.kind e.1.pile ∷ []))
-    tells true = tt
-    tells false = (pile_slot_clear e.0 e.1.kind e.1.pile f.eid f.pile, tt)
-
--- each of them
-entities_clear : (p q : Sight) → SightFits q → AreClear (entities_point p q)
-entities_clear p q f = search (arith, all_flat, entity_clear)
-
 -- the slots that change
-slots_clear : (i : ℕ) (olds news : List Slot) → i + length news ≤ 100 →
+pub slots_clear : (i : ℕ) (olds news : List Slot) → i + length news ≤ 100 →
     AllByRecursion SlotFits news → AreClear (slot_packets i olds news)
 slots_clear i [] news few f = tt
 slots_clear i (old ∷ olds) [] few f = tt
@@ -126,56 +52,15 @@ slots_clear i (old ∷ olds) (new ∷ news) few f =
       tt,
     )
 
--- those of the pack
-pack_clear : (p q : Sight) → SightFits q → AreClear (pack_point p q)
-pack_clear p q f = slots_clear 9 p.pack q.pack (omega (arith, f.slots)) f.pack
-
 -- the beat
-beats_clear : (old new : Option ℤ) → ToldFits w32 new → AreClear (beat_packets old new)
+pub beats_clear : (old new : Option ℤ) → ToldFits w32 new → AreClear (beat_packets old new)
 beats_clear old None f = tt
 beats_clear old (Some beat) f = grind (arith, nat_tests, beat_clear)
 
 -- the age
-times_clear : (old new : Option ℤ) → ToldFits w64 new → AreClear (time_packets old new)
+pub times_clear : (old new : Option ℤ) → ToldFits w64 new → AreClear (time_packets old new)
 times_clear old None f = tt
 times_clear old (Some age) f = grind (arith, nat_tests, time_clear)
-
--- what was said
-said_clear : (p q : Sight) → SightFits q → AreClear (chat_point p q)
-said_clear p q f =
-    all_mapped LineFits (λ (packet : Down). IsClear for_play (of_play packet)) chat_packet
-    (λ text fits. fits) (drop (length p.chat) q.chat)
-    (all_dropped LineFits (length p.chat) q.chat f.chat)
-
--- the packets of a difference
-pub delta_clear : (p q : Sight) → SightFits p → SightFits q → AreClear (delta p q)
-unfolding delta
-delta_clear p q f g =
-    let P : Down → Type 0 = λ packet. IsClear for_play (of_play packet) in
-    all_joined P (beat_point p q) _ (beats_clear p.beat q.beat g.beat) (
-    all_joined P (time_point p q) _ (times_clear p.age q.age g.age) (
-    all_joined P (leavers_point p q) _
-    (leavers_clear (missing p.pairs q.pairs) (missing_few p q f) (missing_fits p q f)) (
-    all_joined P (joiners_point p q) _
-    (joiners_clear (missing q.pairs p.pairs) (missing_few q p g) (missing_fits q p g)) (
-    all_joined P (destroys_point p q) _ (destroys_clear p q f) (
-    all_joined P (unloads_point p q) _ (unloads_clear p q f) (
-    all_joined P (loads_point p q) _ (loads_clear p q g) (
-    all_joined P (cells_point p q) _ (changes_clear p q g) (
-    all_joined P (entities_point p q) _ (entities_clear p q g) (
-    all_joined P (pack_point p q) _ (pack_clear p q g) (
-    all_joined P (chat_point p q) [] (said_clear p q g) tt))))))))))
-
--- ---- the opening and the notes
-
--- a player's own place
-pub placing_clear : (spot : Spot) → SpotFits spot → IsClear for_play (of_play (placing spot))
-placing_clear spot at = grind (arith, nat_tests, degrees_fit, pattern_fits, place_clear)
-
--- what is noted
-pub notes_clear : (notes : Noted) (spot : Spot) (pack : PackValue) → SpotFits spot →
-    IsPack pack.slots pack.cursor → AreClear (notes_of notes spot pack)
-notes_clear notes spot pack at is = search (arith, all_joined, placing_clear, window_clear)
 
 -- the kind of level is a short text
 pub level_short : (terrain : Terrain) → IsShort 10 (level terrain)

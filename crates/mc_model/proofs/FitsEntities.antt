@@ -8,7 +8,6 @@ use Rattle.std.proofs.lemmas.List.{length-take}
 use lib.IntN.{ℤ, pos}
 use mir.Val.{SFits}
 use Rattle.mc_fields.specs.VarintFormat.{FitsVarint, varint-fits}
-use Rattle.mc_fields.specs.declared.position.Spot.{Spot}
 use Rattle.mc_slots.specs.declared.slot.Slot.{Slot}
 use Rattle.mc_slots.specs.declared.slot.Slot.TheVariants as slots
 use Rattle.mc_slots.specs.declared.pile.Pile.{Pile}
@@ -21,15 +20,12 @@ use Rattle.mc_model.specs.declared.seen.SeenKind.{SeenKind}
 use Rattle.mc_model.specs.declared.seen.SeenKind.TheVariants as seen_kinds
 use Rattle.mc_model.specs.Packets.{of_play, for_play}
 use Rattle.mc_model.specs.Delta.{parts_of, destroying, pile_packet, id_in_hand, hand_packets}
-use Rattle.mc_model.specs.Delta.{no_flags, spawn_as}
+use Rattle.mc_model.specs.Delta.{no_flags}
 use Rattle.mc_model.proofs.Decodes.{IsClear, play_clear}
 use Rattle.mc_model.proofs.AllFacts.{all_taken, all_dropped}
-use Rattle.mc_model.proofs.ThingsFit.{SpotFits}
 use Rattle.mc_model.proofs.FitsSize.{fields, all_fit, all_few}
 use Rattle.mc_model.proofs.FitsList.{AreClear}
 use Rattle.mc_model.proofs.FitsSlots.{SlotFits, pile_slot_fits}
-use Rattle.mc_model.proofs.FitsMoves.{east_fits, up_fits, south_fits, head_clear}
-pub use Rattle.mc_model.proofs.FitsMoves.{moves_clear}
 
 -- ---- entities that go
 
@@ -69,7 +65,7 @@ worn_clear eid pile at f =
     play_clear (Equipment eid (pos 0) pile) (search (fields, f.fits)) (omega (arith, f.few))
 
 -- Meta, of a slot that fits
-lying_clear : (eid : ℤ) (pile : Slot) → SFits w32 eid → SlotFits pile →
+pub lying_clear : (eid : ℤ) (pile : Slot) → SFits w32 eid → SlotFits pile →
     IsClear for_play (of_play (pile_packet eid seen_kinds.Item pile))
 lying_clear eid pile at f =
     let other : ◌≢◌ {A = ℕ} 170 127 = λ e. omega (arith, e) in
@@ -97,7 +93,7 @@ object_clear eid x y z yaw pitch in_32 at_x at_y at_z at_yaw at_pitch =
     play_clear (SpawnObject eid (pos 2) x y z pitch yaw (pos 0) None) (search fields) (lit< tt)
 
 -- the id of what is in a hand
-hand_fits : (pile : Slot) → FitsSlot pile → SFits w16 (id_in_hand pile)
+pub hand_fits : (pile : Slot) → FitsSlot pile → SFits w16 (id_in_hand pile)
 hand_fits slots.Empty f = record { sfits = lit< tt }
 hand_fits (slots.Full stack) f = f.1.id
 
@@ -116,22 +112,7 @@ KindFits (seen_kinds.Player uuid) = uuid < 2 ^ 128
 KindFits seen_kinds.Item = Unit {0}
 
 -- what a player that comes holds
-hand_clear : (eid : ℤ) (uuid : ℕ) (pile : Slot) → SFits w32 eid → SlotFits pile →
+pub hand_clear : (eid : ℤ) (uuid : ℕ) (pile : Slot) → SFits w32 eid → SlotFits pile →
     AreClear (hand_packets eid uuid pile)
 hand_clear eid uuid slots.Empty in_32 f = tt
 hand_clear eid uuid (slots.Full stack) in_32 f = (worn_clear eid (slots.Full stack) in_32 f, tt)
-
--- whatever it is
-pub spawn_clear : (eid : ℤ) (kind : SeenKind) (spot : Spot) (pile : Slot) → SFits w32 eid →
-    KindFits kind → SpotFits spot → SlotFits pile → AreClear (spawn_as eid kind spot pile)
-spawn_clear eid (seen_kinds.Player uuid) spot pile in_32 in_128 at f = (
-  player_clear eid uuid spot.x spot.y spot.z spot.yaw spot.pitch (id_in_hand pile) in_32 in_128
-      (east_fits spot at) (up_fits spot at) (south_fits spot at) at.yaw at.pitch
-      (hand_fits pile f.fits),
-  (head_clear eid spot.yaw in_32 at.yaw, hand_clear eid uuid pile in_32 f),
-)
-spawn_clear eid seen_kinds.Item spot pile in_32 known at f = (
-  object_clear eid spot.x spot.y spot.z spot.yaw spot.pitch in_32 (east_fits spot at)
-      (up_fits spot at) (south_fits spot at) at.yaw at.pitch,
-  (lying_clear eid pile in_32 f, tt),
-)

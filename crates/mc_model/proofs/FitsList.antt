@@ -3,7 +3,9 @@ use Rattle.std.proofs.Common.{◌≡◌, ℕ, ◌^◌, ◌<◌, ◌≤◌, true,
 use Rattle.std.proofs.Common.{lit≤}
 use Rattle.std.specs.List.{AllByRecursion}
 use Rattle.std.proofs.lemmas.List.{length-map}
+use Rattle.std.specs.Int.{w32}
 use lib.IntN.{ℤ, pos}
+use mir.Val.{SFits}
 use Rattle.mc_packets.specs.declared.down.Down.{Down}
 use Rattle.mc_packets.specs.declared.down.Down.TheVariants.{List as PlayerList}
 use Rattle.mc_packets.specs.declared.player.Player.{Player}
@@ -13,8 +15,6 @@ use Rattle.mc_model.specs.Delta.{leaver, joiner, about}
 use Rattle.mc_model.proofs.Decodes.{IsClear, play_clear}
 use Rattle.mc_model.proofs.FitsText.{IsShort, short_string}
 use Rattle.mc_model.proofs.FitsSize.{all_fit, all_few, fields}
-use mir.Val.{SFits}
-use Rattle.std.specs.Int.{w32}
 use Rattle.mc_model.proofs.AllFacts.{all_mapped}
 
 -- an identifier and a name that a packet can carry

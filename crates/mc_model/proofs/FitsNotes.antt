@@ -4,26 +4,22 @@ use Rattle.std.specs.Prelude.{int_le, unsigned_abs}
 use Rattle.std.specs.FinMap.{FinMap}
 use Rattle.std.proofs.lemmas.Bool.{leb-true}
 use Rattle.std.proofs.lemmas.Int.{ints}
+use Rattle.std.proofs.lemmas.Bool.Decides.{nat_tests}
 use lib.IntN.{ℤ, pos, negsuc, ◌-ℤ◌}
 use Rattle.mc_fields.specs.declared.position.Cell.{Cell}
 use Rattle.mc_fields.specs.Position.{FitsHalf, FitsCell}
 use Rattle.mc_land.specs.declared.terrain.Terrain.{Terrain}
 use Rattle.mc_land.specs.Places.{Place, key_cmp, column_number}
 use Rattle.mc_view.specs.declared.view_set.TheConstants.{MIDDLE_BORDER}
-use Rattle.mc_view.specs.Views.{column_of_spot, is_in_view, view_size}
+use Rattle.mc_view.specs.Views.{is_in_view}
 use Rattle.mc_view.proofs.Near.{near_both}
 use Rattle.mc_model.specs.Packets.{of_play, for_play}
 use Rattle.mc_model.specs.Things.{state_of_cell}
-use Rattle.mc_model.specs.World.{World, Player, sees, spot_of}
-use Rattle.mc_model.specs.Step.{cell_packet, is_sent, noted_packets}
+use Rattle.mc_model.specs.Notes.{cell_packet, is_sent, noted_packets}
 use Rattle.mc_model.proofs.Decodes.{IsClear}
 use Rattle.mc_model.proofs.FitsText.{both_true}
 use Rattle.mc_model.proofs.FitsList.{AreClear}
 use Rattle.mc_model.proofs.FitsCells.{change_clear}
-use Rattle.mc_model.proofs.FitsSight.{column_near, size_few}
-use Rattle.mc_model.proofs.ThingFacts.{cell_is}
-use Rattle.mc_model.proofs.ThingsFit.{SpotFits, ThingsFit}
-use Rattle.std.proofs.lemmas.Bool.Decides.{nat_tests}
 
 -- ---- positions
 
@@ -66,13 +62,3 @@ pub noted_packets_clear : (terrain : Terrain) (edits : FinMap key_cmp ℕ) (seen
 noted_packets_clear terrain edits seen fit small [] = tt
 noted_packets_clear terrain edits seen fit small (cell ∷ cells) =
     search (arith, noted_packet_clear, noted_packets_clear terrain edits seen fit small cells)
-
--- what a player is sent of the cells that were noted
-pub noted_clear : (w : World) (p : Player) (cells : List Cell) → ThingsFit w.things →
-    SpotFits (spot_of w p) → w.cap ≤ 8 →
-    AreClear (noted_packets w.terrain w.things.edits (sees w p) cells)
-noted_clear w p cells t at near = noted_packets_clear w.terrain w.things.edits (sees w p)
-    (λ cell sent. sent_fits (column_of_spot (spot_of w p)) (view_size w.cap p.view_byte) cell
-    (column_near (spot_of w p).x at.x) (column_near (spot_of w p).z at.z)
-    (size_few w.cap p.view_byte near) sent)
-    (λ cell. let small = (cell_is w cell t).small in omega (arith, small)) cells

@@ -4,10 +4,10 @@ use Rattle.std.proofs.Common.{cond, refl, arith, inl, inr}
 use Rattle.std.specs.Prelude.{nat_le, ◌==◌, unsigned_abs}
 use Rattle.std.proofs.Math.Nat.{pow-le-pow_right, pow-suc}
 use Rattle.std.proofs.lemmas.Bool.{cases_lt, leb-true}
+use Rattle.std.proofs.lemmas.Bool.Decides.{nat_tests}
 use lib.IntN.{ℤ}
 use Rattle.mc_fields.proofs.Floors.{raised_high}
 use Rattle.mc_model.specs.Numbers.{top_bit, pattern_with, is_below_0, pattern_of, degrees_of}
-use Rattle.std.proofs.lemmas.Bool.Decides.{nat_tests}
 
 -- ---- the highest bit
 

@@ -1,14 +1,14 @@
 -- The packets of play that are handed out beside the difference fit.
 use Rattle.std.proofs.Common.{ℕ, ◌^◌, ◌<◌, ◌≤◌, false, List, lit<, arith, lit≤}
 use lib.IntN.{pos}
+use Rattle.mc_fields.specs.declared.position.Cell.{Cell}
+use Rattle.mc_fields.specs.Position.{FitsCell}
 use Rattle.mc_packets.specs.declared.down.Down.TheVariants.{JoinGame, SpawnPosition, PositionLook}
 use Rattle.mc_packets.specs.declared.down.Down.TheVariants.{Disconnect}
 use Rattle.mc_model.specs.Packets.{of_play, for_play}
 use Rattle.mc_model.proofs.Decodes.{IsClear, play_clear}
 use Rattle.mc_model.proofs.FitsText.{IsShort, short_string}
 use Rattle.mc_model.proofs.FitsSize.{fields}
-use Rattle.mc_fields.specs.Position.{FitsCell}
-use Rattle.mc_fields.specs.declared.position.Cell.{Cell}
 
 -- JoinGame
 pub join_clear : (eid most : ℕ) (level : List ℕ) → eid < 2 ^ 31 → most ≤ 50 → IsShort 10 level

@@ -16,10 +16,10 @@ use Rattle.mc_slots.specs.declared.pile.Pile.TheVariants.{Empty, Full}
 use Rattle.mc_slots.specs.Slot.{FitsSlot, slot_most}
 use Rattle.mc_slots.specs.Pile.{IsPile, slot_of}
 use Rattle.mc_slots.specs.Chest.{pile_at}
-use Rattle.mc_windows.specs.Pack.{PackValue, IsPack}
 use Rattle.mc_packets.specs.declared.down.Down.TheVariants.{SetSlot, WindowItems}
+use Rattle.mc_windows.specs.Pack.{PackValue, IsPack}
 use Rattle.mc_model.specs.Packets.{of_play, for_play}
-use Rattle.mc_model.specs.Step.{window_packets}
+use Rattle.mc_model.specs.Notes.{window_packets}
 use Rattle.mc_model.proofs.Decodes.{IsClear, play_clear}
 use Rattle.mc_model.proofs.FitsSize.{fields, all_fit, all_few}
 use Rattle.mc_model.proofs.FitsList.{AreClear}

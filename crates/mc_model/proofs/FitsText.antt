@@ -9,17 +9,17 @@ use Rattle.std.proofs.lemmas.Bool.{leb-true}
 use Rattle.std.proofs.lemmas.List.{length-append}
 use Rattle.std.proofs.lemmas.Str.{IsUtf8-from_ascii, chars-IsAscii, IsAscii-append}
 use Rattle.std.proofs.lemmas.Fmt.{IsAscii-decimal, length-decimal-le}
-use Rattle.serde_json.proofs.OnLiterals.{serde_json_on_literals}
-use Rattle.mc_fields.specs.TextFormat.{SpellableText}
+use Rattle.std.proofs.lemmas.Bool.Decides.{nat_tests}
 use Rattle.uuid.specs.Text.{by_index, is_hyphen_place, hyphen, hex_digit, nibble, digit_place}
 use Rattle.uuid.specs.Text.{lower}
-use Rattle.mc_model.specs.Names.{is_name_byte, is_name, uuid_text}
+use Rattle.serde_json.proofs.OnLiterals.{serde_json_on_literals}
+use Rattle.mc_fields.specs.TextFormat.{SpellableText}
 use Rattle.mc_model.specs.declared.cause.Refusal.{Refusal}
 use Rattle.mc_model.specs.declared.cause.Refusal.TheVariants.{Version, Name, Taken, Full}
 use Rattle.mc_model.specs.declared.cause.Cause.{Cause}
 use Rattle.mc_model.specs.declared.cause.Cause.TheVariants.{Frame, Packet, BadNumber, Silent}
+use Rattle.mc_model.specs.Names.{is_name_byte, is_name, uuid_text}
 use Rattle.mc_model.specs.Texts.{chat_json, status_json, refusal_text, farewell_text}
-use Rattle.std.proofs.lemmas.Bool.Decides.{nat_tests}
 
 -- ASCII, and so many bytes at most
 pub record IsShort (most : ℕ) (text : List ℕ) : Type 0 where

@@ -1,20 +1,15 @@
 -- Numbers with a fraction as `mc_fields` reads them are those that are worked out: there is one
 -- floor.
 use Rattle.std.proofs.Common.{◌≡◌, ◌≢◌, ℕ, ◌*◌, ◌^◌, ◌<◌, refl, ap, ◌∙◌, arith}
-use Rattle.std.specs.Prelude.{◌==◌, ◌||◌, ◌↔◌, nat_le, Bool, true, false, Option, Some}
-use Rattle.std.specs.Prelude.{None, IsNone, IfSome, unsigned_abs}
+use Rattle.std.specs.Prelude.{◌==◌, ◌||◌, ◌↔◌, nat_le, Bool, true, false, Option, Some, None}
+use Rattle.std.specs.Prelude.{IsNone, IfSome, unsigned_abs}
 use Rattle.std.specs.Int.{int_div_euclid, int_rem_euclid}
 use Rattle.std.proofs.lemmas.Bool.Decides.{nat_tests}
 use Rattle.std.proofs.lemmas.Bool.{eq-eqb, ne_eqb}
-use lib.IntN.{ℤ, pos, negsuc}
-use lib.Signed.{shr_z}
+use lib.IntN.{ℤ, pos}
 use Rattle.mc_fields.specs.Pattern.{is_negative, exponent, significand, power, with_sign, held}
 use Rattle.mc_fields.specs.Pattern.{IsFloor, Fixes, IsEndless, Turns, IsVast}
 use Rattle.mc_model.specs.Numbers.{fixed_of, turn_of}
-
-shift_is : (z : ℤ) (b : ℕ) → shr_z z b ≡ int_div_euclid z (pos b)
-shift_is (pos a) b = refl
-shift_is (negsuc a) b = refl
 
 -- a floor is the quotient
 pub floor_is : (negative : Bool) (size b : ℕ) (n : ℤ) → 0 < b →

@@ -1,10 +1,9 @@
 -- The pattern of a number is the only one that stands for it, so what is said by inequalities is
 -- what is worked out.
-use Rattle.std.proofs.Common.{◌≡◌, ℕ, zero, suc, ◌+◌, ◌-◌, ◌*◌, ◌%◌, ◌^◌, ◌<◌, ◌≤◌, max, Bool}
-use Rattle.std.proofs.Common.{true, false, cond, refl, sym, ap, ◌∙◌, arith, ne_eqb}
+use Rattle.std.proofs.Common.{◌≡◌, ℕ, zero, suc, ◌+◌, ◌-◌, ◌*◌, ◌%◌, ◌^◌, ◌<◌, ◌≤◌, max, Bool, true}
+use Rattle.std.proofs.Common.{false, cond, refl, sym, ap, ◌∙◌, arith, ne_eqb}
 use Rattle.std.specs.Prelude.{unsigned_abs}
-use Rattle.std.proofs.Math.Nat.{mul-le-mul_right, pow-le-pow_right}
-use Rattle.std.proofs.Math.Nat.{eq_of_mul-eq-mul_right}
+use Rattle.std.proofs.Math.Nat.{mul-le-mul_right, pow-le-pow_right, eq_of_mul-eq-mul_right}
 use Rattle.std.proofs.lemmas.Bool.Decides.{nat_tests}
 use Rattle.std.proofs.lemmas.Bool.{cases_lt, leb-true, leb-false}
 use Rattle.std.proofs.lemmas.Nat.{pow-add, pow_pos}

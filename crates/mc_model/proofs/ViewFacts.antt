@@ -9,8 +9,8 @@ use Rattle.std.proofs.lemmas.List.FromFn.{get_or-range_with_len, length-range_wi
 use Rattle.std.proofs.lemmas.Int.{ints}
 use lib.IntN.{ℤ, pos, ◌+ℤ◌, ◌-ℤ◌}
 use Rattle.mc_land.specs.Places.{Place}
-use Rattle.mc_view.proofs.Near.{near_both, both_near}
 use Rattle.mc_view.specs.Views.{is_in_view, run_of, view_of}
+use Rattle.mc_view.proofs.Near.{near_both, both_near}
 
 -- ---- what lists that are made of lists hold
 

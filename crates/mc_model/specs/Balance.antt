@@ -1,8 +1,8 @@
 -- That no item is lost or made: items come by the kit and by digging, and go by placing. Rules of
 -- this project.
-use Rattle.std.specs.Prelude.{◌≡◌, ◌≤◌, ℕ, ◌+◌, ◌*◌, ◌==◌, length, List, if◌then◌else◌}
-use Rattle.std.specs.List.{AllByRecursion, sum_by}
-use Rattle.std.specs.FinMap.{FinMap, entries}
+use Rattle.std.specs.Prelude.{◌≡◌, ◌≤◌, ℕ, ◌+◌, ◌*◌, ◌==◌, List, if◌then◌else◌}
+use Rattle.std.specs.List.{sum_by}
+use Rattle.std.specs.FinMap.{FinMap, entries, len}
 use lib.IntN.{pos}
 use Rattle.mc_slots.specs.declared.pile.Pile.TheVariants.{Full}
 use Rattle.mc_slots.specs.Pile.{Sort, held}
@@ -14,9 +14,8 @@ use Rattle.mc_windows.specs.Stock.{in_pack}
 use Rattle.mc_entities.specs.declared.entity.Entity.{Entity}
 use Rattle.mc_entities.specs.declared.entity.EntityKind.{EntityKind}
 use Rattle.mc_entities.specs.declared.entity.EntityKind.TheVariants as kinds
-use Rattle.mc_model.specs.Things.{Things, Packs}
-use Rattle.mc_model.specs.World.{World}
-use Rattle.mc_model.specs.Owning.{IsTidy, Owns}
+use Rattle.mc_model.specs.Maps.{name_cmp}
+use Rattle.mc_model.specs.Game.{Game}
 
 -- ---- what there is of a sort
 
@@ -27,13 +26,6 @@ lying sort other = 0
 
 abbrev pub in_entities : Sort → List Entity → ℕ
 in_entities sort entities = sum_by (λ (e : Entity). lying sort e.kind) entities
-
-abbrev pub in_packs : Sort → Packs → ℕ
-in_packs sort packs = sum_by (λ (e : List ℕ × PackValue). in_pack sort e.1) packs
-
--- what is carried, kept and dropped
-abbrev pub stock : Sort → Things → ℕ
-stock sort things = in_packs sort things.packs + in_entities sort things.entities
 
 -- ---- cells that were changed
 
@@ -54,19 +46,17 @@ once_edited state terrain edits =
 abbrev pub sort_of : ℕ → ℕ → Sort
 sort_of id damage = record { id = pos id; damage = pos damage }
 
+abbrev pub in_packs : Sort → FinMap name_cmp PackValue → ℕ
+in_packs sort packs = sum_by (λ (e : List ℕ × PackValue). in_pack sort e.1) (entries packs)
+
+-- what is carried, kept and dropped
+abbrev pub stock : Sort → Game → ℕ
+stock sort g = in_packs sort g.packs + in_entities sort g.entities
+
 -- For each sort: what there is and what was placed is what the kits of all names had and what was
 -- dug.
-abbrev pub Even : Terrain → Things → Type 0
-Even terrain things = (id damage : ℕ) → 1 ≤ id → id ≤ 255 → damage ≤ 15 →
-    stock (sort_of id damage) things + now_edited (16 * id + damage) things.edits
-    ≡ in_pack (sort_of id damage) kit_pack * length things.packs
-    + once_edited (16 * id + damage) terrain things.edits
-
-abbrev pub Balance : World → Type 0
-Balance w = Even w.terrain w.things
-
--- and with what it rests on: whom numbers and names are of
-pub record Balanced (w : World) : Type 0 where
-  pub owners : AllByRecursion (Owns w.things) w.sessions
-  pub tidy : IsTidy w.things
-  pub even : Balance w
+abbrev pub Balance : Game → Type 0
+Balance g = (id damage : ℕ) → 1 ≤ id → id ≤ 255 → damage ≤ 15 →
+    stock (sort_of id damage) g + now_edited (16 * id + damage) g.edits
+    ≡ in_pack (sort_of id damage) kit_pack * len g.packs
+    + once_edited (16 * id + damage) g.settings.terrain g.edits

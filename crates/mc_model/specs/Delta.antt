@@ -1,32 +1,24 @@
 -- What leads a client from what it was shown to what it is to be shown: a list of packets made by
 -- comparing the two, entry by entry. Which packets, and their order, are rules of this project.
-use Rattle.std.specs.Prelude.{◌≡◌, ◌<◌, ℕ, ◌+◌, ◌*◌, ◌/◌, ◌%◌, ◌&&◌, not, Bool, true, false}
-use Rattle.std.specs.Prelude.{List, [], ◌∷◌, ◌++◌, drop, length, map, slice_index, take, zero, suc}
+use Rattle.std.specs.Prelude.{◌≡◌, ◌<◌, ℕ, ◌+◌, ◌*◌, ◌/◌, ◌%◌, ◌&&◌, not, Bool, true, false, List}
+use Rattle.std.specs.Prelude.{[], ◌∷◌, ◌++◌, drop, length, map, slice_index, take, zero, suc}
 use Rattle.std.specs.Prelude.{Option, Some, None, is_some, if◌then◌else◌}
 use Rattle.std.specs.List.{All, filter, flat_map, range_with_len}
 use Rattle.std.specs.Str.{bytes_eq}
 use Rattle.std.specs.Ordering.{nat_cmp, int_eq}
 use Rattle.std.specs.FinMap.{FinMap, get, contains_key, entries, keys}
 use lib.IntN.{ℤ, pos}
+use Rattle.mc_fields.specs.declared.position.Cell.{Cell}
+use Rattle.mc_fields.specs.declared.position.Spot.{Spot}
+use Rattle.mc_slots.specs.declared.slot.Slot.{Slot}
+use Rattle.mc_slots.specs.declared.slot.Slot.TheVariants as slots
 use Rattle.mc_column.specs.Sizes.{cells}
 use Rattle.mc_column.specs.Cells.{ColumnValue, HasSizes}
 use Rattle.mc_column.specs.Sent.{column_mask, column_bytes}
-use Rattle.mc_fields.specs.declared.position.Cell.{Cell}
-use Rattle.mc_fields.specs.declared.position.Spot.{Spot}
-use Rattle.mc_land.specs.Places.{Place, x_of, y_of, z_of}
-use Rattle.mc_land.specs.Ready.{has_changed}
-use Rattle.mc_slots.specs.declared.slot.Slot.{Slot}
-use Rattle.mc_slots.specs.declared.slot.Slot.TheVariants as slots
-use Rattle.mc_windows.specs.Pack.{pack_size}
-use Rattle.mc_view.specs.declared.forms.Form.{Form}
-use Rattle.mc_view.specs.declared.forms.Form.TheVariants as forms
-use Rattle.mc_view.specs.declared.forms.Moves.{Moves}
-use Rattle.mc_view.specs.Forms.{moves_of}
 use Rattle.mc_packets.specs.declared.down.Down.{Down}
 use Rattle.mc_packets.specs.declared.down.Down.TheVariants.{KeepAlive, Chat, Time, Chunk}
-use Rattle.mc_packets.specs.declared.down.Down.TheVariants.{MultiChange}
-use Rattle.mc_packets.specs.declared.down.Down.TheVariants.{List as PlayerList, Change, SpawnPlayer}
-use Rattle.mc_packets.specs.declared.down.Down.TheVariants.{SpawnObject, Equipment}
+use Rattle.mc_packets.specs.declared.down.Down.TheVariants.{MultiChange, List as PlayerList, Change}
+use Rattle.mc_packets.specs.declared.down.Down.TheVariants.{SpawnPlayer, SpawnObject, Equipment}
 use Rattle.mc_packets.specs.declared.down.Down.TheVariants.{Destroy, Step, Look, StepLook, Teleport}
 use Rattle.mc_packets.specs.declared.down.Down.TheVariants.{HeadLook, Meta, SetSlot}
 use Rattle.mc_packets.specs.declared.meta.MetaEntry.{MetaEntry}
@@ -34,6 +26,13 @@ use Rattle.mc_packets.specs.declared.meta.MetaValue.TheVariants as values
 use Rattle.mc_packets.specs.declared.player.Player.{Player}
 use Rattle.mc_packets.specs.declared.player.PlayerChange.TheVariants.{Join, Leave}
 use Rattle.mc_packets.specs.declared.record.Record.{Record}
+use Rattle.mc_land.specs.Places.{Place, x_of, y_of, z_of}
+use Rattle.mc_land.specs.Ready.{has_changed}
+use Rattle.mc_windows.specs.Pack.{pack_size}
+use Rattle.mc_view.specs.declared.forms.Form.{Form}
+use Rattle.mc_view.specs.declared.forms.Form.TheVariants as forms
+use Rattle.mc_view.specs.declared.forms.Moves.{Moves}
+use Rattle.mc_view.specs.Forms.{moves_of}
 use Rattle.mc_model.specs.declared.seen.TheConstants.{DESTROYED_MAX}
 use Rattle.mc_model.specs.declared.seen.SeenKind.{SeenKind}
 use Rattle.mc_model.specs.declared.seen.SeenKind.TheVariants as seen_kinds

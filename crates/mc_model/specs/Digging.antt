@@ -10,22 +10,18 @@ use Rattle.mc_slots.specs.declared.pile.Item.{Item}
 use Rattle.mc_slots.specs.declared.pile.Pile.{Pile}
 use Rattle.mc_slots.specs.declared.pile.Pile.TheVariants.{Empty, Full}
 use Rattle.mc_slots.specs.Pile.{without}
-use Rattle.mc_entities.specs.declared.entity.EntityKind.TheVariants as kinds
-use Rattle.mc_model.specs.Things.{Things, room_in, with_new_entity, with_state}
-use Rattle.mc_model.specs.World.{World, Session, Player, held_by, spot_of, state_in}
-use Rattle.mc_model.specs.Packs.{again, carrying, noting, with_cells}
+use Rattle.mc_model.specs.declared.player.Player.{Player}
+use Rattle.mc_model.specs.Notes.{again, with_cells}
+use Rattle.mc_model.specs.Game.{Game, held_by, room_in, spot_of, state_in}
+use Rattle.mc_model.specs.Deeds.{noting, thrown, with_state}
+use Rattle.mc_model.specs.Hands.{carrying}
 use Rattle.mc_model.specs.Reach.{is_in_reach}
 
--- ---- digging
+-- ---- what is dug
 
 -- air, and bedrock with any metadata, are not dug
 abbrev pub is_dug : ℕ → Bool
 is_dug state = not (state == 0) && not (state / 16 == 7)
-
--- within reach, and with room for the item
-abbrev pub can_dig : World → Player → Cell → Bool
-can_dig w p cell =
-    is_in_reach w p cell && (is_dug (state_in w cell) && nat_lt 0 (room_in w.things))
 
 -- one of what a cell was
 abbrev pub block_item : ℕ → Item
@@ -41,37 +37,40 @@ floor_of cell = record {
   pitch = 0;
 }
 
--- the cell is air, and what it was lies there
-abbrev pub dug : World → Cell → Things
-dug w cell =
-    with_new_entity (kinds.Dropped (block_item (state_in w cell)) w.age) (floor_of cell)
-    (with_state w.terrain cell 0 w.things)
+-- ---- digging
 
-abbrev pub dig : World → Session → Player → Cell → World
-dig w s p cell =
-    if can_dig w p cell then record w { things = dug w cell }
-    else noting (with_cells (cell ∷ [])) w s p
+-- within reach, and with room for the item
+abbrev pub can_dig : Player → Cell → Game → Bool
+can_dig p cell g = is_in_reach g p cell && (is_dug (state_in g cell) && nat_lt 0 (room_in g))
+
+-- the cell is air, and what it was lies there
+abbrev pub dug : Cell → Game → Game
+dug cell g = thrown (block_item (state_in g cell)) (floor_of cell) (with_state cell 0 g)
+
+abbrev pub dig : ℕ → Player → Cell → Game → Game
+dig k p cell g = if can_dig p cell g then dug cell g else noting (with_cells (cell ∷ [])) k g
 
 -- ---- dropping
 
--- so many of the item in its hand lie where a player is, and it has the others
-abbrev pub dropped : World → Player → Item → ℕ → Things
-dropped w p item n =
-    with_new_entity (kinds.Dropped (record item { count = n }) w.age)
-    (record (spot_of w p) { yaw = 0; pitch = 0 })
-    (carrying w p (without (Full item) n) w.things)
+-- where what a player drops lies: where it is, and turned to nothing
+abbrev pub feet_of : Player → Game → Spot
+feet_of p g = record (spot_of g p) { yaw = 0; pitch = 0 }
+
+-- so many of the item in its hand lie there, and it has the others
+abbrev pub dropped : Player → Item → ℕ → Game → Game
+dropped p item n g = thrown (record item { count = n }) (feet_of p g)
+    (carrying p (without (Full item) n) g)
 
 -- at most so many of what it has in its hand; nothing of nothing
-abbrev pub drop_held : World → Session → Player → ℕ → Pile → World
-drop_held w s p n Empty = w
-drop_held w s p n (Full item) =
-    if nat_lt 0 (room_in w.things) then record w { things = dropped w p item (min n item.count) }
-    else noting again w s p
+abbrev pub drop_held : ℕ → Player → ℕ → Pile → Game → Game
+drop_held k p n Empty g = g
+drop_held k p n (Full item) g =
+    if nat_lt 0 (room_in g) then dropped p item (min n item.count) g else noting again k g
 
 -- 2 digs a cell, 3 drops what is held and 4 one of it; others do nothing
-abbrev pub digging : World → Session → Player → ℤ → Cell → World
-digging w s p status cell =
-    if int_eq status (pos 2) then dig w s p cell
-    else if int_eq status (pos 3) then drop_held w s p 64 (held_by w p)
-    else if int_eq status (pos 4) then drop_held w s p 1 (held_by w p)
-    else w
+abbrev pub digging : ℕ → Player → ℤ → Cell → Game → Game
+digging k p status cell g =
+    if int_eq status (pos 2) then dig k p cell g
+    else if int_eq status (pos 3) then drop_held k p 64 (held_by g p) g
+    else if int_eq status (pos 4) then drop_held k p 1 (held_by g p) g
+    else g

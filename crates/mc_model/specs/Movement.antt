@@ -1,12 +1,15 @@
 -- Where a player that moves or looks about comes to be. Rules of this project.
-use Rattle.std.specs.Prelude.{ℕ, true, Option, Some, option_map, if◌then◌else◌}
+use Rattle.std.specs.Prelude.{ℕ, true, Option, option_map, if◌then◌else◌}
 use Rattle.std.specs.Option.{option_and_then}
 use lib.IntN.{ℤ}
 use Rattle.mc_fields.specs.declared.position.Spot.{Spot}
 use Rattle.mc_entities.specs.Shift.{is_inside}
+use Rattle.mc_model.specs.declared.player.Player.{Player}
 use Rattle.mc_model.specs.Numbers.{fixed_of, turn_of}
-use Rattle.mc_model.specs.Things.{standing, with_entity}
-use Rattle.mc_model.specs.World.{World, Session, Player, put, spawn_spot}
+use Rattle.mc_model.specs.Spots.{spawn_spot}
+use Rattle.mc_model.specs.Notes.{Noted}
+use Rattle.mc_model.specs.Game.{Game}
+use Rattle.mc_model.specs.Deeds.{noting, stand_of}
 
 -- f of two values, where both are there
 abbrev pub both : {A B C : Type 0} → (A → B → C) → Option A → Option B → Option C
@@ -24,20 +27,16 @@ abbrev pub turned : Spot → ℕ → ℕ → Option Spot
 turned spot yaw pitch =
     both (λ (about up : ℕ). record spot { yaw = about; pitch = up }) (turn_of yaw) (turn_of pitch)
 
--- where a player comes to be that goes somewhere: out of the range it is put where players enter
-abbrev pub landing : World → Spot → Spot
-landing w spot = if is_inside spot then spot else spawn_spot w.terrain
+-- its place is to be sent to it
+abbrev pub placed_again : Noted → Noted
+placed_again notes = record notes { placing = true }
 
--- and it is told so
-abbrev pub landed : Spot → Player → Player
-landed spot p = if is_inside spot then p else record p { notes = record p.notes { placing = true } }
-
--- the world in which the player of a session went somewhere
-abbrev pub arrived : World → Session → Player → Spot → World
-arrived w s p spot = record (put w (record s { player = Some (landed spot p) })) {
-  things = with_entity p.eid (standing (landing w spot)) w.things;
-}
+-- a player goes somewhere: out of the range it is put where players enter, and it is told so
+abbrev pub arrived : ℕ → Player → Game → Spot → Game
+arrived k p g spot =
+    if is_inside spot then stand_of p spot g
+    else noting placed_again k (stand_of p (spawn_spot g.settings.terrain) g)
 
 -- none where there is no spot
-abbrev pub arrive : World → Session → Player → Option Spot → Option World
-arrive w s p spot = option_map (arrived w s p) spot
+abbrev pub arrive : ℕ → Player → Option Spot → Game → Option Game
+arrive k p spot g = option_map (arrived k p g) spot

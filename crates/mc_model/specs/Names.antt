@@ -2,11 +2,11 @@
 use Rattle.std.specs.Prelude.{ℕ, Bool, ◌&&◌, ◌||◌, ◌==◌, nat_lt, nat_le, List, ◌++◌, length, codes}
 use Rattle.std.specs.List.{list_all}
 use Rattle.std.specs.Int.{from_be_bytes, to_be_bytes, w128}
+use Rattle.uuid.specs.declared.Version.TheVariants.{Md5}
+use Rattle.uuid.specs.declared.Variant.TheVariants.{RFC4122}
 use Rattle.md5.specs.Md5.{md5}
 use Rattle.uuid.specs.Parts.{with_version, with_variant}
 use Rattle.uuid.specs.Text.{hyphenated_text, lower}
-use Rattle.uuid.specs.declared.Version.TheVariants.{Md5}
-use Rattle.uuid.specs.declared.Variant.TheVariants.{RFC4122}
 
 abbrev pub is_between : ℕ → ℕ → ℕ → Bool
 is_between low high n = nat_le low n && nat_le n high

@@ -1,7 +1,21 @@
--- What is noted for a client between two ticks, and sent to it at the next beside the difference. A
--- rule of this project.
-use Rattle.std.specs.Prelude.{Bool, false, List, []}
+-- What is noted for a client between two ticks, and what it is sent for that at the next beside the
+-- difference. Rules of this project.
+use Rattle.std.specs.Prelude.{Bool, false, List, [], ℕ, true, ◌++◌, if◌then◌else◌, ◌+◌, ◌-◌, ◌&&◌}
+use Rattle.std.specs.Prelude.{int_le, ◌∷◌, map, replicate}
+use Rattle.std.specs.List.{filter}
+use Rattle.std.specs.FinMap.{FinMap}
+use lib.IntN.{pos, negsuc}
 use Rattle.mc_fields.specs.declared.position.Cell.{Cell}
+use Rattle.mc_fields.specs.declared.position.Spot.{Spot}
+use Rattle.mc_slots.specs.declared.slot.Slot.TheVariants as slots
+use Rattle.mc_slots.specs.Pile.{slot_of}
+use Rattle.mc_packets.specs.declared.down.Down.{Down}
+use Rattle.mc_packets.specs.declared.down.Down.TheVariants.{Change, SetSlot, WindowItems}
+use Rattle.mc_land.specs.declared.terrain.Terrain.{Terrain}
+use Rattle.mc_land.specs.Places.{Place, key_cmp, place_of}
+use Rattle.mc_windows.specs.Pack.{PackValue}
+use Rattle.mc_model.specs.Things.{state_of_cell}
+use Rattle.mc_model.specs.Opening.{placing}
 
 pub record Noted : Type 0 where
   -- the cells whose states are to be sent to it, in the order in which they were noted
@@ -13,3 +27,39 @@ pub record Noted : Type 0 where
 
 abbrev pub no_notes : Noted
 no_notes = record { cells = []; placing = false; resend = false }
+
+-- the window that it is shown is to be sent to it again
+abbrev pub again : Noted → Noted
+again notes = record notes { resend = true }
+
+-- and cells
+abbrev pub with_cells : List Cell → Noted → Noted
+with_cells cells notes = record notes { cells = notes.cells ++ cells }
+
+-- The window 0 with all slots of it: the first nine are empty, and behind them are those of the
+-- pack. Then what hangs on the cursor, as slot -1 of window -1.
+abbrev pub window_packets : PackValue → List Down
+window_packets pack =
+    WindowItems 0 (replicate 9 slots.Empty ++ map slot_of pack.slots)
+    ∷ SetSlot (negsuc 0) (negsuc 0) (slot_of pack.cursor) ∷ []
+
+-- what was noted beside cells, of a player that is at a spot and carries a pack
+abbrev pub notes_of : Noted → Spot → PackValue → List Down
+notes_of notes spot pack =
+    (if notes.placing then placing spot ∷ [] else [])
+    ++ (if notes.resend then window_packets pack else [])
+
+-- a noted cell that has a position is sent where its column is in view
+abbrev pub is_sent : (Place → Bool) → Cell → Bool
+is_sent seen cell =
+    int_le (negsuc 2047) cell.y
+    && (int_le cell.y (pos 2047) && seen (place_of cell.x cell.z))
+
+-- as it is, in a land of a terrain where some cells are changed
+abbrev pub cell_packet : Terrain → FinMap key_cmp ℕ → Cell → Down
+cell_packet terrain edits cell =
+    Change cell (pos (state_of_cell terrain edits cell.x cell.y cell.z))
+
+abbrev pub noted_packets : Terrain → FinMap key_cmp ℕ → (Place → Bool) → List Cell → List Down
+noted_packets terrain edits seen cells =
+    map (cell_packet terrain edits) (filter (is_sent seen) cells)

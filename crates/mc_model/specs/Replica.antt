@@ -1,9 +1,8 @@
 -- A client's world, made of the packets that it was sent, one after another. What each packet does
 -- is that of the pages 'Protocol', 'SMP Map Format' and 'Entities' of wiki.vg for protocol 47, as
 -- far as it is shown here; every other packet changes nothing.
-use Rattle.std.specs.Prelude.{◌≡◌, ℕ, ◌/◌, ◌%◌, ◌-◌, ◌==◌, ◌&&◌, Bool, true, false, List, []}
-use Rattle.std.specs.Prelude.{◌∷◌, ◌++◌, length}
-use Rattle.std.specs.Prelude.{drop, slice_set, nat_lt, nat_le, int_le, unsigned_abs}
+use Rattle.std.specs.Prelude.{◌≡◌, ℕ, ◌/◌, ◌%◌, ◌-◌, ◌==◌, ◌&&◌, Bool, true, false, List, [], ◌∷◌}
+use Rattle.std.specs.Prelude.{◌++◌, length, drop, slice_set, nat_lt, nat_le, int_le, unsigned_abs}
 use Rattle.std.specs.Prelude.{Option, Some, None, Result, Ok, Err, if◌then◌else◌}
 use Rattle.std.specs.Int.{int_rem_euclid}
 use Rattle.std.specs.List.{fold}
@@ -12,20 +11,17 @@ use Rattle.std.specs.declared.cmp.Ordering.{Ordering}
 use Rattle.std.specs.FinMap.{FinMap, get, insert, remove}
 use lib.IntN.{ℤ, pos, negsuc, ◌+ℤ◌}
 use Rattle.mc_bytes.specs.declared.fault.FieldFault.{FieldFault}
-use Rattle.mc_column.specs.Cells.{ColumnValue, cell_index, empty_column, with_state}
-use Rattle.mc_column.specs.Body.{BodyValue, body_read, put_body}
 use Rattle.mc_fields.specs.declared.position.Spot.{Spot}
-use Rattle.mc_land.specs.Places.{Place, Key, place_cmp, key_of}
 use Rattle.mc_slots.specs.declared.slot.Slot.{Slot}
 use Rattle.mc_slots.specs.declared.slot.Slot.TheVariants as slots
+use Rattle.mc_column.specs.Cells.{ColumnValue, cell_index, empty_column, with_state}
+use Rattle.mc_column.specs.Body.{BodyValue, body_read, put_body}
 use Rattle.mc_packets.specs.declared.down.Down.{Down}
 use Rattle.mc_packets.specs.declared.down.Down.TheVariants.{KeepAlive, JoinGame, Chat, Time, Chunk}
-use Rattle.mc_packets.specs.declared.down.Down.TheVariants.{List as PlayerList}
-use Rattle.mc_packets.specs.declared.down.Down.TheVariants.{MultiChange, Change, SpawnPlayer}
-use Rattle.mc_packets.specs.declared.down.Down.TheVariants.{SpawnObject, Equipment, Destroy}
-use Rattle.mc_packets.specs.declared.down.Down.TheVariants.{Step, Look, StepLook, Teleport}
-use Rattle.mc_packets.specs.declared.down.Down.TheVariants.{HeadLook}
-use Rattle.mc_packets.specs.declared.down.Down.TheVariants.{Meta, SetSlot, WindowItems}
+use Rattle.mc_packets.specs.declared.down.Down.TheVariants.{List as PlayerList, MultiChange, Change}
+use Rattle.mc_packets.specs.declared.down.Down.TheVariants.{SpawnPlayer, SpawnObject, Equipment}
+use Rattle.mc_packets.specs.declared.down.Down.TheVariants.{Destroy, Step, Look, StepLook, Teleport}
+use Rattle.mc_packets.specs.declared.down.Down.TheVariants.{HeadLook, Meta, SetSlot, WindowItems}
 use Rattle.mc_packets.specs.declared.meta.MetaEntry.{MetaEntry}
 use Rattle.mc_packets.specs.declared.meta.MetaValue.{MetaValue}
 use Rattle.mc_packets.specs.declared.meta.MetaValue.TheVariants as values
@@ -33,6 +29,7 @@ use Rattle.mc_packets.specs.declared.player.Player.{Player}
 use Rattle.mc_packets.specs.declared.player.PlayerChange.{PlayerChange}
 use Rattle.mc_packets.specs.declared.player.PlayerChange.TheVariants.{Join, Leave}
 use Rattle.mc_packets.specs.declared.record.Record.{Record}
+use Rattle.mc_land.specs.Places.{Place, Key, place_cmp, key_of}
 use Rattle.mc_model.specs.declared.seen.SeenKind.{SeenKind}
 use Rattle.mc_model.specs.declared.seen.SeenKind.TheVariants as seen_kinds
 use Rattle.mc_model.specs.Sight.{Seen, Sight, nothing_seen}

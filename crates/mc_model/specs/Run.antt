@@ -1,24 +1,36 @@
 -- Runs: what a list of events makes of the world, what was handed to a connection in them, and why
--- it was closed.
-use Rattle.std.specs.Prelude.{ℕ, ◌==◌, ◌&&◌, is_some, take, List, [], ◌∷◌, ◌++◌}
-use Rattle.std.specs.Prelude.{Option, Some, None, if◌then◌else◌}
+-- it was closed. Rules of this project.
+use Rattle.std.specs.Prelude.{ℕ, ◌==◌, ◌&&◌, is_some, take, List, [], ◌∷◌, ◌++◌, Option, Some, None}
+use Rattle.std.specs.Prelude.{if◌then◌else◌}
 use Rattle.std.specs.List.{flat_map, fold}
 use Rattle.std.specs.Option.{option_and_then}
-use Rattle.mc_model.specs.declared.cause.Cause.{Cause}
-use Rattle.mc_model.specs.World.{World, Session, found}
-use Rattle.mc_model.specs.Packets.{Sent, bytes_of}
+use Rattle.std.specs.FinMap.{get}
 use Rattle.mc_bytes.specs.Reading.{IsBytes}
+use Rattle.mc_model.specs.declared.cause.Cause.{Cause}
+use Rattle.mc_model.specs.Packets.{Sent, bytes_of}
 use Rattle.mc_model.specs.Step.{Event, came, left, broke, took, step}
-
--- the world after events
-abbrev pub history : World → List Event → World
-history w events = fold (λ (v : World) (e : Event). (step v e).world) w events
+use Rattle.mc_model.specs.Link.{Link}
+use Rattle.mc_model.specs.World.{World}
 
 -- what one connection was handed in a step
 abbrev pub to : ℕ → List (ℕ × List Sent) → List Sent
 to k out = flat_map (λ (o : ℕ × List Sent). if o.0 == k then o.1 else []) out
 
--- and in all steps
+abbrev pub first_of : Option Cause → Option Cause → Option Cause
+first_of (Some cause) later = Some cause
+first_of None later = later
+
+-- what came are bytes
+abbrev pub AreBytes : List Event → Type 0
+AreBytes [] = Unit {0}
+AreBytes (came k bytes ∷ events) = IsBytes bytes × AreBytes events
+AreBytes (e ∷ events) = AreBytes events
+
+-- the world after events
+abbrev pub history : World → List Event → World
+history w events = fold (λ (v : World) (e : Event). (step v e).world) w events
+
+-- what one connection was handed in all steps
 abbrev pub handed : ℕ → World → List Event → List Sent
 handed k w [] = []
 handed k w (e ∷ events) = to k (step w e).out ++ handed k (step w e).world events
@@ -28,12 +40,12 @@ abbrev pub stream : ℕ → World → List Event → List ℕ
 stream k w events = bytes_of (handed k w events)
 
 -- what a connection is owed
-abbrev pub owed_of : Option Session → List ℕ
+abbrev pub owed_of : Option Link → List ℕ
 owed_of None = []
-owed_of (Some s) = s.owed
+owed_of (Some l) = l.owed
 
 abbrev pub owed_in : ℕ → World → List ℕ
-owed_in k w = owed_of (found k w.sessions)
+owed_in k w = owed_of (get w.links k)
 
 -- what it took: each time the first bytes of what it was owed
 abbrev pub taken_at : ℕ → World → Event → List ℕ
@@ -56,7 +68,7 @@ lost k w (e ∷ events) = lost_at k w e ++ lost k (step w e).world events
 
 -- the bytes that came from a connection while it was there
 abbrev pub received_at : ℕ → World → Event → List ℕ
-received_at k w (came j bytes) = if j == k && is_some (found k w.sessions) then bytes else []
+received_at k w (came j bytes) = if j == k && is_some (get w.links k) then bytes else []
 received_at k w e = []
 
 abbrev pub received : ℕ → World → List Event → List ℕ
@@ -65,19 +77,9 @@ received k w (e ∷ events) = received_at k w e ++ received k (step w e).world e
 
 -- the cause that is kept of a connection
 abbrev pub cause_in : ℕ → World → Option Cause
-cause_in k w = option_and_then (λ (s : Session). s.cause) (found k w.sessions)
-
-abbrev pub first_of : Option Cause → Option Cause → Option Cause
-first_of (Some cause) later = Some cause
-first_of None later = later
+cause_in k w = option_and_then (λ (l : Link). l.cause) (get w.links k)
 
 -- why a connection was closed: the cause that it had after the first step that closed it
 abbrev pub why : ℕ → World → List Event → Option Cause
 why k w [] = None
 why k w (e ∷ events) = first_of (cause_in k (step w e).world) (why k (step w e).world events)
-
--- what came are bytes
-abbrev pub AreBytes : List Event → Type 0
-AreBytes [] = Unit {0}
-AreBytes (came k bytes ∷ events) = IsBytes bytes × AreBytes events
-AreBytes (e ∷ events) = AreBytes events

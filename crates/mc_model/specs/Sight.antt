@@ -1,15 +1,23 @@
 -- What a client can see: the one type of what the server shows to it and of what its replica holds.
-use Rattle.std.specs.Prelude.{ℕ, List, [], replicate, Option, None}
+use Rattle.std.specs.Prelude.{ℕ, List, [], replicate, Option, None, Some}
 use Rattle.std.specs.Ordering.{nat_cmp, int_cmp}
 use Rattle.std.specs.FinMap.{FinMap, empty}
 use lib.IntN.{ℤ}
-use Rattle.mc_column.specs.Cells.{ColumnValue}
 use Rattle.mc_fields.specs.declared.position.Spot.{Spot}
-use Rattle.mc_land.specs.Places.{place_cmp}
 use Rattle.mc_slots.specs.declared.slot.Slot.{Slot}
 use Rattle.mc_slots.specs.declared.slot.Slot.TheVariants as slots
+use Rattle.mc_slots.specs.declared.pile.Pile.TheVariants.{Full}
+use Rattle.mc_slots.specs.Pile.{slot_of}
+use Rattle.mc_column.specs.Cells.{ColumnValue}
+use Rattle.mc_land.specs.Places.{place_cmp}
 use Rattle.mc_windows.specs.Pack.{pack_size}
+use Rattle.mc_entities.specs.declared.entity.Entity.{Entity}
+use Rattle.mc_entities.specs.declared.entity.EntityKind.{EntityKind}
+use Rattle.mc_entities.specs.declared.entity.EntityKind.TheVariants as kinds
+use Rattle.mc_entities.specs.Numbers.{without}
+use Rattle.mc_entities.specs.Folk.{eid_of}
 use Rattle.mc_model.specs.declared.seen.SeenKind.{SeenKind}
+use Rattle.mc_model.specs.declared.seen.SeenKind.TheVariants as seen_kinds
 
 -- an entity: what it is, where it is and looks, where its head looks, and the pile that it holds or
 -- is
@@ -44,3 +52,22 @@ nothing_seen = record {
   pack = replicate pack_size slots.Empty;
   chat = [];
 }
+
+-- all entities but the one of a number
+abbrev pub others : ℤ → List Entity → List Entity
+others eid entities = without eid_of eid entities
+
+-- a player and a dropped item as they are seen; mobs are not seen yet
+abbrev pub seen_as : Entity → EntityKind → Option (ℤ × Seen)
+seen_as e (kinds.Player uuid held) = Some (
+  e.eid,
+  record { kind = seen_kinds.Player uuid; spot = e.spot; head = e.spot.yaw; pile = slot_of held },
+)
+seen_as e (kinds.Dropped item born) = Some (
+  e.eid,
+  record { kind = seen_kinds.Item; spot = e.spot; head = e.spot.yaw; pile = slot_of (Full item) },
+)
+seen_as e kinds.Mob = None
+
+abbrev pub seen_of : Entity → Option (ℤ × Seen)
+seen_of e = seen_as e e.kind

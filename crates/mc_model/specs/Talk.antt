@@ -14,10 +14,10 @@ use Rattle.mc_hello.specs.declared.status_down.StatusDown.TheVariants.{Response,
 use Rattle.mc_hello.specs.declared.login_up.LoginUp.{LoginUp}
 use Rattle.mc_hello.specs.declared.login_up.LoginUp.TheVariants.{Start}
 use Rattle.mc_hello.specs.declared.login_down.LoginDown.TheVariants as login_down
-use Rattle.mc_up.specs.declared.play_up.PlayUp.{PlayUp}
 use Rattle.mc_hello.specs.Hand as hand
 use Rattle.mc_hello.specs.StatusUp as status
 use Rattle.mc_hello.specs.LoginUp as login
+use Rattle.mc_up.specs.declared.play_up.PlayUp.{PlayUp}
 use Rattle.mc_up.specs.PlayUp as play
 use Rattle.mc_packets.specs.declared.down.Down.TheVariants as down
 use Rattle.mc_model.specs.declared.cause.Cause.{Cause}

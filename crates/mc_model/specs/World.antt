@@ -1,229 +1,109 @@
--- The world: what every client is shown a part of, and how far each connection has come. Plain
--- lists and finite maps; no buffer, no mark and no queue is in it. Rules of this project.
-use Rattle.std.specs.Prelude.{ℕ, ◌+◌, ◌*◌, ◌==◌, ◌≤◌, Bool, true, false, List, [], ◌∷◌, ◌++◌}
-use Rattle.std.specs.Prelude.{drop, map, Option, Some, None, option_map, unwrap_or}
-use Rattle.std.specs.Prelude.{if◌then◌else◌}
-use Rattle.std.specs.List.{filter, filter_map}
-use Rattle.std.specs.FinMap.{from_entries}
-use lib.IntN.{ℤ, pos}
-use Rattle.mc_column.specs.Cells.{ColumnValue}
-use Rattle.mc_fields.specs.declared.position.Cell.{Cell}
-use Rattle.mc_fields.specs.declared.position.Spot.{Spot}
-use Rattle.mc_land.specs.declared.terrain.Terrain.{Terrain}
-use Rattle.mc_land.specs.declared.terrain.Terrain.TheVariants.{Flat, Hills, Isle}
-use Rattle.mc_land.specs.Places.{Place}
-use Rattle.mc_land.specs.Terrain.{height}
-use Rattle.mc_land.specs.Land.{states_of, biomes_of}
-use Rattle.mc_slots.specs.declared.pile.Pile.{Pile}
-use Rattle.mc_slots.specs.declared.pile.Pile.TheVariants.{Full}
-use Rattle.mc_slots.specs.Pile.{slot_of}
-use Rattle.mc_windows.specs.Pack.{PackValue}
-use Rattle.mc_entities.specs.declared.entity.Entity.{Entity}
-use Rattle.mc_entities.specs.declared.entity.EntityKind.{EntityKind}
-use Rattle.mc_entities.specs.declared.entity.EntityKind.TheVariants as kinds
-use Rattle.mc_entities.specs.Numbers.{numbered, without}
-use Rattle.mc_entities.specs.Folk.{eid_of}
-use Rattle.mc_view.specs.Views.{view_of, column_of_spot, is_in_view, view_size}
-use Rattle.mc_model.specs.declared.cause.Cause.{Cause}
-use Rattle.mc_model.specs.declared.stage.Stage.{Stage}
-use Rattle.mc_model.specs.declared.stage.Stage.TheVariants as stages
-use Rattle.mc_model.specs.Notes.{Noted}
-use Rattle.mc_model.specs.declared.seen.SeenKind.TheVariants as seen_kinds
-use Rattle.mc_model.specs.Sight.{Seen, Sight, nothing_seen}
-use Rattle.mc_model.specs.Things.{Things, new_things, in_hand, state_of_cell}
-use Rattle.mc_model.specs.Things as things
-use Rattle.mc_model.specs.Ticks.{beat_at, shown_age}
+-- The world: the game and its connections, and what is remembered of these apart from both. A step
+-- of one connection takes its seat, and no world. Rules of this project.
+use Rattle.std.specs.Prelude.{ℕ, Bool, false, List, [], ◌∷◌, Option, Some, None, unwrap_or}
+use Rattle.std.specs.List.{filter}
+use Rattle.std.specs.Ordering.{nat_cmp}
+use Rattle.std.specs.FinMap.{FinMap, empty, get, insert}
+use Rattle.std.specs.FinMap as finmap
+use Rattle.mc_model.specs.declared.settings.Settings.{Settings}
+use Rattle.mc_model.specs.Packets.{Sent}
+use Rattle.mc_model.specs.Sight.{Sight}
+use Rattle.mc_model.specs.Stages.{is_closed}
+use Rattle.mc_model.specs.Maps.{map_keyed}
+use Rattle.mc_model.specs.Game.{Game, new_game}
+use Rattle.mc_model.specs.Leaving.{leave_all}
+use Rattle.mc_model.specs.Link.{Handing, Link}
 
--- one player, in play
-pub record Player : Type 0 where
-  pub name : List ℕ
-  pub uuid : ℕ
-  -- its entity number
-  pub eid : ℕ
-  -- the size of view that it asked for, as its packet has it
-  pub view_byte : ℤ
-  -- the place of the hotbar that its hand is on, from 0 to 8
-  pub hand : ℕ
-  -- how many beats it left without an answer
-  pub missed : ℕ
-  -- what was said since it joined, as texts, up to the last tick; and how many of the lines that
-  -- came then had been said before it joined
-  pub chat : List (List ℕ)
-  pub since : ℕ
-  pub notes : Noted
-  -- what it was shown at the last tick, none before its first
-  pub shown : Option Sight
-
--- one connection
-pub record Session : Type 0 where
-  -- the number that it joined under
-  pub id : ℕ
-  pub stage : Stage
-  -- the bytes that came and were not read, since they are no whole frame yet, and how many came
-  -- before them
+-- the bytes of a connection that came and were not read, since they are no whole frame yet, and how
+-- many came before them
+pub record Unread : Type 0 where
   pub rest : List ℕ
   pub before : ℕ
-  -- the protocol that its handshake named
-  pub protocol : ℤ
-  -- its player, exactly while it is in play
-  pub player : Option Player
-  -- why it was closed
-  pub cause : Option Cause
-  -- the bytes that were handed out to it and that it has not taken
-  pub owed : List ℕ
+
+abbrev pub nothing_unread : Unread
+nothing_unread = record { rest = []; before = 0 }
 
 pub record World : Type 0 where
-  -- the ticks that came
-  pub age : ℕ
-  pub terrain : Terrain
-  pub things : Things
-  -- what was said since the last tick, as texts
-  pub lines : List (List ℕ)
-  -- how many players may be in play, and how large a view may be
-  pub most : ℕ
-  pub cap : ℕ
+  pub game : Game
+  -- the connections, each under the number that it joined with
+  pub links : FinMap nat_cmp Link
+  -- what of each is not read, where anything came of it
+  pub unread : FinMap nat_cmp Unread
+  -- what each was shown at the last tick, where it was shown anything
+  pub shown : FinMap nat_cmp Sight
   -- the number of the last join
   pub last : Option ℕ
-  -- in the order in which they joined
-  pub sessions : List Session
 
--- the numbers that a world can begin with
-pub record AreSettings (most cap : ℕ) : Type 0 where
-  pub some : 1 ≤ most
-  pub few : most ≤ 50
-  pub wide : 2 ≤ cap
-  pub near : cap ≤ 8
-
-abbrev pub new_world : ℕ → ℕ → Terrain → World
-new_world most cap terrain = record {
-  age = 0;
-  terrain = terrain;
-  things = new_things;
-  lines = [];
-  most = most;
-  cap = cap;
+abbrev pub new_world : Settings → World
+new_world settings = record {
+  game = new_game settings;
+  links = empty;
+  unread = empty;
+  shown = empty;
   last = None;
-  sessions = [];
 }
 
--- ---- sessions
+-- ---- one connection
 
-abbrev pub is_play : Stage → Bool
-is_play stages.Play = true
-is_play other = false
+-- all that a step of one connection reads and changes
+pub record Seat : Type 0 where
+  pub game : Game
+  pub link : Link
+  pub unread : Unread
 
-abbrev pub is_closed : Stage → Bool
-is_closed stages.Closed = true
-is_closed other = false
+-- what a step makes of it, and what it hands out
+pub record Turn : Type 0 where
+  pub seat : Seat
+  pub handed : List Sent
 
--- those in play
-abbrev pub players : World → List Player
-players w = filter_map (λ (s : Session). s.player) w.sessions
+-- the world after an event, and what was handed out, to whom
+pub record Outcome : Type 0 where
+  pub world : World
+  pub out : List (ℕ × List Sent)
 
-abbrev pub found : ℕ → List Session → Option Session
-found k [] = None
-found k (s ∷ sessions) = if s.id == k then Some s else found k sessions
+abbrev pub silent : World → Outcome
+silent w = record { world = w; out = [] }
 
--- another session in the place of that of the same number
-abbrev pub put : World → Session → World
-put w s = record w { sessions = map (λ (t : Session). if t.id == s.id then s else t) w.sessions }
+abbrev pub unread_of : ℕ → World → Unread
+unread_of k w = unwrap_or (get w.unread k) nothing_unread
 
--- ---- players
+-- the seat of a connection, and the world with another there
+abbrev pub seat_of : World → ℕ → Link → Seat
+seat_of w k l = record { game = w.game; link = l; unread = unread_of k w }
 
--- how high the ground of a world is where players enter
-abbrev pub spawn_height : Terrain → ℕ
-spawn_height Flat = 4
-spawn_height (Hills seed) = height seed (pos 8) (pos 8) + 1
-spawn_height Isle = 64
-
--- where players enter: the middle of the column (0, 0)
-abbrev pub spawn_spot : Terrain → Spot
-spawn_spot terrain = record {
-  x = pos 272;
-  y = pos (32 * spawn_height terrain);
-  z = pos 272;
-  yaw = 0;
-  pitch = 0;
+abbrev pub with_seat : World → ℕ → Seat → World
+with_seat w k s = record w {
+  game = s.game;
+  links = insert w.links k s.link;
+  unread = insert w.unread k s.unread;
 }
 
--- where an entity of a number is, and how it looks
-abbrev pub spot_in : Terrain → List Entity → ℕ → Spot
-spot_in terrain entities eid =
-    unwrap_or (option_map (λ (e : Entity). e.spot) (numbered eid_of (pos eid) entities))
-    (spawn_spot terrain)
+abbrev pub seated : World → ℕ → Turn → Outcome
+seated w k t = record { world = with_seat w k t.seat; out = (k, t.handed) ∷ [] }
 
--- where a player is, and how it looks, as its entity does: all that asks for it asks here
-abbrev pub spot_of : World → Player → Spot
-spot_of w p = spot_in w.terrain w.things.entities p.eid
+abbrev pub on_link : World → ℕ → (Seat → Turn) → Option Link → Outcome
+on_link w k f None = silent w
+on_link w k f (Some l) = seated w k (f (seat_of w k l))
 
--- what it carries, and what it has in its hand
-abbrev pub pack_of : World → Player → PackValue
-pack_of w p = things.pack_of p.name w.things.packs
+-- a step of a connection, where it is there
+abbrev pub on_seat : World → ℕ → (Seat → Turn) → Outcome
+on_seat w k f = on_link w k f (get w.links k)
 
-abbrev pub held_by : World → Player → Pile
-held_by w p = in_hand (pack_of w p) p.hand
+-- ---- all connections
 
--- the state of a cell
-abbrev pub state_in : World → Cell → ℕ
-state_in w cell = state_of_cell w.terrain w.things.edits cell.x cell.y cell.z
+-- whether a connection is closed by what it is made
+abbrev pub is_closing : (ℕ → Link → Handing) → ℕ → Option Link → Bool
+is_closing f k None = false
+is_closing f k (Some l) = is_closed (f k l).link.stage
 
--- what it was shown at the last tick
-abbrev pub last_shown : Player → Sight
-last_shown p = unwrap_or p.shown nothing_seen
+-- the players in play whose connections are
+abbrev pub closed_by : (ℕ → Link → Handing) → World → List ℕ
+closed_by f w = filter (λ (k : ℕ). is_closing f k (get w.links k)) (finmap.keys w.game.players)
 
--- all that was said since it joined
-abbrev pub heard_by : World → Player → List (List ℕ)
-heard_by w p = p.chat ++ drop p.since w.lines
-
--- ---- what a player is to be shown
-
-abbrev pub column_in : World → Place → ColumnValue
-column_in w place = record {
-  states = states_of w.terrain w.things.edits place;
-  biomes = biomes_of w.terrain place;
-}
-
--- the columns of its view
-abbrev pub view_in : World → Player → List Place
-view_in w p = view_of (column_of_spot (spot_of w p)) (view_size w.cap p.view_byte)
-
--- whether a column is one of them
-abbrev pub sees : World → Player → Place → Bool
-sees w p place = is_in_view (column_of_spot (spot_of w p)) (view_size w.cap p.view_byte) place
-
--- an entity stands in one of them
-abbrev pub is_in_sight : World → Player → Entity → Bool
-is_in_sight w p e = sees w p (column_of_spot e.spot)
-
--- all entities but the one of a number
-abbrev pub others : ℤ → List Entity → List Entity
-others eid entities = without eid_of eid entities
-
--- a player and a dropped item as they are seen; mobs are not seen yet
-abbrev pub seen_as : Entity → EntityKind → Option (ℤ × Seen)
-seen_as e (kinds.Player uuid held) = Some (
-  e.eid,
-  record { kind = seen_kinds.Player uuid; spot = e.spot; head = e.spot.yaw; pile = slot_of held },
-)
-seen_as e (kinds.Dropped item born) = Some (
-  e.eid,
-  record { kind = seen_kinds.Item; spot = e.spot; head = e.spot.yaw; pile = slot_of (Full item) },
-)
-seen_as e kinds.Mob = None
-
-abbrev pub seen_of : Entity → Option (ℤ × Seen)
-seen_of e = seen_as e e.kind
-
--- the beat and the age, the players in play, the columns of its view as they are, the entities in
--- it but its own, its pack, and what was said since it joined
-unfoldable pub project : World → Player → Sight
-project w p = record {
-  beat = Some (pos (beat_at w.age));
-  age = Some (pos (shown_age w.age));
-  pairs = from_entries (map (λ (other : Player). (other.uuid, other.name)) (players w));
-  columns = from_entries (map (λ place. (place, column_in w place)) (view_in w p));
-  entities = from_entries (filter_map seen_of
-      (filter (is_in_sight w p) (others (pos p.eid) w.things.entities)));
-  pack = map slot_of (pack_of w p).slots;
-  chat = heard_by w p;
+-- The world after each connection was handed something, all of one world: the players leave of
+-- those that were closed by it, in the order of their connections.
+unfoldable pub each : (ℕ → Link → Handing) → World → World
+each f w = record w {
+  game = leave_all (closed_by f w) w.game;
+  links = map_keyed (λ (k : ℕ) (l : Link). (f k l).link) w.links;
 }

@@ -1,25 +1,30 @@
-//! The definitions of the whole: the world, what each client is shown of it, and what every event
-//! makes of both.
+//! The definitions of the whole: the game and its connections, what each client is shown, and what
+//! every event makes of all.
 //!
-//! Stands on the packets, frames, columns and the land, whose definitions its own are made of. Its
-//! one contract: the laws of those definitions. For every list of events, what a client in play was
-//! handed decodes to packets whose fold shows it the world in its view after each tick.
+//! Stands on the packets, frames, columns and the land, whose definitions its own are made of. It
+//! has the types of these definitions, and the calls that need no more than a value of them; what
+//! holds of every list of events is proved in `mc_laws`.
 #![tactic(auto)]
 
 mod cause;
-mod laws;
+mod eid;
 mod name;
 mod notes;
+mod player;
 mod seen;
+mod settings;
 mod spawn;
 mod stage;
 mod ticks;
 mod wish;
 
 pub use cause::{Cause, Refusal};
+pub use eid::Eid;
 pub use name::Name;
 pub use notes::Notes;
+pub use player::Player;
 pub use seen::{DESTROYED_MAX, SeenKind};
+pub use settings::Settings;
 pub use spawn::{level, spawn_height, spawn_spot};
 pub use stage::Stage;
 pub use ticks::{

@@ -1,6 +1,6 @@
 ghost use Rattle.std.specs.Prelude.{◌≡◌, ◌≤◌, IfOk};
-ghost use Rattle.mc_model.specs.Step.{level};
-ghost use Rattle.mc_model.specs.World.{spawn_height, spawn_spot};
+ghost use Rattle.mc_model.specs.Opening.{level};
+ghost use Rattle.mc_model.specs.Spots.{spawn_height, spawn_spot};
 
 use mc_bytes::{NoMemory, Text};
 use mc_fields::Spot;

@@ -1,6 +1,5 @@
 -- What dropping comes to, by what the code looks at.
-use Rattle.std.proofs.Common.{◌≡◌, ℕ, zero, suc, ◌<◌, Bool, true, refl, sym, ap, arith}
-use Rattle.std.proofs.Common.{◌∙◌}
+use Rattle.std.proofs.Common.{◌≡◌, ℕ, zero, suc, ◌<◌, Bool, true, refl, sym, ap, arith, ◌∙◌}
 use Rattle.std.proofs.lemmas.Bool.Decides.{nat_tests}
 use Rattle.std.specs.Prelude.{◌-◌, min, nat_lt, Option, Some, None, if◌then◌else◌}
 use Rattle.std.specs.FinMap.{get}
@@ -10,15 +9,15 @@ use Rattle.mc_slots.specs.declared.pile.Pile.{Pile}
 use Rattle.mc_slots.specs.declared.pile.Pile.TheVariants.{Empty, Full}
 use Rattle.mc_slots.specs.Pile.{IsPile, count_of, part, pile_of, without}
 use Rattle.mc_entities.specs.declared.entity.TheConstants.{DROPPED_MAX, EID_MAX}
-use Rattle.mc_model.specs.Packs.{again}
-use Rattle.mc_model.specs.Things.{in_hand, new_things, with_hand}
+use Rattle.mc_model.specs.Notes.{again}
+use Rattle.mc_model.specs.Things.{in_hand, with_hand}
 use Rattle.mc_model.proofs.ThingsKept.{dropped_held}
-use Rattle.mc_game.specs.declared.player.Player.{Player}
-use Rattle.mc_game.specs.Game.{Game, held_by, pack_of, room_in}
-use Rattle.mc_game.specs.Deeds.{noting, thrown}
-use Rattle.mc_game.specs.Digging.{drop_held, dropped, feet_of}
-use Rattle.mc_game.specs.Hands.{carrying}
-use Rattle.mc_game.specs.Leaving.{of_player}
+use Rattle.mc_model.specs.declared.player.Player.{Player}
+use Rattle.mc_model.specs.Game.{Game, held_by, pack_of, room_in}
+use Rattle.mc_model.specs.Deeds.{noting, thrown}
+use Rattle.mc_model.specs.Digging.{drop_held, dropped, feet_of}
+use Rattle.mc_model.specs.Hands.{carrying}
+use Rattle.mc_model.specs.Leaving.{of_player}
 use Rattle.mc_play.specs.Kept.{GameValue, by_player, played}
 
 -- ---- the player of a connection
@@ -57,7 +56,7 @@ carry_room k pile g = go (get g.players k)
     go None = refl
     go (Some p) =
         let same = dropped_held p.eid (in_hand (with_hand pile p.hand (pack_of g p)) p.hand)
-        (record new_things { entities = g.entities }) in
+        g.entities in
         ap (λ (n : ℕ). min (DROPPED_MAX - n) (EID_MAX - g.eids)) same
 
 -- so there is room then, if there was before

@@ -1,24 +1,14 @@
 -- A player holds another pile: the entity of its number alone changes, since numbers rise.
-use Rattle.std.proofs.Common.{◌≡◌, ℕ, List, [], ◌∷◌, true, false, refl}
-use Rattle.std.proofs.Common.{arith, ℤ, pos, ◌≤ℤ◌}
+use Rattle.std.proofs.Common.{◌≡◌, ℕ, List, [], ◌∷◌, refl, arith, ℤ, pos, ◌≤ℤ◌}
 use Rattle.std.specs.Prelude.{Some, None}
-use Rattle.std.specs.Option.{IfSome}
-use Rattle.std.specs.Ordering.{int_eq}
 use Rattle.std.proofs.lemmas.Bool.Decides.{nat_tests}
 use Rattle.mc_slots.specs.declared.pile.Pile.{Pile}
 use Rattle.mc_entities.specs.declared.entity.Entity.{Entity}
 use Rattle.mc_entities.specs.declared.entity.EntityKind.{EntityKind}
 use Rattle.mc_entities.specs.declared.entity.EntityKind.TheVariants as kinds
-use Rattle.mc_entities.specs.Kinds.{are_alike}
 use Rattle.mc_entities.specs.Numbers.{Rise, changed, numbered}
 use Rattle.mc_entities.specs.Folk.{FolkState, eid_of, entity_of, with_entity, with_kind}
 use Rattle.mc_model.specs.Things.{hand_of, holding}
-
--- ---- the one of a number
-
--- numbers that differ
-pub int_other : (a b : ℤ) → (a ≡ b → ⊥) → int_eq a b ≡ false
-int_other a b ne = grind (arith, nat_tests)
 
 -- those above a number stay
 changed_above : (n low high : ℤ) (f : Entity → Entity) (es : List Entity) →
@@ -54,12 +44,6 @@ pub holds_alike : (eid : ℤ) (state : FolkState) (e : Entity) (uuid : ℕ) (hel
     e.kind ≡ kinds.Player uuid held →
     with_kind eid (kinds.Player uuid pile) state ≡ with_entity eid (holding pile) state
 holds_alike eid state e uuid held pile rise found is = grind (arith, nat_tests, changed_alike)
-
--- and it was a player before
-pub player_alike : (eid : ℤ) (state : FolkState) (e : Entity) (uuid : ℕ) (held pile : Pile) →
-    entity_of eid state ≡ Some e → e.kind ≡ kinds.Player uuid held →
-    IfSome (entity_of eid state) (λ x. are_alike x.kind (kinds.Player uuid pile) ≡ true)
-player_alike eid state e uuid held pile found is = grind (arith, nat_tests)
 
 -- no one else holds anything
 pub holds_none : (eid : ℤ) (pile : Pile) (state : FolkState) → entity_of eid state ≡ None →

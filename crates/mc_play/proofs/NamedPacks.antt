@@ -1,8 +1,8 @@
 -- Packs by names: looking one up, another pack under a name, and a name that is new, among the
 -- strings that a server keeps.
 use Rattle.std.proofs.Common.{◌≡◌, ◌+◌, Bool, true, false, cond, List, [], ◌∷◌, ◌++◌, length}
-use Rattle.std.proofs.Common.{Option, Some, None, refl, sym, ap, ◌∙◌, ℕ, arith, is_some}
-use Rattle.std.proofs.Common.{option_map, unwrap_or, Bor}
+use Rattle.std.proofs.Common.{Option, Some, None, refl, sym, ap, ◌∙◌, ℕ, arith, is_some, option_map}
+use Rattle.std.proofs.Common.{unwrap_or, Bor}
 use Rattle.std.specs.Option.{option_copied}
 use Rattle.indexmap.specs.IndexMap.{insert_entry}
 use Rattle.indexmap.proofs.MapLemmas.{absent_from_lookup, insert_entry-absent}
@@ -10,9 +10,9 @@ use Rattle.std.proofs.lemmas.Bool.Decides.{nat_tests}
 use Rattle.std.specs.Ordering.{eq_by_cmp}
 use Rattle.std.proofs.lemmas.Cmp.{nat_list_cmp_total}
 use Rattle.std.proofs.lemmas.Map.Text.{is_eq-slice_cmp}
-use Rattle.std.specs.FinMap.{FinMap, find, get, get-from_entries, get-insert, insert}
-use Rattle.std.specs.FinMap.{same_map, slice_cmp-IsAntisymmetric, nat_cmp-IsAntisymmetric}
-use Rattle.std.specs.FinMap.{IsAntisymmetric, get-empty, len, len-empty, len-insert}
+use Rattle.std.specs.FinMap.{FinMap, find, get, get-from_entries, get-insert, insert, same_map}
+use Rattle.std.specs.FinMap.{slice_cmp-IsAntisymmetric, nat_cmp-IsAntisymmetric, IsAntisymmetric}
+use Rattle.std.specs.FinMap.{get-empty, len, len-empty, len-insert}
 use Rattle.std.specs.List.{AllByRecursion, IsDistinct}
 use Rattle.std.proofs.lemmas.Map.Keys.{IsDistinct-head, IsDistinct-tail}
 use Rattle.std.specs.Map.{keys_of, lookup, set_value}
@@ -22,7 +22,7 @@ use Rattle.std.specs.declared.string.String.{String}
 use Rattle.std.specs.String.{string_bytes, string_eq}
 use Rattle.std.proofs.lemmas.Slice.Eq.{bytes_eq-Decides}
 use Rattle.mc_windows.specs.Pack.{PackValue}
-use Rattle.mc_game.specs.Maps.{modify, name_cmp, with_value}
+use Rattle.mc_model.specs.Maps.{modify, name_cmp, with_value}
 use Rattle.mc_play.specs.Named.{named, packs_of}
 
 abbrev Entries : Type 0

@@ -1,45 +1,15 @@
 -- Each entity stands where a column can be shown: whatever becomes of the entities keeps that.
-use Rattle.std.proofs.Common.{◌≡◌, ℕ, ◌≤ℤ◌, true, List, [], ◌∷◌}
-use Rattle.std.proofs.Common.{ℤ, pos, negsuc}
+use Rattle.std.proofs.Common.{◌≡◌, true, List, [], ◌∷◌, ℤ, arith, false}
 use Rattle.std.specs.Prelude.{Some, if◌then◌else◌}
-use Rattle.std.proofs.Common.{arith, false}
 use Rattle.std.proofs.lemmas.Bool.Decides.{nat_tests}
-use Rattle.std.proofs.lemmas.Int.{ints}
-use Rattle.mc_model.proofs.FitsText.{both_true}
 use Rattle.std.specs.Ordering.{int_eq}
 use Rattle.mc_fields.specs.declared.position.Spot.{Spot}
-use Rattle.mc_land.specs.declared.terrain.Terrain.{Terrain}
 use Rattle.mc_entities.specs.declared.entity.Entity.{Entity}
 use Rattle.mc_entities.specs.declared.entity.EntityKind.{EntityKind}
 use Rattle.mc_entities.specs.Numbers.{numbered}
-use Rattle.mc_entities.specs.Folk.{FolkState, eid_of, placed, removed, spawned, with_kind}
-use Rattle.mc_entities.specs.Shift.{is_between, is_inside}
-use Rattle.mc_model.specs.World.{spawn_spot, spot_in}
-use Rattle.mc_model.proofs.AllFacts.{all_filtered, all_joined, all_mapped}
-use Rattle.mc_model.proofs.ThingFacts.{spawn_low}
+use Rattle.mc_entities.specs.Folk.{FolkState, eid_of, placed, removed, with_kind}
+use Rattle.mc_model.proofs.AllFacts.{all_filtered, all_mapped}
 use Rattle.mc_play.specs.Kept.{AreNear, IsNear}
-
--- ---- spots
-
--- the place where players enter
-pub spawn_near : (terrain : Terrain) → IsNear (spawn_spot terrain)
-spawn_near terrain = grind (arith, nat_tests, ints, spawn_low)
-
--- a number between two others
-ends : (low high : ℕ) (n : ℤ) → is_between (negsuc low) (pos high) n ≡ true →
-    (negsuc low ≤ℤ n) × (n ≤ℤ pos high)
-ends low high n is = grind (arith, nat_tests)
-
--- a spot within the range of entities
-pub inside_near : (spot : Spot) → is_inside spot ≡ true → IsNear spot
-inside_near spot is = grind (arith, nat_tests, both_true, ends, ints)
-
--- ---- entities
-
--- one more, at such a spot
-pub spawned_near : (kind : EntityKind) (spot : Spot) (state : FolkState) → IsNear spot →
-    AreNear state.entities → AreNear (spawned kind spot state).entities
-spawned_near kind spot state there all = grind (arith, nat_tests, all_joined)
 
 -- one less
 pub removed_near : (eid : ℤ) (state : FolkState) → AreNear state.entities →
@@ -72,9 +42,3 @@ pub numbered_near : (eid : ℤ) (entities : List Entity) (e : Entity) → AreNea
 numbered_near eid [] e all is = absurd cc
 numbered_near eid (x ∷ entities) e all is =
     grind (arith, nat_tests, numbered_near eid entities e all.1)
-
--- where the one of a number is, or players enter
-pub spot_near : (terrain : Terrain) (entities : List Entity) (eid : ℕ) → AreNear entities →
-    IsNear (spot_in terrain entities eid)
-spot_near terrain entities eid all =
-    grind (arith, nat_tests, spawn_near terrain, numbered_near (pos eid) entities)

@@ -1,6 +1,6 @@
 -- What an answer to an act says. Rules of this project.
 use Rattle.std.specs.Prelude.{◌≡◌, Option, Some, None, Result, Ok, Err}
-use Rattle.mc_game.specs.Game.{Game}
+use Rattle.mc_model.specs.Game.{Game}
 use Rattle.mc_play.specs.declared.game.acts.ActFault.{ActFault}
 use Rattle.mc_play.specs.declared.game.acts.ActFault.TheVariants as faults
 use Rattle.mc_play.specs.Kept.{GameValue, played}

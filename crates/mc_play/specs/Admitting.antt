@@ -4,7 +4,7 @@ use Rattle.std.specs.Prelude.{Result, Ok, Err}
 use Rattle.std.specs.FinMap.{len}
 use Rattle.mc_entities.specs.declared.entity.TheConstants.{EID_MAX}
 use Rattle.mc_model.specs.declared.cause.Refusal.{Refusal}
-use Rattle.mc_game.specs.Game.{Game, is_known}
+use Rattle.mc_model.specs.Game.{Game, is_known}
 
 -- one more may play: fewer are in play than may be, a number of an entity is left, and the name was
 -- in play before or one more may be

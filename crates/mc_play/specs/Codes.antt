@@ -1,8 +1,7 @@
 -- How what is kept of a game is stored where a model has it in a field.
 use Rattle.std.specs.Prelude.{◌≡◌, ℕ, List, Bool, true, false, Option, Some, None, refl}
 use Rattle.std.specs.Ordering.{nat_cmp}
-use Rattle.std.specs.Coded.{Coded, code_by, coded×, coded_ℕ, coded_ℤ, coded_list}
-use Rattle.std.specs.Coded.{coded_option}
+use Rattle.std.specs.Coded.{Coded, code_by, coded×, coded_ℕ, coded_ℤ, coded_list, coded_option}
 use Rattle.std.specs.FinMap.{FinMap, code}
 use lib.IntN.{ℤ}
 use Rattle.mc_fields.specs.declared.position.Cell.{Cell}
@@ -12,8 +11,8 @@ use Rattle.mc_slots.specs.declared.pile.Pile.{Pile}
 use Rattle.mc_slots.specs.PileCode.{coded_pile}
 use Rattle.mc_windows.specs.Pack.{PackValue}
 use Rattle.mc_model.specs.Notes.{Noted}
-use Rattle.mc_game.specs.Maps.{name_cmp}
-use Rattle.mc_game.specs.declared.player.Player.{Player}
+use Rattle.mc_model.specs.Maps.{name_cmp}
+use Rattle.mc_model.specs.declared.player.Player.{Player}
 
 abbrev pub coded_cell : Coded Cell
 coded_cell =

@@ -14,11 +14,11 @@ use Rattle.mc_slots.specs.declared.pile.Pile.{Pile}
 use Rattle.mc_windows.specs.Pack.{PackValue}
 use Rattle.mc_entities.specs.declared.entity.Entity.{Entity}
 use Rattle.mc_entities.specs.Folk.{FolkValue}
-use Rattle.mc_game.specs.declared.player.Player.{Player}
-use Rattle.mc_game.specs.declared.settings.Settings.{Settings}
-use Rattle.mc_game.specs.Maps.{name_cmp}
-use Rattle.mc_game.specs.Game.{Game, new_game}
-use Rattle.mc_game.specs.Leaving.{of_player}
+use Rattle.mc_model.specs.declared.player.Player.{Player}
+use Rattle.mc_model.specs.declared.settings.Settings.{Settings}
+use Rattle.mc_model.specs.Maps.{name_cmp}
+use Rattle.mc_model.specs.Game.{Game, new_game}
+use Rattle.mc_model.specs.Leaving.{of_player}
 
 -- ---- parts
 
@@ -48,8 +48,8 @@ AreStates edits = (key : Key) (state : ℕ) → get edits key ≡ Some state →
 
 -- ---- the game
 
--- the piles of chests, the columns that are ready to be looked at, where each entity was at the last
--- settling, and for how many more there are places
+-- the piles of chests, the columns that are ready to be looked at, where each entity was at the
+-- last settling, and for how many more there are places
 pub record Aside : Type 0 where
   pub chests : FinMap key_cmp (List Pile)
   pub ready : set.FinSet place_cmp

@@ -5,7 +5,7 @@ use Rattle.std.specs.declared.alloc.Global.{Global}
 use Rattle.std.specs.declared.string.String.{String}
 use Rattle.std.specs.String.{string_bytes}
 use Rattle.mc_windows.specs.Pack.{PackValue}
-use Rattle.mc_game.specs.Maps.{name_cmp}
+use Rattle.mc_model.specs.Maps.{name_cmp}
 
 abbrev pub named : List (String Global × PackValue) → List (List ℕ × PackValue)
 named entries = map (λ (e : String Global × PackValue). (string_bytes e.0, e.1)) entries

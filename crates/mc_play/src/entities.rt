@@ -1,5 +1,5 @@
-ghost use Rattle.std.specs.Prelude.{◌≡◌, ◌≤◌, ◌<◌, ◌+◌, None, IfOk, IfSome, OnErr, OnOk};
-ghost use Rattle.std.specs.Prelude.{nat_lt, true};
+ghost use Rattle.std.specs.Prelude.{◌≡◌, ◌≤◌, ◌<◌, ◌+◌, None, IfOk, IfSome, OnErr, OnOk, nat_lt};
+ghost use Rattle.std.specs.Prelude.{true};
 ghost use lib.IntN.{pos};
 ghost use Rattle.mc_slots.specs.Pile.{IsItem, IsPile};
 ghost use Rattle.mc_slots.specs.declared.pile.Pile as piles;
@@ -9,7 +9,7 @@ ghost use Rattle.mc_entities.specs.Folk.{entity_of, new_state, placed, removed, 
 ghost use Rattle.mc_entities.specs.Folk.{spawned, with_entity, with_kind};
 ghost use Rattle.mc_entities.specs.Kinds.{are_alike};
 ghost use Rattle.mc_model.specs.Things.{holding};
-ghost use Rattle.mc_model.specs.World.{spot_in};
+ghost use Rattle.mc_model.specs.Spots.{spot_in};
 ghost use Rattle.mc_play.specs.Kept.{AreNear, IsNear};
 
 mod fields;
@@ -17,9 +17,8 @@ mod fields;
 use mc_bytes::NoMemory;
 use mc_entities::{EntityKind, Folk};
 use mc_fields::Spot;
-use mc_game::Eid;
 use mc_land::Terrain;
-use mc_model::spawn_spot;
+use mc_model::{Eid, spawn_spot};
 use mc_slots::{Item, Pile};
 use std::alloc::Global;
 use std::marker::Model;

@@ -1,7 +1,6 @@
 ghost use Rattle.std.specs.Prelude.{◌≡◌, ◌≤◌, IfOk};
 ghost use Rattle.std.specs.FinMap.{len};
-ghost use Rattle.mc_model.specs.World.{AreSettings};
-ghost use Rattle.mc_game.specs.Game.{pack_named, pack_of, spot_of};
+ghost use Rattle.mc_model.specs.Game.{AreSettings, pack_named, pack_of, spot_of};
 ghost use Rattle.mc_play.specs.Kept.{AreNear, IsNear, land_of, new_value};
 
 mod acts;
@@ -23,8 +22,8 @@ pub use acts::ActFault;
 use mc_bytes::{NoMemory, Text};
 use mc_entities::Folk;
 use mc_fields::Spot;
-use mc_game::{Player, Settings};
 use mc_land::{Land, Terrain};
+use mc_model::{Player, Settings};
 use mc_windows::{Pack, kit};
 use std::alloc::Global;
 use std::marker::Model;

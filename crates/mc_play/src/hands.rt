@@ -2,7 +2,7 @@
 
 ghost use Rattle.std.specs.Prelude.{◌≡◌};
 ghost use Rattle.mc_slots.specs.Pile.{IsPile};
-ghost use Rattle.mc_model.specs.Packs.{place_of_hotbar};
+ghost use Rattle.mc_model.specs.Hands.{place_of_hotbar};
 ghost use Rattle.mc_model.specs.Things.{in_hand, with_hand};
 
 use mc_slots::Pile;

@@ -1,7 +1,7 @@
 //! The game as a server keeps it: the land, the entities, who is in play, and what each name
 //! carries.
 //!
-//! Stands on the definitions of `mc_game`. Its one contract: each call makes of what is kept
+//! Stands on the definitions of `mc_model`. Its one contract: each call makes of what is kept
 //! exactly what the definition makes of the game that it stands for.
 #![tactic(auto)]
 

@@ -1,5 +1,5 @@
 ghost use Rattle.std.specs.Prelude.{◌≡◌, ◌≤◌};
-ghost use Rattle.mc_model.specs.World.{AreSettings};
+ghost use Rattle.mc_model.specs.Game.{AreSettings};
 
 mod fields;
 
@@ -14,7 +14,7 @@ pub struct Limits {
 }
 
 impl Model for Limits {
-    ghost use Rattle.mc_model.specs.World.{AreSettings};
+    ghost use Rattle.mc_model.specs.Game.{AreSettings};
     ghost use Rattle.mc_play.specs.Kept.{LimitsValue};
 
     ghost Value = { LimitsValue };

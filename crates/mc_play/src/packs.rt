@@ -2,7 +2,7 @@ ghost use Rattle.std.specs.Prelude.{◌≡◌, OnErr, OnOk, unwrap_or};
 ghost use Rattle.std.specs.Option.{option_copied};
 ghost use Rattle.std.specs.FinMap.{empty, get, insert, len};
 ghost use Rattle.mc_windows.specs.Pack.{PackValue, kit_pack};
-ghost use Rattle.mc_game.specs.Maps.{modify};
+ghost use Rattle.mc_model.specs.Maps.{modify};
 
 mod fields;
 
@@ -22,7 +22,7 @@ pub struct Packs {
 impl Model for Packs {
     ghost use Rattle.std.specs.FinMap.{FinMap};
     ghost use Rattle.mc_windows.specs.Pack.{PackValue};
-    ghost use Rattle.mc_game.specs.Maps.{name_cmp};
+    ghost use Rattle.mc_model.specs.Maps.{name_cmp};
     ghost use Rattle.mc_play.specs.Codes.{coded_packs};
     ghost use Rattle.mc_play.specs.Named.{packs_of};
 

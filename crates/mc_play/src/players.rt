@@ -4,18 +4,18 @@ ghost use Rattle.std.specs.Option.{option_copied, option_copied_mut};
 ghost use Rattle.std.specs.BTreeMap as tree;
 ghost use Rattle.std.specs.Map.Iter.{ShowsInOrder, deref};
 ghost use Rattle.std.specs.FinMap.{empty, get, insert, len, remove, values};
-ghost use Rattle.mc_model.specs.Packs.{again, with_cells};
+ghost use Rattle.mc_model.specs.Notes.{again, with_cells};
 ghost use Rattle.mc_model.specs.Placing.{placing_refused};
-ghost use Rattle.mc_game.specs.Maps.{map_keyed, modify};
-ghost use Rattle.mc_game.specs.Movement.{placed_again};
-ghost use Rattle.mc_game.specs.Tick.{told_player};
-ghost use Rattle.mc_game.specs.declared.player.Player as declared;
+ghost use Rattle.mc_model.specs.Maps.{map_keyed, modify};
+ghost use Rattle.mc_model.specs.Movement.{placed_again};
+ghost use Rattle.mc_model.specs.Tick.{told_player};
+ghost use Rattle.mc_model.specs.declared.player.Player as declared;
 
 mod fields;
 
 use mc_bytes::NoMemory;
 use mc_fields::Cell;
-use mc_game::Player;
+use mc_model::Player;
 use std::alloc::Global;
 use std::collections::BTreeMap;
 use std::collections::btree_map::Values;
@@ -30,7 +30,7 @@ pub struct Players {
 impl Model for Players {
     ghost use Rattle.std.specs.FinMap.{FinMap, from_entries};
     ghost use Rattle.std.specs.Ordering.{nat_cmp};
-    ghost use Rattle.mc_game.specs.declared.player.Player as declared;
+    ghost use Rattle.mc_model.specs.declared.player.Player as declared;
     ghost use Rattle.mc_play.specs.Codes.{coded_players};
 
     ghost Value = { FinMap nat_cmp declared.Player };
@@ -50,7 +50,7 @@ fn is_among(players: &BTreeMap<u32, Player>, uuid: u128) -> bool
 
 impl Players {
     ghost use Rattle.std.specs.Borrow.{LendsIf, sem};
-    ghost use Rattle.mc_game.specs.contracts.player.Player.{the_row as player_row};
+    ghost use Rattle.mc_model.specs.contracts.player.Player.{the_row as player_row};
     ghost use Rattle.mc_play.specs.contracts.players.Players.{the_row};
 
     /// Nobody is in play.

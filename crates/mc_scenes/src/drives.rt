@@ -4,7 +4,7 @@
 //! and answers how that ended and which connections are left.
 
 ghost use Rattle.std.specs.Prelude.{◌≡◌, ◌≤◌, IfSome};
-ghost use Rattle.mc_events.specs.Stands.{age_of};
+ghost use Rattle.mc_events.specs.Served.{age_of};
 
 use crate::frames::put_frames;
 use crate::lobbies::{lobby_in, put_log};

@@ -16,7 +16,7 @@ pub struct Guests {
 
 impl Model for Guests {
     ghost use Rattle.mc_flush.specs.Lists.{ListValue, coded_list_value};
-    ghost use Rattle.mc_events.specs.Roster.{IsRoster};
+    ghost use Rattle.mc_showing.specs.Rosters.{IsRoster};
 
     ghost Value = { ListValue };
 

@@ -1,7 +1,7 @@
 //! Servers: `server PLAYERS CAP TERRAIN STEP ..` works on a new one and answers what it is asked.
 
 ghost use Rattle.std.specs.Prelude.{◌≡◌, IfSome};
-ghost use Rattle.mc_events.specs.Stands.{age_of};
+ghost use Rattle.mc_events.specs.Served.{age_of};
 
 use crate::frames::put_frames;
 use crate::terrains::terrain_in;
@@ -56,8 +56,7 @@ fn call_of(name: &str) -> Option<Call> {
     look_up(&CALLS, name)
 }
 
-/// A new server, with at most 50 players and a view of 2 to 8. None where the numbers are not such,
-/// or there is no memory.
+/// A new server, with at most 50 players and a view of 2 to 8. None where the numbers are not such.
 pub fn new_server(alloc: Global, players: u32, cap: u8, terrain: Terrain) -> Option<Server>
     ensures { IfSome result (λ server. age_of server ≡ 0) }
 {
@@ -69,7 +68,7 @@ pub fn new_server(alloc: Global, players: u32, cap: u8, terrain: Terrain) -> Opt
         cap,
         terrain,
     };
-    Server::new(alloc, settings).ok()
+    Some(Server::new(alloc, settings))
 }
 
 /// Answers the steps of a new server.

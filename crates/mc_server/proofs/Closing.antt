@@ -1,83 +1,79 @@
 -- Closing those that are closed in the world and owed nothing, one after another.
-use Rattle.std.proofs.Common.{◌≡◌, ◌≢◌, ◌+◌, ◌≤◌, ℕ, Bool, true, false, cond, not, List, []}
-use Rattle.std.proofs.Common.{◌∷◌, ◌++◌, map, Option, Some, None, refl, sym, subst, ap, ◌∙◌}
-use Rattle.std.proofs.Common.{arith, append_assoc, append-nil}
+use Rattle.std.proofs.Common.{◌≡◌, ◌≢◌, ◌+◌, ◌≤◌, ℕ, Bool, true, false, cond, T, List, [], ◌∷◌}
+use Rattle.std.proofs.Common.{◌++◌, map, Option, Some, refl, sym, subst, ap, ◌∙◌, arith}
+use Rattle.std.proofs.Common.{append_assoc, append-nil}
 use Rattle.std.proofs.lemmas.Bool.Decides.{nat_tests}
-use Rattle.std.specs.Prelude.{◌==◌, ◌&&◌, if◌then◌else◌}
+use Rattle.std.specs.Prelude.{if◌then◌else◌}
 use Rattle.std.specs.List.{filter, flat_map}
-use Rattle.std.proofs.lemmas.Bool.{eqb-true}
+use Rattle.std.specs.Ordering.{eq_by_cmp, nat_cmp}
+use Rattle.std.specs.Cmp.{nat_cmp_total}
+use Rattle.std.specs.FinMap.{entries, entries_sorted, find, get, get-entries, is_sorted}
+use Rattle.std.specs.FinMap.Entries.{below_all}
 use Rattle.mc_wire.specs.declared.log.LogEntry.{LogEntry}
 use Rattle.mc_wire.specs.declared.log.LogEntry.TheVariants.{Closed}
 use Rattle.mc_wire.specs.LobbyTold.{LobbyTold}
-use Rattle.mc_wire.proofs.LobbyCalls.{Logs-refl, Logs-trans}
-use Rattle.mc_model.specs.World.{World, Session, found}
-use Rattle.mc_model.specs.Step.{forgot, is_done, step}
+use Rattle.mc_wire.proofs.LobbyCalls.{Logs-refl}
+use Rattle.mc_model.specs.Link.{Link, is_done}
+use Rattle.mc_model.specs.World.{World}
 use Rattle.mc_model.specs.Log.{logged}
-use Rattle.mc_model.specs.Orderly.{AreApart, next_number}
 use Rattle.mc_model.specs.Turns.{done_in}
-use Rattle.mc_model.proofs.LogLaws.{logged_more}
-use Rattle.mc_model.proofs.Sessions.{other_number, same_number, some_none}
+use Rattle.mc_model.proofs.Maps.Sorted.{find_again, second as right_holds}
+use Rattle.mc_model.proofs.Maps.Lookups.{tied_number}
+use Rattle.mc_model.proofs.Maps.Options.{none_some}
+use Rattle.mc_laws.proofs.Serving.Forgetting.{forgot_other}
+use Rattle.mc_laws.proofs.Serving.Logs.{logged_more}
 use Rattle.mc_events.specs.Asking.{is_done_in, is_over}
-use Rattle.mc_server.specs.Drives.{ours_in}
 use Rattle.mc_events.specs.Served.{ServerValue}
 use Rattle.mc_events.specs.Stands.{Stands}
+use Rattle.mc_server.specs.Drives.{ours_in}
 use Rattle.mc_server.specs.TurnParts.{Adds, HasClosed, closing_of, numbers_in}
-use Rattle.mc_server.proofs.LogFacts.{ours_append}
-use Rattle.mc_server.proofs.Writing.{RiseFrom, rise_from}
-
--- ---- who is found when another one goes
-
-found_kept : (j k : ℕ) (ss : List Session) → j ≢ k →
-    found j (filter (λ (s : Session). not (s.id == k && is_done s)) ss) ≡ found j ss
-found_kept j k [] ne = refl
-found_kept j k (s ∷ ss) ne = grind (arith, nat_tests, found_kept j k ss ne)
-
-forgot_other : (j k : ℕ) (w : World) → j ≢ k →
-    found j (step w (forgot k)).world.sessions ≡ found j w.sessions
-unfolding step
-forgot_other j k w ne = found_kept j k w.sessions ne
-
-closing_other : (j k : ℕ) (w : World) → j ≢ k →
-    found j (logged w (closing_of w k)).sessions ≡ found j w.sessions
-closing_other j k w ne = elim (is_done_in k w) as
-    (λ b. found j (logged w (if b then Closed k ∷ [] else [])).sessions ≡ found j w.sessions)
-    [ true ↦ forgot_other j k w ne | false ↦ refl ]
+use Rattle.mc_server.proofs.LogFacts.{adds_more, ours_append}
+use Rattle.mc_server.proofs.Writing.{RiseFrom, keys_rise}
 
 -- ---- one connection
 
-closing_is : (k : ℕ) (w : World) (b : Bool) → is_done_in k w ≡ b →
-    closing_of w k ≡ (if b then Closed k ∷ [] else [])
-closing_is k w b is = ap (λ (t : Bool). if t then Closed k ∷ [] else []) is
+-- another is as it was
+closing_other : (j k : ℕ) (w : World) → j ≢ k →
+    get (logged w (closing_of w k)).links j ≡ get w.links j
+closing_other j k w ne = elim (is_done_in k w) as
+    (λ b. get (logged w (if b then Closed k ∷ [] else [])).links j ≡ get w.links j)
+    [ true ↦ forgot_other w k j ne | false ↦ refl ]
 
+-- one that is not closed in the world and owed nothing adds nothing
 pub closed_none : (k : ℕ) (old : Option LobbyTold) (w : World) (server : ServerValue) →
     is_done_in k w ≡ false → Stands server w → HasClosed (closing_of w k) old old w server 0
-closed_none k old w server none stands = grind (arith, nat_tests, closing_is, Logs-refl)
+closed_none k old w server none stands = rw none (record {
+  adds = record { told = Logs-refl old; stands = stands };
+  counted = refl;
+})
 
 -- ---- all of them
 
--- each of these connections is found under its number
-abbrev EachFound : List Session → List Session → Type 0
-EachFound all [] = Unit {0}
-EachFound all (s ∷ ss) = (found s.id all ≡ Some s) × EachFound all ss
+-- in the order of the map, those that are done are closed
+closings_are : (w : World) (es : List (ℕ × Link)) → T (is_sorted nat_cmp es) →
+    ((k : ℕ) (l : Link) → find nat_cmp k es ≡ Some l → get w.links k ≡ Some l) →
+    flat_map (closing_of w) (map (λ (e : ℕ × Link). e.0) es) ≡
+    map Closed (map (λ (e : ℕ × Link). e.0) (filter (λ (e : ℕ × Link). is_done e.1) es))
+closings_are w [] sorted there = refl
+closings_are w (e ∷ es) sorted there =
+    let here : get w.links e.0 ≡ Some e.1 = there e.0 e.1 (rw (tied_number e.0) refl) in
+    let rest = right_holds (below_all nat_cmp e.0 es) (is_sorted nat_cmp es) sorted in
+    grind (
+      arith,
+      nat_tests,
+      closings_are w es rest
+          (λ k l found. there k l (behind k l found (eq_by_cmp nat_cmp k e.0) refl)),
+    )
+  where
+    behind : (k : ℕ) (l : Link) → find nat_cmp k es ≡ Some l → (b : Bool) →
+        eq_by_cmp nat_cmp k e.0 ≡ b → cond b (Some e.1) (find nat_cmp k es) ≡ Some l
+    behind k l found true t =
+        absurd (none_some (find nat_cmp k es) l (find_again nat_cmp_total k e es sorted t) found)
+    behind k l found false t = found
 
-each_found : (all ss : List Session) →
-    ((j : ℕ) (t : Session) → found j ss ≡ Some t → found j all ≡ Some t) → AreApart ss →
-    EachFound all ss
-each_found all [] keeps apart = tt
-each_found all (s ∷ ss) keeps apart = (
-  keeps s.id s (ap (λ (b : Bool). cond b (Some s) (found s.id ss)) (same_number s.id)),
-  each_found all ss (λ j t there. keeps j t (elim (s.id == j) as
-      (λ b. (s.id == j) ≡ b → cond b (Some s) (found j ss) ≡ Some t) [
-        | true ↦ grind (arith, nat_tests)
-        | false ↦ λ e. there
-      ] refl)) apart.1,
-)
-
-closings_are : (w : World) (ss : List Session) → EachFound w.sessions ss →
-    flat_map (closing_of w) (map (λ (s : Session). s.id) ss) ≡
-    map Closed (map (λ (s : Session). s.id) (filter is_done ss))
-closings_are w [] each = refl
-closings_are w (s ∷ ss) each = grind (arith, nat_tests, closings_are w ss each.1)
+all_closings : (w : World) → flat_map (closing_of w) (numbers_in w) ≡ map Closed (done_in w)
+all_closings w = closings_are w (entries w.links) (entries_sorted w.links)
+    (λ k l here. get-entries w.links k ∙ here)
 
 -- some are closed, and the others are left
 pub record IsClosing (left_ : List ℕ) (old new : Option LobbyTold) (w : World)
@@ -87,58 +83,57 @@ pub record IsClosing (left_ : List ℕ) (old new : Option LobbyTold) (w : World)
   pub counted : count ≡ ours_in w log
   pub next : ℕ
   pub rising : RiseFrom next left_
-  pub same : (j : ℕ) → next ≤ j → found j (logged w log).sessions ≡ found j w.sessions
+  pub same : (j : ℕ) → next ≤ j → get (logged w log).links j ≡ get w.links j
   pub all : log ++ flat_map (closing_of w) left_ ≡ map Closed (done_in w)
 
 pub closing_start : (ks : List ℕ) (old : Option LobbyTold) (w : World) (server : ServerValue) →
     Stands server w → ks ≡ numbers_in w → IsClosing ks old old w server 0
-closing_start ks old w server stands named = grind (
-  arith,
-  Logs-refl old,
-  rise_from 0 (next_number w.last) w.sessions stands.orderly.rising,
-  closings_are w w.sessions,
-  each_found w.sessions w.sessions,
-)
+closing_start ks old w server stands named = record {
+  log = [];
+  adds = record { told = Logs-refl old; stands = stands };
+  counted = refl;
+  next = 0;
+  rising = subst (RiseFrom 0) (sym named) (keys_rise w.links);
+  same = λ j above. refl;
+  all = ap (flat_map (closing_of w)) named ∙ all_closings w;
+}
 
-closing_next : (k : ℕ) (ks : List ℕ) (old mid new : Option LobbyTold) (w : World)
-    (before after : ServerValue) (count one : ℕ) →
-    ((v : World) → Stands before v → HasClosed (closing_of v k) mid new v after one) →
-    IsClosing (k ∷ ks) old mid w before count → IsClosing ks old new w after (count + one)
-closing_next k ks old mid new w before after count one closes a =
-    let v : World = logged w a.log in
-    let h = closes v a.adds.stands in
-    let closing : List LogEntry = closing_of v k in
-    let world : logged w (a.log ++ closing) ≡ logged v closing = logged_more w a.log closing in
-    let own : closing ≡ closing_of w k =
-    ap (λ (o : Option Session). if is_over o then Closed k ∷ [] else []) (a.same k a.rising.0) in
-    let P : World → Type 0 = λ u. Stands after u in
-    let sum = ours_append w a.log closing in
-    let first = a.counted in
-    let second = h.counted in
-    record {
-      log = a.log ++ closing;
-      adds = grind (arith, nat_tests, Logs-trans);
-      counted = omega (arith, sum, first, second);
-      next = k + 1;
-      rising = a.rising.1;
-      same = grind (arith, nat_tests, closing_other);
-      all = append_assoc a.log closing (flat_map (closing_of w) ks)
-          ∙ ap (λ (xs : List LogEntry). a.log ++ (xs ++ flat_map (closing_of w) ks)) own ∙ a.all;
-    }
-
+-- one more was closed, or not
 pub closing_step : (k : ℕ) (left_ ks : List ℕ) (old mid new : Option LobbyTold) (w : World)
     (before after : ServerValue) (count one : ℕ) → left_ ≡ k ∷ ks →
     IsClosing left_ old mid w before count →
     ((v : World) → Stands before v → HasClosed (closing_of v k) mid new v after one) →
     IsClosing ks old new w after (count + one)
-closing_step k left_ ks old mid new w before after count one first a closes =
-    grind (arith, nat_tests, closing_next)
+closing_step k left_ ks old mid new w before after count one first so_far closes =
+    let a = rw first at so_far in
+    let v : World = logged w a.log in
+    let h = closes v a.adds.stands in
+    let closing : List LogEntry = closing_of v k in
+    let world = logged_more w a.log closing in
+    let own : closing ≡ closing_of w k =
+    ap (λ (o : Option Link). if is_over o then Closed k ∷ [] else []) (a.same k a.rising.0) in
+    let sum = ours_append w a.log closing in
+    let was = a.counted in
+    let now = h.counted in
+    record {
+      log = a.log ++ closing;
+      adds = adds_more old mid new w before after a.log closing a.adds h.adds;
+      counted = omega (arith, sum, was, now);
+      next = k + 1;
+      rising = a.rising.1;
+      same = λ j above.
+          let low = a.rising.0 in
+          ap (λ (u : World). get u.links j) world
+          ∙ closing_other j k v (omega (arith, above)) ∙ a.same j (omega (arith, low, above));
+      all = append_assoc a.log closing (flat_map (closing_of w) ks)
+          ∙ ap (λ (xs : List LogEntry). a.log ++ (xs ++ flat_map (closing_of w) ks)) own ∙ a.all;
+    }
 
 pub closed_all : (left_ : List ℕ) (old new : Option LobbyTold) (w : World) (server : ServerValue)
     (count : ℕ) → left_ ≡ [] → IsClosing left_ old new w server count →
     HasClosed (map Closed (done_in w)) old new w server count
 closed_all left_ old new w server count end a =
-    let P : List LogEntry → Type 0 = λ log. HasClosed log old new w server count in
     let none : a.log ++ flat_map (closing_of w) left_ ≡ a.log =
     ap (λ (js : List ℕ). a.log ++ flat_map (closing_of w) js) end ∙ append-nil a.log in
-    subst P (sym none ∙ a.all) (record { adds = a.adds; counted = a.counted })
+    subst (λ (log : List LogEntry). HasClosed log old new w server count) (sym none ∙ a.all)
+    (record { adds = a.adds; counted = a.counted })

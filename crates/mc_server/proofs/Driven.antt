@@ -1,47 +1,42 @@
 -- Turns so far, one turn more, and how serving ends.
-use Rattle.std.proofs.Common.{◌≡◌, ◌≢◌, ◌+◌, ◌-◌, ◌^◌, ◌<◌, ◌≤◌, min, ℕ, Bool, true, false, ◌||◌}
-use Rattle.std.proofs.Common.{List, [], ◌∷◌, ◌++◌, length, Option, Result, Ok, Err, refl, sym}
-use Rattle.std.proofs.Common.{subst, ap, ◌∙◌, arith, append-nil, length-append}
+use Rattle.std.proofs.Common.{◌≡◌, ◌≢◌, ◌+◌, ◌-◌, ◌^◌, ◌<◌, ◌≤◌, min, ℕ, List, [], ◌∷◌, ◌++◌}
+use Rattle.std.proofs.Common.{length, Option, Result, Ok, Err, refl, sym, ap, ◌∙◌, arith}
+use Rattle.std.proofs.Common.{append-nil, length-append}
 use Rattle.std.proofs.lemmas.Bool.Decides.{nat_tests}
-use Rattle.std.proofs.lemmas.List.Sums.{count_by-le-length}
+use Rattle.std.specs.FinMap.{empty, len, len-empty}
+use Rattle.std.specs.Ordering.{nat_cmp}
 use Rattle.mc_wire.specs.declared.log.LogEntry.{LogEntry}
 use Rattle.mc_wire.specs.declared.log.LogEntry.TheVariants as entries
 use Rattle.mc_wire.specs.LobbyTold.{LobbyTold, with_entries, with_port}
 use Rattle.mc_wire.specs.Becoming.{Logs, ToldBecomes}
 use Rattle.mc_wire.proofs.LobbyCalls.{Logs-refl, Logs-trans, ToldBecomes-same, ToldBecomes-trans}
 use Rattle.mc_wire.proofs.LobbyCalls.{with_entries-nil}
-use Rattle.mc_model.specs.World.{World, Session}
 use Rattle.mc_model.specs.Log.{events_in, log_of, logged}
-use Rattle.mc_model.specs.Orderly.{Orderly}
+use Rattle.mc_model.specs.Link.{Link}
+use Rattle.mc_model.specs.World.{World}
 use Rattle.mc_model.specs.Turns.{AreTurns}
-use Rattle.mc_model.proofs.LogLaws.{events_more, logged_more}
-use Rattle.mc_model.proofs.TurnLaws.{turns_right}
+use Rattle.mc_laws.proofs.Serving.Logs.{events_more}
+use Rattle.mc_laws.proofs.Serving.Turns.{turns_right}
+use Rattle.mc_events.specs.Asking.{ours_there}
+use Rattle.mc_events.specs.Served.{ServerValue, age_of}
+use Rattle.mc_events.specs.Stands.{Stands}
 use Rattle.mc_server.specs.declared.service.Budget.{Budget}
 use Rattle.mc_server.specs.declared.service.Tally.{Tally}
 use Rattle.mc_server.specs.declared.service.Ended.{Ended}
 use Rattle.mc_server.specs.declared.service.Ended.TheVariants as ends
 use Rattle.mc_server.specs.declared.service.DriveFault.{DriveFault}
 use Rattle.mc_server.specs.declared.service.DriveFault.TheVariants.{Listen, Next, Events, NoMemory}
-use Rattle.mc_events.specs.Asking.{is_ours, ours_there}
-use Rattle.mc_server.specs.Drives.{Drove, Ends, IsTally, IsWithin, is_join, is_tick}
+use Rattle.mc_server.specs.Drives.{Drove, Ends, IsTally, IsWithin, is_join, is_tick, one_if}
 use Rattle.mc_server.specs.Drives.{joins_in, ours_in, ticks_in}
-use Rattle.mc_events.specs.Served.{ServerValue, one_if}
-use Rattle.mc_events.specs.Stands.{Stands, age_of}
-use Rattle.mc_server.specs.TurnParts.{HasTurned}
-use Rattle.mc_server.proofs.Few.{few_log}
-use Rattle.mc_server.proofs.LogFacts.{log_of_more, ours_append, ticks_more}
-use Rattle.mc_server.proofs.LogFacts.{turns_more}
-
-pub or_true : (b : Bool) → (b || true) ≡ true
-or_true true = refl
-or_true false = refl
+use Rattle.mc_server.specs.TurnParts.{Adds, HasTurned}
+use Rattle.mc_server.proofs.Few.{few_log, one_at_most, ours_few}
+use Rattle.mc_server.proofs.LogFacts.{adds_more, log_of_more, ours_append, ticks_more, turns_more}
 
 -- so many turns were done, and so many joined, and went as closed by the server itself
 pub record IsDriving (old new : Option LobbyTold) (w : World) (server : ServerValue)
     (events joins closed : ℕ) : Type 0 where
   pub turns : List (List LogEntry)
-  pub told : Logs old new (log_of turns)
-  pub stands : Stands server (logged w (log_of turns))
+  pub adds : Adds old new w server (log_of turns)
   pub are_turns : AreTurns w turns
   pub all : length turns ≡ events
   pub ticks : ticks_in turns ≡ age_of server
@@ -53,15 +48,13 @@ pub driving_start : (old : Option LobbyTold) (w : World) (server : ServerValue) 
     Stands server w → age_of server ≡ 0 → IsDriving old old w server 0 0 0
 driving_start old w server stands young = grind (arith, nat_tests, Logs-refl)
 
-pub one_at_most : (b : Bool) → one_if b ≤ 1
-one_at_most true = omega arith
-one_at_most false = omega arith
-
 -- no more went and are there than joined
-went_few : (w : World) (turns : List (List LogEntry)) → AreTurns w turns → w.sessions ≡ [] →
-    Orderly w →
-    ours_in w (log_of turns) + length (logged w (log_of turns)).sessions ≤ joins_in turns
-went_few w turns are empty orderly = grind (arith, nat_tests, few_log, turns_right)
+went_few : (w : World) (turns : List (List LogEntry)) → AreTurns w turns → w.links ≡ empty →
+    ours_in w (log_of turns) + len (logged w (log_of turns)).links ≤ joins_in turns
+went_few w turns are none =
+    let few = few_log (log_of turns) w (turns_right turns w are) in
+    let size : len w.links ≡ 0 = ap len none ∙ len-empty nat_cmp Link in
+    omega (arith, few, size)
 
 -- the sum of those that went is exact: no more went than there were turns
 pub small_sum : (a b most : ℕ) → a + b ≤ most → most < 2 ^ 64 → min (a + b) (2 ^ 64 - 1) ≡ a + b
@@ -78,20 +71,15 @@ module _ (old mid next new : Option LobbyTold) (w : World) (before after : Serve
   pub log_now : log_of turns_now ≡ log_of d.turns ++ (entry ∷ t.rest)
   log_now = log_of_more d.turns (entry ∷ t.rest)
 
-  pub world_now : logged w (log_of turns_now) ≡ logged (logged w (log_of d.turns)) (entry ∷ t.rest)
-  world_now = ap (logged w) log_now ∙ logged_more w (log_of d.turns) (entry ∷ t.rest)
-
   pub are_now : AreTurns w turns_now
   are_now = turns_more w d.turns (entry ∷ t.rest) d.are_turns t.is_turn
 
   pub ours_now : closed + count ≡ ours_in w (log_of turns_now)
   ours_now =
-      let sum = ours_append w (log_of d.turns) (entry ∷ t.rest) in
-      let same : ours_in w (log_of turns_now) ≡ ours_in w (log_of d.turns ++ (entry ∷ t.rest)) =
-      ap (ours_in w) log_now in
+      let sum = ap (ours_in w) log_now ∙ ours_append w (log_of d.turns) (entry ∷ t.rest) in
       let first = d.closed_are in
       let second = t.counted in
-      omega (arith, sum, same, first, second)
+      omega (arith, sum, first, second)
 
   pub all_now : length turns_now ≡ events + 1
   all_now = let sum = length-append d.turns ((entry ∷ t.rest) ∷ []) in let all = d.all in
@@ -101,9 +89,9 @@ module _ (old mid next new : Option LobbyTold) (w : World) (before after : Serve
   joins_now = let sum = ticks_more d.turns (entry ∷ t.rest) is_join in
       let first = d.joins_are in let second = t.joins in omega (arith, sum, first, second)
 
-  pub few_now : w.sessions ≡ [] → Orderly w → closed + count ≤ events + 1
-  few_now empty orderly =
-      let few = went_few w turns_now are_now empty orderly in
+  pub few_now : w.links ≡ empty → closed + count ≤ events + 1
+  few_now none =
+      let few = went_few w turns_now are_now none in
       let sum = ours_now in
       let joined = joins_now in
       let less = d.few in
@@ -113,21 +101,20 @@ module _ (old mid next new : Option LobbyTold) (w : World) (before after : Serve
   abbrev pub driving_next : (joined went : ℕ) →
       age_of after ≡ age_of before + one_if (is_tick entry) →
       joined ≡ joins + one_if (is_join entry) → went ≡ min (closed + count) (2 ^ 64 - 1) →
-      events + 1 < 2 ^ 64 → w.sessions ≡ [] → Orderly w →
-      IsDriving old new w after (events + 1) joined went
-  driving_next joined went ages joins_is went_is less empty orderly = record {
+      events + 1 < 2 ^ 64 → w.links ≡ empty → IsDriving old new w after (events + 1) joined went
+  driving_next joined went ages joins_is went_is less none = record {
     turns = d.turns ++ (entry ∷ t.rest) ∷ [];
-    told = (let P : List LogEntry → Type 0 = λ log. Logs old new log in
-        subst P (sym log_now) (Logs-trans old mid new (log_of d.turns) (entry ∷ t.rest) d.told
-        (Logs-trans mid next new (entry ∷ []) t.rest told t.told)));
-    stands = (let P : World → Type 0 = λ v. Stands after v in subst P (sym world_now) t.stands);
+    adds = rw log_now (adds_more old mid new w before after (log_of d.turns) (entry ∷ t.rest)
+        d.adds (record {
+          told = Logs-trans mid next new (entry ∷ []) t.rest told t.told;
+          stands = t.stands;
+        }));
     are_turns = are_now;
     all = all_now;
     ticks = (let sum = ticks_more d.turns (entry ∷ t.rest) is_tick in let first = d.ticks in
         let second = t.ticks in omega (arith, sum, first, second, ages));
     joins_are = joins_is ∙ joins_now;
-    closed_are = went_is ∙ small_sum closed count (events + 1) (few_now empty orderly) less
-        ∙ ours_now;
+    closed_are = went_is ∙ small_sum closed count (events + 1) (few_now none) less ∙ ours_now;
     few = (let few = d.few in let one = one_at_most (is_join entry) in
         omega (arith, joins_is, few, one));
   }
@@ -141,36 +128,45 @@ still_young before after one ticks is few young ne = omega (arith, is, few, youn
 
 pub told_same : (old new : Option LobbyTold) (x y : LogEntry) → x ≡ y → Logs old new (x ∷ []) →
     Logs old new (y ∷ [])
-told_same old new x y same told =
-    let P : LogEntry → Type 0 = λ z. Logs old new (z ∷ []) in subst P same told
+told_same old new x y same told = rw (← same) told
 
 -- what was counted is the tally
 module _ (old new : Option LobbyTold) (w : World) (server : ServerValue) (events joins closed : ℕ)
     (d : IsDriving old new w server events joins closed) (t : Tally) where
   pub tally_is : t.joins ≡ joins →
       ((v : World) → Stands server v → closed + ours_there v < 2 ^ 64 →
-      t.closed ≡ closed + ours_there v) → events < 2 ^ 64 → w.sessions ≡ [] → Orderly w →
+      t.closed ≡ closed + ours_there v) → events < 2 ^ 64 → w.links ≡ empty →
       IsTally w d.turns t
-  tally_is joined counted less empty orderly =
+  tally_is joined counted less none =
       let v : World = logged w (log_of d.turns) in
-      let there = count_by-le-length (λ (s : Session). is_ours s.cause) v.sessions in
-      let few = went_few w d.turns d.are_turns empty orderly in
+      let there = ours_few v in
+      let few = went_few w d.turns d.are_turns none in
       let went = d.closed_are in
       let joins_are = d.joins_are in
       let most = d.few in
-      let sum = counted v d.stands (omega (arith, there, few, went, joins_are, most, less)) in
+      let sum = counted v d.adds.stands (omega (arith, there, few, went, joins_are, most, less)) in
       record { joins = joined ∙ d.joins_are; closed = omega (arith, sum, went) }
 
 module _ (budget : Budget) (old new : Option LobbyTold) (w : World) (server : ServerValue)
     (events joins closed : ℕ) (d : IsDriving old new w server events joins closed) where
-  -- nothing was added behind the turns
-  told_all : Logs old new (log_of d.turns ++ [])
-  told_all = let P : List LogEntry → Type 0 = λ log. Logs old new log in
-      subst P (sym (append-nil (log_of d.turns))) d.told
+  -- behind the turns these entries were added
+  drove_so : (after : Option LobbyTold) (last : List LogEntry)
+      (result : Result Ended DriveFault) → Adds old after w server (log_of d.turns ++ last) →
+      Ends budget w d.turns last result →
+      Drove (λ (told : LobbyTold). told) budget old after w server result
+  drove_so after last result adds ends = record {
+    turns = d.turns;
+    last = last;
+    told = adds.told;
+    stands = adds.stands;
+    age = sym d.ticks;
+    are_turns = d.are_turns;
+    ends = ends;
+  }
 
-  stands_all : Stands server (logged w (log_of d.turns ++ []))
-  stands_all = let P : List LogEntry → Type 0 = λ log. Stands server (logged w log) in
-      subst P (sym (append-nil (log_of d.turns))) d.stands
+  -- nothing was
+  adds_all : Adds old new w server (log_of d.turns ++ [])
+  adds_all = rw append-nil d.adds
 
   still_within : age_of server < budget.ticks → events < budget.events → IsWithin budget d.turns
   still_within young more = record {
@@ -182,78 +178,47 @@ module _ (budget : Budget) (old new : Option LobbyTold) (w : World) (server : Se
   pub drove_events : age_of server < budget.ticks → budget.events ≤ events →
       events ≤ budget.events → Drove (λ (told : LobbyTold). told) budget old new w server
       (Err (Events budget.events))
-  drove_events young end within = record {
-    turns = d.turns;
-    last = [];
-    told = told_all;
-    stands = stands_all;
-    age = sym d.ticks;
-    are_turns = d.are_turns;
-    ends = (let ticks = d.ticks in let all = d.all in (
-      omega (arith, ticks, young),
-      omega (arith, all, end, within),
-      refl,
-      refl,
-    ));
-  }
+  drove_events young end within =
+      let ticks = d.ticks in
+      let all = d.all in
+      drove_so new [] (Err (Events budget.events)) adds_all
+      (omega (arith, ticks, young), omega (arith, all, end, within), refl, refl)
 
   -- the next event could not be had
   pub drove_failed : (after : Option LobbyTold) → after ≡ new → age_of server < budget.ticks →
       events < budget.events →
       Drove (λ (told : LobbyTold). told) budget old after w server (Err Next)
   drove_failed after same young more =
-      let P : Option LobbyTold → Type 0 = λ o. Logs old o (log_of d.turns ++ []) in
-      record {
-        turns = d.turns;
-        last = [];
-        told = subst P (sym same) told_all;
-        stands = stands_all;
-        age = sym d.ticks;
-        are_turns = d.are_turns;
-        ends = (still_within young more, refl);
-      }
+      rw same (drove_so new [] (Err Next) adds_all (still_within young more, refl))
 
   -- the lobby ended
   pub drove_ended : (after : Option LobbyTold) (t : Tally) → Logs new after (entries.Ended ∷ []) →
       age_of server < budget.ticks → events < budget.events → IsTally w d.turns t →
       Drove (λ (told : LobbyTold). told) budget old after w server (Ok (ends.Closed t))
   drove_ended after t told young more tally =
-      let P : World → Type 0 = λ v. Stands server v in
-      record {
-        turns = d.turns;
-        last = entries.Ended ∷ [];
-        told = Logs-trans old new after (log_of d.turns) (entries.Ended ∷ []) d.told told;
-        stands = subst P (sym (logged_more w (log_of d.turns) (entries.Ended ∷ []))) d.stands;
-        age = sym d.ticks;
-        are_turns = d.are_turns;
-        ends = (still_within young more, refl, tally);
-      }
+      drove_so after (entries.Ended ∷ []) (Ok (ends.Closed t))
+      (adds_more old new after w server server (log_of d.turns) (entries.Ended ∷ []) d.adds
+      (record { told = told; stands = d.adds.stands })) (still_within young more, refl, tally)
 
   -- the last tick came in the last turn
   pub drove_ticks : (first : List (List LogEntry)) (turn : List LogEntry) (t : Tally) →
       d.turns ≡ first ++ turn ∷ [] → ticks_in first < budget.ticks → age_of server ≡ budget.ticks →
       events ≤ budget.events → IsTally w d.turns t →
       Drove (λ (told : LobbyTold). told) budget old new w server (Ok (ends.Ticks t))
-  drove_ticks first turn t parts before end within tally = record {
-    turns = d.turns;
-    last = [];
-    told = told_all;
-    stands = stands_all;
-    age = sym d.ticks;
-    are_turns = d.are_turns;
-    ends = (
-      record {
-        all = d.ticks ∙ end;
-        first = first;
-        turn = turn;
-        parts = parts;
-        before = before;
-      },
-      (let all = d.all in omega (arith, all, within)),
-      refl,
-      tally,
-    );
-  }
+  drove_ticks first turn t parts before end within tally =
+      let all = d.all in
+      drove_so new [] (Ok (ends.Ticks t)) adds_all (
+        record {
+          all = d.ticks ∙ end;
+          first = first;
+          turn = turn;
+          parts = parts;
+          before = before;
+        },
+        omega (arith, all, within),
+        refl,
+        tally,
+      )
 
 -- ---- with the port
 

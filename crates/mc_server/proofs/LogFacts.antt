@@ -1,27 +1,32 @@
 -- What a log adds to another: the world after both, what is counted in both, and what writes and
 -- closings leave alone.
-use Rattle.std.proofs.Common.{◌≡◌, ◌≢◌, ◌+◌, ℕ, Bool, true, false, cond, List, [], ◌∷◌, ◌++◌, map}
-use Rattle.std.proofs.Common.{Some, None, refl, subst, ap, ◌∙◌, arith, append-nil}
+use Rattle.std.proofs.Common.{◌≡◌, ◌≢◌, ◌+◌, ℕ, Bool, false, cond, List, [], ◌∷◌, ◌++◌, map, Option}
+use Rattle.std.proofs.Common.{Some, None, refl, sym, ap, ◌∙◌, inl, inr, arith, append-nil}
 use Rattle.std.proofs.lemmas.Bool.Decides.{nat_tests}
-use Rattle.std.specs.Prelude.{◌==◌, drop, if◌then◌else◌}
 use Rattle.std.specs.List.{count_by}
+use Rattle.std.specs.FinMap.{get}
 use Rattle.std.proofs.lemmas.Grind.{flat_map-append}
+use Rattle.std.proofs.lemmas.List.Elements.{Contains-append_left, Contains-append_right}
 use Rattle.std.proofs.lemmas.List.Sums.{sum_by-append, sum_by-cons}
 use Rattle.mc_wire.specs.declared.log.LogEntry.{LogEntry}
-use Rattle.mc_wire.specs.declared.log.LogEntry.TheVariants.{Joined, Came, Left, Ticked}
-use Rattle.mc_wire.specs.declared.log.LogEntry.TheVariants.{Put, Stalled, Broke, Closed}
+use Rattle.mc_wire.specs.declared.log.LogEntry.TheVariants.{Closed, Stalled}
+use Rattle.mc_wire.specs.LobbyTold.{LobbyTold}
+use Rattle.mc_wire.proofs.LobbyCalls.{Logs-trans}
 use Rattle.mc_model.specs.declared.cause.Cause.{Cause}
 use Rattle.mc_model.specs.declared.cause.Cause.TheVariants as causes
-use Rattle.mc_model.specs.World.{World, Session, found, is_closed}
-use Rattle.mc_model.specs.Step.{broke, took, step, changed, gone, mark_closed}
-use Rattle.mc_model.specs.Run.{owed_in, owed_of}
 use Rattle.mc_model.specs.Log.{log_of, logged}
-use Rattle.mc_model.specs.Turns.{AreTurns, AreWrites, Happens, IsTurn}
-use Rattle.mc_model.proofs.Beside.{beside_changed, found_changed}
-use Rattle.mc_model.proofs.LogLaws.{logged_more}
-use Rattle.mc_model.proofs.RunEvents.{gone_beside, gone_id}
+use Rattle.mc_model.specs.Step.{broke, took, depart, step, take_from}
+use Rattle.mc_model.specs.Link.{Link, gone}
+use Rattle.mc_model.specs.World.{Seat, Turn, World, on_link, on_seat, seat_of}
+use Rattle.mc_model.specs.Run.{owed_in, owed_of}
+use Rattle.mc_model.specs.Turns.{AreTurns, AreWrites, IsTurn, IsWrite}
+use Rattle.mc_model.proofs.Maps.Lookups.{put_same}
+use Rattle.mc_laws.proofs.Runs.Effects.{seat_rests}
+use Rattle.mc_laws.proofs.Serving.Logs.{logged_more}
+use Rattle.mc_events.specs.Served.{ServerValue}
+use Rattle.mc_events.proofs.Numbers.{keys_kept}
 use Rattle.mc_server.specs.Drives.{ours_at, ours_in}
-use Rattle.mc_server.specs.TurnParts.{numbers_in}
+use Rattle.mc_server.specs.TurnParts.{Adds, IsServed, numbers_in}
 
 -- ---- one log behind another
 
@@ -47,34 +52,37 @@ turns_more w [] turn all one = (one, tt)
 turns_more w (first ∷ turns) turn all one =
     grind (arith, nat_tests, turns_more (logged w first) turns turn all.1, logged_more)
 
+-- what was added to a log, and what was added behind it
+pub adds_more : (old mid new : Option LobbyTold) (w : World) (before after : ServerValue)
+    (xs ys : List LogEntry) → Adds old mid w before xs → Adds mid new (logged w xs) after ys →
+    Adds old new w after (xs ++ ys)
+adds_more old mid new w before after xs ys a b = record {
+  told = Logs-trans old mid new xs ys a.told b.told;
+  stands = rw (logged_more w xs ys) b.stands;
+}
+
 -- ---- counting
 
--- what no write is
+-- what no write and no closing is
 pub record IsNoWrite (test : LogEntry → Bool) : Type 0 where
-  pub put : (k : ℕ) (bytes : List ℕ) → test (Put k bytes) ≡ false
-  pub stalled : (k : ℕ) → test (Stalled k) ≡ false
-  pub broke_ : (k : ℕ) → test (Broke k) ≡ false
-  pub closed : (k : ℕ) → test (Closed k) ≡ false
+  pub writes : (w : World) (x : LogEntry) → IsWrite w x → test x ≡ false
+  pub closings : (k : ℕ) → test (Closed k) ≡ false
 
-count_not : (test : LogEntry → Bool) (x : LogEntry) (xs : List LogEntry) → test x ≡ false →
-    count_by test (x ∷ xs) ≡ count_by test xs
-count_not test x xs none = grind (arith, nat_tests)
-
-pub writes_count : (test : LogEntry → Bool) → IsNoWrite test → (w : World) (xs : List LogEntry) →
+writes_count : (test : LogEntry → Bool) → IsNoWrite test → (w : World) (xs : List LogEntry) →
     AreWrites w xs → count_by test xs ≡ 0
 writes_count test none w [] are = refl
-writes_count test none w (Put k bytes ∷ xs) are = count_not test (Put k bytes) xs (none.put k bytes)
-    ∙ writes_count test none (logged w (Put k bytes ∷ [])) xs are.1
-writes_count test none w (Stalled k ∷ xs) are = count_not test (Stalled k) xs (none.stalled k)
-    ∙ writes_count test none (logged w (Stalled k ∷ [])) xs are.1
-writes_count test none w (Broke k ∷ xs) are = count_not test (Broke k) xs (none.broke_ k)
-    ∙ writes_count test none (logged w (Broke k ∷ [])) xs are.1
-writes_count test none w (other ∷ xs) are = absurd are.0
+writes_count test none w (x ∷ xs) are = grind (
+  arith,
+  nat_tests,
+  none.writes w x are.0,
+  writes_count test none (logged w (x ∷ [])) xs are.1,
+)
 
-pub closings_count : (test : LogEntry → Bool) → IsNoWrite test → (ks : List ℕ) →
+closings_count : (test : LogEntry → Bool) → IsNoWrite test → (ks : List ℕ) →
     count_by test (map Closed ks) ≡ 0
 closings_count test none [] = refl
-closings_count test none (k ∷ ks) = grind (arith, nat_tests, closings_count test none ks)
+closings_count test none (k ∷ ks) =
+    grind (arith, nat_tests, none.closings k, closings_count test none ks)
 
 -- of a turn, what is neither a write nor a closing is what happened
 pub turn_count : (test : LogEntry → Bool) → IsNoWrite test → (w : World) (entry : LogEntry)
@@ -93,19 +101,13 @@ pub ticks_more : (turns : List (List LogEntry)) (turn : List LogEntry) (test : L
 ticks_more turns turn test = grind (arith, nat_tests, log_of_more, sum_by-append)
 
 -- no write closes anything
+ours_write : (w : World) (x : LogEntry) → IsWrite w x → ours_at w x ≡ 0
+ours_write w x is = grind (arith, nat_tests)
+
 pub ours_writes : (w : World) (xs : List LogEntry) → AreWrites w xs → ours_in w xs ≡ 0
 ours_writes w [] are = refl
-ours_writes w (Put k bytes ∷ xs) are =
-    let later = ours_writes (logged w (Put k bytes ∷ [])) xs are.1 in omega (arith, later)
-ours_writes w (Stalled k ∷ xs) are =
-    let later = ours_writes (logged w (Stalled k ∷ [])) xs are.1 in omega (arith, later)
-ours_writes w (Broke k ∷ xs) are =
-    let later = ours_writes (logged w (Broke k ∷ [])) xs are.1 in omega (arith, later)
-ours_writes w (other ∷ xs) are = absurd are.0
-
--- nor does anything that happens
-pub ours_happens : (w : World) (entry : LogEntry) → Happens entry → ours_at w entry ≡ 0
-ours_happens w entry happens = grind (arith, nat_tests)
+ours_writes w (x ∷ xs) are =
+    grind (arith, nat_tests, ours_write w x are.0, ours_writes (logged w (x ∷ [])) xs are.1)
 
 -- ---- what a write leaves as it was
 
@@ -116,46 +118,62 @@ pub record Keeps (k : ℕ) (w v : World) : Type 0 where
 pub keeps_same : (k : ℕ) (w : World) → Keeps k w w
 keeps_same k w = record { others = λ j ne. refl; numbers = refl }
 
-pub keeps_onward : (k : ℕ) (w v u : World) → Keeps k w v → Keeps k v u → Keeps k w u
-keeps_onward k w v u a b = record {
+-- by more entries
+pub keeps_more : (k : ℕ) (w : World) (xs ys : List LogEntry) → Keeps k w (logged w xs) →
+    Keeps k (logged w xs) (logged (logged w xs) ys) → Keeps k w (logged w (xs ++ ys))
+keeps_more k w xs ys a b = rw (logged_more w xs ys) (record {
   others = λ j ne. b.others j ne ∙ a.others j ne;
   numbers = b.numbers ∙ a.numbers;
-}
+})
 
-numbers_kept : (g : Session → Session) → ((s : Session) → (g s).id ≡ s.id) → (ss : List Session) →
-    map (λ (s : Session). s.id) (map g ss) ≡ map (λ (s : Session). s.id) ss
-numbers_kept g same [] = refl
-numbers_kept g same (s ∷ ss) = λ i. same s i ∷ numbers_kept g same ss i
-
-changed_keeps : (k : ℕ) (w : World) (f : Session → Session) → ((s : Session) → (f s).id ≡ s.id) →
-    Keeps k w (changed w k f)
-changed_keeps k w f same = record {
-  others = λ j ne. ap owed_of ((beside_changed k w f (λ t e. same t)).others j ne);
-  numbers = numbers_kept (λ (s : Session). if s.id == k then f s else s)
-      (λ s. elim (s.id == k) as (λ b. (if b then f s else s).id ≡ s.id)
-      [ true ↦ same s | false ↦ refl ]) w.sessions;
+-- a step of one connection
+pub seat_keeps : (k : ℕ) (w : World) (f : Seat → Turn) → Keeps k w (on_seat w k f).world
+seat_keeps k w f = record {
+  others = λ j ne. ap owed_of (seat_rests w j k f (λ same. ne (sym same))).0;
+  numbers = at_link (get w.links k) refl;
 }
+  where
+    at_link : (o : Option Link) → get w.links k ≡ o →
+        numbers_in (on_link w k f o).world ≡ numbers_in w
+    at_link None is = refl
+    at_link (Some l) is = keys_kept w.links k l (f (seat_of w k l)).seat.link is
 
 pub took_keeps : (k n : ℕ) (w : World) → Keeps k w (step w (took k n)).world
 unfolding step
-took_keeps k n w = changed_keeps k w (λ (s : Session). record s { owed = drop n s.owed })
-    (λ s. refl)
+took_keeps k n w = seat_keeps k w (take_from n)
 
 pub broke_keeps : (k : ℕ) (w : World) → Keeps k w (step w (broke k)).world
 unfolding step
-broke_keeps k w =
-    let keeps = changed_keeps k w (gone causes.Broke) (gone_id causes.Broke) in
-    record { others = keeps.others; numbers = keeps.numbers }
+broke_keeps k w = seat_keeps k w (depart k causes.Broke)
 
 -- who is gone is owed nothing
-gone_owed : (cause : Cause) (s : Session) → (gone cause s).owed ≡ []
-gone_owed cause s = grind (arith, nat_tests)
+gone_owed : (cause : Cause) (l : Link) → (gone cause l).owed ≡ []
+gone_owed cause l = grind (arith, nat_tests)
 
 pub broke_owes : (k : ℕ) (w : World) → owed_in k (step w (broke k)).world ≡ []
 unfolding step
-broke_owes k w = elim (found k w.sessions) as (λ o. found k w.sessions ≡ o →
-    owed_in k (changed w k (gone causes.Broke)) ≡ []) [
-      | None ↦ λ none. ap owed_of ((gone_beside k w causes.Broke).none k none)
-      | Some s ↦ λ there. ap owed_of (found_changed k w (gone causes.Broke) s
-          (λ t e. gone_id causes.Broke t) there) ∙ gone_owed causes.Broke s
-    ] refl
+broke_owes k w = at_link (get w.links k) refl
+  where
+    at_link : (o : Option Link) → get w.links k ≡ o →
+        owed_in k (on_link w k (depart k causes.Broke) o).world ≡ []
+    at_link None is = ap owed_of is
+    at_link (Some l) is = ap owed_of (put_same w.links k (gone causes.Broke l))
+        ∙ gone_owed causes.Broke l
+
+-- ---- who is served
+
+pub served_more : (w : World) (xs ys : List LogEntry) (k : ℕ) → IsServed (logged w xs) ys k →
+    IsServed w (xs ++ ys) k
+served_more w xs ys k served = elim served [
+  | inl none ↦ inl (ap (owed_in k) (logged_more w xs ys) ∙ none)
+  | inr stalled ↦ inr (Contains-append_right xs ys (Stalled k) stalled)
+]
+
+-- one that is owed what it was
+pub served_still : (w : World) (xs ys : List LogEntry) (k : ℕ) →
+    owed_in k (logged (logged w xs) ys) ≡ owed_in k (logged w xs) → IsServed w xs k →
+    IsServed w (xs ++ ys) k
+served_still w xs ys k same served = elim served [
+  | inl none ↦ inl (ap (owed_in k) (logged_more w xs ys) ∙ same ∙ none)
+  | inr stalled ↦ inr (Contains-append_left xs ys (Stalled k) stalled)
+]

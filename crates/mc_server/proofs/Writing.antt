@@ -1,29 +1,34 @@
 -- Writing to one connection, piece by piece, and to all, one after another.
-use Rattle.std.proofs.Common.{◌≡◌, ◌≢◌, ◌⊎◌, inl, inr, ◌+◌, ◌<◌, ◌≤◌, ℕ, zero, suc, List, [], ◌∷◌}
-use Rattle.std.proofs.Common.{◌++◌, map, length, take, Option, true, false, cond, refl, sym, subst}
-use Rattle.std.proofs.Common.{ap, ◌∙◌, arith, append_assoc, append-nil, length-take, take-take}
+use Rattle.std.proofs.Common.{◌≡◌, ◌≢◌, inl, inr, ◌+◌, ◌<◌, ◌≤◌, ℕ, List, [], ◌∷◌, ◌++◌, T, length}
+use Rattle.std.proofs.Common.{take, Option, Some, None, false, refl, sym, subst, ap, ◌∙◌, arith}
+use Rattle.std.proofs.Common.{append_assoc, append-nil, length-take, take-take}
 use Rattle.std.proofs.lemmas.Bool.Decides.{nat_tests}
-use Rattle.std.specs.Prelude.{◌==◌, ◌↔◌, Some}
-use Rattle.std.specs.List.{Contains}
-use Rattle.std.proofs.lemmas.Bool.{cases_eq, eqb-true}
-use Rattle.std.proofs.lemmas.List.Elements.{Contains-append_left, Contains-append_right}
+use Rattle.std.specs.Prelude.{◌↔◌, is_some}
+use Rattle.std.specs.Ordering.{nat_cmp}
+use Rattle.std.specs.FinMap.{FinMap, contains_key-keys, entries, entries_sorted, get, keys}
+use Rattle.std.proofs.lemmas.Bool.{cases_eq}
 use Rattle.mc_wire.specs.declared.log.LogEntry.{LogEntry}
 use Rattle.mc_wire.specs.declared.log.LogEntry.TheVariants.{Put, Stalled, Broke}
 use Rattle.mc_wire.specs.LobbyTold.{LobbyTold}
 use Rattle.mc_wire.specs.Becoming.{Logs}
-use Rattle.mc_wire.proofs.LobbyCalls.{Logs-refl, Logs-trans}
-use Rattle.mc_model.specs.World.{World, Session, found}
+use Rattle.mc_wire.proofs.LobbyCalls.{Logs-refl}
 use Rattle.mc_model.specs.Step.{broke, took, step}
+use Rattle.mc_model.specs.Turns.{Rises, AreWrites}
+use Rattle.mc_model.specs.Link.{Link}
+use Rattle.mc_model.specs.World.{World}
 use Rattle.mc_model.specs.Run.{owed_in, owed_of}
 use Rattle.mc_model.specs.Log.{logged}
-use Rattle.mc_model.specs.Orderly.{Rise, next_number}
-use Rattle.mc_model.specs.Turns.{AreWrites, Rises}
-use Rattle.mc_model.proofs.LogLaws.{logged_more}
+use Rattle.mc_model.proofs.Maps.Lookups.{untied_number}
+use Rattle.mc_told.proofs.Ordered.{first as left_holds, second as right_holds}
+use Rattle.mc_told.proofs.Rising.{below_keys, rising, sorted_is}
+use Rattle.mc_laws.proofs.Serving.Logs.{logged_more}
 use Rattle.mc_events.specs.Served.{ServerValue}
 use Rattle.mc_events.specs.Stands.{Stands}
+use Rattle.mc_events.proofs.Loops.{is_of}
 use Rattle.mc_server.specs.TurnParts.{Adds, HasSent, HasSentAll, IsServed, Leads, numbers_in}
-use Rattle.mc_server.proofs.LogFacts.{Keeps, keeps_onward, keeps_same, took_keeps, broke_keeps}
-use Rattle.mc_server.proofs.LogFacts.{broke_owes, writes_append}
+use Rattle.mc_server.proofs.LogFacts.{Keeps, adds_more, broke_keeps, broke_owes, keeps_more}
+use Rattle.mc_server.proofs.LogFacts.{keeps_same, served_more, served_still, took_keeps}
+use Rattle.mc_server.proofs.LogFacts.{writes_append}
 
 -- ---- rising numbers
 
@@ -35,38 +40,32 @@ rises_lower least more (Stalled k ∷ xs) le r = (omega (arith, le, r.0), r.1)
 rises_lower least more (Broke k ∷ xs) le r = (omega (arith, le, r.0), r.1)
 rises_lower least more (other ∷ xs) le r = absurd r
 
--- pieces were put to one connection
-abbrev pub ArePuts : ℕ → List LogEntry → Type 0
-ArePuts k [] = Unit {0}
-ArePuts k (Put j bytes ∷ later) = (j ≡ k) × ArePuts k later
-ArePuts k (other ∷ later) = ⊥
-
-puts_more : (k : ℕ) (bytes : List ℕ) (xs : List LogEntry) → ArePuts k xs →
-    ArePuts k (xs ++ Put k bytes ∷ [])
-puts_more k bytes [] are = (refl, tt)
-puts_more k bytes (Put j piece ∷ xs) are = (are.0, puts_more k bytes xs are.1)
-puts_more k bytes (other ∷ xs) are = absurd are
-
-puts_lead : (k next : ℕ) (xs last : List LogEntry) → ArePuts k xs → Leads k next last →
-    Leads k next (xs ++ last)
-puts_lead k next [] last are lead = lead
-puts_lead k next (Put j bytes ∷ xs) last are lead =
-    grind (arith, nat_tests, puts_lead k next xs last are.1 lead)
-puts_lead k next (other ∷ xs) last are lead = absurd are
+-- writes behind writes
+leads_onward : (first next last : ℕ) (xs ys : List LogEntry) → Leads first next xs →
+    Leads next last ys → Leads first last (xs ++ ys)
+leads_onward first next last xs ys a b =
+    λ later r. rw (append_assoc xs ys later) (a (ys ++ later) (b later r))
 
 -- ---- one connection
 
+-- pieces were put to it
 pub record IsSending (k : ℕ) (old new : Option LobbyTold) (w : World) (server : ServerValue)
     : Type 0 where
   pub puts : List LogEntry
   pub adds : Adds old new w server puts
   pub are_writes : AreWrites w puts
-  pub only : ArePuts k puts
+  pub leads : Leads k k puts
   pub keeps : Keeps k w (logged w puts)
 
 pub sending_start : (k : ℕ) (old : Option LobbyTold) (w : World) (server : ServerValue) →
     Stands server w → IsSending k old old w server
-sending_start k old w server stands = grind (arith, nat_tests, Logs-refl, keeps_same)
+sending_start k old w server stands = record {
+  puts = [];
+  adds = record { told = Logs-refl old; stands = stands };
+  are_writes = tt;
+  leads = λ later r. r;
+  keeps = keeps_same k w;
+}
 
 -- the first bytes of a front are those that are owed
 piece_first : (n count : ℕ) (front owed : List ℕ) → count ≤ length front →
@@ -97,51 +96,35 @@ sending_next k n count front old mid new w before after few most first within to
     let cut = length-take count front in
     let less = within.1 in
     let some = within.0 in
-    let taken : (step v (took k (length bytes))).world ≡ (step v (took k n)).world =
-    ap (λ (m : ℕ). (step v (took k m)).world) long in
-    let world : logged w (s.puts ++ entry ∷ []) ≡ (step v (took k n)).world =
-    logged_more w s.puts (entry ∷ []) ∙ taken in
     let owed : take (length bytes) (owed_in k v) ≡ bytes =
     ap (λ (m : ℕ). take m (owed_in k v)) long
     ∙ piece_first n count front (owed_in k v) few less (first v s.adds.stands) in
-    let P : World → Type 0 = λ u. Stands after u in
-    let Q : World → Type 0 = λ u. Keeps k w u in
     record {
       puts = s.puts ++ entry ∷ [];
-      adds = grind (arith, nat_tests, Logs-trans);
+      adds = adds_more old mid new w before after s.puts (entry ∷ []) s.adds (record {
+        told = told;
+        stands = rw long (follows v s.adds.stands);
+      });
       are_writes = writes_append w s.puts (entry ∷ []) s.are_writes
           ((omega (arith, long, some), omega (arith, long, less, cut, most), owed), tt);
-      only = puts_more k bytes s.puts s.only;
-      keeps = subst Q (sym world)
-          (keeps_onward k w v (step v (took k n)).world s.keeps (took_keeps k n v));
+      leads = leads_onward k k k s.puts (entry ∷ []) s.leads (λ later r. (omega arith, r));
+      keeps = keeps_more k w s.puts (entry ∷ []) s.keeps (took_keeps k (length bytes) v);
     }
 
 -- the last write, or none
 module _ (k : ℕ) (old mid new : Option LobbyTold) (w : World) (before after : ServerValue)
     (s : IsSending k old mid w before) where
-  sent_with : (last : List LogEntry) → Logs mid new last →
-      Stands after (logged (logged w s.puts) last) → AreWrites (logged w s.puts) last →
-      Leads k (k + 1) last → IsServed (logged w s.puts) last k →
+  sent_with : (last : List LogEntry) → Adds mid new (logged w s.puts) after last →
+      AreWrites (logged w s.puts) last → Leads k (k + 1) last → IsServed (logged w s.puts) last k →
       Keeps k (logged w s.puts) (logged (logged w s.puts) last) → HasSent k old new w after
-  sent_with last told stands are lead served keeps =
-      let P : World → Type 0 = λ u. Stands after u in
-      let Q : World → Type 0 = λ u. Keeps k w u in
-      let world : logged w (s.puts ++ last) ≡ logged (logged w s.puts) last =
-      logged_more w s.puts last in
-      let kept : Keeps k w (logged w (s.puts ++ last)) = subst Q (sym world)
-      (keeps_onward k w (logged w s.puts) (logged (logged w s.puts) last) s.keeps keeps) in
+  sent_with last adds are lead served keeps =
+      let kept = keeps_more k w s.puts last s.keeps keeps in
       record {
         writes = s.puts ++ last;
-        adds = record {
-          told = Logs-trans old mid new s.puts last s.adds.told told;
-          stands = subst P (sym world) stands;
-        };
+        adds = adds_more old mid new w before after s.puts last s.adds adds;
         are_writes = writes_append w s.puts last s.are_writes are;
-        leads = puts_lead k (k + 1) s.puts last s.only lead;
-        served = elim served as (λ x. IsServed w (s.puts ++ last) k) [
-          | inl none ↦ inl (ap (owed_in k) world ∙ none)
-          | inr stalled ↦ inr (Contains-append_right s.puts last (Stalled k) stalled)
-        ];
+        leads = leads_onward k k (k + 1) s.puts last s.leads lead;
+        served = served_more w s.puts last k served;
         others = kept.others;
         numbers = kept.numbers;
       }
@@ -152,15 +135,17 @@ module _ (k : ℕ) (old mid new : Option LobbyTold) (w : World) (before after : 
       HasSent k old new w after
   sent_broke some told follows =
       let v : World = logged w s.puts in
-      sent_with (Broke k ∷ []) told (follows v s.adds.stands) (some v s.adds.stands, tt)
-      (λ later r. (omega arith, r)) (inl (broke_owes k v)) (broke_keeps k v)
+      sent_with (Broke k ∷ []) (record { told = told; stands = follows v s.adds.stands })
+      (some v s.adds.stands, tt) (λ later r. (omega arith, r)) (inl (broke_owes k v))
+      (broke_keeps k v)
 
 pub sent_all_of_it : (k : ℕ) (old mid : Option LobbyTold) (w : World) (server : ServerValue) →
     ((v : World) → Stands server v → owed_in k v ≡ []) → IsSending k old mid w server →
     HasSent k old mid w server
 sent_all_of_it k old mid w server none s =
     let v : World = logged w s.puts in
-    sent_with k old mid mid w server server s [] (Logs-refl mid) s.adds.stands tt
+    sent_with k old mid mid w server server s []
+    (record { told = Logs-refl mid; stands = s.adds.stands }) tt
     (λ later r. rises_lower k (k + 1) later (omega arith) r) (inl (none v s.adds.stands))
     (keeps_same k v)
 
@@ -169,9 +154,9 @@ pub sent_stalled : (k : ℕ) (old mid new : Option LobbyTold) (w : World) (serve
     IsSending k old mid w server → HasSent k old new w server
 sent_stalled k old mid new w server some told s =
     let v : World = logged w s.puts in
-    sent_with k old mid new w server server s (Stalled k ∷ []) told s.adds.stands
-    (some v s.adds.stands, tt) (λ later r. (omega arith, r)) (inr (0, omega arith, refl))
-    (keeps_same k v)
+    sent_with k old mid new w server server s (Stalled k ∷ [])
+    (record { told = told; stands = s.adds.stands }) (some v s.adds.stands, tt)
+    (λ later r. (omega arith, r)) (inr (0, omega arith, refl)) (keeps_same k v)
 
 -- what is at the front shows whether anything is owed
 no_bytes : (bytes : List ℕ) → length bytes ≡ 0 → bytes ≡ []
@@ -191,26 +176,22 @@ abbrev pub RiseFrom : ℕ → List ℕ → Type 0
 RiseFrom n [] = Unit {0}
 RiseFrom n (k ∷ ks) = (n ≤ k) × RiseFrom (k + 1) ks
 
-pub rise_from : (low high : ℕ) (ss : List Session) → Rise low ss high →
-    RiseFrom low (map (λ (s : Session). s.id) ss)
-rise_from low high [] r = tt
-rise_from low high (s ∷ ss) r = (r.0, rise_from (s.id + 1) high ss r.1)
+-- keys that rise above one
+rise_above : (k : ℕ) (ks : List ℕ) → T (below_keys nat_cmp k ks) → T (rising nat_cmp ks) →
+    RiseFrom (k + 1) ks
+rise_above k [] below rise = tt
+rise_above k (j ∷ ks) below rise =
+    (grind (arith, nat_tests), rise_above j ks (left_holds _ _ rise) (right_holds _ _ rise))
 
--- who is owed anything is there
-owed_or_there : (k : ℕ) (ss : List Session) →
-    (owed_of (found k ss) ≡ []) ⊎ Contains (map (λ (s : Session). s.id) ss) k
-owed_or_there k [] = inl refl
-owed_or_there k (s ∷ ss) = elim (s.id == k) as (λ b. (s.id == k) ≡ b →
-    (owed_of (cond b (Some s) (found k ss)) ≡ []) ⊎
-    Contains (s.id ∷ map (λ (s : Session). s.id) ss) k) [
-      | true ↦ λ e. inr (0, omega arith, eqb-true s.id k e)
-      | false ↦ λ e. elim (owed_or_there k ss) as (λ x. (owed_of (found k ss) ≡ []) ⊎
-          Contains (s.id ∷ map (λ (s : Session). s.id) ss) k) [
-            | inl none ↦ inl none
-            | inr c ↦ inr (suc c.0, (let lt = c.1 in omega (arith, lt)), c.2)
-          ]
-    ] refl
+-- the keys of a map rise
+pub keys_rise : {X : Type 0} (m : FinMap nat_cmp X) → RiseFrom 0 (keys m)
+keys_rise {X} m = rise (keys m) (subst T (sorted_is nat_cmp (entries m)) (entries_sorted m))
+  where
+    rise : (ks : List ℕ) → T (rising nat_cmp ks) → RiseFrom 0 ks
+    rise [] up = tt
+    rise (k ∷ ks) up = (omega arith, rise_above k ks (left_holds _ _ up) (right_holds _ _ up))
 
+-- those that are not left were served
 pub record IsSendingAll (left_ : List ℕ) (old new : Option LobbyTold) (w : World)
     (server : ServerValue) : Type 0 where
   pub writes : List LogEntry
@@ -219,97 +200,60 @@ pub record IsSendingAll (left_ : List ℕ) (old new : Option LobbyTold) (w : Wor
   pub next : ℕ
   pub leads : Leads 0 next writes
   pub rising : RiseFrom next left_
-  pub served : (k : ℕ) → IsServed w writes k ⊎ Contains left_ k
+  pub served : (k : ℕ) → is_of k left_ ≡ false → IsServed w writes k
   pub numbers : numbers_in (logged w writes) ≡ numbers_in w
+
+-- who is not there is owed nothing
+owed_there : (k : ℕ) (w : World) → is_of k (numbers_in w) ≡ false → owed_in k w ≡ []
+owed_there k w away = nobody (get w.links k) (contains_key-keys w.links k ∙ away)
+  where
+    nobody : (o : Option Link) → is_some o ≡ false → owed_of o ≡ []
+    nobody None e = refl
+    nobody (Some l) e = absurd cc
 
 pub sending_all_start : (ks : List ℕ) (old : Option LobbyTold) (w : World) (server : ServerValue) →
     Stands server w → ks ≡ numbers_in w → IsSendingAll ks old old w server
-sending_all_start ks old w server stands named = grind (
-  arith,
-  Logs-refl old,
-  rise_from 0 (next_number w.last) w.sessions stands.orderly.rising,
-  owed_or_there,
-)
-
--- the first of those that are left is the one, or another is left
-first_or_later : (k j : ℕ) (ks : List ℕ) → Contains (k ∷ ks) j → (j ≡ k) ⊎ Contains ks j
-first_or_later k j ks (zero, lt, is) = inl (sym is)
-first_or_later k j ks (suc i, lt, is) = inr (i, omega (arith, lt), is)
+sending_all_start ks old w server stands named = record {
+  writes = [];
+  adds = record { told = Logs-refl old; stands = stands };
+  are_writes = tt;
+  next = 0;
+  leads = λ later r. r;
+  rising = subst (RiseFrom 0) (sym named) (keys_rise w.links);
+  served = λ k no. inl (owed_there k w (ap (is_of k) (sym named) ∙ no));
+  numbers = refl;
+}
 
 -- one connection more was written to
-module _ (k : ℕ) (ks : List ℕ) (old mid new : Option LobbyTold) (w : World)
-    (before after : ServerValue) (a : IsSendingAll (k ∷ ks) old mid w before)
-    (sent : (v : World) → Stands before v → HasSent k mid new v after) where
-  one : HasSent k mid new (logged w a.writes) after
-  one = sent (logged w a.writes) a.adds.stands
-
-  world : logged w (a.writes ++ one.writes) ≡ logged (logged w a.writes) one.writes
-  world = logged_more w a.writes one.writes
-
-  served_now : (j : ℕ) → j ≡ k → IsServed w (a.writes ++ one.writes) j
-  served_now j same =
-      let P : ℕ → Type 0 = λ i. IsServed w (a.writes ++ one.writes) i in
-      subst P (sym same) (elim one.served as (λ x. IsServed w (a.writes ++ one.writes) k) [
-        | inl none ↦ inl (ap (owed_in k) world ∙ none)
-        | inr stalled ↦ inr (Contains-append_right a.writes one.writes (Stalled k) stalled)
-      ])
-
-  served_still : (j : ℕ) → IsServed w a.writes j → IsServed w (a.writes ++ one.writes) j
-  served_still j served = elim served as (λ x. IsServed w (a.writes ++ one.writes) j) [
-    | inl none ↦ elim (cases_eq j k) as (λ x. IsServed w (a.writes ++ one.writes) j) [
-      | inl same ↦ served_now j same
-      | inr ne ↦ inl (ap (owed_in j) world ∙ one.others j ne ∙ none)
-    ]
-    | inr stalled ↦ inr (Contains-append_left a.writes one.writes (Stalled j) stalled)
-  ]
-
-  sending_all_next : IsSendingAll ks old new w after
-  sending_all_next =
-      let P : World → Type 0 = λ u. Stands after u in
-      let Q : List LogEntry → Type 0 = λ xs. Rises 0 xs in
-      record {
-        writes = a.writes ++ one.writes;
-        adds = record {
-          told = Logs-trans old mid new a.writes one.writes a.adds.told one.adds.told;
-          stands = subst P (sym world) one.adds.stands;
-        };
-        are_writes = writes_append w a.writes one.writes a.are_writes one.are_writes;
-        next = k + 1;
-        leads = λ later r. subst Q (sym (append_assoc a.writes one.writes later))
-            (a.leads (one.writes ++ later) (rises_lower a.next k (one.writes ++ later) a.rising.0
-            (one.leads later r)));
-        rising = a.rising.1;
-        served = λ j. elim (a.served j) as (λ x. IsServed w (a.writes ++ one.writes) j ⊎
-            Contains ks j) [
-              | inl served ↦ inl (served_still j served)
-              | inr there ↦ elim (first_or_later k j ks there) as
-                  (λ x. IsServed w (a.writes ++ one.writes) j ⊎ Contains ks j) [
-                    | inl same ↦ inl (served_now j same)
-                    | inr later ↦ inr later
-                  ]
-            ];
-        numbers = ap numbers_in world ∙ one.numbers ∙ a.numbers;
-      }
-
 pub sending_all_step : (k : ℕ) (left_ ks : List ℕ) (old mid new : Option LobbyTold) (w : World)
     (before after : ServerValue) → left_ ≡ k ∷ ks → IsSendingAll left_ old mid w before →
     ((v : World) → Stands before v → HasSent k mid new v after) → IsSendingAll ks old new w after
-sending_all_step k left_ ks old mid new w before after first a sent =
-    let P : List ℕ → Type 0 = λ js. IsSendingAll js old mid w before in
-    sending_all_next k ks old mid new w before after (subst P first a) sent
-
-none_there : (k : ℕ) → Contains [] k → ⊥
-none_there k (i, lt, is) = omega (arith, lt)
+sending_all_step k left_ ks old mid new w before after first so_far sent =
+    let a = rw first at so_far in
+    let one = sent (logged w a.writes) a.adds.stands in
+    record {
+      writes = a.writes ++ one.writes;
+      adds = adds_more old mid new w before after a.writes one.writes a.adds one.adds;
+      are_writes = writes_append w a.writes one.writes a.are_writes one.are_writes;
+      next = k + 1;
+      leads = leads_onward 0 a.next (k + 1) a.writes one.writes a.leads (λ later r.
+          rises_lower a.next k (one.writes ++ later) a.rising.0 (one.leads later r));
+      rising = a.rising.1;
+      served = λ j away. elim (cases_eq j k) [
+        | inl same ↦ rw same (served_more w a.writes one.writes k one.served)
+        | inr ne ↦ served_still w a.writes one.writes j (one.others j ne)
+            (a.served j (rw (untied_number j k ne) away))
+      ];
+      numbers = ap numbers_in (logged_more w a.writes one.writes) ∙ one.numbers ∙ a.numbers;
+    }
 
 pub sent_to_all : (left_ : List ℕ) (old new : Option LobbyTold) (w : World) (server : ServerValue) →
     left_ ≡ [] → IsSendingAll left_ old new w server → HasSentAll old new w server
-sent_to_all left_ old new w server end a =
-    let P : List LogEntry → Type 0 = λ xs. Rises 0 xs in
-    record {
-      writes = a.writes;
-      adds = a.adds;
-      are_writes = a.are_writes;
-      rises = subst P (append-nil a.writes) (a.leads [] tt);
-      served = grind (arith, nat_tests);
-      numbers = a.numbers;
-    }
+sent_to_all left_ old new w server end a = record {
+  writes = a.writes;
+  adds = a.adds;
+  are_writes = a.are_writes;
+  rises = (let all = a.leads [] tt in rw append-nil at all);
+  served = λ k. a.served k (ap (is_of k) end);
+  numbers = a.numbers;
+}

@@ -1,31 +1,36 @@
 -- What serving a lobby comes to: the turns that it took, how it ended, and what it counted. Rules
 -- of this project.
-use Rattle.std.specs.Prelude.{◌≡◌, ℕ, ◌+◌, ◌<◌, ◌≤◌, Bool, true, false, length}
-use Rattle.std.specs.Prelude.{List, [], ◌∷◌, ◌++◌, Option, Result, Ok, Err}
+use Rattle.std.specs.Prelude.{◌≡◌, ℕ, ◌+◌, ◌<◌, ◌≤◌, Bool, true, false, length, List, [], ◌∷◌, ◌++◌}
+use Rattle.std.specs.Prelude.{Option, Result, Ok, Err}
 use Rattle.std.specs.List.{count_by}
-use Rattle.mc_land.specs.declared.terrain.Terrain.{Terrain}
 use Rattle.mc_wire.specs.declared.log.LogEntry.{LogEntry}
 use Rattle.mc_wire.specs.declared.log.LogEntry.TheVariants.{Joined, Ticked, Closed}
 use Rattle.mc_wire.specs.declared.log.LogEntry.TheVariants as entries
 use Rattle.mc_wire.specs.LobbyTold.{LobbyTold, with_entries, with_port}
 use Rattle.mc_wire.specs.Becoming.{ToldBecomes}
+use Rattle.mc_model.specs.declared.settings.Settings.{Settings}
+use Rattle.mc_model.specs.Log.{events_in, log_of, logged}
 use Rattle.mc_model.specs.World.{World, new_world}
 use Rattle.mc_model.specs.Run.{cause_in}
-use Rattle.mc_model.specs.Log.{events_in, log_of, logged}
 use Rattle.mc_model.specs.Turns.{AreTurns}
 use Rattle.mc_model.specs.Headline.{Headline}
 use Rattle.mc_model.specs.Serving.{Serves}
-use Rattle.mc_events.specs.Asking.{is_ours, ours_there}
+use Rattle.mc_links.specs.Kept.{is_ours}
+use Rattle.mc_events.specs.Asking.{ours_there}
+use Rattle.mc_events.specs.Served.{ServerValue, age_of}
+use Rattle.mc_events.specs.Stands.{Stands}
 use Rattle.mc_server.specs.declared.service.Budget.{Budget}
 use Rattle.mc_server.specs.declared.service.Tally.{Tally}
 use Rattle.mc_server.specs.declared.service.Ended.{Ended}
 use Rattle.mc_server.specs.declared.service.Ended.TheVariants as ends
 use Rattle.mc_server.specs.declared.service.DriveFault.{DriveFault}
 use Rattle.mc_server.specs.declared.service.DriveFault.TheVariants.{Listen, Next, Events, NoMemory}
-use Rattle.mc_events.specs.Served.{ServerValue, one_if}
-use Rattle.mc_events.specs.Stands.{Stands, age_of}
 
 -- ---- counting in a log
+
+abbrev pub one_if : Bool → ℕ
+one_if true = 1
+one_if false = 0
 
 abbrev pub is_tick : LogEntry → Bool
 is_tick Ticked = true
@@ -105,9 +110,8 @@ pub record Drove (call : LobbyTold → LobbyTold) (budget : Budget) (old new : O
 
 -- The lobby was asked to listen once, on the port alone, and then served by a server that nothing
 -- had happened to. The whole promise holds of that: of the run, and of what the lobby took.
-pub record DroveNew (budget : Budget) (old new : Option LobbyTold) (most cap : ℕ)
-    (terrain : Terrain) (server : ServerValue) (result : Result Ended DriveFault) : Type 0 where
-  pub drove : Drove (with_port budget.port) budget old new (new_world most cap terrain) server
-      result
-  pub headline : Headline most cap terrain (events_in (log_of drove.turns ++ drove.last))
-  pub serves : Serves most cap terrain drove.turns
+pub record DroveNew (budget : Budget) (old new : Option LobbyTold) (settings : Settings)
+    (server : ServerValue) (result : Result Ended DriveFault) : Type 0 where
+  pub drove : Drove (with_port budget.port) budget old new (new_world settings) server result
+  pub headline : Headline settings (events_in (log_of drove.turns ++ drove.last))
+  pub serves : Serves settings drove.turns

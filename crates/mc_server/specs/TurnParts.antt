@@ -1,25 +1,25 @@
 -- What the parts of a turn come to: writes to one connection and to all, and who is closed then.
-use Rattle.std.specs.Prelude.{◌≡◌, ◌≢◌, ◌⊎◌, ◌+◌, ℕ, List, [], ◌∷◌, ◌++◌, map, if◌then◌else◌}
-use Rattle.std.specs.Prelude.{Option}
+use Rattle.std.specs.Prelude.{◌≡◌, ◌≢◌, ◌⊎◌, ◌+◌, ℕ, List, [], ◌∷◌, ◌++◌, if◌then◌else◌, Option}
 use Rattle.std.specs.List.{Contains, count_by}
+use Rattle.std.specs.FinMap.{keys}
 use Rattle.mc_wire.specs.declared.log.LogEntry.{LogEntry}
 use Rattle.mc_wire.specs.declared.log.LogEntry.TheVariants.{Closed, Stalled}
 use Rattle.mc_wire.specs.LobbyTold.{LobbyTold}
 use Rattle.mc_wire.specs.Becoming.{Logs}
-use Rattle.mc_model.specs.World.{World, Session}
-use Rattle.mc_model.specs.Run.{owed_in}
 use Rattle.mc_model.specs.Log.{events_of, logged}
-use Rattle.mc_model.specs.Turns.{AreWrites, Happens, IsTurn, Rises}
+use Rattle.mc_model.specs.Turns.{Happens, Rises, AreWrites, IsTurn}
+use Rattle.mc_model.specs.World.{World}
+use Rattle.mc_model.specs.Run.{owed_in}
 use Rattle.mc_events.specs.declared.input.Input.{Input}
 use Rattle.mc_events.specs.Asking.{is_done_in}
-use Rattle.mc_server.specs.Drives.{is_join, is_tick, ours_in}
 use Rattle.mc_events.specs.Inputs.{age_after, event_of}
-use Rattle.mc_events.specs.Served.{ServerValue, one_if}
+use Rattle.mc_events.specs.Served.{ServerValue}
 use Rattle.mc_events.specs.Stands.{Stands}
+use Rattle.mc_server.specs.Drives.{is_join, is_tick, one_if, ours_in}
 
 -- the numbers of the connections
 abbrev pub numbers_in : World → List ℕ
-numbers_in w = map (λ (s : Session). s.id) w.sessions
+numbers_in w = keys w.links
 
 -- These entries were added to the log of a lobby, and the server stands for the world after them.
 pub record Adds (old new : Option LobbyTold) (w : World) (server : ServerValue)

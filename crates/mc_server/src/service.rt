@@ -1,18 +1,20 @@
-ghost use Rattle.std.specs.Prelude.{◌≡◌, ◌≢◌, ◌+◌, ◌<◌, ◌≤◌, ◌^◌, ℕ, List, [], true, Err, IfOk};
-ghost use Rattle.std.specs.Prelude.{None, Some, length};
+ghost use Rattle.std.specs.Prelude.{◌≡◌, ◌≢◌, ◌+◌, ◌<◌, ◌≤◌, ◌^◌, ℕ, List, true, Err, IfOk, None};
+ghost use Rattle.std.specs.Prelude.{Some, length};
+ghost use Rattle.std.specs.FinMap.{empty};
 ghost use Rattle.std.specs.Option.{MatchOption};
-ghost use Rattle.mc_land.specs.declared.terrain.Terrain.{Terrain};
 ghost use Rattle.mc_wire.specs.declared.log.LogEntry.{LogEntry};
 ghost use Rattle.mc_wire.specs.LobbyAnswers.{IsInBuffer, event_entry};
 ghost use Rattle.mc_wire.specs.LobbyTold.{LobbyTold, with_entries, with_port};
 ghost use Rattle.mc_wire.specs.Becoming.{HasLogged, ToldBecomes};
 ghost use Rattle.mc_wire.specs.Count.{Rose};
 ghost use Rattle.mc_wire.specs.LobbyCounts.{StandOrRise};
-ghost use Rattle.mc_model.specs.World.{AreSettings, World, new_world};
+ghost use Rattle.mc_model.specs.declared.settings.Settings.{Settings};
+ghost use Rattle.mc_model.specs.Game.{AreSettings};
+ghost use Rattle.mc_model.specs.World.{World, new_world};
 ghost use Rattle.mc_events.specs.Asking.{ours_there};
-ghost use Rattle.mc_server.specs.Drives.{Drove, DroveNew, is_join};
-ghost use Rattle.mc_events.specs.Served.{one_if};
-ghost use Rattle.mc_events.specs.Stands.{Stands, age_of};
+ghost use Rattle.mc_events.specs.Served.{age_of};
+ghost use Rattle.mc_events.specs.Stands.{Stands};
+ghost use Rattle.mc_server.specs.Drives.{Drove, DroveNew, is_join, one_if};
 ghost use Rattle.mc_server.specs.TurnParts.{IsInputOf};
 
 mod turn;
@@ -145,7 +147,7 @@ fn serve<L: Lobby>(
     requires young { age_of server.old ≡ 0 }
     requires ticks { (1 ≤ budget.ticks) × (budget.ticks ≤ 1000000000) }
     requires room { 0 < length buffer.old }
-    ensures drove { (w : World) → Stands server.old w → w.sessions ≡ [] →
+    ensures drove { (w : World) → Stands server.old w → w.links ≡ empty →
         result ≢ Err DriveFault.NoMemory → Drove (λ (told : LobbyTold). told) budget
         (L.told lobby.old) (L.told lobby.new) w server.new result }
     ensures logs { HasLogged (L.told lobby.old) (L.told lobby.new) }
@@ -186,9 +188,9 @@ pub fn drive<L: Lobby>(
     requires port { 1 ≤ budget.port }
     requires ticks { (1 ≤ budget.ticks) × (budget.ticks ≤ 1000000000) }
     requires events { 1 ≤ budget.events }
-    ensures drove { (most cap : ℕ) (terrain : Terrain) → AreSettings most cap →
-        Stands server.old (new_world most cap terrain) → result ≢ Err DriveFault.NoMemory →
-        DroveNew budget (L.told lobby.old) (L.told lobby.new) most cap terrain server.new result }
+    ensures drove { (settings : Settings) → AreSettings settings.players settings.cap →
+        Stands server.old (new_world settings) → result ≢ Err DriveFault.NoMemory →
+        DroveNew budget (L.told lobby.old) (L.told lobby.new) settings server.new result }
     ensures asks { (entries : List LogEntry) × ToldBecomes (L.told lobby.old) (L.told lobby.new)
         (λ told. with_entries entries (with_port budget.port told)) }
     ensures unheard { result ≡ Err DriveFault.Listen →

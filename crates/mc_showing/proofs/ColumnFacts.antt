@@ -8,8 +8,8 @@ use Rattle.mc_view.specs.declared.view_set.ViewSet.{ViewSet}
 use Rattle.mc_view.specs.Sets.{all_of, is_within}
 use Rattle.mc_loads.specs.Columns.{entered_of}
 use Rattle.mc_flush.specs.Seeing.{MarkValue, loaded}
-use Rattle.mc_game.specs.declared.player.Player.{Player}
-use Rattle.mc_game.specs.Game.{Game, view_in}
+use Rattle.mc_model.specs.declared.player.Player.{Player}
+use Rattle.mc_model.specs.Game.{Game, view_in}
 use Rattle.mc_view.specs.Views.{view_of}
 use Rattle.mc_showing.specs.Around.{IsAround, new_columns}
 

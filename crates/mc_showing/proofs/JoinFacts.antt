@@ -6,7 +6,7 @@ use lib.IntN.{ℤ, pos, negsuc}
 use lib.Signed.{◌≤ℤ◌}
 use Rattle.mc_packets.specs.declared.down.Down.TheVariants.{JoinGame}
 use Rattle.mc_land.specs.declared.terrain.Terrain.{Terrain}
-use Rattle.mc_model.specs.Step.{level}
+use Rattle.mc_model.specs.Opening.{level}
 use Rattle.mc_model.proofs.FitsDue.{level_short}
 use Rattle.mc_model.proofs.FitsPlay.{join_clear}
 use Rattle.mc_sending.specs.Sending.{IsClear}

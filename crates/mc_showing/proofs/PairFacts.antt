@@ -1,6 +1,6 @@
 -- The names of those in play by their identifiers, once a player came, went or changed.
-use Rattle.std.proofs.Common.{◌≡◌, ◌≢◌, ℕ, ◌+◌, ◌≤◌, Bool, true, false, cond, List, [], ◌∷◌}
-use Rattle.std.proofs.Common.{map, length, is_some, refl, sym, subst, ap, ◌∙◌, arith, not}
+use Rattle.std.proofs.Common.{◌≡◌, ◌≢◌, ℕ, ◌+◌, ◌≤◌, Bool, true, false, cond, List, [], ◌∷◌, map}
+use Rattle.std.proofs.Common.{length, is_some, refl, sym, subst, ap, ◌∙◌, arith, not}
 use Rattle.std.proofs.lemmas.Bool.Decides.{nat_tests}
 use Rattle.std.specs.Prelude.{◌==◌, Some, None, option_map}
 use Rattle.std.specs.List.{AllByRecursion, filter, list_any}
@@ -8,14 +8,13 @@ use Rattle.std.specs.Cmp.{nat_cmp_total}
 use Rattle.std.specs.Ordering.{eq_by_cmp, nat_cmp}
 use Rattle.std.specs.FinMap.{FinMap, contains_key, entries, entries-insert, entries_sorted, find}
 use Rattle.std.specs.FinMap.{from_entries, get, get-entries, get-from_entries, get-insert}
-use Rattle.std.specs.FinMap.{get-remove, insert, len, len-empty, len-entries}
-use Rattle.std.specs.FinMap.{len-insert, put, remove}
-use Rattle.std.specs.FinMap.{nat_cmp-IsAntisymmetric, same_map, values}
+use Rattle.std.specs.FinMap.{get-remove, insert, len, len-empty, len-entries, len-insert, put}
+use Rattle.std.specs.FinMap.{remove, nat_cmp-IsAntisymmetric, same_map, values}
 use Rattle.std.specs.FinMap.Entries.{where_key}
-use Rattle.mc_model.proofs.Maps.{each_found, equal}
-use Rattle.mc_game.specs.declared.player.Player.{Player}
-use Rattle.mc_game.specs.Game.{Game, players_of}
-use Rattle.mc_game.proofs.Maps.Lookups.{tied_number}
+use Rattle.mc_model.proofs.Maps.Sorted.{each_found, equal}
+use Rattle.mc_model.specs.declared.player.Player.{Player}
+use Rattle.mc_model.specs.Game.{Game, players_of}
+use Rattle.mc_model.proofs.Maps.Lookups.{tied_number}
 use Rattle.mc_showing.specs.Shown.{pairs_of}
 use Rattle.mc_showing.proofs.Mapped.{values_alike}
 use Rattle.mc_showing.proofs.RosterFacts.{entries_removed}

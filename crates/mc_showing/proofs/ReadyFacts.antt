@@ -1,7 +1,7 @@
 -- Columns that are made ready stay so, and what was encoded of a game stays so with them.
 use Rattle.std.proofs.Common.{◌≡◌, ℕ, Bool, true, false, List, [], ◌∷◌, map, refl, sym, subst, ap}
 use Rattle.std.proofs.Common.{◌∙◌}
-use Rattle.std.specs.Prelude.{◌||◌, Option, Some, None}
+use Rattle.std.specs.Prelude.{◌||◌, Option, Some}
 use Rattle.std.specs.List.{AllByRecursion}
 use Rattle.std.specs.FinMap.{get}
 use Rattle.std.specs.FinSet as set
@@ -20,8 +20,8 @@ use Rattle.mc_loads.specs.Columns.{IsReady, placed_with}
 use Rattle.mc_flush.specs.Encoding.{AreFrames, EncodedValue}
 use Rattle.mc_flush.specs.Lists.{ListValue}
 use Rattle.mc_flush.specs.Seeing.{MarkValue}
-use Rattle.mc_game.specs.declared.player.Player.{Player}
-use Rattle.mc_game.specs.Game.{Game}
+use Rattle.mc_model.specs.declared.player.Player.{Player}
+use Rattle.mc_model.specs.Game.{Game}
 use Rattle.mc_play.specs.Kept.{GameValue, land_of}
 use Rattle.mc_showing.specs.Around.{new_columns}
 use Rattle.mc_showing.specs.Preparing.{IsReadyFor, Prepares}
@@ -154,9 +154,3 @@ ready_for old new connection p mark places here are same all q there =
     subst (AllByRecursion (IsReady (land_of new)))
     (are ∙ ap (λ (g : Game). new_columns g p mark) (sym same.game)
     ∙ ap (λ (r : Player). new_columns new.game r mark) is) all
-
--- and for one that has no player
-pub ready_for_none : (v : GameValue) (connection : ℕ) (mark : MarkValue) →
-    get v.game.players connection ≡ None → IsReadyFor v connection mark
-ready_for_none v connection mark none q there =
-    let clash : ◌≡◌ {A = Option Player} None (Some q) = sym none ∙ there in absurd cc

@@ -7,15 +7,15 @@ use Rattle.std.specs.Prelude.{Option, None}
 use Rattle.std.specs.List.{AllByRecursion}
 use Rattle.std.specs.Cmp.{eq_by_cmp_equiv, nat_cmp_total}
 use Rattle.std.specs.Ordering.{eq_by_cmp, nat_cmp}
-use Rattle.std.specs.FinMap.{FinMap, contains_key, empty, entries, entries-insert}
-use Rattle.std.specs.FinMap.{entries_sorted, find, get}
-use Rattle.std.specs.FinMap.{get-entries, get-remove, insert, len, len-empty, len-entries}
-use Rattle.std.specs.FinMap.{len-insert, len-remove, nat_cmp-IsAntisymmetric, put, remove}
+use Rattle.std.specs.FinMap.{FinMap, contains_key, empty, entries, entries-insert, entries_sorted}
+use Rattle.std.specs.FinMap.{find, get, get-entries, get-remove, insert, len, len-empty}
+use Rattle.std.specs.FinMap.{len-entries, len-insert, len-remove, nat_cmp-IsAntisymmetric, put}
+use Rattle.std.specs.FinMap.{remove}
 use Rattle.std.specs.FinMap.Entries.{find-where_key, is_sorted-where_key, same_entries, where_key}
 use Rattle.mc_model.specs.Names.{is_name}
 use Rattle.mc_model.proofs.FitsText.{name_short}
 use Rattle.mc_sending.proofs.Pieces.{all_filtered}
-use Rattle.mc_flush.specs.Lists.{ListValue, new_list, settled_list, with_name, without_name}
+use Rattle.mc_flush.specs.Lists.{ListValue, new_list, with_name, without_name}
 use Rattle.mc_flush.specs.Seeing.{IsNamed}
 use Rattle.mc_showing.specs.Rosters.{IsRoster}
 
@@ -89,8 +89,3 @@ name_gone list uuid is = record {
     few_less : (there : Bool) (old new : ℕ) → old ≤ 50 → new ≡ cond there (old - 1) old → new ≤ 50
     few_less true old new le e = omega (arith, le, e)
     few_less false old new le e = omega (arith, le, e)
-
--- ---- settled
-
-pub roster_settled : (list : ListValue) → IsRoster list → IsRoster (settled_list list)
-roster_settled list is = record { few = is.few; few_before = is.few; named = is.named }

@@ -1,6 +1,6 @@
 -- What a client is shown of the parts of a scene is what the game shows its player.
-use Rattle.std.proofs.Common.{◌≡◌, ℕ, List, [], ◌++◌, map, Option, Some, None}
-use Rattle.std.proofs.Common.{is_some, refl, sym, subst, ap, ◌∙◌, append_assoc}
+use Rattle.std.proofs.Common.{◌≡◌, ℕ, List, [], ◌++◌, map, Option, Some, None, is_some, refl, sym}
+use Rattle.std.proofs.Common.{subst, ap, ◌∙◌, append_assoc}
 use Rattle.std.specs.Prelude.{drop, option_map, if◌then◌else◌}
 use Rattle.std.specs.List.{AllByRecursion, filter, filter_map}
 use Rattle.std.specs.FinMap.{from_entries, get-empty}
@@ -12,13 +12,13 @@ use Rattle.mc_entities.specs.declared.entity.Entity.{Entity}
 use Rattle.mc_slots.specs.Pile.{slot_of}
 use Rattle.mc_view.specs.Views.{column_of_spot, is_in_view, view_of}
 use Rattle.mc_model.specs.Delta.{delta}
-use Rattle.mc_model.specs.Sight.{Sight, nothing_seen}
-use Rattle.mc_model.specs.Step.{noted_packets, notes_of, opening_of}
+use Rattle.mc_model.specs.Sight.{Sight, nothing_seen, others, seen_of}
+use Rattle.mc_model.specs.Notes.{noted_packets, notes_of}
+use Rattle.mc_model.specs.Opening.{opening_of}
 use Rattle.mc_model.specs.Ticks.{beat_at, shown_age}
-use Rattle.mc_model.specs.World.{others, seen_of}
-use Rattle.mc_game.specs.declared.player.Player.{Player}
-use Rattle.mc_game.specs.Game.{Game, spot_of}
-use Rattle.mc_game.specs.Showing.{due, last_shown, notes_due, sight_of}
+use Rattle.mc_model.specs.declared.player.Player.{Player}
+use Rattle.mc_model.specs.Game.{Game, spot_of}
+use Rattle.mc_model.specs.Showing.{due, last_shown, notes_due, sight_of}
 use Rattle.mc_play.specs.Kept.{land_of}
 use Rattle.mc_told.specs.Telling.{kept_of, told_slot}
 use Rattle.mc_loads.specs.Columns.{IsReady, placed_with}

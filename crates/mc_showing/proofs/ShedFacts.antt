@@ -7,7 +7,7 @@ use Rattle.mc_land.specs.Shed.{View, is_edited, is_seen, shed_land, stays}
 use Rattle.mc_land.proofs.Orders.{exact_places}
 use Rattle.mc_loads.specs.Columns.{IsReady}
 use Rattle.mc_model.proofs.FitsText.{both_true}
-use Rattle.mc_game.specs.Game.{Game, players_of}
+use Rattle.mc_model.specs.Game.{Game, players_of}
 use Rattle.mc_play.specs.Kept.{GameValue, land_of}
 use Rattle.mc_showing.specs.Around.{reach_of}
 

@@ -7,8 +7,8 @@ use Rattle.mc_land.specs.Shed.{View}
 use Rattle.mc_view.specs.Sets.{is_within}
 use Rattle.mc_view.specs.Views.{column_of_spot, view_size}
 use Rattle.mc_view.specs.declared.view_set.ViewSet.{ViewSet}
-use Rattle.mc_game.specs.declared.player.Player.{Player}
-use Rattle.mc_game.specs.Game.{Game, spot_of, view_in}
+use Rattle.mc_model.specs.declared.player.Player.{Player}
+use Rattle.mc_model.specs.Game.{Game, spot_of, view_in}
 use Rattle.mc_flush.specs.Seeing.{MarkValue}
 
 -- a set of columns is the view of a player

@@ -6,7 +6,7 @@ use Rattle.std.specs.FinMap.{get}
 use Rattle.mc_land.specs.Places.{Place}
 use Rattle.mc_loads.specs.Columns.{IsReady}
 use Rattle.mc_flush.specs.Seeing.{MarkValue}
-use Rattle.mc_game.specs.declared.player.Player.{Player}
+use Rattle.mc_model.specs.declared.player.Player.{Player}
 use Rattle.mc_play.specs.Kept.{GameValue, land_of}
 use Rattle.mc_showing.specs.Around.{new_columns}
 

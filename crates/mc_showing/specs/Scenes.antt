@@ -3,8 +3,8 @@ use Rattle.std.specs.Prelude.{◌≡◌, ◌≤◌, drop}
 use Rattle.std.specs.List.{AllByRecursion}
 use Rattle.std.specs.FinMap.{entries, len}
 use lib.IntN.{pos}
-use Rattle.mc_game.specs.declared.player.Player.{Player}
-use Rattle.mc_game.specs.Game.{pack_of, spot_of}
+use Rattle.mc_model.specs.declared.player.Player.{Player}
+use Rattle.mc_model.specs.Game.{pack_of, spot_of}
 use Rattle.mc_play.specs.Kept.{land_of}
 use Rattle.mc_flush.specs.declared.client_view.ClientView.{ClientView}
 use Rattle.mc_flush.specs.Encoding.{AreFrames}

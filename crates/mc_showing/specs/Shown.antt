@@ -3,8 +3,8 @@ use Rattle.std.specs.Prelude.{◌≡◌, true, map, Option, Some, None}
 use Rattle.std.specs.FinMap.{from_entries}
 use Rattle.mc_model.specs.Delta.{Pairs}
 use Rattle.mc_model.specs.Sight.{Sight}
-use Rattle.mc_game.specs.declared.player.Player.{Player}
-use Rattle.mc_game.specs.Game.{Game, players_of}
+use Rattle.mc_model.specs.declared.player.Player.{Player}
+use Rattle.mc_model.specs.Game.{Game, players_of}
 use Rattle.mc_flush.specs.Lists.{ListValue}
 use Rattle.mc_flush.specs.Seeing.{MarkValue, Parts, StandsFor, is_shown, nothing_shown}
 

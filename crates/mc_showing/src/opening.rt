@@ -7,8 +7,8 @@ ghost use lib.Signed.{◌≤ℤ◌};
 ghost use Rattle.mc_frame.specs.Kept.{joined};
 ghost use Rattle.mc_packets.specs.declared.down.Down.TheVariants.{JoinGame, SpawnPosition};
 ghost use Rattle.mc_model.specs.Packets.{of_play, frame_of};
-ghost use Rattle.mc_model.specs.Step.{level, opening_of};
-ghost use Rattle.mc_model.specs.World.{spawn_height};
+ghost use Rattle.mc_model.specs.Opening.{level, opening_of};
+ghost use Rattle.mc_model.specs.Spots.{spawn_height};
 ghost use Rattle.mc_flush.specs.Seeing.{is_shown};
 ghost use Rattle.mc_sending.specs.Sending.{IsClear, play_bytes};
 

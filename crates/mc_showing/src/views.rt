@@ -1,11 +1,11 @@
 //! The columns around players.
 
 ghost use Rattle.std.specs.Prelude.{◌≡◌, IfOk, map};
-ghost use Rattle.mc_game.specs.Game.{players_of};
+ghost use Rattle.mc_model.specs.Game.{players_of};
 ghost use Rattle.mc_showing.specs.Around.{IsAround, reach_of};
 
 use mc_bytes::NoMemory;
-use mc_game::Player;
+use mc_model::Player;
 use mc_play::Game;
 use mc_view::{ViewSet, column_of_spot, view_size};
 use std::alloc::Global;

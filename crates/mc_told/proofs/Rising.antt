@@ -1,14 +1,10 @@
 -- Keys that strictly rise, and the columns of a view, which do.
 use Rattle.std.proofs.Common.{◌≡◌, ℕ, zero, suc, ◌+◌, ◌*◌, ◌<◌, Bool, true, ◌&&◌, T, List, [], ◌∷◌}
-use Rattle.std.proofs.Common.{◌++◌, map, refl, sym, subst, ap, ◌∙◌, arith}
+use Rattle.std.proofs.Common.{◌++◌, map, refl, ap, ◌∙◌, arith}
 use Rattle.std.proofs.lemmas.Bool.Decides.{nat_tests}
 use Rattle.std.specs.List.{flat_map, range_with_len}
 use Rattle.std.specs.declared.cmp.Ordering.{Ordering}
-use Rattle.std.specs.declared.cmp.Ordering.TheVariants.{Less, Equal, Greater}
-use Rattle.std.specs.Ordering.{int_cmp, is_lt, ordering_then}
-use Rattle.std.specs.Cmp.{tied_itself}
-use Rattle.std.proofs.lemmas.Cmp.{int_cmp_total, int_ranked}
-use Rattle.std.proofs.lemmas.Int.{ints}
+use Rattle.std.specs.Ordering.{int_cmp, is_lt}
 use Rattle.std.specs.FinMap.{is_sorted}
 use Rattle.std.specs.FinMap.Entries.{below_all}
 use lib.IntN.{ℤ, pos, ◌+ℤ◌, ◌-ℤ◌}
@@ -46,12 +42,6 @@ module _ {K : Type 0} (R : K → K → Ordering) where
 
 pub less : (x y : ℤ) → x <ℤ y → T (is_lt (int_cmp x y))
 less x y lt = grind (arith, nat_tests)
-
-is_less : (r : Ordering) → T (is_lt r) → r ≡ Less
-is_less r h = grind (arith, nat_tests)
-
-farther : (first : ℤ) (a b : ℕ) → a < b → (first +ℤ pos a) <ℤ (first +ℤ pos b)
-farther first a b lt = omega (arith, ints, lt)
 
 run_below : (first : ℤ) (a b n : ℕ) → a < b → T (below_keys int_cmp (first +ℤ pos a) (map (λ i.
     first +ℤ pos i) (range_with_len b n)))

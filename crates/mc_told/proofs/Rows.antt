@@ -1,9 +1,9 @@
 -- Entities row by row: the rows of rising entities rise, and what is shown is shown by them.
-use Rattle.std.proofs.Common.{◌≡◌, true, false, cond, T, List, [], ◌∷◌, ◌++◌, map, Option, Some}
+use Rattle.std.proofs.Common.{◌≡◌, T, List, [], ◌∷◌, ◌++◌, map, Option, Some}
 use Rattle.std.proofs.Common.{None, refl, sym, subst, ap, ◌∙◌, arith}
 use Rattle.std.specs.Prelude.{is_some, option_map}
 use Rattle.std.specs.List.{filter_map, flat_map}
-use Rattle.std.specs.Ordering.{int_cmp, eq_by_cmp}
+use Rattle.std.specs.Ordering.{int_cmp}
 use Rattle.std.proofs.lemmas.Cmp.{int_cmp_total}
 use Rattle.std.proofs.lemmas.Int.{ints}
 use Rattle.std.specs.FinMap.{contains_key, find, get, is_sorted, entries, from_entries}
@@ -14,62 +14,25 @@ use lib.IntN.{ℤ, pos}
 use lib.Signed.{◌<ℤ◌, ◌≤ℤ◌}
 use Rattle.mc_fields.specs.declared.position.Spot.{Spot}
 use Rattle.mc_slots.specs.declared.pile.Pile.{Pile}
-use Rattle.mc_slots.specs.declared.pile.Pile.TheVariants.{Full}
 use Rattle.mc_entities.specs.declared.entity.Entity.{Entity}
-use Rattle.mc_entities.specs.declared.entity.EntityKind.{EntityKind}
-use Rattle.mc_entities.specs.declared.entity.EntityKind.TheVariants.{Player, Dropped, Mob}
 use Rattle.mc_entities.specs.Folk.{eid_of}
 use Rattle.mc_entities.specs.Numbers.{Rise}
 use Rattle.mc_view.specs.declared.view_set.ViewSet.{ViewSet}
 use Rattle.mc_view.specs.Told.{Told}
-use Rattle.mc_packets.specs.declared.down.Down.{Down}
 use Rattle.mc_model.specs.declared.seen.SeenKind.TheVariants as seen_kinds
-use Rattle.mc_model.specs.Sight.{Seen}
-use Rattle.mc_model.specs.World.{seen_of}
+use Rattle.mc_model.specs.Sight.{Seen, seen_of}
 use Rattle.mc_told.specs.declared.row.Row.{Row}
-use Rattle.mc_told.specs.Telling.{entity_frames, in_view, is_in, kept_of, packets_of, shown_now}
-use Rattle.mc_told.specs.Telling.{told_slot, row_as, row_in, rows_as, rows_in, rows_packets}
-use Rattle.mc_told.specs.Telling.{row_packets, seen_row, told_now, told_row}
+use Rattle.mc_told.specs.Telling.{entity_frames, in_view, kept_of, packets_of, shown_now}
+use Rattle.mc_told.specs.Telling.{told_slot, row_in, rows_as, rows_in, rows_packets}
+use Rattle.mc_told.specs.Telling.{seen_row, told_now, told_row}
 use Rattle.mc_told.proofs.Ordered.{both, entries_made}
 use Rattle.mc_told.proofs.Rising.{less, sorted_is, rising}
-
--- ---- rows
-
--- what is shown of one entity, in front of others
-seen_one : (eid : ℤ) (spot : Spot) (kind : EntityKind) (es : List Entity) (rows : List Row) →
-    filter_map seen_of es ≡ map seen_row rows →
-    filter_map seen_of (record { eid = eid; spot = spot; kind = kind } ∷ es)
-    ≡ map seen_row (rows_as (row_as (record { eid = eid; spot = spot; kind = kind }) kind) ++ rows)
-seen_one eid spot (Player uuid held) es rows same = ap (λ (ss : List (ℤ × Seen)).
-    seen_row (record { eid = eid; kind = seen_kinds.Player uuid; spot = spot; pile = held }) ∷ ss)
-    same
-seen_one eid spot (Dropped item born) es rows same = ap (λ (ss : List (ℤ × Seen)).
-    seen_row (record { eid = eid; kind = seen_kinds.Item; spot = spot; pile = Full item }) ∷ ss)
-    same
-seen_one eid spot Mob es rows same = same
 
 -- what is shown is shown by the rows
 pub seen_rows : (view : ViewSet) (es : List Entity) →
     filter_map seen_of (in_view view es) ≡ map seen_row (rows_in view es)
 seen_rows view [] = grind (arith, nat_tests)
 seen_rows view (e ∷ es) = grind (arith, nat_tests, seen_rows view es)
-
--- a row has the number of its entity, of whatever kind that is
-kind_eid : (e : Entity) (kind : EntityKind) (row : Row) →
-    row_as e kind ≡ Some row → row.eid ≡ e.eid
-kind_eid e (Player uuid held) row is = sym (let same : record {
-  eid = e.eid;
-  kind = seen_kinds.Player uuid;
-  spot = e.spot;
-  pile = held;
-} ≡ row = cc in ap (λ (r : Row). r.eid) same)
-kind_eid e (Dropped item born) row is = sym (let same : record {
-  eid = e.eid;
-  kind = seen_kinds.Item;
-  spot = e.spot;
-  pile = Full item;
-} ≡ row = cc in ap (λ (r : Row). r.eid) same)
-kind_eid e Mob row is = absurd cc
 
 -- and wherever it stands
 pub row_eid : (view : ViewSet) (e : Entity) (row : Row) →

@@ -29,10 +29,10 @@ use Rattle.mc_view.specs.declared.view_set.ViewSet.{ViewSet}
 use Rattle.mc_view.specs.Told.{Told}
 use Rattle.mc_packets.specs.declared.down.Down.{Down}
 use Rattle.mc_model.specs.Delta.{entity_packets}
-use Rattle.mc_model.specs.World.{others}
-use Rattle.mc_model.proofs.Sessions.{some_none}
-use Rattle.mc_model.proofs.Maps.{each_found, take_out, put_in, is_without, kept, get_kept}
-use Rattle.mc_model.proofs.Maps.{all_put_in}
+use Rattle.mc_model.specs.Sight.{others}
+use Rattle.mc_model.proofs.Maps.Options.{some_none}
+use Rattle.mc_model.proofs.Maps.Sorted.{each_found, take_out, put_in, is_without, kept, get_kept}
+use Rattle.mc_model.proofs.Maps.Sorted.{all_put_in}
 use Rattle.mc_told.specs.declared.row.Row.{Row}
 use Rattle.mc_sending.specs.Sending.{play_bytes}
 use Rattle.mc_told.specs.Telling.{gone_from, shown_now, told_as, gone_among, row_in, row_packets}

@@ -21,9 +21,8 @@ use Rattle.mc_view.specs.Told.{Told}
 use Rattle.mc_view.specs.Views.{column_of_spot}
 use Rattle.mc_model.specs.declared.seen.SeenKind.{SeenKind}
 use Rattle.mc_model.specs.declared.seen.SeenKind.TheVariants as seen_kinds
-use Rattle.mc_model.specs.Sight.{Seen}
+use Rattle.mc_model.specs.Sight.{Seen, seen_of}
 use Rattle.mc_model.specs.Ticks.{beat_at, shown_age}
-use Rattle.mc_model.specs.World.{seen_of}
 use Rattle.mc_model.specs.Delta.{entity_packets}
 use Rattle.mc_told.specs.declared.row.Row.{Row}
 

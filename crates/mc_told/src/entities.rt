@@ -12,7 +12,7 @@ ghost use Rattle.mc_entities.specs.Numbers.{Rise};
 ghost use Rattle.mc_entities.specs.Folk.{eid_of};
 ghost use Rattle.mc_entities.specs.Kept.{AreKinds, Rises};
 ghost use Rattle.mc_model.specs.Delta.{destroying};
-ghost use Rattle.mc_model.specs.World.{others};
+ghost use Rattle.mc_model.specs.Sight.{others};
 ghost use Rattle.mc_told.specs.MoveFrames.{AreMoves};
 ghost use Rattle.mc_sending.specs.Sending.{play_bytes};
 ghost use Rattle.mc_told.specs.Telling.{entity_frames, gone_from, shown_now, gone_among, rows_in};

@@ -1,3 +1,4 @@
+pub mod Alike
 pub mod LongTexts
 pub mod Inputs
 pub mod LongLines

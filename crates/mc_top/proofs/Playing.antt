@@ -1,58 +1,22 @@
 -- Playing events one after another.
-use Rattle.std.proofs.Common.{◌≡◌, ℕ, suc, ◌+◌, ◌<◌, ◌≤◌, List, [], ◌∷◌, ◌++◌}
-use Rattle.std.proofs.Common.{length, get_or, take, drop, refl, sym, subst, ap, ◌∙◌, append_assoc}
-use Rattle.std.proofs.Common.{arith}
-use Rattle.std.specs.Prelude.{Option, Some, None, replicate}
-use Rattle.std.proofs.lemmas.List.{append-nil, take_all, take-append-drop}
-use Rattle.std.proofs.lemmas.List.{take-replicate, replicate_more, take_more}
-use Rattle.std.proofs.lemmas.List.Sums.{fold-append, sum_by-cons}
+use Rattle.std.proofs.Common.{◌≡◌, ℕ, suc, ◌+◌, ◌<◌, ◌≤◌, List, [], ◌∷◌, ◌++◌, length, get_or, take}
+use Rattle.std.proofs.Common.{drop, refl, sym, subst, ap, ◌∙◌, append_assoc, arith}
+use Rattle.std.specs.Prelude.{Option, replicate}
+use Rattle.std.proofs.lemmas.Bool.Decides.{nat_tests}
+use Rattle.std.proofs.lemmas.List.{append-nil, take_all, take-append-drop, take-replicate}
+use Rattle.std.proofs.lemmas.List.{replicate_more, take_more}
+use Rattle.std.proofs.lemmas.List.Sums.{sum_by-cons}
 use Rattle.std.proofs.lemmas.Grind.{flat_map-append}
 use Rattle.std.proofs.Math.Seq.{take-append-add, drop-cons}
-use Rattle.mc_land.specs.declared.terrain.Terrain.{Terrain}
 use Rattle.mc_wire.specs.Stream.{Grows}
-use Rattle.mc_model.specs.World.{World, new_world}
 use Rattle.mc_model.specs.Step.{Event, ticked, step}
-use Rattle.mc_model.specs.Run.{history}
-use Rattle.mc_model.specs.Orderly.{AreApart}
-use Rattle.mc_model.proofs.RunOrder.{orderly_run}
+use Rattle.mc_model.specs.World.{World}
 use Rattle.mc_events.specs.Served.{ServerValue}
 use Rattle.mc_events.specs.Stands.{Stands}
 use Rattle.mc_words.specs.declared.script_line.ScriptEvent.{ScriptEvent}
-use Rattle.mc_top.specs.ReplayText.{lines_after, takings, settled, replay_text, line_events}
-use Rattle.mc_top.specs.ReplayText.{events_of}
-use Rattle.mc_top.specs.Replaying.{IsReached, HasPlayed, HasStopped, replay_world, line_ticks}
-use Rattle.mc_top.specs.Replaying.{ticks_of}
 use Rattle.mc_words.proofs.Growing.{grows_two, part_of}
-
--- ---- worlds that come about
-
-pub reached_new : (most cap : ℕ) (terrain : Terrain) → IsReached (new_world most cap terrain)
-reached_new most cap terrain =
-    record { most = most; cap = cap; terrain = terrain; events = []; is = refl }
-
-pub reached_history : (w : World) (events : List Event) → IsReached w → IsReached (history w events)
-reached_history w events r = record {
-  most = r.most;
-  cap = r.cap;
-  terrain = r.terrain;
-  events = r.events ++ events;
-  is = ap (λ (v : World). history v events) r.is
-      ∙ sym (fold-append _ (new_world r.most r.cap r.terrain) r.events events);
-}
-
-pub reached_step : (w : World) (e : Event) → IsReached w → IsReached (step w e).world
-reached_step w e r = reached_history w (e ∷ []) r
-
-pub reached_apart : (w : World) → IsReached w → AreApart w.sessions
-reached_apart w r =
-    let P : World → Type 0 = λ v. AreApart v.sessions in
-    subst P (sym r.is) (orderly_run r.most r.cap r.terrain r.events).apart
-
-pub reached_world : (w : World) (events : List Event) → IsReached w →
-    IsReached (replay_world w events)
-reached_world w [] r = r
-reached_world w (e ∷ events) r = reached_world (settled (step w e).world) events
-    (reached_history (step w e).world (takings (step w e).world) (reached_step w e r))
+use Rattle.mc_top.specs.ReplayText.{lines_after, settled, replay_text, line_events, events_of}
+use Rattle.mc_top.specs.Replaying.{HasPlayed, HasStopped, replay_world, line_ticks, ticks_of}
 
 -- ---- some events and then others
 
@@ -60,10 +24,7 @@ text_more : (w : World) (xs ys : List Event) →
     replay_text w (xs ++ ys) ≡ replay_text w xs ++ replay_text (replay_world w xs) ys
 text_more w [] ys = refl
 text_more w (e ∷ xs) ys =
-    ap (λ (t : List ℕ).
-    lines_after (step w e).world ++ t) (text_more (settled (step w e).world) xs ys)
-    ∙ sym (append_assoc (lines_after (step w e).world) (replay_text (settled (step w e).world) xs)
-    (replay_text (replay_world (settled (step w e).world) xs) ys))
+    grind (arith, nat_tests, append_assoc, text_more (settled (step w e).world) xs ys)
 
 world_more : (w : World) (xs ys : List Event) →
     replay_world w (xs ++ ys) ≡ replay_world (replay_world w xs) ys

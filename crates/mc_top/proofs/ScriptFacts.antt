@@ -3,18 +3,21 @@ use Rattle.std.proofs.Common.{◌≡◌, ℕ, zero, suc, ◌+◌, ◌≤◌, Boo
 use Rattle.std.proofs.Common.{◌++◌, length, map, refl, subst, arith}
 use Rattle.std.specs.Prelude.{nat_le, Option, Some, None, Result, Ok, Err, IfOk, IfSome, codes}
 use Rattle.std.specs.Prelude.{replicate}
+use Rattle.std.specs.FinMap.{entries}
 use Rattle.std.specs.List.{filter}
 use Rattle.std.specs.Result.{result_ok}
 use Rattle.std.specs.Str.{bytes_eq, is_utf8}
 use Rattle.std.proofs.lemmas.Bool.{leb-true}
 use Rattle.std.proofs.lemmas.List.Sums.{sum_by-cons}
-use Rattle.hex.specs.Hex.{decode_of}
 use Rattle.hex.specs.declared.error.FromHexError.{FromHexError}
+use Rattle.hex.specs.Hex.{decode_of}
 use Rattle.hex.proofs.HexLemmas.{decode_of-ok}
 use Rattle.mc_bytes.specs.Reading.{IsBytes}
-use Rattle.mc_model.specs.World.{World, Session}
-use Rattle.mc_model.specs.Step.{Event, joined, came, left, broke, ticked, took, forgot, step}
+use Rattle.mc_model.specs.Step.{Event, came, ticked, took, forgot, step}
 use Rattle.mc_model.specs.Run.{AreBytes}
+use Rattle.mc_model.specs.Link.{Link}
+use Rattle.mc_model.specs.World.{World}
+use Rattle.mc_laws.proofs.Decoding.Worlds.{IsEvent, first_bytes}
 use Rattle.mc_words.specs.declared.bad_input.BadInput.{BadInput}
 use Rattle.mc_words.specs.declared.bad_input.InputFault.{InputFault}
 use Rattle.mc_words.specs.declared.bad_input.InputFault.TheVariants as faults
@@ -206,60 +209,41 @@ script_ticks text events is = (script_fits text events is).few
 
 -- ---- the bytes of a log
 
-bytes_first : (e : Event) (events : List Event) → AreBytes (e ∷ events) → AreBytes (e ∷ [])
-bytes_first (joined k) events fit = tt
-bytes_first (came k bytes) events fit = (fit.0, tt)
-bytes_first (left k) events fit = tt
-bytes_first (broke k) events fit = tt
-bytes_first ticked events fit = tt
-bytes_first (took k n) events fit = tt
-bytes_first (forgot k) events fit = tt
-
-bytes_later : (e : Event) (events : List Event) → AreBytes (e ∷ events) → AreBytes events
-bytes_later (joined k) events fit = fit
-bytes_later (came k bytes) events fit = fit.1
-bytes_later (left k) events fit = fit
-bytes_later (broke k) events fit = fit
-bytes_later ticked events fit = fit
-bytes_later (took k n) events fit = fit
-bytes_later (forgot k) events fit = fit
-
-bytes_both : (e : Event) (events : List Event) → AreBytes (e ∷ []) → AreBytes events →
+bytes_both : (e : Event) (events : List Event) → IsEvent e → AreBytes events →
     AreBytes (e ∷ events)
-bytes_both (joined k) events first later = later
-bytes_both (came k bytes) events first later = (first.0, later)
-bytes_both (left k) events first later = later
-bytes_both (broke k) events first later = later
-bytes_both ticked events first later = later
-bytes_both (took k n) events first later = later
-bytes_both (forgot k) events first later = later
+bytes_both (came k bytes) events first later = (first, later)
+bytes_both other events first later = later
 
 bytes_append : (xs ys : List Event) → AreBytes xs → AreBytes ys → AreBytes (xs ++ ys)
 bytes_append [] ys a b = b
 bytes_append (e ∷ xs) ys a b =
-    bytes_both e (xs ++ ys) (bytes_first e xs a) (bytes_append xs ys (bytes_later e xs a) b)
+    let parts = first_bytes e xs a in
+    bytes_both e (xs ++ ys) parts.0 (bytes_append xs ys parts.1 b)
 
-tooks_fit : (ss : List Session) → AreBytes (map (λ (s : Session). took s.id (length s.owed)) ss)
+tooks_fit : (es : List (ℕ × Link)) →
+    AreBytes (map (λ (e : ℕ × Link). took e.0 (length e.1.owed)) es)
 tooks_fit [] = tt
-tooks_fit (s ∷ ss) = tooks_fit ss
+tooks_fit (e ∷ es) = tooks_fit es
 
-forgots_fit : (ss : List Session) → AreBytes (map (λ (s : Session). forgot s.id) ss)
+forgots_fit : (es : List (ℕ × Link)) → AreBytes (map (λ (e : ℕ × Link). forgot e.0) es)
 forgots_fit [] = tt
-forgots_fit (s ∷ ss) = forgots_fit ss
+forgots_fit (e ∷ es) = forgots_fit es
 
 takings_fit : (w : World) → AreBytes (takings w)
 unfolding takings
-takings_fit w = bytes_append (map (λ (s : Session). took s.id (length s.owed))
-    (filter owes w.sessions)) (map (λ (s : Session). forgot s.id) (filter is_shut w.sessions))
-    (tooks_fit (filter owes w.sessions)) (forgots_fit (filter is_shut w.sessions))
+takings_fit w =
+    let owing : List (ℕ × Link) = filter owes (entries w.links) in
+    let shut : List (ℕ × Link) = filter is_shut (entries w.links) in
+    bytes_append (map (λ (e : ℕ × Link). took e.0 (length e.1.owed)) owing)
+    (map (λ (e : ℕ × Link). forgot e.0) shut) (tooks_fit owing) (forgots_fit shut)
 
 pub log_fits : (w : World) (events : List Event) → AreBytes events → AreBytes (replay_log w events)
 log_fits w [] fit = tt
 log_fits w (e ∷ events) fit =
     let v : World = (step w e).world in
+    let parts = first_bytes e events fit in
     bytes_append (e ∷ takings v) (replay_log (settled v) events)
-    (bytes_both e (takings v) (bytes_first e events fit) (takings_fit v))
-    (log_fits (settled v) events (bytes_later e events fit))
+    (bytes_both e (takings v) parts.0 (takings_fit v)) (log_fits (settled v) events parts.1)
 
 ticks_bytes : (n : ℕ) → AreBytes (replicate n ticked)
 ticks_bytes zero = tt

@@ -1,18 +1,18 @@
 -- The promise of `serve`, from what its function says and from its last line.
-use Rattle.std.proofs.Common.{◌≡◌, ℕ, ◌++◌, ◌⊎◌, inl, inr, List, Option, Result, sym, subst}
-use Rattle.std.proofs.Common.{refl, ap, ◌∙◌}
+use Rattle.std.proofs.Common.{◌≡◌, ℕ, ◌++◌, ◌⊎◌, inl, inr, List, Option, Result, sym, subst, refl}
+use Rattle.std.proofs.Common.{ap, ◌∙◌}
 use Rattle.mc_wire.specs.Count.{Rose}
 use Rattle.mc_wire.specs.LobbyCounts.{LobbyCounts}
 use Rattle.mc_wire.specs.LobbyTold.{LobbyTold, with_entries, with_pace, with_port}
 use Rattle.mc_wire.proofs.LobbyCalls.{ToldBecomes-trans}
 use Rattle.mc_model.specs.Log.{log_of}
-use Rattle.mc_server.specs.declared.service.DriveFault.{DriveFault}
-use Rattle.mc_server.specs.declared.service.Ended as drives
 use Rattle.mc_words.specs.declared.arguments.ServeOptions.{ServeOptions}
 use Rattle.mc_words.specs.declared.ended.Ended.{Ended}
 use Rattle.mc_words.specs.declared.ended.Ended.TheVariants as ended
 use Rattle.mc_words.specs.Devices.{Devices, devices}
 use Rattle.mc_words.specs.Ended.{budget_line, net_fault_line}
+use Rattle.mc_server.specs.declared.service.DriveFault.{DriveFault}
+use Rattle.mc_server.specs.declared.service.Ended as drives
 use Rattle.mc_top.specs.Finishing.{EndsServing, Finishes}
 use Rattle.mc_top.specs.ServePromise.{AskedAtMostOnce, HasLost, HasServed, HasSpent, ServePromise}
 use Rattle.mc_top.specs.ServePromise.{Summed, SummedPart}

@@ -13,10 +13,10 @@ use Rattle.mc_server.specs.declared.service.DriveFault.TheVariants.{Listen, Next
 use Rattle.mc_server.specs.declared.service.Ended as drives
 use Rattle.mc_server.specs.declared.service.Tally.{Tally}
 use Rattle.mc_server.specs.Drives.{DroveNew}
-use Rattle.mc_events.specs.Served.{ServerValue}
-use Rattle.mc_events.specs.Stands.{age_of}
+use Rattle.mc_events.specs.Served.{ServerValue, age_of}
 use Rattle.mc_words.specs.declared.arguments.ServeOptions.{ServeOptions}
 use Rattle.mc_words.specs.declared.ended.Ended.TheVariants as ended
+use Rattle.mc_top.specs.ReplayPromise.{settings_of}
 use Rattle.mc_top.specs.ServePromise.{AskedAtMostOnce, HasLost, HasServed, HasServedAll, HasSpent}
 use Rattle.mc_top.specs.ServePromise.{budget_of, ended_by, summary_line, tally_of}
 
@@ -38,18 +38,17 @@ module _ (options : ServeOptions) (old paced new : Option LobbyTold)
 
   -- it was served by a server of a new world
   pub has_served : (server : ServerValue) (result : Result drives.Ended DriveFault) →
-      DroveNew budget paced new options.world.players options.world.view options.world.terrain
-      server result → HasServed options old new result
+      DroveNew budget paced new (settings_of options.world) server result →
+      HasServed options old new result
   has_served server result drove =
       let P : Budget → Type 0 =
-      λ b. DroveNew b paced new options.world.players options.world.view options.world.terrain
-      server result in
+      λ b. DroveNew b paced new (settings_of options.world) server result in
       record { paced = paced; pace = pace; server = server; drove = subst P is drove }
 
   -- it was served to its end, and this line sums that up
   pub served_all : (server : ServerValue) (end : drives.Ended) (ticks : ℕ) (tally : Tally) →
-      DroveNew budget paced new options.world.players options.world.view options.world.terrain
-      server (Ok end) → ticks ≡ age_of server → tally ≡ tally_of end →
+      DroveNew budget paced new (settings_of options.world) server (Ok end) →
+      ticks ≡ age_of server → tally ≡ tally_of end →
       HasServedAll options old new (summary_line ticks tally)
   unfolding has_served
   served_all server end ticks tally drove age counted =

@@ -4,19 +4,19 @@ use Rattle.std.proofs.Common.{arith}
 use Rattle.std.specs.Prelude.{◌&&◌, nat_le, Option, Some, None, IfSome, option_map, codes}
 use Rattle.std.specs.Str.{bytes_eq}
 use Rattle.std.proofs.lemmas.Bool.{leb-true}
-use Rattle.mc_land.specs.declared.terrain.Terrain.{Terrain}
-use Rattle.mc_model.specs.World.{AreSettings}
-use Rattle.mc_model.proofs.FitsText.{both_true}
 use Rattle.mc_wire.specs.declared.answers.Pace.{Pace}
+use Rattle.mc_land.specs.declared.terrain.Terrain.{Terrain}
+use Rattle.mc_model.specs.Game.{AreSettings}
+use Rattle.mc_model.proofs.FitsText.{both_true}
 use Rattle.mc_words.specs.declared.arguments.WorldOptions.{WorldOptions}
 use Rattle.mc_words.specs.declared.arguments.Command.{Command}
 use Rattle.mc_words.specs.declared.arguments.Command.TheVariants.{Replay}
 use Rattle.mc_words.specs.Digits.{digits_number, within}
-use Rattle.mc_words.specs.Arguments.{IsSet, value_in, are_options, number_in, number_or}
-use Rattle.mc_words.specs.Arguments.{players_in, view_in, land_in, world_with, world_in, port_in}
-use Rattle.mc_words.specs.Arguments.{tick_limit_in, event_limit_in, pace_in, takes_no_capture}
-use Rattle.mc_words.specs.Arguments.{status_with, serve_with, serve_names, status_of, replay_of}
-use Rattle.mc_words.specs.Arguments.{serve_of, command_of}
+use Rattle.mc_words.specs.Arguments.{IsSet, value_in, are_options, number_in, number_or, players_in}
+use Rattle.mc_words.specs.Arguments.{view_in, land_in, world_with, world_in, port_in, tick_limit_in}
+use Rattle.mc_words.specs.Arguments.{event_limit_in, pace_in, takes_no_capture, status_with}
+use Rattle.mc_words.specs.Arguments.{serve_with, serve_names, status_of, replay_of, serve_of}
+use Rattle.mc_words.specs.Arguments.{command_of}
 
 abbrev IsWithin : ℕ → ℕ → ℕ → Type 0
 IsWithin low high n = (low ≤ n) × (n ≤ high)

@@ -3,25 +3,25 @@ use Rattle.std.proofs.Common.{◌≡◌, ℕ, suc, ◌+◌, ◌<◌, ◌≤◌, 
 use Rattle.std.proofs.Common.{length, get_or, take, drop, refl, sym, subst, ap, ◌∙◌, append_assoc}
 use Rattle.std.proofs.Common.{arith}
 use Rattle.std.specs.Prelude.{◌↔◌, Option, codes, decimal}
+use Rattle.std.specs.FinMap.{keys}
 use Rattle.std.proofs.lemmas.List.{append-nil, take-take}
 use Rattle.std.proofs.Math.Seq.{drop-cons}
 use Rattle.hex.specs.Hex.{encode_lower}
-use Rattle.mc_model.specs.World.{World}
-use Rattle.mc_model.specs.Step.{took, step}
 use Rattle.mc_wire.specs.Stream.{Grows}
-use Rattle.mc_model.specs.Orderly.{AreApart}
-use Rattle.mc_events.specs.Served.{ServerValue}
-use Rattle.mc_events.specs.Stands.{Stands}
+use Rattle.mc_model.specs.Step.{took, step}
 use Rattle.mc_model.specs.Run.{owed_in}
+use Rattle.mc_model.specs.World.{World}
+use Rattle.mc_events.specs.Served.{ServerValue}
+use Rattle.mc_events.specs.Stands.{IsReached, Stands}
+use Rattle.mc_events.proofs.Reached.{reached_next}
 use Rattle.mc_words.specs.Passes.{Passes, Breaks}
-use Rattle.mc_top.specs.ReplayText.{lines_after, settled}
-use Rattle.mc_top.specs.Replaying.{IsReached, taken, sent_by, sent_in, all_taken, all_sent}
-use Rattle.mc_top.specs.Replaying.{all_forgotten, all_shut, TakesFront, each, each_line}
 use Rattle.mc_words.proofs.Passing.{passes_none, passes_next, passes_two, passes_all, breaks_next}
 use Rattle.mc_words.proofs.Passing.{breaks_early, breaks_two}
-use Rattle.mc_top.proofs.Playing.{reached_apart}
-use Rattle.mc_top.proofs.Taking.{ids_of, all_settled, all_told, owed_after, taken_after, taken_none}
-use Rattle.mc_top.proofs.Taking.{encode_parts, encode_none}
+use Rattle.mc_top.specs.ReplayText.{lines_after, settled}
+use Rattle.mc_top.specs.Replaying.{taken, sent_by, sent_in, all_taken, all_sent, all_forgotten}
+use Rattle.mc_top.specs.Replaying.{all_shut, TakesFront, each, each_line}
+use Rattle.mc_top.proofs.Alike.{IsAlike, owed_after, stands_alike, taken_after, taken_none}
+use Rattle.mc_top.proofs.Taking.{all_settled, all_told, encode_none, encode_parts, reached_settled}
 
 -- ---- one connection, piece by piece
 
@@ -51,7 +51,7 @@ pub record IsTaking (k : ℕ) (w : World) (server : ServerValue) (held held' : O
     (old new : List ℕ) : Type 0 where
   pub v : World
   pub stands : Stands server v
-  pub same : taken k v ≡ taken k w
+  pub same : IsAlike (taken k v) (taken k w)
   pub lines : Passes held held' old (encode_lower (owed_in k w)) new (encode_lower (owed_in k v))
 
 pub taking_start : (k : ℕ) (w : World) (server : ServerValue) (held : Option (List ℕ))
@@ -78,23 +78,26 @@ taking_next k w middle server held mid held' old half new more is t takes =
     record {
       v = (step t.v (took k f.0)).world;
       stands = f.2;
-      same = taken_after t.v k f.0 f.1 ∙ t.same;
+      same = taken_after t.v k f.0 ∙ t.same;
       lines = subst R (sym (owed_after t.v k f.0))
           (passes_next held mid held' old all half (encode_lower (take f.0 o)) new
           (encode_lower (drop f.0 o)) (subst Q (sym (encode_parts f.0 o)) t.lines) f.3);
     }
 
+reached_taken : (w : World) (k : ℕ) → IsReached w → IsReached (taken k w)
+reached_taken w k r = reached_next w (took k (length (owed_in k w))) tt r
+
 pub taking_done : (k : ℕ) (w : World) (middle server : ServerValue)
     (held mid held' : Option (List ℕ)) (old half new : List ℕ) (more : Bool) →
-    more ≡ false → IsTaking k w middle held mid old half →
+    IsReached w → more ≡ false → IsTaking k w middle held mid old half →
     ((v : World) → Stands middle v → TakesFront k v server mid held' half new more) →
     Stands server (taken k w) × Passes held held' old (encode_lower (owed_in k w)) new []
-taking_done k w middle server held mid held' old half new more is t takes =
+taking_done k w middle server held mid held' old half new more r is t takes =
     let Q : Bool → Type 0 = λ b. TakesFront k t.v server mid held' half new b in
     let f = subst Q is (takes t.v t.stands) in
-    let P : World → Type 0 = λ u. Stands server u in
     let R : List ℕ → Type 0 = λ l. Passes held mid old (encode_lower (owed_in k w)) half l in (
-      subst P (sym (taken_none t.v k f.0) ∙ t.same) f.1,
+      stands_alike server t.v (taken k w) (sym (taken_none t.v k f.0) ∙ t.same)
+          (reached_taken w k r) f.1,
       passes_next held mid held' old (encode_lower (owed_in k w)) half [] new []
           (subst R (encode_none (owed_in k t.v) f.0) t.lines) f.2,
     )
@@ -186,10 +189,12 @@ pub not_sent : (k : ℕ) (w : World) (server : ServerValue) (front old : List �
     (held : Option (List ℕ)) → length front ≡ 0 → (front ≡ []) ↔ (owed_in k w ≡ []) →
     Stands server w → Stands server (taken k w) × Passes held held old (sent_in k w) old []
 not_sent k w server front old held none same stands =
-    let P : World → Type 0 = λ u. Stands server u in
     let Q : List ℕ → Type 0 = λ o. Passes held held old (sent_by k o) old [] in
-    let owed = same.0 (no_bytes front none) in
-    (subst P (sym (taken_none w k owed)) stands, subst Q (sym owed) (passes_none held old []))
+    let owed = same.0 (no_bytes front none) in (
+      stands_alike server w (taken k w) (sym (taken_none w k owed))
+          (reached_taken w k stands.reached) stands,
+      subst Q (sym owed) (passes_none held old []),
+    )
 
 -- ---- connection by connection
 
@@ -260,58 +265,53 @@ underway_breaks change line ks w middle held mid held' i k d old half within is 
 
 -- ---- the lines of a world
 
-told_is : (w : World) (ids : List ℕ) → AreApart w.sessions → ids ≡ ids_of w.sessions →
+told_is : (w : World) (ids : List ℕ) → ids ≡ keys w.links →
     all_sent ids w ++ all_shut ids (all_taken ids w) ≡ lines_after w
-told_is w ids apart is =
-    ap (λ (ks : List ℕ). all_sent ks w ++ all_shut ks (all_taken ks w)) is ∙ all_told w apart
+told_is w ids is = rw is (all_told w)
 
 -- all that is told of a world was written, and nothing waits
 pub lines_put : (w : World) (server : ServerValue) (ids half near : List ℕ)
-    (h0 h1 h2 h3 : Option (List ℕ)) → IsReached w → ids ≡ ids_of w.sessions →
+    (h0 h1 h2 h3 : Option (List ℕ)) → IsReached w → ids ≡ keys w.links →
     Stands server (all_forgotten ids (all_taken ids w)) → Passes h0 h1 [] (all_sent ids w) half [] →
     Passes h1 h2 half (all_shut ids (all_taken ids w)) near [] → Passes h2 h3 near [] [] [] →
     Stands server (settled w) × Grows h0 h3 (lines_after w)
 lines_put w server ids half near h0 h1 h2 h3 r is stands sent shut out =
-    let apart = reached_apart w r in
-    let P : World → Type 0 = λ v. Stands server v in
     let Q : List ℕ → Type 0 = λ t. Grows h0 h3 t in
     let both = passes_two h0 h1 h2 [] (all_sent ids w) half
     (all_shut ids (all_taken ids w)) near sent shut in
     let all = passes_two h0 h2 h3 []
     (all_sent ids w ++ all_shut ids (all_taken ids w)) near [] [] both out in (
-      subst P (ap (λ (ks : List ℕ). all_forgotten ks (all_taken ks w)) is
-          ∙ all_settled w apart) stands,
-      subst Q (append-nil (all_sent ids w ++ all_shut ids (all_taken ids w))
-          ∙ told_is w ids apart is) (passes_all h0 h3 _ all),
+      stands_alike server _ (settled w) (rw is (all_settled w)) (reached_settled w r) stands,
+      subst Q (append-nil (all_sent ids w ++ all_shut ids (all_taken ids w)) ∙ told_is w ids is)
+          (passes_all h0 h3 _ all),
     )
 
 -- it broke in what tells what was sent
-pub lines_break_sent : (w : World) (ids : List ℕ) (h0 h1 : Option (List ℕ)) → IsReached w →
-    ids ≡ ids_of w.sessions → Breaks h0 h1 [] (all_sent ids w) → Breaks h0 h1 [] (lines_after w)
-lines_break_sent w ids h0 h1 r is b =
+pub lines_break_sent : (w : World) (ids : List ℕ) (h0 h1 : Option (List ℕ)) →
+    ids ≡ keys w.links → Breaks h0 h1 [] (all_sent ids w) → Breaks h0 h1 [] (lines_after w)
+lines_break_sent w ids h0 h1 is b =
     let P : List ℕ → Type 0 = λ t. Breaks h0 h1 [] t in
-    subst P (told_is w ids (reached_apart w r) is)
+    subst P (told_is w ids is)
     (breaks_early h0 h1 [] (all_sent ids w) (all_shut ids (all_taken ids w)) b)
 
 -- in what tells who was closed
 pub lines_break_shut : (w : World) (ids half : List ℕ) (h0 h1 h2 : Option (List ℕ)) →
-    IsReached w → ids ≡ ids_of w.sessions → Passes h0 h1 [] (all_sent ids w) half [] →
+    ids ≡ keys w.links → Passes h0 h1 [] (all_sent ids w) half [] →
     Breaks h1 h2 half (all_shut ids (all_taken ids w)) → Breaks h0 h2 [] (lines_after w)
-lines_break_shut w ids half h0 h1 h2 r is sent b =
+lines_break_shut w ids half h0 h1 h2 is sent b =
     let P : List ℕ → Type 0 = λ t. Breaks h0 h2 [] t in
     let shut : List ℕ = all_shut ids (all_taken ids w) in
-    subst P (ap (λ (t : List ℕ). all_sent ids w ++ t) (append-nil shut) ∙ told_is w ids
-    (reached_apart w r) is) (breaks_two h0 h1 h2 [] (all_sent ids w) half shut [] sent b)
+    subst P (ap (λ (t : List ℕ). all_sent ids w ++ t) (append-nil shut) ∙ told_is w ids is)
+    (breaks_two h0 h1 h2 [] (all_sent ids w) half shut [] sent b)
 
 -- or where all waits
 pub lines_break_out : (w : World) (ids half near : List ℕ) (h0 h1 h2 h3 : Option (List ℕ)) →
-    IsReached w → ids ≡ ids_of w.sessions → Passes h0 h1 [] (all_sent ids w) half [] →
+    ids ≡ keys w.links → Passes h0 h1 [] (all_sent ids w) half [] →
     Passes h1 h2 half (all_shut ids (all_taken ids w)) near [] → Breaks h2 h3 near [] →
     Breaks h0 h3 [] (lines_after w)
-lines_break_out w ids half near h0 h1 h2 h3 r is sent shut b =
+lines_break_out w ids half near h0 h1 h2 h3 is sent shut b =
     let P : List ℕ → Type 0 = λ t. Breaks h0 h3 [] t in
     let text : List ℕ = all_sent ids w ++ all_shut ids (all_taken ids w) in
     let both = passes_two h0 h1 h2 [] (all_sent ids w) half
     (all_shut ids (all_taken ids w)) near sent shut in
-    subst P (append-nil text ∙ told_is w ids (reached_apart w r) is)
-    (breaks_two h0 h2 h3 [] text near [] [] both b)
+    subst P (append-nil text ∙ told_is w ids is) (breaks_two h0 h2 h3 [] text near [] [] both b)

@@ -2,6 +2,7 @@
 use Rattle.std.specs.Prelude.{◌≡◌, ℕ, ◌⊎◌, List, [], take, Option, IfSome, Ok, Err}
 use Rattle.mc_wire.specs.Count.{Rose}
 use Rattle.mc_wire.specs.Stream.{Grows, IsAtEnd}
+use Rattle.mc_model.specs.declared.settings.Settings.{Settings}
 use Rattle.mc_model.specs.World.{World, new_world}
 use Rattle.mc_model.specs.Headline.{Headline}
 use Rattle.mc_words.specs.declared.bad_input.BadInput.{BadInput}
@@ -14,9 +15,16 @@ use Rattle.mc_words.specs.Ended.{bad_input_line}
 use Rattle.mc_words.specs.Script.{script_of}
 use Rattle.mc_top.specs.ReplayText.{events_of, replay_text, replay_log, IsToldTaken}
 
--- the new world that the options ask for
+-- what a world begins with by the options, and that new world
+abbrev pub settings_of : WorldOptions → Settings
+settings_of options = record {
+  players = options.players;
+  cap = options.view;
+  terrain = options.terrain;
+}
+
 abbrev pub world_of : WorldOptions → World
-world_of options = new_world options.players options.view options.terrain
+world_of options = new_world (settings_of options)
 
 -- an input is a script without fault, and this is what its lines say
 abbrev pub IsScriptOf : List ScriptEvent → List ℕ → Type 0
@@ -35,8 +43,7 @@ pub record Replayed (options : WorldOptions) (left left' held held' : Option (Li
   pub script : IfSome left (IsScriptOf events)
   pub ended : IsAtEnd left'
   pub wrote : Grows held held' (replay_text (world_of options) (events_of events))
-  pub promise : Headline options.players options.view options.terrain
-      (replay_log (world_of options) (events_of events))
+  pub promise : Headline (settings_of options) (replay_log (world_of options) (events_of events))
   pub sent : (k : ℕ) → IsToldTaken k (world_of options) (events_of events)
 
 -- the input is a script without fault, and some first part of its text was written

@@ -4,11 +4,14 @@
 use Rattle.std.specs.Prelude.{◌≡◌, ◌≢◌, ℕ, ◌==◌, nat_lt, Bool, List, [], ◌∷◌, ◌++◌, length, map}
 use Rattle.std.specs.Prelude.{replicate, Some, codes, decimal, if◌then◌else◌}
 use Rattle.std.specs.List.{filter, flat_map}
+use Rattle.std.specs.FinMap.{entries}
 use Rattle.hex.specs.Hex.{encode_lower}
 use Rattle.mc_model.specs.declared.cause.Cause.TheVariants.{Backlog}
-use Rattle.mc_model.specs.World.{World, Session, is_closed}
 use Rattle.mc_model.specs.Step.{Event, joined, came, left, ticked, took, forgot, step}
+use Rattle.mc_model.specs.Stages.{is_closed}
+use Rattle.mc_model.specs.Link.{Link}
 use Rattle.mc_model.specs.Run.{history, stream, taken, why}
+use Rattle.mc_model.specs.World.{World}
 use Rattle.mc_words.specs.declared.script_line.ScriptEvent.{ScriptEvent}
 use Rattle.mc_words.specs.declared.script_line.ScriptEvent.TheVariants.{Joined, Came, Gone, Ticks}
 
@@ -25,17 +28,18 @@ telling_line (tells_sent k bytes) =
     codes "sent " ++ decimal k ++ codes " " ++ encode_lower bytes ++ 10 ∷ []
 telling_line (tells_shut k) = codes "shut " ++ decimal k ++ 10 ∷ []
 
-abbrev pub owes : Session → Bool
-owes s = nat_lt 0 (length s.owed)
+-- of connections by their numbers
+abbrev pub owes : ℕ × Link → Bool
+owes e = nat_lt 0 (length e.1.owed)
 
-abbrev pub is_shut : Session → Bool
-is_shut s = is_closed s.stage
+abbrev pub is_shut : ℕ × Link → Bool
+is_shut e = is_closed e.1.stage
 
 -- each that is owed bytes, in rising numbers, and then each that is closed
 unfoldable pub tellings : World → List Telling
 tellings w =
-    map (λ (s : Session). tells_sent s.id s.owed) (filter owes w.sessions)
-    ++ map (λ (s : Session). tells_shut s.id) (filter is_shut w.sessions)
+    map (λ (e : ℕ × Link). tells_sent e.0 e.1.owed) (filter owes (entries w.links))
+    ++ map (λ (e : ℕ × Link). tells_shut e.0) (filter is_shut (entries w.links))
 
 -- the lines of a world after an event
 unfoldable pub lines_after : World → List ℕ
@@ -44,8 +48,8 @@ lines_after w = flat_map telling_line (tellings w)
 -- each takes all that it is owed, and those that are closed are forgotten
 unfoldable pub takings : World → List Event
 takings w =
-    map (λ (s : Session). took s.id (length s.owed)) (filter owes w.sessions)
-    ++ map (λ (s : Session). forgot s.id) (filter is_shut w.sessions)
+    map (λ (e : ℕ × Link). took e.0 (length e.1.owed)) (filter owes (entries w.links))
+    ++ map (λ (e : ℕ × Link). forgot e.0) (filter is_shut (entries w.links))
 
 abbrev pub settled : World → World
 settled w = history w (takings w)

@@ -3,11 +3,10 @@ use Rattle.std.specs.Prelude.{◌≡◌, ℕ, ◌≤◌, Bool, true, false, List
 use Rattle.std.specs.Prelude.{Option, codes, decimal, if◌then◌else◌}
 use Rattle.std.specs.List.{sum_by}
 use Rattle.hex.specs.Hex.{encode_lower}
-use Rattle.mc_land.specs.declared.terrain.Terrain.{Terrain}
 use Rattle.mc_wire.specs.Stream.{Grows}
-use Rattle.mc_model.specs.World.{World, new_world}
 use Rattle.mc_model.specs.Step.{Event, took, forgot, step}
-use Rattle.mc_model.specs.Run.{history, owed_in}
+use Rattle.mc_model.specs.World.{World}
+use Rattle.mc_model.specs.Run.{owed_in}
 use Rattle.mc_events.specs.declared.input.Input.{Input}
 use Rattle.mc_events.specs.declared.input.Input.TheVariants.{Tick}
 use Rattle.mc_events.specs.Served.{ServerValue}
@@ -17,14 +16,6 @@ use Rattle.mc_words.specs.declared.script_line.ScriptEvent.{ScriptEvent}
 use Rattle.mc_words.specs.declared.script_line.ScriptEvent.TheVariants.{Ticks}
 use Rattle.mc_words.specs.Passes.{Passes}
 use Rattle.mc_top.specs.ReplayText.{settled, replay_text}
-
--- a world that some events make of a new one
-pub record IsReached (w : World) : Type 0 where
-  pub most : ℕ
-  pub cap : ℕ
-  pub terrain : Terrain
-  pub events : List Event
-  pub is : w ≡ history (new_world most cap terrain) events
 
 -- ---- one connection after an event
 

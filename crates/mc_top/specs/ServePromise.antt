@@ -19,6 +19,7 @@ use Rattle.mc_words.specs.declared.ended.Ended.{Ended}
 use Rattle.mc_words.specs.declared.ended.Ended.TheVariants as ended
 use Rattle.mc_words.specs.Devices.{Devices, WroteLast}
 use Rattle.mc_words.specs.Ended.{budget_line, ended_line, net_fault_line}
+use Rattle.mc_top.specs.ReplayPromise.{settings_of}
 
 abbrev pub budget_of : ServeOptions → Budget
 budget_of options =
@@ -32,8 +33,7 @@ pub record HasServed (options : ServeOptions) (old new : Option LobbyTold)
   pub paced : Option LobbyTold
   pub pace : ToldBecomes old paced (with_pace options.pace)
   pub server : ServerValue
-  pub drove : DroveNew (budget_of options) paced new options.world.players options.world.view
-      options.world.terrain server result
+  pub drove : DroveNew (budget_of options) paced new (settings_of options.world) server result
 
 -- ---- where it ended well
 

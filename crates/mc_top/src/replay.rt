@@ -1,15 +1,16 @@
 ghost use Rattle.std.specs.Prelude.{◌≡◌, ◌+◌, ◌≤◌, [], ◌∷◌, OnOk, OnErr, IsErrOf, replicate};
 ghost use Rattle.mc_wire.specs.Count.{Rose, StandsOrRises};
 ghost use Rattle.mc_wire.specs.Stream.{Grows};
-ghost use Rattle.mc_model.specs.World.{World, AreSettings};
 ghost use Rattle.mc_model.specs.Step.{ticked};
-ghost use Rattle.mc_events.specs.Stands.{Stands, age_of};
+ghost use Rattle.mc_model.specs.Game.{AreSettings};
+ghost use Rattle.mc_model.specs.World.{World};
 ghost use Rattle.mc_events.specs.Inputs.{event_of};
+ghost use Rattle.mc_events.specs.Served.{age_of};
+ghost use Rattle.mc_events.specs.Stands.{Stands};
 ghost use Rattle.mc_words.specs.declared.bad_input.BadInput.{BadInput};
 ghost use Rattle.mc_top.specs.Finishing.{EndsText};
 ghost use Rattle.mc_top.specs.ReplayText.{line_events, events_of, replay_text};
-ghost use Rattle.mc_top.specs.Replaying.{IsReached, HasPlayed, HasStopped, line_ticks, ticks_of};
-ghost use Rattle.mc_top.specs.Replaying.{input_ticks};
+ghost use Rattle.mc_top.specs.Replaying.{HasPlayed, HasStopped, line_ticks, ticks_of, input_ticks};
 ghost use Rattle.mc_top.specs.ReplayPromise.{world_of, Replayed, ReplayedPart};
 ghost use Rattle.mc_top.specs.ReplayPromise.{ReplayedPartOrNothing, FoundFault};
 
@@ -29,9 +30,9 @@ fn play<O: Sink>(
     out: &mut O,
 ) -> Result<(), Unfinished>
     requires young { age_of server.old + input_ticks input ≤ 1000000000 }
-    ensures played { (w : World) → Stands server.old w → IsReached w → OnOk result
+    ensures played { (w : World) → Stands server.old w → OnOk result
         (HasPlayed (event_of input.entry ∷ []) w server.new (O.held out.old) (O.held out.new)) }
-    ensures stopped { (w : World) → Stands server.old w → IsReached w → OnErr result
+    ensures stopped { (w : World) → Stands server.old w → OnErr result
         (HasStopped (event_of input.entry ∷ []) w (O.held out.old) (O.held out.new)) }
     ensures age { OnOk result (age_of server.new ≡ age_of server.old + input_ticks input.entry) }
     ensures failed { IsErrOf result Unfinished.Failed → Rose (O.faults out.old) (O.faults out.new) }
@@ -52,9 +53,9 @@ fn play_ticks<O: Sink>(
     out: &mut O,
 ) -> Result<(), Unfinished>
     requires young { age_of server.old + count ≤ 1000000000 }
-    ensures played { (w : World) → Stands server.old w → IsReached w → OnOk result
+    ensures played { (w : World) → Stands server.old w → OnOk result
         (HasPlayed (replicate count ticked) w server.new (O.held out.old) (O.held out.new)) }
-    ensures stopped { (w : World) → Stands server.old w → IsReached w → OnErr result
+    ensures stopped { (w : World) → Stands server.old w → OnErr result
         (HasStopped (replicate count ticked) w (O.held out.old) (O.held out.new)) }
     ensures age { OnOk result (age_of server.new ≡ age_of server.old + count) }
     ensures failed { IsErrOf result Unfinished.Failed → Rose (O.faults out.old) (O.faults out.new) }
@@ -75,9 +76,9 @@ fn play_line<O: Sink>(
     out: &mut O,
 ) -> Result<(), Unfinished>
     requires young { age_of server.old + line_ticks event.now ≤ 1000000000 }
-    ensures played { (w : World) → Stands server.old w → IsReached w → OnOk result
+    ensures played { (w : World) → Stands server.old w → OnOk result
         (HasPlayed (line_events event.now) w server.new (O.held out.old) (O.held out.new)) }
-    ensures stopped { (w : World) → Stands server.old w → IsReached w → OnErr result
+    ensures stopped { (w : World) → Stands server.old w → OnErr result
         (HasStopped (line_events event.now) w (O.held out.old) (O.held out.new)) }
     ensures age { OnOk result (age_of server.new ≡ age_of server.old + line_ticks event.now) }
     ensures failed { IsErrOf result Unfinished.Failed → Rose (O.faults out.old) (O.faults out.new) }
@@ -109,9 +110,9 @@ fn play_all<O: Sink>(
     out: &mut O,
 ) -> Result<(), Unfinished>
     requires young { age_of server.old + ticks_of events.now ≤ 1000000000 }
-    ensures played { (w : World) → Stands server.old w → IsReached w → OnOk result
+    ensures played { (w : World) → Stands server.old w → OnOk result
         (HasPlayed (events_of events.now) w server.new (O.held out.old) (O.held out.new)) }
-    ensures stopped { (w : World) → Stands server.old w → IsReached w → OnErr result
+    ensures stopped { (w : World) → Stands server.old w → OnErr result
         (HasStopped (events_of events.now) w (O.held out.old) (O.held out.new)) }
     ensures failed { IsErrOf result Unfinished.Failed → Rose (O.faults out.old) (O.faults out.new) }
     ensures counts { StandsOrRises (O.faults out.old) (O.faults out.new) }
@@ -139,7 +140,7 @@ fn play_script<O: Sink>(
     ensures failed { IsErrOf result Unfinished.Failed → Rose (O.faults out.old) (O.faults out.new) }
     ensures counts { StandsOrRises (O.faults out.old) (O.faults out.new) }
 {
-    let mut server = new_server(alloc, options)?;
+    let mut server = new_server(alloc, options);
     let played = play_all(alloc, &mut server, &script.events, out);
     drop(server);
     played

@@ -2,13 +2,14 @@ ghost use Rattle.std.specs.Prelude.{◌≡◌, [], IfOk, OnOk, OnErr, IsErrOf};
 ghost use Rattle.hex.specs.Hex.{encode_lower};
 ghost use Rattle.mc_wire.specs.Count.{Rose, StandsOrRises};
 ghost use Rattle.mc_wire.specs.Stream.{Grows};
-ghost use Rattle.mc_model.specs.World.{World};
-ghost use Rattle.mc_events.specs.Stands.{Stands, age_of};
 ghost use Rattle.mc_model.specs.Run.{owed_in};
+ghost use Rattle.mc_model.specs.World.{World};
+ghost use Rattle.mc_events.specs.Served.{age_of};
+ghost use Rattle.mc_events.specs.Stands.{Stands};
 ghost use Rattle.mc_words.specs.Passes.{Breaks, Passes};
 ghost use Rattle.mc_top.specs.ReplayText.{settled, lines_after};
-ghost use Rattle.mc_top.specs.Replaying.{IsReached, TakesFront, taken, sent_in, forgotten, shut_in};
-ghost use Rattle.mc_top.specs.Replaying.{all_taken, all_sent, all_forgotten, all_shut};
+ghost use Rattle.mc_top.specs.Replaying.{TakesFront, taken, sent_in, forgotten, shut_in, all_taken};
+ghost use Rattle.mc_top.specs.Replaying.{all_sent, all_forgotten, all_shut};
 
 use mc_server::Server;
 use mc_wire::Sink;
@@ -184,9 +185,9 @@ pub fn put_lines<O: Sink>(
     out: &mut O,
 ) -> Result<(), Unfinished>
     requires { lines.old.items ≡ [] }
-    ensures settled { (w : World) → Stands server.old w → IsReached w → OnOk result
+    ensures settled { (w : World) → Stands server.old w → OnOk result
         (Stands server.new (settled w) × Grows (O.held out.old) (O.held out.new) (lines_after w)) }
-    ensures breaks { (w : World) → Stands server.old w → IsReached w → OnErr result
+    ensures breaks { (w : World) → Stands server.old w → OnErr result
         (Breaks (O.held out.old) (O.held out.new) [] (lines_after w)) }
     ensures age { age_of server.new ≡ age_of server.old }
     ensures failed { IsErrOf result Unfinished.Failed → Rose (O.faults out.old) (O.faults out.new) }

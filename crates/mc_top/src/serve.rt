@@ -96,9 +96,7 @@ pub fn serve<L: Lobby, O: Sink>(
         HasSpent options n (L.told lobby.old) (L.told lobby.new) × (out.new ≡ out.old) }
 {
     lobby.pace(options.pace);
-    let Ok(mut server) = new_server(alloc, options.world) else {
-        return Ended::NoMemory;
-    };
+    let mut server = new_server(alloc, options.world);
     let end = match drive(&mut server, lobby, budget_of(options)) {
         Ok(end) => end,
         Err(fault) => {

@@ -23,7 +23,7 @@ pub struct Walk {
 }
 
 /// A new server for the clients, on flat land and with the smallest view.
-fn new_server(alloc: Global) -> Result<Server, NoMemory> {
+fn new_server(alloc: Global) -> Server {
     let settings = Settings {
         players: CLIENTS,
         cap: 2,
@@ -52,7 +52,7 @@ fn tick(server: &mut Server) -> Result<(), NoMemory> {
 impl Walk {
     /// A walk that begins.
     pub fn new(alloc: Global) -> Result<Walk, Fault> {
-        let mut server = new_server(alloc)?;
+        let mut server = new_server(alloc);
         let walkers = new_walkers(alloc, &mut server)?;
         Ok(Walk {
             alloc,

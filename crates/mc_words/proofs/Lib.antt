@@ -1,6 +1,7 @@
 pub mod Growing
 pub mod Cuts
 pub mod Reading
+pub mod Turns
 pub mod Exchanges
 pub mod Receiving
 pub mod Answering

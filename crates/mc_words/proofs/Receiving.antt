@@ -1,7 +1,7 @@
 -- What a client stands for whose bytes are taken frame by frame, at each of its calls.
-use Rattle.std.proofs.Common.{◌≡◌, ℕ, ◌+◌, ◌^◌, ◌<◌, ◌≤◌, ◌⊎◌, inl, inr, Bool, true}
-use Rattle.std.proofs.Common.{false, cond, List, [], ◌∷◌, ◌++◌, length, take, Result, Ok, Err}
-use Rattle.std.proofs.Common.{refl, sym, subst, ap, ◌∙◌, append_assoc, arith}
+use Rattle.std.proofs.Common.{◌≡◌, ℕ, ◌+◌, ◌^◌, ◌<◌, ◌≤◌, ◌⊎◌, inl, inr, Bool, true, false, cond}
+use Rattle.std.proofs.Common.{List, [], ◌∷◌, ◌++◌, length, take, Result, Ok, Err, refl, sym, subst}
+use Rattle.std.proofs.Common.{ap, ◌∙◌, append_assoc, arith}
 use Rattle.std.specs.Prelude.{Option, Some, None, ◌==◌}
 use Rattle.std.specs.List.{fold}
 use Rattle.std.proofs.lemmas.List.{length-append, append-nil, take_all, take-append-le}
@@ -11,6 +11,7 @@ use Rattle.mc_bytes.specs.Numbers.{number_spelling}
 use Rattle.mc_fields.specs.declared.packet.PacketFault.{PacketFault}
 use Rattle.mc_fields.specs.Row.{packet_read, packet_of}
 use Rattle.mc_fields.specs.Varint.{varint_spelling, groups_spelling}
+use Rattle.mc_wire.specs.Stream.{Grows}
 use Rattle.mc_frame.specs.Frame.{IsPayload, frame_spelling}
 use Rattle.mc_frame.specs.Kept.{outbox_max}
 use Rattle.mc_hello.specs.declared.handshake.Hand.{Hand}
@@ -19,18 +20,17 @@ use Rattle.mc_hello.specs.declared.status_up.StatusUp.{StatusUp}
 use Rattle.mc_hello.specs.declared.status_up.StatusUp.TheVariants.{Request, Ping}
 use Rattle.mc_hello.specs.declared.status_down.StatusDown.{StatusDown}
 use Rattle.mc_hello.specs.declared.status_down.StatusDown.TheVariants.{Response, Pong}
-use Rattle.mc_up.specs.declared.play_up.PlayUp.{PlayUp}
 use Rattle.mc_hello.specs.Hand as hand
 use Rattle.mc_hello.specs.StatusUp as up
 use Rattle.mc_hello.specs.StatusDown as down
-use Rattle.mc_wire.specs.Stream.{Grows}
+use Rattle.mc_up.specs.declared.play_up.PlayUp.{PlayUp}
 use Rattle.mc_model.specs.declared.cause.Cause.{Cause}
 use Rattle.mc_model.specs.declared.stage.Stage.{Stage}
 use Rattle.mc_model.specs.declared.stage.Stage.TheVariants as stages
 use Rattle.mc_model.specs.Texts.{status_json}
 use Rattle.mc_model.specs.Packets.{of_status, frame_of, bytes_of}
-use Rattle.mc_model.specs.Talk.{ClientRequest, nothing, greets, replies, ends, enters, acts, wrong}
-use Rattle.mc_model.specs.Talk.{wanted, in_hand, in_status, request_of}
+use Rattle.mc_model.specs.Talk.{ClientRequest, replies, ends, enters, acts, wanted, in_hand}
+use Rattle.mc_model.specs.Talk.{in_status, request_of}
 use Rattle.mc_model.proofs.FitsSize.{varint_size}
 use Rattle.mc_model.proofs.FitsTalk.{response_clear}
 use Rattle.mc_session.specs.declared.step.Step.TheVariants.{Reply, ReplyClose, Enter, Act}
@@ -41,12 +41,10 @@ use Rattle.mc_words.specs.declared.bad_input.InputFault.{InputFault}
 use Rattle.mc_words.specs.declared.client.Client.{Client}
 use Rattle.mc_words.specs.StatusText.{Exchange, hex_line, receives}
 use Rattle.mc_words.specs.Received.{IsOpen, IsAt, Received, is_over, IsAsking, said_fault}
-use Rattle.mc_words.specs.Received.{said_lines}
-use Rattle.mc_words.specs.Received.{Sends, SendsPart}
-use Rattle.mc_words.proofs.Exchanges.{IsWanted, FitsSaid, fault_stays, done_stays, Begins}
-use Rattle.mc_words.proofs.Exchanges.{received_begins}
-use Rattle.mc_words.proofs.Growing.{grows_two}
-use Rattle.mc_words.proofs.Growing.{grows_none}
+use Rattle.mc_words.specs.Received.{said_lines, Sends, SendsPart}
+use Rattle.mc_words.proofs.Turns.{IsWanted, FitsSaid}
+use Rattle.mc_words.proofs.Exchanges.{fault_stays, done_stays, Begins, received_begins}
+use Rattle.mc_words.proofs.Growing.{grows_two, grows_none}
 
 -- ---- what a frame of a client that asks comes to
 
@@ -110,45 +108,27 @@ said_fits other most frame small asks = absurd asks
 
 pub reply_said : (st : State) (d : ClientRequest) (frame : List ℕ) → Reply frame ≡ step_of st d →
     (said_lines d ≡ hex_line frame) × (said_fault d ≡ None)
-reply_said st nothing frame e = absurd cc
-reply_said st (greets protocol stage) frame e = absurd cc
 reply_said st (replies packet) frame e = let same : frame ≡ frame_of (of_status packet) = cc in
     (ap hex_line (sym same), refl)
-reply_said st (ends packet) frame e = absurd cc
-reply_said st (enters name) frame e = absurd cc
-reply_said st (acts packet) frame e = absurd cc
-reply_said st (wrong fault) frame e = absurd cc
+reply_said st other frame e = absurd cc
 
 pub end_said : (st : State) (d : ClientRequest) (frame : List ℕ) (cause : Cause) →
     ReplyClose frame cause ≡ step_of st d → (said_lines d ≡ hex_line frame) × (said_fault d ≡ None)
-end_said st nothing frame cause e = absurd cc
-end_said st (greets protocol stage) frame cause e = absurd cc
-end_said st (replies packet) frame cause e = absurd cc
 end_said st (ends packet) frame cause e = let same : frame ≡ frame_of (of_status packet) = cc in
     (ap hex_line (sym same), refl)
-end_said st (enters name) frame cause e = absurd cc
-end_said st (acts packet) frame cause e = absurd cc
-end_said st (wrong fault) frame cause e = absurd cc
+end_said st other frame cause e = absurd cc
 
 pub no_enter : (st : State) (d : ClientRequest) (name : List ℕ) (protocol : ℤ) → FitsSaid d →
     Enter name protocol ≡ step_of st d → ⊥
-no_enter st nothing name protocol fits e = cc
-no_enter st (greets protocol' stage) name protocol fits e = cc
-no_enter st (replies packet) name protocol fits e = cc
-no_enter st (ends packet) name protocol fits e = cc
 no_enter st (enters name') name protocol fits e = fits
 no_enter st (acts packet) name protocol fits e = fits
-no_enter st (wrong fault) name protocol fits e = cc
+no_enter st other name protocol fits e = cc
 
 pub no_act : (st : State) (d : ClientRequest) (packet : PlayUp) → FitsSaid d →
     Act packet ≡ step_of st d → ⊥
-no_act st nothing packet fits e = cc
-no_act st (greets protocol stage) packet fits e = cc
-no_act st (replies packet') packet fits e = cc
-no_act st (ends packet') packet fits e = cc
 no_act st (enters name) packet fits e = fits
 no_act st (acts packet') packet fits e = fits
-no_act st (wrong fault) packet fits e = cc
+no_act st other packet fits e = cc
 
 -- ---- what is written
 
@@ -205,8 +185,8 @@ part_begins start held some all part begins =
 pub at_text : (most : ℕ) (fault : Option InputFault) (stage : Stage) (text : List ℕ)
     (x : Exchange) → IsAt most fault stage text x → x.text ≡ text
 at_text most (Some kind) stage text x a = a.1
-at_text most None stages.Hand text x a = ap (λ (y : Exchange). y.text) a.is
-at_text most None stages.Status text x a = ap (λ (y : Exchange). y.text) a.is
+at_text most None stages.Hand text x a = ap (λ (y : Exchange). y.text) a.is.is
+at_text most None stages.Status text x a = ap (λ (y : Exchange). y.text) a.is.is
 at_text most None stages.Closed text x a = ap (λ (y : Exchange). y.text) a.is
 at_text most None other text x a = absurd a
 

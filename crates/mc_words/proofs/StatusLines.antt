@@ -1,12 +1,11 @@
 -- A text that comes line by line, by what is told of it whole.
-use Rattle.std.proofs.Common.{◌≡◌, ℕ, ◌+◌, ◌-◌, ◌≤◌, Bool, true, false, cond, List, [], ◌∷◌, ◌++◌}
-use Rattle.std.proofs.Common.{length, take, get_or, refl, sym, subst, ap, ◌∙◌, arith}
+use Rattle.std.proofs.Common.{◌≡◌, ℕ, ◌+◌, ◌-◌, ◌<◌, ◌≤◌, Bool, true, false, cond, List, []}
+use Rattle.std.proofs.Common.{◌∷◌, ◌++◌, length, take, get_or, refl, sym, subst, ap, ◌∙◌, arith}
 use Rattle.std.specs.Prelude.{Option, Some, None, ◌==◌, count_by}
 use Rattle.std.proofs.lemmas.List.Sums.{sum_by_push}
 use Rattle.std.proofs.lemmas.List.{length-append, append-nil, take_at, get_or_at}
 use Rattle.std.proofs.lemmas.List.Splits.{length-slice_split}
 use Rattle.mc_wire.specs.Stream.{Grows}
-use Rattle.mc_model.specs.World.{found}
 use Rattle.mc_words.specs.declared.bad_input.InputFault.{InputFault}
 use Rattle.mc_words.specs.declared.bad_input.InputFault.TheVariants.{Cut}
 use Rattle.mc_words.specs.declared.client.Client.{Client}
@@ -15,7 +14,7 @@ use Rattle.mc_words.specs.StatusText.{Exchange, first_exchange, receives_next, e
 use Rattle.mc_words.specs.StatusText.{last_byte_line, told_at_end, told_after, lines_told}
 use Rattle.mc_words.specs.StatusText.{status_told}
 use Rattle.mc_words.specs.Received.{Received, IsIdle, Sends, SendsPart}
-use Rattle.mc_words.proofs.Exchanges.{last_of, Begins, begins_on}
+use Rattle.mc_words.proofs.Exchanges.{Begins, begins_on}
 use Rattle.mc_words.proofs.Reading.{left_lines, left_size, CutsNext}
 use Rattle.mc_words.proofs.Receiving.{part_behind, part_begins}
 use Rattle.mc_words.proofs.Answering.{idle_text, next_begins, fault_received, fine_received}
@@ -31,7 +30,13 @@ lines_next : (input : List ℕ) (count size : ℕ) (x : Exchange) (line : List �
 unfolding lines_told
 lines_next input count size x line lines left is = rw is refl
 
--- its text begins with what was written before
+-- the text that is told begins with what was written before
+after_begins : (n : ℕ) (x : Exchange) (fault : Option InputFault) (later : Exchange → Told) →
+    ((y : Exchange) → Begins y.text (later y).text) →
+    Begins x.text (told_after n x fault later).text
+after_begins n x (Some kind) later begins = ([], sym (append-nil x.text))
+after_begins n x None later begins = begins x
+
 lines_begin : (input : List ℕ) (count size : ℕ) (x : Exchange) (lines : List (List ℕ)) →
     Begins x.text (lines_told input count size x lines).text
 unfolding lines_told
@@ -39,16 +44,9 @@ lines_begin input count size x [] = ([], sym (append-nil x.text))
 lines_begin input count size x (line ∷ lines) =
     let next = receives_next (length input) (size + (length line + 1)) x line in
     begins_on x.text next.text _ (next_begins (length input) (size + (length line + 1)) x line)
-    (cases next next.fault (λ y. lines_begin input (count + 1)
-    (size + (length line + 1)) y lines))
-  where
-    cases : (y : Exchange) (fault : Option InputFault) →
-        ((z : Exchange) → Begins z.text
-        (lines_told input (count + 1) (size + (length line + 1)) z lines).text) →
-        Begins y.text (told_after (count + 1) y fault
-        (λ z. lines_told input (count + 1) (size + (length line + 1)) z lines)).text
-    cases y (Some kind) later = ([], sym (append-nil y.text))
-    cases y None later = later y
+    (after_begins (count + 1) next next.fault
+    (λ y. lines_told input (count + 1) (size + (length line + 1)) y lines)
+    (λ y. lines_begin input (count + 1) (size + (length line + 1)) y lines))
 
 -- ---- the first lines of a text, so many, were received
 
@@ -106,7 +104,7 @@ told_next most input left line start middle held count size after old new h cut 
           (lines_of left) cut.lines
           ∙ ap (λ (o : Option InputFault). told_after (count + 1) next o
           (λ y. lines_told input (count + 1) (size + (length line + 1)) y (left_lines after)))
-          (fine_received most start held new next fine idle received);
+          (fine_received most start held new next received fine idle);
       idle = idle;
       fine = fine;
     }
@@ -129,7 +127,7 @@ pub told_fault : (most : ℕ) (input left line : List ℕ) (start middle held : 
 told_fault most input left line start middle held count size after old new kind h cut receives is =
     let next = receives_next (length input) (size + (length line + 1)) h.exchange line in
     let received = receives h.exchange h.received in
-    let f = fault_received most start held new next kind is received in
+    let f = fault_received most start held new next received kind is in
     let told : status_told most input ≡ record {
       text = next.text;
       fault =
@@ -155,19 +153,11 @@ told_part most input left line start middle held count size after old h cut part
     let next = receives_next (length input) (size + (length line + 1)) h.exchange line in
     let told = h.so_far ∙ lines_next input count size h.exchange line (left_lines after)
     (lines_of left) cut.lines in
-    let begins = cases next.fault in
+    let begins = after_begins (count + 1) next next.fault
+    (λ y. lines_told input (count + 1) (size + (length line + 1)) y (left_lines after))
+    (λ y. lines_begin input (count + 1) (size + (length line + 1)) y (left_lines after)) in
     part_begins start held next.text (status_told most input).text (part h.exchange h.received)
     (begins.0, ap (λ (t : Told). t.text) told ∙ begins.1)
-  where
-    cases : (fault : Option InputFault) →
-        Begins (receives_next (length input) (size + (length line + 1)) h.exchange line).text
-        (told_after (count + 1) (receives_next (length input)
-        (size + (length line + 1)) h.exchange line) fault
-        (λ y. lines_told input (count + 1) (size + (length line + 1)) y
-        (left_lines after))).text
-    cases (Some kind) = ([], sym (append-nil _))
-    cases None = lines_begin input (count + 1) (size + (length line + 1))
-        (receives_next (length input) (size + (length line + 1)) h.exchange line) (left_lines after)
 
 -- what is not there is none
 pub no_fault_left : (fault : Option InputFault) → ((kind : InputFault) → fault ≡ Some kind → ⊥) →
@@ -194,7 +184,7 @@ end_sends most input start held count size client h =
 pub told_done : (most : ℕ) (input : List ℕ) (start held : Option (List ℕ)) (count size : ℕ)
     (client : Client) (inside : Bool) → HasTold most input start held count size None client →
     ((x : Exchange) → IsIdle client → client.fault ≡ None → Received most start held client x →
-    inside ≡ ends_inside (found 0 x.world.sessions)) → inside ≡ false →
+    inside ≡ ends_inside x.world) → inside ≡ false →
     Sends start held [] client.lines.items (status_told most input).text
     × (None ≡ (status_told most input).fault)
 told_done most input start held count size client inside h is outside = (
@@ -208,7 +198,7 @@ pub told_cut : (most : ℕ) (input : List ℕ) (start held : Option (List ℕ)) 
     (client : Client) (inside : Bool) (line : ℕ) →
     HasTold most input start held count size None client →
     ((x : Exchange) → IsIdle client → client.fault ≡ None → Received most start held client x →
-    inside ≡ ends_inside (found 0 x.world.sessions)) → inside ≡ true →
+    inside ≡ ends_inside x.world) → inside ≡ true →
     (count ≡ length (lines_of input) → line ≡ last_byte_line input) →
     Sends start held [] client.lines.items (status_told most input).text
     × (Some (record { line = line; kind = Cut }) ≡ (status_told most input).fault)
@@ -226,6 +216,14 @@ told_cut most input start held count size client inside line h is within last =
 
 lines_count : (text : List ℕ) → length (lines_of text) ≡ count_by is_line_end text + 1
 lines_count text = length-slice_split is_line_end text
+
+-- the last element of a list
+last_of : (xs : List ℕ) → 0 < length xs →
+    (front : List ℕ) × (last : ℕ) × (xs ≡ front ++ last ∷ [])
+last_of [] some = absurd (omega (arith, some))
+last_of (x ∷ []) some = ([], x, refl)
+last_of (x ∷ y ∷ xs) some = let l = last_of (y ∷ xs) (omega arith) in
+    (x ∷ l.0, l.1, ap (λ (t : List ℕ). x ∷ t) l.2)
 
 pub last_line_is : (text : List ℕ) (count : ℕ) (last : Bool) →
     last ≡ (get_or text (length text - 1) 0 == 10) → count ≡ length (lines_of text) →

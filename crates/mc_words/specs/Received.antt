@@ -1,20 +1,23 @@
 -- What a client stands for whose bytes are taken frame by frame: the exchange in which they came
 -- one by one.
-use Rattle.std.specs.Prelude.{◌≡◌, ℕ, Bool, true, false, List, [], ◌∷◌, ◌++◌, take, fold, Option}
-use Rattle.std.specs.Prelude.{Some, None}
+use Rattle.std.specs.Prelude.{◌≡◌, ℕ, Bool, true, false, List, [], ◌++◌, take, fold, Option, Some}
+use Rattle.std.specs.Prelude.{None, unwrap_or}
+use Rattle.std.specs.Ordering.{nat_cmp}
+use Rattle.std.specs.FinMap.{FinMap, empty, insert}
 use lib.IntN.{ℤ}
 use Rattle.mc_bytes.specs.Reading.{IsBytes}
+use Rattle.mc_wire.specs.Stream.{Grows}
 use Rattle.mc_frame.specs.Cut.{IsPart}
 use Rattle.mc_land.specs.declared.terrain.Terrain.TheVariants.{Flat}
-use Rattle.mc_wire.specs.Stream.{Grows}
 use Rattle.mc_model.specs.declared.cause.Cause.{Cause}
 use Rattle.mc_model.specs.declared.cause.Cause.TheVariants.{Done}
 use Rattle.mc_model.specs.declared.stage.Stage.{Stage}
 use Rattle.mc_model.specs.declared.stage.Stage.TheVariants as stages
-use Rattle.mc_model.specs.World.{World, Session, new_world}
+use Rattle.mc_model.specs.declared.settings.Settings.{Settings}
 use Rattle.mc_model.specs.Packets.{frame_of, of_status}
-use Rattle.mc_model.specs.Step.{new_session}
 use Rattle.mc_model.specs.Talk.{ClientRequest, greets, replies, ends, wrong}
+use Rattle.mc_model.specs.Link.{Link, new_link}
+use Rattle.mc_model.specs.World.{World, Unread, new_world, nothing_unread}
 use Rattle.mc_words.specs.declared.bad_input.InputFault.{InputFault}
 use Rattle.mc_words.specs.declared.bad_input.InputFault.TheVariants.{Packet, Login}
 use Rattle.mc_words.specs.declared.client.Client.{Client}
@@ -30,40 +33,52 @@ pub record Call : Type 0 where
   pub protocol : ℤ
   pub cause : Option Cause
 
-abbrev pub called : Call → Session
-called c = record (new_session 0) {
-  stage = c.stage;
-  rest = c.rest;
-  before = c.before;
-  protocol =
-      c.protocol;
-  cause = c.cause;
-}
+abbrev pub called : Call → Link
+called c = record new_link { stage = c.stage; protocol = c.protocol; cause = c.cause }
+
+abbrev pub unread_in : Call → Unread
+unread_in c = record { rest = c.rest; before = c.before }
+
+-- what is kept of what is not read, where anything came
+abbrev pub kept_of : Option Unread → FinMap nat_cmp Unread
+kept_of None = empty
+kept_of (Some unread) = insert empty 0 unread
+
+abbrev pub lone_settings : ℕ → Settings
+lone_settings most = record { players = most; cap = 2; terrain = Flat }
 
 -- the world in which there is no other
-abbrev pub lone : ℕ → Session → World
-lone most s = record (new_world most 2 Flat) { last = Some 0; sessions = s ∷ [] }
-
-abbrev pub exchange : ℕ → List ℕ → Call → Exchange
-exchange most text c = record {
-  world = lone most (called c);
-  text = text;
-  fault =
-      session_fault c.stage c.cause;
+abbrev pub lone : ℕ → Link → Option Unread → World
+lone most l kept = record (new_world (lone_settings most)) {
+  last = Some 0;
+  links = insert empty 0 l;
+  unread = kept_of kept;
 }
+
+abbrev pub exchange : ℕ → List ℕ → Call → Option Unread → Exchange
+exchange most text c kept = record {
+  world = lone most (called c) kept;
+  text = text;
+  fault = session_fault c.stage c.cause;
+}
+
+-- it is the exchange in which the connection has come so far
+pub record IsExchange (most : ℕ) (text : List ℕ) (c : Call) (x : Exchange) : Type 0 where
+  pub kept : Option Unread
+  pub unread : unwrap_or kept nothing_unread ≡ unread_in c
+  pub is : x ≡ exchange most text c kept
 
 -- it is open, and no byte of a frame came
 pub record IsOpen (most : ℕ) (stage : Stage) (text : List ℕ) (x : Exchange) : Type 0 where
   pub before : ℕ
   pub protocol : ℤ
-  pub is : x ≡ exchange most text (record {
+  pub is : IsExchange most text (record {
     stage = stage;
     rest = [];
     before = before;
-    protocol =
-        protocol;
+    protocol = protocol;
     cause = None;
-  })
+  }) x
 
 -- its ping was answered
 pub record IsDone (most : ℕ) (text : List ℕ) (x : Exchange) : Type 0 where
@@ -72,11 +87,10 @@ pub record IsDone (most : ℕ) (text : List ℕ) (x : Exchange) : Type 0 where
   pub is : x ≡ exchange most text (record {
     stage = stages.Closed;
     rest = [];
-    before =
-        before;
+    before = before;
     protocol = protocol;
     cause = Some Done;
-  })
+  }) (Some (record { rest = []; before = before }))
 
 -- a client has this fault, or has come to this stage, and these lines were written
 abbrev pub IsAt : ℕ → Option InputFault → Stage → List ℕ → Exchange → Type 0

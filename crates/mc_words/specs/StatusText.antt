@@ -5,16 +5,19 @@
 use Rattle.std.specs.Prelude.{ℕ, ◌+◌, ◌-◌, ◌&&◌, nat_lt, not, Bool, false, List, [], ◌∷◌, ◌++◌}
 use Rattle.std.specs.Prelude.{length, take, fold, Option, Some, None, is_some, if◌then◌else◌}
 use Rattle.std.specs.List.{flat_map}
+use Rattle.std.specs.FinMap.{get}
 use Rattle.hex.specs.Hex.{encode_lower}
 use Rattle.mc_land.specs.declared.terrain.Terrain.TheVariants.{Flat}
 use Rattle.mc_model.specs.declared.cause.Cause.{Cause}
 use Rattle.mc_model.specs.declared.cause.Cause.TheVariants as causes
 use Rattle.mc_model.specs.declared.stage.Stage.{Stage}
 use Rattle.mc_model.specs.declared.stage.Stage.TheVariants as stages
-use Rattle.mc_model.specs.World.{World, Session, new_world, is_closed, found}
+use Rattle.mc_model.specs.Stages.{is_closed}
 use Rattle.mc_model.specs.Packets.{Sent, frame_of}
-use Rattle.mc_model.specs.Step.{Outcome, joined, came, took, step}
+use Rattle.mc_model.specs.Step.{joined, came, took, step}
 use Rattle.mc_model.specs.Run.{to, owed_in}
+use Rattle.mc_model.specs.Link.{Link}
+use Rattle.mc_model.specs.World.{World, Outcome, new_world, unread_of}
 use Rattle.mc_words.specs.declared.bad_input.BadInput.{BadInput}
 use Rattle.mc_words.specs.declared.bad_input.InputFault.{InputFault}
 use Rattle.mc_words.specs.declared.bad_input.InputFault.TheVariants.{Hex, Frame, Packet, Login, Cut}
@@ -33,9 +36,8 @@ pub record Exchange : Type 0 where
 -- it has joined a new world with so many players at most
 abbrev pub first_exchange : ℕ → Exchange
 first_exchange most = record {
-  world = (step (new_world most 2 Flat) (joined 0)).world;
-  text =
-      [];
+  world = (step (new_world (record { players = most; cap = 2; terrain = Flat })) (joined 0)).world;
+  text = [];
   fault = None;
 }
 
@@ -53,9 +55,9 @@ session_fault stage (Some (causes.Frame fault)) = Some Frame
 session_fault stage (Some (causes.Packet fault)) = Some Packet
 session_fault stage other = None
 
-abbrev pub shown_fault : Option Session → Option InputFault
+abbrev pub shown_fault : Option Link → Option InputFault
 shown_fault None = None
-shown_fault (Some s) = session_fault s.stage s.cause
+shown_fault (Some l) = session_fault l.stage l.cause
 
 -- it takes all that it is owed
 abbrev pub emptied : World → World
@@ -67,7 +69,7 @@ goes_on x o = record {
   world = emptied o.world;
   text = x.text ++ sent_lines (to 0 o.out);
   fault =
-      shown_fault (found 0 o.world.sessions);
+      shown_fault (get o.world.links 0);
 }
 
 -- a byte comes; after a fault it is ignored
@@ -91,10 +93,13 @@ abbrev pub receives_next : ℕ → ℕ → Exchange → List ℕ → Exchange
 receives_next len size x line = if goes_past len size then record x { fault = Some Long } else
     receives_line x (line_bytes line)
 
+abbrev pub is_open_in : Option Link → Bool
+is_open_in None = false
+is_open_in (Some l) = not (is_closed l.stage)
+
 -- the connection is open, and its bytes end inside a frame
-abbrev pub ends_inside : Option Session → Bool
-ends_inside None = false
-ends_inside (Some s) = not (is_closed s.stage) && nat_lt 0 (length s.rest)
+abbrev pub ends_inside : World → Bool
+ends_inside w = is_open_in (get w.links 0) && nat_lt 0 (length (unread_of 0 w).rest)
 
 -- the number of the line that holds the last byte of a text: as many lines as the text has without
 -- that byte
@@ -105,7 +110,7 @@ last_byte_line text = length (lines_of (take (length text - 1) text))
 abbrev pub told_at_end : List ℕ → Exchange → Told
 told_at_end input x = record {
   text = x.text;
-  fault = if ends_inside (found 0 x.world.sessions) then
+  fault = if ends_inside x.world then
       Some (record { line = last_byte_line input; kind = Cut }) else None;
 }
 

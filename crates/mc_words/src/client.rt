@@ -1,10 +1,9 @@
 ghost use Rattle.std.specs.Prelude.{◌≡◌, ◌<◌, ◌++◌, ℕ, List, Option, [], true, false, length, take};
 ghost use Rattle.std.specs.Prelude.{None, IfOk, OnOk, OnErr, IsErrOf};
 ghost use Rattle.std.specs.List.{fold};
-ghost use Rattle.mc_model.specs.World.{found};
-ghost use Rattle.mc_model.specs.Talk.{request_of};
 ghost use Rattle.mc_wire.specs.Count.{Rose, StandsOrRises};
 ghost use Rattle.mc_wire.specs.Stream.{Grows};
+ghost use Rattle.mc_model.specs.Talk.{request_of};
 ghost use Rattle.mc_words.specs.StatusText.{Exchange, receives, hex_line, first_exchange};
 ghost use Rattle.mc_words.specs.StatusText.{ends_inside};
 ghost use Rattle.mc_words.specs.Received.{Received, IsIdle, IsAsking, is_over, stage_fault};
@@ -133,7 +132,7 @@ impl Client {
     pub fn is_inside(&self) -> bool
         ensures { (most : ℕ) (start held : Option (List ℕ)) (x : Exchange) → IsIdle self.now →
             self.now.fault ≡ None →
-            Received most start held self.now x → result ≡ ends_inside (found 0 x.world.sessions) }
+            Received most start held self.now x → result ≡ ends_inside x.world }
     {
         if self.is_over() {
             return false;

@@ -1,36 +1,22 @@
 //! What a server keeps, field by field: a new one is named here before the crate is built again.
 
 use super::Server;
-use crate::Settings;
-use crate::connection::Connection;
-use crate::packs::Packs;
-use crate::roster::Roster;
-use mc_entities::Folk;
-use mc_flush::Line;
-use mc_land::Land;
+use crate::connections::Connections;
+use mc_play::Game;
+use mc_showing::Roster;
 use std::alloc::Global;
 
 fn an_allocator(_part: &Global) {}
 
-fn settings(_part: &Settings) {}
+fn a_game(_part: &Game) {}
 
-fn a_land(_part: &Land) {}
-
-fn a_folk(_part: &Folk) {}
-
-fn packs_by_name(_part: &Packs) {}
-
-fn lines_of_players(_part: &Vec<Line>) {}
-
-fn a_list_of_players(_part: &Roster) {}
-
-fn the_records(_part: &Vec<Connection>) {}
+fn a_last_number(_part: &Option<u32>) {}
 
 fn the_numbers(_part: &Vec<u32>) {}
 
-fn an_age(_part: &u64) {}
+fn the_records(_part: &Connections) {}
 
-fn a_last_number(_part: &Option<u32>) {}
+fn a_list_of_players(_part: &Roster) {}
 
 fn a_truth_value(_part: &bool) {}
 
@@ -38,12 +24,7 @@ fn a_truth_value(_part: &bool) {}
 fn name_fields(server: &Server) {
     let Server {
         alloc,
-        settings: given,
-        land,
-        folk,
-        packs,
-        lines,
-        age,
+        game,
         last,
         ids,
         connections,
@@ -51,12 +32,7 @@ fn name_fields(server: &Server) {
         failed,
     } = server;
     an_allocator(alloc);
-    settings(given);
-    a_land(land);
-    a_folk(folk);
-    packs_by_name(packs);
-    lines_of_players(lines);
-    an_age(age);
+    a_game(game);
     a_last_number(last);
     the_numbers(ids);
     the_records(connections);

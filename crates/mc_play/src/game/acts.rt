@@ -2,7 +2,7 @@
 
 ghost use Rattle.std.specs.Prelude.{◌≡◌};
 ghost use Rattle.mc_up.specs.PlayUp.{FitsPlayUp};
-ghost use Rattle.mc_game.specs.Acts.{act};
+ghost use Rattle.mc_model.specs.Acts.{act};
 ghost use Rattle.mc_play.specs.Acting.{Acts};
 
 use crate::game::Game;
@@ -31,7 +31,7 @@ impl From<NoMemory> for ActFault {
 impl Game {
     /// Does what a packet of the player of a connection says, if it has one. `BadNumber` comes
     /// exactly where a number of the packet stands for none, and then all is as before.
-    #[tactic(auto, unfolding(mc_game::specs::Acts::act))]
+    #[tactic(auto, unfolding(mc_model::specs::Acts::act))]
     pub fn act(&mut self, connection: u32, packet: &PlayUp) -> Result<(), ActFault>
         requires { FitsPlayUp packet.now }
         ensures { Acts result self.old self.new (act self.old.game connection packet.now) }

@@ -1,7 +1,7 @@
 //! What players say.
 
 ghost use Rattle.std.specs.Prelude.{◌≡◌, ◌≤◌, OnErr, OnOk, length};
-ghost use Rattle.mc_game.specs.Chat.{say};
+ghost use Rattle.mc_model.specs.Chat.{say};
 ghost use Rattle.mc_play.specs.Kept.{by_player, played};
 
 use crate::Said;
@@ -9,8 +9,8 @@ use crate::game::Game;
 use mc_bytes::{NoMemory, Text};
 
 impl Game {
-    /// Keeps a text of the player of a connection: all in play are told it at the next tick. Without
-    /// memory all is as before.
+    /// Keeps a text of the player of a connection: all in play are told it at the next tick.
+    /// Without memory all is as before.
     pub(super) fn say(&mut self, connection: u32, text: &Text) -> Result<(), NoMemory>
         requires { length text.now ≤ 400 }
         ensures ok { OnOk result (self.new ≡ played self.old

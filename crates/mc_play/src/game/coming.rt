@@ -3,19 +3,17 @@
 ghost use Rattle.std.specs.Prelude.{◌≡◌, ◌<◌, ◌||◌, ◌&&◌, nat_lt, IfOk, OnOk, false, true};
 ghost use Rattle.std.specs.FinMap.{len};
 ghost use Rattle.mc_entities.specs.declared.entity.TheConstants.{EID_MAX};
-ghost use Rattle.mc_model.specs.Step.{is_47};
-ghost use Rattle.mc_game.specs.Deeds.{enter_as};
-ghost use Rattle.mc_game.specs.Game.{is_known};
-ghost use Rattle.mc_game.specs.Leaving.{leave};
-ghost use Rattle.mc_game.specs.Step.{refusal};
+ghost use Rattle.mc_model.specs.Step.{is_47, refusal};
+ghost use Rattle.mc_model.specs.Deeds.{enter_as};
+ghost use Rattle.mc_model.specs.Game.{is_known};
+ghost use Rattle.mc_model.specs.Leaving.{leave};
 ghost use Rattle.mc_play.specs.Admitting.{IsAnswer, has_room};
 ghost use Rattle.mc_play.specs.Kept.{played};
 
 use crate::game::Game;
 use crate::hands::in_hand;
 use mc_bytes::{NoMemory, Text};
-use mc_game::Player;
-use mc_model::{Name, Notes, Refusal, spawn_spot};
+use mc_model::{Name, Notes, Player, Refusal, spawn_spot};
 use mc_session::offline_uuid;
 
 /// How many names there may be that ever were in play.
@@ -89,7 +87,7 @@ impl Game {
     }
 
     /// The player of a connection leaves, if it has one.
-    #[tactic(auto, unfolding(mc_game::specs::Leaving::leave))]
+    #[tactic(auto, unfolding(mc_model::specs::Leaving::leave))]
     pub fn leave(&mut self, connection: u32)
         ensures is { self.new ≡ played self.old (leave connection self.old.game) self.new.aside }
         ensures ready { self.new.aside.ready ≡ self.old.aside.ready }

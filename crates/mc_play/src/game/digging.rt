@@ -1,20 +1,20 @@
 //! What players dig and drop.
 
-ghost use Rattle.std.specs.Prelude.{◌≡◌, ◌⊎◌, ◌<◌, ◌≤◌, ◌&&◌, ◌+ℤ◌, ◌*ℤ◌, nat_lt, true, OnErr, OnOk};
-ghost use Rattle.std.specs.Prelude.{unsigned_abs};
+ghost use Rattle.std.specs.Prelude.{◌≡◌, ◌⊎◌, ◌<◌, ◌≤◌, ◌&&◌, ◌+ℤ◌, ◌*ℤ◌, nat_lt, true, OnErr};
+ghost use Rattle.std.specs.Prelude.{OnOk, unsigned_abs};
 ghost use lib.IntN.{pos};
 ghost use Rattle.mc_land.specs.Places.{is_inside};
 ghost use Rattle.mc_slots.specs.Pile.{IsItem};
-ghost use Rattle.mc_model.specs.Digging.{block_item, floor_of, is_dug};
-ghost use Rattle.mc_game.specs.Deeds.{thrown};
-ghost use Rattle.mc_game.specs.Digging.{dig, digging, drop_held, dug, feet_of};
-ghost use Rattle.mc_game.specs.Game.{held_by, room_in, state_in};
+ghost use Rattle.mc_model.specs.Digging.{block_item, floor_of, is_dug, dig, digging, drop_held};
+ghost use Rattle.mc_model.specs.Digging.{dug, feet_of};
+ghost use Rattle.mc_model.specs.Deeds.{thrown};
+ghost use Rattle.mc_model.specs.Game.{held_by, room_in, state_in};
 ghost use Rattle.mc_play.specs.Kept.{IsNear, by_player, played};
 
 use crate::game::Game;
 use mc_bytes::NoMemory;
 use mc_fields::{Cell, Spot};
-use mc_game::Player;
+use mc_model::Player;
 use mc_slots::{Item, Pile, split};
 
 /// Whether a block of a state is dug: not air, and not bedrock.
@@ -103,8 +103,8 @@ impl Game {
         Ok(())
     }
 
-    /// Digs a cell for the player of a connection, or notes it where that may not be. Without memory
-    /// all is as before.
+    /// Digs a cell for the player of a connection, or notes it where that may not be. Without
+    /// memory all is as before.
     fn dig(&mut self, connection: u32, cell: Cell) -> Result<(), NoMemory>
         ensures ok { OnOk result (self.new ≡ played self.old (by_player connection
             (λ p. dig connection p cell) self.old.game) self.new.aside) }

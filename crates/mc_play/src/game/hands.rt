@@ -2,15 +2,14 @@
 
 ghost use Rattle.std.specs.Prelude.{◌≡◌};
 ghost use Rattle.mc_slots.specs.Pile.{IsPile};
-ghost use Rattle.mc_model.specs.Packs.{place_of_hotbar};
-ghost use Rattle.mc_game.specs.Deeds.{repack_of};
-ghost use Rattle.mc_game.specs.Game.{held_by};
-ghost use Rattle.mc_game.specs.Hands.{carrying, take_up};
+ghost use Rattle.mc_model.specs.Hands.{place_of_hotbar, carrying, take_up};
+ghost use Rattle.mc_model.specs.Deeds.{repack_of};
+ghost use Rattle.mc_model.specs.Game.{held_by};
 ghost use Rattle.mc_play.specs.Kept.{by_player, played};
 
 use crate::game::Game;
 use crate::hands::{in_hand, place_of_hotbar, with_hand};
-use mc_game::Player;
+use mc_model::Player;
 use mc_slots::Pile;
 use mc_windows::Pack;
 

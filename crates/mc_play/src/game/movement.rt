@@ -3,9 +3,8 @@
 ghost use Rattle.std.specs.Prelude.{◌≡◌, option_map};
 ghost use Rattle.std.specs.FinMap.{get};
 ghost use Rattle.std.specs.Option.{option_and_then};
-ghost use Rattle.mc_model.specs.Movement.{moved, turned};
-ghost use Rattle.mc_game.specs.Game.{spot_of};
-ghost use Rattle.mc_game.specs.Movement.{arrive, arrived};
+ghost use Rattle.mc_model.specs.Movement.{moved, turned, arrive, arrived};
+ghost use Rattle.mc_model.specs.Game.{spot_of};
 ghost use Rattle.mc_play.specs.Acting.{Acts};
 ghost use Rattle.mc_play.specs.Kept.{by_player, played, try_player};
 
@@ -69,8 +68,8 @@ impl Game {
         Ok(())
     }
 
-    /// Moves and turns the player of a connection, if it has one, as patterns say. `BadNumber` where
-    /// one of them stands for no number.
+    /// Moves and turns the player of a connection, if it has one, as patterns say. `BadNumber`
+    /// where one of them stands for no number.
     pub(super) fn walk_and_turn(
         &mut self,
         connection: u32,

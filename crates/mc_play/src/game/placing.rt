@@ -3,9 +3,8 @@
 ghost use Rattle.std.specs.Prelude.{◌≡◌, ◌⊎◌, ◌<◌, ◌≤◌, OnOk, Some};
 ghost use Rattle.mc_fields.specs.PositionBits.{FitsCell};
 ghost use Rattle.mc_slots.specs.Pile.{IsItem};
-ghost use Rattle.mc_model.specs.Placing.{item_state};
-ghost use Rattle.mc_game.specs.Game.{held_by};
-ghost use Rattle.mc_game.specs.Placing.{place_at, place_on, put_block};
+ghost use Rattle.mc_model.specs.Placing.{item_state, place_at, place_on, put_block};
+ghost use Rattle.mc_model.specs.Game.{held_by};
 ghost use Rattle.mc_play.specs.Kept.{by_player, played};
 
 use crate::game::Game;

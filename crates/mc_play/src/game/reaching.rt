@@ -3,15 +3,15 @@
 ghost use Rattle.std.specs.Prelude.{◌≡◌, ◌⊎◌, ◌<◌, ◌≤◌, ◌&&◌, ◌==◌, IfSome, None, Some};
 ghost use Rattle.std.specs.Prelude.{if◌then◌else◌, true};
 ghost use Rattle.mc_land.specs.Places.{is_inside};
-ghost use Rattle.mc_game.specs.Game.{state_in};
-ghost use Rattle.mc_game.specs.Placing.{is_free};
-ghost use Rattle.mc_game.specs.Reaching.{is_in_reach};
+ghost use Rattle.mc_model.specs.Game.{state_in};
+ghost use Rattle.mc_model.specs.Placing.{is_free};
+ghost use Rattle.mc_model.specs.Reach.{is_in_reach};
 
 use crate::game::Game;
 use crate::reach::is_near;
 use mc_fields::Cell;
-use mc_game::Player;
 use mc_land::is_inside;
+use mc_model::Player;
 
 impl Game {
     /// The state of a cell that is in reach of a player; None of another.

@@ -4,7 +4,7 @@ ghost use Rattle.std.specs.Prelude.{◌≡◌, ◌<◌, OnErr, OnOk};
 ghost use Rattle.mc_land.specs.Land.{with_ready};
 ghost use Rattle.mc_land.specs.Places.{IsPlace};
 ghost use Rattle.mc_land.specs.Shed.{IsSettled, shed_land};
-ghost use Rattle.mc_game.specs.Tick.{grown, told};
+ghost use Rattle.mc_model.specs.Tick.{grown, told};
 ghost use Rattle.mc_play.specs.Kept.{land_of, played};
 
 use crate::game::Game;

@@ -1,5 +1,5 @@
-//! What is kept of the limits of a game, field by field: a new one is named here before the crate is built
-//! again.
+//! What is kept of the limits of a game, field by field: a new one is named here before the crate
+//! is built again.
 
 use super::Limits;
 

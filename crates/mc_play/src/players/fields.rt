@@ -1,8 +1,8 @@
-//! What is kept of players, field by field: a new one is named here before the crate is built again.
+//! What is kept of players, field by field: a new one is named here before the crate is built
+//! again.
 
 use super::Players;
-use mc_game::{Eid, Player};
-use mc_model::{Name, Notes};
+use mc_model::{Eid, Name, Notes, Player};
 use std::collections::BTreeMap;
 
 fn players_by_connection(_part: &BTreeMap<u32, Player>) {}

@@ -2,16 +2,18 @@ ghost use Rattle.std.specs.Prelude.{◌≡◌, ◌∷◌, ◌<◌, ◌≤◌, �
 ghost use Rattle.mc_wire.specs.declared.log.LogEntry.{LogEntry};
 ghost use Rattle.mc_wire.specs.Becoming.{HasLogged};
 ghost use Rattle.mc_wire.specs.LobbyCounts.{StandOrRise};
-ghost use Rattle.mc_model.specs.World.{World};
 ghost use Rattle.mc_model.specs.Turns.{done_in};
+ghost use Rattle.mc_model.specs.World.{World};
 ghost use Rattle.mc_events.specs.Inputs.{age_after};
-ghost use Rattle.mc_events.specs.Served.{one_if};
-ghost use Rattle.mc_events.specs.Stands.{Stands, age_of};
+ghost use Rattle.mc_events.specs.Served.{age_of};
+ghost use Rattle.mc_events.specs.Stands.{Stands};
+ghost use Rattle.mc_server.specs.Drives.{one_if};
 ghost use Rattle.mc_server.specs.TurnParts.{HasClosed, HasSent, HasSentAll, HasTurned, IsInputOf};
 ghost use Rattle.mc_server.specs.TurnParts.{closing_of, numbers_in};
 
 use mc_bytes::NoMemory;
-use mc_events::{Input, Server, is_ours};
+use mc_events::{Input, Server};
+use mc_links::is_ours;
 use mc_wire::{Lobby, Wrote};
 
 /// The most bytes of one write.

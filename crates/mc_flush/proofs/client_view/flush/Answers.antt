@@ -4,8 +4,8 @@ use Rattle.mc_fields.specs.declared.position.Cell.{Cell}
 use Rattle.mc_frame.specs.Kept.{joined}
 use Rattle.mc_view.specs.Sets.{has}
 use Rattle.mc_model.specs.Delta.{delta}
-use Rattle.mc_model.specs.Step.{noted_packets, notes_of}
-use Rattle.mc_model.specs.World.{others}
+use Rattle.mc_model.specs.Notes.{noted_packets, notes_of}
+use Rattle.mc_model.specs.Sight.{others}
 use Rattle.mc_sending.specs.Sending.{play_bytes}
 use Rattle.mc_flush.specs.Seeing.{MarkValue, StandsFor, changes, present_parts, seen}
 use Rattle.mc_told.specs.Telling.{age_now, beat_now}

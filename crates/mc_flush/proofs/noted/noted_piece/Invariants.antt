@@ -1,6 +1,6 @@
 use Rattle.std.proofs.Common.{◌≡◌, ◌+◌, ◌++◌, drop}
 use Rattle.mc_view.specs.Sets.{has}
-use Rattle.mc_model.specs.Step.{noted_packets}
+use Rattle.mc_model.specs.Notes.{noted_packets}
 use Rattle.mc_flush.specs.Encoding.{noted_cost}
 use Rattle.mc_sending.specs.Sending.{play_bytes}
 use Rattle.mc_flush.proofs.noted.noted_piece.Given as goal

@@ -1,6 +1,6 @@
 use Rattle.std.proofs.Common.{ℕ, List, length, refl, sym, subst, ap, ◌∙◌, arith}
-use Rattle.mc_game.specs.Step.{on_frame}
-use Rattle.mc_game.specs.World.{Unread, nothing_unread}
+use Rattle.mc_model.specs.Step.{on_frame}
+use Rattle.mc_model.specs.World.{Unread, nothing_unread}
 use Rattle.mc_links.specs.Kept.{ConnectionValue}
 use Rattle.mc_links.specs.Seats.{Becomes, seat_with}
 use Rattle.mc_links.proofs.Ages.{closed_age, framed_age}

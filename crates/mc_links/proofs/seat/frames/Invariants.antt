@@ -1,6 +1,6 @@
 -- What was read so far, that the connection is open, and that no tick came.
 use Rattle.std.proofs.Common.{◌≡◌, ℕ, List, false, length}
-use Rattle.mc_model.specs.World.{is_closed}
+use Rattle.mc_model.specs.Stages.{is_closed}
 use Rattle.mc_play.specs.Kept.{GameValue}
 use Rattle.mc_links.specs.Kept.{ConnectionValue}
 use Rattle.mc_links.specs.Seats.{IsReading}

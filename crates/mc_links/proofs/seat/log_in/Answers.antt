@@ -1,8 +1,8 @@
 use Rattle.std.proofs.Common.{ap, ◌∙◌, to_z, of_z, w32, rules}
 use Rattle.std.proofs.lemmas.Int.{to_z-of_z}
 use Rattle.std.specs.Prelude.{OnOk}
-use Rattle.mc_game.specs.Link.{Link}
-use Rattle.mc_game.specs.World.{Seat}
+use Rattle.mc_model.specs.Link.{Link}
+use Rattle.mc_model.specs.World.{Seat}
 use Rattle.mc_links.specs.Seats.{Becomes}
 use Rattle.mc_links.proofs.Performing.{login_entered}
 use Rattle.mc_links.proofs.seat.log_in.Goals as goal

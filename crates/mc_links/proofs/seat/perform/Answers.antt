@@ -1,6 +1,6 @@
 use Rattle.std.proofs.Common.{sym, ◌∙◌}
 use Rattle.std.specs.Prelude.{OnOk}
-use Rattle.mc_game.specs.World.{Seat}
+use Rattle.mc_model.specs.World.{Seat}
 use Rattle.mc_links.specs.Seats.{Becomes}
 use Rattle.mc_links.proofs.Performing.{act_performs, close_performs, enter_performs}
 use Rattle.mc_links.proofs.Performing.{reply_last_performs, reply_performs}

@@ -1,8 +1,8 @@
 -- What was read so far: the connection is open, its splitter holds a part of a frame, and no tick
 -- came.
 use Rattle.std.proofs.Common.{◌≡◌, ◌++◌, true, false, length}
-use Rattle.mc_game.specs.World.{Unread}
-use Rattle.mc_model.specs.World.{is_closed}
+use Rattle.mc_model.specs.World.{Unread}
+use Rattle.mc_model.specs.Stages.{is_closed}
 use Rattle.mc_links.specs.Sitting.{Holds}
 use Rattle.mc_links.specs.Seats.{HasRead}
 use Rattle.mc_links.proofs.seat.read.Given as goal

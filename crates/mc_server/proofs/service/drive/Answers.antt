@@ -5,14 +5,14 @@ use Rattle.mc_server.proofs.NewServers.{drove_new}
 use Rattle.mc_server.proofs.service.drive.Goals as goal
 
 pub returns-in_default-clause-drove : goal.returns-in_default-clause-drove
-returns-in_default-clause-drove g c = λ most cap terrain settings st ne.
-    drove_new c.args.budget _ _ most cap terrain c.args.server.now _ settings ne
-    (drove_deaf c.args.budget _ _ (new_world most cap terrain) c.args.server.now st
+returns-in_default-clause-drove g c = λ settings are st ne.
+    drove_new c.args.budget _ _ settings c.args.server.now _ are ne
+    (drove_deaf c.args.budget _ _ (new_world settings) c.args.server.now st
     c.requires.young c.in_default.ensures.tells)
 
 pub returns-clause-drove : goal.returns-clause-drove
-returns-clause-drove g c = λ most cap terrain settings st ne.
-    drove_new c.args.budget _ _ most cap terrain c.serve.new.server _ settings ne
-    (drove_listened c.args.budget.port c.args.budget _ _ _ (new_world most cap terrain)
+returns-clause-drove g c = λ settings are st ne.
+    drove_new c.args.budget _ _ settings c.serve.new.server _ are ne
+    (drove_listened c.args.budget.port c.args.budget _ _ _ (new_world settings)
     c.serve.new.server _ c.in-Ok.ensures.tells
-    (c.serve.ensures.drove (new_world most cap terrain) st refl ne))
+    (c.serve.ensures.drove (new_world settings) st refl ne))

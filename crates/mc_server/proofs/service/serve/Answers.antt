@@ -5,12 +5,11 @@ use Rattle.mc_wire.specs.declared.log.LogEntry.{LogEntry}
 use Rattle.mc_wire.specs.LobbyAnswers.{event_entry}
 use Rattle.mc_wire.proofs.LobbyCalls.{HasLogged-trans, Logs-refl, StandOrRise-trans}
 use Rattle.mc_model.specs.Log.{log_of, logged}
-use Rattle.mc_server.specs.Drives.{is_tick}
-use Rattle.mc_events.specs.Served.{one_if}
-use Rattle.mc_events.specs.Stands.{age_of}
+use Rattle.mc_events.specs.Served.{age_of}
+use Rattle.mc_server.specs.Drives.{is_tick, one_if}
+use Rattle.mc_server.proofs.Few.{one_at_most}
 use Rattle.mc_server.proofs.Driven.{driving_next, driving_start, drove_ended, drove_events}
-use Rattle.mc_server.proofs.Driven.{drove_failed, drove_ticks, one_at_most, still_young, tally_is}
-use Rattle.mc_server.proofs.Driven.{told_same}
+use Rattle.mc_server.proofs.Driven.{drove_failed, drove_ticks, still_young, tally_is, told_same}
 use Rattle.mc_server.proofs.service.serve.Goals as goal
 
 pub loop-round-init : goal.loop-round-init
@@ -41,7 +40,7 @@ returns-in_default-input_of-clause-drove g c = λ w st none ne.
     (told_same _ _ _ _ (ap (λ (e : Event). event_entry e c.next.new.buf)
     c.in_default-input_of.ensures) c.in-Ok.ensures.tells) h.young c.loop-round-test.true
     (tally_is _ _ w c.loop-round.server c.loop-round._round c.loop-round.joins c.loop-round.closed d
-    c.counted.result c.counted.ensures.joins c.counted.ensures.closed less none st.orderly)
+    c.counted.result c.counted.ensures.joins c.counted.ensures.closed less none)
 
 pub returns-in_default-input_of-clause-logs : goal.returns-in_default-input_of-clause-logs
 returns-in_default-input_of-clause-logs g c =
@@ -66,13 +65,13 @@ returns-then-age-from-clause-drove g c = λ w st none ne.
     c.in_ok-take_turn.ensures.age ∙ c.in-Some.ensures.ages (age_of c.loop-round.server) in
     let less : c.loop-round._round + 1 < 2 ^ 64 = search rules in
     let d = h.driving w st none in
-    let t = c.in_ok-take_turn.ensures.turned (logged w (log_of d.turns)) entry d.stands
+    let t = c.in_ok-take_turn.ensures.turned (logged w (log_of d.turns)) entry d.adds.stands
     c.in-Some.ensures in
     let next = driving_next _ _ _ _ w c.loop-round.server c.take_turn.new.server
     c.loop-round._round c.loop-round.joins c.loop-round.closed c.in_ok-take_turn.field-0 entry d
     c.in-Ok.ensures.tells t joined c.saturating_add-closed.result ages
     (ap (λ (n : ℕ). c.loop-round.joins + n) (c.joining.ensures.is c.next.new.buf))
-    c.saturating_add-closed.ensures less none st.orderly in
+    c.saturating_add-closed.ensures less none in
     let ticks = d.ticks in
     let young = h.young in
     drove_ticks c.args.budget _ _ w c.take_turn.new.server (c.loop-round._round + 1) joined
@@ -82,8 +81,7 @@ returns-then-age-from-clause-drove g c = λ w st none ne.
     (let test = c.loop-round-test.true in omega (arith, test))
     (tally_is _ _ w c.take_turn.new.server (c.loop-round._round + 1) joined
     c.saturating_add-closed.result next c.counted-then-age-from.result
-    c.counted-then-age-from.ensures.joins c.counted-then-age-from.ensures.closed less none
-    st.orderly)
+    c.counted-then-age-from.ensures.joins c.counted-then-age-from.ensures.closed less none)
 
 pub loop-round-preserved : goal.loop-round-preserved
 loop-round-preserved g c =
@@ -101,9 +99,9 @@ loop-round-preserved g c =
           driving_next _ _ _ _ w c.loop-round.server c.take_turn.new.server c.loop-round._round
           c.loop-round.joins c.loop-round.closed c.in_ok-take_turn.field-0 entry d
           c.in-Ok.ensures.tells (c.in_ok-take_turn.ensures.turned (logged w (log_of d.turns)) entry
-          d.stands c.in-Some.ensures) joined c.saturating_add-closed.result ages
+          d.adds.stands c.in-Some.ensures) joined c.saturating_add-closed.result ages
           (ap (λ (n : ℕ). c.loop-round.joins + n) (c.joining.ensures.is c.next.new.buf))
-          c.saturating_add-closed.ensures less none st.orderly;
+          c.saturating_add-closed.ensures less none;
       young = still_young (age_of c.loop-round.server) (age_of c.take_turn.new.server)
           (one_if (is_tick entry)) c.args.budget.ticks ages (one_at_most (is_tick entry)) h.young
           ne;

@@ -1,6 +1,6 @@
 use Rattle.std.proofs.Common.{arith}
-use Rattle.mc_model.specs.World.{spawn_height}
-use Rattle.mc_model.proofs.FitsDue.{spawn_low}
+use Rattle.mc_model.specs.Spots.{spawn_height}
+use Rattle.mc_model.proofs.ThingFacts.{spawn_low}
 use Rattle.mc_model.proofs.FitsPlay.{spawn_clear}
 use Rattle.mc_showing.proofs.opening.spawn_packet.Goals as goal
 

@@ -2,7 +2,7 @@ use Rattle.std.proofs.Common.{sym, ap, ◌∙◌}
 use Rattle.std.proofs.lemmas.Result.{on_ok_weaker}
 use Rattle.std.specs.FinMap.{FinMap, get}
 use Rattle.std.specs.Ordering.{nat_cmp}
-use Rattle.mc_game.specs.declared.player.Player.{Player}
+use Rattle.mc_model.specs.declared.player.Player.{Player}
 use Rattle.mc_showing.proofs.ColumnFacts.{loaded_are}
 use Rattle.mc_showing.proofs.ReadyFacts.{ready_for}
 use Rattle.mc_showing.proofs.prepare.prepare_one.Goals as goal

@@ -1,5 +1,5 @@
 use Rattle.std.proofs.Common.{◌≡◌, ◌++◌, map}
-use Rattle.mc_game.specs.Game.{players_of}
+use Rattle.mc_model.specs.Game.{players_of}
 use Rattle.mc_showing.specs.Around.{reach_of}
 use Rattle.mc_showing.proofs.views.views_of.Given as goal
 

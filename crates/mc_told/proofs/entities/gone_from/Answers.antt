@@ -5,7 +5,7 @@ use Rattle.std.proofs.lemmas.List.{append-nil}
 use Rattle.std.proofs.lemmas.Option.{slice_get_within}
 use Rattle.std.specs.FinMap.{keys}
 use lib.IntN.{ℤ}
-use Rattle.mc_model.specs.World.{others}
+use Rattle.mc_model.specs.Sight.{others}
 use Rattle.mc_told.specs.Telling.{gone_among}
 use Rattle.mc_told.proofs.Told.{drop_past, gone_next, key_next}
 use Rattle.mc_told.proofs.entities.gone_from.Goals as goal

@@ -1,6 +1,6 @@
 use Rattle.std.proofs.Common.{◌≡◌, ◌≤◌, ◌-◌, ◌++◌, drop, length}
 use Rattle.std.specs.FinMap.{keys}
-use Rattle.mc_model.specs.World.{others}
+use Rattle.mc_model.specs.Sight.{others}
 use Rattle.mc_told.specs.Telling.{gone_among}
 use Rattle.mc_told.proofs.entities.gone_from.Given as goal
 

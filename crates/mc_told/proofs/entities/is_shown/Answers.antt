@@ -7,7 +7,7 @@ use lib.IntN.{ℤ, pos}
 use mir.Val.{to_z}
 use Rattle.mc_entities.specs.Folk.{eid_of}
 use Rattle.mc_entities.specs.Numbers.{numbered}
-use Rattle.mc_model.specs.World.{others}
+use Rattle.mc_model.specs.Sight.{others}
 use Rattle.mc_told.specs.Telling.{shown_now}
 use Rattle.mc_told.proofs.Told.{shown_other, shown_of, shown_own}
 use Rattle.mc_told.proofs.entities.is_shown.Goals as goal

@@ -1,7 +1,7 @@
 use Rattle.std.proofs.Common.{◌+◌, drop, refl}
 use Rattle.std.proofs.lemmas.List.{drop_more}
 use lib.IntN.{pos}
-use Rattle.mc_model.specs.World.{others}
+use Rattle.mc_model.specs.Sight.{others}
 use Rattle.mc_told.proofs.Rows.{rows_rise}
 use Rattle.mc_told.proofs.Told.{others_rise, step_kept, step_sent, step_sorted}
 use Rattle.mc_told.proofs.entities.put_entities.Goals as goal

@@ -3,7 +3,7 @@ use lib.IntN.{pos}
 use Rattle.mc_entities.specs.declared.entity.Entity.{Entity}
 use Rattle.mc_entities.specs.Folk.{eid_of}
 use Rattle.mc_entities.specs.Numbers.{Rise}
-use Rattle.mc_model.specs.World.{others}
+use Rattle.mc_model.specs.Sight.{others}
 use Rattle.mc_sending.specs.Sending.{play_bytes}
 use Rattle.mc_told.specs.Telling.{gone_from, rows_in, rows_packets, with_rows, without_all}
 use Rattle.mc_told.proofs.Rows.{frames_are}

@@ -3,17 +3,17 @@ use Rattle.std.proofs.lemmas.Result.{err_from_is_err_and}
 use Rattle.mc_wire.proofs.Counts.{StandsOrRises-trans}
 use Rattle.mc_top.specs.ReplayText.{events_of}
 use Rattle.mc_top.specs.Replaying.{replay_world}
-use Rattle.mc_top.proofs.Playing.{reached_world, lines_played, lines_stopped, lines_done}
+use Rattle.mc_top.proofs.Playing.{lines_played, lines_stopped, lines_done}
 use Rattle.mc_top.proofs.Playing.{ticks_left}
 use Rattle.mc_top.proofs.replay.play_all.Goals as goal
 
 pub returns-in_err-play_line-clause-stopped : goal.returns-in_err-play_line-clause-stopped
-returns-in_err-play_line-clause-stopped g c w s r =
+returns-in_err-play_line-clause-stopped g c w s =
     let es = c.args.events.now in
     let i = c.loop-event.event-index in
-    let before = c.loop-event.invariant.played w s r in
+    let before = c.loop-event.invariant.played w s in
     let stopped = c.in_err-play_line.ensures.stopped (replay_world w (events_of (take i es)))
-    before.stands (reached_world w (events_of (take i es)) r) in
+    before.stands in
     let p = err_from_is_err_and c.from_residual.result c.from_residual.ensures.1 in
     rw p.1 (lines_stopped es i c.event-item.result w c.loop-event.server _ _ _
     c.loop-event-test.true c.event-item.is before stopped)
@@ -23,10 +23,10 @@ loop-event-preserved g c =
     let es = c.args.events.now in
     let i = c.loop-event.event-index in
     record {
-      played = λ w s r.
-          let before = c.loop-event.invariant.played w s r in
+      played = λ w s.
+          let before = c.loop-event.invariant.played w s in
           let played = c.in_ok-play_line.ensures.played (replay_world w (events_of (take i es)))
-          before.stands (reached_world w (events_of (take i es)) r) in
+          before.stands in
           lines_played es i c.event-item.result w c.loop-event.server c.play_line.new.server _ _ _
           c.loop-event-test.true c.event-item.is before played;
       young =
@@ -38,5 +38,5 @@ loop-event-preserved g c =
     }
 
 pub returns-clause-played : goal.returns-clause-played
-returns-clause-played g c w s r = lines_done c.args.events.now c.loop-event.event-index w
-    c.loop-event.server _ _ c.loop-event-test.false (c.loop-event.invariant.played w s r)
+returns-clause-played g c w s = lines_done c.args.events.now c.loop-event.event-index w
+    c.loop-event.server _ _ c.loop-event-test.false (c.loop-event.invariant.played w s)

@@ -1,14 +1,15 @@
 use Rattle.std.proofs.Common.{◌+◌, ◌≤◌, take, drop}
 use Rattle.mc_wire.specs.Count.{StandsOrRises}
 use Rattle.mc_model.specs.World.{World}
-use Rattle.mc_events.specs.Stands.{Stands, age_of}
+use Rattle.mc_events.specs.Served.{age_of}
+use Rattle.mc_events.specs.Stands.{Stands}
 use Rattle.mc_top.specs.ReplayText.{events_of}
-use Rattle.mc_top.specs.Replaying.{IsReached, HasPlayed, ticks_of}
+use Rattle.mc_top.specs.Replaying.{HasPlayed, ticks_of}
 use Rattle.mc_top.proofs.replay.play_all.Given as goal
 
 abbrev pub invariant-loop-event : goal.invariant-loop-event
 invariant-loop-event g l = record {
-  played : (w : World) → Stands l.fn.server w → IsReached w →
+  played : (w : World) → Stands l.fn.server w →
       HasPlayed (events_of (take l.event-index l.fn.events)) w l.server (g.O.Sink.held l.fn.out)
       (g.O.Sink.held l.out);
   young : age_of l.server + ticks_of (drop l.event-index l.fn.events) ≤ 1000000000;

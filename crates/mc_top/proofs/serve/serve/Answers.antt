@@ -1,4 +1,5 @@
 use Rattle.std.proofs.Common.{refl, sym, ◌∙◌, rules}
+use Rattle.mc_top.specs.ReplayPromise.{settings_of}
 use Rattle.mc_top.specs.ServePromise.{summary_line}
 use Rattle.mc_top.proofs.Serves.{asked, has_served, served_all, lost_by, spent_by, rose_by}
 use Rattle.mc_top.proofs.serve.serve.Goals as goal
@@ -10,7 +11,8 @@ returns-in-Err-clause-net_fault g c is =
           c.in-Err.ensures.failed by,
       lost_by c.args.options _ _ c.in-Err.fault (λ ne. has_served c.args.options _ _ _
           c.pace.ensures.tells c.budget_of.result c.budget_of.ensures c.drive.new.server _
-          (c.in-Err.ensures.drove _ _ _ c.requires.world c.in-Ok.ensures.stands ne)) by,
+          (c.in-Err.ensures.drove (settings_of c.args.options.world) c.requires.world
+          c.new_server-server.ensures.stands ne)) by,
       refl,
     )
 
@@ -19,23 +21,18 @@ returns-in-Err-clause-budget g c n is =
     let by = sym c.ended_by.ensures ∙ is in (
       spent_by c.args.options _ _ c.in-Err.fault n (λ ne. has_served c.args.options _ _ _
           c.pace.ensures.tells c.budget_of.result c.budget_of.ensures c.drive.new.server _
-          (c.in-Err.ensures.drove _ _ _ c.requires.world c.in-Ok.ensures.stands ne)) by,
+          (c.in-Err.ensures.drove (settings_of c.args.options.world) c.requires.world
+          c.new_server-server.ensures.stands ne)) by,
       refl,
     )
-
-pub returns-in-Err-clause-no_memory : goal.returns-in-Err-clause-no_memory
-returns-in-Err-clause-no_memory g c is = (
-  asked c.args.options _ _ _ c.pace.ensures.tells c.budget_of.result c.budget_of.ensures
-      c.in-Err.ensures.asks.0 c.in-Err.ensures.asks.1,
-  refl,
-)
 
 pub returns-in-Ok-put_summary-clause-done : goal.returns-in-Ok-put_summary-clause-done
 returns-in-Ok-put_summary-clause-done g c is = record {
   line = summary_line c.age-age.result c.tally_of.result;
   all = served_all c.args.options _ _ _ c.pace.ensures.tells c.budget_of.result
-      c.budget_of.ensures c.drive.new.server c.in-Ok-drive.end c.age-age.result c.tally_of.result
-      (c.in-Ok-drive.ensures.drove _ _ _ c.requires.world c.in-Ok.ensures.stands (λ e. cc))
+      c.budget_of.ensures c.drive.new.server c.in-Ok.end c.age-age.result c.tally_of.result
+      (c.in-Ok.ensures.drove (settings_of c.args.options.world) c.requires.world
+      c.new_server-server.ensures.stands (λ e. cc))
       c.age-age.ensures.is c.tally_of.ensures;
   wrote = c.in-Ok-put_summary.ensures.wrote;
 }
@@ -47,9 +44,10 @@ returns-in-Err-Failed-clause-write_fault g c is =
       record {
         line = summary_line c.age-age.result c.tally_of.result;
         all = served_all c.args.options _ _ _ c.pace.ensures.tells c.budget_of.result
-            c.budget_of.ensures c.drive.new.server c.in-Ok-drive.end c.age-age.result
+            c.budget_of.ensures c.drive.new.server c.in-Ok.end c.age-age.result
             c.tally_of.result
-            (c.in-Ok-drive.ensures.drove _ _ _ c.requires.world c.in-Ok.ensures.stands (λ e. cc))
+            (c.in-Ok.ensures.drove (settings_of c.args.options.world) c.requires.world
+            c.new_server-server.ensures.stands (λ e. cc))
             c.age-age.ensures.is c.tally_of.ensures;
         len = part.1;
         wrote = part.2;

@@ -15,7 +15,7 @@ returns-then-goes_past-clause-received g c start x h =
     (record c.args.client.now { fault = Some faults.Long }) y in
     subst P (sym (next_long c.args.len c.args.size x c.args.line.now c.goes_past.result
     c.goes_past.ensures c.if-goes_past.true))
-    (received_fault c.args.most start _ c.args.client.now x faults.Long c.requires h)
+    (received_fault c.args.most start _ c.args.client.now x h faults.Long c.requires)
 
 pub returns-in_err-put_line-clause-stopped : goal.returns-in_err-put_line-clause-stopped
 returns-in_err-put_line-clause-stopped g c =
@@ -33,7 +33,7 @@ returns-then-not-branch-clause-received g c start x h =
     subst P (sym (next_not_hex c.args.len c.args.size x c.args.line.now c.clear.new.self.items
     c.put_line.new.bytes.items c.goes_past.result c.in_ok-put_line.field-0 c.goes_past.ensures
     c.if-goes_past.false no_hex c.in_ok-put_line.ensures))
-    (received_fault c.args.most start _ c.args.client.now x faults.Hex c.requires h)
+    (received_fault c.args.most start _ c.args.client.now x h faults.Hex c.requires)
 
 pub returns-in_err-receive-clause-stopped : goal.returns-in_err-receive-clause-stopped
 returns-in_err-receive-clause-stopped g c =

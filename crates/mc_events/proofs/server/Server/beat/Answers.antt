@@ -1,48 +1,42 @@
-use Rattle.std.proofs.Common.{◌≡◌, ◌+◌, ◌<◌, FitsSigned, ℕ, ℤ, List, pos, refl, rules, sym, subst}
-use Rattle.std.proofs.Common.{ap}
-use Rattle.std.proofs.Common.{◌∙◌, w32}
-use Rattle.std.proofs.lemmas.Int.{to_z-of_z}
-use Rattle.mc_entities.specs.Folk.{FolkState}
-use Rattle.mc_model.specs.Step.{aged}
-use Rattle.mc_model.specs.Ticks.{beat_at, older}
-use Rattle.mc_events.specs.Served.{ServerValue, things_of}
-use Rattle.mc_events.specs.Stands.{Stands}
+use Rattle.std.proofs.Common.{ℕ, ◌+◌, ◌<◌, refl, sym, subst, ap, ◌∙◌}
+use Rattle.mc_model.specs.Tick.{at_tick}
+use Rattle.mc_model.specs.World.{World}
+use Rattle.mc_links.specs.Beating.{IsBeaten}
+use Rattle.mc_play.specs.Kept.{GameValue}
 use Rattle.mc_events.specs.contracts.server.Server.{the_view}
-use Rattle.mc_events.proofs.Beaten.{beaten_stands, young_older}
-use Rattle.mc_events.proofs.Keeping.{kept_ticked}
-use Rattle.mc_events.proofs.LeftFacts.{all_removed, left_in_range}
+use Rattle.mc_events.specs.Served.{Each, ServerValue, age_of}
+use Rattle.mc_events.specs.Ticking.{StandsAmid, StaysListed, dismissed}
+use Rattle.mc_events.proofs.Beaten.{beaten_stands, grown_age}
 use Rattle.mc_events.proofs.server.Server.beat.Goals as goal
 
-pub invariant_of-self : goal.invariant_of-self
-invariant_of-self c =
-    kept_ticked c.self.inside.connections.items c.self.invariant c.self.inside.land
-    c.self.inside.folk.state c.beat_all.new.connections.items refl refl c.self.invariant.in_range
-    c.beat_all.ensures.named c.beat_all.ensures.fewer
-
--- the entities of those are gone that left
-pub invariant_of-self-2 : goal.invariant_of-self-2
-invariant_of-self-2 c =
-    kept_ticked c.self.inside.connections.items c.self.invariant c.self.inside.land
-    c.remove_all.new.folk.state c.beat_all.new.connections.items refl refl
-    (left_in_range c.self.inside.folk.state c.remove_all.new.folk.state
-    c.as_slice.result.now c.remove_all.ensures c.self.invariant.in_range)
-    c.beat_all.ensures.named c.beat_all.ensures.fewer
-
 pub returns-clause-follows : goal.returns-clause-follows
-returns-clause-follows c = λ w st.
-    let v = the_view c.self.inside in
-    let land = c.self.inside.land in
-    let state = c.self.inside.folk.state in
-    let packs = c.self.inside.packs in
-    let here = subst (λ (u : ServerValue). Stands u w) (sym c.self.view_is) st in
-    let age : c.self.inside.age + 1 ≡ older w.age =
-    ap (λ (age : ℕ). age + 1) here.age ∙ sym (young_older w.age (subst (λ (age : ℕ). age < 1000000000)
-    st.age c.requires.young)) in
-    let fits : FitsSigned w32 c.beat_at.result = search rules in
-    let left_ = ap (λ (s : FolkState). things_of land s packs) (c.remove_all.ensures
-    ∙ ap (λ (eids : List ℤ). all_removed state eids)
-    (c.as_slice.ensures.value ∙ c.in_ok-left.ensures.left)) in
-    beaten_stands v _ w here land state packs refl left_ refl
-    (c.in_ok-left.ensures.beaten (aged w)
-    (to_z-of_z w32 c.beat_at.result fits ∙ c.beat_at.ensures ∙ ap (λ (age : ℕ). pos (beat_at age)) age))
-    refl age refl refl refl refl refl
+returns-clause-follows c =
+    let old = the_view c.self.inside in
+    let cs = c.beat_all.new.connections in
+    let left = c.dismiss.new.game in
+    let new : ServerValue = record old {
+      game = left;
+      connections = cs;
+      list = c.dismiss.new.list;
+    } in
+    subst (λ (v : ServerValue). (w : World) → StandsAmid v w → StandsAmid new (at_tick w))
+    c.self.view_is
+    (λ w s. beaten_stands old new w s c.self.inside.ids.items
+    (c.self.invariant.are ∙ sym c.beat_all.ensures.same)
+    (subst (λ (v : GameValue). Each (λ (k : ℕ). IsBeaten v.game) old.connections cs)
+    c.grow.ensures c.in_ok-beat_all.ensures.beaten)
+    (ap (λ (v : GameValue). v.game) c.dismiss.ensures.game
+    ∙ (λ i. dismissed cs (c.as_slice-2.ensures.value i) (c.grow.ensures i).game))
+    (ap (λ (v : GameValue). v.settled) c.dismiss.ensures.game
+    ∙ ap (λ (v : GameValue). v.settled) c.grow.ensures)
+    (subst (λ (v : GameValue). StaysListed old.list c.dismiss.new.list v.game left.game)
+    c.grow.ensures c.dismiss.ensures.listed)
+    c.dismiss.ensures.last refl refl)
+
+pub returns-clause-age : goal.returns-clause-age
+returns-clause-age c =
+    ap (λ (v : GameValue). v.game.age) c.dismiss.ensures.game
+    ∙ grown_age c.beat_all.new.connections c.as_slice-2.result.now c.self.inside.game.game
+    c.grow.new.self.game (ap (λ (v : GameValue). v.game) c.grow.ensures)
+    (subst (λ (v : ServerValue). age_of v < 1000000000) (sym c.self.view_is) c.requires.young)
+    ∙ ap (λ (v : ServerValue). age_of v + 1) c.self.view_is

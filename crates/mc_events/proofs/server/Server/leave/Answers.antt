@@ -1,58 +1,49 @@
--- A connection goes, and the entity of its player.
-use Rattle.std.proofs.Common.{refl, sym, subst, ap, ◌∙◌, arith}
-use Rattle.std.specs.Prelude.{is_some}
-use Rattle.std.proofs.lemmas.List.{length-set}
-use Rattle.mc_model.specs.Orderly.{next_number}
-use Rattle.mc_model.specs.Step.{depart}
-use Rattle.mc_model.proofs.RunEvents.{gone_id}
-use Rattle.mc_events.specs.Served.{ConnectionValue, ServerValue, IsAt}
-use Rattle.mc_events.specs.Stands.{Stands}
+use Rattle.std.proofs.Common.{ℕ, Option, sym, subst, ap, ◌∙◌}
+use Rattle.std.proofs.lemmas.Result.{on_ok_weaker}
+use Rattle.std.specs.Option.{option_copied_mut}
+use Rattle.std.specs.FinMap.{get}
+use Rattle.mc_model.specs.Step.{depart, step}
+use Rattle.mc_model.specs.World.{nothing_unread, unread_of}
 use Rattle.mc_events.specs.contracts.server.Server.{the_view}
-use Rattle.mc_events.proofs.Becoming.{nth_set, one_at}
-use Rattle.mc_events.proofs.Keeping.{kept_set}
-use Rattle.mc_events.proofs.Leavings.{eid_in}
-use Rattle.mc_events.proofs.Standing.{gone_stands, gone_none, gone_calm}
+use Rattle.mc_events.specs.Listing.{Follows}
+use Rattle.mc_events.specs.Served.{ServerValue, age_of}
+use Rattle.mc_events.specs.Stands.{Stands}
+use Rattle.mc_events.proofs.Listed.{uuid_of}
+use Rattle.mc_events.proofs.Numbers.{numbers_kept}
+use Rattle.mc_events.proofs.Seating.{away_stands}
+use Rattle.mc_events.proofs.Sitting.{leaving_age, leaving_stands, leaving_turn}
 use Rattle.mc_events.proofs.server.Server.leave.Goals as goal
 
 pub returns-in_default-clause-follows : goal.returns-in_default-clause-follows
-returns-in_default-clause-follows c = λ w st balanced. gone_none c.args.cause c.args.self.now w
-    c.args.k (c.in_default.ensures.none refl) st
+returns-in_default-clause-follows c = λ w e stands leaves.
+    away_stands (the_view c.self.inside) w c.args.k e (depart c.args.k c.args.cause)
+    (subst (λ (x : ServerValue). Stands x w) (sym c.self.view_is) stands)
+    (sym c.find_mut.ensures.is ∙ ap option_copied_mut c.in_default.is)
+    (leaving_turn w c.args.k c.args.cause e leaves)
 
-pub invariant_of-self : goal.invariant_of-self
-invariant_of-self c =
-    let v = the_view c.self.inside in
-    let at : IsAt c.args.k c.in-Some.i v.connections =
-    (let P : ServerValue → Type 0 = λ u. IsAt c.args.k c.in-Some.i u.connections in
-    subst P (sym c.self.view_is) c.in-Some.ensures.some) in
-    let x : ConnectionValue = c.index_mut.result.now in
-    kept_set c.self.inside.connections.items c.self.invariant c.in-Some.i x c.leave.new.self
-    at.within c.index_mut.ensures.value (ap (λ (d : ConnectionValue). d.session.id)
-    c.leave.ensures ∙ gone_id c.args.cause x.session)
-    (λ plays. gone_calm c.args.cause x.session
-    (ap (λ (d : ConnectionValue). is_some d.session.player) (sym c.leave.ensures) ∙ plays))
-
-pub let_go-requires : goal.let_go-requires
-let_go-requires c =
-    let at : IsAt c.args.k c.in-Some.i (the_view c.self.inside).connections =
-    (let P : ServerValue → Type 0 = λ u. IsAt c.args.k c.in-Some.i u.connections in
-    subst P (sym c.self.view_is) c.in-Some.ensures.some) in
-    let lt = at.within in
-    let len = length-set c.self.inside.connections.items c.in-Some.i c.leave.new.self in
-    record { within = omega (arith, lt, len); small = c.eid-eid.ensures.small }
+pub invariant_of-self-2 : goal.invariant_of-self-2
+invariant_of-self-2 c = numbers_kept c.self.inside.ids.items c.self.inside.connections
+    c.self.inside.last c.args.k c.in-Some.connection.now c.depart.new.connection
+    (sym c.find_mut.ensures.is ∙ ap option_copied_mut c.in-Some.is) c.self.invariant
 
 pub returns-clause-follows : goal.returns-clause-follows
-returns-clause-follows c = λ w st balanced.
-    let v = the_view c.self.inside in
-    let at : IsAt c.args.k c.in-Some.i v.connections =
-    (let P : ServerValue → Type 0 = λ u. IsAt c.args.k c.in-Some.i u.connections in
-    subst P (sym c.self.view_is) c.in-Some.ensures.some) in
-    let x : ConnectionValue = c.index_mut.result.now in
-    let one = one_at v.connections c.in-Some.i c.index.result.now x at.within c.index.ensures
-    c.index_mut.ensures.value in
-    subst (λ (u : ServerValue). Stands u (depart w c.args.k c.args.cause)) (sym c.let_go.ensures)
-    (gone_stands c.args.cause v w (next_number c.self.inside.last)
-    c.args.k c.in-Some.i x c.leave.new.self c.self.invariant.rise at
-    c.index_mut.ensures.value c.leave.ensures
-    (subst (λ (u : ServerValue). Stands u w) (sym c.self.view_is) st) c.eid-eid.result _
-    (c.eid-eid.ensures.is ∙ ap (λ (d : ConnectionValue). eid_in d.session.player) one)
-    (ap (λ s. s.player) (nth_set v c.in-Some.i c.leave.new.self at.within)) balanced)
+returns-clause-follows c = λ w e stands leaves.
+    on_ok_weaker c.list_player.result (λ follows.
+    subst (λ (x : ServerValue). Stands x (step w e).world) (sym c.list_player.ensures.rest)
+    (leaving_stands (the_view c.self.inside) w c.args.k c.args.cause e c.depart.new.game
+    c.in-Some.connection.now c.depart.new.connection c.list_player.new.self.list
+    (subst (λ (x : ServerValue). Stands x w) (sym c.self.view_is) stands) leaves
+    (sym c.find_mut.ensures.is ∙ ap option_copied_mut c.in-Some.is)
+    (c.depart.ensures (unread_of c.args.k w))
+    (subst (λ (was : Option ℕ). Follows was (get c.depart.new.game.game.players c.args.k)
+    c.self.inside.list c.list_player.new.self.list)
+    (c.identifier-was.ensures ∙ ap (λ (x : ServerValue). uuid_of
+    (get x.game.game.players c.args.k)) (sym c.self.view_is)) follows)
+    c.list_player.ensures.last)) c.list_player.ensures.list
+
+pub returns-clause-age : goal.returns-clause-age
+returns-clause-age c = on_ok_weaker c.list_player.result (λ follows.
+    ap age_of c.list_player.ensures.rest
+    ∙ leaving_age c.self.inside.game c.depart.new.game c.in-Some.connection.now
+    c.depart.new.connection c.args.cause (c.depart.ensures nothing_unread)
+    ∙ ap age_of c.self.view_is) c.list_player.ensures.list

@@ -1,7 +1,7 @@
 use Rattle.std.proofs.Common.{◌++◌, ℕ, List, ap, sym, subst, ◌∙◌}
 use Rattle.std.specs.List.{AllByRecursion}
 use Rattle.mc_frame.specs.Kept.{joined}
-use Rattle.mc_model.specs.World.{others}
+use Rattle.mc_model.specs.Sight.{others}
 use Rattle.mc_sending.specs.Sending.{play_bytes}
 use Rattle.mc_flush.specs.Seeing.{MarkValue, column_packets, loaded, pack_packets}
 use Rattle.mc_loads.specs.Columns.{IsReady}

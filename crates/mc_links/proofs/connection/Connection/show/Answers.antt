@@ -3,8 +3,8 @@ use Rattle.std.specs.FinMap.{FinMap, get}
 use Rattle.std.specs.Ordering.{nat_cmp}
 use Rattle.mc_frame.specs.Kept.{joined}
 use Rattle.mc_flush.specs.Seeing.{present_parts, settled_parts}
-use Rattle.mc_game.specs.declared.player.Player.{Player}
-use Rattle.mc_game.specs.Showing.{due}
+use Rattle.mc_model.specs.declared.player.Player.{Player}
+use Rattle.mc_model.specs.Showing.{due}
 use Rattle.mc_play.specs.Kept.{land_of}
 use Rattle.mc_sending.specs.Sending.{play_bytes}
 use Rattle.mc_links.specs.Kept.{ConnectionValue}

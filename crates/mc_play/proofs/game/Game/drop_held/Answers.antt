@@ -1,14 +1,13 @@
 use Rattle.std.proofs.Common.{◌≡◌, ◌∙◌, ap, subst, sym}
-use Rattle.std.specs.Prelude.{Some}
+use Rattle.std.specs.Prelude.{Some, min}
 use Rattle.std.specs.FinMap.{get}
 use Rattle.mc_slots.specs.declared.pile.Pile.{Pile}
 use Rattle.mc_entities.specs.Folk.{FolkState}
 use Rattle.mc_slots.specs.declared.pile.Pile.TheVariants.{Full}
 use Rattle.mc_slots.specs.Pile.{count_of, part, without}
-use Rattle.std.specs.Prelude.{min}
-use Rattle.mc_game.specs.declared.player.Player.{Player}
-use Rattle.mc_game.specs.Game.{Game, held_by}
-use Rattle.mc_game.specs.Digging.{drop_held}
+use Rattle.mc_model.specs.declared.player.Player.{Player}
+use Rattle.mc_model.specs.Game.{Game, held_by}
+use Rattle.mc_model.specs.Digging.{drop_held}
 use Rattle.mc_play.specs.Kept.{GameValue, played}
 use Rattle.mc_play.specs.contracts.game.Game.{the_view}
 use Rattle.mc_play.proofs.Dropping.{by_some, carried_room, drop_nothing, drops}

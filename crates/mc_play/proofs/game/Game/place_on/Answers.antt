@@ -3,8 +3,8 @@ use Rattle.std.proofs.lemmas.Int.{to_z-of_z}
 use Rattle.std.specs.Prelude.{Option, OnOk}
 use Rattle.mc_fields.specs.declared.position.Cell.{Cell}
 use Rattle.mc_model.specs.Reach.{at_face}
-use Rattle.mc_game.specs.declared.player.Player.{Player}
-use Rattle.mc_game.specs.Placing.{place_at}
+use Rattle.mc_model.specs.declared.player.Player.{Player}
+use Rattle.mc_model.specs.Placing.{place_at}
 use Rattle.mc_play.specs.Kept.{by_player, played}
 use Rattle.mc_play.proofs.game.Game.place_on.Goals as goal
 

@@ -3,7 +3,7 @@ use Rattle.std.proofs.Common.{◌∙◌, sym, ap}
 use Rattle.std.specs.Option.{option_copied_mut}
 use Rattle.std.specs.FinMap.{get}
 use Rattle.mc_windows.specs.Pack.{PackValue}
-use Rattle.mc_game.specs.Maps.{modify}
+use Rattle.mc_model.specs.Maps.{modify}
 use Rattle.mc_play.specs.Named.{packs_of}
 use Rattle.mc_play.specs.contracts.packs.Packs.{the_view}
 use Rattle.mc_play.proofs.NamedPacks.{looked_up, unwritten, written}

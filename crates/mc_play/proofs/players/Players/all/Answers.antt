@@ -1,7 +1,7 @@
 use Rattle.std.proofs.Common.{◌∙◌, sym, ap, map, ℕ}
 use Rattle.std.specs.FinMap.{nat_cmp-IsAntisymmetric}
 use Rattle.std.proofs.lemmas.Cmp.{nat_cmp_total}
-use Rattle.mc_game.specs.declared.player.Player.{Player}
+use Rattle.mc_model.specs.declared.player.Player.{Player}
 use Rattle.mc_bytes.proofs.Trees.{entries_are}
 use Rattle.mc_play.proofs.players.Players.all.Goals as goal
 

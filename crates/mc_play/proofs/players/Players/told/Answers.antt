@@ -3,9 +3,9 @@ use Rattle.std.specs.Ordering.{nat_cmp}
 use Rattle.std.specs.FinMap.{from_entries, nat_cmp-IsAntisymmetric}
 use Rattle.std.proofs.lemmas.Cmp.{nat_cmp_total}
 use Rattle.std.proofs.lemmas.Map.Made.{map_same_pairs}
-use Rattle.mc_game.specs.Maps.{map_keyed}
-use Rattle.mc_game.specs.Tick.{told_player}
-use Rattle.mc_game.specs.declared.player.Player.{Player}
+use Rattle.mc_model.specs.Maps.{map_keyed}
+use Rattle.mc_model.specs.Tick.{told_player}
+use Rattle.mc_model.specs.declared.player.Player.{Player}
 use Rattle.mc_bytes.proofs.Trees.{entries_are}
 use Rattle.mc_play.proofs.players.Players.told.Goals as goal
 

@@ -1,8 +1,8 @@
 use Rattle.std.proofs.Common.{◌<◌, sym, subst}
 use Rattle.std.specs.FinMap.{len}
 use Rattle.mc_flush.specs.Lists.{ListValue}
-use Rattle.mc_events.specs.Roster.{IsRoster}
-use Rattle.mc_events.proofs.RosterFacts.{name_added}
+use Rattle.mc_showing.specs.Rosters.{IsRoster}
+use Rattle.mc_showing.proofs.RosterFacts.{name_added}
 use Rattle.mc_scenes.proofs.guests.Guests.add.Goals as goal
 
 pub invariant_of-self-2 : goal.invariant_of-self-2

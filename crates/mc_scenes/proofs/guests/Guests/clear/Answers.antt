@@ -1,8 +1,8 @@
 use Rattle.std.proofs.Common.{sym, subst}
 use Rattle.std.specs.FinMap.{empty}
 use Rattle.mc_flush.specs.Lists.{ListValue}
-use Rattle.mc_events.specs.Roster.{IsRoster}
-use Rattle.mc_events.proofs.RosterFacts.{nobody}
+use Rattle.mc_showing.specs.Rosters.{IsRoster}
+use Rattle.mc_showing.proofs.RosterFacts.{nobody}
 use Rattle.mc_scenes.proofs.guests.Guests.clear.Goals as goal
 
 cleared : (list : ListValue) → IsRoster list → IsRoster (record list { present = empty })

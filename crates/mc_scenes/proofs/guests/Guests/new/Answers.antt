@@ -1,6 +1,6 @@
 use Rattle.std.proofs.Common.{sym, subst}
-use Rattle.mc_events.specs.Roster.{IsRoster}
-use Rattle.mc_events.proofs.RosterFacts.{nobody}
+use Rattle.mc_showing.specs.Rosters.{IsRoster}
+use Rattle.mc_showing.proofs.RosterFacts.{nobody}
 use Rattle.mc_scenes.proofs.guests.Guests.new.Goals as goal
 
 pub invariant_of-result : goal.invariant_of-result

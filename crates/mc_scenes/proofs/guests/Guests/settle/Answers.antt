@@ -1,6 +1,6 @@
 use Rattle.std.proofs.Common.{sym, subst}
 use Rattle.mc_flush.specs.Lists.{ListValue, settled_list}
-use Rattle.mc_events.specs.Roster.{IsRoster}
+use Rattle.mc_showing.specs.Rosters.{IsRoster}
 use Rattle.mc_scenes.proofs.guests.Guests.settle.Goals as goal
 
 settled : (list : ListValue) → IsRoster list → IsRoster (settled_list list)

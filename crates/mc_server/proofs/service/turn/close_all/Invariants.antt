@@ -2,7 +2,8 @@ use Rattle.std.proofs.Common.{◌≡◌, ◌≤◌, true, drop}
 use Rattle.mc_wire.specs.Becoming.{HasLogged}
 use Rattle.mc_wire.specs.LobbyCounts.{StandOrRise}
 use Rattle.mc_model.specs.World.{World}
-use Rattle.mc_events.specs.Stands.{Stands, age_of}
+use Rattle.mc_events.specs.Served.{age_of}
+use Rattle.mc_events.specs.Stands.{Stands}
 use Rattle.mc_server.specs.TurnParts.{numbers_in}
 use Rattle.mc_server.proofs.Closing.{IsClosing}
 use Rattle.mc_server.proofs.service.turn.close_all.Given as goal

@@ -2,7 +2,8 @@ use Rattle.std.proofs.Common.{◌≡◌, true}
 use Rattle.mc_wire.specs.Becoming.{HasLogged}
 use Rattle.mc_wire.specs.LobbyCounts.{StandOrRise}
 use Rattle.mc_model.specs.World.{World}
-use Rattle.mc_events.specs.Stands.{Stands, age_of, owes}
+use Rattle.mc_events.specs.Served.{age_of}
+use Rattle.mc_events.specs.Stands.{Stands, owes}
 use Rattle.mc_server.proofs.Writing.{IsSending}
 use Rattle.mc_server.proofs.service.turn.send.Given as goal
 

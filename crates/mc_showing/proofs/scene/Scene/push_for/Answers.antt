@@ -1,6 +1,6 @@
 use Rattle.std.proofs.Common.{◌++◌}
 use Rattle.mc_frame.specs.Kept.{joined}
-use Rattle.mc_game.specs.Showing.{last_shown}
+use Rattle.mc_model.specs.Showing.{last_shown}
 use Rattle.mc_showing.proofs.SceneFacts.{columns_ready, due_sent, frames_are, shows_now}
 use Rattle.mc_showing.proofs.SceneFacts.{stands_before}
 use Rattle.mc_showing.proofs.scene.Scene.push_for.Goals as goal

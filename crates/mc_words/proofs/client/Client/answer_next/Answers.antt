@@ -19,8 +19,8 @@ returns-in_err-answer-in-Frame-clause-stopped g c =
     sym c.is_over.ensures ∙ c.if-is_over.false in
     let takes = rw c.in-Frame.is at c.in_ok-payload.ensures.takes in
     let part = rw c.as_slice.ensures at c.in_err-answer-in-Frame.ensures.stopped in
-    rw p.1 (λ start x h. stopped_answer c.args.most start _ _ c.args.self.now c.take.new.self
-    c.in-Frame.payload x c.ranges.most.fits open_ takes part h)
+    rw p.1 (λ start x h. stopped_answer c.args.most start _ c.args.self.now x h _ c.take.new.self
+    c.in-Frame.payload c.ranges.most.fits open_ takes part)
 
 pub returns-in_ok-answer-in-Frame-clause-received :
     goal.returns-in_ok-answer-in-Frame-clause-received
@@ -29,13 +29,13 @@ returns-in_ok-answer-in-Frame-clause-received g c start x h =
     sym c.is_over.ensures ∙ c.if-is_over.false in
     let takes = rw c.in-Frame.is at c.in_ok-payload.ensures.takes in
     let answered = rw c.as_slice.ensures at c.in_ok-answer-in-Frame.ensures.answered in
-    received_answered c.args.most start _ _ c.args.self.now c.answer.new.self c.take.new.self
-    c.in-Frame.payload x c.ranges.most.fits open_ takes answered h
+    received_answered c.args.most start _ c.args.self.now x h _ c.take.new.self c.answer.new.self
+    c.in-Frame.payload c.ranges.most.fits open_ takes answered
 
 pub returns-in-Bad-clause-received : goal.returns-in-Bad-clause-received
 returns-in-Bad-clause-received g c start x h =
     let open_ : is_over c.args.self.now.fault c.args.self.now.session.stage ≡ false =
     sym c.is_over.ensures ∙ c.if-is_over.false in
     let stops = rw c.in-Bad.is at c.in_ok-payload.ensures.takes in
-    received_bad c.args.most start _ c.args.self.now c.take.new.self c.in-Bad._fault x open_ stops.0
-    stops.1 h
+    received_bad c.args.most start _ c.args.self.now x h c.take.new.self c.in-Bad._fault open_
+    stops.0 stops.1

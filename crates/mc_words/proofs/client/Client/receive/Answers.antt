@@ -16,9 +16,8 @@ returns-then-is_over-clause-received g c start x h =
     let P : Exchange → Type 0 = λ y. Received c.args.most start
     (g.O.Sink.held c.loop-rest.out) c.loop-rest.self y in
     subst P (sym (fold_parts x i.done c.loop-rest.rest.now c.args.piece.now i.parts))
-    (received_over c.args.most start _ c.loop-rest.self
-    (fold receives x i.done) c.loop-rest.rest.now (sym c.is_over.ensures ∙ c.if-is_over.true)
-    (i.received start x h))
+    (received_over c.args.most start _ c.loop-rest.self (fold receives x i.done)
+    (i.received start x h) c.loop-rest.rest.now (sym c.is_over.ensures ∙ c.if-is_over.true))
 
 pub loop-rest-smaller : goal.loop-rest-smaller
 loop-rest-smaller g c =

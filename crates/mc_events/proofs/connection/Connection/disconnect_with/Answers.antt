@@ -1,9 +1,0 @@
-use Rattle.mc_events.proofs.Decoding.{on_ok_more}
-use Rattle.mc_events.proofs.Handing.{disconnected}
-use Rattle.mc_events.proofs.connection.Connection.disconnect_with.Goals as goal
-
-pub returns-clause-ok : goal.returns-clause-ok
-returns-clause-ok c = λ packets e.
-    on_ok_more c.hand.result _ _ (λ made. disconnected c.args.self.now c.mark_closed.new.self
-    c.hand.new.self c.args.cause packets c.mark_closed.ensures made)
-    (c.hand.ensures.ok packets e)

@@ -1,7 +1,0 @@
-use Rattle.std.proofs.Common.{sym, subst}
-use Rattle.mc_events.specs.Roster.{IsRoster}
-use Rattle.mc_events.proofs.RosterFacts.{nobody}
-use Rattle.mc_events.proofs.roster.Roster.new.Goals as goal
-
-pub invariant_of-result : goal.invariant_of-result
-invariant_of-result c = subst IsRoster (sym c.new.ensures) nobody

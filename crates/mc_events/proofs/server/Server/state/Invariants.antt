@@ -1,5 +1,0 @@
-use Rattle.mc_events.proofs.server.Server.state.Given as goal
-
--- the ledger of the counter
-abbrev pub ghosts-state_of : goal.ghosts-state_of
-ghosts-state_of a = record { name = a.blank.name; parts = a.blank.parts }

@@ -1,0 +1,228 @@
+//! A tick: the beat comes to all connections, and then each client in play is shown the game.
+
+ghost use Rattle.std.specs.Prelude.{◌≡◌, ◌+◌, ◌<◌, ◌≤◌, ◌∷◌, [], ℕ, OnOk};
+ghost use Rattle.std.specs.FinMap.{keys};
+ghost use Rattle.mc_flush.specs.Encoding.{AreFrames};
+ghost use Rattle.mc_flush.specs.Lists.{ListValue};
+ghost use Rattle.mc_model.specs.Step.{ticked, step};
+ghost use Rattle.mc_model.specs.Tick.{at_tick, flushed};
+ghost use Rattle.mc_model.specs.World.{World};
+ghost use Rattle.mc_links.specs.Beating.{IsBeaten};
+ghost use Rattle.mc_play.specs.Kept.{land_of, played};
+ghost use Rattle.mc_showing.specs.Preparing.{Prepares};
+ghost use Rattle.mc_showing.specs.Scenes.{IsScene};
+ghost use Rattle.mc_events.specs.ReadyColumns.{Sheds};
+ghost use Rattle.mc_events.specs.Served.{Each, age_of};
+ghost use Rattle.mc_events.specs.Stands.{Stands};
+ghost use Rattle.mc_events.specs.Ticking.{AreReady, AreShown, IsEnded, StandsAmid, StaysListed};
+ghost use Rattle.mc_events.specs.Ticking.{dismissed};
+
+use crate::connections::Connections;
+use crate::server::Server;
+use mc_bytes::NoMemory;
+use mc_flush::Encoded;
+use mc_links::beat;
+use mc_play::Game;
+use mc_showing::{Roster, Scene, encode_lines, start, views_of};
+use std::alloc::Global;
+
+/// The beat of a game comes to all connections, which have these numbers.
+fn beat_all(ids: &[u32], game: &Game, connections: &mut Connections) -> Result<(), NoMemory>
+    requires young { game.now.game.age ≤ 1000000000 }
+    requires all { ids.now ≡ keys connections.old }
+    ensures beaten { OnOk result (Each (λ (k : ℕ). IsBeaten game.now.game)
+        connections.old connections.new) }
+    ensures same { keys connections.new ≡ keys connections.old }
+{
+    for id in ids {
+        if let Some(connection) = connections.find_mut(*id) {
+            beat(game, connection)?;
+        }
+    }
+    Ok(())
+}
+
+/// The player of a connection leaves, if it has one, and if it is there and closed.
+fn dismiss_one(k: u32, connections: &Connections, list: &mut Roster, game: &mut Game)
+    ensures game { game.new ≡ played game.old
+        (dismissed connections.now (k ∷ []) game.old.game) game.new.aside }
+    ensures ready { game.new.aside.ready ≡ game.old.aside.ready }
+    ensures listed { StaysListed list.old list.new game.old.game game.new.game }
+    ensures last { list.new.last ≡ list.old.last }
+{
+    let Some(connection) = connections.find(k) else {
+        return;
+    };
+    if !connection.is_closed() {
+        return;
+    }
+    let Some(player) = game.players().find(k) else {
+        return;
+    };
+    list.remove(player.uuid);
+    game.leave(k);
+}
+
+/// The players of those of the connections leave that are there and closed.
+fn dismiss(ids: &[u32], connections: &Connections, list: &mut Roster, game: &mut Game)
+    ensures game { game.new ≡ played game.old
+        (dismissed connections.now ids.now game.old.game) game.new.aside }
+    ensures ready { game.new.aside.ready ≡ game.old.aside.ready }
+    ensures listed { StaysListed list.old list.new game.old.game game.new.game }
+    ensures last { list.new.last ≡ list.old.last }
+{
+    for id in ids {
+        dismiss_one(*id, connections, list, game);
+    }
+}
+
+/// Makes the columns ready that clients are to be shown and were not, and encodes what they are
+/// sent of columns, of all connections, which have these numbers.
+fn prepare_all(
+    alloc: Global,
+    ids: &[u32],
+    connections: &Connections,
+    game: &mut Game,
+    encoded: &mut Encoded,
+) -> Result<(), NoMemory>
+    requires all { ids.now ≡ keys connections.now }
+    ensures ready { OnOk result (AreReady game.new connections.now) }
+    ensures same { Prepares game.old game.new }
+    ensures frames { (list : ListValue) → AreFrames (land_of game.old) list encoded.old
+        → AreFrames (land_of game.new) list encoded.new }
+{
+    for id in ids {
+        if let Some(connection) = connections.find(*id) {
+            connection.prepare(alloc, game, encoded)?;
+        }
+    }
+    Ok(())
+}
+
+/// Shows the client of each connection the game of a scene. The connections have these numbers.
+fn show_all(
+    alloc: Global,
+    ids: &[u32],
+    scene: &Scene<'_>,
+    connections: &mut Connections,
+) -> Result<(), NoMemory>
+    requires all { ids.now ≡ keys connections.old }
+    requires scene { IsScene scene.now }
+    requires ready { AreReady scene.now.game.now connections.old }
+    ensures shown { OnOk result (AreShown scene.now.game.now scene.now.list.now
+        connections.old connections.new) }
+    ensures same { keys connections.new ≡ keys connections.old }
+{
+    for id in ids {
+        if let Some(connection) = connections.find_mut(*id) {
+            connection.show(alloc, scene)?;
+        }
+    }
+    Ok(())
+}
+
+impl Server {
+    /// Lets a tick come: the game is a tick older, those that were silent for too long leave, and
+    /// each client in play is shown the game.
+    pub(super) fn tick(&mut self) -> Result<(), NoMemory>
+        requires young { age_of self.old < 1000000000 }
+        ensures follows { (w : World) → Stands self.old w →
+            OnOk result (Stands self.new (step w ticked).world) }
+        ensures age { OnOk result (age_of self.new ≡ age_of self.old + 1) }
+        ensures sheds { OnOk result (Sheds self.old.game self.new.game) }
+    {
+        self.beat()?;
+        self.show()
+    }
+
+    /// Makes the game a tick older, with its beat: those that were silent for too long leave.
+    fn beat(&mut self) -> Result<(), NoMemory>
+        requires young { age_of self.old < 1000000000 }
+        ensures follows { (w : World) → StandsAmid self.old w →
+            OnOk result (StandsAmid self.new (at_tick w)) }
+        ensures age { OnOk result (age_of self.new ≡ age_of self.old + 1) }
+        ensures ready { OnOk result
+            (self.new.game.aside.ready ≡ self.old.game.aside.ready) }
+    {
+        self.game.grow();
+        beat_all(self.ids.as_slice(), &self.game, &mut self.connections)?;
+        dismiss(
+            self.ids.as_slice(),
+            &self.connections,
+            &mut self.list,
+            &mut self.game,
+        );
+        Ok(())
+    }
+
+    /// Shows each client in play the game. Those that are owed too much leave, and columns that
+    /// none of the others sees are given up.
+    fn show(&mut self) -> Result<(), NoMemory>
+        requires young { age_of self.old ≤ 1000000000 }
+        ensures follows { (w : World) → StandsAmid self.old w →
+            OnOk result (StandsAmid self.new (flushed w)) }
+        ensures age { OnOk result (age_of self.new ≡ age_of self.old) }
+        ensures sheds { OnOk result (Sheds self.old.game self.new.game) }
+    {
+        let mut encoded = start(self.alloc, &self.list, &self.game)?;
+        let done = self.show_clients(&mut encoded);
+        drop(encoded);
+        done?;
+        self.end_tick()
+    }
+
+    /// Makes columns ready and shows each client the game.
+    fn show_clients(&mut self, encoded: &mut Encoded) -> Result<(), NoMemory>
+        requires young { age_of self.old ≤ 1000000000 }
+        requires frames { AreFrames (land_of self.old.game) self.old.list encoded.old }
+        ensures prepares { Prepares self.old.game self.new.game }
+        ensures shown { OnOk result (AreShown self.new.game self.old.list
+            self.old.connections self.new.connections) }
+        ensures same { keys self.new.connections ≡ keys self.old.connections }
+        ensures rest { self.new ≡ record self.old {
+          game = self.new.game;
+          connections = self.new.connections;
+        } }
+    {
+        prepare_all(
+            self.alloc,
+            self.ids.as_slice(),
+            &self.connections,
+            &mut self.game,
+            encoded,
+        )?;
+        let lines = encode_lines(self.alloc, self.game.lines())?;
+        let scene = Scene {
+            game: &self.game,
+            lines: lines.as_slice(),
+            list: self.list.list(),
+            encoded,
+        };
+        show_all(
+            self.alloc,
+            self.ids.as_slice(),
+            &scene,
+            &mut self.connections,
+        )
+    }
+
+    /// Keeps the game and the list as they were shown, lets those leave that are closed, and gives
+    /// up the columns that no other sees.
+    fn end_tick(&mut self) -> Result<(), NoMemory>
+        ensures ended { OnOk result (IsEnded self.old self.new) }
+        ensures age { OnOk result (age_of self.new ≡ age_of self.old) }
+        ensures sheds { OnOk result (Sheds self.old.game self.new.game) }
+    {
+        self.list.settle()?;
+        self.game.told();
+        dismiss(
+            self.ids.as_slice(),
+            &self.connections,
+            &mut self.list,
+            &mut self.game,
+        );
+        let views = views_of(self.alloc, &self.game)?;
+        self.game.shed(views.as_slice());
+        Ok(())
+    }
+}

@@ -1,9 +1,0 @@
-use Rattle.std.specs.FinMap.{nat_cmp-IsAntisymmetric}
-use Rattle.std.proofs.lemmas.Cmp.{nat_cmp_total}
-use Rattle.mc_bytes.proofs.Trees.{entry_put}
-use Rattle.mc_events_next.proofs.connections.Connections.add.Goals as goal
-
-pub returns-clause-ok : goal.returns-clause-ok
-returns-clause-ok c = rw (← c.self.view_is) (entry_put nat_cmp_total nat_cmp-IsAntisymmetric
-    c.self.inside.by_number.entries c.insert.new.self.entries c.args.k c.args.connection
-    c.in_ok-_before.ensures.updates.0)

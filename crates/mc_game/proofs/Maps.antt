@@ -1,4 +1,0 @@
--- Finite maps and lists of numbered things: what is found in one that was changed.
-pub mod Lookups
-pub mod Entities
-pub mod Options

@@ -1,5 +1,0 @@
-use Rattle.mc_game.proofs.Weighing.Runs.{always_even}
-use Rattle.mc_game.proofs.laws.items_are_kept.Goals as goal
-
-pub returns : goal.returns
-returns c = always_even

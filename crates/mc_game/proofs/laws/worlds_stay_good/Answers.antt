@@ -1,5 +1,0 @@
-use Rattle.mc_game.proofs.Runs.Worlds.{always_good}
-use Rattle.mc_game.proofs.laws.worlds_stay_good.Goals as goal
-
-pub returns : goal.returns
-returns c = always_good

@@ -1,0 +1,234 @@
+-- A client that was silent for too long at a tick leaves the world, but for itself, as if it had
+-- gone before the tick.
+use Rattle.std.proofs.Common.{◌≡◌, ◌≢◌, ℕ, Bool, true, cond, ◌++◌, Option, Some, None, refl, sym}
+use Rattle.std.proofs.Common.{subst, ap, ◌∙◌}
+use Rattle.std.specs.Prelude.{◌==◌, not, option_map, if◌then◌else◌}
+use Rattle.std.specs.List.{filter}
+use Rattle.std.specs.FinMap.{get, keys}
+use Rattle.mc_model.specs.declared.cause.Cause.TheVariants as causes
+use Rattle.mc_model.specs.declared.player.Player.{Player}
+use Rattle.mc_model.specs.Run.{to}
+use Rattle.mc_model.specs.Sight.{Sight}
+use Rattle.mc_model.specs.Step.{left, ticked, depart, step}
+use Rattle.mc_model.specs.Talk.{farewell}
+use Rattle.mc_model.specs.Ticks.{older}
+use Rattle.mc_model.specs.Stages.{is_closed}
+use Rattle.mc_model.specs.Game.{Game}
+use Rattle.mc_model.specs.Leaving.{leave, leave_all}
+use Rattle.mc_model.specs.Link.{Link, disconnect, gone}
+use Rattle.mc_model.specs.Showing.{last_shown, sight_of}
+use Rattle.mc_model.specs.World.{World, each, is_closing, on_link, seat_of, with_seat}
+use Rattle.mc_model.specs.Tick.{aged, at_tick, beat, beat_of, flush, grown, shown_all, tick, told}
+use Rattle.mc_model.specs.Good.{GoodWorld, in_play}
+use Rattle.mc_model.specs.Apart.{FallsSilent, HandsAlike, IsShut, SameBut}
+use Rattle.mc_model.specs.Headline.{IsEnded}
+use Rattle.mc_model.proofs.Maps.Lookups.{put_other, put_same}
+use Rattle.mc_laws.proofs.Deeds.Leaving.{leave_nobody, leave_other, leave_same, leave_stays}
+use Rattle.mc_laws.proofs.Deeds.Swaps.{keys_removed, leave_after, leave_but, leave_first}
+use Rattle.mc_laws.proofs.Deeds.Swaps.{leave_some, leave_without}
+use Rattle.mc_laws.proofs.Walk.Each.{disconnect_closes, each_last, each_links}
+use Rattle.mc_laws.proofs.Walk.Handings.{gone_closed, not_in_play}
+use Rattle.mc_laws.proofs.Walk.Ticking.{at_tick_player, at_tick_shown, tick_handed, tick_link}
+use Rattle.mc_laws.proofs.Walk.Ticking.{tick_shown, tick_unread}
+use Rattle.mc_laws.proofs.Apart.Outs.{handed_by}
+use Rattle.mc_laws.proofs.Headline.Ticks.{at_tick_hands, others_stay}
+use Rattle.mc_laws.proofs.Runs.Seats.{nobody_yet}
+use Rattle.mc_laws.proofs.Runs.Worlds.{step_good}
+
+-- what a beat makes of a connection hangs on the age and on its player alone
+beat_alike : (g v : Game) (shown : Option Sight) (l : Link) (o q : Option Player) →
+    g.age ≡ v.age → o ≡ q → beat_of (grown g) shown l o ≡ beat_of (grown v) shown l q
+beat_alike g v shown l o q age same = ap (beat_of (grown g) shown l) same ∙ by_age q
+  where
+    by_age : (q : Option Player) → beat_of (grown g) shown l q ≡ beat_of (grown v) shown l q
+    by_age None = refl
+    by_age (Some p) = λ x. beat_of (record g { age = older (age x) }) shown l (Some p)
+
+module _ (k : ℕ) (w : World) (good : GoodWorld w) (h : FallsSilent k w) where
+  -- the world in which it left before the tick
+  abbrev before : World
+  before = with_seat w k (depart k causes.Gone (seat_of w k h.link)).seat
+
+  good_before : GoodWorld before
+  unfolding step
+  good_before = (let good_too = step_good w (left k) good in rw h.here at good_too)
+
+  closed : is_closed (gone causes.Gone h.link).stage ≡ true
+  closed = gone_closed causes.Gone h.link
+
+  game_before : before.game ≡ leave k w.game
+  game_before = ap (λ (b : Bool). if b then leave k w.game else w.game) closed
+
+  links_before : (j : ℕ) → j ≢ k → get w.links j ≡ get before.links j
+  links_before j ne = sym (put_other w.links k j (gone causes.Gone h.link) ne)
+
+  here_before : get before.links k ≡ Some (gone causes.Gone h.link)
+  here_before = put_same w.links k (gone causes.Gone h.link)
+
+  -- ---- the world of the tick
+
+  beat_same : (j : ℕ) → j ≢ k → (l : Link) →
+      beat (grown w.game) (get w.shown j) j l ≡ beat (grown before.game) (get w.shown j) j l
+  beat_same j ne l =
+      beat_alike w.game (leave k w.game) (get w.shown j) l (get w.game.players j)
+      (get (leave k w.game).players j) (sym (leave_stays k w.game).age)
+      (sym (leave_other k j w.game ne))
+      ∙ ap (λ (g : Game). beat (grown g) (get w.shown j) j l) (sym game_before)
+
+  gone_then : get (at_tick w).game.players k ≡ None
+  gone_then = at_tick_player w k h.link h.here
+      ∙ ap (λ (o : Option Player). cond (is_closed
+      (beat_of (grown w.game) (get w.shown k) h.link o).link.stage) None o) h.plays
+      ∙ rw (
+        h.silent,
+        disconnect_closes h.link causes.Silent (farewell h.link.stage causes.Silent),
+      ) refl
+
+  grown_left : leave k (grown w.game) ≡ grown (leave k w.game)
+  grown_left = leave_some k (grown w.game) h.player h.plays
+      ∙ ap grown (sym (leave_some k w.game h.player h.plays))
+
+  keys_left : filter (λ (q : ℕ). not (q == k)) (keys w.game.players)
+      ≡ keys (leave k w.game).players
+  keys_left = sym (ap (λ (g : Game). keys g.players) (leave_some k w.game h.player h.plays)
+      ∙ keys_removed w.game.players k)
+
+  -- whom the beat closes, in each
+  abbrev closes_here : ℕ → Bool
+  closes_here i = is_closing (λ (j : ℕ) (l : Link). beat (grown w.game) (get w.shown j) j l) i
+      (get w.links i)
+
+  abbrev closes_there : ℕ → Bool
+  closes_there i = is_closing
+      (λ (j : ℕ) (l : Link). beat (grown before.game) (get w.shown j) j l) i (get before.links i)
+
+  closing_same : (i : ℕ) → i ≢ k → closes_here i ≡ closes_there i
+  closing_same i ne = at_link (get w.links i)
+      ∙ ap (is_closing (λ (j : ℕ) (l : Link). beat (grown before.game) (get w.shown j) j l) i)
+      (links_before i ne)
+    where
+      at_link : (o : Option Link) →
+          is_closing (λ (j : ℕ) (l : Link). beat (grown w.game) (get w.shown j) j l) i o
+          ≡ is_closing (λ (j : ℕ) (l : Link). beat (grown before.game) (get w.shown j) j l) i o
+      at_link None = refl
+      at_link (Some l) = ap (λ x. is_closed x.link.stage) (beat_same i ne l)
+
+  same_tick : (at_tick w).game ≡ (at_tick before).game
+  unfolding each
+  same_tick =
+      sym (leave_nobody k (at_tick w).game gone_then)
+      ∙ leave_first k (filter closes_here (keys w.game.players)) (grown w.game)
+      ∙ leave_but k closes_here closes_there closing_same (keys w.game.players) (grown w.game)
+      ∙ sym (leave_without k closes_there (keys w.game.players) (grown w.game))
+      ∙ (λ x. leave_all (filter closes_there (keys_left x)) (grown_left x))
+      ∙ (λ x. leave_all (filter closes_there (keys (sym game_before x).players))
+      (grown (sym game_before x)))
+
+  same_links : (j : ℕ) → j ≢ k → get (at_tick w).links j ≡ get (at_tick before).links j
+  same_links j ne =
+      each_links (λ (i : ℕ) (l : Link). beat (grown w.game) (get w.shown i) i l) (aged w) j
+      ∙ (λ x. option_map (λ (l : Link). (beat_same j ne l x).link) (links_before j ne x))
+      ∙ sym (each_links (λ (i : ℕ) (l : Link). beat (grown before.game) (get w.shown i) i l)
+      (aged before) j)
+
+  -- ---- after it
+
+  same_shown : (at_tick w).shown ≡ (at_tick before).shown
+  same_shown = at_tick_shown w ∙ sym (at_tick_shown before)
+
+  tick_same : (j : ℕ) → j ≢ k → get (tick w).world.links j ≡ get (tick before).world.links j
+  tick_same j ne = tick_link w j
+      ∙ (λ x. option_map (λ (l : Link). (flush (same_tick x) (get w.shown j) j
+      (beat_same j ne l x).link).link) (links_before j ne x))
+      ∙ sym (tick_link before j)
+
+  hands_same : (j : ℕ) → j ≢ k → to j (tick w).out ≡ to j (tick before).out
+  hands_same j ne = tick_handed w j ∙ at_link (get w.links j)
+      ∙ ap (handed_by (λ (i : ℕ) (l : Link).
+      (beat (grown before.game) (get w.shown i) i l).handed
+      ++ (flush (at_tick before).game (get w.shown i) i
+      (beat (grown before.game) (get w.shown i) i l).link).handed) j) (links_before j ne)
+      ∙ sym (tick_handed before j)
+    where
+      at_link : (o : Option Link) →
+          handed_by (λ (i : ℕ) (l : Link). (beat (grown w.game) (get w.shown i) i l).handed
+          ++ (flush (at_tick w).game (get w.shown i) i
+          (beat (grown w.game) (get w.shown i) i l).link).handed) j o
+          ≡ handed_by (λ (i : ℕ) (l : Link).
+          (beat (grown before.game) (get w.shown i) i l).handed
+          ++ (flush (at_tick before).game (get w.shown i) i
+          (beat (grown before.game) (get w.shown i) i l).link).handed) j o
+      at_link None = refl
+      at_link (Some l) = λ x. (beat_same j ne l x).handed
+          ++ (flush (same_tick x) (get w.shown j) j (beat_same j ne l x).link).handed
+
+  shown_same : (j : ℕ) → get (tick w).world.shown j ≡ get (tick before).world.shown j
+  shown_same j = tick_shown w j
+      ∙ (λ x. option_map (λ (p : Player).
+      sight_of (same_tick x) p (last_shown (get w.shown j))) (get (same_tick x).players j))
+      ∙ sym (tick_shown before j)
+
+  last_same : (tick w).world.last ≡ (tick before).world.last
+  last_same =
+      each_last (λ (i : ℕ) (l : Link). flush (at_tick w).game (get (at_tick w).shown i) i l)
+      (shown_all (at_tick w))
+      ∙ each_last (λ (i : ℕ) (l : Link). beat (grown w.game) (get w.shown i) i l) (aged w)
+      ∙ sym (each_last (λ (i : ℕ) (l : Link).
+      flush (at_tick before).game (get (at_tick before).shown i) i l) (shown_all (at_tick before))
+      ∙ each_last (λ (i : ℕ) (l : Link). beat (grown before.game) (get w.shown i) i l)
+      (aged before))
+
+  ended : IsEnded k (tick w)
+      (disconnect h.link causes.Silent (farewell h.link.stage causes.Silent))
+  unfolding step
+  ended = (at_tick_hands w good).silent k h.link h.player h.here h.plays h.silent
+
+  nobody_before : get before.game.players k ≡ None
+  nobody_before = ap (λ (g : Game). get g.players k) game_before ∙ leave_same k w.game
+
+  link_then : get (tick before).world.links k ≡ Some (gone causes.Gone h.link)
+  link_then = (others_stay before k good_before nobody_before).1 ∙ here_before
+
+  nobody_then : get (tick before).world.game.players k ≡ None
+  unfolding step
+  nobody_then = nobody_yet (get (tick before).world.game.players k)
+      ((step_good before ticked good_before).plays k ∙ ap in_play link_then
+      ∙ not_in_play (gone causes.Gone h.link).stage closed)
+
+  left_same : leave k (tick w).world.game ≡ leave k (tick before).world.game
+  unfolding each
+  left_same =
+      leave_after k
+      (λ (i : ℕ). is_closing (λ (j : ℕ) (l : Link).
+      flush (at_tick w).game (get (at_tick w).shown j) j l) i (get (at_tick w).links i))
+      (λ (i : ℕ). is_closing (λ (j : ℕ) (l : Link).
+      flush (at_tick w).game (get (at_tick w).shown j) j l) i (get (at_tick before).links i))
+      (λ i ne. ap (is_closing (λ (j : ℕ) (l : Link).
+      flush (at_tick w).game (get (at_tick w).shown j) j l) i) (same_links i ne))
+      (keys (told (at_tick w).game).players) (told (at_tick w).game)
+      ∙ (λ x. leave k (leave_all (filter (λ (i : ℕ). is_closing (λ (j : ℕ) (l : Link).
+      flush (same_tick x) (get (same_shown x) j) j l) i (get (at_tick before).links i))
+      (keys (told (same_tick x)).players)) (told (same_tick x))))
+
+  silent_twin : SameBut k (tick w).world (tick before).world
+  silent_twin = record {
+    game = sym (leave_nobody k (tick w).world.game ended.gone) ∙ left_same
+        ∙ leave_nobody k (tick before).world.game nobody_then;
+    last = last_same;
+    links = tick_same;
+    unread = λ j ne. ap (λ m. get m j) (tick_unread w)
+        ∙ sym (ap (λ m. get m j) (tick_unread before) ∙ put_other w.unread k j _ ne);
+    shown = λ j ne. shown_same j;
+    shut = subst IsShut (sym ended.link)
+        (disconnect_closes h.link causes.Silent (farewell h.link.stage causes.Silent));
+    shut_too = subst IsShut (sym link_then) closed;
+  }
+
+  pub silent_as_left : SameBut k (step w ticked).world
+      (step (step w (left k)).world ticked).world
+      × HandsAlike k (step w ticked) (step (step w (left k)).world ticked)
+  unfolding step
+  silent_as_left = subst (λ (v : World). SameBut k (tick w).world (tick v).world
+      × HandsAlike k (tick w) (tick v))
+      (sym (ap (λ (o : Option Link). (on_link w k (depart k causes.Gone) o).world) h.here))
+      (silent_twin, hands_same)

@@ -1,0 +1,7 @@
+-- What each deed keeps of a game.
+pub mod Packs
+pub mod Coming
+pub mod Leaving
+pub mod Keeping
+pub mod Onwards
+pub mod Swaps

@@ -1,0 +1,66 @@
+-- A pack of which what is in the hand is another pile is one of what the world holds.
+use Rattle.std.proofs.Common.{◌≡◌, ℕ, zero, suc, ◌+◌, ◌-◌, ◌≤◌, List, [], ◌∷◌, refl, ◌∙◌, arith}
+use Rattle.std.proofs.Common.{subst, Some, None}
+use Rattle.std.specs.Prelude.{slice_set, unwrap_or}
+use Rattle.std.proofs.lemmas.List.{length-set}
+use Rattle.std.specs.FinMap.{get}
+use Rattle.mc_slots.specs.declared.pile.Item.{Item}
+use Rattle.mc_slots.specs.declared.pile.Pile.{Pile}
+use Rattle.mc_slots.specs.declared.pile.Pile.TheVariants.{Full}
+use Rattle.mc_slots.specs.Pile.{IsItem, IsPile, pile_of, without}
+use Rattle.mc_slots.specs.Chest.{pile_at}
+use Rattle.mc_windows.specs.Pack.{PackValue, IsPack, kit_pack}
+use Rattle.mc_windows.proofs.FirstPack.{kit_is_pack}
+use Rattle.mc_model.specs.declared.player.Player.{Player}
+use Rattle.mc_model.specs.Things.{with_hand}
+use Rattle.mc_model.specs.Game.{Game, held_by, pack_named}
+use Rattle.mc_model.specs.Good.{Good}
+
+-- piles of which one is another pile
+set_piles : (slots : List Pile) (k : ℕ) (pile : Pile) → IsPile pile →
+    ((i : ℕ) → IsPile (pile_at slots i)) → (i : ℕ) → IsPile (pile_at (slice_set slots k pile) i)
+set_piles [] k pile is are i = are i
+set_piles (x ∷ xs) zero pile is are zero = is
+set_piles (x ∷ xs) zero pile is are (suc i) = are (suc i)
+set_piles (x ∷ xs) (suc k) pile is are zero = are zero
+set_piles (x ∷ xs) (suc k) pile is are (suc i) =
+    set_piles xs k pile is (λ j. are (suc j)) i
+
+pub with_hand_is_pack : (pile : Pile) (hand : ℕ) (pack : PackValue) → IsPile pile →
+    IsPack pack.slots pack.cursor →
+    IsPack (with_hand pile hand pack).slots (with_hand pile hand pack).cursor
+with_hand_is_pack pile hand pack is fits = record {
+  size = length-set pack.slots (27 + hand) pile ∙ fits.size;
+  are_piles = set_piles pack.slots (27 + hand) pile is fits.are_piles;
+  is_pile = fits.is_pile;
+}
+
+-- so many of an item of which there are no fewer are a pile
+some_is_pile : (item : Item) (n : ℕ) → IsItem item → n ≤ item.count → IsPile (pile_of item n)
+some_is_pile item zero is few = tt
+some_is_pile item (suc n) is few = record {
+  id = is.id;
+  damage = is.damage;
+  count = (omega arith, omega (arith, few, is.count.1));
+}
+
+-- what is left of it is one
+pub left_is_pile : (item : Item) (n : ℕ) → IsItem item → IsPile (without (Full item) n)
+left_is_pile item n is = some_is_pile item (item.count - n) is (omega arith)
+
+-- what any name carries is a pack
+pub named_is_pack : (g : Game) (name : List ℕ) → Good g →
+    IsPack (pack_named g name).slots (pack_named g name).cursor
+named_is_pack g name w = elim (get g.packs name) as (λ o. get g.packs name ≡ o →
+    IsPack (unwrap_or o kit_pack).slots (unwrap_or o kit_pack).cursor) [
+      | None ↦ λ none. kit_is_pack
+      | Some pack ↦ λ some. w.piles name pack some
+    ] refl
+
+-- what a player has in its hand is a pile, and an item where it is something
+pub held_is_pile : (g : Game) (p : Player) → Good g → IsPile (held_by g p)
+held_is_pile g p w = (named_is_pack g p.name w).are_piles (27 + p.hand)
+
+pub held_is_item : (g : Game) (p : Player) (item : Item) → held_by g p ≡ Full item → Good g →
+    IsItem item
+held_is_item g p item is w = subst IsPile is (held_is_pile g p w)

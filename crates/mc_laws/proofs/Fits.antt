@@ -1,0 +1,8 @@
+-- That packets can tell all that a game shows.
+pub mod Told
+pub mod Sights
+pub mod Clear
+pub mod Acts
+pub mod Sound
+pub mod Noted
+pub mod Leading

@@ -1,0 +1,295 @@
+-- What is due to a client at a tick is packets that it decodes.
+use Rattle.std.proofs.Common.{◌≡◌, ℕ, suc, ◌+◌, ◌*◌, ◌^◌, ◌≤◌, ◌<◌, Bool, true, false, cond, List}
+use Rattle.std.proofs.Common.{[], ◌∷◌, ◌++◌, map, length, Option, Some, refl, sym, subst, ap, T}
+use Rattle.std.proofs.Common.{◌∙◌, arith, drop}
+use Rattle.std.specs.Prelude.{is_some, unsigned_abs}
+use Rattle.std.specs.Int.{w32}
+use Rattle.std.specs.List.{AllByRecursion, filter_map, range_with_len}
+use Rattle.std.specs.declared.cmp.Ordering.{Ordering}
+use Rattle.std.specs.declared.cmp.Ordering.TheVariants.{Less, Equal, Greater}
+use Rattle.std.specs.Ordering.{eq_by_cmp, int_cmp, nat_cmp}
+use Rattle.std.specs.Cmp.{IsTotalOrder, int_cmp_total, nat_cmp_total}
+use Rattle.std.specs.FinMap.{FinMap, IsAntisymmetric, contains_key, empty, entries, entries-insert}
+use Rattle.std.specs.FinMap.{entries_sorted, find, from_entries, get, get-entries}
+use Rattle.std.specs.FinMap.{int_cmp-IsAntisymmetric, is_sorted, len, len-empty, len-entries}
+use Rattle.std.specs.FinMap.{len-insert, nat_cmp-IsAntisymmetric, values}
+use Rattle.std.specs.FinMap.Entries.{put, by_order}
+use Rattle.std.proofs.lemmas.Bool.Decides.{nat_tests}
+use Rattle.std.proofs.lemmas.Int.{ints}
+use Rattle.std.proofs.lemmas.List.{length-map, nil_from_length}
+use lib.IntN.{ℤ, pos, negsuc, ◌+ℤ◌, ◌-ℤ◌}
+use lib.Signed.{◌≤ℤ◌}
+use mir.Val.{SFits}
+use Rattle.mc_slots.specs.Pile.{slot_of}
+use Rattle.mc_packets.specs.declared.down.Down.{Down}
+use Rattle.mc_land.specs.declared.places.TheConstants.{COLUMN_BORDER}
+use Rattle.mc_land.specs.Places.{Place, place_cmp}
+use Rattle.mc_land.proofs.Orders.{exact_places, places_total}
+use Rattle.mc_entities.specs.declared.entity.Entity.{Entity}
+use Rattle.mc_entities.specs.declared.entity.EntityKind.{EntityKind}
+use Rattle.mc_entities.specs.Kinds.{IsKind}
+use Rattle.mc_view.specs.declared.view_set.TheConstants.{MIDDLE_BORDER}
+use Rattle.mc_view.specs.Views.{column_of_spot, run_of, view_of, view_size}
+use Rattle.mc_model.specs.declared.ticks.TheConstants.{AGE_MAX}
+use Rattle.mc_model.specs.declared.player.Player.{Player}
+use Rattle.mc_model.specs.Delta.{delta}
+use Rattle.mc_model.specs.Packets.{for_play, of_play}
+use Rattle.mc_model.specs.Sight.{Seen, Sight, seen_as, seen_of}
+use Rattle.mc_model.specs.Opening.{level, opening_of}
+use Rattle.mc_model.specs.Notes.{notes_of, noted_packets}
+use Rattle.mc_model.specs.Game.{AreSettings, Game, column_in, pack_of, players_of, sees, spot_of}
+use Rattle.mc_model.specs.Game.{view_in}
+use Rattle.mc_model.specs.Spots.{spawn_height}
+use Rattle.mc_model.specs.Showing.{due, last_shown, notes_due, opening_due, sight_of}
+use Rattle.mc_model.specs.Good.{Good}
+use Rattle.mc_model.proofs.AllFacts.{all_chosen, all_dropped, all_flat, all_joined, all_mapped}
+use Rattle.mc_model.proofs.AllFacts.{all_range}
+use Rattle.mc_model.proofs.Decodes.{Decodes, IsClear}
+use Rattle.mc_model.proofs.FitsBeats.{beat_fits, shown_age_fits}
+use Rattle.mc_model.proofs.FitsChat.{LineFits}
+use Rattle.mc_model.proofs.FitsChunk.{ColumnFits, IsNear}
+use Rattle.mc_model.proofs.FitsDue.{level_short}
+use Rattle.mc_model.proofs.ThingFacts.{spawn_low}
+use Rattle.mc_model.proofs.FitsList.{AreClear, PairFits}
+use Rattle.mc_model.proofs.FitsNotes.{noted_packets_clear, sent_fits}
+use Rattle.mc_model.proofs.FitsPlay.{join_clear, spawn_clear}
+use Rattle.mc_model.proofs.FitsText.{IsShort}
+use Rattle.mc_model.proofs.FitsSlots.{pile_slot_fits, piles_fit}
+use Rattle.mc_model.proofs.Maps.Sorted.{find_again, second}
+use Rattle.mc_model.proofs.Maps.Lookups.{tied_number}
+use Rattle.mc_model.proofs.Maps.Options.{none_some}
+use Rattle.mc_laws.proofs.FitsDue.{delta_clear, notes_clear, placing_clear}
+use Rattle.mc_laws.proofs.FitsSight.{SeenFits, SightFits, column_near, size_few}
+use Rattle.mc_laws.proofs.FitsUuid.{offline_small}
+use Rattle.mc_laws.proofs.ThingsFit.{EntityFits, KindIsNamed}
+use Rattle.mc_laws.proofs.Deeds.Packs.{named_is_pack}
+use Rattle.mc_laws.proofs.Fits.Told.{Told, cell_told, spot_told}
+use Rattle.mc_laws.proofs.Fits.Sights.{column_sizes, column_small, in_sight, in_sight_fit}
+
+-- ---- entries
+
+module _ {K X : Type 0} (R : K → K → Ordering) (o : IsTotalOrder R) (exact : IsAntisymmetric R)
+    (P : K × X → Type 0) where
+  -- what holds of entries and of one that is put among them
+  all_put : (k : K) (v : X) → P (k, v) → (es : List (K × X)) → AllByRecursion P es →
+      AllByRecursion P (put R k v es)
+  all_put k v p [] a = (p, tt)
+  all_put k v p (e ∷ es) a = elim (R k e.0) as (λ r. R k e.0 ≡ r →
+      AllByRecursion P (by_order r ((k, v) ∷ e ∷ es) ((e.0, v) ∷ es) (e ∷ put R k v es))) [
+        | Less ↦ λ t. (p, (a.0, a.1))
+        | Equal ↦ λ t. (let Q : K → Type 0 = λ j. P (j, v) in subst Q (exact k e.0 t) p, a.1)
+        | Greater ↦ λ t. (a.0, all_put k v p es a.1)
+      ] refl
+
+  -- what holds of a list holds of the entries of its map
+  all_entries : (es : List (K × X)) → AllByRecursion P es →
+      AllByRecursion P (entries (from_entries {R = R} es))
+  all_entries [] a =
+      let none : entries (empty {X = X} {R = R}) ≡ [] =
+      nil_from_length _ (sym (len-entries empty) ∙ len-empty R X) in
+      subst (AllByRecursion P) (sym none) tt
+  all_entries (e ∷ es) a =
+      subst (AllByRecursion P) (sym (entries-insert o (from_entries es) e.0 e.1))
+      (all_put e.0 e.1 a.0 (entries (from_entries es)) (all_entries es a.1))
+
+-- the map of a list has no more entries than the list
+pub few_entries : {K X : Type 0} (R : K → K → Ordering) (o : IsTotalOrder R) (es : List (K × X))
+    → len (from_entries {R = R} es) ≤ length es
+few_entries {X = X} R o [] = rw (len-empty R X) (omega arith)
+few_entries R o (e ∷ es) = rw (len-insert o (from_entries es) e.0 e.1)
+    (inserted (contains_key (from_entries es) e.0) (len (from_entries es)) (length es)
+    (few_entries R o es))
+  where
+    inserted : (b : Bool) (n m : ℕ) → n ≤ m → cond b n (n + 1) ≤ suc m
+    inserted true n m le = omega (arith, le)
+    inserted false n m le = omega (arith, le)
+
+-- what holds of each entry that is found holds of all entries, and of all values
+pub all_found : {X : Type 0} (P : ℕ × X → Type 0) (m : FinMap nat_cmp X) →
+    ((k : ℕ) (x : X) → get m k ≡ Some x → P (k, x)) → AllByRecursion P (entries m)
+all_found {X} P m each = walk (entries m) (entries_sorted m)
+    (λ k x is. each k x (get-entries m k ∙ is))
+  where
+    walk : (es : List (ℕ × X)) → T (is_sorted nat_cmp es) →
+        ((k : ℕ) (x : X) → find nat_cmp k es ≡ Some x → P (k, x)) → AllByRecursion P es
+    walk [] sorted holds = tt
+    walk (e ∷ es) sorted holds = (
+      holds e.0 e.1 (ap (λ (b : Bool). cond b (Some e.1) (find nat_cmp e.0 es))
+          (tied_number e.0)),
+      walk es (second _ _ sorted) (λ k x is. elim (eq_by_cmp nat_cmp k e.0) as
+          (λ b. eq_by_cmp nat_cmp k e.0 ≡ b → P (k, x)) [
+            | true ↦ λ t. absurd (none_some (find nat_cmp k es) x
+                (find_again nat_cmp_total k e es sorted t) is)
+            | false ↦ λ t. holds k x
+                (ap (λ (b : Bool). cond b (Some e.1) (find nat_cmp k es)) t ∙ is)
+          ] refl),
+    )
+
+all_values : {X : Type 0} (P : X → Type 0) (m : FinMap nat_cmp X) →
+    ((k : ℕ) (x : X) → get m k ≡ Some x → P x) → AllByRecursion P (values m)
+all_values {X} P m each = all_mapped (λ (e : ℕ × X). P e.1) P (λ (e : ℕ × X). e.1)
+    (λ e holds. holds) (entries m) (all_found (λ (e : ℕ × X). P e.1) m each)
+
+-- ---- places of a view
+
+-- a number near one that is not far
+near_small : (m : ℤ) (d i : ℕ) → unsigned_abs m ≤ MIDDLE_BORDER + 1 → d ≤ 8 → i < 2 * d + 1 →
+    unsigned_abs ((m -ℤ pos d) +ℤ pos i) ≤ COLUMN_BORDER
+near_small m d i small few less = grind (arith, nat_tests)
+
+-- and so are all in a row
+run_small : (m : ℤ) (d : ℕ) → unsigned_abs m ≤ MIDDLE_BORDER + 1 → d ≤ 8
+    → AllByRecursion (λ (z : ℤ). unsigned_abs z ≤ COLUMN_BORDER) (run_of (m -ℤ pos d) (2 * d + 1))
+run_small m d small few =
+    let P : ℕ → Type 0 = λ i. i < 2 * d + 1 in
+    all_mapped P (λ (z : ℤ). unsigned_abs z ≤ COLUMN_BORDER) (λ (i : ℕ). (m -ℤ pos d) +ℤ pos i)
+    (λ i less. near_small m d i small few less)
+    (range_with_len 0 (2 * d + 1)) (all_range P 0 (2 * d + 1) (λ i less. omega (arith, less)))
+
+-- and all places of a view
+view_near : (middle : Place) (d : ℕ) → unsigned_abs middle.0 ≤ MIDDLE_BORDER + 1 →
+    unsigned_abs middle.1 ≤ MIDDLE_BORDER + 1 → d ≤ 8
+    → AllByRecursion IsNear (view_of middle d)
+unfolding view_of
+view_near middle d at_x at_z few =
+    all_flat (λ (z : ℤ). unsigned_abs z ≤ COLUMN_BORDER) IsNear
+    (λ (x : ℤ). map (λ (z : ℤ). (x, z)) (run_of (middle.1 -ℤ pos d) (2 * d + 1)))
+    (λ x near. all_mapped (λ (z : ℤ). unsigned_abs z ≤ COLUMN_BORDER) IsNear (λ (z : ℤ). (x, z))
+    (λ z also. record { x = near; z = also })
+    (run_of (middle.1 -ℤ pos d) (2 * d + 1)) (run_small middle.1 d at_z few))
+    (run_of (middle.0 -ℤ pos d) (2 * d + 1)) (run_small middle.0 d at_x few)
+
+-- ---- sights
+
+-- numbers of entities fit 32 bits
+eid_fits : (eid : ℤ) → pos 1 ≤ℤ eid → eid ≤ℤ pos 2147483647 → SFits w32 eid
+eid_fits (pos n) low high = record { sfits = omega (arith, ints, high) }
+eid_fits (negsuc n) low high = absurd (omega (arith, ints, low))
+
+-- an entity that fits is seen as such
+seen_fits : (e : Entity) (kind : EntityKind) → EntityFits e → IsKind kind → KindIsNamed kind →
+    (row : ℤ × Seen) → seen_as e kind ≡ Some row → SeenFits row
+seen_fits e kind fits is named row found = grind (arith, nat_tests, eid_fits, pile_slot_fits)
+
+-- all that can be told holds of a game
+pub record SoundGame (g : Game) : Type 0 where
+  pub good : Good g
+  pub told : Told g
+  pub settings : AreSettings g.settings.players g.settings.cap
+  pub young : g.age ≤ AGE_MAX
+  pub lines : AllByRecursion LineFits g.lines
+  pub few : len g.players ≤ g.settings.players
+  pub named : (k : ℕ) (p : Player) → get g.players k ≡ Some p → IsShort 16 p.name
+
+-- so the list of players can name each
+named_fits : (g : Game) (k : ℕ) (p : Player) → SoundGame g → get g.players k ≡ Some p →
+    PairFits (p.uuid, p.name)
+named_fits g k p sound there = record {
+  uuid = subst (λ (n : ℕ). n < 2 ^ 128) (sym (sound.good.own k p there).uuid)
+      (offline_small p.name);
+  name = sound.named k p there;
+}
+
+-- as many players as numbers of them
+players_few : (g : Game) → length (players_of g) ≡ len g.players
+players_few g = length-map (entries g.players) (λ (e : ℕ × Player). e.1)
+    ∙ sym (len-entries g.players)
+
+pub sight_fits : (g : Game) (p : Player) (last : Sight) → SoundGame g →
+    AllByRecursion LineFits last.chat → SightFits (sight_of g p last)
+unfolding sight_of
+sight_fits g p last sound heard =
+    let at = spot_told g p sound.told in
+    let pack = named_is_pack g p.name sound.good in
+    let named = all_values (λ (other : Player). PairFits (other.uuid, other.name)) g.players
+    (λ k other there. named_fits g k other sound there) in
+    let settings = sound.settings in
+    let places = view_near (column_of_spot (spot_of g p)) (view_size g.settings.cap p.view_byte)
+    (column_near (spot_of g p).x at.x) (column_near (spot_of g p).z at.z)
+    (size_few g.settings.cap p.view_byte settings.near) in
+    record {
+      pairs = all_entries nat_cmp nat_cmp_total nat_cmp-IsAntisymmetric PairFits
+          (map (λ (other : Player). (other.uuid, other.name)) (players_of g))
+          (all_mapped (λ (other : Player). PairFits (other.uuid, other.name)) PairFits
+          (λ (other : Player). (other.uuid, other.name))
+          (λ other fits. fits) (players_of g) named);
+      few = (let most = few_entries nat_cmp nat_cmp_total
+          (map (λ (other : Player). (other.uuid, other.name)) (players_of g)) in
+          let same = length-map {B = ℕ × List ℕ} (players_of g)
+          (λ (other : Player). (other.uuid, other.name)) in
+          let size = players_few g in
+          let entries_are = len-entries (from_entries {R = nat_cmp}
+          (map (λ (other : Player). (other.uuid, other.name)) (players_of g))) in
+          let few = sound.few in
+          let fifty = settings.few in
+          omega (arith, most, same, size, entries_are, few, fifty));
+      columns = all_entries place_cmp places_total exact_places ColumnFits
+          (map (λ (place : Place). (place, column_in g place)) (view_in g p))
+          (all_mapped IsNear ColumnFits (λ (place : Place). (place, column_in g place))
+          (λ place near. record {
+            near = near;
+            sizes = column_sizes g place;
+            states = column_small g place sound.told;
+          })
+          (view_in g p) places);
+      entities = all_entries int_cmp int_cmp_total int_cmp-IsAntisymmetric SeenFits
+          (filter_map seen_of (in_sight g p))
+          (all_chosen EntityFits SeenFits seen_of
+          (λ x row fits found. seen_fits x x.kind fits fits.kind fits.named row found)
+          (in_sight g p) (in_sight_fit g p sound.told));
+      pack = piles_fit (pack_of g p).slots pack.are_piles;
+      slots = length-map (pack_of g p).slots slot_of ∙ pack.size;
+      beat = beat_fits g.age sound.young;
+      age = shown_age_fits g.age sound.young;
+      chat = all_joined LineFits last.chat (drop p.since g.lines) heard
+          (all_dropped LineFits p.since g.lines sound.lines);
+    }
+
+-- ---- what is due
+
+-- the opening is clear
+opening_clear : (g : Game) (p : Player) → SoundGame g → p.eid ≤ 2147483647 →
+    AreClear (opening_of g.settings.terrain g.settings.players (pos p.eid) (spot_of g p))
+opening_clear g p sound small = (
+  join_clear p.eid g.settings.players (level g.settings.terrain) (omega (arith, small))
+      sound.settings.few (level_short g.settings.terrain),
+  (
+    spawn_clear (spawn_height g.settings.terrain)
+        (let low = spawn_low g.settings.terrain in omega (arith, low)),
+    (placing_clear (spot_of g p) (spot_told g p sound.told), tt),
+  ),
+)
+
+-- what is due is clear, where what was shown fits
+pub due_clear : (g : Game) (shown : Option Sight) (p : Player) → SoundGame g →
+    p.eid ≤ 2147483647 → SightFits (last_shown shown) → AreClear (due g shown p)
+unfolding due
+due_clear g shown p sound small before =
+    let C : Down → Type 0 = λ packet. IsClear for_play (of_play packet) in
+    let last = last_shown shown in
+    let at = spot_told g p sound.told in
+    all_joined C (opening_due g shown p ++ delta last (sight_of g p last)) (notes_due g p)
+    (all_joined C (opening_due g shown p) (delta last (sight_of g p last))
+    (first (is_some shown))
+    (delta_clear last (sight_of g p last) before (sight_fits g p last sound before.chat)))
+    (all_joined C (noted_packets g.settings.terrain g.edits (sees g p) p.notes.cells)
+    (notes_of p.notes (spot_of g p) (pack_of g p))
+    (noted_packets_clear g.settings.terrain g.edits (sees g p)
+    (λ cell sent. sent_fits (column_of_spot (spot_of g p))
+    (view_size g.settings.cap p.view_byte) cell
+    (column_near (spot_of g p).x at.x) (column_near (spot_of g p).z at.z)
+    (size_few g.settings.cap p.view_byte sound.settings.near) sent)
+    (λ cell. let small = (cell_told g cell sound.told).small in omega (arith, small))
+    p.notes.cells)
+    (notes_clear p.notes (spot_of g p) (pack_of g p) at (named_is_pack g p.name sound.good)))
+  where
+    first : (b : Bool) → AreClear (cond b []
+        (opening_of g.settings.terrain g.settings.players (pos p.eid) (spot_of g p)))
+    first true = tt
+    first false = opening_clear g p sound small
+
+-- packets of play that are clear are decoded by who plays
+pub clear_decodes : (packets : List Down) → AreClear packets →
+    Decodes for_play (map of_play packets) for_play
+clear_decodes [] a = refl
+clear_decodes (packet ∷ packets) a = (a.0, clear_decodes packets a.1)

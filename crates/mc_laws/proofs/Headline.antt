@@ -1,0 +1,5 @@
+-- The parts of the promise about a run, and all of them.
+pub mod Ticks
+pub mod Between
+pub mod Logins
+pub mod Promise

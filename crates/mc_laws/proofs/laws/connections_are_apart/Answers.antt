@@ -1,0 +1,28 @@
+use Rattle.mc_model.specs.Run.{history}
+use Rattle.mc_model.specs.World.{new_world}
+use Rattle.mc_laws.proofs.Apart.BadFrames.{bad_twin}
+use Rattle.mc_laws.proofs.Apart.Befores.{stands_before}
+use Rattle.mc_laws.proofs.Apart.Full.{full_as_left, took_room}
+use Rattle.mc_laws.proofs.Apart.Isolation.{broke_as_left, others_apart, own_step_apart}
+use Rattle.mc_laws.proofs.Apart.Silent.{silent_as_left}
+use Rattle.mc_laws.proofs.Runs.Worlds.{always_good}
+use Rattle.mc_laws.proofs.laws.connections_are_apart.Goals as goal
+
+pub returns : goal.returns
+returns c = record {
+  others = λ settings events v k e same no_own few few_too.
+      others_apart k (history (new_world settings) events) v e no_own few few_too
+      (always_good settings events) same;
+  own = λ settings events v k e same is no_join.
+      own_step_apart k (history (new_world settings) events) v e is no_join
+      (always_good settings events) same;
+  broke = λ w k l there. broke_as_left k w l there;
+  bad = λ w k bytes before bad stands. bad_twin k w bytes before bad stands;
+  found = λ settings events k bytes are came bad. stands_before settings events k bytes are came
+      bad;
+  full = λ settings events v k is. full_as_left k (history (new_world settings) events) v
+      (always_good settings events) is;
+  room = λ w k n l there. took_room k n w l there;
+  silent = λ settings events k falls. silent_as_left k
+      (history (new_world settings) events) (always_good settings events) falls;
+}

@@ -1,0 +1,102 @@
+ghost use Rattle.std.specs.Prelude.{◌≡◌, List, Some, ℕ};
+ghost use Rattle.std.specs.FinMap.{get};
+ghost use Rattle.mc_bytes.specs.Reading.{IsBytes};
+ghost use Rattle.mc_model.specs.Run.{AreBytes, history};
+ghost use Rattle.mc_model.specs.Step.{Event, broke, came, left, ticked, took, step};
+ghost use Rattle.mc_model.specs.declared.settings.Settings.{Settings as Begun};
+ghost use Rattle.mc_model.specs.Apart.{AlikeBut, FallsSilent, HandsAlike, HasBadFrame, IsFullIn};
+ghost use Rattle.mc_model.specs.Apart.{IsNoJoin, IsOf, LetsIn, OnlySender, OwesOther, SameBut};
+ghost use Rattle.mc_model.specs.Apart.{StandsBefore};
+ghost use Rattle.mc_model.specs.Balance.{Balance};
+ghost use Rattle.mc_model.specs.Causes.{ClosesFirst};
+ghost use Rattle.mc_model.specs.Good.{GoodWorld};
+ghost use Rattle.mc_model.specs.Link.{Link};
+ghost use Rattle.mc_model.specs.Promised.{Lasts, Promised};
+ghost use Rattle.mc_model.specs.World.{World, new_world};
+
+/// Along every run each player is one entity, which holds what its pack has at its hand; numbers
+/// and identifiers are of one player each; packs are of what a world holds; and there are players
+/// exactly for the connections in play.
+pub fn worlds_stay_good()
+    ensures { (settings : Begun) (events : List Event) →
+        GoodWorld (history (new_world settings) events) }
+{}
+
+/// What one connection does hands nothing to any other, and leaves its link, its unread bytes, what
+/// it was shown, and of its player all but the notes.
+pub fn only_senders_change()
+    ensures { (settings : Begun) (events : List Event) (e : Event) (k : ℕ) → IsOf k e →
+        OnlySender k (history (new_world settings) events)
+        (step (history (new_world settings) events) e) }
+{}
+
+/// What others do, and ticks, in two worlds that are the same but for one connection leaves them so
+/// and hands all others the same; and whatever is done to that connection in one of them leaves
+/// them so. One that broke leaves the world, but for itself, as if it had gone; and so does one
+/// that a bad frame closes, as if only what stands before that frame had come: there are first
+/// bytes that do. One to whom too much is due at a tick leaves the world, but for itself, as if its
+/// outbox had had room, since it took what it was owed, and it had gone after the tick; and one
+/// that was silent for too long as if it had gone before it.
+pub fn connections_are_apart()
+    ensures others { (settings : Begun) (events : List Event) (v : World) (k : ℕ) (e : Event) →
+        SameBut k (history (new_world settings) events) v → (IsOf k e → ⊥) →
+        LetsIn (history (new_world settings) events) e → LetsIn v e →
+        AlikeBut k (step (history (new_world settings) events) e) (step v e) }
+    ensures own { (settings : Begun) (events : List Event) (v : World) (k : ℕ) (e : Event) →
+        SameBut k (history (new_world settings) events) v → IsOf k e → IsNoJoin e →
+        SameBut k (step (history (new_world settings) events) e).world v }
+    ensures broke { (w : World) (k : ℕ) (l : Link) → get w.links k ≡ Some l →
+        SameBut k (step w (broke k)).world (step w (left k)).world }
+    ensures bad { (w : World) (k : ℕ) (bytes before : List ℕ) (bad : HasBadFrame k w bytes) →
+        StandsBefore k w bytes bad.good before →
+        SameBut k (step w (came k bytes)).world
+        (step (step w (came k before)).world (left k)).world }
+    ensures found { (settings : Begun) (events : List Event) (k : ℕ) (bytes : List ℕ) →
+        AreBytes events → IsBytes bytes →
+        (bad : HasBadFrame k (history (new_world settings) events) bytes) →
+        (before : List ℕ)
+        × StandsBefore k (history (new_world settings) events) bytes bad.good before }
+    ensures full { (settings : Begun) (events : List Event) (v : World) (k : ℕ) →
+        IsFullIn k (history (new_world settings) events) v →
+        SameBut k (step (history (new_world settings) events) ticked).world
+        (step (step v ticked).world (left k)).world
+        × HandsAlike k (step (history (new_world settings) events) ticked) (step v ticked) }
+    ensures room { (w : World) (k n : ℕ) (l : Link) → get w.links k ≡ Some l →
+        OwesOther k w (step w (took k n)).world }
+    ensures silent { (settings : Begun) (events : List Event) (k : ℕ) →
+        FallsSilent k (history (new_world settings) events) →
+        SameBut k (step (history (new_world settings) events) ticked).world
+        (step (step (history (new_world settings) events) (left k)).world ticked).world
+        × HandsAlike k (step (history (new_world settings) events) ticked)
+        (step (step (history (new_world settings) events) (left k)).world ticked) }
+{}
+
+/// What a connection took is the first bytes of what was handed to it, also once it is closed and
+/// forgotten. No others are missing but those that it is owed, those that it was owed when it left
+/// or a write to it broke, and those of a connection that was closed since it was owed too many. It
+/// is closed just where a cause is kept of it, which is the first.
+pub fn bytes_are_promised()
+    ensures { (settings : Begun) (events : List Event) (k : ℕ) →
+        Promised k (new_world settings) events }
+{}
+
+/// Each event closes just the connections that it has a cause to close, each for that.
+pub fn closed_for_the_first_cause()
+    ensures { (settings : Begun) (events : List Event) (e : Event) →
+        ClosesFirst (history (new_world settings) events) e }
+{}
+
+/// No item is lost or made: of each sort, what all names carry, what lies in the world and what was
+/// placed is what the kits of all names had and what was dug.
+pub fn items_are_kept()
+    ensures { (settings : Begun) (events : List Event) →
+        Balance (history (new_world settings) events).game }
+{}
+
+/// A connection is there from its joining until it is forgotten, and is forgotten only where it is
+/// closed and owed nothing.
+pub fn connections_last()
+    ensures { (settings : Begun) (events : List Event) (e : Event) (k : ℕ) (l : Link) →
+        get (history (new_world settings) events).links k ≡ Some l →
+        Lasts k (history (new_world settings) events) e l }
+{}

@@ -1,5 +1,0 @@
-use Rattle.mc_model.proofs.CutFacts.{cut_of_bytes}
-use Rattle.mc_model.proofs.laws.cuts_are_worked_out.Goals as goal
-
-pub returns : goal.returns
-returns c = cut_of_bytes
