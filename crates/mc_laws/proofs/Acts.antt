@@ -1,3 +1,4 @@
 -- What each packet of a player makes of a game.
 pub mod Topics
+pub mod ActMade
 pub mod ActOn

@@ -4,4 +4,6 @@ pub mod Coming
 pub mod Leaving
 pub mod Keeping
 pub mod Onwards
+pub mod Goods
+pub mod Made
 pub mod Swaps

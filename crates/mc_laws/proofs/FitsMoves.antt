@@ -12,7 +12,7 @@ use Rattle.mc_model.specs.Delta.{move_packets, moves_packets}
 use Rattle.mc_model.proofs.Decodes.{IsClear}
 use Rattle.mc_model.proofs.AllFacts.{all_joined}
 use Rattle.mc_model.proofs.FitsText.{both_true}
-use Rattle.mc_model.proofs.FitsSize.{number_fits, fields}
+use Rattle.mc_model.proofs.FitsSize.{number_fits}
 use Rattle.mc_model.proofs.FitsList.{AreClear}
 use Rattle.mc_model.proofs.FitsMoves.{head_clear, jump_clear, look_clear, step_clear, step_fits}
 use Rattle.mc_model.proofs.FitsMoves.{step_look_clear}

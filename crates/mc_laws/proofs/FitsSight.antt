@@ -1,6 +1,6 @@
 -- What can be shown so that its packets fit, and that all that is projected can.
 use Rattle.std.proofs.Common.{◌≡◌, ℕ, zero, suc, ◌+◌, ◌≤◌, Bool, true, false, cond, List, [], ◌∷◌}
-use Rattle.std.proofs.Common.{map, length, refl, sym, subst, ◌∙◌, arith}
+use Rattle.std.proofs.Common.{length, refl, sym, subst, ◌∙◌, arith}
 use Rattle.std.specs.Prelude.{unsigned_abs, replicate}
 use Rattle.std.specs.Int.{w32, w64, int_div_euclid}
 use Rattle.std.specs.List.{AllByRecursion}

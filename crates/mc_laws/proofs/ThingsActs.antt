@@ -1,5 +1,5 @@
 -- What a player digs, drops and places keeps what packets rest on.
-use Rattle.std.proofs.Common.{◌≡◌, suc, ◌+◌, ◌*◌, ◌-◌, ◌≤◌, inr, arith}
+use Rattle.std.proofs.Common.{◌≡◌, suc, ◌+◌, ◌*◌, ◌≤◌, inr, arith}
 use Rattle.std.specs.Prelude.{◌&&◌, Bool, true, unsigned_abs}
 use Rattle.std.proofs.lemmas.Bool.{leb-true, ltb-true}
 use Rattle.std.proofs.lemmas.Int.{ints}

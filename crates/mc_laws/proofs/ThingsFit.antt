@@ -3,7 +3,7 @@ use Rattle.std.proofs.Common.{◌≡◌, ℕ, ◌^◌, ◌<◌, ◌≤◌, ◌/�
 use Rattle.std.proofs.Common.{arith}
 use Rattle.std.specs.Prelude.{◌⊎◌, unsigned_abs, not, ◌==◌}
 use Rattle.std.proofs.lemmas.Int.{ints}
-use lib.IntN.{pos, ℤ}
+use lib.IntN.{pos}
 use lib.Signed.{◌≤ℤ◌}
 use Rattle.mc_fields.specs.declared.position.Spot.{Spot}
 use Rattle.mc_slots.specs.Pile.{IsItem}

@@ -1,51 +1,68 @@
--- Whatever a player does takes the game onward: the one law by packets.
-use Rattle.std.proofs.Common.{◌≡◌, ℕ, Option, Some, None, refl, subst}
-use Rattle.std.specs.Option.{option_and_then}
-use Rattle.std.specs.FinMap.{get}
-use Rattle.mc_fields.specs.declared.position.Spot.{Spot}
+-- Whatever a player does takes the game onward, and leaves it good: by deeds.
+use Rattle.std.proofs.Common.{◌≡◌, ℕ, List, [], ◌∷◌, Some, refl, sym, subst}
 use Rattle.mc_up.specs.declared.play_up.PlayUp.{PlayUp}
-use Rattle.mc_up.specs.declared.play_up.PlayUp.TheVariants.{Chat, Position, Look, PositionLook}
-use Rattle.mc_up.specs.declared.play_up.PlayUp.TheVariants.{Held, Settings, Digging, Placement}
-use Rattle.mc_up.specs.declared.play_up.PlayUp.TheVariants.{Creative}
 use Rattle.mc_model.specs.declared.player.Player.{Player}
-use Rattle.mc_model.specs.Chat.{line_of}
-use Rattle.mc_model.specs.Movement.{moved, turned}
-use Rattle.mc_model.specs.Notes.{again}
-use Rattle.mc_model.specs.Game.{Game, spot_of}
-use Rattle.mc_model.specs.Acts.{act, act_by, act_of}
-use Rattle.mc_model.proofs.Maps.Options.{some_is}
-use Rattle.mc_laws.proofs.Deeds.Onwards.{Onward, nothing_on, noting_on, said_on, with_player_on}
-use Rattle.mc_laws.proofs.Acts.Topics.{arrive_on, digging_on, place_on_on, take_up_on}
+use Rattle.mc_model.specs.Game.{Game}
+use Rattle.mc_model.specs.Acts.{act}
+use Rattle.mc_model.specs.Good.{Good}
+use Rattle.mc_laws.proofs.Deeds.Coming.{spawned_good}
+use Rattle.mc_laws.proofs.Deeds.Goods.{rehand_good, repack_good, stand_good, with_player_good}
+use Rattle.mc_laws.proofs.Deeds.Onwards.{Onward, nothing_on, noting_on, rehand_on, repack_on}
+use Rattle.mc_laws.proofs.Deeds.Onwards.{said_on, so, stand_on, thrown_on, with_player_on}
+use Rattle.mc_laws.proofs.Deeds.Onwards.{with_state_on}
+use Rattle.mc_laws.proofs.Deeds.Made.{AreDeeds, Deed, notes, rehands, repacks, says, sets, stands}
+use Rattle.mc_laws.proofs.Deeds.Made.{throws, views}
+use Rattle.mc_laws.proofs.Acts.ActMade.{act_made}
 
-done : (k : ℕ) (g u v : Game) → Some u ≡ Some v → Onward k g u → Onward k g v
-done k g u v e on = subst (λ (x : Game). Onward k g x) (some_is u v e) on
+module _ (G T H : Type 0) (k : ℕ) where
+  deed_on : (g v : Game) → Deed G T H k g v → Onward k g v
+  deed_on g v (notes f same) = subst (Onward k g) (sym same) (noting_on f k g)
+  deed_on g v (views view same) = subst (Onward k g) (sym same)
+      (with_player_on k (λ (q : Player). record q { view_byte = view }) g (λ q. refl))
+  deed_on g v (repacks p pack there is same) =
+      subst (Onward k g) (sym same) (repack_on k p pack g)
+  deed_on g v (rehands p hand there small same) =
+      subst (Onward k g) (sym same) (rehand_on k p hand g)
+  deed_on g v (stands p spot there fits same) =
+      subst (Onward k g) (sym same) (stand_on k p spot g)
+  deed_on g v (throws item spot can same) =
+      subst (Onward k g) (sym same) (thrown_on k item spot g)
+  deed_on g v (sets cell state inside is same) =
+      subst (Onward k g) (sym same) (with_state_on k cell state g)
+  deed_on g v (says line fits same) = subst (Onward k g) (sym same) (said_on k line g)
 
-act_of_on : (k : ℕ) (p : Player) (packet : PlayUp) (g v : Game) → get g.players k ≡ Some p →
-    act_of k p packet g ≡ Some v → Onward k g v
-act_of_on k p (Chat text) g v there e = done k g _ v e (said_on k (line_of p.name text) g)
-act_of_on k p (Position x y z on_ground) g v there e =
-    arrive_on k p (moved (spot_of g p) x y z) g v there e
-act_of_on k p (Look yaw pitch on_ground) g v there e =
-    arrive_on k p (turned (spot_of g p) yaw pitch) g v there e
-act_of_on k p (PositionLook x y z yaw pitch on_ground) g v there e =
-    arrive_on k p (option_and_then (λ (to : Spot). turned to yaw pitch)
-    (moved (spot_of g p) x y z)) g v there e
-act_of_on k p (Digging status cell face) g v there e =
-    done k g _ v e (digging_on k p status cell g there)
-act_of_on k p (Placement cell face item x y z) g v there e =
-    done k g _ v e (place_on_on k p cell face g there)
-act_of_on k p (Held place) g v there e = done k g _ v e (take_up_on k p place g there)
-act_of_on k p (Creative slot item) g v there e = done k g _ v e (noting_on again k g)
-act_of_on k p (Settings locale view chat_mode colours skin) g v there e =
-    done k g _ v e (with_player_on k (λ (q : Player). record q { view_byte = view }) g
-    (λ q. record { eid = refl; uuid = refl; name = refl; hand = refl }))
-act_of_on k p other g v there e = done k g _ v e (nothing_on k g)
+  deeds_on : (g : Game) (us : List Game) (v : Game) → AreDeeds G T H k g us v → Onward k g v
+  deeds_on g [] v are = subst (Onward k g) (sym are) (nothing_on k g)
+  deeds_on g (u ∷ us) v are = so k g u v (deed_on g u are.0) (deeds_on u us v are.1)
+
+  pub deed_good : (g v : Game) → Deed G T H k g v → G → Good g → Good v
+  deed_good g v (notes f same) given w = subst Good (sym same)
+      (with_player_good k (λ (p : Player). record p { notes = f p.notes }) g
+      (λ p. record { eid = refl; uuid = refl; name = refl; hand = refl }) w)
+  deed_good g v (views view same) given w = subst Good (sym same)
+      (with_player_good k (λ (q : Player). record q { view_byte = view }) g
+      (λ q. record { eid = refl; uuid = refl; name = refl; hand = refl }) w)
+  deed_good g v (repacks p pack there is same) given w =
+      subst Good (sym same) (repack_good k p g there w pack (is given))
+  deed_good g v (rehands p hand there small same) given w =
+      subst Good (sym same) (rehand_good k p g there w hand small)
+  deed_good g v (stands p spot there fits same) given w =
+      subst Good (sym same) (stand_good k p g there w spot)
+  deed_good g v (throws item spot can same) given w =
+      subst Good (sym same) (spawned_good _ spot g refl w)
+  deed_good g v (sets cell state inside is same) given w = subst Good (sym same) w
+  deed_good g v (says line fits same) given w = subst Good (sym same) w
+
+  deeds_good : (g : Game) (us : List Game) (v : Game) → AreDeeds G T H k g us v → G → Good g →
+      Good v
+  deeds_good g [] v are given w = subst Good (sym are) w
+  deeds_good g (u ∷ us) v are given w =
+      deeds_good u us v are.1 given (deed_good g u are.0 given w)
 
 pub act_on : (k : ℕ) (packet : PlayUp) (g v : Game) → act g k packet ≡ Some v → Onward k g v
-unfolding act
-act_on k packet g v e = step (get g.players k) refl e
-  where
-    step : (o : Option Player) → get g.players k ≡ o → act_by g k packet o ≡ Some v →
-        Onward k g v
-    step None there e = done k g g v e (nothing_on k g)
-    step (Some p) there e = act_of_on k p packet g v there e
+act_on k packet g v e = let made = act_made k packet g v e in
+    deeds_on _ _ _ k g made.games v made.deeds
+
+pub act_good : (k : ℕ) (packet : PlayUp) (g v : Game) → act g k packet ≡ Some v → Good g → Good v
+act_good k packet g v e w = let made = act_made k packet g v e in
+    deeds_good _ _ _ k g made.games v made.deeds w w

@@ -1,9 +1,9 @@
--- What a player that moves, digs, drops or places makes of a game, topic by topic: a chain of
--- deeds.
-use Rattle.std.proofs.Common.{◌≡◌, ℕ, ◌<◌, Bool, true, false, [], ◌∷◌, Option, Some, None, refl}
-use Rattle.std.proofs.Common.{subst}
-use Rattle.std.specs.Prelude.{not, min, nat_lt, if◌then◌else◌}
-use Rattle.std.proofs.lemmas.Bool.{ltb-true}
+-- Of which deeds it is made what a player does that moves, digs, drops or places, topic by topic.
+use Rattle.std.proofs.Common.{◌≡◌, ℕ, suc, ◌+◌, ◌*◌, ◌<◌, ◌≤◌, Bool, true, false, [], ◌∷◌, Option, Some}
+use Rattle.std.proofs.Common.{None, refl, subst, ap, arith}
+use Rattle.std.specs.Prelude.{◌&&◌, ◌==◌, not, min, nat_lt, unsigned_abs, if◌then◌else◌}
+use Rattle.std.proofs.lemmas.Bool.{and_parts, eqb-true, ltb-true}
+use Rattle.std.proofs.lemmas.Bool.Decides.{nat_tests}
 use Rattle.std.specs.Ordering.{int_eq}
 use Rattle.std.specs.FinMap.{get}
 use lib.IntN.{ℤ, pos, negsuc}
@@ -12,42 +12,47 @@ use Rattle.mc_fields.specs.declared.position.Spot.{Spot}
 use Rattle.mc_slots.specs.declared.pile.Item.{Item}
 use Rattle.mc_slots.specs.declared.pile.Pile.{Pile}
 use Rattle.mc_slots.specs.declared.pile.Pile.TheVariants.{Empty, Full}
-use Rattle.mc_slots.specs.Pile.{without}
+use Rattle.mc_slots.specs.Pile.{IsItem, IsPile, held, without}
 use Rattle.mc_land.specs.Land.{is_chest}
-use Rattle.mc_entities.specs.Shift.{is_inside}
+use Rattle.mc_windows.specs.Pack.{IsPack}
+use Rattle.mc_entities.specs.declared.entity.EntityKind.TheVariants as kinds
+use Rattle.mc_entities.specs.Folk.{dropped_in}
+use Rattle.mc_entities.specs.Shift.{is_between, is_inside}
 use Rattle.mc_model.specs.declared.player.Player.{Player}
-use Rattle.mc_model.specs.Digging.{block_item, floor_of, can_dig, digging, drop_held, dropped, dug}
-use Rattle.mc_model.specs.Digging.{feet_of}
+use Rattle.mc_model.specs.Balance.{one_of, sort_of}
+use Rattle.mc_model.specs.Digging.{block_item, can_dig, digging, drop_held, dropped, dug, feet_of}
+use Rattle.mc_model.specs.Digging.{floor_of, is_dug}
 use Rattle.mc_model.specs.Notes.{again, with_cells}
 use Rattle.mc_model.specs.Hands.{place_of_hotbar, carrying, take_up}
 use Rattle.mc_model.specs.Placing.{item_state, placing_refused, is_free, place_at, place_on, placed}
 use Rattle.mc_model.specs.Placing.{put_block}
-use Rattle.mc_model.specs.Reach.{at_face, is_in_reach}
+use Rattle.mc_model.specs.Reach.{at_face, is_in_world, is_near, is_in_reach}
 use Rattle.mc_model.specs.Spots.{spawn_spot}
-use Rattle.mc_model.specs.Game.{Game, held_by, room_in, state_in}
-use Rattle.mc_model.specs.Deeds.{with_state}
+use Rattle.mc_model.specs.Things.{in_hand, with_hand}
+use Rattle.mc_model.specs.Game.{Game, held_by, pack_of, room_in, spot_of, state_in}
+use Rattle.mc_model.specs.Deeds.{noting, stand_of, with_state}
+use Rattle.mc_model.specs.Good.{Good}
 use Rattle.mc_model.specs.Movement.{arrive, arrived, placed_again}
 use Rattle.mc_model.proofs.Maps.Options.{some_is}
-use Rattle.mc_laws.proofs.Deeds.Onwards.{Onward, carrying_on, either, nothing_on, noting_on}
-use Rattle.mc_laws.proofs.Deeds.Onwards.{rehand_on, so, stand_on, thrown_on, with_state_on}
-use Rattle.mc_laws.proofs.Deeds.Packs.{held_is_item, left_is_pile}
+use Rattle.mc_laws.proofs.Landings.{IsTurned}
+use Rattle.mc_laws.proofs.ThingsActs.{floor_fits, item_state_is}
+use Rattle.mc_laws.proofs.ThingsFit.{SpotFits, air, block_is_item, spawn_fits}
+use Rattle.mc_laws.proofs.Weighing.Stock.{pack_handed, parted}
+use Rattle.mc_laws.proofs.Weighing.Spending.{air_counts, dug_counts, placed_counts}
+use Rattle.mc_laws.proofs.Deeds.Packs.{hand_within, held_is_item, left_is_pile, named_is_pack}
+use Rattle.mc_laws.proofs.Deeds.Packs.{with_hand_is_pack}
+use Rattle.mc_laws.proofs.Deeds.Made.{Made, by_notes, either, notes, rehands, repacks, sets, stands}
+use Rattle.mc_laws.proofs.Deeds.Made.{throws, untouched}
+use Rattle.mc_laws.proofs.Fits.Told.{CanCome, Told, cell_told, dropped_held, spot_told}
 
--- ---- moving
+-- what is within a range is not large
+within_small : (low high : ℕ) (n : ℤ) → suc low ≤ high →
+    is_between (negsuc low) (pos high) n ≡ true → unsigned_abs n ≤ high
+within_small low high n le t = grind (arith, nat_tests)
 
-pub arrived_on : (k : ℕ) (p : Player) (g : Game) (spot : Spot) → get g.players k ≡ Some p →
-    Onward k g (arrived k p g spot)
-arrived_on k p g spot there = either k g _ _ (is_inside spot)
-    (λ t. stand_on k p spot g there)
-    (λ t. so k g _ _ (stand_on k p (spawn_spot g.settings.terrain) g there)
-    (noting_on placed_again k _))
-
-pub arrive_on : (k : ℕ) (p : Player) (spot : Option Spot) (g v : Game) →
-    get g.players k ≡ Some p → arrive k p spot g ≡ Some v → Onward k g v
-arrive_on k p None g v there e = absurd cc
-arrive_on k p (Some spot) g v there e =
-    subst (λ (u : Game). Onward k g u) (some_is _ v e) (arrived_on k p g spot there)
-
--- ---- hands
+-- a place in the range of players fits
+inside_fits : (spot : Spot) → IsTurned spot → is_inside spot ≡ true → SpotFits spot
+inside_fits spot is t = grind (arith, nat_tests, and_parts, within_small)
 
 hotbar : (place : ℤ) (hand : ℕ) → place_of_hotbar place ≡ Some hand → hand < 9
 hotbar (pos n) hand e = step (nat_lt n 9) refl e
@@ -57,71 +62,233 @@ hotbar (pos n) hand e = step (nat_lt n 9) refl e
     step false t e = absurd cc
 hotbar (negsuc n) hand e = absurd cc
 
-pub take_up_on : (k : ℕ) (p : Player) (place : ℤ) (g : Game) → get g.players k ≡ Some p →
-    Onward k g (take_up k p (place_of_hotbar place) g)
-take_up_on k p place g there = step (place_of_hotbar place) refl
-  where
-    step : (o : Option ℕ) → place_of_hotbar place ≡ o → Onward k g (take_up k p o g)
-    step None is = nothing_on k g
-    step (Some hand) is = rehand_on k p hand g there (hotbar place hand is)
+-- there is room for one more dropped item and one more number
+pub record HasRoom (g : Game) : Type 0 where
+  pub lying : dropped_in g.entities < 4096
+  pub given : g.eids < 2147483647
 
--- ---- digging and dropping
+-- as the test for it has it
+has_room : (g : Game) → nat_lt 0 (room_in g) ≡ true → HasRoom g
+has_room g test =
+    let some = ltb-true 0 (room_in g) test in
+    record { lying = omega (arith, some); given = omega (arith, some) }
 
-pub dug_on : (k : ℕ) (cell : Cell) (g : Game) → Onward k g (dug cell g)
-dug_on k cell g = so k g _ _ (with_state_on k cell 0 g)
-    (thrown_on k (block_item (state_in g cell)) (floor_of cell) (with_state cell 0 g))
+-- what a test for digging says
+record CanDig (p : Player) (cell : Cell) (g : Game) : Type 0 where
+  inside : is_in_world cell ≡ true
+  solid : is_dug (state_in g cell) ≡ true
+  room : HasRoom g
 
-pub dropped_on : (k : ℕ) (p : Player) (item : Item) (n : ℕ) (g : Game) →
-    get g.players k ≡ Some p → held_by g p ≡ Full item → Onward k g (dropped p item n g)
-dropped_on k p item n g there is = so k g _ _
-    (carrying_on k p (without (Full item) n) g there
-    (λ w. left_is_pile item n (held_is_item g p item is w)))
-    (thrown_on k (record item { count = n }) (feet_of p g) (carrying p (without (Full item) n) g))
+dig_tests : (p : Player) (cell : Cell) (g : Game) → can_dig p cell g ≡ true → CanDig p cell g
+dig_tests p cell g test =
+    let a = and_parts (is_in_reach g p cell)
+    (is_dug (state_in g cell) && nat_lt 0 (room_in g)) test in
+    let b = and_parts (is_dug (state_in g cell)) (nat_lt 0 (room_in g)) a.1 in
+    let c = and_parts (is_in_world cell) (is_near (spot_of g p) cell) a.0 in
+    record { inside = c.0; solid = b.0; room = has_room g b.1 }
 
-drop_on : (k : ℕ) (p : Player) (n : ℕ) (g : Game) → get g.players k ≡ Some p →
-    Onward k g (drop_held k p n (held_by g p) g)
-drop_on k p n g there = step (held_by g p) refl
-  where
-    step : (held : Pile) → held_by g p ≡ held → Onward k g (drop_held k p n held g)
-    step Empty is = nothing_on k g
-    step (Full item) is = either k g _ _ (nat_lt 0 (room_in g))
-        (λ t. dropped_on k p item (min n item.count) g there is)
-        (λ t. noting_on again k g)
+module _ (H : Type 0) (k : ℕ) (p : Player) (g : Game) (there : get g.players k ≡ Some p) where
+  -- what is made of the game, which may be good and such that packets can tell it
+  abbrev Makes : Game → Type 0
+  Makes v = Made (Good g) (Good g × Told g) H k g v
 
-pub digging_on : (k : ℕ) (p : Player) (status : ℤ) (cell : Cell) (g : Game) →
-    get g.players k ≡ Some p → Onward k g (digging k p status cell g)
-digging_on k p status cell g there = either k g _ _ (int_eq status (pos 2))
-    (λ t. either k g _ _ (can_dig p cell g) (λ t. dug_on k cell g)
-    (λ t. noting_on (with_cells (cell ∷ [])) k g))
-    (λ t. either k g _ _ (int_eq status (pos 3)) (λ t. drop_on k p 64 g there)
-    (λ t. either k g _ _ (int_eq status (pos 4)) (λ t. drop_on k p 1 g there)
-    (λ t. nothing_on k g)))
+  abbrev stays : Makes g
+  stays = untouched (Good g) (Good g × Told g) H k g
 
--- ---- placing
+  abbrev by_test : (v u : Game) (b : Bool) → (b ≡ true → Makes v) → (b ≡ false → Makes u) →
+      Makes (if b then v else u)
+  by_test v u b first second = either (Good g) (Good g × Told g) H k g v u b first second
 
-pub placed_on : (k : ℕ) (p : Player) (target : Cell) (item : Item) (g : Game) →
-    get g.players k ≡ Some p → held_by g p ≡ Full item → Onward k g (placed p target item g)
-placed_on k p target item g there is = so k g _ _ (with_state_on k target (item_state item) g)
-    (carrying_on k p (without (Full item) 1) (with_state target (item_state item) g) there
-    (λ w. left_is_pile item 1 (held_is_item g p item is w)))
+  -- ---- moving
 
-put_on : (k : ℕ) (p : Player) (cell target : Cell) (g : Game) → get g.players k ≡ Some p →
-    Onward k g (put_block k p cell target (held_by g p) g)
-put_on k p cell target g there = step (held_by g p) refl
-  where
-    step : (held : Pile) → held_by g p ≡ held → Onward k g (put_block k p cell target held g)
-    step Empty is = noting_on (placing_refused cell target) k g
-    step (Full item) is = either k g _ _ (is_free g target)
-        (λ t. placed_on k p target item g there is)
-        (λ t. noting_on (placing_refused cell target) k g)
+  arrived_made : (spot : Spot) → (Told g → IsTurned spot) → Makes (arrived k p g spot)
+  arrived_made spot turns = by_test _ _ (is_inside spot)
+      (λ inside. record {
+        games = stand_of p spot g ∷ [];
+        deeds = (stands p spot there (λ t. inside_fits spot (turns t.1) inside) refl, refl);
+        even = λ w id damage some low. refl;
+      })
+      (λ outside. record {
+        games = stand_of p enters g ∷ noting placed_again k (stand_of p enters g) ∷ [];
+        deeds = (
+          stands p enters there (λ t. spawn_fits g.settings.terrain) refl,
+          (notes placed_again refl, refl),
+        );
+        even = λ w id damage some low. refl;
+      })
+    where
+      enters : Spot
+      enters = spawn_spot g.settings.terrain
 
-pub place_on_on : (k : ℕ) (p : Player) (cell : Cell) (face : ℤ) (g : Game) →
-    get g.players k ≡ Some p → Onward k g (place_on k p cell face g)
-place_on_on k p cell face g there = step (at_face cell face)
-  where
-    step : (target : Option Cell) → Onward k g (place_at k p cell target g)
-    step None = nothing_on k g
-    step (Some target) = either k g _ _ (not (is_in_reach g p cell))
-        (λ t. noting_on (placing_refused cell target) k g)
-        (λ t. either k g _ _ (is_chest (state_in g cell)) (λ t. nothing_on k g)
-        (λ t. put_on k p cell target g there))
+  pub arrive_made : (spot : Option Spot) (v : Game) →
+      (Told g → (to : Spot) → spot ≡ Some to → IsTurned to) → arrive k p spot g ≡ Some v → Makes v
+  arrive_made None v turns e = absurd cc
+  arrive_made (Some spot) v turns e =
+      subst Makes (some_is _ v e) (arrived_made spot (λ t. turns t spot refl))
+
+  -- ---- hands
+
+  pub take_up_made : (place : ℤ) → Makes (take_up k p (place_of_hotbar place) g)
+  take_up_made place = step (place_of_hotbar place) refl
+    where
+      step : (o : Option ℕ) → place_of_hotbar place ≡ o → Makes (take_up k p o g)
+      step None is = stays
+      step (Some hand) is = record {
+        games = take_up k p (Some hand) g ∷ [];
+        deeds = (rehands p hand there (hotbar place hand is) refl, refl);
+        even = λ w id damage some low. refl;
+      }
+
+  -- its pack with another pile in the hand is one
+  handed_pack : (pile : Pile) → (Good g → IsPile pile) → Good g →
+      IsPack (with_hand pile p.hand (pack_of g p)).slots (with_hand pile p.hand (pack_of g p)).cursor
+  handed_pack pile is w =
+      with_hand_is_pack pile p.hand (pack_of g p) (is w) (named_is_pack g p.name w)
+
+  -- ---- digging and dropping
+
+  dug_made : (cell : Cell) → can_dig p cell g ≡ true → Makes (dug cell g)
+  dug_made cell test = record {
+    games = with_state cell 0 g ∷ dug cell g ∷ [];
+    deeds = (
+      sets cell 0 can.inside (λ t. air) refl,
+      (
+        throws (block_item (state_in g cell)) (floor_of cell) (λ t. (let room = can.room in
+            let lying = room.lying in record {
+              kind_is = block_is_item (state_in g cell) (cell_told g cell t.1) can.solid;
+              named = tt;
+              place = floor_fits cell can.inside;
+              room = omega (arith, lying);
+              given = room.given;
+            })) refl,
+        refl,
+      ),
+    );
+    even = λ w id damage some low. (let one = dug_counts id damage (state_in g cell) low in
+        let none = air_counts id damage some in omega (arith, one, none));
+  }
+    where
+      can : CanDig p cell g
+      can = dig_tests p cell g test
+
+  dropped_made : (item : Item) (n : ℕ) → (IsItem item → 1 ≤ n) → n ≤ item.count → held_by g p ≡ Full item →
+      HasRoom g → Makes (dropped p item n g)
+  dropped_made item n some few is room = record {
+    games = carrying p left g ∷ dropped p item n g ∷ [];
+    deeds = (
+      repacks p (with_hand left p.hand (pack_of g p)) there (handed_pack left
+          (λ w. left_is_pile item n (held_is_item g p item is w))) refl,
+      (throws (record item { count = n }) (feet_of p g) can refl, refl),
+    );
+    even = λ w id damage one low. (let sort = sort_of id damage in
+        let parts = parted sort item n few in
+        let held_is = ap (held sort) is in
+        let handed = pack_handed sort left p.hand (pack_of g p) (hand_within k p g there w) in
+        omega (arith, parts, held_is, handed));
+  }
+    where
+      left : Pile
+      left = without (Full item) n
+
+      can : Good g × Told g →
+          CanCome (kinds.Dropped (record item { count = n }) g.age) (feet_of p g)
+          (carrying p left g).entities g.eids
+      can t =
+          let it = held_is_item g p item is t.0 in
+          let at = spot_told g p t.1 in
+          let same = dropped_held p.eid (in_hand (with_hand left p.hand (pack_of g p)) p.hand)
+          g.entities in
+          let lying = room.lying in
+          let high = it.count.1 in
+          record {
+            kind_is = record {
+              id = it.id;
+              damage = it.damage;
+              count = (some it, omega (arith, high, few));
+            };
+            named = tt;
+            place = record {
+              x = at.x;
+              y = at.y;
+              z = at.z;
+              yaw = omega arith;
+              pitch = omega arith;
+            };
+            room = omega (arith, lying, same);
+            given = room.given;
+          }
+
+  drop_made : (n : ℕ) → 1 ≤ n → Makes (drop_held k p n (held_by g p) g)
+  drop_made n some = step (held_by g p) refl
+    where
+      taken : (item : Item) → IsItem item → 1 ≤ min n item.count
+      taken item it = let low = it.count.0 in omega (arith, some, low)
+
+      step : (held : Pile) → held_by g p ≡ held → Makes (drop_held k p n held g)
+      step Empty is = stays
+      step (Full item) is = by_test _ _ (nat_lt 0 (room_in g))
+          (λ test. dropped_made item (min n item.count) (taken item) (omega arith) is
+          (has_room g test))
+          (λ full. by_notes (Good g) (Good g × Told g) H k again g)
+
+  pub digging_made : (status : ℤ) (cell : Cell) → Makes (digging k p status cell g)
+  digging_made status cell = by_test _ _ (int_eq status (pos 2))
+      (λ digs. by_test _ _ (can_dig p cell g) (λ can. dug_made cell can)
+      (λ far. by_notes (Good g) (Good g × Told g) H k (with_cells (cell ∷ [])) g))
+      (λ not_2. by_test _ _ (int_eq status (pos 3)) (λ all. drop_made 64 (omega arith))
+      (λ not_3. by_test _ _ (int_eq status (pos 4)) (λ one. drop_made 1 (omega arith))
+      (λ other. stays)))
+
+  -- ---- placing
+
+  refused : (cell target : Cell) → Makes (noting (placing_refused cell target) k g)
+  refused cell target =
+      by_notes (Good g) (Good g × Told g) H k (placing_refused cell target) g
+
+  placed_made : (target : Cell) (item : Item) → held_by g p ≡ Full item →
+      is_free g target ≡ true → Makes (placed p target item g)
+  placed_made target item is free = record {
+    games = with_state target (item_state item) g ∷ placed p target item g ∷ [];
+    deeds = (
+      sets target (item_state item) test.0
+          (λ t. item_state_is item (held_is_item g p item is t.0)) refl,
+      (
+        repacks p (with_hand left p.hand (pack_of g p)) there
+            (handed_pack left (λ w. left_is_pile item 1 (held_is_item g p item is w))) refl,
+        refl,
+      ),
+    );
+    even = λ w id damage some low. (let sort = sort_of id damage in
+        let it = held_is_item g p item is w in
+        let parts = parted sort item 1 it.count.0 in
+        let held_is = ap (held sort) is in
+        let made = placed_counts id damage item low it in
+        let was = ap (one_of (16 * id + damage)) (eqb-true (state_in g target) 0 test.1) in
+        let none = air_counts id damage some in
+        let handed = pack_handed sort left p.hand (pack_of g p) (hand_within k p g there w) in
+        omega (arith, parts, held_is, made, was, none, handed));
+  }
+    where
+      left : Pile
+      left = without (Full item) 1
+
+      test : (is_in_world target ≡ true) × ((state_in g target == 0) ≡ true)
+      test = and_parts (is_in_world target) (state_in g target == 0) free
+
+  put_made : (cell target : Cell) → Makes (put_block k p cell target (held_by g p) g)
+  put_made cell target = step (held_by g p) refl
+    where
+      step : (held : Pile) → held_by g p ≡ held → Makes (put_block k p cell target held g)
+      step Empty is = refused cell target
+      step (Full item) is = by_test _ _ (is_free g target)
+          (λ free. placed_made target item is free) (λ taken. refused cell target)
+
+  pub place_made : (cell : Cell) (face : ℤ) → Makes (place_on k p cell face g)
+  place_made cell face = step (at_face cell face)
+    where
+      step : (target : Option Cell) → Makes (place_at k p cell target g)
+      step None = stays
+      step (Some target) = by_test _ _ (not (is_in_reach g p cell))
+          (λ far. refused cell target)
+          (λ near. by_test _ _ (is_chest (state_in g cell)) (λ chest. stays)
+          (λ other. put_made cell target))

@@ -1,6 +1,6 @@
 -- A pack of which what is in the hand is another pile is one of what the world holds.
-use Rattle.std.proofs.Common.{◌≡◌, ℕ, zero, suc, ◌+◌, ◌-◌, ◌≤◌, List, [], ◌∷◌, refl, ◌∙◌, arith}
-use Rattle.std.proofs.Common.{subst, Some, None}
+use Rattle.std.proofs.Common.{◌≡◌, ℕ, zero, suc, ◌+◌, ◌-◌, ◌<◌, ◌≤◌, List, [], ◌∷◌, refl, ◌∙◌}
+use Rattle.std.proofs.Common.{ap, arith, length, subst, Option, Some, None}
 use Rattle.std.specs.Prelude.{slice_set, unwrap_or}
 use Rattle.std.proofs.lemmas.List.{length-set}
 use Rattle.std.specs.FinMap.{get}
@@ -13,7 +13,7 @@ use Rattle.mc_windows.specs.Pack.{PackValue, IsPack, kit_pack}
 use Rattle.mc_windows.proofs.FirstPack.{kit_is_pack}
 use Rattle.mc_model.specs.declared.player.Player.{Player}
 use Rattle.mc_model.specs.Things.{with_hand}
-use Rattle.mc_model.specs.Game.{Game, held_by, pack_named}
+use Rattle.mc_model.specs.Game.{Game, held_by, pack_named, pack_of}
 use Rattle.mc_model.specs.Good.{Good}
 
 -- piles of which one is another pile
@@ -64,3 +64,14 @@ held_is_pile g p w = (named_is_pack g p.name w).are_piles (27 + p.hand)
 pub held_is_item : (g : Game) (p : Player) (item : Item) → held_by g p ≡ Full item → Good g →
     IsItem item
 held_is_item g p item is w = subst IsPile is (held_is_pile g p w)
+
+-- its hand is on a place of its pack
+pub hand_within : (k : ℕ) (p : Player) (g : Game) → get g.players k ≡ Some p → Good g →
+    27 + p.hand < length (pack_of g p).slots
+hand_within k p g there w =
+    let o = w.own k p there in
+    let is = ap (λ (x : Option PackValue). unwrap_or x kit_pack) o.carries in
+    let size = ap (λ (x : PackValue). length x.slots) is
+    ∙ (w.piles p.name o.pack o.carries).size in
+    let small = o.hand in
+    omega (arith, size, small)

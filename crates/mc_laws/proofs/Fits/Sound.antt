@@ -2,48 +2,32 @@
 -- after a tick.
 use Rattle.std.proofs.Common.{◌≡◌, ◌≢◌, ℕ, ◌+◌, ◌<◌, ◌≤◌, true, List, [], ◌∷◌, map, Option, Some}
 use Rattle.std.proofs.Common.{None, refl, sym, subst, ap, ◌∙◌, inl, inr, length, arith}
-use Rattle.std.specs.Prelude.{Bool, false, not, nat_lt, option_map, if◌then◌else◌}
+use Rattle.std.specs.Prelude.{Bool, false, not, option_map, if◌then◌else◌}
 use Rattle.std.specs.List.{AllByRecursion}
-use Rattle.std.specs.Option.{option_and_then}
 use Rattle.std.specs.Cmp.{nat_cmp_total}
-use Rattle.std.specs.Ordering.{nat_cmp, int_eq}
+use Rattle.std.specs.Ordering.{nat_cmp}
 use Rattle.std.specs.FinMap.{entries, get, get-empty, len, len-empty, len-entries, len-insert}
 use Rattle.std.specs.FinMap.{len-remove}
 use Rattle.std.proofs.lemmas.Bool.{cases_eq, ltb-true}
 use Rattle.std.proofs.lemmas.Bool.Decides.{nat_tests}
 use Rattle.std.proofs.lemmas.List.{length-map}
-use Rattle.std.proofs.lemmas.Str.{IsUtf8-from_ascii}
-use lib.IntN.{ℤ, pos}
-use Rattle.mc_fields.specs.declared.position.Cell.{Cell}
-use Rattle.mc_fields.specs.declared.position.Spot.{Spot}
-use Rattle.mc_slots.specs.declared.pile.Pile.{Pile}
-use Rattle.mc_slots.specs.declared.pile.Pile.TheVariants.{Empty, Full}
+use lib.IntN.{ℤ}
 use Rattle.mc_up.specs.declared.play_up.PlayUp.{PlayUp}
-use Rattle.mc_up.specs.declared.play_up.PlayUp.TheVariants.{Chat, Position, Look, PositionLook}
-use Rattle.mc_up.specs.declared.play_up.PlayUp.TheVariants.{Held, Settings, Digging, Placement}
-use Rattle.mc_up.specs.declared.play_up.PlayUp.TheVariants.{Creative}
 use Rattle.mc_up.specs.PlayUp.{FitsPlayUp}
-use Rattle.mc_land.specs.Land.{is_chest}
 use Rattle.mc_model.specs.declared.cause.Refusal.{Refusal}
 use Rattle.mc_model.specs.declared.player.Player.{Player}
 use Rattle.mc_model.specs.declared.settings.Settings.{Settings as Begun}
-use Rattle.mc_model.specs.Reach.{at_face, is_in_reach}
-use Rattle.mc_model.specs.Chat.{line_of}
-use Rattle.mc_model.specs.Movement.{moved, turned, arrive, arrived}
 use Rattle.mc_model.specs.Names.{is_name, offline_uuid}
-use Rattle.mc_model.specs.Hands.{place_of_hotbar, take_up}
-use Rattle.mc_model.specs.Game.{AreSettings, Game, held_by, new_game, room_in, spot_of, state_in}
+use Rattle.mc_model.specs.Game.{AreSettings, Game, new_game}
 use Rattle.mc_model.specs.Maps.{map_keyed}
 use Rattle.mc_model.specs.Deeds.{enter_as, new_player}
 use Rattle.mc_model.specs.Leaving.{leave, leave_all}
-use Rattle.mc_model.specs.Digging.{can_dig, digging, drop_held}
-use Rattle.mc_model.specs.Placing.{is_free, place_at, place_on, put_block}
-use Rattle.mc_model.specs.Acts.{act, act_by, act_of}
+use Rattle.mc_model.specs.Acts.{act}
 use Rattle.mc_model.specs.Tick.{grown, told, told_player}
 use Rattle.mc_model.specs.Step.{refusal}
 use Rattle.mc_model.specs.Good.{Good}
 use Rattle.mc_model.proofs.AllFacts.{all_joined}
-use Rattle.mc_model.proofs.FitsChat.{LineFits, line_clear}
+use Rattle.mc_model.proofs.FitsChat.{LineFits}
 use Rattle.mc_model.proofs.FitsText.{IsShort, both_true, name_short}
 use Rattle.mc_model.proofs.Maps.Options.{none_some, some_is}
 use Rattle.mc_model.proofs.Maps.Lookups.{put_other, put_same}
@@ -51,7 +35,10 @@ use Rattle.mc_laws.proofs.Deeds.Coming.{enter_good}
 use Rattle.mc_laws.proofs.Deeds.Leaving.{leave_cases, leave_good, leave_other, leave_same}
 use Rattle.mc_laws.proofs.Deeds.Leaving.{leave_stays}
 use Rattle.mc_laws.proofs.Deeds.Onwards.{name_of}
-use Rattle.mc_laws.proofs.Acts.ActOn.{act_on}
+use Rattle.mc_laws.proofs.Deeds.Made.{AreDeeds, Deed, notes, rehands, repacks, says, sets, stands}
+use Rattle.mc_laws.proofs.Deeds.Made.{throws, views}
+use Rattle.mc_laws.proofs.Acts.ActMade.{act_made}
+use Rattle.mc_laws.proofs.Acts.ActOn.{act_good, act_on}
 use Rattle.mc_laws.proofs.Walk.Each.{told_good, told_players}
 use Rattle.mc_laws.proofs.Fits.Told.{new_told}
 use Rattle.mc_laws.proofs.Fits.Acts.{act_tells, enter_tells, leave_told}
@@ -59,94 +46,31 @@ use Rattle.mc_laws.proofs.Fits.Clear.{SoundGame, few_entries}
 
 -- ---- what is said
 
--- what a player does says nothing, but for what it says
-arrive_mute : (k : ℕ) (p : Player) (spot : Option Spot) (g v : Game) →
-    arrive k p spot g ≡ Some v → v.lines ≡ g.lines
-arrive_mute k p None g v e = absurd cc
-arrive_mute k p (Some spot) g v e =
-    ap (λ (u : Game). u.lines) (sym (some_is (arrived k p g spot) v e)) ∙ grind (arith, nat_tests)
-
-take_up_mute : (k : ℕ) (p : Player) (o : Option ℕ) (g : Game) →
-    (take_up k p o g).lines ≡ g.lines
-take_up_mute k p None g = refl
-take_up_mute k p (Some hand) g = refl
-
--- by a test, or by what is in a hand
-either_mute : (g v u : Game) (b : Bool) → v.lines ≡ g.lines → u.lines ≡ g.lines →
-    (if b then v else u).lines ≡ g.lines
-either_mute g v u true first second = first
-either_mute g v u false first second = second
-
-drop_mute : (k : ℕ) (p : Player) (n : ℕ) (held : Pile) (g : Game) →
-    (drop_held k p n held g).lines ≡ g.lines
-drop_mute k p n Empty g = refl
-drop_mute k p n (Full item) g = either_mute g _ _ (nat_lt 0 (room_in g)) refl refl
-
-digging_mute : (k : ℕ) (p : Player) (status : ℤ) (cell : Cell) (g : Game) →
-    (digging k p status cell g).lines ≡ g.lines
-digging_mute k p status cell g = either_mute g _ _ (int_eq status (pos 2))
-    (either_mute g _ _ (can_dig p cell g) refl refl)
-    (either_mute g _ _ (int_eq status (pos 3)) (drop_mute k p 64 (held_by g p) g)
-    (either_mute g _ _ (int_eq status (pos 4)) (drop_mute k p 1 (held_by g p) g) refl))
-
-put_mute : (k : ℕ) (p : Player) (cell target : Cell) (held : Pile) (g : Game) →
-    (put_block k p cell target held g).lines ≡ g.lines
-put_mute k p cell target Empty g = refl
-put_mute k p cell target (Full item) g = either_mute g _ _ (is_free g target) refl refl
-
-place_mute : (k : ℕ) (p : Player) (cell : Cell) (face : ℤ) (g : Game) →
-    (place_on k p cell face g).lines ≡ g.lines
-place_mute k p cell face g = step (at_face cell face)
-  where
-    step : (target : Option Cell) → (place_at k p cell target g).lines ≡ g.lines
-    step None = refl
-    step (Some target) = either_mute g _ _ (not (is_in_reach g p cell)) refl
-        (either_mute g _ _ (is_chest (state_in g cell)) refl
-        (put_mute k p cell target (held_by g p) g))
-
 -- all that was said can be told
 abbrev AllSaid : Game → Type 0
 AllSaid g = AllByRecursion LineFits g.lines
 
-muted : (g u v : Game) → u.lines ≡ g.lines → Some u ≡ Some v → AllSaid g → AllSaid v
-muted g u v same e heard = subst (λ (lines : List (List ℕ)). AllByRecursion LineFits lines)
-    (sym same ∙ ap (λ (x : Game). x.lines) (some_is u v e)) heard
+module _ (G T H : Type 0) (k : ℕ) (heard : H) where
+  deed_said : (g v : Game) → Deed G T H k g v → AllSaid g → AllSaid v
+  deed_said g v (notes f same) said = subst AllSaid (sym same) said
+  deed_said g v (views view same) said = subst AllSaid (sym same) said
+  deed_said g v (repacks p pack there is same) said = subst AllSaid (sym same) said
+  deed_said g v (rehands p hand there small same) said = subst AllSaid (sym same) said
+  deed_said g v (stands p spot there fits same) said = subst AllSaid (sym same) said
+  deed_said g v (throws item spot can same) said = subst AllSaid (sym same) said
+  deed_said g v (sets cell state inside is same) said = subst AllSaid (sym same) said
+  deed_said g v (says line fits same) said = subst AllSaid (sym same)
+      (all_joined LineFits g.lines (line ∷ []) said (fits heard, tt))
 
-act_of_lines : (k : ℕ) (p : Player) (packet : PlayUp) (g v : Game) → IsShort 16 p.name →
-    FitsPlayUp packet → act_of k p packet g ≡ Some v → AllSaid g → AllSaid v
-act_of_lines k p (Chat text) g v name fits e heard =
-    let line : LineFits (line_of p.name text) =
-    line_clear p.name text (IsUtf8-from_ascii p.name name.ascii) fits.1.fits.utf8
-    (omega (arith, name.few)) (omega (arith, fits.1.fits.few_bytes)) in
-    subst AllSaid (some_is _ v e)
-    (all_joined LineFits g.lines (line_of p.name text ∷ []) heard (line, tt))
-act_of_lines k p (Position x y z on_ground) g v name fits e heard =
-    muted g v v (arrive_mute k p (moved (spot_of g p) x y z) g v e) refl heard
-act_of_lines k p (Look yaw pitch on_ground) g v name fits e heard =
-    muted g v v (arrive_mute k p (turned (spot_of g p) yaw pitch) g v e) refl heard
-act_of_lines k p (PositionLook x y z yaw pitch on_ground) g v name fits e heard =
-    muted g v v (arrive_mute k p (option_and_then (λ (to : Spot). turned to yaw pitch)
-    (moved (spot_of g p) x y z)) g v e) refl heard
-act_of_lines k p (Digging status cell face) g v name fits e heard =
-    muted g _ v (digging_mute k p status cell g) e heard
-act_of_lines k p (Placement cell face item x y z) g v name fits e heard =
-    muted g _ v (place_mute k p cell face g) e heard
-act_of_lines k p (Held place) g v name fits e heard =
-    muted g _ v (take_up_mute k p (place_of_hotbar place) g) e heard
-act_of_lines k p (Creative slot item) g v name fits e heard = muted g _ v refl e heard
-act_of_lines k p (Settings locale view chat_mode colours skin) g v name fits e heard =
-    muted g _ v refl e heard
-act_of_lines k p other g v name fits e heard = muted g _ v refl e heard
+  deeds_said : (g : Game) (us : List Game) (v : Game) → AreDeeds G T H k g us v → AllSaid g →
+      AllSaid v
+  deeds_said g [] v are said = subst AllSaid (sym are) said
+  deeds_said g (u ∷ us) v are said = deeds_said u us v are.1 (deed_said g u are.0 said)
 
 act_lines : (k : ℕ) (packet : PlayUp) (g v : Game) → SoundGame g → FitsPlayUp packet →
     act g k packet ≡ Some v → AllSaid v
-unfolding act
-act_lines k packet g v sound fits e = step (get g.players k) refl e
-  where
-    step : (o : Option Player) → get g.players k ≡ o → act_by g k packet o ≡ Some v → AllSaid v
-    step None there e = muted g g v refl e sound.lines
-    step (Some p) there e =
-        act_of_lines k p packet g v (sound.named k p there) fits e sound.lines
+act_lines k packet g v sound fits e = let made = act_made k packet g v e in
+    deeds_said _ _ _ k (sound.named k, fits) g made.games v made.deeds sound.lines
 
 -- ---- acts
 
@@ -163,7 +87,7 @@ pub act_sound : (k : ℕ) (packet : PlayUp) (g v : Game) → FitsPlayUp packet �
 act_sound k packet g v fits e sound =
     let on = act_on k packet g v e in
     record {
-      good = on.good sound.good;
+      good = act_good k packet g v e sound.good;
       told = act_tells k packet g v e sound.good sound.told;
       settings = subst (λ (s : Begun). AreSettings s.players s.cap) (sym on.settings)
           sound.settings;

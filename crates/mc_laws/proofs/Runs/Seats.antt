@@ -26,7 +26,7 @@ use Rattle.mc_model.specs.Apart.{traits_of}
 use Rattle.mc_model.proofs.Maps.Lookups.{any_found, put_other, put_same}
 use Rattle.mc_laws.proofs.Deeds.Coming.{enter_good}
 use Rattle.mc_laws.proofs.Deeds.Leaving.{leave_good, leave_other, leave_same, leave_stays}
-use Rattle.mc_laws.proofs.Acts.ActOn.{act_on}
+use Rattle.mc_laws.proofs.Acts.ActOn.{act_good, act_on}
 use Rattle.mc_laws.proofs.Walk.Handings.{gone_closed, hand_cases, heard_stage, not_in_play}
 use Rattle.mc_laws.proofs.Walk.Moves.{Kept, keeps, does, shakes, answers, closes, comes_in}
 
@@ -138,7 +138,7 @@ seat_kept k before s t ps (keeps unread is) a =
 seat_kept k before s t ps (does packet g at did is) a =
     let on = act_on k packet s.game g did in
     subst (λ (x : Turn). GoodSeat k before x.seat) (sym is) (record {
-      game = on.good a.game;
+      game = act_good k packet s.game g did a.game;
       plays = on.keys k ∙ a.plays ∙ ap is_play (sym (heard_stage packet s.link));
       others = stay_on k before s.game g a.others
           (record { traits = on.traits; settings = on.settings; more = on.more });

@@ -1,6 +1,6 @@
 -- How many items of a sort each deed spends and gains.
-use Rattle.std.proofs.Common.{◌≡◌, ℕ, ◌+◌, ◌*◌, ◌<◌, ◌≤◌, Bool, true, false, cond, not, List, []}
-use Rattle.std.proofs.Common.{◌∷◌, Option, Some, None, refl, ap, ◌∙◌, arith, length}
+use Rattle.std.proofs.Common.{◌≡◌, ℕ, ◌+◌, ◌*◌, ◌≤◌, Bool, true, false, cond, not, List, []}
+use Rattle.std.proofs.Common.{◌∷◌, Option, Some, None, refl, ap, ◌∙◌, arith}
 use Rattle.std.specs.Prelude.{◌≤ℤ◌, is_some, option_map, unsigned_abs, unwrap_or}
 use Rattle.std.specs.Prelude.{if◌then◌else◌}
 use Rattle.std.proofs.lemmas.Bool.Decides.{nat_tests, Decides-int_eq}
@@ -13,7 +13,6 @@ use lib.IntN.{ℤ, pos}
 use Rattle.mc_fields.specs.declared.position.Cell.{Cell}
 use Rattle.mc_fields.specs.declared.position.Spot.{Spot}
 use Rattle.mc_slots.specs.declared.pile.Item.{Item}
-use Rattle.mc_slots.specs.declared.pile.Pile.{Pile}
 use Rattle.mc_slots.specs.declared.pile.Pile.TheVariants.{Full}
 use Rattle.mc_slots.specs.Pile.{IsItem, Sort, held}
 use Rattle.mc_land.specs.Places.{key_of}
@@ -33,16 +32,16 @@ use Rattle.mc_model.specs.Digging.{block_item}
 use Rattle.mc_model.specs.Names.{offline_uuid}
 use Rattle.mc_model.specs.Placing.{item_state}
 use Rattle.mc_model.specs.Reach.{is_in_world}
-use Rattle.mc_model.specs.Things.{holding, in_hand, standing, with_hand}
+use Rattle.mc_model.specs.Things.{holding, in_hand, standing}
 use Rattle.mc_model.specs.Spots.{spawn_spot}
 use Rattle.mc_model.specs.Maps.{modify, with_value}
-use Rattle.mc_model.specs.Game.{Game, held_by, pack_named, pack_of, state_in}
-use Rattle.mc_model.specs.Deeds.{enter_as, go_of, rehand_of, stand_of, thrown, with_state}
-use Rattle.mc_model.specs.Hands.{carrying}
+use Rattle.mc_model.specs.Game.{Game, pack_named, pack_of, state_in}
+use Rattle.mc_model.specs.Deeds.{enter_as, go_of, rehand_of, repack_of, stand_of, thrown}
+use Rattle.mc_model.specs.Deeds.{with_state}
 use Rattle.mc_model.specs.Good.{Good, IsOwn, is_body}
 use Rattle.mc_model.proofs.Maps.Lookups.{names_apart}
 use Rattle.mc_laws.proofs.Weighing.Cells.{edited_counts, sum_inserted}
-use Rattle.mc_laws.proofs.Weighing.Stock.{entities_changed, entities_more, hand_lies, pack_handed}
+use Rattle.mc_laws.proofs.Weighing.Stock.{entities_changed, entities_more, hand_lies}
 
 -- ---- weighing
 
@@ -149,43 +148,28 @@ len_put : (g : Game) (name : List ℕ) (pack : PackValue) (o : Option PackValue)
 len_put g name pack o is = len-insert nat_list_cmp_total g.packs name pack
     ∙ ap (λ (x : Option PackValue). cond (is_some x) (len g.packs) (len g.packs + 1)) is
 
-pub carrying_weighs : (id damage k : ℕ) (p : Player) (pile : Pile) (g : Game) → Good g →
+pub repack_weighs : (id damage k : ℕ) (p : Player) (pack : PackValue) (g : Game) → Good g →
     get g.players k ≡ Some p →
-    Weighs id damage (held (sort_of id damage) (held_by g p)) (held (sort_of id damage) pile) g
-    (carrying p pile g)
-carrying_weighs id damage k p pile g w there = record {
+    Weighs id damage (in_pack (sort_of id damage) (pack_of g p)) (in_pack (sort_of id damage) pack)
+    g (repack_of p pack g)
+repack_weighs id damage k p pack g w there = record {
   count = (let sort = sort_of id damage in
-      let lies = entities_changed sort p.eid
-      (holding (in_hand (with_hand pile p.hand (pack_of g p)) p.hand))
-      (λ e. hand_lies sort (in_hand (with_hand pile p.hand (pack_of g p)) p.hand) e.kind)
-      g.entities in
-      let put_in = packs_put sort g p.name (with_hand pile p.hand (pack_of g p)) (Some o.pack)
-      o.carries in
-      let is = ap (λ (x : PackValue). in_pack sort x) pack_is in
-      let handed = pack_handed sort pile p.hand (pack_of g p) within in
+      let lies = entities_changed sort p.eid (holding (in_hand pack p.hand))
+      (λ e. hand_lies sort (in_hand pack p.hand) e.kind) g.entities in
+      let put_in = packs_put sort g p.name pack (Some o.pack) o.carries in
+      let is = ap (λ (x : Option PackValue). in_pack sort (unwrap_or x kit_pack)) o.carries in
       let put_is = ap (in_packs sort) modified in
-      omega (arith, lies, put_in, is, handed, put_is));
-  names = ap len modified ∙ len_put g p.name (with_hand pile p.hand (pack_of g p)) (Some o.pack)
-      o.carries;
+      omega (arith, lies, put_in, is, put_is));
+  names = ap len modified ∙ len_put g p.name pack (Some o.pack) o.carries;
   settings = refl;
 }
   where
     o : IsOwn g.entities g.eids g.packs p
     o = w.own k p there
 
-    pack_is : pack_of g p ≡ o.pack
-    pack_is = ap (λ (x : Option PackValue). unwrap_or x kit_pack) o.carries
-
-    modified : modify p.name (λ (old : PackValue). with_hand pile p.hand (pack_of g p)) g.packs
-        ≡ insert g.packs p.name (with_hand pile p.hand (pack_of g p))
+    modified : modify p.name (λ (old : PackValue). pack) g.packs ≡ insert g.packs p.name pack
     modified = ap (λ (x : Option PackValue). with_value g.packs p.name
-        (option_map (λ (old : PackValue). with_hand pile p.hand (pack_of g p)) x)) o.carries
-
-    within : 27 + p.hand < length (pack_of g p).slots
-    within = (let size = ap (λ (x : PackValue). length x.slots) pack_is
-        ∙ (w.piles p.name o.pack o.carries).size in
-        let small = o.hand in
-        omega (arith, size, small))
+        (option_map (λ (old : PackValue). pack) x)) o.carries
 
 -- ---- cells
 
