@@ -1,5 +1,6 @@
 -- That packets can tell all that a game shows.
 pub mod Told
+pub mod Counted
 pub mod Sights
 pub mod Clear
 pub mod Acts

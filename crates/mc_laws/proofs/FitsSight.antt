@@ -48,7 +48,7 @@ module _ {K X : Type 0} (R : K → K →
       ] refl
 
   -- of what a map is made of
-  all_entries : (es : List (K × X)) → AllByRecursion P es →
+  pub all_entries : (es : List (K × X)) → AllByRecursion P es →
       AllByRecursion P (entries (from_entries {R = R} es))
   all_entries [] a =
       let none : entries (empty {X = X} {R = R}) ≡ [] =
@@ -64,7 +64,7 @@ few_inserted true n m le = omega (arith, le)
 few_inserted false n m le = omega (arith, le)
 
 -- the map of a list has no more entries than the list
-few_entries : {K X : Type 0} (R : K → K → Ordering) (o : IsTotalOrder R) (es : List (K × X))
+pub few_entries : {K X : Type 0} (R : K → K → Ordering) (o : IsTotalOrder R) (es : List (K × X))
     → len (from_entries {R = R} es) ≤ length es
 few_entries {X = X} R o [] = rw (len-empty R X) (omega arith)
 few_entries R o (e ∷ es) = rw (len-insert o (from_entries es) e.0 e.1)
@@ -72,7 +72,7 @@ few_entries R o (e ∷ es) = rw (len-insert o (from_entries es) e.0 e.1)
     (few_entries R o es))
 
 -- and so has that of some
-few_shown : {K X : Type 0} (R : K → K → Ordering) (o : IsTotalOrder R) (most : ℕ)
+pub few_shown : {K X : Type 0} (R : K → K → Ordering) (o : IsTotalOrder R) (most : ℕ)
     (es : List (K × X)) → length es ≤ most → length (entries (from_entries {R = R} es)) ≤ most
 few_shown R o most es few =
     let le = few_entries R o es in
@@ -107,6 +107,7 @@ pub record SightFits (p : Sight) : Type 0 where
   pub few : length (entries p.pairs) ≤ 50
   pub columns : AllByRecursion ColumnFits (entries p.columns)
   pub entities : AllByRecursion SeenFits (entries p.entities)
+  pub crowd : length (entries p.entities) ≤ 4210
   pub pack : AllByRecursion SlotFits p.pack
   pub slots : length p.pack ≡ pack_size
   pub beat : ToldFits w32 p.beat
@@ -125,6 +126,7 @@ nothing_fits = record {
   few = few_shown {X = List ℕ} nat_cmp nat_cmp_total 50 [] (omega arith);
   columns = all_entries place_cmp places_total exact_places ColumnFits [] tt;
   entities = all_entries int_cmp int_cmp_total int_cmp-IsAntisymmetric SeenFits [] tt;
+  crowd = few_shown {X = Seen} int_cmp int_cmp_total 4210 [] (omega arith);
   pack = empty_fit pack_size;
   slots = refl;
   beat = tt;

@@ -1,4 +1,4 @@
-ghost use Rattle.std.specs.Prelude.{◌≡◌, List, Some, ℕ};
+ghost use Rattle.std.specs.Prelude.{◌≡◌, ◌≤◌, List, Some, length, ℕ};
 ghost use Rattle.std.specs.FinMap.{get};
 ghost use Rattle.mc_bytes.specs.Reading.{IsBytes};
 ghost use Rattle.mc_model.specs.Run.{AreBytes, history};
@@ -9,10 +9,14 @@ ghost use Rattle.mc_model.specs.Apart.{IsNoJoin, IsOf, LetsIn, OnlySender, OwesO
 ghost use Rattle.mc_model.specs.Apart.{StandsBefore};
 ghost use Rattle.mc_model.specs.Balance.{Balance};
 ghost use Rattle.mc_model.specs.Causes.{ClosesFirst};
+ghost use Rattle.mc_model.specs.Delta.{destroys_point};
+ghost use Rattle.mc_model.specs.Game.{AreSettings};
 ghost use Rattle.mc_model.specs.Good.{GoodWorld};
 ghost use Rattle.mc_model.specs.Link.{Link};
 ghost use Rattle.mc_model.specs.Promised.{Lasts, Promised};
+ghost use Rattle.mc_model.specs.Sight.{Sight};
 ghost use Rattle.mc_model.specs.World.{World, new_world};
+ghost use Rattle.mc_model.specs.declared.seen.TheConstants.{DESTROYED_MAX};
 
 /// Along every run each player is one entity, which holds what its pack has at its hand; numbers
 /// and identifiers are of one player each; packs are of what a world holds; and there are players
@@ -99,4 +103,16 @@ pub fn connections_last()
     ensures { (settings : Begun) (events : List Event) (e : Event) (k : ℕ) (l : Link) →
         get (history (new_world settings) events).links k ≡ Some l →
         Lasts k (history (new_world settings) events) e l }
+{}
+
+/// There are never more entities than one Destroy holds. So whatever a client is to be shown next,
+/// the difference from what it was shown has one at most.
+pub fn entities_are_few()
+    ensures few { (settings : Begun) (events : List Event) →
+        AreSettings settings.players settings.cap → AreBytes events →
+        length (history (new_world settings) events).game.entities ≤ DESTROYED_MAX }
+    ensures one { (settings : Begun) (events : List Event) (k : ℕ) (p q : Sight) →
+        AreSettings settings.players settings.cap → AreBytes events →
+        get (history (new_world settings) events).shown k ≡ Some p →
+        length (destroys_point p q) ≤ 1 }
 {}

@@ -31,7 +31,7 @@ module _ (G T H : Type 0) (k : ℕ) where
       subst (Onward k g) (sym same) (with_state_on k cell state g)
   deed_on g v (says line fits same) = subst (Onward k g) (sym same) (said_on k line g)
 
-  deeds_on : (g : Game) (us : List Game) (v : Game) → AreDeeds G T H k g us v → Onward k g v
+  pub deeds_on : (g : Game) (us : List Game) (v : Game) → AreDeeds G T H k g us v → Onward k g v
   deeds_on g [] v are = subst (Onward k g) (sym are) (nothing_on k g)
   deeds_on g (u ∷ us) v are = so k g u v (deed_on g u are.0) (deeds_on u us v are.1)
 

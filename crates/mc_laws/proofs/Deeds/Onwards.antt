@@ -33,7 +33,7 @@ pub record Onward (k : ℕ) (g v : Game) : Type 0 where
       option_map traits_of (get v.players j) ≡ option_map traits_of (get g.players j)
   pub names : (j : ℕ) →
       option_map name_of (get v.players j) ≡ option_map name_of (get g.players j)
-  pub few : len v.players ≤ len g.players
+  pub many : len v.players ≡ len g.players
   -- an entity stays of its kind
   pub since : (old : GivenKinds) → Since old g.eids g.entities → Since old v.eids v.entities
   pub settings : v.settings ≡ g.settings
@@ -45,7 +45,7 @@ nothing_on k g = record {
   keys = λ j. refl;
   traits = λ j ne. refl;
   names = λ j. refl;
-  few = omega arith;
+  many = refl;
   since = λ old since. since;
   settings = refl;
   age = refl;
@@ -57,7 +57,7 @@ so k g v u a b = record {
   keys = λ j. b.keys j ∙ a.keys j;
   traits = λ j ne. b.traits j ne ∙ a.traits j ne;
   names = λ j. b.names j ∙ a.names j;
-  few = (let m = a.few in let n = b.few in omega (arith, m, n));
+  many = b.many ∙ a.many;
   since = λ old since. b.since old (a.since old since);
   settings = b.settings ∙ a.settings;
   age = b.age ∙ a.age;
@@ -91,12 +91,12 @@ module _ (k : ℕ) (f : Player → Player) (g : Game) where
       mapped None = refl
       mapped (Some p) = ap Some (keeps p)
 
-  few_changed : len (modify k f g.players) ≤ len g.players
-  few_changed = step (get g.players k) refl
+  many_changed : len (modify k f g.players) ≡ len g.players
+  many_changed = step (get g.players k) refl
     where
       step : (o : Option Player) → get g.players k ≡ o →
-          len (with_value g.players k (option_map f o)) ≤ len g.players
-      step None is = omega arith
+          len (with_value g.players k (option_map f o)) ≡ len g.players
+      step None is = refl
       step (Some p) is =
           let added = len-insert nat_cmp_total g.players k (f p) in
           let there = ap is_some is in
@@ -107,7 +107,7 @@ module _ (k : ℕ) (f : Player → Player) (g : Game) where
     keys = keys_changed;
     traits = λ j ne. ap (option_map traits_of) (changed_other g.players k j f ne);
     names = names_changed keeps;
-    few = few_changed;
+    many = many_changed;
     since = λ old since. since;
     settings = refl;
     age = refl;
@@ -123,7 +123,7 @@ repack_on k p pack g = record {
   keys = λ j. refl;
   traits = λ j ne. refl;
   names = λ j. refl;
-  few = omega arith;
+  many = refl;
   since = λ old since. since_mapped _ g.entities
       (steady_at p.eid (holding (in_hand pack p.hand)) (holding_steady _)) since;
   settings = refl;
@@ -138,7 +138,7 @@ rehand_on k p hand g =
       keys = on.keys;
       traits = on.traits;
       names = on.names;
-      few = on.few;
+      many = on.many;
       since = λ old since. since_mapped _ g.entities
           (steady_at p.eid (holding (in_hand (pack_of g p) hand)) (holding_steady _)) since;
       settings = refl;
@@ -151,7 +151,7 @@ stand_on k p spot g = record {
   keys = λ j. refl;
   traits = λ j ne. refl;
   names = λ j. refl;
-  few = omega arith;
+  many = refl;
   since = λ old since. since_mapped _ g.entities
       (steady_at p.eid (standing spot) (standing_steady spot)) since;
   settings = refl;
@@ -166,7 +166,7 @@ thrown_on k item spot g = record {
   keys = λ j. refl;
   traits = λ j ne. refl;
   names = λ j. refl;
-  few = omega arith;
+  many = refl;
   since = λ old since. since_more _ spot g.entities since;
   settings = refl;
   age = refl;
@@ -180,7 +180,7 @@ with_state_on k cell state g = let on = nothing_on k g in record {
   keys = on.keys;
   traits = on.traits;
   names = on.names;
-  few = on.few;
+  many = on.many;
   since = on.since;
   settings = refl;
   age = refl;
@@ -192,7 +192,7 @@ said_on k line g = let on = nothing_on k g in record {
   keys = on.keys;
   traits = on.traits;
   names = on.names;
-  few = on.few;
+  many = on.many;
   since = on.since;
   settings = refl;
   age = refl;

@@ -1,22 +1,19 @@
 -- What is due to a client at a tick is packets that it decodes.
-use Rattle.std.proofs.Common.{◌≡◌, ℕ, suc, ◌+◌, ◌*◌, ◌^◌, ◌≤◌, ◌<◌, Bool, true, false, cond, List}
+use Rattle.std.proofs.Common.{◌≡◌, ℕ, ◌+◌, ◌*◌, ◌^◌, ◌≤◌, ◌<◌, Bool, true, false, cond, List}
 use Rattle.std.proofs.Common.{[], ◌∷◌, ◌++◌, map, length, Option, Some, refl, sym, subst, ap, T}
 use Rattle.std.proofs.Common.{◌∙◌, arith, drop}
-use Rattle.std.specs.Prelude.{is_some, unsigned_abs}
+use Rattle.std.specs.Prelude.{is_some, not, unsigned_abs}
 use Rattle.std.specs.Int.{w32}
 use Rattle.std.specs.List.{AllByRecursion, filter_map, range_with_len}
-use Rattle.std.specs.declared.cmp.Ordering.{Ordering}
-use Rattle.std.specs.declared.cmp.Ordering.TheVariants.{Less, Equal, Greater}
-use Rattle.std.specs.Ordering.{eq_by_cmp, int_cmp, nat_cmp}
-use Rattle.std.specs.Cmp.{IsTotalOrder, int_cmp_total, nat_cmp_total}
-use Rattle.std.specs.FinMap.{FinMap, IsAntisymmetric, contains_key, empty, entries, entries-insert}
+use Rattle.std.specs.Ordering.{eq_by_cmp, int_cmp, int_eq, nat_cmp}
+use Rattle.std.specs.Cmp.{int_cmp_total, nat_cmp_total}
+use Rattle.std.specs.FinMap.{FinMap, entries}
 use Rattle.std.specs.FinMap.{entries_sorted, find, from_entries, get, get-entries}
-use Rattle.std.specs.FinMap.{int_cmp-IsAntisymmetric, is_sorted, len, len-empty, len-entries}
-use Rattle.std.specs.FinMap.{len-insert, nat_cmp-IsAntisymmetric, values}
-use Rattle.std.specs.FinMap.Entries.{put, by_order}
+use Rattle.std.specs.FinMap.{int_cmp-IsAntisymmetric, is_sorted, len, len-entries}
+use Rattle.std.specs.FinMap.{nat_cmp-IsAntisymmetric, values}
 use Rattle.std.proofs.lemmas.Bool.Decides.{nat_tests}
 use Rattle.std.proofs.lemmas.Int.{ints}
-use Rattle.std.proofs.lemmas.List.{length-map, nil_from_length}
+use Rattle.std.proofs.lemmas.List.{length-map}
 use lib.IntN.{ℤ, pos, negsuc, ◌+ℤ◌, ◌-ℤ◌}
 use lib.Signed.{◌≤ℤ◌}
 use mir.Val.{SFits}
@@ -27,6 +24,7 @@ use Rattle.mc_land.specs.Places.{Place, place_cmp}
 use Rattle.mc_land.proofs.Orders.{exact_places, places_total}
 use Rattle.mc_entities.specs.declared.entity.Entity.{Entity}
 use Rattle.mc_entities.specs.declared.entity.EntityKind.{EntityKind}
+use Rattle.mc_entities.specs.Folk.{eid_of}
 use Rattle.mc_entities.specs.Kinds.{IsKind}
 use Rattle.mc_view.specs.declared.view_set.TheConstants.{MIDDLE_BORDER}
 use Rattle.mc_view.specs.Views.{column_of_spot, run_of, view_of, view_size}
@@ -34,16 +32,16 @@ use Rattle.mc_model.specs.declared.ticks.TheConstants.{AGE_MAX}
 use Rattle.mc_model.specs.declared.player.Player.{Player}
 use Rattle.mc_model.specs.Delta.{delta}
 use Rattle.mc_model.specs.Packets.{for_play, of_play}
-use Rattle.mc_model.specs.Sight.{Seen, Sight, seen_as, seen_of}
+use Rattle.mc_model.specs.Sight.{Seen, Sight, others, seen_as, seen_of}
 use Rattle.mc_model.specs.Opening.{level, opening_of}
 use Rattle.mc_model.specs.Notes.{notes_of, noted_packets}
 use Rattle.mc_model.specs.Game.{AreSettings, Game, column_in, pack_of, players_of, sees, spot_of}
-use Rattle.mc_model.specs.Game.{view_in}
+use Rattle.mc_model.specs.Game.{is_in_sight, view_in}
 use Rattle.mc_model.specs.Spots.{spawn_height}
 use Rattle.mc_model.specs.Showing.{due, last_shown, notes_due, opening_due, sight_of}
 use Rattle.mc_model.specs.Good.{Good}
 use Rattle.mc_model.proofs.AllFacts.{all_chosen, all_dropped, all_flat, all_joined, all_mapped}
-use Rattle.mc_model.proofs.AllFacts.{all_range}
+use Rattle.mc_model.proofs.AllFacts.{all_range, few_filtered}
 use Rattle.mc_model.proofs.Decodes.{Decodes, IsClear}
 use Rattle.mc_model.proofs.FitsBeats.{beat_fits, shown_age_fits}
 use Rattle.mc_model.proofs.FitsChat.{LineFits}
@@ -59,7 +57,9 @@ use Rattle.mc_model.proofs.Maps.Sorted.{find_again, second}
 use Rattle.mc_model.proofs.Maps.Lookups.{tied_number}
 use Rattle.mc_model.proofs.Maps.Options.{none_some}
 use Rattle.mc_laws.proofs.FitsDue.{delta_clear, notes_clear, placing_clear}
-use Rattle.mc_laws.proofs.FitsSight.{SeenFits, SightFits, column_near, size_few}
+use Rattle.mc_laws.proofs.FitsSight.{SeenFits, SightFits, all_entries, column_near, few_entries}
+use Rattle.mc_laws.proofs.FitsSight.{few_shown, size_few}
+use Rattle.mc_laws.proofs.Fits.Counted.{IsCounted, few_chosen}
 use Rattle.mc_laws.proofs.FitsUuid.{offline_small}
 use Rattle.mc_laws.proofs.ThingsFit.{EntityFits, KindIsNamed}
 use Rattle.mc_laws.proofs.Deeds.Packs.{named_is_pack}
@@ -67,42 +67,6 @@ use Rattle.mc_laws.proofs.Fits.Told.{Told, cell_told, spot_told}
 use Rattle.mc_laws.proofs.Fits.Sights.{column_sizes, column_small, in_sight, in_sight_fit}
 
 -- ---- entries
-
-module _ {K X : Type 0} (R : K → K → Ordering) (o : IsTotalOrder R) (exact : IsAntisymmetric R)
-    (P : K × X → Type 0) where
-  -- what holds of entries and of one that is put among them
-  all_put : (k : K) (v : X) → P (k, v) → (es : List (K × X)) → AllByRecursion P es →
-      AllByRecursion P (put R k v es)
-  all_put k v p [] a = (p, tt)
-  all_put k v p (e ∷ es) a = elim (R k e.0) as (λ r. R k e.0 ≡ r →
-      AllByRecursion P (by_order r ((k, v) ∷ e ∷ es) ((e.0, v) ∷ es) (e ∷ put R k v es))) [
-        | Less ↦ λ t. (p, (a.0, a.1))
-        | Equal ↦ λ t. (let Q : K → Type 0 = λ j. P (j, v) in subst Q (exact k e.0 t) p, a.1)
-        | Greater ↦ λ t. (a.0, all_put k v p es a.1)
-      ] refl
-
-  -- what holds of a list holds of the entries of its map
-  all_entries : (es : List (K × X)) → AllByRecursion P es →
-      AllByRecursion P (entries (from_entries {R = R} es))
-  all_entries [] a =
-      let none : entries (empty {X = X} {R = R}) ≡ [] =
-      nil_from_length _ (sym (len-entries empty) ∙ len-empty R X) in
-      subst (AllByRecursion P) (sym none) tt
-  all_entries (e ∷ es) a =
-      subst (AllByRecursion P) (sym (entries-insert o (from_entries es) e.0 e.1))
-      (all_put e.0 e.1 a.0 (entries (from_entries es)) (all_entries es a.1))
-
--- the map of a list has no more entries than the list
-pub few_entries : {K X : Type 0} (R : K → K → Ordering) (o : IsTotalOrder R) (es : List (K × X))
-    → len (from_entries {R = R} es) ≤ length es
-few_entries {X = X} R o [] = rw (len-empty R X) (omega arith)
-few_entries R o (e ∷ es) = rw (len-insert o (from_entries es) e.0 e.1)
-    (inserted (contains_key (from_entries es) e.0) (len (from_entries es)) (length es)
-    (few_entries R o es))
-  where
-    inserted : (b : Bool) (n m : ℕ) → n ≤ m → cond b n (n + 1) ≤ suc m
-    inserted true n m le = omega (arith, le)
-    inserted false n m le = omega (arith, le)
 
 -- what holds of each entry that is found holds of all entries, and of all values
 pub all_found : {X : Type 0} (P : ℕ × X → Type 0) (m : FinMap nat_cmp X) →
@@ -179,6 +143,7 @@ pub record SoundGame (g : Game) : Type 0 where
   pub young : g.age ≤ AGE_MAX
   pub lines : AllByRecursion LineFits g.lines
   pub few : len g.players ≤ g.settings.players
+  pub counted : IsCounted g
   pub named : (k : ℕ) (p : Player) → get g.players k ≡ Some p → IsShort 16 p.name
 
 -- so the list of players can name each
@@ -194,6 +159,25 @@ named_fits g k p sound there = record {
 players_few : (g : Game) → length (players_of g) ≡ len g.players
 players_few g = length-map (entries g.players) (λ (e : ℕ × Player). e.1)
     ∙ sym (len-entries g.players)
+
+-- an entity for each dropped item and each player
+pub entities_few : (g : Game) → SoundGame g → length g.entities ≤ 4210
+entities_few g sound =
+    let all = sound.counted in
+    let few = sound.few in
+    let fifty = sound.settings.few in
+    let lying = sound.told.lying in
+    omega (arith, all, few, fifty, lying)
+
+-- no more are seen than there are
+crowd_in_sight : (g : Game) (p : Player) → SoundGame g →
+    length (filter_map seen_of (in_sight g p)) ≤ 4210
+crowd_in_sight g p sound =
+    let seen = few_chosen seen_of (in_sight g p) in
+    let near = few_filtered (is_in_sight g p) (others (pos p.eid) g.entities) in
+    let other = few_filtered (λ (e : Entity). not (int_eq (eid_of e) (pos p.eid))) g.entities in
+    let few = entities_few g sound in
+    omega (arith, seen, near, other, few)
 
 pub sight_fits : (g : Game) (p : Player) (last : Sight) → SoundGame g →
     AllByRecursion LineFits last.chat → SightFits (sight_of g p last)
@@ -237,6 +221,8 @@ sight_fits g p last sound heard =
           (all_chosen EntityFits SeenFits seen_of
           (λ x row fits found. seen_fits x x.kind fits fits.kind fits.named row found)
           (in_sight g p) (in_sight_fit g p sound.told));
+      crowd = few_shown int_cmp int_cmp_total 4210 (filter_map seen_of (in_sight g p))
+          (crowd_in_sight g p sound);
       pack = piles_fit (pack_of g p).slots pack.are_piles;
       slots = length-map (pack_of g p).slots slot_of ∙ pack.size;
       beat = beat_fits g.age sound.young;

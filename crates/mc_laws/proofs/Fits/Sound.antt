@@ -1,24 +1,30 @@
 -- All that can be told holds of a game still after whatever players do, after they come and go, and
 -- after a tick.
 use Rattle.std.proofs.Common.{◌≡◌, ◌≢◌, ℕ, ◌+◌, ◌<◌, ◌≤◌, true, List, [], ◌∷◌, map, Option, Some}
-use Rattle.std.proofs.Common.{None, refl, sym, subst, ap, ◌∙◌, inl, inr, length, arith}
-use Rattle.std.specs.Prelude.{Bool, false, not, option_map, if◌then◌else◌}
+use Rattle.std.proofs.Common.{None, T, refl, sym, subst, ap, ◌∙◌, inl, inr, length, arith}
+use Rattle.std.specs.Prelude.{Bool, false, is_some, not, option_map, if◌then◌else◌}
 use Rattle.std.specs.List.{AllByRecursion}
 use Rattle.std.specs.Cmp.{nat_cmp_total}
 use Rattle.std.specs.Ordering.{nat_cmp}
-use Rattle.std.specs.FinMap.{entries, get, get-empty, len, len-empty, len-entries, len-insert}
+use Rattle.std.specs.FinMap.{entries, entries_sorted, find, from_entries, get, get-empty}
+use Rattle.std.specs.FinMap.{get-from_entries, is_sorted, len, len-empty, len-entries, len-insert}
 use Rattle.std.specs.FinMap.{len-remove}
+use Rattle.std.specs.FinMap.Entries.{below_all}
 use Rattle.std.proofs.lemmas.Bool.{cases_eq, ltb-true}
 use Rattle.std.proofs.lemmas.Bool.Decides.{nat_tests}
-use Rattle.std.proofs.lemmas.List.{length-map}
-use lib.IntN.{ℤ}
+use Rattle.std.proofs.lemmas.List.{length-append}
+use lib.IntN.{ℤ, pos}
 use Rattle.mc_up.specs.declared.play_up.PlayUp.{PlayUp}
 use Rattle.mc_up.specs.PlayUp.{FitsPlayUp}
 use Rattle.mc_model.specs.declared.cause.Refusal.{Refusal}
 use Rattle.mc_model.specs.declared.player.Player.{Player}
 use Rattle.mc_model.specs.declared.settings.Settings.{Settings as Begun}
+use Rattle.mc_entities.specs.declared.entity.Entity.{Entity}
+use Rattle.mc_entities.specs.declared.entity.EntityKind.TheVariants as kinds
 use Rattle.mc_model.specs.Names.{is_name, offline_uuid}
-use Rattle.mc_model.specs.Game.{AreSettings, Game, new_game}
+use Rattle.mc_model.specs.Spots.{spawn_spot}
+use Rattle.mc_model.specs.Things.{in_hand}
+use Rattle.mc_model.specs.Game.{AreSettings, Game, new_game, pack_named}
 use Rattle.mc_model.specs.Maps.{map_keyed}
 use Rattle.mc_model.specs.Deeds.{enter_as, new_player}
 use Rattle.mc_model.specs.Leaving.{leave, leave_all}
@@ -30,7 +36,8 @@ use Rattle.mc_model.proofs.AllFacts.{all_joined}
 use Rattle.mc_model.proofs.FitsChat.{LineFits}
 use Rattle.mc_model.proofs.FitsText.{IsShort, both_true, name_short}
 use Rattle.mc_model.proofs.Maps.Options.{none_some, some_is}
-use Rattle.mc_model.proofs.Maps.Lookups.{put_other, put_same}
+use Rattle.mc_model.proofs.Maps.Lookups.{put_other, put_same, tied_number}
+use Rattle.mc_model.proofs.Maps.Sorted.{find_again, second}
 use Rattle.mc_laws.proofs.Deeds.Coming.{enter_good}
 use Rattle.mc_laws.proofs.Deeds.Leaving.{leave_cases, leave_good, leave_other, leave_same}
 use Rattle.mc_laws.proofs.Deeds.Leaving.{leave_stays}
@@ -40,9 +47,10 @@ use Rattle.mc_laws.proofs.Deeds.Made.{throws, views}
 use Rattle.mc_laws.proofs.Acts.ActMade.{act_made}
 use Rattle.mc_laws.proofs.Acts.ActOn.{act_good, act_on}
 use Rattle.mc_laws.proofs.Walk.Each.{told_good, told_players}
-use Rattle.mc_laws.proofs.Fits.Told.{new_told}
+use Rattle.mc_laws.proofs.Fits.Told.{dropped_come, new_told}
 use Rattle.mc_laws.proofs.Fits.Acts.{act_tells, enter_tells, leave_told}
-use Rattle.mc_laws.proofs.Fits.Clear.{SoundGame, few_entries}
+use Rattle.mc_laws.proofs.Fits.Counted.{IsCounted, body_gone, deeds_count}
+use Rattle.mc_laws.proofs.Fits.Clear.{SoundGame}
 
 -- ---- what is said
 
@@ -94,9 +102,14 @@ act_sound k packet g v fits e sound =
       young = (let young = sound.young in let age = on.age in omega (arith, young, age));
       lines = act_lines k packet g v sound fits e;
       few = (let few = sound.few in
-          let fewer = on.few in
+          let many = on.many in
           let most = ap (λ (s : Begun). s.players) on.settings in
-          omega (arith, few, fewer, most));
+          omega (arith, few, many, most));
+      counted = (let made = act_made k packet g v e in
+          let counts = deeds_count _ _ _ k g made.games v made.deeds in
+          let counted = sound.counted in
+          let many = on.many in
+          omega (arith, counts, counted, many));
       named = λ j q there. name_before (get g.players j) q
           (sym (ap (option_map name_of) there) ∙ on.names j) (sound.named j);
     }
@@ -125,6 +138,24 @@ pub welcome_of : (g : Game) (protocol : ℤ) (name : List ℕ) → refusal g pro
     IsWelcome g name
 welcome_of g protocol name e = grind (arith, nat_tests, passes, passed_on, both_true, ltb-true)
 
+-- whoever comes brings its entity
+enter_counted : (k : ℕ) (name : List ℕ) (g : Game) → get g.players k ≡ None → IsCounted g →
+    IsCounted (enter_as k name g)
+enter_counted k name g new counted =
+    let size = length-append g.entities (comes ∷ []) in
+    let lying = dropped_come g.entities comes in
+    let none = ap is_some new in
+    let added = len-insert nat_cmp_total g.players k
+    (new_player (g.eids + 1) name (length g.lines)) in
+    grind (arith, size, lying, counted, none, added)
+  where
+    comes : Entity
+    comes = record {
+      eid = pos (g.eids + 1);
+      kind = kinds.Player (offline_uuid name) (in_hand (pack_named g name) 0);
+      spot = spawn_spot g.settings.terrain;
+    }
+
 pub enter_sound : (k : ℕ) (name : List ℕ) (g : Game) → IsWelcome g name →
     ((j : ℕ) (q : Player) → get g.players j ≡ Some q → q.uuid ≢ offline_uuid name) →
     get g.players k ≡ None → SoundGame g → SoundGame (enter_as k name g)
@@ -137,6 +168,7 @@ enter_sound k name g welcome free new sound = record {
   few = (let room = welcome.room in
       let added = len-insert nat_cmp_total g.players k
       (new_player (g.eids + 1) name (length g.lines)) in grind (arith, room, added));
+  counted = enter_counted k name g new sound.counted;
   named = λ j q there. elim (cases_eq j k) [
     | inl same ↦ subst (λ (x : Player). IsShort 16 x.name)
         (some_is _ q (sym (put_same g.players k _)
@@ -151,6 +183,14 @@ fewer_gone : (k : ℕ) (g : Game) → len (leave k g).players ≤ len g.players
 fewer_gone k g = leave_cases k g (λ (v : Game). len v.players ≤ len g.players)
     (λ none. omega arith)
     (λ p there. let less = len-remove nat_cmp_total g.players k in grind (arith, less))
+
+-- whoever goes takes its entity along
+leave_counted : (k : ℕ) (g : Game) → Good g → IsCounted g → IsCounted (leave k g)
+leave_counted k g w counted = leave_cases k g IsCounted (λ none. counted) (λ p there.
+    (let gone = body_gone (pos p.eid) g.entities _ (w.own k p there).body refl in
+    let less = len-remove nat_cmp_total g.players k in
+    let one = ap is_some there in
+    grind (arith, gone, less, one, counted)))
 
 pub leave_sound : (k : ℕ) (g : Game) → SoundGame g → SoundGame (leave k g)
 leave_sound k g sound =
@@ -167,6 +207,7 @@ leave_sound k g sound =
           let fewer = fewer_gone k g in
           let most = ap (λ (s : Begun). s.players) stays.settings in
           omega (arith, few, fewer, most));
+      counted = leave_counted k g sound.good sound.counted;
       named = λ j q there. elim (cases_eq j k) [
         | inl same ↦ absurd (none_some (get (leave k g).players k) q (leave_same k g)
             (rw same at there))
@@ -188,19 +229,36 @@ grown_sound g sound = record {
   young = omega arith;
   lines = sound.lines;
   few = sound.few;
+  counted = sound.counted;
   named = sound.named;
 }
 
--- no more players than before
-told_few : (g : Game) → len (told g).players ≤ len g.players
+-- players that were told, by their numbers
+abbrev told_entry : ℕ × Player → ℕ × Player
+told_entry e = (e.0, told_player e.1)
+
+absent_told : (k : ℕ) (es : List (ℕ × Player)) → find nat_cmp k es ≡ None →
+    find nat_cmp k (map told_entry es) ≡ None
+absent_told k [] none = refl
+absent_told k (e ∷ es) none = grind (arith, nat_tests, absent_told k es)
+
+-- as many as before
+many_told : (es : List (ℕ × Player)) → T (is_sorted nat_cmp es) →
+    len (from_entries {R = nat_cmp} (map told_entry es)) ≡ length es
+many_told [] sorted = len-empty nat_cmp Player
+many_told (e ∷ es) sorted =
+    let later : len (from_entries {R = nat_cmp} (map told_entry es)) ≡ length es =
+    many_told es (second (below_all nat_cmp e.0 es) (is_sorted nat_cmp es) sorted) in
+    let none : is_some (get (from_entries {R = nat_cmp} (map told_entry es)) e.0) ≡ false =
+    ap is_some (get-from_entries nat_cmp_total (map told_entry es) e.0
+    ∙ absent_told e.0 es (find_again nat_cmp_total e.0 e es sorted (tied_number e.0))) in
+    let added = len-insert nat_cmp_total (from_entries (map told_entry es)) e.0
+    (told_player e.1) in
+    grind (arith, later, none, added)
+
+told_many : (g : Game) → len (told g).players ≡ len g.players
 unfolding map_keyed
-told_few g =
-    let made = few_entries nat_cmp nat_cmp_total
-    (map (λ (e : ℕ × Player). (e.0, told_player e.1)) (entries g.players)) in
-    let same = length-map {B = ℕ × Player} (entries g.players)
-    (λ (e : ℕ × Player). (e.0, told_player e.1)) in
-    let size = len-entries g.players in
-    omega (arith, made, same, size)
+told_many g = many_told (entries g.players) (entries_sorted g.players) ∙ sym (len-entries g.players)
 
 pub told_sound : (g : Game) → SoundGame g → SoundGame (told g)
 told_sound g sound = record {
@@ -209,7 +267,8 @@ told_sound g sound = record {
   settings = sound.settings;
   young = sound.young;
   lines = tt;
-  few = (let few = sound.few in let fewer = told_few g in omega (arith, few, fewer));
+  few = (let few = sound.few in let many = told_many g in omega (arith, few, many));
+  counted = (let counted = sound.counted in let many = told_many g in omega (arith, counted, many));
   named = λ j q there. at_player j q (get g.players j) refl (sym (told_players g j) ∙ there);
 }
   where
@@ -228,5 +287,6 @@ new_sound settings are good = record {
   young = omega arith;
   lines = tt;
   few = (let none = len-empty nat_cmp Player in omega (arith, none));
+  counted = omega arith;
   named = λ k p there. absurd (none_some _ p (get-empty nat_cmp k) there);
 }

@@ -90,7 +90,7 @@ dropped_filtered test (e ∷ es) =
     ]
 
 -- where one comes, one more if it is one
-dropped_come : (es : List Entity) (e : Entity) →
+pub dropped_come : (es : List Entity) (e : Entity) →
     dropped_in (es ++ e ∷ []) ≡ dropped_in es + one_if (is_dropped e.kind)
 dropped_come [] e = let more = dropped_more e [] in omega (arith, more)
 dropped_come (x ∷ xs) e =
