@@ -24,7 +24,7 @@ spawn_clear eid (seen_kinds.Player uuid) spot pile in_32 in_128 at f = (
       (hand_fits pile f.fits),
   (head_clear eid spot.yaw in_32 at.yaw, hand_clear eid uuid pile in_32 f),
 )
-spawn_clear eid seen_kinds.Item spot pile in_32 known at f = (
+spawn_clear eid seen_kinds.Dropped spot pile in_32 known at f = (
   object_clear eid spot.x spot.y spot.z spot.yaw spot.pitch in_32 (east_fits spot at)
       (up_fits spot at) (south_fits spot at) at.yaw at.pitch,
   (lying_clear eid pile in_32 f, tt),

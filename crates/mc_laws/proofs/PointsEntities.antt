@@ -124,7 +124,7 @@ player_leads s m k uuid spot item metas = record { is = refl }
 object_leads : (s : Sight) (m : Entities) (k : ℤ) (spot : Spot) →
     Leads (record s { entities = m })
     (SpawnObject k (pos 2) spot.x spot.y spot.z spot.pitch spot.yaw (pos 0) None ∷ [])
-    (with_seen s m k (coming seen_kinds.Item spot))
+    (with_seen s m k (coming seen_kinds.Dropped spot))
 unfolding apply
 object_leads s m k spot = record { is = refl }
 
@@ -146,8 +146,8 @@ spawn_as_leads s m k (seen_kinds.Player uuid) spot pile =
     onward (player_leads s m k uuid spot (id_in_hand pile) no_flags)
     (onward (head_leads s m k spot.yaw (coming (seen_kinds.Player uuid) spot))
     (hand_leads s m k uuid spot pile))
-spawn_as_leads s m k seen_kinds.Item spot pile =
-    onward (object_leads s m k spot) (pile_leads s m k pile (coming seen_kinds.Item spot))
+spawn_as_leads s m k seen_kinds.Dropped spot pile =
+    onward (object_leads s m k spot) (pile_leads s m k pile (coming seen_kinds.Dropped spot))
 
 -- one that was not seen is as it is wanted
 spawn_leads : (s : Sight) (m : Entities) (k : ℤ) (new : Seen) → IsSeen new →

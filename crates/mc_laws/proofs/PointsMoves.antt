@@ -93,8 +93,8 @@ pile_leads s m k pile e = cases e.kind
     cases (seen_kinds.Player uuid) = record {
       is = put_altered s m k (record e { kind = seen_kinds.Player uuid }) (wearing (pos 0) pile);
     }
-    cases seen_kinds.Item = record {
-      is = put_altered s m k (record e { kind = seen_kinds.Item })
+    cases seen_kinds.Dropped = record {
+      is = put_altered s m k (record e { kind = seen_kinds.Dropped })
           (with_metas (record { index = 10; value = values.Slot pile } ∷ []));
     }
 

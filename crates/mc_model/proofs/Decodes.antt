@@ -1,8 +1,9 @@
 -- What is handed out as frames, one after another, is cut into them again, and decoded as those
 -- packets.
-use Rattle.std.proofs.Common.{arith, ◌≡◌, ℕ, ◌^◌, ◌<◌, List, ◌∷◌, ◌++◌, map, refl, sym, ap, []}
+use Rattle.std.proofs.Common.{arith, ◌≡◌, ℕ, ◌^◌, ◌<◌, List, ◌∷◌, ◌++◌, map, refl, sym, []}
 use Rattle.std.specs.Prelude.{Some}
 use Rattle.std.proofs.lemmas.List.{append-nil}
+use Rattle.std.proofs.lemmas.Bool.Decides.{nat_tests}
 use Rattle.mc_fields.specs.Row.{most}
 use Rattle.mc_frame.specs.Frame.{IsPayload, frame_spelling}
 use Rattle.mc_frame.specs.FrameLaws.{frame_spelled, packet_payload}
@@ -21,8 +22,8 @@ use Rattle.mc_packets.specs.declared.down.Down.TheVariants.{KeepAlive}
 use Rattle.mc_packets.specs.Down as play
 use Rattle.mc_packets.proofs.DownLaws as play_laws
 use Rattle.mc_model.specs.Packets.{Sent, of_status, of_login, of_play, frame_of, bytes_of, Decoder}
-use Rattle.mc_model.specs.Packets.{for_status, for_login, for_play, sent_status, sent_login}
-use Rattle.mc_model.specs.Packets.{sent_play, decoded_as, decoder_after, decoded_frames}
+use Rattle.mc_model.specs.Packets.{for_status, for_login, for_play}
+use Rattle.mc_model.specs.Packets.{decoded_as, decoder_after, decoded_frames}
 use Rattle.mc_model.specs.Packets.{IsDecodedBy}
 
 -- what its frame holds
@@ -81,46 +82,29 @@ decodes_more decoder middle end (packet ∷ packets) others h later =
 -- it fits a frame
 clear_payload : (decoder : Decoder) (packet : Sent) → IsClear decoder packet →
     IsPayload (payload_of packet)
-clear_payload for_status (of_status packet) c = c.1
-clear_payload for_login (of_login packet) c = c.1
-clear_payload for_play (of_play packet) c = c.1
-clear_payload for_status (of_login packet) c = absurd c
-clear_payload for_status (of_play packet) c = absurd c
-clear_payload for_login (of_status packet) c = absurd c
-clear_payload for_login (of_play packet) c = absurd c
-clear_payload for_play (of_status packet) c = absurd c
-clear_payload for_play (of_login packet) c = absurd c
+clear_payload decoder packet c = grind (arith, nat_tests)
 
 -- and is decoded in it
 clear_decoded : (decoder : Decoder) (packet : Sent) → IsClear decoder packet →
     decoded_as decoder (payload_of packet) ≡ Some packet
-clear_decoded for_status (of_status packet) c = ap sent_status (status_laws.again packet c.0)
-clear_decoded for_login (of_login packet) c = ap sent_login (login_laws.again packet c.0)
-clear_decoded for_play (of_play packet) c = ap sent_play (play_laws.again packet c.0)
-clear_decoded for_status (of_login packet) c = absurd c
-clear_decoded for_status (of_play packet) c = absurd c
-clear_decoded for_login (of_status packet) c = absurd c
-clear_decoded for_login (of_play packet) c = absurd c
-clear_decoded for_play (of_status packet) c = absurd c
-clear_decoded for_play (of_login packet) c = absurd c
+clear_decoded decoder packet c =
+    grind (arith, nat_tests, status_laws.again, login_laws.again, play_laws.again)
 
 -- a frame holds its payload
 framed : (packet : Sent) → frame_of packet ≡ frame_spelling (payload_of packet)
 unfolding frame_of
-framed (of_status packet) = refl
-framed (of_login packet) = refl
-framed (of_play packet) = refl
+framed packet = grind (arith, nat_tests)
 
 -- all are decoded in their frames
 decoded_again : (decoder end : Decoder) (packets : List Sent) → Decodes decoder packets end →
     decoded_frames decoder (map payload_of packets) ≡ Some packets
 decoded_again decoder end [] h = refl
-decoded_again decoder end (packet ∷ packets) h =
-    rw (
-      clear_decoded decoder packet h.0,
-      decoded_again
-          (decoder_after decoder packet) end packets h.1,
-    ) refl
+decoded_again decoder end (packet ∷ packets) h = grind (
+  arith,
+  nat_tests,
+  clear_decoded,
+  decoded_again (decoder_after decoder packet) end packets h.1,
+)
 
 -- the bytes are these frames
 framed_again : (decoder end : Decoder) (packets : List Sent) → Decodes decoder packets end

@@ -66,17 +66,17 @@ worn_clear eid pile at f =
 
 -- Meta, of a slot that fits
 pub lying_clear : (eid : ℤ) (pile : Slot) → SFits w32 eid → SlotFits pile →
-    IsClear for_play (of_play (pile_packet eid seen_kinds.Item pile))
+    IsClear for_play (of_play (pile_packet eid seen_kinds.Dropped pile))
 lying_clear eid pile at f =
     let other : ◌≢◌ {A = ℕ} 170 127 = λ e. omega (arith, e) in
-    play_clear (pile_packet eid seen_kinds.Item pile) (search (fields, other, f.fits))
+    play_clear (pile_packet eid seen_kinds.Dropped pile) (search (fields, other, f.fits))
     (omega (arith, f.few))
 
 -- whichever it is, of a slot that fits
 pub pile_slot_clear : (eid : ℤ) (kind : SeenKind) (pile : Slot) → SFits w32 eid → SlotFits pile →
     IsClear for_play (of_play (pile_packet eid kind pile))
 pile_slot_clear eid (seen_kinds.Player uuid) pile at f = worn_clear eid pile at f
-pile_slot_clear eid seen_kinds.Item pile at f = lying_clear eid pile at f
+pile_slot_clear eid seen_kinds.Dropped pile at f = lying_clear eid pile at f
 
 -- and of that of a pile
 pub pile_clear : (eid : ℤ) (kind : SeenKind) (pile : Pile) → SFits w32 eid → IsPile pile →
@@ -109,7 +109,7 @@ player_clear eid uuid x y z yaw pitch item in_32 in_128 at_x at_y at_z at_yaw at
 -- what a packet can say of what an entity is: an identifier has 128 bits
 abbrev pub KindFits : SeenKind → Type 0
 KindFits (seen_kinds.Player uuid) = uuid < 2 ^ 128
-KindFits seen_kinds.Item = Unit {0}
+KindFits seen_kinds.Dropped = Unit {0}
 
 -- what a player that comes holds
 pub hand_clear : (eid : ℤ) (uuid : ℕ) (pile : Slot) → SFits w32 eid → SlotFits pile →

@@ -13,7 +13,7 @@ use Rattle.mc_model.specs.declared.seen.SeenKind.TheVariants as seen_kinds
 -- what clients see an entity as; a mob is not seen
 abbrev pub kind_seen : EntityKind → Option SeenKind
 kind_seen (kinds.Player uuid held) = Some (seen_kinds.Player uuid)
-kind_seen (kinds.Dropped item born) = Some seen_kinds.Item
+kind_seen (kinds.Dropped item born) = Some seen_kinds.Dropped
 kind_seen kinds.Mob = None
 
 -- how many numbers were given, and what clients see the entity of each as

@@ -1,19 +1,18 @@
 -- Changes of entities keep their kinds.
-use Rattle.std.proofs.Common.{◌≡◌, ℕ, ◌+◌, List, [], ◌∷◌, ◌++◌, map, refl, sym, ap, ◌∙◌, inl, inr}
+use Rattle.std.proofs.Common.{◌≡◌, ℕ, ◌+◌, List, [], ◌∷◌, ◌++◌, map, refl, ◌∙◌, inr}
 use Rattle.std.proofs.Common.{arith}
-use Rattle.std.specs.Prelude.{Bool, true, false, Option, if◌then◌else◌}
+use Rattle.std.specs.Prelude.{Bool, Option, if◌then◌else◌}
 use Rattle.std.specs.List.{AllByRecursion, filter}
 use Rattle.std.specs.Ordering.{int_eq}
-use Rattle.std.proofs.lemmas.Bool.Decides.{Decides-int_eq}
 use Rattle.std.proofs.lemmas.Cmp.{int_eq_equiv}
 use Rattle.std.proofs.lemmas.Int.{ints}
+use Rattle.std.proofs.lemmas.Bool.Decides.{nat_tests}
 use lib.IntN.{ℤ, pos}
 use lib.Signed.{◌≤ℤ◌}
 use Rattle.mc_fields.specs.declared.position.Spot.{Spot}
 use Rattle.mc_slots.specs.declared.pile.Pile.{Pile}
 use Rattle.mc_entities.specs.declared.entity.Entity.{Entity}
 use Rattle.mc_entities.specs.declared.entity.EntityKind.{EntityKind}
-use Rattle.mc_entities.specs.declared.entity.EntityKind.TheVariants as kinds
 use Rattle.mc_model.specs.declared.seen.SeenKind.{SeenKind}
 use Rattle.mc_model.specs.Things.{standing, hand_of, holding}
 use Rattle.mc_model.proofs.AllFacts.{all_joined, all_mapped, all_filtered}
@@ -28,9 +27,7 @@ standing_steady spot = record { eid = λ e. refl; kind = λ e. refl }
 
 -- it is seen as before
 hand_seen : (pile : Pile) (kind : EntityKind) → kind_seen (hand_of pile kind) ≡ kind_seen kind
-hand_seen pile (kinds.Player uuid held) = refl
-hand_seen pile (kinds.Dropped item born) = refl
-hand_seen pile kinds.Mob = refl
+hand_seen pile kind = grind (arith, nat_tests)
 
 -- one that holds another pile
 pub holding_steady : (pile : Pile) → IsSteady (holding pile)
@@ -39,24 +36,14 @@ holding_steady pile = record { eid = λ e. refl; kind = λ e. hand_seen pile e.k
 -- of one number alone
 pub steady_at : (eid : ℕ) (f : Entity → Entity) → IsSteady f →
     IsSteady (λ e. if int_eq e.eid (pos eid) then f e else e)
-steady_at eid f steady = record {
-  eid = λ e. elim (int_eq e.eid (pos eid)) as (λ b. (if b then f e else e).eid ≡ e.eid)
-      [ true ↦ steady.eid e | false ↦ refl ];
-  kind = λ e. elim (int_eq e.eid (pos eid)) as
-      (λ b. kind_seen (if b then f e else e).kind ≡ kind_seen e.kind)
-      [ true ↦ steady.kind e | false ↦ refl ];
-}
+steady_at eid f steady = grind (arith, nat_tests)
 
 -- ---- entities that were known, and those since
 
 -- one that was known still is
 known_entity : (old : GivenKinds) (f : Entity → Entity) → IsSteady f → (e : Entity) →
     HasKind old e → HasKind old (f e)
-known_entity old f steady e known =
-    let same = steady.eid e in (
-      rw same known.0,
-      steady.kind e ∙ known.1 ∙ ap old.kind_at (sym same),
-    )
+known_entity old f steady e known = grind (arith, nat_tests)
 
 -- steady changes keep them known
 pub known_mapped : (f : Entity → Entity) (eids : ℕ) (entities : List Entity) → IsSteady f →
@@ -90,12 +77,7 @@ new_kind eid kind kind_at = rw (int_eq_equiv.refl (pos eid)) refl
 -- and those below it have theirs
 old_kind : (eid : ℕ) (kind : EntityKind) (kind_at : ℤ → Option SeenKind) (n : ℤ) →
     n ≤ℤ pos eid → kind_at n ≡ with_next (eid + 1) kind kind_at n
-old_kind eid kind kind_at n below = elim (int_eq n (pos (eid + 1))) as
-    (λ b. int_eq n (pos (eid + 1)) ≡ b → kind_at n ≡ (if b then kind_seen kind else kind_at n)) [
-      | true ↦ λ t. (let same = (Decides-int_eq n (pos (eid + 1))).0 t in
-          absurd (omega (arith, ints, same, below)))
-      | false ↦ λ f. refl
-    ] refl
+old_kind eid kind kind_at n below = grind (arith, nat_tests, ints)
 
 -- they are known with one that comes
 pub known_more : (kind : EntityKind) (spot : Spot) (eids : ℕ) (entities : List Entity) →
@@ -136,9 +118,7 @@ since_known old entities known = record { eids = omega arith; entities = each en
 -- one since then still is
 since_entity : (old : GivenKinds) (f : Entity → Entity) → IsSteady f → (e : Entity) →
     IsSince old e → IsSince old (f e)
-since_entity old f steady e (inl above) = inl (rw (steady.eid e) above)
-since_entity old f steady e (inr is) =
-    inr (steady.kind e ∙ is ∙ ap old.kind_at (sym (steady.eid e)))
+since_entity old f steady e h2 = grind (arith, nat_tests)
 
 -- steady changes keep them so
 pub since_mapped : {old : GivenKinds} {eids : ℕ} (f : Entity → Entity) (entities : List Entity) →
@@ -152,17 +132,10 @@ since_mapped {old} f entities steady since = record {
 -- and so it is where some go
 pub since_filtered : {old : GivenKinds} {eids : ℕ} (test : Entity → Bool)
     (entities : List Entity) → Since old eids entities → Since old eids (filter test entities)
-since_filtered {old} test entities since = record {
-  eids = since.eids;
-  entities = all_filtered (IsSince old) test entities since.entities;
-}
+since_filtered test entities since = grind (arith, nat_tests, all_filtered)
 
 -- and where one comes
 pub since_more : {old : GivenKinds} {eids : ℕ} (kind : EntityKind) (spot : Spot)
     (entities : List Entity) → Since old eids entities → Since old (eids + 1)
     (entities ++ record { eid = pos (eids + 1); kind = kind; spot = spot } ∷ [])
-since_more {old} {eids} kind spot entities since = record {
-  eids = omega (arith, since.eids);
-  entities = all_joined (IsSince old) entities _ since.entities
-      (inl (omega (arith, ints, since.eids)), tt);
-}
+since_more kind spot entities since = grind (arith, nat_tests, ints, all_joined)

@@ -139,10 +139,7 @@ some_one n p some few fits stands =
 pub pattern_one : (n : ℤ) (p : ℕ) → unsigned_abs n < 2 ^ 33 → p < 2 ^ 64 → (n ≡ pos 0 → p ≡ 0) →
     Represents n p → p ≡ pattern_of n
 unfolding pattern_of
-pattern_one (pos zero) p few fits none stands = none refl
-pattern_one (pos (suc m)) p few fits none stands =
-    some_one (pos (suc m)) p (omega arith) few fits stands
-pattern_one (negsuc m) p few fits none stands = some_one (negsuc m) p (omega arith) few fits stands
+pattern_one n p few fits none stands = grind (arith, nat_tests, some_one)
 
 -- ---- binary32
 

@@ -1,10 +1,10 @@
 -- How high up players enter.
-use Rattle.std.proofs.Common.{ℕ, ◌+◌, ◌*◌, ◌/◌, ◌%◌, ◌<◌, ◌≤◌, arith}
-use Rattle.std.specs.Prelude.{unsigned_abs, not}
+use Rattle.std.proofs.Common.{ℕ, ◌*◌, ◌<◌, ◌≤◌, arith}
+use Rattle.std.proofs.lemmas.Bool.Decides.{nat_tests}
+use Rattle.std.specs.Prelude.{unsigned_abs}
 use Rattle.std.specs.Int.{int_rem_euclid}
-use lib.IntN.{ℤ, pos, negsuc, ◌+ℤ◌}
+use lib.IntN.{ℤ, pos, negsuc}
 use Rattle.mc_land.specs.declared.terrain.Terrain.{Terrain}
-use Rattle.mc_land.specs.declared.terrain.Terrain.TheVariants.{Flat, Hills, Isle}
 use Rattle.mc_land.specs.Terrain.{wave}
 use Rattle.mc_model.specs.Spots.{spawn_height}
 
@@ -22,9 +22,4 @@ wave_within v half some = let below = rest_below v (2 * half) (omega (arith, som
 
 -- players enter not far up
 pub spawn_low : (terrain : Terrain) → spawn_height terrain < 100
-spawn_low Flat = omega arith
-spawn_low (Hills seed) =
-    let x = wave_within (pos 8 +ℤ pos (seed % 128)) 64 (omega arith) in
-    let z = wave_within (pos 8 +ℤ pos (seed / 128 % 96)) 48 (omega arith) in
-    omega (arith, x, z)
-spawn_low Isle = omega arith
+spawn_low terrain = grind (arith, nat_tests)

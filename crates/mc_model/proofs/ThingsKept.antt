@@ -1,12 +1,11 @@
 -- Changes of things keep what packets rest on.
-use Rattle.std.proofs.Common.{◌≡◌, ℕ, ◌+◌, List, [], ◌∷◌, length, map, refl, sym, ap, ◌∙◌, arith}
+use Rattle.std.proofs.Common.{◌≡◌, ℕ, ◌+◌, List, [], ◌∷◌, map, refl, arith}
+use Rattle.std.proofs.lemmas.Bool.Decides.{nat_tests}
 use Rattle.std.specs.Prelude.{Bool, true, false, cond, Option, Some}
-use Rattle.std.specs.List.{filter}
 use lib.IntN.{pos}
 use Rattle.mc_slots.specs.declared.pile.Pile.{Pile}
 use Rattle.mc_entities.specs.declared.entity.Entity.{Entity}
 use Rattle.mc_entities.specs.declared.entity.EntityKind.{EntityKind}
-use Rattle.mc_entities.specs.declared.entity.EntityKind.TheVariants as kinds
 use Rattle.mc_entities.specs.Numbers.{changed}
 use Rattle.mc_entities.specs.Kinds.{is_dropped}
 use Rattle.mc_entities.specs.Folk.{dropped_in, eid_of}
@@ -23,34 +22,22 @@ one_if b = cond b 1 0
 
 pub dropped_more : (e : Entity) (es : List Entity) →
     dropped_in (e ∷ es) ≡ one_if (is_dropped e.kind) + dropped_in es
-dropped_more e es = elim (is_dropped e.kind) as (λ b. length
-    (cond b (e ∷ filter (λ (x : Entity). is_dropped x.kind) es)
-    (filter (λ (x : Entity). is_dropped x.kind) es)) ≡ one_if b + dropped_in es) [
-      | true ↦ omega arith
-      | false ↦ omega arith
-    ]
+dropped_more e es = grind (arith, nat_tests)
 
 -- whether clients see a dropped item
-abbrev is_item : Option SeenKind → Bool
-is_item (Some seen_kinds.Item) = true
-is_item other = false
+abbrev is_seen_dropped : Option SeenKind → Bool
+is_seen_dropped (Some seen_kinds.Dropped) = true
+is_seen_dropped other = false
 
 -- a dropped item is what they see as one
-seen_dropped : (kind : EntityKind) → is_dropped kind ≡ is_item (kind_seen kind)
-seen_dropped (kinds.Player uuid held) = refl
-seen_dropped (kinds.Dropped item born) = refl
-seen_dropped kinds.Mob = refl
+seen_dropped : (kind : EntityKind) → is_dropped kind ≡ is_seen_dropped (kind_seen kind)
+seen_dropped kind = grind (arith, nat_tests)
 
 -- as many where no change makes another kind of an entity
 dropped_mapped : (f : Entity → Entity) → IsSteady f → (es : List Entity) →
     dropped_in (map f es) ≡ dropped_in es
 dropped_mapped f steady [] = refl
-dropped_mapped f steady (e ∷ es) =
-    dropped_more (f e) (map f es)
-    ∙ ap (λ (b : Bool). one_if b + dropped_in (map f es))
-    (seen_dropped (f e).kind ∙ ap is_item (steady.kind e) ∙ sym (seen_dropped e.kind))
-    ∙ ap (λ (n : ℕ). one_if (is_dropped e.kind) + n) (dropped_mapped f steady es)
-    ∙ sym (dropped_more e es)
+dropped_mapped f steady (e ∷ es) = grind (arith, nat_tests, dropped_mapped f steady es)
 
 -- as many lie where one holds another pile
 pub dropped_held : (eid : ℕ) (pile : Pile) (es : List Entity) →

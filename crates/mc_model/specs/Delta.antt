@@ -182,7 +182,7 @@ is_same_slot (slots.Full a) slots.Empty = false
 -- what a player holds is worn in slot 0; what lies there is the slot of index 10 of the metadata
 abbrev pub pile_packet : ℤ → SeenKind → Slot → Down
 pile_packet eid (seen_kinds.Player uuid) pile = Equipment eid (pos 0) pile
-pile_packet eid seen_kinds.Item pile =
+pile_packet eid seen_kinds.Dropped pile =
     Meta eid (record { index = 10; value = values.Slot pile } ∷ [])
 
 -- the id of what is in a hand, as a player's spawn has it: 0 for an empty one
@@ -205,9 +205,9 @@ abbrev pub spawn_as : ℤ → SeenKind → Spot → Slot → List Down
 spawn_as eid (seen_kinds.Player uuid) spot pile =
     SpawnPlayer eid uuid spot.x spot.y spot.z spot.yaw spot.pitch (id_in_hand pile) no_flags
     ∷ HeadLook eid spot.yaw ∷ hand_packets eid uuid pile
-spawn_as eid seen_kinds.Item spot pile =
+spawn_as eid seen_kinds.Dropped spot pile =
     SpawnObject eid (pos 2) spot.x spot.y spot.z spot.pitch spot.yaw (pos 0) None
-    ∷ pile_packet eid seen_kinds.Item pile ∷ []
+    ∷ pile_packet eid seen_kinds.Dropped pile ∷ []
 
 abbrev pub spawn_packets : ℤ → Seen → List Down
 spawn_packets eid e = spawn_as eid e.kind e.spot e.pile

@@ -1,6 +1,6 @@
 -- What is noted for a client between two ticks, and what it is sent for that at the next beside the
 -- difference. Rules of this project.
-use Rattle.std.specs.Prelude.{Bool, false, List, [], ℕ, true, ◌++◌, if◌then◌else◌, ◌+◌, ◌-◌, ◌&&◌}
+use Rattle.std.specs.Prelude.{Bool, false, List, [], ℕ, true, ◌++◌, if◌then◌else◌, ◌&&◌}
 use Rattle.std.specs.Prelude.{int_le, ◌∷◌, map, replicate}
 use Rattle.std.specs.List.{filter}
 use Rattle.std.specs.FinMap.{FinMap}

@@ -1,6 +1,6 @@
 -- What a client is sent before its first difference. Rules of this project; the packets are of the
 -- page 'Protocol' of wiki.vg for protocol 47, Join Game, Spawn Position, Player Position And Look.
-use Rattle.std.specs.Prelude.{ℕ, ◌-◌, false, List, [], ◌∷◌, codes}
+use Rattle.std.specs.Prelude.{ℕ, false, List, [], ◌∷◌, codes}
 use lib.IntN.{ℤ, pos}
 use Rattle.mc_fields.specs.declared.position.Spot.{Spot}
 use Rattle.mc_packets.specs.declared.down.Down.{Down}

@@ -128,7 +128,7 @@ coming kind spot = record { kind = kind; spot = spot; head = spot.yaw; pile = sl
 -- an object of kind 2 is a dropped item
 abbrev pub with_object : Entities → ℤ → ℤ → Spot → Entities
 with_object entities eid kind spot =
-    if int_eq kind (pos 2) then insert entities eid (coming seen_kinds.Item spot) else entities
+    if int_eq kind (pos 2) then insert entities eid (coming seen_kinds.Dropped spot) else entities
 
 abbrev pub without_eids : Entities → List ℤ → Entities
 without_eids entities eids = fold (λ (m : Entities) (eid : ℤ). remove m eid) entities eids
@@ -154,7 +154,7 @@ looking yaw pitch spot = record spot { yaw = yaw; pitch = pitch }
 abbrev pub worn_by : SeenKind → ℤ → Slot → Seen → Seen
 worn_by (seen_kinds.Player uuid) worn pile e =
     if int_eq worn (pos 0) then record e { pile = pile } else e
-worn_by seen_kinds.Item worn pile e = e
+worn_by seen_kinds.Dropped worn pile e = e
 
 abbrev pub wearing : ℤ → Slot → Seen → Seen
 wearing worn pile e = worn_by e.kind worn pile e
@@ -162,7 +162,7 @@ wearing worn pile e = worn_by e.kind worn pile e
 -- the slot of index 10 says what lies there, of a dropped item
 abbrev pub lying_of : SeenKind → ℕ → Slot → Seen → Seen
 lying_of (seen_kinds.Player uuid) index pile e = e
-lying_of seen_kinds.Item index pile e = if index == 10 then record e { pile = pile } else e
+lying_of seen_kinds.Dropped index pile e = if index == 10 then record e { pile = pile } else e
 
 abbrev pub with_value : ℕ → MetaValue → Seen → Seen
 with_value index (values.Slot pile) e = lying_of e.kind index pile e

@@ -65,7 +65,12 @@ seen_as e (kinds.Player uuid held) = Some (
 )
 seen_as e (kinds.Dropped item born) = Some (
   e.eid,
-  record { kind = seen_kinds.Item; spot = e.spot; head = e.spot.yaw; pile = slot_of (Full item) },
+  record {
+    kind = seen_kinds.Dropped;
+    spot = e.spot;
+    head = e.spot.yaw;
+    pile = slot_of (Full item);
+  },
 )
 seen_as e kinds.Mob = None
 

@@ -1,6 +1,6 @@
 -- Parts of a game: the state of a cell, where an entity stands and what it holds, and what a pack
 -- has in a hand. Rules of this project.
-use Rattle.std.specs.Prelude.{ℕ, ◌+◌, ◌-◌, nat_lt, slice_set, if◌then◌else◌}
+use Rattle.std.specs.Prelude.{ℕ, ◌+◌, nat_lt, slice_set, if◌then◌else◌}
 use Rattle.std.specs.FinMap.{FinMap}
 use lib.IntN.{ℤ, pos, negsuc}
 use Rattle.mc_fields.specs.declared.position.Spot.{Spot}
@@ -14,7 +14,6 @@ use Rattle.mc_windows.specs.Pack.{PackValue}
 use Rattle.mc_entities.specs.declared.entity.Entity.{Entity}
 use Rattle.mc_entities.specs.declared.entity.EntityKind.{EntityKind}
 use Rattle.mc_entities.specs.declared.entity.EntityKind.TheVariants as kinds
-use Rattle.mc_entities.specs.Numbers.{changed}
 
 -- ---- cells
 

@@ -3,6 +3,7 @@ ghost use Rattle.std.specs.List.{list_all};
 ghost use Rattle.mc_model.specs.Names.{is_name, is_name_byte};
 
 use mc_bytes::{NoMemory, Text};
+use std::alloc::Global;
 use std::marker::Model;
 
 /// A player's name: 1 to 16 letters from A to Z and a to z, digits and `_`.
@@ -53,14 +54,16 @@ fn is_name(text: &[u8]) -> bool
 
 impl Name {
     /// The name that a text is, None exactly where it is none.
-    pub fn read(text: &Text) -> Result<Option<Name>, NoMemory>
+    pub fn read(alloc: Global, text: &Text) -> Result<Option<Name>, NoMemory>
         ensures none { is_name text.now ≡ false → result ≡ Ok None }
         ensures some { IsTrue (is_name text.now) → IfOk result (λ name. name ≡ Some text.now) }
     {
         if !is_name(text.as_str().as_bytes()) {
             return Ok(None);
         }
-        Ok(Some(Name { text: text.copy()? }))
+        Ok(Some(Name {
+            text: Text::from_str(alloc, text.as_str())?,
+        }))
     }
 
     /// The text that was read.

@@ -8,5 +8,5 @@ pub enum SeenKind {
     /// A player, by its identifier.
     Player(u128),
     /// A dropped item.
-    Item,
+    Dropped,
 }

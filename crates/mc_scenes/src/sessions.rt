@@ -136,7 +136,7 @@ fn put_told(told: Result<Octets, NoMemory>, answer: &mut Answer) {
 
 /// The name that a text is. A text that is none makes the row a bad one.
 pub fn name_of(text: &Text, words: &mut Words<'_>) -> Option<Name> {
-    match Name::read(text) {
+    match Name::read(words.alloc, text) {
         Ok(Some(name)) => Some(name),
         _ => {
             words.fail();

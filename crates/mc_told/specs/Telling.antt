@@ -77,7 +77,7 @@ abbrev pub row_as : Entity → EntityKind → Option Row
 row_as e (Player uuid held) =
     Some (record { eid = e.eid; kind = seen_kinds.Player uuid; spot = e.spot; pile = held })
 row_as e (Dropped item born) =
-    Some (record { eid = e.eid; kind = seen_kinds.Item; spot = e.spot; pile = Full item })
+    Some (record { eid = e.eid; kind = seen_kinds.Dropped; spot = e.spot; pile = Full item })
 row_as e Mob = None
 
 -- and that stands in a view

@@ -32,9 +32,9 @@ fn id_in_hand(pile: &Pile) -> i16
 }
 
 /// Appends the frames that show a dropped item.
-fn put_item(row: &Row, out: &mut Vec<u8>) -> Result<(), NoMemory>
+fn put_dropped(row: &Row, out: &mut Vec<u8>) -> Result<(), NoMemory>
     requires pile { IsPile row.now.pile }
-    requires kind { row.now.kind ≡ seen_kinds.Item }
+    requires kind { row.now.kind ≡ seen_kinds.Dropped }
     ensures { OnOk result (out.new.items ≡ out.old.items ++ play_bytes
         (spawn_as row.now.eid row.now.kind row.now.spot (slot_of row.now.pile))) }
 {
@@ -79,7 +79,7 @@ fn put_new(row: &Row, out: &mut Vec<u8>) -> Result<(), NoMemory>
 {
     match row.kind {
         SeenKind::Player(uuid) => put_player(row, uuid, out),
-        SeenKind::Item => put_item(row, out),
+        SeenKind::Dropped => put_dropped(row, out),
     }
 }
 

@@ -43,7 +43,7 @@ pub fn no_flags(alloc: Global) -> Result<Metas, NoMemory>
 fn put_lying(eid: i32, pile: Pile, out: &mut Vec<u8>) -> Result<(), NoMemory>
     requires { IsPile pile }
     ensures { OnOk result (out.new.items ≡ out.old.items ++ play_bytes
-        (pile_packet eid seen_kinds.Item (slot_of pile) ∷ [])) }
+        (pile_packet eid seen_kinds.Dropped (slot_of pile) ∷ [])) }
 {
     let value = MetaValue::Slot(pile.slot());
     let metas = metas_of(*out.allocator(), ITEM_INDEX, value)?;
@@ -67,6 +67,6 @@ pub fn put_pile(row: &Row, out: &mut Vec<u8>) -> Result<(), NoMemory>
 {
     match row.kind {
         SeenKind::Player(_) => put_held(row.eid, row.pile, out),
-        SeenKind::Item => put_lying(row.eid, row.pile, out),
+        SeenKind::Dropped => put_lying(row.eid, row.pile, out),
     }
 }

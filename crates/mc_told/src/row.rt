@@ -31,7 +31,7 @@ fn row_as(entity: &Entity) -> Option<Row>
 {
     let (kind, pile) = match entity.kind {
         EntityKind::Player { uuid, held } => (SeenKind::Player(uuid), held),
-        EntityKind::Dropped { item, .. } => (SeenKind::Item, Pile::Full(item)),
+        EntityKind::Dropped { item, .. } => (SeenKind::Dropped, Pile::Full(item)),
         EntityKind::Mob => return None,
     };
     Some(Row {

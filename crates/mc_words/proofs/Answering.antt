@@ -6,6 +6,7 @@ use Rattle.std.specs.Prelude.{Option, Some, None, nat_lt, not, ◌&&◌}
 use Rattle.std.specs.List.{fold}
 use Rattle.std.proofs.lemmas.List.{append-nil, take-append-drop, nil_from_length}
 use Rattle.std.proofs.lemmas.List.Sums.{fold-append}
+use Rattle.std.proofs.lemmas.Bool.Decides.{nat_tests}
 use lib.IntN.{ℤ, pos}
 use Rattle.mc_bytes.specs.Reading.{IsBytes}
 use Rattle.mc_bytes.specs.Numbers.{IsBytes-after, IsBytes-take}
@@ -30,7 +31,6 @@ use Rattle.mc_words.specs.StatusText.{receives_next, ends_inside}
 use Rattle.mc_words.specs.Received.{IsExchange, IsOpen, IsAt, Received, is_over, IsIdle, IsAsking}
 use Rattle.mc_words.specs.Received.{unread_in, said_stage, said_fault, said_lines, SendsPart}
 use Rattle.mc_words.specs.Received.{Answers}
-use Rattle.mc_words.proofs.Cuts.{is_hex, not_hex}
 use Rattle.mc_words.proofs.Turns.{ends_at, bytes_before, asking_cases, asking_open, asking_fine}
 use Rattle.mc_words.proofs.Turns.{FitsSaid, call_after, opened}
 use Rattle.mc_words.proofs.Exchanges.{begun, begun_is, first_is, part_received, frame_received}
@@ -330,9 +330,7 @@ fold_parts x done rest piece parts = ap (fold receives x) parts ∙ fold-append 
 pub parts_next : (done rest piece : List ℕ) (count : ℕ) (after : List ℕ) → piece ≡ done ++ rest →
     after ≡ drop count rest → piece ≡ (done ++ take count rest) ++ after
 parts_next done rest piece count after parts is =
-    parts ∙ ap (λ (t : List ℕ). done ++ t) (sym (take-append-drop count rest))
-    ∙ sym (append_assoc done (take count rest) (drop count rest))
-    ∙ ap (λ (t : List ℕ). (done ++ take count rest) ++ t) (sym is)
+    grind (arith, nat_tests, done, take-append-drop, append_assoc)
 
 -- the next bytes of a piece came
 pub part_fed : (most : ℕ) (start held : Option (List ℕ)) (client : Client) (now : Splitting)
@@ -374,19 +372,13 @@ pub next_not_hex : (len size : ℕ) (x : Exchange) (line old new : List ℕ) (pa
     past ≡ goes_past len size → past ≡ false → hex ≡ false →
     PutsLine (line_bytes line) old new hex →
     receives_next len size x line ≡ record x { fault = Some faults.Hex }
-next_not_hex len size x line old new past hex is short no_hex puts =
-    let P : Bool → Type 0 = λ b. PutsLine (line_bytes line) old new b in
-    rw (sym is ∙ short, not_hex (line_bytes line) old new (subst P no_hex puts)) refl
+next_not_hex len size x line old new past hex is short no_hex puts = grind (arith, nat_tests)
 
 -- a line of hex
 pub next_hex : (len size : ℕ) (x : Exchange) (line old new : List ℕ) (past hex : Bool) →
     past ≡ goes_past len size → past ≡ false → old ≡ [] → hex ≡ true →
     PutsLine (line_bytes line) old new hex → receives_next len size x line ≡ fold receives x new
-next_hex len size x line old new past hex is short none yes_hex puts =
-    let P : Bool → Type 0 = λ b. PutsLine (line_bytes line) old new b in
-    let h = is_hex (line_bytes line) old new (subst P yes_hex puts) in
-    rw (sym is ∙ short) (ap (receives_line x) h.1
-    ∙ ap (fold receives x) (sym (h.2 ∙ ap (λ (t : List ℕ). t ++ h.0) none)))
+next_hex len size x line old new past hex is short none yes_hex puts = grind (arith, nat_tests)
 
 -- the text of a line begins with what was written before it
 pub next_begins : (len size : ℕ) (x : Exchange) (line : List ℕ) →

@@ -1,11 +1,12 @@
 -- Reading the arguments of the command line one by one.
-use Rattle.std.proofs.Common.{◌≡◌, ℕ, ◌+◌, ◌<◌, ◌≤◌, Bool, true, false, cond, List, [], ◌∷◌, length}
+use Rattle.std.proofs.Common.{◌≡◌, ℕ, ◌+◌, ◌<◌, ◌≤◌, Bool, true, false, List, [], ◌∷◌, length}
 use Rattle.std.proofs.Common.{get_or, take, drop, Option, Some, None, refl, sym, ap, ◌∙◌, arith}
-use Rattle.std.proofs.Common.{add-one, drop-cons, nat_lt, ltb-false}
+use Rattle.std.proofs.Common.{add-one, drop-cons}
 use Rattle.std.specs.Prelude.{map, position, is_some, option_map, codes}
 use Rattle.std.specs.List.{position_or_len, list_any}
 use Rattle.std.specs.Str.{bytes_eq}
 use Rattle.std.proofs.lemmas.List.{drop_all, take_all}
+use Rattle.std.proofs.lemmas.Bool.Decides.{nat_tests}
 use Rattle.mc_words.specs.Arguments.{is_equals, name_of, value_of, value_in, are_options, status_of}
 use Rattle.mc_words.specs.Arguments.{replay_of, serve_of, command_of}
 
@@ -13,22 +14,11 @@ use Rattle.mc_words.specs.Arguments.{replay_of, serve_of, command_of}
 
 place_is : (p : ℕ → Bool) (argument : List ℕ) (end : ℕ) → position p argument ≡ Some end →
     position_or_len p argument ≡ end
-place_is p argument end e = step (nat_lt (position_or_len p argument) (length argument)) e
-  where
-    step : (t : Bool) → cond t (Some (position_or_len p argument)) None ≡ Some end →
-        position_or_len p argument ≡ end
-    step true e = cc
-    step false e = absurd cc
+place_is p argument end e = grind (arith, nat_tests)
 
 no_place : (p : ℕ → Bool) (argument : List ℕ) → position p argument ≡ None →
     length argument ≤ position_or_len p argument
-no_place p argument e = step (nat_lt (position_or_len p argument) (length argument)) refl e
-  where
-    step : (t : Bool) → nat_lt (position_or_len p argument) (length argument) ≡ t →
-        cond t (Some (position_or_len p argument)) None ≡ None →
-        length argument ≤ position_or_len p argument
-    step true t e = absurd cc
-    step false t e = ltb-false _ _ t
+no_place p argument e = grind (arith, nat_tests)
 
 pub name-some : (argument : List ℕ) (end : ℕ) → position is_equals argument ≡ Some end →
     take end argument ≡ name_of argument
@@ -50,10 +40,7 @@ name-none argument e =
 pub value-none : (argument : List ℕ) → position is_equals argument ≡ None →
     drop (length argument) argument ≡ value_of argument
 unfolding value_of
-value-none argument e =
-    let past = no_place is_equals argument e in
-    drop_all (length argument) argument (omega arith)
-    ∙ sym (drop_all (position_or_len is_equals argument + 1) argument (omega (arith, past)))
+value-none argument e = grind (arith, nat_tests, no_place, drop_all)
 
 -- ---- lists of arguments, each seen as its bytes
 

@@ -11,6 +11,7 @@ use Rattle.std.specs.FinMap.{nat_cmp-IsAntisymmetric}
 use Rattle.std.proofs.lemmas.List.{append-nil, nil_from_length}
 use Rattle.std.proofs.Math.Seq.{drop-length}
 use Rattle.std.proofs.lemmas.Bool.{lt-leb}
+use Rattle.std.proofs.lemmas.Bool.Decides.{nat_tests}
 use lib.IntN.{ℤ, pos}
 use Rattle.mc_bytes.specs.Reading.{IsBytes}
 use Rattle.mc_frame.specs.declared.fault.FrameFault.{FrameFault}
@@ -34,7 +35,7 @@ use Rattle.mc_model.proofs.Maps.Lookups.{put_same}
 use Rattle.mc_words.specs.declared.bad_input.InputFault.{InputFault}
 use Rattle.mc_words.specs.declared.bad_input.InputFault.TheVariants as faults
 use Rattle.mc_words.specs.StatusText.{Exchange, first_exchange, sent_lines, session_fault}
-use Rattle.mc_words.specs.StatusText.{shown_fault, emptied, goes_on, receives, is_open_in}
+use Rattle.mc_words.specs.StatusText.{shown_fault, emptied, goes_on, receives}
 use Rattle.mc_words.specs.StatusText.{ends_inside}
 use Rattle.mc_words.specs.Received.{Call, called, unread_in, kept_of, lone_settings, lone, exchange}
 use Rattle.mc_words.specs.Received.{IsExchange, said_lines, IsAsking}
@@ -101,11 +102,7 @@ first_is most =
 pub inside_is : (most : ℕ) (text : List ℕ) (c : Call) (x : Exchange) →
     IsExchange most text c x →
     ends_inside x.world ≡ (not (is_closed c.stage) && nat_lt 0 (length c.rest))
-inside_is most text c x h =
-    ap (λ (y : Exchange). ends_inside y.world) h.is
-    ∙ (λ i. is_open_in (put_same empty 0 (called c) i)
-    && nat_lt 0 (length (unwrap_or (kept_get h.kept i) nothing_unread).rest))
-    ∙ ap (λ (u : Unread). not (is_closed c.stage) && nat_lt 0 (length u.rest)) h.unread
+inside_is most text c x h = grind (arith, nat_tests, put_same, kept_get)
 
 -- ---- a byte
 
@@ -153,10 +150,7 @@ receives_comes most b text more c c' x fine comes h =
 pub fault_stays : (x : Exchange) (kind : InputFault) (bytes : List ℕ) → x.fault ≡ Some kind →
     fold receives x bytes ≡ x
 fault_stays x kind [] is = refl
-fault_stays x kind (b ∷ bytes) is =
-    ap (λ (o : Option InputFault). fold receives
-    (cond (is_some o) x (goes_on x (step x.world (came 0 (b ∷ []))))) bytes) is
-    ∙ fault_stays x kind bytes is
+fault_stays x kind (b ∷ bytes) is = grind (arith, nat_tests, fault_stays x kind bytes is)
 
 -- what no frame begins so comes to
 abbrev pub FailsAt : List ℕ → Exchange → Type 0

@@ -1,21 +1,15 @@
 -- How what a sink holds grows, one text after another.
 use Rattle.std.proofs.Common.{◌≡◌, ℕ, ◌≤◌, ◌⊎◌, inl, inr, List, [], ◌++◌, length, take, Option}
-use Rattle.std.proofs.Common.{Some, None, sym, subst, ap, ◌∙◌, append_assoc, arith}
+use Rattle.std.proofs.Common.{Some, None, sym, ◌∙◌, append_assoc, arith}
 use Rattle.std.proofs.lemmas.List.{append-nil, take_all}
 use Rattle.std.proofs.Math.Seq.{take-append-le, take-append_seam}
+use Rattle.std.proofs.lemmas.Bool.Decides.{nat_tests}
 use Rattle.mc_wire.specs.Stream.{Grows}
 
 -- nothing is behind a text
 pub grows_two : (held middle held' : Option (List ℕ)) (first second : List ℕ) →
     Grows held middle first → Grows middle held' second → Grows held held' (first ++ second)
-grows_two None None None first second a b = tt
-grows_two None None (Some ys) first second a b = absurd b
-grows_two None (Some xs) held' first second a b = absurd a
-grows_two (Some xs) None None first second a b = tt
-grows_two (Some xs) None (Some zs) first second a b = absurd b
-grows_two (Some xs) (Some ys) None first second a b = tt
-grows_two (Some xs) (Some ys) (Some zs) first second a b =
-    b ∙ ap (λ (t : List ℕ). t ++ second) a ∙ append_assoc xs first second
+grows_two held middle held' first second a b = grind (arith, nat_tests, append_assoc)
 
 -- some first part of a text is one of a longer text
 pub part_of : (n : ℕ) (text more : List ℕ) → (m : ℕ) × (take m (text ++ more) ≡ take n text)
@@ -34,6 +28,4 @@ grows_none (Some xs) = sym (append-nil xs)
 
 pub grows_same : (A : Type 0) (view : A → Option (List ℕ)) (old new : A) → new ≡ old →
     Grows (view old) (view new) []
-grows_same A view old new is =
-    let P : A → Type 0 = λ a. Grows (view old) (view a) [] in
-    subst P (sym is) (grows_none (view old))
+grows_same A view old new is = grind (arith, nat_tests, grows_none)

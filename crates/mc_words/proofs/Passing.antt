@@ -3,6 +3,8 @@ use Rattle.std.proofs.Common.{ℕ, ◌+◌, List, [], ◌++◌, length, take, Op
 use Rattle.std.proofs.Common.{append_assoc, refl}
 use Rattle.std.proofs.lemmas.List.{append-nil}
 use Rattle.std.proofs.Math.Seq.{take-append-add, take-append_seam}
+use Rattle.std.proofs.Common.{arith}
+use Rattle.std.proofs.lemmas.Bool.Decides.{nat_tests}
 use Rattle.mc_wire.specs.Stream.{Grows}
 use Rattle.mc_words.specs.Passes.{Passes, Breaks}
 use Rattle.mc_words.proofs.Growing.{grows_two}
@@ -16,25 +18,13 @@ passes_none held old all = record { out = []; wrote = grows_none held; rest = re
 pub passes_next : (held middle held' : Option (List ℕ)) (old all half text new left : List ℕ) →
     Passes held middle old all half (text ++ left) → Passes middle held' half text new [] →
     Passes held held' old all new left
-passes_next held middle held' old all half text new left a b = record {
-  out = a.out ++ b.out;
-  wrote = grows_two held middle held' a.out b.out a.wrote b.wrote;
-  rest =
-      a.rest
-      ∙ ap (λ (t : List ℕ). a.out ++ t) (
-      sym (append_assoc half text left)
-      ∙ ap (λ (t : List ℕ). t ++ left) (b.rest ∙ ap (λ (t : List ℕ). b.out ++ t) (append-nil new))
-      ∙ append_assoc b.out new left
-      )
-      ∙ sym (append_assoc a.out b.out (new ++ left));
-}
+passes_next held middle held' old all half text new left a b =
+    grind (arith, nat_tests, grows_two, append_assoc, append-nil)
 
 -- all was passed on, and nothing waits
 pub passes_all : (held held' : Option (List ℕ)) (text : List ℕ) → Passes held held' [] text [] [] →
     Grows held held' text
-passes_all held held' text p =
-    let P : List ℕ → Type 0 = λ t. Grows held held' t in
-    subst P (sym (p.rest ∙ append-nil p.out)) p.wrote
+passes_all held held' text p = grind (arith, nat_tests, append-nil)
 
 -- it broke in the next text
 pub breaks_next : (held middle held' : Option (List ℕ)) (old all half text left : List ℕ) →
@@ -78,14 +68,7 @@ breaks_early held held' old text more b =
 -- what is to come behind a text that was passed on
 pub passes_left : (held held' : Option (List ℕ)) (old text new left : List ℕ) →
     Passes held held' old text new [] → Passes held held' old (text ++ left) new left
-passes_left held held' old text new left p = record {
-  out = p.out;
-  wrote = p.wrote;
-  rest =
-      sym (append_assoc old text left)
-      ∙ ap (λ (t : List ℕ). t ++ left) (p.rest ∙ ap (λ (t : List ℕ). p.out ++ t) (append-nil new))
-      ∙ append_assoc p.out new left;
-}
+passes_left held held' old text new left p = grind (arith, nat_tests, append_assoc, append-nil)
 
 pub passes_two : (held middle held' : Option (List ℕ)) (old first half second new : List ℕ) →
     Passes held middle old first half [] → Passes middle held' half second new [] →

@@ -1,6 +1,7 @@
 -- A text that is read line by line.
 use Rattle.std.proofs.Common.{◌≡◌, ℕ, ◌+◌, List, [], ◌∷◌, length, Option, Some, None, refl, arith}
 use Rattle.std.proofs.Common.{Bor}
+use Rattle.std.proofs.lemmas.Bool.Decides.{nat_tests}
 use Rattle.std.specs.Prelude.{MatchOption, option_map}
 use Rattle.mc_words.specs.Lines.{lines_of, CutsLine, EndsText}
 
@@ -23,12 +24,7 @@ pub record CutsNext (text line : List ℕ) (after : Option (List ℕ)) : Type 0 
 pub cuts_next : (text line : List ℕ) (after : Option (Bor (List ℕ))) →
     MatchOption after (EndsText text line) (λ rest. CutsLine text line rest.now) →
     CutsNext text line (option_map (λ r. r.now) after)
-cuts_next text line None e =
-    let size = e.size in
-    record { lines = e.lines; size = omega (arith, size) }
-cuts_next text line (Some rest) e =
-    let size = e.size in
-    record { lines = e.lines; size = omega (arith, size) }
+cuts_next text line after e = grind (arith, nat_tests)
 
 -- what is not there is none
 pub none_left : (rest : Option (Bor (List ℕ))) → ((x : Bor (List ℕ)) → rest ≡ Some x → ⊥) →

@@ -1,15 +1,15 @@
 -- What a client stands for whose bytes are taken frame by frame, at each of its calls.
-use Rattle.std.proofs.Common.{◌≡◌, ℕ, ◌+◌, ◌^◌, ◌<◌, ◌≤◌, ◌⊎◌, inl, inr, Bool, true, false, cond}
+use Rattle.std.proofs.Common.{◌≡◌, ℕ, ◌+◌, ◌^◌, ◌<◌, ◌≤◌, ◌⊎◌, inl, inr, true, false}
 use Rattle.std.proofs.Common.{List, [], ◌∷◌, ◌++◌, length, take, Result, Ok, Err, refl, sym, subst}
 use Rattle.std.proofs.Common.{ap, ◌∙◌, append_assoc, arith}
-use Rattle.std.specs.Prelude.{Option, Some, None, ◌==◌}
+use Rattle.std.specs.Prelude.{Option, Some, None}
 use Rattle.std.specs.List.{fold}
 use Rattle.std.proofs.lemmas.List.{length-append, append-nil, take_all, take-append-le}
 use Rattle.std.proofs.Math.Seq.{take-append-add}
-use lib.IntN.{ℤ, pos, negsuc}
+use Rattle.std.proofs.lemmas.Bool.Decides.{nat_tests}
+use lib.IntN.{ℤ}
 use Rattle.mc_bytes.specs.Numbers.{number_spelling}
 use Rattle.mc_fields.specs.declared.packet.PacketFault.{PacketFault}
-use Rattle.mc_fields.specs.Row.{packet_read, packet_of}
 use Rattle.mc_fields.specs.Varint.{varint_spelling, groups_spelling}
 use Rattle.mc_wire.specs.Stream.{Grows}
 use Rattle.mc_frame.specs.Frame.{IsPayload, frame_spelling}
@@ -20,8 +20,6 @@ use Rattle.mc_hello.specs.declared.status_up.StatusUp.{StatusUp}
 use Rattle.mc_hello.specs.declared.status_up.StatusUp.TheVariants.{Request, Ping}
 use Rattle.mc_hello.specs.declared.status_down.StatusDown.{StatusDown}
 use Rattle.mc_hello.specs.declared.status_down.StatusDown.TheVariants.{Response, Pong}
-use Rattle.mc_hello.specs.Hand as hand
-use Rattle.mc_hello.specs.StatusUp as up
 use Rattle.mc_hello.specs.StatusDown as down
 use Rattle.mc_up.specs.declared.play_up.PlayUp.{PlayUp}
 use Rattle.mc_model.specs.declared.cause.Cause.{Cause}
@@ -29,7 +27,7 @@ use Rattle.mc_model.specs.declared.stage.Stage.{Stage}
 use Rattle.mc_model.specs.declared.stage.Stage.TheVariants as stages
 use Rattle.mc_model.specs.Texts.{status_json}
 use Rattle.mc_model.specs.Packets.{of_status, frame_of, bytes_of}
-use Rattle.mc_model.specs.Talk.{ClientRequest, replies, ends, enters, acts, wanted, in_hand}
+use Rattle.mc_model.specs.Talk.{ClientRequest, wanted, in_hand}
 use Rattle.mc_model.specs.Talk.{in_status, request_of}
 use Rattle.mc_model.proofs.FitsSize.{varint_size}
 use Rattle.mc_model.proofs.FitsTalk.{response_clear}
@@ -51,37 +49,17 @@ use Rattle.mc_words.proofs.Growing.{grows_two, grows_none}
 frame_few : (packet : StatusDown) → IsPayload (down.spelling_of packet) →
     length (bytes_of (of_status packet ∷ [])) ≤ outbox_max
 unfolding frame_of frame_spelling
-frame_few packet p =
-    let payload = down.spelling_of packet in
-    let counted = p.counted in
-    let size = (varint_size (pos (length payload)) (record { sfits = omega (arith, counted) })).1 in
-    omega (
-      arith,
-      counted,
-      size,
-      length-append (varint_spelling (pos (length payload))
-          ++ payload) [],
-      length-append (varint_spelling (pos (length payload))) payload,
-    )
+frame_few packet p = grind (arith, nat_tests, varint_size, length-append)
 
 pong_length : (number : ℤ) → length (down.spelling_of (Pong number)) ≡ 9
 unfolding varint_spelling groups_spelling number_spelling
 pong_length number = refl
 
 pong_payload : (number : ℤ) → IsPayload (down.spelling_of (Pong number))
-pong_payload number = record {
-  some = omega (arith, pong_length number);
-  counted =
-      omega (arith, pong_length number);
-}
+pong_payload number = grind (arith, nat_tests, pong_length)
 
 wanted_fits : (next : ℤ) → IsWanted (wanted next)
-wanted_fits (pos n) = step_in (n == 1)
-  where
-    step_in : (b : Bool) → IsWanted (cond b stages.Status stages.Login)
-    step_in true = tt
-    step_in false = tt
-wanted_fits (negsuc n) = tt
+wanted_fits next = grind (arith, nat_tests)
 
 hand_fits : (r : Result Hand PacketFault) → FitsSaid (in_hand r)
 hand_fits (Ok (Handshake protocol address port next)) = wanted_fits next
@@ -98,37 +76,25 @@ status_fits most (Err fault) small = tt
 pub said_fits : (stage : Stage) (most : ℕ) (frame : List ℕ) → most < 2 ^ 32 → IsAsking stage →
     FitsSaid (request_of stage most 0 frame)
 unfolding request_of
-said_fits stages.Hand most frame small asks =
-    hand_fits (packet_of frame (packet_read hand.rows frame))
-said_fits stages.Status most frame small asks =
-    status_fits most (packet_of frame (packet_read up.rows frame)) small
-said_fits other most frame small asks = absurd asks
+said_fits other most frame small asks = grind (arith, nat_tests, hand_fits, status_fits)
 
 -- ---- what a session answers to it
 
 pub reply_said : (st : State) (d : ClientRequest) (frame : List ℕ) → Reply frame ≡ step_of st d →
     (said_lines d ≡ hex_line frame) × (said_fault d ≡ None)
-reply_said st (replies packet) frame e = let same : frame ≡ frame_of (of_status packet) = cc in
-    (ap hex_line (sym same), refl)
-reply_said st other frame e = absurd cc
+reply_said st other frame e = grind (arith, nat_tests)
 
 pub end_said : (st : State) (d : ClientRequest) (frame : List ℕ) (cause : Cause) →
     ReplyClose frame cause ≡ step_of st d → (said_lines d ≡ hex_line frame) × (said_fault d ≡ None)
-end_said st (ends packet) frame cause e = let same : frame ≡ frame_of (of_status packet) = cc in
-    (ap hex_line (sym same), refl)
-end_said st other frame cause e = absurd cc
+end_said st other frame cause e = grind (arith, nat_tests)
 
 pub no_enter : (st : State) (d : ClientRequest) (name : List ℕ) (protocol : ℤ) → FitsSaid d →
     Enter name protocol ≡ step_of st d → ⊥
-no_enter st (enters name') name protocol fits e = fits
-no_enter st (acts packet) name protocol fits e = fits
-no_enter st other name protocol fits e = cc
+no_enter st other name protocol fits e = grind (arith, nat_tests)
 
 pub no_act : (st : State) (d : ClientRequest) (packet : PlayUp) → FitsSaid d →
     Act packet ≡ step_of st d → ⊥
-no_act st (enters name) packet fits e = fits
-no_act st (acts packet') packet fits e = fits
-no_act st other packet fits e = cc
+no_act st other packet fits e = grind (arith, nat_tests)
 
 -- ---- what is written
 
@@ -184,21 +150,13 @@ part_begins start held some all part begins =
 -- an exchange between frames has just the lines that were written and that wait
 pub at_text : (most : ℕ) (fault : Option InputFault) (stage : Stage) (text : List ℕ)
     (x : Exchange) → IsAt most fault stage text x → x.text ≡ text
-at_text most (Some kind) stage text x a = a.1
-at_text most None stages.Hand text x a = ap (λ (y : Exchange). y.text) a.is.is
-at_text most None stages.Status text x a = ap (λ (y : Exchange). y.text) a.is.is
-at_text most None stages.Closed text x a = ap (λ (y : Exchange). y.text) a.is
-at_text most None other text x a = absurd a
+at_text most fault stage text x a = grind (arith, nat_tests)
 
 -- one that asks
 pub open_of : (most : ℕ) (fault : Option InputFault) (stage : Stage) (text : List ℕ)
     (x : Exchange) → is_over fault stage ≡ false → IsAt most fault stage text x →
     IsAsking stage × IsOpen most stage text x
-open_of most (Some kind) stage text x over a = absurd cc
-open_of most None stages.Hand text x over a = (tt, a)
-open_of most None stages.Status text x over a = (tt, a)
-open_of most None stages.Closed text x over a = absurd cc
-open_of most None other text x over a = absurd a
+open_of most fault stage text x over a = grind (arith, nat_tests)
 
 -- one that is over receives nothing
 pub over_stays : (most : ℕ) (fault : Option InputFault) (stage : Stage) (text : List ℕ)

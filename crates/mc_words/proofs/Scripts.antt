@@ -1,6 +1,6 @@
 -- How a script is read line by line, and what that shows of the whole text.
 use Rattle.std.proofs.Common.{◌≡◌, ℕ, ◌+◌, ◌<◌, ◌≤◌, Bool, true, false, List, [], ◌∷◌, ◌++◌, length}
-use Rattle.std.proofs.Common.{Option, Some, None, Result, Ok, Err, refl, sym, subst, ap, ◌∙◌}
+use Rattle.std.proofs.Common.{Option, Some, None, Result, Ok, Err, refl, sym, ap, ◌∙◌}
 use Rattle.std.proofs.Common.{append_assoc, arith}
 use Rattle.std.specs.Prelude.{MatchOption, is_some}
 use Rattle.std.specs.Result.{result_ok}
@@ -8,6 +8,7 @@ use Rattle.std.specs.Str.{IsUtf8, is_utf8}
 use Rattle.std.proofs.lemmas.Str.{IsUtf8-from_is_utf8}
 use Rattle.std.proofs.lemmas.List.Splits.{length-slice_split}
 use Rattle.std.proofs.lemmas.List.{append-nil}
+use Rattle.std.proofs.lemmas.Bool.Decides.{nat_tests}
 use Rattle.hex.specs.Hex.{decode_of}
 use Rattle.mc_words.specs.declared.bad_input.BadInput.{BadInput}
 use Rattle.mc_words.specs.declared.bad_input.InputFault.{InputFault}
@@ -43,20 +44,13 @@ some_digits (b ∷ digits) some = refl
 pub came_not : (k : ℕ) (digits old new : List ℕ) (b : Bool) →
     0 < length digits → b ≡ false → PutsLine (result_ok (decode_of digits)) old new b →
     bytes_event k (hex_of digits) ≡ Err faults.Hex
-came_not k digits old new b some is puts =
-    let P : Bool → Type 0 = λ t. PutsLine (result_ok (decode_of digits)) old new t in
-    ap (bytes_event k) (some_digits digits some ∙ not_hex _ old new (subst P is puts))
+came_not k digits old new b some is puts = grind (arith, nat_tests, some_digits, not_hex)
 
 -- digits that are hex are the bytes that were put
 pub came_is : (k : ℕ) (digits old new : List ℕ) (b : Bool) → 0 < length digits → old ≡ [] →
     b ≡ true → PutsLine (result_ok (decode_of digits)) old new b →
     bytes_event k (hex_of digits) ≡ Ok (Came k new)
-came_is k digits old new b some none is puts =
-    let P : Bool → Type 0 = λ t. PutsLine (result_ok (decode_of digits)) old new t in
-    let hex = is_hex _ old new (subst P is puts) in
-    let same : new ≡ hex.0 = hex.2 ∙ ap (λ (t : List ℕ). t ++ hex.0) none in
-    ap (bytes_event k) (some_digits digits some ∙ hex.1)
-    ∙ ap (λ (t : List ℕ). Ok (Came k t)) (sym same)
+came_is k digits old new b some none is puts = grind (arith, nat_tests, is_hex, some_digits)
 
 -- ---- words
 
@@ -127,18 +121,12 @@ with_none (Err bad) = refl
 
 with_both : (events more : List ScriptEvent) (r : Result (List ScriptEvent) BadInput) →
     with_events events (with_events more r) ≡ with_events (events ++ more) r
-with_both events more (Ok rest) =
-    ap (λ (t : List ScriptEvent). Ok t) (sym (append_assoc events more rest))
-with_both events more (Err bad) = refl
+with_both events more r = grind (arith, nat_tests, append_assoc)
 
 -- nothing was read yet
 pub script_start : (text : List ℕ) → HasScript text 0 0 at_first (Some text) []
 unfolding script_of
-script_start text = record {
-  total = omega arith;
-  few = omega arith;
-  so_far = with_none (lines_events (length text) 0 0 at_first (lines_of text));
-}
+script_start text = grind (arith, nat_tests)
 
 -- the lines that are left, by the first of them
 lines_next : (len count size : ℕ) (before : Before) (line : List ℕ) (lines left : List (List ℕ)) →
@@ -153,10 +141,7 @@ event_next : (events events' : List ScriptEvent) (n : ℕ) (before : Before)
     (event : Option ScriptEvent) (later : Before → Result (List ScriptEvent) BadInput) →
     PutsEvent event events events' → with_events events (then_ n before (Ok event) later)
     ≡ with_events events' (later (after_line before event))
-event_next events events' n before None later puts =
-    ap (λ (t : List ScriptEvent). with_events t (later before)) (sym puts)
-event_next events events' n before (Some event) later puts = with_both events (event ∷ []) _ ∙ ap
-    (λ (t : List ScriptEvent). with_events t (later (after_line before (Some event)))) (sym puts)
+event_next events events' n before event later puts = grind (arith, nat_tests, with_both)
 
 -- one more line was read
 pub script_next : (text left line : List ℕ) (count size : ℕ) (before : Before)

@@ -6,6 +6,7 @@ use Rattle.std.specs.Prelude.{Option, Some, None}
 use Rattle.std.proofs.lemmas.List.{length-append, append-nil}
 use Rattle.std.proofs.Math.Seq.{take-append_seam}
 use Rattle.std.proofs.lemmas.Bool.{le-leb}
+use Rattle.std.proofs.lemmas.Bool.Decides.{nat_tests}
 use Rattle.std.specs.Ordering.{nat_cmp}
 use Rattle.std.specs.FinMap.{get-empty, len-empty}
 use lib.IntN.{ℤ}
@@ -57,18 +58,13 @@ cut_is count bytes cut fits is =
 
 ended_cut : (count : ℕ) (bytes : List ℕ) (fault : Option FrameFault) → Ends count bytes fault →
     IsCutAt count bytes (record { frames = []; rest = bytes; fault = fault })
-ended_cut count bytes fault stops =
-    let same : count ≡ count + 0 = omega arith in
-    let P : ℕ → Type 0 = λ n. Ends n bytes fault in
-    record { front = []; parts = refl; framed = refl; ends = subst P same stops }
+ended_cut count bytes fault stops = grind (arith, nat_tests)
 
 -- bytes that no frame begins
 pub no_frame_cut : (count : ℕ) (bytes : List ℕ) (fault : Option FrameFault) → IsBytes bytes →
     Ends count bytes fault →
     cut_of count bytes ≡ record { frames = []; rest = bytes; fault = fault }
-no_frame_cut count bytes fault fits stops =
-    cut_is count bytes (record { frames = []; rest = bytes; fault = fault }) fits
-    (ended_cut count bytes fault stops)
+no_frame_cut count bytes fault fits stops = grind (arith, nat_tests, cut_is, ended_cut)
 
 pub whole_cut : (count : ℕ) (payload bytes : List ℕ) → IsBytes bytes →
     SpellsFrame payload bytes →
@@ -86,13 +82,7 @@ ends_at count at rest (ZeroLength n) e = (ZeroLength (kept_count at), (e.0, refl
 
 -- a front of a part is one
 pub part_before : (all front back : List ℕ) → all ≡ front ++ back → IsPart all → IsPart front
-part_before all front back parts p = record {
-  payload = p.payload;
-  missing = back ++ p.missing;
-  some = (let some = p.some in omega (arith, some, length-append back p.missing));
-  spelled = subst (SpellsFrame p.payload)
-      (ap (λ (t : List ℕ). t ++ p.missing) parts ∙ append_assoc front back p.missing) p.spelled;
-}
+part_before all front back parts p = grind (arith, nat_tests, length-append, append_assoc)
 
 -- a front of bytes that no frame begins so is a part of a frame, or no frame begins so
 pub ends_before : (count : ℕ) (all front back : List ℕ) (fault : FrameFault) →
@@ -149,23 +139,14 @@ hand_comes : (most : ℕ) (c : Call) (stage : Stage) (cause : Option Cause) (pac
     (record c { stage = stage; cause = cause }) more
 unfolding hand
 hand_comes most c stage cause packets more fits lines =
-    rw (le-leb (0 + length (bytes_of packets)) outbox_max (omega (arith, fits))) (record {
-      owed = bytes_of packets;
-      seat = λ i. record
-          (seat_in most (record c { stage = stage; cause = cause }) (bytes_of packets)) {
-            game = nobody_leaves most stage i;
-          };
-      lines = lines;
-    })
+    grind (arith, nat_tests, le-leb, nobody_leaves)
 
 -- ---- what bytes come to
 
 -- the stages of a connection that asks
 pub asking_cases : (P : Stage → Type 0) → P stages.Hand → P stages.Status → (stage : Stage) →
     IsAsking stage → P stage
-asking_cases P hand status stages.Hand asks = hand
-asking_cases P hand status stages.Status asks = status
-asking_cases P hand status other asks = absurd asks
+asking_cases P hand status stage asks = grind (arith, nat_tests)
 
 pub asking_open : (stage : Stage) → IsAsking stage → is_closed stage ≡ false
 asking_open = asking_cases (λ (s : Stage). is_closed s ≡ false) refl refl
@@ -200,13 +181,7 @@ bytes_come most c c' bytes all more cut open_ parts is comes =
 pub cut_stays : (most : ℕ) (c : Call) (all : List ℕ) →
     Comes most (on_cut 0 (seat_in most c []) (length all)
     (record { frames = []; rest = all; fault = None })) (record c { rest = all }) []
-cut_stays most c all =
-    let same : c.before + (length all - length all) ≡ c.before = omega arith in
-    record {
-      owed = [];
-      seat = λ i. seat_in most (record c { rest = all; before = same i }) [];
-      lines = refl;
-    }
+cut_stays most c all = grind (arith, nat_tests)
 
 none_fit : length (bytes_of []) ≤ outbox_max
 none_fit = omega arith
@@ -231,18 +206,7 @@ pub cut_frame : (most : ℕ) (c c' : Call) (payload all more : List ℕ) →
     (seat_in most (record c { rest = []; before = c.before + length all }) []) payload) c' more →
     Comes most (on_cut 0 (seat_in most c []) (length all)
     (record { frames = payload ∷ []; rest = []; fault = None })) c' more
-cut_frame most c c' payload all more comes =
-    let whole : c.before + length all ≡ c.before + (length all - 0) = omega arith in
-    let P : ℕ → Type 0 = λ n. Comes most
-    (on_frame 0 (seat_in most (record c { rest = []; before = n }) []) payload) c' more in
-    let k = subst P whole comes in
-    let t = on_frame 0
-    (seat_in most (record c { rest = []; before = c.before + (length all - 0) }) []) payload in
-    record {
-      owed = k.owed;
-      seat = k.seat;
-      lines = ap sent_lines (append-nil (t.handed ++ []) ∙ append-nil t.handed) ∙ k.lines;
-    }
+cut_frame most c c' payload all more comes = grind (arith, nat_tests, append-nil)
 
 -- ---- what a frame comes to
 

@@ -55,12 +55,12 @@ Told g = AreTold g.edits g.entities g.eids
 -- ---- how many dropped items lie
 
 -- whether clients see a dropped item
-abbrev is_item : Option SeenKind → Bool
-is_item (Some seen_kinds.Item) = true
-is_item other = false
+abbrev is_seen_dropped : Option SeenKind → Bool
+is_seen_dropped (Some seen_kinds.Dropped) = true
+is_seen_dropped other = false
 
 -- a dropped item is what they see as one
-seen_dropped : (kind : EntityKind) → is_dropped kind ≡ is_item (kind_seen kind)
+seen_dropped : (kind : EntityKind) → is_dropped kind ≡ is_seen_dropped (kind_seen kind)
 seen_dropped (kinds.Player uuid held) = refl
 seen_dropped (kinds.Dropped item born) = refl
 seen_dropped kinds.Mob = refl
@@ -72,7 +72,7 @@ dropped_mapped f steady [] = refl
 dropped_mapped f steady (e ∷ es) =
     dropped_more (f e) (map f es)
     ∙ ap (λ (b : Bool). one_if b + dropped_in (map f es))
-    (seen_dropped (f e).kind ∙ ap is_item (steady.kind e) ∙ sym (seen_dropped e.kind))
+    (seen_dropped (f e).kind ∙ ap is_seen_dropped (steady.kind e) ∙ sym (seen_dropped e.kind))
     ∙ ap (λ (n : ℕ). one_if (is_dropped e.kind) + n) (dropped_mapped f steady es)
     ∙ sym (dropped_more e es)
 

@@ -1,7 +1,9 @@
 -- What is found in a finite map of which a value was put in, taken out or changed.
 use Rattle.std.proofs.Common.{◌≡◌, ◌≢◌, ℕ, Bool, true, false, cond, List, [], ◌∷◌, map, Some, None}
-use Rattle.std.proofs.Common.{refl, sym, subst, ap, ◌∙◌, inl, inr}
-use Rattle.std.specs.Prelude.{◌⊎◌, ◌||◌, option_map}
+use Rattle.std.proofs.Common.{refl, sym, ap, ◌∙◌, inl, inr}
+use Rattle.std.proofs.Common.{arith}
+use Rattle.std.proofs.lemmas.Bool.Decides.{nat_tests}
+use Rattle.std.specs.Prelude.{◌⊎◌, option_map}
 use Rattle.std.specs.List.{list_any}
 use Rattle.std.specs.declared.cmp.Ordering.{Ordering}
 use Rattle.std.specs.Ordering.{nat_cmp, is_eq, eq_by_cmp}
@@ -10,7 +12,7 @@ use Rattle.std.specs.Cmp.Lexicographic.{nat_list_cmp_total}
 use Rattle.std.specs.FinMap.{FinMap, IsAntisymmetric, find, get, insert, remove, entries, values}
 use Rattle.std.specs.FinMap.{get-entries, get-from_entries, get-insert, get-remove, same_map}
 use Rattle.std.specs.FinMap.{nat_cmp-IsAntisymmetric, slice_cmp-IsAntisymmetric}
-use Rattle.mc_model.specs.Maps.{map_keyed, modify, name_cmp, with_value}
+use Rattle.mc_model.specs.Maps.{map_keyed, modify, name_cmp}
 use Rattle.mc_model.proofs.Maps.Sorted.{equal}
 
 -- ---- in any order of keys
@@ -20,10 +22,7 @@ module _ {K : Type 0} {R : K → K → Ordering} (o : IsTotalOrder R) (same : Is
   tied k = ap is_eq (tied_itself o k)
 
   apart : (q k : K) → q ≢ k → eq_by_cmp R q k ≡ false
-  apart q k ne = elim (eq_by_cmp R q k) as (λ b. eq_by_cmp R q k ≡ b → b ≡ false) [
-    | true ↦ λ t. absurd (ne (same q k (equal _ t)))
-    | false ↦ λ t. refl
-  ] refl
+  apart q k ne = grind (arith, nat_tests, same q k, equal)
 
 module _ {K X : Type 0} {R : K → K → Ordering} (o : IsTotalOrder R) (same : IsAntisymmetric R) where
   put_here : (m : FinMap R X) (k : K) (x : X) → get (insert m k x) k ≡ Some x
@@ -41,19 +40,11 @@ module _ {K X : Type 0} {R : K → K → Ordering} (o : IsTotalOrder R) (same : 
 
   changed_here : (m : FinMap R X) (k : K) (f : X → X) →
       get (modify k f m) k ≡ option_map f (get m k)
-  changed_here m k f = elim (get m k) as (λ v. get m k ≡ v →
-      get (with_value m k (option_map f v)) k ≡ option_map f v) [
-        | None ↦ λ none. none
-        | Some x ↦ λ some. put_here m k (f x)
-      ] refl
+  changed_here m k f = grind (arith, nat_tests, put_here)
 
   changed_there : (m : FinMap R X) (k q : K) (f : X → X) → q ≢ k →
       get (modify k f m) q ≡ get m q
-  changed_there m k q f ne = elim (get m k) as
-      (λ v. get (with_value m k (option_map f v)) q ≡ get m q) [
-        | None ↦ refl
-        | Some x ↦ put_there m k q (f x) ne
-      ]
+  changed_there m k q f ne = grind (arith, nat_tests, put_there)
 
 -- each value changed by its key
 module _ {K X Y : Type 0} {R : K → K → Ordering} (o : IsTotalOrder R) (same : IsAntisymmetric R)
@@ -61,12 +52,7 @@ module _ {K X Y : Type 0} {R : K → K → Ordering} (o : IsTotalOrder R) (same 
     found_keyed : (f : K → X → Y) (q : K) (es : List (K × X)) →
         find R q (map (λ (e : K × X). (e.0, f e.0 e.1)) es) ≡ option_map (f q) (find R q es)
     found_keyed f q [] = refl
-    found_keyed f q (e ∷ es) = elim (eq_by_cmp R q e.0) as (λ b. eq_by_cmp R q e.0 ≡ b →
-        cond b (Some (f e.0 e.1)) (find R q (map (λ (e : K × X). (e.0, f e.0 e.1)) es))
-        ≡ option_map (f q) (cond b (Some e.1) (find R q es))) [
-          | true ↦ λ t. ap (λ k. Some (f k e.1)) (sym (same q e.0 (equal _ t)))
-          | false ↦ λ t. found_keyed f q es
-        ] refl
+    found_keyed f q (e ∷ es) = grind (arith, nat_tests, found_keyed f q es, same, equal)
 
     keyed : (f : K → X → Y) (m : FinMap R X) (q : K) →
         get (map_keyed f m) q ≡ option_map (f q) (get m q)
@@ -90,17 +76,7 @@ any_found {X} test m q x none is = walk (entries m) none (sym (get-entries m q) 
     walk : (es : List (ℕ × X)) → list_any test (map (λ (e : ℕ × X). e.1) es) ≡ false →
         find nat_cmp q es ≡ Some x → test x ≡ false
     walk [] none is = absurd cc
-    walk (e ∷ es) none is = step (eq_by_cmp nat_cmp q e.0) (test e.1) refl none is (walk es)
-      where
-        step : (b t : Bool) → test e.1 ≡ t →
-            (t || list_any test (map (λ (e : ℕ × X). e.1) es)) ≡ false →
-            cond b (Some e.1) (find nat_cmp q es) ≡ Some x →
-            (list_any test (map (λ (e : ℕ × X). e.1) es) ≡ false →
-            find nat_cmp q es ≡ Some x → test x ≡ false) → test x ≡ false
-        step b true t none is later = absurd cc
-        step true false t none is later =
-            (let same : e.1 ≡ x = cc in subst (λ (y : X). test y ≡ false) same t)
-        step false false t none is later = later none is
+    walk (e ∷ es) none is = grind (arith, nat_tests, walk es)
 
 module _ {X : Type 0} where
   pub put_same : (m : FinMap nat_cmp X) (k : ℕ) (x : X) → get (insert m k x) k ≡ Some x

@@ -59,11 +59,7 @@ module _ {K X : Type 0} {R : K → K → Ordering} (o : IsTotalOrder R) where
     where
       still : (q : K) (v : X) → find R q es ≡ Some v →
           cond (eq_by_cmp R q e.0) (Some e.1) (find R q es) ≡ Some v
-      still q v found = elim (eq_by_cmp R q e.0) as (λ b. eq_by_cmp R q e.0 ≡ b →
-          cond b (Some e.1) (find R q es) ≡ Some v) [
-            | true ↦ λ t. let none = find_again q e es h t in absurd cc
-            | false ↦ λ t. found
-          ] refl
+      still q v found = grind (arith, nat_tests, find_again q e es h)
 
 -- ---- one change after another
 
@@ -107,11 +103,7 @@ module _ {K X Y : Type 0} {R : K → K →
     where
       changed : get (cond (test e) (change m e) m) q ≡ cond (test e)
           (cond (eq_by_cmp R q e.0) (f e.1) (get m q)) (get m q)
-      changed = elim (test e) as (λ b. get (cond b (change m e) m) q ≡ cond b
-          (cond (eq_by_cmp R q e.0) (f e.1) (get m q)) (get m q)) [
-            | true ↦ does.at m e q
-            | false ↦ refl
-          ]
+      changed = grind (arith, nat_tests, does.at m e q)
 
 -- ---- taking out and putting in
 
@@ -191,10 +183,7 @@ module _ {K X : Type 0} {R : K → K → Ordering} (o : IsTotalOrder R) (same : 
     where
       cases : (old new : Option X) → get n q ≡ new →
           changed_by (is_without n) none_of q old old ≡ kept old new
-      cases None None b = refl
-      cases None (Some w) b = refl
-      cases (Some v) None b = rw b refl
-      cases (Some v) (Some w) b = rw b refl
+      cases old new b = grind (arith, nat_tests)
 
   -- and once the entries whose keys are new are put in
   pub get_joined : (m n : FinMap R X) (q : K) →
@@ -211,10 +200,7 @@ module _ {K X : Type 0} {R : K → K → Ordering} (o : IsTotalOrder R) (same : 
     where
       cases : (old new : Option X) → get m q ≡ old →
           changed_by (is_without m) Some q new (kept old new) ≡ joined old new
-      cases None None a = refl
-      cases None (Some w) a = rw a refl
-      cases (Some v) None a = refl
-      cases (Some v) (Some w) a = rw a refl
+      cases old new a = grind (arith, nat_tests)
 
   -- a map whose keys another has too, with all entries of that put in, is that
   pub all_put_in : (m n : FinMap R X) → ((q : K) → get n q ≡ None → get m q ≡ None) →

@@ -51,7 +51,7 @@ impl Game {
         if !is_47(protocol) {
             return Ok(Err(Refusal::Version));
         }
-        let Some(name) = Name::read(name)? else {
+        let Some(name) = Name::read(self.alloc, name)? else {
             return Ok(Err(Refusal::Name));
         };
         if self.players.has(offline_uuid(&name)) {
