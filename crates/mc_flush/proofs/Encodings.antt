@@ -24,6 +24,7 @@ none_encoded land list = record {
   changes = λ place bytes e. let none : None ≡ Some bytes = sym (get-empty place_cmp place)
       ∙ e in absurd cc;
   moves = none_moved;
+  lines = tt;
 }
 
 pub players_added : (land : LandValue) (list : ListValue) (old : EncodedValue) →
@@ -33,6 +34,7 @@ players_added land list old frames = record {
   loads = frames.loads;
   changes = frames.changes;
   moves = frames.moves;
+  lines = frames.lines;
 }
 
 -- ---- columns
@@ -54,6 +56,7 @@ columns_added land list old new frames step =
       loads = later.loads;
       changes = later.changes;
       moves = frames.moves;
+      lines = frames.lines;
     }
 
 -- a load is added where it is added to the columns

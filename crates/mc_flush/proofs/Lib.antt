@@ -1,4 +1,5 @@
-pub mod Lines
+pub mod LineFrames
+pub mod SpotsSeen
 pub mod Lookups
 pub mod Marks
 pub mod Missing

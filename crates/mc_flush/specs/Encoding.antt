@@ -1,6 +1,8 @@
 -- What is the same for all clients of a tick, encoded once: the frames of who left and of who came
--- since the last settling, of each column's load and changed cells, and of each entity's move.
-use Rattle.std.specs.Prelude.{◌≡◌, ◌||◌, ℕ, Bool, List, Option, Some, None, if◌then◌else◌, refl}
+-- since the last settling, of each column's load and changed cells, of each entity's move, and of
+-- what was said.
+use Rattle.std.specs.Prelude.{◌≡◌, ◌||◌, ℕ, Bool, List, [], Option, Some, None, refl}
+use Rattle.std.specs.Prelude.{if◌then◌else◌}
 use Rattle.std.specs.Coded.{Coded, code_by, coded×, coded_ℕ, coded_ℤ, coded_list, coded_option}
 use Rattle.std.specs.List.{filter, fold, sum_by}
 use Rattle.std.specs.Ordering.{int_cmp}
@@ -13,10 +15,11 @@ use Rattle.mc_entities.specs.Folk.{FolkState}
 use Rattle.mc_view.specs.declared.view_set.ViewSet.{ViewSet}
 use Rattle.mc_view.specs.Sets.{has}
 use Rattle.mc_model.specs.Notes.{Noted, is_sent}
-use Rattle.mc_model.specs.Delta.{load}
 use Rattle.mc_told.specs.declared.moved.Moved.{Moved}
 use Rattle.mc_loads.specs.ColumnFrames.{ColumnsValue, change_bytes, is_clean, load_bytes}
 use Rattle.mc_loads.specs.ColumnFrames as columns
+use Rattle.mc_flush.specs.declared.encoded_line.EncodedLine.{EncodedLine}
+use Rattle.mc_flush.specs.LineFrames.{AreLines, coded_lines, with_texts}
 use Rattle.mc_flush.specs.Lists.{ListValue}
 use Rattle.mc_told.specs.MoveFrames.{AreMoves, coded_moves, with_move}
 use Rattle.mc_flush.specs.Seeing.{MarkValue, player_packets}
@@ -31,25 +34,38 @@ pub record EncodedValue : Type 0 where
   pub changes : FinMap place_cmp (List ℕ)
   -- by number, each entity's move since the last settling
   pub moves : FinMap int_cmp Moved
+  -- what was said since the last tick, each text with its frame
+  pub lines : List EncodedLine
 
 abbrev pub coded_encoded : Coded EncodedValue
 coded_encoded =
     code_by (Option (List ℕ) × (FinMap place_cmp (List ℕ)
-    × (FinMap place_cmp (List ℕ) × FinMap int_cmp Moved)))
+    × (FinMap place_cmp (List ℕ) × (FinMap int_cmp Moved × List EncodedLine))))
     (coded× (coded_option (coded_list coded_ℕ))
     (coded× (code (coded× coded_ℤ coded_ℤ) (coded_list coded_ℕ))
-    (coded× (code (coded× coded_ℤ coded_ℤ) (coded_list coded_ℕ)) coded_moves)))
-    (λ encoded. (encoded.players, (encoded.loads, (encoded.changes, encoded.moves))))
+    (coded× (code (coded× coded_ℤ coded_ℤ) (coded_list coded_ℕ))
+    (coded× coded_moves coded_lines))))
+    (λ encoded. (
+      encoded.players,
+      (encoded.loads, (encoded.changes, (encoded.moves, encoded.lines))),
+    ))
     (λ parts. record {
       players = parts.0;
       loads = parts.1.0;
       changes = parts.1.1.0;
-      moves = parts.1.1.1;
+      moves = parts.1.1.1.0;
+      lines = parts.1.1.1.1;
     })
     (λ encoded. refl)
 
 abbrev pub nothing_encoded : EncodedValue
-nothing_encoded = record { players = None; loads = empty; changes = empty; moves = empty }
+nothing_encoded = record {
+  players = None;
+  loads = empty;
+  changes = empty;
+  moves = empty;
+  lines = [];
+}
 
 -- ---- what is encoded
 
@@ -57,8 +73,8 @@ nothing_encoded = record { players = None; loads = empty; changes = empty; moves
 abbrev pub player_bytes : ListValue → List ℕ
 player_bytes list = play_bytes (player_packets list.last list.present)
 
--- what was encoded are the frames of these players, of the columns and cells of this land, and of
--- moves
+-- what was encoded are the frames of these players, of the columns and cells of this land, of
+-- moves, and of texts
 pub record AreFrames (land : LandValue) (list : ListValue) (encoded : EncodedValue) : Type 0 where
   pub players : (bytes : List ℕ) → encoded.players ≡ Some bytes → bytes ≡ player_bytes list
   pub loads : (place : Place) (bytes : List ℕ) → get encoded.loads place ≡ Some bytes →
@@ -66,6 +82,7 @@ pub record AreFrames (land : LandValue) (list : ListValue) (encoded : EncodedVal
   pub changes : (place : Place) (bytes : List ℕ) → get encoded.changes place ≡ Some bytes →
       bytes ≡ change_bytes land place
   pub moves : AreMoves encoded.moves
+  pub lines : AreLines encoded.lines
 
 -- ---- what is added
 
@@ -96,6 +113,10 @@ with_changes encoded land place = if has_changes encoded place || is_clean land 
 abbrev pub with_moves : EncodedValue → FolkState → EncodedValue
 with_moves encoded state =
     record encoded { moves = fold (with_move state) encoded.moves state.entities }
+
+-- what was said, behind what is there
+abbrev pub with_lines : EncodedValue → List (List ℕ) → EncodedValue
+with_lines encoded texts = record encoded { lines = with_texts encoded.lines texts }
 
 -- ---- what it costs
 

@@ -1,5 +1,6 @@
 pub mod Carried
 pub mod Lists
 pub mod Players
+pub mod LineFrames
 pub mod Seeing
 pub mod Encoding

@@ -1,10 +1,9 @@
 -- What a client is to be shown, of the parts that a view borrows, and what a mark stands for.
-use Rattle.std.specs.Prelude.{◌≡◌, ℕ, ◌≤◌, Bool, not, List, ◌++◌, map, length, replicate, Option}
+use Rattle.std.specs.Prelude.{◌≡◌, ℕ, ◌≤◌, Bool, List, ◌++◌, map, length, replicate, Option}
 use Rattle.std.specs.Prelude.{Some, None, is_some, option_map, if◌then◌else◌}
 use Rattle.std.specs.List.{filter, filter_map}
 use Rattle.std.specs.FinMap.{FinMap, empty, from_entries, get}
-use Rattle.std.specs.FinSet as set
-use lib.IntN.{ℤ, pos}
+use lib.IntN.{ℤ, pos, negsuc}
 use Rattle.mc_column.specs.Cells.{ColumnValue}
 use Rattle.mc_fields.specs.declared.position.Spot.{Spot}
 use Rattle.mc_land.specs.declared.terrain.Terrain.{Terrain}
@@ -20,6 +19,7 @@ use Rattle.mc_view.specs.declared.view_set.ViewSet.{ViewSet}
 use Rattle.mc_view.specs.Sets.{all_of, has, is_within}
 use Rattle.mc_view.specs.Told.{Told}
 use Rattle.mc_model.specs.Sight.{Sight, seen_of}
+use Rattle.mc_model.specs.Spots.{spawn_spot, spot_in}
 use Rattle.mc_model.specs.Notes.{Noted, noted_packets, notes_of}
 use Rattle.mc_model.specs.Delta.{Pairs, missing, leaver, joiner, about, beat_packets, time_packets}
 use Rattle.mc_model.specs.Delta.{destroying, slot_packets, chat_packet}
@@ -180,6 +180,12 @@ changes land list entities pack mark view age lines =
     ++ (changed_packets land (stayed mark view)
     ++ (entity_frames mark.told entities view
     ++ (pack_packets mark.slots pack.slots ++ line_packets lines)))))))))
+
+-- where the player of a client is and looks: as the entity of its number, or where players enter,
+-- if there is none
+abbrev pub spot_seen : LandValue → List Entity → ℤ → Spot
+spot_seen land entities (pos eid) = spot_in land.terrain entities eid
+spot_seen land entities (negsuc n) = spawn_spot land.terrain
 
 -- what was noted: cells in the view as they are, and all else, of a player that is at a spot and
 -- carries a pack

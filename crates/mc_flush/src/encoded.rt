@@ -8,14 +8,16 @@ ghost use Rattle.mc_flush.specs.Lists.{ListValue};
 ghost use Rattle.mc_flush.specs.Seeing.{IsNamed};
 ghost use Rattle.mc_loads.specs.Columns.{IsReady};
 ghost use Rattle.mc_flush.specs.Encoding.{AreFrames, change_cost, columns_in, load_cost};
-ghost use Rattle.mc_flush.specs.Encoding.{nothing_encoded, with_changes, with_load, with_moves};
-ghost use Rattle.mc_flush.specs.Encoding.{with_players};
+ghost use Rattle.mc_flush.specs.Encoding.{nothing_encoded, with_changes, with_lines, with_load};
+ghost use Rattle.mc_flush.specs.Encoding.{with_moves, with_players};
+ghost use Rattle.mc_flush.specs.LineFrames.{IsLine};
 
 mod fields;
 
 use crate::PlayerList;
+use crate::encoded_lines::EncodedLines;
 use bytes::Bytes;
-use mc_bytes::NoMemory;
+use mc_bytes::{NoMemory, Text};
 use mc_entities::Folk;
 use mc_land::{Land, Steps};
 use mc_loads::EncodedColumns;
@@ -26,8 +28,8 @@ use std::sync::ledger::Ledger;
 
 /// What is the same for all clients of a tick, encoded once, in pieces that each of them shares:
 /// the frames of who left and of who came since the last settling, by place that of a column's
-/// load, by place those of its cells that changed since the last settling, and by number those of
-/// an entity's move since then.
+/// load, by place those of its cells that changed since the last settling, by number those of an
+/// entity's move since then, and in their order those of what was said.
 #[derive(Drop)]
 pub struct Encoded {
     /// The frames about players, where they were encoded.
@@ -36,6 +38,8 @@ pub struct Encoded {
     columns: EncodedColumns,
     /// The moves of entities.
     moves: EncodedMoves,
+    /// What was said.
+    lines: EncodedLines,
 }
 
 impl Model for Encoded {
@@ -50,6 +54,7 @@ impl Model for Encoded {
       loads = e.columns.loads;
       changes = e.columns.changes;
       moves = e.moves;
+      lines = e.lines;
     } };
 }
 
@@ -63,6 +68,7 @@ impl Encoded {
             players: None,
             columns: EncodedColumns::new(alloc),
             moves: EncodedMoves::new(alloc),
+            lines: EncodedLines::new(alloc),
         }
     }
 
@@ -135,6 +141,17 @@ impl Encoded {
         self.moves.add_moves(alloc, folk)
     }
 
+    /// Adds the frames of what was said since the last tick, in the order in which it was said.
+    /// Without memory they are those of some.
+    pub fn add_lines(&mut self, alloc: Global, texts: &[Text]) -> Result<(), NoMemory>
+        requires { AllByRecursion IsLine texts.now }
+        ensures ok { OnOk result (self.new ≡ with_lines self.old texts.now) }
+        ensures frames { (land : LandValue) (list : ListValue) → AreFrames land list self.old
+            → AreFrames land list self.new }
+    {
+        self.lines.add_lines(alloc, texts)
+    }
+
     /// The loads and the changed cells that were encoded.
     pub(crate) fn columns(&self) -> &EncodedColumns
         ensures { result.now ≡ columns_in self.now }
@@ -147,6 +164,13 @@ impl Encoded {
         ensures { result.now ≡ self.now.moves }
     {
         &self.moves
+    }
+
+    /// What was encoded of what was said.
+    pub(crate) fn lines(&self) -> &EncodedLines
+        ensures { result.now ≡ self.now.lines }
+    {
+        &self.lines
     }
 
     /// The frames about players, None where they were not encoded.

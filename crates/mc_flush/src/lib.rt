@@ -4,12 +4,13 @@
 //! land and the packets. Its one contract: where a mark stands for what a client was shown, `flush`
 //! appends exactly the frames of the difference to what the borrowed parts are, then those of the
 //! notes, and the mark stands for that. What is the same for all clients of a tick is encoded once
-//! and shared.
+//! and shared by `flush_with`, which appends the same.
 #![tactic(auto)]
 
 mod client_view;
 mod encoded;
-mod line;
+mod encoded_line;
+mod encoded_lines;
 mod mark;
 mod names;
 mod noted;
@@ -18,9 +19,8 @@ mod player_list;
 mod pushing;
 mod slots;
 
-pub use client_view::{ClientView, flush};
+pub use client_view::{ClientView, flush, flush_with};
 pub use encoded::Encoded;
-pub use line::Line;
 pub use mark::Mark;
 pub use mc_sending::{put_made, put_packet};
 pub use notes::placing_packet;

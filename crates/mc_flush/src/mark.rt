@@ -15,7 +15,7 @@ use crate::ClientView;
 use bytes::Bytes;
 use mc_bytes::NoMemory;
 use mc_slots::Pile;
-use mc_told::{Clock, tell};
+use mc_told::{Clock, EncodedMoves, tell};
 use mc_view::{Columns, Tracker, ViewSet};
 use mc_windows::{PACK_PILES, Pack};
 use std::alloc::Global;
@@ -126,8 +126,9 @@ impl Mark {
         &mut self,
         alloc: Global,
         view: &ClientView<'_>,
+        moves: &EncodedMoves,
     ) -> Result<(Bytes, Bytes), NoMemory>
-        requires { AreMoves view.now.encoded.now.moves }
+        requires { AreMoves moves.now }
         ensures gone { IfOk result (λ pieces. pieces.0 ≡ play_bytes
             (destroying (gone_from self.old.told
             (others view.now.me view.now.folk.now.state.entities) view.now.view))) }
@@ -140,7 +141,7 @@ impl Mark {
         ensures rise { Rise eid_of (pos 0) view.now.folk.now.state.entities
             (pos view.now.folk.now.state.given) }
     {
-        let pieces = tell(alloc, &view.entities(), &mut self.told);
+        let pieces = tell(alloc, &view.entities(moves), &mut self.told);
         if pieces.is_err() {
             self.told = Tracker::new(alloc);
         }

@@ -4,12 +4,11 @@ ghost use Rattle.std.specs.Prelude.{◌≡◌, ◌≤◌, ◌++◌, OnOk};
 ghost use Rattle.mc_frame.specs.Kept.{joined};
 ghost use Rattle.mc_model.specs.Notes.{notes_of};
 ghost use Rattle.mc_sending.specs.Sending.{play_bytes};
-ghost use Rattle.mc_flush.specs.Seeing.{age_packets, line_packets, pack_packets};
+ghost use Rattle.mc_flush.specs.Seeing.{age_packets, pack_packets};
 
-use crate::line::put_lines;
+use crate::Mark;
 use crate::notes::put_notes;
 use crate::slots::put_slots;
-use crate::{Line, Mark};
 use bytes::Bytes;
 use mc_bytes::NoMemory;
 use mc_fields::Spot;
@@ -58,15 +57,5 @@ pub fn push_slots(
 {
     let mut bytes = Vec::new(alloc);
     put_slots(mark.slots(), &pack.slots, &mut bytes)?;
-    push_piece(Bytes::from_vec(bytes)?, out)
-}
-
-/// Appends the frames of lines, as one piece.
-pub fn push_lines(alloc: Global, lines: &[Line], out: &mut Vec<Bytes>) -> Result<(), NoMemory>
-    ensures { OnOk result (joined out.new.items
-        ≡ joined out.old.items ++ play_bytes (line_packets lines.now)) }
-{
-    let mut bytes = Vec::new(alloc);
-    put_lines(lines, &mut bytes)?;
     push_piece(Bytes::from_vec(bytes)?, out)
 }

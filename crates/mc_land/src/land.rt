@@ -77,6 +77,13 @@ impl Land {
         }
     }
 
+    /// The terrain, which the cells are until they are changed.
+    pub fn terrain(&self) -> &Terrain
+        ensures { result.now ≡ self.now.terrain }
+    {
+        &self.terrain
+    }
+
     /// The state of a cell: the one that it was set to, or else the terrain's. It counts one step.
     pub fn block<L: Ledger>(&self, cell: Cell, steps: &mut Steps<L>) -> u16
         requires above { pos 0 ≤ℤ cell.y }

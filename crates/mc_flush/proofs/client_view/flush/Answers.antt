@@ -1,51 +1,5 @@
-use Rattle.std.proofs.Common.{◌++◌, ℕ, List, Some, ap, sym, subst, ◌∙◌}
-use lib.IntN.{pos}
-use Rattle.mc_fields.specs.declared.position.Cell.{Cell}
-use Rattle.mc_frame.specs.Kept.{joined}
-use Rattle.mc_view.specs.Sets.{has}
-use Rattle.mc_model.specs.Delta.{delta}
-use Rattle.mc_model.specs.Notes.{noted_packets, notes_of}
-use Rattle.mc_model.specs.Sight.{others}
-use Rattle.mc_sending.specs.Sending.{play_bytes}
-use Rattle.mc_flush.specs.Seeing.{MarkValue, StandsFor, changes, present_parts, seen}
-use Rattle.mc_told.specs.Telling.{age_now, beat_now}
-use Rattle.mc_flush.proofs.Changes.{tick_put}
-use Rattle.mc_flush.proofs.Difference.{delta_is, stands_seen}
-use Rattle.mc_told.proofs.Told.{others_rise}
 use Rattle.mc_flush.proofs.client_view.flush.Goals as goal
 
-pub returns-clause-sent : goal.returns-clause-sent
-returns-clause-sent g c p stands =
-    let v = c.args.view.now in
-    let land = v.land.now in
-    let es = others v.me v.folk.now.state.entities in
-    let mark = c.args.mark.now in
-    tick_put c.args.out.now.items c.append.new.self.items c.new-pieces.result.items
-    c.push_changes.new.out.items c.push_piece.new.out.items c.push_notes.new.out.items
-    (changes land v.list.now es v.pack.now mark v.view v.age v.lines.now)
-    (delta p (seen land v.list.now es v.pack.now v.view v.age (p.chat ++ v.lines.now)))
-    (noted_packets land.terrain land.edits (has v.view) c.args.notes.now.cells)
-    (notes_of c.args.notes.now v.place v.pack.now) c.new-pieces.ensures.items
-    c.in_ok-push_changes.ensures.sent
-    (c.in_ok-push_piece.ensures ∙ ap (λ (t : List ℕ). joined c.push_changes.new.out.items ++ t)
-    (c.in_ok-noted_piece.ensures.is ∙ ap (λ (cells : List Cell). play_bytes (noted_packets
-    land.terrain land.edits (has v.view) cells)) c.cells.ensures))
-    c.in_ok-push_notes.ensures c.in_ok-append.ensures.items
-    (delta_is land v.list.now es v.pack.now mark v.view v.age v.lines.now p
-    (pos v.folk.now.state.given) (others_rise v.me (pos v.folk.now.state.given)
-    v.folk.now.state.entities c.in_ok-push_changes.ensures.rise) stands)
-
-pub returns-clause-stands : goal.returns-clause-stands
-returns-clause-stands g c chat =
-    let v = c.args.view.now in
-    let land = v.land.now in
-    let es = others v.me v.folk.now.state.entities in
-    subst (λ (m : MarkValue). StandsFor m (present_parts land v.list.now)
-    (seen land v.list.now es v.pack.now v.view v.age chat))
-    (sym (c.keep.ensures ∙ ap (λ (m : MarkValue). record m {
-      beat = beat_now v.age;
-      age = age_now v.age;
-      view = Some v.view;
-      slots = v.pack.now.slots;
-    }) c.in_ok-push_changes.ensures.mark))
-    (stands_seen land v.list.now es v.pack.now v.view v.age chat)
+pub flush_with-done-requires-clause-frames : goal.flush_with-done-requires-clause-frames
+flush_with-done-requires-clause-frames g c =
+    let v = c.args.view.now in c.new-encoded.ensures.frames v.land.now v.list.now

@@ -11,7 +11,7 @@ pub push_columns-requires : goal.push_columns-requires
 push_columns-requires g c =
     let v = c.args.self.now in
     let frames : AreColumnFrames v.land.now
-    (record { loads = v.encoded.now.loads; changes = v.encoded.now.changes }) =
+    (record { loads = c.args.encoded.now.loads; changes = c.args.encoded.now.changes }) =
     record { loads = c.requires.frames.loads; changes = c.requires.frames.changes } in
     record {
       ready = subst (λ (was : Option ViewSet). AllByRecursion (IsReady v.land.now)

@@ -15,6 +15,7 @@ returns-clause-ok g c =
       loads = v.loads;
       changes = v.changes;
       moves = inside.moves;
+      lines = inside.lines;
     }) c.in_ok-add_changes.ensures.ok
     ∙ ap (λ (e : EncodedValue). with_columns e (columns.with_changes (columns_in e) land place))
     c.self.view_is
@@ -29,6 +30,7 @@ returns-clause-frames g c = λ list frames.
       loads = inside.columns.loads;
       changes = inside.columns.changes;
       moves = inside.moves;
+      lines = inside.lines;
     }) c.add_changes.new.self (subst (AreFrames land list) (sym c.self.view_is) frames)
     c.add_changes.ensures.frames
 
@@ -41,5 +43,6 @@ returns-in_err-add_changes-clause-frames g c = λ list frames.
       loads = inside.columns.loads;
       changes = inside.columns.changes;
       moves = inside.moves;
+      lines = inside.lines;
     }) c.add_changes.new.self (subst (AreFrames land list) (sym c.self.view_is) frames)
     c.add_changes.ensures.frames

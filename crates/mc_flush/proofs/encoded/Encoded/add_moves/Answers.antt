@@ -9,10 +9,12 @@ returns-clause-frames c = λ land list frames.
       loads = c.self.inside.columns.loads;
       changes = c.self.inside.columns.changes;
       moves = c.self.inside.moves;
+      lines = c.self.inside.lines;
     }) = subst (AreFrames land list) (sym c.self.view_is) frames in
     record {
       players = all.players;
       loads = all.loads;
       changes = all.changes;
       moves = c.add_moves.ensures.frames all.moves;
+      lines = all.lines;
     }

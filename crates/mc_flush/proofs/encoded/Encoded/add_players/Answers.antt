@@ -10,11 +10,13 @@ returns-clause-frames c = λ land frames.
     let loads = inside.columns.loads in
     let changes = inside.columns.changes in
     let moves = inside.moves in
+    let lines = inside.lines in
     let made : EncodedValue = record {
       players = Some c.in_ok-piece.piece;
       loads = loads;
       changes = changes;
       moves = moves;
+      lines = lines;
     } in
     let is : made ≡ with_players c.args.self.now list =
     ap (λ (bytes : List ℕ). record {
@@ -22,6 +24,7 @@ returns-clause-frames c = λ land frames.
       loads = loads;
       changes = changes;
       moves = moves;
+      lines = lines;
     })
     c.in_ok-piece.ensures
     ∙ ap (λ (e : EncodedValue). record e { players = Some (player_bytes list) }) c.self.view_is in

@@ -1,0 +1,114 @@
+ghost use Rattle.std.specs.Prelude.{◌≡◌, ◌++◌, ◌∷◌, [], IfOk, IfSome, OnErr, OnOk};
+ghost use Rattle.std.specs.List.{AllByRecursion};
+ghost use Rattle.std.specs.Option.{option_copied};
+ghost use Rattle.mc_frame.specs.Kept.{joined};
+ghost use Rattle.mc_sending.specs.Sending.{play_bytes};
+ghost use Rattle.mc_flush.specs.LineFrames.{AreLines, IsLine, framed, line_bytes, with_texts};
+ghost use Rattle.mc_flush.specs.Seeing.{line_packets};
+
+mod fields;
+
+use crate::encoded_line::{EncodedLine, line_piece};
+use bytes::Bytes;
+use mc_bytes::{NoMemory, Text};
+use mc_loads::push_piece;
+use std::alloc::Global;
+use std::marker::Model;
+
+/// What was said since the last tick, each text encoded once for all clients, in the order in which
+/// they were said.
+#[derive(Drop)]
+pub struct EncodedLines {
+    lines: Vec<EncodedLine>,
+}
+
+impl Model for EncodedLines {
+    ghost use Rattle.std.specs.Prelude.{List};
+    ghost use Rattle.mc_flush.specs.declared.encoded_line.EncodedLine.{EncodedLine};
+    ghost use Rattle.mc_flush.specs.LineFrames.{coded_lines};
+
+    ghost Value = { List EncodedLine };
+
+    ghost coded = { coded_lines };
+
+    ghost view = { λ all. all.lines.items };
+}
+
+impl EncodedLines {
+    /// Nothing was said.
+    pub fn new(alloc: Global) -> EncodedLines
+        ensures { result ≡ [] }
+    {
+        EncodedLines {
+            lines: Vec::new(alloc),
+        }
+    }
+
+    /// Adds a text and its frame behind all others. Without memory all is as before.
+    fn add_line(&mut self, alloc: Global, text: &Text) -> Result<(), NoMemory>
+        requires { IsLine text.now }
+        ensures ok { OnOk result (self.new ≡ self.old ++ (framed text.now ∷ [])) }
+        ensures err { OnErr result (self.new ≡ self.old) }
+    {
+        let line = EncodedLine::of(alloc, text)?;
+        self.lines.push(line)?;
+        Ok(())
+    }
+
+    /// Adds texts and their frames behind all others. Without memory they are some of them.
+    pub fn add_lines(&mut self, alloc: Global, texts: &[Text]) -> Result<(), NoMemory>
+        requires { AllByRecursion IsLine texts.now }
+        ensures ok { OnOk result (self.new ≡ with_texts self.old texts.now) }
+        ensures frames { AreLines self.old → AreLines self.new }
+    {
+        for text in texts {
+            self.add_line(alloc, text)?;
+        }
+        Ok(())
+    }
+
+    /// The frame of the text that stands so many places before the end, None where that is another
+    /// text or none.
+    fn frame(&self, text: &Text, back: usize) -> Option<&Bytes>
+        ensures { AreLines self.now →
+            IfSome (option_copied result) (λ frame. frame ≡ line_bytes text.now) }
+    {
+        let at = self.lines.len().checked_sub(back)?;
+        let line = self.lines.as_slice().get(at)?;
+        if line.text.as_str() == text.as_str() {
+            Some(&line.frame)
+        } else {
+            None
+        }
+    }
+
+    /// The frame of a text, which is shared where it stands so many places before the end.
+    fn piece(&self, alloc: Global, text: &Text, back: usize) -> Result<Bytes, NoMemory>
+        requires clear { IsLine text.now }
+        requires frames { AreLines self.now }
+        ensures { IfOk result (λ piece. piece ≡ line_bytes text.now) }
+    {
+        match self.frame(text, back) {
+            Some(frame) => Ok(frame.clone()?),
+            None => line_piece(alloc, text),
+        }
+    }
+
+    /// Appends the frames of texts. Those of them that end what was encoded are shared.
+    pub fn push_lines(
+        &self,
+        alloc: Global,
+        texts: &[Text],
+        out: &mut Vec<Bytes>,
+    ) -> Result<(), NoMemory>
+        requires clear { AllByRecursion IsLine texts.now }
+        requires frames { AreLines self.now }
+        ensures { OnOk result (joined out.new.items
+            ≡ joined out.old.items ++ play_bytes (line_packets texts.now)) }
+    {
+        for i in 0..texts.len() {
+            push_piece(self.piece(alloc, &texts[i], texts.len() - i)?, out)?;
+        }
+        Ok(())
+    }
+}
