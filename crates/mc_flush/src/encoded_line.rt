@@ -1,6 +1,6 @@
 //! What was said, as all clients are told it.
 
-ghost use Rattle.std.specs.Prelude.{◌≡◌, IfOk};
+ghost use Rattle.std.specs.Prelude.{◌≡◌, ◌++◌, IfOk, OnOk};
 ghost use Rattle.mc_flush.specs.LineFrames.{IsLine, framed, line_bytes};
 
 use bytes::Bytes;
@@ -24,20 +24,19 @@ impl EncodedLine {
         requires { IsLine text.now }
         ensures { IfOk result (λ line. line ≡ framed text.now) }
     {
-        let frame = line_piece(alloc, text)?;
+        let mut bytes = Vec::new(alloc);
+        put_line(text, &mut bytes)?;
         Ok(EncodedLine {
             text: text.copy()?,
-            frame,
+            frame: Bytes::from_vec(bytes)?,
         })
     }
 }
 
-/// The frame that tells a text.
-pub fn line_piece(alloc: Global, text: &Text) -> Result<Bytes, NoMemory>
+/// Appends the frame that tells a text.
+pub fn put_line(text: &Text, out: &mut Vec<u8>) -> Result<(), NoMemory>
     requires { IsLine text.now }
-    ensures { IfOk result (λ piece. piece ≡ line_bytes text.now) }
+    ensures { OnOk result (out.new.items ≡ out.old.items ++ line_bytes text.now) }
 {
-    let mut bytes = Vec::new(alloc);
-    put_made(Down::Chat(text.copy()?, 0), &mut bytes)?;
-    Ok(Bytes::from_vec(bytes)?)
+    put_made(Down::Chat(text.copy()?, 0), out)
 }

@@ -8,7 +8,7 @@ ghost use Rattle.mc_flush.specs.Seeing.{line_packets};
 
 mod fields;
 
-use crate::encoded_line::{EncodedLine, line_piece};
+use crate::encoded_line::{EncodedLine, put_line};
 use bytes::Bytes;
 use mc_bytes::{NoMemory, Text};
 use mc_loads::push_piece;
@@ -82,19 +82,33 @@ impl EncodedLines {
         }
     }
 
-    /// The frame of a text, which is shared where it stands so many places before the end.
-    fn piece(&self, alloc: Global, text: &Text, back: usize) -> Result<Bytes, NoMemory>
+    /// Appends the frame of a text, which was encoded where it stands so many places before the end.
+    fn put_line(&self, text: &Text, back: usize, out: &mut Vec<u8>) -> Result<(), NoMemory>
         requires clear { IsLine text.now }
         requires frames { AreLines self.now }
-        ensures { IfOk result (λ piece. piece ≡ line_bytes text.now) }
+        ensures { OnOk result (out.new.items ≡ out.old.items ++ line_bytes text.now) }
     {
         match self.frame(text, back) {
-            Some(frame) => Ok(frame.clone()?),
-            None => line_piece(alloc, text),
+            Some(frame) => Ok(out.extend_from_slice(frame.as_slice())?),
+            None => put_line(text, out),
         }
     }
 
-    /// Appends the frames of texts. Those of them that end what was encoded are shared.
+    /// Appends the frames of texts, one behind the other.
+    fn put_lines(&self, texts: &[Text], out: &mut Vec<u8>) -> Result<(), NoMemory>
+        requires clear { AllByRecursion IsLine texts.now }
+        requires frames { AreLines self.now }
+        ensures { OnOk result (out.new.items
+            ≡ out.old.items ++ play_bytes (line_packets texts.now)) }
+    {
+        for i in 0..texts.len() {
+            self.put_line(&texts[i], texts.len() - i, out)?;
+        }
+        Ok(())
+    }
+
+    /// Appends the frames of texts, as one piece. Those of them that end what was encoded are not
+    /// encoded again.
     pub fn push_lines(
         &self,
         alloc: Global,
@@ -106,9 +120,8 @@ impl EncodedLines {
         ensures { OnOk result (joined out.new.items
             ≡ joined out.old.items ++ play_bytes (line_packets texts.now)) }
     {
-        for i in 0..texts.len() {
-            push_piece(self.piece(alloc, &texts[i], texts.len() - i)?, out)?;
-        }
-        Ok(())
+        let mut bytes = Vec::new(alloc);
+        self.put_lines(texts, &mut bytes)?;
+        push_piece(Bytes::from_vec(bytes)?, out)
     }
 }
