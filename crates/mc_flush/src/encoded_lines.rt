@@ -82,7 +82,7 @@ impl EncodedLines {
         }
     }
 
-    /// Appends the frame of a text, which was encoded where it stands so many places before the end.
+    /// Appends the frame of a text. It was encoded where that stands so many places before the end.
     fn put_line(&self, text: &Text, back: usize, out: &mut Vec<u8>) -> Result<(), NoMemory>
         requires clear { IsLine text.now }
         requires frames { AreLines self.now }

@@ -1,6 +1,6 @@
 -- Of which deeds it is made what a player does that moves, digs, drops or places, topic by topic.
-use Rattle.std.proofs.Common.{◌≡◌, ℕ, suc, ◌+◌, ◌*◌, ◌<◌, ◌≤◌, Bool, true, false, [], ◌∷◌, Option, Some}
-use Rattle.std.proofs.Common.{None, refl, subst, ap, arith}
+use Rattle.std.proofs.Common.{◌≡◌, ℕ, suc, ◌+◌, ◌*◌, ◌<◌, ◌≤◌, Bool, true, false, [], ◌∷◌}
+use Rattle.std.proofs.Common.{Option, Some, None, refl, subst, ap, arith}
 use Rattle.std.specs.Prelude.{◌&&◌, ◌==◌, not, min, nat_lt, unsigned_abs, if◌then◌else◌}
 use Rattle.std.proofs.lemmas.Bool.{and_parts, eqb-true, ltb-true}
 use Rattle.std.proofs.lemmas.Bool.Decides.{nat_tests}
@@ -141,7 +141,8 @@ module _ (H : Type 0) (k : ℕ) (p : Player) (g : Game) (there : get g.players k
 
   -- its pack with another pile in the hand is one
   handed_pack : (pile : Pile) → (Good g → IsPile pile) → Good g →
-      IsPack (with_hand pile p.hand (pack_of g p)).slots (with_hand pile p.hand (pack_of g p)).cursor
+      IsPack (with_hand pile p.hand (pack_of g p)).slots
+      (with_hand pile p.hand (pack_of g p)).cursor
   handed_pack pile is w =
       with_hand_is_pack pile p.hand (pack_of g p) (is w) (named_is_pack g p.name w)
 
@@ -171,7 +172,8 @@ module _ (H : Type 0) (k : ℕ) (p : Player) (g : Game) (there : get g.players k
       can : CanDig p cell g
       can = dig_tests p cell g test
 
-  dropped_made : (item : Item) (n : ℕ) → (IsItem item → 1 ≤ n) → n ≤ item.count → held_by g p ≡ Full item →
+  dropped_made : (item : Item) (n : ℕ) → (IsItem item → 1 ≤ n) → n ≤ item.count →
+      held_by g p ≡ Full item →
       HasRoom g → Makes (dropped p item n g)
   dropped_made item n some few is room = record {
     games = carrying p left g ∷ dropped p item n g ∷ [];

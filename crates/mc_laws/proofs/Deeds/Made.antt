@@ -62,12 +62,14 @@ module _ (G T H : Type 0) (k : ℕ) where
   AreDeeds g [] v = v ≡ g
   AreDeeds g (u ∷ us) v = Deed G T H k g u × AreDeeds u us v
 
-  abbrev pub all_spent : (id damage : ℕ) (g : Game) (us : List Game) (v : Game) → AreDeeds g us v → ℕ
+  abbrev pub all_spent : (id damage : ℕ) (g : Game) (us : List Game) (v : Game) →
+      AreDeeds g us v → ℕ
   all_spent id damage g [] v are = 0
   all_spent id damage g (u ∷ us) v are =
       spent id damage g u are.0 + all_spent id damage u us v are.1
 
-  abbrev pub all_gained : (id damage : ℕ) (g : Game) (us : List Game) (v : Game) → AreDeeds g us v → ℕ
+  abbrev pub all_gained : (id damage : ℕ) (g : Game) (us : List Game) (v : Game) →
+      AreDeeds g us v → ℕ
   all_gained id damage g [] v are = 0
   all_gained id damage g (u ∷ us) v are =
       gained id damage g u are.0 + all_gained id damage u us v are.1

@@ -47,7 +47,8 @@ changed_counts eid f steady es =
     omega (arith, size, lying)
 
 -- where a dropped item comes
-come_counts : (es : List Entity) (e : Entity) → is_dropped e.kind ≡ true → AreNoMore es (es ++ e ∷ [])
+come_counts : (es : List Entity) (e : Entity) → is_dropped e.kind ≡ true →
+    AreNoMore es (es ++ e ∷ [])
 come_counts es e is =
     let more = dropped_come es e in
     let one = ap one_if is in
