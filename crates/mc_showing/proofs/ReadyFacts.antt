@@ -91,6 +91,7 @@ frames_same old new list encoded same are = record {
   loads = λ place bytes there. are.loads place bytes there ∙ load_same old new place same;
   changes = λ place bytes there. are.changes place bytes there ∙ change_same old new place same;
   moves = are.moves;
+  lines = are.lines;
 }
 
 -- what was added to them for a land that is the game's now

@@ -1,5 +1,6 @@
 -- What a client is shown of the parts of a scene is what the game shows its player.
-use Rattle.std.proofs.Common.{◌≡◌, ℕ, List, [], ◌++◌, map, Option, Some, None, is_some, refl, sym}
+use Rattle.std.proofs.Common.{◌≡◌, ℕ, zero, suc, List, [], ◌∷◌, ◌++◌, map, Option, Some, None}
+use Rattle.std.proofs.Common.{is_some, refl, sym}
 use Rattle.std.proofs.Common.{subst, ap, ◌∙◌, append_assoc}
 use Rattle.std.specs.Prelude.{drop, option_map, if◌then◌else◌}
 use Rattle.std.specs.List.{AllByRecursion, filter, filter_map}
@@ -28,7 +29,8 @@ use Rattle.mc_flush.specs.declared.client_view.ClientView.{ClientView}
 use Rattle.mc_flush.specs.Encoding.{AreFrames}
 use Rattle.mc_flush.specs.Lists.{ListValue}
 use Rattle.mc_flush.specs.Seeing.{MarkValue, Parts, StandsFor, is_shown, loaded, noted_of}
-use Rattle.mc_flush.specs.Seeing.{nothing_shown, present_parts, seen, settled_parts}
+use Rattle.mc_flush.specs.Seeing.{nothing_shown, present_parts, seen, settled_parts, spot_seen}
+use Rattle.mc_flush.specs.LineFrames.{IsLine}
 use Rattle.mc_showing.specs.declared.scene.Scene.{Scene}
 use Rattle.mc_showing.specs.Around.{new_columns}
 use Rattle.mc_showing.specs.Shown.{IsListed, Shows, pairs_of}
@@ -61,6 +63,15 @@ shown_is : (parts : Parts) (mark : MarkValue) (shown : Option Sight) → Shows p
     is_shown mark ≡ is_some shown
 shown_is parts mark None new = ap is_shown new
 shown_is parts mark (Some s) shows = shows.0
+
+-- ---- lines
+
+-- those behind so many can be sent where all can
+later_lines : (since : ℕ) (lines : List (List ℕ)) → AllByRecursion IsLine lines →
+    AllByRecursion IsLine (drop since lines)
+later_lines zero lines all = all
+later_lines (suc since) [] all = tt
+later_lines (suc since) (line ∷ lines) all = later_lines since lines all.1
 
 -- ---- a part of a scene
 
@@ -110,13 +121,14 @@ module _ (scene : Scene) (p : Player) (part : ClientView) (is : IsScene scene)
 
   -- what was noted
   abbrev pub noted_part : List Down
-  noted_part = noted_of part.land.now part.view p.notes part.place part.pack.now
+  noted_part = noted_of part.land.now part.view p.notes
+      (spot_seen part.land.now part.folk.now.state.entities part.me) part.pack.now
 
   noted_is : noted_part ≡ notes_due game p
   noted_is = λ i.
       noted_packets (has.land i).terrain (has.land i).edits (λ (place : Place).
       is_in_view (has.view.middle i) (has.view.d i) place) p.notes.cells
-      ++ notes_of p.notes (has.place i) (has.pack i)
+      ++ notes_of p.notes (spot_seen (has.land i) (has.entities i) (has.me i)) (has.pack i)
 
   -- ---- what a flush asks
 
@@ -140,8 +152,11 @@ module _ (scene : Scene) (p : Player) (part : ClientView) (is : IsScene scene)
       AllByRecursion (IsReady part.land.now) (loaded mark part.view)
   columns_ready mark ready = rw (has.land, loaded_are game p mark part.view has.view) ready
 
-  pub frames_are : AreFrames part.land.now part.list.now part.encoded.now
-  frames_are = rw (has.land, has.list, has.encoded) is.frames
+  pub frames_are : AreFrames part.land.now part.list.now scene.encoded.now
+  frames_are = rw (has.land, has.list) is.frames
+
+  pub lines_clear : AllByRecursion IsLine part.lines.now
+  lines_clear = rw (has.lines) (later_lines p.since scene.lines.now is.clear)
 
   -- ---- what a flush says
 

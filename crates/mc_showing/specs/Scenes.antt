@@ -4,18 +4,20 @@ use Rattle.std.specs.List.{AllByRecursion}
 use Rattle.std.specs.FinMap.{entries, len}
 use lib.IntN.{pos}
 use Rattle.mc_model.specs.declared.player.Player.{Player}
-use Rattle.mc_model.specs.Game.{pack_of, spot_of}
+use Rattle.mc_model.specs.Game.{pack_of}
 use Rattle.mc_play.specs.Kept.{land_of}
 use Rattle.mc_flush.specs.declared.client_view.ClientView.{ClientView}
 use Rattle.mc_flush.specs.Encoding.{AreFrames}
+use Rattle.mc_flush.specs.LineFrames.{IsLine}
 use Rattle.mc_flush.specs.Seeing.{IsNamed}
 use Rattle.mc_showing.specs.declared.scene.Scene.{Scene}
 use Rattle.mc_showing.specs.Around.{IsAround}
 
--- the lines are those that were said, the list can be sent, what was encoded are frames of the
--- game, and ages can be told
+-- the lines are those that were said, they and the list can be sent, what was encoded are frames of
+-- the game, and ages can be told
 pub record IsScene (scene : Scene) : Type 0 where
   pub said : scene.lines.now ≡ scene.game.now.game.lines
+  pub clear : AllByRecursion IsLine scene.lines.now
   pub few : len scene.list.now.present ≤ 50
   pub few_before : len scene.list.now.last ≤ 50
   pub named : AllByRecursion IsNamed (entries scene.list.now.present)
@@ -28,9 +30,7 @@ pub record IsPart (scene : Scene) (p : Player) (part : ClientView) : Type 0 wher
   pub entities : part.folk.now.state.entities ≡ scene.game.now.game.entities
   pub pack : part.pack.now ≡ pack_of scene.game.now.game p
   pub list : part.list.now ≡ scene.list.now
-  pub encoded : part.encoded.now ≡ scene.encoded.now
   pub lines : part.lines.now ≡ drop p.since scene.lines.now
   pub age : part.age ≡ scene.game.now.game.age
   pub me : part.me ≡ pos p.eid
   pub view : IsAround scene.game.now.game p part.view
-  pub place : part.place ≡ spot_of scene.game.now.game p

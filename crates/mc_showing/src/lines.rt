@@ -1,28 +1,49 @@
-//! What was said, encoded once for all clients.
+//! What was said, as texts that clients are shown, and encoded once for all of them.
 
 ghost use Rattle.std.specs.Prelude.{◌≡◌, IfOk};
+ghost use Rattle.std.specs.List.{AllByRecursion};
+ghost use Rattle.mc_land.specs.Land.{LandValue};
+ghost use Rattle.mc_flush.specs.Encoding.{AreFrames};
+ghost use Rattle.mc_flush.specs.LineFrames.{IsLine};
+ghost use Rattle.mc_flush.specs.Lists.{ListValue};
 
-use mc_bytes::NoMemory;
-use mc_flush::Line;
+use mc_bytes::{NoMemory, Text};
+use mc_flush::Encoded;
 use mc_play::Said;
 use std::alloc::Global;
 
-/// Encodes a text that was said.
-fn encode_line(said: &Said) -> Result<Line, NoMemory>
-    ensures { IfOk result (λ line. line ≡ said.now) }
+/// A copy of a text that was said.
+fn copy_of(said: &Said) -> Result<Text, NoMemory>
+    ensures same { IfOk result (λ text. text ≡ said.now) }
+    ensures clear { IsLine said.now }
 {
-    let text = said.text();
-    let copy = text.copy()?;
-    Line::new(copy)
+    said.text().copy()
 }
 
-/// Encodes what was said, each text once.
-pub fn encode_lines(alloc: Global, all: &[Said]) -> Result<Vec<Line>, NoMemory>
-    ensures { IfOk result (λ lines. lines.items ≡ all.now) }
+/// Copies of what was said, which packets can carry.
+fn texts_of(alloc: Global, all: &[Said]) -> Result<Vec<Text>, NoMemory>
+    ensures same { IfOk result (λ texts. texts.items ≡ all.now) }
+    ensures clear { IfOk result (λ texts. AllByRecursion IsLine texts.items) }
 {
-    let mut lines = Vec::new(alloc);
+    let mut texts = Vec::new(alloc);
     for said in all {
-        lines.push(encode_line(said)?)?;
+        texts.push(copy_of(said)?)?;
     }
-    Ok(lines)
+    Ok(texts)
+}
+
+/// Encodes what was said, each text once, and gives the texts, which packets can carry.
+pub fn encode_lines(
+    alloc: Global,
+    all: &[Said],
+    encoded: &mut Encoded,
+) -> Result<Vec<Text>, NoMemory>
+    ensures same { IfOk result (λ texts. texts.items ≡ all.now) }
+    ensures clear { IfOk result (λ texts. AllByRecursion IsLine texts.items) }
+    ensures frames { (land : LandValue) (list : ListValue) → AreFrames land list encoded.old
+        → AreFrames land list encoded.new }
+{
+    let texts = texts_of(alloc, all)?;
+    encoded.add_lines(alloc, texts.as_slice())?;
+    Ok(texts)
 }

@@ -14,7 +14,8 @@ ghost use Rattle.mc_sending.specs.Sending.{play_bytes};
 ghost use Rattle.mc_loads.specs.Columns.{IsReady};
 ghost use Rattle.mc_flush.specs.Encoding.{AreFrames};
 ghost use Rattle.mc_flush.specs.Seeing.{IsNamed, StandsFor, is_shown, loaded, noted_of};
-ghost use Rattle.mc_flush.specs.Seeing.{present_parts, seen, settled_parts};
+ghost use Rattle.mc_flush.specs.LineFrames.{IsLine};
+ghost use Rattle.mc_flush.specs.Seeing.{present_parts, seen, settled_parts, spot_seen};
 ghost use Rattle.mc_showing.specs.Around.{new_columns};
 ghost use Rattle.mc_showing.specs.Shown.{IsListed, Shows};
 ghost use Rattle.mc_showing.specs.Scenes.{IsPart, IsScene};
@@ -22,9 +23,8 @@ ghost use Rattle.mc_showing.specs.Scenes.{IsPart, IsScene};
 use crate::opening::push_opening;
 use crate::views::view_of;
 use bytes::Bytes;
-use mc_bytes::NoMemory;
-use mc_fields::Spot;
-use mc_flush::{ClientView, Encoded, Line, Mark, PlayerList, flush};
+use mc_bytes::{NoMemory, Text};
+use mc_flush::{ClientView, Encoded, Mark, PlayerList, flush_with};
 use mc_land::Steps;
 use mc_model::{Notes, Player};
 use mc_play::Game;
@@ -39,7 +39,7 @@ pub struct Scene<'w> {
     /// The game.
     pub game: &'w Game,
     /// What was said since the last tick.
-    pub lines: &'w [Line],
+    pub lines: &'w [Text],
     /// The players in play, and those who were at the last tick.
     pub list: &'w PlayerList,
     /// The frames that more than one client may be sent.
@@ -47,7 +47,7 @@ pub struct Scene<'w> {
 }
 
 /// The lines behind so many.
-fn new_lines(lines: &[Line], since: usize) -> &[Line]
+fn new_lines(lines: &[Text], since: usize) -> &[Text]
     ensures { result.now ≡ drop since lines.now }
 {
     lines.split_at(since.min(lines.len())).1
@@ -57,6 +57,7 @@ fn new_lines(lines: &[Line], since: usize) -> &[Line]
 fn push_changes<L: Ledger>(
     alloc: Global,
     view: &ClientView<'_>,
+    encoded: &Encoded,
     mark: &mut Mark,
     notes: &Notes,
     out: &mut Vec<Bytes>,
@@ -69,8 +70,9 @@ fn push_changes<L: Ledger>(
     requires few { finmap.len view.now.list.now.present ≤ 50 }
     requires few_before { finmap.len view.now.list.now.last ≤ 50 }
     requires named { AllByRecursion IsNamed (finmap.entries view.now.list.now.present) }
+    requires lines { AllByRecursion IsLine view.now.lines.now }
     requires ready { AllByRecursion (IsReady view.now.land.now) (loaded mark.old view.now.view) }
-    requires frames { AreFrames view.now.land.now view.now.list.now view.now.encoded.now }
+    requires frames { AreFrames view.now.land.now view.now.list.now encoded.now }
     ensures sent { (p : Sight) →
         StandsFor mark.old (settled_parts view.now.land.now view.now.list.now) p →
         OnOk result (joined out.new.items ≡ joined out.old.items ++ play_bytes
@@ -78,7 +80,8 @@ fn push_changes<L: Ledger>(
         (others view.now.me view.now.folk.now.state.entities)
         view.now.pack.now view.now.view view.now.age (p.chat ++ view.now.lines.now))
         ++ noted_of view.now.land.now view.now.view notes.now
-        view.now.place view.now.pack.now)) }
+        (spot_seen view.now.land.now view.now.folk.now.state.entities view.now.me)
+        view.now.pack.now)) }
     ensures stands { (chat : List (List ℕ)) → OnOk result
         (StandsFor mark.new (present_parts view.now.land.now view.now.list.now)
         (seen view.now.land.now view.now.list.now
@@ -87,7 +90,7 @@ fn push_changes<L: Ledger>(
     ensures opened { OnOk result (mark.new.view ≡ Some view.now.view) }
 {
     let mut steps = Steps::<L>::new(blank);
-    flush(alloc, view, mark, notes, out, &mut steps)
+    flush_with(alloc, view, encoded, mark, notes, out, &mut steps)
 }
 
 impl Scene<'_> {
@@ -101,12 +104,10 @@ impl Scene<'_> {
             folk: self.game.folk(),
             pack,
             list: self.list,
-            encoded: self.encoded,
             lines: new_lines(self.lines, player.since),
             age: self.game.age(),
             me: player.eid.number(),
             view: view_of(self.game, player),
-            place: self.game.spot_of(player),
         }
     }
 
@@ -153,7 +154,15 @@ impl Scene<'_> {
         self.push_opening(alloc, player, mark, out)?;
         let pack = self.game.pack_of(player);
         let part = self.part_of(player, &pack);
-        push_changes::<Brand>(alloc, &part, mark, &player.notes, out, Blank::new(1))?;
+        push_changes::<Brand>(
+            alloc,
+            &part,
+            self.encoded,
+            mark,
+            &player.notes,
+            out,
+            Blank::new(1),
+        )?;
         Ok(())
     }
 }

@@ -1,8 +1,8 @@
 use Rattle.std.proofs.Common.{◌++◌}
 use Rattle.mc_frame.specs.Kept.{joined}
 use Rattle.mc_model.specs.Showing.{last_shown}
-use Rattle.mc_showing.proofs.SceneFacts.{columns_ready, due_sent, frames_are, shows_now}
-use Rattle.mc_showing.proofs.SceneFacts.{stands_before}
+use Rattle.mc_showing.proofs.SceneFacts.{columns_ready, due_sent, frames_are, lines_clear}
+use Rattle.mc_showing.proofs.SceneFacts.{shows_now, stands_before}
 use Rattle.mc_showing.proofs.scene.Scene.push_for.Goals as goal
 
 pub push_changes-requires-clause-ready : goal.push_changes-requires-clause-ready
@@ -13,6 +13,11 @@ push_changes-requires-clause-ready c =
 pub push_changes-requires-clause-frames : goal.push_changes-requires-clause-frames
 push_changes-requires-clause-frames c =
     frames_are c.args.self.now c.args.player.now c.part_of-part.result c.requires.scene
+    c.part_of-part.ensures
+
+pub push_changes-requires-clause-lines : goal.push_changes-requires-clause-lines
+push_changes-requires-clause-lines c =
+    lines_clear c.args.self.now c.args.player.now c.part_of-part.result c.requires.scene
     c.part_of-part.ensures
 
 pub returns-clause-sent : goal.returns-clause-sent
