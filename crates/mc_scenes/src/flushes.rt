@@ -1,18 +1,20 @@
 //! What one client is sent, on flat land whose columns from -3 to 3 are ready: `flush STEP ..`
 //! works on the list of players, the cells, the entities, the pack, what is noted and the mark.
 //! `player UUID X Y Z YAW PITCH` adds the entity of a player whose hand is empty, `hold` and `empty`
-//! change what its hand holds, and `me EID` names the client's own entity, which is none at first.
+//! change what its hand holds, and `me EID` names the client's own entity, which is none at first:
+//! its player is where that is, or where players enter.
 //! `age N` makes the world N ticks old, which is 1 at first, and `say TEXT` adds a text as it stands,
 //! of which no JSON is made. `settle` settles players, land and entities and forgets the texts,
-//! `share` has the frames encoded for all clients from now on, and `tell X Z D AT` answers the frames
-//! of a view of D around the column (X, Z), for a player at AT on x, in 1/32 blocks.
+//! `share` has the frames encoded for all clients from now on, and `tell X Z D` answers the frames of
+//! a view of D around the column (X, Z).
 
-ghost use Rattle.std.specs.Prelude.{◌≡◌, ◌<◌, true, IfOk};
+ghost use Rattle.std.specs.Prelude.{◌≡◌, ◌<◌, true, IfOk, IfSome};
 ghost use Rattle.std.specs.List.{AllByRecursion};
 ghost use Rattle.std.specs.FinSet as set;
 ghost use Rattle.mc_land.specs.Places.{IsPlace};
 ghost use Rattle.mc_view.specs.Sets.{all_of};
 ghost use Rattle.mc_flush.specs.Encoding.{AreFrames};
+ghost use Rattle.mc_flush.specs.LineFrames.{IsLine};
 ghost use Rattle.mc_loads.specs.Columns.{IsReady};
 
 use crate::frames::put_frames;
@@ -23,8 +25,7 @@ use crate::things::{
 };
 use mc_bytes::{NoMemory, Text};
 use mc_entities::Folk;
-use mc_fields::Spot;
-use mc_flush::{ClientView, Encoded, Line, Mark, flush};
+use mc_flush::{ClientView, Encoded, Mark, flush, flush_with};
 use mc_land::{Land, Steps, Terrain};
 use mc_model::{AGE_MAX, Notes};
 use mc_rows::{Answer, Words, look_up};
@@ -44,7 +45,7 @@ struct Scene {
     /// The number of the client's own entity, 0 where it has none.
     me: i32,
     /// What was said since the last settling.
-    lines: Vec<Line>,
+    lines: Vec<Text>,
     age: u64,
     mark: Mark,
     notes: Notes,
@@ -211,20 +212,33 @@ fn enter(guests: &mut Guests, words: &mut Words<'_>, answer: &mut Answer) {
     answer.needs(guests.enter(uuid, words.text()));
 }
 
-/// What is said by a text of at most 400 bytes.
-fn line_of(text: Text) -> Result<Option<Line>, NoMemory> {
-    if text.as_str().len() > 400 {
-        return Ok(None);
+/// Whether a packet can carry a text, as it can one of at most 400 bytes.
+fn is_line(text: &Text) -> bool
+    ensures { result ≡ true → IsLine text.now }
+{
+    text.as_str().len() <= 400
+}
+
+/// Whether packets can carry texts.
+fn are_lines(texts: &[Text]) -> bool
+    ensures { result ≡ true → AllByRecursion IsLine texts.now }
+{
+    for text in texts {
+        if !is_line(text) {
+            return false;
+        }
     }
-    Ok(Some(Line::new(text)?))
+    true
 }
 
 /// Something is said.
-fn say(lines: &mut Vec<Line>, words: &mut Words<'_>, answer: &mut Answer) {
-    match line_of(words.text()) {
-        Ok(Some(line)) => answer.needs(lines.push(line)),
-        Ok(None) => words.fail(),
-        Err(NoMemory) => answer.lose(),
+fn say(lines: &mut Vec<Text>, words: &mut Words<'_>, answer: &mut Answer) {
+    let text = words.text();
+    if is_line(&text) {
+        answer.needs(lines.push(text));
+    } else {
+        drop(text);
+        words.fail();
     }
 }
 
@@ -244,14 +258,7 @@ fn view_in(words: &mut Words<'_>) -> ViewSet {
 /// Puts what a client is sent.
 fn tell(scene: &mut Scene, words: &mut Words<'_>, answer: &mut Answer) {
     let view = view_in(words);
-    let place = Spot {
-        x: words.number(),
-        y: 128,
-        z: 272,
-        yaw: 0,
-        pitch: 0,
-    };
-    match flushed::<Brand>(words.alloc, scene, view, place, Blank::new(1)) {
+    match flushed::<Brand>(words.alloc, scene, view, Blank::new(1)) {
         Ok(Some(bytes)) => put_sent(&bytes, answer),
         Ok(None) => words.fail(),
         Err(NoMemory) => answer.lose(),
@@ -267,36 +274,38 @@ fn put_sent(bytes: &[u8], answer: &mut Answer) {
     put_frames(bytes, answer);
 }
 
-/// What is encoded for all clients: nothing, or the frames of who left and came, of moves, and of
-/// these columns.
+/// What is encoded for all clients, if anything is: the frames of who left and came, of moves, of
+/// what was said, and of these columns.
 fn encode<L: Ledger>(
     alloc: Global,
     scene: &Scene,
     view: &ViewSet,
     steps: &mut Steps<L>,
-) -> Result<Encoded, NoMemory>
-    requires { AllByRecursion (IsReady scene.now.land) (all_of view.now) }
-    ensures { IfOk result (AreFrames scene.now.land scene.now.guests) }
+) -> Result<Option<Encoded>, NoMemory>
+    requires ready { AllByRecursion (IsReady scene.now.land) (all_of view.now) }
+    requires lines { AllByRecursion IsLine scene.now.lines.items }
+    ensures { IfOk result (λ all. IfSome all (AreFrames scene.now.land scene.now.guests)) }
 {
-    let mut encoded = Encoded::new(alloc);
     if !scene.shares {
-        return Ok(encoded);
+        return Ok(None);
     }
+    let mut encoded = Encoded::new(alloc);
     encoded.add_players(alloc, scene.guests.list())?;
     encoded.add_moves(alloc, &scene.folk)?;
+    encoded.add_lines(alloc, scene.lines.as_slice())?;
     for place in view.all() {
         encoded.add_load(alloc, &scene.land, &place, steps)?;
         encoded.add_changes(alloc, &scene.land, &place, steps)?;
     }
-    Ok(encoded)
+    Ok(Some(encoded))
 }
 
-/// What a client is sent, where its columns are ready and no world is older.
+/// What a client is sent, where its columns are ready, packets can carry what was said, and no
+/// world is older.
 fn flushed<L: Ledger>(
     alloc: Global,
     scene: &mut Scene,
     view: ViewSet,
-    place: Spot,
     blank: Blank,
 ) -> Result<Option<Vec<u8>>, NoMemory>
     requires name { blank.name ≡ L.name }
@@ -304,7 +313,7 @@ fn flushed<L: Ledger>(
     requires some { 0 < blank.parts }
 {
     let mut steps = Steps::<L>::new(blank);
-    if scene.age > AGE_MAX {
+    if scene.age > AGE_MAX || !are_lines(scene.lines.as_slice()) {
         return Ok(None);
     }
     if !is_ready(&scene.land, &view, &mut steps) {
@@ -316,22 +325,32 @@ fn flushed<L: Ledger>(
         folk: &scene.folk,
         pack: &scene.pack,
         list: scene.guests.list(),
-        encoded: &encoded,
         lines: scene.lines.as_slice(),
         age: scene.age,
         me: scene.me,
         view,
-        place,
     };
     let mut pieces = Vec::new(alloc);
-    flush(
-        alloc,
-        &view,
-        &mut scene.mark,
-        &scene.notes,
-        &mut pieces,
-        &mut steps,
-    )?;
+    let done = match &encoded {
+        Some(encoded) => flush_with(
+            alloc,
+            &view,
+            encoded,
+            &mut scene.mark,
+            &scene.notes,
+            &mut pieces,
+            &mut steps,
+        ),
+        None => flush(
+            alloc,
+            &view,
+            &mut scene.mark,
+            &scene.notes,
+            &mut pieces,
+            &mut steps,
+        ),
+    };
+    done?;
     let mut bytes = Vec::new(alloc);
     for piece in &pieces {
         bytes.extend_from_slice(piece.as_slice())?;

@@ -191,7 +191,7 @@ impl Server {
             &mut self.game,
             encoded,
         )?;
-        let lines = encode_lines(self.alloc, self.game.lines())?;
+        let lines = encode_lines(self.alloc, self.game.lines(), encoded)?;
         let scene = Scene {
             game: &self.game,
             lines: lines.as_slice(),

@@ -5,10 +5,6 @@ use Rattle.mc_loads.specs.Columns.{IsReady}
 use Rattle.mc_sending.proofs.Pieces.{next_holds}
 use Rattle.mc_scenes.proofs.flushes.encode.Goals as goal
 
-pub returns-then-not-scene : goal.returns-then-not-scene
-returns-then-not-scene g c =
-    c.new-encoded.ensures.frames c.args.scene.now.land c.args.scene.now.guests
-
 pub loop-place-init : goal.loop-place-init
 loop-place-init g c =
     let land = c.args.scene.now.land in
@@ -17,7 +13,8 @@ loop-place-init g c =
     (c.add_players.ensures.frames land (c.new-encoded.ensures.frames land c.list.result.now)) in
     record {
       ready = search rules;
-      frames = c.add_moves.ensures.frames land c.args.scene.now.guests players;
+      frames = c.add_lines.ensures.frames land c.args.scene.now.guests
+          (c.add_moves.ensures.frames land c.args.scene.now.guests players);
     }
 
 pub add_load-requires : goal.add_load-requires
