@@ -3,7 +3,7 @@
 
 use mc_bytes::Text;
 use mc_fields::Spot;
-use mc_flush::{PlayerList, placing_packet, put_packet};
+use mc_flush::{PlayerList, placing_packet, put_made};
 use mc_rows::{Answer, Words, look_up};
 
 /// A call of a list of players.
@@ -90,6 +90,7 @@ fn enter(list: &mut PlayerList, words: &mut Words<'_>, answer: &mut Answer) {
 
 /// Answers the frame of a player's place.
 pub fn place(words: &mut Words<'_>, answer: &mut Answer) {
+    // Dear to prove, for five fields and the packet, one of 45 forms, that is made of them.
     let place = Spot {
         x: words.number(),
         y: words.number(),
@@ -98,6 +99,6 @@ pub fn place(words: &mut Words<'_>, answer: &mut Answer) {
         pitch: words.number(),
     };
     let mut frame = Vec::new(words.alloc);
-    answer.needs(put_packet(&placing_packet(&place), &mut frame));
+    answer.needs(put_made(placing_packet(&place), &mut frame));
     answer.hex(&frame);
 }

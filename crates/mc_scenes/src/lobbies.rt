@@ -58,6 +58,7 @@ fn troubles_in(words: &mut Words<'_>, answer: &mut Answer) -> Vec<Trouble> {
 
 /// Appends the troubles that a text names.
 fn push_trouble(troubles: &mut Vec<Trouble>, text: &str) -> Option<()> {
+    // Dear to prove, for six arms with a call each behind two `?`.
     let (name, rest) = text.split_once('=').unwrap_or((text, "0"));
     let (number, size) = rest.split_once(':').unwrap_or((rest, "0"));
     let i = number.parse::<u64>().ok()?;

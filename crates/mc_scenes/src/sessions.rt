@@ -93,6 +93,7 @@ fn put_answered(answered: Result<Step, NoMemory>, answer: &mut Answer) {
 
 /// Puts what a frame comes to.
 fn put_step(step: Step, answer: &mut Answer) {
+    // Dear to prove, for the packet in a step: to borrow it, or fewer calls an arm, gains nothing.
     match step {
         Step::Nothing => answer.word("nothing"),
         Step::Reply(reply) => answer.shown(reply.as_slice()),

@@ -1,6 +1,8 @@
 -- What holds of a run's devices once the last line is written.
 use Rattle.std.proofs.Common.{◌≡◌, ℕ, List, [], length, take, Option, Some, Result, refl, sym}
 use Rattle.std.proofs.Common.{subst, ap}
+use Rattle.std.proofs.Common.{arith}
+use Rattle.std.proofs.lemmas.Bool.Decides.{nat_tests}
 use Rattle.std.specs.Prelude.{IfSome, IsOk, OnOk, OnErr}
 use Rattle.mc_wire.specs.Count.{Rose}
 use Rattle.mc_wire.specs.Stream.{Grows}
@@ -15,9 +17,7 @@ use Rattle.mc_top.proofs.Inputs.{wrote_last}
 -- what is known of an input that is told
 pub of_left : (P : List ℕ → Type 0) (left : Option (List ℕ)) (input : List ℕ) → left ≡ Some input →
     IfSome left P → P input
-of_left P left input is holds =
-    let Q : Option (List ℕ) → Type 0 = λ o. IfSome o P in
-    subst Q is holds
+of_left P left input is holds = grind (arith, nat_tests)
 
 -- nothing was written since
 pub still_holds : (P : Option (List ℕ) → Type 0) (held held' : Option (List ℕ)) → held' ≡ held →
@@ -25,17 +25,13 @@ pub still_holds : (P : Option (List ℕ) → Type 0) (held held' : Option (List 
 still_holds P held held' same holds = subst P (sym same) holds
 
 pub still_rose : (faults mid faults' : ℕ) → faults' ≡ mid → Rose faults mid → Rose faults faults'
-still_rose faults mid faults' same rose =
-    let P : ℕ → Type 0 = λ n. Rose faults n in
-    subst P (sym same) rose
+still_rose faults mid faults' same rose = grind (arith, nat_tests)
 
 -- nothing was written before the last line
 pub only_last : (A : Type 0) (view : A → Option (List ℕ)) (count : A → ℕ) (old mid new : A)
     (line : List ℕ) → mid ≡ old → WroteLast (view mid) (view new) (count mid) (count new) line →
     WroteLast (view old) (view new) (count old) (count new) line
-only_last A view count old mid new line same wrote =
-    let P : A → Type 0 = λ a. WroteLast (view a) (view new) (count a) (count new) line in
-    subst P same wrote
+only_last A view count old mid new line same wrote = grind (arith, nat_tests)
 
 -- ---- writing the last line
 
@@ -48,23 +44,4 @@ pub finishes_fixed : {E : Type 0} (A : Type 0) (view : A → Option (List ℕ))
     OnErr r (Rose (count old) (count new)) → (length piece ≡ 0 → IsOk r × (new ≡ old)) →
     Finishes how how (view old) (view new) (count old) (count new)
 finishes_fixed A view count how r old new piece no_bad no_budget is whole part failed empty =
-    finishes how no_bad no_budget is
-  where
-    line : (l : List ℕ) → piece ≡ l → WroteLast (view old) (view new) (count old) (count new) l
-    line l is = wrote_last r (view old) (view new) (count old) (count new) piece l whole part
-        failed is
-
-    none : piece ≡ [] → IsUntouched (view old) (view new) (count old) (count new)
-    none is = let same = (empty (ap length is)).1 in (ap view same, ap count same)
-
-    finishes : (e : Ended) → ((bad : BadInput) → e ≡ ended.BadInput bad → ⊥) →
-        ((n : ℕ) → e ≡ ended.Budget n → ⊥) → piece ≡ fixed_line_of e →
-        Finishes e e (view old) (view new) (count old) (count new)
-    finishes ended.Done bad budget is = (refl, none is)
-    finishes ended.NoMemory bad budget is = (refl, none is)
-    finishes ended.Usage bad budget is = (refl, line usage_line is)
-    finishes ended.ReadFault bad budget is = (refl, line read_fault_line is)
-    finishes ended.WriteFault bad budget is = (refl, none is)
-    finishes ended.NetFault bad budget is = (refl, line net_fault_line is)
-    finishes (ended.BadInput fault) bad budget is = absurd (bad fault refl)
-    finishes (ended.Budget n) bad budget is = absurd (budget n refl)
+    grind (arith, nat_tests)

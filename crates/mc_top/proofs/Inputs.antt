@@ -4,6 +4,7 @@ use Rattle.std.proofs.Common.{Some, None, Result, Ok, Err, refl, sym, subst, ap,
 use Rattle.std.proofs.Common.{arith}
 use Rattle.std.specs.Prelude.{IfSome, OnOk, OnErr}
 use Rattle.std.proofs.lemmas.List.{append-nil}
+use Rattle.std.proofs.lemmas.Bool.Decides.{nat_tests}
 use Rattle.mc_wire.specs.Count.{Rose, StandsOrRises}
 use Rattle.mc_wire.specs.Stream.{Grows, IsAtEnd}
 use Rattle.mc_words.specs.declared.bad_input.BadInput.{BadInput}
@@ -24,54 +25,29 @@ pub of_read : {A : Type 0} (f : List ℕ → A) (P : A → Type 0) (left left' :
     (bytes : List ℕ) → ((front more : List ℕ) → length front ≡ text_max + 1 →
     f (front ++ more) ≡ f front) → ReadsText left left' bytes → P (f bytes) →
     IfSome left (λ input. P (f input))
-of_read f P None left' bytes alike read p = tt
-of_read f P (Some xs) None bytes alike read p = absurd read.given
-of_read f P (Some xs) (Some ys) bytes alike read p = subst P (sym (same read.enough)) p
-  where
-    same : (ys ≡ []) ⊎ (length bytes ≡ text_max + 1) → f xs ≡ f bytes
-    same (inl end) = ap f (read.given ∙ rw end (append-nil bytes))
-    same (inr long) = ap f read.given ∙ alike bytes ys long
+of_read f P left left' bytes alike read p = grind (arith, nat_tests, append-nil)
 
 -- a text that is not too long was read to its end
 pub whole_read : (left left' : Option (List ℕ)) (bytes : List ℕ) → ReadsText left left' bytes →
     (length bytes ≡ text_max + 1 → ⊥) → IsAtEnd left'
-whole_read left left' bytes read fits = elim read.enough [
-  | inl end ↦ end
-  | inr long ↦ absurd (fits long)
-]
+whole_read left left' bytes read fits = grind (arith, nat_tests)
 
 -- a last line was written, or a part of it where the sink failed
 pub wrote_last : {E : Type 0} (r : Result (Unit {0}) E) (held held' : Option (List ℕ))
     (faults faults' : ℕ) (piece line : List ℕ) → OnOk r (Grows held held' piece) →
     OnErr r ((n : ℕ) × Grows held held' (take n piece)) → OnErr r (Rose faults faults') →
     piece ≡ line → WroteLast held held' faults faults' line
-wrote_last (Ok x) held held' faults faults' piece line whole part failed is =
-    let P : List ℕ → Type 0 = λ t. Grows held held' t in
-    inl (subst P is whole)
-wrote_last (Err e) held held' faults faults' piece line whole part failed is =
-    let P : List ℕ → Type 0 = λ t. Grows held held' (take part.0 t) in
-    inr (failed, part.0, subst P is part.1)
+wrote_last r held held' faults faults' piece line whole part failed is = grind (arith, nat_tests)
 
 rose_after : (old middle new : ℕ) → StandsOrRises old middle → Rose middle new → Rose old new
-rose_after old middle new (inl same) (inl less) = inl (omega (arith, same, less))
-rose_after old middle new (inl same) (inr end) = inr end
-rose_after old middle new (inr up) (inl less) =
-    let at_least = up.0 in
-    inl (omega (arith, at_least, less))
-rose_after old middle new (inr up) (inr end) = inr end
+rose_after old middle new h1 h2 = grind (arith, nat_tests)
 
 -- a last line behind a text
 pub wrote_both : (held middle held' : Option (List ℕ)) (old mid new : ℕ) (text line : List ℕ) →
     Grows held middle text → StandsOrRises old mid → WroteLast middle held' mid new line →
     WroteTextThenLast held held' old new text line
-wrote_both held middle held' old mid new text line a counts (inl whole) =
-    inl (grows_two held middle held' text line a whole)
-wrote_both held middle held' old mid new text line a counts (inr part) =
-    inr (
-      rose_after old mid new counts part.0,
-      part.1,
-      grows_two held middle held' text (take part.1 line) a part.2,
-    )
+wrote_both held middle held' old mid new text line a counts h3 =
+    grind (arith, nat_tests, grows_two, rose_after)
 
 -- ---- what is told
 
@@ -79,10 +55,7 @@ wrote_both held middle held' old mid new text line a counts (inr part) =
 pub fine_not_bad : (told : Told) (text other : List ℕ) (bad : BadInput) →
     told ≡ record { text = text; fault = None } →
     told ≡ record { text = other; fault = Some bad } → ⊥
-fine_not_bad told text other bad fine wrong_ =
-    let clash : ◌≡◌ {A = Option BadInput} None (Some bad) =
-    sym (ap (λ (t : Told). t.fault) fine) ∙ ap (λ (t : Told). t.fault) wrong_ in
-    cc
+fine_not_bad told text other bad fine wrong_ = grind (arith, nat_tests)
 
 -- the text of what is told
 pub text_of : (told : Told) (text : List ℕ) (fault : Option BadInput) →
@@ -147,19 +120,13 @@ pub done_replied : (most : ℕ) (fault : Option BadInput) (result : Ended)
     (left left' held held' : Option (List ℕ)) (bytes : List ℕ) → result ≡ ended_after fault →
     result ≡ ended.Done → ReadsText left left' bytes → fault ≡ (status_told most bytes).fault →
     Grows held held' (status_told most bytes).text → Replied most left left' held held'
-done_replied most None result left left' held held' bytes is done read t wrote =
-    replied most left left' held held' bytes read t wrote
-done_replied most (Some bad) result left left' held held' bytes is done read t wrote =
-    absurd (no_bad bad (sym is ∙ done))
+done_replied most fault result left left' held held' bytes is done read t wrote =
+    grind (arith, nat_tests, replied, no_bad)
 
 pub bad_found : (most : ℕ) (fault : Option BadInput) (result : Ended) (bad : BadInput)
     (left left' held held' : Option (List ℕ)) (bytes : List ℕ) → result ≡ ended_after fault →
     result ≡ ended.BadInput bad → ReadsText left left' bytes →
     fault ≡ (status_told most bytes).fault → Grows held held' (status_told most bytes).text →
     Found most bad left left' held held'
-bad_found most None result bad left left' held held' bytes is bad_ read t wrote =
-    absurd (not_bad bad (sym is ∙ bad_))
-bad_found most (Some other) result bad left left' held held' bytes is bad_ read t wrote =
-    let P : BadInput → Type 0 = λ b. Found most b left left' held held' in
-    subst P (bad_is other bad (sym is ∙ bad_))
-    (found most other left left' held held' bytes read t wrote)
+bad_found most fault result bad left left' held held' bytes is bad_ read t wrote =
+    grind (arith, nat_tests, not_bad, bad_is, found)

@@ -6,6 +6,7 @@ use Rattle.std.proofs.Common.{add-one, nat_lt, ltb-true, ltb-false}
 use Rattle.std.specs.Prelude.{◌&&◌, nat_le, codes}
 use Rattle.std.specs.Str.{bytes_eq, is_utf8}
 use Rattle.std.proofs.lemmas.List.{length-append}
+use Rattle.std.proofs.lemmas.Bool.Decides.{nat_tests}
 use Rattle.mc_words.specs.declared.bad_input.BadInput.{BadInput}
 use Rattle.mc_words.specs.declared.bad_input.InputFault.{InputFault}
 use Rattle.mc_words.specs.declared.bad_input.InputFault.TheVariants as faults
@@ -62,55 +63,24 @@ ticks_not before n = cond_not (nat_le n before.ticks_left) (Ok (Ticks n)) (Err f
     (ok_not (Ticks n)) number_not
 
 words_not : (before : Before) (words : List (List ℕ)) → NotLong (words_event before words)
-words_not before [] = word_not
-words_not before (verb ∷ []) = cond_not (bytes_eq verb (codes "tick")) (ticks_event before 1)
-    (Err faults.Word) (ticks_not before 1) word_not
-words_not before (verb ∷ word ∷ []) =
-    cond_not (bytes_eq verb (codes "join")) _ _
-    (numbered_not (connection word) (λ k. join_event before k) (λ k. join_not before k))
-    (cond_not (bytes_eq verb (codes "gone")) _ _
-    (numbered_not (connection word) (λ k. Ok (Gone k)) (λ k. ok_not (Gone k)))
-    (cond_not (bytes_eq verb (codes "tick")) _ _ (numbered_not (number_of 1 100000 word)
-    (λ n. ticks_event before n) (λ n. ticks_not before n)) word_not))
-words_not before (verb ∷ word ∷ hex ∷ []) =
-    cond_not (bytes_eq verb (codes "bytes")) _ _ (numbered_not (connection word)
-    (λ k. bytes_event k (hex_of hex)) (λ k. bytes_not k (hex_of hex))) word_not
-words_not before (verb ∷ word ∷ hex ∷ more ∷ words) = word_not
+words_not before words = grind (arith, nat_tests)
 
 some_not : (r : Result ScriptEvent InputFault) → NotLong r → NotLong (some_event r)
-some_not (Ok event) f = ok_not (Some event)
-some_not (Err kind) f = record {
-  never = λ e. let same : kind ≡ faults.Long = cc in f.never (ap (λ (k : InputFault). Err k) same);
-}
+some_not r f = grind (arith, nat_tests)
 
 -- what a line comes to whose bytes are not too many
 line_not : (len size : ℕ) (before : Before) (line : List ℕ) → goes_past len size ≡ false →
     NotLong (line_event len size before line)
 unfolding line_event
-line_not len size before line within =
-    rw within (cond_not (is_skipped line) (Ok None) _ (ok_not None) (cond_not (is_utf8 line)
-    (some_event (words_event before (words_of line))) (Err faults.Word) (some_not
-    (words_event before (words_of line)) (words_not before (words_of line))) word_not))
+line_not len size before line within = grind (arith, nat_tests)
 
 -- ---- bytes
 
 past_is : (len size : ℕ) → goes_past len size ≡ true → (text_max < len) × (text_max < size)
-past_is len size e = step (nat_lt text_max len) (nat_lt text_max size) refl refl e
-  where
-    step : (a b : Bool) → nat_lt text_max len ≡ a → nat_lt text_max size ≡ b → (a && b) ≡ true →
-        (text_max < len) × (text_max < size)
-    step true true a b e = (ltb-true _ _ a, ltb-true _ _ b)
-    step true false a b e = absurd cc
-    step false b a b' e = absurd cc
+past_is len size e = grind (arith, nat_tests)
 
 within_is : (len size : ℕ) → goes_past len size ≡ false → (len ≤ text_max) ⊎ (size ≤ text_max)
-within_is len size e = step (nat_lt text_max len) (nat_lt text_max size) refl refl e
-  where
-    step : (a b : Bool) → nat_lt text_max len ≡ a → nat_lt text_max size ≡ b → (a && b) ≡ false →
-        (len ≤ text_max) ⊎ (size ≤ text_max)
-    step true true a b e = absurd cc
-    step true false a b e = inr (ltb-false _ _ b)
-    step false b a b' e = inl (ltb-false _ _ a)
+within_is len size e = grind (arith, nat_tests)
 
 -- the first so many lines hold at most the most bytes, and one more holds more
 pub record GoesPast (len : ℕ) (lines : List (List ℕ)) (n : ℕ) : Type 0 where
@@ -172,20 +142,12 @@ ok_or_err event kind e = cc
 -- a line that was read has bytes that are not too many
 read_within : (len size : ℕ) (before : Before) (line : List ℕ) (event : Option ScriptEvent) →
     line_event len size before line ≡ Ok event → goes_past len size ≡ false
-read_within len size before line event e = step (goes_past len size) refl
-  where
-    step : (b : Bool) → goes_past len size ≡ b → b ≡ false
-    step true is = absurd (ok_or_err event faults.Long (sym e ∙ line_long len size before line is))
-    step false is = refl
+read_within len size before line event e = grind (arith, nat_tests, ok_or_err, line_long)
 
 -- and one that is too long has too many
 fault_past : (len size : ℕ) (before : Before) (line : List ℕ) →
     line_event len size before line ≡ Err faults.Long → goes_past len size ≡ true
-fault_past len size before line e = step (goes_past len size) refl
-  where
-    step : (b : Bool) → goes_past len size ≡ b → b ≡ true
-    step true is = refl
-    step false is = absurd ((line_not len size before line is).never e)
+fault_past len size before line e = grind (arith, nat_tests, line_not)
 
 -- one line more, given what holds of the lines behind it
 long_step : (len count size : ℕ) (before : Before) (done lines : List (List ℕ))

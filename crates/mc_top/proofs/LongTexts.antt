@@ -6,6 +6,7 @@ use Rattle.std.specs.Prelude.{◌&&◌}
 use Rattle.std.specs.List.{onto_first}
 use Rattle.std.proofs.lemmas.Bool.{lt-ltb, le-ltb}
 use Rattle.std.proofs.lemmas.List.{length-append}
+use Rattle.std.proofs.lemmas.Bool.Decides.{nat_tests}
 use Rattle.mc_words.specs.declared.bad_input.BadInput.{BadInput}
 use Rattle.mc_words.specs.declared.bad_input.InputFault.{InputFault}
 use Rattle.mc_words.specs.declared.bad_input.InputFault.TheVariants.{Long}
@@ -152,14 +153,10 @@ branched (b ∷ text) more len is = rw (← is) (branch b text more)
 -- ---- which lines go past the most bytes
 
 past_most : (len size : ℕ) → text_max < len → text_max < size → goes_past len size ≡ true
-past_most len size long past =
-    ap (λ (t : Bool). t && nat_lt text_max size) (lt-ltb text_max len long)
-    ∙ lt-ltb text_max size past
+past_most len size long past = grind (arith, nat_tests)
 
 within_most : (len size : ℕ) → text_max < len → size ≤ text_max → goes_past len size ≡ false
-within_most len size long within =
-    ap (λ (t : Bool). t && nat_lt text_max size) (lt-ltb text_max len long)
-    ∙ le-ltb text_max size within
+within_most len size long within = grind (arith, nat_tests)
 
 -- ---- what is told of the client's lines
 
@@ -247,10 +244,7 @@ long_faulty most text is e =
 then_same : (n : ℕ) (before : Before) (event : Result (Option ScriptEvent) InputFault)
     (f g : Before → Result (List ScriptEvent) BadInput) → ((next : Before) → f next ≡ g next) →
     then_ n before event f ≡ then_ n before event g
-then_same n before (Ok None) f g same = same before
-then_same n before (Ok (Some event)) f g same =
-    ap (with_events (event ∷ [])) (same (after_event before event))
-then_same n before (Err kind) f g same = refl
+then_same n before event f g same = grind (arith, nat_tests)
 
 event_past : (len size : ℕ) (before : Before) (line : List ℕ) → goes_past len size ≡ true →
     line_event len size before line ≡ Err Long
@@ -316,11 +310,7 @@ front_ok events all (Err bad) e = absurd cc
 then_on : (n : ℕ) (before : Before) (event : Result (Option ScriptEvent) InputFault)
     (later : Before → Result (List ScriptEvent) BadInput) (all : List ScriptEvent) →
     then_ n before event later ≡ Ok all → GoesOn later
-then_on n before (Ok None) later all e = record { next = before; events = all; is = e }
-then_on n before (Ok (Some event)) later all e =
-    let more = front_ok (event ∷ []) all (later (after_event before event)) e in
-    record { next = after_event before event; events = more.0; is = more.1 }
-then_on n before (Err kind) later all e = absurd cc
+then_on n before event later all e = grind (arith, nat_tests)
 
 events_faulty : (len count size : ℕ) (before : Before) (done : List (List ℕ)) (line : List ℕ)
     (rest : List (List ℕ)) (all : List ScriptEvent) → text_max < len →

@@ -1,6 +1,8 @@
 -- The promise of `replay`, from what its function says and from its last line.
 use Rattle.std.proofs.Common.{◌≡◌, ℕ, ◌⊎◌, inl, inr, List, Option, Some, Ok, Err, sym, subst, ◌∙◌}
 use Rattle.std.proofs.Common.{refl}
+use Rattle.std.proofs.Common.{arith}
+use Rattle.std.proofs.lemmas.Bool.Decides.{nat_tests}
 use Rattle.mc_wire.specs.Count.{Rose}
 use Rattle.mc_wire.specs.LobbyCounts.{LobbyCounts}
 use Rattle.mc_wire.specs.LobbyTold.{LobbyTold}
@@ -85,34 +87,12 @@ pub replay_served : (options : WorldOptions)
     ReplayPromise options how before after → before.left ≡ Some input → IsScriptOf events input →
     ¬ Rose before.read_faults after.read_faults → ¬ Rose before.write_faults after.write_faults →
     (how ≡ ended.Done) ⊎ (how ≡ ended.NoMemory)
-replay_served options ended.Done before after events input p is script reads writes = inl refl
-replay_served options ended.NoMemory before after events input p is script reads writes = inr refl
-replay_served options ended.Usage before after events input p is script reads writes = absurd p
-replay_served options ended.ReadFault before after events input p is script reads writes =
-    absurd (reads p.0)
-replay_served options ended.WriteFault before after events input p is script reads writes =
-    absurd (writes p.0)
-replay_served options ended.NetFault before after events input p is script reads writes = absurd p
-replay_served options (ended.Budget n) before after events input p is script reads writes = absurd p
-replay_served options (ended.BadInput bad) before after events input p is script reads writes =
-    absurd (script_or_fault events bad input script
-    (of_left (IsFaultOf bad) before.left input is p.found.first))
+replay_served options how before after events input p is script reads writes =
+    grind (arith, nat_tests)
 
 -- and what is none is refused
 pub replay_refused : (options : WorldOptions) (how : Ended) (before after : Devices)
     (bad : BadInput) (input : List ℕ) → ReplayPromise options how before after →
     before.left ≡ Some input → IsFaultOf bad input → ¬ Rose before.read_faults after.read_faults →
     ¬ Rose before.write_faults after.write_faults → (status_of how ≡ 6) ⊎ (status_of how ≡ 1)
-replay_refused options ended.Done before after bad input p is wrong reads writes =
-    absurd (script_or_fault p.events bad input
-    (of_left (IsScriptOf p.events) before.left input is p.script) wrong)
-replay_refused options ended.NoMemory before after bad input p is wrong reads writes = inr refl
-replay_refused options ended.Usage before after bad input p is wrong reads writes = absurd p
-replay_refused options ended.ReadFault before after bad input p is wrong reads writes =
-    absurd (reads p.0)
-replay_refused options ended.WriteFault before after bad input p is wrong reads writes =
-    absurd (writes p.0)
-replay_refused options ended.NetFault before after bad input p is wrong reads writes = absurd p
-replay_refused options (ended.Budget n) before after bad input p is wrong reads writes = absurd p
-replay_refused options (ended.BadInput other) before after bad input p is wrong reads writes =
-    inl refl
+replay_refused options how before after bad input p is wrong reads writes = grind (arith, nat_tests)

@@ -4,6 +4,7 @@ use Rattle.std.proofs.Common.{arith}
 use Rattle.std.specs.Prelude.{◌&&◌, nat_le, Option, Some, None, IfSome, option_map, codes}
 use Rattle.std.specs.Str.{bytes_eq}
 use Rattle.std.proofs.lemmas.Bool.{leb-true}
+use Rattle.std.proofs.lemmas.Bool.Decides.{nat_tests}
 use Rattle.mc_wire.specs.declared.answers.Pace.{Pace}
 use Rattle.mc_land.specs.declared.terrain.Terrain.{Terrain}
 use Rattle.mc_model.specs.Game.{AreSettings}
@@ -22,14 +23,7 @@ abbrev IsWithin : ℕ → ℕ → ℕ → Type 0
 IsWithin low high n = (low ≤ n) × (n ≤ high)
 
 within_is : (low high : ℕ) (o : Option ℕ) → IfSome (within low high o) (IsWithin low high)
-within_is low high None = tt
-within_is low high (Some n) = elim (nat_le low n && nat_le n high) as
-    (λ b. (nat_le low n && nat_le n high) ≡ b → IfSome (cond b (Some n) None) (IsWithin low high)) [
-      | true ↦ λ t.
-          let both = both_true (nat_le low n) (nat_le n high) t in
-          (leb-true low n both.0, leb-true n high both.1)
-      | false ↦ λ _. tt
-    ] refl
+within_is low high o = grind (arith, nat_tests)
 
 number_is : (default low high : ℕ) (value : Option (List ℕ)) → low ≤ default → default ≤ high →
     IfSome (number_or default low high value) (IsWithin low high)
@@ -73,11 +67,7 @@ IsWorld world = AreSettings world.players world.view
 world_with_is : (players view : Option ℕ) (terrain : Option Terrain) →
     IfSome players (IsWithin 1 50) → IfSome view (IsWithin 2 8) →
     IfSome (world_with players view terrain) IsWorld
-world_with_is (Some players) (Some view) (Some terrain) p v =
-    record { some = p.0; few = p.1; wide = v.0; near = v.1 }
-world_with_is (Some players) (Some view) None p v = tt
-world_with_is (Some players) None terrain p v = tt
-world_with_is None view terrain p v = tt
+world_with_is players view terrain p v = grind (arith, nat_tests)
 
 world_is : (arguments : List (List ℕ)) → IfSome (world_in arguments) IsWorld
 world_is arguments = world_with_is (players_in arguments) (view_in arguments) (land_in arguments)
@@ -92,9 +82,7 @@ serve_is_set : (world : Option WorldOptions) (port ticks events : Option ℕ) (p
     IfSome world IsWorld → IfSome port (IsWithin 1 65535) →
     IfSome ticks (IsWithin 1 1000000000) → IfSome events (IsWithin 1 4000000000) →
     IfSome (serve_with world port ticks events pace) IsSet
-serve_is_set (Some world) (Some port) (Some ticks) (Some events) (Some pace) w p t e =
-    record { world = w; port = p.0; ticks = t; events = e.0 }
-serve_is_set world port ticks events pace w p t e = tt
+serve_is_set world port ticks events pace w p t e = grind (arith, nat_tests)
 
 status_is_set : (players : Option ℕ) → IfSome (status_with players) IsSet
 status_is_set None = tt
@@ -107,25 +95,12 @@ choice false a c pa pc = pc
 
 serve_set_of : (arguments : List (List ℕ)) → IfSome (serve_of arguments) IsSet
 serve_set_of arguments =
-    choice (are_options serve_names arguments && takes_no_capture arguments) (serve_with
-    (world_in arguments) (port_in arguments) (tick_limit_in arguments) (event_limit_in arguments)
-    (pace_in arguments)) None
-    (serve_is_set (world_in arguments) (port_in arguments) (tick_limit_in arguments)
-    (event_limit_in arguments) (pace_in arguments) (world_is arguments) (port_is arguments)
-    (ticks_are arguments) (events_are arguments)) tt
+    grind (arith, nat_tests, choice, serve_is_set, world_is, port_is, ticks_are, events_are)
 
 command_is_set : (arguments : List (List ℕ)) → IfSome (command_of arguments) IsSet
 unfolding command_of
-command_is_set [] = tt
-command_is_set (verb ∷ arguments) =
-    choice (bytes_eq verb (codes "status")) (status_of arguments) _
-    (choice (are_options (codes "players" ∷ []) arguments) (status_with (players_in arguments)) None
-    (status_is_set (players_in arguments)) tt)
-    (choice (bytes_eq verb (codes "replay")) (replay_of arguments) _
-    (choice (are_options (codes "players" ∷ codes "view" ∷ codes "land" ∷ []) arguments)
-    (option_map Replay (world_in arguments)) None
-    (replay_is_set (world_in arguments) (world_is arguments)) tt)
-    (choice (bytes_eq verb (codes "serve")) (serve_of arguments) None (serve_set_of arguments) tt))
+command_is_set arguments =
+    grind (arith, nat_tests, choice, status_is_set, replay_is_set, world_is, serve_set_of)
 
 -- the options of the command that some arguments name
 pub named_is_set : (arguments : List (List ℕ)) (o : Option Command) (command : Command) →

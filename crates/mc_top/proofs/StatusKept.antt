@@ -3,6 +3,7 @@ use Rattle.std.specs.Prelude.{IfSome}
 use Rattle.std.proofs.Common.{◌≡◌, ℕ, ◌⊎◌, inl, inr, List, length, Option, None, Some, sym, subst}
 use Rattle.std.proofs.Common.{refl, arith}
 use Rattle.std.proofs.lemmas.List.{take_all}
+use Rattle.std.proofs.lemmas.Bool.Decides.{nat_tests}
 use Rattle.mc_wire.specs.Count.{Rose, StandsOrRises}
 use Rattle.mc_wire.specs.LobbyCounts.{LobbyCounts}
 use Rattle.mc_wire.specs.LobbyTold.{LobbyTold}
@@ -103,34 +104,12 @@ pub status_served : (most : ℕ) (how : Ended) (before after : Devices) (text in
     StatusPromise most how before after → before.left ≡ Some input → IsFineText most text input →
     ¬ Rose before.read_faults after.read_faults → ¬ Rose before.write_faults after.write_faults →
     (how ≡ ended.Done) ⊎ (how ≡ ended.NoMemory)
-status_served most ended.Done before after text input p is fine reads writes = inl refl
-status_served most ended.NoMemory before after text input p is fine reads writes = inr refl
-status_served most ended.Usage before after text input p is fine reads writes = absurd p
-status_served most ended.ReadFault before after text input p is fine reads writes =
-    absurd (reads p.0)
-status_served most ended.WriteFault before after text input p is fine reads writes =
-    absurd (writes p.0)
-status_served most ended.NetFault before after text input p is fine reads writes = absurd p
-status_served most (ended.Budget n) before after text input p is fine reads writes = absurd p
-status_served most (ended.BadInput bad) before after text input p is fine reads writes =
-    absurd (fine_not_bad (status_told most input) text p.text bad fine
-    (of_left (IsBadText most bad p.text) before.left input is p.first))
+status_served most how before after text input p is fine reads writes = grind (arith, nat_tests)
 
 -- and one that has a fault is refused
 pub status_refused : (most : ℕ) (how : Ended) (before after : Devices) (bad : BadInput)
     (text input : List ℕ) → StatusPromise most how before after → before.left ≡ Some input →
     IsBadText most bad text input → ¬ Rose before.read_faults after.read_faults →
     ¬ Rose before.write_faults after.write_faults → (status_of how ≡ 6) ⊎ (status_of how ≡ 1)
-status_refused most ended.Done before after bad text input p is wrong reads writes =
-    absurd (fine_not_bad (status_told most input) p.text text bad
-    (of_left (IsFineText most p.text) before.left input is p.fine) wrong)
-status_refused most ended.NoMemory before after bad text input p is wrong reads writes = inr refl
-status_refused most ended.Usage before after bad text input p is wrong reads writes = absurd p
-status_refused most ended.ReadFault before after bad text input p is wrong reads writes =
-    absurd (reads p.0)
-status_refused most ended.WriteFault before after bad text input p is wrong reads writes =
-    absurd (writes p.0)
-status_refused most ended.NetFault before after bad text input p is wrong reads writes = absurd p
-status_refused most (ended.Budget n) before after bad text input p is wrong reads writes = absurd p
-status_refused most (ended.BadInput other) before after bad text input p is wrong reads writes =
-    inl refl
+status_refused most how before after bad text input p is wrong reads writes =
+    grind (arith, nat_tests)
