@@ -1,7 +1,7 @@
 -- Worlds that differ at most in whether they keep of a connection that nothing of it is unread, and
 -- what taking and forgetting make of one connection.
-use Rattle.std.proofs.Common.{◌≡◌, ◌≢◌, ℕ, true, false, cond, List, [], ◌∷◌, length, drop, refl}
-use Rattle.std.proofs.Common.{sym, subst, ap, ◌∙◌, inl, inr, arith}
+use Rattle.std.proofs.Common.{◌≡◌, ◌≢◌, ℕ, true, false, cond, List, [], ◌∷◌, drop, refl}
+use Rattle.std.proofs.Common.{sym, subst, ap, ◌∙◌, arith}
 use Rattle.std.specs.Prelude.{◌==◌, Option, Some, None, option_map, unwrap_or, if◌then◌else◌}
 use Rattle.std.specs.Cmp.{nat_cmp_total}
 use Rattle.std.specs.FinMap.{FinMap, get, get-insert, get-remove, insert, remove}
@@ -21,7 +21,6 @@ use Rattle.mc_model.proofs.Maps.Sorted.{put_there, put_twice}
 use Rattle.mc_model.proofs.Maps.Lookups.{changed_other, changed_same, put_same}
 use Rattle.mc_laws.proofs.Serving.Forgetting.{closed_owed, forgot_other}
 use Rattle.mc_showing.specs.Shown.{pairs_of}
-use Rattle.mc_events.specs.Asking.{is_done_in}
 use Rattle.mc_events.specs.Served.{ServerValue, shown_parts}
 use Rattle.mc_events.specs.Stands.{IsReached, Pair, Stands}
 use Rattle.mc_top.specs.Replaying.{forgotten, taken}
@@ -94,14 +93,7 @@ took_is w k n = at (get w.links k)
 -- where all is taken, nothing is owed
 taken_is : (w : World) (k : ℕ) →
     value_of (taken k w) ≡ changed_at k emptied (value_of w)
-taken_is w k = took_is w k (length (owed_in k w))
-    ∙ ap (λ (o : Option Link). with_links (value_of w) (with_value w.links k o))
-    (all (get w.links k))
-  where
-    all : (o : Option Link) → option_map (taking (length (owed_of o))) o ≡ option_map emptied o
-    all None = refl
-    all (Some l) = ap (λ (o : List ℕ). Some (record l { owed = o }))
-        (drop_all (length l.owed) l.owed (omega arith))
+taken_is w k = grind (arith, nat_tests, took_is, drop_all)
 
 -- its own link then, and that of another
 pub taken_own : (w : World) (k : ℕ) →
@@ -151,24 +143,11 @@ taken_after w k n =
 -- what is owed still
 pub owed_after : (w : World) (k n : ℕ) →
     owed_in k (step w (took k n)).world ≡ drop n (owed_in k w)
-owed_after w k n = ap (λ (x : WorldValue). owed_of (get x.links k)) (took_is w k n)
-    ∙ ap owed_of (changed_same w.links k (taking n)) ∙ rest (get w.links k)
-  where
-    rest : (o : Option Link) → owed_of (option_map (taking n) o) ≡ drop n (owed_of o)
-    rest None = sym (drop_all {X = ℕ} n [] (omega arith))
-    rest (Some l) = refl
+owed_after w k n = grind (arith, nat_tests, took_is, changed_same, drop_all)
 
 -- who is owed nothing is owed nothing
 pub taken_owed : (j k : ℕ) (w : World) → (j ≢ k → owed_in j w ≡ []) → owed_in j (taken k w) ≡ []
-taken_owed j k w none = elim (cases_eq j k) [
-  | inl same ↦ subst (λ (n : ℕ). owed_in n (taken k w) ≡ []) (sym same)
-      (ap owed_of (taken_own w k) ∙ own (get w.links k))
-  | inr ne ↦ ap owed_of (taken_other w k j ne) ∙ none ne
-]
-  where
-    own : (o : Option Link) → owed_of (option_map emptied o) ≡ []
-    own None = refl
-    own (Some l) = refl
+taken_owed j k w none = grind (arith, nat_tests, cases_eq, taken_own, taken_other)
 
 -- ---- one is forgotten
 
@@ -218,11 +197,7 @@ alike_forgot k v w a = forgot_is v k
 -- another stays
 pub forgotten_other : (w : World) (k j : ℕ) → j ≢ k →
     get (forgotten k w).links j ≡ get w.links j
-forgotten_other w k j ne = elim (is_done_in k w) as
-    (λ b. get (if b then (step w (forgot k)).world else w).links j ≡ get w.links j) [
-      | true ↦ forgot_other w k j ne
-      | false ↦ refl
-    ]
+forgotten_other w k j ne = grind (arith, nat_tests, forgot_other)
 
 -- who is owed nothing is owed nothing
 pub forgot_owed : (j k : ℕ) (w : World) → owed_in j w ≡ [] →

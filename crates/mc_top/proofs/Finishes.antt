@@ -1,6 +1,6 @@
 -- What holds of a run's devices once the last line is written.
-use Rattle.std.proofs.Common.{◌≡◌, ℕ, List, [], length, take, Option, Some, Result, refl, sym}
-use Rattle.std.proofs.Common.{subst, ap}
+use Rattle.std.proofs.Common.{◌≡◌, ℕ, List, length, take, Option, Some, Result, sym}
+use Rattle.std.proofs.Common.{subst}
 use Rattle.std.proofs.Common.{arith}
 use Rattle.std.proofs.lemmas.Bool.Decides.{nat_tests}
 use Rattle.std.specs.Prelude.{IfSome, IsOk, OnOk, OnErr}
@@ -10,9 +10,8 @@ use Rattle.mc_words.specs.declared.bad_input.BadInput.{BadInput}
 use Rattle.mc_words.specs.declared.ended.Ended.{Ended}
 use Rattle.mc_words.specs.declared.ended.Ended.TheVariants as ended
 use Rattle.mc_words.specs.Devices.{WroteLast}
-use Rattle.mc_words.specs.Ended.{fixed_line_of, usage_line, read_fault_line, net_fault_line}
-use Rattle.mc_top.specs.Finishing.{Finishes, IsUntouched}
-use Rattle.mc_top.proofs.Inputs.{wrote_last}
+use Rattle.mc_words.specs.Ended.{fixed_line_of}
+use Rattle.mc_top.specs.Finishing.{Finishes}
 
 -- what is known of an input that is told
 pub of_left : (P : List ℕ → Type 0) (left : Option (List ℕ)) (input : List ℕ) → left ≡ Some input →

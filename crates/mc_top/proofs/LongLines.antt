@@ -1,10 +1,9 @@
 -- A line of a script is too long exactly where it holds the first byte too many.
 use Rattle.std.proofs.Common.{◌≡◌, ◌≢◌, ℕ, suc, ◌+◌, ◌-◌, ◌<◌, ◌≤◌, ◌⊎◌, inl, inr, Bool, true}
 use Rattle.std.proofs.Common.{false, cond, List, [], ◌∷◌, ◌++◌, length, take, Option, Some, None}
-use Rattle.std.proofs.Common.{Result, Ok, Err, refl, sym, subst, ap, ◌∙◌, append_assoc, arith}
-use Rattle.std.proofs.Common.{add-one, nat_lt, ltb-true, ltb-false}
-use Rattle.std.specs.Prelude.{◌&&◌, nat_le, codes}
-use Rattle.std.specs.Str.{bytes_eq, is_utf8}
+use Rattle.std.proofs.Common.{Result, Ok, Err, refl, subst, ap, ◌∙◌, append_assoc, arith}
+use Rattle.std.proofs.Common.{add-one}
+use Rattle.std.specs.Prelude.{nat_le}
 use Rattle.std.proofs.lemmas.List.{length-append}
 use Rattle.std.proofs.lemmas.Bool.Decides.{nat_tests}
 use Rattle.mc_words.specs.declared.bad_input.BadInput.{BadInput}
@@ -12,10 +11,10 @@ use Rattle.mc_words.specs.declared.bad_input.InputFault.{InputFault}
 use Rattle.mc_words.specs.declared.bad_input.InputFault.TheVariants as faults
 use Rattle.mc_words.specs.declared.script_line.Before.{Before}
 use Rattle.mc_words.specs.declared.script_line.ScriptEvent.{ScriptEvent}
-use Rattle.mc_words.specs.declared.script_line.ScriptEvent.TheVariants.{Joined, Came, Gone, Ticks}
-use Rattle.mc_words.specs.Lines.{lines_of, is_skipped, text_max, goes_past, size_of, HoldsByte}
-use Rattle.mc_words.specs.Script.{words_of, is_next, number_of, hex_of, numbered, join_event}
-use Rattle.mc_words.specs.Script.{bytes_event, ticks_event, connection, words_event, some_event}
+use Rattle.mc_words.specs.declared.script_line.ScriptEvent.TheVariants.{Joined, Came, Ticks}
+use Rattle.mc_words.specs.Lines.{lines_of, text_max, goes_past, size_of, HoldsByte}
+use Rattle.mc_words.specs.Script.{is_next, numbered, join_event}
+use Rattle.mc_words.specs.Script.{bytes_event, ticks_event, words_event, some_event}
 use Rattle.mc_words.specs.Script.{line_event, after_event, with_events, then_, at_first}
 use Rattle.mc_words.specs.Script.{lines_events}
 use Rattle.mc_words.specs.Script.{script_of}

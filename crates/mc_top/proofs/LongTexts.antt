@@ -1,10 +1,8 @@
 -- A text with too many bytes is told by its first ones, up to one past the most.
-use Rattle.std.proofs.Common.{◌≡◌, ℕ, suc, ◌+◌, ◌<◌, ◌≤◌, Bool, true, false, cond, List, [], ◌∷◌}
-use Rattle.std.proofs.Common.{◌++◌, length, Option, Some, None, Result, Ok, Err, refl, ap, ◌∙◌}
-use Rattle.std.proofs.Common.{arith, nat_lt}
-use Rattle.std.specs.Prelude.{◌&&◌}
+use Rattle.std.proofs.Common.{◌≡◌, ℕ, suc, ◌+◌, ◌<◌, ◌≤◌, true, false, cond, List, [], ◌∷◌}
+use Rattle.std.proofs.Common.{◌++◌, length, Option, Some, None, Result, Ok, Err, refl, ap}
+use Rattle.std.proofs.Common.{arith}
 use Rattle.std.specs.List.{onto_first}
-use Rattle.std.proofs.lemmas.Bool.{lt-ltb, le-ltb}
 use Rattle.std.proofs.lemmas.List.{length-append}
 use Rattle.std.proofs.lemmas.Bool.Decides.{nat_tests}
 use Rattle.mc_words.specs.declared.bad_input.BadInput.{BadInput}
@@ -15,7 +13,7 @@ use Rattle.mc_words.specs.declared.script_line.ScriptEvent.{ScriptEvent}
 use Rattle.mc_words.specs.Lines.{lines_of, is_line_end, line_bytes, text_max, goes_past, size_of}
 use Rattle.mc_words.specs.StatusText.{Exchange, first_exchange, receives_line, receives_next, Told}
 use Rattle.mc_words.specs.StatusText.{told_after, lines_told, status_told}
-use Rattle.mc_words.specs.Script.{line_event, after_event, with_events, then_, at_first}
+use Rattle.mc_words.specs.Script.{line_event, with_events, then_, at_first}
 use Rattle.mc_words.specs.Script.{lines_events}
 use Rattle.mc_words.specs.Script.{script_of}
 

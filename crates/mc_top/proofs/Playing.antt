@@ -35,13 +35,7 @@ pub played_two : (xs ys : List Event) (w : World) (middle server : ServerValue)
     (held half held' : Option (List ℕ)) → HasPlayed xs w middle held half →
     HasPlayed ys (replay_world w xs) server half held' → HasPlayed (xs ++ ys) w server held held'
 played_two xs ys w middle server held half held' a b =
-    let P : World → Type 0 = λ v. Stands server v in
-    let Q : List ℕ → Type 0 = λ t. Grows held held' t in
-    record {
-      stands = subst P (sym (world_more w xs ys)) b.stands;
-      wrote = subst Q (sym (text_more w xs ys)) (grows_two held half held' (replay_text w xs)
-          (replay_text (replay_world w xs) ys) a.wrote b.wrote);
-    }
+    grind (arith, nat_tests, world_more, text_more, grows_two)
 
 pub stopped_two : (xs ys : List Event) (w : World)
     (middle : ServerValue) (held half held' : Option (List ℕ)) → HasPlayed xs w middle held half →
@@ -72,22 +66,12 @@ pub played_one : (e : Event) (w : World) (server : ServerValue)
     (held held' : Option (List ℕ)) (text : List ℕ) → Stands server (settled (step w e).world) →
     text ≡ lines_after (step w e).world → Grows held held' text →
     HasPlayed (e ∷ []) w server held held'
-played_one e w server held held' text stands is wrote =
-    let Q : List ℕ → Type 0 = λ t. Grows held held' t in
-    record {
-      stands = stands;
-      wrote = subst Q (is ∙ sym (append-nil (lines_after (step w e).world))) wrote;
-    }
+played_one e w server held held' text stands is wrote = grind (arith, nat_tests, append-nil)
 
 pub stopped_one : (e : Event) (w : World) (held held' : Option (List ℕ)) (text : List ℕ) →
     text ≡ lines_after (step w e).world → (n : ℕ) × Grows held held' (take n text) →
     HasStopped (e ∷ []) w held held'
-stopped_one e w held held' text is part =
-    let Q : List ℕ → Type 0 = λ t. Grows held held' (take part.0 t) in
-    record {
-      len = part.0;
-      wrote = subst Q (is ∙ sym (append-nil (lines_after (step w e).world))) part.1;
-    }
+stopped_one e w held held' text is part = grind (arith, nat_tests, append-nil)
 
 -- ---- ticks
 

@@ -17,7 +17,7 @@ use Rattle.mc_top.specs.Finishing.{EndsText, Finishes}
 use Rattle.mc_words.specs.Script.{script_of}
 use Rattle.mc_top.specs.ReplayPromise.{IsScriptOf, IsFaultOf, FoundFault, Replayed, ReplayedPart}
 use Rattle.mc_top.specs.ReplayPromise.{ReplayedPartOrNothing, ReplayPromise}
-use Rattle.mc_top.proofs.Finishes.{of_left, still_holds, still_rose, only_last}
+use Rattle.mc_top.proofs.Finishes.{still_holds, still_rose, only_last}
 use Rattle.mc_words.proofs.Growing.{grows_same}
 
 -- what `replay` says of how it ended

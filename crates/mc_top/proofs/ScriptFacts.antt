@@ -1,14 +1,14 @@
 -- What is known of the events of a script: their bytes are bytes, and their ticks are not too many.
 use Rattle.std.proofs.Common.{◌≡◌, ℕ, zero, suc, ◌+◌, ◌≤◌, Bool, true, false, cond, List, [], ◌∷◌}
 use Rattle.std.proofs.Common.{◌++◌, length, map, refl, subst, arith}
-use Rattle.std.specs.Prelude.{nat_le, Option, Some, None, Result, Ok, Err, IfOk, IfSome, codes}
+use Rattle.std.specs.Prelude.{Option, Some, None, Result, Ok, Err, IfOk, IfSome, codes}
 use Rattle.std.specs.Prelude.{replicate}
 use Rattle.std.specs.FinMap.{entries}
 use Rattle.std.specs.List.{filter}
 use Rattle.std.specs.Result.{result_ok}
-use Rattle.std.specs.Str.{bytes_eq, is_utf8}
-use Rattle.std.proofs.lemmas.Bool.{leb-true}
+use Rattle.std.specs.Str.{bytes_eq}
 use Rattle.std.proofs.lemmas.List.Sums.{sum_by-cons}
+use Rattle.std.proofs.lemmas.Bool.Decides.{nat_tests}
 use Rattle.hex.specs.declared.error.FromHexError.{FromHexError}
 use Rattle.hex.specs.Hex.{decode_of}
 use Rattle.hex.proofs.HexLemmas.{decode_of-ok}
@@ -23,11 +23,11 @@ use Rattle.mc_words.specs.declared.bad_input.InputFault.{InputFault}
 use Rattle.mc_words.specs.declared.bad_input.InputFault.TheVariants as faults
 use Rattle.mc_words.specs.declared.script_line.Before.{Before}
 use Rattle.mc_words.specs.declared.script_line.ScriptEvent.{ScriptEvent}
-use Rattle.mc_words.specs.declared.script_line.ScriptEvent.TheVariants.{Joined, Came, Gone, Ticks}
-use Rattle.mc_words.specs.Lines.{lines_of, is_skipped, goes_past}
-use Rattle.mc_words.specs.Script.{is_next, number_of, connection, numbered, hex_of, bytes_event}
+use Rattle.mc_words.specs.declared.script_line.ScriptEvent.TheVariants.{Joined, Came}
+use Rattle.mc_words.specs.Lines.{lines_of}
+use Rattle.mc_words.specs.Script.{is_next, numbered, hex_of, bytes_event}
 use Rattle.mc_words.specs.Script.{join_event, ticks_event, one_word, two_words, three_words}
-use Rattle.mc_words.specs.Script.{words_event, words_of, some_event, line_event, after_event}
+use Rattle.mc_words.specs.Script.{words_event, some_event, line_event, after_event}
 use Rattle.mc_words.specs.Script.{with_events, then_, at_first, lines_events, script_of}
 use Rattle.mc_top.specs.ReplayText.{owes, is_shut, takings, settled, replay_log, line_events}
 use Rattle.mc_top.specs.ReplayText.{events_of}
@@ -53,11 +53,7 @@ join_fits before k = choice (EventFits before) (is_next before.last k) (Ok (Join
     (Err faults.Order) (tt, omega arith) tt
 
 ticks_fit : (before : Before) (n : ℕ) → IfOk (ticks_event before n) (EventFits before)
-ticks_fit before n = elim (nat_le n before.ticks_left) as (λ b. nat_le n before.ticks_left ≡ b →
-    IfOk (cond b (Ok (Ticks n)) (Err faults.Number)) (EventFits before)) [
-      | true ↦ λ t. (tt, leb-true n before.ticks_left t)
-      | false ↦ λ _. tt
-    ] refl
+ticks_fit before n = grind (arith, nat_tests)
 
 numbered_fits : (P : ScriptEvent → Type 0)
     (o : Option ℕ) (event : ℕ → Result ScriptEvent InputFault) → ((n : ℕ) → IfOk (event n) P) →
@@ -88,11 +84,7 @@ some_hex (b ∷ digits) bytes is = hex_fits (b ∷ digits) bytes is
 
 bytes_fit : (before : Before) (k : ℕ) (digits : List ℕ) →
     IfOk (bytes_event k (hex_of digits)) (EventFits before)
-bytes_fit before k digits = step (hex_of digits) refl
-  where
-    step : (o : Option (List ℕ)) → hex_of digits ≡ o → IfOk (bytes_event k o) (EventFits before)
-    step None is = tt
-    step (Some bytes) is = (some_hex digits bytes is, omega arith)
+bytes_fit before k digits = grind (arith, nat_tests, some_hex)
 
 -- ---- lines
 
@@ -102,30 +94,15 @@ one_fits before verb = choice (EventFits before) (bytes_eq verb (codes "tick"))
 
 two_fit : (before : Before) (verb word : List ℕ) →
     IfOk (two_words before verb word) (EventFits before)
-two_fit before verb word =
-    let gone = numbered_fits (EventFits before) (connection word) (λ k. Ok (Gone k))
-    (λ k. (tt, omega arith)) in
-    let ticks = numbered_fits (EventFits before) (number_of 1 100000 word)
-    (λ n. ticks_event before n) (λ n. ticks_fit before n) in
-    choice (EventFits before) (bytes_eq verb (codes "join")) _ _ (numbered_fits (EventFits before)
-    (connection word) (λ k. join_event before k) (λ k. join_fits before k))
-    (choice (EventFits before) (bytes_eq verb (codes "gone")) _ _ gone
-    (choice (EventFits before) (bytes_eq verb (codes "tick")) _ (Err faults.Word) ticks tt))
+two_fit before verb word = grind (arith, nat_tests)
 
 three_fit : (before : Before) (verb word digits : List ℕ) →
     IfOk (three_words verb word digits) (EventFits before)
-three_fit before verb word digits =
-    choice (EventFits before) (bytes_eq verb (codes "bytes")) _ (Err faults.Word)
-    (numbered_fits (EventFits before) (connection word) (λ k. bytes_event k (hex_of digits))
-    (λ k. bytes_fit before k digits)) tt
+three_fit before verb word digits = grind (arith, nat_tests, choice, numbered_fits, bytes_fit)
 
 words_fit : (before : Before) (words : List (List ℕ)) →
     IfOk (words_event before words) (EventFits before)
-words_fit before [] = tt
-words_fit before (verb ∷ []) = one_fits before verb
-words_fit before (verb ∷ word ∷ []) = two_fit before verb word
-words_fit before (verb ∷ word ∷ digits ∷ []) = three_fit before verb word digits
-words_fit before (verb ∷ word ∷ digits ∷ more ∷ others) = tt
+words_fit before words = grind (arith, nat_tests, one_fits, two_fit, three_fit)
 
 abbrev LineFits : Before → Option ScriptEvent → Type 0
 LineFits before o = IfSome o (EventFits before)
@@ -143,12 +120,7 @@ line_choice P false a c pa pc = pc
 line_fits : (len size : ℕ) (before : Before) (line : List ℕ) →
     IfOk (line_event len size before line) (LineFits before)
 unfolding line_event
-line_fits len size before line =
-    line_choice (LineFits before) (goes_past len size) (Err faults.Long) _ tt
-    (line_choice (LineFits before) (is_skipped line) (Ok None) _ tt
-    (line_choice (LineFits before) (is_utf8 line) (some_event (words_event before (words_of line)))
-    (Err faults.Word)
-    (some_fits before (words_event before (words_of line)) (words_fit before (words_of line))) tt))
+line_fits len size before line = grind (arith, nat_tests, line_choice, some_fits, words_fit)
 
 -- ---- all lines
 
@@ -162,10 +134,7 @@ pub record ScriptFits (most : ℕ) (events : List ScriptEvent) : Type 0 where
 
 few_more : (before : Before) (e : ScriptEvent) (n : ℕ) → line_ticks e ≤ before.ticks_left →
     n ≤ (after_event before e).ticks_left → line_ticks e + n ≤ before.ticks_left
-few_more before (Ticks m) n few more = omega (arith, few, more)
-few_more before (Joined k) n few more = omega (arith, more)
-few_more before (Came k bytes) n few more = omega (arith, more)
-few_more before (Gone k) n few more = omega (arith, more)
+few_more before e n few more = grind (arith, nat_tests)
 
 with_fits : (before : Before) (e : ScriptEvent) (r : Result (List ScriptEvent) BadInput) →
     EventFits before e → IfOk r (ScriptFits (after_event before e).ticks_left) →
@@ -181,10 +150,7 @@ then_fits : (n : ℕ) (before : Before) (r : Result (Option ScriptEvent) InputFa
     (later : Before → Result (List ScriptEvent) BadInput) → IfOk r (LineFits before) →
     ((next : Before) → IfOk (later next) (ScriptFits next.ticks_left)) →
     IfOk (then_ n before r later) (ScriptFits before.ticks_left)
-then_fits n before (Err kind) later fits more = tt
-then_fits n before (Ok None) later fits more = more before
-then_fits n before (Ok (Some e)) later fits more =
-    with_fits before e (later (after_event before e)) fits (more (after_event before e))
+then_fits n before r later fits more = grind (arith, nat_tests, with_fits)
 
 lines_fit : (len count size : ℕ) (before : Before) (lines : List (List ℕ)) →
     IfOk (lines_events len count size before lines) (ScriptFits before.ticks_left)
@@ -216,9 +182,7 @@ bytes_both other events first later = later
 
 bytes_append : (xs ys : List Event) → AreBytes xs → AreBytes ys → AreBytes (xs ++ ys)
 bytes_append [] ys a b = b
-bytes_append (e ∷ xs) ys a b =
-    let parts = first_bytes e xs a in
-    bytes_both e (xs ++ ys) parts.0 (bytes_append xs ys parts.1 b)
+bytes_append (e ∷ xs) ys a b = grind (arith, nat_tests, bytes_append xs ys)
 
 tooks_fit : (es : List (ℕ × Link)) →
     AreBytes (map (λ (e : ℕ × Link). took e.0 (length e.1.owed)) es)
@@ -250,10 +214,7 @@ ticks_bytes zero = tt
 ticks_bytes (suc n) = ticks_bytes n
 
 line_bytes : (e : ScriptEvent) → FitsEvent e → AreBytes (line_events e)
-line_bytes (Joined k) fits = tt
-line_bytes (Came k bytes) fits = (fits, tt)
-line_bytes (Gone k) fits = tt
-line_bytes (Ticks n) fits = ticks_bytes n
+line_bytes e fits = grind (arith, nat_tests, ticks_bytes)
 
 events_bytes : (events : List ScriptEvent) → AllFit events → AreBytes (events_of events)
 events_bytes [] fits = tt

@@ -1,11 +1,12 @@
 -- What `serve` made of a lobby, by how serving it ended.
-use Rattle.std.proofs.Common.{◌≡◌, ◌≢◌, ℕ, List, Option, Result, Ok, Err, inl, inr, refl, subst, ap}
+use Rattle.std.proofs.Common.{◌≡◌, ◌≢◌, ℕ, List, Option, Result, Ok, Err, inl, inr, subst, ap}
 use Rattle.std.proofs.Common.{◌∙◌}
+use Rattle.std.proofs.Common.{arith}
+use Rattle.std.proofs.lemmas.Bool.Decides.{nat_tests}
 use Rattle.mc_wire.specs.declared.log.LogEntry.{LogEntry}
 use Rattle.mc_wire.specs.Becoming.{ToldBecomes}
 use Rattle.mc_wire.specs.Count.{NeverFalls, Rose}
 use Rattle.mc_wire.specs.LobbyTold.{LobbyTold, with_entries, with_pace, with_port}
-use Rattle.mc_wire.proofs.Counts.{NeverFalls-Rose}
 use Rattle.mc_wire.proofs.LobbyCalls.{ToldBecomes-trans}
 use Rattle.mc_server.specs.declared.service.Budget.{Budget}
 use Rattle.mc_server.specs.declared.service.DriveFault.{DriveFault}
@@ -91,9 +92,4 @@ module _ (options : ServeOptions) (old new : Option LobbyTold) where
 pub rose_by : (before mid after : ℕ) (fault : DriveFault) → NeverFalls before mid →
     (fails fault ≡ fails Listen → Rose mid after) → (fails fault ≡ fails Next → Rose mid after) →
     ended_by fault ≡ ended.NetFault → Rose before after
-rose_by before mid after Listen falls unheard failed is =
-    NeverFalls-Rose before mid after falls (unheard refl)
-rose_by before mid after Next falls unheard failed is =
-    NeverFalls-Rose before mid after falls (failed refl)
-rose_by before mid after (Events n) falls unheard failed is = absurd cc
-rose_by before mid after NoMemory falls unheard failed is = absurd cc
+rose_by before mid after fault falls unheard failed is = grind (arith, nat_tests)

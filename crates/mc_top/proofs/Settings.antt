@@ -1,22 +1,19 @@
 -- The options of a command are settings that it can begin with.
-use Rattle.std.proofs.Common.{◌≡◌, ℕ, ◌≤◌, Bool, true, false, cond, List, [], ◌∷◌, refl, subst}
+use Rattle.std.proofs.Common.{◌≡◌, ℕ, ◌≤◌, Bool, true, false, cond, List, subst}
 use Rattle.std.proofs.Common.{arith}
-use Rattle.std.specs.Prelude.{◌&&◌, nat_le, Option, Some, None, IfSome, option_map, codes}
-use Rattle.std.specs.Str.{bytes_eq}
-use Rattle.std.proofs.lemmas.Bool.{leb-true}
+use Rattle.std.specs.Prelude.{Option, Some, None, IfSome, option_map, codes}
 use Rattle.std.proofs.lemmas.Bool.Decides.{nat_tests}
 use Rattle.mc_wire.specs.declared.answers.Pace.{Pace}
 use Rattle.mc_land.specs.declared.terrain.Terrain.{Terrain}
 use Rattle.mc_model.specs.Game.{AreSettings}
-use Rattle.mc_model.proofs.FitsText.{both_true}
 use Rattle.mc_words.specs.declared.arguments.WorldOptions.{WorldOptions}
 use Rattle.mc_words.specs.declared.arguments.Command.{Command}
 use Rattle.mc_words.specs.declared.arguments.Command.TheVariants.{Replay}
 use Rattle.mc_words.specs.Digits.{digits_number, within}
-use Rattle.mc_words.specs.Arguments.{IsSet, value_in, are_options, number_in, number_or, players_in}
+use Rattle.mc_words.specs.Arguments.{IsSet, value_in, number_in, number_or, players_in}
 use Rattle.mc_words.specs.Arguments.{view_in, land_in, world_with, world_in, port_in, tick_limit_in}
-use Rattle.mc_words.specs.Arguments.{event_limit_in, pace_in, takes_no_capture, status_with}
-use Rattle.mc_words.specs.Arguments.{serve_with, serve_names, status_of, replay_of, serve_of}
+use Rattle.mc_words.specs.Arguments.{event_limit_in, status_with}
+use Rattle.mc_words.specs.Arguments.{serve_with, serve_of}
 use Rattle.mc_words.specs.Arguments.{command_of}
 
 abbrev IsWithin : ℕ → ℕ → ℕ → Type 0

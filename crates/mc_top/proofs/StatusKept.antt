@@ -16,9 +16,9 @@ use Rattle.mc_words.specs.Ended.{status_of, read_fault_line, bad_input_line}
 use Rattle.mc_top.specs.Finishing.{EndsText, Finishes}
 use Rattle.mc_top.specs.StatusPromise.{IsFineText, IsBadText, Found, Replied, RepliedPart}
 use Rattle.mc_top.specs.StatusPromise.{RepliedPartOrNothing, StatusPromise}
-use Rattle.mc_top.proofs.Finishes.{of_left, still_holds, still_rose, only_last}
+use Rattle.mc_top.proofs.Finishes.{still_holds, still_rose, only_last}
 use Rattle.mc_words.specs.StatusText.{status_told}
-use Rattle.mc_top.proofs.Inputs.{wrote_both, fine_not_bad, text_of}
+use Rattle.mc_top.proofs.Inputs.{wrote_both, text_of}
 
 -- all of a text is some first part of it
 found_part : (most : ℕ) (bad : BadInput) (left left' held held' : Option (List ℕ)) →

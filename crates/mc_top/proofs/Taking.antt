@@ -150,11 +150,7 @@ sends_all : (v : World) (es : List (ℕ × Link)) → AreOnce (numbers es) → A
     all_sent (numbers es) v ≡ flat_map sent_line (filter owes es)
 sends_all v [] once there = refl
 sends_all v (e ∷ es) once there =
-    ap (λ (o : List ℕ). sent_by e.0 o ++ all_sent (numbers es) (taken e.0 v))
-    (owed_is v e there.0)
-    ∙ ap (λ (t : List ℕ). sent_by e.0 e.1.owed ++ t)
-    (sends_all (taken e.0 v) es once.1 (taken_still v e es once.0 there.1))
-    ∙ sent_first e (filter owes es)
+    grind (arith, nat_tests, sends_all (taken e.0 v) es once.1 (taken_still v e es once.0 there.1))
 
 -- ---- those that are closed are forgotten
 
@@ -239,13 +235,7 @@ pub all_told : (w : World) →
     all_sent (keys w.links) w ++ all_shut (keys w.links) (all_taken (keys w.links) w)
     ≡ lines_after w
 all_told w =
-    let es = entries w.links in
-    rw (
-      sends_all w es (all_once w) (all_there w),
-      shuts_all (all_taken (numbers es) w) es (all_once w)
-          (takes_all w es (all_once w) (all_there w)),
-      told_lines,
-    ) refl
+    grind (arith, nat_tests, sends_all, all_once, all_there, shuts_all, takes_all, told_lines)
 
 -- ---- what is left
 

@@ -1,11 +1,12 @@
 -- Taking and telling piece by piece, and connection by connection.
-use Rattle.std.proofs.Common.{◌≡◌, ℕ, suc, ◌+◌, ◌<◌, ◌≤◌, Bool, true, false, List, [], ◌∷◌, ◌++◌}
+use Rattle.std.proofs.Common.{◌≡◌, ℕ, ◌+◌, ◌<◌, ◌≤◌, Bool, true, false, List, [], ◌∷◌, ◌++◌}
 use Rattle.std.proofs.Common.{length, get_or, take, drop, refl, sym, subst, ap, ◌∙◌, append_assoc}
 use Rattle.std.proofs.Common.{arith}
 use Rattle.std.specs.Prelude.{◌↔◌, Option, codes, decimal}
 use Rattle.std.specs.FinMap.{keys}
 use Rattle.std.proofs.lemmas.List.{append-nil, take-take}
 use Rattle.std.proofs.Math.Seq.{drop-cons}
+use Rattle.std.proofs.lemmas.Bool.Decides.{nat_tests}
 use Rattle.hex.specs.Hex.{encode_lower}
 use Rattle.mc_wire.specs.Stream.{Grows}
 use Rattle.mc_model.specs.Step.{took, step}
@@ -235,10 +236,7 @@ underway_more change line ks w middle server held mid held' k rest old half new 
 
 parts_at : (ks : List ℕ) (i k d : ℕ) → i < length ks → k ≡ get_or ks i d →
     drop i ks ≡ k ∷ drop (i + 1) ks
-parts_at ks i k d within is =
-    let one : suc i ≡ i + 1 = omega arith in
-    drop-cons ks i d within ∙ ap (λ (t : ℕ). t ∷ drop (suc i) ks) (sym is)
-    ∙ ap (λ (j : ℕ). k ∷ drop j ks) one
+parts_at ks i k d within is = grind (arith, nat_tests, drop-cons)
 
 pub underway_next : (change : ℕ → World → World) (line : ℕ → World → List ℕ)
     (ks : List ℕ) (w : World) (middle server : ServerValue) (held mid held' : Option (List ℕ))
