@@ -5,8 +5,8 @@
 //! its player is where that is, or where players enter.
 //! `age N` makes the world N ticks old, which is 1 at first, and `say TEXT` adds a text as it stands,
 //! of which no JSON is made. `settle` settles players, land and entities and forgets the texts,
-//! `share` has the frames encoded for all clients from now on, and `tell X Z D` answers the frames of
-//! a view of D around the column (X, Z).
+//! `share` has the frames encoded for all clients from now on, and `tell X Z D` answers the frames
+//! of a view of D around the column (X, Z).
 
 ghost use Rattle.std.specs.Prelude.{◌≡◌, ◌<◌, true, IfOk, IfSome};
 ghost use Rattle.std.specs.List.{AllByRecursion};
@@ -274,6 +274,7 @@ fn put_sent(bytes: &[u8], answer: &mut Answer) {
     put_frames(bytes, answer);
 }
 
+// Its walk is that of five exits at which what was encoded is alive.
 /// What is encoded for all clients, if anything is: the frames of who left and came, of moves, of
 /// what was said, and of these columns.
 fn encode<L: Ledger>(
@@ -300,6 +301,8 @@ fn encode<L: Ledger>(
     Ok(Some(encoded))
 }
 
+// Its walk is that of three exits at which what was encoded and its pieces are alive; a `drop` of
+// both before them made it dearer.
 /// What a client is sent, where its columns are ready, packets can carry what was said, and no
 /// world is older.
 fn flushed<L: Ledger>(

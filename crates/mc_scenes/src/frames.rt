@@ -25,20 +25,26 @@ fn next_frame<'a>(cursor: &mut Cursor<'a>) -> Option<Frame<'a>> {
     Some(Frame { whole, payload })
 }
 
-/// The column that a frame loads, where it loads one.
-fn load_of(frame: &Frame<'_>, answer: &Answer) -> Option<Loads> {
-    match read_down(answer.alloc(), frame.payload) {
-        Ok(
-            Down::Chunk {
-                cx,
-                cz,
-                ground_up: true,
-                mask,
-                ..
-            },
-        ) if mask != 0 => Some(Loads::one(cx, cz, mask, frame.whole.len())),
+/// The column that a packet loads, whose frame has so many bytes, where it loads one.
+fn load_in(packet: &Down, length: usize) -> Option<Loads> {
+    match packet {
+        Down::Chunk {
+            cx,
+            cz,
+            ground_up: true,
+            mask,
+            ..
+        } if *mask != 0 => Some(Loads::one(*cx, *cz, *mask, length)),
         _ => None,
     }
+}
+
+/// The column that a frame loads, where it loads one.
+fn load_of(frame: &Frame<'_>, answer: &Answer) -> Option<Loads> {
+    let packet = read_down(answer.alloc(), frame.payload).ok()?;
+    let load = load_in(&packet, frame.whole.len());
+    drop(packet);
+    load
 }
 
 /// Puts a frame behind the columns that were kept, or keeps its column.
