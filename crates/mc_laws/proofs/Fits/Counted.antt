@@ -1,5 +1,5 @@
--- How many entities there are: each is a dropped item or the one of a player. So no sight has more
--- of them than one Destroy holds.
+-- How many entities there are: no more than dropped items and players. So no sight has more of them
+-- than one Destroy holds.
 use Rattle.std.proofs.Common.{◌≡◌, ℕ, ◌+◌, ◌≤◌, Bool, true, false, List, [], ◌∷◌, ◌++◌}
 use Rattle.std.proofs.Common.{length, zero, suc, Option, Some, refl, sym, subst, ap, ◌∙◌, arith}
 use Rattle.std.proofs.lemmas.Bool.Decides.{nat_tests}
@@ -104,7 +104,7 @@ body_gone n (e ∷ es) x found is =
 
 -- ---- games
 
--- each entity is a dropped item or the one of a player
+-- there are no more entities than dropped items and players
 abbrev pub IsCounted : Game → Type 0
 IsCounted g = length g.entities ≤ dropped_in g.entities + len g.players
 
