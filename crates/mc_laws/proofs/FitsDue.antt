@@ -35,7 +35,7 @@ use Rattle.mc_model.proofs.FitsEntities.{destroying_clear, pile_slot_clear}
 use Rattle.mc_model.proofs.FitsDue.{beats_clear, column_clear, slots_clear, times_clear}
 use Rattle.mc_laws.proofs.FitsEntities.{spawn_clear}
 use Rattle.mc_laws.proofs.FitsMoves.{moves_clear}
-use Rattle.mc_laws.proofs.ThingsFit.{SpotFits}
+use Rattle.mc_laws.proofs.ThingsFit.{NotesFit, SpotFits}
 use Rattle.mc_laws.proofs.FitsSight.{SeenFits, SightFits}
 
 -- ---- the difference
@@ -129,6 +129,6 @@ pub placing_clear : (spot : Spot) → SpotFits spot → IsClear for_play (of_pla
 placing_clear spot at = grind (arith, nat_tests, degrees_fit, pattern_fits, place_clear)
 
 -- what is noted
-pub notes_clear : (notes : Noted) (spot : Spot) (pack : PackValue) → SpotFits spot →
-    IsPack pack.slots pack.cursor → AreClear (notes_of notes spot pack)
-notes_clear notes spot pack at is = search (arith, all_joined, placing_clear, window_clear)
+pub notes_clear : (notes : Noted) (spot : Spot) (pack : PackValue) → NotesFit notes →
+    SpotFits spot → IsPack pack.slots pack.cursor → AreClear (notes_of notes spot pack)
+notes_clear notes spot pack fit at is = search (arith, all_joined, placing_clear, window_clear)

@@ -1,7 +1,7 @@
 -- What packets make of what a client sees: one list of packets after another, and the packets of
 -- one entry of a map after another.
 use Rattle.std.proofs.Common.{◌≡◌, true, false, cond, T, List, [], ◌∷◌, ◌++◌, Option, Some, refl}
-use Rattle.std.proofs.Common.{sym, ap, subst, ◌∙◌, arith}
+use Rattle.std.proofs.Common.{map, sym, ap, subst, ◌∙◌, arith}
 use Rattle.std.proofs.lemmas.Bool.Decides.{nat_tests}
 use Rattle.std.specs.List.{flat_map, fold}
 use Rattle.std.specs.declared.cmp.Ordering.{Ordering}
@@ -26,6 +26,12 @@ onward {s} {t} {u} {xs} {ys} first later = grind (arith, nat_tests, fold-append)
 -- no packets change nothing
 pub no_packets : (s : Sight) → Leads s [] s
 no_packets s = record { is = refl }
+
+-- nor do those of a list, where the packet of each changes nothing
+pub mapped_keep : {A : Type 0} (s : Sight) (packet : A → Down) →
+    ((a : A) → Leads s (packet a ∷ []) s) → (xs : List A) → Leads s (map packet xs) s
+mapped_keep s packet each [] = no_packets s
+mapped_keep s packet each (x ∷ xs) = onward (each x) (mapped_keep s packet each xs)
 
 -- the same from and to equal sights
 pub led : {s t u v : Sight} {packets : List Down} → s ≡ t → u ≡ v → Leads t packets u →

@@ -1,3 +1,4 @@
+pub mod EachValue
 pub mod Weighing
 pub mod ThingsFit
 pub mod FitsMoves

@@ -12,9 +12,11 @@ use Rattle.mc_entities.specs.declared.entity.Entity.{Entity}
 use Rattle.mc_entities.specs.declared.entity.EntityKind.{EntityKind}
 use Rattle.mc_entities.specs.declared.entity.EntityKind.TheVariants as kinds
 use Rattle.mc_entities.specs.Kinds.{IsKind}
+use Rattle.mc_model.specs.declared.player.Player.{Player}
+use Rattle.mc_model.specs.Notes.{Noted, no_notes}
 use Rattle.mc_model.specs.Spots.{spawn_spot}
 use Rattle.mc_model.specs.Digging.{is_dug, block_item}
-use Rattle.mc_model.proofs.FitsText.{both_true}
+use Rattle.mc_model.proofs.FitsText.{IsShort, both_true}
 use Rattle.mc_model.proofs.ThingFacts.{spawn_low}
 
 -- where an entity is: a dropped item may lie half a block out of the range of players
@@ -43,6 +45,19 @@ pub record EntityFits (e : Entity) : Type 0 where
 pub record IsState (state : ℕ) : Type 0 where
   pub small : state < 4096
   pub whole : (state ≡ 0) ⊎ (16 ≤ state)
+
+-- What is noted for a client, so that packets can tell it. So far they can tell whatever is noted,
+-- since a cell without a position is not sent. What is asked of a field of `Noted` is part of this.
+abbrev pub NotesFit : Noted → Type 0
+NotesFit notes = Unit {0}
+
+pub no_notes_fit : NotesFit no_notes
+no_notes_fit = tt
+
+-- packets can tell the name of a player, and what is noted for its client
+pub record PlayerIsTold (p : Player) : Type 0 where
+  pub name : IsShort 16 p.name
+  pub notes : NotesFit p.notes
 
 -- the place where they enter fits
 pub spawn_fits : (terrain : Terrain) → SpotFits (spawn_spot terrain)

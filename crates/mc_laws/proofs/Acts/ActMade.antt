@@ -1,5 +1,5 @@
 -- Whatever a player does is made of deeds: the one law by packets.
-use Rattle.std.proofs.Common.{◌≡◌, ℕ, List, [], ◌∷◌, Option, Some, None, refl, subst, arith}
+use Rattle.std.proofs.Common.{◌≡◌, ℕ, List, Option, Some, None, refl, subst, arith}
 use Rattle.std.specs.Option.{option_and_then}
 use Rattle.std.specs.FinMap.{get}
 use Rattle.std.proofs.lemmas.Str.{IsUtf8-from_ascii}
@@ -10,18 +10,17 @@ use Rattle.mc_up.specs.declared.play_up.PlayUp.TheVariants.{Held, Settings, Digg
 use Rattle.mc_up.specs.declared.play_up.PlayUp.TheVariants.{Creative}
 use Rattle.mc_up.specs.PlayUp.{FitsPlayUp}
 use Rattle.mc_model.specs.declared.player.Player.{Player}
-use Rattle.mc_model.specs.Chat.{line_of, say}
+use Rattle.mc_model.specs.Chat.{line_of}
 use Rattle.mc_model.specs.Movement.{moved, turned}
 use Rattle.mc_model.specs.Notes.{again}
 use Rattle.mc_model.specs.Game.{Game, spot_of}
-use Rattle.mc_model.specs.Deeds.{with_player}
 use Rattle.mc_model.specs.Acts.{act, act_by, act_of}
 use Rattle.mc_model.specs.Good.{Good}
 use Rattle.mc_model.proofs.FitsChat.{LineFits, line_clear}
 use Rattle.mc_model.proofs.FitsText.{IsShort}
 use Rattle.mc_model.proofs.Maps.Options.{some_is}
 use Rattle.mc_laws.proofs.Landings.{both_turned, moved_turned, spot_turned, turned_turned}
-use Rattle.mc_laws.proofs.Deeds.Made.{Made, by_notes, says, untouched, views}
+use Rattle.mc_laws.proofs.Deeds.Made.{Made, by_deed, by_notes, by_own, says, untouched}
 use Rattle.mc_laws.proofs.Fits.Told.{Told, spot_told}
 use Rattle.mc_laws.proofs.Acts.Topics.{arrive_made, digging_made, place_made, take_up_made}
 
@@ -50,11 +49,8 @@ said_fits k p text g there given =
 
 act_of_made : (k : ℕ) (p : Player) (packet : PlayUp) (g v : Game) → get g.players k ≡ Some p →
     act_of k p packet g ≡ Some v → Makes k packet g v
-act_of_made k p (Chat text) g v there e = done _ k g _ v e (record {
-  games = say p text g ∷ [];
-  deeds = (says (line_of p.name text) (said_fits k p text g there) refl, refl);
-  even = λ w id damage some low. refl;
-})
+act_of_made k p (Chat text) g v there e = done _ k g _ v e (by_deed _ _ _ k g _
+    (says (line_of p.name text) (said_fits k p text g there) refl) (λ id damage. refl))
 act_of_made k p (Position x y z on_ground) g v there e =
     arrive_made _ k p g there (moved (spot_of g p) x y z) v
     (λ t to is. moved_turned (spot_of g p) to x y z
@@ -73,13 +69,10 @@ act_of_made k p (Placement cell face item x y z) g v there e =
 act_of_made k p (Held place) g v there e =
     done _ k g _ v e (take_up_made _ k p g there place)
 act_of_made k p (Creative slot item) g v there e =
-    done _ k g _ v e (by_notes _ _ _ k again g)
+    done _ k g _ v e (by_notes _ _ _ k k again (λ t h n fit. fit) g)
 act_of_made k p (Settings locale view chat_mode colours skin) g v there e =
-    done _ k g _ v e (record {
-      games = with_player k (λ (q : Player). record q { view_byte = view }) g ∷ [];
-      deeds = (views view refl, refl);
-      even = λ w id damage some low. refl;
-    })
+    done _ k g _ v e (by_own _ _ _ k (λ (q : Player). record q { view_byte = view })
+    (λ q. record { eid = refl; uuid = refl; name = refl; hand = refl }) (λ t h q fit. fit) g)
 act_of_made k p other g v there e = done _ k g _ v e (untouched _ _ _ k g)
 
 pub act_made : (k : ℕ) (packet : PlayUp) (g v : Game) → act g k packet ≡ Some v →

@@ -1,24 +1,22 @@
 -- Whatever a player does takes the game onward, and leaves it good: by deeds.
 use Rattle.std.proofs.Common.{◌≡◌, ℕ, List, [], ◌∷◌, Some, refl, sym, subst}
 use Rattle.mc_up.specs.declared.play_up.PlayUp.{PlayUp}
-use Rattle.mc_model.specs.declared.player.Player.{Player}
 use Rattle.mc_model.specs.Game.{Game}
 use Rattle.mc_model.specs.Acts.{act}
 use Rattle.mc_model.specs.Good.{Good}
 use Rattle.mc_laws.proofs.Deeds.Coming.{spawned_good}
-use Rattle.mc_laws.proofs.Deeds.Goods.{rehand_good, repack_good, stand_good, with_player_good}
-use Rattle.mc_laws.proofs.Deeds.Onwards.{Onward, nothing_on, noting_on, rehand_on, repack_on}
-use Rattle.mc_laws.proofs.Deeds.Onwards.{said_on, so, stand_on, thrown_on, with_player_on}
-use Rattle.mc_laws.proofs.Deeds.Onwards.{with_state_on}
-use Rattle.mc_laws.proofs.Deeds.Made.{AreDeeds, Deed, notes, rehands, repacks, says, sets, stands}
-use Rattle.mc_laws.proofs.Deeds.Made.{throws, views}
+use Rattle.mc_laws.proofs.Deeds.Goods.{rehand_good, repack_good, stand_good}
+use Rattle.mc_laws.proofs.Deeds.Keeping.{players_whole}
+use Rattle.mc_laws.proofs.Deeds.Onwards.{Onward, nothing_on, players_on, rehand_on, repack_on}
+use Rattle.mc_laws.proofs.Deeds.Onwards.{said_on, so, stand_on, thrown_on, with_state_on}
+use Rattle.mc_laws.proofs.Deeds.Made.{AreDeeds, Deed, rehands, repacks, says, sets, stands}
+use Rattle.mc_laws.proofs.Deeds.Made.{throws, touches}
 use Rattle.mc_laws.proofs.Acts.ActMade.{act_made}
 
 module _ (G T H : Type 0) (k : ℕ) where
   deed_on : (g v : Game) → Deed G T H k g v → Onward k g v
-  deed_on g v (notes f same) = subst (Onward k g) (sym same) (noting_on f k g)
-  deed_on g v (views view same) = subst (Onward k g) (sym same)
-      (with_player_on k (λ (q : Player). record q { view_byte = view }) g (λ q. refl))
+  deed_on g v (touches f t fits rest are) = players_on k g v f (λ j p. (t.like j p).name) t.traits
+      are rest.settings rest.age rest.eids (λ old since. rw (rest.eids, rest.entities) since)
   deed_on g v (repacks p pack there is same) =
       subst (Onward k g) (sym same) (repack_on k p pack g)
   deed_on g v (rehands p hand there small same) =
@@ -36,12 +34,8 @@ module _ (G T H : Type 0) (k : ℕ) where
   deeds_on g (u ∷ us) v are = so k g u v (deed_on g u are.0) (deeds_on u us v are.1)
 
   pub deed_good : (g v : Game) → Deed G T H k g v → G → Good g → Good v
-  deed_good g v (notes f same) given w = subst Good (sym same)
-      (with_player_good k (λ (p : Player). record p { notes = f p.notes }) g
-      (λ p. record { eid = refl; uuid = refl; name = refl; hand = refl }) w)
-  deed_good g v (views view same) given w = subst Good (sym same)
-      (with_player_good k (λ (q : Player). record q { view_byte = view }) g
-      (λ q. record { eid = refl; uuid = refl; name = refl; hand = refl }) w)
+  deed_good g v (touches f t fits rest are) given w = rw (rest.entities, rest.eids, rest.packs)
+      (players_whole g.players v.players f are t.like g.entities g.eids g.packs w)
   deed_good g v (repacks p pack there is same) given w =
       subst Good (sym same) (repack_good k p g there w pack (is given))
   deed_good g v (rehands p hand there small same) given w =
@@ -53,11 +47,13 @@ module _ (G T H : Type 0) (k : ℕ) where
   deed_good g v (sets cell state inside is same) given w = subst Good (sym same) w
   deed_good g v (says line fits same) given w = subst Good (sym same) w
 
-  deeds_good : (g : Game) (us : List Game) (v : Game) → AreDeeds G T H k g us v → G → Good g →
-      Good v
-  deeds_good g [] v are given w = subst Good (sym are) w
-  deeds_good g (u ∷ us) v are given w =
-      deeds_good u us v are.1 given (deed_good g u are.0 given w)
+  -- what each deed of a good game keeps, all of them keep
+  pub deeds_keep : (P : Game → Type 0) →
+      ((u v : Game) → Deed G T H k u v → Good u → P u → P v) → G → (g : Game) (us : List Game)
+      (v : Game) → AreDeeds G T H k g us v → Good g → P g → P v
+  deeds_keep P each given g [] v are w holds = subst P (sym are) holds
+  deeds_keep P each given g (u ∷ us) v are w holds = deeds_keep P each given u us v are.1
+      (deed_good g u are.0 given w) (each g u are.0 w holds)
 
 pub act_on : (k : ℕ) (packet : PlayUp) (g v : Game) → act g k packet ≡ Some v → Onward k g v
 act_on k packet g v e = let made = act_made k packet g v e in
@@ -65,4 +61,5 @@ act_on k packet g v e = let made = act_made k packet g v e in
 
 pub act_good : (k : ℕ) (packet : PlayUp) (g v : Game) → act g k packet ≡ Some v → Good g → Good v
 act_good k packet g v e w = let made = act_made k packet g v e in
-    deeds_good _ _ _ k g made.games v made.deeds w w
+    deeds_keep _ _ _ k Good (λ u x deed good same. deed_good _ _ _ k u x deed w good) w g
+    made.games v made.deeds w w

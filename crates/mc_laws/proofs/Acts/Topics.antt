@@ -22,7 +22,7 @@ use Rattle.mc_model.specs.declared.player.Player.{Player}
 use Rattle.mc_model.specs.Balance.{one_of, sort_of}
 use Rattle.mc_model.specs.Digging.{block_item, can_dig, digging, drop_held, dropped, dug, feet_of}
 use Rattle.mc_model.specs.Digging.{floor_of, is_dug}
-use Rattle.mc_model.specs.Notes.{again, with_cells}
+use Rattle.mc_model.specs.Notes.{Noted, again, with_cells}
 use Rattle.mc_model.specs.Hands.{place_of_hotbar, carrying, take_up}
 use Rattle.mc_model.specs.Placing.{item_state, placing_refused, is_free, place_at, place_on, placed}
 use Rattle.mc_model.specs.Placing.{put_block}
@@ -36,13 +36,13 @@ use Rattle.mc_model.specs.Movement.{arrive, arrived, placed_again}
 use Rattle.mc_model.proofs.Maps.Options.{some_is}
 use Rattle.mc_laws.proofs.Landings.{IsTurned}
 use Rattle.mc_laws.proofs.ThingsActs.{floor_fits, item_state_is}
-use Rattle.mc_laws.proofs.ThingsFit.{SpotFits, air, block_is_item, spawn_fits}
+use Rattle.mc_laws.proofs.ThingsFit.{NotesFit, SpotFits, air, block_is_item, spawn_fits}
 use Rattle.mc_laws.proofs.Weighing.Stock.{pack_handed, parted}
 use Rattle.mc_laws.proofs.Weighing.Spending.{air_counts, dug_counts, placed_counts}
 use Rattle.mc_laws.proofs.Deeds.Packs.{hand_within, held_is_item, left_is_pile, named_is_pack}
 use Rattle.mc_laws.proofs.Deeds.Packs.{with_hand_is_pack}
-use Rattle.mc_laws.proofs.Deeds.Made.{Made, by_notes, either, notes, rehands, repacks, sets, stands}
-use Rattle.mc_laws.proofs.Deeds.Made.{throws, untouched}
+use Rattle.mc_laws.proofs.Deeds.Made.{Deed, Made, before, by_deed, by_notes, either, gained}
+use Rattle.mc_laws.proofs.Deeds.Made.{rehands, repacks, sets, spent, stands, throws, untouched}
 use Rattle.mc_laws.proofs.Fits.Told.{CanCome, Told, cell_told, dropped_held, spot_told}
 
 -- what is within a range is not large
@@ -99,23 +99,27 @@ module _ (H : Type 0) (k : ℕ) (p : Player) (g : Game) (there : get g.players k
       Makes (if b then v else u)
   by_test v u b first second = either (Good g) (Good g × Told g) H k g v u b first second
 
+  abbrev by_one : {v : Game} (deed : Deed (Good g) (Good g × Told g) H k g v) →
+      ((id damage : ℕ) → spent (Good g) (Good g × Told g) H k id damage g v deed
+      ≡ gained (Good g) (Good g × Told g) H k id damage g v deed) → Makes v
+  by_one {v} deed even = by_deed (Good g) (Good g × Told g) H k g v deed even
+
+  -- something is noted for its own client, of which packets can tell what they could before
+  abbrev notes_own : (f : Noted → Noted) → ((n : Noted) → NotesFit n → NotesFit (f n)) →
+      Makes (noting f k g)
+  notes_own f keeps =
+      by_notes (Good g) (Good g × Told g) H k k f (λ t h n fit. keeps n fit) g
+
   -- ---- moving
 
   arrived_made : (spot : Spot) → (Told g → IsTurned spot) → Makes (arrived k p g spot)
   arrived_made spot turns = by_test _ _ (is_inside spot)
-      (λ inside. record {
-        games = stand_of p spot g ∷ [];
-        deeds = (stands p spot there (λ t. inside_fits spot (turns t.1) inside) refl, refl);
-        even = λ w id damage some low. refl;
-      })
-      (λ outside. record {
-        games = stand_of p enters g ∷ noting placed_again k (stand_of p enters g) ∷ [];
-        deeds = (
-          stands p enters there (λ t. spawn_fits g.settings.terrain) refl,
-          (notes placed_again refl, refl),
-        );
-        even = λ w id damage some low. refl;
-      })
+      (λ inside. by_one (stands p spot there (λ t. inside_fits spot (turns t.1) inside) refl)
+      (λ id damage. refl))
+      (λ outside. before (Good g) (Good g × Told g) H k g (stand_of p enters g) _
+      (stands p enters there (λ t. spawn_fits g.settings.terrain) refl) (λ id damage. refl)
+      (by_notes (Good g) (Good g × Told g) H k k placed_again (λ t h n fit. fit)
+      (stand_of p enters g)))
     where
       enters : Spot
       enters = spawn_spot g.settings.terrain
@@ -133,11 +137,8 @@ module _ (H : Type 0) (k : ℕ) (p : Player) (g : Game) (there : get g.players k
     where
       step : (o : Option ℕ) → place_of_hotbar place ≡ o → Makes (take_up k p o g)
       step None is = stays
-      step (Some hand) is = record {
-        games = take_up k p (Some hand) g ∷ [];
-        deeds = (rehands p hand there (hotbar place hand is) refl, refl);
-        even = λ w id damage some low. refl;
-      }
+      step (Some hand) is =
+          by_one (rehands p hand there (hotbar place hand is) refl) (λ id damage. refl)
 
   -- its pack with another pile in the hand is one
   handed_pack : (pile : Pile) → (Good g → IsPile pile) → Good g →
@@ -231,12 +232,12 @@ module _ (H : Type 0) (k : ℕ) (p : Player) (g : Game) (there : get g.players k
       step (Full item) is = by_test _ _ (nat_lt 0 (room_in g))
           (λ test. dropped_made item (min n item.count) (taken item) (omega arith) is
           (has_room g test))
-          (λ full. by_notes (Good g) (Good g × Told g) H k again g)
+          (λ full. notes_own again (λ n fit. fit))
 
   pub digging_made : (status : ℤ) (cell : Cell) → Makes (digging k p status cell g)
   digging_made status cell = by_test _ _ (int_eq status (pos 2))
       (λ digs. by_test _ _ (can_dig p cell g) (λ can. dug_made cell can)
-      (λ far. by_notes (Good g) (Good g × Told g) H k (with_cells (cell ∷ [])) g))
+      (λ far. notes_own (with_cells (cell ∷ [])) (λ n fit. fit)))
       (λ not_2. by_test _ _ (int_eq status (pos 3)) (λ all. drop_made 64 (omega arith))
       (λ not_3. by_test _ _ (int_eq status (pos 4)) (λ one. drop_made 1 (omega arith))
       (λ other. stays)))
@@ -244,8 +245,7 @@ module _ (H : Type 0) (k : ℕ) (p : Player) (g : Game) (there : get g.players k
   -- ---- placing
 
   refused : (cell target : Cell) → Makes (noting (placing_refused cell target) k g)
-  refused cell target =
-      by_notes (Good g) (Good g × Told g) H k (placing_refused cell target) g
+  refused cell target = notes_own (placing_refused cell target) (λ n fit. fit)
 
   placed_made : (target : Cell) (item : Item) → held_by g p ≡ Full item →
       is_free g target ≡ true → Makes (placed p target item g)

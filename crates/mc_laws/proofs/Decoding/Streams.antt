@@ -152,7 +152,8 @@ tick_hands_so o w k l sound there = tick_cases w k l (TickHands o l) there
         (map of_play (due (at_tick w).game (get w.shown k) p))) (sym (stage p plays))
         (hands_play o _ (clear_decodes (due (at_tick w).game (get w.shown k) p)
         (due_clear (at_tick w).game (get w.shown k) p (at_tick_sound w sound.game)
-        (small p plays) (last_fits (get w.shown k) (sound.shown k)))))
+        (small p plays) (sound.game.players k p plays).notes
+        (last_fits (get w.shown k) (sound.shown k)))))
 
 tick_decoded : (k : ℕ) (w : World) (bytes : List ℕ) (packets : List Sent) → SoundWorld w →
     GoodWorld (tick w).world → (is_new k (tick w).world.last ≡ true → is_new k w.last ≡ true) →

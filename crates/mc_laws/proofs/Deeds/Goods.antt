@@ -9,20 +9,13 @@ use Rattle.mc_slots.specs.declared.pile.Pile.{Pile}
 use Rattle.mc_windows.specs.Pack.{PackValue, IsPack, kit_pack}
 use Rattle.mc_model.specs.declared.player.Player.{Player}
 use Rattle.mc_model.specs.Things.{in_hand, holding, standing}
-use Rattle.mc_model.specs.Maps.{modify}
 use Rattle.mc_model.specs.Game.{Game, pack_of}
-use Rattle.mc_model.specs.Deeds.{rehand_of, repack_of, stand_of, with_player}
+use Rattle.mc_model.specs.Deeds.{rehand_of, repack_of, stand_of}
 use Rattle.mc_model.specs.Good.{Good, body_of}
 use Rattle.mc_model.proofs.Maps.Lookups.{changed_other, changed_same, name_changed_other}
 use Rattle.mc_model.proofs.Maps.Lookups.{name_changed_same}
 use Rattle.mc_model.proofs.Maps.Entities.{KeepsEid, changed_eid, changed_no_eid, changed_rise}
-use Rattle.mc_laws.proofs.Deeds.Keeping.{ChangesOne, IsLike, one_changed, refined, was_changed}
-use Rattle.mc_laws.proofs.Deeds.Keeping.{will_change}
-
-pub with_player_good : (k : ℕ) (f : Player → Player) (g : Game) →
-    ((p : Player) → IsLike (f p) p) → Good g → Good (with_player k f g)
-with_player_good k f g keeps w = refined g.players (modify k f g.players) g.entities g.eids g.packs
-    (was_changed g.players k f keeps) (will_change g.players k f keeps) w
+use Rattle.mc_laws.proofs.Deeds.Keeping.{ChangesOne, one_changed}
 
 -- an entity holds another pile, or stands elsewhere: it keeps its number
 holds : (pile : Pile) → KeepsEid (holding pile)

@@ -1,6 +1,6 @@
 -- A game stays good where its players are as they were but for what the law does not read, and
 -- where one of them changes together with its pack and its entity.
-use Rattle.std.proofs.Common.{◌≡◌, ◌≢◌, ℕ, ◌<◌, true, List, Option, Some, None, refl, sym, subst}
+use Rattle.std.proofs.Common.{◌≡◌, ◌≢◌, ℕ, ◌<◌, true, List, Some, None, refl, sym, subst}
 use Rattle.std.proofs.Common.{ap, ◌∙◌, inl, inr, arith}
 use Rattle.std.specs.Prelude.{option_map}
 use Rattle.std.proofs.lemmas.Bool.{cases_eq}
@@ -14,11 +14,12 @@ use Rattle.mc_entities.specs.Numbers.{Rise, numbered}
 use Rattle.mc_entities.specs.Folk.{eid_of}
 use Rattle.mc_model.specs.declared.player.Player.{Player}
 use Rattle.mc_model.specs.Names.{offline_uuid}
-use Rattle.mc_model.specs.Maps.{modify, name_cmp}
+use Rattle.mc_model.specs.Maps.{name_cmp}
 use Rattle.mc_model.specs.Game.{Game}
 use Rattle.mc_model.specs.Good.{AreApart, Good, IsOwn, IsPlayed, IsWhole, body_of, is_body}
 use Rattle.mc_model.proofs.Maps.Options.{some_is}
-use Rattle.mc_model.proofs.Maps.Lookups.{changed_other, changed_same, name_cases}
+use Rattle.mc_model.proofs.Maps.Lookups.{name_cases}
+use Rattle.mc_laws.proofs.EachValue.{AllValues, AreChanged, all_changed}
 
 -- ---- players but for what the law does not read
 
@@ -29,8 +30,11 @@ pub record IsLike (p q : Player) : Type 0 where
   pub name : p.name ≡ q.name
   pub hand : p.hand ≡ q.hand
 
+pub itself : (p : Player) → IsLike p p
+itself p = record { eid = refl; uuid = refl; name = refl; hand = refl }
+
 -- a player of a connection was there, and was like it
-pub record Was (players : FinMap nat_cmp Player) (j : ℕ) (p : Player) : Type 0 where
+record Was (players : FinMap nat_cmp Player) (j : ℕ) (p : Player) : Type 0 where
   pub before : Player
   pub there : get players j ≡ Some before
   pub like : IsLike p before
@@ -53,15 +57,14 @@ own_like entities eids packs p q like o =
     }
 
 -- and it is there still, with its number
-pub record Will (players : FinMap nat_cmp Player) (j : ℕ) (p : Player) : Type 0 where
+record Will (players : FinMap nat_cmp Player) (j : ℕ) (p : Player) : Type 0 where
   pub later : Player
   pub there : get players j ≡ Some later
   pub eid : later.eid ≡ p.eid
 
-pub refined : (old new : FinMap nat_cmp Player) (entities : List Entity) (eids : ℕ)
+refined : (old new : FinMap nat_cmp Player) (entities : List Entity) (eids : ℕ)
     (packs : FinMap name_cmp PackValue) →
-    ((j : ℕ) (p : Player) → get new j ≡ Some p → Was old j p) →
-    ((j : ℕ) (p : Player) → get old j ≡ Some p → Will new j p) →
+    AllValues (Was old) new → AllValues (Will new) old →
     IsWhole old entities eids packs → IsWhole new entities eids packs
 refined old new entities eids packs was will w = record {
   own = λ j p is.
@@ -84,43 +87,20 @@ refined old new entities eids packs was will w = record {
       record { k = b.k; player = a.later; plays = a.there; number = a.eid ∙ b.number };
 }
 
--- a player that is changed by what keeps it like it was
-pub was_changed : (players : FinMap nat_cmp Player) (k : ℕ) (f : Player → Player) →
-    ((p : Player) → IsLike (f p) p) → (j : ℕ) (p : Player) →
-    get (modify k f players) j ≡ Some p → Was players j p
-was_changed players k f keeps j p is = elim (cases_eq j k) [
-  | inl same ↦
-      here (get players j) refl (sym (rw same (changed_same players k f)) ∙ is)
-  | inr ne ↦ record {
-    before = p;
-    there = sym (changed_other players k j f ne) ∙ is;
-    like = record { eid = refl; uuid = refl; name = refl; hand = refl };
-  }
-]
-  where
-    here : (o : Option Player) → get players j ≡ o →
-        option_map f o ≡ Some p → Was players j p
-    here None there is = absurd cc
-    here (Some q) there is = (let same : f q ≡ p = cc in record {
-      before = q;
-      there = there;
-      like = subst (λ (x : Player). IsLike x q) same (keeps q);
+-- where each player is changed by what keeps it like it was
+pub players_whole : (old new : FinMap nat_cmp Player) (f : ℕ → Player → Player) →
+    AreChanged f old new → ((j : ℕ) (p : Player) → IsLike (f j p) p) →
+    (entities : List Entity) (eids : ℕ) (packs : FinMap name_cmp PackValue) →
+    IsWhole old entities eids packs → IsWhole new entities eids packs
+players_whole old new f are like entities eids packs =
+    refined old new entities eids packs
+    (all_changed (Was old) f old new are
+    (λ j p there. record { before = p; there = there; like = like j p }))
+    (λ j p there. record {
+      later = f j p;
+      there = are j ∙ ap (option_map (f j)) there;
+      eid = (like j p).eid;
     })
-
-pub will_change : (players : FinMap nat_cmp Player) (k : ℕ) (f : Player → Player) →
-    ((p : Player) → IsLike (f p) p) → (j : ℕ) (p : Player) →
-    get players j ≡ Some p → Will (modify k f players) j p
-will_change players k f keeps j p is = elim (cases_eq j k) [
-  | inl same ↦ record {
-    later = f p;
-    there = rw same (changed_same players k f) ∙ ap (option_map f) (rw same at is);
-    eid = like.eid;
-  }
-  | inr ne ↦ record { later = p; there = changed_other players k j f ne ∙ is; eid = refl }
-]
-  where
-    like : IsLike (f p) p
-    like = keeps p
 
 -- ---- one player, its pack and its entity
 

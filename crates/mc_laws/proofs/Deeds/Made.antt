@@ -1,10 +1,9 @@
 -- Of which deeds an act is made, and what each of them rests on: the one relation that the laws of
 -- acts are proved by. An act is shown to be made of deeds once; each law is one of deeds.
-use Rattle.std.proofs.Common.{◌≡◌, ℕ, ◌+◌, ◌*◌, ◌<◌, ◌≤◌, Bool, true, false, List, [], ◌∷◌, Some}
-use Rattle.std.proofs.Common.{refl}
+use Rattle.std.proofs.Common.{◌≡◌, ◌≢◌, ℕ, ◌+◌, ◌*◌, ◌<◌, ◌≤◌, Bool, true, false, List, [], ◌∷◌}
+use Rattle.std.proofs.Common.{Some, refl, ◌∙◌, arith}
 use Rattle.std.specs.Prelude.{if◌then◌else◌}
 use Rattle.std.specs.FinMap.{get}
-use lib.IntN.{ℤ}
 use Rattle.mc_fields.specs.declared.position.Cell.{Cell}
 use Rattle.mc_fields.specs.declared.position.Spot.{Spot}
 use Rattle.mc_slots.specs.declared.pile.Item.{Item}
@@ -14,6 +13,7 @@ use Rattle.mc_windows.specs.Pack.{PackValue, IsPack}
 use Rattle.mc_windows.specs.Stock.{in_pack}
 use Rattle.mc_entities.specs.declared.entity.EntityKind.TheVariants as kinds
 use Rattle.mc_model.specs.declared.player.Player.{Player}
+use Rattle.mc_model.specs.Apart.{traits_of}
 use Rattle.mc_model.specs.Balance.{one_of, sort_of}
 use Rattle.mc_model.specs.Deeds.{noting, rehand_of, repack_of, said, stand_of, thrown, with_player}
 use Rattle.mc_model.specs.Deeds.{with_state}
@@ -21,15 +21,37 @@ use Rattle.mc_model.specs.Game.{Game, pack_of, state_in}
 use Rattle.mc_model.specs.Notes.{Noted}
 use Rattle.mc_model.specs.Reach.{is_in_world}
 use Rattle.mc_model.proofs.FitsChat.{LineFits}
-use Rattle.mc_laws.proofs.ThingsFit.{IsState, SpotFits}
+use Rattle.mc_laws.proofs.ThingsFit.{IsState, NotesFit, SpotFits}
+use Rattle.mc_laws.proofs.EachValue.{AreChanged, only, only_changed, only_holds}
+use Rattle.mc_laws.proofs.Deeds.Keeping.{IsLike}
 use Rattle.mc_laws.proofs.Fits.Told.{CanCome}
 
+-- What the player of a connection may change of players' records by itself: their names, numbers
+-- and hands stay, and of others all but the notes.
+pub record Touches (k : ℕ) (f : ℕ → Player → Player) : Type 0 where
+  pub like : (j : ℕ) (p : Player) → IsLike (f j p) p
+  pub traits : (j : ℕ) → j ≢ k → (p : Player) → traits_of (f j p) ≡ traits_of p
+
+-- packets can tell what is noted still
+abbrev pub KeepsNotes : (Player → Player) → Type 0
+KeepsNotes f = (p : Player) → NotesFit p.notes → NotesFit (f p).notes
+
+-- land, entities, packs and what is said are left alone
+pub record LeavesRest (g v : Game) : Type 0 where
+  pub settings : v.settings ≡ g.settings
+  pub age : v.age ≡ g.age
+  pub edits : v.edits ≡ g.edits
+  pub entities : v.entities ≡ g.entities
+  pub eids : v.eids ≡ g.eids
+  pub packs : v.packs ≡ g.packs
+  pub lines : v.lines ≡ g.lines
+
 -- A deed of the player of a connection. Where `G` is given games stay good, where `T` is, packets
--- can tell them, and where `H` is, what is said.
+-- can tell them, where `H` is, what is said, and where both are, what is noted. Of a deed that
+-- touches players' records alone, or what no law reads, all laws are proved once.
 pub data Deed (G T H : Type 0) (k : ℕ) (g v : Game) : Type 0 where
-  notes : (f : Noted → Noted) → v ≡ noting f k g → Deed G T H k g v
-  views : (view : ℤ) → v ≡ with_player k (λ (q : Player). record q { view_byte = view }) g →
-      Deed G T H k g v
+  touches : (f : ℕ → Player → Player) → Touches k f → (T → H → (j : ℕ) → KeepsNotes (f j)) →
+      LeavesRest g v → AreChanged f g.players v.players → Deed G T H k g v
   repacks : (p : Player) (pack : PackValue) → get g.players k ≡ Some p →
       (G → IsPack pack.slots pack.cursor) → v ≡ repack_of p pack g → Deed G T H k g v
   rehands : (p : Player) (hand : ℕ) → get g.players k ≡ Some p → hand < 9 →
@@ -84,12 +106,61 @@ module _ (G T H : Type 0) (k : ℕ) where
   pub untouched : (g : Game) → Made g g
   untouched g = record { games = []; deeds = refl; even = λ good id damage some low. refl }
 
-  pub by_notes : (f : Noted → Noted) (g : Game) → Made g (noting f k g)
-  by_notes f g = record {
-    games = noting f k g ∷ [];
-    deeds = (notes f refl, refl);
-    even = λ good id damage some low. refl;
+  -- a deed that takes away as much as it leaves, before others or alone
+  pub before : (g u v : Game) (deed : Deed G T H k g u) →
+      ((id damage : ℕ) → spent id damage g u deed ≡ gained id damage g u deed) → Made u v →
+      Made g v
+  before g u v deed even later = record {
+    games = u ∷ later.games;
+    deeds = (deed, later.deeds);
+    even = λ good id damage some low. (let same = even id damage in
+        let rest = later.even good id damage some low in
+        omega (arith, same, rest));
   }
+
+  pub by_deed : (g v : Game) (deed : Deed G T H k g v) →
+      ((id damage : ℕ) → spent id damage g v deed ≡ gained id damage g v deed) → Made g v
+  by_deed g v deed even = before g v v deed even (untouched v)
+
+  -- the record of one connection's player changes
+  abbrev pub touch : (j : ℕ) (f : Player → Player) → ((p : Player) → IsLike (f p) p) →
+      (j ≢ k → (p : Player) → traits_of (f p) ≡ traits_of p) → (T → H → KeepsNotes f) →
+      (g : Game) → Deed G T H k g (with_player j f g)
+  touch j f like traits fits g = touches (only j f)
+      (record {
+        like = λ i p. only_holds (λ (q : Player). IsLike q p) j f i p (λ same. like p)
+            (record { eid = refl; uuid = refl; name = refl; hand = refl });
+        traits = λ i ne p. only_holds (λ (q : Player). traits_of q ≡ traits_of p) j f i p
+            (λ same. traits (λ own. ne (same ∙ own)) p) refl;
+      })
+      (λ t h i p fit. only_holds (λ (q : Player). NotesFit q.notes) j f i p
+      (λ same. fits t h p fit) fit)
+      (record {
+        settings = refl;
+        age = refl;
+        edits = refl;
+        entities = refl;
+        eids = refl;
+        packs = refl;
+        lines = refl;
+      }) (only_changed j f g.players)
+
+  pub by_own : (f : Player → Player) → ((p : Player) → IsLike (f p) p) →
+      (T → H → KeepsNotes f) → (g : Game) → Made g (with_player k f g)
+  by_own f like fits g = by_deed g (with_player k f g)
+      (touch k f like (λ ne. absurd (ne refl)) fits g) (λ id damage. refl)
+
+  -- something is noted for the client of any connection
+  abbrev pub notes : (j : ℕ) (f : Noted → Noted) →
+      (T → H → (n : Noted) → NotesFit n → NotesFit (f n)) → (g : Game) →
+      Deed G T H k g (noting f j g)
+  notes j f fits g = touch j (λ (p : Player). record p { notes = f p.notes })
+      (λ p. record { eid = refl; uuid = refl; name = refl; hand = refl }) (λ ne p. refl)
+      (λ t h p fit. fits t h p.notes fit) g
+
+  pub by_notes : (j : ℕ) (f : Noted → Noted) →
+      (T → H → (n : Noted) → NotesFit n → NotesFit (f n)) → (g : Game) → Made g (noting f j g)
+  by_notes j f fits g = by_deed g (noting f j g) (notes j f fits g) (λ id damage. refl)
 
   pub either : (g v u : Game) (b : Bool) → (b ≡ true → Made g v) → (b ≡ false → Made g u) →
       Made g (if b then v else u)

@@ -1,27 +1,23 @@
 -- What each deed of a player leaves of a game as it was: who is in play, and of each other player
 -- all but what is noted for it. That games stay good is in `Goods`.
 use Rattle.std.proofs.Common.{◌≡◌, ◌≢◌, ℕ, ◌≤◌, List, Option, Some, None, refl}
-use Rattle.std.proofs.Common.{ap, ◌∙◌, inl, inr, arith}
+use Rattle.std.proofs.Common.{ap, ◌∙◌, arith}
 use Rattle.std.specs.Prelude.{is_some, option_map}
-use Rattle.std.proofs.lemmas.Bool.{cases_eq}
-use Rattle.std.specs.Cmp.{nat_cmp_total}
-use Rattle.std.specs.FinMap.{get, len, len-insert}
+use Rattle.std.specs.FinMap.{get, len}
 use Rattle.mc_fields.specs.declared.position.Cell.{Cell}
 use Rattle.mc_fields.specs.declared.position.Spot.{Spot}
 use Rattle.mc_slots.specs.declared.pile.Item.{Item}
 use Rattle.mc_windows.specs.Pack.{PackValue}
 use Rattle.mc_model.specs.declared.player.Player.{Player}
-use Rattle.mc_model.specs.Notes.{Noted}
 use Rattle.mc_model.specs.Things.{in_hand, holding, standing}
-use Rattle.mc_model.specs.Maps.{modify, with_value}
 use Rattle.mc_model.specs.Game.{Game, pack_of}
-use Rattle.mc_model.specs.Deeds.{noting, rehand_of, repack_of, said, stand_of, thrown, with_player}
+use Rattle.mc_model.specs.Deeds.{rehand_of, repack_of, said, stand_of, thrown}
 use Rattle.mc_model.specs.Deeds.{with_state}
 use Rattle.mc_model.specs.Apart.{traits_of}
 use Rattle.mc_model.proofs.Lasting.{GivenKinds, Since}
 use Rattle.mc_model.proofs.LastingKept.{holding_steady, since_mapped, since_more, standing_steady}
 use Rattle.mc_model.proofs.LastingKept.{steady_at}
-use Rattle.mc_model.proofs.Maps.Lookups.{changed_other, changed_same}
+use Rattle.mc_laws.proofs.EachValue.{AreChanged, many_changed, only, only_changed, only_holds}
 
 abbrev pub name_of : Player → List ℕ
 name_of p = p.name
@@ -64,59 +60,36 @@ so k g v u a b = record {
   more = (let m = a.more in let n = b.more in omega (arith, m, n));
 }
 
--- ---- of a player
+-- ---- of players
 
-module _ (k : ℕ) (f : Player → Player) (g : Game) where
-  keys_changed : (j : ℕ) → is_some (get (modify k f g.players) j) ≡ is_some (get g.players j)
-  keys_changed j = elim (cases_eq j k) [
-    | inl same ↦ rw same (ap is_some (changed_same g.players k f) ∙ mapped (get g.players k))
-    | inr ne ↦ ap is_some (changed_other g.players k j f ne)
-  ]
-    where
-      mapped : (o : Option Player) → is_some (option_map f o) ≡ is_some o
-      mapped None = refl
-      mapped (Some p) = refl
+-- each player's record is changed by what keeps its name, and of another's all but the notes
+pub players_on : (k : ℕ) (g v : Game) (f : ℕ → Player → Player) →
+    ((j : ℕ) (p : Player) → (f j p).name ≡ p.name) →
+    ((j : ℕ) → j ≢ k → (p : Player) → traits_of (f j p) ≡ traits_of p) →
+    AreChanged f g.players v.players → v.settings ≡ g.settings → v.age ≡ g.age →
+    v.eids ≡ g.eids → ((old : GivenKinds) → Since old g.eids g.entities →
+    Since old v.eids v.entities) → Onward k g v
+players_on k g v f names traits are settings age eids since = record {
+  keys = λ j. ap is_some (are j) ∙ there (f j) (get g.players j);
+  traits = λ j ne. ap (option_map traits_of) (are j) ∙ same traits_of (f j) (traits j ne)
+      (get g.players j);
+  names = λ j. ap (option_map name_of) (are j) ∙ same name_of (f j) (names j) (get g.players j);
+  many = many_changed f g.players v.players are;
+  since = since;
+  settings = settings;
+  age = age;
+  more = omega (arith, eids);
+}
+  where
+    there : (h : Player → Player) (o : Option Player) → is_some (option_map h o) ≡ is_some o
+    there h None = refl
+    there h (Some p) = refl
 
-  names_changed : ((p : Player) → (f p).name ≡ p.name) → (j : ℕ) →
-      option_map name_of (get (modify k f g.players) j)
-      ≡ option_map name_of (get g.players j)
-  names_changed keeps j = elim (cases_eq j k) [
-    | inl same ↦ rw same (ap (option_map name_of) (changed_same g.players k f)
-        ∙ mapped (get g.players k))
-    | inr ne ↦ ap (option_map name_of) (changed_other g.players k j f ne)
-  ]
-    where
-      mapped : (o : Option Player) →
-          option_map name_of (option_map f o) ≡ option_map name_of o
-      mapped None = refl
-      mapped (Some p) = ap Some (keeps p)
-
-  many_changed : len (modify k f g.players) ≡ len g.players
-  many_changed = step (get g.players k) refl
-    where
-      step : (o : Option Player) → get g.players k ≡ o →
-          len (with_value g.players k (option_map f o)) ≡ len g.players
-      step None is = refl
-      step (Some p) is =
-          let added = len-insert nat_cmp_total g.players k (f p) in
-          let there = ap is_some is in
-          grind (arith, added, there)
-
-  pub with_player_on : ((p : Player) → (f p).name ≡ p.name) → Onward k g (with_player k f g)
-  with_player_on keeps = record {
-    keys = keys_changed;
-    traits = λ j ne. ap (option_map traits_of) (changed_other g.players k j f ne);
-    names = names_changed keeps;
-    many = many_changed;
-    since = λ old since. since;
-    settings = refl;
-    age = refl;
-    more = omega arith;
-  }
-
-pub noting_on : (f : Noted → Noted) (k : ℕ) (g : Game) → Onward k g (noting f k g)
-noting_on f k g =
-    with_player_on k (λ (p : Player). record p { notes = f p.notes }) g (λ p. refl)
+    same : {X : Type 0} (trait : Player → X) (h : Player → Player) →
+        ((p : Player) → trait (h p) ≡ trait p) → (o : Option Player) →
+        option_map trait (option_map h o) ≡ option_map trait o
+    same trait h keeps None = refl
+    same trait h keeps (Some p) = ap Some (keeps p)
 
 pub repack_on : (k : ℕ) (p : Player) (pack : PackValue) (g : Game) → Onward k g (repack_of p pack g)
 repack_on k p pack g = record {
@@ -132,19 +105,15 @@ repack_on k p pack g = record {
 }
 
 pub rehand_on : (k : ℕ) (p : Player) (hand : ℕ) (g : Game) → Onward k g (rehand_of k p hand g)
-rehand_on k p hand g =
-    let on = with_player_on k (λ (q : Player). record q { hand = hand }) g (λ q. refl) in
-    record {
-      keys = on.keys;
-      traits = on.traits;
-      names = on.names;
-      many = on.many;
-      since = λ old since. since_mapped _ g.entities
-          (steady_at p.eid (holding (in_hand (pack_of g p) hand)) (holding_steady _)) since;
-      settings = refl;
-      age = refl;
-      more = omega arith;
-    }
+rehand_on k p hand g = players_on k g (rehand_of k p hand g) (only k takes)
+    (λ j q. only_holds (λ (r : Player). r.name ≡ q.name) k takes j q (λ same. refl) refl)
+    (λ j ne q. only_holds (λ (r : Player). traits_of r ≡ traits_of q) k takes j q
+    (λ same. absurd (ne same)) refl)
+    (only_changed k takes g.players) refl refl refl (λ old since. since_mapped _ g.entities
+    (steady_at p.eid (holding (in_hand (pack_of g p) hand)) (holding_steady _)) since)
+  where
+    takes : Player → Player
+    takes q = record q { hand = hand }
 
 pub stand_on : (k : ℕ) (p : Player) (spot : Spot) (g : Game) → Onward k g (stand_of p spot g)
 stand_on k p spot g = record {

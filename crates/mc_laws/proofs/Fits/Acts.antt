@@ -14,13 +14,12 @@ use Rattle.mc_model.specs.Good.{Good}
 use Rattle.mc_laws.proofs.FitsUuid.{offline_small}
 use Rattle.mc_laws.proofs.ThingsFit.{spawn_fits}
 use Rattle.mc_laws.proofs.Deeds.Leaving.{leave_cases}
-use Rattle.mc_laws.proofs.Deeds.Made.{AreDeeds, Deed, notes, rehands, repacks, says, sets, stands}
-use Rattle.mc_laws.proofs.Deeds.Made.{throws, views}
+use Rattle.mc_laws.proofs.Deeds.Made.{Deed, rehands, repacks, says, sets, stands, throws, touches}
 use Rattle.mc_laws.proofs.Deeds.Packs.{named_is_pack}
 use Rattle.mc_laws.proofs.Fits.Told.{Told, holding_told, spawned_told, standing_told}
 use Rattle.mc_laws.proofs.Fits.Told.{with_state_told, without_told}
 use Rattle.mc_laws.proofs.Acts.ActMade.{act_made}
-use Rattle.mc_laws.proofs.Acts.ActOn.{deed_good}
+use Rattle.mc_laws.proofs.Acts.ActOn.{deeds_keep}
 
 -- what is made of a game can be told where the game can
 abbrev pub Tells : Game → Game → Type 0
@@ -28,8 +27,8 @@ Tells g v = Good g → Told g → Told v
 
 module _ (G T H : Type 0) (k : ℕ) (good : G) (told : T) where
   deed_tells : (g v : Game) → Deed G T H k g v → Tells g v
-  deed_tells g v (notes f same) w t = subst Told (sym same) t
-  deed_tells g v (views view same) w t = subst Told (sym same) t
+  deed_tells g v (touches f of_players fits rest are) w t =
+      rw (rest.edits, rest.entities, rest.eids) t
   deed_tells g v (repacks p pack there is same) w t = subst Told (sym same)
       (holding_told p.eid (in_hand pack p.hand) g.edits g.entities g.eids
       ((is good).are_piles (27 + p.hand)) t)
@@ -44,14 +43,9 @@ module _ (G T H : Type 0) (k : ℕ) (good : G) (told : T) where
       (with_state_told cell state g (is told) t)
   deed_tells g v (says line fits same) w t = subst Told (sym same) t
 
-  deeds_tell : (g : Game) (us : List Game) (v : Game) → AreDeeds G T H k g us v → Tells g v
-  deeds_tell g [] v are w t = subst Told (sym are) t
-  deeds_tell g (u ∷ us) v are w t = deeds_tell u us v are.1
-      (deed_good G T H k g u are.0 good w) (deed_tells g u are.0 w t)
-
 pub act_tells : (k : ℕ) (packet : PlayUp) (g v : Game) → act g k packet ≡ Some v → Tells g v
 act_tells k packet g v e w t = let made = act_made k packet g v e in
-    deeds_tell _ _ _ k w (w, t) g made.games v made.deeds w t
+    deeds_keep _ _ _ k Told (deed_tells _ _ _ k w (w, t)) w g made.games v made.deeds w t
 
 -- ---- coming and going
 

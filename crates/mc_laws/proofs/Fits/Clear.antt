@@ -51,17 +51,17 @@ use Rattle.mc_model.proofs.ThingFacts.{spawn_low}
 use Rattle.mc_model.proofs.FitsList.{AreClear, PairFits}
 use Rattle.mc_model.proofs.FitsNotes.{noted_packets_clear, sent_fits}
 use Rattle.mc_model.proofs.FitsPlay.{join_clear, spawn_clear}
-use Rattle.mc_model.proofs.FitsText.{IsShort}
 use Rattle.mc_model.proofs.FitsSlots.{pile_slot_fits, piles_fit}
 use Rattle.mc_model.proofs.Maps.Sorted.{find_again, second}
 use Rattle.mc_model.proofs.Maps.Lookups.{tied_number}
 use Rattle.mc_model.proofs.Maps.Options.{none_some}
+use Rattle.mc_laws.proofs.EachValue.{AllValues}
 use Rattle.mc_laws.proofs.FitsDue.{delta_clear, notes_clear, placing_clear}
 use Rattle.mc_laws.proofs.FitsSight.{SeenFits, SightFits, all_entries, column_near, few_entries}
 use Rattle.mc_laws.proofs.FitsSight.{few_shown, size_few}
 use Rattle.mc_laws.proofs.Fits.Counted.{IsCounted, few_chosen}
 use Rattle.mc_laws.proofs.FitsUuid.{offline_small}
-use Rattle.mc_laws.proofs.ThingsFit.{EntityFits, KindIsNamed}
+use Rattle.mc_laws.proofs.ThingsFit.{EntityFits, KindIsNamed, NotesFit, PlayerIsTold}
 use Rattle.mc_laws.proofs.Deeds.Packs.{named_is_pack}
 use Rattle.mc_laws.proofs.Fits.Told.{Told, cell_told, spot_told}
 use Rattle.mc_laws.proofs.Fits.Sights.{column_sizes, column_small, in_sight, in_sight_fit}
@@ -144,7 +144,7 @@ pub record SoundGame (g : Game) : Type 0 where
   pub lines : AllByRecursion LineFits g.lines
   pub few : len g.players ≤ g.settings.players
   pub counted : IsCounted g
-  pub named : (k : ℕ) (p : Player) → get g.players k ≡ Some p → IsShort 16 p.name
+  pub players : AllValues (λ (k : ℕ) (p : Player). PlayerIsTold p) g.players
 
 -- so the list of players can name each
 named_fits : (g : Game) (k : ℕ) (p : Player) → SoundGame g → get g.players k ≡ Some p →
@@ -152,7 +152,7 @@ named_fits : (g : Game) (k : ℕ) (p : Player) → SoundGame g → get g.players
 named_fits g k p sound there = record {
   uuid = subst (λ (n : ℕ). n < 2 ^ 128) (sym (sound.good.own k p there).uuid)
       (offline_small p.name);
-  name = sound.named k p there;
+  name = (sound.players k p there).name;
 }
 
 -- as many players as numbers of them
@@ -248,9 +248,9 @@ opening_clear g p sound small = (
 
 -- what is due is clear, where what was shown fits
 pub due_clear : (g : Game) (shown : Option Sight) (p : Player) → SoundGame g →
-    p.eid ≤ 2147483647 → SightFits (last_shown shown) → AreClear (due g shown p)
+    p.eid ≤ 2147483647 → NotesFit p.notes → SightFits (last_shown shown) → AreClear (due g shown p)
 unfolding due
-due_clear g shown p sound small before =
+due_clear g shown p sound small fit before =
     let C : Down → Type 0 = λ packet. IsClear for_play (of_play packet) in
     let last = last_shown shown in
     let at = spot_told g p sound.told in
@@ -267,7 +267,8 @@ due_clear g shown p sound small before =
     (size_few g.settings.cap p.view_byte sound.settings.near) sent)
     (λ cell. let small = (cell_told g cell sound.told).small in omega (arith, small))
     p.notes.cells)
-    (notes_clear p.notes (spot_of g p) (pack_of g p) at (named_is_pack g p.name sound.good)))
+    (notes_clear p.notes (spot_of g p) (pack_of g p) fit at
+    (named_is_pack g p.name sound.good)))
   where
     first : (b : Bool) → AreClear (cond b []
         (opening_of g.settings.terrain g.settings.players (pos p.eid) (spot_of g p)))

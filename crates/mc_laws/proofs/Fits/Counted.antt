@@ -28,8 +28,8 @@ use Rattle.mc_model.proofs.Lasting.{IsSteady}
 use Rattle.mc_model.proofs.LastingKept.{holding_steady, standing_steady, steady_at}
 use Rattle.mc_model.proofs.ThingsKept.{dropped_more, one_if}
 use Rattle.mc_laws.proofs.FitsSight.{SightFits}
-use Rattle.mc_laws.proofs.Deeds.Made.{AreDeeds, Deed, notes, rehands, repacks, says, sets, stands}
-use Rattle.mc_laws.proofs.Deeds.Made.{throws, views}
+use Rattle.mc_laws.proofs.Deeds.Made.{AreDeeds, Deed, rehands, repacks, says, sets, stands, throws}
+use Rattle.mc_laws.proofs.Deeds.Made.{touches}
 use Rattle.mc_laws.proofs.Fits.Told.{dropped_come, dropped_mapped}
 
 -- ---- entities that come, change and go
@@ -110,10 +110,8 @@ IsCounted g = length g.entities ≤ dropped_in g.entities + len g.players
 
 module _ (G T H : Type 0) (k : ℕ) where
   deed_counts : (g v : Game) → Deed G T H k g v → AreNoMore g.entities v.entities
-  deed_counts g v (notes f same) = subst (λ (u : Game). AreNoMore g.entities u.entities)
-      (sym same) (omega arith)
-  deed_counts g v (views view same) = subst (λ (u : Game). AreNoMore g.entities u.entities)
-      (sym same) (omega arith)
+  deed_counts g v (touches f of_players fits rest are) =
+      subst (AreNoMore g.entities) (sym rest.entities) (omega arith)
   deed_counts g v (repacks p pack there is same) =
       subst (λ (u : Game). AreNoMore g.entities u.entities) (sym same)
       (changed_counts p.eid (holding (in_hand pack p.hand)) (holding_steady _) g.entities)

@@ -1,5 +1,5 @@
 -- The packets of noted cells change nothing of what a client sees that sees the game as it is.
-use Rattle.std.proofs.Common.{◌≡◌, ℕ, ◌<◌, true, false, cond, List, [], ◌∷◌, map, Option, Some}
+use Rattle.std.proofs.Common.{◌≡◌, ℕ, ◌<◌, true, false, cond, List, [], ◌∷◌, Option, Some}
 use Rattle.std.proofs.Common.{None, refl, sym, ap, subst, ◌∙◌, ltb-true, arith}
 use Rattle.std.proofs.lemmas.Bool.Decides.{nat_tests}
 use Rattle.std.specs.Prelude.{nat_lt, slice_index}
@@ -25,7 +25,7 @@ use Rattle.mc_model.specs.Game.{Game, column_in, sees}
 use Rattle.mc_model.specs.Showing.{sight_of}
 use Rattle.mc_model.proofs.Maps.Sorted.{put_there}
 use Rattle.mc_model.proofs.PointsCells.{state_back}
-use Rattle.mc_laws.proofs.Leading.{Leads, no_packets, onward}
+use Rattle.mc_laws.proofs.Leading.{Leads, mapped_keep}
 use Rattle.mc_laws.proofs.Fits.Sights.{shown_column}
 
 -- ---- one cell
@@ -109,12 +109,6 @@ cell_keeps g p last cell told = record {
 pub cells_keep : (g : Game) (p : Player) (last : Sight) → IsTold (sight_of g p last) →
     (noted : List Cell) → Leads (sight_of g p last)
     (noted_packets g.settings.terrain g.edits (sees g p) noted) (sight_of g p last)
-cells_keep g p last told [] = no_packets (sight_of g p last)
-cells_keep g p last told (cell ∷ noted) =
-    let s : Sight = sight_of g p last in
-    let later = cells_keep g p last told noted in
-    elim (is_sent (sees g p) cell) as (λ b. Leads s (map (cell_packet g.settings.terrain g.edits)
-    (cond b (cell ∷ filter (is_sent (sees g p)) noted) (filter (is_sent (sees g p)) noted))) s) [
-      | true ↦ onward (cell_keeps g p last cell told) later
-      | false ↦ later
-    ]
+cells_keep g p last told noted =
+    mapped_keep (sight_of g p last) (cell_packet g.settings.terrain g.edits)
+    (λ cell. cell_keeps g p last cell told) (filter (is_sent (sees g p)) noted)

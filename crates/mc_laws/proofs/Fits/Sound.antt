@@ -1,16 +1,15 @@
 -- All that can be told holds of a game still after whatever players do, after they come and go, and
 -- after a tick.
-use Rattle.std.proofs.Common.{◌≡◌, ◌≢◌, ℕ, ◌+◌, ◌<◌, ◌≤◌, true, List, [], ◌∷◌, map, Option, Some}
-use Rattle.std.proofs.Common.{None, T, refl, sym, subst, ap, ◌∙◌, inl, inr, length, arith}
-use Rattle.std.specs.Prelude.{Bool, false, is_some, not, option_map, if◌then◌else◌}
+use Rattle.std.proofs.Common.{◌≡◌, ◌≢◌, ℕ, ◌+◌, ◌<◌, ◌≤◌, true, List, [], ◌∷◌, Option, Some}
+use Rattle.std.proofs.Common.{None, T, refl, sym, subst, ap, length, arith}
+use Rattle.std.specs.Prelude.{Bool, false, is_some, not, if◌then◌else◌}
 use Rattle.std.specs.List.{AllByRecursion}
 use Rattle.std.specs.Cmp.{nat_cmp_total}
 use Rattle.std.specs.Ordering.{nat_cmp}
-use Rattle.std.specs.FinMap.{entries, entries_sorted, find, from_entries, get, get-empty}
-use Rattle.std.specs.FinMap.{get-from_entries, is_sorted, len, len-empty, len-entries, len-insert}
+use Rattle.std.specs.FinMap.{get, get-empty}
+use Rattle.std.specs.FinMap.{len, len-empty, len-insert}
 use Rattle.std.specs.FinMap.{len-remove}
-use Rattle.std.specs.FinMap.Entries.{below_all}
-use Rattle.std.proofs.lemmas.Bool.{cases_eq, ltb-true}
+use Rattle.std.proofs.lemmas.Bool.{ltb-true}
 use Rattle.std.proofs.lemmas.Bool.Decides.{nat_tests}
 use Rattle.std.proofs.lemmas.List.{length-append}
 use lib.IntN.{ℤ, pos}
@@ -25,7 +24,6 @@ use Rattle.mc_model.specs.Names.{is_name, offline_uuid}
 use Rattle.mc_model.specs.Spots.{spawn_spot}
 use Rattle.mc_model.specs.Things.{in_hand}
 use Rattle.mc_model.specs.Game.{AreSettings, Game, new_game, pack_named}
-use Rattle.mc_model.specs.Maps.{map_keyed}
 use Rattle.mc_model.specs.Deeds.{enter_as, new_player}
 use Rattle.mc_model.specs.Leaving.{leave, leave_all}
 use Rattle.mc_model.specs.Acts.{act}
@@ -35,17 +33,15 @@ use Rattle.mc_model.specs.Good.{Good}
 use Rattle.mc_model.proofs.AllFacts.{all_joined}
 use Rattle.mc_model.proofs.FitsChat.{LineFits}
 use Rattle.mc_model.proofs.FitsText.{IsShort, both_true, name_short}
-use Rattle.mc_model.proofs.Maps.Options.{none_some, some_is}
-use Rattle.mc_model.proofs.Maps.Lookups.{put_other, put_same, tied_number}
-use Rattle.mc_model.proofs.Maps.Sorted.{find_again, second}
+use Rattle.mc_model.proofs.Maps.Options.{none_some}
+use Rattle.mc_laws.proofs.EachValue.{AllValues, all_changed, all_gone, all_put, many_changed, only}
+use Rattle.mc_laws.proofs.EachValue.{only_changed, only_holds}
+use Rattle.mc_laws.proofs.ThingsFit.{PlayerIsTold, no_notes_fit}
 use Rattle.mc_laws.proofs.Deeds.Coming.{enter_good}
-use Rattle.mc_laws.proofs.Deeds.Leaving.{leave_cases, leave_good, leave_other, leave_same}
-use Rattle.mc_laws.proofs.Deeds.Leaving.{leave_stays}
-use Rattle.mc_laws.proofs.Deeds.Onwards.{name_of}
-use Rattle.mc_laws.proofs.Deeds.Made.{AreDeeds, Deed, notes, rehands, repacks, says, sets, stands}
-use Rattle.mc_laws.proofs.Deeds.Made.{throws, views}
-use Rattle.mc_laws.proofs.Acts.ActMade.{act_made}
-use Rattle.mc_laws.proofs.Acts.ActOn.{act_good, act_on}
+use Rattle.mc_laws.proofs.Deeds.Leaving.{leave_cases, leave_good, leave_stays}
+use Rattle.mc_laws.proofs.Deeds.Made.{Deed, rehands, repacks, says, sets, stands, throws, touches}
+use Rattle.mc_laws.proofs.Acts.ActMade.{Speaks, act_made}
+use Rattle.mc_laws.proofs.Acts.ActOn.{act_good, act_on, deeds_keep}
 use Rattle.mc_laws.proofs.Walk.Each.{told_good, told_players}
 use Rattle.mc_laws.proofs.Fits.Told.{dropped_come, new_told}
 use Rattle.mc_laws.proofs.Fits.Acts.{act_tells, enter_tells, leave_told}
@@ -60,8 +56,7 @@ AllSaid g = AllByRecursion LineFits g.lines
 
 module _ (G T H : Type 0) (k : ℕ) (heard : H) where
   deed_said : (g v : Game) → Deed G T H k g v → AllSaid g → AllSaid v
-  deed_said g v (notes f same) said = subst AllSaid (sym same) said
-  deed_said g v (views view same) said = subst AllSaid (sym same) said
+  deed_said g v (touches f of_players fits rest are) said = rw rest.lines said
   deed_said g v (repacks p pack there is same) said = subst AllSaid (sym same) said
   deed_said g v (rehands p hand there small same) said = subst AllSaid (sym same) said
   deed_said g v (stands p spot there fits same) said = subst AllSaid (sym same) said
@@ -70,48 +65,62 @@ module _ (G T H : Type 0) (k : ℕ) (heard : H) where
   deed_said g v (says line fits same) said = subst AllSaid (sym same)
       (all_joined LineFits g.lines (line ∷ []) said (fits heard, tt))
 
-  deeds_said : (g : Game) (us : List Game) (v : Game) → AreDeeds G T H k g us v → AllSaid g →
-      AllSaid v
-  deeds_said g [] v are said = subst AllSaid (sym are) said
-  deeds_said g (u ∷ us) v are said = deeds_said u us v are.1 (deed_said g u are.0 said)
+-- ---- names and notes
 
-act_lines : (k : ℕ) (packet : PlayUp) (g v : Game) → SoundGame g → FitsPlayUp packet →
-    act g k packet ≡ Some v → AllSaid v
-act_lines k packet g v sound fits e = let made = act_made k packet g v e in
-    deeds_said _ _ _ k (sound.named k, fits) g made.games v made.deeds sound.lines
+-- packets can tell each player
+abbrev AllTold : Game → Type 0
+AllTold g = AllValues (λ (k : ℕ) (p : Player). PlayerIsTold p) g.players
+
+module _ (G T H : Type 0) (k : ℕ) (told : T) (heard : H) where
+  deed_names : (g v : Game) → Deed G T H k g v → AllTold g → AllTold v
+  deed_names g v (touches f of_players fits rest are) all = all_changed
+      (λ (j : ℕ) (p : Player). PlayerIsTold p) f g.players v.players are (λ j p there. record {
+        name = subst (IsShort 16) (sym (of_players.like j p).name) (all j p there).name;
+        notes = fits told heard j p (all j p there).notes;
+      })
+  deed_names g v (repacks p pack there is same) all = subst AllTold (sym same) all
+  deed_names g v (rehands p hand there small same) all = subst AllTold (sym same) (all_changed
+      (λ (j : ℕ) (q : Player). PlayerIsTold q) (only k takes) g.players _
+      (only_changed k takes g.players)
+      (λ j q there. only_holds PlayerIsTold k takes j q
+      (λ own. record { name = (all j q there).name; notes = (all j q there).notes })
+      (all j q there)))
+    where
+      takes : Player → Player
+      takes q = record q { hand = hand }
+  deed_names g v (stands p spot there fits same) all = subst AllTold (sym same) all
+  deed_names g v (throws item spot can same) all = subst AllTold (sym same) all
+  deed_names g v (sets cell state inside is same) all = subst AllTold (sym same) all
+  deed_names g v (says line fits same) all = subst AllTold (sym same) all
 
 -- ---- acts
-
--- who has a name had it before
-name_before : (o : Option Player) (q : Player) →
-    option_map name_of (Some q) ≡ option_map name_of o →
-    ((p : Player) → o ≡ Some p → IsShort 16 p.name) → IsShort 16 q.name
-name_before None q same each = absurd cc
-name_before (Some p) q same each =
-    subst (IsShort 16) (sym (some_is q.name p.name same)) (each p refl)
 
 pub act_sound : (k : ℕ) (packet : PlayUp) (g v : Game) → FitsPlayUp packet →
     act g k packet ≡ Some v → SoundGame g → SoundGame v
 act_sound k packet g v fits e sound =
     let on = act_on k packet g v e in
+    let made = act_made k packet g v e in
+    let good = sound.good in
+    let speaks : Speaks g k packet = ((λ p there. (sound.players k p there).name), fits) in
     record {
       good = act_good k packet g v e sound.good;
       told = act_tells k packet g v e sound.good sound.told;
       settings = subst (λ (s : Begun). AreSettings s.players s.cap) (sym on.settings)
           sound.settings;
       young = (let young = sound.young in let age = on.age in omega (arith, young, age));
-      lines = act_lines k packet g v sound fits e;
+      lines = deeds_keep _ _ _ k AllSaid (λ u x deed w. deed_said _ _ _ k speaks u x deed) good g
+          made.games v made.deeds good sound.lines;
       few = (let few = sound.few in
           let many = on.many in
           let most = ap (λ (s : Begun). s.players) on.settings in
           omega (arith, few, many, most));
-      counted = (let made = act_made k packet g v e in
-          let counts = deeds_count _ _ _ k g made.games v made.deeds in
+      counted = (let counts = deeds_count _ _ _ k g made.games v made.deeds in
           let counted = sound.counted in
           let many = on.many in
           omega (arith, counts, counted, many));
-      named = λ j q there. name_before (get g.players j) q
-          (sym (ap (option_map name_of) there) ∙ on.names j) (sound.named j);
+      players = deeds_keep _ _ _ k AllTold
+          (λ u x deed w. deed_names _ _ _ k (good, sound.told) speaks u x deed) good g
+          made.games v made.deeds good sound.players;
     }
 
 -- ---- coming
@@ -169,12 +178,8 @@ enter_sound k name g welcome free new sound = record {
       let added = len-insert nat_cmp_total g.players k
       (new_player (g.eids + 1) name (length g.lines)) in grind (arith, room, added));
   counted = enter_counted k name g new sound.counted;
-  named = λ j q there. elim (cases_eq j k) [
-    | inl same ↦ subst (λ (x : Player). IsShort 16 x.name)
-        (some_is _ q (sym (put_same g.players k _)
-        ∙ (rw same at there))) (name_short name welcome.named)
-    | inr ne ↦ sound.named j q (sym (put_other g.players k j _ ne) ∙ there)
-  ];
+  players = all_put (λ (j : ℕ) (p : Player). PlayerIsTold p) g.players sound.players k _
+      (record { name = name_short name welcome.named; notes = no_notes_fit });
 }
 
 -- ---- going
@@ -208,11 +213,8 @@ leave_sound k g sound =
           let most = ap (λ (s : Begun). s.players) stays.settings in
           omega (arith, few, fewer, most));
       counted = leave_counted k g sound.good sound.counted;
-      named = λ j q there. elim (cases_eq j k) [
-        | inl same ↦ absurd (none_some (get (leave k g).players k) q (leave_same k g)
-            (rw same at there))
-        | inr ne ↦ sound.named j q (sym (leave_other k j g ne) ∙ there)
-      ];
+      players = leave_cases k g AllTold (λ none. sound.players) (λ p there.
+          all_gone (λ (j : ℕ) (q : Player). PlayerIsTold q) g.players sound.players k);
     }
 
 pub leave_all_sound : (ks : List ℕ) (g : Game) → SoundGame g → SoundGame (leave_all ks g)
@@ -230,35 +232,8 @@ grown_sound g sound = record {
   lines = sound.lines;
   few = sound.few;
   counted = sound.counted;
-  named = sound.named;
+  players = sound.players;
 }
-
--- players that were told, by their numbers
-abbrev told_entry : ℕ × Player → ℕ × Player
-told_entry e = (e.0, told_player e.1)
-
-absent_told : (k : ℕ) (es : List (ℕ × Player)) → find nat_cmp k es ≡ None →
-    find nat_cmp k (map told_entry es) ≡ None
-absent_told k [] none = refl
-absent_told k (e ∷ es) none = grind (arith, nat_tests, absent_told k es)
-
--- as many as before
-many_told : (es : List (ℕ × Player)) → T (is_sorted nat_cmp es) →
-    len (from_entries {R = nat_cmp} (map told_entry es)) ≡ length es
-many_told [] sorted = len-empty nat_cmp Player
-many_told (e ∷ es) sorted =
-    let later : len (from_entries {R = nat_cmp} (map told_entry es)) ≡ length es =
-    many_told es (second (below_all nat_cmp e.0 es) (is_sorted nat_cmp es) sorted) in
-    let none : is_some (get (from_entries {R = nat_cmp} (map told_entry es)) e.0) ≡ false =
-    ap is_some (get-from_entries nat_cmp_total (map told_entry es) e.0
-    ∙ absent_told e.0 es (find_again nat_cmp_total e.0 e es sorted (tied_number e.0))) in
-    let added = len-insert nat_cmp_total (from_entries (map told_entry es)) e.0
-    (told_player e.1) in
-    grind (arith, later, none, added)
-
-told_many : (g : Game) → len (told g).players ≡ len g.players
-unfolding map_keyed
-told_many g = many_told (entries g.players) (entries_sorted g.players) ∙ sym (len-entries g.players)
 
 pub told_sound : (g : Game) → SoundGame g → SoundGame (told g)
 told_sound g sound = record {
@@ -267,16 +242,18 @@ told_sound g sound = record {
   settings = sound.settings;
   young = sound.young;
   lines = tt;
-  few = (let few = sound.few in let many = told_many g in omega (arith, few, many));
-  counted = (let counted = sound.counted in let many = told_many g in omega (arith, counted, many));
-  named = λ j q there. at_player j q (get g.players j) refl (sym (told_players g j) ∙ there);
+  few = (let few = sound.few in omega (arith, few, many));
+  counted = (let counted = sound.counted in omega (arith, counted, many));
+  players = all_changed (λ (j : ℕ) (p : Player). PlayerIsTold p) tells g.players (told g).players
+      (told_players g)
+      (λ j p there. record { name = (sound.players j p there).name; notes = no_notes_fit });
 }
   where
-    at_player : (j : ℕ) (q : Player) (o : Option Player) → get g.players j ≡ o →
-        option_map told_player o ≡ Some q → IsShort 16 q.name
-    at_player j q None is e = absurd cc
-    at_player j q (Some p) is e = subst (λ (x : Player). IsShort 16 x.name)
-        (some_is (told_player p) q e) (sound.named j p is)
+    tells : ℕ → Player → Player
+    tells k p = told_player p
+
+    many : len (told g).players ≡ len g.players
+    many = many_changed tells g.players (told g).players (told_players g)
 
 pub new_sound : (settings : Begun) → AreSettings settings.players settings.cap →
     Good (new_game settings) → SoundGame (new_game settings)
@@ -288,5 +265,5 @@ new_sound settings are good = record {
   lines = tt;
   few = (let none = len-empty nat_cmp Player in omega (arith, none));
   counted = omega arith;
-  named = λ k p there. absurd (none_some _ p (get-empty nat_cmp k) there);
+  players = λ k p there. absurd (none_some _ p (get-empty nat_cmp k) there);
 }

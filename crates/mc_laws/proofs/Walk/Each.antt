@@ -1,6 +1,6 @@
 -- The world after each connection was handed something: who is there, and who is in play.
 use Rattle.std.proofs.Common.{◌≡◌, ℕ, Bool, true, false, cond, List, map, Option, Some, None, refl}
-use Rattle.std.proofs.Common.{sym, subst, ap, ◌∙◌, inl, inr}
+use Rattle.std.proofs.Common.{sym, ap, ◌∙◌, inl, inr}
 use Rattle.std.specs.Prelude.{◌⊎◌, is_some, option_map, if◌then◌else◌}
 use Rattle.std.specs.FinMap.{get}
 use Rattle.mc_model.specs.declared.cause.Cause.{Cause}
@@ -19,7 +19,8 @@ use Rattle.mc_model.specs.Tick.{awaiting, beat, beat_of, flush, flush_of, is_sil
 use Rattle.mc_model.specs.Tick.{told_player}
 use Rattle.mc_model.specs.Good.{Good}
 use Rattle.mc_model.proofs.Maps.Lookups.{get_keyed}
-use Rattle.mc_laws.proofs.Deeds.Keeping.{Was, Will, refined}
+use Rattle.mc_laws.proofs.EachValue.{AreChanged}
+use Rattle.mc_laws.proofs.Deeds.Keeping.{players_whole}
 use Rattle.mc_laws.proofs.Deeds.Leaving.{Stays, leave_all_good, leave_all_stays, left_of_all}
 use Rattle.mc_laws.proofs.Walk.Handings.{hand_cases, not_in_play}
 
@@ -104,29 +105,11 @@ closing_plays o l h stage plays = step (is_closed h.link.stage) refl stage
 
 -- ---- those that were told
 
-pub told_players : (g : Game) (j : ℕ) →
-    get (told g).players j ≡ option_map told_player (get g.players j)
+pub told_players : (g : Game) →
+    AreChanged (λ (k : ℕ) (p : Player). told_player p) g.players (told g).players
 told_players g j = get_keyed (λ (k : ℕ) (p : Player). told_player p) g.players j
 
 pub told_good : (g : Game) → Good g → Good (told g)
-told_good g w = refined g.players (told g).players g.entities g.eids g.packs was will w
-  where
-    will : (j : ℕ) (p : Player) → get g.players j ≡ Some p → Will (told g).players j p
-    will j p is = record {
-      later = told_player p;
-      there = told_players g j ∙ ap (option_map told_player) is;
-      eid = refl;
-    }
-
-    was : (j : ℕ) (p : Player) → get (told g).players j ≡ Some p → Was g.players j p
-    was j p is = step (get g.players j) refl (sym (told_players g j) ∙ is)
-      where
-        step : (o : Option Player) → get g.players j ≡ o → option_map told_player o ≡ Some p →
-            Was g.players j p
-        step None there is = absurd cc
-        step (Some q) there is = (let same : told_player q ≡ p = cc in
-            subst (λ (x : Player). Was g.players j x) same (record {
-              before = q;
-              there = there;
-              like = record { eid = refl; uuid = refl; name = refl; hand = refl };
-            }))
+told_good g = players_whole g.players (told g).players (λ (k : ℕ) (p : Player). told_player p)
+    (told_players g) (λ k p. record { eid = refl; uuid = refl; name = refl; hand = refl })
+    g.entities g.eids g.packs

@@ -1,26 +1,23 @@
 -- No player loses or makes an item by what it does: its deeds take away as many as they leave.
-use Rattle.std.proofs.Common.{◌≡◌, ℕ, ◌≤◌, List, [], ◌∷◌, Some, sym, subst}
+use Rattle.std.proofs.Common.{◌≡◌, ℕ, ◌≤◌, List, [], ◌∷◌, Some, sym, subst, ap}
 use Rattle.mc_up.specs.declared.play_up.PlayUp.{PlayUp}
+use Rattle.mc_model.specs.Balance.{in_entities, sort_of}
 use Rattle.mc_model.specs.Game.{Game}
 use Rattle.mc_model.specs.Acts.{act}
 use Rattle.mc_model.specs.Good.{Good}
-use Rattle.mc_laws.proofs.Weighing.Spending.{Weighs, rehand_weighs, repack_weighs, stand_weighs}
-use Rattle.mc_laws.proofs.Weighing.Spending.{state_weighs, still_weighs, thrown_weighs}
+use Rattle.mc_laws.proofs.Weighing.Spending.{Weighs, rehand_weighs, repack_weighs, same_weighs}
+use Rattle.mc_laws.proofs.Weighing.Spending.{stand_weighs, state_weighs, still_weighs, thrown_weighs}
 use Rattle.mc_laws.proofs.Weighing.Spending.{weighs_even, weighs_on}
-use Rattle.mc_laws.proofs.Deeds.Made.{AreDeeds, Deed, all_gained, all_spent, gained, notes, rehands}
-use Rattle.mc_laws.proofs.Deeds.Made.{repacks, says, sets, spent, stands, throws, views}
+use Rattle.mc_laws.proofs.Deeds.Made.{AreDeeds, Deed, all_gained, all_spent, gained, rehands}
+use Rattle.mc_laws.proofs.Deeds.Made.{repacks, says, sets, spent, stands, throws, touches}
 use Rattle.mc_laws.proofs.Acts.ActMade.{act_made}
 use Rattle.mc_laws.proofs.Acts.ActOn.{deed_good}
 
 module _ (G T H : Type 0) (id damage k : ℕ) where
   deed_weighs : (g v : Game) (deed : Deed G T H k g v) → Good g →
       Weighs id damage (spent G T H k id damage g v deed) (gained G T H k id damage g v deed) g v
-  deed_weighs g v (notes f same) w = (let x = still_weighs id damage g in
-      subst (Weighs id damage 0 0 g) (sym same)
-      (record { count = x.count; names = x.names; settings = x.settings }))
-  deed_weighs g v (views view same) w = (let x = still_weighs id damage g in
-      subst (Weighs id damage 0 0 g) (sym same)
-      (record { count = x.count; names = x.names; settings = x.settings }))
+  deed_weighs g v (touches f of_players fits rest are) w = same_weighs id damage g v
+      rest.settings rest.edits rest.packs (ap (in_entities (sort_of id damage)) rest.entities)
   deed_weighs g v (repacks p pack there is same) w =
       subst (Weighs id damage _ _ g) (sym same) (repack_weighs id damage k p pack g w there)
   deed_weighs g v (rehands p hand there small same) w =

@@ -80,7 +80,7 @@ weighs_even id damage a b g v same x = record {
 }
 
 -- where there is as much, and no cell was changed
-same_weighs : (id damage : ℕ) (g v : Game) → v.settings ≡ g.settings → v.edits ≡ g.edits →
+pub same_weighs : (id damage : ℕ) (g v : Game) → v.settings ≡ g.settings → v.edits ≡ g.edits →
     v.packs ≡ g.packs →
     in_entities (sort_of id damage) v.entities ≡ in_entities (sort_of id damage) g.entities →
     Weighs id damage 0 0 g v
