@@ -53,7 +53,9 @@ impl Model for Game {
     ghost use Rattle.mc_land.specs.LandCode.{coded_place};
     ghost use Rattle.mc_land.specs.Places.{place_cmp};
     ghost use Rattle.mc_model.specs.Stored.{coded_edits};
-    ghost use Rattle.mc_play.specs.Codes.{coded_chests, coded_packs, coded_players};
+    ghost use Rattle.mc_play.specs.Codes.{coded_chests};
+    ghost use Rattle.mc_play.specs.contracts.packs.Packs.{the_row as packs_row};
+    ghost use Rattle.mc_play.specs.contracts.players.Players.{the_row as players_row};
     ghost use Rattle.mc_play.specs.Kept.{GameValue, value_of};
 
     ghost Value = { GameValue };
@@ -62,8 +64,8 @@ impl Model for Game {
       codes,
       coded_edits,
       coded_chests,
-      coded_packs,
-      coded_players,
+      packs_row.coded,
+      players_row.coded,
       set.code {R = place_cmp} coded_place,
     ) };
 

@@ -20,15 +20,15 @@ pub struct Packs {
 }
 
 impl Model for Packs {
-    ghost use Rattle.std.specs.FinMap.{FinMap};
+    ghost use Rattle.std.specs.Coded.{codes, coded_list, coded_ℕ};
+    ghost use Rattle.std.specs.FinMap.{FinMap, code};
     ghost use Rattle.mc_windows.specs.Pack.{PackValue};
     ghost use Rattle.mc_model.specs.Maps.{name_cmp};
-    ghost use Rattle.mc_play.specs.Codes.{coded_packs};
     ghost use Rattle.mc_play.specs.Named.{packs_of};
 
     ghost Value = { FinMap name_cmp PackValue };
 
-    ghost coded = { coded_packs };
+    ghost coded = { code (coded_list coded_ℕ) (Prim.hlevel codes) };
 
     ghost view = { λ packs. packs_of packs.by_name.entries };
 }

@@ -28,14 +28,14 @@ pub struct Players {
 }
 
 impl Model for Players {
-    ghost use Rattle.std.specs.FinMap.{FinMap, from_entries};
+    ghost use Rattle.std.specs.Coded.{codes, coded_ℕ};
+    ghost use Rattle.std.specs.FinMap.{FinMap, code, from_entries};
     ghost use Rattle.std.specs.Ordering.{nat_cmp};
     ghost use Rattle.mc_model.specs.declared.player.Player as declared;
-    ghost use Rattle.mc_play.specs.Codes.{coded_players};
 
     ghost Value = { FinMap nat_cmp declared.Player };
 
-    ghost coded = { coded_players };
+    ghost coded = { code coded_ℕ (Prim.hlevel codes) };
 
     ghost view = { λ players. from_entries players.by_connection.entries };
 }
