@@ -38,25 +38,20 @@ impl Notes {
         }
     }
 
+    /// Nothing is noted any more. It takes no memory, and gives back that of the cells.
+    pub fn clear(&mut self)
+        ensures { self.new ≡ no_notes }
+    {
+        *self = Notes::new(*self.cells.allocator());
+    }
+
+    // ---- what is noted, and noting it
+
     /// The cells whose states the client is to be sent, in the order in which they were noted.
     pub fn cells(&self) -> &[Cell]
         ensures { result.now ≡ self.now.cells }
     {
         self.cells.as_slice()
-    }
-
-    /// Whether the client is to be sent its player's place.
-    pub fn placing(&self) -> bool
-        ensures { result ≡ self.now.placing }
-    {
-        self.placing
-    }
-
-    /// Whether the client is to be sent the window again that it is shown.
-    pub fn resend(&self) -> bool
-        ensures { result ≡ self.now.resend }
-    {
-        self.resend
     }
 
     /// Notes a cell whose state the client is to be sent. Without memory all is as before.
@@ -69,6 +64,13 @@ impl Notes {
         Ok(())
     }
 
+    /// Whether the client is to be sent its player's place.
+    pub fn placing(&self) -> bool
+        ensures { result ≡ self.now.placing }
+    {
+        self.placing
+    }
+
     /// Notes that the client is to be sent its player's place.
     pub fn place(&mut self)
         ensures { self.new ≡ record self.old { placing = true } }
@@ -76,19 +78,17 @@ impl Notes {
         self.placing = true;
     }
 
+    /// Whether the client is to be sent the window again that it is shown.
+    pub fn resend(&self) -> bool
+        ensures { result ≡ self.now.resend }
+    {
+        self.resend
+    }
+
     /// Notes that the client is to be sent the window again that it is shown.
     pub fn again(&mut self)
         ensures { self.new ≡ record self.old { resend = true } }
     {
         self.resend = true;
-    }
-
-    /// Nothing is noted any more. It takes no memory.
-    pub fn clear(&mut self)
-        ensures { self.new ≡ no_notes }
-    {
-        self.cells.clear();
-        self.placing = false;
-        self.resend = false;
     }
 }
