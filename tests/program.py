@@ -21,7 +21,7 @@ def free_port():
 class Program:
     """One run of `serve`, which is ended in every case when the `with` block is left."""
 
-    def __init__(self, path, **options):
+    def __init__(self, path, environment=None, limits=None, **options):
         self.port = options.get("port") or free_port()
         named = {"port": self.port, "ticks": ENDLESS, **options}
         arguments = [f"{name}={value}" for name, value in named.items()]
@@ -32,6 +32,8 @@ class Program:
             stdin=subprocess.DEVNULL,
             stdout=subprocess.PIPE,
             stderr=subprocess.PIPE,
+            env=environment,
+            preexec_fn=limits,
         )
 
     def __enter__(self):
