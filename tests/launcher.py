@@ -223,7 +223,7 @@ def path_without_rt():
 
 
 def other_programs_are_replaced(path):
-    """A program that the launcher does not know is built anew, unless it was noted by its sources."""
+    """A program that the launcher does not know is built anew, unless its sources were noted."""
     prove = "tools/prove.py", "craft47"
     with repository(path) as here:
         here.expect_start(1, "at first")
