@@ -4,8 +4,8 @@ Each test starts `PROGRAM serve` on a free port, plays clients and ends the prog
 printed for each, and at last how many passed; the status is 0 exactly where none failed. With names
 of tests it runs those alone; a name of none is refused, with the status 2.
 
-Most tests run one after another. The long ones do nearly nothing but wait for a limit of half a
-minute or more, and each of them runs beside all others, in a process of its own.
+Most tests run one after another. The long ones do nearly nothing but wait, most of them for a limit
+of half a minute or more, and each of them runs beside all others, in a process of its own.
 """
 
 import sys
@@ -30,7 +30,7 @@ import talking
 TESTS = [*play.TESTS, *talking.TESTS, *digging.TESTS, *carrying.TESTS, *faults.TESTS]
 TESTS += [*refusing.TESTS, *seeing.TESTS, *crowds.TESTS, *endings.TESTS, *system.TESTS]
 TESTS += [*floods.TESTS, *running.TESTS, *launcher.TESTS]
-LONG_TESTS = [*talking.LONG_TESTS, *silence.LONG_TESTS]
+LONG_TESTS = [*talking.LONG_TESTS, *silence.LONG_TESTS, *system.LONG_TESTS]
 
 
 def run_test(test, path):

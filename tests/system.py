@@ -64,7 +64,7 @@ def crowds_use_descriptors_up(path):
         expect(not any(ended), f"{ended.count(True)} of those before were closed")
         ask_pong(served.pop(), 3)
         come_in = lambda: ask_first(program.port) is not None
-        expect(pump(served, come_in), "a descriptor that is free again is not used")
+        expect(wait_until(come_in, PATIENCE), "a descriptor that is free again is not used")
 
 
 def ask_first(port):
@@ -201,8 +201,9 @@ TESTS = [
     crowds_use_descriptors_up,
     who_half_closes_is_gone,
     few_linger,
-    late_ticks_are_caught_up,
     faults_of_input_are_told,
     faults_of_output_are_told,
     want_of_memory_is_told,
 ]
+
+LONG_TESTS = [late_ticks_are_caught_up]
