@@ -24,11 +24,20 @@ def usage_is_told(path):
     bad = [good[:1], good[:2], ["serve", good[2]], good + ["port=1"], good + ["depth=1"]]
     bad += [good + [option] for option in ("players=0", "players=51", "view=1", "view=9")]
     bad += [good + [option] for option in ("land=sea", "pace=slow", "events=0", "events", "view=")]
-    bad += [good + [option] for option in ("capture=yes", "capture=", "capture=NO")]
     for arguments in bad:
         status, output, errors = run(path, *arguments)
         expect((status, output) == (2, USAGE), f"{arguments} ends with {status}: {output!r}")
         expect(errors == "", f"{arguments}: {errors!r} on standard error")
+
+
+def captures_are_refused(path):
+    """There is no capture yet: only `no` is taken for one."""
+    begun = ["serve", f"port={free_port()}", "ticks=1"]
+    for value in ("yes", "", "NO", "no ", "out.txt"):
+        ended = run(path, *begun, f"capture={value}")
+        expect(ended == (2, USAGE, ""), f"capture={value} ends with {ended}")
+    ended = run(path, *begun, "capture=no")
+    expect(ended[:2] == (0, "ticks=1 joins=0 closed=0\n"), f"capture=no ends with {ended}")
 
 
 def ports_in_use_are_told(path):
@@ -135,6 +144,7 @@ def turns_wait_for_a_join(path):
 
 TESTS = [
     usage_is_told,
+    captures_are_refused,
     ports_in_use_are_told,
     runs_end_by_their_ticks,
     budgets_end_runs,

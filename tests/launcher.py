@@ -10,6 +10,7 @@ import contextlib
 import os
 import shutil
 import subprocess
+import sys
 import tempfile
 from pathlib import Path
 
@@ -206,7 +207,7 @@ def each_change_of_a_source_is_noticed(path):
 def other_toolchains_are_noticed(path):
     """A program that another toolchain built is built anew; without any, a built one is started."""
     with repository(path) as here:
-        without = {**here.environment, "PATH": path_without_rt()}
+        without = {**here.environment, "PATH": str(make_path_without_rt(here))}
         status, output, errors = here.start("status", environment=without)
         expect(status == 1 and "rt is not on the path" in errors, f"without: {status} {errors!r}")
         here.expect_start(1, "at first")
@@ -216,10 +217,13 @@ def other_toolchains_are_noticed(path):
         expect(ended == (0, "", ""), f"built, and without a toolchain it ends with {ended}")
 
 
-def path_without_rt():
-    """Answer the folders of the path in which no toolchain is."""
-    folders = os.environ["PATH"].split(":")
-    return ":".join(it for it in folders if not Path(it, "rt").exists())
+def make_path_without_rt(here):
+    """Make a folder in which all commands are that the launcher needs but that of the toolchain."""
+    folder = here.path("commands")
+    folder.mkdir()
+    Path(folder, "python3").symlink_to(sys.executable)
+    Path(folder, "readlink").symlink_to(shutil.which("readlink"))
+    return folder
 
 
 def other_programs_are_replaced(path):
@@ -233,7 +237,7 @@ def other_programs_are_replaced(path):
         here.expect_start(2, "with a program that came from elsewhere")
         shutil.rmtree(program.parent)
         noting = lambda *words: subprocess.run(["python3", *prove, *words], cwd=here.top,
-                                               env=here.environment, stdout=subprocess.PIPE,
+                                               env=here.environment, capture_output=True,
                                                text=True, check=True).stdout.strip()
         was = noting("--sources")
         program.parent.mkdir()

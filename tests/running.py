@@ -1,6 +1,7 @@
 """Tests of how the tests are run: what was not tried is never said to be well."""
 
 import os
+import shutil
 import subprocess
 import sys
 import tempfile
@@ -24,7 +25,7 @@ def nothing_is_well_without_python(path):
     run = str(HERE / "run")
     with tempfile.TemporaryDirectory() as folder:
         there = Path(folder)
-        (there / "dirname").symlink_to("/usr/bin/dirname")
+        (there / "dirname").symlink_to(shutil.which("dirname"))
         ended = begin("/bin/sh", run, path, path=folder)
         expect(ended[0] == 1 and "no python3" in ended[2], f"without Python it ends with {ended}")
         (there / "python3").write_text("#!/bin/sh\nexit 1\n")

@@ -308,6 +308,7 @@ def views_and_players_move_at_once(path):
         anna, ben = log_in_two(program.port)
         x, y, z = LAST_WEST, FLAT_FEET[1], FLAT_FEET[2]
         walk(anna, ben, (x, y, z))
+        forget_news([anna, ben])
         for step in range(1, TRIES):
             x += 16 * PARTS
             anna.send(move_to((x, y, z)))

@@ -4,13 +4,13 @@ Each test starts `PROGRAM serve` on a free port, plays clients and ends the prog
 printed for each, and at last how many passed; the status is 0 exactly where none failed. With names
 of tests it runs those alone; a name of none is refused, with the status 2.
 
-Most tests run one after another. The long ones do nearly nothing but wait, most of them for a limit
-of half a minute or more, and each of them runs beside all others, in a process of its own.
+Most tests run one after another. Beside them, in processes of their own, run those that do nearly
+nothing but wait, most of them for half a minute or more, and those that need no server to be quick.
 """
 
 import sys
 import time
-from concurrent.futures import ProcessPoolExecutor, as_completed
+from concurrent.futures import ProcessPoolExecutor
 
 import carrying
 import crowds
@@ -29,8 +29,12 @@ import talking
 
 TESTS = [*play.TESTS, *talking.TESTS, *digging.TESTS, *carrying.TESTS, *faults.TESTS]
 TESTS += [*refusing.TESTS, *seeing.TESTS, *crowds.TESTS, *endings.TESTS, *system.TESTS]
-TESTS += [*floods.TESTS, *running.TESTS, *launcher.TESTS]
-LONG_TESTS = [*talking.LONG_TESTS, *silence.LONG_TESTS, *system.LONG_TESTS]
+TESTS += [*floods.TESTS, *running.TESTS]
+LONG_TESTS = [*silence.LONG_TESTS, *talking.LONG_TESTS, *system.LONG_TESTS]
+
+# What runs beside the others, and how many of that at a time: more than are long.
+BESIDE = [*LONG_TESTS, *launcher.TESTS]
+PROCESSES = len(LONG_TESTS) + 2
 
 
 def run_test(test, path):
@@ -46,12 +50,12 @@ def run_test(test, path):
     return True
 
 
-def run_tests(path, tests, long_tests):
-    """Run tests one after another, and the long ones beside them; count those that passed."""
-    with ProcessPoolExecutor(max(1, len(long_tests))) as processes:
-        going = [processes.submit(run_test, test, path) for test in long_tests]
+def run_tests(path, tests, beside):
+    """Run tests one after another, and others beside them; count those that passed."""
+    with ProcessPoolExecutor(PROCESSES) as processes:
+        going = [processes.submit(run_test, test, path) for test in beside]
         passed = sum(run_test(test, path) for test in tests)
-        return passed + sum(done.result() for done in as_completed(going))
+        return passed + sum(done.result() for done in going)
 
 
 def chosen(tests, names):
@@ -61,13 +65,13 @@ def chosen(tests, names):
 
 def main(path, names):
     """Run the tests of these names, or all; answer the status of the script."""
-    unknown = set(names) - {test.__name__ for test in TESTS + LONG_TESTS}
+    unknown = set(names) - {test.__name__ for test in TESTS + BESIDE}
     if unknown:
         print(f"no test has the name {', '.join(sorted(unknown))}", file=sys.stderr)
         return 2
-    tests, long_tests = chosen(TESTS, names), chosen(LONG_TESTS, names)
-    passed = run_tests(path, tests, long_tests)
-    failed = len(tests) + len(long_tests) - passed
+    tests, beside = chosen(TESTS, names), chosen(BESIDE, names)
+    passed = run_tests(path, tests, beside)
+    failed = len(tests) + len(beside) - passed
     print(f"{passed} passed, {failed} failed")
     return 0 if failed == 0 else 1
 

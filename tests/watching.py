@@ -4,6 +4,7 @@ A busy machine lets a process wait, and what a client sees late need not have co
 ticks are watched a thread notes when this process did not run, and that time is left out.
 """
 
+import bisect
 import multiprocessing
 import threading
 import time
@@ -61,8 +62,10 @@ class Sighting:
         return Sighting(ticks, ages, self.pauses)
 
     def paused(self, begun, ended):
-        """Answer how long the client did not run between two times."""
-        parts = (min(ended, after) - max(begun, before) for before, after in self.pauses)
+        """Answer how long the client did not run between two times; pauses are in their order."""
+        first = max(0, bisect.bisect(self.pauses, (begun, begun)) - 1)
+        last = bisect.bisect(self.pauses, (ended, ended))
+        parts = (min(ended, after) - max(begun, before) for before, after in self.pauses[first:last])
         return sum(part for part in parts if part > 0)
 
     def gaps(self):
