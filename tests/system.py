@@ -108,6 +108,8 @@ def few_linger(path):
         for pinger in pingers:
             wait_for_end(pingers, pinger)
             expect(pinger.packets == [Pong(7)], f"{pinger.packets} for a Ping")
+        # A peer sees its end just before the oldest is cut off for it.
+        time.sleep(TICK)
         kept = program.usage.descriptors() - before
         expect(kept <= LINGERING, f"{kept} connections linger")
         is_soon = time.monotonic() - begun < LINGERING_SECONDS / 2
