@@ -30,15 +30,18 @@ ASKERS = 3
 ANSWER = protocol.packet(0x00, protocol.text(status_text(20, 1)))
 
 # How much more memory a server may use that has such askers, in MiB. All answers would be 185.
-MORE_MEMORY = 64
+MORE_MEMORY = 96
 
-# How many answers are more than the system holds for a client, and how much of them is read.
-MANY_REQUESTS = 40_000
+# How many answers are twice what the system holds for a client, how long it takes at most until a
+# server has read that many are asked for, and how much of them is read.
+MANY_REQUESTS = 80_000
+ASKED_SECONDS = 25
 READ_A_SECOND = 15_000
 SMALL_BUFFER = 16_384
 STEP = 0.1
 
-LONGEST_GAP = 0.25
+# The longest time between two ticks, while all other tests begin, in seconds.
+LONGEST_GAP = 1.0
 
 
 def silent_sockets_lose_their_place(path):
@@ -161,17 +164,22 @@ def senders_of_nothing_are_closed(path):
     """Who reads on what it asked for and sends nothing more is closed in time, before all of it."""
     whole = MANY_REQUESTS * len(ANSWER)
     with Program(path) as program, SmallReader(program.port) as reader:
+        time.sleep(STEP)
+        held = program.usage.descriptors()
         begun = time.monotonic()
         reader.socket.settimeout(PATIENCE)
         reader.send(protocol.handshake(protocol.WANTS_STATUS) + protocol.request() * MANY_REQUESTS)
         reader.socket.setblocking(False)
-        reader.read_some(UNHEARD - SOONER)
-        expect(not reader.ended, f"it is closed after {time.monotonic() - begun:.1f} s")
-        reader.read_some(SOONER + LATER)
+        took = 0.0
+        while program.usage.descriptors() == held:
+            reader.read_some(STEP)
+            took = time.monotonic() - begun
+            expect(took < ASKED_SECONDS + UNHEARD + LATER, f"it stays after {took:.1f} s")
+        expect(took > UNHEARD - SOONER, f"it is closed after {took:.1f} s")
         reader.socket.settimeout(PATIENCE)
-        expect(pump([reader], lambda: reader.ended), "who sends nothing stays")
+        expect(pump([reader], lambda: reader.ended), "it sees no end")
         expect(reader.received < whole, f"all of {whole} bytes came")
-        return f"{reader.received} of {whole} bytes came"
+        return f"closed after {took:.1f} s, {reader.received} of {whole} bytes came"
 
 
 LONG_TESTS = [
