@@ -9,7 +9,8 @@ from client import expect, log_in, wait_for_pack
 from clientbound import Change, Equipment, HeadLook, SetSlot, Teleport, WindowItems
 from news import AIR, BENEATH, CHEST_STATE, DOWN, DROP_ONE, DROP_STACK, FACES, FLAT_FEET, NORTH
 from news import PLANKS_STATE, SOUTH, UP, at_face, dig, drop, leave, log_in_two, settle
-from news import dig_news, expect_items, expect_sent, hand_news, item_news, pack_news, window_news
+from news import dig_news, expect_items, expect_sent, hand_news, item_news, pack_news
+from news import until_between_ticks, window_news
 from packs import CHEST, DIRT, KIT, STONE, pack_of
 from program import Program
 from protocol import Stack
@@ -120,16 +121,24 @@ def the_highest_cell_is_filled(path):
 
 
 def windows_are_sent_again(path):
-    """A creative action changes nothing, and is answered by the window."""
+    """A creative action changes nothing, and is answered by the window, once in a tick."""
     with Program(path) as program:
         anna, ben = log_in_two(program.port)
         for index, stack in ((36, Stack(CHEST, 64, 0)), (-1, STONE_PILE), (0, None), (44, None)):
             anna.send(protocol.creative(index, stack))
             expect_sent({anna: window_news(KIT), ben: []})
-        anna.send(protocol.creative(9, STONE_PILE) + protocol.creative(36, None))
-        settle([anna, ben])
-        sent, due = anna.news(), window_news(KIT)
-        expect(sent in (due, due * 2), f"{sent} for two creative actions")
+        tries = until_between_ticks(lambda: act_twice(anna, ben))
+        return f"at once the {tries}. time"
+
+
+def act_twice(anna, ben):
+    """Let Anna act twice; answer whether one window came for both."""
+    anna.send(protocol.creative(9, STONE_PILE) + protocol.creative(36, None))
+    settle([anna, ben])
+    sent, due = anna.news(), window_news(KIT)
+    expect(sent in (due, due * 2), f"{sent} for two creative actions")
+    anna.forget_news()
+    return sent == due
 
 
 def chests_are_not_built_on(path):

@@ -43,8 +43,13 @@ def expect(holds, why):
 class Connection:
     """A socket to the server, and all bytes that came over it."""
 
-    def __init__(self, port):
-        self.socket = socket.create_connection((HOST, port), timeout=PATIENCE)
+    def __init__(self, port, buffer=None):
+        """Connect; the system holds so much for it that it has not read, or as much as it likes."""
+        self.socket = socket.socket()
+        self.socket.settimeout(PATIENCE)
+        if buffer is not None:
+            self.socket.setsockopt(socket.SOL_SOCKET, socket.SO_RCVBUF, buffer)
+        self.socket.connect((HOST, port))
         self.socket.setsockopt(socket.IPPROTO_TCP, socket.TCP_NODELAY, 1)
         self.received = 0
         self.ended = False

@@ -12,7 +12,7 @@ from columns import column_at
 from news import AIR, BENEATH, DIG, DROP_ONE, DROP_STACK, EAST, FLAT_FEET, UP
 from news import at_face, dig, drop, floor_of, log_in_two, one_of, settle
 from news import dig_news, expect_items, expect_sent, hand_news, item_news, player_news
-from news import window_news
+from news import until_between_ticks, window_news
 from others import PARTS
 from packs import KIT, STONE
 from play import forget_news
@@ -82,6 +82,12 @@ def cells_of_a_tick_come_together(path):
     """Cells that are dug in one tick come as one packet for each column, and then their items."""
     dug = {(17, 3, 8): GRASS, (14, 3, 8): GRASS, (15, 3, 9): GRASS, (14, 2, 8): DIRT}
     dug[16, 3, 7] = GRASS
+    tries = until_between_ticks(lambda: dig_together(path, dug))
+    return f"in one tick the {tries}. time"
+
+
+def dig_together(path, dug):
+    """Let a player dig cells of two columns; answer whether all of them came in one tick."""
     with Program(path) as program:
         anna = log_in(program.port, "Anna")
         walk([anna], anna, 15.5)
@@ -94,24 +100,33 @@ def cells_of_a_tick_come_together(path):
         sizes = [len(p.records) if type(p) is MultiChange else 1 for p in changes_in(anna)]
         expect(sum(sizes) == len(dug), f"{changes_in(anna)} for {len(dug)} cells")
         kinds = [type(packet) for packet in anna.news()]
-        expect_nothing_changed(anna)
-        is_one = kinds == [MultiChange] * 2 + [SpawnItem, ItemIs] * len(dug)
-        return "in one tick" if is_one else f"in more than one tick, by {len(sizes)} packets"
+        return kinds == [MultiChange] * 2 + [SpawnItem, ItemIs] * len(dug)
 
 
-def expect_nothing_changed(client):
-    """Find that a cell that is filled and dug in one tick is no change, and its item lies there."""
-    cell = (13, 4, 8)
-    number = max(client.replica.items) + 1
+def what_is_undone_is_no_change(path):
+    """A cell that is filled and dug in one tick is not told, and its item lies there."""
+    with Program(path) as program:
+        anna = log_in(program.port, "Anna")
+        tries = until_between_ticks(lambda: fill_and_dig(anna))
+        return f"in one tick the {tries}. time"
+
+
+def fill_and_dig(client):
+    """Let a player fill a cell and dig it; answer whether its item and its hand alone were told."""
+    cell = at_face(BENEATH, UP)
+    number = max(client.replica.items, default=1) + 1
+    left = 64 - len(client.replica.items) - 1
+    settle([client])
     client.forget_news()
-    client.send(protocol.placement((13, 3, 8), UP) + dig(cell))
+    client.send(protocol.placement(BENEATH, UP) + dig(cell))
     expect(pump([client], lambda: number in client.replica.items), "the stone is not dug")
     settle([client])
     item = item_news(number, floor_of(cell), Stack(STONE, 1, 0))
-    hand = [hand_news(0, Stack(STONE, 63, 0))]
+    hand = [hand_news(0, Stack(STONE, left, 0))]
     in_two_ticks = [Change(cell, STONE_STATE), *hand, Change(cell, AIR), *item]
     sent = client.news()
     expect(sent in (item + hand, in_two_ticks), f"{sent} for a stone that is put and dug")
+    return sent == item + hand
 
 
 def refused_digs_show_the_cell(path):
@@ -265,6 +280,7 @@ def empty_columns_fill_and_empty(path):
 TESTS = [
     changes_are_shown_in_views,
     cells_of_a_tick_come_together,
+    what_is_undone_is_no_change,
     refused_digs_show_the_cell,
     digs_reach_six_blocks,
     items_come_and_go_with_the_view,

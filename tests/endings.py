@@ -9,7 +9,7 @@ import socket
 import time
 
 import protocol
-from client import HOST, TICK, Client, Ticker, ask_pong, ask_status, expect, log_in, pump
+from client import HOST, TICK, Client, ask_pong, ask_status, expect, log_in, pump
 from client import expect_refusal, wait_for_end
 from crowds import WRONG_VERSION
 from play import status_text
@@ -30,6 +30,16 @@ def usage_is_told(path):
         expect(errors == "", f"{arguments}: {errors!r} on standard error")
 
 
+def captures_are_refused(path):
+    """There is no capture yet: only `no` is taken for one."""
+    begun = ["serve", f"port={free_port()}", "ticks=1"]
+    for value in ("yes", "", "NO", "no ", "out.txt"):
+        ended = run(path, *begun, f"capture={value}")
+        expect(ended == (2, USAGE, ""), f"capture={value} ends with {ended}")
+    ended = run(path, *begun, "capture=no")
+    expect(ended[:2] == (0, "ticks=1 joins=0 closed=0\n"), f"capture=no ends with {ended}")
+
+
 def ports_in_use_are_told(path):
     """A port that another listens on ends the run with 5, and says why."""
     with socket.create_server((HOST, 0)) as taken:
@@ -48,15 +58,18 @@ def runs_end_by_their_ticks(path):
         expect(ended[2] == f"listening on {HOST}:{program.port}\n", f"it says {ended[2]!r}")
     begun = time.monotonic()
     with Program(path, ticks=60) as program:
-        say_some_things(program.port)
-        ended = program.finish()
-        expect(ended[:2] == (0, "ticks=60 joins=5 closed=2\n"), f"it ends with {ended}")
-    took = time.monotonic() - begun
+        with say_some_things(program.port) as stayer:
+            ended = program.finish()
+            expect(ended[:2] == (0, "ticks=60 joins=5 closed=2\n"), f"it ends with {ended}")
+            took = time.monotonic() - begun
+            expect(pump([stayer], lambda: stayer.ended), "who is there sees no end")
+            expect(stayer.replica.farewell is None, f"it is told {stayer.replica.farewell}")
     expect(60 * TICK * 0.9 < took < 60 * TICK * 2, f"60 ticks take {took:.2f} s")
 
 
 def say_some_things(port):
-    """Join five times: two are closed for a fault, one by its Ping, one leaves, one is there."""
+    """Join five times: two are closed for a fault, one by its Ping, one leaves, and one is there,
+    which is answered."""
     with Client(port) as pinger:
         pinger.send(protocol.handshake(protocol.WANTS_STATUS))
         ask_pong(pinger, 5)
@@ -67,7 +80,7 @@ def say_some_things(port):
         old.begin_login("Old", 46)
         expect_refusal(old, WRONG_VERSION)
     log_in(port, "Leaver").close()
-    log_in(port, "Stayer")
+    return log_in(port, "Stayer")
 
 
 def budgets_end_runs(path):
@@ -98,15 +111,24 @@ def ended_runs_free_their_port(path):
 
 
 def turns_end_with_their_lobby(path):
-    """By turns ticks come while somebody is there, and the run ends when all have left."""
+    """By turns ticks come while somebody is there, and the run ends when all have left.
+
+    Nobody is in play for long here: by turns a beat is to be answered within milliseconds.
+    """
     with Program(path, pace="turns", ticks=1_000_000_000) as program:
-        ticker = log_in(program.port, "Tick", kind=Ticker)
-        expect(pump([ticker], lambda: len(ticker.ticks) > 50), "no fifty ticks come")
-        ticker.close()
+        with Client(program.port) as client:
+            for answers in (1, 2):
+                hello = protocol.handshake(protocol.WANTS_STATUS) if answers == 1 else b""
+                client.send(hello + protocol.request())
+                came = pump([client], lambda: len(client.packets) == answers)
+                expect(came, f"{client.packets} where {answers} statuses are due")
+                time.sleep(10 * TICK)
+            player = log_in(program.port, "Paula")
+            player.close()
         status, output, _ = program.finish()
-    line = re.fullmatch(r"ticks=(\d+) joins=1 closed=0\n", output)
+    line = re.fullmatch(r"ticks=(\d+) joins=2 closed=[01]\n", output)
     expect(status == 0 and line is not None, f"it ends with {status}: {output!r}")
-    expect(int(line[1]) >= len(ticker.ticks), f"{len(ticker.ticks)} ticks seen, told {output!r}")
+    expect(int(line[1]) > 20, f"few ticks came: {output!r}")
 
 
 def turns_wait_for_a_join(path):
@@ -122,6 +144,7 @@ def turns_wait_for_a_join(path):
 
 TESTS = [
     usage_is_told,
+    captures_are_refused,
     ports_in_use_are_told,
     runs_end_by_their_ticks,
     budgets_end_runs,

@@ -6,7 +6,6 @@ Sources: docs/WORLD.md ('Connections and events', 'Logging in') and docs/PROTOCO
 
 import math
 import random
-import threading
 import time
 
 import protocol
@@ -30,6 +29,7 @@ from client import (
 from columns import column_at
 from play import status_text
 from program import Program
+from watching import Pauses, Sighting, check_gaps
 
 BAD_FRAME = "Bad frame."
 BAD_PACKET = "Bad packet."
@@ -41,11 +41,10 @@ LONG_LENGTH = b"\x80\x80\x80"
 # Good frames that come behind a bad one, which makes nothing of them.
 MANY_MORE = protocol.position(900.0, 5.0, 900.0) * 30_000
 
-# So many answers of 108 bytes are far more than the 67,108,864 bytes that a connection is owed at
-# most, and what the system holds beside them.
-REQUESTS = 1_000_000
+# After so many jumps into another view who reads none of them is owed more than may be.
+MOST_JUMPS = 100
 
-# The longest time between two ticks that a busy machine is granted, in seconds.
+# The longest time between two ticks while a player jumps from one view to another, in seconds.
 IN_TIME = 1.0
 
 
@@ -168,66 +167,32 @@ def beginnings(name):
     return b"", protocol.handshake(protocol.WANTS_STATUS), login, login + protocol.login_start(name)
 
 
-def idle_readers_are_closed(path):
-    """Who asks for statuses and never reads is closed, and the others get each tick."""
-    with Program(path) as program:
-        ticker = log_in(program.port, "Tick", kind=Ticker)
-        with Client(program.port) as idle:
-            flood = protocol.handshake(protocol.WANTS_STATUS) + protocol.request() * REQUESTS
-            sender = threading.Thread(target=idle.send, args=(flood,))
-            begun = time.monotonic()
-            sender.start()
-            expect(pump([ticker], lambda: not sender.is_alive()), "the flood is not taken")
-            expect(pump([ticker], lambda: is_refused(idle)), "who does not read stays")
-            remark = check_ticks(ticker, begun)
-            check_cut_answers(idle)
-        return remark
-
-
-def is_refused(idle):
-    """Whether the system says that nobody reads what a client sends."""
-    idle.send(protocol.request())
-    return idle.was_reset
-
-
-def check_ticks(ticker, begun):
-    """Find that ticks went on since some time, none of them far too late."""
-    ends = [begun, *(tick for tick in ticker.ticks if tick >= begun), time.monotonic()]
-    longest = max(after - before for before, after in zip(ends, ends[1:]))
-    expect(longest < IN_TIME, f"{longest:.2f} s between two ticks")
-    return f"longest time between two ticks {longest:.3f} s"
-
-
-def check_cut_answers(idle):
-    """Read what came for a client that was closed: the first of its answers, not all of them."""
-    answer = protocol.packet(0x00, protocol.text(status_text(20, 1)))
-    came = []
-    idle.take = came.append
-    expect(pump([idle], lambda: idle.ended), f"no end after {idle.received} bytes")
-    expect(idle.received < len(answer) * REQUESTS, "all was answered, and nobody was closed")
-    many = idle.received // len(answer) + 1
-    expect(b"".join(came) == (answer * many)[: idle.received], "the answers are not the status")
-
-
 def idle_players_are_closed(path):
     """A player whose view changes and who never reads is closed, and leaves the list."""
-    with Program(path, land="hills:9", view=8) as program:
+    with Program(path, land="hills:9", view=8) as program, Pauses() as pauses:
         ticker = log_in(program.port, "Tick", kind=Ticker)
         idle = log_in(program.port, "Ida", [ticker])
         wait_for_names([ticker, idle], ticker, ["Ida", "Tick"])
         idle.send(protocol.settings(8))
         begun = time.monotonic()
-        for jump in range(1, 100):
+        for jump in range(1, MOST_JUMPS):
             idle.send(protocol.position(1000.0 * jump, 70.0, 0.0))
-            listen([ticker], TICK)
+            wait_for_ticks(ticker, 2)
             if ticker.replica.names() == ["Tick"]:
                 break
         expect(ticker.replica.names() == ["Tick"], "who does not read stays in play")
-        remark = check_ticks(ticker, begun)
+        ticks = [begun, *(tick for tick in ticker.ticks if tick >= begun), time.monotonic()]
+        remark = check_gaps(Sighting(ticks, [], pauses.noted), IN_TIME)
         expect(pump([idle, ticker], lambda: idle.ended), "the connection is not closed")
         told = ask_status(program.port, [ticker])
         expect(told == status_text(20, 1), f"the status is {told}")
         return f"closed after {jump} jumps, {remark}"
+
+
+def wait_for_ticks(ticker, count):
+    """Wait until one that sees the ticks saw so many more."""
+    due = len(ticker.ticks) + count
+    expect(pump([ticker], lambda: len(ticker.ticks) >= due), "no ticks come")
 
 
 TESTS = [
@@ -236,6 +201,5 @@ TESTS = [
     bad_numbers_close,
     resets_are_leavings,
     noise_harms_nobody,
-    idle_readers_are_closed,
     idle_players_are_closed,
 ]

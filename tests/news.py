@@ -5,7 +5,7 @@ order in which a tick sends it.
 """
 
 import protocol
-from client import expect, log_in, pump, wait_for_names, wait_for_others
+from client import Unexpected, expect, log_in, pump, wait_for_names, wait_for_others
 from clientbound import Change, Equipment, HeadLook, ItemIs, SetSlot, SpawnItem, SpawnPlayer
 from clientbound import WindowItems
 from others import PARTS
@@ -32,6 +32,9 @@ FACES = {
 AIR = 0
 PLANKS_STATE = 16 * PLANKS
 CHEST_STATE = 16 * CHEST
+
+# How often it is tried at most to do two things between two ticks.
+TRIES = 20
 
 # A height at which no cell is. A dig there changes nothing and is answered at the next tick.
 NOWHERE = -1000
@@ -133,6 +136,14 @@ def settle(clients):
         expect(done, "a dig where no cell is is not answered by the state of that")
         for client in clients:
             client.packets = [packet for packet in client.packets if not is_answer(packet)]
+
+
+def until_between_ticks(attempt):
+    """Try something until it fell between two ticks, as `attempt` answers; say how often."""
+    for number in range(1, TRIES + 1):
+        if attempt():
+            return number
+    raise Unexpected(f"never seen between two ticks, of {TRIES} times")
 
 
 def is_answer(packet):

@@ -1,6 +1,7 @@
 """The program under test, as a process of its own (docs/COMMANDS.md, `serve`)."""
 
 import os
+import resource
 import selectors
 import socket
 import subprocess
@@ -21,7 +22,7 @@ def free_port():
 class Program:
     """One run of `serve`, which is ended in every case when the `with` block is left."""
 
-    def __init__(self, path, **options):
+    def __init__(self, path, environment=None, limits=None, **options):
         self.port = options.get("port") or free_port()
         named = {"port": self.port, "ticks": ENDLESS, **options}
         arguments = [f"{name}={value}" for name, value in named.items()]
@@ -32,7 +33,10 @@ class Program:
             stdin=subprocess.DEVNULL,
             stdout=subprocess.PIPE,
             stderr=subprocess.PIPE,
+            env=environment,
+            preexec_fn=limits,
         )
+        self.usage = Usage(self.process.pid)
 
     def __enter__(self):
         try:
@@ -83,16 +87,51 @@ class Program:
             return self.process.communicate()
 
 
-def run(path, *arguments, patience=PATIENCE):
-    """Run the program to its end; answer its status and what stands on both outputs."""
+def run(path, *arguments, patience=PATIENCE, output=subprocess.PIPE, **options):
+    """Run the program to its end, with `input` or `stdin` where one is given; answer its status and
+    what stands on both outputs."""
+    given = {} if "input" in options else {"stdin": subprocess.DEVNULL}
     try:
         done = subprocess.run(
             [path, *arguments],
-            stdin=subprocess.DEVNULL,
-            capture_output=True,
+            stdout=output,
+            stderr=subprocess.PIPE,
             timeout=patience,
             check=False,
+            **{**given, **options},
         )
     except subprocess.TimeoutExpired as error:
         raise Unexpected(f"{' '.join(arguments)} still runs after {patience} s") from error
-    return done.returncode, done.stdout.decode(), done.stderr.decode()
+    return done.returncode, (done.stdout or b"").decode(), done.stderr.decode()
+
+
+def limited(limit, most):
+    """Make what gives a process a limit of the system, as `ulimit` does, before it begins."""
+    return lambda: resource.setrlimit(limit, (most, most))
+
+
+class Usage:
+    """What the system tells of a process in /proc."""
+
+    def __init__(self, number):
+        self.folder = f"/proc/{number}"
+
+    def seconds(self):
+        """Answer the processor time up to now, of the process and of the system for it."""
+        with open(f"{self.folder}/stat", encoding="ascii") as told:
+            fields = told.read().rpartition(")")[2].split()
+        return (int(fields[11]) + int(fields[12])) / os.sysconf("SC_CLK_TCK")
+
+    def resident(self):
+        """Answer the resident memory in MiB."""
+        with open(f"{self.folder}/status", encoding="ascii") as told:
+            lines = dict(line.split(":", 1) for line in told)
+        return int(lines["VmRSS"].split()[0]) / 1024
+
+    def descriptors(self):
+        """Answer how many descriptors are open."""
+        return len(os.listdir(f"{self.folder}/fd"))
+
+    def state(self):
+        """Write memory and descriptors down."""
+        return f"{self.resident():.1f} MiB resident, {self.descriptors()} descriptors"

@@ -12,9 +12,9 @@ from client import log_in, pump, wait_for_names, wait_for_others, wait_for_view
 from clientbound import Change, Destroy, Equipment, HeadLook, Look, Place, PlayersCame, PlayersLeft
 from clientbound import Step, StepLook, Teleport
 from faults import BAD_FRAME
-from news import BENEATH, CHEST_STATE, DROP_ONE, DROP_STACK, FACES, FLAT_FEET, UP
+from news import BENEATH, CHEST_STATE, DROP_ONE, DROP_STACK, FACES, FLAT_FEET, TRIES, UP
 from news import at_face, drop, expect_sent, hand_news, item_news, log_in_two, player_news
-from news import settle
+from news import settle, until_between_ticks
 from others import PARTS, column_of_place
 from packs import CHEST, DIRT, STONE
 from play import forget_news
@@ -29,9 +29,6 @@ TURN = 360 / 256
 # first that it does not.
 LAST_EAST, FIRST_EAST = 16 * 3 * PARTS - 1, 16 * 3 * PARTS
 LAST_WEST, FIRST_WEST = -16 * 2 * PARTS, -16 * 2 * PARTS - 1
-
-# How often it is tried to leave and join again within a tick.
-TRIES = 20
 
 # Changes of a player, one after another in one column: how far it moves, how it looks then, and
 # what is told of it, where a jump is told by its place and look.
@@ -125,34 +122,49 @@ def saying(by, look, place, before):
 
 
 def moves_are_not_added_up(path):
-    """Moves between two ticks are told as one, from where the player was to where it is."""
+    """Moves between two ticks are told as one, from where the player was to where it is.
+
+    A server that adds up sends what one sends that has a tick between the moves, so that alone
+    shows nothing; but nothing parts moves that come in one write each time.
+    """
     x, y, z = FLAT_FEET
     there = x + 100, y, z
-    far = x + 200, y, z
     with Program(path) as program:
         anna, ben = log_in_two(program.port)
-        anna.send(move_to(there) + move_to(far))
-        in_two = [Step(1, (100, 0, 0))] * 2
-        remark = expect_either(anna, ben, [Teleport(1, far, 0, 0)], in_two)
-        anna.send(move_to(there, (9, 9)) + move_to(far, (0, 0)))
-        in_two = [StepLook(1, (-100, 0, 0), 9, 9), HeadLook(1, 9)]
-        in_two += [StepLook(1, (100, 0, 0), 0, 0), HeadLook(1, 0)]
-        expect_either(anna, ben, [], in_two)
+        jumps = until_between_ticks(lambda: jump_by_two_steps(anna, ben))
+        turns = until_between_ticks(lambda: walk_there_and_back(anna, ben))
         anna.send(move_to(FLAT_FEET) + protocol.look(*turn((1, 2))) + move_to(there))
         settle([anna, ben])
         other = ben.replica.others.seen[1]
         expect((other.place, other.look()) == (there, (1, 2)), f"{other}")
-        return remark
+        return f"at once the {jumps}. and {turns}. time"
+
+
+def jump_by_two_steps(anna, ben):
+    """Let Anna move twice by as much as a step can tell; answer whether one jump was told."""
+    x, y, z = ben.replica.others.seen[1].place
+    by = 100 if x == FLAT_FEET[0] else -100
+    far = x + 2 * by, y, z
+    anna.send(move_to((x + by, y, z)) + move_to(far))
+    return expect_either(anna, ben, [Teleport(1, far, 0, 0)], [Step(1, (by, 0, 0))] * 2)
+
+
+def walk_there_and_back(anna, ben):
+    """Let Anna go and turn, and then go and turn back; answer whether nothing was told."""
+    x, y, z = place = ben.replica.others.seen[1].place
+    anna.send(move_to((x - 100, y, z), (9, 9)) + move_to(place, (0, 0)))
+    there = [StepLook(1, (-100, 0, 0), 9, 9), HeadLook(1, 9)]
+    return expect_either(anna, ben, [], [*there, StepLook(1, (100, 0, 0), 0, 0), HeadLook(1, 0)])
 
 
 def expect_either(anna, ben, at_once, in_two):
-    """Find that Ben is sent one of two lists, and Anna nothing; say which."""
+    """Find that Ben is sent one of two lists, and Anna nothing; answer whether it is the first."""
     settle([anna, ben])
     sent = ben.news()
     expect(sent in (at_once, in_two), f"{sent} is sent, and {at_once} or {in_two} is due")
     expect(not anna.news(), f"{anna.news()} is sent of the own moves")
     forget_news([anna, ben])
-    return "in one tick" if sent == at_once else "in two ticks"
+    return sent == at_once
 
 
 def hands_are_seen(path):
@@ -201,7 +213,6 @@ def placements_are_seen_in_the_hand(path):
 
 def moves_and_hands_come_in_order(path):
     """The move of one player comes before its hand, and that before the next player's."""
-    to = (282, 128, 272)
     with Program(path) as program:
         anna, ben = log_in_two(program.port)
         cora = log_in(program.port, "Cora", [anna, ben])
@@ -210,18 +221,32 @@ def moves_and_hands_come_in_order(path):
         wait_for_others(everybody, ben, [1, 3])
         settle(everybody)
         forget_news(everybody)
-        anna.send(move_to(to, (3, 4)) + protocol.held(1))
-        ben.send(protocol.held(8) + protocol.look(*turn((5, 0))))
-        settle(everybody)
-        of_anna = [StepLook(1, (10, 0, 0), 3, 4), HeadLook(1, 3), Equipment(1, DIRT_PILE)]
-        of_ben = [Look(2, 5, 0), HeadLook(2, 5), Equipment(2, None)]
-        for client, due in ((anna, of_ben), (ben, of_anna), (cora, of_anna + of_ben)):
-            sent = client.news()
-            expect(sorted(map(repr, sent)) == sorted(map(repr, due)), f"{sent}, not {due}")
-        for due in (of_anna, of_ben):
-            sent = [packet for packet in cora.news() if packet.entity == due[0].entity]
-            expect(sent == due, f"{sent}, not {due}")
-        return "in one tick" if cora.news() == of_anna + of_ben else "in more than one tick"
+        tries = until_between_ticks(lambda: move_and_hold(anna, ben, cora))
+        return f"at once the {tries}. time"
+
+
+def move_and_hold(anna, ben, cora):
+    """Let Anna and Ben go, turn and hold something else; answer whether Cora saw it in one tick."""
+    seen = cora.replica.others.seen
+    x, y, z = seen[1].place
+    yaw = seen[1].yaw + 3
+    is_first = seen[1].stack == STONE_PILE
+    place, stack = (1, DIRT_PILE) if is_first else (0, STONE_PILE)
+    anna.send(move_to((x + 10, y, z), (yaw, 4)) + protocol.held(place))
+    ben.send(protocol.held(8 if is_first else 0) + protocol.look(*turn((yaw + 2, 0))))
+    settle([anna, ben, cora])
+    of_anna = [StepLook(1, (10, 0, 0), yaw, 4), HeadLook(1, yaw), Equipment(1, stack)]
+    held = Equipment(2, None if is_first else STONE_PILE)
+    of_ben = [Look(2, yaw + 2, 0), HeadLook(2, yaw + 2), held]
+    for client, due in ((anna, of_ben), (ben, of_anna), (cora, of_anna + of_ben)):
+        sent = client.news()
+        expect(sorted(map(repr, sent)) == sorted(map(repr, due)), f"{sent}, not {due}")
+    for due in (of_anna, of_ben):
+        sent = [packet for packet in cora.news() if packet.entity == due[0].entity]
+        expect(sent == due, f"{sent}, not {due}")
+    is_one = cora.news() == of_anna + of_ben
+    forget_news([anna, ben, cora])
+    return is_one
 
 
 def who_leaves_the_view_goes(path):
@@ -283,6 +308,7 @@ def views_and_players_move_at_once(path):
         anna, ben = log_in_two(program.port)
         x, y, z = LAST_WEST, FLAT_FEET[1], FLAT_FEET[2]
         walk(anna, ben, (x, y, z))
+        forget_news([anna, ben])
         for step in range(1, TRIES):
             x += 16 * PARTS
             anna.send(move_to((x, y, z)))
@@ -293,7 +319,8 @@ def views_and_players_move_at_once(path):
                 expect(shown == {number}, f"{shown} are seen of who walks along")
             expect(ben.replica.others.seen[1].place == (x, y, z), f"{ben.replica.others.seen}")
         kept = sum(type(packet) is Teleport for packet in ben.packets)
-        return f"{kept} of {TRIES} moves in one tick"
+        expect(kept > 0, f"never seen in one tick, of {TRIES - 1} times")
+        return f"{kept} of {TRIES - 1} moves in one tick"
 
 
 def who_leaves_the_game_goes(path):
@@ -335,6 +362,7 @@ def who_comes_back_at_once_is_another(path):
             expect(sent in (one, more), f"{sent} is sent, and {one} or {more} is due")
             at_once += sent == one
             before = number
+    expect(at_once > 0, f"never seen between two ticks, of {TRIES} times")
     return f"{at_once} of {TRIES} times between two ticks"
 
 

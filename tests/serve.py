@@ -2,24 +2,39 @@
 
 Each test starts `PROGRAM serve` on a free port, plays clients and ends the program. A line is
 printed for each, and at last how many passed; the status is 0 exactly where none failed. With names
-of tests it runs those alone.
+of tests it runs those alone; a name of none is refused, with the status 2.
+
+Most tests run one after another. Beside them, in processes of their own, run those that do nearly
+nothing but wait, most of them for half a minute or more, and those that need no server to be quick.
 """
 
 import sys
 import time
+from concurrent.futures import ProcessPoolExecutor
 
 import carrying
 import crowds
 import digging
 import endings
 import faults
+import floods
+import launcher
 import play
 import refusing
+import running
 import seeing
+import silence
+import system
 import talking
 
 TESTS = [*play.TESTS, *talking.TESTS, *digging.TESTS, *carrying.TESTS, *faults.TESTS]
-TESTS += [*refusing.TESTS, *seeing.TESTS, *crowds.TESTS, *endings.TESTS]
+TESTS += [*refusing.TESTS, *seeing.TESTS, *crowds.TESTS, *endings.TESTS, *system.TESTS]
+TESTS += [*floods.TESTS, *running.TESTS]
+LONG_TESTS = [*silence.LONG_TESTS, *talking.LONG_TESTS, *system.LONG_TESTS]
+
+# What runs beside the others, and how many of that at a time: more than are long.
+BESIDE = [*LONG_TESTS, *launcher.TESTS]
+PROCESSES = len(LONG_TESTS) + 2
 
 
 def run_test(test, path):
@@ -35,13 +50,30 @@ def run_test(test, path):
     return True
 
 
+def run_tests(path, tests, beside):
+    """Run tests one after another, and others beside them; count those that passed."""
+    with ProcessPoolExecutor(PROCESSES) as processes:
+        going = [processes.submit(run_test, test, path) for test in beside]
+        passed = sum(run_test(test, path) for test in tests)
+        return passed + sum(done.result() for done in going)
+
+
+def chosen(tests, names):
+    """Answer the tests of these names, or all where there are none."""
+    return [test for test in tests if not names or test.__name__ in names]
+
+
 def main(path, names):
     """Run the tests of these names, or all; answer the status of the script."""
-    chosen = [test for test in TESTS if not names or test.__name__ in names]
-    passed = sum(run_test(test, path) for test in chosen)
-    failed = len(chosen) - passed
+    unknown = set(names) - {test.__name__ for test in TESTS + BESIDE}
+    if unknown:
+        print(f"no test has the name {', '.join(sorted(unknown))}", file=sys.stderr)
+        return 2
+    tests, beside = chosen(TESTS, names), chosen(BESIDE, names)
+    passed = run_tests(path, tests, beside)
+    failed = len(tests) + len(beside) - passed
     print(f"{passed} passed, {failed} failed")
-    return 0 if chosen and failed == 0 else 1
+    return 0 if failed == 0 else 1
 
 
 if __name__ == "__main__":

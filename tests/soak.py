@@ -1,35 +1,32 @@
-"""Measures a running server: python3 tests/soak.py PROGRAM [MINUTES]
+"""Measures a running server: python3 tests/soak.py PROGRAM [MINUTES [flood]]
 
-One run of `PROGRAM serve` for 50 players is left alone, gets 50 idle players, has 49 of them walk
-for MINUTES (10) at a view of 6 while one watches the ticks, and then gets 10,000 connections one
-after another and as many status pings as it answers. Figures are printed as they come. It reads
-/proc, so it needs Linux; the status is 0 where nothing that came was wrong.
+With `flood` see flooded.py. Else one run of `PROGRAM serve` for 50 players is left alone, gets 50
+idle players, has 49 of them walk for MINUTES (10) at a view of 6 while one watches the ticks, and
+then gets 10,000 connections one after another and as many status pings as it answers. Figures are
+printed as they come. It reads /proc, so it needs Linux; the status is 0 where nothing that came was
+wrong.
 
 Most ticks send a client nothing of themselves; the one that watches has itself sent its place in
-each (see `Ticker` in client.py), in a process of its own, and notes when it reads that. All of them
-answer their beats.
+each (see `Ticker` in client.py and watching.py), in a process of its own, and notes when it reads
+that. All of them answer their beats.
 """
 
 import math
-import multiprocessing
-import os
 import selectors
 import socket
 import sys
 import time
 
+import flooded
 import protocol
 from client import (
     HOST,
     PATIENCE,
-    SMALLEST_VIEW,
     Client,
     Connection,
-    Ticker,
     Unexpected,
     expect,
     listen,
-    pump,
     wait_for_view,
 )
 from columns import column_at
@@ -37,6 +34,7 @@ from play import status_text
 from program import Program
 from protocol import Frames
 from terrain import Flat
+from watching import TickWatch
 
 PLAYERS = 50
 VIEW = 6
@@ -50,7 +48,6 @@ PING_SECONDS = 5
 
 LATE_TICK = 0.1
 MINUTES = 10.0
-LONGEST_SOAK = 86_400.0
 SETTLING_SECONDS = 2
 
 
@@ -109,33 +106,6 @@ class Pinger(Connection):
         self.came += data
 
 
-class Usage:
-    """What the system tells of a process in /proc."""
-
-    def __init__(self, number):
-        self.folder = f"/proc/{number}"
-
-    def seconds(self):
-        """Answer the processor time up to now, of the process and of the system for it."""
-        with open(f"{self.folder}/stat", encoding="ascii") as told:
-            fields = told.read().rpartition(")")[2].split()
-        return (int(fields[11]) + int(fields[12])) / os.sysconf("SC_CLK_TCK")
-
-    def resident(self):
-        """Answer the resident memory in MiB."""
-        with open(f"{self.folder}/status", encoding="ascii") as told:
-            lines = dict(line.split(":", 1) for line in told)
-        return int(lines["VmRSS"].split()[0]) / 1024
-
-    def descriptors(self):
-        """Answer how many descriptors are open."""
-        return len(os.listdir(f"{self.folder}/fd"))
-
-    def state(self):
-        """Write memory and descriptors down."""
-        return f"{self.resident():.1f} MiB resident, {self.descriptors()} descriptors"
-
-
 def say(text):
     """Print a figure at once."""
     print(text, flush=True)
@@ -179,34 +149,6 @@ def gaps_text(gaps):
     above = f"{late} times above {1000 * LATE_TICK:.0f} ms"
     usual = f"median {1000 * middle:.1f} ms, mean {1000 * mean:.1f} ms"
     return f"longest time between two {1000 * longest:.0f} ms, {above}, {usual}"
-
-
-def watch_ticks(port, pipe):
-    """Watch the ticks, in a process of its own, until it is asked when they came."""
-    with Ticker(port) as ticker:
-        ticker.begin_login("Ticker")
-        wait_for_view([ticker], ticker, column_at(8.5, 8.5), SMALLEST_VIEW)
-        pipe.send("in play")
-        pump([ticker], pipe.poll, LONGEST_SOAK)
-        pipe.send(ticker.ticks)
-
-
-class TickWatch:
-    """The process that watches the ticks."""
-
-    def __init__(self, port):
-        self.pipe, other = multiprocessing.Pipe()
-        self.process = multiprocessing.Process(target=watch_ticks, args=(port, other), daemon=True)
-        self.process.start()
-        expect(self.pipe.poll(PATIENCE) and self.pipe.recv() == "in play", "no ticks are seen")
-
-    def finish(self):
-        """Log the watcher out, and answer when it saw ticks."""
-        self.pipe.send("stop")
-        expect(self.pipe.poll(PATIENCE), "the ticks are not told")
-        ticks = self.pipe.recv()
-        self.process.join(PATIENCE)
-        return ticks
 
 
 def log_in_walkers(port, view=VIEW):
@@ -305,7 +247,7 @@ def next_ping(selector, pinger, port, due):
 def soak(path, minutes):
     """Measure one run of the program from idle to crowded."""
     with Program(path, players=PLAYERS, view=VIEW) as program:
-        port, usage = program.port, Usage(program.process.pid)
+        port, usage = program.port, program.usage
         phases = Phases(usage)
         phases.measure("nobody is connected", lambda: time.sleep(IDLE_SECONDS))
         soak_players(port, phases, minutes)
@@ -324,7 +266,7 @@ def soak_players(port, phases, minutes):
     phases.measure(f"{PLAYERS} stand still", lambda: listen(walkers, IDLE_SECONDS))
     phases.measure(f"{PLAYERS - 1} walk", lambda: walk(walkers, phases.usage, minutes))
     check_walkers(walkers, minutes)
-    phases.tell_ticks(watch.finish())
+    phases.tell_ticks(watch.finish().ticks)
     for walker in walkers:
         walker.close()
     time.sleep(SETTLING_SECONDS)
@@ -332,10 +274,13 @@ def soak_players(port, phases, minutes):
 
 def main():
     """Read the arguments and measure; answer the status of the script."""
-    if len(sys.argv) not in (2, 3):
+    path, *words = sys.argv[1:] or sys.exit(__doc__.splitlines()[0])
+    minutes = float(words[0]) if words else MINUTES
+    measure = {(): soak, ("flood",): flooded.soak}.get(tuple(words[1:]))
+    if measure is None:
         sys.exit(__doc__.splitlines()[0])
     try:
-        soak(sys.argv[1], float(sys.argv[2]) if len(sys.argv) == 3 else MINUTES)
+        measure(path, minutes)
     except (Unexpected, protocol.Malformed) as error:
         say(f"FAILED {error}")
         return 1

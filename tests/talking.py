@@ -4,14 +4,12 @@ Sources: wiki.vg, 'Protocol' ('Keep Alive', 'Time Update', 'Chat Message'), docs
 docs/WORLD.md ('Connections and events', 'A tick'). The words of a farewell are this server's own.
 """
 
-import re
-
 import protocol
-from client import PATIENCE, Client, ask_status, expect, expect_farewell, log_in, pump
+from client import PATIENCE, TICK, Client, ask_status, expect, expect_farewell, log_in, pump
 from client import wait_for_names
-from clientbound import Chat, KeepAlive, PlayersLeft, Time
+from clientbound import Chat, KeepAlive, PlayersCame, PlayersLeft, Time
 from faults import BAD_PACKET
-from news import BENEATH, UP, log_in_two
+from news import BENEATH, UP, log_in_two, settle
 from program import Program
 from replica import BEAT_TICKS, DAY_TICKS, SHOWN_TICKS
 
@@ -23,10 +21,10 @@ MISSED = 7
 # So many beats are more than twice as many.
 MANY_BEATS = 2 * MISSED + 1
 
-# Runs by turns, where ticks come as fast as clients fall silent: some thousands in a second, but on
-# a busy machine much less.
-TURNS = {"pace": "turns", "ticks": 1_000_000_000}
-TURNS_PATIENCE = 6 * PATIENCE
+# How long so many beats take, and how long until one is closed that leaves them.
+MANY_BEATS_PATIENCE = MANY_BEATS * BEAT_TICKS * TICK + PATIENCE
+MISSED_TICKS = (MISSED + 2) * BEAT_TICKS
+MISSED_PATIENCE = MISSED_TICKS * TICK + PATIENCE
 
 LONGEST_SAID = 100
 
@@ -64,25 +62,25 @@ class Slow(Client):
 
 def beats_are_told_and_answered(path):
     """Who answers in time and by any number stays, beat after beat."""
-    with Program(path, **TURNS) as program:
+    with Program(path) as program:
         clients = []
         for name, kind in (("Anna", Client), ("Odd", Odd), ("Slow", Slow)):
             clients.append(log_in(program.port, name, clients, kind))
         first = clients[-1].replica.beat
         last = first + MANY_BEATS
         were_told = lambda: all(client.replica.beat >= last or client.ended for client in clients)
-        pump(clients, were_told, TURNS_PATIENCE)
+        pump(clients, were_told, MANY_BEATS_PATIENCE)
         ends = [(client.replica.beat, client.replica.farewell) for client in clients]
         expect(all(beat >= last and not said for beat, said in ends), f"beats, farewells: {ends}")
 
 
 def silent_clients_are_closed(path):
     """Who leaves seven beats is closed at the eighth, and the others see it leave in that tick."""
-    with Program(path, **TURNS) as program:
+    with Program(path, ticks=MISSED_TICKS) as program:
         wanda = log_in(program.port, "Wanda")
         mute = log_in(program.port, "Mute", [wanda], Mute)
         mute.send(protocol.chat("I am here") + protocol.held(1))
-        pump([mute, wanda], lambda: mute.ended, TURNS_PATIENCE)
+        pump([mute, wanda], lambda: mute.ended, MISSED_PATIENCE)
         expect_farewell(mute, NO_ANSWER, [wanda])
         told = [packet.number for packet in mute.packets if type(packet) is KeepAlive]
         expect(len(told) == MISSED, f"closed after the beats {told}")
@@ -93,10 +91,9 @@ def silent_clients_are_closed(path):
         before = wanda.packets[at - 2 : at]
         due = [KeepAlive(told[-1] + 1), Time(end, end % DAY_TICKS)]
         expect(before == due, f"Mute leaves behind {before}, not {due}")
-        wanda.close()
-        status, output, _ = program.finish()
-    line = re.fullmatch(r"ticks=\d+ joins=2 closed=1\n", output)
-    expect(status == 0 and line is not None, f"it ends with {status}: {output!r}")
+        pump([wanda], lambda: wanda.ended, MISSED_PATIENCE)
+        ended = program.finish()
+    expect(ended[:2] == (0, f"ticks={MISSED_TICKS} joins=2 closed=1\n"), f"it ends with {ended}")
 
 
 def texts_are_heard_by_all(path):
@@ -143,9 +140,12 @@ def long_texts_close(path):
 def late_comers_hear_what_follows(path):
     """Who enters behind a text does not hear it, also where both lie between two ticks."""
     said = []
+    at_once = 0
     with Program(path) as program:
         anna = log_in(program.port, "Anna")
         for number in range(LATE_COMERS):
+            settle([anna])
+            anna.forget_news()
             anna.send(protocol.chat(f"before {number}"))
             said.append(f"<Anna> before {number}")
             # Once a status is told, that text was read before anything that is sent from now on.
@@ -156,12 +156,18 @@ def late_comers_hear_what_follows(path):
             late.close()
             said.append(f"<Late_{number}> bye")
             expect_heard([anna], said)
+            # What is said comes last in a tick.
+            kinds = [type(packet) for packet in anna.packets]
+            at_once += kinds.index(PlayersCame) < kinds.index(Chat)
+    expect(at_once > 0, f"never between two ticks, of {LATE_COMERS} times")
+    return f"{at_once} of {LATE_COMERS} times between two ticks"
 
 
 TESTS = [
-    beats_are_told_and_answered,
-    silent_clients_are_closed,
     texts_are_heard_by_all,
     long_texts_close,
     late_comers_hear_what_follows,
 ]
+
+# These wait for beats, of which one comes in five seconds.
+LONG_TESTS = [beats_are_told_and_answered, silent_clients_are_closed]

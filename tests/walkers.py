@@ -8,28 +8,18 @@ server. It reads /proc, so it needs Linux; the status is 0 where nothing that ca
 The ticks are watched by one player more in each run, as in soak.py.
 """
 
-import math
 import sys
 import time
 
 import protocol
 from client import SMALLEST_VIEW, TICK, Unexpected, expect, listen, log_in, pump, wait_for_others
 from digging import MOST_ITEMS, dig_until_full
+from flooded import circle_step
 from program import Program
-from soak import PLAYERS, Phases, TickWatch, Usage, log_in_walkers, say, walk_together
+from soak import PLAYERS, Phases, log_in_walkers, say, walk_together
+from watching import TickWatch
 
 TICKS = 400
-
-# How large the circles are, in blocks, and how long a walker takes for one, in seconds.
-RADIUS = 6.0
-ROUND = 9.0
-
-
-def circle_step(number, seconds):
-    """Say where a walker is that goes round in the first column, and how it looks then."""
-    part = seconds / ROUND + number / PLAYERS
-    x, z = (RADIUS * side(2 * math.pi * part) for side in (math.cos, math.sin))
-    return protocol.position_look(8.0 + x, 4.0, 8.0 + z, 360.0 * (part % 1.0), 0.0)
 
 
 def walk_in_circles(walkers, steps):
@@ -47,7 +37,7 @@ def measure_sent(what, phases, clients, action):
 
 def finish(what, phases, watch, clients, sent):
     """Say how ticks came, and how many bytes a tick each client was sent in one of the phases."""
-    ticks = watch.finish()
+    ticks = watch.finish().ticks
     phases.tell_ticks(ticks)
     count = max(1, len(phases.ticks_of(what, ticks)))
     mean, most = sum(sent) / len(sent) / count, max(sent) / count
@@ -60,7 +50,7 @@ def finish(what, phases, watch, clients, sent):
 def measure_players(path, steps):
     """Measure a server whose players all walk in the view of each other."""
     with Program(path, players=PLAYERS, view=SMALLEST_VIEW) as program:
-        phases = Phases(Usage(program.process.pid))
+        phases = Phases(program.usage)
         watch = TickWatch(program.port)
         logging_in = lambda: log_in_walkers(program.port, SMALLEST_VIEW)
         walkers = phases.measure(f"{PLAYERS - 1} more log in", logging_in)
@@ -74,7 +64,7 @@ def measure_players(path, steps):
 def measure_items(path, steps):
     """Measure a server where as many items lie in the view of idle players as may."""
     with Program(path, players=PLAYERS, view=SMALLEST_VIEW) as program:
-        phases = Phases(Usage(program.process.pid))
+        phases = Phases(program.usage)
         watch = TickWatch(program.port)
         anna = log_in(program.port, "Anna")
         phases.measure(f"{MOST_ITEMS} cells are dug", lambda: dig_until_full(anna))
