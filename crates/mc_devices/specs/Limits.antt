@@ -1,7 +1,7 @@
 -- How long a client is waited for, and how much of it is taken. Times are in milliseconds (rules of
 -- this project).
 use Rattle.std.specs.Prelude.{◌≡◌, ℕ, ◌+◌, ◌-◌, ◌*◌, ◌≤◌, ◌⊎◌, min, Bool, if◌then◌else◌, Option, Some, ℤ, pos}
-use Rattle.mc_devices.specs.declared.sockets.limits.TheConstants.{UNASKED_MAX, UNHEARD_MAX, STALL_MAX, STALL_PAUSE, ALLOWANCE_MAX, ALLOWANCE_TICK, ALLOWANCE_STALLED, STEP_MAX}
+use Rattle.mc_devices.specs.declared.sockets.limits.TheConstants.{UNASKED_MAX, UNHEARD_MAX, STALL_MAX, STALL_PAUSE, ALLOWANCE_MAX, ALLOWANCE_TICK, ALLOWANCE_STALLED, STEP_MAX, READ_MAX}
 
 -- nothing was to be written to a connection, or it sent nothing, for too long
 abbrev pub IsSilent : ℕ → ℕ → ℕ → Type 0
@@ -27,6 +27,10 @@ first_allowance = ALLOWANCE_MAX
 abbrev pub next_allowance : Bool → ℕ → ℕ
 next_allowance is_stalled bytes =
     min (bytes + (if is_stalled then ALLOWANCE_STALLED else ALLOWANCE_TICK)) ALLOWANCE_MAX
+
+-- how many bytes are read in a turn at most, where so many may be sent
+abbrev pub read_limit : ℕ → ℕ
+read_limit allowed = min allowed READ_MAX
 
 -- the errors of Linux that say that a process (EMFILE) or the system (ENFILE) has no descriptor left
 abbrev pub IsNoDescriptor : Option ℤ → Type 0

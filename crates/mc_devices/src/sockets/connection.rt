@@ -1,9 +1,11 @@
 ghost use Rattle.std.specs.Prelude.{◌≡◌, ℕ, ◌≤◌, List, length, min, IfSome};
 ghost use Rattle.mc_wire.specs.LobbyAnswers.{IsInBuffer, IsInPiece, RaisesLeast};
 ghost use Rattle.mc_wire.specs.declared.answers.Pace.TheVariants as paces;
+ghost use Rattle.mc_devices.specs.Limits.{read_limit};
 
 use super::allowance::Allowance;
 use super::contact::Contact;
+use super::limits::READ_MAX;
 use super::stall::Stall;
 use mc_wire::{Event, Pace, Wrote};
 use mio::net::TcpStream;
@@ -123,14 +125,15 @@ impl Connection {
     }
 }
 
-/// How many bytes are read at most into a buffer of a size: by the clock no more than are allowed.
+/// How many bytes are read at most into a buffer of a size: by the clock no more than are allowed,
+/// and no more than in any turn.
 fn read_max(pace: Pace, allowed: usize, size: usize) -> usize
-    ensures clock { pace ≡ paces.Clock → result ≡ min allowed size }
+    ensures clock { pace ≡ paces.Clock → result ≡ min (read_limit allowed) size }
     ensures turns { pace ≡ paces.Turns → result ≡ size }
     ensures within { result ≤ size }
 {
     match pace {
-        Pace::Clock => allowed.min(size),
+        Pace::Clock => allowed.min(READ_MAX).min(size),
         Pace::Turns => size,
     }
 }

@@ -13,6 +13,9 @@ pub const STALL_MAX: u64 = 30_000;
 /// How long a connection that took nothing is left alone before it is written to again.
 pub const STALL_PAUSE: u64 = 5;
 
+/// How many bytes are read from a connection in a turn.
+pub const READ_MAX: usize = 2_048;
+
 /// How many bytes a connection may send at once.
 pub const ALLOWANCE_MAX: usize = 16_384;
 
