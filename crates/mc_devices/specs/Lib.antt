@@ -1,2 +1,3 @@
 pub mod Edge
+pub mod Limits
 pub mod Sockets

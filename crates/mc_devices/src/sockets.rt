@@ -1,11 +1,16 @@
-ghost use Rattle.std.specs.Prelude.{◌≡◌, ◌<◌, true, false, length};
+ghost use Rattle.std.specs.Prelude.{◌≡◌, ◌<◌, true, false, length, is_some};
 ghost use Rattle.mc_wire.specs.LobbyCounts.{no_counts};
 
+mod allowance;
 mod connection;
+mod contact;
+mod limits;
 mod lingering;
 mod listening;
 mod rounds;
+mod stall;
 mod ticker;
+mod watch;
 
 use listening::Listening;
 use mc_wire::{Event, Failed, Lobby, Pace, Wrote};
@@ -60,6 +65,18 @@ impl<'r, R: AllocGlobal> SocketLobby<'r, R> {
     }
 }
 
+impl<'r, R> SocketLobby<'r, R> {
+    /// The port on which it listens, if it does.
+    pub fn port(&self) -> Option<u16>
+        ensures { is_some result ≡ self.now.listens }
+    {
+        match &self.listening {
+            Some(listening) => Some(listening.port),
+            None => None,
+        }
+    }
+}
+
 impl<'r, R: Net + Clock + Eprint> Lobby for SocketLobby<'r, R> {
     ghost use Rattle.std.specs.Prelude.{None};
 
@@ -78,8 +95,8 @@ impl<'r, R: Net + Clock + Eprint> Lobby for SocketLobby<'r, R> {
     fn listen(&mut self, port: u16) -> Result<(), Failed> {
         match Listening::new(self.rt, port) {
             Ok(listening) => {
+                let _ = eprintln!(self.rt; "listening on 127.0.0.1:{}", listening.port);
                 self.listening = Some(listening);
-                let _ = eprintln!(self.rt; "listening on 127.0.0.1:{port}");
                 Ok(())
             }
             Err(error) => {

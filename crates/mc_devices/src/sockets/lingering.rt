@@ -1,14 +1,9 @@
 use super::connection::is_passing;
+use super::limits::{LINGERING_MAX, LINGERING_TICKS};
 use mio::net::TcpStream;
 use std::alloc::{AllocError, Global};
 use std::io::Read;
 use std::net::Shutdown;
-
-/// How many connections linger at most.
-const LIMIT: usize = 64;
-
-/// How many ticks a connection lingers at most.
-const TICKS: u64 = 20;
 
 /// The connections that were closed and whose peers have not ended, the oldest first. To drop a
 /// connection while bytes wait to be read resets it, and a reset may destroy what the peer has yet
@@ -39,16 +34,22 @@ impl Lingering {
 
     /// Makes room for as many as may ever linger.
     pub fn reserve(&mut self) -> Result<(), AllocError> {
-        self.closed.reserve(LIMIT.saturating_sub(self.closed.len()))
+        self.closed
+            .reserve(LINGERING_MAX.saturating_sub(self.closed.len()))
+    }
+
+    /// Says whether none lingers.
+    pub fn is_empty(&self) -> bool {
+        self.closed.is_empty()
     }
 
     /// Shuts down the writing side of a connection, and lets it linger.
     pub fn add(&mut self, stream: TcpStream) {
         let _ = stream.shutdown(Shutdown::Write);
-        if self.closed.len() >= LIMIT {
+        if self.closed.len() >= LINGERING_MAX {
             self.closed.remove(0);
         }
-        let until = self.ticks.saturating_add(TICKS);
+        let until = self.ticks.saturating_add(LINGERING_TICKS);
         let _ = self.closed.push(Closed { stream, until });
     }
 

@@ -2,23 +2,20 @@ ghost use Rattle.std.specs.Prelude.{◌≡◌, ℕ, ◌<◌, List, length, IfOk,
 ghost use Rattle.mc_wire.specs.LobbyAnswers.{IsInBuffer, IsInPiece, RaisesLeast};
 
 use super::connection::Connection;
+use super::limits::QUIET_ROUNDS;
 use super::lingering::Lingering;
 use super::listening::Listening;
 use super::ticker::Ticker;
+use super::watch::Watch;
 use mc_wire::{Event, Pace, Wrote};
 use mio::net::TcpStream;
 use std::alloc::Global;
 use std::marker::Model;
 use std::time::Clock;
 
-/// After how many rounds in turn that brought nothing a tick comes by turns.
-const TURNS: u64 = 64;
-
 /// Whose turn it is to be asked.
 #[derive(Clone, Copy)]
 enum Turn {
-    /// The clock's.
-    Clock,
     /// The listener's.
     Listening,
     /// That of the first connection with this number or a greater one.
@@ -27,17 +24,22 @@ enum Turn {
     Lingering(usize),
 }
 
-/// The rounds in which the clock, the listener and each connection are asked in turn what there is.
-/// Who was asked last is asked again only when all others were, so that nobody who always has
-/// something to say keeps another from being heard. The numbers of the connections rise.
+/// The rounds in which the listener and each connection are asked in turn what there is. Who was
+/// asked last is asked again only when all others were, so that nobody who always has something to
+/// say keeps another from being heard. The clock is looked at before each round and after each of
+/// them that brought something, so a tick is late by one of these at most. The numbers of the
+/// connections rise.
 #[derive(Drop)]
 pub struct Rounds {
     pace: Pace,
+    watch: Watch,
     ticker: Ticker,
     connections: Vec<Connection>,
     lingering: Lingering,
     least: u64,
     turn: Turn,
+    /// Whether the clock is looked at before the next one is asked.
+    is_clock_next: bool,
     /// Whether this round has brought nothing so far.
     is_quiet: bool,
     /// How many rounds brought nothing since something came.
@@ -60,11 +62,13 @@ impl Rounds {
     {
         Rounds {
             pace: Pace::Clock,
+            watch: Watch::new(),
             ticker: Ticker::new(),
             connections: Vec::new(alloc),
             lingering: Lingering::new(alloc),
             least: 0,
-            turn: Turn::Clock,
+            turn: Turn::Listening,
+            is_clock_next: true,
             is_quiet: true,
             quiet_rounds: 0,
         }
@@ -92,13 +96,15 @@ impl Rounds {
             if let Some(event) = self.ask(clock, listening, buf) {
                 self.is_quiet = false;
                 self.quiet_rounds = 0;
+                self.is_clock_next = event != Event::Tick;
                 return Some(event);
             }
         }
         None
     }
 
-    /// Asks the one whose turn it is, and passes the turn on.
+    /// Looks at the clock where that is next, or asks the one whose turn it is and passes the turn
+    /// on.
     fn ask(
         &mut self,
         clock: &impl Clock,
@@ -109,11 +115,11 @@ impl Rounds {
         ensures raises { IfSome result (λ event. RaisesLeast event self.old self.new) }
         ensures none { IfNone result (self.new ≡ self.old) }
     {
+        if self.is_clock_next {
+            self.is_clock_next = false;
+            return self.tick(clock);
+        }
         match self.turn {
-            Turn::Clock => {
-                self.turn = Turn::Listening;
-                self.tick(clock)
-            }
             Turn::Listening => {
                 self.turn = Turn::Connection(0);
                 self.join(listening.accept()?)
@@ -138,14 +144,16 @@ impl Rounds {
         if self.is_over() {
             return Some(Event::End);
         }
+        let now = self.watch.look(clock);
         let comes = match self.pace {
-            Pace::Clock => self.ticker.ask(clock),
-            Pace::Turns => self.least > 0 && self.quiet_rounds >= TURNS,
+            Pace::Clock => self.ticker.ask(now),
+            Pace::Turns => self.least > 0 && self.quiet_rounds >= QUIET_ROUNDS,
         };
         if !comes {
             return None;
         }
         self.lingering.tick();
+        tick_all(&mut self.connections);
         Some(Event::Tick)
     }
 
@@ -166,11 +174,7 @@ impl Rounds {
     {
         let number = u32::try_from(self.least).ok()?;
         self.lingering.reserve().ok()?;
-        let connection = Connection {
-            number,
-            stream,
-            is_gone: false,
-        };
+        let connection = Connection::new(number, stream, self.watch.awake());
         self.connections.push(connection).ok()?;
         self.least = u64::from(number) + 1;
         Some(Event::Join(number))
@@ -182,13 +186,14 @@ impl Rounds {
         ensures raises { IfSome result (λ event. RaisesLeast event self.old self.new) }
         ensures least { self.new ≡ self.old }
     {
+        let now = self.watch.awake();
         let place = place_of(&self.connections, number).unwrap_or_else(|place| place);
         let Some(connection) = self.connections.get_mut(place) else {
             self.turn = Turn::Lingering(0);
             return None;
         };
         self.turn = Turn::Connection(u64::from(connection.number).saturating_add(1));
-        connection.read(buf)
+        connection.read(buf, self.pace, now)
     }
 
     /// Begins the next round. By the clock it sleeps first where this one brought nothing.
@@ -198,11 +203,14 @@ impl Rounds {
         if self.is_quiet {
             self.quiet_rounds = self.quiet_rounds.saturating_add(1);
             if self.pace == Pace::Clock {
-                self.ticker.sleep(clock);
+                let is_alone = self.connections.is_empty() && self.lingering.is_empty();
+                self.ticker.sleep(clock, is_alone);
             }
         }
+        self.ticker.count_round();
         self.is_quiet = true;
-        self.turn = Turn::Clock;
+        self.is_clock_next = true;
+        self.turn = Turn::Listening;
     }
 
     /// Writes some first part of a piece to a connection.
@@ -210,22 +218,30 @@ impl Rounds {
         ensures within { IsInPiece result (length piece.now) }
         ensures least { self.new ≡ self.old }
     {
+        let now = self.watch.awake();
         match place_of(&self.connections, u64::from(k)) {
-            Ok(place) => self.connections[place].write(piece),
+            Ok(place) => self.connections[place].write(piece, now),
             Err(_) => Wrote::Broken,
         }
     }
 
-    /// Closes a connection. It lingers, unless its peer is gone.
+    /// Closes a connection. It lingers, unless its peer is gone or it is broken.
     pub fn close(&mut self, k: u32)
         ensures { self.new ≡ self.old }
     {
         if let Ok(place) = place_of(&self.connections, u64::from(k)) {
             let connection = self.connections.remove(place);
-            if !connection.is_gone {
+            if !connection.is_over {
                 self.lingering.add(connection.stream);
             }
         }
+    }
+}
+
+/// Notes in all connections that a tick came.
+fn tick_all(connections: &mut [Connection]) {
+    for connection in connections {
+        connection.tick();
     }
 }
 

@@ -1,20 +1,8 @@
+use super::limits::{SLEEP_MAX, TICK_PERIOD, TICK_ROUNDS, TICKS_LATE};
 use std::thread;
 use std::time::{Clock, Duration, Instant};
 
-/// How many milliseconds there are from a tick to the next.
-const PERIOD: u64 = 50;
-
-/// How many periods late a tick may be; ticks that are later are left out for good, so that five at
-/// most come at once.
-const LATE: u64 = 4;
-
-/// How many milliseconds a sleep takes at most.
-const SLEEP: u64 = 4;
-
-/// After how many rounds since the last one a tick comes whatever the clock says.
-const ROUNDS: u64 = 50_000_000;
-
-/// When ticks come by a clock. It is asked once in each round.
+/// When ticks come by a clock.
 #[derive(Drop)]
 pub struct Ticker {
     due: Option<Instant>,
@@ -32,10 +20,14 @@ impl Ticker {
         }
     }
 
-    /// Says whether a tick comes.
-    pub fn ask(&mut self, clock: &impl Clock) -> bool {
+    /// Notes that a round ended.
+    pub fn count_round(&mut self) {
         self.rounds = self.rounds.saturating_add(1);
-        if !self.is_due(clock) && self.rounds < ROUNDS {
+    }
+
+    /// Says whether a tick comes, by what the clock shows, where it can be read.
+    pub fn ask(&mut self, now: Option<Instant>) -> bool {
+        if !self.is_due(now) && self.rounds < TICK_ROUNDS {
             return false;
         }
         self.rounds = 0;
@@ -43,11 +35,11 @@ impl Ticker {
     }
 
     /// Says whether a tick is due by the clock, and sets when the next one is.
-    fn is_due(&mut self, clock: &impl Clock) -> bool {
-        let Ok(now) = Instant::now(clock) else {
+    fn is_due(&mut self, now: Option<Instant>) -> bool {
+        let Some(now) = now else {
             return false;
         };
-        let period = Duration::from_millis(PERIOD);
+        let period = Duration::from_millis(TICK_PERIOD);
         let Some(due) = self.due else {
             self.due = now.checked_add(period);
             return false;
@@ -57,16 +49,17 @@ impl Ticker {
         }
         let late = now
             .duration_since(due)
-            .min(Duration::from_millis(LATE * PERIOD));
+            .min(Duration::from_millis(TICKS_LATE * TICK_PERIOD));
         self.due = now
             .checked_sub(late)
             .and_then(|due| due.checked_add(period));
         true
     }
 
-    /// Sleeps until the next tick is due, or for as long as a sleep may take. Where the clock can't
-    /// be read or stands still there is no sleep, since the rounds count then.
-    pub fn sleep(&mut self, clock: &impl Clock) {
+    /// Sleeps until the next tick is due, or, where somebody is there, for as long as a sleep may
+    /// take. Where the clock can't be read or stands still there is no sleep, since the rounds
+    /// count then.
+    pub fn sleep(&mut self, clock: &impl Clock, is_alone: bool) {
         let Some(due) = self.due else {
             return;
         };
@@ -75,8 +68,16 @@ impl Ticker {
         };
         if self.slept != Some(now) {
             self.slept = Some(now);
-            let left = due.duration_since(now);
-            thread::sleep(clock, left.min(Duration::from_millis(SLEEP)));
+            thread::sleep(clock, nap(due.duration_since(now), is_alone));
         }
+    }
+}
+
+/// How long to sleep where the next tick is due after a time.
+fn nap(left: Duration, is_alone: bool) -> Duration {
+    if is_alone {
+        left
+    } else {
+        left.min(Duration::from_millis(SLEEP_MAX))
     }
 }
