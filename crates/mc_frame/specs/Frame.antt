@@ -1,6 +1,6 @@
 -- Frames, of the page 'Protocol' of wiki.vg for protocol 47, before compression is set: the VarInt
 -- of the length, of three bytes at most, and that many bytes, one at least.
-use Rattle.std.specs.Prelude.{◌≡◌, ℕ, ◌^◌, ◌<◌, Bool, true, false, List, ◌++◌, length}
+use Rattle.std.specs.Prelude.{◌≡◌, ℕ, ◌^◌, ◌<◌, List, ◌++◌, length}
 use Rattle.std.specs.Prelude.{nat_lt, Err, if◌then◌else◌}
 use lib.IntN.{ℤ, pos, negsuc}
 use Rattle.mc_bytes.specs.declared.fault.Kind.TheVariants.{BadLength}

@@ -6,7 +6,7 @@ use Rattle.std.proofs.Common.{sym, subst, ap, ◌∙◌, arith, append_assoc, lt
 use Rattle.std.proofs.lemmas.List.{length-append}
 use lib.IntN.{ℤ, pos, negsuc}
 use Rattle.mc_bytes.specs.declared.fault.Kind.TheVariants.{BadLength}
-use Rattle.mc_bytes.specs.Reading.{Field, IsBytes, ◌>>=◌, stop_at}
+use Rattle.mc_bytes.specs.Reading.{IsBytes, stop_at}
 use Rattle.mc_bytes.specs.Format.{IsFound, IsOnly, IsBounded, Anything}
 use Rattle.mc_bytes.specs.CombineLaws.{bind_ok, joined, joined_length}
 use Rattle.mc_bytes.specs.NumberBytes.{octets_read}

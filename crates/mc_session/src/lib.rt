@@ -6,6 +6,7 @@
 #![tactic(auto)]
 
 mod identity;
+mod kept_status;
 mod reply;
 mod session;
 mod silence;

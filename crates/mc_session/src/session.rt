@@ -11,6 +11,7 @@ ghost use Rattle.mc_model.specs.Talk.{accepted, refused, farewell};
 ghost use Rattle.mc_session.specs.State.{new_state};
 ghost use Rattle.mc_session.specs.Answers.{step_of, next_of};
 
+use crate::kept_status::{KeptStatus, status_frame};
 use crate::{Step, reply};
 use mc_bytes::{NoMemory, Octets};
 use mc_model::{Cause, Name, Refusal, Stage};
@@ -25,6 +26,8 @@ use std::marker::Model;
 pub struct Session {
     stage: Stage,
     protocol: i32,
+    /// The frame of the status that its client was sent last.
+    status: Option<KeptStatus>,
 }
 
 impl Model for Session {
@@ -54,6 +57,7 @@ impl Session {
         Session {
             stage: Stage::Hand,
             protocol: 0,
+            status: None,
         }
     }
 
@@ -126,7 +130,10 @@ impl Session {
         ensures err { OnErr result (self.new ≡ self.old) }
     {
         match read_status_up(frame) {
-            Ok(StatusUp::Request) => Ok(Step::Reply(reply::response(alloc, max, online)?)),
+            Ok(StatusUp::Request) => {
+                let frame = status_frame(&mut self.status, alloc, max, online)?;
+                Ok(Step::Reply(frame))
+            }
             Ok(StatusUp::Ping(number)) => {
                 let pong = reply::pong(alloc, number)?;
                 self.stage = Stage::Closed;

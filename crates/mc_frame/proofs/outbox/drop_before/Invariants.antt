@@ -1,13 +1,12 @@
-use Rattle.std.proofs.Common.{◌≡◌, ◌≤◌, length, drop}
-use Rattle.mc_frame.specs.Kept.{joined, ArePieces}
+use Rattle.std.proofs.Common.{◌≡◌, List, ℕ, length, drop}
+use Rattle.mc_frame.specs.Kept.{kept_bytes, ArePieces}
 use Rattle.mc_frame.proofs.outbox.drop_before.Given as goal
 
 abbrev pub invariant-loop-first : goal.invariant-loop-first
 invariant-loop-first l = record {
   pieces_fit : ArePieces l.pieces.items;
-  within : l.at ≤ length (joined l.pieces.items);
-  rest : drop l.at (joined l.pieces.items) ≡ drop l.fn.place (joined l.fn.pieces.items);
-  down : l.at ≤ l.fn.place;
+  rest : (small : List ℕ) → drop l.at (kept_bytes l.pieces.items small)
+      ≡ drop l.fn.place (kept_bytes l.fn.pieces.items small);
 }
 
 abbrev pub decreases-loop-first : goal.decreases-loop-first
