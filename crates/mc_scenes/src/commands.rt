@@ -156,6 +156,7 @@ fn put_long(line: &[u8], answer: &mut Answer) {
 
 /// What stands before the digits of a line, and the bytes that the digits are.
 fn sent_of(alloc: Global, line: &[u8]) -> Option<(&[u8], Vec<u8>)> {
+    // Dear to prove, for five exits.
     let at = line.iter().rposition(|byte| *byte == b' ')?;
     let (front, digits) = line.split_at_checked(at)?;
     let digits = digits.strip_prefix(b" ".as_slice())?;

@@ -172,6 +172,7 @@ fn step(scene: &mut Scene, words: &mut Words<'_>, answer: &mut Answer) {
 
 /// Answers a call.
 fn answer_call(call: Call, scene: &mut Scene, words: &mut Words<'_>, answer: &mut Answer) {
+    // Dear to prove, for twenty arms over a scene that is lent.
     match call {
         Call::Enter => enter(&mut scene.guests, words, answer),
         Call::Settle => settle(scene, answer),

@@ -85,6 +85,7 @@ fn call_of(name: &str) -> Option<Call> {
 
 /// Answers a call.
 fn answer_call(call: Call, words: &mut Words<'_>, answer: &mut Answer) {
+    // Dear to prove, for an arm for each of twenty calls.
     match call {
         Call::Run => commands::run_steady(words, answer),
         Call::Failing => commands::run_failing(words, answer),

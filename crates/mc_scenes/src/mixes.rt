@@ -40,6 +40,7 @@ impl Display for Tally {
 /// The script of two clients whose names come a byte at a time: the next bit of the pattern, the
 /// lowest first, is 1 where the next byte is the second client's.
 fn script_of(alloc: Global, pair: &Pair<'_>, pattern: u32) -> Option<String> {
+    // Dear to prove, for exits from a loop over two iterators.
     let hello = pair.hello;
     let mut script = String::new(alloc);
     write!(script, "join 0\njoin 1\nbytes 0 {hello}\nbytes 1 {hello}\n").ok()?;
@@ -64,6 +65,7 @@ fn put_byte(k: u32, byte: &u8, script: &mut String) -> Option<()> {
 
 /// What `replay` writes of a script.
 fn replayed(alloc: Global, script: String) -> Option<Vec<u8>> {
+    // Dear to prove, for exits with a lobby, a source and a sink that are owned.
     let mut line = Vec::new(alloc);
     line.push(String::from_str(alloc, "replay").ok()?).ok()?;
     let mut lobby = SteadyLobby::new(alloc, Vec::new(alloc))?;

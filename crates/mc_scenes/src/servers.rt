@@ -103,6 +103,7 @@ fn step(server: &mut Server, words: &mut Words<'_>, answer: &mut Answer) {
 
 /// Answers a call.
 fn answer_call(call: Call, server: &mut Server, words: &mut Words<'_>, answer: &mut Answer) {
+    // Dear to prove, for fourteen arms over a server that is lent.
     match call {
         Call::Join => answer.needs(server.event(Input::Join(words.number()))),
         Call::Crowd => answer.needs(crowd(words, server)),

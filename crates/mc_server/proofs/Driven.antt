@@ -8,7 +8,7 @@ use Rattle.std.specs.Ordering.{nat_cmp}
 use Rattle.mc_wire.specs.declared.log.LogEntry.{LogEntry}
 use Rattle.mc_wire.specs.declared.log.LogEntry.TheVariants as entries
 use Rattle.mc_wire.specs.LobbyTold.{LobbyTold, with_entries, with_port}
-use Rattle.mc_wire.specs.Becoming.{Logs, ToldBecomes}
+use Rattle.mc_wire.specs.Becoming.{HasLogged, Logs, ToldBecomes}
 use Rattle.mc_wire.proofs.LobbyCalls.{Logs-refl, Logs-trans, ToldBecomes-same, ToldBecomes-trans}
 use Rattle.mc_wire.proofs.LobbyCalls.{with_entries-nil}
 use Rattle.mc_model.specs.Log.{events_in, log_of, logged}
@@ -27,7 +27,7 @@ use Rattle.mc_server.specs.declared.service.Ended.TheVariants as ends
 use Rattle.mc_server.specs.declared.service.DriveFault.{DriveFault}
 use Rattle.mc_server.specs.declared.service.DriveFault.TheVariants.{Listen, Next, Events, NoMemory}
 use Rattle.mc_server.specs.Drives.{Drove, Ends, IsTally, IsWithin, is_join, is_tick, one_if}
-use Rattle.mc_server.specs.Drives.{joins_in, ours_in, ticks_in}
+use Rattle.mc_server.specs.Drives.{done_log, joins_in, ours_in, ticks_in}
 use Rattle.mc_server.specs.TurnParts.{Adds, HasTurned}
 use Rattle.mc_server.proofs.Few.{few_log, one_at_most, ours_few}
 use Rattle.mc_server.proofs.LogFacts.{adds_more, log_of_more, ours_append, ticks_more, turns_more}
@@ -158,8 +158,8 @@ module _ (budget : Budget) (old new : Option LobbyTold) (w : World) (server : Se
     turns = d.turns;
     last = last;
     told = adds.told;
-    stands = adds.stands;
-    age = sym d.ticks;
+    stands = λ _. adds.stands;
+    age = λ _. sym d.ticks;
     are_turns = d.are_turns;
     ends = ends;
   }
@@ -190,6 +190,20 @@ module _ (budget : Budget) (old new : Option LobbyTold) (w : World) (server : Se
       Drove (λ (told : LobbyTold). told) budget old after w server (Err Next)
   drove_failed after same young more =
       rw same (drove_so new [] (Err Next) adds_all (still_within young more, refl))
+
+  -- memory ran out in a turn, in which the lobby told this
+  pub drove_out : (after : Option LobbyTold) (left : ServerValue) → HasLogged new after →
+      age_of server < budget.ticks → events < budget.events →
+      Drove (λ (told : LobbyTold). told) budget old after w left (Err NoMemory)
+  drove_out after left more young less = record {
+    turns = d.turns;
+    last = more.0;
+    told = Logs-trans old new after (log_of d.turns) more.0 d.adds.told more.1;
+    stands = λ works. absurd (works refl);
+    age = λ works. absurd (works refl);
+    are_turns = d.are_turns;
+    ends = still_within young less;
+  }
 
   -- the lobby ended
   pub drove_ended : (after : Option LobbyTold) (t : Tally) → Logs new after (entries.Ended ∷ []) →
@@ -240,18 +254,34 @@ pub drove_deaf : (budget : Budget) (old new : Option LobbyTold) (w : World)
     Drove (with_port budget.port) budget old new w server (Err Listen)
 drove_deaf budget old new w server stands young listened = grind (arith, nat_tests, told_port)
 
--- what stands behind the turns makes nothing happen
+-- there was no memory before the first turn
+pub drove_unready : (budget : Budget) (old new : Option LobbyTold) (w : World)
+    (server : ServerValue) → 1 ≤ budget.ticks → 1 ≤ budget.events →
+    ToldBecomes old new (with_port budget.port) →
+    Drove (with_port budget.port) budget old new w server (Err NoMemory)
+drove_unready budget old new w server ticks events listened = record {
+  turns = [];
+  last = [];
+  told = told_port budget.port old new listened;
+  stands = λ works. absurd (works refl);
+  age = λ works. absurd (works refl);
+  are_turns = tt;
+  ends = record { ticks = omega (arith, ticks); events = omega (arith, events) };
+}
+
+-- what stands behind the turns that were done makes nothing happen
 nothing_last : (budget : Budget) (w : World) (turns : List (List LogEntry)) (last : List LogEntry)
     (result : Result Ended DriveFault) → result ≢ Err NoMemory → Ends budget w turns last result →
     events_in last ≡ []
 nothing_last budget w turns last result ne end = grind (arith, nat_tests)
 
-pub events_all : (call : LobbyTold → LobbyTold) (budget : Budget) (old new : Option LobbyTold)
-    (w : World) (server : ServerValue) (result : Result Ended DriveFault) →
-    result ≢ Err NoMemory → (d : Drove call budget old new w server result) →
-    events_in (log_of d.turns ++ d.last) ≡ events_in (log_of d.turns)
-events_all call budget old new w server result ne d =
-    events_more (log_of d.turns) d.last
-    ∙ ap (λ es. events_in (log_of d.turns) ++ es)
-    (nothing_last budget w d.turns d.last result ne d.ends)
-    ∙ append-nil (events_in (log_of d.turns))
+-- so what was done is what happened in the turns
+pub events_done : (budget : Budget) (w : World) (turns : List (List LogEntry))
+    (last : List LogEntry) (result : Result Ended DriveFault) → Ends budget w turns last result →
+    events_in (done_log result turns last) ≡ events_in (log_of turns)
+events_done budget w turns last (Err NoMemory) end = refl
+events_done budget w turns last other end =
+    events_more (log_of turns) last
+    ∙ ap (λ es. events_in (log_of turns) ++ es)
+    (nothing_last budget w turns last other (λ e. cc) end)
+    ∙ append-nil (events_in (log_of turns))

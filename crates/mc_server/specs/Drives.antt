@@ -1,6 +1,6 @@
 -- What serving a lobby comes to: the turns that it took, how it ended, and what it counted. Rules
 -- of this project.
-use Rattle.std.specs.Prelude.{◌≡◌, ℕ, ◌+◌, ◌<◌, ◌≤◌, Bool, true, false, length, List, [], ◌∷◌, ◌++◌}
+use Rattle.std.specs.Prelude.{◌≡◌, ◌≢◌, ℕ, ◌+◌, ◌<◌, ◌≤◌, Bool, true, false, length, List, [], ◌∷◌, ◌++◌}
 use Rattle.std.specs.Prelude.{Option, Result, Ok, Err}
 use Rattle.std.specs.List.{count_by}
 use Rattle.mc_wire.specs.declared.log.LogEntry.{LogEntry}
@@ -80,6 +80,7 @@ pub record IsWithin (budget : Budget) (turns : List (List LogEntry)) : Type 0 wh
   pub events : length turns < budget.events
 
 -- what the turns and the entries behind them are, by the answer; the cases shut each other out
+-- but for want of memory, which may come in any turn
 abbrev pub Ends : Budget → World → List (List LogEntry) → List LogEntry →
     Result Ended DriveFault → Type 0
 Ends budget w turns last (Ok (ends.Ticks tally)) =
@@ -91,27 +92,33 @@ Ends budget w turns last (Err Listen) = (turns ≡ []) × (last ≡ [])
 Ends budget w turns last (Err Next) = IsWithin budget turns × (last ≡ [])
 Ends budget w turns last (Err (Events n)) =
     (ticks_in turns < budget.ticks) × (length turns ≡ n) × (n ≡ budget.events) × (last ≡ [])
-Ends budget w turns last (Err NoMemory) = ⊥
+Ends budget w turns last (Err NoMemory) = IsWithin budget turns
 
 -- ---- all of it
 
 -- After one call of the lobby, which told so much, it was served turn by turn; the server stands
--- for the world after the log of that.
+-- for the world after the log of that, unless memory ran out. Behind the turns that were done stands
+-- the lobby's end, or what it told in a turn in which memory ran out.
 pub record Drove (call : LobbyTold → LobbyTold) (budget : Budget) (old new : Option LobbyTold)
     (w : World) (server : ServerValue) (result : Result Ended DriveFault) : Type 0 where
   pub turns : List (List LogEntry)
   pub last : List LogEntry
   pub told : ToldBecomes old new (λ told. with_entries (log_of turns ++ last) (call told))
-  pub stands : Stands server (logged w (log_of turns ++ last))
+  pub stands : result ≢ Err NoMemory → Stands server (logged w (log_of turns ++ last))
   -- it has taken as many ticks as came
-  pub age : age_of server ≡ ticks_in turns
+  pub age : result ≢ Err NoMemory → age_of server ≡ ticks_in turns
   pub are_turns : AreTurns w turns
   pub ends : Ends budget w turns last result
+
+-- what was done of what the lobby told: a turn in which memory ran out was not
+abbrev pub done_log : Result Ended DriveFault → List (List LogEntry) → List LogEntry → List LogEntry
+done_log (Err NoMemory) turns last = log_of turns
+done_log other turns last = log_of turns ++ last
 
 -- The lobby was asked to listen once, on the port alone, and then served by a server that nothing
 -- had happened to. The whole promise holds of that: of the run, and of what the lobby took.
 pub record DroveNew (budget : Budget) (old new : Option LobbyTold) (settings : Settings)
     (server : ServerValue) (result : Result Ended DriveFault) : Type 0 where
   pub drove : Drove (with_port budget.port) budget old new (new_world settings) server result
-  pub headline : Headline settings (events_in (log_of drove.turns ++ drove.last))
+  pub headline : Headline settings (events_in (done_log result drove.turns drove.last))
   pub serves : Serves settings drove.turns

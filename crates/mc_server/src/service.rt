@@ -148,7 +148,7 @@ fn serve<L: Lobby>(
     requires ticks { (1 ≤ budget.ticks) × (budget.ticks ≤ 1000000000) }
     requires room { 0 < length buffer.old }
     ensures drove { (w : World) → Stands server.old w → w.links ≡ empty →
-        result ≢ Err DriveFault.NoMemory → Drove (λ (told : LobbyTold). told) budget
+        Drove (λ (told : LobbyTold). told) budget
         (L.told lobby.old) (L.told lobby.new) w server.new result }
     ensures logs { HasLogged (L.told lobby.old) (L.told lobby.new) }
     ensures heard { result ≢ Err DriveFault.Listen }
@@ -178,7 +178,8 @@ fn serve<L: Lobby>(
 
 /// Serves a lobby: listens on a port, and then hands each event to the server, writes to each
 /// connection what it is owed, in pieces of at most 65,536 bytes, and closes those that are closed
-/// and owed nothing, until the ticks have come or the lobby ends.
+/// and owed nothing, until the ticks have come or the lobby ends. Where memory runs out, the turns
+/// that were done until then keep the whole promise.
 pub fn drive<L: Lobby>(
     server: &mut Server,
     lobby: &mut L,
@@ -189,8 +190,8 @@ pub fn drive<L: Lobby>(
     requires ticks { (1 ≤ budget.ticks) × (budget.ticks ≤ 1000000000) }
     requires events { 1 ≤ budget.events }
     ensures drove { (settings : Settings) → AreSettings settings.players settings.cap →
-        Stands server.old (new_world settings) → result ≢ Err DriveFault.NoMemory →
-        DroveNew budget (L.told lobby.old) (L.told lobby.new) settings server.new result }
+        Stands server.old (new_world settings) → DroveNew budget
+        (L.told lobby.old) (L.told lobby.new) settings server.new result }
     ensures asks { (entries : List LogEntry) × ToldBecomes (L.told lobby.old) (L.told lobby.new)
         (λ told. with_entries entries (with_port budget.port told)) }
     ensures unheard { result ≡ Err DriveFault.Listen →

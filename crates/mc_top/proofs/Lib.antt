@@ -1,6 +1,5 @@
-pub mod Alike
+pub mod Taken
 pub mod LongTexts
-pub mod Inputs
 pub mod LongLines
 pub mod Taking
 pub mod Playing
@@ -8,9 +7,6 @@ pub mod ScriptFacts
 pub mod Tellings
 pub mod Settings
 pub mod Replays
-pub mod Finishes
-pub mod StatusKept
-pub mod ReplayKept
 pub mod Serves
 pub mod ServeKept
 pub mod Runs

@@ -11,11 +11,13 @@ use Rattle.mc_words.specs.declared.bad_input.InputFault.TheVariants.{Long}
 use Rattle.mc_words.specs.declared.script_line.Before.{Before}
 use Rattle.mc_words.specs.declared.script_line.ScriptEvent.{ScriptEvent}
 use Rattle.mc_words.specs.Lines.{lines_of, is_line_end, line_bytes, text_max, goes_past, size_of}
-use Rattle.mc_words.specs.StatusText.{Exchange, first_exchange, receives_line, receives_next, Told}
+use Rattle.mc_words.specs.Told.{Told}
+use Rattle.mc_words.specs.StatusText.{Exchange, first_exchange, receives_line, receives_next}
 use Rattle.mc_words.specs.StatusText.{told_after, lines_told, status_told}
 use Rattle.mc_words.specs.Script.{line_event, with_events, then_, at_first}
 use Rattle.mc_words.specs.Script.{lines_events}
 use Rattle.mc_words.specs.Script.{script_of}
+use Rattle.mc_words.proofs.Delivering.{IsTelling}
 
 -- ---- the lines of a text and those of its first bytes
 
@@ -236,6 +238,9 @@ long_faulty most text is e =
     let own_past = r.own_past in
     lines_faulty text 0 0 (first_exchange most) r.done r.own r.own_rest (omega (arith, is))
     (omega (arith, own_past)) (rw r.short_is at e)
+
+pub status_telling : (most : ℕ) → IsTelling (status_told most)
+status_telling most = record { front = told_front most; long = long_faulty most }
 
 -- ---- the events of a script's lines
 

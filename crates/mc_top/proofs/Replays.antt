@@ -1,24 +1,91 @@
--- What is known of a script that was read.
-use Rattle.std.proofs.Common.{◌≡◌, ℕ, List, Option, Ok, Err, ap, ◌∙◌}
+-- What `replay` tells of a script that was read, and what holds of all that happens in one.
+use Rattle.std.proofs.Common.{◌≡◌, ℕ, ◌+◌, List, ◌++◌, length, Option, None, Some, Result, Ok, Err}
+use Rattle.std.proofs.Common.{refl, sym, inl, inr, ap}
+use Rattle.std.specs.Prelude.{IsErrOf}
+use Rattle.mc_wire.specs.Count.{Rose, StandsOrRises}
 use Rattle.mc_wire.specs.Stream.{Grows}
 use Rattle.mc_model.specs.Game.{AreSettings}
 use Rattle.mc_model.specs.Headline.{Headline}
 use Rattle.mc_laws.proofs.Headline.Promise.{headline}
 use Rattle.mc_words.specs.declared.bad_input.BadInput.{BadInput}
-use Rattle.mc_words.specs.declared.ended.Ended.TheVariants as ended
 use Rattle.mc_words.specs.declared.script_line.ScriptEvent.{ScriptEvent}
 use Rattle.mc_words.specs.declared.arguments.WorldOptions.{WorldOptions}
-use Rattle.mc_words.specs.Script.{script_of}
+use Rattle.mc_words.specs.declared.unfinished.Unfinished.{Unfinished}
+use Rattle.mc_words.specs.declared.unfinished.Unfinished.TheVariants.{Failed, NoMemory}
 use Rattle.mc_words.specs.Devices.{ReadsText}
+use Rattle.mc_words.specs.declared.ended.Ended.{Ended}
+use Rattle.mc_words.specs.declared.ended.Ended.TheVariants as ended
+use Rattle.mc_words.specs.Ended.{ended_told}
+use Rattle.mc_words.specs.Finishing.{Finishes}
+use Rattle.mc_words.specs.Lines.{text_max}
+use Rattle.mc_words.specs.Script.{script_of}
+use Rattle.mc_words.specs.Told.{Tells, Told}
+use Rattle.mc_words.proofs.Delivering.{IsTelling, of_read}
+use Rattle.mc_words.proofs.Growing.{grows_none}
 use Rattle.mc_top.specs.ReplayText.{events_of, replay_text, replay_log}
 use Rattle.mc_top.specs.Replaying.{HasStopped}
-use Rattle.mc_top.specs.ReplayPromise.{settings_of, world_of, Replayed, ReplayedPart, FoundFault}
-use Rattle.mc_top.proofs.Inputs.{bad_is, of_read, whole_read}
+use Rattle.mc_top.specs.ReplayPromise.{IsPlayed, IsScriptText, Plays, replay_told, settings_of}
+use Rattle.mc_top.specs.ReplayPromise.{told_script, world_of}
 use Rattle.mc_top.proofs.LongTexts.{script_front, long_no_script}
 use Rattle.mc_top.proofs.ScriptFacts.{script_bytes}
 use Rattle.mc_top.proofs.Sent.{told_taken}
 
--- what happens in a script keeps the whole promise about a run
+-- ---- what is told of a script
+
+-- it is none
+pub tells_bad : (options : WorldOptions) (text : List ℕ) (held : Option (List ℕ)) (faults : ℕ)
+    (bad : BadInput) → script_of text ≡ Err bad →
+    Tells (replay_told options text) (Ok (Some bad)) held held faults faults
+unfolding replay_told
+tells_bad options text held faults bad is = rw is (refl, grows_none held, inl refl)
+
+module _ (options : WorldOptions) (text : List ℕ) (held held' : Option (List ℕ))
+    (faults faults' : ℕ) where
+  -- it was played to its end
+  pub tells_played : (events : List ScriptEvent) → script_of text ≡ Ok events →
+      Grows held held' (replay_text (world_of options) (events_of events)) →
+      StandsOrRises faults faults' →
+      Tells (replay_told options text) (Ok None) held held' faults faults'
+  unfolding replay_told
+  tells_played events is wrote counts = rw is (refl, wrote, counts)
+
+  -- it was not
+  pub tells_stopped : (events : List ScriptEvent) (why : Unfinished) →
+      script_of text ≡ Ok events →
+      HasStopped (events_of events) (world_of options) held held' →
+      (why ≡ Failed → Rose faults faults') →
+      Tells (replay_told options text) (Err why) held held' faults faults'
+  unfolding replay_told
+  tells_stopped events Failed is stopped rose =
+      rw is (rose refl, (stopped.len, stopped.wrote))
+  tells_stopped events NoMemory is stopped rose = rw is (stopped.len, stopped.wrote)
+
+-- a script without a fault
+fine_script : (options : WorldOptions) (r : Result (List ScriptEvent) BadInput) →
+    (told_script options r).fault ≡ None → (events : List ScriptEvent) × (r ≡ Ok events)
+fine_script options (Ok events) fine = (events, refl)
+fine_script options (Err bad) fine = absurd cc
+
+fine_text : (options : WorldOptions) (text : List ℕ) →
+    (replay_told options text).fault ≡ None → IsScriptText text
+unfolding replay_told
+fine_text options text fine = fine_script options (script_of text) fine
+
+pub replay_telling : (options : WorldOptions) → IsTelling (replay_told options)
+unfolding replay_told
+replay_telling options = record {
+  front = λ begin more is. ap (told_script options) (script_front begin more is);
+  long = long;
+}
+  where
+    long : (text : List ℕ) → length text ≡ text_max + 1 →
+        (replay_told options text).fault ≡ None → ⊥
+    long text is fine =
+        let script = fine_text options text fine in long_no_script text script.0 is script.1
+
+-- ---- what holds of all that happens in a script
+
+-- it keeps the whole promise about a run
 whole_promise : (options : WorldOptions) (bytes : List ℕ) (events : List ScriptEvent) →
     AreSettings options.players options.view →
     script_of bytes ≡ Ok events →
@@ -27,39 +94,41 @@ whole_promise options bytes events settings is =
     headline (settings_of options) (replay_log (world_of options) (events_of events)) settings
     (script_bytes (world_of options) bytes events is)
 
-pub replayed : (options : WorldOptions) (left left' held held' : Option (List ℕ))
-    (bytes : List ℕ) (events : List ScriptEvent) → AreSettings options.players options.view →
-    ReadsText left left' bytes → script_of bytes ≡ Ok events →
-    Grows held held' (replay_text (world_of options) (events_of events)) →
-    Replayed options left left' held held'
-replayed options left left' held held' bytes events settings read is wrote = record {
-  events = events;
-  script = of_read script_of (λ r. r ≡ Ok events) left left' bytes script_front read is;
-  ended = whole_read left left' bytes read (λ long. long_no_script bytes events long is);
-  wrote = wrote;
-  promise = whole_promise options bytes events settings is;
-  sent = λ k. told_taken (settings_of options) events k
-      (whole_promise options bytes events settings is);
-}
-
-pub replayed_part : (options : WorldOptions) (left left' held held' : Option (List ℕ))
-    (bytes : List ℕ) (events : List ScriptEvent) → ReadsText left left' bytes →
-    script_of bytes ≡ Ok events → HasStopped (events_of events) (world_of options) held held' →
-    ReplayedPart options left held held'
-replayed_part options left left' held held' bytes events read is stopped = record {
-  events = events;
-  script = of_read script_of (λ r. r ≡ Ok events) left left' bytes script_front read is;
-  len = stopped.len;
-  wrote = stopped.wrote;
-}
-
-pub found_fault : (bad other : BadInput) (left left' : Option (List ℕ)) (bytes : List ℕ) →
-    ReadsText left left' bytes → script_of bytes ≡ Err other →
-    ended.BadInput other ≡ ended.BadInput bad → FoundFault bad left left'
-found_fault bad other left left' bytes read is also =
-    let there : script_of bytes ≡ Err bad =
-    is ∙ ap (λ (b : BadInput). Err b) (bad_is other bad also) in
+is_played : (options : WorldOptions) (left left' : Option (List ℕ)) (bytes : List ℕ) →
+    AreSettings options.players options.view → ReadsText left left' bytes →
+    IsScriptText bytes → IsPlayed options left
+is_played options left left' bytes settings read script =
+    let promise = whole_promise options bytes script.0 settings script.1 in
     record {
-      first = of_read script_of (λ r. r ≡ Err bad) left left' bytes script_front read there;
-      ended = (bytes, read);
+      events = script.0;
+      script = of_read script_of (λ r. r ≡ Ok script.0) left left' bytes script_front read script.1;
+      promise = promise;
+      sent = λ k. told_taken (settings_of options) script.0 k promise;
     }
+
+pub plays : (options : WorldOptions) (left left' held held' : Option (List ℕ))
+    (faults faults' : ℕ) (bytes : List ℕ) (r : Result (Option BadInput) Unfinished) →
+    AreSettings options.players options.view → ReadsText left left' bytes →
+    Tells (replay_told options bytes) r held held' faults faults' →
+    (IsErrOf r Failed → IsScriptText bytes) → Plays options (ended_told r) left
+plays options left left' held held' faults faults' bytes (Ok None) settings read t script =
+    is_played options left left' bytes settings read (fine_text options bytes (sym t.0))
+plays options left left' held held' faults faults' bytes (Ok (Some bad)) settings read t script = tt
+plays options left left' held held' faults faults' bytes (Err Failed) settings read t script =
+    is_played options left left' bytes settings read (script refl)
+plays options left left' held held' faults faults' bytes (Err NoMemory) settings read t script = tt
+
+-- writing the last line changes nothing of that
+pub plays_on : (options : WorldOptions) (how result : Ended)
+    (left held held' : Option (List ℕ)) (faults faults' : ℕ) → Plays options how left →
+    Finishes how result held held' faults faults' → Plays options result left
+plays_on options ended.Done result left held held' faults faults' p f = rw f.0 p
+plays_on options ended.WriteFault result left held held' faults faults' p f = rw f.0 p
+plays_on options ended.NoMemory result left held held' faults faults' p f = rw f.0 p
+plays_on options ended.Usage result left held held' faults faults' p f = rw f.0 p
+plays_on options ended.ReadFault result left held held' faults faults' p f = rw f.0 p
+plays_on options ended.NetFault result left held held' faults faults' p f = rw f.0 p
+plays_on options (ended.BadInput bad) result left held held' faults faults' p (inl f) = rw f.0 tt
+plays_on options (ended.BadInput bad) result left held held' faults faults' p (inr f) = rw f.0 tt
+plays_on options (ended.Budget n) result left held held' faults faults' p (inl f) = rw f.0 tt
+plays_on options (ended.Budget n) result left held held' faults faults' p (inr f) = rw f.0 tt

@@ -1,25 +1,37 @@
 -- Inputs that are served and refused, whatever the command.
-use Rattle.std.proofs.Common.{◌≡◌, ℕ, ◌⊎◌, List, Some}
-use Rattle.std.proofs.Common.{arith}
-use Rattle.std.proofs.lemmas.Bool.Decides.{nat_tests}
+use Rattle.std.proofs.Common.{◌≡◌, ◌⊎◌, inl, inr}
 use Rattle.mc_wire.specs.Count.{Rose}
+use Rattle.mc_words.specs.declared.arguments.Command.{Command}
+use Rattle.mc_words.specs.declared.arguments.Command.TheVariants.{Status, Replay, Serve}
 use Rattle.mc_words.specs.declared.bad_input.BadInput.{BadInput}
 use Rattle.mc_words.specs.declared.ended.Ended.{Ended}
 use Rattle.mc_words.specs.declared.ended.Ended.TheVariants as ended
-use Rattle.mc_words.specs.declared.arguments.Command.{Command}
-use Rattle.mc_words.specs.Devices.{Devices}
+use Rattle.mc_words.specs.Devices.{Devices, streams_of}
 use Rattle.mc_words.specs.Ended.{status_of}
-use Rattle.mc_top.specs.Promises.{EndsFine, Promises, IsInputOf, HasFault}
+use Rattle.mc_words.specs.StatusText.{status_told}
+use Rattle.mc_words.proofs.Delivering.{bad_delivered, fine_delivered}
+use Rattle.mc_top.specs.Promises.{EndsFine, HasFault, IsFineInput, Promises, told_of}
+use Rattle.mc_top.specs.ReplayPromise.{replay_told}
+use Rattle.mc_top.proofs.ServeKept.{serve_served}
 
-pub served : (command : Command) (how : Ended) (before after : Devices) (input : List ℕ) →
-    Promises command how before after → before.left ≡ Some input → IsInputOf command input →
-    ¬ Rose before.read_faults after.read_faults → ¬ Rose before.write_faults after.write_faults →
-    ¬ Rose before.counts.faults after.counts.faults →
-    EndsFine command how ⊎ (how ≡ ended.NoMemory)
-served command how before after input p is fine reads writes faults = grind (arith, nat_tests)
+module _ (how : Ended) (before after : Devices) where
+  pub served : (command : Command) → Promises command how before after →
+      IsFineInput (told_of command) before.left → ¬ Rose before.read_faults after.read_faults →
+      ¬ Rose before.write_faults after.write_faults →
+      ¬ Rose before.counts.faults after.counts.faults →
+      EndsFine command how ⊎ (how ≡ ended.NoMemory)
+  served (Status most) p fine reads writes faults = fine_delivered (status_told most) how
+      (streams_of before) (streams_of after) fine.0 p.0.1 fine.1 fine.2 reads writes
+  served (Replay options) p fine reads writes faults = fine_delivered (replay_told options) how
+      (streams_of before) (streams_of after) fine.0 p.0.1 fine.1 fine.2 reads writes
+  served (Serve options) p fine reads writes faults =
+      serve_served options how before after p.1 writes faults
 
-pub refused : (command : Command) (how : Ended) (before after : Devices) (bad : BadInput)
-    (input : List ℕ) → Promises command how before after → before.left ≡ Some input →
-    HasFault command bad input → ¬ Rose before.read_faults after.read_faults →
-    ¬ Rose before.write_faults after.write_faults → (status_of how ≡ 6) ⊎ (status_of how ≡ 1)
-refused command how before after bad input p is wrong reads writes = grind (arith, nat_tests)
+  pub refused : (bad : BadInput) (command : Command) → Promises command how before after →
+      HasFault (told_of command) bad before.left → ¬ Rose before.read_faults after.read_faults →
+      ¬ Rose before.write_faults after.write_faults → (status_of how ≡ 6) ⊎ (status_of how ≡ 1)
+  refused bad (Status most) p wrong_ reads writes = bad_delivered (status_told most) how
+      (streams_of before) (streams_of after) bad wrong_.0 p.0.1 wrong_.1 wrong_.2 reads writes
+  refused bad (Replay options) p wrong_ reads writes = bad_delivered (replay_told options) how
+      (streams_of before) (streams_of after) bad wrong_.0 p.0.1 wrong_.1 wrong_.2 reads writes
+  refused bad (Serve options) p wrong_ reads writes = absurd wrong_

@@ -21,7 +21,7 @@ use Rattle.mc_words.specs.declared.script_line.ScriptEvent.TheVariants.{Joined, 
 use Rattle.mc_top.specs.ReplayText.{tells_sent, tells_shut, sent_for, sent_to, owes, tellings}
 use Rattle.mc_top.specs.ReplayText.{takings, settled, replay_log, replay_tellings, events_of}
 use Rattle.mc_top.specs.ReplayText.{IsToldTaken}
-use Rattle.mc_top.proofs.Alike.{took_other}
+use Rattle.mc_top.proofs.Taken.{took_other}
 use Rattle.mc_top.proofs.Taking.{AreAt, all_once, all_there, as_is, numbers, settled_none, still_at}
 
 -- ---- one event

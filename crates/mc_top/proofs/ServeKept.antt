@@ -1,42 +1,39 @@
 -- The promise of `serve`, from what its function says and from its last line.
-use Rattle.std.proofs.Common.{◌≡◌, ℕ, ◌++◌, ◌⊎◌, inl, inr, List, Option, Result, sym, subst, refl}
-use Rattle.std.proofs.Common.{ap, ◌∙◌}
+use Rattle.std.proofs.Common.{◌≡◌, ℕ, ◌⊎◌, inl, inr, List, Option, sym, subst, refl, ap, ◌∙◌}
+use Rattle.std.proofs.Common.{arith}
+use Rattle.std.proofs.lemmas.Bool.Decides.{nat_tests}
 use Rattle.mc_wire.specs.Count.{Rose}
 use Rattle.mc_wire.specs.LobbyCounts.{LobbyCounts}
-use Rattle.mc_wire.specs.LobbyTold.{LobbyTold, with_entries, with_pace, with_port}
-use Rattle.mc_wire.proofs.LobbyCalls.{ToldBecomes-trans}
-use Rattle.mc_model.specs.Log.{log_of}
+use Rattle.mc_wire.specs.LobbyTold.{LobbyTold}
 use Rattle.mc_words.specs.declared.arguments.ServeOptions.{ServeOptions}
 use Rattle.mc_words.specs.declared.ended.Ended.{Ended}
 use Rattle.mc_words.specs.declared.ended.Ended.TheVariants as ended
-use Rattle.mc_words.specs.Devices.{Devices, devices}
+use Rattle.mc_words.specs.Devices.{Devices, WroteLast, devices}
 use Rattle.mc_words.specs.Ended.{budget_line, net_fault_line}
-use Rattle.mc_server.specs.declared.service.DriveFault.{DriveFault}
-use Rattle.mc_server.specs.declared.service.Ended as drives
-use Rattle.mc_top.specs.Finishing.{EndsServing, Finishes}
-use Rattle.mc_top.specs.ServePromise.{AskedAtMostOnce, HasLost, HasServed, HasSpent, ServePromise}
+use Rattle.mc_words.specs.Finishing.{Finishes}
+use Rattle.mc_top.specs.ServePromise.{EndsServing, HasLost, HasServedPart, HasSpent, ServePromise}
 use Rattle.mc_top.specs.ServePromise.{Summed, SummedPart}
-use Rattle.mc_top.proofs.Finishes.{still_holds, still_rose, only_last}
 
--- a lobby that was served was asked to listen once
-pub asked_served : (options : ServeOptions) (old new : Option LobbyTold)
-    (result : Result drives.Ended DriveFault) → HasServed options old new result →
-    AskedAtMostOnce options old new
-asked_served options old new result s =
-    let drove = s.drove.drove in
-    let entries = log_of drove.turns ++ drove.last in
-    inr (
-      entries,
-      ToldBecomes-trans old s.paced new (with_pace options.pace)
-          (λ told. with_entries entries (with_port options.port told)) s.pace drove.told,
-    )
+-- nothing was written since
+still_holds : (P : Option (List ℕ) → Type 0) (held held' : Option (List ℕ)) → held' ≡ held →
+    P held → P held'
+still_holds P held held' same holds = subst P (sym same) holds
+
+still_rose : (faults mid faults' : ℕ) → faults' ≡ mid → Rose faults mid → Rose faults faults'
+still_rose faults mid faults' same rose = grind (arith, nat_tests)
+
+-- nothing was written before the last line
+only_last : (A : Type 0) (view : A → Option (List ℕ)) (count : A → ℕ) (old mid new : A)
+    (line : List ℕ) → mid ≡ old → WroteLast (view mid) (view new) (count mid) (count new) line →
+    WroteLast (view old) (view new) (count old) (count new) line
+only_last A view count old mid new line same wrote = grind (arith, nat_tests)
 
 -- what `serve` says of how it ended
 pub record ServeEnded (A : Type 0) (view : A → Option (List ℕ)) (count : A → ℕ)
     (options : ServeOptions) (how : Ended) (told told' : Option LobbyTold)
     (counts counts' : LobbyCounts) (old mid : A) : Type 0 where
   pub done : how ≡ ended.Done → Summed options told told' (view old) (view mid)
-  pub no_memory : how ≡ ended.NoMemory → AskedAtMostOnce options told told' × (mid ≡ old)
+  pub no_memory : how ≡ ended.NoMemory → HasServedPart options told told' × (mid ≡ old)
   pub ends : EndsServing how
   pub write_fault : how ≡ ended.WriteFault →
       Rose (count old) (count mid) × SummedPart options told told' (view old) (view mid)
@@ -86,7 +83,7 @@ serve_kept A view count options how result told told' counts counts' left reads 
         (spent.0, only_last A view count old mid new (budget_line n) spent.1 last.1)
     kept (ended.Budget n) said (inr last) = let spent = said.budget n refl in
         subst P (sym last.0)
-        (asked_served options told told' _ spent.0, last.1.0 ∙ ap view spent.1)
+        ((_, spent.0), last.1.0 ∙ ap view spent.1)
 
 -- a lobby is served, unless memory runs out, a device fails or all events that may come did
 pub serve_served : (options : ServeOptions) (how : Ended) (before after : Devices) →

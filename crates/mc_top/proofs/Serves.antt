@@ -1,13 +1,11 @@
 -- What `serve` made of a lobby, by how serving it ended.
-use Rattle.std.proofs.Common.{◌≡◌, ◌≢◌, ℕ, List, Option, Result, Ok, Err, inl, inr, subst, ap}
+use Rattle.std.proofs.Common.{◌≡◌, ℕ, Option, Result, Ok, Err, inl, inr, subst, ap}
 use Rattle.std.proofs.Common.{◌∙◌}
 use Rattle.std.proofs.Common.{arith}
 use Rattle.std.proofs.lemmas.Bool.Decides.{nat_tests}
-use Rattle.mc_wire.specs.declared.log.LogEntry.{LogEntry}
 use Rattle.mc_wire.specs.Becoming.{ToldBecomes}
 use Rattle.mc_wire.specs.Count.{NeverFalls, Rose}
-use Rattle.mc_wire.specs.LobbyTold.{LobbyTold, with_entries, with_pace, with_port}
-use Rattle.mc_wire.proofs.LobbyCalls.{ToldBecomes-trans}
+use Rattle.mc_wire.specs.LobbyTold.{LobbyTold, with_pace}
 use Rattle.mc_server.specs.declared.service.Budget.{Budget}
 use Rattle.mc_server.specs.declared.service.DriveFault.{DriveFault}
 use Rattle.mc_server.specs.declared.service.DriveFault.TheVariants.{Listen, Next, Events, NoMemory}
@@ -18,25 +16,12 @@ use Rattle.mc_events.specs.Served.{ServerValue, age_of}
 use Rattle.mc_words.specs.declared.arguments.ServeOptions.{ServeOptions}
 use Rattle.mc_words.specs.declared.ended.Ended.TheVariants as ended
 use Rattle.mc_top.specs.ReplayPromise.{settings_of}
-use Rattle.mc_top.specs.ServePromise.{AskedAtMostOnce, HasLost, HasServed, HasServedAll, HasSpent}
+use Rattle.mc_top.specs.ServePromise.{HasLost, HasServed, HasServedAll, HasSpent}
 use Rattle.mc_top.specs.ServePromise.{budget_of, ended_by, summary_line, tally_of}
 
 module _ (options : ServeOptions) (old paced new : Option LobbyTold)
     (pace : ToldBecomes old paced (with_pace options.pace)) (budget : Budget)
     (is : budget ≡ budget_of options) where
-  -- the lobby was asked to listen once
-  pub asked : (entries : List LogEntry) →
-      ToldBecomes paced new (λ told. with_entries entries (with_port budget.port told)) →
-      AskedAtMostOnce options old new
-  asked entries asks =
-      let P : Budget → Type 0 =
-      λ b. ToldBecomes paced new (λ told. with_entries entries (with_port b.port told)) in
-      inr (
-        entries,
-        ToldBecomes-trans old paced new (with_pace options.pace)
-            (λ told. with_entries entries (with_port options.port told)) pace (subst P is asks),
-      )
-
   -- it was served by a server of a new world
   pub has_served : (server : ServerValue) (result : Result drives.Ended DriveFault) →
       DroveNew budget paced new (settings_of options.world) server result →
@@ -57,7 +42,7 @@ module _ (options : ServeOptions) (old paced new : Option LobbyTold)
       record {
         end = end;
         served = s;
-        summary = ap (λ (n : ℕ). summary_line n tally) (age ∙ s.drove.drove.age)
+        summary = ap (λ (n : ℕ). summary_line n tally) (age ∙ s.drove.drove.age (λ e. cc))
             ∙ ap (summary_line _) counted;
       }
 
@@ -66,24 +51,21 @@ abbrev fails : DriveFault → Result drives.Ended DriveFault
 fails fault = Err fault
 
 module _ (options : ServeOptions) (old new : Option LobbyTold) where
-  abbrev IsServed : DriveFault → Type 0
-  IsServed fault = fails fault ≢ fails NoMemory → HasServed options old new (fails fault)
-
   -- the lobby was lost by it
-  pub lost_by : (fault : DriveFault) → IsServed fault → ended_by fault ≡ ended.NetFault →
-      HasLost options old new
-  lost_by Listen served is = inl (served (λ e. cc))
-  lost_by Next served is = inr (served (λ e. cc))
+  pub lost_by : (fault : DriveFault) → HasServed options old new (fails fault) →
+      ended_by fault ≡ ended.NetFault → HasLost options old new
+  lost_by Listen served is = inl served
+  lost_by Next served is = inr served
   lost_by (Events n) served is = absurd cc
   lost_by NoMemory served is = absurd cc
 
   -- all events that may come did
-  pub spent_by : (fault : DriveFault) (n : ℕ) → IsServed fault → ended_by fault ≡ ended.Budget n →
-      HasSpent options n old new
+  pub spent_by : (fault : DriveFault) (n : ℕ) → HasServed options old new (fails fault) →
+      ended_by fault ≡ ended.Budget n → HasSpent options n old new
   spent_by (Events m) n served is =
       let P : ℕ → Type 0 = λ k. HasSpent options k old new in
       let same : m ≡ n = cc in
-      subst P same (served (λ e. cc))
+      subst P same served
   spent_by Listen n served is = absurd cc
   spent_by Next n served is = absurd cc
   spent_by NoMemory n served is = absurd cc

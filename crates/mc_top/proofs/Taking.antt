@@ -21,17 +21,14 @@ use Rattle.mc_model.specs.World.{World}
 use Rattle.mc_model.proofs.Maps.Sorted.{each_found}
 use Rattle.mc_model.proofs.Maps.Lookups.{untied_number}
 use Rattle.mc_events.specs.Asking.{is_over, is_done_in}
-use Rattle.mc_events.specs.Stands.{IsReached}
 use Rattle.mc_events.proofs.Loops.{AreOnce, is_of}
 use Rattle.mc_events.proofs.Numbers.{keys_once}
-use Rattle.mc_events.proofs.Reached.{reached_next}
 use Rattle.mc_top.specs.ReplayText.{owes, is_shut, tells_sent, tells_shut, telling_line, tellings}
 use Rattle.mc_top.specs.ReplayText.{lines_after, takings, settled}
-use Rattle.mc_top.specs.Replaying.{taken, sent_by, forgotten, shut_by, all_taken, all_sent}
+use Rattle.mc_top.specs.Replaying.{taken, taken_of, sent_by, forgotten, shut_by, all_taken, all_sent}
 use Rattle.mc_top.specs.Replaying.{all_forgotten, all_shut}
-use Rattle.mc_top.proofs.Alike.{IsAlike, WorldValue, alike_forgot, alike_taken, emptied}
-use Rattle.mc_top.proofs.Alike.{forgot_owed, forgotten_other, taken_none, taken_other, taken_own}
-use Rattle.mc_top.proofs.Alike.{taken_owed}
+use Rattle.mc_top.proofs.Taken.{emptied, forgot_owed, forgotten_other, taken_other, taken_owed}
+use Rattle.mc_top.proofs.Taken.{some_owed, taken_own}
 
 -- ---- hex
 
@@ -112,27 +109,31 @@ takes_all v (e ∷ es) once there = (
   takes_all (taken e.0 v) es once.1 (taken_still v e es once.0 there.1),
 )
 
-pub nothing_owed : (o : List ℕ) → nat_lt 0 (length o) ≡ false → o ≡ []
-nothing_owed [] none = refl
-nothing_owed (b ∷ bytes) none = grind (arith, nat_tests, none)
+-- what one takes, as events
+abbrev took_so : List (ℕ × Link) → List Event
+took_so es = map (λ (e : ℕ × Link). took e.0 (length e.1.owed)) es
 
--- as events, those that are owed anything take it
-history_took : (v u : World) (es : List (ℕ × Link)) → IsAlike v u → AreOnce (numbers es) →
-    AreAt as_is v es → IsAlike (all_taken (numbers es) v)
-    (history u (map (λ (e : ℕ × Link). took e.0 (length e.1.owed)) (filter owes es)))
-history_took v u [] a once there = a
-history_took v u (e ∷ es) a once there =
-    let later = taken_still v e es once.0 there.1 in
-    elim (owes e) as (λ b. owes e ≡ b → IsAlike (all_taken (numbers es) (taken e.0 v))
-    (history u (map (λ (e : ℕ × Link). took e.0 (length e.1.owed))
-    (cond b (e ∷ filter owes es) (filter owes es))))) [
-      | true ↦ λ t. history_took (taken e.0 v) (step u (took e.0 (length e.1.owed))).world es
-          (subst (λ (o : List ℕ). IsAlike (taken e.0 v) (step u (took e.0 (length o))).world)
-          (owed_is u e (ap (λ (x : WorldValue). get x.links e.0) (sym a) ∙ there.0))
-          (alike_taken e.0 v u a)) once.1 later
-      | false ↦ λ none. history_took (taken e.0 v) u es (taken_none v e.0
-          (owed_is v e there.0 ∙ nothing_owed e.1.owed none) ∙ a) once.1 later
-    ] refl
+taken_first : (v : World) (k : ℕ) (l : Link) (es : List (ℕ × Link)) →
+    history (taken_of k v l.owed) (took_so es)
+    ≡ history v (took_so (cond (owes (k, l)) ((k, l) ∷ es) es))
+taken_first v k l es = by l.owed refl
+  where
+    by : (o : List ℕ) → l.owed ≡ o → history (taken_of k v o) (took_so es)
+        ≡ history v (took_so (cond (nat_lt 0 (length o)) ((k, l) ∷ es) es))
+    by [] e = refl
+    by (b ∷ bytes) e =
+        ap (λ (o : List ℕ). history (step v (took k (length o))).world (took_so es)) (sym e)
+        ∙ ap (λ (t : Bool). history v (took_so (cond t ((k, l) ∷ es) es))) (sym (some_owed b bytes))
+
+-- those that are owed anything take it
+history_took : (v : World) (es : List (ℕ × Link)) → AreOnce (numbers es) → AreAt as_is v es →
+    all_taken (numbers es) v ≡ history v (took_so (filter owes es))
+history_took v [] once there = refl
+history_took v (e ∷ es) once there =
+    history_took (taken e.0 v) es once.1 (taken_still v e es once.0 there.1)
+    ∙ ap (λ (o : List ℕ). history (taken_of e.0 v o) (took_so (filter owes es)))
+    (owed_is v e there.0)
+    ∙ taken_first v e.0 e.1 (filter owes es)
 
 -- the lines of one connection
 abbrev sent_line : ℕ × Link → List ℕ
@@ -170,23 +171,23 @@ forgotten_still v e es none there =
     still_at emptied v (forgotten e.0 v) e.0 es (forgotten_other v e.0) none there
 
 -- as events, just those
-history_forgot : (v u : World) (es : List (ℕ × Link)) → IsAlike v u → AreOnce (numbers es) →
-    AreAt emptied v es → IsAlike (all_forgotten (numbers es) v)
-    (history u (map (λ (e : ℕ × Link). forgot e.0) (filter is_shut es)))
-history_forgot v u [] a once there = a
-history_forgot v u (e ∷ es) a once there =
-    let is = forgotten_is v e there.0 in
-    let later = forgotten_still v e es once.0 there.1 in
-    elim (is_shut e) as (λ b. forgotten e.0 v ≡ cond b (step v (forgot e.0)).world v →
-    IsAlike (all_forgotten (numbers es) (forgotten e.0 v))
-    (history u (map (λ (e : ℕ × Link). forgot e.0)
-    (cond b (e ∷ filter is_shut es) (filter is_shut es))))) [
-      | true ↦ λ goes. history_forgot (forgotten e.0 v) (step u (forgot e.0)).world es
-          (subst (λ (x : World). IsAlike x (step u (forgot e.0)).world) (sym goes)
-          (alike_forgot e.0 v u a)) once.1 later
-      | false ↦ λ stays. history_forgot (forgotten e.0 v) u es
-          (subst (λ (x : World). IsAlike x u) (sym stays) a) once.1 later
-    ] is
+abbrev forgot_so : List (ℕ × Link) → List Event
+forgot_so es = map (λ (e : ℕ × Link). forgot e.0) es
+
+forgotten_first : (v : World) (e : ℕ × Link) (b : Bool) (es : List (ℕ × Link)) →
+    history (cond b (step v (forgot e.0)).world v) (forgot_so es)
+    ≡ history v (forgot_so (cond b (e ∷ es) es))
+forgotten_first v e true es = refl
+forgotten_first v e false es = refl
+
+history_forgot : (v : World) (es : List (ℕ × Link)) → AreOnce (numbers es) →
+    AreAt emptied v es →
+    all_forgotten (numbers es) v ≡ history v (forgot_so (filter is_shut es))
+history_forgot v [] once there = refl
+history_forgot v (e ∷ es) once there =
+    history_forgot (forgotten e.0 v) es once.1 (forgotten_still v e es once.0 there.1)
+    ∙ ap (λ (x : World). history x (forgot_so (filter is_shut es))) (forgotten_is v e there.0)
+    ∙ forgotten_first v e (is_shut e) (filter is_shut es)
 
 shut_first : (e : ℕ × Link) (b : Bool) (es : List (ℕ × Link)) →
     shut_by e.0 b ++ flat_map shut_line es ≡ flat_map shut_line (cond b (e ∷ es) es)
@@ -216,14 +217,13 @@ settled_is w = fold-append _ w (tooks w) (forgots w)
 
 -- taking all and then forgetting those that are closed
 pub all_settled : (w : World) →
-    IsAlike (all_forgotten (keys w.links) (all_taken (keys w.links) w)) (settled w)
+    all_forgotten (keys w.links) (all_taken (keys w.links) w) ≡ settled w
 all_settled w =
     let es = entries w.links in
-    subst (λ (x : World). IsAlike (all_forgotten (keys w.links) (all_taken (keys w.links) w)) x)
-    (sym (settled_is w))
-    (history_forgot (all_taken (numbers es) w) (history w (tooks w)) es
-    (history_took w w es refl (all_once w) (all_there w)) (all_once w)
-    (takes_all w es (all_once w) (all_there w)))
+    history_forgot (all_taken (numbers es) w) es (all_once w)
+    (takes_all w es (all_once w) (all_there w))
+    ∙ ap (λ (x : World). history x (forgots w)) (history_took w es (all_once w) (all_there w))
+    ∙ sym (settled_is w)
 
 -- the lines, of each in turn
 told_lines : (w : World) → lines_after w ≡ flat_map sent_line (filter owes (entries w.links))
@@ -239,30 +239,12 @@ all_told w =
 
 -- ---- what is left
 
--- some events lead to it
-pub reached_settled : (w : World) → IsReached w → IsReached (settled w)
-reached_settled w reached = subst IsReached (sym (settled_is w))
-    (by_forgots (filter is_shut (entries w.links)) (history w (tooks w))
-    (by_tooks (filter owes (entries w.links)) w reached))
-  where
-    by_tooks : (es : List (ℕ × Link)) (v : World) → IsReached v →
-        IsReached (history v (map (λ (e : ℕ × Link). took e.0 (length e.1.owed)) es))
-    by_tooks [] v r = r
-    by_tooks (e ∷ es) v r = by_tooks es (step v (took e.0 (length e.1.owed))).world
-        (reached_next v (took e.0 (length e.1.owed)) tt r)
-
-    by_forgots : (es : List (ℕ × Link)) (v : World) → IsReached v →
-        IsReached (history v (map (λ (e : ℕ × Link). forgot e.0) es))
-    by_forgots [] v r = r
-    by_forgots (e ∷ es) v r = by_forgots es (step v (forgot e.0)).world
-        (reached_next v (forgot e.0) tt r)
-
 -- nothing is owed
 pub settled_none : (w : World) (k : ℕ) → owed_in k (settled w) ≡ []
 settled_none w k = ap (owed_in k) (settled_is w)
     ∙ by_forgots (filter is_shut (entries w.links)) (history w (tooks w))
-    (ap (λ (x : WorldValue). owed_of (get x.links k)) (sym (history_took w w (entries w.links) refl
-    (all_once w) (all_there w))) ∙ by_all (keys w.links) w
+    (ap (owed_in k) (sym (history_took w (entries w.links) (all_once w) (all_there w)))
+    ∙ by_all (keys w.links) w
     (λ other. absent (get w.links k) (contains_key-keys w.links k ∙ other)))
   where
     by_forgots : (es : List (ℕ × Link)) (v : World) → owed_in k v ≡ [] →

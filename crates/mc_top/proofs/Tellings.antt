@@ -13,16 +13,15 @@ use Rattle.mc_model.specs.Step.{took, step}
 use Rattle.mc_model.specs.Run.{owed_in}
 use Rattle.mc_model.specs.World.{World}
 use Rattle.mc_events.specs.Served.{ServerValue}
-use Rattle.mc_events.specs.Stands.{IsReached, Stands}
-use Rattle.mc_events.proofs.Reached.{reached_next}
+use Rattle.mc_events.specs.Stands.{Stands}
 use Rattle.mc_words.specs.Passes.{Passes, Breaks}
 use Rattle.mc_words.proofs.Passing.{passes_none, passes_next, passes_two, passes_all, breaks_next}
 use Rattle.mc_words.proofs.Passing.{breaks_early, breaks_two}
 use Rattle.mc_top.specs.ReplayText.{lines_after, settled}
-use Rattle.mc_top.specs.Replaying.{taken, sent_by, sent_in, all_taken, all_sent, all_forgotten}
-use Rattle.mc_top.specs.Replaying.{all_shut, TakesFront, each, each_line}
-use Rattle.mc_top.proofs.Alike.{IsAlike, owed_after, stands_alike, taken_after, taken_none}
-use Rattle.mc_top.proofs.Taking.{all_settled, all_told, encode_none, encode_parts, reached_settled}
+use Rattle.mc_top.specs.Replaying.{taken, taken_of, sent_by, sent_in, all_taken, all_sent}
+use Rattle.mc_top.specs.Replaying.{all_forgotten, all_shut, TakesFront, each, each_line}
+use Rattle.mc_top.proofs.Taken.{owed_after, taken_after}
+use Rattle.mc_top.proofs.Taking.{all_settled, all_told, encode_none, encode_parts}
 
 -- ---- one connection, piece by piece
 
@@ -52,7 +51,7 @@ pub record IsTaking (k : ℕ) (w : World) (server : ServerValue) (held held' : O
     (old new : List ℕ) : Type 0 where
   pub v : World
   pub stands : Stands server v
-  pub same : IsAlike (taken k v) (taken k w)
+  pub same : taken k v ≡ taken k w
   pub lines : Passes held held' old (encode_lower (owed_in k w)) new (encode_lower (owed_in k v))
 
 pub taking_start : (k : ℕ) (w : World) (server : ServerValue) (held : Option (List ℕ))
@@ -78,27 +77,23 @@ taking_next k w middle server held mid held' old half new more is t takes =
     let R : List ℕ → Type 0 = λ b. Passes held held' old all new (encode_lower b) in
     record {
       v = (step t.v (took k f.0)).world;
-      stands = f.2;
-      same = taken_after t.v k f.0 ∙ t.same;
+      stands = f.3;
+      same = taken_after t.v k f.0 f.1 f.2 ∙ t.same;
       lines = subst R (sym (owed_after t.v k f.0))
           (passes_next held mid held' old all half (encode_lower (take f.0 o)) new
-          (encode_lower (drop f.0 o)) (subst Q (sym (encode_parts f.0 o)) t.lines) f.3);
+          (encode_lower (drop f.0 o)) (subst Q (sym (encode_parts f.0 o)) t.lines) f.4);
     }
-
-reached_taken : (w : World) (k : ℕ) → IsReached w → IsReached (taken k w)
-reached_taken w k r = reached_next w (took k (length (owed_in k w))) tt r
 
 pub taking_done : (k : ℕ) (w : World) (middle server : ServerValue)
     (held mid held' : Option (List ℕ)) (old half new : List ℕ) (more : Bool) →
-    IsReached w → more ≡ false → IsTaking k w middle held mid old half →
+    more ≡ false → IsTaking k w middle held mid old half →
     ((v : World) → Stands middle v → TakesFront k v server mid held' half new more) →
     Stands server (taken k w) × Passes held held' old (encode_lower (owed_in k w)) new []
-taking_done k w middle server held mid held' old half new more r is t takes =
+taking_done k w middle server held mid held' old half new more is t takes =
     let Q : Bool → Type 0 = λ b. TakesFront k t.v server mid held' half new b in
     let f = subst Q is (takes t.v t.stands) in
     let R : List ℕ → Type 0 = λ l. Passes held mid old (encode_lower (owed_in k w)) half l in (
-      stands_alike server t.v (taken k w) (sym (taken_none t.v k f.0) ∙ t.same)
-          (reached_taken w k r) f.1,
+      subst (Stands server) (sym (ap (taken_of k t.v) f.0) ∙ t.same) f.1,
       passes_next held mid held' old (encode_lower (owed_in k w)) half [] new []
           (subst R (encode_none (owed_in k t.v) f.0) t.lines) f.2,
     )
@@ -192,8 +187,7 @@ pub not_sent : (k : ℕ) (w : World) (server : ServerValue) (front old : List �
 not_sent k w server front old held none same stands =
     let Q : List ℕ → Type 0 = λ o. Passes held held old (sent_by k o) old [] in
     let owed = same.0 (no_bytes front none) in (
-      stands_alike server w (taken k w) (sym (taken_none w k owed))
-          (reached_taken w k stands.reached) stands,
+      subst (Stands server) (sym (ap (taken_of k w) owed)) stands,
       subst Q (sym owed) (passes_none held old []),
     )
 
@@ -269,17 +263,17 @@ told_is w ids is = rw is (all_told w)
 
 -- all that is told of a world was written, and nothing waits
 pub lines_put : (w : World) (server : ServerValue) (ids half near : List ℕ)
-    (h0 h1 h2 h3 : Option (List ℕ)) → IsReached w → ids ≡ keys w.links →
+    (h0 h1 h2 h3 : Option (List ℕ)) → ids ≡ keys w.links →
     Stands server (all_forgotten ids (all_taken ids w)) → Passes h0 h1 [] (all_sent ids w) half [] →
     Passes h1 h2 half (all_shut ids (all_taken ids w)) near [] → Passes h2 h3 near [] [] [] →
     Stands server (settled w) × Grows h0 h3 (lines_after w)
-lines_put w server ids half near h0 h1 h2 h3 r is stands sent shut out =
+lines_put w server ids half near h0 h1 h2 h3 is stands sent shut out =
     let Q : List ℕ → Type 0 = λ t. Grows h0 h3 t in
     let both = passes_two h0 h1 h2 [] (all_sent ids w) half
     (all_shut ids (all_taken ids w)) near sent shut in
     let all = passes_two h0 h2 h3 []
     (all_sent ids w ++ all_shut ids (all_taken ids w)) near [] [] both out in (
-      stands_alike server _ (settled w) (rw is (all_settled w)) (reached_settled w r) stands,
+      subst (Stands server) (rw is (all_settled w)) stands,
       subst Q (append-nil (all_sent ids w ++ all_shut ids (all_taken ids w)) ∙ told_is w ids is)
           (passes_all h0 h3 _ all),
     )

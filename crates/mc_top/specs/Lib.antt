@@ -1,7 +1,5 @@
-pub mod StatusPromise
 pub mod ReplayText
 pub mod Replaying
 pub mod ReplayPromise
 pub mod ServePromise
 pub mod Promises
-pub mod Finishing

@@ -1,41 +1,56 @@
 -- What a run of the program promises, by the command that its arguments name and by how it ends.
--- Rules of this project. A new command is a case of each of these.
-use Rattle.std.specs.Prelude.{◌≡◌, ℕ, ◌⊎◌, List, None}
+-- Rules of this project. A new command is a case of `told_of` and of `Does`.
+use Rattle.std.specs.Prelude.{◌≡◌, ℕ, ◌⊎◌, List, Option, None, Some}
 use Rattle.std.specs.declared.string.String.{String}
 use Rattle.mc_words.specs.declared.bad_input.BadInput.{BadInput}
 use Rattle.mc_words.specs.declared.ended.Ended.{Ended}
 use Rattle.mc_words.specs.declared.ended.Ended.TheVariants as ended
-use Rattle.mc_words.specs.declared.script_line.ScriptEvent.{ScriptEvent}
 use Rattle.mc_words.specs.declared.arguments.Command.{Command}
 use Rattle.mc_words.specs.declared.arguments.Command.TheVariants.{Status, Replay, Serve}
-use Rattle.mc_words.specs.Devices.{Devices, InputStays, LobbyStays}
-use Rattle.mc_words.specs.Ended.{status_of}
-use Rattle.mc_top.specs.ReplayPromise.{IsScriptOf, IsFaultOf, ReplayPromise}
-use Rattle.mc_top.specs.ServePromise.{ServePromise}
-use Rattle.mc_top.specs.StatusPromise.{IsFineText, IsBadText, StatusPromise}
 use Rattle.mc_words.specs.Arguments.{command_of, bytes_of}
+use Rattle.mc_words.specs.Delivers.{Delivers}
+use Rattle.mc_words.specs.Devices.{Devices, InputStays, LobbyStays, streams_of}
+use Rattle.mc_words.specs.Ended.{status_of}
+use Rattle.mc_words.specs.StatusText.{status_told}
+use Rattle.mc_words.specs.Told.{Told}
+use Rattle.mc_top.specs.ReplayPromise.{Plays, replay_told}
+use Rattle.mc_top.specs.ServePromise.{ServePromise}
 
--- what holds where a command ended so, from the devices before it to those after it; it touches no
--- device but its own
+-- what a command tells of its input; None where it reads none
+abbrev pub told_of : Command → Option (List ℕ → Told)
+told_of (Status most) = Some (status_told most)
+told_of (Replay options) = Some (replay_told options)
+told_of (Serve options) = None
+
+-- a command that reads a text delivers what it tells of that and touches no lobby; another reads no
+-- input
+abbrev pub Reads : Option (List ℕ → Told) → Ended → Devices → Devices → Type 0
+Reads (Some told) how before after =
+    LobbyStays before after × Delivers told how (streams_of before) (streams_of after)
+Reads None how before after = InputStays before after
+
+-- what it promises beside that
+abbrev pub Does : Command → Ended → Devices → Devices → Type 0
+Does (Status most) how before after = Unit {0}
+Does (Replay options) how before after = Plays options how before.left
+Does (Serve options) how before after = ServePromise options how before after
+
+-- what holds where a command ended so, from the devices before it to those after it
 abbrev pub Promises : Command → Ended → Devices → Devices → Type 0
-Promises (Status most) ended before after =
-    LobbyStays before after × StatusPromise most ended before after
-Promises (Replay options) ended before after =
-    LobbyStays before after × ReplayPromise options ended before after
-Promises (Serve options) ended before after =
-    InputStays before after × ServePromise options ended before after
+Promises command how before after =
+    Reads (told_of command) how before after × Does command how before after
 
--- nothing is wrong with an input; `serve` reads none
-abbrev pub IsInputOf : Command → List ℕ → Type 0
-IsInputOf (Status most) input = (text : List ℕ) × IsFineText most text input
-IsInputOf (Replay options) input = (events : List ScriptEvent) × IsScriptOf events input
-IsInputOf (Serve options) input = Unit {0}
+-- a command reads no input, or what is left of it is told and nothing is wrong with that
+abbrev pub IsFineInput : Option (List ℕ → Told) → Option (List ℕ) → Type 0
+IsFineInput (Some told) left =
+    (input : List ℕ) × (left ≡ Some input) × ((told input).fault ≡ None)
+IsFineInput None left = Unit {0}
 
--- this is the first fault of an input
-abbrev pub HasFault : Command → BadInput → List ℕ → Type 0
-HasFault (Status most) bad input = (text : List ℕ) × IsBadText most bad text input
-HasFault (Replay options) bad input = IsFaultOf bad input
-HasFault (Serve options) bad input = ⊥
+-- a command reads an input, which is told, and this is its first fault
+abbrev pub HasFault : Option (List ℕ → Told) → BadInput → Option (List ℕ) → Type 0
+HasFault (Some told) bad left =
+    (input : List ℕ) × (left ≡ Some input) × ((told input).fault ≡ Some bad)
+HasFault None bad left = ⊥
 
 -- how a command ends where nothing is wrong with its input, no device fails and memory suffices
 abbrev pub EndsFine : Command → Ended → Type 0

@@ -1,5 +1,5 @@
 -- What playing events makes of a server, piece by piece, and what it writes.
-use Rattle.std.specs.Prelude.{◌≡◌, ℕ, ◌≤◌, Bool, true, false, List, [], ◌∷◌, ◌++◌, length, take}
+use Rattle.std.specs.Prelude.{◌≡◌, ℕ, ◌<◌, ◌≤◌, Bool, true, false, List, [], ◌∷◌, ◌++◌, length, take}
 use Rattle.std.specs.Prelude.{Option, codes, decimal, if◌then◌else◌}
 use Rattle.std.specs.List.{sum_by}
 use Rattle.hex.specs.Hex.{encode_lower}
@@ -19,9 +19,13 @@ use Rattle.mc_top.specs.ReplayText.{settled, replay_text}
 
 -- ---- one connection after an event
 
--- it took all that it was owed
+-- it took all that it was owed, where that was anything
+abbrev pub taken_of : ℕ → World → List ℕ → World
+taken_of k w [] = w
+taken_of k w (b ∷ bytes) = (step w (took k (length (b ∷ bytes)))).world
+
 abbrev pub taken : ℕ → World → World
-taken k w = (step w (took k (length (owed_in k w)))).world
+taken k w = taken_of k w (owed_in k w)
 
 -- its line of bytes, where there are any
 abbrev pub sent_by : ℕ → List ℕ → List ℕ
@@ -35,7 +39,7 @@ abbrev pub TakesFront : ℕ → World → ServerValue → Option (List ℕ) → 
 TakesFront k w server held held' old new false =
     (owed_in k w ≡ []) × Stands server w × Passes held held' old [] new []
 TakesFront k w server held held' old new true =
-    (n : ℕ) × (n ≤ length (owed_in k w)) × Stands server (step w (took k n)).world
+    (n : ℕ) × (0 < n) × (n ≤ length (owed_in k w)) × Stands server (step w (took k n)).world
     × Passes held held' old (encode_lower (take n (owed_in k w))) new []
 
 -- it was forgotten, where it was closed and owed nothing

@@ -1,10 +1,9 @@
 -- What `serve` promises, by how it ends. Rules of this project.
 use Rattle.std.specs.Prelude.{◌≡◌, ℕ, ◌⊎◌, List, ◌++◌, take, Option, Result, Ok, Err, codes}
 use Rattle.std.specs.Prelude.{decimal}
-use Rattle.mc_wire.specs.declared.log.LogEntry.{LogEntry}
 use Rattle.mc_wire.specs.Becoming.{ToldBecomes}
 use Rattle.mc_wire.specs.Count.{Rose}
-use Rattle.mc_wire.specs.LobbyTold.{LobbyTold, with_entries, with_pace, with_port}
+use Rattle.mc_wire.specs.LobbyTold.{LobbyTold, with_pace}
 use Rattle.mc_wire.specs.Stream.{Grows}
 use Rattle.mc_server.specs.declared.service.Budget.{Budget}
 use Rattle.mc_server.specs.declared.service.DriveFault.{DriveFault}
@@ -34,6 +33,13 @@ pub record HasServed (options : ServeOptions) (old new : Option LobbyTold)
   pub pace : ToldBecomes old paced (with_pace options.pace)
   pub server : ServerValue
   pub drove : DroveNew (budget_of options) paced new (settings_of options.world) server result
+
+-- how `serve` can end before its last line is written
+abbrev pub EndsServing : Ended → Type 0
+EndsServing ended.Usage = ⊥
+EndsServing ended.ReadFault = ⊥
+EndsServing (ended.BadInput bad) = ⊥
+EndsServing other = Unit {0}
 
 -- ---- where it ended well
 
@@ -89,19 +95,18 @@ HasLost options old new =
 abbrev pub HasSpent : ServeOptions → ℕ → Option LobbyTold → Option LobbyTold → Type 0
 HasSpent options n old new = HasServed options old new (Err (Events n))
 
--- the lobby was told the pace, and asked to listen at most once, on the port alone
-abbrev pub AskedAtMostOnce : ServeOptions → Option LobbyTold → Option LobbyTold → Type 0
-AskedAtMostOnce options old new =
-    ToldBecomes old new (with_pace options.pace)
-    ⊎ ((entries : List LogEntry) × ToldBecomes old new (λ told.
-    with_entries entries (with_port options.port (with_pace options.pace told))))
+-- It was served until memory ran out, in a turn or for the last line. So the whole promise holds of
+-- the turns that were done until then (`DroveNew`).
+abbrev pub HasServedPart : ServeOptions → Option LobbyTold → Option LobbyTold → Type 0
+HasServedPart options old new =
+    (result : Result drives.Ended DriveFault) × HasServed options old new result
 
 -- what holds where `serve` ended so
 abbrev pub ServePromise : ServeOptions → Ended → Devices → Devices → Type 0
 ServePromise options ended.Done before after =
     Summed options before.told after.told before.held after.held
 ServePromise options ended.NoMemory before after =
-    AskedAtMostOnce options before.told after.told × (after.held ≡ before.held)
+    HasServedPart options before.told after.told × (after.held ≡ before.held)
 ServePromise options ended.Usage before after = ⊥
 ServePromise options ended.ReadFault before after = ⊥
 ServePromise options ended.WriteFault before after =

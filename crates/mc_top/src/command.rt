@@ -1,76 +1,30 @@
-ghost use Rattle.std.specs.Prelude.{◌≡◌, ◌↔◌, ℕ, List, IfOk, IfSome, string_bytes};
-ghost use Rattle.mc_wire.specs.Count.{Rose, StandsOrRises};
-ghost use Rattle.mc_words.specs.declared.bad_input.BadInput.{BadInput};
-ghost use Rattle.mc_words.specs.Devices.{devices, WroteLast};
-ghost use Rattle.mc_words.specs.Ended.{usage_line};
-ghost use Rattle.mc_top.specs.Finishing.{EndsText, Finishes, FinishesWith};
-ghost use Rattle.mc_top.specs.Promises.{IsStatus, KeepsPromise, NamesNone, Promises};
-ghost use Rattle.mc_top.specs.StatusPromise.{Found, Replied, RepliedPart, RepliedPartOrNothing};
+ghost use Rattle.std.specs.Prelude.{◌≡◌, ◌↔◌, IfSome};
 ghost use Rattle.mc_words.specs.Arguments.{IsSet, bytes_of, command_of};
+ghost use Rattle.mc_words.specs.Delivers.{Delivered};
+ghost use Rattle.mc_words.specs.Devices.{WroteLast, devices, streams};
+ghost use Rattle.mc_words.specs.Ended.{usage_line};
+ghost use Rattle.mc_words.specs.StatusText.{status_told};
+ghost use Rattle.mc_top.specs.Promises.{IsStatus, KeepsPromise, NamesNone, Promises};
 
 use crate::replay::replay;
 use crate::serve::serve;
-use mc_bytes::NoMemory;
-use mc_wire::{InputError, Lobby, Sink, Source, write_all};
-use mc_words::{BadInput, Command, Ended, Unfinished, budget_line, read_text, write_status};
+use mc_wire::{InputError, Lobby, Sink, Source};
+use mc_words::{Command, Ended, finish, read_text, write_status};
 use std::alloc::Global;
 
 /// The command `status`: it reads one client's bytes as lines of hex, and writes each frame that
 /// answers them as one such line. `most` is the number of players that it tells.
 fn status<I: Source, O: Sink>(alloc: Global, most: u32, input: &mut I, out: &mut O) -> Ended
-    ensures done { result ≡ Ended.Done →
-        Replied most (I.left input.old) (I.left input.new) (O.held out.old) (O.held out.new) }
-    ensures no_memory { result ≡ Ended.NoMemory →
-        RepliedPartOrNothing most (I.left input.old) (O.held out.old) (O.held out.new) }
-    ensures ends { EndsText result }
-    ensures read_fault { result ≡ Ended.ReadFault →
-        Rose (I.faults input.old) (I.faults input.new) × (out.new ≡ out.old) }
-    ensures write_fault { result ≡ Ended.WriteFault → Rose (O.faults out.old) (O.faults out.new)
-        × RepliedPart most (I.left input.old) (O.held out.old) (O.held out.new) }
-    ensures bad_input { (bad : BadInput) → result ≡ Ended.BadInput bad →
-        Found most bad (I.left input.old) (I.left input.new) (O.held out.old) (O.held out.new) }
-    ensures counts { StandsOrRises (O.faults out.old) (O.faults out.new) }
+    ensures { Delivered (status_told most) result
+        (streams (I.left input.old) (I.faults input.old) (O.held out.old) (O.faults out.old))
+        (streams (I.left input.new) (I.faults input.new) (O.held out.new) (O.faults out.new)) }
 {
     let text = match read_text(alloc, input) {
         Ok(text) => text,
         Err(InputError::Failed) => return Ended::ReadFault,
         Err(InputError::NoMemory) => return Ended::NoMemory,
     };
-    match write_status(alloc, most, &text, out) {
-        Ok(fault) => Ended::after(fault),
-        Err(Unfinished::Failed) => Ended::WriteFault,
-        Err(Unfinished::NoMemory) => Ended::NoMemory,
-    }
-}
-
-/// Writes a last line that has a number, and says how a command ends with that: without memory for
-/// the line it ends out of memory.
-fn finish_with<O: Sink>(line: Result<String, NoMemory>, ended: Ended, out: &mut O) -> Ended
-    ensures { (bytes : List ℕ) → IfOk line (λ text. string_bytes text ≡ bytes) →
-        FinishesWith ended bytes result (O.held out.old) (O.held out.new)
-        (O.faults out.old) (O.faults out.new) }
-{
-    let Ok(line) = line else {
-        return Ended::NoMemory;
-    };
-    // Where the last line is not written, the status still says how the command ended.
-    let _ = write_all(out, line.as_bytes());
-    ended
-}
-
-/// Writes the last line of a command that ended so, and says how it ends with that.
-fn finish<O: Sink>(alloc: Global, ended: Ended, out: &mut O) -> Ended
-    ensures { Finishes ended result (O.held out.old) (O.held out.new)
-        (O.faults out.old) (O.faults out.new) }
-{
-    match ended {
-        Ended::BadInput(bad) => finish_with(bad.last_line(alloc), ended, out),
-        Ended::Budget(events) => finish_with(budget_line(alloc, events), ended, out),
-        _ => {
-            let _ = write_all(out, ended.last_line());
-            ended
-        }
-    }
+    Ended::told(write_status(alloc, most, &text, out))
 }
 
 /// Does what a command asks, and writes its last line.

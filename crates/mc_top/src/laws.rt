@@ -1,4 +1,4 @@
-ghost use Rattle.std.specs.Prelude.{◌≡◌, ◌≤◌, ◌+◌, ◌⊎◌, ℕ, List, Some, Ok, Err};
+ghost use Rattle.std.specs.Prelude.{◌≡◌, ◌≤◌, ◌+◌, ◌⊎◌, ℕ, List, Ok, Err};
 ghost use Rattle.mc_wire.specs.Count.{Rose};
 ghost use Rattle.mc_words.specs.declared.bad_input.BadInput.{BadInput};
 ghost use Rattle.mc_words.specs.declared.bad_input.InputFault.TheVariants.{Long};
@@ -11,7 +11,7 @@ ghost use Rattle.mc_words.specs.declared.ended.Ended.TheVariants as ended;
 ghost use Rattle.mc_words.specs.declared.arguments.Command.{Command};
 ghost use Rattle.mc_words.specs.Devices.{Devices};
 ghost use Rattle.mc_words.specs.Ended.{status_of};
-ghost use Rattle.mc_top.specs.Promises.{EndsFine, HasFault, IsInputOf, Promises};
+ghost use Rattle.mc_top.specs.Promises.{EndsFine, HasFault, IsFineInput, Promises, told_of};
 
 /// The line of a script that is too long is the one that holds the first byte too many.
 pub fn long_line_of_a_script()
@@ -25,13 +25,13 @@ pub fn ticks_of_a_script()
         ticks_of events ≤ 1000000000 }
 {}
 
-/// An input that nothing is wrong with is served, unless memory runs out or a device fails; where a
-/// lobby is served the events that may come can be used up. It follows from what each command
-/// promises.
+/// An input that nothing is wrong with is served, unless memory runs out or a device fails; so is a
+/// lobby, where no input is read, and there the events that may come can be used up. It follows
+/// from what each command promises.
 pub fn good_inputs_are_served()
-    ensures { (command : Command) (how : Ended) (before after : Devices) (input : List ℕ) →
-        Promises command how before after → before.left ≡ Some input →
-        IsInputOf command input → ¬ Rose before.read_faults after.read_faults →
+    ensures { (command : Command) (how : Ended) (before after : Devices) →
+        Promises command how before after → IsFineInput (told_of command) before.left →
+        ¬ Rose before.read_faults after.read_faults →
         ¬ Rose before.write_faults after.write_faults →
         ¬ Rose before.counts.faults after.counts.faults →
         EndsFine command how ⊎ (how ≡ ended.NoMemory) }
@@ -40,8 +40,8 @@ pub fn good_inputs_are_served()
 /// An input that has a fault is refused, unless memory runs out or a device fails. It follows from
 /// what each command promises.
 pub fn bad_inputs_are_refused()
-    ensures { (command : Command) (how : Ended) (before after : Devices) (bad : BadInput)
-        (input : List ℕ) → Promises command how before after → before.left ≡ Some input →
-        HasFault command bad input → ¬ Rose before.read_faults after.read_faults →
+    ensures { (command : Command) (how : Ended) (before after : Devices) (bad : BadInput) →
+        Promises command how before after → HasFault (told_of command) bad before.left →
+        ¬ Rose before.read_faults after.read_faults →
         ¬ Rose before.write_faults after.write_faults → (status_of how ≡ 6) ⊎ (status_of how ≡ 1) }
 {}

@@ -7,18 +7,20 @@ ghost use Rattle.mc_model.specs.World.{World};
 ghost use Rattle.mc_events.specs.Inputs.{event_of};
 ghost use Rattle.mc_events.specs.Served.{age_of};
 ghost use Rattle.mc_events.specs.Stands.{Stands};
-ghost use Rattle.mc_words.specs.declared.bad_input.BadInput.{BadInput};
-ghost use Rattle.mc_top.specs.Finishing.{EndsText};
+ghost use Rattle.mc_words.specs.Delivers.{Delivered};
+ghost use Rattle.mc_words.specs.Devices.{streams};
+ghost use Rattle.mc_words.specs.Told.{Tells};
 ghost use Rattle.mc_top.specs.ReplayText.{line_events, events_of, replay_text};
 ghost use Rattle.mc_top.specs.Replaying.{HasPlayed, HasStopped, line_ticks, ticks_of, input_ticks};
-ghost use Rattle.mc_top.specs.ReplayPromise.{world_of, Replayed, ReplayedPart};
-ghost use Rattle.mc_top.specs.ReplayPromise.{ReplayedPartOrNothing, FoundFault};
+ghost use Rattle.mc_top.specs.ReplayPromise.{IsScriptText, Plays, replay_told, world_of};
 
 use crate::replay_lines::put_lines;
 use crate::world::new_server;
 use mc_server::{Input, Server};
 use mc_wire::{InputError, Sink, Source};
-use mc_words::{Ended, Script, ScriptError, ScriptEvent, Unfinished, WorldOptions, read_text};
+use mc_words::{
+    BadInput, Ended, Script, ScriptError, ScriptEvent, Unfinished, WorldOptions, read_text,
+};
 use std::alloc::Global;
 
 /// Plays one event, and writes its lines as they come. `lines` is room for those that wait.
@@ -146,8 +148,31 @@ fn play_script<O: Sink>(
     played
 }
 
-/// The command `replay`: it reads a script, plays it on a server of a new world, and writes after
-/// each event what each connection is owed.
+/// Plays what a text says as a script, and gives the text's first fault.
+fn tell_script<O: Sink>(
+    alloc: Global,
+    options: WorldOptions,
+    text: Vec<u8>,
+    out: &mut O,
+) -> Result<Option<BadInput>, Unfinished>
+    requires { AreSettings options.players options.view }
+    ensures told { Tells (replay_told options text.items) result
+        (O.held out.old) (O.held out.new) (O.faults out.old) (O.faults out.new) }
+    ensures script { IsErrOf result Unfinished.Failed → IsScriptText text.items }
+{
+    let script = match Script::read(alloc, &text) {
+        Ok(script) => script,
+        Err(ScriptError::Bad(bad)) => return Ok(Some(bad)),
+        Err(ScriptError::NoMemory) => return Err(Unfinished::NoMemory),
+    };
+    // The text is as long as all that happens in it, and nothing more is read of it.
+    drop(text);
+    play_script(alloc, options, &script, out)?;
+    Ok(None)
+}
+
+/// The command `replay`: it reads a script of events, plays it on a server of a new world, and
+/// writes after each event what each connection is owed.
 pub fn replay<I: Source, O: Sink>(
     alloc: Global,
     options: WorldOptions,
@@ -155,34 +180,15 @@ pub fn replay<I: Source, O: Sink>(
     out: &mut O,
 ) -> Ended
     requires { AreSettings options.players options.view }
-    ensures done { result ≡ Ended.Done →
-        Replayed options (I.left input.old) (I.left input.new) (O.held out.old) (O.held out.new) }
-    ensures no_memory { result ≡ Ended.NoMemory →
-        ReplayedPartOrNothing options (I.left input.old) (O.held out.old) (O.held out.new) }
-    ensures ends { EndsText result }
-    ensures read_fault { result ≡ Ended.ReadFault →
-        Rose (I.faults input.old) (I.faults input.new) × (out.new ≡ out.old) }
-    ensures write_fault { result ≡ Ended.WriteFault → Rose (O.faults out.old) (O.faults out.new)
-        × ReplayedPart options (I.left input.old) (O.held out.old) (O.held out.new) }
-    ensures bad_input { (bad : BadInput) → result ≡ Ended.BadInput bad →
-        FoundFault bad (I.left input.old) (I.left input.new) × (out.new ≡ out.old) }
-    ensures counts { StandsOrRises (O.faults out.old) (O.faults out.new) }
+    ensures delivered { Delivered (replay_told options) result
+        (streams (I.left input.old) (I.faults input.old) (O.held out.old) (O.faults out.old))
+        (streams (I.left input.new) (I.faults input.new) (O.held out.new) (O.faults out.new)) }
+    ensures plays { Plays options result (I.left input.old) }
 {
     let text = match read_text(alloc, input) {
         Ok(text) => text,
         Err(InputError::Failed) => return Ended::ReadFault,
         Err(InputError::NoMemory) => return Ended::NoMemory,
     };
-    let script = match Script::read(alloc, &text) {
-        Ok(script) => script,
-        Err(ScriptError::Bad(bad)) => return Ended::BadInput(bad),
-        Err(ScriptError::NoMemory) => return Ended::NoMemory,
-    };
-    // The text is as long as all that happens in it, and nothing more is read of it.
-    drop(text);
-    match play_script(alloc, options, &script, out) {
-        Ok(()) => Ended::Done,
-        Err(Unfinished::Failed) => Ended::WriteFault,
-        Err(Unfinished::NoMemory) => Ended::NoMemory,
-    }
+    Ended::told(tell_script(alloc, options, text, out))
 }

@@ -2,9 +2,9 @@ ghost use Rattle.std.specs.Prelude.{◌≡◌, ℕ, IfOk, OnOk, IsErrOf, string_
 ghost use Rattle.mc_wire.specs.Count.{Rose};
 ghost use Rattle.mc_wire.specs.Stream.{Grows};
 ghost use Rattle.mc_words.specs.Arguments.{CanServe};
-ghost use Rattle.mc_top.specs.Finishing.{EndsServing};
-ghost use Rattle.mc_top.specs.ServePromise.{AskedAtMostOnce, HasLost, HasSpent, Summed, SummedPart};
-ghost use Rattle.mc_top.specs.ServePromise.{budget_of, ended_by, summary_line, tally_of};
+ghost use Rattle.mc_top.specs.ServePromise.{EndsServing, HasLost, HasServedPart, HasSpent, Summed};
+ghost use Rattle.mc_top.specs.ServePromise.{SummedPart, budget_of, ended_by, summary_line};
+ghost use Rattle.mc_top.specs.ServePromise.{tally_of};
 
 use crate::world::new_server;
 use mc_bytes::NoMemory;
@@ -85,7 +85,7 @@ pub fn serve<L: Lobby, O: Sink>(
     ensures done { result ≡ Ended.Done →
         Summed options (L.told lobby.old) (L.told lobby.new) (O.held out.old) (O.held out.new) }
     ensures no_memory { result ≡ Ended.NoMemory →
-        AskedAtMostOnce options (L.told lobby.old) (L.told lobby.new) × (out.new ≡ out.old) }
+        HasServedPart options (L.told lobby.old) (L.told lobby.new) × (out.new ≡ out.old) }
     ensures write_fault { result ≡ Ended.WriteFault → Rose (O.faults out.old) (O.faults out.new)
         × SummedPart options (L.told lobby.old) (L.told lobby.new) (O.held out.old)
         (O.held out.new) }

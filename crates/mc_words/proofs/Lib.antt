@@ -10,3 +10,5 @@ pub mod DigitSteps
 pub mod Scripts
 pub mod ArgumentSteps
 pub mod Passing
+pub mod Finishes
+pub mod Delivering

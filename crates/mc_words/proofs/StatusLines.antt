@@ -10,7 +10,8 @@ use Rattle.mc_words.specs.declared.bad_input.InputFault.{InputFault}
 use Rattle.mc_words.specs.declared.bad_input.InputFault.TheVariants.{Cut}
 use Rattle.mc_words.specs.declared.client.Client.{Client}
 use Rattle.mc_words.specs.Lines.{lines_of, is_line_end}
-use Rattle.mc_words.specs.StatusText.{Exchange, first_exchange, receives_next, ends_inside, Told}
+use Rattle.mc_words.specs.StatusText.{Exchange, first_exchange, receives_next, ends_inside}
+use Rattle.mc_words.specs.Told.{Told}
 use Rattle.mc_words.specs.StatusText.{last_byte_line, told_at_end, told_after, lines_told}
 use Rattle.mc_words.specs.StatusText.{status_told}
 use Rattle.mc_words.specs.Received.{Received, IsIdle, Sends, SendsPart}

@@ -4,7 +4,6 @@ use Rattle.mc_wire.specs.Count.{Rose}
 use Rattle.mc_wire.specs.LobbyCounts.{LobbyCounts}
 use Rattle.mc_wire.specs.LobbyTold.{LobbyTold}
 use Rattle.mc_wire.specs.Stream.{Consumes, Grows, IsAtEnd}
-use Rattle.mc_words.specs.Ended.{read_fault_line}
 use Rattle.mc_words.specs.Lines.{text_max}
 
 pub record Devices : Type 0 where
@@ -31,6 +30,24 @@ devices told counts left read_faults held write_faults = record {
   held = held;
   write_faults = write_faults;
 }
+
+-- of these, what a command uses that reads a text and writes another
+pub record Streams : Type 0 where
+  pub left : Option (List ℕ)
+  pub read_faults : ℕ
+  pub held : Option (List ℕ)
+  pub write_faults : ℕ
+
+abbrev pub streams : Option (List ℕ) → ℕ → Option (List ℕ) → ℕ → Streams
+streams left read_faults held write_faults = record {
+  left = left;
+  read_faults = read_faults;
+  held = held;
+  write_faults = write_faults;
+}
+
+abbrev pub streams_of : Devices → Streams
+streams_of all = streams all.left all.read_faults all.held all.write_faults
 
 -- the lobby was not touched
 abbrev pub LobbyStays : Devices → Devices → Type 0
@@ -62,9 +79,3 @@ abbrev pub WroteTextThenLast : Option (List ℕ) → Option (List ℕ) → ℕ �
 WroteTextThenLast held held' faults faults' text line =
     Grows held held' (text ++ line)
     ⊎ (Rose faults faults' × (len : ℕ) × Grows held held' (text ++ take len line))
-
--- a read failed, and nothing but the last line was written
-abbrev pub InputFailed : Devices → Devices → Type 0
-InputFailed before after =
-    Rose before.read_faults after.read_faults
-    × WroteLast before.held after.held before.write_faults after.write_faults read_fault_line

@@ -1,15 +1,20 @@
 -- The statuses of the program, and the last line that each has. Rules of this project.
-use Rattle.std.specs.Prelude.{ℕ, List, [], ◌∷◌, ◌++◌, Option, Some, None, codes, decimal}
+use Rattle.std.specs.Prelude.{ℕ, List, [], ◌∷◌, ◌++◌, Option, Some, None, Result, Ok, Err, codes}
+use Rattle.std.specs.Prelude.{decimal}
 use Rattle.mc_words.specs.declared.bad_input.BadInput.{BadInput}
 use Rattle.mc_words.specs.declared.ended.Ended.{Ended}
 use Rattle.mc_words.specs.declared.ended.Ended.TheVariants as ended
 use Rattle.mc_words.specs.declared.ended.TheConstants.{USAGE}
+use Rattle.mc_words.specs.declared.unfinished.Unfinished.{Unfinished}
+use Rattle.mc_words.specs.declared.unfinished.Unfinished.TheVariants.{Failed, NoMemory}
 use Rattle.mc_words.specs.FaultName.{fault_name}
 
--- how a command ends whose input has this first fault
-abbrev pub ended_after : Option BadInput → Ended
-ended_after None = ended.Done
-ended_after (Some bad) = ended.BadInput bad
+-- how a command ends that wrote what is told of its input, and found this first fault there
+abbrev pub ended_told : Result (Option BadInput) Unfinished → Ended
+ended_told (Ok None) = ended.Done
+ended_told (Ok (Some bad)) = ended.BadInput bad
+ended_told (Err Failed) = ended.WriteFault
+ended_told (Err NoMemory) = ended.NoMemory
 
 abbrev pub status_of : Ended → ℕ
 status_of ended.Done = 0

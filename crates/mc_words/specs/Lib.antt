@@ -1,10 +1,13 @@
 pub mod Lines
 pub mod FaultName
 pub mod Ended
+pub mod Told
 pub mod StatusText
 pub mod Received
 pub mod Arguments
 pub mod Devices
+pub mod Delivers
+pub mod Finishing
 pub mod Digits
 pub mod Script
 pub mod ScriptRead

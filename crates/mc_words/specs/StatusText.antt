@@ -23,6 +23,7 @@ use Rattle.mc_words.specs.declared.bad_input.InputFault.{InputFault}
 use Rattle.mc_words.specs.declared.bad_input.InputFault.TheVariants.{Hex, Frame, Packet, Login, Cut}
 use Rattle.mc_words.specs.declared.bad_input.InputFault.TheVariants.{Long}
 use Rattle.mc_words.specs.Lines.{lines_of, line_bytes, goes_past}
+use Rattle.mc_words.specs.Told.{Told}
 
 -- ---- one connection
 
@@ -77,11 +78,6 @@ abbrev pub receives : Exchange → ℕ → Exchange
 receives x b = if is_some x.fault then x else goes_on x (step x.world (came 0 (b ∷ [])))
 
 -- ---- lines
-
--- what is written before the last line, and the first fault, which the last line names
-pub record Told : Type 0 where
-  pub text : List ℕ
-  pub fault : Option BadInput
 
 -- the bytes of a line come one by one, where it is hex
 abbrev pub receives_line : Exchange → Option (List ℕ) → Exchange

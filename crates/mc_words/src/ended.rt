@@ -1,7 +1,8 @@
 ghost use Rattle.std.specs.Prelude.{◌≡◌, IfOk, string_bytes};
-ghost use Rattle.mc_words.specs.Ended.{status_of, fixed_line_of, ended_after, budget_line};
+ghost use Rattle.mc_words.specs.Ended.{status_of, fixed_line_of, ended_told, budget_line};
 
 use crate::bad_input::BadInput;
+use crate::unfinished::Unfinished;
 use mc_bytes::NoMemory;
 use std::alloc::Global;
 
@@ -37,13 +38,15 @@ pub fn budget_line(alloc: Global, events: u64) -> Result<String, NoMemory>
 }
 
 impl Ended {
-    /// How a command ends whose input has this first fault.
-    pub fn after(fault: Option<BadInput>) -> Ended
-        ensures { result ≡ ended_after fault }
+    /// How a command ends that wrote what is told of its input, and found this first fault there.
+    pub fn told(fault: Result<Option<BadInput>, Unfinished>) -> Ended
+        ensures { result ≡ ended_told fault }
     {
         match fault {
-            None => Ended::Done,
-            Some(bad) => Ended::BadInput(bad),
+            Ok(None) => Ended::Done,
+            Ok(Some(bad)) => Ended::BadInput(bad),
+            Err(Unfinished::Failed) => Ended::WriteFault,
+            Err(Unfinished::NoMemory) => Ended::NoMemory,
         }
     }
 

@@ -11,6 +11,7 @@ mod bad_input;
 mod client;
 mod digits;
 mod ended;
+mod finishing;
 mod lines;
 mod pieces;
 mod script;
@@ -20,7 +21,8 @@ mod unfinished;
 
 pub use arguments::{Command, ServeOptions, WorldOptions};
 pub use bad_input::{BadInput, InputFault};
-pub use ended::{Ended, budget_line};
+pub use ended::Ended;
+pub use finishing::finish;
 pub use lines::read_text;
 pub use pieces::{HEX_PIECE, put, put_hex, write_out};
 pub use script::{Script, ScriptError};

@@ -1,5 +1,6 @@
 use Rattle.std.proofs.Common.{◌≡◌, ◌≢◌, ◌<◌, ◌≤◌, ◌+◌, ◌^◌, ℕ, [], ◌∷◌, refl, inl, inr, sym, ap}
 use Rattle.std.proofs.Common.{◌∙◌, arith, rules}
+use Rattle.std.proofs.lemmas.Result.{err_from_is_err_and}
 use Rattle.mc_wire.specs.declared.answers.Event.{Event}
 use Rattle.mc_wire.specs.declared.log.LogEntry.{LogEntry}
 use Rattle.mc_wire.specs.LobbyAnswers.{event_entry}
@@ -9,7 +10,8 @@ use Rattle.mc_events.specs.Served.{age_of}
 use Rattle.mc_server.specs.Drives.{is_tick, one_if}
 use Rattle.mc_server.proofs.Few.{one_at_most}
 use Rattle.mc_server.proofs.Driven.{driving_next, driving_start, drove_ended, drove_events}
-use Rattle.mc_server.proofs.Driven.{drove_failed, drove_ticks, still_young, tally_is, told_same}
+use Rattle.mc_server.proofs.Driven.{drove_failed, drove_out, drove_ticks, still_young, tally_is}
+use Rattle.mc_server.proofs.Driven.{told_same}
 use Rattle.mc_server.proofs.service.serve.Goals as goal
 
 pub loop-round-init : goal.loop-round-init
@@ -24,14 +26,14 @@ loop-round-init g c = record {
 }
 
 pub returns-in_default-clause-drove : goal.returns-in_default-clause-drove
-returns-in_default-clause-drove g c = λ w st none ne.
+returns-in_default-clause-drove g c = λ w st none.
     let h = c.loop-round.invariant in
     drove_failed c.args.budget _ _ w c.loop-round.server c.loop-round._round c.loop-round.joins
     c.loop-round.closed (h.driving w st none) _ c.in_default.ensures.kept h.young
     c.loop-round-test.true
 
 pub returns-in_default-input_of-clause-drove : goal.returns-in_default-input_of-clause-drove
-returns-in_default-input_of-clause-drove g c = λ w st none ne.
+returns-in_default-input_of-clause-drove g c = λ w st none.
     let h = c.loop-round.invariant in
     let d = h.driving w st none in
     let less : c.loop-round._round < 2 ^ 64 = search rules in
@@ -51,13 +53,22 @@ returns-in_err-take_turn-clause-logs g c =
     HasLogged-trans _ _ _ (HasLogged-trans _ _ _ c.loop-round.invariant.logs
     (_, c.in-Ok.ensures.tells)) c.take_turn.ensures.logs
 
+pub returns-in_err-take_turn-clause-drove : goal.returns-in_err-take_turn-clause-drove
+returns-in_err-take_turn-clause-drove g c = λ w st none.
+    let h = c.loop-round.invariant in
+    let p = err_from_is_err_and c.from_residual.result c.from_residual.ensures.1 in
+    rw (p.1, p.2) (drove_out c.args.budget _ _ w c.loop-round.server c.loop-round._round
+    c.loop-round.joins c.loop-round.closed (h.driving w st none) _ _
+    (HasLogged-trans _ _ _ (_, c.in-Ok.ensures.tells) c.take_turn.ensures.logs) h.young
+    c.loop-round-test.true)
+
 pub returns-then-age-from-clause-logs : goal.returns-then-age-from-clause-logs
 returns-then-age-from-clause-logs g c =
     HasLogged-trans _ _ _ (HasLogged-trans _ _ _ c.loop-round.invariant.logs
     (_, c.in-Ok.ensures.tells)) c.take_turn.ensures.logs
 
 pub returns-then-age-from-clause-drove : goal.returns-then-age-from-clause-drove
-returns-then-age-from-clause-drove g c = λ w st none ne.
+returns-then-age-from-clause-drove g c = λ w st none.
     let h = c.loop-round.invariant in
     let entry : LogEntry = event_entry c.in-Ok.event c.next.new.buf in
     let joined : ℕ = c.loop-round.joins + c.joining.result in
@@ -114,7 +125,7 @@ loop-round-preserved g c =
     }
 
 pub returns-clause-drove : goal.returns-clause-drove
-returns-clause-drove g c = λ w st none ne.
+returns-clause-drove g c = λ w st none.
     let h = c.loop-round.invariant in
     let most : c.loop-round._round ≤ c.args.budget.events = search rules in
     drove_events c.args.budget _ _ w c.loop-round.server c.loop-round._round c.loop-round.joins

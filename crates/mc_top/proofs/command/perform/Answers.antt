@@ -1,6 +1,8 @@
 use Rattle.std.proofs.Common.{refl}
-use Rattle.mc_top.proofs.StatusKept.{status_kept}
-use Rattle.mc_top.proofs.ReplayKept.{replay_kept}
+use Rattle.mc_words.specs.StatusText.{status_told}
+use Rattle.mc_words.proofs.Delivering.{delivers}
+use Rattle.mc_top.specs.ReplayPromise.{replay_told}
+use Rattle.mc_top.proofs.Replays.{plays_on}
 use Rattle.mc_top.proofs.ServeKept.{serve_kept}
 use Rattle.mc_top.proofs.command.perform.Goals as goal
 use Rattle.mc_top.proofs.command.perform.Goals.{in-Status, in-Replay, in-Serve}
@@ -11,34 +13,24 @@ returns g c = elim c.match-command.branch [
       let last = rw (w.ended-is, w.out-is) at c.finish.ensures in
       let said = w.status-ended.ensures in
       rw (w.in-Status.is, w.lobby-is, w.input-is) (
-        (refl, refl),
-        status_kept _ g.O.Sink.held g.O.Sink.faults w.in-Status.most w.status-ended.result
-            c.finish.result _ _ _ _ _ _ c.args.out.now w.status-ended.new.out c.finish.new.out
-            (record {
-              done = said.done;
-              no_memory = said.no_memory;
-              ends = said.ends;
-              read_fault = said.read_fault;
-              write_fault = said.write_fault;
-              bad_input = said.bad_input;
-              counts = said.counts;
-            }) last,
+        (
+          (refl, refl),
+          delivers (status_told w.in-Status.most) w.status-ended.result c.finish.result
+              _ _ _ _ _ _ _ _ _ _ said last,
+        ),
+        tt,
       )
   | in-Replay w ↦
       let last = rw (w.ended-is, w.out-is) at c.finish.ensures in
       let said = w.replay-ended.ensures in
       rw (w.in-Replay.is, w.lobby-is, w.input-is) (
-        (refl, refl),
-        replay_kept _ g.O.Sink.held g.O.Sink.faults w.in-Replay.options w.replay-ended.result
-            c.finish.result _ _ _ _ _ _ c.args.out.now w.replay-ended.new.out c.finish.new.out
-            (record {
-              done = said.done;
-              no_memory = said.no_memory;
-              ends = said.ends;
-              read_fault = said.read_fault;
-              write_fault = said.write_fault;
-              bad_input = said.bad_input;
-            }) last,
+        (
+          (refl, refl),
+          delivers (replay_told w.in-Replay.options) w.replay-ended.result c.finish.result
+              _ _ _ _ _ _ _ _ _ _ said.delivered last,
+        ),
+        plays_on w.in-Replay.options w.replay-ended.result c.finish.result _ _ _ _ _ said.plays
+            last,
       )
   | in-Serve w ↦
       let last = rw (w.ended-is, w.out-is) at c.finish.ensures in

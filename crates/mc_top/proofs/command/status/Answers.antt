@@ -1,28 +1,26 @@
-use Rattle.std.proofs.Common.{inr, rules}
-use Rattle.mc_top.proofs.Inputs.{done_replied, bad_found, replied_part}
+use Rattle.std.proofs.Common.{refl}
+use Rattle.mc_words.proofs.Delivering.{delivered, delivered_none, delivered_unread, tells_of}
+use Rattle.mc_words.specs.StatusText.{status_told}
+use Rattle.mc_top.proofs.LongTexts.{status_telling}
 use Rattle.mc_top.proofs.command.status.Goals as goal
 
-pub returns-in-Ok-write_status-clause-done : goal.returns-in-Ok-write_status-clause-done
-returns-in-Ok-write_status-clause-done g c done =
-    let text = rw c.deref.ensures.value at c.in-Ok-write_status.ensures.text in
-    let fault = rw c.deref.ensures.value at c.in-Ok-write_status.ensures.fault in
-    done_replied c.args.most c.in-Ok-write_status.fault c.after.result _ _ _ _ c.in-Ok.text.items
-    c.after.ensures done c.in-Ok.ensures.reads fault text
+pub returns : goal.returns
+returns g c =
+    let told = status_told c.args.most in
+    let text = c.in-Ok.text.items in
+    let w = rw c.deref.ensures.value at c.write_status.ensures in
+    rw c.told.ensures (delivered told _ _ _ _ _ _ _ _ text c.write_status.result
+    (status_telling c.args.most) c.in-Ok.ensures.reads
+    (tells_of (told text) c.write_status.result _ _ _ _ w.text w.fault w.stopped w.failed
+    w.counts))
 
-pub returns-in-Ok-write_status-clause-bad_input : goal.returns-in-Ok-write_status-clause-bad_input
-returns-in-Ok-write_status-clause-bad_input g c bad is =
-    let text = rw c.deref.ensures.value at c.in-Ok-write_status.ensures.text in
-    let fault = rw c.deref.ensures.value at c.in-Ok-write_status.ensures.fault in
-    bad_found c.args.most c.in-Ok-write_status.fault c.after.result bad _ _ _ _ c.in-Ok.text.items
-    c.after.ensures is c.in-Ok.ensures.reads fault text
+pub returns-in-Err-Failed : goal.returns-in-Err-Failed
+returns-in-Err-Failed g c =
+    delivered_unread (status_told c.args.most) (g.I.Source.left c.args.input.now)
+    (g.I.Source.left c.read_text.new.input) _ _ _ _ (c.in-Err-Failed.ensures.failed (rw c.in-Err-Failed.field-0-is refl))
 
-pub returns-in-Err-Failed-write_status-clause-write_fault :
-    goal.returns-in-Err-Failed-write_status-clause-write_fault
-returns-in-Err-Failed-write_status-clause-write_fault g c _ =
-    let part = rw c.deref.ensures.value at c.in-Err-Failed-write_status.ensures.stopped in
-    (search rules, replied_part c.args.most _ _ _ _ c.in-Ok.text.items c.in-Ok.ensures.reads part)
-
-pub returns-clause-no_memory : goal.returns-clause-no_memory
-returns-clause-no_memory g c _ =
-    let part = rw c.deref.ensures.value at c.in-Err-NoMemory-write_status.ensures.stopped in
-    inr (replied_part c.args.most _ _ _ _ c.in-Ok.text.items c.in-Ok.ensures.reads part)
+pub returns-in-Err-NoMemory : goal.returns-in-Err-NoMemory
+returns-in-Err-NoMemory g c =
+    delivered_none (status_told c.args.most) (g.I.Source.left c.args.input.now)
+    (g.I.Source.left c.read_text.new.input) _ (g.I.Source.faults c.args.input.now)
+    (g.I.Source.faults c.read_text.new.input) _

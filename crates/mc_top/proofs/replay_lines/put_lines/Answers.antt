@@ -64,5 +64,5 @@ returns-clause-settled g c w s =
     let shut = rw c.deref-2.ensures.value at
     (c.in_ok-put_all_shut.ensures.forgotten (all_taken ids w) sent.0) in
     lines_put w c.put_all_shut.new.server ids c.put_all_sent.new.lines.items
-    c.put_all_shut.new.lines.items _ _ _ _ s.reached is shut.0 (subst P c.requires sent.1) shut.1
+    c.put_all_shut.new.lines.items _ _ _ _ is shut.0 (subst P c.requires sent.1) shut.1
     (subst Q c.in_ok-write_out.ensures.empty c.in_ok-write_out.ensures.passes)

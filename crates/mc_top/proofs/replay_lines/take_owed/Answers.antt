@@ -24,7 +24,7 @@ returns-then-not-branch-clause-taken g c w s =
     let more : c.in_ok-take_front.field-0 ≡ false = search rules in
     taking_done c.args.connection w c.loop-piece.server c.take_front.new.server
     _ _ _ c.args.lines.now.items c.loop-piece.lines.items c.take_front.new.lines.items
-    c.in_ok-take_front.field-0 s.reached more
+    c.in_ok-take_front.field-0 more
     (c.loop-piece.invariant.taking w s) c.in_ok-take_front.ensures.taken
 
 pub loop-piece-preserved : goal.loop-piece-preserved

@@ -1,7 +1,7 @@
 use Rattle.std.proofs.Common.{refl, sym, ◌∙◌, rules}
 use Rattle.mc_top.specs.ReplayPromise.{settings_of}
 use Rattle.mc_top.specs.ServePromise.{summary_line}
-use Rattle.mc_top.proofs.Serves.{asked, has_served, served_all, lost_by, spent_by, rose_by}
+use Rattle.mc_top.proofs.Serves.{has_served, served_all, lost_by, spent_by, rose_by}
 use Rattle.mc_top.proofs.serve.serve.Goals as goal
 
 pub returns-in-Err-clause-net_fault : goal.returns-in-Err-clause-net_fault
@@ -9,20 +9,20 @@ returns-in-Err-clause-net_fault g c is =
     let by = sym c.ended_by.ensures ∙ is in (
       rose_by _ _ _ c.in-Err.fault c.pace.ensures.falls.faults c.in-Err.ensures.unheard
           c.in-Err.ensures.failed by,
-      lost_by c.args.options _ _ c.in-Err.fault (λ ne. has_served c.args.options _ _ _
+      lost_by c.args.options _ _ c.in-Err.fault (has_served c.args.options _ _ _
           c.pace.ensures.tells c.budget_of.result c.budget_of.ensures c.drive.new.server _
           (c.in-Err.ensures.drove (settings_of c.args.options.world) c.requires.world
-          c.new_server-server.ensures.stands ne)) by,
+          c.new_server-server.ensures.stands)) by,
       refl,
     )
 
 pub returns-in-Err-clause-budget : goal.returns-in-Err-clause-budget
 returns-in-Err-clause-budget g c n is =
     let by = sym c.ended_by.ensures ∙ is in (
-      spent_by c.args.options _ _ c.in-Err.fault n (λ ne. has_served c.args.options _ _ _
+      spent_by c.args.options _ _ c.in-Err.fault n (has_served c.args.options _ _ _
           c.pace.ensures.tells c.budget_of.result c.budget_of.ensures c.drive.new.server _
           (c.in-Err.ensures.drove (settings_of c.args.options.world) c.requires.world
-          c.new_server-server.ensures.stands ne)) by,
+          c.new_server-server.ensures.stands)) by,
       refl,
     )
 
@@ -32,7 +32,7 @@ returns-in-Ok-put_summary-clause-done g c is = record {
   all = served_all c.args.options _ _ _ c.pace.ensures.tells c.budget_of.result
       c.budget_of.ensures c.drive.new.server c.in-Ok.end c.age-age.result c.tally_of.result
       (c.in-Ok.ensures.drove (settings_of c.args.options.world) c.requires.world
-      c.new_server-server.ensures.stands (λ e. cc))
+      c.new_server-server.ensures.stands)
       c.age-age.ensures.is c.tally_of.ensures;
   wrote = c.in-Ok-put_summary.ensures.wrote;
 }
@@ -47,16 +47,33 @@ returns-in-Err-Failed-clause-write_fault g c is =
             c.budget_of.ensures c.drive.new.server c.in-Ok.end c.age-age.result
             c.tally_of.result
             (c.in-Ok.ensures.drove (settings_of c.args.options.world) c.requires.world
-            c.new_server-server.ensures.stands (λ e. cc))
+            c.new_server-server.ensures.stands)
             c.age-age.ensures.is c.tally_of.ensures;
         len = part.1;
         wrote = part.2;
       },
     )
 
+pub returns-in-Err-clause-no_memory : goal.returns-in-Err-clause-no_memory
+returns-in-Err-clause-no_memory g c is = (
+  (
+    _,
+    has_served c.args.options _ _ _ c.pace.ensures.tells c.budget_of.result
+        c.budget_of.ensures c.drive.new.server _
+        (c.in-Err.ensures.drove (settings_of c.args.options.world) c.requires.world
+        c.new_server-server.ensures.stands),
+  ),
+  refl,
+)
+
 pub returns-in-Err-NoMemory-clause-no_memory : goal.returns-in-Err-NoMemory-clause-no_memory
 returns-in-Err-NoMemory-clause-no_memory g c is = (
-  asked c.args.options _ _ _ c.pace.ensures.tells c.budget_of.result c.budget_of.ensures
-      c.drive.ensures.asks.0 c.drive.ensures.asks.1,
+  (
+    _,
+    has_served c.args.options _ _ _ c.pace.ensures.tells c.budget_of.result
+        c.budget_of.ensures c.drive.new.server _
+        (c.in-Ok.ensures.drove (settings_of c.args.options.world) c.requires.world
+        c.new_server-server.ensures.stands),
+  ),
   c.in-Err-NoMemory.ensures.none (search rules),
 )

@@ -6,24 +6,6 @@ use Rattle.mc_words.specs.Devices.{WroteLast}
 use Rattle.mc_words.specs.Ended.{bad_input_line, budget_line, net_fault_line, usage_line}
 use Rattle.mc_words.specs.Ended.{read_fault_line}
 
--- ---- how a command can end before its last line is written
-
--- one that reads a text
-abbrev pub EndsText : Ended → Type 0
-EndsText ended.Usage = ⊥
-EndsText ended.NetFault = ⊥
-EndsText (ended.Budget n) = ⊥
-EndsText other = Unit {0}
-
--- one that serves a lobby
-abbrev pub EndsServing : Ended → Type 0
-EndsServing ended.Usage = ⊥
-EndsServing ended.ReadFault = ⊥
-EndsServing (ended.BadInput bad) = ⊥
-EndsServing other = Unit {0}
-
--- ---- and with it
-
 -- nothing was written
 abbrev pub IsUntouched : Option (List ℕ) → Option (List ℕ) → ℕ → ℕ → Type 0
 IsUntouched held held' faults faults' = (held' ≡ held) × (faults' ≡ faults)

@@ -1,6 +1,6 @@
 use Rattle.std.proofs.Common.{◌∙◌, inl, refl}
-use Rattle.mc_top.proofs.Inputs.{wrote_last}
-use Rattle.mc_top.proofs.command.finish_with.Goals as goal
+use Rattle.mc_words.proofs.Finishes.{wrote_last}
+use Rattle.mc_words.proofs.finishing.finish_with.Goals as goal
 
 pub returns : goal.returns
 returns g c = λ bytes is. inl (

@@ -1,5 +1,5 @@
-use Rattle.mc_top.proofs.Finishes.{finishes_fixed}
-use Rattle.mc_top.proofs.command.finish.Goals as goal
+use Rattle.mc_words.proofs.Finishes.{finishes_fixed}
+use Rattle.mc_words.proofs.finishing.finish.Goals as goal
 
 pub returns-in_default : goal.returns-in_default
 returns-in_default g c = finishes_fixed _ g.O.Sink.held g.O.Sink.faults c.args.ended
