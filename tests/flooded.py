@@ -121,7 +121,7 @@ def soak(path, minutes):
     crowds = [range(number, WALKERS, CROWDS) for number in range(CROWDS)]
     with Program(path, players=PLAYERS) as program:
         port, usage = program.port, program.usage
-        watch = TickWatch(port, TOLD_NOTHING)
+        watch = TickWatch(program, TOLD_NOTHING)
         walking = [Beside(walk_in_a_crowd, port, numbers) for numbers in crowds]
         with walking[0], walking[1], Beside(read_slowly_in_play, port):
             with Beside(flood_of_chats, port):
