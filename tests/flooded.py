@@ -109,7 +109,7 @@ def check_flat(looks):
 def check_ticks(seen):
     """Find that ticks came in time; what is told is less the time in which the watcher waited."""
     raw = max(after - before for before, after in zip(seen.ticks, seen.ticks[1:]))
-    longest, latest = max(seen.gaps()), max(seen.delays(), default=0.0)
+    longest, latest = max(seen.gaps()), max(0.0, *seen.delays())
     print(f"ticks seen: {len(seen.ticks)}; longest time between two {1000 * longest:.0f} ms "
           f"({1000 * raw:.0f} ms with the watcher's own pauses); "
           f"an age was told at most {1000 * latest:.0f} ms late", flush=True)
@@ -121,7 +121,7 @@ def soak(path, minutes):
     crowds = [range(number, WALKERS, CROWDS) for number in range(CROWDS)]
     with Program(path, players=PLAYERS) as program:
         port, usage = program.port, program.usage
-        watch = TickWatch(port, TOLD_NOTHING)
+        watch = TickWatch(program, TOLD_NOTHING)
         walking = [Beside(walk_in_a_crowd, port, numbers) for numbers in crowds]
         with walking[0], walking[1], Beside(read_slowly_in_play, port):
             with Beside(flood_of_chats, port):

@@ -130,7 +130,7 @@ def read_slowly(client, seconds):
 def slow_readers_stay_beside_a_flood(path):
     """While one player says far too much, who reads slowly stays, and the ticks come in time."""
     with Program(path) as program:
-        watch = TickWatch(program.port, TOLD_NOTHING)
+        watch = TickWatch(program, TOLD_NOTHING)
         slow = log_in(program.port, "Slow")
         begun = time.monotonic()
         with Beside(flood_of_chats, program.port):
@@ -146,7 +146,7 @@ def slow_readers_stay_beside_a_flood(path):
 def floods_of_requests_delay_no_tick(path):
     """While many ask for the status as fast as they can each tick comes in time."""
     with Program(path) as program:
-        watch = TickWatch(program.port)
+        watch = TickWatch(program)
         begun = time.monotonic()
         with Beside(flood_of_requests, program.port):
             time.sleep(FLOOD_SECONDS)

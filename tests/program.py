@@ -128,6 +128,11 @@ class Usage:
             lines = dict(line.split(":", 1) for line in told)
         return int(lines["VmRSS"].split()[0]) / 1024
 
+    def waited(self):
+        """Answer how many seconds it could have run up to now, and waited for a processor."""
+        with open(f"{self.folder}/schedstat", encoding="ascii") as told:
+            return int(told.read().split()[1]) / 1e9
+
     def descriptors(self):
         """Answer how many descriptors are open."""
         return len(os.listdir(f"{self.folder}/fd"))

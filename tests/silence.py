@@ -106,7 +106,7 @@ class NeverReading(Connection):
 def readers_of_nothing_are_closed(path):
     """Who asks for many statuses and reads none is closed in time, and memory stays small."""
     with Program(path) as program:
-        watch = TickWatch(program.port)
+        watch = TickWatch(program)
         before = most = program.usage.resident()
         begun = time.monotonic()
         askers = [NeverReading(program.port) for _ in range(ASKERS)]

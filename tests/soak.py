@@ -250,7 +250,7 @@ def soak(path, minutes):
         port, usage = program.port, program.usage
         phases = Phases(usage)
         phases.measure("nobody is connected", lambda: time.sleep(IDLE_SECONDS))
-        soak_players(port, phases, minutes)
+        soak_players(program, phases, minutes)
         say(f"all have left: {usage.state()}")
         phases.measure(f"{CONNECTIONS} connect and leave", lambda: drop_connections(port))
         time.sleep(SETTLING_SECONDS)
@@ -259,10 +259,11 @@ def soak(path, minutes):
         say(f"{done / PING_SECONDS:.0f} statuses with a Pong a second, {PINGERS} at a time")
 
 
-def soak_players(port, phases, minutes):
+def soak_players(program, phases, minutes):
     """Measure a server with players: how they get in, stand still and walk."""
-    watch = TickWatch(port)
-    walkers = phases.measure(f"{PLAYERS - 1} more log in", lambda: log_in_walkers(port))
+    watch = TickWatch(program)
+    logging_in = lambda: log_in_walkers(program.port)
+    walkers = phases.measure(f"{PLAYERS - 1} more log in", logging_in)
     phases.measure(f"{PLAYERS} stand still", lambda: listen(walkers, IDLE_SECONDS))
     phases.measure(f"{PLAYERS - 1} walk", lambda: walk(walkers, phases.usage, minutes))
     check_walkers(walkers, minutes)

@@ -51,7 +51,7 @@ def measure_players(path, steps):
     """Measure a server whose players all walk in the view of each other."""
     with Program(path, players=PLAYERS, view=SMALLEST_VIEW) as program:
         phases = Phases(program.usage)
-        watch = TickWatch(program.port)
+        watch = TickWatch(program)
         logging_in = lambda: log_in_walkers(program.port, SMALLEST_VIEW)
         walkers = phases.measure(f"{PLAYERS - 1} more log in", logging_in)
         own = walkers[0].replica.joined.entity
@@ -65,7 +65,7 @@ def measure_items(path, steps):
     """Measure a server where as many items lie in the view of idle players as may."""
     with Program(path, players=PLAYERS, view=SMALLEST_VIEW) as program:
         phases = Phases(program.usage)
-        watch = TickWatch(program.port)
+        watch = TickWatch(program)
         anna = log_in(program.port, "Anna")
         phases.measure(f"{MOST_ITEMS} cells are dug", lambda: dig_until_full(anna))
         logging_in = lambda: log_in(program.port, "Ben", [anna])

@@ -1,17 +1,20 @@
 """How the ticks of a server come, as clients see it, whatever else the machine has to do.
 
 A busy machine lets a process wait, and what a client sees late need not have come late. So while
-ticks are watched a thread notes when this process did not run, and that time is left out.
+ticks are watched a thread notes when this process did not run, and that time is left out; and so is
+the time for which the server waited for a processor, where ages are looked at.
 """
 
 import bisect
 import multiprocessing
 import threading
 import time
+from typing import NamedTuple
 
 from client import PATIENCE, SMALLEST_VIEW, TICK, Ticker, expect, pump, wait_for_view
 from clientbound import Time
 from columns import column_at
+from program import Usage
 from replica import SHOWN_TICKS
 
 LONGEST_WATCH = 86_400.0
@@ -58,7 +61,7 @@ class Sighting:
     def between(self, begun, ended):
         """Answer what was seen between two times."""
         ticks = [tick for tick in self.ticks if begun <= tick <= ended]
-        ages = [(when, age) for when, age in self.ages if begun <= when <= ended]
+        ages = [told for told in self.ages if begun <= told[0] <= ended]
         return Sighting(ticks, ages, self.pauses)
 
     def paused(self, begun, ended):
@@ -77,8 +80,8 @@ class Sighting:
         """Answer by how much later than the one before each time was told than it was due."""
         pairs = zip(self.ages, self.ages[1:])
         return [
-            when - before - (age - younger) * TICK - self.paused(before, when)
-            for (before, younger), (when, age) in pairs
+            when - before - (age - younger) * TICK - self.paused(before, when) - (waited - less)
+            for (before, younger, less), (when, age, waited) in pairs
         ]
 
 
@@ -88,8 +91,9 @@ class Watcher(Ticker):
     To read each of such frames as it reads all others would take it longer than they take to come.
     """
 
-    def __init__(self, port, dropped=b""):
-        super().__init__(port)
+    def __init__(self, program, dropped=b""):
+        super().__init__(program.port)
+        self.usage = program.usage
         self.dropped = dropped
         self.ages = []
 
@@ -101,14 +105,21 @@ class Watcher(Ticker):
         """Note when an age came."""
         super().take_packet(packet)
         if type(packet) is Time:
-            self.ages.append((time.monotonic(), packet.age))
+            self.ages.append((time.monotonic(), packet.age, self.usage.waited()))
         self.packets.clear()
         self.replica.chat.clear()
 
 
-def watch_ticks(port, dropped, pipe):
+class Watched(NamedTuple):
+    """Where a program listens, and what the system tells of it."""
+
+    port: int
+    usage: Usage
+
+
+def watch_ticks(program, dropped, pipe):
     """Watch the ticks, in a process of its own, until it is asked when they came."""
-    with Watcher(port, dropped) as watcher, Pauses() as pauses:
+    with Watcher(program, dropped) as watcher, Pauses() as pauses:
         watcher.begin_login("Watcher")
         wait_for_view([watcher], watcher, column_at(8.5, 8.5), SMALLEST_VIEW)
         pipe.send("in play")
@@ -119,9 +130,9 @@ def watch_ticks(port, dropped, pipe):
 class TickWatch:
     """The process that watches the ticks."""
 
-    def __init__(self, port, dropped=b""):
+    def __init__(self, program, dropped=b""):
         self.pipe, other = multiprocessing.Pipe()
-        watch = (port, dropped, other)
+        watch = (Watched(program.port, program.usage), dropped, other)
         self.process = multiprocessing.Process(target=watch_ticks, args=watch, daemon=True)
         self.process.start()
         expect(self.pipe.poll(PATIENCE) and self.pipe.recv() == "in play", "no ticks are seen")
@@ -162,9 +173,9 @@ def check_ages(sighting, most):
     """Find that each age was told in time, so no tick was left out; say how late one was."""
     ages = sighting.ages
     expect(len(ages) > 1, "no ages are told")
-    told = [age for _, age in ages]
+    told = [age for _, age, _ in ages]
     due = list(range(told[0], told[0] + SHOWN_TICKS * len(told), SHOWN_TICKS))
     expect(told == due, f"the ages {told} are told, not {due}")
-    latest = max(sighting.delays())
+    latest = max(0.0, *sighting.delays())
     expect(latest <= most, f"an age is told {latest:.3f} s too late")
     return f"ages are told at most {latest:.3f} s too late"
