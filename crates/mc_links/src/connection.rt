@@ -14,7 +14,7 @@ ghost use Rattle.mc_model.specs.Stages.{is_closed, is_play};
 ghost use Rattle.mc_session.specs.Answers.{next_of, step_of};
 ghost use Rattle.mc_model.specs.Link.{disconnect, gone, hand, is_done, is_kept, mark_closed};
 ghost use Rattle.mc_model.specs.Step.{heard};
-ghost use Rattle.mc_links.specs.Kept.{decoded, is_ours, new_connection, state_of};
+ghost use Rattle.mc_links.specs.Kept.{decoded, is_ours, is_pending, new_connection, state_of};
 
 mod fields;
 mod showing;
@@ -178,6 +178,13 @@ impl Connection {
         ensures { result ≡ is_kept self.now.link }
     {
         !self.is_closed() || self.backlog.len() > 0
+    }
+
+    /// Whether it is owed bytes, or closed.
+    pub fn is_pending(&self) -> bool
+        ensures { result ≡ is_pending self.now.link }
+    {
+        self.is_closed() || self.backlog.len() > 0
     }
 
     /// Whether it is closed and owed nothing.
