@@ -239,7 +239,7 @@ impl Connection {
             self.overflow();
             return Ok(());
         }
-        self.backlog.push(Bytes::from_vec(bytes)?)?;
+        self.backlog.push_owned(bytes)?;
         Ok(())
     }
 
