@@ -20,12 +20,12 @@ use Rattle.mc_model.specs.declared.settings.Settings.{Settings}
 use Rattle.mc_model.specs.Link.{Link, is_done, is_kept}
 use Rattle.mc_model.specs.World.{Unread, World, new_world, nothing_unread, unread_of}
 use Rattle.mc_model.proofs.Maps.Lookups.{gone_other, gone_same, put_other, put_same}
-use Rattle.mc_links.specs.Kept.{ConnectionValue, is_ours, new_connection}
+use Rattle.mc_links.specs.Kept.{ConnectionValue, is_ours, is_pending, new_connection}
 use Rattle.mc_links.specs.Sitting.{Holds}
 use Rattle.mc_play.specs.Kept.{new_value}
-use Rattle.mc_showing.proofs.Mapped.{values_mapped}
+use Rattle.mc_showing.proofs.Mapped.{entries_mapped, keyed, values_mapped}
 use Rattle.mc_showing.specs.Shown.{pairs_of}
-use Rattle.mc_events.specs.Asking.{ours_there}
+use Rattle.mc_events.specs.Asking.{ours_there, pending_in, pending_of}
 use Rattle.mc_events.specs.Served.{ServerValue, shown_parts}
 use Rattle.mc_events.specs.Stands.{IsLinked, IsReached, Pair, Stands}
 use Rattle.mc_events.proofs.Absent.{reached_absent}
@@ -63,6 +63,13 @@ filter_mapped : {X Y : Type 0} (f : X → Y) (test : Y → Bool) (xs : List X) �
 filter_mapped f test [] = refl
 filter_mapped f test (x ∷ xs) = grind (arith, nat_tests, filter_mapped f test xs)
 
+-- those entries whose values pass a test, by what is made of the values
+numbers_mapped : {X Y : Type 0} (f : X → Y) (test : Y → Bool) (es : List (ℕ × X)) →
+    map (λ (e : ℕ × Y). e.0) (filter (λ (e : ℕ × Y). test e.1) (keyed f es))
+    ≡ map (λ (e : ℕ × X). e.0) (filter (λ (e : ℕ × X). test (f e.1)) es)
+numbers_mapped f test [] = refl
+numbers_mapped f test (e ∷ es) = grind (arith, nat_tests, numbers_mapped f test es)
+
 module _ (v : ServerValue) (w : World) (st : Stands v w) where
   pub linked : (k : ℕ) → option_map link_of (get v.connections k) ≡ get w.links k
   linked k = pair_link (shown_parts v) k (unread_of k w) (get w.shown k) (get v.connections k)
@@ -88,6 +95,13 @@ module _ (v : ServerValue) (w : World) (st : Stands v w) where
   pub ours_are : length (filter (λ (c : ConnectionValue). is_ours c.link.cause)
       (values v.connections)) ≡ ours_there w
   ours_are = counted (λ (l : Link). is_ours l.cause)
+
+  -- those that are owed bytes or closed are those of the links
+  pub pending_are : pending_of (entries v.connections) ≡ pending_in w
+  pending_are = sym (numbers_mapped link_of is_pending (entries v.connections))
+      ∙ ap (λ (es : List (ℕ × Link)). map (λ (e : ℕ × Link). e.0)
+      (filter (λ (e : ℕ × Link). is_pending e.1) es))
+      (entries_mapped link_of v.connections w.links linked)
 
   -- too many are there where too many links are
   pub crowd_is : nat_le (v.game.game.settings.players + 16)

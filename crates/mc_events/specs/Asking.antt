@@ -1,10 +1,10 @@
 -- What is asked of a world's connections.
-use Rattle.std.specs.Prelude.{ℕ, Bool, false, Option, Some, None, length}
+use Rattle.std.specs.Prelude.{ℕ, Bool, false, List, Option, Some, None, length, map}
 use Rattle.std.specs.List.{filter}
-use Rattle.std.specs.FinMap.{get, values}
+use Rattle.std.specs.FinMap.{entries, get, values}
 use Rattle.mc_model.specs.Link.{Link, is_done}
 use Rattle.mc_model.specs.World.{World}
-use Rattle.mc_links.specs.Kept.{is_ours}
+use Rattle.mc_links.specs.Kept.{ConnectionValue, is_ours, is_pending}
 
 -- whether a connection is closed and owed nothing
 abbrev pub is_over : Option Link → Bool
@@ -18,3 +18,13 @@ is_done_in k w = is_over (get w.links k)
 -- they were done
 abbrev pub ours_there : World → ℕ
 ours_there w = length (filter (λ (l : Link). is_ours l.cause) (values w.links))
+
+-- the numbers of those that are owed bytes or closed, which rise
+abbrev pub pending_in : World → List ℕ
+pending_in w =
+    map (λ (e : ℕ × Link). e.0) (filter (λ (e : ℕ × Link). is_pending e.1) (entries w.links))
+
+-- the same, of connections as they are kept
+abbrev pub pending_of : List (ℕ × ConnectionValue) → List ℕ
+pending_of es = map (λ (e : ℕ × ConnectionValue). e.0)
+    (filter (λ (e : ℕ × ConnectionValue). is_pending e.1.link) es)

@@ -1,10 +1,11 @@
-ghost use Rattle.std.specs.Prelude.{◌≡◌, OnErr, OnOk, length};
+ghost use Rattle.std.specs.Prelude.{◌≡◌, ◌++◌, ◌∷◌, [], IfOk, OnErr, OnOk, length};
 ghost use Rattle.std.specs.List.{filter};
 ghost use Rattle.std.specs.Option.{option_copied, option_copied_mut};
 ghost use Rattle.std.specs.BTreeMap as tree;
-ghost use Rattle.std.specs.FinMap.{empty, get, insert, remove, values};
+ghost use Rattle.std.specs.FinMap.{empty, entries, get, insert, remove, values};
 ghost use Rattle.mc_model.specs.Link.{is_kept};
 ghost use Rattle.mc_links.specs.Kept.{ConnectionValue, is_ours};
+ghost use Rattle.mc_events.specs.Asking.{pending_of};
 
 mod fields;
 
@@ -80,6 +81,17 @@ impl Connections {
         let _connection = self.by_number.remove(&k);
     }
 
+    // ---- which
+
+    /// The numbers of those that are owed bytes or closed, which rise.
+    pub fn pending(&self, alloc: Global) -> Result<Vec<u32>, NoMemory>
+        ensures { IfOk result (λ numbers. numbers.items ≡ pending_of (entries self.now)) }
+    {
+        // The numbers rise.
+        let _many = self.by_number.len();
+        pending_among(alloc, &self.by_number)
+    }
+
     // ---- how many
 
     /// How many are open, or owed bytes still.
@@ -101,6 +113,31 @@ impl Connections {
         let _many = self.by_number.len();
         ours_among(&self.by_number)
     }
+}
+
+/// Puts the number of a connection behind others, where it is owed bytes or closed.
+fn put_pending(number: u32, connection: &Connection, numbers: &mut Vec<u32>) -> Result<(), NoMemory>
+    ensures { OnOk result (numbers.new.items
+        ≡ numbers.old.items ++ pending_of ((number, connection.now) ∷ [])) }
+{
+    if connection.is_pending() {
+        numbers.push(number)?;
+    }
+    Ok(())
+}
+
+/// The numbers of those of these that are owed bytes or closed.
+fn pending_among(
+    alloc: Global,
+    connections: &BTreeMap<u32, Connection>,
+) -> Result<Vec<u32>, NoMemory>
+    ensures { IfOk result (λ numbers. numbers.items ≡ pending_of connections.now.entries) }
+{
+    let mut numbers = Vec::new(alloc);
+    for (number, connection) in connections {
+        put_pending(*number, connection, &mut numbers)?;
+    }
+    Ok(numbers)
 }
 
 /// How many of these are open, or owed bytes still.

@@ -1,11 +1,11 @@
-ghost use Rattle.std.specs.Prelude.{◌≡◌, ◌↔◌, ◌<◌, ◌≤◌, [], Err, OnErr, OnOk, length, take};
+ghost use Rattle.std.specs.Prelude.{◌≡◌, ◌↔◌, ◌<◌, ◌≤◌, [], Err, IfOk, OnErr, OnOk, length, take};
 ghost use Rattle.std.specs.FinMap.{keys};
 ghost use Rattle.std.specs.Option.{option_copied};
 ghost use Rattle.mc_model.specs.Game.{AreSettings};
 ghost use Rattle.mc_model.specs.World.{World, new_world};
 ghost use Rattle.mc_model.specs.Run.{cause_in, owed_in};
 ghost use Rattle.mc_model.specs.Step.{step};
-ghost use Rattle.mc_events.specs.Asking.{is_done_in, ours_there};
+ghost use Rattle.mc_events.specs.Asking.{is_done_in, ours_there, pending_in};
 ghost use Rattle.mc_events.specs.Inputs.{age_after, event_of};
 ghost use Rattle.mc_events.specs.ReadyColumns.{ShedsAt};
 ghost use Rattle.mc_events.specs.Served.{age_of};
@@ -148,6 +148,15 @@ impl Server {
             Some(connection) => connection.is_done(),
             None => false,
         }
+    }
+
+    /// The numbers of the connections that are owed bytes or closed, in the order in which they
+    /// joined.
+    pub fn pending(&self) -> Result<Vec<u32>, NoMemory>
+        ensures { (w : World) → Stands self.now w →
+            IfOk result (λ numbers. numbers.items ≡ pending_in w) }
+    {
+        self.connections.pending(self.alloc)
     }
 
     // ---- what is asked of a server

@@ -1,11 +1,12 @@
 -- What contracts see of a connection as the server keeps it: the link of the definitions, what is
 -- held of its bytes, and what its client was shown. Rules of this project.
-use Rattle.std.specs.Prelude.{ℕ, Bool, true, false, Option, Some, None}
+use Rattle.std.specs.Prelude.{ℕ, ◌||◌, nat_lt, Bool, true, false, Option, Some, None, length}
 use Rattle.mc_frame.specs.Held.{Splitting, nothing_held}
 use Rattle.mc_model.specs.declared.cause.Cause.{Cause}
 use Rattle.mc_model.specs.declared.cause.Cause.TheVariants as causes
 use Rattle.mc_model.specs.declared.stage.Stage.{Stage}
 use Rattle.mc_model.specs.declared.stage.Stage.TheVariants as stages
+use Rattle.mc_model.specs.Stages.{is_closed}
 use Rattle.mc_model.specs.Talk.{ClientRequest}
 use Rattle.mc_session.specs.State.{State}
 use Rattle.mc_session.specs.Answers.{next_of}
@@ -53,3 +54,7 @@ is_ours (Some causes.Gone) = false
 is_ours (Some causes.Broke) = false
 is_ours (Some causes.Done) = false
 is_ours (Some other) = true
+
+-- a connection is owed bytes, or closed
+abbrev pub is_pending : Link → Bool
+is_pending l = is_closed l.stage || nat_lt 0 (length l.owed)

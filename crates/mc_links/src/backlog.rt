@@ -85,11 +85,20 @@ impl Backlog {
     }
 
     /// Puts a piece behind what is owed.
-    pub fn push(&mut self, piece: Bytes) -> Result<(), NoMemory>
+    fn push(&mut self, piece: Bytes) -> Result<(), NoMemory>
         requires { length self.old + length piece ≤ outbox_max }
         ensures { OnOk result (self.new ≡ self.old ++ piece) }
     {
         self.outbox.push(piece)?;
+        Ok(())
+    }
+
+    /// Puts bytes that nothing shares behind what is owed.
+    pub fn push_owned(&mut self, bytes: Vec<u8>) -> Result<(), NoMemory>
+        requires { length self.old + length bytes.items ≤ outbox_max }
+        ensures { OnOk result (self.new ≡ self.old ++ bytes.items) }
+    {
+        self.outbox.push_owned(bytes)?;
         Ok(())
     }
 

@@ -14,7 +14,7 @@ ghost use Rattle.mc_model.specs.Stages.{is_closed, is_play};
 ghost use Rattle.mc_session.specs.Answers.{next_of, step_of};
 ghost use Rattle.mc_model.specs.Link.{disconnect, gone, hand, is_done, is_kept, mark_closed};
 ghost use Rattle.mc_model.specs.Step.{heard};
-ghost use Rattle.mc_links.specs.Kept.{decoded, is_ours, new_connection, state_of};
+ghost use Rattle.mc_links.specs.Kept.{decoded, is_ours, is_pending, new_connection, state_of};
 
 mod fields;
 mod showing;
@@ -180,6 +180,13 @@ impl Connection {
         !self.is_closed() || self.backlog.len() > 0
     }
 
+    /// Whether it is owed bytes, or closed.
+    pub fn is_pending(&self) -> bool
+        ensures { result ≡ is_pending self.now.link }
+    {
+        self.is_closed() || self.backlog.len() > 0
+    }
+
     /// Whether it is closed and owed nothing.
     pub fn is_done(&self) -> bool
         ensures { result ≡ is_done self.now.link }
@@ -232,7 +239,7 @@ impl Connection {
             self.overflow();
             return Ok(());
         }
-        self.backlog.push(Bytes::from_vec(bytes)?)?;
+        self.backlog.push_owned(bytes)?;
         Ok(())
     }
 

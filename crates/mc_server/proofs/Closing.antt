@@ -17,18 +17,18 @@ use Rattle.mc_model.specs.Link.{Link, is_done}
 use Rattle.mc_model.specs.World.{World}
 use Rattle.mc_model.specs.Log.{logged}
 use Rattle.mc_model.specs.Turns.{done_in}
-use Rattle.mc_model.proofs.Maps.Sorted.{find_again, second as right_holds}
+use Rattle.mc_model.proofs.Maps.Sorted.{second as right_holds}
 use Rattle.mc_model.proofs.Maps.Lookups.{tied_number}
-use Rattle.mc_model.proofs.Maps.Options.{none_some}
 use Rattle.mc_laws.proofs.Serving.Forgetting.{forgot_other}
 use Rattle.mc_laws.proofs.Serving.Logs.{logged_more}
-use Rattle.mc_events.specs.Asking.{is_done_in, is_over}
+use Rattle.mc_links.specs.Kept.{is_pending}
+use Rattle.mc_events.specs.Asking.{is_done_in, is_over, pending_in}
 use Rattle.mc_events.specs.Served.{ServerValue}
 use Rattle.mc_events.specs.Stands.{Stands}
 use Rattle.mc_server.specs.Drives.{ours_in}
-use Rattle.mc_server.specs.TurnParts.{Adds, HasClosed, closing_of, numbers_in}
+use Rattle.mc_server.specs.TurnParts.{Adds, HasClosed, HoldsDone, RiseFrom, closing_of, numbers_in}
 use Rattle.mc_server.proofs.LogFacts.{adds_more, ours_append}
-use Rattle.mc_server.proofs.Writing.{RiseFrom, keys_rise}
+use Rattle.mc_server.proofs.Pending.{found_behind, passing, pending_rise}
 
 -- ---- one connection
 
@@ -62,18 +62,56 @@ closings_are w (e ∷ es) sorted there =
       arith,
       nat_tests,
       closings_are w es rest
-          (λ k l found. there k l (behind k l found (eq_by_cmp nat_cmp k e.0) refl)),
+          (λ k l found. there k l (found_behind e es sorted k l found)),
     )
-  where
-    behind : (k : ℕ) (l : Link) → find nat_cmp k es ≡ Some l → (b : Bool) →
-        eq_by_cmp nat_cmp k e.0 ≡ b → cond b (Some e.1) (find nat_cmp k es) ≡ Some l
-    behind k l found true t =
-        absurd (none_some (find nat_cmp k es) l (find_again nat_cmp_total k e es sorted t) found)
-    behind k l found false t = found
 
 all_closings : (w : World) → flat_map (closing_of w) (numbers_in w) ≡ map Closed (done_in w)
 all_closings w = closings_are w (entries w.links) (entries_sorted w.links)
     (λ k l here. get-entries w.links k ∙ here)
+
+not_done : (l : Link) → is_pending l ≡ false → is_done l ≡ false
+not_done l open_ = grind (arith, nat_tests)
+
+-- of entries in order, whose connections are as they were where they were not pending, those that
+-- were are closed as all are
+closings_pending : (v : World) (es : List (ℕ × Link)) → T (is_sorted nat_cmp es) →
+    ((k : ℕ) (l : Link) → find nat_cmp k es ≡ Some l → is_pending l ≡ false →
+    get v.links k ≡ Some l) →
+    flat_map (closing_of v)
+    (map (λ (e : ℕ × Link). e.0) (filter (λ (e : ℕ × Link). is_pending e.1) es))
+    ≡ flat_map (closing_of v) (map (λ (e : ℕ × Link). e.0) es)
+closings_pending v [] sorted others = refl
+closings_pending v (e ∷ es) sorted others =
+    if_kept (is_pending e.1) refl (closings_pending v es
+    (right_holds (below_all nat_cmp e.0 es) (is_sorted nat_cmp es) sorted)
+    (λ k l found open_. others k l (found_behind e es sorted k l found) open_))
+  where
+    none : is_pending e.1 ≡ false → closing_of v e.0 ≡ []
+    none open_ =
+        let here = others e.0 e.1 (rw (tied_number e.0) refl) open_ in
+        ap (λ (o : Option Link). if is_over o then Closed e.0 ∷ [] else []) here
+        ∙ ap (λ (b : Bool). if b then Closed e.0 ∷ [] else []) (not_done e.1 open_)
+
+    if_kept : (b : Bool) → is_pending e.1 ≡ b →
+        flat_map (closing_of v) (map (λ (f : ℕ × Link). f.0) (passing is_pending es))
+        ≡ flat_map (closing_of v) (map (λ (f : ℕ × Link). f.0) es) →
+        flat_map (closing_of v) (map (λ (f : ℕ × Link). f.0)
+        (cond b (e ∷ passing is_pending es) (passing is_pending es)))
+        ≡ flat_map (closing_of v) (map (λ (f : ℕ × Link). f.0) (e ∷ es))
+    if_kept true is rest = ap (λ (xs : List LogEntry). closing_of v e.0 ++ xs) rest
+    if_kept false is rest = rest ∙ ap (λ (xs : List LogEntry). xs ++ flat_map (closing_of v)
+        (map (λ (f : ℕ × Link). f.0) es)) (sym (none is))
+
+-- those that were pending hold who is done once these were written to
+pub pending_hold : (w v : World) → numbers_in v ≡ numbers_in w →
+    ((k : ℕ) (l : Link) → get w.links k ≡ Some l → is_pending l ≡ false →
+    get v.links k ≡ Some l) → HoldsDone v (pending_in w)
+pending_hold w v numbers others = record {
+  rising = pending_rise w;
+  closings = closings_pending v (entries w.links) (entries_sorted w.links)
+      (λ k l found open_. others k l (get-entries w.links k ∙ found) open_)
+      ∙ ap (flat_map (closing_of v)) (sym numbers) ∙ all_closings v;
+}
 
 -- some are closed, and the others are left
 pub record IsClosing (left_ : List ℕ) (old new : Option LobbyTold) (w : World)
@@ -87,15 +125,15 @@ pub record IsClosing (left_ : List ℕ) (old new : Option LobbyTold) (w : World)
   pub all : log ++ flat_map (closing_of w) left_ ≡ map Closed (done_in w)
 
 pub closing_start : (ks : List ℕ) (old : Option LobbyTold) (w : World) (server : ServerValue) →
-    Stands server w → ks ≡ numbers_in w → IsClosing ks old old w server 0
-closing_start ks old w server stands named = record {
+    Stands server w → HoldsDone w ks → IsClosing ks old old w server 0
+closing_start ks old w server stands holds = record {
   log = [];
   adds = record { told = Logs-refl old; stands = stands };
   counted = refl;
   next = 0;
-  rising = subst (RiseFrom 0) (sym named) (keys_rise w.links);
+  rising = holds.rising;
   same = λ j above. refl;
-  all = ap (flat_map (closing_of w)) named ∙ all_closings w;
+  all = holds.closings;
 }
 
 -- one more was closed, or not

@@ -1,4 +1,5 @@
 pub mod LogFacts
+pub mod Pending
 pub mod Writing
 pub mod Closing
 pub mod Turned

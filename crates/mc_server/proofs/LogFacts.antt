@@ -112,7 +112,7 @@ ours_writes w (x ∷ xs) are =
 -- ---- what a write leaves as it was
 
 pub record Keeps (k : ℕ) (w v : World) : Type 0 where
-  pub others : (j : ℕ) → j ≢ k → owed_in j v ≡ owed_in j w
+  pub others : (j : ℕ) → j ≢ k → get v.links j ≡ get w.links j
   pub numbers : numbers_in v ≡ numbers_in w
 
 pub keeps_same : (k : ℕ) (w : World) → Keeps k w w
@@ -129,7 +129,7 @@ keeps_more k w xs ys a b = rw (logged_more w xs ys) (record {
 -- a step of one connection
 pub seat_keeps : (k : ℕ) (w : World) (f : Seat → Turn) → Keeps k w (on_seat w k f).world
 seat_keeps k w f = record {
-  others = λ j ne. ap owed_of (seat_rests w j k f (λ same. ne (sym same))).0;
+  others = λ j ne. (seat_rests w j k f (λ same. ne (sym same))).0;
   numbers = at_link (get w.links k) refl;
 }
   where

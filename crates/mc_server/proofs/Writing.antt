@@ -1,11 +1,11 @@
 -- Writing to one connection, piece by piece, and to all, one after another.
 use Rattle.std.proofs.Common.{◌≡◌, ◌≢◌, inl, inr, ◌+◌, ◌<◌, ◌≤◌, ℕ, List, [], ◌∷◌, ◌++◌, T, length}
-use Rattle.std.proofs.Common.{take, Option, Some, None, false, refl, sym, subst, ap, ◌∙◌, arith}
+use Rattle.std.proofs.Common.{take, Option, Some, true, false, refl, sym, subst, ap, ◌∙◌, arith}
 use Rattle.std.proofs.Common.{append_assoc, append-nil, length-take, take-take}
 use Rattle.std.proofs.lemmas.Bool.Decides.{nat_tests}
-use Rattle.std.specs.Prelude.{◌↔◌, is_some}
-use Rattle.std.specs.Ordering.{nat_cmp}
-use Rattle.std.specs.FinMap.{FinMap, contains_key-keys, entries, entries_sorted, get, keys}
+use Rattle.std.specs.Prelude.{◌↔◌}
+use Rattle.std.specs.List.{AllByRecursion}
+use Rattle.std.specs.FinMap.{entries, entries_sorted, get, get-entries}
 use Rattle.std.proofs.lemmas.Bool.{cases_eq}
 use Rattle.mc_wire.specs.declared.log.LogEntry.{LogEntry}
 use Rattle.mc_wire.specs.declared.log.LogEntry.TheVariants.{Put, Stalled, Broke}
@@ -19,16 +19,18 @@ use Rattle.mc_model.specs.World.{World}
 use Rattle.mc_model.specs.Run.{owed_in, owed_of}
 use Rattle.mc_model.specs.Log.{logged}
 use Rattle.mc_model.proofs.Maps.Lookups.{untied_number}
-use Rattle.mc_told.proofs.Ordered.{first as left_holds, second as right_holds}
-use Rattle.mc_told.proofs.Rising.{below_keys, rising, sorted_is}
 use Rattle.mc_laws.proofs.Serving.Logs.{logged_more}
+use Rattle.mc_links.specs.Kept.{is_pending}
+use Rattle.mc_events.specs.Asking.{pending_in}
 use Rattle.mc_events.specs.Served.{ServerValue}
 use Rattle.mc_events.specs.Stands.{Stands}
 use Rattle.mc_events.proofs.Loops.{is_of}
-use Rattle.mc_server.specs.TurnParts.{Adds, HasSent, HasSentAll, IsServed, Leads, numbers_in}
+use Rattle.mc_server.specs.TurnParts.{Adds, HasSent, HasSentAll, IsServed, Leads, RiseFrom}
+use Rattle.mc_server.specs.TurnParts.{numbers_in}
 use Rattle.mc_server.proofs.LogFacts.{Keeps, adds_more, broke_keeps, broke_owes, keeps_more}
 use Rattle.mc_server.proofs.LogFacts.{keeps_same, served_more, served_still, took_keeps}
 use Rattle.mc_server.proofs.LogFacts.{writes_append}
+use Rattle.mc_server.proofs.Pending.{all_pend, owed_there, pending_rise, pends, true_false}
 
 -- ---- rising numbers
 
@@ -171,27 +173,7 @@ front_some front owed some same none = grind (arith, nat_tests)
 
 -- ---- all of them
 
--- numbers that rise
-abbrev pub RiseFrom : ℕ → List ℕ → Type 0
-RiseFrom n [] = Unit {0}
-RiseFrom n (k ∷ ks) = (n ≤ k) × RiseFrom (k + 1) ks
-
--- keys that rise above one
-rise_above : (k : ℕ) (ks : List ℕ) → T (below_keys nat_cmp k ks) → T (rising nat_cmp ks) →
-    RiseFrom (k + 1) ks
-rise_above k [] below rise = tt
-rise_above k (j ∷ ks) below rise =
-    (grind (arith, nat_tests), rise_above j ks (left_holds _ _ rise) (right_holds _ _ rise))
-
--- the keys of a map rise
-pub keys_rise : {X : Type 0} (m : FinMap nat_cmp X) → RiseFrom 0 (keys m)
-keys_rise {X} m = rise (keys m) (subst T (sorted_is nat_cmp (entries m)) (entries_sorted m))
-  where
-    rise : (ks : List ℕ) → T (rising nat_cmp ks) → RiseFrom 0 ks
-    rise [] up = tt
-    rise (k ∷ ks) up = (omega arith, rise_above k ks (left_holds _ _ up) (right_holds _ _ up))
-
--- those that are not left were served
+-- those that are not left were served, and who is not pending is as it was
 pub record IsSendingAll (left_ : List ℕ) (old new : Option LobbyTold) (w : World)
     (server : ServerValue) : Type 0 where
   pub writes : List LogEntry
@@ -200,27 +182,26 @@ pub record IsSendingAll (left_ : List ℕ) (old new : Option LobbyTold) (w : Wor
   pub next : ℕ
   pub leads : Leads 0 next writes
   pub rising : RiseFrom next left_
+  pub pend : AllByRecursion (λ (k : ℕ). pends (get w.links k) ≡ true) left_
   pub served : (k : ℕ) → is_of k left_ ≡ false → IsServed w writes k
+  pub others : (k : ℕ) (l : Link) → get w.links k ≡ Some l → is_pending l ≡ false →
+      get (logged w writes).links k ≡ Some l
   pub numbers : numbers_in (logged w writes) ≡ numbers_in w
 
--- who is not there is owed nothing
-owed_there : (k : ℕ) (w : World) → is_of k (numbers_in w) ≡ false → owed_in k w ≡ []
-owed_there k w away = nobody (get w.links k) (contains_key-keys w.links k ∙ away)
-  where
-    nobody : (o : Option Link) → is_some o ≡ false → owed_of o ≡ []
-    nobody None e = refl
-    nobody (Some l) e = absurd cc
-
 pub sending_all_start : (ks : List ℕ) (old : Option LobbyTold) (w : World) (server : ServerValue) →
-    Stands server w → ks ≡ numbers_in w → IsSendingAll ks old old w server
+    Stands server w → ks ≡ pending_in w → IsSendingAll ks old old w server
 sending_all_start ks old w server stands named = record {
   writes = [];
   adds = record { told = Logs-refl old; stands = stands };
   are_writes = tt;
   next = 0;
   leads = λ later r. r;
-  rising = subst (RiseFrom 0) (sym named) (keys_rise w.links);
+  rising = subst (RiseFrom 0) (sym named) (pending_rise w);
+  pend = subst (AllByRecursion (λ (k : ℕ). pends (get w.links k) ≡ true)) (sym named)
+      (all_pend w (entries w.links) (entries_sorted w.links)
+      (λ k l found. get-entries w.links k ∙ found));
   served = λ k no. inl (owed_there k w (ap (is_of k) (sym named) ∙ no));
+  others = λ k l there open_. there;
   numbers = refl;
 }
 
@@ -239,13 +220,22 @@ sending_all_step k left_ ks old mid new w before after first so_far sent =
       leads = leads_onward 0 a.next (k + 1) a.writes one.writes a.leads (λ later r.
           rises_lower a.next k (one.writes ++ later) a.rising.0 (one.leads later r));
       rising = a.rising.1;
+      pend = a.pend.1;
       served = λ j away. elim (cases_eq j k) [
         | inl same ↦ rw same (served_more w a.writes one.writes k one.served)
-        | inr ne ↦ served_still w a.writes one.writes j (one.others j ne)
+        | inr ne ↦ served_still w a.writes one.writes j (ap owed_of (one.others j ne))
             (a.served j (rw (untied_number j k ne) away))
       ];
+      others = λ j l there open_. ap (λ (u : World). get u.links j)
+          (logged_more w a.writes one.writes)
+          ∙ one.others j (λ same. not_both j l there open_
+          (ap (λ (n : ℕ). pends (get w.links n)) same ∙ a.pend.0)) ∙ a.others j l there open_;
       numbers = ap numbers_in (logged_more w a.writes one.writes) ∙ one.numbers ∙ a.numbers;
     }
+  where
+    not_both : (j : ℕ) (l : Link) → get w.links j ≡ Some l → is_pending l ≡ false →
+        pends (get w.links j) ≡ true → ⊥
+    not_both j l there open_ pending = true_false (sym pending ∙ ap pends there ∙ open_)
 
 pub sent_to_all : (left_ : List ℕ) (old new : Option LobbyTold) (w : World) (server : ServerValue) →
     left_ ≡ [] → IsSendingAll left_ old new w server → HasSentAll old new w server
@@ -255,5 +245,6 @@ sent_to_all left_ old new w server end a = record {
   are_writes = a.are_writes;
   rises = (let all = a.leads [] tt in rw append-nil at all);
   served = λ k. a.served k (ap (is_of k) end);
+  others = a.others;
   numbers = a.numbers;
 }

@@ -1,15 +1,18 @@
 -- What the parts of a turn come to: writes to one connection and to all, and who is closed then.
-use Rattle.std.specs.Prelude.{◌≡◌, ◌≢◌, ◌⊎◌, ◌+◌, ℕ, List, [], ◌∷◌, ◌++◌, if◌then◌else◌, Option}
-use Rattle.std.specs.List.{Contains, count_by}
-use Rattle.std.specs.FinMap.{keys}
+use Rattle.std.specs.Prelude.{◌≡◌, ◌≢◌, ◌⊎◌, ◌+◌, ◌≤◌, ℕ, false, List, [], ◌∷◌, ◌++◌, map, Option}
+use Rattle.std.specs.Prelude.{Some, if◌then◌else◌}
+use Rattle.std.specs.List.{Contains, count_by, flat_map}
+use Rattle.std.specs.FinMap.{get, keys}
 use Rattle.mc_wire.specs.declared.log.LogEntry.{LogEntry}
 use Rattle.mc_wire.specs.declared.log.LogEntry.TheVariants.{Closed, Stalled}
 use Rattle.mc_wire.specs.LobbyTold.{LobbyTold}
 use Rattle.mc_wire.specs.Becoming.{Logs}
 use Rattle.mc_model.specs.Log.{events_of, logged}
-use Rattle.mc_model.specs.Turns.{Happens, Rises, AreWrites, IsTurn}
+use Rattle.mc_model.specs.Link.{Link}
+use Rattle.mc_model.specs.Turns.{Happens, Rises, AreWrites, IsTurn, done_in}
 use Rattle.mc_model.specs.World.{World}
 use Rattle.mc_model.specs.Run.{owed_in}
+use Rattle.mc_links.specs.Kept.{is_pending}
 use Rattle.mc_events.specs.declared.input.Input.{Input}
 use Rattle.mc_events.specs.Asking.{is_done_in}
 use Rattle.mc_events.specs.Inputs.{age_after, event_of}
@@ -35,7 +38,7 @@ IsServed w writes k = (owed_in k (logged w writes) ≡ []) ⊎ Contains writes (
 abbrev pub Leads : ℕ → ℕ → List LogEntry → Type 0
 Leads least next writes = (later : List LogEntry) → Rises next later → Rises least (writes ++ later)
 
--- One connection was written to, and served so; the others are owed what they were.
+-- One connection was written to, and served so; the others are as they were.
 pub record HasSent (k : ℕ) (old new : Option LobbyTold) (w : World) (server : ServerValue)
     : Type 0 where
   pub writes : List LogEntry
@@ -43,10 +46,10 @@ pub record HasSent (k : ℕ) (old new : Option LobbyTold) (w : World) (server : 
   pub are_writes : AreWrites w writes
   pub leads : Leads k (k + 1) writes
   pub served : IsServed w writes k
-  pub others : (j : ℕ) → j ≢ k → owed_in j (logged w writes) ≡ owed_in j w
+  pub others : (j : ℕ) → j ≢ k → get (logged w writes).links j ≡ get w.links j
   pub numbers : numbers_in (logged w writes) ≡ numbers_in w
 
--- all were
+-- all were, and those that were not pending are as they were
 pub record HasSentAll (old new : Option LobbyTold) (w : World) (server : ServerValue)
     : Type 0 where
   pub writes : List LogEntry
@@ -54,11 +57,23 @@ pub record HasSentAll (old new : Option LobbyTold) (w : World) (server : ServerV
   pub are_writes : AreWrites w writes
   pub rises : Rises 0 writes
   pub served : (k : ℕ) → IsServed w writes k
+  pub others : (k : ℕ) (l : Link) → get w.links k ≡ Some l → is_pending l ≡ false →
+      get (logged w writes).links k ≡ Some l
   pub numbers : numbers_in (logged w writes) ≡ numbers_in w
 
 -- what closing a connection adds where it is closed in the world and owed nothing, and nothing else
 abbrev pub closing_of : World → ℕ → List LogEntry
 closing_of w k = if is_done_in k w then Closed k ∷ [] else []
+
+-- numbers that rise, from one on
+abbrev pub RiseFrom : ℕ → List ℕ → Type 0
+RiseFrom n [] = Unit {0}
+RiseFrom n (k ∷ ks) = (n ≤ k) × RiseFrom (k + 1) ks
+
+-- among rising numbers are those of all connections that are closed in the world and owed nothing
+pub record HoldsDone (w : World) (ks : List ℕ) : Type 0 where
+  pub rising : RiseFrom 0 ks
+  pub closings : flat_map (closing_of w) ks ≡ map Closed (done_in w)
 
 -- connections were closed, so many of which the server had closed itself
 pub record HasClosed (log : List LogEntry) (old new : Option LobbyTold) (w : World)

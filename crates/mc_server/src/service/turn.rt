@@ -4,12 +4,13 @@ ghost use Rattle.mc_wire.specs.Becoming.{HasLogged};
 ghost use Rattle.mc_wire.specs.LobbyCounts.{StandOrRise};
 ghost use Rattle.mc_model.specs.Turns.{done_in};
 ghost use Rattle.mc_model.specs.World.{World};
+ghost use Rattle.mc_events.specs.Asking.{pending_in};
 ghost use Rattle.mc_events.specs.Inputs.{age_after};
 ghost use Rattle.mc_events.specs.Served.{age_of};
 ghost use Rattle.mc_events.specs.Stands.{Stands};
 ghost use Rattle.mc_server.specs.Drives.{one_if};
-ghost use Rattle.mc_server.specs.TurnParts.{HasClosed, HasSent, HasSentAll, HasTurned, IsInputOf};
-ghost use Rattle.mc_server.specs.TurnParts.{closing_of, numbers_in};
+ghost use Rattle.mc_server.specs.TurnParts.{HasClosed, HasSent, HasSentAll, HasTurned, HoldsDone};
+ghost use Rattle.mc_server.specs.TurnParts.{IsInputOf, closing_of};
 
 use mc_bytes::NoMemory;
 use mc_events::{Input, Server};
@@ -47,21 +48,17 @@ fn send<L: Lobby>(server: &mut Server, lobby: &mut L, k: u32) -> Result<(), NoMe
     }
 }
 
-/// Writes to each connection what it is owed, one after another.
-fn send_all<L: Lobby>(
-    server: &mut Server,
-    lobby: &mut L,
-    connections: &[u32],
-) -> Result<(), NoMemory>
+/// Writes to each connection that is pending what it is owed, one after another.
+fn send_all<L: Lobby>(server: &mut Server, lobby: &mut L, pending: &[u32]) -> Result<(), NoMemory>
     requires listening { L.listens lobby.old ≡ true }
-    ensures sent { (w : World) → Stands server.old w → connections.now ≡ numbers_in w →
+    ensures sent { (w : World) → Stands server.old w → pending.now ≡ pending_in w →
         OnOk result (HasSentAll (L.told lobby.old) (L.told lobby.new) w server.new) }
     ensures age { OnOk result (age_of server.new ≡ age_of server.old) }
     ensures logs { HasLogged (L.told lobby.old) (L.told lobby.new) }
     ensures hears { L.listens lobby.new ≡ true }
     ensures falls { StandOrRise (L.counts lobby.old) (L.counts lobby.new) }
 {
-    for k in connections {
+    for k in pending {
         send(server, lobby, *k)?;
     }
     Ok(())
@@ -96,11 +93,11 @@ fn close<L: Lobby>(server: &mut Server, lobby: &mut L, k: u32) -> u64
     count
 }
 
-/// Closes each connection that is closed in the server and owed nothing. It answers how many of
-/// these the server had closed itself.
-fn close_all<L: Lobby>(server: &mut Server, lobby: &mut L, connections: &[u32]) -> u64
+/// Closes each of the connections that is closed in the server and owed nothing. It answers how
+/// many of these the server had closed itself.
+fn close_all<L: Lobby>(server: &mut Server, lobby: &mut L, pending: &[u32]) -> u64
     requires listening { L.listens lobby.old ≡ true }
-    ensures closed { (w : World) → Stands server.old w → connections.now ≡ numbers_in w →
+    ensures closed { (w : World) → Stands server.old w → HoldsDone w pending.now →
         HasClosed (map LogEntry.Closed (done_in w)) (L.told lobby.old) (L.told lobby.new) w
         server.new result }
     ensures age { age_of server.new ≡ age_of server.old }
@@ -109,7 +106,7 @@ fn close_all<L: Lobby>(server: &mut Server, lobby: &mut L, connections: &[u32]) 
     ensures falls { StandOrRise (L.counts lobby.old) (L.counts lobby.new) }
 {
     let mut count = 0;
-    for k in connections {
+    for k in pending {
         count += close(server, lobby, *k);
     }
     count
@@ -134,7 +131,7 @@ pub fn take_turn<L: Lobby>(
     ensures falls { StandOrRise (L.counts lobby.old) (L.counts lobby.new) }
 {
     server.event(input)?;
-    let connections = Vec::from_slice(server.allocator(), server.connections())?;
-    send_all(server, lobby, &connections)?;
-    Ok(close_all(server, lobby, &connections))
+    let pending = server.pending()?;
+    send_all(server, lobby, &pending)?;
+    Ok(close_all(server, lobby, &pending))
 }

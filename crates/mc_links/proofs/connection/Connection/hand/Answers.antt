@@ -1,4 +1,4 @@
-use Rattle.std.proofs.Common.{List, ℕ, ◌++◌, length, ap, ◌∙◌, arith}
+use Rattle.std.proofs.Common.{length, ap, ◌∙◌, arith}
 use Rattle.mc_links.specs.Kept.{ConnectionValue}
 use Rattle.mc_links.specs.contracts.connection.Connection.{the_view}
 use Rattle.mc_links.proofs.Handing.{hand_drops, hand_fits}
@@ -15,9 +15,7 @@ returns-then-not-has_room-clause-ok c = λ packets e.
 pub returns-clause-ok : goal.returns-clause-ok
 returns-clause-ok c = λ packets e.
     hand_fits (the_view c.self.inside) c.args.self.now packets c.into_vec-bytes.result.items
-    c.push.new.self (length c.self.inside.backlog) c.len.result c.has_room.result
-    c.self.view_is (c.into_vec-bytes.ensures ∙ e)
-    (c.in_ok-push.ensures ∙ ap (λ (more : List ℕ). c.self.inside.backlog ++ more)
-    c.in_ok-from_vec.ensures.ok)
+    c.push_owned.new.self (length c.self.inside.backlog) c.len.result c.has_room.result
+    c.self.view_is (c.into_vec-bytes.ensures ∙ e) c.in_ok-push_owned.ensures
     (ap (λ (d : ConnectionValue). length d.link.owed) c.self.view_is)
     (omega (arith, c.into_vec-bytes.result.ok.0)) c.has_room.ensures c.if-not-has_room.false

@@ -7,7 +7,7 @@ use Rattle.mc_server.proofs.service.turn.close_all.Goals as goal
 
 pub loop-k-init : goal.loop-k-init
 loop-k-init g c = record {
-  closing = λ w st named. closing_start c.args.connections.now _ w c.args.server.now st named;
+  closing = λ w st named. closing_start c.args.pending.now _ w c.args.server.now st named;
   few = omega arith;
   age = refl;
   logs = ([], Logs-refl _);
@@ -17,7 +17,7 @@ loop-k-init g c = record {
 
 pub loop-k-preserved : goal.loop-k-preserved
 loop-k-preserved g c =
-    let ks = c.args.connections.now in
+    let ks = c.args.pending.now in
     let i = c.loop-k.k-index in
     let h = c.loop-k.invariant in
     record {
@@ -32,7 +32,7 @@ loop-k-preserved g c =
     }
 
 pub returns-clause-closed : goal.returns-clause-closed
-returns-clause-closed g c = λ w st named. closed_all (drop c.loop-k.k-index c.args.connections.now)
+returns-clause-closed g c = λ w st named. closed_all (drop c.loop-k.k-index c.args.pending.now)
     _ _ w c.loop-k.server c.loop-k.count
-    (drop_all c.loop-k.k-index c.args.connections.now c.loop-k-test.false)
+    (drop_all c.loop-k.k-index c.args.pending.now c.loop-k-test.false)
     (c.loop-k.invariant.closing w st named)

@@ -6,7 +6,7 @@ use Rattle.mc_server.proofs.service.turn.send_all.Goals as goal
 
 pub loop-k-init : goal.loop-k-init
 loop-k-init g c = record {
-  sending = λ w st named. sending_all_start c.args.connections.now _ w c.args.server.now st named;
+  sending = λ w st named. sending_all_start c.args.pending.now _ w c.args.server.now st named;
   age = refl;
   logs = ([], Logs-refl _);
   hears = c.requires.listening;
@@ -15,7 +15,7 @@ loop-k-init g c = record {
 
 pub loop-k-preserved : goal.loop-k-preserved
 loop-k-preserved g c =
-    let ks = c.args.connections.now in
+    let ks = c.args.pending.now in
     let i = c.loop-k.k-index in
     let h = c.loop-k.invariant in
     record {
@@ -33,7 +33,7 @@ returns-in_err-send-clause-logs g c =
     HasLogged-trans _ _ _ c.loop-k.invariant.logs c.send.ensures.logs
 
 pub returns-clause-sent : goal.returns-clause-sent
-returns-clause-sent g c = λ w st named. sent_to_all (drop c.loop-k.k-index c.args.connections.now)
+returns-clause-sent g c = λ w st named. sent_to_all (drop c.loop-k.k-index c.args.pending.now)
     _ _ w c.loop-k.server
-    (drop_all c.loop-k.k-index c.args.connections.now c.loop-k-test.false)
+    (drop_all c.loop-k.k-index c.args.pending.now c.loop-k-test.false)
     (c.loop-k.invariant.sending w st named)
