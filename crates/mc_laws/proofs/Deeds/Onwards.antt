@@ -11,8 +11,7 @@ use Rattle.mc_windows.specs.Pack.{PackValue}
 use Rattle.mc_model.specs.declared.player.Player.{Player}
 use Rattle.mc_model.specs.Things.{in_hand, holding, standing}
 use Rattle.mc_model.specs.Game.{Game, pack_of}
-use Rattle.mc_model.specs.Deeds.{rehand_of, repack_of, said, stand_of, thrown}
-use Rattle.mc_model.specs.Deeds.{with_state}
+use Rattle.mc_model.specs.Deeds.{rehand_of, repack_of, said, stand_of, thrown, with_state}
 use Rattle.mc_model.specs.Apart.{traits_of}
 use Rattle.mc_model.proofs.Lasting.{GivenKinds, Since}
 use Rattle.mc_model.proofs.LastingKept.{holding_steady, since_mapped, since_more, standing_steady}

@@ -1,14 +1,12 @@
 -- All that can be told holds of a game still after whatever players do, after they come and go, and
 -- after a tick.
 use Rattle.std.proofs.Common.{◌≡◌, ◌≢◌, ℕ, ◌+◌, ◌<◌, ◌≤◌, true, List, [], ◌∷◌, Option, Some}
-use Rattle.std.proofs.Common.{None, T, refl, sym, subst, ap, length, arith}
+use Rattle.std.proofs.Common.{None, refl, sym, subst, ap, length, arith}
 use Rattle.std.specs.Prelude.{Bool, false, is_some, not, if◌then◌else◌}
 use Rattle.std.specs.List.{AllByRecursion}
 use Rattle.std.specs.Cmp.{nat_cmp_total}
 use Rattle.std.specs.Ordering.{nat_cmp}
-use Rattle.std.specs.FinMap.{get, get-empty}
-use Rattle.std.specs.FinMap.{len, len-empty, len-insert}
-use Rattle.std.specs.FinMap.{len-remove}
+use Rattle.std.specs.FinMap.{get, get-empty, len, len-empty, len-insert, len-remove}
 use Rattle.std.proofs.lemmas.Bool.{ltb-true}
 use Rattle.std.proofs.lemmas.Bool.Decides.{nat_tests}
 use Rattle.std.proofs.lemmas.List.{length-append}
@@ -72,14 +70,14 @@ abbrev AllTold : Game → Type 0
 AllTold g = AllValues (λ (k : ℕ) (p : Player). PlayerIsTold p) g.players
 
 module _ (G T H : Type 0) (k : ℕ) (told : T) (heard : H) where
-  deed_names : (g v : Game) → Deed G T H k g v → AllTold g → AllTold v
-  deed_names g v (touches f of_players fits rest are) all = all_changed
+  deed_players : (g v : Game) → Deed G T H k g v → AllTold g → AllTold v
+  deed_players g v (touches f of_players fits rest are) all = all_changed
       (λ (j : ℕ) (p : Player). PlayerIsTold p) f g.players v.players are (λ j p there. record {
         name = subst (IsShort 16) (sym (of_players.like j p).name) (all j p there).name;
         notes = fits told heard j p (all j p there).notes;
       })
-  deed_names g v (repacks p pack there is same) all = subst AllTold (sym same) all
-  deed_names g v (rehands p hand there small same) all = subst AllTold (sym same) (all_changed
+  deed_players g v (repacks p pack there is same) all = subst AllTold (sym same) all
+  deed_players g v (rehands p hand there small same) all = subst AllTold (sym same) (all_changed
       (λ (j : ℕ) (q : Player). PlayerIsTold q) (only k takes) g.players _
       (only_changed k takes g.players)
       (λ j q there. only_holds PlayerIsTold k takes j q
@@ -88,10 +86,10 @@ module _ (G T H : Type 0) (k : ℕ) (told : T) (heard : H) where
     where
       takes : Player → Player
       takes q = record q { hand = hand }
-  deed_names g v (stands p spot there fits same) all = subst AllTold (sym same) all
-  deed_names g v (throws item spot can same) all = subst AllTold (sym same) all
-  deed_names g v (sets cell state inside is same) all = subst AllTold (sym same) all
-  deed_names g v (says line fits same) all = subst AllTold (sym same) all
+  deed_players g v (stands p spot there fits same) all = subst AllTold (sym same) all
+  deed_players g v (throws item spot can same) all = subst AllTold (sym same) all
+  deed_players g v (sets cell state inside is same) all = subst AllTold (sym same) all
+  deed_players g v (says line fits same) all = subst AllTold (sym same) all
 
 -- ---- acts
 
@@ -119,7 +117,7 @@ act_sound k packet g v fits e sound =
           let many = on.many in
           omega (arith, counts, counted, many));
       players = deeds_keep _ _ _ k AllTold
-          (λ u x deed w. deed_names _ _ _ k (good, sound.told) speaks u x deed) good g
+          (λ u x deed w. deed_players _ _ _ k (good, sound.told) speaks u x deed) good g
           made.games v made.deeds good sound.players;
     }
 

@@ -6,8 +6,8 @@ use Rattle.mc_model.specs.Game.{Game}
 use Rattle.mc_model.specs.Acts.{act}
 use Rattle.mc_model.specs.Good.{Good}
 use Rattle.mc_laws.proofs.Weighing.Spending.{Weighs, rehand_weighs, repack_weighs, same_weighs}
-use Rattle.mc_laws.proofs.Weighing.Spending.{stand_weighs, state_weighs, still_weighs, thrown_weighs}
-use Rattle.mc_laws.proofs.Weighing.Spending.{weighs_even, weighs_on}
+use Rattle.mc_laws.proofs.Weighing.Spending.{stand_weighs, state_weighs, still_weighs}
+use Rattle.mc_laws.proofs.Weighing.Spending.{thrown_weighs, weighs_even, weighs_on}
 use Rattle.mc_laws.proofs.Deeds.Made.{AreDeeds, Deed, all_gained, all_spent, gained, rehands}
 use Rattle.mc_laws.proofs.Deeds.Made.{repacks, says, sets, spent, stands, throws, touches}
 use Rattle.mc_laws.proofs.Acts.ActMade.{act_made}
