@@ -3,6 +3,7 @@ pub mod Beaten
 pub mod Dismissing
 pub mod Flushed
 pub mod Listed
+pub mod Looks
 pub mod Loops
 pub mod Numbered
 pub mod Numbers

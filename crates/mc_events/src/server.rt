@@ -13,6 +13,7 @@ ghost use Rattle.mc_events.specs.Stands.{HasFailed, Stands, owes};
 
 mod fields;
 mod joining;
+mod looks;
 mod sitting;
 mod ticking;
 

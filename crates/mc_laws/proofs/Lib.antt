@@ -27,6 +27,7 @@ pub mod Points
 pub mod FitsDue
 pub mod FitsUuid
 pub mod Apart
+pub mod Cutting
 pub mod Fits
 pub mod Decoding
 pub mod Headline

@@ -8,4 +8,5 @@
 
 mod laws;
 mod parts;
+mod pieces;
 mod promise;

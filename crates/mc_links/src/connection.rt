@@ -17,6 +17,7 @@ ghost use Rattle.mc_model.specs.Step.{heard};
 ghost use Rattle.mc_links.specs.Kept.{decoded, is_ours, is_pending, new_connection, state_of};
 
 mod fields;
+mod looks;
 mod showing;
 
 use crate::backlog::Backlog;

@@ -27,7 +27,7 @@ use Rattle.mc_laws.proofs.Walk.Each.{disconnect_closes}
 use Rattle.mc_laws.proofs.Runs.Closings.{closed_fault, closed_frames, frame_is}
 
 -- a turn with other bytes unread
-abbrev elsewhere : Unread → Turn → Turn
+abbrev pub elsewhere : Unread → Turn → Turn
 elsewhere u t = record { seat = record t.seat { unread = u }; handed = t.handed }
 
 acted_elsewhere : (k : ℕ) (s : Seat) (u : Unread) (packet : PlayUp) (o : Option Game) →

@@ -46,7 +46,7 @@ use Rattle.mc_laws.proofs.Headline.Ticks.{after_quiet}
 -- ---- lists
 
 -- of two ways to part a list, the front of one is the longer
-parted : (xs ys us vs : List ℕ) → xs ++ ys ≡ us ++ vs →
+pub parted : (xs ys us vs : List ℕ) → xs ++ ys ≡ us ++ vs →
     ((d : List ℕ) × (us ≡ xs ++ d) × (ys ≡ d ++ vs))
     ⊎ ((d : List ℕ) × (xs ≡ us ++ d) × (vs ≡ d ++ ys))
 parted [] ys us vs e = inl (us, refl, e)
@@ -92,7 +92,7 @@ frames_part (frame ∷ good) later bytes s =
 -- ---- the bytes before a frame
 
 -- a part of a frame has no whole frame in front
-part_no_frame : (payload front rest : List ℕ) → SpellsFrame payload front →
+pub part_no_frame : (payload front rest : List ℕ) → SpellsFrame payload front →
     IsPart (front ++ rest) → ⊥
 part_no_frame payload front rest s part = ends_no_frame 0 None payload front rest s part
 
@@ -197,11 +197,11 @@ clean_part count bytes cut clean c = subst (λ (fault : Option FrameFault).
     Ends (count + length c.front) cut.rest fault) clean c.ends
 
 -- bytes of one that is open then leave a part
-record LeavesPart (s : Seat) (t : Turn) : Type 0 where
-  part : is_closed t.seat.link.stage ≡ false → IsPart t.seat.unread.rest
-  are : IsBytes t.seat.unread.rest
+pub record LeavesPart (s : Seat) (t : Turn) : Type 0 where
+  pub part : is_closed t.seat.link.stage ≡ false → IsPart t.seat.unread.rest
+  pub are : IsBytes t.seat.unread.rest
 
-bytes_part : (k : ℕ) (s : Seat) (bytes : List ℕ) → IsBytes s.unread.rest → IsBytes bytes →
+pub bytes_part : (k : ℕ) (s : Seat) (bytes : List ℕ) → IsBytes s.unread.rest → IsBytes bytes →
     LeavesPart s (on_bytes k s bytes)
 unfolding on_bytes
 bytes_part k s bytes before came_ = step_at (is_closed s.link.stage) refl
@@ -328,7 +328,7 @@ run_part k (e ∷ events) w are p =
 
 -- ---- before a bad frame
 
-cut_again : (count : ℕ) (bytes : List ℕ) (cut : Cut) → IsBytes bytes → IsCutAt count bytes cut →
+pub cut_again : (count : ℕ) (bytes : List ℕ) (cut : Cut) → IsBytes bytes → IsCutAt count bytes cut →
     cut_of count bytes ≡ cut
 cut_again count bytes cut fits c =
     let d = cut_of_bytes count bytes fits in
