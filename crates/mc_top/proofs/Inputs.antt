@@ -12,11 +12,12 @@ use Rattle.mc_words.specs.declared.ended.Ended.{Ended}
 use Rattle.mc_words.specs.declared.ended.Ended.TheVariants as ended
 use Rattle.mc_words.specs.Devices.{ReadsText, WroteLast, WroteTextThenLast}
 use Rattle.mc_words.specs.Ended.{ended_after}
-use Rattle.mc_words.specs.StatusText.{Told, status_told}
+use Rattle.mc_words.specs.Told.{Told}
+use Rattle.mc_status.specs.StatusText.{status_told}
 use Rattle.mc_words.specs.Lines.{text_max}
 use Rattle.mc_top.specs.StatusPromise.{RepliedPart, Replied, Found}
 use Rattle.mc_top.proofs.LongTexts.{told_front, long_faulty}
-use Rattle.mc_words.specs.Received.{SendsPart}
+use Rattle.mc_words.specs.Passes.{SendsPart}
 use Rattle.mc_words.proofs.Growing.{grows_two}
 
 -- what is known of the bytes that were read is known of all that was left, where that is told, if

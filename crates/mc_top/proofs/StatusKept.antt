@@ -17,7 +17,7 @@ use Rattle.mc_top.specs.Finishing.{EndsText, Finishes}
 use Rattle.mc_top.specs.StatusPromise.{IsFineText, IsBadText, Found, Replied, RepliedPart}
 use Rattle.mc_top.specs.StatusPromise.{RepliedPartOrNothing, StatusPromise}
 use Rattle.mc_top.proofs.Finishes.{still_holds, still_rose, only_last}
-use Rattle.mc_words.specs.StatusText.{status_told}
+use Rattle.mc_status.specs.StatusText.{status_told}
 use Rattle.mc_top.proofs.Inputs.{wrote_both, text_of}
 
 -- all of a text is some first part of it

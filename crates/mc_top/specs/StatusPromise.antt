@@ -7,7 +7,7 @@ use Rattle.mc_words.specs.declared.ended.Ended.{Ended}
 use Rattle.mc_words.specs.declared.ended.Ended.TheVariants as ended
 use Rattle.mc_words.specs.Devices.{Devices, InputFailed, IsTextRead, WroteTextThenLast}
 use Rattle.mc_words.specs.Ended.{bad_input_line}
-use Rattle.mc_words.specs.StatusText.{status_told}
+use Rattle.mc_status.specs.StatusText.{status_told}
 
 -- nothing is wrong with an input, and this is its text
 abbrev pub IsFineText : ℕ → List ℕ → List ℕ → Type 0

@@ -1,6 +1,7 @@
 ghost use Rattle.std.specs.Prelude.{◌≡◌, ◌↔◌, ℕ, List, IfOk, IfSome, string_bytes};
 ghost use Rattle.mc_wire.specs.Count.{Rose, StandsOrRises};
 ghost use Rattle.mc_words.specs.declared.bad_input.BadInput.{BadInput};
+ghost use Rattle.mc_model.specs.Game.{AreSettings};
 ghost use Rattle.mc_words.specs.Devices.{devices, WroteLast};
 ghost use Rattle.mc_words.specs.Ended.{usage_line};
 ghost use Rattle.mc_top.specs.Finishing.{EndsText, Finishes, FinishesWith};
@@ -11,13 +12,15 @@ ghost use Rattle.mc_words.specs.Arguments.{IsSet, bytes_of, command_of};
 use crate::replay::replay;
 use crate::serve::serve;
 use mc_bytes::NoMemory;
+use mc_status::write_status;
 use mc_wire::{InputError, Lobby, Sink, Source, write_all};
-use mc_words::{BadInput, Command, Ended, Unfinished, budget_line, read_text, write_status};
+use mc_words::{BadInput, Command, Ended, Unfinished, budget_line, read_text};
 use std::alloc::Global;
 
 /// The command `status`: it reads one client's bytes as lines of hex, and writes each frame that
 /// answers them as one such line. `most` is the number of players that it tells.
 fn status<I: Source, O: Sink>(alloc: Global, most: u32, input: &mut I, out: &mut O) -> Ended
+    requires { AreSettings most 2 }
     ensures done { result ≡ Ended.Done →
         Replied most (I.left input.old) (I.left input.new) (O.held out.old) (O.held out.new) }
     ensures no_memory { result ≡ Ended.NoMemory →

@@ -1,8 +1,7 @@
 pub mod Lines
 pub mod FaultName
 pub mod Ended
-pub mod StatusText
-pub mod Received
+pub mod Told
 pub mod Arguments
 pub mod Devices
 pub mod Digits
