@@ -12,8 +12,8 @@ use Rattle.mc_words.specs.declared.script_line.Before.{Before}
 use Rattle.mc_words.specs.declared.script_line.ScriptEvent.{ScriptEvent}
 use Rattle.mc_words.specs.Lines.{lines_of, is_line_end, line_bytes, text_max, goes_past, size_of}
 use Rattle.mc_words.specs.Told.{Told}
-use Rattle.mc_words.specs.StatusText.{Exchange, first_exchange, receives_line, receives_next}
-use Rattle.mc_words.specs.StatusText.{told_after, lines_told, status_told}
+use Rattle.mc_status.specs.StatusText.{Exchange, first_exchange, receives_line, receives_next}
+use Rattle.mc_status.specs.StatusText.{told_after, lines_told, status_told}
 use Rattle.mc_words.specs.Script.{line_event, with_events, then_, at_first}
 use Rattle.mc_words.specs.Script.{lines_events}
 use Rattle.mc_words.specs.Script.{script_of}

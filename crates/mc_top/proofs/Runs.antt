@@ -8,7 +8,7 @@ use Rattle.mc_words.specs.declared.ended.Ended.{Ended}
 use Rattle.mc_words.specs.declared.ended.Ended.TheVariants as ended
 use Rattle.mc_words.specs.Devices.{Devices, streams_of}
 use Rattle.mc_words.specs.Ended.{status_of}
-use Rattle.mc_words.specs.StatusText.{status_told}
+use Rattle.mc_status.specs.StatusText.{status_told}
 use Rattle.mc_words.proofs.Delivering.{bad_delivered, fine_delivered}
 use Rattle.mc_top.specs.Promises.{EndsFine, HasFault, IsFineInput, Promises, told_of}
 use Rattle.mc_top.specs.ReplayPromise.{replay_told}

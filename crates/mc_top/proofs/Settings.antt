@@ -81,9 +81,9 @@ serve_is_set : (world : Option WorldOptions) (port ticks events : Option ℕ) (p
     IfSome (serve_with world port ticks events pace) IsSet
 serve_is_set world port ticks events pace w p t e = grind (arith, nat_tests)
 
-status_is_set : (players : Option ℕ) → IfSome (status_with players) IsSet
-status_is_set None = tt
-status_is_set (Some players) = tt
+status_is_set : (players : Option ℕ) → IfSome players (IsWithin 1 50) →
+    IfSome (status_with players) IsSet
+status_is_set players p = grind (arith, nat_tests)
 
 choice : (b : Bool) (a c : Option Command) → IfSome a IsSet → IfSome c IsSet →
     IfSome (cond b a c) IsSet
@@ -97,7 +97,16 @@ serve_set_of arguments =
 command_is_set : (arguments : List (List ℕ)) → IfSome (command_of arguments) IsSet
 unfolding command_of
 command_is_set arguments =
-    grind (arith, nat_tests, choice, status_is_set, replay_is_set, world_is, serve_set_of)
+    grind (
+      arith,
+      nat_tests,
+      choice,
+      status_is_set,
+      players_are,
+      replay_is_set,
+      world_is,
+      serve_set_of,
+    )
 
 -- the options of the command that some arguments name
 pub named_is_set : (arguments : List (List ℕ)) (o : Option Command) (command : Command) →

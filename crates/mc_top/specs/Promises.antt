@@ -11,7 +11,7 @@ use Rattle.mc_words.specs.Arguments.{command_of, bytes_of}
 use Rattle.mc_words.specs.Delivers.{Delivers}
 use Rattle.mc_words.specs.Devices.{Devices, InputStays, LobbyStays, streams_of}
 use Rattle.mc_words.specs.Ended.{status_of}
-use Rattle.mc_words.specs.StatusText.{status_told}
+use Rattle.mc_status.specs.StatusText.{status_told}
 use Rattle.mc_words.specs.Told.{Told}
 use Rattle.mc_top.specs.ReplayPromise.{Plays, replay_told}
 use Rattle.mc_top.specs.ServePromise.{ServePromise}

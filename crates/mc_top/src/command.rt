@@ -1,20 +1,23 @@
 ghost use Rattle.std.specs.Prelude.{◌≡◌, ◌↔◌, IfSome};
+ghost use Rattle.mc_model.specs.Game.{AreSettings};
 ghost use Rattle.mc_words.specs.Arguments.{IsSet, bytes_of, command_of};
 ghost use Rattle.mc_words.specs.Delivers.{Delivered};
 ghost use Rattle.mc_words.specs.Devices.{WroteLast, devices, streams};
 ghost use Rattle.mc_words.specs.Ended.{usage_line};
-ghost use Rattle.mc_words.specs.StatusText.{status_told};
+ghost use Rattle.mc_status.specs.StatusText.{status_told};
 ghost use Rattle.mc_top.specs.Promises.{IsStatus, KeepsPromise, NamesNone, Promises};
 
 use crate::replay::replay;
 use crate::serve::serve;
+use mc_status::write_status;
 use mc_wire::{InputError, Lobby, Sink, Source};
-use mc_words::{Command, Ended, finish, read_text, write_status};
+use mc_words::{Command, Ended, finish, read_text};
 use std::alloc::Global;
 
 /// The command `status`: it reads one client's bytes as lines of hex, and writes each frame that
 /// answers them as one such line. `most` is the number of players that it tells.
 fn status<I: Source, O: Sink>(alloc: Global, most: u32, input: &mut I, out: &mut O) -> Ended
+    requires { AreSettings most 2 }
     ensures { Delivered (status_told most) result
         (streams (I.left input.old) (I.faults input.old) (O.held out.old) (O.faults out.old))
         (streams (I.left input.new) (I.faults input.new) (O.held out.new) (O.faults out.new)) }

@@ -16,7 +16,8 @@ use Rattle.mc_words.specs.Devices.{ReadsText, Streams, WroteLast, WroteTextThenL
 use Rattle.mc_words.specs.Ended.{bad_input_line, ended_told, status_of}
 use Rattle.mc_words.specs.Finishing.{Finishes}
 use Rattle.mc_words.specs.Lines.{text_max}
-use Rattle.mc_words.specs.Told.{IsToldOf, Tells, Told, WrotePart}
+use Rattle.mc_words.specs.Passes.{SendsPart}
+use Rattle.mc_words.specs.Told.{IsToldOf, Tells, Told}
 use Rattle.mc_words.proofs.Growing.{grows_none, grows_two}
 
 -- what is told of a text follows from its first bytes up to one past the most, and has a fault
@@ -59,7 +60,7 @@ told_of_read told telling (Some all) left' bytes text fault read is = record {
 -- what a writer answers, by its clauses
 pub tells_of : (told : Told) (r : Result (Option BadInput) Unfinished)
     (held held' : Option (List ℕ)) (faults faults' : ℕ) → OnOk r (Grows held held' told.text) →
-    IfOk r (λ fault. fault ≡ told.fault) → OnErr r (WrotePart held held' told.text) →
+    IfOk r (λ fault. fault ≡ told.fault) → OnErr r (SendsPart held held' told.text) →
     (IsErrOf r Failed → Rose faults faults') → StandsOrRises faults faults' →
     Tells told r held held' faults faults'
 tells_of told (Ok fault) held held' faults faults' wrote is part failed counts =

@@ -1,11 +1,6 @@
 pub mod Growing
 pub mod Cuts
 pub mod Reading
-pub mod Turns
-pub mod Exchanges
-pub mod Receiving
-pub mod Answering
-pub mod StatusLines
 pub mod DigitSteps
 pub mod Scripts
 pub mod ArgumentSteps

@@ -186,6 +186,6 @@ pub record CanServe (options : ServeOptions) : Type 0 where
 
 -- a command can begin with its options
 abbrev pub IsSet : Command → Type 0
-IsSet (Status most) = Unit {0}
+IsSet (Status most) = AreSettings most 2
 IsSet (Replay options) = AreSettings options.players options.view
 IsSet (Serve options) = CanServe options

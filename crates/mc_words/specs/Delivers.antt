@@ -9,7 +9,8 @@ use Rattle.mc_words.specs.declared.ended.Ended.{Ended}
 use Rattle.mc_words.specs.declared.ended.Ended.TheVariants as ended
 use Rattle.mc_words.specs.Devices.{IsTextRead, Streams, WroteTextThenLast}
 use Rattle.mc_words.specs.Ended.{bad_input_line, read_fault_line}
-use Rattle.mc_words.specs.Told.{IsToldOf, Told, WrotePart}
+use Rattle.mc_words.specs.Passes.{SendsPart}
+use Rattle.mc_words.specs.Told.{IsToldOf, Told}
 
 -- the input was read to its end, nothing is wrong with it, and its text was written
 pub record Whole (told : List ℕ → Told) (before after : Streams) : Type 0 where
@@ -23,7 +24,7 @@ pub record Part (told : List ℕ → Told) (before after : Streams) : Type 0 whe
   pub text : List ℕ
   pub fault : Option BadInput
   pub told_is : IsToldOf told before.left text fault
-  pub wrote : WrotePart before.held after.held text
+  pub wrote : SendsPart before.held after.held text
 
 -- the input was read to its end or until it was too long, this is its first fault, and the text of
 -- what stands before that was written

@@ -2,8 +2,6 @@ pub mod Lines
 pub mod FaultName
 pub mod Ended
 pub mod Told
-pub mod StatusText
-pub mod Received
 pub mod Arguments
 pub mod Devices
 pub mod Delivers

@@ -13,3 +13,7 @@ pub record Passes (held held' : Option (List ℕ)) (old all new left : List ℕ)
 pub record Breaks (held held' : Option (List ℕ)) (old all : List ℕ) : Type 0 where
   pub len : ℕ
   pub wrote : Grows held held' (take len (old ++ all))
+
+-- some first part of some bytes was written
+abbrev pub SendsPart : Option (List ℕ) → Option (List ℕ) → List ℕ → Type 0
+SendsPart held held' bytes = (n : ℕ) × Grows held held' (take n bytes)

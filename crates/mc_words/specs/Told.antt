@@ -1,9 +1,10 @@
 -- What a command that reads a text tells of it, and how much of that a writer has written. Rules of
 -- this project.
-use Rattle.std.specs.Prelude.{◌≡◌, ℕ, List, take, Option, IfSome, Result, Ok, Err}
+use Rattle.std.specs.Prelude.{◌≡◌, ℕ, List, Option, IfSome, Result, Ok, Err}
 use Rattle.mc_wire.specs.Count.{Rose, StandsOrRises}
 use Rattle.mc_wire.specs.Stream.{Grows}
 use Rattle.mc_words.specs.declared.bad_input.BadInput.{BadInput}
+use Rattle.mc_words.specs.Passes.{SendsPart}
 use Rattle.mc_words.specs.declared.unfinished.Unfinished.{Unfinished}
 use Rattle.mc_words.specs.declared.unfinished.Unfinished.TheVariants.{Failed, NoMemory}
 
@@ -20,10 +21,6 @@ pub record IsToldOf (told : List ℕ → Told) (left : Option (List ℕ)) (text 
   pub left_is : IfSome left (λ (l : List ℕ). l ≡ input)
   pub is : told input ≡ record { text = text; fault = fault }
 
--- some first part of a text was written
-abbrev pub WrotePart : Option (List ℕ) → Option (List ℕ) → List ℕ → Type 0
-WrotePart held held' text = (len : ℕ) × Grows held held' (take len text)
-
 -- what a writer of it answers: it wrote all and gives the fault, or some first part was written
 -- when the sink failed or memory ran out
 abbrev pub Tells : Told → Result (Option BadInput) Unfinished → Option (List ℕ) →
@@ -31,5 +28,5 @@ abbrev pub Tells : Told → Result (Option BadInput) Unfinished → Option (List
 Tells told (Ok fault) held held' faults faults' =
     (fault ≡ told.fault) × Grows held held' told.text × StandsOrRises faults faults'
 Tells told (Err Failed) held held' faults faults' =
-    Rose faults faults' × WrotePart held held' told.text
-Tells told (Err NoMemory) held held' faults faults' = WrotePart held held' told.text
+    Rose faults faults' × SendsPart held held' told.text
+Tells told (Err NoMemory) held held' faults faults' = SendsPart held held' told.text

@@ -1,5 +1,5 @@
 use Rattle.std.proofs.Common.{refl}
-use Rattle.mc_words.specs.StatusText.{status_told}
+use Rattle.mc_status.specs.StatusText.{status_told}
 use Rattle.mc_words.proofs.Delivering.{delivers}
 use Rattle.mc_top.specs.ReplayPromise.{replay_told}
 use Rattle.mc_top.proofs.Replays.{plays_on}

@@ -1,6 +1,6 @@
 use Rattle.std.proofs.Common.{refl}
 use Rattle.mc_words.proofs.Delivering.{delivered, delivered_none, delivered_unread, tells_of}
-use Rattle.mc_words.specs.StatusText.{status_told}
+use Rattle.mc_status.specs.StatusText.{status_told}
 use Rattle.mc_top.proofs.LongTexts.{status_telling}
 use Rattle.mc_top.proofs.command.status.Goals as goal
 

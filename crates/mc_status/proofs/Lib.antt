@@ -1,0 +1,5 @@
+pub mod Seats
+pub mod Answered
+pub mod Received
+pub mod Lines
+pub mod Texts

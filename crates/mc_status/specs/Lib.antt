@@ -1,0 +1,2 @@
+pub mod StatusText
+pub mod Playing
