@@ -35,7 +35,7 @@ only_holds P k f j x here there = elim (j == k) as
       | false ↦ λ t. there
     ] refl
 
-mapped_itself : {X : Type 0} (o : Option X) → option_map (λ (x : X). x) o ≡ o
+pub mapped_itself : {X : Type 0} (o : Option X) → option_map (λ (x : X). x) o ≡ o
 mapped_itself None = refl
 mapped_itself (Some x) = refl
 
