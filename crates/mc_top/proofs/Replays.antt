@@ -24,8 +24,8 @@ use Rattle.mc_words.proofs.Delivering.{IsTelling, of_read}
 use Rattle.mc_words.proofs.Growing.{grows_none}
 use Rattle.mc_top.specs.ReplayText.{events_of, replay_text, replay_log}
 use Rattle.mc_top.specs.Replaying.{HasStopped}
-use Rattle.mc_top.specs.ReplayPromise.{IsPlayed, IsScriptText, Plays, replay_told, settings_of}
-use Rattle.mc_top.specs.ReplayPromise.{told_script, world_of}
+use Rattle.mc_top.specs.ReplayPromise.{IsPlayed, IsScriptText, KeepsAll, Plays, replay_told}
+use Rattle.mc_top.specs.ReplayPromise.{settings_of, told_script, world_of}
 use Rattle.mc_top.proofs.LongTexts.{script_front, long_no_script}
 use Rattle.mc_top.proofs.ScriptFacts.{script_bytes}
 use Rattle.mc_top.proofs.Sent.{told_taken}
@@ -94,17 +94,24 @@ whole_promise options bytes events settings is =
     headline (settings_of options) (replay_log (world_of options) (events_of events)) settings
     (script_bytes (world_of options) bytes events is)
 
+keeps_all : (options : WorldOptions) (input : List ℕ) (events : List ScriptEvent) →
+    AreSettings options.players options.view → script_of input ≡ Ok events →
+    KeepsAll options events
+keeps_all options input events settings is =
+    let promise = whole_promise options input events settings is in
+    record {
+      promise = promise;
+      sent = λ k. told_taken (settings_of options) events k promise;
+    }
+
 is_played : (options : WorldOptions) (left left' : Option (List ℕ)) (bytes : List ℕ) →
     AreSettings options.players options.view → ReadsText left left' bytes →
     IsScriptText bytes → IsPlayed options left
-is_played options left left' bytes settings read script =
-    let promise = whole_promise options bytes script.0 settings script.1 in
-    record {
-      events = script.0;
-      script = of_read script_of (λ r. r ≡ Ok script.0) left left' bytes script_front read script.1;
-      promise = promise;
-      sent = λ k. told_taken (settings_of options) script.0 k promise;
-    }
+is_played options left left' bytes settings read script = record {
+  script = of_read script_of (λ r. (events : List ScriptEvent) × (r ≡ Ok events)) left left' bytes
+      script_front read script;
+  keeps = λ input events told is. keeps_all options input events settings is;
+}
 
 pub plays : (options : WorldOptions) (left left' held held' : Option (List ℕ))
     (faults faults' : ℕ) (bytes : List ℕ) (r : Result (Option BadInput) Unfinished) →

@@ -37,14 +37,18 @@ replay_told options input = told_script options (script_of input)
 abbrev pub IsScriptText : List ℕ → Type 0
 IsScriptText text = (events : List ScriptEvent) × (script_of text ≡ Ok events)
 
--- the input, where that is told, is a script without fault, whose lines say this; all that happens
--- in it keeps the whole promise about a run, and the `sent` lines tell just the bytes of that
--- promise
-pub record IsPlayed (options : WorldOptions) (left : Option (List ℕ)) : Type 0 where
-  pub events : List ScriptEvent
-  pub script : IfSome left (λ (input : List ℕ). script_of input ≡ Ok events)
+-- all that happens in a script keeps the whole promise about a run, and the `sent` lines tell just
+-- the bytes of that promise
+pub record KeepsAll (options : WorldOptions) (events : List ScriptEvent) : Type 0 where
   pub promise : Headline (settings_of options) (replay_log (world_of options) (events_of events))
   pub sent : (k : ℕ) → IsToldTaken k (world_of options) (events_of events)
+
+-- the input is a script without fault, where it is told, and what its lines say keeps all of that
+pub record IsPlayed (options : WorldOptions) (left : Option (List ℕ)) : Type 0 where
+  pub script : IfSome left IsScriptText
+  pub keeps : (input : List ℕ) (events : List ScriptEvent) →
+      IfSome left (λ (l : List ℕ). l ≡ input) → script_of input ≡ Ok events →
+      KeepsAll options events
 
 -- so it is wherever a script was played to its end, or until its text could not be written
 abbrev pub Plays : WorldOptions → Ended → Option (List ℕ) → Type 0
