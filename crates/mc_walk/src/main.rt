@@ -19,17 +19,26 @@ use std::io::{BufWriter, Write};
 use tally::Tally;
 use walk::Walk;
 
-/// Plays the rows of a table; answers what was counted, or the first row with a fault.
-fn play(alloc: Global, table: &str) -> Result<Tally, Stop> {
+/// Plays the rows of a table; answers the first with a fault.
+fn play_rows(walk: &mut Walk, table: &str) -> Result<(), Stop> {
     let mut number = 0u32;
-    let mut walk = Walk::new(alloc).map_err(|fault| Stop { number, fault })?;
     for row in table.trim_end_matches('\n').split('\n') {
         number = number.saturating_add(1);
         if let Err(fault) = walk.play(row) {
             return Err(Stop { number, fault });
         }
     }
-    Ok(walk.tally())
+    Ok(())
+}
+
+/// Plays a table on a new walk; answers what was counted, or the first row with a fault.
+fn play(alloc: Global, table: &str) -> Result<Tally, Stop> {
+    let mut walk = Walk::new(alloc).map_err(|fault| Stop { number: 0, fault })?;
+    let played = play_rows(&mut walk, table);
+    let tally = walk.tally();
+    drop(walk);
+    played?;
+    Ok(tally)
 }
 
 fn main(rt: HostRuntime) -> io::Result<()> {

@@ -53,13 +53,18 @@ impl Walk {
     /// A walk that begins.
     pub fn new(alloc: Global) -> Result<Walk, Fault> {
         let mut server = new_server(alloc);
-        let walkers = new_walkers(alloc, &mut server)?;
-        Ok(Walk {
-            alloc,
-            server,
-            walkers,
-            tally: Tally::new(),
-        })
+        match new_walkers(alloc, &mut server) {
+            Ok(walkers) => Ok(Walk {
+                alloc,
+                server,
+                walkers,
+                tally: Tally::new(),
+            }),
+            Err(fault) => {
+                drop(server);
+                Err(Fault::from(fault))
+            }
+        }
     }
 
     /// What was counted.

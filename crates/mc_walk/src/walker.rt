@@ -116,13 +116,22 @@ impl Walker {
             self.is_in = true;
             return Ok(());
         }
-        match read_down(self.alloc, payload) {
-            Ok(Down::KeepAlive(_)) => {
+        let Ok(packet) = read_down(self.alloc, payload) else {
+            return Err(Fault::Packet(self.number));
+        };
+        let done = self.hear(&packet, tally);
+        drop(packet);
+        done
+    }
+
+    /// Takes a packet into account: a beat, or what it tells of others.
+    fn hear(&mut self, packet: &Down, tally: &mut Tally) -> Result<(), Fault> {
+        match packet {
+            Down::KeepAlive(_) => {
                 self.owes = true;
                 Ok(())
             }
-            Ok(packet) => self.others.tell(&packet, tally),
-            Err(_) => Err(Fault::Packet(self.number)),
+            _ => self.others.tell(packet, tally),
         }
     }
 
