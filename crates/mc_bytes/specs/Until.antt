@@ -8,8 +8,8 @@ use Rattle.mc_bytes.specs.UntilBytes.{headed_read, headed_spells, IsHead, until_
 use Rattle.mc_bytes.specs.UntilBytes.{until_spelling, until_append, until_most}
 use Rattle.mc_bytes.specs.UntilLaws.{headed_found, headed_only, until_enough, until_only, until_fit}
 use Rattle.mc_bytes.specs.UntilLaws.{until_spelled, until_appended, until_bounded}
-unfoldable pub use Rattle.mc_bytes.specs.UntilBytes.{headed_read, headed_spells, IsHead, headed_fits}
-unfoldable pub use Rattle.mc_bytes.specs.UntilBytes.{until_append, until_most}
+unfoldable pub use Rattle.mc_bytes.specs.UntilBytes.{headed_read, headed_spells, IsHead}
+unfoldable pub use Rattle.mc_bytes.specs.UntilBytes.{headed_fits, until_append, until_most}
 pub use Rattle.mc_bytes.specs.UntilBytes.{Headed}
 pub use Rattle.mc_bytes.specs.UntilLaws.{headed_shorter}
 

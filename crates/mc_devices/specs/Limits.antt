@@ -1,7 +1,12 @@
 -- How long a client is waited for, and how much of it is taken. Times are in milliseconds (rules of
 -- this project).
-use Rattle.std.specs.Prelude.{◌≡◌, ℕ, ◌+◌, ◌-◌, ◌*◌, ◌≤◌, ◌⊎◌, min, Bool, if◌then◌else◌, Option, Some, ℤ, pos}
-use Rattle.mc_devices.specs.declared.sockets.limits.TheConstants.{UNASKED_MAX, UNHEARD_MAX, STALL_MAX, STALL_PAUSE, ALLOWANCE_MAX, ALLOWANCE_TICK, ALLOWANCE_STALLED, STEP_MAX, READ_MAX}
+use Rattle.std.specs.Prelude.{◌≡◌, ℕ, ◌+◌, ◌-◌, ◌*◌, ◌≤◌, ◌⊎◌, min, Bool, if◌then◌else◌, Option}
+use Rattle.std.specs.Prelude.{Some, ℤ, pos}
+use Rattle.mc_devices.specs.declared.sockets.limits.TheConstants.{UNASKED_MAX, UNHEARD_MAX}
+use Rattle.mc_devices.specs.declared.sockets.limits.TheConstants.{STALL_MAX, STALL_PAUSE}
+use Rattle.mc_devices.specs.declared.sockets.limits.TheConstants.{ALLOWANCE_MAX, ALLOWANCE_TICK}
+use Rattle.mc_devices.specs.declared.sockets.limits.TheConstants.{ALLOWANCE_STALLED, STEP_MAX}
+use Rattle.mc_devices.specs.declared.sockets.limits.TheConstants.{READ_MAX}
 
 -- nothing was to be written to a connection, or it sent nothing, for too long
 abbrev pub IsSilent : ℕ → ℕ → ℕ → Type 0
@@ -32,6 +37,7 @@ next_allowance is_stalled bytes =
 abbrev pub read_limit : ℕ → ℕ
 read_limit allowed = min allowed READ_MAX
 
--- the errors of Linux that say that a process (EMFILE) or the system (ENFILE) has no descriptor left
+-- the errors of Linux that say that a process (EMFILE) or the system (ENFILE) has no descriptor
+-- left
 abbrev pub IsNoDescriptor : Option ℤ → Type 0
 IsNoDescriptor code = (code ≡ Some (pos 24)) ⊎ (code ≡ Some (pos 23))

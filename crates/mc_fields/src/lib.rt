@@ -1,9 +1,9 @@
 //! The fields of the protocol's packets, read and written exactly, and packets as rows of them.
 //!
-//! Stands on the formats of `mc_bytes`. Its one contract: a reader takes exactly the bytes that spell
-//! its field and says of all others the first fault and its place, and a writer appends a spelling
-//! or leaves what was there; a table of rows makes the same of whole packets. Patterns of numbers
-//! with a fraction are whole numbers here, and are mapped to 1/32 blocks and 1/256 turns.
+//! Stands on the formats of `mc_bytes`. Its one contract: a reader takes exactly the bytes that
+//! spell its field and says of all others the first fault and its place, and a writer appends a
+//! spelling or leaves what was there; a table of rows makes the same of whole packets. Patterns of
+//! numbers with a fraction are whole numbers here, and are mapped to 1/32 blocks and 1/256 turns.
 #![tactic(auto)]
 
 mod binary32;

@@ -30,8 +30,8 @@ pub changes_put_all : (land : LandValue) (list : ListValue) (es : List Entity) (
     new ≡ five ++ play_bytes (line_packets lines) →
     new ≡ old ++ play_bytes (changes land list es pack mark view age lines)
 unfolding changes
-changes_put_all land list es pack mark view age lines old first one two three four five new b e f g h
-    k m =
+changes_put_all land list es pack mark view age lines old first one two three four five new b e f g
+    h k m =
     let w = beat_packets mark.beat (beat_now age) in
     let t = time_packets mark.age (age_now age) in
     let l = leaver_packets (listed mark list) list.present in

@@ -91,7 +91,8 @@ nothing_shown = record {
 abbrev pub is_shown : MarkValue → Bool
 is_shown mark = is_some mark.view
 
--- the players and the columns that were shown, of the parts as they were: none before the first tick
+-- the players and the columns that were shown, of the parts as they were: none before the first
+-- tick
 abbrev pub pairs_in : Option ViewSet → Parts → Pairs
 pairs_in None parts = empty
 pairs_in (Some view) parts = parts.players

@@ -84,8 +84,9 @@ kept_join pieces small more new at len is short little room kept =
     })
 
 -- a piece more
-pub shared-bytes : (pieces new : List (List ℕ)) (small piece : List ℕ) → new ≡ pieces ++ piece ∷ [] →
-    length small < 1 → kept_bytes new small ≡ kept_bytes pieces small ++ piece
+pub shared-bytes : (pieces new : List (List ℕ)) (small piece : List ℕ) →
+    new ≡ pieces ++ piece ∷ [] → length small < 1 →
+    kept_bytes new small ≡ kept_bytes pieces small ++ piece
 shared-bytes pieces new small piece is none = rw (is, no_bytes small none)
     (kept-piece pieces piece [] ∙ ap (kept_bytes pieces) (append-nil piece)
     ∙ kept-small pieces [] piece)

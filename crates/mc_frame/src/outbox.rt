@@ -44,7 +44,8 @@ impl Model for Outbox {
     ghost invariant = { λ o. IsKeptOutbox o.pieces.items o.joined.items o.at o.len };
 }
 
-/// Makes the joined bytes a piece, where they are at least so many. Without memory all is as before.
+/// Makes the joined bytes a piece, where they are at least so many. Without memory all is as
+/// before.
 fn seal(pieces: &mut VecDeque<Bytes>, joined: &mut Vec<u8>, least: usize) -> Result<(), NoMemory>
     requires { 0 < least }
     ensures fewer { OnOk result (length joined.new.items < least) }

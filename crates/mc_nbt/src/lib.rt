@@ -1,9 +1,9 @@
 //! NBT: values, and their bytes.
 //!
 //! Stands on the byte lists, faults and numbers of `mc_bytes`, which it exports again. Its one
-//! contract: `read_nbt` takes exactly the spellings that `SpellsNbt` names, whatever bytes come, and
-//! says of all others the first fault and its place; `write_nbt` appends the one spelling of its
-//! value, or leaves what was there.
+//! contract: `read_nbt` takes exactly the spellings that `SpellsNbt` names, whatever bytes come,
+//! and says of all others the first fault and its place; `write_nbt` appends the one spelling of
+//! its value, or leaves what was there.
 #![tactic(auto)]
 
 mod values;

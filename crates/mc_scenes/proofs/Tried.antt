@@ -30,7 +30,8 @@ all_ready land (place ∷ places) near there =
 
 -- where all columns of a view may be, those may that come
 pub entered_ready : (land : LandValue) (was : Option ViewSet) (view : ViewSet) →
-    AllByRecursion (IsReady land) (all_of view) → AllByRecursion (IsReady land) (entered_of was view)
+    AllByRecursion (IsReady land) (all_of view) →
+    AllByRecursion (IsReady land) (entered_of was view)
 entered_ready land None view all = all
 entered_ready land (Some old) view all = lacking_holds (IsReady land) view old all
 

@@ -1,12 +1,12 @@
 //! What one client is sent, on flat land whose columns from -3 to 3 are ready: `flush STEP ..`
 //! works on the list of players, the cells, the entities, the pack, what is noted and the mark.
-//! `player UUID X Y Z YAW PITCH` adds the entity of a player whose hand is empty, `hold` and `empty`
-//! change what its hand holds, and `me EID` names the client's own entity, which is none at first:
-//! its player is where that is, or where players enter.
-//! `age N` makes the world N ticks old, which is 1 at first, and `say TEXT` adds a text as it stands,
-//! of which no JSON is made. `settle` settles players, land and entities and forgets the texts,
-//! `share` has the frames encoded for all clients from now on, and `tell X Z D` answers the frames
-//! of a view of D around the column (X, Z).
+//! `player UUID X Y Z YAW PITCH` adds the entity of a player whose hand is empty, `hold` and
+//! `empty` change what its hand holds, and `me EID` names the client's own entity, which is none at
+//! first: its player is where that is, or where players enter. `age N` makes the world N ticks old,
+//! which is 1 at first, and `say TEXT` adds a text as it stands, of which no JSON is made. `settle`
+//! settles players, land and entities and forgets the texts, `share` has the frames encoded for all
+//! clients from now on, and `tell X Z D` answers the frames of a view of D around the column (X,
+//! Z).
 
 ghost use Rattle.std.specs.Prelude.{◌≡◌, ◌<◌, true, IfOk, IfSome};
 ghost use Rattle.std.specs.List.{AllByRecursion};
@@ -197,8 +197,8 @@ fn answer_call(call: Call, scene: &mut Scene, words: &mut Words<'_>, answer: &mu
     }
 }
 
-/// All clients were shown the players, the cells, the entities and the texts as they are, and nothing
-/// is noted any more.
+/// All clients were shown the players, the cells, the entities and the texts as they are, and
+/// nothing is noted any more.
 fn settle(scene: &mut Scene, answer: &mut Answer) {
     answer.needs(scene.guests.settle());
     scene.land.settle();

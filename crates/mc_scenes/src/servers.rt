@@ -128,12 +128,12 @@ fn put_answer<T: std::fmt::Display + Drop>(value: T, answer: &mut Answer) {
     answer.word(value);
 }
 
-/// The handshake of a client that wants to play, and what stands before a name of ten letters in its
-/// login.
+/// The handshake of a client that wants to play, and what stands before a name of ten letters in
+/// its login.
 const LOGIN: &[u8] = b"\x0f\x00\x2f\x09localhost\x63\xdd\x02\x0c\x00\x0a";
 
-/// So many connections, from a number on, join one after another, log in under names of their own (`N`
-/// and nine digits of the number) and go.
+/// So many connections, from a number on, join one after another, log in under names of their own
+/// (`N` and nine digits of the number) and go.
 fn crowd(words: &mut Words<'_>, server: &mut Server) -> Result<(), NoMemory> {
     let first = words.number::<u32>();
     for i in 0..words.number::<u32>() {

@@ -1,7 +1,7 @@
 -- What serving a lobby comes to: the turns that it took, how it ended, and what it counted. Rules
 -- of this project.
-use Rattle.std.specs.Prelude.{◌≡◌, ◌≢◌, ℕ, ◌+◌, ◌<◌, ◌≤◌, Bool, true, false, length, List, [], ◌∷◌, ◌++◌}
-use Rattle.std.specs.Prelude.{Option, Result, Ok, Err}
+use Rattle.std.specs.Prelude.{◌≡◌, ◌≢◌, ℕ, ◌+◌, ◌<◌, ◌≤◌, Bool, true, false, length, List, [], ◌∷◌}
+use Rattle.std.specs.Prelude.{◌++◌, Option, Result, Ok, Err}
 use Rattle.std.specs.List.{count_by}
 use Rattle.mc_wire.specs.declared.log.LogEntry.{LogEntry}
 use Rattle.mc_wire.specs.declared.log.LogEntry.TheVariants.{Joined, Ticked, Closed}
@@ -97,8 +97,8 @@ Ends budget w turns last (Err NoMemory) = IsWithin budget turns
 -- ---- all of it
 
 -- After one call of the lobby, which told so much, it was served turn by turn; the server stands
--- for the world after the log of that, unless memory ran out. Behind the turns that were done stands
--- the lobby's end, or what it told in a turn in which memory ran out.
+-- for the world after the log of that, unless memory ran out. Behind the turns that were done
+-- stands the lobby's end, or what it told in a turn in which memory ran out.
 pub record Drove (call : LobbyTold → LobbyTold) (budget : Budget) (old new : Option LobbyTold)
     (w : World) (server : ServerValue) (result : Result Ended DriveFault) : Type 0 where
   pub turns : List (List LogEntry)

@@ -1,4 +1,5 @@
--- What is made of the values of two maps by their numbers, where it is made of what each number has.
+-- What is made of the values of two maps by their numbers, where it is made of what each number
+-- has.
 use Rattle.std.proofs.Common.{◌≡◌, ℕ, Bool, List, [], ◌∷◌, T, map}
 use Rattle.std.proofs.Common.{refl, sym, subst, ap, ◌∙◌, arith}
 use Rattle.std.proofs.lemmas.Bool.Decides.{nat_tests}

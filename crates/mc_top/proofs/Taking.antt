@@ -25,8 +25,8 @@ use Rattle.mc_events.proofs.Loops.{AreOnce, is_of}
 use Rattle.mc_events.proofs.Numbers.{keys_once}
 use Rattle.mc_top.specs.ReplayText.{owes, is_shut, tells_sent, tells_shut, telling_line, tellings}
 use Rattle.mc_top.specs.ReplayText.{lines_after, takings, settled}
-use Rattle.mc_top.specs.Replaying.{taken, taken_of, sent_by, forgotten, shut_by, all_taken, all_sent}
-use Rattle.mc_top.specs.Replaying.{all_forgotten, all_shut}
+use Rattle.mc_top.specs.Replaying.{taken, taken_of, sent_by, forgotten, shut_by, all_taken}
+use Rattle.mc_top.specs.Replaying.{all_sent, all_forgotten, all_shut}
 use Rattle.mc_top.proofs.Taken.{emptied, forgot_owed, forgotten_other, taken_other, taken_owed}
 use Rattle.mc_top.proofs.Taken.{some_owed, taken_own}
 

@@ -83,9 +83,9 @@ impl Tracker {
         Ok(())
     }
 
-    /// Keeps where an entity is and looks now and the pile that it holds or is, and answers what was
-    /// kept of it before; None where it was not known. It looks for the entity once. Out of memory,
-    /// the tracker is as before.
+    /// Keeps where an entity is and looks now and the pile that it holds or is, and answers what
+    /// was kept of it before; None where it was not known. It looks for the entity once. Out of
+    /// memory, the tracker is as before.
     pub fn tell(
         &mut self,
         eid: i32,

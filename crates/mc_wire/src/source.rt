@@ -34,8 +34,9 @@ pub trait Source {
         ensures falls { IfOk result (λ n. 0 < n → answers self.new < answers self.old) };
 }
 
-/// What a source has left, and of more than `most` bytes the first `most`. It fails where the source
-/// does, or where there is no memory for the bytes. An error leaves some first part of them read.
+/// What a source has left, and of more than `most` bytes the first `most`. It fails where the
+/// source does, or where there is no memory for the bytes. An error leaves some first part of them
+/// read.
 pub fn read_up_to<S: Source>(
     alloc: Global,
     source: &mut S,

@@ -1,7 +1,7 @@
 -- What a connection is owed matters only for whether there is room for more: one that is owed less
 -- comes to the same, where the other is not closed since it is owed too much.
-use Rattle.std.proofs.Common.{◌≡◌, ◌≤◌, ℕ, ◌+◌, Bool, true, false, List, [], ◌∷◌, ◌++◌, length, refl}
-use Rattle.std.proofs.Common.{sym, subst, ap, ◌∙◌, arith}
+use Rattle.std.proofs.Common.{◌≡◌, ◌≤◌, ℕ, ◌+◌, Bool, true, false, List, [], ◌∷◌, ◌++◌, length}
+use Rattle.std.proofs.Common.{refl, sym, subst, ap, ◌∙◌, arith}
 use Rattle.std.specs.Prelude.{Option, Some, None, if◌then◌else◌}
 use Rattle.std.proofs.lemmas.List.{length-append}
 use Rattle.std.proofs.lemmas.Bool.{le-leb, leb-true}
@@ -19,7 +19,8 @@ use Rattle.mc_model.specs.Link.{Handing, Link, hand, mark_closed}
 use Rattle.mc_model.specs.Names.{offline_uuid}
 use Rattle.mc_model.specs.Packets.{Sent, bytes_of, of_status}
 use Rattle.mc_model.specs.Stages.{is_closed}
-use Rattle.mc_model.specs.Step.{acted, after, answer_login, asked_by, disconnect_for, entered, heard}
+use Rattle.mc_model.specs.Step.{acted, after, answer_login, asked_by, disconnect_for, entered}
+use Rattle.mc_model.specs.Step.{heard}
 use Rattle.mc_model.specs.Step.{on_bytes, on_fault, on_frame, on_frames, perform, refusal, still}
 use Rattle.mc_model.specs.Step.{turn}
 use Rattle.mc_model.specs.Talk.{ClientRequest, nothing, greets, replies, ends, enters, acts, wrong}

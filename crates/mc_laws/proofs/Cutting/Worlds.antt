@@ -1,4 +1,5 @@
--- Two worlds, of which to one the bytes of a connection came at once and to the other in two events.
+-- Two worlds, of which to one the bytes of a connection came at once and to the other in two
+-- events.
 use Rattle.std.proofs.Common.{◌≡◌, ℕ, true, false, cond, List, [], ◌∷◌, ◌++◌, Option}
 use Rattle.std.proofs.Common.{Some, None, refl, sym, subst, ap, ◌∙◌, append_assoc, inl, inr}
 use Rattle.std.specs.Prelude.{◌==◌, unwrap_or}

@@ -5,5 +5,5 @@ use Rattle.mc_model.proofs.FitsMoves.{look_clear}
 use Rattle.mc_told.proofs.packets.turn.Goals as goal
 
 pub returns-clause-clear : goal.returns-clause-clear
-returns-clause-clear c = rw (to_z-of_z w32 c.args.eid c.ranges.eid) (look_clear c.args.eid c.args.yaw c.args.pitch
-    c.ranges.eid (omega arith) (omega arith))
+returns-clause-clear c = rw (to_z-of_z w32 c.args.eid c.ranges.eid)
+    (look_clear c.args.eid c.args.yaw c.args.pitch c.ranges.eid (omega arith) (omega arith))

@@ -17,7 +17,8 @@ returns g c =
 pub returns-in-Err-Failed : goal.returns-in-Err-Failed
 returns-in-Err-Failed g c =
     delivered_unread (status_told c.args.most) (g.I.Source.left c.args.input.now)
-    (g.I.Source.left c.read_text.new.input) _ _ _ _ (c.in-Err-Failed.ensures.failed (rw c.in-Err-Failed.field-0-is refl))
+    (g.I.Source.left c.read_text.new.input) _ _ _ _
+    (c.in-Err-Failed.ensures.failed (rw c.in-Err-Failed.field-0-is refl))
 
 pub returns-in-Err-NoMemory : goal.returns-in-Err-NoMemory
 returns-in-Err-NoMemory g c =

@@ -18,7 +18,8 @@ returns-clause-plays g c =
 pub returns-in-Err-Failed-clause-delivered : goal.returns-in-Err-Failed-clause-delivered
 returns-in-Err-Failed-clause-delivered g c =
     delivered_unread (replay_told c.args.options) (g.I.Source.left c.args.input.now)
-    (g.I.Source.left c.read_text.new.input) _ _ _ _ (c.in-Err-Failed.ensures.failed (rw c.in-Err-Failed.field-0-is refl))
+    (g.I.Source.left c.read_text.new.input) _ _ _ _
+    (c.in-Err-Failed.ensures.failed (rw c.in-Err-Failed.field-0-is refl))
 
 pub returns-in-Err-NoMemory-clause-delivered : goal.returns-in-Err-NoMemory-clause-delivered
 returns-in-Err-NoMemory-clause-delivered g c =
