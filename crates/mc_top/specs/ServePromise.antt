@@ -26,7 +26,7 @@ budget_of options =
 
 -- The lobby was told the pace, and then served by a server of a new world, which came to this. It
 -- was asked to listen once, on the port alone, and the whole promise holds of all that its log
--- tells (`DroveNew`).
+-- tells, or, where memory ran out, of the turns that were done (`DroveNew`).
 pub record HasServed (options : ServeOptions) (old new : Option LobbyTold)
     (result : Result drives.Ended DriveFault) : Type 0 where
   pub paced : Option LobbyTold
