@@ -13,7 +13,8 @@ use Rattle.mc_packets.specs.declared.down.Down.{Down}
 use Rattle.mc_land.specs.Places.{Place}
 use Rattle.mc_windows.specs.Pack.{PackValue, IsPack}
 use Rattle.mc_view.specs.Forms.{moves_of}
-use Rattle.mc_model.specs.Notes.{Noted, notes_of}
+use Rattle.mc_model.specs.declared.notes.Notes.{Notes}
+use Rattle.mc_model.specs.Notes.{notes_of}
 use Rattle.mc_model.specs.Packets.{of_play, for_play}
 use Rattle.mc_model.specs.Sight.{Seen, Sight}
 use Rattle.mc_model.specs.Delta.{missing, leavers_point, joiners_point, destroys_point, unload}
@@ -129,6 +130,6 @@ pub placing_clear : (spot : Spot) → SpotFits spot → IsClear for_play (of_pla
 placing_clear spot at = grind (arith, nat_tests, degrees_fit, pattern_fits, place_clear)
 
 -- what is noted
-pub notes_clear : (notes : Noted) (spot : Spot) (pack : PackValue) → NotesFit notes →
+pub notes_clear : (notes : Notes) (spot : Spot) (pack : PackValue) → NotesFit notes →
     SpotFits spot → IsPack pack.slots pack.cursor → AreClear (notes_of notes spot pack)
 notes_clear notes spot pack fit at is = search (arith, all_joined, placing_clear, window_clear)

@@ -8,8 +8,9 @@ use Rattle.mc_slots.specs.declared.slot.Slot.{Slot}
 use Rattle.mc_slots.specs.declared.slot.Slot.TheVariants as slots
 use Rattle.mc_slots.specs.Pile.{slot_of}
 use Rattle.mc_windows.specs.Pack.{PackValue}
+use Rattle.mc_model.specs.declared.notes.Notes.{Notes}
 use Rattle.mc_model.specs.declared.player.Player.{Player}
-use Rattle.mc_model.specs.Notes.{Noted, notes_of, window_packets}
+use Rattle.mc_model.specs.Notes.{notes_of, window_packets}
 use Rattle.mc_model.specs.Sight.{Sight}
 use Rattle.mc_model.specs.Replica.{apply, replay, seeing}
 use Rattle.mc_model.specs.Delta.{Follows, IsTold, delta}
@@ -53,7 +54,7 @@ unfolding apply
 placing_keeps s spot = refl
 
 -- so whatever is noted, it stays as it is
-notes_of_keep : (s : Sight) (notes : Noted) (spot : Spot) (pack : PackValue) →
+notes_of_keep : (s : Sight) (notes : Notes) (spot : Spot) (pack : PackValue) →
     s.pack ≡ map slot_of pack.slots → Leads s (notes_of notes spot pack) s
 notes_of_keep s notes spot pack same = onward (places notes.placing) (resends notes.resend)
   where
