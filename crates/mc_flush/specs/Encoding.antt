@@ -14,7 +14,8 @@ use Rattle.mc_land.specs.Land.{LandValue}
 use Rattle.mc_entities.specs.Folk.{FolkState}
 use Rattle.mc_view.specs.declared.view_set.ViewSet.{ViewSet}
 use Rattle.mc_view.specs.Sets.{has}
-use Rattle.mc_model.specs.Notes.{Noted, is_sent}
+use Rattle.mc_model.specs.declared.notes.Notes.{Notes}
+use Rattle.mc_model.specs.Notes.{is_sent}
 use Rattle.mc_told.specs.declared.moved.Moved.{Moved}
 use Rattle.mc_loads.specs.ColumnFrames.{ColumnsValue, change_bytes, is_clean, load_bytes}
 use Rattle.mc_loads.specs.ColumnFrames as columns
@@ -140,5 +141,5 @@ looks_at cell = if is_height cell.y then 1 else 0
 abbrev pub noted_cost : ViewSet → List Cell → ℕ
 noted_cost view cells = sum_by looks_at (filter (is_sent (has view)) cells)
 
-abbrev pub noted_looks : ViewSet → Noted → ℕ
+abbrev pub noted_looks : ViewSet → Notes → ℕ
 noted_looks view notes = noted_cost view notes.cells

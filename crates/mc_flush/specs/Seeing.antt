@@ -18,9 +18,10 @@ use Rattle.mc_packets.specs.declared.down.Down.{Down}
 use Rattle.mc_view.specs.declared.view_set.ViewSet.{ViewSet}
 use Rattle.mc_view.specs.Sets.{all_of, has, is_within}
 use Rattle.mc_view.specs.Told.{Told}
+use Rattle.mc_model.specs.declared.notes.Notes.{Notes}
 use Rattle.mc_model.specs.Sight.{Sight, seen_of}
 use Rattle.mc_model.specs.Spots.{spawn_spot, spot_in}
-use Rattle.mc_model.specs.Notes.{Noted, noted_packets, notes_of}
+use Rattle.mc_model.specs.Notes.{noted_packets, notes_of}
 use Rattle.mc_model.specs.Delta.{Pairs, missing, leaver, joiner, about, beat_packets, time_packets}
 use Rattle.mc_model.specs.Delta.{destroying, slot_packets, chat_packet}
 use Rattle.mc_told.specs.Telling.{age_now, beat_now, entity_frames, gone_from, in_view, kept_of}
@@ -190,7 +191,7 @@ spot_seen land entities (negsuc n) = spawn_spot land.terrain
 
 -- what was noted: cells in the view as they are, and all else, of a player that is at a spot and
 -- carries a pack
-abbrev pub noted_of : LandValue → ViewSet → Noted → Spot → PackValue → List Down
+abbrev pub noted_of : LandValue → ViewSet → Notes → Spot → PackValue → List Down
 noted_of land view notes spot pack =
     noted_packets land.terrain land.edits (has view) notes.cells ++ notes_of notes spot pack
 

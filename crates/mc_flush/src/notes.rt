@@ -85,10 +85,10 @@ pub fn put_notes(
     ensures { OnOk result (out.new.items
         ≡ out.old.items ++ play_bytes (notes_of notes.now place.now pack.now)) }
 {
-    if notes.placing() {
+    if notes.placing {
         put_made(placing_packet(place), out)?;
     }
-    if notes.resend() {
+    if notes.resend {
         put_window(pack, out)?;
         put_cursor(pack, out)?;
     }

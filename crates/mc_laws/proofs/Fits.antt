@@ -2,6 +2,7 @@
 pub mod Told
 pub mod Counted
 pub mod Sights
+pub mod Notes
 pub mod Clear
 pub mod Acts
 pub mod Sound

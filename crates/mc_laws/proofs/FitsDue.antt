@@ -11,9 +11,7 @@ use Rattle.mc_fields.specs.declared.position.Spot.{Spot}
 use Rattle.mc_column.specs.Cells.{ColumnValue}
 use Rattle.mc_packets.specs.declared.down.Down.{Down}
 use Rattle.mc_land.specs.Places.{Place}
-use Rattle.mc_windows.specs.Pack.{PackValue, IsPack}
 use Rattle.mc_view.specs.Forms.{moves_of}
-use Rattle.mc_model.specs.Notes.{Noted, notes_of}
 use Rattle.mc_model.specs.Packets.{of_play, for_play}
 use Rattle.mc_model.specs.Sight.{Seen, Sight}
 use Rattle.mc_model.specs.Delta.{missing, leavers_point, joiners_point, destroys_point, unload}
@@ -30,12 +28,11 @@ use Rattle.mc_model.proofs.FitsChat.{LineFits}
 use Rattle.mc_model.proofs.FitsNumbers.{pattern_fits, degrees_fit}
 use Rattle.mc_model.proofs.FitsList.{PairFits, AreClear, leavers_clear, joiners_clear}
 use Rattle.mc_model.proofs.FitsChunk.{PlaceFits, ColumnFits, near_fits, load_clear, unload_clear}
-use Rattle.mc_model.proofs.FitsSlots.{window_clear}
 use Rattle.mc_model.proofs.FitsEntities.{destroying_clear, pile_slot_clear}
 use Rattle.mc_model.proofs.FitsDue.{beats_clear, column_clear, slots_clear, times_clear}
 use Rattle.mc_laws.proofs.FitsEntities.{spawn_clear}
 use Rattle.mc_laws.proofs.FitsMoves.{moves_clear}
-use Rattle.mc_laws.proofs.ThingsFit.{NotesFit, SpotFits}
+use Rattle.mc_laws.proofs.ThingsFit.{SpotFits}
 use Rattle.mc_laws.proofs.FitsSight.{SeenFits, SightFits}
 
 -- ---- the difference
@@ -122,13 +119,8 @@ delta_clear p q f g =
     all_joined P (pack_point p q) _ (pack_clear p q g) (
     all_joined P (chat_point p q) [] (said_clear p q g) tt))))))))))
 
--- ---- the opening and the notes
+-- ---- the opening
 
 -- a player's own place
 pub placing_clear : (spot : Spot) → SpotFits spot → IsClear for_play (of_play (placing spot))
 placing_clear spot at = grind (arith, nat_tests, degrees_fit, pattern_fits, place_clear)
-
--- what is noted
-pub notes_clear : (notes : Noted) (spot : Spot) (pack : PackValue) → NotesFit notes →
-    SpotFits spot → IsPack pack.slots pack.cursor → AreClear (notes_of notes spot pack)
-notes_clear notes spot pack fit at is = search (arith, all_joined, placing_clear, window_clear)

@@ -12,8 +12,9 @@ use Rattle.mc_entities.specs.declared.entity.Entity.{Entity}
 use Rattle.mc_entities.specs.declared.entity.EntityKind.{EntityKind}
 use Rattle.mc_entities.specs.declared.entity.EntityKind.TheVariants as kinds
 use Rattle.mc_entities.specs.Kinds.{IsKind}
+use Rattle.mc_model.specs.declared.notes.Notes.{Notes}
 use Rattle.mc_model.specs.declared.player.Player.{Player}
-use Rattle.mc_model.specs.Notes.{Noted, no_notes}
+use Rattle.mc_model.specs.Notes.{no_notes}
 use Rattle.mc_model.specs.Spots.{spawn_spot}
 use Rattle.mc_model.specs.Digging.{is_dug, block_item}
 use Rattle.mc_model.proofs.FitsText.{IsShort, both_true}
@@ -47,8 +48,8 @@ pub record IsState (state : ℕ) : Type 0 where
   pub whole : (state ≡ 0) ⊎ (16 ≤ state)
 
 -- What is noted for a client, so that packets can tell it. So far they can tell whatever is noted,
--- since a cell without a position is not sent. What is asked of a field of `Noted` is part of this.
-abbrev pub NotesFit : Noted → Type 0
+-- since a cell without a position is not sent. What is asked of a field of `Notes` is part of this.
+abbrev pub NotesFit : Notes → Type 0
 NotesFit notes = Unit {0}
 
 pub no_notes_fit : NotesFit no_notes

@@ -13,9 +13,10 @@ use Rattle.mc_entities.specs.declared.entity.EntityKind.{EntityKind}
 use Rattle.mc_entities.specs.declared.entity.EntityKind.TheVariants as kinds
 use Rattle.mc_entities.specs.Numbers.{changed, without}
 use Rattle.mc_entities.specs.Folk.{eid_of}
+use Rattle.mc_model.specs.declared.notes.Notes.{Notes}
 use Rattle.mc_model.specs.declared.player.Player.{Player}
 use Rattle.mc_model.specs.Names.{offline_uuid}
-use Rattle.mc_model.specs.Notes.{Noted, no_notes}
+use Rattle.mc_model.specs.Notes.{no_notes}
 use Rattle.mc_model.specs.Things.{in_hand, holding, standing}
 use Rattle.mc_model.specs.Spots.{spawn_spot}
 use Rattle.mc_model.specs.Maps.{modify}
@@ -28,7 +29,7 @@ abbrev pub with_player : ℕ → (Player → Player) → Game → Game
 with_player k f g = record g { players = modify k f g.players }
 
 -- something is noted for its client
-abbrev pub noting : (Noted → Noted) → ℕ → Game → Game
+abbrev pub noting : (Notes → Notes) → ℕ → Game → Game
 noting f k g = with_player k (λ (p : Player). record p { notes = f p.notes }) g
 
 -- it carries another pack, and its entity holds what that has at its hand

@@ -4,10 +4,10 @@ use Rattle.std.specs.Option.{option_and_then}
 use lib.IntN.{ℤ}
 use Rattle.mc_fields.specs.declared.position.Spot.{Spot}
 use Rattle.mc_entities.specs.Shift.{is_inside}
+use Rattle.mc_model.specs.declared.notes.Notes.{Notes}
 use Rattle.mc_model.specs.declared.player.Player.{Player}
 use Rattle.mc_model.specs.Numbers.{fixed_of, turn_of}
 use Rattle.mc_model.specs.Spots.{spawn_spot}
-use Rattle.mc_model.specs.Notes.{Noted}
 use Rattle.mc_model.specs.Game.{Game}
 use Rattle.mc_model.specs.Deeds.{noting, stand_of}
 
@@ -28,7 +28,7 @@ turned spot yaw pitch =
     both (λ (about up : ℕ). record spot { yaw = about; pitch = up }) (turn_of yaw) (turn_of pitch)
 
 -- its place is to be sent to it
-abbrev pub placed_again : Noted → Noted
+abbrev pub placed_again : Notes → Notes
 placed_again notes = record notes { placing = true }
 
 -- a player goes somewhere: out of the range it is put where players enter, and it is told so

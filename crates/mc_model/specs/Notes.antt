@@ -14,26 +14,19 @@ use Rattle.mc_packets.specs.declared.down.Down.TheVariants.{Change, SetSlot, Win
 use Rattle.mc_land.specs.declared.terrain.Terrain.{Terrain}
 use Rattle.mc_land.specs.Places.{Place, key_cmp, place_of}
 use Rattle.mc_windows.specs.Pack.{PackValue}
+use Rattle.mc_model.specs.declared.notes.Notes.{Notes}
 use Rattle.mc_model.specs.Things.{state_of_cell}
 use Rattle.mc_model.specs.Opening.{placing}
 
-pub record Noted : Type 0 where
-  -- the cells whose states are to be sent to it, in the order in which they were noted
-  pub cells : List Cell
-  -- its player's place is to be sent to it
-  pub placing : Bool
-  -- the window that it is shown is to be sent to it again
-  pub resend : Bool
-
-abbrev pub no_notes : Noted
+abbrev pub no_notes : Notes
 no_notes = record { cells = []; placing = false; resend = false }
 
 -- the window that it is shown is to be sent to it again
-abbrev pub again : Noted → Noted
+abbrev pub again : Notes → Notes
 again notes = record notes { resend = true }
 
 -- and cells
-abbrev pub with_cells : List Cell → Noted → Noted
+abbrev pub with_cells : List Cell → Notes → Notes
 with_cells cells notes = record notes { cells = notes.cells ++ cells }
 
 -- The window 0 with all slots of it: the first nine are empty, and behind them are those of the
@@ -44,7 +37,7 @@ window_packets pack =
     ∷ SetSlot (negsuc 0) (negsuc 0) (slot_of pack.cursor) ∷ []
 
 -- what was noted beside cells, of a player that is at a spot and carries a pack
-abbrev pub notes_of : Noted → Spot → PackValue → List Down
+abbrev pub notes_of : Notes → Spot → PackValue → List Down
 notes_of notes spot pack =
     (if notes.placing then placing spot ∷ [] else [])
     ++ (if notes.resend then window_packets pack else [])

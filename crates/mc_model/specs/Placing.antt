@@ -8,15 +8,16 @@ use Rattle.mc_slots.specs.declared.pile.Pile.{Pile}
 use Rattle.mc_slots.specs.declared.pile.Pile.TheVariants.{Empty, Full}
 use Rattle.mc_slots.specs.Pile.{without}
 use Rattle.mc_land.specs.Land.{is_chest}
+use Rattle.mc_model.specs.declared.notes.Notes.{Notes}
 use Rattle.mc_model.specs.declared.player.Player.{Player}
-use Rattle.mc_model.specs.Notes.{Noted, again, with_cells}
+use Rattle.mc_model.specs.Notes.{again, with_cells}
 use Rattle.mc_model.specs.Reach.{at_face, is_in_world, is_in_reach}
 use Rattle.mc_model.specs.Game.{Game, held_by, state_in}
 use Rattle.mc_model.specs.Deeds.{noting, with_state}
 use Rattle.mc_model.specs.Hands.{carrying}
 
 -- the cell that was clicked and the one at the face are sent, and the window
-abbrev pub placing_refused : Cell → Cell → Noted → Noted
+abbrev pub placing_refused : Cell → Cell → Notes → Notes
 placing_refused cell target notes = again (with_cells (cell ∷ target ∷ []) notes)
 
 -- the state that an item makes: its damage is the metadata

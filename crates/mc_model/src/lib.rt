@@ -8,6 +8,7 @@
 
 mod cause;
 mod eid;
+mod fields;
 mod name;
 mod notes;
 mod player;

@@ -4,19 +4,15 @@ use Rattle.std.specs.Prelude.{◌≡◌, ◌⊎◌, ℕ, ◌≤◌, ◌<◌, Lis
 use Rattle.std.specs.List.{AllByRecursion}
 use Rattle.std.specs.FinMap.{FinMap, empty, get}
 use Rattle.std.specs.FinSet as set
-use Rattle.std.specs.Ordering.{nat_cmp}
 use lib.IntN.{ℤ, pos, negsuc}
 use lib.Signed.{◌≤ℤ◌}
 use Rattle.mc_fields.specs.declared.position.Spot.{Spot}
 use Rattle.mc_land.specs.Places.{Key, key_cmp, place_cmp}
 use Rattle.mc_land.specs.Land.{LandValue}
 use Rattle.mc_slots.specs.declared.pile.Pile.{Pile}
-use Rattle.mc_windows.specs.Pack.{PackValue}
 use Rattle.mc_entities.specs.declared.entity.Entity.{Entity}
-use Rattle.mc_entities.specs.Folk.{FolkValue}
 use Rattle.mc_model.specs.declared.player.Player.{Player}
 use Rattle.mc_model.specs.declared.settings.Settings.{Settings}
-use Rattle.mc_model.specs.Maps.{name_cmp}
 use Rattle.mc_model.specs.Game.{Game, new_game}
 use Rattle.mc_model.specs.Leaving.{of_player}
 
@@ -61,30 +57,6 @@ pub record GameValue : Type 0 where
   -- the edits at the last settling
   pub settled : FinMap key_cmp ℕ
   pub aside : Aside
-
--- of the parts in which it is kept
-abbrev pub value_of : LimitsValue → ℕ → LandValue → FolkValue → FinMap name_cmp PackValue →
-    List (List ℕ) → FinMap nat_cmp Player → GameValue
-value_of limits age land folk packs lines players = record {
-  game = record {
-    settings =
-        record { players = limits.players; cap = limits.cap; terrain = land.terrain };
-    age = age;
-    edits = land.edits;
-    entities = folk.state.entities;
-    eids = folk.state.given;
-    packs = packs;
-    lines = lines;
-    players = players;
-  };
-  settled = land.settled;
-  aside = record {
-    chests = land.chests;
-    ready = land.ready;
-    told = folk.state.told;
-    reserve = folk.reserve;
-  };
-}
 
 abbrev pub new_value : Settings → GameValue
 new_value settings = record {

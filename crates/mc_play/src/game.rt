@@ -56,7 +56,7 @@ impl Model for Game {
     ghost use Rattle.mc_play.specs.Codes.{coded_chests};
     ghost use Rattle.mc_play.specs.contracts.packs.Packs.{the_row as packs_row};
     ghost use Rattle.mc_play.specs.contracts.players.Players.{the_row as players_row};
-    ghost use Rattle.mc_play.specs.Kept.{GameValue, value_of};
+    ghost use Rattle.mc_play.specs.Kept.{GameValue};
 
     ghost Value = { GameValue };
 
@@ -69,8 +69,29 @@ impl Model for Game {
       set.code {R = place_cmp} coded_place,
     ) };
 
-    ghost view = { λ g. value_of g.limits g.age g.ground g.entities g.packs g.lines.items
-        g.players };
+    ghost view = { λ g. record {
+      game = record {
+        settings = record {
+          players = g.limits.players;
+          cap = g.limits.cap;
+          terrain = g.ground.terrain;
+        };
+        age = g.age;
+        edits = g.ground.edits;
+        entities = g.entities.state.entities;
+        eids = g.entities.state.given;
+        packs = g.packs;
+        lines = g.lines.items;
+        players = g.players;
+      };
+      settled = g.ground.settled;
+      aside = record {
+        chests = g.ground.chests;
+        ready = g.ground.ready;
+        told = g.entities.state.told;
+        reserve = g.entities.reserve;
+      };
+    } };
 }
 
 impl Game {

@@ -15,7 +15,7 @@ mod fields;
 
 use mc_bytes::NoMemory;
 use mc_fields::Cell;
-use mc_model::Player;
+use mc_model::{Notes, Player};
 use std::alloc::Global;
 use std::collections::BTreeMap;
 use std::collections::btree_map::Values;
@@ -150,7 +150,7 @@ impl Players {
         }) self.old }
     {
         if let Some(player) = self.find_mut(connection) {
-            player.notes.place();
+            player.notes.placing = true;
         }
     }
 
@@ -161,7 +161,7 @@ impl Players {
         }) self.old }
     {
         if let Some(player) = self.find_mut(connection) {
-            player.notes.again();
+            player.notes.resend = true;
         }
     }
 
@@ -174,7 +174,7 @@ impl Players {
         ensures err { OnErr result (self.new ≡ self.old) }
     {
         if let Some(player) = self.find_mut(connection) {
-            player.notes.cell(cell)?;
+            player.notes.cells.push(cell)?;
         }
         Ok(())
     }
@@ -192,9 +192,9 @@ impl Players {
         }) self.old) }
     {
         if let Some(player) = self.find_mut(connection) {
-            player.notes.cell(cell)?;
-            player.notes.cell(target)?;
-            player.notes.again();
+            player.notes.cells.push(cell)?;
+            player.notes.cells.push(target)?;
+            player.notes.resend = true;
         }
         Ok(())
     }
@@ -202,12 +202,12 @@ impl Players {
     // ---- a tick
 
     /// Every client was shown the game: nothing is noted for it, and it knows all that was said.
-    pub fn told(&mut self)
+    pub fn told(&mut self, alloc: Global)
         ensures { self.new
             ≡ map_keyed (λ (k : ℕ) (p : declared.Player). told_player p) self.old }
     {
         self.by_connection.retain(|_connection, player| {
-            player.notes.clear();
+            player.notes = Notes::new(alloc);
             player.since = 0;
             true
         });

@@ -175,11 +175,11 @@ fn answer_call(call: Call, scene: &mut Scene, words: &mut Words<'_>, answer: &mu
     // Dear to prove, for twenty arms over a scene that is lent.
     match call {
         Call::Enter => enter(&mut scene.guests, words, answer),
-        Call::Settle => settle(scene, answer),
+        Call::Settle => settle(words.alloc, scene, answer),
         Call::Clear => scene.guests.clear(),
-        Call::Note => scene.notes.place(),
-        Call::Cell => answer.needs(scene.notes.cell(cell_in(words))),
-        Call::Again => scene.notes.again(),
+        Call::Note => scene.notes.placing = true,
+        Call::Cell => answer.needs(scene.notes.cells.push(cell_in(words))),
+        Call::Again => scene.notes.resend = true,
         Call::Set => set_cell(&mut scene.land, words, answer),
         Call::Player => add_player(&mut scene.folk, words, answer),
         Call::Hold => fill_hand(&mut scene.folk, words),
@@ -199,12 +199,12 @@ fn answer_call(call: Call, scene: &mut Scene, words: &mut Words<'_>, answer: &mu
 
 /// All clients were shown the players, the cells, the entities and the texts as they are, and
 /// nothing is noted any more.
-fn settle(scene: &mut Scene, answer: &mut Answer) {
+fn settle(alloc: Global, scene: &mut Scene, answer: &mut Answer) {
     answer.needs(scene.guests.settle());
     scene.land.settle();
     scene.folk.settle();
     scene.lines.clear();
-    scene.notes.clear();
+    scene.notes = Notes::new(alloc);
 }
 
 /// A player enters.

@@ -3,14 +3,14 @@
 
 use super::Connections;
 use mc_links::Connection;
+use mc_model::every_field;
 use std::collections::BTreeMap;
-
-fn records_by_number(_part: &BTreeMap<u32, Connection>) {}
 
 /// Names the one field of all connections.
 fn name_fields(connections: &Connections) {
-    let Connections { by_number } = connections;
-    records_by_number(by_number);
+    every_field!(connections: Connections {
+        by_number: BTreeMap<u32, Connection>,
+    });
 }
 
 const _: fn(&Connections) = name_fields;

@@ -5,28 +5,17 @@ use super::Encoded;
 use crate::encoded_lines::EncodedLines;
 use bytes::Bytes;
 use mc_loads::EncodedColumns;
+use mc_model::every_field;
 use mc_told::EncodedMoves;
-
-fn a_piece(_part: &Option<Bytes>) {}
-
-fn pieces_by_place(_part: &EncodedColumns) {}
-
-fn moves_by_number(_part: &EncodedMoves) {}
-
-fn texts_with_frames(_part: &EncodedLines) {}
 
 /// Names every field of what was encoded.
 fn name_fields(encoded: &Encoded) {
-    let Encoded {
-        players,
-        columns,
-        moves,
-        lines,
-    } = encoded;
-    a_piece(players);
-    pieces_by_place(columns);
-    moves_by_number(moves);
-    texts_with_frames(lines);
+    every_field!(encoded: Encoded {
+        players: Option<Bytes>,
+        columns: EncodedColumns,
+        moves: EncodedMoves,
+        lines: EncodedLines,
+    });
 }
 
 const _: fn(&Encoded) = name_fields;

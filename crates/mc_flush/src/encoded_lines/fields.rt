@@ -3,13 +3,13 @@
 
 use super::EncodedLines;
 use crate::encoded_line::EncodedLine;
-
-fn texts_with_frames(_part: &Vec<EncodedLine>) {}
+use mc_model::every_field;
 
 /// Names every field of encoded lines.
 fn name_fields(encoded: &EncodedLines) {
-    let EncodedLines { lines } = encoded;
-    texts_with_frames(lines);
+    every_field!(encoded: EncodedLines {
+        lines: Vec<EncodedLine>,
+    });
 }
 
 const _: fn(&EncodedLines) = name_fields;

@@ -18,11 +18,12 @@ use Rattle.mc_windows.specs.Pack.{IsPack}
 use Rattle.mc_entities.specs.declared.entity.EntityKind.TheVariants as kinds
 use Rattle.mc_entities.specs.Folk.{dropped_in}
 use Rattle.mc_entities.specs.Shift.{is_between, is_inside}
+use Rattle.mc_model.specs.declared.notes.Notes.{Notes}
 use Rattle.mc_model.specs.declared.player.Player.{Player}
 use Rattle.mc_model.specs.Balance.{one_of, sort_of}
 use Rattle.mc_model.specs.Digging.{block_item, can_dig, digging, drop_held, dropped, dug, feet_of}
 use Rattle.mc_model.specs.Digging.{floor_of, is_dug}
-use Rattle.mc_model.specs.Notes.{Noted, again, with_cells}
+use Rattle.mc_model.specs.Notes.{again, with_cells}
 use Rattle.mc_model.specs.Hands.{place_of_hotbar, carrying, take_up}
 use Rattle.mc_model.specs.Placing.{item_state, placing_refused, is_free, place_at, place_on, placed}
 use Rattle.mc_model.specs.Placing.{put_block}
@@ -105,7 +106,7 @@ module _ (H : Type 0) (k : ℕ) (p : Player) (g : Game) (there : get g.players k
   by_one {v} deed even = by_deed (Good g) (Good g × Told g) H k g v deed even
 
   -- something is noted for its own client, of which packets can tell what they could before
-  abbrev notes_own : (f : Noted → Noted) → ((n : Noted) → NotesFit n → NotesFit (f n)) →
+  abbrev notes_own : (f : Notes → Notes) → ((n : Notes) → NotesFit n → NotesFit (f n)) →
       Makes (noting f k g)
   notes_own f keeps =
       by_notes (Good g) (Good g × Told g) H k k f (λ t h n fit. keeps n fit) g

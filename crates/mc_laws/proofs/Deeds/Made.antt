@@ -12,13 +12,13 @@ use Rattle.mc_slots.specs.Pile.{held}
 use Rattle.mc_windows.specs.Pack.{PackValue, IsPack}
 use Rattle.mc_windows.specs.Stock.{in_pack}
 use Rattle.mc_entities.specs.declared.entity.EntityKind.TheVariants as kinds
+use Rattle.mc_model.specs.declared.notes.Notes.{Notes}
 use Rattle.mc_model.specs.declared.player.Player.{Player}
 use Rattle.mc_model.specs.Apart.{traits_of}
 use Rattle.mc_model.specs.Balance.{one_of, sort_of}
 use Rattle.mc_model.specs.Deeds.{noting, rehand_of, repack_of, said, stand_of, thrown, with_player}
 use Rattle.mc_model.specs.Deeds.{with_state}
 use Rattle.mc_model.specs.Game.{Game, pack_of, state_in}
-use Rattle.mc_model.specs.Notes.{Noted}
 use Rattle.mc_model.specs.Reach.{is_in_world}
 use Rattle.mc_model.proofs.FitsChat.{LineFits}
 use Rattle.mc_laws.proofs.ThingsFit.{IsState, NotesFit, SpotFits}
@@ -151,15 +151,15 @@ module _ (G T H : Type 0) (k : ℕ) where
       (touch k f like (λ ne. absurd (ne refl)) fits g) (λ id damage. refl)
 
   -- something is noted for the client of any connection
-  abbrev pub notes : (j : ℕ) (f : Noted → Noted) →
-      (T → H → (n : Noted) → NotesFit n → NotesFit (f n)) → (g : Game) →
+  abbrev pub notes : (j : ℕ) (f : Notes → Notes) →
+      (T → H → (n : Notes) → NotesFit n → NotesFit (f n)) → (g : Game) →
       Deed G T H k g (noting f j g)
   notes j f fits g = touch j (λ (p : Player). record p { notes = f p.notes })
       (λ p. record { eid = refl; uuid = refl; name = refl; hand = refl }) (λ ne p. refl)
       (λ t h p fit. fits t h p.notes fit) g
 
-  pub by_notes : (j : ℕ) (f : Noted → Noted) →
-      (T → H → (n : Noted) → NotesFit n → NotesFit (f n)) → (g : Game) → Made g (noting f j g)
+  pub by_notes : (j : ℕ) (f : Notes → Notes) →
+      (T → H → (n : Notes) → NotesFit n → NotesFit (f n)) → (g : Game) → Made g (noting f j g)
   by_notes j f fits g = by_deed g (noting f j g) (notes j f fits g) (λ id damage. refl)
 
   pub either : (g v u : Game) (b : Bool) → (b ≡ true → Made g v) → (b ≡ false → Made g u) →

@@ -56,10 +56,11 @@ use Rattle.mc_model.proofs.Maps.Sorted.{find_again, second}
 use Rattle.mc_model.proofs.Maps.Lookups.{tied_number}
 use Rattle.mc_model.proofs.Maps.Options.{none_some}
 use Rattle.mc_laws.proofs.EachValue.{AllValues}
-use Rattle.mc_laws.proofs.FitsDue.{delta_clear, notes_clear, placing_clear}
+use Rattle.mc_laws.proofs.FitsDue.{delta_clear, placing_clear}
 use Rattle.mc_laws.proofs.FitsSight.{SeenFits, SightFits, all_entries, column_near, few_entries}
 use Rattle.mc_laws.proofs.FitsSight.{few_shown, size_few}
 use Rattle.mc_laws.proofs.Fits.Counted.{IsCounted, few_chosen}
+use Rattle.mc_laws.proofs.Fits.Notes.{notes_owe}
 use Rattle.mc_laws.proofs.FitsUuid.{offline_small}
 use Rattle.mc_laws.proofs.ThingsFit.{EntityFits, KindIsNamed, NotesFit, PlayerIsTold}
 use Rattle.mc_laws.proofs.Deeds.Packs.{named_is_pack}
@@ -267,7 +268,7 @@ due_clear g shown p sound small fit before =
     (size_few g.settings.cap p.view_byte sound.settings.near) sent)
     (λ cell. let small = (cell_told g cell sound.told).small in omega (arith, small))
     p.notes.cells)
-    (notes_clear p.notes (spot_of g p) (pack_of g p) fit at
+    ((notes_owe p.notes (spot_of g p) (pack_of g p)).clear fit at
     (named_is_pack g p.name sound.good)))
   where
     first : (b : Bool) → AreClear (cond b []

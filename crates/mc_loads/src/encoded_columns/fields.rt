@@ -3,15 +3,15 @@
 
 use super::EncodedColumns;
 use bytes::Bytes;
+use mc_model::every_field;
 use std::collections::BTreeMap;
-
-fn pieces_by_place(_part: &BTreeMap<(i32, i32), Bytes>) {}
 
 /// Names every field of encoded columns.
 fn name_fields(encoded: &EncodedColumns) {
-    let EncodedColumns { loads, changes } = encoded;
-    pieces_by_place(loads);
-    pieces_by_place(changes);
+    every_field!(encoded: EncodedColumns {
+        loads: BTreeMap<(i32, i32), Bytes>,
+        changes: BTreeMap<(i32, i32), Bytes>,
+    });
 }
 
 const _: fn(&EncodedColumns) = name_fields;

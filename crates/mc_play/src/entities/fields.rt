@@ -3,13 +3,13 @@
 
 use super::Entities;
 use mc_entities::Folk;
-
-fn a_folk(_part: &Folk) {}
+use mc_model::every_field;
 
 /// Names every field of entities.
 fn name_fields(whole: &Entities) {
-    let Entities { folk } = whole;
-    a_folk(folk);
+    every_field!(whole: Entities {
+        folk: Folk,
+    });
 }
 
 const _: fn(&Entities) = name_fields;

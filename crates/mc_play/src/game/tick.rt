@@ -40,7 +40,7 @@ impl Game {
         self.ground.settle();
         self.entities.settle();
         self.lines.clear();
-        self.players.told();
+        self.players.told(self.alloc);
     }
 
     /// Gives up those ready columns all of whose cells are as the terrain has them and that no view

@@ -3,16 +3,14 @@
 
 use super::Ground;
 use mc_land::{Land, Terrain};
-
-fn a_terrain(_part: &Terrain) {}
-
-fn a_land(_part: &Land) {}
+use mc_model::every_field;
 
 /// Names every field of a ground.
 fn name_fields(whole: &Ground) {
-    let Ground { terrain, land } = whole;
-    a_terrain(terrain);
-    a_land(land);
+    every_field!(whole: Ground {
+        terrain: Terrain,
+        land: Land,
+    });
 }
 
 const _: fn(&Ground) = name_fields;

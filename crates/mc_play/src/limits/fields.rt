@@ -2,16 +2,14 @@
 //! is built again.
 
 use super::Limits;
-
-fn a_number(_part: &u32) {}
-
-fn a_size(_part: &u8) {}
+use mc_model::every_field;
 
 /// Names every field of the limits of a game.
 fn name_fields(whole: &Limits) {
-    let Limits { players, cap } = whole;
-    a_number(players);
-    a_size(cap);
+    every_field!(whole: Limits {
+        players: u32,
+        cap: u8,
+    });
 }
 
 const _: fn(&Limits) = name_fields;

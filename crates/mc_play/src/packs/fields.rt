@@ -2,14 +2,14 @@
 
 use super::Packs;
 use indexmap::IndexMap;
+use mc_model::every_field;
 use mc_windows::Pack;
-
-fn packs_by_name(_part: &IndexMap<String, Pack>) {}
 
 /// Names every field of packs.
 fn name_fields(whole: &Packs) {
-    let Packs { by_name } = whole;
-    packs_by_name(by_name);
+    every_field!(whole: Packs {
+        by_name: IndexMap<String, Pack>,
+    });
 }
 
 const _: fn(&Packs) = name_fields;

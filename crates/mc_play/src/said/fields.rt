@@ -2,13 +2,13 @@
 
 use super::Said;
 use mc_bytes::Text;
-
-fn a_text(_part: &Text) {}
+use mc_model::every_field;
 
 /// Names every field of a line.
 fn name_fields(whole: &Said) {
-    let Said { text } = whole;
-    a_text(text);
+    every_field!(whole: Said {
+        text: Text,
+    });
 }
 
 const _: fn(&Said) = name_fields;

@@ -1,16 +1,14 @@
 //! What a clock keeps, field by field: a new one is named here before the crate is built again.
 
 use super::Clock;
-
-fn a_beat(_part: &Option<i32>) {}
-
-fn an_age(_part: &Option<i64>) {}
+use mc_model::every_field;
 
 /// Names every field of a clock.
 fn name_fields(clock: &Clock) {
-    let Clock { beat, age } = clock;
-    a_beat(beat);
-    an_age(age);
+    every_field!(clock: Clock {
+        beat: Option<i32>,
+        age: Option<i64>,
+    });
 }
 
 const _: fn(&Clock) = name_fields;

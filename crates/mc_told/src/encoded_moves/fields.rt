@@ -3,14 +3,14 @@
 
 use super::EncodedMoves;
 use crate::moved::Moved;
+use mc_model::every_field;
 use std::collections::BTreeMap;
-
-fn moves_by_number(_part: &BTreeMap<i32, Moved>) {}
 
 /// Names every field of encoded moves.
 fn name_fields(encoded: &EncodedMoves) {
-    let EncodedMoves { found } = encoded;
-    moves_by_number(found);
+    every_field!(encoded: EncodedMoves {
+        found: BTreeMap<i32, Moved>,
+    });
 }
 
 const _: fn(&EncodedMoves) = name_fields;

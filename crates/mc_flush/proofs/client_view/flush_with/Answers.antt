@@ -32,7 +32,7 @@ returns-clause-sent g c p stands =
     c.in_ok-push_changes.ensures.sent
     (c.in_ok-push_piece.ensures ∙ ap (λ (t : List ℕ). joined c.push_changes.new.out.items ++ t)
     (c.in_ok-noted_piece.ensures.is ∙ ap (λ (cells : List Cell). play_bytes (noted_packets
-    land.terrain land.edits (has v.view) cells)) c.cells.ensures))
+    land.terrain land.edits (has v.view) cells)) c.as_slice.ensures))
     (c.in_ok-push_notes.ensures ∙ ap (λ (spot : Spot). joined c.push_piece.new.out.items
     ++ play_bytes (notes_of c.args.notes.now spot v.pack.now)) c.spot.ensures)
     c.in_ok-append.ensures.items
