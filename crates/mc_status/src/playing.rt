@@ -14,6 +14,7 @@ ghost use Rattle.mc_status.specs.StatusText.{sent_lines, shown_fault};
 ghost use Rattle.mc_status.specs.Playing.{HasSeat, IsAnswered, Meets, most_at};
 
 use crate::answers::{put_lines, take_owed};
+use crate::kept_line::KeptLine;
 use mc_bytes::NoMemory;
 use mc_events::{Input, Server};
 use mc_land::Terrain;
@@ -33,6 +34,8 @@ pub struct Client {
     pub server: Server,
     /// Room for what it is owed.
     pub owed: Vec<u8>,
+    /// The line that was made last.
+    pub last: Option<KeptLine>,
     /// The lines that wait to be written.
     pub lines: Vec<u8>,
 }
@@ -54,6 +57,7 @@ impl Client {
         Ok(Client {
             server,
             owed: Vec::new(alloc),
+            last: None,
             lines: Vec::new(alloc),
         })
     }
@@ -110,7 +114,7 @@ impl Client {
         self.server.event(Input::Bytes(0, piece))?;
         self.owed.clear();
         take_owed(&mut self.server, &mut self.owed)?;
-        put_lines(&self.owed, &mut self.lines, out)
+        put_lines(&self.owed, &mut self.last, &mut self.lines, out)
     }
 
     /// Receives the bytes of a line.
