@@ -23,8 +23,9 @@ use mc_wire::Sink;
 use mc_words::{InputFault, Unfinished};
 use std::alloc::Global;
 
-/// The most bytes that come to the server at once: what answers so many has room in an outbox.
-pub const PIECE_MAX: usize = 65_536;
+/// The most bytes that come to the server at once: what answers so many has room in an outbox, and
+/// in the caches of a processor.
+pub const PIECE_MAX: usize = 2_048;
 
 /// A client that asks for the status: the server that it is connected to, and the lines that
 /// answer it.
