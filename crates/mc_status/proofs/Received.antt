@@ -278,7 +278,7 @@ module _ (most : ℕ) (some : most ≤ 50) where
 at_room : (stage : Stage) (xs : List ℕ) → length xs ≤ most_at (Some stage) →
     Goes stage xs × (length xs ≤ 65536)
 at_room stages.Hand xs few = (few, omega (arith, few))
-at_room stages.Status xs few = (tt, few)
+at_room stages.Status xs few = (tt, omega (arith, few))
 at_room stages.Closed xs few = (tt, omega (arith, few))
 at_room other xs few = (few, omega (arith, few))
 

@@ -10,11 +10,12 @@ ghost use Rattle.mc_words.specs.Passes.{Breaks, Passes};
 ghost use Rattle.mc_status.specs.StatusText.{hex_line, sent_lines};
 ghost use Rattle.mc_status.specs.Playing.{HasSeat, IsSmall};
 
+use crate::kept_line::KeptLine;
 use mc_bytes::{Cursor, Kind, NoMemory, Stop};
 use mc_events::Server;
 use mc_fields::take_varint_within;
 use mc_wire::Sink;
-use mc_words::{HEX_PIECE, Unfinished, put, put_hex};
+use mc_words::{Unfinished, put};
 
 /// Takes all that the connection is owed, and appends it.
 pub fn take_owed(server: &mut Server, owed: &mut Vec<u8>) -> Result<(), NoMemory>
@@ -48,21 +49,25 @@ fn take_frame<'a>(cursor: &mut Cursor<'a>) -> Result<&'a [u8], Stop>
 /// How many of some bytes make one line: those of the frame at their front.
 fn line_len(bytes: &[u8]) -> usize
     ensures within { result ≤ length bytes.now }
-    ensures few { result ≤ 32768 }
     ensures some { 0 < length bytes.now → 0 < result }
     ensures frame { (p : Sent) (more : List ℕ) → IsSmall p → bytes.now ≡ frame_of p ++ more →
         result ≡ length (frame_of p) }
 {
     let mut cursor = Cursor::new(bytes);
     match take_frame(&mut cursor) {
-        Ok(_payload) => (bytes.len() - cursor.rest().len()).min(HEX_PIECE),
-        Err(_stop) => bytes.len().min(HEX_PIECE),
+        Ok(_payload) => bytes.len() - cursor.rest().len(),
+        Err(_stop) => bytes.len(),
     }
 }
 
-/// Puts bytes as a line of hex.
-fn put_line<O: Sink>(bytes: &[u8], lines: &mut Vec<u8>, out: &mut O) -> Result<(), Unfinished>
-    requires { length bytes.now ≤ 32768 }
+/// Puts bytes as a line of hex: the line that was made last where it is of these bytes, else one
+/// that is made and kept.
+fn put_line<O: Sink>(
+    bytes: &[u8],
+    last: &mut Option<KeptLine>,
+    lines: &mut Vec<u8>,
+    out: &mut O,
+) -> Result<(), Unfinished>
     ensures passes { OnOk result (Passes (O.held out.old) (O.held out.new) lines.old.items
         (hex_line bytes.now) lines.new.items []) }
     ensures breaks { OnErr result
@@ -70,12 +75,24 @@ fn put_line<O: Sink>(bytes: &[u8], lines: &mut Vec<u8>, out: &mut O) -> Result<(
     ensures failed { IsErrOf result Unfinished.Failed → Rose (O.faults out.old) (O.faults out.new) }
     ensures counts { StandsOrRises (O.faults out.old) (O.faults out.new) }
 {
-    put_hex(bytes, lines, out)?;
-    put(b"\n", lines, out)
+    if let Some(kept) = last.as_ref()
+        && kept.is_of(bytes)
+    {
+        return put(kept.line(), lines, out);
+    }
+    let made = KeptLine::new(*lines.allocator(), bytes)?;
+    put(made.line(), lines, out)?;
+    *last = Some(made);
+    Ok(())
 }
 
-/// Puts the frames of some packets, each as a line.
-pub fn put_lines<O: Sink>(frames: &[u8], lines: &mut Vec<u8>, out: &mut O) -> Result<(), Unfinished>
+/// Puts the frames of some packets, each as a line. `last` is the line that was made last.
+pub fn put_lines<O: Sink>(
+    frames: &[u8],
+    last: &mut Option<KeptLine>,
+    lines: &mut Vec<u8>,
+    out: &mut O,
+) -> Result<(), Unfinished>
     ensures passes { (packets : List Sent) → AllByRecursion IsSmall packets →
         frames.now ≡ bytes_of packets → OnOk result (Passes (O.held out.old) (O.held out.new)
         lines.old.items (sent_lines packets) lines.new.items []) }
@@ -88,7 +105,7 @@ pub fn put_lines<O: Sink>(frames: &[u8], lines: &mut Vec<u8>, out: &mut O) -> Re
     let mut rest = frames;
     while !rest.is_empty() {
         let (line, later) = rest.split_at(line_len(rest));
-        put_line(line, lines, out)?;
+        put_line(line, last, lines, out)?;
         rest = later;
     }
     Ok(())

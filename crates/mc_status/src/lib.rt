@@ -6,6 +6,7 @@
 #![tactic(auto)]
 
 mod answers;
+mod kept_line;
 mod playing;
 mod status;
 

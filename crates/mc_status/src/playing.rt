@@ -14,6 +14,7 @@ ghost use Rattle.mc_status.specs.StatusText.{sent_lines, shown_fault};
 ghost use Rattle.mc_status.specs.Playing.{HasSeat, IsAnswered, Meets, most_at};
 
 use crate::answers::{put_lines, take_owed};
+use crate::kept_line::KeptLine;
 use mc_bytes::NoMemory;
 use mc_events::{Input, Server};
 use mc_land::Terrain;
@@ -22,8 +23,9 @@ use mc_wire::Sink;
 use mc_words::{InputFault, Unfinished};
 use std::alloc::Global;
 
-/// The most bytes that come to the server at once: what answers so many has room in an outbox.
-pub const PIECE_MAX: usize = 65_536;
+/// The most bytes that come to the server at once: what answers so many has room in an outbox, and
+/// in the caches of a processor.
+pub const PIECE_MAX: usize = 2_048;
 
 /// A client that asks for the status: the server that it is connected to, and the lines that
 /// answer it.
@@ -33,6 +35,8 @@ pub struct Client {
     pub server: Server,
     /// Room for what it is owed.
     pub owed: Vec<u8>,
+    /// The line that was made last.
+    pub last: Option<KeptLine>,
     /// The lines that wait to be written.
     pub lines: Vec<u8>,
 }
@@ -54,6 +58,7 @@ impl Client {
         Ok(Client {
             server,
             owed: Vec::new(alloc),
+            last: None,
             lines: Vec::new(alloc),
         })
     }
@@ -110,7 +115,7 @@ impl Client {
         self.server.event(Input::Bytes(0, piece))?;
         self.owed.clear();
         take_owed(&mut self.server, &mut self.owed)?;
-        put_lines(&self.owed, &mut self.lines, out)
+        put_lines(&self.owed, &mut self.last, &mut self.lines, out)
     }
 
     /// Receives the bytes of a line.

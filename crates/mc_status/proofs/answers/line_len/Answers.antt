@@ -4,8 +4,8 @@ use Rattle.mc_frame.proofs.Fronts.{read_front}
 use Rattle.mc_status.proofs.Lines.{front_len, front_read, front_some}
 use Rattle.mc_status.proofs.answers.line_len.Goals as goal
 
-pub overflow_sub-bytes : goal.overflow_sub-bytes
-overflow_sub-bytes c = (read_front c.args.bytes.now c.in-Ok._payload.now c.rest.result.now
+pub overflow_sub-result : goal.overflow_sub-result
+overflow_sub-result c = (read_front c.args.bytes.now c.in-Ok._payload.now c.rest.result.now
     (λ i. (c.type_inv.bytes i).fits) (search rules)).0
 
 pub returns-in-Ok : goal.returns-in-Ok
@@ -13,26 +13,20 @@ returns-in-Ok c =
     let bytes = c.args.bytes.now in
     let rest = c.rest.result.now in
     let read : frame_read bytes ≡ Ok (c.in-Ok._payload.now, rest) = search rules in
-    let is = c.min.ensures in
     record {
-      within = omega (arith, is);
-      few = omega (arith, is);
-      some = λ long. let some = front_some bytes c.in-Ok._payload.now rest
-          (λ i. (c.type_inv.bytes i).fits) read in omega (arith, is, some);
+      within = omega arith;
+      some = λ long. front_some bytes c.in-Ok._payload.now rest
+          (λ i. (c.type_inv.bytes i).fits) read;
       frame = λ p more small parts.
-          let len = front_len bytes c.in-Ok._payload.now rest p more small parts read in
-          let few = small.few in
-          omega (arith, is, len, few);
+          front_len bytes c.in-Ok._payload.now rest p more small parts read;
     }
 
 pub returns-in-Err : goal.returns-in-Err
 returns-in-Err c =
     let read : frame_read c.args.bytes.now ≡ Err c.in-Err._stop = search rules in
-    let is = c.min-in-Err.ensures in
     record {
-      within = omega (arith, is);
-      few = omega (arith, is);
-      some = λ long. omega (arith, is, long);
+      within = omega arith;
+      some = λ long. long;
       frame = λ p more small parts.
           absurd (front_read c.args.bytes.now more p c.in-Err._stop small parts read);
     }
