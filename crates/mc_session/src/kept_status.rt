@@ -31,7 +31,8 @@ impl Model for KeptStatus {
 
     ghost view = { λ s. record { most = s.most; online = s.online } };
 
-    ghost invariant = { λ s. s.frame ≡ frame_of (of_status (Response (status_json s.most s.online))) };
+    ghost invariant = { λ s. s.frame
+        ≡ frame_of (of_status (Response (status_json s.most s.online))) };
 }
 
 impl KeptStatus {

@@ -1,8 +1,8 @@
 -- What bytes of a client come to that asks for the status: short answers, which have room, and a
 -- stage in which it asks still, wants to log in, or is closed.
 use Rattle.std.proofs.Common.{◌≡◌, ℕ, ◌+◌, ◌*◌, ◌≤◌, Bool, true, false, cond, List, [], ◌∷◌, ◌++◌}
-use Rattle.std.proofs.Common.{length, Ok, Err, Result, refl, sym, subst, ap, ◌∙◌, append_assoc, arith}
-use Rattle.std.proofs.Common.{inl, inr}
+use Rattle.std.proofs.Common.{length, Ok, Err, Result, refl, sym, subst, ap, ◌∙◌, append_assoc}
+use Rattle.std.proofs.Common.{arith, inl, inr}
 use Rattle.std.specs.Prelude.{◌⊎◌, Option, Some, None}
 use Rattle.std.specs.List.{AllByRecursion}
 use Rattle.std.proofs.lemmas.List.{append-nil, length-append, nil_from_length}
@@ -41,7 +41,8 @@ use Rattle.mc_model.specs.Leaving.{leave, left_by}
 use Rattle.mc_model.specs.Link.{Link, hand, mark_closed}
 use Rattle.mc_model.specs.Packets.{Sent, bytes_of, frame_of, of_status}
 use Rattle.mc_model.specs.Stages.{is_closed}
-use Rattle.mc_model.specs.Step.{after, on_bytes, on_fault, on_frame, on_frames, perform, still, turn}
+use Rattle.mc_model.specs.Step.{after, on_bytes, on_fault, on_frame, on_frames, perform, still}
+use Rattle.mc_model.specs.Step.{turn}
 use Rattle.mc_model.specs.Talk.{ClientRequest, nothing, greets, replies, ends, enters, acts, wrong}
 use Rattle.mc_model.specs.Talk.{farewell, in_hand, in_status, request_of, wanted}
 use Rattle.mc_model.specs.Texts.{status_json}
