@@ -30,6 +30,7 @@ impl From<NoMemory> for Fault {
 
 impl Display for Fault {
     fn fmt<W: fmt::Write>(&self, f: &mut fmt::Formatter<W>) -> fmt::Result {
+        // Dear to prove, for seven arms that each write a text of their own.
         match self {
             Fault::NoMemory => write!(f, "out of memory"),
             Fault::Row => write!(f, "no such row"),

@@ -42,6 +42,7 @@ fn play(alloc: Global, table: &str) -> Result<Tally, Stop> {
 }
 
 fn main(rt: HostRuntime) -> io::Result<()> {
+    // Dear to prove, for the ways out at which the table or what waits to be written is alive.
     let alloc = rt.alloc();
     let table = io::read_to_string(alloc, rt.reader())?;
     let mut out = BufWriter::new(alloc, io::writer(&rt))?;

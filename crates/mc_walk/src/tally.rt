@@ -40,6 +40,7 @@ pub fn count(number: &mut u32) {
 
 impl Display for Tally {
     fn fmt<W: fmt::Write>(&self, f: &mut fmt::Formatter<W>) -> fmt::Result {
+        // Dear to prove, for the nine numbers that are written and the ways out between them.
         write!(f, "{} moves, {} ticks: ", self.acts, self.ticks)?;
         write!(f, "each client was told where the others are, by ")?;
         write!(f, "{} spawns, {} ends, ", self.spawns, self.ends)?;
