@@ -1,12 +1,12 @@
 -- The patterns that the code makes stand for their numbers, and the vast ones are told by their
 -- exponent.
-use Rattle.std.specs.Prelude.{nat_le, ◌==◌, if◌then◌else◌}
+use Rattle.std.specs.Prelude.{nat_le}
 use Rattle.std.specs.Int.{w32, int_div_euclid, int_rem_euclid}
 use Rattle.std.proofs.Common.{◌≡◌, ℕ, ◌+◌, ◌-◌, ◌*◌, ◌/◌, ◌%◌, ◌^◌, ◌<◌, ◌≤◌, max, Bool, true}
-use Rattle.std.proofs.Common.{false, sym, ap, ◌∙◌, arith, inl, inr, refl, ne_eqb, le-leb}
+use Rattle.std.proofs.Common.{false, sym, ap, ◌∙◌, arith, inl, inr, refl, ne_eqb}
 use Rattle.std.proofs.Math.Nat.{mul-le-mul, pow-le-pow_right}
 use Rattle.std.proofs.lemmas.Bool.{cases_lt}
-use Rattle.std.proofs.lemmas.Bool.Decides.{leb_tells, nat_tests}
+use Rattle.std.proofs.lemmas.Bool.Decides.{nat_tests}
 use Rattle.std.proofs.lemmas.Int.{ints, clamps}
 use Rattle.std.proofs.lemmas.Nat.{pow-add, pow_pos}
 use lib.IntN.{ℤ, pos, negsuc, nat_abs, ◌*ℤ◌}
@@ -15,7 +15,7 @@ use mir.Val.{SFits}
 use Rattle.mc_fields.specs.Pattern.{Fixes, held, Turns, TurnsParts, IsVast, Represents}
 use Rattle.mc_fields.specs.Pattern.{RepresentsTurn, exponent, power, significand, significand_of}
 use Rattle.mc_fields.specs.Pattern.{is_negative, with_sign}
-use Rattle.mc_fields.specs.PatternLaws.{floor_exact, floor_one, shift_floor, shift_then}
+use Rattle.mc_fields.specs.PatternLaws.{floor_exact, shift_floor, shift_then}
 use Rattle.mc_fields.proofs.Floors.{with_sign-times}
 
 -- the place of a number's highest bit

@@ -1,6 +1,6 @@
 -- Which fault a VarInt has: its bytes end too early, or none of them is the last.
-use Rattle.std.proofs.Common.{◌≡◌, ℕ, zero, suc, ◌+◌, ◌-◌, ◌*◌, ◌%◌, ◌<◌, ◌≤◌, ◌⊎◌, inl, inr, Bool}
-use Rattle.std.proofs.Common.{true, false, cond, nat_lt, List, [], ◌∷◌, length, drop, get_or}
+use Rattle.std.proofs.Common.{◌≡◌, ℕ, zero, suc, ◌+◌, ◌-◌, ◌*◌, ◌%◌, ◌≤◌, ◌⊎◌, inl, inr, Bool}
+use Rattle.std.proofs.Common.{true, false, cond, nat_lt, List, [], ◌∷◌, length, drop}
 use Rattle.std.proofs.Common.{Result, Ok, Err, refl, sym, ap, ◌∙◌, arith, le-ltb, ltb-false}
 use Rattle.std.proofs.lemmas.Bool.Decides.{nat_tests}
 use Rattle.std.specs.Prelude.{◌↔◌, IsErrOf, IfErr}
@@ -11,7 +11,7 @@ use Rattle.mc_bytes.specs.declared.fault.Kind.TheVariants.{Short, LongVarInt}
 use Rattle.mc_bytes.specs.declared.fault.FieldFault.{FieldFault}
 use Rattle.mc_bytes.specs.Reading.{◌>>=◌}
 use Rattle.mc_bytes.specs.Placed.{placed, fault_at}
-use Rattle.mc_fields.specs.Varint.{GoesOn, IsCut, groups_read, number_of, varint_read}
+use Rattle.mc_fields.specs.Varint.{GoesOn, IsCut, groups_read, varint_read}
 
 GoesOn-cons : (count b : ℕ) (bytes : List ℕ) → 128 ≤ b → GoesOn count bytes →
     GoesOn (suc count) (b ∷ bytes)

@@ -12,7 +12,6 @@ use Rattle.mc_land.specs.Places.{IsPlace}
 use Rattle.mc_packets.specs.declared.down.Down.{Down}
 use Rattle.mc_model.specs.Delta.{Pairs, missing, is_named, leaver, joiner, about}
 use Rattle.mc_view.specs.declared.view_set.ViewSet.{ViewSet}
-use Rattle.mc_view.specs.Sets.{has}
 use Rattle.mc_flush.specs.Lists.{ListValue}
 use Rattle.mc_sending.specs.Sending.{play_bytes}
 use Rattle.mc_flush.specs.Seeing.{MarkValue, IsNamed, loaded, player_packets}

@@ -29,12 +29,11 @@ use Rattle.mc_entities.specs.Numbers.{Rise}
 use Rattle.mc_packets.specs.declared.down.Down.{Down}
 use Rattle.mc_view.specs.declared.view_set.ViewSet.{ViewSet}
 use Rattle.mc_view.specs.Sets.{all_of, has, is_within}
-use Rattle.mc_view.specs.Forms.{moves_of}
 use Rattle.mc_view.specs.Told.{Told}
 use Rattle.mc_model.specs.Sight.{Seen, Sight}
 use Rattle.mc_model.specs.Delta.{Pairs, delta, load, unload, cell_packets, column_changes}
 use Rattle.mc_model.specs.Delta.{beat_packets, chat_packet, destroying, entity_packets}
-use Rattle.mc_model.specs.Delta.{moves_packets, pile_packets, slot_packets, time_packets}
+use Rattle.mc_model.specs.Delta.{slot_packets, time_packets}
 use Rattle.mc_flush.specs.Lists.{ListValue}
 use Rattle.mc_flush.specs.Seeing.{MarkValue, Parts, StandsFor, changes, columns_in, listed}
 use Rattle.mc_flush.specs.Seeing.{leaver_packets, joiner_packets, pairs_in, present_parts, seen}

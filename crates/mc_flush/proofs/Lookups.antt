@@ -1,15 +1,14 @@
 -- What a hash map finds is what the finite map of its entries has.
-use Rattle.std.proofs.Common.{◌≡◌, ℕ, suc, ◌+◌, Bool, true, false, cond, not, List, [], ◌∷◌, ◌++◌}
-use Rattle.std.proofs.Common.{length, is_some, arith, Option, Some, None, refl, sym, subst, ap, ◌∙◌}
+use Rattle.std.proofs.Common.{◌≡◌, ℕ, suc, ◌+◌, Bool, true, false, cond, List, [], ◌∷◌, ◌++◌}
+use Rattle.std.proofs.Common.{length, is_some, arith, Option, Some, None, refl, sym, ap, ◌∙◌}
 use Rattle.std.specs.Prelude.{nat_eq}
 use Rattle.std.specs.List.{AllByRecursion, IsDistinct}
 use Rattle.std.specs.Map.{lookup, keys_of}
 use Rattle.std.specs.Ordering.{nat_cmp, is_eq, eq_by_cmp}
-use Rattle.std.specs.Cmp.{nat_cmp_total, tied_itself, eq_by_cmp_equiv, unsigned_Decides}
+use Rattle.std.specs.Cmp.{nat_cmp_total, eq_by_cmp_equiv}
 use Rattle.mc_model.specs.Delta.{is_named}
 use Rattle.mc_flush.specs.Players.{with_other}
-use Rattle.mc_bytes.proofs.Trees.{equal, tree_found}
-use Rattle.mc_sending.proofs.Keys.{alike}
+use Rattle.mc_bytes.proofs.Trees.{equal}
 use Rattle.std.specs.FinMap.{find, get, len, len-empty, len-insert, contains_key, insert, remove}
 use Rattle.std.specs.FinMap.{from_entries, get-from_entries, get-insert, get-remove}
 use Rattle.std.specs.FinMap.{nat_cmp-IsAntisymmetric, same_map}

@@ -8,10 +8,9 @@ use Rattle.mc_model.specs.Sight.{Sight}
 use Rattle.mc_sending.specs.Sending.{play_bytes}
 use Rattle.mc_flush.specs.Seeing.{MarkValue, Parts}
 use Rattle.mc_model.specs.declared.player.Player.{Player}
-use Rattle.mc_model.specs.Game.{Game}
-use Rattle.mc_model.specs.Link.{Link, hand}
+use Rattle.mc_model.specs.Link.{hand}
 use Rattle.mc_model.specs.Showing.{due, sight_of}
-use Rattle.mc_model.specs.Tick.{flush, flush_of}
+use Rattle.mc_model.specs.Tick.{flush_of}
 use Rattle.mc_play.specs.Kept.{GameValue}
 use Rattle.mc_links.specs.Kept.{ConnectionValue}
 use Rattle.mc_links.specs.Showing.{IsFlushed, IsShown}

@@ -2,13 +2,10 @@
 use Rattle.std.proofs.Common.{◌≡◌, Bool, true, false, cond, List, ◌∷◌, Option, Some, None, refl}
 use Rattle.std.proofs.Common.{sym, subst, ap, ◌∙◌}
 use Rattle.std.specs.List.{fold}
-use Rattle.std.specs.Map.{lookup}
-use Rattle.std.specs.declared.cmp.Ordering.{Ordering}
-use Rattle.std.specs.Ordering.{int_cmp, is_eq, eq_by_cmp}
-use Rattle.std.specs.Cmp.{IsTotalOrder, eq_by_cmp_equiv}
+use Rattle.std.specs.Ordering.{int_cmp, eq_by_cmp}
 use Rattle.std.proofs.lemmas.Cmp.{int_cmp_total}
-use Rattle.std.specs.FinMap.{IsAntisymmetric, empty, get, get-empty, get-insert, insert}
-use Rattle.std.specs.FinMap.{from_entries, get-from_entries, same_map, int_cmp-IsAntisymmetric}
+use Rattle.std.specs.FinMap.{empty, get, get-empty, get-insert, insert}
+use Rattle.std.specs.FinMap.{int_cmp-IsAntisymmetric}
 use Rattle.std.proofs.Common.{arith}
 use Rattle.std.proofs.lemmas.Bool.Decides.{nat_tests}
 use lib.IntN.{ℤ}
@@ -19,7 +16,7 @@ use Rattle.mc_view.specs.Forms.{form_of}
 use Rattle.mc_told.specs.declared.moved.Moved.{Moved}
 use Rattle.mc_told.specs.MoveFrames.{AreMoves, MovesByEid, is_still, move_bytes, moved_from}
 use Rattle.mc_told.specs.MoveFrames.{with_move}
-use Rattle.mc_bytes.proofs.Trees.{equal, tree_found}
+use Rattle.mc_bytes.proofs.Trees.{equal}
 
 -- none was encoded yet
 pub none_moved : AreMoves empty

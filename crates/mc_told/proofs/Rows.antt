@@ -19,7 +19,6 @@ use Rattle.mc_entities.specs.Folk.{eid_of}
 use Rattle.mc_entities.specs.Numbers.{Rise}
 use Rattle.mc_view.specs.declared.view_set.ViewSet.{ViewSet}
 use Rattle.mc_view.specs.Told.{Told}
-use Rattle.mc_model.specs.declared.seen.SeenKind.TheVariants as seen_kinds
 use Rattle.mc_model.specs.Sight.{Seen, seen_of}
 use Rattle.mc_told.specs.declared.row.Row.{Row}
 use Rattle.mc_told.specs.Telling.{entity_frames, in_view, kept_of, packets_of, shown_now}

@@ -2,14 +2,13 @@
 use Rattle.std.proofs.Common.{◌≡◌, ℕ, ◌+◌, Bool, true, false, cond, not, T, List, [], ◌∷◌, ◌++◌}
 use Rattle.std.proofs.Common.{map, Option, Some, None, refl, sym, subst, ap, ◌∙◌, append_assoc}
 use Rattle.std.proofs.Common.{arith, inl, inr}
-use Rattle.std.specs.Prelude.{drop, is_some, option_map, slice_get}
+use Rattle.std.specs.Prelude.{drop, is_some, slice_get}
 use Rattle.std.specs.List.{AllByRecursion, filter, fold}
 use Rattle.std.specs.declared.cmp.Ordering.{Ordering}
-use Rattle.std.specs.declared.cmp.Ordering.TheVariants.{Less, Equal, Greater}
 use Rattle.std.specs.Ordering.{int_cmp, int_eq, is_eq, is_lt, eq_by_cmp}
 use Rattle.std.proofs.lemmas.Cmp.{int_cmp_total, int_eq_equiv}
 use Rattle.std.proofs.lemmas.Int.{ints}
-use Rattle.std.proofs.lemmas.List.{append-nil, drop_all, drop_more}
+use Rattle.std.proofs.lemmas.List.{drop_all, drop_more}
 use Rattle.std.proofs.lemmas.List.Folds.{fold-map}
 use Rattle.std.proofs.lemmas.List.Sums.{fold-append}
 use Rattle.std.proofs.lemmas.Grind.{flat_map-append}
@@ -28,15 +27,14 @@ use Rattle.mc_entities.specs.Numbers.{Rise, numbered}
 use Rattle.mc_view.specs.declared.view_set.ViewSet.{ViewSet}
 use Rattle.mc_view.specs.Told.{Told}
 use Rattle.mc_packets.specs.declared.down.Down.{Down}
-use Rattle.mc_model.specs.Delta.{entity_packets}
 use Rattle.mc_model.specs.Sight.{others}
 use Rattle.mc_model.proofs.Maps.Options.{some_none}
 use Rattle.mc_model.proofs.Maps.Sorted.{each_found, take_out, put_in, is_without, kept, get_kept}
 use Rattle.mc_model.proofs.Maps.Sorted.{all_put_in}
 use Rattle.mc_told.specs.declared.row.Row.{Row}
 use Rattle.mc_sending.specs.Sending.{play_bytes}
-use Rattle.mc_told.specs.Telling.{gone_from, shown_now, told_as, gone_among, row_in, row_packets}
-use Rattle.mc_told.specs.Telling.{rows_as, rows_in, rows_of, rows_packets, told_now, told_row}
+use Rattle.mc_told.specs.Telling.{gone_from, shown_now, gone_among, row_in, row_packets}
+use Rattle.mc_told.specs.Telling.{rows_as, rows_in, rows_packets, told_now, told_row}
 use Rattle.mc_told.specs.Telling.{with_row, with_rows, without_all}
 use Rattle.mc_bytes.proofs.Trees.{equal}
 use Rattle.mc_sending.proofs.Keys.{all_kept, same_filter}

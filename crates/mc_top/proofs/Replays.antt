@@ -1,5 +1,5 @@
 -- What `replay` tells of a script that was read, and what holds of all that happens in one.
-use Rattle.std.proofs.Common.{◌≡◌, ℕ, ◌+◌, List, ◌++◌, length, Option, None, Some, Result, Ok, Err}
+use Rattle.std.proofs.Common.{◌≡◌, ℕ, ◌+◌, List, length, Option, None, Some, Result, Ok, Err}
 use Rattle.std.proofs.Common.{refl, sym, inl, inr, ap}
 use Rattle.std.specs.Prelude.{IsErrOf}
 use Rattle.mc_wire.specs.Count.{Rose, StandsOrRises}
@@ -19,7 +19,7 @@ use Rattle.mc_words.specs.Ended.{ended_told}
 use Rattle.mc_words.specs.Finishing.{Finishes}
 use Rattle.mc_words.specs.Lines.{text_max}
 use Rattle.mc_words.specs.Script.{script_of}
-use Rattle.mc_words.specs.Told.{Tells, Told}
+use Rattle.mc_words.specs.Told.{Tells}
 use Rattle.mc_words.proofs.Delivering.{IsTelling, of_read}
 use Rattle.mc_words.proofs.Growing.{grows_none}
 use Rattle.mc_top.specs.ReplayText.{events_of, replay_text, replay_log}

@@ -1,5 +1,5 @@
 -- Inputs that are served and refused, whatever the command.
-use Rattle.std.proofs.Common.{◌≡◌, ◌⊎◌, inl, inr}
+use Rattle.std.proofs.Common.{◌≡◌, ◌⊎◌}
 use Rattle.mc_wire.specs.Count.{Rose}
 use Rattle.mc_words.specs.declared.arguments.Command.{Command}
 use Rattle.mc_words.specs.declared.arguments.Command.TheVariants.{Status, Replay, Serve}

@@ -1,21 +1,19 @@
 -- A pile put at a place of a desk: what the other places hold, which places there are, and how many
 -- items there are.
-use Rattle.std.proofs.Common.{◌≡◌, ℕ, ◌+◌, ◌<◌, ◌==◌, Bool, true, false, nat_lt, List, [], length}
+use Rattle.std.proofs.Common.{◌≡◌, ℕ, ◌+◌, ◌==◌, true, false, nat_lt, List, length}
 use Rattle.std.proofs.Common.{slice_set, Option, Some, None, is_some, refl, ap, arith}
 use Rattle.std.proofs.lemmas.Bool.Decides.{nat_tests}
-use Rattle.std.specs.List.{sum_by}
 use Rattle.std.proofs.lemmas.List.{get_or-set_other, length-set}
 use Rattle.std.proofs.lemmas.List.Sums.{sum_by-set}
 use Rattle.std.proofs.lemmas.Bool.{eqb-false, ltb-true}
 use Rattle.mc_slots.specs.declared.pile.Pile.{Pile}
-use Rattle.mc_slots.specs.declared.pile.Pile.TheVariants.{Empty}
 use Rattle.mc_slots.specs.Pile.{Sort, held}
 use Rattle.mc_slots.specs.Chest.{pile_at}
 use Rattle.mc_windows.specs.declared.place.Place.{Place}
-use Rattle.mc_windows.specs.declared.place.Place.TheVariants.{Cursor, Floor, Chested, Packed}
+use Rattle.mc_windows.specs.declared.place.Place.TheVariants.{Chested}
 use Rattle.mc_windows.specs.declared.desk.Desk.{Desk}
 use Rattle.mc_windows.specs.Pack.{PackValue}
-use Rattle.mc_windows.specs.Stock.{in_chest, in_piles, in_pack}
+use Rattle.mc_windows.specs.Stock.{in_piles}
 use Rattle.mc_windows.specs.Moves.{at, is_here, same_place, stock, write}
 
 -- one pile in the place of another

@@ -1,15 +1,13 @@
 -- A move of piles loses and makes no item, whichever it is.
-use Rattle.std.proofs.Common.{◌≡◌, ℕ, ◌+◌, ◌-◌, ◌≤◌, Bool, true, false, min, refl, arith}
+use Rattle.std.proofs.Common.{◌≡◌, ℕ, ◌+◌, ◌-◌, Bool, true, false, min, refl, arith}
 use Rattle.std.proofs.Common.{if◌then◌else◌}
-use Rattle.std.proofs.lemmas.Bool.{and_parts}
-use Rattle.std.proofs.lemmas.Bool.Decides.{Decides-int_eq, nat_tests}
+use Rattle.std.proofs.lemmas.Bool.Decides.{nat_tests}
 use Rattle.mc_slots.specs.declared.pile.Item.{Item}
 use Rattle.mc_slots.specs.declared.pile.Pile.{Pile}
 use Rattle.mc_slots.specs.declared.pile.Pile.TheVariants.{Empty, Full}
-use Rattle.mc_slots.specs.Pile.{IsAlike, Sort, count_of, held, is_sort, most, part, with_more}
+use Rattle.mc_slots.specs.Pile.{IsAlike, Sort, count_of, held, is_sort, most, part}
 use Rattle.mc_slots.specs.Pile.{without}
 use Rattle.mc_slots.specs.PileLaws.{merge_keeps, split_keeps}
-use Rattle.std.specs.Ordering.{int_eq}
 use Rattle.mc_windows.specs.declared.moves.How.{How}
 use Rattle.mc_windows.specs.declared.moves.How.TheVariants.{Put, Merge, Swap}
 use Rattle.mc_windows.specs.Moves.{effect, poured, sort_of}

@@ -1,10 +1,9 @@
 -- The first pack holds piles of the world.
-use Rattle.std.proofs.Common.{◌≡◌, ℕ, zero, suc, ◌≤◌, List, [], ◌∷◌, ◌++◌, replicate, refl, arith}
+use Rattle.std.proofs.Common.{ℕ, zero, suc, ◌≤◌, List, [], ◌∷◌, ◌++◌, replicate, refl, arith}
 use Rattle.std.proofs.Common.{lit≤}
 use Rattle.std.proofs.lemmas.Bool.Decides.{nat_tests}
-use Rattle.std.proofs.lemmas.Int.{ints}
 use Rattle.mc_slots.specs.declared.pile.Pile.{Pile}
-use Rattle.mc_slots.specs.declared.pile.Pile.TheVariants.{Empty, Full}
+use Rattle.mc_slots.specs.declared.pile.Pile.TheVariants.{Empty}
 use Rattle.mc_slots.specs.Pile.{IsPile}
 use Rattle.mc_slots.specs.Chest.{pile_at}
 use Rattle.mc_windows.specs.Pack.{IsPack, kit_pack, some_of}

@@ -1,18 +1,16 @@
 -- No list of moves loses or makes an item, and so no click does.
-use Rattle.std.proofs.Common.{◌≡◌, ℕ, ◌+◌, Bool, true, false, not, ◌&&◌, List, [], ◌∷◌, Option}
-use Rattle.std.proofs.Common.{Some, None, is_some, Result, Ok, Err, refl, arith, ◌∙◌, ap, sym}
+use Rattle.std.proofs.Common.{◌≡◌, ◌+◌, Bool, true, false, not, List, [], ◌∷◌, Option}
+use Rattle.std.proofs.Common.{Some, None, is_some, Result, Ok, Err, refl, arith, ◌∙◌, sym}
 use Rattle.std.proofs.Common.{if◌then◌else◌}
 use Rattle.std.proofs.lemmas.Bool.Decides.{nat_tests}
 use Rattle.std.specs.Option.{unwrap_or}
 use Rattle.std.proofs.lemmas.Bool.{and_parts}
 use lib.IntN.{ℤ}
 use Rattle.mc_slots.specs.declared.pile.Pile.{Pile}
-use Rattle.mc_slots.specs.declared.pile.Pile.TheVariants.{Empty}
 use Rattle.mc_slots.specs.Pile.{Sort, held}
 use Rattle.mc_windows.specs.declared.request.Click.{Click}
 use Rattle.mc_windows.specs.declared.request.Why.{Why}
-use Rattle.mc_windows.specs.declared.request.Why.TheVariants.{WrongWindow, Waiting, NoSlot, NoMode}
-use Rattle.mc_windows.specs.declared.request.Why.TheVariants.{OtherItem, NoRoomToDrop}
+use Rattle.mc_windows.specs.declared.request.Why.TheVariants.{WrongWindow}
 use Rattle.mc_windows.specs.declared.clicking.Clicked.TheVariants.{Refused}
 use Rattle.mc_windows.specs.declared.clicking.Clicked.{Clicked}
 use Rattle.mc_windows.specs.declared.place.Place.{Place}
@@ -21,12 +19,12 @@ use Rattle.mc_windows.specs.declared.moves.Move.{Move}
 use Rattle.mc_windows.specs.declared.desk.Desk.{Desk}
 use Rattle.mc_windows.specs.Pack.{PackValue}
 use Rattle.mc_windows.specs.Stock.{in_chest, in_pack}
-use Rattle.mc_windows.specs.Moves.{at, effect, exchanged, is_here, is_possible, made, run}
+use Rattle.mc_windows.specs.Moves.{at, exchanged, is_here, is_possible, made, run}
 use Rattle.mc_windows.specs.Moves.{same_place, stock, write}
-use Rattle.mc_windows.specs.Clicks.{admitted, answer_of, chest_after, desk_of, dropped, is_empty}
-use Rattle.mc_windows.specs.Clicks.{outcome, pack_after, plan, refuse, refused_pack, worked}
+use Rattle.mc_windows.specs.Clicks.{admitted, answer_of, chest_after, desk_of, dropped}
+use Rattle.mc_windows.specs.Clicks.{outcome, pack_after, plan, refused_pack, worked}
 use Rattle.mc_windows.proofs.Effects.{effect_keeps}
-use Rattle.mc_windows.proofs.Desks.{at_other, here_still, shown_still, stock_with}
+use Rattle.mc_windows.proofs.Desks.{at_other, here_still, stock_with}
 
 other : (same : Bool) → not same ≡ true → same ≡ false
 other true e = absurd (cc)

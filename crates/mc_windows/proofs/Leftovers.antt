@@ -1,13 +1,13 @@
 -- What is left of an item that is picked up is some of it, and with the pack it makes up what there
 -- was.
-use Rattle.std.proofs.Common.{◌≡◌, ℕ, zero, suc, ◌+◌, ◌-◌, ◌≤◌, Bool, true, false, min, List}
-use Rattle.std.proofs.Common.{Option, Some, None, is_some, refl, arith, sym, subst, ap, ◌∙◌}
+use Rattle.std.proofs.Common.{◌≡◌, ℕ, zero, suc, ◌+◌, ◌-◌, ◌≤◌, Bool, true, false, List}
+use Rattle.std.proofs.Common.{Option, None, refl, arith, sym, subst, ap, ◌∙◌}
 use Rattle.std.proofs.Common.{if◌then◌else◌}
 use Rattle.std.proofs.lemmas.Bool.Decides.{nat_tests}
 use Rattle.mc_slots.specs.declared.pile.Item.{Item}
 use Rattle.mc_slots.specs.declared.pile.Pile.{Pile}
 use Rattle.mc_slots.specs.declared.pile.Pile.TheVariants.{Empty, Full}
-use Rattle.mc_slots.specs.Pile.{IsAlike, IsPile, Sort, count_of, held, is_sort, most, pile_of}
+use Rattle.mc_slots.specs.Pile.{IsAlike, IsPile, Sort, count_of, held, pile_of}
 use Rattle.mc_slots.specs.Pile.{without}
 use Rattle.mc_windows.specs.declared.place.Place.TheVariants.{Floor, Packed}
 use Rattle.mc_windows.specs.declared.order.Order.TheVariants.{PickedUp}
@@ -17,7 +17,6 @@ use Rattle.mc_windows.specs.declared.desk.Desk.{Desk}
 use Rattle.mc_windows.specs.Pack.{PackValue}
 use Rattle.mc_windows.specs.Stock.{in_chest, in_pack}
 use Rattle.mc_windows.specs.Moves.{at, effect, exchanged, is_possible, made, move, poured, run}
-use Rattle.mc_windows.specs.Moves.{sort_of, stock}
 use Rattle.mc_windows.specs.Clicks.{picked_up, places, sent, to_each}
 use Rattle.mc_windows.specs.Storing.{stored}
 use Rattle.mc_windows.proofs.Steps.{next, run_append}

@@ -3,8 +3,7 @@
 -- between places.
 use Rattle.std.specs.Prelude.{ℕ, zero, suc, ◌+◌, ◌-◌, ◌/◌, ◌==◌, Bool, true, false, not, ◌&&◌, ◌||◌}
 use Rattle.std.specs.Prelude.{nat_lt, List, [], ◌∷◌, ◌++◌, Option, Some, None, is_some, is_none}
-use Rattle.std.specs.Prelude.{Result, Ok, Err, int_le, if◌then◌else◌}
-use Rattle.std.specs.Option.{unwrap_or}
+use Rattle.std.specs.Prelude.{Result, Ok, Err, if◌then◌else◌}
 use Rattle.std.specs.Ordering.{int_eq}
 use lib.IntN.{ℤ, pos, negsuc}
 use Rattle.mc_slots.specs.declared.slot.Slot.{Slot}

@@ -1,8 +1,8 @@
 -- What moves of piles between the places of a desk do (rules of this project). A desk is a pack,
 -- the chest that it shows, and what lies outside the window.
-use Rattle.std.specs.Prelude.{◌≡◌, ℕ, zero, suc, ◌+◌, ◌-◌, ◌==◌, Bool, true, false, not, ◌&&◌}
-use Rattle.std.specs.Prelude.{nat_lt, min, List, [], ◌∷◌, ◌++◌, slice_set, length, Option, Some}
-use Rattle.std.specs.Prelude.{None, option_map, if◌then◌else◌}
+use Rattle.std.specs.Prelude.{ℕ, ◌+◌, ◌-◌, ◌==◌, Bool, true, false, not, ◌&&◌}
+use Rattle.std.specs.Prelude.{nat_lt, min, List, [], ◌∷◌, slice_set, length}
+use Rattle.std.specs.Prelude.{option_map, if◌then◌else◌}
 use Rattle.std.specs.Option.{unwrap_or}
 use Rattle.mc_slots.specs.declared.pile.Item.{Item}
 use Rattle.mc_slots.specs.declared.pile.Pile.{Pile}
@@ -15,7 +15,6 @@ use Rattle.mc_windows.specs.declared.moves.How.{How}
 use Rattle.mc_windows.specs.declared.moves.How.TheVariants.{Put, Merge, Swap}
 use Rattle.mc_windows.specs.declared.moves.Move.{Move}
 use Rattle.mc_windows.specs.declared.desk.Desk.{Desk}
-use Rattle.mc_windows.specs.Pack.{PackValue}
 use Rattle.mc_windows.specs.Stock.{in_pack, in_chest}
 
 -- ---- two piles: what is left of the first, and what becomes of the second

@@ -1,5 +1,5 @@
 -- A player's pack, and the window that it is shown in (rules of this project).
-use Rattle.std.specs.Prelude.{◌≡◌, ℕ, ◌+◌, ◌%◌, ◌==◌, Bool, false, ◌&&◌, List, [], ◌∷◌, ◌++◌}
+use Rattle.std.specs.Prelude.{◌≡◌, ℕ, ◌+◌, ◌%◌, ◌==◌, Bool, false, ◌&&◌, List, ◌∷◌, ◌++◌}
 use Rattle.std.specs.Prelude.{length, replicate, Option, Some, None, if◌then◌else◌}
 use Rattle.std.specs.Ordering.{int_eq}
 use lib.IntN.{ℤ, pos}

@@ -1,5 +1,5 @@
 -- What a command delivers that reads a text, before its last line is written and with it.
-use Rattle.std.proofs.Common.{◌≡◌, ℕ, ◌+◌, ◌⊎◌, inl, inr, List, [], ◌++◌, length, take, Option}
+use Rattle.std.proofs.Common.{◌≡◌, ℕ, ◌+◌, ◌⊎◌, inl, inr, List, [], ◌++◌, length, Option}
 use Rattle.std.proofs.Common.{Some, None, Result, Ok, Err, refl, sym, subst, arith}
 use Rattle.std.specs.Prelude.{IfOk, IfSome, IsErrOf, OnErr, OnOk}
 use Rattle.std.proofs.lemmas.List.{append-nil, take_all}
@@ -11,7 +11,7 @@ use Rattle.mc_words.specs.declared.ended.Ended.{Ended}
 use Rattle.mc_words.specs.declared.ended.Ended.TheVariants as ended
 use Rattle.mc_words.specs.declared.unfinished.Unfinished.{Unfinished}
 use Rattle.mc_words.specs.declared.unfinished.Unfinished.TheVariants.{Failed, NoMemory}
-use Rattle.mc_words.specs.Delivers.{Delivered, Delivers, Part, Whole}
+use Rattle.mc_words.specs.Delivers.{Delivered, Delivers, Part}
 use Rattle.mc_words.specs.Devices.{ReadsText, Streams, WroteLast, WroteTextThenLast, streams}
 use Rattle.mc_words.specs.Ended.{bad_input_line, ended_told, status_of}
 use Rattle.mc_words.specs.Finishing.{Finishes}

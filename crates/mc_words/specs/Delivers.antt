@@ -1,7 +1,7 @@
 -- What a command delivers that reads a text: how much of what is told of its input was written,
 -- what was read of the input, and which device failed, by how the command ended. Rules of this
 -- project, said once for all such commands.
-use Rattle.std.specs.Prelude.{◌≡◌, ℕ, List, [], Option, None, Some}
+use Rattle.std.specs.Prelude.{ℕ, List, [], Option, None, Some}
 use Rattle.mc_wire.specs.Count.{Rose, StandsOrRises}
 use Rattle.mc_wire.specs.Stream.{Grows, IsAtEnd}
 use Rattle.mc_words.specs.declared.bad_input.BadInput.{BadInput}

@@ -1,4 +1,4 @@
-use Rattle.std.proofs.Common.{◌≡◌, ◌∙◌, sym, None, Some}
+use Rattle.std.proofs.Common.{◌∙◌, sym, None, Some}
 use Rattle.mc_windows.specs.Clicks.{outcome}
 use Rattle.mc_windows.proofs.Keeping.{kept_by, none_stays, refusal}
 use Rattle.mc_windows.proofs.clicking.click.Goals as goal

@@ -1,8 +1,7 @@
-use Rattle.std.proofs.Common.{◌∙◌, ℕ, List, sym, ap}
+use Rattle.std.proofs.Common.{◌∙◌, sym, ap}
 use Rattle.std.proofs.lemmas.Result.{IfOk-weaker}
 use Rattle.std.specs.FinMap.{nat_cmp-IsAntisymmetric}
 use Rattle.std.proofs.lemmas.Cmp.{nat_cmp_total}
-use Rattle.mc_links.specs.Kept.{ConnectionValue}
 use Rattle.mc_bytes.proofs.Trees.{entries_are}
 use Rattle.mc_events.specs.Asking.{pending_of}
 use Rattle.mc_events.proofs.connections.Connections.pending.Goals as goal

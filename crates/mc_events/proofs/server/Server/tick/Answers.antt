@@ -1,4 +1,3 @@
-use Rattle.std.proofs.Common.{◌∙◌}
 use Rattle.std.proofs.lemmas.Result.{on_ok_weaker}
 use Rattle.mc_model.specs.Tick.{at_tick}
 use Rattle.mc_events.proofs.Shedding.{sheds_same}
