@@ -1,15 +1,17 @@
-"""Tests of what players carry, place and drop.
+"""Tests of what players carry, place, drop and pick up.
 
 Sources: wiki.vg, 'Protocol' ('Player Digging' for what is dropped, 'Player Block Placement', 'Held
 Item Change' and 'Creative Inventory Action'), docs/PROTOCOL.md and docs/WORLD.md.
 """
 
+import time
+
 import protocol
-from client import expect, log_in, wait_for_pack
-from clientbound import Change, Equipment, HeadLook, SetSlot, Teleport, WindowItems
+from client import expect, log_in, pump, wait_for_pack
+from clientbound import Change, Destroy, Equipment, HeadLook, SetSlot, Teleport, WindowItems
 from news import AIR, BENEATH, CHEST_STATE, DOWN, DROP_ONE, DROP_STACK, FACES, FLAT_FEET, NORTH
-from news import PLANKS_STATE, SOUTH, UP, at_face, dig, drop, leave, log_in_two, settle
-from news import dig_news, expect_items, expect_sent, hand_news, item_news, pack_news
+from news import PLANKS_STATE, SOUTH, UP, at_face, dig, drop, floor_of, leave, log_in_two, one_of
+from news import dig_news, expect_items, expect_sent, hand_news, item_news, pack_news, settle
 from news import until_between_ticks, window_news
 from packs import CHEST, DIRT, KIT, STONE, pack_of
 from program import Program
@@ -20,6 +22,12 @@ from terrain import STONE as STONE_STATE
 
 STONE_PILE, DIRT_PILE, PLANKS_PILE, CHEST_PILE = KIT[27:31]
 
+# A cell of grass from which an item lies too far off for who enters to pick it up.
+APART = (10, 3, 8)
+
+# An item lies there for two seconds before it is picked up; a time that is surely less.
+SHORTEST = 1.0
+
 
 def kits_come_once(path):
     """The kit comes at the first join alone; who comes back finds the pack that it had."""
@@ -29,21 +37,26 @@ def kits_come_once(path):
         anna = log_in(program.port, "Anna", [wanda])
         expect_pack_told(anna, KIT)
         anna.send(protocol.held(1) + protocol.placement(BENEATH, UP))
-        anna.send(protocol.held(2) + drop(DROP_STACK))
+        anna.send(protocol.held(2) + stand(12.5) + drop(DROP_STACK))
         left = pack_of(STONE_PILE, Stack(DIRT, 63, 0), None, CHEST_PILE)
         wait_for_pack([wanda, anna], anna, left)
         anna = come_back(program.port, anna, wanda, left)
         anna.check_blocks(Changed(Flat(), {at_face(BENEATH, UP): DIRT_STATE}))
-        expect_items([anna, wanda], {3: (FLAT_FEET, PLANKS_PILE)})
-        anna.send(drop(DROP_ONE))
+        expect_items([anna, wanda], {3: ((400, 128, 272), PLANKS_PILE)})
+        anna.send(stand(14.5) + drop(DROP_ONE))
         left = pack_of(Stack(STONE, 63, 0), *left[28:31])
         wait_for_pack([wanda, anna], anna, left)
         anna = come_back(program.port, anna, wanda, left)
         for place in range(4):
-            anna.send(protocol.held(place) + drop(DROP_STACK))
+            anna.send(stand(16.5) + protocol.held(place) + drop(DROP_STACK))
         wait_for_pack([wanda, anna], anna, pack_of())
         come_back(program.port, anna, wanda, pack_of())
         expect_pack_told(log_in(program.port, "anna", [wanda]), KIT)
+
+
+def stand(x):
+    """Stand at an x of flat land, apart from who enters."""
+    return protocol.position(x, 4.0, 8.5)
 
 
 def come_back(port, client, watcher, pack):
@@ -205,6 +218,8 @@ def drops_lie_where_the_player_is(path):
     lying = {3: (FLAT_FEET, Stack(STONE, 1, 0)), 4: (place, Stack(STONE, 63, 0))}
     with Program(path) as program:
         anna, ben = log_in_two(program.port)
+        ben.send(stand(12.5))
+        expect_sent({anna: [Teleport(2, (400, 128, 272), 0, 0)], ben: []})
         anna.send(drop(DROP_ONE))
         item, left = item_news(3, *lying[3]), Stack(STONE, 63, 0)
         expect_sent({anna: item + [hand_news(0, left)], ben: [Equipment(1, left), *item]})
@@ -223,6 +238,33 @@ def drops_lie_where_the_player_is(path):
         expect_items([ben], lying)
 
 
+def items_are_picked_up(path):
+    """What lies beside players for two seconds goes to the one that came first, and is seen so."""
+    grass, left = one_of(GRASS), Stack(STONE, 63, 0)
+    with Program(path) as program:
+        anna, ben = log_in_two(program.port)
+        anna.send(dig(APART))
+        expect_sent(dict.fromkeys((anna, ben), dig_news(3, APART, GRASS)))
+        anna.send(dig(BENEATH))
+        expect_sent(dict.fromkeys((anna, ben), dig_news(4, BENEATH, GRASS)))
+        expect_picked_up(anna, ben, 4, [hand_news(4, grass)], [])
+        anna.send(drop(DROP_ONE))
+        item = item_news(5, FLAT_FEET, Stack(STONE, 1, 0))
+        expect_sent({anna: [*item, hand_news(0, left)], ben: [Equipment(1, left), *item]})
+        expect_picked_up(anna, ben, 5, [hand_news(0, STONE_PILE)], [Equipment(1, STONE_PILE)])
+        expect_items([anna, ben], {3: (floor_of(APART), grass)})
+
+
+def expect_picked_up(picker, watcher, number, own, seen):
+    """Find that an item goes, not at once, and that both are told of nothing but this."""
+    begun = time.monotonic()
+    both = [picker, watcher]
+    done = pump(both, lambda: all(client.has_news() for client in both))
+    expect(done, f"nobody picks the item {number} up")
+    expect(time.monotonic() - begun > SHORTEST, f"the item {number} is picked up at once")
+    expect_sent({picker: [Destroy([number]), *own], watcher: [Destroy([number]), *seen]})
+
+
 TESTS = [
     kits_come_once,
     placements_take_one,
@@ -233,4 +275,5 @@ TESTS = [
     hands_choose_what_is_placed,
     stacks_are_used_up,
     drops_lie_where_the_player_is,
+    items_are_picked_up,
 ]

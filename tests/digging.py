@@ -23,8 +23,13 @@ from terrain import STONE as STONE_STATE
 
 MOST_ITEMS = 4096
 
-# Places whose reaches lie side by side, 507 cells of dirt and grass each; the last sees all.
-STANDS = [(x, z) for x in (-5, 8, 21) for z in (-5, 21, 8)]
+# Places whose reaches lie side by side, 507 cells of dirt and grass each; the last sees all. None
+# is near where players enter, and whoever stands there is too high to pick up what is dug.
+STANDS = [(x, z) for x in (-26, -13, 0) for z in (-5, 21, 8)]
+HIGH = 7.0
+
+# A cell of grass within reach of who enters, and too far off for its item to be picked up.
+AWAY = (12, 3, 8)
 
 
 def changes_are_shown_in_views(path):
@@ -91,7 +96,8 @@ def dig_together(path, dug):
     with Program(path) as program:
         anna = log_in(program.port, "Anna")
         walk([anna], anna, 15.5)
-        anna.send(b"".join(dig(cell) for cell in dug))
+        high = protocol.position(15.5, HIGH, 8.5)
+        anna.send(high + b"".join(dig(cell) for cell in dug))
         expect(pump([anna], lambda: len(anna.replica.items) == len(dug)), "not all is dug")
         settle([anna])
         anna.check_blocks(Changed(Flat(), dict.fromkeys(dug, AIR)))
@@ -113,12 +119,12 @@ def what_is_undone_is_no_change(path):
 
 def fill_and_dig(client):
     """Let a player fill a cell and dig it; answer whether its item and its hand alone were told."""
-    cell = at_face(BENEATH, UP)
+    cell = at_face(AWAY, UP)
     number = max(client.replica.items, default=1) + 1
     left = 64 - len(client.replica.items) - 1
     settle([client])
     client.forget_news()
-    client.send(protocol.placement(BENEATH, UP) + dig(cell))
+    client.send(protocol.placement(AWAY, UP) + dig(cell))
     expect(pump([client], lambda: number in client.replica.items), "the stone is not dug")
     settle([client])
     item = item_news(number, floor_of(cell), Stack(STONE, 1, 0))
@@ -178,7 +184,7 @@ def digs_reach_six_blocks(path):
 
 def items_come_and_go_with_the_view(path):
     """Who walks away is told that the items went, and who comes back that they are there."""
-    near, corner = (9, 3, 9), (2, 3, 2)
+    near, corner = (11, 3, 11), (2, 3, 2)
     far = PARTS * 40 + 16, FLAT_FEET[1], FLAT_FEET[2]
     items = {2: (floor_of(near), one_of(GRASS)), 3: (far, Stack(STONE, 1, 0))}
     items[4] = floor_of(corner), one_of(GRASS)
@@ -226,7 +232,7 @@ def dig_until_full(client):
     dug = []
     for x, z in STANDS:
         here = reach_of(x, z)[: MOST_ITEMS - len(dug)]
-        client.send(protocol.position(x + 0.5, 4.0, z + 0.5) + b"".join(map(dig, here)))
+        client.send(protocol.position(x + 0.5, HIGH, z + 0.5) + b"".join(map(dig, here)))
         dug += here
     is_full = pump([client], lambda: len(client.replica.items) == MOST_ITEMS, 6 * PATIENCE)
     expect(is_full, f"{len(client.replica.items)} items lie")
