@@ -19,6 +19,7 @@ pub mod Placing
 pub mod Digging
 pub mod Texts
 pub mod Chat
+pub mod Pickups
 pub mod Movement
 pub mod Acts
 pub mod Talk
