@@ -44,13 +44,13 @@ ripe_for p g = filter_map (λ (e : Entity). ripe g.age (spot_of g p) e e.kind) g
 -- ---- picking up
 
 -- an item goes into a player's pack as far as that has room; what is left of it stays there
-abbrev pub picked : Player → ℤ × Item → Game → Game
-picked p e g =
+abbrev pub stowed : Player → ℤ × Item → Game → Game
+stowed p e g =
     let end = stored (pack_of g p) e.1 in lessened e.0 end.floor (repack_of p end.pack g)
 
 -- a player picks up what it can, one item after another
 abbrev pub pick_up : Player → Game → Game
-pick_up p g = fold (λ (h : Game) (e : ℤ × Item). picked p e h) g (ripe_for p g)
+pick_up p g = fold (λ (h : Game) (e : ℤ × Item). stowed p e h) g (ripe_for p g)
 
 -- the connection whose player has a number
 abbrev pub playing_as : ℤ → List (ℕ × Player) → Option ℕ
