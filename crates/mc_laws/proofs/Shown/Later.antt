@@ -11,9 +11,10 @@ use Rattle.mc_model.specs.Leaving.{leave, leave_all, left_by}
 use Rattle.mc_model.specs.Deeds.{enter_as}
 use Rattle.mc_model.specs.Link.{Handing, Link, gone}
 use Rattle.mc_model.specs.World.{Outcome, Seat, Turn, World, closed_by, each, seat_of}
-use Rattle.mc_model.specs.Tick.{aged, at_tick, beat, flush, grown, shown_all, tick}
+use Rattle.mc_model.specs.Tick.{aged, at_tick, beat, beats, flush, grown, shown_all, tick}
 use Rattle.mc_model.specs.Good.{GoodWorld}
-use Rattle.mc_model.proofs.Lasting.{GivenKinds, Since}
+use Rattle.mc_model.specs.Fitting.{GivenKinds, Told}
+use Rattle.mc_model.proofs.Lasting.{Since}
 use Rattle.mc_model.proofs.LastingKept.{since_filtered, since_more}
 use Rattle.mc_laws.proofs.Deeds.Leaving.{leave_all_stays, leave_cases, leave_stays}
 use Rattle.mc_laws.proofs.Acts.ActOn.{act_on}
@@ -22,8 +23,8 @@ use Rattle.mc_laws.proofs.Walk.Moves.{shakes, walked_keeps}
 use Rattle.mc_laws.proofs.Walk.Steps.{Move, departs, forgets, joins, passes, rests, sits}
 use Rattle.mc_laws.proofs.Walk.Steps.{step_moves, takes}
 use Rattle.mc_laws.proofs.Runs.Seats.{GoodSeat, seat_kept}
-use Rattle.mc_laws.proofs.Runs.Worlds.{first_seat}
-use Rattle.mc_laws.proofs.Fits.Told.{Told}
+use Rattle.mc_laws.proofs.Pickups.Picking.{pickups_leave, pickups_picked}
+use Rattle.mc_laws.proofs.Runs.Worlds.{beats_world, first_seat}
 use Rattle.mc_laws.proofs.Fits.Acts.{act_tells, enter_tells, leave_all_told, leave_told}
 use Rattle.mc_laws.proofs.Fits.Sound.{welcome_of}
 
@@ -111,6 +112,13 @@ walked_later w k l t there walked good told =
 
 -- ---- a tick
 
+later_on : (g v u : Game) → Later g v → Later v u → Later g u
+later_on g v u a b = record {
+  told = b.told;
+  since = λ old since. b.since old (a.since old since);
+  settings = b.settings ∙ a.settings;
+}
+
 each_later : (before : Game) (f : ℕ → Link → Handing) (w : World) → Later before w.game →
     Later before (each f w).game
 unfolding each
@@ -120,10 +128,18 @@ each_later before f w a = record {
   settings = (leave_all_stays (closed_by f w) w.game).settings ∙ a.settings;
 }
 
-pub at_tick_later : (w : World) → Told w.game → Later w.game (at_tick w).game
-at_tick_later w told =
-    each_later w.game (λ (k : ℕ) (l : Link). beat (grown w.game) (get w.shown k) k l) (aged w)
-    (record { told = told; since = λ old since. since; settings = refl })
+pub at_tick_later : (w : World) → GoodWorld w → Later w.game (at_tick w).game
+at_tick_later w good =
+    let beaten = beats_world w good in
+    let picked = pickups_picked (beats (aged w)).game beaten.game beaten.told in
+    later_on w.game (beats (aged w)).game (at_tick w).game
+    (each_later w.game (λ (k : ℕ) (l : Link). beat (grown w.game) (get w.shown k) k l) (aged w)
+    (record { told = good.told; since = λ old since. since; settings = refl }))
+    (record {
+      told = picked.told;
+      since = picked.since;
+      settings = (pickups_leave (beats (aged w)).game).settings;
+    })
 
 -- the game that a tick leaves, after the one that was shown
 pub flushed_later : (w : World) → Told (at_tick w).game →
@@ -132,13 +148,6 @@ flushed_later w told = each_later (at_tick w).game
     (λ (k : ℕ) (l : Link). flush (at_tick w).game (get (at_tick w).shown k) k l)
     (shown_all (at_tick w))
     (record { told = told; since = λ old since. since; settings = refl })
-
-later_on : (g v u : Game) → Later g v → Later v u → Later g u
-later_on g v u a b = record {
-  told = b.told;
-  since = λ old since. b.since old (a.since old since);
-  settings = b.settings ∙ a.settings;
-}
 
 -- ---- any event
 
@@ -159,7 +168,7 @@ moves_later w o (joins k new is) good told =
 moves_later w o (forgets k l there done is) good told =
     subst (λ (x : Outcome). Later w.game x.world.game) (sym is) (later_same w.game told)
 moves_later w o (passes is) good told =
-    let a = at_tick_later w told in
+    let a = at_tick_later w good in
     subst (λ (x : Outcome). Later w.game x.world.game) (sym is)
     (later_on w.game (at_tick w).game (tick w).world.game a (flushed_later w a.told))
 

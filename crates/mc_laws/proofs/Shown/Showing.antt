@@ -24,6 +24,7 @@ use Rattle.mc_model.specs.World.{Seat, World, new_world, seat_of}
 use Rattle.mc_model.specs.Tick.{at_tick, awaiting, grown, is_silent, tick, tick_hands}
 use Rattle.mc_model.specs.Headline.{ShowsGame}
 use Rattle.mc_model.specs.Good.{GoodWorld, in_play as link_plays}
+use Rattle.mc_model.specs.Fitting.{Told}
 use Rattle.mc_model.proofs.Maps.Options.{none_some, not_both, some_is}
 use Rattle.mc_model.proofs.LastingKept.{since_known}
 use Rattle.mc_laws.proofs.Walk.Handings.{gone_closed, hand_cases}
@@ -37,7 +38,7 @@ use Rattle.mc_laws.proofs.Runs.OneSteps.{OneStep, comes, departs, goes, one_step
 use Rattle.mc_laws.proofs.Runs.OneSteps.{takes, ticks}
 use Rattle.mc_laws.proofs.Runs.Promises.{still_new}
 use Rattle.mc_laws.proofs.Runs.Worlds.{at_tick_world, new_good, step_good}
-use Rattle.mc_laws.proofs.Fits.Told.{Told, new_told}
+use Rattle.mc_laws.proofs.Fits.Told.{new_told}
 use Rattle.mc_laws.proofs.Fits.Sights.{kinds_of}
 use Rattle.mc_laws.proofs.Decoding.Streams.{has_stage}
 use Rattle.mc_laws.proofs.Shown.Later.{Later, at_tick_later, flushed_later, step_later}
@@ -99,7 +100,7 @@ tick_shows w k l ps s there = tick_cases w k l (TickShows w k ps) there
         (ps ++ map of_play (due (at_tick w).game (get w.shown k) p))
     shows p plays speaks =
         let open_ = ap is_closed (stage p plays) in
-        let later = at_tick_later w s.told in
+        let later = at_tick_later w s.good in
         subst (λ (o : Option Player). IsShown (shown_of w k o) l.stage
         (ps ++ map of_play (due (at_tick w).game (get w.shown k) p)))
         (sym (speaks_there w k l p there plays open_ speaks)) (record {
@@ -112,15 +113,15 @@ tick_shows w k l ps s there = tick_cases w k l (TickShows w k ps) there
         })
 
 -- what a tick shows is drawn of its game
-tick_drawn : (w : World) (k : ℕ) → GoodWorld w → Told w.game →
+tick_drawn : (w : World) (k : ℕ) → GoodWorld w →
     IsDrawn (tick w).world.game (get (tick w).world.shown k)
-tick_drawn w k good told = subst (IsDrawn (tick w).world.game) (sym (tick_shown w k))
+tick_drawn w k good = subst (IsDrawn (tick w).world.game) (sym (tick_shown w k))
     (at_player (get (at_tick w).game.players k))
   where
     at_player : (o : Option Player) → IsDrawn (tick w).world.game (shown_of w k o)
     at_player None = tt
     at_player (Some p) =
-        let here = (at_tick_later w told).told in
+        let here = (at_tick_later w good).told in
         let later = flushed_later w here in
         record {
           game = (at_tick w).game;
@@ -142,7 +143,7 @@ tick_next : (k : ℕ) (w : World) (ps : List Sent) → ShownWorld k w ps →
 tick_next k w ps s good told old = record {
   good = good;
   told = told;
-  drawn = tick_drawn w k s.good s.told;
+  drawn = tick_drawn w k s.good;
   shown = λ m there. at_link m (get w.links k) refl (sym (tick_link w k) ∙ there);
   early = λ new. let none : get w.links k ≡ None = s.good.fresh k (old new) in (
     ap (λ (qs : List Sent). ps ++ qs) (handed_none none) ∙ append-nil ps
