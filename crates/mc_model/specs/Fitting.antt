@@ -1,5 +1,5 @@
--- What is in a game so that packets can tell it: the states of cells, and entities of which each has
--- a place, a kind that is its own for good, and what the world holds. Rules of this project.
+-- What is in a game so that packets can tell it: the states of cells, and entities of which each
+-- has a place, a kind that is its own for good, and what the world holds. Rules of this project.
 use Rattle.std.specs.Prelude.{◌≡◌, ◌⊎◌, ◌<◌, ◌≤◌, ◌^◌, ℕ, List, Option, Some, None, unsigned_abs}
 use Rattle.std.specs.List.{AllByRecursion}
 use Rattle.std.specs.FinMap.{FinMap, get}

@@ -1,12 +1,12 @@
 -- A game stays good where another item lies under a number, or none any more, and weighs as much
 -- less as lay there, and as much more as lies there now.
-use Rattle.std.proofs.Common.{◌≡◌, ◌≢◌, ℕ, ◌+◌, ◌<◌, Bool, true, false, List, [], ◌∷◌, Some, None}
+use Rattle.std.proofs.Common.{◌≡◌, ◌≢◌, ℕ, true, false, List, Some}
 use Rattle.std.proofs.Common.{refl, sym, ap, ◌∙◌, inl, inr, arith}
-use Rattle.std.specs.Prelude.{Option, option_map}
+use Rattle.std.specs.Prelude.{option_map}
 use Rattle.std.proofs.lemmas.Bool.{cases_eq}
 use Rattle.std.specs.Ordering.{nat_cmp}
 use Rattle.std.specs.FinMap.{FinMap, get}
-use lib.IntN.{ℤ, pos}
+use lib.IntN.{pos}
 use Rattle.mc_slots.specs.declared.pile.Item.{Item}
 use Rattle.mc_slots.specs.declared.pile.Pile.{Pile}
 use Rattle.mc_slots.specs.declared.pile.Pile.TheVariants.{Empty, Full}
@@ -15,7 +15,7 @@ use Rattle.mc_windows.specs.Pack.{PackValue}
 use Rattle.mc_entities.specs.declared.entity.Entity.{Entity}
 use Rattle.mc_entities.specs.declared.entity.EntityKind.{EntityKind}
 use Rattle.mc_entities.specs.declared.entity.EntityKind.TheVariants as kinds
-use Rattle.mc_entities.specs.Numbers.{Rise, changed, numbered, without}
+use Rattle.mc_entities.specs.Numbers.{Rise, changed, numbered}
 use Rattle.mc_entities.specs.Folk.{eid_of}
 use Rattle.mc_model.specs.declared.player.Player.{Player}
 use Rattle.mc_model.specs.Balance.{lying, sort_of}

@@ -1,17 +1,16 @@
--- What players pick up changes entities and packs alone, keeps a game good and such that packets can
--- tell it, and makes and loses no item.
-use Rattle.std.proofs.Common.{◌≡◌, ◌≢◌, ℕ, ◌≤◌, Bool, true, false, List, [], ◌∷◌, Option, Some, None}
+-- What players pick up changes entities and packs alone, keeps a game good and such that packets
+-- can tell it, and makes and loses no item.
+use Rattle.std.proofs.Common.{◌≡◌, ◌≢◌, ℕ, Bool, true, false, List, [], ◌∷◌, Option, Some, None}
 use Rattle.std.proofs.Common.{refl, sym, subst, ap, ◌∙◌, arith}
 use Rattle.std.specs.Prelude.{◌&&◌, ◌<ℤ◌, nat_le, if◌then◌else◌, ◌+◌}
-use Rattle.std.specs.List.{AllByRecursion, cons_option, filter_map, fold}
+use Rattle.std.specs.List.{cons_option, filter_map, fold}
 use Rattle.std.specs.Ordering.{int_eq, nat_cmp}
 use Rattle.std.specs.FinMap.{FinMap, get}
-use Rattle.std.proofs.lemmas.Bool.Decides.{nat_tests, Decides-int_eq}
+use Rattle.std.proofs.lemmas.Bool.Decides.{Decides-int_eq}
 use Rattle.std.proofs.lemmas.Int.{ints}
 use lib.IntN.{ℤ, pos, negsuc}
 use lib.Signed.{◌≤ℤ◌}
 use Rattle.mc_fields.specs.declared.position.Spot.{Spot}
-use Rattle.mc_land.specs.Places.{key_cmp}
 use Rattle.mc_slots.specs.declared.pile.Item.{Item}
 use Rattle.mc_slots.specs.declared.pile.Pile.{Pile}
 use Rattle.mc_slots.specs.declared.pile.Pile.TheVariants.{Empty, Full}
@@ -28,7 +27,6 @@ use Rattle.mc_entities.specs.Numbers.{Rise, numbered}
 use Rattle.mc_entities.specs.Folk.{eid_of}
 use Rattle.mc_model.specs.declared.pickups.TheConstants.{PICKUP_TICKS}
 use Rattle.mc_model.specs.declared.player.Player.{Player}
-use Rattle.mc_model.specs.declared.settings.Settings.{Settings}
 use Rattle.mc_model.specs.Balance.{sort_of}
 use Rattle.mc_model.specs.Things.{holding, in_hand}
 use Rattle.mc_model.specs.Game.{Game, pack_of, spot_of}
@@ -39,8 +37,7 @@ use Rattle.mc_model.specs.Fitting.{EntityFits, GivenKinds, Told}
 use Rattle.mc_model.specs.Good.{Good}
 use Rattle.mc_model.proofs.Lasting.{Since}
 use Rattle.mc_model.proofs.LastingKept.{holding_steady, since_mapped, steady_at}
-use Rattle.mc_model.proofs.Maps.Entities.{other_eid, same_eid}
-use Rattle.mc_model.proofs.Maps.Options.{none_some}
+use Rattle.mc_model.proofs.Maps.Entities.{same_eid}
 use Rattle.mc_laws.proofs.Deeds.Goods.{repack_good}
 use Rattle.mc_laws.proofs.Deeds.Packs.{named_is_pack}
 use Rattle.mc_laws.proofs.Fits.Counted.{AreNoMore, changed_counts}

@@ -1,6 +1,6 @@
--- A game along a run: what it began with is the same, and each entity that stays is of the kind that
--- it was of.
-use Rattle.std.proofs.Common.{◌≡◌, ℕ, true, false, List, [], ◌∷◌, Some, refl, sym, subst, ◌∙◌}
+-- A game along a run: what it began with is the same, and each entity that stays is of the kind
+-- that it was of.
+use Rattle.std.proofs.Common.{◌≡◌, ℕ, true, false, List, [], ◌∷◌, refl, sym, subst, ◌∙◌}
 use Rattle.std.specs.Prelude.{Bool, if◌then◌else◌}
 use Rattle.std.specs.FinMap.{get}
 use Rattle.mc_model.specs.declared.stage.Stage.{Stage}
@@ -18,7 +18,7 @@ use Rattle.mc_model.proofs.Lasting.{Since}
 use Rattle.mc_model.proofs.LastingKept.{since_filtered, since_more}
 use Rattle.mc_laws.proofs.Deeds.Leaving.{leave_all_stays, leave_cases, leave_stays}
 use Rattle.mc_laws.proofs.Acts.ActOn.{act_on}
-use Rattle.mc_laws.proofs.Walk.Moves.{Kept, OutMove, Walked, answers, closes, comes_in, does, keeps}
+use Rattle.mc_laws.proofs.Walk.Moves.{Kept, Walked, answers, closes, comes_in, does, keeps}
 use Rattle.mc_laws.proofs.Walk.Moves.{shakes, walked_keeps}
 use Rattle.mc_laws.proofs.Walk.Steps.{Move, departs, forgets, joins, passes, rests, sits}
 use Rattle.mc_laws.proofs.Walk.Steps.{step_moves, takes}
