@@ -37,6 +37,7 @@ pub mod Turns
 pub mod Decoding
 pub mod Balance
 pub mod Serving
+pub mod Fitting
 pub mod Good
 pub mod Causes
 pub mod Apart

@@ -1,6 +1,6 @@
--- A tick: the game is a tick older, those that are silent leave, players pick up what lies near them,
--- and every client in play is shown one and the same game. Rules of this project; that a client answers beats is of the page
--- 'Protocol' of wiki.vg for protocol 47, Keep Alive.
+-- A tick: the game is a tick older, those that are silent leave, players pick up what lies near
+-- them, and every client in play is shown one and the same game. Rules of this project; that a
+-- client answers beats is of the page 'Protocol' of wiki.vg for protocol 47, Keep Alive.
 use Rattle.std.specs.Prelude.{ℕ, ◌+◌, ◌&&◌, not, nat_le, Bool, List, [], ◌++◌, map, Option, Some}
 use Rattle.std.specs.Prelude.{None, if◌then◌else◌}
 use Rattle.std.specs.FinMap.{entries, get}
