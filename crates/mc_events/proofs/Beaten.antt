@@ -1,11 +1,11 @@
 -- The server after a beat stands for the world of the tick.
 use Rattle.std.proofs.Common.{◌≡◌, ℕ, ◌+◌, Bool, true, false, List, refl, sym, subst, ap, ◌∙◌, inl}
-use Rattle.std.proofs.Common.{inr, ◌<◌, arith}
+use Rattle.std.proofs.Common.{inr, ◌<◌, arith, map}
 use Rattle.std.proofs.lemmas.Bool.Decides.{nat_tests}
 use Rattle.std.specs.Prelude.{◌⊎◌, Option, Some, None, is_some, option_map}
 use Rattle.std.specs.List.{filter}
 use Rattle.std.specs.Ordering.{nat_cmp}
-use Rattle.std.specs.FinMap.{FinMap, get, keys}
+use Rattle.std.specs.FinMap.{FinMap, from_entries, get, keys, values}
 use Rattle.mc_flush.specs.Seeing.{MarkValue, Parts, StandsFor}
 use Rattle.mc_model.specs.Sight.{Sight, nothing_seen}
 use Rattle.mc_model.specs.Ticks.{older}
@@ -16,9 +16,11 @@ use Rattle.mc_model.specs.Good.{Good, GoodWorld, in_play}
 use Rattle.mc_model.specs.Leaving.{leave_all}
 use Rattle.mc_model.specs.Link.{Handing, Link}
 use Rattle.mc_model.specs.Showing.{last_shown}
+use Rattle.mc_model.specs.Pickups.{pickups}
 use Rattle.mc_model.specs.Tick.{aged, at_tick, beat, beat_of, grown}
 use Rattle.mc_model.specs.World.{Unread, World, each, is_closing, unread_of}
 use Rattle.mc_laws.proofs.Deeds.Leaving.{leave_all_stays}
+use Rattle.mc_laws.proofs.Pickups.Picking.{pickups_leave}
 use Rattle.mc_laws.proofs.Runs.Worlds.{at_tick_world}
 use Rattle.mc_laws.proofs.Walk.Each.{beat_stage, each_links}
 use Rattle.mc_laws.proofs.Walk.Handings.{not_in_play}
@@ -176,15 +178,22 @@ bare_at_tick w bare k l there waits open_ =
             let at : y.stage ≡ l.stage = sym stage ∙ ap (λ (z : Link). z.stage) same in
             bare k y is (ap is_play at ∙ waits) (ap is_closed at ∙ open_)
 
--- The beat came to each connection, and then those leave that are closed.
-module _ (old new : ServerValue) (w : World) (s : StandsAmid old w) (ids : List ℕ)
+-- those that pick up are listed as they were
+pairs_kept : (g : Game) → pairs_of (pickups g) ≡ pairs_of g
+pairs_kept g = ap (λ (players : FinMap nat_cmp Player).
+    from_entries {R = nat_cmp} (map (λ (p : Player). (p.uuid, p.name)) (values players)))
+    (pickups_leave g).players
+
+-- The beat came to each connection, then those leave that are closed, and all others pick up what
+-- they can.
+module _ (old new : ServerValue) (left_ : Game) (w : World) (s : StandsAmid old w) (ids : List ℕ)
     (are : ids ≡ keys new.connections)
     (beaten : Each (λ (k : ℕ). IsBeaten (grown old.game.game)) old.connections new.connections)
-    (game : new.game.game
-    ≡ leave_all (filter (is_shut_in new.connections) ids) (grown old.game.game))
+    (leaves : left_ ≡ leave_all (filter (is_shut_in new.connections) ids) (grown old.game.game))
+    (game : new.game.game ≡ pickups left_)
     (settled : new.game.settled ≡ old.game.settled)
     (listed : Good (grown old.game.game) → old.list.present ≡ pairs_of (grown old.game.game) →
-    new.list.present ≡ pairs_of new.game.game)
+    new.list.present ≡ pairs_of left_)
     (before : new.list.last ≡ old.list.last) (last : new.last ≡ old.last)
     (failed : new.failed ≡ old.failed) where
   abbrev f : ℕ → Link → Handing
@@ -193,7 +202,8 @@ module _ (old new : ServerValue) (w : World) (s : StandsAmid old w) (ids : List 
   parts_same : shown_parts old ≡ shown_parts new
   parts_same =
       let stays = leave_all_stays (filter (is_shut_in new.connections) ids) (grown old.game.game) in
-      let settings = ap (λ (g : Game). g.settings) game ∙ stays.settings in
+      let settings = ap (λ (g : Game). g.settings) game ∙ (pickups_leave left_).settings
+      ∙ ap (λ (g : Game). g.settings) leaves ∙ stays.settings in
       sym (λ i. record {
         players = before i;
         terrain = (settings i).terrain;
@@ -218,11 +228,11 @@ module _ (old new : ServerValue) (w : World) (s : StandsAmid old w) (ids : List 
       mapped (Some l) = refl
 
   game_is : new.game.game ≡ (at_tick w).game
-  game_is = game
+  game_is = game ∙ ap pickups (leaves
       ∙ ap (λ (g : Game). leave_all (filter (is_shut_in new.connections) ids) (grown g)) s.game
       ∙ dismissed_each f (aged w) new.connections ids are
       (λ k. shut_alike (shown_parts old) k (unread_of k w) (get w.shown k) f
-      (get new.connections k) (get w.links k) (at k)) there s.good.plays
+      (get new.connections k) (get w.links k) (at k)) there s.good.plays)
 
   pub beaten_stands : StandsAmid new (at_tick w)
   unfolding each
@@ -231,7 +241,8 @@ module _ (old new : ServerValue) (w : World) (s : StandsAmid old w) (ids : List 
     game = game_is;
     last = last ∙ s.last ∙ sym (at_tick_last w);
     listed = listed (subst (λ (g : Game). Good (grown g)) (sym s.game) s.good.game)
-        (s.listed ∙ ap pairs_of (sym s.game)) ∙ ap pairs_of game_is;
+        (s.listed ∙ ap pairs_of (sym s.game)) ∙ sym (pairs_kept left_)
+        ∙ ap pairs_of (sym game ∙ game_is);
     each = λ k.
         let P : Option Sight → Option Link → Type 0 = λ o m.
         Pair (shown_parts new) k (unread_of k (at_tick w)) o (get new.connections k) m in
@@ -249,10 +260,12 @@ module _ (old new : ServerValue) (w : World) (s : StandsAmid old w) (ids : List 
           (get new.connections k) (option_map (λ (l : Link). (f k l).link) (get w.links k)))
           parts_same (at k)
 
--- those that leave change no age
-pub grown_age : (cs : FinMap nat_cmp ConnectionValue) (ids : List ℕ) (g h : Game) → h ≡ grown g →
-    g.age < 1000000000 → (dismissed cs ids h).age ≡ g.age + 1
-grown_age cs ids g h is young = (leave_all_stays (filter (is_shut_in cs) ids) h).age
+-- neither those that leave nor those that pick up change the age
+pub grown_age : (cs : FinMap nat_cmp ConnectionValue) (ids : List ℕ) (g h left_ : Game) →
+    h ≡ grown g → left_ ≡ dismissed cs ids h → g.age < 1000000000 →
+    (pickups left_).age ≡ g.age + 1
+grown_age cs ids g h left_ is leaves young = (pickups_leave left_).age
+    ∙ ap (λ (x : Game). x.age) leaves ∙ (leave_all_stays (filter (is_shut_in cs) ids) h).age
     ∙ ap (λ (x : Game). x.age) is ∙ within g.age young
   where
     within : (n : ℕ) → n < 1000000000 → older n ≡ n + 1

@@ -14,12 +14,13 @@ use Rattle.mc_model.specs.Apart.{IsOf, OnlySender}
 use Rattle.mc_model.specs.Good.{GoodWorld}
 use Rattle.mc_model.specs.Headline.{Between}
 use Rattle.mc_model.specs.Link.{Link}
-use Rattle.mc_model.specs.Tick.{aged, at_tick, beat, flush, grown, shown_all}
+use Rattle.mc_model.specs.Tick.{aged, at_tick, beat, beats, flush, grown, shown_all}
 use Rattle.mc_model.specs.World.{Outcome, World, new_world, seat_of}
 use Rattle.mc_laws.proofs.Apart.Senders.{only_sender}
 use Rattle.mc_laws.proofs.Decoding.Worlds.{IsEvent, SoundWorld, new_world_sound, run_sound}
 use Rattle.mc_laws.proofs.Headline.Between.{between}
 use Rattle.mc_laws.proofs.Headline.Promise.{closing_of}
+use Rattle.mc_laws.proofs.Pickups.Picking.{pickups_leave}
 use Rattle.mc_laws.proofs.Runs.Seats.{departed_seat}
 use Rattle.mc_laws.proofs.Runs.Worlds.{always_good, first_seat, walked_seat}
 use Rattle.mc_laws.proofs.Walk.Each.{each_stays}
@@ -101,6 +102,7 @@ moves_settings w o (forgets k l there done is) a =
 moves_settings w o (passes is) a = ap (λ (x : Outcome). x.world.game.settings) is
     ∙ (each_stays (λ (k : ℕ) (l : Link). flush (at_tick w).game (get (at_tick w).shown k) k l)
     (shown_all (at_tick w))).settings
+    ∙ (pickups_leave (beats (aged w)).game).settings
     ∙ (each_stays (λ (k : ℕ) (l : Link). beat (grown w.game) (get w.shown k) k l)
     (aged w)).settings
 

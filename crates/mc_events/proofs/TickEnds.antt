@@ -8,8 +8,9 @@ use Rattle.mc_model.specs.Step.{Event, joined, came, left, broke, ticked, took, 
 use Rattle.mc_model.specs.Game.{AreSettings}
 use Rattle.mc_model.specs.declared.settings.Settings.{Settings}
 use Rattle.mc_model.specs.Link.{Link}
-use Rattle.mc_model.specs.Tick.{aged, at_tick, beat, flush, flushed, shown_all}
+use Rattle.mc_model.specs.Tick.{aged, at_tick, beat, beats, flush, flushed, shown_all}
 use Rattle.mc_model.specs.World.{World, new_world}
+use Rattle.mc_laws.proofs.Pickups.Picking.{pickups_leave}
 use Rattle.mc_laws.proofs.Runs.Worlds.{always_good}
 use Rattle.mc_laws.proofs.Shown.Showing.{shown_world}
 use Rattle.mc_laws.proofs.Walk.Each.{each_stays}
@@ -53,6 +54,7 @@ tick_settings : (w : World) → (flushed (at_tick w)).game.settings ≡ w.game.s
 tick_settings w =
     (each_stays (λ (k : ℕ) (l : Link). flush (at_tick w).game (get (at_tick w).shown k) k l)
     (shown_all (at_tick w))).settings
+    ∙ (pickups_leave (beats (aged w)).game).settings
     ∙ (each_stays (λ (k : ℕ) (l : Link). beat (aged w).game (get w.shown k) k l)
     (aged w)).settings
 

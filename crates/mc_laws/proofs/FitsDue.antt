@@ -20,6 +20,7 @@ use Rattle.mc_model.specs.Delta.{is_same_slot, entity_packets, pile_packets, mov
 use Rattle.mc_model.specs.Delta.{beat_point, time_point, entities_point, pack_point, delta}
 use Rattle.mc_model.specs.Delta.{chat_packet, chat_point}
 use Rattle.mc_model.specs.Opening.{placing}
+use Rattle.mc_model.specs.Fitting.{SpotFits}
 use Rattle.mc_model.proofs.Decodes.{IsClear}
 use Rattle.mc_model.proofs.AllFacts.{all_joined, all_dropped, all_mapped, all_filtered}
 use Rattle.mc_model.proofs.AllFacts.{few_filtered, all_flat}
@@ -32,7 +33,6 @@ use Rattle.mc_model.proofs.FitsEntities.{destroying_clear, pile_slot_clear}
 use Rattle.mc_model.proofs.FitsDue.{beats_clear, column_clear, slots_clear, times_clear}
 use Rattle.mc_laws.proofs.FitsEntities.{spawn_clear}
 use Rattle.mc_laws.proofs.FitsMoves.{moves_clear}
-use Rattle.mc_laws.proofs.ThingsFit.{SpotFits}
 use Rattle.mc_laws.proofs.FitsSight.{SeenFits, SightFits}
 
 -- ---- the difference

@@ -7,12 +7,12 @@ use Rattle.mc_slots.specs.declared.slot.Slot.{Slot}
 use Rattle.mc_model.specs.declared.seen.SeenKind.{SeenKind}
 use Rattle.mc_model.specs.declared.seen.SeenKind.TheVariants as seen_kinds
 use Rattle.mc_model.specs.Delta.{id_in_hand, spawn_as}
+use Rattle.mc_model.specs.Fitting.{SpotFits}
 use Rattle.mc_model.proofs.FitsList.{AreClear}
 use Rattle.mc_model.proofs.FitsSlots.{SlotFits}
 use Rattle.mc_model.proofs.FitsMoves.{head_clear}
 use Rattle.mc_model.proofs.FitsEntities.{KindFits, hand_clear, hand_fits, lying_clear, object_clear}
 use Rattle.mc_model.proofs.FitsEntities.{player_clear}
-use Rattle.mc_laws.proofs.ThingsFit.{SpotFits}
 use Rattle.mc_laws.proofs.FitsMoves.{east_fits, up_fits, south_fits}
 
 -- whatever it is

@@ -9,6 +9,7 @@ use Rattle.mc_packets.specs.declared.down.Down.TheVariants.{Teleport}
 use Rattle.mc_view.specs.Forms.{form_by, moves_of}
 use Rattle.mc_model.specs.Packets.{of_play, for_play}
 use Rattle.mc_model.specs.Delta.{move_packets, moves_packets}
+use Rattle.mc_model.specs.Fitting.{SpotFits}
 use Rattle.mc_model.proofs.Decodes.{IsClear}
 use Rattle.mc_model.proofs.AllFacts.{all_joined}
 use Rattle.mc_model.proofs.FitsText.{both_true}
@@ -16,7 +17,6 @@ use Rattle.mc_model.proofs.FitsSize.{number_fits}
 use Rattle.mc_model.proofs.FitsList.{AreClear}
 use Rattle.mc_model.proofs.FitsMoves.{head_clear, jump_clear, look_clear, step_clear, step_fits}
 use Rattle.mc_model.proofs.FitsMoves.{step_look_clear}
-use Rattle.mc_laws.proofs.ThingsFit.{SpotFits}
 
 -- ---- the numbers of a spot fit their fields
 

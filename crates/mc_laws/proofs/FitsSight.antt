@@ -23,13 +23,13 @@ use Rattle.mc_windows.specs.Pack.{pack_size}
 use Rattle.mc_view.specs.declared.view_set.TheConstants.{MIDDLE_BORDER}
 use Rattle.mc_view.specs.Views.{view_size}
 use Rattle.mc_model.specs.Sight.{Seen, Sight, nothing_seen}
+use Rattle.mc_model.specs.Fitting.{SpotFits}
 use Rattle.mc_model.proofs.FitsBeats.{ToldFits}
 use Rattle.mc_model.proofs.FitsChat.{LineFits}
 use Rattle.mc_model.proofs.FitsList.{PairFits}
 use Rattle.mc_model.proofs.FitsChunk.{ColumnFits}
 use Rattle.mc_model.proofs.FitsSlots.{SlotFits, pile_slot_fits}
 use Rattle.mc_model.proofs.FitsEntities.{KindFits}
-use Rattle.mc_laws.proofs.ThingsFit.{SpotFits}
 
 -- ---- the entries of a map that was made of a list
 

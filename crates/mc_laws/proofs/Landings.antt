@@ -8,8 +8,8 @@ use lib.IntN.{ℤ, pos}
 use Rattle.mc_fields.specs.declared.position.Spot.{Spot}
 use Rattle.mc_model.specs.Numbers.{fixed_of, turn_of}
 use Rattle.mc_model.specs.Movement.{both, moved, turned}
+use Rattle.mc_model.specs.Fitting.{SpotFits}
 use Rattle.mc_model.proofs.ThingFacts.{rest_below}
-use Rattle.mc_laws.proofs.ThingsFit.{SpotFits}
 
 -- ---- turns
 

@@ -29,6 +29,7 @@ pub mod FitsUuid
 pub mod Apart
 pub mod Cutting
 pub mod Fits
+pub mod Pickups
 pub mod Decoding
 pub mod Headline
 pub mod Shown

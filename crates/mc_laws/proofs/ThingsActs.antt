@@ -12,8 +12,8 @@ use Rattle.mc_land.specs.Places.{is_height, is_within_border}
 use Rattle.mc_model.specs.Reach.{is_in_world}
 use Rattle.mc_model.specs.Digging.{floor_of}
 use Rattle.mc_model.specs.Placing.{item_state}
+use Rattle.mc_model.specs.Fitting.{IsState, SpotFits}
 use Rattle.mc_model.proofs.FitsText.{both_true}
-use Rattle.mc_laws.proofs.ThingsFit.{SpotFits, IsState}
 
 -- what an item makes is a state
 pub item_state_is : (item : Item) → IsItem item → IsState (item_state item)

@@ -1,51 +1,17 @@
--- What is in a world so that packets can tell it.
-use Rattle.std.proofs.Common.{◌≡◌, ℕ, ◌^◌, ◌<◌, ◌≤◌, ◌/◌, true, false, refl, sym, ap, ◌∙◌, inl, inr}
-use Rattle.std.proofs.Common.{arith}
-use Rattle.std.specs.Prelude.{◌⊎◌, unsigned_abs, not, ◌==◌}
+-- What packets can tell: what is noted for a client, where players enter, air, and what is dug.
+use Rattle.std.proofs.Common.{◌≡◌, ℕ, ◌/◌, true, false, refl, sym, ap, ◌∙◌, inl, inr, arith}
+use Rattle.std.specs.Prelude.{not, ◌==◌}
 use Rattle.std.proofs.lemmas.Int.{ints}
-use lib.IntN.{pos}
-use lib.Signed.{◌≤ℤ◌}
-use Rattle.mc_fields.specs.declared.position.Spot.{Spot}
 use Rattle.mc_slots.specs.Pile.{IsItem}
 use Rattle.mc_land.specs.declared.terrain.Terrain.{Terrain}
-use Rattle.mc_entities.specs.declared.entity.Entity.{Entity}
-use Rattle.mc_entities.specs.declared.entity.EntityKind.{EntityKind}
-use Rattle.mc_entities.specs.declared.entity.EntityKind.TheVariants as kinds
-use Rattle.mc_entities.specs.Kinds.{IsKind}
 use Rattle.mc_model.specs.declared.notes.Notes.{Notes}
 use Rattle.mc_model.specs.declared.player.Player.{Player}
 use Rattle.mc_model.specs.Notes.{no_notes}
 use Rattle.mc_model.specs.Spots.{spawn_spot}
 use Rattle.mc_model.specs.Digging.{is_dug, block_item}
+use Rattle.mc_model.specs.Fitting.{IsState, SpotFits}
 use Rattle.mc_model.proofs.FitsText.{IsShort, both_true}
 use Rattle.mc_model.proofs.ThingFacts.{spawn_low}
-
--- where an entity is: a dropped item may lie half a block out of the range of players
-pub record SpotFits (spot : Spot) : Type 0 where
-  pub x : unsigned_abs spot.x ≤ 960000016
-  pub y : unsigned_abs spot.y ≤ 131072
-  pub z : unsigned_abs spot.z ≤ 960000016
-  pub yaw : spot.yaw < 256
-  pub pitch : spot.pitch < 256
-
--- a player has an identifier of 128 bits
-abbrev pub KindIsNamed : EntityKind → Type 0
-KindIsNamed (kinds.Player uuid held) = uuid < 2 ^ 128
-KindIsNamed (kinds.Dropped item born) = Unit {0}
-KindIsNamed kinds.Mob = Unit {0}
-
--- an entity of a number that was given, with what the world holds
-pub record EntityFits (e : Entity) : Type 0 where
-  pub low : pos 1 ≤ℤ e.eid
-  pub high : e.eid ≤ℤ pos 2147483647
-  pub spot : SpotFits e.spot
-  pub kind : IsKind e.kind
-  pub named : KindIsNamed e.kind
-
--- a state of 12 bits, of air or of an id from 1 on
-pub record IsState (state : ℕ) : Type 0 where
-  pub small : state < 4096
-  pub whole : (state ≡ 0) ⊎ (16 ≤ state)
 
 -- What is noted for a client, so that packets can tell it. So far they can tell whatever is noted,
 -- since a cell without a position is not sent. What is asked of a field of `Notes` is part of this.

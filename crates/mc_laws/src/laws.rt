@@ -19,8 +19,8 @@ ghost use Rattle.mc_model.specs.World.{World, new_world};
 ghost use Rattle.mc_model.specs.declared.seen.TheConstants.{DESTROYED_MAX};
 
 /// Along every run each player is one entity, which holds what its pack has at its hand; numbers
-/// and identifiers are of one player each; packs are of what a world holds; and there are players
-/// exactly for the connections in play.
+/// and identifiers are of one player each; packs are of what a world holds; packets can tell what
+/// is in the game; and there are players exactly for the connections in play.
 pub fn worlds_stay_good()
     ensures { (settings : Begun) (events : List Event) →
         GoodWorld (history (new_world settings) events) }

@@ -10,13 +10,15 @@ use Rattle.std.proofs.lemmas.Bool.Decides.{nat_tests}
 use lib.IntN.{ℤ, pos}
 use lib.Signed.{◌≤ℤ◌}
 use Rattle.mc_fields.specs.declared.position.Spot.{Spot}
+use Rattle.mc_slots.specs.declared.pile.Item.{Item}
 use Rattle.mc_slots.specs.declared.pile.Pile.{Pile}
 use Rattle.mc_entities.specs.declared.entity.Entity.{Entity}
 use Rattle.mc_entities.specs.declared.entity.EntityKind.{EntityKind}
 use Rattle.mc_model.specs.declared.seen.SeenKind.{SeenKind}
-use Rattle.mc_model.specs.Things.{standing, hand_of, holding}
+use Rattle.mc_model.specs.Things.{standing, hand_of, holding, kind_of_item, lying_as}
+use Rattle.mc_model.specs.Fitting.{GivenKinds, HasKind, HaveKinds, kind_seen}
 use Rattle.mc_model.proofs.AllFacts.{all_joined, all_mapped, all_filtered}
-use Rattle.mc_model.proofs.Lasting.{kind_seen, GivenKinds, HasKind, IsSince, Since, HaveKinds}
+use Rattle.mc_model.proofs.Lasting.{IsSince, Since}
 use Rattle.mc_model.proofs.Lasting.{IsSteady}
 
 -- ---- changes that are steady
@@ -32,6 +34,14 @@ hand_seen pile kind = grind (arith, nat_tests)
 -- one that holds another pile
 pub holding_steady : (pile : Pile) → IsSteady (holding pile)
 holding_steady pile = record { eid = λ e. refl; kind = λ e. hand_seen pile e.kind }
+
+-- one that is another item
+item_seen : (item : Item) (kind : EntityKind) →
+    kind_seen (kind_of_item item kind) ≡ kind_seen kind
+item_seen item kind = grind (arith, nat_tests)
+
+pub lying_steady : (item : Item) → IsSteady (lying_as item)
+lying_steady item = record { eid = λ e. refl; kind = λ e. item_seen item e.kind }
 
 -- of one number alone
 pub steady_at : (eid : ℕ) (f : Entity → Entity) → IsSteady f →

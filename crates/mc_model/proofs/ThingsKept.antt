@@ -12,7 +12,8 @@ use Rattle.mc_entities.specs.Folk.{dropped_in, eid_of}
 use Rattle.mc_model.specs.declared.seen.SeenKind.{SeenKind}
 use Rattle.mc_model.specs.declared.seen.SeenKind.TheVariants as seen_kinds
 use Rattle.mc_model.specs.Things.{holding}
-use Rattle.mc_model.proofs.Lasting.{kind_seen, IsSteady}
+use Rattle.mc_model.specs.Fitting.{kind_seen}
+use Rattle.mc_model.proofs.Lasting.{IsSteady}
 use Rattle.mc_model.proofs.LastingKept.{holding_steady, steady_at}
 
 -- ---- how many dropped items there are

@@ -2,10 +2,12 @@
 -- game, but a tick that passes (`Tick`). Rules of this project.
 use Rattle.std.specs.Prelude.{ℕ, ◌+◌, List, [], ◌∷◌, ◌++◌, length, unsigned_abs}
 use Rattle.std.specs.FinMap.{insert, remove}
-use lib.IntN.{pos}
+use lib.IntN.{ℤ, pos}
 use Rattle.mc_fields.specs.declared.position.Cell.{Cell}
 use Rattle.mc_fields.specs.declared.position.Spot.{Spot}
 use Rattle.mc_slots.specs.declared.pile.Item.{Item}
+use Rattle.mc_slots.specs.declared.pile.Pile.{Pile}
+use Rattle.mc_slots.specs.declared.pile.Pile.TheVariants.{Empty, Full}
 use Rattle.mc_land.specs.Land.{edited}
 use Rattle.mc_land.specs.Places.{key_of}
 use Rattle.mc_windows.specs.Pack.{PackValue}
@@ -17,7 +19,7 @@ use Rattle.mc_model.specs.declared.notes.Notes.{Notes}
 use Rattle.mc_model.specs.declared.player.Player.{Player}
 use Rattle.mc_model.specs.Names.{offline_uuid}
 use Rattle.mc_model.specs.Notes.{no_notes}
-use Rattle.mc_model.specs.Things.{in_hand, holding, standing}
+use Rattle.mc_model.specs.Things.{in_hand, holding, lying_as, standing}
 use Rattle.mc_model.specs.Spots.{spawn_spot}
 use Rattle.mc_model.specs.Maps.{modify}
 use Rattle.mc_model.specs.Game.{Game, pack_named, pack_of}
@@ -65,6 +67,12 @@ spawned kind spot g = record g {
 -- an item lies at a spot
 abbrev pub thrown : Item → Spot → Game → Game
 thrown item spot g = spawned (kinds.Dropped item g.age) spot g
+
+-- what lies under a number is so much from now on; it goes where that is nothing
+abbrev pub lessened : ℤ → Pile → Game → Game
+lessened eid Empty g = record g { entities = without eid_of eid g.entities }
+lessened eid (Full item) g =
+    record g { entities = changed eid_of eid (lying_as item) g.entities }
 
 -- a cell that is inside the world has a state
 abbrev pub with_state : Cell → ℕ → Game → Game

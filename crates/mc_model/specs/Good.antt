@@ -19,6 +19,7 @@ use Rattle.mc_model.specs.Things.{in_hand}
 use Rattle.mc_model.specs.Stages.{is_play}
 use Rattle.mc_model.specs.Maps.{name_cmp}
 use Rattle.mc_model.specs.Game.{Game}
+use Rattle.mc_model.specs.Fitting.{Told}
 use Rattle.mc_model.specs.Link.{Link}
 use Rattle.mc_model.specs.World.{World}
 
@@ -85,9 +86,10 @@ abbrev pub in_play : Option Link → Bool
 in_play None = false
 in_play (Some l) = is_play l.stage
 
--- A game is good, it has players exactly for the connections in play, and no connection has a
--- number that may join next.
+-- A game is good, and packets can tell what is in it; it has players exactly for the connections in
+-- play, and no connection has a number that may join next.
 pub record GoodWorld (w : World) : Type 0 where
   pub game : Good w.game
+  pub told : Told w.game
   pub plays : (k : ℕ) → is_some (get w.game.players k) ≡ in_play (get w.links k)
   pub fresh : (k : ℕ) → is_new k w.last ≡ true → get w.links k ≡ None

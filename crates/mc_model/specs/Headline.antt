@@ -179,7 +179,8 @@ pub record Headline (settings : Settings) (log : List Event) : Type 0 where
       (stream k (new_world settings) events) (handed k (new_world settings) events)
   -- At each moment there are players exactly for the connections in play, and no connection has a
   -- number that may join next. Each player is one entity, which has its number and its identifier
-  -- and holds what its pack has at its hand; and each entity of a player is of one in play.
+  -- and holds what its pack has at its hand; and each entity of a player is of one in play. Packets
+  -- can tell what is in the game.
   pub good : (events later : List Event) → log ≡ events ++ later →
       GoodWorld (history (new_world settings) events)
   -- the bytes that a client took are the first ones of those that it was handed, and no others are

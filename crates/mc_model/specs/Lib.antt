@@ -19,6 +19,7 @@ pub mod Placing
 pub mod Digging
 pub mod Texts
 pub mod Chat
+pub mod Pickups
 pub mod Movement
 pub mod Acts
 pub mod Talk
@@ -36,6 +37,7 @@ pub mod Turns
 pub mod Decoding
 pub mod Balance
 pub mod Serving
+pub mod Fitting
 pub mod Good
 pub mod Causes
 pub mod Apart

@@ -4,6 +4,7 @@ use Rattle.std.specs.Prelude.{ℕ, ◌+◌, nat_lt, slice_set, if◌then◌else�
 use Rattle.std.specs.FinMap.{FinMap}
 use lib.IntN.{ℤ, pos, negsuc}
 use Rattle.mc_fields.specs.declared.position.Spot.{Spot}
+use Rattle.mc_slots.specs.declared.pile.Item.{Item}
 use Rattle.mc_slots.specs.declared.pile.Pile.{Pile}
 use Rattle.mc_slots.specs.Chest.{pile_at}
 use Rattle.mc_land.specs.declared.terrain.Terrain.{Terrain}
@@ -37,6 +38,15 @@ hand_of pile kinds.Mob = kinds.Mob
 
 abbrev pub holding : Pile → Entity → Entity
 holding pile e = record e { kind = hand_of pile e.kind }
+
+-- what lies there is another item, which was dropped when the first was
+abbrev pub kind_of_item : Item → EntityKind → EntityKind
+kind_of_item item (kinds.Player uuid held) = kinds.Player uuid held
+kind_of_item item (kinds.Dropped old born) = kinds.Dropped item born
+kind_of_item item kinds.Mob = kinds.Mob
+
+abbrev pub lying_as : Item → Entity → Entity
+lying_as item e = record e { kind = kind_of_item item e.kind }
 
 -- ---- hands
 

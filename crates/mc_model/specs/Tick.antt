@@ -1,6 +1,6 @@
--- A tick: the game is a tick older, those that are silent leave, and every client in play is shown
--- one and the same game. Rules of this project; that a client answers beats is of the page
--- 'Protocol' of wiki.vg for protocol 47, Keep Alive.
+-- A tick: the game is a tick older, those that are silent leave, players pick up what lies near
+-- them, and every client in play is shown one and the same game. Rules of this project; that a
+-- client answers beats is of the page 'Protocol' of wiki.vg for protocol 47, Keep Alive.
 use Rattle.std.specs.Prelude.{ℕ, ◌+◌, ◌&&◌, not, nat_le, Bool, List, [], ◌++◌, map, Option, Some}
 use Rattle.std.specs.Prelude.{None, if◌then◌else◌}
 use Rattle.std.specs.FinMap.{entries, get}
@@ -17,6 +17,7 @@ use Rattle.mc_model.specs.Ticks.{beat_at, older}
 use Rattle.mc_model.specs.Maps.{map_keyed}
 use Rattle.mc_model.specs.Game.{Game}
 use Rattle.mc_model.specs.Link.{Handing, Link, disconnect, hand, quiet}
+use Rattle.mc_model.specs.Pickups.{pickups}
 use Rattle.mc_model.specs.Showing.{due, last_shown, sight_of}
 use Rattle.mc_model.specs.World.{Outcome, World, each}
 
@@ -56,9 +57,14 @@ grown g = record g { age = older g.age }
 abbrev pub aged : World → World
 aged w = record w { game = grown w.game }
 
--- the world of a tick, as all clients are shown it: those that were silent for too long are gone
+-- players pick up what lies near them
+abbrev pub picking : World → World
+picking w = record w { game = pickups w.game }
+
+-- the world of a tick, as all clients are shown it: those that were silent for too long are gone,
+-- and all others have picked up what they could
 abbrev pub at_tick : World → World
-at_tick w = beats (aged w)
+at_tick w = picking (beats (aged w))
 
 -- ---- showing it
 

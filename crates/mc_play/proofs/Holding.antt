@@ -32,7 +32,7 @@ changed_none n f [] none = refl
 changed_none n f (x ∷ es) none = grind (arith, nat_tests, changed_none n f es)
 
 -- all stay as they are that are put as they are
-changed_same : (n : ℤ) (es : List Entity) → changed eid_of n (λ e. e) es ≡ es
+pub changed_same : (n : ℤ) (es : List Entity) → changed eid_of n (λ e. e) es ≡ es
 changed_same n [] = refl
 changed_same n (x ∷ es) = grind (arith, nat_tests, changed_same n es)
 

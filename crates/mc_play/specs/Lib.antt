@@ -3,3 +3,4 @@ pub mod Admitting
 pub mod Codes
 pub mod Kept
 pub mod Named
+pub mod Picking

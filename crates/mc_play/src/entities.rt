@@ -2,13 +2,14 @@ ghost use Rattle.std.specs.Prelude.{◌≡◌, ◌≤◌, ◌<◌, ◌+◌, None
 ghost use Rattle.std.specs.Prelude.{true};
 ghost use lib.IntN.{pos};
 ghost use Rattle.mc_slots.specs.Pile.{IsItem, IsPile};
+ghost use Rattle.mc_slots.specs.declared.pile.Item as items;
 ghost use Rattle.mc_slots.specs.declared.pile.Pile as piles;
 ghost use Rattle.mc_entities.specs.declared.entity.EntityKind.TheVariants as kinds;
 ghost use Rattle.mc_entities.specs.declared.entity.TheConstants.{EID_MAX};
 ghost use Rattle.mc_entities.specs.Folk.{entity_of, new_state, placed, removed, room_of, settled};
 ghost use Rattle.mc_entities.specs.Folk.{spawned, with_entity, with_kind};
 ghost use Rattle.mc_entities.specs.Kinds.{are_alike};
-ghost use Rattle.mc_model.specs.Things.{holding};
+ghost use Rattle.mc_model.specs.Things.{holding, lying_as};
 ghost use Rattle.mc_model.specs.Spots.{spot_in};
 ghost use Rattle.mc_play.specs.Kept.{AreNear, IsNear};
 
@@ -141,11 +142,29 @@ impl Entities {
         }
     }
 
-    /// Takes the one of a number out.
+    /// Takes the player of a number out.
     pub fn remove(&mut self, eid: Eid)
         ensures { self.new.state ≡ removed (pos eid) self.old.state }
     {
-        let _gone = self.folk.remove(eid.number());
+        self.take_away(eid.number());
+    }
+
+    /// Takes the one of a number out.
+    pub fn take_away(&mut self, eid: i32)
+        ensures { self.new.state ≡ removed eid self.old.state }
+    {
+        let _gone = self.folk.remove(eid);
+    }
+
+    /// Makes what lies under a number another item, which was dropped when the first was.
+    pub fn lie_as(&mut self, eid: i32, item: Item)
+        requires { IsItem item }
+        ensures { self.new
+            ≡ record self.old { state = with_entity eid (lying_as item) self.old.state } }
+    {
+        if let Some(born) = born_at(&self.folk, eid) {
+            self.folk.set_kind(eid, EntityKind::Dropped { item, born });
+        }
     }
 
     /// Keeps where each is, as what everyone who knows it was told of it. It takes no memory.
@@ -171,6 +190,25 @@ fn who_is(folk: &Folk, eid: i32) -> Option<u128>
     let _all = folk.all();
     match folk.get(eid)?.kind {
         EntityKind::Player { uuid, .. } => Some(uuid),
+        _ => None,
+    }
+}
+
+/// The age of the world when the item of a number was dropped; None where the number is no item's.
+fn born_at(folk: &Folk, eid: i32) -> Option<u64>
+    ensures some { IfSome result (λ born. (item : items.Item) →
+        with_kind eid (kinds.Dropped item born) folk.now.state
+        ≡ with_entity eid (lying_as item) folk.now.state) }
+    ensures alike { IfSome result (λ born. (item : items.Item) →
+        IfSome (entity_of eid folk.now.state)
+        (λ e. are_alike e.kind (kinds.Dropped item born) ≡ true)) }
+    ensures none { result ≡ None → (item : items.Item) →
+        with_entity eid (lying_as item) folk.now.state ≡ folk.now.state }
+{
+    // Numbers rise among all entities.
+    let _all = folk.all();
+    match folk.get(eid)?.kind {
+        EntityKind::Dropped { born, .. } => Some(born),
         _ => None,
     }
 }

@@ -10,6 +10,7 @@ mod digging;
 mod fields;
 mod hands;
 mod movement;
+mod pickups;
 mod placing;
 mod reaching;
 mod tick;

@@ -13,6 +13,7 @@ mod limits;
 mod packs;
 mod players;
 mod reach;
+mod ripe;
 mod said;
 
 pub use game::{ActFault, Game};

@@ -3,11 +3,14 @@ ghost use Rattle.std.specs.List.{list_any};
 ghost use Rattle.std.specs.Option.{option_copied, option_copied_mut};
 ghost use Rattle.std.specs.BTreeMap as tree;
 ghost use Rattle.std.specs.Map.Iter.{ShowsInOrder, deref};
-ghost use Rattle.std.specs.FinMap.{empty, get, insert, len, remove, values};
+ghost use Rattle.std.specs.FinMap.{empty, entries, get, insert, len, remove, values};
+ghost use Rattle.std.specs.Ordering.{int_eq};
+ghost use lib.IntN.{pos};
 ghost use Rattle.mc_model.specs.Notes.{again, with_cells};
 ghost use Rattle.mc_model.specs.Placing.{placing_refused};
 ghost use Rattle.mc_model.specs.Maps.{map_keyed, modify};
 ghost use Rattle.mc_model.specs.Movement.{placed_again};
+ghost use Rattle.mc_model.specs.Pickups.{playing_as};
 ghost use Rattle.mc_model.specs.Tick.{told_player};
 ghost use Rattle.mc_model.specs.declared.player.Player as declared;
 
@@ -46,6 +49,25 @@ fn is_among(players: &BTreeMap<u32, Player>, uuid: u128) -> bool
         ≡ list_any (λ (p : declared.Player). p.uuid == uuid) (tree.values players.now) }
 {
     players.values().any(|player| player.uuid == uuid)
+}
+
+/// Whether a player's entity has a number.
+fn is_numbered(player: &Player, eid: &i32) -> bool
+    ensures { result ≡ int_eq (pos player.now.eid) eid.now }
+{
+    player.eid.number() == *eid
+}
+
+/// The first of these connections whose player's entity has a number, if there is one.
+fn playing_among(players: &BTreeMap<u32, Player>, eid: &i32) -> Option<u32>
+    ensures { result ≡ playing_as eid.now players.now.entries }
+{
+    for (connection, player) in players {
+        if is_numbered(player, eid) {
+            return Some(*connection);
+        }
+    }
+    None
 }
 
 impl Players {
@@ -91,6 +113,15 @@ impl Players {
         ensures { result ≡ len self.now }
     {
         self.by_connection.len()
+    }
+
+    /// The connection whose player's entity has a number, if there is one.
+    pub(crate) fn playing_as(&self, eid: &i32) -> Option<u32>
+        ensures { result ≡ playing_as eid.now (entries self.now) }
+    {
+        // The numbers rise.
+        let _many = self.by_connection.len();
+        playing_among(&self.by_connection, eid)
     }
 
     /// Whether one of them has an identifier.

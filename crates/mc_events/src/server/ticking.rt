@@ -1,4 +1,5 @@
-//! A tick: the beat comes to all connections, and then each client in play is shown the game.
+//! A tick: the beat comes to all connections, players pick up what lies near them, and then each
+//! client in play is shown the game.
 
 ghost use Rattle.std.specs.Prelude.{◌≡◌, ◌+◌, ◌<◌, ◌≤◌, ◌∷◌, [], ℕ, OnOk};
 ghost use Rattle.std.specs.FinMap.{keys};
@@ -122,8 +123,8 @@ fn show_all(
 }
 
 impl Server {
-    /// Lets a tick come: the game is a tick older, those that were silent for too long leave, and
-    /// each client in play is shown the game.
+    /// Lets a tick come: the game is a tick older, those that were silent for too long leave, all
+    /// others pick up what they can, and each client in play is shown the game.
     pub(super) fn tick(&mut self) -> Result<(), NoMemory>
         requires young { age_of self.old < 1000000000 }
         ensures follows { (w : World) → Stands self.old w →
@@ -135,7 +136,8 @@ impl Server {
         self.show()
     }
 
-    /// Makes the game a tick older, with its beat: those that were silent for too long leave.
+    /// Makes the game a tick older, with its beat: those that were silent for too long leave, and
+    /// all others pick up what they can.
     fn beat(&mut self) -> Result<(), NoMemory>
         requires young { age_of self.old < 1000000000 }
         ensures follows { (w : World) → StandsAmid self.old w →
@@ -152,7 +154,7 @@ impl Server {
             &mut self.list,
             &mut self.game,
         );
-        Ok(())
+        self.game.pick_up_all()
     }
 
     /// Shows each client in play the game. Those that are owed too much leave, and columns that

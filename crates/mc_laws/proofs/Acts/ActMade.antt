@@ -16,12 +16,13 @@ use Rattle.mc_model.specs.Notes.{again}
 use Rattle.mc_model.specs.Game.{Game, spot_of}
 use Rattle.mc_model.specs.Acts.{act, act_by, act_of}
 use Rattle.mc_model.specs.Good.{Good}
+use Rattle.mc_model.specs.Fitting.{Told}
 use Rattle.mc_model.proofs.FitsChat.{LineFits, line_clear}
 use Rattle.mc_model.proofs.FitsText.{IsShort}
 use Rattle.mc_model.proofs.Maps.Options.{some_is}
 use Rattle.mc_laws.proofs.Landings.{both_turned, moved_turned, spot_turned, turned_turned}
 use Rattle.mc_laws.proofs.Deeds.Made.{Made, by_deed, by_notes, by_own, says, untouched}
-use Rattle.mc_laws.proofs.Fits.Told.{Told, spot_told}
+use Rattle.mc_laws.proofs.Fits.Told.{spot_told}
 use Rattle.mc_laws.proofs.Acts.Topics.{arrive_made, digging_made, place_made, take_up_made}
 
 -- what a player says can be told, whose name is short, in a packet that can be sent

@@ -15,6 +15,7 @@ use Rattle.mc_slots.specs.declared.pile.Pile.TheVariants.{Empty, Full}
 use Rattle.mc_slots.specs.Pile.{IsItem, IsPile, held, without}
 use Rattle.mc_land.specs.Land.{is_chest}
 use Rattle.mc_windows.specs.Pack.{IsPack}
+use Rattle.mc_windows.proofs.StoredPacks.{left_is_pile}
 use Rattle.mc_entities.specs.declared.entity.EntityKind.TheVariants as kinds
 use Rattle.mc_entities.specs.Folk.{dropped_in}
 use Rattle.mc_entities.specs.Shift.{is_between, is_inside}
@@ -34,17 +35,18 @@ use Rattle.mc_model.specs.Game.{Game, held_by, pack_of, room_in, spot_of, state_
 use Rattle.mc_model.specs.Deeds.{noting, stand_of, with_state}
 use Rattle.mc_model.specs.Good.{Good}
 use Rattle.mc_model.specs.Movement.{arrive, arrived, placed_again}
+use Rattle.mc_model.specs.Fitting.{SpotFits, Told}
 use Rattle.mc_model.proofs.Maps.Options.{some_is}
 use Rattle.mc_laws.proofs.Landings.{IsTurned}
 use Rattle.mc_laws.proofs.ThingsActs.{floor_fits, item_state_is}
-use Rattle.mc_laws.proofs.ThingsFit.{NotesFit, SpotFits, air, block_is_item, spawn_fits}
+use Rattle.mc_laws.proofs.ThingsFit.{NotesFit, air, block_is_item, spawn_fits}
 use Rattle.mc_laws.proofs.Weighing.Stock.{pack_handed, parted}
 use Rattle.mc_laws.proofs.Weighing.Spending.{air_counts, dug_counts, placed_counts}
-use Rattle.mc_laws.proofs.Deeds.Packs.{hand_within, held_is_item, left_is_pile, named_is_pack}
+use Rattle.mc_laws.proofs.Deeds.Packs.{hand_within, held_is_item, named_is_pack}
 use Rattle.mc_laws.proofs.Deeds.Packs.{with_hand_is_pack}
 use Rattle.mc_laws.proofs.Deeds.Made.{Deed, Made, before, by_deed, by_notes, either, gained}
 use Rattle.mc_laws.proofs.Deeds.Made.{rehands, repacks, sets, spent, stands, throws, untouched}
-use Rattle.mc_laws.proofs.Fits.Told.{CanCome, Told, cell_told, dropped_held, spot_told}
+use Rattle.mc_laws.proofs.Fits.Told.{CanCome, cell_told, dropped_held, spot_told}
 
 -- what is within a range is not large
 within_small : (low high : ℕ) (n : ℤ) → suc low ≤ high →

@@ -19,8 +19,10 @@ use Rattle.mc_model.specs.Leaving.{leave, leave_all}
 use Rattle.mc_model.specs.Link.{Link, disconnect, mark_closed, quiet}
 use Rattle.mc_model.specs.Showing.{due, last_shown, sight_of}
 use Rattle.mc_model.specs.World.{World, each, is_closing, on_link, seat_of, with_seat}
+use Rattle.mc_model.specs.Pickups.{pickups}
 use Rattle.mc_model.specs.Tick.{aged, at_tick, awaiting, beat, beat_of, flush, grown, is_silent}
 use Rattle.mc_model.specs.Tick.{shown_all, tick, told}
+use Rattle.mc_model.specs.Fitting.{Told}
 use Rattle.mc_model.specs.Good.{Good, GoodWorld, in_play}
 use Rattle.mc_model.specs.Causes.{IsTooMuch}
 use Rattle.mc_model.specs.Apart.{HandsAlike, IsFullIn, IsShut, OwesOther, SameBut}
@@ -67,6 +69,7 @@ module _ (k : ℕ) (w v : World) (good : GoodWorld w) (a : OwesOther k w v) wher
   good_too : GoodWorld v
   good_too = record {
     game = subst Good a.game good.game;
+    told = subst Told a.game good.told;
     plays = λ j. ap (λ (g : Game). is_some (get g.players j)) (sym a.game) ∙ good.plays j
         ∙ same_play j;
     fresh = λ j new. at_number j (good.fresh j
@@ -98,12 +101,12 @@ module _ (k : ℕ) (w v : World) (good : GoodWorld w) (a : OwesOther k w v) wher
 
   pub same_tick : (at_tick w).game ≡ (at_tick v).game
   unfolding each
-  same_tick =
+  same_tick = ap pickups (
       (λ x. leave_all (filter (λ (i : ℕ). is_closing (λ (j : ℕ) (l : Link).
       beat (grown (a.game x)) (get (a.shown x) j) j l) i (get w.links i))
       (keys (a.game x).players)) (grown (a.game x)))
       ∙ (λ x. leave_all (filter (λ (i : ℕ). closing_same i x) (keys v.game.players))
-      (grown v.game))
+      (grown v.game)))
 
   same_shown : (at_tick w).shown ≡ (at_tick v).shown
   same_shown = at_tick_shown w ∙ a.shown ∙ sym (at_tick_shown v)

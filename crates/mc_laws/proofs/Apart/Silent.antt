@@ -18,7 +18,9 @@ use Rattle.mc_model.specs.Leaving.{leave, leave_all}
 use Rattle.mc_model.specs.Link.{Link, disconnect, gone}
 use Rattle.mc_model.specs.Showing.{last_shown, sight_of}
 use Rattle.mc_model.specs.World.{World, each, is_closing, on_link, seat_of, with_seat}
-use Rattle.mc_model.specs.Tick.{aged, at_tick, beat, beat_of, flush, grown, shown_all, tick, told}
+use Rattle.mc_model.specs.Pickups.{pickups}
+use Rattle.mc_model.specs.Tick.{aged, at_tick, beat, beat_of, beats, flush, grown, shown_all, tick}
+use Rattle.mc_model.specs.Tick.{told}
 use Rattle.mc_model.specs.Good.{GoodWorld, in_play}
 use Rattle.mc_model.specs.Apart.{FallsSilent, HandsAlike, IsShut, SameBut}
 use Rattle.mc_model.specs.Headline.{IsEnded}
@@ -28,7 +30,7 @@ use Rattle.mc_laws.proofs.Deeds.Swaps.{keys_removed, leave_after, leave_but, lea
 use Rattle.mc_laws.proofs.Deeds.Swaps.{leave_some, leave_without}
 use Rattle.mc_laws.proofs.Walk.Each.{disconnect_closes, each_last, each_links}
 use Rattle.mc_laws.proofs.Walk.Handings.{gone_closed, not_in_play}
-use Rattle.mc_laws.proofs.Walk.Ticking.{at_tick_player, at_tick_shown, tick_handed, tick_link}
+use Rattle.mc_laws.proofs.Walk.Ticking.{at_tick_shown, beats_player, tick_handed, tick_link}
 use Rattle.mc_laws.proofs.Walk.Ticking.{tick_shown, tick_unread}
 use Rattle.mc_laws.proofs.Apart.Outs.{handed_by}
 use Rattle.mc_laws.proofs.Headline.Ticks.{at_tick_hands, others_stay}
@@ -75,8 +77,8 @@ module _ (k : ℕ) (w : World) (good : GoodWorld w) (h : FallsSilent k w) where
       (sym (leave_other k j w.game ne))
       ∙ ap (λ (g : Game). beat (grown g) (get w.shown j) j l) (sym game_before)
 
-  gone_then : get (at_tick w).game.players k ≡ None
-  gone_then = at_tick_player w k h.link h.here
+  gone_then : get (beats (aged w)).game.players k ≡ None
+  gone_then = beats_player w k h.link h.here
       ∙ ap (λ (o : Option Player). cond (is_closed
       (beat_of (grown w.game) (get w.shown k) h.link o).link.stage) None o) h.plays
       ∙ rw (
@@ -115,14 +117,14 @@ module _ (k : ℕ) (w : World) (good : GoodWorld w) (h : FallsSilent k w) where
 
   same_tick : (at_tick w).game ≡ (at_tick before).game
   unfolding each
-  same_tick =
-      sym (leave_nobody k (at_tick w).game gone_then)
+  same_tick = ap pickups (
+      sym (leave_nobody k (beats (aged w)).game gone_then)
       ∙ leave_first k (filter closes_here (keys w.game.players)) (grown w.game)
       ∙ leave_but k closes_here closes_there closing_same (keys w.game.players) (grown w.game)
       ∙ sym (leave_without k closes_there (keys w.game.players) (grown w.game))
       ∙ (λ x. leave_all (filter closes_there (keys_left x)) (grown_left x))
       ∙ (λ x. leave_all (filter closes_there (keys (sym game_before x).players))
-      (grown (sym game_before x)))
+      (grown (sym game_before x))))
 
   same_links : (j : ℕ) → j ≢ k → get (at_tick w).links j ≡ get (at_tick before).links j
   same_links j ne =

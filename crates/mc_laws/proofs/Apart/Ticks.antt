@@ -13,8 +13,9 @@ use Rattle.mc_model.specs.Leaving.{leave_all}
 use Rattle.mc_model.specs.Link.{Handing, Link, quiet}
 use Rattle.mc_model.specs.Showing.{last_shown, sight_of}
 use Rattle.mc_model.specs.World.{World, closed_by, each, is_closing}
-use Rattle.mc_model.specs.Tick.{aged, at_tick, beat, beat_of, flush, flush_of, flushed, grown}
-use Rattle.mc_model.specs.Tick.{shown_all, tick, tick_hands, told}
+use Rattle.mc_model.specs.Pickups.{pickups}
+use Rattle.mc_model.specs.Tick.{aged, at_tick, beat, beat_of, beats, flush, flush_of, flushed}
+use Rattle.mc_model.specs.Tick.{grown, shown_all, tick, tick_hands, told}
 use Rattle.mc_model.specs.Good.{GoodWorld, in_play}
 use Rattle.mc_model.specs.Apart.{AlikeBut, IsShut, SameBut}
 use Rattle.mc_model.proofs.Maps.Lookups.{get_keyed, tied_number}
@@ -112,8 +113,8 @@ module _ (k : ℕ) (w v : World) (good : GoodWorld w) (a : SameBut k w v) where
   none_there : get v.game.players k ≡ None
   none_there = ap (λ (h : Game). get h.players k) (sym a.game) ∙ none_here
 
-  ticks_alike : SameBut k (at_tick w) (at_tick v)
-  ticks_alike = each_apart k _ _ (aged w) (aged v)
+  beats_alike : SameBut k (beats (aged w)) (beats (aged v))
+  beats_alike = each_apart k _ _ (aged w) (aged v)
       (λ i ne l. λ x. beat (grown (a.game x)) (a.shown i ne x) i l)
       (record {
         game = λ i. grown (a.game i);
@@ -127,6 +128,17 @@ module _ (k : ℕ) (w v : World) (good : GoodWorld w) (a : SameBut k w v) where
       none_here
       (λ l. ap (beat_of (grown w.game) (get w.shown k) l) none_here)
       (λ l. ap (beat_of (grown v.game) (get v.shown k) l) none_there)
+
+  ticks_alike : SameBut k (at_tick w) (at_tick v)
+  ticks_alike = let b = beats_alike in record {
+    game = ap pickups b.game;
+    last = b.last;
+    links = b.links;
+    unread = b.unread;
+    shown = b.shown;
+    shut = b.shut;
+    shut_too = b.shut_too;
+  }
 
   shown_alike : (none : get w.game.players k ≡ None) → SameBut k (shown_all w) (shown_all v)
   shown_alike none = record {

@@ -22,7 +22,7 @@ use Rattle.mc_model.specs.Link.{Handing, Link, gone, is_done}
 use Rattle.mc_model.specs.Showing.{last_shown, sight_of}
 use Rattle.mc_model.specs.World.{Seat, Turn, Unread, World, closed_by, each, new_world}
 use Rattle.mc_model.specs.World.{nothing_unread, on_link, seat_of, unread_of}
-use Rattle.mc_model.specs.Tick.{aged, at_tick, beat, flush, grown, shown_all, tick}
+use Rattle.mc_model.specs.Tick.{aged, at_tick, beat, beats, flush, grown, shown_all, tick}
 use Rattle.mc_model.specs.Good.{GoodWorld, in_play}
 use Rattle.mc_model.proofs.Maps.Options.{none_some, some_is}
 use Rattle.mc_laws.proofs.FitsSight.{SightFits, nothing_fits}
@@ -32,7 +32,7 @@ use Rattle.mc_laws.proofs.Runs.OneSteps.{takes, ticks}
 use Rattle.mc_laws.proofs.Runs.Worlds.{new_good, step_good}
 use Rattle.mc_laws.proofs.Fits.Clear.{SoundGame, sight_fits}
 use Rattle.mc_laws.proofs.Fits.Sound.{grown_sound, leave_all_sound, leave_sound, new_sound}
-use Rattle.mc_laws.proofs.Fits.Sound.{told_sound}
+use Rattle.mc_laws.proofs.Fits.Sound.{pickups_sound, told_sound}
 use Rattle.mc_laws.proofs.Decoding.Seats.{IsSeat}
 use Rattle.mc_laws.proofs.Decoding.Frames.{BytesDecode, bytes_decode}
 
@@ -101,9 +101,9 @@ unfolding each
 each_sound f w sound = leave_all_sound (closed_by f w) w.game sound
 
 pub at_tick_sound : (w : World) → SoundGame w.game → SoundGame (at_tick w).game
-at_tick_sound w sound =
-    each_sound (λ (k : ℕ) (l : Link). beat (grown w.game) (get w.shown k) k l) (aged w)
-    (grown_sound w.game sound)
+at_tick_sound w sound = pickups_sound (beats (aged w)).game
+    (each_sound (λ (k : ℕ) (l : Link). beat (grown w.game) (get w.shown k) k l) (aged w)
+    (grown_sound w.game sound))
 
 tick_sound : (w : World) → SoundGame w.game → SoundGame (tick w).world.game
 tick_sound w sound = each_sound

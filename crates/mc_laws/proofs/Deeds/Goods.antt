@@ -18,7 +18,7 @@ use Rattle.mc_model.proofs.Maps.Entities.{KeepsEid, changed_eid, changed_no_eid,
 use Rattle.mc_laws.proofs.Deeds.Keeping.{ChangesOne, one_changed}
 
 -- an entity holds another pile, or stands elsewhere: it keeps its number
-holds : (pile : Pile) → KeepsEid (holding pile)
+pub holds : (pile : Pile) → KeepsEid (holding pile)
 holds pile = record { is = λ e. refl }
 
 stands : (spot : Spot) → KeepsEid (standing spot)

@@ -20,8 +20,9 @@ use Rattle.mc_model.specs.Deeds.{noting, rehand_of, repack_of, said, stand_of, t
 use Rattle.mc_model.specs.Deeds.{with_state}
 use Rattle.mc_model.specs.Game.{Game, pack_of, state_in}
 use Rattle.mc_model.specs.Reach.{is_in_world}
+use Rattle.mc_model.specs.Fitting.{IsState, SpotFits}
 use Rattle.mc_model.proofs.FitsChat.{LineFits}
-use Rattle.mc_laws.proofs.ThingsFit.{IsState, NotesFit, SpotFits}
+use Rattle.mc_laws.proofs.ThingsFit.{NotesFit}
 use Rattle.mc_laws.proofs.EachValue.{AreChanged, only, only_changed, only_holds}
 use Rattle.mc_laws.proofs.Deeds.Keeping.{IsLike}
 use Rattle.mc_laws.proofs.Fits.Told.{CanCome}

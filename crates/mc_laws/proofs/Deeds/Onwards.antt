@@ -13,7 +13,8 @@ use Rattle.mc_model.specs.Things.{in_hand, holding, standing}
 use Rattle.mc_model.specs.Game.{Game, pack_of}
 use Rattle.mc_model.specs.Deeds.{rehand_of, repack_of, said, stand_of, thrown, with_state}
 use Rattle.mc_model.specs.Apart.{traits_of}
-use Rattle.mc_model.proofs.Lasting.{GivenKinds, Since}
+use Rattle.mc_model.specs.Fitting.{GivenKinds}
+use Rattle.mc_model.proofs.Lasting.{Since}
 use Rattle.mc_model.proofs.LastingKept.{holding_steady, since_mapped, since_more, standing_steady}
 use Rattle.mc_model.proofs.LastingKept.{steady_at}
 use Rattle.mc_laws.proofs.EachValue.{AreChanged, many_changed, only, only_changed, only_holds}

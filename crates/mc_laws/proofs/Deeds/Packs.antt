@@ -1,30 +1,20 @@
 -- A pack of which what is in the hand is another pile is one of what the world holds.
-use Rattle.std.proofs.Common.{◌≡◌, ℕ, zero, suc, ◌+◌, ◌-◌, ◌<◌, ◌≤◌, List, [], ◌∷◌, refl, ◌∙◌}
-use Rattle.std.proofs.Common.{ap, arith, length, subst, Option, Some, None}
-use Rattle.std.specs.Prelude.{slice_set, unwrap_or}
+use Rattle.std.proofs.Common.{◌≡◌, ℕ, ◌+◌, ◌<◌, List, refl, ◌∙◌, ap, arith, length, subst, Option}
+use Rattle.std.proofs.Common.{Some, None}
+use Rattle.std.specs.Prelude.{unwrap_or}
 use Rattle.std.proofs.lemmas.List.{length-set}
 use Rattle.std.specs.FinMap.{get}
 use Rattle.mc_slots.specs.declared.pile.Item.{Item}
 use Rattle.mc_slots.specs.declared.pile.Pile.{Pile}
 use Rattle.mc_slots.specs.declared.pile.Pile.TheVariants.{Full}
-use Rattle.mc_slots.specs.Pile.{IsItem, IsPile, pile_of, without}
-use Rattle.mc_slots.specs.Chest.{pile_at}
+use Rattle.mc_slots.specs.Pile.{IsItem, IsPile}
 use Rattle.mc_windows.specs.Pack.{PackValue, IsPack, kit_pack}
 use Rattle.mc_windows.proofs.FirstPack.{kit_is_pack}
+use Rattle.mc_windows.proofs.StoredPacks.{set_piles}
 use Rattle.mc_model.specs.declared.player.Player.{Player}
 use Rattle.mc_model.specs.Things.{with_hand}
 use Rattle.mc_model.specs.Game.{Game, held_by, pack_named, pack_of}
 use Rattle.mc_model.specs.Good.{Good}
-
--- piles of which one is another pile
-set_piles : (slots : List Pile) (k : ℕ) (pile : Pile) → IsPile pile →
-    ((i : ℕ) → IsPile (pile_at slots i)) → (i : ℕ) → IsPile (pile_at (slice_set slots k pile) i)
-set_piles [] k pile is are i = are i
-set_piles (x ∷ xs) zero pile is are zero = is
-set_piles (x ∷ xs) zero pile is are (suc i) = are (suc i)
-set_piles (x ∷ xs) (suc k) pile is are zero = are zero
-set_piles (x ∷ xs) (suc k) pile is are (suc i) =
-    set_piles xs k pile is (λ j. are (suc j)) i
 
 pub with_hand_is_pack : (pile : Pile) (hand : ℕ) (pack : PackValue) → IsPile pile →
     IsPack pack.slots pack.cursor →
@@ -34,19 +24,6 @@ with_hand_is_pack pile hand pack is fits = record {
   are_piles = set_piles pack.slots (27 + hand) pile is fits.are_piles;
   is_pile = fits.is_pile;
 }
-
--- so many of an item of which there are no fewer are a pile
-some_is_pile : (item : Item) (n : ℕ) → IsItem item → n ≤ item.count → IsPile (pile_of item n)
-some_is_pile item zero is few = tt
-some_is_pile item (suc n) is few = record {
-  id = is.id;
-  damage = is.damage;
-  count = (omega arith, omega (arith, few, is.count.1));
-}
-
--- what is left of it is one
-pub left_is_pile : (item : Item) (n : ℕ) → IsItem item → IsPile (without (Full item) n)
-left_is_pile item n is = some_is_pile item (item.count - n) is (omega arith)
 
 -- what any name carries is a pack
 pub named_is_pack : (g : Game) (name : List ℕ) → Good g →

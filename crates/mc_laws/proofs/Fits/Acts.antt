@@ -11,12 +11,13 @@ use Rattle.mc_model.specs.Deeds.{enter_as}
 use Rattle.mc_model.specs.Leaving.{leave, leave_all}
 use Rattle.mc_model.specs.Acts.{act}
 use Rattle.mc_model.specs.Good.{Good}
+use Rattle.mc_model.specs.Fitting.{Told}
 use Rattle.mc_laws.proofs.FitsUuid.{offline_small}
 use Rattle.mc_laws.proofs.ThingsFit.{spawn_fits}
 use Rattle.mc_laws.proofs.Deeds.Leaving.{leave_cases}
 use Rattle.mc_laws.proofs.Deeds.Made.{Deed, rehands, repacks, says, sets, stands, throws, touches}
 use Rattle.mc_laws.proofs.Deeds.Packs.{named_is_pack}
-use Rattle.mc_laws.proofs.Fits.Told.{Told, holding_told, spawned_told, standing_told}
+use Rattle.mc_laws.proofs.Fits.Told.{holding_told, spawned_told, standing_told}
 use Rattle.mc_laws.proofs.Fits.Told.{with_state_told, without_told}
 use Rattle.mc_laws.proofs.Acts.ActMade.{act_made}
 use Rattle.mc_laws.proofs.Acts.ActOn.{deeds_keep}

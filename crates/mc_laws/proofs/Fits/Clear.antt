@@ -40,6 +40,7 @@ use Rattle.mc_model.specs.Game.{is_in_sight, view_in}
 use Rattle.mc_model.specs.Spots.{spawn_height}
 use Rattle.mc_model.specs.Showing.{due, last_shown, notes_due, opening_due, sight_of}
 use Rattle.mc_model.specs.Good.{Good}
+use Rattle.mc_model.specs.Fitting.{EntityFits, KindIsNamed, Told}
 use Rattle.mc_model.proofs.AllFacts.{all_chosen, all_dropped, all_flat, all_joined, all_mapped}
 use Rattle.mc_model.proofs.AllFacts.{all_range, few_filtered}
 use Rattle.mc_model.proofs.Decodes.{Decodes, IsClear}
@@ -62,9 +63,9 @@ use Rattle.mc_laws.proofs.FitsSight.{few_shown, size_few}
 use Rattle.mc_laws.proofs.Fits.Counted.{IsCounted, few_chosen}
 use Rattle.mc_laws.proofs.Fits.Notes.{notes_owe}
 use Rattle.mc_laws.proofs.FitsUuid.{offline_small}
-use Rattle.mc_laws.proofs.ThingsFit.{EntityFits, KindIsNamed, NotesFit, PlayerIsTold}
+use Rattle.mc_laws.proofs.ThingsFit.{NotesFit, PlayerIsTold}
 use Rattle.mc_laws.proofs.Deeds.Packs.{named_is_pack}
-use Rattle.mc_laws.proofs.Fits.Told.{Told, cell_told, spot_told}
+use Rattle.mc_laws.proofs.Fits.Told.{cell_told, spot_told}
 use Rattle.mc_laws.proofs.Fits.Sights.{column_sizes, column_small, in_sight, in_sight_fit}
 
 -- ---- entries

@@ -38,7 +38,7 @@ use Rattle.mc_laws.proofs.Fits.Told.{dropped_come, dropped_mapped}
 abbrev pub AreNoMore : List Entity → List Entity → Type 0
 AreNoMore es fs = length fs + dropped_in es ≤ length es + dropped_in fs
 
-changed_counts : (eid : ℕ) (f : Entity → Entity) → IsSteady f → (es : List Entity) →
+pub changed_counts : (eid : ℕ) (f : Entity → Entity) → IsSteady f → (es : List Entity) →
     AreNoMore es (changed eid_of (pos eid) f es)
 changed_counts eid f steady es =
     let size = length-map {B = Entity} es
@@ -56,7 +56,7 @@ come_counts es e is =
     omega (arith, more, one, size)
 
 -- where some go
-without_counts : (n : ℤ) (es : List Entity) → AreNoMore es (without eid_of n es)
+pub without_counts : (n : ℤ) (es : List Entity) → AreNoMore es (without eid_of n es)
 without_counts n [] = omega arith
 without_counts n (e ∷ es) = step (int_eq e.eid n) (is_dropped e.kind) refl (without_counts n es)
   where

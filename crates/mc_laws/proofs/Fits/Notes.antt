@@ -14,13 +14,14 @@ use Rattle.mc_model.specs.Opening.{placing}
 use Rattle.mc_model.specs.Packets.{for_play, of_play}
 use Rattle.mc_model.specs.Replica.{apply, replay, seeing}
 use Rattle.mc_model.specs.Sight.{Sight}
+use Rattle.mc_model.specs.Fitting.{SpotFits}
 use Rattle.mc_model.proofs.AllFacts.{all_joined}
 use Rattle.mc_model.proofs.Decodes.{IsClear}
 use Rattle.mc_model.proofs.FitsList.{AreClear}
 use Rattle.mc_model.proofs.FitsSlots.{window_clear}
 use Rattle.mc_laws.proofs.FitsDue.{placing_clear}
 use Rattle.mc_laws.proofs.Leading.{Leads, no_packets, onward}
-use Rattle.mc_laws.proofs.ThingsFit.{NotesFit, SpotFits}
+use Rattle.mc_laws.proofs.ThingsFit.{NotesFit}
 
 -- Packets of what is noted for a player that is at a spot and carries a pack: they are decoded
 -- where that can be told, and who sees that pack sees what it saw.

@@ -32,11 +32,11 @@ use Rattle.mc_model.specs.Replica.{is_32_bits}
 use Rattle.mc_model.specs.Game.{Game, column_in, is_in_sight, pack_of, view_in}
 use Rattle.mc_model.specs.Showing.{sight_of}
 use Rattle.mc_model.specs.Good.{Good}
+use Rattle.mc_model.specs.Fitting.{EntityFits, GivenKinds, Told, kind_seen}
 use Rattle.mc_model.proofs.AllFacts.{all_chosen, all_filtered}
-use Rattle.mc_model.proofs.Lasting.{GivenKinds, Since, kind_seen}
-use Rattle.mc_laws.proofs.ThingsFit.{EntityFits}
+use Rattle.mc_model.proofs.Lasting.{Since}
 use Rattle.mc_laws.proofs.Deeds.Packs.{named_is_pack}
-use Rattle.mc_laws.proofs.Fits.Told.{Told, state_small}
+use Rattle.mc_laws.proofs.Fits.Told.{state_small}
 
 -- ---- columns
 

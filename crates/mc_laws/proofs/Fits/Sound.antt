@@ -25,6 +25,7 @@ use Rattle.mc_model.specs.Game.{AreSettings, Game, new_game, pack_named}
 use Rattle.mc_model.specs.Deeds.{enter_as, new_player}
 use Rattle.mc_model.specs.Leaving.{leave, leave_all}
 use Rattle.mc_model.specs.Acts.{act}
+use Rattle.mc_model.specs.Pickups.{pickups}
 use Rattle.mc_model.specs.Tick.{grown, told, told_player}
 use Rattle.mc_model.specs.Step.{refusal}
 use Rattle.mc_model.specs.Good.{Good}
@@ -45,6 +46,7 @@ use Rattle.mc_laws.proofs.Fits.Told.{dropped_come, new_told}
 use Rattle.mc_laws.proofs.Fits.Acts.{act_tells, enter_tells, leave_told}
 use Rattle.mc_laws.proofs.Fits.Counted.{IsCounted, body_gone, deeds_count}
 use Rattle.mc_laws.proofs.Fits.Clear.{SoundGame}
+use Rattle.mc_laws.proofs.Pickups.Picking.{pickups_leave, pickups_picked}
 
 -- ---- what is said
 
@@ -252,6 +254,30 @@ told_sound g sound = record {
 
     many : len (told g).players ≡ len g.players
     many = many_changed tells g.players (told g).players (told_players g)
+
+pub pickups_sound : (g : Game) → SoundGame g → SoundGame (pickups g)
+pickups_sound g sound =
+    let left = pickups_leave g in
+    let picked = pickups_picked g sound.good sound.told in
+    record {
+      good = picked.good;
+      told = picked.told;
+      settings = subst (λ (s : Begun). AreSettings s.players s.cap) (sym left.settings)
+          sound.settings;
+      young = (let young = sound.young in let age = left.age in omega (arith, young, age));
+      lines = subst (λ (lines : List (List ℕ)). AllByRecursion LineFits lines) (sym left.lines)
+          sound.lines;
+      few = (let few = sound.few in
+          let many = ap len left.players in
+          let most = ap (λ (s : Begun). s.players) left.settings in
+          omega (arith, few, many, most));
+      counted = (let counts = picked.counts in
+          let counted = sound.counted in
+          let many = ap len left.players in
+          omega (arith, counts, counted, many));
+      players = subst (AllValues (λ (k : ℕ) (p : Player). PlayerIsTold p)) (sym left.players)
+          sound.players;
+    }
 
 pub new_sound : (settings : Begun) → AreSettings settings.players settings.cap →
     Good (new_game settings) → SoundGame (new_game settings)

@@ -1,5 +1,5 @@
--- What is in a game so that packets can tell it: the states of cells, and entities of which each
--- has a kind and a place. Deeds keep it so.
+-- Deeds keep what is in a game such that packets can tell it: the states of cells, and entities of
+-- which each has a kind and a place.
 use Rattle.std.proofs.Common.{◌≡◌, ℕ, ◌+◌, ◌*◌, ◌<◌, ◌≤◌, Bool, true, false, cond, List, [], zero}
 use Rattle.std.proofs.Common.{suc, inr, ◌∷◌, ◌++◌, map, Some, None, refl, sym, subst, ap, ◌∙◌}
 use Rattle.std.proofs.Common.{arith}
@@ -12,8 +12,9 @@ use Rattle.std.proofs.lemmas.Int.{ints}
 use lib.IntN.{ℤ, pos, negsuc}
 use Rattle.mc_fields.specs.declared.position.Cell.{Cell}
 use Rattle.mc_fields.specs.declared.position.Spot.{Spot}
+use Rattle.mc_slots.specs.declared.pile.Item.{Item}
 use Rattle.mc_slots.specs.declared.pile.Pile.{Pile}
-use Rattle.mc_slots.specs.Pile.{IsPile}
+use Rattle.mc_slots.specs.Pile.{IsItem, IsPile}
 use Rattle.mc_land.specs.declared.terrain.Terrain.{Terrain}
 use Rattle.mc_land.specs.declared.terrain.Terrain.TheVariants.{Flat, Hills, Isle}
 use Rattle.mc_land.specs.Places.{Key, key_cmp, key_of, x_of, y_of, z_of}
@@ -31,26 +32,19 @@ use Rattle.mc_model.specs.declared.seen.SeenKind.{SeenKind}
 use Rattle.mc_model.specs.declared.seen.SeenKind.TheVariants as seen_kinds
 use Rattle.mc_model.specs.declared.player.Player.{Player}
 use Rattle.mc_model.specs.declared.settings.Settings.{Settings}
-use Rattle.mc_model.specs.Things.{hand_of, holding, standing, state_of_cell}
+use Rattle.mc_model.specs.Things.{hand_of, holding, kind_of_item, lying_as, standing}
+use Rattle.mc_model.specs.Things.{state_of_cell}
 use Rattle.mc_model.specs.Spots.{spawn_spot}
 use Rattle.mc_model.specs.Game.{Game, new_game, spot_of, state_in}
 use Rattle.mc_model.specs.Deeds.{spawned, with_state}
+use Rattle.mc_model.specs.Fitting.{AreTold, EntityFits, IsState, KindIsNamed, SpotFits, Told}
+use Rattle.mc_model.specs.Fitting.{kind_seen}
 use Rattle.mc_model.proofs.AllFacts.{all_filtered, all_joined, all_mapped}
-use Rattle.mc_model.proofs.Lasting.{HaveKinds, IsSteady, kind_seen}
+use Rattle.mc_model.proofs.Lasting.{IsSteady}
 use Rattle.mc_model.proofs.LastingKept.{holding_steady, known_filtered, known_mapped, known_more}
-use Rattle.mc_model.proofs.LastingKept.{standing_steady, steady_at}
+use Rattle.mc_model.proofs.LastingKept.{lying_steady, standing_steady, steady_at}
 use Rattle.mc_model.proofs.ThingsKept.{dropped_more, one_if}
-use Rattle.mc_laws.proofs.ThingsFit.{air, spawn_fits, EntityFits, IsState, KindIsNamed, SpotFits}
-
-pub record AreTold (edits : FinMap key_cmp ℕ) (entities : List Entity) (eids : ℕ) : Type 0 where
-  pub states : (key : Key) (state : ℕ) → get edits key ≡ Some state → IsState state
-  pub fits : AllByRecursion EntityFits entities
-  pub kinds : HaveKinds eids entities
-  pub lying : dropped_in entities ≤ 4096
-  pub few : eids ≤ 2147483647
-
-abbrev pub Told : Game → Type 0
-Told g = AreTold g.edits g.entities g.eids
+use Rattle.mc_laws.proofs.ThingsFit.{air, spawn_fits}
 
 -- ---- how many dropped items lie
 
@@ -188,6 +182,31 @@ holding_told eid pile edits es eids is t =
       named = hand_is_named pile e.kind fits.named;
     }) t
 
+item_is_kind : (item : Item) (kind : EntityKind) → IsItem item → IsKind kind →
+    IsKind (kind_of_item item kind)
+item_is_kind item (kinds.Player uuid held) is fits = fits
+item_is_kind item (kinds.Dropped old born) is fits = is
+item_is_kind item kinds.Mob is fits = tt
+
+item_is_named : (item : Item) (kind : EntityKind) → KindIsNamed kind →
+    KindIsNamed (kind_of_item item kind)
+item_is_named item (kinds.Player uuid held) named = named
+item_is_named item (kinds.Dropped old born) named = named
+item_is_named item kinds.Mob named = named
+
+-- what lies there is another item
+pub lying_told : (eid : ℕ) (item : Item) (edits : FinMap key_cmp ℕ) (es : List Entity)
+    (eids : ℕ) → IsItem item → AreTold edits es eids →
+    AreTold edits (changed eid_of (pos eid) (lying_as item) es) eids
+lying_told eid item edits es eids is t =
+    changed_told eid (lying_as item) edits es eids (lying_steady item) (λ e fits. record {
+      low = fits.low;
+      high = fits.high;
+      spot = fits.spot;
+      kind = item_is_kind item e.kind is fits.kind;
+      named = item_is_named item e.kind fits.named;
+    }) t
+
 pub dropped_held : (eid : ℕ) (pile : Pile) (es : List Entity) →
     dropped_in (changed eid_of (pos eid) (holding pile) es) ≡ dropped_in es
 dropped_held eid pile es =
@@ -206,7 +225,7 @@ without_told n edits es eids t = record {
 }
 
 -- one that is found fits
-found_fits : (P : Entity → Type 0) (n : ℤ) (es : List Entity) → AllByRecursion P es →
+pub found_fits : (P : Entity → Type 0) (n : ℤ) (es : List Entity) → AllByRecursion P es →
     (e : Entity) → numbered eid_of n es ≡ Some e → P e
 found_fits P n [] a e found = absurd cc
 found_fits P n (x ∷ es) a e found =

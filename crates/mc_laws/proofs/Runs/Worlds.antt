@@ -12,10 +12,11 @@ use Rattle.mc_model.specs.declared.settings.Settings.{Settings}
 use Rattle.mc_model.specs.Step.{Event, is_new, depart, is_crowded, joining, step, take_from}
 use Rattle.mc_model.specs.Stages.{is_closed, is_play}
 use Rattle.mc_model.specs.Link.{Handing, Link, is_done, mark_closed, new_link}
-use Rattle.mc_model.specs.World.{Outcome, Seat, Turn, World, each, new_world, seat_of, is_closing}
-use Rattle.mc_model.specs.World.{with_seat}
-use Rattle.mc_model.specs.Tick.{aged, at_tick, flushed, shown_all, told_player}
+use Rattle.mc_model.specs.World.{Outcome, Seat, Turn, World, closed_by, each, new_world, seat_of}
+use Rattle.mc_model.specs.World.{is_closing, with_seat}
+use Rattle.mc_model.specs.Tick.{aged, at_tick, beats, flushed, picking, shown_all, told_player}
 use Rattle.mc_model.specs.Run.{history}
+use Rattle.mc_model.specs.Fitting.{Told}
 use Rattle.mc_model.specs.Good.{GoodWorld, in_play}
 use Rattle.mc_model.specs.Apart.{traits_of}
 use Rattle.mc_model.proofs.Maps.Lookups.{gone_other, gone_same, put_other, put_same}
@@ -25,6 +26,9 @@ use Rattle.mc_laws.proofs.Walk.Handings.{not_in_play}
 use Rattle.mc_laws.proofs.Walk.Moves.{Walked, walked_keeps}
 use Rattle.mc_laws.proofs.Walk.Steps.{Move, departs, forgets, joins, passes, rests, sits}
 use Rattle.mc_laws.proofs.Walk.Steps.{step_moves, takes}
+use Rattle.mc_laws.proofs.Fits.Acts.{leave_all_told}
+use Rattle.mc_laws.proofs.Fits.Told.{new_told}
+use Rattle.mc_laws.proofs.Pickups.Picking.{pickups_leave, pickups_picked}
 use Rattle.mc_laws.proofs.Runs.Seats.{GoodSeat, all_stay, departed_seat, seat_kept, taken_seat}
 
 -- ---- one connection
@@ -33,6 +37,7 @@ pub first_seat : (w : World) (k : ℕ) (l : Link) → get w.links k ≡ Some l �
     GoodSeat k w.game (seat_of w k l)
 first_seat w k l there a = record {
   game = a.game;
+  told = a.told;
   plays = a.plays k ∙ ap in_play there;
   others = all_stay k w.game;
 }
@@ -56,6 +61,7 @@ sits_good : (w : World) (k : ℕ) (l : Link) (t : Turn) → get w.links k ≡ So
     GoodSeat k w.game t.seat → GoodWorld w → GoodWorld (with_seat w k t.seat)
 sits_good w k l t there s a = record {
   game = s.game;
+  told = s.told;
   plays = λ j. elim (cases_eq j k) [
     | inl same ↦ rw same (s.plays ∙ ap in_play (sym (put_same w.links k t.seat.link)))
     | inr ne ↦ same_there _ _ (s.others.traits j ne) ∙ a.plays j
@@ -89,6 +95,7 @@ joins_good : (w : World) (k : ℕ) → is_new k w.last ≡ true → GoodWorld w 
     GoodWorld (record w { last = Some k; links = insert w.links k (joining w) })
 joins_good w k new a = record {
   game = a.game;
+  told = a.told;
   plays = λ j. elim (cases_eq j k) [
     | inl same ↦ rw same (a.plays k ∙ ap in_play (a.fresh k new) ∙ sym (joining_waits w)
         ∙ ap in_play (sym (put_same w.links k (joining w))))
@@ -108,6 +115,7 @@ forgets_good w k l there done a =
     let closed = (and_parts (is_closed l.stage) (nat_le (length l.owed) 0) done).0 in
     record {
       game = a.game;
+      told = a.told;
       plays = λ j. elim (cases_eq j k) [
         | inl same ↦ rw same (a.plays k ∙ ap in_play there ∙ not_in_play l.stage closed
             ∙ ap in_play (sym (gone_same w.links k)))
@@ -121,10 +129,15 @@ forgets_good w k l there done a =
 
 -- ---- a tick
 
+each_told : (f : ℕ → Link → Handing) (w : World) → Told w.game → Told (each f w).game
+unfolding each
+each_told f w t = leave_all_told (closed_by f w) w.game t
+
 pub each_world : (f : ℕ → Link → Handing) (w : World) →
     ((k : ℕ) (l : Link) → ClosesOrStays l.stage (f k l)) → GoodWorld w → GoodWorld (each f w)
 each_world f w stage a = record {
   game = each_good f w a.game;
+  told = each_told f w a.told;
   plays = λ j. ap is_some (each_players f w j) ∙ at_link j (get w.links j) (a.plays j)
       ∙ ap in_play (sym (each_links f w j));
   fresh = λ j new. each_links f w j
@@ -139,11 +152,12 @@ each_world f w stage a = record {
     at_link j (Some l) plays = closing_plays (get w.game.players j) l (f j l) (stage j l) plays
 
 aged_world : (w : World) → GoodWorld w → GoodWorld (aged w)
-aged_world w a = record { game = a.game; plays = a.plays; fresh = a.fresh }
+aged_world w a = record { game = a.game; told = a.told; plays = a.plays; fresh = a.fresh }
 
 shown_world : (w : World) → GoodWorld w → GoodWorld (shown_all w)
 shown_world w a = record {
   game = told_good w.game a.game;
+  told = a.told;
   plays = λ j. ap is_some (told_players w.game j) ∙ mapped (get w.game.players j) ∙ a.plays j;
   fresh = a.fresh;
 }
@@ -152,9 +166,22 @@ shown_world w a = record {
     mapped None = refl
     mapped (Some p) = refl
 
-pub at_tick_world : (w : World) → GoodWorld w → GoodWorld (at_tick w)
-at_tick_world w a = each_world _ (aged w)
+-- what is picked up keeps it so
+picking_world : (w : World) → GoodWorld w → GoodWorld (picking w)
+picking_world w a = let picked = pickups_picked w.game a.game a.told in record {
+  game = picked.good;
+  told = picked.told;
+  plays = λ j. ap (λ m. is_some (get m j)) (pickups_leave w.game).players ∙ a.plays j;
+  fresh = a.fresh;
+}
+
+-- once those that were silent left
+pub beats_world : (w : World) → GoodWorld w → GoodWorld (beats (aged w))
+beats_world w a = each_world _ (aged w)
     (λ k l. beat_stage (aged w).game (get w.shown k) k l) (aged_world w a)
+
+pub at_tick_world : (w : World) → GoodWorld w → GoodWorld (at_tick w)
+at_tick_world w a = picking_world (beats (aged w)) (beats_world w a)
 
 pub flushed_world : (w : World) → GoodWorld w → GoodWorld (flushed w)
 flushed_world w a = each_world _ (shown_all w)
@@ -199,6 +226,7 @@ new_good settings = record {
     rise = omega (arith, ints);
     bodies = λ n e found is. absurd (nothing_there found);
   };
+  told = new_told settings;
   plays = λ k. ap is_some (get-empty nat_cmp k) ∙ ap in_play (sym (get-empty nat_cmp k));
   fresh = λ k new. get-empty nat_cmp k;
 }

@@ -12,7 +12,7 @@ use Rattle.mc_model.specs.Sight.{Sight}
 use Rattle.mc_model.specs.Game.{Game}
 use Rattle.mc_model.specs.Showing.{due, last_shown, sight_of}
 use Rattle.mc_model.specs.Good.{Good}
-use Rattle.mc_laws.proofs.Fits.Told.{Told}
+use Rattle.mc_model.specs.Fitting.{Told}
 use Rattle.mc_laws.proofs.Fits.Sights.{LaterThan, kinds_of, nothing_follows, sight_follows}
 use Rattle.mc_laws.proofs.Fits.Leading.{due_leads}
 use Rattle.mc_laws.proofs.Shown.Later.{Later}

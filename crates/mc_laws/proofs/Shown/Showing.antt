@@ -37,7 +37,6 @@ use Rattle.mc_laws.proofs.Runs.OneSteps.{OneStep, comes, departs, goes, one_step
 use Rattle.mc_laws.proofs.Runs.OneSteps.{takes, ticks}
 use Rattle.mc_laws.proofs.Runs.Promises.{still_new}
 use Rattle.mc_laws.proofs.Runs.Worlds.{at_tick_world, new_good, step_good}
-use Rattle.mc_laws.proofs.Fits.Told.{Told, new_told}
 use Rattle.mc_laws.proofs.Fits.Sights.{kinds_of}
 use Rattle.mc_laws.proofs.Decoding.Streams.{has_stage}
 use Rattle.mc_laws.proofs.Shown.Later.{Later, at_tick_later, flushed_later, step_later}
@@ -58,7 +57,6 @@ record TickShows (w : World) (k : ℕ) (ps : List Sent) (h : Handing) : Type 0 w
 -- what every event keeps of a world, and of what was handed to one number
 pub record ShownWorld (k : ℕ) (w : World) (ps : List Sent) : Type 0 where
   pub good : GoodWorld w
-  pub told : Told w.game
   pub drawn : IsDrawn w.game (get w.shown k)
   pub shown : (l : Link) → get w.links k ≡ Some l → IsShown (get w.shown k) l.stage ps
   pub early : is_new k w.last ≡ true → (ps ≡ []) × (get w.shown k ≡ None)
@@ -99,12 +97,12 @@ tick_shows w k l ps s there = tick_cases w k l (TickShows w k ps) there
         (ps ++ map of_play (due (at_tick w).game (get w.shown k) p))
     shows p plays speaks =
         let open_ = ap is_closed (stage p plays) in
-        let later = at_tick_later w s.told in
+        let later = at_tick_later w s.good in
         subst (λ (o : Option Player). IsShown (shown_of w k o) l.stage
         (ps ++ map of_play (due (at_tick w).game (get w.shown k) p)))
         (sym (speaks_there w k l p there plays open_ speaks)) (record {
           playing = λ _. due_shows (at_tick w).game p (get w.shown k) ps
-              (at_tick_world w s.good).game later.told
+              (at_tick_world w s.good).game (at_tick_world w s.good).told
               (drawn_later w.game (at_tick w).game (get w.shown k) later s.drawn)
               ((s.shown l there).playing (ap is_play (stage p plays)));
           waiting = λ waits _. absurd (not_both (is_play l.stage) (ap is_play (stage p plays))
@@ -112,37 +110,36 @@ tick_shows w k l ps s there = tick_cases w k l (TickShows w k ps) there
         })
 
 -- what a tick shows is drawn of its game
-tick_drawn : (w : World) (k : ℕ) → GoodWorld w → Told w.game →
+tick_drawn : (w : World) (k : ℕ) → GoodWorld w →
     IsDrawn (tick w).world.game (get (tick w).world.shown k)
-tick_drawn w k good told = subst (IsDrawn (tick w).world.game) (sym (tick_shown w k))
+tick_drawn w k good = subst (IsDrawn (tick w).world.game) (sym (tick_shown w k))
     (at_player (get (at_tick w).game.players k))
   where
     at_player : (o : Option Player) → IsDrawn (tick w).world.game (shown_of w k o)
     at_player None = tt
     at_player (Some p) =
-        let here = (at_tick_later w told).told in
-        let later = flushed_later w here in
+        let here = at_tick_world w good in
+        let later = flushed_later w in
         record {
           game = (at_tick w).game;
           player = p;
           last = last_shown (get w.shown k);
-          good = (at_tick_world w good).game;
-          told = here;
+          good = here.game;
+          told = here.told;
           settings = sym later.settings;
-          later = later.since (kinds_of (at_tick w).game here)
-              (since_known (kinds_of (at_tick w).game here) (at_tick w).game.entities
-              here.kinds.entities);
+          later = later.since (kinds_of (at_tick w).game here.told)
+              (since_known (kinds_of (at_tick w).game here.told) (at_tick w).game.entities
+              here.told.kinds.entities);
           is = refl;
         }
 
 tick_next : (k : ℕ) (w : World) (ps : List Sent) → ShownWorld k w ps →
-    GoodWorld (tick w).world → Told (tick w).world.game →
+    GoodWorld (tick w).world →
     (is_new k (tick w).world.last ≡ true → is_new k w.last ≡ true) →
     ShownWorld k (tick w).world (ps ++ to k (tick w).out)
-tick_next k w ps s good told old = record {
+tick_next k w ps s good old = record {
   good = good;
-  told = told;
-  drawn = tick_drawn w k s.good s.told;
+  drawn = tick_drawn w k s.good;
   shown = λ m there. at_link m (get w.links k) refl (sym (tick_link w k) ∙ there);
   early = λ new. let none : get w.links k ≡ None = s.good.fresh k (old new) in (
     ap (λ (qs : List Sent). ps ++ qs) (handed_none none) ∙ append-nil ps
@@ -212,7 +209,6 @@ module _ (k : ℕ) (w : World) (e : Event) (ps : List Sent) (s : ShownWorld k w 
       IsShown (get w.shown k) m.stage (ps ++ qs) → Next
   turned l m qs there now shown handed_is is = record {
     good = good;
-    told = later.told;
     drawn = still_drawn shown;
     shown = λ n here. subst (λ (x : Link). IsShown (get (step w e).world.shown k) x.stage
         (ps ++ to k (step w e).out)) (some_is m n (sym now ∙ here))
@@ -229,7 +225,6 @@ module _ (k : ℕ) (w : World) (e : Event) (ps : List Sent) (s : ShownWorld k w 
   unfolding step
   shown_next (rests st none) = subst (ShownWorld k (step w e).world) (quiet st.handed) (record {
     good = good;
-    told = later.told;
     drawn = still_drawn st.shown;
     shown = λ l there. subst (λ (o : Option Sight). IsShown o l.stage ps) (sym st.shown)
         (s.shown l (sym st.link ∙ there));
@@ -250,7 +245,6 @@ module _ (k : ℕ) (w : World) (e : Event) (ps : List Sent) (s : ShownWorld k w 
       let early = s.early c.new in
       subst (ShownWorld k (step w e).world) (quiet c.handed) (record {
         good = good;
-        told = later.told;
         drawn = still_drawn c.shown;
         shown = λ l there. subst (λ (x : Link). IsShown (get (step w e).world.shown k) x.stage ps)
             (some_is (joining w) l (sym c.link ∙ there))
@@ -260,22 +254,19 @@ module _ (k : ℕ) (w : World) (e : Event) (ps : List Sent) (s : ShownWorld k w 
       })
   shown_next (goes l g none) = subst (ShownWorld k (step w e).world) (quiet g.handed) (record {
     good = good;
-    told = later.told;
     drawn = subst (IsDrawn (step w e).world.game) (sym g.shown) tt;
     shown = λ m there. absurd (none_some _ m g.link there);
     early = λ new. absurd (none_some _ l (s.good.fresh k (old new)) g.there);
   })
-  shown_next (ticks is) = at_tick_so e is good later.told old
+  shown_next (ticks is) = at_tick_so e is good old
     where
       at_tick_so : (e : Event) → e ≡ ticked → GoodWorld (step w e).world →
-          Told (step w e).world.game →
           (is_new k (step w e).world.last ≡ true → is_new k w.last ≡ true) →
           ShownWorld k (step w e).world (ps ++ to k (step w e).out)
-      at_tick_so e is good told before = subst (λ (x : Event). GoodWorld (step w x).world →
-          Told (step w x).world.game →
+      at_tick_so e is good before = subst (λ (x : Event). GoodWorld (step w x).world →
           (is_new k (step w x).world.last ≡ true → is_new k w.last ≡ true) →
           ShownWorld k (step w x).world (ps ++ to k (step w x).out)) (sym is)
-          (λ good told before. tick_next k w ps s good told before) good told before
+          (λ good before. tick_next k w ps s good before) good before
 
 -- ---- along runs
 
@@ -283,7 +274,7 @@ run_shown : (k : ℕ) (events : List Event) (w : World) (ps : List Sent) → Sho
     ShownWorld k (history w events) (ps ++ handed k w events)
 run_shown k [] w ps s = subst (ShownWorld k w) (sym (append-nil ps)) s
 run_shown k (e ∷ events) w ps s =
-    let later = step_later w e s.good s.told in
+    let later = step_later w e s.good in
     let next = shown_next k w e ps s (step_good w e s.good) later (one_step w e k s.good) in
     subst (ShownWorld k (history w (e ∷ events)))
     (append_assoc ps (to k (step w e).out) (handed k (step w e).world events))
@@ -293,7 +284,6 @@ pub shown_world : (settings : Begun) (events : List Event) (k : ℕ) →
     ShownWorld k (history (new_world settings) events) (handed k (new_world settings) events)
 shown_world settings events k = run_shown k events (new_world settings) [] (record {
   good = new_good settings;
-  told = new_told settings;
   drawn = subst (IsDrawn (new_world settings).game) (sym (get-empty nat_cmp k)) tt;
   shown = λ l there. absurd (none_some _ l (get-empty nat_cmp k) there);
   early = λ new. (refl, get-empty nat_cmp k);

@@ -14,13 +14,14 @@ use Rattle.mc_model.specs.Stages.{is_closed}
 use Rattle.mc_model.specs.Link.{Handing, Link, disconnect, hand, quiet}
 use Rattle.mc_model.specs.Showing.{due, last_shown, sight_of}
 use Rattle.mc_model.specs.World.{World, is_closing}
-use Rattle.mc_model.specs.Tick.{aged, at_tick, awaiting, beat, beat_of, flush, flush_of, grown}
-use Rattle.mc_model.specs.Tick.{is_silent, shown_all, tick, tick_hands, told, told_player}
+use Rattle.mc_model.specs.Tick.{aged, at_tick, awaiting, beat, beat_of, beats, flush, flush_of}
+use Rattle.mc_model.specs.Tick.{grown, is_silent, shown_all, tick, tick_hands, told, told_player}
 use Rattle.mc_model.proofs.Maps.Options.{some_is}
 use Rattle.mc_model.proofs.Maps.Lookups.{get_keyed}
 use Rattle.mc_laws.proofs.Walk.Each.{disconnect_closes, each_links, each_players, each_shown}
 use Rattle.mc_laws.proofs.Walk.Each.{each_last, each_unread, told_players}
 use Rattle.mc_laws.proofs.Apart.Outs.{handed_by, to_each}
+use Rattle.mc_laws.proofs.Pickups.Picking.{pickups_leave}
 
 -- first by its beat, then by what is due
 abbrev pub after_tick : World → ℕ → Link → Handing
@@ -87,16 +88,24 @@ tick_shown w k =
     (get (at_tick w).game.players k))
     (each_shown (λ (j : ℕ) (l : Link). beat (grown w.game) (get w.shown j) j l) (aged w))
 
+-- who is in play once those that were silent left
+pub beats_player : (w : World) (k : ℕ) (l : Link) → get w.links k ≡ Some l →
+    get (beats (aged w)).game.players k
+    ≡ cond (is_closed (beat (grown w.game) (get w.shown k) k l).link.stage) None
+    (get w.game.players k)
+beats_player w k l there =
+    each_players (λ (j : ℕ) (m : Link). beat (grown w.game) (get w.shown j) j m) (aged w) k
+    ∙ ap (λ (o : Option Link). cond (is_closing
+    (λ (j : ℕ) (m : Link). beat (grown w.game) (get w.shown j) j m) k o) None
+    (get w.game.players k)) there
+
 -- who is in play in the world of a tick
 pub at_tick_player : (w : World) (k : ℕ) (l : Link) → get w.links k ≡ Some l →
     get (at_tick w).game.players k
     ≡ cond (is_closed (beat (grown w.game) (get w.shown k) k l).link.stage) None
     (get w.game.players k)
 at_tick_player w k l there =
-    each_players (λ (j : ℕ) (m : Link). beat (grown w.game) (get w.shown j) j m) (aged w) k
-    ∙ ap (λ (o : Option Link). cond (is_closing
-    (λ (j : ℕ) (m : Link). beat (grown w.game) (get w.shown j) j m) k o) None
-    (get w.game.players k)) there
+    ap (λ m. get m k) (pickups_leave (beats (aged w)).game).players ∙ beats_player w k l there
 
 -- one that is not silent is in play in it, and whoever is not was not before
 pub speaks_there : (w : World) (k : ℕ) (l : Link) (p : Player) → get w.links k ≡ Some l →

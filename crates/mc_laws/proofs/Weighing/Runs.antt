@@ -19,7 +19,8 @@ use Rattle.mc_model.specs.Deeds.{enter_as}
 use Rattle.mc_model.specs.Leaving.{leave, leave_all, left_by}
 use Rattle.mc_model.specs.Link.{Handing, Link, disconnect, gone, hand}
 use Rattle.mc_model.specs.World.{Outcome, Seat, Turn, World, closed_by, each, new_world, seat_of}
-use Rattle.mc_model.specs.Tick.{aged, at_tick, shown_all}
+use Rattle.mc_model.specs.Pickups.{pickups}
+use Rattle.mc_model.specs.Tick.{aged, at_tick, beats, picking, shown_all}
 use Rattle.mc_model.specs.Run.{history}
 use Rattle.mc_model.specs.Good.{Good, GoodWorld}
 use Rattle.mc_model.specs.Balance.{Balance}
@@ -30,8 +31,10 @@ use Rattle.mc_laws.proofs.Walk.Moves.{Kept, OutMove, keeps, does, shakes, answer
 use Rattle.mc_laws.proofs.Walk.Moves.{walked_keeps}
 use Rattle.mc_laws.proofs.Walk.Steps.{Move, departs, forgets, joins, passes, rests, sits}
 use Rattle.mc_laws.proofs.Walk.Steps.{step_moves, takes}
+use Rattle.mc_laws.proofs.Pickups.Picking.{pickups_picked}
 use Rattle.mc_laws.proofs.Runs.Seats.{GoodSeat, free_name, nobody_yet, seat_kept}
-use Rattle.mc_laws.proofs.Runs.Worlds.{at_tick_world, first_seat, new_good, step_good}
+use Rattle.mc_laws.proofs.Runs.Worlds.{at_tick_world, beats_world, first_seat, new_good}
+use Rattle.mc_laws.proofs.Runs.Worlds.{step_good}
 use Rattle.mc_laws.proofs.Weighing.Acts.{act_even}
 use Rattle.mc_laws.proofs.Weighing.Spending.{balance_on, enter_balance, go_weighs}
 
@@ -96,6 +99,10 @@ each_balance : (f : ℕ → Link → Handing) (w : World) → Good w.game → Ba
 unfolding each
 each_balance f w good even = all_balance (closed_by f w) w.game good even
 
+picking_balance : (w : World) → GoodWorld w → Balance w.game → Balance (picking w).game
+picking_balance w a even = balance_on w.game (pickups w.game)
+    (λ id damage some few low. (pickups_picked w.game a.game a.told).weighs id damage) even
+
 moves_balance : (w : World) (o : Outcome) → Move w o → GoodWorld w → Balance w.game →
     Balance o.world.game
 moves_balance w o (rests is) a even = subst (λ (x : Outcome). Balance x.world.game) (sym is) even
@@ -114,7 +121,8 @@ moves_balance w o (forgets k l there done is) a even =
     subst (λ (x : Outcome). Balance x.world.game) (sym is) even
 moves_balance w o (passes is) a even = subst (λ (x : Outcome). Balance x.world.game) (sym is)
     (each_balance _ (shown_all (at_tick w)) (told_good (at_tick w).game (at_tick_world w a).game)
-    (each_balance _ (aged w) a.game even))
+    (picking_balance (beats (aged w)) (beats_world w a)
+    (each_balance _ (aged w) a.game even)))
 
 run_balance : (w : World) (events : List Event) → GoodWorld w → Balance w.game →
     Balance (history w events).game

@@ -1,12 +1,8 @@
 -- How many items of a sort each deed spends and gains.
-use Rattle.std.proofs.Common.{◌≡◌, ℕ, ◌+◌, ◌*◌, ◌≤◌, Bool, true, false, cond, not, List, []}
-use Rattle.std.proofs.Common.{◌∷◌, Option, Some, None, refl, ap, ◌∙◌, arith}
-use Rattle.std.specs.Prelude.{◌≤ℤ◌, is_some, option_map, unsigned_abs, unwrap_or}
-use Rattle.std.specs.Prelude.{if◌then◌else◌}
-use Rattle.std.proofs.lemmas.Bool.Decides.{nat_tests, Decides-int_eq}
-use Rattle.std.proofs.lemmas.Int.{ints}
-use Rattle.std.proofs.lemmas.List.Sums.{sum_by-cons}
-use Rattle.std.specs.Ordering.{int_eq}
+use Rattle.std.proofs.Common.{◌≡◌, ℕ, ◌+◌, ◌*◌, ◌≤◌, true, cond, List}
+use Rattle.std.proofs.Common.{Option, Some, None, refl, ap, ◌∙◌, arith}
+use Rattle.std.specs.Prelude.{is_some, option_map, unsigned_abs, unwrap_or}
+use Rattle.std.proofs.lemmas.Bool.Decides.{nat_tests}
 use Rattle.std.specs.Cmp.Lexicographic.{nat_list_cmp_total}
 use Rattle.std.specs.FinMap.{get, insert, len, len-insert}
 use lib.IntN.{ℤ, pos}
@@ -41,7 +37,7 @@ use Rattle.mc_model.specs.Deeds.{with_state}
 use Rattle.mc_model.specs.Good.{Good, IsOwn, is_body}
 use Rattle.mc_model.proofs.Maps.Lookups.{names_apart}
 use Rattle.mc_laws.proofs.Weighing.Cells.{edited_counts, sum_inserted}
-use Rattle.mc_laws.proofs.Weighing.Stock.{entities_changed, entities_more, hand_lies}
+use Rattle.mc_laws.proofs.Weighing.Stock.{entities_changed, entities_more, gone_lies, hand_lies}
 
 -- ---- weighing
 
@@ -196,47 +192,13 @@ state_weighs id damage cell state g inside = record {
 lies_no : (sort : Sort) (kind : EntityKind) → is_body kind ≡ true → lying sort kind ≡ 0
 lies_no sort kind is = grind (arith, nat_tests)
 
-past : (n low high : ℤ) (es : List Entity) → n ≤ℤ low → Rise eid_of low es high →
-    without eid_of n es ≡ es
-past n low high [] le r = refl
-past n low high (e ∷ es) le r = step (int_eq e.eid n) refl
-    (past n e.eid high es (let first = r.0 in omega (arith, ints, le, first)) r.1)
-  where
-    step : (b : Bool) → int_eq e.eid n ≡ b → without eid_of n es ≡ es →
-        (if not b then e ∷ without eid_of n es else without eid_of n es) ≡ e ∷ es
-    step true t rest = (let same = (Decides-int_eq e.eid n).0 t in
-        let first = r.0 in absurd (omega (arith, ints, le, first, same)))
-    step false t rest = ap (λ (xs : List Entity). e ∷ xs) rest
-
 body_gone : (sort : Sort) (n low high : ℤ) (es : List Entity) (x : Entity) →
     Rise eid_of low es high → numbered eid_of n es ≡ Some x → is_body x.kind ≡ true →
     in_entities sort (without eid_of n es) ≡ in_entities sort es
-body_gone sort n low high [] x r found is = refl
-body_gone sort n low high (e ∷ es) x r found is =
-    step (int_eq e.eid n) refl found (λ later. body_gone sort n e.eid high es x r.1 later is)
-  where
-    lies : Entity → ℕ
-    lies y = lying sort y.kind
-
-    step : (b : Bool) → int_eq e.eid n ≡ b → (if b then Some e else numbered eid_of n es) ≡ Some x →
-        (numbered eid_of n es ≡ Some x →
-        in_entities sort (without eid_of n es) ≡ in_entities sort es) →
-        in_entities sort (if not b then e ∷ without eid_of n es else without eid_of n es)
-        ≡ in_entities sort (e ∷ es)
-    step true t found later =
-        let same : e ≡ x = cc in
-        let at = (Decides-int_eq e.eid n).0 t in
-        let none = lies_no sort e.kind (ap (λ (y : Entity). is_body y.kind) same ∙ is) in
-        let rest = ap (in_entities sort) (past n e.eid high es (omega (arith, ints, at)) r.1) in
-        omega (arith, rest, none, sum_by-cons (λ (y : Entity). lying sort y.kind) e es)
-    step false t found later =
-        let rest = later found in
-        omega (
-          arith,
-          rest,
-          sum_by-cons (λ (y : Entity). lying sort y.kind) e (without eid_of n es),
-          sum_by-cons (λ (y : Entity). lying sort y.kind) e es,
-        )
+body_gone sort n low high es x r found is =
+    let gone = gone_lies sort n low high es x r found in
+    let none = lies_no sort x.kind is in
+    omega (arith, gone, none)
 
 pub go_weighs : (id damage k : ℕ) (p : Player) (g : Game) → Good g → get g.players k ≡ Some p →
     Weighs id damage 0 0 g (go_of k p g)

@@ -23,7 +23,7 @@ impl Game {
     }
 
     /// Gives the player of a connection another pack; its entity holds what that has at its hand.
-    fn repack(&mut self, connection: u32, pack: Pack)
+    pub(super) fn repack(&mut self, connection: u32, pack: Pack)
         ensures { self.new ≡ played self.old (by_player connection
             (λ p. repack_of p pack) self.old.game) self.old.aside }
     {

@@ -1,0 +1,86 @@
+-- Items that go into a player's pack one after another, and players that pick up one after another.
+use Rattle.std.proofs.Common.{◌≡◌, ℕ, ◌≤◌, List, [], ◌∷◌, refl, sym, ap, arith, ◌∙◌, ℤ}
+use Rattle.std.specs.Prelude.{Some, min}
+use Rattle.std.specs.List.{fold}
+use Rattle.std.specs.Ordering.{nat_cmp}
+use Rattle.std.specs.FinMap.{FinMap, get}
+use Rattle.mc_slots.specs.declared.pile.Item.{Item}
+use Rattle.mc_slots.specs.declared.pile.Pile.{Pile}
+use Rattle.mc_slots.specs.declared.pile.Pile.TheVariants.{Empty, Full}
+use Rattle.mc_windows.specs.Pack.{PackValue}
+use Rattle.mc_windows.specs.Storing.{stored}
+use Rattle.mc_model.specs.declared.player.Player.{Player}
+use Rattle.mc_model.specs.Game.{Game, pack_of}
+use Rattle.mc_model.specs.Deeds.{lessened, repack_of}
+use Rattle.mc_model.specs.Pickups.{pick_up, ripe_for, stowed}
+use Rattle.mc_play.specs.Kept.{GameValue, by_player, played}
+use Rattle.mc_play.specs.Picking.{all_stowed}
+use Rattle.mc_play.proofs.Dropping.{by_some}
+
+-- once the first of those that are left is done, doing the others comes to all the same
+pub done_next : {X : Type 0} (f : Game → X → Game) (xs now_ rest : List X) (x : X)
+    (start v n : GameValue) → now_ ≡ x ∷ rest →
+    played v (fold f v.game now_) v.aside ≡ played start (fold f start.game xs) v.aside →
+    n ≡ played v (f v.game x) n.aside →
+    played n (fold f n.game rest) n.aside ≡ played start (fold f start.game xs) n.aside
+done_next f xs now_ rest x start v n next so made =
+    let game : fold f n.game rest ≡ fold f start.game xs =
+    ap (λ (w : GameValue). fold f w.game rest) made ∙ ap (fold f v.game) (sym next)
+    ∙ ap (λ (w : GameValue). w.game) so in
+    let settled : n.settled ≡ start.settled =
+    ap (λ (w : GameValue). w.settled) made ∙ ap (λ (w : GameValue). w.settled) so in
+    λ j. record { game = game j; settled = settled j; aside = n.aside }
+
+-- ---- one item
+
+-- what is stowed into the pack of the player of a connection, step by step
+pub stows : (k : ℕ) (p : Player) (e : ℤ × Item) (left_ : Pile) (pack : PackValue)
+    (u mid n : GameValue) → get u.game.players k ≡ Some p →
+    pack ≡ (stored (pack_of u.game p) e.1).pack →
+    left_ ≡ (stored (pack_of u.game p) e.1).floor →
+    mid ≡ played u (by_player k (λ (q : Player). repack_of q pack) u.game) u.aside →
+    n ≡ played mid (lessened e.0 left_ mid.game) n.aside →
+    n ≡ played u (by_player k (λ (q : Player). stowed q e) u.game) n.aside
+stows k p e left_ pack u mid n plays is rest carried made =
+    let game : mid.game ≡ repack_of p (stored (pack_of u.game p) e.1).pack u.game =
+    ap (λ (w : GameValue). w.game) carried
+    ∙ by_some k (λ (q : Player). repack_of q pack) u.game p plays
+    ∙ ap (λ (x : PackValue). repack_of p x u.game) is in
+    let settled : mid.settled ≡ u.settled = ap (λ (w : GameValue). w.settled) carried in
+    made
+    ∙ (λ i. record {
+      game = lessened e.0 (rest i) (game i);
+      settled = settled i;
+      aside = n.aside;
+    })
+    ∙ ap (λ (g : Game). played u g n.aside)
+    (sym (by_some k (λ (q : Player). stowed q e) u.game p plays))
+
+-- ---- all that one picks up
+
+-- it changes no player
+stowed_players : (p : Player) (e : ℤ × Item) (g : Game) → (stowed p e g).players ≡ g.players
+stowed_players p e g =
+    less (stored (pack_of g p) e.1).floor (repack_of p (stored (pack_of g p) e.1).pack g)
+  where
+    less : (pile : Pile) (h : Game) → (lessened e.0 pile h).players ≡ h.players
+    less Empty h = refl
+    less (Full item) h = refl
+
+-- by the number of its connection it is the same
+all_stowed_is : (k : ℕ) (p : Player) (found : List (ℤ × Item)) (g : Game) →
+    get g.players k ≡ Some p →
+    all_stowed k found g ≡ fold (λ (h : Game) (e : ℤ × Item). stowed p e h) g found
+all_stowed_is k p [] g plays = refl
+all_stowed_is k p (e ∷ found) g plays =
+    ap (all_stowed k found) (by_some k (λ (q : Player). stowed q e) g p plays)
+    ∙ all_stowed_is k p found (stowed p e g)
+    (ap (λ (m : FinMap nat_cmp Player). get m k) (stowed_players p e g) ∙ plays)
+
+pub picks : (k : ℕ) (p : Player) (found : List (ℤ × Item)) (g : Game) →
+    get g.players k ≡ Some p → found ≡ ripe_for p g →
+    all_stowed k found g ≡ by_player k pick_up g
+picks k p found g plays is =
+    all_stowed_is k p found g plays
+    ∙ ap (fold (λ (h : Game) (e : ℤ × Item). stowed p e h) g) is
+    ∙ sym (by_some k pick_up g p plays)
