@@ -12,7 +12,7 @@ use Rattle.mc_frame.specs.Frame.{SpellsFrame, frame_read}
 use Rattle.mc_frame.specs.FrameLaws.{frame_found, frame_fit}
 use Rattle.mc_frame.specs.Cut.{IsPart, kept_count, Ends}
 use Rattle.mc_frame.specs.Held.{Splitting}
-use Rattle.mc_frame.specs.Splitting.{TakesFrame, held_max, room_for}
+use Rattle.mc_frame.specs.Splitting.{PeeksFrame, TakesFrame, held_max, room_for, shortened}
 use Rattle.mc_frame.specs.Kept.{IsMet}
 use Rattle.mc_frame.proofs.Stops.{frame_stopped}
 use Rattle.mc_frame.proofs.Cuts.{stopped_ends, ends_no_frame, ends_once, one_frame}
@@ -71,34 +71,38 @@ same_payload held payload len payload' front rest s s' is =
     (one_frame payload (take len held) (drop len held) payload' front rest s s'
     (take-append-drop len held ∙ is)).0
 
--- a frame goes: the place rises by its bytes
-pub frame_goes : (now : Splitting) (buffer payload : List ℕ) (start len before after : ℕ)
+-- the first bytes go: the place rises by them
+pub pass_is : (now : Splitting) (buffer : List ℕ) (start len before after : ℕ)
     (fault : Option FrameFault) →
     ◌≡◌ {A = Splitting} (record { held = drop start buffer; before = before; fault = fault }) now →
-    len ≤ length (drop start buffer) → SpellsFrame payload (take len (drop start buffer)) →
     after ≡ kept_count (before + len) →
-    TakesFrame now payload (record {
-      held = drop (start + len) buffer;
-      before = after;
+    ◌≡◌ {A = Splitting}
+    (record { held = drop (start + len) buffer; before = after; fault = fault })
+    (shortened len now)
+pass_is now buffer start len before after fault is counted =
+    let goes : ◌≡◌ {A = Splitting}
+    (record { held = drop (start + len) buffer; before = after; fault = fault })
+    (record {
+      held = drop len (drop start buffer);
+      before = kept_count (before + len);
       fault = fault;
-    })
-frame_goes now buffer payload start len before after fault is within s counted =
-    let P : Splitting → Type 0 =
-    λ t. TakesFrame t payload (record {
-      held = drop (start + len) buffer;
-      before = after;
+    }) = (λ i. record {
+      held = sym (drop-drop len start buffer) i;
+      before = counted i;
       fault = fault;
     }) in
-    let size : length (take len (drop start buffer)) ≡ len = length-take-le len (drop start buffer)
-    within in
-    subst P is (record {
-      front = take len (drop start buffer);
-      spelled = s;
-      held = sym (take-append-drop len (drop start buffer)) ∙
-          ap (λ (t : List ℕ). take len (drop start buffer) ++ t) (drop-drop len start buffer);
-      before = rw size counted;
-      fault = refl;
-    })
+    goes ∙ ap (shortened len) is
+
+-- which are those of a frame
+pub pass_takes : (now : Splitting) (payload : List ℕ) (len : ℕ) → len ≤ length now.held →
+    SpellsFrame payload (take len now.held) → TakesFrame now payload (shortened len now)
+pass_takes now payload len within s = record {
+  front = take len now.held;
+  spelled = s;
+  held = sym (take-append-drop len now.held);
+  before = ap (λ (n : ℕ). kept_count (now.before + n)) (sym (length-take-le len now.held within));
+  fault = refl;
+}
 
 -- ---- what the splitter shows
 
@@ -140,27 +144,25 @@ shown_ends now buffer deref held start before fault ends s e =
 
 pub shown_frame : (now : Splitting) (buffer deref held : List ℕ) (start before : ℕ)
     (fault : Option FrameFault) (payload : List ℕ) (len : ℕ) →
-    Shown now buffer deref held start before fault → SpellsFrame payload (take len held) →
-    SpellsFrame payload (take len now.held)
-shown_frame now buffer deref held start before fault payload len s f =
-    let P : List ℕ → Type 0 = λ t. SpellsFrame payload (take len t) in
-    subst P (shown_held now buffer deref held start before fault s) f
-
-pub shown_goes : (now : Splitting) (buffer deref held : List ℕ) (start before : ℕ)
-    (fault : Option FrameFault) (payload : List ℕ) (len after : ℕ) →
-    Shown now buffer deref held start before fault → len ≤ length held →
-    SpellsFrame payload (take len held) → after ≡ kept_count (before + len) →
-    TakesFrame now payload (record {
-      held = drop (start + len) buffer;
-      before = after;
-      fault = fault;
-    })
-shown_goes now buffer deref held start before fault payload len after s within f counted =
-    let same : held ≡ drop start buffer = s.split ∙ ap (λ (t : List ℕ). drop start t) s.borrowed in
+    Shown now buffer deref held start before fault → fault ≡ None → len ≤ length held →
+    SpellsFrame payload (take len held) → PeeksFrame now payload len
+shown_frame now buffer deref held start before fault payload len s none within f =
+    let same = shown_held now buffer deref held start before fault s in
     let P : List ℕ → Type 0 = λ t. SpellsFrame payload (take len t) in
     let Q : List ℕ → Type 0 = λ t. len ≤ length t in
-    frame_goes now buffer payload start len before after fault s.view (subst Q same within)
-    (subst P same f) counted
+    record {
+      fine = sym (ap (λ (t : Splitting). t.fault) s.view) ∙ none;
+      within = subst Q same within;
+      spelled = subst P same f;
+    }
+
+pub shown_part : (now : Splitting) (buffer deref held : List ℕ) (start before : ℕ)
+    (fault : Option FrameFault) → Shown now buffer deref held start before fault →
+    fault ≡ None → IsPart held → IsPart now.held × (now.fault ≡ None)
+shown_part now buffer deref held start before fault s none part = (
+  subst IsPart (shown_held now buffer deref held start before fault s) part,
+  sym (ap (λ (t : Splitting). t.fault) s.view) ∙ none,
+)
 
 -- ---- an end has one reason
 

@@ -1,9 +1,11 @@
 -- What a splitter is to a caller, what its calls do, and what any list of them comes to.
-use Rattle.std.specs.Prelude.{◌≡◌, ℕ, ◌+◌, ◌-◌, min, List, [], ◌∷◌, ◌++◌, length, take, Option}
-use Rattle.std.specs.Prelude.{Some, None}
+use Rattle.std.specs.Prelude.{◌≡◌, ℕ, ◌+◌, ◌-◌, ◌≤◌, min, List, [], ◌∷◌, ◌++◌, length, take, drop}
+use Rattle.std.specs.Prelude.{Option, Some, None}
 use Rattle.mc_frame.specs.declared.fault.FrameFault.{FrameFault}
 use Rattle.mc_frame.specs.declared.fault.Take.{Take}
 use Rattle.mc_frame.specs.declared.fault.Take.TheVariants.{Frame, More, Bad}
+use Rattle.mc_frame.specs.declared.fault.Peek.{Peek}
+use Rattle.mc_frame.specs.declared.fault.Peek.TheVariants as peeks
 use Rattle.mc_frame.specs.declared.splitter.TheConstants.{HELD_MAX}
 use Rattle.mc_frame.specs.Frame.{SpellsFrame}
 use Rattle.mc_frame.specs.Cut.{IsPart, Ends, Cut, kept_count}
@@ -37,6 +39,25 @@ Takes old (Frame payload) new = TakesFrame old payload new
 Takes old More new = IsPart old.held × (old.fault ≡ None) × (new ≡ old)
 Takes old (Bad fault) new = Ends old.before old.held (Some fault) ×
     (new ≡ record old { fault = Some fault })
+
+-- a whole frame of so many bytes stands at the front
+pub record PeeksFrame (now : Splitting) (payload : List ℕ) (len : ℕ) : Type 0 where
+  pub fine : now.fault ≡ None
+  pub within : len ≤ length now.held
+  pub spelled : SpellsFrame payload (take len now.held)
+
+-- what stands at the front, by the definition of a cut
+abbrev pub Peeks : Splitting → Peek → Type 0
+Peeks now (peeks.Frame payload len) = PeeksFrame now payload.now len
+Peeks now peeks.More = IsPart now.held × (now.fault ≡ None)
+Peeks now (peeks.Bad fault) = Ends now.before now.held (Some fault)
+
+-- so many of the held bytes go
+abbrev pub shortened : ℕ → Splitting → Splitting
+shortened len now = record now {
+  held = drop len now.held;
+  before = kept_count (now.before + len);
+}
 
 -- ---- any list of calls
 

@@ -43,3 +43,14 @@ pub enum Take {
     /// No frame, whatever follows.
     Bad(FrameFault),
 }
+
+/// What a splitter has at the front of the bytes that it holds, without copying it.
+#[derive(Clone, Copy)]
+pub enum Peek<'a> {
+    /// The payload of a whole frame, and how many bytes the frame has.
+    Frame(&'a [u8], usize),
+    /// A part of a frame, or nothing.
+    More,
+    /// No frame, whatever follows.
+    Bad(FrameFault),
+}

@@ -12,7 +12,7 @@ mod laws;
 mod outbox;
 mod splitter;
 
-pub use fault::{FrameFault, Take};
+pub use fault::{FrameFault, Peek, Take};
 pub use frame::write_frame;
 pub use laws::{one_cut, same_frames_in_any_pieces};
 pub use outbox::{OUTBOX_MAX, Outbox};

@@ -122,6 +122,19 @@ impl Outbox {
         self.share(Bytes::from_vec(bytes)?)
     }
 
+    /// Copies bytes behind those that are held. Without memory these are as before.
+    pub fn push_slice(&mut self, bytes: &[u8]) -> Result<(), NoMemory>
+        requires { length self.old + length bytes.now ≤ outbox_max }
+        ensures ok { OnOk result (self.new ≡ self.old ++ bytes.now) }
+        ensures err { OnErr result (self.new ≡ self.old) }
+    {
+        if bytes.len() < SHARED_MIN {
+            return self.join(bytes);
+        }
+        let piece = Bytes::copy_from_slice(*self.joined.allocator(), bytes)?;
+        self.share(piece)
+    }
+
     /// Copies a small piece behind the bytes that are held. Without memory they are as before.
     fn join(&mut self, piece: &[u8]) -> Result<(), NoMemory>
         requires room { length self.old + length piece.now ≤ outbox_max }

@@ -3,10 +3,10 @@ ghost use Rattle.std.specs.Prelude.{length, take, drop};
 ghost use Rattle.mc_frame.specs.Frame.{SpellsFrame};
 ghost use Rattle.mc_frame.specs.Cut.{IsPart, Ends};
 ghost use Rattle.mc_frame.specs.Held.{nothing_held};
-ghost use Rattle.mc_frame.specs.Splitting.{Feeds, Takes, held_max, room_for};
+ghost use Rattle.mc_frame.specs.Splitting.{Feeds, Peeks, Takes, held_max, shortened, room_for};
 
 use crate::frame::front_frame;
-use crate::{FrameFault, Take};
+use crate::{FrameFault, Peek, Take};
 use mc_bytes::{NoMemory, Octets};
 use std::alloc::Global;
 use std::marker::Model;
@@ -116,6 +116,35 @@ impl Splitter {
         Ok(count)
     }
 
+    /// Shows what stands at the front of the held bytes, without copying it: a whole frame, `More`
+    /// where they are a part of a frame, or `Bad` where no frame begins so.
+    pub fn peek(&self) -> Peek<'_>
+        ensures { Peeks self.now result }
+    {
+        if let Some(fault) = self.fault {
+            return Peek::Bad(fault);
+        }
+        let held = self.buffer.split_at(self.start).1;
+        match front_frame(held, self.before) {
+            Ok((payload, len)) => Peek::Frame(payload, len),
+            Err(None) => Peek::More,
+            Err(Some(fault)) => Peek::Bad(fault),
+        }
+    }
+
+    /// Lets go of the first `len` of the held bytes. Those of the frame that `peek` showed are
+    /// taken by it.
+    pub fn pass(&mut self, len: usize)
+        requires within { len ≤ length self.old.held }
+        requires fine { self.old.fault ≡ None }
+        ensures is { self.new ≡ shortened len self.old }
+        ensures takes { (payload : List ℕ) → SpellsFrame payload (take len self.old.held) →
+            Takes self.old (Take.Frame payload) self.new }
+    {
+        self.start += len;
+        self.before = self.before.saturating_add(len as u64);
+    }
+
     /// Takes the frame at the front of the held bytes, or says why there is none: `More` exactly
     /// where they are a part of a frame, `Bad` exactly where no frame begins so, and for good.
     pub fn take(&mut self) -> Result<Take, NoMemory>
@@ -130,19 +159,14 @@ impl Splitter {
             result ≡ Ok (Take.Bad fault) }
         ensures err { OnErr result (self.new ≡ self.old) }
     {
-        if let Some(fault) = self.fault {
-            return Ok(Take::Bad(fault));
-        }
-        let held = self.buffer.split_at(self.start).1;
-        match front_frame(held, self.before) {
-            Ok((payload, len)) => {
+        match self.peek() {
+            Peek::Frame(payload, len) => {
                 let frame = Octets::from_slice(*self.buffer.allocator(), payload)?;
-                self.start += len;
-                self.before = self.before.saturating_add(len as u64);
+                self.pass(len);
                 Ok(Take::Frame(frame))
             }
-            Err(None) => Ok(Take::More),
-            Err(Some(fault)) => {
+            Peek::More => Ok(Take::More),
+            Peek::Bad(fault) => {
                 self.fault = Some(fault);
                 Ok(Take::Bad(fault))
             }

@@ -4,5 +4,6 @@ pub mod Cuts
 pub mod Turns
 pub mod Reading
 pub mod Performing
+pub mod Replying
 pub mod Showings
 pub mod Ages

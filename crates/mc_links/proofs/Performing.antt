@@ -65,7 +65,7 @@ login_entered P k s protocol name given same is done =
 -- ---- steps
 
 -- the bytes of one packet
-one_packet : (bytes : List ℕ) (packet : Sent) → bytes ≡ frame_of packet →
+pub one_packet : (bytes : List ℕ) (packet : Sent) → bytes ≡ frame_of packet →
     bytes ≡ bytes_of (packet ∷ [])
 one_packet bytes packet is = is ∙ sym (append-nil (frame_of packet))
 

@@ -1,5 +1,6 @@
 pub mod Kept
 pub mod Sitting
 pub mod Seats
+pub mod Replying
 pub mod Beating
 pub mod Showing

@@ -102,6 +102,15 @@ impl Backlog {
         Ok(())
     }
 
+    /// Copies bytes behind what is owed.
+    pub fn push_slice(&mut self, bytes: &[u8]) -> Result<(), NoMemory>
+        requires { length self.old + length bytes.now ≤ outbox_max }
+        ensures { OnOk result (self.new ≡ self.old ++ bytes.now) }
+    {
+        self.outbox.push_slice(bytes)?;
+        Ok(())
+    }
+
     /// Puts pieces behind what is owed.
     pub fn push_all(&mut self, pieces: Vec<Bytes>) -> Result<(), NoMemory>
         requires { length self.old + length (joined pieces.items) ≤ outbox_max }

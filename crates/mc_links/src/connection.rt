@@ -15,6 +15,7 @@ ghost use Rattle.mc_session.specs.Answers.{next_of, step_of};
 ghost use Rattle.mc_model.specs.Link.{disconnect, gone, hand, is_done, is_kept, mark_closed};
 ghost use Rattle.mc_model.specs.Step.{heard};
 ghost use Rattle.mc_links.specs.Kept.{decoded, is_ours, is_pending, new_connection, state_of};
+ghost use Rattle.mc_links.specs.Replying.{MayReply};
 
 mod fields;
 mod looks;
@@ -24,7 +25,7 @@ use crate::backlog::Backlog;
 use bytes::Bytes;
 use mc_bytes::{NoMemory, Octets};
 use mc_flush::Mark;
-use mc_frame::{Splitter, Take};
+use mc_frame::{Peek, Splitter, Take};
 use mc_model::{Cause, Name, Refusal, Stage};
 use mc_session::{Session, Step, is_silent};
 use mc_up::PlayUp;
@@ -385,6 +386,29 @@ impl Connection {
         ensures rest { self.new ≡ record self.old { splitter = self.new.splitter } }
     {
         self.splitter.feed(piece)
+    }
+
+    /// Answers the next frame, with so many players at most and in play, where its session keeps
+    /// the answer and there is room for it, and copies nothing else: whether it did.
+    pub fn reply_kept(&mut self, most: u32, online: u32) -> Result<bool, NoMemory>
+        ensures replied { IfOk result (λ done. MayReply done most online self.old self.new) }
+        ensures same { self.new.id ≡ self.old.id }
+    {
+        let Stage::Status = self.stage() else {
+            return Ok(false);
+        };
+        let Peek::Frame(frame, len) = self.splitter.peek() else {
+            return Ok(false);
+        };
+        let Some(reply) = self.session.kept_reply(frame, most, online) else {
+            return Ok(false);
+        };
+        if !self.backlog.has_room(reply.len()) {
+            return Ok(false);
+        }
+        self.backlog.push_slice(reply)?;
+        self.splitter.pass(len);
+        Ok(true)
     }
 
     /// Takes the next frame of those that its splitter holds.

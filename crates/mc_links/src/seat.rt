@@ -1,6 +1,6 @@
 //! What one connection does on the game. The player of whoever is closed by it leaves.
 
-ghost use Rattle.std.specs.Prelude.{◌≡◌, ◌++◌, ℕ, List, false, true, IfOk, OnOk};
+ghost use Rattle.std.specs.Prelude.{◌≡◌, ◌<◌, ◌++◌, ℕ, List, false, true, IfOk, OnOk, length};
 ghost use lib.IntN.{ℤ};
 ghost use Rattle.mc_up.specs.declared.play_up.PlayUp as declared;
 ghost use Rattle.mc_up.specs.PlayUp.{FitsPlayUp};
@@ -165,6 +165,21 @@ fn on_frame(game: &mut Game, connection: &mut Connection, frame: &[u8]) -> Resul
     perform(game, connection, step)
 }
 
+/// Answers the next frame of a connection, where its session keeps the answer: whether it did.
+fn reply_kept(game: &Game, connection: &mut Connection) -> Result<bool, NoMemory>
+    ensures read { (count : ℕ) (all left : List ℕ) (v : GameValue) (c : ConnectionValue) →
+        IsReading count all v game.now c connection.old left → IfOk result (λ done.
+        IsReading count all v game.now c connection.new left) }
+    ensures opened { is_closed connection.old.link.stage ≡ false →
+        IfOk result (λ done. is_closed connection.new.link.stage ≡ false) }
+    ensures fewer { IfOk result (λ done. done ≡ true →
+        length connection.new.splitter.held < length connection.old.splitter.held) }
+    ensures same { IfOk result (λ done. done ≡ false → connection.new ≡ connection.old) }
+{
+    let online = game.online()?;
+    connection.reply_kept(game.most(), online)
+}
+
 /// Handles the frames that a splitter holds whole, as long as the connection is open: whether it is
 /// open then.
 fn frames(game: &mut Game, connection: &mut Connection) -> Result<bool, NoMemory>
@@ -177,6 +192,9 @@ fn frames(game: &mut Game, connection: &mut Connection) -> Result<bool, NoMemory
     ensures age { OnOk result (game.new.game.age ≡ game.old.game.age) }
 {
     'taking: loop {
+        if reply_kept(game, connection)? {
+            continue;
+        }
         match connection.take()? {
             Take::Frame(payload) => {
                 on_frame(game, connection, payload.as_slice())?;

@@ -1,4 +1,4 @@
-ghost use Rattle.std.specs.Prelude.{◌≡◌, ◌==◌, ◌&&◌, IfOk};
+ghost use Rattle.std.specs.Prelude.{◌≡◌, ◌==◌, ◌&&◌, IfOk, IfSome};
 ghost use Rattle.mc_hello.specs.declared.status_down.StatusDown.TheVariants.{Response};
 ghost use Rattle.mc_model.specs.Packets.{frame_of, of_status};
 ghost use Rattle.mc_model.specs.Texts.{status_json};
@@ -55,13 +55,25 @@ impl KeptStatus {
         self.most == most && self.online == online
     }
 
-    /// A copy of it.
-    fn copy(&self) -> Result<Octets, NoMemory>
-        ensures { IfOk result (λ frame. frame ≡ frame_of
-            (of_status (Response (status_json self.now.most self.now.online)))) }
+    /// The frame of the status that tells these numbers, without copying it.
+    fn frame(&self) -> &[u8]
+        ensures { result.now ≡ frame_of
+            (of_status (Response (status_json self.now.most self.now.online))) }
     {
-        self.frame.copy()
+        self.frame.as_slice()
     }
+}
+
+/// The frame of the status that was made last, where that tells these numbers.
+pub fn kept_frame(last: Option<&KeptStatus>, most: u32, online: u32) -> Option<&[u8]>
+    ensures { IfSome result (λ frame. frame.now ≡ frame_of
+        (of_status (Response (status_json most online)))) }
+{
+    let made = last?;
+    if !made.tells(most, online) {
+        return None;
+    }
+    Some(made.frame())
 }
 
 /// The frame of the status, with `most` players at most and `online` in play: a copy of the one
@@ -75,13 +87,11 @@ pub fn status_frame(
     ensures { IfOk result (λ frame. frame ≡ frame_of
         (of_status (Response (status_json most online)))) }
 {
-    if let Some(made) = last.as_ref()
-        && made.tells(most, online)
-    {
-        return made.copy();
+    if let Some(frame) = kept_frame(last.as_ref(), most, online) {
+        return Octets::from_slice(alloc, frame);
     }
     let made = KeptStatus::new(alloc, most, online)?;
-    let frame = made.copy()?;
+    let frame = Octets::from_slice(alloc, made.frame())?;
     *last = Some(made);
     Ok(frame)
 }

@@ -1,4 +1,4 @@
-ghost use Rattle.std.specs.Prelude.{◌≡◌, ◌≢◌, IfOk, OnOk, OnErr, Result};
+ghost use Rattle.std.specs.Prelude.{◌≡◌, ◌≢◌, true, IfOk, IfSome, OnOk, OnErr, Ok, Result};
 ghost use Rattle.mc_fields.specs.Row.{packet_read, packet_of};
 ghost use Rattle.mc_hello.specs.Hand as hand;
 ghost use Rattle.mc_hello.specs.StatusUp as status;
@@ -11,7 +11,7 @@ ghost use Rattle.mc_model.specs.Talk.{accepted, refused, farewell};
 ghost use Rattle.mc_session.specs.State.{new_state};
 ghost use Rattle.mc_session.specs.Answers.{step_of, next_of};
 
-use crate::kept_status::{KeptStatus, status_frame};
+use crate::kept_status::{KeptStatus, kept_frame, status_frame};
 use crate::{Step, reply};
 use mc_bytes::{NoMemory, Octets};
 use mc_model::{Cause, Name, Refusal, Stage};
@@ -46,6 +46,17 @@ fn wanted(next: i32) -> Stage
         Stage::Status
     } else {
         Stage::Login
+    }
+}
+
+/// Whether a frame is a Request. Those that are spelled at length it does not know.
+fn is_request(frame: &[u8]) -> bool
+    ensures { result ≡ true →
+        packet_of frame.now (packet_read status.rows frame.now) ≡ Ok StatusUp.Request }
+{
+    match frame {
+        [id] => *id == 0,
+        _ => false,
     }
 }
 
@@ -99,6 +110,21 @@ impl Session {
             Stage::Login => self.log_in(alloc, frame),
             Stage::Play => self.act(alloc, frame),
             Stage::Asked | Stage::Closed => Ok(Step::Nothing),
+        }
+    }
+
+    /// What `on_frame` would answer to a frame, and leave the session as it is, without copying it:
+    /// the frame of the status, where it is kept. None says nothing.
+    #[tactic(auto, unfolding(mc_model::specs::Talk::request_of))]
+    pub fn kept_reply(&self, frame: &[u8], max: u32, online: u32) -> Option<&[u8]>
+        ensures step { IfSome result (λ reply. Step.Reply reply.now ≡ step_of self.now
+            (request_of self.now.stage max online frame.now)) }
+        ensures next { IfSome result (λ reply. self.now ≡ next_of self.now
+            (request_of self.now.stage max online frame.now)) }
+    {
+        match self.stage {
+            Stage::Status if is_request(frame) => kept_frame(self.status.as_ref(), max, online),
+            _ => None,
         }
     }
 

@@ -15,6 +15,15 @@ taking-init c = record {
   age = refl;
 }
 
+pub taking-preserved-then-branch : goal.taking-preserved-then-branch
+taking-preserved-then-branch c = record {
+  is_open = c.in_ok-reply_kept.ensures.opened c.taking.invariant.is_open;
+  reading = λ count all left_ v d r.
+      c.in_ok-reply_kept.ensures.read count all left_ v d
+      (c.taking.invariant.reading count all left_ v d r);
+  age = c.taking.invariant.age;
+}
+
 pub taking-preserved : goal.taking-preserved
 taking-preserved c =
     let m = c.take.new.self in
@@ -26,21 +35,27 @@ taking-preserved c =
     record {
       is_open = sym c.is_closed.ensures ∙ c.if-is_closed.false;
       reading = λ count all left_ v d r.
-          reading_frame (c.taking.invariant.reading count all left_ v d r) m
+          reading_frame (c.in_ok-reply_kept.ensures.read count all left_ v d
+          (c.taking.invariant.reading count all left_ v d r)) m
           c.in_ok-payload.ensures.rest c.on_frame.new.game c.on_frame.new.connection
           c.in-Frame.payload takes does;
       age = framed_age c.taking.game c.on_frame.new.game m c.on_frame.new.connection
           c.in-Frame.payload (does nothing_unread) ∙ c.taking.invariant.age;
     }
 
+pub taking-smaller-then-branch : goal.taking-smaller-then-branch
+taking-smaller-then-branch c = c.in_ok-reply_kept.ensures.fewer c.if-branch.true
+
 pub taking-smaller : goal.taking-smaller
 taking-smaller c =
     let takes = rw c.in-Frame.is at c.in_ok-payload.ensures.takes in
-    let less = frame_shortens c.taking.connection.splitter c.in-Frame.payload
+    let less = frame_shortens c.reply_kept.new.connection.splitter c.in-Frame.payload
     c.take.new.self.splitter takes in
     let same = ap (λ (d : ConnectionValue). length d.splitter.held)
     (c.in_ok-on_frame-in-Frame.ensures nothing_unread).link in
-    omega (arith, less, same)
+    let kept = ap (λ (d : ConnectionValue). length d.splitter.held)
+    (c.in_ok-reply_kept.ensures.same c.if-branch.false) in
+    omega (arith, less, same, kept)
 
 pub returns-then-is_closed-clause-read : goal.returns-then-is_closed-clause-read
 returns-then-is_closed-clause-read c = λ count all left_ v d r.
@@ -51,7 +66,8 @@ returns-then-is_closed-clause-read c = λ count all left_ v d r.
     (on_frame m.id (seat_with c.taking.game m u) f).seat in
     subst P c.as_slice.ensures c.in_ok-on_frame-in-Frame.ensures) in
     done_closed count all left_ v c.on_frame.new.game d c.on_frame.new.connection
-    (reading_frame (c.taking.invariant.reading count all left_ v d r) m
+    (reading_frame (c.in_ok-reply_kept.ensures.read count all left_ v d
+    (c.taking.invariant.reading count all left_ v d r)) m
     c.in_ok-payload.ensures.rest c.on_frame.new.game c.on_frame.new.connection
     c.in-Frame.payload takes does)
     (sym c.is_closed.ensures ∙ c.if-is_closed.true)
@@ -73,7 +89,9 @@ returns-in-Bad-clause-age c =
 
 pub returns-in-Bad-clause-read : goal.returns-in-Bad-clause-read
 returns-in-Bad-clause-read c = λ count all left_ v d r.
-    done_bad count all left_ v c.taking.game c.close.new.game d c.taking.connection
+    done_bad count all left_ v c.taking.game c.close.new.game d c.reply_kept.new.connection
     c.take.new.self c.close.new.connection c.in-Bad.fault c.in_ok-payload.ensures.rest
-    (rw c.in-Bad.is at c.in_ok-payload.ensures.takes) c.taking.invariant.is_open
-    c.in_ok-close-in-Bad.ensures (c.taking.invariant.reading count all left_ v d r)
+    (rw c.in-Bad.is at c.in_ok-payload.ensures.takes)
+    (c.in_ok-reply_kept.ensures.opened c.taking.invariant.is_open) c.in_ok-close-in-Bad.ensures
+    (c.in_ok-reply_kept.ensures.read count all left_ v d
+    (c.taking.invariant.reading count all left_ v d r))
