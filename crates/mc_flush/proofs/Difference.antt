@@ -21,6 +21,7 @@ use Rattle.mc_land.specs.Ready.{has_changed, touched_cell}
 use Rattle.mc_land.specs.Land.{LandValue, states_of}
 use Rattle.mc_fields.specs.declared.position.Spot.{Spot}
 use Rattle.mc_slots.specs.declared.pile.Pile.{Pile}
+use Rattle.mc_slots.specs.declared.slot.Slot.{Slot}
 use Rattle.mc_slots.specs.Pile.{slot_of}
 use Rattle.mc_windows.specs.Pack.{PackValue}
 use Rattle.mc_entities.specs.declared.entity.Entity.{Entity}
@@ -33,7 +34,7 @@ use Rattle.mc_view.specs.Told.{Told}
 use Rattle.mc_model.specs.Sight.{Seen, Sight}
 use Rattle.mc_model.specs.Delta.{Pairs, delta, load, unload, cell_packets, column_changes}
 use Rattle.mc_model.specs.Delta.{beat_packets, chat_packet, destroying, entity_packets}
-use Rattle.mc_model.specs.Delta.{slot_packets, time_packets}
+use Rattle.mc_model.specs.Delta.{cursor_packets, slot_packets, time_packets}
 use Rattle.mc_flush.specs.Lists.{ListValue}
 use Rattle.mc_flush.specs.Seeing.{MarkValue, Parts, StandsFor, changes, columns_in, listed}
 use Rattle.mc_flush.specs.Seeing.{leaver_packets, joiner_packets, pairs_in, present_parts, seen}
@@ -227,16 +228,16 @@ listed_is : (mark : MarkValue) (land : LandValue) (list : ListValue) →
 listed_is mark land list = elim mark.view as (λ was. pairs_in was (settled_parts land list)
     ≡ (if is_some was then list.last else empty)) [ None ↦ refl | Some view ↦ refl ]
 
--- lists of eleven equal pieces are equal
-eleven_points : (a b c d e f g h j k l a' b' c' d' e' f' g' h' j' k' l' : List Down) →
+-- lists of twelve equal pieces are equal
+twelve_points : (a b c d e f g h j k l m a' b' c' d' e' f' g' h' j' k' l' m' : List Down) →
     a ≡ a' → b ≡ b' → c ≡ c' → d ≡ d' → e ≡ e' → f ≡ f' → g ≡ g' → h ≡ h' → j ≡ j' → k ≡ k' →
-    l ≡ l' →
-    a ++ (b ++ (c ++ (d ++ (e ++ (f ++ (g ++ (h ++ (j ++ (k ++ (l ++ []))))))))))
-    ≡ a' ++ (b' ++ (c' ++ (d' ++ (e' ++ (f' ++ (g' ++ (h' ++ (j' ++ (k' ++ l')))))))))
-eleven_points a b c d e f g h j k l a' b' c' d' e' f' g' h' j' k' l' pa pb pc pd pe pf pg ph pj pk
-    pl =
+    l ≡ l' → m ≡ m' →
+    a ++ (b ++ (c ++ (d ++ (e ++ (f ++ (g ++ (h ++ (j ++ (k ++ (l ++ (m ++ [])))))))))))
+    ≡ a' ++ (b' ++ (c' ++ (d' ++ (e' ++ (f' ++ (g' ++ (h' ++ (j' ++ (k' ++ (l' ++ m'))))))))))
+twelve_points a b c d e f g h j k l m a' b' c' d' e' f' g' h' j' k' l' m' pa pb pc pd pe pf pg ph
+    pj pk pl pm =
     λ i. pa i ++ (pb i ++ (pc i ++ (pd i ++ (pe i ++ (pf i ++ (pg i ++ (ph i ++ (pj i ++ (pk i
-    ++ (append-nil l ∙ pl) i)))))))))
+    ++ (pl i ++ (append-nil m ∙ pm) i))))))))))
 
 -- the difference from what a mark stands for is the changes
 pub delta_is : (land : LandValue) (list : ListValue) (es : List Entity) (pack : PackValue)
@@ -249,7 +250,7 @@ delta_is land list es pack mark view age lines p high r stands =
     let parts = settled_parts land list in
     let pairs : p.pairs ≡ listed mark list = stands.pairs ∙ listed_is mark land list in
     let all = shown_entries land.terrain land.edits view in
-    eleven_points _ _ _ _ _ _ _ _ _ _ _ _ _ _ _ _ _ _ _ _ _ _
+    twelve_points _ _ _ _ _ _ _ _ _ _ _ _ _ _ _ _ _ _ _ _ _ _ _ _
     (ap (λ (told : Option ℤ). beat_packets told (beat_now age)) stands.beat)
     (ap (λ (told : Option ℤ). time_packets told (age_now age)) stands.age)
     (ap (λ (m : Pairs). leaver_packets m list.present) pairs)
@@ -263,6 +264,7 @@ delta_is land list es pack mark view age lines p high r stands =
     ∙ cells_are land list mark.view p.columns stands.columns (all_of view))
     (entities_are p.entities mark.told es view high r stands.entities)
     (ap (λ (slots : List _). slot_packets 9 slots (map slot_of pack.slots)) stands.pack)
+    (ap (λ (old : Slot). cursor_packets old (slot_of pack.cursor)) stands.cursor)
     (ap (map chat_packet) (drop-append_seam p.chat lines))
 
 -- what a mark keeps of a tick stands for what is seen, whatever was said
@@ -274,6 +276,7 @@ pub stands_seen : (land : LandValue) (list : ListValue) (es : List Entity) (pack
       view = Some view;
       told = told_now es view;
       slots = pack.slots;
+      cursor = pack.cursor;
     }) (present_parts land list) (seen land list es pack view age chat)
 unfolding StandsFor
 stands_seen land list es pack view age chat = record {
@@ -283,4 +286,5 @@ stands_seen land list es pack view age chat = record {
   columns = refl;
   entities = shown_told view es;
   pack = refl;
+  cursor = refl;
 }

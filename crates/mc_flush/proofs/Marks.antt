@@ -1,4 +1,4 @@
--- The first mark holds: it says of a pack of empty piles.
+-- The first mark holds: it says of a pack of empty piles, and of an empty cursor.
 use Rattle.std.proofs.Common.{ℕ, zero, suc, replicate, refl}
 use Rattle.std.specs.Prelude.{None}
 use Rattle.mc_slots.specs.declared.pile.Pile.TheVariants.{Empty}
@@ -26,5 +26,6 @@ pub first_mark : (told : Told) →
       view = None;
       told = told;
       slots = replicate pack_size Empty;
+      cursor = Empty;
     })
 first_mark told = record { pack = empty_pack }

@@ -8,8 +8,9 @@ use Rattle.mc_view.specs.declared.view_set.ViewSet.{ViewSet}
 use Rattle.mc_model.specs.Delta.{beat_packets, destroying, time_packets}
 use Rattle.mc_flush.specs.Lists.{ListValue}
 use Rattle.mc_sending.specs.Sending.{play_bytes}
-use Rattle.mc_flush.specs.Seeing.{MarkValue, age_packets, changes, column_packets, joiner_packets}
-use Rattle.mc_flush.specs.Seeing.{leaver_packets, line_packets, listed, loaded, pack_packets}
+use Rattle.mc_flush.specs.Seeing.{MarkValue, age_packets, carried_packets, changes, column_packets}
+use Rattle.mc_flush.specs.Seeing.{held_packets, joiner_packets, leaver_packets, line_packets}
+use Rattle.mc_flush.specs.Seeing.{listed, loaded, pack_packets}
 use Rattle.mc_flush.specs.Seeing.{player_packets, stayed, unloaded}
 use Rattle.mc_loads.specs.Columns.{changed_packets, load_packets, unload_packets}
 use Rattle.mc_told.specs.Telling.{age_now, beat_now, entity_frames, gone_from}
@@ -26,7 +27,7 @@ pub changes_put_all : (land : LandValue) (list : ListValue) (es : List Entity) (
     two ≡ one ++ play_bytes (destroying (gone_from mark.told es view)) →
     three ≡ two ++ play_bytes (column_packets land mark view) →
     four ≡ three ++ play_bytes (entity_frames mark.told es view) →
-    five ≡ four ++ play_bytes (pack_packets mark.slots pack.slots) →
+    five ≡ four ++ play_bytes (carried_packets mark pack) →
     new ≡ five ++ play_bytes (line_packets lines) →
     new ≡ old ++ play_bytes (changes land list es pack mark view age lines)
 unfolding changes
@@ -42,15 +43,16 @@ changes_put_all land list es pack mark view age lines old first one two three fo
     let c = changed_packets land (stayed mark view) in
     let n = entity_frames mark.told es view in
     let p = pack_packets mark.slots pack.slots in
+    let q = held_packets mark.cursor pack.cursor in
     let s = line_packets lines in
     m ∙ ap (λ (bytes : List ℕ). bytes ++ play_bytes s)
-    (k ∙ ap (λ (bytes : List ℕ). bytes ++ play_bytes p)
+    (k ∙ ap (λ (bytes : List ℕ). bytes ++ play_bytes (p ++ q))
     (h ∙ ap (λ (bytes : List ℕ). bytes ++ play_bytes n)
     (g ∙ ap (λ (bytes : List ℕ). bytes ++ play_bytes (u ++ (o ++ c)))
     (f ∙ ap (λ (bytes : List ℕ). bytes ++ play_bytes d)
     (e ∙ ap (λ (bytes : List ℕ). bytes ++ play_bytes (l ++ j)) b)))))
-    ∙ joined_all old (w ++ t) (l ++ j) d (u ++ (o ++ c)) n p s
-    ∙ ap (λ (ds : List Down). old ++ play_bytes ds) (flat w t l j d u o c n p s)
+    ∙ joined_all old (w ++ t) (l ++ j) d (u ++ (o ++ c)) n (p ++ q) s
+    ∙ ap (λ (ds : List Down). old ++ play_bytes ds) (flat w t l j d u o c n p q s)
   where
     joined_all : (o : List ℕ) (a b c d e f g : List Down) →
         ((((((o ++ play_bytes a) ++ play_bytes b) ++ play_bytes c) ++ play_bytes d) ++ play_bytes e)
@@ -65,7 +67,7 @@ changes_put_all land list es pack mark view age lines old first one two three fo
       play_bytes-append a b,
     ) (simp append_assoc)
 
-    flat : (w t l j d u o c n p s : List Down) →
-        ((((((w ++ t) ++ (l ++ j)) ++ d) ++ (u ++ (o ++ c))) ++ n) ++ p) ++ s
-        ≡ w ++ (t ++ (l ++ (j ++ (d ++ (u ++ (o ++ (c ++ (n ++ (p ++ s)))))))))
-    flat w t l j d u o c n p s = simp append_assoc
+    flat : (w t l j d u o c n p q s : List Down) →
+        ((((((w ++ t) ++ (l ++ j)) ++ d) ++ (u ++ (o ++ c))) ++ n) ++ (p ++ q)) ++ s
+        ≡ w ++ (t ++ (l ++ (j ++ (d ++ (u ++ (o ++ (c ++ (n ++ (p ++ (q ++ s))))))))))
+    flat w t l j d u o c n p q s = simp append_assoc

@@ -23,7 +23,7 @@ use Rattle.mc_model.specs.Sight.{Sight, seen_of}
 use Rattle.mc_model.specs.Spots.{spawn_spot, spot_in}
 use Rattle.mc_model.specs.Notes.{noted_packets, notes_of}
 use Rattle.mc_model.specs.Delta.{Pairs, missing, leaver, joiner, about, beat_packets, time_packets}
-use Rattle.mc_model.specs.Delta.{destroying, slot_packets, chat_packet}
+use Rattle.mc_model.specs.Delta.{chat_packet, cursor_packets, destroying, slot_packets}
 use Rattle.mc_told.specs.Telling.{age_now, beat_now, entity_frames, gone_from, in_view, kept_of}
 use Rattle.mc_told.specs.Telling.{told_slot}
 use Rattle.mc_loads.specs.Columns.{changed_packets, entered_of, left_of, load_packets, placed_with}
@@ -51,8 +51,8 @@ abbrev pub columns_of : Parts → ViewSet → FinMap place_cmp ColumnValue
 columns_of parts view = from_entries (map (placed_with parts.terrain parts.edits) (all_of view))
 
 -- what a client is to be shown: the beat and the age, the players that are in the list now, the
--- columns of the view as they are, the entities in it that are not its own, its pack, and all that
--- was said
+-- columns of the view as they are, the entities in it that are not its own, its pack and cursor, and
+-- all that was said
 abbrev pub seen : LandValue → ListValue → List Entity → PackValue → ViewSet → ℕ → List (List ℕ) →
     Sight
 seen land list entities pack view age chat = record {
@@ -62,6 +62,7 @@ seen land list entities pack view age chat = record {
   columns = columns_of (present_parts land list) view;
   entities = from_entries (filter_map seen_of (in_view view entities));
   pack = map slot_of pack.slots;
+  cursor = slot_of pack.cursor;
   chat = chat;
 }
 
@@ -76,8 +77,9 @@ pub record MarkValue : Type 0 where
   pub view : Option ViewSet
   -- what was told of entities
   pub told : Told
-  -- the piles of the pack that were shown
+  -- the piles of the pack that were shown, and what hung on the cursor
   pub slots : List Pile
+  pub cursor : Pile
 
 abbrev pub nothing_shown : MarkValue
 nothing_shown = record {
@@ -86,6 +88,7 @@ nothing_shown = record {
   view = None;
   told = empty;
   slots = replicate pack_size Empty;
+  cursor = Empty;
 }
 
 -- whether anything was shown
@@ -112,13 +115,14 @@ pub record Shown (mark : MarkValue) (parts : Parts) (p : Sight) : Type 0 where
   pub entities : (eid : ℤ) →
       option_map kept_of (get p.entities eid) ≡ option_map told_slot (get mark.told eid)
   pub pack : p.pack ≡ map slot_of mark.slots
+  pub cursor : p.cursor ≡ slot_of mark.cursor
 
 unfoldable pub StandsFor : MarkValue → Parts → Sight → Type 0
 StandsFor mark parts p = Shown mark parts p
 
--- a mark that says of a whole pack
+-- a mark that says of a whole pack and of a cursor
 pub record IsMark (mark : MarkValue) : Type 0 where
-  pub pack : IsPack mark.slots Empty
+  pub pack : IsPack mark.slots mark.cursor
 
 -- ---- what differs from what was shown
 
@@ -159,6 +163,14 @@ column_packets land mark view =
 abbrev pub pack_packets : List Pile → List Pile → List Down
 pack_packets old new = slot_packets 9 (map slot_of old) (map slot_of new)
 
+-- and the cursor, where something else hangs on it
+abbrev pub held_packets : Pile → Pile → List Down
+held_packets old new = cursor_packets (slot_of old) (slot_of new)
+
+abbrev pub carried_packets : MarkValue → PackValue → List Down
+carried_packets mark pack =
+    pack_packets mark.slots pack.slots ++ held_packets mark.cursor pack.cursor
+
 -- the beat and the age, where others were told
 abbrev pub age_packets : MarkValue → ℕ → List Down
 age_packets mark age =
@@ -181,7 +193,8 @@ changes land list entities pack mark view age lines =
     ++ (load_packets land (loaded mark view)
     ++ (changed_packets land (stayed mark view)
     ++ (entity_frames mark.told entities view
-    ++ (pack_packets mark.slots pack.slots ++ line_packets lines)))))))))
+    ++ (pack_packets mark.slots pack.slots
+    ++ (held_packets mark.cursor pack.cursor ++ line_packets lines))))))))))
 
 -- where the player of a client is and looks: as the entity of its number, or where players enter,
 -- if there is none

@@ -22,8 +22,8 @@ use std::alloc::Global;
 use std::marker::Model;
 
 /// What a client was told, and no copy of it: the beat and the age, the columns of a view, of each
-/// entity where it is and its pile, and the piles of its pack. The players and the cells that it
-/// was shown are those of the last settling of the list and of the land.
+/// entity where it is and its pile, and the piles of its pack and of its cursor. The players and
+/// the cells that it was shown are those of the last settling of the list and of the land.
 #[derive(Drop)]
 pub struct Mark {
     /// The beat and the age that were told last.
@@ -34,6 +34,8 @@ pub struct Mark {
     told: Tracker,
     /// The piles of the pack that were shown.
     slots: [Pile; PACK_PILES],
+    /// What was shown to hang on the cursor.
+    cursor: Pile,
 }
 
 impl Model for Mark {
@@ -51,6 +53,7 @@ impl Model for Mark {
       view = mark.shown;
       told = mark.told;
       slots = mark.slots;
+      cursor = mark.cursor;
     } };
 
     ghost invariant = { λ mark. IsMark (record {
@@ -59,6 +62,7 @@ impl Model for Mark {
       view = mark.shown;
       told = mark.told;
       slots = mark.slots;
+      cursor = mark.cursor;
     }) };
 }
 
@@ -72,6 +76,7 @@ impl Mark {
             shown: None,
             told: Tracker::new(alloc),
             slots: [Pile::Empty; PACK_PILES],
+            cursor: Pile::Empty,
         }
     }
 
@@ -120,6 +125,13 @@ impl Mark {
         &self.slots
     }
 
+    /// What was shown to hang on the cursor.
+    pub(crate) fn cursor(&self) -> Pile
+        ensures { result ≡ self.now.cursor }
+    {
+        self.cursor
+    }
+
     /// The frames of the entities that a client is to be shown no more, and those of the others,
     /// which are then what was told. Without memory nothing was.
     pub(crate) fn tell(
@@ -149,7 +161,7 @@ impl Mark {
     }
 
     /// Keeps what was shown last: the beat and the age that are told at an age of the world, the
-    /// view, and the pack.
+    /// view, and the pack with its cursor.
     pub(crate) fn keep(&mut self, age: u64, view: ViewSet, pack: &Pack)
         requires { age ≤ 1000000000 }
         ensures { self.new ≡ record self.old {
@@ -157,10 +169,12 @@ impl Mark {
           age = age_now age;
           view = Some view;
           slots = pack.now.slots;
+          cursor = pack.now.cursor;
         } }
     {
         self.clock.keep(age);
         self.shown = Some(view);
         self.slots = pack.slots;
+        self.cursor = pack.cursor;
     }
 }

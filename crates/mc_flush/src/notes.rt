@@ -1,5 +1,4 @@
 ghost use Rattle.std.specs.Prelude.{◌≡◌, ◌++◌, ◌∷◌, ℕ, [], IfOk, OnOk, map, replicate};
-ghost use lib.IntN.{negsuc};
 ghost use Rattle.mc_slots.specs.Pile.{IsPile, slot_of};
 ghost use Rattle.mc_slots.specs.Chest.{pile_at};
 ghost use Rattle.mc_packets.specs.declared.down.Down.TheVariants as down;
@@ -8,6 +7,7 @@ ghost use Rattle.mc_model.specs.Notes.{notes_of};
 ghost use Rattle.mc_model.specs.Opening.{placing};
 ghost use Rattle.mc_sending.specs.Sending.{IsClear, play_bytes};
 
+use crate::slots::put_cursor;
 use mc_bytes::NoMemory;
 use mc_fields::{Spot, degrees, pattern};
 use mc_model::Notes;
@@ -67,14 +67,6 @@ fn put_window(pack: &Pack, out: &mut Vec<u8>) -> Result<(), NoMemory>
     put_made(Down::WindowItems(0, items), out)
 }
 
-/// Appends the frame of what hangs on the cursor.
-fn put_cursor(pack: &Pack, out: &mut Vec<u8>) -> Result<(), NoMemory>
-    ensures { OnOk result (out.new.items ≡ out.old.items ++ play_bytes
-        (down.SetSlot (negsuc 0) (negsuc 0) (slot_of pack.now.cursor) ∷ [])) }
-{
-    put_made(Down::SetSlot(-1, -1, pack.cursor.slot()), out)
-}
-
 /// Appends what was noted for a client: its player's place, and the window that it is shown.
 pub fn put_notes(
     notes: &Notes,
@@ -90,7 +82,7 @@ pub fn put_notes(
     }
     if notes.resend {
         put_window(pack, out)?;
-        put_cursor(pack, out)?;
+        put_cursor(&pack.cursor, out)?;
     }
     Ok(())
 }

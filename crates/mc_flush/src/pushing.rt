@@ -4,11 +4,11 @@ ghost use Rattle.std.specs.Prelude.{◌≡◌, ◌≤◌, ◌++◌, OnOk};
 ghost use Rattle.mc_frame.specs.Kept.{joined};
 ghost use Rattle.mc_model.specs.Notes.{notes_of};
 ghost use Rattle.mc_sending.specs.Sending.{play_bytes};
-ghost use Rattle.mc_flush.specs.Seeing.{age_packets, pack_packets};
+ghost use Rattle.mc_flush.specs.Seeing.{age_packets, carried_packets};
 
 use crate::Mark;
 use crate::notes::put_notes;
-use crate::slots::put_slots;
+use crate::slots::{put_held, put_slots};
 use bytes::Bytes;
 use mc_bytes::NoMemory;
 use mc_fields::Spot;
@@ -44,8 +44,8 @@ pub fn push_notes(
     push_piece(Bytes::from_vec(bytes)?, out)
 }
 
-/// Appends the frames of the places of a pack whose piles differ from those that were shown, as one
-/// piece.
+/// Appends the frames of the places of a pack whose piles differ from those that were shown, and of
+/// the cursor where it does, as one piece.
 pub fn push_slots(
     alloc: Global,
     mark: &Mark,
@@ -53,9 +53,10 @@ pub fn push_slots(
     out: &mut Vec<Bytes>,
 ) -> Result<(), NoMemory>
     ensures { OnOk result (joined out.new.items
-        ≡ joined out.old.items ++ play_bytes (pack_packets mark.now.slots pack.now.slots)) }
+        ≡ joined out.old.items ++ play_bytes (carried_packets mark.now pack.now)) }
 {
     let mut bytes = Vec::new(alloc);
     put_slots(mark.slots(), &pack.slots, &mut bytes)?;
+    put_held(&mark.cursor(), &pack.cursor, &mut bytes)?;
     push_piece(Bytes::from_vec(bytes)?, out)
 }

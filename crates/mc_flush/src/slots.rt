@@ -1,11 +1,11 @@
-//! The slots of a pack that differ from those that were shown.
+//! The slots of a pack that differ from those that were shown, and the cursor.
 
 ghost use Rattle.std.specs.Prelude.{◌≡◌, ◌<◌, ◌++◌, ◌∷◌, ℕ, [], OnOk};
 ghost use Rattle.mc_slots.specs.Pile.{IsPile, slot_of};
 ghost use Rattle.mc_slots.specs.Chest.{pile_at};
-ghost use Rattle.mc_model.specs.Delta.{slot_packets};
+ghost use Rattle.mc_model.specs.Delta.{cursor_packet, slot_packets};
 ghost use Rattle.mc_sending.specs.Sending.{play_bytes};
-ghost use Rattle.mc_flush.specs.Seeing.{pack_packets};
+ghost use Rattle.mc_flush.specs.Seeing.{held_packets, pack_packets};
 
 use mc_bytes::NoMemory;
 use mc_packets::Down;
@@ -43,4 +43,25 @@ pub fn put_slots(
         put_slot(FIRST + i, &old[i], &new[i], out)?;
     }
     Ok(())
+}
+
+/// Appends the frame of what hangs on the cursor.
+pub fn put_cursor(pile: &Pile, out: &mut Vec<u8>) -> Result<(), NoMemory>
+    requires { IsPile pile.now }
+    ensures { OnOk result (out.new.items
+        ≡ out.old.items ++ play_bytes (cursor_packet (slot_of pile.now) ∷ [])) }
+{
+    put_made(Down::SetSlot(-1, -1, pile.slot()), out)
+}
+
+/// Appends the frame of what hangs on the cursor, if that differs from what was shown.
+pub fn put_held(old: &Pile, new: &Pile, out: &mut Vec<u8>) -> Result<(), NoMemory>
+    requires { IsPile new.now }
+    ensures { OnOk result (out.new.items
+        ≡ out.old.items ++ play_bytes (held_packets old.now new.now)) }
+{
+    if *old == *new {
+        return Ok(());
+    }
+    put_cursor(new, out)
 }

@@ -18,7 +18,7 @@ use Rattle.mc_model.specs.Delta.{missing, leavers_point, joiners_point, destroys
 use Rattle.mc_model.specs.Delta.{unloads_point, load, loads_point, pile_packet, cells_point}
 use Rattle.mc_model.specs.Delta.{is_same_slot, entity_packets, pile_packets, moves_packets}
 use Rattle.mc_model.specs.Delta.{beat_point, time_point, entities_point, pack_point, delta}
-use Rattle.mc_model.specs.Delta.{chat_packet, chat_point}
+use Rattle.mc_model.specs.Delta.{chat_packet, chat_point, cursor_point}
 use Rattle.mc_model.specs.Opening.{placing}
 use Rattle.mc_model.specs.Fitting.{SpotFits}
 use Rattle.mc_model.proofs.Decodes.{IsClear}
@@ -30,7 +30,8 @@ use Rattle.mc_model.proofs.FitsNumbers.{pattern_fits, degrees_fit}
 use Rattle.mc_model.proofs.FitsList.{PairFits, AreClear, leavers_clear, joiners_clear}
 use Rattle.mc_model.proofs.FitsChunk.{PlaceFits, ColumnFits, near_fits, load_clear, unload_clear}
 use Rattle.mc_model.proofs.FitsEntities.{destroying_clear, pile_slot_clear}
-use Rattle.mc_model.proofs.FitsDue.{beats_clear, column_clear, slots_clear, times_clear}
+use Rattle.mc_model.proofs.FitsDue.{beats_clear, column_clear, cursor_clear, slots_clear}
+use Rattle.mc_model.proofs.FitsDue.{times_clear}
 use Rattle.mc_laws.proofs.FitsEntities.{spawn_clear}
 use Rattle.mc_laws.proofs.FitsMoves.{moves_clear}
 use Rattle.mc_laws.proofs.FitsSight.{SeenFits, SightFits}
@@ -117,7 +118,8 @@ delta_clear p q f g =
     all_joined P (cells_point p q) _ (changes_clear p q g) (
     all_joined P (entities_point p q) _ (entities_clear p q g) (
     all_joined P (pack_point p q) _ (pack_clear p q g) (
-    all_joined P (chat_point p q) [] (said_clear p q g) tt))))))))))
+    all_joined P (cursor_point p q) _ (cursor_clear p.cursor q.cursor g.cursor) (
+    all_joined P (chat_point p q) [] (said_clear p q g) tt)))))))))))
 
 -- ---- the opening
 

@@ -110,6 +110,7 @@ pub record SightFits (p : Sight) : Type 0 where
   pub crowd : length (entries p.entities) ≤ 4210
   pub pack : AllByRecursion SlotFits p.pack
   pub slots : length p.pack ≡ pack_size
+  pub cursor : SlotFits p.cursor
   pub beat : ToldFits w32 p.beat
   pub age : ToldFits w64 p.age
   pub chat : AllByRecursion LineFits p.chat
@@ -129,6 +130,7 @@ nothing_fits = record {
   crowd = few_shown {X = Seen} int_cmp int_cmp_total 4210 [] (omega arith);
   pack = empty_fit pack_size;
   slots = refl;
+  cursor = pile_slot_fits Empty tt;
   beat = tt;
   age = tt;
   chat = tt;

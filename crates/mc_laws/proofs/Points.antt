@@ -11,7 +11,7 @@ use Rattle.mc_laws.proofs.PointsPlayers.{leavers_point_leads, joiners_point_lead
 use Rattle.mc_laws.proofs.PointsColumns.{unloads_point_leads, loads_point_leads}
 use Rattle.mc_laws.proofs.PointsCells.{cells_point_leads}
 use Rattle.mc_laws.proofs.PointsEntities.{destroys_point_leads, entities_point_leads}
-use Rattle.mc_laws.proofs.PointsPack.{pack_point_leads}
+use Rattle.mc_laws.proofs.PointsPack.{cursor_point_leads, pack_point_leads}
 use Rattle.mc_laws.proofs.PointsBeats.{beat_point_leads, time_point_leads}
 use Rattle.mc_laws.proofs.PointsChat.{chat_point_leads}
 
@@ -25,6 +25,7 @@ difference_leads p q follows =
       entities = fold take_out p.entities
           (filter (is_without q.entities) (entries p.entities));
     } in
+    let carries : Sight = record q { cursor = p.cursor; chat = p.chat } in
     (onward (beat_point_leads p q p follows)
     (onward (time_point_leads p q (record p { beat = q.beat }) follows)
     (onward (leavers_point_leads told q)
@@ -33,7 +34,8 @@ difference_leads p q follows =
     (onward (unloads_point_leads p q left)
     (onward (loads_point_leads p q left follows)
     (onward (cells_point_leads p q left follows)
-    (onward (entities_point_leads p q (record q { pack = p.pack; chat = p.chat }) follows)
-    (onward (pack_point_leads p q (record q { chat = p.chat }) follows)
+    (onward (entities_point_leads p q (record carries { pack = p.pack }) follows)
+    (onward (pack_point_leads p q carries follows)
+    (onward (cursor_point_leads p q (record q { chat = p.chat }))
     (onward (chat_point_leads p q q follows)
-    (no_packets q)))))))))))).is
+    (no_packets q))))))))))))).is

@@ -1,4 +1,5 @@
--- What the packets of slots make of what a client sees: its pack is the one that is wanted.
+-- What the packets of slots make of what a client sees: its pack is the one that is wanted, and so
+-- is what hangs on its cursor.
 use Rattle.std.proofs.Common.{◌≡◌, ℕ, ◌+◌, ◌<◌, Bool, true, false, cond, List, [], ◌∷◌, ◌++◌}
 use Rattle.std.proofs.Common.{length, refl, sym, ap, ◌∙◌, arith}
 use Rattle.std.proofs.Math.Seq.{set-append_seam}
@@ -9,7 +10,8 @@ use Rattle.mc_slots.specs.declared.slot.Slot.{Slot}
 use Rattle.mc_packets.specs.declared.down.Down.TheVariants.{SetSlot}
 use Rattle.mc_model.specs.Sight.{Sight}
 use Rattle.mc_model.specs.Replica.{apply, seeing, with_slot}
-use Rattle.mc_model.specs.Delta.{Follows, is_same_slot, slot_packets, pack_point}
+use Rattle.mc_model.specs.Delta.{Follows, cursor_packet, cursor_point, is_same_slot, pack_point}
+use Rattle.mc_model.specs.Delta.{slot_packets}
 use Rattle.mc_laws.proofs.Leading.{Leads, onward, no_packets, led}
 use Rattle.mc_laws.proofs.PointsEntities.{same_slot}
 
@@ -71,3 +73,22 @@ pub pack_point_leads : (p q s : Sight) → Follows p q →
 pack_point_leads p q s follows =
     slots_lead s [] p.pack q.pack 9 refl (follows.old.pack ∙ sym follows.new.pack)
     (omega (arith, follows.old.pack))
+
+-- ---- the cursor
+
+-- with something on it
+abbrev pub with_held : Sight → Slot → Sight
+with_held s item = record s { cursor = item }
+
+-- what is wanted hangs on it
+pub cursor_point_leads : (p q s : Sight) →
+    Leads (with_held s p.cursor) (cursor_point p q) (with_held s q.cursor)
+unfolding apply
+cursor_point_leads p q s = cases (is_same_slot p.cursor q.cursor) refl
+  where
+    cases : (same : Bool) → is_same_slot p.cursor q.cursor ≡ same →
+        Leads (with_held s p.cursor) (cond same [] (cursor_packet q.cursor ∷ []))
+        (with_held s q.cursor)
+    cases true t = led (ap (with_held s) (same_slot p.cursor q.cursor t)) refl
+        (no_packets (with_held s q.cursor))
+    cases false t = record { is = refl }

@@ -1,10 +1,10 @@
 -- What is due to a client at a tick is packets that it decodes.
 use Rattle.std.proofs.Common.{ℕ, ◌+◌, ◌≤◌, Bool, true, false, cond, List, [], ◌∷◌, length, Option}
-use Rattle.std.proofs.Common.{Some, None, arith}
+use Rattle.std.proofs.Common.{Some, None, lit<, arith}
 use Rattle.std.specs.Int.{w32, w64}
 use Rattle.std.specs.List.{AllByRecursion}
 use Rattle.std.proofs.lemmas.Bool.Decides.{nat_tests}
-use lib.IntN.{ℤ, pos}
+use lib.IntN.{ℤ, pos, negsuc}
 use Rattle.mc_slots.specs.declared.slot.Slot.{Slot}
 use Rattle.mc_column.specs.Cells.{ColumnValue}
 use Rattle.mc_packets.specs.declared.down.Down.{Down}
@@ -13,7 +13,7 @@ use Rattle.mc_land.specs.declared.terrain.Terrain.{Terrain}
 use Rattle.mc_land.specs.Places.{Place}
 use Rattle.mc_model.specs.Packets.{of_play, for_play}
 use Rattle.mc_model.specs.Delta.{differing, column_changes, is_same_slot, slot_packets}
-use Rattle.mc_model.specs.Delta.{beat_packets, time_packets}
+use Rattle.mc_model.specs.Delta.{beat_packets, cursor_packet, cursor_packets, time_packets}
 use Rattle.mc_model.specs.Opening.{level}
 use Rattle.mc_model.proofs.Decodes.{IsClear}
 use Rattle.mc_model.proofs.AllFacts.{all_joined}
@@ -49,6 +49,18 @@ slots_clear i (old ∷ olds) (new ∷ news) few f =
     one false = (
       slot_clear (pos 0) (pos i) new (record { sfits = omega arith })
           (record { sfits = omega (arith, few) }) f.0,
+      tt,
+    )
+
+-- what hangs on the cursor
+pub cursor_clear : (old new : Slot) → SlotFits new → AreClear (cursor_packets old new)
+cursor_clear old new f = told (is_same_slot old new)
+  where
+    told : (same : Bool) → AreClear (cond same [] (cursor_packet new ∷ []))
+    told true = tt
+    told false = (
+      slot_clear (negsuc 0) (negsuc 0) new (record { sfits = lit< tt })
+          (record { sfits = lit< tt }) f,
       tt,
     )
 

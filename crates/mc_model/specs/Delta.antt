@@ -7,7 +7,7 @@ use Rattle.std.specs.List.{All, filter, flat_map, range_with_len}
 use Rattle.std.specs.Str.{bytes_eq}
 use Rattle.std.specs.Ordering.{nat_cmp, int_eq}
 use Rattle.std.specs.FinMap.{FinMap, get, contains_key, entries, keys}
-use lib.IntN.{ℤ, pos}
+use lib.IntN.{ℤ, pos, negsuc}
 use Rattle.mc_fields.specs.declared.position.Cell.{Cell}
 use Rattle.mc_fields.specs.declared.position.Spot.{Spot}
 use Rattle.mc_slots.specs.declared.slot.Slot.{Slot}
@@ -257,6 +257,19 @@ slot_packets i olds [] = []
 abbrev pub pack_point : Sight → Sight → List Down
 pack_point p q = slot_packets 9 p.pack q.pack
 
+-- ---- the cursor
+
+-- what hangs on it is slot -1 of window -1
+abbrev pub cursor_packet : Slot → Down
+cursor_packet item = SetSlot (negsuc 0) (negsuc 0) item
+
+-- where that is something else
+abbrev pub cursor_packets : Slot → Slot → List Down
+cursor_packets old new = if is_same_slot old new then [] else cursor_packet new ∷ []
+
+abbrev pub cursor_point : Sight → Sight → List Down
+cursor_point p q = cursor_packets p.cursor q.cursor
+
 -- ---- chat
 
 -- a text is shown as what a player says
@@ -274,7 +287,7 @@ delta p q =
     flat_map (λ (point : List Down). point)
     (beat_point p q ∷ time_point p q ∷ leavers_point p q ∷ joiners_point p q ∷ destroys_point p q
     ∷ unloads_point p q ∷ loads_point p q ∷ cells_point p q ∷ entities_point p q ∷ pack_point p q
-    ∷ chat_point p q ∷ [])
+    ∷ cursor_point p q ∷ chat_point p q ∷ [])
 
 -- ---- what the packets rest on
 

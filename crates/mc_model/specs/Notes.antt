@@ -10,11 +10,12 @@ use Rattle.mc_fields.specs.declared.position.Spot.{Spot}
 use Rattle.mc_slots.specs.declared.slot.Slot.TheVariants as slots
 use Rattle.mc_slots.specs.Pile.{slot_of}
 use Rattle.mc_packets.specs.declared.down.Down.{Down}
-use Rattle.mc_packets.specs.declared.down.Down.TheVariants.{Change, SetSlot, WindowItems}
+use Rattle.mc_packets.specs.declared.down.Down.TheVariants.{Change, WindowItems}
 use Rattle.mc_land.specs.declared.terrain.Terrain.{Terrain}
 use Rattle.mc_land.specs.Places.{Place, key_cmp, place_of}
 use Rattle.mc_windows.specs.Pack.{PackValue}
 use Rattle.mc_model.specs.declared.notes.Notes.{Notes}
+use Rattle.mc_model.specs.Delta.{cursor_packet}
 use Rattle.mc_model.specs.Things.{state_of_cell}
 use Rattle.mc_model.specs.Opening.{placing}
 
@@ -30,11 +31,11 @@ abbrev pub with_cells : List Cell → Notes → Notes
 with_cells cells notes = record notes { cells = notes.cells ++ cells }
 
 -- The window 0 with all slots of it: the first nine are empty, and behind them are those of the
--- pack. Then what hangs on the cursor, as slot -1 of window -1.
+-- pack. Then what hangs on the cursor.
 abbrev pub window_packets : PackValue → List Down
 window_packets pack =
     WindowItems 0 (replicate 9 slots.Empty ++ map slot_of pack.slots)
-    ∷ SetSlot (negsuc 0) (negsuc 0) (slot_of pack.cursor) ∷ []
+    ∷ cursor_packet (slot_of pack.cursor) ∷ []
 
 -- what was noted beside cells, of a player that is at a spot and carries a pack
 abbrev pub notes_of : Notes → Spot → PackValue → List Down

@@ -181,6 +181,12 @@ with_slot pack window i item = pack
 abbrev pub with_items : List Slot → ℕ → List Slot → List Slot
 with_items pack window items = if window == 0 && length items == 45 then drop 9 items else pack
 
+-- ---- the cursor: slot -1 of window -1
+
+abbrev pub is_cursor : ℤ → ℤ → Bool
+is_cursor (negsuc window) (negsuc i) = window == 0 && i == 0
+is_cursor window i = false
+
 -- ---- packets
 
 abbrev pub is_overworld : ℤ → Bool
@@ -199,6 +205,9 @@ with_entity r eid f = with_entities r (altered r.sight.entities eid f)
 
 abbrev pub with_pack : Replica → List Slot → Replica
 with_pack r pack = record r { sight = record r.sight { pack = pack } }
+
+abbrev pub with_cursor : Replica → Slot → Replica
+with_cursor r cursor = record r { sight = record r.sight { cursor = cursor } }
 
 unfoldable pub apply : Replica → Down → Replica
 apply r (KeepAlive beat) = record r { sight = record r.sight { beat = Some beat } }
@@ -234,7 +243,9 @@ apply r (Teleport eid x y z yaw pitch on_ground) =
 apply r (HeadLook eid head) = with_entity r eid (λ (e : Seen). record e { head = head })
 apply r (Equipment eid worn pile) = with_entity r eid (wearing worn pile)
 apply r (Meta eid metas) = with_entity r eid (with_metas metas)
-apply r (SetSlot window i item) = with_pack r (with_slot r.sight.pack window i item)
+apply r (SetSlot window i item) =
+    if is_cursor window i then with_cursor r item
+    else with_pack r (with_slot r.sight.pack window i item)
 apply r (WindowItems window items) = with_pack r (with_items r.sight.pack window items)
 apply r other = r
 
@@ -249,6 +260,7 @@ pub record Shows (r : Replica) (p : Sight) : Type 0 where
   pub columns : r.sight.columns ≡ p.columns
   pub entities : r.sight.entities ≡ p.entities
   pub pack : r.sight.pack ≡ p.pack
+  pub cursor : r.sight.cursor ≡ p.cursor
   pub chat : r.sight.chat ≡ p.chat
 
 -- the replica of a client that sees this

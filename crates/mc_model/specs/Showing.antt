@@ -22,7 +22,7 @@ abbrev pub last_shown : Option Sight → Sight
 last_shown shown = unwrap_or shown nothing_seen
 
 -- To a player that was shown a sight: the beat and the age, the players in play, the columns of its
--- view as they are, the entities in it but its own, its pack, and what was said since it joined.
+-- view as they are, the entities in it but its own, its pack and cursor, and what was said since it joined.
 unfoldable pub sight_of : Game → Player → Sight → Sight
 sight_of g p last = record {
   beat = Some (pos (beat_at g.age));
@@ -32,6 +32,7 @@ sight_of g p last = record {
   entities = from_entries (filter_map seen_of
       (filter (is_in_sight g p) (others (pos p.eid) g.entities)));
   pack = map slot_of (pack_of g p).slots;
+  cursor = slot_of (pack_of g p).cursor;
   chat = last.chat ++ drop p.since g.lines;
 }
 

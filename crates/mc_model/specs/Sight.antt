@@ -39,6 +39,8 @@ pub record Sight : Type 0 where
   pub entities : FinMap int_cmp Seen
   -- the slots of the own pack
   pub pack : List Slot
+  -- what hangs on the own cursor
+  pub cursor : Slot
   -- what was said, as texts
   pub chat : List (List ℕ)
 
@@ -50,6 +52,7 @@ nothing_seen = record {
   columns = empty;
   entities = empty;
   pack = replicate pack_size slots.Empty;
+  cursor = slots.Empty;
   chat = [];
 }
 

@@ -49,6 +49,7 @@ nothing_stands parts = record {
   entities = λ eid. ap (option_map kept_of) (get-empty int_cmp eid)
       ∙ sym (ap (option_map told_slot) (get-empty int_cmp eid));
   pack = refl;
+  cursor = refl;
 }
 
 -- a mark stands for what was shown at the last tick
@@ -116,6 +117,7 @@ module _ (scene : Scene) (p : Player) (part : ClientView) (is : IsScene scene)
         is_in_view (has.view.middle i) (has.view.d i) (column_of_spot e.spot))
         (others (has.me i) (has.entities i))));
     pack = map slot_of (has.pack i).slots;
+    cursor = slot_of (has.pack i).cursor;
     chat = last.chat ++ lines_are i;
   }
 

@@ -14,6 +14,7 @@ fn name_fields(mark: &Mark) {
         shown: Option<ViewSet>,
         told: Tracker,
         slots: [Pile; PACK_PILES],
+        cursor: Pile,
     });
 }
 

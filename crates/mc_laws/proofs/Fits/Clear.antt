@@ -227,6 +227,7 @@ sight_fits g p last sound heard =
           (crowd_in_sight g p sound);
       pack = piles_fit (pack_of g p).slots pack.are_piles;
       slots = length-map (pack_of g p).slots slot_of ∙ pack.size;
+      cursor = pile_slot_fits (pack_of g p).cursor pack.is_pile;
       beat = beat_fits g.age sound.young;
       age = shown_age_fits g.age sound.young;
       chat = all_joined LineFits last.chat (drop p.since g.lines) heard

@@ -34,11 +34,16 @@ sight_pack : (g : Game) (p : Player) (last : Sight) →
 unfolding sight_of
 sight_pack g p last = refl
 
+sight_cursor : (g : Game) (p : Player) (last : Sight) →
+    (sight_of g p last).cursor ≡ slot_of (pack_of g p).cursor
+unfolding sight_of
+sight_cursor g p last = refl
+
 notes_keep : (g : Game) (p : Player) (last : Sight) → IsTold (sight_of g p last) →
     Leads (sight_of g p last) (notes_due g p) (sight_of g p last)
 notes_keep g p last told = onward (cells_keep g p last told p.notes.cells)
     ((notes_owe p.notes (spot_of g p) (pack_of g p)).keeps (sight_of g p last)
-    (sight_pack g p last))
+    (sight_pack g p last) (sight_cursor g p last))
 
 pub due_leads : (g : Game) (shown : Option Sight) (p : Player) →
     Follows (last_shown shown) (sight_of g p (last_shown shown)) →

@@ -24,19 +24,22 @@ use Rattle.mc_laws.proofs.Leading.{Leads, no_packets, onward}
 use Rattle.mc_laws.proofs.ThingsFit.{NotesFit}
 
 -- Packets of what is noted for a player that is at a spot and carries a pack: they are decoded
--- where that can be told, and who sees that pack sees what it saw.
+-- where that can be told, and who sees that pack and cursor sees what it saw.
 pub record Owes (notes : Notes) (spot : Spot) (pack : PackValue) (packets : List Down) :
     Type 0 where
   pub clear : NotesFit notes → SpotFits spot → IsPack pack.slots pack.cursor → AreClear packets
-  pub keeps : (s : Sight) → s.pack ≡ map slot_of pack.slots → Leads s packets s
+  pub keeps : (s : Sight) → s.pack ≡ map slot_of pack.slots → s.cursor ≡ slot_of pack.cursor →
+      Leads s packets s
 
--- the window shows a pack that is there, and the cursor is no part of a replica
+-- the window shows a pack and a cursor that are there
 window_keeps : (s : Sight) (pack : PackValue) → s.pack ≡ map slot_of pack.slots →
+    s.cursor ≡ slot_of pack.cursor →
     replay (seeing s) (window_packets pack) ≡ seeing s
 unfolding apply
-window_keeps s pack same =
-    ap (λ (items : List Slot). seeing (record s { pack = items }))
-    (cases (length (replicate 9 slots.Empty ++ map slot_of pack.slots) == 45))
+window_keeps s pack same held = λ i. seeing (record s {
+  pack = cases (length (replicate 9 slots.Empty ++ map slot_of pack.slots) == 45) i;
+  cursor = sym held i;
+})
   where
     cases : (b : Bool) → cond b (map slot_of pack.slots) s.pack ≡ s.pack
     cases true = sym same
@@ -49,14 +52,14 @@ module _ (notes : Notes) (spot : Spot) (pack : PackValue) where
   both {xs} {ys} a b = record {
     clear = λ fit at is. all_joined (λ (packet : Down). IsClear for_play (of_play packet)) xs ys
         (a.clear fit at is) (b.clear fit at is);
-    keeps = λ s same. onward (a.keeps s same) (b.keeps s same);
+    keeps = λ s same held. onward (a.keeps s same held) (b.keeps s same held);
   }
 
   -- those of one that may not be noted
   maybe : {xs : List Down} (b : Bool) → Owes notes spot pack xs →
       Owes notes spot pack (if b then xs else [])
   maybe true owes = owes
-  maybe false owes = record { clear = λ fit at is. tt; keeps = λ s same. no_packets s }
+  maybe false owes = record { clear = λ fit at is. tt; keeps = λ s same held. no_packets s }
 
   -- those of all, note by note; where a player is is no part of a replica
   pub notes_owe : Owes notes spot pack (notes_of notes spot pack)
@@ -65,11 +68,11 @@ module _ (notes : Notes) (spot : Spot) (pack : PackValue) where
       let place : Owes notes spot pack (if notes.placing then placing spot ∷ [] else []) =
       maybe notes.placing (record {
         clear = λ fit at is. (placing_clear spot at, tt);
-        keeps = λ s same. record { is = refl };
+        keeps = λ s same held. record { is = refl };
       }) in
       let window : Owes notes spot pack (if notes.resend then window_packets pack else []) =
       maybe notes.resend (record {
         clear = λ fit at is. window_clear pack is;
-        keeps = λ s same. record { is = window_keeps s pack same };
+        keeps = λ s same held. record { is = window_keeps s pack same held };
       }) in
       both place window

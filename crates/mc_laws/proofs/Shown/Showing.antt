@@ -324,6 +324,7 @@ after_tick_shows k w p ps s there =
         columns = ap (λ (r : Replica). r.sight.columns) all;
         entities = ap (λ (r : Replica). r.sight.entities) all;
         pack = ap (λ (r : Replica). r.sight.pack) all;
+        cursor = ap (λ (r : Replica). r.sight.cursor) all;
         chat = ap (λ (r : Replica). r.sight.chat) all;
       };
     }

@@ -52,5 +52,6 @@ returns-clause-stands g c chat =
       age = age_now v.age;
       view = Some v.view;
       slots = v.pack.now.slots;
+      cursor = v.pack.now.cursor;
     }) c.in_ok-push_changes.ensures.mark))
     (stands_seen land v.list.now es v.pack.now v.view v.age chat)

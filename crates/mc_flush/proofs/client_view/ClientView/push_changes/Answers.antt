@@ -3,7 +3,7 @@ use Rattle.std.specs.List.{AllByRecursion}
 use Rattle.mc_frame.specs.Kept.{joined}
 use Rattle.mc_model.specs.Sight.{others}
 use Rattle.mc_sending.specs.Sending.{play_bytes}
-use Rattle.mc_flush.specs.Seeing.{MarkValue, column_packets, loaded, pack_packets}
+use Rattle.mc_flush.specs.Seeing.{MarkValue, carried_packets, column_packets, loaded}
 use Rattle.mc_loads.specs.Columns.{IsReady}
 use Rattle.mc_flush.proofs.Sent.{changes_put_all}
 use Rattle.mc_flush.proofs.client_view.ClientView.push_changes.Goals as goal
@@ -37,6 +37,6 @@ returns-clause-sent g c =
     (c.in_ok-push_piece-3.ensures ∙ ap (λ (t : List ℕ). joined c.push_columns.new.out.items ++ t)
     c.in_ok-gone.ensures.shown)
     (c.in_ok-push_slots.ensures ∙ ap (λ (m : MarkValue).
-    joined c.push_piece-3.new.out.items ++ play_bytes (pack_packets m.slots v.pack.now.slots))
+    joined c.push_piece-3.new.out.items ++ play_bytes (carried_packets m v.pack.now))
     c.in_ok-gone.ensures.mark)
     c.in_ok-push_lines.ensures
