@@ -51,8 +51,8 @@ abbrev pub columns_of : Parts → ViewSet → FinMap place_cmp ColumnValue
 columns_of parts view = from_entries (map (placed_with parts.terrain parts.edits) (all_of view))
 
 -- what a client is to be shown: the beat and the age, the players that are in the list now, the
--- columns of the view as they are, the entities in it that are not its own, its pack and cursor, and
--- all that was said
+-- columns of the view as they are, the entities in it that are not its own, its pack and cursor,
+-- and all that was said
 abbrev pub seen : LandValue → ListValue → List Entity → PackValue → ViewSet → ℕ → List (List ℕ) →
     Sight
 seen land list entities pack view age chat = record {

@@ -127,7 +127,8 @@ may_open c e most online false same open_ =
 pub may_shorten : (c e : ConnectionValue) (most online : ℕ) (done : Bool) →
     MayReply done most online c e → done ≡ true →
     length e.splitter.held < length c.splitter.held
-may_shorten c e most online true done is = frame_shortens c.splitter done.frame e.splitter done.taken
+may_shorten c e most online true done is =
+    frame_shortens c.splitter done.frame e.splitter done.taken
 may_shorten c e most online false same is = absurd cc
 
 pub may_stay : (c e : ConnectionValue) (most online : ℕ) (done : Bool) →

@@ -22,7 +22,8 @@ abbrev pub last_shown : Option Sight → Sight
 last_shown shown = unwrap_or shown nothing_seen
 
 -- To a player that was shown a sight: the beat and the age, the players in play, the columns of its
--- view as they are, the entities in it but its own, its pack and cursor, and what was said since it joined.
+-- view as they are, the entities in it but its own, its pack and cursor, and what was said since it
+-- joined.
 unfoldable pub sight_of : Game → Player → Sight → Sight
 sight_of g p last = record {
   beat = Some (pos (beat_at g.age));
