@@ -21,7 +21,7 @@ use Rattle.mc_view.specs.Told.{Told}
 use Rattle.mc_model.specs.declared.notes.Notes.{Notes}
 use Rattle.mc_model.specs.Sight.{Sight, seen_of}
 use Rattle.mc_model.specs.Spots.{spawn_spot, spot_in}
-use Rattle.mc_model.specs.Notes.{noted_packets, notes_of}
+use Rattle.mc_model.specs.Notes.{confirm_packet, noted_packets, notes_of}
 use Rattle.mc_model.specs.Delta.{Pairs, missing, leaver, joiner, about, beat_packets, time_packets}
 use Rattle.mc_model.specs.Delta.{chat_packet, cursor_packets, destroying, slot_packets}
 use Rattle.mc_told.specs.Telling.{age_now, beat_now, entity_frames, gone_from, in_view, kept_of}
@@ -202,11 +202,12 @@ abbrev pub spot_seen : LandValue → List Entity → ℤ → Spot
 spot_seen land entities (pos eid) = spot_in land.terrain entities eid
 spot_seen land entities (negsuc n) = spawn_spot land.terrain
 
--- what was noted: cells in the view as they are, and all else, of a player that is at a spot and
--- carries a pack
+-- what was noted: answers to clicks, cells in the view as they are, and all else, of a player
+-- that is at a spot and carries a pack
 abbrev pub noted_of : LandValue → ViewSet → Notes → Spot → PackValue → List Down
 noted_of land view notes spot pack =
-    noted_packets land.terrain land.edits (has view) notes.cells ++ notes_of notes spot pack
+    map confirm_packet notes.confirms
+    ++ noted_packets land.terrain land.edits (has view) notes.cells ++ notes_of notes spot pack
 
 -- ---- what is asked of the parts
 

@@ -223,7 +223,7 @@ pub fn flush_with<L: Ledger>(
     let mut pieces = Vec::new(alloc);
     view.push_changes(alloc, encoded, mark, &mut pieces, steps)?;
     push_piece(
-        noted_piece(alloc, view.land, &view.view, notes.cells.as_slice(), steps)?,
+        noted_piece(alloc, view.land, &view.view, notes, steps)?,
         &mut pieces,
     )?;
     push_notes(alloc, notes, &view.spot(), view.pack, &mut pieces)?;

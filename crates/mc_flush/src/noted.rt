@@ -1,17 +1,19 @@
-//! Cells that were noted for a client, as they are.
+//! Answers to the clicks of a client, and cells that were noted for it, as they are.
 
-ghost use Rattle.std.specs.Prelude.{◌≡◌, ◌≤◌, ◌+◌, ◌++◌, ◌∷◌, [], IfOk, OnOk, true};
+ghost use Rattle.std.specs.Prelude.{◌≡◌, ◌≤◌, ◌+◌, ◌++◌, ◌∷◌, [], IfOk, OnOk, map, true};
 ghost use Rattle.mc_fields.specs.Position.{FitsCell};
 ghost use Rattle.mc_view.specs.Sets.{has};
-ghost use Rattle.mc_model.specs.Notes.{is_sent, noted_packets};
+ghost use Rattle.mc_model.specs.Notes.{confirm_packet, is_sent, noted_packets};
 ghost use Rattle.mc_model.specs.Things.{state_of_cell};
 ghost use Rattle.mc_flush.specs.Encoding.{looks_at, noted_cost};
 ghost use Rattle.mc_sending.specs.Sending.{play_bytes};
 
+use crate::notes::put_confirms;
 use bytes::Bytes;
 use mc_bytes::NoMemory;
 use mc_fields::Cell;
 use mc_land::{Land, Steps};
+use mc_model::Notes;
 use mc_packets::Down;
 use mc_sending::put_made;
 use mc_view::ViewSet;
@@ -65,23 +67,42 @@ fn put_noted<L: Ledger>(
     put_made(Down::Change(*cell, i32::from(state)), out)
 }
 
-/// The frames of the noted cells that are sent, as one piece. It looks at those that have a state
-/// of their own.
-pub fn noted_piece<L: Ledger>(
-    alloc: Global,
+/// Appends the frames of the noted cells that are sent. It looks at those that have a state of
+/// their own.
+fn put_cells<L: Ledger>(
     land: &Land,
     view: &ViewSet,
     cells: &[Cell],
+    out: &mut Vec<u8>,
     steps: &mut Steps<L>,
-) -> Result<Bytes, NoMemory>
-    ensures is { IfOk result (λ piece. piece ≡ play_bytes
+) -> Result<(), NoMemory>
+    ensures sent { OnOk result (out.new.items ≡ out.old.items ++ play_bytes
         (noted_packets land.now.terrain land.now.edits (has view.now) cells.now)) }
     ensures cost { OnOk result (steps.new ≡ steps.old + noted_cost view.now cells.now) }
     ensures bounded { steps.new ≤ steps.old + noted_cost view.now cells.now }
 {
-    let mut bytes = Vec::new(alloc);
     for cell in cells {
-        put_noted(land, view, cell, &mut bytes, steps)?;
+        put_noted(land, view, cell, out, steps)?;
     }
+    Ok(())
+}
+
+/// The frames of the answers to clicks and of the noted cells that are sent, as one piece. It looks
+/// at those cells that have a state of their own.
+pub fn noted_piece<L: Ledger>(
+    alloc: Global,
+    land: &Land,
+    view: &ViewSet,
+    notes: &Notes,
+    steps: &mut Steps<L>,
+) -> Result<Bytes, NoMemory>
+    ensures is { IfOk result (λ piece. piece ≡ play_bytes (map confirm_packet notes.now.confirms
+        ++ noted_packets land.now.terrain land.now.edits (has view.now) notes.now.cells)) }
+    ensures cost { OnOk result (steps.new ≡ steps.old + noted_cost view.now notes.now.cells) }
+    ensures bounded { steps.new ≤ steps.old + noted_cost view.now notes.now.cells }
+{
+    let mut bytes = Vec::new(alloc);
+    put_confirms(notes.confirms.as_slice(), &mut bytes)?;
+    put_cells(land, view, notes.cells.as_slice(), &mut bytes, steps)?;
     Ok(Bytes::from_vec(bytes)?)
 }

@@ -3,14 +3,14 @@ ghost use Rattle.mc_slots.specs.Pile.{IsPile, slot_of};
 ghost use Rattle.mc_slots.specs.Chest.{pile_at};
 ghost use Rattle.mc_packets.specs.declared.down.Down.TheVariants as down;
 ghost use Rattle.mc_slots.specs.declared.slot.Slot.TheVariants as slots;
-ghost use Rattle.mc_model.specs.Notes.{notes_of};
+ghost use Rattle.mc_model.specs.Notes.{confirm_packet, notes_of};
 ghost use Rattle.mc_model.specs.Opening.{placing};
 ghost use Rattle.mc_sending.specs.Sending.{IsClear, play_bytes};
 
 use crate::slots::put_cursor;
 use mc_bytes::NoMemory;
 use mc_fields::{Spot, degrees, pattern};
-use mc_model::Notes;
+use mc_model::{Answered, Notes};
 use mc_packets::{Down, Slots};
 use mc_sending::put_made;
 use mc_slots::{Pile, Slot};
@@ -33,6 +33,29 @@ pub fn placing_packet(place: &Spot) -> Down
         pitch: degrees(place.pitch),
         flags: 0,
     }
+}
+
+/// Appends the frame of the answer to a click.
+fn put_confirm(answered: &Answered, out: &mut Vec<u8>) -> Result<(), NoMemory>
+    ensures { OnOk result (out.new.items
+        ≡ out.old.items ++ play_bytes (confirm_packet answered.now ∷ [])) }
+{
+    let window = answered.window.cast_signed();
+    put_made(
+        Down::Confirm(window, answered.number, answered.accepted),
+        out,
+    )
+}
+
+/// Appends the frames of the answers to clicks, one after another.
+pub fn put_confirms(confirms: &[Answered], out: &mut Vec<u8>) -> Result<(), NoMemory>
+    ensures { OnOk result (out.new.items
+        ≡ out.old.items ++ play_bytes (map confirm_packet confirms.now)) }
+{
+    for answered in confirms {
+        put_confirm(answered, out)?;
+    }
+    Ok(())
 }
 
 /// The slots before those of the pack, which are empty.
@@ -67,7 +90,7 @@ fn put_window(pack: &Pack, out: &mut Vec<u8>) -> Result<(), NoMemory>
     put_made(Down::WindowItems(0, items), out)
 }
 
-/// Appends what was noted for a client: its player's place, and the window that it is shown.
+/// Appends what else was noted for a client: its player's place, and the window that it is shown.
 pub fn put_notes(
     notes: &Notes,
     place: &Spot,

@@ -1,6 +1,7 @@
 -- What packets can tell: what is noted for a client, where players enter, air, and what is dug.
 use Rattle.std.proofs.Common.{◌≡◌, ℕ, ◌/◌, true, false, refl, sym, ap, ◌∙◌, inl, inr, arith}
 use Rattle.std.specs.Prelude.{not, ◌==◌}
+use Rattle.std.specs.List.{AllByRecursion}
 use Rattle.std.proofs.lemmas.Int.{ints}
 use Rattle.mc_slots.specs.Pile.{IsItem}
 use Rattle.mc_land.specs.declared.terrain.Terrain.{Terrain}
@@ -10,13 +11,15 @@ use Rattle.mc_model.specs.Notes.{no_notes}
 use Rattle.mc_model.specs.Spots.{spawn_spot}
 use Rattle.mc_model.specs.Digging.{is_dug, block_item}
 use Rattle.mc_model.specs.Fitting.{IsState, SpotFits}
+use Rattle.mc_model.proofs.FitsNotes.{ConfirmFits}
 use Rattle.mc_model.proofs.FitsText.{IsShort, both_true}
 use Rattle.mc_model.proofs.ThingFacts.{spawn_low}
 
--- What is noted for a client, so that packets can tell it. So far they can tell whatever is noted,
--- since a cell without a position is not sent. What is asked of a field of `Notes` is part of this.
+-- What is noted for a client, so that packets can tell it: the answers to clicks. They can tell
+-- whatever cells are noted, since one without a position is not sent. What is asked of a field of
+-- `Notes` is part of this.
 abbrev pub NotesFit : Notes → Type 0
-NotesFit notes = Unit {0}
+NotesFit notes = AllByRecursion ConfirmFits notes.confirms
 
 pub no_notes_fit : NotesFit no_notes
 no_notes_fit = tt

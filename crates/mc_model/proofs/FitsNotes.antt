@@ -1,25 +1,55 @@
--- The packets of noted cells fit: what is sent of them has a position, and a state of 16 bits.
-use Rattle.std.proofs.Common.{◌≡◌, ℕ, ◌+◌, ◌^◌, ◌<◌, ◌≤◌, Bool, true, List, [], ◌∷◌, arith}
+-- The packets of answers to clicks fit, and those of noted cells: what is sent of them has a
+-- position, and a state of 16 bits.
+use Rattle.std.proofs.Common.{◌≡◌, ℕ, ◌+◌, ◌^◌, ◌<◌, ◌≤◌, Bool, true, List, [], ◌∷◌, lit<, map}
+use Rattle.std.proofs.Common.{arith}
 use Rattle.std.specs.Prelude.{int_le, unsigned_abs}
+use Rattle.std.specs.Int.{w8, w16}
+use Rattle.std.specs.List.{AllByRecursion}
+use Rattle.std.proofs.Math.Facts.{sfits_to_z}
 use Rattle.std.specs.FinMap.{FinMap}
 use Rattle.std.proofs.lemmas.Bool.{leb-true}
 use Rattle.std.proofs.lemmas.Int.{ints}
 use Rattle.std.proofs.lemmas.Bool.Decides.{nat_tests}
 use lib.IntN.{ℤ, pos, negsuc, ◌-ℤ◌}
+use mir.Val.{SFits}
 use Rattle.mc_fields.specs.declared.position.Cell.{Cell}
 use Rattle.mc_fields.specs.Position.{FitsHalf, FitsCell}
+use Rattle.mc_packets.specs.declared.down.Down.{Down}
 use Rattle.mc_land.specs.declared.terrain.Terrain.{Terrain}
 use Rattle.mc_land.specs.Places.{Place, key_cmp, column_number}
 use Rattle.mc_view.specs.declared.view_set.TheConstants.{MIDDLE_BORDER}
 use Rattle.mc_view.specs.Views.{is_in_view}
 use Rattle.mc_view.proofs.Near.{near_both}
+use Rattle.mc_model.specs.declared.notes.Answered.{Answered}
 use Rattle.mc_model.specs.Packets.{of_play, for_play}
 use Rattle.mc_model.specs.Things.{state_of_cell}
-use Rattle.mc_model.specs.Notes.{cell_packet, is_sent, noted_packets}
-use Rattle.mc_model.proofs.Decodes.{IsClear}
+use Rattle.mc_model.specs.Notes.{cell_packet, confirm_packet, is_sent, noted_packets}
+use Rattle.mc_model.proofs.AllFacts.{all_mapped}
+use Rattle.mc_model.proofs.Decodes.{IsClear, play_clear}
 use Rattle.mc_model.proofs.FitsText.{both_true}
 use Rattle.mc_model.proofs.FitsList.{AreClear}
+use Rattle.mc_model.proofs.FitsSize.{fields}
 use Rattle.mc_model.proofs.FitsCells.{change_clear}
+
+-- ---- answers to clicks
+
+-- one in a window whose number is a byte, to a click whose number has 16 bits
+pub record ConfirmFits (c : Answered) : Type 0 where
+  pub window : c.window < 256
+  pub number : SFits w16 c.number
+
+-- its packet
+pub confirm_clear : (c : Answered) → ConfirmFits c →
+    IsClear for_play (of_play (confirm_packet c))
+confirm_clear c f =
+    let window = sfits_to_z {w = w8} {n = c.window} (record { fits = f.window }) in
+    play_clear (confirm_packet c) (search (fields, window, f.number)) (lit< tt)
+
+-- those of all
+pub confirms_clear : (confirms : List Answered) → AllByRecursion ConfirmFits confirms →
+    AreClear (map confirm_packet confirms)
+confirms_clear confirms fit = all_mapped ConfirmFits
+    (λ (packet : Down). IsClear for_play (of_play packet)) confirm_packet confirm_clear confirms fit
 
 -- ---- positions
 

@@ -2,6 +2,7 @@
 -- difference. Rules of this project.
 use Rattle.std.specs.Prelude.{Bool, false, List, [], ℕ, true, ◌++◌, if◌then◌else◌, ◌&&◌}
 use Rattle.std.specs.Prelude.{int_le, ◌∷◌, map, replicate}
+use Rattle.std.specs.Int.{cast_signed, w8}
 use Rattle.std.specs.List.{filter}
 use Rattle.std.specs.FinMap.{FinMap}
 use lib.IntN.{pos, negsuc}
@@ -10,17 +11,18 @@ use Rattle.mc_fields.specs.declared.position.Spot.{Spot}
 use Rattle.mc_slots.specs.declared.slot.Slot.TheVariants as slots
 use Rattle.mc_slots.specs.Pile.{slot_of}
 use Rattle.mc_packets.specs.declared.down.Down.{Down}
-use Rattle.mc_packets.specs.declared.down.Down.TheVariants.{Change, WindowItems}
+use Rattle.mc_packets.specs.declared.down.Down.TheVariants.{Change, Confirm, WindowItems}
 use Rattle.mc_land.specs.declared.terrain.Terrain.{Terrain}
 use Rattle.mc_land.specs.Places.{Place, key_cmp, place_of}
 use Rattle.mc_windows.specs.Pack.{PackValue}
+use Rattle.mc_model.specs.declared.notes.Answered.{Answered}
 use Rattle.mc_model.specs.declared.notes.Notes.{Notes}
 use Rattle.mc_model.specs.Delta.{cursor_packet}
 use Rattle.mc_model.specs.Things.{state_of_cell}
 use Rattle.mc_model.specs.Opening.{placing}
 
 abbrev pub no_notes : Notes
-no_notes = record { cells = []; placing = false; resend = false }
+no_notes = record { confirms = []; cells = []; placing = false; resend = false }
 
 -- the window that it is shown is to be sent to it again
 abbrev pub again : Notes → Notes
@@ -30,6 +32,10 @@ again notes = record notes { resend = true }
 abbrev pub with_cells : List Cell → Notes → Notes
 with_cells cells notes = record notes { cells = notes.cells ++ cells }
 
+-- the answer to a click, with the byte of its window as it came
+abbrev pub confirm_packet : Answered → Down
+confirm_packet c = Confirm (cast_signed w8 c.window) c.number c.accepted
+
 -- The window 0 with all slots of it: the first nine are empty, and behind them are those of the
 -- pack. Then what hangs on the cursor.
 abbrev pub window_packets : PackValue → List Down
@@ -37,7 +43,7 @@ window_packets pack =
     WindowItems 0 (replicate 9 slots.Empty ++ map slot_of pack.slots)
     ∷ cursor_packet (slot_of pack.cursor) ∷ []
 
--- what was noted beside cells, of a player that is at a spot and carries a pack
+-- what was noted beside answers and cells, of a player that is at a spot and carries a pack
 abbrev pub notes_of : Notes → Spot → PackValue → List Down
 notes_of notes spot pack =
     (if notes.placing then placing spot ∷ [] else [])

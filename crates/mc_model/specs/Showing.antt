@@ -11,7 +11,7 @@ use Rattle.mc_land.specs.Places.{Place}
 use Rattle.mc_model.specs.declared.player.Player.{Player}
 use Rattle.mc_model.specs.Delta.{delta}
 use Rattle.mc_model.specs.Sight.{Sight, nothing_seen, others, seen_of}
-use Rattle.mc_model.specs.Notes.{notes_of, noted_packets}
+use Rattle.mc_model.specs.Notes.{confirm_packet, notes_of, noted_packets}
 use Rattle.mc_model.specs.Opening.{opening_of}
 use Rattle.mc_model.specs.Ticks.{beat_at, shown_age}
 use Rattle.mc_model.specs.Game.{Game, column_in, is_in_sight, pack_of, players_of, sees, spot_of}
@@ -43,10 +43,11 @@ opening_due g shown p =
     if is_some shown then []
     else opening_of g.settings.terrain g.settings.players (pos p.eid) (spot_of g p)
 
--- the noted cells and then all else, as the game is at the tick
+-- the answers to clicks, the noted cells and then all else, as the game is at the tick
 abbrev pub notes_due : Game → Player → List Down
 notes_due g p =
-    noted_packets g.settings.terrain g.edits (sees g p) p.notes.cells
+    map confirm_packet p.notes.confirms
+    ++ noted_packets g.settings.terrain g.edits (sees g p) p.notes.cells
     ++ notes_of p.notes (spot_of g p) (pack_of g p)
 
 -- what a player is sent at a tick: the opening once, the difference, and the notes

@@ -23,7 +23,7 @@ mod wish;
 pub use cause::{Cause, Refusal};
 pub use eid::Eid;
 pub use name::Name;
-pub use notes::Notes;
+pub use notes::{Answered, Notes};
 pub use pickups::{PICKUP_HEIGHT, PICKUP_SIDE, PICKUP_TICKS};
 pub use player::Player;
 pub use seen::{DESTROYED_MAX, SeenKind};

@@ -14,7 +14,7 @@ use Rattle.mc_slots.specs.Pile.{slot_of}
 use Rattle.mc_view.specs.Views.{column_of_spot, is_in_view, view_of}
 use Rattle.mc_model.specs.Delta.{delta}
 use Rattle.mc_model.specs.Sight.{Sight, nothing_seen, others, seen_of}
-use Rattle.mc_model.specs.Notes.{noted_packets, notes_of}
+use Rattle.mc_model.specs.Notes.{confirm_packet, noted_packets, notes_of}
 use Rattle.mc_model.specs.Opening.{opening_of}
 use Rattle.mc_model.specs.Ticks.{beat_at, shown_age}
 use Rattle.mc_model.specs.declared.player.Player.{Player}
@@ -128,7 +128,8 @@ module _ (scene : Scene) (p : Player) (part : ClientView) (is : IsScene scene)
 
   noted_is : noted_part ≡ notes_due game p
   noted_is = λ i.
-      noted_packets (has.land i).terrain (has.land i).edits (λ (place : Place).
+      map confirm_packet p.notes.confirms
+      ++ noted_packets (has.land i).terrain (has.land i).edits (λ (place : Place).
       is_in_view (has.view.middle i) (has.view.d i) place) p.notes.cells
       ++ notes_of p.notes (spot_seen (has.land i) (has.entities i) (has.me i)) (has.pack i)
 

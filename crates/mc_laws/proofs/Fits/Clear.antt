@@ -34,7 +34,7 @@ use Rattle.mc_model.specs.Delta.{delta}
 use Rattle.mc_model.specs.Packets.{for_play, of_play}
 use Rattle.mc_model.specs.Sight.{Seen, Sight, others, seen_as, seen_of}
 use Rattle.mc_model.specs.Opening.{level, opening_of}
-use Rattle.mc_model.specs.Notes.{notes_of, noted_packets}
+use Rattle.mc_model.specs.Notes.{confirm_packet, noted_packets, notes_of}
 use Rattle.mc_model.specs.Game.{AreSettings, Game, column_in, pack_of, players_of, sees, spot_of}
 use Rattle.mc_model.specs.Game.{is_in_sight, view_in}
 use Rattle.mc_model.specs.Spots.{spawn_height}
@@ -50,7 +50,7 @@ use Rattle.mc_model.proofs.FitsChunk.{ColumnFits, IsNear}
 use Rattle.mc_model.proofs.FitsDue.{level_short}
 use Rattle.mc_model.proofs.ThingFacts.{spawn_low}
 use Rattle.mc_model.proofs.FitsList.{AreClear, PairFits}
-use Rattle.mc_model.proofs.FitsNotes.{noted_packets_clear, sent_fits}
+use Rattle.mc_model.proofs.FitsNotes.{confirms_clear, noted_packets_clear, sent_fits}
 use Rattle.mc_model.proofs.FitsPlay.{join_clear, spawn_clear}
 use Rattle.mc_model.proofs.FitsSlots.{pile_slot_fits, piles_fit}
 use Rattle.mc_model.proofs.Maps.Sorted.{find_again, second}
@@ -261,15 +261,19 @@ due_clear g shown p sound small fit before =
     (all_joined C (opening_due g shown p) (delta last (sight_of g p last))
     (first (is_some shown))
     (delta_clear last (sight_of g p last) before (sight_fits g p last sound before.chat)))
-    (all_joined C (noted_packets g.settings.terrain g.edits (sees g p) p.notes.cells)
+    (all_joined C (map confirm_packet p.notes.confirms
+    ++ noted_packets g.settings.terrain g.edits (sees g p) p.notes.cells)
     (notes_of p.notes (spot_of g p) (pack_of g p))
+    (all_joined C (map confirm_packet p.notes.confirms)
+    (noted_packets g.settings.terrain g.edits (sees g p) p.notes.cells)
+    (confirms_clear p.notes.confirms fit)
     (noted_packets_clear g.settings.terrain g.edits (sees g p)
     (λ cell sent. sent_fits (column_of_spot (spot_of g p))
     (view_size g.settings.cap p.view_byte) cell
     (column_near (spot_of g p).x at.x) (column_near (spot_of g p).z at.z)
     (size_few g.settings.cap p.view_byte sound.settings.near) sent)
     (λ cell. let small = (cell_told g cell sound.told).small in omega (arith, small))
-    p.notes.cells)
+    p.notes.cells))
     ((notes_owe p.notes (spot_of g p) (pack_of g p)).clear fit at
     (named_is_pack g p.name sound.good)))
   where

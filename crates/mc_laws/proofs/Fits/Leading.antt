@@ -12,7 +12,7 @@ use Rattle.mc_model.specs.Showing.{due, last_shown, notes_due, opening_due, sigh
 use Rattle.mc_laws.proofs.Leading.{Leads, no_packets, onward}
 use Rattle.mc_laws.proofs.Points.{difference_leads}
 use Rattle.mc_laws.proofs.Fits.Noted.{cells_keep}
-use Rattle.mc_laws.proofs.Fits.Notes.{notes_owe}
+use Rattle.mc_laws.proofs.Fits.Notes.{confirms_keep, notes_owe}
 
 -- the opening says that there is a sky, and where the player is
 opening_keeps : (s : Sight) (g : Game) (p : Player) → replay (seeing s)
@@ -41,7 +41,9 @@ sight_cursor g p last = refl
 
 notes_keep : (g : Game) (p : Player) (last : Sight) → IsTold (sight_of g p last) →
     Leads (sight_of g p last) (notes_due g p) (sight_of g p last)
-notes_keep g p last told = onward (cells_keep g p last told p.notes.cells)
+notes_keep g p last told = onward
+    (onward (confirms_keep (sight_of g p last) p.notes.confirms)
+    (cells_keep g p last told p.notes.cells))
     ((notes_owe p.notes (spot_of g p) (pack_of g p)).keeps (sight_of g p last)
     (sight_pack g p last) (sight_cursor g p last))
 

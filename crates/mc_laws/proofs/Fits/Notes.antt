@@ -8,8 +8,9 @@ use Rattle.mc_slots.specs.declared.slot.Slot.TheVariants as slots
 use Rattle.mc_slots.specs.Pile.{slot_of}
 use Rattle.mc_packets.specs.declared.down.Down.{Down}
 use Rattle.mc_windows.specs.Pack.{PackValue, IsPack}
+use Rattle.mc_model.specs.declared.notes.Answered.{Answered}
 use Rattle.mc_model.specs.declared.notes.Notes.{Notes}
-use Rattle.mc_model.specs.Notes.{notes_of, window_packets}
+use Rattle.mc_model.specs.Notes.{confirm_packet, notes_of, window_packets}
 use Rattle.mc_model.specs.Opening.{placing}
 use Rattle.mc_model.specs.Packets.{for_play, of_play}
 use Rattle.mc_model.specs.Replica.{apply, replay, seeing}
@@ -20,10 +21,16 @@ use Rattle.mc_model.proofs.Decodes.{IsClear}
 use Rattle.mc_model.proofs.FitsList.{AreClear}
 use Rattle.mc_model.proofs.FitsSlots.{window_clear}
 use Rattle.mc_laws.proofs.FitsDue.{placing_clear}
-use Rattle.mc_laws.proofs.Leading.{Leads, no_packets, onward}
+use Rattle.mc_laws.proofs.Leading.{Leads, mapped_keep, no_packets, onward}
 use Rattle.mc_laws.proofs.ThingsFit.{NotesFit}
 
--- Packets of what is noted for a player that is at a spot and carries a pack: they are decoded
+-- answers to clicks change nothing of a replica
+pub confirms_keep : (s : Sight) (confirms : List Answered) →
+    Leads s (map confirm_packet confirms) s
+unfolding apply
+confirms_keep s confirms = mapped_keep s confirm_packet (λ c. record { is = refl }) confirms
+
+-- Packets of what else is noted for a player that is at a spot and carries a pack: they are decoded
 -- where that can be told, and who sees that pack and cursor sees what it saw.
 pub record Owes (notes : Notes) (spot : Spot) (pack : PackValue) (packets : List Down) :
     Type 0 where

@@ -1,11 +1,10 @@
-use Rattle.std.proofs.Common.{◌++◌, ℕ, List, Some, ap, sym, subst, ◌∙◌}
+use Rattle.std.proofs.Common.{◌++◌, ℕ, List, Some, ap, map, sym, subst, ◌∙◌}
 use lib.IntN.{pos}
-use Rattle.mc_fields.specs.declared.position.Cell.{Cell}
 use Rattle.mc_fields.specs.declared.position.Spot.{Spot}
 use Rattle.mc_frame.specs.Kept.{joined}
 use Rattle.mc_view.specs.Sets.{has}
 use Rattle.mc_model.specs.Delta.{delta}
-use Rattle.mc_model.specs.Notes.{noted_packets, notes_of}
+use Rattle.mc_model.specs.Notes.{confirm_packet, noted_packets, notes_of}
 use Rattle.mc_model.specs.Sight.{others}
 use Rattle.mc_sending.specs.Sending.{play_bytes}
 use Rattle.mc_flush.specs.Seeing.{MarkValue, StandsFor, changes, present_parts, seen}
@@ -26,13 +25,13 @@ returns-clause-sent g c p stands =
     c.push_changes.new.out.items c.push_piece.new.out.items c.push_notes.new.out.items
     (changes land v.list.now es v.pack.now mark v.view v.age v.lines.now)
     (delta p (seen land v.list.now es v.pack.now v.view v.age (p.chat ++ v.lines.now)))
-    (noted_packets land.terrain land.edits (has v.view) c.args.notes.now.cells)
+    (map confirm_packet c.args.notes.now.confirms
+    ++ noted_packets land.terrain land.edits (has v.view) c.args.notes.now.cells)
     (notes_of c.args.notes.now (spot_seen land v.folk.now.state.entities v.me) v.pack.now)
     c.new-pieces.ensures.items
     c.in_ok-push_changes.ensures.sent
     (c.in_ok-push_piece.ensures ∙ ap (λ (t : List ℕ). joined c.push_changes.new.out.items ++ t)
-    (c.in_ok-noted_piece.ensures.is ∙ ap (λ (cells : List Cell). play_bytes (noted_packets
-    land.terrain land.edits (has v.view) cells)) c.as_slice.ensures))
+    c.in_ok-noted_piece.ensures.is)
     (c.in_ok-push_notes.ensures ∙ ap (λ (spot : Spot). joined c.push_piece.new.out.items
     ++ play_bytes (notes_of c.args.notes.now spot v.pack.now)) c.spot.ensures)
     c.in_ok-append.ensures.items
