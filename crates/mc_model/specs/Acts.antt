@@ -8,6 +8,7 @@ use Rattle.mc_fields.specs.declared.position.Spot.{Spot}
 use Rattle.mc_up.specs.declared.play_up.PlayUp.{PlayUp}
 use Rattle.mc_up.specs.declared.play_up.PlayUp.TheVariants.{Chat, Position, Look, PositionLook}
 use Rattle.mc_up.specs.declared.play_up.PlayUp.TheVariants.{Held, Settings, Digging, Placement}
+use Rattle.mc_up.specs.declared.play_up.PlayUp.TheVariants.{ClickWindow, CloseWindow, Confirm}
 use Rattle.mc_up.specs.declared.play_up.PlayUp.TheVariants.{Creative}
 use Rattle.mc_model.specs.declared.player.Player.{Player}
 use Rattle.mc_model.specs.Movement.{moved, turned, arrive}
@@ -18,6 +19,7 @@ use Rattle.mc_model.specs.Deeds.{noting, with_player}
 use Rattle.mc_model.specs.Digging.{digging}
 use Rattle.mc_model.specs.Placing.{place_on}
 use Rattle.mc_model.specs.Chat.{say}
+use Rattle.mc_model.specs.Windows.{close, confirm, press}
 
 -- the game after a packet of a player; none where one of its numbers stands for no number
 abbrev pub act_of : ℕ → Player → PlayUp → Game → Option Game
@@ -29,6 +31,17 @@ act_of k p (PositionLook x y z yaw pitch on_ground) g =
 act_of k p (Digging status cell face) g = Some (digging k p status cell g)
 act_of k p (Placement cell face item x y z) g = Some (place_on k p cell face g)
 act_of k p (Held place) g = Some (take_up k p (place_of_hotbar place) g)
+act_of k p (ClickWindow window slot button number mode item) g = Some (press k p (record {
+  window = window;
+  slot = slot;
+  button = button;
+  number = number;
+  mode = mode;
+  item = item;
+}) g)
+act_of k p (Confirm window number accepted) g =
+    Some (confirm p (cast_unsigned w8 window) number g)
+act_of k p (CloseWindow window) g = Some (close k p window g)
 act_of k p (Creative slot item) g = Some (noting again k g)
 act_of k p (Settings locale view chat_mode colours skin) g =
     Some (with_player k (λ (q : Player). record q { view_byte = view }) g)

@@ -20,6 +20,7 @@ pub mod Digging
 pub mod Texts
 pub mod Chat
 pub mod Pickups
+pub mod Windows
 pub mod Movement
 pub mod Acts
 pub mod Talk

@@ -32,6 +32,10 @@ again notes = record notes { resend = true }
 abbrev pub with_cells : List Cell → Notes → Notes
 with_cells cells notes = record notes { cells = notes.cells ++ cells }
 
+-- and the answer to a click
+abbrev pub with_answer : Answered → Notes → Notes
+with_answer answered notes = record notes { confirms = notes.confirms ++ answered ∷ [] }
+
 -- the answer to a click, with the byte of its window as it came
 abbrev pub confirm_packet : Answered → Down
 confirm_packet c = Confirm (cast_signed w8 c.window) c.number c.accepted
