@@ -2,6 +2,7 @@
 -- and is only read: what changes it goes by the number of its connection, through deeds. Rules of
 -- this project.
 use Rattle.std.specs.Prelude.{ℕ, Option, Some, None}
+use Rattle.std.specs.Int.{cast_unsigned, w8}
 use Rattle.std.specs.Option.{option_and_then}
 use Rattle.std.specs.FinMap.{get}
 use Rattle.mc_fields.specs.declared.position.Spot.{Spot}
