@@ -15,7 +15,7 @@ use Rattle.mc_slots.specs.declared.pile.Pile.TheVariants.{Empty, Full}
 use Rattle.mc_slots.specs.Pile.{IsItem, IsPile, held, without}
 use Rattle.mc_land.specs.Land.{is_chest}
 use Rattle.mc_windows.specs.Pack.{IsPack}
-use Rattle.mc_windows.proofs.StoredPacks.{left_is_pile}
+use Rattle.mc_windows.proofs.Ranges.{left_is_pile}
 use Rattle.mc_entities.specs.declared.entity.EntityKind.TheVariants as kinds
 use Rattle.mc_entities.specs.Folk.{dropped_in}
 use Rattle.mc_entities.specs.Shift.{is_between, is_inside}
