@@ -1,6 +1,6 @@
 -- Moves and clicks leave a pack, a chest and piles as the world holds them.
 use Rattle.std.proofs.Common.{◌≡◌, ℕ, zero, suc, ◌-◌, ◌≤◌, Bool, true, false, List, [], ◌∷◌}
-use Rattle.std.proofs.Common.{Option, Some, None, Result, Ok, Err, refl, arith, ◌∙◌}
+use Rattle.std.proofs.Common.{Option, Some, None, Result, arith, ◌∙◌}
 use Rattle.std.proofs.Common.{if◌then◌else◌}
 use Rattle.std.specs.Prelude.{min, option_map, slice_set}
 use Rattle.std.specs.Option.{unwrap_or}

@@ -41,7 +41,7 @@ use Rattle.mc_model.specs.Things.{in_hand, with_hand}
 use Rattle.mc_model.specs.Windows.{answering, close, confirm, is_accepted, is_sent_again}
 use Rattle.mc_model.specs.Windows.{kept_in_hand, let_fall, press, shut}
 use Rattle.mc_model.specs.Game.{Game, held_by, pack_of, room_in, spot_of, state_in}
-use Rattle.mc_model.specs.Deeds.{noting, repack_of, stand_of, thrown, with_state}
+use Rattle.mc_model.specs.Deeds.{noting, repack_of, stand_of, with_state}
 use Rattle.mc_model.specs.Good.{Good}
 use Rattle.mc_model.specs.Movement.{arrive, arrived, placed_again}
 use Rattle.mc_model.specs.Fitting.{SpotFits, Told}
