@@ -1,3 +1,4 @@
+pub mod Clicking
 pub mod Dropping
 pub mod Holding
 pub mod Lying

@@ -14,6 +14,7 @@ mod pickups;
 mod placing;
 mod reaching;
 mod tick;
+mod windows;
 
 use crate::entities::Entities;
 use crate::ground::Ground;

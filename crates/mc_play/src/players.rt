@@ -1,4 +1,4 @@
-ghost use Rattle.std.specs.Prelude.{◌≡◌, ◌==◌, ◌∷◌, ℕ, [], OnErr, OnOk};
+ghost use Rattle.std.specs.Prelude.{◌≡◌, ◌==◌, ◌∷◌, ℕ, [], OnErr, OnOk, if◌then◌else◌};
 ghost use Rattle.std.specs.List.{list_any};
 ghost use Rattle.std.specs.Option.{option_copied, option_copied_mut};
 ghost use Rattle.std.specs.BTreeMap as tree;
@@ -6,7 +6,7 @@ ghost use Rattle.std.specs.Map.Iter.{ShowsInOrder, deref};
 ghost use Rattle.std.specs.FinMap.{empty, entries, get, insert, len, remove, values};
 ghost use Rattle.std.specs.Ordering.{int_eq};
 ghost use lib.IntN.{pos};
-ghost use Rattle.mc_model.specs.Notes.{again, with_cells};
+ghost use Rattle.mc_model.specs.Notes.{again, with_answer, with_cells};
 ghost use Rattle.mc_model.specs.Placing.{placing_refused};
 ghost use Rattle.mc_model.specs.Maps.{map_keyed, modify};
 ghost use Rattle.mc_model.specs.Movement.{placed_again};
@@ -18,7 +18,7 @@ mod fields;
 
 use mc_bytes::NoMemory;
 use mc_fields::Cell;
-use mc_model::{Notes, Player};
+use mc_model::{Answered, Notes, Player};
 use std::alloc::Global;
 use std::collections::BTreeMap;
 use std::collections::btree_map::Values;
@@ -206,6 +206,27 @@ impl Players {
     {
         if let Some(player) = self.find_mut(connection) {
             player.notes.cells.push(cell)?;
+        }
+        Ok(())
+    }
+
+    /// Notes the answer to a click of the client of a connection, and where `resend` says so that
+    /// it is to be sent its window again, if it has a player. Without memory all is as before.
+    pub fn note_answer(
+        &mut self,
+        connection: u32,
+        answered: Answered,
+        resend: bool,
+    ) -> Result<(), NoMemory>
+        ensures ok { OnOk result (self.new ≡ modify connection (λ (p : declared.Player). record p {
+          notes = if resend then again (with_answer answered p.notes)
+              else with_answer answered p.notes;
+        }) self.old) }
+        ensures err { OnErr result (self.new ≡ self.old) }
+    {
+        if let Some(player) = self.find_mut(connection) {
+            player.notes.confirms.push(answered)?;
+            player.notes.resend |= resend;
         }
         Ok(())
     }

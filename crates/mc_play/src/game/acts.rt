@@ -54,6 +54,19 @@ impl Game {
                 self.take_up(connection, *place);
                 Ok(())
             }
+            PlayUp::ClickWindow {
+                window,
+                slot,
+                button,
+                number,
+                mode,
+                item,
+            } => Ok(self.click(connection, *window, *slot, *button, *number, *mode, item)?),
+            PlayUp::CloseWindow(window) => Ok(self.close(connection, *window)?),
+            PlayUp::Confirm(window, number, _) => {
+                self.confirm(connection, window.cast_unsigned(), *number);
+                Ok(())
+            }
             PlayUp::Creative(_, _) => {
                 self.players.note_window(connection);
                 Ok(())

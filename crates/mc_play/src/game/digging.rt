@@ -67,14 +67,14 @@ fn floor_of(cell: &Cell) -> Spot
 
 impl Game {
     /// Whether one more dropped item may lie.
-    fn may_drop(&self) -> bool
+    pub(super) fn may_drop(&self) -> bool
         ensures { result ≡ nat_lt 0 (room_in self.now.game) }
     {
         self.entities.room() > 0
     }
 
     /// Lets an item lie at a spot, for which there are room and a place.
-    fn drop_item(&mut self, item: Item, spot: Spot)
+    pub(super) fn drop_item(&mut self, item: Item, spot: Spot)
         requires item { IsItem item }
         requires near { IsNear spot }
         requires room { 0 < room_in self.old.game }
@@ -121,7 +121,7 @@ impl Game {
     }
 
     /// Where lies what a player drops.
-    fn feet_of(&self, player: &Player) -> Spot
+    pub(super) fn feet_of(&self, player: &Player) -> Spot
         ensures is { result ≡ feet_of player.now self.now.game }
         ensures near { IsNear result }
     {

@@ -1,0 +1,249 @@
+//! What players do in their windows.
+
+ghost use Rattle.std.specs.Prelude.{◌≡◌, ◌<◌, IfOk, OnErr, OnOk};
+ghost use Rattle.mc_slots.specs.declared.pile.Item as items;
+ghost use Rattle.mc_slots.specs.declared.pile.Pile.TheVariants.{Full};
+ghost use Rattle.mc_slots.specs.Pile.{IsPile};
+ghost use Rattle.mc_windows.specs.Clicks.{dropped};
+ghost use Rattle.mc_windows.specs.Pack.{finished_pack};
+ghost use Rattle.mc_model.specs.Deeds.{noting, repack_of};
+ghost use Rattle.mc_model.specs.Game.{room_in};
+ghost use Rattle.mc_model.specs.Notes.{again};
+ghost use Rattle.mc_model.specs.Windows.{answering, close, confirm, is_accepted, is_sent_again};
+ghost use Rattle.mc_model.specs.Windows.{kept_in_hand, let_fall, press};
+ghost use Rattle.mc_play.specs.Kept.{by_player, played};
+
+use crate::game::Game;
+use mc_bytes::NoMemory;
+use mc_model::Answered;
+use mc_slots::{Pile, Slot};
+use mc_windows::{Click, Clicked, Pack, answer, finish};
+
+/// The mode of the clicks by a number key.
+const NUMBER_KEY: i8 = 2;
+
+/// A click of these fields.
+fn click_of(
+    window: u8,
+    slot: i16,
+    button: i8,
+    number: i16,
+    mode: i8,
+    item: &Slot,
+) -> Result<Click, NoMemory>
+    ensures { IfOk result (λ click. click ≡ record {
+      window = window;
+      slot = slot;
+      button = button;
+      number = number;
+      mode = mode;
+      item = item.now;
+    }) }
+{
+    Ok(Click {
+        window,
+        slot,
+        button,
+        number,
+        mode,
+        item: item.copy()?,
+    })
+}
+
+/// Whether a click was done.
+fn is_accepted(came: Clicked) -> bool
+    ensures { result ≡ is_accepted came }
+{
+    matches!(came, Clicked::Done(_))
+}
+
+/// Whether the window is sent again after a click: after each that was refused, and after each by a
+/// number key.
+fn is_sent_again(click: &Click, came: Clicked) -> bool
+    ensures { result ≡ is_sent_again click.now came }
+{
+    match came {
+        Clicked::Done(_) => click.mode == NUMBER_KEY,
+        Clicked::Refused(_) => true,
+    }
+}
+
+/// What a click dropped.
+fn dropped(came: Clicked) -> Pile
+    ensures { result ≡ dropped came }
+{
+    match came {
+        Clicked::Done(pile) => pile,
+        Clicked::Refused(_) => Pile::Empty,
+    }
+}
+
+/// A pack whose window is closed, with what hung on its cursor there still.
+fn kept_in_hand(pack: Pack) -> Pack
+    ensures { result ≡ kept_in_hand pack }
+{
+    let mut pack = pack;
+    pack.window = 0;
+    pack.waiting = None;
+    pack
+}
+
+impl Game {
+    // ---- what falls
+
+    /// Lets a pile lie where the player of a connection is, if it has one. Nothing comes of an
+    /// empty pile; for another there are room and a place.
+    fn let_fall(&mut self, connection: u32, pile: Pile)
+        requires range { IsPile pile }
+        requires room { (item : items.Item) → pile ≡ Full item → 0 < room_in self.old.game }
+        requires place { 0 < self.old.aside.reserve }
+        ensures { self.new ≡ played self.old (by_player connection
+            (λ p. let_fall p pile) self.old.game) self.new.aside }
+    {
+        let Some(player) = self.players.find(connection) else {
+            return;
+        };
+        let Pile::Full(item) = pile else {
+            return;
+        };
+        let spot = self.feet_of(player);
+        self.drop_item(item, spot);
+    }
+
+    // ---- clicks
+
+    /// Notes the answer to a click of the client of a connection. Without memory all is as before.
+    fn answer(&mut self, connection: u32, click: &Click, came: Clicked) -> Result<(), NoMemory>
+        ensures ok { OnOk result (self.new ≡ played self.old (noting
+            (answering click.now came) connection self.old.game) self.old.aside) }
+        ensures err { OnErr result (self.new ≡ self.old) }
+    {
+        let answered = Answered {
+            window: click.window,
+            number: click.number,
+            accepted: is_accepted(came),
+        };
+        self.players
+            .note_answer(connection, answered, is_sent_again(click, came))
+    }
+
+    /// Does a click of the player of a connection in its own window, and notes the answer. Without
+    /// memory all is as before.
+    fn press(&mut self, connection: u32, click: &Click) -> Result<(), NoMemory>
+        ensures ok { OnOk result (self.new ≡ played self.old (by_player connection
+            (λ p. press connection p click.now) self.old.game) self.new.aside) }
+        ensures err { OnErr result (self.new
+            ≡ played self.old self.old.game self.new.aside) }
+    {
+        let Some(player) = self.players.find(connection) else {
+            return Ok(());
+        };
+        let mut pack = self.pack_of(player);
+        let came = mc_windows::click(&mut pack, None, click, self.may_drop());
+        self.entities.reserve()?;
+        self.answer(connection, click, came)?;
+        self.repack(connection, pack);
+        self.let_fall(connection, dropped(came));
+        Ok(())
+    }
+
+    /// Does a click of the player of a connection that is of these fields. Without memory all is as
+    /// before.
+    pub(super) fn click(
+        &mut self,
+        connection: u32,
+        window: u8,
+        slot: i16,
+        button: i8,
+        number: i16,
+        mode: i8,
+        item: &Slot,
+    ) -> Result<(), NoMemory>
+        ensures ok { OnOk result (self.new ≡ played self.old (by_player connection
+            (λ p. press connection p (record {
+              window = window;
+              slot = slot;
+              button = button;
+              number = number;
+              mode = mode;
+              item = item.now;
+            })) self.old.game) self.new.aside) }
+        ensures err { OnErr result (self.new
+            ≡ played self.old self.old.game self.new.aside) }
+    {
+        let click = click_of(window, slot, button, number, mode, item)?;
+        let done = self.press(connection, &click);
+        drop(click);
+        done
+    }
+
+    // ---- confirmations
+
+    /// Ends the wait of the player of a connection, where its window is the one of a number and
+    /// waits for this click.
+    pub(super) fn confirm(&mut self, connection: u32, window: u8, number: i16)
+        ensures { self.new ≡ played self.old (by_player connection
+            (λ p. confirm p window number) self.old.game) self.old.aside }
+    {
+        let Some(player) = self.players.find(connection) else {
+            return;
+        };
+        let mut pack = self.pack_of(player);
+        answer(&mut pack, window, number);
+        self.repack(connection, pack);
+    }
+
+    // ---- closing
+
+    /// Closes the window of the player of a connection, which carries a pack; what hangs on the
+    /// cursor falls. Without memory all is as before.
+    fn shut(&mut self, connection: u32, pack: Pack) -> Result<(), NoMemory>
+        requires { 0 < room_in self.old.game }
+        ensures ok { OnOk result (self.new ≡ played self.old (by_player connection
+            (λ p g. let_fall p pack.cursor (repack_of p (finished_pack pack) g))
+            self.old.game) self.new.aside) }
+        ensures err { OnErr result (self.new
+            ≡ played self.old self.old.game self.new.aside) }
+    {
+        let mut closed = pack;
+        let cursor = finish(&mut closed);
+        self.entities.reserve()?;
+        self.repack(connection, closed);
+        self.let_fall(connection, cursor);
+        Ok(())
+    }
+
+    /// Closes the window of the player of a connection, which carries a pack; what hangs on the
+    /// cursor stays there, and the window is sent again.
+    fn keep_in_hand(&mut self, connection: u32, pack: Pack)
+        ensures { self.new ≡ played self.old (by_player connection
+            (λ p g. noting again connection (repack_of p (kept_in_hand pack) g))
+            self.old.game) self.old.aside }
+    {
+        self.repack(connection, kept_in_hand(pack));
+        self.players.note_window(connection);
+    }
+
+    /// Closes the window of the player of a connection, where it is the one of a number. What hangs
+    /// on the cursor falls; without room for it, it stays there, and the window is sent again.
+    /// Without memory all is as before.
+    pub(super) fn close(&mut self, connection: u32, window: u8) -> Result<(), NoMemory>
+        ensures ok { OnOk result (self.new ≡ played self.old (by_player connection
+            (λ p. close connection p window) self.old.game) self.new.aside) }
+        ensures err { OnErr result (self.new
+            ≡ played self.old self.old.game self.new.aside) }
+    {
+        let Some(player) = self.players.find(connection) else {
+            return Ok(());
+        };
+        let pack = self.pack_of(player);
+        if window != pack.window {
+            return Ok(());
+        }
+        if self.may_drop() {
+            return self.shut(connection, pack);
+        }
+        self.keep_in_hand(connection, pack);
+        Ok(())
+    }
+}
