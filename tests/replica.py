@@ -223,7 +223,7 @@ class Replica:
             raise Malformed(f"{packet} of {entity}, which is not there")
 
     def set_slot(self, packet):
-        """Keep what a slot of the pack holds now, or the cursor, which is told behind a window too."""
+        """Keep what a slot of the pack holds now, or the cursor, told behind a window too."""
         if type(self.previous) is WindowItems:
             if packet != SetSlot(CURSOR_WINDOW, CURSOR_SLOT, self.cursor):
                 raise Malformed(f"{packet} behind the slots of a window")

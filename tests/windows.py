@@ -22,7 +22,7 @@ OUTSIDE = -999
 
 
 def clicks_move_piles(path):
-    """A stack is taken up, put down and split, and who sees its player sees what is in the hand."""
+    """A stack is taken up, put down and split; others see what is in the hand then."""
     half = Stack(STONE, 32, 0)
     with Program(path) as program:
         anna, ben = log_in_two(program.port)
@@ -41,7 +41,7 @@ def clicks_move_piles(path):
 
 
 def refused_clicks_wait(path):
-    """A click on another item is refused, and so is all that follows until the last is confirmed."""
+    """A click on another item is refused, as all that follow until the last is confirmed."""
     with Program(path) as program:
         anna = log_in(program.port, "Anna")
         anna.forget_news()
@@ -71,7 +71,7 @@ def keys_exchange_and_drop(path):
 
 
 def closing_drops_the_cursor(path):
-    """What hangs on the cursor lies at the feet once it is thrown outside or the window is closed."""
+    """What hangs on the cursor lies at the feet once it is thrown out or the window closed."""
     one, rest = Stack(STONE, 1, 0), Stack(STONE, 63, 0)
     with Program(path) as program:
         anna = log_in(program.port, "Anna")
