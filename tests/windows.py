@@ -56,7 +56,7 @@ def refused_clicks_wait(path):
 
 
 def keys_exchange_and_drop(path):
-    """A number key exchanges two piles and has the window sent; what is dropped lies at the feet."""
+    """A number key exchanges two piles and has the window sent; a drop lies at the feet."""
     moved, left = list(KIT), Stack(DIRT, 63, 0)
     moved[0], moved[28] = DIRT_PILE, None
     with Program(path) as program:
