@@ -199,6 +199,14 @@ class WindowItems(NamedTuple):
     stacks: list
 
 
+class Confirm(NamedTuple):
+    """Whether a click in a window was accepted, by the byte of the window and its number."""
+
+    window: int
+    number: int
+    accepted: bool
+
+
 class PlayersCame(NamedTuple):
     """New lines of the player list: a name for each identifier."""
 
@@ -410,6 +418,7 @@ PLAY = {
     0x23: lambda reader: Change(reader.block_position(), read_state(reader)),
     0x2F: read_set_slot,
     0x30: read_window_items,
+    0x32: lambda reader: Confirm(reader.number("b"), reader.number("h"), reader.boolean()),
     0x38: read_player_list,
     0x40: lambda reader: Disconnect(read_words(reader)),
 }

@@ -88,9 +88,14 @@ def dig_news(number, cell, state):
     return [Change(cell, AIR), *item_news(number, floor_of(cell), one_of(state))]
 
 
+def slot_news(index, stack):
+    """Make the packet of another stack in a slot of the own window."""
+    return SetSlot(0, index, stack)
+
+
 def hand_news(place, stack):
     """Make the packet of another stack at a place of the hotbar."""
-    return SetSlot(0, HOTBAR + place, stack)
+    return slot_news(HOTBAR + place, stack)
 
 
 def pack_news(pack):
@@ -98,10 +103,14 @@ def pack_news(pack):
     return [SetSlot(0, FIRST_SLOT + at, stack) for at, stack in enumerate(pack) if stack]
 
 
-def window_news(pack):
-    """List the packets of the whole window of a player."""
-    cursor = SetSlot(CURSOR_WINDOW, CURSOR_SLOT, None)
-    return [WindowItems(0, [None] * FIRST_SLOT + pack), cursor]
+def cursor_news(stack):
+    """Make the packet of what hangs on the cursor."""
+    return SetSlot(CURSOR_WINDOW, CURSOR_SLOT, stack)
+
+
+def window_news(pack, cursor=None):
+    """List the packets of the whole window of a player, with what hangs on the cursor."""
+    return [WindowItems(0, [None] * FIRST_SLOT + pack), cursor_news(cursor)]
 
 
 def log_in_two(port):

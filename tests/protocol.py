@@ -145,6 +145,24 @@ def held(place):
     return packet(0x09, struct.pack(">h", place))
 
 
+def close_window(window):
+    """Say by Close Window that a window was closed."""
+    return packet(0x0D, struct.pack(">B", window))
+
+
+def click(index, button, number, mode, stack):
+    """Click by Click Window into a slot of the own window, which holds a stack as the client sees.
+
+    The slot -999 is outside it.
+    """
+    return packet(0x0E, struct.pack(">BhbhB", 0, index, button, number, mode), slot(stack))
+
+
+def confirm(number):
+    """Say by Confirm Transaction that a refused click of the own window is known to be so."""
+    return packet(0x0F, struct.pack(">bh?", 0, number, False))
+
+
 def creative(index, stack):
     """Say by Creative Inventory Action that a slot shall hold a stack."""
     return packet(0x10, struct.pack(">h", index), slot(stack))

@@ -11,6 +11,7 @@ from clientbound import (
     Change,
     Chat,
     Chunk,
+    Confirm,
     Destroy,
     Disconnect,
     Equipment,
@@ -67,6 +68,8 @@ class Replica:
         self.strays = set()
         self.items = {}
         self.pack = pack_of()
+        # What hangs on the cursor.
+        self.cursor = None
         self.players = {}
         self.time = None
         self.beat = None
@@ -220,10 +223,14 @@ class Replica:
             raise Malformed(f"{packet} of {entity}, which is not there")
 
     def set_slot(self, packet):
-        """Keep what a slot of the pack holds now, or behind a whole window the empty cursor."""
+        """Keep what a slot of the pack holds now, or the cursor, told behind a window too."""
         if type(self.previous) is WindowItems:
-            if packet != SetSlot(CURSOR_WINDOW, CURSOR_SLOT, None):
+            if packet != SetSlot(CURSOR_WINDOW, CURSOR_SLOT, self.cursor):
                 raise Malformed(f"{packet} behind the slots of a window")
+        elif (packet.window, packet.index) == (CURSOR_WINDOW, CURSOR_SLOT):
+            if self.cursor == packet.stack:
+                raise Malformed(f"{packet}, as it was before")
+            self.cursor = packet.stack
         elif packet.window != 0 or packet.index not in SLOTS:
             raise Malformed(f"{packet} of no slot of the pack")
         elif self.pack[packet.index - FIRST_SLOT] == packet.stack:
@@ -235,6 +242,11 @@ class Replica:
         """Find all slots of the own window as they were told; the first nine are empty."""
         if packet.window != 0 or packet.stacks != [None] * FIRST_SLOT + self.pack:
             raise Malformed(f"{packet} for the pack {self.pack}")
+
+    def check_answer(self, packet):
+        """Find that an answer to a click is of the own window."""
+        if packet.window != 0:
+            raise Malformed(f"{packet} of no window that is shown")
 
     def add_players(self, packet):
         """Put new lines into the player list, in rising identifiers."""
@@ -319,6 +331,7 @@ FOLDS = {
     Destroy: Replica.destroy,
     SetSlot: Replica.set_slot,
     WindowItems: Replica.check_window,
+    Confirm: Replica.check_answer,
     PlayersCame: Replica.add_players,
     PlayersLeft: Replica.remove_players,
     KeepAlive: Replica.set_beat,

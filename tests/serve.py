@@ -26,10 +26,11 @@ import seeing
 import silence
 import system
 import talking
+import windows
 
 TESTS = [*play.TESTS, *talking.TESTS, *digging.TESTS, *carrying.TESTS, *faults.TESTS]
 TESTS += [*refusing.TESTS, *seeing.TESTS, *crowds.TESTS, *endings.TESTS, *system.TESTS]
-TESTS += [*floods.TESTS, *running.TESTS]
+TESTS += [*floods.TESTS, *running.TESTS, *windows.TESTS]
 LONG_TESTS = [*silence.LONG_TESTS, *talking.LONG_TESTS, *system.LONG_TESTS]
 
 # What runs beside the others, and how many of that at a time: more than are long.
