@@ -191,8 +191,8 @@ fn frames(game: &mut Game, connection: &mut Connection) -> Result<bool, NoMemory
         goes ≡ true → is_closed connection.new.link.stage ≡ false) }
     ensures age { OnOk result (game.new.game.age ≡ game.old.game.age) }
 {
-    // Dear to prove: of each frame there are five ways on, and what each leaves of two big values is
-    // a case.
+    // Dear to prove: of each frame there are five ways on, and what each leaves of two big values
+    // is a case.
     'taking: loop {
         if reply_kept(game, connection)? {
             continue;

@@ -1,5 +1,5 @@
--- What a player does in its window: clicks, confirmations and closing. Rules of this project; what a
--- click does to piles is of the page 'Protocol' of wiki.vg for protocol 47, Click Window.
+-- What a player does in its window: clicks, confirmations and closing. Rules of this project; what
+-- a click does to piles is of the page 'Protocol' of wiki.vg for protocol 47, Click Window.
 use Rattle.std.specs.Prelude.{ℕ, ◌==◌, Bool, true, false, nat_lt, None, if◌then◌else◌}
 use Rattle.std.specs.Ordering.{int_eq}
 use lib.IntN.{ℤ, pos}
@@ -65,7 +65,8 @@ confirm p window number g = repack_of p (answered_pack window number (pack_of g 
 abbrev pub kept_in_hand : PackValue → PackValue
 kept_in_hand pack = record (finished_pack pack) { cursor = pack.cursor }
 
--- What hangs on the cursor falls. Without room for it, it stays there, and the window is sent again.
+-- What hangs on the cursor falls. Without room for it, it stays there, and the window is sent
+-- again.
 abbrev pub shut : ℕ → Player → Game → Game
 shut k p g =
     if nat_lt 0 (room_in g)

@@ -105,8 +105,8 @@ pub presses : (k : ℕ) (p : Player) (click : Click) (pack : PackValue) (came : 
     mid ≡ played noted (by_player k (λ (q : Player). repack_of q pack) noted.game) noted.aside →
     n ≡ played mid (by_player k (λ (q : Player). let_fall q pile) mid.game) n.aside →
     n ≡ played u (by_player k (λ (q : Player). press k q click) u.game) n.aside
-presses k p click pack came pile u w noted mid n plays same settled packed answered fell told carried
-    made =
+presses k p click pack came pile u w noted mid n plays same settled packed answered fell told
+    carried made =
     let first : noted.game ≡ noting (answering click came) k u.game =
     ap (λ (v : GameValue). v.game) told ∙ ap (noting (answering click came) k) same in
     let next : mid.game
@@ -123,7 +123,8 @@ presses k p click pack came pile u w noted mid n plays same settled packed answe
     })
     ∙ ap (λ (g : Game). played u g n.aside)
     (noted_first k p (answering click came) pack pile u.game plays
-    ∙ ap (λ (x : Pile). noting (answering click came) k (let_fall p x (repack_of p pack u.game))) fell
+    ∙ ap (λ (x : Pile). noting (answering click came) k
+    (let_fall p x (repack_of p pack u.game))) fell
     ∙ (λ i. noting (answering click (answered i)) k
     (let_fall p (dropped (answered i)) (repack_of p (packed i) u.game)))
     ∙ sym (by_some k (λ (q : Player). press k q click) u.game p plays))

@@ -80,7 +80,8 @@ shown_run (step ∷ steps) desk = shown_run steps (made step desk) ∙ shown_mad
 -- ---- clicks
 
 -- what holds of the desk after the moves, and of each refusal, holds of what comes of a click
-pub worked_cases : (P : Result Desk Why → Type 0) (desk : Desk) (room : Bool) (came : Result Row Why)
+pub worked_cases : (P : Result Desk Why → Type 0) (desk : Desk) (room : Bool)
+    (came : Result Row Why)
     → ((row : Row) → P (Ok (run (plan desk row) desk))) → ((why : Why) → P (Err why))
     → P (worked desk room came)
 worked_cases P desk room came done refused = grind (arith, nat_tests)
