@@ -1,5 +1,5 @@
 -- Which texts that are handed out fit: all are ASCII and short.
-use Rattle.std.proofs.Common.{◌≡◌, ℕ, zero, suc, ◌+◌, ◌-◌, ◌^◌, ◌<◌, ◌≤◌, Bool, true, false, cond}
+use Rattle.std.proofs.Common.{◌≡◌, ℕ, zero, suc, ◌+◌, ◌^◌, ◌<◌, ◌≤◌, Bool, true, false, cond}
 use Rattle.std.proofs.Common.{List, [], ◌∷◌, ◌++◌, length, refl, arith, ltb-true, lt-ltb, lit<}
 use Rattle.std.specs.Prelude.{nat_lt, nat_le, ◌&&◌, codes, decimal, Option, Some, None}
 use Rattle.std.specs.List.{list_all}

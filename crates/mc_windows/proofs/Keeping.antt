@@ -1,6 +1,6 @@
 -- No list of moves loses or makes an item, and so no click does.
 use Rattle.std.proofs.Common.{◌≡◌, ◌+◌, Bool, true, false, not, List, [], ◌∷◌, Option}
-use Rattle.std.proofs.Common.{Some, None, is_some, Result, Ok, Err, refl, arith, ◌∙◌, sym}
+use Rattle.std.proofs.Common.{Some, None, is_some, Result, Ok, Err, refl, arith, ◌∙◌, sym, ap}
 use Rattle.std.proofs.Common.{if◌then◌else◌}
 use Rattle.std.proofs.lemmas.Bool.Decides.{nat_tests}
 use Rattle.std.specs.Option.{unwrap_or}
@@ -80,7 +80,7 @@ shown_run (step ∷ steps) desk = shown_run steps (made step desk) ∙ shown_mad
 -- ---- clicks
 
 -- what holds of the desk after the moves, and of each refusal, holds of what comes of a click
-worked_cases : (P : Result Desk Why → Type 0) (desk : Desk) (room : Bool) (came : Result Row Why)
+pub worked_cases : (P : Result Desk Why → Type 0) (desk : Desk) (room : Bool) (came : Result Row Why)
     → ((row : Row) → P (Ok (run (plan desk row) desk))) → ((why : Why) → P (Err why))
     → P (worked desk room came)
 worked_cases P desk room came done refused = grind (arith, nat_tests)
@@ -151,3 +151,12 @@ pub none_stays : (pack : PackValue) (click : Click) (room : Bool)
 none_stays pack click room =
     sym
     (none_left (chest_after None (outcome pack None click room)) (chest_stays pack None click room))
+
+-- so the pack and what is dropped hold what the pack held
+pub alone_keeps : (sort : Sort) (pack : PackValue) (click : Click) (room : Bool) (number : ℤ)
+    → in_pack sort (pack_after pack number (outcome pack None click room)) + held sort
+    (dropped (answer_of (outcome pack None click room))) ≡ in_pack sort pack
+alone_keeps sort pack click room number =
+    let none = ap (in_chest sort) (none_stays pack click room) in
+    let keeps = click_keeps sort pack None click room number in
+    omega (arith, none, keeps)

@@ -4,4 +4,4 @@ pub mod Desks
 pub mod Keeping
 pub mod Leftovers
 pub mod FirstPack
-pub mod StoredPacks
+pub mod Ranges

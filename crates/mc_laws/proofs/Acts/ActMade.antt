@@ -1,5 +1,6 @@
 -- Whatever a player does is made of deeds: the one law by packets.
 use Rattle.std.proofs.Common.{◌≡◌, ℕ, List, Option, Some, None, refl, subst, arith}
+use Rattle.std.specs.Int.{cast_unsigned, w8}
 use Rattle.std.specs.Option.{option_and_then}
 use Rattle.std.specs.FinMap.{get}
 use Rattle.std.proofs.lemmas.Str.{IsUtf8-from_ascii}
@@ -7,8 +8,10 @@ use Rattle.mc_fields.specs.declared.position.Spot.{Spot}
 use Rattle.mc_up.specs.declared.play_up.PlayUp.{PlayUp}
 use Rattle.mc_up.specs.declared.play_up.PlayUp.TheVariants.{Chat, Position, Look, PositionLook}
 use Rattle.mc_up.specs.declared.play_up.PlayUp.TheVariants.{Held, Settings, Digging, Placement}
+use Rattle.mc_up.specs.declared.play_up.PlayUp.TheVariants.{ClickWindow, CloseWindow, Confirm}
 use Rattle.mc_up.specs.declared.play_up.PlayUp.TheVariants.{Creative}
 use Rattle.mc_up.specs.PlayUp.{FitsPlayUp}
+use Rattle.mc_windows.specs.declared.request.Click.{Click}
 use Rattle.mc_model.specs.declared.player.Player.{Player}
 use Rattle.mc_model.specs.Chat.{line_of}
 use Rattle.mc_model.specs.Movement.{moved, turned}
@@ -23,7 +26,8 @@ use Rattle.mc_model.proofs.Maps.Options.{some_is}
 use Rattle.mc_laws.proofs.Landings.{both_turned, moved_turned, spot_turned, turned_turned}
 use Rattle.mc_laws.proofs.Deeds.Made.{Made, by_deed, by_notes, by_own, says, untouched}
 use Rattle.mc_laws.proofs.Fits.Told.{spot_told}
-use Rattle.mc_laws.proofs.Acts.Topics.{arrive_made, digging_made, place_made, take_up_made}
+use Rattle.mc_laws.proofs.Acts.Topics.{AnswersFit, arrive_made, close_made, confirm_made}
+use Rattle.mc_laws.proofs.Acts.Topics.{digging_made, place_made, press_made, take_up_made}
 
 -- what a player says can be told, whose name is short, in a packet that can be sent
 abbrev pub Speaks : Game → ℕ → PlayUp → Type 0
@@ -48,6 +52,11 @@ said_fits k p text g there given =
     line_clear p.name text (IsUtf8-from_ascii p.name name.ascii) fits.1.fits.utf8
     (omega (arith, name.few)) (omega (arith, fits.1.fits.few_bytes))
 
+-- a click of a packet has a window of a byte, and a number of 16 bits
+click_fits : (click : Click) → FitsPlayUp (ClickWindow click.window click.slot click.button
+    click.number click.mode click.item) → AnswersFit click
+click_fits click fits accepted = record { window = fits.1.0; number = fits.1.1.1.1.0.0 }
+
 act_of_made : (k : ℕ) (p : Player) (packet : PlayUp) (g v : Game) → get g.players k ≡ Some p →
     act_of k p packet g ≡ Some v → Makes k packet g v
 act_of_made k p (Chat text) g v there e = done _ k g _ v e (by_deed _ _ _ k g _
@@ -69,6 +78,12 @@ act_of_made k p (Placement cell face item x y z) g v there e =
     done _ k g _ v e (place_made _ k p g there cell face)
 act_of_made k p (Held place) g v there e =
     done _ k g _ v e (take_up_made _ k p g there place)
+act_of_made k p (ClickWindow window slot button number mode item) g v there e =
+    done _ k g _ v e (press_made _ k p g there _ (λ h. click_fits _ h.1))
+act_of_made k p (Confirm window number accepted) g v there e =
+    done _ k g _ v e (confirm_made _ k p g there (cast_unsigned w8 window) number)
+act_of_made k p (CloseWindow window) g v there e =
+    done _ k g _ v e (close_made _ k p g there window)
 act_of_made k p (Creative slot item) g v there e =
     done _ k g _ v e (by_notes _ _ _ k k again (λ t h n fit. fit) g)
 act_of_made k p (Settings locale view chat_mode colours skin) g v there e =

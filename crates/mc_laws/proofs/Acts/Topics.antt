@@ -1,4 +1,5 @@
--- Of which deeds it is made what a player does that moves, digs, drops or places, topic by topic.
+-- Of which deeds it is made what a player does that moves, digs, drops, places or does something in
+-- its window, topic by topic.
 use Rattle.std.proofs.Common.{◌≡◌, ℕ, suc, ◌+◌, ◌*◌, ◌<◌, ◌≤◌, Bool, true, false, [], ◌∷◌}
 use Rattle.std.proofs.Common.{Option, Some, None, refl, subst, ap, arith}
 use Rattle.std.specs.Prelude.{◌&&◌, ◌==◌, not, min, nat_lt, unsigned_abs, if◌then◌else◌}
@@ -12,30 +13,40 @@ use Rattle.mc_fields.specs.declared.position.Spot.{Spot}
 use Rattle.mc_slots.specs.declared.pile.Item.{Item}
 use Rattle.mc_slots.specs.declared.pile.Pile.{Pile}
 use Rattle.mc_slots.specs.declared.pile.Pile.TheVariants.{Empty, Full}
-use Rattle.mc_slots.specs.Pile.{IsItem, IsPile, held, without}
+use Rattle.mc_slots.specs.Pile.{IsItem, IsPile, Sort, held, without}
 use Rattle.mc_land.specs.Land.{is_chest}
-use Rattle.mc_windows.specs.Pack.{IsPack}
-use Rattle.mc_windows.proofs.StoredPacks.{left_is_pile}
+use Rattle.mc_windows.specs.declared.clicking.Clicked.{Clicked}
+use Rattle.mc_windows.specs.declared.request.Click.{Click}
+use Rattle.mc_windows.specs.Pack.{IsPack, PackValue, finished_pack, is_waiting_for}
+use Rattle.mc_windows.specs.Stock.{in_pack}
+use Rattle.mc_windows.specs.Clicks.{answer_of, dropped as drops, outcome, pack_after}
+use Rattle.mc_windows.proofs.Keeping.{alone_keeps}
+use Rattle.mc_windows.proofs.Ranges.{Holds, click_holds, drops_with_room, left_by, left_is_pile}
 use Rattle.mc_entities.specs.declared.entity.EntityKind.TheVariants as kinds
 use Rattle.mc_entities.specs.Folk.{dropped_in}
 use Rattle.mc_entities.specs.Shift.{is_between, is_inside}
+use Rattle.mc_model.specs.declared.notes.Answered.{Answered}
 use Rattle.mc_model.specs.declared.notes.Notes.{Notes}
 use Rattle.mc_model.specs.declared.player.Player.{Player}
 use Rattle.mc_model.specs.Balance.{one_of, sort_of}
 use Rattle.mc_model.specs.Digging.{block_item, can_dig, digging, drop_held, dropped, dug, feet_of}
 use Rattle.mc_model.specs.Digging.{floor_of, is_dug}
-use Rattle.mc_model.specs.Notes.{again, with_cells}
+use Rattle.mc_model.specs.Notes.{again, with_answer, with_cells}
 use Rattle.mc_model.specs.Hands.{place_of_hotbar, carrying, take_up}
 use Rattle.mc_model.specs.Placing.{item_state, placing_refused, is_free, place_at, place_on, placed}
 use Rattle.mc_model.specs.Placing.{put_block}
 use Rattle.mc_model.specs.Reach.{at_face, is_in_world, is_near, is_in_reach}
 use Rattle.mc_model.specs.Spots.{spawn_spot}
 use Rattle.mc_model.specs.Things.{in_hand, with_hand}
+use Rattle.mc_model.specs.Windows.{answering, close, confirm, is_accepted, is_sent_again}
+use Rattle.mc_model.specs.Windows.{kept_in_hand, let_fall, press, shut}
 use Rattle.mc_model.specs.Game.{Game, held_by, pack_of, room_in, spot_of, state_in}
-use Rattle.mc_model.specs.Deeds.{noting, stand_of, with_state}
+use Rattle.mc_model.specs.Deeds.{noting, repack_of, stand_of, with_state}
 use Rattle.mc_model.specs.Good.{Good}
 use Rattle.mc_model.specs.Movement.{arrive, arrived, placed_again}
 use Rattle.mc_model.specs.Fitting.{SpotFits, Told}
+use Rattle.mc_model.proofs.AllFacts.{all_joined}
+use Rattle.mc_model.proofs.FitsNotes.{ConfirmFits}
 use Rattle.mc_model.proofs.Maps.Options.{some_is}
 use Rattle.mc_laws.proofs.Landings.{IsTurned}
 use Rattle.mc_laws.proofs.ThingsActs.{floor_fits, item_state_is}
@@ -46,7 +57,7 @@ use Rattle.mc_laws.proofs.Deeds.Packs.{hand_within, held_is_item, named_is_pack}
 use Rattle.mc_laws.proofs.Deeds.Packs.{with_hand_is_pack}
 use Rattle.mc_laws.proofs.Deeds.Made.{Deed, Made, before, by_deed, by_notes, either, gained}
 use Rattle.mc_laws.proofs.Deeds.Made.{rehands, repacks, sets, spent, stands, throws, untouched}
-use Rattle.mc_laws.proofs.Fits.Told.{CanCome, cell_told, dropped_held, spot_told}
+use Rattle.mc_laws.proofs.Fits.Told.{CanCome, cell_told, dropped_held, holding_told, spot_told}
 
 -- what is within a range is not large
 within_small : (low high : ℕ) (n : ℤ) → suc low ≤ high →
@@ -89,6 +100,33 @@ dig_tests p cell g test =
     let b = and_parts (is_dug (state_in g cell)) (nat_lt 0 (room_in g)) a.1 in
     let c = and_parts (is_in_world cell) (is_near (spot_of g p) cell) a.0 in
     record { inside = c.0; solid = b.0; room = has_room g b.1 }
+
+-- packets can tell the answer to a click, whatever it is
+abbrev pub AnswersFit : Click → Type 0
+AnswersFit click = (accepted : Bool) → ConfirmFits (record {
+  window = click.window;
+  number = click.number;
+  accepted = accepted;
+})
+
+answering_fits : (click : Click) (came : Clicked) (notes : Notes) → AnswersFit click →
+    NotesFit notes → NotesFit (answering click came notes)
+answering_fits click came notes fits fit = step (is_sent_again click came)
+  where
+    answer : Answered
+    answer = record {
+      window = click.window;
+      number = click.number;
+      accepted = is_accepted came;
+    }
+
+    told : NotesFit (with_answer answer notes)
+    told = all_joined ConfirmFits notes.confirms (answer ∷ []) fit (fits (is_accepted came), tt)
+
+    step : (b : Bool) →
+        NotesFit (if b then again (with_answer answer notes) else with_answer answer notes)
+    step true = told
+    step false = told
 
 module _ (H : Type 0) (k : ℕ) (p : Player) (g : Game) (there : get g.players k ≡ Some p) where
   -- what is made of the game, which may be good and such that packets can tell it
@@ -297,3 +335,103 @@ module _ (H : Type 0) (k : ℕ) (p : Player) (g : Game) (there : get g.players k
           (λ far. refused cell target)
           (λ near. by_test _ _ (is_chest (state_in g cell)) (λ chest. stays)
           (λ other. put_made cell target))
+
+  -- ---- the window
+
+  -- where it carries a pack, something more can lie at its feet
+  can_fall : (pack : PackValue) (item : Item) → (Good g → IsPack pack.slots pack.cursor) →
+      (Good g → IsItem item) → HasRoom g → Good g × Told g →
+      CanCome (kinds.Dropped item g.age) (feet_of p (repack_of p pack g))
+      (repack_of p pack g).entities g.eids
+  can_fall pack item is it room t =
+      let inside = in_hand pack p.hand in
+      let told = holding_told p.eid inside g.edits g.entities g.eids
+      ((is t.0).are_piles (27 + p.hand)) t.1 in
+      let at = spot_told (repack_of p pack g) p told in
+      let same = dropped_held p.eid inside g.entities in
+      let lying = room.lying in
+      record {
+        kind_is = it t.0;
+        named = tt;
+        place = record {
+          x = at.x;
+          y = at.y;
+          z = at.z;
+          yaw = omega arith;
+          pitch = omega arith;
+        };
+        room = omega (arith, lying, same);
+        given = room.given;
+      }
+
+  -- it carries another pack, what is no more in that falls, and more is done
+  falls : (pack : PackValue) (pile : Pile) (v : Game) → (Good g → IsPack pack.slots pack.cursor) →
+      (Good g → IsPile pile) → ((item : Item) → pile ≡ Full item → HasRoom g) →
+      ((sort : Sort) → in_pack sort pack + held sort pile ≡ in_pack sort (pack_of g p)) →
+      Made (Good g) (Good g × Told g) H k (let_fall p pile (repack_of p pack g)) v → Makes v
+  falls pack Empty v is pile_is room whole later = record {
+    games = repack_of p pack g ∷ later.games;
+    deeds = (repacks p pack there is refl, later.deeds);
+    even = λ w id damage some low. (let keeps = whole (sort_of id damage) in
+        let rest = later.even w id damage some low in omega (arith, keeps, rest));
+  }
+  falls pack (Full item) v is pile_is room whole later = record {
+    games = repack_of p pack g ∷ let_fall p (Full item) (repack_of p pack g) ∷ later.games;
+    deeds = (
+      repacks p pack there is refl,
+      (
+        throws item (feet_of p (repack_of p pack g))
+            (λ t. can_fall pack item is pile_is (room item refl) t) refl,
+        later.deeds,
+      ),
+    );
+    even = λ w id damage some low. (let keeps = whole (sort_of id damage) in
+        let rest = later.even w id damage some low in omega (arith, keeps, rest));
+  }
+
+  pub press_made : (click : Click) → (H → AnswersFit click) → Makes (press k p click g)
+  press_made click fits =
+      let room = nat_lt 0 (room_in g) in
+      let came = outcome (pack_of g p) None click room in
+      let holds : Good g → Holds (left_by (pack_of g p) None click.number came) = λ w.
+      click_holds (pack_of g p) None click room click.number (named_is_pack g p.name w) tt in
+      falls (pack_after (pack_of g p) click.number came) (drops (answer_of came)) _
+      (λ w. (holds w).pack) (λ w. (holds w).floor)
+      (λ item is. has_room g (drops_with_room (pack_of g p) None click room item is))
+      (λ sort. alone_keeps sort (pack_of g p) click room click.number)
+      (by_notes (Good g) (Good g × Told g) H k k (answering click (answer_of came))
+      (λ t h notes fit. answering_fits click (answer_of came) notes (fits h) fit) _)
+
+  pub confirm_made : (window : ℕ) (number : ℤ) → Makes (confirm p window number g)
+  confirm_made window number = step (window == pack.window && is_waiting_for number pack.waiting)
+    where
+      pack : PackValue
+      pack = pack_of g p
+
+      step : (b : Bool) →
+          Makes (repack_of p (if b then record pack { waiting = None } else pack) g)
+      step true = by_one (repacks p (record pack { waiting = None }) there
+          (λ w. named_is_pack g p.name w) refl) (λ id damage. refl)
+      step false = by_one (repacks p pack there (λ w. named_is_pack g p.name w) refl)
+          (λ id damage. refl)
+
+  shut_made : Makes (shut k p g)
+  shut_made = by_test _ _ (nat_lt 0 (room_in g))
+      (λ test. falls (finished_pack pack) pack.cursor _
+      (λ w. record { size = (is w).size; are_piles = (is w).are_piles; is_pile = tt })
+      (λ w. (is w).is_pile) (λ item full. has_room g test) (λ sort. omega arith)
+      (untouched (Good g) (Good g × Told g) H k _))
+      (λ full. before (Good g) (Good g × Told g) H k g (repack_of p (kept_in_hand pack) g) _
+      (repacks p (kept_in_hand pack) there is refl) (λ id damage. refl)
+      (by_notes (Good g) (Good g × Told g) H k k again (λ t h notes fit. fit)
+      (repack_of p (kept_in_hand pack) g)))
+    where
+      pack : PackValue
+      pack = pack_of g p
+
+      is : Good g → IsPack pack.slots pack.cursor
+      is w = named_is_pack g p.name w
+
+  pub close_made : (window : ℕ) → Makes (close k p window g)
+  close_made window = by_test _ _ (window == (pack_of g p).window) (λ shown. shut_made)
+      (λ other. stays)

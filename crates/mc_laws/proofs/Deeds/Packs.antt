@@ -10,7 +10,7 @@ use Rattle.mc_slots.specs.declared.pile.Pile.TheVariants.{Full}
 use Rattle.mc_slots.specs.Pile.{IsItem, IsPile}
 use Rattle.mc_windows.specs.Pack.{PackValue, IsPack, kit_pack}
 use Rattle.mc_windows.proofs.FirstPack.{kit_is_pack}
-use Rattle.mc_windows.proofs.StoredPacks.{set_piles}
+use Rattle.mc_windows.proofs.Ranges.{set_piles}
 use Rattle.mc_model.specs.declared.player.Player.{Player}
 use Rattle.mc_model.specs.Things.{with_hand}
 use Rattle.mc_model.specs.Game.{Game, held_by, pack_named, pack_of}

@@ -1,9 +1,8 @@
 -- What is noted for a client is packets that it decodes, and that change nothing of its replica.
 use Rattle.std.proofs.Common.{◌≡◌, Bool, true, false, cond, List, [], ◌∷◌, ◌++◌, map, length}
-use Rattle.std.proofs.Common.{refl, sym, ap}
+use Rattle.std.proofs.Common.{refl, sym}
 use Rattle.std.specs.Prelude.{◌==◌, if◌then◌else◌, replicate}
 use Rattle.mc_fields.specs.declared.position.Spot.{Spot}
-use Rattle.mc_slots.specs.declared.slot.Slot.{Slot}
 use Rattle.mc_slots.specs.declared.slot.Slot.TheVariants as slots
 use Rattle.mc_slots.specs.Pile.{slot_of}
 use Rattle.mc_packets.specs.declared.down.Down.{Down}

@@ -18,7 +18,7 @@ use Rattle.mc_slots.specs.Pile.{IsItem}
 use Rattle.mc_windows.specs.Storing.{stored}
 use Rattle.mc_windows.specs.Pack.{PackValue}
 use Rattle.mc_windows.proofs.Leftovers.{stored_keeps}
-use Rattle.mc_windows.proofs.StoredPacks.{Holds, stored_holds}
+use Rattle.mc_windows.proofs.Ranges.{Holds, stored_holds}
 use Rattle.mc_entities.specs.declared.entity.Entity.{Entity}
 use Rattle.mc_entities.specs.declared.entity.EntityKind.{EntityKind}
 use Rattle.mc_entities.specs.declared.entity.EntityKind.TheVariants as kinds
