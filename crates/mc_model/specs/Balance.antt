@@ -4,13 +4,14 @@ use Rattle.std.specs.Prelude.{◌≡◌, ◌≤◌, ℕ, ◌+◌, ◌*◌, ◌==
 use Rattle.std.specs.List.{sum_by}
 use Rattle.std.specs.FinMap.{FinMap, entries, len}
 use lib.IntN.{pos}
+use Rattle.mc_slots.specs.declared.pile.Pile.{Pile}
 use Rattle.mc_slots.specs.declared.pile.Pile.TheVariants.{Full}
 use Rattle.mc_slots.specs.Pile.{Sort, held}
 use Rattle.mc_land.specs.declared.terrain.Terrain.{Terrain}
 use Rattle.mc_land.specs.Places.{Key, key_cmp}
 use Rattle.mc_land.specs.Land.{terrain_at}
 use Rattle.mc_windows.specs.Pack.{PackValue, kit_pack}
-use Rattle.mc_windows.specs.Stock.{in_pack}
+use Rattle.mc_windows.specs.Stock.{in_pack, in_piles}
 use Rattle.mc_entities.specs.declared.entity.Entity.{Entity}
 use Rattle.mc_entities.specs.declared.entity.EntityKind.{EntityKind}
 use Rattle.mc_entities.specs.declared.entity.EntityKind.TheVariants as kinds
@@ -49,9 +50,13 @@ sort_of id damage = record { id = pos id; damage = pos damage }
 abbrev pub in_packs : Sort → FinMap name_cmp PackValue → ℕ
 in_packs sort packs = sum_by (λ (e : List ℕ × PackValue). in_pack sort e.1) (entries packs)
 
--- what is carried, kept and dropped
+abbrev pub in_chests : Sort → FinMap key_cmp (List Pile) → ℕ
+in_chests sort chests = sum_by (λ (e : Key × List Pile). in_piles sort e.1) (entries chests)
+
+-- what is carried, kept, put into chests and dropped
 abbrev pub stock : Sort → Game → ℕ
-stock sort g = in_packs sort g.packs + in_entities sort g.entities
+stock sort g =
+    in_packs sort g.packs + in_chests sort g.chests + in_entities sort g.entities
 
 -- For each sort: what there is and what was placed is what the kits of all names had and what was
 -- dug.

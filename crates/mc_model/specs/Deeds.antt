@@ -8,7 +8,7 @@ use Rattle.mc_fields.specs.declared.position.Spot.{Spot}
 use Rattle.mc_slots.specs.declared.pile.Item.{Item}
 use Rattle.mc_slots.specs.declared.pile.Pile.{Pile}
 use Rattle.mc_slots.specs.declared.pile.Pile.TheVariants.{Empty, Full}
-use Rattle.mc_land.specs.Land.{edited}
+use Rattle.mc_land.specs.Land.{chests_after, edited}
 use Rattle.mc_land.specs.Places.{key_of}
 use Rattle.mc_windows.specs.Pack.{PackValue}
 use Rattle.mc_entities.specs.declared.entity.EntityKind.{EntityKind}
@@ -22,7 +22,7 @@ use Rattle.mc_model.specs.Notes.{no_notes}
 use Rattle.mc_model.specs.Things.{in_hand, holding, lying_as, standing}
 use Rattle.mc_model.specs.Spots.{spawn_spot}
 use Rattle.mc_model.specs.Maps.{modify}
-use Rattle.mc_model.specs.Game.{Game, pack_named, pack_of}
+use Rattle.mc_model.specs.Game.{Game, pack_named, pack_of, state_in}
 
 -- ---- of a player
 
@@ -74,11 +74,14 @@ lessened eid Empty g = record g { entities = without eid_of eid g.entities }
 lessened eid (Full item) g =
     record g { entities = changed eid_of eid (lying_as item) g.entities }
 
--- a cell that is inside the world has a state
+-- A cell that is inside the world has a state. An empty chest is there where it became one, and
+-- where it ceased to be one, none.
 abbrev pub with_state : Cell → ℕ → Game → Game
 with_state cell state g = record g {
   edits =
       edited g.settings.terrain g.edits (key_of cell.x (unsigned_abs cell.y) cell.z) state;
+  chests = chests_after g.chests (key_of cell.x (unsigned_abs cell.y) cell.z)
+      (state_in g cell) state;
 }
 
 -- something is said to all

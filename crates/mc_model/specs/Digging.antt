@@ -1,7 +1,8 @@
 -- What a player digs and what it drops. Rules of this project; what the numbers of a Player Digging
 -- mean is of the page 'Protocol' of wiki.vg for protocol 47.
-use Rattle.std.specs.Prelude.{ℕ, ◌/◌, ◌%◌, ◌==◌, ◌&&◌, not, Bool, min, nat_lt, [], ◌∷◌}
-use Rattle.std.specs.Prelude.{if◌then◌else◌}
+use Rattle.std.specs.Prelude.{ℕ, ◌/◌, ◌%◌, ◌==◌, ◌&&◌, not, Bool, min, nat_le, nat_lt, List, []}
+use Rattle.std.specs.Prelude.{◌∷◌, length, Option, Some, None, unwrap_or, if◌then◌else◌}
+use Rattle.std.specs.List.{filter_map, fold}
 use Rattle.std.specs.Ordering.{int_eq}
 use lib.IntN.{ℤ, pos, ◌+ℤ◌, ◌*ℤ◌}
 use Rattle.mc_fields.specs.declared.position.Cell.{Cell}
@@ -12,7 +13,7 @@ use Rattle.mc_slots.specs.declared.pile.Pile.TheVariants.{Empty, Full}
 use Rattle.mc_slots.specs.Pile.{without}
 use Rattle.mc_model.specs.declared.player.Player.{Player}
 use Rattle.mc_model.specs.Notes.{again, with_cells}
-use Rattle.mc_model.specs.Game.{Game, held_by, room_in, spot_of, state_in}
+use Rattle.mc_model.specs.Game.{Game, chest_at, held_by, room_in, spot_of, state_in}
 use Rattle.mc_model.specs.Deeds.{noting, thrown, with_state}
 use Rattle.mc_model.specs.Hands.{carrying}
 use Rattle.mc_model.specs.Reach.{is_in_reach}
@@ -39,13 +40,31 @@ floor_of cell = record {
 
 -- ---- digging
 
--- within reach, and with room for the item
-abbrev pub can_dig : Player → Cell → Game → Bool
-can_dig p cell g = is_in_reach g p cell && (is_dug (state_in g cell) && nat_lt 0 (room_in g))
+abbrev pub item_of : Pile → Option Item
+item_of Empty = None
+item_of (Full item) = Some item
 
--- the cell is air, and what it was lies there
+-- what lies in the chest at a cell, slot by slot; nothing where there is none
+abbrev pub stacks_at : Cell → Game → List Item
+stacks_at cell g = filter_map item_of (unwrap_or (chest_at g cell) [])
+
+-- what comes of a cell that is dug: what it was, and then what lay in it, if it was a chest
+abbrev pub dug_items : Cell → Game → List Item
+dug_items cell g = block_item (state_in g cell) ∷ stacks_at cell g
+
+-- within reach, and with room for all of it
+abbrev pub can_dig : Player → Cell → Game → Bool
+can_dig p cell g =
+    is_in_reach g p cell
+    && (is_dug (state_in g cell) && nat_le (length (dug_items cell g)) (room_in g))
+
+-- items lie at a spot, one after another
+abbrev pub all_thrown : List Item → Spot → Game → Game
+all_thrown items spot g = fold (λ (h : Game) (item : Item). thrown item spot h) g items
+
+-- the cell is air, and what comes of it lies there
 abbrev pub dug : Cell → Game → Game
-dug cell g = thrown (block_item (state_in g cell)) (floor_of cell) (with_state cell 0 g)
+dug cell g = all_thrown (dug_items cell g) (floor_of cell) (with_state cell 0 g)
 
 abbrev pub dig : ℕ → Player → Cell → Game → Game
 dig k p cell g = if can_dig p cell g then dug cell g else noting (with_cells (cell ∷ [])) k g

@@ -1,14 +1,15 @@
 -- The game: all that is played, apart from the connections. The land, the entities, what each name
 -- carries, what was said, and the players in play by the numbers of their connections. Plain lists
 -- and finite maps. Rules of this project.
-use Rattle.std.specs.Prelude.{ℕ, ◌≤◌, Bool, List, [], unwrap_or, ◌-◌, min, is_some}
+use Rattle.std.specs.Prelude.{ℕ, ◌≤◌, Bool, List, [], Option, unwrap_or, ◌-◌, min, is_some}
+use Rattle.std.specs.Prelude.{unsigned_abs}
 use Rattle.std.specs.Ordering.{nat_cmp}
 use Rattle.std.specs.FinMap.{FinMap, empty, get, values}
 use Rattle.mc_fields.specs.declared.position.Cell.{Cell}
 use Rattle.mc_fields.specs.declared.position.Spot.{Spot}
 use Rattle.mc_slots.specs.declared.pile.Pile.{Pile}
 use Rattle.mc_column.specs.Cells.{ColumnValue}
-use Rattle.mc_land.specs.Places.{Place, key_cmp}
+use Rattle.mc_land.specs.Places.{Place, key_cmp, key_of}
 use Rattle.mc_land.specs.Land.{states_of, biomes_of}
 use Rattle.mc_windows.specs.Pack.{PackValue, kit_pack}
 use Rattle.mc_entities.specs.declared.entity.Entity.{Entity}
@@ -35,6 +36,8 @@ pub record Game : Type 0 where
   pub age : ℕ
   -- the cells whose state is not the terrain's
   pub edits : FinMap key_cmp ℕ
+  -- the piles of each chest, at its cell
+  pub chests : FinMap key_cmp (List Pile)
   -- the players in play and the dropped items, by rising number
   pub entities : List Entity
   -- how many entity numbers were given
@@ -51,6 +54,7 @@ new_game settings = record {
   settings = settings;
   age = 0;
   edits = empty;
+  chests = empty;
   entities = [];
   eids = 0;
   packs = empty;
@@ -65,6 +69,10 @@ players_of g = values g.players
 -- the state of a cell
 abbrev pub state_in : Game → Cell → ℕ
 state_in g cell = state_of_cell g.settings.terrain g.edits cell.x cell.y cell.z
+
+-- the piles of the chest at a cell of the world, if there is one
+abbrev pub chest_at : Game → Cell → Option (List Pile)
+chest_at g cell = get g.chests (key_of cell.x (unsigned_abs cell.y) cell.z)
 
 -- how many more dropped items may lie
 abbrev pub room_in : Game → ℕ

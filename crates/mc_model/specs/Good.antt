@@ -5,7 +5,12 @@ use Rattle.std.specs.Prelude.{is_some}
 use Rattle.std.specs.Ordering.{nat_cmp}
 use Rattle.std.specs.FinMap.{FinMap, get}
 use lib.IntN.{pos}
+use Rattle.mc_fields.specs.declared.position.Cell.{Cell}
 use Rattle.mc_fields.specs.declared.position.Spot.{Spot}
+use Rattle.mc_slots.specs.declared.pile.Pile.{Pile}
+use Rattle.mc_slots.specs.Chest.{IsChest}
+use Rattle.mc_land.specs.Land.{is_chest}
+use Rattle.mc_land.specs.Places.{Key}
 use Rattle.mc_windows.specs.Pack.{PackValue, IsPack}
 use Rattle.mc_entities.specs.declared.entity.Entity.{Entity}
 use Rattle.mc_entities.specs.declared.entity.EntityKind.{EntityKind}
@@ -18,7 +23,8 @@ use Rattle.mc_model.specs.Step.{is_new}
 use Rattle.mc_model.specs.Things.{in_hand}
 use Rattle.mc_model.specs.Stages.{is_play}
 use Rattle.mc_model.specs.Maps.{name_cmp}
-use Rattle.mc_model.specs.Game.{Game}
+use Rattle.mc_model.specs.Game.{Game, chest_at, state_in}
+use Rattle.mc_model.specs.Reach.{is_in_world}
 use Rattle.mc_model.specs.Fitting.{Told}
 use Rattle.mc_model.specs.Link.{Link}
 use Rattle.mc_model.specs.World.{World}
@@ -79,6 +85,15 @@ pub record IsWhole (players : FinMap nat_cmp Player) (entities : List Entity) (e
 abbrev pub Good : Game → Type 0
 Good g = IsWhole g.players g.entities g.eids g.packs
 
+-- ---- chests
+
+-- Each chest has so many piles of items that the world holds, and there is one just where the land
+-- has one.
+pub record AreChests (g : Game) : Type 0 where
+  pub chests : (key : Key) (piles : List Pile) → get g.chests key ≡ Some piles → IsChest piles
+  pub stand : (cell : Cell) → is_in_world cell ≡ true →
+      is_some (chest_at g cell) ≡ is_chest (state_in g cell)
+
 -- ---- a world
 
 -- whether a connection is in play; one that is not there is not
@@ -86,10 +101,11 @@ abbrev pub in_play : Option Link → Bool
 in_play None = false
 in_play (Some l) = is_play l.stage
 
--- A game is good, and packets can tell what is in it; it has players exactly for the connections in
--- play, and no connection has a number that may join next.
+-- A game is good, and so are its chests; packets can tell what is in it; it has players exactly for
+-- the connections in play, and no connection has a number that may join next.
 pub record GoodWorld (w : World) : Type 0 where
   pub game : Good w.game
+  pub chests : AreChests w.game
   pub told : Told w.game
   pub plays : (k : ℕ) → is_some (get w.game.players k) ≡ in_play (get w.links k)
   pub fresh : (k : ℕ) → is_new k w.last ≡ true → get w.links k ≡ None
