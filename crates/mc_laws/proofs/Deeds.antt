@@ -6,4 +6,6 @@ pub mod Keeping
 pub mod Onwards
 pub mod Goods
 pub mod Made
+pub mod Chests
+pub mod Thrown
 pub mod Swaps

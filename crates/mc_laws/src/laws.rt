@@ -19,8 +19,9 @@ ghost use Rattle.mc_model.specs.World.{World, new_world};
 ghost use Rattle.mc_model.specs.declared.seen.TheConstants.{DESTROYED_MAX};
 
 /// Along every run each player is one entity, which holds what its pack has at its hand; numbers
-/// and identifiers are of one player each; packs are of what a world holds; packets can tell what
-/// is in the game; and there are players exactly for the connections in play.
+/// and identifiers are of one player each; packs and chests are of what a world holds, and there is
+/// a chest just where the land has one; packets can tell what is in the game; and there are players
+/// exactly for the connections in play.
 pub fn worlds_stay_good()
     ensures { (settings : Begun) (events : List Event) →
         GoodWorld (history (new_world settings) events) }
@@ -90,8 +91,8 @@ pub fn closed_for_the_first_cause()
         ClosesFirst (history (new_world settings) events) e }
 {}
 
-/// No item is lost or made: of each sort, what all names carry, what lies in the world and what was
-/// placed is what the kits of all names had and what was dug.
+/// No item is lost or made: of each sort, what all names carry, what lies in the world and in its
+/// chests and what was placed is what the kits of all names had and what was dug.
 pub fn items_are_kept()
     ensures { (settings : Begun) (events : List Event) →
         Balance (history (new_world settings) events).game }

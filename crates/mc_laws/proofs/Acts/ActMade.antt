@@ -18,12 +18,12 @@ use Rattle.mc_model.specs.Movement.{moved, turned}
 use Rattle.mc_model.specs.Notes.{again}
 use Rattle.mc_model.specs.Game.{Game, spot_of}
 use Rattle.mc_model.specs.Acts.{act, act_by, act_of}
-use Rattle.mc_model.specs.Good.{Good}
 use Rattle.mc_model.specs.Fitting.{Told}
 use Rattle.mc_model.proofs.FitsChat.{LineFits, line_clear}
 use Rattle.mc_model.proofs.FitsText.{IsShort}
 use Rattle.mc_model.proofs.Maps.Options.{some_is}
 use Rattle.mc_laws.proofs.Landings.{both_turned, moved_turned, spot_turned, turned_turned}
+use Rattle.mc_laws.proofs.Deeds.Chests.{GoodGame}
 use Rattle.mc_laws.proofs.Deeds.Made.{Made, by_deed, by_notes, by_own, says, untouched}
 use Rattle.mc_laws.proofs.Fits.Told.{spot_told}
 use Rattle.mc_laws.proofs.Acts.Topics.{AnswersFit, arrive_made, close_made, confirm_made}
@@ -36,7 +36,7 @@ Speaks g k packet =
 
 -- the player of a connection makes a game of another, where what is said can be told by `H`
 abbrev MakesBy : Type 0 → ℕ → Game → Game → Type 0
-MakesBy H k g v = Made (Good g) (Good g × Told g) H k g v
+MakesBy H k g v = Made (GoodGame g) (GoodGame g × Told g) H k g v
 
 abbrev pub Makes : ℕ → PlayUp → Game → Game → Type 0
 Makes k packet g v = MakesBy (Speaks g k packet) k g v

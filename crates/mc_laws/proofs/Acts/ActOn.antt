@@ -1,9 +1,10 @@
--- Whatever a player does takes the game onward, and leaves it good: by deeds.
+-- Whatever a player does takes the game onward, and leaves it and its chests good: by deeds.
 use Rattle.std.proofs.Common.{◌≡◌, ℕ, List, [], ◌∷◌, Some, refl, sym, subst}
 use Rattle.mc_up.specs.declared.play_up.PlayUp.{PlayUp}
 use Rattle.mc_model.specs.Game.{Game}
 use Rattle.mc_model.specs.Acts.{act}
-use Rattle.mc_model.specs.Good.{Good}
+use Rattle.mc_model.specs.Good.{AreChests, Good}
+use Rattle.mc_laws.proofs.Deeds.Chests.{GoodGame, same_chests, with_state_chests}
 use Rattle.mc_laws.proofs.Deeds.Coming.{spawned_good}
 use Rattle.mc_laws.proofs.Deeds.Goods.{rehand_good, repack_good, stand_good}
 use Rattle.mc_laws.proofs.Deeds.Keeping.{players_whole}
@@ -47,6 +48,22 @@ module _ (G T H : Type 0) (k : ℕ) where
   deed_good g v (sets cell state inside is same) given w = subst Good (sym same) w
   deed_good g v (says line fits same) given w = subst Good (sym same) w
 
+  deed_chests : (g v : Game) → Deed G T H k g v → AreChests g → AreChests v
+  deed_chests g v (touches f t fits rest are) a =
+      same_chests rest.settings rest.edits rest.chests a
+  deed_chests g v (repacks p pack there is same) a =
+      subst AreChests (sym same) (same_chests refl refl refl a)
+  deed_chests g v (rehands p hand there small same) a =
+      subst AreChests (sym same) (same_chests refl refl refl a)
+  deed_chests g v (stands p spot there fits same) a =
+      subst AreChests (sym same) (same_chests refl refl refl a)
+  deed_chests g v (throws item spot can same) a =
+      subst AreChests (sym same) (same_chests refl refl refl a)
+  deed_chests g v (sets cell state inside is same) a =
+      subst AreChests (sym same) (with_state_chests cell state g inside a)
+  deed_chests g v (says line fits same) a =
+      subst AreChests (sym same) (same_chests refl refl refl a)
+
   -- what each deed of a good game keeps, all of them keep
   pub deeds_keep : (P : Game → Type 0) →
       ((u v : Game) → Deed G T H k u v → Good u → P u → P v) → G → (g : Game) (us : List Game)
@@ -59,7 +76,9 @@ pub act_on : (k : ℕ) (packet : PlayUp) (g v : Game) → act g k packet ≡ Som
 act_on k packet g v e = let made = act_made k packet g v e in
     deeds_on _ _ _ k g made.games v made.deeds
 
-pub act_good : (k : ℕ) (packet : PlayUp) (g v : Game) → act g k packet ≡ Some v → Good g → Good v
+pub act_good : (k : ℕ) (packet : PlayUp) (g v : Game) → act g k packet ≡ Some v → GoodGame g →
+    GoodGame v
 act_good k packet g v e w = let made = act_made k packet g v e in
-    deeds_keep _ _ _ k Good (λ u x deed good same. deed_good _ _ _ k u x deed w good) w g
-    made.games v made.deeds w w
+    deeds_keep _ _ _ k GoodGame (λ u x deed good both.
+    (deed_good _ _ _ k u x deed w good, deed_chests _ _ _ k u x deed both.1)) w g
+    made.games v made.deeds w.0 w

@@ -23,7 +23,7 @@ use Rattle.mc_model.specs.Pickups.{pickups}
 use Rattle.mc_model.specs.Tick.{aged, at_tick, awaiting, beat, beat_of, flush, grown, is_silent}
 use Rattle.mc_model.specs.Tick.{shown_all, tick, told}
 use Rattle.mc_model.specs.Fitting.{Told}
-use Rattle.mc_model.specs.Good.{Good, GoodWorld, in_play}
+use Rattle.mc_model.specs.Good.{AreChests, Good, GoodWorld, in_play}
 use Rattle.mc_model.specs.Causes.{IsTooMuch}
 use Rattle.mc_model.specs.Apart.{HandsAlike, IsFullIn, IsShut, OwesOther, SameBut}
 use Rattle.mc_model.specs.Headline.{IsEnded, IsServed, due_to}
@@ -69,6 +69,7 @@ module _ (k : ℕ) (w v : World) (good : GoodWorld w) (a : OwesOther k w v) wher
   good_too : GoodWorld v
   good_too = record {
     game = subst Good a.game good.game;
+    chests = subst AreChests a.game good.chests;
     told = subst Told a.game good.told;
     plays = λ j. ap (λ (g : Game). is_some (get g.players j)) (sym a.game) ∙ good.plays j
         ∙ same_play j;

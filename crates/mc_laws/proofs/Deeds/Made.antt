@@ -8,9 +8,9 @@ use Rattle.mc_fields.specs.declared.position.Cell.{Cell}
 use Rattle.mc_fields.specs.declared.position.Spot.{Spot}
 use Rattle.mc_slots.specs.declared.pile.Item.{Item}
 use Rattle.mc_slots.specs.declared.pile.Pile.TheVariants.{Full}
-use Rattle.mc_slots.specs.Pile.{held}
+use Rattle.mc_slots.specs.Pile.{Sort, held}
 use Rattle.mc_windows.specs.Pack.{PackValue, IsPack}
-use Rattle.mc_windows.specs.Stock.{in_pack}
+use Rattle.mc_windows.specs.Stock.{in_chest, in_pack}
 use Rattle.mc_entities.specs.declared.entity.EntityKind.TheVariants as kinds
 use Rattle.mc_model.specs.declared.notes.Notes.{Notes}
 use Rattle.mc_model.specs.declared.player.Player.{Player}
@@ -18,7 +18,7 @@ use Rattle.mc_model.specs.Apart.{traits_of}
 use Rattle.mc_model.specs.Balance.{one_of, sort_of}
 use Rattle.mc_model.specs.Deeds.{noting, rehand_of, repack_of, said, stand_of, thrown, with_player}
 use Rattle.mc_model.specs.Deeds.{with_state}
-use Rattle.mc_model.specs.Game.{Game, pack_of, state_in}
+use Rattle.mc_model.specs.Game.{Game, chest_at, pack_of, state_in}
 use Rattle.mc_model.specs.Reach.{is_in_world}
 use Rattle.mc_model.specs.Fitting.{IsState, SpotFits}
 use Rattle.mc_model.proofs.FitsChat.{LineFits}
@@ -37,11 +37,12 @@ pub record Touches (k : ℕ) (f : ℕ → Player → Player) : Type 0 where
 abbrev pub KeepsNotes : (Player → Player) → Type 0
 KeepsNotes f = (p : Player) → NotesFit p.notes → NotesFit (f p).notes
 
--- land, entities, packs and what is said are left alone
+-- land, chests, entities, packs and what is said are left alone
 pub record LeavesRest (g v : Game) : Type 0 where
   pub settings : v.settings ≡ g.settings
   pub age : v.age ≡ g.age
   pub edits : v.edits ≡ g.edits
+  pub chests : v.chests ≡ g.chests
   pub entities : v.entities ≡ g.entities
   pub eids : v.eids ≡ g.eids
   pub packs : v.packs ≡ g.packs
@@ -72,12 +73,14 @@ module _ (G T H : Type 0) (k : ℕ) where
   spent id damage g v (repacks p pack there is same) = in_pack (sort_of id damage) (pack_of g p)
   spent id damage g v (sets cell state inside is same) =
       one_of (16 * id + damage) (state_in g cell)
+      + in_chest (sort_of id damage) (chest_at g cell)
   spent id damage g v other = 0
 
   abbrev pub gained : (id damage : ℕ) (g v : Game) → Deed G T H k g v → ℕ
   gained id damage g v (repacks p pack there is same) = in_pack (sort_of id damage) pack
   gained id damage g v (throws item spot can same) = held (sort_of id damage) (Full item)
   gained id damage g v (sets cell state inside is same) = one_of (16 * id + damage) state
+      + in_chest (sort_of id damage) (chest_at (with_state cell state g) cell)
   gained id damage g v other = 0
 
   -- deeds one after another, and the games behind them
@@ -97,12 +100,17 @@ module _ (G T H : Type 0) (k : ℕ) where
   all_gained id damage g (u ∷ us) v are =
       gained id damage g u are.0 + all_gained id damage u us v are.1
 
-  -- a game is made of another by deeds that take away as many items as they leave
-  pub record Made (g v : Game) : Type 0 where
+  -- a game is made of another by deeds that leave so many more items than they take away
+  pub record MadeWith (more : Sort → ℕ) (g v : Game) : Type 0 where
     pub games : List Game
     pub deeds : AreDeeds g games v
     pub even : G → (id damage : ℕ) → 1 ≤ id → damage ≤ 15 →
-        all_spent id damage g games v deeds ≡ all_gained id damage g games v deeds
+        all_spent id damage g games v deeds + more (sort_of id damage)
+        ≡ all_gained id damage g games v deeds
+
+  -- that leave as many
+  abbrev pub Made : Game → Game → Type 0
+  Made g v = MadeWith (λ (sort : Sort). 0) g v
 
   pub untouched : (g : Game) → Made g g
   untouched g = record { games = []; deeds = refl; even = λ good id damage some low. refl }
@@ -140,6 +148,7 @@ module _ (G T H : Type 0) (k : ℕ) where
         settings = refl;
         age = refl;
         edits = refl;
+        chests = refl;
         entities = refl;
         eids = refl;
         packs = refl;

@@ -14,6 +14,7 @@ use Rattle.mc_model.specs.Good.{Good}
 use Rattle.mc_model.specs.Fitting.{Told}
 use Rattle.mc_laws.proofs.FitsUuid.{offline_small}
 use Rattle.mc_laws.proofs.ThingsFit.{spawn_fits}
+use Rattle.mc_laws.proofs.Deeds.Chests.{GoodGame}
 use Rattle.mc_laws.proofs.Deeds.Leaving.{leave_cases}
 use Rattle.mc_laws.proofs.Deeds.Made.{Deed, rehands, repacks, says, sets, stands, throws, touches}
 use Rattle.mc_laws.proofs.Deeds.Packs.{named_is_pack}
@@ -44,9 +45,10 @@ module _ (G T H : Type 0) (k : ℕ) (good : G) (told : T) where
       (with_state_told cell state g (is told) t)
   deed_tells g v (says line fits same) w t = subst Told (sym same) t
 
-pub act_tells : (k : ℕ) (packet : PlayUp) (g v : Game) → act g k packet ≡ Some v → Tells g v
+pub act_tells : (k : ℕ) (packet : PlayUp) (g v : Game) → act g k packet ≡ Some v → GoodGame g →
+    Told g → Told v
 act_tells k packet g v e w t = let made = act_made k packet g v e in
-    deeds_keep _ _ _ k Told (deed_tells _ _ _ k w (w, t)) w g made.games v made.deeds w t
+    deeds_keep _ _ _ k Told (deed_tells _ _ _ k w (w, t)) w g made.games v made.deeds w.0 t
 
 -- ---- coming and going
 

@@ -39,7 +39,7 @@ use Rattle.mc_model.specs.Game.{AreSettings, Game, column_in, pack_of, players_o
 use Rattle.mc_model.specs.Game.{is_in_sight, view_in}
 use Rattle.mc_model.specs.Spots.{spawn_height}
 use Rattle.mc_model.specs.Showing.{due, last_shown, notes_due, opening_due, sight_of}
-use Rattle.mc_model.specs.Good.{Good}
+use Rattle.mc_model.specs.Good.{AreChests, Good}
 use Rattle.mc_model.specs.Fitting.{EntityFits, KindIsNamed, Told}
 use Rattle.mc_model.proofs.AllFacts.{all_chosen, all_dropped, all_flat, all_joined, all_mapped}
 use Rattle.mc_model.proofs.AllFacts.{all_range, few_filtered}
@@ -140,6 +140,7 @@ seen_fits e kind fits is named row found = grind (arith, nat_tests, eid_fits, pi
 -- all that can be told holds of a game
 pub record SoundGame (g : Game) : Type 0 where
   pub good : Good g
+  pub chests : AreChests g
   pub told : Told g
   pub settings : AreSettings g.settings.players g.settings.cap
   pub young : g.age ≤ AGE_MAX

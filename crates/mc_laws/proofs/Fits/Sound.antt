@@ -36,6 +36,7 @@ use Rattle.mc_model.proofs.Maps.Options.{none_some}
 use Rattle.mc_laws.proofs.EachValue.{AllValues, all_changed, all_gone, all_put, many_changed, only}
 use Rattle.mc_laws.proofs.EachValue.{only_changed, only_holds}
 use Rattle.mc_laws.proofs.ThingsFit.{PlayerIsTold, no_notes_fit}
+use Rattle.mc_laws.proofs.Deeds.Chests.{GoodGame, leave_chests, new_chests, same_chests}
 use Rattle.mc_laws.proofs.Deeds.Coming.{enter_good}
 use Rattle.mc_laws.proofs.Deeds.Leaving.{leave_cases, leave_good, leave_stays}
 use Rattle.mc_laws.proofs.Deeds.Made.{Deed, rehands, repacks, says, sets, stands, throws, touches}
@@ -100,16 +101,18 @@ pub act_sound : (k : ℕ) (packet : PlayUp) (g v : Game) → FitsPlayUp packet �
 act_sound k packet g v fits e sound =
     let on = act_on k packet g v e in
     let made = act_made k packet g v e in
-    let good = sound.good in
+    let good : GoodGame g = (sound.good, sound.chests) in
+    let good_too = act_good k packet g v e good in
     let speaks : Speaks g k packet = ((λ p there. (sound.players k p there).name), fits) in
     record {
-      good = act_good k packet g v e sound.good;
-      told = act_tells k packet g v e sound.good sound.told;
+      good = good_too.0;
+      chests = good_too.1;
+      told = act_tells k packet g v e good sound.told;
       settings = subst (λ (s : Begun). AreSettings s.players s.cap) (sym on.settings)
           sound.settings;
       young = (let young = sound.young in let age = on.age in omega (arith, young, age));
       lines = deeds_keep _ _ _ k AllSaid (λ u x deed w. deed_said _ _ _ k speaks u x deed) good g
-          made.games v made.deeds good sound.lines;
+          made.games v made.deeds sound.good sound.lines;
       few = (let few = sound.few in
           let many = on.many in
           let most = ap (λ (s : Begun). s.players) on.settings in
@@ -120,7 +123,7 @@ act_sound k packet g v fits e sound =
           omega (arith, counts, counted, many));
       players = deeds_keep _ _ _ k AllTold
           (λ u x deed w. deed_players _ _ _ k (good, sound.told) speaks u x deed) good g
-          made.games v made.deeds good sound.players;
+          made.games v made.deeds sound.good sound.players;
     }
 
 -- ---- coming
@@ -170,6 +173,7 @@ pub enter_sound : (k : ℕ) (name : List ℕ) (g : Game) → IsWelcome g name �
     get g.players k ≡ None → SoundGame g → SoundGame (enter_as k name g)
 enter_sound k name g welcome free new sound = record {
   good = enter_good k name g sound.good free new;
+  chests = same_chests refl refl refl sound.chests;
   told = enter_tells k name g welcome.numbers sound.good sound.told;
   settings = sound.settings;
   young = sound.young;
@@ -202,6 +206,7 @@ leave_sound k g sound =
     let stays = leave_stays k g in
     record {
       good = leave_good k g sound.good;
+      chests = leave_chests k g sound.chests;
       told = leave_told k g sound.told;
       settings = subst (λ (s : Begun). AreSettings s.players s.cap) (sym stays.settings)
           sound.settings;
@@ -226,6 +231,7 @@ leave_all_sound (k ∷ ks) g sound = leave_all_sound ks (leave k g) (leave_sound
 pub grown_sound : (g : Game) → SoundGame g → SoundGame (grown g)
 grown_sound g sound = record {
   good = sound.good;
+  chests = same_chests refl refl refl sound.chests;
   told = sound.told;
   settings = sound.settings;
   young = omega arith;
@@ -238,6 +244,7 @@ grown_sound g sound = record {
 pub told_sound : (g : Game) → SoundGame g → SoundGame (told g)
 told_sound g sound = record {
   good = told_good g sound.good;
+  chests = same_chests refl refl refl sound.chests;
   told = sound.told;
   settings = sound.settings;
   young = sound.young;
@@ -261,6 +268,7 @@ pickups_sound g sound =
     let picked = pickups_picked g sound.good sound.told in
     record {
       good = picked.good;
+      chests = same_chests left.settings left.edits left.chests sound.chests;
       told = picked.told;
       settings = subst (λ (s : Begun). AreSettings s.players s.cap) (sym left.settings)
           sound.settings;
@@ -283,6 +291,7 @@ pub new_sound : (settings : Begun) → AreSettings settings.players settings.cap
     Good (new_game settings) → SoundGame (new_game settings)
 new_sound settings are good = record {
   good = good;
+  chests = new_chests settings;
   told = new_told settings;
   settings = are;
   young = omega arith;

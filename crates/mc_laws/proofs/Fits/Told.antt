@@ -252,7 +252,7 @@ one_of true n m at_n at_m = at_n
 one_of false n m at_n at_m = at_m
 
 -- ids of the terrains are below 16
-terrain_small : (terrain : Terrain) (x : ℤ) (y : ℕ) (z : ℤ) → terrain_state terrain x y z < 256
+pub terrain_small : (terrain : Terrain) (x : ℤ) (y : ℕ) (z : ℤ) → terrain_state terrain x y z < 256
 terrain_small Flat x y z =
     let id : flat_id y < 16 = one_of (y == 0) 7 _ (omega arith) (one_of (nat_le y 2) 3 _
     (omega arith) (one_of (y == 3) 2 0 (omega arith) (omega arith))) in omega (arith, id)

@@ -54,6 +54,7 @@ pub record LeavesPlay (g v : Game) : Type 0 where
   pub settings : v.settings ≡ g.settings
   pub age : v.age ≡ g.age
   pub edits : v.edits ≡ g.edits
+  pub chests : v.chests ≡ g.chests
   pub eids : v.eids ≡ g.eids
   pub lines : v.lines ≡ g.lines
   pub players : v.players ≡ g.players
@@ -63,6 +64,7 @@ leaves_still g = record {
   settings = refl;
   age = refl;
   edits = refl;
+  chests = refl;
   eids = refl;
   lines = refl;
   players = refl;
@@ -73,6 +75,7 @@ leaves_on g v u a b = record {
   settings = b.settings ∙ a.settings;
   age = b.age ∙ a.age;
   edits = b.edits ∙ a.edits;
+  chests = b.chests ∙ a.chests;
   eids = b.eids ∙ a.eids;
   lines = b.lines ∙ a.lines;
   players = b.players ∙ a.players;
@@ -84,6 +87,7 @@ lessened_leaves eid Empty g v a = record {
   settings = a.settings;
   age = a.age;
   edits = a.edits;
+  chests = a.chests;
   eids = a.eids;
   lines = a.lines;
   players = a.players;
@@ -92,6 +96,7 @@ lessened_leaves eid (Full item) g v a = record {
   settings = a.settings;
   age = a.age;
   edits = a.edits;
+  chests = a.chests;
   eids = a.eids;
   lines = a.lines;
   players = a.players;
@@ -103,6 +108,7 @@ stowed_leaves p x g = lessened_leaves x.0 (stored (pack_of g p) x.1).floor g
       settings = refl;
       age = refl;
       edits = refl;
+      chests = refl;
       eids = refl;
       lines = refl;
       players = refl;

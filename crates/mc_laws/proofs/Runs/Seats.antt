@@ -22,9 +22,10 @@ use Rattle.mc_model.specs.Leaving.{leave}
 use Rattle.mc_model.specs.Link.{Handing, Link, gone, hand, mark_closed, quiet}
 use Rattle.mc_model.specs.World.{Seat, Turn}
 use Rattle.mc_model.specs.Fitting.{Told}
-use Rattle.mc_model.specs.Good.{Good}
+use Rattle.mc_model.specs.Good.{AreChests, Good}
 use Rattle.mc_model.specs.Apart.{traits_of}
 use Rattle.mc_model.proofs.Maps.Lookups.{any_found, put_other, put_same}
+use Rattle.mc_laws.proofs.Deeds.Chests.{GoodGame, leave_chests, same_chests}
 use Rattle.mc_laws.proofs.Deeds.Coming.{enter_good}
 use Rattle.mc_laws.proofs.Deeds.Leaving.{leave_good, leave_other, leave_same, leave_stays}
 use Rattle.mc_laws.proofs.Acts.ActOn.{act_good, act_on}
@@ -40,10 +41,11 @@ pub record OthersStay (k : ℕ) (g v : Game) : Type 0 where
   pub settings : v.settings ≡ g.settings
   pub more : g.eids ≤ v.eids
 
--- a seat whose game is good, and such that packets can tell it, where there is a player exactly
--- while the connection is in play, and what it left of the game before
+-- a seat whose game is good, and so are its chests, and such that packets can tell it, where there
+-- is a player exactly while the connection is in play, and what it left of the game before
 pub record GoodSeat (k : ℕ) (before : Game) (s : Seat) : Type 0 where
   pub game : Good s.game
+  pub chests : AreChests s.game
   pub told : Told s.game
   pub plays : is_some (get s.game.players k) ≡ is_play s.link.stage
   pub others : OthersStay k before s.game
@@ -68,7 +70,7 @@ leave_stay k g = let s = leave_stays k g in record {
 -- ---- closing
 
 -- who is closed has left
-closed_seat : (k : ℕ) (before : Game) (s : Seat) (l : Link) → Good s.game → Told s.game →
+closed_seat : (k : ℕ) (before : Game) (s : Seat) (l : Link) → GoodGame s.game → Told s.game →
     OthersStay k before s.game → is_closed l.stage ≡ true →
     GoodSeat k before (turn k s (quiet l)).seat
 closed_seat k before s l w t others is = step (is_closed l.stage) is
@@ -76,7 +78,8 @@ closed_seat k before s l w t others is = step (is_closed l.stage) is
     step : (b : Bool) → b ≡ true → GoodSeat k before
         (record s { game = if b then leave k s.game else s.game; link = l })
     step true e = record {
-      game = leave_good k s.game w;
+      game = leave_good k s.game w.0;
+      chests = leave_chests k s.game w.1;
       told = leave_told k s.game t;
       plays = ap is_some (leave_same k s.game) ∙ sym (not_in_play l.stage is);
       others = stay_on k before s.game (leave k s.game) others (leave_stay k s.game);
@@ -84,7 +87,7 @@ closed_seat k before s l w t others is = step (is_closed l.stage) is
     step false e = absurd cc
 
 -- and who is not has not
-open_seat : (k : ℕ) (before : Game) (s : Seat) (l : Link) → Good s.game → Told s.game →
+open_seat : (k : ℕ) (before : Game) (s : Seat) (l : Link) → GoodGame s.game → Told s.game →
     OthersStay k before s.game →
     (is_closed l.stage ≡ false → is_some (get s.game.players k) ≡ is_play l.stage) →
     GoodSeat k before (turn k s (quiet l)).seat
@@ -92,10 +95,11 @@ open_seat k before s l w t others plays = step (is_closed l.stage) refl
   where
     step : (b : Bool) → is_closed l.stage ≡ b → GoodSeat k before (turn k s (quiet l)).seat
     step true is = closed_seat k before s l w t others is
-    step false is = rw is (record { game = w; told = t; plays = plays is; others = others })
+    step false is = rw is
+        (record { game = w.0; chests = w.1; told = t; plays = plays is; others = others })
 
-handed_seat : (k : ℕ) (before : Game) (s : Seat) (m : Link) (packets : List Sent) → Good s.game →
-    Told s.game → OthersStay k before s.game →
+handed_seat : (k : ℕ) (before : Game) (s : Seat) (m : Link) (packets : List Sent) →
+    GoodGame s.game → Told s.game → OthersStay k before s.game →
     (is_closed m.stage ≡ false → is_some (get s.game.players k) ≡ is_play m.stage) →
     GoodSeat k before (turn k s (hand m packets)).seat
 handed_seat k before s m packets w t others plays =
@@ -139,12 +143,20 @@ no_play stage is = ap is_play is
 pub seat_kept : (k : ℕ) (before : Game) → Kept k (λ s ps. GoodSeat k before s)
 seat_kept k before s t ps (keeps unread is) a =
     subst (λ (x : Turn). GoodSeat k before x.seat) (sym is)
-    (record { game = a.game; told = a.told; plays = a.plays; others = a.others })
+    (record {
+      game = a.game;
+      chests = a.chests;
+      told = a.told;
+      plays = a.plays;
+      others = a.others;
+    })
 seat_kept k before s t ps (does packet g at did is) a =
     let on = act_on k packet s.game g did in
+    let good = act_good k packet s.game g did (a.game, a.chests) in
     subst (λ (x : Turn). GoodSeat k before x.seat) (sym is) (record {
-      game = act_good k packet s.game g did a.game;
-      told = act_tells k packet s.game g did a.game a.told;
+      game = good.0;
+      chests = good.1;
+      told = act_tells k packet s.game g did (a.game, a.chests) a.told;
       plays = on.keys k ∙ a.plays ∙ ap is_play (sym (heard_stage packet s.link));
       others = stay_on k before s.game g a.others
           (record { traits = on.traits; settings = on.settings; more = on.more });
@@ -152,22 +164,25 @@ seat_kept k before s t ps (does packet g at did is) a =
 seat_kept k before s t ps (shakes protocol stage at play closed is) a =
     subst (λ (x : Turn). GoodSeat k before x.seat) (sym is) (record {
       game = a.game;
+      chests = a.chests;
       told = a.told;
       plays = a.plays ∙ no_play s.link.stage at ∙ sym play;
       others = a.others;
     })
 seat_kept k before s t ps (answers packet at is) a =
     subst (λ (x : Turn). GoodSeat k before x.seat) (sym is)
-    (handed_seat k before s s.link _ a.game a.told a.others (λ open_. a.plays))
+    (handed_seat k before s s.link _ (a.game, a.chests) a.told a.others (λ open_. a.plays))
 seat_kept k before s t ps (closes cause packets open_ last other is) a =
     subst (λ (x : Turn). GoodSeat k before x.seat) (sym is)
-    (handed_seat k before s (mark_closed s.link cause) packets a.game a.told a.others
+    (handed_seat k before s (mark_closed s.link cause) packets (a.game, a.chests) a.told a.others
     (λ open_. absurd cc))
 seat_kept k before s t ps (comes_in name at free is) a =
     subst (λ (x : Turn). GoodSeat k before x.seat) (sym is)
-    (handed_seat k before (entered k s name) (entered k s name).link _
-    (enter_good k name s.game a.game (free_name s.game s.link.protocol name free)
-    (nobody_yet (get s.game.players k) (a.plays ∙ ap is_play at)))
+    (handed_seat k before (entered k s name) (entered k s name).link _ (
+      enter_good k name s.game a.game (free_name s.game s.link.protocol name free)
+          (nobody_yet (get s.game.players k) (a.plays ∙ ap is_play at)),
+      same_chests refl refl refl a.chests,
+    )
     (enter_tells k name s.game (welcome_of s.game s.link.protocol name free).numbers a.game a.told)
     (stay_on k before s.game (enter_as k name s.game) a.others (enter_stay k name s.game))
     (λ open_. ap is_some (put_same s.game.players k _)))
@@ -176,9 +191,16 @@ seat_kept k before s t ps (comes_in name at free is) a =
 pub departed_seat : (k : ℕ) (before : Game) (cause : Cause) (s : Seat) → GoodSeat k before s →
     GoodSeat k before (depart k cause s).seat
 departed_seat k before cause s a =
-    closed_seat k before s (gone cause s.link) a.game a.told a.others (gone_closed cause s.link)
+    closed_seat k before s (gone cause s.link) (a.game, a.chests) a.told a.others
+    (gone_closed cause s.link)
 
 pub taken_seat : (k : ℕ) (before : Game) (n : ℕ) (s : Seat) → GoodSeat k before s →
     GoodSeat k before (take_from n s).seat
 taken_seat k before n s a =
-    record { game = a.game; told = a.told; plays = a.plays; others = a.others }
+    record {
+      game = a.game;
+      chests = a.chests;
+      told = a.told;
+      plays = a.plays;
+      others = a.others;
+    }

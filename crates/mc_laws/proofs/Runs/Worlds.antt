@@ -17,9 +17,10 @@ use Rattle.mc_model.specs.World.{is_closing, with_seat}
 use Rattle.mc_model.specs.Tick.{aged, at_tick, beats, flushed, picking, shown_all, told_player}
 use Rattle.mc_model.specs.Run.{history}
 use Rattle.mc_model.specs.Fitting.{Told}
-use Rattle.mc_model.specs.Good.{GoodWorld, in_play}
+use Rattle.mc_model.specs.Good.{AreChests, GoodWorld, in_play}
 use Rattle.mc_model.specs.Apart.{traits_of}
 use Rattle.mc_model.proofs.Maps.Lookups.{gone_other, gone_same, put_other, put_same}
+use Rattle.mc_laws.proofs.Deeds.Chests.{leave_all_chests, new_chests, same_chests}
 use Rattle.mc_laws.proofs.Walk.Each.{ClosesOrStays, beat_stage, closing_plays, each_good, each_last}
 use Rattle.mc_laws.proofs.Walk.Each.{each_links, each_players, flush_stage, told_good, told_players}
 use Rattle.mc_laws.proofs.Walk.Handings.{not_in_play}
@@ -37,6 +38,7 @@ pub first_seat : (w : World) (k : ℕ) (l : Link) → get w.links k ≡ Some l �
     GoodSeat k w.game (seat_of w k l)
 first_seat w k l there a = record {
   game = a.game;
+  chests = a.chests;
   told = a.told;
   plays = a.plays k ∙ ap in_play there;
   others = all_stay k w.game;
@@ -61,6 +63,7 @@ sits_good : (w : World) (k : ℕ) (l : Link) (t : Turn) → get w.links k ≡ So
     GoodSeat k w.game t.seat → GoodWorld w → GoodWorld (with_seat w k t.seat)
 sits_good w k l t there s a = record {
   game = s.game;
+  chests = s.chests;
   told = s.told;
   plays = λ j. elim (cases_eq j k) [
     | inl same ↦ rw same (s.plays ∙ ap in_play (sym (put_same w.links k t.seat.link)))
@@ -95,6 +98,7 @@ joins_good : (w : World) (k : ℕ) → is_new k w.last ≡ true → GoodWorld w 
     GoodWorld (record w { last = Some k; links = insert w.links k (joining w) })
 joins_good w k new a = record {
   game = a.game;
+  chests = a.chests;
   told = a.told;
   plays = λ j. elim (cases_eq j k) [
     | inl same ↦ rw same (a.plays k ∙ ap in_play (a.fresh k new) ∙ sym (joining_waits w)
@@ -115,6 +119,7 @@ forgets_good w k l there done a =
     let closed = (and_parts (is_closed l.stage) (nat_le (length l.owed) 0) done).0 in
     record {
       game = a.game;
+      chests = a.chests;
       told = a.told;
       plays = λ j. elim (cases_eq j k) [
         | inl same ↦ rw same (a.plays k ∙ ap in_play there ∙ not_in_play l.stage closed
@@ -129,6 +134,10 @@ forgets_good w k l there done a =
 
 -- ---- a tick
 
+each_chests : (f : ℕ → Link → Handing) (w : World) → AreChests w.game → AreChests (each f w).game
+unfolding each
+each_chests f w a = leave_all_chests (closed_by f w) w.game a
+
 each_told : (f : ℕ → Link → Handing) (w : World) → Told w.game → Told (each f w).game
 unfolding each
 each_told f w t = leave_all_told (closed_by f w) w.game t
@@ -137,6 +146,7 @@ pub each_world : (f : ℕ → Link → Handing) (w : World) →
     ((k : ℕ) (l : Link) → ClosesOrStays l.stage (f k l)) → GoodWorld w → GoodWorld (each f w)
 each_world f w stage a = record {
   game = each_good f w a.game;
+  chests = each_chests f w a.chests;
   told = each_told f w a.told;
   plays = λ j. ap is_some (each_players f w j) ∙ at_link j (get w.links j) (a.plays j)
       ∙ ap in_play (sym (each_links f w j));
@@ -152,11 +162,18 @@ each_world f w stage a = record {
     at_link j (Some l) plays = closing_plays (get w.game.players j) l (f j l) (stage j l) plays
 
 aged_world : (w : World) → GoodWorld w → GoodWorld (aged w)
-aged_world w a = record { game = a.game; told = a.told; plays = a.plays; fresh = a.fresh }
+aged_world w a = record {
+  game = a.game;
+  chests = same_chests refl refl refl a.chests;
+  told = a.told;
+  plays = a.plays;
+  fresh = a.fresh;
+}
 
 shown_world : (w : World) → GoodWorld w → GoodWorld (shown_all w)
 shown_world w a = record {
   game = told_good w.game a.game;
+  chests = same_chests refl refl refl a.chests;
   told = a.told;
   plays = λ j. ap is_some (told_players w.game j) ∙ mapped (get w.game.players j) ∙ a.plays j;
   fresh = a.fresh;
@@ -168,12 +185,14 @@ shown_world w a = record {
 
 -- what is picked up keeps it so
 picking_world : (w : World) → GoodWorld w → GoodWorld (picking w)
-picking_world w a = let picked = pickups_picked w.game a.game a.told in record {
-  game = picked.good;
-  told = picked.told;
-  plays = λ j. ap (λ m. is_some (get m j)) (pickups_leave w.game).players ∙ a.plays j;
-  fresh = a.fresh;
-}
+picking_world w a = let picked = pickups_picked w.game a.game a.told in
+    let left = pickups_leave w.game in record {
+      game = picked.good;
+      chests = same_chests left.settings left.edits left.chests a.chests;
+      told = picked.told;
+      plays = λ j. ap (λ m. is_some (get m j)) left.players ∙ a.plays j;
+      fresh = a.fresh;
+    }
 
 -- once those that were silent left
 pub beats_world : (w : World) → GoodWorld w → GoodWorld (beats (aged w))
@@ -226,6 +245,7 @@ new_good settings = record {
     rise = omega (arith, ints);
     bodies = λ n e found is. absurd (nothing_there found);
   };
+  chests = new_chests settings;
   told = new_told settings;
   plays = λ k. ap is_some (get-empty nat_cmp k) ∙ ap in_play (sym (get-empty nat_cmp k));
   fresh = λ k new. get-empty nat_cmp k;

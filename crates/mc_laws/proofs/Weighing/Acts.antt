@@ -1,5 +1,5 @@
 -- No player loses or makes an item by what it does: its deeds take away as many as they leave.
-use Rattle.std.proofs.Common.{◌≡◌, ℕ, ◌≤◌, List, [], ◌∷◌, Some, sym, subst, ap}
+use Rattle.std.proofs.Common.{◌≡◌, ℕ, ◌≤◌, List, [], ◌∷◌, Some, sym, subst, ap, arith}
 use Rattle.mc_up.specs.declared.play_up.PlayUp.{PlayUp}
 use Rattle.mc_model.specs.Balance.{in_entities, sort_of}
 use Rattle.mc_model.specs.Game.{Game}
@@ -8,6 +8,7 @@ use Rattle.mc_model.specs.Good.{Good}
 use Rattle.mc_laws.proofs.Weighing.Spending.{Weighs, rehand_weighs, repack_weighs, same_weighs}
 use Rattle.mc_laws.proofs.Weighing.Spending.{stand_weighs, state_weighs, still_weighs}
 use Rattle.mc_laws.proofs.Weighing.Spending.{thrown_weighs, weighs_even, weighs_on}
+use Rattle.mc_laws.proofs.Deeds.Chests.{GoodGame}
 use Rattle.mc_laws.proofs.Deeds.Made.{AreDeeds, Deed, all_gained, all_spent, gained, rehands}
 use Rattle.mc_laws.proofs.Deeds.Made.{repacks, says, sets, spent, stands, throws, touches}
 use Rattle.mc_laws.proofs.Acts.ActMade.{act_made}
@@ -17,7 +18,8 @@ module _ (G T H : Type 0) (id damage k : ℕ) where
   deed_weighs : (g v : Game) (deed : Deed G T H k g v) → Good g →
       Weighs id damage (spent G T H k id damage g v deed) (gained G T H k id damage g v deed) g v
   deed_weighs g v (touches f of_players fits rest are) w = same_weighs id damage g v
-      rest.settings rest.edits rest.packs (ap (in_entities (sort_of id damage)) rest.entities)
+      rest.settings rest.edits rest.chests rest.packs
+      (ap (in_entities (sort_of id damage)) rest.entities)
   deed_weighs g v (repacks p pack there is same) w =
       subst (Weighs id damage _ _ g) (sym same) (repack_weighs id damage k p pack g w there)
   deed_weighs g v (rehands p hand there small same) w =
@@ -42,7 +44,8 @@ module _ (G T H : Type 0) (id damage k : ℕ) where
       (deeds_weigh u us v are.1 given (deed_good G T H k g u are.0 given w))
 
 pub act_even : (id damage : ℕ) → 1 ≤ id → damage ≤ 15 → (k : ℕ) (packet : PlayUp) (g v : Game) →
-    Good g → act g k packet ≡ Some v → Weighs id damage 0 0 g v
+    GoodGame g → act g k packet ≡ Some v → Weighs id damage 0 0 g v
 act_even id damage some low k packet g v w e = let made = act_made k packet g v e in
-    weighs_even id damage _ _ g v (made.even w id damage some low)
-    (deeds_weigh _ _ _ id damage k g made.games v made.deeds w w)
+    let even = made.even w id damage some low in
+    weighs_even id damage _ _ g v (omega (arith, even))
+    (deeds_weigh _ _ _ id damage k g made.games v made.deeds w w.0)

@@ -4,6 +4,7 @@ use Rattle.std.proofs.Common.{arith}
 use Rattle.std.specs.Prelude.{if◌then◌else◌}
 use Rattle.std.specs.declared.cmp.Ordering.{Ordering}
 use Rattle.std.specs.FinMap.{empty, entries, get, len-empty, len-entries}
+use Rattle.mc_slots.specs.declared.pile.Pile.{Pile}
 use Rattle.mc_land.specs.Places.{key_cmp}
 use Rattle.mc_windows.specs.Pack.{PackValue}
 use Rattle.mc_model.specs.declared.stage.Stage.{Stage}
@@ -68,7 +69,7 @@ even_after k before s t ps (keeps unread is) a =
 even_after k before s t ps (does packet g at did is) a =
     subst (λ (x : Turn). Balance x.seat.game) (sym is)
     (balance_on s.game g (λ id damage some few low.
-    act_even id damage some low k packet s.game g a.seat.game did) a.even)
+    act_even id damage some low k packet s.game g (a.seat.game, a.seat.chests) did) a.even)
 even_after k before s t ps (shakes protocol stage at play closed is) a =
     subst (λ (x : Turn). Balance x.seat.game) (sym is) a.even
 even_after k before s t ps (answers packet at is) a =
@@ -140,7 +141,12 @@ none_there {X = X} R =
 
 new_balance : (settings : Settings) → Balance (new_world settings).game
 new_balance settings id damage some few low =
-    rw (none_there name_cmp, none_there key_cmp, len-empty name_cmp PackValue) (omega arith)
+    rw (
+      none_there name_cmp,
+      none_there {X = ℕ} key_cmp,
+      none_there {X = List Pile} key_cmp,
+      len-empty name_cmp PackValue,
+    ) (omega arith)
 
 pub always_even : (settings : Settings) (events : List Event) →
     Balance (history (new_world settings) events).game

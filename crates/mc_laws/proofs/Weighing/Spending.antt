@@ -12,9 +12,8 @@ use Rattle.mc_slots.specs.declared.pile.Item.{Item}
 use Rattle.mc_slots.specs.declared.pile.Pile.TheVariants.{Full}
 use Rattle.mc_slots.specs.Pile.{IsItem, Sort, held}
 use Rattle.mc_land.specs.Places.{key_of}
-use Rattle.mc_land.specs.Land.{state_at}
 use Rattle.mc_windows.specs.Pack.{PackValue, kit_pack}
-use Rattle.mc_windows.specs.Stock.{in_pack}
+use Rattle.mc_windows.specs.Stock.{in_chest, in_pack}
 use Rattle.mc_entities.specs.declared.entity.Entity.{Entity}
 use Rattle.mc_entities.specs.declared.entity.EntityKind.{EntityKind}
 use Rattle.mc_entities.specs.declared.entity.EntityKind.TheVariants as kinds
@@ -31,12 +30,13 @@ use Rattle.mc_model.specs.Reach.{is_in_world}
 use Rattle.mc_model.specs.Things.{holding, in_hand, standing}
 use Rattle.mc_model.specs.Spots.{spawn_spot}
 use Rattle.mc_model.specs.Maps.{modify, with_value}
-use Rattle.mc_model.specs.Game.{Game, pack_named, pack_of, state_in}
+use Rattle.mc_model.specs.Game.{Game, chest_at, pack_named, pack_of, state_in}
 use Rattle.mc_model.specs.Deeds.{enter_as, go_of, rehand_of, repack_of, stand_of, thrown}
 use Rattle.mc_model.specs.Deeds.{with_state}
 use Rattle.mc_model.specs.Good.{Good, IsOwn, is_body}
 use Rattle.mc_model.proofs.Maps.Lookups.{names_apart}
-use Rattle.mc_laws.proofs.Weighing.Cells.{edited_counts, sum_inserted}
+use Rattle.mc_laws.proofs.Deeds.Chests.{state_inside}
+use Rattle.mc_laws.proofs.Weighing.Cells.{chest_weighs, edited_counts, sum_inserted}
 use Rattle.mc_laws.proofs.Weighing.Stock.{entities_changed, entities_more, gone_lies, hand_lies}
 
 -- ---- weighing
@@ -75,19 +75,19 @@ weighs_even id damage a b g v same x = record {
   settings = x.settings;
 }
 
--- where there is as much, and no cell was changed
+-- where there is as much, and no cell and no chest was changed
 pub same_weighs : (id damage : ℕ) (g v : Game) → v.settings ≡ g.settings → v.edits ≡ g.edits →
-    v.packs ≡ g.packs →
+    v.chests ≡ g.chests → v.packs ≡ g.packs →
     in_entities (sort_of id damage) v.entities ≡ in_entities (sort_of id damage) g.entities →
     Weighs id damage 0 0 g v
-same_weighs id damage g v settings edits packs entities = record {
-  count = rw (edits, packs) (omega (arith, entities));
+same_weighs id damage g v settings edits chests packs entities = record {
+  count = rw (edits, chests, packs) (omega (arith, entities));
   names = ap len packs;
   settings = settings;
 }
 
 pub still_weighs : (id damage : ℕ) (g : Game) → Weighs id damage 0 0 g g
-still_weighs id damage g = same_weighs id damage g g refl refl refl refl
+still_weighs id damage g = same_weighs id damage g g refl refl refl refl refl
 
 -- what weighs nothing keeps the balance
 pub balance_on : (g v : Game) → ((id damage : ℕ) → 1 ≤ id → id ≤ 255 → damage ≤ 15 →
@@ -105,13 +105,13 @@ balance_on g v weighs even id damage some few low =
 
 pub stand_weighs : (id damage : ℕ) (p : Player) (spot : Spot) (g : Game) →
     Weighs id damage 0 0 g (stand_of p spot g)
-stand_weighs id damage p spot g = same_weighs id damage g (stand_of p spot g) refl refl refl
+stand_weighs id damage p spot g = same_weighs id damage g (stand_of p spot g) refl refl refl refl
     (entities_changed (sort_of id damage) p.eid (standing spot) (λ e. refl) g.entities)
 
 pub rehand_weighs : (id damage k : ℕ) (p : Player) (hand : ℕ) (g : Game) →
     Weighs id damage 0 0 g (rehand_of k p hand g)
 rehand_weighs id damage k p hand g = same_weighs id damage g (rehand_of k p hand g) refl refl refl
-    (entities_changed (sort_of id damage) p.eid (holding (in_hand (pack_of g p) hand))
+    refl (entities_changed (sort_of id damage) p.eid (holding (in_hand (pack_of g p) hand))
     (λ e. hand_lies (sort_of id damage) (in_hand (pack_of g p) hand) e.kind) g.entities)
 
 pub thrown_weighs : (id damage : ℕ) (item : Item) (spot : Spot) (g : Game) →
@@ -169,19 +169,19 @@ repack_weighs id damage k p pack g w there = record {
 
 -- ---- cells
 
-state_inside : (g : Game) (cell : Cell) → is_in_world cell ≡ true → state_in g cell
-    ≡ state_at g.settings.terrain g.edits (key_of cell.x (unsigned_abs cell.y) cell.z)
-state_inside g cell inside = grind (arith, nat_tests)
-
 pub state_weighs : (id damage : ℕ) (cell : Cell) (state : ℕ) (g : Game) →
     is_in_world cell ≡ true →
-    Weighs id damage (one_of (16 * id + damage) (state_in g cell)) (one_of (16 * id + damage) state)
+    Weighs id damage
+    (one_of (16 * id + damage) (state_in g cell) + in_chest (sort_of id damage) (chest_at g cell))
+    (one_of (16 * id + damage) state
+    + in_chest (sort_of id damage) (chest_at (with_state cell state g) cell))
     g (with_state cell state g)
 state_weighs id damage cell state g inside = record {
-  count = (let cells = edited_counts (16 * id + damage) g.settings.terrain g.edits
-      (key_of cell.x (unsigned_abs cell.y) cell.z) state in
+  count = (let key = key_of cell.x (unsigned_abs cell.y) cell.z in
+      let cells = edited_counts (16 * id + damage) g.settings.terrain g.edits key state in
+      let chests = chest_weighs (sort_of id damage) g.chests key (state_in g cell) state in
       let was = ap (one_of (16 * id + damage)) (state_inside g cell inside) in
-      omega (arith, cells, was));
+      omega (arith, cells, chests, was));
   names = refl;
   settings = refl;
 }
@@ -203,7 +203,7 @@ body_gone sort n low high es x r found is =
 pub go_weighs : (id damage k : ℕ) (p : Player) (g : Game) → Good g → get g.players k ≡ Some p →
     Weighs id damage 0 0 g (go_of k p g)
 go_weighs id damage k p g w there = (let o = w.own k p there in
-    same_weighs id damage g (go_of k p g) refl refl refl
+    same_weighs id damage g (go_of k p g) refl refl refl refl
     (body_gone (sort_of id damage) (pos p.eid) (pos 0) (pos g.eids) g.entities _ w.rise o.body
     refl))
 

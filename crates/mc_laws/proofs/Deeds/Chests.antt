@@ -1,0 +1,207 @@
+-- The chests of a game stand just where its land has them, also once a cell was set, and once
+-- players came or left.
+use Rattle.std.proofs.Common.{◌≡◌, ℕ, ◌<◌, Bool, true, false, cond, List, [], ◌∷◌, Option, Some}
+use Rattle.std.proofs.Common.{None, refl, sym, subst, ap, ◌∙◌, arith}
+use Rattle.std.specs.Prelude.{◌==◌, is_some, unsigned_abs, unwrap_or, if◌then◌else◌}
+use Rattle.std.proofs.lemmas.Bool.{eqb-true}
+use Rattle.std.proofs.lemmas.Bool.Decides.{nat_tests}
+use Rattle.std.specs.Cmp.{tied_itself}
+use Rattle.std.specs.Ordering.{eq_by_cmp, is_eq}
+use Rattle.std.specs.FinMap.{FinMap, get, get-empty, get-insert, get-remove, get_tied, insert}
+use Rattle.std.specs.FinMap.{remove}
+use Rattle.mc_fields.specs.declared.position.Cell.{Cell}
+use Rattle.mc_slots.specs.declared.pile.Pile.{Pile}
+use Rattle.mc_slots.specs.Chest.{IsChest, empty_chest, empty_is_chest}
+use Rattle.mc_slots.specs.Pile.{Sort}
+use Rattle.mc_land.specs.declared.terrain.Terrain.{Terrain}
+use Rattle.mc_land.specs.Places.{Key, key_cmp, key_of, x_of, y_of, z_of}
+use Rattle.mc_land.specs.Land.{chests_after, edited, is_chest, state_at, terrain_at}
+use Rattle.mc_land.proofs.Orders.{exact_keys, keys_total}
+use Rattle.mc_windows.specs.Stock.{in_chest}
+use Rattle.mc_model.specs.declared.settings.Settings.{Settings}
+use Rattle.mc_model.specs.Game.{Game, chest_at, new_game, state_in}
+use Rattle.mc_model.specs.Deeds.{with_state}
+use Rattle.mc_model.specs.Leaving.{leave, leave_all}
+use Rattle.mc_model.specs.Good.{AreChests, Good}
+use Rattle.mc_model.specs.Reach.{is_in_world}
+use Rattle.mc_model.proofs.Maps.Options.{none_some, some_is}
+use Rattle.mc_model.proofs.Maps.Sorted.{equal}
+use Rattle.mc_laws.proofs.Deeds.Leaving.{leave_cases}
+use Rattle.mc_laws.proofs.Fits.Told.{terrain_small}
+
+-- what acts rest on, and keep
+abbrev pub GoodGame : Game → Type 0
+GoodGame g = Good g × AreChests g
+
+-- ---- what is looked up once a cell was set
+
+-- a key is itself
+pub same_key : (key : Key) → eq_by_cmp key_cmp key key ≡ true
+same_key key = ap is_eq (tied_itself keys_total key)
+
+-- the chest of each cell
+pub chest_set : (chests : FinMap key_cmp (List Pile)) (key q : Key) (old new : ℕ) →
+    get (chests_after chests key old new) q ≡ cond (eq_by_cmp key_cmp q key)
+    (if is_chest new then (if is_chest old then get chests key else Some empty_chest) else None)
+    (get chests q)
+chest_set chests key q old new = step (is_chest new) (is_chest old)
+  where
+    tied : (b : Bool) → eq_by_cmp key_cmp q key ≡ b →
+        get chests q ≡ cond b (get chests key) (get chests q)
+    tied true t = sym (get_tied keys_total chests q key (equal _ t))
+    tied false t = refl
+
+    step : (b c : Bool) → get (if b then (if c then chests else insert chests key empty_chest) else
+        remove chests key) q ≡ cond (eq_by_cmp key_cmp q key)
+        (if b then (if c then get chests key else Some empty_chest) else None) (get chests q)
+    step true true = tied (eq_by_cmp key_cmp q key) refl
+    step true false = get-insert keys_total chests key empty_chest q
+    step false c = get-remove keys_total chests key q
+
+-- its edit
+pub edit_set : (terrain : Terrain) (edits : FinMap key_cmp ℕ) (key q : Key) (state : ℕ) →
+    get (edited terrain edits key state) q ≡ cond (eq_by_cmp key_cmp q key)
+    (if state == terrain_at terrain key then None else Some state) (get edits q)
+edit_set terrain edits key q state = step (state == terrain_at terrain key)
+  where
+    step : (b : Bool) → get (if b then remove edits key else insert edits key state) q
+        ≡ cond (eq_by_cmp key_cmp q key) (if b then None else Some state) (get edits q)
+    step true = get-remove keys_total edits key q
+    step false = get-insert keys_total edits key state q
+
+-- and its state
+pub state_set : (terrain : Terrain) (edits : FinMap key_cmp ℕ) (key q : Key) (state : ℕ) →
+    state_at terrain (edited terrain edits key state) q
+    ≡ cond (eq_by_cmp key_cmp q key) state (state_at terrain edits q)
+state_set terrain edits key q state =
+    rw (edit_set terrain edits key q state) (step (eq_by_cmp key_cmp q key) refl)
+  where
+    here : (b : Bool) → (state == terrain_at terrain key) ≡ b →
+        unwrap_or (if b then None else Some state) (terrain_at terrain key) ≡ state
+    here true t = sym (eqb-true state (terrain_at terrain key) t)
+    here false t = refl
+
+    step : (b : Bool) → eq_by_cmp key_cmp q key ≡ b → unwrap_or (cond b
+        (if state == terrain_at terrain key then None else Some state) (get edits q))
+        (terrain_at terrain q) ≡ cond b state (state_at terrain edits q)
+    step true t = rw (exact_keys q key (equal _ t)) (here (state == terrain_at terrain key) refl)
+    step false t = refl
+
+-- ---- what stands in a cell that is set
+
+module _ (chests : FinMap key_cmp (List Pile)) (key : Key) (old new : ℕ) where
+  -- piles of chests are of chests still
+  set_are : (q : Key) (piles : List Pile) →
+      ((r : Key) (is : List Pile) → get chests r ≡ Some is → IsChest is) →
+      get (chests_after chests key old new) q ≡ Some piles → IsChest piles
+  set_are q piles are is = step (eq_by_cmp key_cmp q key) (is_chest new) (is_chest old)
+      (sym (chest_set chests key q old new) ∙ is)
+    where
+      step : (b c d : Bool) → cond b (if c then (if d then get chests key else Some empty_chest)
+          else None) (get chests q) ≡ Some piles → IsChest piles
+      step true true true found = are key piles found
+      step true true false found = subst IsChest (some_is empty_chest piles found) empty_is_chest
+      step true false d found = absurd cc
+      step false c d found = are q piles found
+
+  -- and stand where the land has them
+  set_stand : (terrain : Terrain) (edits : FinMap key_cmp ℕ) (q : Key) →
+      is_some (get chests key) ≡ is_chest old →
+      is_some (get chests q) ≡ is_chest (state_at terrain edits q) →
+      is_some (get (chests_after chests key old new) q)
+      ≡ is_chest (state_at terrain (edited terrain edits key new) q)
+  set_stand terrain edits q was is =
+      rw (chest_set chests key q old new, state_set terrain edits key q new)
+      (step (eq_by_cmp key_cmp q key))
+    where
+      here : (c d : Bool) → is_some (get chests key) ≡ d →
+          is_some (if c then (if d then get chests key else Some empty_chest) else None) ≡ c
+      here true true there = there
+      here true false there = refl
+      here false d there = refl
+
+      step : (b : Bool) → is_some (cond b (if is_chest new then (if is_chest old then
+          get chests key else Some empty_chest) else None) (get chests q))
+          ≡ is_chest (cond b new (state_at terrain edits q))
+      step true = here (is_chest new) (is_chest old) was
+      step false = is
+
+-- ---- games
+
+-- where a cell inside the world is looked up
+pub state_inside : (g : Game) (cell : Cell) → is_in_world cell ≡ true → state_in g cell
+    ≡ state_at g.settings.terrain g.edits (key_of cell.x (unsigned_abs cell.y) cell.z)
+state_inside g cell inside = grind (arith, nat_tests)
+
+pub with_state_chests : (cell : Cell) (state : ℕ) (g : Game) → is_in_world cell ≡ true →
+    AreChests g → AreChests (with_state cell state g)
+with_state_chests cell state g inside a = record {
+  chests = λ q piles. set_are g.chests key (state_in g cell) state q piles a.chests;
+  stand = λ other within. set_stand g.chests key (state_in g cell) state g.settings.terrain g.edits
+      (key_of other.x (unsigned_abs other.y) other.z) (a.stand cell inside)
+      (a.stand other within ∙ ap is_chest (state_inside g other within))
+      ∙ sym (ap is_chest (state_inside (with_state cell state g) other within));
+}
+  where
+    key : Key
+    key = key_of cell.x (unsigned_abs cell.y) cell.z
+
+-- the same chests in the same land
+pub same_chests : {g v : Game} → v.settings ≡ g.settings → v.edits ≡ g.edits →
+    v.chests ≡ g.chests → AreChests g → AreChests v
+same_chests settings edits chests a = record {
+  chests = rw chests a.chests;
+  stand = rw (settings, edits, chests) a.stand;
+}
+
+pub leave_chests : (k : ℕ) (g : Game) → AreChests g → AreChests (leave k g)
+leave_chests k g a =
+    leave_cases k g AreChests (λ none. a) (λ p there. same_chests refl refl refl a)
+
+pub leave_all_chests : (ks : List ℕ) (g : Game) → AreChests g → AreChests (leave_all ks g)
+leave_all_chests [] g a = a
+leave_all_chests (k ∷ ks) g a = leave_all_chests ks (leave k g) (leave_chests k g a)
+
+-- no terrain has a chest
+small_no_chest : (state : ℕ) → state < 256 → is_chest state ≡ false
+small_no_chest state small = grind (arith, nat_tests)
+
+pub new_chests : (settings : Settings) → AreChests (new_game settings)
+new_chests settings = record {
+  chests = λ key piles there. absurd (none_some _ piles (get-empty key_cmp key) there);
+  stand = λ cell inside.
+      let key = key_of cell.x (unsigned_abs cell.y) cell.z in
+      ap is_some (get-empty key_cmp key)
+      ∙ sym (ap is_chest (state_inside (new_game settings) cell inside
+      ∙ ap (λ (o : Option ℕ). unwrap_or o (terrain_at settings.terrain key))
+      (get-empty key_cmp key))
+      ∙ small_no_chest _ (terrain_small settings.terrain (x_of key) (y_of key) (z_of key)));
+}
+
+-- ---- what lies in a cell
+
+-- nothing where it is no chest
+pub none_lies : (sort : Sort) (cell : Cell) (g : Game) → is_in_world cell ≡ true → AreChests g →
+    is_chest (state_in g cell) ≡ false → in_chest sort (chest_at g cell) ≡ 0
+none_lies sort cell g inside a no_chest = step (chest_at g cell) (a.stand cell inside ∙ no_chest)
+  where
+    step : (o : Option (List Pile)) → is_some o ≡ false → in_chest sort o ≡ 0
+    step None none = refl
+    step (Some piles) none = absurd cc
+
+-- and nothing in one that was none, or is none
+pub none_comes : (sort : Sort) (cell : Cell) (state : ℕ) (g : Game) →
+    (if is_chest state then is_chest (state_in g cell) else false) ≡ false →
+    in_chest sort (chest_at (with_state cell state g) cell) ≡ 0
+none_comes sort cell state g no_chest =
+    rw (chest_set g.chests key key (state_in g cell) state, same_key key)
+    (step (is_chest state) (is_chest (state_in g cell)) no_chest)
+  where
+    key : Key
+    key = key_of cell.x (unsigned_abs cell.y) cell.z
+
+    step : (b c : Bool) → (if b then c else false) ≡ false → in_chest sort (if b then (if c then
+        get g.chests key else Some empty_chest) else None) ≡ 0
+    step true true other = absurd cc
+    step true false other = refl
+    step false c other = refl
