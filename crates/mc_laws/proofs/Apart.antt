@@ -1,5 +1,6 @@
 -- What connections have to do with one another: nothing but the game.
 pub mod Outs
+pub mod Alike
 pub mod BadFrames
 pub mod Senders
 pub mod Befores

@@ -64,7 +64,7 @@ few_inserted true n m le = omega (arith, le)
 few_inserted false n m le = omega (arith, le)
 
 -- the map of a list has no more entries than the list
-pub few_entries : {K X : Type 0} (R : K → K → Ordering) (o : IsTotalOrder R) (es : List (K × X))
+few_entries : {K X : Type 0} (R : K → K → Ordering) (o : IsTotalOrder R) (es : List (K × X))
     → len (from_entries {R = R} es) ≤ length es
 few_entries {X = X} R o [] = rw (len-empty R X) (omega arith)
 few_entries R o (e ∷ es) = rw (len-insert o (from_entries es) e.0 e.1)

@@ -9,6 +9,7 @@ use Rattle.mc_fields.specs.declared.position.Spot.{Spot}
 use Rattle.mc_model.specs.Numbers.{fixed_of, turn_of}
 use Rattle.mc_model.specs.Movement.{both, moved, turned}
 use Rattle.mc_model.specs.Fitting.{SpotFits}
+use Rattle.mc_model.proofs.Maps.Options.{some_is}
 use Rattle.mc_model.proofs.ThingFacts.{rest_below}
 
 -- ---- turns
@@ -20,10 +21,6 @@ pub record IsTurned (spot : Spot) : Type 0 where
 
 pub spot_turned : (spot : Spot) → SpotFits spot → IsTurned spot
 spot_turned spot fits = record { yaw = fits.yaw; pitch = fits.pitch }
-
--- what is there is one thing
-pub some_is : {A : Type 0} (a b : A) → ◌≡◌ {A = Option A} (Some a) (Some b) → a ≡ b
-some_is a b e = cc
 
 -- a turn that was worked out is within one turn
 turn_low : (p a : ℕ) → turn_of p ≡ Some a → a < 256

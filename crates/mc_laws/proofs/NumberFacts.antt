@@ -1,7 +1,7 @@
 -- The numbers that are worked out of patterns, and the patterns that are worked out of numbers.
 use Rattle.std.proofs.Common.{◌≡◌, ℕ, zero, suc, ◌+◌, ◌-◌, ◌*◌, ◌^◌, ◌<◌, ◌≤◌, Bool, true, false}
 use Rattle.std.proofs.Common.{cond, refl, sym, subst, ap, ◌∙◌, arith, inl, inr}
-use Rattle.std.specs.Prelude.{◌↔◌, ◌⊎◌, ◌||◌, ◌==◌, nat_le, unsigned_abs, Option, Some, None}
+use Rattle.std.specs.Prelude.{◌↔◌, ◌⊎◌, ◌||◌, ◌==◌, nat_le, unsigned_abs, Some, None}
 use Rattle.std.specs.Prelude.{if◌then◌else◌}
 use Rattle.std.specs.Int.{int_div_euclid, int_rem_euclid}
 use Rattle.std.proofs.Math.Nat.{pow-suc, pow-le-pow_right}
@@ -17,6 +17,7 @@ use Rattle.mc_fields.proofs.Floors.{raised_low, raised_high}
 use Rattle.mc_fields.proofs.Patterns.{stands_positive, stands_negative, stands_turn}
 use Rattle.mc_model.specs.Numbers.{fixed_of, turn_of, top_bit, pattern_with, pattern_of, degrees_of}
 use Rattle.mc_model.proofs.FitsNumbers.{top_bit_above, top_bit_below}
+use Rattle.mc_model.proofs.Maps.Options.{some_is}
 
 -- ---- floors
 
@@ -33,10 +34,6 @@ div_floor negative size bottom some =
     same : (z : ℤ) → int_div_euclid z (pos bottom) ≡ shr_z z bottom
     same (pos a) = refl
     same (negsuc a) = refl
-
--- what is there is one thing
-some_is : {A : Type 0} (a b : A) → ◌≡◌ {A = Option A} (Some a) (Some b) → a ≡ b
-some_is a b e = cc
 
 -- a binary64 pattern
 pub fixes : (p : ℕ) (n : ℤ) → fixed_of p ≡ Some n → Fixes p n

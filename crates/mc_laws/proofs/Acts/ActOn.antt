@@ -1,5 +1,5 @@
 -- Whatever a player does takes the game onward, and leaves it and its chests good: by deeds.
-use Rattle.std.proofs.Common.{◌≡◌, ℕ, List, [], ◌∷◌, Some, refl, sym, subst}
+use Rattle.std.proofs.Common.{◌≡◌, ℕ, List, [], ◌∷◌, Some, refl, sym, subst, arith}
 use Rattle.mc_up.specs.declared.play_up.PlayUp.{PlayUp}
 use Rattle.mc_model.specs.Game.{Game}
 use Rattle.mc_model.specs.Acts.{act}
@@ -8,8 +8,8 @@ use Rattle.mc_laws.proofs.Deeds.Chests.{GoodGame, same_chests, with_state_chests
 use Rattle.mc_laws.proofs.Deeds.Coming.{spawned_good}
 use Rattle.mc_laws.proofs.Deeds.Goods.{rehand_good, repack_good, stand_good}
 use Rattle.mc_laws.proofs.Deeds.Keeping.{players_whole}
-use Rattle.mc_laws.proofs.Deeds.Onwards.{Onward, nothing_on, players_on, rehand_on, repack_on}
-use Rattle.mc_laws.proofs.Deeds.Onwards.{said_on, so, stand_on, thrown_on, with_state_on}
+use Rattle.mc_laws.proofs.Deeds.Onwards.{Onward, players_on, rehand_on, repack_on, same_on, so}
+use Rattle.mc_laws.proofs.Deeds.Onwards.{stand_on, thrown_on}
 use Rattle.mc_laws.proofs.Deeds.Made.{AreDeeds, Deed, rehands, repacks, says, sets, stands}
 use Rattle.mc_laws.proofs.Deeds.Made.{throws, touches}
 use Rattle.mc_laws.proofs.Acts.ActMade.{act_made}
@@ -17,7 +17,8 @@ use Rattle.mc_laws.proofs.Acts.ActMade.{act_made}
 module _ (G T H : Type 0) (k : ℕ) where
   deed_on : (g v : Game) → Deed G T H k g v → Onward k g v
   deed_on g v (touches f t fits rest are) = players_on k g v f (λ j p. (t.like j p).name) t.traits
-      are rest.settings rest.age rest.eids (λ old since. rw (rest.eids, rest.entities) since)
+      are rest.settings rest.age (omega (arith, rest.eids))
+      (λ old since. rw (rest.eids, rest.entities) since)
   deed_on g v (repacks p pack there is same) =
       subst (Onward k g) (sym same) (repack_on k p pack g)
   deed_on g v (rehands p hand there small same) =
@@ -27,11 +28,12 @@ module _ (G T H : Type 0) (k : ℕ) where
   deed_on g v (throws item spot can same) =
       subst (Onward k g) (sym same) (thrown_on k item spot g)
   deed_on g v (sets cell state inside is same) =
-      subst (Onward k g) (sym same) (with_state_on k cell state g)
-  deed_on g v (says line fits same) = subst (Onward k g) (sym same) (said_on k line g)
+      subst (Onward k g) (sym same) (same_on k g _ refl refl refl refl refl)
+  deed_on g v (says line fits same) =
+      subst (Onward k g) (sym same) (same_on k g _ refl refl refl refl refl)
 
   pub deeds_on : (g : Game) (us : List Game) (v : Game) → AreDeeds G T H k g us v → Onward k g v
-  deeds_on g [] v are = subst (Onward k g) (sym are) (nothing_on k g)
+  deeds_on g [] v are = subst (Onward k g) (sym are) (same_on k g g refl refl refl refl refl)
   deeds_on g (u ∷ us) v are = so k g u v (deed_on g u are.0) (deeds_on u us v are.1)
 
   pub deed_good : (g v : Game) → Deed G T H k g v → G → Good g → Good v

@@ -49,6 +49,7 @@ use Rattle.mc_model.specs.Fitting.{SpotFits, Told}
 use Rattle.mc_model.proofs.AllFacts.{all_joined}
 use Rattle.mc_model.proofs.FitsNotes.{ConfirmFits}
 use Rattle.mc_model.proofs.Maps.Options.{some_is}
+use Rattle.mc_model.proofs.ThingsKept.{dropped_held}
 use Rattle.mc_laws.proofs.Landings.{IsTurned}
 use Rattle.mc_laws.proofs.ThingsActs.{floor_fits, item_state_is}
 use Rattle.mc_laws.proofs.ThingsFit.{NotesFit, air, block_is_item, spawn_fits}
@@ -61,7 +62,7 @@ use Rattle.mc_laws.proofs.Deeds.Made.{Deed, Made, MadeWith, before, by_deed, by_
 use Rattle.mc_laws.proofs.Deeds.Made.{gained, rehands, repacks, sets, spent, stands, throws}
 use Rattle.mc_laws.proofs.Deeds.Made.{untouched}
 use Rattle.mc_laws.proofs.Deeds.Thrown.{all_thrown_made, chest_are, chest_held, in_items}
-use Rattle.mc_laws.proofs.Fits.Told.{CanCome, cell_told, dropped_held, holding_told, spot_told}
+use Rattle.mc_laws.proofs.Fits.Told.{CanCome, cell_told, holding_told, spot_told}
 
 -- what is within a range is not large
 within_small : (low high : ℕ) (n : ℤ) → suc low ≤ high →

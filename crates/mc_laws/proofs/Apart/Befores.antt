@@ -3,7 +3,7 @@
 use Rattle.std.proofs.Common.{◌≡◌, ℕ, ◌+◌, Bool, true, false, List, [], ◌∷◌, ◌++◌, Option, Some}
 use Rattle.std.proofs.Common.{None, refl, sym, subst, ap, ◌∙◌, inl, inr, append_assoc, length}
 use Rattle.std.proofs.Common.{arith}
-use Rattle.std.specs.Prelude.{◌⊎◌, option_map, suc, unwrap_or, zero, if◌then◌else◌}
+use Rattle.std.specs.Prelude.{◌⊎◌, option_map, suc, zero, if◌then◌else◌}
 use Rattle.std.specs.Ordering.{nat_cmp}
 use Rattle.std.specs.FinMap.{get, get-empty}
 use Rattle.std.proofs.lemmas.List.{append-nil}
@@ -22,7 +22,7 @@ use Rattle.mc_model.specs.Step.{on_frames, read_to, step, still}
 use Rattle.mc_model.specs.Talk.{farewell}
 use Rattle.mc_model.specs.Stages.{is_closed}
 use Rattle.mc_model.specs.Link.{Handing, Link, gone}
-use Rattle.mc_model.specs.World.{Seat, Turn, Unread, World, new_world, nothing_unread, seat_of}
+use Rattle.mc_model.specs.World.{Seat, Turn, Unread, World, new_world, seat_of}
 use Rattle.mc_model.specs.World.{unread_of}
 use Rattle.mc_model.specs.Tick.{tick}
 use Rattle.mc_model.specs.Good.{GoodWorld, in_play}
@@ -40,7 +40,7 @@ use Rattle.mc_laws.proofs.Runs.Promises.{still_new}
 use Rattle.mc_laws.proofs.Runs.Seats.{nobody_yet}
 use Rattle.mc_laws.proofs.Runs.Worlds.{new_good, step_good}
 use Rattle.mc_laws.proofs.Apart.BadFrames.{frames_elsewhere}
-use Rattle.mc_laws.proofs.Decoding.Worlds.{IsEvent, first_bytes}
+use Rattle.mc_laws.proofs.Decoding.Worlds.{IsEvent, first_bytes, no_bytes, rest_in}
 use Rattle.mc_laws.proofs.Headline.Ticks.{after_quiet}
 
 -- ---- lists
@@ -231,12 +231,6 @@ bytes_part k s bytes before came_ = step_at (is_closed s.link.stage) refl
         }
 
 -- ---- any event
-
-abbrev rest_in : Option Unread → List ℕ
-rest_in o = (unwrap_or o nothing_unread).rest
-
-no_bytes : IsBytes []
-no_bytes i = omega arith
 
 -- who is open after a tick was open before it
 open_before : (w : World) (k : ℕ) (l : Link) → GoodWorld w → get w.links k ≡ Some l →

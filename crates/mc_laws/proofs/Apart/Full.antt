@@ -1,15 +1,14 @@
 -- A connection to which too much is due at a tick leaves the world, but for itself, as if its
 -- outbox had had room, and it had gone after the tick.
-use Rattle.std.proofs.Common.{◌≡◌, ◌≢◌, ℕ, Bool, true, false, List, [], ◌++◌, map, Option, Some}
+use Rattle.std.proofs.Common.{◌≡◌, ℕ, Bool, true, false, List, [], ◌++◌, map, Option, Some}
 use Rattle.std.proofs.Common.{None, refl, sym, subst, ap, ◌∙◌, inl, inr, drop}
-use Rattle.std.specs.Prelude.{is_some, option_map, if◌then◌else◌}
+use Rattle.std.specs.Prelude.{is_some, if◌then◌else◌}
 use Rattle.std.specs.List.{filter}
 use Rattle.std.specs.FinMap.{get, keys}
 use Rattle.std.proofs.lemmas.Bool.{cases_eq}
 use Rattle.mc_model.specs.declared.cause.Cause.TheVariants as causes
 use Rattle.mc_model.specs.declared.player.Player.{Player}
 use Rattle.mc_model.specs.Packets.{bytes_of, of_play}
-use Rattle.mc_model.specs.Run.{to}
 use Rattle.mc_model.specs.Sight.{Sight}
 use Rattle.mc_model.specs.Step.{left, ticked, took, is_new, depart, step, take_from}
 use Rattle.mc_model.specs.Talk.{farewell}
@@ -17,11 +16,11 @@ use Rattle.mc_model.specs.Stages.{is_closed}
 use Rattle.mc_model.specs.Game.{Game}
 use Rattle.mc_model.specs.Leaving.{leave, leave_all}
 use Rattle.mc_model.specs.Link.{Link, disconnect, mark_closed, quiet}
-use Rattle.mc_model.specs.Showing.{due, last_shown, sight_of}
+use Rattle.mc_model.specs.Showing.{due}
 use Rattle.mc_model.specs.World.{World, each, is_closing, on_link, seat_of, with_seat}
 use Rattle.mc_model.specs.Pickups.{pickups}
-use Rattle.mc_model.specs.Tick.{aged, at_tick, awaiting, beat, beat_of, flush, grown, is_silent}
-use Rattle.mc_model.specs.Tick.{shown_all, tick, told}
+use Rattle.mc_model.specs.Tick.{at_tick, awaiting, beat, beat_of, grown, is_silent}
+use Rattle.mc_model.specs.Tick.{tick}
 use Rattle.mc_model.specs.Fitting.{Told}
 use Rattle.mc_model.specs.Good.{AreChests, Good, GoodWorld, in_play}
 use Rattle.mc_model.specs.Causes.{IsTooMuch}
@@ -30,12 +29,11 @@ use Rattle.mc_model.specs.Headline.{IsEnded, IsServed, due_to}
 use Rattle.mc_model.proofs.Maps.Options.{none_some}
 use Rattle.mc_model.proofs.Maps.Lookups.{put_other, put_same}
 use Rattle.mc_laws.proofs.Deeds.Leaving.{leave_nobody}
-use Rattle.mc_laws.proofs.Deeds.Swaps.{leave_after}
-use Rattle.mc_laws.proofs.Walk.Each.{disconnect_closes, each_last, each_links}
+use Rattle.mc_laws.proofs.Walk.Each.{disconnect_closes}
 use Rattle.mc_laws.proofs.Walk.Handings.{gone_closed}
-use Rattle.mc_laws.proofs.Walk.Ticking.{at_tick_shown, tick_handed, tick_link, tick_shown}
 use Rattle.mc_laws.proofs.Walk.Ticking.{tick_unread}
-use Rattle.mc_laws.proofs.Apart.Outs.{handed_by}
+use Rattle.mc_laws.proofs.Apart.Alike.{TicksAlike, hands_same, last_same, left_same, shown_same}
+use Rattle.mc_laws.proofs.Apart.Alike.{tick_same}
 use Rattle.mc_laws.proofs.Headline.Ticks.{at_tick_hands}
 
 -- whether a beat closes a connection does not hang on what it is owed
@@ -100,7 +98,7 @@ module _ (k : ℕ) (w v : World) (good : GoodWorld w) (a : OwesOther k w v) wher
         beat (grown v.game) (get v.shown j) j l) i) (a.links i ne)
   ]
 
-  pub same_tick : (at_tick w).game ≡ (at_tick v).game
+  same_tick : (at_tick w).game ≡ (at_tick v).game
   unfolding each
   same_tick = ap pickups (
       (λ x. leave_all (filter (λ (i : ℕ). is_closing (λ (j : ℕ) (l : Link).
@@ -109,64 +107,14 @@ module _ (k : ℕ) (w v : World) (good : GoodWorld w) (a : OwesOther k w v) wher
       ∙ (λ x. leave_all (filter (λ (i : ℕ). closing_same i x) (keys v.game.players))
       (grown v.game)))
 
-  same_shown : (at_tick w).shown ≡ (at_tick v).shown
-  same_shown = at_tick_shown w ∙ a.shown ∙ sym (at_tick_shown v)
-
-  same_links : (j : ℕ) → j ≢ k → get (at_tick w).links j ≡ get (at_tick v).links j
-  same_links j ne =
-      each_links (λ (i : ℕ) (l : Link). beat (grown w.game) (get w.shown i) i l) (aged w) j
-      ∙ (λ x. option_map (λ (l : Link).
-      (beat (grown (a.game x)) (get (a.shown x) j) j l).link) (a.links j ne x))
-      ∙ sym (each_links (λ (i : ℕ) (l : Link). beat (grown v.game) (get v.shown i) i l) (aged v) j)
-
-  -- ---- after it
-
-  -- all others are made the same of, and handed the same
-  tick_same : (j : ℕ) → j ≢ k → get (tick w).world.links j ≡ get (tick v).world.links j
-  tick_same j ne = tick_link w j
-      ∙ (λ x. option_map (λ (l : Link). (flush (same_tick x) (get (a.shown x) j) j
-      (beat (grown (a.game x)) (get (a.shown x) j) j l).link).link) (a.links j ne x))
-      ∙ sym (tick_link v j)
-
-  hands_same : (j : ℕ) → j ≢ k → to j (tick w).out ≡ to j (tick v).out
-  hands_same j ne = tick_handed w j
-      ∙ (λ x. handed_by (λ (i : ℕ) (l : Link).
-      (beat (grown (a.game x)) (get (a.shown x) i) i l).handed
-      ++ (flush (same_tick x) (get (a.shown x) i) i
-      (beat (grown (a.game x)) (get (a.shown x) i) i l).link).handed) j (a.links j ne x))
-      ∙ sym (tick_handed v j)
-
-  shown_same : (j : ℕ) → get (tick w).world.shown j ≡ get (tick v).world.shown j
-  shown_same j = tick_shown w j
-      ∙ (λ x. option_map (λ (p : Player).
-      sight_of (same_tick x) p (last_shown (get (a.shown x) j))) (get (same_tick x).players j))
-      ∙ sym (tick_shown v j)
-
-  last_same : (tick w).world.last ≡ (tick v).world.last
-  last_same =
-      each_last (λ (i : ℕ) (l : Link). flush (at_tick w).game (get (at_tick w).shown i) i l)
-      (shown_all (at_tick w))
-      ∙ each_last (λ (i : ℕ) (l : Link). beat (grown w.game) (get w.shown i) i l) (aged w)
-      ∙ a.last
-      ∙ sym (each_last (λ (i : ℕ) (l : Link).
-      flush (at_tick v).game (get (at_tick v).shown i) i l) (shown_all (at_tick v))
-      ∙ each_last (λ (i : ℕ) (l : Link). beat (grown v.game) (get v.shown i) i l) (aged v))
-
-  -- once it left both, the games are the same
-  left_same : leave k (tick w).world.game ≡ leave k (tick v).world.game
-  unfolding each
-  left_same =
-      leave_after k
-      (λ (i : ℕ). is_closing (λ (j : ℕ) (l : Link).
-      flush (at_tick w).game (get (at_tick w).shown j) j l) i (get (at_tick w).links i))
-      (λ (i : ℕ). is_closing (λ (j : ℕ) (l : Link).
-      flush (at_tick w).game (get (at_tick w).shown j) j l) i (get (at_tick v).links i))
-      (λ i ne. ap (is_closing (λ (j : ℕ) (l : Link).
-      flush (at_tick w).game (get (at_tick w).shown j) j l) i) (same_links i ne))
-      (keys (told (at_tick w).game).players) (told (at_tick w).game)
-      ∙ (λ x. leave k (leave_all (filter (λ (i : ℕ). is_closing (λ (j : ℕ) (l : Link).
-      flush (same_tick x) (get (same_shown x) j) j l) i (get (at_tick v).links i))
-      (keys (told (same_tick x)).players)) (told (same_tick x))))
+  alike : TicksAlike k w v
+  alike = record {
+    game = same_tick;
+    last = a.last;
+    links = a.links;
+    shown = λ j ne. ap (λ m. get m j) a.shown;
+    beats = λ j ne l. λ x. beat (grown (a.game x)) (get (a.shown x) j) j l;
+  }
 
 -- ---- a full outbox
 
@@ -181,12 +129,15 @@ served_link v k l p = record (awaiting (grown v.game) (get v.shown k) l) {
 }
 
 module _ (k : ℕ) (w v : World) (good : GoodWorld w) (h : IsFullIn k w v) where
+  same : TicksAlike k w v
+  same = alike k w v good h.alike
+
   abbrev last_link : Link
   last_link = served_link v k (record h.alike.link { owed = h.alike.owed }) h.player
 
   due_same : due_to w k h.player ≡ due_to v k h.player
   due_same = λ x. map of_play
-      (due (same_tick k w v good h.alike x) (get (h.alike.shown x) k) h.player)
+      (due (same.game x) (get (h.alike.shown x) k) h.player)
 
   ended : IsEnded k (tick w) (quiet (closed_link w k h.alike.link))
   unfolding step
@@ -204,7 +155,7 @@ module _ (k : ℕ) (w v : World) (good : GoodWorld w) (h : IsFullIn k w v) where
 
   game_same : (tick w).world.game ≡ leave k (tick v).world.game
   game_same = sym (leave_nobody k (tick w).world.game ended.gone)
-      ∙ left_same k w v good h.alike
+      ∙ left_same k w v same
 
   abbrev then_left : World
   then_left = with_seat (tick v).world k
@@ -214,13 +165,13 @@ module _ (k : ℕ) (w v : World) (good : GoodWorld w) (h : IsFullIn k w v) where
   full_twin = record {
     game = game_same ∙ ap (λ (b : Bool). if b then leave k (tick v).world.game
         else (tick v).world.game) (sym (gone_closed causes.Gone last_link));
-    last = last_same k w v good h.alike;
-    links = λ j ne. tick_same k w v good h.alike j ne
+    last = last_same k w v same;
+    links = λ j ne. tick_same k w v same j ne
         ∙ sym (put_other (tick v).world.links k j _ ne);
     unread = λ j ne. ap (λ m. get m j) (tick_unread w) ∙ h.alike.unread j ne
         ∙ sym (ap (λ m. get m j) (tick_unread v))
         ∙ sym (put_other (tick v).world.unread k j _ ne);
-    shown = λ j ne. shown_same k w v good h.alike j;
+    shown = shown_same k w v same;
     shut = subst IsShut (sym ended.link) refl;
     shut_too = subst IsShut (sym (put_same (tick v).world.links k _))
         (gone_closed causes.Gone last_link);
@@ -231,7 +182,7 @@ module _ (k : ℕ) (w v : World) (good : GoodWorld w) (h : IsFullIn k w v) where
   unfolding step
   full_as_left = (
     rw served.link full_twin,
-    hands_same k w v good h.alike,
+    hands_same k w v same,
   )
 
 -- ---- room

@@ -1,13 +1,12 @@
 -- A client that was silent for too long at a tick leaves the world, but for itself, as if it had
 -- gone before the tick.
-use Rattle.std.proofs.Common.{◌≡◌, ◌≢◌, ℕ, Bool, true, cond, ◌++◌, Option, Some, None, refl, sym}
+use Rattle.std.proofs.Common.{◌≡◌, ◌≢◌, ℕ, Bool, true, cond, Option, Some, None, refl, sym}
 use Rattle.std.proofs.Common.{subst, ap, ◌∙◌}
-use Rattle.std.specs.Prelude.{◌==◌, not, option_map, if◌then◌else◌}
+use Rattle.std.specs.Prelude.{◌==◌, not, if◌then◌else◌}
 use Rattle.std.specs.List.{filter}
 use Rattle.std.specs.FinMap.{get, keys}
 use Rattle.mc_model.specs.declared.cause.Cause.TheVariants as causes
 use Rattle.mc_model.specs.declared.player.Player.{Player}
-use Rattle.mc_model.specs.Run.{to}
 use Rattle.mc_model.specs.Sight.{Sight}
 use Rattle.mc_model.specs.Step.{left, ticked, depart, step}
 use Rattle.mc_model.specs.Talk.{farewell}
@@ -16,23 +15,21 @@ use Rattle.mc_model.specs.Stages.{is_closed}
 use Rattle.mc_model.specs.Game.{Game}
 use Rattle.mc_model.specs.Leaving.{leave, leave_all}
 use Rattle.mc_model.specs.Link.{Link, disconnect, gone}
-use Rattle.mc_model.specs.Showing.{last_shown, sight_of}
 use Rattle.mc_model.specs.World.{World, each, is_closing, on_link, seat_of, with_seat}
 use Rattle.mc_model.specs.Pickups.{pickups}
-use Rattle.mc_model.specs.Tick.{aged, at_tick, beat, beat_of, beats, flush, grown, shown_all, tick}
-use Rattle.mc_model.specs.Tick.{told}
+use Rattle.mc_model.specs.Tick.{aged, at_tick, beat, beat_of, beats, grown, tick}
 use Rattle.mc_model.specs.Good.{GoodWorld, in_play}
 use Rattle.mc_model.specs.Apart.{FallsSilent, HandsAlike, IsShut, SameBut}
 use Rattle.mc_model.specs.Headline.{IsEnded}
 use Rattle.mc_model.proofs.Maps.Lookups.{put_other, put_same}
 use Rattle.mc_laws.proofs.Deeds.Leaving.{leave_nobody, leave_other, leave_same, leave_stays}
-use Rattle.mc_laws.proofs.Deeds.Swaps.{keys_removed, leave_after, leave_but, leave_first}
-use Rattle.mc_laws.proofs.Deeds.Swaps.{leave_some, leave_without}
-use Rattle.mc_laws.proofs.Walk.Each.{disconnect_closes, each_last, each_links}
+use Rattle.mc_laws.proofs.Deeds.Swaps.{keys_removed, leave_but, leave_first, leave_some}
+use Rattle.mc_laws.proofs.Deeds.Swaps.{leave_without}
+use Rattle.mc_laws.proofs.Walk.Each.{disconnect_closes}
 use Rattle.mc_laws.proofs.Walk.Handings.{gone_closed, not_in_play}
-use Rattle.mc_laws.proofs.Walk.Ticking.{at_tick_shown, beats_player, tick_handed, tick_link}
-use Rattle.mc_laws.proofs.Walk.Ticking.{tick_shown, tick_unread}
-use Rattle.mc_laws.proofs.Apart.Outs.{handed_by}
+use Rattle.mc_laws.proofs.Walk.Ticking.{beats_player, tick_unread}
+use Rattle.mc_laws.proofs.Apart.Alike.{TicksAlike, closing_alike, hands_same, last_same}
+use Rattle.mc_laws.proofs.Apart.Alike.{left_same, shown_same, tick_same}
 use Rattle.mc_laws.proofs.Headline.Ticks.{at_tick_hands, others_stay}
 use Rattle.mc_laws.proofs.Runs.Seats.{nobody_yet}
 use Rattle.mc_laws.proofs.Runs.Worlds.{step_good}
@@ -105,15 +102,10 @@ module _ (k : ℕ) (w : World) (good : GoodWorld w) (h : FallsSilent k w) where
       (λ (j : ℕ) (l : Link). beat (grown before.game) (get w.shown j) j l) i (get before.links i)
 
   closing_same : (i : ℕ) → i ≢ k → closes_here i ≡ closes_there i
-  closing_same i ne = at_link (get w.links i)
-      ∙ ap (is_closing (λ (j : ℕ) (l : Link). beat (grown before.game) (get w.shown j) j l) i)
-      (links_before i ne)
-    where
-      at_link : (o : Option Link) →
-          is_closing (λ (j : ℕ) (l : Link). beat (grown w.game) (get w.shown j) j l) i o
-          ≡ is_closing (λ (j : ℕ) (l : Link). beat (grown before.game) (get w.shown j) j l) i o
-      at_link None = refl
-      at_link (Some l) = ap (λ x. is_closed x.link.stage) (beat_same i ne l)
+  closing_same i ne = closing_alike
+      (λ (j : ℕ) (l : Link). beat (grown w.game) (get w.shown j) j l)
+      (λ (j : ℕ) (l : Link). beat (grown before.game) (get w.shown j) j l) i
+      (get w.links i) (get before.links i) (beat_same i ne) (links_before i ne)
 
   same_tick : (at_tick w).game ≡ (at_tick before).game
   unfolding each
@@ -126,59 +118,16 @@ module _ (k : ℕ) (w : World) (good : GoodWorld w) (h : FallsSilent k w) where
       ∙ (λ x. leave_all (filter closes_there (keys (sym game_before x).players))
       (grown (sym game_before x))))
 
-  same_links : (j : ℕ) → j ≢ k → get (at_tick w).links j ≡ get (at_tick before).links j
-  same_links j ne =
-      each_links (λ (i : ℕ) (l : Link). beat (grown w.game) (get w.shown i) i l) (aged w) j
-      ∙ (λ x. option_map (λ (l : Link). (beat_same j ne l x).link) (links_before j ne x))
-      ∙ sym (each_links (λ (i : ℕ) (l : Link). beat (grown before.game) (get w.shown i) i l)
-      (aged before) j)
+  alike : TicksAlike k w before
+  alike = record {
+    game = same_tick;
+    last = refl;
+    links = links_before;
+    shown = λ j ne. refl;
+    beats = beat_same;
+  }
 
   -- ---- after it
-
-  same_shown : (at_tick w).shown ≡ (at_tick before).shown
-  same_shown = at_tick_shown w ∙ sym (at_tick_shown before)
-
-  tick_same : (j : ℕ) → j ≢ k → get (tick w).world.links j ≡ get (tick before).world.links j
-  tick_same j ne = tick_link w j
-      ∙ (λ x. option_map (λ (l : Link). (flush (same_tick x) (get w.shown j) j
-      (beat_same j ne l x).link).link) (links_before j ne x))
-      ∙ sym (tick_link before j)
-
-  hands_same : (j : ℕ) → j ≢ k → to j (tick w).out ≡ to j (tick before).out
-  hands_same j ne = tick_handed w j ∙ at_link (get w.links j)
-      ∙ ap (handed_by (λ (i : ℕ) (l : Link).
-      (beat (grown before.game) (get w.shown i) i l).handed
-      ++ (flush (at_tick before).game (get w.shown i) i
-      (beat (grown before.game) (get w.shown i) i l).link).handed) j) (links_before j ne)
-      ∙ sym (tick_handed before j)
-    where
-      at_link : (o : Option Link) →
-          handed_by (λ (i : ℕ) (l : Link). (beat (grown w.game) (get w.shown i) i l).handed
-          ++ (flush (at_tick w).game (get w.shown i) i
-          (beat (grown w.game) (get w.shown i) i l).link).handed) j o
-          ≡ handed_by (λ (i : ℕ) (l : Link).
-          (beat (grown before.game) (get w.shown i) i l).handed
-          ++ (flush (at_tick before).game (get w.shown i) i
-          (beat (grown before.game) (get w.shown i) i l).link).handed) j o
-      at_link None = refl
-      at_link (Some l) = λ x. (beat_same j ne l x).handed
-          ++ (flush (same_tick x) (get w.shown j) j (beat_same j ne l x).link).handed
-
-  shown_same : (j : ℕ) → get (tick w).world.shown j ≡ get (tick before).world.shown j
-  shown_same j = tick_shown w j
-      ∙ (λ x. option_map (λ (p : Player).
-      sight_of (same_tick x) p (last_shown (get w.shown j))) (get (same_tick x).players j))
-      ∙ sym (tick_shown before j)
-
-  last_same : (tick w).world.last ≡ (tick before).world.last
-  last_same =
-      each_last (λ (i : ℕ) (l : Link). flush (at_tick w).game (get (at_tick w).shown i) i l)
-      (shown_all (at_tick w))
-      ∙ each_last (λ (i : ℕ) (l : Link). beat (grown w.game) (get w.shown i) i l) (aged w)
-      ∙ sym (each_last (λ (i : ℕ) (l : Link).
-      flush (at_tick before).game (get (at_tick before).shown i) i l) (shown_all (at_tick before))
-      ∙ each_last (λ (i : ℕ) (l : Link). beat (grown before.game) (get w.shown i) i l)
-      (aged before))
 
   ended : IsEnded k (tick w)
       (disconnect h.link causes.Silent (farewell h.link.stage causes.Silent))
@@ -197,30 +146,16 @@ module _ (k : ℕ) (w : World) (good : GoodWorld w) (h : FallsSilent k w) where
       ((step_good before ticked good_before).plays k ∙ ap in_play link_then
       ∙ not_in_play (gone causes.Gone h.link).stage closed)
 
-  left_same : leave k (tick w).world.game ≡ leave k (tick before).world.game
-  unfolding each
-  left_same =
-      leave_after k
-      (λ (i : ℕ). is_closing (λ (j : ℕ) (l : Link).
-      flush (at_tick w).game (get (at_tick w).shown j) j l) i (get (at_tick w).links i))
-      (λ (i : ℕ). is_closing (λ (j : ℕ) (l : Link).
-      flush (at_tick w).game (get (at_tick w).shown j) j l) i (get (at_tick before).links i))
-      (λ i ne. ap (is_closing (λ (j : ℕ) (l : Link).
-      flush (at_tick w).game (get (at_tick w).shown j) j l) i) (same_links i ne))
-      (keys (told (at_tick w).game).players) (told (at_tick w).game)
-      ∙ (λ x. leave k (leave_all (filter (λ (i : ℕ). is_closing (λ (j : ℕ) (l : Link).
-      flush (same_tick x) (get (same_shown x) j) j l) i (get (at_tick before).links i))
-      (keys (told (same_tick x)).players)) (told (same_tick x))))
-
   silent_twin : SameBut k (tick w).world (tick before).world
   silent_twin = record {
-    game = sym (leave_nobody k (tick w).world.game ended.gone) ∙ left_same
+    game = sym (leave_nobody k (tick w).world.game ended.gone)
+        ∙ left_same k w before alike
         ∙ leave_nobody k (tick before).world.game nobody_then;
-    last = last_same;
-    links = tick_same;
+    last = last_same k w before alike;
+    links = tick_same k w before alike;
     unread = λ j ne. ap (λ m. get m j) (tick_unread w)
         ∙ sym (ap (λ m. get m j) (tick_unread before) ∙ put_other w.unread k j _ ne);
-    shown = λ j ne. shown_same j;
+    shown = shown_same k w before alike;
     shut = subst IsShut (sym ended.link)
         (disconnect_closes h.link causes.Silent (farewell h.link.stage causes.Silent));
     shut_too = subst IsShut (sym link_then) closed;
@@ -233,4 +168,4 @@ module _ (k : ℕ) (w : World) (good : GoodWorld w) (h : FallsSilent k w) where
   silent_as_left = subst (λ (v : World). SameBut k (tick w).world (tick v).world
       × HandsAlike k (tick w) (tick v))
       (sym (ap (λ (o : Option Link). (on_link w k (depart k causes.Gone) o).world) h.here))
-      (silent_twin, hands_same)
+      (silent_twin, hands_same k w before alike)

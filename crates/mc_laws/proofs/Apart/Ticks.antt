@@ -1,28 +1,29 @@
 -- Two worlds that are the same but for one connection stay so over a tick, and all others are
 -- handed the same.
-use Rattle.std.proofs.Common.{◌≡◌, ◌≢◌, ℕ, Bool, true, false, cond, List, [], ◌∷◌, ◌++◌, Option}
-use Rattle.std.proofs.Common.{Some, None, refl, sym, subst, ap, ◌∙◌}
-use Rattle.std.specs.Prelude.{◌||◌, is_some, option_map}
-use Rattle.std.specs.List.{filter, list_any}
-use Rattle.std.specs.Ordering.{nat_cmp, eq_by_cmp}
-use Rattle.std.specs.FinMap.{contains_key-keys, get, keys}
+use Rattle.std.proofs.Common.{◌≡◌, ◌≢◌, ℕ, Bool, true, false, cond, Option, Some, None, refl, sym}
+use Rattle.std.proofs.Common.{subst, ap, ◌∙◌}
+use Rattle.std.specs.Prelude.{is_some, option_map}
+use Rattle.std.specs.List.{filter}
+use Rattle.std.specs.FinMap.{get, keys}
 use Rattle.mc_model.specs.declared.player.Player.{Player}
 use Rattle.mc_model.specs.Stages.{is_closed}
 use Rattle.mc_model.specs.Game.{Game}
-use Rattle.mc_model.specs.Leaving.{leave_all}
+use Rattle.mc_model.specs.Leaving.{leave, leave_all}
 use Rattle.mc_model.specs.Link.{Handing, Link, quiet}
 use Rattle.mc_model.specs.Showing.{last_shown, sight_of}
-use Rattle.mc_model.specs.World.{World, closed_by, each, is_closing}
+use Rattle.mc_model.specs.World.{World, each, is_closing}
 use Rattle.mc_model.specs.Pickups.{pickups}
 use Rattle.mc_model.specs.Tick.{aged, at_tick, beat, beat_of, beats, flush, flush_of, flushed}
-use Rattle.mc_model.specs.Tick.{grown, shown_all, tick, tick_hands, told}
+use Rattle.mc_model.specs.Tick.{grown, shown_all, tick, told}
 use Rattle.mc_model.specs.Good.{GoodWorld, in_play}
 use Rattle.mc_model.specs.Apart.{AlikeBut, IsShut, SameBut}
-use Rattle.mc_model.proofs.Maps.Lookups.{get_keyed, tied_number}
+use Rattle.mc_model.proofs.Maps.Lookups.{get_keyed}
+use Rattle.mc_laws.proofs.Deeds.Leaving.{leave_nobody}
+use Rattle.mc_laws.proofs.Deeds.Swaps.{leave_after}
 use Rattle.mc_laws.proofs.Walk.Handings.{not_in_play}
-use Rattle.mc_laws.proofs.Walk.Each.{each_links}
+use Rattle.mc_laws.proofs.Walk.Each.{each_links, each_players}
 use Rattle.mc_laws.proofs.Runs.Worlds.{at_tick_world}
-use Rattle.mc_laws.proofs.Apart.Outs.{handed_by, to_each}
+use Rattle.mc_laws.proofs.Apart.Alike.{closing_alike, hands_same}
 
 -- ---- nobody plays there
 
@@ -38,46 +39,32 @@ nobody k w a shut = none_of (get w.game.players k) (a.plays k ∙ not_played (ge
     none_of None e = refl
     none_of (Some p) e = absurd cc
 
--- tests that agree but at k pick the same of a list that has no k
-filter_alike : (k : ℕ) (t u : ℕ → Bool) (ks : List ℕ) →
-    list_any (eq_by_cmp nat_cmp k) ks ≡ false → ((i : ℕ) → i ≢ k → t i ≡ u i) →
-    filter t ks ≡ filter u ks
-filter_alike k t u [] none alike = refl
-filter_alike k t u (i ∷ ks) none alike =
-    let parts = neither (eq_by_cmp nat_cmp k i) (list_any (eq_by_cmp nat_cmp k) ks) none in
-    let ne : i ≢ k = λ same. clash (sym (ap (eq_by_cmp nat_cmp k) same ∙ tied_number k) ∙ parts.0)
-    in
-    ap (λ (b : Bool). cond b (i ∷ filter t ks) (filter t ks)) (alike i ne)
-    ∙ ap (λ (js : List ℕ). cond (u i) (i ∷ js) js) (filter_alike k t u ks parts.1 alike)
-  where
-    neither : (a b : Bool) → (a || b) ≡ false → (a ≡ false) × (b ≡ false)
-    neither true b e = absurd cc
-    neither false b e = (refl, e)
-
-    clash : true ≡ false → ⊥
-    clash e = cc
-
 -- ---- each is handed something
 
 module _ (k : ℕ) (f g : ℕ → Link → Handing) (w v : World)
     (alike : (i : ℕ) → i ≢ k → (l : Link) → f i l ≡ g i l)
     (a : SameBut k w v) (none : get w.game.players k ≡ None)
     (rests : (l : Link) → f k l ≡ quiet l) (rests_too : (l : Link) → g k l ≡ quiet l) where
-  closing_alike : (i : ℕ) → i ≢ k →
-      is_closing f i (get w.links i) ≡ is_closing g i (get v.links i)
-  closing_alike i ne = ap (is_closing f i) (a.links i ne) ∙ at_link (get v.links i)
+  gone : (h : ℕ → Link → Handing) (u : World) → get u.game.players k ≡ None →
+      get (each h u).game.players k ≡ None
+  gone h u nobody_ = each_players h u k ∙ ap (cond (is_closing h k (get u.links k)) None) nobody_
+      ∙ either (is_closing h k (get u.links k))
     where
-      at_link : (o : Option Link) → is_closing f i o ≡ is_closing g i o
-      at_link None = refl
-      at_link (Some l) = ap (λ (h : Handing). is_closed h.link.stage) (alike i ne l)
+      either : (b : Bool) → ◌≡◌ {A = Option Player} (cond b None None) None
+      either true = refl
+      either false = refl
 
-  closed_alike : closed_by f w ≡ closed_by g v
-  closed_alike =
-      filter_alike k (λ (i : ℕ). is_closing f i (get w.links i))
-      (λ (i : ℕ). is_closing g i (get v.links i)) (keys w.game.players)
-      (sym (contains_key-keys w.game.players k) ∙ ap is_some none) closing_alike
-      ∙ ap (λ (h : Game). filter (λ (i : ℕ). is_closing g i (get v.links i)) (keys h.players))
-      a.game
+  same_game : (each f w).game ≡ (each g v).game
+  unfolding each
+  same_game = sym (leave_nobody k (each f w).game (gone f w none))
+      ∙ leave_after k (λ (i : ℕ). is_closing f i (get w.links i))
+      (λ (i : ℕ). is_closing g i (get v.links i))
+      (λ i ne. closing_alike f g i (get w.links i) (get v.links i) (alike i ne) (a.links i ne))
+      (keys w.game.players) w.game
+      ∙ (λ x. leave k (leave_all (filter (λ (i : ℕ). is_closing g i (get v.links i))
+      (keys (a.game x).players)) (a.game x)))
+      ∙ leave_nobody k (each g v).game
+      (gone g v (ap (λ (h : Game). get h.players k) (sym a.game) ∙ none))
 
   stays_shut : (h : ℕ → Link → Handing) (o : Option Link) → ((l : Link) → h k l ≡ quiet l) →
       IsShut o → IsShut (option_map (λ (l : Link). (h k l).link) o)
@@ -88,7 +75,7 @@ module _ (k : ℕ) (f g : ℕ → Link → Handing) (w v : World)
   pub each_apart : SameBut k (each f w) (each g v)
   unfolding each
   each_apart = record {
-    game = λ i. leave_all (closed_alike i) (a.game i);
+    game = same_game;
     last = a.last;
     links = λ i ne. each_links f w i ∙ ap (option_map (λ (l : Link). (f i l).link)) (a.links i ne)
         ∙ at_link i ne (get v.links i) ∙ sym (each_links g v i);
@@ -167,21 +154,11 @@ tick_apart k w v good a =
     let b = ticks_alike k w v good a in
     record {
       worlds = flushes_alike k (at_tick w) (at_tick v) (at_tick_world w good) b;
-      hands = λ j ne. to_each (λ (i : ℕ) (l : Link). tick_hands w i l) j w.links
-          ∙ ap (handed_by (λ (i : ℕ) (l : Link). tick_hands w i l) j) (a.links j ne)
-          ∙ at_link b j ne (get v.links j)
-          ∙ sym (to_each (λ (i : ℕ) (l : Link). tick_hands v i l) j v.links);
+      hands = hands_same k w v (record {
+        game = b.game;
+        last = a.last;
+        links = a.links;
+        shown = a.shown;
+        beats = λ j ne l. λ x. beat (grown (a.game x)) (a.shown j ne x) j l;
+      });
     }
-  where
-    hands_alike : SameBut k (at_tick w) (at_tick v) → (j : ℕ) → j ≢ k → (l : Link) →
-        tick_hands w j l ≡ tick_hands v j l
-    hands_alike b j ne l = λ x.
-        (beat (grown (a.game x)) (a.shown j ne x) j l).handed
-        ++ (flush (b.game x) (a.shown j ne x) j
-        (beat (grown (a.game x)) (a.shown j ne x) j l).link).handed
-
-    at_link : SameBut k (at_tick w) (at_tick v) → (j : ℕ) → j ≢ k → (o : Option Link) →
-        handed_by (λ (i : ℕ) (l : Link). tick_hands w i l) j o
-        ≡ handed_by (λ (i : ℕ) (l : Link). tick_hands v i l) j o
-    at_link b j ne None = refl
-    at_link b j ne (Some l) = hands_alike b j ne l

@@ -2,7 +2,7 @@
 -- frame of the bytes that came from it.
 use Rattle.std.proofs.Common.{◌≡◌, ℕ, true, false, List, [], ◌∷◌, ◌++◌, map, Option, Some, None}
 use Rattle.std.proofs.Common.{refl, sym, subst, ap, ◌∙◌, append_assoc, arith, ◌≤◌}
-use Rattle.std.specs.Prelude.{is_some, option_map, unwrap_or, if◌then◌else◌}
+use Rattle.std.specs.Prelude.{is_some, option_map, if◌then◌else◌}
 use Rattle.std.specs.Ordering.{nat_cmp}
 use Rattle.std.specs.FinMap.{get, get-empty}
 use Rattle.std.proofs.lemmas.List.{append-nil}
@@ -22,7 +22,7 @@ use Rattle.mc_model.specs.Game.{AreSettings}
 use Rattle.mc_model.specs.Stages.{is_closed, is_play}
 use Rattle.mc_model.specs.Link.{Handing, Link, gone, mark_closed, new_link}
 use Rattle.mc_model.specs.Showing.{due}
-use Rattle.mc_model.specs.World.{Unread, World, new_world, nothing_unread, seat_of, unread_of}
+use Rattle.mc_model.specs.World.{Unread, World, new_world, seat_of, unread_of}
 use Rattle.mc_model.specs.Tick.{at_tick, awaiting, grown, tick, tick_hands}
 use Rattle.mc_model.specs.Good.{GoodWorld, in_play}
 use Rattle.mc_model.proofs.Decodes.{decodes_bytes}
@@ -41,8 +41,8 @@ use Rattle.mc_laws.proofs.Runs.Promises.{still_new}
 use Rattle.mc_laws.proofs.Fits.Clear.{clear_decodes, due_clear}
 use Rattle.mc_laws.proofs.Decoding.Frames.{bytes_decode}
 use Rattle.mc_laws.proofs.Decoding.Worlds.{IsEvent, SoundWorld, at_tick_sound, first_bytes}
-use Rattle.mc_laws.proofs.Decoding.Worlds.{last_fits, new_world_sound, step_sound, unread_bytes}
-use Rattle.mc_laws.proofs.Decoding.Worlds.{world_seat}
+use Rattle.mc_laws.proofs.Decoding.Worlds.{last_fits, new_world_sound, rest_in, step_sound}
+use Rattle.mc_laws.proofs.Decoding.Worlds.{unread_bytes, world_seat}
 
 -- what came from a connection up to a world of a run, and what was handed to it: by the first of
 -- those bytes its client decodes these packets
@@ -79,9 +79,6 @@ changed_so k v l m bytes packets more good there before hands waits are =
       decoded = at_decoded (decoder_of bytes) m.stage (packets ++ more) now;
       are = are;
     }
-
-abbrev rest_in : Option Unread → List ℕ
-rest_in o = (unwrap_or o nothing_unread).rest
 
 -- ---- its own turns
 

@@ -60,14 +60,17 @@ first_bytes (forgot k) events are = (tt, are)
 
 -- ---- a seat of such a world
 
-no_bytes : IsBytes []
+pub no_bytes : IsBytes []
 no_bytes i = omega arith
+
+-- the bytes that are not read
+abbrev pub rest_in : Option Unread → List ℕ
+rest_in o = (unwrap_or o nothing_unread).rest
 
 pub unread_bytes : (w : World) (k : ℕ) → SoundWorld w → IsBytes (unread_of k w).rest
 unread_bytes w k sound = step_at (get w.unread k) refl
   where
-    step_at : (o : Option Unread) → get w.unread k ≡ o →
-        IsBytes (unwrap_or o nothing_unread).rest
+    step_at : (o : Option Unread) → get w.unread k ≡ o → IsBytes (rest_in o)
     step_at None is = no_bytes
     step_at (Some u) is = sound.unread k u is
 

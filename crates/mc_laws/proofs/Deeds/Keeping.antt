@@ -1,6 +1,6 @@
 -- A game stays good where its players are as they were but for what the law does not read, and
 -- where one of them changes together with its pack and its entity.
-use Rattle.std.proofs.Common.{◌≡◌, ◌≢◌, ℕ, ◌<◌, true, List, Some, None, refl, sym, subst}
+use Rattle.std.proofs.Common.{◌≡◌, ◌≢◌, ℕ, ◌<◌, true, List, Some, None, sym, subst}
 use Rattle.std.proofs.Common.{ap, ◌∙◌, inl, inr, arith}
 use Rattle.std.specs.Prelude.{option_map}
 use Rattle.std.proofs.lemmas.Bool.{cases_eq}
@@ -29,9 +29,6 @@ pub record IsLike (p q : Player) : Type 0 where
   pub uuid : p.uuid ≡ q.uuid
   pub name : p.name ≡ q.name
   pub hand : p.hand ≡ q.hand
-
-pub itself : (p : Player) → IsLike p p
-itself p = record { eid = refl; uuid = refl; name = refl; hand = refl }
 
 -- a player of a connection was there, and was like it
 record Was (players : FinMap nat_cmp Player) (j : ℕ) (p : Player) : Type 0 where

@@ -3,9 +3,9 @@ use Rattle.std.proofs.Common.{◌≡◌, ◌≢◌, ℕ, Bool, true, false, cond
 use Rattle.std.proofs.Common.{None, refl, sym, subst, ap, ◌∙◌, inl, inr}
 use Rattle.std.specs.Prelude.{◌&&◌, ◌||◌, is_some}
 use Rattle.std.proofs.lemmas.Bool.{cases_eq}
-use Rattle.std.specs.List.{filter, list_any}
+use Rattle.std.specs.List.{filter, fold, list_any}
 use Rattle.std.specs.Ordering.{nat_cmp, eq_by_cmp}
-use Rattle.std.specs.FinMap.{contains_key-keys, get, keys}
+use Rattle.std.specs.FinMap.{contains_key-keys, empty, get, keys}
 use Rattle.mc_model.specs.declared.player.Player.{Player}
 use Rattle.mc_model.specs.Game.{Game}
 use Rattle.mc_model.specs.Deeds.{go_of}
@@ -41,60 +41,62 @@ pub leave_nobody : (k : ℕ) (g : Game) → get g.players k ≡ None → leave k
 leave_nobody k g none = leave_cases k g (λ (v : Game). v ≡ g) (λ is. refl)
     (λ p there. let clash = sym none ∙ there in absurd cc)
 
--- what it began with, and how many numbers were given, stay
-pub record Stays (g v : Game) : Type 0 where
+-- ---- what stays
+
+-- a game without its entities and packs
+abbrev pub bare : Game → Game
+bare g = record g { entities = []; packs = empty }
+
+-- what is read of two games that are the same without these
+pub record Leaves (g v : Game) : Type 0 where
   pub settings : v.settings ≡ g.settings
-  pub eids : v.eids ≡ g.eids
   pub age : v.age ≡ g.age
   pub edits : v.edits ≡ g.edits
-  pub packs : v.packs ≡ g.packs
+  pub chests : v.chests ≡ g.chests
+  pub eids : v.eids ≡ g.eids
   pub lines : v.lines ≡ g.lines
+  pub players : v.players ≡ g.players
+
+-- and without their players, too
+abbrev pub Stays : Game → Game → Type 0
+Stays g v = Leaves (record g { players = v.players }) v
+
+pub leaves_so : (g v : Game) → bare v ≡ bare g → Leaves g v
+leaves_so g v same = record {
+  settings = λ i. (same i).settings;
+  age = λ i. (same i).age;
+  edits = λ i. (same i).edits;
+  chests = λ i. (same i).chests;
+  eids = λ i. (same i).eids;
+  lines = λ i. (same i).lines;
+  players = λ i. (same i).players;
+}
+
+-- what each step of a fold leaves as it was, all of them do
+pub fold_same : {A : Type 0} (part : Game → Game) (f : Game → A → Game) →
+    ((g : Game) (x : A) → part (f g x) ≡ part g) → (xs : List A) (g : Game) →
+    part (fold f g xs) ≡ part g
+fold_same part f each [] g = refl
+fold_same part f each (x ∷ xs) g = fold_same part f each xs (f g x) ∙ each g x
+
+pub leave_all_stays : (ks : List ℕ) (g : Game) → Stays g (leave_all ks g)
+leave_all_stays ks g = leaves_so _ (leave_all ks g)
+    (ap (λ (v : Game). record v { players = (leave_all ks g).players })
+    (fold_same unplayed (λ (h : Game) (k : ℕ). leave k h)
+    (λ h k. leave_cases k h (λ (v : Game). unplayed v ≡ unplayed h) (λ none. refl)
+    (λ p there. refl)) ks g))
+  where
+    unplayed : Game → Game
+    unplayed v = record (bare v) { players = empty }
 
 pub leave_stays : (k : ℕ) (g : Game) → Stays g (leave k g)
-leave_stays k g = leave_cases k g (λ (v : Game). Stays g v)
-    (λ none. record {
-      settings = refl;
-      eids = refl;
-      age = refl;
-      edits = refl;
-      packs = refl;
-      lines = refl;
-    })
-    (λ p there. record {
-      settings = refl;
-      eids = refl;
-      age = refl;
-      edits = refl;
-      packs = refl;
-      lines = refl;
-    })
+leave_stays k = leave_all_stays (k ∷ [])
 
 -- ---- several
 
 pub leave_all_good : (ks : List ℕ) (g : Game) → Good g → Good (leave_all ks g)
 leave_all_good [] g w = w
 leave_all_good (k ∷ ks) g w = leave_all_good ks (leave k g) (leave_good k g w)
-
-pub leave_all_stays : (ks : List ℕ) (g : Game) → Stays g (leave_all ks g)
-leave_all_stays [] g = record {
-  settings = refl;
-  eids = refl;
-  age = refl;
-  edits = refl;
-  packs = refl;
-  lines = refl;
-}
-leave_all_stays (k ∷ ks) g =
-    let a = leave_stays k g in
-    let b = leave_all_stays ks (leave k g) in
-    record {
-      settings = b.settings ∙ a.settings;
-      eids = b.eids ∙ a.eids;
-      age = b.age ∙ a.age;
-      edits = b.edits ∙ a.edits;
-      packs = b.packs ∙ a.packs;
-      lines = b.lines ∙ a.lines;
-    }
 
 -- who is among them that pass a test has no player any more
 pub left_all : (test : ℕ → Bool) (ks : List ℕ) (g : Game) (j : ℕ) →

@@ -1,23 +1,23 @@
 -- What each deed of a player leaves of a game as it was: who is in play, and of each other player
 -- all but what is noted for it. That games stay good is in `Goods`.
 use Rattle.std.proofs.Common.{◌≡◌, ◌≢◌, ℕ, ◌≤◌, List, Option, Some, None, refl}
-use Rattle.std.proofs.Common.{ap, ◌∙◌, arith}
+use Rattle.std.proofs.Common.{sym, ap, ◌∙◌, arith}
 use Rattle.std.specs.Prelude.{is_some, option_map}
 use Rattle.std.specs.FinMap.{get, len}
-use Rattle.mc_fields.specs.declared.position.Cell.{Cell}
 use Rattle.mc_fields.specs.declared.position.Spot.{Spot}
 use Rattle.mc_slots.specs.declared.pile.Item.{Item}
 use Rattle.mc_windows.specs.Pack.{PackValue}
 use Rattle.mc_model.specs.declared.player.Player.{Player}
 use Rattle.mc_model.specs.Things.{in_hand, holding, standing}
 use Rattle.mc_model.specs.Game.{Game, pack_of}
-use Rattle.mc_model.specs.Deeds.{rehand_of, repack_of, said, stand_of, thrown, with_state}
+use Rattle.mc_model.specs.Deeds.{rehand_of, repack_of, stand_of, thrown}
 use Rattle.mc_model.specs.Apart.{traits_of}
 use Rattle.mc_model.specs.Fitting.{GivenKinds}
 use Rattle.mc_model.proofs.Lasting.{Since}
 use Rattle.mc_model.proofs.LastingKept.{holding_steady, since_mapped, since_more, standing_steady}
 use Rattle.mc_model.proofs.LastingKept.{steady_at}
-use Rattle.mc_laws.proofs.EachValue.{AreChanged, many_changed, only, only_changed, only_holds}
+use Rattle.mc_laws.proofs.EachValue.{AreChanged, many_changed, mapped_itself, only, only_changed}
+use Rattle.mc_laws.proofs.EachValue.{only_holds}
 
 abbrev pub name_of : Player → List ℕ
 name_of p = p.name
@@ -35,18 +35,6 @@ pub record Onward (k : ℕ) (g v : Game) : Type 0 where
   pub settings : v.settings ≡ g.settings
   pub age : v.age ≡ g.age
   pub more : g.eids ≤ v.eids
-
-pub nothing_on : (k : ℕ) (g : Game) → Onward k g g
-nothing_on k g = record {
-  keys = λ j. refl;
-  traits = λ j ne. refl;
-  names = λ j. refl;
-  many = refl;
-  since = λ old since. since;
-  settings = refl;
-  age = refl;
-  more = omega arith;
-}
 
 pub so : (k : ℕ) (g v u : Game) → Onward k g v → Onward k v u → Onward k g u
 so k g v u a b = record {
@@ -67,9 +55,9 @@ pub players_on : (k : ℕ) (g v : Game) (f : ℕ → Player → Player) →
     ((j : ℕ) (p : Player) → (f j p).name ≡ p.name) →
     ((j : ℕ) → j ≢ k → (p : Player) → traits_of (f j p) ≡ traits_of p) →
     AreChanged f g.players v.players → v.settings ≡ g.settings → v.age ≡ g.age →
-    v.eids ≡ g.eids → ((old : GivenKinds) → Since old g.eids g.entities →
+    g.eids ≤ v.eids → ((old : GivenKinds) → Since old g.eids g.entities →
     Since old v.eids v.entities) → Onward k g v
-players_on k g v f names traits are settings age eids since = record {
+players_on k g v f names traits are settings age more since = record {
   keys = λ j. ap is_some (are j) ∙ there (f j) (get g.players j);
   traits = λ j ne. ap (option_map traits_of) (are j) ∙ same traits_of (f j) (traits j ne)
       (get g.players j);
@@ -78,7 +66,7 @@ players_on k g v f names traits are settings age eids since = record {
   since = since;
   settings = settings;
   age = age;
-  more = omega (arith, eids);
+  more = more;
 }
   where
     there : (h : Player → Player) (o : Option Player) → is_some (option_map h o) ≡ is_some o
@@ -91,79 +79,42 @@ players_on k g v f names traits are settings age eids since = record {
     same trait h keeps None = refl
     same trait h keeps (Some p) = ap Some (keeps p)
 
+-- none is changed
+others_on : (k : ℕ) (g v : Game) → v.players ≡ g.players → v.settings ≡ g.settings →
+    v.age ≡ g.age → g.eids ≤ v.eids → ((old : GivenKinds) → Since old g.eids g.entities →
+    Since old v.eids v.entities) → Onward k g v
+others_on k g v same = players_on k g v (λ j p. p) (λ j p. refl) (λ j ne p. refl)
+    (λ j. ap (λ m. get m j) same ∙ sym (mapped_itself (get g.players j)))
+
+-- what is a cell's and what is said touch no player and no entity
+pub same_on : (k : ℕ) (g v : Game) → v.players ≡ g.players → v.settings ≡ g.settings →
+    v.age ≡ g.age → v.eids ≡ g.eids → v.entities ≡ g.entities → Onward k g v
+same_on k g v same settings age eids entities = others_on k g v same settings age
+    (omega (arith, eids)) (λ old since. rw (eids, entities) since)
+
 pub repack_on : (k : ℕ) (p : Player) (pack : PackValue) (g : Game) → Onward k g (repack_of p pack g)
-repack_on k p pack g = record {
-  keys = λ j. refl;
-  traits = λ j ne. refl;
-  names = λ j. refl;
-  many = refl;
-  since = λ old since. since_mapped _ g.entities
-      (steady_at p.eid (holding (in_hand pack p.hand)) (holding_steady _)) since;
-  settings = refl;
-  age = refl;
-  more = omega arith;
-}
+repack_on k p pack g = others_on k g (repack_of p pack g) refl refl refl (omega arith)
+    (λ old since. since_mapped _ g.entities
+    (steady_at p.eid (holding (in_hand pack p.hand)) (holding_steady _)) since)
 
 pub rehand_on : (k : ℕ) (p : Player) (hand : ℕ) (g : Game) → Onward k g (rehand_of k p hand g)
 rehand_on k p hand g = players_on k g (rehand_of k p hand g) (only k takes)
     (λ j q. only_holds (λ (r : Player). r.name ≡ q.name) k takes j q (λ same. refl) refl)
     (λ j ne q. only_holds (λ (r : Player). traits_of r ≡ traits_of q) k takes j q
     (λ same. absurd (ne same)) refl)
-    (only_changed k takes g.players) refl refl refl (λ old since. since_mapped _ g.entities
+    (only_changed k takes g.players) refl refl (omega arith) (λ old since. since_mapped _ g.entities
     (steady_at p.eid (holding (in_hand (pack_of g p) hand)) (holding_steady _)) since)
   where
     takes : Player → Player
     takes q = record q { hand = hand }
 
 pub stand_on : (k : ℕ) (p : Player) (spot : Spot) (g : Game) → Onward k g (stand_of p spot g)
-stand_on k p spot g = record {
-  keys = λ j. refl;
-  traits = λ j ne. refl;
-  names = λ j. refl;
-  many = refl;
-  since = λ old since. since_mapped _ g.entities
-      (steady_at p.eid (standing spot) (standing_steady spot)) since;
-  settings = refl;
-  age = refl;
-  more = omega arith;
-}
+stand_on k p spot g = others_on k g (stand_of p spot g) refl refl refl (omega arith)
+    (λ old since. since_mapped _ g.entities
+    (steady_at p.eid (standing spot) (standing_steady spot)) since)
 
 -- ---- of all
 
 pub thrown_on : (k : ℕ) (item : Item) (spot : Spot) (g : Game) → Onward k g (thrown item spot g)
-thrown_on k item spot g = record {
-  keys = λ j. refl;
-  traits = λ j ne. refl;
-  names = λ j. refl;
-  many = refl;
-  since = λ old since. since_more _ spot g.entities since;
-  settings = refl;
-  age = refl;
-  more = omega arith;
-}
-
--- what is a cell's and what is said touch no player and no entity
-pub with_state_on : (k : ℕ) (cell : Cell) (state : ℕ) (g : Game) →
-    Onward k g (with_state cell state g)
-with_state_on k cell state g = let on = nothing_on k g in record {
-  keys = on.keys;
-  traits = on.traits;
-  names = on.names;
-  many = on.many;
-  since = on.since;
-  settings = refl;
-  age = refl;
-  more = on.more;
-}
-
-pub said_on : (k : ℕ) (line : List ℕ) (g : Game) → Onward k g (said line g)
-said_on k line g = let on = nothing_on k g in record {
-  keys = on.keys;
-  traits = on.traits;
-  names = on.names;
-  many = on.many;
-  since = on.since;
-  settings = refl;
-  age = refl;
-  more = on.more;
-}
+thrown_on k item spot g = others_on k g (thrown item spot g) refl refl refl (omega arith)
+    (λ old since. since_more _ spot g.entities since)

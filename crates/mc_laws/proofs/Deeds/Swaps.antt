@@ -110,19 +110,19 @@ leave_first k (i ∷ ks) g =
     leave_first k ks (leave i g) ∙ ap (leave_all ks) (leave_swap k i g)
 
 -- once one left, it does not matter whether it is among those that leave
-module _ (k : ℕ) (t u : ℕ → Bool) (alike : (i : ℕ) → i ≢ k → t i ≡ u i) where
-  left_already : (b : Bool) (ks : List ℕ) (i : ℕ) (g : Game) → i ≡ k →
-      leave_all (cond b (i ∷ ks) ks) (leave k g) ≡ leave_all ks (leave k g)
-  left_already true ks i g same =
-      ap (leave_all ks) (ap (λ (n : ℕ). leave n (leave k g)) same ∙ leave_twice k g)
-  left_already false ks i g same = refl
+left_already : (k : ℕ) (b : Bool) (ks : List ℕ) (i : ℕ) (g : Game) → i ≡ k →
+    leave_all (cond b (i ∷ ks) ks) (leave k g) ≡ leave_all ks (leave k g)
+left_already k true ks i g same =
+    ap (leave_all ks) (ap (λ (n : ℕ). leave n (leave k g)) same ∙ leave_twice k g)
+left_already k false ks i g same = refl
 
+module _ (k : ℕ) (t u : ℕ → Bool) (alike : (i : ℕ) → i ≢ k → t i ≡ u i) where
   pub leave_but : (ks : List ℕ) (g : Game) →
       leave_all (filter t ks) (leave k g) ≡ leave_all (filter u ks) (leave k g)
   leave_but [] g = refl
   leave_but (i ∷ ks) g = elim (cases_eq i k) [
-    | inl same ↦ left_already (t i) (filter t ks) i g same ∙ leave_but ks g
-        ∙ sym (left_already (u i) (filter u ks) i g same)
+    | inl same ↦ left_already k (t i) (filter t ks) i g same ∙ leave_but ks g
+        ∙ sym (left_already k (u i) (filter u ks) i g same)
     | inr ne ↦ step (t i) (alike i ne) (leave_but ks g) (leave_but ks (leave i g))
   ]
     where
@@ -149,12 +149,6 @@ module _ (k : ℕ) (u : ℕ → Bool) where
   abbrev is_other : ℕ → Bool
   is_other i = not (i == k)
 
-  leave_more : (b : Bool) (ks : List ℕ) (i : ℕ) (g : Game) → i ≡ k →
-      leave_all (cond b (i ∷ ks) ks) (leave k g) ≡ leave_all ks (leave k g)
-  leave_more true ks i g same =
-      ap (leave_all ks) (ap (λ (n : ℕ). leave n (leave k g)) same ∙ leave_twice k g)
-  leave_more false ks i g same = refl
-
   pub leave_without : (ks : List ℕ) (g : Game) →
       leave_all (filter u (filter is_other ks)) (leave k g)
       ≡ leave_all (filter u ks) (leave k g)
@@ -162,7 +156,7 @@ module _ (k : ℕ) (u : ℕ → Bool) where
   leave_without (i ∷ ks) g = elim (cases_eq i k) [
     | inl same ↦ ap (λ (b : Bool). leave_all (filter u (cond (not b) (i ∷ filter is_other ks)
         (filter is_other ks))) (leave k g)) (eq-eqb i k same)
-        ∙ leave_without ks g ∙ sym (leave_more (u i) (filter u ks) i g same)
+        ∙ leave_without ks g ∙ sym (left_already k (u i) (filter u ks) i g same)
     | inr ne ↦ ap (λ (b : Bool). leave_all (filter u (cond (not b) (i ∷ filter is_other ks)
         (filter is_other ks))) (leave k g)) (ne_eqb i k ne)
         ∙ step (u i) (leave_without ks g) (leave_without ks (leave i g))

@@ -1,25 +1,25 @@
 -- What is due to a client at a tick is packets that it decodes.
-use Rattle.std.proofs.Common.{◌≡◌, ℕ, ◌+◌, ◌*◌, ◌^◌, ◌≤◌, ◌<◌, Bool, true, false, cond, List}
+use Rattle.std.proofs.Common.{◌≡◌, ℕ, ◌+◌, ◌^◌, ◌≤◌, ◌<◌, Bool, true, false, cond, List}
 use Rattle.std.proofs.Common.{[], ◌∷◌, ◌++◌, map, length, Option, Some, refl, sym, subst, ap, T}
 use Rattle.std.proofs.Common.{◌∙◌, arith, drop}
 use Rattle.std.specs.Prelude.{is_some, not, unsigned_abs}
 use Rattle.std.specs.Int.{w32}
-use Rattle.std.specs.List.{AllByRecursion, filter_map, range_with_len}
+use Rattle.std.specs.List.{AllByRecursion, filter_map}
 use Rattle.std.specs.Ordering.{eq_by_cmp, int_cmp, int_eq, nat_cmp}
 use Rattle.std.specs.Cmp.{int_cmp_total, nat_cmp_total}
 use Rattle.std.specs.FinMap.{FinMap, entries}
-use Rattle.std.specs.FinMap.{entries_sorted, find, from_entries, get, get-entries}
+use Rattle.std.specs.FinMap.{entries_sorted, find, get, get-entries}
 use Rattle.std.specs.FinMap.{int_cmp-IsAntisymmetric, is_sorted, len, len-entries}
 use Rattle.std.specs.FinMap.{nat_cmp-IsAntisymmetric, values}
 use Rattle.std.proofs.lemmas.Bool.Decides.{nat_tests}
 use Rattle.std.proofs.lemmas.Int.{ints}
 use Rattle.std.proofs.lemmas.List.{length-map}
-use lib.IntN.{ℤ, pos, negsuc, ◌+ℤ◌, ◌-ℤ◌}
+use Rattle.std.proofs.lemmas.List.Elements.{Contains-get_or, recursion_from_All}
+use lib.IntN.{ℤ, pos, negsuc}
 use lib.Signed.{◌≤ℤ◌}
 use mir.Val.{SFits}
 use Rattle.mc_slots.specs.Pile.{slot_of}
 use Rattle.mc_packets.specs.declared.down.Down.{Down}
-use Rattle.mc_land.specs.declared.places.TheConstants.{COLUMN_BORDER}
 use Rattle.mc_land.specs.Places.{Place, place_cmp}
 use Rattle.mc_land.proofs.Orders.{exact_places, places_total}
 use Rattle.mc_entities.specs.declared.entity.Entity.{Entity}
@@ -27,7 +27,8 @@ use Rattle.mc_entities.specs.declared.entity.EntityKind.{EntityKind}
 use Rattle.mc_entities.specs.Folk.{eid_of}
 use Rattle.mc_entities.specs.Kinds.{IsKind}
 use Rattle.mc_view.specs.declared.view_set.TheConstants.{MIDDLE_BORDER}
-use Rattle.mc_view.specs.Views.{column_of_spot, run_of, view_of, view_size}
+use Rattle.mc_view.specs.Views.{column_of_spot, is_in_view, view_of, view_size}
+use Rattle.mc_view.proofs.Near.{near_both}
 use Rattle.mc_model.specs.declared.ticks.TheConstants.{AGE_MAX}
 use Rattle.mc_model.specs.declared.player.Player.{Player}
 use Rattle.mc_model.specs.Delta.{delta}
@@ -41,8 +42,8 @@ use Rattle.mc_model.specs.Spots.{spawn_height}
 use Rattle.mc_model.specs.Showing.{due, last_shown, notes_due, opening_due, sight_of}
 use Rattle.mc_model.specs.Good.{AreChests, Good}
 use Rattle.mc_model.specs.Fitting.{EntityFits, KindIsNamed, Told}
-use Rattle.mc_model.proofs.AllFacts.{all_chosen, all_dropped, all_flat, all_joined, all_mapped}
-use Rattle.mc_model.proofs.AllFacts.{all_range, few_filtered}
+use Rattle.mc_model.proofs.AllFacts.{all_chosen, all_dropped, all_joined, all_mapped}
+use Rattle.mc_model.proofs.AllFacts.{few_filtered}
 use Rattle.mc_model.proofs.Decodes.{Decodes, IsClear}
 use Rattle.mc_model.proofs.FitsBeats.{beat_fits, shown_age_fits}
 use Rattle.mc_model.proofs.FitsChat.{LineFits}
@@ -56,10 +57,11 @@ use Rattle.mc_model.proofs.FitsSlots.{pile_slot_fits, piles_fit}
 use Rattle.mc_model.proofs.Maps.Sorted.{find_again, second}
 use Rattle.mc_model.proofs.Maps.Lookups.{tied_number}
 use Rattle.mc_model.proofs.Maps.Options.{none_some}
+use Rattle.mc_model.proofs.ViewFacts.{view_near}
 use Rattle.mc_laws.proofs.EachValue.{AllValues}
 use Rattle.mc_laws.proofs.FitsDue.{delta_clear, placing_clear}
-use Rattle.mc_laws.proofs.FitsSight.{SeenFits, SightFits, all_entries, column_near, few_entries}
-use Rattle.mc_laws.proofs.FitsSight.{few_shown, size_few}
+use Rattle.mc_laws.proofs.FitsSight.{SeenFits, SightFits, all_entries, column_near, few_shown}
+use Rattle.mc_laws.proofs.FitsSight.{size_few}
 use Rattle.mc_laws.proofs.Fits.Counted.{IsCounted, few_chosen}
 use Rattle.mc_laws.proofs.Fits.Notes.{notes_owe}
 use Rattle.mc_laws.proofs.FitsUuid.{offline_small}
@@ -98,32 +100,11 @@ all_values {X} P m each = all_mapped (λ (e : ℕ × X). P e.1) P (λ (e : ℕ �
 
 -- ---- places of a view
 
--- a number near one that is not far
-near_small : (m : ℤ) (d i : ℕ) → unsigned_abs m ≤ MIDDLE_BORDER + 1 → d ≤ 8 → i < 2 * d + 1 →
-    unsigned_abs ((m -ℤ pos d) +ℤ pos i) ≤ COLUMN_BORDER
-near_small m d i small few less = grind (arith, nat_tests)
-
--- and so are all in a row
-run_small : (m : ℤ) (d : ℕ) → unsigned_abs m ≤ MIDDLE_BORDER + 1 → d ≤ 8
-    → AllByRecursion (λ (z : ℤ). unsigned_abs z ≤ COLUMN_BORDER) (run_of (m -ℤ pos d) (2 * d + 1))
-run_small m d small few =
-    let P : ℕ → Type 0 = λ i. i < 2 * d + 1 in
-    all_mapped P (λ (z : ℤ). unsigned_abs z ≤ COLUMN_BORDER) (λ (i : ℕ). (m -ℤ pos d) +ℤ pos i)
-    (λ i less. near_small m d i small few less)
-    (range_with_len 0 (2 * d + 1)) (all_range P 0 (2 * d + 1) (λ i less. omega (arith, less)))
-
--- and all places of a view
-view_near : (middle : Place) (d : ℕ) → unsigned_abs middle.0 ≤ MIDDLE_BORDER + 1 →
-    unsigned_abs middle.1 ≤ MIDDLE_BORDER + 1 → d ≤ 8
-    → AllByRecursion IsNear (view_of middle d)
-unfolding view_of
-view_near middle d at_x at_z few =
-    all_flat (λ (z : ℤ). unsigned_abs z ≤ COLUMN_BORDER) IsNear
-    (λ (x : ℤ). map (λ (z : ℤ). (x, z)) (run_of (middle.1 -ℤ pos d) (2 * d + 1)))
-    (λ x near. all_mapped (λ (z : ℤ). unsigned_abs z ≤ COLUMN_BORDER) IsNear (λ (z : ℤ). (x, z))
-    (λ z also. record { x = near; z = also })
-    (run_of (middle.1 -ℤ pos d) (2 * d + 1)) (run_small middle.1 d at_z few))
-    (run_of (middle.0 -ℤ pos d) (2 * d + 1)) (run_small middle.0 d at_x few)
+-- a place near one that is not far
+place_near : (middle place : Place) (d : ℕ) → unsigned_abs middle.0 ≤ MIDDLE_BORDER + 1 →
+    unsigned_abs middle.1 ≤ MIDDLE_BORDER + 1 → d ≤ 8 → is_in_view middle d place ≡ true →
+    IsNear place
+place_near middle place d at_x at_z few near = grind (arith, nat_tests, near_both)
 
 -- ---- sights
 
@@ -149,9 +130,13 @@ pub record SoundGame (g : Game) : Type 0 where
   pub counted : IsCounted g
   pub players : AllValues (λ (k : ℕ) (p : Player). PlayerIsTold p) g.players
 
--- so the list of players can name each
+-- what the list of players has of one
+abbrev pair_of : Player → ℕ × List ℕ
+pair_of p = (p.uuid, p.name)
+
+-- packets can tell it
 named_fits : (g : Game) (k : ℕ) (p : Player) → SoundGame g → get g.players k ≡ Some p →
-    PairFits (p.uuid, p.name)
+    PairFits (pair_of p)
 named_fits g k p sound there = record {
   uuid = subst (λ (n : ℕ). n < 2 ^ 128) (sym (sound.good.own k p there).uuid)
       (offline_small p.name);
@@ -188,28 +173,26 @@ unfolding sight_of
 sight_fits g p last sound heard =
     let at = spot_told g p sound.told in
     let pack = named_is_pack g p.name sound.good in
-    let named = all_values (λ (other : Player). PairFits (other.uuid, other.name)) g.players
+    let named = all_values (λ (other : Player). PairFits (pair_of other)) g.players
     (λ k other there. named_fits g k other sound there) in
     let settings = sound.settings in
-    let places = view_near (column_of_spot (spot_of g p)) (view_size g.settings.cap p.view_byte)
+    let middle = column_of_spot (spot_of g p) in
+    let d = view_size g.settings.cap p.view_byte in
+    let places = recursion_from_All IsNear (view_of middle d) (λ i other less. place_near middle _ d
     (column_near (spot_of g p).x at.x) (column_near (spot_of g p).z at.z)
-    (size_few g.settings.cap p.view_byte settings.near) in
+    (size_few g.settings.cap p.view_byte settings.near)
+    (view_near middle d _ (Contains-get_or (view_of middle d) i other less))) in
     record {
       pairs = all_entries nat_cmp nat_cmp_total nat_cmp-IsAntisymmetric PairFits
-          (map (λ (other : Player). (other.uuid, other.name)) (players_of g))
-          (all_mapped (λ (other : Player). PairFits (other.uuid, other.name)) PairFits
-          (λ (other : Player). (other.uuid, other.name))
+          (map pair_of (players_of g))
+          (all_mapped (λ (other : Player). PairFits (pair_of other)) PairFits pair_of
           (λ other fits. fits) (players_of g) named);
-      few = (let most = few_entries nat_cmp nat_cmp_total
-          (map (λ (other : Player). (other.uuid, other.name)) (players_of g)) in
-          let same = length-map {B = ℕ × List ℕ} (players_of g)
-          (λ (other : Player). (other.uuid, other.name)) in
+      few = few_shown nat_cmp nat_cmp_total 50 (map pair_of (players_of g))
+          (let same = length-map {B = ℕ × List ℕ} (players_of g) pair_of in
           let size = players_few g in
-          let entries_are = len-entries (from_entries {R = nat_cmp}
-          (map (λ (other : Player). (other.uuid, other.name)) (players_of g))) in
           let few = sound.few in
           let fifty = settings.few in
-          omega (arith, most, same, size, entries_are, few, fifty));
+          omega (arith, same, size, few, fifty));
       columns = all_entries place_cmp places_total exact_places ColumnFits
           (map (λ (place : Place). (place, column_in g place)) (view_in g p))
           (all_mapped IsNear ColumnFits (λ (place : Place). (place, column_in g place))

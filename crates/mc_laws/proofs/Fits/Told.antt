@@ -1,13 +1,14 @@
 -- Deeds keep what is in a game such that packets can tell it: the states of cells, and entities of
 -- which each has a kind and a place.
 use Rattle.std.proofs.Common.{◌≡◌, ℕ, ◌+◌, ◌*◌, ◌<◌, ◌≤◌, Bool, true, false, cond, List, [], zero}
-use Rattle.std.proofs.Common.{suc, inr, ◌∷◌, ◌++◌, map, Some, None, refl, sym, subst, ap, ◌∙◌}
+use Rattle.std.proofs.Common.{suc, inr, ◌∷◌, ◌++◌, map, Some, None, refl, sym, subst, ◌∙◌}
 use Rattle.std.proofs.Common.{arith}
 use Rattle.std.specs.Prelude.{◌==◌, ◌&&◌, Option, nat_le, nat_lt, not, option_map, unsigned_abs}
 use Rattle.std.specs.Prelude.{unwrap_or, if◌then◌else◌}
 use Rattle.std.specs.List.{AllByRecursion, filter}
 use Rattle.std.specs.Ordering.{eq_by_cmp, int_eq}
 use Rattle.std.specs.FinMap.{FinMap, get, get-empty, get-insert, get-remove, insert, remove}
+use Rattle.std.proofs.lemmas.Bool.Decides.{nat_tests}
 use Rattle.std.proofs.lemmas.Int.{ints}
 use lib.IntN.{ℤ, pos, negsuc}
 use Rattle.mc_fields.specs.declared.position.Cell.{Cell}
@@ -24,74 +25,42 @@ use Rattle.mc_land.specs.Land.{edited, state_at, terrain_at}
 use Rattle.mc_land.proofs.Orders.{keys_total}
 use Rattle.mc_entities.specs.declared.entity.Entity.{Entity}
 use Rattle.mc_entities.specs.declared.entity.EntityKind.{EntityKind}
-use Rattle.mc_entities.specs.declared.entity.EntityKind.TheVariants as kinds
 use Rattle.mc_entities.specs.Kinds.{IsKind, is_dropped}
 use Rattle.mc_entities.specs.Numbers.{changed, numbered, without}
 use Rattle.mc_entities.specs.Folk.{dropped_in, eid_of}
-use Rattle.mc_model.specs.declared.seen.SeenKind.{SeenKind}
-use Rattle.mc_model.specs.declared.seen.SeenKind.TheVariants as seen_kinds
 use Rattle.mc_model.specs.declared.player.Player.{Player}
 use Rattle.mc_model.specs.declared.settings.Settings.{Settings}
-use Rattle.mc_model.specs.Things.{hand_of, holding, kind_of_item, lying_as, standing}
-use Rattle.mc_model.specs.Things.{state_of_cell}
+use Rattle.mc_model.specs.Things.{holding, lying_as, standing, state_of_cell}
 use Rattle.mc_model.specs.Spots.{spawn_spot}
 use Rattle.mc_model.specs.Game.{Game, new_game, spot_of, state_in}
 use Rattle.mc_model.specs.Deeds.{spawned, with_state}
 use Rattle.mc_model.specs.Fitting.{AreTold, EntityFits, IsState, KindIsNamed, SpotFits, Told}
-use Rattle.mc_model.specs.Fitting.{kind_seen}
 use Rattle.mc_model.proofs.AllFacts.{all_filtered, all_joined, all_mapped}
 use Rattle.mc_model.proofs.Lasting.{IsSteady}
 use Rattle.mc_model.proofs.LastingKept.{holding_steady, known_filtered, known_mapped, known_more}
 use Rattle.mc_model.proofs.LastingKept.{lying_steady, standing_steady, steady_at}
-use Rattle.mc_model.proofs.ThingsKept.{dropped_more, one_if}
+use Rattle.mc_model.proofs.ThingsKept.{one_if}
 use Rattle.mc_laws.proofs.ThingsFit.{air, spawn_fits}
 
 -- ---- how many dropped items lie
-
--- whether clients see a dropped item
-abbrev is_seen_dropped : Option SeenKind → Bool
-is_seen_dropped (Some seen_kinds.Dropped) = true
-is_seen_dropped other = false
-
--- a dropped item is what they see as one
-seen_dropped : (kind : EntityKind) → is_dropped kind ≡ is_seen_dropped (kind_seen kind)
-seen_dropped (kinds.Player uuid held) = refl
-seen_dropped (kinds.Dropped item born) = refl
-seen_dropped kinds.Mob = refl
 
 -- as many where no change makes another kind of an entity
 pub dropped_mapped : (f : Entity → Entity) → IsSteady f → (es : List Entity) →
     dropped_in (map f es) ≡ dropped_in es
 dropped_mapped f steady [] = refl
-dropped_mapped f steady (e ∷ es) =
-    dropped_more (f e) (map f es)
-    ∙ ap (λ (b : Bool). one_if b + dropped_in (map f es))
-    (seen_dropped (f e).kind ∙ ap is_seen_dropped (steady.kind e) ∙ sym (seen_dropped e.kind))
-    ∙ ap (λ (n : ℕ). one_if (is_dropped e.kind) + n) (dropped_mapped f steady es)
-    ∙ sym (dropped_more e es)
+dropped_mapped f steady (e ∷ es) = grind (arith, nat_tests, dropped_mapped f steady es)
 
 -- no more where some go
 dropped_filtered : (test : Entity → Bool) (es : List Entity) →
     dropped_in (filter test es) ≤ dropped_in es
 dropped_filtered test [] = omega arith
-dropped_filtered test (e ∷ es) =
-    let rest = dropped_filtered test es in
-    let more = dropped_more e es in
-    elim (test e) as (λ b. dropped_in (cond b (e ∷ filter test es) (filter test es))
-    ≤ dropped_in (e ∷ es)) [
-      | true ↦ (let now = dropped_more e (filter test es) in omega (arith, rest, more, now))
-      | false ↦ omega (arith, rest, more)
-    ]
+dropped_filtered test (e ∷ es) = grind (arith, nat_tests, dropped_filtered test es)
 
 -- where one comes, one more if it is one
 pub dropped_come : (es : List Entity) (e : Entity) →
     dropped_in (es ++ e ∷ []) ≡ dropped_in es + one_if (is_dropped e.kind)
-dropped_come [] e = let more = dropped_more e [] in omega (arith, more)
-dropped_come (x ∷ xs) e =
-    let rest = dropped_come xs e in
-    let before = dropped_more x xs in
-    let after = dropped_more x (xs ++ e ∷ []) in
-    omega (arith, rest, before, after)
+dropped_come [] e = grind (arith, nat_tests)
+dropped_come (x ∷ xs) e = grind (arith, nat_tests, dropped_come xs e)
 
 -- ---- entities
 
@@ -149,68 +118,24 @@ pub standing_told : (eid : ℕ) (spot : Spot) (edits : FinMap key_cmp ℕ) (es :
     (eids : ℕ) → SpotFits spot → AreTold edits es eids →
     AreTold edits (changed eid_of (pos eid) (standing spot) es) eids
 standing_told eid spot edits es eids at t =
-    changed_told eid (standing spot) edits es eids (standing_steady spot) (λ e fits. record {
-      low = fits.low;
-      high = fits.high;
-      spot = at;
-      kind = fits.kind;
-      named = fits.named;
-    }) t
-
-hand_is_kind : (pile : Pile) (kind : EntityKind) → IsPile pile → IsKind kind →
-    IsKind (hand_of pile kind)
-hand_is_kind pile (kinds.Player uuid held) is fits = is
-hand_is_kind pile (kinds.Dropped item born) is fits = fits
-hand_is_kind pile kinds.Mob is fits = tt
-
-hand_is_named : (pile : Pile) (kind : EntityKind) → KindIsNamed kind →
-    KindIsNamed (hand_of pile kind)
-hand_is_named pile (kinds.Player uuid held) named = named
-hand_is_named pile (kinds.Dropped item born) named = named
-hand_is_named pile kinds.Mob named = named
+    changed_told eid (standing spot) edits es eids (standing_steady spot)
+    (λ e fits. grind (arith, nat_tests)) t
 
 -- one holds another pile
 pub holding_told : (eid : ℕ) (pile : Pile) (edits : FinMap key_cmp ℕ) (es : List Entity)
     (eids : ℕ) → IsPile pile → AreTold edits es eids →
     AreTold edits (changed eid_of (pos eid) (holding pile) es) eids
 holding_told eid pile edits es eids is t =
-    changed_told eid (holding pile) edits es eids (holding_steady pile) (λ e fits. record {
-      low = fits.low;
-      high = fits.high;
-      spot = fits.spot;
-      kind = hand_is_kind pile e.kind is fits.kind;
-      named = hand_is_named pile e.kind fits.named;
-    }) t
-
-item_is_kind : (item : Item) (kind : EntityKind) → IsItem item → IsKind kind →
-    IsKind (kind_of_item item kind)
-item_is_kind item (kinds.Player uuid held) is fits = fits
-item_is_kind item (kinds.Dropped old born) is fits = is
-item_is_kind item kinds.Mob is fits = tt
-
-item_is_named : (item : Item) (kind : EntityKind) → KindIsNamed kind →
-    KindIsNamed (kind_of_item item kind)
-item_is_named item (kinds.Player uuid held) named = named
-item_is_named item (kinds.Dropped old born) named = named
-item_is_named item kinds.Mob named = named
+    changed_told eid (holding pile) edits es eids (holding_steady pile)
+    (λ e fits. grind (arith, nat_tests)) t
 
 -- what lies there is another item
 pub lying_told : (eid : ℕ) (item : Item) (edits : FinMap key_cmp ℕ) (es : List Entity)
     (eids : ℕ) → IsItem item → AreTold edits es eids →
     AreTold edits (changed eid_of (pos eid) (lying_as item) es) eids
 lying_told eid item edits es eids is t =
-    changed_told eid (lying_as item) edits es eids (lying_steady item) (λ e fits. record {
-      low = fits.low;
-      high = fits.high;
-      spot = fits.spot;
-      kind = item_is_kind item e.kind is fits.kind;
-      named = item_is_named item e.kind fits.named;
-    }) t
-
-pub dropped_held : (eid : ℕ) (pile : Pile) (es : List Entity) →
-    dropped_in (changed eid_of (pos eid) (holding pile) es) ≡ dropped_in es
-dropped_held eid pile es =
-    dropped_mapped _ (steady_at eid (holding pile) (holding_steady pile)) es
+    changed_told eid (lying_as item) edits es eids (lying_steady item)
+    (λ e fits. grind (arith, nat_tests)) t
 
 -- one goes
 pub without_told : (n : ℤ) (edits : FinMap key_cmp ℕ) (es : List Entity) (eids : ℕ) →
@@ -228,11 +153,7 @@ without_told n edits es eids t = record {
 pub found_fits : (P : Entity → Type 0) (n : ℤ) (es : List Entity) → AllByRecursion P es →
     (e : Entity) → numbered eid_of n es ≡ Some e → P e
 found_fits P n [] a e found = absurd cc
-found_fits P n (x ∷ es) a e found =
-    elim (int_eq x.eid n) as (λ b. cond b (Some x) (numbered eid_of n es) ≡ Some e → P e) [
-      | true ↦ λ f. subst P (ap (λ (o : Option Entity). unwrap_or o x) f) a.0
-      | false ↦ λ f. found_fits P n es a.1 e f
-    ] found
+found_fits P n (x ∷ es) a e found = grind (arith, nat_tests, found_fits P n es a.1 e)
 
 -- a player is where its entity is, or where players enter
 pub spot_told : (g : Game) (p : Player) → Told g → SpotFits (spot_of g p)

@@ -55,6 +55,12 @@ item_body item kinds.Mob = refl
 
 -- ---- what else lies there
 
+-- where the same is found under its number
+pub lies_as : (es fs : List Entity) (n : ℕ) (item : Item) →
+    numbered eid_of (pos n) fs ≡ numbered eid_of (pos n) es → Lies es n item → Lies fs n item
+lies_as es fs n item same l =
+    record { entity = l.entity; born = l.born; there = same ∙ l.there; is = l.is }
+
 -- where any one holds another pile
 pub lies_held : (m : ℕ) (pile : Pile) (es : List Entity) (n : ℕ) (item : Item) → Lies es n item →
     Lies (changed eid_of (pos m) (holding pile) es) n item
@@ -67,28 +73,14 @@ lies_held m pile es n item l = elim (cases_eq n m) [
         ∙ ap (option_map (holding pile)) l.there;
     is = ap (λ (kind : EntityKind). (holding pile (record l.entity { kind = kind })).kind) l.is;
   }
-  | inr ne ↦ record {
-    entity = l.entity;
-    born = l.born;
-    there = changed_no_eid n m (holding pile) es (holds pile) ne ∙ l.there;
-    is = l.is;
-  }
+  | inr ne ↦ lies_as es _ n item (changed_no_eid n m (holding pile) es (holds pile) ne) l
 ]
 
 pub lies_else : (m : ℕ) (pile : Pile) (g : Game) (n : ℕ) (item : Item) → n ≢ m →
     Lies g.entities n item → Lies (lessened (pos m) pile g).entities n item
-lies_else m Empty g n item ne l = record {
-  entity = l.entity;
-  born = l.born;
-  there = without_no_eid n m g.entities ne ∙ l.there;
-  is = l.is;
-}
-lies_else m (Full other) g n item ne l = record {
-  entity = l.entity;
-  born = l.born;
-  there = changed_no_eid n m (lying_as other) g.entities (lies_on other) ne ∙ l.there;
-  is = l.is;
-}
+lies_else m Empty g n item ne = lies_as g.entities _ n item (without_no_eid n m g.entities ne)
+lies_else m (Full other) g n item ne = lies_as g.entities _ n item
+    (changed_no_eid n m (lying_as other) g.entities (lies_on other) ne)
 
 -- ---- it stays good
 

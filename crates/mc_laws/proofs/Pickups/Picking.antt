@@ -4,10 +4,11 @@ use Rattle.std.proofs.Common.{◌≡◌, ◌≢◌, ℕ, Bool, true, false, List
 use Rattle.std.proofs.Common.{refl, sym, subst, ap, ◌∙◌, arith}
 use Rattle.std.specs.Prelude.{◌&&◌, ◌<ℤ◌, nat_le, if◌then◌else◌, ◌+◌}
 use Rattle.std.specs.List.{cons_option, filter_map, fold}
-use Rattle.std.specs.Ordering.{int_eq, nat_cmp}
-use Rattle.std.specs.FinMap.{FinMap, get}
+use Rattle.std.specs.Ordering.{int_eq}
+use Rattle.std.specs.FinMap.{get}
 use Rattle.std.proofs.lemmas.Bool.Decides.{Decides-int_eq}
 use Rattle.std.proofs.lemmas.Int.{ints}
+use Rattle.std.proofs.lemmas.List.Folds.{fold_along}
 use lib.IntN.{ℤ, pos, negsuc}
 use lib.Signed.{◌≤ℤ◌}
 use Rattle.mc_fields.specs.declared.position.Spot.{Spot}
@@ -39,98 +40,37 @@ use Rattle.mc_model.proofs.Lasting.{Since}
 use Rattle.mc_model.proofs.LastingKept.{holding_steady, since_mapped, steady_at}
 use Rattle.mc_model.proofs.Maps.Entities.{same_eid}
 use Rattle.mc_laws.proofs.Deeds.Goods.{repack_good}
+use Rattle.mc_laws.proofs.Deeds.Leaving.{Leaves, bare, fold_same, leaves_so}
 use Rattle.mc_laws.proofs.Deeds.Packs.{named_is_pack}
 use Rattle.mc_laws.proofs.Fits.Counted.{AreNoMore, changed_counts}
 use Rattle.mc_laws.proofs.Fits.Told.{found_fits, holding_told}
 use Rattle.mc_laws.proofs.Weighing.Spending.{Weighs, repack_weighs, still_weighs, weighs_even}
 use Rattle.mc_laws.proofs.Weighing.Spending.{weighs_on}
 use Rattle.mc_laws.proofs.Pickups.Lessened.{Lies, lessened_counts, lessened_good, lessened_since}
-use Rattle.mc_laws.proofs.Pickups.Lessened.{lessened_told, lessened_weighs, lies_else, lies_held}
+use Rattle.mc_laws.proofs.Pickups.Lessened.{lessened_told, lessened_weighs, lies_as, lies_else}
+use Rattle.mc_laws.proofs.Pickups.Lessened.{lies_held}
 
 -- ---- what any pickup leaves alone
 
--- all but entities and packs is as it was
-pub record LeavesPlay (g v : Game) : Type 0 where
-  pub settings : v.settings ≡ g.settings
-  pub age : v.age ≡ g.age
-  pub edits : v.edits ≡ g.edits
-  pub chests : v.chests ≡ g.chests
-  pub eids : v.eids ≡ g.eids
-  pub lines : v.lines ≡ g.lines
-  pub players : v.players ≡ g.players
+lessened_bare : (eid : ℤ) (pile : Pile) (g : Game) → bare (lessened eid pile g) ≡ bare g
+lessened_bare eid Empty g = refl
+lessened_bare eid (Full item) g = refl
 
-leaves_still : (g : Game) → LeavesPlay g g
-leaves_still g = record {
-  settings = refl;
-  age = refl;
-  edits = refl;
-  chests = refl;
-  eids = refl;
-  lines = refl;
-  players = refl;
-}
+stowed_bare : (p : Player) (g : Game) (x : ℤ × Item) → bare (stowed p x g) ≡ bare g
+stowed_bare p g x = lessened_bare x.0 (stored (pack_of g p) x.1).floor
+    (repack_of p (stored (pack_of g p) x.1).pack g)
 
-leaves_on : (g v u : Game) → LeavesPlay g v → LeavesPlay v u → LeavesPlay g u
-leaves_on g v u a b = record {
-  settings = b.settings ∙ a.settings;
-  age = b.age ∙ a.age;
-  edits = b.edits ∙ a.edits;
-  chests = b.chests ∙ a.chests;
-  eids = b.eids ∙ a.eids;
-  lines = b.lines ∙ a.lines;
-  players = b.players ∙ a.players;
-}
-
-lessened_leaves : (eid : ℤ) (pile : Pile) (g v : Game) → LeavesPlay g v →
-    LeavesPlay g (lessened eid pile v)
-lessened_leaves eid Empty g v a = record {
-  settings = a.settings;
-  age = a.age;
-  edits = a.edits;
-  chests = a.chests;
-  eids = a.eids;
-  lines = a.lines;
-  players = a.players;
-}
-lessened_leaves eid (Full item) g v a = record {
-  settings = a.settings;
-  age = a.age;
-  edits = a.edits;
-  chests = a.chests;
-  eids = a.eids;
-  lines = a.lines;
-  players = a.players;
-}
-
-stowed_leaves : (p : Player) (x : ℤ × Item) (g : Game) → LeavesPlay g (stowed p x g)
-stowed_leaves p x g = lessened_leaves x.0 (stored (pack_of g p) x.1).floor g
-    (repack_of p (stored (pack_of g p) x.1).pack g) (record {
-      settings = refl;
-      age = refl;
-      edits = refl;
-      chests = refl;
-      eids = refl;
-      lines = refl;
-      players = refl;
-    })
-
-fold_leaves : {A : Type 0} (f : Game → A → Game) → ((g : Game) (x : A) → LeavesPlay g (f g x)) →
-    (xs : List A) (g : Game) → LeavesPlay g (fold f g xs)
-fold_leaves f each [] g = leaves_still g
-fold_leaves f each (x ∷ xs) g =
-    leaves_on g (f g x) (fold f (f g x) xs) (each g x) (fold_leaves f each xs (f g x))
-
-pub pickups_leave : (g : Game) → LeavesPlay g (pickups g)
+pub pickups_leave : (g : Game) → Leaves g (pickups g)
 unfolding pickups
-pickups_leave g = fold_leaves
+pickups_leave g = leaves_so g _ (fold_same bare
     (λ (h : Game) (k : ℕ). of_player h (λ (p : Player). pick_up p h) (get h.players k))
-    (λ h k. one h (get h.players k)) (pickers g) g
+    (λ h k. one h (get h.players k)) (pickers g) g)
   where
     one : (h : Game) (o : Option Player) →
-        LeavesPlay h (of_player h (λ (p : Player). pick_up p h) o)
-    one h None = leaves_still h
-    one h (Some p) = fold_leaves (λ (v : Game) (x : ℤ × Item). stowed p x v)
-        (λ v x. stowed_leaves p x v) (ripe_for p h) h
+        bare (of_player h (λ (p : Player). pick_up p h) o) ≡ bare h
+    one h None = refl
+    one h (Some p) = fold_same bare (λ (v : Game) (x : ℤ × Item). stowed p x v) (stowed_bare p)
+        (ripe_for p h) h
 
 -- ---- what it keeps of a good game
 
@@ -236,11 +176,11 @@ AreLying es low [] = Unit {0}
 AreLying es low (x ∷ xs) = (low <ℤ x.0) × (IsLying es x × AreLying es x.0 xs)
 
 -- where what lies under higher numbers lies there still
-still_lying : (es fs : List Entity) (n : ℕ) (low : ℤ) (xs : List (ℤ × Item)) → pos n ≤ℤ low →
-    ((m : ℕ) (item : Item) → m ≢ n → Lies es m item → Lies fs m item) → AreLying es low xs →
-    AreLying fs low xs
-still_lying es fs n low [] le others a = tt
-still_lying es fs n low (x ∷ xs) le others a =
+still_lying : (es fs : List Entity) (low : ℤ) (xs : List (ℤ × Item)) →
+    ((m : ℕ) (item : Item) → low <ℤ pos m → Lies es m item → Lies fs m item) →
+    AreLying es low xs → AreLying fs low xs
+still_lying es fs low [] higher a = tt
+still_lying es fs low (x ∷ xs) higher a =
     let above = a.0 in
     let at = a.1.0 in
     let is = at.number in (
@@ -249,10 +189,10 @@ still_lying es fs n low (x ∷ xs) le others a =
         record {
           n = at.n;
           number = is;
-          lies = others at.n x.1 (λ same. absurd (omega (arith, ints, le, above, is, same)))
-              at.lies;
+          lies = higher at.n x.1 (omega (arith, ints, above, is)) at.lies;
         },
-        still_lying es fs n x.0 xs (omega (arith, ints, le, above)) others a.1.1,
+        still_lying es fs x.0 xs
+            (λ m item more. higher m item (omega (arith, ints, above, more))) a.1.1,
       ),
     )
 
@@ -271,11 +211,11 @@ module _ (k : ℕ) (p : Player) where
       let at = a.1.0 in
       let is = at.number in
       let first = stows_lying g x at there good told in
-      let left = still_lying g.entities (stowed p x g).entities at.n x.0 xs
-      (omega (arith, ints, is)) first.others a.1.1 in
+      let left = still_lying g.entities (stowed p x g).entities x.0 xs (λ m item more.
+      first.others m item (λ same. absurd (omega (arith, ints, is, more, same)))) a.1.1 in
       picked_on g (stowed p x g) _ first.picked
       (all_stowed xs x.0 (stowed p x g)
-      (ap (λ (m : FinMap nat_cmp Player). get m k) (stowed_leaves p x g).players ∙ there)
+      (ap (λ (v : Game). get v.players k) (stowed_bare p g x) ∙ there)
       left first.picked.good first.picked.told)
 
 -- ---- what is ripe lies there
@@ -311,36 +251,16 @@ ripe_is age spot e (kinds.Dropped item born) x is =
     by_test false same = absurd cc
 ripe_is age spot e kinds.Mob x is = absurd cc
 
--- those behind one of a lower number lie there
-lying_behind : (e : Entity) (es : List Entity) (low : ℤ) (xs : List (ℤ × Item)) → e.eid ≤ℤ low →
-    AreLying es low xs → AreLying (e ∷ es) low xs
-lying_behind e es low [] le a = tt
-lying_behind e es low (x ∷ xs) le a =
-    let above = a.0 in
-    let at = a.1.0 in
-    let is = at.number in (
-      above,
-      (
-        record {
-          n = at.n;
-          number = is;
-          lies = record {
-            entity = at.lies.entity;
-            born = at.lies.born;
-            there = past (int_eq e.eid (pos at.n)) refl (omega (arith, ints, le, above, is))
-                ∙ at.lies.there;
-            is = at.lies.is;
-          };
-        },
-        lying_behind e es x.0 xs (omega (arith, ints, le, above)) a.1.1,
-      ),
-    )
+-- what lies behind one of a lower number lies there
+lies_behind : (e : Entity) (es : List Entity) (m : ℕ) (item : Item) → e.eid <ℤ pos m →
+    Lies es m item → Lies (e ∷ es) m item
+lies_behind e es m item below = lies_as es (e ∷ es) m item (past (int_eq e.eid (pos m)) refl)
   where
-    past : {n : ℕ} (b : Bool) → int_eq e.eid (pos n) ≡ b → e.eid <ℤ pos n →
-        (if b then Some e else numbered eid_of (pos n) es) ≡ numbered eid_of (pos n) es
-    past {n} true t below = (let same = (Decides-int_eq e.eid (pos n)).0 t in
+    past : (b : Bool) → int_eq e.eid (pos m) ≡ b →
+        (if b then Some e else numbered eid_of (pos m) es) ≡ numbered eid_of (pos m) es
+    past true t = (let same = (Decides-int_eq e.eid (pos m)).0 t in
         absurd (omega (arith, ints, below, same)))
-    past false t below = refl
+    past false t = refl
 
 -- above a lower number, too
 lying_lower : (es : List Entity) (less low : ℤ) (xs : List (ℤ × Item)) → less ≤ℤ low →
@@ -354,7 +274,7 @@ ripe_lie : (age : ℕ) (spot : Spot) (low high : ℤ) (es : List Entity) → pos
     AreLying es low (filter_map (λ (e : Entity). ripe age spot e e.kind) es)
 ripe_lie age spot low high [] none r = tt
 ripe_lie age spot low high (e ∷ es) none r =
-    by_one (ripe age spot e e.kind) refl (lying_behind e es e.eid _ (omega (arith, ints))
+    by_one (ripe age spot e e.kind) refl (still_lying es (e ∷ es) e.eid _ (lies_behind e es)
     (ripe_lie age spot e.eid high es (let first = r.0 in omega (arith, ints, none, first)) r.1))
   where
     first_lies : (x : ℤ × Item) → IsRipe e e.kind x → IsLying (e ∷ es) x
@@ -392,21 +312,17 @@ ripe_lie age spot low high (e ∷ es) none r =
 
 -- ---- all players
 
-all_picked : (ks : List ℕ) (g : Game) → Good g → Told g → Picked g (fold
-    (λ (h : Game) (k : ℕ). of_player h (λ (p : Player). pick_up p h) (get h.players k)) g ks)
-all_picked [] g good told = picked_still g good told
-all_picked (k ∷ ks) g good told =
-    let first = one (get g.players k) refl in
-    picked_on g (of_player g (λ (p : Player). pick_up p g) (get g.players k)) _ first
-    (all_picked ks _ first.good first.told)
-  where
-    one : (o : Option Player) → get g.players k ≡ o →
-        Picked g (of_player g (λ (p : Player). pick_up p g) o)
-    one None is = picked_still g good told
-    one (Some p) is = all_stowed k p (ripe_for p g) (pos 0) g is
-        (ripe_lie g.age (spot_of g p) (pos 0) (pos g.eids) g.entities (omega (arith, ints))
-        good.rise) good told
-
 pub pickups_picked : (g : Game) → Good g → Told g → Picked g (pickups g)
 unfolding pickups
-pickups_picked g good told = all_picked (pickers g) g good told
+pickups_picked g good told = fold_along
+    (λ (h : Game) (k : ℕ). of_player h (λ (p : Player). pick_up p h) (get h.players k))
+    (λ (u : Unit {0}) (k : ℕ). u) (λ (h : Game) u. Picked g h)
+    (λ h u k a. picked_on g h _ a (one h (get h.players k) k refl a.good a.told)) g tt (pickers g)
+    (picked_still g good told)
+  where
+    one : (h : Game) (o : Option Player) (k : ℕ) → get h.players k ≡ o → Good h → Told h →
+        Picked h (of_player h (λ (p : Player). pick_up p h) o)
+    one h None k is good told = picked_still h good told
+    one h (Some p) k is good told = all_stowed k p (ripe_for p h) (pos 0) h is
+        (ripe_lie h.age (spot_of h p) (pos 0) (pos h.eids) h.entities (omega (arith, ints))
+        good.rise) good told
