@@ -340,11 +340,7 @@ module _ (H : Type 0) (k : ℕ) (p : Player) (g : Game) (there : get g.players k
 
       no_chest : (if is_chest (item_state item) then is_chest (state_in g target) else false)
           ≡ false
-      no_chest = rw air_there (by (is_chest (item_state item)))
-        where
-          by : (b : Bool) → (if b then false else false) ≡ false
-          by true = refl
-          by false = refl
+      no_chest = grind (arith, nat_tests, air_there)
 
   put_made : (cell target : Cell) → Makes (put_block k p cell target (held_by g p) g)
   put_made cell target = step (held_by g p) refl

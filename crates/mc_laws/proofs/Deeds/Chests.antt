@@ -7,8 +7,7 @@ use Rattle.std.proofs.lemmas.Bool.{eqb-true}
 use Rattle.std.proofs.lemmas.Bool.Decides.{nat_tests}
 use Rattle.std.specs.Cmp.{tied_itself}
 use Rattle.std.specs.Ordering.{eq_by_cmp, is_eq}
-use Rattle.std.specs.FinMap.{FinMap, get, get-empty, get-insert, get-remove, get_tied, insert}
-use Rattle.std.specs.FinMap.{remove}
+use Rattle.std.specs.FinMap.{FinMap, get, get-empty, get-insert, get-remove}
 use Rattle.mc_fields.specs.declared.position.Cell.{Cell}
 use Rattle.mc_slots.specs.declared.pile.Pile.{Pile}
 use Rattle.mc_slots.specs.Chest.{IsChest, empty_chest, empty_is_chest}
@@ -44,30 +43,25 @@ pub chest_set : (chests : FinMap key_cmp (List Pile)) (key q : Key) (old new : �
     get (chests_after chests key old new) q ≡ cond (eq_by_cmp key_cmp q key)
     (if is_chest new then (if is_chest old then get chests key else Some empty_chest) else None)
     (get chests q)
-chest_set chests key q old new = step (is_chest new) (is_chest old)
-  where
-    tied : (b : Bool) → eq_by_cmp key_cmp q key ≡ b →
-        get chests q ≡ cond b (get chests key) (get chests q)
-    tied true t = sym (get_tied keys_total chests q key (equal _ t))
-    tied false t = refl
-
-    step : (b c : Bool) → get (if b then (if c then chests else insert chests key empty_chest) else
-        remove chests key) q ≡ cond (eq_by_cmp key_cmp q key)
-        (if b then (if c then get chests key else Some empty_chest) else None) (get chests q)
-    step true true = tied (eq_by_cmp key_cmp q key) refl
-    step true false = get-insert keys_total chests key empty_chest q
-    step false c = get-remove keys_total chests key q
+chest_set chests key q old new = grind (
+  arith,
+  nat_tests,
+  get-insert keys_total chests key empty_chest q,
+  get-remove keys_total chests key q,
+  exact_keys q key,
+  equal,
+)
 
 -- its edit
 pub edit_set : (terrain : Terrain) (edits : FinMap key_cmp ℕ) (key q : Key) (state : ℕ) →
     get (edited terrain edits key state) q ≡ cond (eq_by_cmp key_cmp q key)
     (if state == terrain_at terrain key then None else Some state) (get edits q)
-edit_set terrain edits key q state = step (state == terrain_at terrain key)
-  where
-    step : (b : Bool) → get (if b then remove edits key else insert edits key state) q
-        ≡ cond (eq_by_cmp key_cmp q key) (if b then None else Some state) (get edits q)
-    step true = get-remove keys_total edits key q
-    step false = get-insert keys_total edits key state q
+edit_set terrain edits key q state = grind (
+  arith,
+  nat_tests,
+  get-remove keys_total edits key q,
+  get-insert keys_total edits key state q,
+)
 
 -- and its state
 pub state_set : (terrain : Terrain) (edits : FinMap key_cmp ℕ) (key q : Key) (state : ℕ) →
@@ -183,25 +177,14 @@ new_chests settings = record {
 -- nothing where it is no chest
 pub none_lies : (sort : Sort) (cell : Cell) (g : Game) → is_in_world cell ≡ true → AreChests g →
     is_chest (state_in g cell) ≡ false → in_chest sort (chest_at g cell) ≡ 0
-none_lies sort cell g inside a no_chest = step (chest_at g cell) (a.stand cell inside ∙ no_chest)
-  where
-    step : (o : Option (List Pile)) → is_some o ≡ false → in_chest sort o ≡ 0
-    step None none = refl
-    step (Some piles) none = absurd cc
+none_lies sort cell g inside a no_chest = grind (arith, nat_tests, a.stand cell inside)
 
 -- and nothing in one that was none, or is none
 pub none_comes : (sort : Sort) (cell : Cell) (state : ℕ) (g : Game) →
     (if is_chest state then is_chest (state_in g cell) else false) ≡ false →
     in_chest sort (chest_at (with_state cell state g) cell) ≡ 0
 none_comes sort cell state g no_chest =
-    rw (chest_set g.chests key key (state_in g cell) state, same_key key)
-    (step (is_chest state) (is_chest (state_in g cell)) no_chest)
+    grind (arith, nat_tests, chest_set g.chests key key (state_in g cell) state, same_key key)
   where
     key : Key
     key = key_of cell.x (unsigned_abs cell.y) cell.z
-
-    step : (b c : Bool) → (if b then c else false) ≡ false → in_chest sort (if b then (if c then
-        get g.chests key else Some empty_chest) else None) ≡ 0
-    step true true other = absurd cc
-    step true false other = refl
-    step false c other = refl
