@@ -36,8 +36,8 @@ pair_inside parts k unread shown (Some c) (Some l) pair =
     step true t = refl
     step false t = ap (λ (xs : List ℕ). nat_lt 0 (length xs)) (pair.remembers t).holds.held
 
-pub inside_is : (v : ServerValue) (w : World) (k : ℕ) (o : Option ConnectionValue) →
-    Stands v w → get v.connections k ≡ o → inside_by o ≡ is_inside_in k w
-inside_is v w k o st is = sym (ap inside_by is)
+pub inside_is : {v : ServerValue} {w : World} {o : Option ConnectionValue} (k : ℕ) → Stands v w →
+    get v.connections k ≡ o → inside_by o ≡ is_inside_in k w
+inside_is {v} {w} k st is = sym (ap inside_by is)
     ∙ pair_inside (shown_parts v) k (unread_of k w) (get w.shown k) (get v.connections k)
     (get w.links k) (st.each k)

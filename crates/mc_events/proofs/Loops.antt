@@ -40,49 +40,35 @@ loop_first R m once = record {
   same = λ k is. refl;
 }
 
--- one is changed
-pub loop_next : (R : ℕ → ConnectionValue → ConnectionValue → Type 0) (k : ℕ) (later : List ℕ)
-    (old mid : FinMap nat_cmp ConnectionValue) (c d : ConnectionValue) →
-    SoFar R (k ∷ later) old mid → get mid k ≡ Some c → R k c d →
-    SoFar R later old (insert mid k d)
-loop_next R k later old mid c d so there is = record {
-  once = so.once.1;
-  done = λ j no. elim (cases_eq j k) [
-    | inl same ↦ subst (λ (n : ℕ). Both (R n) (get old n) (get (insert mid k d) n)) (sym same)
-        (rw (put_same mid k d, sym (so.same k (first k)) ∙ there) is)
-    | inr ne ↦ rw (put_other mid k j d ne) (so.done j (rw (untied_number j k ne) no))
-  ];
-  same = λ j is_later.
-      let ne : j ≢ k = λ same. clash (sym is_later ∙ ap (λ (n : ℕ). is_of n later) same
-      ∙ so.once.0) in
-      put_other mid k j d ne ∙ so.same j (rw (untied_number j k ne) is_later);
-}
-  where
-    first : (n : ℕ) → is_of n (n ∷ later) ≡ true
-    first n = rw (tied_number n) refl
+module _ {R : ℕ → ConnectionValue → ConnectionValue → Type 0} {k : ℕ} {later : List ℕ}
+    {old mid : FinMap nat_cmp ConnectionValue} (so : SoFar R (k ∷ later) old mid) where
+  -- the next one is as it was
+  pub loop_here : get mid k ≡ get old k
+  loop_here = so.same k (rw (tied_number k) refl)
 
-    clash : ◌≡◌ {A = Bool} true false → ⊥
-    clash e = absurd cc
+  -- once it is as it should be, and all others are as they were
+  loop_past : (new : FinMap nat_cmp ConnectionValue) → Both (R k) (get old k) (get new k) →
+      ((j : ℕ) → j ≢ k → get new j ≡ get mid j) → SoFar R later old new
+  loop_past new here others = record {
+    once = so.once.1;
+    done = λ j no. elim (cases_eq j k) [
+      | inl same ↦ subst (λ (n : ℕ). Both (R n) (get old n) (get new n)) (sym same) here
+      | inr ne ↦ rw (others j ne) (so.done j (rw (untied_number j k ne) no))
+    ];
+    same = λ j is. others j (apart j is)
+        ∙ so.same j (rw (untied_number j k (apart j is)) is);
+  }
+    where
+      apart : (j : ℕ) → is_of j later ≡ true → j ≢ k
+      apart j is same = (let clash : true ≡ false =
+          sym is ∙ ap (λ (n : ℕ). is_of n later) same ∙ so.once.0 in absurd cc)
 
--- one is not there
-pub loop_skip : (R : ℕ → ConnectionValue → ConnectionValue → Type 0) (k : ℕ) (later : List ℕ)
-    (old mid : FinMap nat_cmp ConnectionValue) →
-    SoFar R (k ∷ later) old mid → get mid k ≡ None → SoFar R later old mid
-loop_skip R k later old mid so none = record {
-  once = so.once.1;
-  done = λ j no. elim (cases_eq j k) [
-    | inl same ↦ subst (λ (n : ℕ). Both (R n) (get old n) (get mid n)) (sym same)
-        (rw (none, sym (so.same k (first k)) ∙ none) tt)
-    | inr ne ↦ so.done j (rw (untied_number j k ne) no)
-  ];
-  same = λ j is_later.
-      let ne : j ≢ k = λ same. clash (sym is_later ∙ ap (λ (n : ℕ). is_of n later) same
-      ∙ so.once.0) in
-      so.same j (rw (untied_number j k ne) is_later);
-}
-  where
-    first : (n : ℕ) → is_of n (n ∷ later) ≡ true
-    first n = rw (tied_number n) refl
+  -- it is changed
+  pub loop_next : {c : ConnectionValue} (d : ConnectionValue) → get mid k ≡ Some c → R k c d →
+      SoFar R later old (insert mid k d)
+  loop_next d there is = loop_past (insert mid k d)
+      (rw (put_same mid k d, sym loop_here ∙ there) is) (λ j ne. put_other mid k j d ne)
 
-    clash : ◌≡◌ {A = Bool} true false → ⊥
-    clash e = absurd cc
+  -- it is not there
+  pub loop_skip : get mid k ≡ None → SoFar R later old mid
+  loop_skip none = loop_past mid (rw (none, sym loop_here ∙ none) tt) (λ j ne. refl)

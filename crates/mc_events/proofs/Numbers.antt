@@ -107,10 +107,10 @@ numbers_none = record {
 }
 
 -- where one changes
-pub numbers_kept : (ids : List ℕ) (m : FinMap nat_cmp ConnectionValue) (last : Option ℕ) (k : ℕ)
-    (c d : ConnectionValue) → get m k ≡ Some c → AreNumbers ids m last →
-    AreNumbers ids (insert m k d) last
-numbers_kept ids m last k c d there is = record {
+pub numbers_kept : {ids : List ℕ} {m : FinMap nat_cmp ConnectionValue} {last : Option ℕ}
+    {c : ConnectionValue} (k : ℕ) (d : ConnectionValue) → get m k ≡ Some c →
+    AreNumbers ids m last → AreNumbers ids (insert m k d) last
+numbers_kept {m = m} {c = c} k d there is = record {
   are = is.are ∙ sym (keys_kept m k c d there);
   below = is.below;
 }

@@ -6,7 +6,7 @@ use Rattle.std.proofs.lemmas.List.Sums.{fold-append}
 use Rattle.std.specs.FinMap.{get, len}
 use Rattle.mc_model.specs.Run.{AreBytes, history}
 use Rattle.mc_model.specs.declared.stage.Stage.TheVariants as stages
-use Rattle.mc_model.specs.Step.{Event, joined, came, left, broke, ticked, took, forgot, step}
+use Rattle.mc_model.specs.Step.{Event, came, ticked, step}
 use Rattle.mc_model.specs.Game.{AreSettings}
 use Rattle.mc_model.specs.declared.player.Player.{Player}
 use Rattle.mc_model.specs.declared.settings.Settings.{Settings}
@@ -33,19 +33,9 @@ use Rattle.mc_events.specs.Stands.{IsReached}
 more_bytes : (events : List Event) (e : Event) → AreBytes events → IsEvent e →
     AreBytes (events ++ e ∷ [])
 more_bytes [] (came k bytes) are is = (is, tt)
-more_bytes [] (joined k) are is = tt
-more_bytes [] (left k) are is = tt
-more_bytes [] (broke k) are is = tt
-more_bytes [] ticked are is = tt
-more_bytes [] (took k n) are is = tt
-more_bytes [] (forgot k) are is = tt
+more_bytes [] other are is = tt
 more_bytes (came k bytes ∷ events) e are is = (are.0, more_bytes events e are.1 is)
-more_bytes (joined k ∷ events) e are is = more_bytes events e are is
-more_bytes (left k ∷ events) e are is = more_bytes events e are is
-more_bytes (broke k ∷ events) e are is = more_bytes events e are is
-more_bytes (ticked ∷ events) e are is = more_bytes events e are is
-more_bytes (took k n ∷ events) e are is = more_bytes events e are is
-more_bytes (forgot k ∷ events) e are is = more_bytes events e are is
+more_bytes (other ∷ events) e are is = more_bytes events e are is
 
 -- ---- what holds of it
 

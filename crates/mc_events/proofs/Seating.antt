@@ -1,8 +1,10 @@
 -- A server stands for a world after a step of one connection, whatever the step is.
 use Rattle.std.proofs.Common.{◌≡◌, ℕ, Bool, true, false, Option, Some, None, refl, sym, subst, ap}
 use Rattle.std.proofs.Common.{◌∙◌, inl, inr}
+use Rattle.std.specs.Prelude.{OnOk, Result}
 use Rattle.std.specs.FinMap.{get, insert}
 use Rattle.std.proofs.lemmas.Bool.{cases_eq}
+use Rattle.std.proofs.lemmas.Result.{on_ok_weaker}
 use Rattle.mc_model.specs.declared.stage.Stage.{Stage}
 use Rattle.mc_model.specs.declared.stage.Stage.TheVariants as stages
 use Rattle.mc_model.specs.Sight.{Sight}
@@ -29,6 +31,10 @@ use Rattle.mc_events.specs.Stands.{IsLinked, Pair, Stands}
 use Rattle.mc_events.proofs.Listed.{listed, uuid_of}
 use Rattle.mc_events.proofs.Reached.{reached_next, reached_settings, reached_shut}
 
+-- a server as it is from inside
+pub inside : {v u : ServerValue} {w : World} → v ≡ u → Stands u w → Stands v w
+inside {w = w} is stands = subst (λ (x : ServerValue). Stands x w) (sym is) stands
+
 -- ---- what Stands gives by key
 
 -- a connection stands for a link
@@ -49,10 +55,10 @@ found_link parts k unread shown (Some x) (Some l) c is pair =
       linked = subst (λ (m : Link). IsLinked parts k unread shown x m) (sym pair.link) pair;
     })
 
-pub link_found : (v : ServerValue) (w : World) (k : ℕ) (c : ConnectionValue) → Stands v w →
+link_found : {v : ServerValue} {w : World} {c : ConnectionValue} (k : ℕ) → Stands v w →
     get v.connections k ≡ Some c →
     HasLink (shown_parts v) k (unread_of k w) (get w.shown k) c (get w.links k)
-link_found v w k c stands is = found_link (shown_parts v) k (unread_of k w) (get w.shown k)
+link_found {v} {w} {c} k stands is = found_link (shown_parts v) k (unread_of k w) (get w.shown k)
     (get v.connections k) (get w.links k) c is (stands.each k)
 
 -- where no connection is there is no link
@@ -63,15 +69,15 @@ no_link parts k unread shown None None is pair = refl
 no_link parts k unread shown None (Some l) is pair = absurd pair
 no_link parts k unread shown (Some x) q is pair = absurd cc
 
-pub link_missing : (v : ServerValue) (w : World) (k : ℕ) → Stands v w →
+link_missing : {v : ServerValue} {w : World} (k : ℕ) → Stands v w →
     get v.connections k ≡ None → get w.links k ≡ None
-link_missing v w k stands is = no_link (shown_parts v) k (unread_of k w) (get w.shown k)
+link_missing {v} {w} k stands is = no_link (shown_parts v) k (unread_of k w) (get w.shown k)
     (get v.connections k) (get w.links k) is (stands.each k)
 
 -- what is not read of it is what its splitter holds
-pub link_sits : (v : ServerValue) (w : World) (k : ℕ) (c : ConnectionValue) → Stands v w →
+pub link_sits : {v : ServerValue} {w : World} {c : ConnectionValue} (k : ℕ) → Stands v w →
     get v.connections k ≡ Some c → Sits c (unread_of k w)
-link_sits v w k c stands is open_ = ((link_found v w k c stands is).linked.remembers open_).holds
+link_sits k stands is open_ = ((link_found k stands is).linked.remembers open_).holds
 
 -- ---- a turn
 
@@ -144,7 +150,7 @@ each_turned v w k g c d list s stands there turned settings is opened j =
         put_same w.unread k s.unread,
       )
           (own_linked (shown_parts v) k (unread_of k w) (get w.shown k) v.game g c d s
-          (link_found v w k c stands there).linked turned opened)
+          (link_found k stands there).linked turned opened)
       | inr ne ↦ rw (
         put_other v.connections k j d ne,
         put_other w.links k j s.link ne,
@@ -161,11 +167,11 @@ pub record IsTurn (w : World) (k : ℕ) (e : Event) (f : Seat → Turn) : Type 0
   pub is : step w e ≡ on_seat w k f
 
 -- where it is not there nothing happens
-pub away_stands : (v : ServerValue) (w : World) (k : ℕ) (e : Event) (f : Seat → Turn) →
+pub away_stands : {v : ServerValue} {w : World} {k : ℕ} {e : Event} {f : Seat → Turn} →
     Stands v w → get v.connections k ≡ None → IsTurn w k e f → Stands v (step w e).world
-away_stands v w k e f stands none turn =
+away_stands {v} {w} {k} {e} {f} stands none turn =
     subst (λ (o : Outcome). Stands v o.world)
-    (sym (turn.is ∙ ap (on_link w k f) (link_missing v w k stands none))) stands
+    (sym (turn.is ∙ ap (on_link w k f) (link_missing k stands none))) stands
 
 -- where it is there, all stands
 pub turn_stands : (v : ServerValue) (w : World) (k : ℕ) (e : Event) (f : Seat → Turn)
@@ -198,7 +204,7 @@ turn_stands v w k e f g c d list stands there turn turned follows last =
     }
   where
     found : HasLink (shown_parts v) k (unread_of k w) (get w.shown k) c (get w.links k)
-    found = link_found v w k c stands there
+    found = link_found k stands there
 
     s : Seat
     s = (f (seat_of w k c.link)).seat
@@ -221,3 +227,25 @@ turn_stands v w k e f g c d list stands there turn turned follows last =
             (closed_stage c.link.stage is)
             (ap (λ (o : Outcome). get o.world.links k) now_is
             ∙ put_same w.links k s.link))) open_)
+
+-- and where the list then follows, if there was memory for it
+module _ {v old new : ServerValue} {w : World} {k : ℕ} {e : Event} (f : ℕ → Seat → Turn)
+    {g : GameValue} {c d : ConnectionValue} {was : Option ℕ} (is : v ≡ old)
+    (stands : Stands old w) (there : get v.connections k ≡ Some c) (turn : IsTurn w k e (f k))
+    (turned : IsTurned v.game g c d (f c.id (seat_with v.game c (unread_of k w))).seat)
+    (had : was ≡ uuid_of (get old.game.game.players k))
+    (rest : new ≡ with_turn v k g d new.list) (last : new.list.last ≡ v.list.last) where
+  here : Stands v w
+  here = inside is stands
+
+  pub listed_stands : {T E : Type 0} (r : Result T E) →
+      OnOk r (Follows was (get g.game.players k) v.list new.list) →
+      OnOk r (Stands new (step w e).world)
+  listed_stands r = on_ok_weaker r (λ follows.
+      subst (λ (x : ServerValue). Stands x (step w e).world) (sym rest)
+      (turn_stands v w k e (f k) g c d new.list here there turn
+      (subst (λ (n : ℕ). IsTurned v.game g c d (f n (seat_with v.game c (unread_of k w))).seat)
+      (link_found k here there).linked.id turned)
+      (subst (λ (o : Option ℕ). Follows o (get g.game.players k) v.list new.list)
+      (had ∙ ap (λ (x : ServerValue). uuid_of (get x.game.game.players k)) (sym is)) follows)
+      last))

@@ -1,7 +1,7 @@
 -- A server stands after bytes of a connection, after its leaving, and after it took of what it is
 -- owed.
 use Rattle.std.proofs.Common.{◌≡◌, ℕ, ◌<◌, ◌≤◌, true, false, List, Option, Some, None, refl, sym}
-use Rattle.std.proofs.Common.{subst, ap, ◌∙◌, arith, inl, inr, drop, length}
+use Rattle.std.proofs.Common.{ap, ◌∙◌, arith, inl, inr, drop, length}
 use Rattle.std.proofs.lemmas.List.{length-drop}
 use Rattle.std.specs.Prelude.{if◌then◌else◌}
 use Rattle.std.specs.FinMap.{get, insert}
@@ -17,7 +17,7 @@ use Rattle.mc_model.specs.declared.player.Player.{Player}
 use Rattle.mc_model.specs.Game.{Game}
 use Rattle.mc_model.specs.Leaving.{leave, left_by}
 use Rattle.mc_model.specs.Link.{gone}
-use Rattle.mc_model.specs.World.{Seat, World, nothing_unread, unread_of}
+use Rattle.mc_model.specs.World.{Seat, Unread, World, nothing_unread}
 use Rattle.mc_laws.proofs.Deeds.Leaving.{leave_stays}
 use Rattle.mc_model.proofs.Maps.Lookups.{put_same}
 use Rattle.mc_model.proofs.Maps.Options.{not_both}
@@ -31,15 +31,14 @@ use Rattle.mc_events.specs.Listing.{Follows}
 use Rattle.mc_events.specs.Served.{ServerValue}
 use Rattle.mc_events.specs.Stands.{Stands, owed_by}
 use Rattle.mc_events.proofs.Listed.{uuid_of}
-use Rattle.mc_events.proofs.Seating.{IsTurn, IsTurned, link_found, link_sits, turn_stands}
-use Rattle.mc_events.proofs.Seating.{with_turn}
+use Rattle.mc_events.proofs.Seating.{IsTurn, IsTurned, link_sits, turn_stands, with_turn}
 
 -- ---- the steps of the events
 
-pub came_turn : (w : World) (k : ℕ) (bytes : List ℕ) → IsBytes bytes →
+pub came_turn : {w : World} {k : ℕ} {bytes : List ℕ} → IsBytes bytes →
     IsTurn w k (came k bytes) (λ (s : Seat). on_bytes k s bytes)
 unfolding step
-came_turn w k bytes are = record { own = refl; bytes = are; is = refl }
+came_turn are = record { own = refl; bytes = are; is = refl }
 
 left_turn : (w : World) (k : ℕ) → IsTurn w k (left k) (depart k causes.Gone)
 unfolding step
@@ -49,65 +48,32 @@ broke_turn : (w : World) (k : ℕ) → IsTurn w k (broke k) (depart k causes.Bro
 unfolding step
 broke_turn w k = record { own = refl; bytes = tt; is = refl }
 
-pub leaving_turn : (w : World) (k : ℕ) (cause : Cause) (e : Event) → IsLeaving k cause e →
+pub leaving_turn : {w : World} {k : ℕ} {e : Event} (cause : Cause) → IsLeaving k cause e →
     IsTurn w k e (depart k cause)
-leaving_turn w k cause e (inl is) = subst (λ (x : Event). IsTurn w k x (depart k cause))
-    (sym is.0) (subst (λ (x : Cause). IsTurn w k (left k) (depart k x)) (sym is.1) (left_turn w k))
-leaving_turn w k cause e (inr is) = subst (λ (x : Event). IsTurn w k x (depart k cause))
-    (sym is.0) (subst (λ (x : Cause). IsTurn w k (broke k) (depart k x)) (sym is.1)
-    (broke_turn w k))
+leaving_turn {w} {k} cause (inl is) = rw (is.0, is.1) (left_turn w k)
+leaving_turn {w} {k} cause (inr is) = rw (is.0, is.1) (broke_turn w k)
 
-pub took_turn : (w : World) (k n : ℕ) → IsTurn w k (took k n) (take_from n)
+pub took_turn : {w : World} {k n : ℕ} → IsTurn w k (took k n) (take_from n)
 unfolding step
-took_turn w k n = record { own = refl; bytes = tt; is = refl }
-
--- nothing of the connection but its link is another
-still_turned : (v g : GameValue) (c d : ConnectionValue) (s : Seat) → Becomes v g c d s →
-    Sits d s.unread → IsTurned v g c d s
-still_turned v g c d s becomes sits = record {
-  becomes = record {
-    game = becomes.game;
-    link = becomes.link ∙ ap (λ (x : Splitting). record c { splitter = x; link = s.link })
-        (sym (ap (λ (x : ConnectionValue). x.splitter) becomes.link));
-  };
-  sits = sits;
-}
-
--- ---- bytes
-
-pub bytes_stands : (v : ServerValue) (w : World) (k : ℕ) (bytes : List ℕ) (g : GameValue)
-    (c d : ConnectionValue) (list : ListValue) → Stands v w → IsBytes bytes →
-    get v.connections k ≡ Some c →
-    Becomes v.game g (record c { splitter = d.splitter }) d
-    (on_bytes c.id (seat_with v.game c (unread_of k w)) bytes).seat →
-    Sits d (on_bytes c.id (seat_with v.game c (unread_of k w)) bytes).seat.unread →
-    Follows (uuid_of (get v.game.game.players k)) (get g.game.players k) v.list list →
-    list.last ≡ v.list.last → Stands (with_turn v k g d list) (step w (came k bytes)).world
-bytes_stands v w k bytes g c d list stands are there becomes sits follows last =
-    turn_stands v w k (came k bytes) (λ (s : Seat). on_bytes k s bytes) g c d list stands there
-    (came_turn w k bytes are)
-    (subst (λ (n : ℕ). IsTurned v.game g c d
-    (on_bytes n (seat_with v.game c (unread_of k w)) bytes).seat)
-    (link_found v w k c stands there).linked.id (record { becomes = becomes; sits = sits }))
-    follows last
+took_turn = record { own = refl; bytes = tt; is = refl }
 
 -- ---- leaving
 
-pub leaving_stands : (v : ServerValue) (w : World) (k : ℕ) (cause : Cause) (e : Event)
-    (g : GameValue) (c d : ConnectionValue) (list : ListValue) → Stands v w →
-    IsLeaving k cause e → get v.connections k ≡ Some c →
-    Becomes v.game g c d (depart c.id cause (seat_with v.game c (unread_of k w))).seat →
-    Follows (uuid_of (get v.game.game.players k)) (get g.game.players k) v.list list →
-    list.last ≡ v.list.last → Stands (with_turn v k g d list) (step w e).world
-leaving_stands v w k cause e g c d list stands leaves there becomes follows last =
-    turn_stands v w k e (depart k cause) g c d list stands there (leaving_turn w k cause e leaves)
-    (subst (λ (n : ℕ). IsTurned v.game g c d
-    (depart n cause (seat_with v.game c (unread_of k w))).seat)
-    (link_found v w k c stands there).linked.id
-    (still_turned v.game g c d (depart c.id cause (seat_with v.game c (unread_of k w))).seat becomes
-    (λ open_. absurd (not_both (is_closed d.link.stage)
-    (ap (λ (x : ConnectionValue). is_closed x.link.stage) becomes.link ∙ gone_closed cause c.link)
-    open_)))) follows last
+-- who leaves is closed, so nothing is asked of what is not read of its bytes
+pub leaving_turned : {v g : GameValue} {c d : ConnectionValue} (cause : Cause) (unread : Unread) →
+    Becomes v g c d (depart c.id cause (seat_with v c unread)).seat →
+    IsTurned v g c d (depart c.id cause (seat_with v c unread)).seat
+leaving_turned {c = c} {d = d} cause unread becomes = record {
+  becomes = record {
+    game = becomes.game;
+    link = becomes.link
+        ∙ ap (λ (x : Splitting). record c { splitter = x; link = gone cause c.link })
+        (sym (ap (λ (x : ConnectionValue). x.splitter) becomes.link));
+  };
+  sits = λ open_. absurd (not_both (is_closed d.link.stage)
+      (ap (λ (x : ConnectionValue). is_closed x.link.stage) becomes.link
+      ∙ gone_closed cause c.link) open_);
+}
 
 -- no tick comes of it
 left_age : (k : ℕ) (stage : Stage) (g : Game) → (left_by k stage g).age ≡ g.age
@@ -138,10 +104,10 @@ pub took_stands : (v : ServerValue) (w : World) (k n : ℕ) (c : ConnectionValue
     Stands (with_turn v k v.game (taken_by n c) v.list) (step w (took k n)).world
 took_stands v w k n c stands there =
     turn_stands v w k (took k n) (take_from n) v.game c (taken_by n c) v.list stands there
-    (took_turn w k n)
+    took_turn
     (record {
       becomes = record { game = refl; link = refl };
-      sits = link_sits v w k c stands there;
+      sits = link_sits k stands there;
     })
     (same_follows (get v.game.game.players k) v.list) refl
 

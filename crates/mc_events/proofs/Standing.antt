@@ -70,7 +70,7 @@ numbers_mapped : {X Y : Type 0} (f : X → Y) (test : Y → Bool) (es : List (�
 numbers_mapped f test [] = refl
 numbers_mapped f test (e ∷ es) = grind (arith, nat_tests, numbers_mapped f test es)
 
-module _ (v : ServerValue) (w : World) (st : Stands v w) where
+module _ {v : ServerValue} {w : World} (st : Stands v w) where
   pub linked : (k : ℕ) → option_map link_of (get v.connections k) ≡ get w.links k
   linked k = pair_link (shown_parts v) k (unread_of k w) (get w.shown k) (get v.connections k)
       (get w.links k) (st.each k)
@@ -145,18 +145,18 @@ new_stands settings are = record {
 holds_nothing : Holds nothing_held nothing_unread
 holds_nothing = record { held = refl; before = refl; fine = refl; part = nothing_part }
 
-module _ (v : ServerValue) (w : World) (k : ℕ) (st : Stands v w) where
+module _ {v : ServerValue} {w : World} (k : ℕ) (st : Stands v w) where
   -- one that may not join leaves all as it was
   pub old_stands : is_new k v.last ≡ false → Stands v (step w (joined k)).world
   unfolding step
   old_stands old = rw (ap (is_new k) (sym st.last) ∙ old) st
 
-  pub joined_stands : (c : ConnectionValue) → is_new k v.last ≡ true →
+  pub joined_stands : {c : ConnectionValue} → is_new k v.last ≡ true →
       c ≡ record (new_connection k) { link = joining w } →
       Stands (record v { connections = insert v.connections k c; last = Some k })
       (step w (joined k)).world
   unfolding step
-  joined_stands c new is =
+  joined_stands {c} new is =
       let w_new : is_new k w.last ≡ true = ap (is_new k) (sym st.last) ∙ new in
       let none : get w.links k ≡ None = (reached_good w st.reached).fresh k w_new in
       let absent = reached_absent w st.reached in
@@ -193,28 +193,28 @@ module _ (v : ServerValue) (w : World) (k : ℕ) (st : Stands v w) where
           }))
 
   -- one that is there, but not closed and owed nothing, stays
-  pub forgot_still : (c : ConnectionValue) → get v.connections k ≡ Some c →
+  pub forgot_still : {c : ConnectionValue} → get v.connections k ≡ Some c →
       is_done c.link ≡ false → Stands v (step w (forgot k)).world
   unfolding step
-  forgot_still c there still =
+  forgot_still {c} there still =
       let link : get w.links k ≡ Some c.link =
-      sym (linked v w st k) ∙ ap (option_map link_of) there in
+      sym (linked st k) ∙ ap (option_map link_of) there in
       rw (link, still) st
 
   pub forgot_none : get v.connections k ≡ None → Stands v (step w (forgot k)).world
   unfolding step
   forgot_none none =
-      let link : get w.links k ≡ None = sym (linked v w st k) ∙ ap (option_map link_of) none in
+      let link : get w.links k ≡ None = sym (linked st k) ∙ ap (option_map link_of) none in
       rw link st
 
   -- and one that is goes
-  pub forgot_stands : (c : ConnectionValue) → get v.connections k ≡ Some c →
+  pub forgot_stands : {c : ConnectionValue} → get v.connections k ≡ Some c →
       is_done c.link ≡ true →
       Stands (record v { connections = remove v.connections k }) (step w (forgot k)).world
   unfolding step
-  forgot_stands c there done =
+  forgot_stands {c} there done =
       let link : get w.links k ≡ Some c.link =
-      sym (linked v w st k) ∙ ap (option_map link_of) there in
+      sym (linked st k) ∙ ap (option_map link_of) there in
       let reached = reached_next w (forgot k) tt st.reached in
       let goal : World → Type 0 = λ u. IsReached u → Stands
       (record v { connections = remove v.connections k }) u in

@@ -1,11 +1,8 @@
-use Rattle.std.proofs.Common.{subst, sym, ◌∙◌}
-use Rattle.mc_events.specs.Served.{ServerValue}
-use Rattle.mc_events.specs.Stands.{Stands}
-use Rattle.mc_events.specs.contracts.server.Server.{the_view}
+use Rattle.std.proofs.Common.{◌∙◌}
+use Rattle.mc_events.proofs.Seating.{inside}
 use Rattle.mc_events.proofs.Standing.{same_numbers}
 use Rattle.mc_events.proofs.server.Server.connections.Goals as goal
 
 pub returns : goal.returns
 returns c = λ w st. c.as_slice.ensures.value ∙ c.self.invariant.are
-    ∙ same_numbers (the_view c.self.inside) w
-    (subst (λ (u : ServerValue). Stands u w) (sym c.self.view_is) st)
+    ∙ same_numbers (inside c.self.view_is st)

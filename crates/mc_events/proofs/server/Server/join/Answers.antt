@@ -1,19 +1,18 @@
-use Rattle.std.proofs.Common.{◌≡◌, true, subst, sym, ap, ◌∙◌}
+use Rattle.std.proofs.Common.{◌≡◌, true, sym, ap, ◌∙◌}
 use Rattle.std.specs.Prelude.{if◌then◌else◌}
 use Rattle.mc_model.specs.Step.{is_new}
 use Rattle.mc_model.specs.declared.cause.Cause.TheVariants as causes
 use Rattle.mc_model.specs.Link.{mark_closed, new_link}
 use Rattle.mc_links.specs.Kept.{new_connection}
 use Rattle.mc_events.specs.Served.{ServerValue}
-use Rattle.mc_events.specs.Stands.{Stands}
-use Rattle.mc_events.specs.contracts.server.Server.{the_view}
 use Rattle.mc_events.proofs.Numbers.{numbers_more}
+use Rattle.mc_events.proofs.Seating.{inside}
 use Rattle.mc_events.proofs.Standing.{crowd_is, joined_stands, old_stands}
 use Rattle.mc_events.proofs.server.Server.join.Goals as goal
 
 pub returns-then-not-is_new-clause-follows : goal.returns-then-not-is_new-clause-follows
-returns-then-not-is_new-clause-follows c = λ w st. old_stands c.args.self.now w c.args.k st
-    (sym c.if-not-is_new.ensures)
+returns-then-not-is_new-clause-follows c = λ w st.
+    old_stands c.args.k st (sym c.if-not-is_new.ensures)
 
 pub invariant_of-self-2 : goal.invariant_of-self-2
 invariant_of-self-2 c =
@@ -25,10 +24,8 @@ invariant_of-self-2 c =
 
 pub returns-clause-follows : goal.returns-clause-follows
 returns-clause-follows c = λ w st.
-    let v = the_view c.self.inside in
-    let here = subst (λ (u : ServerValue). Stands u w) (sym c.self.view_is) st in
-    rw c.in_ok-add.ensures.ok (joined_stands v w c.args.k here c.joining-connection.result
+    rw c.in_ok-add.ensures.ok (joined_stands c.args.k (inside c.self.view_is st)
     (ap (λ (u : ServerValue). is_new c.args.k u.last) c.self.view_is ∙ sym c.if-not-is_new.ensures)
     (c.joining-connection.ensures ∙ ap (λ b. record (new_connection c.args.k) {
       link = if b then mark_closed new_link causes.Crowded else new_link;
-    }) (crowd_is c.args.self.now w st)))
+    }) (crowd_is st)))

@@ -1,26 +1,22 @@
 use Rattle.std.proofs.Common.{◌<◌, ◌≤◌, length, sym, subst, ap, ◌∙◌}
 use Rattle.std.specs.Option.{option_copied_mut}
 use Rattle.std.specs.FinMap.{get, insert}
-use Rattle.mc_model.specs.Step.{took, step, take_from}
+use Rattle.mc_model.specs.Step.{took, step}
 use Rattle.mc_links.specs.Kept.{ConnectionValue}
 use Rattle.mc_events.specs.contracts.server.Server.{the_view}
 use Rattle.mc_events.specs.Served.{ServerValue}
 use Rattle.mc_events.specs.Stands.{Stands, owed_by, owes}
 use Rattle.mc_events.proofs.Numbers.{numbers_kept}
-use Rattle.mc_events.proofs.Seating.{away_stands, with_turn}
+use Rattle.mc_events.proofs.Seating.{away_stands, inside, with_turn}
 use Rattle.mc_events.proofs.Sitting.{took_falls, took_stands, took_turn}
 use Rattle.mc_events.proofs.server.Server.took.Goals as goal
 
 pub returns-in_default-clause-follows : goal.returns-in_default-clause-follows
-returns-in_default-clause-follows c = λ w stands.
-    away_stands (the_view c.self.inside) w c.args.k (took c.args.k c.args.n) (take_from c.args.n)
-    (subst (λ (x : ServerValue). Stands x w) (sym c.self.view_is) stands)
-    (sym c.find_mut.ensures.is ∙ ap option_copied_mut c.in_default.is)
-    (took_turn w c.args.k c.args.n)
+returns-in_default-clause-follows c = λ w stands. away_stands (inside c.self.view_is stands)
+    (sym c.find_mut.ensures.is ∙ ap option_copied_mut c.in_default.is) took_turn
 
 pub invariant_of-self-2 : goal.invariant_of-self-2
-invariant_of-self-2 c = numbers_kept c.self.inside.ids.items c.self.inside.connections
-    c.self.inside.last c.args.k c.in-Some.connection.now c.took.new.self
+invariant_of-self-2 c = numbers_kept c.args.k c.took.new.self
     (sym c.find_mut.ensures.is ∙ ap option_copied_mut c.in-Some.is) c.self.invariant
 
 pub returns-clause-follows : goal.returns-clause-follows
@@ -30,7 +26,7 @@ returns-clause-follows c = λ w stands.
     c.self.inside.game d c.self.inside.list) (step w (took c.args.k c.args.n)).world)
     (sym c.took.ensures)
     (took_stands (the_view c.self.inside) w c.args.k c.args.n c.in-Some.connection.now
-    (subst (λ (x : ServerValue). Stands x w) (sym c.self.view_is) stands) there)
+    (inside c.self.view_is stands) there)
 
 pub returns-clause-falls : goal.returns-clause-falls
 returns-clause-falls c = λ some most.

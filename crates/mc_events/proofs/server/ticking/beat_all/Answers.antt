@@ -1,16 +1,11 @@
-use Rattle.std.proofs.Common.{◌≡◌, ◌∙◌, get_or, refl, sym, rules}
-use Rattle.std.specs.Prelude.{None}
-use Rattle.std.specs.FinMap.{get}
+use Rattle.std.proofs.Common.{◌∙◌, get_or, sym, rules}
 use Rattle.mc_events.proofs.Numbered.{walk_first, walk_next, walk_skip}
 use Rattle.mc_events.proofs.Numbers.{keys_kept}
 use Rattle.mc_events.proofs.server.ticking.beat_all.Goals.{in-Some+in_ok-beat, in_default}
 use Rattle.mc_events.proofs.server.ticking.beat_all.Goals as goal
 
 pub loop-id-init : goal.loop-id-init
-loop-id-init c = record {
-  beaten = walk_first _ c.args.ids.now c.args.connections.now c.requires.all;
-  same = refl;
-}
+loop-id-init c = walk_first c.requires.all
 
 pub returns-in_err-beat-clause-same : goal.returns-in_err-beat-clause-same
 returns-in_err-beat-clause-same c =
@@ -19,24 +14,9 @@ returns-in_err-beat-clause-same c =
     ∙ c.loop-id.invariant.same
 
 pub loop-id-preserved : goal.loop-id-preserved
-loop-id-preserved c =
-    let ids = c.args.ids.now in
-    let i = c.loop-id.id-index in
-    let mid = c.loop-id.connections in
-    let h = c.loop-id.invariant in
-    elim c.match-find_mut.branch [
-      | in-Some+in_ok-beat w ↦ rw w.connections-is (record {
-        beaten = walk_next _ ids i c.args.connections.now mid w.in-Some.connection.now
-            w.beat.new.connection c.loop-id-test.true h.beaten (sym w.in-Some.ensures.is)
-            w.in_ok-beat.ensures.beaten;
-        same = keys_kept mid (get_or ids i 0) w.in-Some.connection.now w.beat.new.connection
-            (sym w.in-Some.ensures.is) ∙ h.same;
-      })
-      | in_default w ↦
-          (let none : get mid (get_or ids i 0) ≡ None = search rules in
-          rw w.connections-is (record {
-            beaten = walk_skip _ ids i c.args.connections.now mid c.loop-id-test.true h.beaten
-                none;
-            same = h.same;
-          }))
-    ]
+loop-id-preserved c = elim c.match-find_mut.branch [
+  | in-Some+in_ok-beat w ↦ rw w.connections-is (walk_next c.loop-id-test.true c.loop-id.invariant
+      w.beat.new.connection (sym w.in-Some.ensures.is) w.in_ok-beat.ensures.beaten)
+  | in_default w ↦ rw w.connections-is
+      (walk_skip c.loop-id-test.true c.loop-id.invariant (search rules))
+]
