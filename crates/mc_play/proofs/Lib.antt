@@ -1,5 +1,6 @@
 pub mod Clicking
 pub mod Dropping
+pub mod Falling
 pub mod Holding
 pub mod Lying
 pub mod NamedPacks

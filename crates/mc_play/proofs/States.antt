@@ -11,9 +11,12 @@ use Rattle.std.specs.FinMap.{FinMap, get, insert, remove, get-empty, get-insert,
 use Rattle.mc_fields.specs.declared.position.Cell.{Cell}
 use Rattle.mc_land.specs.declared.terrain.Terrain.{Terrain}
 use Rattle.mc_land.specs.Places.{Key, key_cmp, key_of, is_height, is_inside, is_within_border}
-use Rattle.mc_land.specs.Land.{LandValue, edited, new_land, terrain_at, with_block}
+use Rattle.mc_land.specs.Chests.{chest_in}
+use Rattle.mc_land.specs.Land.{LandValue, edited, new_land, state_at, terrain_at, with_block}
 use Rattle.mc_land.proofs.Orders.{keys_total}
 use Rattle.mc_model.specs.Digging.{floor_of}
+use Rattle.mc_model.specs.Game.{Game, state_in}
+use Rattle.mc_model.specs.Placing.{is_free}
 use Rattle.mc_model.proofs.FitsText.{both_true}
 use Rattle.mc_play.specs.Kept.{AreStates, IsNear}
 
@@ -55,6 +58,20 @@ border_low v is = grind (arith, nat_tests)
 pub floor_near : (cell : Cell) → is_inside cell.x cell.y cell.z ≡ true →
     IsNear (floor_of cell)
 floor_near cell is = grind (arith, nat_tests, both_true, height_low, border_low, ints)
+
+-- ---- chests
+
+-- a cell of the world has the chest of its key
+pub chest_inside : (land : LandValue) (cell : Cell) → is_inside cell.x cell.y cell.z ≡ true →
+    chest_in land cell.x cell.y cell.z
+    ≡ get land.chests (key_of cell.x (unsigned_abs cell.y) cell.z)
+chest_inside land cell inside = grind (arith, nat_tests)
+
+-- a cell that is free has the state of its key
+pub free_state : (g : Game) (cell : Cell) → is_free g cell ≡ true →
+    state_at g.settings.terrain g.edits (key_of cell.x (unsigned_abs cell.y) cell.z)
+    ≡ state_in g cell
+free_state g cell free = grind (arith, nat_tests)
 
 -- ---- a land
 

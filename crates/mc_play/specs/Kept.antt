@@ -9,8 +9,8 @@ use lib.Signed.{◌≤ℤ◌}
 use Rattle.mc_fields.specs.declared.position.Spot.{Spot}
 use Rattle.mc_land.specs.Places.{Key, key_cmp, place_cmp}
 use Rattle.mc_land.specs.Land.{LandValue}
-use Rattle.mc_slots.specs.declared.pile.Pile.{Pile}
 use Rattle.mc_entities.specs.declared.entity.Entity.{Entity}
+use Rattle.mc_entities.specs.Folk.{FolkValue}
 use Rattle.mc_model.specs.declared.player.Player.{Player}
 use Rattle.mc_model.specs.declared.settings.Settings.{Settings}
 use Rattle.mc_model.specs.Game.{Game, new_game}
@@ -44,10 +44,9 @@ AreStates edits = (key : Key) (state : ℕ) → get edits key ≡ Some state →
 
 -- ---- the game
 
--- the piles of chests, the columns that are ready to be looked at, where each entity was at the
--- last settling, and for how many more there are places
+-- the columns that are ready to be looked at, where each entity was at the last settling, and for
+-- how many more there are places
 pub record Aside : Type 0 where
-  pub chests : FinMap key_cmp (List Pile)
   pub ready : set.FinSet place_cmp
   pub told : List (ℤ × Spot)
   pub reserve : ℕ
@@ -62,7 +61,7 @@ abbrev pub new_value : Settings → GameValue
 new_value settings = record {
   game = new_game settings;
   settled = empty;
-  aside = record { chests = empty; ready = set.empty; told = []; reserve = 0 };
+  aside = record { ready = set.empty; told = []; reserve = 0 };
 }
 
 -- another game, of which nothing is settled yet
@@ -75,8 +74,15 @@ land_of v = record {
   terrain = v.game.settings.terrain;
   edits = v.game.edits;
   settled = v.settled;
-  chests = v.aside.chests;
+  chests = v.game.chests;
   ready = v.aside.ready;
+}
+
+-- its players and dropped items
+abbrev pub folk_of : GameValue → FolkValue
+folk_of v = record {
+  state = record { entities = v.game.entities; told = v.aside.told; given = v.game.eids };
+  reserve = v.aside.reserve;
 }
 
 -- ---- what a player does

@@ -1,13 +1,13 @@
-ghost use Rattle.std.specs.Prelude.{◌≡◌, ◌≤◌, ◌<◌, ◌+◌, None, IfOk, IfSome, OnErr, OnOk, nat_lt};
-ghost use Rattle.std.specs.Prelude.{true};
+ghost use Rattle.std.specs.Prelude.{◌≡◌, ◌≤◌, ◌<◌, ◌+◌, ℕ, suc, None, IfOk, IfSome, OnErr, OnOk};
+ghost use Rattle.std.specs.Prelude.{nat_lt, true};
 ghost use lib.IntN.{pos};
 ghost use Rattle.mc_slots.specs.Pile.{IsItem, IsPile};
 ghost use Rattle.mc_slots.specs.declared.pile.Item as items;
 ghost use Rattle.mc_slots.specs.declared.pile.Pile as piles;
 ghost use Rattle.mc_entities.specs.declared.entity.EntityKind.TheVariants as kinds;
 ghost use Rattle.mc_entities.specs.declared.entity.TheConstants.{EID_MAX};
-ghost use Rattle.mc_entities.specs.Folk.{entity_of, new_state, placed, removed, room_of, settled};
-ghost use Rattle.mc_entities.specs.Folk.{spawned, with_entity, with_kind};
+ghost use Rattle.mc_entities.specs.Folk.{HasRoom, entity_of, new_state, placed, removed, room_of};
+ghost use Rattle.mc_entities.specs.Folk.{settled, spawned, with_entity, with_kind};
 ghost use Rattle.mc_entities.specs.Kinds.{are_alike};
 ghost use Rattle.mc_model.specs.Things.{holding, lying_as};
 ghost use Rattle.mc_model.specs.Spots.{spot_in};
@@ -86,12 +86,12 @@ impl Entities {
         }
     }
 
-    /// Makes a place for one more. Without memory all is as before.
-    pub fn reserve(&mut self) -> Result<(), NoMemory>
-        ensures ok { OnOk result (1 ≤ self.new.reserve) }
+    /// Makes places for so many more. Without memory all is as before.
+    pub fn reserve(&mut self, n: u32) -> Result<(), NoMemory>
+        ensures ok { OnOk result (n ≤ self.new.reserve) }
         ensures same { self.new.state ≡ self.old.state }
     {
-        self.folk.reserve(1)
+        self.folk.reserve(n)
     }
 
     /// Adds a player under the next number, and answers that. Without memory all is as before.
@@ -116,7 +116,8 @@ impl Entities {
         requires near { IsNear spot }
         requires room { 0 < room_of self.old.state }
         requires place { 0 < self.old.reserve }
-        ensures { self.new.state ≡ spawned (kinds.Dropped item born) spot self.old.state }
+        ensures state { self.new.state ≡ spawned (kinds.Dropped item born) spot self.old.state }
+        ensures rest { (n : ℕ) → HasRoom (suc n) self.old → HasRoom n self.new }
     {
         let _eid = self.folk.spawn(EntityKind::Dropped { item, born }, spot);
     }

@@ -80,6 +80,7 @@ impl Model for Game {
         };
         age = g.age;
         edits = g.ground.edits;
+        chests = g.ground.chests;
         entities = g.entities.state.entities;
         eids = g.entities.state.given;
         packs = g.packs;
@@ -88,7 +89,6 @@ impl Model for Game {
       };
       settled = g.ground.settled;
       aside = record {
-        chests = g.ground.chests;
         ready = g.ground.ready;
         told = g.entities.state.told;
         reserve = g.entities.reserve;

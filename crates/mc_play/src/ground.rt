@@ -1,4 +1,6 @@
 ghost use Rattle.std.specs.Prelude.{◌≡◌, ◌⊎◌, ◌<◌, ◌≤◌, true, OnErr, OnOk, unsigned_abs};
+ghost use Rattle.std.specs.Option.{option_copied};
+ghost use Rattle.mc_land.specs.Chests.{chest_in};
 ghost use Rattle.mc_land.specs.Land.{block, new_land, settled_land, with_block, with_ready};
 ghost use Rattle.mc_land.specs.Places.{IsPlace, is_inside, key_of};
 ghost use Rattle.mc_land.specs.Shed.{IsSettled, shed_land};
@@ -9,6 +11,7 @@ mod fields;
 use mc_bytes::NoMemory;
 use mc_fields::Cell;
 use mc_land::{Land, Steps, Terrain};
+use mc_slots::Chest;
 use std::alloc::Global;
 use std::marker::{Brand, Model};
 use std::sync::ledger::{Blank, Ledger};
@@ -81,6 +84,13 @@ impl Ground {
         ensures whole { (result ≡ 0) ⊎ (16 ≤ result) }
     {
         state_of::<Brand>(&self.land, cell, Blank::new(1))
+    }
+
+    /// The chest at a cell, None where there is none.
+    pub fn chest(&self, cell: &Cell) -> Option<&Chest>
+        ensures { option_copied result ≡ chest_in self.now cell.now.x cell.now.y cell.now.z }
+    {
+        self.land.chest(*cell)
     }
 
     /// Sets a cell of the world to air or to a state of a block. Without memory all is as before.

@@ -1,21 +1,23 @@
 //! What players dig and drop.
 
-ghost use Rattle.std.specs.Prelude.{◌≡◌, ◌⊎◌, ◌<◌, ◌≤◌, ◌&&◌, ◌+ℤ◌, ◌*ℤ◌, nat_lt, true, OnErr};
-ghost use Rattle.std.specs.Prelude.{OnOk, unsigned_abs};
+ghost use Rattle.std.specs.Prelude.{◌≡◌, ◌⊎◌, ◌<◌, ◌≤◌, ◌&&◌, ◌+ℤ◌, ◌*ℤ◌, ℕ, suc, nat_le, nat_lt};
+ghost use Rattle.std.specs.Prelude.{length, true, OnErr, OnOk, unsigned_abs};
+ghost use Rattle.std.specs.List.{filter_map};
 ghost use lib.IntN.{pos};
 ghost use Rattle.mc_land.specs.Places.{is_inside};
 ghost use Rattle.mc_slots.specs.Pile.{IsItem};
-ghost use Rattle.mc_model.specs.Digging.{block_item, floor_of, is_dug, dig, digging, drop_held};
-ghost use Rattle.mc_model.specs.Digging.{dug, feet_of};
+ghost use Rattle.mc_entities.specs.Folk.{HasRoom};
+ghost use Rattle.mc_model.specs.Digging.{all_thrown, block_item, floor_of, is_dug, item_of, dig};
+ghost use Rattle.mc_model.specs.Digging.{digging, drop_held, dug, dug_items, feet_of, stacks_at};
 ghost use Rattle.mc_model.specs.Deeds.{thrown};
 ghost use Rattle.mc_model.specs.Game.{held_by, room_in, state_in};
-ghost use Rattle.mc_play.specs.Kept.{IsNear, by_player, played};
+ghost use Rattle.mc_play.specs.Kept.{IsNear, by_player, folk_of, played};
 
 use crate::game::Game;
 use mc_bytes::NoMemory;
 use mc_fields::{Cell, Spot};
 use mc_model::Player;
-use mc_slots::{Item, Pile, split};
+use mc_slots::{Chest, Item, Pile, split};
 
 /// Whether a block of a state is dug: not air, and not bedrock.
 fn is_dug(state: u16) -> bool
@@ -33,6 +35,23 @@ fn block_item(state: u16) -> Item
         damage: (state % 16) as i16,
         count: 1,
     }
+}
+
+/// The item of a pile.
+fn item_of(pile: &Pile) -> Option<Item>
+    ensures { result ≡ item_of pile.now }
+{
+    match pile {
+        Pile::Empty => None,
+        Pile::Full(item) => Some(*item),
+    }
+}
+
+/// How many of the piles of a chest are not empty.
+fn stacks_in(piles: &[Pile]) -> usize
+    ensures { result ≡ length (filter_map item_of piles.now) }
+{
+    piles.iter().filter_map(|pile| item_of(pile)).count()
 }
 
 /// Where a block begins along an axis.
@@ -54,7 +73,8 @@ fn middle_of(block: i32) -> i32
 /// The middle of the floor of a cell.
 fn floor_of(cell: &Cell) -> Spot
     requires { is_inside cell.now.x cell.now.y cell.now.z ≡ true }
-    ensures { result ≡ floor_of cell.now }
+    ensures is { result ≡ floor_of cell.now }
+    ensures near { IsNear result }
 {
     Spot {
         x: middle_of(cell.x),
@@ -79,27 +99,69 @@ impl Game {
         requires near { IsNear spot }
         requires room { 0 < room_in self.old.game }
         requires place { 0 < self.old.aside.reserve }
-        ensures { self.new ≡ played self.old (thrown item spot self.old.game) self.new.aside }
+        ensures is { self.new ≡ played self.old (thrown item spot self.old.game) self.new.aside }
+        ensures rest { (n : ℕ) → HasRoom (suc n) (folk_of self.old) → HasRoom n (folk_of self.new) }
     {
         self.entities.drop_item(item, self.age, spot);
     }
 
-    /// Makes a cell air; what it was lies there. Without memory all is as before.
+    /// Lets what lies in a chest lie at a spot, slot by slot, for which there are room and places.
+    fn drop_all(&mut self, chest: &Chest, spot: Spot)
+        requires near { IsNear spot }
+        requires room { HasRoom (length (filter_map item_of chest.now)) (folk_of self.old) }
+        ensures { self.new ≡ played self.old
+            (all_thrown (filter_map item_of chest.now) spot self.old.game) self.new.aside }
+    {
+        for i in 0..chest.as_slice().len() {
+            if let Pile::Full(item) = chest.get(i) {
+                self.drop_item(item, spot);
+            }
+        }
+    }
+
+    /// The chest at a cell of the world; an empty one, where there is none.
+    #[tactic(auto, using(crate::proofs::States::chest_inside))]
+    fn chest_at(&self, cell: &Cell) -> Chest
+        requires { is_inside cell.now.x cell.now.y cell.now.z ≡ true }
+        ensures { filter_map item_of result ≡ stacks_at cell.now self.now.game }
+    {
+        match self.ground.chest(cell) {
+            Some(chest) => *chest,
+            None => Chest::new(),
+        }
+    }
+
+    /// Whether all that comes of a cell of the world may lie.
+    fn may_take_out(&self, cell: &Cell) -> bool
+        requires { is_inside cell.now.x cell.now.y cell.now.z ≡ true }
+        ensures { result ≡ nat_le (length (dug_items cell.now self.now.game))
+            (room_in self.now.game) }
+    {
+        let chest = self.chest_at(cell);
+        stacks_in(chest.as_slice()) < self.entities.room() as usize
+    }
+
+    /// Makes a cell air; what it was lies there, and what lay in it. Without memory all is as
+    /// before.
     fn take_out(&mut self, cell: Cell, state: u16) -> Result<(), NoMemory>
         requires inside { is_inside cell.x cell.y cell.z ≡ true }
         requires is { state ≡ state_in self.old.game cell }
         requires dug { is_dug state ≡ true }
         requires small { state < 4096 }
         requires whole { (state ≡ 0) ⊎ (16 ≤ state) }
-        requires room { 0 < room_in self.old.game }
+        requires room { length (dug_items cell self.old.game) ≤ room_in self.old.game }
         ensures ok { OnOk result (self.new
             ≡ played self.old (dug cell self.old.game) self.new.aside) }
         ensures err { OnErr result (self.new
             ≡ played self.old self.old.game self.new.aside) }
     {
-        self.entities.reserve()?;
+        let chest = self.chest_at(&cell);
+        self.entities
+            .reserve(1 + stacks_in(chest.as_slice()) as u32)?;
         self.ground.set(cell, 0)?;
-        self.drop_item(block_item(state), floor_of(&cell));
+        let spot = floor_of(&cell);
+        self.drop_item(block_item(state), spot);
+        self.drop_all(&chest, spot);
         Ok(())
     }
 
@@ -115,7 +177,7 @@ impl Game {
             return Ok(());
         };
         match self.reach(player, &cell) {
-            Some(state) if is_dug(state) && self.may_drop() => self.take_out(cell, state),
+            Some(state) if is_dug(state) && self.may_take_out(&cell) => self.take_out(cell, state),
             _ => self.players.note_cell(connection, cell),
         }
     }
@@ -154,7 +216,7 @@ impl Game {
             return Ok(());
         }
         let spot = self.feet_of(player);
-        self.entities.reserve()?;
+        self.entities.reserve(1)?;
         self.carry(connection, left);
         self.drop_item(item, spot);
         Ok(())

@@ -140,7 +140,7 @@ impl Game {
         };
         let mut pack = self.pack_of(player);
         let came = mc_windows::click(&mut pack, None, click, self.may_drop());
-        self.entities.reserve()?;
+        self.entities.reserve(1)?;
         self.answer(connection, click, came)?;
         self.repack(connection, pack);
         self.let_fall(connection, dropped(came));
@@ -207,7 +207,7 @@ impl Game {
     {
         let mut closed = pack;
         let cursor = finish(&mut closed);
-        self.entities.reserve()?;
+        self.entities.reserve(1)?;
         self.repack(connection, closed);
         self.let_fall(connection, cursor);
         Ok(())

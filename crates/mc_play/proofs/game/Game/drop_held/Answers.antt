@@ -57,4 +57,4 @@ returns-clause-ok c =
     c.held_by-left.ensures.is c.in-Full.ensures.taken)
     (subst (λ (held : Pile). c.split.new.pile ≡ without held (min c.args.n (count_of held)))
     c.held_by-left.ensures.is c.split.ensures.left)
-    c.if-not-may_drop.ensures c.feet_of-spot.ensures.is c.carry.ensures c.drop_item.ensures
+    c.if-not-may_drop.ensures c.feet_of-spot.ensures.is c.carry.ensures c.drop_item.ensures.is
