@@ -1,7 +1,6 @@
+pub mod Changing
 pub mod Clicking
 pub mod Dropping
-pub mod Holding
-pub mod Lying
 pub mod NamedPacks
 pub mod Names
 pub mod Near
