@@ -5,4 +5,5 @@ pub mod NamedPacks
 pub mod Names
 pub mod Near
 pub mod States
+pub mod Steps
 pub mod Stowing

@@ -73,6 +73,14 @@ impl Game {
         self.entities.room() > 0
     }
 
+    /// Makes a place for one more entity. Without memory all is as before.
+    pub(super) fn reserve(&mut self) -> Result<(), NoMemory>
+        ensures ok { OnOk result (0 < self.new.aside.reserve) }
+        ensures is { self.new ≡ played self.old self.old.game self.new.aside }
+    {
+        self.entities.reserve()
+    }
+
     /// Lets an item lie at a spot, for which there are room and a place.
     pub(super) fn drop_item(&mut self, item: Item, spot: Spot)
         requires item { IsItem item }
@@ -97,7 +105,7 @@ impl Game {
         ensures err { OnErr result (self.new
             ≡ played self.old self.old.game self.new.aside) }
     {
-        self.entities.reserve()?;
+        self.reserve()?;
         self.ground.set(cell, 0)?;
         self.drop_item(block_item(state), floor_of(&cell));
         Ok(())
