@@ -26,6 +26,7 @@ use Rattle.mc_model.proofs.Maps.Lookups.{changed_same}
 use Rattle.mc_model.proofs.ThingsKept.{dropped_held}
 use Rattle.mc_play.specs.Kept.{GameValue, by_player, played}
 use Rattle.mc_play.proofs.Dropping.{by_some}
+use Rattle.mc_play.proofs.Steps.{then_played}
 
 -- ---- room
 
@@ -72,18 +73,13 @@ repacked_room k pack v mid carried =
 -- what is noted first changes neither what is carried nor what falls
 noted_first : (k : ℕ) (p : Player) (f : Notes → Notes) (pack : PackValue) (pile : Pile)
     (g : Game) → get g.players k ≡ Some p →
-    by_player k (λ (q : Player). let_fall q pile)
-    (by_player k (λ (q : Player). repack_of q pack) (noting f k g))
+    by_player k (λ (q : Player) (h : Game). let_fall q pile (repack_of q pack h)) (noting f k g)
     ≡ noting f k (let_fall p pile (repack_of p pack g))
 noted_first k p f pack pile g plays =
-    let q : Player = record p { notes = f p.notes } in
-    let h : Game = noting f k g in
-    let there : get h.players k ≡ Some q =
-    changed_same g.players k (λ (r : Player). record r { notes = f r.notes })
-    ∙ ap (option_map (λ (r : Player). record r { notes = f r.notes })) plays in
-    ap (by_player k (λ (r : Player). let_fall r pile))
-    (by_some k (λ (r : Player). repack_of r pack) h q there)
-    ∙ by_some k (λ (r : Player). let_fall r pile) (repack_of q pack h) q there
+    by_some k (λ (q : Player) (h : Game). let_fall q pile (repack_of q pack h)) (noting f k g)
+    (record p { notes = f p.notes })
+    (changed_same g.players k (λ (q : Player). record q { notes = f q.notes })
+    ∙ ap (option_map (λ (q : Player). record q { notes = f q.notes })) plays)
     ∙ fallen pile
   where
     fallen : (fell : Pile) →
@@ -94,52 +90,41 @@ noted_first k p f pack pile g plays =
     fallen (Full item) = refl
 
 -- a click in the own window, step by step
-pub presses : (k : ℕ) (p : Player) (click : Click) (pack : PackValue) (came : Clicked)
-    (pile : Pile) (u w noted mid n : GameValue) → get u.game.players k ≡ Some p →
-    w.game ≡ u.game → w.settled ≡ u.settled →
-    pack ≡ pack_after (pack_of u.game p) click.number
-    (outcome (pack_of u.game p) None click (nat_lt 0 (room_in u.game))) →
-    came ≡ answer_of (outcome (pack_of u.game p) None click (nat_lt 0 (room_in u.game))) →
-    pile ≡ dropped came →
+pub presses : (k : ℕ) (p : Player) (click : Click) (before pack : PackValue) (room : Bool)
+    (came : Clicked) (pile : Pile) (u w noted n : GameValue) → get u.game.players k ≡ Some p →
+    before ≡ pack_of u.game p → room ≡ nat_lt 0 (room_in u.game) →
+    pack ≡ pack_after before click.number (outcome before None click room) →
+    came ≡ answer_of (outcome before None click room) → pile ≡ dropped came →
+    w ≡ played u u.game w.aside →
     noted ≡ played w (noting (answering click came) k w.game) w.aside →
-    mid ≡ played noted (by_player k (λ (q : Player). repack_of q pack) noted.game) noted.aside →
-    n ≡ played mid (by_player k (λ (q : Player). let_fall q pile) mid.game) n.aside →
+    n ≡ played noted (by_player k (λ (q : Player) (g : Game).
+    let_fall q pile (repack_of q pack g)) noted.game) n.aside →
     n ≡ played u (by_player k (λ (q : Player). press k q click) u.game) n.aside
-presses k p click pack came pile u w noted mid n plays same settled packed answered fell told
-    carried made =
-    let first : noted.game ≡ noting (answering click came) k u.game =
-    ap (λ (v : GameValue). v.game) told ∙ ap (noting (answering click came) k) same in
-    let next : mid.game
-    ≡ by_player k (λ (q : Player). repack_of q pack) (noting (answering click came) k u.game) =
-    ap (λ (v : GameValue). v.game) carried
-    ∙ ap (by_player k (λ (q : Player). repack_of q pack)) first in
-    let before : mid.settled ≡ u.settled =
-    ap (λ (v : GameValue). v.settled) carried ∙ ap (λ (v : GameValue). v.settled) told ∙ settled in
-    made
-    ∙ (λ i. record {
-      game = by_player k (λ (q : Player). let_fall q pile) (next i);
-      settled = before i;
-      aside = n.aside;
-    })
+presses k p click before pack room came pile u w noted n plays carried may packed answered fell
+    same told made =
+    let done : outcome before None click room
+    ≡ outcome (pack_of u.game p) None click (nat_lt 0 (room_in u.game)) =
+    (λ i. outcome (carried i) None click (may i)) in
+    let answer = answered ∙ ap answer_of done in
+    let drop = fell ∙ ap dropped answer in
+    let after = packed ∙ (λ i. pack_after (carried i) click.number (done i)) in
+    then_played u (by_player k (λ (q : Player) (g : Game). let_fall q pile (repack_of q pack g)))
+    (then_played u (noting (answering click came) k) same told) made
     ∙ ap (λ (g : Game). played u g n.aside)
     (noted_first k p (answering click came) pack pile u.game plays
-    ∙ ap (λ (x : Pile). noting (answering click came) k
-    (let_fall p x (repack_of p pack u.game))) fell
-    ∙ (λ i. noting (answering click (answered i)) k
-    (let_fall p (dropped (answered i)) (repack_of p (packed i) u.game)))
+    ∙ (λ i. noting (answering click (answer i)) k
+    (let_fall p (drop i) (repack_of p (after i) u.game)))
     ∙ sym (by_some k (λ (q : Player). press k q click) u.game p plays))
 
 -- so there is room then for what it drops
-pub press_room : (k : ℕ) (f : Notes → Notes) (click : Click) (before pack : PackValue)
-    (came : Clicked) (item : Item) (u w noted mid : GameValue) → w.game ≡ u.game →
-    came ≡ answer_of (outcome before None click (nat_lt 0 (room_in u.game))) →
-    dropped came ≡ Full item → noted ≡ played w (noting f k w.game) w.aside →
-    mid ≡ played noted (by_player k (λ (q : Player). repack_of q pack) noted.game) noted.aside →
-    0 < room_in mid.game
-press_room k f click before pack came item u w noted mid same answered full told carried =
-    let room : true ≡ nat_lt 0 (room_in u.game) =
-    drops_by_room before click _ item (ap dropped (sym answered) ∙ full) in
-    let is : room_in mid.game ≡ room_in u.game =
-    repacked_room k pack noted mid carried ∙ ap (λ (v : GameValue). room_in v.game) told
-    ∙ ap room_in same in
-    grind (arith, nat_tests, is, room)
+pub press_room : (k : ℕ) (f : Notes → Notes) (click : Click) (pack : PackValue) (room : Bool)
+    (came : Clicked) (item : Item) (u w noted : GameValue) →
+    room ≡ nat_lt 0 (room_in u.game) → came ≡ answer_of (outcome pack None click room) →
+    dropped came ≡ Full item → w ≡ played u u.game w.aside →
+    noted ≡ played w (noting f k w.game) w.aside → 0 < room_in noted.game
+press_room k f click pack room came item u w noted may answered full same told =
+    let some : true ≡ room =
+    drops_by_room pack click room item (ap dropped (sym answered) ∙ full) in
+    let is : room_in noted.game ≡ room_in u.game =
+    ap (λ (v : GameValue). room_in v.game) told ∙ ap (λ (v : GameValue). room_in v.game) same in
+    grind (arith, nat_tests, is, some, may)

@@ -1,10 +1,10 @@
+pub mod Changing
 pub mod Clicking
 pub mod Dropping
 pub mod Falling
-pub mod Holding
-pub mod Lying
 pub mod NamedPacks
 pub mod Names
 pub mod Near
 pub mod States
+pub mod Steps
 pub mod Stowing

@@ -1,6 +1,6 @@
 -- Items that go into a player's pack one after another, and players that pick up one after another.
-use Rattle.std.proofs.Common.{◌≡◌, ℕ, ◌≤◌, List, [], ◌∷◌, refl, sym, ap, arith, ◌∙◌, ℤ}
-use Rattle.std.specs.Prelude.{Some, min}
+use Rattle.std.proofs.Common.{◌≡◌, ℕ, List, [], ◌∷◌, refl, sym, ap, ◌∙◌, ℤ}
+use Rattle.std.specs.Prelude.{Some}
 use Rattle.std.specs.List.{fold}
 use Rattle.std.specs.Ordering.{nat_cmp}
 use Rattle.std.specs.FinMap.{FinMap, get}
@@ -16,6 +16,7 @@ use Rattle.mc_model.specs.Pickups.{pick_up, ripe_for, stowed}
 use Rattle.mc_play.specs.Kept.{GameValue, by_player, played}
 use Rattle.mc_play.specs.Picking.{all_stowed}
 use Rattle.mc_play.proofs.Dropping.{by_some}
+use Rattle.mc_play.proofs.Steps.{then_played}
 
 -- once the first of those that are left is done, doing the others comes to all the same
 pub done_next : {X : Type 0} (f : Game → X → Game) (xs now_ rest : List X) (x : X)
@@ -34,27 +35,21 @@ done_next f xs now_ rest x start v n next so made =
 -- ---- one item
 
 -- what is stowed into the pack of the player of a connection, step by step
-pub stows : (k : ℕ) (p : Player) (e : ℤ × Item) (left_ : Pile) (pack : PackValue)
-    (u mid n : GameValue) → get u.game.players k ≡ Some p →
-    pack ≡ (stored (pack_of u.game p) e.1).pack →
-    left_ ≡ (stored (pack_of u.game p) e.1).floor →
+pub stows : (k : ℕ) (p : Player) (eid : ℤ) (item : Item) (e : ℤ × Item) (before pack : PackValue)
+    (left_ : Pile) (u mid n : GameValue) → get u.game.players k ≡ Some p → (eid, item) ≡ e →
+    before ≡ pack_of u.game p → pack ≡ (stored before item).pack →
+    left_ ≡ (stored before item).floor →
     mid ≡ played u (by_player k (λ (q : Player). repack_of q pack) u.game) u.aside →
-    n ≡ played mid (lessened e.0 left_ mid.game) n.aside →
+    n ≡ played mid (lessened eid left_ mid.game) n.aside →
     n ≡ played u (by_player k (λ (q : Player). stowed q e) u.game) n.aside
-stows k p e left_ pack u mid n plays is rest carried made =
-    let game : mid.game ≡ repack_of p (stored (pack_of u.game p) e.1).pack u.game =
-    ap (λ (w : GameValue). w.game) carried
-    ∙ by_some k (λ (q : Player). repack_of q pack) u.game p plays
-    ∙ ap (λ (x : PackValue). repack_of p x u.game) is in
-    let settled : mid.settled ≡ u.settled = ap (λ (w : GameValue). w.settled) carried in
-    made
-    ∙ (λ i. record {
-      game = lessened e.0 (rest i) (game i);
-      settled = settled i;
-      aside = n.aside;
-    })
+stows k p eid item e before pack left_ u mid n plays is carried packed rest repacked made =
+    let after = packed ∙ (λ i. (stored (carried i) (is i).1).pack) in
+    let floor = rest ∙ (λ i. (stored (carried i) (is i).1).floor) in
+    then_played u (lessened eid left_) repacked made
     ∙ ap (λ (g : Game). played u g n.aside)
-    (sym (by_some k (λ (q : Player). stowed q e) u.game p plays))
+    (ap (lessened eid left_) (by_some k (λ (q : Player). repack_of q pack) u.game p plays)
+    ∙ (λ i. lessened (is i).0 (floor i) (repack_of p (after i) u.game))
+    ∙ sym (by_some k (λ (q : Player). stowed q e) u.game p plays))
 
 -- ---- all that one picks up
 

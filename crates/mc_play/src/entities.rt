@@ -4,12 +4,14 @@ ghost use lib.IntN.{pos};
 ghost use Rattle.mc_slots.specs.Pile.{IsItem, IsPile};
 ghost use Rattle.mc_slots.specs.declared.pile.Item as items;
 ghost use Rattle.mc_slots.specs.declared.pile.Pile as piles;
-ghost use Rattle.mc_entities.specs.declared.entity.EntityKind.TheVariants as kinds;
+ghost use Rattle.mc_entities.specs.declared.entity.Entity as entities;
+ghost use Rattle.mc_entities.specs.declared.entity.EntityKind as kinds;
+ghost use Rattle.mc_entities.specs.declared.entity.EntityKind.TheVariants as variants;
 ghost use Rattle.mc_entities.specs.declared.entity.TheConstants.{EID_MAX};
 ghost use Rattle.mc_entities.specs.Folk.{HasRoom, entity_of, new_state, placed, removed, room_of};
 ghost use Rattle.mc_entities.specs.Folk.{settled, spawned, with_entity, with_kind};
-ghost use Rattle.mc_entities.specs.Kinds.{are_alike};
-ghost use Rattle.mc_model.specs.Things.{holding, lying_as};
+ghost use Rattle.mc_entities.specs.Kinds.{IsKind, are_alike};
+ghost use Rattle.mc_model.specs.Things.{hand_of, holding, kind_of_item, lying_as};
 ghost use Rattle.mc_model.specs.Spots.{spot_in};
 ghost use Rattle.mc_play.specs.Kept.{AreNear, IsNear};
 
@@ -101,7 +103,7 @@ impl Entities {
         requires near { IsNear spot }
         ensures eid { IfOk result (λ eid. eid ≡ self.old.state.given + 1) }
         ensures state { OnOk result (self.new.state
-            ≡ spawned (kinds.Player uuid held) spot self.old.state) }
+            ≡ spawned (variants.Player uuid held) spot self.old.state) }
         ensures err { OnErr result (self.new.state ≡ self.old.state) }
     {
         match self.folk.spawn(EntityKind::Player { uuid, held }, spot) {
@@ -116,7 +118,7 @@ impl Entities {
         requires near { IsNear spot }
         requires room { 0 < room_of self.old.state }
         requires place { 0 < self.old.reserve }
-        ensures state { self.new.state ≡ spawned (kinds.Dropped item born) spot self.old.state }
+        ensures state { self.new.state ≡ spawned (variants.Dropped item born) spot self.old.state }
         ensures rest { (n : ℕ) → HasRoom (suc n) self.old → HasRoom n self.new }
     {
         let _eid = self.folk.spawn(EntityKind::Dropped { item, born }, spot);
@@ -137,9 +139,8 @@ impl Entities {
             ≡ record self.old { state = with_entity (pos eid) (holding pile) self.old.state } }
     {
         let eid = eid.number();
-        if let Some(uuid) = who_is(&self.folk, eid) {
-            self.folk
-                .set_kind(eid, EntityKind::Player { uuid, held: pile });
+        if let Some(kind) = kind_of(&self.folk, eid) {
+            self.folk.set_kind(eid, hand_of(pile, kind));
         }
     }
 
@@ -163,8 +164,8 @@ impl Entities {
         ensures { self.new
             ≡ record self.old { state = with_entity eid (lying_as item) self.old.state } }
     {
-        if let Some(born) = born_at(&self.folk, eid) {
-            self.folk.set_kind(eid, EntityKind::Dropped { item, born });
+        if let Some(kind) = kind_of(&self.folk, eid) {
+            self.folk.set_kind(eid, kind_of_item(item, kind));
         }
     }
 
@@ -176,40 +177,52 @@ impl Entities {
     }
 }
 
-/// Who the player of a number is; None where the number is no player's.
-fn who_is(folk: &Folk, eid: i32) -> Option<u128>
-    ensures some { IfSome result (λ uuid. (pile : piles.Pile) →
-        with_kind eid (kinds.Player uuid pile) folk.now.state
-        ≡ with_entity eid (holding pile) folk.now.state) }
-    ensures alike { IfSome result (λ uuid. (pile : piles.Pile) →
-        IfSome (entity_of eid folk.now.state)
-        (λ e. are_alike e.kind (kinds.Player uuid pile) ≡ true)) }
-    ensures none { result ≡ None → (pile : piles.Pile) →
-        with_entity eid (holding pile) folk.now.state ≡ folk.now.state }
+/// What something is that holds a pile: a player holds it, others stay what they are.
+fn hand_of(pile: Pile, kind: EntityKind) -> EntityKind
+    requires pile { IsPile pile }
+    requires kind { IsKind kind }
+    ensures is { result ≡ hand_of pile kind }
+    ensures range { IsKind result }
+    ensures alike { are_alike kind result ≡ true }
 {
-    // Numbers rise among all entities.
-    let _all = folk.all();
-    match folk.get(eid)?.kind {
-        EntityKind::Player { uuid, .. } => Some(uuid),
-        _ => None,
+    match kind {
+        EntityKind::Player { uuid, .. } => EntityKind::Player { uuid, held: pile },
+        _ => kind,
     }
 }
 
-/// The age of the world when the item of a number was dropped; None where the number is no item's.
-fn born_at(folk: &Folk, eid: i32) -> Option<u64>
-    ensures some { IfSome result (λ born. (item : items.Item) →
-        with_kind eid (kinds.Dropped item born) folk.now.state
+/// What something is that becomes an item: an item becomes it, others stay what they are.
+fn kind_of_item(item: Item, kind: EntityKind) -> EntityKind
+    requires item { IsItem item }
+    requires kind { IsKind kind }
+    ensures is { result ≡ kind_of_item item kind }
+    ensures range { IsKind result }
+    ensures alike { are_alike kind result ≡ true }
+{
+    match kind {
+        EntityKind::Dropped { born, .. } => EntityKind::Dropped { item, born },
+        _ => kind,
+    }
+}
+
+/// What the one of a number is; None where there is none.
+fn kind_of(folk: &Folk, eid: i32) -> Option<EntityKind>
+    ensures range { IfSome result (λ kind. IsKind kind) }
+    ensures alike { IfSome result (λ kind. (other : kinds.EntityKind) →
+        are_alike kind other ≡ true →
+        IfSome (entity_of eid folk.now.state) (λ e. are_alike e.kind other ≡ true)) }
+    // It alone changes where those of the number do.
+    ensures holds { IfSome result (λ kind. (pile : piles.Pile) →
+        with_kind eid (hand_of pile kind) folk.now.state
+        ≡ with_entity eid (holding pile) folk.now.state) }
+    ensures lies { IfSome result (λ kind. (item : items.Item) →
+        with_kind eid (kind_of_item item kind) folk.now.state
         ≡ with_entity eid (lying_as item) folk.now.state) }
-    ensures alike { IfSome result (λ born. (item : items.Item) →
-        IfSome (entity_of eid folk.now.state)
-        (λ e. are_alike e.kind (kinds.Dropped item born) ≡ true)) }
-    ensures none { result ≡ None → (item : items.Item) →
-        with_entity eid (lying_as item) folk.now.state ≡ folk.now.state }
+    ensures none { result ≡ None → (f : entities.Entity → entities.Entity) →
+        with_entity eid f folk.now.state ≡ folk.now.state }
 {
     // Numbers rise among all entities.
     let _all = folk.all();
-    match folk.get(eid)?.kind {
-        EntityKind::Dropped { born, .. } => Some(born),
-        _ => None,
-    }
+    let entity = folk.get(eid)?;
+    Some(entity.kind)
 }

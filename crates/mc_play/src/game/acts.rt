@@ -37,9 +37,9 @@ impl Game {
         ensures { Acts result self.old self.new (act self.old.game connection packet.now) }
     {
         match packet {
-            PlayUp::Chat(text) => Ok(self.say(connection, text)?),
-            PlayUp::Position { x, y, z, .. } => self.walk(connection, *x, *y, *z),
-            PlayUp::Look(yaw, pitch, _) => self.turn(connection, *yaw, *pitch),
+            PlayUp::Chat(text) => self.say(connection, text)?,
+            PlayUp::Position { x, y, z, .. } => self.walk(connection, *x, *y, *z)?,
+            PlayUp::Look(yaw, pitch, _) => self.turn(connection, *yaw, *pitch)?,
             PlayUp::PositionLook {
                 x,
                 y,
@@ -47,13 +47,10 @@ impl Game {
                 yaw,
                 pitch,
                 ..
-            } => self.walk_and_turn(connection, *x, *y, *z, *yaw, *pitch),
-            PlayUp::Digging(status, cell, _) => Ok(self.digging(connection, *status, *cell)?),
-            PlayUp::Placement { place, face, .. } => Ok(self.place_on(connection, *place, *face)?),
-            PlayUp::Held(place) => {
-                self.take_up(connection, *place);
-                Ok(())
-            }
+            } => self.walk_and_turn(connection, *x, *y, *z, *yaw, *pitch)?,
+            PlayUp::Digging(status, cell, _) => self.digging(connection, *status, *cell)?,
+            PlayUp::Placement { place, face, .. } => self.place_on(connection, *place, *face)?,
+            PlayUp::Held(place) => self.take_up(connection, *place),
             PlayUp::ClickWindow {
                 window,
                 slot,
@@ -61,21 +58,15 @@ impl Game {
                 number,
                 mode,
                 item,
-            } => Ok(self.click(connection, *window, *slot, *button, *number, *mode, item)?),
-            PlayUp::CloseWindow(window) => Ok(self.close(connection, *window)?),
+            } => self.click(connection, *window, *slot, *button, *number, *mode, item)?,
+            PlayUp::CloseWindow(window) => self.close(connection, *window)?,
             PlayUp::Confirm(window, number, _) => {
                 self.confirm(connection, window.cast_unsigned(), *number);
-                Ok(())
             }
-            PlayUp::Creative(_, _) => {
-                self.players.note_window(connection);
-                Ok(())
-            }
-            PlayUp::Settings { view, .. } => {
-                self.players.ask_view(connection, *view);
-                Ok(())
-            }
-            _ => Ok(()),
+            PlayUp::Creative(_, _) => self.players.note_window(connection),
+            PlayUp::Settings { view, .. } => self.players.ask_view(connection, *view),
+            _ => {}
         }
+        Ok(())
     }
 }

@@ -93,6 +93,14 @@ impl Game {
         self.entities.room() > 0
     }
 
+    /// Makes places for so many more entities. Without memory all is as before.
+    pub(super) fn reserve(&mut self, n: u32) -> Result<(), NoMemory>
+        ensures ok { OnOk result (n ≤ self.new.aside.reserve) }
+        ensures is { self.new ≡ played self.old self.old.game self.new.aside }
+    {
+        self.entities.reserve(n)
+    }
+
     /// Lets an item lie at a spot, for which there are room and a place.
     pub(super) fn drop_item(&mut self, item: Item, spot: Spot)
         requires item { IsItem item }
@@ -156,8 +164,7 @@ impl Game {
             ≡ played self.old self.old.game self.new.aside) }
     {
         let chest = self.chest_at(&cell);
-        self.entities
-            .reserve(1 + stacks_in(chest.as_slice()) as u32)?;
+        self.reserve(1 + stacks_in(chest.as_slice()) as u32)?;
         self.ground.set(cell, 0)?;
         let spot = floor_of(&cell);
         self.drop_item(block_item(state), spot);

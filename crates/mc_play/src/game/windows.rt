@@ -110,6 +110,19 @@ impl Game {
         self.drop_item(item, spot);
     }
 
+    /// Gives the player of a connection another pack, and lets what comes out of its window fall,
+    /// for which there are room and a place.
+    fn repack_and_drop(&mut self, connection: u32, pack: Pack, pile: Pile)
+        requires pile { IsPile pile }
+        requires room { (item : items.Item) → pile ≡ Full item → 0 < room_in self.old.game }
+        requires place { 0 < self.old.aside.reserve }
+        ensures { self.new ≡ played self.old (by_player connection
+            (λ p g. let_fall p pile (repack_of p pack g)) self.old.game) self.new.aside }
+    {
+        self.repack(connection, pack);
+        self.let_fall(connection, pile);
+    }
+
     // ---- clicks
 
     /// Notes the answer to a click of the client of a connection. Without memory all is as before.
@@ -140,10 +153,9 @@ impl Game {
         };
         let mut pack = self.pack_of(player);
         let came = mc_windows::click(&mut pack, None, click, self.may_drop());
-        self.entities.reserve(1)?;
+        self.reserve(1)?;
         self.answer(connection, click, came)?;
-        self.repack(connection, pack);
-        self.let_fall(connection, dropped(came));
+        self.repack_and_drop(connection, pack, dropped(came));
         Ok(())
     }
 
@@ -207,9 +219,8 @@ impl Game {
     {
         let mut closed = pack;
         let cursor = finish(&mut closed);
-        self.entities.reserve(1)?;
-        self.repack(connection, closed);
-        self.let_fall(connection, cursor);
+        self.reserve(1)?;
+        self.repack_and_drop(connection, closed, cursor);
         Ok(())
     }
 

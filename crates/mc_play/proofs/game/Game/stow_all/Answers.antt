@@ -1,4 +1,4 @@
-use Rattle.std.proofs.Common.{◌≡◌, ◌+◌, ◌∷◌, List, drop, ap, sym, ◌∙◌, ℤ}
+use Rattle.std.proofs.Common.{◌≡◌, ◌+◌, ◌∷◌, drop, ap, sym, ◌∙◌, ℤ}
 use Rattle.std.proofs.lemmas.List.{drop_more}
 use Rattle.mc_slots.specs.declared.pile.Item.{Item}
 use Rattle.mc_play.specs.Picking.{stowed_by}
