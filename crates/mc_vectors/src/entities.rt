@@ -7,7 +7,7 @@ ghost use Rattle.mc_entities.specs.Kinds.{IsKind, are_alike};
 ghost use Rattle.mc_entities.specs.Folk.{entity_of};
 
 use crate::slots::{is_worldly, worldly};
-use crate::views::spot_in;
+use crate::views::{put_spot, spot_in};
 use crate::windows::{Shown, pile_of};
 use mc_entities::{Entity, EntityKind, Folk, FolkFault, Move};
 use mc_fields::Spot;
@@ -242,15 +242,6 @@ fn put_kind(kind: &EntityKind, answer: &mut Answer) {
         }
         EntityKind::Mob => answer.word("mob"),
     }
-}
-
-/// Puts a spot.
-fn put_spot(spot: &Spot, answer: &mut Answer) {
-    answer.word(spot.x);
-    answer.word(spot.y);
-    answer.word(spot.z);
-    answer.word(spot.yaw);
-    answer.word(spot.pitch);
 }
 
 /// Puts the spot where an entity was at the last settling, where it was there then.

@@ -1,8 +1,9 @@
 //! Lobbies in memory: `lobby EVENTS TROUBLES PORT STEP ..` makes one and listens. `EVENTS` is `-`
-//! or entries with commas between them: `joined=K`, `came=K:BYTES`, `left=K`, `ticked`, and
-//! `ended`, which is no event. `TROUBLES` is `steady` for a lobby without any, or `-` or some of
-//! `listen`, `next=I`, `stall=I`, `break=I` and `short=I:N`. A step is `pace NAME`, `listen PORT`,
-//! `next` with room for four bytes, `write K BYTES` or `close K`. The log follows.
+//! or entries with commas between them: `joined=K`, `came=K:BYTES`, `left=K`, `ticked`, and those
+//! that are no events, `ended`, `put=K:BYTES`, `stalled=K`, `broke=K` and `closed=K`. `TROUBLES` is
+//! `steady` for a lobby without any, or `-` or some of `listen`, `next=I`, `stall=I`, `break=I` and
+//! `short=I:N`. A step is `pace NAME`, `listen PORT`, `next` with room for four bytes,
+//! `write K BYTES` or `close K`. The log follows.
 
 ghost use Rattle.std.specs.Prelude.{◌≡◌, true};
 
@@ -81,6 +82,10 @@ fn entry_of(alloc: Global, text: &str) -> Option<LogEntry> {
         "left" => Some(LogEntry::Left(k)),
         "ticked" => Some(LogEntry::Ticked),
         "ended" => Some(LogEntry::Ended),
+        "put" => Some(LogEntry::Put(k, octets_of(alloc, bytes)?)),
+        "stalled" => Some(LogEntry::Stalled(k)),
+        "broke" => Some(LogEntry::Broke(k)),
+        "closed" => Some(LogEntry::Closed(k)),
         _ => None,
     }
 }

@@ -2,7 +2,7 @@
 //! compares two spots, each `X Y Z YAW PITCH`; and `tracker CALL ..` works on the tracker that the
 //! rows before left. A pile is one word, `IDxCOUNT:DAMAGE` or `empty`.
 
-use crate::windows::pile_of;
+use crate::windows::{Shown, pile_of};
 use mc_fields::Spot;
 use mc_rows::{Answer, Words, look_up};
 use mc_slots::Pile;
@@ -22,11 +22,12 @@ enum Call {
     Meet,
     Moves,
     Pile,
+    Tell,
     Lose,
 }
 
 /// The calls by their words.
-const CALLS: [(&str, Call); 11] = [
+const CALLS: [(&str, Call); 12] = [
     ("has", Call::Has),
     ("all", Call::All),
     ("entered", Call::Entered),
@@ -37,6 +38,7 @@ const CALLS: [(&str, Call); 11] = [
     ("meet", Call::Meet),
     ("moves", Call::Moves),
     ("pile", Call::Pile),
+    ("tell", Call::Tell),
     ("lose", Call::Lose),
 ];
 
@@ -68,6 +70,15 @@ pub fn spot_in(words: &mut Words<'_>) -> Spot {
         yaw: words.number(),
         pitch: words.number(),
     }
+}
+
+/// Puts a spot.
+pub fn put_spot(spot: &Spot, answer: &mut Answer) {
+    answer.word(spot.x);
+    answer.word(spot.y);
+    answer.word(spot.z);
+    answer.word(spot.yaw);
+    answer.word(spot.pitch);
 }
 
 /// The next word as a pile.
@@ -158,7 +169,7 @@ fn put_step(name: &str, dx: i8, dy: i8, dz: i8, answer: &mut Answer) {
 }
 
 /// Answers a row of the tracker.
-/// Dear to prove: seven arms over a tracker that is lent.
+/// Dear to prove: eight arms over a tracker that is lent.
 pub fn tracker(tracker: &mut Tracker, words: &mut Words<'_>, answer: &mut Answer) {
     match call_of(words.word()) {
         Some(Call::New) => drop(replace(tracker, Tracker::new(words.alloc))),
@@ -170,6 +181,7 @@ pub fn tracker(tracker: &mut Tracker, words: &mut Words<'_>, answer: &mut Answer
         Some(Call::Meet) => meet(tracker, words, answer),
         Some(Call::Moves) => moves(tracker, words, answer),
         Some(Call::Pile) => pile(tracker, words, answer),
+        Some(Call::Tell) => tell(tracker, words, answer),
         Some(Call::Lose) => answer.word(tracker.lose(words.number())),
         _ => words.fail(),
     }
@@ -204,4 +216,18 @@ fn pile(tracker: &mut Tracker, words: &mut Words<'_>, answer: &mut Answer) {
         return words.fail();
     }
     answer.word(tracker.pile(eid, pile));
+}
+
+/// Tells all of an entity, and puts what was told of it before.
+fn tell(tracker: &mut Tracker, words: &mut Words<'_>, answer: &mut Answer) {
+    let eid = words.number();
+    let spot = spot_in(words);
+    match tracker.tell(eid, spot, pile_in(words)) {
+        Ok(Some((spot, pile))) => {
+            put_spot(&spot, answer);
+            answer.word(Shown { pile });
+        }
+        Ok(None) => answer.word("none"),
+        Err(_) => answer.lose(),
+    }
 }

@@ -1,8 +1,9 @@
 //! Packs and their windows: `window CALL ..` works on a pack in its window. The window is `own`, or
-//! `chest` for that of a chest, which has number 1; words follow for what it is not empty of:
-//! `SLOT=PILE`, `SLOT..SLOT=PILE`, `cursor=PILE`, `wait=N`, and `full` where nothing more may be
-//! dropped. A `/` ends them. What the window holds in the end is said in the same words. A pile is
-//! one word here, `IDxCOUNT:DAMAGE` or `empty`.
+//! `chest` for that of a chest, which has number 1 and is the first; words follow for what it is
+//! not empty of: `SLOT=PILE`, `SLOT..SLOT=PILE`, `cursor=PILE`, `wait=N`, its number `window=N`,
+//! that of the last one `last=N`, and `full` where nothing more may be dropped. A `/` ends them.
+//! What the window holds in the end is said in the same words. A pile is one word here,
+//! `IDxCOUNT:DAMAGE` or `empty`.
 
 ghost use Rattle.mc_slots.specs.Pile.{IsPile};
 
@@ -77,7 +78,7 @@ pub fn window(words: &mut Words<'_>, answer: &mut Answer) {
 fn answer_call(call: Call, words: &mut Words<'_>, answer: &mut Answer) {
     match call {
         Call::Kit => put_window(&own(kit()), answer),
-        Call::Begin => begin_after(words, answer),
+        Call::Begin => begin_in(words, answer),
         Call::Click => click_in(words, answer),
         Call::Store => store_in(words, answer),
         Call::Finish => finish_in(words, answer),
@@ -138,11 +139,13 @@ fn set_word(window: &mut Open, word: &str) -> Option<()> {
         return Some(());
     }
     let (name, value) = word.split_once('=')?;
-    if name == "wait" {
-        window.pack.waiting = Some(value.parse::<i16>().ok()?);
-        return Some(());
+    match name {
+        "wait" => window.pack.waiting = Some(value.parse::<i16>().ok()?),
+        "window" => window.pack.window = value.parse::<u8>().ok()?,
+        "last" => window.pack.last = value.parse::<u8>().ok()?,
+        _ => return set_pile(window, name, value),
     }
-    set_pile(window, name, value)
+    Some(())
 }
 
 /// Puts the pile of a word where another says: on the cursor, or into slots.
@@ -238,6 +241,16 @@ fn put_window(window: &Open, answer: &mut Answer) {
         answer.word("wait=");
         answer.put(number);
     }
+    put_number("window=", window.pack.window, answer);
+    put_number("last=", window.pack.last, answer);
+}
+
+/// Puts the number of a window, where it is one.
+fn put_number(name: &str, number: u8, answer: &mut Answer) {
+    if number != 0 {
+        answer.word(name);
+        answer.put(number);
+    }
 }
 
 /// Puts the slots that hold anything, those in a row that hold the same as a range.
@@ -292,11 +305,9 @@ fn store_in(words: &mut Words<'_>, answer: &mut Answer) {
     }
 }
 
-/// Opens the window after one with this number.
-fn begin_after(words: &mut Words<'_>, answer: &mut Answer) {
-    let mut window = empty_window();
-    window.pack.last = words.number();
-    window.pack.waiting = Some(1);
+/// Opens a window, and puts its number.
+fn begin_in(words: &mut Words<'_>, answer: &mut Answer) {
+    let mut window = window_in(words);
     answer.word(begin(&mut window.pack));
     put_window(&window, answer);
 }

@@ -11,7 +11,8 @@ use Rattle.mc_model.specs.Leaving.{leave, leave_all}
 use Rattle.mc_model.specs.Link.{Handing, Link}
 use Rattle.mc_model.specs.Showing.{last_shown, sight_of}
 use Rattle.mc_model.specs.World.{World, each, is_closing}
-use Rattle.mc_model.specs.Tick.{aged, at_tick, beat, flush, grown, shown_all, tick, tick_hands, told}
+use Rattle.mc_model.specs.Tick.{aged, at_tick, beat, flush, grown, shown_all, tick, tick_hands}
+use Rattle.mc_model.specs.Tick.{told}
 use Rattle.mc_laws.proofs.Deeds.Swaps.{leave_after}
 use Rattle.mc_laws.proofs.Walk.Each.{each_last, each_links}
 use Rattle.mc_laws.proofs.Walk.Ticking.{at_tick_last, at_tick_shown, tick_handed, tick_link}
