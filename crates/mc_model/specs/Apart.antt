@@ -15,7 +15,9 @@ use Rattle.mc_model.specs.Step.{is_crowded, on_frames}
 use Rattle.mc_model.specs.Talk.{ClientRequest, acts, wrong}
 use Rattle.mc_model.specs.Stages.{is_closed}
 use Rattle.mc_model.specs.Link.{Link}
+use Rattle.mc_slots.specs.declared.pile.Pile.TheVariants.{Empty}
 use Rattle.mc_model.specs.Acts.{act}
+use Rattle.mc_model.specs.Game.{pack_of}
 use Rattle.mc_model.specs.Showing.{due}
 use Rattle.mc_model.specs.Tick.{at_tick, grown, is_silent}
 use Rattle.mc_model.specs.Causes.{IsTooMuch}
@@ -153,8 +155,9 @@ pub record OwesOther (k : ℕ) (w v : World) : Type 0 where
   pub here : get w.links k ≡ Some link
   pub there : get v.links k ≡ Some (record link { owed = owed })
 
--- a client in play that is not silent is due too much at a tick in the first of them, and not in
--- the second, where its outbox has room
+-- A client in play that is not silent is due too much at a tick in the first of them, and not in
+-- the second, where its outbox has room. Nothing hangs on its cursor: what falls of it as it leaves
+-- has another number, and is older, where it leaves at another time.
 pub record IsFullIn (k : ℕ) (w v : World) : Type 0 where
   pub alike : OwesOther k w v
   pub player : Player
@@ -163,11 +166,13 @@ pub record IsFullIn (k : ℕ) (w v : World) : Type 0 where
   pub much : IsTooMuch alike.link (map of_play (due (at_tick w).game (get w.shown k) player))
   pub fits : ¬ IsTooMuch (record alike.link { owed = alike.owed })
       (map of_play (due (at_tick w).game (get w.shown k) player))
+  pub empty : (pack_of (at_tick w).game player).cursor ≡ Empty
 
--- a client in play has been silent for too long at a tick
+-- a client in play has been silent for too long at a tick, and nothing hangs on its cursor
 pub record FallsSilent (k : ℕ) (w : World) : Type 0 where
   pub link : Link
   pub player : Player
   pub here : get w.links k ≡ Some link
   pub plays : get w.game.players k ≡ Some player
   pub silent : is_silent (grown w.game) (get w.shown k) link ≡ true
+  pub empty : (pack_of w.game player).cursor ≡ Empty

@@ -1,6 +1,6 @@
 -- Deeds: the small changes of a game of which all that players do is made. Nothing else changes a
 -- game, but a tick that passes (`Tick`). Rules of this project.
-use Rattle.std.specs.Prelude.{ℕ, ◌+◌, List, [], ◌∷◌, ◌++◌, length, unsigned_abs}
+use Rattle.std.specs.Prelude.{ℕ, ◌+◌, List, [], ◌∷◌, ◌++◌, length, Option, None, unsigned_abs}
 use Rattle.std.specs.FinMap.{insert, remove}
 use lib.IntN.{ℤ, pos}
 use Rattle.mc_fields.specs.declared.position.Cell.{Cell}
@@ -19,7 +19,7 @@ use Rattle.mc_model.specs.declared.notes.Notes.{Notes}
 use Rattle.mc_model.specs.declared.player.Player.{Player}
 use Rattle.mc_model.specs.Names.{offline_uuid}
 use Rattle.mc_model.specs.Notes.{no_notes}
-use Rattle.mc_model.specs.Things.{in_hand, holding, lying_as, standing}
+use Rattle.mc_model.specs.Things.{chest_put, in_hand, holding, lying_as, standing}
 use Rattle.mc_model.specs.Spots.{spawn_spot}
 use Rattle.mc_model.specs.Maps.{modify}
 use Rattle.mc_model.specs.Game.{Game, pack_named, pack_of, state_in}
@@ -33,6 +33,10 @@ with_player k f g = record g { players = modify k f g.players }
 -- something is noted for its client
 abbrev pub noting : (Notes → Notes) → ℕ → Game → Game
 noting f k g = with_player k (λ (p : Player). record p { notes = f p.notes }) g
+
+-- it is shown the window of the chest at a cell, or its own
+abbrev pub watching : Option Cell → ℕ → Game → Game
+watching chest k g = with_player k (λ (p : Player). record p { chest = chest }) g
 
 -- it carries another pack, and its entity holds what that has at its hand
 abbrev pub repack_of : Player → PackValue → Game → Game
@@ -84,6 +88,10 @@ with_state cell state g = record g {
       (state_in g cell) state;
 }
 
+-- other piles lie in the chest at a cell
+abbrev pub restocked : Cell → List Pile → Game → Game
+restocked cell piles g = record g { chests = chest_put g.chests cell.x cell.y cell.z piles }
+
 -- something is said to all
 abbrev pub said : List ℕ → Game → Game
 said line g = record g { lines = g.lines ++ line ∷ [] }
@@ -100,6 +108,7 @@ new_player eid name since = record {
   view_byte = pos 2;
   hand = 0;
   since = since;
+  chest = None;
   notes = no_notes;
 }
 

@@ -1,8 +1,10 @@
 -- What leads a client from what it was shown to what it is to be shown: a list of packets made by
 -- comparing the two, entry by entry. Which packets, and their order, are rules of this project.
-use Rattle.std.specs.Prelude.{◌≡◌, ◌<◌, ℕ, ◌+◌, ◌*◌, ◌/◌, ◌%◌, ◌&&◌, not, Bool, true, false, List}
-use Rattle.std.specs.Prelude.{[], ◌∷◌, ◌++◌, drop, length, map, slice_index, take, zero, suc}
+use Rattle.std.specs.Prelude.{◌≡◌, ◌<◌, ◌≤◌, ℕ, ◌+◌, ◌*◌, ◌/◌, ◌%◌, ◌==◌, ◌&&◌, not, Bool, true}
+use Rattle.std.specs.Prelude.{false, List, [], ◌∷◌, ◌++◌, codes, drop, length, map, slice_index}
+use Rattle.std.specs.Prelude.{take, zero, suc}
 use Rattle.std.specs.Prelude.{Option, Some, None, is_some, if◌then◌else◌}
+use Rattle.std.specs.Int.{cast_signed, w8}
 use Rattle.std.specs.List.{All, filter, flat_map, range_with_len}
 use Rattle.std.specs.Str.{bytes_eq}
 use Rattle.std.specs.Ordering.{nat_cmp, int_eq}
@@ -12,6 +14,7 @@ use Rattle.mc_fields.specs.declared.position.Cell.{Cell}
 use Rattle.mc_fields.specs.declared.position.Spot.{Spot}
 use Rattle.mc_slots.specs.declared.slot.Slot.{Slot}
 use Rattle.mc_slots.specs.declared.slot.Slot.TheVariants as slots
+use Rattle.mc_slots.specs.Chest.{chest_size}
 use Rattle.mc_column.specs.Sizes.{cells}
 use Rattle.mc_column.specs.Cells.{ColumnValue, HasSizes}
 use Rattle.mc_column.specs.Sent.{column_mask, column_bytes}
@@ -20,7 +23,8 @@ use Rattle.mc_packets.specs.declared.down.Down.TheVariants.{KeepAlive, Chat, Tim
 use Rattle.mc_packets.specs.declared.down.Down.TheVariants.{MultiChange, List as PlayerList, Change}
 use Rattle.mc_packets.specs.declared.down.Down.TheVariants.{SpawnPlayer, SpawnObject, Equipment}
 use Rattle.mc_packets.specs.declared.down.Down.TheVariants.{Destroy, Step, Look, StepLook, Teleport}
-use Rattle.mc_packets.specs.declared.down.Down.TheVariants.{HeadLook, Meta, SetSlot}
+use Rattle.mc_packets.specs.declared.down.Down.TheVariants.{HeadLook, Meta, OpenWindow, SetSlot}
+use Rattle.mc_packets.specs.declared.down.Down.TheVariants.{CloseWindow, WindowItems}
 use Rattle.mc_packets.specs.declared.meta.MetaEntry.{MetaEntry}
 use Rattle.mc_packets.specs.declared.meta.MetaValue.TheVariants as values
 use Rattle.mc_packets.specs.declared.player.Player.{Player}
@@ -28,6 +32,7 @@ use Rattle.mc_packets.specs.declared.player.PlayerChange.TheVariants.{Join, Leav
 use Rattle.mc_packets.specs.declared.record.Record.{Record}
 use Rattle.mc_land.specs.Places.{Place, x_of, y_of, z_of}
 use Rattle.mc_land.specs.Ready.{has_changed}
+use Rattle.mc_windows.specs.declared.pack.TheConstants.{LAST_WINDOW}
 use Rattle.mc_windows.specs.Pack.{pack_size}
 use Rattle.mc_view.specs.declared.forms.Form.{Form}
 use Rattle.mc_view.specs.declared.forms.Form.TheVariants as forms
@@ -36,8 +41,9 @@ use Rattle.mc_view.specs.Forms.{moves_of}
 use Rattle.mc_model.specs.declared.seen.TheConstants.{DESTROYED_MAX}
 use Rattle.mc_model.specs.declared.seen.SeenKind.{SeenKind}
 use Rattle.mc_model.specs.declared.seen.SeenKind.TheVariants as seen_kinds
-use Rattle.mc_model.specs.Sight.{Seen, Sight}
+use Rattle.mc_model.specs.Sight.{ChestWindow, Seen, Sight}
 use Rattle.mc_model.specs.Replica.{is_32_bits}
+use Rattle.mc_model.specs.Texts.{chat_json}
 use Rattle.mc_model.specs.Ticks.{time_of_day}
 
 -- ---- the beat and the age
@@ -243,19 +249,49 @@ abbrev pub entities_point : Sight → Sight → List Down
 entities_point p q =
     flat_map (λ (e : ℤ × Seen). entity_packets e.0 (get p.entities e.0) e.1) (entries q.entities)
 
--- ---- the pack
+-- ---- the window of a chest, and the pack
 
--- the slots of window 0 that differ, from a number on
-abbrev pub slot_packets : ℕ → List Slot → List Slot → List Down
-slot_packets i (old ∷ olds) (new ∷ news) =
-    (if is_same_slot old new then [] else SetSlot (pos 0) (pos i) new ∷ [])
-    ++ slot_packets (i + 1) olds news
-slot_packets i [] news = []
-slot_packets i olds [] = []
+-- the slots of a window that differ, from a number on
+abbrev pub slot_packets : ℤ → ℕ → List Slot → List Slot → List Down
+slot_packets window i (old ∷ olds) (new ∷ news) =
+    (if is_same_slot old new then [] else SetSlot window (pos i) new ∷ [])
+    ++ slot_packets window (i + 1) olds news
+slot_packets window i [] news = []
+slot_packets window i olds [] = []
 
--- the pack begins at slot 9
-abbrev pub pack_point : Sight → Sight → List Down
-pack_point p q = slot_packets 9 p.pack q.pack
+-- the window of a chest opens, and all of its slots are told: those of the chest, and behind them
+-- those of the pack
+abbrev pub opening_packets : ChestWindow → List Slot → List Down
+opening_packets new pack =
+    OpenWindow new.number (codes "minecraft:chest") (chat_json (codes "Chest")) chest_size None
+    ∷ WindowItems new.number (new.slots ++ pack) ∷ []
+
+-- none, or one of another number, was shown
+abbrev pub is_new_window : Option ChestWindow → ℕ → Bool
+is_new_window None number = true
+is_new_window (Some old) number = not (old.number == number)
+
+-- what lay in the chest that was shown
+abbrev pub chest_slots : Option ChestWindow → List Slot
+chest_slots None = []
+chest_slots (Some old) = old.slots
+
+abbrev pub closing_packets : Option ChestWindow → List Down
+closing_packets None = []
+closing_packets (Some old) = CloseWindow old.number ∷ []
+
+-- A window of another number opens. Else one that is shown no more is closed, and then each slot
+-- that differs is told in the window that is shown: that of the chest, by a byte with a sign, or
+-- window 0, where the pack begins at slot 9.
+abbrev pub window_changes : Option ChestWindow → Option ChestWindow → List Slot → List Slot →
+    List Down
+window_changes old None olds news = closing_packets old ++ slot_packets (pos 0) 9 olds news
+window_changes old (Some new) olds news =
+    if is_new_window old new.number then opening_packets new news
+    else slot_packets (cast_signed w8 new.number) 0 (chest_slots old ++ olds) (new.slots ++ news)
+
+abbrev pub window_point : Sight → Sight → List Down
+window_point p q = window_changes p.window q.window p.pack q.pack
 
 -- ---- the cursor
 
@@ -286,8 +322,8 @@ unfoldable pub delta : Sight → Sight → List Down
 delta p q =
     flat_map (λ (point : List Down). point)
     (beat_point p q ∷ time_point p q ∷ leavers_point p q ∷ joiners_point p q ∷ destroys_point p q
-    ∷ unloads_point p q ∷ loads_point p q ∷ cells_point p q ∷ entities_point p q ∷ pack_point p q
-    ∷ cursor_point p q ∷ chat_point p q ∷ [])
+    ∷ unloads_point p q ∷ loads_point p q ∷ cells_point p q ∷ entities_point p q
+    ∷ window_point p q ∷ cursor_point p q ∷ chat_point p q ∷ [])
 
 -- ---- what the packets rest on
 
@@ -298,14 +334,21 @@ pub record IsSeen (e : Seen) : Type 0 where
   pub y : is_32_bits e.spot.y ≡ true
   pub z : is_32_bits e.spot.z ≡ true
 
--- A sight that packets can tell: columns of their size with states of 16 bits, such entities, and a
--- pack of its size.
+-- The window of a chest: its number is from 1 to 100, and it has as many slots as a chest.
+pub record IsChestWindow (w : ChestWindow) : Type 0 where
+  pub low : 1 ≤ w.number
+  pub high : w.number ≤ LAST_WINDOW
+  pub size : length w.slots ≡ chest_size
+
+-- A sight that packets can tell: columns of their size with states of 16 bits, such entities, such
+-- a window, and a pack of its size.
 pub record IsTold (p : Sight) : Type 0 where
   pub sizes : (place : Place) (column : ColumnValue) → get p.columns place ≡ Some column →
       HasSizes column
   pub states : (place : Place) (column : ColumnValue) → get p.columns place ≡ Some column →
       All (λ state. state < 65536) column.states
   pub entities : (eid : ℤ) (e : Seen) → get p.entities eid ≡ Some e → IsSeen e
+  pub window : (w : ChestWindow) → p.window ≡ Some w → IsChestWindow w
   pub pack : length p.pack ≡ pack_size
 
 -- Two sights that follow one another: no packet carries the biomes of a column that stays or says

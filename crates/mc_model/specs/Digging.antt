@@ -13,10 +13,11 @@ use Rattle.mc_slots.specs.declared.pile.Pile.TheVariants.{Empty, Full}
 use Rattle.mc_slots.specs.Pile.{without}
 use Rattle.mc_model.specs.declared.player.Player.{Player}
 use Rattle.mc_model.specs.Notes.{again, with_cells}
-use Rattle.mc_model.specs.Game.{Game, chest_at, held_by, room_in, spot_of, state_in}
+use Rattle.mc_model.specs.Game.{Game, chest_at, held_by, room_in, state_in}
 use Rattle.mc_model.specs.Deeds.{noting, thrown, with_state}
 use Rattle.mc_model.specs.Hands.{carrying}
 use Rattle.mc_model.specs.Reach.{is_in_reach}
+use Rattle.mc_model.specs.Windows.{feet_of, shut_all, viewers}
 
 -- ---- what is dug
 
@@ -62,18 +63,15 @@ can_dig p cell g =
 abbrev pub all_thrown : List Item → Spot → Game → Game
 all_thrown items spot g = fold (λ (h : Game) (item : Item). thrown item spot h) g items
 
--- the cell is air, and what comes of it lies there
+-- the cell is air, and what comes of it lies there; then the windows on it close
 abbrev pub dug : Cell → Game → Game
-dug cell g = all_thrown (dug_items cell g) (floor_of cell) (with_state cell 0 g)
+dug cell g = shut_all (viewers cell g)
+    (all_thrown (dug_items cell g) (floor_of cell) (with_state cell 0 g))
 
 abbrev pub dig : ℕ → Player → Cell → Game → Game
 dig k p cell g = if can_dig p cell g then dug cell g else noting (with_cells (cell ∷ [])) k g
 
 -- ---- dropping
-
--- where what a player drops lies: where it is, and turned to nothing
-abbrev pub feet_of : Player → Game → Spot
-feet_of p g = record (spot_of g p) { yaw = 0; pitch = 0 }
 
 -- so many of the item in its hand lie there, and it has the others
 abbrev pub dropped : Player → Item → ℕ → Game → Game

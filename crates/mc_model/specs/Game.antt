@@ -1,15 +1,16 @@
 -- The game: all that is played, apart from the connections. The land, the entities, what each name
 -- carries, what was said, and the players in play by the numbers of their connections. Plain lists
 -- and finite maps. Rules of this project.
-use Rattle.std.specs.Prelude.{ℕ, ◌≤◌, Bool, List, [], Option, unwrap_or, ◌-◌, min, is_some}
-use Rattle.std.specs.Prelude.{unsigned_abs}
+use Rattle.std.specs.Prelude.{ℕ, ◌≤◌, Bool, List, [], Option, Some, None, unwrap_or, ◌-◌, min}
+use Rattle.std.specs.Prelude.{is_some}
+use Rattle.std.specs.Option.{option_and_then}
 use Rattle.std.specs.Ordering.{nat_cmp}
 use Rattle.std.specs.FinMap.{FinMap, empty, get, values}
 use Rattle.mc_fields.specs.declared.position.Cell.{Cell}
 use Rattle.mc_fields.specs.declared.position.Spot.{Spot}
 use Rattle.mc_slots.specs.declared.pile.Pile.{Pile}
 use Rattle.mc_column.specs.Cells.{ColumnValue}
-use Rattle.mc_land.specs.Places.{Place, key_cmp, key_of}
+use Rattle.mc_land.specs.Places.{Place, key_cmp}
 use Rattle.mc_land.specs.Land.{states_of, biomes_of}
 use Rattle.mc_windows.specs.Pack.{PackValue, kit_pack}
 use Rattle.mc_entities.specs.declared.entity.Entity.{Entity}
@@ -18,7 +19,7 @@ use Rattle.mc_entities.specs.Folk.{dropped_in}
 use Rattle.mc_view.specs.Views.{view_of, column_of_spot, is_in_view, view_size}
 use Rattle.mc_model.specs.declared.player.Player.{Player}
 use Rattle.mc_model.specs.declared.settings.Settings.{Settings}
-use Rattle.mc_model.specs.Things.{in_hand, state_of_cell}
+use Rattle.mc_model.specs.Things.{chest_of_cell, in_hand, state_of_cell}
 use Rattle.mc_model.specs.Spots.{spot_in}
 use Rattle.mc_model.specs.Maps.{name_cmp}
 
@@ -66,13 +67,22 @@ new_game settings = record {
 abbrev pub players_of : Game → List Player
 players_of g = values g.players
 
+-- a game after what a player does to it, if there is one
+abbrev pub of_player : Game → (Player → Game) → Option Player → Game
+of_player g f None = g
+of_player g f (Some p) = f p
+
 -- the state of a cell
 abbrev pub state_in : Game → Cell → ℕ
 state_in g cell = state_of_cell g.settings.terrain g.edits cell.x cell.y cell.z
 
--- the piles of the chest at a cell of the world, if there is one
+-- the piles of the chest at a cell, if there is one
 abbrev pub chest_at : Game → Cell → Option (List Pile)
-chest_at g cell = get g.chests (key_of cell.x (unsigned_abs cell.y) cell.z)
+chest_at g cell = chest_of_cell g.chests cell.x cell.y cell.z
+
+-- those of the chest that a player is shown, if it is shown one
+abbrev pub chest_of : Game → Player → Option (List Pile)
+chest_of g p = option_and_then (chest_at g) p.chest
 
 -- how many more dropped items may lie
 abbrev pub room_in : Game → ℕ

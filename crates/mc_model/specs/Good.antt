@@ -1,7 +1,7 @@
 -- What holds of a game along every run: whom numbers and names are of, and that a player is one
 -- entity, which holds what its pack has at its hand. Rules of this project.
-use Rattle.std.specs.Prelude.{◌≡◌, ◌≢◌, ◌<◌, ◌≤◌, ℕ, Bool, true, false, List, Option, Some, None}
-use Rattle.std.specs.Prelude.{is_some}
+use Rattle.std.specs.Prelude.{◌≡◌, ◌≢◌, ◌<◌, ◌≤◌, ◌==◌, ℕ, Bool, true, false, not, List, Option}
+use Rattle.std.specs.Prelude.{Some, None, is_some}
 use Rattle.std.specs.Ordering.{nat_cmp}
 use Rattle.std.specs.FinMap.{FinMap, get}
 use lib.IntN.{pos}
@@ -11,6 +11,7 @@ use Rattle.mc_slots.specs.declared.pile.Pile.{Pile}
 use Rattle.mc_slots.specs.Chest.{IsChest}
 use Rattle.mc_land.specs.Land.{is_chest}
 use Rattle.mc_land.specs.Places.{Key}
+use Rattle.mc_windows.specs.declared.pack.TheConstants.{LAST_WINDOW}
 use Rattle.mc_windows.specs.Pack.{PackValue, IsPack}
 use Rattle.mc_entities.specs.declared.entity.Entity.{Entity}
 use Rattle.mc_entities.specs.declared.entity.EntityKind.{EntityKind}
@@ -23,7 +24,7 @@ use Rattle.mc_model.specs.Step.{is_new}
 use Rattle.mc_model.specs.Things.{in_hand}
 use Rattle.mc_model.specs.Stages.{is_play}
 use Rattle.mc_model.specs.Maps.{name_cmp}
-use Rattle.mc_model.specs.Game.{Game, chest_at, state_in}
+use Rattle.mc_model.specs.Game.{Game, chest_at, pack_of, state_in}
 use Rattle.mc_model.specs.Reach.{is_in_world}
 use Rattle.mc_model.specs.Fitting.{Told}
 use Rattle.mc_model.specs.Link.{Link}
@@ -94,6 +95,22 @@ pub record AreChests (g : Game) : Type 0 where
   pub stand : (cell : Cell) → is_in_world cell ≡ true →
       is_some (chest_at g cell) ≡ is_chest (state_in g cell)
 
+-- ---- windows
+
+-- A player is shown a chest just where its pack's window has a number, and the chest is there.
+pub record IsShown (g : Game) (p : Player) : Type 0 where
+  pub number : is_some p.chest ≡ not ((pack_of g p).window == 0)
+  pub stands : (cell : Cell) → p.chest ≡ Some cell → is_some (chest_at g cell) ≡ true
+
+-- So it is of all in play, the numbers of windows are up to 100, and who is not in play is shown
+-- none.
+pub record AreShown (g : Game) : Type 0 where
+  pub shown : (k : ℕ) (p : Player) → get g.players k ≡ Some p → IsShown g p
+  pub numbers : (name : List ℕ) (pack : PackValue) → get g.packs name ≡ Some pack →
+      pack.window ≤ LAST_WINDOW
+  pub kept : (name : List ℕ) (pack : PackValue) → get g.packs name ≡ Some pack →
+      ((k : ℕ) (p : Player) → get g.players k ≡ Some p → p.name ≢ name) → pack.window ≡ 0
+
 -- ---- a world
 
 -- whether a connection is in play; one that is not there is not
@@ -101,11 +118,12 @@ abbrev pub in_play : Option Link → Bool
 in_play None = false
 in_play (Some l) = is_play l.stage
 
--- A game is good, and so are its chests; packets can tell what is in it; it has players exactly for
--- the connections in play, and no connection has a number that may join next.
+-- A game is good, and so are its chests and windows; packets can tell what is in it; it has players
+-- exactly for the connections in play, and no connection has a number that may join next.
 pub record GoodWorld (w : World) : Type 0 where
   pub game : Good w.game
   pub chests : AreChests w.game
+  pub windows : AreShown w.game
   pub told : Told w.game
   pub plays : (k : ℕ) → is_some (get w.game.players k) ≡ in_play (get w.links k)
   pub fresh : (k : ℕ) → is_new k w.last ≡ true → get w.links k ≡ None

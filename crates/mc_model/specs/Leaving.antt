@@ -1,21 +1,16 @@
 -- Who leaves a game: the players of connections that are closed. Rules of this project.
-use Rattle.std.specs.Prelude.{ℕ, List, Option, Some, None, if◌then◌else◌}
+use Rattle.std.specs.Prelude.{ℕ, List, if◌then◌else◌}
 use Rattle.std.specs.List.{fold}
 use Rattle.std.specs.FinMap.{get}
 use Rattle.mc_model.specs.declared.stage.Stage.{Stage}
-use Rattle.mc_model.specs.declared.player.Player.{Player}
 use Rattle.mc_model.specs.Stages.{is_closed}
-use Rattle.mc_model.specs.Game.{Game}
+use Rattle.mc_model.specs.Game.{Game, of_player}
 use Rattle.mc_model.specs.Deeds.{go_of}
+use Rattle.mc_model.specs.Windows.{shut}
 
--- a game after what a player does to it, if there is one
-abbrev pub of_player : Game → (Player → Game) → Option Player → Game
-of_player g f None = g
-of_player g f (Some p) = f p
-
--- the player of a connection leaves, if it has one
+-- the player of a connection leaves, if it has one: its window closes first
 unfoldable pub leave : ℕ → Game → Game
-leave k g = of_player g (λ p. go_of k p g) (get g.players k)
+leave k g = of_player g (λ p. go_of k p (shut k p g)) (get g.players k)
 
 -- the players of several leave, one after another
 abbrev pub leave_all : List ℕ → Game → Game

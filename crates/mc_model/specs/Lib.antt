@@ -15,12 +15,12 @@ pub mod Link
 pub mod World
 pub mod Hands
 pub mod Reach
+pub mod Pickups
+pub mod Windows
 pub mod Placing
 pub mod Digging
 pub mod Texts
 pub mod Chat
-pub mod Pickups
-pub mod Windows
 pub mod Movement
 pub mod Acts
 pub mod Talk

@@ -1,7 +1,7 @@
 -- What is noted for a client between two ticks, and what it is sent for that at the next beside the
 -- difference. Rules of this project.
 use Rattle.std.specs.Prelude.{Bool, false, List, [], ℕ, true, ◌++◌, if◌then◌else◌, ◌&&◌}
-use Rattle.std.specs.Prelude.{int_le, ◌∷◌, map, replicate}
+use Rattle.std.specs.Prelude.{int_le, ◌∷◌, map, Option, Some, None, replicate}
 use Rattle.std.specs.Int.{cast_signed, w8}
 use Rattle.std.specs.List.{filter}
 use Rattle.std.specs.FinMap.{FinMap}
@@ -9,6 +9,7 @@ use lib.IntN.{pos, negsuc}
 use Rattle.mc_fields.specs.declared.position.Cell.{Cell}
 use Rattle.mc_fields.specs.declared.position.Spot.{Spot}
 use Rattle.mc_slots.specs.declared.slot.Slot.TheVariants as slots
+use Rattle.mc_slots.specs.declared.pile.Pile.{Pile}
 use Rattle.mc_slots.specs.Pile.{slot_of}
 use Rattle.mc_packets.specs.declared.down.Down.{Down}
 use Rattle.mc_packets.specs.declared.down.Down.TheVariants.{Change, Confirm, WindowItems}
@@ -40,18 +41,23 @@ with_answer answered notes = record notes { confirms = notes.confirms ++ answere
 abbrev pub confirm_packet : Answered → Down
 confirm_packet c = Confirm (cast_signed w8 c.window) c.number c.accepted
 
--- The window 0 with all slots of it: the first nine are empty, and behind them are those of the
--- pack. Then what hangs on the cursor.
-abbrev pub window_packets : PackValue → List Down
-window_packets pack =
-    WindowItems 0 (replicate 9 slots.Empty ++ map slot_of pack.slots)
-    ∷ cursor_packet (slot_of pack.cursor) ∷ []
+-- All slots of the window that is shown: of window 0 the first nine are empty, of a chest's they are
+-- what lies in the chest, and behind them are those of the pack.
+abbrev pub window_items : PackValue → Option (List Pile) → Down
+window_items pack None = WindowItems 0 (replicate 9 slots.Empty ++ map slot_of pack.slots)
+window_items pack (Some piles) =
+    WindowItems pack.window (map slot_of piles ++ map slot_of pack.slots)
 
--- what was noted beside answers and cells, of a player that is at a spot and carries a pack
-abbrev pub notes_of : Notes → Spot → PackValue → List Down
-notes_of notes spot pack =
+-- and then what hangs on the cursor
+abbrev pub window_packets : PackValue → Option (List Pile) → List Down
+window_packets pack chest = window_items pack chest ∷ cursor_packet (slot_of pack.cursor) ∷ []
+
+-- what was noted beside answers and cells, of a player that is at a spot, carries a pack and may be
+-- shown a chest
+abbrev pub notes_of : Notes → Spot → PackValue → Option (List Pile) → List Down
+notes_of notes spot pack chest =
     (if notes.placing then placing spot ∷ [] else [])
-    ++ (if notes.resend then window_packets pack else [])
+    ++ (if notes.resend then window_packets pack chest else [])
 
 -- a noted cell that has a position is sent where its column is in view
 abbrev pub is_sent : (Place → Bool) → Cell → Bool

@@ -14,9 +14,8 @@ use Rattle.mc_entities.specs.Kinds.{is_dropped}
 use Rattle.mc_entities.specs.Numbers.{numbered}
 use Rattle.mc_model.specs.declared.pickups.TheConstants.{PICKUP_TICKS, PICKUP_SIDE, PICKUP_HEIGHT}
 use Rattle.mc_model.specs.declared.player.Player.{Player}
-use Rattle.mc_model.specs.Game.{Game, pack_of, spot_of}
+use Rattle.mc_model.specs.Game.{Game, of_player, pack_of, spot_of}
 use Rattle.mc_model.specs.Deeds.{lessened, repack_of}
-use Rattle.mc_model.specs.Leaving.{of_player}
 
 -- ---- what a player can pick up
 

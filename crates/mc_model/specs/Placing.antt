@@ -15,6 +15,7 @@ use Rattle.mc_model.specs.Reach.{at_face, is_in_world, is_in_reach}
 use Rattle.mc_model.specs.Game.{Game, held_by, state_in}
 use Rattle.mc_model.specs.Deeds.{noting, with_state}
 use Rattle.mc_model.specs.Hands.{carrying}
+use Rattle.mc_model.specs.Windows.{open_chest}
 
 -- the cell that was clicked and the one at the face are sent, and the window
 abbrev pub placing_refused : Cell → Cell → Notes → Notes
@@ -39,12 +40,12 @@ put_block k p cell target (Full item) g =
     if is_free g target then placed p target item g
     else noting (placing_refused cell target) k g
 
--- a chest that is clicked is not built on
+-- a chest that is clicked opens, and is not built on
 abbrev pub place_at : ℕ → Player → Cell → Option Cell → Game → Game
 place_at k p cell None g = g
 place_at k p cell (Some target) g =
     if not (is_in_reach g p cell) then noting (placing_refused cell target) k g
-    else if is_chest (state_in g cell) then g
+    else if is_chest (state_in g cell) then open_chest k p cell g
     else put_block k p cell target (held_by g p) g
 
 -- what the client says to hold is not looked at

@@ -1,10 +1,11 @@
 -- A client's world, made of the packets that it was sent, one after another. What each packet does
 -- is that of the pages 'Protocol', 'SMP Map Format' and 'Entities' of wiki.vg for protocol 47, as
 -- far as it is shown here; every other packet changes nothing.
-use Rattle.std.specs.Prelude.{◌≡◌, ℕ, ◌/◌, ◌%◌, ◌-◌, ◌==◌, ◌&&◌, Bool, true, false, List, [], ◌∷◌}
-use Rattle.std.specs.Prelude.{◌++◌, length, drop, slice_set, nat_lt, nat_le, int_le, unsigned_abs}
-use Rattle.std.specs.Prelude.{Option, Some, None, Result, Ok, Err, if◌then◌else◌}
-use Rattle.std.specs.Int.{int_rem_euclid}
+use Rattle.std.specs.Prelude.{◌≡◌, ℕ, ◌+◌, ◌/◌, ◌%◌, ◌-◌, ◌==◌, ◌&&◌, not, Bool, true, false, List}
+use Rattle.std.specs.Prelude.{[], ◌∷◌, ◌++◌, length, drop, replicate, slice_set, take, nat_lt}
+use Rattle.std.specs.Prelude.{nat_le, int_le, unsigned_abs, Option, Some, None, Result, Ok, Err}
+use Rattle.std.specs.Prelude.{if◌then◌else◌}
+use Rattle.std.specs.Int.{cast_unsigned, int_rem_euclid, w8}
 use Rattle.std.specs.List.{fold}
 use Rattle.std.specs.Ordering.{nat_cmp, int_cmp, int_eq}
 use Rattle.std.specs.declared.cmp.Ordering.{Ordering}
@@ -14,6 +15,7 @@ use Rattle.mc_bytes.specs.declared.fault.FieldFault.{FieldFault}
 use Rattle.mc_fields.specs.declared.position.Spot.{Spot}
 use Rattle.mc_slots.specs.declared.slot.Slot.{Slot}
 use Rattle.mc_slots.specs.declared.slot.Slot.TheVariants as slots
+use Rattle.mc_slots.specs.Chest.{chest_size}
 use Rattle.mc_column.specs.Cells.{ColumnValue, cell_index, empty_column, with_state}
 use Rattle.mc_column.specs.Body.{BodyValue, body_read, put_body}
 use Rattle.mc_packets.specs.declared.down.Down.{Down}
@@ -21,7 +23,8 @@ use Rattle.mc_packets.specs.declared.down.Down.TheVariants.{KeepAlive, JoinGame,
 use Rattle.mc_packets.specs.declared.down.Down.TheVariants.{List as PlayerList, MultiChange, Change}
 use Rattle.mc_packets.specs.declared.down.Down.TheVariants.{SpawnPlayer, SpawnObject, Equipment}
 use Rattle.mc_packets.specs.declared.down.Down.TheVariants.{Destroy, Step, Look, StepLook, Teleport}
-use Rattle.mc_packets.specs.declared.down.Down.TheVariants.{HeadLook, Meta, SetSlot, WindowItems}
+use Rattle.mc_packets.specs.declared.down.Down.TheVariants.{HeadLook, Meta, OpenWindow, SetSlot}
+use Rattle.mc_packets.specs.declared.down.Down.TheVariants.{CloseWindow, WindowItems}
 use Rattle.mc_packets.specs.declared.meta.MetaEntry.{MetaEntry}
 use Rattle.mc_packets.specs.declared.meta.MetaValue.{MetaValue}
 use Rattle.mc_packets.specs.declared.meta.MetaValue.TheVariants as values
@@ -30,9 +33,10 @@ use Rattle.mc_packets.specs.declared.player.PlayerChange.{PlayerChange}
 use Rattle.mc_packets.specs.declared.player.PlayerChange.TheVariants.{Join, Leave}
 use Rattle.mc_packets.specs.declared.record.Record.{Record}
 use Rattle.mc_land.specs.Places.{Place, Key, place_cmp, key_of}
+use Rattle.mc_windows.specs.Pack.{pack_size}
 use Rattle.mc_model.specs.declared.seen.SeenKind.{SeenKind}
 use Rattle.mc_model.specs.declared.seen.SeenKind.TheVariants as seen_kinds
-use Rattle.mc_model.specs.Sight.{Seen, Sight, nothing_seen}
+use Rattle.mc_model.specs.Sight.{ChestWindow, Seen, Sight, nothing_seen}
 
 pub record Replica : Type 0 where
   -- the dimension has a sky, so bodies have sky light
@@ -171,15 +175,58 @@ with_value index other e = e
 abbrev pub with_metas : List MetaEntry → Seen → Seen
 with_metas metas e = fold (λ (s : Seen) (m : MetaEntry). with_value m.index m.value s) e metas
 
--- ---- the pack: slots 9 to 44 of window 0
+-- ---- the pack, and the window of a chest
 
-abbrev pub with_slot : List Slot → ℤ → ℤ → Slot → List Slot
-with_slot pack (pos window) (pos i) item =
-    if window == 0 && (nat_le 9 i && nat_le i 44) then slice_set pack (i - 9) item else pack
-with_slot pack window i item = pack
+-- slots 9 to 44 of window 0
+abbrev pub with_own_slot : ℕ → Slot → Sight → Sight
+with_own_slot i item p =
+    if nat_le 9 i && nat_le i 44 then record p { pack = slice_set p.pack (i - 9) item } else p
 
-abbrev pub with_items : List Slot → ℕ → List Slot → List Slot
-with_items pack window items = if window == 0 && length items == 45 then drop 9 items else pack
+-- a slot of the shown chest's window: those of the chest, and behind them those of the pack
+abbrev pub with_shown_slot : ChestWindow → ℕ → Slot → Sight → Sight
+with_shown_slot w i item p =
+    if nat_lt i chest_size
+    then record p { window = Some (record w { slots = slice_set w.slots i item }) }
+    else if nat_lt i (chest_size + pack_size)
+    then record p { pack = slice_set p.pack (i - chest_size) item }
+    else p
+
+-- where that has the number
+abbrev pub with_chest_slot : Option ChestWindow → ℕ → ℕ → Slot → Sight → Sight
+with_chest_slot None number i item p = p
+with_chest_slot (Some w) number i item p =
+    if number == w.number then with_shown_slot w i item p else p
+
+-- a window is told by a byte with a sign
+abbrev pub with_slot : ℤ → ℤ → Slot → Sight → Sight
+with_slot window (pos i) item p =
+    if int_eq window (pos 0) then with_own_slot i item p
+    else with_chest_slot p.window (cast_unsigned w8 window) i item p
+with_slot window (negsuc i) item p = p
+
+-- all slots of window 0, of which the pack begins at slot 9
+abbrev pub with_own_items : List Slot → Sight → Sight
+with_own_items items p =
+    if length items == 9 + pack_size then record p { pack = drop 9 items } else p
+
+-- all slots of the shown chest's window
+abbrev pub with_chest_items : Option ChestWindow → ℕ → List Slot → Sight → Sight
+with_chest_items None number items p = p
+with_chest_items (Some w) number items p =
+    if number == w.number && length items == chest_size + pack_size then record p {
+      window = Some (record w { slots = take chest_size items });
+      pack = drop chest_size items;
+    } else p
+
+abbrev pub with_items : ℕ → List Slot → Sight → Sight
+with_items number items p =
+    if number == 0 then with_own_items items p else with_chest_items p.window number items p
+
+-- a window opens, of whose slots nothing is known yet; a chest's has no number 0
+abbrev pub with_window : ℕ → Sight → Sight
+with_window number p = if number == 0 then p else record p {
+  window = Some (record { number = number; slots = replicate chest_size slots.Empty });
+}
 
 -- ---- the cursor: slot -1 of window -1
 
@@ -202,9 +249,6 @@ with_entities r entities = record r { sight = record r.sight { entities = entiti
 -- an entity that is known is changed
 abbrev pub with_entity : Replica → ℤ → (Seen → Seen) → Replica
 with_entity r eid f = with_entities r (altered r.sight.entities eid f)
-
-abbrev pub with_pack : Replica → List Slot → Replica
-with_pack r pack = record r { sight = record r.sight { pack = pack } }
 
 abbrev pub with_cursor : Replica → Slot → Replica
 with_cursor r cursor = record r { sight = record r.sight { cursor = cursor } }
@@ -245,8 +289,11 @@ apply r (Equipment eid worn pile) = with_entity r eid (wearing worn pile)
 apply r (Meta eid metas) = with_entity r eid (with_metas metas)
 apply r (SetSlot window i item) =
     if is_cursor window i then with_cursor r item
-    else with_pack r (with_slot r.sight.pack window i item)
-apply r (WindowItems window items) = with_pack r (with_items r.sight.pack window items)
+    else record r { sight = with_slot window i item r.sight }
+apply r (WindowItems number items) = record r { sight = with_items number items r.sight }
+apply r (OpenWindow number kind title count horse) =
+    record r { sight = with_window number r.sight }
+apply r (CloseWindow number) = record r { sight = record r.sight { window = None } }
 apply r other = r
 
 abbrev pub replay : Replica → List Down → Replica
@@ -259,6 +306,7 @@ pub record Shows (r : Replica) (p : Sight) : Type 0 where
   pub pairs : r.sight.pairs ≡ p.pairs
   pub columns : r.sight.columns ≡ p.columns
   pub entities : r.sight.entities ≡ p.entities
+  pub window : r.sight.window ≡ p.window
   pub pack : r.sight.pack ≡ p.pack
   pub cursor : r.sight.cursor ≡ p.cursor
   pub chat : r.sight.chat ≡ p.chat

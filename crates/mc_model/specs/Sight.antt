@@ -1,16 +1,17 @@
 -- What a client can see: the one type of what the server shows to it and of what its replica holds.
-use Rattle.std.specs.Prelude.{ℕ, List, [], replicate, Option, None, Some}
+use Rattle.std.specs.Prelude.{ℕ, List, [], map, option_map, replicate, Option, None, Some}
 use Rattle.std.specs.Ordering.{nat_cmp, int_cmp}
 use Rattle.std.specs.FinMap.{FinMap, empty}
 use lib.IntN.{ℤ}
 use Rattle.mc_fields.specs.declared.position.Spot.{Spot}
 use Rattle.mc_slots.specs.declared.slot.Slot.{Slot}
 use Rattle.mc_slots.specs.declared.slot.Slot.TheVariants as slots
+use Rattle.mc_slots.specs.declared.pile.Pile.{Pile}
 use Rattle.mc_slots.specs.declared.pile.Pile.TheVariants.{Full}
 use Rattle.mc_slots.specs.Pile.{slot_of}
 use Rattle.mc_column.specs.Cells.{ColumnValue}
 use Rattle.mc_land.specs.Places.{place_cmp}
-use Rattle.mc_windows.specs.Pack.{pack_size}
+use Rattle.mc_windows.specs.Pack.{PackValue, pack_size}
 use Rattle.mc_entities.specs.declared.entity.Entity.{Entity}
 use Rattle.mc_entities.specs.declared.entity.EntityKind.{EntityKind}
 use Rattle.mc_entities.specs.declared.entity.EntityKind.TheVariants as kinds
@@ -27,6 +28,11 @@ pub record Seen : Type 0 where
   pub head : ℕ
   pub pile : Slot
 
+-- the window of a chest: its number, and what lies in the chest
+pub record ChestWindow : Type 0 where
+  pub number : ℕ
+  pub slots : List Slot
+
 pub record Sight : Type 0 where
   -- the beat and the age that it was told last
   pub beat : Option ℤ
@@ -37,6 +43,8 @@ pub record Sight : Type 0 where
   pub columns : FinMap place_cmp ColumnValue
   -- the entities in view but its own, by their numbers
   pub entities : FinMap int_cmp Seen
+  -- the window of the chest that it is shown, if it is shown one
+  pub window : Option ChestWindow
   -- the slots of the own pack
   pub pack : List Slot
   -- what hangs on the own cursor
@@ -51,6 +59,7 @@ nothing_seen = record {
   pairs = empty;
   columns = empty;
   entities = empty;
+  window = None;
   pack = replicate pack_size slots.Empty;
   cursor = slots.Empty;
   chat = [];
@@ -79,3 +88,10 @@ seen_as e kinds.Mob = None
 
 abbrev pub seen_of : Entity → Option (ℤ × Seen)
 seen_of e = seen_as e e.kind
+
+-- the window of a chest with these piles, of the number that a pack has for it
+abbrev pub window_seen : PackValue → Option (List Pile) → Option ChestWindow
+window_seen pack chest = option_map (λ (piles : List Pile). record {
+  number = pack.window;
+  slots = map slot_of piles;
+}) chest

@@ -1,7 +1,7 @@
 -- Parts of a game: the state of a cell, where an entity stands and what it holds, and what a pack
 -- has in a hand. Rules of this project.
-use Rattle.std.specs.Prelude.{ℕ, ◌+◌, nat_lt, slice_set, if◌then◌else◌}
-use Rattle.std.specs.FinMap.{FinMap}
+use Rattle.std.specs.Prelude.{ℕ, ◌+◌, List, nat_lt, slice_set, Option, None, if◌then◌else◌}
+use Rattle.std.specs.FinMap.{FinMap, get, insert}
 use lib.IntN.{ℤ, pos, negsuc}
 use Rattle.mc_fields.specs.declared.position.Spot.{Spot}
 use Rattle.mc_slots.specs.declared.pile.Item.{Item}
@@ -23,6 +23,17 @@ abbrev pub state_of_cell : Terrain → FinMap key_cmp ℕ → ℤ → ℤ → �
 state_of_cell terrain edits x (pos y) z =
     if nat_lt y 256 then state_at terrain edits (key_of x y z) else 0
 state_of_cell terrain edits x (negsuc y) z = 0
+
+-- the piles of the chest at a cell: none above and below the world
+abbrev pub chest_of_cell : FinMap key_cmp (List Pile) → ℤ → ℤ → ℤ → Option (List Pile)
+chest_of_cell chests x (pos y) z = if nat_lt y 256 then get chests (key_of x y z) else None
+chest_of_cell chests x (negsuc y) z = None
+
+-- and other piles there
+abbrev pub chest_put : FinMap key_cmp (List Pile) → ℤ → ℤ → ℤ → List Pile →
+    FinMap key_cmp (List Pile)
+chest_put chests x (pos y) z piles = insert chests (key_of x y z) piles
+chest_put chests x (negsuc y) z piles = chests
 
 -- ---- entities
 

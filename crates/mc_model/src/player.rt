@@ -1,4 +1,5 @@
 use crate::{Eid, Name, Notes};
+use mc_fields::Cell;
 
 /// One player, in play.
 #[derive(Drop)]
@@ -15,6 +16,8 @@ pub struct Player {
     pub hand: u8,
     /// How many of the lines that were said since the last tick had been said before it joined.
     pub since: usize,
+    /// The cell of the chest whose window it is shown; None where it is shown its own.
+    pub chest: Option<Cell>,
     /// What its client is to be sent at the next tick, whatever the difference says.
     pub notes: Notes,
 }
