@@ -1,10 +1,10 @@
 -- The packets of slots fit: a slot of a window, and a window with all its slots.
 use Rattle.std.proofs.lemmas.Bool.Decides.{nat_tests}
-use Rattle.std.proofs.Common.{ℕ, suc, ◌≤◌, List, ◌∷◌, ◌++◌, map, length, lit<, arith, []}
-use Rattle.std.specs.Prelude.{replicate}
+use Rattle.std.proofs.Common.{ℕ, suc, ◌<◌, ◌≤◌, List, ◌∷◌, ◌++◌, map, length, lit<, arith, []}
+use Rattle.std.specs.Prelude.{Option, Some, None, replicate}
 use Rattle.std.specs.Int.{w8, w16}
 use Rattle.std.specs.List.{AllByRecursion}
-use Rattle.std.proofs.lemmas.List.{length-map}
+use Rattle.std.proofs.lemmas.List.{length-append, length-map}
 use Rattle.std.proofs.lemmas.Int.{ints}
 use lib.IntN.{ℤ, pos, negsuc}
 use lib.Signed.{◌≤ℤ◌}
@@ -15,11 +15,13 @@ use Rattle.mc_slots.specs.declared.pile.Pile.{Pile}
 use Rattle.mc_slots.specs.declared.pile.Pile.TheVariants.{Empty, Full}
 use Rattle.mc_slots.specs.Slot.{FitsSlot, slot_most}
 use Rattle.mc_slots.specs.Pile.{IsPile, slot_of}
-use Rattle.mc_slots.specs.Chest.{pile_at}
+use Rattle.mc_slots.specs.Chest.{IsChest, pile_at}
 use Rattle.mc_packets.specs.declared.down.Down.TheVariants.{SetSlot, WindowItems}
+use Rattle.mc_windows.specs.declared.pack.TheConstants.{LAST_WINDOW}
 use Rattle.mc_windows.specs.Pack.{PackValue, IsPack}
 use Rattle.mc_model.specs.Packets.{of_play, for_play}
-use Rattle.mc_model.specs.Notes.{window_packets}
+use Rattle.mc_model.specs.Notes.{window_items, window_packets}
+use Rattle.mc_model.proofs.AllFacts.{all_joined}
 use Rattle.mc_model.proofs.Decodes.{IsClear, play_clear}
 use Rattle.mc_model.proofs.FitsSize.{fields, all_fit, all_few}
 use Rattle.mc_model.proofs.FitsList.{AreClear}
@@ -69,14 +71,14 @@ set_slot_clear window i pile at_window at_i is = search (arith, pile_slot_fits, 
 
 -- ---- all slots of a window
 
--- a window of not too many slots
-pub items_clear : (items : List Slot) → length items ≤ 100 → AllByRecursion SlotFits items
-    → IsClear for_play (of_play (WindowItems 0 items))
-items_clear items few f =
+-- a window of a number that is a byte, and of not too many slots
+pub items_clear : (number : ℕ) (items : List Slot) → number < 256 → length items ≤ 100 →
+    AllByRecursion SlotFits items → IsClear for_play (of_play (WindowItems number items))
+items_clear number items small few f =
     let counted : SFits w16 (pos (length items)) = record { sfits = omega (arith, few) } in
     let all = all_fit SlotFits FitsSlot (λ item fits. fits.fits) items f in
     let le = all_few SlotFits slot_most 6 (λ item fits. fits.few) items f in
-    play_clear (WindowItems 0 items) (search (fields, all)) (omega (arith, few, le))
+    play_clear (WindowItems number items) (search (fields, all, small)) (omega (arith, few, le))
 
 -- ---- the window of a pack
 
@@ -91,13 +93,38 @@ window_piles : (piles : List Pile) → ((i : ℕ) → IsPile (pile_at piles i))
     → AllByRecursion SlotFits (replicate 9 slots.Empty ++ map slot_of piles)
 window_piles piles is = grind (arith, nat_tests, pile_slot_fits, piles_fit)
 
--- the window with all slots, and what hangs on the cursor
-pub window_clear : (pack : PackValue) → IsPack pack.slots pack.cursor →
-    AreClear (window_packets pack)
-window_clear pack is = (
-  items_clear (replicate 9 slots.Empty ++ map slot_of pack.slots)
-      (omega (arith, is.size, length-map pack.slots slot_of))
-      (window_piles pack.slots is.are_piles),
+-- a chest that may be shown in a window of a number
+abbrev pub ChestFits : ℕ → Option (List Pile) → Type 0
+ChestFits number None = Unit {0}
+ChestFits number (Some piles) = (number ≤ LAST_WINDOW) × IsChest piles
+
+-- the window with all slots
+window_items_clear : (pack : PackValue) (chest : Option (List Pile)) →
+    IsPack pack.slots pack.cursor → ChestFits pack.window chest →
+    IsClear for_play (of_play (window_items pack chest))
+window_items_clear pack None is fits =
+    items_clear 0 (replicate 9 slots.Empty ++ map slot_of pack.slots) (lit< tt)
+    (omega (arith, is.size, length-map pack.slots slot_of))
+    (window_piles pack.slots is.are_piles)
+window_items_clear pack (Some piles) is (low, chest) =
+    items_clear pack.window (map slot_of piles ++ map slot_of pack.slots) (omega (arith, low))
+    (omega (
+      arith,
+      is.size,
+      chest.size,
+      length-map pack.slots slot_of,
+      length-map piles slot_of,
+      length-append (map slot_of piles) (map slot_of pack.slots),
+    ))
+    (all_joined SlotFits (map slot_of piles) (map slot_of pack.slots)
+    (piles_fit piles chest.are_piles) (piles_fit pack.slots is.are_piles))
+
+-- and what hangs on the cursor
+pub window_clear : (pack : PackValue) (chest : Option (List Pile)) →
+    IsPack pack.slots pack.cursor → ChestFits pack.window chest →
+    AreClear (window_packets pack chest)
+window_clear pack chest is fits = (
+  window_items_clear pack chest is fits,
   (
     set_slot_clear (negsuc 0) (negsuc 0) pack.cursor
         (record { sfits = lit< tt }) (record { sfits = lit< tt }) is.is_pile,

@@ -165,6 +165,13 @@ farewell_short BadNumber = bad_number
 farewell_short Silent = no_answer
 farewell_short other = tt
 
+-- ---- windows
+
+-- the title of a chest
+pub title_short : IsShort 200 (chat_json (codes "Chest"))
+unfolding chat_json serde_json_on_literals
+title_short = short_where 200 (chat_json (codes "Chest")) refl
+
 -- ---- identifiers
 
 -- a list by place, of low bytes
