@@ -31,14 +31,14 @@ use Rattle.mc_packets.specs.declared.down.Down.{Down}
 use Rattle.mc_view.specs.declared.view_set.ViewSet.{ViewSet}
 use Rattle.mc_view.specs.Sets.{all_of, has, is_within}
 use Rattle.mc_view.specs.Told.{Told}
-use Rattle.mc_model.specs.Sight.{Seen, Sight}
+use Rattle.mc_model.specs.Sight.{Seen, Sight, window_seen}
 use Rattle.mc_model.specs.Delta.{Pairs, delta, load, unload, cell_packets, column_changes}
 use Rattle.mc_model.specs.Delta.{beat_packets, chat_packet, destroying, entity_packets}
-use Rattle.mc_model.specs.Delta.{cursor_packets, slot_packets, time_packets}
+use Rattle.mc_model.specs.Delta.{cursor_packets, time_packets, window_changes}
 use Rattle.mc_flush.specs.Lists.{ListValue}
 use Rattle.mc_flush.specs.Seeing.{MarkValue, Parts, StandsFor, changes, columns_in, listed}
 use Rattle.mc_flush.specs.Seeing.{leaver_packets, joiner_packets, pairs_in, present_parts, seen}
-use Rattle.mc_flush.specs.Seeing.{settled_parts}
+use Rattle.mc_flush.specs.Seeing.{seen_window, settled_parts, window_kept}
 use Rattle.mc_told.specs.Telling.{age_now, beat_now, gone_from, packets_of, kept_of, shown_now}
 use Rattle.mc_told.specs.Telling.{told_as, told_slot, entity_frames, told_now}
 use Rattle.mc_loads.specs.Columns.{changed_packets, entered_of, left_of, load_packets}
@@ -241,12 +241,12 @@ twelve_points a b c d e f g h j k l m a' b' c' d' e' f' g' h' j' k' l' m' pa pb 
 
 -- the difference from what a mark stands for is the changes
 pub delta_is : (land : LandValue) (list : ListValue) (es : List Entity) (pack : PackValue)
-    (mark : MarkValue) (view : ViewSet) (age : ℕ) (lines : List (List ℕ)) (p : Sight) (high : ℤ) →
+    (chest : Option (List Pile)) (mark : MarkValue) (view : ViewSet) (age : ℕ) (lines : List (List ℕ)) (p : Sight) (high : ℤ) →
     Rise eid_of (pos 0) es high → StandsFor mark (settled_parts land list) p →
-    delta p (seen land list es pack view age (p.chat ++ lines))
-    ≡ changes land list es pack mark view age lines
+    delta p (seen land list es pack chest view age (p.chat ++ lines))
+    ≡ changes land list es pack chest mark view age lines
 unfolding delta changes StandsFor
-delta_is land list es pack mark view age lines p high r stands =
+delta_is land list es pack chest mark view age lines p high r stands =
     let parts = settled_parts land list in
     let pairs : p.pairs ≡ listed mark list = stands.pairs ∙ listed_is mark land list in
     let all = shown_entries land.terrain land.edits view in
@@ -263,28 +263,36 @@ delta_is land list es pack mark view age lines p high r stands =
     (ap (flat_map (λ (e : Place × ColumnValue). column_changes e.0 (get p.columns e.0) e.1)) all
     ∙ cells_are land list mark.view p.columns stands.columns (all_of view))
     (entities_are p.entities mark.told es view high r stands.entities)
-    (ap (λ (slots : List _). slot_packets 9 slots (map slot_of pack.slots)) stands.pack)
+    (λ i. window_changes (stands.window i) (window_seen pack chest) (stands.pack i)
+    (map slot_of pack.slots))
     (ap (λ (old : Slot). cursor_packets old (slot_of pack.cursor)) stands.cursor)
     (ap (map chat_packet) (drop-append_seam p.chat lines))
 
 -- what a mark keeps of a tick stands for what is seen, whatever was said
 pub stands_seen : (land : LandValue) (list : ListValue) (es : List Entity) (pack : PackValue)
-    (view : ViewSet) (age : ℕ) (chat : List (List ℕ)) →
+    (chest : Option (List Pile)) (view : ViewSet) (age : ℕ) (chat : List (List ℕ)) →
     StandsFor (record {
       beat = beat_now age;
       age = age_now age;
       view = Some view;
       told = told_now es view;
+      window = window_kept pack chest;
       slots = pack.slots;
       cursor = pack.cursor;
-    }) (present_parts land list) (seen land list es pack view age chat)
+    }) (present_parts land list) (seen land list es pack chest view age chat)
 unfolding StandsFor
-stands_seen land list es pack view age chat = record {
+stands_seen land list es pack chest view age chat = record {
   beat = refl;
   age = refl;
   pairs = refl;
   columns = refl;
   entities = shown_told view es;
+  window = kept_seen chest;
   pack = refl;
   cursor = refl;
 }
+  where
+    kept_seen : (o : Option (List Pile)) →
+        window_seen pack o ≡ option_map seen_window (window_kept pack o)
+    kept_seen None = refl
+    kept_seen (Some piles) = refl

@@ -7,6 +7,7 @@ pub mod NotedCells
 pub mod Carries
 pub mod Placings
 pub mod Sent
+pub mod WindowFrames
 pub mod Shown
 pub mod Changes
 pub mod Difference

@@ -25,6 +25,7 @@ pub first_mark : (told : Told) →
       age = None;
       view = None;
       told = told;
+      window = None;
       slots = replicate pack_size Empty;
       cursor = Empty;
     })

@@ -1,6 +1,7 @@
 -- What is appended of a tick, part after part, and what its looks at cells cost.
-use Rattle.std.proofs.Common.{◌≡◌, ℕ, List, ◌++◌, ap, ◌∙◌, append_assoc}
+use Rattle.std.proofs.Common.{◌≡◌, ℕ, List, Option, ◌++◌, ap, ◌∙◌, append_assoc}
 use Rattle.mc_land.specs.Land.{LandValue}
+use Rattle.mc_slots.specs.declared.pile.Pile.{Pile}
 use Rattle.mc_windows.specs.Pack.{PackValue}
 use Rattle.mc_entities.specs.declared.entity.Entity.{Entity}
 use Rattle.mc_packets.specs.declared.down.Down.{Down}
@@ -10,8 +11,8 @@ use Rattle.mc_flush.specs.Lists.{ListValue}
 use Rattle.mc_sending.specs.Sending.{play_bytes}
 use Rattle.mc_flush.specs.Seeing.{MarkValue, age_packets, carried_packets, changes, column_packets}
 use Rattle.mc_flush.specs.Seeing.{held_packets, joiner_packets, leaver_packets, line_packets}
-use Rattle.mc_flush.specs.Seeing.{listed, loaded, pack_packets}
-use Rattle.mc_flush.specs.Seeing.{player_packets, stayed, unloaded}
+use Rattle.mc_flush.specs.Seeing.{listed, loaded, player_packets, stayed, unloaded}
+use Rattle.mc_flush.specs.Seeing.{window_packets}
 use Rattle.mc_loads.specs.Columns.{changed_packets, load_packets, unload_packets}
 use Rattle.mc_told.specs.Telling.{age_now, beat_now, entity_frames, gone_from}
 use Rattle.mc_sending.proofs.Pieces.{play_bytes-append}
@@ -20,18 +21,18 @@ use Rattle.mc_sending.proofs.Pieces.{play_bytes-append}
 
 -- all that differs
 pub changes_put_all : (land : LandValue) (list : ListValue) (es : List Entity) (pack : PackValue)
-    (mark : MarkValue) (view : ViewSet) (age : ℕ) (lines : List (List ℕ))
+    (chest : Option (List Pile)) (mark : MarkValue) (view : ViewSet) (age : ℕ) (lines : List (List ℕ))
     (old first one two three four five new : List ℕ) →
     first ≡ old ++ play_bytes (age_packets mark age) →
     one ≡ first ++ play_bytes (player_packets (listed mark list) list.present) →
     two ≡ one ++ play_bytes (destroying (gone_from mark.told es view)) →
     three ≡ two ++ play_bytes (column_packets land mark view) →
     four ≡ three ++ play_bytes (entity_frames mark.told es view) →
-    five ≡ four ++ play_bytes (carried_packets mark pack) →
+    five ≡ four ++ play_bytes (carried_packets mark pack chest) →
     new ≡ five ++ play_bytes (line_packets lines) →
-    new ≡ old ++ play_bytes (changes land list es pack mark view age lines)
+    new ≡ old ++ play_bytes (changes land list es pack chest mark view age lines)
 unfolding changes
-changes_put_all land list es pack mark view age lines old first one two three four five new b e f g
+changes_put_all land list es pack chest mark view age lines old first one two three four five new b e f g
     h k m =
     let w = beat_packets mark.beat (beat_now age) in
     let t = time_packets mark.age (age_now age) in
@@ -42,7 +43,7 @@ changes_put_all land list es pack mark view age lines old first one two three fo
     let o = load_packets land (loaded mark view) in
     let c = changed_packets land (stayed mark view) in
     let n = entity_frames mark.told es view in
-    let p = pack_packets mark.slots pack.slots in
+    let p = window_packets mark pack chest in
     let q = held_packets mark.cursor pack.cursor in
     let s = line_packets lines in
     m ∙ ap (λ (bytes : List ℕ). bytes ++ play_bytes s)

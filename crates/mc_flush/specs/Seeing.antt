@@ -19,15 +19,16 @@ use Rattle.mc_view.specs.declared.view_set.ViewSet.{ViewSet}
 use Rattle.mc_view.specs.Sets.{all_of, has, is_within}
 use Rattle.mc_view.specs.Told.{Told}
 use Rattle.mc_model.specs.declared.notes.Notes.{Notes}
-use Rattle.mc_model.specs.Sight.{Sight, seen_of}
+use Rattle.mc_model.specs.Sight.{ChestWindow, Sight, seen_of, window_seen}
 use Rattle.mc_model.specs.Spots.{spawn_spot, spot_in}
 use Rattle.mc_model.specs.Notes.{confirm_packet, noted_packets, notes_of}
 use Rattle.mc_model.specs.Delta.{Pairs, missing, leaver, joiner, about, beat_packets, time_packets}
-use Rattle.mc_model.specs.Delta.{chat_packet, cursor_packets, destroying, slot_packets}
+use Rattle.mc_model.specs.Delta.{chat_packet, cursor_packets, destroying, window_changes}
 use Rattle.mc_told.specs.Telling.{age_now, beat_now, entity_frames, gone_from, in_view, kept_of}
 use Rattle.mc_told.specs.Telling.{told_slot}
 use Rattle.mc_loads.specs.Columns.{changed_packets, entered_of, left_of, load_packets, placed_with}
 use Rattle.mc_loads.specs.Columns.{unload_packets}
+use Rattle.mc_flush.specs.declared.windows.Window.{Window}
 use Rattle.mc_flush.specs.Lists.{ListValue}
 
 -- ---- what all clients are shown a part of
@@ -51,22 +52,31 @@ abbrev pub columns_of : Parts → ViewSet → FinMap place_cmp ColumnValue
 columns_of parts view = from_entries (map (placed_with parts.terrain parts.edits) (all_of view))
 
 -- what a client is to be shown: the beat and the age, the players that are in the list now, the
--- columns of the view as they are, the entities in it that are not its own, its pack and cursor,
--- and all that was said
-abbrev pub seen : LandValue → ListValue → List Entity → PackValue → ViewSet → ℕ → List (List ℕ) →
-    Sight
-seen land list entities pack view age chat = record {
+-- columns of the view as they are, the entities in it that are not its own, the window of a chest,
+-- its pack and cursor, and all that was said
+abbrev pub seen : LandValue → ListValue → List Entity → PackValue → Option (List Pile) → ViewSet →
+    ℕ → List (List ℕ) → Sight
+seen land list entities pack chest view age chat = record {
   beat = beat_now age;
   age = age_now age;
   pairs = list.present;
   columns = columns_of (present_parts land list) view;
   entities = from_entries (filter_map seen_of (in_view view entities));
+  window = window_seen pack chest;
   pack = map slot_of pack.slots;
   cursor = slot_of pack.cursor;
   chat = chat;
 }
 
 -- ---- what was shown
+
+-- the window of a chest that a mark keeps, and how it was seen
+abbrev pub window_kept : PackValue → Option (List Pile) → Option Window
+window_kept pack chest =
+    option_map (λ (piles : List Pile). record { number = pack.window; chest = piles }) chest
+
+abbrev pub seen_window : Window → ChestWindow
+seen_window w = record { number = w.number; slots = map slot_of w.chest }
 
 -- what contracts see of a mark
 pub record MarkValue : Type 0 where
@@ -77,6 +87,8 @@ pub record MarkValue : Type 0 where
   pub view : Option ViewSet
   -- what was told of entities
   pub told : Told
+  -- the window of the chest that was shown, if one was
+  pub window : Option Window
   -- the piles of the pack that were shown, and what hung on the cursor
   pub slots : List Pile
   pub cursor : Pile
@@ -87,6 +99,7 @@ nothing_shown = record {
   age = None;
   view = None;
   told = empty;
+  window = None;
   slots = replicate pack_size Empty;
   cursor = Empty;
 }
@@ -114,6 +127,7 @@ pub record Shown (mark : MarkValue) (parts : Parts) (p : Sight) : Type 0 where
   pub columns : p.columns ≡ columns_in mark.view parts
   pub entities : (eid : ℤ) →
       option_map kept_of (get p.entities eid) ≡ option_map told_slot (get mark.told eid)
+  pub window : p.window ≡ option_map seen_window mark.window
   pub pack : p.pack ≡ map slot_of mark.slots
   pub cursor : p.cursor ≡ slot_of mark.cursor
 
@@ -159,17 +173,19 @@ column_packets land mark view =
     unload_packets (unloaded mark view)
     ++ (load_packets land (loaded mark view) ++ changed_packets land (stayed mark view))
 
--- the slots of the pack that differ
-abbrev pub pack_packets : List Pile → List Pile → List Down
-pack_packets old new = slot_packets 9 (map slot_of old) (map slot_of new)
+-- what differs of the window that is shown, and of the pack
+abbrev pub window_packets : MarkValue → PackValue → Option (List Pile) → List Down
+window_packets mark pack chest =
+    window_changes (option_map seen_window mark.window) (window_seen pack chest)
+    (map slot_of mark.slots) (map slot_of pack.slots)
 
 -- and the cursor, where something else hangs on it
 abbrev pub held_packets : Pile → Pile → List Down
 held_packets old new = cursor_packets (slot_of old) (slot_of new)
 
-abbrev pub carried_packets : MarkValue → PackValue → List Down
-carried_packets mark pack =
-    pack_packets mark.slots pack.slots ++ held_packets mark.cursor pack.cursor
+abbrev pub carried_packets : MarkValue → PackValue → Option (List Pile) → List Down
+carried_packets mark pack chest =
+    window_packets mark pack chest ++ held_packets mark.cursor pack.cursor
 
 -- the beat and the age, where others were told
 abbrev pub age_packets : MarkValue → ℕ → List Down
@@ -181,9 +197,9 @@ abbrev pub line_packets : List (List ℕ) → List Down
 line_packets lines = map chat_packet lines
 
 -- all of it, where these lines are new
-unfoldable pub changes : LandValue → ListValue → List Entity → PackValue → MarkValue → ViewSet → ℕ →
-    List (List ℕ) → List Down
-changes land list entities pack mark view age lines =
+unfoldable pub changes : LandValue → ListValue → List Entity → PackValue → Option (List Pile) →
+    MarkValue → ViewSet → ℕ → List (List ℕ) → List Down
+changes land list entities pack chest mark view age lines =
     beat_packets mark.beat (beat_now age)
     ++ (time_packets mark.age (age_now age)
     ++ (leaver_packets (listed mark list) list.present
@@ -193,7 +209,7 @@ changes land list entities pack mark view age lines =
     ++ (load_packets land (loaded mark view)
     ++ (changed_packets land (stayed mark view)
     ++ (entity_frames mark.told entities view
-    ++ (pack_packets mark.slots pack.slots
+    ++ (window_packets mark pack chest
     ++ (held_packets mark.cursor pack.cursor ++ line_packets lines))))))))))
 
 -- where the player of a client is and looks: as the entity of its number, or where players enter,
@@ -203,11 +219,13 @@ spot_seen land entities (pos eid) = spot_in land.terrain entities eid
 spot_seen land entities (negsuc n) = spawn_spot land.terrain
 
 -- what was noted: answers to clicks, cells in the view as they are, and all else, of a player
--- that is at a spot and carries a pack
-abbrev pub noted_of : LandValue → ViewSet → Notes → Spot → PackValue → List Down
-noted_of land view notes spot pack =
+-- that is at a spot, carries a pack and may be shown a chest
+abbrev pub noted_of : LandValue → ViewSet → Notes → Spot → PackValue → Option (List Pile) →
+    List Down
+noted_of land view notes spot pack chest =
     map confirm_packet notes.confirms
-    ++ noted_packets land.terrain land.edits (has view) notes.cells ++ notes_of notes spot pack
+    ++ noted_packets land.terrain land.edits (has view) notes.cells
+    ++ notes_of notes spot pack chest
 
 -- ---- what is asked of the parts
 

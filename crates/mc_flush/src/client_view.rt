@@ -1,5 +1,6 @@
 ghost use Rattle.std.specs.Prelude.{◌≡◌, ◌≤◌, ◌+◌, ◌++◌, List, ℕ, IfOk, OnOk, OnErr, Some, pos};
 ghost use Rattle.std.specs.List.{AllByRecursion};
+ghost use Rattle.std.specs.Option.{option_copied};
 ghost use Rattle.std.specs.FinMap as map;
 ghost use Rattle.mc_frame.specs.Kept.{joined};
 ghost use Rattle.mc_entities.specs.Numbers.{Rise};
@@ -25,6 +26,7 @@ use mc_fields::Spot;
 use mc_land::{Land, Steps};
 use mc_loads::{ColumnsView, push_piece};
 use mc_model::{Notes, spawn_spot};
+use mc_slots::Chest;
 use mc_told::{EncodedMoves, EntityView};
 use mc_view::ViewSet;
 use mc_windows::Pack;
@@ -41,6 +43,8 @@ pub struct ClientView<'w> {
     pub folk: &'w Folk,
     /// What its player carries.
     pub pack: &'w Pack,
+    /// The chest whose window its player is shown, of the number that the pack has for it.
+    pub chest: Option<&'w Chest>,
     /// The players in play.
     pub list: &'w PlayerList,
     /// What was said that the client was not shown yet.
@@ -150,7 +154,7 @@ impl ClientView<'_> {
         ensures sent { OnOk result (joined out.new.items ≡ joined out.old.items ++ play_bytes
             (changes self.now.land.now self.now.list.now
             (others self.now.me self.now.folk.now.state.entities)
-            self.now.pack.now mark.old self.now.view self.now.age self.now.lines.now)) }
+            self.now.pack.now (option_copied self.now.chest) mark.old self.now.view self.now.age self.now.lines.now)) }
         ensures mark { OnOk result (mark.new ≡ record mark.old {
           told = told_now (others self.now.me self.now.folk.now.state.entities) self.now.view;
         }) }
@@ -168,7 +172,7 @@ impl ClientView<'_> {
         push_piece(gone, out)?;
         self.push_columns(alloc, encoded, mark, out, steps)?;
         push_piece(shown, out)?;
-        push_slots(alloc, mark, self.pack, out)?;
+        push_slots(alloc, mark, self.pack, self.chest, out)?;
         encoded.lines().push_lines(alloc, self.lines, out)?;
         Ok(())
     }
@@ -201,15 +205,15 @@ pub fn flush_with<L: Ledger>(
         OnOk result (joined out.new.items ≡ joined out.old.items ++ play_bytes
         (delta p (seen view.now.land.now view.now.list.now
         (others view.now.me view.now.folk.now.state.entities)
-        view.now.pack.now view.now.view view.now.age (p.chat ++ view.now.lines.now))
+        view.now.pack.now (option_copied view.now.chest) view.now.view view.now.age (p.chat ++ view.now.lines.now))
         ++ noted_of view.now.land.now view.now.view notes.now
         (spot_seen view.now.land.now view.now.folk.now.state.entities view.now.me)
-        view.now.pack.now)) }
+        view.now.pack.now (option_copied view.now.chest))) }
     ensures stands { (chat : List (List ℕ)) → OnOk result
         (StandsFor mark.new (present_parts view.now.land.now view.now.list.now)
         (seen view.now.land.now view.now.list.now
         (others view.now.me view.now.folk.now.state.entities)
-        view.now.pack.now view.now.view view.now.age chat)) }
+        view.now.pack.now (option_copied view.now.chest) view.now.view view.now.age chat)) }
     ensures opened { OnOk result (mark.new.view ≡ Some view.now.view) }
     ensures nothing { OnErr result (out.new.items ≡ out.old.items) }
     ensures cost { OnOk result (steps.new ≡ steps.old
@@ -226,9 +230,16 @@ pub fn flush_with<L: Ledger>(
         noted_piece(alloc, view.land, &view.view, notes, steps)?,
         &mut pieces,
     )?;
-    push_notes(alloc, notes, &view.spot(), view.pack, &mut pieces)?;
+    push_notes(
+        alloc,
+        notes,
+        &view.spot(),
+        view.pack,
+        view.chest,
+        &mut pieces,
+    )?;
     out.append(&mut pieces)?;
-    mark.keep(view.age, view.view, view.pack);
+    mark.keep(view.age, view.view, view.pack, view.chest);
     Ok(())
 }
 
@@ -255,15 +266,15 @@ pub fn flush<L: Ledger>(
         OnOk result (joined out.new.items ≡ joined out.old.items ++ play_bytes
         (delta p (seen view.now.land.now view.now.list.now
         (others view.now.me view.now.folk.now.state.entities)
-        view.now.pack.now view.now.view view.now.age (p.chat ++ view.now.lines.now))
+        view.now.pack.now (option_copied view.now.chest) view.now.view view.now.age (p.chat ++ view.now.lines.now))
         ++ noted_of view.now.land.now view.now.view notes.now
         (spot_seen view.now.land.now view.now.folk.now.state.entities view.now.me)
-        view.now.pack.now)) }
+        view.now.pack.now (option_copied view.now.chest))) }
     ensures stands { (chat : List (List ℕ)) → OnOk result
         (StandsFor mark.new (present_parts view.now.land.now view.now.list.now)
         (seen view.now.land.now view.now.list.now
         (others view.now.me view.now.folk.now.state.entities)
-        view.now.pack.now view.now.view view.now.age chat)) }
+        view.now.pack.now (option_copied view.now.chest) view.now.view view.now.age chat)) }
     ensures opened { OnOk result (mark.new.view ≡ Some view.now.view) }
     ensures nothing { OnErr result (out.new.items ≡ out.old.items) }
     ensures cost { OnOk result (steps.new ≡ steps.old

@@ -18,6 +18,7 @@ mod notes;
 mod player_list;
 mod pushing;
 mod slots;
+mod windows;
 
 pub use client_view::{ClientView, flush, flush_with};
 pub use encoded::Encoded;

@@ -6,15 +6,16 @@ ghost use Rattle.mc_model.specs.Delta.{destroying, is_told};
 ghost use Rattle.mc_model.specs.Sight.{others};
 ghost use Rattle.mc_told.specs.MoveFrames.{AreMoves};
 ghost use Rattle.mc_sending.specs.Sending.{play_bytes};
-ghost use Rattle.mc_flush.specs.Seeing.{loaded, nothing_shown};
+ghost use Rattle.mc_flush.specs.Seeing.{loaded, nothing_shown, window_kept};
 ghost use Rattle.mc_told.specs.Telling.{age_now, beat_now, entity_frames, gone_from, told_now};
 
 mod fields;
 
 use crate::ClientView;
+use crate::windows::{Window, window_of};
 use bytes::Bytes;
 use mc_bytes::NoMemory;
-use mc_slots::Pile;
+use mc_slots::{Chest, Pile};
 use mc_told::{Clock, EncodedMoves, tell};
 use mc_view::{Columns, Tracker, ViewSet};
 use mc_windows::{PACK_PILES, Pack};
@@ -22,8 +23,9 @@ use std::alloc::Global;
 use std::marker::Model;
 
 /// What a client was told, and no copy of it: the beat and the age, the columns of a view, of each
-/// entity where it is and its pile, and the piles of its pack and of its cursor. The players and
-/// the cells that it was shown are those of the last settling of the list and of the land.
+/// entity where it is and its pile, the window of a chest, and the piles of its pack and of its
+/// cursor. The players and the cells that it was shown are those of the last settling of the list
+/// and of the land.
 #[derive(Drop)]
 pub struct Mark {
     /// The beat and the age that were told last.
@@ -32,6 +34,8 @@ pub struct Mark {
     shown: Option<ViewSet>,
     /// What was told of entities.
     told: Tracker,
+    /// The window of the chest that was shown, if one was.
+    window: Option<Window>,
     /// The piles of the pack that were shown.
     slots: [Pile; PACK_PILES],
     /// What was shown to hang on the cursor.
@@ -52,6 +56,7 @@ impl Model for Mark {
       age = mark.clock.age;
       view = mark.shown;
       told = mark.told;
+      window = mark.window;
       slots = mark.slots;
       cursor = mark.cursor;
     } };
@@ -61,6 +66,7 @@ impl Model for Mark {
       age = mark.clock.age;
       view = mark.shown;
       told = mark.told;
+      window = mark.window;
       slots = mark.slots;
       cursor = mark.cursor;
     }) };
@@ -75,6 +81,7 @@ impl Mark {
             clock: Clock::new(),
             shown: None,
             told: Tracker::new(alloc),
+            window: None,
             slots: [Pile::Empty; PACK_PILES],
             cursor: Pile::Empty,
         }
@@ -116,6 +123,13 @@ impl Mark {
         ensures { result ≡ self.now.view }
     {
         self.shown
+    }
+
+    /// The window of the chest that was shown, if one was.
+    pub(crate) fn window(&self) -> Option<&Window>
+        ensures { option_copied result ≡ self.now.window }
+    {
+        self.window.as_ref()
     }
 
     /// The piles of the pack that were shown.
@@ -161,19 +175,21 @@ impl Mark {
     }
 
     /// Keeps what was shown last: the beat and the age that are told at an age of the world, the
-    /// view, and the pack with its cursor.
-    pub(crate) fn keep(&mut self, age: u64, view: ViewSet, pack: &Pack)
+    /// view, the window of a chest, and the pack with its cursor.
+    pub(crate) fn keep(&mut self, age: u64, view: ViewSet, pack: &Pack, chest: Option<&Chest>)
         requires { age ≤ 1000000000 }
         ensures { self.new ≡ record self.old {
           beat = beat_now age;
           age = age_now age;
           view = Some view;
+          window = window_kept pack.now (option_copied chest.entry);
           slots = pack.now.slots;
           cursor = pack.now.cursor;
         } }
     {
         self.clock.keep(age);
         self.shown = Some(view);
+        self.window = window_of(pack, chest);
         self.slots = pack.slots;
         self.cursor = pack.cursor;
     }

@@ -1,24 +1,18 @@
-ghost use Rattle.std.specs.Prelude.{◌≡◌, ◌++◌, ◌∷◌, ℕ, [], IfOk, OnOk, map, replicate};
-ghost use Rattle.mc_slots.specs.Pile.{IsPile, slot_of};
-ghost use Rattle.mc_slots.specs.Chest.{pile_at};
-ghost use Rattle.mc_packets.specs.declared.down.Down.TheVariants as down;
-ghost use Rattle.mc_slots.specs.declared.slot.Slot.TheVariants as slots;
+ghost use Rattle.std.specs.Prelude.{◌≡◌, ◌++◌, ◌∷◌, [], OnOk, map};
+ghost use Rattle.std.specs.Option.{option_copied};
 ghost use Rattle.mc_model.specs.Notes.{confirm_packet, notes_of};
 ghost use Rattle.mc_model.specs.Opening.{placing};
 ghost use Rattle.mc_sending.specs.Sending.{IsClear, play_bytes};
 
 use crate::slots::put_cursor;
+use crate::windows::put_items;
 use mc_bytes::NoMemory;
 use mc_fields::{Spot, degrees, pattern};
 use mc_model::{Answered, Notes};
-use mc_packets::{Down, Slots};
+use mc_packets::Down;
 use mc_sending::put_made;
-use mc_slots::{Pile, Slot};
+use mc_slots::Chest;
 use mc_windows::Pack;
-use std::alloc::Global;
-
-/// How many slots window 0 has before those of the pack.
-const SLOTS_BEFORE: usize = 9;
 
 /// A player's own place and look, none of them relative.
 pub fn placing_packet(place: &Spot) -> Down
@@ -58,53 +52,22 @@ pub fn put_confirms(confirms: &[Answered], out: &mut Vec<u8>) -> Result<(), NoMe
     Ok(())
 }
 
-/// The slots before those of the pack, which are empty.
-fn slots_before(alloc: Global) -> Result<Slots, NoMemory>
-    ensures { IfOk result (λ items. items ≡ replicate 9 slots.Empty) }
-{
-    let mut items = Slots::new(alloc);
-    for _ in 0..SLOTS_BEFORE {
-        items.push(Slot::Empty)?;
-    }
-    Ok(items)
-}
-
-/// Puts the slots of piles at the end.
-fn push_piles(piles: &[Pile], items: &mut Slots) -> Result<(), NoMemory>
-    requires { (i : ℕ) → IsPile (pile_at piles.now i) }
-    ensures { OnOk result (items.new ≡ items.old ++ map slot_of piles.now) }
-{
-    for pile in piles {
-        items.push(pile.slot())?;
-    }
-    Ok(())
-}
-
-/// Appends the frame of all slots of window 0.
-fn put_window(pack: &Pack, out: &mut Vec<u8>) -> Result<(), NoMemory>
-    ensures { OnOk result (out.new.items ≡ out.old.items ++ play_bytes
-        (down.WindowItems 0 (replicate 9 slots.Empty ++ map slot_of pack.now.slots) ∷ [])) }
-{
-    let mut items = slots_before(*out.allocator())?;
-    push_piles(&pack.slots, &mut items)?;
-    put_made(Down::WindowItems(0, items), out)
-}
-
 /// Appends what else was noted for a client: its player's place, and the window that it is shown.
 pub fn put_notes(
     notes: &Notes,
     place: &Spot,
     pack: &Pack,
+    chest: Option<&Chest>,
     out: &mut Vec<u8>,
 ) -> Result<(), NoMemory>
-    ensures { OnOk result (out.new.items
-        ≡ out.old.items ++ play_bytes (notes_of notes.now place.now pack.now)) }
+    ensures { OnOk result (out.new.items ≡ out.old.items ++ play_bytes
+        (notes_of notes.now place.now pack.now (option_copied chest.entry))) }
 {
     if notes.placing {
         put_made(placing_packet(place), out)?;
     }
     if notes.resend {
-        put_window(pack, out)?;
+        put_items(pack, chest, out)?;
         put_cursor(&pack.cursor, out)?;
     }
     Ok(())

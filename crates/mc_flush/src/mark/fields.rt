@@ -1,6 +1,7 @@
 //! What a mark keeps, field by field: a new one is named here before the crate is built again.
 
 use super::Mark;
+use crate::windows::Window;
 use mc_model::every_field;
 use mc_slots::Pile;
 use mc_told::Clock;
@@ -13,6 +14,7 @@ fn name_fields(mark: &Mark) {
         clock: Clock,
         shown: Option<ViewSet>,
         told: Tracker,
+        window: Option<Window>,
         slots: [Pile; PACK_PILES],
         cursor: Pile,
     });

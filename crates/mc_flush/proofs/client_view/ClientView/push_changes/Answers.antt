@@ -1,5 +1,6 @@
 use Rattle.std.proofs.Common.{◌++◌, ℕ, List, ap, sym, subst, ◌∙◌}
 use Rattle.std.specs.List.{AllByRecursion}
+use Rattle.std.specs.Option.{option_copied}
 use Rattle.mc_frame.specs.Kept.{joined}
 use Rattle.mc_model.specs.Sight.{others}
 use Rattle.mc_sending.specs.Sending.{play_bytes}
@@ -21,7 +22,7 @@ pub returns-clause-sent : goal.returns-clause-sent
 returns-clause-sent g c =
     let v = c.args.self.now in
     changes_put_all v.land.now v.list.now (others v.me v.folk.now.state.entities) v.pack.now
-    c.args.mark.now v.view v.age v.lines.now (joined c.args.out.now.items)
+    (option_copied v.chest) c.args.mark.now v.view v.age v.lines.now (joined c.args.out.now.items)
     (joined c.push_age.new.out.items) (joined c.push_piece.new.out.items)
     (joined c.push_piece-2.new.out.items)
     (joined c.push_columns.new.out.items) (joined c.push_piece-3.new.out.items)
@@ -37,6 +38,6 @@ returns-clause-sent g c =
     (c.in_ok-push_piece-3.ensures ∙ ap (λ (t : List ℕ). joined c.push_columns.new.out.items ++ t)
     c.in_ok-gone.ensures.shown)
     (c.in_ok-push_slots.ensures ∙ ap (λ (m : MarkValue).
-    joined c.push_piece-3.new.out.items ++ play_bytes (carried_packets m v.pack.now))
+    joined c.push_piece-3.new.out.items ++ play_bytes (carried_packets m v.pack.now (option_copied v.chest)))
     c.in_ok-gone.ensures.mark)
     c.in_ok-push_lines.ensures

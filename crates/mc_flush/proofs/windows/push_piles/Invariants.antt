@@ -1,6 +1,6 @@
 use Rattle.std.proofs.Common.{◌≡◌, ◌++◌, drop, map}
 use Rattle.mc_slots.specs.Pile.{slot_of}
-use Rattle.mc_flush.proofs.notes.push_piles.Given as goal
+use Rattle.mc_flush.proofs.windows.push_piles.Given as goal
 
 -- what is there and what is left make all
 abbrev pub invariant-loop-pile : goal.invariant-loop-pile

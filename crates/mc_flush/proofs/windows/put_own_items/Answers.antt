@@ -1,5 +1,5 @@
 use Rattle.std.proofs.Common.{◌≡◌, ◌++◌, List, map, sym, subst, ap, ◌∙◌}
-use Rattle.std.specs.Prelude.{replicate}
+use Rattle.std.specs.Prelude.{None, replicate}
 use Rattle.mc_slots.specs.declared.slot.Slot.{Slot}
 use Rattle.mc_slots.specs.declared.slot.Slot.TheVariants as slots
 use Rattle.mc_slots.specs.Pile.{slot_of}
@@ -10,7 +10,7 @@ use Rattle.mc_model.specs.Packets.{frame_of, of_play}
 use Rattle.mc_model.proofs.FitsSlots.{window_clear}
 use Rattle.mc_sending.specs.Sending.{IsClear}
 use Rattle.mc_sending.proofs.Pieces.{play_bytes-one}
-use Rattle.mc_flush.proofs.notes.put_window.Goals as goal
+use Rattle.mc_flush.proofs.windows.put_own_items.Goals as goal
 
 pub put_made-requires : goal.put_made-requires
 put_made-requires c =
@@ -20,7 +20,8 @@ put_made-requires c =
     ++ map slot_of (c.pack.view_is i).slots) in
     let is : IsPack pack.slots pack.cursor =
     subst (λ (p : PackValue). IsPack p.slots p.cursor) c.pack.view_is c.pack.invariant in
-    subst (λ (all : List Slot). IsClear (WindowItems 0 all)) (sym items) (window_clear pack is).0
+    subst (λ (all : List Slot). IsClear (WindowItems 0 all)) (sym items)
+    (window_clear pack None is tt).0
 
 pub returns : goal.returns
 returns c =

@@ -1,0 +1,5 @@
+use Rattle.mc_flush.proofs.WindowFrames.{close_clear}
+use Rattle.mc_flush.proofs.windows.put_close.Goals as goal
+
+pub put_made-requires : goal.put_made-requires
+put_made-requires c = close_clear c.args.number c.ranges.number.fits
