@@ -13,11 +13,11 @@ use Rattle.mc_model.specs.Notes.{again}
 use Rattle.mc_model.specs.Things.{in_hand, with_hand}
 use Rattle.mc_model.proofs.ThingsKept.{dropped_held}
 use Rattle.mc_model.specs.declared.player.Player.{Player}
-use Rattle.mc_model.specs.Game.{Game, held_by, pack_of, room_in}
+use Rattle.mc_model.specs.Game.{Game, held_by, of_player, pack_of, room_in}
 use Rattle.mc_model.specs.Deeds.{noting, thrown}
-use Rattle.mc_model.specs.Digging.{drop_held, dropped, feet_of}
+use Rattle.mc_model.specs.Digging.{drop_held, dropped}
 use Rattle.mc_model.specs.Hands.{carrying}
-use Rattle.mc_model.specs.Leaving.{of_player}
+use Rattle.mc_model.specs.Windows.{feet_of}
 use Rattle.mc_play.specs.Kept.{GameValue, by_player, played}
 
 -- ---- the player of a connection

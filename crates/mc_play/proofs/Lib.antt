@@ -5,6 +5,7 @@ pub mod Falling
 pub mod NamedPacks
 pub mod Names
 pub mod Near
+pub mod Opening
 pub mod States
 pub mod Steps
 pub mod Stowing

@@ -11,7 +11,6 @@ use Rattle.std.specs.FinMap.{FinMap, get, insert, remove, get-empty, get-insert,
 use Rattle.mc_fields.specs.declared.position.Cell.{Cell}
 use Rattle.mc_land.specs.declared.terrain.Terrain.{Terrain}
 use Rattle.mc_land.specs.Places.{Key, key_cmp, key_of, is_height, is_inside, is_within_border}
-use Rattle.mc_land.specs.Chests.{chest_in}
 use Rattle.mc_land.specs.Land.{LandValue, edited, new_land, state_at, terrain_at, with_block}
 use Rattle.mc_land.proofs.Orders.{keys_total}
 use Rattle.mc_model.specs.Digging.{floor_of}
@@ -59,13 +58,7 @@ pub floor_near : (cell : Cell) → is_inside cell.x cell.y cell.z ≡ true →
     IsNear (floor_of cell)
 floor_near cell is = grind (arith, nat_tests, both_true, height_low, border_low, ints)
 
--- ---- chests
-
--- a cell of the world has the chest of its key
-pub chest_inside : (land : LandValue) (cell : Cell) → is_inside cell.x cell.y cell.z ≡ true →
-    chest_in land cell.x cell.y cell.z
-    ≡ get land.chests (key_of cell.x (unsigned_abs cell.y) cell.z)
-chest_inside land cell inside = grind (arith, nat_tests)
+-- ---- free cells
 
 -- a cell that is free has the state of its key
 pub free_state : (g : Game) (cell : Cell) → is_free g cell ≡ true →

@@ -1,6 +1,6 @@
 -- What contracts see of a game as it is kept: the game of the definitions, the cells at the last
 -- settling, and what is kept beside them for speed alone.
-use Rattle.std.specs.Prelude.{◌≡◌, ◌⊎◌, ℕ, ◌≤◌, ◌<◌, List, [], Option, Some, None}
+use Rattle.std.specs.Prelude.{◌≡◌, ◌⊎◌, ℕ, ◌≤◌, ◌<◌, ◌+◌, List, [], Option, Some, None}
 use Rattle.std.specs.List.{AllByRecursion}
 use Rattle.std.specs.FinMap.{FinMap, empty, get}
 use Rattle.std.specs.FinSet as set
@@ -13,8 +13,7 @@ use Rattle.mc_entities.specs.declared.entity.Entity.{Entity}
 use Rattle.mc_entities.specs.Folk.{FolkValue}
 use Rattle.mc_model.specs.declared.player.Player.{Player}
 use Rattle.mc_model.specs.declared.settings.Settings.{Settings}
-use Rattle.mc_model.specs.Game.{Game, new_game}
-use Rattle.mc_model.specs.Leaving.{of_player}
+use Rattle.mc_model.specs.Game.{Game, new_game, of_player}
 
 -- ---- parts
 
@@ -84,6 +83,10 @@ folk_of v = record {
   state = record { entities = v.game.entities; told = v.aside.told; given = v.game.eids };
   reserve = v.aside.reserve;
 }
+
+-- the same columns are ready, and of the places for entities one at most was taken
+abbrev pub TakesOne : Aside → Aside → Type 0
+TakesOne old new = (new.ready ≡ old.ready) × (old.reserve ≤ new.reserve + 1)
 
 -- ---- what a player does
 

@@ -120,6 +120,7 @@ impl Entities {
         requires place { 0 < self.old.reserve }
         ensures state { self.new.state ≡ spawned (variants.Dropped item born) spot self.old.state }
         ensures rest { (n : ℕ) → HasRoom (suc n) self.old → HasRoom n self.new }
+        ensures places { self.old.reserve ≤ self.new.reserve + 1 }
     {
         let _eid = self.folk.spawn(EntityKind::Dropped { item, born }, spot);
     }

@@ -5,6 +5,7 @@ ghost use Rattle.mc_play.specs.Kept.{AreNear, IsNear, land_of, new_value};
 
 mod acts;
 mod chat;
+mod chests;
 mod coming;
 mod digging;
 mod fields;

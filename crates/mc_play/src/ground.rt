@@ -1,9 +1,9 @@
-ghost use Rattle.std.specs.Prelude.{◌≡◌, ◌⊎◌, ◌<◌, ◌≤◌, true, OnErr, OnOk, unsigned_abs};
+ghost use Rattle.std.specs.Prelude.{◌≡◌, ◌⊎◌, ◌<◌, ◌≤◌, true, is_some, OnErr, OnOk, unsigned_abs};
 ghost use Rattle.std.specs.Option.{option_copied};
-ghost use Rattle.mc_land.specs.Chests.{chest_in};
 ghost use Rattle.mc_land.specs.Land.{block, new_land, settled_land, with_block, with_ready};
 ghost use Rattle.mc_land.specs.Places.{IsPlace, is_inside, key_of};
 ghost use Rattle.mc_land.specs.Shed.{IsSettled, shed_land};
+ghost use Rattle.mc_model.specs.Things.{chest_of_cell, chest_put};
 ghost use Rattle.mc_play.specs.Kept.{AreStates};
 
 mod fields;
@@ -88,9 +88,23 @@ impl Ground {
 
     /// The chest at a cell, None where there is none.
     pub fn chest(&self, cell: &Cell) -> Option<&Chest>
-        ensures { option_copied result ≡ chest_in self.now cell.now.x cell.now.y cell.now.z }
+        ensures { option_copied result
+            ≡ chest_of_cell self.now.chests cell.now.x cell.now.y cell.now.z }
     {
         self.land.chest(*cell)
+    }
+
+    /// Lets other piles lie in the chest at a cell, where there is one. It takes no memory.
+    pub fn restock(&mut self, cell: &Cell, chest: &Chest)
+        requires { is_some (chest_of_cell self.old.chests cell.now.x cell.now.y cell.now.z)
+            ≡ true }
+        ensures { self.new ≡ record self.old {
+          chests = chest_put self.old.chests cell.now.x cell.now.y cell.now.z chest.now;
+        } }
+    {
+        if let Some(kept) = self.land.chest_mut(*cell) {
+            *kept = *chest;
+        }
     }
 
     /// Sets a cell of the world to air or to a state of a block. Without memory all is as before.

@@ -174,6 +174,17 @@ impl Players {
         }
     }
 
+    /// The player of a connection is shown the window of the chest at a cell, or its own, if it has
+    /// one.
+    pub fn watch(&mut self, connection: u32, chest: Option<Cell>)
+        ensures { self.new ≡ modify connection
+            (λ (p : declared.Player). record p { chest = chest }) self.old }
+    {
+        if let Some(player) = self.find_mut(connection) {
+            player.chest = chest;
+        }
+    }
+
     /// Notes that the client of a connection is to be told where its player is, if it has one.
     pub fn note_place(&mut self, connection: u32)
         ensures { self.new ≡ modify connection (λ (p : declared.Player). record p {

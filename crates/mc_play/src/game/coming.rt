@@ -1,6 +1,6 @@
 //! Who comes and who goes.
 
-ghost use Rattle.std.specs.Prelude.{◌≡◌, ◌<◌, ◌||◌, ◌&&◌, nat_lt, IfOk, OnOk, false, true};
+ghost use Rattle.std.specs.Prelude.{◌≡◌, ◌<◌, ◌||◌, ◌&&◌, nat_lt, true, IfOk, OnErr, OnOk};
 ghost use Rattle.std.specs.FinMap.{len};
 ghost use Rattle.mc_entities.specs.declared.entity.TheConstants.{EID_MAX};
 ghost use Rattle.mc_model.specs.Step.{is_47, refusal};
@@ -81,21 +81,30 @@ impl Game {
             view_byte: 2,
             hand: 0,
             since: self.lines.len(),
+            chest: None,
             notes: Notes::new(self.alloc),
         };
         self.players.add(connection, player)
     }
 
-    /// The player of a connection leaves, if it has one.
+    /// The player of a connection leaves, if it has one: its window closes first. Without memory
+    /// all is as before.
     #[tactic(auto, unfolding(mc_model::specs::Leaving::leave))]
-    pub fn leave(&mut self, connection: u32)
-        ensures is { self.new ≡ played self.old (leave connection self.old.game) self.new.aside }
-        ensures ready { self.new.aside.ready ≡ self.old.aside.ready }
+    pub fn leave(&mut self, connection: u32) -> Result<(), NoMemory>
+        ensures is { OnOk result (self.new
+            ≡ played self.old (leave connection self.old.game) self.new.aside) }
+        ensures ready { OnOk result (self.new.aside.ready ≡ self.old.aside.ready) }
+        ensures err { OnErr result (self.new
+            ≡ played self.old self.old.game self.new.aside) }
     {
         let Some(player) = self.players.find(connection) else {
-            return;
+            return Ok(());
         };
-        self.entities.remove(player.eid);
+        let eid = player.eid;
+        self.reserve(1)?;
+        self.shut(connection);
+        self.entities.remove(eid);
         let _player = self.players.remove(connection);
+        Ok(())
     }
 }

@@ -1,17 +1,18 @@
 //! What players dig and drop.
 
 ghost use Rattle.std.specs.Prelude.{◌≡◌, ◌⊎◌, ◌<◌, ◌≤◌, ◌&&◌, ◌+ℤ◌, ◌*ℤ◌, ℕ, suc, nat_le, nat_lt};
-ghost use Rattle.std.specs.Prelude.{length, true, OnErr, OnOk, unsigned_abs};
+ghost use Rattle.std.specs.Prelude.{◌+◌, length, true, IfOk, OnErr, OnOk, unsigned_abs};
 ghost use Rattle.std.specs.List.{filter_map};
 ghost use lib.IntN.{pos};
 ghost use Rattle.mc_land.specs.Places.{is_inside};
 ghost use Rattle.mc_slots.specs.Pile.{IsItem};
 ghost use Rattle.mc_entities.specs.Folk.{HasRoom};
 ghost use Rattle.mc_model.specs.Digging.{all_thrown, block_item, floor_of, is_dug, item_of, dig};
-ghost use Rattle.mc_model.specs.Digging.{digging, drop_held, dug, dug_items, feet_of, stacks_at};
+ghost use Rattle.mc_model.specs.Digging.{digging, drop_held, dug, dug_items, stacks_at};
 ghost use Rattle.mc_model.specs.Deeds.{thrown};
 ghost use Rattle.mc_model.specs.Game.{held_by, room_in, state_in};
-ghost use Rattle.mc_play.specs.Kept.{IsNear, by_player, folk_of, played};
+ghost use Rattle.mc_model.specs.Windows.{feet_of};
+ghost use Rattle.mc_play.specs.Kept.{IsNear, TakesOne, by_player, folk_of, played};
 
 use crate::game::Game;
 use mc_bytes::NoMemory;
@@ -52,6 +53,17 @@ fn stacks_in(piles: &[Pile]) -> usize
     ensures { result ≡ length (filter_map item_of piles.now) }
 {
     piles.iter().filter_map(|pile| item_of(pile)).count()
+}
+
+/// How many items fall at most where a cell is dug: what it was, so many that lay in it, and what
+/// hangs on the cursors of those that are shown it.
+fn places_for(stacks: u32, viewers: &[u32]) -> Result<u32, NoMemory>
+    ensures { IfOk result (λ n. n ≡ 1 + stacks + length viewers.now) }
+{
+    match u32::try_from(1 + stacks as usize + viewers.len()) {
+        Ok(places) => Ok(places),
+        Err(_) => Err(NoMemory),
+    }
 }
 
 /// Where a block begins along an axis.
@@ -97,6 +109,7 @@ impl Game {
     pub(super) fn reserve(&mut self, n: u32) -> Result<(), NoMemory>
         ensures ok { OnOk result (n ≤ self.new.aside.reserve) }
         ensures is { self.new ≡ played self.old self.old.game self.new.aside }
+        ensures ready { self.new.aside.ready ≡ self.old.aside.ready }
     {
         self.entities.reserve(n)
     }
@@ -109,6 +122,7 @@ impl Game {
         requires place { 0 < self.old.aside.reserve }
         ensures is { self.new ≡ played self.old (thrown item spot self.old.game) self.new.aside }
         ensures rest { (n : ℕ) → HasRoom (suc n) (folk_of self.old) → HasRoom n (folk_of self.new) }
+        ensures one { TakesOne self.old.aside self.new.aside }
     {
         self.entities.drop_item(item, self.age, spot);
     }
@@ -117,8 +131,10 @@ impl Game {
     fn drop_all(&mut self, chest: &Chest, spot: Spot)
         requires near { IsNear spot }
         requires room { HasRoom (length (filter_map item_of chest.now)) (folk_of self.old) }
-        ensures { self.new ≡ played self.old
+        ensures is { self.new ≡ played self.old
             (all_thrown (filter_map item_of chest.now) spot self.old.game) self.new.aside }
+        ensures places { self.old.aside.reserve
+            ≤ self.new.aside.reserve + length (filter_map item_of chest.now) }
     {
         for i in 0..chest.as_slice().len() {
             if let Pile::Full(item) = chest.get(i) {
@@ -127,10 +143,8 @@ impl Game {
         }
     }
 
-    /// The chest at a cell of the world; an empty one, where there is none.
-    #[tactic(auto, using(crate::proofs::States::chest_inside))]
+    /// The chest at a cell; an empty one, where there is none.
     fn chest_at(&self, cell: &Cell) -> Chest
-        requires { is_inside cell.now.x cell.now.y cell.now.z ≡ true }
         ensures { filter_map item_of result ≡ stacks_at cell.now self.now.game }
     {
         match self.ground.chest(cell) {
@@ -139,9 +153,8 @@ impl Game {
         }
     }
 
-    /// Whether all that comes of a cell of the world may lie.
+    /// Whether all that comes of a cell may lie.
     fn may_take_out(&self, cell: &Cell) -> bool
-        requires { is_inside cell.now.x cell.now.y cell.now.z ≡ true }
         ensures { result ≡ nat_le (length (dug_items cell.now self.now.game))
             (room_in self.now.game) }
     {
@@ -149,8 +162,8 @@ impl Game {
         stacks_in(chest.as_slice()) < self.entities.room() as usize
     }
 
-    /// Makes a cell air; what it was lies there, and what lay in it. Without memory all is as
-    /// before.
+    /// Makes a cell air; what it was lies there, and what lay in it, and then the windows on it
+    /// close. Without memory all is as before.
     fn take_out(&mut self, cell: Cell, state: u16) -> Result<(), NoMemory>
         requires inside { is_inside cell.x cell.y cell.z ≡ true }
         requires is { state ≡ state_in self.old.game cell }
@@ -164,11 +177,14 @@ impl Game {
             ≡ played self.old self.old.game self.new.aside) }
     {
         let chest = self.chest_at(&cell);
-        self.reserve(1 + stacks_in(chest.as_slice()) as u32)?;
+        let viewers = self.viewers(&cell)?;
+        let stacks = stacks_in(chest.as_slice()) as u32;
+        self.reserve(places_for(stacks, viewers.as_slice())?)?;
         self.ground.set(cell, 0)?;
         let spot = floor_of(&cell);
         self.drop_item(block_item(state), spot);
         self.drop_all(&chest, spot);
+        self.shut_all(viewers.as_slice());
         Ok(())
     }
 

@@ -139,7 +139,7 @@ impl Game {
     // ---- all players
 
     /// The connections of players, in rising number of their entities.
-    fn pickers(&self) -> Result<Vec<u32>, NoMemory>
+    pub(super) fn pickers(&self) -> Result<Vec<u32>, NoMemory>
         ensures { IfOk result (λ connections. connections.items ≡ pickers self.now.game) }
     {
         pickers_among(self.alloc, &self.players, self.entities.folk().all())

@@ -48,7 +48,7 @@ impl Game {
     }
 
     /// Places what the player of a connection has in its hand at a cell, next to one that it
-    /// clicked.
+    /// clicked; a chest that is clicked opens.
     fn place_at(&mut self, connection: u32, cell: Cell, target: Cell) -> Result<(), NoMemory>
         ensures { OnOk result (self.new ≡ played self.old (by_player connection
             (λ p. place_at connection p cell (Some target)) self.old.game) self.new.aside) }
@@ -58,7 +58,7 @@ impl Game {
         };
         match self.reach(player, &cell) {
             None => self.players.refuse_placing(connection, cell, target),
-            Some(state) if is_chest(state) => Ok(()),
+            Some(state) if is_chest(state) => self.open_chest(connection, cell),
             Some(_) => self.put_block(connection, cell, target),
         }
     }

@@ -1,22 +1,22 @@
 //! What players do in their windows.
 
-ghost use Rattle.std.specs.Prelude.{◌≡◌, ◌<◌, IfOk, OnErr, OnOk};
+ghost use Rattle.std.specs.Prelude.{◌≡◌, ◌<◌, if◌then◌else◌, is_some, nat_lt, IfOk, OnErr, OnOk};
 ghost use Rattle.mc_slots.specs.declared.pile.Item as items;
 ghost use Rattle.mc_slots.specs.declared.pile.Pile.TheVariants.{Full};
 ghost use Rattle.mc_slots.specs.Pile.{IsPile};
-ghost use Rattle.mc_windows.specs.Clicks.{dropped};
+ghost use Rattle.mc_windows.specs.Clicks.{answer_of, chest_after, dropped, outcome, pack_after};
 ghost use Rattle.mc_windows.specs.Pack.{finished_pack};
 ghost use Rattle.mc_model.specs.Deeds.{noting, repack_of};
 ghost use Rattle.mc_model.specs.Game.{room_in};
 ghost use Rattle.mc_model.specs.Notes.{again};
 ghost use Rattle.mc_model.specs.Windows.{answering, close, confirm, is_accepted, is_sent_again};
-ghost use Rattle.mc_model.specs.Windows.{kept_in_hand, let_fall, press};
-ghost use Rattle.mc_play.specs.Kept.{by_player, played};
+ghost use Rattle.mc_model.specs.Windows.{kept_in_hand, let_fall, press, shut};
+ghost use Rattle.mc_play.specs.Kept.{TakesOne, by_player, played};
 
 use crate::game::Game;
 use mc_bytes::NoMemory;
 use mc_model::Answered;
-use mc_slots::{Pile, Slot};
+use mc_slots::{Chest, Pile, Slot};
 use mc_windows::{Click, Clicked, Pack, answer, finish};
 
 /// The mode of the clicks by a number key.
@@ -48,6 +48,21 @@ fn click_of(
         mode,
         item: item.copy()?,
     })
+}
+
+/// Does a click on a pack and the chest that is shown beside it, if one is.
+fn clicked(pack: &mut Pack, chest: &mut Option<Chest>, click: &Click, room: bool) -> Clicked
+    ensures pack { pack.new ≡ pack_after pack.old click.now.number
+        (outcome pack.old chest.old click.now room) }
+    ensures chest { chest.new ≡ chest_after chest.old (outcome pack.old chest.old click.now room) }
+    ensures there { is_some chest.new ≡ is_some chest.old }
+    ensures answer { result ≡ answer_of (outcome pack.old chest.old click.now room) }
+    ensures range { IsPile (dropped result) }
+{
+    match chest {
+        None => mc_windows::click(pack, None, click, room),
+        Some(chest) => mc_windows::click(pack, Some(chest), click, room),
+    }
 }
 
 /// Whether a click was done.
@@ -97,8 +112,9 @@ impl Game {
         requires range { IsPile pile }
         requires room { (item : items.Item) → pile ≡ Full item → 0 < room_in self.old.game }
         requires place { 0 < self.old.aside.reserve }
-        ensures { self.new ≡ played self.old (by_player connection
+        ensures is { self.new ≡ played self.old (by_player connection
             (λ p. let_fall p pile) self.old.game) self.new.aside }
+        ensures one { TakesOne self.old.aside self.new.aside }
     {
         let Some(player) = self.players.find(connection) else {
             return;
@@ -116,8 +132,9 @@ impl Game {
         requires pile { IsPile pile }
         requires room { (item : items.Item) → pile ≡ Full item → 0 < room_in self.old.game }
         requires place { 0 < self.old.aside.reserve }
-        ensures { self.new ≡ played self.old (by_player connection
+        ensures is { self.new ≡ played self.old (by_player connection
             (λ p g. let_fall p pile (repack_of p pack g)) self.old.game) self.new.aside }
+        ensures one { TakesOne self.old.aside self.new.aside }
     {
         self.repack(connection, pack);
         self.let_fall(connection, pile);
@@ -140,8 +157,8 @@ impl Game {
             .note_answer(connection, answered, is_sent_again(click, came))
     }
 
-    /// Does a click of the player of a connection in its own window, and notes the answer. Without
-    /// memory all is as before.
+    /// Does a click of the player of a connection in the window that it is shown, and notes the
+    /// answer. Without memory all is as before.
     fn press(&mut self, connection: u32, click: &Click) -> Result<(), NoMemory>
         ensures ok { OnOk result (self.new ≡ played self.old (by_player connection
             (λ p. press connection p click.now) self.old.game) self.new.aside) }
@@ -151,10 +168,13 @@ impl Game {
         let Some(player) = self.players.find(connection) else {
             return Ok(());
         };
+        let shown = player.chest;
         let mut pack = self.pack_of(player);
-        let came = mc_windows::click(&mut pack, None, click, self.may_drop());
+        let mut chest = self.chest_of(player);
+        let came = clicked(&mut pack, &mut chest, click, self.may_drop());
         self.reserve(1)?;
         self.answer(connection, click, came)?;
+        self.restock(shown, chest);
         self.repack_and_drop(connection, pack, dropped(came));
         Ok(())
     }
@@ -208,23 +228,6 @@ impl Game {
     // ---- closing
 
     /// Closes the window of the player of a connection, which carries a pack; what hangs on the
-    /// cursor falls. Without memory all is as before.
-    fn shut(&mut self, connection: u32, pack: Pack) -> Result<(), NoMemory>
-        requires { 0 < room_in self.old.game }
-        ensures ok { OnOk result (self.new ≡ played self.old (by_player connection
-            (λ p g. let_fall p pack.cursor (repack_of p (finished_pack pack) g))
-            self.old.game) self.new.aside) }
-        ensures err { OnErr result (self.new
-            ≡ played self.old self.old.game self.new.aside) }
-    {
-        let mut closed = pack;
-        let cursor = finish(&mut closed);
-        self.reserve(1)?;
-        self.repack_and_drop(connection, closed, cursor);
-        Ok(())
-    }
-
-    /// Closes the window of the player of a connection, which carries a pack; what hangs on the
     /// cursor stays there, and the window is sent again.
     fn keep_in_hand(&mut self, connection: u32, pack: Pack)
         ensures { self.new ≡ played self.old (by_player connection
@@ -235,9 +238,45 @@ impl Game {
         self.players.note_window(connection);
     }
 
-    /// Closes the window of the player of a connection, where it is the one of a number. What hangs
-    /// on the cursor falls; without room for it, it stays there, and the window is sent again.
-    /// Without memory all is as before.
+    /// Closes the window of the player of a connection, which carries a pack. What hangs on the
+    /// cursor falls, for which there is a place; without room for it, it stays there, and the window
+    /// is sent again.
+    fn put_away(&mut self, connection: u32, pack: Pack)
+        requires { 0 < self.old.aside.reserve }
+        ensures is { self.new ≡ played self.old (by_player connection
+            (λ p g. if nat_lt 0 (room_in g)
+            then let_fall p pack.cursor (repack_of p (finished_pack pack) g)
+            else noting again connection (repack_of p (kept_in_hand pack) g))
+            self.old.game) self.new.aside }
+        ensures one { TakesOne self.old.aside self.new.aside }
+    {
+        if !self.may_drop() {
+            self.keep_in_hand(connection, pack);
+            return;
+        }
+        let mut closed = pack;
+        let cursor = finish(&mut closed);
+        self.repack_and_drop(connection, closed, cursor);
+    }
+
+    /// Closes the window of the player of a connection, if it has one: it is shown no chest any
+    /// more. There is a place for what hangs on the cursor.
+    pub(super) fn shut(&mut self, connection: u32)
+        requires { 0 < self.old.aside.reserve }
+        ensures is { self.new ≡ played self.old (by_player connection
+            (shut connection) self.old.game) self.new.aside }
+        ensures one { TakesOne self.old.aside self.new.aside }
+    {
+        let Some(player) = self.players.find(connection) else {
+            return;
+        };
+        let pack = self.pack_of(player);
+        self.put_away(connection, pack);
+        self.watch(connection, None);
+    }
+
+    /// Closes the window of the player of a connection, where it is the one of a number. Without
+    /// memory all is as before.
     pub(super) fn close(&mut self, connection: u32, window: u8) -> Result<(), NoMemory>
         ensures ok { OnOk result (self.new ≡ played self.old (by_player connection
             (λ p. close connection p window) self.old.game) self.new.aside) }
@@ -247,14 +286,11 @@ impl Game {
         let Some(player) = self.players.find(connection) else {
             return Ok(());
         };
-        let pack = self.pack_of(player);
-        if window != pack.window {
+        if window != self.pack_of(player).window {
             return Ok(());
         }
-        if self.may_drop() {
-            return self.shut(connection, pack);
-        }
-        self.keep_in_hand(connection, pack);
+        self.reserve(1)?;
+        self.shut(connection);
         Ok(())
     }
 }

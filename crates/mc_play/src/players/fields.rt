@@ -2,6 +2,7 @@
 //! again.
 
 use super::Players;
+use mc_fields::Cell;
 use mc_model::{Eid, Name, Notes, Player, every_field};
 use std::collections::BTreeMap;
 
@@ -21,6 +22,7 @@ fn name_player(player: &Player) {
         view_byte: i8,
         hand: u8,
         since: usize,
+        chest: Option<Cell>,
         notes: Notes,
     });
 }

@@ -22,7 +22,7 @@ loop-i-preserved c =
       | in-Full w ↦ subst (IsFalling all (after Empty) c.args.spot c.args.self.now) (sym w.self-is)
           (falls_next all _ _ w.in-Full.item c.args.spot c.args.self.now c.loop-i.self
           w.drop_item.new.self (next ∙ ap after w.in-Full.is) c.loop-i.invariant
-          w.drop_item.ensures.is w.drop_item.ensures.rest)
+          w.drop_item.ensures.is w.drop_item.ensures.rest w.drop_item.ensures.one.1)
       | in_default w ↦ subst (IsFalling all (after Empty) c.args.spot c.args.self.now)
           (sym w.self-is) (subst
           (λ (items : List Item). IsFalling all items c.args.spot c.args.self.now c.loop-i.self)
