@@ -4,6 +4,7 @@ use Rattle.std.proofs.Common.{is_some, refl, sym}
 use Rattle.std.proofs.Common.{subst, ap, ◌∙◌, append_assoc}
 use Rattle.std.specs.Prelude.{drop, option_map, if◌then◌else◌}
 use Rattle.std.specs.List.{AllByRecursion, filter, filter_map}
+use Rattle.std.specs.Option.{option_copied}
 use Rattle.std.specs.FinMap.{from_entries, get-empty}
 use Rattle.std.specs.Ordering.{int_cmp}
 use lib.IntN.{pos}
@@ -13,7 +14,7 @@ use Rattle.mc_entities.specs.declared.entity.Entity.{Entity}
 use Rattle.mc_slots.specs.Pile.{slot_of}
 use Rattle.mc_view.specs.Views.{column_of_spot, is_in_view, view_of}
 use Rattle.mc_model.specs.Delta.{delta}
-use Rattle.mc_model.specs.Sight.{Sight, nothing_seen, others, seen_of}
+use Rattle.mc_model.specs.Sight.{Sight, nothing_seen, others, seen_of, window_seen}
 use Rattle.mc_model.specs.Notes.{confirm_packet, noted_packets, notes_of}
 use Rattle.mc_model.specs.Opening.{opening_of}
 use Rattle.mc_model.specs.Ticks.{beat_at, shown_age}
@@ -48,6 +49,7 @@ nothing_stands parts = record {
   columns = refl;
   entities = λ eid. ap (option_map kept_of) (get-empty int_cmp eid)
       ∙ sym (ap (option_map told_slot) (get-empty int_cmp eid));
+  window = refl;
   pack = refl;
   cursor = refl;
 }
@@ -102,7 +104,8 @@ module _ (scene : Scene) (p : Player) (part : ClientView) (is : IsScene scene)
   -- what is seen of it, where this was shown before
   abbrev pub seen_after : Sight → Sight
   seen_after last = seen part.land.now part.list.now
-      (others part.me part.folk.now.state.entities) part.pack.now part.view part.age
+      (others part.me part.folk.now.state.entities) part.pack.now (option_copied part.chest)
+      part.view part.age
       (last.chat ++ part.lines.now)
 
   seen_is : HasPlayers → (last : Sight) → seen_after last ≡ sight_of game p last
@@ -116,6 +119,7 @@ module _ (scene : Scene) (p : Player) (part : ClientView) (is : IsScene scene)
     entities = from_entries (filter_map seen_of (filter (λ (e : Entity).
         is_in_view (has.view.middle i) (has.view.d i) (column_of_spot e.spot))
         (others (has.me i) (has.entities i))));
+    window = window_seen (has.pack i) (has.chest i);
     pack = map slot_of (has.pack i).slots;
     cursor = slot_of (has.pack i).cursor;
     chat = last.chat ++ lines_are i;
@@ -125,6 +129,7 @@ module _ (scene : Scene) (p : Player) (part : ClientView) (is : IsScene scene)
   abbrev pub noted_part : List Down
   noted_part = noted_of part.land.now part.view p.notes
       (spot_seen part.land.now part.folk.now.state.entities part.me) part.pack.now
+      (option_copied part.chest)
 
   noted_is : noted_part ≡ notes_due game p
   noted_is = λ i.
@@ -132,6 +137,7 @@ module _ (scene : Scene) (p : Player) (part : ClientView) (is : IsScene scene)
       ++ noted_packets (has.land i).terrain (has.land i).edits (λ (place : Place).
       is_in_view (has.view.middle i) (has.view.d i) place) p.notes.cells
       ++ notes_of p.notes (spot_seen (has.land i) (has.entities i) (has.me i)) (has.pack i)
+      (has.chest i)
 
   -- ---- what a flush asks
 

@@ -1,10 +1,11 @@
 -- What is asked of all that a tick shows, and what one client is shown a part of.
 use Rattle.std.specs.Prelude.{◌≡◌, ◌≤◌, drop}
 use Rattle.std.specs.List.{AllByRecursion}
+use Rattle.std.specs.Option.{option_copied}
 use Rattle.std.specs.FinMap.{entries, len}
 use lib.IntN.{pos}
 use Rattle.mc_model.specs.declared.player.Player.{Player}
-use Rattle.mc_model.specs.Game.{pack_of}
+use Rattle.mc_model.specs.Game.{chest_of, pack_of}
 use Rattle.mc_play.specs.Kept.{land_of}
 use Rattle.mc_flush.specs.declared.client_view.ClientView.{ClientView}
 use Rattle.mc_flush.specs.Encoding.{AreFrames}
@@ -29,6 +30,7 @@ pub record IsPart (scene : Scene) (p : Player) (part : ClientView) : Type 0 wher
   pub land : part.land.now ≡ land_of scene.game.now
   pub entities : part.folk.now.state.entities ≡ scene.game.now.game.entities
   pub pack : part.pack.now ≡ pack_of scene.game.now.game p
+  pub chest : option_copied part.chest ≡ chest_of scene.game.now.game p
   pub list : part.list.now ≡ scene.list.now
   pub lines : part.lines.now ≡ drop p.since scene.lines.now
   pub age : part.age ≡ scene.game.now.game.age

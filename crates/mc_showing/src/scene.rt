@@ -1,13 +1,14 @@
 ghost use Rattle.std.specs.Prelude.{◌≡◌, ◌≤◌, ◌<◌, ◌++◌, [], List, ℕ, Option, Some, OnOk, drop};
 ghost use Rattle.std.specs.Prelude.{if◌then◌else◌};
 ghost use Rattle.std.specs.List.{AllByRecursion};
+ghost use Rattle.std.specs.Option.{option_copied};
 ghost use Rattle.std.specs.FinMap as finmap;
 ghost use lib.IntN.{pos};
 ghost use Rattle.mc_frame.specs.Kept.{joined};
 ghost use Rattle.mc_model.specs.Delta.{delta};
 ghost use Rattle.mc_model.specs.Sight.{Sight, others};
 ghost use Rattle.mc_model.specs.Opening.{opening_of};
-ghost use Rattle.mc_model.specs.Game.{pack_of, spot_of};
+ghost use Rattle.mc_model.specs.Game.{chest_of, pack_of, spot_of};
 ghost use Rattle.mc_model.specs.Showing.{due, sight_of};
 ghost use Rattle.mc_play.specs.Kept.{land_of};
 ghost use Rattle.mc_sending.specs.Sending.{play_bytes};
@@ -28,6 +29,7 @@ use mc_flush::{ClientView, Encoded, Mark, PlayerList, flush_with};
 use mc_land::Steps;
 use mc_model::{Notes, Player};
 use mc_play::Game;
+use mc_slots::Chest;
 use mc_windows::Pack;
 use std::alloc::Global;
 use std::marker::Brand;
@@ -78,15 +80,15 @@ fn push_changes<L: Ledger>(
         OnOk result (joined out.new.items ≡ joined out.old.items ++ play_bytes
         (delta p (seen view.now.land.now view.now.list.now
         (others view.now.me view.now.folk.now.state.entities)
-        view.now.pack.now view.now.view view.now.age (p.chat ++ view.now.lines.now))
+        view.now.pack.now (option_copied view.now.chest) view.now.view view.now.age (p.chat ++ view.now.lines.now))
         ++ noted_of view.now.land.now view.now.view notes.now
         (spot_seen view.now.land.now view.now.folk.now.state.entities view.now.me)
-        view.now.pack.now)) }
+        view.now.pack.now (option_copied view.now.chest))) }
     ensures stands { (chat : List (List ℕ)) → OnOk result
         (StandsFor mark.new (present_parts view.now.land.now view.now.list.now)
         (seen view.now.land.now view.now.list.now
         (others view.now.me view.now.folk.now.state.entities)
-        view.now.pack.now view.now.view view.now.age chat)) }
+        view.now.pack.now (option_copied view.now.chest) view.now.view view.now.age chat)) }
     ensures opened { OnOk result (mark.new.view ≡ Some view.now.view) }
 {
     let mut steps = Steps::<L>::new(blank);
@@ -95,14 +97,21 @@ fn push_changes<L: Ledger>(
 
 impl Scene<'_> {
     /// The parts of all that a player is shown.
-    fn part_of<'a>(&'a self, player: &Player, pack: &'a Pack) -> ClientView<'a>
-        requires { pack.now ≡ pack_of self.now.game.now.game player.now }
+    fn part_of<'a>(
+        &'a self,
+        player: &Player,
+        pack: &'a Pack,
+        chest: Option<&'a Chest>,
+    ) -> ClientView<'a>
+        requires pack { pack.now ≡ pack_of self.now.game.now.game player.now }
+        requires chest { option_copied chest ≡ chest_of self.now.game.now.game player.now }
         ensures { IsPart self.now player.now result }
     {
         ClientView {
             land: self.game.land(),
             folk: self.game.folk(),
             pack,
+            chest,
             list: self.list,
             lines: new_lines(self.lines, player.since),
             age: self.game.age(),
@@ -153,7 +162,8 @@ impl Scene<'_> {
     {
         self.push_opening(alloc, player, mark, out)?;
         let pack = self.game.pack_of(player);
-        let part = self.part_of(player, &pack);
+        let chest = self.game.chest_of(player);
+        let part = self.part_of(player, &pack, chest.as_ref());
         push_changes::<Brand>(
             alloc,
             &part,

@@ -61,7 +61,7 @@ impl Game {
     // ---- what lies in it
 
     /// The chest whose window a player is shown; None where it is shown none.
-    pub(super) fn chest_of(&self, player: &Player) -> Option<Chest>
+    pub fn chest_of(&self, player: &Player) -> Option<Chest>
         ensures { result ≡ chest_of self.now.game player.now }
     {
         let cell = player.chest?;
