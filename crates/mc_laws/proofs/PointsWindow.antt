@@ -1,11 +1,11 @@
 -- What the packets of windows and of slots make of what a client sees: it is shown the chest's
 -- window that is wanted, its pack is the one that is wanted, and so is what hangs on its cursor.
 use Rattle.std.proofs.Common.{◌≡◌, ℕ, ◌+◌, ◌<◌, ◌≤◌, Bool, true, false, cond, List, [], ◌∷◌, ◌++◌}
-use Rattle.std.proofs.Common.{length, refl, sym, ap, subst, ◌∙◌, arith}
-use Rattle.std.specs.Prelude.{◌-◌, ◌==◌, drop, nat_lt, not, replicate, slice_set, take, Option, Some, None}
+use Rattle.std.proofs.Common.{length, refl, sym, ap, subst, ◌∙◌, inl, inr, arith}
+use Rattle.std.specs.Prelude.{◌-◌, ◌==◌, drop, not, replicate, slice_set, take, Option, Some, None}
 use Rattle.std.specs.Int.{cast_signed, w8}
 use Rattle.std.proofs.Math.Seq.{drop-append_seam, set-append_seam, take-append_seam, take-set-lt}
-use Rattle.std.proofs.lemmas.Bool.Decides.{nat_tests}
+use Rattle.std.proofs.lemmas.Bool.Decides.{leb_tells, nat_tests}
 use Rattle.std.proofs.lemmas.Int.{to_z_pos}
 use Rattle.std.proofs.lemmas.List.{append_assoc, drop-set-add, drop-set-lt, length-append}
 use Rattle.std.proofs.lemmas.List.{take-set-le}
@@ -17,11 +17,11 @@ use Rattle.mc_packets.specs.declared.down.Down.TheVariants.{SetSlot}
 use Rattle.mc_windows.specs.declared.pack.TheConstants.{LAST_WINDOW}
 use Rattle.mc_windows.specs.Pack.{pack_size}
 use Rattle.mc_model.specs.Sight.{ChestWindow, Sight}
-use Rattle.mc_model.specs.Replica.{apply, seeing, with_items, with_own_slot, with_shown_slot}
-use Rattle.mc_model.specs.Replica.{with_slot, with_window as with_number}
+use Rattle.mc_model.specs.Replica.{apply, seeing, with_items, with_shown_slot}
+use Rattle.mc_model.specs.Replica.{with_window as with_number}
 use Rattle.mc_model.specs.Delta.{Follows, IsChestWindow, closing_packets, cursor_packet}
-use Rattle.mc_model.specs.Delta.{cursor_point, is_same_slot, opening_packets}
-use Rattle.mc_model.specs.Delta.{slot_packets, window_changes, window_point}
+use Rattle.mc_model.specs.Delta.{cursor_point, is_same_slot, opening_packets, slot_packets}
+use Rattle.mc_model.specs.Delta.{window_changes, window_point}
 use Rattle.mc_laws.proofs.Leading.{Leads, onward, no_packets, led}
 use Rattle.mc_laws.proofs.PointsEntities.{same_slot}
 
@@ -79,11 +79,9 @@ own_leads : (s : Sight) (window : Option ChestWindow) (front later : List Slot) 
     (SetSlot (pos 0) (pos (length front + 9)) new ∷ [])
     (with_window s window (front ++ new ∷ later))
 unfolding apply
-own_leads s window front later old new few = record { is = ap seeing put }
-  where
-    put : with_own_slot (length front + 9) new (with_window s window (front ++ old ∷ later))
-        ≡ with_window s window (front ++ new ∷ later)
-    put = grind (arith, nat_tests, set-append_seam front old later new)
+own_leads s window front later old new few = record {
+  is = ap seeing (grind (arith, nat_tests, few, set-append_seam front old later new));
+}
 
 -- a chest's window is shown no more
 closing_leads : (s : Sight) (old : Option ChestWindow) (pack : List Slot) →
@@ -94,13 +92,6 @@ closing_leads s (Some old) pack = record { is = refl }
 
 -- ---- the window of a chest
 
--- what is in front of a list, and what is behind
-front_of : (xs ys : List Slot) (n : ℕ) → length xs ≡ n → take n (xs ++ ys) ≡ xs
-front_of xs ys n size = subst (λ (k : ℕ). take k (xs ++ ys) ≡ xs) size (take-append_seam xs ys)
-
-behind_of : (xs ys : List Slot) (n : ℕ) → length xs ≡ n → drop n (xs ++ ys) ≡ ys
-behind_of xs ys n size = subst (λ (k : ℕ). drop k (xs ++ ys) ≡ ys) size (drop-append_seam xs ys)
-
 -- all slots of the window of a number: those of the chest, and behind them those of the pack
 abbrev with_all : Sight → ℕ → List Slot → Sight
 with_all s number all = with_window s
@@ -110,36 +101,29 @@ with_all s number all = with_window s
 all_of : (s : Sight) (w : ChestWindow) (pack : List Slot) (number : ℕ) → w.number ≡ number →
     length w.slots ≡ chest_size →
     with_window s (Some w) pack ≡ with_all s number (w.slots ++ pack)
-all_of s w pack number same size = λ i. with_window s (Some (record {
-  number = same i;
-  slots = sym (front_of w.slots pack chest_size size) i;
-})) (sym (behind_of w.slots pack chest_size size) i)
+all_of s w pack number same size =
+    let front = take-append_seam w.slots pack in
+    let behind = drop-append_seam w.slots pack in
+    let chest = rw size at front in
+    let carried = rw size at behind in
+    λ i. with_window s (Some (record { number = same i; slots = sym chest i })) (sym carried i)
 
 -- one of them is another
 shown_set : (s : Sight) (number : ℕ) (all : List Slot) (i : ℕ) (new : Slot) →
     i < chest_size + pack_size →
     with_shown_slot (record { number = number; slots = take chest_size all }) i new
     (with_all s number all) ≡ with_all s number (slice_set all i new)
-shown_set s number all i new few = cases (nat_lt i chest_size) refl
-  where
-    cases : (b : Bool) → nat_lt i chest_size ≡ b →
-        cond b (with_window s (Some (record {
-          number = number;
-          slots = slice_set (take chest_size all) i new;
-        })) (drop chest_size all))
-        (cond (nat_lt i (chest_size + pack_size)) (with_window s (Some (record {
-          number = number;
-          slots = take chest_size all;
-        })) (slice_set (drop chest_size all) (i - chest_size) new)) (with_all s number all))
-        ≡ with_all s number (slice_set all i new)
-    cases true t =
-        let front = take-set-lt chest_size all i new (grind (arith, nat_tests)) in
-        let behind = drop-set-lt chest_size all i new (grind (arith, nat_tests)) in cc
-    cases false t =
-        let at : chest_size + (i - chest_size) ≡ i = grind (arith, nat_tests) in
-        let front = take-set-le chest_size all i new (grind (arith, nat_tests)) in
-        let behind = drop-set-add chest_size all (i - chest_size) new in
-        grind (arith, nat_tests, few, front, behind, at)
+shown_set s number all i new few = elim (leb_tells chest_size i) [
+  | inl past ↦ (let behind = past.1 in
+      let at : chest_size + (i - chest_size) ≡ i = omega (arith, behind) in
+      let chest = take-set-le chest_size all i new behind in
+      let pack = drop-set-add chest_size all (i - chest_size) new in
+      grind (arith, nat_tests, few, behind, at, chest, pack))
+  | inr before ↦ (let less = before.1 in
+      let chest = take-set-lt chest_size all i new less in
+      let pack = drop-set-lt chest_size all i new less in
+      grind (arith, nat_tests, less, chest, pack))
+]
 
 -- by a packet that tells the number as a byte with a sign
 shown_leads : (s : Sight) (number : ℕ) (front later : List Slot) (old new : Slot) →
@@ -149,19 +133,11 @@ shown_leads : (s : Sight) (number : ℕ) (front later : List Slot) (old new : Sl
     (with_all s number (front ++ new ∷ later))
 unfolding apply
 shown_leads s number front later old new low high few =
-    subst (λ (z : ℤ). Leads (with_all s number all) (SetSlot z (pos (length front + 0)) new ∷ [])
-    (with_all s number (front ++ new ∷ later))) (sym (to_z_pos w8 number (omega (arith, high))))
-    (record { is = ap seeing put })
-  where
-    all : List Slot
-    all = front ++ old ∷ later
-
-    put : with_slot (pos number) (pos (length front + 0)) new (with_all s number all)
-        ≡ with_all s number (front ++ new ∷ later)
-    put =
-        let set = shown_set s number all (length front) new few in
-        let seam = set-append_seam front old later new in
-        grind (arith, nat_tests, set, seam)
+    let set = shown_set s number (front ++ old ∷ later) (length front) new few in
+    let seam = set-append_seam front old later new in
+    rw (to_z_pos w8 number (omega (arith, high))) (record {
+      is = ap seeing (grind (arith, nat_tests, set, seam));
+    })
 
 -- the slots that differ of a window that stays
 same_leads : (s : Sight) (old new : ChestWindow) (olds news : List Slot) → IsChestWindow old →
@@ -188,9 +164,9 @@ pub items_told : (s : Sight) (old new : ChestWindow) (olds pack : List Slot) →
     ≡ with_window s (Some new) pack
 items_told s old new olds pack same is size =
     let low = is.low in
-    let many = length-append new.slots pack in
     let slots = is.size in
-    let told = all_of s new pack new.number refl is.size in
+    let many = length-append new.slots pack in
+    let told = all_of s new pack new.number refl slots in
     grind (arith, nat_tests, low, many, slots, size, same, told)
 
 -- a window of another number opens

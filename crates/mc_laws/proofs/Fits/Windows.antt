@@ -61,13 +61,15 @@ seen_window P pack None w each is = absurd cc
 seen_window P pack (Some piles) w each is = subst P (some_is _ w is) (each piles refl)
 
 -- packets can tell it
-pub window_told : (g : Game) (p : Player) (w : ChestWindow) → AreChests g → AreShown g → IsShown g p →
-    window_seen (pack_of g p) (chest_of g p) ≡ Some w → IsChestWindow w
+pub window_told : (g : Game) (p : Player) (w : ChestWindow) → AreChests g → AreShown g →
+    IsShown g p → window_seen (pack_of g p) (chest_of g p) ≡ Some w → IsChestWindow w
 window_told g p w chests all shown is =
     seen_window IsChestWindow (pack_of g p) (chest_of g p) w (λ piles there.
     let chest = shown_chest g p.chest piles chests there in
+    let some = chest.1 in
+    let number = shown.number in
     record {
-      low = (let number = shown.number in let some = chest.1 in grind (arith, nat_tests, number, some));
+      low = grind (arith, nat_tests, number, some);
       high = window_high g p.name all;
       size = length-map piles slot_of ∙ chest.0.size;
     }) is
