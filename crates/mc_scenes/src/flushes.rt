@@ -328,6 +328,7 @@ fn flushed<L: Ledger>(
         land: &scene.land,
         folk: &scene.folk,
         pack: &scene.pack,
+        chest: None,
         list: scene.guests.list(),
         lines: scene.lines.as_slice(),
         age: scene.age,
