@@ -178,7 +178,8 @@ same_stand m n same x (pos y) z = grind (arith, nat_tests, same (key_of x y z))
 same_stand m n same x (negsuc y) z = refl
 
 pub restocked_chests : (cell : Cell) (piles : List Pile) (g : Game) →
-    is_some (chest_at g cell) ≡ true → IsChest piles → AreChests g → AreChests (restocked cell piles g)
+    is_some (chest_at g cell) ≡ true → IsChest piles → AreChests g →
+    AreChests (restocked cell piles g)
 restocked_chests cell piles g there is a = record {
   chests = rw at.put (λ q others found. of_key q others (eq_by_cmp key_cmp q at.key)
       (sym (get-insert keys_total g.chests at.key piles q) ∙ found));
@@ -201,8 +202,8 @@ restocked_chests cell piles g there is a = record {
       where
         step : (b : Bool) → eq_by_cmp key_cmp q at.key ≡ b →
             is_some (cond b (Some piles) (get g.chests q)) ≡ is_some (get g.chests q)
-        step true t = sym (ap (λ (k : Key). is_some (get g.chests k)) (exact_keys q at.key (equal _ t))
-            ∙ ap is_some (sym at.found) ∙ there)
+        step true t = sym (ap (λ (key : Key). is_some (get g.chests key))
+            (exact_keys q at.key (equal _ t)) ∙ ap is_some (sym at.found) ∙ there)
         step false t = refl
 
 -- ---- other games
@@ -232,6 +233,12 @@ new_chests settings = record {
 }
 
 -- ---- what lies in a cell
+
+-- what lies in a chest is what a chest holds
+pub lies_chest : (g : Game) (cell : Cell) → AreChests g → (piles : List Pile) →
+    chest_at g cell ≡ Some piles → IsChest piles
+lies_chest g cell a piles is = (let at = stands_at g.chests cell.x cell.y cell.z (ap is_some is) in
+    a.chests at.key piles (sym at.found ∙ is))
 
 -- nothing where it is no chest
 pub none_lies : (sort : Sort) (cell : Cell) (g : Game) → is_in_world cell ≡ true → AreChests g →

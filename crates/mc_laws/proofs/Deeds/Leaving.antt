@@ -23,8 +23,8 @@ use Rattle.mc_laws.proofs.Deeds.Chests.{same_chests}
 use Rattle.mc_laws.proofs.Deeds.Coming.{go_good}
 use Rattle.mc_laws.proofs.Deeds.Kept.{deeds_keep}
 use Rattle.mc_laws.proofs.Deeds.Made.{Deed}
-use Rattle.mc_laws.proofs.Deeds.Shutting.{closed, shut_good, shut_here, shut_on, shut_other, shut_told}
-use Rattle.mc_laws.proofs.Deeds.Shutting.{shuts}
+use Rattle.mc_laws.proofs.Deeds.Shutting.{closed, shut_good, shut_here, shut_on, shut_other}
+use Rattle.mc_laws.proofs.Deeds.Shutting.{shut_told, shuts}
 use Rattle.mc_laws.proofs.Fits.Told.{without_told}
 
 -- What holds of a game without its player, and of one where it has one, whose window closed and

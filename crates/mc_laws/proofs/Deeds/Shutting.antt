@@ -18,6 +18,7 @@ use Rattle.mc_model.specs.declared.player.Player.{Player}
 use Rattle.mc_model.specs.Notes.{again}
 use Rattle.mc_model.specs.Things.{in_hand}
 use Rattle.mc_model.specs.Game.{Game, of_player, pack_of, room_in}
+use Rattle.mc_model.specs.Maps.{modify}
 use Rattle.mc_model.specs.Deeds.{noting, repack_of, watching}
 use Rattle.mc_model.specs.Windows.{feet_of, kept_in_hand, let_fall, shut, shut_all}
 use Rattle.mc_model.specs.Good.{Good}
@@ -42,7 +43,25 @@ has_room g test =
     let some = ltb-true 0 (room_in g) test in
     record { lying = omega (arith, some); given = omega (arith, some) }
 
--- ---- what falls
+-- ---- what falls, and what is shown
+
+module _ (G T H : Type 0) (k : ℕ) where
+  -- what comes out of a player's window lies there, and more is done
+  pub falls : (p : Player) (u v : Game) (pile : Pile) → ((item : Item) → pile ≡ Full item → T →
+      CanCome (kinds.Dropped item u.age) (feet_of p u) u.entities u.eids) →
+      Made G T H k (let_fall p pile u) v →
+      MadeWith G T H k (λ (sort : Sort). held sort pile) u v
+  falls p u v Empty can later = later
+  falls p u v (Full item) can later =
+      first G T H k (λ (sort : Sort). held sort (Full item)) (λ (sort : Sort). 0) u _ v
+      (throws item (feet_of p u) (can item refl) refl) (λ w id damage some low. omega arith) later
+
+  -- any player is shown another chest, or none
+  pub watched_made : (j : ℕ) (chest : Option Cell) (u : Game) → Made G T H k u (watching chest j u)
+  watched_made j chest u = by_deed G T H k u (watching chest j u)
+      (touch G T H k j (λ (q : Player). record q { chest = chest })
+      (λ q. record { eid = refl; uuid = refl; name = refl; hand = refl }) (λ ne q. refl)
+      (λ t h q fit. fit) u) (λ id damage. refl)
 
 module _ (G T H : Type 0) (k j : ℕ) (p : Player) (g : Game) (there : get g.players j ≡ Some p)
     (given : T → G × Told g) where
@@ -71,23 +90,6 @@ module _ (G T H : Type 0) (k j : ℕ) (p : Player) (g : Game) (there : get g.pla
         given = room.given;
       }
 
-  -- it lies there, and more is done
-  pub falls : (u v : Game) (pile : Pile) → ((item : Item) → pile ≡ Full item → T →
-      CanCome (kinds.Dropped item u.age) (feet_of p u) u.entities u.eids) →
-      Made G T H k (let_fall p pile u) v →
-      MadeWith G T H k (λ (sort : Sort). held sort pile) u v
-  falls u v Empty can later = later
-  falls u v (Full item) can later =
-      first G T H k (λ (sort : Sort). held sort (Full item)) (λ (sort : Sort). 0) u _ v
-      (throws item (feet_of p u) (can item refl) refl) (λ w id damage some low. omega arith) later
-
-  -- it is shown another chest, or none
-  pub watched_made : (chest : Option Cell) (u : Game) → Made G T H k u (watching chest j u)
-  watched_made chest u = by_deed G T H k u (watching chest j u)
-      (touch G T H k j (λ (q : Player). record q { chest = chest })
-      (λ q. record { eid = refl; uuid = refl; name = refl; hand = refl }) (λ ne q. refl)
-      (λ t h q fit. fit) u) (λ id damage. refl)
-
   -- ---- closing
 
   pub shut_made : (G → Good g) → Made G T H k g (shut j p g)
@@ -110,16 +112,16 @@ module _ (G T H : Type 0) (k j : ℕ) (p : Player) (g : Game) (there : get g.pla
           (repack_of p (finished_pack pack) g) _
           (repacks j p (finished_pack pack) there done refl)
           (λ w id damage some low. omega arith)
-          (falls (repack_of p (finished_pack pack) g) _ pack.cursor
+          (falls G T H k p (repack_of p (finished_pack pack) g) _ pack.cursor
           (λ item full. can_fall (finished_pack pack) item done
           (λ x. subst IsPile full (is x).is_pile) (has_room g test))
-          (watched_made None _))
+          (watched_made G T H k j None _))
       by_room false full =
           before G T H k g (repack_of p (kept_in_hand pack) g) _
           (repacks j p (kept_in_hand pack) there is refl) (λ id damage. refl)
           (before G T H k (repack_of p (kept_in_hand pack) g) _ _
           (notes G T H k j again (λ t h n fit. fit) (repack_of p (kept_in_hand pack) g))
-          (λ id damage. refl) (watched_made None _))
+          (λ id damage. refl) (watched_made G T H k j None _))
 
 -- ---- what closing keeps
 
@@ -162,7 +164,7 @@ shut_players k p g = by_room (nat_lt 0 (room_in g))
         (if b then let_fall p pack.cursor (repack_of p (finished_pack pack) g)
         else noting again k (repack_of p (kept_in_hand pack) g))).players
     by_room true = subst (λ (m : FinMap nat_cmp Player).
-        AreChanged (only k (closed true)) g.players (watching None k (record g { players = m })).players)
+        AreChanged (only k (closed true)) g.players (modify k ends m))
         (sym (fallen pack.cursor (repack_of p (finished_pack pack) g)))
         (only_changed k ends g.players)
     by_room false =
