@@ -1,0 +1,4 @@
+-- Who is shown a chest, along all that players do.
+pub mod Watching
+pub mod Same
+pub mod Closing
