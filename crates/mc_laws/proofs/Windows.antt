@@ -2,3 +2,4 @@
 pub mod Watching
 pub mod Same
 pub mod Closing
+pub mod Viewers
