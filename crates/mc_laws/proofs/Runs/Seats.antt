@@ -25,11 +25,12 @@ use Rattle.mc_model.specs.Fitting.{Told}
 use Rattle.mc_model.specs.Good.{AreChests, Good}
 use Rattle.mc_model.specs.Apart.{traits_of}
 use Rattle.mc_model.proofs.Maps.Lookups.{any_found, put_other, put_same}
-use Rattle.mc_laws.proofs.Deeds.Chests.{GoodGame, leave_chests, same_chests}
+use Rattle.mc_laws.proofs.Deeds.Chests.{GoodGame, same_chests}
 use Rattle.mc_laws.proofs.Deeds.Coming.{enter_good}
-use Rattle.mc_laws.proofs.Deeds.Leaving.{leave_good, leave_other, leave_same, leave_stays}
+use Rattle.mc_laws.proofs.Deeds.Leaving.{leave_chests, leave_good, leave_more, leave_other}
+use Rattle.mc_laws.proofs.Deeds.Leaving.{leave_same, leave_stays, leave_told}
 use Rattle.mc_laws.proofs.Acts.ActOn.{act_good, act_on}
-use Rattle.mc_laws.proofs.Fits.Acts.{act_tells, enter_tells, leave_told}
+use Rattle.mc_laws.proofs.Fits.Acts.{act_tells, enter_tells}
 use Rattle.mc_laws.proofs.Fits.Sound.{welcome_of}
 use Rattle.mc_laws.proofs.Walk.Handings.{gone_closed, hand_cases, heard_stage, not_in_play}
 use Rattle.mc_laws.proofs.Walk.Moves.{Kept, keeps, does, shakes, answers, closes, comes_in}
@@ -64,7 +65,7 @@ leave_stay : (k : ℕ) (g : Game) → OthersStay k g (leave k g)
 leave_stay k g = let s = leave_stays k g in record {
   traits = λ j ne. ap (option_map traits_of) (leave_other k j g ne);
   settings = s.settings;
-  more = (let e = s.eids in omega (arith, e));
+  more = leave_more k g;
 }
 
 -- ---- closing
@@ -80,7 +81,7 @@ closed_seat k before s l w t others is = step (is_closed l.stage) is
     step true e = record {
       game = leave_good k s.game w.0;
       chests = leave_chests k s.game w.1;
-      told = leave_told k s.game t;
+      told = leave_told k s.game w.0 t;
       plays = ap is_some (leave_same k s.game) ∙ sym (not_in_play l.stage is);
       others = stay_on k before s.game (leave k s.game) others (leave_stay k s.game);
     }

@@ -17,17 +17,17 @@ use Rattle.mc_model.specs.World.{is_closing, with_seat}
 use Rattle.mc_model.specs.Tick.{aged, at_tick, beats, flushed, picking, shown_all, told_player}
 use Rattle.mc_model.specs.Run.{history}
 use Rattle.mc_model.specs.Fitting.{Told}
-use Rattle.mc_model.specs.Good.{AreChests, GoodWorld, in_play}
+use Rattle.mc_model.specs.Good.{AreChests, Good, GoodWorld, in_play}
 use Rattle.mc_model.specs.Apart.{traits_of}
 use Rattle.mc_model.proofs.Maps.Lookups.{gone_other, gone_same, put_other, put_same}
-use Rattle.mc_laws.proofs.Deeds.Chests.{leave_all_chests, new_chests, same_chests}
+use Rattle.mc_laws.proofs.Deeds.Chests.{new_chests, same_chests}
+use Rattle.mc_laws.proofs.Deeds.Leaving.{leave_all_chests, leave_all_told}
 use Rattle.mc_laws.proofs.Walk.Each.{ClosesOrStays, beat_stage, closing_plays, each_good, each_last}
 use Rattle.mc_laws.proofs.Walk.Each.{each_links, each_players, flush_stage, told_good, told_players}
 use Rattle.mc_laws.proofs.Walk.Handings.{not_in_play}
 use Rattle.mc_laws.proofs.Walk.Moves.{Walked, walked_keeps}
 use Rattle.mc_laws.proofs.Walk.Steps.{Move, departs, forgets, joins, passes, rests, sits}
 use Rattle.mc_laws.proofs.Walk.Steps.{step_moves, takes}
-use Rattle.mc_laws.proofs.Fits.Acts.{leave_all_told}
 use Rattle.mc_laws.proofs.Fits.Told.{new_told}
 use Rattle.mc_laws.proofs.Pickups.Picking.{pickups_leave, pickups_picked}
 use Rattle.mc_laws.proofs.Runs.Seats.{GoodSeat, all_stay, departed_seat, seat_kept, taken_seat}
@@ -138,16 +138,17 @@ each_chests : (f : ℕ → Link → Handing) (w : World) → AreChests w.game �
 unfolding each
 each_chests f w a = leave_all_chests (closed_by f w) w.game a
 
-each_told : (f : ℕ → Link → Handing) (w : World) → Told w.game → Told (each f w).game
+each_told : (f : ℕ → Link → Handing) (w : World) → Good w.game → Told w.game →
+    Told (each f w).game
 unfolding each
-each_told f w t = leave_all_told (closed_by f w) w.game t
+each_told f w good t = leave_all_told (closed_by f w) w.game good t
 
 pub each_world : (f : ℕ → Link → Handing) (w : World) →
     ((k : ℕ) (l : Link) → ClosesOrStays l.stage (f k l)) → GoodWorld w → GoodWorld (each f w)
 each_world f w stage a = record {
   game = each_good f w a.game;
   chests = each_chests f w a.chests;
-  told = each_told f w a.told;
+  told = each_told f w a.game a.told;
   plays = λ j. ap is_some (each_players f w j) ∙ at_link j (get w.links j) (a.plays j)
       ∙ ap in_play (sym (each_links f w j));
   fresh = λ j new. each_links f w j
