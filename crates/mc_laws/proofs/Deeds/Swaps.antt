@@ -217,7 +217,8 @@ leave_empty k p g there none = leave_some k g p there ∙ by_room (nat_lt 0 (roo
         (if b then let_fall p pack.cursor (repack_of p done g)
         else noting again k (repack_of p (kept_in_hand pack) g))) ≡ quits k p done g
     by_room true =
-        ap (λ (pile : Pile). go_of k p (watching None k (let_fall p pile (repack_of p done g)))) none
+        ap (λ (pile : Pile). go_of k p (watching None k (let_fall p pile (repack_of p done g))))
+        none
         ∙ (λ i. record (quits k p done g) {
           entities = gone i;
           players = remove_changed g.players k ends i;
@@ -320,7 +321,8 @@ module _ (k : ℕ) (p : Player) (g : Game) (there : get g.players k ≡ Some p) 
           let apart = w.apart j k q p is there ne in
           let other = other_name j q ne is in
           leave_some j v q (gone_other g.players k j ne ∙ is)
-          ∙ ap (go_of j q) (shut_quits j k p q pack ne apart.eid other g room (w.own k p there).given)
+          ∙ ap (go_of j q) (shut_quits j k p q pack ne apart.eid other g room
+          (w.own k p there).given)
           ∙ go_quits j k p q pack ne apart.eid other (shut j q g)
           ∙ ap (quits k p pack) (sym (leave_some j g q is))
 
@@ -450,8 +452,8 @@ module _ (k : ℕ) (u : ℕ → Bool) where
           leave_all (cond b (i ∷ filter u (filter is_other ks)) (filter u (filter is_other ks)))
           (leave k g)
           ≡ leave_all (cond b (i ∷ filter u ks) (filter u ks)) (leave k g)
-      step true stays goes = ap (leave_all (filter u (filter is_other ks))) (leave_swap i k g w none)
-          ∙ goes ∙ ap (leave_all (filter u ks)) (sym (leave_swap i k g w none))
+      step true stays goes =
+          ap (leave_all (filter u (filter is_other ks))) (leave_swap i k g w none) ∙ goes ∙ ap (leave_all (filter u ks)) (sym (leave_swap i k g w none))
       step false stays goes = stays
 
 -- ---- the numbers of those that are left
