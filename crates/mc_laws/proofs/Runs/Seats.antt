@@ -44,8 +44,9 @@ pub record OthersStay (k : ℕ) (g v : Game) : Type 0 where
   pub settings : v.settings ≡ g.settings
   pub more : g.eids ≤ v.eids
 
--- a seat whose game is good, and so are its chests and windows, and such that packets can tell it, where there
--- is a player exactly while the connection is in play, and what it left of the game before
+-- a seat whose game is good, and so are its chests and windows, and such that packets can tell it,
+-- where there is a player exactly while the connection is in play, and what it left of the game
+-- before
 pub record GoodSeat (k : ℕ) (before : Game) (s : Seat) : Type 0 where
   pub game : Good s.game
   pub chests : AreChests s.game

@@ -57,7 +57,7 @@ entities_more sort es e = sum_by_push (λ (x : Entity). lying sort x.kind) es e
 -- ---- one of a number, where numbers rise
 
 -- none of a number stands behind one that is not lower
-pub past : (n low high : ℤ) (es : List Entity) → n ≤ℤ low → Rise eid_of low es high →
+past : (n low high : ℤ) (es : List Entity) → n ≤ℤ low → Rise eid_of low es high →
     without eid_of n es ≡ es
 past n low high [] le r = refl
 past n low high (e ∷ es) le r = step (int_eq e.eid n) refl
