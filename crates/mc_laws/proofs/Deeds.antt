@@ -6,6 +6,8 @@ pub mod Keeping
 pub mod Onwards
 pub mod Goods
 pub mod Made
+pub mod Kept
+pub mod Shutting
 pub mod Chests
 pub mod Thrown
 pub mod Swaps

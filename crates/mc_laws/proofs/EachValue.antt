@@ -50,6 +50,19 @@ only_changed {X} k f m j = elim (cases_eq j k) [
       (sym (ne_eqb j k ne))
 ]
 
+-- or it is changed twice
+pub twice_changed : {X : Type 0} (k : ℕ) (f h : X → X) (m : FinMap nat_cmp X) →
+    AreChanged (only k (λ x. f (h x))) m (modify k f (modify k h m))
+twice_changed {X} k f h m j = only_changed k f (modify k h m) j
+    ∙ ap (option_map (only k f j)) (only_changed k h m j) ∙ both (get m j)
+  where
+    both : (o : Option X) → option_map (only k f j) (option_map (only k h j) o)
+        ≡ option_map (only k (λ x. f (h x)) j) o
+    both None = refl
+    both (Some x) = elim (j == k) as (λ (b : Bool).
+        Some (if b then f (if b then h x else x) else (if b then h x else x))
+        ≡ Some (if b then f (h x) else x)) [ true ↦ refl | false ↦ refl ]
+
 -- ---- what holds of each value
 
 abbrev pub AllValues : {X : Type 0} → (ℕ → X → Type 0) → FinMap nat_cmp X → Type 0

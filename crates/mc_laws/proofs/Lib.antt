@@ -33,3 +33,4 @@ pub mod Pickups
 pub mod Decoding
 pub mod Headline
 pub mod Shown
+pub mod Windows

@@ -1,12 +1,13 @@
 -- Of which deeds it is made what a player does that moves, digs, drops, places or does something in
 -- its window, topic by topic.
-use Rattle.std.proofs.Common.{◌≡◌, ℕ, suc, ◌+◌, ◌*◌, ◌<◌, ◌≤◌, Bool, true, false, [], ◌∷◌}
-use Rattle.std.proofs.Common.{Option, Some, None, refl, subst, ap, arith}
-use Rattle.std.specs.Prelude.{◌&&◌, ◌==◌, not, length, min, nat_le, nat_lt, unsigned_abs}
+use Rattle.std.proofs.Common.{◌≡◌, ℕ, suc, ◌+◌, ◌*◌, ◌<◌, ◌≤◌, Bool, true, false, List, [], ◌∷◌}
+use Rattle.std.proofs.Common.{Option, Some, None, refl, sym, subst, ap, ◌∙◌, arith}
+use Rattle.std.specs.Prelude.{◌&&◌, ◌==◌, not, is_some, length, min, nat_le, nat_lt, unsigned_abs}
 use Rattle.std.specs.Prelude.{if◌then◌else◌}
 use Rattle.std.proofs.lemmas.Bool.{and_parts, eqb-true, leb-true, ltb-true}
 use Rattle.std.proofs.lemmas.Bool.Decides.{nat_tests}
 use Rattle.std.proofs.lemmas.List.Sums.{sum_by-cons}
+use Rattle.std.specs.Option.{option_and_then}
 use Rattle.std.specs.Ordering.{int_eq}
 use Rattle.std.specs.FinMap.{get}
 use lib.IntN.{ℤ, pos, negsuc}
@@ -15,24 +16,25 @@ use Rattle.mc_fields.specs.declared.position.Spot.{Spot}
 use Rattle.mc_slots.specs.declared.pile.Item.{Item}
 use Rattle.mc_slots.specs.declared.pile.Pile.{Pile}
 use Rattle.mc_slots.specs.declared.pile.Pile.TheVariants.{Empty, Full}
+use Rattle.mc_slots.specs.Chest.{IsChest}
 use Rattle.mc_slots.specs.Pile.{IsItem, IsPile, Sort, held, without}
 use Rattle.mc_land.specs.Land.{is_chest}
 use Rattle.mc_windows.specs.declared.clicking.Clicked.{Clicked}
 use Rattle.mc_windows.specs.declared.request.Click.{Click}
-use Rattle.mc_windows.specs.Pack.{IsPack, PackValue, finished_pack, is_waiting_for}
-use Rattle.mc_windows.specs.Stock.{in_pack}
-use Rattle.mc_windows.specs.Clicks.{answer_of, dropped as drops, outcome, pack_after}
-use Rattle.mc_windows.proofs.Keeping.{alone_keeps}
-use Rattle.mc_windows.proofs.Ranges.{Holds, click_holds, drops_with_room, left_by, left_is_pile}
+use Rattle.mc_windows.specs.Pack.{IsPack, PackValue, begun_pack, is_waiting_for}
+use Rattle.mc_windows.specs.Stock.{in_chest, in_pack}
+use Rattle.mc_windows.specs.Clicks.{answer_of, chest_after, dropped as drops, outcome, pack_after}
+use Rattle.mc_windows.proofs.Keeping.{chest_stays, click_keeps, none_left}
+use Rattle.mc_windows.proofs.Ranges.{Holds, IsShown, click_holds, drops_with_room, left_by}
+use Rattle.mc_windows.proofs.Ranges.{left_is_pile}
 use Rattle.mc_entities.specs.declared.entity.EntityKind.TheVariants as kinds
-use Rattle.mc_entities.specs.Folk.{dropped_in}
 use Rattle.mc_entities.specs.Shift.{is_between, is_inside}
 use Rattle.mc_model.specs.declared.notes.Answered.{Answered}
 use Rattle.mc_model.specs.declared.notes.Notes.{Notes}
 use Rattle.mc_model.specs.declared.player.Player.{Player}
 use Rattle.mc_model.specs.Balance.{one_of, sort_of}
-use Rattle.mc_model.specs.Digging.{block_item, can_dig, digging, drop_held, dropped, dug, dug_items}
-use Rattle.mc_model.specs.Digging.{feet_of, floor_of, is_dug, stacks_at}
+use Rattle.mc_model.specs.Digging.{all_thrown, block_item, can_dig, digging, drop_held, dropped}
+use Rattle.mc_model.specs.Digging.{dug, dug_items, floor_of, is_dug, stacks_at}
 use Rattle.mc_model.specs.Notes.{again, with_answer, with_cells}
 use Rattle.mc_model.specs.Hands.{place_of_hotbar, carrying, take_up}
 use Rattle.mc_model.specs.Placing.{item_state, placing_refused, is_free, place_at, place_on, placed}
@@ -40,10 +42,12 @@ use Rattle.mc_model.specs.Placing.{put_block}
 use Rattle.mc_model.specs.Reach.{at_face, is_in_world, is_near, is_in_reach}
 use Rattle.mc_model.specs.Spots.{spawn_spot}
 use Rattle.mc_model.specs.Things.{in_hand, with_hand}
-use Rattle.mc_model.specs.Windows.{answering, close, confirm, is_accepted, is_sent_again}
-use Rattle.mc_model.specs.Windows.{kept_in_hand, let_fall, press, shut}
-use Rattle.mc_model.specs.Game.{Game, chest_at, held_by, pack_of, room_in, spot_of, state_in}
-use Rattle.mc_model.specs.Deeds.{noting, repack_of, stand_of, with_state}
+use Rattle.mc_model.specs.Windows.{answering, close, confirm, feet_of, is_accepted, is_sent_again}
+use Rattle.mc_model.specs.Windows.{let_fall, open_chest, opened, press, restocking, shut, viewers}
+use Rattle.mc_model.specs.Game.{Game, chest_at, chest_of, held_by, pack_of, room_in, spot_of}
+use Rattle.mc_model.specs.Game.{state_in}
+use Rattle.mc_model.specs.Good.{Good}
+use Rattle.mc_model.specs.Deeds.{noting, repack_of, restocked, stand_of, with_state}
 use Rattle.mc_model.specs.Movement.{arrive, arrived, placed_again}
 use Rattle.mc_model.specs.Fitting.{SpotFits, Told}
 use Rattle.mc_model.proofs.AllFacts.{all_joined}
@@ -55,14 +59,17 @@ use Rattle.mc_laws.proofs.ThingsActs.{floor_fits, item_state_is}
 use Rattle.mc_laws.proofs.ThingsFit.{NotesFit, air, block_is_item, spawn_fits}
 use Rattle.mc_laws.proofs.Weighing.Stock.{pack_handed, parted}
 use Rattle.mc_laws.proofs.Weighing.Spending.{air_counts, dug_counts, placed_counts}
-use Rattle.mc_laws.proofs.Deeds.Chests.{GoodGame, none_comes, none_lies}
+use Rattle.mc_laws.proofs.Deeds.Chests.{GoodGame, lies_chest, none_comes, none_lies}
 use Rattle.mc_laws.proofs.Deeds.Packs.{hand_within, held_is_item, named_is_pack}
 use Rattle.mc_laws.proofs.Deeds.Packs.{with_hand_is_pack}
+use Rattle.mc_laws.proofs.Deeds.Kept.{made_good, made_told}
 use Rattle.mc_laws.proofs.Deeds.Made.{Deed, Made, MadeWith, before, by_deed, by_notes, either}
-use Rattle.mc_laws.proofs.Deeds.Made.{gained, rehands, repacks, sets, spent, stands, throws}
-use Rattle.mc_laws.proofs.Deeds.Made.{untouched}
+use Rattle.mc_laws.proofs.Deeds.Made.{first, gained, join, rehands, repacks, restocks, sets}
+use Rattle.mc_laws.proofs.Deeds.Made.{spent, stands, throws, untouched}
+use Rattle.mc_laws.proofs.Deeds.Shutting.{HasRoom, can_fall, closed, falls, has_room, shut_all_made}
+use Rattle.mc_laws.proofs.Deeds.Shutting.{shut_good, shut_here, shut_made, watched_made}
 use Rattle.mc_laws.proofs.Deeds.Thrown.{all_thrown_made, chest_are, chest_held, in_items}
-use Rattle.mc_laws.proofs.Fits.Told.{CanCome, cell_told, holding_told, spot_told}
+use Rattle.mc_laws.proofs.Fits.Told.{CanCome, cell_told, spot_told}
 
 -- what is within a range is not large
 within_small : (low high : ℕ) (n : ℤ) → suc low ≤ high →
@@ -80,17 +87,6 @@ hotbar (pos n) hand e = step (nat_lt n 9) refl e
     step true t e = subst (λ (m : ℕ). m < 9) (some_is n hand e) (ltb-true n 9 t)
     step false t e = absurd cc
 hotbar (negsuc n) hand e = absurd cc
-
--- there is room for one more dropped item and one more number
-pub record HasRoom (g : Game) : Type 0 where
-  pub lying : dropped_in g.entities < 4096
-  pub given : g.eids < 2147483647
-
--- as the test for it has it
-has_room : (g : Game) → nat_lt 0 (room_in g) ≡ true → HasRoom g
-has_room g test =
-    let some = ltb-true 0 (room_in g) test in
-    record { lying = omega (arith, some); given = omega (arith, some) }
 
 -- what a test for digging says
 record CanDig (p : Player) (cell : Cell) (g : Game) : Type 0 where
@@ -199,52 +195,66 @@ module _ (H : Type 0) (k : ℕ) (p : Player) (g : Game) (there : get g.players k
 
   -- ---- digging and dropping
 
-  dug_made : (cell : Cell) → can_dig p cell g ≡ true → Makes (dug cell g)
-  dug_made cell test = record {
-    games = with_state cell 0 g ∷ fallen.games;
-    deeds = (sets cell 0 can.inside (λ t. air) refl, fallen.deeds);
-    even = λ w id damage some low. (let sort = sort_of id damage in
-        let rest = fallen.even w id damage some low in
-        let one = dug_counts id damage (state_in g cell) low in
-        let none = air_counts id damage some in
-        let all = sum_by-cons (λ (x : Item). held sort (Full x)) (block_item (state_in g cell))
-        (stacks_at cell g) in
-        let stacks = chest_held sort (chest_at g cell) in
-        let gone = none_comes sort cell 0 g refl in
-        omega (arith, rest, one, none, all, stacks, gone));
-  }
+  -- it becomes air, and what comes of it lies there
+  emptied_made : (cell : Cell) → can_dig p cell g ≡ true →
+      Makes (all_thrown (dug_items cell g) (floor_of cell) (with_state cell 0 g))
+  emptied_made cell test =
+      first (GoodGame g) (GoodGame g × Told g) H k (λ (sort : Sort). 0)
+      (λ (sort : Sort). in_items sort (dug_items cell g)) g (with_state cell 0 g) _
+      (sets cell 0 can.inside (λ t. air) refl)
+      (λ w id damage some low. let sort = sort_of id damage in
+      let one = dug_counts id damage (state_in g cell) low in
+      let none = air_counts id damage some in
+      let all = sum_by-cons (λ (x : Item). held sort (Full x)) (block_item (state_in g cell))
+      (stacks_at cell g) in
+      let stacks = chest_held sort (chest_at g cell) in
+      let gone = none_comes sort cell 0 g refl in
+      omega (arith, one, none, all, stacks, gone))
+      (all_thrown_made (GoodGame g) (GoodGame g × Told g) H k (dug_items cell g) (floor_of cell)
+      (with_state cell 0 g)
+      (λ t. (
+        block_is_item (state_in g cell) (cell_told g cell t.1) can.solid,
+        chest_are (chest_at g cell) (lies_chest g cell t.0.1),
+      ))
+      (λ t. floor_fits cell can.inside) (omega (arith, room)) (omega (arith, room)))
     where
       can : CanDig p cell g
       can = dig_tests p cell g test
 
-      fallen : MadeWith (GoodGame g) (GoodGame g × Told g) H k
-          (λ (sort : Sort). in_items sort (dug_items cell g)) (with_state cell 0 g) (dug cell g)
-      fallen = let room = can.room in
-          all_thrown_made (GoodGame g) (GoodGame g × Told g) H k (dug_items cell g) (floor_of cell)
-          (with_state cell 0 g) (dug cell g)
-          (λ t. (
-            block_is_item (state_in g cell) (cell_told g cell t.1) can.solid,
-            chest_are (chest_at g cell) (λ piles there. t.0.1.chests _ piles there),
-          ))
-          (λ t. floor_fits cell can.inside) (omega (arith, room)) (omega (arith, room))
-          (untouched (GoodGame g) (GoodGame g × Told g) H k (dug cell g))
+      room : length (dug_items cell g) ≤ room_in g
+      room = can.room
+
+  -- then the windows on it close
+  dug_made : (cell : Cell) → can_dig p cell g ≡ true → Makes (dug cell g)
+  dug_made cell test = join (GoodGame g) (GoodGame g × Told g) H k g fallen (dug cell g) made
+      (shut_all_made (GoodGame g) (GoodGame g × Told g) H k (viewers cell g) fallen
+      (λ w. (made_good _ _ _ k g fallen made w w).0)
+      (λ t. (t.0, made_told _ _ _ k g fallen made t.0 t t.0.0 t.1)))
+    where
+      fallen : Game
+      fallen = all_thrown (dug_items cell g) (floor_of cell) (with_state cell 0 g)
+
+      made : Makes fallen
+      made = emptied_made cell test
 
   dropped_made : (item : Item) (n : ℕ) → (IsItem item → 1 ≤ n) → n ≤ item.count →
       held_by g p ≡ Full item →
       HasRoom g → Makes (dropped p item n g)
-  dropped_made item n some few is room = record {
-    games = carrying p left g ∷ dropped p item n g ∷ [];
-    deeds = (
-      repacks p (with_hand left p.hand (pack_of g p)) there (handed_pack left
-          (λ w. left_is_pile item n (held_is_item g p item is w.0))) refl,
-      (throws (record item { count = n }) (feet_of p g) can refl, refl),
-    );
-    even = λ w id damage one low. (let sort = sort_of id damage in
-        let parts = parted sort item n few in
-        let held_is = ap (held sort) is in
-        let handed = pack_handed sort left p.hand (pack_of g p) (hand_within k p g there w.0) in
-        omega (arith, parts, held_is, handed));
-  }
+  dropped_made item n some few is room =
+      first (GoodGame g) (GoodGame g × Told g) H k (λ (sort : Sort). 0)
+      (λ (sort : Sort). held sort (Full (record item { count = n }))) g (carrying p left g) _
+      (repacks k p (with_hand left p.hand (pack_of g p)) there (handed_pack left
+      (λ w. left_is_pile item n (held_is_item g p item is w.0))) refl)
+      (λ w id damage one low. let sort = sort_of id damage in
+      let parts = parted sort item n few in
+      let held_is = ap (held sort) is in
+      let handed = pack_handed sort left p.hand (pack_of g p) (hand_within k p g there w.0) in
+      omega (arith, parts, held_is, handed))
+      (first (GoodGame g) (GoodGame g × Told g) H k
+      (λ (sort : Sort). held sort (Full (record item { count = n }))) (λ (sort : Sort). 0)
+      (carrying p left g) (dropped p item n g) _
+      (throws (record item { count = n }) (feet_of p g) can refl)
+      (λ w id damage one low. omega arith) (untouched _ _ _ _ _))
     where
       left : Pile
       left = without (Full item) n
@@ -311,7 +321,7 @@ module _ (H : Type 0) (k : ℕ) (p : Player) (g : Game) (there : get g.players k
       sets target (item_state item) test.0
           (λ t. item_state_is item (held_is_item g p item is t.0.0)) refl,
       (
-        repacks p (with_hand left p.hand (pack_of g p)) there
+        repacks k p (with_hand left p.hand (pack_of g p)) there
             (handed_pack left (λ w. left_is_pile item 1 (held_is_item g p item is w.0))) refl,
         refl,
       ),
@@ -350,6 +360,32 @@ module _ (H : Type 0) (k : ℕ) (p : Player) (g : Game) (there : get g.players k
       step (Full item) is = by_test _ _ (is_free g target)
           (λ free. placed_made target item is free) (λ taken. refused cell target)
 
+  -- ---- the window
+
+  closes : Makes (shut k p g)
+  closes = shut_made (GoodGame g) (GoodGame g × Told g) H k k p g there (λ t. t) (λ w. w.0)
+
+  -- it is shown a chest, whoever closed its window before
+  opened_made : (cell : Cell) (u : Game) (q : Player) → get u.players k ≡ Some q →
+      (GoodGame g → Good u) →
+      Made (GoodGame g) (GoodGame g × Told g) H k u (opened k q cell u)
+  opened_made cell u q here good =
+      before (GoodGame g) (GoodGame g × Told g) H k u (repack_of q (begun_pack (pack_of u q)) u) _
+      (repacks k q (begun_pack (pack_of u q)) here
+      (λ w. let is = named_is_pack u q.name (good w) in
+      record { size = is.size; are_piles = is.are_piles; is_pile = is.is_pile }) refl)
+      (λ id damage. refl)
+      (watched_made (GoodGame g) (GoodGame g × Told g) H k k (Some cell) _)
+
+  open_made : (cell : Cell) → Makes (open_chest k p cell g)
+  open_made cell = step (is_some p.chest)
+    where
+      step : (b : Bool) → Makes (opened k p cell (if b then shut k p g else g))
+      step true = join (GoodGame g) (GoodGame g × Told g) H k g (shut k p g) _ closes
+          (opened_made cell (shut k p g) (closed (nat_lt 0 (room_in g)) p)
+          (shut_here k p g there) (λ w. shut_good k p g there w.0))
+      step false = opened_made cell g p there (λ w. w.0)
+
   pub place_made : (cell : Cell) (face : ℤ) → Makes (place_on k p cell face g)
   place_made cell face = step (at_face cell face)
     where
@@ -357,75 +393,129 @@ module _ (H : Type 0) (k : ℕ) (p : Player) (g : Game) (there : get g.players k
       step None = stays
       step (Some target) = by_test _ _ (not (is_in_reach g p cell))
           (λ far. refused cell target)
-          (λ near. by_test _ _ (is_chest (state_in g cell)) (λ chest. stays)
+          (λ near. by_test _ _ (is_chest (state_in g cell)) (λ chest. open_made cell)
           (λ other. put_made cell target))
 
-  -- ---- the window
+  -- ---- clicks
 
-  -- where it carries a pack, something more can lie at its feet
-  can_fall : (pack : PackValue) (item : Item) → (GoodGame g → IsPack pack.slots pack.cursor) →
-      (GoodGame g → IsItem item) → HasRoom g → GoodGame g × Told g →
-      CanCome (kinds.Dropped item g.age) (feet_of p (repack_of p pack g))
-      (repack_of p pack g).entities g.eids
-  can_fall pack item is it room t =
-      let inside = in_hand pack p.hand in
-      let told = holding_told p.eid inside g.edits g.entities g.eids
-      ((is t.0).are_piles (27 + p.hand)) t.1 in
-      let at = spot_told (repack_of p pack g) p told in
-      let same = dropped_held p.eid inside g.entities in
-      let lying = room.lying in
-      record {
-        kind_is = it t.0;
-        named = tt;
-        place = record {
-          x = at.x;
-          y = at.y;
-          z = at.z;
-          yaw = omega arith;
-          pitch = omega arith;
-        };
-        room = omega (arith, lying, same);
-        given = room.given;
-      }
+  module _ (click : Click) where
+    abbrev room : Bool
+    room = nat_lt 0 (room_in g)
 
-  -- it carries another pack, what is no more in that falls, and more is done
-  falls : (pack : PackValue) (pile : Pile) (v : Game) →
-      (GoodGame g → IsPack pack.slots pack.cursor) → (GoodGame g → IsPile pile) →
-      ((item : Item) → pile ≡ Full item → HasRoom g) →
-      ((sort : Sort) → in_pack sort pack + held sort pile ≡ in_pack sort (pack_of g p)) →
-      Made (GoodGame g) (GoodGame g × Told g) H k (let_fall p pile (repack_of p pack g)) v → Makes v
-  falls pack Empty v is pile_is room whole later = record {
-    games = repack_of p pack g ∷ later.games;
-    deeds = (repacks p pack there is refl, later.deeds);
-    even = λ w id damage some low. (let keeps = whole (sort_of id damage) in
-        let rest = later.even w id damage some low in omega (arith, keeps, rest));
-  }
-  falls pack (Full item) v is pile_is room whole later = record {
-    games = repack_of p pack g ∷ let_fall p (Full item) (repack_of p pack g) ∷ later.games;
-    deeds = (
-      repacks p pack there is refl,
-      (
-        throws item (feet_of p (repack_of p pack g))
-            (λ t. can_fall pack item is pile_is (room item refl) t) refl,
-        later.deeds,
-      ),
-    );
-    even = λ w id damage some low. (let keeps = whole (sort_of id damage) in
-        let rest = later.even w id damage some low in omega (arith, keeps, rest));
-  }
+    abbrev answer : Clicked
+    answer = answer_of (outcome (pack_of g p) (chest_of g p) click room)
 
-  pub press_made : (click : Click) → (H → AnswersFit click) → Makes (press k p click g)
-  press_made click fits =
-      let room = nat_lt 0 (room_in g) in
-      let came = outcome (pack_of g p) None click room in
-      let holds : GoodGame g → Holds (left_by (pack_of g p) None click.number came) = λ w.
-      click_holds (pack_of g p) None click room click.number (named_is_pack g p.name w.0) tt in
-      falls (pack_after (pack_of g p) click.number came) (drops (answer_of came)) _
-      (λ w. (holds w).pack) (λ w. (holds w).floor)
-      (λ item is. has_room g (drops_with_room (pack_of g p) None click room item is))
-      (λ sort. alone_keeps sort (pack_of g p) click room click.number)
-      (by_notes (GoodGame g) (GoodGame g × Told g) H k k (answering click (answer_of came))
-      (λ t h notes fit. answering_fits click (answer_of came) notes (fits h) fit) _)
+    abbrev pack : PackValue
+    pack = pack_after (pack_of g p) click.number (outcome (pack_of g p) (chest_of g p) click room)
+
+    abbrev left : Option (List Pile)
+    left = chest_after (chest_of g p) (outcome (pack_of g p) (chest_of g p) click room)
+
+    abbrev out : Pile
+    out = drops answer
+
+    -- what lies in the chest that it is shown, if it is shown one, is what a chest holds
+    shown : GoodGame g → IsShown (chest_of g p)
+    shown w = step p.chest
+      where
+        there_is : (o : Option (List Pile)) →
+            ((piles : List Pile) → o ≡ Some piles → IsChest piles) → IsShown o
+        there_is None are = tt
+        there_is (Some piles) are = are piles refl
+
+        step : (o : Option Cell) → IsShown (option_and_then (chest_at g) o)
+        step None = tt
+        step (Some cell) = there_is (chest_at g cell) (lies_chest g cell w.1)
+
+    holds : GoodGame g → Holds (left_by (pack_of g p) (chest_of g p) click.number
+        (outcome (pack_of g p) (chest_of g p) click room))
+    holds w = click_holds (pack_of g p) (chest_of g p) click room click.number
+        (named_is_pack g p.name w.0) (shown w)
+
+    keeps : (sort : Sort) → in_pack sort pack + (in_chest sort left + held sort out)
+        ≡ in_pack sort (pack_of g p) + in_chest sort (chest_of g p)
+    keeps sort = click_keeps sort (pack_of g p) (chest_of g p) click room
+        click.number
+
+    still : is_some left ≡ is_some (chest_of g p)
+    still = chest_stays (pack_of g p) (chest_of g p) click room
+
+    abbrev repacked : Deed (GoodGame g) (GoodGame g × Told g) H k g (repack_of p pack g)
+    repacked = repacks k p pack there (λ w. (holds w).pack) refl
+
+    -- what is dropped falls, and the click is answered
+    answered : (H → AnswersFit click) → (u : Game) → ((item : Item) → out ≡ Full item →
+        GoodGame g × Told g → CanCome (kinds.Dropped item u.age) (feet_of p u) u.entities u.eids) →
+        MadeWith (GoodGame g) (GoodGame g × Told g) H k (λ (sort : Sort). held sort out) u
+        (noting (answering click answer) k (let_fall p out u))
+    answered fits u can = falls (GoodGame g) (GoodGame g × Told g) H k p u _ out can
+        (by_notes (GoodGame g) (GoodGame g × Told g) H k k (answering click answer)
+        (λ t h notes fit. answering_fits click answer notes (fits h) fit) _)
+
+    can : (item : Item) → out ≡ Full item → GoodGame g × Told g →
+        CanCome (kinds.Dropped item g.age) (feet_of p (repack_of p pack g))
+        (repack_of p pack g).entities g.eids
+    can item full = can_fall (GoodGame g) (GoodGame g × Told g) H k k p g there (λ t. t) pack item
+        (λ w. (holds w).pack) (λ w. subst IsPile full (holds w).floor)
+        (has_room g (drops_with_room (pack_of g p) (chest_of g p) click room
+        item full))
+
+    -- where it is shown no chest
+    alone : (H → AnswersFit click) → left ≡ None → Makes (noting (answering click answer)
+        k (let_fall p out (repack_of p pack g)))
+    alone fits none =
+        first (GoodGame g) (GoodGame g × Told g) H k (λ (sort : Sort). 0)
+        (λ (sort : Sort). held sort out) g (repack_of p pack g) _ repacked
+        (λ w id damage some low. let keep = keeps (sort_of id damage) in
+        let after = ap (in_chest (sort_of id damage)) none in
+        let before = ap (in_chest (sort_of id damage))
+        (none_left (chest_of g p) (sym still ∙ ap is_some none)) in
+        omega (arith, keep, after, before))
+        (answered fits (repack_of p pack g) can)
+
+    -- and where it is shown one
+    beside : (H → AnswersFit click) → (cell : Cell) (piles : List Pile) → p.chest ≡ Some cell →
+        left ≡ Some piles → Makes (noting (answering click answer) k (let_fall p out
+        (restocked cell piles (repack_of p pack g))))
+    beside fits cell piles at is = record {
+      games = repack_of p pack g ∷ restocked cell piles (repack_of p pack g) ∷ later.games;
+      deeds = (
+        repacked,
+        (
+          restocks cell piles (sym (ap is_some chest_is) ∙ sym still ∙ ap is_some is)
+              (λ w. subst IsShown is (holds w).chest) refl,
+          later.deeds,
+        ),
+      );
+      even = λ w id damage some low. (let keep = keeps (sort_of id damage) in
+          let rest = later.even w id damage some low in
+          let after = ap (in_chest (sort_of id damage)) is in
+          let before = ap (in_chest (sort_of id damage)) chest_is in
+          omega (arith, keep, rest, after, before));
+    }
+      where
+        chest_is : chest_of g p ≡ chest_at g cell
+        chest_is = ap (option_and_then (chest_at g)) at
+
+        later : MadeWith (GoodGame g) (GoodGame g × Told g) H k (λ (sort : Sort). held sort out)
+            (restocked cell piles (repack_of p pack g)) (noting (answering click answer) k
+            (let_fall p out (restocked cell piles (repack_of p pack g))))
+        later = answered fits (restocked cell piles (repack_of p pack g)) can
+
+    pub press_made : (H → AnswersFit click) → Makes (press k p click g)
+    press_made fits = step p.chest left refl refl
+      where
+        step : (o : Option Cell) (l : Option (List Pile)) → p.chest ≡ o → left ≡ l →
+            Makes (noting (answering click answer) k (let_fall p out
+            (restocking o l (repack_of p pack g))))
+        step None None at is = alone fits is
+        step (Some cell) None at is = alone fits is
+        step (Some cell) (Some piles) at is = beside fits cell piles at is
+        step None (Some piles) at is = (let clash : false ≡ true =
+            sym (still ∙ ap (λ (o : Option Cell). is_some (option_and_then (chest_at g) o)) at)
+            ∙ ap is_some is in absurd cc)
+
+  -- ---- confirming and closing
 
   pub confirm_made : (window : ℕ) (number : ℤ) → Makes (confirm p window number g)
   confirm_made window number = step (window == pack.window && is_waiting_for number pack.waiting)
@@ -435,28 +525,11 @@ module _ (H : Type 0) (k : ℕ) (p : Player) (g : Game) (there : get g.players k
 
       step : (b : Bool) →
           Makes (repack_of p (if b then record pack { waiting = None } else pack) g)
-      step true = by_one (repacks p (record pack { waiting = None }) there
+      step true = by_one (repacks k p (record pack { waiting = None }) there
           (λ w. named_is_pack g p.name w.0) refl) (λ id damage. refl)
-      step false = by_one (repacks p pack there (λ w. named_is_pack g p.name w.0) refl)
+      step false = by_one (repacks k p pack there (λ w. named_is_pack g p.name w.0) refl)
           (λ id damage. refl)
 
-  shut_made : Makes (shut k p g)
-  shut_made = by_test _ _ (nat_lt 0 (room_in g))
-      (λ test. falls (finished_pack pack) pack.cursor _
-      (λ w. record { size = (is w).size; are_piles = (is w).are_piles; is_pile = tt })
-      (λ w. (is w).is_pile) (λ item full. has_room g test) (λ sort. omega arith)
-      (untouched (GoodGame g) (GoodGame g × Told g) H k _))
-      (λ full. before (GoodGame g) (GoodGame g × Told g) H k g (repack_of p (kept_in_hand pack) g) _
-      (repacks p (kept_in_hand pack) there is refl) (λ id damage. refl)
-      (by_notes (GoodGame g) (GoodGame g × Told g) H k k again (λ t h notes fit. fit)
-      (repack_of p (kept_in_hand pack) g)))
-    where
-      pack : PackValue
-      pack = pack_of g p
-
-      is : GoodGame g → IsPack pack.slots pack.cursor
-      is w = named_is_pack g p.name w.0
-
   pub close_made : (window : ℕ) → Makes (close k p window g)
-  close_made window = by_test _ _ (window == (pack_of g p).window) (λ shown. shut_made)
+  close_made window = by_test _ _ (window == (pack_of g p).window) (λ shown. closes)
       (λ other. stays)

@@ -1,13 +1,14 @@
--- The chests of a game stand just where its land has them, also once a cell was set, and once
--- players came or left.
+-- The chests of a game stand just where its land has them, also once a cell was set, and once other
+-- piles lie in one.
 use Rattle.std.proofs.Common.{◌≡◌, ℕ, ◌<◌, Bool, true, false, cond, List, [], ◌∷◌, Option, Some}
 use Rattle.std.proofs.Common.{None, refl, sym, subst, ap, ◌∙◌, arith}
-use Rattle.std.specs.Prelude.{◌==◌, is_some, unsigned_abs, unwrap_or, if◌then◌else◌}
+use Rattle.std.specs.Prelude.{◌==◌, is_some, nat_lt, unsigned_abs, unwrap_or, if◌then◌else◌}
 use Rattle.std.proofs.lemmas.Bool.{eqb-true}
 use Rattle.std.proofs.lemmas.Bool.Decides.{nat_tests}
 use Rattle.std.specs.Cmp.{tied_itself}
 use Rattle.std.specs.Ordering.{eq_by_cmp, is_eq}
-use Rattle.std.specs.FinMap.{FinMap, get, get-empty, get-insert, get-remove}
+use Rattle.std.specs.FinMap.{FinMap, get, get-empty, get-insert, get-remove, insert}
+use lib.IntN.{ℤ, pos, negsuc}
 use Rattle.mc_fields.specs.declared.position.Cell.{Cell}
 use Rattle.mc_slots.specs.declared.pile.Pile.{Pile}
 use Rattle.mc_slots.specs.Chest.{IsChest, empty_chest, empty_is_chest}
@@ -19,13 +20,12 @@ use Rattle.mc_land.proofs.Orders.{exact_keys, keys_total}
 use Rattle.mc_windows.specs.Stock.{in_chest}
 use Rattle.mc_model.specs.declared.settings.Settings.{Settings}
 use Rattle.mc_model.specs.Game.{Game, chest_at, new_game, state_in}
-use Rattle.mc_model.specs.Deeds.{with_state}
-use Rattle.mc_model.specs.Leaving.{leave, leave_all}
+use Rattle.mc_model.specs.Deeds.{restocked, with_state}
 use Rattle.mc_model.specs.Good.{AreChests, Good}
 use Rattle.mc_model.specs.Reach.{is_in_world}
+use Rattle.mc_model.specs.Things.{chest_of_cell, chest_put}
 use Rattle.mc_model.proofs.Maps.Options.{none_some, some_is}
 use Rattle.mc_model.proofs.Maps.Sorted.{equal}
-use Rattle.mc_laws.proofs.Deeds.Leaving.{leave_cases}
 use Rattle.mc_laws.proofs.Fits.Told.{terrain_small}
 
 -- what acts rest on, and keep
@@ -127,18 +127,86 @@ pub state_inside : (g : Game) (cell : Cell) → is_in_world cell ≡ true → st
     ≡ state_at g.settings.terrain g.edits (key_of cell.x (unsigned_abs cell.y) cell.z)
 state_inside g cell inside = grind (arith, nat_tests)
 
+-- and its chest
+pub chest_inside : (g : Game) (cell : Cell) → is_in_world cell ≡ true →
+    chest_at g cell ≡ get g.chests (key_of cell.x (unsigned_abs cell.y) cell.z)
+chest_inside g cell inside = grind (arith, nat_tests)
+
 pub with_state_chests : (cell : Cell) (state : ℕ) (g : Game) → is_in_world cell ≡ true →
     AreChests g → AreChests (with_state cell state g)
 with_state_chests cell state g inside a = record {
   chests = λ q piles. set_are g.chests key (state_in g cell) state q piles a.chests;
-  stand = λ other within. set_stand g.chests key (state_in g cell) state g.settings.terrain g.edits
-      (key_of other.x (unsigned_abs other.y) other.z) (a.stand cell inside)
-      (a.stand other within ∙ ap is_chest (state_inside g other within))
+  stand = λ other within. ap is_some (chest_inside (with_state cell state g) other within)
+      ∙ set_stand g.chests key (state_in g cell) state g.settings.terrain g.edits
+      (key_of other.x (unsigned_abs other.y) other.z)
+      (sym (ap is_some (chest_inside g cell inside)) ∙ a.stand cell inside)
+      (sym (ap is_some (chest_inside g other within)) ∙ a.stand other within
+      ∙ ap is_chest (state_inside g other within))
       ∙ sym (ap is_chest (state_inside (with_state cell state g) other within));
 }
   where
     key : Key
     key = key_of cell.x (unsigned_abs cell.y) cell.z
+
+-- ---- other piles in a chest
+
+-- the key under which the piles of a chest are found that is there
+pub record StandsAt (chests : FinMap key_cmp (List Pile)) (x y z : ℤ) : Type 0 where
+  pub key : Key
+  pub found : chest_of_cell chests x y z ≡ get chests key
+  pub put : (piles : List Pile) → chest_put chests x y z piles ≡ insert chests key piles
+
+pub stands_at : (chests : FinMap key_cmp (List Pile)) (x y z : ℤ) →
+    is_some (chest_of_cell chests x y z) ≡ true → StandsAt chests x y z
+stands_at chests x (pos y) z there = record {
+  key = key_of x y z;
+  found = inside (nat_lt y 256) there;
+  put = λ piles. refl;
+}
+  where
+    inside : (b : Bool) → is_some (if b then get chests (key_of x y z) else None) ≡ true →
+        (if b then get chests (key_of x y z) else None) ≡ get chests (key_of x y z)
+    inside true there = refl
+    inside false there = absurd cc
+stands_at chests x (negsuc y) z there = absurd cc
+
+-- chests stand where they stood, where the same keys are there
+same_stand : (m n : FinMap key_cmp (List Pile)) →
+    ((q : Key) → is_some (get n q) ≡ is_some (get m q)) → (x y z : ℤ) →
+    is_some (chest_of_cell n x y z) ≡ is_some (chest_of_cell m x y z)
+same_stand m n same x (pos y) z = grind (arith, nat_tests, same (key_of x y z))
+same_stand m n same x (negsuc y) z = refl
+
+pub restocked_chests : (cell : Cell) (piles : List Pile) (g : Game) →
+    is_some (chest_at g cell) ≡ true → IsChest piles → AreChests g →
+    AreChests (restocked cell piles g)
+restocked_chests cell piles g there is a = record {
+  chests = rw at.put (λ q others found. of_key q others (eq_by_cmp key_cmp q at.key)
+      (sym (get-insert keys_total g.chests at.key piles q) ∙ found));
+  stand = λ other within. same_stand g.chests (restocked cell piles g).chests
+      (λ q. rw (at.put, get-insert keys_total g.chests at.key piles q) (same q)) other.x other.y
+      other.z ∙ a.stand other within;
+}
+  where
+    at : StandsAt g.chests cell.x cell.y cell.z
+    at = stands_at g.chests cell.x cell.y cell.z there
+
+    of_key : (q : Key) (others : List Pile) (b : Bool) →
+        cond b (Some piles) (get g.chests q) ≡ Some others → IsChest others
+    of_key q others true found = subst IsChest (some_is piles others found) is
+    of_key q others false found = a.chests q others found
+
+    same : (q : Key) → is_some (cond (eq_by_cmp key_cmp q at.key) (Some piles) (get g.chests q))
+        ≡ is_some (get g.chests q)
+    same q = step (eq_by_cmp key_cmp q at.key) refl
+      where
+        step : (b : Bool) → eq_by_cmp key_cmp q at.key ≡ b →
+            is_some (cond b (Some piles) (get g.chests q)) ≡ is_some (get g.chests q)
+        step true t = sym (ap (λ (key : Key). is_some (get g.chests key))
+            (exact_keys q at.key (equal _ t)) ∙ ap is_some (sym at.found) ∙ there)
+        step false t = refl
+
+-- ---- other games
 
 -- the same chests in the same land
 pub same_chests : {g v : Game} → v.settings ≡ g.settings → v.edits ≡ g.edits →
@@ -147,14 +215,6 @@ same_chests settings edits chests a = record {
   chests = rw chests a.chests;
   stand = rw (settings, edits, chests) a.stand;
 }
-
-pub leave_chests : (k : ℕ) (g : Game) → AreChests g → AreChests (leave k g)
-leave_chests k g a =
-    leave_cases k g AreChests (λ none. a) (λ p there. same_chests refl refl refl a)
-
-pub leave_all_chests : (ks : List ℕ) (g : Game) → AreChests g → AreChests (leave_all ks g)
-leave_all_chests [] g a = a
-leave_all_chests (k ∷ ks) g a = leave_all_chests ks (leave k g) (leave_chests k g a)
 
 -- no terrain has a chest
 small_no_chest : (state : ℕ) → state < 256 → is_chest state ≡ false
@@ -165,7 +225,7 @@ new_chests settings = record {
   chests = λ key piles there. absurd (none_some _ piles (get-empty key_cmp key) there);
   stand = λ cell inside.
       let key = key_of cell.x (unsigned_abs cell.y) cell.z in
-      ap is_some (get-empty key_cmp key)
+      ap is_some (chest_inside (new_game settings) cell inside ∙ get-empty key_cmp key)
       ∙ sym (ap is_chest (state_inside (new_game settings) cell inside
       ∙ ap (λ (o : Option ℕ). unwrap_or o (terrain_at settings.terrain key))
       (get-empty key_cmp key))
@@ -173,6 +233,12 @@ new_chests settings = record {
 }
 
 -- ---- what lies in a cell
+
+-- what lies in a chest is what a chest holds
+pub lies_chest : (g : Game) (cell : Cell) → AreChests g → (piles : List Pile) →
+    chest_at g cell ≡ Some piles → IsChest piles
+lies_chest g cell a piles is = (let at = stands_at g.chests cell.x cell.y cell.z (ap is_some is) in
+    a.chests at.key piles (sym at.found ∙ is))
 
 -- nothing where it is no chest
 pub none_lies : (sort : Sort) (cell : Cell) (g : Game) → is_in_world cell ≡ true → AreChests g →

@@ -1,40 +1,78 @@
 -- What is left of a game that players leave, one or several.
-use Rattle.std.proofs.Common.{◌≡◌, ◌≢◌, ℕ, Bool, true, false, cond, List, [], ◌∷◌, Option, Some}
-use Rattle.std.proofs.Common.{None, refl, sym, subst, ap, ◌∙◌, inl, inr}
-use Rattle.std.specs.Prelude.{◌&&◌, ◌||◌, is_some}
+use Rattle.std.proofs.Common.{◌≡◌, ◌≢◌, ℕ, ◌≤◌, Bool, true, false, cond, List, [], ◌∷◌, Option}
+use Rattle.std.proofs.Common.{Some, None, refl, sym, subst, ap, ◌∙◌, inl, inr, arith}
+use Rattle.std.specs.Prelude.{◌&&◌, ◌||◌, is_some, nat_lt, if◌then◌else◌}
 use Rattle.std.proofs.lemmas.Bool.{cases_eq}
 use Rattle.std.specs.List.{filter, fold, list_any}
 use Rattle.std.specs.Ordering.{nat_cmp, eq_by_cmp}
 use Rattle.std.specs.FinMap.{contains_key-keys, empty, get, keys}
+use lib.IntN.{pos}
+use Rattle.mc_slots.specs.declared.pile.Pile.{Pile}
+use Rattle.mc_slots.specs.declared.pile.Pile.TheVariants.{Empty, Full}
+use Rattle.mc_windows.specs.Pack.{finished_pack}
 use Rattle.mc_model.specs.declared.player.Player.{Player}
-use Rattle.mc_model.specs.Game.{Game}
-use Rattle.mc_model.specs.Deeds.{go_of}
-use Rattle.mc_model.specs.Leaving.{leave, leave_all, of_player}
-use Rattle.mc_model.specs.Good.{Good}
+use Rattle.mc_model.specs.Notes.{again}
+use Rattle.mc_model.specs.Game.{Game, of_player, pack_of, room_in}
+use Rattle.mc_model.specs.Deeds.{go_of, noting, repack_of, watching}
+use Rattle.mc_model.specs.Leaving.{leave, leave_all}
+use Rattle.mc_model.specs.Windows.{kept_in_hand, let_fall, shut}
+use Rattle.mc_model.specs.Good.{AreChests, Good}
+use Rattle.mc_model.specs.Fitting.{Told}
 use Rattle.mc_model.proofs.Maps.Lookups.{gone_other, gone_same, tied_number, untied_number}
+use Rattle.mc_laws.proofs.Deeds.Chests.{same_chests}
 use Rattle.mc_laws.proofs.Deeds.Coming.{go_good}
+use Rattle.mc_laws.proofs.Deeds.Kept.{deeds_keep}
+use Rattle.mc_laws.proofs.Deeds.Made.{Deed}
+use Rattle.mc_laws.proofs.Deeds.Shutting.{closed, shut_good, shut_here, shut_on, shut_other}
+use Rattle.mc_laws.proofs.Deeds.Shutting.{shut_told, shuts}
+use Rattle.mc_laws.proofs.Fits.Told.{without_told}
 
--- what holds of a game without its player and of one where it has none, holds of the game it leaves
+-- What holds of a game without its player, and of one where it has one, whose window closed and
+-- which goes then, holds of the game that it leaves.
 pub leave_cases : (k : ℕ) (g : Game) (P : Game → Type 0) → (get g.players k ≡ None → P g) →
-    ((p : Player) → get g.players k ≡ Some p → P (go_of k p g)) → P (leave k g)
+    ((p : Player) → get g.players k ≡ Some p → P (go_of k p (shut k p g))) → P (leave k g)
 unfolding leave
 leave_cases k g P none some = step (get g.players k) refl
   where
     step : (o : Option Player) → get g.players k ≡ o →
-        P (of_player g (λ (p : Player). go_of k p g) o)
+        P (of_player g (λ (p : Player). go_of k p (shut k p g)) o)
     step None is = none is
     step (Some p) is = some p is
 
+-- what each deed keeps, and going too, leaving does
+pub leave_keeps : (P : Game → Type 0) (k : ℕ) (g : Game) →
+    ((u v : Game) → Deed (Good g) (Good g × Told g) (Unit {0}) k u v → Good u → P u → P v) →
+    ((v : Game) (q : Player) → get v.players k ≡ Some q → Good v → P v → P (go_of k q v)) →
+    Good g → P g → P (leave k g)
+leave_keeps P k g each goes w holds = leave_cases k g P (λ none. holds) (λ p there.
+    let made = shuts k p g there in
+    goes (shut k p g) (closed (nat_lt 0 (room_in g)) p) (shut_here k p g there)
+    (shut_good k p g there w)
+    (deeds_keep _ _ _ k P each w g made.games (shut k p g) made.deeds w holds))
+
 pub leave_good : (k : ℕ) (g : Game) → Good g → Good (leave k g)
-leave_good k g w = leave_cases k g Good (λ none. w) (λ p there. go_good k p g there w)
+leave_good k g w = leave_cases k g Good (λ none. w) (λ p there.
+    go_good k (closed (nat_lt 0 (room_in g)) p) (shut k p g) (shut_here k p g there)
+    (shut_good k p g there w))
+
+pub leave_told : (k : ℕ) (g : Game) → Good g → Told g → Told (leave k g)
+leave_told k g w t = leave_cases k g (λ (v : Game). Told v) (λ none. t) (λ p there.
+    let v : Game = shut k p g in
+    without_told (pos p.eid) v.edits v.entities v.eids (shut_told k p g there w t))
 
 pub leave_same : (k : ℕ) (g : Game) → get (leave k g).players k ≡ None
 leave_same k g = leave_cases k g (λ (v : Game). get v.players k ≡ None) (λ none. none)
-    (λ p there. gone_same g.players k)
+    (λ p there. gone_same (shut k p g).players k)
 
 pub leave_other : (k j : ℕ) (g : Game) → j ≢ k → get (leave k g).players j ≡ get g.players j
 leave_other k j g ne = leave_cases k g (λ (v : Game). get v.players j ≡ get g.players j)
-    (λ none. refl) (λ p there. gone_other g.players k j ne)
+    (λ none. refl)
+    (λ p there. gone_other (shut k p g).players k j ne ∙ shut_other k j p g ne)
+
+-- no number of an entity is given back
+pub leave_more : (k : ℕ) (g : Game) → g.eids ≤ (leave k g).eids
+leave_more k g = leave_cases k g (λ (v : Game). g.eids ≤ v.eids) (λ none. omega arith)
+    (λ p there. (shut_on k p g there).more)
 
 -- where there is nobody, nothing changes
 pub leave_nobody : (k : ℕ) (g : Game) → get g.players k ≡ None → leave k g ≡ g
@@ -47,7 +85,19 @@ leave_nobody k g none = leave_cases k g (λ (v : Game). v ≡ g) (λ is. refl)
 abbrev pub bare : Game → Game
 bare g = record g { entities = []; packs = empty }
 
+-- and without its players and the numbers of entities, too
+abbrev pub unplayed : Game → Game
+unplayed g = record (bare g) { eids = 0; players = empty }
+
 -- what is read of two games that are the same without these
+pub record Stays (g v : Game) : Type 0 where
+  pub settings : v.settings ≡ g.settings
+  pub age : v.age ≡ g.age
+  pub edits : v.edits ≡ g.edits
+  pub chests : v.chests ≡ g.chests
+  pub lines : v.lines ≡ g.lines
+
+-- and of two that are the same but for entities and packs
 pub record Leaves (g v : Game) : Type 0 where
   pub settings : v.settings ≡ g.settings
   pub age : v.age ≡ g.age
@@ -57,9 +107,14 @@ pub record Leaves (g v : Game) : Type 0 where
   pub lines : v.lines ≡ g.lines
   pub players : v.players ≡ g.players
 
--- and without their players, too
-abbrev pub Stays : Game → Game → Type 0
-Stays g v = Leaves (record g { players = v.players }) v
+stays_so : (g v : Game) → unplayed v ≡ unplayed g → Stays g v
+stays_so g v same = record {
+  settings = λ i. (same i).settings;
+  age = λ i. (same i).age;
+  edits = λ i. (same i).edits;
+  chests = λ i. (same i).chests;
+  lines = λ i. (same i).lines;
+}
 
 pub leaves_so : (g v : Game) → bare v ≡ bare g → Leaves g v
 leaves_so g v same = record {
@@ -79,24 +134,45 @@ pub fold_same : {A : Type 0} (part : Game → Game) (f : Game → A → Game) �
 fold_same part f each [] g = refl
 fold_same part f each (x ∷ xs) g = fold_same part f each xs (f g x) ∙ each g x
 
+shut_unplayed : (k : ℕ) (p : Player) (g : Game) → unplayed (shut k p g) ≡ unplayed g
+shut_unplayed k p g = step (nat_lt 0 (room_in g)) (pack_of g p).cursor
+  where
+    step : (b : Bool) (pile : Pile) → unplayed (watching None k
+        (if b then let_fall p pile (repack_of p (finished_pack (pack_of g p)) g)
+        else noting again k (repack_of p (kept_in_hand (pack_of g p)) g))) ≡ unplayed g
+    step true Empty = refl
+    step true (Full item) = refl
+    step false pile = refl
+
+pub shut_stays : (k : ℕ) (p : Player) (g : Game) → Stays g (shut k p g)
+shut_stays k p g = stays_so g (shut k p g) (shut_unplayed k p g)
+
 pub leave_all_stays : (ks : List ℕ) (g : Game) → Stays g (leave_all ks g)
-leave_all_stays ks g = leaves_so _ (leave_all ks g)
-    (ap (λ (v : Game). record v { players = (leave_all ks g).players })
+leave_all_stays ks g = stays_so g (leave_all ks g)
     (fold_same unplayed (λ (h : Game) (k : ℕ). leave k h)
     (λ h k. leave_cases k h (λ (v : Game). unplayed v ≡ unplayed h) (λ none. refl)
-    (λ p there. refl)) ks g))
-  where
-    unplayed : Game → Game
-    unplayed v = record (bare v) { players = empty }
+    (λ p there. shut_unplayed k p h)) ks g)
 
 pub leave_stays : (k : ℕ) (g : Game) → Stays g (leave k g)
 leave_stays k = leave_all_stays (k ∷ [])
+
+pub leave_chests : (k : ℕ) (g : Game) → AreChests g → AreChests (leave k g)
+leave_chests k g a = (let s = leave_stays k g in same_chests s.settings s.edits s.chests a)
 
 -- ---- several
 
 pub leave_all_good : (ks : List ℕ) (g : Game) → Good g → Good (leave_all ks g)
 leave_all_good [] g w = w
 leave_all_good (k ∷ ks) g w = leave_all_good ks (leave k g) (leave_good k g w)
+
+pub leave_all_told : (ks : List ℕ) (g : Game) → Good g → Told g → Told (leave_all ks g)
+leave_all_told [] g w t = t
+leave_all_told (k ∷ ks) g w t =
+    leave_all_told ks (leave k g) (leave_good k g w) (leave_told k g w t)
+
+pub leave_all_chests : (ks : List ℕ) (g : Game) → AreChests g → AreChests (leave_all ks g)
+leave_all_chests ks g a =
+    (let s = leave_all_stays ks g in same_chests s.settings s.edits s.chests a)
 
 -- who is among them that pass a test has no player any more
 pub left_all : (test : ℕ → Bool) (ks : List ℕ) (g : Game) (j : ℕ) →

@@ -1,23 +1,25 @@
 -- Of which deeds an act is made, and what each of them rests on: the one relation that the laws of
 -- acts are proved by. An act is shown to be made of deeds once; each law is one of deeds.
 use Rattle.std.proofs.Common.{◌≡◌, ◌≢◌, ℕ, ◌+◌, ◌*◌, ◌<◌, ◌≤◌, Bool, true, false, List, [], ◌∷◌}
-use Rattle.std.proofs.Common.{Some, refl, ◌∙◌, arith}
-use Rattle.std.specs.Prelude.{if◌then◌else◌}
+use Rattle.std.proofs.Common.{Some, refl, subst, ◌∙◌, arith}
+use Rattle.std.specs.Prelude.{is_some, if◌then◌else◌}
 use Rattle.std.specs.FinMap.{get}
 use Rattle.mc_fields.specs.declared.position.Cell.{Cell}
 use Rattle.mc_fields.specs.declared.position.Spot.{Spot}
 use Rattle.mc_slots.specs.declared.pile.Item.{Item}
+use Rattle.mc_slots.specs.declared.pile.Pile.{Pile}
 use Rattle.mc_slots.specs.declared.pile.Pile.TheVariants.{Full}
+use Rattle.mc_slots.specs.Chest.{IsChest}
 use Rattle.mc_slots.specs.Pile.{Sort, held}
 use Rattle.mc_windows.specs.Pack.{PackValue, IsPack}
-use Rattle.mc_windows.specs.Stock.{in_chest, in_pack}
+use Rattle.mc_windows.specs.Stock.{in_chest, in_pack, in_piles}
 use Rattle.mc_entities.specs.declared.entity.EntityKind.TheVariants as kinds
 use Rattle.mc_model.specs.declared.notes.Notes.{Notes}
 use Rattle.mc_model.specs.declared.player.Player.{Player}
 use Rattle.mc_model.specs.Apart.{traits_of}
 use Rattle.mc_model.specs.Balance.{one_of, sort_of}
-use Rattle.mc_model.specs.Deeds.{noting, rehand_of, repack_of, said, stand_of, thrown, with_player}
-use Rattle.mc_model.specs.Deeds.{with_state}
+use Rattle.mc_model.specs.Deeds.{noting, rehand_of, repack_of, restocked, said, stand_of, thrown}
+use Rattle.mc_model.specs.Deeds.{with_player, with_state}
 use Rattle.mc_model.specs.Game.{Game, chest_at, pack_of, state_in}
 use Rattle.mc_model.specs.Reach.{is_in_world}
 use Rattle.mc_model.specs.Fitting.{IsState, SpotFits}
@@ -49,12 +51,13 @@ pub record LeavesRest (g v : Game) : Type 0 where
   pub lines : v.lines ≡ g.lines
 
 -- A deed of the player of a connection. Where `G` is given games stay good, where `T` is, packets
--- can tell them, where `H` is, what is said, and where both are, what is noted. Of a deed that
--- touches players' records alone, or what no law reads, all laws are proved once.
+-- can tell them, where `H` is, what is said, and where both are, what is noted. The pack may be
+-- another player's, whose window closes. Of a deed that touches players' records alone, or what no
+-- law reads, all laws are proved once.
 pub data Deed (G T H : Type 0) (k : ℕ) (g v : Game) : Type 0 where
   touches : (f : ℕ → Player → Player) → Touches k f → (T → H → (j : ℕ) → KeepsNotes (f j)) →
       LeavesRest g v → AreChanged f g.players v.players → Deed G T H k g v
-  repacks : (p : Player) (pack : PackValue) → get g.players k ≡ Some p →
+  repacks : (j : ℕ) (p : Player) (pack : PackValue) → get g.players j ≡ Some p →
       (G → IsPack pack.slots pack.cursor) → v ≡ repack_of p pack g → Deed G T H k g v
   rehands : (p : Player) (hand : ℕ) → get g.players k ≡ Some p → hand < 9 →
       v ≡ rehand_of k p hand g → Deed G T H k g v
@@ -65,22 +68,27 @@ pub data Deed (G T H : Type 0) (k : ℕ) (g v : Game) : Type 0 where
       v ≡ thrown item spot g → Deed G T H k g v
   sets : (cell : Cell) (state : ℕ) → is_in_world cell ≡ true → (T → IsState state) →
       v ≡ with_state cell state g → Deed G T H k g v
+  restocks : (cell : Cell) (piles : List Pile) → is_some (chest_at g cell) ≡ true →
+      (G → IsChest piles) → v ≡ restocked cell piles g → Deed G T H k g v
   says : (line : List ℕ) → (H → LineFits line) → v ≡ said line g → Deed G T H k g v
 
 module _ (G T H : Type 0) (k : ℕ) where
   -- how many items of a sort a deed takes away, and how many it leaves
   abbrev pub spent : (id damage : ℕ) (g v : Game) → Deed G T H k g v → ℕ
-  spent id damage g v (repacks p pack there is same) = in_pack (sort_of id damage) (pack_of g p)
+  spent id damage g v (repacks j p pack there is same) = in_pack (sort_of id damage) (pack_of g p)
   spent id damage g v (sets cell state inside is same) =
       one_of (16 * id + damage) (state_in g cell)
       + in_chest (sort_of id damage) (chest_at g cell)
+  spent id damage g v (restocks cell piles there are same) =
+      in_chest (sort_of id damage) (chest_at g cell)
   spent id damage g v other = 0
 
   abbrev pub gained : (id damage : ℕ) (g v : Game) → Deed G T H k g v → ℕ
-  gained id damage g v (repacks p pack there is same) = in_pack (sort_of id damage) pack
+  gained id damage g v (repacks j p pack there is same) = in_pack (sort_of id damage) pack
   gained id damage g v (throws item spot can same) = held (sort_of id damage) (Full item)
   gained id damage g v (sets cell state inside is same) = one_of (16 * id + damage) state
       + in_chest (sort_of id damage) (chest_at (with_state cell state g) cell)
+  gained id damage g v (restocks cell piles there are same) = in_piles (sort_of id damage) piles
   gained id damage g v other = 0
 
   -- deeds one after another, and the games behind them
@@ -115,21 +123,73 @@ module _ (G T H : Type 0) (k : ℕ) where
   pub untouched : (g : Game) → Made g g
   untouched g = record { games = []; deeds = refl; even = λ good id damage some low. refl }
 
-  -- a deed that takes away as much as it leaves, before others or alone
+  -- a deed before others: what it leaves more than it takes away, they leave less
+  pub first : (more less : Sort → ℕ) (g u v : Game) (deed : Deed G T H k g u) →
+      (G → (id damage : ℕ) → 1 ≤ id → damage ≤ 15 →
+      spent id damage g u deed + more (sort_of id damage)
+      ≡ gained id damage g u deed + less (sort_of id damage)) →
+      MadeWith less u v → MadeWith more g v
+  first more less g u v deed even later = record {
+    games = u ∷ later.games;
+    deeds = (deed, later.deeds);
+    even = λ good id damage some low. (let one = even good id damage some low in
+        let rest = later.even good id damage some low in
+        omega (arith, one, rest));
+  }
+
+  -- one that takes away as much as it leaves, before others or alone
   pub before : (g u v : Game) (deed : Deed G T H k g u) →
       ((id damage : ℕ) → spent id damage g u deed ≡ gained id damage g u deed) → Made u v →
       Made g v
-  before g u v deed even later = record {
-    games = u ∷ later.games;
-    deeds = (deed, later.deeds);
-    even = λ good id damage some low. (let same = even id damage in
-        let rest = later.even good id damage some low in
-        omega (arith, same, rest));
-  }
+  before g u v deed even later = first (λ (sort : Sort). 0) (λ (sort : Sort). 0) g u v deed
+      (λ good id damage some low. let same = even id damage in omega (arith, same)) later
 
   pub by_deed : (g v : Game) (deed : Deed G T H k g v) →
       ((id damage : ℕ) → spent id damage g v deed ≡ gained id damage g v deed) → Made g v
   by_deed g v deed even = before g v v deed even (untouched v)
+
+  -- deeds of which it is known how many items they take away and leave
+  record Spends (less more : ℕ → ℕ → ℕ) (g v : Game) : Type 0 where
+    games : List Game
+    deeds : AreDeeds g games v
+    spends : (id damage : ℕ) → all_spent id damage g games v deeds ≡ less id damage
+    gains : (id damage : ℕ) → all_gained id damage g games v deeds ≡ more id damage
+
+  joined : (less more : ℕ → ℕ → ℕ) (us : List Game) (g u v : Game) (are : AreDeeds g us u) →
+      Spends less more u v →
+      Spends (λ id damage. all_spent id damage g us u are + less id damage)
+      (λ id damage. all_gained id damage g us u are + more id damage) g v
+  joined less more [] g u v are s = (let at : Spends less more g v =
+      subst (λ (x : Game). Spends less more x v) are s in record {
+        games = at.games;
+        deeds = at.deeds;
+        spends = λ id damage. (let r = at.spends id damage in omega (arith, r));
+        gains = λ id damage. (let r = at.gains id damage in omega (arith, r));
+      })
+  joined less more (x ∷ us) g u v are s = (let rest = joined less more us x u v are.1 s in record {
+    games = x ∷ rest.games;
+    deeds = (are.0, rest.deeds);
+    spends = λ id damage. (let r = rest.spends id damage in omega (arith, r));
+    gains = λ id damage. (let r = rest.gains id damage in omega (arith, r));
+  })
+
+  -- what is made of what is made of a game is made of it
+  pub join : (g u v : Game) → Made g u → Made u v → Made g v
+  join g u v a b = (let all = joined (λ id damage. all_spent id damage u b.games v b.deeds)
+      (λ id damage. all_gained id damage u b.games v b.deeds) a.games g u v a.deeds (record {
+        games = b.games;
+        deeds = b.deeds;
+        spends = λ id damage. refl;
+        gains = λ id damage. refl;
+      }) in record {
+        games = all.games;
+        deeds = all.deeds;
+        even = λ good id damage some low. (let s = all.spends id damage in
+            let t = all.gains id damage in
+            let x = a.even good id damage some low in
+            let y = b.even good id damage some low in
+            omega (arith, s, t, x, y));
+      })
 
   -- the record of one connection's player changes
   abbrev pub touch : (j : ℕ) (f : Player → Player) → ((p : Player) → IsLike (f p) p) →

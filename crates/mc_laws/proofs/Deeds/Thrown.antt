@@ -19,7 +19,7 @@ use Rattle.mc_model.specs.Deeds.{thrown}
 use Rattle.mc_model.specs.Digging.{all_thrown, item_of}
 use Rattle.mc_model.specs.Fitting.{SpotFits}
 use Rattle.mc_model.specs.Game.{Game}
-use Rattle.mc_laws.proofs.Deeds.Made.{Made, MadeWith, throws}
+use Rattle.mc_laws.proofs.Deeds.Made.{MadeWith, first, throws, untouched}
 use Rattle.mc_laws.proofs.Fits.Told.{dropped_come}
 
 -- how many of a sort there are
@@ -61,33 +61,27 @@ chest_are (Some piles) are = piles_are piles (are piles refl).are_piles
 -- ---- deeds
 
 module _ (G T H : Type 0) (k : ℕ) where
-  pub all_thrown_made : (items : List Item) (spot : Spot) (g v : Game) →
+  pub all_thrown_made : (items : List Item) (spot : Spot) (g : Game) →
       (T → AllByRecursion IsItem items) → (T → SpotFits spot) →
       dropped_in g.entities + length items ≤ 4096 → g.eids + length items ≤ 2147483647 →
-      Made G T H k (all_thrown items spot g) v →
-      MadeWith G T H k (λ (sort : Sort). in_items sort items) g v
-  all_thrown_made [] spot g v are at lying given later = later
-  all_thrown_made (item ∷ items) spot g v are at lying given later =
+      MadeWith G T H k (λ (sort : Sort). in_items sort items) g (all_thrown items spot g)
+  all_thrown_made [] spot g are at lying given = untouched G T H k g
+  all_thrown_made (item ∷ items) spot g are at lying given =
       let come = dropped_come g.entities (record {
         eid = pos (g.eids + 1);
         kind = kinds.Dropped item g.age;
         spot = spot;
       }) in
-      let rest = all_thrown_made items spot (thrown item spot g) v (λ t. (are t).1) at
-      (omega (arith, lying, come)) (omega (arith, given)) later in
-      record {
-        games = thrown item spot g ∷ rest.games;
-        deeds = (
-          throws item spot (λ t. record {
-            kind_is = (are t).0;
-            named = tt;
-            place = at t;
-            room = omega (arith, lying);
-            given = omega (arith, given);
-          }) refl,
-          rest.deeds,
-        );
-        even = λ w id damage some low. (let more = rest.even w id damage some low in
-            let first = sum_by-cons (λ (x : Item). held (sort_of id damage) (Full x)) item items in
-            omega (arith, more, first));
-      }
+      first G T H k (λ (sort : Sort). in_items sort (item ∷ items))
+      (λ (sort : Sort). in_items sort items) g (thrown item spot g) _
+      (throws item spot (λ t. record {
+        kind_is = (are t).0;
+        named = tt;
+        place = at t;
+        room = omega (arith, lying);
+        given = omega (arith, given);
+      }) refl)
+      (λ w id damage some low. let one = sum_by-cons
+      (λ (x : Item). held (sort_of id damage) (Full x)) item items in omega (arith, one))
+      (all_thrown_made items spot (thrown item spot g) (λ t. (are t).1) at
+      (omega (arith, lying, come)) (omega (arith, given)))

@@ -28,8 +28,8 @@ use Rattle.mc_model.proofs.Lasting.{IsSteady}
 use Rattle.mc_model.proofs.LastingKept.{holding_steady, standing_steady, steady_at}
 use Rattle.mc_model.proofs.ThingsKept.{dropped_more, one_if}
 use Rattle.mc_laws.proofs.FitsSight.{SightFits}
-use Rattle.mc_laws.proofs.Deeds.Made.{AreDeeds, Deed, rehands, repacks, says, sets, stands, throws}
-use Rattle.mc_laws.proofs.Deeds.Made.{touches}
+use Rattle.mc_laws.proofs.Deeds.Made.{AreDeeds, Deed, rehands, repacks, restocks, says, sets}
+use Rattle.mc_laws.proofs.Deeds.Made.{stands, throws, touches}
 use Rattle.mc_laws.proofs.Fits.Told.{dropped_come, dropped_mapped}
 
 -- ---- entities that come, change and go
@@ -112,7 +112,7 @@ module _ (G T H : Type 0) (k : ℕ) where
   deed_counts : (g v : Game) → Deed G T H k g v → AreNoMore g.entities v.entities
   deed_counts g v (touches f of_players fits rest are) =
       subst (AreNoMore g.entities) (sym rest.entities) (omega arith)
-  deed_counts g v (repacks p pack there is same) =
+  deed_counts g v (repacks j p pack there is same) =
       subst (λ (u : Game). AreNoMore g.entities u.entities) (sym same)
       (changed_counts p.eid (holding (in_hand pack p.hand)) (holding_steady _) g.entities)
   deed_counts g v (rehands p hand there small same) =
@@ -129,6 +129,8 @@ module _ (G T H : Type 0) (k : ℕ) where
         spot = spot;
       }) refl)
   deed_counts g v (sets cell state inside is same) =
+      subst (λ (u : Game). AreNoMore g.entities u.entities) (sym same) (omega arith)
+  deed_counts g v (restocks cell piles there are same) =
       subst (λ (u : Game). AreNoMore g.entities u.entities) (sym same) (omega arith)
   deed_counts g v (says line fits same) =
       subst (λ (u : Game). AreNoMore g.entities u.entities) (sym same) (omega arith)

@@ -28,6 +28,7 @@ use Rattle.mc_model.specs.Acts.{act}
 use Rattle.mc_model.specs.Pickups.{pickups}
 use Rattle.mc_model.specs.Tick.{grown, told, told_player}
 use Rattle.mc_model.specs.Step.{refusal}
+use Rattle.mc_model.specs.Windows.{shut}
 use Rattle.mc_model.specs.Good.{Good}
 use Rattle.mc_model.proofs.AllFacts.{all_joined}
 use Rattle.mc_model.proofs.FitsChat.{LineFits}
@@ -36,15 +37,19 @@ use Rattle.mc_model.proofs.Maps.Options.{none_some}
 use Rattle.mc_laws.proofs.EachValue.{AllValues, all_changed, all_gone, all_put, many_changed, only}
 use Rattle.mc_laws.proofs.EachValue.{only_changed, only_holds}
 use Rattle.mc_laws.proofs.ThingsFit.{PlayerIsTold, no_notes_fit}
-use Rattle.mc_laws.proofs.Deeds.Chests.{GoodGame, leave_chests, new_chests, same_chests}
+use Rattle.mc_laws.proofs.Deeds.Chests.{GoodGame, new_chests, same_chests}
 use Rattle.mc_laws.proofs.Deeds.Coming.{enter_good}
-use Rattle.mc_laws.proofs.Deeds.Leaving.{leave_cases, leave_good, leave_stays}
-use Rattle.mc_laws.proofs.Deeds.Made.{Deed, rehands, repacks, says, sets, stands, throws, touches}
+use Rattle.mc_laws.proofs.Deeds.Kept.{deeds_keep}
+use Rattle.mc_laws.proofs.Deeds.Leaving.{leave_cases, leave_chests, leave_good, leave_keeps}
+use Rattle.mc_laws.proofs.Deeds.Leaving.{leave_stays, leave_told}
+use Rattle.mc_laws.proofs.Deeds.Made.{Deed, rehands, repacks, restocks, says, sets, stands, throws}
+use Rattle.mc_laws.proofs.Deeds.Made.{touches}
+use Rattle.mc_laws.proofs.Deeds.Shutting.{shut_good, shut_here, shut_on, shuts}
 use Rattle.mc_laws.proofs.Acts.ActMade.{Speaks, act_made}
-use Rattle.mc_laws.proofs.Acts.ActOn.{act_good, act_on, deeds_keep}
+use Rattle.mc_laws.proofs.Acts.ActOn.{act_good, act_on}
 use Rattle.mc_laws.proofs.Walk.Each.{told_good, told_players}
 use Rattle.mc_laws.proofs.Fits.Told.{dropped_come, new_told}
-use Rattle.mc_laws.proofs.Fits.Acts.{act_tells, enter_tells, leave_told}
+use Rattle.mc_laws.proofs.Fits.Acts.{act_tells, enter_tells}
 use Rattle.mc_laws.proofs.Fits.Counted.{IsCounted, body_gone, deeds_count}
 use Rattle.mc_laws.proofs.Fits.Clear.{SoundGame}
 use Rattle.mc_laws.proofs.Pickups.Picking.{pickups_leave, pickups_picked}
@@ -58,11 +63,12 @@ AllSaid g = AllByRecursion LineFits g.lines
 module _ (G T H : Type 0) (k : ℕ) (heard : H) where
   deed_said : (g v : Game) → Deed G T H k g v → AllSaid g → AllSaid v
   deed_said g v (touches f of_players fits rest are) said = rw rest.lines said
-  deed_said g v (repacks p pack there is same) said = subst AllSaid (sym same) said
+  deed_said g v (repacks j p pack there is same) said = subst AllSaid (sym same) said
   deed_said g v (rehands p hand there small same) said = subst AllSaid (sym same) said
   deed_said g v (stands p spot there fits same) said = subst AllSaid (sym same) said
   deed_said g v (throws item spot can same) said = subst AllSaid (sym same) said
   deed_said g v (sets cell state inside is same) said = subst AllSaid (sym same) said
+  deed_said g v (restocks cell piles there are same) said = subst AllSaid (sym same) said
   deed_said g v (says line fits same) said = subst AllSaid (sym same)
       (all_joined LineFits g.lines (line ∷ []) said (fits heard, tt))
 
@@ -79,7 +85,7 @@ module _ (G T H : Type 0) (k : ℕ) (told : T) (heard : H) where
         name = subst (IsShort 16) (sym (of_players.like j p).name) (all j p there).name;
         notes = fits told heard j p (all j p there).notes;
       })
-  deed_players g v (repacks p pack there is same) all = subst AllTold (sym same) all
+  deed_players g v (repacks j p pack there is same) all = subst AllTold (sym same) all
   deed_players g v (rehands p hand there small same) all = subst AllTold (sym same) (all_changed
       (λ (j : ℕ) (q : Player). PlayerIsTold q) (only k takes) g.players _
       (only_changed k takes g.players)
@@ -92,6 +98,7 @@ module _ (G T H : Type 0) (k : ℕ) (told : T) (heard : H) where
   deed_players g v (stands p spot there fits same) all = subst AllTold (sym same) all
   deed_players g v (throws item spot can same) all = subst AllTold (sym same) all
   deed_players g v (sets cell state inside is same) all = subst AllTold (sym same) all
+  deed_players g v (restocks cell piles there are same) all = subst AllTold (sym same) all
   deed_players g v (says line fits same) all = subst AllTold (sym same) all
 
 -- ---- acts
@@ -191,15 +198,21 @@ enter_sound k name g welcome free new sound = record {
 fewer_gone : (k : ℕ) (g : Game) → len (leave k g).players ≤ len g.players
 fewer_gone k g = leave_cases k g (λ (v : Game). len v.players ≤ len g.players)
     (λ none. omega arith)
-    (λ p there. let less = len-remove nat_cmp_total g.players k in grind (arith, less))
+    (λ p there. let less = len-remove nat_cmp_total (shut k p g).players k in
+    let many = (shut_on k p g there).many in grind (arith, less, many))
 
 -- whoever goes takes its entity along
 leave_counted : (k : ℕ) (g : Game) → Good g → IsCounted g → IsCounted (leave k g)
 leave_counted k g w counted = leave_cases k g IsCounted (λ none. counted) (λ p there.
-    (let gone = body_gone (pos p.eid) g.entities _ (w.own k p there).body refl in
-    let less = len-remove nat_cmp_total g.players k in
-    let one = ap is_some there in
-    grind (arith, gone, less, one, counted)))
+    (let v : Game = shut k p g in
+    let made = shuts k p g there in
+    let counts = deeds_count _ _ _ k g made.games v made.deeds in
+    let gone = body_gone (pos p.eid) v.entities _
+    ((shut_good k p g there w).own k _ (shut_here k p g there)).body refl in
+    let less = len-remove nat_cmp_total v.players k in
+    let many = (shut_on k p g there).many in
+    let one = ap is_some (shut_here k p g there) in
+    grind (arith, counts, gone, less, many, one, counted)))
 
 pub leave_sound : (k : ℕ) (g : Game) → SoundGame g → SoundGame (leave k g)
 leave_sound k g sound =
@@ -207,7 +220,7 @@ leave_sound k g sound =
     record {
       good = leave_good k g sound.good;
       chests = leave_chests k g sound.chests;
-      told = leave_told k g sound.told;
+      told = leave_told k g sound.good sound.told;
       settings = subst (λ (s : Begun). AreSettings s.players s.cap) (sym stays.settings)
           sound.settings;
       young = (let young = sound.young in let age = stays.age in omega (arith, young, age));
@@ -218,8 +231,10 @@ leave_sound k g sound =
           let most = ap (λ (s : Begun). s.players) stays.settings in
           omega (arith, few, fewer, most));
       counted = leave_counted k g sound.good sound.counted;
-      players = leave_cases k g AllTold (λ none. sound.players) (λ p there.
-          all_gone (λ (j : ℕ) (q : Player). PlayerIsTold q) g.players sound.players k);
+      players = leave_keeps AllTold k g
+          (λ u v deed w. deed_players _ _ _ k (sound.good, sound.told) tt u v deed)
+          (λ v q there w all. all_gone (λ (j : ℕ) (r : Player). PlayerIsTold r) v.players all k)
+          sound.good sound.players;
     }
 
 pub leave_all_sound : (ks : List ℕ) (g : Game) → SoundGame g → SoundGame (leave_all ks g)

@@ -30,9 +30,8 @@ use Rattle.mc_model.specs.declared.pickups.TheConstants.{PICKUP_TICKS}
 use Rattle.mc_model.specs.declared.player.Player.{Player}
 use Rattle.mc_model.specs.Balance.{sort_of}
 use Rattle.mc_model.specs.Things.{holding, in_hand}
-use Rattle.mc_model.specs.Game.{Game, pack_of, spot_of}
+use Rattle.mc_model.specs.Game.{Game, of_player, pack_of, spot_of}
 use Rattle.mc_model.specs.Deeds.{lessened, repack_of}
-use Rattle.mc_model.specs.Leaving.{of_player}
 use Rattle.mc_model.specs.Pickups.{is_beside, pick_up, pickers, pickups, ripe, ripe_for, stowed}
 use Rattle.mc_model.specs.Fitting.{EntityFits, GivenKinds, Told}
 use Rattle.mc_model.specs.Good.{Good}

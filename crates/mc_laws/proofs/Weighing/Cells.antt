@@ -132,6 +132,14 @@ edited_counts s terrain edits key new =
     of_one None = refl
     of_one (Some state) = omega arith
 
+-- ---- chests
+
+-- what is counted of a chest that may be there
+chest_counts : (sort : Sort) (key : Key) (o : Option (List Pile)) →
+    counted (λ (e : Key × List Pile). in_piles sort e.1) key o ≡ in_chest sort o
+chest_counts sort key None = refl
+chest_counts sort key (Some piles) = refl
+
 -- what lies in chests now, and what lay in the one that the cell was
 pub chest_weighs : (sort : Sort) (chests : FinMap key_cmp (List Pile)) (key : Key)
     (old new : ℕ) →
@@ -143,9 +151,18 @@ chest_weighs sort chests key old new =
     after key (λ q far. chest_set chests key q old new ∙ ap (λ (b : Bool). cond b
     (if is_chest new then (if is_chest old then get chests key else Some empty_chest) else None)
     (get chests q)) far) in
-    omega (arith, all, of_one (get chests key), of_one (get after key))
-  where
-    of_one : (o : Option (List Pile)) →
-        counted (λ (e : Key × List Pile). in_piles sort e.1) key o ≡ in_chest sort o
-    of_one None = refl
-    of_one (Some piles) = refl
+    omega (
+      arith,
+      all,
+      chest_counts sort key (get chests key),
+      chest_counts sort key (get after key),
+    )
+
+-- and where other piles lie in one
+pub stocked_weighs : (sort : Sort) (chests : FinMap key_cmp (List Pile)) (key : Key)
+    (piles : List Pile) → in_chests sort (insert chests key piles) + in_chest sort (get chests key)
+    ≡ in_chests sort chests + in_piles sort piles
+stocked_weighs sort chests key piles =
+    let all = sum_inserted keys_total exact_keys (λ (e : Key × List Pile). in_piles sort e.1) chests
+    key piles in
+    omega (arith, all, chest_counts sort key (get chests key))

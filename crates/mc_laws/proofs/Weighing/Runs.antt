@@ -23,10 +23,12 @@ use Rattle.mc_model.specs.World.{Outcome, Seat, Turn, World, closed_by, each, ne
 use Rattle.mc_model.specs.Pickups.{pickups}
 use Rattle.mc_model.specs.Tick.{aged, at_tick, beats, picking, shown_all}
 use Rattle.mc_model.specs.Run.{history}
+use Rattle.mc_model.specs.Windows.{shut}
 use Rattle.mc_model.specs.Good.{Good, GoodWorld}
 use Rattle.mc_model.specs.Balance.{Balance}
 use Rattle.mc_laws.proofs.Deeds.Coming.{enter_good}
 use Rattle.mc_laws.proofs.Deeds.Leaving.{leave_cases, leave_good}
+use Rattle.mc_laws.proofs.Deeds.Shutting.{shut_good, shut_here, shuts}
 use Rattle.mc_laws.proofs.Walk.Each.{told_good}
 use Rattle.mc_laws.proofs.Walk.Moves.{Kept, OutMove, keeps, does, shakes, answers, closes, comes_in}
 use Rattle.mc_laws.proofs.Walk.Moves.{walked_keeps}
@@ -36,12 +38,17 @@ use Rattle.mc_laws.proofs.Pickups.Picking.{pickups_picked}
 use Rattle.mc_laws.proofs.Runs.Seats.{GoodSeat, free_name, nobody_yet, seat_kept}
 use Rattle.mc_laws.proofs.Runs.Worlds.{at_tick_world, beats_world, first_seat, new_good}
 use Rattle.mc_laws.proofs.Runs.Worlds.{step_good}
-use Rattle.mc_laws.proofs.Weighing.Acts.{act_even}
+use Rattle.mc_laws.proofs.Weighing.Acts.{act_even, made_weighs}
 use Rattle.mc_laws.proofs.Weighing.Spending.{balance_on, enter_balance, go_weighs}
 
 leave_balance : (k : ℕ) (g : Game) → Good g → Balance g → Balance (leave k g)
 leave_balance k g w even = leave_cases k g Balance (λ none. even) (λ p there.
-    balance_on g _ (λ id damage some few low. go_weighs id damage k p g w there) even)
+    let v : Game = shut k p g in
+    let good = shut_good k p g there w in
+    balance_on v _ (λ id damage some few low.
+    go_weighs id damage k _ v good (shut_here k p g there))
+    (balance_on g v (λ id damage some few low.
+    made_weighs _ _ _ id damage k g v (shuts k p g there) w some low w) even))
 
 left_balance : (k : ℕ) (stage : Stage) (g : Game) → Good g → Balance g →
     Balance (left_by k stage g)

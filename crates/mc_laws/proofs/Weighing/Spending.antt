@@ -9,11 +9,12 @@ use lib.IntN.{ℤ, pos}
 use Rattle.mc_fields.specs.declared.position.Cell.{Cell}
 use Rattle.mc_fields.specs.declared.position.Spot.{Spot}
 use Rattle.mc_slots.specs.declared.pile.Item.{Item}
+use Rattle.mc_slots.specs.declared.pile.Pile.{Pile}
 use Rattle.mc_slots.specs.declared.pile.Pile.TheVariants.{Full}
 use Rattle.mc_slots.specs.Pile.{IsItem, Sort, held}
 use Rattle.mc_land.specs.Places.{key_of}
 use Rattle.mc_windows.specs.Pack.{PackValue, kit_pack}
-use Rattle.mc_windows.specs.Stock.{in_chest, in_pack}
+use Rattle.mc_windows.specs.Stock.{in_chest, in_pack, in_piles}
 use Rattle.mc_entities.specs.declared.entity.Entity.{Entity}
 use Rattle.mc_entities.specs.declared.entity.EntityKind.{EntityKind}
 use Rattle.mc_entities.specs.declared.entity.EntityKind.TheVariants as kinds
@@ -22,7 +23,7 @@ use Rattle.mc_entities.specs.Folk.{eid_of}
 use Rattle.mc_model.specs.declared.player.Player.{Player}
 use Rattle.mc_model.specs.declared.settings.Settings.{Settings}
 use Rattle.mc_model.specs.Balance.{in_entities, lying, now_edited, once_edited, one_of, sort_of}
-use Rattle.mc_model.specs.Balance.{Balance, in_packs, stock}
+use Rattle.mc_model.specs.Balance.{Balance, in_chests, in_packs, stock}
 use Rattle.mc_model.specs.Digging.{block_item}
 use Rattle.mc_model.specs.Names.{offline_uuid}
 use Rattle.mc_model.specs.Placing.{item_state}
@@ -31,12 +32,12 @@ use Rattle.mc_model.specs.Things.{holding, in_hand, standing}
 use Rattle.mc_model.specs.Spots.{spawn_spot}
 use Rattle.mc_model.specs.Maps.{modify, with_value}
 use Rattle.mc_model.specs.Game.{Game, chest_at, pack_named, pack_of, state_in}
-use Rattle.mc_model.specs.Deeds.{enter_as, go_of, rehand_of, repack_of, stand_of, thrown}
+use Rattle.mc_model.specs.Deeds.{enter_as, go_of, rehand_of, repack_of, restocked, stand_of, thrown}
 use Rattle.mc_model.specs.Deeds.{with_state}
 use Rattle.mc_model.specs.Good.{Good, IsOwn, is_body}
 use Rattle.mc_model.proofs.Maps.Lookups.{names_apart}
-use Rattle.mc_laws.proofs.Deeds.Chests.{state_inside}
-use Rattle.mc_laws.proofs.Weighing.Cells.{chest_weighs, edited_counts, sum_inserted}
+use Rattle.mc_laws.proofs.Deeds.Chests.{chest_inside, stands_at, state_inside}
+use Rattle.mc_laws.proofs.Weighing.Cells.{chest_weighs, edited_counts, stocked_weighs, sum_inserted}
 use Rattle.mc_laws.proofs.Weighing.Stock.{entities_changed, entities_more, gone_lies, hand_lies}
 
 -- ---- weighing
@@ -181,7 +182,26 @@ state_weighs id damage cell state g inside = record {
       let cells = edited_counts (16 * id + damage) g.settings.terrain g.edits key state in
       let chests = chest_weighs (sort_of id damage) g.chests key (state_in g cell) state in
       let was = ap (one_of (16 * id + damage)) (state_inside g cell inside) in
-      omega (arith, cells, chests, was));
+      let lay = ap (in_chest (sort_of id damage)) (chest_inside g cell inside) in
+      let lies = ap (in_chest (sort_of id damage))
+      (chest_inside (with_state cell state g) cell inside) in
+      omega (arith, cells, chests, was, lay, lies));
+  names = refl;
+  settings = refl;
+}
+
+-- other piles lie in a chest
+pub restocked_weighs : (id damage : ℕ) (cell : Cell) (piles : List Pile) (g : Game) →
+    is_some (chest_at g cell) ≡ true →
+    Weighs id damage (in_chest (sort_of id damage) (chest_at g cell))
+    (in_piles (sort_of id damage) piles) g (restocked cell piles g)
+restocked_weighs id damage cell piles g there = record {
+  count = (let sort = sort_of id damage in
+      let at = stands_at g.chests cell.x cell.y cell.z there in
+      let stocked = stocked_weighs sort g.chests at.key piles in
+      let lay = ap (in_chest sort) at.found in
+      let lies = ap (in_chests sort) (at.put piles) in
+      omega (arith, stocked, lay, lies));
   names = refl;
   settings = refl;
 }

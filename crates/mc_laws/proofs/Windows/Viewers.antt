@@ -1,0 +1,214 @@
+-- A cell is dug or placed: the windows of a chest that is dug are those of its viewers, which close.
+use Rattle.std.proofs.Common.{◌≡◌, ◌≢◌, ℕ, ◌+◌, ◌*◌, ◌<◌, Bool, true, false, cond, List, [], ◌∷◌}
+use Rattle.std.proofs.Common.{Option, Some, None, T, refl, sym, subst, ap, ◌∙◌, inl, inr, arith}
+use Rattle.std.specs.Prelude.{◌⊎◌, ◌==◌, ◌&&◌, nat_lt, is_some, option_map, unsigned_abs}
+use Rattle.std.specs.Prelude.{if◌then◌else◌}
+use Rattle.std.proofs.lemmas.Bool.{cases_eq}
+use Rattle.std.proofs.lemmas.Bool.Decides.{Decides-int_eq, nat_tests}
+use Rattle.std.proofs.lemmas.Int.{ints}
+use Rattle.std.specs.List.{cons_option, filter, filter_map, fold}
+use Rattle.std.specs.Ordering.{eq_by_cmp, int_eq, nat_cmp}
+use Rattle.std.specs.Cmp.{nat_cmp_total}
+use Rattle.std.specs.FinMap.{FinMap, entries, entries_sorted, find, get, get-entries, is_sorted}
+use Rattle.std.specs.FinMap.{nat_cmp-IsAntisymmetric}
+use lib.IntN.{ℤ, pos, negsuc, ◌+ℤ◌, ◌*ℤ◌}
+use Rattle.mc_fields.specs.declared.position.Cell.{Cell}
+use Rattle.mc_fields.specs.declared.position.Spot.{Spot}
+use Rattle.mc_slots.specs.declared.pile.Item.{Item}
+use Rattle.mc_slots.specs.declared.pile.Pile.{Pile}
+use Rattle.mc_slots.specs.Chest.{empty_chest}
+use Rattle.mc_land.specs.Land.{chests_after, is_chest}
+use Rattle.mc_land.specs.Places.{Key, column_number, inside, key_cmp, key_of}
+use Rattle.mc_land.proofs.Orders.{exact_keys}
+use Rattle.mc_entities.specs.declared.entity.Entity.{Entity}
+use Rattle.mc_entities.specs.Kinds.{is_dropped}
+use Rattle.mc_entities.specs.Numbers.{numbered}
+use Rattle.mc_entities.specs.Folk.{eid_of}
+use Rattle.mc_model.specs.declared.player.Player.{Player}
+use Rattle.mc_model.specs.Game.{Game, state_in}
+use Rattle.mc_model.specs.Deeds.{thrown, with_state}
+use Rattle.mc_model.specs.Digging.{all_thrown, dug, dug_items, floor_of}
+use Rattle.mc_model.specs.Pickups.{pickers, playing_as}
+use Rattle.mc_model.specs.Reach.{is_in_world}
+use Rattle.mc_model.specs.Windows.{is_cell, is_of, viewers, views}
+use Rattle.mc_model.specs.Good.{AreChests, Good}
+use Rattle.mc_model.proofs.Maps.Options.{some_is}
+use Rattle.mc_model.proofs.Maps.Lookups.{tied_number}
+use Rattle.mc_model.proofs.Maps.Sorted.{equal, find_again, second}
+use Rattle.mc_laws.proofs.Deeds.Chests.{chest_set}
+use Rattle.mc_laws.proofs.Windows.Watching.{IsRight, Watch, restood}
+use Rattle.mc_laws.proofs.Windows.Same.{SameWindows, ShownBut, nobody, same_on, same_parts}
+use Rattle.mc_laws.proofs.Windows.Same.{same_right, stands_in, unmapped, watch_of, who_in}
+use Rattle.mc_laws.proofs.Windows.Same.{window_in}
+use Rattle.mc_laws.proofs.Windows.Closing.{IsAmong, shut_all_right}
+
+-- ---- cells of one key are one
+
+-- a number is 16 times its column and what is inside it
+parts : (v : ℤ) → column_number v *ℤ pos 16 +ℤ pos (inside v) ≡ v
+parts (pos n) = omega (arith, ints)
+parts (negsuc n) = omega (arith, ints)
+
+inside_below : (v : ℤ) → inside v < 16
+inside_below (pos n) = omega arith
+inside_below (negsuc n) = omega arith
+
+same_number : (v w : ℤ) → column_number v ≡ column_number w → inside v ≡ inside w → v ≡ w
+same_number v w column within =
+    sym (parts v) ∙ (λ i. column i *ℤ pos 16 +ℤ pos (within i)) ∙ parts w
+
+same_cell : (x y z : ℕ) (a b c : ℕ) → x < 16 → z < 16 → a < 16 → c < 16 →
+    y * 256 + z * 16 + x ≡ b * 256 + c * 16 + a → (x ≡ a) × (y ≡ b) × (z ≡ c)
+same_cell x y z a b c h i j k e =
+    (omega (arith, h, i, j, k, e), omega (arith, h, i, j, k, e), omega (arith, h, i, j, k, e))
+
+keys_tell : (x z a c : ℤ) (y b : ℕ) → key_of x y z ≡ key_of a b c → (x ≡ a) × (y ≡ b) × (z ≡ c)
+keys_tell x z a c y b e =
+    let same = same_cell (inside x) y (inside z) (inside a) b (inside c) (inside_below x)
+    (inside_below z) (inside_below a) (inside_below c) (λ i. (e i).1) in (
+      same_number x a (λ i. (e i).0.0) same.0,
+      same.1,
+      same_number z c (λ i. (e i).0.1) same.2,
+    )
+
+-- ---- a cell is set
+
+module _ (cell : Cell) (state : ℕ) (g : Game) where
+  abbrev key : Key
+  key = key_of cell.x (unsigned_abs cell.y) cell.z
+
+  -- what stands at another key stands there still
+  set_other : (q : Key) → is_some (get g.chests q) ≡ true →
+      (is_some (get (chests_after g.chests key (state_in g cell) state) q) ≡ true) ⊎ (q ≡ key)
+  set_other q is = step (eq_by_cmp key_cmp q key) refl
+    where
+      step : (b : Bool) → eq_by_cmp key_cmp q key ≡ b →
+          (is_some (get (chests_after g.chests key (state_in g cell) state) q) ≡ true)
+          ⊎ (q ≡ key)
+      step true t = inr (exact_keys q key (equal _ t))
+      step false t = inl (ap is_some (chest_set g.chests key q (state_in g cell) state
+          ∙ ap (λ (b : Bool). cond b (if is_chest state
+          then (if is_chest (state_in g cell) then get g.chests key else Some empty_chest)
+          else None) (get g.chests q)) t) ∙ is)
+
+  -- and in another cell
+  pub set_stands : (q : Cell) → is_in_world cell ≡ true → stands_in g q ≡ true →
+      (stands_in (with_state cell state g) q ≡ true) ⊎ (is_cell cell q ≡ true)
+  set_stands q inside is = grind (arith, nat_tests, Decides-int_eq, set_other, keys_tell)
+
+-- one cell holds what the other holds
+same_stands : (a b : Cell) (g : Game) → is_cell a b ≡ true → stands_in g a ≡ stands_in g b
+same_stands a b g same = grind (arith, nat_tests, Decides-int_eq)
+
+-- where nothing stood, nothing is lost
+pub placed_same : (cell : Cell) (state : ℕ) (g : Game) → is_in_world cell ≡ true →
+    stands_in g cell ≡ false → SameWindows g (with_state cell state g)
+placed_same cell state g inside none = record {
+  who = λ k. refl;
+  windows = λ name. refl;
+  stands = λ q is. elim (set_stands cell state g q inside is) [
+    | inl still ↦ still
+    | inr same ↦ (let clash : true ≡ false = sym is ∙ sym (same_stands cell q g same) ∙ none in
+        absurd cc)
+  ];
+}
+
+-- ---- all viewers
+
+-- the connection of a player whose number no other has
+found_playing : (k : ℕ) (p : Player) (es : List (ℕ × Player)) → T (is_sorted nat_cmp es) →
+    ((j : ℕ) (q : Player) → find nat_cmp j es ≡ Some q → q.eid ≡ p.eid → j ≡ k) →
+    find nat_cmp k es ≡ Some p → playing_as (pos p.eid) es ≡ Some k
+found_playing k p [] sorted alone found = absurd cc
+found_playing k p (e ∷ es) sorted alone found = step (int_eq (pos e.1.eid) (pos p.eid)) refl
+    (found_playing k p es (second _ _ sorted) (λ j q is. alone j q (later j q is)))
+  where
+    here : find nat_cmp e.0 (e ∷ es) ≡ Some e.1
+    here = ap (λ (b : Bool). cond b (Some e.1) (find nat_cmp e.0 es)) (tied_number e.0)
+
+    later : (j : ℕ) (q : Player) → find nat_cmp j es ≡ Some q → find nat_cmp j (e ∷ es) ≡ Some q
+    later j q is = grind (arith, nat_tests, find_again nat_cmp_total j e es sorted)
+
+    step : (b : Bool) → int_eq (pos e.1.eid) (pos p.eid) ≡ b →
+        (find nat_cmp k es ≡ Some p → playing_as (pos p.eid) es ≡ Some k) →
+        option_map (λ (x : ℕ × Player). x.0) (if b then Some e
+        else numbered (λ (x : ℕ × Player). pos x.1.eid) (pos p.eid) es) ≡ Some k
+    step true t rest = ap (λ (n : ℕ). Some n) (alone e.0 e.1 here (grind (arith, nat_tests)))
+    step false t rest = rest (grind (arith, nat_tests))
+
+-- what is made of one of a number is among what is made of all
+among_made : (f : Entity → Option ℕ) (n : ℤ) (es : List Entity) (e : Entity) (k : ℕ) →
+    numbered eid_of n es ≡ Some e → f e ≡ Some k → IsAmong (filter_map f es) k
+among_made f n [] e k found is = absurd cc
+among_made f n (x ∷ xs) e k found is = grind (arith, nat_tests, among_made f n xs e k)
+
+among_kept : (test : ℕ → Bool) (ks : List ℕ) (k : ℕ) → test k ≡ true → IsAmong ks k →
+    IsAmong (filter test ks) k
+among_kept test [] k passes among = among
+among_kept test (j ∷ ks) k passes among = grind (arith, nat_tests, among_kept test ks k)
+
+-- each player in play picks up, and views the chest that it is shown
+is_picker : (g : Game) (k : ℕ) (p : Player) → Good g → get g.players k ≡ Some p →
+    IsAmong (pickers g) k
+is_picker g k p w there =
+    let o = w.own k p there in
+    among_made (λ (e : Entity).
+    if is_dropped e.kind then None else playing_as e.eid (entries g.players))
+    (pos p.eid) g.entities _ k o.body
+    (found_playing k p (entries g.players) (entries_sorted g.players)
+    (λ j q is same. one_number j q (get-entries g.players j ∙ is) same)
+    (sym (get-entries g.players k) ∙ there))
+  where
+    one_number : (j : ℕ) (q : Player) → get g.players j ≡ Some q → q.eid ≡ p.eid → j ≡ k
+    one_number j q is same = elim (cases_eq j k) [
+      | inl at ↦ at
+      | inr ne ↦ absurd ((w.apart j k q p is there ne).eid same)
+    ]
+
+is_viewer : (g : Game) (cell : Cell) (k : ℕ) (p : Player) → Good g → get g.players k ≡ Some p →
+    is_of cell p.chest ≡ true → IsAmong (viewers cell g) k
+is_viewer g cell k p w there is = among_kept (λ (j : ℕ). views cell (get g.players j)) (pickers g) k
+    (ap (views cell) there ∙ is) (is_picker g k p w there)
+
+-- ---- a cell is dug
+
+thrown_same : (items : List Item) (spot : Spot) (g : Game) → SameWindows g (all_thrown items spot g)
+thrown_same [] spot g = same_parts refl refl refl
+thrown_same (item ∷ items) spot g = same_on {u = thrown item spot g} (same_parts refl refl refl)
+    (thrown_same items spot (thrown item spot g))
+
+-- all but its viewers are shown chests as they should be
+aired_right : (cell : Cell) (g : Game) → is_in_world cell ≡ true → Good g → ShownBut nobody g →
+    ShownBut (IsAmong (viewers cell g)) (with_state cell 0 g)
+aired_right cell g inside w r = restood (λ k a is right. each k a is right) r
+  where
+    stands_on : (k : ℕ) (a : Watch) (p : Player) → get g.players k ≡ Some p → watch_of p ≡ a →
+        (c : Option Cell) → a.chest ≡ c → IsRight (window_in g) (stands_in g) a →
+        IsRight (window_in g) (stands_in (with_state cell 0 g)) a ⊎ IsAmong (viewers cell g) k
+    stands_on k a p there is None at right =
+        inl (record { number = right.number; there = λ q some. absurd cc })
+    stands_on k a p there is (Some q) at right =
+        elim (set_stands cell 0 g q inside (right.there q at)) [
+          | inl still ↦ inl (record {
+            number = right.number;
+            there = λ other some. subst
+                (λ (x : Cell). stands_in (with_state cell 0 g) x ≡ true)
+                (some_is q other (sym at ∙ some)) still;
+          })
+          | inr same ↦ inr (is_viewer g cell k p w there
+              (ap (is_of cell) (ap (λ (x : Watch). x.chest) is ∙ at) ∙ same))
+        ]
+
+    each : (k : ℕ) (a : Watch) → who_in g k ≡ Some a →
+        IsRight (window_in g) (stands_in g) a ⊎ nobody k →
+        IsRight (window_in g) (stands_in (with_state cell 0 g)) a ⊎ IsAmong (viewers cell g) k
+    each k a is (inl right) = (let p = unmapped watch_of (get g.players k) a is in
+        stands_on k a p.value p.found p.is a.chest refl right)
+    each k a is (inr none) = absurd none
+
+pub dug_right : (cell : Cell) (g : Game) → is_in_world cell ≡ true → Good g →
+    ShownBut nobody g → ShownBut nobody (dug cell g)
+dug_right cell g inside w r = shut_all_right (viewers cell g) _
+    (same_right (IsAmong (viewers cell g)) (with_state cell 0 g) _
+    (thrown_same (dug_items cell g) (floor_of cell) (with_state cell 0 g))
+    (aired_right cell g inside w r))

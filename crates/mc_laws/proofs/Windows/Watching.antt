@@ -1,0 +1,139 @@
+-- What the law of windows reads of a game: which chest each player is shown, which number the
+-- window of each name has, and where chests stand. It holds where what is read of one name changes.
+use Rattle.std.proofs.Common.{◌≡◌, ◌≢◌, ℕ, ◌≤◌, Bool, true, List, Option, Some, None, refl, sym}
+use Rattle.std.proofs.Common.{subst, ap, ◌∙◌, inl, inr, arith}
+use Rattle.std.specs.Prelude.{◌⊎◌, ◌==◌, not, is_some, unwrap_or}
+use Rattle.std.proofs.lemmas.Bool.{cases_eq}
+use Rattle.mc_fields.specs.declared.position.Cell.{Cell}
+use Rattle.mc_windows.specs.declared.pack.TheConstants.{LAST_WINDOW}
+use Rattle.mc_model.proofs.Maps.Options.{none_some, some_is}
+use Rattle.mc_model.proofs.Maps.Lookups.{name_cases}
+
+-- a player's name, and the chest that it is shown
+pub record Watch : Type 0 where
+  pub name : List ℕ
+  pub chest : Option Cell
+
+-- such a player is shown a chest just where its window has a number, and the chest stands there
+pub record IsRight (windows : List ℕ → Option ℕ) (stands : Cell → Bool) (a : Watch) : Type 0 where
+  pub number : is_some a.chest ≡ not (unwrap_or (windows a.name) 0 == 0)
+  pub there : (cell : Cell) → a.chest ≡ Some cell → stands cell ≡ true
+
+-- So it is of all but some connections; no two players have one name, and each has a window. The
+-- numbers of windows are up to 100, and 0 of who is not there.
+pub record AreRight (but : ℕ → Type 0) (who : ℕ → Option Watch) (windows : List ℕ → Option ℕ)
+    (stands : Cell → Bool) : Type 0 where
+  pub apart : (j k : ℕ) (a b : Watch) → who j ≡ Some a → who k ≡ Some b → j ≢ k → a.name ≢ b.name
+  pub carries : (k : ℕ) (a : Watch) → who k ≡ Some a → is_some (windows a.name) ≡ true
+  pub right : (k : ℕ) (a : Watch) → who k ≡ Some a → IsRight windows stands a ⊎ but k
+  pub numbers : (name : List ℕ) (n : ℕ) → windows name ≡ Some n → n ≤ LAST_WINDOW
+  pub kept : (name : List ℕ) (n : ℕ) → windows name ≡ Some n →
+      ((k : ℕ) (a : Watch) → who k ≡ Some a → a.name ≢ name) → n ≡ 0
+
+-- where chests stand elsewhere
+pub restood : {but more : ℕ → Type 0} {who : ℕ → Option Watch} {windows : List ℕ → Option ℕ}
+    {stands later : Cell → Bool} →
+    ((k : ℕ) (a : Watch) → who k ≡ Some a → IsRight windows stands a ⊎ but k →
+    IsRight windows later a ⊎ more k) →
+    AreRight but who windows stands → AreRight more who windows later
+restood each r = record {
+  apart = r.apart;
+  carries = r.carries;
+  right = λ k a is. each k a is (r.right k a is);
+  numbers = r.numbers;
+  kept = r.kept;
+}
+
+-- where more chests stand
+pub stood : {but : ℕ → Type 0} {who : ℕ → Option Watch} {windows : List ℕ → Option ℕ}
+    {stands later : Cell → Bool} → ((cell : Cell) → stands cell ≡ true → later cell ≡ true) →
+    AreRight but who windows stands → AreRight but who windows later
+stood {but} {who} {windows} {stands} {later} more r = restood (λ k a is right. grown k a right) r
+  where
+    grown : (k : ℕ) (a : Watch) → IsRight windows stands a ⊎ but k →
+        IsRight windows later a ⊎ but k
+    grown k a (inl right) = inl (record {
+      number = right.number;
+      there = λ cell at. more cell (right.there cell at);
+    })
+    grown k a (inr out) = inr out
+
+-- what is read of one connection and of one name is another, and of all others it is as it was
+pub record ChangesName (k : ℕ) (name : List ℕ) (n : ℕ) (who now : ℕ → Option Watch)
+    (windows later : List ℕ → Option ℕ) : Type 0 where
+  pub was : (a : Watch) → who k ≡ Some a → a.name ≡ name
+  pub is : (a : Watch) → now k ≡ Some a → a.name ≡ name
+  pub others : (j : ℕ) → j ≢ k → now j ≡ who j
+  pub alone : (j : ℕ) (a : Watch) → j ≢ k → who j ≡ Some a → a.name ≢ name
+  pub window : later name ≡ Some n
+  pub rest : (other : List ℕ) → other ≢ name → later other ≡ windows other
+
+module _ {but : ℕ → Type 0} {who now : ℕ → Option Watch} {windows later : List ℕ → Option ℕ}
+    {stands : Cell → Bool} (k : ℕ) (name : List ℕ) (n : ℕ)
+    (c : ChangesName k name n who now windows later) (r : AreRight but who windows stands) where
+  before : (j : ℕ) (a : Watch) → j ≢ k → now j ≡ Some a → who j ≡ Some a
+  before j a ne is = sym (c.others j ne) ∙ is
+
+  other : (j : ℕ) (a : Watch) → j ≢ k → now j ≡ Some a → a.name ≢ name
+  other j a ne is = c.alone j a ne (before j a ne is)
+
+  apart_each : (i j : ℕ) (a b : Watch) → now i ≡ Some a → now j ≡ Some b → i ≢ j →
+      a.name ≢ b.name
+  apart_each i j a b is too ne same = elim (cases_eq i k) [
+    | inl at ↦ other j b (λ e. ne (at ∙ sym e)) too
+        (sym same ∙ c.is a (ap now (sym at) ∙ is))
+    | inr off ↦ elim (cases_eq j k) [
+      | inl at ↦ other i a off is (same ∙ c.is b (ap now (sym at) ∙ too))
+      | inr far ↦ r.apart i j a b (before i a off is) (before j b far too) ne same
+    ]
+  ]
+
+  carries_each : (j : ℕ) (a : Watch) → now j ≡ Some a → is_some (later a.name) ≡ true
+  carries_each j a is = elim (cases_eq j k) [
+    | inl at ↦ ap (λ (x : List ℕ). is_some (later x)) (c.is a (ap now (sym at) ∙ is))
+        ∙ ap is_some c.window
+    | inr ne ↦ ap is_some (c.rest a.name (other j a ne is)) ∙ r.carries j a (before j a ne is)
+  ]
+
+  kept_each : (now k ≡ None → n ≡ 0) → (any : List ℕ) (m : ℕ) → later any ≡ Some m →
+      ((j : ℕ) (a : Watch) → now j ≡ Some a → a.name ≢ any) → m ≡ 0
+  kept_each gone any m is nobody = elim (name_cases any name) [
+    | inl same ↦ sym (some_is n m (sym c.window ∙ ap later (sym same) ∙ is))
+        ∙ gone (none_named (now k) refl same)
+    | inr ne ↦ r.kept any m (sym (c.rest any ne) ∙ is) (λ j a there same.
+        elim (cases_eq j k) [
+          | inl at ↦ ne (sym same ∙ c.was a (ap who (sym at) ∙ there))
+          | inr off ↦ nobody j a (c.others j off ∙ there) same
+        ])
+  ]
+    where
+      none_named : (o : Option Watch) → now k ≡ o → any ≡ name → o ≡ None
+      none_named None is same = refl
+      none_named (Some a) is same = absurd (nobody k a is (c.is a is ∙ sym same))
+
+  -- its window's number is up to 100, and 0 where it goes; it is right, or may be left out
+  pub renamed : {more : ℕ → Type 0} → n ≤ LAST_WINDOW → (now k ≡ None → n ≡ 0) →
+      ((a : Watch) → now k ≡ Some a → IsRight later stands a ⊎ more k) →
+      ((j : ℕ) → j ≢ k → but j → more j) → AreRight more now later stands
+  renamed {more} low gone mine free = record {
+    apart = apart_each;
+    carries = carries_each;
+    right = λ j a is. elim (cases_eq j k) [
+      | inl at ↦ subst (λ (i : ℕ). IsRight later stands a ⊎ more i) (sym at)
+          (mine a (ap now (sym at) ∙ is))
+      | inr ne ↦ elim (r.right j a (before j a ne is)) [
+        | inl is_right ↦ inl (record {
+          number = is_right.number ∙ ap (λ (o : Option ℕ). not (unwrap_or o 0 == 0))
+              (sym (c.rest a.name (other j a ne is)));
+          there = is_right.there;
+        })
+        | inr left_out ↦ inr (free j ne left_out)
+      ]
+    ];
+    numbers = λ any m is. elim (name_cases any name) [
+      | inl same ↦ subst (λ (x : ℕ). x ≤ LAST_WINDOW)
+          (some_is n m (sym c.window ∙ ap later (sym same) ∙ is)) low
+      | inr ne ↦ r.numbers any m (sym (c.rest any ne) ∙ is)
+    ];
+    kept = kept_each gone;
+  }
