@@ -241,7 +241,8 @@ twelve_points a b c d e f g h j k l m a' b' c' d' e' f' g' h' j' k' l' m' pa pb 
 
 -- the difference from what a mark stands for is the changes
 pub delta_is : (land : LandValue) (list : ListValue) (es : List Entity) (pack : PackValue)
-    (chest : Option (List Pile)) (mark : MarkValue) (view : ViewSet) (age : ℕ) (lines : List (List ℕ)) (p : Sight) (high : ℤ) →
+    (chest : Option (List Pile)) (mark : MarkValue) (view : ViewSet) (age : ℕ)
+    (lines : List (List ℕ)) (p : Sight) (high : ℤ) →
     Rise eid_of (pos 0) es high → StandsFor mark (settled_parts land list) p →
     delta p (seen land list es pack chest view age (p.chat ++ lines))
     ≡ changes land list es pack chest mark view age lines

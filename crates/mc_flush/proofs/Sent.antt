@@ -21,7 +21,8 @@ use Rattle.mc_sending.proofs.Pieces.{play_bytes-append}
 
 -- all that differs
 pub changes_put_all : (land : LandValue) (list : ListValue) (es : List Entity) (pack : PackValue)
-    (chest : Option (List Pile)) (mark : MarkValue) (view : ViewSet) (age : ℕ) (lines : List (List ℕ))
+    (chest : Option (List Pile)) (mark : MarkValue) (view : ViewSet) (age : ℕ)
+    (lines : List (List ℕ))
     (old first one two three four five new : List ℕ) →
     first ≡ old ++ play_bytes (age_packets mark age) →
     one ≡ first ++ play_bytes (player_packets (listed mark list) list.present) →
@@ -32,8 +33,8 @@ pub changes_put_all : (land : LandValue) (list : ListValue) (es : List Entity) (
     new ≡ five ++ play_bytes (line_packets lines) →
     new ≡ old ++ play_bytes (changes land list es pack chest mark view age lines)
 unfolding changes
-changes_put_all land list es pack chest mark view age lines old first one two three four five new b e f g
-    h k m =
+changes_put_all land list es pack chest mark view age lines old first one two three four five new b
+    e f g h k m =
     let w = beat_packets mark.beat (beat_now age) in
     let t = time_packets mark.age (age_now age) in
     let l = leaver_packets (listed mark list) list.present in

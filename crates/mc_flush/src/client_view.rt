@@ -154,7 +154,8 @@ impl ClientView<'_> {
         ensures sent { OnOk result (joined out.new.items ≡ joined out.old.items ++ play_bytes
             (changes self.now.land.now self.now.list.now
             (others self.now.me self.now.folk.now.state.entities)
-            self.now.pack.now (option_copied self.now.chest) mark.old self.now.view self.now.age self.now.lines.now)) }
+            self.now.pack.now (option_copied self.now.chest) mark.old self.now.view
+            self.now.age self.now.lines.now)) }
         ensures mark { OnOk result (mark.new ≡ record mark.old {
           told = told_now (others self.now.me self.now.folk.now.state.entities) self.now.view;
         }) }
@@ -205,7 +206,8 @@ pub fn flush_with<L: Ledger>(
         OnOk result (joined out.new.items ≡ joined out.old.items ++ play_bytes
         (delta p (seen view.now.land.now view.now.list.now
         (others view.now.me view.now.folk.now.state.entities)
-        view.now.pack.now (option_copied view.now.chest) view.now.view view.now.age (p.chat ++ view.now.lines.now))
+        view.now.pack.now (option_copied view.now.chest) view.now.view view.now.age
+        (p.chat ++ view.now.lines.now))
         ++ noted_of view.now.land.now view.now.view notes.now
         (spot_seen view.now.land.now view.now.folk.now.state.entities view.now.me)
         view.now.pack.now (option_copied view.now.chest))) }
@@ -266,7 +268,8 @@ pub fn flush<L: Ledger>(
         OnOk result (joined out.new.items ≡ joined out.old.items ++ play_bytes
         (delta p (seen view.now.land.now view.now.list.now
         (others view.now.me view.now.folk.now.state.entities)
-        view.now.pack.now (option_copied view.now.chest) view.now.view view.now.age (p.chat ++ view.now.lines.now))
+        view.now.pack.now (option_copied view.now.chest) view.now.view view.now.age
+        (p.chat ++ view.now.lines.now))
         ++ noted_of view.now.land.now view.now.view notes.now
         (spot_seen view.now.land.now view.now.folk.now.state.entities view.now.me)
         view.now.pack.now (option_copied view.now.chest))) }

@@ -48,7 +48,7 @@ pub fn push_notes(
     push_piece(Bytes::from_vec(bytes)?, out)
 }
 
-/// Appends what differs of the window that a client is shown, of its pack, and of the cursor, as one
+/// Appends what differs of the window that a client is shown, of its pack and of the cursor, as one
 /// piece.
 pub fn push_slots(
     alloc: Global,

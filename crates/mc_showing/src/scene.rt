@@ -80,7 +80,8 @@ fn push_changes<L: Ledger>(
         OnOk result (joined out.new.items ≡ joined out.old.items ++ play_bytes
         (delta p (seen view.now.land.now view.now.list.now
         (others view.now.me view.now.folk.now.state.entities)
-        view.now.pack.now (option_copied view.now.chest) view.now.view view.now.age (p.chat ++ view.now.lines.now))
+        view.now.pack.now (option_copied view.now.chest) view.now.view view.now.age
+        (p.chat ++ view.now.lines.now))
         ++ noted_of view.now.land.now view.now.view notes.now
         (spot_seen view.now.land.now view.now.folk.now.state.entities view.now.me)
         view.now.pack.now (option_copied view.now.chest))) }

@@ -239,8 +239,8 @@ impl Game {
     }
 
     /// Closes the window of the player of a connection, which carries a pack. What hangs on the
-    /// cursor falls, for which there is a place; without room for it, it stays there, and the window
-    /// is sent again.
+    /// cursor falls, for which there is a place; without room for it, it stays there, and the
+    /// window is sent again.
     fn put_away(&mut self, connection: u32, pack: Pack)
         requires { 0 < self.old.aside.reserve }
         ensures is { self.new ≡ played self.old (by_player connection

@@ -58,6 +58,7 @@ returns c =
     (c.in_ok-push_piles-2.ensures
     ∙ (λ i. c.push_piles.new.items ++ map slot_of (c.pack.view_is i).slots)) in
     ok_as c.put_made.result c.put_made.new.out.items _ _
-    ((λ i. c.args.out.now.items ++ frame_of (of_play (WindowItems c.args.number (items i)))) ∙ ap (λ t. c.args.out.now.items ++ t)
+    ((λ i. c.args.out.now.items ++ frame_of (of_play (WindowItems c.args.number (items i))))
+    ∙ ap (λ t. c.args.out.now.items ++ t)
     (play_bytes-one (WindowItems c.args.number (map slot_of piles ++ map slot_of pack.slots))))
     c.put_made.ensures.ok

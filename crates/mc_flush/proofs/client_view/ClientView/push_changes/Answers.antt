@@ -38,6 +38,7 @@ returns-clause-sent g c =
     (c.in_ok-push_piece-3.ensures ∙ ap (λ (t : List ℕ). joined c.push_columns.new.out.items ++ t)
     c.in_ok-gone.ensures.shown)
     (c.in_ok-push_slots.ensures ∙ ap (λ (m : MarkValue).
-    joined c.push_piece-3.new.out.items ++ play_bytes (carried_packets m v.pack.now (option_copied v.chest)))
+    joined c.push_piece-3.new.out.items
+    ++ play_bytes (carried_packets m v.pack.now (option_copied v.chest)))
     c.in_ok-gone.ensures.mark)
     c.in_ok-push_lines.ensures
