@@ -192,6 +192,21 @@ class SetSlot(NamedTuple):
     stack: Stack
 
 
+class OpenWindow(NamedTuple):
+    """A window that opens: its kind, its title, and how many slots it has beside the pack."""
+
+    window: int
+    kind: str
+    title: str
+    count: int
+
+
+class CloseWindow(NamedTuple):
+    """A window that closes."""
+
+    window: int
+
+
 class WindowItems(NamedTuple):
     """What all slots of a window hold."""
 
@@ -359,6 +374,12 @@ def read_set_slot(reader):
     return SetSlot(reader.number("b"), reader.number("h"), reader.slot())
 
 
+def read_open_window(reader):
+    """Take the fields of Open Window, which is not that of a horse."""
+    window, kind, title = reader.number("B"), reader.text(), read_words(reader)
+    return OpenWindow(window, kind, title, reader.number("B"))
+
+
 def read_window_items(reader):
     """Take the fields of Window Items."""
     window, count = reader.number("B"), reader.number("h")
@@ -416,6 +437,8 @@ PLAY = {
     0x21: read_chunk,
     0x22: read_multi_change,
     0x23: lambda reader: Change(reader.block_position(), read_state(reader)),
+    0x2D: read_open_window,
+    0x2E: lambda reader: CloseWindow(reader.number("B")),
     0x2F: read_set_slot,
     0x30: read_window_items,
     0x32: lambda reader: Confirm(reader.number("b"), reader.number("h"), reader.boolean()),

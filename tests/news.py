@@ -7,9 +7,9 @@ order in which a tick sends it.
 import protocol
 from client import Unexpected, expect, log_in, pump, wait_for_names, wait_for_others
 from clientbound import Change, Equipment, HeadLook, ItemIs, SetSlot, SpawnItem, SpawnPlayer
-from clientbound import WindowItems
+from clientbound import OpenWindow, WindowItems
 from others import PARTS
-from packs import CHEST, FIRST_SLOT, HOTBAR, PLANKS
+from packs import CHEST, CHEST_SIZE, FIRST_SLOT, HOTBAR, PLANKS
 from play import forget_news
 from protocol import Stack, offline_identifier
 from replica import CURSOR_SLOT, CURSOR_WINDOW, Item
@@ -111,6 +111,12 @@ def cursor_news(stack):
 def window_news(pack, cursor=None):
     """List the packets of the whole window of a player, with what hangs on the cursor."""
     return [WindowItems(0, [None] * FIRST_SLOT + pack), cursor_news(cursor)]
+
+
+def chest_news(window, chest, pack):
+    """List the packets of a chest's window that opens, with what lies in its first slots."""
+    stacks = chest + [None] * (CHEST_SIZE - len(chest)) + pack
+    return [OpenWindow(window, "minecraft:chest", "Chest", CHEST_SIZE), WindowItems(window, stacks)]
 
 
 def log_in_two(port):

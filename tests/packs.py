@@ -1,4 +1,4 @@
-"""What players carry: 36 slots, which are 9 to 44 of a player's own window.
+"""What players carry: 36 slots, 9 to 44 of a player's own window and 27 to 62 of a chest's.
 
 Source: docs/WORLD.md, 'Windows and items'. The hotbar is the last nine of them, slots 36 to 44.
 """
@@ -14,6 +14,9 @@ STONE = 1
 DIRT = 3
 PLANKS = 5
 CHEST = 54
+
+# How many slots a chest has, behind which its window has those of the pack.
+CHEST_SIZE = 27
 
 
 def pack_of(*hotbar):

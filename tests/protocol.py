@@ -150,17 +150,17 @@ def close_window(window):
     return packet(0x0D, struct.pack(">B", window))
 
 
-def click(index, button, number, mode, stack):
-    """Click by Click Window into a slot of the own window, which holds a stack as the client sees.
+def click(index, button, number, mode, stack, window=0):
+    """Click by Click Window into a slot of a window, which holds a stack as the client sees.
 
     The slot -999 is outside it.
     """
-    return packet(0x0E, struct.pack(">BhbhB", 0, index, button, number, mode), slot(stack))
+    return packet(0x0E, struct.pack(">BhbhB", window, index, button, number, mode), slot(stack))
 
 
-def confirm(number):
-    """Say by Confirm Transaction that a refused click of the own window is known to be so."""
-    return packet(0x0F, struct.pack(">bh?", 0, number, False))
+def confirm(number, window=0):
+    """Say by Confirm Transaction that a refused click in a window is known to be so."""
+    return packet(0x0F, struct.pack(">bh?", window, number, False))
 
 
 def creative(index, stack):

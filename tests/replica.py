@@ -11,6 +11,7 @@ from clientbound import (
     Change,
     Chat,
     Chunk,
+    CloseWindow,
     Confirm,
     Destroy,
     Disconnect,
@@ -21,6 +22,7 @@ from clientbound import (
     KeepAlive,
     Look,
     MultiChange,
+    OpenWindow,
     Place,
     PlayersCame,
     PlayersLeft,
@@ -36,11 +38,14 @@ from clientbound import (
 )
 from columns import HEIGHT, column_at, index_of, read_column
 from others import Others, column_of_place
-from packs import FIRST_SLOT, SLOTS, pack_of
+from packs import CHEST_SIZE, FIRST_SLOT, SLOTS, pack_of
 from protocol import Malformed, Stack, offline_identifier
 
 CURSOR_WINDOW = -1
 CURSOR_SLOT = -1
+
+# The numbers of the windows of chests.
+WINDOWS = range(1, 101)
 
 # How many ticks there are in a beat, from one age that is told to the next, and in a day.
 BEAT_TICKS = 100
@@ -70,6 +75,9 @@ class Replica:
         self.pack = pack_of()
         # What hangs on the cursor.
         self.cursor = None
+        # The number of the window that is shown, 0 for the own one, and what lies in its chest.
+        self.window = 0
+        self.chest = []
         self.players = {}
         self.time = None
         self.beat = None
@@ -78,6 +86,8 @@ class Replica:
         # What was loaded and unloaded, in order; a test clears it when it likes.
         self.changes = []
         self.previous = None
+        # What kind of packet comes next, where that is known.
+        self.due = None
 
     def fold(self, packet):
         """Take a packet of play into account."""
@@ -87,9 +97,9 @@ class Replica:
             raise Malformed(f"{type(packet).__name__} before the opening")
         if type(packet) not in BEGINNING and self.beat is None:
             raise Malformed(f"{type(packet).__name__} before the first beat")
-        due = NEXT.get(type(self.previous), type(packet))
-        if type(packet) is not due:
-            raise Malformed(f"{type(packet).__name__} where {due.__name__} is due")
+        if type(packet) is not (self.due or type(packet)):
+            raise Malformed(f"{type(packet).__name__} where {self.due.__name__} is due")
+        self.due = NEXT.get(type(packet))
         self.others.check_next(packet)
         self.check_others(packet)
         FOLDS[type(packet)](self, packet)
@@ -223,30 +233,63 @@ class Replica:
             raise Malformed(f"{packet} of {entity}, which is not there")
 
     def set_slot(self, packet):
-        """Keep what a slot of the pack holds now, or the cursor, told behind a window too."""
-        if type(self.previous) is WindowItems:
+        """Keep what a slot holds now, or the cursor, which is told behind a window too."""
+        if type(self.previous) is WindowItems and packet.index == CURSOR_SLOT:
             if packet != SetSlot(CURSOR_WINDOW, CURSOR_SLOT, self.cursor):
                 raise Malformed(f"{packet} behind the slots of a window")
         elif (packet.window, packet.index) == (CURSOR_WINDOW, CURSOR_SLOT):
             if self.cursor == packet.stack:
                 raise Malformed(f"{packet}, as it was before")
             self.cursor = packet.stack
-        elif packet.window != 0 or packet.index not in SLOTS:
-            raise Malformed(f"{packet} of no slot of the pack")
-        elif self.pack[packet.index - FIRST_SLOT] == packet.stack:
-            raise Malformed(f"{packet}, as it was before")
         else:
-            self.pack[packet.index - FIRST_SLOT] = packet.stack
+            stacks, at = self.place_of(packet)
+            if stacks[at] == packet.stack:
+                raise Malformed(f"{packet}, as it was before")
+            stacks[at] = packet.stack
 
-    def check_window(self, packet):
-        """Find all slots of the own window as they were told; the first nine are empty."""
-        if packet.window != 0 or packet.stacks != [None] * FIRST_SLOT + self.pack:
-            raise Malformed(f"{packet} for the pack {self.pack}")
+    def place_of(self, packet):
+        """Answer the chest or the pack, and a place of it, that a slot of the shown window is."""
+        first = CHEST_SIZE if self.window else FIRST_SLOT
+        if packet.window != self.window or packet.index not in range(first + len(self.pack)):
+            raise Malformed(f"{packet} of no slot of the window {self.window}")
+        if packet.index >= first:
+            return self.pack, packet.index - first
+        if not self.window:
+            raise Malformed(f"{packet} of no slot of the pack")
+        return self.chest, packet.index
+
+    def open_window(self, packet):
+        """Keep the number of a chest's window that opens; all of its slots come next."""
+        if packet != OpenWindow(packet.window, "minecraft:chest", "Chest", CHEST_SIZE):
+            raise Malformed(f"{packet}, which is no chest")
+        if packet.window not in WINDOWS or packet.window == self.window:
+            raise Malformed(f"{packet} behind the window {self.window}")
+        self.window, self.chest = packet.window, []
+
+    def close_window(self, packet):
+        """Show the own window again."""
+        if packet.window == 0 or packet.window != self.window:
+            raise Malformed(f"{packet} where the window {self.window} is shown")
+        self.window, self.chest = 0, []
+
+    def set_window(self, packet):
+        """Keep all slots of a window that opened, or find those of one that is sent again."""
+        if packet.window != self.window:
+            raise Malformed(f"{packet} where the window {self.window} is shown")
+        if type(self.previous) is OpenWindow:
+            self.chest, self.pack = packet.stacks[:CHEST_SIZE], packet.stacks[CHEST_SIZE:]
+            if len(packet.stacks) != CHEST_SIZE + len(SLOTS):
+                raise Malformed(f"{packet} of {len(packet.stacks)} slots")
+            return
+        before = self.chest if self.window else [None] * FIRST_SLOT
+        if packet.stacks != before + self.pack:
+            raise Malformed(f"{packet} for {before} and the pack {self.pack}")
+        self.due = SetSlot
 
     def check_answer(self, packet):
-        """Find that an answer to a click is of the own window."""
-        if packet.window != 0:
-            raise Malformed(f"{packet} of no window that is shown")
+        """Find that an answer to a click is of a window that is shown, or was."""
+        if packet.window not in (0, *WINDOWS):
+            raise Malformed(f"{packet} of no window")
 
     def add_players(self, packet):
         """Put new lines into the player list, in rising identifiers."""
@@ -300,7 +343,7 @@ OPENING = (JoinGame, SpawnPosition, Place)
 BEGINNING = (*OPENING, KeepAlive, Disconnect)
 
 # What comes next behind a packet of one kind, always.
-NEXT = {KeepAlive: Time, SpawnItem: ItemIs, WindowItems: SetSlot}
+NEXT = {KeepAlive: Time, SpawnItem: ItemIs, OpenWindow: WindowItems}
 
 # What comes of another player that is seen.
 CHANGES = {
@@ -330,7 +373,9 @@ FOLDS = {
     ItemIs: Replica.name_item,
     Destroy: Replica.destroy,
     SetSlot: Replica.set_slot,
-    WindowItems: Replica.check_window,
+    OpenWindow: Replica.open_window,
+    CloseWindow: Replica.close_window,
+    WindowItems: Replica.set_window,
     Confirm: Replica.check_answer,
     PlayersCame: Replica.add_players,
     PlayersLeft: Replica.remove_players,

@@ -1,4 +1,4 @@
-"""Tests of clicks in a player's own window.
+"""Tests of clicks in a player's own window and in that of a chest.
 
 Sources: wiki.vg, 'Protocol' ('Click Window', 'Close Window' and 'Confirm Transaction', both ways),
 docs/PROTOCOL.md and docs/WORLD.md, 'A click' and 'Windows that are shown, and pickups'.
@@ -6,19 +6,24 @@ docs/PROTOCOL.md and docs/WORLD.md, 'A click' and 'Windows that are shown, and p
 
 import protocol
 from client import log_in, wait_for_pack
-from clientbound import Confirm, Equipment
-from news import FLAT_FEET, cursor_news, expect_items, expect_sent, hand_news, item_news
-from news import log_in_two, slot_news, window_news
-from packs import DIRT, FIRST_SLOT, HOTBAR, KIT, STONE
+from clientbound import Change, CloseWindow, Confirm, Destroy, Equipment, PlayersLeft, SetSlot
+from news import AIR, BENEATH, CHEST_STATE, FLAT_FEET, UP, at_face, chest_news, cursor_news, dig
+from news import expect_items, expect_sent, floor_of, hand_news, item_news, log_in_two, one_of
+from news import settle, slot_news, window_news
+from packs import CHEST, CHEST_SIZE, DIRT, FIRST_SLOT, HOTBAR, KIT, STONE
 from program import Program
-from protocol import Stack
+from protocol import Stack, offline_identifier
 
 STONE_PILE, DIRT_PILE = KIT[27:29]
 
-# The modes of a click: by a button, by a key with a number, and by the key that drops.
-BUTTON, KEY, DROP = 0, 2, 4
+# The modes of a click: by a button, with shift, by a key with a number, and by the key that drops.
+BUTTON, SHIFT, KEY, DROP = 0, 1, 2, 4
 LEFT, RIGHT = 0, 1
 OUTSIDE = -999
+
+# Where a chest stands, and the first slot of the hotbar in its window.
+CHEST_CELL = at_face(BENEATH, UP)
+CHEST_HOTBAR = CHEST_SIZE + 27
 
 
 def clicks_move_piles(path):
@@ -90,9 +95,74 @@ def closing_drops_the_cursor(path):
         expect_items([anna], {})
 
 
+def two_at_a_chest(port):
+    """Log Anna and Ben in, have Anna place a chest, and let both look into it."""
+    anna, ben = log_in_two(port)
+    anna.send(protocol.held(3) + protocol.placement(BENEATH, UP) + protocol.held(8))
+    ben.send(protocol.held(8))
+    settle([anna, ben])
+    for client in (anna, ben):
+        client.forget_news()
+        client.send(protocol.placement(CHEST_CELL, UP))
+    pack = list(KIT)
+    pack[30] = Stack(CHEST, 3, 0)
+    expect_sent({anna: chest_news(1, [], pack), ben: chest_news(1, [], KIT)})
+    return anna, ben
+
+
+def two_share_a_chest(path):
+    """What one puts into a chest the other is told, and takes; a click on what was is refused."""
+    half = Stack(STONE, 32, 0)
+    with Program(path) as program:
+        anna, ben = two_at_a_chest(program.port)
+        anna.send(protocol.click(CHEST_HOTBAR, LEFT, 1, SHIFT, STONE_PILE, 1))
+        put = SetSlot(1, 0, STONE_PILE)
+        expect_sent({anna: [put, SetSlot(1, CHEST_HOTBAR, None), Confirm(1, 1, True)], ben: [put]})
+        ben.send(protocol.click(0, RIGHT, 1, BUTTON, STONE_PILE, 1))
+        took = SetSlot(1, 0, half)
+        expect_sent({anna: [took], ben: [took, cursor_news(half), Confirm(1, 1, True)]})
+        anna.send(protocol.click(0, LEFT, 2, BUTTON, STONE_PILE, 1) + protocol.confirm(2, 1))
+        expect_sent({anna: [Confirm(1, 2, False), *again(anna)], ben: []})
+        anna.send(protocol.click(0, LEFT, 3, SHIFT, half, 1))
+        gone = SetSlot(1, 0, None)
+        back = SetSlot(1, CHEST_HOTBAR + 8, half)
+        expect_sent({anna: [gone, back, Confirm(1, 3, True)], ben: [gone, Equipment(1, half)][::-1]})
+
+
+def again(client):
+    """List the packets of the chest's window that a client is shown, as it was told."""
+    shown = client.replica
+    opened = chest_news(shown.window, shown.chest, shown.pack)
+    return [opened[1], cursor_news(shown.cursor)]
+
+
+def chests_close(path):
+    """A dug chest drops what lay in it, and closes for all; who leaves lets go of its cursor."""
+    with Program(path) as program:
+        anna, ben = two_at_a_chest(program.port)
+        anna.send(protocol.click(CHEST_HOTBAR, LEFT, 1, SHIFT, STONE_PILE, 1))
+        ben.send(protocol.click(CHEST_HOTBAR + 1, LEFT, 1, BUTTON, DIRT_PILE, 1))
+        settle([anna, ben])
+        anna.forget_news()
+        ben.forget_news()
+        ben.send(dig(CHEST_CELL))
+        items = [*item_news(3, floor_of(CHEST_CELL), one_of(CHEST_STATE))]
+        items += item_news(4, floor_of(CHEST_CELL), STONE_PILE)
+        items += item_news(5, FLAT_FEET, DIRT_PILE)
+        told = [Change(CHEST_CELL, AIR), *items, CloseWindow(1)]
+        expect_sent({anna: told, ben: [*told, cursor_news(None)]})
+        ben.send(protocol.click(HOTBAR + 2, LEFT, 2, BUTTON, KIT[29]))
+        expect_sent({ben: [hand_news(2, None), cursor_news(KIT[29]), Confirm(0, 2, True)]})
+        ben.close()
+        left = [PlayersLeft([offline_identifier("Ben")]), Destroy([2])]
+        expect_sent({anna: [*left, *item_news(6, FLAT_FEET, KIT[29])]})
+
+
 TESTS = [
     clicks_move_piles,
     refused_clicks_wait,
     keys_exchange_and_drop,
     closing_drops_the_cursor,
+    two_share_a_chest,
+    chests_close,
 ]
