@@ -13,7 +13,7 @@ use Rattle.mc_model.specs.Showing.{last_shown, sight_of}
 use Rattle.mc_model.specs.World.{World, each, is_closing}
 use Rattle.mc_model.specs.Tick.{aged, at_tick, beat, flush, grown, shown_all, tick, tick_hands}
 use Rattle.mc_model.specs.Tick.{told}
-use Rattle.mc_laws.proofs.Deeds.Swaps.{leave_after}
+use Rattle.mc_laws.proofs.Apart.Swaps.{leave_after}
 use Rattle.mc_laws.proofs.Walk.Each.{each_last, each_links}
 use Rattle.mc_laws.proofs.Walk.Ticking.{at_tick_last, at_tick_shown, tick_handed, tick_link}
 use Rattle.mc_laws.proofs.Walk.Ticking.{tick_shown}

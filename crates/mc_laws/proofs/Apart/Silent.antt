@@ -23,8 +23,8 @@ use Rattle.mc_model.specs.Apart.{FallsSilent, HandsAlike, IsShut, SameBut}
 use Rattle.mc_model.specs.Headline.{IsEnded}
 use Rattle.mc_model.proofs.Maps.Lookups.{put_other, put_same}
 use Rattle.mc_laws.proofs.Deeds.Leaving.{leave_nobody, leave_other, leave_same, leave_stays}
-use Rattle.mc_laws.proofs.Deeds.Swaps.{keys_removed, leave_but, leave_first, leave_some}
-use Rattle.mc_laws.proofs.Deeds.Swaps.{leave_without}
+use Rattle.mc_laws.proofs.Apart.Swaps.{keys_removed, leave_but, leave_first, leave_some}
+use Rattle.mc_laws.proofs.Apart.Swaps.{leave_without}
 use Rattle.mc_laws.proofs.Walk.Each.{disconnect_closes}
 use Rattle.mc_laws.proofs.Walk.Handings.{gone_closed, not_in_play}
 use Rattle.mc_laws.proofs.Walk.Ticking.{beats_player, tick_unread}

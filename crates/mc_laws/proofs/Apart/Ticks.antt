@@ -19,7 +19,7 @@ use Rattle.mc_model.specs.Good.{GoodWorld, in_play}
 use Rattle.mc_model.specs.Apart.{AlikeBut, IsShut, SameBut}
 use Rattle.mc_model.proofs.Maps.Lookups.{get_keyed}
 use Rattle.mc_laws.proofs.Deeds.Leaving.{leave_nobody}
-use Rattle.mc_laws.proofs.Deeds.Swaps.{leave_after}
+use Rattle.mc_laws.proofs.Apart.Swaps.{leave_after}
 use Rattle.mc_laws.proofs.Walk.Handings.{not_in_play}
 use Rattle.mc_laws.proofs.Walk.Each.{each_links, each_players}
 use Rattle.mc_laws.proofs.Runs.Worlds.{at_tick_world}
