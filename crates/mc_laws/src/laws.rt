@@ -20,7 +20,8 @@ ghost use Rattle.mc_model.specs.declared.seen.TheConstants.{DESTROYED_MAX};
 
 /// Along every run each player is one entity, which holds what its pack has at its hand; numbers
 /// and identifiers are of one player each; packs and chests are of what a world holds, and there is
-/// a chest just where the land has one; packets can tell what is in the game; and there are players
+/// a chest just where the land has one; a player is shown a chest just where its window has a
+/// number, and that chest is there; packets can tell what is in the game; and there are players
 /// exactly for the connections in play.
 pub fn worlds_stay_good()
     ensures { (settings : Begun) (events : List Event) →
@@ -28,7 +29,7 @@ pub fn worlds_stay_good()
 {}
 
 /// What one connection does hands nothing to any other, and leaves its link, its unread bytes, what
-/// it was shown, and of its player all but the notes.
+/// it was shown, and of its player all but the notes and which chest it is shown.
 pub fn only_senders_change()
     ensures { (settings : Begun) (events : List Event) (e : Event) (k : ℕ) → IsOf k e →
         OnlySender k (history (new_world settings) events)

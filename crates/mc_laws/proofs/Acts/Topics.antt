@@ -64,8 +64,8 @@ use Rattle.mc_laws.proofs.Deeds.Packs.{hand_within, held_is_item, named_is_pack}
 use Rattle.mc_laws.proofs.Deeds.Packs.{with_hand_is_pack}
 use Rattle.mc_laws.proofs.Deeds.Kept.{made_good, made_told}
 use Rattle.mc_laws.proofs.Deeds.Made.{Deed, Made, MadeWith, before, by_deed, by_notes, either}
-use Rattle.mc_laws.proofs.Deeds.Made.{first, gained, join, rehands, repacks, restocks, sets, spent, stands}
-use Rattle.mc_laws.proofs.Deeds.Made.{throws, untouched}
+use Rattle.mc_laws.proofs.Deeds.Made.{first, gained, join, rehands, repacks, restocks, sets}
+use Rattle.mc_laws.proofs.Deeds.Made.{spent, stands, throws, untouched}
 use Rattle.mc_laws.proofs.Deeds.Shutting.{HasRoom, can_fall, closed, falls, has_room, shut_all_made}
 use Rattle.mc_laws.proofs.Deeds.Shutting.{shut_good, shut_here, shut_made, watched_made}
 use Rattle.mc_laws.proofs.Deeds.Thrown.{all_thrown_made, chest_are, chest_held, in_items}

@@ -1,6 +1,6 @@
 -- What each deed keeps, and so several one after another: the game goes onward, it and its chests
 -- stay good, and packets can tell it.
-use Rattle.std.proofs.Common.{◌≡◌, ℕ, ◌+◌, List, [], ◌∷◌, refl, sym, subst, arith}
+use Rattle.std.proofs.Common.{ℕ, ◌+◌, List, [], ◌∷◌, refl, sym, subst, arith}
 use Rattle.mc_entities.specs.declared.entity.EntityKind.TheVariants as kinds
 use Rattle.mc_model.specs.Things.{in_hand}
 use Rattle.mc_model.specs.Game.{Game, pack_of}

@@ -22,7 +22,7 @@ use Rattle.mc_model.specs.Leaving.{leave}
 use Rattle.mc_model.specs.Link.{Handing, Link, gone, hand, mark_closed, quiet}
 use Rattle.mc_model.specs.World.{Seat, Turn}
 use Rattle.mc_model.specs.Fitting.{Told}
-use Rattle.mc_model.specs.Good.{AreChests, Good}
+use Rattle.mc_model.specs.Good.{AreChests, AreShown, Good}
 use Rattle.mc_model.specs.Apart.{traits_of}
 use Rattle.mc_model.proofs.Maps.Lookups.{any_found, put_other, put_same}
 use Rattle.mc_laws.proofs.Deeds.Chests.{GoodGame, same_chests}
@@ -34,6 +34,8 @@ use Rattle.mc_laws.proofs.Fits.Acts.{act_tells, enter_tells}
 use Rattle.mc_laws.proofs.Fits.Sound.{welcome_of}
 use Rattle.mc_laws.proofs.Walk.Handings.{gone_closed, hand_cases, heard_stage, not_in_play}
 use Rattle.mc_laws.proofs.Walk.Moves.{Kept, keeps, does, shakes, answers, closes, comes_in}
+use Rattle.mc_laws.proofs.Windows.Acts.{act_shown}
+use Rattle.mc_laws.proofs.Windows.Games.{enter_shown, leave_shown}
 
 -- what of a game one connection leaves as it was: the players of others, and what all rests on
 pub record OthersStay (k : ℕ) (g v : Game) : Type 0 where
@@ -42,11 +44,13 @@ pub record OthersStay (k : ℕ) (g v : Game) : Type 0 where
   pub settings : v.settings ≡ g.settings
   pub more : g.eids ≤ v.eids
 
--- a seat whose game is good, and so are its chests, and such that packets can tell it, where there
--- is a player exactly while the connection is in play, and what it left of the game before
+-- a seat whose game is good, and so are its chests and windows, and such that packets can tell it,
+-- where there is a player exactly while the connection is in play, and what it left of the game
+-- before
 pub record GoodSeat (k : ℕ) (before : Game) (s : Seat) : Type 0 where
   pub game : Good s.game
   pub chests : AreChests s.game
+  pub windows : AreShown s.game
   pub told : Told s.game
   pub plays : is_some (get s.game.players k) ≡ is_play s.link.stage
   pub others : OthersStay k before s.game
@@ -72,15 +76,16 @@ leave_stay k g = let s = leave_stays k g in record {
 
 -- who is closed has left
 closed_seat : (k : ℕ) (before : Game) (s : Seat) (l : Link) → GoodGame s.game → Told s.game →
-    OthersStay k before s.game → is_closed l.stage ≡ true →
+    AreShown s.game → OthersStay k before s.game → is_closed l.stage ≡ true →
     GoodSeat k before (turn k s (quiet l)).seat
-closed_seat k before s l w t others is = step (is_closed l.stage) is
+closed_seat k before s l w t shown others is = step (is_closed l.stage) is
   where
     step : (b : Bool) → b ≡ true → GoodSeat k before
         (record s { game = if b then leave k s.game else s.game; link = l })
     step true e = record {
       game = leave_good k s.game w.0;
       chests = leave_chests k s.game w.1;
+      windows = leave_shown k s.game w.0 shown;
       told = leave_told k s.game w.0 t;
       plays = ap is_some (leave_same k s.game) ∙ sym (not_in_play l.stage is);
       others = stay_on k before s.game (leave k s.game) others (leave_stay k s.game);
@@ -89,24 +94,31 @@ closed_seat k before s l w t others is = step (is_closed l.stage) is
 
 -- and who is not has not
 open_seat : (k : ℕ) (before : Game) (s : Seat) (l : Link) → GoodGame s.game → Told s.game →
-    OthersStay k before s.game →
+    AreShown s.game → OthersStay k before s.game →
     (is_closed l.stage ≡ false → is_some (get s.game.players k) ≡ is_play l.stage) →
     GoodSeat k before (turn k s (quiet l)).seat
-open_seat k before s l w t others plays = step (is_closed l.stage) refl
+open_seat k before s l w t shown others plays = step (is_closed l.stage) refl
   where
     step : (b : Bool) → is_closed l.stage ≡ b → GoodSeat k before (turn k s (quiet l)).seat
-    step true is = closed_seat k before s l w t others is
+    step true is = closed_seat k before s l w t shown others is
     step false is = rw is
-        (record { game = w.0; chests = w.1; told = t; plays = plays is; others = others })
+        (record {
+          game = w.0;
+          chests = w.1;
+          windows = shown;
+          told = t;
+          plays = plays is;
+          others = others;
+        })
 
 handed_seat : (k : ℕ) (before : Game) (s : Seat) (m : Link) (packets : List Sent) →
-    GoodGame s.game → Told s.game → OthersStay k before s.game →
+    GoodGame s.game → Told s.game → AreShown s.game → OthersStay k before s.game →
     (is_closed m.stage ≡ false → is_some (get s.game.players k) ≡ is_play m.stage) →
     GoodSeat k before (turn k s (hand m packets)).seat
-handed_seat k before s m packets w t others plays =
+handed_seat k before s m packets w t shown others plays =
     hand_cases m packets (λ (h : Handing). GoodSeat k before (turn k s h).seat)
-    (λ fits. open_seat k before s (record m { owed = _ }) w t others plays)
-    (λ much. closed_seat k before s (record (mark_closed m _) { owed = _ }) w t others refl)
+    (λ fits. open_seat k before s (record m { owed = _ }) w t shown others plays)
+    (λ much. closed_seat k before s (record (mark_closed m _) { owed = _ }) w t shown others refl)
 
 free_of : (v n t f : Bool) → (if v then Some refusals.Version else if n then Some refusals.Name
     else if t then Some refusals.Taken else if f then Some refusals.Full else None) ≡ None →
@@ -147,6 +159,7 @@ seat_kept k before s t ps (keeps unread is) a =
     (record {
       game = a.game;
       chests = a.chests;
+      windows = a.windows;
       told = a.told;
       plays = a.plays;
       others = a.others;
@@ -157,6 +170,7 @@ seat_kept k before s t ps (does packet g at did is) a =
     subst (λ (x : Turn). GoodSeat k before x.seat) (sym is) (record {
       game = good.0;
       chests = good.1;
+      windows = act_shown k packet s.game g did a.game a.chests a.windows;
       told = act_tells k packet s.game g did (a.game, a.chests) a.told;
       plays = on.keys k ∙ a.plays ∙ ap is_play (sym (heard_stage packet s.link));
       others = stay_on k before s.game g a.others
@@ -166,33 +180,41 @@ seat_kept k before s t ps (shakes protocol stage at play closed is) a =
     subst (λ (x : Turn). GoodSeat k before x.seat) (sym is) (record {
       game = a.game;
       chests = a.chests;
+      windows = a.windows;
       told = a.told;
       plays = a.plays ∙ no_play s.link.stage at ∙ sym play;
       others = a.others;
     })
 seat_kept k before s t ps (answers packet at is) a =
     subst (λ (x : Turn). GoodSeat k before x.seat) (sym is)
-    (handed_seat k before s s.link _ (a.game, a.chests) a.told a.others (λ open_. a.plays))
+    (handed_seat k before s s.link _ (a.game, a.chests) a.told a.windows a.others
+    (λ open_. a.plays))
 seat_kept k before s t ps (closes cause packets open_ last other is) a =
     subst (λ (x : Turn). GoodSeat k before x.seat) (sym is)
-    (handed_seat k before s (mark_closed s.link cause) packets (a.game, a.chests) a.told a.others
-    (λ open_. absurd cc))
+    (handed_seat k before s (mark_closed s.link cause) packets (a.game, a.chests) a.told a.windows
+    a.others (λ open_. absurd cc))
 seat_kept k before s t ps (comes_in name at free is) a =
     subst (λ (x : Turn). GoodSeat k before x.seat) (sym is)
     (handed_seat k before (entered k s name) (entered k s name).link _ (
-      enter_good k name s.game a.game (free_name s.game s.link.protocol name free)
-          (nobody_yet (get s.game.players k) (a.plays ∙ ap is_play at)),
+      enter_good k name s.game a.game other nobody,
       same_chests refl refl refl a.chests,
     )
     (enter_tells k name s.game (welcome_of s.game s.link.protocol name free).numbers a.game a.told)
+    (enter_shown k name s.game a.game other nobody a.windows)
     (stay_on k before s.game (enter_as k name s.game) a.others (enter_stay k name s.game))
     (λ open_. ap is_some (put_same s.game.players k _)))
+  where
+    other : (j : ℕ) (q : Player) → get s.game.players j ≡ Some q → q.uuid ≢ offline_uuid name
+    other = free_name s.game s.link.protocol name free
+
+    nobody : get s.game.players k ≡ None
+    nobody = nobody_yet (get s.game.players k) (a.plays ∙ ap is_play at)
 
 -- it goes, or takes some of what it is owed
 pub departed_seat : (k : ℕ) (before : Game) (cause : Cause) (s : Seat) → GoodSeat k before s →
     GoodSeat k before (depart k cause s).seat
 departed_seat k before cause s a =
-    closed_seat k before s (gone cause s.link) (a.game, a.chests) a.told a.others
+    closed_seat k before s (gone cause s.link) (a.game, a.chests) a.told a.windows a.others
     (gone_closed cause s.link)
 
 pub taken_seat : (k : ℕ) (before : Game) (n : ℕ) (s : Seat) → GoodSeat k before s →
@@ -201,6 +223,7 @@ taken_seat k before n s a =
     record {
       game = a.game;
       chests = a.chests;
+      windows = a.windows;
       told = a.told;
       plays = a.plays;
       others = a.others;

@@ -17,7 +17,7 @@ use Rattle.mc_model.specs.World.{is_closing, with_seat}
 use Rattle.mc_model.specs.Tick.{aged, at_tick, beats, flushed, picking, shown_all, told_player}
 use Rattle.mc_model.specs.Run.{history}
 use Rattle.mc_model.specs.Fitting.{Told}
-use Rattle.mc_model.specs.Good.{AreChests, Good, GoodWorld, in_play}
+use Rattle.mc_model.specs.Good.{AreChests, AreShown, Good, GoodWorld, in_play}
 use Rattle.mc_model.specs.Apart.{traits_of}
 use Rattle.mc_model.proofs.Maps.Lookups.{gone_other, gone_same, put_other, put_same}
 use Rattle.mc_laws.proofs.Deeds.Chests.{new_chests, same_chests}
@@ -30,6 +30,8 @@ use Rattle.mc_laws.proofs.Walk.Steps.{Move, departs, forgets, joins, passes, res
 use Rattle.mc_laws.proofs.Walk.Steps.{step_moves, takes}
 use Rattle.mc_laws.proofs.Fits.Told.{new_told}
 use Rattle.mc_laws.proofs.Pickups.Picking.{pickups_leave, pickups_picked}
+use Rattle.mc_laws.proofs.Windows.Games.{grown_shown, leave_all_shown, new_shown, pickups_shown}
+use Rattle.mc_laws.proofs.Windows.Games.{told_shown}
 use Rattle.mc_laws.proofs.Runs.Seats.{GoodSeat, all_stay, departed_seat, seat_kept, taken_seat}
 
 -- ---- one connection
@@ -39,6 +41,7 @@ pub first_seat : (w : World) (k : ℕ) (l : Link) → get w.links k ≡ Some l �
 first_seat w k l there a = record {
   game = a.game;
   chests = a.chests;
+  windows = a.windows;
   told = a.told;
   plays = a.plays k ∙ ap in_play there;
   others = all_stay k w.game;
@@ -64,6 +67,7 @@ sits_good : (w : World) (k : ℕ) (l : Link) (t : Turn) → get w.links k ≡ So
 sits_good w k l t there s a = record {
   game = s.game;
   chests = s.chests;
+  windows = s.windows;
   told = s.told;
   plays = λ j. elim (cases_eq j k) [
     | inl same ↦ rw same (s.plays ∙ ap in_play (sym (put_same w.links k t.seat.link)))
@@ -99,6 +103,7 @@ joins_good : (w : World) (k : ℕ) → is_new k w.last ≡ true → GoodWorld w 
 joins_good w k new a = record {
   game = a.game;
   chests = a.chests;
+  windows = a.windows;
   told = a.told;
   plays = λ j. elim (cases_eq j k) [
     | inl same ↦ rw same (a.plays k ∙ ap in_play (a.fresh k new) ∙ sym (joining_waits w)
@@ -120,6 +125,7 @@ forgets_good w k l there done a =
     record {
       game = a.game;
       chests = a.chests;
+      windows = a.windows;
       told = a.told;
       plays = λ j. elim (cases_eq j k) [
         | inl same ↦ rw same (a.plays k ∙ ap in_play there ∙ not_in_play l.stage closed
@@ -143,11 +149,17 @@ each_told : (f : ℕ → Link → Handing) (w : World) → Good w.game → Told 
 unfolding each
 each_told f w good t = leave_all_told (closed_by f w) w.game good t
 
+each_shown : (f : ℕ → Link → Handing) (w : World) → Good w.game → AreShown w.game →
+    AreShown (each f w).game
+unfolding each
+each_shown f w good shown = leave_all_shown (closed_by f w) w.game good shown
+
 pub each_world : (f : ℕ → Link → Handing) (w : World) →
     ((k : ℕ) (l : Link) → ClosesOrStays l.stage (f k l)) → GoodWorld w → GoodWorld (each f w)
 each_world f w stage a = record {
   game = each_good f w a.game;
   chests = each_chests f w a.chests;
+  windows = each_shown f w a.game a.windows;
   told = each_told f w a.game a.told;
   plays = λ j. ap is_some (each_players f w j) ∙ at_link j (get w.links j) (a.plays j)
       ∙ ap in_play (sym (each_links f w j));
@@ -166,6 +178,7 @@ aged_world : (w : World) → GoodWorld w → GoodWorld (aged w)
 aged_world w a = record {
   game = a.game;
   chests = same_chests refl refl refl a.chests;
+  windows = grown_shown w.game a.windows;
   told = a.told;
   plays = a.plays;
   fresh = a.fresh;
@@ -175,6 +188,7 @@ shown_world : (w : World) → GoodWorld w → GoodWorld (shown_all w)
 shown_world w a = record {
   game = told_good w.game a.game;
   chests = same_chests refl refl refl a.chests;
+  windows = told_shown w.game a.game a.windows;
   told = a.told;
   plays = λ j. ap is_some (told_players w.game j) ∙ mapped (get w.game.players j) ∙ a.plays j;
   fresh = a.fresh;
@@ -190,6 +204,7 @@ picking_world w a = let picked = pickups_picked w.game a.game a.told in
     let left = pickups_leave w.game in record {
       game = picked.good;
       chests = same_chests left.settings left.edits left.chests a.chests;
+      windows = pickups_shown w.game a.game a.windows;
       told = picked.told;
       plays = λ j. ap (λ m. is_some (get m j)) left.players ∙ a.plays j;
       fresh = a.fresh;
@@ -247,6 +262,7 @@ new_good settings = record {
     bodies = λ n e found is. absurd (nothing_there found);
   };
   chests = new_chests settings;
+  windows = new_shown settings;
   told = new_told settings;
   plays = λ k. ap is_some (get-empty nat_cmp k) ∙ ap in_play (sym (get-empty nat_cmp k));
   fresh = λ k new. get-empty nat_cmp k;
