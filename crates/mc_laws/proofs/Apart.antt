@@ -1,5 +1,7 @@
 -- What connections have to do with one another: nothing but the game.
 pub mod Outs
+pub mod Leavings
+pub mod Swaps
 pub mod Alike
 pub mod BadFrames
 pub mod Senders

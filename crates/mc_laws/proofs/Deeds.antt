@@ -10,4 +10,3 @@ pub mod Kept
 pub mod Shutting
 pub mod Chests
 pub mod Thrown
-pub mod Swaps

@@ -12,11 +12,15 @@ use Rattle.mc_model.specs.Link.{Handing, Link}
 use Rattle.mc_model.specs.Showing.{last_shown, sight_of}
 use Rattle.mc_model.specs.World.{World, each, is_closing}
 use Rattle.mc_model.specs.Tick.{aged, at_tick, beat, flush, grown, shown_all, tick, tick_hands}
-use Rattle.mc_model.specs.Tick.{told}
-use Rattle.mc_laws.proofs.Deeds.Swaps.{leave_after}
-use Rattle.mc_laws.proofs.Walk.Each.{each_last, each_links}
+use Rattle.mc_model.specs.Tick.{told, told_player}
+use Rattle.mc_model.specs.Game.{Game, pack_of}
+use Rattle.mc_model.specs.Good.{Good}
+use Rattle.mc_laws.proofs.Apart.Leavings.{HasNothing}
+use Rattle.mc_laws.proofs.Apart.Swaps.{leave_after}
+use Rattle.mc_laws.proofs.Walk.Each.{each_last, each_links, told_good, told_players}
 use Rattle.mc_laws.proofs.Walk.Ticking.{at_tick_last, at_tick_shown, tick_handed, tick_link}
 use Rattle.mc_laws.proofs.Walk.Ticking.{tick_shown}
+use Rattle.mc_laws.proofs.Windows.Same.{unmapped}
 use Rattle.mc_laws.proofs.Apart.Outs.{handed_by}
 
 -- the same connection is closed by what makes the same of it
@@ -27,6 +31,12 @@ closing_alike f g i o q alike same = ap (is_closing f i) same ∙ at_link q
     at_link : (r : Option Link) → is_closing f i r ≡ is_closing g i r
     at_link None = refl
     at_link (Some l) = ap (λ (h : Handing). is_closed h.link.stage) (alike l)
+
+-- what hangs on a cursor hangs there once all were told
+told_nothing : (k : ℕ) (g : Game) → HasNothing k g → HasNothing k (told g)
+told_nothing k g none p there =
+    let was = unmapped told_player (get g.players k) p (sym (told_players g k) ∙ there) in
+    ap (λ (q : Player). (pack_of g q).cursor) (sym was.is) ∙ none was.value was.found
 
 -- Two worlds in which a tick comes to one game, and all connections but one are the same, were
 -- shown the same and are made the same of by the beat.
@@ -83,15 +93,17 @@ module _ (k : ℕ) (w v : World) (a : TicksAlike k w v) where
       ∙ (λ x. option_map (λ (l : Link). (a.beats j ne l x).link) (a.links j ne x))
       ∙ sym (each_links (λ (i : ℕ) (l : Link). beat (grown v.game) (get v.shown i) i l) (aged v) j)
 
-  -- once that one left both, the games are the same
-  pub left_same : leave k (tick w).world.game ≡ leave k (tick v).world.game
+  -- once that one left both, the games are the same, where nothing hung on its cursor
+  pub left_same : Good (at_tick w).game → HasNothing k (at_tick w).game →
+      leave k (tick w).world.game ≡ leave k (tick v).world.game
   unfolding each
-  left_same =
+  left_same good none =
       leave_after k (λ (i : ℕ). is_closing flush_w i (get (at_tick w).links i))
       (λ (i : ℕ). is_closing flush_v i (get (at_tick v).links i))
       (λ i ne. closing_alike flush_w flush_v i (get (at_tick w).links i) (get (at_tick v).links i)
       (λ l. λ x. flush (a.game x) (shown_then i ne x) i l) (links_then i ne))
       (keys (told (at_tick w).game).players) (told (at_tick w).game)
+      (told_good (at_tick w).game good) (told_nothing k (at_tick w).game none)
       ∙ (λ x. leave k (leave_all (filter (λ (i : ℕ).
       is_closing flush_v i (get (at_tick v).links i)) (keys (told (a.game x)).players))
       (told (a.game x))))

@@ -13,7 +13,7 @@ use Rattle.mc_model.specs.Sight.{Sight}
 use Rattle.mc_model.specs.Step.{left, ticked, took, is_new, depart, step, take_from}
 use Rattle.mc_model.specs.Talk.{farewell}
 use Rattle.mc_model.specs.Stages.{is_closed}
-use Rattle.mc_model.specs.Game.{Game}
+use Rattle.mc_model.specs.Game.{Game, pack_of}
 use Rattle.mc_model.specs.Leaving.{leave, leave_all}
 use Rattle.mc_model.specs.Link.{Link, disconnect, mark_closed, quiet}
 use Rattle.mc_model.specs.Showing.{due}
@@ -22,19 +22,22 @@ use Rattle.mc_model.specs.Pickups.{pickups}
 use Rattle.mc_model.specs.Tick.{at_tick, awaiting, beat, beat_of, grown, is_silent}
 use Rattle.mc_model.specs.Tick.{tick}
 use Rattle.mc_model.specs.Fitting.{Told}
-use Rattle.mc_model.specs.Good.{AreChests, Good, GoodWorld, in_play}
+use Rattle.mc_model.specs.Good.{AreChests, AreShown, Good, GoodWorld, in_play}
 use Rattle.mc_model.specs.Causes.{IsTooMuch}
 use Rattle.mc_model.specs.Apart.{HandsAlike, IsFullIn, IsShut, OwesOther, SameBut}
 use Rattle.mc_model.specs.Headline.{IsEnded, IsServed, due_to}
-use Rattle.mc_model.proofs.Maps.Options.{none_some}
+use Rattle.mc_model.proofs.Maps.Options.{none_some, some_is}
 use Rattle.mc_model.proofs.Maps.Lookups.{put_other, put_same}
 use Rattle.mc_laws.proofs.Deeds.Leaving.{leave_nobody}
 use Rattle.mc_laws.proofs.Walk.Each.{disconnect_closes}
 use Rattle.mc_laws.proofs.Walk.Handings.{gone_closed}
-use Rattle.mc_laws.proofs.Walk.Ticking.{tick_unread}
+use Rattle.mc_laws.proofs.Walk.Ticking.{speaks_there, tick_unread}
 use Rattle.mc_laws.proofs.Apart.Alike.{TicksAlike, hands_same, last_same, left_same, shown_same}
 use Rattle.mc_laws.proofs.Apart.Alike.{tick_same}
+use Rattle.mc_laws.proofs.Apart.Leavings.{HasNothing}
+use Rattle.mc_laws.proofs.Decoding.Streams.{has_stage}
 use Rattle.mc_laws.proofs.Headline.Ticks.{at_tick_hands}
+use Rattle.mc_laws.proofs.Runs.Worlds.{at_tick_world}
 
 -- whether a beat closes a connection does not hang on what it is owed
 beat_closes : (g : Game) (shown : Option Sight) (l : Link) (owed : List ℕ) (o : Option Player) →
@@ -68,6 +71,7 @@ module _ (k : ℕ) (w v : World) (good : GoodWorld w) (a : OwesOther k w v) wher
   good_too = record {
     game = subst Good a.game good.game;
     chests = subst AreChests a.game good.chests;
+    windows = subst AreShown a.game good.windows;
     told = subst Told a.game good.told;
     plays = λ j. ap (λ (g : Game). is_some (get g.players j)) (sym a.game) ∙ good.plays j
         ∙ same_play j;
@@ -153,9 +157,16 @@ module _ (k : ℕ) (w v : World) (good : GoodWorld w) (h : IsFullIn k w v) where
       ∙ h.speaks)
       (λ much. h.fits (subst (IsTooMuch (other k w v good h.alike)) (sym due_same) much))
 
+  -- it is in play there, and nothing hangs on its cursor
+  has_nothing : HasNothing k (at_tick w).game
+  has_nothing p there = ap (λ (q : Player). (pack_of (at_tick w).game q).cursor)
+      (some_is p h.player (sym there ∙ speaks_there w k h.alike.link h.player h.alike.here h.plays
+      (ap is_closed (has_stage w k h.alike.link h.player good h.alike.here h.plays)) h.speaks))
+      ∙ h.empty
+
   game_same : (tick w).world.game ≡ leave k (tick v).world.game
   game_same = sym (leave_nobody k (tick w).world.game ended.gone)
-      ∙ left_same k w v same
+      ∙ left_same k w v same (at_tick_world w good).game has_nothing
 
   abbrev then_left : World
   then_left = with_seat (tick v).world k

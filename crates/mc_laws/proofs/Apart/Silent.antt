@@ -12,7 +12,9 @@ use Rattle.mc_model.specs.Step.{left, ticked, depart, step}
 use Rattle.mc_model.specs.Talk.{farewell}
 use Rattle.mc_model.specs.Ticks.{older}
 use Rattle.mc_model.specs.Stages.{is_closed}
-use Rattle.mc_model.specs.Game.{Game}
+use Rattle.mc_windows.specs.Pack.{finished_pack}
+use Rattle.mc_model.specs.Game.{Game, pack_of}
+use Rattle.mc_model.proofs.Maps.Options.{none_some, some_is}
 use Rattle.mc_model.specs.Leaving.{leave, leave_all}
 use Rattle.mc_model.specs.Link.{Link, disconnect, gone}
 use Rattle.mc_model.specs.World.{World, each, is_closing, on_link, seat_of, with_seat}
@@ -23,8 +25,8 @@ use Rattle.mc_model.specs.Apart.{FallsSilent, HandsAlike, IsShut, SameBut}
 use Rattle.mc_model.specs.Headline.{IsEnded}
 use Rattle.mc_model.proofs.Maps.Lookups.{put_other, put_same}
 use Rattle.mc_laws.proofs.Deeds.Leaving.{leave_nobody, leave_other, leave_same, leave_stays}
-use Rattle.mc_laws.proofs.Deeds.Swaps.{keys_removed, leave_but, leave_first, leave_some}
-use Rattle.mc_laws.proofs.Deeds.Swaps.{leave_without}
+use Rattle.mc_laws.proofs.Apart.Leavings.{HasNothing, gone_with, left_empty}
+use Rattle.mc_laws.proofs.Apart.Swaps.{keys_removed, leave_but, leave_first, leave_without}
 use Rattle.mc_laws.proofs.Walk.Each.{disconnect_closes}
 use Rattle.mc_laws.proofs.Walk.Handings.{gone_closed, not_in_play}
 use Rattle.mc_laws.proofs.Walk.Ticking.{beats_player, tick_unread}
@@ -32,7 +34,8 @@ use Rattle.mc_laws.proofs.Apart.Alike.{TicksAlike, closing_alike, hands_same, la
 use Rattle.mc_laws.proofs.Apart.Alike.{left_same, shown_same, tick_same}
 use Rattle.mc_laws.proofs.Headline.Ticks.{at_tick_hands, others_stay}
 use Rattle.mc_laws.proofs.Runs.Seats.{nobody_yet}
-use Rattle.mc_laws.proofs.Runs.Worlds.{step_good}
+use Rattle.mc_laws.proofs.Runs.Worlds.{at_tick_world, step_good}
+use Rattle.mc_laws.proofs.Pickups.Picking.{pickups_leave}
 
 -- what a beat makes of a connection hangs on the age and on its player alone
 beat_alike : (g v : Game) (shown : Option Sight) (l : Link) (o q : Option Player) →
@@ -83,14 +86,21 @@ module _ (k : ℕ) (w : World) (good : GoodWorld w) (h : FallsSilent k w) where
         disconnect_closes h.link causes.Silent (farewell h.link.stage causes.Silent),
       ) refl
 
+  left_now : leave k w.game ≡ gone_with k h.player (finished_pack (pack_of w.game h.player)) w.game
+  left_now = left_empty k h.player w.game h.plays good.game h.empty
+
   grown_left : leave k (grown w.game) ≡ grown (leave k w.game)
-  grown_left = leave_some k (grown w.game) h.player h.plays
-      ∙ ap grown (sym (leave_some k w.game h.player h.plays))
+  grown_left = left_empty k h.player (grown w.game) h.plays good.game h.empty
+      ∙ ap grown (sym left_now)
 
   keys_left : filter (λ (q : ℕ). not (q == k)) (keys w.game.players)
       ≡ keys (leave k w.game).players
-  keys_left = sym (ap (λ (g : Game). keys g.players) (leave_some k w.game h.player h.plays)
-      ∙ keys_removed w.game.players k)
+  keys_left = sym (ap (λ (g : Game). keys g.players) left_now ∙ keys_removed w.game.players k)
+
+  -- nothing hangs on its cursor
+  has_nothing : HasNothing k (grown w.game)
+  has_nothing p there = ap (λ (q : Player). (pack_of w.game q).cursor)
+      (some_is p h.player (sym there ∙ h.plays)) ∙ h.empty
 
   -- whom the beat closes, in each
   abbrev closes_here : ℕ → Bool
@@ -111,9 +121,12 @@ module _ (k : ℕ) (w : World) (good : GoodWorld w) (h : FallsSilent k w) where
   unfolding each
   same_tick = ap pickups (
       sym (leave_nobody k (beats (aged w)).game gone_then)
-      ∙ leave_first k (filter closes_here (keys w.game.players)) (grown w.game)
-      ∙ leave_but k closes_here closes_there closing_same (keys w.game.players) (grown w.game)
-      ∙ sym (leave_without k closes_there (keys w.game.players) (grown w.game))
+      ∙ leave_first k (filter closes_here (keys w.game.players)) (grown w.game) good.game
+      has_nothing
+      ∙ leave_but k closes_here closes_there closing_same (keys w.game.players)
+      (leave k (grown w.game)) (leave_same k (grown w.game))
+      ∙ sym (leave_without k closes_there (keys w.game.players) (leave k (grown w.game))
+      (leave_same k (grown w.game)))
       ∙ (λ x. leave_all (filter closes_there (keys_left x)) (grown_left x))
       ∙ (λ x. leave_all (filter closes_there (keys (sym game_before x).players))
       (grown (sym game_before x))))
@@ -126,6 +139,10 @@ module _ (k : ℕ) (w : World) (good : GoodWorld w) (h : FallsSilent k w) where
     shown = λ j ne. refl;
     beats = beat_same;
   }
+
+  -- it is not there in it
+  nobody_now : get (at_tick w).game.players k ≡ None
+  nobody_now = ap (λ m. get m k) (pickups_leave (beats (aged w)).game).players ∙ gone_then
 
   -- ---- after it
 
@@ -149,7 +166,8 @@ module _ (k : ℕ) (w : World) (good : GoodWorld w) (h : FallsSilent k w) where
   silent_twin : SameBut k (tick w).world (tick before).world
   silent_twin = record {
     game = sym (leave_nobody k (tick w).world.game ended.gone)
-        ∙ left_same k w before alike
+        ∙ left_same k w before alike (at_tick_world w good).game
+        (λ p there. absurd (none_some (get (at_tick w).game.players k) p nobody_now there))
         ∙ leave_nobody k (tick before).world.game nobody_then;
     last = last_same k w before alike;
     links = tick_same k w before alike;

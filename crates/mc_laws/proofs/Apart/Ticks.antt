@@ -19,7 +19,7 @@ use Rattle.mc_model.specs.Good.{GoodWorld, in_play}
 use Rattle.mc_model.specs.Apart.{AlikeBut, IsShut, SameBut}
 use Rattle.mc_model.proofs.Maps.Lookups.{get_keyed}
 use Rattle.mc_laws.proofs.Deeds.Leaving.{leave_nobody}
-use Rattle.mc_laws.proofs.Deeds.Swaps.{leave_after}
+use Rattle.mc_laws.proofs.Apart.Swaps.{leave_but}
 use Rattle.mc_laws.proofs.Walk.Handings.{not_in_play}
 use Rattle.mc_laws.proofs.Walk.Each.{each_links, each_players}
 use Rattle.mc_laws.proofs.Runs.Worlds.{at_tick_world}
@@ -45,26 +45,14 @@ module _ (k : ℕ) (f g : ℕ → Link → Handing) (w v : World)
     (alike : (i : ℕ) → i ≢ k → (l : Link) → f i l ≡ g i l)
     (a : SameBut k w v) (none : get w.game.players k ≡ None)
     (rests : (l : Link) → f k l ≡ quiet l) (rests_too : (l : Link) → g k l ≡ quiet l) where
-  gone : (h : ℕ → Link → Handing) (u : World) → get u.game.players k ≡ None →
-      get (each h u).game.players k ≡ None
-  gone h u nobody_ = each_players h u k ∙ ap (cond (is_closing h k (get u.links k)) None) nobody_
-      ∙ either (is_closing h k (get u.links k))
-    where
-      either : (b : Bool) → ◌≡◌ {A = Option Player} (cond b None None) None
-      either true = refl
-      either false = refl
-
   same_game : (each f w).game ≡ (each g v).game
   unfolding each
-  same_game = sym (leave_nobody k (each f w).game (gone f w none))
-      ∙ leave_after k (λ (i : ℕ). is_closing f i (get w.links i))
+  same_game = leave_but k (λ (i : ℕ). is_closing f i (get w.links i))
       (λ (i : ℕ). is_closing g i (get v.links i))
       (λ i ne. closing_alike f g i (get w.links i) (get v.links i) (alike i ne) (a.links i ne))
-      (keys w.game.players) w.game
-      ∙ (λ x. leave k (leave_all (filter (λ (i : ℕ). is_closing g i (get v.links i))
-      (keys (a.game x).players)) (a.game x)))
-      ∙ leave_nobody k (each g v).game
-      (gone g v (ap (λ (h : Game). get h.players k) (sym a.game) ∙ none))
+      (keys w.game.players) w.game none
+      ∙ (λ x. leave_all (filter (λ (i : ℕ). is_closing g i (get v.links i))
+      (keys (a.game x).players)) (a.game x))
 
   stays_shut : (h : ℕ → Link → Handing) (o : Option Link) → ((l : Link) → h k l ≡ quiet l) →
       IsShut o → IsShut (option_map (λ (l : Link). (h k l).link) o)

@@ -121,7 +121,7 @@ pub record ChangesOne (k : ℕ) (p q : Player) (g v : Game) : Type 0 where
   pub eids : v.eids ≡ g.eids
   pub rise : Rise eid_of (pos 0) v.entities (pos v.eids)
 
-names_apart : (entities : List Entity) (eids : ℕ) (packs : FinMap name_cmp PackValue)
+pub names_apart : (entities : List Entity) (eids : ℕ) (packs : FinMap name_cmp PackValue)
     (p q : Player) → IsOwn entities eids packs p → IsOwn entities eids packs q → AreApart p q →
     p.name ≢ q.name
 names_apart entities eids packs p q a b apart same =

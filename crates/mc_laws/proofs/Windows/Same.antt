@@ -16,7 +16,6 @@ use Rattle.mc_land.proofs.Orders.{keys_total}
 use Rattle.mc_windows.specs.Pack.{PackValue, kit_pack}
 use Rattle.mc_model.specs.declared.notes.Notes.{Notes}
 use Rattle.mc_model.specs.declared.player.Player.{Player}
-use Rattle.mc_model.specs.Names.{offline_uuid}
 use Rattle.mc_model.specs.Things.{chest_of_cell, chest_put}
 use Rattle.mc_model.specs.Game.{Game, chest_at, pack_of}
 use Rattle.mc_model.specs.Deeds.{noting, repack_of, restocked, with_player}
@@ -25,6 +24,7 @@ use Rattle.mc_model.specs.Good.{AreShown, Good, IsShown}
 use Rattle.mc_model.proofs.Maps.Options.{some_is}
 use Rattle.mc_model.proofs.Maps.Lookups.{changed_other, changed_same, name_cases}
 use Rattle.mc_model.proofs.Maps.Lookups.{name_changed_other, name_changed_same}
+use Rattle.mc_laws.proofs.Deeds.Keeping.{names_apart}
 use Rattle.mc_laws.proofs.Windows.Watching.{AreRight, IsRight, Watch, stood}
 
 -- ---- what is read of a game
@@ -73,11 +73,9 @@ shown_right g w s = record {
   apart = λ j k a b is too ne same.
       let p = unmapped watch_of (get g.players j) a is in
       let q = unmapped watch_of (get g.players k) b too in
-      (w.apart j k p.value q.value p.found q.found ne).uuid
-      ((w.own j p.value p.found).uuid
-      ∙ ap offline_uuid (ap (λ (x : Watch). x.name) p.is ∙ same
-      ∙ ap (λ (x : Watch). x.name) (sym q.is))
-      ∙ sym (w.own k q.value q.found).uuid);
+      names_apart g.entities g.eids g.packs p.value q.value (w.own j p.value p.found)
+      (w.own k q.value q.found) (w.apart j k p.value q.value p.found q.found ne)
+      (ap (λ (x : Watch). x.name) p.is ∙ same ∙ ap (λ (x : Watch). x.name) (sym q.is));
   carries = λ k a is.
       let p = unmapped watch_of (get g.players k) a is in
       ap (λ (x : Watch). is_some (window_in g x.name)) (sym p.is)
