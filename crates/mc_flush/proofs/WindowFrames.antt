@@ -1,42 +1,16 @@
--- Packets about the window of a chest: that they fit, and slots of it one part after another.
+-- The title of a chest's window, and slots of it one part after another.
 use Rattle.std.proofs.Common.{◌≡◌, ℕ, ◌+◌, ◌<◌, List, [], ◌∷◌, ◌++◌, length, refl, sym, subst, ap}
 use Rattle.std.proofs.Common.{◌∙◌, arith, append_assoc}
 use Rattle.std.specs.Prelude.{Some, None, codes, if◌then◌else◌}
 use Rattle.serde_json.proofs.OnLiterals.{serde_json_on_literals}
 use lib.IntN.{ℤ, pos}
 use Rattle.mc_slots.specs.declared.slot.Slot.{Slot}
-use Rattle.mc_slots.specs.Chest.{chest_size}
 use Rattle.mc_packets.specs.declared.down.Down.{Down}
-use Rattle.mc_packets.specs.declared.down.Down.TheVariants.{CloseWindow, OpenWindow, SetSlot}
+use Rattle.mc_packets.specs.declared.down.Down.TheVariants.{SetSlot}
 use Rattle.mc_model.specs.Delta.{is_same_slot, slot_packets}
-use Rattle.mc_model.specs.Sight.{ChestWindow}
 use Rattle.mc_model.specs.Texts.{chat_json}
-use Rattle.mc_model.proofs.FitsDue.{WindowFits, windows_clear}
-use Rattle.mc_model.proofs.Maps.Options.{none_some, some_is}
-use Rattle.mc_sending.specs.Sending.{IsClear, play_bytes}
+use Rattle.mc_sending.specs.Sending.{play_bytes}
 use Rattle.mc_sending.proofs.Pieces.{play_bytes-append}
-
--- ---- windows that open and close
-
--- one of which nothing is told but its number
-abbrev bare : ℕ → ChestWindow
-bare number = record { number = number; slots = [] }
-
-bare_fits : (number : ℕ) (w : ChestWindow) → number < 256 → Some (bare number) ≡ Some w →
-    WindowFits w
-bare_fits number w small is = subst WindowFits (some_is (bare number) w is)
-    (record { small = small; few = omega arith; slots = tt })
-
-pub open_clear : (number : ℕ) → number < 256 → IsClear (OpenWindow number
-    (codes "minecraft:chest") (chat_json (codes "Chest")) chest_size None)
-open_clear number small = (windows_clear None (Some (bare number)) [] []
-    (λ w is. absurd (none_some None w refl is)) (λ w is. bare_fits number w small is) (omega arith)
-    tt).0
-
-pub close_clear : (number : ℕ) → number < 256 → IsClear (CloseWindow number)
-close_clear number small = (windows_clear (Some (bare number)) None [] []
-    (λ w is. bare_fits number w small is) (λ w is. absurd (none_some None w refl is)) (omega arith)
-    tt).0
 
 -- the title of a chest
 pub title_is : codes "{\"text\":\"Chest\"}" ≡ chat_json (codes "Chest")

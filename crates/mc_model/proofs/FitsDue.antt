@@ -60,16 +60,12 @@ slots_clear window i (old ∷ olds) (new ∷ news) byte few f =
     one true = tt
     one false = (slot_clear window (pos i) new byte (record { sfits = omega (arith, few) }) f.0, tt)
 
--- a chest's window that opens, with its slots and those of a pack
-opening_clear : (w : ChestWindow) (pack : List Slot) → w.number < 256 →
-    length (w.slots ++ pack) ≤ 100 → AllByRecursion SlotFits (w.slots ++ pack) →
-    AreClear (opening_packets w pack)
-opening_clear w pack small few f = (
-  play_clear
-      (OpenWindow w.number (codes "minecraft:chest") (chat_json (codes "Chest")) chest_size None)
-      (search (fields, small, kind, title)) (omega (arith, title_short.few)),
-  (items_clear w.number (w.slots ++ pack) small few f, tt),
-)
+-- a chest's window that opens
+pub open_clear : (number : ℕ) → number < 256 → IsClear for_play (of_play (OpenWindow number
+    (codes "minecraft:chest") (chat_json (codes "Chest")) chest_size None))
+open_clear number small = play_clear
+    (OpenWindow number (codes "minecraft:chest") (chat_json (codes "Chest")) chest_size None)
+    (search (fields, small, kind, title)) (omega (arith, title_short.few))
   where
     kind : SpellableText 32767 (codes "minecraft:chest")
     kind = short_string 200 (codes "minecraft:chest") (lit≤ tt) (short_where 200 _ refl)
@@ -77,12 +73,23 @@ opening_clear w pack small few f = (
     title : SpellableText 32767 (chat_json (codes "Chest"))
     title = short_string 200 (chat_json (codes "Chest")) (lit≤ tt) title_short
 
--- one that closes
+-- and closes
+pub close_clear : (number : ℕ) → number < 256 →
+    IsClear for_play (of_play (CloseWindow number))
+close_clear number small = play_clear (CloseWindow number) (search (fields, small)) (lit< tt)
+
+-- one that opens with its slots and those of a pack
+opening_clear : (w : ChestWindow) (pack : List Slot) → w.number < 256 →
+    length (w.slots ++ pack) ≤ 100 → AllByRecursion SlotFits (w.slots ++ pack) →
+    AreClear (opening_packets w pack)
+opening_clear w pack small few f =
+    (open_clear w.number small, (items_clear w.number (w.slots ++ pack) small few f, tt))
+
+-- the one that was shown, if there was one
 closing_clear : (old : Option ChestWindow) →
     ((w : ChestWindow) → old ≡ Some w → w.number < 256) → AreClear (closing_packets old)
 closing_clear None small = tt
-closing_clear (Some w) small =
-    (play_clear (CloseWindow w.number) (search (fields, small w refl)) (lit< tt), tt)
+closing_clear (Some w) small = (close_clear w.number (small w refl), tt)
 
 -- a window whose slots fit, behind those of which a pack's do
 pub record WindowFits (w : ChestWindow) : Type 0 where

@@ -157,7 +157,8 @@ pub record Closing (w : World) (e : Event) : Type 0 where
       ((m : Link) → get (step w e).world.links k ≡ Some m →
       (m.stage ≡ stages.Closed) × (m.cause ≡ l.cause))
   -- any event but a tick is of one connection: it hands nothing to any other, and leaves its link,
-  -- its unread bytes, what it was shown, and of its player all but the notes
+  -- its unread bytes, what it was shown, and of its player all but the notes and the chest that it
+  -- is shown
   pub only_sender : (j : ℕ) → IsOf j e → OnlySender j w (step w e)
 
 -- ---- a run

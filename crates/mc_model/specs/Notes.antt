@@ -41,8 +41,8 @@ with_answer answered notes = record notes { confirms = notes.confirms ++ answere
 abbrev pub confirm_packet : Answered → Down
 confirm_packet c = Confirm (cast_signed w8 c.window) c.number c.accepted
 
--- All slots of the window that is shown: of window 0 the first nine are empty, of a chest's they are
--- what lies in the chest, and behind them are those of the pack.
+-- All slots of the window that is shown: of window 0 the first nine are empty, of a chest's the
+-- first 27 are what lies in it, and behind them are those of the pack.
 abbrev pub window_items : PackValue → Option (List Pile) → Down
 window_items pack None = WindowItems 0 (replicate 9 slots.Empty ++ map slot_of pack.slots)
 window_items pack (Some piles) =

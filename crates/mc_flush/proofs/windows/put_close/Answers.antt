@@ -1,4 +1,4 @@
-use Rattle.mc_flush.proofs.WindowFrames.{close_clear}
+use Rattle.mc_model.proofs.FitsDue.{close_clear}
 use Rattle.mc_flush.proofs.windows.put_close.Goals as goal
 
 pub put_made-requires : goal.put_made-requires
