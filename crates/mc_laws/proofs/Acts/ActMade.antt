@@ -26,8 +26,9 @@ use Rattle.mc_laws.proofs.Landings.{both_turned, moved_turned, spot_turned, turn
 use Rattle.mc_laws.proofs.Deeds.Chests.{GoodGame}
 use Rattle.mc_laws.proofs.Deeds.Made.{Made, by_deed, by_notes, by_own, says, untouched}
 use Rattle.mc_laws.proofs.Fits.Told.{spot_told}
-use Rattle.mc_laws.proofs.Acts.Topics.{AnswersFit, arrive_made, close_made, confirm_made}
-use Rattle.mc_laws.proofs.Acts.Topics.{digging_made, place_made, press_made, take_up_made}
+use Rattle.mc_laws.proofs.Acts.Clicks.{AnswersFit, press_made}
+use Rattle.mc_laws.proofs.Acts.Topics.{arrive_made, close_made, confirm_made, digging_made}
+use Rattle.mc_laws.proofs.Acts.Topics.{place_made, take_up_made}
 
 -- what a player says can be told, whose name is short, in a packet that can be sent
 abbrev pub Speaks : Game → ℕ → PlayUp → Type 0

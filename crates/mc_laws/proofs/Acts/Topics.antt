@@ -1,13 +1,12 @@
--- Of which deeds it is made what a player does that moves, digs, drops, places or does something in
--- its window, topic by topic.
-use Rattle.std.proofs.Common.{◌≡◌, ℕ, suc, ◌+◌, ◌*◌, ◌<◌, ◌≤◌, Bool, true, false, List, [], ◌∷◌}
-use Rattle.std.proofs.Common.{Option, Some, None, refl, sym, subst, ap, ◌∙◌, arith}
+-- Of which deeds it is made what a player does that moves, digs, drops, places, or opens or closes
+-- a window, topic by topic; clicks are in `Clicks`.
+use Rattle.std.proofs.Common.{◌≡◌, ℕ, suc, ◌+◌, ◌*◌, ◌<◌, ◌≤◌, Bool, true, false, [], ◌∷◌}
+use Rattle.std.proofs.Common.{Option, Some, None, refl, subst, ap, arith}
 use Rattle.std.specs.Prelude.{◌&&◌, ◌==◌, not, is_some, length, min, nat_le, nat_lt, unsigned_abs}
 use Rattle.std.specs.Prelude.{if◌then◌else◌}
 use Rattle.std.proofs.lemmas.Bool.{and_parts, eqb-true, leb-true, ltb-true}
 use Rattle.std.proofs.lemmas.Bool.Decides.{nat_tests}
 use Rattle.std.proofs.lemmas.List.Sums.{sum_by-cons}
-use Rattle.std.specs.Option.{option_and_then}
 use Rattle.std.specs.Ordering.{int_eq}
 use Rattle.std.specs.FinMap.{get}
 use lib.IntN.{ℤ, pos, negsuc}
@@ -16,42 +15,30 @@ use Rattle.mc_fields.specs.declared.position.Spot.{Spot}
 use Rattle.mc_slots.specs.declared.pile.Item.{Item}
 use Rattle.mc_slots.specs.declared.pile.Pile.{Pile}
 use Rattle.mc_slots.specs.declared.pile.Pile.TheVariants.{Empty, Full}
-use Rattle.mc_slots.specs.Chest.{IsChest}
 use Rattle.mc_slots.specs.Pile.{IsItem, IsPile, Sort, held, without}
 use Rattle.mc_land.specs.Land.{is_chest}
-use Rattle.mc_windows.specs.declared.clicking.Clicked.{Clicked}
-use Rattle.mc_windows.specs.declared.request.Click.{Click}
 use Rattle.mc_windows.specs.Pack.{IsPack, PackValue, begun_pack, is_waiting_for}
-use Rattle.mc_windows.specs.Stock.{in_chest, in_pack}
-use Rattle.mc_windows.specs.Clicks.{answer_of, chest_after, dropped as drops, outcome, pack_after}
-use Rattle.mc_windows.proofs.Keeping.{chest_stays, click_keeps, none_left}
-use Rattle.mc_windows.proofs.Ranges.{Holds, IsShown, click_holds, drops_with_room, left_by}
 use Rattle.mc_windows.proofs.Ranges.{left_is_pile}
 use Rattle.mc_entities.specs.declared.entity.EntityKind.TheVariants as kinds
 use Rattle.mc_entities.specs.Shift.{is_between, is_inside}
-use Rattle.mc_model.specs.declared.notes.Answered.{Answered}
 use Rattle.mc_model.specs.declared.notes.Notes.{Notes}
 use Rattle.mc_model.specs.declared.player.Player.{Player}
 use Rattle.mc_model.specs.Balance.{one_of, sort_of}
 use Rattle.mc_model.specs.Digging.{all_thrown, block_item, can_dig, digging, drop_held, dropped}
 use Rattle.mc_model.specs.Digging.{dug, dug_items, floor_of, is_dug, stacks_at}
-use Rattle.mc_model.specs.Notes.{again, with_answer, with_cells}
+use Rattle.mc_model.specs.Notes.{again, with_cells}
 use Rattle.mc_model.specs.Hands.{place_of_hotbar, carrying, take_up}
 use Rattle.mc_model.specs.Placing.{item_state, placing_refused, is_free, place_at, place_on, placed}
 use Rattle.mc_model.specs.Placing.{put_block}
 use Rattle.mc_model.specs.Reach.{at_face, is_in_world, is_near, is_in_reach}
 use Rattle.mc_model.specs.Spots.{spawn_spot}
 use Rattle.mc_model.specs.Things.{in_hand, with_hand}
-use Rattle.mc_model.specs.Windows.{answering, close, confirm, feet_of, is_accepted, is_sent_again}
-use Rattle.mc_model.specs.Windows.{let_fall, open_chest, opened, press, restocking, shut, viewers}
-use Rattle.mc_model.specs.Game.{Game, chest_at, chest_of, held_by, pack_of, room_in, spot_of}
-use Rattle.mc_model.specs.Game.{state_in}
+use Rattle.mc_model.specs.Windows.{close, confirm, feet_of, open_chest, opened, shut, viewers}
+use Rattle.mc_model.specs.Game.{Game, chest_at, held_by, pack_of, room_in, spot_of, state_in}
 use Rattle.mc_model.specs.Good.{Good}
-use Rattle.mc_model.specs.Deeds.{noting, repack_of, restocked, stand_of, with_state}
+use Rattle.mc_model.specs.Deeds.{noting, repack_of, stand_of, with_state}
 use Rattle.mc_model.specs.Movement.{arrive, arrived, placed_again}
 use Rattle.mc_model.specs.Fitting.{SpotFits, Told}
-use Rattle.mc_model.proofs.AllFacts.{all_joined}
-use Rattle.mc_model.proofs.FitsNotes.{ConfirmFits}
 use Rattle.mc_model.proofs.Maps.Options.{some_is}
 use Rattle.mc_model.proofs.ThingsKept.{dropped_held}
 use Rattle.mc_laws.proofs.Landings.{IsTurned}
@@ -63,11 +50,11 @@ use Rattle.mc_laws.proofs.Deeds.Chests.{GoodGame, lies_chest, none_comes, none_l
 use Rattle.mc_laws.proofs.Deeds.Packs.{hand_within, held_is_item, named_is_pack}
 use Rattle.mc_laws.proofs.Deeds.Packs.{with_hand_is_pack}
 use Rattle.mc_laws.proofs.Deeds.Kept.{made_good, made_told}
-use Rattle.mc_laws.proofs.Deeds.Made.{Deed, Made, MadeWith, before, by_deed, by_notes, either}
-use Rattle.mc_laws.proofs.Deeds.Made.{first, gained, join, rehands, repacks, restocks, sets}
-use Rattle.mc_laws.proofs.Deeds.Made.{spent, stands, throws, untouched}
-use Rattle.mc_laws.proofs.Deeds.Shutting.{HasRoom, can_fall, closed, falls, has_room, shut_all_made}
-use Rattle.mc_laws.proofs.Deeds.Shutting.{shut_good, shut_here, shut_made, watched_made}
+use Rattle.mc_laws.proofs.Deeds.Made.{Deed, Made, before, by_deed, by_notes, either, first}
+use Rattle.mc_laws.proofs.Deeds.Made.{gained, join, rehands, repacks, sets, spent, stands}
+use Rattle.mc_laws.proofs.Deeds.Made.{throws, untouched}
+use Rattle.mc_laws.proofs.Deeds.Shutting.{HasRoom, closed, has_room, shut_all_made, shut_good}
+use Rattle.mc_laws.proofs.Deeds.Shutting.{shut_here, shut_made, watched_made}
 use Rattle.mc_laws.proofs.Deeds.Thrown.{all_thrown_made, chest_are, chest_held, in_items}
 use Rattle.mc_laws.proofs.Fits.Told.{CanCome, cell_told, spot_told}
 
@@ -105,33 +92,6 @@ dig_tests p cell g test =
       solid = b.0;
       room = leb-true (length (dug_items cell g)) (room_in g) b.1;
     }
-
--- packets can tell the answer to a click, whatever it is
-abbrev pub AnswersFit : Click → Type 0
-AnswersFit click = (accepted : Bool) → ConfirmFits (record {
-  window = click.window;
-  number = click.number;
-  accepted = accepted;
-})
-
-answering_fits : (click : Click) (came : Clicked) (notes : Notes) → AnswersFit click →
-    NotesFit notes → NotesFit (answering click came notes)
-answering_fits click came notes fits fit = step (is_sent_again click came)
-  where
-    answer : Answered
-    answer = record {
-      window = click.window;
-      number = click.number;
-      accepted = is_accepted came;
-    }
-
-    told : NotesFit (with_answer answer notes)
-    told = all_joined ConfirmFits notes.confirms (answer ∷ []) fit (fits (is_accepted came), tt)
-
-    step : (b : Bool) →
-        NotesFit (if b then again (with_answer answer notes) else with_answer answer notes)
-    step true = told
-    step false = told
 
 module _ (H : Type 0) (k : ℕ) (p : Player) (g : Game) (there : get g.players k ≡ Some p) where
   -- what is made of the game, which may be good and such that packets can tell it
@@ -371,9 +331,7 @@ module _ (H : Type 0) (k : ℕ) (p : Player) (g : Game) (there : get g.players k
       Made (GoodGame g) (GoodGame g × Told g) H k u (opened k q cell u)
   opened_made cell u q here good =
       before (GoodGame g) (GoodGame g × Told g) H k u (repack_of q (begun_pack (pack_of u q)) u) _
-      (repacks k q (begun_pack (pack_of u q)) here
-      (λ w. let is = named_is_pack u q.name (good w) in
-      record { size = is.size; are_piles = is.are_piles; is_pile = is.is_pile }) refl)
+      (repacks k q (begun_pack (pack_of u q)) here (λ w. named_is_pack u q.name (good w)) refl)
       (λ id damage. refl)
       (watched_made (GoodGame g) (GoodGame g × Told g) H k k (Some cell) _)
 
@@ -395,125 +353,6 @@ module _ (H : Type 0) (k : ℕ) (p : Player) (g : Game) (there : get g.players k
           (λ far. refused cell target)
           (λ near. by_test _ _ (is_chest (state_in g cell)) (λ chest. open_made cell)
           (λ other. put_made cell target))
-
-  -- ---- clicks
-
-  module _ (click : Click) where
-    abbrev room : Bool
-    room = nat_lt 0 (room_in g)
-
-    abbrev answer : Clicked
-    answer = answer_of (outcome (pack_of g p) (chest_of g p) click room)
-
-    abbrev pack : PackValue
-    pack = pack_after (pack_of g p) click.number (outcome (pack_of g p) (chest_of g p) click room)
-
-    abbrev left : Option (List Pile)
-    left = chest_after (chest_of g p) (outcome (pack_of g p) (chest_of g p) click room)
-
-    abbrev out : Pile
-    out = drops answer
-
-    -- what lies in the chest that it is shown, if it is shown one, is what a chest holds
-    shown : GoodGame g → IsShown (chest_of g p)
-    shown w = step p.chest
-      where
-        there_is : (o : Option (List Pile)) →
-            ((piles : List Pile) → o ≡ Some piles → IsChest piles) → IsShown o
-        there_is None are = tt
-        there_is (Some piles) are = are piles refl
-
-        step : (o : Option Cell) → IsShown (option_and_then (chest_at g) o)
-        step None = tt
-        step (Some cell) = there_is (chest_at g cell) (lies_chest g cell w.1)
-
-    holds : GoodGame g → Holds (left_by (pack_of g p) (chest_of g p) click.number
-        (outcome (pack_of g p) (chest_of g p) click room))
-    holds w = click_holds (pack_of g p) (chest_of g p) click room click.number
-        (named_is_pack g p.name w.0) (shown w)
-
-    keeps : (sort : Sort) → in_pack sort pack + (in_chest sort left + held sort out)
-        ≡ in_pack sort (pack_of g p) + in_chest sort (chest_of g p)
-    keeps sort = click_keeps sort (pack_of g p) (chest_of g p) click room
-        click.number
-
-    still : is_some left ≡ is_some (chest_of g p)
-    still = chest_stays (pack_of g p) (chest_of g p) click room
-
-    abbrev repacked : Deed (GoodGame g) (GoodGame g × Told g) H k g (repack_of p pack g)
-    repacked = repacks k p pack there (λ w. (holds w).pack) refl
-
-    -- what is dropped falls, and the click is answered
-    answered : (H → AnswersFit click) → (u : Game) → ((item : Item) → out ≡ Full item →
-        GoodGame g × Told g → CanCome (kinds.Dropped item u.age) (feet_of p u) u.entities u.eids) →
-        MadeWith (GoodGame g) (GoodGame g × Told g) H k (λ (sort : Sort). held sort out) u
-        (noting (answering click answer) k (let_fall p out u))
-    answered fits u can = falls (GoodGame g) (GoodGame g × Told g) H k p u _ out can
-        (by_notes (GoodGame g) (GoodGame g × Told g) H k k (answering click answer)
-        (λ t h notes fit. answering_fits click answer notes (fits h) fit) _)
-
-    can : (item : Item) → out ≡ Full item → GoodGame g × Told g →
-        CanCome (kinds.Dropped item g.age) (feet_of p (repack_of p pack g))
-        (repack_of p pack g).entities g.eids
-    can item full = can_fall (GoodGame g) (GoodGame g × Told g) H k k p g there (λ t. t) pack item
-        (λ w. (holds w).pack) (λ w. subst IsPile full (holds w).floor)
-        (has_room g (drops_with_room (pack_of g p) (chest_of g p) click room
-        item full))
-
-    -- where it is shown no chest
-    alone : (H → AnswersFit click) → left ≡ None → Makes (noting (answering click answer)
-        k (let_fall p out (repack_of p pack g)))
-    alone fits none =
-        first (GoodGame g) (GoodGame g × Told g) H k (λ (sort : Sort). 0)
-        (λ (sort : Sort). held sort out) g (repack_of p pack g) _ repacked
-        (λ w id damage some low. let keep = keeps (sort_of id damage) in
-        let after = ap (in_chest (sort_of id damage)) none in
-        let before = ap (in_chest (sort_of id damage))
-        (none_left (chest_of g p) (sym still ∙ ap is_some none)) in
-        omega (arith, keep, after, before))
-        (answered fits (repack_of p pack g) can)
-
-    -- and where it is shown one
-    beside : (H → AnswersFit click) → (cell : Cell) (piles : List Pile) → p.chest ≡ Some cell →
-        left ≡ Some piles → Makes (noting (answering click answer) k (let_fall p out
-        (restocked cell piles (repack_of p pack g))))
-    beside fits cell piles at is = record {
-      games = repack_of p pack g ∷ restocked cell piles (repack_of p pack g) ∷ later.games;
-      deeds = (
-        repacked,
-        (
-          restocks cell piles (sym (ap is_some chest_is) ∙ sym still ∙ ap is_some is)
-              (λ w. subst IsShown is (holds w).chest) refl,
-          later.deeds,
-        ),
-      );
-      even = λ w id damage some low. (let keep = keeps (sort_of id damage) in
-          let rest = later.even w id damage some low in
-          let after = ap (in_chest (sort_of id damage)) is in
-          let before = ap (in_chest (sort_of id damage)) chest_is in
-          omega (arith, keep, rest, after, before));
-    }
-      where
-        chest_is : chest_of g p ≡ chest_at g cell
-        chest_is = ap (option_and_then (chest_at g)) at
-
-        later : MadeWith (GoodGame g) (GoodGame g × Told g) H k (λ (sort : Sort). held sort out)
-            (restocked cell piles (repack_of p pack g)) (noting (answering click answer) k
-            (let_fall p out (restocked cell piles (repack_of p pack g))))
-        later = answered fits (restocked cell piles (repack_of p pack g)) can
-
-    pub press_made : (H → AnswersFit click) → Makes (press k p click g)
-    press_made fits = step p.chest left refl refl
-      where
-        step : (o : Option Cell) (l : Option (List Pile)) → p.chest ≡ o → left ≡ l →
-            Makes (noting (answering click answer) k (let_fall p out
-            (restocking o l (repack_of p pack g))))
-        step None None at is = alone fits is
-        step (Some cell) None at is = alone fits is
-        step (Some cell) (Some piles) at is = beside fits cell piles at is
-        step None (Some piles) at is = (let clash : false ≡ true =
-            sym (still ∙ ap (λ (o : Option Cell). is_some (option_and_then (chest_at g) o)) at)
-            ∙ ap is_some is in absurd cc)
 
   -- ---- confirming and closing
 

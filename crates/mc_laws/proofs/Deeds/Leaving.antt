@@ -5,7 +5,7 @@ use Rattle.std.specs.Prelude.{◌&&◌, ◌||◌, is_some, nat_lt, if◌then◌e
 use Rattle.std.proofs.lemmas.Bool.{cases_eq}
 use Rattle.std.specs.List.{filter, fold, list_any}
 use Rattle.std.specs.Ordering.{nat_cmp, eq_by_cmp}
-use Rattle.std.specs.FinMap.{contains_key-keys, empty, get, keys}
+use Rattle.std.specs.FinMap.{contains_key-keys, empty, get, keys, remove}
 use lib.IntN.{pos}
 use Rattle.mc_slots.specs.declared.pile.Pile.{Pile}
 use Rattle.mc_slots.specs.declared.pile.Pile.TheVariants.{Empty, Full}
@@ -18,13 +18,12 @@ use Rattle.mc_model.specs.Leaving.{leave, leave_all}
 use Rattle.mc_model.specs.Windows.{kept_in_hand, let_fall, shut}
 use Rattle.mc_model.specs.Good.{AreChests, Good}
 use Rattle.mc_model.specs.Fitting.{Told}
-use Rattle.mc_model.proofs.Maps.Lookups.{gone_other, gone_same, tied_number, untied_number}
+use Rattle.mc_model.proofs.Maps.Lookups.{gone_other, gone_same, maps_alike, tied_number}
+use Rattle.mc_model.proofs.Maps.Lookups.{untied_number}
 use Rattle.mc_laws.proofs.Deeds.Chests.{same_chests}
 use Rattle.mc_laws.proofs.Deeds.Coming.{go_good}
-use Rattle.mc_laws.proofs.Deeds.Kept.{deeds_keep}
-use Rattle.mc_laws.proofs.Deeds.Made.{Deed}
 use Rattle.mc_laws.proofs.Deeds.Shutting.{closed, shut_good, shut_here, shut_on, shut_other}
-use Rattle.mc_laws.proofs.Deeds.Shutting.{shut_told, shuts}
+use Rattle.mc_laws.proofs.Deeds.Shutting.{shut_told}
 use Rattle.mc_laws.proofs.Fits.Told.{without_told}
 
 -- What holds of a game without its player, and of one where it has one, whose window closed and
@@ -38,17 +37,6 @@ leave_cases k g P none some = step (get g.players k) refl
         P (of_player g (λ (p : Player). go_of k p (shut k p g)) o)
     step None is = none is
     step (Some p) is = some p is
-
--- what each deed keeps, and going too, leaving does
-pub leave_keeps : (P : Game → Type 0) (k : ℕ) (g : Game) →
-    ((u v : Game) → Deed (Good g) (Good g × Told g) (Unit {0}) k u v → Good u → P u → P v) →
-    ((v : Game) (q : Player) → get v.players k ≡ Some q → Good v → P v → P (go_of k q v)) →
-    Good g → P g → P (leave k g)
-leave_keeps P k g each goes w holds = leave_cases k g P (λ none. holds) (λ p there.
-    let made = shuts k p g there in
-    goes (shut k p g) (closed (nat_lt 0 (room_in g)) p) (shut_here k p g there)
-    (shut_good k p g there w)
-    (deeds_keep _ _ _ k P each w g made.games (shut k p g) made.deeds w holds))
 
 pub leave_good : (k : ℕ) (g : Game) → Good g → Good (leave k g)
 leave_good k g w = leave_cases k g Good (λ none. w) (λ p there.
@@ -68,6 +56,14 @@ pub leave_other : (k j : ℕ) (g : Game) → j ≢ k → get (leave k g).players
 leave_other k j g ne = leave_cases k g (λ (v : Game). get v.players j ≡ get g.players j)
     (λ none. refl)
     (λ p there. gone_other (shut k p g).players k j ne ∙ shut_other k j p g ne)
+
+-- so it is taken out of those in play
+pub leave_players : (k : ℕ) (g : Game) → (leave k g).players ≡ remove g.players k
+leave_players k g = maps_alike (leave k g).players (remove g.players k) (λ q.
+    elim (cases_eq q k) [
+      | inl same ↦ rw same (leave_same k g ∙ sym (gone_same g.players k))
+      | inr ne ↦ leave_other k q g ne ∙ sym (gone_other g.players k q ne)
+    ])
 
 -- no number of an entity is given back
 pub leave_more : (k : ℕ) (g : Game) → g.eids ≤ (leave k g).eids
@@ -143,9 +139,6 @@ shut_unplayed k p g = step (nat_lt 0 (room_in g)) (pack_of g p).cursor
     step true Empty = refl
     step true (Full item) = refl
     step false pile = refl
-
-pub shut_stays : (k : ℕ) (p : Player) (g : Game) → Stays g (shut k p g)
-shut_stays k p g = stays_so g (shut k p g) (shut_unplayed k p g)
 
 pub leave_all_stays : (ks : List ℕ) (g : Game) → Stays g (leave_all ks g)
 leave_all_stays ks g = stays_so g (leave_all ks g)

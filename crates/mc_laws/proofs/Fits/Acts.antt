@@ -13,14 +13,10 @@ use Rattle.mc_model.specs.Fitting.{Told}
 use Rattle.mc_laws.proofs.FitsUuid.{offline_small}
 use Rattle.mc_laws.proofs.ThingsFit.{spawn_fits}
 use Rattle.mc_laws.proofs.Deeds.Chests.{GoodGame}
+use Rattle.mc_laws.proofs.Deeds.Kept.{made_told}
 use Rattle.mc_laws.proofs.Deeds.Packs.{named_is_pack}
 use Rattle.mc_laws.proofs.Fits.Told.{spawned_told}
 use Rattle.mc_laws.proofs.Acts.ActMade.{act_made}
-use Rattle.mc_laws.proofs.Deeds.Kept.{made_told}
-
--- what is made of a game can be told where the game can
-abbrev pub Tells : Game → Game → Type 0
-Tells g v = Good g → Told g → Told v
 
 pub act_tells : (k : ℕ) (packet : PlayUp) (g v : Game) → act g k packet ≡ Some v → GoodGame g →
     Told g → Told v
@@ -30,7 +26,7 @@ act_tells k packet g v e w t =
 -- ---- coming
 
 pub enter_tells : (k : ℕ) (name : List ℕ) (g : Game) → g.eids < 2147483647 →
-    Tells g (enter_as k name g)
+    Good g → Told g → Told (enter_as k name g)
 enter_tells k name g given w t =
     let lying = t.lying in
     spawned_told (kinds.Player (offline_uuid name) (in_hand (pack_named g name) 0))

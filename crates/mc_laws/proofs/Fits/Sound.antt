@@ -40,7 +40,7 @@ use Rattle.mc_laws.proofs.ThingsFit.{PlayerIsTold, no_notes_fit}
 use Rattle.mc_laws.proofs.Deeds.Chests.{GoodGame, new_chests, same_chests}
 use Rattle.mc_laws.proofs.Deeds.Coming.{enter_good}
 use Rattle.mc_laws.proofs.Deeds.Kept.{deeds_keep}
-use Rattle.mc_laws.proofs.Deeds.Leaving.{leave_cases, leave_chests, leave_good, leave_keeps}
+use Rattle.mc_laws.proofs.Deeds.Leaving.{leave_cases, leave_chests, leave_good, leave_players}
 use Rattle.mc_laws.proofs.Deeds.Leaving.{leave_stays, leave_told}
 use Rattle.mc_laws.proofs.Deeds.Made.{Deed, rehands, repacks, restocks, says, sets, stands, throws}
 use Rattle.mc_laws.proofs.Deeds.Made.{touches}
@@ -196,10 +196,8 @@ enter_sound k name g welcome free new sound = record {
 -- ---- going
 
 fewer_gone : (k : ℕ) (g : Game) → len (leave k g).players ≤ len g.players
-fewer_gone k g = leave_cases k g (λ (v : Game). len v.players ≤ len g.players)
-    (λ none. omega arith)
-    (λ p there. let less = len-remove nat_cmp_total (shut k p g).players k in
-    let many = (shut_on k p g there).many in grind (arith, less, many))
+fewer_gone k g = let is = ap len (leave_players k g) in
+    let less = len-remove nat_cmp_total g.players k in grind (arith, is, less)
 
 -- whoever goes takes its entity along
 leave_counted : (k : ℕ) (g : Game) → Good g → IsCounted g → IsCounted (leave k g)
@@ -231,10 +229,8 @@ leave_sound k g sound =
           let most = ap (λ (s : Begun). s.players) stays.settings in
           omega (arith, few, fewer, most));
       counted = leave_counted k g sound.good sound.counted;
-      players = leave_keeps AllTold k g
-          (λ u v deed w. deed_players _ _ _ k (sound.good, sound.told) tt u v deed)
-          (λ v q there w all. all_gone (λ (j : ℕ) (r : Player). PlayerIsTold r) v.players all k)
-          sound.good sound.players;
+      players = subst (AllValues (λ (j : ℕ) (p : Player). PlayerIsTold p)) (sym (leave_players k g))
+          (all_gone (λ (j : ℕ) (p : Player). PlayerIsTold p) g.players sound.players k);
     }
 
 pub leave_all_sound : (ks : List ℕ) (g : Game) → SoundGame g → SoundGame (leave_all ks g)
