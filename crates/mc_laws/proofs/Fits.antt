@@ -1,6 +1,7 @@
 -- That packets can tell all that a game shows.
 pub mod Told
 pub mod Counted
+pub mod Windows
 pub mod Sights
 pub mod Notes
 pub mod Clear

@@ -17,7 +17,7 @@ use Rattle.mc_model.specs.Sight.{Seen, Sight}
 use Rattle.mc_model.specs.Delta.{missing, leavers_point, joiners_point, destroys_point, unload}
 use Rattle.mc_model.specs.Delta.{unloads_point, load, loads_point, pile_packet, cells_point}
 use Rattle.mc_model.specs.Delta.{is_same_slot, entity_packets, pile_packets, moves_packets}
-use Rattle.mc_model.specs.Delta.{beat_point, time_point, entities_point, pack_point, delta}
+use Rattle.mc_model.specs.Delta.{beat_point, time_point, entities_point, window_point, delta}
 use Rattle.mc_model.specs.Delta.{chat_packet, chat_point, cursor_point}
 use Rattle.mc_model.specs.Opening.{placing}
 use Rattle.mc_model.specs.Fitting.{SpotFits}
@@ -30,8 +30,8 @@ use Rattle.mc_model.proofs.FitsNumbers.{pattern_fits, degrees_fit}
 use Rattle.mc_model.proofs.FitsList.{PairFits, AreClear, leavers_clear, joiners_clear}
 use Rattle.mc_model.proofs.FitsChunk.{PlaceFits, ColumnFits, near_fits, load_clear, unload_clear}
 use Rattle.mc_model.proofs.FitsEntities.{destroying_clear, pile_slot_clear}
-use Rattle.mc_model.proofs.FitsDue.{beats_clear, column_clear, cursor_clear, slots_clear}
-use Rattle.mc_model.proofs.FitsDue.{times_clear}
+use Rattle.mc_model.proofs.FitsDue.{beats_clear, column_clear, cursor_clear, times_clear}
+use Rattle.mc_model.proofs.FitsDue.{windows_clear}
 use Rattle.mc_laws.proofs.FitsEntities.{spawn_clear}
 use Rattle.mc_laws.proofs.FitsMoves.{moves_clear}
 use Rattle.mc_laws.proofs.FitsSight.{SeenFits, SightFits}
@@ -90,9 +90,10 @@ entity_clear e f (Some old) =
 entities_clear : (p q : Sight) → SightFits q → AreClear (entities_point p q)
 entities_clear p q f = search (arith, all_flat, entity_clear)
 
--- those of the pack
-pack_clear : (p q : Sight) → SightFits q → AreClear (pack_point p q)
-pack_clear p q f = slots_clear 9 p.pack q.pack (omega (arith, f.slots)) f.pack
+-- those of the window and of the pack
+window_clear : (p q : Sight) → SightFits p → SightFits q → AreClear (window_point p q)
+window_clear p q f g = windows_clear p.window q.window p.pack q.pack f.window g.window
+    (omega (arith, g.slots)) g.pack
 
 -- what was said
 said_clear : (p q : Sight) → SightFits q → AreClear (chat_point p q)
@@ -117,7 +118,7 @@ delta_clear p q f g =
     all_joined P (loads_point p q) _ (loads_clear p q g) (
     all_joined P (cells_point p q) _ (changes_clear p q g) (
     all_joined P (entities_point p q) _ (entities_clear p q g) (
-    all_joined P (pack_point p q) _ (pack_clear p q g) (
+    all_joined P (window_point p q) _ (window_clear p q f g) (
     all_joined P (cursor_point p q) _ (cursor_clear p.cursor q.cursor g.cursor) (
     all_joined P (chat_point p q) [] (said_clear p q g) tt)))))))))))
 

@@ -1,7 +1,7 @@
 -- What can be shown so that its packets fit, and that all that is projected can.
 use Rattle.std.proofs.Common.{◌≡◌, ℕ, zero, suc, ◌+◌, ◌≤◌, Bool, true, false, cond, List, [], ◌∷◌}
 use Rattle.std.proofs.Common.{length, refl, sym, subst, ◌∙◌, arith}
-use Rattle.std.specs.Prelude.{unsigned_abs, replicate}
+use Rattle.std.specs.Prelude.{Some, unsigned_abs, replicate}
 use Rattle.std.specs.Int.{w32, w64, int_div_euclid}
 use Rattle.std.specs.List.{AllByRecursion}
 use Rattle.std.specs.declared.cmp.Ordering.{Ordering}
@@ -22,10 +22,11 @@ use Rattle.mc_land.proofs.Orders.{places_total, exact_places}
 use Rattle.mc_windows.specs.Pack.{pack_size}
 use Rattle.mc_view.specs.declared.view_set.TheConstants.{MIDDLE_BORDER}
 use Rattle.mc_view.specs.Views.{view_size}
-use Rattle.mc_model.specs.Sight.{Seen, Sight, nothing_seen}
+use Rattle.mc_model.specs.Sight.{ChestWindow, Seen, Sight, nothing_seen}
 use Rattle.mc_model.specs.Fitting.{SpotFits}
 use Rattle.mc_model.proofs.FitsBeats.{ToldFits}
 use Rattle.mc_model.proofs.FitsChat.{LineFits}
+use Rattle.mc_model.proofs.FitsDue.{WindowFits}
 use Rattle.mc_model.proofs.FitsList.{PairFits}
 use Rattle.mc_model.proofs.FitsChunk.{ColumnFits}
 use Rattle.mc_model.proofs.FitsSlots.{SlotFits, pile_slot_fits}
@@ -108,6 +109,7 @@ pub record SightFits (p : Sight) : Type 0 where
   pub columns : AllByRecursion ColumnFits (entries p.columns)
   pub entities : AllByRecursion SeenFits (entries p.entities)
   pub crowd : length (entries p.entities) ≤ 4210
+  pub window : (w : ChestWindow) → p.window ≡ Some w → WindowFits w
   pub pack : AllByRecursion SlotFits p.pack
   pub slots : length p.pack ≡ pack_size
   pub cursor : SlotFits p.cursor
@@ -128,6 +130,7 @@ nothing_fits = record {
   columns = all_entries place_cmp places_total exact_places ColumnFits [] tt;
   entities = all_entries int_cmp int_cmp_total int_cmp-IsAntisymmetric SeenFits [] tt;
   crowd = few_shown {X = Seen} int_cmp int_cmp_total 4210 [] (omega arith);
+  window = λ w is. absurd cc;
   pack = empty_fit pack_size;
   slots = refl;
   cursor = pile_slot_fits Empty tt;

@@ -13,7 +13,7 @@ pub mod Serving
 pub mod Landings
 pub mod PointsMoves
 pub mod PointsEntities
-pub mod PointsPack
+pub mod PointsWindow
 pub mod NumberFacts
 pub mod PointsPlayers
 pub mod PointsColumns

@@ -11,7 +11,7 @@ use Rattle.mc_laws.proofs.PointsPlayers.{leavers_point_leads, joiners_point_lead
 use Rattle.mc_laws.proofs.PointsColumns.{unloads_point_leads, loads_point_leads}
 use Rattle.mc_laws.proofs.PointsCells.{cells_point_leads}
 use Rattle.mc_laws.proofs.PointsEntities.{destroys_point_leads, entities_point_leads}
-use Rattle.mc_laws.proofs.PointsPack.{cursor_point_leads, pack_point_leads}
+use Rattle.mc_laws.proofs.PointsWindow.{cursor_point_leads, window_point_leads}
 use Rattle.mc_laws.proofs.PointsBeats.{beat_point_leads, time_point_leads}
 use Rattle.mc_laws.proofs.PointsChat.{chat_point_leads}
 
@@ -34,8 +34,9 @@ difference_leads p q follows =
     (onward (unloads_point_leads p q left)
     (onward (loads_point_leads p q left follows)
     (onward (cells_point_leads p q left follows)
-    (onward (entities_point_leads p q (record carries { pack = p.pack }) follows)
-    (onward (pack_point_leads p q carries follows)
+    (onward (entities_point_leads p q (record carries { window = p.window; pack = p.pack })
+    follows)
+    (onward (window_point_leads p q carries follows)
     (onward (cursor_point_leads p q (record q { chat = p.chat }))
     (onward (chat_point_leads p q q follows)
     (no_packets q))))))))))))).is

@@ -38,6 +38,7 @@ use Rattle.mc_laws.proofs.Apart.Outs.{handed_by}
 use Rattle.mc_laws.proofs.Runs.OneSteps.{OneStep, comes, departs, goes, one_step, reads, rests}
 use Rattle.mc_laws.proofs.Runs.OneSteps.{takes, ticks}
 use Rattle.mc_laws.proofs.Runs.Promises.{still_new}
+use Rattle.mc_laws.proofs.Runs.Worlds.{at_tick_world}
 use Rattle.mc_laws.proofs.Fits.Clear.{clear_decodes, due_clear}
 use Rattle.mc_laws.proofs.Decoding.Frames.{bytes_decode}
 use Rattle.mc_laws.proofs.Decoding.Worlds.{IsEvent, SoundWorld, at_tick_sound, first_bytes}
@@ -149,7 +150,7 @@ tick_hands_so o w k l sound there = tick_cases w k l (TickHands o l) there
         (map of_play (due (at_tick w).game (get w.shown k) p))) (sym (stage p plays))
         (hands_play o _ (clear_decodes (due (at_tick w).game (get w.shown k) p)
         (due_clear (at_tick w).game (get w.shown k) p (at_tick_sound w sound.game)
-        (small p plays) (sound.game.players k p plays).notes
+        (at_tick_world w sound.good).windows (small p plays) (sound.game.players k p plays).notes
         (last_fits (get w.shown k) (sound.shown k)))))
 
 tick_decoded : (k : ℕ) (w : World) (bytes : List ℕ) (packets : List Sent) → SoundWorld w →

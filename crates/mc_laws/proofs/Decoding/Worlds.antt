@@ -29,7 +29,7 @@ use Rattle.mc_laws.proofs.FitsSight.{SightFits, nothing_fits}
 use Rattle.mc_laws.proofs.Walk.Ticking.{tick_shown, tick_unread}
 use Rattle.mc_laws.proofs.Runs.OneSteps.{OneStep, comes, departs, goes, one_step, reads, rests}
 use Rattle.mc_laws.proofs.Runs.OneSteps.{takes, ticks}
-use Rattle.mc_laws.proofs.Runs.Worlds.{new_good, step_good}
+use Rattle.mc_laws.proofs.Runs.Worlds.{at_tick_world, new_good, step_good}
 use Rattle.mc_laws.proofs.Fits.Clear.{SoundGame, sight_fits}
 use Rattle.mc_laws.proofs.Fits.Sound.{grown_sound, leave_all_sound, leave_sound, new_sound}
 use Rattle.mc_laws.proofs.Fits.Sound.{pickups_sound, told_sound}
@@ -199,6 +199,7 @@ shown_by_tick w k s sound there =
     at_player None e = absurd cc
     at_player (Some p) e = subst SightFits (some_is _ s e)
         (sight_fits (at_tick w).game p last (at_tick_sound w sound.game)
+        (at_tick_world w sound.good).windows
         (last_fits (get w.shown k) (sound.shown k)).chat)
 
 shown_sound : (w : World) (e : Event) (k : ℕ) (s : Sight) → SoundWorld w →

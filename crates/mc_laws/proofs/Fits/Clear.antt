@@ -36,11 +36,11 @@ use Rattle.mc_model.specs.Packets.{for_play, of_play}
 use Rattle.mc_model.specs.Sight.{Seen, Sight, others, seen_as, seen_of}
 use Rattle.mc_model.specs.Opening.{level, opening_of}
 use Rattle.mc_model.specs.Notes.{confirm_packet, noted_packets, notes_of}
-use Rattle.mc_model.specs.Game.{AreSettings, Game, column_in, pack_of, players_of, sees, spot_of}
-use Rattle.mc_model.specs.Game.{is_in_sight, view_in}
+use Rattle.mc_model.specs.Game.{AreSettings, Game, chest_of, column_in, pack_of, players_of, sees}
+use Rattle.mc_model.specs.Game.{is_in_sight, spot_of, view_in}
 use Rattle.mc_model.specs.Spots.{spawn_height}
 use Rattle.mc_model.specs.Showing.{due, last_shown, notes_due, opening_due, sight_of}
-use Rattle.mc_model.specs.Good.{AreChests, Good}
+use Rattle.mc_model.specs.Good.{AreChests, AreShown, Good}
 use Rattle.mc_model.specs.Fitting.{EntityFits, KindIsNamed, Told}
 use Rattle.mc_model.proofs.AllFacts.{all_chosen, all_dropped, all_joined, all_mapped}
 use Rattle.mc_model.proofs.AllFacts.{few_filtered}
@@ -69,6 +69,7 @@ use Rattle.mc_laws.proofs.ThingsFit.{NotesFit, PlayerIsTold}
 use Rattle.mc_laws.proofs.Deeds.Packs.{named_is_pack}
 use Rattle.mc_laws.proofs.Fits.Told.{cell_told, spot_told}
 use Rattle.mc_laws.proofs.Fits.Sights.{column_sizes, column_small, in_sight, in_sight_fit}
+use Rattle.mc_laws.proofs.Fits.Windows.{chest_fits, window_fits}
 
 -- ---- entries
 
@@ -167,10 +168,10 @@ crowd_in_sight g p sound =
     let few = entities_few g sound in
     omega (arith, seen, near, other, few)
 
-pub sight_fits : (g : Game) (p : Player) (last : Sight) → SoundGame g →
+pub sight_fits : (g : Game) (p : Player) (last : Sight) → SoundGame g → AreShown g →
     AllByRecursion LineFits last.chat → SightFits (sight_of g p last)
 unfolding sight_of
-sight_fits g p last sound heard =
+sight_fits g p last sound shown heard =
     let at = spot_told g p sound.told in
     let pack = named_is_pack g p.name sound.good in
     let named = all_values (λ (other : Player). PairFits (pair_of other)) g.players
@@ -209,6 +210,7 @@ sight_fits g p last sound heard =
           (in_sight g p) (in_sight_fit g p sound.told));
       crowd = few_shown int_cmp int_cmp_total 4210 (filter_map seen_of (in_sight g p))
           (crowd_in_sight g p sound);
+      window = λ w is. window_fits g p w sound.chests shown is;
       pack = piles_fit (pack_of g p).slots pack.are_piles;
       slots = length-map (pack_of g p).slots slot_of ∙ pack.size;
       cursor = pile_slot_fits (pack_of g p).cursor pack.is_pile;
@@ -234,20 +236,21 @@ opening_clear g p sound small = (
 )
 
 -- what is due is clear, where what was shown fits
-pub due_clear : (g : Game) (shown : Option Sight) (p : Player) → SoundGame g →
+pub due_clear : (g : Game) (shown : Option Sight) (p : Player) → SoundGame g → AreShown g →
     p.eid ≤ 2147483647 → NotesFit p.notes → SightFits (last_shown shown) → AreClear (due g shown p)
 unfolding due
-due_clear g shown p sound small fit before =
+due_clear g shown p sound windows small fit before =
     let C : Down → Type 0 = λ packet. IsClear for_play (of_play packet) in
     let last = last_shown shown in
     let at = spot_told g p sound.told in
     all_joined C (opening_due g shown p ++ delta last (sight_of g p last)) (notes_due g p)
     (all_joined C (opening_due g shown p) (delta last (sight_of g p last))
     (first (is_some shown))
-    (delta_clear last (sight_of g p last) before (sight_fits g p last sound before.chat)))
+    (delta_clear last (sight_of g p last) before
+    (sight_fits g p last sound windows before.chat)))
     (all_joined C (map confirm_packet p.notes.confirms
     ++ noted_packets g.settings.terrain g.edits (sees g p) p.notes.cells)
-    (notes_of p.notes (spot_of g p) (pack_of g p))
+    (notes_of p.notes (spot_of g p) (pack_of g p) (chest_of g p))
     (all_joined C (map confirm_packet p.notes.confirms)
     (noted_packets g.settings.terrain g.edits (sees g p) p.notes.cells)
     (confirms_clear p.notes.confirms fit)
@@ -258,8 +261,8 @@ due_clear g shown p sound small fit before =
     (size_few g.settings.cap p.view_byte sound.settings.near) sent)
     (λ cell. let small = (cell_told g cell sound.told).small in omega (arith, small))
     p.notes.cells))
-    ((notes_owe p.notes (spot_of g p) (pack_of g p)).clear fit at
-    (named_is_pack g p.name sound.good)))
+    ((notes_owe p.notes (spot_of g p) (pack_of g p) (chest_of g p)).clear fit at
+    (named_is_pack g p.name sound.good) (chest_fits g p sound.chests windows)))
   where
     first : (b : Bool) → AreClear (cond b []
         (opening_of g.settings.terrain g.settings.players (pos p.eid) (spot_of g p)))

@@ -3,11 +3,11 @@ use Rattle.std.proofs.Common.{◌≡◌, true, false, cond, is_some, [], map, Op
 use lib.IntN.{pos}
 use Rattle.mc_slots.specs.Pile.{slot_of}
 use Rattle.mc_model.specs.declared.player.Player.{Player}
-use Rattle.mc_model.specs.Sight.{Sight}
+use Rattle.mc_model.specs.Sight.{Sight, window_seen}
 use Rattle.mc_model.specs.Replica.{apply, replay, seeing}
 use Rattle.mc_model.specs.Delta.{Follows, IsTold, delta}
 use Rattle.mc_model.specs.Opening.{opening_of}
-use Rattle.mc_model.specs.Game.{Game, pack_of, spot_of}
+use Rattle.mc_model.specs.Game.{Game, chest_of, pack_of, spot_of}
 use Rattle.mc_model.specs.Showing.{due, last_shown, notes_due, opening_due, sight_of}
 use Rattle.mc_laws.proofs.Leading.{Leads, no_packets, onward}
 use Rattle.mc_laws.proofs.Points.{difference_leads}
@@ -29,6 +29,11 @@ opening_due_keeps s g shown p = elim (is_some shown) as (λ b. Leads s (cond b [
       | false ↦ record { is = opening_keeps s g p }
     ]
 
+sight_window : (g : Game) (p : Player) (last : Sight) →
+    (sight_of g p last).window ≡ window_seen (pack_of g p) (chest_of g p)
+unfolding sight_of
+sight_window g p last = refl
+
 sight_pack : (g : Game) (p : Player) (last : Sight) →
     (sight_of g p last).pack ≡ map slot_of (pack_of g p).slots
 unfolding sight_of
@@ -44,8 +49,8 @@ notes_keep : (g : Game) (p : Player) (last : Sight) → IsTold (sight_of g p las
 notes_keep g p last told = onward
     (onward (confirms_keep (sight_of g p last) p.notes.confirms)
     (cells_keep g p last told p.notes.cells))
-    ((notes_owe p.notes (spot_of g p) (pack_of g p)).keeps (sight_of g p last)
-    (sight_pack g p last) (sight_cursor g p last))
+    ((notes_owe p.notes (spot_of g p) (pack_of g p) (chest_of g p)).keeps (sight_of g p last) told
+    (sight_window g p last) (sight_pack g p last) (sight_cursor g p last))
 
 pub due_leads : (g : Game) (shown : Option Sight) (p : Player) →
     Follows (last_shown shown) (sight_of g p (last_shown shown)) →

@@ -1,6 +1,6 @@
 -- What is to be shown of a game can be told by packets, and follows what was shown of an earlier
 -- one.
-use Rattle.std.proofs.Common.{◌≡◌, ◌<◌, ◌≤◌, true, List, [], ◌∷◌, ◌++◌, map, Option, Some, None}
+use Rattle.std.proofs.Common.{◌≡◌, ℕ, ◌<◌, ◌≤◌, true, List, [], ◌∷◌, ◌++◌, map, Option, Some, None}
 use Rattle.std.proofs.Common.{refl, sym, subst, ap, ◌∙◌, inl, inr, arith, drop}
 use Rattle.std.specs.Prelude.{◌⊎◌, ◌<ℤ◌, is_some, unsigned_abs, unwrap_or}
 use Rattle.std.specs.List.{All, AllByRecursion, filter, filter_map}
@@ -31,12 +31,14 @@ use Rattle.mc_model.specs.Delta.{Follows, IsSeen, IsTold}
 use Rattle.mc_model.specs.Replica.{is_32_bits}
 use Rattle.mc_model.specs.Game.{Game, column_in, is_in_sight, pack_of, view_in}
 use Rattle.mc_model.specs.Showing.{sight_of}
-use Rattle.mc_model.specs.Good.{Good}
+use Rattle.mc_model.specs.Good.{GoodWorld}
 use Rattle.mc_model.specs.Fitting.{EntityFits, GivenKinds, Told, kind_seen}
+use Rattle.mc_model.specs.World.{World}
 use Rattle.mc_model.proofs.AllFacts.{all_chosen, all_filtered}
 use Rattle.mc_model.proofs.Lasting.{Since}
 use Rattle.mc_laws.proofs.Deeds.Packs.{named_is_pack}
 use Rattle.mc_laws.proofs.Fits.Told.{state_small}
+use Rattle.mc_laws.proofs.Fits.Windows.{window_told}
 
 -- ---- columns
 
@@ -108,11 +110,13 @@ seen_told e kind fits row found = grind (arith, nat_tests, in_32_bits)
 
 -- ---- what packets can tell
 
-pub sight_told : (g : Game) (p : Player) (last : Sight) → Good g → Told g →
-    IsTold (sight_of g p last)
+pub sight_told : (w : World) (k : ℕ) (p : Player) (last : Sight) → GoodWorld w →
+    get w.game.players k ≡ Some p → IsTold (sight_of w.game p last)
 unfolding sight_of
-sight_told g p last w t =
-    let pack = named_is_pack g p.name w in
+sight_told w k p last good there =
+    let g = w.game in
+    let t = good.told in
+    let pack = named_is_pack g p.name good.game in
     record {
       sizes = λ place column found.
           rw (shown_column g p last place column found) (column_sizes g place);
@@ -121,6 +125,8 @@ sight_told g p last w t =
       entities = λ eid e found.
           shown_holds EntityFits (λ (row : ℤ × Seen). IsSeen row.1) g p last eid e
           (λ x row fits is. seen_told x x.kind fits row is) t.fits found;
+      window = λ window is. window_told g p window good.chests good.windows
+          (good.windows.shown k p there) is;
       pack = length-map (pack_of g p).slots slot_of ∙ pack.size;
     }
 
@@ -186,12 +192,13 @@ unfolding sight_of
 sight_chat g p last = refl
 
 -- the sight of a later game of one land follows that of an earlier one
-pub sight_follows : (g v : Game) (p q : Player) (last : Sight) (t : Told g) → Good g → Good v →
-    Told v → g.settings.terrain ≡ v.settings.terrain → LaterThan g t v →
+pub sight_follows : (g v : Game) (p q : Player) (last : Sight) (t : Told g) →
+    IsTold (sight_of g p last) → IsTold (sight_of v q (sight_of g p last)) →
+    g.settings.terrain ≡ v.settings.terrain → LaterThan g t v →
     Follows (sight_of g p last) (sight_of v q (sight_of g p last))
-sight_follows g v p q last t good good_too told terrain later = record {
-  old = sight_told g p last good t;
-  new = sight_told v q (sight_of g p last) good_too told;
+sight_follows g v p q last t old new terrain later = record {
+  old = old;
+  new = new;
   biomes = λ place old new was is.
       ap (λ (c : ColumnValue). c.biomes) (shown_column g p last place old was)
       ∙ ap (λ (land : Terrain). biomes_of land place) terrain
@@ -211,15 +218,16 @@ nothing_told = record {
       get-empty place_cmp place in absurd cc;
   entities = λ eid e found. let none : get nothing_seen.entities eid ≡ None =
       get-empty int_cmp eid in absurd cc;
+  window = λ w is. absurd cc;
   pack = refl;
 }
 
 -- and each follows nothing
-pub nothing_follows : (v : Game) (q : Player) → Good v → Told v →
+pub nothing_follows : (v : Game) (q : Player) → IsTold (sight_of v q nothing_seen) →
     Follows nothing_seen (sight_of v q nothing_seen)
-nothing_follows v q good told = record {
+nothing_follows v q told = record {
   old = nothing_told;
-  new = sight_told v q nothing_seen good told;
+  new = told;
   biomes = λ place old new was is. let none : get nothing_seen.columns place ≡ None =
       get-empty place_cmp place in absurd cc;
   kinds = λ eid old new was is. let none : get nothing_seen.entities eid ≡ None =

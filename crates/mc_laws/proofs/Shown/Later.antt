@@ -10,6 +10,7 @@ use Rattle.mc_model.specs.Game.{Game}
 use Rattle.mc_model.specs.Leaving.{leave, leave_all, left_by}
 use Rattle.mc_model.specs.Deeds.{enter_as}
 use Rattle.mc_model.specs.Link.{Handing, Link, gone}
+use Rattle.mc_model.specs.Windows.{shut}
 use Rattle.mc_model.specs.World.{Outcome, Seat, Turn, World, closed_by, each, seat_of}
 use Rattle.mc_model.specs.Tick.{aged, at_tick, beat, beats, flush, grown, shown_all, tick}
 use Rattle.mc_model.specs.Good.{GoodWorld}
@@ -17,6 +18,7 @@ use Rattle.mc_model.specs.Fitting.{GivenKinds}
 use Rattle.mc_model.proofs.Lasting.{Since}
 use Rattle.mc_model.proofs.LastingKept.{since_filtered, since_more}
 use Rattle.mc_laws.proofs.Deeds.Leaving.{leave_all_stays, leave_cases, leave_stays}
+use Rattle.mc_laws.proofs.Deeds.Shutting.{shut_on}
 use Rattle.mc_laws.proofs.Acts.ActOn.{act_on}
 use Rattle.mc_laws.proofs.Walk.Moves.{Kept, Walked, answers, closes, comes_in, does, keeps}
 use Rattle.mc_laws.proofs.Walk.Moves.{shakes, walked_keeps}
@@ -39,7 +41,8 @@ later_same g = record { since = λ old since. since; settings = refl }
 leave_since : (old : GivenKinds) (k : ℕ) (g : Game) → Since old g.eids g.entities →
     Since old (leave k g).eids (leave k g).entities
 leave_since old k g since = leave_cases k g (λ (v : Game). Since old v.eids v.entities)
-    (λ none. since) (λ p there. since_filtered _ g.entities since)
+    (λ none. since)
+    (λ p there. since_filtered _ (shut k p g).entities ((shut_on k p g there).since old since))
 
 leave_all_since : (old : GivenKinds) (ks : List ℕ) (g : Game) → Since old g.eids g.entities →
     Since old (leave_all ks g).eids (leave_all ks g).entities

@@ -37,7 +37,7 @@ use Rattle.mc_laws.proofs.Runs.OneSteps.{OneStep, comes, departs, goes, one_step
 use Rattle.mc_laws.proofs.Runs.OneSteps.{takes, ticks}
 use Rattle.mc_laws.proofs.Runs.Promises.{still_new}
 use Rattle.mc_laws.proofs.Runs.Worlds.{at_tick_world, new_good, step_good}
-use Rattle.mc_laws.proofs.Fits.Sights.{kinds_of}
+use Rattle.mc_laws.proofs.Fits.Sights.{kinds_of, sight_told}
 use Rattle.mc_laws.proofs.Decoding.Streams.{has_stage}
 use Rattle.mc_laws.proofs.Shown.Later.{Later, at_tick_later, flushed_later, step_later}
 use Rattle.mc_laws.proofs.Shown.Drawn.{IsDrawn, drawn_later, due_shows}
@@ -98,11 +98,13 @@ tick_shows w k l ps s there = tick_cases w k l (TickShows w k ps) there
     shows p plays speaks =
         let open_ = ap is_closed (stage p plays) in
         let later = at_tick_later w s.good in
+        let here = speaks_there w k l p there plays open_ speaks in
         subst (λ (o : Option Player). IsShown (shown_of w k o) l.stage
         (ps ++ map of_play (due (at_tick w).game (get w.shown k) p)))
-        (sym (speaks_there w k l p there plays open_ speaks)) (record {
+        (sym here) (record {
           playing = λ _. due_shows (at_tick w).game p (get w.shown k) ps
-              (at_tick_world w s.good).game (at_tick_world w s.good).told
+              (sight_told (at_tick w) k p (last_shown (get w.shown k))
+              (at_tick_world w s.good) here)
               (drawn_later w.game (at_tick w).game (get w.shown k) later s.drawn)
               ((s.shown l there).playing (ap is_play (stage p plays)));
           waiting = λ waits _. absurd (not_both (is_play l.stage) (ap is_play (stage p plays))
@@ -113,18 +115,19 @@ tick_shows w k l ps s there = tick_cases w k l (TickShows w k ps) there
 tick_drawn : (w : World) (k : ℕ) → GoodWorld w →
     IsDrawn (tick w).world.game (get (tick w).world.shown k)
 tick_drawn w k good = subst (IsDrawn (tick w).world.game) (sym (tick_shown w k))
-    (at_player (get (at_tick w).game.players k))
+    (at_player (get (at_tick w).game.players k) refl)
   where
-    at_player : (o : Option Player) → IsDrawn (tick w).world.game (shown_of w k o)
-    at_player None = tt
-    at_player (Some p) =
+    at_player : (o : Option Player) → get (at_tick w).game.players k ≡ o →
+        IsDrawn (tick w).world.game (shown_of w k o)
+    at_player None there = tt
+    at_player (Some p) there =
         let here = at_tick_world w good in
         let later = flushed_later w in
         record {
           game = (at_tick w).game;
           player = p;
           last = last_shown (get w.shown k);
-          good = here.game;
+          old = sight_told (at_tick w) k p (last_shown (get w.shown k)) here there;
           told = here.told;
           settings = sym later.settings;
           later = later.since (kinds_of (at_tick w).game here.told)
@@ -323,6 +326,7 @@ after_tick_shows k w p ps s there =
         pairs = ap (λ (r : Replica). r.sight.pairs) all;
         columns = ap (λ (r : Replica). r.sight.columns) all;
         entities = ap (λ (r : Replica). r.sight.entities) all;
+        window = ap (λ (r : Replica). r.sight.window) all;
         pack = ap (λ (r : Replica). r.sight.pack) all;
         cursor = ap (λ (r : Replica). r.sight.cursor) all;
         chat = ap (λ (r : Replica). r.sight.chat) all;
