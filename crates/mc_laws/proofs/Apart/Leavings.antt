@@ -1,8 +1,8 @@
 -- Two players leave in either order, where nothing hangs on the cursor of one of them: that one
 -- drops nothing, and what the other drops is the same.
-use Rattle.std.proofs.Common.{◌≡◌, ◌≢◌, ℕ, ◌+◌, ◌≤◌, Bool, true, false, cond, List, [], ◌∷◌, ◌++◌}
+use Rattle.std.proofs.Common.{◌≡◌, ◌≢◌, ℕ, ◌+◌, ◌≤◌, Bool, true, false, List, [], ◌∷◌, ◌++◌}
 use Rattle.std.proofs.Common.{Option, Some, None, refl, sym, subst, ap, ◌∙◌, inl, inr, arith}
-use Rattle.std.specs.Prelude.{◌-◌, ◌≤ℤ◌, min, not, nat_lt, option_map, unwrap_or, if◌then◌else◌}
+use Rattle.std.specs.Prelude.{◌⊎◌, ◌-◌, ◌≤ℤ◌, min, not, nat_lt, option_map, unwrap_or, if◌then◌else◌}
 use Rattle.std.proofs.lemmas.Bool.{cases_eq}
 use Rattle.std.proofs.lemmas.Bool.Decides.{Decides-int_eq, nat_tests}
 use Rattle.std.proofs.lemmas.Int.{ints}
@@ -26,20 +26,19 @@ use Rattle.mc_model.specs.declared.player.Player.{Player}
 use Rattle.mc_model.specs.Notes.{again}
 use Rattle.mc_model.specs.Things.{holding, in_hand}
 use Rattle.mc_model.specs.Maps.{modify, name_cmp}
-use Rattle.mc_model.specs.Spots.{spawn_spot, spot_in}
+use Rattle.mc_model.specs.Spots.{spawn_spot}
 use Rattle.mc_model.specs.Game.{Game, of_player, pack_of, room_in}
 use Rattle.mc_model.specs.Deeds.{go_of, noting, repack_of, thrown, watching}
 use Rattle.mc_model.specs.Leaving.{leave}
 use Rattle.mc_model.specs.Windows.{feet_of, kept_in_hand, let_fall, shut}
 use Rattle.mc_model.specs.Good.{Good}
-use Rattle.mc_model.proofs.Maps.Options.{none_some, some_is}
 use Rattle.mc_model.proofs.Maps.Lookups.{changed_other, gone_other, gone_same, maps_alike}
 use Rattle.mc_model.proofs.Maps.Lookups.{name_cases, name_changed_other, name_changed_same}
 use Rattle.mc_model.proofs.Maps.Lookups.{names_apart}
 use Rattle.mc_model.proofs.Maps.Entities.{KeepsEid, changed_eid, other_eid, without_no_eid}
 use Rattle.mc_laws.proofs.Deeds.Goods.{holds}
 use Rattle.mc_laws.proofs.Deeds.Keeping.{names_apart as names_differ}
-use Rattle.mc_laws.proofs.Deeds.Leaving.{leave_good, leave_nobody, leave_other, leave_same}
+use Rattle.mc_laws.proofs.Deeds.Leaving.{leave_good, leave_nobody, leave_other}
 
 -- ---- entities and maps
 
@@ -69,56 +68,41 @@ lying_without : (n low high : ℤ) (es : List Entity) (x : Entity) → Rise eid_
     dropped_in (without eid_of n es) ≡ dropped_in es
 lying_without n low high [] x r found none = refl
 lying_without n low high (e ∷ es) x r found none =
-    grind (arith, nat_tests, ints, Decides-int_eq, without_low n e.eid high es,
-    lying_without n e.eid high es x)
+    grind (
+      arith,
+      nat_tests,
+      ints,
+      Decides-int_eq,
+      without_low n e.eid high es,
+      lying_without n e.eid high es x,
+    )
 
 removed_changed : {X : Type 0} (k : ℕ) (f : X → X) (m : FinMap nat_cmp X) →
     remove (modify k f m) k ≡ remove m k
-removed_changed k f m = maps_alike (remove (modify k f m) k) (remove m k) (λ q.
-    elim (cases_eq q k) [
-      | inl same ↦ rw same (gone_same (modify k f m) k ∙ sym (gone_same m k))
-      | inr ne ↦ gone_other (modify k f m) k q ne ∙ changed_other m k q f ne
-          ∙ sym (gone_other m k q ne)
-    ])
+removed_changed k f m = maps_alike (remove (modify k f m) k) (remove m k) (λ q. at q (cases_eq q k))
+  where
+    at : (q : ℕ) → (q ≡ k) ⊎ (q ≢ k) → get (remove (modify k f m) k) q ≡ get (remove m k) q
+    at q either = grind (arith, nat_tests, gone_same, gone_other, changed_other)
 
 removed_swap : {X : Type 0} (m : FinMap nat_cmp X) (j k : ℕ) →
     remove (remove m j) k ≡ remove (remove m k) j
-removed_swap m j k = maps_alike (remove (remove m j) k) (remove (remove m k) j) (λ q.
-    elim (cases_eq q j) [
-      | inl at_j ↦ elim (cases_eq q k) [
-        | inl at_k ↦ ap (get (remove (remove m j) k)) at_k ∙ gone_same (remove m j) k
-            ∙ sym (ap (get (remove (remove m k) j)) at_j ∙ gone_same (remove m k) j)
-        | inr off_k ↦ gone_other (remove m j) k q off_k
-            ∙ ap (get (remove m j)) at_j ∙ gone_same m j
-            ∙ sym (ap (get (remove (remove m k) j)) at_j ∙ gone_same (remove m k) j)
-      ]
-      | inr off_j ↦ elim (cases_eq q k) [
-        | inl at_k ↦ ap (get (remove (remove m j) k)) at_k ∙ gone_same (remove m j) k
-            ∙ sym (gone_other (remove m k) j q off_j ∙ ap (get (remove m k)) at_k
-            ∙ gone_same m k)
-        | inr off_k ↦ gone_other (remove m j) k q off_k ∙ gone_other m j q off_j
-            ∙ sym (gone_other (remove m k) j q off_j ∙ gone_other m k q off_k)
-      ]
-    ])
+removed_swap m j k = maps_alike (remove (remove m j) k) (remove (remove m k) j)
+    (λ q. at q (cases_eq q j) (cases_eq q k))
+  where
+    at : (q : ℕ) → (q ≡ j) ⊎ (q ≢ j) → (q ≡ k) ⊎ (q ≢ k) →
+        get (remove (remove m j) k) q ≡ get (remove (remove m k) j) q
+    at q at_j at_k = grind (arith, nat_tests, gone_same, gone_other)
 
 -- two names change
 modified_swap : {X : Type 0} (m : FinMap name_cmp X) (a b : List ℕ) (f h : X → X) → a ≢ b →
     modify a f (modify b h m) ≡ modify b h (modify a f m)
 modified_swap m a b f h ne = same_map nat_list_cmp_total names_apart
-    (modify a f (modify b h m)) (modify b h (modify a f m)) (λ q. elim (name_cases q a) [
-      | inl same ↦ rw same (name_changed_same (modify b h m) a f
-          ∙ ap (option_map f) (name_changed_other m b a h ne)
-          ∙ sym (name_changed_other (modify a f m) b a h ne ∙ name_changed_same m a f))
-      | inr off ↦ name_changed_other (modify b h m) a q f off
-          ∙ elim (name_cases q b) [
-            | inl same ↦ rw same (name_changed_same m b h
-                ∙ sym (name_changed_same (modify a f m) b h
-                ∙ ap (option_map h) (name_changed_other m a b f (λ e. ne (sym e)))))
-            | inr away ↦ name_changed_other m b q h away
-                ∙ sym (name_changed_other (modify a f m) b q h away
-                ∙ name_changed_other m a q f off)
-          ]
-    ])
+    (modify a f (modify b h m)) (modify b h (modify a f m))
+    (λ q. at q (name_cases q a) (name_cases q b))
+  where
+    at : (q : List ℕ) → (q ≡ a) ⊎ (q ≢ a) → (q ≡ b) ⊎ (q ≢ b) →
+        get (modify a f (modify b h m)) q ≡ get (modify b h (modify a f m)) q
+    at q at_a at_b = grind (arith, nat_tests, name_changed_same, name_changed_other)
 
 -- ---- what leaving comes to
 
@@ -143,8 +127,8 @@ module _ (k : ℕ) (p : Player) (g : Game) where
   pack = pack_of g p
 
   same_feet : (held : Pile) → feet_of p (record g {
-        entities = changed eid_of (pos p.eid) (holding held) g.entities;
-      }) ≡ feet_of p g
+    entities = changed eid_of (pos p.eid) (holding held) g.entities;
+  }) ≡ feet_of p g
   same_feet held = ap (λ (spot : Spot). record spot { yaw = 0; pitch = 0 })
       (ap (λ (o : Option Entity). unwrap_or (option_map (λ (e : Entity). e.spot) o)
       (spawn_spot g.settings.terrain)) (changed_eid p.eid (holding held) g.entities (holds held))

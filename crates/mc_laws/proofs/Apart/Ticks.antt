@@ -1,6 +1,6 @@
 -- Two worlds that are the same but for one connection stay so over a tick, and all others are
 -- handed the same.
-use Rattle.std.proofs.Common.{◌≡◌, ◌≢◌, ℕ, Bool, true, false, cond, Option, Some, None, refl, sym}
+use Rattle.std.proofs.Common.{◌≡◌, ◌≢◌, ℕ, false, Option, Some, None, refl, sym}
 use Rattle.std.proofs.Common.{subst, ap, ◌∙◌}
 use Rattle.std.specs.Prelude.{is_some, option_map}
 use Rattle.std.specs.List.{filter}
@@ -8,7 +8,7 @@ use Rattle.std.specs.FinMap.{get, keys}
 use Rattle.mc_model.specs.declared.player.Player.{Player}
 use Rattle.mc_model.specs.Stages.{is_closed}
 use Rattle.mc_model.specs.Game.{Game}
-use Rattle.mc_model.specs.Leaving.{leave, leave_all}
+use Rattle.mc_model.specs.Leaving.{leave_all}
 use Rattle.mc_model.specs.Link.{Handing, Link, quiet}
 use Rattle.mc_model.specs.Showing.{last_shown, sight_of}
 use Rattle.mc_model.specs.World.{World, each, is_closing}
@@ -18,10 +18,9 @@ use Rattle.mc_model.specs.Tick.{grown, shown_all, tick, told}
 use Rattle.mc_model.specs.Good.{GoodWorld, in_play}
 use Rattle.mc_model.specs.Apart.{AlikeBut, IsShut, SameBut}
 use Rattle.mc_model.proofs.Maps.Lookups.{get_keyed}
-use Rattle.mc_laws.proofs.Deeds.Leaving.{leave_nobody}
 use Rattle.mc_laws.proofs.Apart.Swaps.{leave_but}
 use Rattle.mc_laws.proofs.Walk.Handings.{not_in_play}
-use Rattle.mc_laws.proofs.Walk.Each.{each_links, each_players}
+use Rattle.mc_laws.proofs.Walk.Each.{each_links}
 use Rattle.mc_laws.proofs.Runs.Worlds.{at_tick_world}
 use Rattle.mc_laws.proofs.Apart.Alike.{closing_alike, hands_same}
 

@@ -1,7 +1,7 @@
 -- Whatever a player does leaves all in play shown chests as they should be, topic by topic.
-use Rattle.std.proofs.Common.{◌≡◌, ℕ, Bool, true, false, List, [], ◌∷◌, Option, Some, None, refl, sym}
-use Rattle.std.proofs.Common.{subst, ap, ◌∙◌, arith}
-use Rattle.std.specs.Prelude.{◌==◌, ◌&&◌, not, min, nat_le, nat_lt, length, if◌then◌else◌}
+use Rattle.std.proofs.Common.{◌≡◌, ℕ, Bool, true, false, List, [], ◌∷◌, Option, Some, None, refl}
+use Rattle.std.proofs.Common.{subst, ap, ◌∙◌}
+use Rattle.std.specs.Prelude.{◌==◌, not, min, nat_lt, if◌then◌else◌}
 use Rattle.std.proofs.lemmas.Bool.{and_parts, eqb-true}
 use Rattle.std.specs.Ordering.{int_eq}
 use Rattle.std.specs.FinMap.{get}
@@ -25,15 +25,15 @@ use Rattle.mc_model.specs.declared.player.Player.{Player}
 use Rattle.mc_model.specs.Acts.{act, act_by, act_of}
 use Rattle.mc_model.specs.Chat.{say}
 use Rattle.mc_model.specs.Deeds.{noting, rehand_of, repack_of, stand_of, with_player, with_state}
-use Rattle.mc_model.specs.Digging.{can_dig, dig, digging, drop_held, dug, dug_items, is_dug}
+use Rattle.mc_model.specs.Digging.{can_dig, dig, digging, drop_held, dug}
 use Rattle.mc_model.specs.Digging as digs
 use Rattle.mc_model.specs.Game.{Game, chest_of, held_by, pack_of, room_in, state_in}
 use Rattle.mc_model.specs.Hands.{carrying, place_of_hotbar, take_up}
 use Rattle.mc_model.specs.Movement.{arrive, arrived, placed_again}
 use Rattle.mc_model.specs.Notes.{again, with_cells}
-use Rattle.mc_model.specs.Placing.{is_free, item_state, place_at, place_on, placing_refused}
+use Rattle.mc_model.specs.Placing.{is_free, item_state, place_at, placing_refused}
 use Rattle.mc_model.specs.Placing.{put_block}
-use Rattle.mc_model.specs.Reach.{at_face, is_in_reach, is_in_world, is_near}
+use Rattle.mc_model.specs.Reach.{at_face, is_in_reach, is_in_world}
 use Rattle.mc_model.specs.Spots.{spawn_spot}
 use Rattle.mc_model.specs.Things.{with_hand}
 use Rattle.mc_model.specs.Windows.{answering, close, confirm, let_fall, open_chest, press}
@@ -42,7 +42,7 @@ use Rattle.mc_model.specs.Good.{AreChests, AreShown, Good}
 use Rattle.mc_model.proofs.Maps.Options.{some_is}
 use Rattle.mc_laws.proofs.Windows.Same.{SameWindows, ShownBut, fallen_same, nobody, noted_same}
 use Rattle.mc_laws.proofs.Windows.Same.{repacked_same, restocked_same, right_shown, same_on}
-use Rattle.mc_laws.proofs.Windows.Same.{same_parts, same_right, shown_right, stands_in}
+use Rattle.mc_laws.proofs.Windows.Same.{same_parts, same_right, shown_right}
 use Rattle.mc_laws.proofs.Windows.Same.{touched_same}
 use Rattle.mc_laws.proofs.Windows.Clicks.{answered_window, click_window}
 use Rattle.mc_laws.proofs.Windows.Closing.{open_right, shut_right}

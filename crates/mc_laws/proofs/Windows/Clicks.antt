@@ -1,7 +1,7 @@
 -- No click and no pickup changes the number of the window that is shown.
-use Rattle.std.proofs.Common.{◌≡◌, ℕ, Bool, true, false, List, [], ◌∷◌, Option, None, refl, ◌∙◌}
+use Rattle.std.proofs.Common.{◌≡◌, ℕ, Bool, List, [], ◌∷◌, Option, None, refl, ◌∙◌}
 use Rattle.std.proofs.Common.{arith}
-use Rattle.std.specs.Prelude.{◌==◌, ◌&&◌, if◌then◌else◌}
+use Rattle.std.specs.Prelude.{if◌then◌else◌}
 use Rattle.std.proofs.lemmas.Bool.Decides.{nat_tests}
 use lib.IntN.{ℤ}
 use Rattle.mc_slots.specs.declared.pile.Item.{Item}
@@ -10,7 +10,7 @@ use Rattle.mc_slots.specs.declared.pile.Pile.TheVariants.{Full}
 use Rattle.mc_windows.specs.declared.request.Click.{Click}
 use Rattle.mc_windows.specs.declared.request.Why.{Why}
 use Rattle.mc_windows.specs.declared.request.Why.TheVariants.{WrongWindow}
-use Rattle.mc_windows.specs.Pack.{PackValue, answered_pack, is_waiting_for}
+use Rattle.mc_windows.specs.Pack.{PackValue, answered_pack}
 use Rattle.mc_windows.specs.Moves.{exchanged, is_possible, made, run}
 use Rattle.mc_windows.specs.Clicks.{admitted, desk_of, outcome, pack_after, plan, refused_pack}
 use Rattle.mc_windows.specs.Storing.{stored}

@@ -1,17 +1,15 @@
 -- What most deeds leave alone of windows: who is shown which chest, and the numbers of windows.
-use Rattle.std.proofs.Common.{◌≡◌, ◌≢◌, ℕ, ◌≤◌, Bool, true, false, List, [], ◌∷◌, Option, Some}
-use Rattle.std.proofs.Common.{None, refl, sym, subst, ap, ◌∙◌, inl, inr, arith, cond}
-use Rattle.std.specs.Prelude.{◌==◌, not, nat_lt, is_some, option_map, unwrap_or}
-use Rattle.std.specs.Prelude.{if◌then◌else◌}
+use Rattle.std.proofs.Common.{◌≡◌, ℕ, ◌≤◌, Bool, true, List, Option, Some}
+use Rattle.std.proofs.Common.{None, refl, sym, subst, ap, ◌∙◌, inl, inr, arith}
+use Rattle.std.specs.Prelude.{◌==◌, not, is_some, option_map, unwrap_or}
 use Rattle.std.proofs.lemmas.Bool.{cases_eq}
-use Rattle.std.specs.Ordering.{eq_by_cmp}
-use Rattle.std.specs.FinMap.{FinMap, get, get-insert, insert}
-use lib.IntN.{ℤ, pos, negsuc}
+use Rattle.std.proofs.lemmas.Bool.Decides.{nat_tests}
+use Rattle.std.specs.FinMap.{FinMap, get, get-insert}
+use lib.IntN.{ℤ, pos}
 use Rattle.mc_fields.specs.declared.position.Cell.{Cell}
-use Rattle.mc_slots.specs.declared.pile.Item.{Item}
 use Rattle.mc_slots.specs.declared.pile.Pile.{Pile}
 use Rattle.mc_slots.specs.declared.pile.Pile.TheVariants.{Empty, Full}
-use Rattle.mc_land.specs.Places.{Key, key_cmp, key_of}
+use Rattle.mc_land.specs.Places.{key_cmp, key_of}
 use Rattle.mc_land.proofs.Orders.{keys_total}
 use Rattle.mc_windows.specs.Pack.{PackValue, kit_pack}
 use Rattle.mc_model.specs.declared.notes.Notes.{Notes}
@@ -20,7 +18,7 @@ use Rattle.mc_model.specs.Things.{chest_of_cell, chest_put}
 use Rattle.mc_model.specs.Game.{Game, chest_at, pack_of}
 use Rattle.mc_model.specs.Deeds.{noting, repack_of, restocked, with_player}
 use Rattle.mc_model.specs.Windows.{let_fall}
-use Rattle.mc_model.specs.Good.{AreShown, Good, IsShown}
+use Rattle.mc_model.specs.Good.{AreShown, Good}
 use Rattle.mc_model.proofs.Maps.Options.{some_is}
 use Rattle.mc_model.proofs.Maps.Lookups.{changed_other, changed_same, name_cases}
 use Rattle.mc_model.proofs.Maps.Lookups.{name_changed_other, name_changed_same}
@@ -194,28 +192,12 @@ fallen_same p Empty g = same_parts refl refl refl
 fallen_same p (Full item) g = same_parts refl refl refl
 
 -- what lies in a chest is another
-put_still : (chests : FinMap key_cmp (List Pile)) (key q : Key) (piles : List Pile) →
-    is_some (get chests q) ≡ true → is_some (get (insert chests key piles) q) ≡ true
-put_still chests key q piles is = ap is_some (get-insert keys_total chests key piles q)
-    ∙ either (eq_by_cmp key_cmp q key)
-  where
-    either : (b : Bool) → is_some (cond b (Some piles) (get chests q)) ≡ true
-    either true = refl
-    either false = is
-
 stands_still : (chests : FinMap key_cmp (List Pile)) (piles : List Pile) (x y z a b c : ℤ) →
     is_some (chest_of_cell chests a b c) ≡ true →
     is_some (chest_of_cell (chest_put chests x y z piles) a b c) ≡ true
-stands_still chests piles x (negsuc y) z a b c is = is
-stands_still chests piles x (pos y) z a (negsuc b) c is = absurd cc
-stands_still chests piles x (pos y) z a (pos b) c is = inside (nat_lt b 256) is
-  where
-    inside : (low : Bool) →
-        is_some (if low then get chests (key_of a b c) else None) ≡ true →
-        is_some (if low then get (insert chests (key_of x y z) piles) (key_of a b c) else None)
-        ≡ true
-    inside true there = put_still chests (key_of x y z) (key_of a b c) piles there
-    inside false there = absurd cc
+stands_still chests piles x (pos y) z a (pos b) c is =
+    grind (arith, nat_tests, get-insert keys_total chests (key_of x y z) piles (key_of a b c))
+stands_still chests piles x y z a b c is = grind (arith, nat_tests)
 
 pub restocked_same : (cell : Cell) (piles : List Pile) (g : Game) →
     SameWindows g (restocked cell piles g)

@@ -1,24 +1,21 @@
 -- A cell is dug or placed: the windows of a chest that is dug are those of its viewers, which close.
-use Rattle.std.proofs.Common.{◌≡◌, ◌≢◌, ℕ, ◌+◌, ◌*◌, ◌<◌, Bool, true, false, cond, List, [], ◌∷◌}
+use Rattle.std.proofs.Common.{◌≡◌, ℕ, ◌<◌, Bool, true, false, cond, List, [], ◌∷◌}
 use Rattle.std.proofs.Common.{Option, Some, None, T, refl, sym, subst, ap, ◌∙◌, inl, inr, arith}
-use Rattle.std.specs.Prelude.{◌⊎◌, ◌==◌, ◌&&◌, nat_lt, is_some, option_map, unsigned_abs}
+use Rattle.std.specs.Prelude.{◌⊎◌, is_some, option_map, unsigned_abs}
 use Rattle.std.specs.Prelude.{if◌then◌else◌}
 use Rattle.std.proofs.lemmas.Bool.{cases_eq}
 use Rattle.std.proofs.lemmas.Bool.Decides.{Decides-int_eq, nat_tests}
 use Rattle.std.proofs.lemmas.Int.{ints}
-use Rattle.std.specs.List.{cons_option, filter, filter_map, fold}
-use Rattle.std.specs.Ordering.{eq_by_cmp, int_eq, nat_cmp}
+use Rattle.std.specs.List.{filter, filter_map}
+use Rattle.std.specs.Ordering.{int_eq, nat_cmp}
 use Rattle.std.specs.Cmp.{nat_cmp_total}
-use Rattle.std.specs.FinMap.{FinMap, entries, entries_sorted, find, get, get-entries, is_sorted}
-use Rattle.std.specs.FinMap.{nat_cmp-IsAntisymmetric}
+use Rattle.std.specs.FinMap.{entries, entries_sorted, find, get, get-entries, is_sorted}
 use lib.IntN.{ℤ, pos, negsuc, ◌+ℤ◌, ◌*ℤ◌}
 use Rattle.mc_fields.specs.declared.position.Cell.{Cell}
 use Rattle.mc_fields.specs.declared.position.Spot.{Spot}
 use Rattle.mc_slots.specs.declared.pile.Item.{Item}
-use Rattle.mc_slots.specs.declared.pile.Pile.{Pile}
-use Rattle.mc_slots.specs.Chest.{empty_chest}
-use Rattle.mc_land.specs.Land.{chests_after, is_chest}
-use Rattle.mc_land.specs.Places.{Key, column_number, inside, key_cmp, key_of}
+use Rattle.mc_land.specs.Land.{chests_after}
+use Rattle.mc_land.specs.Places.{Key, column_number, inside, key_of}
 use Rattle.mc_land.proofs.Orders.{exact_keys}
 use Rattle.mc_entities.specs.declared.entity.Entity.{Entity}
 use Rattle.mc_entities.specs.Kinds.{is_dropped}
@@ -31,7 +28,7 @@ use Rattle.mc_model.specs.Digging.{all_thrown, dug, dug_items, floor_of}
 use Rattle.mc_model.specs.Pickups.{pickers, playing_as}
 use Rattle.mc_model.specs.Reach.{is_in_world}
 use Rattle.mc_model.specs.Windows.{is_cell, is_of, viewers, views}
-use Rattle.mc_model.specs.Good.{AreChests, Good}
+use Rattle.mc_model.specs.Good.{Good}
 use Rattle.mc_model.proofs.Maps.Options.{some_is}
 use Rattle.mc_model.proofs.Maps.Lookups.{tied_number}
 use Rattle.mc_model.proofs.Maps.Sorted.{equal, find_again, second}
@@ -53,23 +50,17 @@ inside_below : (v : ℤ) → inside v < 16
 inside_below (pos n) = omega arith
 inside_below (negsuc n) = omega arith
 
-same_number : (v w : ℤ) → column_number v ≡ column_number w → inside v ≡ inside w → v ≡ w
-same_number v w column within =
-    sym (parts v) ∙ (λ i. column i *ℤ pos 16 +ℤ pos (within i)) ∙ parts w
-
-same_cell : (x y z : ℕ) (a b c : ℕ) → x < 16 → z < 16 → a < 16 → c < 16 →
-    y * 256 + z * 16 + x ≡ b * 256 + c * 16 + a → (x ≡ a) × (y ≡ b) × (z ≡ c)
-same_cell x y z a b c h i j k e =
-    (omega (arith, h, i, j, k, e), omega (arith, h, i, j, k, e), omega (arith, h, i, j, k, e))
-
 keys_tell : (x z a c : ℤ) (y b : ℕ) → key_of x y z ≡ key_of a b c → (x ≡ a) × (y ≡ b) × (z ≡ c)
-keys_tell x z a c y b e =
-    let same = same_cell (inside x) y (inside z) (inside a) b (inside c) (inside_below x)
-    (inside_below z) (inside_below a) (inside_below c) (λ i. (e i).1) in (
-      same_number x a (λ i. (e i).0.0) same.0,
-      same.1,
-      same_number z c (λ i. (e i).0.1) same.2,
-    )
+keys_tell x z a c y b e = grind (
+  arith,
+  nat_tests,
+  ints,
+  parts,
+  inside_below x,
+  inside_below z,
+  inside_below a,
+  inside_below c,
+)
 
 -- ---- a cell is set
 
@@ -80,16 +71,13 @@ module _ (cell : Cell) (state : ℕ) (g : Game) where
   -- what stands at another key stands there still
   set_other : (q : Key) → is_some (get g.chests q) ≡ true →
       (is_some (get (chests_after g.chests key (state_in g cell) state) q) ≡ true) ⊎ (q ≡ key)
-  set_other q is = step (eq_by_cmp key_cmp q key) refl
-    where
-      step : (b : Bool) → eq_by_cmp key_cmp q key ≡ b →
-          (is_some (get (chests_after g.chests key (state_in g cell) state) q) ≡ true)
-          ⊎ (q ≡ key)
-      step true t = inr (exact_keys q key (equal _ t))
-      step false t = inl (ap is_some (chest_set g.chests key q (state_in g cell) state
-          ∙ ap (λ (b : Bool). cond b (if is_chest state
-          then (if is_chest (state_in g cell) then get g.chests key else Some empty_chest)
-          else None) (get g.chests q)) t) ∙ is)
+  set_other q is = grind (
+    arith,
+    nat_tests,
+    chest_set g.chests key q (state_in g cell) state,
+    exact_keys q key,
+    equal,
+  )
 
   -- and in another cell
   pub set_stands : (q : Cell) → is_in_world cell ≡ true → stands_in g q ≡ true →

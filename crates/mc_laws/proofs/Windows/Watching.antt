@@ -1,12 +1,12 @@
 -- What the law of windows reads of a game: which chest each player is shown, which number the
 -- window of each name has, and where chests stand. It holds where what is read of one name changes.
 use Rattle.std.proofs.Common.{◌≡◌, ◌≢◌, ℕ, ◌≤◌, Bool, true, List, Option, Some, None, refl, sym}
-use Rattle.std.proofs.Common.{subst, ap, ◌∙◌, inl, inr, arith}
+use Rattle.std.proofs.Common.{subst, ap, ◌∙◌, inl, inr}
 use Rattle.std.specs.Prelude.{◌⊎◌, ◌==◌, not, is_some, unwrap_or}
 use Rattle.std.proofs.lemmas.Bool.{cases_eq}
 use Rattle.mc_fields.specs.declared.position.Cell.{Cell}
 use Rattle.mc_windows.specs.declared.pack.TheConstants.{LAST_WINDOW}
-use Rattle.mc_model.proofs.Maps.Options.{none_some, some_is}
+use Rattle.mc_model.proofs.Maps.Options.{some_is}
 use Rattle.mc_model.proofs.Maps.Lookups.{name_cases}
 
 -- a player's name, and the chest that it is shown
