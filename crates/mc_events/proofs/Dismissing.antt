@@ -2,7 +2,7 @@
 -- nothing.
 use Rattle.std.proofs.Common.{◌≡◌, ℕ, ◌+◌, ◌<◌, Bool, true, false, cond, T, List, [], ◌∷◌, drop}
 use Rattle.std.proofs.Common.{get_or, length, map, refl, sym, subst, ap, ◌∙◌, inl, inr}
-use Rattle.std.specs.Prelude.{Option, Some, None, is_some}
+use Rattle.std.specs.Prelude.{◌==◌, Option, Some, None, is_some, nat_lt, option_map, if◌then◌else◌}
 use Rattle.std.proofs.lemmas.Bool.{cases_eq}
 use Rattle.std.proofs.lemmas.List.{drop_more}
 use Rattle.std.specs.List.{filter}
@@ -16,15 +16,18 @@ use Rattle.mc_model.specs.Delta.{Pairs}
 use Rattle.mc_told.proofs.Rising.{rising, sorted_is}
 use Rattle.mc_model.specs.declared.player.Player.{Player}
 use Rattle.mc_model.specs.Deeds.{go_of}
-use Rattle.mc_model.specs.Game.{Game}
+use Rattle.mc_model.specs.Game.{Game, room_in}
 use Rattle.mc_model.specs.Good.{Good}
 use Rattle.mc_model.specs.Leaving.{leave, leave_all}
+use Rattle.mc_model.specs.Windows.{shut}
 use Rattle.mc_laws.proofs.Deeds.Leaving.{leave_all_good, leave_cases, leave_nobody, leave_other}
 use Rattle.mc_laws.proofs.Deeds.Leaving.{Stays, leave_all_stays, leave_same}
+use Rattle.mc_laws.proofs.Deeds.Shutting.{closed, shut_good, shut_here, shut_players}
+use Rattle.mc_laws.proofs.EachValue.{only}
 use Rattle.mc_links.specs.Kept.{ConnectionValue}
 use Rattle.mc_play.specs.Kept.{GameValue, played}
 use Rattle.mc_showing.specs.Shown.{pairs_of}
-use Rattle.mc_showing.proofs.PairFacts.{pairs_left}
+use Rattle.mc_showing.proofs.PairFacts.{pairs_alike, pairs_left}
 use Rattle.mc_events.specs.Ticking.{dismissed, is_shut_in}
 
 -- ---- the keys of two maps
@@ -210,6 +213,26 @@ module _ (cs : FinMap nat_cmp ConnectionValue) where
   dismissed_good ks v n made good = subst Good (ap (λ (x : GameValue). x.game) (sym made))
       (leave_all_good (filter (is_shut_in cs) ks) v.game good)
 
+-- closing a window changes neither identifiers nor names
+shut_pairs : (k : ℕ) (p : Player) (g : Game) → pairs_of (shut k p g) ≡ pairs_of g
+shut_pairs k p g = pairs_alike g (shut k p g) (λ j.
+    ap (option_map pair) (shut_players k p g j) ∙ same j (get g.players j))
+  where
+    pair : Player → ℕ × List ℕ
+    pair q = (q.uuid, q.name)
+
+    room : Bool
+    room = nat_lt 0 (room_in g)
+
+    same : (j : ℕ) (o : Option Player) →
+        option_map pair (option_map (only k (closed room) j) o) ≡ option_map pair o
+    same j None = refl
+    same j (Some q) = one (j == k)
+      where
+        one : (b : Bool) → Some (pair (if b then closed room q else q)) ≡ Some (pair q)
+        one true = refl
+        one false = refl
+
 -- the list without a player that left
 pub listed_left : (g h : Game) (k : ℕ) (p : Player) (list new : ListValue) → Good g →
     list.present ≡ pairs_of g → get g.players k ≡ Some p → new ≡ without_name list p.uuid →
@@ -222,7 +245,12 @@ listed_left g h k p list new good was there made left =
     (λ q here.
     let both : Some p ≡ Some q = sym there ∙ here in
     let same : p ≡ q = cc in
+    let v : Game = shut k q g in
+    let shown : Player = closed (nat_lt 0 (room_in g)) q in
+    let plays : get v.players k ≡ Some shown = shut_here k q g here in
+    let w : Good v = shut_good k q g here good in
     ap (λ (x : Player). remove (pairs_of g) x.uuid) same
-    ∙ sym (pairs_left g (go_of k q g) k q refl here
-    (λ j o other ne. (good.apart j k o q other here ne).uuid)))
+    ∙ ap (λ (ps : Pairs). remove ps q.uuid) (sym (shut_pairs k q g))
+    ∙ sym (pairs_left v (go_of k q v) k shown refl plays
+    (λ j o other ne. (w.apart j k o shown other plays ne).uuid)))
     ∙ ap pairs_of (sym left)

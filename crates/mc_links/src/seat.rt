@@ -29,13 +29,14 @@ use mc_session::Step;
 use mc_up::PlayUp;
 
 /// The player of a connection leaves that is closed.
-fn let_go(game: &mut Game, connection: &Connection)
-    ensures { game.new ≡ played game.old
-        (left_by connection.now.id connection.now.link.stage game.old.game) game.new.aside }
+fn let_go(game: &mut Game, connection: &Connection) -> Result<(), NoMemory>
+    ensures { OnOk result (game.new ≡ played game.old
+        (left_by connection.now.id connection.now.link.stage game.old.game) game.new.aside) }
 {
-    if connection.is_closed() {
-        game.leave(connection.id());
+    if !connection.is_closed() {
+        return Ok(());
     }
+    game.leave(connection.id())
 }
 
 /// Hands a connection bytes of packets.
@@ -45,8 +46,7 @@ fn reply(game: &mut Game, connection: &mut Connection, bytes: Octets) -> Result<
         (seat_with game.old connection.old unread) (hand connection.old.link packets)).seat) }
 {
     connection.hand(bytes)?;
-    let_go(game, connection);
-    Ok(())
+    let_go(game, connection)
 }
 
 /// Closes a connection, with bytes of its last packets.
@@ -62,8 +62,7 @@ fn reply_last(
         (disconnect connection.old.link cause packets)).seat) }
 {
     connection.disconnect_with(cause, bytes)?;
-    let_go(game, connection);
-    Ok(())
+    let_go(game, connection)
 }
 
 /// Closes a connection, with the farewell of its stage.
@@ -73,8 +72,7 @@ fn close(game: &mut Game, connection: &mut Connection, cause: Cause) -> Result<(
         (seat_with game.old connection.old unread) cause).seat) }
 {
     connection.disconnect(cause)?;
-    let_go(game, connection);
-    Ok(())
+    let_go(game, connection)
 }
 
 /// Lets the player of a connection enter, under a name.
@@ -88,8 +86,7 @@ fn enter(game: &mut Game, connection: &mut Connection, name: Name) -> Result<(),
 {
     connection.welcome(&name)?;
     game.enter(connection.id(), name)?;
-    let_go(game, connection);
-    Ok(())
+    let_go(game, connection)
 }
 
 /// Answers a client that asks to play under a name.
@@ -105,8 +102,7 @@ fn log_in(game: &mut Game, connection: &mut Connection, name: &Text) -> Result<(
         Ok(name) => enter(game, connection, name),
         Err(why) => {
             connection.refuse(why)?;
-            let_go(game, connection);
-            Ok(())
+            let_go(game, connection)
         }
     }
 }
@@ -255,11 +251,11 @@ pub fn on_bytes(game: &mut Game, connection: &mut Connection, bytes: &[u8]) -> R
 }
 
 /// Lets a connection go for a cause: it is closed if it is open, and owed nothing.
-pub fn depart(game: &mut Game, connection: &mut Connection, cause: Cause)
-    ensures { (unread : Unread) → Becomes game.old game.new connection.old connection.new
-        (definitions.depart connection.old.id cause
-        (seat_with game.old connection.old unread)).seat }
+pub fn depart(game: &mut Game, connection: &mut Connection, cause: Cause) -> Result<(), NoMemory>
+    ensures { (unread : Unread) → OnOk result
+        (Becomes game.old game.new connection.old connection.new (definitions.depart
+        connection.old.id cause (seat_with game.old connection.old unread)).seat) }
 {
     connection.leave(cause);
-    let_go(game, connection);
+    let_go(game, connection)
 }

@@ -52,7 +52,7 @@ impl Server {
         let Some(connection) = self.connections.find_mut(k) else {
             return Ok(());
         };
-        depart(&mut self.game, connection, cause);
+        depart(&mut self.game, connection, cause)?;
         self.list_player(k, was)
     }
 

@@ -44,37 +44,49 @@ fn beat_all(ids: &[u32], game: &Game, connections: &mut Connections) -> Result<(
 }
 
 /// The player of a connection leaves, if it has one, and if it is there and closed.
-fn dismiss_one(k: u32, connections: &Connections, list: &mut Roster, game: &mut Game)
-    ensures game { game.new ≡ played game.old
-        (dismissed connections.now (k ∷ []) game.old.game) game.new.aside }
-    ensures ready { game.new.aside.ready ≡ game.old.aside.ready }
-    ensures listed { StaysListed list.old list.new game.old.game game.new.game }
+fn dismiss_one(
+    k: u32,
+    connections: &Connections,
+    list: &mut Roster,
+    game: &mut Game,
+) -> Result<(), NoMemory>
+    ensures game { OnOk result (game.new ≡ played game.old
+        (dismissed connections.now (k ∷ []) game.old.game) game.new.aside) }
+    ensures ready { OnOk result (game.new.aside.ready ≡ game.old.aside.ready) }
+    ensures listed { OnOk result (StaysListed list.old list.new game.old.game game.new.game) }
     ensures last { list.new.last ≡ list.old.last }
 {
     let Some(connection) = connections.find(k) else {
-        return;
+        return Ok(());
     };
     if !connection.is_closed() {
-        return;
+        return Ok(());
     }
     let Some(player) = game.players().find(k) else {
-        return;
+        return Ok(());
     };
     list.remove(player.uuid);
-    game.leave(k);
+    game.leave(k)?;
+    Ok(())
 }
 
 /// The players of those of the connections leave that are there and closed.
-fn dismiss(ids: &[u32], connections: &Connections, list: &mut Roster, game: &mut Game)
-    ensures game { game.new ≡ played game.old
-        (dismissed connections.now ids.now game.old.game) game.new.aside }
-    ensures ready { game.new.aside.ready ≡ game.old.aside.ready }
-    ensures listed { StaysListed list.old list.new game.old.game game.new.game }
+fn dismiss(
+    ids: &[u32],
+    connections: &Connections,
+    list: &mut Roster,
+    game: &mut Game,
+) -> Result<(), NoMemory>
+    ensures game { OnOk result (game.new ≡ played game.old
+        (dismissed connections.now ids.now game.old.game) game.new.aside) }
+    ensures ready { OnOk result (game.new.aside.ready ≡ game.old.aside.ready) }
+    ensures listed { OnOk result (StaysListed list.old list.new game.old.game game.new.game) }
     ensures last { list.new.last ≡ list.old.last }
 {
     for id in ids {
-        dismiss_one(*id, connections, list, game);
+        dismiss_one(*id, connections, list, game)?;
     }
+    Ok(())
 }
 
 /// Makes the columns ready that clients are to be shown and were not, and encodes what they are
@@ -153,7 +165,7 @@ impl Server {
             &self.connections,
             &mut self.list,
             &mut self.game,
-        );
+        )?;
         self.game.pick_up_all()
     }
 
@@ -222,7 +234,7 @@ impl Server {
             &self.connections,
             &mut self.list,
             &mut self.game,
-        );
+        )?;
         let views = views_of(self.alloc, &self.game)?;
         self.game.shed(views.as_slice());
         Ok(())

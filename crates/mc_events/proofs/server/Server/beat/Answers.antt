@@ -31,15 +31,15 @@ returns-clause-follows c =
     (c.self.invariant.are ∙ sym c.beat_all.ensures.same)
     (subst (λ (v : GameValue). Each (λ (k : ℕ). IsBeaten v.game) old.connections cs)
     c.grow.ensures c.in_ok-beat_all.ensures.beaten)
-    (ap (λ (v : GameValue). v.game) c.dismiss.ensures.game
+    (ap (λ (v : GameValue). v.game) c.in_ok-dismiss.ensures.game
     ∙ (λ i. dismissed cs (c.as_slice-2.ensures.value i) (c.grow.ensures i).game))
     (ap (λ (v : GameValue). v.game) picked)
     (ap (λ (v : GameValue). v.settled) picked
-    ∙ ap (λ (v : GameValue). v.settled) c.dismiss.ensures.game
+    ∙ ap (λ (v : GameValue). v.settled) c.in_ok-dismiss.ensures.game
     ∙ ap (λ (v : GameValue). v.settled) c.grow.ensures)
     (subst (λ (v : GameValue). StaysListed old.list c.dismiss.new.list v.game left_.game)
-    c.grow.ensures c.dismiss.ensures.listed)
-    c.dismiss.ensures.last refl refl) c.pick_up_all.ensures.is)
+    c.grow.ensures c.in_ok-dismiss.ensures.listed)
+    c.in_ok-dismiss.ensures.last refl refl) c.pick_up_all.ensures.is)
 
 pub returns-clause-age : goal.returns-clause-age
 returns-clause-age c =
@@ -50,7 +50,7 @@ returns-clause-age c =
     ap (λ (v : GameValue). v.game.age) picked
     ∙ grown_age c.beat_all.new.connections c.as_slice-2.result.now c.self.inside.game.game
     c.grow.new.self.game left_.game (ap (λ (v : GameValue). v.game) c.grow.ensures)
-    (ap (λ (v : GameValue). v.game) c.dismiss.ensures.game)
+    (ap (λ (v : GameValue). v.game) c.in_ok-dismiss.ensures.game)
     (subst (λ (v : ServerValue). age_of v < 1000000000) (sym c.self.view_is) c.requires.young)
     ∙ ap (λ (v : ServerValue). age_of v + 1) c.self.view_is) c.pick_up_all.ensures.is
 
@@ -59,5 +59,5 @@ returns-clause-ready c =
     let end : GameValue = c.pick_up_all.new.self in
     on_ok_weaker c.pick_up_all.result
     (λ (same : end.aside.ready ≡ c.dismiss.new.game.aside.ready).
-    same ∙ c.dismiss.ensures.ready ∙ ap (λ (v : GameValue). v.aside.ready) c.grow.ensures
+    same ∙ c.in_ok-dismiss.ensures.ready ∙ ap (λ (v : GameValue). v.aside.ready) c.grow.ensures
     ∙ ap (λ (v : ServerValue). v.game.aside.ready) c.self.view_is) c.pick_up_all.ensures.ready

@@ -14,7 +14,7 @@ use Rattle.mc_events.proofs.server.Server.end_tick.Goals as goal
 
 pub shed-requires : goal.shed-requires
 shed-requires c =
-    let left = c.dismiss.ensures.game in
+    let left = c.in_ok-dismiss.ensures.game in
     record {
       all = ap (λ (v : GameValue). v.settled) left ∙ c.told.ensures.settled
           ∙ sym (ap (λ (v : GameValue). v.game.edits) left
@@ -26,7 +26,7 @@ shed-requires c =
 pub returns-clause-ended : goal.returns-clause-ended
 returns-clause-ended c =
     let old = the_view c.self.inside in
-    let left = c.dismiss.ensures.game in
+    let left = c.in_ok-dismiss.ensures.game in
     let new : ServerValue = record old {
       game = c.shed.new.self;
       list = c.dismiss.new.list;
@@ -38,10 +38,10 @@ returns-clause-ended c =
       settled = c.shed.ensures.settled ∙ ap (λ (v : GameValue). v.settled) left
           ∙ c.told.ensures.settled;
       listed = λ good was.
-          c.dismiss.ensures.listed (subst Good (sym c.told.ensures.game) good)
+          c.in_ok-dismiss.ensures.listed (subst Good (sym c.told.ensures.game) good)
           (ap (λ (l : ListValue). l.present) c.in_ok-settle.ensures.ok ∙ was
           ∙ ap pairs_of (sym c.told.ensures.game)) ∙ ap pairs_of (sym c.shed.ensures.game);
-      before = c.dismiss.ensures.last
+      before = c.in_ok-dismiss.ensures.last
           ∙ ap (λ (l : ListValue). l.last) c.in_ok-settle.ensures.ok;
       rest = refl;
     })
@@ -49,7 +49,7 @@ returns-clause-ended c =
 pub returns-clause-age : goal.returns-clause-age
 returns-clause-age c =
     ap (λ (g : Game). g.age) c.shed.ensures.game
-    ∙ ap (λ (v : GameValue). v.game.age) c.dismiss.ensures.game
+    ∙ ap (λ (v : GameValue). v.game.age) c.in_ok-dismiss.ensures.game
     ∙ (dismissed_stays c.self.inside.connections c.as_slice.result.now c.told.new.self.game).age
     ∙ ap (λ (g : Game). g.age) c.told.ensures.game ∙ ap age_of c.self.view_is
 
@@ -57,6 +57,6 @@ pub returns-clause-sheds : goal.returns-clause-sheds
 returns-clause-sheds c =
     subst (λ (v : ServerValue). Sheds v.game c.shed.new.self) c.self.view_is
     (sheds_given c.self.inside.game c.dismiss.new.game c.shed.new.self
-    c.as_slice-2.result.now (c.dismiss.ensures.ready ∙ c.told.ensures.ready)
+    c.as_slice-2.result.now (c.in_ok-dismiss.ensures.ready ∙ c.told.ensures.ready)
     c.shed.ensures.land c.shed.ensures.game
     (c.as_slice-2.ensures.value ∙ c.in_ok-views.ensures))

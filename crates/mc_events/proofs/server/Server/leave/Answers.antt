@@ -15,6 +15,10 @@ returns-in_default-clause-follows c = λ w e stands leaves.
     (sym c.find_mut.ensures.is ∙ ap option_copied_mut c.in_default.is)
     (leaving_turn c.args.cause leaves)
 
+pub invariant_of-self-in_err-depart : goal.invariant_of-self-in_err-depart
+invariant_of-self-in_err-depart c = numbers_kept c.args.k c.depart.new.connection
+    (sym c.find_mut.ensures.is ∙ ap option_copied_mut c.in-Some.is) c.self.invariant
+
 pub invariant_of-self-2 : goal.invariant_of-self-2
 invariant_of-self-2 c = numbers_kept c.args.k c.depart.new.connection
     (sym c.find_mut.ensures.is ∙ ap option_copied_mut c.in-Some.is) c.self.invariant
@@ -24,7 +28,7 @@ returns-clause-follows c = λ w e stands leaves.
     listed_stands (λ (k : ℕ). depart k c.args.cause) c.self.view_is stands
     (sym c.find_mut.ensures.is ∙ ap option_copied_mut c.in-Some.is)
     (leaving_turn c.args.cause leaves)
-    (leaving_turned c.args.cause (unread_of c.args.k w) (c.depart.ensures (unread_of c.args.k w)))
+    (leaving_turned c.args.cause (unread_of c.args.k w) (c.in_ok-depart.ensures (unread_of c.args.k w)))
     c.identifier-was.ensures c.list_player.ensures.rest c.list_player.ensures.last
     c.list_player.result c.list_player.ensures.list
 
@@ -32,5 +36,5 @@ pub returns-clause-age : goal.returns-clause-age
 returns-clause-age c = on_ok_weaker c.list_player.result (λ follows.
     ap age_of c.list_player.ensures.rest
     ∙ leaving_age c.self.inside.game c.depart.new.game c.in-Some.connection.now
-    c.depart.new.connection c.args.cause (c.depart.ensures nothing_unread)
+    c.depart.new.connection c.args.cause (c.in_ok-depart.ensures nothing_unread)
     ∙ ap age_of c.self.view_is) c.list_player.ensures.list

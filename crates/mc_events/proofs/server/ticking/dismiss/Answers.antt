@@ -9,7 +9,7 @@ loop-id-preserved c =
     let i = c.loop-id.id-index in
     let v = c.loop-id.game in
     let h = c.loop-id.invariant in
-    let made = c.dismiss_one.ensures in
+    let made = c.in_ok-dismiss_one.ensures in
     record {
       game = dismissed_next cs ids i c.args.game.now v c.dismiss_one.new.game c.loop-id-test.true
           h.game made.game;

@@ -20,4 +20,4 @@ returns-clause-listed c = λ good was.
     c.args.list.now c.remove.new.self good was
     (ap (λ (m : FinMap nat_cmp Player). get m c.args.k) (sym c.players.ensures)
     ∙ sym c.in-Some-find.ensures)
-    c.remove.ensures (ap (λ (v : GameValue). v.game) c.leave.ensures.is)
+    c.remove.ensures (ap (λ (v : GameValue). v.game) c.in_ok-leave.ensures.is)
