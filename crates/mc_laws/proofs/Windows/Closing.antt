@@ -55,7 +55,8 @@ watched_turns but k p chest pack g v at r s = record {
         ∙ ap (option_map number_of)
         (name_changed_same g.packs p.name (λ (old : PackValue). pack))
         ∙ repacked (get g.packs p.name)
-        (ap (λ (x : List ℕ). is_some (window_in g x)) (sym at.name) ∙ r.carries k at.watch at.there);
+        (ap (λ (x : List ℕ). is_some (window_in g x)) (sym at.name)
+        ∙ r.carries k at.watch at.there);
     rest = λ other ne. s.windows other ∙ ap (option_map number_of)
         (name_changed_other g.packs p.name other (λ (old : PackValue). pack) ne);
   };

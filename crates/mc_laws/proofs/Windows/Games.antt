@@ -113,7 +113,8 @@ enter_shown k name g w free none s = right_shown (enter_as k name g) (renamed k 
       rest = λ other ne. ap (option_map number_of)
           (name_put_other g.packs name other (pack_named g name) ne);
     })
-    r (omega arith) (λ gone. refl) (λ a is. inl (subst (IsRight (window_in came) (stands_in came)) (some_is _ a (sym here ∙ is))
+    r (omega arith) (λ gone. refl)
+    (λ a is. inl (subst (IsRight (window_in came) (stands_in came)) (some_is _ a (sym here ∙ is))
     (record {
       number = ap (λ (o : Option ℕ). not (unwrap_or o 0 == 0)) (sym window);
       there = λ cell shown. absurd cc;

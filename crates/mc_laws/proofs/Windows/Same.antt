@@ -122,7 +122,8 @@ pub record SameWindows (g v : Game) : Type 0 where
 
 pub same_right : (but : ℕ → Type 0) (g v : Game) → SameWindows g v → ShownBut but g →
     ShownBut but v
-same_right but g v s r = subst (λ (f : ℕ → Option Watch). AreRight but f (window_in v) (stands_in v))
+same_right but g v s r =
+    subst (λ (f : ℕ → Option Watch). AreRight but f (window_in v) (stands_in v))
     (λ i. λ k. sym (s.who k) i)
     (subst (λ (f : List ℕ → Option ℕ). AreRight but (who_in g) f (stands_in v))
     (λ i. λ name. sym (s.windows name) i)

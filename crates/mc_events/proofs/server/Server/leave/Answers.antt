@@ -28,7 +28,8 @@ returns-clause-follows c = λ w e stands leaves.
     listed_stands (λ (k : ℕ). depart k c.args.cause) c.self.view_is stands
     (sym c.find_mut.ensures.is ∙ ap option_copied_mut c.in-Some.is)
     (leaving_turn c.args.cause leaves)
-    (leaving_turned c.args.cause (unread_of c.args.k w) (c.in_ok-depart.ensures (unread_of c.args.k w)))
+    (leaving_turned c.args.cause (unread_of c.args.k w)
+    (c.in_ok-depart.ensures (unread_of c.args.k w)))
     c.identifier-was.ensures c.list_player.ensures.rest c.list_player.ensures.last
     c.list_player.result c.list_player.ensures.list
 
