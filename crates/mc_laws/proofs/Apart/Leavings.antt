@@ -2,7 +2,8 @@
 -- drops nothing, and what the other drops is the same.
 use Rattle.std.proofs.Common.{◌≡◌, ◌≢◌, ℕ, ◌+◌, ◌≤◌, Bool, true, false, List, [], ◌∷◌, ◌++◌}
 use Rattle.std.proofs.Common.{Option, Some, None, refl, sym, subst, ap, ◌∙◌, inl, inr, arith}
-use Rattle.std.specs.Prelude.{◌⊎◌, ◌-◌, ◌≤ℤ◌, min, not, nat_lt, option_map, unwrap_or, if◌then◌else◌}
+use Rattle.std.specs.Prelude.{◌⊎◌, ◌-◌, ◌≤ℤ◌, min, not, nat_lt, option_map, unwrap_or}
+use Rattle.std.specs.Prelude.{if◌then◌else◌}
 use Rattle.std.proofs.lemmas.Bool.{cases_eq}
 use Rattle.std.proofs.lemmas.Bool.Decides.{Decides-int_eq, nat_tests}
 use Rattle.std.proofs.lemmas.Int.{ints}
@@ -268,7 +269,8 @@ module _ (k j : ℕ) (p q : Player) (g : Game) (there : get g.players k ≡ Some
         yaw = 0;
         pitch = 0;
       })
-      (without_no_eid q.eid p.eid g.entities (λ same. (w.apart k j p q there too ne).eid (sym same)))
+      (without_no_eid q.eid p.eid g.entities
+      (λ same. (w.apart k j p q there too ne).eid (sym same)))
 
   same_pack : pack_of without_one q ≡ pack_of g q
   same_pack = ap (λ (o : Option PackValue). unwrap_or o kit_pack)

@@ -124,7 +124,8 @@ module _ (k : ℕ) (p : Player) (g : Game) (there : get g.players k ≡ Some p) 
   refused_right : (cell target : Cell) → ShownBut nobody (noting (placing_refused cell target) k g)
   refused_right cell target = keeps _ (noted_same k (placing_refused cell target) g)
 
-  put_right : (cell target : Cell) (held : Pile) → ShownBut nobody (put_block k p cell target held g)
+  put_right : (cell target : Cell) (held : Pile) →
+      ShownBut nobody (put_block k p cell target held g)
   put_right cell target Empty = refused_right cell target
   put_right cell target (Full item) = either _ _ (is_free g target)
       (λ free. keeps _ (same_on {u = with_state target (item_state item) g} (air free)
@@ -143,8 +144,8 @@ module _ (k : ℕ) (p : Player) (g : Game) (there : get g.players k ≡ Some p) 
       (λ far. refused_right cell target)
       (λ near. either (open_chest k p cell g) _ (is_chest (state_in g cell))
       (λ chest. open_right k p cell g there
-      (a.stand cell (and_parts (is_in_world cell) _ (reached (is_in_reach g p cell) near)).0 ∙ chest)
-      r)
+      (a.stand cell (and_parts (is_in_world cell) _ (reached (is_in_reach g p cell) near)).0
+      ∙ chest) r)
       (λ other. put_right cell target (held_by g p)))
     where
       reached : (b : Bool) → not b ≡ false → b ≡ true

@@ -42,10 +42,11 @@ window_in g name = option_map number_of (get g.packs name)
 abbrev pub stands_in : Game → Cell → Bool
 stands_in g cell = is_some (chest_at g cell)
 
--- all but some connections are shown chests as they should be
+-- the players of all but some connections are shown chests as they should be
 abbrev pub ShownBut : (ℕ → Type 0) → Game → Type 0
 ShownBut but g = AreRight but (who_in g) (window_in g) (stands_in g)
 
+-- of all
 abbrev pub nobody : ℕ → Type 0
 nobody k = ⊥
 
@@ -122,7 +123,8 @@ pub record SameWindows (g v : Game) : Type 0 where
 
 pub same_right : (but : ℕ → Type 0) (g v : Game) → SameWindows g v → ShownBut but g →
     ShownBut but v
-same_right but g v s r = subst (λ (f : ℕ → Option Watch). AreRight but f (window_in v) (stands_in v))
+same_right but g v s r =
+    subst (λ (f : ℕ → Option Watch). AreRight but f (window_in v) (stands_in v))
     (λ i. λ k. sym (s.who k) i)
     (subst (λ (f : List ℕ → Option ℕ). AreRight but (who_in g) f (stands_in v))
     (λ i. λ name. sym (s.windows name) i)
