@@ -145,8 +145,7 @@ module _ (k : ℕ) (p : Player) (g : Game) (there : get g.players k ≡ Some p) 
       (λ near. either (open_chest k p cell g) _ (is_chest (state_in g cell))
       (λ chest. open_right k p cell g there
       (a.stand cell (and_parts (is_in_world cell) _ (reached (is_in_reach g p cell) near)).0
-      ∙ chest)
-      r)
+      ∙ chest) r)
       (λ other. put_right cell target (held_by g p)))
     where
       reached : (b : Bool) → not b ≡ false → b ≡ true

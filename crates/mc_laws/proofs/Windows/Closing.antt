@@ -1,7 +1,7 @@
 -- Windows that close and open: of one player, of several, and of who leaves.
 use Rattle.std.proofs.Common.{◌≡◌, ◌≢◌, ℕ, ◌+◌, ◌≤◌, Bool, true, false, List, [], ◌∷◌, Option, Some}
 use Rattle.std.proofs.Common.{None, refl, sym, subst, ap, ◌∙◌, inl, inr, arith}
-use Rattle.std.specs.Prelude.{◌⊎◌, ◌==◌, ◌%◌, not, nat_lt, is_some, option_map, unwrap_or}
+use Rattle.std.specs.Prelude.{◌⊎◌, ◌==◌, ◌%◌, not, nat_lt, is_some, option_map}
 use Rattle.std.specs.Prelude.{if◌then◌else◌}
 use Rattle.std.proofs.lemmas.Bool.Decides.{nat_tests}
 use Rattle.std.specs.FinMap.{get}
@@ -16,7 +16,8 @@ use Rattle.mc_model.specs.Leaving.{leave, leave_all}
 use Rattle.mc_model.proofs.Maps.Options.{none_some, some_is}
 use Rattle.mc_model.proofs.Maps.Lookups.{changed_other, changed_same, gone_other, gone_same}
 use Rattle.mc_model.proofs.Maps.Lookups.{name_changed_other, name_changed_same}
-use Rattle.mc_laws.proofs.Windows.Watching.{ChangesName, IsRight, Watch, renamed, restood, stood}
+use Rattle.mc_laws.proofs.Windows.Watching.{ChangesName, IsRight, Watch, renamed, restood}
+use Rattle.mc_laws.proofs.Windows.Watching.{right_as, stood}
 use Rattle.mc_laws.proofs.Windows.Same.{SameWindows, ShownBut, fallen_same, nobody, noted_same}
 use Rattle.mc_laws.proofs.Windows.Same.{number_of, same_parts, stands_in, watch_of, who_in}
 use Rattle.mc_laws.proofs.Windows.Same.{window_in}
@@ -87,12 +88,7 @@ turned_right : (but more : ℕ → Type 0) (k : ℕ) (name : List ℕ) (chest : 
 turned_right but more k name chest n g v t low number there free r =
     renamed k name n t.names (stood t.stands r) low
     (λ none. absurd (none_some _ _ none t.here))
-    (λ a is. inl (subst (IsRight (window_in v) (stands_in v)) (some_is _ a (sym t.here ∙ is))
-    (record {
-      number = number
-          ∙ ap (λ (o : Option ℕ). not (unwrap_or o 0 == 0)) (sym t.names.window);
-      there = there;
-    }))) free
+    (λ a is. inl (right_as (who_in v k) _ n t.here t.names.window number there a is)) free
 
 -- ---- closing
 

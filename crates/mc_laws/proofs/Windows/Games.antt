@@ -1,7 +1,7 @@
 -- All in play are shown chests as they should be once players entered and left, and after a tick.
 use Rattle.std.proofs.Common.{◌≡◌, ◌≢◌, ℕ, List, [], ◌∷◌, Option, Some, None, refl, sym, ap, ◌∙◌}
-use Rattle.std.proofs.Common.{subst, inl, arith}
-use Rattle.std.specs.Prelude.{◌==◌, not, option_map, unwrap_or}
+use Rattle.std.proofs.Common.{inl, arith}
+use Rattle.std.specs.Prelude.{option_map, unwrap_or}
 use Rattle.std.specs.List.{fold}
 use Rattle.std.specs.FinMap.{get, get-empty}
 use lib.IntN.{ℤ}
@@ -22,10 +22,10 @@ use Rattle.mc_model.specs.Good.{AreShown, Good}
 use Rattle.mc_model.proofs.Maps.Options.{none_some, some_is}
 use Rattle.mc_model.proofs.Maps.Lookups.{get_keyed, name_put_other, name_put_same, put_other}
 use Rattle.mc_model.proofs.Maps.Lookups.{put_same}
-use Rattle.mc_laws.proofs.Windows.Watching.{IsRight, Watch, renamed}
+use Rattle.mc_laws.proofs.Windows.Watching.{Watch, renamed, right_as}
 use Rattle.mc_laws.proofs.Windows.Same.{SameWindows, ShownBut, nobody, number_of, repacked_same}
 use Rattle.mc_laws.proofs.Windows.Same.{right_shown, same_on, same_parts, same_right, shown_right}
-use Rattle.mc_laws.proofs.Windows.Same.{stands_in, unmapped, watch_of, who_in, window_in}
+use Rattle.mc_laws.proofs.Windows.Same.{unmapped, watch_of, who_in, window_in}
 use Rattle.mc_laws.proofs.Windows.Clicks.{stored_window}
 use Rattle.mc_laws.proofs.Windows.Closing.{leave_all_right}
 
@@ -114,11 +114,8 @@ enter_shown k name g w free none s = right_shown (enter_as k name g) (renamed k 
           (name_put_other g.packs name other (pack_named g name) ne);
     })
     r (omega arith) (λ gone. refl)
-    (λ a is. inl (subst (IsRight (window_in came) (stands_in came)) (some_is _ a (sym here ∙ is))
-    (record {
-      number = ap (λ (o : Option ℕ). not (unwrap_or o 0 == 0)) (sym window);
-      there = λ cell shown. absurd cc;
-    }))) (λ j ne out. out))
+    (λ a is. inl (right_as (who_in came k) _ 0 here window refl (λ cell some. absurd cc) a is))
+    (λ j ne out. out))
   where
     r : ShownBut nobody g
     r = shown_right g w s

@@ -42,10 +42,11 @@ window_in g name = option_map number_of (get g.packs name)
 abbrev pub stands_in : Game → Cell → Bool
 stands_in g cell = is_some (chest_at g cell)
 
--- all but some connections are shown chests as they should be
+-- the players of all but some connections are shown chests as they should be
 abbrev pub ShownBut : (ℕ → Type 0) → Game → Type 0
 ShownBut but g = AreRight but (who_in g) (window_in g) (stands_in g)
 
+-- of all
 abbrev pub nobody : ℕ → Type 0
 nobody k = ⊥
 

@@ -1,5 +1,4 @@
--- A cell is dug or placed: the windows of a chest that is dug are those of its viewers, which
--- close.
+-- A cell is dug or placed: where a chest is dug, the windows of its viewers close.
 use Rattle.std.proofs.Common.{◌≡◌, ℕ, ◌<◌, Bool, true, false, cond, List, [], ◌∷◌}
 use Rattle.std.proofs.Common.{Option, Some, None, T, refl, sym, subst, ap, ◌∙◌, inl, inr, arith}
 use Rattle.std.specs.Prelude.{◌⊎◌, is_some, option_map, unsigned_abs}

@@ -30,6 +30,17 @@ pub record AreRight (but : ℕ → Type 0) (who : ℕ → Option Watch) (windows
   pub kept : (name : List ℕ) (n : ℕ) → windows name ≡ Some n →
       ((k : ℕ) (a : Watch) → who k ≡ Some a → a.name ≢ name) → n ≡ 0
 
+-- so it is of one whose window has a number
+pub right_as : {windows : List ℕ → Option ℕ} {stands : Cell → Bool} (o : Option Watch) (b : Watch)
+    (n : ℕ) → o ≡ Some b → windows b.name ≡ Some n → is_some b.chest ≡ not (n == 0) →
+    ((cell : Cell) → b.chest ≡ Some cell → stands cell ≡ true) → (a : Watch) → o ≡ Some a →
+    IsRight windows stands a
+right_as {windows} {stands} o b n here window number there a is =
+    subst (IsRight windows stands) (some_is b a (sym here ∙ is)) (record {
+      number = number ∙ ap (λ (w : Option ℕ). not (unwrap_or w 0 == 0)) (sym window);
+      there = there;
+    })
+
 -- where chests stand elsewhere
 pub restood : {but more : ℕ → Type 0} {who : ℕ → Option Watch} {windows : List ℕ → Option ℕ}
     {stands later : Cell → Bool} →
