@@ -2,7 +2,7 @@
 use Rattle.std.proofs.Common.{◌≡◌, ℕ, Bool, true, false, List, [], ◌∷◌, Option, Some, None, refl}
 use Rattle.std.proofs.Common.{subst, ap, ◌∙◌}
 use Rattle.std.specs.Prelude.{◌==◌, not, min, nat_lt, if◌then◌else◌}
-use Rattle.std.proofs.lemmas.Bool.{and_parts, eqb-true}
+use Rattle.std.proofs.lemmas.Bool.{and_parts, eqb-true, not-false}
 use Rattle.std.specs.Ordering.{int_eq}
 use Rattle.std.specs.FinMap.{get}
 use lib.IntN.{ℤ, pos}
@@ -144,13 +144,9 @@ module _ (k : ℕ) (p : Player) (g : Game) (there : get g.players k ≡ Some p) 
       (λ far. refused_right cell target)
       (λ near. either (open_chest k p cell g) _ (is_chest (state_in g cell))
       (λ chest. open_right k p cell g there
-      (a.stand cell (and_parts (is_in_world cell) _ (reached (is_in_reach g p cell) near)).0
+      (a.stand cell (and_parts (is_in_world cell) _ (not-false (is_in_reach g p cell) near)).0
       ∙ chest) r)
       (λ other. put_right cell target (held_by g p)))
-    where
-      reached : (b : Bool) → not b ≡ false → b ≡ true
-      reached true e = refl
-      reached false e = absurd cc
 
   -- ---- the window
 

@@ -1,9 +1,10 @@
 -- What the law of windows reads of a game: which chest each player is shown, which number the
 -- window of each name has, and where chests stand. It holds where what is read of one name changes.
 use Rattle.std.proofs.Common.{◌≡◌, ◌≢◌, ℕ, ◌≤◌, Bool, true, List, Option, Some, None, refl, sym}
-use Rattle.std.proofs.Common.{subst, ap, ◌∙◌, inl, inr}
+use Rattle.std.proofs.Common.{subst, ap, ◌∙◌, inl, inr, arith}
 use Rattle.std.specs.Prelude.{◌⊎◌, ◌==◌, not, is_some, unwrap_or}
 use Rattle.std.proofs.lemmas.Bool.{cases_eq}
+use Rattle.std.proofs.lemmas.Bool.Decides.{nat_tests}
 use Rattle.mc_fields.specs.declared.position.Cell.{Cell}
 use Rattle.mc_windows.specs.declared.pack.TheConstants.{LAST_WINDOW}
 use Rattle.mc_model.proofs.Maps.Options.{some_is}
@@ -90,21 +91,32 @@ module _ {but : ℕ → Type 0} {who now : ℕ → Option Watch} {windows later 
 
   apart_each : (i j : ℕ) (a b : Watch) → now i ≡ Some a → now j ≡ Some b → i ≢ j →
       a.name ≢ b.name
-  apart_each i j a b is too ne same = elim (cases_eq i k) [
-    | inl at ↦ other j b (λ e. ne (at ∙ sym e)) too
-        (sym same ∙ c.is a (ap now (sym at) ∙ is))
-    | inr off ↦ elim (cases_eq j k) [
-      | inl at ↦ other i a off is (same ∙ c.is b (ap now (sym at) ∙ too))
-      | inr far ↦ r.apart i j a b (before i a off is) (before j b far too) ne same
-    ]
-  ]
+  apart_each i j a b is too ne same = grind (
+    arith,
+    nat_tests,
+    cases_eq i k,
+    cases_eq j k,
+    other i a,
+    other j b,
+    c.is a,
+    c.is b,
+    before i a,
+    before j b,
+    r.apart i j a b,
+  )
 
   carries_each : (j : ℕ) (a : Watch) → now j ≡ Some a → is_some (later a.name) ≡ true
-  carries_each j a is = elim (cases_eq j k) [
-    | inl at ↦ ap (λ (x : List ℕ). is_some (later x)) (c.is a (ap now (sym at) ∙ is))
-        ∙ ap is_some c.window
-    | inr ne ↦ ap is_some (c.rest a.name (other j a ne is)) ∙ r.carries j a (before j a ne is)
-  ]
+  carries_each j a is = grind (
+    arith,
+    nat_tests,
+    cases_eq j k,
+    c.is a,
+    c.window,
+    c.rest a.name,
+    other j a,
+    r.carries j a,
+    before j a,
+  )
 
   kept_each : (now k ≡ None → n ≡ 0) → (any : List ℕ) (m : ℕ) → later any ≡ Some m →
       ((j : ℕ) (a : Watch) → now j ≡ Some a → a.name ≢ any) → m ≡ 0
@@ -112,10 +124,7 @@ module _ {but : ℕ → Type 0} {who now : ℕ → Option Watch} {windows later 
     | inl same ↦ sym (some_is n m (sym c.window ∙ ap later (sym same) ∙ is))
         ∙ gone (none_named (now k) refl same)
     | inr ne ↦ r.kept any m (sym (c.rest any ne) ∙ is) (λ j a there same.
-        elim (cases_eq j k) [
-          | inl at ↦ ne (sym same ∙ c.was a (ap who (sym at) ∙ there))
-          | inr off ↦ nobody j a (c.others j off ∙ there) same
-        ])
+        grind (arith, nat_tests, cases_eq j k, c.was a, c.others j, nobody j a))
   ]
     where
       none_named : (o : Option Watch) → now k ≡ o → any ≡ name → o ≡ None
