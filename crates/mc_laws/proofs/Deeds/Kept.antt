@@ -27,7 +27,7 @@ module _ (G T H : Type 0) (k : ℕ) where
   deed_on g v (stands p spot there fits same) = rw same (stand_on k p spot g)
   deed_on g v (throws item spot can same) = rw same (thrown_on k item spot g)
   deed_on g v (sets cell state inside is same) = rw same (same_on k g _ refl refl refl refl refl)
-  deed_on g v (restocks cell piles there are same) = rw same (same_on k g _ refl refl refl refl refl)
+  deed_on g v (restocks cell piles at are same) = rw same (same_on k g _ refl refl refl refl refl)
   deed_on g v (says line fits same) = rw same (same_on k g _ refl refl refl refl refl)
 
   pub deeds_on : (g : Game) (us : List Game) (v : Game) → AreDeeds G T H k g us v → Onward k g v

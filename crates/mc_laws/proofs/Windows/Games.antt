@@ -1,6 +1,6 @@
 -- All in play are shown chests as they should be once players entered and left, and after a tick.
 use Rattle.std.proofs.Common.{◌≡◌, ◌≢◌, ℕ, List, [], ◌∷◌, Option, Some, None, refl, sym, ap, ◌∙◌}
-use Rattle.std.proofs.Common.{inl, arith}
+use Rattle.std.proofs.Common.{arith}
 use Rattle.std.specs.Prelude.{option_map, unwrap_or}
 use Rattle.std.specs.List.{fold}
 use Rattle.std.specs.FinMap.{get, get-empty}
@@ -22,7 +22,7 @@ use Rattle.mc_model.specs.Good.{AreShown, Good}
 use Rattle.mc_model.proofs.Maps.Options.{none_some, some_is}
 use Rattle.mc_model.proofs.Maps.Lookups.{get_keyed, name_put_other, name_put_same, put_other}
 use Rattle.mc_model.proofs.Maps.Lookups.{put_same}
-use Rattle.mc_laws.proofs.Windows.Watching.{Watch, renamed, right_as}
+use Rattle.mc_laws.proofs.Windows.Watching.{Watch, renamed}
 use Rattle.mc_laws.proofs.Windows.Same.{SameWindows, ShownBut, nobody, number_of, repacked_same}
 use Rattle.mc_laws.proofs.Windows.Same.{right_shown, same_on, same_parts, same_right, shown_right}
 use Rattle.mc_laws.proofs.Windows.Same.{unmapped, watch_of, who_in, window_in}
@@ -103,19 +103,19 @@ leave_shown k g = leave_all_shown (k ∷ []) g
 pub enter_shown : (k : ℕ) (name : List ℕ) (g : Game) → Good g →
     ((j : ℕ) (q : Player) → get g.players j ≡ Some q → q.uuid ≢ offline_uuid name) →
     get g.players k ≡ None → AreShown g → AreShown (enter_as k name g)
-enter_shown k name g w free none s = right_shown (enter_as k name g) (renamed k name 0
+enter_shown k name g w free none s = right_shown (enter_as k name g) (renamed k name None 0
     (record {
       was = λ a is. absurd (none_some _ a (ap (option_map watch_of) none) is);
-      is = λ a is. ap (λ (x : Watch). x.name) (some_is a _ (sym is ∙ here));
+      is = λ a is. some_is a _ (sym is ∙ here);
       others = λ j ne. ap (option_map watch_of) (put_other g.players k j _ ne);
       alone = λ j a ne is. new j a is;
       window = window;
       rest = λ other ne. ap (option_map number_of)
           (name_put_other g.packs name other (pack_named g name) ne);
-    })
-    r (omega arith) (λ gone. refl)
-    (λ a is. inl (right_as (who_in came k) _ 0 here window refl (λ cell some. absurd cc) a is))
-    (λ j ne out. out))
+      number = refl;
+      low = omega arith;
+      gone = λ none. refl;
+    }) r (λ cell some. absurd cc) (λ j ne out. out))
   where
     r : ShownBut nobody g
     r = shown_right g w s

@@ -152,18 +152,10 @@ same_on a b = record {
 pub touched_same : (k : ℕ) (f : Player → Player) → ((p : Player) → watch_of (f p) ≡ watch_of p) →
     (g : Game) → SameWindows g (with_player k f g)
 touched_same k f like g = record {
-  who = λ j. elim (cases_eq j k) [
-    | inl same ↦ rw same (ap (option_map watch_of) (changed_same g.players k f)
-        ∙ mapped (get g.players k))
-    | inr ne ↦ ap (option_map watch_of) (changed_other g.players k j f ne)
-  ];
+  who = λ j. grind (arith, nat_tests, cases_eq j k, changed_same, changed_other, like);
   windows = λ name. refl;
   stands = λ cell is. is;
 }
-  where
-    mapped : (o : Option Player) → option_map watch_of (option_map f o) ≡ option_map watch_of o
-    mapped None = refl
-    mapped (Some p) = ap (λ (a : Watch). Some a) (like p)
 
 pub noted_same : (k : ℕ) (f : Notes → Notes) (g : Game) → SameWindows g (noting f k g)
 noted_same k f g = touched_same k (λ (p : Player). record p { notes = f p.notes }) (λ p. refl) g
@@ -173,20 +165,16 @@ pub repacked_same : (p : Player) (pack : PackValue) (g : Game) →
     pack.window ≡ (pack_of g p).window → SameWindows g (repack_of p pack g)
 repacked_same p pack g same = record {
   who = λ k. refl;
-  windows = λ name. elim (name_cases name p.name) [
-    | inl at ↦ rw at (ap (option_map number_of)
-        (name_changed_same g.packs p.name (λ (old : PackValue). pack))
-        ∙ mapped (get g.packs p.name) same)
-    | inr ne ↦ ap (option_map number_of)
-        (name_changed_other g.packs p.name name (λ (old : PackValue). pack) ne)
-  ];
+  windows = λ name. grind (
+    arith,
+    nat_tests,
+    name_cases name p.name,
+    name_changed_same,
+    name_changed_other,
+    same,
+  );
   stands = λ cell is. is;
 }
-  where
-    mapped : (o : Option PackValue) → pack.window ≡ (unwrap_or o kit_pack).window →
-        option_map number_of (option_map (λ (old : PackValue). pack) o) ≡ option_map number_of o
-    mapped None e = refl
-    mapped (Some old) e = ap (λ (n : ℕ). Some n) e
 
 -- something falls, or nothing
 pub fallen_same : (p : Player) (pile : Pile) (g : Game) → SameWindows g (let_fall p pile g)
