@@ -120,10 +120,6 @@ shut_all_right (k ∷ ks) g r = shut_all_right ks _ (one (get g.players k) refl)
     fewer j ne (inl same) = absurd (ne same)
     fewer j ne (inr among) = among
 
-    none_there : get g.players k ≡ None → (j : ℕ) (a : Watch) → who_in g j ≡ Some a → j ≢ k
-    none_there none j a is same = none_some (who_in g k) a (ap (option_map watch_of) none)
-        (ap (who_in g) (sym same) ∙ is)
-
     still : (j : ℕ) (a : Watch) → j ≢ k →
         IsRight (window_in g) (stands_in g) a ⊎ IsAmong (k ∷ ks) j →
         IsRight (window_in g) (stands_in g) a ⊎ IsAmong ks j
@@ -132,7 +128,7 @@ shut_all_right (k ∷ ks) g r = shut_all_right ks _ (one (get g.players k) refl)
 
     one : (o : Option Player) → get g.players k ≡ o →
         ShownBut (IsAmong ks) (of_player g (λ (p : Player). shut k p g) o)
-    one None is = restood (λ j a at. still j a (none_there is j a at)) r
+    one None is = restood (λ j a at. still j a (λ same. grind (arith, nat_tests, is, at, same))) r
     one (Some p) is = shut_right (IsAmong (k ∷ ks)) (IsAmong ks) k p g is fewer r
 
 -- ---- leaving

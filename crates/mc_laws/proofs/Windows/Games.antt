@@ -1,7 +1,8 @@
 -- All in play are shown chests as they should be once players entered and left, and after a tick.
 use Rattle.std.proofs.Common.{◌≡◌, ◌≢◌, ℕ, List, [], ◌∷◌, Option, Some, None, refl, sym, ap, ◌∙◌}
 use Rattle.std.proofs.Common.{arith}
-use Rattle.std.specs.Prelude.{option_map, unwrap_or}
+use Rattle.std.specs.Prelude.{option_map}
+use Rattle.std.proofs.lemmas.Bool.Decides.{nat_tests}
 use Rattle.std.specs.List.{fold}
 use Rattle.std.specs.FinMap.{get, get-empty}
 use lib.IntN.{ℤ}
@@ -66,16 +67,11 @@ pickups_same g = folded_same
 
 told_same : (g : Game) → SameWindows g (told g)
 told_same g = record {
-  who = λ k. ap (option_map watch_of)
-      (get_keyed (λ (j : ℕ) (p : Player). told_player p) g.players k) ∙ mapped (get g.players k);
+  who = λ k.
+      grind (arith, nat_tests, get_keyed (λ (j : ℕ) (p : Player). told_player p) g.players k);
   windows = λ name. refl;
   stands = λ cell is. is;
 }
-  where
-    mapped : (o : Option Player) →
-        option_map watch_of (option_map told_player o) ≡ option_map watch_of o
-    mapped None = refl
-    mapped (Some p) = refl
 
 pub grown_shown : (g : Game) → AreShown g → AreShown (grown g)
 grown_shown g s = record {
@@ -133,13 +129,9 @@ enter_shown k name g w free none s = right_shown (enter_as k name g) (renamed k 
         ∙ ap offline_uuid (ap (λ (x : Watch). x.name) p.is ∙ same))
 
     -- the window of a name that is not in play, or of the kit
-    unshown : (o : Option PackValue) → get g.packs name ≡ o → (unwrap_or o kit_pack).window ≡ 0
-    unshown None is = refl
-    unshown (Some pack) is = r.kept name pack.window (ap (option_map number_of) is) new
-
     window : window_in came name ≡ Some 0
-    window = ap (option_map number_of) (name_put_same g.packs name (pack_named g name))
-        ∙ ap (λ (n : ℕ). Some n) (unshown (get g.packs name) refl)
+    window = (let kept = λ (n : ℕ) (is : window_in g name ≡ Some n). r.kept name n is new in
+        grind (arith, nat_tests, name_put_same, kept))
 
 -- ---- the first game
 
