@@ -58,10 +58,7 @@ twice_changed {X} k f h m j = only_changed k f (modify k h m) j
   where
     both : (o : Option X) → option_map (only k f j) (option_map (only k h j) o)
         ≡ option_map (only k (λ x. f (h x)) j) o
-    both None = refl
-    both (Some x) = elim (j == k) as (λ (b : Bool).
-        Some (if b then f (if b then h x else x) else (if b then h x else x))
-        ≡ Some (if b then f (h x) else x)) [ true ↦ refl | false ↦ refl ]
+    both o = grind (arith, nat_tests)
 
 -- ---- what holds of each value
 

@@ -2,7 +2,7 @@
 -- drops nothing, and what the other drops is the same.
 use Rattle.std.proofs.Common.{◌≡◌, ◌≢◌, ℕ, ◌+◌, ◌≤◌, Bool, true, false, List, [], ◌∷◌, ◌++◌}
 use Rattle.std.proofs.Common.{Option, Some, None, refl, sym, subst, ap, ◌∙◌, inl, inr, arith}
-use Rattle.std.specs.Prelude.{◌⊎◌, ◌-◌, ◌≤ℤ◌, min, not, nat_lt, option_map, unwrap_or}
+use Rattle.std.specs.Prelude.{◌-◌, ◌≤ℤ◌, min, not, nat_lt, option_map, unwrap_or}
 use Rattle.std.specs.Prelude.{if◌then◌else◌}
 use Rattle.std.proofs.lemmas.Bool.{cases_eq}
 use Rattle.std.proofs.lemmas.Bool.Decides.{Decides-int_eq, nat_tests}
@@ -80,30 +80,26 @@ lying_without n low high (e ∷ es) x r found none =
 
 removed_changed : {X : Type 0} (k : ℕ) (f : X → X) (m : FinMap nat_cmp X) →
     remove (modify k f m) k ≡ remove m k
-removed_changed k f m = maps_alike (remove (modify k f m) k) (remove m k) (λ q. at q (cases_eq q k))
-  where
-    at : (q : ℕ) → (q ≡ k) ⊎ (q ≢ k) → get (remove (modify k f m) k) q ≡ get (remove m k) q
-    at q either = grind (arith, nat_tests, gone_same, gone_other, changed_other)
+removed_changed k f m = maps_alike (remove (modify k f m) k) (remove m k)
+    (λ q. grind (arith, nat_tests, cases_eq q k, gone_same, gone_other, changed_other))
 
 removed_swap : {X : Type 0} (m : FinMap nat_cmp X) (j k : ℕ) →
     remove (remove m j) k ≡ remove (remove m k) j
 removed_swap m j k = maps_alike (remove (remove m j) k) (remove (remove m k) j)
-    (λ q. at q (cases_eq q j) (cases_eq q k))
-  where
-    at : (q : ℕ) → (q ≡ j) ⊎ (q ≢ j) → (q ≡ k) ⊎ (q ≢ k) →
-        get (remove (remove m j) k) q ≡ get (remove (remove m k) j) q
-    at q at_j at_k = grind (arith, nat_tests, gone_same, gone_other)
+    (λ q. grind (arith, nat_tests, cases_eq q j, cases_eq q k, gone_same, gone_other))
 
 -- two names change
 modified_swap : {X : Type 0} (m : FinMap name_cmp X) (a b : List ℕ) (f h : X → X) → a ≢ b →
     modify a f (modify b h m) ≡ modify b h (modify a f m)
 modified_swap m a b f h ne = same_map nat_list_cmp_total names_apart
-    (modify a f (modify b h m)) (modify b h (modify a f m))
-    (λ q. at q (name_cases q a) (name_cases q b))
-  where
-    at : (q : List ℕ) → (q ≡ a) ⊎ (q ≢ a) → (q ≡ b) ⊎ (q ≢ b) →
-        get (modify a f (modify b h m)) q ≡ get (modify b h (modify a f m)) q
-    at q at_a at_b = grind (arith, nat_tests, name_changed_same, name_changed_other)
+    (modify a f (modify b h m)) (modify b h (modify a f m)) (λ q. grind (
+      arith,
+      nat_tests,
+      name_cases q a,
+      name_cases q b,
+      name_changed_same,
+      name_changed_other,
+    ))
 
 -- ---- what leaving comes to
 
@@ -130,17 +126,7 @@ module _ (k : ℕ) (p : Player) (g : Game) where
   same_feet : (held : Pile) → feet_of p (record g {
     entities = changed eid_of (pos p.eid) (holding held) g.entities;
   }) ≡ feet_of p g
-  same_feet held = ap (λ (spot : Spot). record spot { yaw = 0; pitch = 0 })
-      (ap (λ (o : Option Entity). unwrap_or (option_map (λ (e : Entity). e.spot) o)
-      (spawn_spot g.settings.terrain)) (changed_eid p.eid (holding held) g.entities (holds held))
-      ∙ mapped (numbered eid_of (pos p.eid) g.entities))
-    where
-      mapped : (o : Option Entity) →
-          unwrap_or (option_map (λ (e : Entity). e.spot) (option_map (holding held) o))
-          (spawn_spot g.settings.terrain)
-          ≡ unwrap_or (option_map (λ (e : Entity). e.spot) o) (spawn_spot g.settings.terrain)
-      mapped None = refl
-      mapped (Some e) = refl
+  same_feet held = grind (arith, nat_tests, changed_eid p.eid (holding held) g.entities (holds held))
 
   left_is : p.eid ≤ g.eids → go_of k p (shut k p g)
       ≡ falls_at (nat_lt 0 (room_in g)) pack.cursor (feet_of p g)

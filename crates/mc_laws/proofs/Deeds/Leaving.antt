@@ -1,8 +1,9 @@
 -- What is left of a game that players leave, one or several.
 use Rattle.std.proofs.Common.{◌≡◌, ◌≢◌, ℕ, ◌≤◌, Bool, true, false, cond, List, [], ◌∷◌, Option}
-use Rattle.std.proofs.Common.{Some, None, refl, sym, subst, ap, ◌∙◌, inl, inr, arith}
-use Rattle.std.specs.Prelude.{◌&&◌, ◌||◌, is_some, nat_lt, if◌then◌else◌}
+use Rattle.std.proofs.Common.{Some, None, refl, sym, ◌∙◌, inl, inr, arith}
+use Rattle.std.specs.Prelude.{◌&&◌, nat_lt, if◌then◌else◌}
 use Rattle.std.proofs.lemmas.Bool.{cases_eq}
+use Rattle.std.proofs.lemmas.Bool.Decides.{nat_tests}
 use Rattle.std.specs.List.{filter, fold, list_any}
 use Rattle.std.specs.Ordering.{nat_cmp, eq_by_cmp}
 use Rattle.std.specs.FinMap.{contains_key-keys, empty, get, keys, remove}
@@ -172,58 +173,25 @@ pub left_all : (test : ℕ → Bool) (ks : List ℕ) (g : Game) (j : ℕ) →
     get (leave_all (filter test ks) g).players j
     ≡ cond (list_any (eq_by_cmp nat_cmp j) ks && test j) None (get g.players j)
 left_all test [] g j = refl
-left_all test (k ∷ ks) g j = elim (cases_eq j k) [
-  | inl same ↦ subst (λ (n : ℕ). get (leave_all (filter test (n ∷ ks)) g).players j
-      ≡ cond (list_any (eq_by_cmp nat_cmp j) (n ∷ ks) && test j) None (get g.players j)) same
-      (mine (test j) refl (left_all test ks g j) (left_all test ks (leave j g) j))
-  | inr ne ↦ theirs (test k) (left_all test ks g j) (left_all test ks (leave k g) j)
-      (untied_number j k ne) (leave_other k j g ne)
-]
-  where
-    mine : (b : Bool) → test j ≡ b →
-        get (leave_all (filter test ks) g).players j
-        ≡ cond (list_any (eq_by_cmp nat_cmp j) ks && test j) None (get g.players j) →
-        get (leave_all (filter test ks) (leave j g)).players j
-        ≡ cond (list_any (eq_by_cmp nat_cmp j) ks && test j) None (get (leave j g).players j) →
-        get (leave_all (cond b (j ∷ filter test ks) (filter test ks)) g).players j
-        ≡ cond ((eq_by_cmp nat_cmp j j || list_any (eq_by_cmp nat_cmp j) ks) && b) None
-        (get g.players j)
-    mine true t stays goes = rw (tied_number j)
-        (goes ∙ either_none (list_any (eq_by_cmp nat_cmp j) ks && test j) _ (leave_same j g))
-      where
-        either_none : (b : Bool) (o : Option Player) → o ≡ None → cond b None o ≡ None
-        either_none true o is = refl
-        either_none false o is = is
-    mine false t stays goes = rw (tied_number j) (stays ∙ rw t
-        (no_test (list_any (eq_by_cmp nat_cmp j) ks) (get g.players j)))
-      where
-        no_test : (b : Bool) (o : Option Player) → cond (b && false) None o ≡ o
-        no_test true o = refl
-        no_test false o = refl
-
-    theirs : (b : Bool) →
-        get (leave_all (filter test ks) g).players j
-        ≡ cond (list_any (eq_by_cmp nat_cmp j) ks && test j) None (get g.players j) →
-        get (leave_all (filter test ks) (leave k g)).players j
-        ≡ cond (list_any (eq_by_cmp nat_cmp j) ks && test j) None (get (leave k g).players j) →
-        eq_by_cmp nat_cmp j k ≡ false → get (leave k g).players j ≡ get g.players j →
-        get (leave_all (cond b (k ∷ filter test ks) (filter test ks)) g).players j
-        ≡ cond ((eq_by_cmp nat_cmp j k || list_any (eq_by_cmp nat_cmp j) ks) && test j) None
-        (get g.players j)
-    theirs true stays goes far same = rw far (goes
-        ∙ ap (cond (list_any (eq_by_cmp nat_cmp j) ks && test j) None) same)
-    theirs false stays goes far same = rw far stays
+left_all test (k ∷ ks) g j = grind (
+  arith,
+  nat_tests,
+  cases_eq j k,
+  tied_number j,
+  untied_number j k,
+  leave_same k g,
+  leave_other k j g,
+  left_all test ks g j,
+  left_all test ks (leave k g) j,
+)
 
 -- of those in play that pass a test nobody is left
 pub left_of_all : (test : ℕ → Bool) (g : Game) (j : ℕ) →
     get (leave_all (filter test (keys g.players)) g).players j
     ≡ cond (test j) None (get g.players j)
-left_of_all test g j = left_all test (keys g.players) g j
-    ∙ ap (λ (b : Bool). cond (b && test j) None (get g.players j)) (sym (contains_key-keys
-    g.players j)) ∙ there (get g.players j) (test j)
-  where
-    there : (o : Option Player) (b : Bool) → cond (is_some o && b) None o ≡ cond b None o
-    there None true = refl
-    there None false = refl
-    there (Some p) true = refl
-    there (Some p) false = refl
+left_of_all test g j = grind (
+  arith,
+  nat_tests,
+  left_all test (keys g.players) g j,
+  contains_key-keys g.players j,
+)

@@ -1,11 +1,11 @@
 -- The window of a player closes: of which deeds that is made, by whomever it is, and what it leaves
 -- of the players.
 use Rattle.std.proofs.Common.{◌≡◌, ◌≢◌, ℕ, ◌+◌, ◌<◌, Bool, true, false, List, [], ◌∷◌, Option, Some}
-use Rattle.std.proofs.Common.{None, refl, sym, subst, ap, ◌∙◌, arith}
-use Rattle.std.specs.Prelude.{nat_lt, option_map, if◌then◌else◌}
-use Rattle.std.proofs.lemmas.Bool.{eq-eqb, ltb-true, ne_eqb}
-use Rattle.std.specs.Ordering.{nat_cmp}
-use Rattle.std.specs.FinMap.{FinMap, get}
+use Rattle.std.proofs.Common.{None, refl, subst, arith}
+use Rattle.std.specs.Prelude.{nat_lt, if◌then◌else◌}
+use Rattle.std.proofs.lemmas.Bool.{ltb-true}
+use Rattle.std.proofs.lemmas.Bool.Decides.{nat_tests}
+use Rattle.std.specs.FinMap.{get}
 use Rattle.mc_fields.specs.declared.position.Cell.{Cell}
 use Rattle.mc_slots.specs.declared.pile.Item.{Item}
 use Rattle.mc_slots.specs.declared.pile.Pile.{Pile}
@@ -18,13 +18,12 @@ use Rattle.mc_model.specs.declared.player.Player.{Player}
 use Rattle.mc_model.specs.Notes.{again}
 use Rattle.mc_model.specs.Things.{in_hand}
 use Rattle.mc_model.specs.Game.{Game, of_player, pack_of, room_in}
-use Rattle.mc_model.specs.Maps.{modify}
 use Rattle.mc_model.specs.Deeds.{noting, repack_of, watching}
 use Rattle.mc_model.specs.Windows.{feet_of, kept_in_hand, let_fall, shut, shut_all}
 use Rattle.mc_model.specs.Good.{Good}
 use Rattle.mc_model.specs.Fitting.{Told}
 use Rattle.mc_model.proofs.ThingsKept.{dropped_held}
-use Rattle.mc_laws.proofs.EachValue.{AreChanged, only, only_changed, twice_changed}
+use Rattle.mc_laws.proofs.EachValue.{AreChanged, mapped_itself, only, only_changed, twice_changed}
 use Rattle.mc_laws.proofs.Deeds.Made.{Made, MadeWith, before, by_deed, first, join, notes, repacks}
 use Rattle.mc_laws.proofs.Deeds.Made.{throws, touch, untouched}
 use Rattle.mc_laws.proofs.Deeds.Kept.{deeds_keep, deed_good, deeds_on, made_told}
@@ -148,7 +147,7 @@ closed room p = record p { chest = None; notes = if room then p.notes else again
 
 pub shut_players : (k : ℕ) (p : Player) (g : Game) →
     AreChanged (only k (closed (nat_lt 0 (room_in g)))) g.players (shut k p g).players
-shut_players k p g = by_room (nat_lt 0 (room_in g))
+shut_players k p g = by_room (nat_lt 0 (room_in g)) (pack_of g p).cursor
   where
     pack : PackValue
     pack = pack_of g p
@@ -156,34 +155,22 @@ shut_players k p g = by_room (nat_lt 0 (room_in g))
     ends : Player → Player
     ends q = record q { chest = None }
 
-    fallen : (pile : Pile) (u : Game) → (let_fall p pile u).players ≡ u.players
-    fallen Empty u = refl
-    fallen (Full item) u = refl
-
-    by_room : (b : Bool) → AreChanged (only k (closed b)) g.players (watching None k
-        (if b then let_fall p pack.cursor (repack_of p (finished_pack pack) g)
+    by_room : (b : Bool) (pile : Pile) → AreChanged (only k (closed b)) g.players (watching None k
+        (if b then let_fall p pile (repack_of p (finished_pack pack) g)
         else noting again k (repack_of p (kept_in_hand pack) g))).players
-    by_room true = subst (λ (m : FinMap nat_cmp Player).
-        AreChanged (only k (closed true)) g.players (modify k ends m))
-        (sym (fallen pack.cursor (repack_of p (finished_pack pack) g)))
-        (only_changed k ends g.players)
-    by_room false =
+    by_room true Empty = only_changed k ends g.players
+    by_room true (Full item) = only_changed k ends g.players
+    by_room false pile =
         twice_changed k ends (λ (q : Player). record q { notes = again q.notes }) g.players
 
 pub shut_here : (k : ℕ) (p : Player) (g : Game) → get g.players k ≡ Some p →
     get (shut k p g).players k ≡ Some (closed (nat_lt 0 (room_in g)) p)
-shut_here k p g there = shut_players k p g k
-    ∙ ap (option_map (only k (closed (nat_lt 0 (room_in g))) k)) there
-    ∙ ap (λ (b : Bool). Some (if b then closed (nat_lt 0 (room_in g)) p else p)) (eq-eqb k k refl)
+shut_here k p g there = grind (arith, nat_tests, there, shut_players k p g k)
 
 pub shut_other : (k j : ℕ) (p : Player) (g : Game) → j ≢ k →
     get (shut k p g).players j ≡ get g.players j
-shut_other k j p g ne = shut_players k p g j ∙ same (get g.players j)
-  where
-    same : (o : Option Player) → option_map (only k (closed (nat_lt 0 (room_in g))) j) o ≡ o
-    same None = refl
-    same (Some q) = ap (λ (b : Bool). Some (if b then closed (nat_lt 0 (room_in g)) q else q))
-        (ne_eqb j k ne)
+shut_other k j p g ne =
+    grind (arith, nat_tests, ne, shut_players k p g j, mapped_itself (get g.players j))
 
 -- ---- of several players
 

@@ -9,7 +9,6 @@ use lib.IntN.{ℤ}
 use Rattle.mc_slots.specs.declared.pile.Item.{Item}
 use Rattle.mc_slots.specs.declared.pile.Pile.{Pile}
 use Rattle.mc_slots.specs.declared.pile.Pile.TheVariants.{Empty, Full}
-use Rattle.mc_windows.specs.Pack.{PackValue, kit_pack}
 use Rattle.mc_windows.specs.Storing.{stored}
 use Rattle.mc_model.specs.declared.player.Player.{Player}
 use Rattle.mc_model.specs.declared.settings.Settings.{Settings}

@@ -1,13 +1,13 @@
 -- A cell is dug or placed: where a chest is dug, the windows of its viewers close.
-use Rattle.std.proofs.Common.{◌≡◌, ℕ, ◌<◌, Bool, true, false, cond, List, [], ◌∷◌}
-use Rattle.std.proofs.Common.{Option, Some, None, T, refl, sym, subst, ap, ◌∙◌, inl, inr, arith}
-use Rattle.std.specs.Prelude.{◌⊎◌, is_some, option_map, unsigned_abs}
+use Rattle.std.proofs.Common.{◌≡◌, ℕ, ◌<◌, Bool, true, false, List, [], ◌∷◌}
+use Rattle.std.proofs.Common.{Option, Some, None, T, refl, sym, ap, ◌∙◌, inl, inr, arith}
+use Rattle.std.specs.Prelude.{◌⊎◌, is_some, unsigned_abs}
 use Rattle.std.specs.Prelude.{if◌then◌else◌}
 use Rattle.std.proofs.lemmas.Bool.{cases_eq}
 use Rattle.std.proofs.lemmas.Bool.Decides.{Decides-int_eq, nat_tests}
 use Rattle.std.proofs.lemmas.Int.{ints}
 use Rattle.std.specs.List.{filter, filter_map}
-use Rattle.std.specs.Ordering.{int_eq, nat_cmp}
+use Rattle.std.specs.Ordering.{nat_cmp}
 use Rattle.std.specs.Cmp.{nat_cmp_total}
 use Rattle.std.specs.FinMap.{entries, entries_sorted, find, get, get-entries, is_sorted}
 use lib.IntN.{ℤ, pos, negsuc, ◌+ℤ◌, ◌*ℤ◌}
@@ -29,7 +29,6 @@ use Rattle.mc_model.specs.Pickups.{pickers, playing_as}
 use Rattle.mc_model.specs.Reach.{is_in_world}
 use Rattle.mc_model.specs.Windows.{is_cell, is_of, viewers, views}
 use Rattle.mc_model.specs.Good.{Good}
-use Rattle.mc_model.proofs.Maps.Options.{some_is}
 use Rattle.mc_model.proofs.Maps.Lookups.{tied_number}
 use Rattle.mc_model.proofs.Maps.Sorted.{equal, find_again, second}
 use Rattle.mc_laws.proofs.Deeds.Chests.{chest_set}
