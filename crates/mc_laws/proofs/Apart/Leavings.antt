@@ -2,7 +2,7 @@
 -- drops nothing, and what the other drops is the same.
 use Rattle.std.proofs.Common.{◌≡◌, ◌≢◌, ℕ, ◌+◌, ◌≤◌, Bool, true, false, List, [], ◌∷◌, ◌++◌}
 use Rattle.std.proofs.Common.{Option, Some, None, refl, sym, subst, ap, ◌∙◌, inl, inr, arith}
-use Rattle.std.specs.Prelude.{◌-◌, ◌≤ℤ◌, min, not, nat_lt, option_map, unwrap_or}
+use Rattle.std.specs.Prelude.{◌-◌, ◌≤ℤ◌, min, not, nat_lt, unwrap_or}
 use Rattle.std.specs.Prelude.{if◌then◌else◌}
 use Rattle.std.proofs.lemmas.Bool.{cases_eq}
 use Rattle.std.proofs.lemmas.Bool.Decides.{Decides-int_eq, nat_tests}
@@ -27,7 +27,6 @@ use Rattle.mc_model.specs.declared.player.Player.{Player}
 use Rattle.mc_model.specs.Notes.{again}
 use Rattle.mc_model.specs.Things.{holding, in_hand}
 use Rattle.mc_model.specs.Maps.{modify, name_cmp}
-use Rattle.mc_model.specs.Spots.{spawn_spot}
 use Rattle.mc_model.specs.Game.{Game, of_player, pack_of, room_in}
 use Rattle.mc_model.specs.Deeds.{go_of, noting, repack_of, thrown, watching}
 use Rattle.mc_model.specs.Leaving.{leave}
@@ -39,7 +38,7 @@ use Rattle.mc_model.proofs.Maps.Lookups.{names_apart}
 use Rattle.mc_model.proofs.Maps.Entities.{KeepsEid, changed_eid, other_eid, without_no_eid}
 use Rattle.mc_laws.proofs.Deeds.Goods.{holds}
 use Rattle.mc_laws.proofs.Deeds.Keeping.{names_apart as names_differ}
-use Rattle.mc_laws.proofs.Deeds.Leaving.{leave_good, leave_nobody, leave_other}
+use Rattle.mc_laws.proofs.Deeds.Leaving.{leave_cases, leave_good, leave_nobody, leave_other}
 
 -- ---- entities and maps
 
@@ -62,6 +61,12 @@ without_low : (n low high : ℤ) (es : List Entity) → n ≤ℤ low → Rise ei
 without_low n low high [] le r = refl
 without_low n low high (e ∷ es) le r =
     grind (arith, nat_tests, ints, Decides-int_eq, without_low n e.eid high es)
+
+-- one of another number that is there behind all stays
+without_behind : (n : ℤ) (es : List Entity) (x : Entity) → int_eq x.eid n ≡ false →
+    without eid_of n (es ++ x ∷ []) ≡ without eid_of n es ++ x ∷ []
+without_behind n es x other = filter-append (λ (e : Entity). not (int_eq (eid_of e) n)) es (x ∷ [])
+    ∙ ap (λ (b : Bool). without eid_of n es ++ (if not b then x ∷ [] else [])) other
 
 -- as many items lie there once one went that is none
 lying_without : (n low high : ℤ) (es : List Entity) (x : Entity) → Rise eid_of low es high →
@@ -126,7 +131,8 @@ module _ (k : ℕ) (p : Player) (g : Game) where
   same_feet : (held : Pile) → feet_of p (record g {
     entities = changed eid_of (pos p.eid) (holding held) g.entities;
   }) ≡ feet_of p g
-  same_feet held = grind (arith, nat_tests, changed_eid p.eid (holding held) g.entities (holds held))
+  same_feet held =
+      grind (arith, nat_tests, changed_eid p.eid (holding held) g.entities (holds held))
 
   left_is : p.eid ≤ g.eids → go_of k p (shut k p g)
       ≡ falls_at (nat_lt 0 (room_in g)) pack.cursor (feet_of p g)
@@ -140,12 +146,6 @@ module _ (k : ℕ) (p : Player) (g : Game) where
           (changed eid_of (pos p.eid) (holding held) g.entities)
           ≡ without eid_of (pos p.eid) g.entities
       bare held = without_changed (pos p.eid) (holding held) g.entities (holds held)
-
-      stays : (e : Entity) → e.eid ≡ pos (g.eids + 1) →
-          without eid_of (pos p.eid) (e ∷ []) ≡ e ∷ []
-      stays e is = ap (λ (b : Bool). if not b then e ∷ [] else [])
-          (ap (λ (n : ℤ). int_eq n (pos p.eid)) is
-          ∙ other_eid (g.eids + 1) p.eid (λ same. absurd (omega (arith, given, same))))
 
       step : (b : Bool) (pile : Pile) → go_of k p (watching None k
           (if b then let_fall p pile (repack_of p (finished_pack pack) g)
@@ -164,9 +164,9 @@ module _ (k : ℕ) (p : Player) (g : Game) where
             spot = spot;
           } in
           λ i. record (thrown item (feet_of p g) (gone_with k p (finished_pack pack) g)) {
-            entities = (filter-append (λ (e : Entity). not (int_eq (eid_of e) (pos p.eid))) es
-                (x (feet_of p (repack_of p (finished_pack pack) g)) ∷ [])
-                ∙ (λ j. bare held j ++ stays (x (same_feet held j)) refl j)) i;
+            entities = (without_behind (pos p.eid) es _ (other_eid (g.eids + 1) p.eid
+                (λ same. absurd (omega (arith, given, same))))
+                ∙ (λ j. bare held j ++ x (same_feet held j) ∷ [])) i;
             players = removed_changed k none g.players i;
           }
       step false pile = λ i. record (gone_with k p (kept_in_hand pack) g) {
@@ -205,22 +205,20 @@ module _ (k : ℕ) (p : Player) (g : Game) (there : get g.players k ≡ Some p) 
 -- another that leaves changes nothing of its pack
 pub pack_stays : (k j : ℕ) (p : Player) (g : Game) → get g.players k ≡ Some p → k ≢ j → Good g →
     pack_of (leave j g) p ≡ pack_of g p
-pack_stays k j p g there ne w = step (get g.players j) refl
+pack_stays k j p g there ne w = leave_cases j g (λ (v : Game). pack_of v p ≡ pack_of g p)
+    (λ none. refl)
+    (λ q is. ap (λ (v : Game). pack_of v p) (left_is j q g (w.own j q is).given)
+    ∙ ap (λ m. unwrap_or (get m p.name) kit_pack) (same_packs _ _ _ _)
+    ∙ ap (λ o. unwrap_or o kit_pack)
+    (name_changed_other g.packs q.name p.name (λ (old : PackValue). _)
+    (names_differ g.entities g.eids g.packs p q (w.own k p there) (w.own j q is)
+    (w.apart k j p q there is ne))))
   where
     same_packs : (b : Bool) (pile : Pile) (spot : Spot) (v : Game) →
         (falls_at b pile spot v).packs ≡ v.packs
     same_packs true Empty spot v = refl
     same_packs true (Full item) spot v = refl
     same_packs false pile spot v = refl
-
-    step : (o : Option Player) → get g.players j ≡ o → pack_of (leave j g) p ≡ pack_of g p
-    step None is = ap (λ (v : Game). pack_of v p) (leave_nobody j g is)
-    step (Some q) is = ap (λ m. unwrap_or (get m p.name) kit_pack)
-        (ap (λ (v : Game). v.packs) (left_by j q g is w) ∙ same_packs _ _ _ _)
-        ∙ ap (λ o. unwrap_or o kit_pack)
-        (name_changed_other g.packs q.name p.name (λ (old : PackValue). _)
-        (names_differ g.entities g.eids g.packs p q (w.own k p there) (w.own j q is)
-        (w.apart k j p q there is ne)))
 
 pub still_nothing : (k j : ℕ) (g : Game) → k ≢ j → Good g → HasNothing k g →
     HasNothing k (leave j g)
@@ -250,13 +248,8 @@ module _ (k j : ℕ) (p q : Player) (g : Game) (there : get g.players k ≡ Some
       refl)
 
   same_spot : feet_of q without_one ≡ feet_of q g
-  same_spot = ap (λ (o : Option Entity). record
-      (unwrap_or (option_map (λ (e : Entity). e.spot) o) (spawn_spot g.settings.terrain)) {
-        yaw = 0;
-        pitch = 0;
-      })
-      (without_no_eid q.eid p.eid g.entities
-      (λ same. (w.apart k j p q there too ne).eid (sym same)))
+  same_spot = (let other = (w.apart k j p q there too ne).eid in
+      grind (arith, nat_tests, without_no_eid q.eid p.eid g.entities, other))
 
   same_pack : pack_of without_one q ≡ pack_of g q
   same_pack = ap (λ (o : Option PackValue). unwrap_or o kit_pack)
@@ -283,11 +276,7 @@ module _ (k j : ℕ) (p q : Player) (g : Game) (there : get g.players k ≡ Some
 
       ends : without eid_of (pos p.eid) v.entities ++ comes ∷ []
           ≡ without eid_of (pos p.eid) (v.entities ++ comes ∷ [])
-      ends = sym (filter-append (λ (e : Entity). not (int_eq (eid_of e) (pos p.eid))) v.entities
-          (comes ∷ [])
-          ∙ ap (λ (b : Bool). without eid_of (pos p.eid) v.entities
-          ++ (if not b then comes ∷ [] else []))
-          (other_eid (v.eids + 1) p.eid
+      ends = sym (without_behind (pos p.eid) v.entities comes (other_eid (v.eids + 1) p.eid
           (λ e. absurd (let given = (w.own k p there).given in omega (arith, given, e, same)))))
   fallen_swap false pile spot v same = refl
 

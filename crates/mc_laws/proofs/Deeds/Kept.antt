@@ -41,10 +41,8 @@ module _ (G T H : Type 0) (k : ℕ) where
       subst Good (sym same) (repack_good j p g there w pack (is given))
   deed_good g v (rehands p hand there small same) given w =
       subst Good (sym same) (rehand_good k p g there w hand small)
-  deed_good g v (stands p spot there fits same) given w =
-      subst Good (sym same) (stand_good k p g there w spot)
-  deed_good g v (throws item spot can same) given w =
-      subst Good (sym same) (spawned_good _ spot g refl w)
+  deed_good g v (stands p spot there fits same) given w = rw same (stand_good k p g there w spot)
+  deed_good g v (throws item spot can same) given w = rw same (spawned_good _ spot g refl w)
   deed_good g v (sets cell state inside is same) given w = subst Good (sym same) w
   deed_good g v (restocks cell piles there are same) given w = subst Good (sym same) w
   deed_good g v (says line fits same) given w = subst Good (sym same) w

@@ -124,12 +124,13 @@ leaves_so g v same = record {
   players = λ i. (same i).players;
 }
 
--- what each step of a fold leaves as it was, all of them do
-pub fold_same : {A : Type 0} (part : Game → Game) (f : Game → A → Game) →
-    ((g : Game) (x : A) → part (f g x) ≡ part g) → (xs : List A) (g : Game) →
-    part (fold f g xs) ≡ part g
-fold_same part f each [] g = refl
-fold_same part f each (x ∷ xs) g = fold_same part f each xs (f g x) ∙ each g x
+-- what each step of a fold keeps, all of them keep
+pub fold_keeps : {A : Type 0} (R : Game → Game → Type 0) → ((g : Game) → R g g) →
+    ((g u v : Game) → R g u → R u v → R g v) → (f : Game → A → Game) →
+    ((g : Game) (x : A) → R g (f g x)) → (xs : List A) (g : Game) → R g (fold f g xs)
+fold_keeps R none on f each [] g = none g
+fold_keeps R none on f each (x ∷ xs) g =
+    on g (f g x) _ (each g x) (fold_keeps R none on f each xs (f g x))
 
 shut_unplayed : (k : ℕ) (p : Player) (g : Game) → unplayed (shut k p g) ≡ unplayed g
 shut_unplayed k p g = step (nat_lt 0 (room_in g)) (pack_of g p).cursor
@@ -143,9 +144,9 @@ shut_unplayed k p g = step (nat_lt 0 (room_in g)) (pack_of g p).cursor
 
 pub leave_all_stays : (ks : List ℕ) (g : Game) → Stays g (leave_all ks g)
 leave_all_stays ks g = stays_so g (leave_all ks g)
-    (fold_same unplayed (λ (h : Game) (k : ℕ). leave k h)
-    (λ h k. leave_cases k h (λ (v : Game). unplayed v ≡ unplayed h) (λ none. refl)
-    (λ p there. shut_unplayed k p h)) ks g)
+    (fold_keeps (λ h v. unplayed v ≡ unplayed h) (λ h. refl) (λ h u v a b. b ∙ a)
+    (λ (h : Game) (k : ℕ). leave k h) (λ h k.
+    leave_cases k h (λ (v : Game). unplayed v ≡ unplayed h) (λ none. refl) (λ p there. shut_unplayed k p h)) ks g)
 
 pub leave_stays : (k : ℕ) (g : Game) → Stays g (leave k g)
 leave_stays k = leave_all_stays (k ∷ [])

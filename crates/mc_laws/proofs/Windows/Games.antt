@@ -1,9 +1,8 @@
 -- All in play are shown chests as they should be once players entered and left, and after a tick.
-use Rattle.std.proofs.Common.{◌≡◌, ◌≢◌, ℕ, List, [], ◌∷◌, Option, Some, None, refl, sym, ap, ◌∙◌}
+use Rattle.std.proofs.Common.{◌≡◌, ◌≢◌, ℕ, List, [], ◌∷◌, Some, None, refl, sym, ap, ◌∙◌}
 use Rattle.std.proofs.Common.{arith}
 use Rattle.std.specs.Prelude.{option_map}
 use Rattle.std.proofs.lemmas.Bool.Decides.{nat_tests}
-use Rattle.std.specs.List.{fold}
 use Rattle.std.specs.FinMap.{get, get-empty}
 use lib.IntN.{ℤ}
 use Rattle.mc_slots.specs.declared.pile.Item.{Item}
@@ -13,15 +12,16 @@ use Rattle.mc_windows.specs.Storing.{stored}
 use Rattle.mc_model.specs.declared.player.Player.{Player}
 use Rattle.mc_model.specs.declared.settings.Settings.{Settings}
 use Rattle.mc_model.specs.Names.{offline_uuid}
-use Rattle.mc_model.specs.Game.{Game, new_game, of_player, pack_named, pack_of}
+use Rattle.mc_model.specs.Game.{Game, new_game, pack_named, pack_of}
 use Rattle.mc_model.specs.Deeds.{enter_as, lessened, repack_of}
 use Rattle.mc_model.specs.Leaving.{leave, leave_all}
-use Rattle.mc_model.specs.Pickups.{pick_up, pickers, pickups, ripe_for, stowed}
+use Rattle.mc_model.specs.Pickups.{pickups, stowed}
 use Rattle.mc_model.specs.Tick.{grown, told, told_player}
 use Rattle.mc_model.specs.Good.{AreShown, Good}
 use Rattle.mc_model.proofs.Maps.Options.{none_some, some_is}
 use Rattle.mc_model.proofs.Maps.Lookups.{get_keyed, name_put_other, name_put_same, put_other}
 use Rattle.mc_model.proofs.Maps.Lookups.{put_same}
+use Rattle.mc_laws.proofs.Pickups.Picking.{pickups_keep}
 use Rattle.mc_laws.proofs.Windows.Watching.{Watch, renamed}
 use Rattle.mc_laws.proofs.Windows.Same.{SameWindows, ShownBut, nobody, number_of, repacked_same}
 use Rattle.mc_laws.proofs.Windows.Same.{right_shown, same_on, same_parts, same_right, shown_right}
@@ -35,34 +35,20 @@ use Rattle.mc_laws.proofs.Windows.Closing.{leave_all_right}
 same_shown : (g v : Game) → SameWindows g v → Good g → AreShown g → AreShown v
 same_shown g v same w s = right_shown v (same_right nobody g v same (shown_right g w s))
 
--- what each step of a fold leaves alone, all do
-folded_same : {A : Type 0} (f : Game → A → Game) → ((g : Game) (x : A) → SameWindows g (f g x)) →
-    (xs : List A) (g : Game) → SameWindows g (fold f g xs)
-folded_same f each [] g = same_parts refl refl refl
-folded_same f each (x ∷ xs) g = same_on {u = f g x} (each g x) (folded_same f each xs (f g x))
-
 lessened_same : (eid : ℤ) (pile : Pile) (g : Game) → SameWindows g (lessened eid pile g)
 lessened_same eid Empty g = same_parts refl refl refl
 lessened_same eid (Full item) g = same_parts refl refl refl
 
-stowed_same : (p : Player) (g : Game) (x : ℤ × Item) → SameWindows g (stowed p x g)
-stowed_same p g x =
+stowed_same : (p : Player) (x : ℤ × Item) (g : Game) → SameWindows g (stowed p x g)
+stowed_same p x g =
     let end = stored (pack_of g p) x.1 in
     same_on {u = repack_of p end.pack g}
     (repacked_same p end.pack g (stored_window (pack_of g p) x.1))
     (lessened_same x.0 end.floor (repack_of p end.pack g))
 
 pickups_same : (g : Game) → SameWindows g (pickups g)
-unfolding pickups
-pickups_same g = folded_same
-    (λ (h : Game) (k : ℕ). of_player h (λ (p : Player). pick_up p h) (get h.players k))
-    (λ h k. one h (get h.players k)) (pickers g) g
-  where
-    one : (h : Game) (o : Option Player) →
-        SameWindows h (of_player h (λ (p : Player). pick_up p h) o)
-    one h None = same_parts refl refl refl
-    one h (Some p) = folded_same (λ (v : Game) (x : ℤ × Item). stowed p x v) (stowed_same p)
-        (ripe_for p h) h
+pickups_same = pickups_keep SameWindows (λ g. same_parts refl refl refl)
+    (λ g u v a b. same_on {u = u} a b) stowed_same
 
 told_same : (g : Game) → SameWindows g (told g)
 told_same g = record {

@@ -1,7 +1,7 @@
 -- What most deeds leave alone of windows: who is shown which chest, and the numbers of windows.
 use Rattle.std.proofs.Common.{◌≡◌, ℕ, ◌≤◌, Bool, true, List, Option, Some}
 use Rattle.std.proofs.Common.{None, refl, sym, subst, ap, ◌∙◌, inl, inr, arith}
-use Rattle.std.specs.Prelude.{◌==◌, not, is_some, option_map, unwrap_or}
+use Rattle.std.specs.Prelude.{is_some, option_map}
 use Rattle.std.proofs.lemmas.Bool.{cases_eq}
 use Rattle.std.proofs.lemmas.Bool.Decides.{nat_tests}
 use Rattle.std.specs.FinMap.{FinMap, get, get-insert}
@@ -11,7 +11,7 @@ use Rattle.mc_slots.specs.declared.pile.Pile.{Pile}
 use Rattle.mc_slots.specs.declared.pile.Pile.TheVariants.{Empty, Full}
 use Rattle.mc_land.specs.Places.{key_cmp, key_of}
 use Rattle.mc_land.proofs.Orders.{keys_total}
-use Rattle.mc_windows.specs.Pack.{PackValue, kit_pack}
+use Rattle.mc_windows.specs.Pack.{PackValue}
 use Rattle.mc_model.specs.declared.notes.Notes.{Notes}
 use Rattle.mc_model.specs.declared.player.Player.{Player}
 use Rattle.mc_model.specs.Things.{chest_of_cell, chest_put}
@@ -61,12 +61,6 @@ pub unmapped : {X Y : Type 0} (f : X → Y) (o : Option X) (y : Y) → option_ma
 unmapped f None y e = absurd cc
 unmapped f (Some x) y e = record { value = x; found = refl; is = some_is (f x) y e }
 
--- the number of the window of a name's pack, or of the kit
-numbered : (o : Option PackValue) →
-    unwrap_or (option_map number_of o) 0 ≡ (unwrap_or o kit_pack).window
-numbered None = refl
-numbered (Some pack) = refl
-
 pub shown_right : (g : Game) → Good g → AreShown g → ShownBut nobody g
 shown_right g w s = record {
   apart = λ j k a b is too ne same.
@@ -77,15 +71,12 @@ shown_right g w s = record {
       (ap (λ (x : Watch). x.name) p.is ∙ same ∙ ap (λ (x : Watch). x.name) (sym q.is));
   carries = λ k a is.
       let p = unmapped watch_of (get g.players k) a is in
-      ap (λ (x : Watch). is_some (window_in g x.name)) (sym p.is)
-      ∙ ap (λ (o : Option PackValue). is_some (option_map number_of o))
-      (w.own k p.value p.found).carries;
+      grind (arith, nat_tests, p.is, w.own k p.value p.found);
   right = λ k a is.
       let p = unmapped watch_of (get g.players k) a is in
       let shown = s.shown k p.value p.found in
       inl (subst (IsRight (window_in g) (stands_in g)) p.is (record {
-        number = shown.number ∙ ap (λ (n : ℕ). not (n == 0))
-            (sym (numbered (get g.packs p.value.name)));
+        number = grind (arith, nat_tests, shown.number);
         there = shown.stands;
       }));
   numbers = λ name n is.
@@ -101,7 +92,7 @@ pub right_shown : (g : Game) → ShownBut nobody g → AreShown g
 right_shown g r = record {
   shown = λ k p there. elim (r.right k (watch_of p) (ap (option_map watch_of) there)) [
     | inl right ↦ record {
-      number = right.number ∙ ap (λ (n : ℕ). not (n == 0)) (numbered (get g.packs p.name));
+      number = grind (arith, nat_tests, right.number);
       stands = right.there;
     }
     | inr none ↦ absurd none
