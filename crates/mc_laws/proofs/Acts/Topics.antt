@@ -53,8 +53,9 @@ use Rattle.mc_laws.proofs.Deeds.Kept.{made_good, made_told}
 use Rattle.mc_laws.proofs.Deeds.Made.{Deed, Made, before, by_deed, by_notes, either, first}
 use Rattle.mc_laws.proofs.Deeds.Made.{gained, join, rehands, repacks, sets, spent, stands}
 use Rattle.mc_laws.proofs.Deeds.Made.{throws, untouched}
-use Rattle.mc_laws.proofs.Deeds.Shutting.{HasRoom, closed, has_room, shut_all_made, shut_good}
-use Rattle.mc_laws.proofs.Deeds.Shutting.{shut_here, shut_made, watched_made}
+use Rattle.mc_laws.proofs.Deeds.Shutting.{HasRoom, can_fall, closed, has_room, same_feet}
+use Rattle.mc_laws.proofs.Deeds.Shutting.{shut_all_made, shut_good, shut_here, shut_made}
+use Rattle.mc_laws.proofs.Deeds.Shutting.{watched_made}
 use Rattle.mc_laws.proofs.Deeds.Thrown.{all_thrown_made, chest_are, chest_held, in_items}
 use Rattle.mc_laws.proofs.Fits.Told.{CanCome, cell_told, spot_told}
 
@@ -219,33 +220,23 @@ module _ (H : Type 0) (k : ℕ) (p : Player) (g : Game) (there : get g.players k
       left : Pile
       left = without (Full item) n
 
+      it : GoodGame g → IsItem (record item { count = n })
+      it w = (let whole = held_is_item g p item is w.0 in
+          let high = whole.count.1 in
+          record {
+            id = whole.id;
+            damage = whole.damage;
+            count = (some whole, omega (arith, high, few));
+          })
+
       can : GoodGame g × Told g →
           CanCome (kinds.Dropped (record item { count = n }) g.age) (feet_of p g)
           (carrying p left g).entities g.eids
-      can t =
-          let it = held_is_item g p item is t.0.0 in
-          let at = spot_told g p t.1 in
-          let same = dropped_held p.eid (in_hand (with_hand left p.hand (pack_of g p)) p.hand)
-          g.entities in
-          let lying = room.lying in
-          let high = it.count.1 in
-          record {
-            kind_is = record {
-              id = it.id;
-              damage = it.damage;
-              count = (some it, omega (arith, high, few));
-            };
-            named = tt;
-            place = record {
-              x = at.x;
-              y = at.y;
-              z = at.z;
-              yaw = omega arith;
-              pitch = omega arith;
-            };
-            room = omega (arith, lying, same);
-            given = room.given;
-          }
+      can t = subst (λ (spot : Spot). CanCome (kinds.Dropped (record item { count = n }) g.age)
+          spot (carrying p left g).entities g.eids)
+          (same_feet p (in_hand (with_hand left p.hand (pack_of g p)) p.hand) g)
+          (can_fall _ _ H k k p g there (λ x. x) (with_hand left p.hand (pack_of g p)) _
+          (handed_pack left (λ w. left_is_pile item n (held_is_item g p item is w.0))) it room t)
 
   drop_made : (n : ℕ) → 1 ≤ n → Makes (drop_held k p n (held_by g p) g)
   drop_made n some = step (held_by g p) refl

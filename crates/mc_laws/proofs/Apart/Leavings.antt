@@ -32,6 +32,7 @@ use Rattle.mc_model.specs.Deeds.{go_of, noting, repack_of, thrown, watching}
 use Rattle.mc_model.specs.Leaving.{leave}
 use Rattle.mc_model.specs.Windows.{feet_of, kept_in_hand, let_fall, shut}
 use Rattle.mc_model.specs.Good.{Good}
+use Rattle.mc_model.proofs.Maps.Options.{none_some}
 use Rattle.mc_model.proofs.Maps.Lookups.{changed_other, gone_other, gone_same, maps_alike}
 use Rattle.mc_model.proofs.Maps.Lookups.{name_cases, name_changed_other, name_changed_same}
 use Rattle.mc_model.proofs.Maps.Lookups.{names_apart}
@@ -39,6 +40,8 @@ use Rattle.mc_model.proofs.Maps.Entities.{KeepsEid, changed_eid, other_eid, with
 use Rattle.mc_laws.proofs.Deeds.Goods.{holds}
 use Rattle.mc_laws.proofs.Deeds.Keeping.{names_apart as names_differ}
 use Rattle.mc_laws.proofs.Deeds.Leaving.{leave_cases, leave_good, leave_nobody, leave_other}
+use Rattle.mc_laws.proofs.Deeds.Leaving.{leave_same}
+use Rattle.mc_laws.proofs.Deeds.Shutting.{same_feet}
 
 -- ---- entities and maps
 
@@ -128,12 +131,6 @@ module _ (k : ℕ) (p : Player) (g : Game) where
   abbrev pack : PackValue
   pack = pack_of g p
 
-  same_feet : (held : Pile) → feet_of p (record g {
-    entities = changed eid_of (pos p.eid) (holding held) g.entities;
-  }) ≡ feet_of p g
-  same_feet held =
-      grind (arith, nat_tests, changed_eid p.eid (holding held) g.entities (holds held))
-
   left_is : p.eid ≤ g.eids → go_of k p (shut k p g)
       ≡ falls_at (nat_lt 0 (room_in g)) pack.cursor (feet_of p g)
       (gone_with k p (kept_pack (nat_lt 0 (room_in g)) pack) g)
@@ -166,7 +163,7 @@ module _ (k : ℕ) (p : Player) (g : Game) where
           λ i. record (thrown item (feet_of p g) (gone_with k p (finished_pack pack) g)) {
             entities = (without_behind (pos p.eid) es _ (other_eid (g.eids + 1) p.eid
                 (λ same. absurd (omega (arith, given, same))))
-                ∙ (λ j. bare held j ++ x (same_feet held j) ∷ [])) i;
+                ∙ (λ j. bare held j ++ x (same_feet p held g j) ∷ [])) i;
             players = removed_changed k none g.players i;
           }
       step false pile = λ i. record (gone_with k p (kept_in_hand pack) g) {
@@ -220,11 +217,13 @@ pack_stays k j p g there ne w = leave_cases j g (λ (v : Game). pack_of v p ≡ 
     same_packs true (Full item) spot v = refl
     same_packs false pile spot v = refl
 
-pub still_nothing : (k j : ℕ) (g : Game) → k ≢ j → Good g → HasNothing k g →
-    HasNothing k (leave j g)
-still_nothing k j g ne w none p there =
-    let was = sym (leave_other j k g ne) ∙ there in
-    ap (λ (pack : PackValue). pack.cursor) (pack_stays k j p g was ne w) ∙ none p was
+pub leaves_nothing : (k j : ℕ) (g : Game) → Good g → HasNothing k g → HasNothing k (leave j g)
+leaves_nothing k j g w none p there = elim (cases_eq k j) [
+  | inl same ↦ absurd (none_some (get (leave j g).players k) p
+      (ap (get (leave j g).players) same ∙ leave_same j g) there)
+  | inr ne ↦ (let was = sym (leave_other j k g ne) ∙ there in
+      ap (λ (pack : PackValue). pack.cursor) (pack_stays k j p g was ne w) ∙ none p was)
+]
 
 -- ---- two players
 

@@ -17,16 +17,9 @@ use Rattle.mc_model.specs.Good.{Good}
 use Rattle.mc_model.proofs.Maps.Lookups.{gone_other, gone_same}
 use Rattle.mc_model.proofs.Maps.Options.{none_some}
 use Rattle.mc_laws.proofs.Deeds.Leaving.{leave_good, leave_nobody, leave_other, leave_same}
-use Rattle.mc_laws.proofs.Apart.Leavings.{HasNothing, filter_swap, leave_swap, still_nothing}
+use Rattle.mc_laws.proofs.Apart.Leavings.{HasNothing, filter_swap, leave_swap, leaves_nothing}
 
 -- ---- one more, before or after several
-
-leaves_nothing : (k i : ℕ) (g : Game) → Good g → HasNothing k g → HasNothing k (leave i g)
-leaves_nothing k i g w none = elim (cases_eq k i) [
-  | inl same ↦ λ p there. absurd (none_some (get (leave i g).players k) p
-      (ap (get (leave i g).players) same ∙ leave_same i g) there)
-  | inr ne ↦ still_nothing k i g ne w none
-]
 
 pub leave_first : (k : ℕ) (ks : List ℕ) (g : Game) → Good g → HasNothing k g →
     leave k (leave_all ks g) ≡ leave_all ks (leave k g)

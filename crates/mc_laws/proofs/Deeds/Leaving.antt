@@ -23,8 +23,8 @@ use Rattle.mc_model.proofs.Maps.Lookups.{gone_other, gone_same, maps_alike, tied
 use Rattle.mc_model.proofs.Maps.Lookups.{untied_number}
 use Rattle.mc_laws.proofs.Deeds.Chests.{same_chests}
 use Rattle.mc_laws.proofs.Deeds.Coming.{go_good}
-use Rattle.mc_laws.proofs.Deeds.Shutting.{closed, shut_good, shut_here, shut_on, shut_other}
-use Rattle.mc_laws.proofs.Deeds.Shutting.{shut_told}
+use Rattle.mc_laws.proofs.Deeds.Shutting.{closed, of_cases, shut_good, shut_here, shut_on}
+use Rattle.mc_laws.proofs.Deeds.Shutting.{shut_other, shut_told}
 use Rattle.mc_laws.proofs.Fits.Told.{without_told}
 
 -- What holds of a game without its player, and of one where it has one, whose window closed and
@@ -32,12 +32,7 @@ use Rattle.mc_laws.proofs.Fits.Told.{without_told}
 pub leave_cases : (k : ℕ) (g : Game) (P : Game → Type 0) → (get g.players k ≡ None → P g) →
     ((p : Player) → get g.players k ≡ Some p → P (go_of k p (shut k p g))) → P (leave k g)
 unfolding leave
-leave_cases k g P none some = step (get g.players k) refl
-  where
-    step : (o : Option Player) → get g.players k ≡ o →
-        P (of_player g (λ (p : Player). go_of k p (shut k p g)) o)
-    step None is = none is
-    step (Some p) is = some p is
+leave_cases k g P none some = of_cases k g (λ p. go_of k p (shut k p g)) P none some
 
 pub leave_good : (k : ℕ) (g : Game) → Good g → Good (leave k g)
 leave_good k g w = leave_cases k g Good (λ none. w) (λ p there.
@@ -146,7 +141,8 @@ pub leave_all_stays : (ks : List ℕ) (g : Game) → Stays g (leave_all ks g)
 leave_all_stays ks g = stays_so g (leave_all ks g)
     (fold_keeps (λ h v. unplayed v ≡ unplayed h) (λ h. refl) (λ h u v a b. b ∙ a)
     (λ (h : Game) (k : ℕ). leave k h) (λ h k.
-    leave_cases k h (λ (v : Game). unplayed v ≡ unplayed h) (λ none. refl) (λ p there. shut_unplayed k p h)) ks g)
+    leave_cases k h (λ (v : Game). unplayed v ≡ unplayed h) (λ none. refl)
+    (λ p there. shut_unplayed k p h)) ks g)
 
 pub leave_stays : (k : ℕ) (g : Game) → Stays g (leave k g)
 leave_stays k = leave_all_stays (k ∷ [])

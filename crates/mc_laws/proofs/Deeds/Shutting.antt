@@ -6,6 +6,7 @@ use Rattle.std.specs.Prelude.{nat_lt, if◌then◌else◌}
 use Rattle.std.proofs.lemmas.Bool.{ltb-true}
 use Rattle.std.proofs.lemmas.Bool.Decides.{nat_tests}
 use Rattle.std.specs.FinMap.{get}
+use lib.IntN.{pos}
 use Rattle.mc_fields.specs.declared.position.Cell.{Cell}
 use Rattle.mc_slots.specs.declared.pile.Item.{Item}
 use Rattle.mc_slots.specs.declared.pile.Pile.{Pile}
@@ -13,23 +14,34 @@ use Rattle.mc_slots.specs.declared.pile.Pile.TheVariants.{Empty, Full}
 use Rattle.mc_slots.specs.Pile.{IsItem, IsPile, Sort, held}
 use Rattle.mc_windows.specs.Pack.{IsPack, PackValue, finished_pack}
 use Rattle.mc_entities.specs.declared.entity.EntityKind.TheVariants as kinds
-use Rattle.mc_entities.specs.Folk.{dropped_in}
+use Rattle.mc_entities.specs.Numbers.{changed}
+use Rattle.mc_entities.specs.Folk.{dropped_in, eid_of}
 use Rattle.mc_model.specs.declared.player.Player.{Player}
 use Rattle.mc_model.specs.Notes.{again}
-use Rattle.mc_model.specs.Things.{in_hand}
+use Rattle.mc_model.specs.Things.{holding, in_hand}
 use Rattle.mc_model.specs.Game.{Game, of_player, pack_of, room_in}
 use Rattle.mc_model.specs.Deeds.{noting, repack_of, watching}
 use Rattle.mc_model.specs.Windows.{feet_of, kept_in_hand, let_fall, shut, shut_all}
 use Rattle.mc_model.specs.Good.{Good}
 use Rattle.mc_model.specs.Fitting.{Told}
 use Rattle.mc_model.proofs.ThingsKept.{dropped_held}
+use Rattle.mc_model.proofs.Maps.Entities.{changed_eid}
 use Rattle.mc_laws.proofs.EachValue.{AreChanged, mapped_itself, only, only_changed, twice_changed}
 use Rattle.mc_laws.proofs.Deeds.Made.{Made, MadeWith, before, by_deed, first, join, notes, repacks}
 use Rattle.mc_laws.proofs.Deeds.Made.{throws, touch, untouched}
 use Rattle.mc_laws.proofs.Deeds.Kept.{deeds_keep, deed_good, deeds_on, made_told}
+use Rattle.mc_laws.proofs.Deeds.Goods.{holds}
 use Rattle.mc_laws.proofs.Deeds.Onwards.{Onward}
 use Rattle.mc_laws.proofs.Deeds.Packs.{named_is_pack}
 use Rattle.mc_laws.proofs.Fits.Told.{CanCome, holding_told, spot_told}
+
+-- What holds of a game without a connection's player, and of what is made of one where it has one,
+-- holds of what is made of the game.
+pub of_cases : (k : ℕ) (g : Game) (f : Player → Game) (P : Game → Type 0) →
+    (get g.players k ≡ None → P g) → ((p : Player) → get g.players k ≡ Some p → P (f p)) →
+    P (of_player g f (get g.players k))
+of_cases k g f P none some = elim (get g.players k) as
+    (λ o. get g.players k ≡ o → P (of_player g f o)) [ None ↦ none | Some p ↦ some p ] refl
 
 -- there is room for one more dropped item and one more number
 pub record HasRoom (g : Game) : Type 0 where
@@ -61,6 +73,13 @@ module _ (G T H : Type 0) (k : ℕ) where
       (touch G T H k j (λ (q : Player). record q { chest = chest })
       (λ q. record { eid = refl; uuid = refl; name = refl; hand = refl }) (λ ne q. refl)
       (λ t h q fit. fit) u) (λ id damage. refl)
+
+-- another pile in its hand leaves a player where it stands
+pub same_feet : (p : Player) (held : Pile) (g : Game) → feet_of p (record g {
+  entities = changed eid_of (pos p.eid) (holding held) g.entities;
+}) ≡ feet_of p g
+same_feet p held g =
+    grind (arith, nat_tests, changed_eid p.eid (holding held) g.entities (holds held))
 
 module _ (G T H : Type 0) (k j : ℕ) (p : Player) (g : Game) (there : get g.players j ≡ Some p)
     (given : T → G × Told g) where
@@ -177,12 +196,8 @@ shut_other k j p g ne =
 module _ (G T H : Type 0) (k : ℕ) where
   one_shut : (j : ℕ) (g : Game) → (G → Good g) → (T → G × Told g) →
       Made G T H k g (of_player g (λ (p : Player). shut j p g) (get g.players j))
-  one_shut j g good given = step (get g.players j) refl
-    where
-      step : (o : Option Player) → get g.players j ≡ o →
-          Made G T H k g (of_player g (λ (p : Player). shut j p g) o)
-      step None none = untouched G T H k g
-      step (Some p) there = shut_made G T H k j p g there given good
+  one_shut j g good given = of_cases j g (λ p. shut j p g) (Made G T H k g)
+      (λ none. untouched G T H k g) (λ p there. shut_made G T H k j p g there given good)
 
   pub shut_all_made : (js : List ℕ) (g : Game) → (G → Good g) → (T → G × Told g) →
       Made G T H k g (shut_all js g)

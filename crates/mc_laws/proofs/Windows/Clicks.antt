@@ -16,15 +16,10 @@ use Rattle.mc_windows.specs.Clicks.{admitted, desk_of, outcome, pack_after, plan
 use Rattle.mc_windows.specs.Storing.{stored}
 use Rattle.mc_windows.proofs.Keeping.{worked_cases}
 
-moved_window : (step : _) (desk : _) (possible : Bool) →
-    (if possible then exchanged step desk else desk).pack.window ≡ desk.pack.window
-moved_window step desk possible = grind (arith, nat_tests)
-
 run_window : (steps : List _) (desk : _) → (run steps desk).pack.window ≡ desk.pack.window
 unfolding run made
 run_window [] desk = refl
-run_window (step ∷ steps) desk = run_window steps (made step desk)
-    ∙ moved_window step desk (is_possible desk step.from step.to)
+run_window (step ∷ steps) desk = grind (arith, nat_tests, run_window steps (made step desk))
 
 pub stored_window : (pack : PackValue) (item : Item) → (stored pack item).pack.window ≡ pack.window
 unfolding stored
@@ -32,8 +27,7 @@ stored_window pack item = run_window _ (record { pack = pack; chest = None; floo
 
 refused_window : (pack : PackValue) (number : ℤ) (why : Why) →
     (refused_pack pack number why).window ≡ pack.window
-refused_window pack number WrongWindow = refl
-refused_window pack number why = refl
+refused_window pack number why = grind (arith, nat_tests)
 
 pub click_window : (pack : PackValue) (chest : Option (List Pile)) (click : Click) (room : Bool) →
     (pack_after pack click.number (outcome pack chest click room)).window ≡ pack.window

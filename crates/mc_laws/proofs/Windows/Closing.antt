@@ -17,6 +17,7 @@ use Rattle.mc_model.proofs.Maps.Options.{none_some, some_is}
 use Rattle.mc_model.proofs.Maps.Lookups.{changed_other, changed_same, gone_other, gone_same}
 use Rattle.mc_model.proofs.Maps.Lookups.{name_changed_other, name_changed_same}
 use Rattle.mc_laws.proofs.Deeds.Leaving.{leave_cases}
+use Rattle.mc_laws.proofs.Deeds.Shutting.{of_cases}
 use Rattle.mc_laws.proofs.Windows.Watching.{ChangesName, IsRight, Watch, renamed, restood}
 use Rattle.mc_laws.proofs.Windows.Watching.{stood}
 use Rattle.mc_laws.proofs.Windows.Same.{SameWindows, ShownBut, fallen_same, nobody, noted_same}
@@ -114,7 +115,10 @@ IsAmong (k ∷ ks) j = (j ≡ k) ⊎ IsAmong ks j
 pub shut_all_right : (ks : List ℕ) (g : Game) → ShownBut (IsAmong ks) g →
     ShownBut nobody (shut_all ks g)
 shut_all_right [] g r = r
-shut_all_right (k ∷ ks) g r = shut_all_right ks _ (one (get g.players k) refl)
+shut_all_right (k ∷ ks) g r = shut_all_right ks _ (of_cases k g (λ p. shut k p g)
+    (ShownBut (IsAmong ks))
+    (λ none. restood (λ j a at. still j a (λ same. grind (arith, nat_tests, none, at, same))) r)
+    (λ p there. shut_right (IsAmong (k ∷ ks)) (IsAmong ks) k p g there fewer r))
   where
     fewer : (j : ℕ) → j ≢ k → IsAmong (k ∷ ks) j → IsAmong ks j
     fewer j ne (inl same) = absurd (ne same)
@@ -125,11 +129,6 @@ shut_all_right (k ∷ ks) g r = shut_all_right ks _ (one (get g.players k) refl)
         IsRight (window_in g) (stands_in g) a ⊎ IsAmong ks j
     still j a ne (inl right) = inl right
     still j a ne (inr among) = inr (fewer j ne among)
-
-    one : (o : Option Player) → get g.players k ≡ o →
-        ShownBut (IsAmong ks) (of_player g (λ (p : Player). shut k p g) o)
-    one None is = restood (λ j a at. still j a (λ same. grind (arith, nat_tests, is, at, same))) r
-    one (Some p) is = shut_right (IsAmong (k ∷ ks)) (IsAmong ks) k p g is fewer r
 
 -- ---- leaving
 
