@@ -36,7 +36,7 @@ use Rattle.mc_model.proofs.Maps.Options.{none_some}
 use Rattle.mc_model.proofs.Maps.Lookups.{changed_other, gone_other, gone_same, maps_alike}
 use Rattle.mc_model.proofs.Maps.Lookups.{name_cases, name_changed_other, name_changed_same}
 use Rattle.mc_model.proofs.Maps.Lookups.{names_apart}
-use Rattle.mc_model.proofs.Maps.Entities.{KeepsEid, changed_eid, other_eid, without_no_eid}
+use Rattle.mc_model.proofs.Maps.Entities.{KeepsEid, other_eid, without_no_eid}
 use Rattle.mc_laws.proofs.Deeds.Goods.{holds}
 use Rattle.mc_laws.proofs.Deeds.Keeping.{names_apart as names_differ}
 use Rattle.mc_laws.proofs.Deeds.Leaving.{leave_cases, leave_good, leave_nobody, leave_other}

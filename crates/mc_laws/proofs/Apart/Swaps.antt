@@ -1,7 +1,7 @@
 -- Those that leave do so in an order: what is left is the same where one of them goes before, if
 -- nothing hangs on its cursor.
 use Rattle.std.proofs.Common.{◌≡◌, ◌≢◌, ℕ, Bool, cond, List, [], ◌∷◌, None}
-use Rattle.std.proofs.Common.{refl, sym, ap, ◌∙◌, inl, inr, arith}
+use Rattle.std.proofs.Common.{refl, sym, ap, ◌∙◌, arith}
 use Rattle.std.specs.Prelude.{◌==◌, map, not}
 use Rattle.std.proofs.lemmas.Bool.{cases_eq}
 use Rattle.std.proofs.lemmas.Bool.Decides.{nat_tests}
@@ -15,7 +15,6 @@ use Rattle.mc_model.specs.Game.{Game}
 use Rattle.mc_model.specs.Leaving.{leave, leave_all}
 use Rattle.mc_model.specs.Good.{Good}
 use Rattle.mc_model.proofs.Maps.Lookups.{gone_other, gone_same}
-use Rattle.mc_model.proofs.Maps.Options.{none_some}
 use Rattle.mc_laws.proofs.Deeds.Leaving.{leave_good, leave_nobody, leave_other, leave_same}
 use Rattle.mc_laws.proofs.Apart.Leavings.{HasNothing, filter_swap, leave_swap, leaves_nothing}
 

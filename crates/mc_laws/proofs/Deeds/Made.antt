@@ -1,8 +1,8 @@
 -- Of which deeds an act is made, and what each of them rests on: the one relation that the laws of
 -- acts are proved by. An act is shown to be made of deeds once; each law is one of deeds.
-use Rattle.std.proofs.Common.{◌≡◌, ◌≢◌, ℕ, ◌+◌, ◌*◌, ◌<◌, ◌≤◌, Bool, true, false, List, [], ◌∷◌}
+use Rattle.std.proofs.Common.{◌≡◌, ◌≢◌, ℕ, ◌+◌, ◌*◌, ◌<◌, ◌≤◌, true, List, [], ◌∷◌}
 use Rattle.std.proofs.Common.{Some, refl, subst, ◌∙◌, arith}
-use Rattle.std.specs.Prelude.{is_some, if◌then◌else◌}
+use Rattle.std.specs.Prelude.{is_some}
 use Rattle.std.specs.FinMap.{get}
 use Rattle.mc_fields.specs.declared.position.Cell.{Cell}
 use Rattle.mc_fields.specs.declared.position.Spot.{Spot}
@@ -231,8 +231,3 @@ module _ (G T H : Type 0) (k : ℕ) where
   pub by_notes : (j : ℕ) (f : Notes → Notes) →
       (T → H → (n : Notes) → NotesFit n → NotesFit (f n)) → (g : Game) → Made g (noting f j g)
   by_notes j f fits g = by_deed g (noting f j g) (notes j f fits g) (λ id damage. refl)
-
-  pub either : (g v u : Game) (b : Bool) → (b ≡ true → Made g v) → (b ≡ false → Made g u) →
-      Made g (if b then v else u)
-  either g v u true first second = first refl
-  either g v u false first second = second refl

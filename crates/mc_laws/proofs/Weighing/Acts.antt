@@ -51,4 +51,4 @@ module _ (G T H : Type 0) (id damage k : ℕ) where
 pub act_even : (id damage : ℕ) → 1 ≤ id → damage ≤ 15 → (k : ℕ) (packet : PlayUp) (g v : Game) →
     GoodGame g → act g k packet ≡ Some v → Weighs id damage 0 0 g v
 act_even id damage some low k packet g v w e =
-    made_weighs _ _ _ id damage k g v (act_made k packet g v e) w some low w.0
+    made_weighs _ _ _ id damage k g v (act_made k packet g v e).made w some low w.0

@@ -9,7 +9,7 @@ use Rattle.mc_fields.specs.declared.position.Cell.{Cell}
 use Rattle.mc_windows.specs.Pack.{PackValue, begun_pack, finished_pack}
 use Rattle.mc_model.specs.declared.player.Player.{Player}
 use Rattle.mc_model.specs.Notes.{again}
-use Rattle.mc_model.specs.Game.{Game, of_player, pack_of, room_in}
+use Rattle.mc_model.specs.Game.{Game, pack_of, room_in}
 use Rattle.mc_model.specs.Deeds.{go_of, noting, repack_of, watching}
 use Rattle.mc_model.specs.Windows.{kept_in_hand, let_fall, open_chest, opened, shut, shut_all}
 use Rattle.mc_model.specs.Leaving.{leave, leave_all}
