@@ -136,9 +136,9 @@ module _ (H : Type 0) (k : ℕ) (p : Player) (g : Game) (there : get g.players k
   Makes v = Made (GoodGame g) (GoodGame g × Told g) H k g v
 
   abbrev by_one : {v : Game} (deed : Deed (GoodGame g) (GoodGame g × Told g) H k g v) →
-      ((id damage : ℕ) → spent (GoodGame g) (GoodGame g × Told g) H k id damage g v deed
-      ≡ gained (GoodGame g) (GoodGame g × Told g) H k id damage g v deed) → Makes v
-  by_one {v} deed even = by_deed (GoodGame g) (GoodGame g × Told g) H k g v deed even
+      ((id damage : ℕ) → spent _ _ H k id damage g v deed ≡ gained _ _ H k id damage g v deed) →
+      Makes v
+  by_one {v} deed even = by_deed _ _ H k g v deed even
 
   -- ---- moving
 
@@ -147,10 +147,9 @@ module _ (H : Type 0) (k : ℕ) (p : Player) (g : Game) (there : get g.players k
       (λ inside. keeping (by_one (stands p spot there
       (λ t. inside_fits spot (turns t.1) inside) refl) (λ id damage. refl))
       (same_parts refl refl refl))
-      (λ outside. keeping (before (GoodGame g) (GoodGame g × Told g) H k g (stand_of p enters g) _
+      (λ outside. keeping (before _ _ H k g (stand_of p enters g) _
       (stands p enters there (λ t. spawn_fits g.settings.terrain) refl) (λ id damage. refl)
-      (by_notes (GoodGame g) (GoodGame g × Told g) H k k placed_again (λ t h n fit. fit)
-      (stand_of p enters g)))
+      (by_notes _ _ H k k placed_again (λ t h n fit. fit) (stand_of p enters g)))
       (same_on {u = stand_of p enters g} (same_parts refl refl refl)
       (noted_same k placed_again (stand_of p enters g))))
     where
@@ -190,8 +189,8 @@ module _ (H : Type 0) (k : ℕ) (p : Player) (g : Game) (there : get g.players k
   emptied_made : (cell : Cell) → can_dig p cell g ≡ true →
       Makes (all_thrown (dug_items cell g) (floor_of cell) (with_state cell 0 g))
   emptied_made cell test =
-      first (GoodGame g) (GoodGame g × Told g) H k (λ (sort : Sort). 0)
-      (λ (sort : Sort). in_items sort (dug_items cell g)) g (with_state cell 0 g) _
+      first _ _ H k (λ (sort : Sort). 0) (λ (sort : Sort). in_items sort (dug_items cell g)) g
+      (with_state cell 0 g) _
       (sets cell 0 can.inside (λ t. air) refl)
       (λ w id damage some low. let sort = sort_of id damage in
       let one = dug_counts id damage (state_in g cell) low in
@@ -201,8 +200,7 @@ module _ (H : Type 0) (k : ℕ) (p : Player) (g : Game) (there : get g.players k
       let stacks = chest_held sort (chest_at g cell) in
       let gone = none_comes sort cell 0 g refl in
       omega (arith, one, none, all, stacks, gone))
-      (all_thrown_made (GoodGame g) (GoodGame g × Told g) H k (dug_items cell g) (floor_of cell)
-      (with_state cell 0 g)
+      (all_thrown_made _ _ H k (dug_items cell g) (floor_of cell) (with_state cell 0 g)
       (λ t. (
         block_is_item (state_in g cell) (cell_told g cell t.1) can.solid,
         chest_are (chest_at g cell) (lies_chest g cell t.0.1),
@@ -217,8 +215,8 @@ module _ (H : Type 0) (k : ℕ) (p : Player) (g : Game) (there : get g.players k
 
   -- then the windows on it close
   dug_made : (cell : Cell) → can_dig p cell g ≡ true → Makes (dug cell g)
-  dug_made cell test = join (GoodGame g) (GoodGame g × Told g) H k g fallen (dug cell g) made
-      (shut_all_made (GoodGame g) (GoodGame g × Told g) H k (viewers cell g) fallen
+  dug_made cell test = join _ _ H k g fallen (dug cell g) made
+      (shut_all_made _ _ H k (viewers cell g) fallen
       (λ w. (made_good _ _ _ k g fallen made w w).0)
       (λ t. (t.0, made_told _ _ _ k g fallen made t.0 t t.0.0 t.1)))
     where
@@ -355,23 +353,23 @@ module _ (H : Type 0) (k : ℕ) (p : Player) (g : Game) (there : get g.players k
   -- ---- the window
 
   closes : Makes (shut k p g)
-  closes = shut_made (GoodGame g) (GoodGame g × Told g) H k k p g there (λ t. t) (λ w. w.0)
+  closes = shut_made _ _ H k k p g there (λ t. t) (λ w. w.0)
 
   -- it is shown a chest, whoever closed its window before
   opened_made : (cell : Cell) (u : Game) (q : Player) → get u.players k ≡ Some q →
       (GoodGame g → Good u) →
       Made (GoodGame g) (GoodGame g × Told g) H k u (opened k q cell u)
   opened_made cell u q here good =
-      before (GoodGame g) (GoodGame g × Told g) H k u (repack_of q (begun_pack (pack_of u q)) u) _
+      before _ _ H k u (repack_of q (begun_pack (pack_of u q)) u) _
       (repacks k q (begun_pack (pack_of u q)) here (λ w. named_is_pack u q.name (good w)) refl)
       (λ id damage. refl)
-      (watched_made (GoodGame g) (GoodGame g × Told g) H k k (Some cell) _)
+      (watched_made _ _ H k k (Some cell) _)
 
   open_made : (cell : Cell) → Makes (open_chest k p cell g)
   open_made cell = step (is_some p.chest)
     where
       step : (b : Bool) → Makes (opened k p cell (if b then shut k p g else g))
-      step true = join (GoodGame g) (GoodGame g × Told g) H k g (shut k p g) _ closes
+      step true = join _ _ H k g (shut k p g) _ closes
           (opened_made cell (shut k p g) (closed (nat_lt 0 (room_in g)) p)
           (shut_here k p g there) (λ w. shut_good k p g there w.0))
       step false = opened_made cell g p there (λ w. w.0)

@@ -1,6 +1,6 @@
 -- Windows that close and open: of one player, of several, and of who leaves.
 use Rattle.std.proofs.Common.{◌≡◌, ◌≢◌, ℕ, ◌+◌, ◌≤◌, Bool, true, false, List, [], ◌∷◌, Option, Some}
-use Rattle.std.proofs.Common.{None, refl, sym, subst, ap, ◌∙◌, inl, inr, arith}
+use Rattle.std.proofs.Common.{None, refl, sym, subst, ap, ◌∙◌, arith}
 use Rattle.std.specs.Prelude.{◌⊎◌, ◌==◌, ◌%◌, not, nat_lt, is_some, option_map}
 use Rattle.std.specs.Prelude.{if◌then◌else◌}
 use Rattle.std.proofs.lemmas.Bool.Decides.{nat_tests}
@@ -18,7 +18,7 @@ use Rattle.mc_model.proofs.Maps.Lookups.{changed_other, changed_same, gone_other
 use Rattle.mc_model.proofs.Maps.Lookups.{name_changed_other, name_changed_same}
 use Rattle.mc_laws.proofs.Deeds.Leaving.{leave_cases}
 use Rattle.mc_laws.proofs.Deeds.Shutting.{of_cases}
-use Rattle.mc_laws.proofs.Windows.Watching.{ChangesName, IsRight, Watch, renamed, restood}
+use Rattle.mc_laws.proofs.Windows.Watching.{ChangesName, Watch, renamed, restood}
 use Rattle.mc_laws.proofs.Windows.Watching.{stood}
 use Rattle.mc_laws.proofs.Windows.Same.{SameWindows, ShownBut, fallen_same, nobody, noted_same}
 use Rattle.mc_laws.proofs.Windows.Same.{number_of, same_parts, stands_in, watch_of, who_in}
@@ -117,18 +117,9 @@ pub shut_all_right : (ks : List ℕ) (g : Game) → ShownBut (IsAmong ks) g →
 shut_all_right [] g r = r
 shut_all_right (k ∷ ks) g r = shut_all_right ks _ (of_cases k g (λ p. shut k p g)
     (ShownBut (IsAmong ks))
-    (λ none. restood (λ j a at. still j a (λ same. grind (arith, nat_tests, none, at, same))) r)
-    (λ p there. shut_right (IsAmong (k ∷ ks)) (IsAmong ks) k p g there fewer r))
-  where
-    fewer : (j : ℕ) → j ≢ k → IsAmong (k ∷ ks) j → IsAmong ks j
-    fewer j ne (inl same) = absurd (ne same)
-    fewer j ne (inr among) = among
-
-    still : (j : ℕ) (a : Watch) → j ≢ k →
-        IsRight (window_in g) (stands_in g) a ⊎ IsAmong (k ∷ ks) j →
-        IsRight (window_in g) (stands_in g) a ⊎ IsAmong ks j
-    still j a ne (inl right) = inl right
-    still j a ne (inr among) = inr (fewer j ne among)
+    (λ none. restood (λ j a at right. grind (arith, nat_tests, none, at, right)) r)
+    (λ p there. shut_right (IsAmong (k ∷ ks)) (IsAmong ks) k p g there
+    (λ j ne among. grind (arith, nat_tests, ne, among)) r))
 
 -- ---- leaving
 

@@ -1,5 +1,5 @@
 -- What most deeds leave alone of windows: who is shown which chest, and the numbers of windows.
-use Rattle.std.proofs.Common.{◌≡◌, ℕ, ◌≤◌, Bool, true, List, Option, Some}
+use Rattle.std.proofs.Common.{◌≡◌, ℕ, Bool, true, List, Option, Some}
 use Rattle.std.proofs.Common.{None, refl, sym, subst, ap, ◌∙◌, inl, inr, arith}
 use Rattle.std.specs.Prelude.{is_some, option_map}
 use Rattle.std.proofs.lemmas.Bool.{cases_eq}
@@ -79,9 +79,7 @@ shown_right g w s = record {
         number = grind (arith, nat_tests, shown.number);
         there = shown.stands;
       }));
-  numbers = λ name n is.
-      let pack = unmapped number_of (get g.packs name) n is in
-      subst (λ (m : ℕ). m ≤ 100) pack.is (s.numbers name pack.value pack.found);
+  numbers = λ name n is. grind (arith, nat_tests, is, s.numbers name);
   kept = λ name n is none.
       let pack = unmapped number_of (get g.packs name) n is in
       sym pack.is ∙ s.kept name pack.value pack.found

@@ -10,6 +10,7 @@ use Rattle.std.specs.List.{filter, filter_map}
 use Rattle.std.specs.Ordering.{nat_cmp}
 use Rattle.std.specs.Cmp.{nat_cmp_total}
 use Rattle.std.specs.FinMap.{entries, entries_sorted, find, get, get-entries, is_sorted}
+use Rattle.std.specs.FinMap.Entries.{below_all}
 use lib.IntN.{ℤ, pos, negsuc, ◌+ℤ◌, ◌*ℤ◌}
 use Rattle.mc_fields.specs.declared.position.Cell.{Cell}
 use Rattle.mc_fields.specs.declared.position.Spot.{Spot}
@@ -92,7 +93,8 @@ found_playing : (k : ℕ) (p : Player) (es : List (ℕ × Player)) → T (is_sor
     find nat_cmp k es ≡ Some p → playing_as (pos p.eid) es ≡ Some k
 found_playing k p [] sorted alone found = absurd cc
 found_playing k p (e ∷ es) sorted alone found =
-    let rest = found_playing k p es (second _ _ sorted) (λ j q is. alone j q (later j q is)) in
+    let rest = found_playing k p es (second (below_all nat_cmp e.0 es) (is_sorted nat_cmp es) sorted)
+    (λ j q is. alone j q (later j q is)) in
     let first = alone e.0 e.1 in
     grind (arith, nat_tests, Decides-int_eq, tied_number e.0, first, rest)
   where
