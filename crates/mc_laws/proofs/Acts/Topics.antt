@@ -50,12 +50,12 @@ use Rattle.mc_laws.proofs.Deeds.Packs.{hand_within, held_is_item, named_is_pack}
 use Rattle.mc_laws.proofs.Deeds.Packs.{with_hand_is_pack}
 use Rattle.mc_laws.proofs.Deeds.Kept.{made_good, made_told}
 use Rattle.mc_laws.proofs.Deeds.Made.{Deed, Made, before, by_deed, by_notes, first}
-use Rattle.mc_laws.proofs.Deeds.Made.{gained, join, rehands, repacks, sets, spent, stands}
+use Rattle.mc_laws.proofs.Deeds.Made.{gained, rehands, repacks, sets, spent, stands}
 use Rattle.mc_laws.proofs.Deeds.Made.{throws, untouched}
 use Rattle.mc_laws.proofs.Deeds.Shutting.{HasRoom, can_fall, closed, has_room, same_feet}
-use Rattle.mc_laws.proofs.Deeds.Shutting.{shut_all_made, shut_good, shut_here, shut_made}
-use Rattle.mc_laws.proofs.Deeds.Shutting.{watched_made}
-use Rattle.mc_laws.proofs.Deeds.Thrown.{all_thrown_made, chest_are, chest_held, in_items}
+use Rattle.mc_laws.proofs.Deeds.Shutting.{all_shut_before, shut_before, shut_good, shut_here}
+use Rattle.mc_laws.proofs.Deeds.Shutting.{shut_made, watched_before}
+use Rattle.mc_laws.proofs.Deeds.Thrown.{all_thrown_before, chest_are, chest_held, in_items}
 use Rattle.mc_laws.proofs.Windows.Same.{SameWindows, ShownBut, nobody, noted_same, repacked_same}
 use Rattle.mc_laws.proofs.Windows.Same.{same_on, same_parts, same_right, touched_same}
 use Rattle.mc_laws.proofs.Windows.Clicks.{answered_window}
@@ -186,9 +186,10 @@ module _ (H : Type 0) (k : ℕ) (p : Player) (g : Game) (there : get g.players k
   -- ---- digging and dropping
 
   -- it becomes air, and what comes of it lies there
-  emptied_made : (cell : Cell) → can_dig p cell g ≡ true →
-      Makes (all_thrown (dug_items cell g) (floor_of cell) (with_state cell 0 g))
-  emptied_made cell test =
+  emptied_before : (cell : Cell) → can_dig p cell g ≡ true →
+      (v : Game) → Made (GoodGame g) (GoodGame g × Told g) H k
+      (all_thrown (dug_items cell g) (floor_of cell) (with_state cell 0 g)) v → Makes v
+  emptied_before cell test v later =
       first _ _ H k (λ (sort : Sort). 0) (λ (sort : Sort). in_items sort (dug_items cell g)) g
       (with_state cell 0 g) _
       (sets cell 0 can.inside (λ t. air) refl)
@@ -200,12 +201,12 @@ module _ (H : Type 0) (k : ℕ) (p : Player) (g : Game) (there : get g.players k
       let stacks = chest_held sort (chest_at g cell) in
       let gone = none_comes sort cell 0 g refl in
       omega (arith, one, none, all, stacks, gone))
-      (all_thrown_made _ _ H k (dug_items cell g) (floor_of cell) (with_state cell 0 g)
+      (all_thrown_before _ _ H k (dug_items cell g) (floor_of cell) (with_state cell 0 g) v
       (λ t. (
         block_is_item (state_in g cell) (cell_told g cell t.1) can.solid,
         chest_are (chest_at g cell) (lies_chest g cell t.0.1),
       ))
-      (λ t. floor_fits cell can.inside) (omega (arith, room)) (omega (arith, room)))
+      (λ t. floor_fits cell can.inside) (omega (arith, room)) (omega (arith, room)) later)
     where
       can : CanDig p cell g
       can = dig_tests p cell g test
@@ -215,16 +216,16 @@ module _ (H : Type 0) (k : ℕ) (p : Player) (g : Game) (there : get g.players k
 
   -- then the windows on it close
   dug_made : (cell : Cell) → can_dig p cell g ≡ true → Makes (dug cell g)
-  dug_made cell test = join _ _ H k g fallen (dug cell g) made
-      (shut_all_made _ _ H k (viewers cell g) fallen
+  dug_made cell test = emptied_before cell test (dug cell g)
+      (all_shut_before _ _ H k (viewers cell g) fallen (dug cell g)
       (λ w. (made_good _ _ _ k g fallen made w w).0)
-      (λ t. (t.0, made_told _ _ _ k g fallen made t.0 t t.0.0 t.1)))
+      (λ t. (t.0, made_told _ _ _ k g fallen made t.0 t t.0.0 t.1)) (untouched _ _ H k _))
     where
       fallen : Game
       fallen = all_thrown (dug_items cell g) (floor_of cell) (with_state cell 0 g)
 
       made : Makes fallen
-      made = emptied_made cell test
+      made = emptied_before cell test fallen (untouched _ _ H k fallen)
 
   dropped_made : (item : Item) (n : ℕ) → (IsItem item → 1 ≤ n) → n ≤ item.count →
       held_by g p ≡ Full item →
@@ -363,13 +364,13 @@ module _ (H : Type 0) (k : ℕ) (p : Player) (g : Game) (there : get g.players k
       before _ _ H k u (repack_of q (begun_pack (pack_of u q)) u) _
       (repacks k q (begun_pack (pack_of u q)) here (λ w. named_is_pack u q.name (good w)) refl)
       (λ id damage. refl)
-      (watched_made _ _ H k k (Some cell) _)
+      (watched_before _ _ H k k (Some cell) _ _ (untouched _ _ H k _))
 
   open_made : (cell : Cell) → Makes (open_chest k p cell g)
   open_made cell = step (is_some p.chest)
     where
       step : (b : Bool) → Makes (opened k p cell (if b then shut k p g else g))
-      step true = join _ _ H k g (shut k p g) _ closes
+      step true = shut_before _ _ H k k p g there (λ t. t) _ (λ w. w.0)
           (opened_made cell (shut k p g) (closed (nat_lt 0 (room_in g)) p)
           (shut_here k p g there) (λ w. shut_good k p g there w.0))
       step false = opened_made cell g p there (λ w. w.0)

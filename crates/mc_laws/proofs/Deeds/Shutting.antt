@@ -27,7 +27,7 @@ use Rattle.mc_model.specs.Fitting.{Told}
 use Rattle.mc_model.proofs.ThingsKept.{dropped_held}
 use Rattle.mc_model.proofs.Maps.Entities.{changed_eid}
 use Rattle.mc_laws.proofs.EachValue.{AreChanged, mapped_itself, only, only_changed, twice_changed}
-use Rattle.mc_laws.proofs.Deeds.Made.{Made, MadeWith, before, by_deed, first, join, notes, repacks}
+use Rattle.mc_laws.proofs.Deeds.Made.{Made, MadeWith, before, first, notes, repacks}
 use Rattle.mc_laws.proofs.Deeds.Made.{throws, touch, untouched}
 use Rattle.mc_laws.proofs.Deeds.Kept.{deeds_keep, deed_good, deeds_on, made_told}
 use Rattle.mc_laws.proofs.Deeds.Goods.{holds}
@@ -67,9 +67,10 @@ module _ (G T H : Type 0) (k : ℕ) where
       first G T H k (λ (sort : Sort). held sort (Full item)) (λ (sort : Sort). 0) u _ v
       (throws item (feet_of p u) (can item refl) refl) (λ w id damage some low. omega arith) later
 
-  -- any player is shown another chest, or none
-  pub watched_made : (j : ℕ) (chest : Option Cell) (u : Game) → Made G T H k u (watching chest j u)
-  watched_made j chest u = by_deed G T H k u (watching chest j u)
+  -- any player is shown another chest, or none, and more is done
+  pub watched_before : (j : ℕ) (chest : Option Cell) (u v : Game) →
+      Made G T H k (watching chest j u) v → Made G T H k u v
+  watched_before j chest u v = before G T H k u (watching chest j u) v
       (touch G T H k j (λ (q : Player). record q { chest = chest })
       (λ q. record { eid = refl; uuid = refl; name = refl; hand = refl }) (λ ne q. refl)
       (λ t h q fit. fit) u) (λ id damage. refl)
@@ -110,8 +111,9 @@ module _ (G T H : Type 0) (k j : ℕ) (p : Player) (g : Game) (there : get g.pla
 
   -- ---- closing
 
-  pub shut_made : (G → Good g) → Made G T H k g (shut j p g)
-  shut_made good = by_room (nat_lt 0 (room_in g)) refl
+  -- it closes, and more is done
+  pub shut_before : (v : Game) → (G → Good g) → Made G T H k (shut j p g) v → Made G T H k g v
+  shut_before v good = by_room (nat_lt 0 (room_in g)) refl
     where
       pack : PackValue
       pack = pack_of g p
@@ -122,10 +124,10 @@ module _ (G T H : Type 0) (k j : ℕ) (p : Player) (g : Game) (there : get g.pla
       done : G → IsPack (finished_pack pack).slots (finished_pack pack).cursor
       done x = record { size = (is x).size; are_piles = (is x).are_piles; is_pile = tt }
 
-      by_room : (b : Bool) → nat_lt 0 (room_in g) ≡ b → Made G T H k g (watching None j
+      by_room : (b : Bool) → nat_lt 0 (room_in g) ≡ b → Made G T H k (watching None j
           (if b then let_fall p pack.cursor (repack_of p (finished_pack pack) g)
-          else noting again j (repack_of p (kept_in_hand pack) g)))
-      by_room true test =
+          else noting again j (repack_of p (kept_in_hand pack) g))) v → Made G T H k g v
+      by_room true test later =
           first G T H k (λ (sort : Sort). 0) (λ (sort : Sort). held sort pack.cursor) g
           (repack_of p (finished_pack pack) g) _
           (repacks j p (finished_pack pack) there done refl)
@@ -133,13 +135,16 @@ module _ (G T H : Type 0) (k j : ℕ) (p : Player) (g : Game) (there : get g.pla
           (falls G T H k p (repack_of p (finished_pack pack) g) _ pack.cursor
           (λ item full. can_fall (finished_pack pack) item done
           (λ x. subst IsPile full (is x).is_pile) (has_room g test))
-          (watched_made G T H k j None _))
-      by_room false full =
+          (watched_before G T H k j None _ v later))
+      by_room false full later =
           before G T H k g (repack_of p (kept_in_hand pack) g) _
           (repacks j p (kept_in_hand pack) there is refl) (λ id damage. refl)
           (before G T H k (repack_of p (kept_in_hand pack) g) _ _
           (notes G T H k j again (λ t h n fit. fit) (repack_of p (kept_in_hand pack) g))
-          (λ id damage. refl) (watched_made G T H k j None _))
+          (λ id damage. refl) (watched_before G T H k j None _ v later))
+
+  pub shut_made : (G → Good g) → Made G T H k g (shut j p g)
+  shut_made good = shut_before (shut j p g) good (untouched G T H k (shut j p g))
 
 -- ---- what closing keeps
 
@@ -194,18 +199,21 @@ shut_other k j p g ne =
 -- ---- of several players
 
 module _ (G T H : Type 0) (k : ℕ) where
-  one_shut : (j : ℕ) (g : Game) → (G → Good g) → (T → G × Told g) →
-      Made G T H k g (of_player g (λ (p : Player). shut j p g) (get g.players j))
-  one_shut j g good given = of_cases j g (λ p. shut j p g) (Made G T H k g)
-      (λ none. untouched G T H k g) (λ p there. shut_made G T H k j p g there given good)
+  one_before : (j : ℕ) (g v : Game) → (G → Good g) → (T → G × Told g) →
+      Made G T H k (of_player g (λ (p : Player). shut j p g) (get g.players j)) v →
+      Made G T H k g v
+  one_before j g v good given = of_cases j g (λ p. shut j p g)
+      (λ (u : Game). Made G T H k u v → Made G T H k g v) (λ none later. later)
+      (λ p there. shut_before G T H k j p g there given v good)
 
-  pub shut_all_made : (js : List ℕ) (g : Game) → (G → Good g) → (T → G × Told g) →
-      Made G T H k g (shut_all js g)
-  shut_all_made [] g good given = untouched G T H k g
-  shut_all_made (j ∷ js) g good given =
-      let one = one_shut j g good given in
+  pub all_shut_before : (js : List ℕ) (g v : Game) → (G → Good g) → (T → G × Told g) →
+      Made G T H k (shut_all js g) v → Made G T H k g v
+  all_shut_before [] g v good given later = later
+  all_shut_before (j ∷ js) g v good given later =
       let u : Game = of_player g (λ (p : Player). shut j p g) (get g.players j) in
-      join G T H k g u (shut_all js u) one (shut_all_made js u
+      let one = one_before j g u good given (untouched G T H k u) in
+      one_before j g v good given (all_shut_before js u v
       (λ x. deeds_keep G T H k Good (λ a b deed is w. deed_good G T H k a b deed x is) x g one.games
       u one.deeds (good x) (good x))
-      (λ t. ((given t).0, made_told G T H k g u one (given t).0 t (good (given t).0) (given t).1)))
+      (λ t. ((given t).0, made_told G T H k g u one (given t).0 t (good (given t).0) (given t).1))
+      later)
