@@ -93,8 +93,9 @@ found_playing : (k : ℕ) (p : Player) (es : List (ℕ × Player)) → T (is_sor
     find nat_cmp k es ≡ Some p → playing_as (pos p.eid) es ≡ Some k
 found_playing k p [] sorted alone found = absurd cc
 found_playing k p (e ∷ es) sorted alone found =
-    let fewer = second (below_all nat_cmp e.0 es) (is_sorted nat_cmp es) sorted in
-    let rest = found_playing k p es fewer (λ j q is. alone j q (later j q is)) in
+    let rest = found_playing k p es
+    (second (below_all nat_cmp e.0 es) (is_sorted nat_cmp es) sorted)
+    (λ j q is. alone j q (later j q is)) in
     let first = alone e.0 e.1 in
     grind (arith, nat_tests, Decides-int_eq, tied_number e.0, first, rest)
   where
