@@ -71,7 +71,9 @@ shown_right g w s = record {
       (ap (λ (x : Watch). x.name) p.is ∙ same ∙ ap (λ (x : Watch). x.name) (sym q.is));
   carries = λ k a is.
       let p = unmapped watch_of (get g.players k) a is in
-      grind (arith, nat_tests, p.is, w.own k p.value p.found);
+      ap (λ (x : Watch). is_some (window_in g x.name)) (sym p.is)
+      ∙ ap (λ (o : Option PackValue). is_some (option_map number_of o))
+      (w.own k p.value p.found).carries;
   right = λ k a is.
       let p = unmapped watch_of (get g.players k) a is in
       let shown = s.shown k p.value p.found in
