@@ -2,7 +2,7 @@
 use Rattle.std.proofs.Common.{◌≡◌, ℕ, Bool, true, false, List, [], ◌∷◌, map, length}
 use Rattle.std.proofs.Common.{Option, Some, None, T, refl, sym, subst, ap, ◌∙◌, inl, inr, arith}
 use Rattle.std.specs.Prelude.{◌==◌, is_some, option_map, if◌then◌else◌}
-use Rattle.std.proofs.lemmas.Bool.{cases_eq, eq-eqb, eqb-true, ne_eqb}
+use Rattle.std.proofs.lemmas.Bool.{cases_eq, eqb-true}
 use Rattle.std.proofs.lemmas.Bool.Decides.{nat_tests}
 use Rattle.std.specs.Ordering.{nat_cmp}
 use Rattle.std.specs.Cmp.{nat_cmp_total}
@@ -41,14 +41,8 @@ mapped_itself (Some x) = refl
 
 pub only_changed : {X : Type 0} (k : ℕ) (f : X → X) (m : FinMap nat_cmp X) →
     AreChanged (only k f) m (modify k f m)
-only_changed {X} k f m j = elim (cases_eq j k) [
-  | inl same ↦ rw same (changed_same m k f
-      ∙ ap (λ (b : Bool). option_map (λ (x : X). if b then f x else x) (get m k))
-      (sym (eq-eqb k k refl)))
-  | inr ne ↦ changed_other m k j f ne ∙ sym (mapped_itself (get m j))
-      ∙ ap (λ (b : Bool). option_map (λ (x : X). if b then f x else x) (get m j))
-      (sym (ne_eqb j k ne))
-]
+only_changed {X} k f m j =
+    grind (arith, nat_tests, cases_eq j k, changed_same, changed_other, mapped_itself (get m j))
 
 -- or it is changed twice
 pub twice_changed : {X : Type 0} (k : ℕ) (f h : X → X) (m : FinMap nat_cmp X) →
@@ -58,10 +52,7 @@ twice_changed {X} k f h m j = only_changed k f (modify k h m) j
   where
     both : (o : Option X) → option_map (only k f j) (option_map (only k h j) o)
         ≡ option_map (only k (λ x. f (h x)) j) o
-    both None = refl
-    both (Some x) = elim (j == k) as (λ (b : Bool).
-        Some (if b then f (if b then h x else x) else (if b then h x else x))
-        ≡ Some (if b then f (h x) else x)) [ true ↦ refl | false ↦ refl ]
+    both o = grind (arith, nat_tests)
 
 -- ---- what holds of each value
 

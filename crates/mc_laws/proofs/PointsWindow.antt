@@ -13,6 +13,7 @@ use lib.IntN.{ℤ, pos}
 use Rattle.mc_slots.specs.declared.slot.Slot.{Slot}
 use Rattle.mc_slots.specs.declared.slot.Slot.TheVariants as slots
 use Rattle.mc_slots.specs.Chest.{chest_size}
+use Rattle.mc_packets.specs.declared.down.Down.{Down}
 use Rattle.mc_packets.specs.declared.down.Down.TheVariants.{SetSlot}
 use Rattle.mc_windows.specs.declared.pack.TheConstants.{LAST_WINDOW}
 use Rattle.mc_windows.specs.Pack.{pack_size}
@@ -27,6 +28,13 @@ use Rattle.mc_laws.proofs.PointsEntities.{same_slot}
 
 -- ---- slots
 
+-- where a packet makes a slot another, it does so if it is sent only where the two differ
+slot_leads : (at : Slot → Sight) (old new : Slot) (packet : Down) →
+    Leads (at old) (packet ∷ []) (at new) →
+    Leads (at old) (cond (is_same_slot old new) [] (packet ∷ [])) (at new)
+slot_leads at old new packet leads =
+    grind (arith, nat_tests, led, same_slot, no_packets, leads)
+
 -- Where a packet about each of so many slots makes it another, the packets about those that differ
 -- make others of all.
 module _ (at : List Slot → Sight) (window : ℤ) (start size : ℕ)
@@ -39,16 +47,10 @@ module _ (at : List Slot → Sight) (window : ℤ) (start size : ℕ)
       Leads (at (front ++ old ∷ later))
       (cond (is_same_slot old new) [] (SetSlot window (pos i) new ∷ []))
       (at (front ++ new ∷ later))
-  one_leads front later old new i e few = cases (is_same_slot old new) refl
-    where
-      cases : (same : Bool) → is_same_slot old new ≡ same →
-          Leads (at (front ++ old ∷ later)) (cond same [] (SetSlot window (pos i) new ∷ []))
-          (at (front ++ new ∷ later))
-      cases true t = led refl (ap (λ (item : Slot). at (front ++ item ∷ later))
-          (same_slot old new t)) (no_packets (at (front ++ old ∷ later)))
-      cases false t = subst (λ (k : ℕ). Leads (at (front ++ old ∷ later))
-          (SetSlot window (pos k) new ∷ []) (at (front ++ new ∷ later))) e
-          (puts front later old new few)
+  one_leads front later old new i e few = slot_leads (λ (item : Slot). at (front ++ item ∷ later))
+      old new (SetSlot window (pos i) new) (subst (λ (k : ℕ). Leads (at (front ++ old ∷ later))
+      (SetSlot window (pos k) new ∷ []) (at (front ++ new ∷ later))) e
+      (puts front later old new few))
 
   -- all slots behind some first ones
   slots_lead : (front olds news : List Slot) (i : ℕ) → length front + start ≡ i →
@@ -233,11 +235,5 @@ with_held s item = record s { cursor = item }
 pub cursor_point_leads : (p q s : Sight) →
     Leads (with_held s p.cursor) (cursor_point p q) (with_held s q.cursor)
 unfolding apply
-cursor_point_leads p q s = cases (is_same_slot p.cursor q.cursor) refl
-  where
-    cases : (same : Bool) → is_same_slot p.cursor q.cursor ≡ same →
-        Leads (with_held s p.cursor) (cond same [] (cursor_packet q.cursor ∷ []))
-        (with_held s q.cursor)
-    cases true t = led (ap (with_held s) (same_slot p.cursor q.cursor t)) refl
-        (no_packets (with_held s q.cursor))
-    cases false t = record { is = refl }
+cursor_point_leads p q s = slot_leads (with_held s) p.cursor q.cursor (cursor_packet q.cursor)
+    (record { is = refl })

@@ -4,5 +4,4 @@ pub mod Same
 pub mod Clicks
 pub mod Closing
 pub mod Viewers
-pub mod Acts
 pub mod Games

@@ -1,4 +1,5 @@
--- Whatever a player does is made of deeds: the one law by packets.
+-- Whatever a player does is made of deeds, and leaves all in play shown chests as they should be:
+-- the one law by packets.
 use Rattle.std.proofs.Common.{◌≡◌, ℕ, List, Option, Some, None, refl, subst, arith}
 use Rattle.std.specs.Int.{cast_unsigned, w8}
 use Rattle.std.specs.Option.{option_and_then}
@@ -18,17 +19,18 @@ use Rattle.mc_model.specs.Movement.{moved, turned}
 use Rattle.mc_model.specs.Notes.{again}
 use Rattle.mc_model.specs.Game.{Game, spot_of}
 use Rattle.mc_model.specs.Acts.{act, act_by, act_of}
-use Rattle.mc_model.specs.Fitting.{Told}
 use Rattle.mc_model.proofs.FitsChat.{LineFits, line_clear}
 use Rattle.mc_model.proofs.FitsText.{IsShort}
 use Rattle.mc_model.proofs.Maps.Options.{some_is}
 use Rattle.mc_laws.proofs.Landings.{both_turned, moved_turned, spot_turned, turned_turned}
-use Rattle.mc_laws.proofs.Deeds.Chests.{GoodGame}
-use Rattle.mc_laws.proofs.Deeds.Made.{Made, by_deed, by_notes, by_own, says, untouched}
+use Rattle.mc_laws.proofs.Deeds.Made.{by_deed, by_own, says}
 use Rattle.mc_laws.proofs.Fits.Told.{spot_told}
 use Rattle.mc_laws.proofs.Acts.Clicks.{AnswersFit, press_made}
-use Rattle.mc_laws.proofs.Acts.Topics.{arrive_made, close_made, confirm_made, digging_made}
-use Rattle.mc_laws.proofs.Acts.Topics.{place_made, take_up_made}
+use Rattle.mc_laws.proofs.Acts.Topics.{Becomes, arrive_made, close_made, confirm_made}
+use Rattle.mc_laws.proofs.Acts.Topics.{digging_made, keeping, notes_own, place_made, stays}
+use Rattle.mc_laws.proofs.Acts.Topics.{take_up_made}
+use Rattle.mc_laws.proofs.Windows.Same.{same_parts, touched_same}
+use Rattle.mc_laws.proofs.Windows.Clicks.{press_same}
 
 -- what a player says can be told, whose name is short, in a packet that can be sent
 abbrev pub Speaks : Game → ℕ → PlayUp → Type 0
@@ -37,7 +39,7 @@ Speaks g k packet =
 
 -- the player of a connection makes a game of another, where what is said can be told by `H`
 abbrev MakesBy : Type 0 → ℕ → Game → Game → Type 0
-MakesBy H k g v = Made (GoodGame g) (GoodGame g × Told g) H k g v
+MakesBy H k g v = Becomes H k g v
 
 abbrev pub Makes : ℕ → PlayUp → Game → Game → Type 0
 Makes k packet g v = MakesBy (Speaks g k packet) k g v
@@ -60,8 +62,9 @@ click_fits click fits accepted = record { window = fits.1.0; number = fits.1.1.1
 
 act_of_made : (k : ℕ) (p : Player) (packet : PlayUp) (g v : Game) → get g.players k ≡ Some p →
     act_of k p packet g ≡ Some v → Makes k packet g v
-act_of_made k p (Chat text) g v there e = done _ k g _ v e (by_deed _ _ _ k g _
-    (says (line_of p.name text) (said_fits k p text g there) refl) (λ id damage. refl))
+act_of_made k p (Chat text) g v there e = done _ k g _ v e
+    (keeping (by_deed _ _ _ k g _ (says (line_of p.name text) (said_fits k p text g there) refl)
+    (λ id damage. refl)) (same_parts refl refl refl))
 act_of_made k p (Position x y z on_ground) g v there e =
     arrive_made _ k p g there (moved (spot_of g p) x y z) v
     (λ t to is. moved_turned (spot_of g p) to x y z
@@ -80,17 +83,20 @@ act_of_made k p (Placement cell face item x y z) g v there e =
 act_of_made k p (Held place) g v there e =
     done _ k g _ v e (take_up_made _ k p g there place)
 act_of_made k p (ClickWindow window slot button number mode item) g v there e =
-    done _ k g _ v e (press_made _ k p g there _ (λ h. click_fits _ h.1))
+    done _ k g _ v e
+    (keeping (press_made _ k p g there _ (λ h. click_fits _ h.1)) (press_same k p _ g))
 act_of_made k p (Confirm window number accepted) g v there e =
     done _ k g _ v e (confirm_made _ k p g there (cast_unsigned w8 window) number)
 act_of_made k p (CloseWindow window) g v there e =
     done _ k g _ v e (close_made _ k p g there window)
 act_of_made k p (Creative slot item) g v there e =
-    done _ k g _ v e (by_notes _ _ _ k k again (λ t h n fit. fit) g)
+    done _ k g _ v e (notes_own again (λ n fit. fit))
 act_of_made k p (Settings locale view chat_mode colours skin) g v there e =
-    done _ k g _ v e (by_own _ _ _ k (λ (q : Player). record q { view_byte = view })
+    done _ k g _ v e
+    (keeping (by_own _ _ _ k (λ (q : Player). record q { view_byte = view })
     (λ q. record { eid = refl; uuid = refl; name = refl; hand = refl }) (λ t h q fit. fit) g)
-act_of_made k p other g v there e = done _ k g _ v e (untouched _ _ _ k g)
+    (touched_same k (λ (q : Player). record q { view_byte = view }) (λ q. refl) g))
+act_of_made k p other g v there e = done _ k g _ v e stays
 
 pub act_made : (k : ℕ) (packet : PlayUp) (g v : Game) → act g k packet ≡ Some v →
     Makes k packet g v
@@ -99,5 +105,5 @@ act_made k packet g v e = step (get g.players k) refl e
   where
     step : (o : Option Player) → get g.players k ≡ o → act_by g k packet o ≡ Some v →
         Makes k packet g v
-    step None there e = done _ k g g v e (untouched _ _ _ k g)
+    step None there e = done _ k g g v e stays
     step (Some p) there e = act_of_made k p packet g v there e

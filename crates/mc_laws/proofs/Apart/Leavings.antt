@@ -2,7 +2,7 @@
 -- drops nothing, and what the other drops is the same.
 use Rattle.std.proofs.Common.{◌≡◌, ◌≢◌, ℕ, ◌+◌, ◌≤◌, Bool, true, false, List, [], ◌∷◌, ◌++◌}
 use Rattle.std.proofs.Common.{Option, Some, None, refl, sym, subst, ap, ◌∙◌, inl, inr, arith}
-use Rattle.std.specs.Prelude.{◌⊎◌, ◌-◌, ◌≤ℤ◌, min, not, nat_lt, option_map, unwrap_or}
+use Rattle.std.specs.Prelude.{◌-◌, ◌≤ℤ◌, min, not, nat_lt, unwrap_or}
 use Rattle.std.specs.Prelude.{if◌then◌else◌}
 use Rattle.std.proofs.lemmas.Bool.{cases_eq}
 use Rattle.std.proofs.lemmas.Bool.Decides.{Decides-int_eq, nat_tests}
@@ -27,19 +27,21 @@ use Rattle.mc_model.specs.declared.player.Player.{Player}
 use Rattle.mc_model.specs.Notes.{again}
 use Rattle.mc_model.specs.Things.{holding, in_hand}
 use Rattle.mc_model.specs.Maps.{modify, name_cmp}
-use Rattle.mc_model.specs.Spots.{spawn_spot}
 use Rattle.mc_model.specs.Game.{Game, of_player, pack_of, room_in}
 use Rattle.mc_model.specs.Deeds.{go_of, noting, repack_of, thrown, watching}
 use Rattle.mc_model.specs.Leaving.{leave}
 use Rattle.mc_model.specs.Windows.{feet_of, kept_in_hand, let_fall, shut}
 use Rattle.mc_model.specs.Good.{Good}
+use Rattle.mc_model.proofs.Maps.Options.{none_some}
 use Rattle.mc_model.proofs.Maps.Lookups.{changed_other, gone_other, gone_same, maps_alike}
 use Rattle.mc_model.proofs.Maps.Lookups.{name_cases, name_changed_other, name_changed_same}
 use Rattle.mc_model.proofs.Maps.Lookups.{names_apart}
-use Rattle.mc_model.proofs.Maps.Entities.{KeepsEid, changed_eid, other_eid, without_no_eid}
+use Rattle.mc_model.proofs.Maps.Entities.{KeepsEid, other_eid, without_no_eid}
 use Rattle.mc_laws.proofs.Deeds.Goods.{holds}
 use Rattle.mc_laws.proofs.Deeds.Keeping.{names_apart as names_differ}
-use Rattle.mc_laws.proofs.Deeds.Leaving.{leave_good, leave_nobody, leave_other}
+use Rattle.mc_laws.proofs.Deeds.Leaving.{leave_cases, leave_good, leave_nobody, leave_other}
+use Rattle.mc_laws.proofs.Deeds.Leaving.{leave_same}
+use Rattle.mc_laws.proofs.Deeds.Shutting.{same_feet}
 
 -- ---- entities and maps
 
@@ -63,6 +65,12 @@ without_low n low high [] le r = refl
 without_low n low high (e ∷ es) le r =
     grind (arith, nat_tests, ints, Decides-int_eq, without_low n e.eid high es)
 
+-- one of another number that is there behind all stays
+without_behind : (n : ℤ) (es : List Entity) (x : Entity) → int_eq x.eid n ≡ false →
+    without eid_of n (es ++ x ∷ []) ≡ without eid_of n es ++ x ∷ []
+without_behind n es x other = filter-append (λ (e : Entity). not (int_eq (eid_of e) n)) es (x ∷ [])
+    ∙ ap (λ (b : Bool). without eid_of n es ++ (if not b then x ∷ [] else [])) other
+
 -- as many items lie there once one went that is none
 lying_without : (n low high : ℤ) (es : List Entity) (x : Entity) → Rise eid_of low es high →
     numbered eid_of n es ≡ Some x → is_dropped x.kind ≡ false →
@@ -80,30 +88,26 @@ lying_without n low high (e ∷ es) x r found none =
 
 removed_changed : {X : Type 0} (k : ℕ) (f : X → X) (m : FinMap nat_cmp X) →
     remove (modify k f m) k ≡ remove m k
-removed_changed k f m = maps_alike (remove (modify k f m) k) (remove m k) (λ q. at q (cases_eq q k))
-  where
-    at : (q : ℕ) → (q ≡ k) ⊎ (q ≢ k) → get (remove (modify k f m) k) q ≡ get (remove m k) q
-    at q either = grind (arith, nat_tests, gone_same, gone_other, changed_other)
+removed_changed k f m = maps_alike (remove (modify k f m) k) (remove m k)
+    (λ q. grind (arith, nat_tests, cases_eq q k, gone_same, gone_other, changed_other))
 
 removed_swap : {X : Type 0} (m : FinMap nat_cmp X) (j k : ℕ) →
     remove (remove m j) k ≡ remove (remove m k) j
 removed_swap m j k = maps_alike (remove (remove m j) k) (remove (remove m k) j)
-    (λ q. at q (cases_eq q j) (cases_eq q k))
-  where
-    at : (q : ℕ) → (q ≡ j) ⊎ (q ≢ j) → (q ≡ k) ⊎ (q ≢ k) →
-        get (remove (remove m j) k) q ≡ get (remove (remove m k) j) q
-    at q at_j at_k = grind (arith, nat_tests, gone_same, gone_other)
+    (λ q. grind (arith, nat_tests, cases_eq q j, cases_eq q k, gone_same, gone_other))
 
 -- two names change
 modified_swap : {X : Type 0} (m : FinMap name_cmp X) (a b : List ℕ) (f h : X → X) → a ≢ b →
     modify a f (modify b h m) ≡ modify b h (modify a f m)
 modified_swap m a b f h ne = same_map nat_list_cmp_total names_apart
-    (modify a f (modify b h m)) (modify b h (modify a f m))
-    (λ q. at q (name_cases q a) (name_cases q b))
-  where
-    at : (q : List ℕ) → (q ≡ a) ⊎ (q ≢ a) → (q ≡ b) ⊎ (q ≢ b) →
-        get (modify a f (modify b h m)) q ≡ get (modify b h (modify a f m)) q
-    at q at_a at_b = grind (arith, nat_tests, name_changed_same, name_changed_other)
+    (modify a f (modify b h m)) (modify b h (modify a f m)) (λ q. grind (
+      arith,
+      nat_tests,
+      name_cases q a,
+      name_cases q b,
+      name_changed_same,
+      name_changed_other,
+    ))
 
 -- ---- what leaving comes to
 
@@ -127,21 +131,6 @@ module _ (k : ℕ) (p : Player) (g : Game) where
   abbrev pack : PackValue
   pack = pack_of g p
 
-  same_feet : (held : Pile) → feet_of p (record g {
-    entities = changed eid_of (pos p.eid) (holding held) g.entities;
-  }) ≡ feet_of p g
-  same_feet held = ap (λ (spot : Spot). record spot { yaw = 0; pitch = 0 })
-      (ap (λ (o : Option Entity). unwrap_or (option_map (λ (e : Entity). e.spot) o)
-      (spawn_spot g.settings.terrain)) (changed_eid p.eid (holding held) g.entities (holds held))
-      ∙ mapped (numbered eid_of (pos p.eid) g.entities))
-    where
-      mapped : (o : Option Entity) →
-          unwrap_or (option_map (λ (e : Entity). e.spot) (option_map (holding held) o))
-          (spawn_spot g.settings.terrain)
-          ≡ unwrap_or (option_map (λ (e : Entity). e.spot) o) (spawn_spot g.settings.terrain)
-      mapped None = refl
-      mapped (Some e) = refl
-
   left_is : p.eid ≤ g.eids → go_of k p (shut k p g)
       ≡ falls_at (nat_lt 0 (room_in g)) pack.cursor (feet_of p g)
       (gone_with k p (kept_pack (nat_lt 0 (room_in g)) pack) g)
@@ -154,12 +143,6 @@ module _ (k : ℕ) (p : Player) (g : Game) where
           (changed eid_of (pos p.eid) (holding held) g.entities)
           ≡ without eid_of (pos p.eid) g.entities
       bare held = without_changed (pos p.eid) (holding held) g.entities (holds held)
-
-      stays : (e : Entity) → e.eid ≡ pos (g.eids + 1) →
-          without eid_of (pos p.eid) (e ∷ []) ≡ e ∷ []
-      stays e is = ap (λ (b : Bool). if not b then e ∷ [] else [])
-          (ap (λ (n : ℤ). int_eq n (pos p.eid)) is
-          ∙ other_eid (g.eids + 1) p.eid (λ same. absurd (omega (arith, given, same))))
 
       step : (b : Bool) (pile : Pile) → go_of k p (watching None k
           (if b then let_fall p pile (repack_of p (finished_pack pack) g)
@@ -178,9 +161,9 @@ module _ (k : ℕ) (p : Player) (g : Game) where
             spot = spot;
           } in
           λ i. record (thrown item (feet_of p g) (gone_with k p (finished_pack pack) g)) {
-            entities = (filter-append (λ (e : Entity). not (int_eq (eid_of e) (pos p.eid))) es
-                (x (feet_of p (repack_of p (finished_pack pack) g)) ∷ [])
-                ∙ (λ j. bare held j ++ stays (x (same_feet held j)) refl j)) i;
+            entities = (without_behind (pos p.eid) es _ (other_eid (g.eids + 1) p.eid
+                (λ same. absurd (omega (arith, given, same))))
+                ∙ (λ j. bare held j ++ x (same_feet p held g j) ∷ [])) i;
             players = removed_changed k none g.players i;
           }
       step false pile = λ i. record (gone_with k p (kept_in_hand pack) g) {
@@ -219,7 +202,14 @@ module _ (k : ℕ) (p : Player) (g : Game) (there : get g.players k ≡ Some p) 
 -- another that leaves changes nothing of its pack
 pub pack_stays : (k j : ℕ) (p : Player) (g : Game) → get g.players k ≡ Some p → k ≢ j → Good g →
     pack_of (leave j g) p ≡ pack_of g p
-pack_stays k j p g there ne w = step (get g.players j) refl
+pack_stays k j p g there ne w = leave_cases j g (λ (v : Game). pack_of v p ≡ pack_of g p)
+    (λ none. refl)
+    (λ q is. ap (λ (v : Game). pack_of v p) (left_is j q g (w.own j q is).given)
+    ∙ ap (λ m. unwrap_or (get m p.name) kit_pack) (same_packs _ _ _ _)
+    ∙ ap (λ o. unwrap_or o kit_pack)
+    (name_changed_other g.packs q.name p.name (λ (old : PackValue). _)
+    (names_differ g.entities g.eids g.packs p q (w.own k p there) (w.own j q is)
+    (w.apart k j p q there is ne))))
   where
     same_packs : (b : Bool) (pile : Pile) (spot : Spot) (v : Game) →
         (falls_at b pile spot v).packs ≡ v.packs
@@ -227,20 +217,13 @@ pack_stays k j p g there ne w = step (get g.players j) refl
     same_packs true (Full item) spot v = refl
     same_packs false pile spot v = refl
 
-    step : (o : Option Player) → get g.players j ≡ o → pack_of (leave j g) p ≡ pack_of g p
-    step None is = ap (λ (v : Game). pack_of v p) (leave_nobody j g is)
-    step (Some q) is = ap (λ m. unwrap_or (get m p.name) kit_pack)
-        (ap (λ (v : Game). v.packs) (left_by j q g is w) ∙ same_packs _ _ _ _)
-        ∙ ap (λ o. unwrap_or o kit_pack)
-        (name_changed_other g.packs q.name p.name (λ (old : PackValue). _)
-        (names_differ g.entities g.eids g.packs p q (w.own k p there) (w.own j q is)
-        (w.apart k j p q there is ne)))
-
-pub still_nothing : (k j : ℕ) (g : Game) → k ≢ j → Good g → HasNothing k g →
-    HasNothing k (leave j g)
-still_nothing k j g ne w none p there =
-    let was = sym (leave_other j k g ne) ∙ there in
-    ap (λ (pack : PackValue). pack.cursor) (pack_stays k j p g was ne w) ∙ none p was
+pub leaves_nothing : (k j : ℕ) (g : Game) → Good g → HasNothing k g → HasNothing k (leave j g)
+leaves_nothing k j g w none p there = elim (cases_eq k j) [
+  | inl same ↦ absurd (none_some (get (leave j g).players k) p
+      (ap (get (leave j g).players) same ∙ leave_same j g) there)
+  | inr ne ↦ (let was = sym (leave_other j k g ne) ∙ there in
+      ap (λ (pack : PackValue). pack.cursor) (pack_stays k j p g was ne w) ∙ none p was)
+]
 
 -- ---- two players
 
@@ -264,13 +247,8 @@ module _ (k j : ℕ) (p q : Player) (g : Game) (there : get g.players k ≡ Some
       refl)
 
   same_spot : feet_of q without_one ≡ feet_of q g
-  same_spot = ap (λ (o : Option Entity). record
-      (unwrap_or (option_map (λ (e : Entity). e.spot) o) (spawn_spot g.settings.terrain)) {
-        yaw = 0;
-        pitch = 0;
-      })
-      (without_no_eid q.eid p.eid g.entities
-      (λ same. (w.apart k j p q there too ne).eid (sym same)))
+  same_spot = (let other = (w.apart k j p q there too ne).eid in
+      grind (arith, nat_tests, without_no_eid q.eid p.eid g.entities, other))
 
   same_pack : pack_of without_one q ≡ pack_of g q
   same_pack = ap (λ (o : Option PackValue). unwrap_or o kit_pack)
@@ -297,11 +275,7 @@ module _ (k j : ℕ) (p q : Player) (g : Game) (there : get g.players k ≡ Some
 
       ends : without eid_of (pos p.eid) v.entities ++ comes ∷ []
           ≡ without eid_of (pos p.eid) (v.entities ++ comes ∷ [])
-      ends = sym (filter-append (λ (e : Entity). not (int_eq (eid_of e) (pos p.eid))) v.entities
-          (comes ∷ [])
-          ∙ ap (λ (b : Bool). without eid_of (pos p.eid) v.entities
-          ++ (if not b then comes ∷ [] else []))
-          (other_eid (v.eids + 1) p.eid
+      ends = sym (without_behind (pos p.eid) v.entities comes (other_eid (v.eids + 1) p.eid
           (λ e. absurd (let given = (w.own k p there).given in omega (arith, given, e, same)))))
   fallen_swap false pile spot v same = refl
 

@@ -1,9 +1,9 @@
 -- Those that leave do so in an order: what is left is the same where one of them goes before, if
 -- nothing hangs on its cursor.
-use Rattle.std.proofs.Common.{◌≡◌, ◌≢◌, ℕ, Bool, true, false, cond, List, [], ◌∷◌, None}
-use Rattle.std.proofs.Common.{refl, sym, ap, ◌∙◌, inl, inr, arith}
+use Rattle.std.proofs.Common.{◌≡◌, ◌≢◌, ℕ, Bool, cond, List, [], ◌∷◌, None}
+use Rattle.std.proofs.Common.{refl, sym, ap, ◌∙◌, arith}
 use Rattle.std.specs.Prelude.{◌==◌, map, not}
-use Rattle.std.proofs.lemmas.Bool.{cases_eq, eq-eqb, ne_eqb}
+use Rattle.std.proofs.lemmas.Bool.{cases_eq}
 use Rattle.std.proofs.lemmas.Bool.Decides.{nat_tests}
 use Rattle.std.specs.List.{filter}
 use Rattle.std.specs.Ordering.{nat_cmp}
@@ -15,18 +15,10 @@ use Rattle.mc_model.specs.Game.{Game}
 use Rattle.mc_model.specs.Leaving.{leave, leave_all}
 use Rattle.mc_model.specs.Good.{Good}
 use Rattle.mc_model.proofs.Maps.Lookups.{gone_other, gone_same}
-use Rattle.mc_model.proofs.Maps.Options.{none_some}
 use Rattle.mc_laws.proofs.Deeds.Leaving.{leave_good, leave_nobody, leave_other, leave_same}
-use Rattle.mc_laws.proofs.Apart.Leavings.{HasNothing, filter_swap, leave_swap, still_nothing}
+use Rattle.mc_laws.proofs.Apart.Leavings.{HasNothing, filter_swap, leave_swap, leaves_nothing}
 
 -- ---- one more, before or after several
-
-leaves_nothing : (k i : ℕ) (g : Game) → Good g → HasNothing k g → HasNothing k (leave i g)
-leaves_nothing k i g w none = elim (cases_eq k i) [
-  | inl same ↦ λ p there. absurd (none_some (get (leave i g).players k) p
-      (ap (get (leave i g).players) same ∙ leave_same i g) there)
-  | inr ne ↦ still_nothing k i g ne w none
-]
 
 pub leave_first : (k : ℕ) (ks : List ℕ) (g : Game) → Good g → HasNothing k g →
     leave k (leave_all ks g) ≡ leave_all ks (leave k g)
@@ -44,15 +36,15 @@ is_other k i = not (i == k)
 leave_others : (k : ℕ) (ks : List ℕ) (g : Game) → get g.players k ≡ None →
     leave_all (filter (is_other k) ks) g ≡ leave_all ks g
 leave_others k [] g none = refl
-leave_others k (i ∷ ks) g none = elim (cases_eq i k) [
-  | inl same ↦ ap (λ (b : Bool). leave_all (cond (not b) (i ∷ filter (is_other k) ks)
-      (filter (is_other k) ks)) g) (eq-eqb i k same)
-      ∙ leave_others k ks g none
-      ∙ ap (leave_all ks) (sym (leave_nobody i g (ap (get g.players) same ∙ none)))
-  | inr ne ↦ ap (λ (b : Bool). leave_all (cond (not b) (i ∷ filter (is_other k) ks)
-      (filter (is_other k) ks)) g) (ne_eqb i k ne)
-      ∙ leave_others k ks (leave i g) (leave_other i k g (λ same. ne (sym same)) ∙ none)
-]
+leave_others k (i ∷ ks) g none = grind (
+  arith,
+  nat_tests,
+  cases_eq i k,
+  leave_others k ks g none,
+  leave_others k ks (leave i g),
+  leave_other i k g,
+  leave_nobody i g,
+)
 
 pub leave_without : (k : ℕ) (u : ℕ → Bool) (ks : List ℕ) (g : Game) → get g.players k ≡ None →
     leave_all (filter u (filter (is_other k) ks)) g ≡ leave_all (filter u ks) g
@@ -84,13 +76,7 @@ module _ (k : ℕ) (t u : ℕ → Bool) (alike : (i : ℕ) → i ≢ k → t i �
 map_filter : {A B : Type 0} (f : A → B) (p : B → Bool) (xs : List A) →
     map f (filter (λ (x : A). p (f x)) xs) ≡ filter p (map f xs)
 map_filter f p [] = refl
-map_filter f p (x ∷ xs) = step (p (f x)) (map_filter f p xs)
-  where
-    step : (b : Bool) → map f (filter (λ x. p (f x)) xs) ≡ filter p (map f xs) →
-        map f (cond b (x ∷ filter (λ x. p (f x)) xs) (filter (λ x. p (f x)) xs))
-        ≡ cond b (f x ∷ filter p (map f xs)) (filter p (map f xs))
-    step true rest = ap (λ ys. f x ∷ ys) rest
-    step false rest = rest
+map_filter f p (x ∷ xs) = grind (arith, nat_tests, map_filter f p xs)
 
 pub keys_removed : {X : Type 0} (m : FinMap nat_cmp X) (k : ℕ) →
     keys (remove m k) ≡ filter (λ (q : ℕ). not (q == k)) (keys m)
@@ -107,11 +93,5 @@ keys_removed {X} m k =
   where
     at_key : (q : ℕ) →
         get (remove m k) q ≡ cond (not (q == k)) (find nat_cmp q (entries m)) None
-    at_key q = elim (cases_eq q k) [
-      | inl same ↦ ap (get (remove m k)) same ∙ gone_same m k
-          ∙ sym (ap (λ (b : Bool). cond (not b) (find nat_cmp q (entries m)) None)
-          (eq-eqb q k same))
-      | inr ne ↦ gone_other m k q ne ∙ get-entries m q
-          ∙ sym (ap (λ (b : Bool). cond (not b) (find nat_cmp q (entries m)) None)
-          (ne_eqb q k ne))
-    ]
+    at_key q =
+        grind (arith, nat_tests, cases_eq q k, gone_same m k, gone_other m k q, get-entries m q)

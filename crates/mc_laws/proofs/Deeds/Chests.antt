@@ -2,7 +2,7 @@
 -- piles lie in one.
 use Rattle.std.proofs.Common.{◌≡◌, ℕ, ◌<◌, Bool, true, false, cond, List, Option, Some}
 use Rattle.std.proofs.Common.{None, refl, sym, subst, ap, ◌∙◌, arith}
-use Rattle.std.specs.Prelude.{◌==◌, is_some, nat_lt, unsigned_abs, unwrap_or, if◌then◌else◌}
+use Rattle.std.specs.Prelude.{◌==◌, is_some, unsigned_abs, unwrap_or, if◌then◌else◌}
 use Rattle.std.proofs.lemmas.Bool.{eqb-true}
 use Rattle.std.proofs.lemmas.Bool.Decides.{nat_tests}
 use Rattle.std.specs.Cmp.{tied_itself}
@@ -160,14 +160,9 @@ pub stands_at : (chests : FinMap key_cmp (List Pile)) (x y z : ℤ) →
     is_some (chest_of_cell chests x y z) ≡ true → StandsAt chests x y z
 stands_at chests x (pos y) z there = record {
   key = key_of x y z;
-  found = inside (nat_lt y 256) there;
+  found = grind (arith, nat_tests, there);
   put = λ piles. refl;
 }
-  where
-    inside : (b : Bool) → is_some (if b then get chests (key_of x y z) else None) ≡ true →
-        (if b then get chests (key_of x y z) else None) ≡ get chests (key_of x y z)
-    inside true there = refl
-    inside false there = absurd cc
 stands_at chests x (negsuc y) z there = absurd cc
 
 -- chests stand where they stood, where the same keys are there
@@ -198,13 +193,7 @@ restocked_chests cell piles g there is a = record {
 
     same : (q : Key) → is_some (cond (eq_by_cmp key_cmp q at.key) (Some piles) (get g.chests q))
         ≡ is_some (get g.chests q)
-    same q = step (eq_by_cmp key_cmp q at.key) refl
-      where
-        step : (b : Bool) → eq_by_cmp key_cmp q at.key ≡ b →
-            is_some (cond b (Some piles) (get g.chests q)) ≡ is_some (get g.chests q)
-        step true t = sym (ap (λ (key : Key). is_some (get g.chests key))
-            (exact_keys q at.key (equal _ t)) ∙ ap is_some (sym at.found) ∙ there)
-        step false t = refl
+    same q = grind (arith, nat_tests, exact_keys q at.key, equal, at.found, there)
 
 -- ---- other games
 

@@ -22,20 +22,13 @@ module _ (G T H : Type 0) (k : ℕ) where
   deed_on g v (touches f t fits rest are) = players_on k g v f (λ j p. (t.like j p).name) t.traits
       are rest.settings rest.age (omega (arith, rest.eids))
       (λ old since. rw (rest.eids, rest.entities) since)
-  deed_on g v (repacks j p pack there is same) =
-      subst (Onward k g) (sym same) (repack_on k p pack g)
-  deed_on g v (rehands p hand there small same) =
-      subst (Onward k g) (sym same) (rehand_on k p hand g)
-  deed_on g v (stands p spot there fits same) =
-      subst (Onward k g) (sym same) (stand_on k p spot g)
-  deed_on g v (throws item spot can same) =
-      subst (Onward k g) (sym same) (thrown_on k item spot g)
-  deed_on g v (sets cell state inside is same) =
-      subst (Onward k g) (sym same) (same_on k g _ refl refl refl refl refl)
-  deed_on g v (restocks cell piles there are same) =
-      subst (Onward k g) (sym same) (same_on k g _ refl refl refl refl refl)
-  deed_on g v (says line fits same) =
-      subst (Onward k g) (sym same) (same_on k g _ refl refl refl refl refl)
+  deed_on g v (repacks j p pack there is same) = rw same (repack_on k p pack g)
+  deed_on g v (rehands p hand there small same) = rw same (rehand_on k p hand g)
+  deed_on g v (stands p spot there fits same) = rw same (stand_on k p spot g)
+  deed_on g v (throws item spot can same) = rw same (thrown_on k item spot g)
+  deed_on g v (sets cell state inside is same) = rw same (same_on k g _ refl refl refl refl refl)
+  deed_on g v (restocks cell piles at are same) = rw same (same_on k g _ refl refl refl refl refl)
+  deed_on g v (says line fits same) = rw same (same_on k g _ refl refl refl refl refl)
 
   pub deeds_on : (g : Game) (us : List Game) (v : Game) → AreDeeds G T H k g us v → Onward k g v
   deeds_on g [] v are = subst (Onward k g) (sym are) (same_on k g g refl refl refl refl refl)
@@ -48,10 +41,8 @@ module _ (G T H : Type 0) (k : ℕ) where
       subst Good (sym same) (repack_good j p g there w pack (is given))
   deed_good g v (rehands p hand there small same) given w =
       subst Good (sym same) (rehand_good k p g there w hand small)
-  deed_good g v (stands p spot there fits same) given w =
-      subst Good (sym same) (stand_good k p g there w spot)
-  deed_good g v (throws item spot can same) given w =
-      subst Good (sym same) (spawned_good _ spot g refl w)
+  deed_good g v (stands p spot there fits same) given w = rw same (stand_good k p g there w spot)
+  deed_good g v (throws item spot can same) given w = rw same (spawned_good _ spot g refl w)
   deed_good g v (sets cell state inside is same) given w = subst Good (sym same) w
   deed_good g v (restocks cell piles there are same) given w = subst Good (sym same) w
   deed_good g v (says line fits same) given w = subst Good (sym same) w
@@ -59,20 +50,15 @@ module _ (G T H : Type 0) (k : ℕ) where
   deed_chests : (g v : Game) → Deed G T H k g v → G → AreChests g → AreChests v
   deed_chests g v (touches f t fits rest are) given a =
       same_chests rest.settings rest.edits rest.chests a
-  deed_chests g v (repacks j p pack there is same) given a =
-      subst AreChests (sym same) (same_chests refl refl refl a)
-  deed_chests g v (rehands p hand there small same) given a =
-      subst AreChests (sym same) (same_chests refl refl refl a)
-  deed_chests g v (stands p spot there fits same) given a =
-      subst AreChests (sym same) (same_chests refl refl refl a)
-  deed_chests g v (throws item spot can same) given a =
-      subst AreChests (sym same) (same_chests refl refl refl a)
+  deed_chests g v (repacks j p pack there is same) given a = rw same (same_chests refl refl refl a)
+  deed_chests g v (rehands p hand there small same) given a = rw same (same_chests refl refl refl a)
+  deed_chests g v (stands p spot there fits same) given a = rw same (same_chests refl refl refl a)
+  deed_chests g v (throws item spot can same) given a = rw same (same_chests refl refl refl a)
   deed_chests g v (sets cell state inside is same) given a =
       subst AreChests (sym same) (with_state_chests cell state g inside a)
   deed_chests g v (restocks cell piles there are same) given a =
       subst AreChests (sym same) (restocked_chests cell piles g there (are given) a)
-  deed_chests g v (says line fits same) given a =
-      subst AreChests (sym same) (same_chests refl refl refl a)
+  deed_chests g v (says line fits same) given a = rw same (same_chests refl refl refl a)
 
   -- what each deed of a good game keeps, all of them keep
   pub deeds_keep : (P : Game → Type 0) →

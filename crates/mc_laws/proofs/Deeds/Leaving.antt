@@ -1,8 +1,9 @@
 -- What is left of a game that players leave, one or several.
-use Rattle.std.proofs.Common.{◌≡◌, ◌≢◌, ℕ, ◌≤◌, Bool, true, false, cond, List, [], ◌∷◌, Option}
-use Rattle.std.proofs.Common.{Some, None, refl, sym, subst, ap, ◌∙◌, inl, inr, arith}
-use Rattle.std.specs.Prelude.{◌&&◌, ◌||◌, is_some, nat_lt, if◌then◌else◌}
+use Rattle.std.proofs.Common.{◌≡◌, ◌≢◌, ℕ, ◌≤◌, Bool, true, false, cond, List, [], ◌∷◌}
+use Rattle.std.proofs.Common.{Some, None, refl, sym, ◌∙◌, inl, inr, arith}
+use Rattle.std.specs.Prelude.{◌&&◌, nat_lt, if◌then◌else◌}
 use Rattle.std.proofs.lemmas.Bool.{cases_eq}
+use Rattle.std.proofs.lemmas.Bool.Decides.{nat_tests}
 use Rattle.std.specs.List.{filter, fold, list_any}
 use Rattle.std.specs.Ordering.{nat_cmp, eq_by_cmp}
 use Rattle.std.specs.FinMap.{contains_key-keys, empty, get, keys, remove}
@@ -12,7 +13,7 @@ use Rattle.mc_slots.specs.declared.pile.Pile.TheVariants.{Empty, Full}
 use Rattle.mc_windows.specs.Pack.{finished_pack}
 use Rattle.mc_model.specs.declared.player.Player.{Player}
 use Rattle.mc_model.specs.Notes.{again}
-use Rattle.mc_model.specs.Game.{Game, of_player, pack_of, room_in}
+use Rattle.mc_model.specs.Game.{Game, pack_of, room_in}
 use Rattle.mc_model.specs.Deeds.{go_of, noting, repack_of, watching}
 use Rattle.mc_model.specs.Leaving.{leave, leave_all}
 use Rattle.mc_model.specs.Windows.{kept_in_hand, let_fall, shut}
@@ -22,8 +23,8 @@ use Rattle.mc_model.proofs.Maps.Lookups.{gone_other, gone_same, maps_alike, tied
 use Rattle.mc_model.proofs.Maps.Lookups.{untied_number}
 use Rattle.mc_laws.proofs.Deeds.Chests.{same_chests}
 use Rattle.mc_laws.proofs.Deeds.Coming.{go_good}
-use Rattle.mc_laws.proofs.Deeds.Shutting.{closed, shut_good, shut_here, shut_on, shut_other}
-use Rattle.mc_laws.proofs.Deeds.Shutting.{shut_told}
+use Rattle.mc_laws.proofs.Deeds.Shutting.{closed, of_cases, shut_good, shut_here, shut_on}
+use Rattle.mc_laws.proofs.Deeds.Shutting.{shut_other, shut_told}
 use Rattle.mc_laws.proofs.Fits.Told.{without_told}
 
 -- What holds of a game without its player, and of one where it has one, whose window closed and
@@ -31,12 +32,7 @@ use Rattle.mc_laws.proofs.Fits.Told.{without_told}
 pub leave_cases : (k : ℕ) (g : Game) (P : Game → Type 0) → (get g.players k ≡ None → P g) →
     ((p : Player) → get g.players k ≡ Some p → P (go_of k p (shut k p g))) → P (leave k g)
 unfolding leave
-leave_cases k g P none some = step (get g.players k) refl
-  where
-    step : (o : Option Player) → get g.players k ≡ o →
-        P (of_player g (λ (p : Player). go_of k p (shut k p g)) o)
-    step None is = none is
-    step (Some p) is = some p is
+leave_cases k g P none some = of_cases k g (λ p. go_of k p (shut k p g)) P none some
 
 pub leave_good : (k : ℕ) (g : Game) → Good g → Good (leave k g)
 leave_good k g w = leave_cases k g Good (λ none. w) (λ p there.
@@ -123,12 +119,13 @@ leaves_so g v same = record {
   players = λ i. (same i).players;
 }
 
--- what each step of a fold leaves as it was, all of them do
-pub fold_same : {A : Type 0} (part : Game → Game) (f : Game → A → Game) →
-    ((g : Game) (x : A) → part (f g x) ≡ part g) → (xs : List A) (g : Game) →
-    part (fold f g xs) ≡ part g
-fold_same part f each [] g = refl
-fold_same part f each (x ∷ xs) g = fold_same part f each xs (f g x) ∙ each g x
+-- what each step of a fold keeps, all of them keep
+pub fold_keeps : {A : Type 0} (R : Game → Game → Type 0) → ((g : Game) → R g g) →
+    ((g u v : Game) → R g u → R u v → R g v) → (f : Game → A → Game) →
+    ((g : Game) (x : A) → R g (f g x)) → (xs : List A) (g : Game) → R g (fold f g xs)
+fold_keeps R none on f each [] g = none g
+fold_keeps R none on f each (x ∷ xs) g =
+    on g (f g x) _ (each g x) (fold_keeps R none on f each xs (f g x))
 
 shut_unplayed : (k : ℕ) (p : Player) (g : Game) → unplayed (shut k p g) ≡ unplayed g
 shut_unplayed k p g = step (nat_lt 0 (room_in g)) (pack_of g p).cursor
@@ -142,8 +139,9 @@ shut_unplayed k p g = step (nat_lt 0 (room_in g)) (pack_of g p).cursor
 
 pub leave_all_stays : (ks : List ℕ) (g : Game) → Stays g (leave_all ks g)
 leave_all_stays ks g = stays_so g (leave_all ks g)
-    (fold_same unplayed (λ (h : Game) (k : ℕ). leave k h)
-    (λ h k. leave_cases k h (λ (v : Game). unplayed v ≡ unplayed h) (λ none. refl)
+    (fold_keeps (λ h v. unplayed v ≡ unplayed h) (λ h. refl) (λ h u v a b. b ∙ a)
+    (λ (h : Game) (k : ℕ). leave k h) (λ h k.
+    leave_cases k h (λ (v : Game). unplayed v ≡ unplayed h) (λ none. refl)
     (λ p there. shut_unplayed k p h)) ks g)
 
 pub leave_stays : (k : ℕ) (g : Game) → Stays g (leave k g)
@@ -172,58 +170,25 @@ pub left_all : (test : ℕ → Bool) (ks : List ℕ) (g : Game) (j : ℕ) →
     get (leave_all (filter test ks) g).players j
     ≡ cond (list_any (eq_by_cmp nat_cmp j) ks && test j) None (get g.players j)
 left_all test [] g j = refl
-left_all test (k ∷ ks) g j = elim (cases_eq j k) [
-  | inl same ↦ subst (λ (n : ℕ). get (leave_all (filter test (n ∷ ks)) g).players j
-      ≡ cond (list_any (eq_by_cmp nat_cmp j) (n ∷ ks) && test j) None (get g.players j)) same
-      (mine (test j) refl (left_all test ks g j) (left_all test ks (leave j g) j))
-  | inr ne ↦ theirs (test k) (left_all test ks g j) (left_all test ks (leave k g) j)
-      (untied_number j k ne) (leave_other k j g ne)
-]
-  where
-    mine : (b : Bool) → test j ≡ b →
-        get (leave_all (filter test ks) g).players j
-        ≡ cond (list_any (eq_by_cmp nat_cmp j) ks && test j) None (get g.players j) →
-        get (leave_all (filter test ks) (leave j g)).players j
-        ≡ cond (list_any (eq_by_cmp nat_cmp j) ks && test j) None (get (leave j g).players j) →
-        get (leave_all (cond b (j ∷ filter test ks) (filter test ks)) g).players j
-        ≡ cond ((eq_by_cmp nat_cmp j j || list_any (eq_by_cmp nat_cmp j) ks) && b) None
-        (get g.players j)
-    mine true t stays goes = rw (tied_number j)
-        (goes ∙ either_none (list_any (eq_by_cmp nat_cmp j) ks && test j) _ (leave_same j g))
-      where
-        either_none : (b : Bool) (o : Option Player) → o ≡ None → cond b None o ≡ None
-        either_none true o is = refl
-        either_none false o is = is
-    mine false t stays goes = rw (tied_number j) (stays ∙ rw t
-        (no_test (list_any (eq_by_cmp nat_cmp j) ks) (get g.players j)))
-      where
-        no_test : (b : Bool) (o : Option Player) → cond (b && false) None o ≡ o
-        no_test true o = refl
-        no_test false o = refl
-
-    theirs : (b : Bool) →
-        get (leave_all (filter test ks) g).players j
-        ≡ cond (list_any (eq_by_cmp nat_cmp j) ks && test j) None (get g.players j) →
-        get (leave_all (filter test ks) (leave k g)).players j
-        ≡ cond (list_any (eq_by_cmp nat_cmp j) ks && test j) None (get (leave k g).players j) →
-        eq_by_cmp nat_cmp j k ≡ false → get (leave k g).players j ≡ get g.players j →
-        get (leave_all (cond b (k ∷ filter test ks) (filter test ks)) g).players j
-        ≡ cond ((eq_by_cmp nat_cmp j k || list_any (eq_by_cmp nat_cmp j) ks) && test j) None
-        (get g.players j)
-    theirs true stays goes far same = rw far (goes
-        ∙ ap (cond (list_any (eq_by_cmp nat_cmp j) ks && test j) None) same)
-    theirs false stays goes far same = rw far stays
+left_all test (k ∷ ks) g j = grind (
+  arith,
+  nat_tests,
+  cases_eq j k,
+  tied_number j,
+  untied_number j k,
+  leave_same k g,
+  leave_other k j g,
+  left_all test ks g j,
+  left_all test ks (leave k g) j,
+)
 
 -- of those in play that pass a test nobody is left
 pub left_of_all : (test : ℕ → Bool) (g : Game) (j : ℕ) →
     get (leave_all (filter test (keys g.players)) g).players j
     ≡ cond (test j) None (get g.players j)
-left_of_all test g j = left_all test (keys g.players) g j
-    ∙ ap (λ (b : Bool). cond (b && test j) None (get g.players j)) (sym (contains_key-keys
-    g.players j)) ∙ there (get g.players j) (test j)
-  where
-    there : (o : Option Player) (b : Bool) → cond (is_some o && b) None o ≡ cond b None o
-    there None true = refl
-    there None false = refl
-    there (Some p) true = refl
-    there (Some p) false = refl
+left_of_all test g j = grind (
+  arith,
+  nat_tests,
+  left_all test (keys g.players) g j,
+  contains_key-keys g.players j,
+)

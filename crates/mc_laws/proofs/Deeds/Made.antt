@@ -1,8 +1,8 @@
 -- Of which deeds an act is made, and what each of them rests on: the one relation that the laws of
 -- acts are proved by. An act is shown to be made of deeds once; each law is one of deeds.
-use Rattle.std.proofs.Common.{◌≡◌, ◌≢◌, ℕ, ◌+◌, ◌*◌, ◌<◌, ◌≤◌, Bool, true, false, List, [], ◌∷◌}
-use Rattle.std.proofs.Common.{Some, refl, subst, ◌∙◌, arith}
-use Rattle.std.specs.Prelude.{is_some, if◌then◌else◌}
+use Rattle.std.proofs.Common.{◌≡◌, ◌≢◌, ℕ, ◌+◌, ◌*◌, ◌<◌, ◌≤◌, true, List, [], ◌∷◌}
+use Rattle.std.proofs.Common.{Some, refl, ◌∙◌, arith}
+use Rattle.std.specs.Prelude.{is_some}
 use Rattle.std.specs.FinMap.{get}
 use Rattle.mc_fields.specs.declared.position.Cell.{Cell}
 use Rattle.mc_fields.specs.declared.position.Spot.{Spot}
@@ -148,49 +148,6 @@ module _ (G T H : Type 0) (k : ℕ) where
       ((id damage : ℕ) → spent id damage g v deed ≡ gained id damage g v deed) → Made g v
   by_deed g v deed even = before g v v deed even (untouched v)
 
-  -- deeds of which it is known how many items they take away and leave
-  record Spends (less more : ℕ → ℕ → ℕ) (g v : Game) : Type 0 where
-    games : List Game
-    deeds : AreDeeds g games v
-    spends : (id damage : ℕ) → all_spent id damage g games v deeds ≡ less id damage
-    gains : (id damage : ℕ) → all_gained id damage g games v deeds ≡ more id damage
-
-  joined : (less more : ℕ → ℕ → ℕ) (us : List Game) (g u v : Game) (are : AreDeeds g us u) →
-      Spends less more u v →
-      Spends (λ id damage. all_spent id damage g us u are + less id damage)
-      (λ id damage. all_gained id damage g us u are + more id damage) g v
-  joined less more [] g u v are s = (let at : Spends less more g v =
-      subst (λ (x : Game). Spends less more x v) are s in record {
-        games = at.games;
-        deeds = at.deeds;
-        spends = λ id damage. (let r = at.spends id damage in omega (arith, r));
-        gains = λ id damage. (let r = at.gains id damage in omega (arith, r));
-      })
-  joined less more (x ∷ us) g u v are s = (let rest = joined less more us x u v are.1 s in record {
-    games = x ∷ rest.games;
-    deeds = (are.0, rest.deeds);
-    spends = λ id damage. (let r = rest.spends id damage in omega (arith, r));
-    gains = λ id damage. (let r = rest.gains id damage in omega (arith, r));
-  })
-
-  -- what is made of what is made of a game is made of it
-  pub join : (g u v : Game) → Made g u → Made u v → Made g v
-  join g u v a b = (let all = joined (λ id damage. all_spent id damage u b.games v b.deeds)
-      (λ id damage. all_gained id damage u b.games v b.deeds) a.games g u v a.deeds (record {
-        games = b.games;
-        deeds = b.deeds;
-        spends = λ id damage. refl;
-        gains = λ id damage. refl;
-      }) in record {
-        games = all.games;
-        deeds = all.deeds;
-        even = λ good id damage some low. (let s = all.spends id damage in
-            let t = all.gains id damage in
-            let x = a.even good id damage some low in
-            let y = b.even good id damage some low in
-            omega (arith, s, t, x, y));
-      })
-
   -- the record of one connection's player changes
   abbrev pub touch : (j : ℕ) (f : Player → Player) → ((p : Player) → IsLike (f p) p) →
       (j ≢ k → (p : Player) → traits_of (f p) ≡ traits_of p) → (T → H → KeepsNotes f) →
@@ -231,8 +188,3 @@ module _ (G T H : Type 0) (k : ℕ) where
   pub by_notes : (j : ℕ) (f : Notes → Notes) →
       (T → H → (n : Notes) → NotesFit n → NotesFit (f n)) → (g : Game) → Made g (noting f j g)
   by_notes j f fits g = by_deed g (noting f j g) (notes j f fits g) (λ id damage. refl)
-
-  pub either : (g v u : Game) (b : Bool) → (b ≡ true → Made g v) → (b ≡ false → Made g u) →
-      Made g (if b then v else u)
-  either g v u true first second = first refl
-  either g v u false first second = second refl

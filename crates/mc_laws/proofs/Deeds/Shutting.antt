@@ -1,11 +1,12 @@
 -- The window of a player closes: of which deeds that is made, by whomever it is, and what it leaves
 -- of the players.
 use Rattle.std.proofs.Common.{◌≡◌, ◌≢◌, ℕ, ◌+◌, ◌<◌, Bool, true, false, List, [], ◌∷◌, Option, Some}
-use Rattle.std.proofs.Common.{None, refl, sym, subst, ap, ◌∙◌, arith}
-use Rattle.std.specs.Prelude.{nat_lt, option_map, if◌then◌else◌}
-use Rattle.std.proofs.lemmas.Bool.{eq-eqb, ltb-true, ne_eqb}
-use Rattle.std.specs.Ordering.{nat_cmp}
-use Rattle.std.specs.FinMap.{FinMap, get}
+use Rattle.std.proofs.Common.{None, refl, subst, arith}
+use Rattle.std.specs.Prelude.{nat_lt, if◌then◌else◌}
+use Rattle.std.proofs.lemmas.Bool.{ltb-true}
+use Rattle.std.proofs.lemmas.Bool.Decides.{nat_tests}
+use Rattle.std.specs.FinMap.{get}
+use lib.IntN.{pos}
 use Rattle.mc_fields.specs.declared.position.Cell.{Cell}
 use Rattle.mc_slots.specs.declared.pile.Item.{Item}
 use Rattle.mc_slots.specs.declared.pile.Pile.{Pile}
@@ -13,24 +14,34 @@ use Rattle.mc_slots.specs.declared.pile.Pile.TheVariants.{Empty, Full}
 use Rattle.mc_slots.specs.Pile.{IsItem, IsPile, Sort, held}
 use Rattle.mc_windows.specs.Pack.{IsPack, PackValue, finished_pack}
 use Rattle.mc_entities.specs.declared.entity.EntityKind.TheVariants as kinds
-use Rattle.mc_entities.specs.Folk.{dropped_in}
+use Rattle.mc_entities.specs.Numbers.{changed}
+use Rattle.mc_entities.specs.Folk.{dropped_in, eid_of}
 use Rattle.mc_model.specs.declared.player.Player.{Player}
 use Rattle.mc_model.specs.Notes.{again}
-use Rattle.mc_model.specs.Things.{in_hand}
+use Rattle.mc_model.specs.Things.{holding, in_hand}
 use Rattle.mc_model.specs.Game.{Game, of_player, pack_of, room_in}
-use Rattle.mc_model.specs.Maps.{modify}
 use Rattle.mc_model.specs.Deeds.{noting, repack_of, watching}
 use Rattle.mc_model.specs.Windows.{feet_of, kept_in_hand, let_fall, shut, shut_all}
 use Rattle.mc_model.specs.Good.{Good}
 use Rattle.mc_model.specs.Fitting.{Told}
 use Rattle.mc_model.proofs.ThingsKept.{dropped_held}
-use Rattle.mc_laws.proofs.EachValue.{AreChanged, only, only_changed, twice_changed}
-use Rattle.mc_laws.proofs.Deeds.Made.{Made, MadeWith, before, by_deed, first, join, notes, repacks}
+use Rattle.mc_model.proofs.Maps.Entities.{changed_eid}
+use Rattle.mc_laws.proofs.EachValue.{AreChanged, mapped_itself, only, only_changed, twice_changed}
+use Rattle.mc_laws.proofs.Deeds.Made.{Made, MadeWith, before, first, notes, repacks}
 use Rattle.mc_laws.proofs.Deeds.Made.{throws, touch, untouched}
 use Rattle.mc_laws.proofs.Deeds.Kept.{deeds_keep, deed_good, deeds_on, made_told}
+use Rattle.mc_laws.proofs.Deeds.Goods.{holds}
 use Rattle.mc_laws.proofs.Deeds.Onwards.{Onward}
 use Rattle.mc_laws.proofs.Deeds.Packs.{named_is_pack}
 use Rattle.mc_laws.proofs.Fits.Told.{CanCome, holding_told, spot_told}
+
+-- What holds of a game without a connection's player, and of what is made of one where it has one,
+-- holds of what is made of the game.
+pub of_cases : (k : ℕ) (g : Game) (f : Player → Game) (P : Game → Type 0) →
+    (get g.players k ≡ None → P g) → ((p : Player) → get g.players k ≡ Some p → P (f p)) →
+    P (of_player g f (get g.players k))
+of_cases k g f P none some = elim (get g.players k) as
+    (λ o. get g.players k ≡ o → P (of_player g f o)) [ None ↦ none | Some p ↦ some p ] refl
 
 -- there is room for one more dropped item and one more number
 pub record HasRoom (g : Game) : Type 0 where
@@ -56,12 +67,20 @@ module _ (G T H : Type 0) (k : ℕ) where
       first G T H k (λ (sort : Sort). held sort (Full item)) (λ (sort : Sort). 0) u _ v
       (throws item (feet_of p u) (can item refl) refl) (λ w id damage some low. omega arith) later
 
-  -- any player is shown another chest, or none
-  pub watched_made : (j : ℕ) (chest : Option Cell) (u : Game) → Made G T H k u (watching chest j u)
-  watched_made j chest u = by_deed G T H k u (watching chest j u)
+  -- any player is shown another chest, or none, and more is done
+  pub watched_before : (j : ℕ) (chest : Option Cell) (u v : Game) →
+      Made G T H k (watching chest j u) v → Made G T H k u v
+  watched_before j chest u v = before G T H k u (watching chest j u) v
       (touch G T H k j (λ (q : Player). record q { chest = chest })
       (λ q. record { eid = refl; uuid = refl; name = refl; hand = refl }) (λ ne q. refl)
       (λ t h q fit. fit) u) (λ id damage. refl)
+
+-- another pile in its hand leaves a player where it stands
+pub same_feet : (p : Player) (held : Pile) (g : Game) → feet_of p (record g {
+  entities = changed eid_of (pos p.eid) (holding held) g.entities;
+}) ≡ feet_of p g
+same_feet p held g =
+    grind (arith, nat_tests, changed_eid p.eid (holding held) g.entities (holds held))
 
 module _ (G T H : Type 0) (k j : ℕ) (p : Player) (g : Game) (there : get g.players j ≡ Some p)
     (given : T → G × Told g) where
@@ -92,8 +111,9 @@ module _ (G T H : Type 0) (k j : ℕ) (p : Player) (g : Game) (there : get g.pla
 
   -- ---- closing
 
-  pub shut_made : (G → Good g) → Made G T H k g (shut j p g)
-  shut_made good = by_room (nat_lt 0 (room_in g)) refl
+  -- it closes, and more is done
+  pub shut_before : (v : Game) → (G → Good g) → Made G T H k (shut j p g) v → Made G T H k g v
+  shut_before v good = by_room (nat_lt 0 (room_in g)) refl
     where
       pack : PackValue
       pack = pack_of g p
@@ -104,10 +124,10 @@ module _ (G T H : Type 0) (k j : ℕ) (p : Player) (g : Game) (there : get g.pla
       done : G → IsPack (finished_pack pack).slots (finished_pack pack).cursor
       done x = record { size = (is x).size; are_piles = (is x).are_piles; is_pile = tt }
 
-      by_room : (b : Bool) → nat_lt 0 (room_in g) ≡ b → Made G T H k g (watching None j
+      by_room : (b : Bool) → nat_lt 0 (room_in g) ≡ b → Made G T H k (watching None j
           (if b then let_fall p pack.cursor (repack_of p (finished_pack pack) g)
-          else noting again j (repack_of p (kept_in_hand pack) g)))
-      by_room true test =
+          else noting again j (repack_of p (kept_in_hand pack) g))) v → Made G T H k g v
+      by_room true test later =
           first G T H k (λ (sort : Sort). 0) (λ (sort : Sort). held sort pack.cursor) g
           (repack_of p (finished_pack pack) g) _
           (repacks j p (finished_pack pack) there done refl)
@@ -115,13 +135,16 @@ module _ (G T H : Type 0) (k j : ℕ) (p : Player) (g : Game) (there : get g.pla
           (falls G T H k p (repack_of p (finished_pack pack) g) _ pack.cursor
           (λ item full. can_fall (finished_pack pack) item done
           (λ x. subst IsPile full (is x).is_pile) (has_room g test))
-          (watched_made G T H k j None _))
-      by_room false full =
+          (watched_before G T H k j None _ v later))
+      by_room false full later =
           before G T H k g (repack_of p (kept_in_hand pack) g) _
           (repacks j p (kept_in_hand pack) there is refl) (λ id damage. refl)
           (before G T H k (repack_of p (kept_in_hand pack) g) _ _
           (notes G T H k j again (λ t h n fit. fit) (repack_of p (kept_in_hand pack) g))
-          (λ id damage. refl) (watched_made G T H k j None _))
+          (λ id damage. refl) (watched_before G T H k j None _ v later))
+
+  pub shut_made : (G → Good g) → Made G T H k g (shut j p g)
+  shut_made good = shut_before (shut j p g) good (untouched G T H k (shut j p g))
 
 -- ---- what closing keeps
 
@@ -148,7 +171,7 @@ closed room p = record p { chest = None; notes = if room then p.notes else again
 
 pub shut_players : (k : ℕ) (p : Player) (g : Game) →
     AreChanged (only k (closed (nat_lt 0 (room_in g)))) g.players (shut k p g).players
-shut_players k p g = by_room (nat_lt 0 (room_in g))
+shut_players k p g = by_room (nat_lt 0 (room_in g)) (pack_of g p).cursor
   where
     pack : PackValue
     pack = pack_of g p
@@ -156,54 +179,41 @@ shut_players k p g = by_room (nat_lt 0 (room_in g))
     ends : Player → Player
     ends q = record q { chest = None }
 
-    fallen : (pile : Pile) (u : Game) → (let_fall p pile u).players ≡ u.players
-    fallen Empty u = refl
-    fallen (Full item) u = refl
-
-    by_room : (b : Bool) → AreChanged (only k (closed b)) g.players (watching None k
-        (if b then let_fall p pack.cursor (repack_of p (finished_pack pack) g)
+    by_room : (b : Bool) (pile : Pile) → AreChanged (only k (closed b)) g.players (watching None k
+        (if b then let_fall p pile (repack_of p (finished_pack pack) g)
         else noting again k (repack_of p (kept_in_hand pack) g))).players
-    by_room true = subst (λ (m : FinMap nat_cmp Player).
-        AreChanged (only k (closed true)) g.players (modify k ends m))
-        (sym (fallen pack.cursor (repack_of p (finished_pack pack) g)))
-        (only_changed k ends g.players)
-    by_room false =
+    by_room true Empty = only_changed k ends g.players
+    by_room true (Full item) = only_changed k ends g.players
+    by_room false pile =
         twice_changed k ends (λ (q : Player). record q { notes = again q.notes }) g.players
 
 pub shut_here : (k : ℕ) (p : Player) (g : Game) → get g.players k ≡ Some p →
     get (shut k p g).players k ≡ Some (closed (nat_lt 0 (room_in g)) p)
-shut_here k p g there = shut_players k p g k
-    ∙ ap (option_map (only k (closed (nat_lt 0 (room_in g))) k)) there
-    ∙ ap (λ (b : Bool). Some (if b then closed (nat_lt 0 (room_in g)) p else p)) (eq-eqb k k refl)
+shut_here k p g there = grind (arith, nat_tests, there, shut_players k p g k)
 
 pub shut_other : (k j : ℕ) (p : Player) (g : Game) → j ≢ k →
     get (shut k p g).players j ≡ get g.players j
-shut_other k j p g ne = shut_players k p g j ∙ same (get g.players j)
-  where
-    same : (o : Option Player) → option_map (only k (closed (nat_lt 0 (room_in g))) j) o ≡ o
-    same None = refl
-    same (Some q) = ap (λ (b : Bool). Some (if b then closed (nat_lt 0 (room_in g)) q else q))
-        (ne_eqb j k ne)
+shut_other k j p g ne =
+    grind (arith, nat_tests, ne, shut_players k p g j, mapped_itself (get g.players j))
 
 -- ---- of several players
 
 module _ (G T H : Type 0) (k : ℕ) where
-  one_shut : (j : ℕ) (g : Game) → (G → Good g) → (T → G × Told g) →
-      Made G T H k g (of_player g (λ (p : Player). shut j p g) (get g.players j))
-  one_shut j g good given = step (get g.players j) refl
-    where
-      step : (o : Option Player) → get g.players j ≡ o →
-          Made G T H k g (of_player g (λ (p : Player). shut j p g) o)
-      step None none = untouched G T H k g
-      step (Some p) there = shut_made G T H k j p g there given good
+  one_before : (j : ℕ) (g v : Game) → (G → Good g) → (T → G × Told g) →
+      Made G T H k (of_player g (λ (p : Player). shut j p g) (get g.players j)) v →
+      Made G T H k g v
+  one_before j g v good given = of_cases j g (λ p. shut j p g)
+      (λ (u : Game). Made G T H k u v → Made G T H k g v) (λ none later. later)
+      (λ p there. shut_before G T H k j p g there given v good)
 
-  pub shut_all_made : (js : List ℕ) (g : Game) → (G → Good g) → (T → G × Told g) →
-      Made G T H k g (shut_all js g)
-  shut_all_made [] g good given = untouched G T H k g
-  shut_all_made (j ∷ js) g good given =
-      let one = one_shut j g good given in
+  pub all_shut_before : (js : List ℕ) (g v : Game) → (G → Good g) → (T → G × Told g) →
+      Made G T H k (shut_all js g) v → Made G T H k g v
+  all_shut_before [] g v good given later = later
+  all_shut_before (j ∷ js) g v good given later =
       let u : Game = of_player g (λ (p : Player). shut j p g) (get g.players j) in
-      join G T H k g u (shut_all js u) one (shut_all_made js u
+      let one = one_before j g u good given (untouched G T H k u) in
+      one_before j g v good given (all_shut_before js u v
       (λ x. deeds_keep G T H k Good (λ a b deed is w. deed_good G T H k a b deed x is) x g one.games
       u one.deeds (good x) (good x))
-      (λ t. ((given t).0, made_told G T H k g u one (given t).0 t (good (given t).0) (given t).1)))
+      (λ t. ((given t).0, made_told G T H k g u one (given t).0 t (good (given t).0) (given t).1))
+      later)

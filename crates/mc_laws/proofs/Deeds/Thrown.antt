@@ -19,7 +19,7 @@ use Rattle.mc_model.specs.Deeds.{thrown}
 use Rattle.mc_model.specs.Digging.{all_thrown, item_of}
 use Rattle.mc_model.specs.Fitting.{SpotFits}
 use Rattle.mc_model.specs.Game.{Game}
-use Rattle.mc_laws.proofs.Deeds.Made.{MadeWith, first, throws, untouched}
+use Rattle.mc_laws.proofs.Deeds.Made.{Made, MadeWith, first, throws}
 use Rattle.mc_laws.proofs.Fits.Told.{dropped_come}
 
 -- how many of a sort there are
@@ -61,12 +61,14 @@ chest_are (Some piles) are = piles_are piles (are piles refl).are_piles
 -- ---- deeds
 
 module _ (G T H : Type 0) (k : ℕ) where
-  pub all_thrown_made : (items : List Item) (spot : Spot) (g : Game) →
+  -- items fall one after another, and more is done
+  pub all_thrown_before : (items : List Item) (spot : Spot) (g v : Game) →
       (T → AllByRecursion IsItem items) → (T → SpotFits spot) →
       dropped_in g.entities + length items ≤ 4096 → g.eids + length items ≤ 2147483647 →
-      MadeWith G T H k (λ (sort : Sort). in_items sort items) g (all_thrown items spot g)
-  all_thrown_made [] spot g are at lying given = untouched G T H k g
-  all_thrown_made (item ∷ items) spot g are at lying given =
+      Made G T H k (all_thrown items spot g) v →
+      MadeWith G T H k (λ (sort : Sort). in_items sort items) g v
+  all_thrown_before [] spot g v are at lying given later = later
+  all_thrown_before (item ∷ items) spot g v are at lying given later =
       let come = dropped_come g.entities (record {
         eid = pos (g.eids + 1);
         kind = kinds.Dropped item g.age;
@@ -83,5 +85,5 @@ module _ (G T H : Type 0) (k : ℕ) where
       }) refl)
       (λ w id damage some low. let one = sum_by-cons
       (λ (x : Item). held (sort_of id damage) (Full x)) item items in omega (arith, one))
-      (all_thrown_made items spot (thrown item spot g) (λ t. (are t).1) at
-      (omega (arith, lying, come)) (omega (arith, given)))
+      (all_thrown_before items spot (thrown item spot g) v (λ t. (are t).1) at
+      (omega (arith, lying, come)) (omega (arith, given)) later)

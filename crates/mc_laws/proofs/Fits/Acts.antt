@@ -21,7 +21,7 @@ use Rattle.mc_laws.proofs.Acts.ActMade.{act_made}
 pub act_tells : (k : ℕ) (packet : PlayUp) (g v : Game) → act g k packet ≡ Some v → GoodGame g →
     Told g → Told v
 act_tells k packet g v e w t =
-    made_told _ _ _ k g v (act_made k packet g v e) w (w, t) w.0 t
+    made_told _ _ _ k g v (act_made k packet g v e).made w (w, t) w.0 t
 
 -- ---- coming
 

@@ -128,12 +128,9 @@ module _ (G T H : Type 0) (k : ℕ) where
         kind = kinds.Dropped item g.age;
         spot = spot;
       }) refl)
-  deed_counts g v (sets cell state inside is same) =
-      subst (λ (u : Game). AreNoMore g.entities u.entities) (sym same) (omega arith)
-  deed_counts g v (restocks cell piles there are same) =
-      subst (λ (u : Game). AreNoMore g.entities u.entities) (sym same) (omega arith)
-  deed_counts g v (says line fits same) =
-      subst (λ (u : Game). AreNoMore g.entities u.entities) (sym same) (omega arith)
+  deed_counts g v (sets cell state inside is same) = rw same (omega arith)
+  deed_counts g v (restocks cell piles there are same) = rw same (omega arith)
+  deed_counts g v (says line fits same) = rw same (omega arith)
 
   pub deeds_count : (g : Game) (us : List Game) (v : Game) → AreDeeds G T H k g us v →
       AreNoMore g.entities v.entities

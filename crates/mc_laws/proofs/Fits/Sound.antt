@@ -107,7 +107,7 @@ pub act_sound : (k : ℕ) (packet : PlayUp) (g v : Game) → FitsPlayUp packet �
     act g k packet ≡ Some v → SoundGame g → SoundGame v
 act_sound k packet g v fits e sound =
     let on = act_on k packet g v e in
-    let made = act_made k packet g v e in
+    let made = (act_made k packet g v e).made in
     let good : GoodGame g = (sound.good, sound.chests) in
     let good_too = act_good k packet g v e good in
     let speaks : Speaks g k packet = ((λ p there. (sound.players k p there).name), fits) in

@@ -1,55 +1,37 @@
 -- What is shown of the window of a chest can be told by packets.
-use Rattle.std.proofs.Common.{◌≡◌, ℕ, ◌≤◌, true, false, List, map, Option, Some, None, refl, subst}
+use Rattle.std.proofs.Common.{◌≡◌, ℕ, ◌≤◌, true, List, map, Option, Some, None, refl, subst}
 use Rattle.std.proofs.Common.{◌∙◌, arith}
-use Rattle.std.specs.Prelude.{if◌then◌else◌, is_some, nat_lt, unwrap_or}
+use Rattle.std.specs.Prelude.{is_some}
 use Rattle.std.specs.Option.{option_and_then}
-use Rattle.std.specs.FinMap.{FinMap, get}
 use Rattle.std.proofs.lemmas.Bool.Decides.{nat_tests}
 use Rattle.std.proofs.lemmas.List.{length-map}
-use lib.IntN.{ℤ, pos, negsuc}
 use Rattle.mc_fields.specs.declared.position.Cell.{Cell}
 use Rattle.mc_slots.specs.declared.pile.Pile.{Pile}
 use Rattle.mc_slots.specs.Chest.{IsChest}
 use Rattle.mc_slots.specs.Pile.{slot_of}
-use Rattle.mc_land.specs.Places.{Key, key_cmp, key_of}
 use Rattle.mc_windows.specs.declared.pack.TheConstants.{LAST_WINDOW}
-use Rattle.mc_windows.specs.Pack.{PackValue, kit_pack}
+use Rattle.mc_windows.specs.Pack.{PackValue}
 use Rattle.mc_model.specs.declared.player.Player.{Player}
 use Rattle.mc_model.specs.Delta.{IsChestWindow}
 use Rattle.mc_model.specs.Game.{Game, chest_at, chest_of, pack_named, pack_of}
 use Rattle.mc_model.specs.Good.{AreChests, AreShown, IsShown}
 use Rattle.mc_model.specs.Sight.{ChestWindow, window_seen}
-use Rattle.mc_model.specs.Things.{chest_of_cell}
 use Rattle.mc_model.proofs.FitsDue.{WindowFits}
 use Rattle.mc_model.proofs.FitsSlots.{ChestFits, piles_fit}
 use Rattle.mc_model.proofs.Maps.Options.{some_is}
+use Rattle.mc_laws.proofs.Deeds.Chests.{lies_chest}
 
 -- the window of what any name carries has a number that is told
 window_high : (g : Game) (name : List ℕ) → AreShown g →
     (pack_named g name).window ≤ LAST_WINDOW
-window_high g name shown = elim (get g.packs name) as (λ o. get g.packs name ≡ o →
-    (unwrap_or o kit_pack).window ≤ LAST_WINDOW) [
-      | None ↦ λ none. omega arith
-      | Some pack ↦ λ some. shown.numbers name pack some
-    ] refl
+window_high g name shown = grind (arith, nat_tests, shown.numbers name)
 
--- what is at a cell is a chest
-cell_chest : (chests : FinMap key_cmp (List Pile)) (x y z : ℤ) (piles : List Pile) →
-    ((key : Key) (those : List Pile) → get chests key ≡ Some those → IsChest those) →
-    chest_of_cell chests x y z ≡ Some piles → IsChest piles
-cell_chest chests x (pos y) z piles all is = elim (nat_lt y 256) as (λ b.
-    (if b then get chests (key_of x y z) else None) ≡ Some piles → IsChest piles) [
-      | true ↦ all (key_of x y z) piles
-      | false ↦ λ none. absurd cc
-    ] is
-cell_chest chests x (negsuc y) z piles all is = absurd cc
-
--- and so is what a player is shown, which is shown a chest then
+-- what a player is shown is a chest, and it is shown one then
 shown_chest : (g : Game) (chest : Option Cell) (piles : List Pile) → AreChests g →
     option_and_then (chest_at g) chest ≡ Some piles → IsChest piles × (is_some chest ≡ true)
 shown_chest g None piles chests is = absurd cc
 shown_chest g (Some cell) piles chests is =
-    (cell_chest g.chests cell.x cell.y cell.z piles chests.chests is, refl)
+    (lies_chest g cell chests piles is, refl)
 
 -- what holds of the window of a chest that is shown holds of the window that is seen
 seen_window : (P : ChestWindow → Type 0) (pack : PackValue) (chest : Option (List Pile))

@@ -39,7 +39,7 @@ use Rattle.mc_model.proofs.Lasting.{Since}
 use Rattle.mc_model.proofs.LastingKept.{holding_steady, since_mapped, steady_at}
 use Rattle.mc_model.proofs.Maps.Entities.{same_eid}
 use Rattle.mc_laws.proofs.Deeds.Goods.{repack_good}
-use Rattle.mc_laws.proofs.Deeds.Leaving.{Leaves, bare, fold_same, leaves_so}
+use Rattle.mc_laws.proofs.Deeds.Leaving.{Leaves, bare, fold_keeps, leaves_so}
 use Rattle.mc_laws.proofs.Deeds.Packs.{named_is_pack}
 use Rattle.mc_laws.proofs.Fits.Counted.{AreNoMore, changed_counts}
 use Rattle.mc_laws.proofs.Fits.Told.{found_fits, holding_told}
@@ -55,21 +55,26 @@ lessened_bare : (eid : ℤ) (pile : Pile) (g : Game) → bare (lessened eid pile
 lessened_bare eid Empty g = refl
 lessened_bare eid (Full item) g = refl
 
-stowed_bare : (p : Player) (g : Game) (x : ℤ × Item) → bare (stowed p x g) ≡ bare g
-stowed_bare p g x = lessened_bare x.0 (stored (pack_of g p) x.1).floor
+stowed_bare : (p : Player) (x : ℤ × Item) (g : Game) → bare (stowed p x g) ≡ bare g
+stowed_bare p x g = lessened_bare x.0 (stored (pack_of g p) x.1).floor
     (repack_of p (stored (pack_of g p) x.1).pack g)
 
+-- what each item that is stowed leaves as it was, all pickups do
+module _ (R : Game → Game → Type 0) (none : (g : Game) → R g g)
+    (on : (g u v : Game) → R g u → R u v → R g v)
+    (each : (p : Player) (x : ℤ × Item) (g : Game) → R g (stowed p x g)) where
+  pub pickups_keep : (g : Game) → R g (pickups g)
+  unfolding pickups
+  pickups_keep g = fold_keeps R none on _ (λ h k. one h (get h.players k)) (pickers g) g
+    where
+      one : (h : Game) (o : Option Player) → R h (of_player h (λ (p : Player). pick_up p h) o)
+      one h None = none h
+      one h (Some p) = fold_keeps R none on (λ (v : Game) (x : ℤ × Item). stowed p x v)
+          (λ v x. each p x v) (ripe_for p h) h
+
 pub pickups_leave : (g : Game) → Leaves g (pickups g)
-unfolding pickups
-pickups_leave g = leaves_so g _ (fold_same bare
-    (λ (h : Game) (k : ℕ). of_player h (λ (p : Player). pick_up p h) (get h.players k))
-    (λ h k. one h (get h.players k)) (pickers g) g)
-  where
-    one : (h : Game) (o : Option Player) →
-        bare (of_player h (λ (p : Player). pick_up p h) o) ≡ bare h
-    one h None = refl
-    one h (Some p) = fold_same bare (λ (v : Game) (x : ℤ × Item). stowed p x v) (stowed_bare p)
-        (ripe_for p h) h
+pickups_leave g = leaves_so g _ (pickups_keep (λ h v. bare v ≡ bare h) (λ h. refl)
+    (λ h u v a b. b ∙ a) stowed_bare g)
 
 -- ---- what it keeps of a good game
 
@@ -214,7 +219,7 @@ module _ (k : ℕ) (p : Player) where
       first.others m item (λ same. absurd (omega (arith, ints, is, more, same)))) a.1.1 in
       picked_on g (stowed p x g) _ first.picked
       (all_stowed xs x.0 (stowed p x g)
-      (ap (λ (v : Game). get v.players k) (stowed_bare p g x) ∙ there)
+      (ap (λ (v : Game). get v.players k) (stowed_bare p x g) ∙ there)
       left first.picked.good first.picked.told)
 
 -- ---- what is ripe lies there

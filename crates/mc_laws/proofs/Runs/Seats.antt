@@ -29,12 +29,11 @@ use Rattle.mc_laws.proofs.Deeds.Chests.{GoodGame, same_chests}
 use Rattle.mc_laws.proofs.Deeds.Coming.{enter_good}
 use Rattle.mc_laws.proofs.Deeds.Leaving.{leave_chests, leave_good, leave_more, leave_other}
 use Rattle.mc_laws.proofs.Deeds.Leaving.{leave_same, leave_stays, leave_told}
-use Rattle.mc_laws.proofs.Acts.ActOn.{act_good, act_on}
+use Rattle.mc_laws.proofs.Acts.ActOn.{act_good, act_on, act_shown}
 use Rattle.mc_laws.proofs.Fits.Acts.{act_tells, enter_tells}
 use Rattle.mc_laws.proofs.Fits.Sound.{welcome_of}
 use Rattle.mc_laws.proofs.Walk.Handings.{gone_closed, hand_cases, heard_stage, not_in_play}
 use Rattle.mc_laws.proofs.Walk.Moves.{Kept, keeps, does, shakes, answers, closes, comes_in}
-use Rattle.mc_laws.proofs.Windows.Acts.{act_shown}
 use Rattle.mc_laws.proofs.Windows.Games.{enter_shown, leave_shown}
 
 -- what of a game one connection leaves as it was: the players of others, and what all rests on

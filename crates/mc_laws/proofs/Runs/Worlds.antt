@@ -237,10 +237,8 @@ moves_good w o (takes k n l there is) a =
     subst (λ (x : Outcome). GoodWorld x.world) (sym is)
     (sits_good w k l (take_from n (seat_of w k l)) there
     (taken_seat k w.game n (seat_of w k l) (first_seat w k l there a)) a)
-moves_good w o (joins k new is) a =
-    subst (λ (x : Outcome). GoodWorld x.world) (sym is) (joins_good w k new a)
-moves_good w o (forgets k l there done is) a =
-    subst (λ (x : Outcome). GoodWorld x.world) (sym is) (forgets_good w k l there done a)
+moves_good w o (joins k new is) a = rw is (joins_good w k new a)
+moves_good w o (forgets k l there done is) a = rw is (forgets_good w k l there done a)
 moves_good w o (passes is) a = subst (λ (x : Outcome). GoodWorld x.world) (sym is)
     (flushed_world (at_tick w) (at_tick_world w a))
 

@@ -64,18 +64,15 @@ left_later before k stage g a = step_at (is_closed stage)
 -- ---- what bytes do
 
 later_kept : (k : ℕ) (before : Game) → Kept k (λ s ps. Later before s.game)
-later_kept k before s t ps (keeps unread is) a =
-    subst (λ (x : Turn). Later before x.seat.game) (sym is) a
+later_kept k before s t ps (keeps unread is) a = rw is a
 later_kept k before s t ps (does packet g at did is) a =
     let on = act_on k packet s.game g did in
     subst (λ (x : Turn). Later before x.seat.game) (sym is) (record {
       since = λ old since. on.since old (a.since old since);
       settings = on.settings ∙ a.settings;
     })
-later_kept k before s t ps (shakes protocol stage at play closed is) a =
-    subst (λ (x : Turn). Later before x.seat.game) (sym is) a
-later_kept k before s t ps (answers packet at is) a =
-    subst (λ (x : Turn). Later before x.seat.game) (sym is) (left_later before k _ s.game a)
+later_kept k before s t ps (shakes protocol stage at play closed is) a = rw is a
+later_kept k before s t ps (answers packet at is) a = rw is (left_later before k _ s.game a)
 later_kept k before s t ps (closes cause packets open_ last other is) a =
     subst (λ (x : Turn). Later before x.seat.game) (sym is) (left_later before k _ s.game a)
 later_kept k before s t ps (comes_in name at free is) a =
@@ -129,20 +126,16 @@ flushed_later w = each_later (at_tick w).game
 
 moves_later : (w : World) (o : Outcome) → Move w o → GoodWorld w →
     Later w.game o.world.game
-moves_later w o (rests is) good =
-    subst (λ (x : Outcome). Later w.game x.world.game) (sym is) (later_same w.game)
+moves_later w o (rests is) good = rw is (later_same w.game)
 moves_later w o (sits k l t there walked is) good =
     subst (λ (x : Outcome). Later w.game x.world.game) (sym is)
     (walked_later w k l t walked)
 moves_later w o (departs k l cause there wordless is) good =
     subst (λ (x : Outcome). Later w.game x.world.game) (sym is)
     (left_later w.game k (gone cause l).stage w.game (later_same w.game))
-moves_later w o (takes k n l there is) good =
-    subst (λ (x : Outcome). Later w.game x.world.game) (sym is) (later_same w.game)
-moves_later w o (joins k new is) good =
-    subst (λ (x : Outcome). Later w.game x.world.game) (sym is) (later_same w.game)
-moves_later w o (forgets k l there done is) good =
-    subst (λ (x : Outcome). Later w.game x.world.game) (sym is) (later_same w.game)
+moves_later w o (takes k n l there is) good = rw is (later_same w.game)
+moves_later w o (joins k new is) good = rw is (later_same w.game)
+moves_later w o (forgets k l there done is) good = rw is (later_same w.game)
 moves_later w o (passes is) good =
     let a = at_tick_later w good in
     subst (λ (x : Outcome). Later w.game x.world.game) (sym is)

@@ -22,12 +22,9 @@ module _ (G T H : Type 0) (id damage k : ℕ) where
       (ap (in_entities (sort_of id damage)) rest.entities)
   deed_weighs g v (repacks j p pack there is same) w =
       subst (Weighs id damage _ _ g) (sym same) (repack_weighs id damage j p pack g w there)
-  deed_weighs g v (rehands p hand there small same) w =
-      subst (Weighs id damage 0 0 g) (sym same) (rehand_weighs id damage k p hand g)
-  deed_weighs g v (stands p spot there fits same) w =
-      subst (Weighs id damage 0 0 g) (sym same) (stand_weighs id damage p spot g)
-  deed_weighs g v (throws item spot can same) w =
-      subst (Weighs id damage 0 _ g) (sym same) (thrown_weighs id damage item spot g)
+  deed_weighs g v (rehands p hand there small same) w = rw same (rehand_weighs id damage k p hand g)
+  deed_weighs g v (stands p spot there fits same) w = rw same (stand_weighs id damage p spot g)
+  deed_weighs g v (throws item spot can same) w = rw same (thrown_weighs id damage item spot g)
   deed_weighs g v (sets cell state inside is same) w =
       subst (Weighs id damage _ _ g) (sym same) (state_weighs id damage cell state g inside)
   deed_weighs g v (restocks cell piles there are same) w = subst (Weighs id damage _ _ g)
@@ -39,8 +36,7 @@ module _ (G T H : Type 0) (id damage k : ℕ) where
   deeds_weigh : (g : Game) (us : List Game) (v : Game) (are : AreDeeds G T H k g us v) → G →
       Good g → Weighs id damage (all_spent G T H k id damage g us v are)
       (all_gained G T H k id damage g us v are) g v
-  deeds_weigh g [] v are given w =
-      subst (Weighs id damage 0 0 g) (sym are) (still_weighs id damage g)
+  deeds_weigh g [] v are given w = rw are (still_weighs id damage g)
   deeds_weigh g (u ∷ us) v are given w = weighs_on id damage _ _ _ _ g u v
       (deed_weighs g u are.0 w)
       (deeds_weigh u us v are.1 given (deed_good G T H k g u are.0 given w))
@@ -55,4 +51,4 @@ module _ (G T H : Type 0) (id damage k : ℕ) where
 pub act_even : (id damage : ℕ) → 1 ≤ id → damage ≤ 15 → (k : ℕ) (packet : PlayUp) (g v : Game) →
     GoodGame g → act g k packet ≡ Some v → Weighs id damage 0 0 g v
 act_even id damage some low k packet g v w e =
-    made_weighs _ _ _ id damage k g v (act_made k packet g v e) w some low w.0
+    made_weighs _ _ _ id damage k g v (act_made k packet g v e).made w some low w.0

@@ -71,14 +71,12 @@ record EvenSeat (k : ℕ) (before : Game) (s : Seat) : Type 0 where
 
 even_after : (k : ℕ) (before : Game) (s : Seat) (t : Turn) (ps : List Sent) → OutMove k s t →
     EvenSeat k before s → Balance t.seat.game
-even_after k before s t ps (keeps unread is) a =
-    subst (λ (x : Turn). Balance x.seat.game) (sym is) a.even
+even_after k before s t ps (keeps unread is) a = rw is a.even
 even_after k before s t ps (does packet g at did is) a =
     subst (λ (x : Turn). Balance x.seat.game) (sym is)
     (balance_on s.game g (λ id damage some few low.
     act_even id damage some low k packet s.game g (a.seat.game, a.seat.chests) did) a.even)
-even_after k before s t ps (shakes protocol stage at play closed is) a =
-    subst (λ (x : Turn). Balance x.seat.game) (sym is) a.even
+even_after k before s t ps (shakes protocol stage at play closed is) a = rw is a.even
 even_after k before s t ps (answers packet at is) a =
     subst (λ (x : Turn). Balance x.seat.game) (sym is)
     (left_balance k (hand s.link (of_status packet ∷ [])).link.stage s.game a.seat.game a.even)
@@ -121,12 +119,9 @@ moves_balance w o (sits k l t there walked is) a even =
 moves_balance w o (departs k l cause there wordless is) a even =
     subst (λ (x : Outcome). Balance x.world.game) (sym is)
     (left_balance k (gone cause l).stage w.game a.game even)
-moves_balance w o (takes k n l there is) a even =
-    subst (λ (x : Outcome). Balance x.world.game) (sym is) even
-moves_balance w o (joins k new is) a even =
-    subst (λ (x : Outcome). Balance x.world.game) (sym is) even
-moves_balance w o (forgets k l there done is) a even =
-    subst (λ (x : Outcome). Balance x.world.game) (sym is) even
+moves_balance w o (takes k n l there is) a even = rw is even
+moves_balance w o (joins k new is) a even = rw is even
+moves_balance w o (forgets k l there done is) a even = rw is even
 moves_balance w o (passes is) a even = subst (λ (x : Outcome). Balance x.world.game) (sym is)
     (each_balance _ (shown_all (at_tick w)) (told_good (at_tick w).game (at_tick_world w a).game)
     (picking_balance (beats (aged w)) (beats_world w a)

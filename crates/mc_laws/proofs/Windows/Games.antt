@@ -1,28 +1,28 @@
 -- All in play are shown chests as they should be once players entered and left, and after a tick.
-use Rattle.std.proofs.Common.{◌≡◌, ◌≢◌, ℕ, List, [], ◌∷◌, Option, Some, None, refl, sym, ap, ◌∙◌}
-use Rattle.std.proofs.Common.{inl, arith}
-use Rattle.std.specs.Prelude.{option_map, unwrap_or}
-use Rattle.std.specs.List.{fold}
+use Rattle.std.proofs.Common.{◌≡◌, ◌≢◌, ℕ, List, [], ◌∷◌, Some, None, refl, sym, ap, ◌∙◌}
+use Rattle.std.proofs.Common.{arith}
+use Rattle.std.specs.Prelude.{option_map}
+use Rattle.std.proofs.lemmas.Bool.Decides.{nat_tests}
 use Rattle.std.specs.FinMap.{get, get-empty}
 use lib.IntN.{ℤ}
 use Rattle.mc_slots.specs.declared.pile.Item.{Item}
 use Rattle.mc_slots.specs.declared.pile.Pile.{Pile}
 use Rattle.mc_slots.specs.declared.pile.Pile.TheVariants.{Empty, Full}
-use Rattle.mc_windows.specs.Pack.{PackValue, kit_pack}
 use Rattle.mc_windows.specs.Storing.{stored}
 use Rattle.mc_model.specs.declared.player.Player.{Player}
 use Rattle.mc_model.specs.declared.settings.Settings.{Settings}
 use Rattle.mc_model.specs.Names.{offline_uuid}
-use Rattle.mc_model.specs.Game.{Game, new_game, of_player, pack_named, pack_of}
+use Rattle.mc_model.specs.Game.{Game, new_game, pack_named, pack_of}
 use Rattle.mc_model.specs.Deeds.{enter_as, lessened, repack_of}
 use Rattle.mc_model.specs.Leaving.{leave, leave_all}
-use Rattle.mc_model.specs.Pickups.{pick_up, pickers, pickups, ripe_for, stowed}
+use Rattle.mc_model.specs.Pickups.{pickups, stowed}
 use Rattle.mc_model.specs.Tick.{grown, told, told_player}
 use Rattle.mc_model.specs.Good.{AreShown, Good}
 use Rattle.mc_model.proofs.Maps.Options.{none_some, some_is}
 use Rattle.mc_model.proofs.Maps.Lookups.{get_keyed, name_put_other, name_put_same, put_other}
 use Rattle.mc_model.proofs.Maps.Lookups.{put_same}
-use Rattle.mc_laws.proofs.Windows.Watching.{Watch, renamed, right_as}
+use Rattle.mc_laws.proofs.Pickups.Picking.{pickups_keep}
+use Rattle.mc_laws.proofs.Windows.Watching.{Watch, renamed}
 use Rattle.mc_laws.proofs.Windows.Same.{SameWindows, ShownBut, nobody, number_of, repacked_same}
 use Rattle.mc_laws.proofs.Windows.Same.{right_shown, same_on, same_parts, same_right, shown_right}
 use Rattle.mc_laws.proofs.Windows.Same.{unmapped, watch_of, who_in, window_in}
@@ -35,47 +35,28 @@ use Rattle.mc_laws.proofs.Windows.Closing.{leave_all_right}
 same_shown : (g v : Game) → SameWindows g v → Good g → AreShown g → AreShown v
 same_shown g v same w s = right_shown v (same_right nobody g v same (shown_right g w s))
 
--- what each step of a fold leaves alone, all do
-folded_same : {A : Type 0} (f : Game → A → Game) → ((g : Game) (x : A) → SameWindows g (f g x)) →
-    (xs : List A) (g : Game) → SameWindows g (fold f g xs)
-folded_same f each [] g = same_parts refl refl refl
-folded_same f each (x ∷ xs) g = same_on {u = f g x} (each g x) (folded_same f each xs (f g x))
-
 lessened_same : (eid : ℤ) (pile : Pile) (g : Game) → SameWindows g (lessened eid pile g)
 lessened_same eid Empty g = same_parts refl refl refl
 lessened_same eid (Full item) g = same_parts refl refl refl
 
-stowed_same : (p : Player) (g : Game) (x : ℤ × Item) → SameWindows g (stowed p x g)
-stowed_same p g x =
+stowed_same : (p : Player) (x : ℤ × Item) (g : Game) → SameWindows g (stowed p x g)
+stowed_same p x g =
     let end = stored (pack_of g p) x.1 in
     same_on {u = repack_of p end.pack g}
     (repacked_same p end.pack g (stored_window (pack_of g p) x.1))
     (lessened_same x.0 end.floor (repack_of p end.pack g))
 
 pickups_same : (g : Game) → SameWindows g (pickups g)
-unfolding pickups
-pickups_same g = folded_same
-    (λ (h : Game) (k : ℕ). of_player h (λ (p : Player). pick_up p h) (get h.players k))
-    (λ h k. one h (get h.players k)) (pickers g) g
-  where
-    one : (h : Game) (o : Option Player) →
-        SameWindows h (of_player h (λ (p : Player). pick_up p h) o)
-    one h None = same_parts refl refl refl
-    one h (Some p) = folded_same (λ (v : Game) (x : ℤ × Item). stowed p x v) (stowed_same p)
-        (ripe_for p h) h
+pickups_same = pickups_keep SameWindows (λ g. same_parts refl refl refl)
+    (λ g u v a b. same_on {u = u} a b) stowed_same
 
 told_same : (g : Game) → SameWindows g (told g)
 told_same g = record {
-  who = λ k. ap (option_map watch_of)
-      (get_keyed (λ (j : ℕ) (p : Player). told_player p) g.players k) ∙ mapped (get g.players k);
+  who = λ k.
+      grind (arith, nat_tests, get_keyed (λ (j : ℕ) (p : Player). told_player p) g.players k);
   windows = λ name. refl;
   stands = λ cell is. is;
 }
-  where
-    mapped : (o : Option Player) →
-        option_map watch_of (option_map told_player o) ≡ option_map watch_of o
-    mapped None = refl
-    mapped (Some p) = refl
 
 pub grown_shown : (g : Game) → AreShown g → AreShown (grown g)
 grown_shown g s = record {
@@ -103,19 +84,19 @@ leave_shown k g = leave_all_shown (k ∷ []) g
 pub enter_shown : (k : ℕ) (name : List ℕ) (g : Game) → Good g →
     ((j : ℕ) (q : Player) → get g.players j ≡ Some q → q.uuid ≢ offline_uuid name) →
     get g.players k ≡ None → AreShown g → AreShown (enter_as k name g)
-enter_shown k name g w free none s = right_shown (enter_as k name g) (renamed k name 0
+enter_shown k name g w free none s = right_shown (enter_as k name g) (renamed k name None 0
     (record {
       was = λ a is. absurd (none_some _ a (ap (option_map watch_of) none) is);
-      is = λ a is. ap (λ (x : Watch). x.name) (some_is a _ (sym is ∙ here));
+      is = λ a is. some_is a _ (sym is ∙ here);
       others = λ j ne. ap (option_map watch_of) (put_other g.players k j _ ne);
       alone = λ j a ne is. new j a is;
       window = window;
       rest = λ other ne. ap (option_map number_of)
           (name_put_other g.packs name other (pack_named g name) ne);
-    })
-    r (omega arith) (λ gone. refl)
-    (λ a is. inl (right_as (who_in came k) _ 0 here window refl (λ cell some. absurd cc) a is))
-    (λ j ne out. out))
+      number = refl;
+      low = omega arith;
+      gone = λ none. refl;
+    }) r (λ cell some. absurd cc) (λ j ne out. out))
   where
     r : ShownBut nobody g
     r = shown_right g w s
@@ -133,13 +114,9 @@ enter_shown k name g w free none s = right_shown (enter_as k name g) (renamed k 
         ∙ ap offline_uuid (ap (λ (x : Watch). x.name) p.is ∙ same))
 
     -- the window of a name that is not in play, or of the kit
-    unshown : (o : Option PackValue) → get g.packs name ≡ o → (unwrap_or o kit_pack).window ≡ 0
-    unshown None is = refl
-    unshown (Some pack) is = r.kept name pack.window (ap (option_map number_of) is) new
-
     window : window_in came name ≡ Some 0
-    window = ap (option_map number_of) (name_put_same g.packs name (pack_named g name))
-        ∙ ap (λ (n : ℕ). Some n) (unshown (get g.packs name) refl)
+    window = (let kept = λ (n : ℕ) (is : window_in g name ≡ Some n). r.kept name n is new in
+        grind (arith, nat_tests, name_put_same, kept))
 
 -- ---- the first game
 

@@ -1,7 +1,7 @@
 -- What most deeds leave alone of windows: who is shown which chest, and the numbers of windows.
-use Rattle.std.proofs.Common.{◌≡◌, ℕ, ◌≤◌, Bool, true, List, Option, Some}
+use Rattle.std.proofs.Common.{◌≡◌, ℕ, Bool, true, List, Option, Some}
 use Rattle.std.proofs.Common.{None, refl, sym, subst, ap, ◌∙◌, inl, inr, arith}
-use Rattle.std.specs.Prelude.{◌==◌, not, is_some, option_map, unwrap_or}
+use Rattle.std.specs.Prelude.{is_some, option_map}
 use Rattle.std.proofs.lemmas.Bool.{cases_eq}
 use Rattle.std.proofs.lemmas.Bool.Decides.{nat_tests}
 use Rattle.std.specs.FinMap.{FinMap, get, get-insert}
@@ -11,7 +11,7 @@ use Rattle.mc_slots.specs.declared.pile.Pile.{Pile}
 use Rattle.mc_slots.specs.declared.pile.Pile.TheVariants.{Empty, Full}
 use Rattle.mc_land.specs.Places.{key_cmp, key_of}
 use Rattle.mc_land.proofs.Orders.{keys_total}
-use Rattle.mc_windows.specs.Pack.{PackValue, kit_pack}
+use Rattle.mc_windows.specs.Pack.{PackValue}
 use Rattle.mc_model.specs.declared.notes.Notes.{Notes}
 use Rattle.mc_model.specs.declared.player.Player.{Player}
 use Rattle.mc_model.specs.Things.{chest_of_cell, chest_put}
@@ -61,12 +61,6 @@ pub unmapped : {X Y : Type 0} (f : X → Y) (o : Option X) (y : Y) → option_ma
 unmapped f None y e = absurd cc
 unmapped f (Some x) y e = record { value = x; found = refl; is = some_is (f x) y e }
 
--- the number of the window of a name's pack, or of the kit
-numbered : (o : Option PackValue) →
-    unwrap_or (option_map number_of o) 0 ≡ (unwrap_or o kit_pack).window
-numbered None = refl
-numbered (Some pack) = refl
-
 pub shown_right : (g : Game) → Good g → AreShown g → ShownBut nobody g
 shown_right g w s = record {
   apart = λ j k a b is too ne same.
@@ -84,13 +78,10 @@ shown_right g w s = record {
       let p = unmapped watch_of (get g.players k) a is in
       let shown = s.shown k p.value p.found in
       inl (subst (IsRight (window_in g) (stands_in g)) p.is (record {
-        number = shown.number ∙ ap (λ (n : ℕ). not (n == 0))
-            (sym (numbered (get g.packs p.value.name)));
+        number = grind (arith, nat_tests, shown.number);
         there = shown.stands;
       }));
-  numbers = λ name n is.
-      let pack = unmapped number_of (get g.packs name) n is in
-      subst (λ (m : ℕ). m ≤ 100) pack.is (s.numbers name pack.value pack.found);
+  numbers = λ name n is. grind (arith, nat_tests, is, s.numbers name);
   kept = λ name n is none.
       let pack = unmapped number_of (get g.packs name) n is in
       sym pack.is ∙ s.kept name pack.value pack.found
@@ -101,7 +92,7 @@ pub right_shown : (g : Game) → ShownBut nobody g → AreShown g
 right_shown g r = record {
   shown = λ k p there. elim (r.right k (watch_of p) (ap (option_map watch_of) there)) [
     | inl right ↦ record {
-      number = right.number ∙ ap (λ (n : ℕ). not (n == 0)) (numbered (get g.packs p.name));
+      number = grind (arith, nat_tests, right.number);
       stands = right.there;
     }
     | inr none ↦ absurd none
@@ -152,18 +143,10 @@ same_on a b = record {
 pub touched_same : (k : ℕ) (f : Player → Player) → ((p : Player) → watch_of (f p) ≡ watch_of p) →
     (g : Game) → SameWindows g (with_player k f g)
 touched_same k f like g = record {
-  who = λ j. elim (cases_eq j k) [
-    | inl same ↦ rw same (ap (option_map watch_of) (changed_same g.players k f)
-        ∙ mapped (get g.players k))
-    | inr ne ↦ ap (option_map watch_of) (changed_other g.players k j f ne)
-  ];
+  who = λ j. grind (arith, nat_tests, cases_eq j k, changed_same, changed_other, like);
   windows = λ name. refl;
   stands = λ cell is. is;
 }
-  where
-    mapped : (o : Option Player) → option_map watch_of (option_map f o) ≡ option_map watch_of o
-    mapped None = refl
-    mapped (Some p) = ap (λ (a : Watch). Some a) (like p)
 
 pub noted_same : (k : ℕ) (f : Notes → Notes) (g : Game) → SameWindows g (noting f k g)
 noted_same k f g = touched_same k (λ (p : Player). record p { notes = f p.notes }) (λ p. refl) g
@@ -173,20 +156,16 @@ pub repacked_same : (p : Player) (pack : PackValue) (g : Game) →
     pack.window ≡ (pack_of g p).window → SameWindows g (repack_of p pack g)
 repacked_same p pack g same = record {
   who = λ k. refl;
-  windows = λ name. elim (name_cases name p.name) [
-    | inl at ↦ rw at (ap (option_map number_of)
-        (name_changed_same g.packs p.name (λ (old : PackValue). pack))
-        ∙ mapped (get g.packs p.name) same)
-    | inr ne ↦ ap (option_map number_of)
-        (name_changed_other g.packs p.name name (λ (old : PackValue). pack) ne)
-  ];
+  windows = λ name. grind (
+    arith,
+    nat_tests,
+    name_cases name p.name,
+    name_changed_same,
+    name_changed_other,
+    same,
+  );
   stands = λ cell is. is;
 }
-  where
-    mapped : (o : Option PackValue) → pack.window ≡ (unwrap_or o kit_pack).window →
-        option_map number_of (option_map (λ (old : PackValue). pack) o) ≡ option_map number_of o
-    mapped None e = refl
-    mapped (Some old) e = ap (λ (n : ℕ). Some n) e
 
 -- something falls, or nothing
 pub fallen_same : (p : Player) (pile : Pile) (g : Game) → SameWindows g (let_fall p pile g)

@@ -1,15 +1,16 @@
 -- A cell is dug or placed: where a chest is dug, the windows of its viewers close.
-use Rattle.std.proofs.Common.{◌≡◌, ℕ, ◌<◌, Bool, true, false, cond, List, [], ◌∷◌}
-use Rattle.std.proofs.Common.{Option, Some, None, T, refl, sym, subst, ap, ◌∙◌, inl, inr, arith}
-use Rattle.std.specs.Prelude.{◌⊎◌, is_some, option_map, unsigned_abs}
+use Rattle.std.proofs.Common.{◌≡◌, ℕ, ◌<◌, Bool, true, false, List, [], ◌∷◌}
+use Rattle.std.proofs.Common.{Option, Some, None, T, refl, sym, ap, ◌∙◌, inl, inr, arith}
+use Rattle.std.specs.Prelude.{◌⊎◌, is_some, unsigned_abs}
 use Rattle.std.specs.Prelude.{if◌then◌else◌}
 use Rattle.std.proofs.lemmas.Bool.{cases_eq}
 use Rattle.std.proofs.lemmas.Bool.Decides.{Decides-int_eq, nat_tests}
 use Rattle.std.proofs.lemmas.Int.{ints}
 use Rattle.std.specs.List.{filter, filter_map}
-use Rattle.std.specs.Ordering.{int_eq, nat_cmp}
+use Rattle.std.specs.Ordering.{nat_cmp}
 use Rattle.std.specs.Cmp.{nat_cmp_total}
 use Rattle.std.specs.FinMap.{entries, entries_sorted, find, get, get-entries, is_sorted}
+use Rattle.std.specs.FinMap.Entries.{below_all}
 use lib.IntN.{ℤ, pos, negsuc, ◌+ℤ◌, ◌*ℤ◌}
 use Rattle.mc_fields.specs.declared.position.Cell.{Cell}
 use Rattle.mc_fields.specs.declared.position.Spot.{Spot}
@@ -29,7 +30,6 @@ use Rattle.mc_model.specs.Pickups.{pickers, playing_as}
 use Rattle.mc_model.specs.Reach.{is_in_world}
 use Rattle.mc_model.specs.Windows.{is_cell, is_of, viewers, views}
 use Rattle.mc_model.specs.Good.{Good}
-use Rattle.mc_model.proofs.Maps.Options.{some_is}
 use Rattle.mc_model.proofs.Maps.Lookups.{tied_number}
 use Rattle.mc_model.proofs.Maps.Sorted.{equal, find_again, second}
 use Rattle.mc_laws.proofs.Deeds.Chests.{chest_set}
@@ -42,25 +42,12 @@ use Rattle.mc_laws.proofs.Windows.Closing.{IsAmong, shut_all_right}
 -- ---- cells of one key are one
 
 -- a number is 16 times its column and what is inside it
-parts : (v : ℤ) → column_number v *ℤ pos 16 +ℤ pos (inside v) ≡ v
-parts (pos n) = omega (arith, ints)
-parts (negsuc n) = omega (arith, ints)
-
-inside_below : (v : ℤ) → inside v < 16
-inside_below (pos n) = omega arith
-inside_below (negsuc n) = omega arith
+parts : (v : ℤ) → (column_number v *ℤ pos 16 +ℤ pos (inside v) ≡ v) × (inside v < 16)
+parts (pos n) = (omega (arith, ints), omega arith)
+parts (negsuc n) = (omega (arith, ints), omega arith)
 
 keys_tell : (x z a c : ℤ) (y b : ℕ) → key_of x y z ≡ key_of a b c → (x ≡ a) × (y ≡ b) × (z ≡ c)
-keys_tell x z a c y b e = grind (
-  arith,
-  nat_tests,
-  ints,
-  parts,
-  inside_below x,
-  inside_below z,
-  inside_below a,
-  inside_below c,
-)
+keys_tell x z a c y b e = grind (arith, nat_tests, ints, parts x, parts z, parts a, parts c)
 
 -- ---- a cell is set
 
@@ -94,11 +81,8 @@ pub placed_same : (cell : Cell) (state : ℕ) (g : Game) → is_in_world cell �
 placed_same cell state g inside none = record {
   who = λ k. refl;
   windows = λ name. refl;
-  stands = λ q is. elim (set_stands cell state g q inside is) [
-    | inl still ↦ still
-    | inr same ↦ (let clash : true ≡ false = sym is ∙ sym (same_stands cell q g same) ∙ none in
-        absurd cc)
-  ];
+  stands = λ q is.
+      grind (arith, nat_tests, set_stands cell state g q inside is, same_stands cell q g, none);
 }
 
 -- ---- all viewers
@@ -108,21 +92,15 @@ found_playing : (k : ℕ) (p : Player) (es : List (ℕ × Player)) → T (is_sor
     ((j : ℕ) (q : Player) → find nat_cmp j es ≡ Some q → q.eid ≡ p.eid → j ≡ k) →
     find nat_cmp k es ≡ Some p → playing_as (pos p.eid) es ≡ Some k
 found_playing k p [] sorted alone found = absurd cc
-found_playing k p (e ∷ es) sorted alone found = step (int_eq (pos e.1.eid) (pos p.eid)) refl
-    (found_playing k p es (second _ _ sorted) (λ j q is. alone j q (later j q is)))
+found_playing k p (e ∷ es) sorted alone found =
+    let rest = found_playing k p es
+    (second (below_all nat_cmp e.0 es) (is_sorted nat_cmp es) sorted)
+    (λ j q is. alone j q (later j q is)) in
+    let first = alone e.0 e.1 in
+    grind (arith, nat_tests, Decides-int_eq, tied_number e.0, first, rest)
   where
-    here : find nat_cmp e.0 (e ∷ es) ≡ Some e.1
-    here = ap (λ (b : Bool). cond b (Some e.1) (find nat_cmp e.0 es)) (tied_number e.0)
-
     later : (j : ℕ) (q : Player) → find nat_cmp j es ≡ Some q → find nat_cmp j (e ∷ es) ≡ Some q
     later j q is = grind (arith, nat_tests, find_again nat_cmp_total j e es sorted)
-
-    step : (b : Bool) → int_eq (pos e.1.eid) (pos p.eid) ≡ b →
-        (find nat_cmp k es ≡ Some p → playing_as (pos p.eid) es ≡ Some k) →
-        option_map (λ (x : ℕ × Player). x.0) (if b then Some e
-        else numbered (λ (x : ℕ × Player). pos x.1.eid) (pos p.eid) es) ≡ Some k
-    step true t rest = ap (λ (n : ℕ). Some n) (alone e.0 e.1 here (grind (arith, nat_tests)))
-    step false t rest = rest (grind (arith, nat_tests))
 
 -- what is made of one of a number is among what is made of all
 among_made : (f : Entity → Option ℕ) (n : ℤ) (es : List Entity) (e : Entity) (k : ℕ) →
@@ -148,10 +126,8 @@ is_picker g k p w there =
     (sym (get-entries g.players k) ∙ there))
   where
     one_number : (j : ℕ) (q : Player) → get g.players j ≡ Some q → q.eid ≡ p.eid → j ≡ k
-    one_number j q is same = elim (cases_eq j k) [
-      | inl at ↦ at
-      | inr ne ↦ absurd ((w.apart j k q p is there ne).eid same)
-    ]
+    one_number j q is same =
+        grind (arith, nat_tests, cases_eq j k, w.apart j k q p is there, same)
 
 is_viewer : (g : Game) (cell : Cell) (k : ℕ) (p : Player) → Good g → get g.players k ≡ Some p →
     is_of cell p.chest ≡ true → IsAmong (viewers cell g) k
@@ -168,31 +144,23 @@ thrown_same (item ∷ items) spot g = same_on {u = thrown item spot g} (same_par
 -- all but its viewers are shown chests as they should be
 aired_right : (cell : Cell) (g : Game) → is_in_world cell ≡ true → Good g → ShownBut nobody g →
     ShownBut (IsAmong (viewers cell g)) (with_state cell 0 g)
-aired_right cell g inside w r = restood (λ k a is right. each k a is right) r
+aired_right cell g inside w r = restood each r
   where
-    stands_on : (k : ℕ) (a : Watch) (p : Player) → get g.players k ≡ Some p → watch_of p ≡ a →
-        (c : Option Cell) → a.chest ≡ c → IsRight (window_in g) (stands_in g) a →
-        IsRight (window_in g) (stands_in (with_state cell 0 g)) a ⊎ IsAmong (viewers cell g) k
-    stands_on k a p there is None at right =
-        inl (record { number = right.number; there = λ q some. absurd cc })
-    stands_on k a p there is (Some q) at right =
-        elim (set_stands cell 0 g q inside (right.there q at)) [
-          | inl still ↦ inl (record {
-            number = right.number;
-            there = λ other some. subst
-                (λ (x : Cell). stands_in (with_state cell 0 g) x ≡ true)
-                (some_is q other (sym at ∙ some)) still;
-          })
-          | inr same ↦ inr (is_viewer g cell k p w there
-              (ap (is_of cell) (ap (λ (x : Watch). x.chest) is ∙ at) ∙ same))
-        ]
-
     each : (k : ℕ) (a : Watch) → who_in g k ≡ Some a →
         IsRight (window_in g) (stands_in g) a ⊎ nobody k →
         IsRight (window_in g) (stands_in (with_state cell 0 g)) a ⊎ IsAmong (viewers cell g) k
-    each k a is (inl right) = (let p = unmapped watch_of (get g.players k) a is in
-        stands_on k a p.value p.found p.is a.chest refl right)
     each k a is (inr none) = absurd none
+    each k a is (inl right) = elim (is_of cell a.chest) as (λ b. is_of cell a.chest ≡ b →
+        IsRight (window_in g) (stands_in (with_state cell 0 g)) a ⊎ IsAmong (viewers cell g) k) [
+          | true ↦ λ t. (let p = unmapped watch_of (get g.players k) a is in
+              inr (is_viewer g cell k p.value w p.found
+              (ap (λ (x : Watch). is_of cell x.chest) p.is ∙ t)))
+          | false ↦ λ t. inl (record {
+            number = right.number;
+            there = λ q at. (let still = set_stands cell 0 g q inside (right.there q at) in
+                grind (arith, nat_tests, still, at, t));
+          })
+        ] refl
 
 pub dug_right : (cell : Cell) (g : Game) → is_in_world cell ≡ true → Good g →
     ShownBut nobody g → ShownBut nobody (dug cell g)

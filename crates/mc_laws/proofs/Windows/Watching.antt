@@ -1,12 +1,12 @@
 -- What the law of windows reads of a game: which chest each player is shown, which number the
 -- window of each name has, and where chests stand. It holds where what is read of one name changes.
-use Rattle.std.proofs.Common.{◌≡◌, ◌≢◌, ℕ, ◌≤◌, Bool, true, List, Option, Some, None, refl, sym}
-use Rattle.std.proofs.Common.{subst, ap, ◌∙◌, inl, inr}
+use Rattle.std.proofs.Common.{◌≡◌, ◌≢◌, ℕ, ◌≤◌, Bool, true, List, Option, Some, None, sym}
+use Rattle.std.proofs.Common.{subst, ap, ◌∙◌, inl, inr, arith}
 use Rattle.std.specs.Prelude.{◌⊎◌, ◌==◌, not, is_some, unwrap_or}
 use Rattle.std.proofs.lemmas.Bool.{cases_eq}
+use Rattle.std.proofs.lemmas.Bool.Decides.{nat_tests}
 use Rattle.mc_fields.specs.declared.position.Cell.{Cell}
 use Rattle.mc_windows.specs.declared.pack.TheConstants.{LAST_WINDOW}
-use Rattle.mc_model.proofs.Maps.Options.{some_is}
 use Rattle.mc_model.proofs.Maps.Lookups.{name_cases}
 
 -- a player's name, and the chest that it is shown
@@ -29,17 +29,6 @@ pub record AreRight (but : ℕ → Type 0) (who : ℕ → Option Watch) (windows
   pub numbers : (name : List ℕ) (n : ℕ) → windows name ≡ Some n → n ≤ LAST_WINDOW
   pub kept : (name : List ℕ) (n : ℕ) → windows name ≡ Some n →
       ((k : ℕ) (a : Watch) → who k ≡ Some a → a.name ≢ name) → n ≡ 0
-
--- so it is of one whose window has a number
-pub right_as : {windows : List ℕ → Option ℕ} {stands : Cell → Bool} (o : Option Watch) (b : Watch)
-    (n : ℕ) → o ≡ Some b → windows b.name ≡ Some n → is_some b.chest ≡ not (n == 0) →
-    ((cell : Cell) → b.chest ≡ Some cell → stands cell ≡ true) → (a : Watch) → o ≡ Some a →
-    IsRight windows stands a
-right_as {windows} {stands} o b n here window number there a is =
-    subst (IsRight windows stands) (some_is b a (sym here ∙ is)) (record {
-      number = number ∙ ap (λ (w : Option ℕ). not (unwrap_or w 0 == 0)) (sym window);
-      there = there;
-    })
 
 -- where chests stand elsewhere
 pub restood : {but more : ℕ → Type 0} {who : ℕ → Option Watch} {windows : List ℕ → Option ℕ}
@@ -69,82 +58,69 @@ stood {but} {who} {windows} {stands} {later} more r = restood (λ k a is right. 
     })
     grown k a (inr out) = inr out
 
--- what is read of one connection and of one name is another, and of all others it is as it was
-pub record ChangesName (k : ℕ) (name : List ℕ) (n : ℕ) (who now : ℕ → Option Watch)
-    (windows later : List ℕ → Option ℕ) : Type 0 where
+-- What is read of one connection and of one name is another, and of all others it is as it was:
+-- that player is shown a chest, or none, in a window of a number, or it is gone.
+pub record ChangesName (k : ℕ) (name : List ℕ) (chest : Option Cell) (n : ℕ)
+    (who now : ℕ → Option Watch) (windows later : List ℕ → Option ℕ) : Type 0 where
   pub was : (a : Watch) → who k ≡ Some a → a.name ≡ name
-  pub is : (a : Watch) → now k ≡ Some a → a.name ≡ name
+  pub is : (a : Watch) → now k ≡ Some a → a ≡ record { name = name; chest = chest }
   pub others : (j : ℕ) → j ≢ k → now j ≡ who j
   pub alone : (j : ℕ) (a : Watch) → j ≢ k → who j ≡ Some a → a.name ≢ name
   pub window : later name ≡ Some n
   pub rest : (other : List ℕ) → other ≢ name → later other ≡ windows other
+  pub number : is_some chest ≡ not (n == 0)
+  pub low : n ≤ LAST_WINDOW
+  pub gone : now k ≡ None → n ≡ 0
 
 module _ {but : ℕ → Type 0} {who now : ℕ → Option Watch} {windows later : List ℕ → Option ℕ}
-    {stands : Cell → Bool} (k : ℕ) (name : List ℕ) (n : ℕ)
-    (c : ChangesName k name n who now windows later) (r : AreRight but who windows stands) where
+    {stands : Cell → Bool} (k : ℕ) (name : List ℕ) (chest : Option Cell) (n : ℕ)
+    (c : ChangesName k name chest n who now windows later)
+    (r : AreRight but who windows stands) where
   before : (j : ℕ) (a : Watch) → j ≢ k → now j ≡ Some a → who j ≡ Some a
   before j a ne is = sym (c.others j ne) ∙ is
 
   other : (j : ℕ) (a : Watch) → j ≢ k → now j ≡ Some a → a.name ≢ name
   other j a ne is = c.alone j a ne (before j a ne is)
 
+  mine : (j : ℕ) (a : Watch) → j ≡ k → now j ≡ Some a → a.name ≡ name
+  mine j a same is = ap (λ (x : Watch). x.name) (c.is a (ap now (sym same) ∙ is))
+
   apart_each : (i j : ℕ) (a b : Watch) → now i ≡ Some a → now j ≡ Some b → i ≢ j →
       a.name ≢ b.name
-  apart_each i j a b is too ne same = elim (cases_eq i k) [
-    | inl at ↦ other j b (λ e. ne (at ∙ sym e)) too
-        (sym same ∙ c.is a (ap now (sym at) ∙ is))
-    | inr off ↦ elim (cases_eq j k) [
-      | inl at ↦ other i a off is (same ∙ c.is b (ap now (sym at) ∙ too))
-      | inr far ↦ r.apart i j a b (before i a off is) (before j b far too) ne same
-    ]
-  ]
+  apart_each i j a b is too ne same =
+      grind (arith, nat_tests, cases_eq i k, cases_eq j k, other, mine, before, r.apart i j a b)
 
   carries_each : (j : ℕ) (a : Watch) → now j ≡ Some a → is_some (later a.name) ≡ true
-  carries_each j a is = elim (cases_eq j k) [
-    | inl at ↦ ap (λ (x : List ℕ). is_some (later x)) (c.is a (ap now (sym at) ∙ is))
-        ∙ ap is_some c.window
-    | inr ne ↦ ap is_some (c.rest a.name (other j a ne is)) ∙ r.carries j a (before j a ne is)
-  ]
+  carries_each j a is =
+      grind (arith, nat_tests, cases_eq j k, c, other, mine, before, r.carries j a)
 
-  kept_each : (now k ≡ None → n ≡ 0) → (any : List ℕ) (m : ℕ) → later any ≡ Some m →
+  kept_each : (any : List ℕ) (m : ℕ) → later any ≡ Some m →
       ((j : ℕ) (a : Watch) → now j ≡ Some a → a.name ≢ any) → m ≡ 0
-  kept_each gone any m is nobody = elim (name_cases any name) [
-    | inl same ↦ sym (some_is n m (sym c.window ∙ ap later (sym same) ∙ is))
-        ∙ gone (none_named (now k) refl same)
+  kept_each any m is nobody = elim (name_cases any name) [
+    | inl same ↦ grind (arith, nat_tests, c.window, c.gone, mine k, nobody k)
     | inr ne ↦ r.kept any m (sym (c.rest any ne) ∙ is) (λ j a there same.
-        elim (cases_eq j k) [
-          | inl at ↦ ne (sym same ∙ c.was a (ap who (sym at) ∙ there))
-          | inr off ↦ nobody j a (c.others j off ∙ there) same
-        ])
+        grind (arith, nat_tests, cases_eq j k, c.was a, c.others j, nobody j a))
   ]
-    where
-      none_named : (o : Option Watch) → now k ≡ o → any ≡ name → o ≡ None
-      none_named None is same = refl
-      none_named (Some a) is same = absurd (nobody k a is (c.is a is ∙ sym same))
 
-  -- its window's number is up to 100, and 0 where it goes; it is right, or may be left out
-  pub renamed : {more : ℕ → Type 0} → n ≤ LAST_WINDOW → (now k ≡ None → n ≡ 0) →
-      ((a : Watch) → now k ≡ Some a → IsRight later stands a ⊎ more k) →
+  -- all are shown chests as they should be, if the chest stands there; it may have been left out
+  pub renamed : {more : ℕ → Type 0} → ((cell : Cell) → chest ≡ Some cell → stands cell ≡ true) →
       ((j : ℕ) → j ≢ k → but j → more j) → AreRight more now later stands
-  renamed {more} low gone mine free = record {
+  renamed {more} there free = record {
     apart = apart_each;
     carries = carries_each;
     right = λ j a is. elim (cases_eq j k) [
-      | inl at ↦ subst (λ (i : ℕ). IsRight later stands a ⊎ more i) (sym at)
-          (mine a (ap now (sym at) ∙ is))
+      | inl at ↦ inl (subst (IsRight later stands) (sym (c.is a (ap now (sym at) ∙ is)))
+          (record { number = grind (arith, nat_tests, c.number, c.window); there = there }))
       | inr ne ↦ elim (r.right j a (before j a ne is)) [
-        | inl is_right ↦ inl (record {
-          number = is_right.number ∙ ap (λ (o : Option ℕ). not (unwrap_or o 0 == 0))
+        | inl right ↦ inl (record {
+          number = right.number ∙ ap (λ (o : Option ℕ). not (unwrap_or o 0 == 0))
               (sym (c.rest a.name (other j a ne is)));
-          there = is_right.there;
+          there = right.there;
         })
-        | inr left_out ↦ inr (free j ne left_out)
+        | inr out ↦ inr (free j ne out)
       ]
     ];
-    numbers = λ any m is. elim (name_cases any name) [
-      | inl same ↦ subst (λ (x : ℕ). x ≤ LAST_WINDOW)
-          (some_is n m (sym c.window ∙ ap later (sym same) ∙ is)) low
-      | inr ne ↦ r.numbers any m (sym (c.rest any ne) ∙ is)
-    ];
-    kept = kept_each gone;
+    numbers = λ any m is.
+        grind (arith, nat_tests, name_cases any name, c.window, c.low, c.rest, r.numbers any m);
+    kept = kept_each;
   }
