@@ -15,7 +15,7 @@ use Rattle.std.proofs.lemmas.List.{nil_from_length}
 use Rattle.mc_told.proofs.Ordered.{first, second}
 use Rattle.mc_told.proofs.Rising.{below_keys, rising, sorted_is}
 use Rattle.mc_model.specs.Step.{is_new}
-use Rattle.mc_laws.proofs.Deeds.Swaps.{keys_removed}
+use Rattle.mc_laws.proofs.Apart.Swaps.{keys_removed}
 use Rattle.mc_links.specs.Kept.{ConnectionValue}
 use Rattle.mc_events.specs.Served.{AreNumbers, next_number}
 use Rattle.mc_events.proofs.Loops.{AreOnce, is_of}
