@@ -8,11 +8,12 @@ import time
 
 import protocol
 from client import expect, log_in, pump, wait_for_pack
-from clientbound import Change, Destroy, Equipment, HeadLook, SetSlot, Teleport, WindowItems
+from clientbound import Change, CloseWindow, Destroy, Equipment, HeadLook, SetSlot, Teleport
+from clientbound import WindowItems
 from news import AIR, BENEATH, CHEST_STATE, DOWN, DROP_ONE, DROP_STACK, FACES, FLAT_FEET, NORTH
 from news import PLANKS_STATE, SOUTH, UP, at_face, dig, drop, floor_of, leave, log_in_two, one_of
-from news import dig_news, expect_items, expect_sent, hand_news, item_news, pack_news, settle
-from news import until_between_ticks, window_news
+from news import chest_news, dig_news, expect_items, expect_sent, hand_news, item_news, pack_news
+from news import settle, until_between_ticks, window_news
 from packs import CHEST, DIRT, KIT, STONE, pack_of
 from program import Program
 from protocol import Stack
@@ -155,7 +156,7 @@ def act_twice(anna, ben):
 
 
 def chests_are_not_built_on(path):
-    """A chest is placed and dug; a click at one places nothing, whatever is in the hand."""
+    """A chest is placed and dug; a click at one opens it, and places nothing, whatever is held."""
     chest = at_face(BENEATH, UP)
     with Program(path) as program:
         anna, ben = log_in_two(program.port)
@@ -164,15 +165,16 @@ def chests_are_not_built_on(path):
         anna.send(protocol.placement(BENEATH, UP))
         put, left = Change(chest, CHEST_STATE), Stack(CHEST, 3, 0)
         expect_sent({anna: [put, hand_news(3, left)], ben: [put, Equipment(1, left)]})
+        pack, windows = pack_of(STONE_PILE, DIRT_PILE, PLANKS_PILE, left), 0
         for place, stack in ((0, STONE_PILE), (3, left), (8, None)):
             anna.send(protocol.held(place))
             expect_sent({anna: [], ben: [Equipment(1, stack)]})
-            for face in FACES:
-                anna.send(protocol.placement(chest, face))
-            expect_sent({anna: [], ben: []})
+            anna.send(b"".join(protocol.placement(chest, face) for face in FACES))
+            windows += len(FACES)
+            expect_sent({anna: chest_news(windows, [], pack), ben: []})
         anna.send(dig(chest))
         due = dig_news(3, chest, CHEST_STATE)
-        expect_sent({anna: due, ben: due})
+        expect_sent({anna: [*due, CloseWindow(windows)], ben: due})
         anna.check_blocks(Flat())
 
 

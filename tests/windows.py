@@ -126,7 +126,8 @@ def two_share_a_chest(path):
         anna.send(protocol.click(0, LEFT, 3, SHIFT, half, 1))
         gone = SetSlot(1, 0, None)
         back = SetSlot(1, CHEST_HOTBAR + 8, half)
-        expect_sent({anna: [gone, back, Confirm(1, 3, True)], ben: [gone, Equipment(1, half)][::-1]})
+        held = Equipment(1, half)
+        expect_sent({anna: [gone, back, Confirm(1, 3, True)], ben: [held, gone]})
 
 
 def again(client):
