@@ -7,9 +7,9 @@ What is there was made with the seed 47.
 
 Four clients dig, place, open, click, close, drop, walk, leave and come back by chance, at a few
 cells of flat land with a few chests. By a reading of its own of docs/WORLD.md it plays what they do
-and says, before each tick, which cells it changes, what each client is to be told of its window,
-and by how many packets. At each tick it asserts that no item was lost or made but by kits, digging
-and placing.
+and says, before each tick, which cells are others then and what each client is to be told of its
+window, and now and then how many items there are and lie in its view. It counts the packets that
+tell that, and asserts at each tick that no item was lost or made but by kits, digging and placing.
 """
 
 import random
@@ -436,14 +436,14 @@ class Trade:
         if player.pack.waiting is not None and chance.random() < 0.4:
             return self.confirm(player)
         acts = {
-            self.click: 45 if player.chest or player.pack.cursor else 22,
-            self.open: 6 if player.chest else 16,
-            self.close: 4,
-            self.dig: 14,
-            self.place: 14,
+            self.click: 65 if player.chest else 40 if player.pack.cursor else 16,
+            self.open: 3 if player.chest else 24,
+            self.close: 3,
+            self.dig: 11,
+            self.place: 13,
             self.take: 6,
-            self.drop: 4,
-            self.walk: 9,
+            self.drop: 3,
+            self.walk: 7,
             self.leave: 0.8,
         }
         return chance.choices(list(acts), acts.values())[0](player)
@@ -488,21 +488,20 @@ class Trade:
         reached = [cell for cell in cells if self.world.reaches(player, cell)]
         return self.chance.choice(reached if reached and self.chance.random() < 0.95 else cells)
 
-    def any_cell(self, player):
-        """Choose a cell of those that are played with."""
-        cells = [tuple(self.chance.choice(axis) for axis in (EAST, UP, SOUTH)) for _ in range(4)]
-        return self.near(cells, player)
+    def any_cell(self, player, is_air):
+        """Choose a cell of those that are played with, mostly one that is air, or is none."""
+        cells = [tuple(self.chance.choice(axis) for axis in (EAST, UP, SOUTH)) for _ in range(12)]
+        wanted = [cell for cell in cells if (self.world.state(cell) == AIR) == is_air]
+        return self.near(wanted if wanted and self.chance.random() < 0.92 else cells, player)
 
     def dig(self, player):
         """Dig a cell: often a chest, and one that is shown, or what was built."""
         world, chance = self.world, self.chance
         shown = {it.chest for it in world.players.values()} - {None}
-        built = [cell for cell, state in world.cells.items() if state != AIR]
-        full = [self.any_cell(player) for _ in range(8)]
-        full = [cell for cell in full if world.state(cell) != AIR]
-        sort = chance.choices(("shown", "chest", "built", "full", "any"), (5, 4, 35, 50, 6))[0]
-        cells = {"shown": shown, "chest": world.chests.keys(), "built": built, "full": full}
-        cell = self.near(cells.get(sort) or [self.any_cell(player)], player)
+        built = {cell for cell, state in world.cells.items() if state != AIR} - world.chests.keys()
+        sorts = shown, world.chests.keys(), built, None
+        cells = chance.choices(sorts, (3, 2, 45, 50))[0] or [self.any_cell(player, False)]
+        cell = self.near(cells, player)
         if chance.random() < 0.03:
             cell = cell[0], chance.choice((0, -1, cell[1])), cell[2]
         world.dig(player, cell)
@@ -511,7 +510,7 @@ class Trade:
     def place(self, player):
         """Place what is held, a chest mostly at the cells for chests."""
         world, chance = self.world, self.chance
-        target = self.any_cell(player)
+        target = self.any_cell(player, True)
         held = player.pack.slots[MAIN_SLOTS + player.hand]
         if sort_of(held) == CHEST:
             target = self.near(CHEST_CELLS, player)
@@ -573,10 +572,11 @@ class Trade:
         """Choose a slot: one with something, one of the first of a part, any, outside or none."""
         chance = self.chance
         full = [slot for slot, pile in slots.items() if pile]
-        firsts = [*range(5), *range(54, 59)] if player.chest else [*range(9, 14), *range(36, 42)]
+        firsts = [*range(9), *range(54, 59)] if player.chest else [*range(9, 14), *range(36, 42)]
         wrong = -1, 8, 45, 63, -998
         sorts = full or [OUTSIDE], firsts, tuple(slots), (OUTSIDE,), wrong
-        return chance.choice(chance.choices(sorts, (45, 30, 18, 6, 1))[0])
+        parts = (25, 45, 24, 5, 1) if player.pack.cursor else (65, 15, 15, 4, 1)
+        return chance.choice(chance.choices(sorts, parts)[0])
 
     # ---- ticks
 
@@ -591,11 +591,22 @@ class Trade:
         for client in sorted(world.players):
             yield from self.tell(world.players[client], changed)
         self.told.update({cell: world.cells[cell] for cell in changed})
-        if world.age % TICKS_A_COUNT == 0:
-            count = world.items()
-            yield from (f"count {spelled(sort)} {count[sort]}" for sort in SORTS)
         self.counts["ticks"] += 1
         yield "tick"
+        if world.age % TICKS_A_COUNT == 0:
+            yield from self.count_items()
+
+    def count_items(self):
+        """Yield how many items of each sort there are, and how many lie where a client sees them."""
+        world, count = self.world, self.world.items()
+        yield from (f"count {spelled(sort)} {count[sort]}" for sort in SORTS)
+        for client in sorted(world.players):
+            place, count = world.players[client].place, Counter()
+            for lying in world.lying.values():
+                x, _, z = lying.place
+                if is_near(place, (x // COLUMN, z // COLUMN)):
+                    count[sort_of(lying.pile)] += counted(lying.pile)
+            yield from (f"told {client} lies {spelled(sort)} {count[sort]}" for sort in SORTS)
 
     def state_told(self, cell):
         """Answer the state of a cell at the last tick."""
@@ -606,22 +617,22 @@ class Trade:
         client, counts = player.client, self.counts
         for window, number, is_done in player.answers:
             counts["answers"] += 1
-            yield f"{client} {'yes' if is_done else 'no'} {window} {number}"
+            yield f"told {client} {'yes' if is_done else 'no'} {window} {number}"
         view = sum(1 << i for i, column in enumerate(COLUMNS) if is_near(player.place, column))
         self.count_cells(player, changed, player.view & view)
         if view != player.view:
-            yield f"{client} views {view}"
+            yield f"told {client} views {view}"
         window = player.pack.window if player.chest else 0
         old = player.piles
         if window != player.window:
             old = [None] * CHEST_SLOTS + old[CHEST_SLOTS:]
-            yield f"{client} sees {window}"
+            yield f"told {client} sees {window}"
         chest = self.world.chests[player.chest] if player.chest else [None] * CHEST_SLOTS
         new = [*chest, *player.pack.slots, player.pack.cursor]
         others = [i for i, pile in enumerate(new) if pile != old[i]]
         if others:
             piles = " ".join(f"{i} {spelled_pile(new[i])}" for i in others)
-            yield f"{client} holds {piles}"
+            yield f"told {client} holds {piles}"
         self.count_slots(player, window, others)
         player.window, player.piles, player.view = window, new, view
         player.answers, player.noted, player.is_again = [], [], False

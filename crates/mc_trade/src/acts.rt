@@ -2,27 +2,59 @@
 //! `place X Y Z FACE`, `take PLACE`, `click WINDOW SLOT BUTTON NUMBER MODE PILE`,
 //! `confirm WINDOW NUMBER` and `close WINDOW`.
 
-use crate::fault::Fault;
 use crate::pile::{NOTHING, pile_in, put_pile};
 use mc_bytes::NoMemory;
 use mc_fields::{pattern, write_i8, write_i16, write_u8, write_u64};
-use mc_rows::Words;
+use mc_rows::{Words, look_up};
+
+/// What a client does.
+#[derive(Clone, Copy)]
+enum Act {
+    Walk,
+    Dig,
+    Drop,
+    Place,
+    Take,
+    Click,
+    Confirm,
+    Close,
+}
+
+/// The acts that words name.
+const ACTS: [(&str, Act); 8] = [
+    ("walk", Act::Walk),
+    ("dig", Act::Dig),
+    ("drop", Act::Drop),
+    ("place", Act::Place),
+    ("take", Act::Take),
+    ("click", Act::Click),
+    ("confirm", Act::Confirm),
+    ("close", Act::Close),
+];
 
 /// Puts the id and the fields of the packet that the next words mean.
-pub fn put_act(words: &mut Words<'_>, out: &mut Vec<u8>) -> Result<(), Fault> {
-    let done = match words.word() {
-        "walk" => put_walk(words, out),
-        "dig" => put_dig(words, out),
-        "drop" => put_drop(words, out),
-        "place" => put_place(words, out),
-        "take" => put_take(words, out),
-        "click" => put_click(words, out),
-        "confirm" => put_confirm(words, out),
-        "close" => put_close(words, out),
-        _ => return Err(Fault::Row),
-    };
-    done?;
-    Ok(())
+pub fn put_act(words: &mut Words<'_>, out: &mut Vec<u8>) -> Result<(), NoMemory> {
+    match look_up(&ACTS, words.word()) {
+        Some(act) => put_fields(act, words, out),
+        None => {
+            words.fail();
+            Ok(())
+        }
+    }
+}
+
+/// Puts the packet of an act.
+fn put_fields(act: Act, words: &mut Words<'_>, out: &mut Vec<u8>) -> Result<(), NoMemory> {
+    match act {
+        Act::Walk => put_walk(words, out),
+        Act::Dig => put_dig(words, out),
+        Act::Drop => put_drop(words, out),
+        Act::Place => put_place(words, out),
+        Act::Take => put_take(words, out),
+        Act::Click => put_click(words, out),
+        Act::Confirm => put_confirm(words, out),
+        Act::Close => put_close(words, out),
+    }
 }
 
 /// Puts a place in blocks, on the ground.

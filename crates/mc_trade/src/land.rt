@@ -156,7 +156,9 @@ impl Column {
     /// The column is told whole.
     fn load(&mut self, mask: u16, body: &[u8]) -> Result<(), NoMemory> {
         self.is_seen = mask % 2 == 1;
-        if let Some(states) = body.get(..SIZE) && self.is_seen {
+        if let Some(states) = body.get(..SIZE)
+            && self.is_seen
+        {
             self.states.clear();
             self.states.extend_from_slice(states)?;
         }

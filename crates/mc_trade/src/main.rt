@@ -9,6 +9,7 @@
 mod acts;
 mod answer;
 mod fault;
+mod floor;
 mod land;
 mod pane;
 mod pile;

@@ -2,13 +2,12 @@
 
 use crate::pile::{NOTHING, Pile, pile_of};
 use crate::tally::{Tally, count};
-use mc_bytes::NoMemory;
 use mc_packets::Down;
 use mc_slots::Slot;
-use std::alloc::Global;
 
 /// How many slots a chest has, and how many it has with a pack.
 const CHEST: usize = 27;
+
 const BOTH: usize = 63;
 
 /// The place of the cursor.
@@ -19,18 +18,19 @@ const PLACES: usize = 64;
 
 /// The number of the chest's window, 0 where none is shown, and what lies in its slots, in those of
 /// the pack behind them, and on the cursor. Where no chest is shown the first 27 have nothing.
-#[derive(Drop)]
+#[derive(Clone, Copy)]
 pub struct Pane {
     window: u8,
-    piles: Vec<Pile>,
+    piles: [Pile; PLACES],
 }
 
 impl Pane {
     /// No window of a chest, and nothing anywhere.
-    pub fn new(alloc: Global) -> Result<Pane, NoMemory> {
-        let mut piles = Vec::new(alloc);
-        piles.resize(PLACES, NOTHING)?;
-        Ok(Pane { window: 0, piles })
+    pub fn new() -> Pane {
+        Pane {
+            window: 0,
+            piles: [NOTHING; PLACES],
+        }
     }
 
     /// Another window is shown, of whose chest nothing is known.

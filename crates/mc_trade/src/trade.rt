@@ -3,7 +3,7 @@
 use crate::fault::Fault;
 use crate::land::Land;
 use crate::tally::{Tally, count};
-use crate::trader::Trader;
+use crate::trader::{Trader, log_in};
 use mc_bytes::NoMemory;
 use mc_fields::Cell;
 use mc_land::Terrain;
@@ -82,22 +82,32 @@ impl Trade {
         self.tally
     }
 
-    /// Plays a row: `tick`, `set X Y Z STATE`, `count ID DAMAGE NUMBER`, or a client and either
-    /// what it does or what it is to be told.
+    /// Plays a row: `tick`, `set X Y Z STATE`, `count ID DAMAGE NUMBER`, `told CLIENT` and what it
+    /// is to be told, or a client and what it does.
     pub fn play(&mut self, row: &str) -> Result<(), Fault> {
         if row == "tick" {
             return self.tick();
         }
         let mut words = Words::new(self.alloc, row);
-        if words.is_next("set") {
-            self.set(&mut words);
-        } else if words.is_next("count") {
-            self.count(&mut words)?;
-        } else {
-            self.play_client(&mut words)?;
-        }
+        self.play_words(&mut words)?;
         if words.are_bad() {
             return Err(Fault::Row);
+        }
+        Ok(())
+    }
+
+    /// Plays a row of several words.
+    fn play_words(&mut self, words: &mut Words<'_>) -> Result<(), Fault> {
+        if words.is_next("told") {
+            return self.expect(words);
+        }
+        if words.is_next("count") {
+            return self.compare_items(words);
+        }
+        if words.is_next("set") {
+            self.set(words);
+        } else {
+            self.play_client(words)?;
         }
         Ok(())
     }
@@ -113,39 +123,67 @@ impl Trade {
     }
 
     /// There are so many items of a sort: what kits had and was dug, and was not placed.
-    fn count(&self, words: &mut Words<'_>) -> Result<(), Fault> {
+    fn compare_items(&self, words: &mut Words<'_>) -> Result<(), Fault> {
         let id: i16 = words.number();
         let damage: i16 = words.number();
         let number: u32 = words.number();
         let state = (id.cast_unsigned() & 4095) << 4 | damage.cast_unsigned() & 15;
-        let kits = self.names.len() as u64 * u64::from(kit_of(id, damage));
-        let there = u64::from(number) + u64::from(self.land.count(state));
-        if there != kits + u64::from(self.flat.count(state)) {
+        let came = self
+            .kits(kit_of(id, damage))
+            .saturating_add(self.flat.count(state));
+        if number.saturating_add(self.land.count(state)) != came {
             return Err(Fault::Items);
         }
         Ok(())
     }
 
-    /// A client does something, or is to be told something.
-    fn play_client(&mut self, words: &mut Words<'_>) -> Result<(), Fault> {
+    /// How many items the kits of all names had, of which each had so many.
+    fn kits(&self, number: u32) -> u32 {
+        let names = u32::try_from(self.names.len()).unwrap_or(0);
+        names.saturating_mul(number)
+    }
+
+    /// A client is to be told something, or was told it.
+    fn expect(&mut self, words: &mut Words<'_>) -> Result<(), Fault> {
+        let client = words.number();
+        for trader in self.traders.iter_mut() {
+            if trader.client == client {
+                trader.expect(words)?;
+            }
+        }
+        Ok(())
+    }
+
+    /// A client does something.
+    fn play_client(&mut self, words: &mut Words<'_>) -> Result<(), NoMemory> {
+        count(&mut self.tally.events);
         let client = words.number();
         if words.is_next("join") {
-            self.join(client)?;
-        } else if words.is_next("leave") {
-            self.leave(client)?;
-        } else if !self.act(client, words)? {
-            return Ok(());
+            return self.join(client);
         }
-        count(&mut self.tally.events);
-        Ok(())
+        if words.is_next("leave") {
+            return self.leave(client);
+        }
+        self.act(client, words)
     }
 
     /// A client comes, under the next number.
     fn join(&mut self, client: u32) -> Result<(), NoMemory> {
         count(&mut self.connections);
+        log_in(self.alloc, &mut self.server, client, self.connections)?;
+        self.add(client)?;
+        self.know(client)
+    }
+
+    /// A client is in play.
+    fn add(&mut self, client: u32) -> Result<(), NoMemory> {
         let trader = Trader::new(self.alloc, client, self.connections)?;
-        trader.enter(&mut self.server)?;
         self.traders.push(trader)?;
+        Ok(())
+    }
+
+    /// A name is known from now on.
+    fn know(&mut self, client: u32) -> Result<(), NoMemory> {
         if !self.names.contains(&client) {
             self.names.push(client)?;
         }
@@ -163,15 +201,14 @@ impl Trade {
         Ok(())
     }
 
-    /// A client is to be told something, or else does something; tells whether it does.
-    fn act(&mut self, client: u32, words: &mut Words<'_>) -> Result<bool, Fault> {
-        for trader in self.traders.iter_mut() {
-            if trader.client == client && !trader.expect(words)? {
+    /// A client does what the next words say.
+    fn act(&mut self, client: u32, words: &mut Words<'_>) -> Result<(), NoMemory> {
+        for trader in self.traders.iter() {
+            if trader.client == client {
                 trader.act(&mut self.server, words)?;
-                return Ok(true);
             }
         }
-        Ok(false)
+        Ok(())
     }
 
     /// A tick comes; each client reads what it is sent, and is compared with the rows.

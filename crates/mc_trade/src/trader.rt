@@ -3,6 +3,7 @@
 use crate::acts::put_act;
 use crate::answer::{Answer, answer_in};
 use crate::fault::Fault;
+use crate::floor::Floor;
 use crate::land::Land;
 use crate::pane::Pane;
 use crate::pile::pile_in;
@@ -11,7 +12,7 @@ use mc_bytes::NoMemory;
 use mc_down::read_down;
 use mc_frame::{Splitter, Take};
 use mc_packets::Down;
-use mc_rows::Words;
+use mc_rows::{Words, look_up};
 use mc_server::{Input, Server};
 use std::alloc::Global;
 
@@ -25,6 +26,27 @@ const BEAT: &[u8] = &[2, 0, 0];
 /// The most pieces and frames that are read at a tick.
 const MOST: u32 = 100_000;
 
+/// What a row says that a client is to be told, or was told.
+#[derive(Clone, Copy)]
+enum Telling {
+    Sees,
+    Views,
+    Holds,
+    Answers(bool),
+    Lies,
+}
+
+/// The words for that: `sees WINDOW`, `views BITS` with a bit for each column, piles at places
+/// (`holds PLACE PILE ..`), `yes WINDOW NUMBER`, `no WINDOW NUMBER` and `lies ID DAMAGE NUMBER`.
+const TELLINGS: [(&str, Telling); 6] = [
+    ("sees", Telling::Sees),
+    ("views", Telling::Views),
+    ("holds", Telling::Holds),
+    ("yes", Telling::Answers(true)),
+    ("no", Telling::Answers(false)),
+    ("lies", Telling::Lies),
+];
+
 /// A client in play.
 #[derive(Drop)]
 pub struct Trader {
@@ -32,9 +54,11 @@ pub struct Trader {
     /// Which of the clients it is, and the number of its connection.
     pub client: u32,
     number: u32,
-    /// What it was told of its window and of cells, and which clicks were answered.
+    /// What it was told of its window, of cells and of what lies there, and which clicks were
+    /// answered.
     pane: Pane,
     land: Land,
+    floor: Floor,
     answers: Vec<Answer>,
     /// What it is to be told.
     due: Pane,
@@ -47,8 +71,13 @@ pub struct Trader {
     owes: bool,
 }
 
-/// Connects and logs in under the name of a client from 0 to 9.
-fn log_in(alloc: Global, server: &mut Server, client: u32, number: u32) -> Result<(), NoMemory> {
+/// Connects under a number, and logs in under the name of a client from 0 to 9.
+pub fn log_in(
+    alloc: Global,
+    server: &mut Server,
+    client: u32,
+    number: u32,
+) -> Result<(), NoMemory> {
     let mut login = Vec::new(alloc);
     login.extend_from_slice(LOGIN)?;
     login.push(b'0' + (client % 10) as u8)?;
@@ -57,16 +86,17 @@ fn log_in(alloc: Global, server: &mut Server, client: u32, number: u32) -> Resul
 }
 
 impl Trader {
-    /// A client that has connected under a number, and knows nothing.
+    /// A client that has logged in and knows nothing yet.
     pub fn new(alloc: Global, client: u32, number: u32) -> Result<Trader, NoMemory> {
         Ok(Trader {
             alloc,
             client,
             number,
-            pane: Pane::new(alloc)?,
+            pane: Pane::new(),
             land: Land::new(alloc)?,
+            floor: Floor::new(alloc),
             answers: Vec::new(alloc),
-            due: Pane::new(alloc)?,
+            due: Pane::new(),
             views: 0,
             due_answers: Vec::new(alloc),
             splitter: Splitter::new(alloc),
@@ -75,62 +105,57 @@ impl Trader {
         })
     }
 
-    /// Connects and logs in.
-    pub fn enter(&self, server: &mut Server) -> Result<(), NoMemory> {
-        log_in(self.alloc, server, self.client, self.number)
-    }
-
     /// Leaves.
     pub fn leave(&self, server: &mut Server) -> Result<(), NoMemory> {
         server.event(Input::Gone(self.number))
     }
 
-    /// Takes what the next words say that it is to be told: `sees WINDOW`, `views BITS`, piles at
-    /// places (`holds PLACE PILE ..`), `yes WINDOW NUMBER` or `no WINDOW NUMBER`. Tells whether
-    /// they do.
-    pub fn expect(&mut self, words: &mut Words<'_>) -> Result<bool, Fault> {
-        if words.is_next("sees") {
-            self.due.see(words.number());
-        } else if words.is_next("views") {
-            self.views = words.number();
-        } else if words.is_next("holds") {
-            self.expect_piles(words)?;
-        } else {
-            return Ok(self.expect_answer(words)?);
+    /// Takes what the next words say that it is to be told, or that it was told.
+    pub fn expect(&mut self, words: &mut Words<'_>) -> Result<(), Fault> {
+        match look_up(&TELLINGS, words.word()) {
+            Some(Telling::Sees) => self.due.see(words.number()),
+            Some(Telling::Views) => self.views = words.number(),
+            Some(Telling::Holds) => self.expect_piles(words),
+            Some(Telling::Answers(is_accepted)) => self.expect_answer(is_accepted, words)?,
+            Some(Telling::Lies) => return self.compare_floor(words),
+            None => words.fail(),
         }
-        Ok(true)
+        Ok(())
     }
 
     /// Takes what is to lie at places.
-    fn expect_piles(&mut self, words: &mut Words<'_>) -> Result<(), Fault> {
+    fn expect_piles(&mut self, words: &mut Words<'_>) {
         for _ in 0..MOST {
             if !words.is_more() {
-                return Ok(());
+                return;
             }
             let place = words.number();
             if !self.due.put(place, pile_in(words)) {
-                return Err(Fault::Row);
+                words.fail();
             }
         }
-        Err(Fault::Row)
     }
 
-    /// Takes how a click is to be answered. Tells whether the words say that.
-    fn expect_answer(&mut self, words: &mut Words<'_>) -> Result<bool, NoMemory> {
-        let is_accepted = words.is_next("yes");
-        if !is_accepted && !words.is_next("no") {
-            return Ok(false);
-        }
+    /// Takes how a click is to be answered.
+    fn expect_answer(&mut self, is_accepted: bool, words: &mut Words<'_>) -> Result<(), NoMemory> {
         self.due_answers.push(answer_in(words, is_accepted))?;
-        Ok(true)
+        Ok(())
+    }
+
+    /// Compares how many items of a sort lie where it sees them.
+    fn compare_floor(&self, words: &mut Words<'_>) -> Result<(), Fault> {
+        let count = self.floor.count(words.number(), words.number());
+        if count != words.number::<u32>() {
+            return Err(Fault::Told(self.client, "that other items lie there"));
+        }
+        Ok(())
     }
 
     /// Does what the next words say.
-    pub fn act(&self, server: &mut Server, words: &mut Words<'_>) -> Result<(), Fault> {
+    pub fn act(&self, server: &mut Server, words: &mut Words<'_>) -> Result<(), NoMemory> {
         let mut packet = Vec::new(self.alloc);
         put_act(words, &mut packet)?;
-        self.say(server, &packet)?;
-        Ok(())
+        self.say(server, &packet)
     }
 
     /// Says a packet, which is shorter than 128 bytes.
@@ -169,7 +194,7 @@ impl Trader {
             match self.splitter.take()? {
                 Take::Frame(payload) => self.take_frame(payload.as_slice(), tally)?,
                 Take::More => return Ok(()),
-                Take::Bad(_) => return Err(Fault::Packet(self.client)),
+                Take::Bad(_) => return Err(Fault::Told(self.client, "no packet")),
             }
         }
         Ok(())
@@ -182,7 +207,7 @@ impl Trader {
             return Ok(());
         }
         let Ok(packet) = read_down(self.alloc, payload) else {
-            return Err(Fault::Packet(self.client));
+            return Err(Fault::Told(self.client, "no packet"));
         };
         let done = self.hear(&packet, tally);
         drop(packet);
@@ -201,9 +226,13 @@ impl Trader {
                 self.hear_answer(window.cast_unsigned(), *number, *is_accepted)?;
                 Ok(())
             }
-            _ if !self.pane.tell(packet, tally) => Err(Fault::Window(self.client)),
+            _ if !self.pane.tell(packet, tally) => Err(Fault::Told(
+                self.client,
+                "of a slot that is not shown",
+            )),
             _ => {
                 self.land.tell(packet, tally)?;
+                self.floor.tell(packet)?;
                 Ok(())
             }
         }
@@ -222,7 +251,7 @@ impl Trader {
     /// Compares what it was told with what it is to be told, and with the land as it is.
     pub fn compare(&mut self, land: &Land) -> Result<(), Fault> {
         if self.answers != self.due_answers {
-            return Err(Fault::Answers(self.client));
+            return Err(Fault::Told(self.client, "other answers"));
         }
         self.answers.clear();
         self.due_answers.clear();
@@ -230,7 +259,7 @@ impl Trader {
             return Err(Fault::Pane(self.client, place));
         }
         if !self.land.shows(self.views, land) {
-            return Err(Fault::Land(self.client));
+            return Err(Fault::Told(self.client, "other cells"));
         }
         Ok(())
     }
