@@ -192,7 +192,7 @@ class World:
     # ---- cells
 
     def dig(self, player, cell):
-        """Dig a cell; answer whether it was."""
+        """Dig a cell, and close the windows on it; where it is not dug, it is sent again."""
         state = self.state(cell)
         piles = [(state // 16, 1, state % 16)] + [it for it in self.chests.get(cell, ()) if it]
         is_hard = state == AIR or state // 16 == BEDROCK_ID
@@ -273,8 +273,9 @@ class World:
 
     def click(self, player, window, slot, button, number, mode, item):
         """Click in a window; answer whether it was accepted."""
-        is_done = window == player.pack.window and self.click_shown(player, slot, button, mode, item)
-        if not is_done and window == player.pack.window:
+        is_shown = window == player.pack.window
+        is_done = is_shown and self.click_shown(player, slot, button, mode, item)
+        if is_shown and not is_done:
             player.pack.waiting = number
         player.answers.append((window, number, is_done))
         player.is_again |= not is_done or mode == 2
@@ -597,7 +598,7 @@ class Trade:
             yield from self.count_items()
 
     def count_items(self):
-        """Yield how many items of each sort there are, and how many lie where a client sees them."""
+        """Yield how many items of each sort there are, and lie where each client sees them."""
         world, count = self.world, self.world.items()
         yield from (f"count {spelled(sort)} {count[sort]}" for sort in SORTS)
         for client in sorted(world.players):
@@ -662,8 +663,9 @@ class Trade:
         return (
             f"{events} events, {counts['ticks']} ticks: each client was told its window and the "
             f"cells, by {counts['opened']} windows that opened, {counts['closed']} that closed, "
-            f"{counts['windows']} whole ones, {counts['slots']} slots, {counts['answers']} answers, "
-            f"{counts['changes']} cells, {counts['several']} of several"
+            f"{counts['windows']} whole ones, {counts['slots']} slots, "
+            f"{counts['answers']} answers, {counts['changes']} cells, "
+            f"{counts['several']} of several"
         )
 
 
