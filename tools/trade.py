@@ -8,8 +8,9 @@ What is there was made with the seed 47.
 Four clients dig, place, open, click, close, drop, walk, leave and come back by chance, at a few
 cells of flat land with a few chests. By a reading of its own of docs/WORLD.md it plays what they do
 and says, before each tick, which cells are others then and what each client is to be told of its
-window, and now and then how many items there are and lie in its view. It counts the packets that
-tell that, and asserts at each tick that no item was lost or made but by kits, digging and placing.
+window, what falls where a chest is dug, and now and then how many items there are and lie in its
+view. It counts the packets that tell that, and asserts at each tick that no item was lost or made
+but by kits, digging and placing.
 """
 
 import random
@@ -138,6 +139,8 @@ class World:
         self.cells = {}
         self.chests = {}
         self.lying = {}
+        # The items that fell since the last tick where a chest was dug, by their numbers.
+        self.spilled = []
         self.packs = {}
         self.players = {}
 
@@ -200,12 +203,15 @@ class World:
             player.noted.append(cell)
             return
         watching = [it for it in self.players.values() if it.chest == cell]
+        is_chest, first = cell in self.chests, self.eids
         self.set(cell, AIR)
         x, y, z = cell
         for pile in piles:
             self.throw(pile, (32 * x + 16, 32 * y, 32 * z + 16))
         for other in sorted(watching, key=lambda it: it.eid):
             self.shut(other)
+        if is_chest:
+            self.spilled += range(first + 1, self.eids + 1)
 
     def place(self, player, cell, face):
         """Place what is held at a face, or open a chest."""
@@ -594,8 +600,22 @@ class Trade:
         self.told.update({cell: world.cells[cell] for cell in changed})
         self.counts["ticks"] += 1
         yield "tick"
+        yield from self.spill()
         if world.age % TICKS_A_COUNT == 0:
             yield from self.count_items()
+
+    def spill(self):
+        """Yield what fell where chests were dug, for the first client that sees it."""
+        world = self.world
+        for eid in world.spilled:
+            lying = world.lying[eid]
+            x, _, z = lying.place
+            for client, player in sorted(world.players.items()):
+                if is_near(player.place, (x // COLUMN, z // COLUMN)):
+                    item = f"{spelled(lying.place)} {spelled_pile(lying.pile)}"
+                    yield f"told {client} finds {eid} {item}"
+                    break
+        world.spilled = []
 
     def count_items(self):
         """Yield how many items of each sort there are, and lie where each client sees them."""

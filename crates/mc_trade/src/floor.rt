@@ -1,8 +1,9 @@
 //! The items that lie where a client sees them, as it was told of them.
 
-use crate::pile::{NOTHING, Pile, pile_of};
+use crate::pile::{NOTHING, Pile, pile_in, pile_of};
 use mc_bytes::NoMemory;
 use mc_packets::{Down, MetaEntry, MetaValue};
+use mc_rows::Words;
 use std::alloc::Global;
 
 /// The kind of the objects that are items, and the index of their metadata that says which.
@@ -10,11 +11,25 @@ const ITEM: i8 = 2;
 
 const PILE: u8 = 10;
 
-/// What lies under the number of an entity.
-#[derive(Clone, Copy)]
-struct Lying {
-    eid: i32,
-    pile: Pile,
+/// What lies somewhere, in 1/32 blocks, under the number of an entity.
+#[derive(Clone, Copy, PartialEq, Eq)]
+pub struct Lying {
+    pub eid: i32,
+    pub x: i32,
+    pub y: i32,
+    pub z: i32,
+    pub pile: Pile,
+}
+
+/// What the next words say that lies somewhere: a number, a place and a pile.
+pub fn lying_in(words: &mut Words<'_>) -> Lying {
+    Lying {
+        eid: words.number(),
+        x: words.number(),
+        y: words.number(),
+        z: words.number(),
+        pile: pile_in(words),
+    }
 }
 
 /// The items.
@@ -37,8 +52,17 @@ impl Floor {
             Down::SpawnObject {
                 eid,
                 kind: ITEM,
+                x,
+                y,
+                z,
                 ..
-            } => self.add(*eid)?,
+            } => self.add(Lying {
+                eid: *eid,
+                x: *x,
+                y: *y,
+                z: *z,
+                pile: NOTHING,
+            })?,
             Down::Meta(eid, metas) => self.set(*eid, metas.as_slice()),
             Down::Destroy(eids) => self.end_all(eids.as_slice()),
             _ => {}
@@ -46,9 +70,9 @@ impl Floor {
         Ok(())
     }
 
-    /// One more lies there, of which nothing is known.
-    fn add(&mut self, eid: i32) -> Result<(), NoMemory> {
-        self.items.push(Lying { eid, pile: NOTHING })?;
+    /// One more lies there.
+    fn add(&mut self, item: Lying) -> Result<(), NoMemory> {
+        self.items.push(item)?;
         Ok(())
     }
 
@@ -64,6 +88,11 @@ impl Floor {
     /// Entities are seen no more.
     fn end_all(&mut self, eids: &[i32]) {
         self.items.retain(|item| !eids.contains(&item.eid));
+    }
+
+    /// Whether this lies there.
+    pub fn has(&self, item: &Lying) -> bool {
+        self.items.contains(item)
     }
 
     /// How many items of a sort lie there.

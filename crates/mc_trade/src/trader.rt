@@ -3,7 +3,7 @@
 use crate::acts::put_act;
 use crate::answer::{Answer, answer_in};
 use crate::fault::Fault;
-use crate::floor::Floor;
+use crate::floor::{Floor, lying_in};
 use crate::land::Land;
 use crate::pane::Pane;
 use crate::pile::pile_in;
@@ -34,17 +34,20 @@ enum Telling {
     Holds,
     Answers(bool),
     Lies,
+    Finds,
 }
 
 /// The words for that: `sees WINDOW`, `views BITS` with a bit for each column, piles at places
-/// (`holds PLACE PILE ..`), `yes WINDOW NUMBER`, `no WINDOW NUMBER` and `lies ID DAMAGE NUMBER`.
-const TELLINGS: [(&str, Telling); 6] = [
+/// (`holds PLACE PILE ..`), `yes WINDOW NUMBER`, `no WINDOW NUMBER`, how many items lie there
+/// (`lies ID DAMAGE NUMBER`), and one of them (`finds ENTITY X Y Z PILE`).
+const TELLINGS: [(&str, Telling); 7] = [
     ("sees", Telling::Sees),
     ("views", Telling::Views),
     ("holds", Telling::Holds),
     ("yes", Telling::Answers(true)),
     ("no", Telling::Answers(false)),
     ("lies", Telling::Lies),
+    ("finds", Telling::Finds),
 ];
 
 /// A client in play.
@@ -118,6 +121,7 @@ impl Trader {
             Some(Telling::Holds) => self.expect_piles(words),
             Some(Telling::Answers(is_accepted)) => self.expect_answer(is_accepted, words)?,
             Some(Telling::Lies) => return self.compare_floor(words),
+            Some(Telling::Finds) => return self.compare_item(words),
             None => words.fail(),
         }
         Ok(())
@@ -147,6 +151,14 @@ impl Trader {
         let count = self.floor.count(words.number(), words.number());
         if count != words.number::<u32>() {
             return Err(Fault::Told(self.client, "that other items lie there"));
+        }
+        Ok(())
+    }
+
+    /// Compares one that lies where it sees it.
+    fn compare_item(&self, words: &mut Words<'_>) -> Result<(), Fault> {
+        if !self.floor.has(&lying_in(words)) {
+            return Err(Fault::Told(self.client, "that another item fell"));
         }
         Ok(())
     }
