@@ -1,28 +1,16 @@
--- What packets can tell: what is noted for a client, where players enter, air, and what is dug.
+-- What packets can tell: players, where they enter, air, and what is dug.
 use Rattle.std.proofs.Common.{◌≡◌, ℕ, ◌/◌, true, false, refl, sym, ap, ◌∙◌, inl, inr, arith}
 use Rattle.std.specs.Prelude.{not, ◌==◌}
-use Rattle.std.specs.List.{AllByRecursion}
 use Rattle.std.proofs.lemmas.Int.{ints}
 use Rattle.mc_slots.specs.Pile.{IsItem}
 use Rattle.mc_land.specs.declared.terrain.Terrain.{Terrain}
-use Rattle.mc_model.specs.declared.notes.Notes.{Notes}
 use Rattle.mc_model.specs.declared.player.Player.{Player}
-use Rattle.mc_model.specs.Notes.{no_notes}
 use Rattle.mc_model.specs.Spots.{spawn_spot}
 use Rattle.mc_model.specs.Digging.{is_dug, block_item}
 use Rattle.mc_model.specs.Fitting.{IsState, SpotFits}
-use Rattle.mc_model.proofs.FitsNotes.{ConfirmFits}
+use Rattle.mc_model.proofs.FitsNotes.{NotesFit}
 use Rattle.mc_model.proofs.FitsText.{IsShort, both_true}
 use Rattle.mc_model.proofs.ThingFacts.{spawn_low}
-
--- What is noted for a client, so that packets can tell it: the answers to clicks. They can tell
--- whatever cells are noted, since one without a position is not sent. What is asked of a field of
--- `Notes` is part of this.
-abbrev pub NotesFit : Notes → Type 0
-NotesFit notes = AllByRecursion ConfirmFits notes.confirms
-
-pub no_notes_fit : NotesFit no_notes
-no_notes_fit = tt
 
 -- packets can tell the name of a player, and what is noted for its client
 pub record PlayerIsTold (p : Player) : Type 0 where

@@ -1,7 +1,7 @@
 -- The packets of answers to clicks fit, and those of noted cells: what is sent of them has a
 -- position, and a state of 16 bits.
 use Rattle.std.proofs.Common.{◌≡◌, ℕ, ◌+◌, ◌^◌, ◌<◌, ◌≤◌, Bool, true, List, [], ◌∷◌, lit<, map}
-use Rattle.std.proofs.Common.{arith}
+use Rattle.std.proofs.Common.{arith, rules}
 use Rattle.std.specs.Prelude.{int_le, unsigned_abs}
 use Rattle.std.specs.Int.{w8, w16}
 use Rattle.std.specs.List.{AllByRecursion}
@@ -21,9 +21,10 @@ use Rattle.mc_view.specs.declared.view_set.TheConstants.{MIDDLE_BORDER}
 use Rattle.mc_view.specs.Views.{is_in_view}
 use Rattle.mc_view.proofs.Near.{near_both}
 use Rattle.mc_model.specs.declared.notes.Answered.{Answered}
+use Rattle.mc_model.specs.declared.notes.Notes.{Notes}
 use Rattle.mc_model.specs.Packets.{of_play, for_play}
 use Rattle.mc_model.specs.Things.{state_of_cell}
-use Rattle.mc_model.specs.Notes.{cell_packet, confirm_packet, is_sent, noted_packets}
+use Rattle.mc_model.specs.Notes.{cell_packet, confirm_packet, is_sent, no_notes, noted_packets}
 use Rattle.mc_model.proofs.AllFacts.{all_mapped}
 use Rattle.mc_model.proofs.Decodes.{IsClear, play_clear}
 use Rattle.mc_model.proofs.FitsText.{both_true}
@@ -92,3 +93,14 @@ pub noted_packets_clear : (terrain : Terrain) (edits : FinMap key_cmp ℕ) (seen
 noted_packets_clear terrain edits seen fit small [] = tt
 noted_packets_clear terrain edits seen fit small (cell ∷ cells) =
     search (arith, noted_packet_clear, noted_packets_clear terrain edits seen fit small cells)
+
+-- ---- all that is noted
+
+-- What is noted for a client, so that packets can tell it: the answers to clicks. They can tell
+-- whatever cells are noted, since one without a position is not sent. What is asked of a field of
+-- `Notes` is part of this.
+abbrev pub NotesFit : Notes → Type 0
+NotesFit notes = AllByRecursion ConfirmFits notes.confirms
+
+pub no_notes_fit : NotesFit no_notes
+no_notes_fit = search rules

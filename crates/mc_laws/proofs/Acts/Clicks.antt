@@ -1,7 +1,8 @@
 -- Of which deeds a click in a window is made: that of a chest, or the own.
-use Rattle.std.proofs.Common.{◌≡◌, ℕ, ◌+◌, Bool, true, false, List, [], ◌∷◌, Option, Some, None}
-use Rattle.std.proofs.Common.{refl, sym, subst, ap, ◌∙◌, arith}
+use Rattle.std.proofs.Common.{◌≡◌, ℕ, ◌+◌, Bool, true, false, List, [], ◌∷◌, ◌++◌, Option, Some}
+use Rattle.std.proofs.Common.{None, refl, sym, subst, ap, ◌∙◌, arith}
 use Rattle.std.specs.Prelude.{is_some, nat_lt, if◌then◌else◌}
+use Rattle.std.specs.List.{AllByRecursion}
 use Rattle.std.specs.Option.{option_and_then}
 use Rattle.std.specs.FinMap.{get}
 use Rattle.mc_fields.specs.declared.position.Cell.{Cell}
@@ -29,8 +30,7 @@ use Rattle.mc_model.specs.Game.{Game, chest_at, chest_of, pack_of, room_in}
 use Rattle.mc_model.specs.Deeds.{noting, repack_of, restocked}
 use Rattle.mc_model.specs.Fitting.{Told}
 use Rattle.mc_model.proofs.AllFacts.{all_joined}
-use Rattle.mc_model.proofs.FitsNotes.{ConfirmFits}
-use Rattle.mc_laws.proofs.ThingsFit.{NotesFit}
+use Rattle.mc_model.proofs.FitsNotes.{ConfirmFits, NotesFit}
 use Rattle.mc_laws.proofs.Deeds.Chests.{GoodGame, lies_chest}
 use Rattle.mc_laws.proofs.Deeds.Packs.{named_is_pack}
 use Rattle.mc_laws.proofs.Deeds.Made.{Deed, Made, MadeWith, by_notes, first, repacks, restocks}
@@ -57,7 +57,11 @@ answering_fits click came notes fits fit = step (is_sent_again click came)
     }
 
     told : NotesFit (with_answer answer notes)
-    told = all_joined ConfirmFits notes.confirms (answer ∷ []) fit (fits (is_accepted came), tt)
+    told =
+        let all : AllByRecursion ConfirmFits (notes.confirms ++ answer ∷ []) =
+        all_joined ConfirmFits notes.confirms (answer ∷ []) (search fit)
+        (fits (is_accepted came), tt) in
+        search all
 
     step : (b : Bool) →
         NotesFit (if b then again (with_answer answer notes) else with_answer answer notes)

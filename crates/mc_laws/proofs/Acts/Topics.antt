@@ -40,9 +40,10 @@ use Rattle.mc_model.specs.Deeds.{noting, repack_of, stand_of, with_player, with_
 use Rattle.mc_model.specs.Movement.{arrive, arrived, placed_again}
 use Rattle.mc_model.specs.Fitting.{SpotFits, Told}
 use Rattle.mc_model.proofs.Maps.Options.{some_is}
+use Rattle.mc_model.proofs.FitsNotes.{NotesFit}
 use Rattle.mc_laws.proofs.Landings.{IsTurned}
 use Rattle.mc_laws.proofs.ThingsActs.{floor_fits, item_state_is}
-use Rattle.mc_laws.proofs.ThingsFit.{NotesFit, air, block_is_item, spawn_fits}
+use Rattle.mc_laws.proofs.ThingsFit.{air, block_is_item, spawn_fits}
 use Rattle.mc_laws.proofs.Weighing.Stock.{pack_handed, parted}
 use Rattle.mc_laws.proofs.Weighing.Spending.{air_counts, dug_counts, placed_counts}
 use Rattle.mc_laws.proofs.Deeds.Chests.{GoodGame, lies_chest, none_comes, none_lies}

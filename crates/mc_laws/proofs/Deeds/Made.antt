@@ -24,7 +24,7 @@ use Rattle.mc_model.specs.Game.{Game, chest_at, pack_of, state_in}
 use Rattle.mc_model.specs.Reach.{is_in_world}
 use Rattle.mc_model.specs.Fitting.{IsState, SpotFits}
 use Rattle.mc_model.proofs.FitsChat.{LineFits}
-use Rattle.mc_laws.proofs.ThingsFit.{NotesFit}
+use Rattle.mc_model.proofs.FitsNotes.{NotesFit}
 use Rattle.mc_laws.proofs.EachValue.{AreChanged, only, only_changed, only_holds}
 use Rattle.mc_laws.proofs.Deeds.Keeping.{IsLike}
 use Rattle.mc_laws.proofs.Fits.Told.{CanCome}

@@ -51,7 +51,7 @@ use Rattle.mc_model.proofs.FitsChunk.{ColumnFits, IsNear}
 use Rattle.mc_model.proofs.FitsDue.{level_short}
 use Rattle.mc_model.proofs.ThingFacts.{spawn_low}
 use Rattle.mc_model.proofs.FitsList.{AreClear, PairFits}
-use Rattle.mc_model.proofs.FitsNotes.{confirms_clear, noted_packets_clear, sent_fits}
+use Rattle.mc_model.proofs.FitsNotes.{NotesFit, confirms_clear, noted_packets_clear, sent_fits}
 use Rattle.mc_model.proofs.FitsPlay.{join_clear, spawn_clear}
 use Rattle.mc_model.proofs.FitsSlots.{pile_slot_fits, piles_fit}
 use Rattle.mc_model.proofs.Maps.Sorted.{find_again, second}
@@ -65,7 +65,7 @@ use Rattle.mc_laws.proofs.FitsSight.{size_few}
 use Rattle.mc_laws.proofs.Fits.Counted.{IsCounted, few_chosen}
 use Rattle.mc_laws.proofs.Fits.Notes.{notes_owe}
 use Rattle.mc_laws.proofs.FitsUuid.{offline_small}
-use Rattle.mc_laws.proofs.ThingsFit.{NotesFit, PlayerIsTold}
+use Rattle.mc_laws.proofs.ThingsFit.{PlayerIsTold}
 use Rattle.mc_laws.proofs.Deeds.Packs.{named_is_pack}
 use Rattle.mc_laws.proofs.Fits.Told.{cell_told, spot_told}
 use Rattle.mc_laws.proofs.Fits.Sights.{column_sizes, column_small, in_sight, in_sight_fit}
@@ -253,7 +253,7 @@ due_clear g shown p sound windows small fit before =
     (notes_of p.notes (spot_of g p) (pack_of g p) (chest_of g p))
     (all_joined C (map confirm_packet p.notes.confirms)
     (noted_packets g.settings.terrain g.edits (sees g p) p.notes.cells)
-    (confirms_clear p.notes.confirms fit)
+    (confirms_clear p.notes.confirms (search fit))
     (noted_packets_clear g.settings.terrain g.edits (sees g p)
     (λ cell sent. sent_fits (column_of_spot (spot_of g p))
     (view_size g.settings.cap p.view_byte) cell

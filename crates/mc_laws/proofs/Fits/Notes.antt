@@ -21,11 +21,11 @@ use Rattle.mc_model.specs.Fitting.{SpotFits}
 use Rattle.mc_model.proofs.AllFacts.{all_joined}
 use Rattle.mc_model.proofs.Decodes.{IsClear}
 use Rattle.mc_model.proofs.FitsList.{AreClear}
+use Rattle.mc_model.proofs.FitsNotes.{NotesFit}
 use Rattle.mc_model.proofs.FitsSlots.{ChestFits, window_clear}
 use Rattle.mc_laws.proofs.FitsDue.{placing_clear}
 use Rattle.mc_laws.proofs.Leading.{Leads, led, mapped_keep, no_packets, onward}
 use Rattle.mc_laws.proofs.PointsWindow.{items_told, with_window}
-use Rattle.mc_laws.proofs.ThingsFit.{NotesFit}
 
 -- answers to clicks change nothing of a replica
 pub confirms_keep : (s : Sight) (confirms : List Answered) →

@@ -34,9 +34,10 @@ use Rattle.mc_model.proofs.AllFacts.{all_joined}
 use Rattle.mc_model.proofs.FitsChat.{LineFits}
 use Rattle.mc_model.proofs.FitsText.{IsShort, both_true, name_short}
 use Rattle.mc_model.proofs.Maps.Options.{none_some}
+use Rattle.mc_model.proofs.FitsNotes.{no_notes_fit}
 use Rattle.mc_laws.proofs.EachValue.{AllValues, all_changed, all_gone, all_put, many_changed, only}
 use Rattle.mc_laws.proofs.EachValue.{only_changed, only_holds}
-use Rattle.mc_laws.proofs.ThingsFit.{PlayerIsTold, no_notes_fit}
+use Rattle.mc_laws.proofs.ThingsFit.{PlayerIsTold}
 use Rattle.mc_laws.proofs.Deeds.Chests.{GoodGame, new_chests, same_chests}
 use Rattle.mc_laws.proofs.Deeds.Coming.{enter_good}
 use Rattle.mc_laws.proofs.Deeds.Kept.{deeds_keep}
