@@ -42,7 +42,8 @@ pub fn only_senders_change()
 /// that a bad frame closes, as if only what stands before that frame had come: there are first
 /// bytes that do. One to whom too much is due at a tick leaves the world, but for itself, as if its
 /// outbox had had room, since it took what it was owed, and it had gone after the tick; and one
-/// that was silent for too long as if it had gone before it.
+/// that was silent for too long as if it had gone before it: both where nothing hangs on the
+/// cursor of its player, since that falls as it leaves, with a number and an age.
 pub fn connections_are_apart()
     ensures others { (settings : Begun) (events : List Event) (v : World) (k : ℕ) (e : Event) →
         SameBut k (history (new_world settings) events) v → (IsOf k e → ⊥) →
