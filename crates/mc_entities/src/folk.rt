@@ -272,11 +272,11 @@ impl Folk {
 
     /// Lets mind i move the i-th mob by rising number, but where the sum would leave the range.
     /// Minds beyond the mobs are not asked, and mobs without a mind stay.
-    pub fn tick(&mut self, minds: &mut [Box<dyn Mind>])
+    pub fn tick<M: Mind>(&mut self, minds: &mut [M])
         ensures state { self.new.state ≡
-            ticked (map (λ mind. plan mind) minds.old) self.old.state }
-        ensures plans { map (λ mind. plan mind) minds.new ≡
-            asked (mobs_in self.old.state.entities) (map (λ mind. plan mind) minds.old) }
+            ticked (map (λ mind. M.plan mind) minds.old) self.old.state }
+        ensures plans { map (λ mind. M.plan mind) minds.new ≡
+            asked (mobs_in self.old.state.entities) (map (λ mind. M.plan mind) minds.old) }
         ensures reserve { self.new.reserve ≡ self.old.reserve }
     {
         tick_all(&mut self.entities, minds);

@@ -11,6 +11,7 @@ mod fault;
 mod folk;
 mod mind;
 mod places;
+mod planned;
 mod shifting;
 mod ticking;
 
@@ -18,4 +19,5 @@ pub use entity::{DROPPED_MAX, EID_MAX, Entity, EntityKind};
 pub use fault::FolkFault;
 pub use folk::Folk;
 pub use mind::{Mind, Move};
+pub use planned::Planned;
 pub use shifting::{FLAT_END, HIGHEST, LOWEST};

@@ -25,19 +25,28 @@ pub trait Mind: Drop {
         ensures rest { plan self.new ≡ rest_of (plan self.old) };
 }
 
+// Minds of several types stand in one list by their boxes.
+impl Mind for Box<dyn Mind> {
+    ghost plan = { λ b. (Mind-box b).plan b.value };
+
+    fn step(&mut self) -> Move {
+        (**self).step()
+    }
+}
+
 /// Asks a mind for its next move.
-fn step_of(mind: &mut Box<dyn Mind>) -> Move
-    ensures answer { result ≡ first_move (plan mind.old) }
-    ensures rest { plan mind.new ≡ rest_of (plan mind.old) }
+fn step_of<M: Mind>(mind: &mut M) -> Move
+    ensures answer { result ≡ first_move (M.plan mind.old) }
+    ensures rest { M.plan mind.new ≡ rest_of (M.plan mind.old) }
 {
     mind.step()
 }
 
 /// Asks the mind at a place for its next move; no move where there is none.
-pub(crate) fn ask(minds: &mut [Box<dyn Mind>], at: usize) -> Move
-    ensures answer { result ≡ move_at (map (λ mind. plan mind) minds.old) at }
-    ensures rest { map (λ mind. plan mind) minds.new ≡
-        asked_at at (map (λ mind. plan mind) minds.old) }
+pub(crate) fn ask<M: Mind>(minds: &mut [M], at: usize) -> Move
+    ensures answer { result ≡ move_at (map (λ mind. M.plan mind) minds.old) at }
+    ensures rest { map (λ mind. M.plan mind) minds.new ≡
+        asked_at at (map (λ mind. M.plan mind) minds.old) }
 {
     if minds.len() <= at {
         return Move {

@@ -10,10 +10,10 @@ use crate::mind::{Mind, ask};
 use crate::shifting::shift_spot;
 
 /// Lets the mind at a place move an entity, where that is a mob, and says how many mobs it is.
-fn move_one(entity: &mut Entity, minds: &mut [Box<dyn Mind>], at: usize) -> usize
-    ensures entity { entity.new ≡ moved_by (map (λ mind. plan mind) minds.old) at entity.old }
-    ensures plans { map (λ mind. plan mind) minds.new ≡
-        asked_by (is_mob entity.old.kind) at (map (λ mind. plan mind) minds.old) }
+fn move_one<M: Mind>(entity: &mut Entity, minds: &mut [M], at: usize) -> usize
+    ensures entity { entity.new ≡ moved_by (map (λ mind. M.plan mind) minds.old) at entity.old }
+    ensures plans { map (λ mind. M.plan mind) minds.new ≡
+        asked_by (is_mob entity.old.kind) at (map (λ mind. M.plan mind) minds.old) }
     ensures count { result ≡ one_if (is_mob entity.old.kind) }
 {
     if !entity.kind.is_mob() {
@@ -25,13 +25,13 @@ fn move_one(entity: &mut Entity, minds: &mut [Box<dyn Mind>], at: usize) -> usiz
 }
 
 /// Lets the mind at each place move the mob of that place among the mobs.
-pub(crate) fn tick_all(entities: &mut Vec<Entity>, minds: &mut [Box<dyn Mind>])
+pub(crate) fn tick_all<M: Mind>(entities: &mut Vec<Entity>, minds: &mut [M])
     requires { Rises eid_of entities.old.items }
     ensures entities { entities.new.items ≡
-        map (after_tick (map (λ mind. plan mind) minds.old) entities.old.items)
+        map (after_tick (map (λ mind. M.plan mind) minds.old) entities.old.items)
         entities.old.items }
-    ensures plans { map (λ mind. plan mind) minds.new ≡
-        asked (mobs_in entities.old.items) (map (λ mind. plan mind) minds.old) }
+    ensures plans { map (λ mind. M.plan mind) minds.new ≡
+        asked (mobs_in entities.old.items) (map (λ mind. M.plan mind) minds.old) }
     ensures capacity { vec_capacity entities.new ≡ vec_capacity entities.old }
 {
     let mut mobs = 0;

@@ -1,5 +1,5 @@
 -- What is due to a client at a tick is packets that it decodes.
-use Rattle.std.proofs.Common.{◌≤◌, Bool, true, false, cond, [], ◌∷◌, drop, length, Option, Some}
+use Rattle.std.proofs.Common.{◌≤◌, Bool, true, false, cond, [], drop, length, Option, Some}
 use Rattle.std.proofs.Common.{None, arith}
 use Rattle.std.specs.Int.{w32}
 use Rattle.std.specs.List.{AllByRecursion}
@@ -15,7 +15,7 @@ use Rattle.mc_view.specs.Forms.{moves_of}
 use Rattle.mc_model.specs.Packets.{of_play, for_play}
 use Rattle.mc_model.specs.Sight.{Seen, Sight}
 use Rattle.mc_model.specs.Delta.{missing, leavers_point, joiners_point, destroys_point, unload}
-use Rattle.mc_model.specs.Delta.{unloads_point, load, loads_point, pile_packet, cells_point}
+use Rattle.mc_model.specs.Delta.{unloads_point, load, loads_point, pile_told, cells_point}
 use Rattle.mc_model.specs.Delta.{is_same_slot, entity_packets, pile_packets, moves_packets}
 use Rattle.mc_model.specs.Delta.{beat_point, time_point, entities_point, window_point, delta}
 use Rattle.mc_model.specs.Delta.{chat_packet, chat_point, cursor_point}
@@ -82,9 +82,9 @@ entity_clear e f (Some old) =
     (pile_packets e.0 e.1.kind old.pile e.1.pile)
     (moves_clear e.0 old.spot e.1.spot f.eid f.spot) (tells (is_same_slot old.pile e.1.pile))
   where
-    tells : (same : Bool) → AreClear (cond same [] (pile_packet e.0 e.1.kind e.1.pile ∷ []))
+    tells : (same : Bool) → AreClear (cond same [] (pile_told e.0 e.1.kind e.1.pile))
     tells true = tt
-    tells false = (pile_slot_clear e.0 e.1.kind e.1.pile f.eid f.pile, tt)
+    tells false = pile_slot_clear e.0 e.1.kind e.1.pile f.eid f.pile
 
 -- each of them
 entities_clear : (p q : Sight) → SightFits q → AreClear (entities_point p q)

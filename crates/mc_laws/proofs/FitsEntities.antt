@@ -11,8 +11,8 @@ use Rattle.mc_model.specs.Fitting.{SpotFits}
 use Rattle.mc_model.proofs.FitsList.{AreClear}
 use Rattle.mc_model.proofs.FitsSlots.{SlotFits}
 use Rattle.mc_model.proofs.FitsMoves.{head_clear}
-use Rattle.mc_model.proofs.FitsEntities.{KindFits, hand_clear, hand_fits, lying_clear, object_clear}
-use Rattle.mc_model.proofs.FitsEntities.{player_clear}
+use Rattle.mc_model.proofs.FitsEntities.{KindFits, hand_clear, hand_fits, mob_clear, object_clear}
+use Rattle.mc_model.proofs.FitsEntities.{pile_slot_clear, player_clear}
 use Rattle.mc_laws.proofs.FitsMoves.{east_fits, up_fits, south_fits}
 
 -- whatever it is
@@ -27,5 +27,10 @@ spawn_clear eid (seen_kinds.Player uuid) spot pile in_32 in_128 at f = (
 spawn_clear eid seen_kinds.Dropped spot pile in_32 known at f = (
   object_clear eid spot.x spot.y spot.z spot.yaw spot.pitch in_32 (east_fits spot at)
       (up_fits spot at) (south_fits spot at) at.yaw at.pitch,
-  (lying_clear eid pile in_32 f, tt),
+  pile_slot_clear eid seen_kinds.Dropped pile in_32 f,
+)
+spawn_clear eid seen_kinds.Mob spot pile in_32 known at f = (
+  mob_clear eid spot.x spot.y spot.z spot.yaw spot.pitch in_32 (east_fits spot at)
+      (up_fits spot at) (south_fits spot at) at.yaw at.pitch,
+  tt,
 )

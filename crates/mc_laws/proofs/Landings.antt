@@ -1,11 +1,14 @@
--- Where a player comes to be that goes somewhere is a place that can be told.
-use Rattle.std.proofs.Common.{◌≡◌, ℕ, ◌<◌, Bool, true, false, subst, arith}
+-- Where a player comes to be that goes somewhere, and a place in the range of what moves, is one
+-- that can be told.
+use Rattle.std.proofs.Common.{◌≡◌, ℕ, suc, ◌<◌, ◌≤◌, Bool, true, false, subst, arith}
+use Rattle.std.proofs.lemmas.Bool.{and_parts}
 use Rattle.std.proofs.lemmas.Bool.Decides.{nat_tests}
 use Rattle.std.specs.Prelude.{unsigned_abs, Option, Some, None, if◌then◌else◌}
 use Rattle.std.specs.Int.{int_rem_euclid}
 use Rattle.std.specs.Option.{option_and_then}
-use lib.IntN.{ℤ, pos}
+use lib.IntN.{ℤ, pos, negsuc}
 use Rattle.mc_fields.specs.declared.position.Spot.{Spot}
+use Rattle.mc_entities.specs.Shift.{is_between, is_inside}
 use Rattle.mc_model.specs.Numbers.{fixed_of, turn_of}
 use Rattle.mc_model.specs.Movement.{both, moved, turned}
 use Rattle.mc_model.specs.Fitting.{SpotFits}
@@ -21,6 +24,15 @@ pub record IsTurned (spot : Spot) : Type 0 where
 
 pub spot_turned : (spot : Spot) → SpotFits spot → IsTurned spot
 spot_turned spot fits = record { yaw = fits.yaw; pitch = fits.pitch }
+
+-- what is within a range is not large
+within_small : (low high : ℕ) (n : ℤ) → suc low ≤ high →
+    is_between (negsuc low) (pos high) n ≡ true → unsigned_abs n ≤ high
+within_small low high n le t = grind (arith, nat_tests)
+
+-- a place in the range of players fits
+pub inside_fits : (spot : Spot) → IsTurned spot → is_inside spot ≡ true → SpotFits spot
+inside_fits spot is t = grind (arith, nat_tests, and_parts, within_small)
 
 -- a turn that was worked out is within one turn
 turn_low : (p a : ℕ) → turn_of p ≡ Some a → a < 256

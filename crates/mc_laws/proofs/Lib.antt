@@ -29,6 +29,8 @@ pub mod FitsUuid
 pub mod Apart
 pub mod Cutting
 pub mod Fits
+pub mod Minds
+pub mod TickRules
 pub mod Pickups
 pub mod Decoding
 pub mod Headline

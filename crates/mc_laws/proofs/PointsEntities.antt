@@ -1,8 +1,8 @@
 -- What the packets about entities make of what a client sees: those that are seen no more go, and
 -- each other one is as it is wanted.
 use Rattle.std.proofs.Common.{◌≡◌, ℕ, zero, suc, ◌<◌, ◌≤◌, Bool, true, not, List, [], ◌∷◌, take}
-use Rattle.std.proofs.Common.{drop, length, map, Option, Some, None, refl, sym, ap, ◌∙◌, lit<}
-use Rattle.std.proofs.Common.{arith}
+use Rattle.std.proofs.Common.{drop, length, map, Option, Some, None, refl, sym, subst, ap, ◌∙◌}
+use Rattle.std.proofs.Common.{lit<, arith}
 use Rattle.std.specs.Prelude.{is_some}
 use Rattle.std.specs.List.{filter, fold}
 use Rattle.std.specs.Cmp.{int_cmp_total}
@@ -23,7 +23,7 @@ use Rattle.mc_model.specs.declared.seen.SeenKind.{SeenKind}
 use Rattle.mc_model.specs.declared.seen.SeenKind.TheVariants as seen_kinds
 use Rattle.mc_model.specs.Sight.{Seen, Sight}
 use Rattle.mc_model.specs.Replica.{Entities, apply, replay, seeing, coming, without_eids}
-use Rattle.mc_model.specs.Delta.{Follows, IsSeen, parts_of, destroys_point, is_same_slot}
+use Rattle.mc_model.specs.Delta.{Follows, IsPileOf, IsSeen, parts_of, destroys_point, is_same_slot}
 use Rattle.mc_model.specs.Delta.{pile_packets, id_in_hand, hand_packets, no_flags, spawn_as}
 use Rattle.mc_model.specs.Delta.{entity_packets, entities_point}
 use Rattle.mc_model.proofs.FitsText.{both_true}
@@ -92,10 +92,13 @@ destroys_point_leads p q s =
 
 -- it holds or is the pile that is wanted, whose packet is of its kind
 lying_leads : (s : Sight) (m : Entities) (k : ℤ) (e : Seen) (kind : SeenKind) (new : Slot) →
-    e.kind ≡ kind →
+    e.kind ≡ kind → IsPileOf e.kind e.pile → IsPileOf kind new →
     Leads (with_seen s m k e) (pile_packets k kind e.pile new)
     (with_seen s m k (record e { kind = kind; pile = new }))
-lying_leads s m k e kind new same = grind (arith, nat_tests, led, same_slot, no_packets, pile_leads)
+lying_leads s m k e kind new same was is =
+    let told = pile_leads s m k new e was
+    (subst (λ (x : SeenKind). IsPileOf x new) (sym same) is) in
+    grind (arith, nat_tests, led, same_slot e.pile new, no_packets, told)
 
 -- an entity that was seen is as it is wanted
 change_leads : (s : Sight) (m : Entities) (k : ℤ) (old new : Seen) → get m k ≡ Some old →
@@ -109,7 +112,7 @@ change_leads s m k old new stands was seen same =
     (ap (λ (head : ℕ). with_seen s m k (record new { head = head })) (sym seen.head))
     (onward (onward (form_leads s m k old new seen)
     (turn_leads s m k moved old.spot new.spot was.head))
-    (lying_leads s m k turned new.kind new.pile same))
+    (lying_leads s m k turned new.kind new.pile same was.pile seen.pile))
 
 -- a player that comes is one that holds nothing yet
 player_leads : (s : Sight) (m : Entities) (k : ℤ) (uuid : ℕ) (spot : Spot) (item : ℤ)
@@ -128,6 +131,13 @@ object_leads : (s : Sight) (m : Entities) (k : ℤ) (spot : Spot) →
 unfolding apply
 object_leads s m k spot = record { is = refl }
 
+-- a mob is one that has no pile
+mob_leads : (s : Sight) (m : Entities) (k : ℤ) (spot : Spot) →
+    Leads (record s { entities = m }) (spawn_as k seen_kinds.Mob spot slots.Empty)
+    (with_seen s m k (coming seen_kinds.Mob spot))
+unfolding apply
+mob_leads s m k spot = record { is = refl }
+
 -- a player that came holds what it is to hold
 hand_leads : (s : Sight) (m : Entities) (k : ℤ) (uuid : ℕ) (spot : Spot) (pile : Slot) →
     Leads (with_seen s m k (coming (seen_kinds.Player uuid) spot)) (hand_packets k uuid pile)
@@ -135,19 +145,22 @@ hand_leads : (s : Sight) (m : Entities) (k : ℤ) (uuid : ℕ) (spot : Spot) (pi
 hand_leads s m k uuid spot slots.Empty =
     no_packets (with_seen s m k (coming (seen_kinds.Player uuid) spot))
 hand_leads s m k uuid spot (slots.Full stack) =
-    pile_leads s m k (slots.Full stack) (coming (seen_kinds.Player uuid) spot)
+    pile_leads s m k (slots.Full stack) (coming (seen_kinds.Player uuid) spot) tt tt
 
 -- one that comes is as it is wanted, but for its head
 spawn_as_leads : (s : Sight) (m : Entities) (k : ℤ) (kind : SeenKind) (spot : Spot)
-    (pile : Slot) →
+    (pile : Slot) → IsPileOf kind pile →
     Leads (record s { entities = m }) (spawn_as k kind spot pile)
     (with_seen s m k (record (coming kind spot) { pile = pile }))
-spawn_as_leads s m k (seen_kinds.Player uuid) spot pile =
+spawn_as_leads s m k (seen_kinds.Player uuid) spot pile is =
     onward (player_leads s m k uuid spot (id_in_hand pile) no_flags)
     (onward (head_leads s m k spot.yaw (coming (seen_kinds.Player uuid) spot))
     (hand_leads s m k uuid spot pile))
-spawn_as_leads s m k seen_kinds.Dropped spot pile =
-    onward (object_leads s m k spot) (pile_leads s m k pile (coming seen_kinds.Dropped spot))
+spawn_as_leads s m k seen_kinds.Dropped spot pile is =
+    onward (object_leads s m k spot) (pile_leads s m k pile (coming seen_kinds.Dropped spot) tt tt)
+spawn_as_leads s m k seen_kinds.Mob spot pile is = led refl
+    (ap (λ (slot : Slot). with_seen s m k (record (coming seen_kinds.Mob spot) { pile = slot }))
+    (sym is)) (mob_leads s m k spot)
 
 -- one that was not seen is as it is wanted
 spawn_leads : (s : Sight) (m : Entities) (k : ℤ) (new : Seen) → IsSeen new →

@@ -1,6 +1,6 @@
 -- What a packet about one entity makes of it, and that those of a move put it where it is wanted.
-use Rattle.std.proofs.Common.{◌≡◌, ℕ, ◌==◌, Bool, true, false, cond, not, ◌&&◌, [], ◌∷◌, refl, ap}
-use Rattle.std.proofs.Common.{◌∙◌, eqb-true, arith}
+use Rattle.std.proofs.Common.{◌≡◌, ℕ, ◌==◌, Bool, true, false, cond, not, ◌&&◌, [], ◌∷◌, refl, sym}
+use Rattle.std.proofs.Common.{ap, ◌∙◌, eqb-true, arith}
 use Rattle.std.specs.Ordering.{int_eq}
 use Rattle.std.specs.Cmp.{int_cmp_total}
 use Rattle.std.specs.FinMap.{insert}
@@ -20,7 +20,7 @@ use Rattle.mc_model.specs.Sight.{Seen, Sight}
 use Rattle.mc_model.specs.Replica.{Entities, apply, seeing, put_at, looking, is_32_bits, wearing}
 use Rattle.mc_model.specs.Replica.{with_metas}
 use Rattle.mc_model.specs.Replica as replica
-use Rattle.mc_model.specs.Delta.{IsSeen, pile_packet, move_packets, head_packets}
+use Rattle.mc_model.specs.Delta.{IsPileOf, IsSeen, pile_told, move_packets, head_packets}
 use Rattle.mc_model.proofs.FitsText.{both_true}
 use Rattle.mc_model.proofs.Maps.Sorted.{altered_put}
 use Rattle.mc_laws.proofs.Leading.{Leads, no_packets, led}
@@ -80,23 +80,27 @@ head_leads s m k head e = record {
   is = put_altered s m k e (λ (e : Seen). record e { head = head });
 }
 
--- with another pile: a player that holds it, or a dropped item that is it
+-- with another pile: a player that holds it, or a dropped item that is it; a mob has none
 pub pile_leads : (s : Sight) (m : Entities) (k : ℤ) (pile : Slot) (e : Seen) →
-    Leads (with_seen s m k e) (pile_packet k e.kind pile ∷ [])
+    IsPileOf e.kind e.pile → IsPileOf e.kind pile →
+    Leads (with_seen s m k e) (pile_told k e.kind pile)
     (with_seen s m k (record e { pile = pile }))
 unfolding apply
 pile_leads s m k pile e = cases e.kind
   where
-    cases : (kind : SeenKind) →
-        Leads (with_seen s m k (record e { kind = kind })) (pile_packet k kind pile ∷ [])
+    cases : (kind : SeenKind) → IsPileOf kind e.pile → IsPileOf kind pile →
+        Leads (with_seen s m k (record e { kind = kind })) (pile_told k kind pile)
         (with_seen s m k (record e { kind = kind; pile = pile }))
-    cases (seen_kinds.Player uuid) = record {
+    cases (seen_kinds.Player uuid) was is = record {
       is = put_altered s m k (record e { kind = seen_kinds.Player uuid }) (wearing (pos 0) pile);
     }
-    cases seen_kinds.Dropped = record {
+    cases seen_kinds.Dropped was is = record {
       is = put_altered s m k (record e { kind = seen_kinds.Dropped })
           (with_metas (record { index = 10; value = values.Slot pile } ∷ []));
     }
+    cases seen_kinds.Mob was is = led refl (ap (λ (slot : Slot).
+        with_seen s m k (record e { kind = seen_kinds.Mob; pile = slot })) (was ∙ sym is))
+        (no_packets (with_seen s m k (record e { kind = seen_kinds.Mob })))
 
 -- ---- where it is
 

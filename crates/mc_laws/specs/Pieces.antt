@@ -28,6 +28,7 @@ pub record SameTurn (t u : Turn) : Type 0 where
 pub record SameOutcome (k : ℕ) (o q : Outcome) : Type 0 where
   pub handed : (j : ℕ) → to j o.out ≡ to j q.out
   pub game : o.world.game ≡ q.world.game
+  pub plans : o.world.plans ≡ q.world.plans
   pub links : (j : ℕ) → get o.world.links j ≡ get q.world.links j
   pub unread : (j : ℕ) → j ≢ k → get o.world.unread j ≡ get q.world.unread j
   pub own : (l : Link) → get o.world.links k ≡ Some l → is_closed l.stage ≡ false →

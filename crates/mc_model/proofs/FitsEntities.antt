@@ -14,12 +14,14 @@ use Rattle.mc_slots.specs.declared.pile.Pile.{Pile}
 use Rattle.mc_slots.specs.Pile.{IsPile, slot_of}
 use Rattle.mc_slots.specs.Slot.{FitsSlot}
 use Rattle.mc_packets.specs.declared.down.Down.TheVariants.{SpawnPlayer, SpawnObject, Equipment}
-use Rattle.mc_packets.specs.declared.down.Down.TheVariants.{Destroy}
+use Rattle.mc_packets.specs.declared.down.Down.TheVariants.{Destroy, Meta, SpawnMob}
+use Rattle.mc_packets.specs.declared.meta.MetaEntry.{MetaEntry}
+use Rattle.mc_packets.specs.declared.meta.MetaValue.TheVariants as values
 use Rattle.mc_model.specs.declared.seen.TheConstants.{DESTROYED_MAX}
 use Rattle.mc_model.specs.declared.seen.SeenKind.{SeenKind}
 use Rattle.mc_model.specs.declared.seen.SeenKind.TheVariants as seen_kinds
 use Rattle.mc_model.specs.Packets.{of_play, for_play}
-use Rattle.mc_model.specs.Delta.{parts_of, destroying, pile_packet, id_in_hand, hand_packets}
+use Rattle.mc_model.specs.Delta.{parts_of, destroying, pile_told, id_in_hand, hand_packets}
 use Rattle.mc_model.specs.Delta.{no_flags}
 use Rattle.mc_model.proofs.Decodes.{IsClear, play_clear}
 use Rattle.mc_model.proofs.AllFacts.{all_taken, all_dropped}
@@ -65,22 +67,23 @@ worn_clear eid pile at f =
     play_clear (Equipment eid (pos 0) pile) (search (fields, f.fits)) (omega (arith, f.few))
 
 -- Meta, of a slot that fits
-pub lying_clear : (eid : ℤ) (pile : Slot) → SFits w32 eid → SlotFits pile →
-    IsClear for_play (of_play (pile_packet eid seen_kinds.Dropped pile))
+lying_clear : (eid : ℤ) (pile : Slot) → SFits w32 eid → SlotFits pile →
+    AreClear (pile_told eid seen_kinds.Dropped pile)
 lying_clear eid pile at f =
     let other : ◌≢◌ {A = ℕ} 170 127 = λ e. omega (arith, e) in
-    play_clear (pile_packet eid seen_kinds.Dropped pile) (search (fields, other, f.fits))
-    (omega (arith, f.few))
+    let lies : List MetaEntry = record { index = 10; value = values.Slot pile } ∷ [] in
+    (play_clear (Meta eid lies) (search (fields, other, f.fits)) (omega (arith, f.few)), tt)
 
 -- whichever it is, of a slot that fits
 pub pile_slot_clear : (eid : ℤ) (kind : SeenKind) (pile : Slot) → SFits w32 eid → SlotFits pile →
-    IsClear for_play (of_play (pile_packet eid kind pile))
-pile_slot_clear eid (seen_kinds.Player uuid) pile at f = worn_clear eid pile at f
+    AreClear (pile_told eid kind pile)
+pile_slot_clear eid (seen_kinds.Player uuid) pile at f = (worn_clear eid pile at f, tt)
 pile_slot_clear eid seen_kinds.Dropped pile at f = lying_clear eid pile at f
+pile_slot_clear eid seen_kinds.Mob pile at f = tt
 
 -- and of that of a pile
 pub pile_clear : (eid : ℤ) (kind : SeenKind) (pile : Pile) → SFits w32 eid → IsPile pile →
-    IsClear for_play (of_play (pile_packet eid kind (slot_of pile)))
+    AreClear (pile_told eid kind (slot_of pile))
 pile_clear eid kind pile at is = pile_slot_clear eid kind (slot_of pile) at (pile_slot_fits pile is)
 
 -- ---- an entity that comes
@@ -106,10 +109,21 @@ player_clear eid uuid x y z yaw pitch item in_32 in_128 at_x at_y at_z at_yaw at
     play_clear (SpawnPlayer eid uuid x y z yaw pitch item no_flags) (search (fields, other))
     (lit< tt)
 
+-- a mob, with its flags
+pub mob_clear : (eid x y z : ℤ) (yaw pitch : ℕ) → SFits w32 eid → SFits w32 x → SFits w32 y →
+    SFits w32 z → yaw < 256 → pitch < 256 →
+    IsClear for_play (of_play
+    (SpawnMob eid 90 x y z yaw pitch yaw (pos 0) (pos 0) (pos 0) no_flags))
+mob_clear eid x y z yaw pitch in_32 at_x at_y at_z at_yaw at_pitch =
+    let other : ◌≢◌ {A = ℕ} 0 127 = λ e. omega (arith, e) in
+    play_clear (SpawnMob eid 90 x y z yaw pitch yaw (pos 0) (pos 0) (pos 0) no_flags)
+    (search (fields, other)) (lit< tt)
+
 -- what a packet can say of what an entity is: an identifier has 128 bits
 abbrev pub KindFits : SeenKind → Type 0
 KindFits (seen_kinds.Player uuid) = uuid < 2 ^ 128
 KindFits seen_kinds.Dropped = Unit {0}
+KindFits seen_kinds.Mob = Unit {0}
 
 -- what a player that comes holds
 pub hand_clear : (eid : ℤ) (uuid : ℕ) (pile : Slot) → SFits w32 eid → SlotFits pile →

@@ -1,7 +1,7 @@
 -- Changes of entities keep their kinds.
 use Rattle.std.proofs.Common.{◌≡◌, ℕ, ◌+◌, List, [], ◌∷◌, ◌++◌, map, refl, ◌∙◌, inr}
 use Rattle.std.proofs.Common.{arith}
-use Rattle.std.specs.Prelude.{Bool, Option, if◌then◌else◌}
+use Rattle.std.specs.Prelude.{Bool, if◌then◌else◌}
 use Rattle.std.specs.List.{AllByRecursion, filter}
 use Rattle.std.specs.Ordering.{int_eq}
 use Rattle.std.proofs.lemmas.Cmp.{int_eq_equiv}
@@ -76,16 +76,16 @@ known_filtered test eids entities known = record {
 }
 
 -- one number more, of a kind
-abbrev with_next : ℕ → EntityKind → (ℤ → Option SeenKind) → ℤ → Option SeenKind
+abbrev with_next : ℕ → EntityKind → (ℤ → SeenKind) → ℤ → SeenKind
 with_next eid kind kind_at n = if int_eq n (pos eid) then kind_seen kind else kind_at n
 
 -- has that kind
-new_kind : (eid : ℕ) (kind : EntityKind) (kind_at : ℤ → Option SeenKind) →
+new_kind : (eid : ℕ) (kind : EntityKind) (kind_at : ℤ → SeenKind) →
     kind_seen kind ≡ with_next eid kind kind_at (pos eid)
 new_kind eid kind kind_at = rw (int_eq_equiv.refl (pos eid)) refl
 
 -- and those below it have theirs
-old_kind : (eid : ℕ) (kind : EntityKind) (kind_at : ℤ → Option SeenKind) (n : ℤ) →
+old_kind : (eid : ℕ) (kind : EntityKind) (kind_at : ℤ → SeenKind) (n : ℤ) →
     n ≤ℤ pos eid → kind_at n ≡ with_next (eid + 1) kind kind_at n
 old_kind eid kind kind_at n below = grind (arith, nat_tests, ints)
 
@@ -94,7 +94,7 @@ pub known_more : (kind : EntityKind) (spot : Spot) (eids : ℕ) (entities : List
     HaveKinds eids entities → HaveKinds (eids + 1)
     (entities ++ record { eid = pos (eids + 1); kind = kind; spot = spot } ∷ [])
 known_more kind spot eids entities known =
-    let more : ℤ → Option SeenKind = with_next (eids + 1) kind known.kind_at in
+    let more : ℤ → SeenKind = with_next (eids + 1) kind known.kind_at in
     record {
       kind_at = more;
       entities = all_joined (HasKind (record { given = eids + 1; kind_at = more })) entities _

@@ -1,7 +1,7 @@
 -- Changes of things keep what packets rest on.
 use Rattle.std.proofs.Common.{◌≡◌, ℕ, ◌+◌, List, [], ◌∷◌, map, refl, arith}
 use Rattle.std.proofs.lemmas.Bool.Decides.{nat_tests}
-use Rattle.std.specs.Prelude.{Bool, true, false, cond, Option, Some}
+use Rattle.std.specs.Prelude.{Bool, true, false, cond}
 use lib.IntN.{pos}
 use Rattle.mc_slots.specs.declared.pile.Pile.{Pile}
 use Rattle.mc_entities.specs.declared.entity.Entity.{Entity}
@@ -26,8 +26,8 @@ pub dropped_more : (e : Entity) (es : List Entity) →
 dropped_more e es = grind (arith, nat_tests)
 
 -- whether clients see a dropped item
-abbrev is_seen_dropped : Option SeenKind → Bool
-is_seen_dropped (Some seen_kinds.Dropped) = true
+abbrev is_seen_dropped : SeenKind → Bool
+is_seen_dropped seen_kinds.Dropped = true
 is_seen_dropped other = false
 
 -- a dropped item is what they see as one

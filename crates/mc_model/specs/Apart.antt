@@ -56,7 +56,7 @@ traits_of p = record {
 
 -- What becomes of the world by one connection hands nothing to any other. It changes of none its
 -- stage, its cause, what it is owed, how many answers it misses, what is unread of it, what it was
--- shown, and who its player is.
+-- shown, and who its player is; nor what mobs are still to do.
 pub record OnlySender (k : ℕ) (w : World) (o : Outcome) : Type 0 where
   pub handed : (j : ℕ) → j ≢ k → to j o.out ≡ []
   pub links : (j : ℕ) → j ≢ k → get o.world.links j ≡ get w.links j
@@ -65,6 +65,7 @@ pub record OnlySender (k : ℕ) (w : World) (o : Outcome) : Type 0 where
   pub traits : (j : ℕ) → j ≢ k →
       option_map traits_of (get o.world.game.players j)
       ≡ option_map traits_of (get w.game.players j)
+  pub plans : o.world.plans ≡ w.plans
 
 -- ---- the same but for one connection
 
@@ -75,6 +76,7 @@ IsShut (Some l) = is_closed l.stage ≡ true
 
 pub record SameBut (k : ℕ) (w v : World) : Type 0 where
   pub game : w.game ≡ v.game
+  pub plans : w.plans ≡ v.plans
   pub last : w.last ≡ v.last
   pub links : (j : ℕ) → j ≢ k → get w.links j ≡ get v.links j
   pub unread : (j : ℕ) → j ≢ k → get w.unread j ≡ get v.unread j
@@ -146,6 +148,7 @@ pub record StandsBefore (k : ℕ) (w : World) (bytes : List ℕ) (good : List (L
 -- two worlds that are the same but for the bytes that one connection is owed
 pub record OwesOther (k : ℕ) (w v : World) : Type 0 where
   pub game : w.game ≡ v.game
+  pub plans : w.plans ≡ v.plans
   pub last : w.last ≡ v.last
   pub links : (j : ℕ) → j ≢ k → get w.links j ≡ get v.links j
   pub unread : (j : ℕ) → j ≢ k → get w.unread j ≡ get v.unread j

@@ -21,7 +21,8 @@ use Rattle.mc_column.specs.Sent.{column_mask, column_bytes}
 use Rattle.mc_packets.specs.declared.down.Down.{Down}
 use Rattle.mc_packets.specs.declared.down.Down.TheVariants.{KeepAlive, Chat, Time, Chunk}
 use Rattle.mc_packets.specs.declared.down.Down.TheVariants.{MultiChange, List as PlayerList, Change}
-use Rattle.mc_packets.specs.declared.down.Down.TheVariants.{SpawnPlayer, SpawnObject, Equipment}
+use Rattle.mc_packets.specs.declared.down.Down.TheVariants.{SpawnPlayer, SpawnObject, SpawnMob}
+use Rattle.mc_packets.specs.declared.down.Down.TheVariants.{Equipment}
 use Rattle.mc_packets.specs.declared.down.Down.TheVariants.{Destroy, Step, Look, StepLook, Teleport}
 use Rattle.mc_packets.specs.declared.down.Down.TheVariants.{HeadLook, Meta, OpenWindow, SetSlot}
 use Rattle.mc_packets.specs.declared.down.Down.TheVariants.{CloseWindow, WindowItems}
@@ -185,11 +186,13 @@ is_same_slot (slots.Full a) (slots.Full b) =
 is_same_slot slots.Empty (slots.Full b) = false
 is_same_slot (slots.Full a) slots.Empty = false
 
--- what a player holds is worn in slot 0; what lies there is the slot of index 10 of the metadata
-abbrev pub pile_packet : ℤ → SeenKind → Slot → Down
-pile_packet eid (seen_kinds.Player uuid) pile = Equipment eid (pos 0) pile
-pile_packet eid seen_kinds.Dropped pile =
-    Meta eid (record { index = 10; value = values.Slot pile } ∷ [])
+-- what a player holds is worn in slot 0; what lies there is the slot of index 10 of the metadata; a
+-- mob has no pile
+abbrev pub pile_told : ℤ → SeenKind → Slot → List Down
+pile_told eid (seen_kinds.Player uuid) pile = Equipment eid (pos 0) pile ∷ []
+pile_told eid seen_kinds.Dropped pile =
+    Meta eid (record { index = 10; value = values.Slot pile } ∷ []) ∷ []
+pile_told eid seen_kinds.Mob pile = []
 
 -- the id of what is in a hand, as a player's spawn has it: 0 for an empty one
 abbrev pub id_in_hand : Slot → ℤ
@@ -200,20 +203,24 @@ id_in_hand (slots.Full stack) = stack.id
 abbrev pub hand_packets : ℤ → ℕ → Slot → List Down
 hand_packets eid uuid slots.Empty = []
 hand_packets eid uuid (slots.Full stack) =
-    pile_packet eid (seen_kinds.Player uuid) (slots.Full stack) ∷ []
+    pile_told eid (seen_kinds.Player uuid) (slots.Full stack)
 
--- the metadata of a player: its flags, none of which is set
+-- the metadata of a player and of a mob: its flags, none of which is set
 abbrev pub no_flags : List MetaEntry
 no_flags = record { index = 0; value = values.Byte (pos 0) } ∷ []
 
--- a player that comes, with its head and what it holds; a dropped item is an object of kind 2
+-- a player that comes, with its head and what it holds; a dropped item is an object of kind 2; a mob
+-- is one of kind 90, whose head looks as it does, and which has no speed
 abbrev pub spawn_as : ℤ → SeenKind → Spot → Slot → List Down
 spawn_as eid (seen_kinds.Player uuid) spot pile =
     SpawnPlayer eid uuid spot.x spot.y spot.z spot.yaw spot.pitch (id_in_hand pile) no_flags
     ∷ HeadLook eid spot.yaw ∷ hand_packets eid uuid pile
 spawn_as eid seen_kinds.Dropped spot pile =
     SpawnObject eid (pos 2) spot.x spot.y spot.z spot.pitch spot.yaw (pos 0) None
-    ∷ pile_packet eid seen_kinds.Dropped pile ∷ []
+    ∷ pile_told eid seen_kinds.Dropped pile
+spawn_as eid seen_kinds.Mob spot pile =
+    SpawnMob eid 90 spot.x spot.y spot.z spot.yaw spot.pitch spot.yaw (pos 0) (pos 0) (pos 0)
+    no_flags ∷ []
 
 abbrev pub spawn_packets : ℤ → Seen → List Down
 spawn_packets eid e = spawn_as eid e.kind e.spot e.pile
@@ -236,7 +243,7 @@ moves_packets eid spot moves = move_packets eid spot moves.form ++ head_packets 
 
 -- what it holds or is now, where that is something else
 abbrev pub pile_packets : ℤ → SeenKind → Slot → Slot → List Down
-pile_packets eid kind old new = if is_same_slot old new then [] else pile_packet eid kind new ∷ []
+pile_packets eid kind old new = if is_same_slot old new then [] else pile_told eid kind new
 
 abbrev pub entity_packets : ℤ → Option Seen → Seen → List Down
 entity_packets eid None new = spawn_packets eid new
@@ -327,9 +334,15 @@ delta p q =
 
 -- ---- what the packets rest on
 
+-- the pile of an entity of a kind: a mob has none
+abbrev pub IsPileOf : SeenKind → Slot → Type 0
+IsPileOf seen_kinds.Mob pile = pile ≡ slots.Empty
+IsPileOf other pile = Unit {0}
+
 -- An entity whose head looks as it does, and whose place is within 32 bits.
 pub record IsSeen (e : Seen) : Type 0 where
   pub head : e.head ≡ e.spot.yaw
+  pub pile : IsPileOf e.kind e.pile
   pub x : is_32_bits e.spot.x ≡ true
   pub y : is_32_bits e.spot.y ≡ true
   pub z : is_32_bits e.spot.z ≡ true

@@ -1,6 +1,6 @@
 -- What is in a game so that packets can tell it: the states of cells, and entities of which each
 -- has a place, a kind that is its own for good, and what the world holds. Rules of this project.
-use Rattle.std.specs.Prelude.{◌≡◌, ◌⊎◌, ◌<◌, ◌≤◌, ◌^◌, ℕ, List, Option, Some, None, unsigned_abs}
+use Rattle.std.specs.Prelude.{◌≡◌, ◌⊎◌, ◌<◌, ◌≤◌, ◌^◌, ℕ, List, Some, unsigned_abs}
 use Rattle.std.specs.List.{AllByRecursion}
 use Rattle.std.specs.FinMap.{FinMap, get}
 use lib.IntN.{ℤ, pos}
@@ -43,16 +43,16 @@ pub record EntityFits (e : Entity) : Type 0 where
 
 -- ---- kinds
 
--- what clients see an entity as; a mob is not seen
-abbrev pub kind_seen : EntityKind → Option SeenKind
-kind_seen (kinds.Player uuid held) = Some (seen_kinds.Player uuid)
-kind_seen (kinds.Dropped item born) = Some seen_kinds.Dropped
-kind_seen kinds.Mob = None
+-- what clients see an entity as
+abbrev pub kind_seen : EntityKind → SeenKind
+kind_seen (kinds.Player uuid held) = seen_kinds.Player uuid
+kind_seen (kinds.Dropped item born) = seen_kinds.Dropped
+kind_seen kinds.Mob = seen_kinds.Mob
 
 -- how many numbers were given, and what clients see the entity of each as
 pub record GivenKinds : Type 0 where
   pub given : ℕ
-  pub kind_at : ℤ → Option SeenKind
+  pub kind_at : ℤ → SeenKind
 
 -- an entity of a number that was given then, and of its kind
 abbrev pub HasKind : GivenKinds → Entity → Type 0
@@ -60,7 +60,7 @@ HasKind old e = (e.eid ≤ℤ pos old.given) × (kind_seen e.kind ≡ old.kind_a
 
 -- all entities are known
 pub record HaveKinds (given : ℕ) (all : List Entity) : Type 0 where
-  pub kind_at : ℤ → Option SeenKind
+  pub kind_at : ℤ → SeenKind
   pub entities : AllByRecursion (HasKind (record { given = given; kind_at = kind_at })) all
 
 -- ---- cells

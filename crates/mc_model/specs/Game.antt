@@ -21,6 +21,7 @@ use Rattle.mc_model.specs.declared.player.Player.{Player}
 use Rattle.mc_model.specs.declared.settings.Settings.{Settings}
 use Rattle.mc_model.specs.Things.{chest_of_cell, in_hand, state_of_cell}
 use Rattle.mc_model.specs.Spots.{spot_in}
+use Rattle.mc_model.specs.Mobs.{mobs_at}
 use Rattle.mc_model.specs.Maps.{name_cmp}
 
 -- the numbers that a world can begin with
@@ -31,7 +32,7 @@ pub record AreSettings (most cap : ℕ) : Type 0 where
   pub near : cap ≤ 8
 
 pub record Game : Type 0 where
-  -- what it began with
+  -- the settings that it began with
   pub settings : Settings
   -- the ticks that came
   pub age : ℕ
@@ -39,7 +40,7 @@ pub record Game : Type 0 where
   pub edits : FinMap key_cmp ℕ
   -- the piles of each chest, at its cell
   pub chests : FinMap key_cmp (List Pile)
-  -- the players in play and the dropped items, by rising number
+  -- the mobs, the players in play and the dropped items, by rising number
   pub entities : List Entity
   -- how many entity numbers were given
   pub eids : ℕ
@@ -50,14 +51,15 @@ pub record Game : Type 0 where
   -- those in play, by the numbers of their connections
   pub players : FinMap nat_cmp Player
 
-abbrev pub new_game : Settings → Game
-new_game settings = record {
+-- there are so many mobs, and nobody came yet
+abbrev pub new_game : Settings → ℕ → Game
+new_game settings mobs = record {
   settings = settings;
   age = 0;
   edits = empty;
   chests = empty;
-  entities = [];
-  eids = 0;
+  entities = mobs_at settings.terrain mobs;
+  eids = mobs;
   packs = empty;
   lines = [];
   players = empty;

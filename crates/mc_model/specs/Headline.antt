@@ -11,7 +11,6 @@ use Rattle.mc_model.specs.declared.cause.Cause.TheVariants as causes
 use Rattle.mc_model.specs.declared.cause.Refusal.{Refusal}
 use Rattle.mc_model.specs.declared.stage.Stage.TheVariants as stages
 use Rattle.mc_model.specs.declared.player.Player.{Player}
-use Rattle.mc_model.specs.declared.settings.Settings.{Settings}
 use Rattle.mc_model.specs.Decoding.{IsDecoded, decoder_of}
 use Rattle.mc_model.specs.Names.{offline_uuid}
 use Rattle.mc_model.specs.Packets.{Sent, bytes_of, of_play, played}
@@ -22,6 +21,7 @@ use Rattle.mc_model.specs.Talk.{accepted, farewell, refused}
 use Rattle.mc_model.specs.Leaving.{leave_all}
 use Rattle.mc_model.specs.Link.{Handing, Link, disconnect, mark_closed, quiet}
 use Rattle.mc_model.specs.Showing.{due, last_shown, sight_of}
+use Rattle.mc_model.specs.Minds.{Start as Begun}
 use Rattle.mc_model.specs.World.{Outcome, World, new_world}
 use Rattle.mc_model.specs.Tick.{at_tick, awaiting, grown, is_silent, told, told_player}
 use Rattle.mc_model.specs.Good.{GoodWorld}
@@ -163,56 +163,56 @@ pub record Closing (w : World) (e : Event) : Type 0 where
 
 -- ---- a run
 
-pub record Headline (settings : Settings) (log : List Event) : Type 0 where
+pub record Headline (start : Begun) (log : List Event) : Type 0 where
   -- after each tick, the packets that a client in play decodes from the bytes that it was handed,
   -- folded from nothing, show exactly the game in its view
   pub shows : (events later : List Event) (k : ℕ) (p : Player) (packets : List Sent) →
       log ≡ events ++ ticked ∷ [] ++ later →
-      get (history (new_world settings) (events ++ ticked ∷ [])).game.players k ≡ Some p →
-      IsDecoded (decoder_of (received k (new_world settings) (events ++ ticked ∷ [])))
-      (stream k (new_world settings) (events ++ ticked ∷ [])) packets →
-      ShowsGame (at_tick (history (new_world settings) events)) k
+      get (history (new_world start) (events ++ ticked ∷ [])).game.players k ≡ Some p →
+      IsDecoded (decoder_of (received k (new_world start) (events ++ ticked ∷ [])))
+      (stream k (new_world start) (events ++ ticked ∷ [])) packets →
+      ShowsGame (at_tick (history (new_world start) events)) k
       (replay new_replica (played packets))
   -- at each moment, a client decodes those bytes, by the handshake that it sent, and as the packets
   -- that it was handed
   pub decoded : (events later : List Event) (k : ℕ) → log ≡ events ++ later →
-      IsDecoded (decoder_of (received k (new_world settings) events))
-      (stream k (new_world settings) events) (handed k (new_world settings) events)
+      IsDecoded (decoder_of (received k (new_world start) events))
+      (stream k (new_world start) events) (handed k (new_world start) events)
   -- At each moment there are players exactly for the connections in play, and no connection has a
   -- number that may join next. Each player is one entity, which has its number and its identifier
   -- and holds what its pack has at its hand; and each entity of a player is of one in play. Packets
   -- can tell what is in the game.
   pub good : (events later : List Event) → log ≡ events ++ later →
-      GoodWorld (history (new_world settings) events)
+      GoodWorld (history (new_world start) events)
   -- the bytes that a client took are the first ones of those that it was handed, and no others are
   -- missing but those that it is owed, and those that went as it left, as it broke or as Backlog;
   -- it is closed exactly where a cause is kept of it, which is the first that it was closed for
   pub promised : (events later : List Event) (k : ℕ) → log ≡ events ++ later →
-      Promised k (new_world settings) events
+      Promised k (new_world start) events
   -- a connection is there until it is forgotten, which is when it is closed and owed nothing
   pub stays : (events : List Event) (e : Event) (later : List Event) (k : ℕ) (l : Link) →
       log ≡ events ++ e ∷ [] ++ later →
-      get (history (new_world settings) events).links k ≡ Some l →
-      Lasts k (history (new_world settings) events) e l
+      get (history (new_world start) events).links k ≡ Some l →
+      Lasts k (history (new_world start) events) e l
   -- each tick hands out just what is due
   pub ticks : (events later : List Event) → log ≡ events ++ ticked ∷ [] ++ later →
-      AtTick (history (new_world settings) events)
+      AtTick (history (new_world start) events)
   -- and leaves the game that clients were shown
   pub after : (events later : List Event) → log ≡ events ++ ticked ∷ [] ++ later →
-      AfterTick (history (new_world settings) events)
+      AfterTick (history (new_world start) events)
   -- between two ticks a client in play is handed at most its farewell
   pub between : (events : List Event) (e : Event) (later : List Event) (k : ℕ) (p : Player) →
       log ≡ events ++ e ∷ [] ++ later →
-      get (history (new_world settings) events).game.players k ≡ Some p → e ≢ ticked →
-      Between (history (new_world settings) events) e k p
+      get (history (new_world start) events).game.players k ≡ Some p → e ≢ ticked →
+      Between (history (new_world start) events) e k p
   -- and one that logs in the answer to its login
   pub logging_in : (events : List Event) (e : Event) (later : List Event) (k : ℕ) (l : Link) →
       log ≡ events ++ e ∷ [] ++ later →
-      get (history (new_world settings) events).links k ≡ Some l → l.stage ≡ stages.Login →
-      LoggingIn (history (new_world settings) events) e k l
+      get (history (new_world start) events).links k ≡ Some l → l.stage ≡ stages.Login →
+      LoggingIn (history (new_world start) events) e k l
   -- each event closes just the connections that it has a cause to close
   pub closing : (events : List Event) (e : Event) (later : List Event) →
-      log ≡ events ++ e ∷ [] ++ later → Closing (history (new_world settings) events) e
+      log ≡ events ++ e ∷ [] ++ later → Closing (history (new_world start) events) e
   -- at each moment no item was lost or made but by kits, digging and placing
   pub balance : (events later : List Event) → log ≡ events ++ later →
-      Balance (history (new_world settings) events).game
+      Balance (history (new_world start) events).game

@@ -5,7 +5,9 @@ pub mod Things
 pub mod Notes
 pub mod Stages
 pub mod Maps
+pub mod Mobs
 pub mod Game
+pub mod Minds
 pub mod Names
 pub mod Deeds
 pub mod Leaving

@@ -21,7 +21,8 @@ use Rattle.mc_column.specs.Body.{BodyValue, body_read, put_body}
 use Rattle.mc_packets.specs.declared.down.Down.{Down}
 use Rattle.mc_packets.specs.declared.down.Down.TheVariants.{KeepAlive, JoinGame, Chat, Time, Chunk}
 use Rattle.mc_packets.specs.declared.down.Down.TheVariants.{List as PlayerList, MultiChange, Change}
-use Rattle.mc_packets.specs.declared.down.Down.TheVariants.{SpawnPlayer, SpawnObject, Equipment}
+use Rattle.mc_packets.specs.declared.down.Down.TheVariants.{SpawnPlayer, SpawnObject, SpawnMob}
+use Rattle.mc_packets.specs.declared.down.Down.TheVariants.{Equipment}
 use Rattle.mc_packets.specs.declared.down.Down.TheVariants.{Destroy, Step, Look, StepLook, Teleport}
 use Rattle.mc_packets.specs.declared.down.Down.TheVariants.{HeadLook, Meta, OpenWindow, SetSlot}
 use Rattle.mc_packets.specs.declared.down.Down.TheVariants.{CloseWindow, WindowItems}
@@ -159,6 +160,7 @@ abbrev pub worn_by : SeenKind → ℤ → Slot → Seen → Seen
 worn_by (seen_kinds.Player uuid) worn pile e =
     if int_eq worn (pos 0) then record e { pile = pile } else e
 worn_by seen_kinds.Dropped worn pile e = e
+worn_by seen_kinds.Mob worn pile e = e
 
 abbrev pub wearing : ℤ → Slot → Seen → Seen
 wearing worn pile e = worn_by e.kind worn pile e
@@ -167,6 +169,7 @@ wearing worn pile e = worn_by e.kind worn pile e
 abbrev pub lying_of : SeenKind → ℕ → Slot → Seen → Seen
 lying_of (seen_kinds.Player uuid) index pile e = e
 lying_of seen_kinds.Dropped index pile e = if index == 10 then record e { pile = pile } else e
+lying_of seen_kinds.Mob index pile e = e
 
 abbrev pub with_value : ℕ → MetaValue → Seen → Seen
 with_value index (values.Slot pile) e = lying_of e.kind index pile e
@@ -274,6 +277,11 @@ apply r (SpawnPlayer eid uuid x y z yaw pitch item metas) =
 apply r (SpawnObject eid kind x y z pitch yaw extra motion) =
     with_entities r (with_object r.sight.entities eid kind
     (record { x = x; y = y; z = z; yaw = yaw; pitch = pitch }))
+apply r (SpawnMob eid kind x y z yaw pitch head dx dy dz metas) =
+    with_entities r (insert r.sight.entities eid (record
+    (coming seen_kinds.Mob (record { x = x; y = y; z = z; yaw = yaw; pitch = pitch })) {
+      head = head;
+    }))
 apply r (Destroy eids) = with_entities r (without_eids r.sight.entities eids)
 apply r (Step eid dx dy dz on_ground) =
     with_entity r eid (λ (e : Seen). put_at (onward dx dy dz e.spot) e)

@@ -2,7 +2,7 @@
 -- from what it was shown at the last tick. Rules of this project.
 use Rattle.std.specs.Prelude.{List, [], ◌++◌, drop, map, Option, Some, is_some, unwrap_or}
 use Rattle.std.specs.Prelude.{if◌then◌else◌}
-use Rattle.std.specs.List.{filter, filter_map}
+use Rattle.std.specs.List.{filter}
 use Rattle.std.specs.FinMap.{from_entries}
 use lib.IntN.{pos}
 use Rattle.mc_slots.specs.Pile.{slot_of}
@@ -30,7 +30,7 @@ sight_of g p last = record {
   age = Some (pos (shown_age g.age));
   pairs = from_entries (map (λ (other : Player). (other.uuid, other.name)) (players_of g));
   columns = from_entries (map (λ (place : Place). (place, column_in g place)) (view_in g p));
-  entities = from_entries (filter_map seen_of
+  entities = from_entries (map seen_of
       (filter (is_in_sight g p) (others (pos p.eid) g.entities)));
   window = window_seen (pack_of g p) (chest_of g p);
   pack = map slot_of (pack_of g p).slots;

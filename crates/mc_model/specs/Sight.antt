@@ -1,5 +1,5 @@
 -- What a client can see: the one type of what the server shows to it and of what its replica holds.
-use Rattle.std.specs.Prelude.{ℕ, List, [], map, option_map, replicate, Option, None, Some}
+use Rattle.std.specs.Prelude.{ℕ, List, [], map, option_map, replicate, Option, None}
 use Rattle.std.specs.Ordering.{nat_cmp, int_cmp}
 use Rattle.std.specs.FinMap.{FinMap, empty}
 use lib.IntN.{ℤ}
@@ -69,13 +69,13 @@ nothing_seen = record {
 abbrev pub others : ℤ → List Entity → List Entity
 others eid entities = without eid_of eid entities
 
--- a player and a dropped item as they are seen; mobs are not seen yet
-abbrev pub seen_as : Entity → EntityKind → Option (ℤ × Seen)
-seen_as e (kinds.Player uuid held) = Some (
+-- an entity as it is seen; a mob has no pile
+abbrev pub seen_as : Entity → EntityKind → ℤ × Seen
+seen_as e (kinds.Player uuid held) = (
   e.eid,
   record { kind = seen_kinds.Player uuid; spot = e.spot; head = e.spot.yaw; pile = slot_of held },
 )
-seen_as e (kinds.Dropped item born) = Some (
+seen_as e (kinds.Dropped item born) = (
   e.eid,
   record {
     kind = seen_kinds.Dropped;
@@ -84,9 +84,12 @@ seen_as e (kinds.Dropped item born) = Some (
     pile = slot_of (Full item);
   },
 )
-seen_as e kinds.Mob = None
+seen_as e kinds.Mob = (
+  e.eid,
+  record { kind = seen_kinds.Mob; spot = e.spot; head = e.spot.yaw; pile = slots.Empty },
+)
 
-abbrev pub seen_of : Entity → Option (ℤ × Seen)
+abbrev pub seen_of : Entity → ℤ × Seen
 seen_of e = seen_as e e.kind
 
 -- the window of a chest with these piles, of the number that a pack has for it

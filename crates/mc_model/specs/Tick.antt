@@ -1,5 +1,5 @@
--- A tick: the game is a tick older, those that are silent leave, players pick up what lies near
--- them, and every client in play is shown one and the same game. Rules of this project; that a
+-- A tick: the game is a tick older, those that are silent leave, mobs move, players pick up what lies
+-- near them, and every client in play is shown one and the same game. Rules of this project; that a
 -- client answers beats is of the page 'Protocol' of wiki.vg for protocol 47, Keep Alive.
 use Rattle.std.specs.Prelude.{ℕ, ◌+◌, ◌&&◌, not, nat_le, Bool, List, [], ◌++◌, map, Option, Some}
 use Rattle.std.specs.Prelude.{None, if◌then◌else◌}
@@ -17,6 +17,7 @@ use Rattle.mc_model.specs.Ticks.{beat_at, older}
 use Rattle.mc_model.specs.Maps.{map_keyed}
 use Rattle.mc_model.specs.Game.{Game}
 use Rattle.mc_model.specs.Link.{Handing, Link, disconnect, hand, quiet}
+use Rattle.mc_model.specs.Minds.{mobs_moved, plans_left}
 use Rattle.mc_model.specs.Pickups.{pickups}
 use Rattle.mc_model.specs.Showing.{due, last_shown, sight_of}
 use Rattle.mc_model.specs.World.{Outcome, World, each}
@@ -57,14 +58,18 @@ grown g = record g { age = older g.age }
 abbrev pub aged : World → World
 aged w = record w { game = grown w.game }
 
+-- mobs move by their plans
+abbrev pub moving : World → World
+moving w = record w { game = mobs_moved w.plans w.game; plans = plans_left w.game w.plans }
+
 -- players pick up what lies near them
 abbrev pub picking : World → World
 picking w = record w { game = pickups w.game }
 
 -- the world of a tick, as all clients are shown it: those that were silent for too long are gone,
--- and all others have picked up what they could
+-- mobs have moved, and players have picked up what they could
 abbrev pub at_tick : World → World
-at_tick w = picking (beats (aged w))
+at_tick w = picking (moving (beats (aged w)))
 
 -- ---- showing it
 

@@ -1,11 +1,10 @@
 -- The world: the game and its connections, and what is remembered of these apart from both. A step
 -- of one connection takes its seat, and no world. Rules of this project.
-use Rattle.std.specs.Prelude.{ℕ, Bool, false, List, [], ◌∷◌, Option, Some, None, unwrap_or}
+use Rattle.std.specs.Prelude.{ℕ, Bool, false, List, [], ◌∷◌, length, Option, Some, None, unwrap_or}
 use Rattle.std.specs.List.{filter}
 use Rattle.std.specs.Ordering.{nat_cmp}
 use Rattle.std.specs.FinMap.{FinMap, empty, get, insert}
 use Rattle.std.specs.FinMap as finmap
-use Rattle.mc_model.specs.declared.settings.Settings.{Settings}
 use Rattle.mc_model.specs.Packets.{Sent}
 use Rattle.mc_model.specs.Sight.{Sight}
 use Rattle.mc_model.specs.Stages.{is_closed}
@@ -13,6 +12,7 @@ use Rattle.mc_model.specs.Maps.{map_keyed}
 use Rattle.mc_model.specs.Game.{Game, new_game}
 use Rattle.mc_model.specs.Leaving.{leave_all}
 use Rattle.mc_model.specs.Link.{Handing, Link}
+use Rattle.mc_model.specs.Minds.{Plans, Start, plans_of}
 
 -- the bytes of a connection that came and were not read, since they are no whole frame yet, and how
 -- many came before them
@@ -25,6 +25,8 @@ nothing_unread = record { rest = []; before = 0 }
 
 pub record World : Type 0 where
   pub game : Game
+  -- what is left of each mob's plan
+  pub plans : Plans
   -- the connections, each under the number that it joined with
   pub links : FinMap nat_cmp Link
   -- what of each is not read, where anything came of it
@@ -34,9 +36,10 @@ pub record World : Type 0 where
   -- the number of the last join
   pub last : Option ℕ
 
-abbrev pub new_world : Settings → World
-new_world settings = record {
-  game = new_game settings;
+abbrev pub new_world : Start → World
+new_world start = record {
+  game = new_game start.settings (length (plans_of start));
+  plans = plans_of start;
   links = empty;
   unread = empty;
   shown = empty;

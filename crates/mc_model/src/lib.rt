@@ -9,6 +9,7 @@
 mod cause;
 mod eid;
 mod fields;
+mod mobs;
 mod name;
 mod notes;
 mod pickups;
@@ -22,6 +23,7 @@ mod wish;
 
 pub use cause::{Cause, Refusal};
 pub use eid::Eid;
+pub use mobs::{MOB_STEP, MOBS_IN_ROW, MOBS_MAX, mob_spot};
 pub use name::Name;
 pub use notes::{Answered, Notes};
 pub use pickups::{PICKUP_HEIGHT, PICKUP_SIDE, PICKUP_TICKS};

@@ -9,4 +9,6 @@ pub enum SeenKind {
     Player(u128),
     /// A dropped item.
     Dropped,
+    /// A mob.
+    Mob,
 }

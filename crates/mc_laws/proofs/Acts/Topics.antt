@@ -1,8 +1,8 @@
 -- Of which deeds it is made what a player does that moves, digs, drops, places, or opens or closes
 -- a window, topic by topic; clicks are in `Clicks`.
-use Rattle.std.proofs.Common.{◌≡◌, ℕ, suc, ◌+◌, ◌*◌, ◌<◌, ◌≤◌, Bool, true, false, [], ◌∷◌}
+use Rattle.std.proofs.Common.{◌≡◌, ℕ, ◌+◌, ◌*◌, ◌<◌, ◌≤◌, Bool, true, false, [], ◌∷◌}
 use Rattle.std.proofs.Common.{Option, Some, None, refl, subst, ap, ◌∙◌, arith}
-use Rattle.std.specs.Prelude.{◌&&◌, ◌==◌, not, is_some, length, min, nat_le, nat_lt, unsigned_abs}
+use Rattle.std.specs.Prelude.{◌&&◌, ◌==◌, not, is_some, length, min, nat_le, nat_lt}
 use Rattle.std.specs.Prelude.{if◌then◌else◌}
 use Rattle.std.proofs.lemmas.Bool.{and_parts, eqb-true, leb-true, ltb-true, not-false}
 use Rattle.std.proofs.lemmas.Bool.Decides.{nat_tests}
@@ -20,7 +20,7 @@ use Rattle.mc_land.specs.Land.{is_chest}
 use Rattle.mc_windows.specs.Pack.{IsPack, PackValue, answered_pack, begun_pack, is_waiting_for}
 use Rattle.mc_windows.proofs.Ranges.{left_is_pile}
 use Rattle.mc_entities.specs.declared.entity.EntityKind.TheVariants as kinds
-use Rattle.mc_entities.specs.Shift.{is_between, is_inside}
+use Rattle.mc_entities.specs.Shift.{is_inside}
 use Rattle.mc_model.specs.declared.notes.Notes.{Notes}
 use Rattle.mc_model.specs.declared.player.Player.{Player}
 use Rattle.mc_model.specs.Balance.{one_of, sort_of}
@@ -38,10 +38,10 @@ use Rattle.mc_model.specs.Game.{Game, chest_at, held_by, pack_of, room_in, spot_
 use Rattle.mc_model.specs.Good.{Good}
 use Rattle.mc_model.specs.Deeds.{noting, repack_of, stand_of, with_player, with_state}
 use Rattle.mc_model.specs.Movement.{arrive, arrived, placed_again}
-use Rattle.mc_model.specs.Fitting.{SpotFits, Told}
+use Rattle.mc_model.specs.Fitting.{Told}
 use Rattle.mc_model.proofs.Maps.Options.{some_is}
 use Rattle.mc_model.proofs.FitsNotes.{NotesFit}
-use Rattle.mc_laws.proofs.Landings.{IsTurned}
+use Rattle.mc_laws.proofs.Landings.{IsTurned, inside_fits}
 use Rattle.mc_laws.proofs.ThingsActs.{floor_fits, item_state_is}
 use Rattle.mc_laws.proofs.ThingsFit.{air, block_is_item, spawn_fits}
 use Rattle.mc_laws.proofs.Weighing.Stock.{pack_handed, parted}
@@ -63,15 +63,6 @@ use Rattle.mc_laws.proofs.Windows.Clicks.{answered_window}
 use Rattle.mc_laws.proofs.Windows.Closing.{open_right, shut_right}
 use Rattle.mc_laws.proofs.Windows.Viewers.{dug_right, placed_same}
 use Rattle.mc_laws.proofs.Fits.Told.{CanCome, cell_told}
-
--- what is within a range is not large
-within_small : (low high : ℕ) (n : ℤ) → suc low ≤ high →
-    is_between (negsuc low) (pos high) n ≡ true → unsigned_abs n ≤ high
-within_small low high n le t = grind (arith, nat_tests)
-
--- a place in the range of players fits
-inside_fits : (spot : Spot) → IsTurned spot → is_inside spot ≡ true → SpotFits spot
-inside_fits spot is t = grind (arith, nat_tests, and_parts, within_small)
 
 hotbar : (place : ℤ) (hand : ℕ) → place_of_hotbar place ≡ Some hand → hand < 9
 hotbar (pos n) hand e = step (nat_lt n 9) refl e

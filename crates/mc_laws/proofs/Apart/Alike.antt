@@ -11,12 +11,14 @@ use Rattle.mc_model.specs.Leaving.{leave, leave_all}
 use Rattle.mc_model.specs.Link.{Handing, Link}
 use Rattle.mc_model.specs.Showing.{last_shown, sight_of}
 use Rattle.mc_model.specs.World.{World, each, is_closing}
-use Rattle.mc_model.specs.Tick.{aged, at_tick, beat, flush, grown, shown_all, tick, tick_hands}
-use Rattle.mc_model.specs.Tick.{told, told_player}
+use Rattle.mc_model.specs.Minds.{plans_left}
+use Rattle.mc_model.specs.Tick.{aged, at_tick, beat, beats, flush, grown, shown_all, tick}
+use Rattle.mc_model.specs.Tick.{tick_hands, told, told_player}
 use Rattle.mc_model.specs.Game.{Game, pack_of}
 use Rattle.mc_model.specs.Good.{Good}
 use Rattle.mc_laws.proofs.Apart.Leavings.{HasNothing}
 use Rattle.mc_laws.proofs.Apart.Swaps.{leave_after}
+use Rattle.mc_laws.proofs.TickRules.{tick_rules}
 use Rattle.mc_laws.proofs.Walk.Each.{each_last, each_links, told_good, told_players}
 use Rattle.mc_laws.proofs.Walk.Ticking.{at_tick_last, at_tick_shown, tick_handed, tick_link}
 use Rattle.mc_laws.proofs.Walk.Ticking.{tick_shown}
@@ -38,10 +40,23 @@ told_nothing k g none p there =
     let was = unmapped told_player (get g.players k) p (sym (told_players g k) ∙ there) in
     ap (λ (q : Player). (pack_of g q).cursor) (sym was.is) ∙ none was.value was.found
 
--- Two worlds in which a tick comes to one game, and all connections but one are the same, were
--- shown the same and are made the same of by the beat.
+-- where beats come to one game, and plans are the same, a tick comes to one game
+pub ticks_game : (w v : World) → w.plans ≡ v.plans →
+    (beats (aged w)).game ≡ (beats (aged v)).game → (at_tick w).game ≡ (at_tick v).game
+unfolding each
+ticks_game w v plans games = λ x. tick_rules (plans x) (games x)
+
+-- and leaves the same of plans
+pub ticks_plans : (w v : World) → w.plans ≡ v.plans →
+    (beats (aged w)).game ≡ (beats (aged v)).game → (at_tick w).plans ≡ (at_tick v).plans
+unfolding each
+ticks_plans w v plans games = λ x. plans_left (games x) (plans x)
+
+-- Two worlds in which a tick comes to one game and one rest of plans, and all connections but one
+-- are the same, were shown the same and are made the same of by the beat.
 pub record TicksAlike (k : ℕ) (w v : World) : Type 0 where
   pub game : (at_tick w).game ≡ (at_tick v).game
+  pub plans : (at_tick w).plans ≡ (at_tick v).plans
   pub last : w.last ≡ v.last
   pub links : (j : ℕ) → j ≢ k → get w.links j ≡ get v.links j
   pub shown : (j : ℕ) → j ≢ k → get w.shown j ≡ get v.shown j
@@ -78,6 +93,10 @@ module _ (k : ℕ) (w v : World) (a : TicksAlike k w v) where
 
   abbrev flush_v : ℕ → Link → Handing
   flush_v j l = flush (at_tick v).game (get (at_tick v).shown j) j l
+
+  pub plans_same : (tick w).world.plans ≡ (tick v).world.plans
+  unfolding each
+  plans_same = a.plans
 
   pub last_same : (tick w).world.last ≡ (tick v).world.last
   last_same = each_last flush_w (shown_all (at_tick w)) ∙ at_tick_last w ∙ a.last

@@ -195,6 +195,7 @@ module _ (k : ℕ) (w : World) (bytes before : List ℕ) (h : HasBadFrame k w by
       (with_seat (with_seat w k rest) k left_seat)
   bad_as_left = record {
     game = after_bytes.game ∙ sym leaves_too.game;
+    plans = refl;
     last = refl;
     links = λ j ne. put_other w.links k j _ ne ∙ sym (put_other w.links k j rest.link ne)
         ∙ sym (put_other (insert w.links k rest.link) k j left_seat.link ne);

@@ -14,7 +14,6 @@ use Rattle.mc_frame.specs.Cut.{Cut, Ends, IsCutAt, IsPart, SpellsFrames}
 use Rattle.mc_frame.proofs.Cuts.{ends_no_frame, unique}
 use Rattle.mc_frame.proofs.Stops.{nothing_part}
 use Rattle.mc_model.specs.declared.cause.Cause.TheVariants as causes
-use Rattle.mc_model.specs.declared.settings.Settings.{Settings as Begun}
 use Rattle.mc_model.specs.Cutting.{cut_of}
 use Rattle.mc_model.specs.Run.{AreBytes, history}
 use Rattle.mc_model.specs.Step.{Event, is_new, disconnect_for, on_bytes, on_cut, on_fault}
@@ -22,6 +21,7 @@ use Rattle.mc_model.specs.Step.{on_frames, read_to, step, still}
 use Rattle.mc_model.specs.Talk.{farewell}
 use Rattle.mc_model.specs.Stages.{is_closed}
 use Rattle.mc_model.specs.Link.{Handing, Link, gone}
+use Rattle.mc_model.specs.Minds.{Start}
 use Rattle.mc_model.specs.World.{Seat, Turn, Unread, World, new_world, seat_of}
 use Rattle.mc_model.specs.World.{unread_of}
 use Rattle.mc_model.specs.Tick.{tick}
@@ -352,14 +352,14 @@ stands_in k w bytes bad fits p =
       },
     )
 
-pub stands_before : (settings : Begun) (events : List Event) (k : ℕ) (bytes : List ℕ) →
+pub stands_before : (start : Start) (events : List Event) (k : ℕ) (bytes : List ℕ) →
     AreBytes events → IsBytes bytes →
-    (bad : HasBadFrame k (history (new_world settings) events) bytes) →
-    (before : List ℕ) × StandsBefore k (history (new_world settings) events) bytes bad.good before
-stands_before settings events k bytes are fits bad =
-    stands_in k (history (new_world settings) events) bytes bad fits
-    (run_part k events (new_world settings) are (record {
-      good = new_good settings;
+    (bad : HasBadFrame k (history (new_world start) events) bytes) →
+    (before : List ℕ) × StandsBefore k (history (new_world start) events) bytes bad.good before
+stands_before start events k bytes are fits bad =
+    stands_in k (history (new_world start) events) bytes bad fits
+    (run_part k events (new_world start) are (record {
+      good = new_good start;
       part = λ l there open_. absurd (none_some _ l (get-empty nat_cmp k) there);
       are = subst IsBytes (ap rest_in (sym (get-empty nat_cmp k))) no_bytes;
       early = λ new. get-empty nat_cmp k;

@@ -18,8 +18,7 @@ use Rattle.mc_model.specs.Leaving.{leave, leave_all}
 use Rattle.mc_model.specs.Link.{Link, disconnect, mark_closed, quiet}
 use Rattle.mc_model.specs.Showing.{due}
 use Rattle.mc_model.specs.World.{World, each, is_closing, on_link, seat_of, with_seat}
-use Rattle.mc_model.specs.Pickups.{pickups}
-use Rattle.mc_model.specs.Tick.{at_tick, awaiting, beat, beat_of, grown, is_silent}
+use Rattle.mc_model.specs.Tick.{aged, at_tick, awaiting, beat, beat_of, beats, grown, is_silent}
 use Rattle.mc_model.specs.Tick.{tick}
 use Rattle.mc_model.specs.Fitting.{Told}
 use Rattle.mc_model.specs.Good.{AreChests, AreShown, Good, GoodWorld, in_play}
@@ -32,8 +31,8 @@ use Rattle.mc_laws.proofs.Deeds.Leaving.{leave_nobody}
 use Rattle.mc_laws.proofs.Walk.Each.{disconnect_closes}
 use Rattle.mc_laws.proofs.Walk.Handings.{gone_closed}
 use Rattle.mc_laws.proofs.Walk.Ticking.{speaks_there, tick_unread}
-use Rattle.mc_laws.proofs.Apart.Alike.{TicksAlike, hands_same, last_same, left_same, shown_same}
-use Rattle.mc_laws.proofs.Apart.Alike.{tick_same}
+use Rattle.mc_laws.proofs.Apart.Alike.{TicksAlike, hands_same, last_same, left_same, plans_same}
+use Rattle.mc_laws.proofs.Apart.Alike.{shown_same, tick_same, ticks_game, ticks_plans}
 use Rattle.mc_laws.proofs.Apart.Leavings.{HasNothing}
 use Rattle.mc_laws.proofs.Decoding.Streams.{has_stage}
 use Rattle.mc_laws.proofs.Headline.Ticks.{at_tick_hands}
@@ -102,18 +101,19 @@ module _ (k : ℕ) (w v : World) (good : GoodWorld w) (a : OwesOther k w v) wher
         beat (grown v.game) (get v.shown j) j l) i) (a.links i ne)
   ]
 
-  same_tick : (at_tick w).game ≡ (at_tick v).game
+  same_beats : (beats (aged w)).game ≡ (beats (aged v)).game
   unfolding each
-  same_tick = ap pickups (
+  same_beats =
       (λ x. leave_all (filter (λ (i : ℕ). is_closing (λ (j : ℕ) (l : Link).
       beat (grown (a.game x)) (get (a.shown x) j) j l) i (get w.links i))
       (keys (a.game x).players)) (grown (a.game x)))
       ∙ (λ x. leave_all (filter (λ (i : ℕ). closing_same i x) (keys v.game.players))
-      (grown v.game)))
+      (grown v.game))
 
   alike : TicksAlike k w v
   alike = record {
-    game = same_tick;
+    game = ticks_game w v a.plans same_beats;
+    plans = ticks_plans w v a.plans same_beats;
     last = a.last;
     links = a.links;
     shown = λ j ne. ap (λ m. get m j) a.shown;
@@ -176,6 +176,7 @@ module _ (k : ℕ) (w v : World) (good : GoodWorld w) (h : IsFullIn k w v) where
   full_twin = record {
     game = game_same ∙ ap (λ (b : Bool). if b then leave k (tick v).world.game
         else (tick v).world.game) (sym (gone_closed causes.Gone last_link));
+    plans = plans_same k w v same;
     last = last_same k w v same;
     links = λ j ne. tick_same k w v same j ne
         ∙ sym (put_other (tick v).world.links k j _ ne);
@@ -205,6 +206,7 @@ unfolding step
 took_room k n w l there = subst (λ (o : Option Link).
     OwesOther k w (on_link w k (take_from n) o).world) (sym there) (record {
       game = refl;
+      plans = refl;
       last = refl;
       links = λ j ne. sym (put_other w.links k j _ ne);
       unread = λ j ne. sym (put_other w.unread k j _ ne);

@@ -44,6 +44,7 @@ shut_seat : (k : ℕ) (w v : World) (t : Turn) → t.seat.game ≡ w.game →
     is_closed t.seat.link.stage ≡ true → SameBut k w v → SameBut k (with_seat w k t.seat) v
 shut_seat k w v t game closed a = record {
   game = game ∙ a.game;
+  plans = a.plans;
   last = a.last;
   links = λ j ne. put_other w.links k j t.seat.link ne ∙ a.links j ne;
   unread = λ j ne. put_other w.unread k j t.seat.unread ne ∙ a.unread j ne;
@@ -91,6 +92,7 @@ module _ (k : ℕ) (w v : World) (good : GoodWorld w) (a : SameBut k w v) where
       } else w) v) [
         | true ↦ record {
           game = a.game;
+          plans = a.plans;
           last = a.last;
           links = λ j ne. gone_other w.links k j ne ∙ a.links j ne;
           unread = λ j ne. gone_other w.unread k j ne ∙ a.unread j ne;
@@ -134,6 +136,7 @@ pub seats_alike : (k : ℕ) (w : World) (t u : Turn) → t.seat.game ≡ u.seat.
     SameBut k (with_seat w k t.seat) (with_seat w k u.seat)
 seats_alike k w t u game closed closed_too = record {
   game = game;
+  plans = refl;
   last = refl;
   links = λ j ne. put_other w.links k j t.seat.link ne ∙ sym (put_other w.links k j u.seat.link ne);
   unread = λ j ne.

@@ -23,6 +23,7 @@ nothing_only k w = record {
   unread = λ j ne. refl;
   shown = λ j ne. refl;
   traits = λ j ne. refl;
+  plans = refl;
 }
 
 seat_only : (k : ℕ) (w : World) (f : Seat → Turn) →
@@ -40,6 +41,7 @@ seat_only k w f good = at_link (get w.links k) refl
           unread = λ j ne. put_other w.unread k j _ ne;
           shown = λ j ne. refl;
           traits = s.others.traits;
+          plans = refl;
         }
 
 join_only : (k : ℕ) (w : World) → OnlySender k w (silent (join w k))
@@ -51,6 +53,7 @@ join_only k w = elim (is_new k w.last) as (λ b. OnlySender k w (silent (if b
         unread = λ j ne. refl;
         shown = λ j ne. refl;
         traits = λ j ne. refl;
+        plans = refl;
       }
       | false ↦ nothing_only k w
     ]
@@ -69,6 +72,7 @@ forget_only k w (Some l) = elim (is_done l) as (λ b. OnlySender k w (silent (if
         unread = λ j ne. gone_other w.unread k j ne;
         shown = λ j ne. gone_other w.shown k j ne;
         traits = λ j ne. refl;
+        plans = refl;
       }
       | false ↦ nothing_only k w
     ]

@@ -18,7 +18,6 @@ use Rattle.mc_model.proofs.Maps.Options.{none_some, some_is}
 use Rattle.mc_model.specs.Leaving.{leave, leave_all}
 use Rattle.mc_model.specs.Link.{Link, disconnect, gone}
 use Rattle.mc_model.specs.World.{World, each, is_closing, on_link, seat_of, with_seat}
-use Rattle.mc_model.specs.Pickups.{pickups}
 use Rattle.mc_model.specs.Tick.{aged, at_tick, beat, beat_of, beats, grown, tick}
 use Rattle.mc_model.specs.Good.{GoodWorld, in_play}
 use Rattle.mc_model.specs.Apart.{FallsSilent, HandsAlike, IsShut, SameBut}
@@ -30,12 +29,12 @@ use Rattle.mc_laws.proofs.Apart.Swaps.{keys_removed, leave_but, leave_first, lea
 use Rattle.mc_laws.proofs.Walk.Each.{disconnect_closes}
 use Rattle.mc_laws.proofs.Walk.Handings.{gone_closed, not_in_play}
 use Rattle.mc_laws.proofs.Walk.Ticking.{beats_player, tick_unread}
-use Rattle.mc_laws.proofs.Apart.Alike.{TicksAlike, closing_alike, hands_same, last_same}
-use Rattle.mc_laws.proofs.Apart.Alike.{left_same, shown_same, tick_same}
+use Rattle.mc_laws.proofs.Apart.Alike.{TicksAlike, closing_alike, hands_same, last_same, left_same}
+use Rattle.mc_laws.proofs.Apart.Alike.{plans_same, shown_same, tick_same, ticks_game, ticks_plans}
 use Rattle.mc_laws.proofs.Headline.Ticks.{at_tick_hands, others_stay}
 use Rattle.mc_laws.proofs.Runs.Seats.{nobody_yet}
 use Rattle.mc_laws.proofs.Runs.Worlds.{at_tick_world, step_good}
-use Rattle.mc_laws.proofs.Pickups.Picking.{pickups_leave}
+use Rattle.mc_laws.proofs.TickRules.{rules_leave}
 
 -- what a beat makes of a connection hangs on the age and on its player alone
 beat_alike : (g v : Game) (shown : Option Sight) (l : Link) (o q : Option Player) →
@@ -117,10 +116,9 @@ module _ (k : ℕ) (w : World) (good : GoodWorld w) (h : FallsSilent k w) where
       (λ (j : ℕ) (l : Link). beat (grown before.game) (get w.shown j) j l) i
       (get w.links i) (get before.links i) (beat_same i ne) (links_before i ne)
 
-  same_tick : (at_tick w).game ≡ (at_tick before).game
+  same_beats : (beats (aged w)).game ≡ (beats (aged before)).game
   unfolding each
-  same_tick = ap pickups (
-      sym (leave_nobody k (beats (aged w)).game gone_then)
+  same_beats = sym (leave_nobody k (beats (aged w)).game gone_then)
       ∙ leave_first k (filter closes_here (keys w.game.players)) (grown w.game) good.game
       has_nothing
       ∙ leave_but k closes_here closes_there closing_same (keys w.game.players)
@@ -129,11 +127,12 @@ module _ (k : ℕ) (w : World) (good : GoodWorld w) (h : FallsSilent k w) where
       (leave_same k (grown w.game)))
       ∙ (λ x. leave_all (filter closes_there (keys_left x)) (grown_left x))
       ∙ (λ x. leave_all (filter closes_there (keys (sym game_before x).players))
-      (grown (sym game_before x))))
+      (grown (sym game_before x)))
 
   alike : TicksAlike k w before
   alike = record {
-    game = same_tick;
+    game = ticks_game w before refl same_beats;
+    plans = ticks_plans w before refl same_beats;
     last = refl;
     links = links_before;
     shown = λ j ne. refl;
@@ -142,7 +141,8 @@ module _ (k : ℕ) (w : World) (good : GoodWorld w) (h : FallsSilent k w) where
 
   -- it is not there in it
   nobody_now : get (at_tick w).game.players k ≡ None
-  nobody_now = ap (λ m. get m k) (pickups_leave (beats (aged w)).game).players ∙ gone_then
+  nobody_now = ap (λ m. get m k) (rules_leave (beats (aged w)).plans (beats (aged w)).game).players
+      ∙ gone_then
 
   -- ---- after it
 
@@ -169,6 +169,7 @@ module _ (k : ℕ) (w : World) (good : GoodWorld w) (h : FallsSilent k w) where
         ∙ left_same k w before alike (at_tick_world w good).game
         (λ p there. absurd (none_some (get (at_tick w).game.players k) p nobody_now there))
         ∙ leave_nobody k (tick before).world.game nobody_then;
+    plans = plans_same k w before alike;
     last = last_same k w before alike;
     links = tick_same k w before alike;
     unread = λ j ne. ap (λ m. get m j) (tick_unread w)

@@ -12,7 +12,7 @@ use Rattle.mc_model.specs.Leaving.{leave_all}
 use Rattle.mc_model.specs.Link.{Handing, Link, quiet}
 use Rattle.mc_model.specs.Showing.{last_shown, sight_of}
 use Rattle.mc_model.specs.World.{World, each, is_closing}
-use Rattle.mc_model.specs.Pickups.{pickups}
+use Rattle.mc_model.specs.Minds.{plans_left}
 use Rattle.mc_model.specs.Tick.{aged, at_tick, beat, beat_of, beats, flush, flush_of, flushed}
 use Rattle.mc_model.specs.Tick.{grown, shown_all, tick, told}
 use Rattle.mc_model.specs.Good.{GoodWorld, in_play}
@@ -21,6 +21,7 @@ use Rattle.mc_model.proofs.Maps.Lookups.{get_keyed}
 use Rattle.mc_laws.proofs.Apart.Swaps.{leave_but}
 use Rattle.mc_laws.proofs.Walk.Handings.{not_in_play}
 use Rattle.mc_laws.proofs.Walk.Each.{each_links}
+use Rattle.mc_laws.proofs.TickRules.{tick_rules}
 use Rattle.mc_laws.proofs.Runs.Worlds.{at_tick_world}
 use Rattle.mc_laws.proofs.Apart.Alike.{closing_alike, hands_same}
 
@@ -63,6 +64,7 @@ module _ (k : ℕ) (f g : ℕ → Link → Handing) (w v : World)
   unfolding each
   each_apart = record {
     game = same_game;
+    plans = a.plans;
     last = a.last;
     links = λ i ne. each_links f w i ∙ ap (option_map (λ (l : Link). (f i l).link)) (a.links i ne)
         ∙ at_link i ne (get v.links i) ∙ sym (each_links g v i);
@@ -92,6 +94,7 @@ module _ (k : ℕ) (w v : World) (good : GoodWorld w) (a : SameBut k w v) where
       (λ i ne l. λ x. beat (grown (a.game x)) (a.shown i ne x) i l)
       (record {
         game = λ i. grown (a.game i);
+        plans = a.plans;
         last = a.last;
         links = a.links;
         unread = a.unread;
@@ -105,7 +108,8 @@ module _ (k : ℕ) (w v : World) (good : GoodWorld w) (a : SameBut k w v) where
 
   ticks_alike : SameBut k (at_tick w) (at_tick v)
   ticks_alike = let b = beats_alike in record {
-    game = ap pickups b.game;
+    game = λ i. tick_rules (b.plans i) (b.game i);
+    plans = λ i. plans_left (b.game i) (b.plans i);
     last = b.last;
     links = b.links;
     unread = b.unread;
@@ -117,6 +121,7 @@ module _ (k : ℕ) (w v : World) (good : GoodWorld w) (a : SameBut k w v) where
   shown_alike : (none : get w.game.players k ≡ None) → SameBut k (shown_all w) (shown_all v)
   shown_alike none = record {
     game = λ i. told (a.game i);
+    plans = a.plans;
     last = a.last;
     links = a.links;
     unread = a.unread;
@@ -143,6 +148,7 @@ tick_apart k w v good a =
       worlds = flushes_alike k (at_tick w) (at_tick v) (at_tick_world w good) b;
       hands = hands_same k w v (record {
         game = b.game;
+        plans = b.plans;
         last = a.last;
         links = a.links;
         shown = a.shown;

@@ -48,6 +48,7 @@ module _ (k j : ℕ) (w v : World) (ne : j ≢ k) (a : SameBut k w v) where
       record {
         worlds = record {
           game = refl;
+          plans = a.plans;
           last = a.last;
           links = put_alike k j w.links v.links a.links t.seat.link t.seat.link refl;
           unread = put_alike k j w.unread v.unread a.unread t.seat.unread t.seat.unread refl;
@@ -77,6 +78,7 @@ module _ (k j : ℕ) (w v : World) (ne : j ≢ k) (a : SameBut k w v) where
       then record v { last = Some j; links = insert v.links j (joining v) } else v)))
       (ap (is_new j) a.last) (at_new (is_new j w.last) (record {
         game = a.game;
+        plans = a.plans;
         last = refl;
         links = put_alike k j w.links v.links a.links (joining w) (joining v) alike;
         unread = a.unread;
@@ -115,6 +117,7 @@ module _ (k j : ℕ) (w v : World) (ne : j ≢ k) (a : SameBut k w v) where
           })
       less = (let far : k ≢ j = λ same. ne (sym same) in record {
         game = a.game;
+        plans = a.plans;
         last = a.last;
         links = gone_alike k j w.links v.links a.links;
         unread = gone_alike k j w.unread v.unread a.unread;

@@ -64,6 +64,7 @@ seated_same w k one first second a = record {
   own = λ l there open_. put_again k w.unread one.seat.unread first.seat.unread
       second.seat.unread (a.seat.unread (subst (λ (m : Link). is_closed m.stage ≡ false)
       (some_is l one.seat.link (sym there ∙ put_same w.links k one.seat.link)) open_)) k;
+  plans = refl;
   shown = refl;
   last = refl;
 }
@@ -76,6 +77,7 @@ same_silence k w = record {
   links = λ j. refl;
   unread = λ j ne. refl;
   own = λ l there open_. refl;
+  plans = refl;
   shown = refl;
   last = refl;
 }

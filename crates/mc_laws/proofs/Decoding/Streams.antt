@@ -12,13 +12,13 @@ use Rattle.mc_model.specs.declared.cause.Cause.TheVariants as causes
 use Rattle.mc_model.specs.declared.stage.Stage.{Stage}
 use Rattle.mc_model.specs.declared.stage.Stage.TheVariants as stages
 use Rattle.mc_model.specs.declared.player.Player.{Player}
-use Rattle.mc_model.specs.declared.settings.Settings.{Settings as Begun}
 use Rattle.mc_model.specs.Decoding.{IsDecoded, decoder_of}
 use Rattle.mc_model.specs.Packets.{Decoder, Sent, bytes_of, of_play}
 use Rattle.mc_model.specs.Run.{AreBytes, to, handed, received, received_at, stream}
 use Rattle.mc_model.specs.Step.{Event, ticked, is_new, is_crowded, joining, on_bytes, step}
 use Rattle.mc_model.specs.Talk.{farewell}
 use Rattle.mc_model.specs.Game.{AreSettings}
+use Rattle.mc_model.specs.Minds.{Start}
 use Rattle.mc_model.specs.Stages.{is_closed, is_play}
 use Rattle.mc_model.specs.Link.{Handing, Link, gone, mark_closed, new_link}
 use Rattle.mc_model.specs.Showing.{due}
@@ -305,8 +305,8 @@ run_decoded k (e ∷ events) w bytes packets are sound d =
     (run_decoded k events v (bytes ++ received_at k w e) (packets ++ to k (step w e).out)
     parts.1 after_ next))
 
-nothing_decoded : (k : ℕ) (settings : Begun) → Decoded k (new_world settings) [] []
-nothing_decoded k settings = record {
+nothing_decoded : (k : ℕ) (start : Start) → Decoded k (new_world start) [] []
+nothing_decoded k start = record {
   here = λ l there. absurd (none_some _ l (get-empty nat_cmp k) there);
   waits = λ l there. absurd (none_some _ l (get-empty nat_cmp k) there);
   early = λ new. (refl, refl, get-empty nat_cmp k);
@@ -320,12 +320,12 @@ decoded_so : (o : Option Decoder) (packets : List Sent) → AreDecoded o packets
 decoded_so None packets none = (ap bytes_of none, none)
 decoded_so (Some decoder) packets h = decodes_bytes decoder h.0 packets h.1
 
-pub stream_decoded : (settings : Begun) (events : List Event) (k : ℕ) →
-    AreSettings settings.players settings.cap → AreBytes events →
-    IsDecoded (decoder_of (received k (new_world settings) events))
-    (stream k (new_world settings) events) (handed k (new_world settings) events)
-stream_decoded settings events k are bytes =
-    let w = new_world settings in
+pub stream_decoded : (start : Start) (events : List Event) (k : ℕ) →
+    AreSettings start.settings.players start.settings.cap → AreBytes events →
+    IsDecoded (decoder_of (received k (new_world start) events))
+    (stream k (new_world start) events) (handed k (new_world start) events)
+stream_decoded start events k are bytes =
+    let w = new_world start in
     decoded_so (decoder_of (received k w events)) (handed k w events)
-    (run_decoded k events w [] [] bytes (new_world_sound settings are)
-    (nothing_decoded k settings))
+    (run_decoded k events w [] [] bytes (new_world_sound start are)
+    (nothing_decoded k start))

@@ -2,20 +2,20 @@
 -- bytes that are not read.
 use Rattle.std.proofs.Common.{◌≡◌, ℕ, true, false, List, [], ◌∷◌, ◌++◌, Option, Some, None, refl}
 use Rattle.std.proofs.Common.{sym, subst, ap, ◌∙◌, arith}
-use Rattle.std.specs.Prelude.{option_map, unwrap_or, if◌then◌else◌}
+use Rattle.std.specs.Prelude.{length, option_map, unwrap_or, if◌then◌else◌}
 use Rattle.std.specs.Ordering.{nat_cmp}
 use Rattle.std.specs.FinMap.{get, get-empty, insert, remove}
 use Rattle.mc_bytes.specs.Reading.{IsBytes}
 use Rattle.mc_model.specs.declared.cause.Cause.TheVariants as causes
 use Rattle.mc_model.specs.declared.stage.Stage.{Stage}
 use Rattle.mc_model.specs.declared.player.Player.{Player}
-use Rattle.mc_model.specs.declared.settings.Settings.{Settings as Begun}
 use Rattle.mc_model.specs.Decoding.{decoder_of}
 use Rattle.mc_model.specs.Run.{AreBytes, history}
 use Rattle.mc_model.specs.Sight.{Sight}
 use Rattle.mc_model.specs.Step.{Event, joined, came, left, broke, ticked, took, forgot, is_new}
 use Rattle.mc_model.specs.Step.{depart, forget, join, joining, on_bytes, step, take_from}
 use Rattle.mc_model.specs.Game.{AreSettings, Game}
+use Rattle.mc_model.specs.Minds.{Start, plans_of}
 use Rattle.mc_model.specs.Stages.{is_closed}
 use Rattle.mc_model.specs.Leaving.{leave, left_by}
 use Rattle.mc_model.specs.Link.{Handing, Link, gone, is_done}
@@ -32,7 +32,8 @@ use Rattle.mc_laws.proofs.Runs.OneSteps.{takes, ticks}
 use Rattle.mc_laws.proofs.Runs.Worlds.{at_tick_world, new_good, step_good}
 use Rattle.mc_laws.proofs.Fits.Clear.{SoundGame, sight_fits}
 use Rattle.mc_laws.proofs.Fits.Sound.{grown_sound, leave_all_sound, leave_sound, new_sound}
-use Rattle.mc_laws.proofs.Fits.Sound.{pickups_sound, told_sound}
+use Rattle.mc_laws.proofs.Fits.Sound.{rules_sound, told_sound}
+use Rattle.mc_laws.proofs.Minds.Beginning.{few_mobs}
 use Rattle.mc_laws.proofs.Decoding.Seats.{IsSeat}
 use Rattle.mc_laws.proofs.Decoding.Frames.{BytesDecode, bytes_decode}
 
@@ -104,7 +105,7 @@ unfolding each
 each_sound f w sound = leave_all_sound (closed_by f w) w.game sound
 
 pub at_tick_sound : (w : World) → SoundGame w.game → SoundGame (at_tick w).game
-at_tick_sound w sound = pickups_sound (beats (aged w)).game
+at_tick_sound w sound = rules_sound (beats (aged w)).plans (beats (aged w)).game
     (each_sound (λ (k : ℕ) (l : Link). beat (grown w.game) (get w.shown k) k l) (aged w)
     (grown_sound w.game sound))
 
@@ -228,16 +229,14 @@ step_sound w e are sound = record {
   unread = λ k u there. unread_sound w e k u are sound there (one_step w e k sound.good);
 }
 
-pub new_world_sound : (settings : Begun) → AreSettings settings.players settings.cap →
-    SoundWorld (new_world settings)
-new_world_sound settings are =
-    let good = new_good settings in
-    record {
-      good = good;
-      game = new_sound settings are good.game;
-      shown = λ k s there. absurd (none_some _ s (get-empty nat_cmp k) there);
-      unread = λ k u there. absurd (none_some _ u (get-empty nat_cmp k) there);
-    }
+pub new_world_sound : (start : Start) → AreSettings start.settings.players start.settings.cap →
+    SoundWorld (new_world start)
+new_world_sound start are = record {
+  good = new_good start;
+  game = new_sound start.settings (length (plans_of start)) (few_mobs start) are;
+  shown = λ k s there. absurd (none_some _ s (get-empty nat_cmp k) there);
+  unread = λ k u there. absurd (none_some _ u (get-empty nat_cmp k) there);
+}
 
 pub run_sound : (events : List Event) (w : World) → AreBytes events → SoundWorld w →
     SoundWorld (history w events)

@@ -209,13 +209,13 @@ same_chests settings edits chests a = record {
 small_no_chest : (state : ℕ) → state < 256 → is_chest state ≡ false
 small_no_chest state small = grind (arith, nat_tests)
 
-pub new_chests : (settings : Settings) → AreChests (new_game settings)
-new_chests settings = record {
+pub new_chests : (settings : Settings) (mobs : ℕ) → AreChests (new_game settings mobs)
+new_chests settings mobs = record {
   chests = λ key piles there. absurd (none_some _ piles (get-empty key_cmp key) there);
   stand = λ cell inside.
       let key = key_of cell.x (unsigned_abs cell.y) cell.z in
-      ap is_some (chest_inside (new_game settings) cell inside ∙ get-empty key_cmp key)
-      ∙ sym (ap is_chest (state_inside (new_game settings) cell inside
+      ap is_some (chest_inside (new_game settings mobs) cell inside ∙ get-empty key_cmp key)
+      ∙ sym (ap is_chest (state_inside (new_game settings mobs) cell inside
       ∙ ap (λ (o : Option ℕ). unwrap_or o (terrain_at settings.terrain key))
       (get-empty key_cmp key))
       ∙ small_no_chest _ (terrain_small settings.terrain (x_of key) (y_of key) (z_of key)));

@@ -119,6 +119,17 @@ leaves_so g v same = record {
   players = λ i. (same i).players;
 }
 
+pub leaves_on : (g u v : Game) → Leaves g u → Leaves u v → Leaves g v
+leaves_on g u v a b = record {
+  settings = b.settings ∙ a.settings;
+  age = b.age ∙ a.age;
+  edits = b.edits ∙ a.edits;
+  chests = b.chests ∙ a.chests;
+  eids = b.eids ∙ a.eids;
+  lines = b.lines ∙ a.lines;
+  players = b.players ∙ a.players;
+}
+
 -- what each step of a fold keeps, all of them keep
 pub fold_keeps : {A : Type 0} (R : Game → Game → Type 0) → ((g : Game) → R g g) →
     ((g u v : Game) → R g u → R u v → R g v) → (f : Game → A → Game) →

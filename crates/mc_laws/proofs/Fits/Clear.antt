@@ -4,7 +4,7 @@ use Rattle.std.proofs.Common.{[], ◌∷◌, ◌++◌, map, length, Option, Some
 use Rattle.std.proofs.Common.{◌∙◌, arith, drop}
 use Rattle.std.specs.Prelude.{is_some, not, unsigned_abs}
 use Rattle.std.specs.Int.{w32}
-use Rattle.std.specs.List.{AllByRecursion, filter_map}
+use Rattle.std.specs.List.{AllByRecursion}
 use Rattle.std.specs.Ordering.{eq_by_cmp, int_cmp, int_eq, nat_cmp}
 use Rattle.std.specs.Cmp.{int_cmp_total, nat_cmp_total}
 use Rattle.std.specs.FinMap.{FinMap, entries}
@@ -42,7 +42,7 @@ use Rattle.mc_model.specs.Spots.{spawn_height}
 use Rattle.mc_model.specs.Showing.{due, last_shown, notes_due, opening_due, sight_of}
 use Rattle.mc_model.specs.Good.{AreChests, AreShown, Good}
 use Rattle.mc_model.specs.Fitting.{EntityFits, KindIsNamed, Told}
-use Rattle.mc_model.proofs.AllFacts.{all_chosen, all_dropped, all_joined, all_mapped}
+use Rattle.mc_model.proofs.AllFacts.{all_dropped, all_joined, all_mapped}
 use Rattle.mc_model.proofs.AllFacts.{few_filtered}
 use Rattle.mc_model.proofs.Decodes.{Decodes, IsClear}
 use Rattle.mc_model.proofs.FitsBeats.{beat_fits, shown_age_fits}
@@ -62,7 +62,7 @@ use Rattle.mc_laws.proofs.EachValue.{AllValues}
 use Rattle.mc_laws.proofs.FitsDue.{delta_clear, placing_clear}
 use Rattle.mc_laws.proofs.FitsSight.{SeenFits, SightFits, all_entries, column_near, few_shown}
 use Rattle.mc_laws.proofs.FitsSight.{size_few}
-use Rattle.mc_laws.proofs.Fits.Counted.{IsCounted, few_chosen}
+use Rattle.mc_laws.proofs.Fits.Counted.{IsCounted}
 use Rattle.mc_laws.proofs.Fits.Notes.{notes_owe}
 use Rattle.mc_laws.proofs.FitsUuid.{offline_small}
 use Rattle.mc_laws.proofs.ThingsFit.{PlayerIsTold}
@@ -116,8 +116,8 @@ eid_fits (negsuc n) low high = absurd (omega (arith, ints, low))
 
 -- an entity that fits is seen as such
 seen_fits : (e : Entity) (kind : EntityKind) → EntityFits e → IsKind kind → KindIsNamed kind →
-    (row : ℤ × Seen) → seen_as e kind ≡ Some row → SeenFits row
-seen_fits e kind fits is named row found = grind (arith, nat_tests, eid_fits, pile_slot_fits)
+    SeenFits (seen_as e kind)
+seen_fits e kind fits is named = grind (arith, nat_tests, eid_fits, pile_slot_fits)
 
 -- all that can be told holds of a game
 pub record SoundGame (g : Game) : Type 0 where
@@ -149,7 +149,7 @@ players_few : (g : Game) → length (players_of g) ≡ len g.players
 players_few g = length-map (entries g.players) (λ (e : ℕ × Player). e.1)
     ∙ sym (len-entries g.players)
 
--- an entity for each dropped item and each player
+-- an entity for each dropped item, each player and each mob
 pub entities_few : (g : Game) → SoundGame g → length g.entities ≤ 4210
 entities_few g sound =
     let all = sound.counted in
@@ -160,9 +160,9 @@ entities_few g sound =
 
 -- no more are seen than there are
 crowd_in_sight : (g : Game) (p : Player) → SoundGame g →
-    length (filter_map seen_of (in_sight g p)) ≤ 4210
+    length (map seen_of (in_sight g p)) ≤ 4210
 crowd_in_sight g p sound =
-    let seen = few_chosen seen_of (in_sight g p) in
+    let seen = length-map {B = ℤ × Seen} (in_sight g p) seen_of in
     let near = few_filtered (is_in_sight g p) (others (pos p.eid) g.entities) in
     let other = few_filtered (λ (e : Entity). not (int_eq (eid_of e) (pos p.eid))) g.entities in
     let few = entities_few g sound in
@@ -204,11 +204,11 @@ sight_fits g p last sound shown heard =
           })
           (view_in g p) places);
       entities = all_entries int_cmp int_cmp_total int_cmp-IsAntisymmetric SeenFits
-          (filter_map seen_of (in_sight g p))
-          (all_chosen EntityFits SeenFits seen_of
-          (λ x row fits found. seen_fits x x.kind fits fits.kind fits.named row found)
+          (map seen_of (in_sight g p))
+          (all_mapped EntityFits SeenFits seen_of
+          (λ x fits. seen_fits x x.kind fits fits.kind fits.named)
           (in_sight g p) (in_sight_fit g p sound.told));
-      crowd = few_shown int_cmp int_cmp_total 4210 (filter_map seen_of (in_sight g p))
+      crowd = few_shown int_cmp int_cmp_total 4210 (map seen_of (in_sight g p))
           (crowd_in_sight g p sound);
       window = λ w is. window_fits g p w sound.chests shown is;
       pack = piles_fit (pack_of g p).slots pack.are_piles;

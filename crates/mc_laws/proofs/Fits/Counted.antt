@@ -1,11 +1,10 @@
--- How many entities there are: no more than dropped items and players. So no sight has more of them
--- than one Destroy holds.
+-- How many entities there are: no more than dropped items, players and the mobs with which a world
+-- can begin. So no sight has more of them than one Destroy holds.
 use Rattle.std.proofs.Common.{◌≡◌, ℕ, ◌+◌, ◌≤◌, Bool, true, false, List, [], ◌∷◌, ◌++◌}
-use Rattle.std.proofs.Common.{length, zero, suc, Option, Some, refl, sym, subst, ap, ◌∙◌, arith}
-use Rattle.std.proofs.lemmas.Bool.Decides.{nat_tests}
+use Rattle.std.proofs.Common.{length, map, zero, suc, Some, refl, sym, subst, ap, ◌∙◌, arith}
 use Rattle.std.proofs.lemmas.List.{drop_all, length-append, length-map}
 use Rattle.std.specs.Prelude.{not, if◌then◌else◌}
-use Rattle.std.specs.List.{filter, filter_map}
+use Rattle.std.specs.List.{filter}
 use Rattle.std.specs.Ordering.{int_eq}
 use Rattle.std.specs.FinMap.{contains_key, entries, keys, len}
 use lib.IntN.{ℤ, pos}
@@ -17,6 +16,7 @@ use Rattle.mc_entities.specs.Numbers.{changed, numbered, without}
 use Rattle.mc_entities.specs.Folk.{dropped_in, eid_of}
 use Rattle.mc_packets.specs.declared.down.Down.{Down}
 use Rattle.mc_packets.specs.declared.down.Down.TheVariants.{Destroy}
+use Rattle.mc_model.specs.declared.mobs.TheConstants.{MOBS_MAX}
 use Rattle.mc_model.specs.declared.seen.TheConstants.{DESTROYED_MAX}
 use Rattle.mc_model.specs.Delta.{destroys_point, parts_of}
 use Rattle.mc_model.specs.Game.{Game, pack_of}
@@ -38,13 +38,16 @@ use Rattle.mc_laws.proofs.Fits.Told.{dropped_come, dropped_mapped}
 abbrev pub AreNoMore : List Entity → List Entity → Type 0
 AreNoMore es fs = length fs + dropped_in es ≤ length es + dropped_in fs
 
+pub mapped_counts : (f : Entity → Entity) → IsSteady f → (es : List Entity) →
+    AreNoMore es (map f es)
+mapped_counts f steady es =
+    let size = length-map {B = Entity} es f in
+    let lying = dropped_mapped f steady es in
+    omega (arith, size, lying)
+
 pub changed_counts : (eid : ℕ) (f : Entity → Entity) → IsSteady f → (es : List Entity) →
     AreNoMore es (changed eid_of (pos eid) f es)
-changed_counts eid f steady es =
-    let size = length-map {B = Entity} es
-    (λ (e : Entity). if int_eq (eid_of e) (pos eid) then f e else e) in
-    let lying = dropped_mapped _ (steady_at eid f steady) es in
-    omega (arith, size, lying)
+changed_counts eid f steady es = mapped_counts _ (steady_at eid f steady) es
 
 -- where a dropped item comes
 come_counts : (es : List Entity) (e : Entity) → is_dropped e.kind ≡ true →
@@ -104,9 +107,9 @@ body_gone n (e ∷ es) x found is =
 
 -- ---- games
 
--- there are no more entities than dropped items and players
+-- there are no more entities than dropped items, players and the mobs with which a world can begin
 abbrev pub IsCounted : Game → Type 0
-IsCounted g = length g.entities ≤ dropped_in g.entities + len g.players
+IsCounted g = length g.entities ≤ dropped_in g.entities + len g.players + MOBS_MAX
 
 module _ (G T H : Type 0) (k : ℕ) where
   deed_counts : (g v : Game) → Deed G T H k g v → AreNoMore g.entities v.entities
@@ -142,12 +145,6 @@ module _ (G T H : Type 0) (k : ℕ) where
       omega (arith, first, later)
 
 -- ---- sights
-
--- no more of a list are chosen than it has
-pub few_chosen : {A B : Type 0} (f : A → Option B) (xs : List A) →
-    length (filter_map f xs) ≤ length xs
-few_chosen f [] = omega arith
-few_chosen f (x ∷ xs) = grind (arith, nat_tests, few_chosen f xs)
 
 -- a list that is not longer is parted in one
 one_part : (n most : ℕ) (eids : List ℤ) → length eids ≤ most →

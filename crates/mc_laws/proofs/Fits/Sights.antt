@@ -1,9 +1,9 @@
 -- What is to be shown of a game can be told by packets, and follows what was shown of an earlier
 -- one.
-use Rattle.std.proofs.Common.{◌≡◌, ℕ, ◌<◌, ◌≤◌, true, List, [], ◌∷◌, ◌++◌, map, Option, Some, None}
-use Rattle.std.proofs.Common.{refl, sym, subst, ap, ◌∙◌, inl, inr, arith, drop}
-use Rattle.std.specs.Prelude.{◌⊎◌, ◌<ℤ◌, is_some, unsigned_abs, unwrap_or}
-use Rattle.std.specs.List.{All, AllByRecursion, filter, filter_map}
+use Rattle.std.proofs.Common.{◌≡◌, ℕ, ◌<◌, ◌≤◌, true, List, [], ◌∷◌, ◌++◌, map, Some, None}
+use Rattle.std.proofs.Common.{refl, sym, ap, ◌∙◌, inl, inr, arith, drop}
+use Rattle.std.specs.Prelude.{◌⊎◌, ◌<ℤ◌, is_some, unsigned_abs}
+use Rattle.std.specs.List.{All, AllByRecursion, filter}
 use Rattle.std.specs.declared.cmp.Ordering.{Ordering}
 use Rattle.std.specs.Ordering.{int_cmp}
 use Rattle.std.specs.Cmp.{int_cmp_total}
@@ -34,7 +34,7 @@ use Rattle.mc_model.specs.Showing.{sight_of}
 use Rattle.mc_model.specs.Good.{GoodWorld}
 use Rattle.mc_model.specs.Fitting.{EntityFits, GivenKinds, Told, kind_seen}
 use Rattle.mc_model.specs.World.{World}
-use Rattle.mc_model.proofs.AllFacts.{all_chosen, all_filtered}
+use Rattle.mc_model.proofs.AllFacts.{all_filtered, all_mapped}
 use Rattle.mc_model.proofs.Lasting.{Since}
 use Rattle.mc_laws.proofs.Deeds.Packs.{named_is_pack}
 use Rattle.mc_laws.proofs.Fits.Told.{state_small}
@@ -89,24 +89,23 @@ in_sight_fit g p t = all_filtered EntityFits (is_in_sight g p) (others (pos p.ei
 -- what holds of all entities, and so of the row that each is seen as, holds of each that is shown
 shown_holds : (P : Entity → Type 0) (Q : ℤ × Seen → Type 0) (g : Game) (p : Player) (last : Sight)
     (eid : ℤ) (e : Seen) →
-    ((x : Entity) (row : ℤ × Seen) → P x → seen_of x ≡ Some row → Q row) →
+    ((x : Entity) → P x → Q (seen_of x)) →
     AllByRecursion P g.entities → get (sight_of g p last).entities eid ≡ Some e → Q (eid, e)
 unfolding sight_of
 shown_holds P Q g p last eid e row all found =
-    found_row int_cmp int_cmp-IsAntisymmetric Q eid (filter_map seen_of (in_sight g p)) e
-    (all_chosen P Q seen_of row (in_sight g p)
+    found_row int_cmp int_cmp-IsAntisymmetric Q eid (map seen_of (in_sight g p)) e
+    (all_mapped P Q seen_of row (in_sight g p)
     (all_filtered P (is_in_sight g p) (others (pos p.eid) g.entities)
     (all_filtered P _ g.entities all)))
-    (sym (get-from_entries int_cmp_total (filter_map seen_of (in_sight g p)) eid) ∙ found)
+    (sym (get-from_entries int_cmp_total (map seen_of (in_sight g p)) eid) ∙ found)
 
 -- numbers of a spot are within 32 bits
 in_32_bits : (n : ℤ) → unsigned_abs n ≤ 960000016 → is_32_bits n ≡ true
 in_32_bits n small = grind (arith, nat_tests)
 
 -- an entity that fits is seen where packets can tell it
-seen_told : (e : Entity) (kind : EntityKind) → EntityFits e → (row : ℤ × Seen) →
-    seen_as e kind ≡ Some row → IsSeen row.1
-seen_told e kind fits row found = grind (arith, nat_tests, in_32_bits)
+seen_told : (e : Entity) (kind : EntityKind) → EntityFits e → IsSeen (seen_as e kind).1
+seen_told e kind fits = grind (arith, nat_tests, in_32_bits)
 
 -- ---- what packets can tell
 
@@ -124,7 +123,7 @@ sight_told w k p last good there =
           rw (shown_column g p last place column found) (column_small g place t);
       entities = λ eid e found.
           shown_holds EntityFits (λ (row : ℤ × Seen). IsSeen row.1) g p last eid e
-          (λ x row fits is. seen_told x x.kind fits row is) t.fits found;
+          (λ x fits. seen_told x x.kind fits) t.fits found;
       window = λ window is. window_told g p window good.chests good.windows
           (good.windows.shown k p there) is;
       pack = length-map (pack_of g p).slots slot_of ∙ pack.size;
@@ -133,24 +132,19 @@ sight_told w k p last good there =
 -- ---- one after another
 
 -- what holds of an entity's number and of what it is seen as holds of the row
-seen_kind : (P : ℤ → Option SeenKind → Type 0) (e : Entity) (kind : EntityKind)
-    (row : ℤ × Seen) → P e.eid (kind_seen kind) → seen_as e kind ≡ Some row →
-    P row.0 (Some row.1.kind)
-seen_kind P e (kinds.Player uuid held) row holds is =
-    subst (λ (r : ℤ × Seen). P r.0 (Some r.1.kind))
-    (ap (λ (o : Option (ℤ × Seen)). unwrap_or o row) is) holds
-seen_kind P e (kinds.Dropped item born) row holds is =
-    subst (λ (r : ℤ × Seen). P r.0 (Some r.1.kind))
-    (ap (λ (o : Option (ℤ × Seen)). unwrap_or o row) is) holds
-seen_kind P e kinds.Mob row holds is = absurd cc
+seen_kind : (P : ℤ → SeenKind → Type 0) (e : Entity) (kind : EntityKind) →
+    P e.eid (kind_seen kind) → P (seen_as e kind).0 (seen_as e kind).1.kind
+seen_kind P e (kinds.Player uuid held) holds = holds
+seen_kind P e (kinds.Dropped item born) holds = holds
+seen_kind P e kinds.Mob holds = holds
 
-shown_kind : (P : ℤ → Option SeenKind → Type 0) (g : Game) (p : Player) (last : Sight) (eid : ℤ)
+shown_kind : (P : ℤ → SeenKind → Type 0) (g : Game) (p : Player) (last : Sight) (eid : ℤ)
     (e : Seen) → AllByRecursion (λ (x : Entity). P x.eid (kind_seen x.kind)) g.entities →
-    get (sight_of g p last).entities eid ≡ Some e → P eid (Some e.kind)
+    get (sight_of g p last).entities eid ≡ Some e → P eid e.kind
 shown_kind P g p last eid e all found =
     shown_holds (λ (x : Entity). P x.eid (kind_seen x.kind))
-    (λ (row : ℤ × Seen). P row.0 (Some row.1.kind)) g p last eid e
-    (λ x row holds is. seen_kind P x x.kind row holds is) all found
+    (λ (row : ℤ × Seen). P row.0 row.1.kind) g p last eid e
+    (λ x holds. seen_kind P x x.kind holds) all found
 
 -- how many numbers were given in a game, and the kind of each
 abbrev pub kinds_of : (g : Game) → Told g → GivenKinds
@@ -174,7 +168,7 @@ kinds_stay g v p q a b t later eid old new was is =
     later.entities is in
     elim after [
       | inl above ↦ (let low = before.0 in absurd (omega (arith, ints, low, above)))
-      | inr same ↦ ap (λ (o : Option SeenKind). unwrap_or o old.kind) (before.1 ∙ sym same)
+      | inr same ↦ before.1 ∙ sym same
     ]
 
 pub sight_beat : (g : Game) (p : Player) (last : Sight) →

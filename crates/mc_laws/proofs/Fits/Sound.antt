@@ -14,6 +14,7 @@ use lib.IntN.{ℤ, pos}
 use Rattle.mc_up.specs.declared.play_up.PlayUp.{PlayUp}
 use Rattle.mc_up.specs.PlayUp.{FitsPlayUp}
 use Rattle.mc_model.specs.declared.cause.Refusal.{Refusal}
+use Rattle.mc_model.specs.declared.mobs.TheConstants.{MOBS_MAX}
 use Rattle.mc_model.specs.declared.player.Player.{Player}
 use Rattle.mc_model.specs.declared.settings.Settings.{Settings as Begun}
 use Rattle.mc_entities.specs.declared.entity.Entity.{Entity}
@@ -22,10 +23,10 @@ use Rattle.mc_model.specs.Names.{is_name, offline_uuid}
 use Rattle.mc_model.specs.Spots.{spawn_spot}
 use Rattle.mc_model.specs.Things.{in_hand}
 use Rattle.mc_model.specs.Game.{AreSettings, Game, new_game, pack_named}
+use Rattle.mc_model.specs.Minds.{Plans}
 use Rattle.mc_model.specs.Deeds.{enter_as, new_player}
 use Rattle.mc_model.specs.Leaving.{leave, leave_all}
 use Rattle.mc_model.specs.Acts.{act}
-use Rattle.mc_model.specs.Pickups.{pickups}
 use Rattle.mc_model.specs.Tick.{grown, told, told_player}
 use Rattle.mc_model.specs.Step.{refusal}
 use Rattle.mc_model.specs.Windows.{shut}
@@ -49,11 +50,12 @@ use Rattle.mc_laws.proofs.Deeds.Shutting.{shut_good, shut_here, shut_on, shuts}
 use Rattle.mc_laws.proofs.Acts.ActMade.{Speaks, act_made}
 use Rattle.mc_laws.proofs.Acts.ActOn.{act_good, act_on}
 use Rattle.mc_laws.proofs.Walk.Each.{told_good, told_players}
-use Rattle.mc_laws.proofs.Fits.Told.{dropped_come, new_told}
+use Rattle.mc_laws.proofs.Fits.Told.{dropped_come}
 use Rattle.mc_laws.proofs.Fits.Acts.{act_tells, enter_tells}
 use Rattle.mc_laws.proofs.Fits.Counted.{IsCounted, body_gone, deeds_count}
 use Rattle.mc_laws.proofs.Fits.Clear.{SoundGame}
-use Rattle.mc_laws.proofs.Pickups.Picking.{pickups_leave, pickups_picked}
+use Rattle.mc_laws.proofs.Minds.Beginning.{new_few, new_told, new_whole}
+use Rattle.mc_laws.proofs.TickRules.{rules_good, rules_leave, tick_rules}
 
 -- ---- what is said
 
@@ -274,14 +276,15 @@ told_sound g sound = record {
     many : len (told g).players ≡ len g.players
     many = many_changed tells g.players (told g).players (told_players g)
 
-pub pickups_sound : (g : Game) → SoundGame g → SoundGame (pickups g)
-pickups_sound g sound =
-    let left = pickups_leave g in
-    let picked = pickups_picked g sound.good sound.told in
+-- mobs move, and players pick up what they can
+pub rules_sound : (plans : Plans) (g : Game) → SoundGame g → SoundGame (tick_rules plans g)
+rules_sound plans g sound =
+    let left = rules_leave plans g in
+    let kept = rules_good plans g sound.good sound.told in
     record {
-      good = picked.good;
+      good = kept.good;
       chests = same_chests left.settings left.edits left.chests sound.chests;
-      told = picked.told;
+      told = kept.told;
       settings = subst (λ (s : Begun). AreSettings s.players s.cap) (sym left.settings)
           sound.settings;
       young = (let young = sound.young in let age = left.age in omega (arith, young, age));
@@ -291,7 +294,7 @@ pickups_sound g sound =
           let many = ap len left.players in
           let most = ap (λ (s : Begun). s.players) left.settings in
           omega (arith, few, many, most));
-      counted = (let counts = picked.counts in
+      counted = (let counts = kept.counts in
           let counted = sound.counted in
           let many = ap len left.players in
           omega (arith, counts, counted, many));
@@ -299,16 +302,16 @@ pickups_sound g sound =
           sound.players;
     }
 
-pub new_sound : (settings : Begun) → AreSettings settings.players settings.cap →
-    Good (new_game settings) → SoundGame (new_game settings)
-new_sound settings are good = record {
-  good = good;
-  chests = new_chests settings;
-  told = new_told settings;
+pub new_sound : (settings : Begun) (mobs : ℕ) → mobs ≤ MOBS_MAX →
+    AreSettings settings.players settings.cap → SoundGame (new_game settings mobs)
+new_sound settings mobs most are = record {
+  good = new_whole settings mobs;
+  chests = new_chests settings mobs;
+  told = new_told settings mobs most;
   settings = are;
   young = omega arith;
   lines = tt;
   few = (let none = len-empty nat_cmp Player in omega (arith, none));
-  counted = omega arith;
+  counted = (let few = new_few settings mobs most in omega (arith, few));
   players = λ k p there. absurd (none_some _ p (get-empty nat_cmp k) there);
 }

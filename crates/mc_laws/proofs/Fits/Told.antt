@@ -7,7 +7,7 @@ use Rattle.std.specs.Prelude.{◌==◌, ◌&&◌, Option, nat_le, nat_lt, not, o
 use Rattle.std.specs.Prelude.{unwrap_or, if◌then◌else◌}
 use Rattle.std.specs.List.{AllByRecursion, filter}
 use Rattle.std.specs.Ordering.{eq_by_cmp, int_eq}
-use Rattle.std.specs.FinMap.{FinMap, get, get-empty, get-insert, get-remove, insert, remove}
+use Rattle.std.specs.FinMap.{FinMap, get, get-insert, get-remove, insert, remove}
 use Rattle.std.proofs.lemmas.Bool.Decides.{nat_tests}
 use Rattle.std.proofs.lemmas.Int.{ints}
 use lib.IntN.{ℤ, pos, negsuc}
@@ -29,10 +29,9 @@ use Rattle.mc_entities.specs.Kinds.{IsKind, is_dropped}
 use Rattle.mc_entities.specs.Numbers.{changed, numbered, without}
 use Rattle.mc_entities.specs.Folk.{dropped_in, eid_of}
 use Rattle.mc_model.specs.declared.player.Player.{Player}
-use Rattle.mc_model.specs.declared.settings.Settings.{Settings}
 use Rattle.mc_model.specs.Things.{holding, lying_as, standing, state_of_cell}
 use Rattle.mc_model.specs.Spots.{spawn_spot}
-use Rattle.mc_model.specs.Game.{Game, new_game, spot_of, state_in}
+use Rattle.mc_model.specs.Game.{Game, spot_of, state_in}
 use Rattle.mc_model.specs.Deeds.{spawned, with_state}
 use Rattle.mc_model.specs.Fitting.{AreTold, EntityFits, IsState, KindIsNamed, SpotFits, Told}
 use Rattle.mc_model.proofs.AllFacts.{all_filtered, all_joined, all_mapped}
@@ -94,18 +93,24 @@ spawned_told kind spot g can t = record {
   few = (let given = can.given in omega (arith, given));
 }
 
+-- each changed
+pub mapped_told : (f : Entity → Entity) (edits : FinMap key_cmp ℕ) (es : List Entity) (eids : ℕ) →
+    IsSteady f → ((e : Entity) → EntityFits e → EntityFits (f e)) → AreTold edits es eids →
+    AreTold edits (map f es) eids
+mapped_told f edits es eids steady keeps t = record {
+  states = t.states;
+  fits = all_mapped EntityFits EntityFits f keeps es t.fits;
+  kinds = known_mapped f eids es steady t.kinds;
+  lying = subst (λ (n : ℕ). n ≤ 4096) (sym (dropped_mapped f steady es)) t.lying;
+  few = t.few;
+}
+
 -- one of a number changed
 changed_told : (eid : ℕ) (f : Entity → Entity) (edits : FinMap key_cmp ℕ) (es : List Entity)
     (eids : ℕ) → IsSteady f → ((e : Entity) → EntityFits e → EntityFits (f e)) →
     AreTold edits es eids → AreTold edits (changed eid_of (pos eid) f es) eids
-changed_told eid f edits es eids steady keeps t = record {
-  states = t.states;
-  fits = all_mapped EntityFits EntityFits _ one es t.fits;
-  kinds = known_mapped _ eids es (steady_at eid f steady) t.kinds;
-  lying = subst (λ (n : ℕ). n ≤ 4096)
-      (sym (dropped_mapped _ (steady_at eid f steady) es)) t.lying;
-  few = t.few;
-}
+changed_told eid f edits es eids steady keeps t =
+    mapped_told _ edits es eids (steady_at eid f steady) one t
   where
     one : (e : Entity) → EntityFits e → EntityFits (if int_eq e.eid (pos eid) then f e else e)
     one e fits = elim (int_eq e.eid (pos eid)) as (λ b. EntityFits (if b then f e else e)) [
@@ -256,17 +261,3 @@ with_state_told cell state g is t = record {
   lying = t.lying;
   few = t.few;
 }
-
--- ---- a game that begins
-
-pub new_told : (settings : Settings) → Told (new_game settings)
-new_told settings = record {
-  states = λ key state there. absurd (nothing (sym (get-empty key_cmp key) ∙ there));
-  fits = tt;
-  kinds = record { kind_at = λ eid. None; entities = tt };
-  lying = omega arith;
-  few = omega arith;
-}
-  where
-    nothing : {state : ℕ} → ◌≡◌ {A = Option ℕ} None (Some state) → ⊥
-    nothing e = cc

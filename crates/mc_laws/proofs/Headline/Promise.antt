@@ -7,13 +7,13 @@ use Rattle.mc_frame.proofs.Cuts.{unique}
 use Rattle.mc_model.specs.declared.stage.Stage.{Stage}
 use Rattle.mc_model.specs.declared.stage.Stage.TheVariants as stages
 use Rattle.mc_model.specs.declared.player.Player.{Player}
-use Rattle.mc_model.specs.declared.settings.Settings.{Settings}
 use Rattle.mc_model.specs.Decoding.{IsDecoded, decoder_of}
 use Rattle.mc_model.specs.Packets.{Decoder, Sent, decoded_frames, played}
 use Rattle.mc_model.specs.Replica.{new_replica, replay}
 use Rattle.mc_model.specs.Run.{AreBytes, handed, history, received, stream}
 use Rattle.mc_model.specs.Step.{Event, joined, came, left, broke, ticked, took, forgot, step}
 use Rattle.mc_model.specs.Game.{AreSettings}
+use Rattle.mc_model.specs.Minds.{Start}
 use Rattle.mc_model.specs.Stages.{is_closed}
 use Rattle.mc_model.specs.Link.{Link}
 use Rattle.mc_model.specs.World.{new_world}
@@ -46,22 +46,22 @@ one_decoded (Some decoder) bytes ps qs p q =
     some_is ps qs (sym p.are ∙ ap (decoded_frames decoder) same ∙ q.are)
 
 -- what a client in play decodes shows the game in its view
-pub decoded_shows : (settings : Settings) (events : List Event) (k : ℕ) (p : Player)
-    (packets : List Sent) → AreSettings settings.players settings.cap →
+pub decoded_shows : (start : Start) (events : List Event) (k : ℕ) (p : Player)
+    (packets : List Sent) → AreSettings start.settings.players start.settings.cap →
     AreBytes (events ++ ticked ∷ []) →
-    get (history (new_world settings) (events ++ ticked ∷ [])).game.players k ≡ Some p →
-    IsDecoded (decoder_of (received k (new_world settings) (events ++ ticked ∷ [])))
-    (stream k (new_world settings) (events ++ ticked ∷ [])) packets →
-    ShowsGame (at_tick (history (new_world settings) events)) k
+    get (history (new_world start) (events ++ ticked ∷ [])).game.players k ≡ Some p →
+    IsDecoded (decoder_of (received k (new_world start) (events ++ ticked ∷ [])))
+    (stream k (new_world start) (events ++ ticked ∷ [])) packets →
+    ShowsGame (at_tick (history (new_world start) events)) k
     (replay new_replica (played packets))
-decoded_shows settings events k p packets are bytes there decoded =
-    let w = new_world settings in
+decoded_shows start events k p packets are bytes there decoded =
+    let w = new_world start in
     let all = events ++ ticked ∷ [] in
     subst (λ (ps : List Sent). ShowsGame (at_tick (history w events)) k
     (replay new_replica (played ps)))
     (one_decoded (decoder_of (received k w all)) (stream k w all) (handed k w all) packets
-    (stream_decoded settings all k are bytes) decoded)
-    (run_shows settings events k p there)
+    (stream_decoded start all k are bytes) decoded)
+    (run_shows start events k p there)
 
 -- ---- closing
 
@@ -109,16 +109,16 @@ module _ (l : Link) (o q : Option Link) (is : o ≡ Some l) (shut : l.stage ≡ 
   shut_by ps taken lost (ends a there closed owed now none no_take no_loss) =
       (none, λ n too. absurd (none_some q n now too))
 
-pub closing_of : (settings : Settings) (events : List Event) (e : Event) →
-    Closing (history (new_world settings) events) e
-closing_of settings events e =
-    let w = history (new_world settings) events in
-    let good = always_good settings events in
+pub closing_of : (start : Start) (events : List Event) (e : Event) →
+    Closing (history (new_world start) events) e
+closing_of start events e =
+    let w = history (new_world start) events in
+    let good = always_good start events in
     record {
       first = λ k cause none. closing w e k cause good
-          (bytes_promised settings events k).closed none;
+          (bytes_promised start events k).closed none;
       for_good = λ k l there shut. shut_by l (get w.links k) (get (step w e).world.links k) there
-          shut w.last k _ _ _ (effect w e k good (bytes_promised settings events k).closed);
+          shut w.last k _ _ _ (effect w e k good (bytes_promised start events k).closed);
       only_sender = λ j is. only_sender w e j is good;
     }
 
@@ -135,28 +135,28 @@ first_are_bytes (ticked ∷ events) later are = first_are_bytes events later are
 first_are_bytes (took k n ∷ events) later are = first_are_bytes events later are
 first_are_bytes (forgot k ∷ events) later are = first_are_bytes events later are
 
-pub headline : (settings : Settings) (log : List Event) →
-    AreSettings settings.players settings.cap → AreBytes log → Headline settings log
-headline settings log are bytes = record {
+pub headline : (start : Start) (log : List Event) →
+    AreSettings start.settings.players start.settings.cap → AreBytes log → Headline start log
+headline start log are bytes = record {
   shows = λ events later k p packets split there decoded.
-      decoded_shows settings events k p packets are
+      decoded_shows start events k p packets are
       (first_are_bytes (events ++ ticked ∷ []) later (subst AreBytes split bytes)) there decoded;
-  decoded = λ events later k split. stream_decoded settings events k are
+  decoded = λ events later k split. stream_decoded start events k are
       (first_are_bytes events later (subst AreBytes split bytes));
-  good = λ events later split. always_good settings events;
-  promised = λ events later k split. bytes_promised settings events k;
-  stays = λ events e later k l split there. lasts k (history (new_world settings) events) e l
-      (always_good settings events) (bytes_promised settings events k).closed there;
+  good = λ events later split. always_good start events;
+  promised = λ events later k split. bytes_promised start events k;
+  stays = λ events e later k l split there. lasts k (history (new_world start) events) e l
+      (always_good start events) (bytes_promised start events k).closed there;
   ticks = λ events later split.
-      at_tick_hands (history (new_world settings) events) (always_good settings events);
+      at_tick_hands (history (new_world start) events) (always_good start events);
   after = λ events later split.
-      after_tick_game (history (new_world settings) events) (always_good settings events);
+      after_tick_game (history (new_world start) events) (always_good start events);
   between = λ events e later k p split playing no_tick.
-      between (history (new_world settings) events) e k p (always_good settings events) playing
+      between (history (new_world start) events) e k p (always_good start events) playing
       no_tick;
   logging_in = λ events e later k l split there at.
-      logging_in (history (new_world settings) events) e k l (always_good settings events) there
+      logging_in (history (new_world start) events) e k l (always_good start events) there
       at;
-  closing = λ events e later split. closing_of settings events e;
-  balance = λ events later split. always_even settings events;
+  closing = λ events e later split. closing_of start events e;
+  balance = λ events later split. always_even start events;
 }

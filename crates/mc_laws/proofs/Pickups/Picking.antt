@@ -78,7 +78,7 @@ pickups_leave g = leaves_so g _ (pickups_keep (λ h v. bare v ≡ bare h) (λ h.
 
 -- ---- what it keeps of a good game
 
-pub record Picked (g v : Game) : Type 0 where
+pub record KeepsGood (g v : Game) : Type 0 where
   pub good : Good v
   pub told : Told v
   -- an entity stays of its kind
@@ -86,8 +86,8 @@ pub record Picked (g v : Game) : Type 0 where
   pub counts : AreNoMore g.entities v.entities
   pub weighs : (id damage : ℕ) → Weighs id damage 0 0 g v
 
-picked_still : (g : Game) → Good g → Told g → Picked g g
-picked_still g good told = record {
+good_still : (g : Game) → Good g → Told g → KeepsGood g g
+good_still g good told = record {
   good = good;
   told = told;
   since = λ old since. since;
@@ -95,8 +95,8 @@ picked_still g good told = record {
   weighs = λ id damage. still_weighs id damage g;
 }
 
-picked_on : (g v u : Game) → Picked g v → Picked v u → Picked g u
-picked_on g v u a b = record {
+pub good_on : (g v u : Game) → KeepsGood g v → KeepsGood v u → KeepsGood g u
+good_on g v u a b = record {
   good = b.good;
   told = b.told;
   since = λ old since. b.since old (a.since old since);
@@ -107,7 +107,7 @@ picked_on g v u a b = record {
 
 -- an item is stowed: what lies under other numbers lies there still
 record Stows (n : ℕ) (g v : Game) : Type 0 where
-  picked : Picked g v
+  picked : KeepsGood g v
   others : (m : ℕ) (item : Item) → m ≢ n → Lies g.entities m item → Lies v.entities m item
 
 -- what lies there is an item that the world holds
@@ -209,15 +209,15 @@ module _ (k : ℕ) (p : Player) where
 
   all_stowed : (xs : List (ℤ × Item)) (low : ℤ) (g : Game) → get g.players k ≡ Some p →
       AreLying g.entities low xs → Good g → Told g →
-      Picked g (fold (λ (h : Game) (x : ℤ × Item). stowed p x h) g xs)
-  all_stowed [] low g there a good told = picked_still g good told
+      KeepsGood g (fold (λ (h : Game) (x : ℤ × Item). stowed p x h) g xs)
+  all_stowed [] low g there a good told = good_still g good told
   all_stowed (x ∷ xs) low g there a good told =
       let at = a.1.0 in
       let is = at.number in
       let first = stows_lying g x at there good told in
       let left = still_lying g.entities (stowed p x g).entities x.0 xs (λ m item more.
       first.others m item (λ same. absurd (omega (arith, ints, is, more, same)))) a.1.1 in
-      picked_on g (stowed p x g) _ first.picked
+      good_on g (stowed p x g) _ first.picked
       (all_stowed xs x.0 (stowed p x g)
       (ap (λ (v : Game). get v.players k) (stowed_bare p x g) ∙ there)
       left first.picked.good first.picked.told)
@@ -316,17 +316,17 @@ ripe_lie age spot low high (e ∷ es) none r =
 
 -- ---- all players
 
-pub pickups_picked : (g : Game) → Good g → Told g → Picked g (pickups g)
+pub pickups_good : (g : Game) → Good g → Told g → KeepsGood g (pickups g)
 unfolding pickups
-pickups_picked g good told = fold_along
+pickups_good g good told = fold_along
     (λ (h : Game) (k : ℕ). of_player h (λ (p : Player). pick_up p h) (get h.players k))
-    (λ (u : Unit {0}) (k : ℕ). u) (λ (h : Game) u. Picked g h)
-    (λ h u k a. picked_on g h _ a (one h (get h.players k) k refl a.good a.told)) g tt (pickers g)
-    (picked_still g good told)
+    (λ (u : Unit {0}) (k : ℕ). u) (λ (h : Game) u. KeepsGood g h)
+    (λ h u k a. good_on g h _ a (one h (get h.players k) k refl a.good a.told)) g tt (pickers g)
+    (good_still g good told)
   where
     one : (h : Game) (o : Option Player) (k : ℕ) → get h.players k ≡ o → Good h → Told h →
-        Picked h (of_player h (λ (p : Player). pick_up p h) o)
-    one h None k is good told = picked_still h good told
+        KeepsGood h (of_player h (λ (p : Player). pick_up p h) o)
+    one h None k is good told = good_still h good told
     one h (Some p) k is good told = all_stowed k p (ripe_for p h) (pos 0) h is
         (ripe_lie h.age (spot_of h p) (pos 0) (pos h.eids) h.entities (omega (arith, ints))
         good.rise) good told

@@ -10,13 +10,13 @@ use Rattle.std.specs.FinMap.{get, get-empty}
 use Rattle.std.proofs.lemmas.List.{append-nil, take-append-drop}
 use Rattle.mc_model.specs.declared.cause.Cause.{Cause}
 use Rattle.mc_model.specs.declared.cause.Cause.TheVariants as causes
-use Rattle.mc_model.specs.declared.settings.Settings.{Settings}
 use Rattle.mc_model.specs.Packets.{Sent, bytes_of}
 use Rattle.mc_model.specs.Run.{first_of, to, cause_in, handed, history, lost, lost_at, owed_of}
 use Rattle.mc_model.specs.Run.{stream, taken, taken_at, why}
 use Rattle.mc_model.specs.Step.{Event, is_new, step}
 use Rattle.mc_model.specs.Stages.{is_closed}
 use Rattle.mc_model.specs.Link.{Link}
+use Rattle.mc_model.specs.Minds.{Start}
 use Rattle.mc_model.specs.World.{Outcome, World, new_world}
 use Rattle.mc_model.specs.Tick.{aged, at_tick, shown_all}
 use Rattle.mc_model.specs.Good.{GoodWorld}
@@ -366,10 +366,10 @@ module _ (k : ℕ) where
             ← first_again y (cause_in k (step w e).world) (why k (step w e).world events),
           ) account
 
-nothing_yet : (k : ℕ) (settings : Settings) →
-    Account k None (get (new_world settings).links k) [] [] [] None
-nothing_yet k settings =
-    let none : get (new_world settings).links k ≡ None = get-empty nat_cmp k in
+nothing_yet : (k : ℕ) (start : Start) →
+    Account k None (get (new_world start).links k) [] [] [] None
+nothing_yet k start =
+    let none : get (new_world start).links k ≡ None = get-empty nat_cmp k in
     record {
       begun = ([], refl);
       whole = λ ne. sym (ap owed_of none);
@@ -380,9 +380,9 @@ nothing_yet k settings =
       fresh = λ new. (none, refl, refl, refl, refl);
     }
 
-pub bytes_promised : (settings : Settings) (events : List Event) (k : ℕ) →
-    Promised k (new_world settings) events
-bytes_promised settings events k =
-    let a = along k (new_world settings) events [] [] [] None (new_good settings)
-    (nothing_yet k settings) in
+pub bytes_promised : (start : Start) (events : List Event) (k : ℕ) →
+    Promised k (new_world start) events
+bytes_promised start events k =
+    let a = along k (new_world start) events [] [] [] None (new_good start)
+    (nothing_yet k start) in
     record { begun = a.begun; whole = a.whole; closed = a.has; cause = a.cause }

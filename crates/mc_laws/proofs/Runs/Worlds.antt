@@ -3,18 +3,18 @@ use Rattle.std.proofs.Common.{◌≡◌, ◌≢◌, ℕ, true, false, cond, List
 use Rattle.std.proofs.Common.{refl, sym, subst, ap, ◌∙◌, inl, inr, arith}
 use Rattle.std.specs.Prelude.{nat_le, length, is_some, option_map, if◌then◌else◌}
 use Rattle.std.proofs.lemmas.Bool.{cases_eq, lt-ltb, ltb-true, and_parts}
-use Rattle.std.proofs.lemmas.Int.{ints}
 use Rattle.std.specs.Ordering.{nat_cmp}
 use Rattle.std.specs.FinMap.{get, get-empty, insert, remove}
 use Rattle.mc_model.specs.declared.cause.Cause.TheVariants as causes
 use Rattle.mc_model.specs.declared.player.Player.{Player}
-use Rattle.mc_model.specs.declared.settings.Settings.{Settings}
 use Rattle.mc_model.specs.Step.{Event, is_new, depart, is_crowded, joining, step, take_from}
 use Rattle.mc_model.specs.Stages.{is_closed, is_play}
 use Rattle.mc_model.specs.Link.{Handing, Link, is_done, mark_closed, new_link}
+use Rattle.mc_model.specs.Minds.{Start, plans_of}
 use Rattle.mc_model.specs.World.{Outcome, Seat, Turn, World, closed_by, each, new_world, seat_of}
 use Rattle.mc_model.specs.World.{is_closing, with_seat}
-use Rattle.mc_model.specs.Tick.{aged, at_tick, beats, flushed, picking, shown_all, told_player}
+use Rattle.mc_model.specs.Tick.{aged, at_tick, beats, flushed, moving, picking, shown_all}
+use Rattle.mc_model.specs.Tick.{told_player}
 use Rattle.mc_model.specs.Run.{history}
 use Rattle.mc_model.specs.Fitting.{Told}
 use Rattle.mc_model.specs.Good.{AreChests, AreShown, Good, GoodWorld, in_play}
@@ -28,9 +28,9 @@ use Rattle.mc_laws.proofs.Walk.Handings.{not_in_play}
 use Rattle.mc_laws.proofs.Walk.Moves.{Walked, walked_keeps}
 use Rattle.mc_laws.proofs.Walk.Steps.{Move, departs, forgets, joins, passes, rests, sits}
 use Rattle.mc_laws.proofs.Walk.Steps.{step_moves, takes}
-use Rattle.mc_laws.proofs.Fits.Told.{new_told}
-use Rattle.mc_laws.proofs.Pickups.Picking.{pickups_leave, pickups_picked}
-use Rattle.mc_laws.proofs.Windows.Games.{grown_shown, leave_all_shown, new_shown, pickups_shown}
+use Rattle.mc_laws.proofs.Minds.Beginning.{few_mobs, new_told, new_whole}
+use Rattle.mc_laws.proofs.TickRules.{rules_good, rules_leave}
+use Rattle.mc_laws.proofs.Windows.Games.{grown_shown, leave_all_shown, new_shown, rules_shown}
 use Rattle.mc_laws.proofs.Windows.Games.{told_shown}
 use Rattle.mc_laws.proofs.Runs.Seats.{GoodSeat, all_stay, departed_seat, seat_kept, taken_seat}
 
@@ -198,14 +198,14 @@ shown_world w a = record {
     mapped None = refl
     mapped (Some p) = refl
 
--- what is picked up keeps it so
-picking_world : (w : World) → GoodWorld w → GoodWorld (picking w)
-picking_world w a = let picked = pickups_picked w.game a.game a.told in
-    let left = pickups_leave w.game in record {
-      game = picked.good;
+-- mobs that move, and what is then picked up, keep it so
+rules_world : (w : World) → GoodWorld w → GoodWorld (picking (moving w))
+rules_world w a = let kept = rules_good w.plans w.game a.game a.told in
+    let left = rules_leave w.plans w.game in record {
+      game = kept.good;
       chests = same_chests left.settings left.edits left.chests a.chests;
-      windows = pickups_shown w.game a.game a.windows;
-      told = picked.told;
+      windows = rules_shown w.plans w.game a.game a.windows;
+      told = kept.told;
       plays = λ j. ap (λ m. is_some (get m j)) left.players ∙ a.plays j;
       fresh = a.fresh;
     }
@@ -216,7 +216,7 @@ beats_world w a = each_world _ (aged w)
     (λ k l. beat_stage (aged w).game (get w.shown k) k l) (aged_world w a)
 
 pub at_tick_world : (w : World) → GoodWorld w → GoodWorld (at_tick w)
-at_tick_world w a = picking_world (beats (aged w)) (beats_world w a)
+at_tick_world w a = rules_world (beats (aged w)) (beats_world w a)
 
 pub flushed_world : (w : World) → GoodWorld w → GoodWorld (flushed w)
 flushed_world w a = each_world _ (shown_all w)
@@ -249,29 +249,16 @@ pub run_good : (w : World) (events : List Event) → GoodWorld w → GoodWorld (
 run_good w [] a = a
 run_good w (e ∷ events) a = run_good (step w e).world events (step_good w e a)
 
-pub new_good : (settings : Settings) → GoodWorld (new_world settings)
-new_good settings = record {
-  game = record {
-    own = λ k p is. absurd (nobody (sym (get-empty nat_cmp k) ∙ is));
-    apart = λ j k p q is too ne. absurd (nobody (sym (get-empty nat_cmp j) ∙ is));
-    piles = λ name pack is. absurd (nothing_there (sym (get-empty _ name) ∙ is));
-    fresh = λ n above. refl;
-    rise = omega (arith, ints);
-    bodies = λ n e found is. absurd (nothing_there found);
-  };
-  chests = new_chests settings;
-  windows = new_shown settings;
-  told = new_told settings;
+pub new_good : (start : Start) → GoodWorld (new_world start)
+new_good start = record {
+  game = new_whole start.settings (length (plans_of start));
+  chests = new_chests start.settings (length (plans_of start));
+  windows = new_shown start.settings (length (plans_of start));
+  told = new_told start.settings (length (plans_of start)) (few_mobs start);
   plays = λ k. ap is_some (get-empty nat_cmp k) ∙ ap in_play (sym (get-empty nat_cmp k));
   fresh = λ k new. get-empty nat_cmp k;
 }
-  where
-    nobody : {p : Player} → ◌≡◌ {A = Option Player} None (Some p) → ⊥
-    nobody e = cc
 
-    nothing_there : {A : Type 0} {x : A} → ◌≡◌ {A = Option A} None (Some x) → ⊥
-    nothing_there e = cc
-
-pub always_good : (settings : Settings) (events : List Event) →
-    GoodWorld (history (new_world settings) events)
-always_good settings events = run_good (new_world settings) events (new_good settings)
+pub always_good : (start : Start) (events : List Event) →
+    GoodWorld (history (new_world start) events)
+always_good start events = run_good (new_world start) events (new_good start)

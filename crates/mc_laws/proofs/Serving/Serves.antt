@@ -8,11 +8,11 @@ use Rattle.std.proofs.lemmas.Bool.{eqb-true}
 use Rattle.std.proofs.lemmas.List.Sums.{sum_by-cons}
 use Rattle.mc_wire.specs.declared.log.LogEntry.{LogEntry}
 use Rattle.mc_wire.specs.declared.log.LogEntry.TheVariants.{Closed, Stalled}
-use Rattle.mc_model.specs.declared.settings.Settings.{Settings}
 use Rattle.mc_model.specs.Log.{events_in, log_of, logged}
 use Rattle.mc_model.specs.Serving.{closes, HasPut, Serves}
 use Rattle.mc_model.specs.Step.{Event, forgot, is_new, step}
 use Rattle.mc_model.specs.Link.{Link}
+use Rattle.mc_model.specs.Minds.{Start}
 use Rattle.mc_model.specs.World.{World, new_world}
 use Rattle.mc_model.specs.Run.{history, lost, owed_in}
 use Rattle.mc_model.specs.Good.{GoodWorld}
@@ -134,12 +134,12 @@ closed_once k (entry ∷ log) w good right =
 
 -- ---- all of it
 
-has_put : (settings : Settings) (log : List LogEntry) (k : ℕ) →
-    AreRight (new_world settings) log → HasPut k (new_world settings) log
-has_put settings log k right =
-    let w = new_world settings in
+has_put : (start : Start) (log : List LogEntry) (k : ℕ) →
+    AreRight (new_world start) log → HasPut k (new_world start) log
+has_put start log k right =
+    let w = new_world start in
     let events = events_in log in
-    let promised = bytes_promised settings events k in
+    let promised = bytes_promised start events k in
     let same = puts_taken k log w right in
     record {
       begun = (
@@ -151,14 +151,14 @@ has_put settings log k right =
           (sym same);
     }
 
-pub serves : (settings : Settings) (turns : List (List LogEntry)) →
-    AreTurns (new_world settings) turns → Serves settings turns
-serves settings turns are =
-    let w = new_world settings in
+pub serves : (start : Start) (turns : List (List LogEntry)) →
+    AreTurns (new_world start) turns → Serves start turns
+serves start turns are =
+    let w = new_world start in
     let right = turns_right turns w are in
     record {
       put = λ log later k split.
-          has_put settings log k (right_first log later w (subst (AreRight w) split right));
+          has_put start log k (right_first log later w (subst (AreRight w) split right));
       emptied = λ before turn later k split.
           subst (λ (v : World). (owed_in k v ≡ []) ⊎ Contains turn (Stalled k))
           (sym (logged_more w (log_of before) turn))
@@ -171,5 +171,5 @@ serves settings turns are =
           there);
       none_else = λ log later k split.
           right_at log (Closed k) later w (subst (AreRight w) split right);
-      once = λ k. closed_once k (log_of turns) w (new_good settings) right;
+      once = λ k. closed_once k (log_of turns) w (new_good start) right;
     }

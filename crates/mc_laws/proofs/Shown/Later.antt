@@ -24,7 +24,7 @@ use Rattle.mc_laws.proofs.Walk.Moves.{Kept, Walked, answers, closes, comes_in, d
 use Rattle.mc_laws.proofs.Walk.Moves.{shakes, walked_keeps}
 use Rattle.mc_laws.proofs.Walk.Steps.{Move, departs, forgets, joins, passes, rests, sits}
 use Rattle.mc_laws.proofs.Walk.Steps.{step_moves, takes}
-use Rattle.mc_laws.proofs.Pickups.Picking.{pickups_leave, pickups_picked}
+use Rattle.mc_laws.proofs.TickRules.{rules_good, rules_leave}
 use Rattle.mc_laws.proofs.Runs.Worlds.{beats_world}
 
 -- a game after another: what it began with is the same, and so are kinds
@@ -106,13 +106,14 @@ each_later before f w a = record {
 pub at_tick_later : (w : World) → GoodWorld w → Later w.game (at_tick w).game
 at_tick_later w good =
     let beaten = beats_world w good in
-    let picked = pickups_picked (beats (aged w)).game beaten.game beaten.told in
+    let plans = (beats (aged w)).plans in
+    let kept = rules_good plans (beats (aged w)).game beaten.game beaten.told in
     later_on w.game (beats (aged w)).game (at_tick w).game
     (each_later w.game (λ (k : ℕ) (l : Link). beat (grown w.game) (get w.shown k) k l) (aged w)
     (record { since = λ old since. since; settings = refl }))
     (record {
-      since = picked.since;
-      settings = (pickups_leave (beats (aged w)).game).settings;
+      since = kept.since;
+      settings = (rules_leave plans (beats (aged w)).game).settings;
     })
 
 -- the game that a tick leaves, after the one that was shown

@@ -10,7 +10,6 @@ use Rattle.std.proofs.lemmas.List.Sums.{fold-append}
 use Rattle.mc_model.specs.declared.cause.Cause.TheVariants as causes
 use Rattle.mc_model.specs.declared.stage.Stage.TheVariants as stages
 use Rattle.mc_model.specs.declared.player.Player.{Player}
-use Rattle.mc_model.specs.declared.settings.Settings.{Settings as Begun}
 use Rattle.mc_model.specs.Packets.{Sent, of_play, played}
 use Rattle.mc_model.specs.Replica.{Replica, new_replica, replay, seeing}
 use Rattle.mc_model.specs.Run.{to, handed, history}
@@ -20,6 +19,7 @@ use Rattle.mc_model.specs.Talk.{farewell}
 use Rattle.mc_model.specs.Stages.{is_closed, is_play}
 use Rattle.mc_model.specs.Link.{Handing, Link, gone, mark_closed}
 use Rattle.mc_model.specs.Showing.{due, last_shown, sight_of}
+use Rattle.mc_model.specs.Minds.{Start}
 use Rattle.mc_model.specs.World.{Seat, World, new_world, seat_of}
 use Rattle.mc_model.specs.Tick.{at_tick, awaiting, grown, is_silent, tick, tick_hands}
 use Rattle.mc_model.specs.Headline.{ShowsGame}
@@ -283,11 +283,11 @@ run_shown k (e ∷ events) w ps s =
     (append_assoc ps (to k (step w e).out) (handed k (step w e).world events))
     (run_shown k events (step w e).world (ps ++ to k (step w e).out) next)
 
-pub shown_world : (settings : Begun) (events : List Event) (k : ℕ) →
-    ShownWorld k (history (new_world settings) events) (handed k (new_world settings) events)
-shown_world settings events k = run_shown k events (new_world settings) [] (record {
-  good = new_good settings;
-  drawn = subst (IsDrawn (new_world settings).game) (sym (get-empty nat_cmp k)) tt;
+pub shown_world : (start : Start) (events : List Event) (k : ℕ) →
+    ShownWorld k (history (new_world start) events) (handed k (new_world start) events)
+shown_world start events k = run_shown k events (new_world start) [] (record {
+  good = new_good start;
+  drawn = subst (IsDrawn (new_world start).game) (sym (get-empty nat_cmp k)) tt;
   shown = λ l there. absurd (none_some _ l (get-empty nat_cmp k) there);
   early = λ new. (refl, get-empty nat_cmp k);
 })
@@ -333,17 +333,17 @@ after_tick_shows k w p ps s there =
       };
     }
 
-pub run_shows : (settings : Begun) (events : List Event) (k : ℕ) (p : Player) →
-    get (history (new_world settings) (events ++ ticked ∷ [])).game.players k ≡ Some p →
-    ShowsGame (at_tick (history (new_world settings) events)) k
-    (replay new_replica (played (handed k (new_world settings) (events ++ ticked ∷ []))))
+pub run_shows : (start : Start) (events : List Event) (k : ℕ) (p : Player) →
+    get (history (new_world start) (events ++ ticked ∷ [])).game.players k ≡ Some p →
+    ShowsGame (at_tick (history (new_world start) events)) k
+    (replay new_replica (played (handed k (new_world start) (events ++ ticked ∷ []))))
 unfolding step
-run_shows settings events k p there =
+run_shows start events k p there =
     let last = fold-append (λ (v : World) (e : Event). (step v e).world)
-    (new_world settings) events (ticked ∷ []) in
-    let w = history (new_world settings) events in
-    after_tick_shows k w p (handed k (new_world settings) (events ++ ticked ∷ []))
+    (new_world start) events (ticked ∷ []) in
+    let w = history (new_world start) events in
+    after_tick_shows k w p (handed k (new_world start) (events ++ ticked ∷ []))
     (subst (λ (v : World). ShownWorld k v
-    (handed k (new_world settings) (events ++ ticked ∷ []))) last
-    (shown_world settings (events ++ ticked ∷ []) k))
+    (handed k (new_world start) (events ++ ticked ∷ []))) last
+    (shown_world start (events ++ ticked ∷ []) k))
     (sym (ap (λ (v : World). get v.game.players k) last) ∙ there)

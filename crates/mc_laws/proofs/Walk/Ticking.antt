@@ -21,7 +21,7 @@ use Rattle.mc_model.proofs.Maps.Lookups.{get_keyed}
 use Rattle.mc_laws.proofs.Walk.Each.{disconnect_closes, each_links, each_players, each_shown}
 use Rattle.mc_laws.proofs.Walk.Each.{each_last, each_unread, told_players}
 use Rattle.mc_laws.proofs.Apart.Outs.{handed_by, to_each}
-use Rattle.mc_laws.proofs.Pickups.Picking.{pickups_leave}
+use Rattle.mc_laws.proofs.TickRules.{rules_leave}
 
 -- first by its beat, then by what is due
 abbrev pub after_tick : World → ℕ → Link → Handing
@@ -105,7 +105,8 @@ pub at_tick_player : (w : World) (k : ℕ) (l : Link) → get w.links k ≡ Some
     ≡ cond (is_closed (beat (grown w.game) (get w.shown k) k l).link.stage) None
     (get w.game.players k)
 at_tick_player w k l there =
-    ap (λ m. get m k) (pickups_leave (beats (aged w)).game).players ∙ beats_player w k l there
+    ap (λ m. get m k) (rules_leave (beats (aged w)).plans (beats (aged w)).game).players
+    ∙ beats_player w k l there
 
 -- one that is not silent is in play in it, and whoever is not was not before
 pub speaks_there : (w : World) (k : ℕ) (l : Link) (p : Player) → get w.links k ≡ Some l →

@@ -8,7 +8,6 @@ use Rattle.mc_slots.specs.declared.pile.Pile.{Pile}
 use Rattle.mc_land.specs.Places.{key_cmp}
 use Rattle.mc_windows.specs.Pack.{PackValue}
 use Rattle.mc_model.specs.declared.stage.Stage.{Stage}
-use Rattle.mc_model.specs.declared.settings.Settings.{Settings}
 use Rattle.mc_model.specs.Names.{offline_uuid}
 use Rattle.mc_model.specs.Packets.{Sent, of_status}
 use Rattle.mc_model.specs.Step.{Event, entered, step}
@@ -16,16 +15,16 @@ use Rattle.mc_model.specs.Talk.{accepted}
 use Rattle.mc_model.specs.Stages.{is_closed, is_play}
 use Rattle.mc_model.specs.Maps.{name_cmp}
 use Rattle.mc_model.specs.Game.{Game}
+use Rattle.mc_model.specs.Minds.{Start, plans_of}
 use Rattle.mc_model.specs.Deeds.{enter_as}
 use Rattle.mc_model.specs.Leaving.{leave, leave_all, left_by}
 use Rattle.mc_model.specs.Link.{Handing, Link, disconnect, gone, hand}
 use Rattle.mc_model.specs.World.{Outcome, Seat, Turn, World, closed_by, each, new_world, seat_of}
-use Rattle.mc_model.specs.Pickups.{pickups}
-use Rattle.mc_model.specs.Tick.{aged, at_tick, beats, picking, shown_all}
+use Rattle.mc_model.specs.Tick.{aged, at_tick, beats, shown_all}
 use Rattle.mc_model.specs.Run.{history}
 use Rattle.mc_model.specs.Windows.{shut}
 use Rattle.mc_model.specs.Good.{Good, GoodWorld}
-use Rattle.mc_model.specs.Balance.{Balance}
+use Rattle.mc_model.specs.Balance.{Balance, sort_of}
 use Rattle.mc_laws.proofs.Deeds.Coming.{enter_good}
 use Rattle.mc_laws.proofs.Deeds.Leaving.{leave_cases, leave_good}
 use Rattle.mc_laws.proofs.Deeds.Shutting.{shut_good, shut_here, shuts}
@@ -34,7 +33,8 @@ use Rattle.mc_laws.proofs.Walk.Moves.{Kept, OutMove, keeps, does, shakes, answer
 use Rattle.mc_laws.proofs.Walk.Moves.{walked_keeps}
 use Rattle.mc_laws.proofs.Walk.Steps.{Move, departs, forgets, joins, passes, rests, sits}
 use Rattle.mc_laws.proofs.Walk.Steps.{step_moves, takes}
-use Rattle.mc_laws.proofs.Pickups.Picking.{pickups_picked}
+use Rattle.mc_laws.proofs.Minds.Beginning.{none_weigh}
+use Rattle.mc_laws.proofs.TickRules.{rules_good, tick_rules}
 use Rattle.mc_laws.proofs.Runs.Seats.{GoodSeat, free_name, nobody_yet, seat_kept}
 use Rattle.mc_laws.proofs.Runs.Worlds.{at_tick_world, beats_world, first_seat, new_good}
 use Rattle.mc_laws.proofs.Runs.Worlds.{step_good}
@@ -105,9 +105,9 @@ each_balance : (f : ℕ → Link → Handing) (w : World) → Good w.game → Ba
 unfolding each
 each_balance f w good even = all_balance (closed_by f w) w.game good even
 
-picking_balance : (w : World) → GoodWorld w → Balance w.game → Balance (picking w).game
-picking_balance w a even = balance_on w.game (pickups w.game)
-    (λ id damage some few low. (pickups_picked w.game a.game a.told).weighs id damage) even
+rules_balance : (w : World) → GoodWorld w → Balance w.game → Balance (tick_rules w.plans w.game)
+rules_balance w a even = balance_on w.game (tick_rules w.plans w.game)
+    (λ id damage some few low. (rules_good w.plans w.game a.game a.told).weighs id damage) even
 
 moves_balance : (w : World) (o : Outcome) → Move w o → GoodWorld w → Balance w.game →
     Balance o.world.game
@@ -124,7 +124,7 @@ moves_balance w o (joins k new is) a even = rw is even
 moves_balance w o (forgets k l there done is) a even = rw is even
 moves_balance w o (passes is) a even = subst (λ (x : Outcome). Balance x.world.game) (sym is)
     (each_balance _ (shown_all (at_tick w)) (told_good (at_tick w).game (at_tick_world w a).game)
-    (picking_balance (beats (aged w)) (beats_world w a)
+    (rules_balance (beats (aged w)) (beats_world w a)
     (each_balance _ (aged w) a.game even)))
 
 run_balance : (w : World) (events : List Event) → GoodWorld w → Balance w.game →
@@ -141,16 +141,17 @@ none_there : {K X : Type 0} (R : K → K → Ordering) → entries (empty {X = X
 none_there {X = X} R =
     no_entries (entries (empty {X = X} {R = R})) (sym (len-entries empty) ∙ len-empty R X)
 
-new_balance : (settings : Settings) → Balance (new_world settings).game
-new_balance settings id damage some few low =
+new_balance : (start : Start) → Balance (new_world start).game
+new_balance start id damage some few low =
     rw (
       none_there name_cmp,
       none_there {X = ℕ} key_cmp,
       none_there {X = List Pile} key_cmp,
       len-empty name_cmp PackValue,
+      none_weigh (sort_of id damage) start.settings.terrain (length (plans_of start)),
     ) (omega arith)
 
-pub always_even : (settings : Settings) (events : List Event) →
-    Balance (history (new_world settings) events).game
-always_even settings events =
-    run_balance (new_world settings) events (new_good settings) (new_balance settings)
+pub always_even : (start : Start) (events : List Event) →
+    Balance (history (new_world start) events).game
+always_even start events =
+    run_balance (new_world start) events (new_good start) (new_balance start)

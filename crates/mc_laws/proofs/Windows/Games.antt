@@ -13,6 +13,7 @@ use Rattle.mc_model.specs.declared.player.Player.{Player}
 use Rattle.mc_model.specs.declared.settings.Settings.{Settings}
 use Rattle.mc_model.specs.Names.{offline_uuid}
 use Rattle.mc_model.specs.Game.{Game, new_game, pack_named, pack_of}
+use Rattle.mc_model.specs.Minds.{Plans, mobs_moved}
 use Rattle.mc_model.specs.Deeds.{enter_as, lessened, repack_of}
 use Rattle.mc_model.specs.Leaving.{leave, leave_all}
 use Rattle.mc_model.specs.Pickups.{pickups, stowed}
@@ -22,6 +23,7 @@ use Rattle.mc_model.proofs.Maps.Options.{none_some, some_is}
 use Rattle.mc_model.proofs.Maps.Lookups.{get_keyed, name_put_other, name_put_same, put_other}
 use Rattle.mc_model.proofs.Maps.Lookups.{put_same}
 use Rattle.mc_laws.proofs.Pickups.Picking.{pickups_keep}
+use Rattle.mc_laws.proofs.TickRules.{tick_rules}
 use Rattle.mc_laws.proofs.Windows.Watching.{Watch, renamed}
 use Rattle.mc_laws.proofs.Windows.Same.{SameWindows, ShownBut, nobody, number_of, repacked_same}
 use Rattle.mc_laws.proofs.Windows.Same.{right_shown, same_on, same_parts, same_right, shown_right}
@@ -50,6 +52,10 @@ pickups_same : (g : Game) → SameWindows g (pickups g)
 pickups_same = pickups_keep SameWindows (λ g. same_parts refl refl refl)
     (λ g u v a b. same_on {u = u} a b) stowed_same
 
+mobs_same : (plans : Plans) (g : Game) → SameWindows g (mobs_moved plans g)
+unfolding mobs_moved
+mobs_same plans g = same_parts refl refl refl
+
 told_same : (g : Game) → SameWindows g (told g)
 told_same g = record {
   who = λ k.
@@ -65,8 +71,11 @@ grown_shown g s = record {
   kept = s.kept;
 }
 
-pub pickups_shown : (g : Game) → Good g → AreShown g → AreShown (pickups g)
-pickups_shown g = same_shown g (pickups g) (pickups_same g)
+-- mobs move, and players pick up what they can
+pub rules_shown : (plans : Plans) (g : Game) → Good g → AreShown g →
+    AreShown (tick_rules plans g)
+rules_shown plans g = let moved : Game = mobs_moved plans g in
+    same_shown g (pickups moved) (same_on {u = moved} (mobs_same plans g) (pickups_same moved))
 
 pub told_shown : (g : Game) → Good g → AreShown g → AreShown (told g)
 told_shown g = same_shown g (told g) (told_same g)
@@ -120,8 +129,8 @@ enter_shown k name g w free none s = right_shown (enter_as k name g) (renamed k 
 
 -- ---- the first game
 
-pub new_shown : (settings : Settings) → AreShown (new_game settings)
-new_shown settings = record {
+pub new_shown : (settings : Settings) (mobs : ℕ) → AreShown (new_game settings mobs)
+new_shown settings mobs = record {
   shown = λ k p is. absurd (none_some _ p (get-empty _ k) is);
   numbers = λ name pack is. absurd (none_some _ pack (get-empty _ name) is);
   kept = λ name pack is none. absurd (none_some _ pack (get-empty _ name) is);

@@ -4,6 +4,5 @@ use Rattle.mc_entities.proofs.ticking.tick_all.Given as goal
 
 abbrev pub invariant-loop-i : goal.invariant-loop-i
 invariant-loop-i g l = IsTicking
-    (map (λ mind. (goal.Mind-dyn g (mind.vtable, mind.value)).plan mind.value) l.fn.minds)
-    l.fn.entities.items l.i l.mobs l.entities.items
-    (map (λ mind. (goal.Mind-dyn g (mind.vtable, mind.value)).plan mind.value) l.minds)
+    (map (λ mind. g.M.Mind.plan mind) l.fn.minds) l.fn.entities.items l.i l.mobs l.entities.items
+    (map (λ mind. g.M.Mind.plan mind) l.minds)

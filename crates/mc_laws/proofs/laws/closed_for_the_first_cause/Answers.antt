@@ -6,6 +6,6 @@ use Rattle.mc_laws.proofs.Runs.Worlds.{always_good}
 use Rattle.mc_laws.proofs.laws.closed_for_the_first_cause.Goals as goal
 
 pub returns : goal.returns
-returns c = λ settings events e k cause none.
-    closing (history (new_world settings) events) e k cause (always_good settings events)
-    (bytes_promised settings events k).closed none
+returns c = λ start events e k cause none.
+    closing (history (new_world start) events) e k cause (always_good start events)
+    (bytes_promised start events k).closed none

@@ -10,19 +10,19 @@ use Rattle.mc_laws.proofs.laws.connections_are_apart.Goals as goal
 
 pub returns : goal.returns
 returns c = record {
-  others = λ settings events v k e same no_own few few_too.
-      others_apart k (history (new_world settings) events) v e no_own few few_too
-      (always_good settings events) same;
-  own = λ settings events v k e same is no_join.
-      own_step_apart k (history (new_world settings) events) v e is no_join
-      (always_good settings events) same;
+  others = λ start events v k e same no_own few few_too.
+      others_apart k (history (new_world start) events) v e no_own few few_too
+      (always_good start events) same;
+  own = λ start events v k e same is no_join.
+      own_step_apart k (history (new_world start) events) v e is no_join
+      (always_good start events) same;
   broke = λ w k l there. broke_as_left k w l there;
   bad = λ w k bytes before bad stands. bad_twin k w bytes before bad stands;
-  found = λ settings events k bytes are came bad. stands_before settings events k bytes are came
+  found = λ start events k bytes are came bad. stands_before start events k bytes are came
       bad;
-  full = λ settings events v k is. full_as_left k (history (new_world settings) events) v
-      (always_good settings events) is;
+  full = λ start events v k is. full_as_left k (history (new_world start) events) v
+      (always_good start events) is;
   room = λ w k n l there. took_room k n w l there;
-  silent = λ settings events k falls. silent_as_left k
-      (history (new_world settings) events) (always_good settings events) falls;
+  silent = λ start events k falls. silent_as_left k
+      (history (new_world start) events) (always_good start events) falls;
 }

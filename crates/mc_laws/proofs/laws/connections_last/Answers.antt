@@ -6,6 +6,6 @@ use Rattle.mc_laws.proofs.Runs.Worlds.{always_good}
 use Rattle.mc_laws.proofs.laws.connections_last.Goals as goal
 
 pub returns : goal.returns
-returns c = λ settings events e k l is.
-    lasts k (history (new_world settings) events) e l (always_good settings events)
-    (bytes_promised settings events k).closed is
+returns c = λ start events e k l is.
+    lasts k (history (new_world start) events) e l (always_good start events)
+    (bytes_promised start events k).closed is

@@ -5,5 +5,5 @@ use Rattle.mc_laws.proofs.Runs.Worlds.{always_good}
 use Rattle.mc_laws.proofs.laws.only_senders_change.Goals as goal
 
 pub returns : goal.returns
-returns c = λ settings events e k is.
-    only_sender (history (new_world settings) events) e k is (always_good settings events)
+returns c = λ start events e k is.
+    only_sender (history (new_world start) events) e k is (always_good start events)
