@@ -3,7 +3,7 @@ use Rattle.std.proofs.Common.{◌≡◌, true, false, cond, ◌||◌, List, ℕ,
 use Rattle.std.specs.FinMap.{get-empty, insert}
 use Rattle.mc_land.specs.Places.{Place, place_cmp}
 use Rattle.mc_land.specs.Land.{LandValue}
-use Rattle.mc_told.proofs.MoveFrames.{none_moved}
+use Rattle.mc_told.proofs.EntityFrames as entities
 use Rattle.mc_loads.specs.ColumnFrames.{AreColumnFrames, ColumnsValue, change_bytes, is_clean}
 use Rattle.mc_loads.specs.ColumnFrames.{load_bytes}
 use Rattle.mc_loads.specs.ColumnFrames as columns
@@ -23,7 +23,7 @@ none_encoded land list = record {
       ∙ e in absurd cc;
   changes = λ place bytes e. let none : None ≡ Some bytes = sym (get-empty place_cmp place)
       ∙ e in absurd cc;
-  moves = none_moved;
+  entities = entities.none_encoded;
   lines = tt;
 }
 
@@ -33,7 +33,7 @@ players_added land list old frames = record {
   players = λ bytes e. same_bytes (player_bytes list) bytes e;
   loads = frames.loads;
   changes = frames.changes;
-  moves = frames.moves;
+  entities = frames.entities;
   lines = frames.lines;
 }
 
@@ -55,7 +55,7 @@ columns_added land list old new frames step =
       players = frames.players;
       loads = later.loads;
       changes = later.changes;
-      moves = frames.moves;
+      entities = frames.entities;
       lines = frames.lines;
     }
 

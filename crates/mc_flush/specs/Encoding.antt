@@ -1,11 +1,10 @@
 -- What is the same for all clients of a tick, encoded once: the frames of who left and of who came
--- since the last settling, of each column's load and changed cells, of each entity's move, and of
--- what was said.
+-- since the last settling, of each column's load and changed cells, of each entity's move or of what
+-- shows it, and of what was said.
 use Rattle.std.specs.Prelude.{◌≡◌, ◌||◌, ℕ, Bool, List, [], Option, Some, None, refl}
 use Rattle.std.specs.Prelude.{if◌then◌else◌}
 use Rattle.std.specs.Coded.{Coded, code_by, coded×, coded_ℕ, coded_ℤ, coded_list, coded_option}
 use Rattle.std.specs.List.{filter, fold, sum_by}
-use Rattle.std.specs.Ordering.{int_cmp}
 use Rattle.std.specs.FinMap.{FinMap, code, empty, get, insert}
 use Rattle.mc_column.specs.Sizes.{cells}
 use Rattle.mc_fields.specs.declared.position.Cell.{Cell}
@@ -16,13 +15,13 @@ use Rattle.mc_view.specs.declared.view_set.ViewSet.{ViewSet}
 use Rattle.mc_view.specs.Sets.{has}
 use Rattle.mc_model.specs.declared.notes.Notes.{Notes}
 use Rattle.mc_model.specs.Notes.{is_sent}
-use Rattle.mc_told.specs.declared.moved.Moved.{Moved}
 use Rattle.mc_loads.specs.ColumnFrames.{ColumnsValue, change_bytes, is_clean, load_bytes}
 use Rattle.mc_loads.specs.ColumnFrames as columns
 use Rattle.mc_flush.specs.declared.encoded_line.EncodedLine.{EncodedLine}
 use Rattle.mc_flush.specs.LineFrames.{AreLines, coded_lines, with_texts}
 use Rattle.mc_flush.specs.Lists.{ListValue}
-use Rattle.mc_told.specs.MoveFrames.{AreMoves, coded_moves, with_move}
+use Rattle.mc_told.specs.EntityFrames.{AreEncoded, EntitiesValue, coded_entities, no_entities}
+use Rattle.mc_told.specs.EntityFrames.{with_frames_of}
 use Rattle.mc_flush.specs.Seeing.{MarkValue, player_packets}
 use Rattle.mc_sending.specs.Sending.{play_bytes}
 
@@ -33,28 +32,28 @@ pub record EncodedValue : Type 0 where
   pub loads : FinMap place_cmp (List ℕ)
   -- by place, the frames of its cells that changed since the last settling
   pub changes : FinMap place_cmp (List ℕ)
-  -- by number, each entity's move since the last settling
-  pub moves : FinMap int_cmp Moved
+  -- each entity's move since the last settling, and what shows each that came since
+  pub entities : EntitiesValue
   -- what was said since the last tick, each text with its frame
   pub lines : List EncodedLine
 
 abbrev pub coded_encoded : Coded EncodedValue
 coded_encoded =
     code_by (Option (List ℕ) × (FinMap place_cmp (List ℕ)
-    × (FinMap place_cmp (List ℕ) × (FinMap int_cmp Moved × List EncodedLine))))
+    × (FinMap place_cmp (List ℕ) × (EntitiesValue × List EncodedLine))))
     (coded× (coded_option (coded_list coded_ℕ))
     (coded× (code (coded× coded_ℤ coded_ℤ) (coded_list coded_ℕ))
     (coded× (code (coded× coded_ℤ coded_ℤ) (coded_list coded_ℕ))
-    (coded× coded_moves coded_lines))))
+    (coded× coded_entities coded_lines))))
     (λ encoded. (
       encoded.players,
-      (encoded.loads, (encoded.changes, (encoded.moves, encoded.lines))),
+      (encoded.loads, (encoded.changes, (encoded.entities, encoded.lines))),
     ))
     (λ parts. record {
       players = parts.0;
       loads = parts.1.0;
       changes = parts.1.1.0;
-      moves = parts.1.1.1.0;
+      entities = parts.1.1.1.0;
       lines = parts.1.1.1.1;
     })
     (λ encoded. refl)
@@ -64,7 +63,7 @@ nothing_encoded = record {
   players = None;
   loads = empty;
   changes = empty;
-  moves = empty;
+  entities = no_entities;
   lines = [];
 }
 
@@ -75,14 +74,14 @@ abbrev pub player_bytes : ListValue → List ℕ
 player_bytes list = play_bytes (player_packets list.last list.present)
 
 -- what was encoded are the frames of these players, of the columns and cells of this land, of
--- moves, and of texts
+-- entities, and of texts
 pub record AreFrames (land : LandValue) (list : ListValue) (encoded : EncodedValue) : Type 0 where
   pub players : (bytes : List ℕ) → encoded.players ≡ Some bytes → bytes ≡ player_bytes list
   pub loads : (place : Place) (bytes : List ℕ) → get encoded.loads place ≡ Some bytes →
       bytes ≡ load_bytes land place
   pub changes : (place : Place) (bytes : List ℕ) → get encoded.changes place ≡ Some bytes →
       bytes ≡ change_bytes land place
-  pub moves : AreMoves encoded.moves
+  pub entities : AreEncoded encoded.entities
   pub lines : AreLines encoded.lines
 
 -- ---- what is added
@@ -110,10 +109,10 @@ abbrev pub with_changes : EncodedValue → LandValue → Place → EncodedValue
 with_changes encoded land place = if has_changes encoded place || is_clean land place then encoded
     else record encoded { changes = insert encoded.changes place (change_bytes land place) }
 
--- the moves of all entities
-abbrev pub with_moves : EncodedValue → FolkState → EncodedValue
-with_moves encoded state =
-    record encoded { moves = fold (with_move state) encoded.moves state.entities }
+-- the moves of all entities, and what shows those that came
+abbrev pub with_entity_frames : EncodedValue → FolkState → EncodedValue
+with_entity_frames encoded state =
+    record encoded { entities = fold (with_frames_of state) encoded.entities state.entities }
 
 -- what was said, behind what is there
 abbrev pub with_lines : EncodedValue → List (List ℕ) → EncodedValue

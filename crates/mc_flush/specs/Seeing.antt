@@ -1,7 +1,7 @@
 -- What a client is to be shown, of the parts that a view borrows, and what a mark stands for.
 use Rattle.std.specs.Prelude.{◌≡◌, ℕ, ◌≤◌, Bool, List, ◌++◌, map, length, replicate, Option}
 use Rattle.std.specs.Prelude.{Some, None, is_some, option_map, if◌then◌else◌}
-use Rattle.std.specs.List.{filter, filter_map}
+use Rattle.std.specs.List.{filter}
 use Rattle.std.specs.FinMap.{FinMap, empty, from_entries, get}
 use lib.IntN.{ℤ, pos, negsuc}
 use Rattle.mc_column.specs.Cells.{ColumnValue}
@@ -61,7 +61,7 @@ seen land list entities pack chest view age chat = record {
   age = age_now age;
   pairs = list.present;
   columns = columns_of (present_parts land list) view;
-  entities = from_entries (filter_map seen_of (in_view view entities));
+  entities = from_entries (map seen_of (in_view view entities));
   window = window_seen pack chest;
   pack = map slot_of pack.slots;
   cursor = slot_of pack.cursor;

@@ -27,7 +27,7 @@ use mc_land::{Land, Steps};
 use mc_loads::{ColumnsView, push_piece};
 use mc_model::{Notes, spawn_spot};
 use mc_slots::Chest;
-use mc_told::{EncodedMoves, EntityView};
+use mc_told::{EncodedEntities, EntityView};
 use mc_view::ViewSet;
 use mc_windows::Pack;
 use std::alloc::Global;
@@ -59,15 +59,15 @@ pub struct ClientView<'w> {
 
 impl ClientView<'_> {
     /// What the client is shown of the entities.
-    pub(crate) fn entities<'a>(&'a self, moves: &'a EncodedMoves) -> EntityView<'a>
+    pub(crate) fn entities<'a>(&'a self, encoded: &'a EncodedEntities) -> EntityView<'a>
         ensures folk { result.folk.now ≡ self.now.folk.now }
-        ensures moves { result.moves.now ≡ moves.now }
+        ensures encoded { result.encoded.now ≡ encoded.now }
         ensures me { result.me ≡ self.now.me }
         ensures view { result.view ≡ self.now.view }
     {
         EntityView {
             folk: self.folk,
-            moves,
+            encoded,
             me: self.me,
             view: self.view,
         }
@@ -169,7 +169,7 @@ impl ClientView<'_> {
         // Its walk is that of eight exits, at two of which the piece of what is shown is alive.
         push_age(alloc, mark, self.age, out)?;
         push_piece(self.players(alloc, encoded, mark)?, out)?;
-        let (gone, shown) = mark.tell(alloc, self, encoded.moves())?;
+        let (gone, shown) = mark.tell(alloc, self, encoded.entities())?;
         push_piece(gone, out)?;
         self.push_columns(alloc, encoded, mark, out, steps)?;
         push_piece(shown, out)?;

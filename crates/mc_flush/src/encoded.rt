@@ -8,8 +8,8 @@ ghost use Rattle.mc_flush.specs.Lists.{ListValue};
 ghost use Rattle.mc_flush.specs.Seeing.{IsNamed};
 ghost use Rattle.mc_loads.specs.Columns.{IsReady};
 ghost use Rattle.mc_flush.specs.Encoding.{AreFrames, change_cost, columns_in, load_cost};
-ghost use Rattle.mc_flush.specs.Encoding.{nothing_encoded, with_changes, with_lines, with_load};
-ghost use Rattle.mc_flush.specs.Encoding.{with_moves, with_players};
+ghost use Rattle.mc_flush.specs.Encoding.{nothing_encoded, with_changes, with_entity_frames};
+ghost use Rattle.mc_flush.specs.Encoding.{with_lines, with_load, with_players};
 ghost use Rattle.mc_flush.specs.LineFrames.{IsLine};
 
 mod fields;
@@ -21,7 +21,7 @@ use mc_bytes::{NoMemory, Text};
 use mc_entities::Folk;
 use mc_land::{Land, Steps};
 use mc_loads::EncodedColumns;
-use mc_told::EncodedMoves;
+use mc_told::EncodedEntities;
 use std::alloc::Global;
 use std::marker::Model;
 use std::sync::ledger::Ledger;
@@ -29,15 +29,16 @@ use std::sync::ledger::Ledger;
 /// What is the same for all clients of a tick, encoded once, in pieces that each of them shares:
 /// the frames of who left and of who came since the last settling, by place that of a column's
 /// load, by place those of its cells that changed since the last settling, by number those of an
-/// entity's move since then, and in their order those of what was said.
+/// entity's move since then or those that show one that came since, and in their order those of
+/// what was said.
 #[derive(Drop)]
 pub struct Encoded {
     /// The frames about players, where they were encoded.
     players: Option<Bytes>,
     /// The loads and the changed cells of columns.
     columns: EncodedColumns,
-    /// The moves of entities.
-    moves: EncodedMoves,
+    /// What differs of entities.
+    entities: EncodedEntities,
     /// What was said.
     lines: EncodedLines,
 }
@@ -53,7 +54,7 @@ impl Model for Encoded {
       players = e.players;
       loads = e.columns.loads;
       changes = e.columns.changes;
-      moves = e.moves;
+      entities = e.entities;
       lines = e.lines;
     } };
 }
@@ -67,7 +68,7 @@ impl Encoded {
         Encoded {
             players: None,
             columns: EncodedColumns::new(alloc),
-            moves: EncodedMoves::new(alloc),
+            entities: EncodedEntities::new(alloc),
             lines: EncodedLines::new(alloc),
         }
     }
@@ -131,14 +132,14 @@ impl Encoded {
         Ok(())
     }
 
-    /// Adds the frames of each entity's move since the last settling. Without memory they are those
-    /// of some.
-    pub fn add_moves(&mut self, alloc: Global, folk: &Folk) -> Result<(), NoMemory>
-        ensures ok { OnOk result (self.new ≡ with_moves self.old folk.now.state) }
+    /// Adds the frames of each entity's move since the last settling, and those that show each that
+    /// came since. Without memory they are those of some.
+    pub fn add_entities(&mut self, alloc: Global, folk: &Folk) -> Result<(), NoMemory>
+        ensures ok { OnOk result (self.new ≡ with_entity_frames self.old folk.now.state) }
         ensures frames { (land : LandValue) (list : ListValue) → AreFrames land list self.old
             → AreFrames land list self.new }
     {
-        self.moves.add_moves(alloc, folk)
+        self.entities.add_entities(alloc, folk)
     }
 
     /// Adds the frames of what was said since the last tick, in the order in which it was said.
@@ -159,11 +160,11 @@ impl Encoded {
         &self.columns
     }
 
-    /// The moves that were encoded.
-    pub(crate) fn moves(&self) -> &EncodedMoves
-        ensures { result.now ≡ self.now.moves }
+    /// What was encoded of entities.
+    pub(crate) fn entities(&self) -> &EncodedEntities
+        ensures { result.now ≡ self.now.entities }
     {
-        &self.moves
+        &self.entities
     }
 
     /// What was encoded of what was said.

@@ -4,7 +4,7 @@ ghost use Rattle.mc_entities.specs.Numbers.{Rise};
 ghost use Rattle.mc_entities.specs.Folk.{eid_of};
 ghost use Rattle.mc_model.specs.Delta.{destroying, is_told};
 ghost use Rattle.mc_model.specs.Sight.{others};
-ghost use Rattle.mc_told.specs.MoveFrames.{AreMoves};
+ghost use Rattle.mc_told.specs.EntityFrames.{AreEncoded};
 ghost use Rattle.mc_sending.specs.Sending.{play_bytes};
 ghost use Rattle.mc_flush.specs.Seeing.{loaded, nothing_shown, window_kept};
 ghost use Rattle.mc_told.specs.Telling.{age_now, beat_now, entity_frames, gone_from, told_now};
@@ -16,7 +16,7 @@ use crate::windows::{Window, window_of};
 use bytes::Bytes;
 use mc_bytes::NoMemory;
 use mc_slots::{Chest, Pile};
-use mc_told::{Clock, EncodedMoves, tell};
+use mc_told::{Clock, EncodedEntities, tell};
 use mc_view::{Columns, Tracker, ViewSet};
 use mc_windows::{PACK_PILES, Pack};
 use std::alloc::Global;
@@ -152,9 +152,9 @@ impl Mark {
         &mut self,
         alloc: Global,
         view: &ClientView<'_>,
-        moves: &EncodedMoves,
+        encoded: &EncodedEntities,
     ) -> Result<(Bytes, Bytes), NoMemory>
-        requires { AreMoves moves.now }
+        requires { AreEncoded encoded.now }
         ensures gone { IfOk result (λ pieces. pieces.0 ≡ play_bytes
             (destroying (gone_from self.old.told
             (others view.now.me view.now.folk.now.state.entities) view.now.view))) }
@@ -167,7 +167,7 @@ impl Mark {
         ensures rise { Rise eid_of (pos 0) view.now.folk.now.state.entities
             (pos view.now.folk.now.state.given) }
     {
-        let pieces = tell(alloc, &view.entities(moves), &mut self.told);
+        let pieces = tell(alloc, &view.entities(encoded), &mut self.told);
         if pieces.is_err() {
             self.told = Tracker::new(alloc);
         }

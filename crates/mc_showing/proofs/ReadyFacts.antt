@@ -90,7 +90,7 @@ frames_same old new list encoded same are = record {
   players = are.players;
   loads = λ place bytes there. are.loads place bytes there ∙ load_same old new place same;
   changes = λ place bytes there. are.changes place bytes there ∙ change_same old new place same;
-  moves = are.moves;
+  entities = are.entities;
   lines = are.lines;
 }
 

@@ -3,7 +3,7 @@ use Rattle.std.proofs.Common.{◌≡◌, ℕ, zero, suc, List, [], ◌∷◌, �
 use Rattle.std.proofs.Common.{is_some, refl, sym}
 use Rattle.std.proofs.Common.{subst, ap, ◌∙◌, append_assoc}
 use Rattle.std.specs.Prelude.{drop, option_map, if◌then◌else◌}
-use Rattle.std.specs.List.{AllByRecursion, filter, filter_map}
+use Rattle.std.specs.List.{AllByRecursion, filter}
 use Rattle.std.specs.Option.{option_copied}
 use Rattle.std.specs.FinMap.{from_entries, get-empty}
 use Rattle.std.specs.Ordering.{int_cmp}
@@ -116,7 +116,7 @@ module _ (scene : Scene) (p : Player) (part : ClientView) (is : IsScene scene)
     pairs = listed players i;
     columns = from_entries (map (placed_with (has.land i).terrain (has.land i).edits)
         (view_of (has.view.middle i) (has.view.d i)));
-    entities = from_entries (filter_map seen_of (filter (λ (e : Entity).
+    entities = from_entries (map seen_of (filter (λ (e : Entity).
         is_in_view (has.view.middle i) (has.view.d i) (column_of_spot e.spot))
         (others (has.me i) (has.entities i))));
     window = window_seen (has.pack i) (has.chest i);

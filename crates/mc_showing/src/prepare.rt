@@ -23,7 +23,8 @@ use std::alloc::Global;
 use std::marker::Brand;
 use std::sync::ledger::{Blank, Ledger};
 
-/// Encodes who left and who came since the last settling, and how each entity moved.
+/// Encodes who left and who came since the last settling, and of each entity how it moved since, or
+/// what shows it, if it came since.
 fn add_all(
     alloc: Global,
     roster: &Roster,
@@ -34,10 +35,11 @@ fn add_all(
         → AreFrames land roster.now encoded.new }
 {
     encoded.add_players(alloc, roster.list())?;
-    encoded.add_moves(alloc, game.folk())
+    encoded.add_entities(alloc, game.folk())
 }
 
-/// Encodes who left and who came since the last settling, and how each entity moved.
+/// Encodes who left and who came since the last settling, and of each entity how it moved since, or
+/// what shows it, if it came since.
 pub fn start(alloc: Global, roster: &Roster, game: &Game) -> Result<Encoded, NoMemory>
     ensures { IfOk result (AreFrames (land_of game.now) roster.now) }
 {

@@ -1,7 +1,7 @@
-pub mod MoveFrames
+pub mod EntityFrames
 pub mod Ordered
 pub mod Parts
 pub mod Rising
 pub mod Rows
-pub mod SameSpots
+pub mod SameRows
 pub mod Told

@@ -1,8 +1,8 @@
 -- Entities row by row: the rows of rising entities rise, and what is shown is shown by them.
-use Rattle.std.proofs.Common.{◌≡◌, T, List, [], ◌∷◌, ◌++◌, map, Option, Some}
-use Rattle.std.proofs.Common.{None, refl, sym, subst, ap, ◌∙◌, arith}
+use Rattle.std.proofs.Common.{◌≡◌, T, List, [], ◌∷◌, map, Option}
+use Rattle.std.proofs.Common.{true, false, cond, refl, sym, subst, ap, ◌∙◌, arith}
 use Rattle.std.specs.Prelude.{is_some, option_map}
-use Rattle.std.specs.List.{filter_map, flat_map}
+use Rattle.std.specs.List.{flat_map}
 use Rattle.std.specs.Ordering.{int_cmp}
 use Rattle.std.proofs.lemmas.Cmp.{int_cmp_total}
 use Rattle.std.proofs.lemmas.Int.{ints}
@@ -22,35 +22,33 @@ use Rattle.mc_view.specs.Told.{Told}
 use Rattle.mc_model.specs.Sight.{Seen, seen_of}
 use Rattle.mc_told.specs.declared.row.Row.{Row}
 use Rattle.mc_told.specs.Telling.{entity_frames, in_view, kept_of, packets_of, shown_now}
-use Rattle.mc_told.specs.Telling.{told_slot, row_in, rows_as, rows_in, rows_packets}
+use Rattle.mc_told.specs.Telling.{entity_row, is_in, told_slot, rows_in, rows_packets}
 use Rattle.mc_told.specs.Telling.{seen_row, told_now, told_row}
 use Rattle.mc_told.proofs.Ordered.{both, entries_made}
 use Rattle.mc_told.proofs.Rising.{less, sorted_is, rising}
 
 -- what is shown is shown by the rows
 pub seen_rows : (view : ViewSet) (es : List Entity) →
-    filter_map seen_of (in_view view es) ≡ map seen_row (rows_in view es)
+    map seen_of (in_view view es) ≡ map seen_row (rows_in view es)
 seen_rows view [] = grind (arith, nat_tests)
 seen_rows view (e ∷ es) = grind (arith, nat_tests, seen_rows view es)
 
--- and wherever it stands
-pub row_eid : (view : ViewSet) (e : Entity) (row : Row) →
-    row_in view e ≡ Some row → row.eid ≡ e.eid
-row_eid view e row is = grind (arith, nat_tests)
+-- a row has the number of its entity
+pub row_eid : (e : Entity) → (entity_row e).eid ≡ e.eid
+row_eid e = grind (arith, nat_tests)
 
 -- all rows are above a number that entities are above
 pub rows_above : (view : ViewSet) (k low high : ℤ) (es : List Entity) → k ≤ℤ low →
     Rise eid_of low es high → T (below_all int_cmp k (map told_row (rows_in view es)))
 rows_above view k low high [] le r = tt
 rows_above view k low high (e ∷ es) le r =
-    let lt : k <ℤ e.eid = omega (arith, ints, le, r.0) in
-    let rest = rows_above view k e.eid high es (omega (arith, ints, lt)) r.1 in
-    elim (row_in view e) as (λ o. row_in view e ≡ o →
-    T (below_all int_cmp k (map told_row (rows_as o ++ rows_in view es)))) [
-      | None ↦ λ none. rest
-      | Some row ↦ λ is. both _ _ (less k row.eid
-          (subst (λ (q : ℤ). k <ℤ q) (sym (row_eid view e row is)) lt)) rest
-    ] refl
+    let lt : k <ℤ (entity_row e).eid = omega (arith, ints, le, r.0, row_eid e) in
+    let rest = rows_above view k e.eid high es (omega (arith, ints, le, r.0)) r.1 in
+    elim (is_in view e) as (λ b. T (below_all int_cmp k (map told_row
+    (map entity_row (cond b (e ∷ in_view view es) (in_view view es)))))) [
+      | true ↦ both _ _ (less k (entity_row e).eid lt) rest
+      | false ↦ rest
+    ]
 
 -- the rows of rising entities rise
 pub rows_rise : (view : ViewSet) (low high : ℤ) (es : List Entity) → Rise eid_of low es high →
@@ -58,13 +56,12 @@ pub rows_rise : (view : ViewSet) (low high : ℤ) (es : List Entity) → Rise ei
 rows_rise view low high [] r = tt
 rows_rise view low high (e ∷ es) r =
     let rest = rows_rise view e.eid high es r.1 in
-    elim (row_in view e) as (λ o. row_in view e ≡ o →
-    T (is_sorted int_cmp (map told_row (rows_as o ++ rows_in view es)))) [
-      | None ↦ λ none. rest
-      | Some row ↦ λ is. both _ _ (rows_above view row.eid e.eid high es
-          (subst (λ (q : ℤ). q ≤ℤ e.eid) (sym (row_eid view e row is)) (omega (arith, ints))) r.1)
-          rest
-    ] refl
+    elim (is_in view e) as (λ b. T (is_sorted int_cmp (map told_row
+    (map entity_row (cond b (e ∷ in_view view es) (in_view view es)))))) [
+      | true ↦ both _ _ (rows_above view (entity_row e).eid e.eid high es
+          (omega (arith, ints, row_eid e)) r.1) rest
+      | false ↦ rest
+    ]
 
 -- ---- what is shown
 

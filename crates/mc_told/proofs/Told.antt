@@ -33,8 +33,8 @@ use Rattle.mc_model.proofs.Maps.Sorted.{each_found, take_out, put_in, is_without
 use Rattle.mc_model.proofs.Maps.Sorted.{all_put_in}
 use Rattle.mc_told.specs.declared.row.Row.{Row}
 use Rattle.mc_sending.specs.Sending.{play_bytes}
-use Rattle.mc_told.specs.Telling.{gone_from, shown_now, gone_among, row_in, row_packets}
-use Rattle.mc_told.specs.Telling.{rows_as, rows_in, rows_packets, told_now, told_row}
+use Rattle.mc_told.specs.Telling.{entity_row, gone_from, shown_now, gone_among, in_view, is_in}
+use Rattle.mc_told.specs.Telling.{row_packets, rows_in, rows_packets, told_now, told_row}
 use Rattle.mc_told.specs.Telling.{with_row, with_rows, without_all}
 use Rattle.mc_bytes.proofs.Trees.{equal}
 use Rattle.mc_sending.proofs.Keys.{all_kept, same_filter}
@@ -51,7 +51,7 @@ Entry = ℤ × (Spot × Pile)
 -- whether what is found under a number is shown
 abbrev pub shown_of : ViewSet → Option Entity → Bool
 shown_of view None = false
-shown_of view (Some e) = is_some (row_in view e)
+shown_of view (Some e) = is_in view e
 
 -- a number has a row where the entity that is found by it is shown
 numbered_shown : (view : ViewSet) (q low high : ℤ) (es : List Entity) → Rise eid_of low es high →
@@ -59,33 +59,34 @@ numbered_shown : (view : ViewSet) (q low high : ℤ) (es : List Entity) → Rise
     ≡ shown_of view (numbered eid_of q es)
 numbered_shown view q low high [] r = refl
 numbered_shown view q low high (e ∷ es) r =
+    let row = entity_row e in
     let later = map told_row (rows_in view es) in
-    elim (row_in view e) as (λ o. row_in view e ≡ o →
-    is_some (find int_cmp q (map told_row (rows_as o ++ rows_in view es)))
+    let behind = numbered_shown view q e.eid high es r.1 in
+    let turned : eq_by_cmp int_cmp q row.eid ≡ int_eq e.eid q =
+    ap (eq_by_cmp int_cmp q) (row_eid e) ∙ int_eq_equiv.symm q e.eid in
+    elim (is_in view e) as (λ b. is_in view e ≡ b → is_some (find int_cmp q (map told_row
+    (map entity_row (cond b (e ∷ in_view view es) (in_view view es)))))
     ≡ shown_of view (cond (int_eq e.eid q) (Some e) (numbered eid_of q es))) [
-      | None ↦ λ none. elim (int_eq e.eid q) as (λ b. int_eq e.eid q ≡ b →
+      | true ↦ λ is. ap (λ (b : Bool). is_some (cond b (Some (told_row row).1)
+          (find int_cmp q later))) turned
+          ∙ elim (int_eq e.eid q) as (λ b.
+          is_some (cond b (Some (told_row row).1) (find int_cmp q later))
+          ≡ shown_of view (cond b (Some e) (numbered eid_of q es))) [
+            | true ↦ sym is
+            | false ↦ behind
+          ]
+      | false ↦ λ is. elim (int_eq e.eid q) as (λ b. int_eq e.eid q ≡ b →
           is_some (find int_cmp q later) ≡ shown_of view (cond b (Some e) (numbered eid_of q es))) [
             | true ↦ λ t.
                 let same : e.eid ≡ q = int_cmp-IsAntisymmetric e.eid q (equal _ t) in
                 ap is_some (find_below int_cmp q later
                 (rows_above view q e.eid high es (omega (arith, ints, same)) r.1))
-                ∙ sym (ap is_some none)
-            | false ↦ λ f. numbered_shown view q e.eid high es r.1
+                ∙ sym is
+            | false ↦ λ f. behind
           ] refl
-      | Some row ↦ λ is.
-          let key : row.eid ≡ e.eid = row_eid view e row is in
-          let turned : eq_by_cmp int_cmp q row.eid ≡ int_eq e.eid q =
-          ap (eq_by_cmp int_cmp q) key ∙ int_eq_equiv.symm q e.eid in
-          ap (λ (b : Bool). is_some (cond b (Some (told_row row).1) (find int_cmp q later))) turned
-          ∙ elim (int_eq e.eid q) as (λ b.
-          is_some (cond b (Some (told_row row).1) (find int_cmp q later))
-          ≡ shown_of view (cond b (Some e) (numbered eid_of q es))) [
-            | true ↦ sym (ap is_some is)
-            | false ↦ numbered_shown view q e.eid high es r.1
-          ]
     ] refl
 
--- an entity is shown where it is found by its number, and is in view and no mob
+-- an entity is shown where it is found by its number, and is in view
 shown_found : (view : ViewSet) (q high : ℤ) (es : List Entity) → Rise eid_of (pos 0) es high →
     contains_key (shown_now es view) q ≡ shown_of view (numbered eid_of q es)
 shown_found view q high es r =
@@ -130,7 +131,7 @@ shown_own view me high es r =
     shown_found view me high (others me es) (others_rise me high es r)
     ∙ ap (shown_of view) (others_own me es)
 
--- any other is where it is found by its number, and is in view and no mob
+-- any other is where it is found by its number, and is in view
 pub shown_other : (view : ViewSet) (me q high : ℤ) (es : List Entity) →
     Rise eid_of (pos 0) es high → int_eq q me ≡ false →
     contains_key (shown_now (others me es) view) q ≡ shown_of view (numbered eid_of q es)

@@ -1,2 +1,3 @@
 pub mod Telling
-pub mod MoveFrames
+pub mod RowCode
+pub mod EntityFrames

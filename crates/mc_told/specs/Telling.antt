@@ -1,15 +1,14 @@
 -- What a client is told: the beat and the age, and of entities which of them it is shown, and row
 -- by row, a row for each that is shown.
-use Rattle.std.specs.Prelude.{ℕ, not, List, [], ◌∷◌, map, Option, Some, None, if◌then◌else◌}
-use Rattle.std.specs.Prelude.{option_map, Bool}
-use Rattle.std.specs.List.{filter, filter_map, flat_map, fold}
+use Rattle.std.specs.Prelude.{ℕ, not, List, map, Option, Some, option_map, Bool}
+use Rattle.std.specs.List.{filter, flat_map, fold}
 use Rattle.std.specs.Ordering.{int_cmp}
 use Rattle.std.specs.FinMap.{FinMap, contains_key, from_entries, get, insert, keys, remove}
 use lib.IntN.{ℤ, pos}
 use Rattle.mc_fields.specs.declared.position.Spot.{Spot}
 use Rattle.mc_slots.specs.declared.slot.Slot.{Slot}
 use Rattle.mc_slots.specs.declared.pile.Pile.{Pile}
-use Rattle.mc_slots.specs.declared.pile.Pile.TheVariants.{Full}
+use Rattle.mc_slots.specs.declared.pile.Pile.TheVariants.{Empty, Full}
 use Rattle.mc_slots.specs.Pile.{slot_of}
 use Rattle.mc_entities.specs.declared.entity.Entity.{Entity}
 use Rattle.mc_entities.specs.declared.entity.EntityKind.{EntityKind}
@@ -55,7 +54,7 @@ told_slot told = (told.0, slot_of told.1)
 
 -- the entities that are to be shown, of those that may be
 abbrev pub shown_now : List Entity → ViewSet → FinMap int_cmp Seen
-shown_now entities view = from_entries (filter_map seen_of (in_view view entities))
+shown_now entities view = from_entries (map seen_of (in_view view entities))
 
 -- the numbers of those that a client was told of and that it is to be shown no more
 abbrev pub gone_from : Told → List Entity → ViewSet → List ℤ
@@ -70,29 +69,22 @@ packets_of told e =
 -- in rising number
 abbrev pub entity_frames : Told → List Entity → ViewSet → List Down
 entity_frames told entities view =
-    flat_map (packets_of told) (filter_map seen_of (in_view view entities))
+    flat_map (packets_of told) (map seen_of (in_view view entities))
 
--- a row of an entity that clients are shown, which no mob is
-abbrev pub row_as : Entity → EntityKind → Option Row
+-- a row of an entity, as clients are shown it; a mob has no pile
+abbrev pub row_as : Entity → EntityKind → Row
 row_as e (Player uuid held) =
-    Some (record { eid = e.eid; kind = seen_kinds.Player uuid; spot = e.spot; pile = held })
+    record { eid = e.eid; kind = seen_kinds.Player uuid; spot = e.spot; pile = held }
 row_as e (Dropped item born) =
-    Some (record { eid = e.eid; kind = seen_kinds.Dropped; spot = e.spot; pile = Full item })
-row_as e Mob = None
+    record { eid = e.eid; kind = seen_kinds.Dropped; spot = e.spot; pile = Full item }
+row_as e Mob = record { eid = e.eid; kind = seen_kinds.Mob; spot = e.spot; pile = Empty }
 
--- and that stands in a view
-abbrev pub row_in : ViewSet → Entity → Option Row
-row_in view e = if is_in view e then row_as e e.kind else None
+abbrev pub entity_row : Entity → Row
+entity_row e = row_as e e.kind
 
-abbrev pub rows_as : Option Row → List Row
-rows_as None = []
-rows_as (Some row) = row ∷ []
-
-abbrev pub rows_of : ViewSet → Entity → List Row
-rows_of view e = rows_as (row_in view e)
-
+-- of those that stand in a view
 abbrev pub rows_in : ViewSet → List Entity → List Row
-rows_in view entities = flat_map (rows_of view) entities
+rows_in view entities = map entity_row (in_view view entities)
 
 -- what is kept of a row
 abbrev pub told_row : Row → ℤ × (Spot × Pile)

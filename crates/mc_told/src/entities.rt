@@ -13,14 +13,14 @@ ghost use Rattle.mc_entities.specs.Folk.{eid_of};
 ghost use Rattle.mc_entities.specs.Kept.{AreKinds, Rises};
 ghost use Rattle.mc_model.specs.Delta.{destroying};
 ghost use Rattle.mc_model.specs.Sight.{others};
-ghost use Rattle.mc_told.specs.MoveFrames.{AreMoves};
+ghost use Rattle.mc_told.specs.EntityFrames.{AreEncoded};
 ghost use Rattle.mc_sending.specs.Sending.{play_bytes};
 ghost use Rattle.mc_told.specs.Telling.{entity_frames, gone_from, shown_now, gone_among, rows_in};
 ghost use Rattle.mc_told.specs.Telling.{rows_packets, told_now, with_rows, without_all};
 
-use crate::EncodedMoves;
+use crate::EncodedEntities;
 use crate::known::put_row;
-use crate::row::row_in;
+use crate::row::{entity_row, is_in};
 use bytes::Bytes;
 use mc_bytes::NoMemory;
 use mc_entities::{Entity, Folk};
@@ -35,8 +35,8 @@ use std::alloc::Global;
 pub struct EntityView<'w> {
     /// The entities.
     pub folk: &'w Folk,
-    /// What was encoded of their moves for all clients.
-    pub moves: &'w EncodedMoves,
+    /// What was encoded of them for all clients.
+    pub encoded: &'w EncodedEntities,
     /// The number of the client's own entity.
     pub me: i32,
     /// The columns that the client is shown.
@@ -54,7 +54,7 @@ fn is_shown(view: &EntityView<'_>, eid: &i32) -> bool
         return false;
     }
     match view.folk.get(*eid) {
-        Some(entity) => row_in(&view.view, entity).is_some(),
+        Some(entity) => is_in(&view.view, entity),
         None => false,
     }
 }
@@ -142,8 +142,8 @@ fn destroy_piece(alloc: Global, gone: &[i32]) -> Result<Bytes, NoMemory>
     Ok(Bytes::from_vec(bytes)?)
 }
 
-/// Appends what a client is to be told of an entity, and keeps that: nothing of its own, of one
-/// that is not in its view, and of a mob.
+/// Appends what a client is to be told of an entity, and keeps that: nothing of its own, and of one
+/// that is not in its view.
 fn put_entity(
     view: &EntityView<'_>,
     entity: &Entity,
@@ -151,7 +151,7 @@ fn put_entity(
     out: &mut Vec<u8>,
 ) -> Result<(), NoMemory>
     requires kind { IsKind entity.now.kind }
-    requires moves { AreMoves view.now.moves.now }
+    requires frames { AreEncoded view.now.encoded.now }
     ensures sent { OnOk result (out.new.items ≡ out.old.items ++ play_bytes (rows_packets told.old
         (rows_in view.now.view (others view.now.me (entity.now ∷ []))))) }
     ensures told { OnOk result (told.new ≡ with_rows told.old
@@ -160,10 +160,11 @@ fn put_entity(
     if entity.eid == view.me {
         return Ok(());
     }
-    match row_in(&view.view, entity) {
-        Some(row) => put_row(view.moves, &row, told, out),
-        None => Ok(()),
+    if !is_in(&view.view, entity) {
+        return Ok(());
     }
+    put_row(view.encoded, &entity_row(entity), told, out)?;
+    Ok(())
 }
 
 /// Appends what a client is to be told of entities, and keeps that.
@@ -175,7 +176,7 @@ fn put_entities(
 ) -> Result<(), NoMemory>
     requires kinds { AreKinds entities.now }
     requires rise { Rises eid_of entities.now }
-    requires moves { AreMoves view.now.moves.now }
+    requires frames { AreEncoded view.now.encoded.now }
     ensures sent { OnOk result (out.new.items ≡ out.old.items ++ play_bytes (rows_packets told.old
         (rows_in view.now.view (others view.now.me entities.now)))) }
     ensures told { OnOk result (told.new ≡ with_rows told.old
@@ -196,7 +197,7 @@ fn shown_piece(
 ) -> Result<Bytes, NoMemory>
     requires kinds { AreKinds entities.now }
     requires rise { Rises eid_of entities.now }
-    requires moves { AreMoves view.now.moves.now }
+    requires frames { AreEncoded view.now.encoded.now }
     ensures sent { IfOk result (λ piece. piece ≡ play_bytes (rows_packets told.old
         (rows_in view.now.view (others view.now.me entities.now)))) }
     ensures told { OnOk result (told.new ≡ with_rows told.old
@@ -214,7 +215,7 @@ pub fn tell(
     view: &EntityView<'_>,
     told: &mut Tracker,
 ) -> Result<(Bytes, Bytes), NoMemory>
-    requires { AreMoves view.now.moves.now }
+    requires { AreEncoded view.now.encoded.now }
     ensures gone { IfOk result (λ pieces. pieces.0 ≡ play_bytes (destroying (gone_from told.old
         (others view.now.me view.now.folk.now.state.entities) view.now.view))) }
     ensures shown { IfOk result (λ pieces. pieces.1 ≡ play_bytes (entity_frames told.old

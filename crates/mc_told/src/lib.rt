@@ -6,7 +6,7 @@
 #![tactic(auto)]
 
 mod clock;
-mod encoded_moves;
+mod encoded_entities;
 mod entities;
 mod known;
 mod moved;
@@ -14,7 +14,9 @@ mod moves;
 mod packets;
 mod piles;
 mod row;
+mod spawned;
+mod spawns;
 
 pub use clock::Clock;
-pub use encoded_moves::EncodedMoves;
+pub use encoded_entities::EncodedEntities;
 pub use entities::{EntityView, tell};

@@ -3,10 +3,10 @@
 ghost use Rattle.std.specs.Prelude.{◌≡◌, ◌++◌, IfOk, OnOk};
 ghost use Rattle.mc_view.specs.Forms.{moves_of};
 ghost use Rattle.mc_model.specs.Delta.{head_packets, move_packets, moves_packets};
-ghost use Rattle.mc_told.specs.MoveFrames.{AreMoves, is_still, move_bytes};
+ghost use Rattle.mc_told.specs.EntityFrames.{AreEncoded, is_still, move_bytes};
 ghost use Rattle.mc_sending.specs.Sending.{play_bytes};
 
-use crate::EncodedMoves;
+use crate::EncodedEntities;
 use crate::packets::{head_look, jump, step, step_turn, turn};
 use bytes::Bytes;
 use mc_bytes::NoMemory;
@@ -71,13 +71,13 @@ pub fn moves_piece(alloc: Global, eid: i32, from: &Spot, to: &Spot) -> Result<By
 /// Appends the frames that tell a client that an entity moved from one spot to another: those that
 /// were encoded, where it is that move, by one copy.
 pub fn put_moves(
-    encoded: &EncodedMoves,
+    encoded: &EncodedEntities,
     eid: i32,
     from: &Spot,
     to: &Spot,
     out: &mut Vec<u8>,
 ) -> Result<(), NoMemory>
-    requires { AreMoves encoded.now }
+    requires { AreEncoded encoded.now }
     ensures { OnOk result (out.new.items
         ≡ out.old.items ++ play_bytes (moves_packets eid to.now (moves_of from.now to.now))) }
 {

@@ -11,6 +11,9 @@ use mc_packets::{Down, Metas};
 /// The kind of an object that is a dropped item.
 const ITEM_KIND: i8 = 2;
 
+/// The kind of a mob.
+const MOB_KIND: u8 = 90;
+
 /// An object that is a dropped item, and does not move.
 pub fn object(eid: i32, spot: &Spot) -> Down
     ensures value { result ≡ down.SpawnObject eid (pos 2) spot.now.x spot.now.y spot.now.z
@@ -48,6 +51,30 @@ pub fn player(eid: i32, uuid: u128, spot: &Spot, held: i16, metas: Metas) -> Dow
         yaw,
         pitch,
         item: held,
+        metas,
+    }
+}
+
+/// A mob, with its flags, whose head looks as it does, and which has no speed.
+pub fn mob(eid: i32, spot: &Spot, metas: Metas) -> Down
+    requires { metas ≡ no_flags }
+    ensures value { result ≡ down.SpawnMob eid 90 spot.now.x spot.now.y spot.now.z
+        spot.now.yaw spot.now.pitch spot.now.yaw (pos 0) (pos 0) (pos 0) no_flags }
+    ensures clear { IsClear result }
+{
+    let (yaw, pitch) = (spot.yaw, spot.pitch);
+    Down::SpawnMob {
+        eid,
+        kind: MOB_KIND,
+        x: spot.x,
+        y: spot.y,
+        z: spot.z,
+        yaw,
+        pitch,
+        head: yaw,
+        dx: 0,
+        dy: 0,
+        dz: 0,
         metas,
     }
 }

@@ -3,7 +3,7 @@
 ghost use Rattle.std.specs.Prelude.{◌≡◌, ◌++◌, ◌∷◌, [], ℕ, IfOk, OnOk};
 ghost use Rattle.mc_slots.specs.Pile.{IsPile, slot_of};
 ghost use Rattle.mc_model.specs.declared.seen.SeenKind.TheVariants as seen_kinds;
-ghost use Rattle.mc_model.specs.Delta.{no_flags, pile_packet};
+ghost use Rattle.mc_model.specs.Delta.{no_flags, pile_told};
 ghost use Rattle.mc_sending.specs.Sending.{play_bytes};
 
 use crate::row::Row;
@@ -32,7 +32,7 @@ fn metas_of(alloc: Global, index: u8, value: MetaValue) -> Result<Metas, NoMemor
     Ok(metas)
 }
 
-/// The metadata of a player: none of its flags is set.
+/// The metadata of a player and of a mob: none of its flags is set.
 pub fn no_flags(alloc: Global) -> Result<Metas, NoMemory>
     ensures { IfOk result (λ metas. metas ≡ no_flags) }
 {
@@ -43,7 +43,7 @@ pub fn no_flags(alloc: Global) -> Result<Metas, NoMemory>
 fn put_lying(eid: i32, pile: Pile, out: &mut Vec<u8>) -> Result<(), NoMemory>
     requires { IsPile pile }
     ensures { OnOk result (out.new.items ≡ out.old.items ++ play_bytes
-        (pile_packet eid seen_kinds.Dropped (slot_of pile) ∷ [])) }
+        (pile_told eid seen_kinds.Dropped (slot_of pile))) }
 {
     let value = MetaValue::Slot(pile.slot());
     let metas = metas_of(*out.allocator(), ITEM_INDEX, value)?;
@@ -54,19 +54,20 @@ fn put_lying(eid: i32, pile: Pile, out: &mut Vec<u8>) -> Result<(), NoMemory>
 fn put_held(eid: i32, pile: Pile, out: &mut Vec<u8>) -> Result<(), NoMemory>
     requires { IsPile pile }
     ensures { (uuid : ℕ) → OnOk result (out.new.items ≡ out.old.items ++ play_bytes
-        (pile_packet eid (seen_kinds.Player uuid) (slot_of pile) ∷ [])) }
+        (pile_told eid (seen_kinds.Player uuid) (slot_of pile))) }
 {
     put_made(Down::Equipment(eid, HELD, pile.slot()), out)
 }
 
-/// Appends the frame that says which pile an entity holds or is.
+/// Appends the frame that says which pile an entity holds or is; none of a mob, which has none.
 pub fn put_pile(row: &Row, out: &mut Vec<u8>) -> Result<(), NoMemory>
     requires { IsPile row.now.pile }
     ensures { OnOk result (out.new.items ≡ out.old.items ++ play_bytes
-        (pile_packet row.now.eid row.now.kind (slot_of row.now.pile) ∷ [])) }
+        (pile_told row.now.eid row.now.kind (slot_of row.now.pile))) }
 {
     match row.kind {
         SeenKind::Player(_) => put_held(row.eid, row.pile, out),
         SeenKind::Dropped => put_lying(row.eid, row.pile, out),
+        SeenKind::Mob => Ok(()),
     }
 }

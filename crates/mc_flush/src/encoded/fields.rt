@@ -6,14 +6,14 @@ use crate::encoded_lines::EncodedLines;
 use bytes::Bytes;
 use mc_loads::EncodedColumns;
 use mc_model::every_field;
-use mc_told::EncodedMoves;
+use mc_told::EncodedEntities;
 
 /// Names every field of what was encoded.
 fn name_fields(encoded: &Encoded) {
     every_field!(encoded: Encoded {
         players: Option<Bytes>,
         columns: EncodedColumns,
-        moves: EncodedMoves,
+        entities: EncodedEntities,
         lines: EncodedLines,
     });
 }

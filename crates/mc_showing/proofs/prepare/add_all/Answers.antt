@@ -13,5 +13,5 @@ pub returns : goal.returns
 returns c = λ land are.
     let P : ListValue → Type 0 = λ list. AreFrames land list c.args.encoded.now
     → AreFrames land list c.add_players.new.self in
-    c.add_moves.ensures.frames land c.args.roster.now
+    c.add_entities.ensures.frames land c.args.roster.now
     (subst P c.list.ensures.is (c.add_players.ensures.frames land) are)

@@ -1,4 +1,4 @@
-use Rattle.std.proofs.Common.{◌≡◌, false, ap, is_some, rules, sym, ◌∙◌}
+use Rattle.std.proofs.Common.{◌≡◌, false, ap, rules, sym, ◌∙◌}
 use Rattle.std.specs.Int.{w32}
 use Rattle.std.specs.Ordering.{int_eq}
 use Rattle.std.specs.FinMap.{contains_key}
@@ -30,7 +30,7 @@ returns-in-Some c =
     let state = v.folk.now.state in
     let apart : int_eq q v.me ≡ false = search rules in
     let same = to_z-of_z w32 q (search rules) in
-    c.is_some.ensures ∙ ap is_some c.row_in.ensures.row
+    c.is_in.ensures
     ∙ ap (shown_of v.view) c.in-Some.ensures.entity
     ∙ ap (λ (k : ℤ). shown_of v.view (numbered eid_of k state.entities)) same
     ∙ sym (shown_other v.view v.me q (pos state.given) state.entities c.requires apart)

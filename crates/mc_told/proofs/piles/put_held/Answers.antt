@@ -12,4 +12,4 @@ pub put_made-requires : goal.put_made-requires
 put_made-requires c =
     rw (to_z-of_z w32 c.args.eid c.ranges.eid)
     (subst (λ (pile : Slot). IsClear (Equipment c.args.eid (pos 0) pile)) (sym c.slot.ensures.slot)
-    (pile_clear c.args.eid (seen_kinds.Player 0) c.args.pile c.ranges.eid c.requires))
+    (pile_clear c.args.eid (seen_kinds.Player 0) c.args.pile c.ranges.eid c.requires).0)

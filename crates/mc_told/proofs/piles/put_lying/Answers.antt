@@ -17,4 +17,4 @@ put_made-requires c =
     (subst Clear (sym (c.in_ok-metas.ensures
     ∙ ap (λ (pile : Slot). record { index = 10; value = values.Slot pile } ∷ [])
     c.slot.ensures.slot))
-    (pile_clear c.args.eid seen_kinds.Dropped c.args.pile c.ranges.eid c.requires))
+    (pile_clear c.args.eid seen_kinds.Dropped c.args.pile c.ranges.eid c.requires).0)

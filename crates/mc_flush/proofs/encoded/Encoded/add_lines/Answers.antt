@@ -8,13 +8,13 @@ returns-clause-frames c = λ land list frames.
       players = c.self.inside.players;
       loads = c.self.inside.columns.loads;
       changes = c.self.inside.columns.changes;
-      moves = c.self.inside.moves;
+      entities = c.self.inside.entities;
       lines = c.self.inside.lines;
     }) = subst (AreFrames land list) (sym c.self.view_is) frames in
     record {
       players = all.players;
       loads = all.loads;
       changes = all.changes;
-      moves = all.moves;
+      entities = all.entities;
       lines = c.add_lines.ensures.frames all.lines;
     }

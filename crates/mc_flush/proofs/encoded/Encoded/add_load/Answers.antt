@@ -14,7 +14,7 @@ returns-clause-ok g c =
       players = inside.players;
       loads = v.loads;
       changes = v.changes;
-      moves = inside.moves;
+      entities = inside.entities;
       lines = inside.lines;
     }) c.in_ok-add_load.ensures.ok
     ∙ ap (λ (e : EncodedValue). with_columns e (columns.with_load (columns_in e) land place))
@@ -29,7 +29,7 @@ returns-clause-frames g c = λ list frames.
       players = inside.players;
       loads = inside.columns.loads;
       changes = inside.columns.changes;
-      moves = inside.moves;
+      entities = inside.entities;
       lines = inside.lines;
     }) c.add_load.new.self (subst (AreFrames land list) (sym c.self.view_is) frames)
     c.add_load.ensures.frames
@@ -42,7 +42,7 @@ returns-in_err-add_load-clause-frames g c = λ list frames.
       players = inside.players;
       loads = inside.columns.loads;
       changes = inside.columns.changes;
-      moves = inside.moves;
+      entities = inside.entities;
       lines = inside.lines;
     }) c.add_load.new.self (subst (AreFrames land list) (sym c.self.view_is) frames)
     c.add_load.ensures.frames

@@ -9,13 +9,13 @@ returns-clause-frames c = λ land frames.
     let inside = c.self.inside in
     let loads = inside.columns.loads in
     let changes = inside.columns.changes in
-    let moves = inside.moves in
+    let entities = inside.entities in
     let lines = inside.lines in
     let made : EncodedValue = record {
       players = Some c.in_ok-piece.piece;
       loads = loads;
       changes = changes;
-      moves = moves;
+      entities = entities;
       lines = lines;
     } in
     let is : made ≡ with_players c.args.self.now list =
@@ -23,7 +23,7 @@ returns-clause-frames c = λ land frames.
       players = Some bytes;
       loads = loads;
       changes = changes;
-      moves = moves;
+      entities = entities;
       lines = lines;
     })
     c.in_ok-piece.ensures

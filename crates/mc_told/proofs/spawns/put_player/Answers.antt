@@ -11,7 +11,7 @@ use Rattle.mc_model.specs.Packets.{frame_of, of_play}
 use Rattle.mc_model.specs.Delta.{hand_packets, id_in_hand, no_flags, spawn_as}
 use Rattle.mc_sending.specs.Sending.{play_bytes}
 use Rattle.mc_sending.proofs.Pieces.{two_put}
-use Rattle.mc_told.proofs.known.put_player.Goals as goal
+use Rattle.mc_told.proofs.spawns.put_player.Goals as goal
 
 pub returns : goal.returns
 returns c =

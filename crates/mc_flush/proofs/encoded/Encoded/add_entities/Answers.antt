@@ -1,6 +1,6 @@
 use Rattle.std.proofs.Common.{sym, subst}
 use Rattle.mc_flush.specs.Encoding.{AreFrames}
-use Rattle.mc_flush.proofs.encoded.Encoded.add_moves.Goals as goal
+use Rattle.mc_flush.proofs.encoded.Encoded.add_entities.Goals as goal
 
 pub returns-clause-frames : goal.returns-clause-frames
 returns-clause-frames c = λ land list frames.
@@ -8,13 +8,13 @@ returns-clause-frames c = λ land list frames.
       players = c.self.inside.players;
       loads = c.self.inside.columns.loads;
       changes = c.self.inside.columns.changes;
-      moves = c.self.inside.moves;
+      entities = c.self.inside.entities;
       lines = c.self.inside.lines;
     }) = subst (AreFrames land list) (sym c.self.view_is) frames in
     record {
       players = all.players;
       loads = all.loads;
       changes = all.changes;
-      moves = c.add_moves.ensures.frames all.moves;
+      entities = c.add_entities.ensures.frames all.entities;
       lines = all.lines;
     }

@@ -1,0 +1,76 @@
+-- Spots, kinds, piles and rows are equal where a comparison of their parts says so.
+use Rattle.std.proofs.Common.{◌≡◌, true, ◌&&◌, ap, refl}
+use Rattle.std.specs.Prelude.{nat_eq}
+use Rattle.std.specs.Ordering.{int_eq}
+use Rattle.std.specs.Cmp.{unsigned_Decides}
+use Rattle.std.proofs.lemmas.Bool.Decides.{Decides-int_eq}
+use Rattle.mc_fields.specs.declared.position.Spot.{Spot}
+use Rattle.mc_slots.specs.declared.pile.Item.{Item}
+use Rattle.mc_slots.specs.declared.pile.Pile.{Pile}
+use Rattle.mc_slots.specs.declared.pile.Pile.TheVariants as piles
+use Rattle.mc_model.specs.declared.seen.SeenKind.{SeenKind}
+use Rattle.mc_model.specs.declared.seen.SeenKind.TheVariants.{Player, Dropped, Mob}
+use Rattle.mc_model.proofs.FitsText.{both_true}
+use Rattle.mc_told.specs.declared.row.Row.{Row}
+use Rattle.mc_told.specs.EntityFrames.{is_same_kind, is_same_pile, is_same_row, is_same_spot}
+
+-- number by number
+pub same_spot : (a b : Spot) → is_same_spot a b ≡ true → a ≡ b
+same_spot a b e =
+    let x = both_true (int_eq a.x b.x) _ e in
+    let y = both_true (int_eq a.y b.y) _ x.1 in
+    let z = both_true (int_eq a.z b.z) _ y.1 in
+    let looks = both_true (nat_eq a.yaw b.yaw) (nat_eq a.pitch b.pitch) z.1 in
+    let same_x : a.x ≡ b.x = (Decides-int_eq a.x b.x).0 x.0 in
+    let same_y : a.y ≡ b.y = (Decides-int_eq a.y b.y).0 y.0 in
+    let same_z : a.z ≡ b.z = (Decides-int_eq a.z b.z).0 z.0 in
+    let same_yaw : a.yaw ≡ b.yaw = (unsigned_Decides a.yaw b.yaw).0 looks.0 in
+    let same_pitch : a.pitch ≡ b.pitch = (unsigned_Decides a.pitch b.pitch).0 looks.1 in
+    λ i. record {
+      x = same_x i;
+      y = same_y i;
+      z = same_z i;
+      yaw = same_yaw i;
+      pitch = same_pitch i;
+    }
+
+same_kind : (a b : SeenKind) → is_same_kind a b ≡ true → a ≡ b
+same_kind (Player a) (Player b) e = ap Player ((unsigned_Decides a b).0 e)
+same_kind (Player a) Dropped e = absurd cc
+same_kind (Player a) Mob e = absurd cc
+same_kind Dropped (Player b) e = absurd cc
+same_kind Dropped Dropped e = refl
+same_kind Dropped Mob e = absurd cc
+same_kind Mob (Player b) e = absurd cc
+same_kind Mob Dropped e = absurd cc
+same_kind Mob Mob e = refl
+
+same_item : (a b : Item) →
+    (int_eq a.id b.id && (int_eq a.damage b.damage && nat_eq a.count b.count)) ≡ true → a ≡ b
+same_item a b e =
+    let id = both_true (int_eq a.id b.id) _ e in
+    let rest = both_true (int_eq a.damage b.damage) (nat_eq a.count b.count) id.1 in
+    let same_id : a.id ≡ b.id = (Decides-int_eq a.id b.id).0 id.0 in
+    let same_damage : a.damage ≡ b.damage = (Decides-int_eq a.damage b.damage).0 rest.0 in
+    let same_count : a.count ≡ b.count = (unsigned_Decides a.count b.count).0 rest.1 in
+    λ i. record { id = same_id i; damage = same_damage i; count = same_count i }
+
+same_pile : (a b : Pile) → is_same_pile a b ≡ true → a ≡ b
+same_pile piles.Empty piles.Empty e = refl
+same_pile piles.Empty (piles.Full b) e = absurd cc
+same_pile (piles.Full a) piles.Empty e = absurd cc
+same_pile (piles.Full a) (piles.Full b) e = ap piles.Full (same_item a b e)
+
+-- part by part
+pub same_row : (a b : Row) → is_same_row a b ≡ true → a ≡ b
+same_row a b e =
+    let eid = both_true (int_eq a.eid b.eid) _ e in
+    let kind = both_true (is_same_kind a.kind b.kind) _ eid.1 in
+    let rest = both_true (is_same_spot a.spot b.spot) (is_same_pile a.pile b.pile) kind.1 in
+    let same_eid : a.eid ≡ b.eid = (Decides-int_eq a.eid b.eid).0 eid.0 in
+    λ i. record {
+      eid = same_eid i;
+      kind = same_kind a.kind b.kind kind.0 i;
+      spot = same_spot a.spot b.spot rest.0 i;
+      pile = same_pile a.pile b.pile rest.1 i;
+    }

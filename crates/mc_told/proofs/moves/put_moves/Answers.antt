@@ -1,0 +1,18 @@
+use Rattle.std.proofs.Common.{◌++◌, ◌∙◌, ℕ, List, ap}
+use Rattle.std.specs.Int.{w32}
+use Rattle.std.proofs.lemmas.Int.{to_z-of_z}
+use lib.IntN.{ℤ}
+use Rattle.mc_told.specs.EntityFrames.{found_move}
+use Rattle.mc_told.proofs.EntityFrames.{move_found}
+use Rattle.mc_told.proofs.moves.put_moves.Goals as goal
+
+pub returns-in_ok-extend_from_slice-in-Some : goal.returns-in_ok-extend_from_slice-in-Some
+returns-in_ok-extend_from_slice-in-Some c =
+    let encoded = c.args.encoded.now in
+    let from = c.args.from.now in
+    let to = c.args.to.now in
+    let is = move_found encoded c.args.eid from to c.in-Some.frames.now c.requires
+    (c.in-Some.ensures
+    ∙ ap (λ (k : ℤ). found_move encoded k from to) (to_z-of_z w32 c.args.eid c.ranges.eid)) in
+    c.in_ok-extend_from_slice-in-Some.ensures.items
+    ∙ ap (λ (bytes : List ℕ). c.args.out.now.items ++ bytes) (c.deref.ensures ∙ is)
