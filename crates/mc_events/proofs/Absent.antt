@@ -124,7 +124,7 @@ run_absent w (e ∷ events) good a = run_absent (step w e).world events (step_go
 -- so it is of a world that some events lead to
 pub reached_absent : (w : World) → IsReached w → Absent w
 reached_absent w reached = subst Absent (sym reached.is)
-    (run_absent (new_world w.game.settings) reached.events (new_good w.game.settings) (record {
+    (run_absent (new_world reached.start) reached.events (new_good reached.start) (record {
       unread = λ k none. get-empty nat_cmp k;
       shown = λ k none. get-empty nat_cmp k;
     }))

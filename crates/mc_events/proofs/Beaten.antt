@@ -15,11 +15,13 @@ use Rattle.mc_model.specs.Game.{Game}
 use Rattle.mc_model.specs.Good.{Good, GoodWorld, in_play}
 use Rattle.mc_model.specs.Leaving.{leave_all}
 use Rattle.mc_model.specs.Link.{Handing, Link}
+use Rattle.mc_model.specs.Minds.{Plans, mobs_moved, plans_left}
 use Rattle.mc_model.specs.Showing.{last_shown}
 use Rattle.mc_model.specs.Pickups.{pickups}
-use Rattle.mc_model.specs.Tick.{aged, at_tick, beat, beat_of, grown}
+use Rattle.mc_model.specs.Tick.{aged, at_tick, beat, beat_of, beats, grown}
 use Rattle.mc_model.specs.World.{Unread, World, each, is_closing, unread_of}
 use Rattle.mc_laws.proofs.Deeds.Leaving.{leave_all_stays}
+use Rattle.mc_laws.proofs.Minds.Moving.{mobs_leave}
 use Rattle.mc_laws.proofs.Pickups.Picking.{pickups_leave}
 use Rattle.mc_laws.proofs.Runs.Worlds.{at_tick_world}
 use Rattle.mc_laws.proofs.Walk.Each.{beat_stage, each_links}
@@ -178,93 +180,103 @@ bare_at_tick w bare k l there waits open_ =
             let at : y.stage ≡ l.stage = sym stage ∙ ap (λ (z : Link). z.stage) same in
             bare k y is (ap is_play at ∙ waits) (ap is_closed at ∙ open_)
 
--- those that pick up are listed as they were
-pairs_kept : (g : Game) → pairs_of (pickups g) ≡ pairs_of g
-pairs_kept g = ap (λ (players : FinMap nat_cmp Player).
+-- once mobs moved and players picked up what they can, these are listed as they were
+pairs_kept : (plans : Plans) (g : Game) → pairs_of (pickups (mobs_moved plans g)) ≡ pairs_of g
+pairs_kept plans g = ap (λ (players : FinMap nat_cmp Player).
     from_entries {R = nat_cmp} (map (λ (p : Player). (p.uuid, p.name)) (values players)))
-    (pickups_leave g).players
+    ((pickups_leave (mobs_moved plans g)).players ∙ (mobs_leave plans g).players)
 
--- The beat came to each connection, then those leave that are closed, and all others pick up what
--- they can.
-module _ (old new : ServerValue) (left_ : Game) (w : World) (s : StandsAmid old w) (ids : List ℕ)
-    (are : ids ≡ keys new.connections)
-    (beaten : Each (λ (k : ℕ). IsBeaten (grown old.game.game)) old.connections new.connections)
-    (leaves : left_ ≡ leave_all (filter (is_shut_in new.connections) ids) (grown old.game.game))
-    (game : new.game.game ≡ pickups left_)
-    (settled : new.game.settled ≡ old.game.settled)
-    (listed : Good (grown old.game.game) → old.list.present ≡ pairs_of (grown old.game.game) →
-    new.list.present ≡ pairs_of left_)
-    (before : new.list.last ≡ old.list.last) (last : new.last ≡ old.last)
-    (failed : new.failed ≡ old.failed) where
+-- The beat came to each connection, then those leave that are closed.
+module _ (old : ServerValue) (cs : FinMap nat_cmp ConnectionValue) (left_ : Game) (w : World)
+    (s : StandsAmid old w) (ids : List ℕ) (are : ids ≡ keys cs)
+    (beaten : Each (λ (k : ℕ). IsBeaten (grown old.game.game)) old.connections cs)
+    (leaves : left_ ≡ leave_all (filter (is_shut_in cs) ids) (grown old.game.game)) where
   abbrev f : ℕ → Link → Handing
   f k l = beat (grown w.game) (get w.shown k) k l
 
-  parts_same : shown_parts old ≡ shown_parts new
-  parts_same =
-      let stays = leave_all_stays (filter (is_shut_in new.connections) ids) (grown old.game.game) in
-      let settings = ap (λ (g : Game). g.settings) game ∙ (pickups_leave left_).settings
-      ∙ ap (λ (g : Game). g.settings) leaves ∙ stays.settings in
-      sym (λ i. record {
-        players = before i;
-        terrain = (settings i).terrain;
-        edits = settled i;
-      })
-
-  at : (k : ℕ) → Pair (shown_parts old) k (unread_of k w) (get w.shown k)
-      (get new.connections k) (option_map (λ (l : Link). (f k l).link) (get w.links k))
+  at : (k : ℕ) → Pair (shown_parts old) k (unread_of k w) (get w.shown k) (get cs k)
+      (option_map (λ (l : Link). (f k l).link) (get w.links k))
   at k = beaten_pair (grown w.game) (shown_parts old) k (unread_of k w) (get w.shown k)
-      (get old.connections k) (get new.connections k) (get w.links k)
-      (subst (λ (g : Game). Both (IsBeaten (grown g)) (get old.connections k)
-      (get new.connections k)) s.game (beaten k)) (s.each k)
-      (λ l there closed. closed_alone k w l s.good there closed)
+      (get old.connections k) (get cs k) (get w.links k)
+      (subst (λ (g : Game). Both (IsBeaten (grown g)) (get old.connections k) (get cs k)) s.game
+      (beaten k)) (s.each k) (λ l there closed. closed_alone k w l s.good there closed)
 
-  there : (k : ℕ) → is_some (get new.connections k) ≡ is_some (get w.links k)
-  there k = there_alike (shown_parts old) k (unread_of k w) (get w.shown k)
-      (get new.connections k) (option_map (λ (l : Link). (f k l).link) (get w.links k)) (at k)
-      ∙ mapped (get w.links k)
+  there : (k : ℕ) → is_some (get cs k) ≡ is_some (get w.links k)
+  there k = there_alike (shown_parts old) k (unread_of k w) (get w.shown k) (get cs k)
+      (option_map (λ (l : Link). (f k l).link) (get w.links k)) (at k) ∙ mapped (get w.links k)
     where
       mapped : (m : Option Link) → is_some (option_map (λ (l : Link). (f k l).link) m) ≡ is_some m
       mapped None = refl
       mapped (Some l) = refl
 
-  game_is : new.game.game ≡ (at_tick w).game
-  game_is = game ∙ ap pickups (leaves
-      ∙ ap (λ (g : Game). leave_all (filter (is_shut_in new.connections) ids) (grown g)) s.game
-      ∙ dismissed_each f (aged w) new.connections ids are
-      (λ k. shut_alike (shown_parts old) k (unread_of k w) (get w.shown k) f
-      (get new.connections k) (get w.links k) (at k)) there s.good.plays)
+  left_is : left_ ≡ (beats (aged w)).game
+  left_is = leaves
+      ∙ ap (λ (g : Game). leave_all (filter (is_shut_in cs) ids) (grown g)) s.game
+      ∙ dismissed_each f (aged w) cs ids are
+      (λ k. shut_alike (shown_parts old) k (unread_of k w) (get w.shown k) f (get cs k)
+      (get w.links k) (at k)) there s.good.plays
 
-  pub beaten_stands : StandsAmid new (at_tick w)
+  -- each plan loses the move that its mob made
+  pub beaten_plans : (plans : Plans) → w.plans ≡ plans →
+      (at_tick w).plans ≡ plans_left left_ plans
   unfolding each
-  beaten_stands = record {
-    works = failed ∙ s.works;
-    game = game_is;
-    last = last ∙ s.last ∙ sym (at_tick_last w);
-    listed = listed (subst (λ (g : Game). Good (grown g)) (sym s.game) s.good.game)
-        (s.listed ∙ ap pairs_of (sym s.game)) ∙ sym (pairs_kept left_)
-        ∙ ap pairs_of (sym game ∙ game_is);
-    each = λ k.
-        let P : Option Sight → Option Link → Type 0 = λ o m.
-        Pair (shown_parts new) k (unread_of k (at_tick w)) o (get new.connections k) m in
-        subst (λ (o : Option Sight). P o (get (at_tick w).links k))
-        (ap (λ m. get m k) (sym (at_tick_shown w)))
-        (subst (P (get w.shown k)) (sym (each_links f (aged w) k))
-        (moved k));
-    good = at_tick_world w s.good;
-    bare = bare_at_tick w s.bare;
-  }
-    where
-      moved : (k : ℕ) → Pair (shown_parts new) k (unread_of k (at_tick w)) (get w.shown k)
-          (get new.connections k) (option_map (λ (l : Link). (f k l).link) (get w.links k))
-      moved k = subst (λ (parts : Parts). Pair parts k (unread_of k w) (get w.shown k)
-          (get new.connections k) (option_map (λ (l : Link). (f k l).link) (get w.links k)))
-          parts_same (at k)
+  beaten_plans plans same = λ i. plans_left (sym left_is i) (same i)
 
--- neither those that leave nor those that pick up change the age
-pub grown_age : (cs : FinMap nat_cmp ConnectionValue) (ids : List ℕ) (g h left_ : Game) →
+  -- Then mobs move, and players pick up what they can.
+  module _ (new : ServerValue) (plans : Plans) (same : w.plans ≡ plans)
+      (game : new.game.game ≡ pickups (mobs_moved plans left_))
+      (settled : new.game.settled ≡ old.game.settled) (connections : new.connections ≡ cs)
+      (listed : Good (grown old.game.game) → old.list.present ≡ pairs_of (grown old.game.game) →
+      new.list.present ≡ pairs_of left_)
+      (before : new.list.last ≡ old.list.last) (last : new.last ≡ old.last)
+      (failed : new.failed ≡ old.failed) where
+    parts_same : shown_parts old ≡ shown_parts new
+    parts_same =
+        let stays = leave_all_stays (filter (is_shut_in cs) ids) (grown old.game.game) in
+        let settings = ap (λ (g : Game). g.settings) game
+        ∙ (pickups_leave (mobs_moved plans left_)).settings ∙ (mobs_leave plans left_).settings
+        ∙ ap (λ (g : Game). g.settings) leaves ∙ stays.settings in
+        sym (λ i. record {
+          players = before i;
+          terrain = (settings i).terrain;
+          edits = settled i;
+        })
+
+    game_is : new.game.game ≡ (at_tick w).game
+    unfolding each
+    game_is = game ∙ (λ i. pickups (mobs_moved (sym same i) (left_is i)))
+
+    pub beaten_stands : StandsAmid new (at_tick w)
+    unfolding each
+    beaten_stands = record {
+      works = failed ∙ s.works;
+      game = game_is;
+      last = last ∙ s.last ∙ sym (at_tick_last w);
+      listed = listed (subst (λ (g : Game). Good (grown g)) (sym s.game) s.good.game)
+          (s.listed ∙ ap pairs_of (sym s.game)) ∙ sym (pairs_kept plans left_)
+          ∙ ap pairs_of (sym game ∙ game_is);
+      each = λ k.
+          let P : Parts → Option Sight → FinMap nat_cmp ConnectionValue → Option Link → Type 0 =
+          λ parts o m l. Pair parts k (unread_of k (at_tick w)) o (get m k) l in
+          subst (λ (parts : Parts). P parts (get (at_tick w).shown k) new.connections
+          (get (at_tick w).links k)) parts_same
+          (subst (λ m. P (shown_parts old) (get (at_tick w).shown k) m (get (at_tick w).links k))
+          (sym connections)
+          (subst (λ (o : Option Sight). P (shown_parts old) o cs (get (at_tick w).links k))
+          (ap (λ m. get m k) (sym (at_tick_shown w)))
+          (subst (P (shown_parts old) (get w.shown k) cs) (sym (each_links f (aged w) k))
+          (at k))));
+      good = at_tick_world w s.good;
+      bare = bare_at_tick w s.bare;
+    }
+
+-- none that leaves, moves or picks up changes the age
+pub grown_age : (cs : FinMap nat_cmp ConnectionValue) (ids : List ℕ) (plans : Plans)
+    (g h left_ : Game) →
     h ≡ grown g → left_ ≡ dismissed cs ids h → g.age < 1000000000 →
-    (pickups left_).age ≡ g.age + 1
-grown_age cs ids g h left_ is leaves young = (pickups_leave left_).age
+    (pickups (mobs_moved plans left_)).age ≡ g.age + 1
+grown_age cs ids plans g h left_ is leaves young =
+    (pickups_leave (mobs_moved plans left_)).age ∙ (mobs_leave plans left_).age
     ∙ ap (λ (x : Game). x.age) leaves ∙ (leave_all_stays (filter (is_shut_in cs) ids) h).age
     ∙ ap (λ (x : Game). x.age) is ∙ within g.age young
   where

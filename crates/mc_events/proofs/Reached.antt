@@ -2,24 +2,25 @@
 -- it is good and sound.
 use Rattle.std.proofs.Common.{◌≡◌, ◌≢◌, ℕ, ◌≤◌, List, [], ◌∷◌, ◌++◌, Some, sym, subst, ap, ◌∙◌}
 use Rattle.std.proofs.Common.{arith}
+use Rattle.std.specs.Prelude.{Result, Ok, Err, OnOk}
 use Rattle.std.proofs.lemmas.List.Sums.{fold-append}
 use Rattle.std.specs.FinMap.{get, len}
-use Rattle.mc_model.specs.Run.{AreBytes, history}
+use Rattle.mc_model.specs.Run.{AreBytes}
 use Rattle.mc_model.specs.declared.stage.Stage.TheVariants as stages
 use Rattle.mc_model.specs.Step.{Event, came, ticked, step}
-use Rattle.mc_model.specs.Game.{AreSettings}
 use Rattle.mc_model.specs.declared.player.Player.{Player}
-use Rattle.mc_model.specs.declared.settings.Settings.{Settings}
 use Rattle.mc_model.specs.Apart.{IsOf, OnlySender}
 use Rattle.mc_model.specs.Good.{GoodWorld}
 use Rattle.mc_model.specs.Headline.{Between}
 use Rattle.mc_model.specs.Link.{Link}
-use Rattle.mc_model.specs.Tick.{aged, at_tick, beat, beats, flush, grown, shown_all}
+use Rattle.mc_model.specs.Minds.{Plans}
+use Rattle.mc_model.specs.Tick.{aged, at_tick, beat, beats, flush, grown, moving, shown_all}
 use Rattle.mc_model.specs.World.{Outcome, World, new_world, seat_of}
 use Rattle.mc_laws.proofs.Apart.Senders.{only_sender}
 use Rattle.mc_laws.proofs.Decoding.Worlds.{IsEvent, SoundWorld, new_world_sound, run_sound}
 use Rattle.mc_laws.proofs.Headline.Between.{between}
 use Rattle.mc_laws.proofs.Headline.Promise.{closing_of}
+use Rattle.mc_laws.proofs.Minds.Moving.{mobs_leave}
 use Rattle.mc_laws.proofs.Pickups.Picking.{pickups_leave}
 use Rattle.mc_laws.proofs.Runs.Seats.{departed_seat}
 use Rattle.mc_laws.proofs.Runs.Worlds.{always_good, first_seat, walked_seat}
@@ -41,17 +42,18 @@ more_bytes (other ∷ events) e are is = more_bytes events e are is
 
 pub reached_good : (w : World) → IsReached w → GoodWorld w
 reached_good w reached = subst GoodWorld (sym reached.is)
-    (always_good w.game.settings reached.events)
+    (always_good reached.start reached.events)
 
 pub reached_sound : (w : World) → IsReached w → SoundWorld w
 reached_sound w reached = subst SoundWorld (sym reached.is)
-    (run_sound reached.events (new_world w.game.settings) reached.bytes
-    (new_world_sound w.game.settings reached.settings))
+    (run_sound reached.events (new_world reached.start) reached.bytes
+    (new_world_sound reached.start reached.settings))
 
 pub reached_few : (w : World) → IsReached w → len w.game.players ≤ 50
 reached_few w reached =
-    let few = (reached_sound w reached).game.few in
-    let fifty = reached.settings.few in
+    let sound = (reached_sound w reached).game in
+    let few = sound.few in
+    let fifty = sound.settings.few in
     omega (arith, few, fifty)
 
 pub reached_only : (w : World) (e : Event) (k : ℕ) → IsOf k e → IsReached w →
@@ -71,7 +73,7 @@ reached_shut w e k l m reached =
     subst (λ (v : World). get v.links k ≡ Some l → l.stage ≡ stages.Closed →
     get (step v e).world.links k ≡ Some m → m.stage ≡ stages.Closed) (sym reached.is)
     (λ there shut later.
-    (((closing_of w.game.settings reached.events e).for_good k l there shut).1 m later).0)
+    (((closing_of reached.start reached.events e).for_good k l there shut).1 m later).0)
 
 -- ---- the world behind it
 
@@ -92,7 +94,8 @@ moves_settings w o (forgets k l there done is) a =
 moves_settings w o (passes is) a = ap (λ (x : Outcome). x.world.game.settings) is
     ∙ (each_stays (λ (k : ℕ) (l : Link). flush (at_tick w).game (get (at_tick w).shown k) k l)
     (shown_all (at_tick w))).settings
-    ∙ (pickups_leave (beats (aged w)).game).settings
+    ∙ (pickups_leave (moving (beats (aged w))).game).settings
+    ∙ (mobs_leave (beats (aged w)).plans (beats (aged w)).game).settings
     ∙ (each_stays (λ (k : ℕ) (l : Link). beat (grown w.game) (get w.shown k) k l)
     (aged w)).settings
 
@@ -102,15 +105,19 @@ reached_settings w e reached =
     moves_settings w (step w e) (step_moves w e) (reached_good w reached)
 
 pub reached_next : (w : World) (e : Event) → IsEvent e → IsReached w → IsReached (step w e).world
-reached_next w e are reached =
-    let same = reached_settings w e reached in
-    record {
-      settings = subst (λ (s : Settings). AreSettings s.players s.cap) (sym same)
-          reached.settings;
-      events = reached.events ++ e ∷ [];
-      bytes = more_bytes reached.events e reached.bytes are;
-      is = ap (λ (v : World). (step v e).world) reached.is
-          ∙ sym (fold-append (λ (v : World) (x : Event). (step v x).world)
-          (new_world w.game.settings) reached.events (e ∷ []))
-          ∙ ap (λ (s : Settings). history (new_world s) (reached.events ++ e ∷ [])) (sym same);
-    }
+reached_next w e are reached = record {
+  start = reached.start;
+  settings = reached.settings;
+  events = reached.events ++ e ∷ [];
+  bytes = more_bytes reached.events e reached.bytes are;
+  is = ap (λ (v : World). (step v e).world) reached.is
+      ∙ sym (fold-append (λ (v : World) (x : Event). (step v x).world)
+      (new_world reached.start) reached.events (e ∷ []));
+}
+
+-- what a connection does changes nothing of what mobs are still to do
+pub plans_stay : {T E : Type 0} (r : Result T E) (w : World) (e : Event) (k : ℕ)
+    (plans : Plans) → IsOf k e → IsReached w → w.plans ≡ plans →
+    OnOk r ((step w e).world.plans ≡ plans)
+plans_stay (Ok x) w e k plans is reached same = (reached_only w e k is reached).plans ∙ same
+plans_stay (Err x) w e k plans is reached same = tt

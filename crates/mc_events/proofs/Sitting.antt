@@ -24,7 +24,6 @@ use Rattle.mc_model.proofs.Maps.Options.{not_both}
 use Rattle.mc_laws.proofs.Walk.Handings.{gone_closed}
 use Rattle.mc_links.specs.Kept.{ConnectionValue}
 use Rattle.mc_links.specs.Seats.{Becomes, seat_with}
-use Rattle.mc_links.specs.Sitting.{Sits}
 use Rattle.mc_play.specs.Kept.{GameValue}
 use Rattle.mc_events.specs.Inputs.{IsLeaving}
 use Rattle.mc_events.specs.Listing.{Follows}

@@ -1,6 +1,6 @@
 -- What a server that stands for a world has, and what joining and being forgotten make of both.
 use Rattle.std.proofs.Common.{◌≡◌, ℕ, ◌+◌, Bool, true, false, List, [], ◌∷◌, map, length, refl, sym}
-use Rattle.std.proofs.Common.{subst, ap, ◌∙◌, inl, inr, arith}
+use Rattle.std.proofs.Common.{subst, ap, ◌∙◌, inl, inr, arith, ◌≤◌}
 use Rattle.std.proofs.lemmas.Bool.{cases_eq}
 use Rattle.std.proofs.lemmas.Bool.Decides.{nat_tests}
 use Rattle.std.specs.Prelude.{Option, Some, None, is_some, option_map, nat_le, if◌then◌else◌}
@@ -8,13 +8,15 @@ use Rattle.std.specs.List.{filter}
 use Rattle.std.specs.Ordering.{nat_cmp}
 use Rattle.std.specs.FinMap.{empty, entries, from_entries, get, get-empty, insert, keys, remove}
 use Rattle.std.specs.FinMap.{values, len-empty, len-entries}
-use Rattle.std.proofs.lemmas.List.{nil_from_length}
+use Rattle.std.proofs.lemmas.List.{length-take, nil_from_length}
 use Rattle.mc_frame.proofs.Stops.{nothing_part}
 use Rattle.mc_frame.specs.Held.{nothing_held}
 use Rattle.mc_model.specs.Sight.{Sight}
 use Rattle.mc_model.specs.Step.{forgot, is_new, joined, forget, is_crowded, joining, step}
 use Rattle.mc_model.specs.Game.{AreSettings, Game, new_game}
+use Rattle.mc_model.specs.Minds.{Plans, Start, plans_of}
 use Rattle.mc_flush.specs.Seeing.{Parts}
+use Rattle.mc_model.specs.declared.mobs.TheConstants.{MOBS_MAX}
 use Rattle.mc_model.specs.declared.player.Player.{Player}
 use Rattle.mc_model.specs.declared.settings.Settings.{Settings}
 use Rattle.mc_model.specs.Link.{Link, is_done, is_kept}
@@ -22,7 +24,7 @@ use Rattle.mc_model.specs.World.{Unread, World, new_world, nothing_unread, unrea
 use Rattle.mc_model.proofs.Maps.Lookups.{gone_other, gone_same, put_other, put_same}
 use Rattle.mc_links.specs.Kept.{ConnectionValue, is_ours, is_pending, new_connection}
 use Rattle.mc_links.specs.Sitting.{Holds}
-use Rattle.mc_play.specs.Kept.{new_value}
+use Rattle.mc_play.specs.Kept.{GameValue, IsNew}
 use Rattle.mc_showing.proofs.Mapped.{entries_mapped, keyed, values_mapped}
 use Rattle.mc_showing.specs.Shown.{pairs_of}
 use Rattle.mc_events.specs.Asking.{ours_there, pending_in, pending_of}
@@ -114,30 +116,36 @@ module _ {v : ServerValue} {w : World} (st : Stands v w) where
 
 -- ---- a new server
 
-nobody_listed : (settings : Settings) → pairs_of (new_game settings) ≡ empty
-nobody_listed settings =
+nobody_listed : (settings : Settings) (mobs : ℕ) → pairs_of (new_game settings mobs) ≡ empty
+nobody_listed settings mobs =
     let none : entries (empty {X = Player} {R = nat_cmp}) ≡ [] =
     nil_from_length _ (sym (len-entries (empty {X = Player} {R = nat_cmp}))
     ∙ len-empty nat_cmp Player) in
     ap (λ (es : List (ℕ × Player)). from_entries {R = nat_cmp} (map (λ (p : Player).
     (p.uuid, p.name)) (map (λ (e : ℕ × Player). e.1) es))) none
 
-pub new_stands : (settings : Settings) → AreSettings settings.players settings.cap →
-    Stands (record {
-      game = new_value settings;
+pub new_stands : (settings : Settings) (mobs : ℕ) (game : GameValue) (plans : Plans) →
+    AreSettings settings.players settings.cap → mobs ≤ MOBS_MAX → IsNew settings mobs game →
+    length plans ≡ mobs → Stands (record {
+      game = game;
       connections = empty;
       last = None;
       list = record { present = empty; last = empty };
       failed = false;
-    }) (new_world settings)
-new_stands settings are = record {
-  works = refl;
-  game = refl;
-  last = refl;
-  listed = sym (nobody_listed settings);
-  each = λ k. rw (get-empty {X = ConnectionValue} nat_cmp k, get-empty {X = Link} nat_cmp k) tt;
-  reached = record { settings = are; events = []; bytes = tt; is = refl };
-}
+    }) (new_world (record { settings = settings; plans = plans }))
+new_stands settings mobs game plans are few new count =
+    let start : Start = record { settings = settings; plans = plans } in
+    let taken = length-take MOBS_MAX plans in
+    let all : length (plans_of start) ≡ mobs = omega (arith, taken, few, count) in
+    record {
+      works = refl;
+      game = new.game ∙ ap (new_game settings) (sym all);
+      last = refl;
+      listed = sym (nobody_listed settings (length (plans_of start)));
+      each = λ k.
+          rw (get-empty {X = ConnectionValue} nat_cmp k, get-empty {X = Link} nat_cmp k) tt;
+      reached = record { start = start; settings = are; events = []; bytes = tt; is = refl };
+    }
 
 -- ---- events
 

@@ -1,10 +1,10 @@
 -- A tick from a world that some events lead to: what is needed of that world, and that the world
 -- after it is one of that kind.
-use Rattle.std.proofs.Common.{◌≡◌, sym, ap, ◌∙◌}
+use Rattle.std.proofs.Common.{◌≡◌, refl, sym, ap, ◌∙◌}
 use Rattle.std.specs.FinMap.{get}
 use Rattle.mc_model.specs.Step.{ticked, step}
 use Rattle.mc_model.specs.Tick.{at_tick, flushed}
-use Rattle.mc_model.specs.World.{World}
+use Rattle.mc_model.specs.World.{World, each}
 use Rattle.mc_laws.proofs.Shown.Showing.{shown_world}
 use Rattle.mc_events.specs.Served.{ServerValue}
 use Rattle.mc_events.specs.Stands.{IsReached, Stands}
@@ -16,7 +16,7 @@ use Rattle.mc_events.proofs.Reached.{reached_good, reached_next}
 reached_bare : (w : World) → IsReached w → IsBare w
 reached_bare w r k l there waits open_ =
     ap (λ (v : World). get v.shown k) r.is
-    ∙ (((shown_world w.game.settings r.events k).shown l
+    ∙ (((shown_world r.start r.events k).shown l
     (ap (λ (v : World). get v.links k) (sym r.is) ∙ there)).waiting waits open_).1
 
 pub stands_amid : (server : ServerValue) (w : World) → Stands server w → StandsAmid server w
@@ -31,6 +31,11 @@ stands_amid server w s = record {
 }
 
 -- ---- behind it
+
+-- what mobs are still to do is as it was when they had moved
+pub plans_after : (w : World) → (step w ticked).world.plans ≡ (at_tick w).plans
+unfolding step each
+plans_after w = refl
 
 pub stands_after : (old new : ServerValue) (w : World) → Stands old w →
     StandsAmid new (flushed (at_tick w)) → Stands new (step w ticked).world

@@ -5,6 +5,7 @@ use Rattle.mc_model.specs.Run.{AreBytes, history}
 use Rattle.mc_model.specs.Sight.{Sight}
 use Rattle.mc_model.specs.Step.{Event}
 use Rattle.mc_model.specs.Game.{AreSettings}
+use Rattle.mc_model.specs.Minds.{Start}
 use Rattle.mc_model.specs.Stages.{is_closed}
 use Rattle.mc_flush.specs.Seeing.{Parts}
 use Rattle.mc_model.specs.Link.{Link}
@@ -16,10 +17,12 @@ use Rattle.mc_events.specs.Served.{ServerValue, shown_parts}
 
 -- some events lead to the world
 pub record IsReached (w : World) : Type 0 where
-  pub settings : AreSettings w.game.settings.players w.game.settings.cap
+  -- what it began with
+  pub start : Start
+  pub settings : AreSettings start.settings.players start.settings.cap
   pub events : List Event
   pub bytes : AreBytes events
-  pub is : w ≡ history (new_world w.game.settings) events
+  pub is : w ≡ history (new_world start) events
 
 -- what the splitter and the mark of a connection keep, as long as it is open
 pub record Remembers (parts : Parts) (unread : Unread) (shown : Option Sight)

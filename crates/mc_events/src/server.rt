@@ -1,7 +1,10 @@
-ghost use Rattle.std.specs.Prelude.{◌≡◌, ◌↔◌, ◌<◌, ◌≤◌, [], Err, IfOk, OnErr, OnOk, length, take};
+ghost use Rattle.std.specs.Prelude.{◌≡◌, ◌↔◌, ◌<◌, ◌≤◌, [], Err, IfOk, OnErr, OnOk, length, map};
+ghost use Rattle.std.specs.Prelude.{take};
 ghost use Rattle.std.specs.FinMap.{keys};
 ghost use Rattle.std.specs.Option.{option_copied};
 ghost use Rattle.mc_model.specs.Game.{AreSettings};
+ghost use Rattle.mc_model.specs.declared.mobs.TheConstants.{MOBS_MAX};
+ghost use Rattle.mc_model.specs.Minds.{Plans};
 ghost use Rattle.mc_model.specs.World.{World, new_world};
 ghost use Rattle.mc_model.specs.Run.{cause_in, owed_in};
 ghost use Rattle.mc_model.specs.Step.{step};
@@ -20,6 +23,7 @@ mod ticking;
 use crate::Input;
 use crate::connections::Connections;
 use mc_bytes::NoMemory;
+use mc_entities::Mind;
 use mc_model::{Cause, Settings};
 use mc_play::Game;
 use mc_showing::Roster;
@@ -72,27 +76,35 @@ impl Model for Server {
 }
 
 impl Server {
-    /// A server where nobody came yet.
-    pub fn new(alloc: Global, settings: Settings) -> Server
-        requires { AreSettings settings.players settings.cap }
-        ensures { Stands result (new_world settings) }
+    /// A server where nobody came yet, with so many mobs.
+    pub fn new(alloc: Global, settings: Settings, mobs: u32) -> Result<Server, NoMemory>
+        requires settings { AreSettings settings.players settings.cap }
+        requires mobs { mobs ≤ MOBS_MAX }
+        ensures { (plans : Plans) → length plans ≡ mobs → IfOk result (λ server.
+            Stands server (new_world (record { settings = settings; plans = plans }))) }
     {
-        Server {
+        let game = Game::new(alloc, settings, mobs)?;
+        Ok(Server {
             alloc,
-            game: Game::new(alloc, settings),
+            game,
             last: None,
             ids: Vec::new(alloc),
             connections: Connections::new(alloc),
             list: Roster::new(alloc),
             failed: false,
-        }
+        })
     }
 
-    /// Something happens. After an error each later call answers with it.
-    pub fn event(&mut self, input: Input<'_>) -> Result<(), NoMemory>
+    /// Something happens. At a tick mind i moves the i-th mob; nothing else asks a mind. After an
+    /// error each later call answers with it.
+    pub fn event<M: Mind>(&mut self, input: Input<'_>, minds: &mut [M]) -> Result<(), NoMemory>
         requires young { input ≡ Input.Tick → age_of self.old < 1000000000 }
         ensures follows { (w : World) → Stands self.old w →
+            (input.entry ≡ Input.Tick → w.plans ≡ map (λ mind. M.plan mind) minds.old) →
             OnOk result (Stands self.new (step w (event_of input.entry)).world) }
+        ensures plans { (w : World) → Stands self.old w →
+            w.plans ≡ map (λ mind. M.plan mind) minds.old → OnOk result
+            ((step w (event_of input.entry)).world.plans ≡ map (λ mind. M.plan mind) minds.new) }
         ensures age { OnOk result (age_of self.new ≡ age_after input.entry (age_of self.old)) }
         ensures sheds { OnOk result (ShedsAt input.entry self.old self.new) }
         ensures fails { OnErr result (HasFailed self.new) }
@@ -101,7 +113,7 @@ impl Server {
         if self.failed {
             return Err(NoMemory);
         }
-        let done = self.perform(input);
+        let done = self.perform(input, minds);
         if done.is_err() {
             self.failed = true;
         }
@@ -109,10 +121,14 @@ impl Server {
     }
 
     /// Does what an event comes to.
-    fn perform(&mut self, input: Input<'_>) -> Result<(), NoMemory>
+    fn perform<M: Mind>(&mut self, input: Input<'_>, minds: &mut [M]) -> Result<(), NoMemory>
         requires young { input ≡ Input.Tick → age_of self.old < 1000000000 }
         ensures follows { (w : World) → Stands self.old w →
+            (input.entry ≡ Input.Tick → w.plans ≡ map (λ mind. M.plan mind) minds.old) →
             OnOk result (Stands self.new (step w (event_of input.entry)).world) }
+        ensures plans { (w : World) → Stands self.old w →
+            w.plans ≡ map (λ mind. M.plan mind) minds.old → OnOk result
+            ((step w (event_of input.entry)).world.plans ≡ map (λ mind. M.plan mind) minds.new) }
         ensures age { OnOk result (age_of self.new ≡ age_after input.entry (age_of self.old)) }
         ensures sheds { OnOk result (ShedsAt input.entry self.old self.new) }
     {
@@ -121,7 +137,7 @@ impl Server {
             Input::Bytes(k, bytes) => self.bytes(k, bytes),
             Input::Gone(k) => self.leave(k, Cause::Gone),
             Input::Broke(k) => self.leave(k, Cause::Broke),
-            Input::Tick => self.tick(),
+            Input::Tick => self.tick(minds),
         }
     }
 

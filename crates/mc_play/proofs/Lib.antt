@@ -2,6 +2,7 @@ pub mod Changing
 pub mod Clicking
 pub mod Dropping
 pub mod Falling
+pub mod Mobs
 pub mod NamedPacks
 pub mod Names
 pub mod Near

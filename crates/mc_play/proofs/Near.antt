@@ -1,13 +1,19 @@
 -- Each entity stands where a column can be shown: whatever becomes of the entities keeps that.
-use Rattle.std.proofs.Common.{◌≡◌, true, List, [], ◌∷◌, ℤ, arith, false}
-use Rattle.std.specs.Prelude.{Some, if◌then◌else◌}
+use Rattle.std.proofs.Common.{◌≡◌, true, List, [], ◌∷◌, ℤ, arith, false, refl}
+use Rattle.std.specs.Prelude.{Bool, Some, if◌then◌else◌}
 use Rattle.std.proofs.lemmas.Bool.Decides.{nat_tests}
+use Rattle.std.proofs.lemmas.Int.{ints}
 use Rattle.std.specs.Ordering.{int_eq}
 use Rattle.mc_fields.specs.declared.position.Spot.{Spot}
 use Rattle.mc_entities.specs.declared.entity.Entity.{Entity}
 use Rattle.mc_entities.specs.declared.entity.EntityKind.{EntityKind}
+use Rattle.mc_entities.specs.declared.mind.Move.{Move}
+use Rattle.mc_entities.specs.Kinds.{is_mob}
 use Rattle.mc_entities.specs.Numbers.{numbered}
-use Rattle.mc_entities.specs.Folk.{FolkState, eid_of, placed, removed, with_kind}
+use Rattle.mc_entities.specs.Folk.{FolkState, after_tick, eid_of, placed, rank, removed}
+use Rattle.mc_entities.specs.Folk.{stepped, ticked, with_kind}
+use Rattle.mc_entities.specs.Plans.{move_at}
+use Rattle.mc_entities.specs.Shift.{added, is_inside, shifted_spot}
 use Rattle.mc_model.proofs.AllFacts.{all_filtered, all_mapped}
 use Rattle.mc_play.specs.Kept.{AreNear, IsNear}
 
@@ -42,3 +48,26 @@ pub numbered_near : (eid : ℤ) (entities : List Entity) (e : Entity) → AreNea
 numbered_near eid [] e all is = absurd cc
 numbered_near eid (x ∷ entities) e all is =
     grind (arith, nat_tests, numbered_near eid entities e all.1)
+
+-- ---- mobs that move
+
+-- what lies in the range is near
+inside_near : (spot : Spot) → is_inside spot ≡ true → IsNear spot
+inside_near spot is = grind (arith, nat_tests, ints)
+
+-- a move leaves a spot near
+shifted_near : (by : Move) (spot : Spot) → IsNear spot → IsNear (shifted_spot by spot)
+shifted_near by spot near = step (is_inside (added by spot)) refl
+  where
+    step : (b : Bool) → is_inside (added by spot) ≡ b → IsNear (if b then added by spot else spot)
+    step true is = inside_near (added by spot) is
+    step false is = near
+
+pub ticked_near : (plans : List (List Move)) (state : FolkState) → AreNear state.entities →
+    AreNear (ticked plans state).entities
+ticked_near plans state =
+    all_mapped (λ (e : Entity). IsNear e.spot) (λ (e : Entity). IsNear e.spot)
+    (after_tick plans state.entities) (λ e is.
+    let i = rank state.entities e.eid in
+    elim (is_mob e.kind) as (λ b. IsNear (if b then stepped (move_at plans i) e else e).spot)
+    [ true ↦ shifted_near (move_at plans i) e.spot is | false ↦ is ]) state.entities

@@ -10,10 +10,12 @@ use Rattle.mc_fields.specs.declared.position.Spot.{Spot}
 use Rattle.mc_land.specs.Places.{Key, key_cmp, place_cmp}
 use Rattle.mc_land.specs.Land.{LandValue}
 use Rattle.mc_entities.specs.declared.entity.Entity.{Entity}
-use Rattle.mc_entities.specs.Folk.{FolkValue}
+use Rattle.mc_entities.specs.Folk.{FolkState, FolkValue}
+use Rattle.mc_land.specs.declared.terrain.Terrain.{Terrain}
 use Rattle.mc_model.specs.declared.player.Player.{Player}
 use Rattle.mc_model.specs.declared.settings.Settings.{Settings}
 use Rattle.mc_model.specs.Game.{Game, new_game, of_player}
+use Rattle.mc_model.specs.Mobs.{mobs_at}
 
 -- ---- parts
 
@@ -36,6 +38,10 @@ pub record IsNear (spot : Spot) : Type 0 where
 abbrev pub AreNear : List Entity → Type 0
 AreNear entities = AllByRecursion (λ (e : Entity). IsNear e.spot) entities
 
+-- so many mobs stand where they begin, and nobody was told of them
+abbrev pub mobs_begun : Terrain → ℕ → FolkState
+mobs_begun terrain n = record { entities = mobs_at terrain n; told = []; given = n }
+
 -- each edit is air, or the state of a block with an id
 abbrev pub AreStates : FinMap key_cmp ℕ → Type 0
 AreStates edits = (key : Key) (state : ℕ) → get edits key ≡ Some state →
@@ -56,12 +62,13 @@ pub record GameValue : Type 0 where
   pub settled : FinMap key_cmp ℕ
   pub aside : Aside
 
-abbrev pub new_value : Settings → GameValue
-new_value settings = record {
-  game = new_game settings;
-  settled = empty;
-  aside = record { ready = set.empty; told = []; reserve = 0 };
-}
+-- a game begins with so many mobs: no cell is settled, no column is ready, and nobody was told of
+-- an entity
+pub record IsNew (settings : Settings) (mobs : ℕ) (v : GameValue) : Type 0 where
+  pub game : v.game ≡ new_game settings mobs
+  pub settled : v.settled ≡ empty
+  pub ready : v.aside.ready ≡ set.empty
+  pub told : v.aside.told ≡ []
 
 -- another game, of which nothing is settled yet
 abbrev pub played : GameValue → Game → Aside → GameValue

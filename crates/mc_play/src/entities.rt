@@ -1,5 +1,5 @@
 ghost use Rattle.std.specs.Prelude.{◌≡◌, ◌≤◌, ◌<◌, ◌+◌, ℕ, suc, None, IfOk, IfSome, OnErr, OnOk};
-ghost use Rattle.std.specs.Prelude.{nat_lt, true};
+ghost use Rattle.std.specs.Prelude.{map, nat_lt, true};
 ghost use lib.IntN.{pos};
 ghost use Rattle.mc_slots.specs.Pile.{IsItem, IsPile};
 ghost use Rattle.mc_slots.specs.declared.pile.Item as items;
@@ -8,25 +8,28 @@ ghost use Rattle.mc_entities.specs.declared.entity.Entity as entities;
 ghost use Rattle.mc_entities.specs.declared.entity.EntityKind as kinds;
 ghost use Rattle.mc_entities.specs.declared.entity.EntityKind.TheVariants as variants;
 ghost use Rattle.mc_entities.specs.declared.entity.TheConstants.{EID_MAX};
-ghost use Rattle.mc_entities.specs.Folk.{HasRoom, entity_of, new_state, placed, removed, room_of};
-ghost use Rattle.mc_entities.specs.Folk.{settled, spawned, with_entity, with_kind};
+ghost use Rattle.mc_entities.specs.Folk.{HasRoom, entity_of, mobs_in, new_state, placed, removed};
+ghost use Rattle.mc_entities.specs.Folk.{room_of, settled, spawned, ticked, with_entity, with_kind};
 ghost use Rattle.mc_entities.specs.Kinds.{IsKind, are_alike};
+ghost use Rattle.mc_entities.specs.Plans.{asked};
+ghost use Rattle.mc_model.specs.declared.mobs.TheConstants.{MOBS_MAX};
+ghost use Rattle.mc_model.specs.Mobs.{mob_spot};
 ghost use Rattle.mc_model.specs.Things.{hand_of, holding, kind_of_item, lying_as};
 ghost use Rattle.mc_model.specs.Spots.{spot_in};
-ghost use Rattle.mc_play.specs.Kept.{AreNear, IsNear};
+ghost use Rattle.mc_play.specs.Kept.{AreNear, IsNear, mobs_begun};
 
 mod fields;
 
 use mc_bytes::NoMemory;
-use mc_entities::{EntityKind, Folk};
+use mc_entities::{EntityKind, Folk, Mind};
 use mc_fields::Spot;
 use mc_land::Terrain;
-use mc_model::{Eid, spawn_spot};
+use mc_model::{Eid, mob_spot, spawn_spot};
 use mc_slots::{Item, Pile};
 use std::alloc::Global;
 use std::marker::Model;
 
-/// The players in play and the dropped items, each where its column can be shown.
+/// The mobs, the players in play and the dropped items, each where its column can be shown.
 #[derive(Drop)]
 pub struct Entities {
     folk: Folk,
@@ -50,6 +53,31 @@ impl Entities {
     {
         Entities {
             folk: Folk::new(alloc),
+        }
+    }
+
+    /// So many mobs, each where it begins.
+    #[tactic(auto, using(crate::proofs::Mobs::mobs_next))]
+    pub fn with_mobs(alloc: Global, terrain: &Terrain, mobs: u32) -> Result<Entities, NoMemory>
+        requires { mobs ≤ MOBS_MAX }
+        ensures { IfOk result (λ entities. entities.state ≡ mobs_begun terrain.now mobs) }
+    {
+        let mut entities = Entities::new(alloc);
+        for i in 0..mobs {
+            entities.add_mob(terrain, i)?;
+        }
+        Ok(entities)
+    }
+
+    /// Adds a mob where the one begins before which so many others are.
+    fn add_mob(&mut self, terrain: &Terrain, i: u32) -> Result<(), NoMemory>
+        requires { i < MOBS_MAX }
+        ensures { OnOk result (self.new.state
+            ≡ spawned variants.Mob (mob_spot terrain.now i) self.old.state) }
+    {
+        match self.folk.spawn(EntityKind::Mob, mob_spot(terrain, i)) {
+            Ok(_) => Ok(()),
+            Err(_) => Err(NoMemory),
         }
     }
 
@@ -168,6 +196,17 @@ impl Entities {
         if let Some(kind) = kind_of(&self.folk, eid) {
             self.folk.set_kind(eid, kind_of_item(item, kind));
         }
+    }
+
+    /// Lets mind i move the i-th mob by rising number, but where it would leave the range.
+    pub fn move_mobs<M: Mind>(&mut self, minds: &mut [M])
+        ensures state { self.new.state
+            ≡ ticked (map (λ mind. M.plan mind) minds.old) self.old.state }
+        ensures plans { map (λ mind. M.plan mind) minds.new
+            ≡ asked (mobs_in self.old.state.entities) (map (λ mind. M.plan mind) minds.old) }
+        ensures reserve { self.new.reserve ≡ self.old.reserve }
+    {
+        self.folk.tick(minds);
     }
 
     /// Keeps where each is, as what everyone who knows it was told of it. It takes no memory.

@@ -1,7 +1,8 @@
 ghost use Rattle.std.specs.Prelude.{◌≡◌, ◌≤◌, IfOk};
 ghost use Rattle.std.specs.FinMap.{len};
 ghost use Rattle.mc_model.specs.Game.{AreSettings, pack_named, pack_of, spot_of};
-ghost use Rattle.mc_play.specs.Kept.{AreNear, IsNear, land_of, new_value};
+ghost use Rattle.mc_model.specs.declared.mobs.TheConstants.{MOBS_MAX};
+ghost use Rattle.mc_play.specs.Kept.{AreNear, IsNear, IsNew, land_of};
 
 mod acts;
 mod chat;
@@ -41,7 +42,7 @@ pub struct Game {
     /// The ticks that came.
     age: u64,
     ground: Ground,
-    /// The players in play and the dropped items.
+    /// The mobs, the players in play and the dropped items.
     entities: Entities,
     /// What each name carries that was ever in play.
     packs: Packs,
@@ -98,21 +99,23 @@ impl Model for Game {
 }
 
 impl Game {
-    /// A game that nobody came to yet.
-    pub fn new(alloc: Global, settings: Settings) -> Game
-        requires { AreSettings settings.players settings.cap }
-        ensures { result ≡ new_value settings }
+    /// A game that nobody came to yet, with so many mobs.
+    pub fn new(alloc: Global, settings: Settings, mobs: u32) -> Result<Game, NoMemory>
+        requires settings { AreSettings settings.players settings.cap }
+        requires mobs { mobs ≤ MOBS_MAX }
+        ensures { IfOk result (λ game. IsNew settings mobs game) }
     {
-        Game {
+        let entities = Entities::with_mobs(alloc, &settings.terrain, mobs)?;
+        Ok(Game {
             alloc,
             limits: Limits::new(settings.players, settings.cap),
             age: 0,
             ground: Ground::new(alloc, settings.terrain),
-            entities: Entities::new(alloc),
+            entities,
             packs: Packs::new(alloc),
             lines: Vec::new(alloc),
             players: Players::new(alloc),
-        }
+        })
     }
 
     // ---- what is asked of a game
@@ -154,7 +157,7 @@ impl Game {
         self.ground.land()
     }
 
-    /// The players in play and the dropped items.
+    /// The mobs, the players in play and the dropped items.
     pub fn folk(&self) -> &Folk
         ensures entities { result.now.state.entities ≡ self.now.game.entities }
         ensures given { result.now.state.given ≡ self.now.game.eids }

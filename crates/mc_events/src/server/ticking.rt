@@ -1,7 +1,7 @@
-//! A tick: the beat comes to all connections, players pick up what lies near them, and then each
-//! client in play is shown the game.
+//! A tick: the beat comes to all connections, mobs move, players pick up what lies near them, and
+//! then each client in play is shown the game.
 
-ghost use Rattle.std.specs.Prelude.{◌≡◌, ◌+◌, ◌<◌, ◌≤◌, ◌∷◌, [], ℕ, OnOk};
+ghost use Rattle.std.specs.Prelude.{◌≡◌, ◌+◌, ◌<◌, ◌≤◌, ◌∷◌, [], ℕ, OnOk, map};
 ghost use Rattle.std.specs.FinMap.{keys};
 ghost use Rattle.mc_flush.specs.Encoding.{AreFrames};
 ghost use Rattle.mc_flush.specs.Lists.{ListValue};
@@ -21,6 +21,7 @@ ghost use Rattle.mc_events.specs.Ticking.{dismissed};
 use crate::connections::Connections;
 use crate::server::Server;
 use mc_bytes::NoMemory;
+use mc_entities::Mind;
 use mc_flush::Encoded;
 use mc_links::beat;
 use mc_play::Game;
@@ -135,25 +136,33 @@ fn show_all(
 }
 
 impl Server {
-    /// Lets a tick come: the game is a tick older, those that were silent for too long leave, all
-    /// others pick up what they can, and each client in play is shown the game.
-    pub(super) fn tick(&mut self) -> Result<(), NoMemory>
+    /// Lets a tick come: the game is a tick older, those that were silent for too long leave, mobs
+    /// move, players pick up what they can, and each client in play is shown the game.
+    pub(super) fn tick<M: Mind>(&mut self, minds: &mut [M]) -> Result<(), NoMemory>
         requires young { age_of self.old < 1000000000 }
         ensures follows { (w : World) → Stands self.old w →
+            w.plans ≡ map (λ mind. M.plan mind) minds.old →
             OnOk result (Stands self.new (step w ticked).world) }
+        ensures plans { (w : World) → Stands self.old w →
+            w.plans ≡ map (λ mind. M.plan mind) minds.old → OnOk result
+            ((step w ticked).world.plans ≡ map (λ mind. M.plan mind) minds.new) }
         ensures age { OnOk result (age_of self.new ≡ age_of self.old + 1) }
         ensures sheds { OnOk result (Sheds self.old.game self.new.game) }
     {
-        self.beat()?;
+        self.beat(minds)?;
         self.show()
     }
 
-    /// Makes the game a tick older, with its beat: those that were silent for too long leave, and
-    /// all others pick up what they can.
-    fn beat(&mut self) -> Result<(), NoMemory>
+    /// Makes the game a tick older, with its beat: those that were silent for too long leave, mobs
+    /// move, and players pick up what they can.
+    fn beat<M: Mind>(&mut self, minds: &mut [M]) -> Result<(), NoMemory>
         requires young { age_of self.old < 1000000000 }
         ensures follows { (w : World) → StandsAmid self.old w →
+            w.plans ≡ map (λ mind. M.plan mind) minds.old →
             OnOk result (StandsAmid self.new (at_tick w)) }
+        ensures plans { (w : World) → StandsAmid self.old w →
+            w.plans ≡ map (λ mind. M.plan mind) minds.old →
+            OnOk result ((at_tick w).plans ≡ map (λ mind. M.plan mind) minds.new) }
         ensures age { OnOk result (age_of self.new ≡ age_of self.old + 1) }
         ensures ready { OnOk result
             (self.new.game.aside.ready ≡ self.old.game.aside.ready) }
@@ -166,6 +175,7 @@ impl Server {
             &mut self.list,
             &mut self.game,
         )?;
+        self.game.move_mobs(minds);
         self.game.pick_up_all()
     }
 

@@ -1,14 +1,16 @@
 //! A game's own part of a tick.
 
-ghost use Rattle.std.specs.Prelude.{◌≡◌, ◌<◌, OnErr, OnOk};
+ghost use Rattle.std.specs.Prelude.{◌≡◌, ◌<◌, OnErr, OnOk, map};
 ghost use Rattle.mc_land.specs.Land.{with_ready};
 ghost use Rattle.mc_land.specs.Places.{IsPlace};
 ghost use Rattle.mc_land.specs.Shed.{IsSettled, shed_land};
+ghost use Rattle.mc_model.specs.Minds.{mobs_moved, plans_left};
 ghost use Rattle.mc_model.specs.Tick.{grown, told};
 ghost use Rattle.mc_play.specs.Kept.{land_of, played};
 
 use crate::game::Game;
 use mc_bytes::NoMemory;
+use mc_entities::Mind;
 
 impl Game {
     /// Makes it a tick older.
@@ -17,6 +19,18 @@ impl Game {
         ensures { self.new ≡ played self.old (grown self.old.game) self.old.aside }
     {
         self.age += 1;
+    }
+
+    /// Lets mind i move the i-th mob by rising number, but where it would leave the range. Minds
+    /// beyond the mobs are not asked, and mobs without a mind stay.
+    #[tactic(auto, unfolding(mc_model::specs::Minds::mobs_moved))]
+    pub fn move_mobs<M: Mind>(&mut self, minds: &mut [M])
+        ensures game { self.new ≡ played self.old
+            (mobs_moved (map (λ mind. M.plan mind) minds.old) self.old.game) self.old.aside }
+        ensures plans { map (λ mind. M.plan mind) minds.new
+            ≡ plans_left self.old.game (map (λ mind. M.plan mind) minds.old) }
+    {
+        self.entities.move_mobs(minds);
     }
 
     /// Makes a column ready to be looked at. Without memory all is as before.

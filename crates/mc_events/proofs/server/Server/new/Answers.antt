@@ -15,5 +15,6 @@ invariant_of-result c = subst (λ (ids : List ℕ). AreNumbers ids c.new-3.resul
     numbers_none)
 
 pub returns : goal.returns
-returns c = rw (c.new.ensures, c.new-3.ensures, c.new-4.ensures)
-    (new_stands c.args.settings c.requires)
+returns c = λ plans count. rw (c.new-3.ensures, c.new-4.ensures)
+    (new_stands c.args.settings c.args.mobs c.in_ok-game.game plans c.requires.settings
+    c.requires.mobs c.in_ok-game.ensures count)
