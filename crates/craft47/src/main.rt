@@ -1,14 +1,18 @@
 //! The program: it collects its arguments, takes sockets, standard input and standard output as
-//! devices, and ends with the status that `mc_top` answers. It stands on `mc_top`, on the traits of
-//! `mc_wire` and on the devices of `mc_devices`.
+//! devices, and ends with the status that `mc_top` answers. Two minds move its mobs. It stands on
+//! `mc_top`, on the traits of `mc_wire` and `mc_entities` and on the devices of `mc_devices`.
 //!
-//! Its one contract is that of `program`, which is the whole program over any three devices.
+//! Its one contract is that of `program`, which is the whole program over any three devices. What
+//! the mobs do is a list of moves (`specs/Pacing.antt`).
 #![tactic(auto)]
 
+mod pacer;
 mod program;
 
 use mc_devices::{ReaderSource, SocketLobby, WriterSink};
-use program::program;
+use mc_entities::Mind;
+use pacer::Pacer;
+use program::{NO_MEMORY, program};
 use std::process::ExitCode;
 use std::rt::Env;
 use std::{env, io};
@@ -24,9 +28,29 @@ fn arguments<R: Env + AllocGlobal>(rt: &R) -> io::Result<Vec<String>> {
 }
 
 fn main(rt: HostRuntime) -> ExitCode {
+    let mut minds: Vec<Box<dyn Mind>> = Vec::new(rt.alloc());
+    let Ok(first) = Box::new(rt.alloc(), Pacer::new()) else {
+        return ExitCode::from(NO_MEMORY);
+    };
+    let Ok(()) = minds.push(first) else {
+        return ExitCode::from(NO_MEMORY);
+    };
+    let Ok(second) = Box::new(rt.alloc(), Pacer::new()) else {
+        return ExitCode::from(NO_MEMORY);
+    };
+    let Ok(()) = minds.push(second) else {
+        return ExitCode::from(NO_MEMORY);
+    };
     let arguments = arguments(&rt);
     let mut lobby = SocketLobby::new(&rt);
     let mut input = ReaderSource::new(rt.reader());
     let mut output = WriterSink::new(io::writer(&rt));
-    ExitCode::from(program(rt.alloc(), arguments, &mut lobby, &mut input, &mut output))
+    ExitCode::from(program(
+        rt.alloc(),
+        arguments,
+        &mut lobby,
+        &mut input,
+        &mut output,
+        minds,
+    ))
 }

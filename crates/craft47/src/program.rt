@@ -1,26 +1,31 @@
-ghost use Rattle.std.specs.Prelude.{◌≡◌, ◌↔◌, IfOk, IfSome, IsErr};
+ghost use Rattle.std.specs.Prelude.{◌≡◌, ◌↔◌, IfOk, IfSome, IsErr, map};
 ghost use Rattle.mc_words.specs.Arguments.{bytes_of, command_of};
 ghost use Rattle.mc_words.specs.Devices.{devices, WroteLast};
 ghost use Rattle.mc_words.specs.Ended.{usage_line};
 ghost use Rattle.mc_top.specs.Promises.{IsStatus, KeepsPromise, NamesNone};
+ghost use Rattle.craft47.specs.Pacing.{pacing};
 
+use mc_entities::Mind;
 use mc_top::run;
 use mc_wire::{Lobby, Sink, Source};
 use std::alloc::Global;
 use std::io;
 
-/// The status where there is no memory for the arguments.
-const NO_ARGUMENTS: u8 = 1;
+/// The status where there is no memory for what the program begins with.
+pub const NO_MEMORY: u8 = 1;
 
 /// Runs the program over its devices, and answers its exit status: that of the command that the
-/// arguments name, or the status 1 with nothing done where there was no memory for them.
-pub fn program<L: Lobby, I: Source, O: Sink>(
+/// arguments name, or the status 1 with nothing done where there was no memory for them. Two minds
+/// that go to and fro move its mobs, as many as the arguments say.
+pub fn program<L: Lobby, I: Source, O: Sink, M: Mind>(
     alloc: Global,
     arguments: io::Result<Vec<String>>,
     lobby: &mut L,
     input: &mut I,
     out: &mut O,
+    minds: Vec<M>,
 ) -> u8
+    requires pacing { map (λ mind. M.plan mind) minds.items ≡ pacing }
     ensures statuses { IsStatus result }
     ensures no_arguments { IsErr arguments → (result ≡ 1) × (lobby.new ≡ lobby.old)
         × (input.new ≡ input.old) × (out.new ≡ out.old) }
@@ -34,14 +39,14 @@ pub fn program<L: Lobby, I: Source, O: Sink>(
     // The others: the command that the arguments name ended with this status, and what it promises
     // of that holds.
     ensures promise { IfOk arguments (λ list. IfSome (command_of (bytes_of list.items)) (λ command.
-        KeepsPromise command result
+        KeepsPromise pacing command result
         (devices (L.told lobby.old) (L.counts lobby.old) (I.left input.old) (I.faults input.old)
         (O.held out.old) (O.faults out.old))
         (devices (L.told lobby.new) (L.counts lobby.new) (I.left input.new) (I.faults input.new)
         (O.held out.new) (O.faults out.new)))) }
 {
     match arguments {
-        Ok(arguments) => run(alloc, arguments.as_slice(), lobby, input, out),
-        Err(_) => NO_ARGUMENTS,
+        Ok(arguments) => run(alloc, arguments.as_slice(), lobby, input, out, minds),
+        Err(_) => NO_MEMORY,
     }
 }

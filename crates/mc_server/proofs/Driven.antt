@@ -15,7 +15,7 @@ use Rattle.mc_model.specs.Log.{events_in, log_of, logged}
 use Rattle.mc_model.specs.Link.{Link}
 use Rattle.mc_model.specs.World.{World}
 use Rattle.mc_model.specs.Turns.{AreTurns}
-use Rattle.mc_laws.proofs.Serving.Logs.{events_more}
+use Rattle.mc_laws.proofs.Serving.Logs.{events_more, logged_more}
 use Rattle.mc_laws.proofs.Serving.Turns.{turns_right}
 use Rattle.mc_events.specs.Asking.{ours_there}
 use Rattle.mc_events.specs.Served.{ServerValue, age_of}
@@ -26,6 +26,7 @@ use Rattle.mc_server.specs.declared.service.Ended.{Ended}
 use Rattle.mc_server.specs.declared.service.Ended.TheVariants as ends
 use Rattle.mc_server.specs.declared.service.DriveFault.{DriveFault}
 use Rattle.mc_server.specs.declared.service.DriveFault.TheVariants.{Listen, Next, Events, NoMemory}
+use Rattle.mc_server.specs.Minded.{ServedValue, StandsFor}
 use Rattle.mc_server.specs.Drives.{Drove, Ends, IsTally, IsWithin, is_join, is_tick, one_if}
 use Rattle.mc_server.specs.Drives.{done_log, joins_in, ours_in, ticks_in}
 use Rattle.mc_server.specs.TurnParts.{Adds, HasTurned}
@@ -33,20 +34,26 @@ use Rattle.mc_server.proofs.Few.{few_log, one_at_most, ours_few}
 use Rattle.mc_server.proofs.LogFacts.{adds_more, log_of_more, ours_append, ticks_more, turns_more}
 
 -- so many turns were done, and so many joined, and went as closed by the server itself
-pub record IsDriving (old new : Option LobbyTold) (w : World) (server : ServerValue)
+pub record IsDriving (old new : Option LobbyTold) (w : World) (served : ServedValue)
     (events joins closed : ℕ) : Type 0 where
   pub turns : List (List LogEntry)
-  pub adds : Adds old new w server (log_of turns)
+  pub adds : Adds old new w served.server (log_of turns)
+  pub plans : (logged w (log_of turns)).plans ≡ served.plans
   pub are_turns : AreTurns w turns
   pub all : length turns ≡ events
-  pub ticks : ticks_in turns ≡ age_of server
+  pub ticks : ticks_in turns ≡ age_of served.server
   pub joins_are : joins ≡ joins_in turns
   pub closed_are : closed ≡ ours_in w (log_of turns)
   pub few : joins ≤ events
 
-pub driving_start : (old : Option LobbyTold) (w : World) (server : ServerValue) →
-    Stands server w → age_of server ≡ 0 → IsDriving old old w server 0 0 0
-driving_start old w server stands young = grind (arith, nat_tests, Logs-refl)
+pub driving_stands : {old new : Option LobbyTold} {w : World} {served : ServedValue}
+    {events joins closed : ℕ} (d : IsDriving old new w served events joins closed) →
+    StandsFor served (logged w (log_of d.turns))
+driving_stands d = record { stands = d.adds.stands; plans = d.plans }
+
+pub driving_start : (old : Option LobbyTold) (w : World) (served : ServedValue) →
+    StandsFor served w → age_of served.server ≡ 0 → IsDriving old old w served 0 0 0
+driving_start old w served stands young = grind (arith, nat_tests, Logs-refl)
 
 -- no more went and are there than joined
 went_few : (w : World) (turns : List (List LogEntry)) → AreTurns w turns → w.links ≡ empty →
@@ -61,7 +68,7 @@ pub small_sum : (a b most : ℕ) → a + b ≤ most → most < 2 ^ 64 → min (a
 small_sum a b most few less = omega (arith, few, less)
 
 -- the turn that is done next
-module _ (old mid next new : Option LobbyTold) (w : World) (before after : ServerValue)
+module _ (old mid next new : Option LobbyTold) (w : World) (before after : ServedValue)
     (events joins closed count : ℕ) (entry : LogEntry)
     (d : IsDriving old mid w before events joins closed) (told : Logs mid next (entry ∷ []))
     (t : HasTurned entry next new (logged w (log_of d.turns)) after count) where
@@ -99,16 +106,17 @@ module _ (old mid next new : Option LobbyTold) (w : World) (before after : Serve
       omega (arith, few, sum, joined, less, one)
 
   abbrev pub driving_next : (joined went : ℕ) →
-      age_of after ≡ age_of before + one_if (is_tick entry) →
+      age_of after.server ≡ age_of before.server + one_if (is_tick entry) →
       joined ≡ joins + one_if (is_join entry) → went ≡ min (closed + count) (2 ^ 64 - 1) →
       events + 1 < 2 ^ 64 → w.links ≡ empty → IsDriving old new w after (events + 1) joined went
   driving_next joined went ages joins_is went_is less none = record {
     turns = d.turns ++ (entry ∷ t.rest) ∷ [];
-    adds = rw log_now (adds_more old mid new w before after (log_of d.turns) (entry ∷ t.rest)
-        d.adds (record {
+    adds = rw log_now (adds_more old mid new w before.server after.server (log_of d.turns)
+        (entry ∷ t.rest) d.adds (record {
           told = Logs-trans mid next new (entry ∷ []) t.rest told t.told;
-          stands = t.stands;
+          stands = t.stands.stands;
         }));
+    plans = rw (log_now, logged_more w (log_of d.turns) (entry ∷ t.rest)) t.stands.plans;
     are_turns = are_now;
     all = all_now;
     ticks = (let sum = ticks_more d.turns (entry ∷ t.rest) is_tick in let first = d.ticks in
@@ -131,10 +139,10 @@ pub told_same : (old new : Option LobbyTold) (x y : LogEntry) → x ≡ y → Lo
 told_same old new x y same told = rw (← same) told
 
 -- what was counted is the tally
-module _ (old new : Option LobbyTold) (w : World) (server : ServerValue) (events joins closed : ℕ)
-    (d : IsDriving old new w server events joins closed) (t : Tally) where
+module _ (old new : Option LobbyTold) (w : World) (served : ServedValue) (events joins closed : ℕ)
+    (d : IsDriving old new w served events joins closed) (t : Tally) where
   pub tally_is : t.joins ≡ joins →
-      ((v : World) → Stands server v → closed + ours_there v < 2 ^ 64 →
+      ((v : World) → Stands served.server v → closed + ours_there v < 2 ^ 64 →
       t.closed ≡ closed + ours_there v) → events < 2 ^ 64 → w.links ≡ empty →
       IsTally w d.turns t
   tally_is joined counted less none =
@@ -147,13 +155,13 @@ module _ (old new : Option LobbyTold) (w : World) (server : ServerValue) (events
       let sum = counted v d.adds.stands (omega (arith, there, few, went, joins_are, most, less)) in
       record { joins = joined ∙ d.joins_are; closed = omega (arith, sum, went) }
 
-module _ (budget : Budget) (old new : Option LobbyTold) (w : World) (server : ServerValue)
-    (events joins closed : ℕ) (d : IsDriving old new w server events joins closed) where
+module _ (budget : Budget) (old new : Option LobbyTold) (w : World) (served : ServedValue)
+    (events joins closed : ℕ) (d : IsDriving old new w served events joins closed) where
   -- behind the turns these entries were added
   drove_so : (after : Option LobbyTold) (last : List LogEntry)
-      (result : Result Ended DriveFault) → Adds old after w server (log_of d.turns ++ last) →
+      (result : Result Ended DriveFault) → Adds old after w served.server (log_of d.turns ++ last) →
       Ends budget w d.turns last result →
-      Drove (λ (told : LobbyTold). told) budget old after w server result
+      Drove (λ (told : LobbyTold). told) budget old after w served.server result
   drove_so after last result adds ends = record {
     turns = d.turns;
     last = last;
@@ -165,18 +173,19 @@ module _ (budget : Budget) (old new : Option LobbyTold) (w : World) (server : Se
   }
 
   -- nothing was
-  adds_all : Adds old new w server (log_of d.turns ++ [])
+  adds_all : Adds old new w served.server (log_of d.turns ++ [])
   adds_all = rw append-nil d.adds
 
-  still_within : age_of server < budget.ticks → events < budget.events → IsWithin budget d.turns
+  still_within : age_of served.server < budget.ticks → events < budget.events →
+      IsWithin budget d.turns
   still_within young more = record {
     ticks = (let ticks = d.ticks in omega (arith, ticks, young));
     events = (let all = d.all in omega (arith, all, more));
   }
 
   -- so many turns were all
-  pub drove_events : age_of server < budget.ticks → budget.events ≤ events →
-      events ≤ budget.events → Drove (λ (told : LobbyTold). told) budget old new w server
+  pub drove_events : age_of served.server < budget.ticks → budget.events ≤ events →
+      events ≤ budget.events → Drove (λ (told : LobbyTold). told) budget old new w served.server
       (Err (Events budget.events))
   drove_events young end within =
       let ticks = d.ticks in
@@ -185,15 +194,15 @@ module _ (budget : Budget) (old new : Option LobbyTold) (w : World) (server : Se
       (omega (arith, ticks, young), omega (arith, all, end, within), refl, refl)
 
   -- the next event could not be had
-  pub drove_failed : (after : Option LobbyTold) → after ≡ new → age_of server < budget.ticks →
-      events < budget.events →
-      Drove (λ (told : LobbyTold). told) budget old after w server (Err Next)
+  pub drove_failed : (after : Option LobbyTold) → after ≡ new →
+      age_of served.server < budget.ticks → events < budget.events →
+      Drove (λ (told : LobbyTold). told) budget old after w served.server (Err Next)
   drove_failed after same young more =
       rw same (drove_so new [] (Err Next) adds_all (still_within young more, refl))
 
   -- memory ran out in a turn, in which the lobby told this
   pub drove_out : (after : Option LobbyTold) (left : ServerValue) → HasLogged new after →
-      age_of server < budget.ticks → events < budget.events →
+      age_of served.server < budget.ticks → events < budget.events →
       Drove (λ (told : LobbyTold). told) budget old after w left (Err NoMemory)
   drove_out after left more young less = record {
     turns = d.turns;
@@ -207,18 +216,19 @@ module _ (budget : Budget) (old new : Option LobbyTold) (w : World) (server : Se
 
   -- the lobby ended
   pub drove_ended : (after : Option LobbyTold) (t : Tally) → Logs new after (entries.Ended ∷ []) →
-      age_of server < budget.ticks → events < budget.events → IsTally w d.turns t →
-      Drove (λ (told : LobbyTold). told) budget old after w server (Ok (ends.Closed t))
+      age_of served.server < budget.ticks → events < budget.events → IsTally w d.turns t →
+      Drove (λ (told : LobbyTold). told) budget old after w served.server (Ok (ends.Closed t))
   drove_ended after t told young more tally =
       drove_so after (entries.Ended ∷ []) (Ok (ends.Closed t))
-      (adds_more old new after w server server (log_of d.turns) (entries.Ended ∷ []) d.adds
-      (record { told = told; stands = d.adds.stands })) (still_within young more, refl, tally)
+      (adds_more old new after w served.server served.server (log_of d.turns)
+      (entries.Ended ∷ []) d.adds (record { told = told; stands = d.adds.stands }))
+      (still_within young more, refl, tally)
 
   -- the last tick came in the last turn
   pub drove_ticks : (first : List (List LogEntry)) (turn : List LogEntry) (t : Tally) →
-      d.turns ≡ first ++ turn ∷ [] → ticks_in first < budget.ticks → age_of server ≡ budget.ticks →
-      events ≤ budget.events → IsTally w d.turns t →
-      Drove (λ (told : LobbyTold). told) budget old new w server (Ok (ends.Ticks t))
+      d.turns ≡ first ++ turn ∷ [] → ticks_in first < budget.ticks →
+      age_of served.server ≡ budget.ticks → events ≤ budget.events → IsTally w d.turns t →
+      Drove (λ (told : LobbyTold). told) budget old new w served.server (Ok (ends.Ticks t))
   drove_ticks first turn t parts before end within tally =
       let all = d.all in
       drove_so new [] (Ok (ends.Ticks t)) adds_all (

@@ -1,3 +1,4 @@
+pub mod Plans
 pub mod LogFacts
 pub mod Pending
 pub mod Writing

@@ -8,8 +8,8 @@ use Rattle.mc_wire.specs.declared.log.LogEntry.TheVariants.{Joined, Ticked, Clos
 use Rattle.mc_wire.specs.declared.log.LogEntry.TheVariants as entries
 use Rattle.mc_wire.specs.LobbyTold.{LobbyTold, with_entries, with_port}
 use Rattle.mc_wire.specs.Becoming.{ToldBecomes}
-use Rattle.mc_model.specs.declared.settings.Settings.{Settings}
 use Rattle.mc_model.specs.Log.{events_in, log_of, logged}
+use Rattle.mc_model.specs.Minds.{Start}
 use Rattle.mc_model.specs.World.{World, new_world}
 use Rattle.mc_model.specs.Run.{cause_in}
 use Rattle.mc_model.specs.Turns.{AreTurns}
@@ -117,8 +117,8 @@ done_log other turns last = log_of turns ++ last
 
 -- The lobby was asked to listen once, on the port alone, and then served by a server that nothing
 -- had happened to. The whole promise holds of that: of the run, and of what the lobby took.
-pub record DroveNew (budget : Budget) (old new : Option LobbyTold) (settings : Settings)
+pub record DroveNew (budget : Budget) (old new : Option LobbyTold) (start : Start)
     (server : ServerValue) (result : Result Ended DriveFault) : Type 0 where
-  pub drove : Drove (with_port budget.port) budget old new (new_world settings) server result
-  pub headline : Headline settings (events_in (done_log result drove.turns drove.last))
-  pub serves : Serves settings drove.turns
+  pub drove : Drove (with_port budget.port) budget old new (new_world start) server result
+  pub headline : Headline start (events_in (done_log result drove.turns drove.last))
+  pub serves : Serves start drove.turns

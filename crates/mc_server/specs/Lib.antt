@@ -1,2 +1,3 @@
+pub mod Minded
 pub mod Drives
 pub mod TurnParts

@@ -18,6 +18,7 @@ use Rattle.mc_events.specs.Asking.{is_done_in}
 use Rattle.mc_events.specs.Inputs.{age_after, event_of}
 use Rattle.mc_events.specs.Served.{ServerValue}
 use Rattle.mc_events.specs.Stands.{Stands}
+use Rattle.mc_server.specs.Minded.{ServedValue, StandsFor}
 use Rattle.mc_server.specs.Drives.{is_join, is_tick, one_if, ours_in}
 
 -- the numbers of the connections
@@ -91,10 +92,10 @@ pub record IsInputOf (entry : LogEntry) (input : Input) : Type 0 where
 
 -- A turn was done behind the entry of what happened.
 pub record HasTurned (entry : LogEntry) (old new : Option LobbyTold) (w : World)
-    (server : ServerValue) (count : ℕ) : Type 0 where
+    (served : ServedValue) (count : ℕ) : Type 0 where
   pub rest : List LogEntry
   pub told : Logs old new rest
-  pub stands : Stands server (logged w (entry ∷ rest))
+  pub stands : StandsFor served (logged w (entry ∷ rest))
   pub is_turn : IsTurn w (entry ∷ rest)
   pub ticks : count_by is_tick (entry ∷ rest) ≡ one_if (is_tick entry)
   pub joins : count_by is_join (entry ∷ rest) ≡ one_if (is_join entry)

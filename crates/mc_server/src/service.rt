@@ -8,20 +8,23 @@ ghost use Rattle.mc_wire.specs.LobbyTold.{LobbyTold, with_entries, with_port};
 ghost use Rattle.mc_wire.specs.Becoming.{HasLogged, ToldBecomes};
 ghost use Rattle.mc_wire.specs.Count.{Rose};
 ghost use Rattle.mc_wire.specs.LobbyCounts.{StandOrRise};
-ghost use Rattle.mc_model.specs.declared.settings.Settings.{Settings};
 ghost use Rattle.mc_model.specs.Game.{AreSettings};
+ghost use Rattle.mc_model.specs.Minds.{Start};
 ghost use Rattle.mc_model.specs.World.{World, new_world};
 ghost use Rattle.mc_events.specs.Asking.{ours_there};
 ghost use Rattle.mc_events.specs.Served.{age_of};
 ghost use Rattle.mc_events.specs.Stands.{Stands};
+ghost use Rattle.mc_server.specs.Minded.{StandsFor};
 ghost use Rattle.mc_server.specs.Drives.{Drove, DroveNew, is_join, one_if};
 ghost use Rattle.mc_server.specs.TurnParts.{IsInputOf};
 
 mod turn;
 
+use crate::server::{Server, Serving};
 use crate::service::turn::take_turn;
 use mc_bytes::NoMemory;
-use mc_events::{Input, Server};
+use mc_entities::Mind;
+use mc_events::Input;
 use mc_wire::{Event, Lobby};
 use std::alloc::{AllocError, Global};
 
@@ -125,7 +128,7 @@ fn joining(event: Event) -> u64
 }
 
 /// What was counted, with the connections that are still there.
-fn counted(server: &Server, joins: u64, closed: u64) -> Tally
+fn counted(server: &mc_events::Server, joins: u64, closed: u64) -> Tally
     ensures joins { result.joins ≡ joins }
     ensures closed { (w : World) → Stands server.now w → closed + ours_there w < 2 ^ 64 →
         result.closed ≡ closed + ours_there w }
@@ -137,19 +140,19 @@ fn counted(server: &Server, joins: u64, closed: u64) -> Tally
 }
 
 /// Serves a lobby that listens, turn by turn.
-fn serve<L: Lobby>(
-    server: &mut Server,
+fn serve<L: Lobby, M: Mind>(
+    server: &mut Server<M>,
     lobby: &mut L,
     budget: Budget,
     buffer: &mut [u8],
 ) -> Result<Ended, DriveFault>
     requires listening { L.listens lobby.old ≡ true }
-    requires young { age_of server.old ≡ 0 }
+    requires young { age_of server.old.inner ≡ 0 }
     requires ticks { (1 ≤ budget.ticks) × (budget.ticks ≤ 1000000000) }
     requires room { 0 < length buffer.old }
-    ensures drove { (w : World) → Stands server.old w → w.links ≡ empty →
-        Drove (λ (told : LobbyTold). told) budget
-        (L.told lobby.old) (L.told lobby.new) w server.new result }
+    ensures drove { (w : World) → StandsFor (⟦<Server<M> as Serving>⟧.value server.old) w →
+        w.links ≡ empty → Drove (λ (told : LobbyTold). told) budget
+        (L.told lobby.old) (L.told lobby.new) w server.new.inner result }
     ensures logs { HasLogged (L.told lobby.old) (L.told lobby.new) }
     ensures heard { result ≢ Err DriveFault.Listen }
     ensures failed { result ≡ Err DriveFault.Next →
@@ -165,12 +168,12 @@ fn serve<L: Lobby>(
             return Err(DriveFault::Next);
         };
         let Some(input) = input_of(event, buffer) else {
-            return Ok(Ended::Closed(counted(server, joins, closed)));
+            return Ok(Ended::Closed(counted(&server.inner, joins, closed)));
         };
         joins += joining(event);
         closed = closed.saturating_add(take_turn(server, lobby, input)?);
         if server.age() == u64::from(budget.ticks) {
-            return Ok(Ended::Ticks(counted(server, joins, closed)));
+            return Ok(Ended::Ticks(counted(&server.inner, joins, closed)));
         }
     }
     Err(DriveFault::Events(budget.events))
@@ -180,18 +183,18 @@ fn serve<L: Lobby>(
 /// connection what it is owed, in pieces of at most 65,536 bytes, and closes those that are closed
 /// and owed nothing, until the ticks have come or the lobby ends. Where memory runs out, the turns
 /// that were done until then keep the whole promise.
-pub fn drive<L: Lobby>(
-    server: &mut Server,
+pub fn drive<L: Lobby, M: Mind>(
+    server: &mut Server<M>,
     lobby: &mut L,
     budget: Budget,
 ) -> Result<Ended, DriveFault>
-    requires young { age_of server.old ≡ 0 }
+    requires young { age_of server.old.inner ≡ 0 }
     requires port { 1 ≤ budget.port }
     requires ticks { (1 ≤ budget.ticks) × (budget.ticks ≤ 1000000000) }
     requires events { 1 ≤ budget.events }
-    ensures drove { (settings : Settings) → AreSettings settings.players settings.cap →
-        Stands server.old (new_world settings) → DroveNew budget
-        (L.told lobby.old) (L.told lobby.new) settings server.new result }
+    ensures drove { (start : Start) → AreSettings start.settings.players start.settings.cap →
+        StandsFor (⟦<Server<M> as Serving>⟧.value server.old) (new_world start) → DroveNew budget
+        (L.told lobby.old) (L.told lobby.new) start server.new.inner result }
     ensures asks { (entries : List LogEntry) × ToldBecomes (L.told lobby.old) (L.told lobby.new)
         (λ told. with_entries entries (with_port budget.port told)) }
     ensures unheard { result ≡ Err DriveFault.Listen →
@@ -203,6 +206,6 @@ pub fn drive<L: Lobby>(
     let Ok(()) = lobby.listen(budget.port) else {
         return Err(DriveFault::Listen);
     };
-    let mut buffer = zeros(server.allocator(), BUFFER)?;
+    let mut buffer = zeros(server.inner.allocator(), BUFFER)?;
     serve(server, lobby, budget, buffer.as_mut_slice())
 }

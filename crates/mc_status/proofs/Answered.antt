@@ -57,7 +57,8 @@ use Rattle.mc_laws.proofs.Cutting.Cuts.{AreFew, frames_in_piece}
 use Rattle.mc_laws.proofs.Cutting.Reads.{bytes_closed, bytes_open, done, fault_closed}
 use Rattle.mc_laws.proofs.Cutting.Reads.{frames_closed, left_of}
 use Rattle.mc_laws.proofs.Apart.BadFrames.{elsewhere}
-use Rattle.mc_status.specs.Playing.{Asks, AsksAt, IsSmall, lone_settings}
+use Rattle.mc_status.specs.StatusText.{lone_settings}
+use Rattle.mc_status.specs.Playing.{Asks, AsksAt, IsSmall}
 
 -- ---- stages
 
@@ -177,14 +178,14 @@ no_farewell other cause asks = grind (arith, nat_tests)
 
 -- a turn of a seat, with so many answers at most
 pub record Answered (most n : ℕ) (s : Seat) (t : Turn) : Type 0 where
-  pub game : t.seat.game ≡ new_game (lone_settings most)
+  pub game : t.seat.game ≡ new_game (lone_settings most) 0
   pub stage : AsksAt t.seat.link.stage t.seat.link.cause
   pub past : IsPast s.link.stage → IsPast t.seat.link.stage
   pub owed : t.seat.link.owed ≡ s.link.owed ++ bytes_of t.handed
   pub small : AllByRecursion IsSmall t.handed
   pub few : length (bytes_of t.handed) ≤ 1000 * n
 
-still_answered : (most n : ℕ) (s : Seat) → s.game ≡ new_game (lone_settings most) →
+still_answered : (most n : ℕ) (s : Seat) → s.game ≡ new_game (lone_settings most) 0 →
     AsksAt s.link.stage s.link.cause → Answered most n s (still s)
 still_answered most n s game stage = record {
   game = game;
@@ -226,17 +227,17 @@ answered_after most m n s t f a b =
     }
 
 nobody_leaves : (most : ℕ) (stage : Stage) →
-    left_by 0 stage (new_game (lone_settings most)) ≡ new_game (lone_settings most)
+    left_by 0 stage (new_game (lone_settings most) 0) ≡ new_game (lone_settings most) 0
 unfolding leave
 nobody_leaves most stage = step (is_closed stage)
   where
-    step : (b : Bool) → cond b (leave 0 (new_game (lone_settings most)))
-        (new_game (lone_settings most)) ≡ new_game (lone_settings most)
+    step : (b : Bool) → cond b (leave 0 (new_game (lone_settings most) 0))
+        (new_game (lone_settings most) 0) ≡ new_game (lone_settings most) 0
     step true = rw (get-empty nat_cmp 0) refl
     step false = refl
 
 abbrev seat_in : ℕ → Link → Unread → Seat
-seat_in most l u = record { game = new_game (lone_settings most); link = l; unread = u }
+seat_in most l u = record { game = new_game (lone_settings most) 0; link = l; unread = u }
 
 -- packets are handed to it that have room
 hand_answered : (most n : ℕ) (l m : Link) (u : Unread) (packets : List Sent) → m.owed ≡ l.owed →
@@ -339,7 +340,7 @@ asks_or_closed other cause x xs asks goes = absurd asks
 
 module _ (most : ℕ) (some : most ≤ 50) where
   -- with the game as it is
-  at_game : (n : ℕ) (s : Seat) (f : Seat → Turn) → s.game ≡ new_game (lone_settings most) →
+  at_game : (n : ℕ) (s : Seat) (f : Seat → Turn) → s.game ≡ new_game (lone_settings most) 0 →
       Answered most n (seat_in most s.link s.unread) (f (seat_in most s.link s.unread)) →
       Answered most n s (f s)
   at_game n s f game a = subst (λ (g : Game).
@@ -347,7 +348,7 @@ module _ (most : ℕ) (some : most ≤ 50) where
       (f (record { game = g; link = s.link; unread = s.unread }))) (sym game) a
 
   frames_answered : (frames : List (List ℕ)) (s : Seat) →
-      s.game ≡ new_game (lone_settings most) → AsksAt s.link.stage s.link.cause →
+      s.game ≡ new_game (lone_settings most) 0 → AsksAt s.link.stage s.link.cause →
       Goes s.link.stage frames → length s.link.owed + 1000 * length frames ≤ outbox_max →
       Answered most (length frames) s (on_frames 0 s frames)
   frames_answered [] s game stage goes room = still_answered most 0 s game stage
@@ -378,7 +379,7 @@ module _ (most : ℕ) (some : most ≤ 50) where
       ]
 
   fault_answered : (s : Seat) (fault : Option FrameFault) →
-      s.game ≡ new_game (lone_settings most) → AsksAt s.link.stage s.link.cause →
+      s.game ≡ new_game (lone_settings most) 0 → AsksAt s.link.stage s.link.cause →
       (fault ≡ None) ⊎ (IsAsking s.link.stage ⊎ (is_closed s.link.stage ≡ true)) →
       length s.link.owed ≤ outbox_max → Answered most 0 s (on_fault 0 s fault)
   fault_answered s None game stage goes room = still_answered most 0 s game stage

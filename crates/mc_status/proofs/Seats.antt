@@ -21,9 +21,9 @@ use Rattle.mc_laws.proofs.Cutting.Reads.{bytes_same}
 use Rattle.mc_events.specs.Asking.{is_inside_in}
 use Rattle.mc_words.specs.declared.bad_input.InputFault.{InputFault}
 use Rattle.mc_status.specs.StatusText.{Exchange, ends_inside, first_exchange, goes_on, receives}
-use Rattle.mc_status.specs.StatusText.{sent_lines, session_fault, shown_fault}
+use Rattle.mc_status.specs.StatusText.{lone_settings, sent_lines, session_fault, shown_fault}
 use Rattle.mc_status.specs.StatusText as told
-use Rattle.mc_status.specs.Playing.{Asks, Sits, lone_settings}
+use Rattle.mc_status.specs.Playing.{Asks, Sits}
 
 -- ---- seats
 
@@ -130,7 +130,7 @@ receives_gets x s b h fine =
 
 abbrev pub first_seat : ℕ → Seat
 first_seat most = record {
-  game = new_game (lone_settings most);
+  game = new_game (lone_settings most) 0;
   link = new_link;
   unread = nothing_unread;
 }

@@ -4,10 +4,8 @@ use Rattle.std.specs.Prelude.{◌≡◌, ℕ, false, ◌≤◌, List, [], length
 use Rattle.std.specs.List.{AllByRecursion}
 use Rattle.std.specs.FinMap.{get}
 use Rattle.mc_frame.specs.Frame.{IsPayload, frame_spelling}
-use Rattle.mc_land.specs.declared.terrain.Terrain.TheVariants.{Flat}
 use Rattle.mc_model.specs.declared.cause.Cause.{Cause}
 use Rattle.mc_model.specs.declared.cause.Cause.TheVariants as causes
-use Rattle.mc_model.specs.declared.settings.Settings.{Settings}
 use Rattle.mc_model.specs.declared.stage.Stage.{Stage}
 use Rattle.mc_model.specs.declared.stage.Stage.TheVariants as stages
 use Rattle.mc_model.specs.Game.{new_game}
@@ -20,7 +18,7 @@ use Rattle.mc_events.specs.Stands.{Stands}
 use Rattle.mc_words.specs.declared.bad_input.InputFault.{InputFault}
 use Rattle.mc_words.specs.Passes.{Passes}
 use Rattle.mc_status.specs.declared.playing.TheConstants.{PIECE_MAX}
-use Rattle.mc_status.specs.StatusText.{Exchange, session_fault}
+use Rattle.mc_status.specs.StatusText.{Exchange, lone_settings, session_fault}
 
 -- ---- the seat of the one connection
 
@@ -38,9 +36,6 @@ pub record HasSeat (server : ServerValue) (s : Seat) : Type 0 where
 
 -- ---- how far it has come
 
-abbrev pub lone_settings : ℕ → Settings
-lone_settings most = record { players = most; cap = 2; terrain = Flat }
-
 -- it asks what it wants, or for the status; or it wants to log in; or it was closed, and not since
 -- it was owed too much
 abbrev pub AsksAt : Stage → Option Cause → Type 0
@@ -52,7 +47,7 @@ AsksAt other cause = ⊥
 
 -- nobody plays, and it took all that it was owed
 pub record Asks (most : ℕ) (s : Seat) : Type 0 where
-  pub game : s.game ≡ new_game (lone_settings most)
+  pub game : s.game ≡ new_game (lone_settings most) 0
   pub stage : AsksAt s.link.stage s.link.cause
   pub owed : s.link.owed ≡ []
   pub waits : Waits s

@@ -10,8 +10,10 @@ use Rattle.hex.specs.Hex.{encode_lower}
 use Rattle.mc_land.specs.declared.terrain.Terrain.TheVariants.{Flat}
 use Rattle.mc_model.specs.declared.cause.Cause.{Cause}
 use Rattle.mc_model.specs.declared.cause.Cause.TheVariants as causes
+use Rattle.mc_model.specs.declared.settings.Settings.{Settings}
 use Rattle.mc_model.specs.declared.stage.Stage.{Stage}
 use Rattle.mc_model.specs.declared.stage.Stage.TheVariants as stages
+use Rattle.mc_model.specs.Minds.{without_mobs}
 use Rattle.mc_model.specs.Stages.{is_closed}
 use Rattle.mc_model.specs.Packets.{Sent, frame_of}
 use Rattle.mc_model.specs.Step.{joined, came, took, step}
@@ -33,10 +35,14 @@ pub record Exchange : Type 0 where
   pub text : List ℕ
   pub fault : Option InputFault
 
--- it has joined a new world with so many players at most
+-- so many players may be in play
+abbrev pub lone_settings : ℕ → Settings
+lone_settings most = record { players = most; cap = 2; terrain = Flat }
+
+-- it has joined a new world of that, which has no mobs
 abbrev pub first_exchange : ℕ → Exchange
 first_exchange most = record {
-  world = (step (new_world (record { players = most; cap = 2; terrain = Flat })) (joined 0)).world;
+  world = (step (new_world (without_mobs (lone_settings most))) (joined 0)).world;
   text = [];
   fault = None;
 }

@@ -16,6 +16,7 @@ ghost use Rattle.mc_status.specs.Playing.{HasSeat, IsAnswered, Meets, most_at};
 use crate::answers::{put_lines, take_owed};
 use crate::kept_line::KeptLine;
 use mc_bytes::NoMemory;
+use mc_entities::Planned;
 use mc_events::{Input, Server};
 use mc_land::Terrain;
 use mc_model::{Cause, Settings, Stage};
@@ -53,8 +54,8 @@ impl Client {
             cap: 2,
             terrain: Terrain::Flat,
         };
-        let mut server = Server::new(alloc, settings);
-        server.event(Input::Join(0))?;
+        let mut server = Server::new(alloc, settings, 0)?;
+        server.event::<Planned>(Input::Join(0), &mut [])?;
         Ok(Client {
             server,
             owed: Vec::new(alloc),
@@ -112,7 +113,8 @@ impl Client {
             Rose (O.faults out.old) (O.faults out.new) }
         ensures counts { StandsOrRises (O.faults out.old) (O.faults out.new) }
     {
-        self.server.event(Input::Bytes(0, piece))?;
+        self.server
+            .event::<Planned>(Input::Bytes(0, piece), &mut [])?;
         self.owed.clear();
         take_owed(&mut self.server, &mut self.owed)?;
         put_lines(&self.owed, &mut self.last, &mut self.lines, out)

@@ -1,7 +1,9 @@
 -- Playing events one after another.
 use Rattle.std.proofs.Common.{◌≡◌, ℕ, suc, ◌+◌, ◌<◌, ◌≤◌, List, [], ◌∷◌, ◌++◌, length, get_or, take}
-use Rattle.std.proofs.Common.{drop, refl, sym, subst, ap, ◌∙◌, append_assoc, arith}
+use Rattle.std.proofs.Common.{drop, map, refl, sym, subst, ap, ◌∙◌, append_assoc, arith}
 use Rattle.std.specs.Prelude.{Option, replicate}
+use Rattle.std.specs.List.{filter}
+use Rattle.std.specs.FinMap.{entries}
 use Rattle.std.proofs.lemmas.Bool.Decides.{nat_tests}
 use Rattle.std.proofs.lemmas.List.{append-nil, take_all, take-append-drop, take-replicate}
 use Rattle.std.proofs.lemmas.List.{replicate_more, take_more}
@@ -9,14 +11,21 @@ use Rattle.std.proofs.lemmas.List.Sums.{sum_by-cons}
 use Rattle.std.proofs.lemmas.Grind.{flat_map-append}
 use Rattle.std.proofs.Math.Seq.{take-append-add, drop-cons}
 use Rattle.mc_wire.specs.Stream.{Grows}
-use Rattle.mc_model.specs.Step.{Event, ticked, step}
+use Rattle.mc_model.specs.Link.{Link}
+use Rattle.mc_model.specs.Minds.{Plans}
+use Rattle.mc_model.specs.Run.{history}
+use Rattle.mc_model.specs.Step.{Event, forgot, step, ticked, took}
 use Rattle.mc_model.specs.World.{World}
 use Rattle.mc_events.specs.Served.{ServerValue}
 use Rattle.mc_events.specs.Stands.{Stands}
+use Rattle.mc_server.specs.Minded.{ServedValue, StandsFor}
+use Rattle.mc_server.proofs.Plans.{step_plans}
 use Rattle.mc_words.specs.declared.script_line.ScriptEvent.{ScriptEvent}
 use Rattle.mc_words.proofs.Growing.{grows_two, part_of}
 use Rattle.mc_top.specs.ReplayText.{lines_after, settled, replay_text, line_events, events_of}
+use Rattle.mc_top.specs.ReplayText.{is_shut, owes}
 use Rattle.mc_top.specs.Replaying.{HasPlayed, HasStopped, replay_world, line_ticks, ticks_of}
+use Rattle.mc_top.proofs.Taking.{settled_is, tooks}
 
 -- ---- some events and then others
 
@@ -31,14 +40,14 @@ world_more : (w : World) (xs ys : List Event) →
 world_more w [] ys = refl
 world_more w (e ∷ xs) ys = world_more (settled (step w e).world) xs ys
 
-pub played_two : (xs ys : List Event) (w : World) (middle server : ServerValue)
+pub played_two : (xs ys : List Event) (w : World) (middle server : ServedValue)
     (held half held' : Option (List ℕ)) → HasPlayed xs w middle held half →
     HasPlayed ys (replay_world w xs) server half held' → HasPlayed (xs ++ ys) w server held held'
 played_two xs ys w middle server held half held' a b =
     grind (arith, nat_tests, world_more, text_more, grows_two)
 
 pub stopped_two : (xs ys : List Event) (w : World)
-    (middle : ServerValue) (held half held' : Option (List ℕ)) → HasPlayed xs w middle held half →
+    (middle : ServedValue) (held half held' : Option (List ℕ)) → HasPlayed xs w middle held half →
     HasStopped ys (replay_world w xs) half held' → HasStopped (xs ++ ys) w held held'
 stopped_two xs ys w middle held half held' a b =
     let Q : List ℕ → Type 0 = λ t. Grows held held' t in
@@ -62,11 +71,36 @@ stopped_before xs ys w held held' s =
 
 -- ---- one event
 
-pub played_one : (e : Event) (w : World) (server : ServerValue)
-    (held held' : Option (List ℕ)) (text : List ℕ) → Stands server (settled (step w e).world) →
+-- taking and forgetting leave what mobs are still to do
+tooks_plans : (es : List (ℕ × Link)) (w : World) →
+    (history w (map (λ (e : ℕ × Link). took e.0 (length e.1.owed)) es)).plans ≡ w.plans
+tooks_plans [] w = refl
+tooks_plans (e ∷ es) w =
+    let now = took e.0 (length e.1.owed) in
+    tooks_plans es (step w now).world ∙ step_plans w now (λ tick. cc)
+
+forgots_plans : (es : List (ℕ × Link)) (w : World) →
+    (history w (map (λ (e : ℕ × Link). forgot e.0) es)).plans ≡ w.plans
+forgots_plans [] w = refl
+forgots_plans (e ∷ es) w =
+    forgots_plans es (step w (forgot e.0)).world ∙ step_plans w (forgot e.0) (λ tick. cc)
+
+-- the server stands with its minds for the world that is settled
+pub stands_settled : (w : World) (server : ServerValue) (plans : Plans) →
+    Stands server (settled w) → w.plans ≡ plans →
+    StandsFor (record { server = server; plans = plans }) (settled w)
+stands_settled w server plans stands are = record {
+  stands = stands;
+  plans = ap (λ (v : World). v.plans) (settled_is w)
+      ∙ forgots_plans (filter is_shut (entries w.links)) (history w (tooks w))
+      ∙ tooks_plans (filter owes (entries w.links)) w ∙ are;
+}
+
+pub played_one : (e : Event) (w : World) (served : ServedValue)
+    (held held' : Option (List ℕ)) (text : List ℕ) → StandsFor served (settled (step w e).world) →
     text ≡ lines_after (step w e).world → Grows held held' text →
-    HasPlayed (e ∷ []) w server held held'
-played_one e w server held held' text stands is wrote = grind (arith, nat_tests, append-nil)
+    HasPlayed (e ∷ []) w served held held'
+played_one e w served held held' text stands is wrote = grind (arith, nat_tests, append-nil)
 
 pub stopped_one : (e : Event) (w : World) (held held' : Option (List ℕ)) (text : List ℕ) →
     text ≡ lines_after (step w e).world → (n : ℕ) × Grows held held' (take n text) →
@@ -83,7 +117,7 @@ ticks_next n count less =
     ∙ ap (λ (es : List Event). es ++ drop (n + 1) (replicate count ticked))
     (take-replicate (n + 1) count ticked (omega (arith, less)) ∙ sym (replicate_more n ticked))
 
-pub ticks_played : (n : ℕ) (w : World) (middle server : ServerValue)
+pub ticks_played : (n : ℕ) (w : World) (middle server : ServedValue)
     (held half held' : Option (List ℕ)) → HasPlayed (replicate n ticked) w middle held half →
     HasPlayed (ticked ∷ []) (replay_world w (replicate n ticked)) server half held' →
     HasPlayed (replicate (n + 1) ticked) w server held held'
@@ -93,7 +127,7 @@ ticks_played n w middle server held half held' a b =
     (played_two (replicate n ticked) (ticked ∷ []) w middle server held half held' a b)
 
 pub ticks_stopped : (n count : ℕ) (w : World)
-    (middle : ServerValue) (held half held' : Option (List ℕ)) → n < count →
+    (middle : ServedValue) (held half held' : Option (List ℕ)) → n < count →
     HasPlayed (replicate n ticked) w middle held half →
     HasStopped (ticked ∷ []) (replay_world w (replicate n ticked)) half held' →
     HasStopped (replicate count ticked) w held held'
@@ -121,7 +155,7 @@ lines_before events i = ap events_of (sym (take-append-drop i events))
     ∙ flat_map-append line_events (take i events) (drop i events)
 
 pub lines_played : (events : List ScriptEvent) (i : ℕ) (e : ScriptEvent) (w : World)
-    (middle server : ServerValue) (held half held' : Option (List ℕ)) → i < length events →
+    (middle server : ServedValue) (held half held' : Option (List ℕ)) → i < length events →
     e ≡ get_or events i e → HasPlayed (events_of (take i events)) w middle held half →
     HasPlayed (line_events e) (replay_world w (events_of (take i events))) server half held' →
     HasPlayed (events_of (take (i + 1) events)) w server held held'
@@ -131,7 +165,7 @@ lines_played events i e w middle server held half held' within is a b =
     (played_two (events_of (take i events)) (line_events e) w middle server held half held' a b)
 
 pub lines_stopped : (events : List ScriptEvent) (i : ℕ) (e : ScriptEvent)
-    (w : World) (middle : ServerValue) (held half held' : Option (List ℕ)) → i < length events →
+    (w : World) (middle : ServedValue) (held half held' : Option (List ℕ)) → i < length events →
     e ≡ get_or events i e → HasPlayed (events_of (take i events)) w middle held half →
     HasStopped (line_events e) (replay_world w (events_of (take i events))) half held' →
     HasStopped (events_of events) w held held'
@@ -144,7 +178,7 @@ lines_stopped events i e w middle held half held' within is a b =
     (events_of (drop (i + 1) events)) w held held' first)
 
 pub lines_done : (events : List ScriptEvent) (i : ℕ)
-    (w : World) (server : ServerValue) (held held' : Option (List ℕ)) →
+    (w : World) (server : ServedValue) (held held' : Option (List ℕ)) →
     length events ≤ i → HasPlayed (events_of (take i events)) w server held held' →
     HasPlayed (events_of events) w server held held'
 lines_done events i w server held held' all a =

@@ -9,8 +9,8 @@ use Rattle.std.proofs.lemmas.Bool.Decides.{nat_tests}
 use Rattle.std.proofs.lemmas.Grind.{flat_map-append}
 use Rattle.std.proofs.lemmas.List.{append-nil, take_all}
 use Rattle.std.proofs.lemmas.List.Sums.{fold-append}
-use Rattle.mc_model.specs.declared.settings.Settings.{Settings}
 use Rattle.mc_model.specs.Step.{Event, ticked, took, forgot, step}
+use Rattle.mc_model.specs.Minds.{Start}
 use Rattle.mc_model.specs.Headline.{Headline}
 use Rattle.mc_model.specs.Link.{Link}
 use Rattle.mc_model.specs.Run.{history, lost, lost_at, owed_in, owed_of, taken, taken_at}
@@ -178,11 +178,11 @@ log_lost k w (e ∷ events) none =
 
 -- ---- what is told is what was taken
 
-pub told_taken : (settings : Settings) (events : List ScriptEvent) (k : ℕ) →
-    Headline settings (replay_log (new_world settings) (events_of events)) →
-    IsToldTaken k (new_world settings) (events_of events)
-told_taken settings events k promise =
-    let w : World = new_world settings in
+pub told_taken : (start : Start) (events : List ScriptEvent) (k : ℕ) →
+    Headline start (replay_log (new_world start) (events_of events)) →
+    IsToldTaken k (new_world start) (events_of events)
+told_taken start events k promise =
+    let w : World = new_world start in
     let log : List Event = replay_log w (events_of events) in
     let is = script_taken k w events in
     let p = promise.promised log [] k (sym (append-nil log)) in

@@ -11,8 +11,8 @@ use Rattle.mc_words.specs.declared.arguments.Command.{Command}
 use Rattle.mc_words.specs.declared.arguments.Command.TheVariants.{Replay}
 use Rattle.mc_words.specs.Digits.{digits_number, within}
 use Rattle.mc_words.specs.Arguments.{IsSet, value_in, number_in, number_or, players_in}
-use Rattle.mc_words.specs.Arguments.{view_in, land_in, world_with, world_in, port_in, tick_limit_in}
-use Rattle.mc_words.specs.Arguments.{event_limit_in, status_with}
+use Rattle.mc_words.specs.Arguments.{view_in, land_in, mobs_in, world_with, world_in, port_in}
+use Rattle.mc_words.specs.Arguments.{tick_limit_in, event_limit_in, status_with}
 use Rattle.mc_words.specs.Arguments.{serve_with, serve_of}
 use Rattle.mc_words.specs.Arguments.{command_of}
 
@@ -61,14 +61,14 @@ events_are arguments = number_is 4000000000 1 4000000000 (value_in (codes "event
 abbrev IsWorld : WorldOptions → Type 0
 IsWorld world = AreSettings world.players world.view
 
-world_with_is : (players view : Option ℕ) (terrain : Option Terrain) →
+world_with_is : (players view : Option ℕ) (terrain : Option Terrain) (mobs : Option ℕ) →
     IfSome players (IsWithin 1 50) → IfSome view (IsWithin 2 8) →
-    IfSome (world_with players view terrain) IsWorld
-world_with_is players view terrain p v = grind (arith, nat_tests)
+    IfSome (world_with players view terrain mobs) IsWorld
+world_with_is players view terrain mobs p v = grind (arith, nat_tests)
 
 world_is : (arguments : List (List ℕ)) → IfSome (world_in arguments) IsWorld
 world_is arguments = world_with_is (players_in arguments) (view_in arguments) (land_in arguments)
-    (players_are arguments) (view_is arguments)
+    (mobs_in arguments) (players_are arguments) (view_is arguments)
 
 replay_is_set : (world : Option WorldOptions) → IfSome world IsWorld →
     IfSome (option_map Replay world) IsSet

@@ -205,10 +205,10 @@ shuts_all v (e ∷ es) once there =
 
 -- ---- all of it
 
-abbrev tooks : World → List Event
+abbrev pub tooks : World → List Event
 tooks w = map (λ (e : ℕ × Link). took e.0 (length e.1.owed)) (filter owes (entries w.links))
 
-abbrev forgots : World → List Event
+abbrev pub forgots : World → List Event
 forgots w = map (λ (e : ℕ × Link). forgot e.0) (filter is_shut (entries w.links))
 
 pub settled_is : (w : World) → settled w ≡ history (history w (tooks w)) (forgots w)

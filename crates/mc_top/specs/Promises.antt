@@ -1,7 +1,9 @@
 -- What a run of the program promises, by the command that its arguments name and by how it ends.
--- Rules of this project. A new command is a case of `told_of` and of `Does`.
+-- Rules of this project. A new command is a case of `told_of` and of `Does`. Both take the plans of
+-- the minds that were handed in.
 use Rattle.std.specs.Prelude.{◌≡◌, ℕ, ◌⊎◌, List, Option, None, Some}
 use Rattle.std.specs.declared.string.String.{String}
+use Rattle.mc_model.specs.Minds.{Plans}
 use Rattle.mc_words.specs.declared.bad_input.BadInput.{BadInput}
 use Rattle.mc_words.specs.declared.ended.Ended.{Ended}
 use Rattle.mc_words.specs.declared.ended.Ended.TheVariants as ended
@@ -13,14 +15,14 @@ use Rattle.mc_words.specs.Devices.{Devices, InputStays, LobbyStays, streams_of}
 use Rattle.mc_words.specs.Ended.{status_of}
 use Rattle.mc_status.specs.StatusText.{status_told}
 use Rattle.mc_words.specs.Told.{Told}
-use Rattle.mc_top.specs.ReplayPromise.{Plays, replay_told}
+use Rattle.mc_top.specs.ReplayPromise.{Plays, replay_told, start_of}
 use Rattle.mc_top.specs.ServePromise.{ServePromise}
 
 -- what a command tells of its input; None where it reads none
-abbrev pub told_of : Command → Option (List ℕ → Told)
-told_of (Status most) = Some (status_told most)
-told_of (Replay options) = Some (replay_told options)
-told_of (Serve options) = None
+abbrev pub told_of : Plans → Command → Option (List ℕ → Told)
+told_of plans (Status most) = Some (status_told most)
+told_of plans (Replay options) = Some (replay_told (start_of plans options))
+told_of plans (Serve options) = None
 
 -- a command that reads a text delivers what it tells of that and touches no lobby; another reads no
 -- input
@@ -30,15 +32,15 @@ Reads (Some told) how before after =
 Reads None how before after = InputStays before after
 
 -- what it promises beside that
-abbrev pub Does : Command → Ended → Devices → Devices → Type 0
-Does (Status most) how before after = Unit {0}
-Does (Replay options) how before after = Plays options how before.left
-Does (Serve options) how before after = ServePromise options how before after
+abbrev pub Does : Plans → Command → Ended → Devices → Devices → Type 0
+Does plans (Status most) how before after = Unit {0}
+Does plans (Replay options) how before after = Plays (start_of plans options) how before.left
+Does plans (Serve options) how before after = ServePromise plans options how before after
 
 -- what holds where a command ended so, from the devices before it to those after it
-abbrev pub Promises : Command → Ended → Devices → Devices → Type 0
-Promises command how before after =
-    Reads (told_of command) how before after × Does command how before after
+abbrev pub Promises : Plans → Command → Ended → Devices → Devices → Type 0
+Promises plans command how before after =
+    Reads (told_of plans command) how before after × Does plans command how before after
 
 -- a command reads no input, or what is left of it is told and nothing is wrong with that
 abbrev pub IsFineInput : Option (List ℕ → Told) → Option (List ℕ) → Type 0
@@ -63,9 +65,9 @@ abbrev pub NamesNone : {Z : Type 0} → List (String Z) → Type 0
 NamesNone arguments = command_of (bytes_of arguments) ≡ None
 
 -- a command ended with this status, and what it promises of that holds
-abbrev pub KeepsPromise : Command → ℕ → Devices → Devices → Type 0
-KeepsPromise command status before after =
-    (ended : Ended) × (status ≡ status_of ended) × Promises command ended before after
+abbrev pub KeepsPromise : Plans → Command → ℕ → Devices → Devices → Type 0
+KeepsPromise plans command status before after =
+    (ended : Ended) × (status ≡ status_of ended) × Promises plans command ended before after
 
 -- the statuses that a run may answer
 abbrev pub IsStatus : ℕ → Type 0

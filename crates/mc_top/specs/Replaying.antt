@@ -12,6 +12,7 @@ use Rattle.mc_events.specs.declared.input.Input.TheVariants.{Tick}
 use Rattle.mc_events.specs.Served.{ServerValue}
 use Rattle.mc_events.specs.Stands.{Stands}
 use Rattle.mc_events.specs.Asking.{is_done_in}
+use Rattle.mc_server.specs.Minded.{ServedValue, StandsFor}
 use Rattle.mc_words.specs.declared.script_line.ScriptEvent.{ScriptEvent}
 use Rattle.mc_words.specs.declared.script_line.ScriptEvent.TheVariants.{Ticks}
 use Rattle.mc_words.specs.Passes.{Passes}
@@ -88,10 +89,10 @@ abbrev pub replay_world : World → List Event → World
 replay_world w [] = w
 replay_world w (e ∷ events) = replay_world (settled (step w e).world) events
 
--- the server stands for the world after events, and their text was written
-pub record HasPlayed (events : List Event) (w : World) (server : ServerValue)
+-- the server stands with its minds for the world after events, and their text was written
+pub record HasPlayed (events : List Event) (w : World) (served : ServedValue)
     (held held' : Option (List ℕ)) : Type 0 where
-  pub stands : Stands server (replay_world w events)
+  pub stands : StandsFor served (replay_world w events)
   pub wrote : Grows held held' (replay_text w events)
 
 -- some first part of the text of events was written

@@ -1,4 +1,4 @@
-ghost use Rattle.std.specs.Prelude.{◌≡◌, ◌↔◌, IfSome};
+ghost use Rattle.std.specs.Prelude.{◌≡◌, ◌↔◌, IfSome, map};
 ghost use Rattle.mc_model.specs.Game.{AreSettings};
 ghost use Rattle.mc_words.specs.Arguments.{IsSet, bytes_of, command_of};
 ghost use Rattle.mc_words.specs.Delivers.{Delivered};
@@ -9,6 +9,7 @@ ghost use Rattle.mc_top.specs.Promises.{IsStatus, KeepsPromise, NamesNone, Promi
 
 use crate::replay::replay;
 use crate::serve::serve;
+use mc_entities::Mind;
 use mc_status::write_status;
 use mc_wire::{InputError, Lobby, Sink, Source};
 use mc_words::{Command, Ended, finish, read_text};
@@ -31,30 +32,35 @@ fn status<I: Source, O: Sink>(alloc: Global, most: u32, input: &mut I, out: &mut
 }
 
 /// Does what a command asks, and writes its last line.
-fn perform<L: Lobby, I: Source, O: Sink>(
+fn perform<L: Lobby, I: Source, O: Sink, M: Mind>(
     alloc: Global,
     command: Command,
     lobby: &mut L,
     input: &mut I,
     out: &mut O,
+    minds: Vec<M>,
 ) -> Ended
     requires { IsSet command }
-    ensures { Promises command result
+    ensures { Promises (map (λ mind. M.plan mind) minds.items) command result
         (devices (L.told lobby.old) (L.counts lobby.old) (I.left input.old) (I.faults input.old)
         (O.held out.old) (O.faults out.old))
         (devices (L.told lobby.new) (L.counts lobby.new) (I.left input.new) (I.faults input.new)
         (O.held out.new) (O.faults out.new)) }
 {
     let ended = match command {
-        Command::Status(most) => status(alloc, most, input, out),
-        Command::Replay(options) => replay(alloc, options, input, out),
-        Command::Serve(options) => serve(alloc, options, lobby, out),
+        Command::Status(most) => {
+            drop(minds);
+            status(alloc, most, input, out)
+        }
+        Command::Replay(options) => replay(alloc, options, input, out, minds),
+        Command::Serve(options) => serve(alloc, options, lobby, out, minds),
     };
     finish(alloc, ended, out)
 }
 
 /// Runs the program: does what the arguments say, with the devices that it needs, and answers the
-/// status that the program ends with. `arguments` are those after the program's name.
+/// status that the program ends with. `arguments` are those after the program's name, and `minds`
+/// move the mobs of a world, the first ones as many as the arguments say.
 ///
 /// | status | meaning |
 /// |---|---|
@@ -66,12 +72,13 @@ fn perform<L: Lobby, I: Source, O: Sink>(
 /// | 5 | the lobby failed |
 /// | 6 | the input is not what the command reads |
 /// | 7 | as many events came as may |
-pub fn run<L: Lobby, I: Source, O: Sink>(
+pub fn run<L: Lobby, I: Source, O: Sink, M: Mind>(
     alloc: Global,
     arguments: &[String],
     lobby: &mut L,
     input: &mut I,
     out: &mut O,
+    minds: Vec<M>,
 ) -> u8
     // There is no other status.
     ensures statuses { IsStatus result }
@@ -85,14 +92,15 @@ pub fn run<L: Lobby, I: Source, O: Sink>(
     // The others: the command that the arguments name ended with this status, and what it promises
     // of that holds.
     ensures promise { IfSome (command_of (bytes_of arguments.now)) (λ command.
-        KeepsPromise command result
+        KeepsPromise (map (λ mind. M.plan mind) minds.items) command result
         (devices (L.told lobby.old) (L.counts lobby.old) (I.left input.old) (I.faults input.old)
         (O.held out.old) (O.faults out.old))
         (devices (L.told lobby.new) (L.counts lobby.new) (I.left input.new) (I.faults input.new)
         (O.held out.new) (O.faults out.new))) }
 {
     let Some(command) = Command::read(arguments) else {
+        drop(minds);
         return finish(alloc, Ended::Usage, out).status();
     };
-    perform(alloc, command, lobby, input, out).status()
+    perform(alloc, command, lobby, input, out, minds).status()
 }

@@ -1,5 +1,6 @@
 ghost use Rattle.std.specs.Prelude.{◌≡◌, ◌≤◌, ◌+◌, ◌⊎◌, ℕ, List, Ok, Err};
 ghost use Rattle.mc_wire.specs.Count.{Rose};
+ghost use Rattle.mc_model.specs.Minds.{Plans};
 ghost use Rattle.mc_words.specs.declared.bad_input.BadInput.{BadInput};
 ghost use Rattle.mc_words.specs.declared.bad_input.InputFault.TheVariants.{Long};
 ghost use Rattle.mc_words.specs.Lines.{HoldsByte, text_max};
@@ -29,8 +30,9 @@ pub fn ticks_of_a_script()
 /// lobby, where no input is read, and there the events that may come can be used up. It follows
 /// from what each command promises.
 pub fn good_inputs_are_served()
-    ensures { (command : Command) (how : Ended) (before after : Devices) →
-        Promises command how before after → IsFineInput (told_of command) before.left →
+    ensures { (plans : Plans) (command : Command) (how : Ended)
+        (before after : Devices) → Promises plans command how before after →
+        IsFineInput (told_of plans command) before.left →
         ¬ Rose before.read_faults after.read_faults →
         ¬ Rose before.write_faults after.write_faults →
         ¬ Rose before.counts.faults after.counts.faults →
@@ -40,8 +42,9 @@ pub fn good_inputs_are_served()
 /// An input that has a fault is refused, unless memory runs out or a device fails. It follows from
 /// what each command promises.
 pub fn bad_inputs_are_refused()
-    ensures { (command : Command) (how : Ended) (before after : Devices) (bad : BadInput) →
-        Promises command how before after → HasFault (told_of command) bad before.left →
+    ensures { (plans : Plans) (command : Command) (how : Ended)
+        (before after : Devices) (bad : BadInput) → Promises plans command how before after →
+        HasFault (told_of plans command) bad before.left →
         ¬ Rose before.read_faults after.read_faults →
         ¬ Rose before.write_faults after.write_faults → (status_of how ≡ 6) ⊎ (status_of how ≡ 1) }
 {}

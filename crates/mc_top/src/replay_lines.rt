@@ -11,7 +11,7 @@ ghost use Rattle.mc_top.specs.ReplayText.{settled, lines_after};
 ghost use Rattle.mc_top.specs.Replaying.{TakesFront, taken, sent_in, forgotten, shut_in, all_taken};
 ghost use Rattle.mc_top.specs.Replaying.{all_sent, all_forgotten, all_shut};
 
-use mc_server::Server;
+use mc_events::Server;
 use mc_wire::Sink;
 use mc_words::{HEX_PIECE, Unfinished, put, put_hex, write_out};
 use std::alloc::Global;

@@ -1,4 +1,4 @@
-ghost use Rattle.std.specs.Prelude.{◌≡◌, ℕ, IfOk, OnOk, IsErrOf, string_bytes, take};
+ghost use Rattle.std.specs.Prelude.{◌≡◌, ℕ, IfOk, OnOk, IsErrOf, map, string_bytes, take};
 ghost use Rattle.mc_wire.specs.Count.{Rose};
 ghost use Rattle.mc_wire.specs.Stream.{Grows};
 ghost use Rattle.mc_words.specs.Arguments.{CanServe};
@@ -8,6 +8,7 @@ ghost use Rattle.mc_top.specs.ServePromise.{tally_of};
 
 use crate::world::new_server;
 use mc_bytes::NoMemory;
+use mc_entities::Mind;
 use mc_server::{Budget, DriveFault, Tally, drive};
 use mc_wire::{Lobby, Sink, write_all};
 use mc_words::{Ended, ServeOptions, Unfinished};
@@ -74,29 +75,36 @@ fn put_summary<O: Sink>(
 
 /// The command `serve`: it tells the lobby the pace, serves it with a server of a new world, and
 /// sums that up.
-pub fn serve<L: Lobby, O: Sink>(
+pub fn serve<L: Lobby, O: Sink, M: Mind>(
     alloc: Global,
     options: ServeOptions,
     lobby: &mut L,
     out: &mut O,
+    minds: Vec<M>,
 ) -> Ended
     requires { CanServe options }
     ensures ends { EndsServing result }
     ensures done { result ≡ Ended.Done →
-        Summed options (L.told lobby.old) (L.told lobby.new) (O.held out.old) (O.held out.new) }
+        Summed (map (λ mind. M.plan mind) minds.items) options (L.told lobby.old) (L.told lobby.new)
+        (O.held out.old) (O.held out.new) }
     ensures no_memory { result ≡ Ended.NoMemory →
-        HasServedPart options (L.told lobby.old) (L.told lobby.new) × (out.new ≡ out.old) }
+        HasServedPart (map (λ mind. M.plan mind) minds.items) options
+        (L.told lobby.old) (L.told lobby.new) × (out.new ≡ out.old) }
     ensures write_fault { result ≡ Ended.WriteFault → Rose (O.faults out.old) (O.faults out.new)
-        × SummedPart options (L.told lobby.old) (L.told lobby.new) (O.held out.old)
-        (O.held out.new) }
+        × SummedPart (map (λ mind. M.plan mind) minds.items) options
+        (L.told lobby.old) (L.told lobby.new) (O.held out.old) (O.held out.new) }
     ensures net_fault { result ≡ Ended.NetFault →
         Rose (L.counts lobby.old).faults (L.counts lobby.new).faults
-        × HasLost options (L.told lobby.old) (L.told lobby.new) × (out.new ≡ out.old) }
+        × HasLost (map (λ mind. M.plan mind) minds.items) options
+        (L.told lobby.old) (L.told lobby.new) × (out.new ≡ out.old) }
     ensures budget { (n : ℕ) → result ≡ Ended.Budget n →
-        HasSpent options n (L.told lobby.old) (L.told lobby.new) × (out.new ≡ out.old) }
+        HasSpent (map (λ mind. M.plan mind) minds.items) options n
+        (L.told lobby.old) (L.told lobby.new) × (out.new ≡ out.old) }
 {
     lobby.pace(options.pace);
-    let mut server = new_server(alloc, options.world);
+    let Ok(mut server) = new_server(alloc, options.world, minds) else {
+        return Ended::NoMemory;
+    };
     let end = match drive(&mut server, lobby, budget_of(options)) {
         Ok(end) => end,
         Err(fault) => {

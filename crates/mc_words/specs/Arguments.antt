@@ -79,14 +79,19 @@ view_in arguments = number_or 6 2 8 (value_in (codes "view") arguments)
 unfoldable pub land_in : List (List ℕ) → Option Terrain
 land_in arguments = terrain_or Flat (value_in (codes "land") arguments)
 
-abbrev pub world_with : Option ℕ → Option ℕ → Option Terrain → Option WorldOptions
-world_with (Some players) (Some view) (Some terrain) =
-    Some (record { players = players; view = view; terrain = terrain })
-world_with players view terrain = None
+-- how many mobs there are at most
+unfoldable pub mobs_in : List (List ℕ) → Option ℕ
+mobs_in arguments = number_or 0 0 64 (value_in (codes "mobs") arguments)
+
+abbrev pub world_with : Option ℕ → Option ℕ → Option Terrain → Option ℕ → Option WorldOptions
+world_with (Some players) (Some view) (Some terrain) (Some mobs) =
+    Some (record { players = players; view = view; terrain = terrain; mobs = mobs })
+world_with players view terrain mobs = None
 
 -- the world as it begins
 abbrev pub world_in : List (List ℕ) → Option WorldOptions
-world_in arguments = world_with (players_in arguments) (view_in arguments) (land_in arguments)
+world_in arguments =
+    world_with (players_in arguments) (view_in arguments) (land_in arguments) (mobs_in arguments)
 
 -- the port to listen on
 unfoldable pub port_in : List (List ℕ) → Option ℕ
@@ -138,7 +143,7 @@ status_of arguments =
 
 abbrev pub replay_of : List (List ℕ) → Option Command
 replay_of arguments =
-    if are_options (codes "players" ∷ codes "view" ∷ codes "land" ∷ []) arguments
+    if are_options (codes "players" ∷ codes "view" ∷ codes "land" ∷ codes "mobs" ∷ []) arguments
     then option_map Replay (world_in arguments)
     else None
 
@@ -155,7 +160,7 @@ serve_with world port ticks events pace = None
 
 abbrev pub serve_names : List (List ℕ)
 serve_names = codes "port" ∷ codes "ticks" ∷ codes "players" ∷ codes "view" ∷ codes "land"
-    ∷ codes "events" ∷ codes "pace" ∷ codes "capture" ∷ []
+    ∷ codes "mobs" ∷ codes "events" ∷ codes "pace" ∷ codes "capture" ∷ []
 
 abbrev pub serve_of : List (List ℕ) → Option Command
 serve_of arguments =

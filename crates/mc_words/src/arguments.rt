@@ -3,7 +3,7 @@ ghost use Rattle.std.specs.Str.{bytes_eq};
 ghost use Rattle.std.specs.List.{list_any};
 ghost use Rattle.mc_words.specs.Arguments.{is_equals, name_of, value_of, value_in, are_options};
 ghost use Rattle.mc_words.specs.Arguments.{number_in, number_or, terrain_of, players_in, view_in};
-ghost use Rattle.mc_words.specs.Arguments.{land_in, world_in, port_in, tick_limit_in};
+ghost use Rattle.mc_words.specs.Arguments.{land_in, mobs_in, world_in, port_in, tick_limit_in};
 ghost use Rattle.mc_words.specs.Arguments.{event_limit_in};
 ghost use Rattle.mc_words.specs.Arguments.{pace_of, pace_in, takes_no_capture};
 ghost use Rattle.mc_words.specs.Arguments.{status_of, replay_of, serve_of, command_of, bytes_of};
@@ -21,6 +21,8 @@ pub struct WorldOptions {
     pub view: u32,
     /// What the world is made of.
     pub terrain: Terrain,
+    /// How many of the minds that are there move a mob of the world.
+    pub mobs: u32,
 }
 
 /// The options of `serve`.
@@ -167,6 +169,14 @@ fn land(arguments: &[String]) -> Option<Terrain>
     }
 }
 
+/// How many mobs there are at most.
+#[tactic(auto, unfolding(crate::specs::Arguments::mobs_in))]
+fn mobs(arguments: &[String]) -> Option<u32>
+    ensures { result ≡ mobs_in (bytes_of arguments.now) }
+{
+    number_or(0, 0, 64, value_in(b"mobs".as_slice(), arguments))
+}
+
 /// The options of a world.
 fn world(arguments: &[String]) -> Option<WorldOptions>
     ensures { result ≡ world_in (bytes_of arguments.now) }
@@ -175,6 +185,7 @@ fn world(arguments: &[String]) -> Option<WorldOptions>
         players: players(arguments)?,
         view: view(arguments)?,
         terrain: land(arguments)?,
+        mobs: mobs(arguments)?,
     })
 }
 
@@ -257,15 +268,15 @@ fn status(arguments: &[String]) -> Option<Command>
 fn replay(arguments: &[String]) -> Option<Command>
     ensures { result ≡ replay_of (bytes_of arguments.now) }
 {
-    if !are_options(&["players", "view", "land"], arguments) {
+    if !are_options(&["players", "view", "land", "mobs"], arguments) {
         return None;
     }
     Some(Command::Replay(world(arguments)?))
 }
 
 /// The names of the options of `serve`.
-const SERVE_NAMES: [&str; 8] = [
-    "port", "ticks", "players", "view", "land", "events", "pace", "capture",
+const SERVE_NAMES: [&str; 9] = [
+    "port", "ticks", "players", "view", "land", "mobs", "events", "pace", "capture",
 ];
 
 /// `serve`, with its options.

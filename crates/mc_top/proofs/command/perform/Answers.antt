@@ -26,10 +26,10 @@ returns g c = elim c.match-command.branch [
       rw (w.in-Replay.is, w.lobby-is, w.input-is) (
         (
           (refl, refl),
-          delivers (replay_told w.in-Replay.options) w.replay-ended.result c.finish.result
+          delivers (replay_told _) w.replay-ended.result c.finish.result
               _ _ _ _ _ _ _ _ _ _ said.delivered last,
         ),
-        plays_on w.in-Replay.options w.replay-ended.result c.finish.result _ _ _ _ _ said.plays
+        plays_on _ w.replay-ended.result c.finish.result _ _ _ _ _ said.plays
             last,
       )
   | in-Serve w ↦
@@ -37,7 +37,7 @@ returns g c = elim c.match-command.branch [
       let said = w.serve-ended.ensures in
       rw (w.in-Serve.is, w.lobby-is, w.input-is) (
         (refl, refl),
-        serve_kept _ g.O.Sink.held g.O.Sink.faults w.in-Serve.options w.serve-ended.result
+        serve_kept _ g.O.Sink.held g.O.Sink.faults _ w.in-Serve.options w.serve-ended.result
             c.finish.result _ _ _ _ _ _ c.args.out.now w.serve-ended.new.out c.finish.new.out
             (record {
               done = said.done;

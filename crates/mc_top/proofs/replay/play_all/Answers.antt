@@ -15,7 +15,7 @@ returns-in_err-play_line-clause-stopped g c w s =
     let stopped = c.in_err-play_line.ensures.stopped (replay_world w (events_of (take i es)))
     before.stands in
     let p = err_from_is_err_and c.from_residual.result c.from_residual.ensures.1 in
-    rw p.1 (lines_stopped es i c.event-item.result w c.loop-event.server _ _ _
+    rw p.1 (lines_stopped es i c.event-item.result w _ _ _ _
     c.loop-event-test.true c.event-item.is before stopped)
 
 pub loop-event-preserved : goal.loop-event-preserved
@@ -27,7 +27,7 @@ loop-event-preserved g c =
           let before = c.loop-event.invariant.played w s in
           let played = c.in_ok-play_line.ensures.played (replay_world w (events_of (take i es)))
           before.stands in
-          lines_played es i c.event-item.result w c.loop-event.server c.play_line.new.server _ _ _
+          lines_played es i c.event-item.result w _ _ _ _ _
           c.loop-event-test.true c.event-item.is before played;
       young =
           let left = ticks_left es i c.event-item.result c.loop-event-test.true c.event-item.is in
@@ -39,4 +39,4 @@ loop-event-preserved g c =
 
 pub returns-clause-played : goal.returns-clause-played
 returns-clause-played g c w s = lines_done c.args.events.now c.loop-event.event-index w
-    c.loop-event.server _ _ c.loop-event-test.false (c.loop-event.invariant.played w s)
+    _ _ _ c.loop-event-test.false (c.loop-event.invariant.played w s)

@@ -14,7 +14,7 @@ returns-in_err-play-clause-stopped g c w s =
     let stopped = c.in_err-play.ensures.stopped (replay_world w (replicate n ticked)) before.stands
     in
     let p = err_from_is_err_and c.from_residual.result c.from_residual.ensures.1 in
-    rw p.1 (ticks_stopped n c.args.count w c.loop-tick.server _ _ _ c.loop-tick-test.true
+    rw p.1 (ticks_stopped n c.args.count w _ _ _ _ c.loop-tick-test.true
     before stopped)
 
 pub loop-tick-preserved : goal.loop-tick-preserved
@@ -22,7 +22,7 @@ loop-tick-preserved g c = record {
   played = λ w s.
       let n = c.loop-tick._tick in
       let before = c.loop-tick.invariant.played w s in
-      ticks_played n w c.loop-tick.server c.play.new.server _ _ _ before
+      ticks_played n w _ _ _ _ _ before
       (c.in_ok-play.ensures.played (replay_world w (replicate n ticked)) before.stands);
   age =
       let more = c.in_ok-play.ensures.age in

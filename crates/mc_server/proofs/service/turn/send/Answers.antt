@@ -61,7 +61,8 @@ returns-in-Broken-clause-sent g c = λ w st.
     sent_broke c.args.k _ _ _ w c.sending.server c.event.new.self
     (c.sending.invariant.sending w st)
     (λ v stands. front_some front (owed_in c.args.k v) some (c.front-front.ensures.empty v stands))
-    c.in-Broken.ensures.tells c.in_ok-event-in-Broken.ensures.follows
+    c.in-Broken.ensures.tells
+    (λ v stands. c.in_ok-event-in-Broken.ensures.follows v stands (λ tick. absurd cc))
 
 pub returns-in-Broken-clause-logs : goal.returns-in-Broken-clause-logs
 returns-in-Broken-clause-logs g c =

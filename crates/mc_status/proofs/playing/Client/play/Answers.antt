@@ -10,7 +10,7 @@ returns-clause-played g c s has answered =
     let t = on_bytes 0 s c.args.piece.now in
     let taken = c.in_ok-take_owed.ensures.taken t.seat (record {
       world = (step has.world (came 0 c.args.piece.now)).world;
-      stands = c.in_ok-event.ensures.follows has.world has.stands;
+      stands = c.in_ok-event.ensures.follows has.world has.stands (λ tick. absurd cc);
       sits = (came_sits has.world s c.args.piece.now has.sits).0;
     }) in
     let owed : c.take_owed.new.owed.items ≡ bytes_of t.handed = taken.1
@@ -23,7 +23,7 @@ returns-clause-breaks g c s has answered =
     let t = on_bytes 0 s c.args.piece.now in
     let taken = c.in_ok-take_owed.ensures.taken t.seat (record {
       world = (step has.world (came 0 c.args.piece.now)).world;
-      stands = c.in_ok-event.ensures.follows has.world has.stands;
+      stands = c.in_ok-event.ensures.follows has.world has.stands (λ tick. absurd cc);
       sits = (came_sits has.world s c.args.piece.now has.sits).0;
     }) in
     let owed : c.take_owed.new.owed.items ≡ bytes_of t.handed = taken.1
