@@ -18,6 +18,9 @@ STATES = range(4096)
 # What tells a dropped item: its kind of object, and the entry of its metadata with a Slot (5) at
 # the index 10, behind which the metadata ends.
 DROPPED_ITEM = 2
+
+# The kind of a mob: a pig.
+MOB = 90
 ITEM_ENTRY = 5 << 5 | 10
 NO_MORE_ENTRIES = 0x7F
 
@@ -120,6 +123,15 @@ class SpawnPlayer(NamedTuple):
     yaw: int
     pitch: int
     held: int
+
+
+class SpawnMob(NamedTuple):
+    """A mob that comes into view, in 1/32 blocks; its head looks as it does."""
+
+    entity: int
+    place: tuple
+    yaw: int
+    pitch: int
 
 
 class Step(NamedTuple):
@@ -310,6 +322,17 @@ def read_spawn_player(reader):
     return spawn
 
 
+def read_spawn_mob(reader):
+    """Take the fields of Spawn Mob, which is of the one kind, without a speed or flags."""
+    entity, kind, place = reader.varint(), reader.number("B"), read_triple(reader, "i")
+    spawn = SpawnMob(entity, place, *read_look(reader))
+    head, speed = reader.number("B"), read_triple(reader, "h")
+    rest = reader.take(len(NO_FLAGS))
+    if (kind, head, speed, rest) != (MOB, spawn.yaw, (0, 0, 0), NO_FLAGS):
+        raise Malformed(f"{spawn} of the kind {kind} with the head {head} and the speed {speed}")
+    return spawn
+
+
 def read_look(reader):
     """Take a yaw and a pitch in 1/256 of a turn."""
     return reader.number("B"), reader.number("B")
@@ -427,6 +450,7 @@ PLAY = {
     0x08: read_place,
     0x0C: read_spawn_player,
     0x0E: read_spawn_item,
+    0x0F: read_spawn_mob,
     0x13: read_destroy,
     0x15: read_step,
     0x16: read_turn,

@@ -21,7 +21,8 @@ NO_STEP = (0, 0, 0)
 
 
 class Other(NamedTuple):
-    """Another player: who it is, its place in 1/32 blocks, how it looks, what is in its hand."""
+    """Another player: who it is, its place in 1/32 blocks, how it looks, what is in its hand. A mob
+    is nobody."""
 
     identifier: UUID
     place: tuple
@@ -69,6 +70,10 @@ class Others:
         self.seen[packet.entity] = Other(packet.identifier, packet.place, *look, None)
         self.head = HeadLook(packet.entity, packet.yaw)
         self.hand = (packet.entity, packet.held) if packet.held else None
+
+    def add_mob(self, packet):
+        """See a mob that was not seen before; nothing more comes of it."""
+        self.seen[packet.entity] = Other(None, packet.place, packet.yaw, packet.pitch, None)
 
     def set_head(self, packet):
         """Turn a head, which is due where its player came or its yaw changed, and only there."""

@@ -28,6 +28,7 @@ from clientbound import (
     PlayersLeft,
     SetSlot,
     SpawnItem,
+    SpawnMob,
     SpawnPlayer,
     SpawnPosition,
     Step,
@@ -114,8 +115,9 @@ class Replica:
 
     def unlisted(self):
         """Answer the numbers of those that are seen and in no line of the player list."""
+        listed = {None, *self.players}
         seen = self.others.seen.items()
-        return {number for number, other in seen if other.identifier not in self.players}
+        return {number for number, other in seen if other.identifier not in listed}
 
     def join(self, packet):
         """Begin; that comes once, before all else."""
@@ -204,6 +206,11 @@ class Replica:
         if packet.identifier not in self.players:
             raise Malformed(f"{packet} of nobody in the list")
         self.others.add(packet)
+
+    def add_mob(self, packet):
+        """See a mob, which is in no list."""
+        self.check_new(packet)
+        self.others.add_mob(packet)
 
     def change_other(self, packet):
         """Change how another player is seen, which is in a column that is there then."""
@@ -357,12 +364,13 @@ CHANGES = {
 
 # What a tick sends from the unload of a column on, up to the move of who stood there; and from the
 # leaving of a player on, up to the end of its entity.
-LEADING_TO_MOVES = {Chunk, Change, MultiChange, SpawnItem, ItemIs, SpawnPlayer, *CHANGES}
+LEADING_TO_MOVES = {Chunk, Change, MultiChange, SpawnItem, ItemIs, SpawnPlayer, SpawnMob, *CHANGES}
 LEADING_TO_DESTROYS = {PlayersLeft, PlayersCame, Destroy}
 
 FOLDS = {
     **dict.fromkeys(CHANGES, Replica.change_other),
     SpawnPlayer: Replica.add_other,
+    SpawnMob: Replica.add_mob,
     JoinGame: Replica.join,
     SpawnPosition: Replica.set_compass,
     Place: Replica.set_place,

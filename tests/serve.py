@@ -19,6 +19,7 @@ import endings
 import faults
 import floods
 import launcher
+import mobs
 import play
 import refusing
 import running
@@ -30,7 +31,7 @@ import windows
 
 TESTS = [*play.TESTS, *talking.TESTS, *digging.TESTS, *carrying.TESTS, *faults.TESTS]
 TESTS += [*refusing.TESTS, *seeing.TESTS, *crowds.TESTS, *endings.TESTS, *system.TESTS]
-TESTS += [*floods.TESTS, *running.TESTS, *windows.TESTS]
+TESTS += [*floods.TESTS, *running.TESTS, *windows.TESTS, *mobs.TESTS]
 LONG_TESTS = [*silence.LONG_TESTS, *talking.LONG_TESTS, *system.LONG_TESTS]
 
 # What runs beside the others, and how many of that at a time: more than are long.

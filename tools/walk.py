@@ -7,8 +7,10 @@ What is there was made with the seed 47.
 
 Three clients move and look about by chance, mostly near each other: small steps, steps at the edge
 of what a step can tell and past it, jumps, out of view and back, turns with and without a step, and
-several of these between two ticks. By a reading of its own of docs/WORLD.md, 'Entities', it counts
-the packets that tell each client of the others.
+several of these between two ticks. Three mobs go by plans of legs, one of them to the lowest place
+and against it, one to and fro over the edge of what is seen, and one until its plan is spent. By a
+reading of its own of docs/WORLD.md, 'Entities' and 'Mobs', it counts the packets that tell each
+client of the others.
 """
 
 import random
@@ -30,6 +32,14 @@ VIEW = 2
 STEPS = range(-128, 128)
 EDGES = -129, -128, -127, 0, 126, 127, 128
 
+# The plans of the mobs: legs of so many moves alike. A mob begins two blocks east of the one before.
+PLANS = (
+    [(20, (0, -128, 0)), (300, (1, -1, 1)), (40, (0, 127, -3)), (400, (-2, 0, 1))],
+    [leg for _ in range(60) for leg in ((25, (64, 0, 0)), (25, (-64, 0, 0)))],
+    [(9, (0, 0, 0)), (150, (-3, 2, -5)), (1, (-128, 127, -128)), (30, (10, 0, 127))],
+)
+BETWEEN_MOBS = 64
+
 # How often a client does what, in parts of the whole.
 SORTS = {"small": 34, "edge": 25, "look": 16, "both": 19, "jump": 1, "leave": 1, "meet": 1}
 
@@ -40,17 +50,23 @@ class Walk:
     def __init__(self, seed):
         self.chance = random.Random(seed)
         self.now = {client: (ENTRY, (0, 0)) for client in CLIENTS}
+        # Where each mob is, and the moves that it is still to make, the next one last.
+        self.mobs = [[ENTRY[0] + BETWEEN_MOBS * at, *ENTRY[1:]] for at in range(len(PLANS))]
+        self.plans = [[move for count, move in plan for _ in range(count)][::-1] for plan in PLANS]
         # Where each client was told at the last tick that the others are that it sees.
         self.told = {client: {} for client in CLIENTS}
         self.counts = Counter()
 
     def rows(self, moves):
-        """Yield the rows: so many moves, and about a tick for every four, with one at the end."""
+        """Yield the rows: the plans of the mobs, so many moves, and about a tick for every four, with
+        where the mobs are then, and one at the end."""
+        for plan in PLANS:
+            yield spelled(*[(count, *move) for count, move in plan])
         for number in range(1, moves + 1):
             yield self.move()
             if number == moves or self.chance.random() < 1 / MOVES_A_TICK:
                 self.tick()
-                yield "tick"
+                yield f"tick {spelled(*self.mobs)}"
 
     def move(self):
         """Let one of the clients do something; answer its row."""
@@ -122,20 +138,25 @@ class Walk:
     def tick(self):
         """Count what tells each client of the others at a tick."""
         self.counts["ticks"] += 1
+        for mob, plan in enumerate(self.plans):
+            self.mobs[mob] = moved(self.mobs[mob], plan.pop() if plan else (0, 0, 0))
         for client in CLIENTS:
             told, now = self.told[client], {}
+            for mob, place in enumerate(self.mobs):
+                if are_near(self.now[client][0], place):
+                    now["mob", mob] = tuple(place), (0, 0)
             for other in CLIENTS:
                 if other != client and are_near(self.now[client][0], self.now[other][0]):
                     now[other] = self.now[other]
             self.counts["ends"] += len(told.keys() - now.keys())
             for other, spot in now.items():
-                self.count(told.get(other), spot)
+                self.count(told.get(other), spot, other in CLIENTS)
             self.told[client] = now
 
-    def count(self, old, new):
+    def count(self, old, new, is_client):
         """Count what tells of one that was seen at a spot, or not, and is at another now."""
         if old is None:
-            self.counts.update(("spawns", "heads"))
+            self.counts.update(("spawns", "heads") if is_client else ("spawns",))
             return
         ways = [now - before for now, before in zip(new[0], old[0])]
         if any(way not in STEPS for way in ways):
@@ -156,6 +177,12 @@ class Walk:
             f"{counts['turned']} steps with a look, {counts['looks']} looks, "
             f"{counts['jumps']} jumps, {counts['heads']} heads"
         )
+
+
+def moved(place, way):
+    """Move a mob, but where that would leave the last places."""
+    there = [part + step for part, step in zip(place, way)]
+    return there if there == list(held(there)) else place
 
 
 def held(place):

@@ -6,6 +6,7 @@
 
 use crate::frames::put_frames;
 use crate::lobbies::{lobby_in, put_log};
+use crate::minds::Counted;
 use mc_rows::{Answer, Shown, Words, text_of};
 use mc_top::run;
 use mc_wire::{MemoryLobby, MemorySink, MemorySource};
@@ -59,29 +60,45 @@ fn job_of(alloc: Global, row: &str) -> Option<Job> {
 
 /// Runs the program with the arguments of a row over its text.
 pub fn run_steady(words: &mut Words<'_>, answer: &mut Answer) {
+    let minds = Vec::new(words.alloc);
+    run_with(minds, words, answer);
+}
+
+/// Runs the program with these minds and the arguments of a row over its text.
+pub fn run_with(minds: Vec<Counted>, words: &mut Words<'_>, answer: &mut Answer) {
     let none = Vec::new(words.alloc);
     let none_either = Vec::new(words.alloc);
-    run_over(none, none_either, words, answer);
+    run_over(minds, none, none_either, words, answer);
 }
 
 /// Runs the program with the arguments of a row over its text, with devices that fail.
 pub fn run_failing(words: &mut Words<'_>, answer: &mut Answer) {
     let reads = numbers(words, answer);
     let writes = numbers(words, answer);
-    run_over(reads, writes, words, answer);
+    let minds = Vec::new(words.alloc);
+    run_over(minds, reads, writes, words, answer);
 }
 
 /// Runs what is left of a row over a lobby without events, with devices whose calls of these
 /// numbers fail.
-fn run_over(reads: Vec<u64>, writes: Vec<u64>, words: &mut Words<'_>, answer: &mut Answer) {
+fn run_over(
+    minds: Vec<Counted>,
+    reads: Vec<u64>,
+    writes: Vec<u64>,
+    words: &mut Words<'_>,
+    answer: &mut Answer,
+) {
     let job = job_of(words.alloc, words.rest());
     let lobby = MemoryLobby::new(words.alloc, Vec::new(words.alloc), Vec::new(words.alloc));
     match job.zip(lobby) {
         Some((job, mut lobby)) => {
-            run_job(job, &mut lobby, reads, writes, answer);
+            run_job(job, &mut lobby, minds, reads, writes, answer);
             drop(lobby);
         }
-        None => words.fail(),
+        None => {
+            drop(minds);
+            words.fail();
+        }
     }
 }
 
@@ -94,7 +111,9 @@ pub fn run_lobby(words: &mut Words<'_>, answer: &mut Answer) {
         Some((arguments, mut lobby)) => {
             let text = Vec::new(words.alloc);
             let reads = Vec::new(words.alloc);
-            run_job(Job { arguments, text }, &mut lobby, reads, writes, answer);
+            let minds = Vec::new(words.alloc);
+            let job = Job { arguments, text };
+            run_job(job, &mut lobby, minds, reads, writes, answer);
             put_log(lobby.log(), answer);
             drop(lobby);
         }
@@ -106,6 +125,7 @@ pub fn run_lobby(words: &mut Words<'_>, answer: &mut Answer) {
 fn run_job(
     job: Job,
     lobby: &mut MemoryLobby,
+    minds: Vec<Counted>,
     reads: Vec<u64>,
     writes: Vec<u64>,
     answer: &mut Answer,
@@ -114,7 +134,7 @@ fn run_job(
     let alloc = answer.alloc();
     let mut source = MemorySource::new(text, reads);
     let mut sink = MemorySink::new(alloc, writes);
-    answer.word(run(alloc, &arguments, lobby, &mut source, &mut sink));
+    answer.word(run(alloc, &arguments, lobby, &mut source, &mut sink, minds));
     put_output(sink.held(), answer);
     drop(sink);
     drop(source);

@@ -8,6 +8,7 @@ ghost use Rattle.mc_events.specs.Served.{age_of};
 
 use crate::frames::put_frames;
 use crate::lobbies::{lobby_in, put_log};
+use crate::minds::Counted;
 use crate::servers::new_server;
 use crate::terrains::terrain_in;
 use crate::untold::Untold;
@@ -17,12 +18,13 @@ use mc_wire::{Lobby, LogEntry, MemoryLobby};
 use std::alloc::Global;
 
 /// The server of the next words.
-fn server_in(words: &mut Words<'_>) -> Option<Server>
-    ensures { IfSome result (λ server. age_of server ≡ 0) }
+fn server_in(words: &mut Words<'_>) -> Option<Server<Counted>>
+    ensures { IfSome result (λ server. age_of server.inner ≡ 0) }
 {
     let players = words.number();
     let cap = words.number();
-    new_server(words.alloc, players, cap, terrain_in(words))
+    let minds = Vec::new(words.alloc);
+    new_server(words.alloc, players, cap, terrain_in(words), minds)
 }
 
 /// The budget of the next words.
@@ -37,7 +39,7 @@ fn budget_in(words: &mut Words<'_>) -> Budget {
 /// A new server, the lobby that it is to serve, and how long.
 #[derive(Drop)]
 struct Service {
-    server: Server,
+    server: Server<Counted>,
     lobby: MemoryLobby,
     budget: Budget,
 }
@@ -45,7 +47,7 @@ struct Service {
 /// The service of the next words. That there is no lobby is answered; no server makes the row a bad
 /// one.
 fn service_in(words: &mut Words<'_>, answer: &mut Answer) -> Option<Service>
-    ensures { IfSome result (λ service. age_of service.server ≡ 0) }
+    ensures { IfSome result (λ service. age_of service.server.inner ≡ 0) }
 {
     let server = server_in(words);
     let budget = budget_in(words);
@@ -65,13 +67,13 @@ fn service_in(words: &mut Words<'_>, answer: &mut Answer) -> Option<Service>
 
 /// Serves a lobby, where the budget is one; else the row is a bad one.
 fn serve<L: Lobby>(
-    server: &mut Server,
+    server: &mut Server<Counted>,
     lobby: &mut L,
     budget: Budget,
     words: &mut Words<'_>,
     answer: &mut Answer,
 )
-    requires { age_of server.old ≡ 0 }
+    requires { age_of server.old.inner ≡ 0 }
 {
     let is_one = 0 < budget.port && 0 < budget.events;
     if is_one && 0 < budget.ticks && budget.ticks <= 1_000_000_000 {
@@ -176,7 +178,7 @@ pub fn untold(words: &mut Words<'_>, answer: &mut Answer) {
 }
 
 /// Puts which connections are left.
-fn put_left(server: &Server, answer: &mut Answer) {
+fn put_left(server: &Server<Counted>, answer: &mut Answer) {
     answer.comma();
     answer.word("left");
     for k in server.connections() {

@@ -293,7 +293,7 @@ fn encode<L: Ledger>(
     }
     let mut encoded = Encoded::new(alloc);
     encoded.add_players(alloc, scene.guests.list())?;
-    encoded.add_moves(alloc, &scene.folk)?;
+    encoded.add_entities(alloc, &scene.folk)?;
     encoded.add_lines(alloc, scene.lines.as_slice())?;
     for place in view.all() {
         encoded.add_load(alloc, &scene.land, &place, steps)?;

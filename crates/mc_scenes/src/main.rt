@@ -14,6 +14,7 @@ mod guests;
 mod lists;
 mod loads;
 mod lobbies;
+mod minds;
 mod mixes;
 mod pieces;
 mod scripts;
@@ -34,6 +35,7 @@ use std::io::{BufWriter, Write};
 enum Call {
     Run,
     Failing,
+    Minds,
     Lobby,
     Mixes,
     Script,
@@ -55,9 +57,10 @@ enum Call {
 }
 
 /// The calls by their words.
-const CALLS: [(&str, Call); 20] = [
+const CALLS: [(&str, Call); 21] = [
     ("run", Call::Run),
     ("failing", Call::Failing),
+    ("minds", Call::Minds),
     ("lobby", Call::Lobby),
     ("mixes", Call::Mixes),
     ("script", Call::Script),
@@ -85,10 +88,11 @@ fn call_of(name: &str) -> Option<Call> {
 
 /// Answers a call.
 fn answer_call(call: Call, words: &mut Words<'_>, answer: &mut Answer) {
-    // Dear to prove, for an arm for each of twenty calls.
+    // Dear to prove, for an arm for each of 21 calls.
     match call {
         Call::Run => commands::run_steady(words, answer),
         Call::Failing => commands::run_failing(words, answer),
+        Call::Minds => minds::minds(words, answer),
         Call::Lobby => commands::run_lobby(words, answer),
         Call::Mixes => mixes::mixes(words, answer),
         Call::Script => scripts::script(words, answer),

@@ -4,6 +4,7 @@
 //! first and then the second or the other way round, as the last byte of a name has its client
 //! told; and how many tell anything else.
 
+use mc_entities::Planned;
 use mc_rows::{Answer, Words};
 use mc_top::run;
 use mc_wire::{MemorySink, MemorySource, SteadyLobby};
@@ -68,10 +69,11 @@ fn replayed(alloc: Global, script: String) -> Option<Vec<u8>> {
     // Dear to prove, for exits with a lobby, a source and a sink that are owned.
     let mut line = Vec::new(alloc);
     line.push(String::from_str(alloc, "replay").ok()?).ok()?;
+    let minds: Vec<Planned> = Vec::new(alloc);
     let mut lobby = SteadyLobby::new(alloc, Vec::new(alloc))?;
     let mut source = MemorySource::new(script.into_bytes(), Vec::new(alloc));
     let mut sink = MemorySink::new(alloc, Vec::new(alloc));
-    let _status = run(alloc, &line, &mut lobby, &mut source, &mut sink);
+    let _status = run(alloc, &line, &mut lobby, &mut source, &mut sink, minds);
     Vec::from_slice(alloc, sink.held()?).ok()
 }
 

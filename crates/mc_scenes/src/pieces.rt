@@ -3,6 +3,7 @@
 //! come to a server for each size, and a tick, takes what is owed in pieces of that size, and
 //! answers how many bytes that are and whether they are those of the first.
 
+use crate::minds::Counted;
 use crate::servers::{new_server, taken, ticks};
 use mc_bytes::NoMemory;
 use mc_land::Terrain;
@@ -11,8 +12,8 @@ use mc_server::{Input, Server};
 use std::alloc::Global;
 
 /// A server of flat land for two players, whose first connection says these two pieces.
-fn told(alloc: Global, front: &[u8], rest: &[u8]) -> Option<Server> {
-    let mut server = new_server(alloc, 2, 6, Terrain::Flat)?;
+fn told(alloc: Global, front: &[u8], rest: &[u8]) -> Option<Server<Counted>> {
+    let mut server = new_server(alloc, 2, 6, Terrain::Flat, Vec::new(alloc))?;
     if say(&mut server, front, rest).is_err() {
         drop(server);
         return None;
@@ -21,7 +22,7 @@ fn told(alloc: Global, front: &[u8], rest: &[u8]) -> Option<Server> {
 }
 
 /// The first connection joins, and says these two pieces.
-fn say(server: &mut Server, front: &[u8], rest: &[u8]) -> Result<(), NoMemory> {
+fn say(server: &mut Server<Counted>, front: &[u8], rest: &[u8]) -> Result<(), NoMemory> {
     server.event(Input::Join(0))?;
     server.event(Input::Bytes(0, front))?;
     server.event(Input::Bytes(0, rest))
@@ -68,7 +69,7 @@ fn owed_of_tick(alloc: Global, request_of: &[u8], size: usize) -> Option<Vec<u8>
 }
 
 /// A tick comes, and what is owed then is taken so many bytes at a time.
-fn ticked(alloc: Global, server: &mut Server, size: usize) -> Result<Vec<u8>, NoMemory> {
+fn ticked(alloc: Global, server: &mut Server<Counted>, size: usize) -> Result<Vec<u8>, NoMemory> {
     ticks(server, 1)?;
     taken(alloc, server, 0, size)
 }

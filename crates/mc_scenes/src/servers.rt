@@ -4,6 +4,7 @@ ghost use Rattle.std.specs.Prelude.{◌≡◌, IfSome};
 ghost use Rattle.mc_events.specs.Served.{age_of};
 
 use crate::frames::put_frames;
+use crate::minds::Counted;
 use crate::terrains::terrain_in;
 use mc_bytes::NoMemory;
 use mc_land::Terrain;
@@ -56,9 +57,16 @@ fn call_of(name: &str) -> Option<Call> {
     look_up(&CALLS, name)
 }
 
-/// A new server, with at most 50 players and a view of 2 to 8. None where the numbers are not such.
-pub fn new_server(alloc: Global, players: u32, cap: u8, terrain: Terrain) -> Option<Server>
-    ensures { IfSome result (λ server. age_of server ≡ 0) }
+/// A new server with these minds, at most 50 players and a view of 2 to 8. None where the numbers are
+/// not such, or there is no memory.
+pub fn new_server(
+    alloc: Global,
+    players: u32,
+    cap: u8,
+    terrain: Terrain,
+    minds: Vec<Counted>,
+) -> Option<Server<Counted>>
+    ensures { IfSome result (λ server. age_of server.inner ≡ 0) }
 {
     if players < 1 || players > 50 || cap < 2 || cap > 8 {
         return None;
@@ -68,14 +76,20 @@ pub fn new_server(alloc: Global, players: u32, cap: u8, terrain: Terrain) -> Opt
         cap,
         terrain,
     };
-    Some(Server::new(alloc, settings))
+    Server::new(alloc, settings, minds).ok()
 }
 
-/// Answers the steps of a new server.
+/// Answers the steps of a new server without mobs.
 pub fn server(words: &mut Words<'_>, answer: &mut Answer) {
+    let minds = Vec::new(words.alloc);
+    serve(minds, words, answer);
+}
+
+/// Answers the steps of a new server with these minds.
+pub fn serve(minds: Vec<Counted>, words: &mut Words<'_>, answer: &mut Answer) {
     let players = words.number();
     let cap = words.number();
-    match new_server(words.alloc, players, cap, terrain_in(words)) {
+    match new_server(words.alloc, players, cap, terrain_in(words), minds) {
         Some(mut server) => {
             steps(&mut server, words, answer);
             drop(server);
@@ -85,7 +99,7 @@ pub fn server(words: &mut Words<'_>, answer: &mut Answer) {
 }
 
 /// Answers the steps of a server.
-fn steps(server: &mut Server, words: &mut Words<'_>, answer: &mut Answer) {
+fn steps(server: &mut Server<Counted>, words: &mut Words<'_>, answer: &mut Answer) {
     for _ in 0..200 {
         if words.is_more() {
             step(server, words, answer);
@@ -94,7 +108,7 @@ fn steps(server: &mut Server, words: &mut Words<'_>, answer: &mut Answer) {
 }
 
 /// Answers a step.
-fn step(server: &mut Server, words: &mut Words<'_>, answer: &mut Answer) {
+fn step(server: &mut Server<Counted>, words: &mut Words<'_>, answer: &mut Answer) {
     match call_of(words.word()) {
         Some(call) => answer_call(call, server, words, answer),
         None => words.fail(),
@@ -102,7 +116,12 @@ fn step(server: &mut Server, words: &mut Words<'_>, answer: &mut Answer) {
 }
 
 /// Answers a call.
-fn answer_call(call: Call, server: &mut Server, words: &mut Words<'_>, answer: &mut Answer) {
+fn answer_call(
+    call: Call,
+    server: &mut Server<Counted>,
+    words: &mut Words<'_>,
+    answer: &mut Answer,
+) {
     // Dear to prove, for fourteen arms over a server that is lent.
     match call {
         Call::Join => answer.needs(server.event(Input::Join(words.number()))),
@@ -134,7 +153,7 @@ const LOGIN: &[u8] = b"\x0f\x00\x2f\x09localhost\x63\xdd\x02\x0c\x00\x0a";
 
 /// So many connections, from a number on, join one after another, log in under names of their own
 /// (`N` and nine digits of the number) and go.
-fn crowd(words: &mut Words<'_>, server: &mut Server) -> Result<(), NoMemory> {
+fn crowd(words: &mut Words<'_>, server: &mut Server<Counted>) -> Result<(), NoMemory> {
     let first = words.number::<u32>();
     for i in 0..words.number::<u32>() {
         come_and_go(words.alloc, server, first.saturating_add(i))?;
@@ -143,7 +162,7 @@ fn crowd(words: &mut Words<'_>, server: &mut Server) -> Result<(), NoMemory> {
 }
 
 /// A connection joins, logs in and goes.
-fn come_and_go(alloc: Global, server: &mut Server, k: u32) -> Result<(), NoMemory> {
+fn come_and_go(alloc: Global, server: &mut Server<Counted>, k: u32) -> Result<(), NoMemory> {
     let login = login_of(alloc, k)?;
     server.event(Input::Join(k))?;
     server.event(Input::Bytes(k, &login))?;
@@ -165,14 +184,14 @@ fn login_of(alloc: Global, k: u32) -> Result<Vec<u8>, NoMemory> {
 }
 
 /// Bytes of a connection come.
-fn bytes(server: &mut Server, words: &mut Words<'_>, answer: &mut Answer) {
+fn bytes(server: &mut Server<Counted>, words: &mut Words<'_>, answer: &mut Answer) {
     let k = words.number();
     let bytes = words.bytes();
     answer.needs(server.event(Input::Bytes(k, &bytes)));
 }
 
 /// So many ticks come.
-pub fn ticks(server: &mut Server, count: u32) -> Result<(), NoMemory> {
+pub fn ticks(server: &mut Server<Counted>, count: u32) -> Result<(), NoMemory> {
     for _ in 0..count {
         if server.age() >= 1_000_000_000 {
             return Err(NoMemory);
@@ -183,7 +202,7 @@ pub fn ticks(server: &mut Server, count: u32) -> Result<(), NoMemory> {
 }
 
 /// Puts why a connection was closed.
-fn put_cause(server: &Server, k: u32, answer: &mut Answer) {
+fn put_cause(server: &Server<Counted>, k: u32, answer: &mut Answer) {
     answer.comma();
     match server.cause(k) {
         Some(cause) => answer.name(*cause),
@@ -192,7 +211,7 @@ fn put_cause(server: &Server, k: u32, answer: &mut Answer) {
 }
 
 /// Puts the numbers of the connections.
-fn put_all(server: &Server, answer: &mut Answer) {
+fn put_all(server: &Server<Counted>, answer: &mut Answer) {
     answer.comma();
     answer.word("all");
     for k in server.connections() {
@@ -201,7 +220,12 @@ fn put_all(server: &Server, answer: &mut Answer) {
 }
 
 /// Takes what a connection is owed, at most so many bytes at a time.
-pub fn taken(alloc: Global, server: &mut Server, k: u32, most: usize) -> Result<Vec<u8>, NoMemory> {
+pub fn taken(
+    alloc: Global,
+    server: &mut Server<Counted>,
+    k: u32,
+    most: usize,
+) -> Result<Vec<u8>, NoMemory> {
     let mut all = Vec::new(alloc);
     for _ in 0..100_000_000u32 {
         let front = server.front(k);
@@ -217,7 +241,7 @@ pub fn taken(alloc: Global, server: &mut Server, k: u32, most: usize) -> Result<
 
 /// Takes what a connection is owed, at most so many bytes at a time, and puts it, or how many bytes
 /// it has.
-fn put_owed(server: &mut Server, words: &mut Words<'_>, answer: &mut Answer) {
+fn put_owed(server: &mut Server<Counted>, words: &mut Words<'_>, answer: &mut Answer) {
     let k = words.number();
     answer.comma();
     match taken(words.alloc, server, k, words.number()) {
@@ -231,7 +255,7 @@ fn put_owed(server: &mut Server, words: &mut Words<'_>, answer: &mut Answer) {
 }
 
 /// Takes what a connection is owed, and puts its frames.
-fn put_told(server: &mut Server, words: &mut Words<'_>, answer: &mut Answer) {
+fn put_told(server: &mut Server<Counted>, words: &mut Words<'_>, answer: &mut Answer) {
     let k = words.number();
     answer.comma();
     match taken(words.alloc, server, k, usize::MAX) {
@@ -242,7 +266,7 @@ fn put_told(server: &mut Server, words: &mut Words<'_>, answer: &mut Answer) {
 }
 
 /// A connection takes the first bytes of what it is owed next, at most so many.
-fn took(server: &mut Server, k: u32, most: usize) {
+fn took(server: &mut Server<Counted>, k: u32, most: usize) {
     let count = server.front(k).len().min(most);
     server.took(k, count);
 }

@@ -5,6 +5,7 @@ use crate::land::Land;
 use crate::tally::{Tally, count};
 use crate::trader::{Trader, log_in};
 use mc_bytes::NoMemory;
+use mc_entities::Planned;
 use mc_fields::Cell;
 use mc_land::Terrain;
 use mc_rows::Words;
@@ -21,7 +22,7 @@ const KIT: [(i16, u32); 4] = [(1, 64), (3, 64), (5, 64), (54, 4)];
 #[derive(Drop)]
 pub struct Trade {
     alloc: Global,
-    server: Server,
+    server: Server<Planned>,
     traders: Vec<Trader>,
     /// How many connections there were, and which clients ever came.
     connections: u32,
@@ -33,17 +34,17 @@ pub struct Trade {
 }
 
 /// A new server for the clients, on flat land and with the smallest view.
-fn new_server(alloc: Global) -> Server {
+fn new_server(alloc: Global) -> Result<Server<Planned>, NoMemory> {
     let settings = Settings {
         players: CLIENTS,
         cap: 2,
         terrain: Terrain::Flat,
     };
-    Server::new(alloc, settings)
+    Server::new(alloc, settings, Vec::new(alloc))
 }
 
 /// A tick comes.
-fn tick(server: &mut Server) -> Result<(), NoMemory> {
+fn tick(server: &mut Server<Planned>) -> Result<(), NoMemory> {
     if server.age() >= 1_000_000_000 {
         return Err(NoMemory);
     }
@@ -67,7 +68,7 @@ impl Trade {
         let land = Land::new(alloc)?;
         Ok(Trade {
             alloc,
-            server: new_server(alloc),
+            server: new_server(alloc)?,
             traders: Vec::new(alloc),
             connections: 0,
             names: Vec::new(alloc),

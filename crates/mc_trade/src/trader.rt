@@ -10,6 +10,7 @@ use crate::pile::pile_in;
 use crate::tally::{Tally, count};
 use mc_bytes::NoMemory;
 use mc_down::read_down;
+use mc_entities::Planned;
 use mc_frame::{Splitter, Take};
 use mc_packets::Down;
 use mc_rows::{Words, look_up};
@@ -77,7 +78,7 @@ pub struct Trader {
 /// Connects under a number, and logs in under the name of a client from 0 to 9.
 pub fn log_in(
     alloc: Global,
-    server: &mut Server,
+    server: &mut Server<Planned>,
     client: u32,
     number: u32,
 ) -> Result<(), NoMemory> {
@@ -109,7 +110,7 @@ impl Trader {
     }
 
     /// Leaves.
-    pub fn leave(&self, server: &mut Server) -> Result<(), NoMemory> {
+    pub fn leave(&self, server: &mut Server<Planned>) -> Result<(), NoMemory> {
         server.event(Input::Gone(self.number))
     }
 
@@ -164,14 +165,14 @@ impl Trader {
     }
 
     /// Does what the next words say.
-    pub fn act(&self, server: &mut Server, words: &mut Words<'_>) -> Result<(), NoMemory> {
+    pub fn act(&self, server: &mut Server<Planned>, words: &mut Words<'_>) -> Result<(), NoMemory> {
         let mut packet = Vec::new(self.alloc);
         put_act(words, &mut packet)?;
         self.say(server, &packet)
     }
 
     /// Says a packet, which is shorter than 128 bytes.
-    fn say(&self, server: &mut Server, packet: &[u8]) -> Result<(), NoMemory> {
+    fn say(&self, server: &mut Server<Planned>, packet: &[u8]) -> Result<(), NoMemory> {
         let mut said = Vec::new(self.alloc);
         said.push(u8::try_from(packet.len()).unwrap_or(0))?;
         said.extend_from_slice(packet)?;
@@ -179,7 +180,7 @@ impl Trader {
     }
 
     /// Reads all that it is owed, and answers a beat.
-    pub fn read(&mut self, server: &mut Server, tally: &mut Tally) -> Result<(), Fault> {
+    pub fn read(&mut self, server: &mut Server<Planned>, tally: &mut Tally) -> Result<(), Fault> {
         for _ in 0..MOST {
             let count = self.splitter.feed(server.front(self.number))?;
             if count == 0 {
@@ -192,7 +193,7 @@ impl Trader {
     }
 
     /// Answers a beat, where one came.
-    fn answer(&mut self, server: &mut Server) -> Result<(), Fault> {
+    fn answer(&mut self, server: &mut Server<Planned>) -> Result<(), Fault> {
         if self.owes {
             server.event(Input::Bytes(self.number, BEAT))?;
         }

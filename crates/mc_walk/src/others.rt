@@ -27,16 +27,18 @@ struct Way {
 /// The others that a client sees.
 #[derive(Drop)]
 pub struct Others {
-    /// The client's number, which is its own entity's too.
+    /// The client's number, and its own entity's.
     client: u32,
+    eid: i32,
     told: Vec<Told>,
 }
 
 impl Others {
     /// None.
-    pub fn new(alloc: Global, client: u32) -> Others {
+    pub fn new(alloc: Global, client: u32, eid: i32) -> Others {
         Others {
             client,
+            eid,
             told: Vec::new(alloc),
         }
     }
@@ -65,12 +67,12 @@ impl Others {
         }
     }
 
-    /// Another comes.
-    fn spawn(&mut self, eid: i32, spot: Spot) -> Result<(), Fault> {
-        if i64::from(eid) == i64::from(self.client) || self.find(eid).is_some() {
+    /// Another comes, with a head that looks so.
+    fn spawn(&mut self, eid: i32, spot: Spot, head: u8) -> Result<(), Fault> {
+        if eid == self.eid || self.find(eid).is_some() {
             return Err(Fault::Spawn(self.client, eid));
         }
-        self.add(Told { eid, spot, head: 0 })?;
+        self.add(Told { eid, spot, head })?;
         Ok(())
     }
 
@@ -150,9 +152,29 @@ impl Others {
                 ..
             } => {
                 count(&mut tally.spawns);
-                self.spawn(*eid, spot_at(*x, *y, *z, *yaw, *pitch))
+                self.spawn(*eid, spot_at(*x, *y, *z, *yaw, *pitch), 0)
             }
             Down::Destroy(eids) => self.end_all(eids.as_slice(), tally),
+            _ => self.tell_mob(packet, tally),
+        }
+    }
+
+    /// Takes a packet into account, where it tells that a mob comes, or of others.
+    fn tell_mob(&mut self, packet: &Down, tally: &mut Tally) -> Result<(), Fault> {
+        match packet {
+            Down::SpawnMob {
+                eid,
+                x,
+                y,
+                z,
+                yaw,
+                pitch,
+                head,
+                ..
+            } => {
+                count(&mut tally.spawns);
+                self.spawn(*eid, spot_at(*x, *y, *z, *yaw, *pitch), *head)
+            }
             _ => self.tell_move(packet, tally),
         }
     }

@@ -2,9 +2,12 @@
 
 use crate::acts::{act_of, spot_in};
 use crate::fault::Fault;
+use crate::mobs::{MOBS, spot_in as mob_spot_in};
 use crate::tally::{Tally, count};
 use crate::walker::Walker;
 use mc_bytes::NoMemory;
+use mc_entities::Planned;
+use mc_fields::Spot;
 use mc_land::Terrain;
 use mc_rows::Words;
 use mc_server::{Input, Server, Settings};
@@ -17,23 +20,23 @@ const CLIENTS: u32 = 3;
 #[derive(Drop)]
 pub struct Walk {
     alloc: Global,
-    server: Server,
+    server: Server<Planned>,
     walkers: Vec<Walker>,
     tally: Tally,
 }
 
-/// A new server for the clients, on flat land and with the smallest view.
-fn new_server(alloc: Global) -> Server {
+/// A new server for the clients with these minds, on flat land and with the smallest view.
+fn new_server(alloc: Global, minds: Vec<Planned>) -> Result<Server<Planned>, NoMemory> {
     let settings = Settings {
         players: CLIENTS,
         cap: 2,
         terrain: Terrain::Flat,
     };
-    Server::new(alloc, settings)
+    Server::new(alloc, settings, minds)
 }
 
 /// Clients that stand where players enter, before the first tick.
-fn new_walkers(alloc: Global, server: &mut Server) -> Result<Vec<Walker>, NoMemory> {
+fn new_walkers(alloc: Global, server: &mut Server<Planned>) -> Result<Vec<Walker>, NoMemory> {
     let mut walkers = Vec::new(alloc);
     for number in 1..CLIENTS + 1 {
         walkers.push(Walker::new(alloc, server, number)?)?;
@@ -42,7 +45,7 @@ fn new_walkers(alloc: Global, server: &mut Server) -> Result<Vec<Walker>, NoMemo
 }
 
 /// A tick comes.
-fn tick(server: &mut Server) -> Result<(), NoMemory> {
+fn tick(server: &mut Server<Planned>) -> Result<(), NoMemory> {
     if server.age() >= 1_000_000_000 {
         return Err(NoMemory);
     }
@@ -50,9 +53,9 @@ fn tick(server: &mut Server) -> Result<(), NoMemory> {
 }
 
 impl Walk {
-    /// A walk that begins.
-    pub fn new(alloc: Global) -> Result<Walk, Fault> {
-        let mut server = new_server(alloc);
+    /// A walk that begins, with a mob for each of these minds.
+    pub fn new(alloc: Global, minds: Vec<Planned>) -> Result<Walk, Fault> {
+        let mut server = new_server(alloc, minds)?;
         match new_walkers(alloc, &mut server) {
             Ok(walkers) => Ok(Walk {
                 alloc,
@@ -72,18 +75,20 @@ impl Walk {
         self.tally
     }
 
-    /// Plays a row: `tick`, or a client's number and what it does.
+    /// Plays a row: `tick` and where each mob is to be then, or a client's number and what it does.
     pub fn play(&mut self, row: &str) -> Result<(), Fault> {
-        if row == "tick" {
-            return self.tick();
-        }
         let mut words = Words::new(self.alloc, row);
-        let number = words.number();
-        self.act(number, &mut words)?;
+        if words.is_next("tick") {
+            self.tick()?;
+            self.compare_mobs(&mut words)?;
+        } else {
+            let number = words.number();
+            self.act(number, &mut words)?;
+            count(&mut self.tally.acts);
+        }
         if words.are_bad() {
             return Err(Fault::Row);
         }
-        count(&mut self.tally.acts);
         Ok(())
     }
 
@@ -115,6 +120,22 @@ impl Walk {
     fn compare_all(&self) -> Result<(), Fault> {
         for walker in self.walkers.iter() {
             self.compare(walker)?;
+        }
+        Ok(())
+    }
+
+    /// Compares what each client was told with where the next words say that each mob is.
+    fn compare_mobs(&self, words: &mut Words<'_>) -> Result<(), Fault> {
+        for eid in 1..MOBS as i32 + 1 {
+            self.compare_mob(eid, &mob_spot_in(words))?;
+        }
+        Ok(())
+    }
+
+    /// Compares what each client was told with where a mob is.
+    fn compare_mob(&self, eid: i32, spot: &Spot) -> Result<(), Fault> {
+        for walker in self.walkers.iter() {
+            walker.compare(eid, spot)?;
         }
         Ok(())
     }

@@ -2,10 +2,12 @@
 
 use crate::acts::Act;
 use crate::fault::Fault;
+use crate::mobs::MOBS;
 use crate::others::Others;
 use crate::tally::Tally;
 use mc_bytes::NoMemory;
 use mc_down::read_down;
+use mc_entities::Planned;
 use mc_fields::{Spot, degrees, pattern, write_u8, write_u32, write_u64};
 use mc_frame::{Splitter, Take};
 use mc_packets::Down;
@@ -35,7 +37,7 @@ const MOST: u32 = 100_000;
 #[derive(Drop)]
 pub struct Walker {
     alloc: Global,
-    /// The number of its connection, and of its entity, which is the same.
+    /// The number of its connection, and that of its entity, which has those of the mobs before it.
     pub number: u32,
     pub eid: i32,
     /// Where it said last that it is, and how it looks.
@@ -50,18 +52,23 @@ pub struct Walker {
 
 impl Walker {
     /// A client that connects and logs in. It is the first of this number, from 1 to 9.
-    pub fn new(alloc: Global, server: &mut Server, number: u32) -> Result<Walker, NoMemory> {
+    pub fn new(
+        alloc: Global,
+        server: &mut Server<Planned>,
+        number: u32,
+    ) -> Result<Walker, NoMemory> {
         let mut login = Vec::new(alloc);
         login.extend_from_slice(LOGIN)?;
         login.push(b'0' + (number % 10) as u8)?;
         server.event(Input::Join(number))?;
         server.event(Input::Bytes(number, &login))?;
+        let eid = i32::try_from(MOBS.saturating_add(number)).unwrap_or(0);
         Ok(Walker {
             alloc,
             number,
-            eid: i32::try_from(number).unwrap_or(0),
+            eid,
             spot: ENTRY,
-            others: Others::new(alloc, number),
+            others: Others::new(alloc, number, eid),
             splitter: Splitter::new(alloc),
             is_in: false,
             owes: false,
@@ -69,7 +76,12 @@ impl Walker {
     }
 
     /// Moves or looks about, and says so.
-    pub fn go(&mut self, server: &mut Server, act: Act, spot: Spot) -> Result<(), NoMemory> {
+    pub fn go(
+        &mut self,
+        server: &mut Server<Planned>,
+        act: Act,
+        spot: Spot,
+    ) -> Result<(), NoMemory> {
         let mut said = Vec::new(self.alloc);
         put_act(act, &spot, &mut said)?;
         self.spot = spot;
@@ -77,7 +89,7 @@ impl Walker {
     }
 
     /// Reads all that it is owed, and answers a beat.
-    pub fn read(&mut self, server: &mut Server, tally: &mut Tally) -> Result<(), Fault> {
+    pub fn read(&mut self, server: &mut Server<Planned>, tally: &mut Tally) -> Result<(), Fault> {
         for _ in 0..MOST {
             let count = self.splitter.feed(server.front(self.number))?;
             if count == 0 {
@@ -90,7 +102,7 @@ impl Walker {
     }
 
     /// Answers a beat, where one came.
-    fn answer(&mut self, server: &mut Server) -> Result<(), Fault> {
+    fn answer(&mut self, server: &mut Server<Planned>) -> Result<(), Fault> {
         if self.owes {
             server.event(Input::Bytes(self.number, BEAT))?;
         }

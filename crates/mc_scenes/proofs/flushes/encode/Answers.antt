@@ -14,7 +14,7 @@ loop-place-init g c =
     record {
       ready = search rules;
       frames = c.add_lines.ensures.frames land c.args.scene.now.guests
-          (c.add_moves.ensures.frames land c.args.scene.now.guests players);
+          (c.add_entities.ensures.frames land c.args.scene.now.guests players);
     }
 
 pub add_load-requires : goal.add_load-requires
