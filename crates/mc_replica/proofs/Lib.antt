@@ -1,0 +1,5 @@
+pub mod ChunkFaults
+pub mod PlayerRows
+pub mod Records
+pub mod Rows
+pub mod Spots

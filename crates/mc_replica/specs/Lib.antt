@@ -1,0 +1,9 @@
+pub mod Blocks
+pub mod Cells
+pub mod Changes
+pub mod Faults
+pub mod KeptPlayers
+pub mod KeptRows
+pub mod KeptSlots
+pub mod Places
+pub mod Slots
