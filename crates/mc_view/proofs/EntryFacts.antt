@@ -1,7 +1,7 @@
 -- What a search among entries of rising numbers finds, and what an edit there makes of their pairs.
 use Rattle.std.proofs.Common.{◌≡◌, ℕ, zero, suc, ◌<◌, ◌≤◌, Bool, true, false, ◌&&◌, T, List, []}
-use Rattle.std.proofs.Common.{◌∷◌, length, get_or, Result, IfOk, IfErr}
-use Rattle.std.proofs.Common.{ap, ◌∙◌, arith, ◌⊎◌}
+use Rattle.std.proofs.Common.{◌∷◌, ◌-◌, length, get_or, Result, IfOk, IfErr}
+use Rattle.std.proofs.Common.{ap, sym, ◌∙◌, arith, ◌⊎◌, inl, inr}
 use Rattle.std.proofs.lemmas.Bool.Decides.{nat_tests}
 use Rattle.std.specs.List.Sorted.{IsSearchInRange, IsBinarySearchResult, IsNonDecreasingBy}
 use Rattle.std.specs.declared.cmp.Ordering.{Ordering}
@@ -13,7 +13,8 @@ use lib.IntN.{ℤ}
 use Rattle.mc_fields.specs.declared.position.Spot.{Spot}
 use Rattle.mc_slots.specs.declared.pile.Pile.{Pile}
 use Rattle.mc_view.specs.declared.tracker.Entry.{Entry}
-use Rattle.mc_view.specs.KeptTold.{IsAt, IsGap, IsRising, pairs_of}
+use Rattle.mc_view.specs.KeptTold.{IsAbove, IsAt, IsBelow, IsGap, IsRising}
+use Rattle.mc_view.specs.KeptTold.{pairs_of}
 
 abbrev pub Pair : Type 0
 Pair = ℤ × (Spot × Pile)
@@ -80,3 +81,34 @@ pub searched : (es : List Entry) (eid : ℤ) (r : Result ℕ ℕ) →
     IsRising es → IsSearchInRange r (length es) →
     IsBinarySearchResult (λ e. int_cmp e.eid eid) es r → IsSearched es eid r
 searched es eid r rising within is = grind (arith, nat_tests, int_ranked, searchable es eid rising)
+
+-- ---- a gap by the two numbers beside it
+
+less_than : (a b c : ℤ) → int_cmp a b ≡ Less → int_cmp b c ≡ Less → int_cmp a c ≡ Less
+less_than a b c below_b below_c = grind (arith, nat_tests)
+
+more_than : (a b c : ℤ) → int_cmp a c ≡ Greater → int_cmp a b ≡ Less → int_cmp b c ≡ Greater
+more_than a b c above_c below_b = grind (arith, nat_tests)
+
+module _ (es : List Entry) (eid : ℤ) (i : ℕ) (r : IsRising es) (within : i ≤ length es)
+    (before : IsAbove es eid i) (after : IsBelow es eid i) where
+  all_before : (j : ℕ) (d : Entry) → j < i → (j < i - 1) ⊎ (j ≡ i - 1) →
+      int_cmp (get_or es j d).eid eid ≡ Less
+  all_before j d lt (inl less) = less_than (get_or es j d).eid (get_or es (i - 1) d).eid eid
+      (rising_at es r j (i - 1) d less (omega (arith, lt, within))) (before d (omega (arith, lt)))
+  all_before j d lt (inr is) =
+      ap (λ (k : ℕ). int_cmp (get_or es k d).eid eid) is ∙ before d (omega (arith, lt))
+
+  all_after : (j : ℕ) (d : Entry) → j < length es → (i < j) ⊎ (i ≡ j) →
+      int_cmp (get_or es j d).eid eid ≡ Greater
+  all_after j d lt (inl less) = more_than (get_or es i d).eid (get_or es j d).eid eid
+      (after d (omega (arith, less, lt))) (rising_at es r i j d less lt)
+  all_after j d lt (inr is) =
+      ap (λ (k : ℕ). int_cmp (get_or es k d).eid eid) (sym is) ∙ after d (omega (arith, is, lt))
+
+  pub gap_between : IsGap es eid i
+  gap_between = record {
+    within = within;
+    lower = λ j d lt. all_before j d lt (cases_le j (i - 1) (omega (arith, lt)));
+    higher = λ j d le lt. all_after j d lt (cases_le i j le);
+  }

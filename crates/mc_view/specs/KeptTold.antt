@@ -1,6 +1,6 @@
 -- How a tracker keeps what a client was told: a list of entries whose numbers rise. Where a number
 -- stands in it, or would go.
-use Rattle.std.specs.Prelude.{◌≡◌, ℕ, ◌<◌, ◌≤◌, List, map, length, slice_index_or, T}
+use Rattle.std.specs.Prelude.{◌≡◌, ℕ, ◌-◌, ◌<◌, ◌≤◌, List, map, length, slice_index_or, T}
 use Rattle.std.specs.declared.cmp.Ordering.TheVariants.{Less, Greater}
 use Rattle.std.specs.Ordering.{int_cmp}
 use Rattle.std.specs.FinMap.{is_sorted, from_sorted}
@@ -33,3 +33,12 @@ pub record IsGap (entries : List Entry) (eid : ℤ) (i : ℕ) : Type 0 where
   pub lower : (j : ℕ) (d : Entry) → j < i → int_cmp (slice_index_or entries j d).eid eid ≡ Less
   pub higher : (j : ℕ) (d : Entry) → i ≤ j → j < length entries →
       int_cmp (slice_index_or entries j d).eid eid ≡ Greater
+
+-- the number before a place is lower, and that at it is higher, where there is one
+abbrev pub IsAbove : List Entry → ℤ → ℕ → Type 0
+IsAbove entries eid i = (d : Entry) → 0 < i →
+    int_cmp (slice_index_or entries (i - 1) d).eid eid ≡ Less
+
+abbrev pub IsBelow : List Entry → ℤ → ℕ → Type 0
+IsBelow entries eid i = (d : Entry) → i < length entries →
+    int_cmp (slice_index_or entries i d).eid eid ≡ Greater

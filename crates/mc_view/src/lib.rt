@@ -10,6 +10,7 @@
 mod around;
 mod columns;
 mod forms;
+mod looks;
 mod spots;
 mod square;
 mod tracker;
@@ -18,6 +19,7 @@ mod view_set;
 pub use around::{column_of_spot, view_size};
 pub use columns::Columns;
 pub use forms::{Form, Moves};
+pub use looks::Looks;
 pub use spots::form;
 pub use tracker::Tracker;
 pub use view_set::{MIDDLE_BORDER, ViewSet};

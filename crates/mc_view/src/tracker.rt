@@ -1,10 +1,14 @@
-ghost use Rattle.std.specs.Prelude.{◌≡◌, ◌<◌, ◌↔◌, IfOk, IfErr, IfSome, IsFalse, OnOk, OnErr};
-ghost use Rattle.std.specs.Prelude.{true, false, slice_get};
+ghost use Rattle.std.specs.Prelude.{◌≡◌, ◌<◌, ◌≤◌, ◌↔◌, ◌++◌, ◌∷◌, [], IfOk, IfErr, IfSome};
+ghost use Rattle.std.specs.Prelude.{IsTrue, IsFalse, OnOk, OnErr, true, false, length, not};
+ghost use Rattle.std.specs.Prelude.{slice_get};
+ghost use Rattle.std.specs.List.{filter};
+ghost use lib.IntN.{ℤ};
 ghost use Rattle.std.specs.FinMap as map;
 ghost use Rattle.mc_view.specs.Forms.{moves_of};
-ghost use Rattle.mc_view.specs.KeptTold.{IsAt, IsGap, IsRising, told_of};
+ghost use Rattle.mc_view.specs.KeptTold.{IsAbove, IsAt, IsBelow, IsGap, IsRising, told_of};
 
 use crate::forms::Moves;
+use crate::looks::Looks;
 use crate::spots::form;
 use mc_bytes::NoMemory;
 use mc_fields::Spot;
@@ -14,10 +18,10 @@ use std::marker::Model;
 
 /// What a client was told of one entity.
 #[derive(Clone, Copy)]
-struct Entry {
-    eid: i32,
-    spot: Spot,
-    pile: Pile,
+pub(crate) struct Entry {
+    pub(crate) eid: i32,
+    pub(crate) spot: Spot,
+    pub(crate) pile: Pile,
 }
 
 /// What one client was told of entities: where each is and looks, and the pile that it holds or is.
@@ -52,6 +56,15 @@ impl Tracker {
         }
     }
 
+    /// Knows nobody, and has memory for as many as this one knows.
+    pub fn anew(&self) -> Result<Tracker, NoMemory>
+        ensures { IfOk result (λ tracker. tracker ≡ map.empty) }
+    {
+        Ok(Tracker {
+            entries: Vec::with_capacity(*self.entries.allocator(), self.entries.len())?,
+        })
+    }
+
     /// Whether the client was told of an entity.
     pub fn knows(&self, eid: i32) -> bool
         ensures { result ≡ map.contains_key self.now eid }
@@ -83,30 +96,44 @@ impl Tracker {
         Ok(())
     }
 
-    /// Keeps where an entity is and looks now and the pile that it holds or is, and answers what
-    /// was kept of it before; None where it was not known. It looks for the entity once. Out of
-    /// memory, the tracker is as before.
-    pub fn tell(
-        &mut self,
-        eid: i32,
-        spot: Spot,
-        pile: Pile,
-    ) -> Result<Option<(Spot, Pile)>, NoMemory>
-        ensures was { IfOk result (λ was. was ≡ map.get self.old eid) }
+    /// Keeps what the client is told of an entity, in the place of what was kept of it. Where its
+    /// number is above all others it is put at the end, with no search. Out of memory, the tracker
+    /// is as before.
+    pub fn put(&mut self, eid: i32, spot: Spot, pile: Pile) -> Result<(), NoMemory>
         ensures ok { OnOk result (self.new ≡ map.insert self.old eid (spot, pile)) }
         ensures err { OnErr result (self.new ≡ self.old) }
     {
-        match place_of(self.entries.as_slice(), eid) {
+        match place_near(self.entries.as_slice(), self.entries.len(), eid) {
             Ok(at) => {
-                let was = (self.entries[at].spot, self.entries[at].pile);
                 self.entries[at] = Entry { eid, spot, pile };
-                Ok(Some(was))
+                Ok(())
             }
             Err(at) => {
                 self.entries.insert(at, Entry { eid, spot, pile })?;
-                Ok(None)
+                Ok(())
             }
         }
+    }
+
+    /// Looks at what was told, of which the next is best that of a higher number.
+    pub fn looks(&self) -> Looks<'_>
+        ensures { result ≡ self.now }
+    {
+        Looks::new(self.entries.as_slice())
+    }
+
+    /// The numbers of those that this tracker knows and another does not. Each of the two is gone
+    /// through once.
+    pub fn lost(&self, alloc: Global, now: &Tracker) -> Result<Vec<i32>, NoMemory>
+        ensures { IfOk result (λ eids. eids.items
+            ≡ filter (λ (eid : ℤ). not (map.contains_key now.now eid)) (map.keys self.now)) }
+    {
+        let mut looks = now.looks();
+        let mut lost = Vec::new(alloc);
+        for entry in &self.entries {
+            push_unknown(entry, &mut looks, &mut lost)?;
+        }
+        Ok(lost)
     }
 
     /// How the client is told that a known entity is and looks there now. Keeps that. It compares
@@ -160,6 +187,69 @@ fn place_of(entries: &[Entry], eid: i32) -> Result<usize, usize>
     ensures absent { IfErr result (IsGap entries.now eid) }
 {
     entries.binary_search_by_key(&eid, |entry| entry.eid)
+}
+
+/// Whether the number before a place is lower, if there is one.
+fn is_above(entries: &[Entry], at: usize, eid: i32) -> bool
+    requires within { at ≤ length entries.now }
+    ensures { IsTrue result → IsAbove entries.now eid at }
+{
+    if at == 0 {
+        return true;
+    }
+    entries[at - 1].eid < eid
+}
+
+/// Whether the number at a place is higher, if there is one.
+fn is_below(entries: &[Entry], at: usize, eid: i32) -> bool
+    requires within { at ≤ length entries.now }
+    ensures { IsTrue result → IsBelow entries.now eid at }
+{
+    if at == entries.len() {
+        return true;
+    }
+    entries[at].eid > eid
+}
+
+/// Whether a number would go there.
+fn is_gap(entries: &[Entry], at: usize, eid: i32) -> bool
+    requires rising { IsRising entries.now }
+    requires within { at ≤ length entries.now }
+    ensures { IsTrue result → IsGap entries.now eid at }
+{
+    if !is_above(entries, at, eid) {
+        return false;
+    }
+    is_below(entries, at, eid)
+}
+
+/// Where a number stands, or else where it would go; that is looked for at one place first.
+pub(crate) fn place_near(entries: &[Entry], near: usize, eid: i32) -> Result<usize, usize>
+    requires rising { IsRising entries.now }
+    ensures found { IfOk result (IsAt entries.now eid) }
+    ensures absent { IfErr result (IsGap entries.now eid) }
+{
+    if near < entries.len() && entries[near].eid == eid {
+        return Ok(near);
+    }
+    if near <= entries.len() && is_gap(entries, near, eid) {
+        return Err(near);
+    }
+    place_of(entries, eid)
+}
+
+/// Puts the number of an entry at the end, unless it is known there.
+fn push_unknown(entry: &Entry, looks: &mut Looks<'_>, eids: &mut Vec<i32>) -> Result<(), NoMemory>
+    ensures same { looks.new ≡ looks.old }
+    ensures put { OnOk result (eids.new.items ≡ eids.old.items
+        ++ filter (λ (k : ℤ). not (map.contains_key looks.old k)) (entry.now.eid ∷ [])) }
+{
+    let eid = entry.eid;
+    if looks.find(eid).is_some() {
+        return Ok(());
+    }
+    eids.push(eid)?;
+    Ok(())
 }
 
 /// Where a number that is known stands.

@@ -1,14 +1,11 @@
-use Rattle.std.proofs.Common.{rules, ◌≡◌, FitsSigned, w32, to_z, of_z, subst, ap, sym, List, Some}
-use Rattle.std.proofs.Common.{◌∙◌, get_or}
+use Rattle.std.proofs.Common.{rules, FitsSigned, w32, to_z, of_z, subst, ap, List, ◌∙◌}
 use Rattle.std.proofs.lemmas.Int.{to_z-of_z}
-use Rattle.std.proofs.lemmas.List.{get_or_default}
 use Rattle.std.specs.FinMap as map
 use lib.IntN.{ℤ}
 use Rattle.mc_view.specs.declared.tracker.Entry.{Entry}
 use Rattle.mc_view.specs.KeptTold.{IsAt, IsGap, told_of}
-use Rattle.mc_view.proofs.TrackerFacts.{got_at, got_gap, rises_insert, rises_set, told_insert}
-use Rattle.mc_view.proofs.TrackerFacts.{told_set}
-use Rattle.mc_view.proofs.tracker.Tracker.tell.Goals as goal
+use Rattle.mc_view.proofs.TrackerFacts.{rises_insert, rises_set, told_insert, told_set}
+use Rattle.mc_view.proofs.tracker.Tracker.put.Goals as goal
 
 pub invariant_of-self : goal.invariant_of-self
 invariant_of-self c =
@@ -29,23 +26,6 @@ invariant_of-self-in-Err c =
     rw c.in_ok-insert-in-Err.ensures.items
     (rises_insert c.self.inside.entries.items c.in-Err.at new c.self.invariant gap)
 
-pub returns-in-Ok-clause-was : goal.returns-in-Ok-clause-was
-returns-in-Ok-clause-was c =
-    let fits : FitsSigned w32 c.args.eid = search rules in
-    let es = c.self.inside.entries.items in
-    let at = c.in-Ok.at in
-    let was = c.index.result.now in
-    let is =
-    subst (λ (es : List Entry). IsAt es c.args.eid at) c.as_slice.ensures.value
-    (subst (λ (k : ℤ). IsAt c.as_slice.result.now k at) (to_z-of_z w32 c.args.eid fits)
-    c.in-Ok.ensures.found) in
-    let again : c.index-in-Ok.result.now ≡ get_or es at was =
-    c.index-in-Ok.ensures ∙ get_or_default es at c.index-in-Ok.result.now was is.within in
-    rw (← c.self.view_is)
-    (ap (λ (e : Entry). Some (e.spot, c.index-in-Ok.result.now.pile)) c.index.ensures
-    ∙ ap (λ (e : Entry). Some ((get_or es at was).spot, e.pile)) again
-    ∙ sym (got_at es c.args.eid at was c.self.invariant is))
-
 pub returns-in-Ok-clause-ok : goal.returns-in-Ok-clause-ok
 returns-in-Ok-clause-ok c =
     let fits : FitsSigned w32 c.args.eid = search rules in
@@ -59,16 +39,6 @@ returns-in-Ok-clause-ok c =
     (told_set es c.in-Ok.at new c.self.invariant is
     ∙ ap (λ (k : ℤ). map.insert (told_of es) k (c.args.spot, c.args.pile))
     (to_z-of_z w32 c.args.eid fits))
-
-pub returns-in_ok-insert-in-Err-clause-was : goal.returns-in_ok-insert-in-Err-clause-was
-returns-in_ok-insert-in-Err-clause-was c =
-    let fits : FitsSigned w32 c.args.eid = search rules in
-    let gap =
-    subst (λ (es : List Entry). IsGap es c.args.eid c.in-Err.at) c.as_slice.ensures.value
-    (subst (λ (k : ℤ). IsGap c.as_slice.result.now k c.in-Err.at) (to_z-of_z w32 c.args.eid fits)
-    c.in-Err.ensures.absent) in
-    rw (← c.self.view_is)
-    (sym (got_gap c.self.inside.entries.items c.args.eid c.in-Err.at c.self.invariant gap))
 
 pub returns-in_ok-insert-in-Err-clause-ok : goal.returns-in_ok-insert-in-Err-clause-ok
 returns-in_ok-insert-in-Err-clause-ok c =
