@@ -3,7 +3,7 @@
 use Rattle.std.specs.Prelude.{ℕ, not, List, map, Option, Some, option_map, Bool}
 use Rattle.std.specs.List.{filter, flat_map, fold}
 use Rattle.std.specs.Ordering.{int_cmp}
-use Rattle.std.specs.FinMap.{FinMap, contains_key, from_entries, get, insert, keys, remove}
+use Rattle.std.specs.FinMap.{FinMap, contains_key, from_entries, get, insert, keys}
 use lib.IntN.{ℤ, pos}
 use Rattle.mc_fields.specs.declared.position.Spot.{Spot}
 use Rattle.mc_slots.specs.declared.slot.Slot.{Slot}
@@ -100,15 +100,6 @@ with_row told row = insert told row.eid (row.spot, row.pile)
 
 abbrev pub with_rows : Told → List Row → Told
 with_rows told rows = fold with_row told rows
-
--- without these
-abbrev pub without_all : Told → List ℤ → Told
-without_all told eids = fold (λ (m : Told) (eid : ℤ). remove m eid) told eids
-
--- those of some numbers that are not shown
-abbrev pub gone_among : List ℤ → List Entity → ViewSet → List ℤ
-gone_among eids entities view =
-    filter (λ (eid : ℤ). not (contains_key (shown_now entities view) eid)) eids
 
 -- a row as it is shown, and its packets to a client that was told of some
 abbrev pub seen_row : Row → ℤ × Seen

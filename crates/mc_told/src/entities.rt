@@ -1,22 +1,22 @@
 //! What a client is told of all entities at a tick.
 
-ghost use Rattle.std.specs.Prelude.{◌≡◌, ◌≤◌, ◌++◌, ◌∷◌, [], IfOk, OnOk, length};
+ghost use Rattle.std.specs.Prelude.{◌≡◌, ◌≤◌, ◌++◌, ◌∷◌, [], IfOk, OnErr, OnOk, length, not};
 ghost use Rattle.std.specs.Int.{w32};
-ghost use Rattle.std.specs.List.{AllByRecursion};
+ghost use Rattle.std.specs.List.{AllByRecursion, filter};
 ghost use Rattle.std.specs.FinMap as map;
-ghost use lib.IntN.{pos};
+ghost use lib.IntN.{ℤ, pos};
 ghost use mir.Val.{SFits};
 ghost use Rattle.mc_packets.specs.declared.down.Down.TheVariants as down;
 ghost use Rattle.mc_entities.specs.Kinds.{IsKind};
 ghost use Rattle.mc_entities.specs.Numbers.{Rise};
 ghost use Rattle.mc_entities.specs.Folk.{eid_of};
-ghost use Rattle.mc_entities.specs.Kept.{AreKinds, Rises};
+ghost use Rattle.mc_entities.specs.Kept.{AreKinds};
 ghost use Rattle.mc_model.specs.Delta.{destroying};
 ghost use Rattle.mc_model.specs.Sight.{others};
 ghost use Rattle.mc_told.specs.EntityFrames.{AreEncoded};
 ghost use Rattle.mc_sending.specs.Sending.{play_bytes};
-ghost use Rattle.mc_told.specs.Telling.{entity_frames, gone_from, shown_now, gone_among, rows_in};
-ghost use Rattle.mc_told.specs.Telling.{rows_packets, told_now, with_rows, without_all};
+ghost use Rattle.mc_told.specs.Telling.{entity_frames, gone_from, rows_in, rows_packets, told_now};
+ghost use Rattle.mc_told.specs.Telling.{with_rows};
 
 use crate::EncodedEntities;
 use crate::known::put_row;
@@ -27,7 +27,7 @@ use mc_entities::{Entity, Folk};
 use mc_model::DESTROYED_MAX;
 use mc_packets::{Down, Varints};
 use mc_sending::put_made;
-use mc_view::{Tracker, ViewSet};
+use mc_view::{Looks, Tracker, ViewSet};
 use std::alloc::Global;
 
 /// What one client is shown of the entities.
@@ -41,61 +41,6 @@ pub struct EntityView<'w> {
     pub me: i32,
     /// The columns that the client is shown.
     pub view: ViewSet,
-}
-
-/// Whether a client is shown the entity of a number.
-fn is_shown(view: &EntityView<'_>, eid: &i32) -> bool
-    requires { Rise eid_of (pos 0) view.now.folk.now.state.entities
-        (pos view.now.folk.now.state.given) }
-    ensures { result ≡ map.contains_key (shown_now
-        (others view.now.me view.now.folk.now.state.entities) view.now.view) eid.now }
-{
-    if *eid == view.me {
-        return false;
-    }
-    match view.folk.get(*eid) {
-        Some(entity) => is_in(&view.view, entity),
-        None => false,
-    }
-}
-
-/// Puts a number at the end, unless the client is shown its entity.
-fn push_gone(view: &EntityView<'_>, eid: i32, gone: &mut Vec<i32>) -> Result<(), NoMemory>
-    requires { Rise eid_of (pos 0) view.now.folk.now.state.entities
-        (pos view.now.folk.now.state.given) }
-    ensures { OnOk result (gone.new.items ≡ gone.old.items ++ gone_among (eid ∷ [])
-        (others view.now.me view.now.folk.now.state.entities) view.now.view) }
-{
-    if is_shown(view, &eid) {
-        return Ok(());
-    }
-    gone.push(eid)?;
-    Ok(())
-}
-
-/// The numbers of those that a client was told of and that it is to be shown no more.
-fn gone_from(alloc: Global, view: &EntityView<'_>, told: &Tracker) -> Result<Vec<i32>, NoMemory>
-    requires { Rise eid_of (pos 0) view.now.folk.now.state.entities
-        (pos view.now.folk.now.state.given) }
-    ensures { IfOk result (λ gone. gone.items ≡ gone_from told.now
-        (others view.now.me view.now.folk.now.state.entities) view.now.view) }
-{
-    let mut gone = Vec::new(alloc);
-    let mut i = 0;
-    while let Some(eid) = told.known(i) {
-        push_gone(view, eid, &mut gone)?;
-        i += 1;
-    }
-    Ok(gone)
-}
-
-/// Forgets entities.
-fn forget(eids: &[i32], told: &mut Tracker)
-    ensures { told.new ≡ without_all told.old eids.now }
-{
-    for eid in eids {
-        told.lose(*eid);
-    }
 }
 
 /// Numbers as a packet holds them.
@@ -142,19 +87,21 @@ fn destroy_piece(alloc: Global, gone: &[i32]) -> Result<Bytes, NoMemory>
     Ok(Bytes::from_vec(bytes)?)
 }
 
-/// Appends what a client is to be told of an entity, and keeps that: nothing of its own, and of one
-/// that is not in its view.
+/// Appends what a client that was told something of entities is to be told of one, and keeps that:
+/// nothing of its own, and of one that is not in its view.
 fn put_entity(
     view: &EntityView<'_>,
     entity: &Entity,
-    told: &mut Tracker,
+    told: &mut Looks<'_>,
+    now: &mut Tracker,
     out: &mut Vec<u8>,
 ) -> Result<(), NoMemory>
     requires kind { IsKind entity.now.kind }
     requires frames { AreEncoded view.now.encoded.now }
+    ensures same { OnOk result (told.new ≡ told.old) }
     ensures sent { OnOk result (out.new.items ≡ out.old.items ++ play_bytes (rows_packets told.old
         (rows_in view.now.view (others view.now.me (entity.now ∷ []))))) }
-    ensures told { OnOk result (told.new ≡ with_rows told.old
+    ensures now { OnOk result (now.new ≡ with_rows now.old
         (rows_in view.now.view (others view.now.me (entity.now ∷ [])))) }
 {
     if entity.eid == view.me {
@@ -163,53 +110,65 @@ fn put_entity(
     if !is_in(&view.view, entity) {
         return Ok(());
     }
-    put_row(view.encoded, &entity_row(entity), told, out)?;
+    put_row(view.encoded, &entity_row(entity), told, now, out)?;
     Ok(())
 }
 
-/// Appends what a client is to be told of entities, and keeps that.
+/// Appends what a client that was told something of entities is to be told of these, and keeps
+/// that. What it was told is gone through beside them, by rising number.
 fn put_entities(
     view: &EntityView<'_>,
     entities: &[Entity],
-    told: &mut Tracker,
+    told: &Tracker,
+    now: &mut Tracker,
     out: &mut Vec<u8>,
 ) -> Result<(), NoMemory>
     requires kinds { AreKinds entities.now }
-    requires rise { Rises eid_of entities.now }
     requires frames { AreEncoded view.now.encoded.now }
-    ensures sent { OnOk result (out.new.items ≡ out.old.items ++ play_bytes (rows_packets told.old
+    ensures sent { OnOk result (out.new.items ≡ out.old.items ++ play_bytes (rows_packets told.now
         (rows_in view.now.view (others view.now.me entities.now)))) }
-    ensures told { OnOk result (told.new ≡ with_rows told.old
+    ensures now { OnOk result (now.new ≡ with_rows now.old
         (rows_in view.now.view (others view.now.me entities.now))) }
 {
+    let mut looks = told.looks();
     for entity in entities {
-        put_entity(view, entity, told, out)?;
+        put_entity(view, entity, &mut looks, now, out)?;
     }
     Ok(())
 }
 
-/// The frames of the entities that a client is to be shown.
+/// The frames of the entities that a client is to be shown, which are kept.
 fn shown_piece(
     alloc: Global,
     view: &EntityView<'_>,
     entities: &[Entity],
-    told: &mut Tracker,
+    told: &Tracker,
+    now: &mut Tracker,
 ) -> Result<Bytes, NoMemory>
     requires kinds { AreKinds entities.now }
-    requires rise { Rises eid_of entities.now }
     requires frames { AreEncoded view.now.encoded.now }
-    ensures sent { IfOk result (λ piece. piece ≡ play_bytes (rows_packets told.old
+    ensures sent { IfOk result (λ piece. piece ≡ play_bytes (rows_packets told.now
         (rows_in view.now.view (others view.now.me entities.now)))) }
-    ensures told { OnOk result (told.new ≡ with_rows told.old
+    ensures now { OnOk result (now.new ≡ with_rows now.old
         (rows_in view.now.view (others view.now.me entities.now))) }
 {
     let mut bytes = Vec::new(alloc);
-    put_entities(view, entities, told, &mut bytes)?;
+    put_entities(view, entities, told, now, &mut bytes)?;
     Ok(Bytes::from_vec(bytes)?)
 }
 
+/// The frames that take away the entities that were told and are so no more.
+fn lost_piece(alloc: Global, told: &Tracker, now: &Tracker) -> Result<Bytes, NoMemory>
+    ensures { IfOk result (λ piece. piece ≡ play_bytes (destroying
+        (filter (λ (eid : ℤ). not (map.contains_key now.now eid)) (map.keys told.now)))) }
+{
+    let lost = told.lost(alloc, now)?;
+    destroy_piece(alloc, lost.as_slice())
+}
+
 /// The frames of the entities that a client is to be shown no more, and those of the others, which
-/// are then what it was told of.
+/// are then what it was told of. Entities and what was told of them are gone through once, side by
+/// side. Without memory what it was told of is as before.
 pub fn tell(
     alloc: Global,
     view: &EntityView<'_>,
@@ -222,13 +181,14 @@ pub fn tell(
         (others view.now.me view.now.folk.now.state.entities) view.now.view)) }
     ensures told { OnOk result (told.new ≡ told_now
         (others view.now.me view.now.folk.now.state.entities) view.now.view) }
+    ensures err { OnErr result (told.new ≡ told.old) }
     ensures rise { Rise eid_of (pos 0) view.now.folk.now.state.entities
         (pos view.now.folk.now.state.given) }
 {
     let entities = view.folk.all();
-    let gone = gone_from(alloc, view, told)?;
-    forget(gone.as_slice(), told);
-    let destroyed = destroy_piece(alloc, gone.as_slice())?;
-    let shown = shown_piece(alloc, view, entities, told)?;
+    let mut now = told.anew()?;
+    let shown = shown_piece(alloc, view, entities, told, &mut now)?;
+    let destroyed = lost_piece(alloc, told, &now)?;
+    *told = now;
     Ok((destroyed, shown))
 }

@@ -15,7 +15,7 @@ use crate::spawns::put_new;
 use mc_bytes::NoMemory;
 use mc_fields::Spot;
 use mc_slots::Pile;
-use mc_view::Tracker;
+use mc_view::{Looks, Tracker};
 
 /// Appends the frame that says which pile an entity holds or is, where that is another one.
 fn put_other(row: &Row, was: &Pile, out: &mut Vec<u8>) -> Result<(), NoMemory>
@@ -48,20 +48,23 @@ fn put_known(
     Ok(())
 }
 
-/// Appends what a client is to be told of an entity, and keeps that.
+/// Appends what a client that was told something of entities is to be told of one, and keeps that.
 pub fn put_row(
     encoded: &EncodedEntities,
     row: &Row,
-    told: &mut Tracker,
+    told: &mut Looks<'_>,
+    now: &mut Tracker,
     out: &mut Vec<u8>,
 ) -> Result<(), NoMemory>
     requires pile { IsPile row.now.pile }
     requires frames { AreEncoded encoded.now }
+    ensures same { OnOk result (told.new ≡ told.old) }
     ensures sent { OnOk result (out.new.items
         ≡ out.old.items ++ play_bytes (row_packets told.old row.now)) }
-    ensures told { OnOk result (told.new ≡ with_row told.old row.now) }
+    ensures now { OnOk result (now.new ≡ with_row now.old row.now) }
 {
-    match told.tell(row.eid, row.spot, row.pile)? {
+    now.put(row.eid, row.spot, row.pile)?;
+    match told.find(row.eid) {
         Some(was) => put_known(encoded, row, &was, out),
         None => put_new(encoded, row, out),
     }

@@ -24,10 +24,11 @@ enum Call {
     Pile,
     Tell,
     Lose,
+    Lost,
 }
 
 /// The calls by their words.
-const CALLS: [(&str, Call); 12] = [
+const CALLS: [(&str, Call); 13] = [
     ("has", Call::Has),
     ("all", Call::All),
     ("entered", Call::Entered),
@@ -40,6 +41,7 @@ const CALLS: [(&str, Call); 12] = [
     ("pile", Call::Pile),
     ("tell", Call::Tell),
     ("lose", Call::Lose),
+    ("lost", Call::Lost),
 ];
 
 /// The call that a word names.
@@ -169,7 +171,7 @@ fn put_step(name: &str, dx: i8, dy: i8, dz: i8, answer: &mut Answer) {
 }
 
 /// Answers a row of the tracker.
-/// Dear to prove: eight arms over a tracker that is lent.
+/// Dear to prove: nine arms over a tracker that is lent.
 pub fn tracker(tracker: &mut Tracker, words: &mut Words<'_>, answer: &mut Answer) {
     match call_of(words.word()) {
         Some(Call::New) => drop(replace(tracker, Tracker::new(words.alloc))),
@@ -183,6 +185,7 @@ pub fn tracker(tracker: &mut Tracker, words: &mut Words<'_>, answer: &mut Answer
         Some(Call::Pile) => pile(tracker, words, answer),
         Some(Call::Tell) => tell(tracker, words, answer),
         Some(Call::Lose) => answer.word(tracker.lose(words.number())),
+        Some(Call::Lost) => lost(tracker, words, answer),
         _ => words.fail(),
     }
 }
@@ -221,13 +224,53 @@ fn pile(tracker: &mut Tracker, words: &mut Words<'_>, answer: &mut Answer) {
 /// Tells all of an entity, and puts what was told of it before.
 fn tell(tracker: &mut Tracker, words: &mut Words<'_>, answer: &mut Answer) {
     let eid = words.number();
+    let was = tracker.looks().find(eid);
     let spot = spot_in(words);
-    match tracker.tell(eid, spot, pile_in(words)) {
-        Ok(Some((spot, pile))) => {
+    if tracker.put(eid, spot, pile_in(words)).is_err() {
+        return answer.lose();
+    }
+    match was {
+        Some((spot, pile)) => {
             put_spot(&spot, answer);
             answer.word(Shown { pile });
         }
-        Ok(None) => answer.word("none"),
+        None => answer.word("none"),
+    }
+}
+
+/// Puts how many entities a tracker that knows some numbers does not know of these, and their
+/// numbers.
+fn lost(tracker: &Tracker, words: &mut Words<'_>, answer: &mut Answer) {
+    let Some(now) = knowing(tracker, words) else {
+        return answer.lose();
+    };
+    match tracker.lost(words.alloc, &now) {
+        Ok(eids) => put_numbers(eids.as_slice(), answer),
         Err(_) => answer.lose(),
+    }
+}
+
+/// A tracker that knows the numbers of so many next words.
+fn knowing(tracker: &Tracker, words: &mut Words<'_>) -> Option<Tracker> {
+    let mut now = tracker.anew().ok()?;
+    let count: u8 = words.number();
+    for _ in 0..count {
+        let spot = Spot {
+            x: 0,
+            y: 0,
+            z: 0,
+            yaw: 0,
+            pitch: 0,
+        };
+        now.put(words.number(), spot, Pile::Empty).ok()?;
+    }
+    Some(now)
+}
+
+/// Puts how many numbers there are, and these.
+fn put_numbers(numbers: &[i32], answer: &mut Answer) {
+    answer.word(numbers.len());
+    for number in numbers {
+        answer.word(*number);
     }
 }
