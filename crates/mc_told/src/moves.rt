@@ -81,10 +81,11 @@ pub fn put_moves(
     ensures { OnOk result (out.new.items
         ≡ out.old.items ++ play_bytes (moves_packets eid to.now (moves_of from.now to.now))) }
 {
-    let moves = form(*from, *to);
-    if is_still(&moves.form) {
-        return put_head(eid, to, moves.head, out);
+    // Most stand still, and need no more than this comparison.
+    if *from == *to {
+        return Ok(());
     }
+    let moves = form(*from, *to);
     match encoded.moved(eid, from, to) {
         Some(frames) => Ok(out.extend_from_slice(frames)?),
         None => put_own(eid, to, moves, out),

@@ -1,6 +1,6 @@
 -- What edits of the entries make of what was told.
 use Rattle.std.proofs.Common.{Result, Ok, Err, IfOk, IfErr, IfSome, is_ok, slice_get, ◌≡◌, ℕ, zero}
-use Rattle.std.proofs.Common.{suc, ◌<◌, ◌≤◌, Bool, true, false, cond, not, T, List, [], ◌∷◌}
+use Rattle.std.proofs.Common.{suc, ◌<◌, ◌≤◌, Bool, true, false, cond, not, T, List, [], ◌∷◌, ◌++◌}
 use Rattle.std.proofs.Common.{map as listed, length, get_or, set, Option, Some, None, is_some, refl}
 use Rattle.std.proofs.Common.{sym, subst, ap, ◌∙◌, arith}
 use Rattle.std.proofs.lemmas.Bool.Decides.{nat_tests}
@@ -19,8 +19,10 @@ use lib.IntN.{ℤ}
 use Rattle.mc_fields.specs.declared.position.Spot.{Spot}
 use Rattle.mc_slots.specs.declared.pile.Pile.{Pile}
 use Rattle.mc_view.specs.declared.tracker.Entry.{Entry}
-use Rattle.mc_view.specs.KeptTold.{IsAt, IsGap, IsRising, pair_of, pairs_of, told_of}
+use Rattle.mc_view.specs.KeptTold.{IsAbove, IsAt, IsGap, IsRising, pair_of, pairs_of, told_of}
+use Rattle.std.proofs.lemmas.List.Edits.{insert_end}
 use Rattle.mc_view.proofs.EntryFacts.{Pair, first, second, above, below, same, rising_at}
+use Rattle.mc_view.proofs.EntryFacts.{gap_between}
 
 at_tail : (e : Entry) (es : List Entry) (eid : ℤ) (i : ℕ) →
     IsAt (e ∷ es) eid (suc i) → IsAt es eid i
@@ -259,6 +261,24 @@ pub told_no_key : (es : List Entry) (i : ℕ) →
 told_no_key es i r le =
     ap (λ (ps : List Pair). slice_get (listed (λ (p : Pair). p.0) ps) i)
     (entries-from_sorted int_cmp (pairs_of es) r) ∙ no_key es i le
+
+-- ---- an entry put behind all others
+
+end_gap : (es : List Entry) (eid : ℤ) → IsRising es → IsAbove es eid (length es) →
+    IsGap es eid (length es)
+end_gap es eid r high =
+    gap_between es eid (length es) r (omega arith) high (λ d lt. absurd (omega (arith, lt)))
+
+pub rises_push : (es : List Entry) (new : Entry) → IsRising es →
+    IsAbove es new.eid (length es) → IsRising (es ++ new ∷ [])
+rises_push es new r high =
+    subst IsRising (insert_end es new)
+    (rises_insert es (length es) new r (end_gap es new.eid r high))
+
+pub told_push : (es : List Entry) (new : Entry) → IsRising es → IsAbove es new.eid (length es) →
+    told_of (es ++ new ∷ []) ≡ map.insert (told_of es) new.eid (new.spot, new.pile)
+told_push es new r high = ap told_of (sym (insert_end es new))
+    ∙ told_insert es (length es) new r (end_gap es new.eid r high)
 
 -- ---- one entry written over at its place
 

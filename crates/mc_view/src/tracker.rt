@@ -103,13 +103,18 @@ impl Tracker {
         ensures ok { OnOk result (self.new ≡ map.insert self.old eid (spot, pile)) }
         ensures err { OnErr result (self.new ≡ self.old) }
     {
-        match place_near(self.entries.as_slice(), self.entries.len(), eid) {
+        let entry = Entry { eid, spot, pile };
+        if is_above(self.entries.as_slice(), self.entries.len(), eid) {
+            self.entries.push(entry)?;
+            return Ok(());
+        }
+        match place_of(self.entries.as_slice(), eid) {
             Ok(at) => {
-                self.entries[at] = Entry { eid, spot, pile };
+                self.entries[at] = entry;
                 Ok(())
             }
             Err(at) => {
-                self.entries.insert(at, Entry { eid, spot, pile })?;
+                self.entries.insert(at, entry)?;
                 Ok(())
             }
         }

@@ -1,18 +1,48 @@
-use Rattle.std.proofs.Common.{rules, FitsSigned, w32, to_z, of_z, subst, ap, List, ◌∙◌}
+use Rattle.std.proofs.Common.{rules, ◌≡◌, ℕ, length, FitsSigned, w32, to_z, of_z, subst, ap, List}
+use Rattle.std.proofs.Common.{◌∙◌}
 use Rattle.std.proofs.lemmas.Int.{to_z-of_z}
 use Rattle.std.specs.FinMap as map
 use lib.IntN.{ℤ}
 use Rattle.mc_view.specs.declared.tracker.Entry.{Entry}
-use Rattle.mc_view.specs.KeptTold.{IsAt, IsGap, told_of}
-use Rattle.mc_view.proofs.TrackerFacts.{rises_insert, rises_set, told_insert, told_set}
+use Rattle.mc_view.specs.KeptTold.{IsAbove, IsAt, IsGap, told_of}
+use Rattle.mc_view.proofs.TrackerFacts.{rises_insert, rises_push, rises_set, told_insert}
+use Rattle.mc_view.proofs.TrackerFacts.{told_push, told_set}
 use Rattle.mc_view.proofs.tracker.Tracker.put.Goals as goal
 
-pub invariant_of-self : goal.invariant_of-self
-invariant_of-self c =
+pub invariant_of-self-then-is_above : goal.invariant_of-self-then-is_above
+invariant_of-self-then-is_above c =
+    let es = c.self.inside.entries.items in
+    let new : Entry =
+    record { eid = to_z w32 (of_z w32 c.args.eid); spot = c.args.spot; pile = c.args.pile } in
+    let count : c.len.result ≡ length es = search rules in
+    let high =
+    subst (λ (n : ℕ). IsAbove es new.eid n) count
+    (subst (λ (fs : List Entry). IsAbove fs new.eid c.len.result) c.as_slice.ensures.value
+    (c.is_above.ensures c.if-is_above.true)) in
+    rw c.in_ok-push.ensures.items (rises_push es new c.self.invariant high)
+
+pub returns-then-is_above-clause-ok : goal.returns-then-is_above-clause-ok
+returns-then-is_above-clause-ok c =
+    let fits : FitsSigned w32 c.args.eid = search rules in
+    let es = c.self.inside.entries.items in
+    let new : Entry =
+    record { eid = to_z w32 (of_z w32 c.args.eid); spot = c.args.spot; pile = c.args.pile } in
+    let count : c.len.result ≡ length es = search rules in
+    let high =
+    subst (λ (n : ℕ). IsAbove es new.eid n) count
+    (subst (λ (fs : List Entry). IsAbove fs new.eid c.len.result) c.as_slice.ensures.value
+    (c.is_above.ensures c.if-is_above.true)) in
+    rw (← c.self.view_is)
+    (ap told_of c.in_ok-push.ensures.items ∙ told_push es new c.self.invariant high
+    ∙ ap (λ (k : ℤ). map.insert (told_of es) k (c.args.spot, c.args.pile))
+    (to_z-of_z w32 c.args.eid fits))
+
+pub invariant_of-self-in-Ok : goal.invariant_of-self-in-Ok
+invariant_of-self-in-Ok c =
     let new : Entry =
     record { eid = to_z w32 (of_z w32 c.args.eid); spot = c.args.spot; pile = c.args.pile } in
     let is =
-    subst (λ (es : List Entry). IsAt es new.eid c.in-Ok.at) c.as_slice.ensures.value
+    subst (λ (es : List Entry). IsAt es new.eid c.in-Ok.at) c.as_slice-2.ensures.value
     c.in-Ok.ensures.found in
     rises_set c.self.inside.entries.items c.in-Ok.at new c.self.invariant is
 
@@ -21,7 +51,7 @@ invariant_of-self-in-Err c =
     let new : Entry =
     record { eid = to_z w32 (of_z w32 c.args.eid); spot = c.args.spot; pile = c.args.pile } in
     let gap =
-    subst (λ (es : List Entry). IsGap es new.eid c.in-Err.at) c.as_slice.ensures.value
+    subst (λ (es : List Entry). IsGap es new.eid c.in-Err.at) c.as_slice-2.ensures.value
     c.in-Err.ensures.absent in
     rw c.in_ok-insert-in-Err.ensures.items
     (rises_insert c.self.inside.entries.items c.in-Err.at new c.self.invariant gap)
@@ -33,7 +63,7 @@ returns-in-Ok-clause-ok c =
     let new : Entry =
     record { eid = to_z w32 (of_z w32 c.args.eid); spot = c.args.spot; pile = c.args.pile } in
     let is =
-    subst (λ (es : List Entry). IsAt es new.eid c.in-Ok.at) c.as_slice.ensures.value
+    subst (λ (es : List Entry). IsAt es new.eid c.in-Ok.at) c.as_slice-2.ensures.value
     c.in-Ok.ensures.found in
     rw (← c.self.view_is)
     (told_set es c.in-Ok.at new c.self.invariant is
@@ -47,7 +77,7 @@ returns-in_ok-insert-in-Err-clause-ok c =
     let new : Entry =
     record { eid = to_z w32 (of_z w32 c.args.eid); spot = c.args.spot; pile = c.args.pile } in
     let gap =
-    subst (λ (es : List Entry). IsGap es new.eid c.in-Err.at) c.as_slice.ensures.value
+    subst (λ (es : List Entry). IsGap es new.eid c.in-Err.at) c.as_slice-2.ensures.value
     c.in-Err.ensures.absent in
     rw (← c.self.view_is)
     (ap told_of c.in_ok-insert-in-Err.ensures.items
