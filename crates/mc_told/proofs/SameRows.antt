@@ -1,5 +1,10 @@
 -- Spots, kinds, piles and rows are equal where a comparison of their parts says so.
-use Rattle.std.proofs.Common.{◌≡◌, true, ◌&&◌, ap, refl}
+use Rattle.std.proofs.Common.{◌≡◌, true, ◌&&◌, [], ap, refl, ◌∙◌, arith}
+use Rattle.std.proofs.lemmas.Bool.Decides.{nat_tests}
+use Rattle.std.proofs.lemmas.Int.{ints}
+use lib.IntN.{ℤ}
+use Rattle.mc_view.specs.Forms.{moves_of}
+use Rattle.mc_model.specs.Delta.{moves_packets}
 use Rattle.std.specs.Prelude.{nat_eq}
 use Rattle.std.specs.Ordering.{int_eq}
 use Rattle.std.specs.Cmp.{unsigned_Decides}
@@ -74,3 +79,15 @@ same_row a b e =
       spot = same_spot a.spot b.spot rest.0 i;
       pile = same_pile a.pile b.pile rest.1 i;
     }
+
+-- ---- an entity that stands still
+
+still_moves : (eid : ℤ) (spot : Spot) → moves_packets eid spot (moves_of spot spot) ≡ []
+still_moves eid spot = grind (arith, nat_tests, ints)
+
+-- nothing is told of one that is where it was and looks as it did
+pub unmoved : (eid : ℤ) (from to : Spot) → is_same_spot from to ≡ true →
+    moves_packets eid to (moves_of from to) ≡ []
+unmoved eid from to same =
+    ap (λ (spot : Spot). moves_packets eid to (moves_of spot to)) (same_spot from to same)
+    ∙ still_moves eid to
