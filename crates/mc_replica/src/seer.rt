@@ -35,11 +35,14 @@ pub trait Seer {
 
     // The state after a packet that is asked for, and the bytes that are sent for it.
     ghost asked: { Self → PlayUp → Self };
+
     ghost sent: { Self → PlayUp → List ℕ };
 
     // What a state shows: a block, a slot of the window that is shown, and that window's number.
     ghost block_at: { Self → Cell → Option ℕ };
+
     ghost slot_at: { Self → ℤ → Option Slot };
+
     ghost window_at: { Self → ℕ };
 
     // The dump of a state.
