@@ -47,10 +47,13 @@ kind_word seen_kinds.Dropped = codes "item"
 kind_word seen_kinds.Mob = codes "mob"
 
 -- the place in 1/32 blocks, and the look in 1/256 turns
+abbrev pub place_words : Spot → List ℕ
+place_words spot =
+    signed_decimal spot.x ++ blank ++ signed_decimal spot.y ++ blank ++ signed_decimal spot.z
+
 abbrev pub spot_words : Spot → List ℕ
 spot_words spot =
-    signed_decimal spot.x ++ blank ++ signed_decimal spot.y ++ blank ++ signed_decimal spot.z
-    ++ blank ++ decimal spot.yaw ++ blank ++ decimal spot.pitch
+    place_words spot ++ blank ++ decimal spot.yaw ++ blank ++ decimal spot.pitch
 
 -- ---- lines, without their ends
 
@@ -113,11 +116,11 @@ window_lines window pack cursor =
 abbrev pub sight_lines : Sight → List (List ℕ)
 sight_lines sight =
     times_lines sight.age sight.beat
-    ++ map player_line (entries sight.pairs)
-    ++ map column_line (entries sight.columns)
-    ++ map entity_line (entries sight.entities)
-    ++ window_lines sight.window sight.pack sight.cursor
-    ++ map chat_line sight.chat
+    ++ (map player_line (entries sight.pairs)
+    ++ (map column_line (entries sight.columns)
+    ++ (map entity_line (entries sight.entities)
+    ++ (window_lines sight.window sight.pack sight.cursor
+    ++ map chat_line sight.chat))))
 
 -- each with its end
 abbrev pub text_of : List (List ℕ) → List ℕ

@@ -1,5 +1,7 @@
 ghost use Rattle.std.specs.Prelude.{◌≡◌, List, ℕ, IfOk, string_bytes};
-ghost use Rattle.mc_replica.specs.Dump.{kind_word, pile_words, spot_words, stack_words};
+ghost use Rattle.mc_model.specs.Names.{uuid_text};
+ghost use Rattle.mc_replica.specs.Dump.{kind_word, pile_words, place_words, spot_words};
+ghost use Rattle.mc_replica.specs.Dump.{stack_words};
 ghost use Rattle.mc_replica.specs.Dump.{text_of, times_lines, told_number};
 
 use crate::counting::blocks_in;
@@ -30,12 +32,9 @@ impl Dumped for Listed {
 
     ghost line = { λ listed. player_line (row_of listed) };
 
-    #[tactic(auto, unfolding(mc_model::specs::Names::uuid_text))]
     fn to_line(&self, alloc: Global) -> Result<String, NoMemory> {
-        let mut buffer = Uuid::encode_buffer();
-        let hyphenated = Uuid::from_u128(self.uuid).hyphenated();
-        let uuid: &str = hyphenated.encode_lower(&mut buffer);
-        let name = self.name.as_str();
+        let uuid = uuid_words(alloc, self.uuid)?;
+        let (uuid, name) = (uuid.as_str(), self.name.as_str());
         Ok(format!(in alloc; "player {uuid} {name}")?)
     }
 }
@@ -90,18 +89,33 @@ fn kind_word(kind: SeenKind) -> &'static str
     }
 }
 
+/// A place as words.
+fn place_words(alloc: Global, spot: &Spot) -> Result<String, NoMemory>
+    ensures { IfOk result (λ text. string_bytes text ≡ place_words spot.now) }
+{
+    let (x, y, z) = (spot.x, spot.y, spot.z);
+    Ok(format!(in alloc; "{x} {y} {z}")?)
+}
+
 /// A place and a look as words.
 fn spot_words(alloc: Global, spot: &Spot) -> Result<String, NoMemory>
     ensures { IfOk result (λ text. string_bytes text ≡ spot_words spot.now) }
 {
-    let Spot {
-        x,
-        y,
-        z,
-        yaw,
-        pitch,
-    } = *spot;
-    Ok(format!(in alloc; "{x} {y} {z} {yaw} {pitch}")?)
+    let (yaw, pitch) = (spot.yaw, spot.pitch);
+    let place = place_words(alloc, spot)?;
+    let place = place.as_str();
+    Ok(format!(in alloc; "{place} {yaw} {pitch}")?)
+}
+
+/// An identifier as a text, with hyphens.
+#[tactic(auto, unfolding(mc_model::specs::Names::uuid_text))]
+fn uuid_words(alloc: Global, uuid: u128) -> Result<String, NoMemory>
+    ensures { IfOk result (λ text. string_bytes text ≡ uuid_text uuid) }
+{
+    let mut buffer = Uuid::encode_buffer();
+    let hyphenated = Uuid::from_u128(uuid).hyphenated();
+    let text = hyphenated.encode_lower(&mut buffer);
+    Ok(String::from_str(alloc, text)?)
 }
 
 /// What is in a stack, how many and how worn, each behind a blank.

@@ -24,7 +24,7 @@ use crate::dump::{put_all, put_text};
 use crate::dump_fault::DumpFault;
 use crate::entities::Entities;
 use crate::lines::times_text;
-use crate::places::{inside, low_state, place_at, place_of};
+use crate::places::{Place, inside, low_state, place_at, place_of};
 use crate::player_list::{Listed, PlayerList};
 use crate::seen::Seen;
 use crate::window::SeenWindow;
@@ -226,13 +226,24 @@ impl Replica {
             Rose (S.faults sink.old) (S.faults sink.new) }
         ensures counts { StandsOrRises (S.faults sink.old) (S.faults sink.new) }
     {
-        let alloc = self.alloc;
-        put_text(times_text(alloc, self.age, self.beat), lines, sink)?;
-        put_all(alloc, self.list.all(), lines, sink)?;
-        put_all(alloc, self.columns.all(), lines, sink)?;
-        put_all(alloc, self.entities.all(), lines, sink)?;
-        put_text(self.window.to_text(alloc), lines, sink)?;
-        put_all(alloc, self.chat.as_slice(), lines, sink)
+        let alloc = self.allocator();
+        let (age, beat) = (self.age(), self.beat());
+        let (players, columns, entities) = (self.listed(), self.column_rows(), self.entities());
+        let (window, chat) = (self.window(), self.chat());
+        put_text(times_text(alloc, age, beat), lines, sink)?;
+        put_all(alloc, players, lines, sink)?;
+        put_all(alloc, columns, lines, sink)?;
+        put_all(alloc, entities, lines, sink)?;
+        put_text(window.to_text(alloc), lines, sink)?;
+        put_all(alloc, chat, lines, sink)?;
+        Ok(())
+    }
+
+    /// All columns with their places, by rising place.
+    fn column_rows(&self) -> &[(Place, Column)]
+        ensures { result.now ≡ entries self.now.sight.columns }
+    {
+        self.columns.all()
     }
 
     // ---- packets
