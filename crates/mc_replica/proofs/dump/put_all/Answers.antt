@@ -1,4 +1,4 @@
-use Rattle.std.proofs.Common.{◌≡◌, get_or, rules}
+use Rattle.std.proofs.Common.{rules}
 use Rattle.std.proofs.lemmas.Result.{err_from_is_err_and}
 use Rattle.mc_wire.proofs.Counts.{StandsOrRises-trans}
 use Rattle.mc_words.specs.Ended.{ended_line}

@@ -1,4 +1,4 @@
-use Rattle.std.proofs.Common.{◌≡◌, ◌++◌, ◌≤◌, drop, length}
+use Rattle.std.proofs.Common.{◌≡◌, ◌++◌, drop}
 use Rattle.std.specs.Prelude.{string_bytes}
 use Rattle.mc_replica.specs.Dump.{slot_lines, text_of}
 use Rattle.mc_replica.proofs.slot_lines.push_slots.Given as goal
