@@ -1,6 +1,9 @@
+pub mod Asking
 pub mod Blocks
 pub mod Cells
 pub mod Changes
+pub mod Dump
+pub mod DumpFaults
 pub mod Faults
 pub mod KeptPlayers
 pub mod KeptRows

@@ -1,5 +1,5 @@
 ghost use Rattle.std.specs.Prelude.{◌≡◌, ◌<◌, false, true, IfOk, IfErr, OnOk, OnErr, slice_get};
-ghost use Rattle.std.specs.FinMap.{empty, get, insert, keys, len, remove};
+ghost use Rattle.std.specs.FinMap.{empty, entries, get, insert, keys, len, remove};
 ghost use Rattle.std.specs.Option.{option_copied, option_copied_mut};
 ghost use Rattle.mc_column.specs.Cells.{ColumnValue, cell_index, empty_column, with_state};
 ghost use Rattle.mc_column.specs.Body.{put_body};
@@ -58,6 +58,13 @@ impl Columns {
         ensures { result ≡ len self.now }
     {
         self.rows.as_slice().len()
+    }
+
+    /// All of them with their places, by rising place.
+    pub(crate) fn all(&self) -> &[(Place, Column)]
+        ensures { result.now ≡ entries self.now }
+    {
+        self.rows.as_slice()
     }
 
     /// The place that has `i` places of others below it.

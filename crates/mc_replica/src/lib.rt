@@ -6,16 +6,24 @@
 #![tactic(auto)]
 
 mod columns;
+mod counting;
+mod dump;
+mod dump_fault;
 mod entities;
+mod lines;
 mod places;
 mod player_list;
 mod replica;
 mod seen;
+mod seer;
+mod slot_lines;
 mod slot_row;
 mod window;
 
+pub use dump_fault::DumpFault;
 pub use mc_model::SeenKind;
 pub use player_list::Listed;
 pub use replica::Replica;
 pub use seen::Seen;
+pub use seer::Seer;
 pub use window::SeenWindow;

@@ -1,5 +1,5 @@
 ghost use Rattle.std.specs.Prelude.{◌≡◌, ◌++◌, ◌∷◌, ◌↔◌, ◌&&◌, ◌==◌, [], Some, OnOk, IfOk};
-ghost use Rattle.std.specs.Prelude.{IsErrOf, slice_get};
+ghost use Rattle.std.specs.Prelude.{IsErrOf, OnErr, slice_get};
 ghost use Rattle.std.specs.Prelude.{if◌then◌else◌};
 ghost use Rattle.std.specs.FinMap.{entries, get, keys, len};
 ghost use Rattle.std.specs.Option.{option_copied, option_map};
@@ -11,13 +11,20 @@ ghost use Rattle.mc_model.specs.Replica.{apply, changed_at, is_cursor, new_repli
 ghost use Rattle.mc_model.specs.Replica.{with_columns, with_cursor, with_slot};
 ghost use Rattle.mc_model.specs.Sight.{Seen as SeenValue};
 ghost use Rattle.mc_replica.specs.Blocks.{block_in};
+ghost use Rattle.mc_replica.specs.Dump.{dump_text};
 ghost use Rattle.mc_replica.specs.Faults.{chunk_fault, fault_in, fault_of, taken};
 ghost use Rattle.mc_replica.specs.KeptPlayers.{rows_of};
 ghost use Rattle.mc_replica.specs.Slots.{window_of};
+ghost use Rattle.mc_wire.specs.Count.{Rose, StandsOrRises};
+ghost use Rattle.mc_wire.specs.Stream.{Grows};
+ghost use Rattle.mc_words.specs.Passes.{Breaks, Passes, SendsPart};
 
 use crate::columns::Columns;
+use crate::dump::{put_all, put_text};
+use crate::dump_fault::DumpFault;
 use crate::entities::Entities;
-use crate::places::{inside, low_state, place_at, place_of};
+use crate::lines::times_text;
+use crate::places::{Place, inside, low_state, place_at, place_of};
 use crate::player_list::{Listed, PlayerList};
 use crate::seen::Seen;
 use crate::window::SeenWindow;
@@ -26,6 +33,8 @@ use mc_column::{Body, Column, read_body};
 use mc_fields::Cell;
 use mc_packets::Down;
 use mc_slots::Slot;
+use mc_wire::Sink;
+use mc_words::{Unfinished, write_out};
 use std::alloc::Global;
 use std::marker::Model;
 
@@ -97,6 +106,11 @@ impl Replica {
             window: SeenWindow::new(),
             chat: Vec::new(alloc),
         }
+    }
+
+    /// Where its memory comes from.
+    pub(crate) fn allocator(&self) -> Global {
+        self.alloc
     }
 
     // ---- what it shows
@@ -182,6 +196,54 @@ impl Replica {
         ensures { result.now ≡ self.now.sight.chat }
     {
         self.chat.as_slice()
+    }
+
+    /// Writes what it shows as text, a line each: what it was told last, the list of players, the
+    /// columns, the entities, the slots that are full and what was said. `Write` comes only where
+    /// the sink failed; any fault leaves some first part of the text written.
+    pub fn dump<S: Sink>(&self, sink: &mut S) -> Result<(), DumpFault>
+        ensures whole { OnOk result (Grows (S.held sink.old) (S.held sink.new)
+            (dump_text self.now)) }
+        ensures part { OnErr result (SendsPart (S.held sink.old) (S.held sink.new)
+            (dump_text self.now)) }
+        ensures failed { IsErrOf result DumpFault.Write →
+            Rose (S.faults sink.old) (S.faults sink.new) }
+        ensures counts { StandsOrRises (S.faults sink.old) (S.faults sink.new) }
+    {
+        let mut lines = Vec::new(self.alloc);
+        self.put_lines(&mut lines, sink)?;
+        write_out(&mut lines, sink)?;
+        Ok(())
+    }
+
+    /// Puts the lines of a dump behind those that wait.
+    fn put_lines<S: Sink>(&self, lines: &mut Vec<u8>, sink: &mut S) -> Result<(), Unfinished>
+        ensures passes { OnOk result (Passes (S.held sink.old) (S.held sink.new)
+            lines.old.items (dump_text self.now) lines.new.items []) }
+        ensures breaks { OnErr result (Breaks (S.held sink.old) (S.held sink.new)
+            lines.old.items (dump_text self.now)) }
+        ensures failed { IsErrOf result Unfinished.Failed →
+            Rose (S.faults sink.old) (S.faults sink.new) }
+        ensures counts { StandsOrRises (S.faults sink.old) (S.faults sink.new) }
+    {
+        let alloc = self.allocator();
+        let (age, beat) = (self.age(), self.beat());
+        let (players, columns, entities) = (self.listed(), self.column_rows(), self.entities());
+        let (window, chat) = (self.window(), self.chat());
+        put_text(times_text(alloc, age, beat), lines, sink)?;
+        put_all(alloc, players, lines, sink)?;
+        put_all(alloc, columns, lines, sink)?;
+        put_all(alloc, entities, lines, sink)?;
+        put_text(window.to_text(alloc), lines, sink)?;
+        put_all(alloc, chat, lines, sink)?;
+        Ok(())
+    }
+
+    /// All columns with their places, by rising place.
+    fn column_rows(&self) -> &[(Place, Column)]
+        ensures { result.now ≡ entries self.now.sight.columns }
+    {
+        self.columns.all()
     }
 
     // ---- packets

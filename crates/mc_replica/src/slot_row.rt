@@ -1,5 +1,5 @@
 ghost use Rattle.std.specs.Prelude.{◌≡◌, ◌<◌, IfOk, OnOk, OnErr, replicate, slice_index_or};
-ghost use Rattle.std.specs.Prelude.{slice_set};
+ghost use Rattle.std.specs.Prelude.{length, slice_set};
 ghost use Rattle.mc_slots.specs.declared.slot.Slot.TheVariants as slots;
 
 use mc_bytes::NoMemory;
@@ -54,6 +54,13 @@ impl SlotRow {
             len: slots.len(),
             empty: Slot::Empty,
         })
+    }
+
+    /// How many slots there are.
+    pub(crate) fn len(&self) -> usize
+        ensures { result ≡ length self.now }
+    {
+        self.len
     }
 
     /// The slot at a place; behind the last an empty one.

@@ -1,11 +1,16 @@
-ghost use Rattle.std.specs.Prelude.{◌≡◌, None, OnOk, replicate, slice_index_or};
+ghost use Rattle.std.specs.Prelude.{◌≡◌, None, IfOk, OnOk, replicate, slice_index_or};
+ghost use Rattle.std.specs.Prelude.{option_map, string_bytes};
+ghost use Rattle.std.specs.Option.{option_copied};
 ghost use Rattle.mc_slots.specs.declared.slot.Slot.TheVariants as slots;
 ghost use Rattle.mc_windows.specs.Pack.{pack_size};
 ghost use Rattle.mc_model.specs.Replica.{with_chest_items, with_chest_slot, with_items};
 ghost use Rattle.mc_model.specs.Replica.{with_own_items, with_own_slot, with_slot, with_window};
 ghost use Rattle.mc_model.specs.Sight.{Sight};
-ghost use Rattle.mc_replica.specs.Slots.{chest_slot, holding, number_of};
+ghost use Rattle.mc_replica.specs.Dump.{shown_lines, text_of, window_lines};
+ghost use Rattle.mc_replica.specs.Slots.{chest_slot, holding, number_of, open_slot, own_slot};
+ghost use Rattle.mc_replica.specs.Slots.{shown_slot};
 
+use crate::slot_lines::{push_cursor, push_number, push_slots};
 use crate::slot_row::SlotRow;
 use mc_bytes::NoMemory;
 use mc_slots::{CHEST_PILES, Slot};
@@ -33,6 +38,34 @@ impl Model for Shown {
     ghost coded = { Prim.hlevel (codes, coded_tree) };
 
     ghost view = { λ shown. record { number = shown.number; slots = shown.chest } };
+}
+
+impl Shown {
+    /// A slot of the window: one of the chest, or behind those one of the pack.
+    fn slot<'a>(&'a self, pack: &'a SlotRow, at: usize) -> Option<&'a Slot>
+        ensures { option_copied result ≡ shown_slot self.now pack.now at }
+    {
+        if at < CHEST_PILES {
+            return Some(self.chest.get(at));
+        }
+        if at < CHEST_PILES + PACK_PILES {
+            return Some(pack.get(at - CHEST_PILES));
+        }
+        None
+    }
+}
+
+/// The lines that a dump has of a window, none where none is shown.
+fn shown_text(alloc: Global, shown: &Option<Shown>) -> Result<String, NoMemory>
+    ensures { IfOk result (λ text. string_bytes text ≡ text_of (shown_lines shown.now)) }
+{
+    let mut text = String::new(alloc);
+    let Some(shown) = shown else {
+        return Ok(text);
+    };
+    push_number(alloc, shown.number, &mut text)?;
+    push_slots(alloc, "chest", &shown.chest, &mut text)?;
+    Ok(text)
 }
 
 /// The slots that a client has: those of the window that it is shown, of its pack, and its cursor.
@@ -111,6 +144,45 @@ impl SeenWindow {
         ensures { result.now ≡ self.now.cursor }
     {
         &self.cursor
+    }
+
+    /// Slot `i` of the window that is shown, or of window 0 where none is: None exactly where it has
+    /// no such slot. Slots 0 to 8 of window 0 are empty.
+    pub fn slot(&self, i: i16) -> Option<&Slot>
+        ensures { option_copied result ≡ open_slot self.now i }
+    {
+        if i < 0 {
+            return None;
+        }
+        let at = usize::from(i.cast_unsigned());
+        match &self.shown {
+            Some(shown) => shown.slot(&self.pack, at),
+            None => self.own_slot(at),
+        }
+    }
+
+    /// A slot of window 0.
+    fn own_slot(&self, at: usize) -> Option<&Slot>
+        ensures { option_copied result ≡ own_slot self.now.pack at }
+    {
+        if at < OWN_FIRST {
+            return Some(&self.empty);
+        }
+        if at < OWN_FIRST + PACK_PILES {
+            return Some(self.pack.get(at - OWN_FIRST));
+        }
+        None
+    }
+
+    /// The lines that a dump has of them.
+    pub(crate) fn to_text(&self, alloc: Global) -> Result<String, NoMemory>
+        ensures { IfOk result (λ text. string_bytes text ≡
+            text_of (window_lines self.now.window self.now.pack self.now.cursor)) }
+    {
+        let mut text = shown_text(alloc, &self.shown)?;
+        push_slots(alloc, "pack", &self.pack, &mut text)?;
+        push_cursor(alloc, &self.cursor, &mut text)?;
+        Ok(text)
     }
 
     /// A window opens, of whose slots nothing is known yet; a chest's has no number 0.

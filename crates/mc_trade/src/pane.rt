@@ -1,14 +1,20 @@
-//! The window that a client is shown, by its packets or by rows.
+//! The window that a client is to be shown, by rows, and whether it is shown that.
 
 use crate::pile::{NOTHING, Pile, pile_of};
 use crate::tally::{Tally, count};
 use mc_packets::Down;
+use mc_replica::SeenWindow;
 use mc_slots::Slot;
 
 /// How many slots a chest has, and how many it has with a pack.
 const CHEST: usize = 27;
 
 const BOTH: usize = 63;
+
+/// The first slot of the pack in window 0, and how many slots that has.
+const OWN_FIRST: usize = 9;
+
+const OWN: usize = 45;
 
 /// The place of the cursor.
 const CURSOR: usize = 63;
@@ -52,83 +58,80 @@ impl Pane {
         }
     }
 
-    /// The first place at which another is not the same, the one behind all for the window.
-    pub fn differs(&self, other: &Pane) -> Option<usize> {
-        if self.window != other.window {
+    /// The first place at which a client is shown something else, the one behind all for the
+    /// window.
+    pub fn differs(&self, shown: &SeenWindow) -> Option<usize> {
+        if self.window != shown.number() {
             return Some(PLACES);
         }
-        for (place, (a, b)) in self.piles.iter().zip(other.piles.iter()).enumerate() {
-            if a != b {
+        for (place, pile) in self.piles.iter().enumerate() {
+            if pile_of(slot_at(shown, place)) != *pile {
                 return Some(place);
             }
         }
         None
     }
+}
 
-    /// Takes a packet into account, where it is about windows; tells whether it can be.
-    pub fn tell(&mut self, packet: &Down, tally: &mut Tally) -> bool {
-        match packet {
-            Down::OpenWindow {
-                window,
-                kind,
-                slots,
-                ..
-            } => {
-                count(&mut tally.opened);
-                self.see(*window);
-                kind.as_str() == "minecraft:chest" && usize::from(*slots) == CHEST
-            }
-            Down::CloseWindow(window) => {
-                count(&mut tally.closed);
-                self.close(*window)
-            }
-            Down::SetSlot(window, slot, item) => {
-                count(&mut tally.slots);
-                self.set(*window, *slot, pile_of(item))
-            }
-            Down::WindowItems(window, items) => {
-                count(&mut tally.windows);
-                *window == self.window && self.set_all(items.as_slice())
-            }
-            _ => true,
+/// What a client is shown at a place.
+fn slot_at(shown: &SeenWindow, place: usize) -> &Slot {
+    if place < CHEST {
+        return shown.chest(place);
+    }
+    if place < CURSOR {
+        return shown.pack(place - CHEST);
+    }
+    shown.cursor()
+}
+
+/// Counts a packet, where it is about windows; tells whether it is about the one that is shown.
+pub fn fits(packet: &Down, shown: &SeenWindow, tally: &mut Tally) -> bool {
+    match packet {
+        Down::OpenWindow { kind, slots, .. } => {
+            count(&mut tally.opened);
+            kind.as_str() == "minecraft:chest" && usize::from(*slots) == CHEST
+        }
+        Down::CloseWindow(window) => {
+            count(&mut tally.closed);
+            *window == shown.number()
+        }
+        Down::SetSlot(window, slot, _) => {
+            count(&mut tally.slots);
+            is_slot(*window, *slot, shown)
+        }
+        Down::WindowItems(window, items) => {
+            count(&mut tally.windows);
+            *window == shown.number() && are_slots(items.as_slice(), *window)
+        }
+        _ => true,
+    }
+}
+
+/// Whether a slot is the cursor, or one of the window that is shown in which something can lie.
+fn is_slot(window: i8, slot: i16, shown: &SeenWindow) -> bool {
+    if window == -1 && slot == -1 {
+        return true;
+    }
+    if window == 0 && slot < OWN_FIRST as i16 {
+        return false;
+    }
+    window.cast_unsigned() == shown.number() && shown.slot(slot).is_some()
+}
+
+/// Whether these are as many slots as a window has; the first of window 0 have nothing.
+fn are_slots(items: &[Slot], window: u8) -> bool {
+    if window != 0 {
+        return items.len() == BOTH;
+    }
+    items.len() == OWN && are_empty(items, OWN_FIRST)
+}
+
+/// Whether the first slots have nothing.
+fn are_empty(items: &[Slot], count: usize) -> bool {
+    for item in items.iter().take(count) {
+        if pile_of(item) != NOTHING {
+            return false;
         }
     }
-
-    /// The window closes that is shown.
-    fn close(&mut self, window: u8) -> bool {
-        let is_shown = window == self.window;
-        self.see(0);
-        is_shown
-    }
-
-    /// Something else lies in a slot of the window that is shown, or on the cursor.
-    fn set(&mut self, window: i8, slot: i16, pile: Pile) -> bool {
-        if window == -1 && slot == -1 {
-            return self.put(CURSOR, pile);
-        }
-        match usize::try_from(slot) {
-            Ok(slot) if window.cast_unsigned() == self.window => self.set_slot(slot, pile),
-            _ => false,
-        }
-    }
-
-    /// Something else lies in a slot; without a chest the pack has the slots 9 to 44.
-    fn set_slot(&mut self, slot: usize, pile: Pile) -> bool {
-        if self.window != 0 {
-            return slot < BOTH && self.put(slot, pile);
-        }
-        9 <= slot && slot <= 44 && self.put(slot + 18, pile)
-    }
-
-    /// All slots of the window that is shown, of which the first nine have nothing without a chest.
-    fn set_all(&mut self, items: &[Slot]) -> bool {
-        let (first, len) = if self.window == 0 { (9, 45) } else { (0, BOTH) };
-        for (slot, item) in items.iter().enumerate() {
-            let pile = pile_of(item);
-            if slot < first && pile != NOTHING || slot >= first && !self.set_slot(slot, pile) {
-                return false;
-            }
-        }
-        items.len() == len
-    }
+    true
 }

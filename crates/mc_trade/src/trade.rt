@@ -178,7 +178,7 @@ impl Trade {
 
     /// A client is in play.
     fn add(&mut self, client: u32) -> Result<(), NoMemory> {
-        let trader = Trader::new(self.alloc, client, self.connections)?;
+        let trader = Trader::new(self.alloc, client, self.connections);
         self.traders.push(trader)?;
         Ok(())
     }

@@ -3,16 +3,17 @@
 use crate::acts::put_act;
 use crate::answer::{Answer, answer_in};
 use crate::fault::Fault;
-use crate::floor::{Floor, lying_in};
-use crate::land::Land;
-use crate::pane::Pane;
+use crate::floor::{count_lying, is_lying, lying_in};
+use crate::land::{Land, count_cells};
+use crate::pane::{Pane, fits};
 use crate::pile::pile_in;
 use crate::tally::{Tally, count};
-use mc_bytes::NoMemory;
+use mc_bytes::{NoMemory, ReadFault};
 use mc_down::read_down;
 use mc_entities::Planned;
 use mc_frame::{Splitter, Take};
 use mc_packets::Down;
+use mc_replica::Replica;
 use mc_rows::{Words, look_up};
 use mc_server::{Input, Server};
 use std::alloc::Global;
@@ -58,11 +59,8 @@ pub struct Trader {
     /// Which of the clients it is, and the number of its connection.
     pub client: u32,
     number: u32,
-    /// What it was told of its window, of cells and of what lies there, and which clicks were
-    /// answered.
-    pane: Pane,
-    land: Land,
-    floor: Floor,
+    /// What its packets make of its world, and which clicks were answered.
+    world: Replica,
     answers: Vec<Answer>,
     /// What it is to be told.
     due: Pane,
@@ -91,14 +89,12 @@ pub fn log_in(
 
 impl Trader {
     /// A client that has logged in and knows nothing yet.
-    pub fn new(alloc: Global, client: u32, number: u32) -> Result<Trader, NoMemory> {
-        Ok(Trader {
+    pub fn new(alloc: Global, client: u32, number: u32) -> Trader {
+        Trader {
             alloc,
             client,
             number,
-            pane: Pane::new(),
-            land: Land::new(alloc)?,
-            floor: Floor::new(alloc),
+            world: Replica::new(alloc),
             answers: Vec::new(alloc),
             due: Pane::new(),
             views: 0,
@@ -106,7 +102,7 @@ impl Trader {
             splitter: Splitter::new(alloc),
             is_in: false,
             owes: false,
-        })
+        }
     }
 
     /// Leaves.
@@ -149,7 +145,7 @@ impl Trader {
 
     /// Compares how many items of a sort lie where it sees them.
     fn compare_floor(&self, words: &mut Words<'_>) -> Result<(), Fault> {
-        let count = self.floor.count(words.number(), words.number());
+        let count = count_lying(&self.world, words.number(), words.number());
         if count != words.number::<u32>() {
             return Err(Fault::Told(self.client, "that other items lie there"));
         }
@@ -158,7 +154,7 @@ impl Trader {
 
     /// Compares one that lies where it sees it.
     fn compare_item(&self, words: &mut Words<'_>) -> Result<(), Fault> {
-        if !self.floor.has(&lying_in(words)) {
+        if !is_lying(&self.world, &lying_in(words)) {
             return Err(Fault::Told(self.client, "that another item fell"));
         }
         Ok(())
@@ -239,15 +235,20 @@ impl Trader {
                 self.hear_answer(window.cast_unsigned(), *number, *is_accepted)?;
                 Ok(())
             }
-            _ if !self.pane.tell(packet, tally) => Err(Fault::Told(
-                self.client,
-                "of a slot that is not shown",
-            )),
-            _ => {
-                self.land.tell(packet, tally)?;
-                self.floor.tell(packet)?;
-                Ok(())
-            }
+            _ => self.see(packet, tally),
+        }
+    }
+
+    /// Takes a packet into account that tells of windows, cells or what lies there.
+    fn see(&mut self, packet: &Down, tally: &mut Tally) -> Result<(), Fault> {
+        if !fits(packet, self.world.window(), tally) {
+            return Err(Fault::Told(self.client, "of a slot that is not shown"));
+        }
+        count_cells(packet, tally);
+        match self.world.apply(packet) {
+            Ok(()) => Ok(()),
+            Err(ReadFault::NoMemory) => Err(Fault::NoMemory),
+            Err(ReadFault::Field(_)) => Err(Fault::Told(self.client, "no packet")),
         }
     }
 
@@ -268,10 +269,10 @@ impl Trader {
         }
         self.answers.clear();
         self.due_answers.clear();
-        if let Some(place) = self.pane.differs(&self.due) {
+        if let Some(place) = self.due.differs(self.world.window()) {
             return Err(Fault::Pane(self.client, place));
         }
-        if !self.land.shows(self.views, land) {
+        if !land.is_shown(self.views, &self.world) {
             return Err(Fault::Told(self.client, "other cells"));
         }
         Ok(())

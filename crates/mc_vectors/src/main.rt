@@ -1,5 +1,5 @@
-//! A table of rows: each names a call of the twelve lowest crates and what it is given, and is
-//! repeated with what the call answers. It stands on those crates and on `hex` and `bytes`.
+//! A table of rows: each names a call of the lowest crates or of a client's world and what it is
+//! given, and is repeated with what the call answers. It stands on those crates and on `bytes`.
 //!
 //! It has no contract of its own: the table that it is run on says what each row answers.
 #![tactic(auto)]
@@ -16,6 +16,7 @@ mod minds;
 mod nbt;
 mod packets;
 mod parts;
+mod replica;
 mod slots;
 mod up;
 mod views;
@@ -26,6 +27,7 @@ use mc_bytes::NoMemory;
 use mc_column::Column;
 use mc_entities::Folk;
 use mc_land::Terrain;
+use mc_replica::Replica;
 use mc_rows::{Answer, Words, look_up};
 use mc_view::Tracker;
 use std::alloc::Global;
@@ -39,15 +41,18 @@ struct Bench {
     ground: Ground,
     folk: Folk,
     tracker: Tracker,
+    replica: Replica,
 }
 
-/// A column of air, the flat land, a folk of nobody, and a client that was told of nobody.
+/// A column of air, the flat land, a folk of nobody, a client that was told of nobody, and one that
+/// was sent nothing.
 fn new_bench(alloc: Global) -> Result<Bench, NoMemory> {
     Ok(Bench {
         column: Column::empty(alloc, 0)?,
         ground: Ground::new(alloc, Terrain::Flat),
         folk: Folk::new(alloc),
         tracker: Tracker::new(alloc),
+        replica: Replica::new(alloc),
     })
 }
 
@@ -77,10 +82,11 @@ enum Call {
     View,
     Form,
     Tracker,
+    Replica,
 }
 
 /// The calls by their words.
-const CALLS: [(&str, Call); 23] = [
+const CALLS: [(&str, Call); 24] = [
     ("nbt", Call::Nbt),
     ("same", Call::Same),
     ("make", Call::Make),
@@ -104,6 +110,7 @@ const CALLS: [(&str, Call); 23] = [
     ("view", Call::View),
     ("form", Call::Form),
     ("tracker", Call::Tracker),
+    ("replica", Call::Replica),
 ];
 
 /// The call that a word names.
@@ -112,7 +119,7 @@ fn call_of(name: &str) -> Option<Call> {
 }
 
 /// Answers a call.
-/// Dear to prove: an arm for each of twenty-three calls.
+/// Dear to prove: an arm for each of twenty-four calls.
 fn answer_call(bench: &mut Bench, call: Call, words: &mut Words<'_>, answer: &mut Answer) {
     match call {
         Call::Nbt => nbt::read(words, answer),
@@ -138,6 +145,7 @@ fn answer_call(bench: &mut Bench, call: Call, words: &mut Words<'_>, answer: &mu
         Call::View => views::view(words, answer),
         Call::Form => views::form(words, answer),
         Call::Tracker => views::tracker(&mut bench.tracker, words, answer),
+        Call::Replica => replica::replica(&mut bench.replica, words, answer),
     }
 }
 

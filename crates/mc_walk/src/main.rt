@@ -1,6 +1,6 @@
 //! A walk: three clients of a server move and look about by the rows of a table, and three mobs by
-//! the plans of its first rows. At each tick what each client was told of the others and of the mobs
-//! is compared with where the rows put these.
+//! the plans of its first rows. At each tick what the packets of each client make of its world is
+//! compared with where the rows put the others and the mobs.
 //!
 //! It has no contract of its own: it prints how many rows were played and by which packets they
 //! were told, or the first row behind which a client was told something else.

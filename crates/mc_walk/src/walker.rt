@@ -136,15 +136,12 @@ impl Walker {
         done
     }
 
-    /// Takes a packet into account: a beat, or what it tells of others.
+    /// Takes a packet into account, which may be a beat.
     fn hear(&mut self, packet: &Down, tally: &mut Tally) -> Result<(), Fault> {
-        match packet {
-            Down::KeepAlive(_) => {
-                self.owes = true;
-                Ok(())
-            }
-            _ => self.others.tell(packet, tally),
+        if let Down::KeepAlive(_) = packet {
+            self.owes = true;
         }
+        self.others.tell(packet, tally)
     }
 
     /// Compares what was told of another with where that is: it is seen exactly where its column
