@@ -11,6 +11,7 @@ mod entities;
 mod fields;
 mod frames;
 mod lands;
+mod links;
 mod lobbies;
 mod minds;
 mod nbt;
@@ -68,6 +69,7 @@ enum Call {
     Source,
     Sink,
     Lobby,
+    Link,
     Body,
     Column,
     Land,
@@ -80,7 +82,7 @@ enum Call {
 }
 
 /// The calls by their words.
-const CALLS: [(&str, Call); 23] = [
+const CALLS: [(&str, Call); 24] = [
     ("nbt", Call::Nbt),
     ("same", Call::Same),
     ("make", Call::Make),
@@ -95,6 +97,7 @@ const CALLS: [(&str, Call); 23] = [
     ("source", Call::Source),
     ("sink", Call::Sink),
     ("lobby", Call::Lobby),
+    ("link", Call::Link),
     ("body", Call::Body),
     ("column", Call::Column),
     ("land", Call::Land),
@@ -112,7 +115,7 @@ fn call_of(name: &str) -> Option<Call> {
 }
 
 /// Answers a call.
-/// Dear to prove: an arm for each of twenty-three calls.
+/// Dear to prove: an arm for each of twenty-four calls.
 fn answer_call(bench: &mut Bench, call: Call, words: &mut Words<'_>, answer: &mut Answer) {
     match call {
         Call::Nbt => nbt::read(words, answer),
@@ -129,6 +132,7 @@ fn answer_call(bench: &mut Bench, call: Call, words: &mut Words<'_>, answer: &mu
         Call::Source => devices::source(words, answer),
         Call::Sink => devices::sink(words, answer),
         Call::Lobby => lobbies::lobby(words, answer),
+        Call::Link => links::link(words, answer),
         Call::Body => columns::body(words, answer),
         Call::Column => columns::column(&mut bench.column, words, answer),
         Call::Land => lands::land(&mut bench.ground, words, answer),
