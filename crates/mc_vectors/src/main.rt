@@ -11,6 +11,7 @@ mod entities;
 mod fields;
 mod frames;
 mod lands;
+mod links;
 mod lobbies;
 mod minds;
 mod nbt;
@@ -73,6 +74,7 @@ enum Call {
     Source,
     Sink,
     Lobby,
+    Link,
     Body,
     Column,
     Land,
@@ -101,6 +103,7 @@ const CALLS: [(&str, Call); 24] = [
     ("source", Call::Source),
     ("sink", Call::Sink),
     ("lobby", Call::Lobby),
+    ("link", Call::Link),
     ("body", Call::Body),
     ("column", Call::Column),
     ("land", Call::Land),
@@ -136,6 +139,7 @@ fn answer_call(bench: &mut Bench, call: Call, words: &mut Words<'_>, answer: &mu
         Call::Source => devices::source(words, answer),
         Call::Sink => devices::sink(words, answer),
         Call::Lobby => lobbies::lobby(words, answer),
+        Call::Link => links::link(words, answer),
         Call::Body => columns::body(words, answer),
         Call::Column => columns::column(&mut bench.column, words, answer),
         Call::Land => lands::land(&mut bench.ground, words, answer),

@@ -10,3 +10,8 @@ pub mod Events
 pub mod Troubles
 pub mod LobbyState
 pub mod Upcoming
+pub mod LinkTold
+pub mod LinkStage
+pub mod LinkCounts
+pub mod LinkTroubles
+pub mod LinkState

@@ -15,13 +15,15 @@ mod pieces;
 mod script;
 mod script_line;
 mod unfinished;
+mod words;
 
 pub use arguments::{Command, ServeOptions, WorldOptions};
 pub use bad_input::{BadInput, InputFault};
 pub use ended::Ended;
 pub use finishing::finish;
-pub use lines::{cut_line, goes_past, put_line, read_text};
+pub use lines::{cut_line, goes_past, is_skipped, put_line, read_text};
 pub use pieces::{HEX_PIECE, PIECE, put, put_hex, write_out};
 pub use script::{Script, ScriptError};
 pub use script_line::ScriptEvent;
 pub use unfinished::Unfinished;
+pub use words::{cut_word, is_text, number};

@@ -1,13 +1,12 @@
-ghost use Rattle.std.specs.Prelude.{◌≡◌, MatchOption, position};
-ghost use Rattle.std.specs.Str.{is_utf8};
-ghost use Rattle.mc_words.specs.Script.{is_space, number_of, hex_of, is_next, join_event};
+ghost use Rattle.std.specs.Prelude.{◌≡◌};
+ghost use Rattle.mc_words.specs.Script.{number_of, hex_of, is_next, join_event};
 ghost use Rattle.mc_words.specs.Script.{ticks_event, bytes_event, one_word, two_words, three_words};
 ghost use Rattle.mc_words.specs.Script.{words_event, words_of, line_event, after_event};
-ghost use Rattle.mc_words.specs.ScriptRead.{IsRead, CutsWord, IsLastWord};
+ghost use Rattle.mc_words.specs.ScriptRead.{IsRead};
 
 use crate::bad_input::InputFault;
-use crate::digits::ranged_u32;
 use crate::lines::{goes_past, is_skipped, put_hex};
+use crate::words::{cut_word, is_text, number};
 use mc_bytes::{NoMemory, Octets};
 use std::alloc::Global;
 
@@ -103,17 +102,6 @@ fn is_next(last: Option<u32>, number: u32) -> bool
     }
 }
 
-/// A number in a range, without zeros before it.
-#[tactic(auto, unfolding(crate::specs::Script::number_of))]
-fn number(word: &[u8], low: u32, high: u32) -> Option<u32>
-    ensures { result ≡ number_of low high word.now }
-{
-    if let [b'0', _, ..] = word {
-        return None;
-    }
-    ranged_u32(word, low, high)
-}
-
 /// The number of a connection.
 fn connection(word: &[u8]) -> Option<u32>
     ensures { result ≡ number_of 0 4294967295 word.now }
@@ -189,25 +177,6 @@ fn three_words(
     }
 }
 
-/// The place of the first space.
-fn space(line: &[u8]) -> Option<usize>
-    ensures { result ≡ position is_space line.now }
-{
-    line.iter().position(|byte| *byte == b' ')
-}
-
-/// The first word of a line, and what follows the space behind it, where there is one.
-fn cut_word(line: &[u8]) -> (&[u8], Option<&[u8]>)
-    ensures { MatchOption result.1
-        (IsLastWord line.now result.0.now)
-        (λ rest. CutsWord line.now result.0.now rest.now) }
-{
-    match space(line) {
-        Some(end) => (&line[..end], Some(line.split_at(end + 1).1)),
-        None => (line, None),
-    }
-}
-
 /// The event of a line's words.
 fn words_event(alloc: Global, before: Before, line: &[u8]) -> Result<ScriptEvent, Unread>
     ensures { IsRead (words_event before (words_of line.now)) result }
@@ -225,16 +194,6 @@ fn words_event(alloc: Global, before: Before, line: &[u8]) -> Result<ScriptEvent
         return Err(Unread::Fault(InputFault::Word));
     }
     three_words(alloc, verb, word, digits)
-}
-
-/// Whether a line is UTF-8.
-fn is_text(line: &[u8]) -> bool
-    ensures { result ≡ is_utf8 line.now }
-{
-    match str::from_utf8(line) {
-        Ok(_) => true,
-        Err(_) => false,
-    }
 }
 
 /// The event of a line, or none where it is left out. The text has `len` bytes, and `size` up to

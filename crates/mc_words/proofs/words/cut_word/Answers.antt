@@ -1,7 +1,7 @@
 use Rattle.std.proofs.Common.{rules}
 use Rattle.mc_words.specs.Script.{is_space}
 use Rattle.mc_words.proofs.Cuts.{cut-some, cut-none}
-use Rattle.mc_words.proofs.script_line.cut_word.Goals as goal
+use Rattle.mc_words.proofs.words.cut_word.Goals as goal
 
 pub returns-in-Some : goal.returns-in-Some
 returns-in-Some c =
