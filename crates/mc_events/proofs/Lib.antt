@@ -14,3 +14,4 @@ pub mod Shedding
 pub mod Sitting
 pub mod Standing
 pub mod TickEnds
+pub mod TickLooks

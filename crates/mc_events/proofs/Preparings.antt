@@ -63,7 +63,7 @@ module _ (ids : List ℕ) (i : ℕ) (m : FinMap nat_cmp ConnectionValue) (lt : i
   ready_past v so none = ready_skip v (get_or ids i 0) (drop (i + 1) ids) m
       (subst (λ (ks : List ℕ). AreReadySo v ks m) (drop_more ids i 0 lt) so) none
 
-nothing_left : (i : ℕ) (ids : List ℕ) → length ids ≤ i → drop i ids ≡ []
+pub nothing_left : (i : ℕ) (ids : List ℕ) → length ids ≤ i → drop i ids ≡ []
 nothing_left zero [] le = refl
 nothing_left (suc i) [] le = refl
 nothing_left zero (k ∷ ids) le = absurd (omega (arith, le))

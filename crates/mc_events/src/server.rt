@@ -28,7 +28,8 @@ use mc_model::{Cause, Settings};
 use mc_play::Game;
 use mc_showing::Roster;
 use std::alloc::Global;
-use std::marker::Model;
+use std::marker::{Brand, Model};
+use std::sync::ledger::Blank;
 
 /// A server: what is played, who is connected, and what each was shown and is owed.
 #[derive(Drop)]
@@ -137,7 +138,7 @@ impl Server {
             Input::Bytes(k, bytes) => self.bytes(k, bytes),
             Input::Gone(k) => self.leave(k, Cause::Gone),
             Input::Broke(k) => self.leave(k, Cause::Broke),
-            Input::Tick => self.tick(minds),
+            Input::Tick => self.count_tick::<M, Brand>(minds, Blank::new(1)),
         }
     }
 

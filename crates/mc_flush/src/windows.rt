@@ -14,6 +14,8 @@ ghost use Rattle.mc_model.specs.Texts.{chat_json};
 ghost use Rattle.mc_sending.specs.Sending.{play_bytes};
 ghost use Rattle.mc_flush.specs.Seeing.{seen_window, window_kept, window_packets};
 
+mod fields;
+
 use crate::Mark;
 use crate::slots::put_slots;
 use mc_bytes::{NoMemory, Text};

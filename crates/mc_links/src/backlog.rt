@@ -1,6 +1,8 @@
 ghost use Rattle.std.specs.Prelude.{◌≡◌, ◌+◌, ◌++◌, ◌≤◌, ◌↔◌, [], OnOk, drop, length, nat_le, take};
 ghost use Rattle.mc_frame.specs.Kept.{joined, outbox_max};
 
+mod fields;
+
 use bytes::Bytes;
 use mc_bytes::NoMemory;
 use mc_frame::{OUTBOX_MAX, Outbox};

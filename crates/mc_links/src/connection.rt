@@ -220,7 +220,7 @@ impl Connection {
     pub fn hand_all(&mut self, pieces: Vec<Bytes>) -> Result<(), NoMemory>
         ensures ok { (packets : List Sent) → joined pieces.items ≡ bytes_of packets → OnOk result
             (self.new ≡ record self.old { link = (hand self.old.link packets).link }) }
-        ensures same { self.new.id ≡ self.old.id }
+        ensures only { self.new ≡ record self.old { link = self.new.link } }
     {
         if !self.backlog.has_room_for(pieces.as_slice()) {
             self.overflow();

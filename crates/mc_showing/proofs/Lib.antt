@@ -2,6 +2,8 @@ pub mod JoinFacts
 pub mod ColumnFacts
 pub mod SceneFacts
 pub mod ReadyFacts
+pub mod LookFacts
+pub mod AheadFacts
 pub mod RosterFacts
 pub mod Mapped
 pub mod PairFacts

@@ -1,21 +1,24 @@
 -- What a client is shown of the parts of a scene is what the game shows its player.
-use Rattle.std.proofs.Common.{◌≡◌, ℕ, zero, suc, List, [], ◌∷◌, ◌++◌, map, Option, Some, None}
+use Rattle.std.proofs.Common.{◌≡◌, ℕ, zero, suc, ◌+◌, ◌*◌, List, [], ◌∷◌, ◌++◌, length, map}
+use Rattle.std.proofs.Common.{Option, Some, None}
 use Rattle.std.proofs.Common.{is_some, refl, sym}
 use Rattle.std.proofs.Common.{subst, ap, ◌∙◌, append_assoc}
 use Rattle.std.specs.Prelude.{drop, option_map, if◌then◌else◌}
-use Rattle.std.specs.List.{AllByRecursion, filter}
+use Rattle.std.specs.List.{AllByRecursion, filter, sum_by}
 use Rattle.std.specs.Option.{option_copied}
 use Rattle.std.specs.FinMap.{from_entries, get-empty}
 use Rattle.std.specs.Ordering.{int_cmp}
 use lib.IntN.{pos}
+use Rattle.mc_column.specs.Sizes.{cells}
 use Rattle.mc_land.specs.Places.{Place}
 use Rattle.mc_packets.specs.declared.down.Down.{Down}
 use Rattle.mc_entities.specs.declared.entity.Entity.{Entity}
 use Rattle.mc_slots.specs.Pile.{slot_of}
+use Rattle.mc_view.specs.Sets.{is_within}
 use Rattle.mc_view.specs.Views.{column_of_spot, is_in_view, view_of}
 use Rattle.mc_model.specs.Delta.{delta}
 use Rattle.mc_model.specs.Sight.{Sight, nothing_seen, others, seen_of, window_seen}
-use Rattle.mc_model.specs.Notes.{confirm_packet, noted_packets, notes_of}
+use Rattle.mc_model.specs.Notes.{confirm_packet, is_sent, noted_packets, notes_of}
 use Rattle.mc_model.specs.Opening.{opening_of}
 use Rattle.mc_model.specs.Ticks.{beat_at, shown_age}
 use Rattle.mc_model.specs.declared.player.Player.{Player}
@@ -23,20 +26,23 @@ use Rattle.mc_model.specs.Game.{Game, spot_of}
 use Rattle.mc_model.specs.Showing.{due, last_shown, notes_due, sight_of}
 use Rattle.mc_play.specs.Kept.{land_of}
 use Rattle.mc_told.specs.Telling.{kept_of, told_slot}
+use Rattle.mc_loads.specs.ColumnFrames.{changes_cost, unencoded}
 use Rattle.mc_loads.specs.Columns.{IsReady, placed_with}
 use Rattle.mc_sending.specs.Sending.{play_bytes}
 use Rattle.mc_sending.proofs.Pieces.{play_bytes-append}
 use Rattle.mc_flush.specs.declared.client_view.ClientView.{ClientView}
-use Rattle.mc_flush.specs.Encoding.{AreFrames}
+use Rattle.mc_flush.specs.Encoding.{AreFrames, columns_in, looks, looks_at}
+use Rattle.mc_flush.specs.Encoding as mark_notes
 use Rattle.mc_flush.specs.Lists.{ListValue}
 use Rattle.mc_flush.specs.Seeing.{MarkValue, Parts, StandsFor, is_shown, loaded, noted_of}
 use Rattle.mc_flush.specs.Seeing.{nothing_shown, present_parts, seen, settled_parts, spot_seen}
 use Rattle.mc_flush.specs.LineFrames.{IsLine}
 use Rattle.mc_showing.specs.declared.scene.Scene.{Scene}
 use Rattle.mc_showing.specs.Around.{new_columns}
+use Rattle.mc_showing.specs.Looking.{rest_looks}
 use Rattle.mc_showing.specs.Shown.{IsListed, Shows, pairs_of}
 use Rattle.mc_showing.specs.Scenes.{IsPart, IsScene}
-use Rattle.mc_showing.proofs.ColumnFacts.{loaded_are}
+use Rattle.mc_showing.proofs.ColumnFacts.{around_columns, loaded_are}
 
 -- ---- marks
 
@@ -166,6 +172,20 @@ module _ (scene : Scene) (p : Player) (part : ClientView) (is : IsScene scene)
 
   pub lines_clear : AllByRecursion IsLine part.lines.now
   lines_clear = rw (has.lines) (later_lines p.since scene.lines.now is.clear)
+
+  -- ---- what a flush looks at
+
+  -- the columns that stay, and the cells of them that changed
+  pub looks_are : (mark : MarkValue) → looks scene.encoded.now part.land.now mark part.view
+      + mark_notes.noted_looks part.view p.notes
+      ≡ rest_looks scene.encoded.now scene.game.now.settled game mark (Some p)
+  looks_are mark = λ i.
+      cells * length (unencoded (columns_in scene.encoded.now)
+      (loaded_are game p mark part.view has.view i))
+      + changes_cost (columns_in scene.encoded.now) (has.land i)
+      (filter (is_within mark.view) (around_columns game p part.view has.view i))
+      + sum_by looks_at (filter (is_sent (λ (place : Place).
+      is_in_view (has.view.middle i) (has.view.d i) place)) p.notes.cells)
 
   -- ---- what a flush says
 

@@ -20,6 +20,10 @@ pub record IsAround (g : Game) (p : Player) (view : ViewSet) : Type 0 where
 abbrev pub new_columns : Game → Player → MarkValue → List Place
 new_columns g p mark = filter (λ (place : Place). not (is_within mark.view place)) (view_in g p)
 
+-- and those of them that it was shown
+abbrev pub kept_columns : Game → Player → MarkValue → List Place
+kept_columns g p mark = filter (is_within mark.view) (view_in g p)
+
 -- the numbers of the middle column of a player's view, and how many columns it reaches on each axis
 abbrev pub reach_of : Game → Player → View
 reach_of g p = (

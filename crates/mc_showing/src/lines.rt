@@ -1,9 +1,9 @@
 //! What was said, as texts that clients are shown, and encoded once for all of them.
 
-ghost use Rattle.std.specs.Prelude.{◌≡◌, IfOk};
+ghost use Rattle.std.specs.Prelude.{◌≡◌, IfOk, OnOk};
 ghost use Rattle.std.specs.List.{AllByRecursion};
 ghost use Rattle.mc_land.specs.Land.{LandValue};
-ghost use Rattle.mc_flush.specs.Encoding.{AreFrames};
+ghost use Rattle.mc_flush.specs.Encoding.{AreFrames, with_lines};
 ghost use Rattle.mc_flush.specs.LineFrames.{IsLine};
 ghost use Rattle.mc_flush.specs.Lists.{ListValue};
 
@@ -40,6 +40,7 @@ pub fn encode_lines(
 ) -> Result<Vec<Text>, NoMemory>
     ensures same { IfOk result (λ texts. texts.items ≡ all.now) }
     ensures clear { IfOk result (λ texts. AllByRecursion IsLine texts.items) }
+    ensures added { OnOk result (encoded.new ≡ with_lines encoded.old all.now) }
     ensures frames { (land : LandValue) (list : ListValue) → AreFrames land list encoded.old
         → AreFrames land list encoded.new }
 {

@@ -1,50 +1,59 @@
 //! What more than one client may be sent at a tick, encoded once, and the columns that clients are
 //! to be shown.
 
-ghost use Rattle.std.specs.Prelude.{◌≡◌, ◌<◌, IfOk, OnOk};
-ghost use Rattle.std.specs.List.{AllByRecursion};
+ghost use Rattle.std.specs.Prelude.{◌≡◌, ◌≤◌, ◌<◌, ◌+◌, ◌*◌, ◌∷◌, [], IfOk, OnOk, length};
+ghost use Rattle.std.specs.List.{AllByRecursion, filter, sum_by};
+ghost use Rattle.std.specs.FinMap.{get};
+ghost use Rattle.mc_column.specs.Sizes.{cells};
 ghost use Rattle.mc_land.specs.Land.{LandValue};
 ghost use Rattle.mc_land.specs.Places.{IsPlace};
+ghost use Rattle.mc_view.specs.Sets.{all_of, is_within};
 ghost use Rattle.mc_loads.specs.Columns.{IsReady};
-ghost use Rattle.mc_flush.specs.Encoding.{AreFrames};
+ghost use Rattle.mc_flush.specs.Encoding.{AreFrames, with_entity_frames, with_load, with_players};
 ghost use Rattle.mc_flush.specs.Lists.{ListValue};
 ghost use Rattle.mc_flush.specs.Seeing.{loaded};
 ghost use Rattle.mc_play.specs.Kept.{land_of};
+ghost use Rattle.mc_showing.specs.Ahead.{begun, prepared, with_all_changes, with_loads};
+ghost use Rattle.mc_showing.specs.Ahead.{with_shown_changes};
+ghost use Rattle.mc_showing.specs.Looking.{cells_of, changed_in, view_looks};
 ghost use Rattle.mc_showing.specs.Preparing.{IsReadyFor, Prepares};
 
 use crate::roster::Roster;
 use crate::views::view_of;
 use mc_bytes::NoMemory;
+use mc_entities::Folk;
 use mc_flush::{Encoded, Mark};
 use mc_land::{Land, Steps};
 use mc_play::Game;
 use mc_view::{Columns, ViewSet};
 use std::alloc::Global;
-use std::marker::Brand;
-use std::sync::ledger::{Blank, Ledger};
+use std::sync::ledger::Ledger;
 
 /// Encodes who left and who came since the last settling, and of each entity how it moved since, or
 /// what shows it, if it came since.
 fn add_all(
     alloc: Global,
     roster: &Roster,
-    game: &Game,
+    folk: &Folk,
     encoded: &mut Encoded,
 ) -> Result<(), NoMemory>
-    ensures { (land : LandValue) → AreFrames land roster.now encoded.old
+    ensures added { OnOk result (encoded.new
+        ≡ with_entity_frames (with_players encoded.old roster.now) folk.now.state) }
+    ensures frames { (land : LandValue) → AreFrames land roster.now encoded.old
         → AreFrames land roster.now encoded.new }
 {
     encoded.add_players(alloc, roster.list())?;
-    encoded.add_entities(alloc, game.folk())
+    encoded.add_entities(alloc, folk)
 }
 
 /// Encodes who left and who came since the last settling, and of each entity how it moved since, or
 /// what shows it, if it came since.
-pub fn start(alloc: Global, roster: &Roster, game: &Game) -> Result<Encoded, NoMemory>
-    ensures { IfOk result (AreFrames (land_of game.now) roster.now) }
+pub fn start(alloc: Global, roster: &Roster, folk: &Folk) -> Result<Encoded, NoMemory>
+    ensures is { IfOk result (λ encoded. encoded ≡ begun roster.now folk.now.state) }
+    ensures frames { (land : LandValue) → IfOk result (AreFrames land roster.now) }
 {
     let mut encoded = Encoded::new(alloc);
-    if let Err(fault) = add_all(alloc, roster, game, &mut encoded) {
+    if let Err(fault) = add_all(alloc, roster, folk, &mut encoded) {
         drop(encoded);
         return Err(fault);
     }
@@ -64,6 +73,9 @@ fn prepare_place<L: Ledger>(
     ensures same { Prepares game.old game.new }
     ensures frames { (list : ListValue) → AreFrames (land_of game.old) list encoded.old
         → AreFrames (land_of game.new) list encoded.new }
+    ensures loaded { OnOk result (encoded.new
+        ≡ with_load encoded.old (cells_of game.old.settled game.old.game) place.now) }
+    ensures bounded { steps.new ≤ steps.old + cells }
 {
     game.ready(place)?;
     encoded.add_load(alloc, game.land(), place, steps)?;
@@ -83,6 +95,9 @@ fn prepare_columns<L: Ledger>(
     ensures same { Prepares game.old game.new }
     ensures frames { (list : ListValue) → AreFrames (land_of game.old) list encoded.old
         → AreFrames (land_of game.new) list encoded.new }
+    ensures loaded { OnOk result (encoded.new
+        ≡ with_loads (cells_of game.old.settled game.old.game) encoded.old columns) }
+    ensures bounded { steps.new ≤ steps.old + cells * length columns }
 {
     for place in columns {
         prepare_place(alloc, game, encoded, &place, steps)?;
@@ -91,7 +106,9 @@ fn prepare_columns<L: Ledger>(
 }
 
 /// Whether a client was shown a column.
-fn was_shown(mark: &Mark, place: &(i32, i32)) -> bool {
+fn was_shown(mark: &Mark, place: &(i32, i32)) -> bool
+    ensures { result ≡ is_within mark.now.view place.now }
+{
     match mark.view() {
         Some(view) => view.has(place.0, place.1),
         None => false,
@@ -108,8 +125,12 @@ fn prepare_change<L: Ledger>(
     steps: &mut Steps<L>,
 ) -> Result<(), NoMemory>
     requires { IsPlace place.now }
-    ensures { (list : ListValue) → AreFrames land.now list encoded.old
+    ensures frames { (list : ListValue) → AreFrames land.now list encoded.old
         → AreFrames land.now list encoded.new }
+    ensures changed { OnOk result (encoded.new
+        ≡ with_shown_changes land.now mark.now.view encoded.old (place.now ∷ [])) }
+    ensures bounded { steps.new ≤ steps.old
+        + sum_by (changed_in land.now) (filter (is_within mark.now.view) (place.now ∷ [])) }
 {
     if !was_shown(mark, place) {
         return Ok(());
@@ -127,8 +148,12 @@ fn prepare_changes<L: Ledger>(
     steps: &mut Steps<L>,
 ) -> Result<(), NoMemory>
     requires { AllByRecursion IsPlace columns }
-    ensures { (list : ListValue) → AreFrames land.now list encoded.old
+    ensures frames { (list : ListValue) → AreFrames land.now list encoded.old
         → AreFrames land.now list encoded.new }
+    ensures changed { OnOk result (encoded.new
+        ≡ with_shown_changes land.now mark.now.view encoded.old columns) }
+    ensures bounded { steps.new ≤ steps.old
+        + sum_by (changed_in land.now) (filter (is_within mark.now.view) columns) }
 {
     for place in columns {
         prepare_change(alloc, land, encoded, mark, &place, steps)?;
@@ -137,46 +162,55 @@ fn prepare_changes<L: Ledger>(
 }
 
 /// Makes the columns of a view ready that a client was not shown, and encodes their loads and the
-/// changed cells of the others. The looks at cells are not counted on.
+/// changed cells of the others.
 fn prepare_view<L: Ledger>(
     alloc: Global,
     game: &mut Game,
     encoded: &mut Encoded,
     view: &ViewSet,
     mark: &Mark,
-    blank: Blank,
+    steps: &mut Steps<L>,
 ) -> Result<(), NoMemory>
-    requires name { blank.name ≡ L.name }
-    requires parts { blank.parts ≡ L.parts }
-    requires some { 0 < blank.parts }
     ensures ready { OnOk result
         (AllByRecursion (IsReady (land_of game.new)) (loaded mark.now view.now)) }
     ensures same { Prepares game.old game.new }
     ensures frames { (list : ListValue) → AreFrames (land_of game.old) list encoded.old
         → AreFrames (land_of game.new) list encoded.new }
+    ensures prepared { OnOk result (encoded.new ≡
+        with_all_changes (cells_of game.old.settled game.old.game)
+        (with_loads (cells_of game.old.settled game.old.game) encoded.old
+        (loaded mark.now view.now)) (filter (is_within mark.now.view) (all_of view.now))) }
+    ensures bounded { steps.new ≤ steps.old + (cells * length (loaded mark.now view.now)
+        + sum_by (changed_in (cells_of game.old.settled game.old.game))
+        (filter (is_within mark.now.view) (all_of view.now))) }
 {
-    let mut steps = Steps::<L>::new(blank);
-    prepare_columns(alloc, game, encoded, mark.entered(view), &mut steps)?;
-    prepare_changes(alloc, game.land(), encoded, mark, view.all(), &mut steps)
+    prepare_columns(alloc, game, encoded, mark.entered(view), steps)?;
+    prepare_changes(alloc, game.land(), encoded, mark, view.all(), steps)
 }
 
 /// Makes the columns ready that the client of a connection is to be shown and was not, and encodes
 /// their loads and the changed cells of the others, if it has a player. What was ready stays so.
-pub fn prepare_one(
+/// Each of these cells is looked at once at most, and none whose frame is there.
+pub fn prepare_one<L: Ledger>(
     alloc: Global,
     game: &mut Game,
     encoded: &mut Encoded,
     connection: u32,
     mark: &Mark,
+    steps: &mut Steps<L>,
 ) -> Result<(), NoMemory>
     ensures ready { OnOk result (IsReadyFor game.new connection mark.now) }
     ensures same { Prepares game.old game.new }
     ensures frames { (list : ListValue) → AreFrames (land_of game.old) list encoded.old
         → AreFrames (land_of game.new) list encoded.new }
+    ensures prepared { OnOk result (encoded.new ≡ prepared game.old.settled game.old.game
+        mark.now (get game.old.game.players connection) encoded.old) }
+    ensures bounded { steps.new ≤ steps.old + view_looks game.old.settled game.old.game
+        mark.now (get game.old.game.players connection) }
 {
     let Some(player) = game.players().find(connection) else {
         return Ok(());
     };
     let view = view_of(game, player);
-    prepare_view::<Brand>(alloc, game, encoded, &view, mark, Blank::new(1))
+    prepare_view(alloc, game, encoded, &view, mark, steps)
 }

@@ -4,6 +4,8 @@ ghost use Rattle.std.specs.FinMap as map;
 ghost use Rattle.mc_flush.specs.Lists.{new_list, settled_list, with_name, without_name};
 ghost use Rattle.mc_flush.specs.Seeing.{IsNamed};
 
+mod fields;
+
 use mc_bytes::NoMemory;
 use mc_flush::PlayerList;
 use mc_model::Name;

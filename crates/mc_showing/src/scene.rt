@@ -1,23 +1,19 @@
-ghost use Rattle.std.specs.Prelude.{◌≡◌, ◌≤◌, ◌<◌, ◌++◌, [], List, ℕ, Option, Some, OnOk, drop};
+ghost use Rattle.std.specs.Prelude.{◌≡◌, ◌≤◌, ◌+◌, ◌++◌, [], Option, Some, OnOk, drop};
 ghost use Rattle.std.specs.Prelude.{if◌then◌else◌};
 ghost use Rattle.std.specs.List.{AllByRecursion};
 ghost use Rattle.std.specs.Option.{option_copied};
-ghost use Rattle.std.specs.FinMap as finmap;
 ghost use lib.IntN.{pos};
 ghost use Rattle.mc_frame.specs.Kept.{joined};
-ghost use Rattle.mc_model.specs.Delta.{delta};
-ghost use Rattle.mc_model.specs.Sight.{Sight, others};
+ghost use Rattle.mc_model.specs.Sight.{Sight};
 ghost use Rattle.mc_model.specs.Opening.{opening_of};
 ghost use Rattle.mc_model.specs.Game.{chest_of, pack_of, spot_of};
 ghost use Rattle.mc_model.specs.Showing.{due, sight_of};
 ghost use Rattle.mc_play.specs.Kept.{land_of};
 ghost use Rattle.mc_sending.specs.Sending.{play_bytes};
 ghost use Rattle.mc_loads.specs.Columns.{IsReady};
-ghost use Rattle.mc_flush.specs.Encoding.{AreFrames};
-ghost use Rattle.mc_flush.specs.Seeing.{IsNamed, StandsFor, is_shown, loaded, noted_of};
-ghost use Rattle.mc_flush.specs.LineFrames.{IsLine};
-ghost use Rattle.mc_flush.specs.Seeing.{present_parts, seen, settled_parts, spot_seen};
+ghost use Rattle.mc_flush.specs.Seeing.{is_shown, present_parts, settled_parts};
 ghost use Rattle.mc_showing.specs.Around.{new_columns};
+ghost use Rattle.mc_showing.specs.Looking.{rest_looks};
 ghost use Rattle.mc_showing.specs.Shown.{IsListed, Shows};
 ghost use Rattle.mc_showing.specs.Scenes.{IsPart, IsScene};
 
@@ -27,13 +23,12 @@ use bytes::Bytes;
 use mc_bytes::{NoMemory, Text};
 use mc_flush::{ClientView, Encoded, Mark, PlayerList, flush_with};
 use mc_land::Steps;
-use mc_model::{Notes, Player};
+use mc_model::Player;
 use mc_play::Game;
 use mc_slots::Chest;
 use mc_windows::Pack;
 use std::alloc::Global;
-use std::marker::Brand;
-use std::sync::ledger::{Blank, Ledger};
+use std::sync::ledger::Ledger;
 
 /// All that clients are shown a part of at a tick, and what was encoded of it for all of them.
 #[derive(Drop)]
@@ -53,47 +48,6 @@ fn new_lines(lines: &[Text], since: usize) -> &[Text]
     ensures { result.now ≡ drop since lines.now }
 {
     lines.split_at(since.min(lines.len())).1
-}
-
-/// Appends what a client is sent beside the opening. The looks at cells are not counted on.
-fn push_changes<L: Ledger>(
-    alloc: Global,
-    view: &ClientView<'_>,
-    encoded: &Encoded,
-    mark: &mut Mark,
-    notes: &Notes,
-    out: &mut Vec<Bytes>,
-    blank: Blank,
-) -> Result<(), NoMemory>
-    requires name { blank.name ≡ L.name }
-    requires parts { blank.parts ≡ L.parts }
-    requires some { 0 < blank.parts }
-    requires young { view.now.age ≤ 1000000000 }
-    requires few { finmap.len view.now.list.now.present ≤ 50 }
-    requires few_before { finmap.len view.now.list.now.last ≤ 50 }
-    requires named { AllByRecursion IsNamed (finmap.entries view.now.list.now.present) }
-    requires lines { AllByRecursion IsLine view.now.lines.now }
-    requires ready { AllByRecursion (IsReady view.now.land.now) (loaded mark.old view.now.view) }
-    requires frames { AreFrames view.now.land.now view.now.list.now encoded.now }
-    ensures sent { (p : Sight) →
-        StandsFor mark.old (settled_parts view.now.land.now view.now.list.now) p →
-        OnOk result (joined out.new.items ≡ joined out.old.items ++ play_bytes
-        (delta p (seen view.now.land.now view.now.list.now
-        (others view.now.me view.now.folk.now.state.entities)
-        view.now.pack.now (option_copied view.now.chest) view.now.view view.now.age
-        (p.chat ++ view.now.lines.now))
-        ++ noted_of view.now.land.now view.now.view notes.now
-        (spot_seen view.now.land.now view.now.folk.now.state.entities view.now.me)
-        view.now.pack.now (option_copied view.now.chest))) }
-    ensures stands { (chat : List (List ℕ)) → OnOk result
-        (StandsFor mark.new (present_parts view.now.land.now view.now.list.now)
-        (seen view.now.land.now view.now.list.now
-        (others view.now.me view.now.folk.now.state.entities)
-        view.now.pack.now (option_copied view.now.chest) view.now.view view.now.age chat)) }
-    ensures opened { OnOk result (mark.new.view ≡ Some view.now.view) }
-{
-    let mut steps = Steps::<L>::new(blank);
-    flush_with(alloc, view, encoded, mark, notes, out, &mut steps)
 }
 
 impl Scene<'_> {
@@ -143,12 +97,14 @@ impl Scene<'_> {
 
     /// Appends what is due to a client at a tick, where the list has just the players in play. Its
     /// mark then stands for what it is shown, once list and game are settled.
-    pub fn push_for(
+    /// Of cells only those are looked at whose frames were not encoded, and those that were noted.
+    pub fn push_for<L: Ledger>(
         &self,
         alloc: Global,
         player: &Player,
         mark: &mut Mark,
         out: &mut Vec<Bytes>,
+        steps: &mut Steps<L>,
     ) -> Result<(), NoMemory>
         requires scene { IsScene self.now }
         requires ready { AllByRecursion (IsReady (land_of self.now.game.now))
@@ -160,20 +116,16 @@ impl Scene<'_> {
         ensures shows { (last : Sight) → IsListed self.now.list.now self.now.game.now.game →
             OnOk result (Shows (present_parts (land_of self.now.game.now) self.now.list.now)
             mark.new (Some (sight_of self.now.game.now.game player.now last))) }
+        ensures cost { OnOk result (steps.new ≡ steps.old + rest_looks self.now.encoded.now
+            self.now.game.now.settled self.now.game.now.game mark.old (Some player.now)) }
+        ensures bounded { steps.new ≤ steps.old + rest_looks self.now.encoded.now
+            self.now.game.now.settled self.now.game.now.game mark.old (Some player.now) }
     {
         self.push_opening(alloc, player, mark, out)?;
         let pack = self.game.pack_of(player);
         let chest = self.game.chest_of(player);
         let part = self.part_of(player, &pack, chest.as_ref());
-        push_changes::<Brand>(
-            alloc,
-            &part,
-            self.encoded,
-            mark,
-            &player.notes,
-            out,
-            Blank::new(1),
-        )?;
+        flush_with(alloc, &part, self.encoded, mark, &player.notes, out, steps)?;
         Ok(())
     }
 }

@@ -1,4 +1,5 @@
-//! What a server keeps, field by field: a new one is named here before the crate is built again.
+//! What a server keeps, field by field. This code refuses a copy of cells beside the marks, which no
+//! contract does: a new field is named here before the crate is built again.
 
 use super::Server;
 use crate::connections::Connections;

@@ -1,7 +1,7 @@
 //! A tick: the beat comes to all connections, mobs move, players pick up what lies near them, and
 //! then each client in play is shown the game.
 
-ghost use Rattle.std.specs.Prelude.{◌≡◌, ◌+◌, ◌<◌, ◌≤◌, ◌∷◌, [], ℕ, OnOk, map};
+ghost use Rattle.std.specs.Prelude.{◌≡◌, ◌+◌, ◌<◌, ◌≤◌, ◌∷◌, [], ℕ, Err, OnErr, OnOk, map};
 ghost use Rattle.std.specs.FinMap.{keys};
 ghost use Rattle.mc_flush.specs.Encoding.{AreFrames};
 ghost use Rattle.mc_flush.specs.Lists.{ListValue};
@@ -10,11 +10,14 @@ ghost use Rattle.mc_model.specs.Tick.{at_tick, flushed};
 ghost use Rattle.mc_model.specs.World.{World};
 ghost use Rattle.mc_links.specs.Beating.{IsBeaten};
 ghost use Rattle.mc_play.specs.Kept.{land_of, played};
+ghost use Rattle.mc_showing.specs.Looking.{rest_looks, view_looks};
 ghost use Rattle.mc_showing.specs.Preparing.{Prepares};
 ghost use Rattle.mc_showing.specs.Scenes.{IsScene};
+ghost use Rattle.mc_events.specs.Looks.{AreMarked, AreShownSame, all_prepared, over_clients};
+ghost use Rattle.mc_events.specs.Looks.{tick_looks};
 ghost use Rattle.mc_events.specs.ReadyColumns.{Sheds};
 ghost use Rattle.mc_events.specs.Served.{Each, age_of};
-ghost use Rattle.mc_events.specs.Stands.{Stands};
+ghost use Rattle.mc_events.specs.Stands.{HasFailed, Stands};
 ghost use Rattle.mc_events.specs.Ticking.{AreReady, AreShown, IsEnded, StandsAmid, StaysListed};
 ghost use Rattle.mc_events.specs.Ticking.{dismissed};
 
@@ -23,10 +26,12 @@ use crate::server::Server;
 use mc_bytes::NoMemory;
 use mc_entities::Mind;
 use mc_flush::Encoded;
+use mc_land::Steps;
 use mc_links::beat;
 use mc_play::Game;
 use mc_showing::{Roster, Scene, encode_lines, start, views_of};
 use std::alloc::Global;
+use std::sync::ledger::{Blank, Ledger};
 
 /// The beat of a game comes to all connections, which have these numbers.
 fn beat_all(ids: &[u32], game: &Game, connections: &mut Connections) -> Result<(), NoMemory>
@@ -92,33 +97,39 @@ fn dismiss(
 
 /// Makes the columns ready that clients are to be shown and were not, and encodes what they are
 /// sent of columns, of all connections, which have these numbers.
-fn prepare_all(
+fn prepare_all<L: Ledger>(
     alloc: Global,
     ids: &[u32],
     connections: &Connections,
     game: &mut Game,
     encoded: &mut Encoded,
+    steps: &mut Steps<L>,
 ) -> Result<(), NoMemory>
     requires all { ids.now ≡ keys connections.now }
     ensures ready { OnOk result (AreReady game.new connections.now) }
     ensures same { Prepares game.old game.new }
     ensures frames { (list : ListValue) → AreFrames (land_of game.old) list encoded.old
         → AreFrames (land_of game.new) list encoded.new }
+    ensures prepared { OnOk result (encoded.new ≡ all_prepared game.old.settled game.old.game
+        connections.now ids.now encoded.old) }
+    ensures bounded { steps.new ≤ steps.old + over_clients
+        (view_looks game.old.settled game.old.game) game.old.game connections.now }
 {
     for id in ids {
         if let Some(connection) = connections.find(*id) {
-            connection.prepare(alloc, game, encoded)?;
+            connection.prepare(alloc, game, encoded, steps)?;
         }
     }
     Ok(())
 }
 
 /// Shows the client of each connection the game of a scene. The connections have these numbers.
-fn show_all(
+fn show_all<L: Ledger>(
     alloc: Global,
     ids: &[u32],
     scene: &Scene<'_>,
     connections: &mut Connections,
+    steps: &mut Steps<L>,
 ) -> Result<(), NoMemory>
     requires all { ids.now ≡ keys connections.old }
     requires scene { IsScene scene.now }
@@ -126,10 +137,14 @@ fn show_all(
     ensures shown { OnOk result (AreShown scene.now.game.now scene.now.list.now
         connections.old connections.new) }
     ensures same { keys connections.new ≡ keys connections.old }
+    ensures only { AreMarked connections.old connections.new }
+    ensures bounded { steps.new ≤ steps.old + over_clients (rest_looks scene.now.encoded.now
+        scene.now.game.now.settled scene.now.game.now.game) scene.now.game.now.game
+        connections.old }
 {
     for id in ids {
         if let Some(connection) = connections.find_mut(*id) {
-            connection.show(alloc, scene)?;
+            connection.show(alloc, scene, steps)?;
         }
     }
     Ok(())
@@ -137,8 +152,15 @@ fn show_all(
 
 impl Server {
     /// Lets a tick come: the game is a tick older, those that were silent for too long leave, mobs
-    /// move, players pick up what they can, and each client in play is shown the game.
-    pub(super) fn tick<M: Mind>(&mut self, minds: &mut [M]) -> Result<(), NoMemory>
+    /// move, players pick up what they can, and each client in play is shown the game. All cells
+    /// that are looked at for that are counted, also where memory runs out: of each client no more
+    /// than those of the columns that come into its view, those that changed of the columns that
+    /// stay, and those that were noted. After an error each later call answers with it.
+    pub fn tick<M: Mind, L: Ledger>(
+        &mut self,
+        minds: &mut [M],
+        steps: &mut Steps<L>,
+    ) -> Result<(), NoMemory>
         requires young { age_of self.old < 1000000000 }
         ensures follows { (w : World) → Stands self.old w →
             w.plans ≡ map (λ mind. M.plan mind) minds.old →
@@ -148,9 +170,66 @@ impl Server {
             ((step w ticked).world.plans ≡ map (λ mind. M.plan mind) minds.new) }
         ensures age { OnOk result (age_of self.new ≡ age_of self.old + 1) }
         ensures sheds { OnOk result (Sheds self.old.game self.new.game) }
+        ensures looks { (w : World) → Stands self.old w →
+            w.plans ≡ map (λ mind. M.plan mind) minds.old → steps.new ≤ steps.old
+            + tick_looks self.old.game.settled (at_tick w).game self.old.connections }
+        ensures fails { OnErr result (HasFailed self.new) }
+        ensures failed { HasFailed self.old → result ≡ Err (record {}) }
+    {
+        if self.failed {
+            return Err(NoMemory);
+        }
+        let done = self.try_tick(minds, steps);
+        if done.is_err() {
+            self.failed = true;
+        }
+        done
+    }
+
+    /// Lets a tick come, and counts its looks at cells by themselves.
+    pub(super) fn count_tick<M: Mind, L: Ledger>(
+        &mut self,
+        minds: &mut [M],
+        blank: Blank,
+    ) -> Result<(), NoMemory>
+        requires young { age_of self.old < 1000000000 }
+        requires name { blank.name ≡ L.name }
+        requires parts { blank.parts ≡ L.parts }
+        requires some { 0 < blank.parts }
+        ensures follows { (w : World) → Stands self.old w →
+            w.plans ≡ map (λ mind. M.plan mind) minds.old →
+            OnOk result (Stands self.new (step w ticked).world) }
+        ensures plans { (w : World) → Stands self.old w →
+            w.plans ≡ map (λ mind. M.plan mind) minds.old → OnOk result
+            ((step w ticked).world.plans ≡ map (λ mind. M.plan mind) minds.new) }
+        ensures age { OnOk result (age_of self.new ≡ age_of self.old + 1) }
+        ensures sheds { OnOk result (Sheds self.old.game self.new.game) }
+    {
+        let mut steps = Steps::<L>::new(blank);
+        self.tick(minds, &mut steps)
+    }
+
+    /// Lets a tick come, as long as there is memory.
+    fn try_tick<M: Mind, L: Ledger>(
+        &mut self,
+        minds: &mut [M],
+        steps: &mut Steps<L>,
+    ) -> Result<(), NoMemory>
+        requires young { age_of self.old < 1000000000 }
+        ensures follows { (w : World) → Stands self.old w →
+            w.plans ≡ map (λ mind. M.plan mind) minds.old →
+            OnOk result (Stands self.new (step w ticked).world) }
+        ensures plans { (w : World) → Stands self.old w →
+            w.plans ≡ map (λ mind. M.plan mind) minds.old → OnOk result
+            ((step w ticked).world.plans ≡ map (λ mind. M.plan mind) minds.new) }
+        ensures age { OnOk result (age_of self.new ≡ age_of self.old + 1) }
+        ensures sheds { OnOk result (Sheds self.old.game self.new.game) }
+        ensures looks { (w : World) → Stands self.old w →
+            w.plans ≡ map (λ mind. M.plan mind) minds.old → steps.new ≤ steps.old
+            + tick_looks self.old.game.settled (at_tick w).game self.old.connections }
     {
         self.beat(minds)?;
-        self.show()
+        self.show(steps)
     }
 
     /// Makes the game a tick older, with its beat: those that were silent for too long leave, mobs
@@ -166,6 +245,8 @@ impl Server {
         ensures age { OnOk result (age_of self.new ≡ age_of self.old + 1) }
         ensures ready { OnOk result
             (self.new.game.aside.ready ≡ self.old.game.aside.ready) }
+        ensures settled { OnOk result (self.new.game.settled ≡ self.old.game.settled) }
+        ensures marks { OnOk result (AreShownSame self.old.connections self.new.connections) }
     {
         self.game.grow();
         beat_all(self.ids.as_slice(), &self.game, &mut self.connections)?;
@@ -181,22 +262,29 @@ impl Server {
 
     /// Shows each client in play the game. Those that are owed too much leave, and columns that
     /// none of the others sees are given up.
-    fn show(&mut self) -> Result<(), NoMemory>
+    fn show<L: Ledger>(&mut self, steps: &mut Steps<L>) -> Result<(), NoMemory>
         requires young { age_of self.old ≤ 1000000000 }
         ensures follows { (w : World) → StandsAmid self.old w →
             OnOk result (StandsAmid self.new (flushed w)) }
         ensures age { OnOk result (age_of self.new ≡ age_of self.old) }
         ensures sheds { OnOk result (Sheds self.old.game self.new.game) }
+        ensures looks { steps.new ≤ steps.old + tick_looks self.old.game.settled
+            self.old.game.game self.old.connections }
     {
-        let mut encoded = start(self.alloc, &self.list, &self.game)?;
-        let done = self.show_clients(&mut encoded);
+        let mut encoded = start(self.alloc, &self.list, self.game.folk())?;
+        let done = self.show_clients(&mut encoded, steps);
         drop(encoded);
         done?;
         self.end_tick()
     }
 
-    /// Makes columns ready and shows each client the game.
-    fn show_clients(&mut self, encoded: &mut Encoded) -> Result<(), NoMemory>
+    /// Makes columns ready and shows each client the game. Nothing else changes of the game, the
+    /// list and the connections but marks and what connections are owed.
+    fn show_clients<L: Ledger>(
+        &mut self,
+        encoded: &mut Encoded,
+        steps: &mut Steps<L>,
+    ) -> Result<(), NoMemory>
         requires young { age_of self.old ≤ 1000000000 }
         requires frames { AreFrames (land_of self.old.game) self.old.list encoded.old }
         ensures prepares { Prepares self.old.game self.new.game }
@@ -207,6 +295,9 @@ impl Server {
           game = self.new.game;
           connections = self.new.connections;
         } }
+        ensures only { AreMarked self.old.connections self.new.connections }
+        ensures looks { steps.new ≤ steps.old + tick_looks self.old.game.settled
+            self.old.game.game self.old.connections }
     {
         prepare_all(
             self.alloc,
@@ -214,6 +305,7 @@ impl Server {
             &self.connections,
             &mut self.game,
             encoded,
+            steps,
         )?;
         let lines = encode_lines(self.alloc, self.game.lines(), encoded)?;
         let scene = Scene {
@@ -227,6 +319,7 @@ impl Server {
             self.ids.as_slice(),
             &scene,
             &mut self.connections,
+            steps,
         )
     }
 

@@ -1,4 +1,5 @@
-//! What a mark keeps, field by field: a new one is named here before the crate is built again.
+//! What a mark keeps, field by field. This code refuses a copy of cells in it, which no contract does:
+//! a new field is named here before the crate is built again.
 
 use super::Mark;
 use crate::windows::Window;

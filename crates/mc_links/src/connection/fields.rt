@@ -1,5 +1,5 @@
-//! What is kept of a connection, field by field: a new one is named here before the crate is built
-//! again.
+//! What is kept of a connection, field by field. This code refuses a copy of cells beside its mark,
+//! which no contract does: a new field is named here before the crate is built again.
 
 use super::Connection;
 use crate::backlog::Backlog;

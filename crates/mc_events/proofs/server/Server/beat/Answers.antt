@@ -4,9 +4,11 @@ use Rattle.mc_model.specs.Pickups.{pickups}
 use Rattle.mc_links.specs.Beating.{IsBeaten}
 use Rattle.mc_play.specs.Kept.{GameValue, played}
 use Rattle.mc_events.specs.contracts.server.Server.{the_view}
+use Rattle.mc_events.specs.Looks.{AreShownSame}
 use Rattle.mc_events.specs.Served.{Each, ServerValue, age_of}
 use Rattle.mc_events.specs.Ticking.{StandsAmid, StaysListed, dismissed}
 use Rattle.mc_events.proofs.Beaten.{beaten_plans, beaten_stands, grown_age}
+use Rattle.mc_events.proofs.TickLooks.{beaten_marks}
 use Rattle.mc_events.proofs.server.Server.beat.Goals as goal
 
 pub returns-clause-follows : goal.returns-clause-follows
@@ -72,3 +74,23 @@ returns-clause-ready g c =
     same ∙ ap (λ (v : GameValue). v.aside.ready) c.move_mobs.ensures.game
     ∙ c.in_ok-dismiss.ensures.ready ∙ ap (λ (v : GameValue). v.aside.ready) c.grow.ensures
     ∙ ap (λ (v : ServerValue). v.game.aside.ready) c.self.view_is) c.pick_up_all.ensures.ready
+
+pub returns-clause-settled : goal.returns-clause-settled
+returns-clause-settled g c =
+    let turned : GameValue = c.move_mobs.new.self in
+    let end : GameValue = c.pick_up_all.new.self in
+    on_ok_weaker c.pick_up_all.result
+    (λ (picked : end ≡ played turned (pickups turned.game) end.aside).
+    ap (λ (v : GameValue). v.settled) picked
+    ∙ ap (λ (v : GameValue). v.settled) c.move_mobs.ensures.game
+    ∙ ap (λ (v : GameValue). v.settled) c.in_ok-dismiss.ensures.game
+    ∙ ap (λ (v : GameValue). v.settled) c.grow.ensures
+    ∙ ap (λ (v : ServerValue). v.game.settled) c.self.view_is) c.pick_up_all.ensures.is
+
+pub returns-clause-marks : goal.returns-clause-marks
+returns-clause-marks g c =
+    on_ok_weaker c.pick_up_all.result
+    (λ _. subst (λ (v : ServerValue). AreShownSame v.connections c.beat_all.new.connections)
+    c.self.view_is (beaten_marks c.grow.new.self.game (the_view c.self.inside).connections
+    c.beat_all.new.connections c.in_ok-beat_all.ensures.beaten c.beat_all.ensures.same))
+    c.pick_up_all.ensures.is

@@ -1,4 +1,4 @@
-use Rattle.std.proofs.Common.{◌≤◌, sym, subst, ◌∙◌}
+use Rattle.std.proofs.Common.{◌≤◌, ◌+◌, sym, subst, ◌∙◌}
 use Rattle.std.specs.List.{AllByRecursion}
 use Rattle.std.specs.FinMap.{entries, len}
 use Rattle.mc_flush.specs.Encoding.{AreFrames}
@@ -7,11 +7,14 @@ use Rattle.mc_flush.specs.Lists.{ListValue}
 use Rattle.mc_flush.specs.Seeing.{IsNamed}
 use Rattle.mc_model.specs.Game.{Game}
 use Rattle.mc_play.specs.Kept.{land_of}
+use Rattle.mc_events.specs.Looks.{AreMarked, tick_looks}
+use Rattle.mc_events.specs.contracts.server.Server.{the_view}
 use Rattle.mc_events.specs.Served.{ServerValue, age_of}
+use Rattle.mc_events.proofs.TickLooks.{columns_within, marked_itself, round_done}
 use Rattle.mc_events.proofs.server.Server.show_clients.Goals as goal
 
 pub show_all-requires-clause-scene : goal.show_all-requires-clause-scene
-show_all-requires-clause-scene c =
+show_all-requires-clause-scene g c =
     let same = c.prepare_all.ensures.same in
     let back = sym c.self.view_is in
     let is = sym c.list.ensures.is in
@@ -32,3 +35,46 @@ show_all-requires-clause-scene c =
           (c.prepare_all.ensures.frames c.self.inside.list frames));
       young = subst (λ (g : Game). g.age ≤ 1000000000) (sym same.game) young;
     }
+
+pub returns-clause-looks : goal.returns-clause-looks
+returns-clause-looks g c =
+    let old = the_view c.self.inside in
+    subst (λ (v : ServerValue). c.show_all.new.steps ≤ c.args.steps.now
+    + tick_looks v.game.settled v.game.game v.connections) c.self.view_is
+    (round_done old.game c.prepare_all.new.game old.connections c.as_slice.result.now
+    c.args.encoded.now c.prepare_all.new.encoded c.encode_lines.new.encoded
+    c.lines.result.now c.args.steps.now c.prepare_all.new.steps c.show_all.new.steps
+    c.prepare_all.ensures.same (c.as_slice.ensures.value ∙ c.self.invariant.are)
+    c.in_ok-prepare_all.ensures.prepared c.in_ok-lines.ensures.added
+    c.prepare_all.ensures.bounded c.show_all.ensures.bounded)
+
+pub returns-in_err-prepare_all-clause-looks : goal.returns-in_err-prepare_all-clause-looks
+returns-in_err-prepare_all-clause-looks g c =
+    let old = the_view c.self.inside in
+    subst (λ (v : ServerValue). c.prepare_all.new.steps ≤ c.args.steps.now
+    + tick_looks v.game.settled v.game.game v.connections) c.self.view_is
+    (columns_within old.game.settled old.game.game old.connections c.args.steps.now
+    c.prepare_all.new.steps c.prepare_all.ensures.bounded)
+
+pub returns-in_err-lines-clause-looks : goal.returns-in_err-lines-clause-looks
+returns-in_err-lines-clause-looks g c =
+    let old = the_view c.self.inside in
+    subst (λ (v : ServerValue). c.prepare_all.new.steps ≤ c.args.steps.now
+    + tick_looks v.game.settled v.game.game v.connections) c.self.view_is
+    (columns_within old.game.settled old.game.game old.connections c.args.steps.now
+    c.prepare_all.new.steps c.prepare_all.ensures.bounded)
+
+pub returns-clause-only : goal.returns-clause-only
+returns-clause-only g c =
+    subst (λ (v : ServerValue). AreMarked v.connections c.show_all.new.connections)
+    c.self.view_is c.show_all.ensures.only
+
+pub returns-in_err-prepare_all-clause-only : goal.returns-in_err-prepare_all-clause-only
+returns-in_err-prepare_all-clause-only g c =
+    subst (λ (v : ServerValue). AreMarked v.connections c.self.inside.connections)
+    c.self.view_is (marked_itself c.self.inside.connections)
+
+pub returns-in_err-lines-clause-only : goal.returns-in_err-lines-clause-only
+returns-in_err-lines-clause-only g c =
+    subst (λ (v : ServerValue). AreMarked v.connections c.self.inside.connections)
+    c.self.view_is (marked_itself c.self.inside.connections)

@@ -14,7 +14,7 @@ use Rattle.mc_links.proofs.Showings.{shown_by}
 use Rattle.mc_links.proofs.connection.Connection.show.Goals as goal
 
 pub returns-clause-shown : goal.returns-clause-shown
-returns-clause-shown c = λ listed.
+returns-clause-shown g c = λ listed.
     let scene = c.args.scene.now in
     let v = scene.game.now in
     let land = land_of v in
