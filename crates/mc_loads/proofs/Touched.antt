@@ -1,5 +1,5 @@
 -- The cells of a column by their indices, and the packets of some of them.
-use Rattle.std.proofs.Common.{◌≡◌, ℕ, ◌<◌, ◌≤◌, List, [], ◌∷◌, ◌++◌, map, length, refl, sym, ap}
+use Rattle.std.proofs.Common.{◌≡◌, ℕ, ◌<◌, ◌≤◌, List, [], ◌∷◌, ◌++◌, map, length, sym, ap}
 use Rattle.std.proofs.Common.{◌∙◌, arith, append_assoc}
 use Rattle.std.specs.Prelude.{nat_lt, slice_index, true, unsigned_abs, if◌then◌else◌}
 use Rattle.std.specs.List.{AllByRecursion}

@@ -152,11 +152,9 @@ fn put_touched<L: Ledger>(
         return Ok(());
     }
     if touched.len() == 1 {
-        put_change(land, place, touched[0].index, out, steps)?;
-        return Ok(());
+        return put_change(land, place, touched[0].index, out, steps);
     }
-    put_changes(land, place, touched, out, steps)?;
-    Ok(())
+    put_changes(land, place, touched, out, steps)
 }
 
 /// The frames of the cells of the column of a place that changed since the last settling, as one

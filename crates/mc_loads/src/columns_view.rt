@@ -155,8 +155,7 @@ impl ColumnsView<'_> {
         if !self.has(place) {
             return Ok(());
         }
-        push_piece(self.changes(alloc, place, steps)?, out)?;
-        Ok(())
+        push_piece(self.changes(alloc, place, steps)?, out)
     }
 
     /// Appends the frames of the changed cells of the columns that were shown.
@@ -202,7 +201,6 @@ impl ColumnsView<'_> {
     {
         self.push_left(alloc, out)?;
         self.push_loads(alloc, self.entered(), out, steps)?;
-        self.push_changed(alloc, self.view.all(), out, steps)?;
-        Ok(())
+        self.push_changed(alloc, self.view.all(), out, steps)
     }
 }

@@ -72,12 +72,11 @@ impl EncodedColumns {
         ensures cost { OnOk result (steps.new ≡ steps.old + load_cost self.old place.now) }
         ensures bounded { steps.new ≤ steps.old + load_cost self.old place.now }
     {
-        // A piece, and what its insertion displaces, die at the exits.
         if self.load(place).is_some() {
             return Ok(());
         }
         let piece = load_piece(alloc, land, place, steps)?;
-        self.loads.insert(*place, piece)?;
+        drop(self.loads.insert(*place, piece)?);
         Ok(())
     }
 
@@ -98,7 +97,6 @@ impl EncodedColumns {
             ≡ steps.old + change_cost self.old land.now place.now) }
         ensures bounded { steps.new ≤ steps.old + change_cost self.old land.now place.now }
     {
-        // A piece, and what its insertion displaces, die at the exits.
         if self.changes(place).is_some() {
             return Ok(());
         }
@@ -106,7 +104,7 @@ impl EncodedColumns {
             return Ok(());
         }
         let piece = changes_piece(alloc, land, place, steps)?;
-        self.changes.insert(*place, piece)?;
+        drop(self.changes.insert(*place, piece)?);
         Ok(())
     }
 

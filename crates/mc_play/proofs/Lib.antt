@@ -7,6 +7,7 @@ pub mod NamedPacks
 pub mod Names
 pub mod Near
 pub mod Opening
+pub mod Reaching
 pub mod States
 pub mod Steps
 pub mod Stowing

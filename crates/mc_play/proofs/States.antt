@@ -15,7 +15,6 @@ use Rattle.mc_land.specs.Land.{LandValue, edited, new_land, state_at, terrain_at
 use Rattle.mc_land.proofs.Orders.{keys_total}
 use Rattle.mc_model.specs.Digging.{floor_of}
 use Rattle.mc_model.specs.Game.{Game, state_in}
-use Rattle.mc_model.specs.Placing.{is_free}
 use Rattle.mc_model.proofs.FitsText.{both_true}
 use Rattle.mc_play.specs.Kept.{AreStates, IsNear}
 
@@ -58,13 +57,13 @@ pub floor_near : (cell : Cell) → is_inside cell.x cell.y cell.z ≡ true →
     IsNear (floor_of cell)
 floor_near cell is = grind (arith, nat_tests, both_true, height_low, border_low, ints)
 
--- ---- free cells
+-- ---- cells of the world
 
--- a cell that is free has the state of its key
-pub free_state : (g : Game) (cell : Cell) → is_free g cell ≡ true →
+-- a cell of the world has the state of its key
+pub inside_state : (g : Game) (cell : Cell) → is_inside cell.x cell.y cell.z ≡ true →
     state_at g.settings.terrain g.edits (key_of cell.x (unsigned_abs cell.y) cell.z)
     ≡ state_in g cell
-free_state g cell free = grind (arith, nat_tests)
+inside_state g cell inside = grind (arith, nat_tests)
 
 -- ---- a land
 

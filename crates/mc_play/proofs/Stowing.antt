@@ -1,7 +1,9 @@
 -- Items that go into a player's pack one after another, and players that pick up one after another.
-use Rattle.std.proofs.Common.{◌≡◌, ℕ, List, [], ◌∷◌, refl, sym, ap, ◌∙◌, ℤ}
-use Rattle.std.specs.Prelude.{Some}
-use Rattle.std.specs.List.{fold}
+use Rattle.std.proofs.Common.{◌≡◌, ℕ, List, [], ◌∷◌, ◌++◌, refl, sym, ap, ◌∙◌, ℤ}
+use Rattle.std.proofs.lemmas.List.{append_assoc}
+use Rattle.std.proofs.lemmas.List.Elements.{filter_map-append}
+use Rattle.std.specs.Prelude.{Option, Some}
+use Rattle.std.specs.List.{filter_map, fold}
 use Rattle.std.specs.Ordering.{nat_cmp}
 use Rattle.std.specs.FinMap.{FinMap, get}
 use Rattle.mc_slots.specs.declared.pile.Item.{Item}
@@ -31,6 +33,17 @@ done_next f xs now_ rest x start v n next so made =
     let settled : n.settled ≡ start.settled =
     ap (λ (w : GameValue). w.settled) made ∙ ap (λ (w : GameValue). w.settled) so in
     λ j. record { game = game j; settled = settled j; aside = n.aside }
+
+-- what was found of the first of those that are left, behind what was found before, and what is
+-- found among the others, are together all
+pub found_next : {X Y : Type 0} (f : X → Option Y) (found next all : List Y)
+    (x : X) (left_ rest : List X) → left_ ≡ x ∷ rest → found ++ filter_map f left_ ≡ all →
+    next ≡ found ++ filter_map f (x ∷ []) → next ++ filter_map f rest ≡ all
+found_next f found next all x left_ rest more made put =
+    ap (λ ys. ys ++ filter_map f rest) put
+    ∙ append_assoc found (filter_map f (x ∷ [])) (filter_map f rest)
+    ∙ ap (λ ys. found ++ ys) (sym (filter_map-append f (x ∷ []) rest))
+    ∙ ap (λ xs. found ++ filter_map f xs) (sym more) ∙ made
 
 -- ---- one item
 

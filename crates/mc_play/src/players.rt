@@ -140,7 +140,7 @@ impl Players {
         ensures ok { OnOk result (self.new ≡ insert self.old connection player) }
         ensures err { OnErr result (self.new ≡ self.old) }
     {
-        let _before = self.by_connection.insert(connection, player)?;
+        drop(self.by_connection.insert(connection, player)?);
         Ok(())
     }
 

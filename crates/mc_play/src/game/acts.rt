@@ -10,7 +10,7 @@ use mc_bytes::NoMemory;
 use mc_up::PlayUp;
 
 /// Why an act is not done.
-#[derive(Clone, Copy, Debug, PartialEq, Eq)]
+#[derive(Clone, Copy)]
 pub enum ActFault {
     /// A number of the packet stands for no number.
     BadNumber,
@@ -38,8 +38,8 @@ impl Game {
     {
         match packet {
             PlayUp::Chat(text) => self.say(connection, text)?,
-            PlayUp::Position { x, y, z, .. } => self.walk(connection, *x, *y, *z)?,
-            PlayUp::Look(yaw, pitch, _) => self.turn(connection, *yaw, *pitch)?,
+            PlayUp::Position { x, y, z, .. } => return self.walk(connection, *x, *y, *z),
+            PlayUp::Look(yaw, pitch, _) => return self.turn(connection, *yaw, *pitch),
             PlayUp::PositionLook {
                 x,
                 y,
@@ -47,7 +47,7 @@ impl Game {
                 yaw,
                 pitch,
                 ..
-            } => self.walk_and_turn(connection, *x, *y, *z, *yaw, *pitch)?,
+            } => return self.walk_and_turn(connection, *x, *y, *z, *yaw, *pitch),
             PlayUp::Digging(status, cell, _) => self.digging(connection, *status, *cell)?,
             PlayUp::Placement { place, face, .. } => self.place_on(connection, *place, *face)?,
             PlayUp::Held(place) => self.take_up(connection, *place),

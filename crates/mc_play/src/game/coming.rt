@@ -104,7 +104,7 @@ impl Game {
         self.reserve(1)?;
         self.shut(connection);
         self.entities.remove(eid);
-        let _player = self.players.remove(connection);
+        drop(self.players.remove(connection));
         Ok(())
     }
 }

@@ -179,8 +179,9 @@ impl Game {
         let chest = self.chest_at(&cell);
         let viewers = self.viewers(&cell)?;
         let stacks = stacks_in(chest.as_slice()) as u32;
-        self.reserve(places_for(stacks, viewers.as_slice())?)?;
-        self.ground.set(cell, 0)?;
+        let places = places_for(stacks, viewers.as_slice())?;
+        self.reserve(places)?;
+        self.set_state(cell, 0)?;
         let spot = floor_of(&cell);
         self.drop_item(block_item(state), spot);
         self.drop_all(&chest, spot);

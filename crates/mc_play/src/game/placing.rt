@@ -26,7 +26,6 @@ fn item_state(item: &Item) -> u16
 
 impl Game {
     /// Puts one of what the player of a connection has in its hand into a cell that is free.
-    #[tactic(auto, using(crate::proofs::States::free_state))]
     fn put_block(&mut self, connection: u32, cell: Cell, target: Cell) -> Result<(), NoMemory>
         ensures { OnOk result (self.new ≡ played self.old (by_player connection
             (λ p g. put_block connection p cell target (held_by g p) g) self.old.game)
@@ -42,7 +41,7 @@ impl Game {
         if !self.is_free(&target) {
             return self.players.refuse_placing(connection, cell, target);
         }
-        self.ground.set(target, item_state(&item))?;
+        self.set_state(target, item_state(&item))?;
         self.carry(connection, left);
         Ok(())
     }

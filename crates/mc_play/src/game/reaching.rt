@@ -1,14 +1,17 @@
-//! Which cells players can dig and place on.
+//! Cells that players can dig and place on.
 
-ghost use Rattle.std.specs.Prelude.{◌≡◌, ◌⊎◌, ◌<◌, ◌≤◌, ◌&&◌, ◌==◌, IfSome, None, Some};
-ghost use Rattle.std.specs.Prelude.{if◌then◌else◌, true};
+ghost use Rattle.std.specs.Prelude.{◌≡◌, ◌⊎◌, ◌<◌, ◌≤◌, ◌&&◌, ◌==◌, IfSome, None, OnErr, OnOk};
+ghost use Rattle.std.specs.Prelude.{Some, if◌then◌else◌, true};
 ghost use Rattle.mc_land.specs.Places.{is_inside};
+ghost use Rattle.mc_model.specs.Deeds.{with_state};
 ghost use Rattle.mc_model.specs.Game.{state_in};
 ghost use Rattle.mc_model.specs.Placing.{is_free};
 ghost use Rattle.mc_model.specs.Reach.{is_in_reach};
+ghost use Rattle.mc_play.specs.Kept.{played};
 
 use crate::game::Game;
 use crate::reach::is_near;
+use mc_bytes::NoMemory;
 use mc_fields::Cell;
 use mc_land::is_inside;
 use mc_model::Player;
@@ -34,5 +37,19 @@ impl Game {
         ensures { result ≡ is_free self.now.game cell.now }
     {
         is_inside(cell) && self.ground.state(cell) == 0
+    }
+
+    /// Sets a cell of the world to air or to a state of a block. Without memory all is as before.
+    #[tactic(auto, using(crate::proofs::States::inside_state))]
+    pub(super) fn set_state(&mut self, cell: Cell, state: u16) -> Result<(), NoMemory>
+        requires inside { is_inside cell.x cell.y cell.z ≡ true }
+        requires small { state < 4096 }
+        requires whole { (state ≡ 0) ⊎ (16 ≤ state) }
+        ensures ok { OnOk result (self.new
+            ≡ played self.old (with_state cell state self.old.game) self.new.aside) }
+        ensures err { OnErr result (self.new ≡ self.old) }
+        ensures places { self.new.aside.reserve ≡ self.old.aside.reserve }
+    {
+        self.ground.set(cell, state)
     }
 }

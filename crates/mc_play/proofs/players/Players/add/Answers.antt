@@ -6,4 +6,4 @@ use Rattle.mc_play.proofs.players.Players.add.Goals as goal
 pub returns-clause-ok : goal.returns-clause-ok
 returns-clause-ok c = rw (← c.self.view_is) (entry_put nat_cmp_total nat_cmp-IsAntisymmetric
     c.self.inside.by_connection.entries c.insert.new.self.entries c.args.connection c.args.player
-    c.in_ok-_before.ensures.updates.0)
+    c.in_ok-insert.ensures.updates.0)
