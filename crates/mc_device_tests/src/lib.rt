@@ -6,6 +6,8 @@
 #[cfg(test)]
 mod input;
 #[cfg(test)]
+mod link;
+#[cfg(test)]
 mod output;
 #[cfg(test)]
 mod sockets;

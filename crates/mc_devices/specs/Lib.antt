@@ -1,3 +1,4 @@
 pub mod Edge
 pub mod Limits
 pub mod Sockets
+pub mod Linked

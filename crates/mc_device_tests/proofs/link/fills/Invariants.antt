@@ -1,0 +1,5 @@
+use Rattle.std.proofs.Common.{◌≡◌, true}
+use Rattle.mc_device_tests.proofs.link.fills.Given as goal
+
+abbrev pub invariant-loop : goal.invariant-loop
+invariant-loop l = l.link.stage.connected ≡ true
