@@ -12,7 +12,7 @@ use Rattle.mc_events.proofs.server.ticking.prepare_all.Given as goal
 
 -- all is ready and encoded for those so far
 abbrev pub invariant-loop-id : goal.invariant-loop-id
-invariant-loop-id l = record {
+invariant-loop-id g l = record {
   ready : AreReadySo l.game (drop l.id-index l.ids) l.connections;
   same : Prepares l.initial.game l.game;
   frames : (list : ListValue) → AreFrames (land_of l.initial.game) list l.initial.encoded
