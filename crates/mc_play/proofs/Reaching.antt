@@ -49,7 +49,8 @@ pub digs : (cell : Cell) (state : ℕ) (ks : List ℕ) (item : Item) (lay : List
     fell ≡ played mid (thrown item spot mid.game) fell.aside →
     all ≡ played fell (all_thrown lay spot fell.game) all.aside →
     n ≡ played all (shut_all ks all.game) n.aside → n ≡ played u (dug cell u.game) n.aside
-digs cell state ks item lay spot u w mid fell all n was seen is lies at same set thrown_ after closed =
+digs cell state ks item lay spot u w mid fell all n was seen is lies at same set thrown_ after
+    closed =
     then_played u (shut_all ks)
     (then_played u (all_thrown lay spot)
     (then_played u (thrown item spot)
