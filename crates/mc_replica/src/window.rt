@@ -1,5 +1,5 @@
 ghost use Rattle.std.specs.Prelude.{◌≡◌, None, IfOk, OnOk, replicate, slice_index_or};
-ghost use Rattle.std.specs.Prelude.{option_map, string_bytes};
+ghost use Rattle.std.specs.Prelude.{string_bytes};
 ghost use Rattle.std.specs.Option.{option_copied};
 ghost use Rattle.mc_slots.specs.declared.slot.Slot.TheVariants as slots;
 ghost use Rattle.mc_windows.specs.Pack.{pack_size};
