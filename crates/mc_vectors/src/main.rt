@@ -88,7 +88,7 @@ enum Call {
 }
 
 /// The calls by their words.
-const CALLS: [(&str, Call); 24] = [
+const CALLS: [(&str, Call); 25] = [
     ("nbt", Call::Nbt),
     ("same", Call::Same),
     ("make", Call::Make),
