@@ -1,8 +1,8 @@
 -- What a capture is (rules of this project): eight bytes, and then records, each a byte of its kind,
 -- the number of its connection and that of its bytes in four bytes each, and these bytes.
-use Rattle.std.specs.Prelude.{◌≡◌, ◌==◌, ◌||◌, ℕ, ◌<◌, ◌≤◌, Bool, List, [], ◌∷◌, ◌++◌, length}
+use Rattle.std.specs.Prelude.{◌==◌, ◌||◌, ℕ, ◌<◌, ◌≤◌, Bool, List, [], ◌∷◌, ◌++◌, length}
 use Rattle.std.specs.Prelude.{if◌then◌else◌}
-use Rattle.std.specs.Int.{w8, w32}
+use Rattle.std.specs.Int.{w32}
 use Rattle.std.specs.List.{flat_map}
 use Rattle.mc_bytes.specs.Numbers.{number_spelling}
 use Rattle.mc_capture.specs.declared.record.Record.{Record}
@@ -26,7 +26,7 @@ pub record IsRecord (r : Record) : Type 0 where
 -- what stands before the bytes of a record: nine bytes
 abbrev pub heading : ℕ → ℕ → ℕ → List ℕ
 heading kind connection size =
-    number_spelling w8 kind ++ (number_spelling w32 connection ++ number_spelling w32 size)
+    kind ∷ (number_spelling w32 connection ++ number_spelling w32 size)
 
 abbrev pub record_bytes : Record → List ℕ
 record_bytes r = heading r.kind r.connection (length r.bytes) ++ r.bytes

@@ -1,7 +1,3 @@
-ghost use Rattle.std.specs.Prelude.{◌≡◌};
-
-use mc_bytes::NoMemory;
-use mc_wire::Failed;
 use std::error::Error;
 use std::fmt;
 
@@ -70,22 +66,20 @@ pub enum CaptureEnd {
     NoMemory,
 }
 
-impl From<CaptureFault> for CaptureEnd {
-    ghost use Rattle.mc_capture.specs.declared.fault.CaptureEnd.TheVariants as ends;
+impl fmt::Display for CaptureEnd {
+    ghost use Rattle.std.specs.Prelude.{Some};
+    ghost use Rattle.mc_capture.specs.FaultText.{end_text};
 
-    ghost from_gives = { λ fault end. end ≡ ends.Bad fault };
+    ghost output = { λ end. Some (end_text end) };
 
-    fn from(fault: CaptureFault) -> CaptureEnd {
-        CaptureEnd::Bad(fault)
+    fn fmt<W: fmt::Write>(&self, f: &mut fmt::Formatter<W>) -> fmt::Result {
+        match self {
+            CaptureEnd::Bad(fault) => write!(f, "no capture: {fault}"),
+            CaptureEnd::Read => f.write_str("the source failed"),
+            CaptureEnd::Write => f.write_str("the sink failed"),
+            CaptureEnd::NoMemory => f.write_str("out of memory"),
+        }
     }
 }
 
-impl From<NoMemory> for CaptureEnd {
-    ghost use Rattle.mc_capture.specs.declared.fault.CaptureEnd.TheVariants as ends;
-
-    ghost from_gives = { λ _ end. end ≡ ends.NoMemory };
-
-    fn from(_refusal: NoMemory) -> CaptureEnd {
-        CaptureEnd::NoMemory
-    }
-}
+impl Error for CaptureEnd {}

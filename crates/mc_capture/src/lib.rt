@@ -6,6 +6,7 @@
 #![tactic(auto)]
 
 mod fault;
+mod fill;
 mod heading;
 mod reader;
 mod record;
@@ -13,5 +14,5 @@ mod writer;
 
 pub use fault::{CaptureEnd, CaptureFault, CaptureKind};
 pub use reader::Reader;
-pub use record::{BYTES_MAX, Record};
+pub use record::{BYTES_MAX, HEAD, KINDS, Record};
 pub use writer::Writer;

@@ -3,6 +3,9 @@ ghost use Rattle.mc_capture.specs.Grammar.{most_bytes};
 
 use mc_bytes::Octets;
 
+/// The eight bytes that a capture begins with: `MC47CAP` and its version.
+pub const HEAD: [u8; 8] = [77, 67, 52, 55, 67, 65, 80, 1];
+
 /// The most bytes that a record carries.
 pub const BYTES_MAX: u32 = 65_536;
 
@@ -28,8 +31,6 @@ pub struct Record {
 pub(crate) fn most_bytes(kind: u8) -> u32
     ensures { result ≡ most_bytes kind }
 {
-    if kind == 1 || kind == 4 {
-        return BYTES_MAX;
-    }
-    0
+    let carries = kind == 1 || kind == 4;
+    if carries { BYTES_MAX } else { 0 }
 }
