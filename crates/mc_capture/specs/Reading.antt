@@ -20,12 +20,12 @@ kept_place place = min place (2 ^ 64 - 1)
 -- ---- what is wrong with bytes
 
 -- bytes that begin as a record does, and end inside it
-data pub IsCut (bytes : List ℕ) : Type 0 where
+pub data IsCut (bytes : List ℕ) : Type 0 where
   -- inside its first nine bytes
-  pub in_heading : (kind : ℕ) (more : List ℕ) → bytes ≡ kind ∷ more → kind < KINDS →
+  in_heading : (kind : ℕ) (more : List ℕ) → bytes ≡ kind ∷ more → kind < KINDS →
       length bytes < 9 → IsCut bytes
   -- inside the bytes that it carries
-  pub in_bytes : (kind connection size : ℕ) (carried : List ℕ) → kind < KINDS →
+  in_bytes : (kind connection size : ℕ) (carried : List ℕ) → kind < KINDS →
       size ≤ most_bytes kind → bytes ≡ heading kind connection size ++ carried →
       length carried < size → IsCut bytes
 

@@ -39,5 +39,6 @@ fn read_behind<I: Source>(input: &mut I, room: &mut [u8], count: usize) -> Resul
     ensures failed { OnErr result (Rose (I.faults input.old) (I.faults input.new)) }
     ensures counts { NeverFalls (I.faults input.old) (I.faults input.new) }
 {
-    input.read(&mut room[count..])
+    let more = input.read(&mut room[count..])?;
+    Ok(more)
 }

@@ -81,5 +81,6 @@ fn write_record<O: Sink>(record: &Record, out: &mut O) -> Result<(), Failed>
         size: bytes.len() as u32,
     });
     write_all(out, &front)?;
-    write_all(out, bytes)
+    write_all(out, bytes)?;
+    Ok(())
 }
