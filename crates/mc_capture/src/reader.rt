@@ -161,7 +161,7 @@ fn front_in(bytes: &[u8], at: u64) -> Result<Option<Heading>, CaptureFault>
     ensures err { IfErr result (λ fault. IsFaultOf fault at bytes.now) }
     ensures short { IfErr result (λ fault. fault.kind ≡ Short → length bytes.now < 9) }
 {
-    let Some(kind) = bytes.first() else {
+    let Some((kind, _)) = bytes.split_first() else {
         return Ok(None);
     };
     if *kind >= KINDS {

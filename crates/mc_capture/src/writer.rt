@@ -46,18 +46,18 @@ impl<'a, O: Sink> Writer<'a, O> {
 
     /// Writes a record. A failure comes only from the sink, and leaves some first part of it
     /// written.
-    pub fn put(&mut self, record: &Record) -> Result<(), CaptureEnd>
-        requires { IsRecord record.now }
+    pub fn put(&mut self, rec: &Record) -> Result<(), CaptureEnd>
+        requires { IsRecord rec.now }
         ensures reference { self.new.out.ghost_name ≡ self.old.out.ghost_name }
         ensures whole { OnOk result
-            (Grows (O.held self.old.out.now) (O.held self.new.out.now) (record_bytes record.now)) }
+            (Grows (O.held self.old.out.now) (O.held self.new.out.now) (record_bytes rec.now)) }
         ensures part { OnErr result ((n : ℕ) × Grows (O.held self.old.out.now)
-            (O.held self.new.out.now) (take n (record_bytes record.now))) }
+            (O.held self.new.out.now) (take n (record_bytes rec.now))) }
         ensures failed { IfErr result (λ end. (end ≡ ends.Write) ×
             Rose (O.faults self.old.out.now) (O.faults self.new.out.now)) }
         ensures counts { NeverFalls (O.faults self.old.out.now) (O.faults self.new.out.now) }
     {
-        match write_record(record, self.out) {
+        match write_record(rec, self.out) {
             Ok(()) => Ok(()),
             Err(_) => Err(CaptureEnd::Write),
         }
@@ -65,19 +65,19 @@ impl<'a, O: Sink> Writer<'a, O> {
 }
 
 /// Writes a record into a sink.
-fn write_record<O: Sink>(record: &Record, out: &mut O) -> Result<(), Failed>
-    requires { IsRecord record.now }
+fn write_record<O: Sink>(rec: &Record, out: &mut O) -> Result<(), Failed>
+    requires { IsRecord rec.now }
     ensures whole { OnOk result
-        (Grows (O.held out.old) (O.held out.new) (record_bytes record.now)) }
+        (Grows (O.held out.old) (O.held out.new) (record_bytes rec.now)) }
     ensures part { OnErr result ((n : ℕ) ×
-        Grows (O.held out.old) (O.held out.new) (take n (record_bytes record.now))) }
+        Grows (O.held out.old) (O.held out.new) (take n (record_bytes rec.now))) }
     ensures failed { OnErr result (Rose (O.faults out.old) (O.faults out.new)) }
     ensures counts { NeverFalls (O.faults out.old) (O.faults out.new) }
 {
-    let bytes = record.bytes.as_slice();
+    let bytes = rec.bytes.as_slice();
     let front = heading_bytes(Heading {
-        kind: record.kind,
-        connection: record.connection,
+        kind: rec.kind,
+        connection: rec.connection,
         size: bytes.len() as u32,
     });
     write_all(out, &front)?;
