@@ -1,7 +1,7 @@
 use Rattle.std.proofs.Common.{◌≡◌, ℕ, ◌+◌, ◌≤◌, Option, List, [], ◌∷◌, ◌++◌, length, take, drop, min}
-use Rattle.std.proofs.Common.{ap, sym, ◌∙◌, arith}
+use Rattle.std.proofs.Common.{ap, sym, ◌∙◌}
 use Rattle.std.specs.Int.{w32, from_be_bytes}
-use Rattle.std.proofs.lemmas.List.{length-drop, length-take-le, take-append-le, take_min}
+use Rattle.std.proofs.lemmas.List.{length-take-le, take-append-le, take_min}
 use Rattle.std.proofs.Math.Seq.{take-add, take-append-add}
 use Rattle.std.proofs.Math.Nat.{min-le_right}
 use Rattle.mc_bytes.specs.Numbers.{IsBytes-drop, IsBytes-take, IsBytes-after, wide_32}
