@@ -1,6 +1,7 @@
--- Laws of reading a capture: bytes that begin with a record begin with nothing that is wrong.
+-- Laws of reading a capture: bytes that begin with a record begin with nothing that is wrong, and
+-- other bytes have one fault.
 use Rattle.std.specs.Prelude.{◌≡◌, ℕ, ◌^◌, ◌<◌, ◌≤◌, Bool, true, false, List, [], ◌++◌, length}
-use Rattle.std.specs.Prelude.{drop, refl, if◌then◌else◌}
+use Rattle.std.specs.Prelude.{◌∷◌, drop, refl, if◌then◌else◌}
 use Rattle.std.specs.Int.{w32}
 use Rattle.std.proofs.Common.{sym, ap, ◌∙◌, arith, get_or, append_assoc}
 use Rattle.std.proofs.lemmas.List.{drop_at, length-append}
@@ -11,9 +12,9 @@ use Rattle.mc_bytes.specs.NumberBytes.{number_read, number_spelling}
 use Rattle.mc_capture.specs.declared.fault.CaptureKind.{CaptureKind}
 use Rattle.mc_capture.specs.declared.fault.CaptureKind.TheVariants.{BadHead, BadKind, Short, TooLong}
 use Rattle.mc_capture.specs.declared.record.Record.{Record}
-use Rattle.mc_capture.specs.declared.record.TheConstants.{BYTES_MAX}
+use Rattle.mc_capture.specs.declared.record.TheConstants.{BYTES_MAX, KINDS}
 use Rattle.mc_capture.specs.Grammar.{IsRecord, has_bytes, heading, most_bytes, record_bytes}
-use Rattle.mc_capture.specs.Reading.{IsWrong}
+use Rattle.mc_capture.specs.Reading.{IsCut, IsWrong}
 use Rattle.mc_capture.specs.Reading.IsCut.{in_heading, in_bytes}
 
 spelling_len : (n : ℕ) → length (number_spelling w32 n) ≡ 4
@@ -114,3 +115,129 @@ no_fault r bytes after more (TooLong size) before known parts end fits
     let same : r.kind ≡ kind = ap (λ (xs : List ℕ). get_or xs 0 0) whole in
     let most : most_bytes r.kind ≡ most_bytes kind = ap most_bytes same in
     absurd (omega (arith, one.0, known.size, long, most))
+
+-- the first byte of the same bytes
+one_first : (bytes more bytes' more' rest rest' : List ℕ) (first first' : ℕ)
+    → bytes ++ more ≡ bytes' ++ more'
+    → bytes ≡ first ∷ rest
+    → bytes' ≡ first' ∷ rest'
+    → first ≡ first'
+one_first bytes more bytes' more' rest rest' first first' same is is' =
+    ap (λ (xs : List ℕ). get_or xs 0 0) (
+    sym (ap (λ (xs : List ℕ). xs ++ more) is)
+    ∙ same
+    ∙ ap (λ (xs : List ℕ). xs ++ more') is')
+
+-- what is cut begins with a kind that there is
+abbrev IsKnown : List ℕ → Type 0
+IsKnown bytes = (kind : ℕ) × (rest : List ℕ) × (bytes ≡ kind ∷ rest) × (kind < KINDS)
+
+cut_known : (bytes : List ℕ) → IsCut bytes → IsKnown bytes
+cut_known bytes (in_heading kind more is low short) = (kind, more, is, low)
+cut_known bytes (in_bytes kind connection size carried low within is short) =
+    (kind, _, is, low)
+
+high_known : (bytes more bytes' more' rest : List ℕ) (kind : ℕ)
+    → bytes ++ more ≡ bytes' ++ more'
+    → bytes ≡ kind ∷ rest
+    → KINDS ≤ kind
+    → IsKnown bytes'
+    → ⊥
+high_known bytes more bytes' more' rest kind same is high (kind', rest', is', low) =
+    let one : kind ≡ kind' = one_first bytes more bytes' more' rest rest' kind kind' same is is' in
+    omega (arith, one, high, low)
+
+-- what is cut says no size that is too long
+cut_long : (bytes more bytes' more' : List ℕ) (kind' connection' size' : ℕ)
+    → bytes ++ more ≡ bytes' ++ more'
+    → more ≡ []
+    → IsCut bytes
+    → most_bytes kind' < size'
+    → size' < 2 ^ 32
+    → bytes' ≡ heading kind' connection' size'
+    → ⊥
+cut_long bytes more bytes' more' kind' connection' size' same none
+    (in_heading kind rest is low short) long fits is' =
+    let front = heading_len kind' connection' size' in
+    let len : length bytes' ≡ length (heading kind' connection' size') = ap length is' in
+    let len1 = length-append bytes more in
+    let len2 = length-append bytes' more' in
+    let sizes : length (bytes ++ more) ≡ length (bytes' ++ more') = ap length same in
+    let zero : length more ≡ 0 = ap length none in
+    omega (arith, front, len, len1, len2, sizes, zero, short)
+cut_long bytes more bytes' more' kind' connection' size' same none
+    (in_bytes kind connection size carried low within is short) long fits is' =
+    let whole : heading kind connection size ++ (carried ++ more)
+    ≡ heading kind' connection' size' ++ more' =
+    sym (append_assoc (heading kind connection size) carried more)
+    ∙ sym (ap (λ (xs : List ℕ). xs ++ more) is)
+    ∙ same
+    ∙ ap (λ (xs : List ℕ). xs ++ more') is' in
+    let sizes = one_size kind connection size kind' connection' size' (carried ++ more) more' within
+    fits whole in
+    let kinds : kind ≡ kind' = ap (λ (xs : List ℕ). get_or xs 0 0) whole in
+    let most : most_bytes kind ≡ most_bytes kind' = ap most_bytes kinds in
+    omega (arith, sizes.0, most, within, long)
+
+-- the same bytes have one fault
+pub one_fault : (bytes more bytes' more' : List ℕ) (kind kind' : CaptureKind)
+    (before before' : ℕ)
+    → bytes ++ more ≡ bytes' ++ more'
+    → (kind ≡ Short → more ≡ [])
+    → (kind' ≡ Short → more' ≡ [])
+    → ((size : ℕ) → kind ≡ TooLong size → size < 2 ^ 32)
+    → ((size : ℕ) → kind' ≡ TooLong size → size < 2 ^ 32)
+    → IsWrong bytes kind before
+    → IsWrong bytes' kind' before'
+    → (kind ≡ kind') × (before ≡ before')
+one_fault bytes more bytes' more' BadHead kind' before before' same end end' fits fits' wrong
+    wrong' =
+    absurd wrong
+one_fault bytes more bytes' more' (BadKind kind) BadHead before before' same end end' fits fits'
+    wrong wrong' =
+    absurd wrong'
+one_fault bytes more bytes' more' (BadKind kind) (BadKind kind') before before' same end end' fits
+    fits' (rest, is, high, zero) (rest', is', high', zero') = (
+      ap BadKind (one_first bytes more bytes' more' rest rest' kind kind' same is is'),
+      zero ∙ sym zero',
+    )
+one_fault bytes more bytes' more' (BadKind kind) Short before before' same end end' fits fits'
+    (rest, is, high, zero) (cut, zero') =
+    absurd (high_known bytes more bytes' more' rest kind same is high (cut_known bytes' cut))
+one_fault bytes more bytes' more' (BadKind kind) (TooLong size) before before' same end end' fits
+    fits' (rest, is, high, zero) (kind', connection, low, long, is', five) =
+    absurd (high_known bytes more bytes' more' rest kind same is high (kind', _, is', low))
+one_fault bytes more bytes' more' Short BadHead before before' same end end' fits fits' wrong
+    wrong' =
+    absurd wrong'
+one_fault bytes more bytes' more' Short (BadKind kind) before before' same end end' fits fits'
+    (cut, zero) (rest, is, high, zero') =
+    absurd (high_known bytes' more' bytes more rest kind (sym same) is high (cut_known bytes cut))
+one_fault bytes more bytes' more' Short Short before before' same end end' fits fits' (cut, zero)
+    (cut', zero') =
+    (refl, zero ∙ sym zero')
+one_fault bytes more bytes' more' Short (TooLong size) before before' same end end' fits fits'
+    (cut, zero) (kind, connection, low, long, is, five) =
+    absurd (cut_long bytes more bytes' more' kind connection size same (end refl) cut long
+    (fits' size refl) is)
+one_fault bytes more bytes' more' (TooLong size) BadHead before before' same end end' fits fits'
+    wrong wrong' =
+    absurd wrong'
+one_fault bytes more bytes' more' (TooLong size) (BadKind kind) before before' same end end' fits
+    fits' (kind', connection, low, long, is', five) (rest, is, high, zero) =
+    absurd (high_known bytes' more' bytes more rest kind (sym same) is high (kind', _, is', low))
+one_fault bytes more bytes' more' (TooLong size) Short before before' same end end' fits fits'
+    (kind, connection, low, long, is, five) (cut, zero) =
+    absurd (cut_long bytes' more' bytes more kind connection size (sym same) (end' refl) cut long
+    (fits size refl) is)
+one_fault bytes more bytes' more' (TooLong size) (TooLong size') before before' same end end' fits
+    fits' (kind, connection, low, long, is, five) (kind', connection', low', long', is', five') =
+    let whole : heading kind connection size ++ more ≡ heading kind' connection' size' ++ more' =
+    sym (ap (λ (xs : List ℕ). xs ++ more) is)
+    ∙ same
+    ∙ ap (λ (xs : List ℕ). xs ++ more') is' in
+    let sizes = one_number size size' more more' (fits size refl) (fits' size' refl) (
+    sym (size_behind kind connection size more)
+    ∙ ap (λ (xs : List ℕ). drop 5 xs) whole
+    ∙ size_behind kind' connection' size' more') in
+    (ap TooLong sizes.0, five ∙ sym five')
