@@ -1,0 +1,5 @@
+pub mod Grammar
+pub mod Reading
+pub mod ReadingLaws
+pub mod Headings
+pub mod FaultText
