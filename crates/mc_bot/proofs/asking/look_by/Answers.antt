@@ -1,4 +1,4 @@
-use Rattle.std.proofs.Common.{◌≡◌, arith, true}
+use Rattle.std.proofs.Common.{arith, true}
 use Rattle.mc_model.proofs.PatternFacts.{degrees_one}
 use Rattle.mc_up.specs.declared.play_up.PlayUp.TheVariants.{Look}
 use Rattle.mc_bot.proofs.Askable.{can_look}

@@ -1,4 +1,4 @@
-use Rattle.std.proofs.Common.{◌≡◌, rules, true}
+use Rattle.std.proofs.Common.{rules, true}
 use Rattle.mc_up.specs.declared.play_up.PlayUp.TheVariants.{Position}
 use Rattle.mc_bot.proofs.Askable.{can_move, pattern_at}
 use Rattle.mc_bot.proofs.asking.move_to.Goals as goal

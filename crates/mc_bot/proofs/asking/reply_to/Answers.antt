@@ -1,4 +1,4 @@
-use Rattle.std.proofs.Common.{arith, rules}
+use Rattle.std.proofs.Common.{rules}
 use Rattle.std.specs.Int.{w8, w16, w32}
 use mir.Val.{to_z, of_z}
 use Rattle.mc_bot.proofs.Askable.{again, can_answer, can_confirm, can_place_look}
