@@ -1,11 +1,15 @@
-//! The headless client: what its script says.
+//! The headless client: what its script says, what its lines send, and what it answers by itself.
 //!
-//! Stands on the lines, words and numbers of `mc_words` and the cells of `mc_fields`. Its one
-//! contract: a text is read as a script exactly where it is one, and else its first fault is told.
+//! Stands on the lines, words and numbers of `mc_words`, the cells of `mc_fields`, the packets of
+//! `mc_up` and what follows a server for a client, of `mc_replica`. Its contracts: a text is read as
+//! a script exactly where it is one, and else its first fault is told; of a line exactly its packets
+//! are asked for, each of which can be sent.
 #![tactic(auto)]
 
 mod act;
+mod asking;
 mod begun;
+mod clicking;
 mod line;
 mod numbers;
 mod script;

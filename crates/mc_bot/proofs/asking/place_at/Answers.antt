@@ -1,0 +1,8 @@
+use Rattle.std.specs.Int.{w8}
+use mir.Val.{to_z, of_z}
+use Rattle.mc_bot.proofs.Askable.{again, can_place}
+use Rattle.mc_bot.proofs.asking.place_at.Goals as goal
+
+pub returns-clause-can : goal.returns-clause-can
+returns-clause-can c = can_place c.args.place (to_z w8 (of_z w8 c.args.face)) c.requires
+    (again w8 c.args.face c.ranges.face)
