@@ -55,12 +55,14 @@ lend_none v w k s none =
 one_player : (p q : Player) (o : Option Player) → o ≡ Some p → o ≡ Some q → p ≡ q
 one_player p q o a b = let same : Some p ≡ Some q = sym a ∙ b in cc
 
-pub lend_part : (v : ServerValue) (w : World) (k : ℕ) (p q : Player) (o : Option ClientView) →
-    Stands v w → get v.game.game.players k ≡ Some p → get w.game.players k ≡ Some q →
-    IfSome o (IsPart v.game v.list p) → IfSome o (IsPartOf w.game q)
-lend_part v w k p q None s there here is = tt
-lend_part v w k p q (Some part) s there here is =
+pub lend_part : (v : ServerValue) (w : World) (k : ℕ) (p q : Player) (list : ListValue)
+    (o : Option ClientView) → Stands v w → list ≡ v.list →
+    get v.game.game.players k ≡ Some p → get w.game.players k ≡ Some q →
+    IfSome o (IsPart v.game list p) → IfSome o (IsPartOf w.game q)
+lend_part v w k p q list None s same there here is = tt
+lend_part v w k p q list (Some part) s same there here is =
     subst (λ (r : Player). IsPartOf w.game r part)
     (one_player p q (get w.game.players k)
     (ap (λ (g : Game). get g.players k) (sym s.game) ∙ there) here)
-    (part_of_world v.game v.list w.game p part s.game s.listed is)
+    (part_of_world v.game list w.game p part s.game
+    (ap (λ (l : ListValue). l.present) same ∙ s.listed) is)
