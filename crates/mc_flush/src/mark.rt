@@ -147,7 +147,7 @@ impl Mark {
     }
 
     /// The frames of the entities that a client is to be shown no more, and those of the others,
-    /// which are then what was told. Without memory nothing was.
+    /// which are then what was told. Without memory what was told is as before.
     pub(crate) fn tell(
         &mut self,
         alloc: Global,
@@ -167,11 +167,7 @@ impl Mark {
         ensures rise { Rise eid_of (pos 0) view.now.folk.now.state.entities
             (pos view.now.folk.now.state.given) }
     {
-        let pieces = tell(alloc, &view.entities(encoded), &mut self.told);
-        if pieces.is_err() {
-            self.told = Tracker::new(alloc);
-        }
-        pieces
+        tell(alloc, &view.entities(encoded), &mut self.told)
     }
 
     /// Keeps what was shown last: the beat and the age that are told at an age of the world, the
