@@ -24,12 +24,12 @@ pub record IsScene (scene : Scene) : Type 0 where
   pub young : scene.game.now.game.age ≤ 1000000000
 
 -- the view of a client has the parts of a game and of a list that a player is shown
-pub record IsPart (v : GameValue) (list : ListValue) (p : Player) (part : ClientView) : Type 0 where
+pub record IsPart (v : GameValue) (roster : ListValue) (p : Player) (part : ClientView) : Type 0 where
   pub land : part.land.now ≡ land_of v
   pub entities : part.folk.now.state.entities ≡ v.game.entities
   pub pack : part.pack.now ≡ pack_of v.game p
   pub chest : option_copied part.chest ≡ chest_of v.game p
-  pub list : part.list.now ≡ list
+  pub list : part.list.now ≡ roster
   pub lines : part.lines.now ≡ drop p.since v.game.lines
   pub age : part.age ≡ v.game.age
   pub me : part.me ≡ pos p.eid
