@@ -1,6 +1,7 @@
 use Rattle.std.proofs.Common.{◌≡◌, ℕ, Some, sym, ap, ◌∙◌}
 use Rattle.std.specs.FinMap.{FinMap, get}
 use Rattle.std.specs.Option.{option_copied}
+use Rattle.std.specs.Ordering.{nat_cmp}
 use Rattle.mc_model.specs.declared.player.Player.{Player}
 use Rattle.mc_events.proofs.Lending.{lend_none, lend_part, lend_some}
 use Rattle.mc_events.proofs.Seating.{inside}

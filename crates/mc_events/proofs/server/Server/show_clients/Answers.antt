@@ -26,7 +26,7 @@ show_all-requires-clause-scene g c =
       named = subst (λ (l : ListValue). AllByRecursion IsNamed (entries l.present)) is
           c.list.ensures.named;
       frames = subst (λ (l : ListValue). AreFrames (land_of c.prepare_all.new.game) l
-          c.add_lines.new.encoded) is
+          c.add_lines.new.self) is
           (c.add_lines.ensures.frames (land_of c.prepare_all.new.game) c.self.inside.list
           (c.prepare_all.ensures.frames c.self.inside.list frames));
       young = subst (λ (g : Game). g.age ≤ 1000000000) (sym same.game) young;
@@ -38,7 +38,7 @@ returns-clause-looks g c =
     subst (λ (v : ServerValue). c.show_all.new.steps ≤ c.args.steps.now
     + tick_looks v.game.settled v.game.game v.connections) c.self.view_is
     (round_done old.game c.prepare_all.new.game old.connections c.as_slice.result.now
-    c.args.encoded.now c.prepare_all.new.encoded c.add_lines.new.encoded
+    c.args.encoded.now c.prepare_all.new.encoded c.add_lines.new.self
     c.lines.result.now c.args.steps.now c.prepare_all.new.steps c.show_all.new.steps
     c.prepare_all.ensures.same (c.as_slice.ensures.value ∙ c.self.invariant.are)
     c.in_ok-prepare_all.ensures.prepared c.in_ok-add_lines.ensures.ok
