@@ -15,7 +15,9 @@ use Rattle.mc_land.specs.declared.terrain.Terrain.{Terrain}
 use Rattle.mc_model.specs.declared.player.Player.{Player}
 use Rattle.mc_model.specs.declared.settings.Settings.{Settings}
 use Rattle.mc_model.specs.Game.{Game, new_game, of_player}
+use Rattle.mc_model.specs.Delta.{chat_packet}
 use Rattle.mc_model.specs.Mobs.{mobs_at}
+use Rattle.mc_sending.specs.Sending.{IsClear}
 
 -- ---- parts
 
@@ -46,6 +48,10 @@ mobs_begun terrain n = record { entities = mobs_at terrain n; told = []; given =
 abbrev pub AreStates : FinMap key_cmp ℕ → Type 0
 AreStates edits = (key : Key) (state : ℕ) → get edits key ≡ Some state →
     ((state ≡ 0) ⊎ (16 ≤ state)) × (state < 4096)
+
+-- a packet of chat can carry a text
+abbrev pub IsClearLine : List ℕ → Type 0
+IsClearLine text = IsClear (chat_packet text)
 
 -- ---- the game
 

@@ -1,8 +1,10 @@
 ghost use Rattle.std.specs.Prelude.{◌≡◌, ◌≤◌, IfOk};
-ghost use Rattle.std.specs.FinMap.{len};
+ghost use Rattle.std.specs.FinMap.{get, len};
+ghost use Rattle.std.specs.List.{AllByRecursion};
+ghost use Rattle.std.specs.Option.{option_copied};
 ghost use Rattle.mc_model.specs.Game.{AreSettings, pack_named, pack_of, spot_of};
 ghost use Rattle.mc_model.specs.declared.mobs.TheConstants.{MOBS_MAX};
-ghost use Rattle.mc_play.specs.Kept.{AreNear, IsNear, IsNew, land_of};
+ghost use Rattle.mc_play.specs.Kept.{AreNear, IsClearLine, IsNear, IsNew, land_of};
 
 mod acts;
 mod chat;
@@ -21,7 +23,7 @@ mod windows;
 use crate::entities::Entities;
 use crate::ground::Ground;
 use crate::limits::Limits;
-use crate::{Packs, Players, Said};
+use crate::{Lines, Packs, Players};
 pub use acts::ActFault;
 use mc_bytes::{NoMemory, Text};
 use mc_entities::Folk;
@@ -47,7 +49,7 @@ pub struct Game {
     /// What each name carries that was ever in play.
     packs: Packs,
     /// What was said since the last tick.
-    lines: Vec<Said>,
+    lines: Lines,
     players: Players,
 }
 
@@ -86,7 +88,7 @@ impl Model for Game {
         entities = g.entities.state.entities;
         eids = g.entities.state.given;
         packs = g.packs;
-        lines = g.lines.items;
+        lines = g.lines;
         players = g.players;
       };
       settled = g.ground.settled;
@@ -113,7 +115,7 @@ impl Game {
             ground: Ground::new(alloc, settings.terrain),
             entities,
             packs: Packs::new(alloc),
-            lines: Vec::new(alloc),
+            lines: Lines::new(alloc),
             players: Players::new(alloc),
         })
     }
@@ -166,9 +168,10 @@ impl Game {
         self.entities.folk()
     }
 
-    /// What was said since the last tick.
-    pub fn lines(&self) -> &[Said]
-        ensures { result.now ≡ self.now.game.lines }
+    /// What was said since the last tick, as texts that packets can carry.
+    pub fn lines(&self) -> &[Text]
+        ensures is { result.now ≡ self.now.game.lines }
+        ensures clear { AllByRecursion IsClearLine self.now.game.lines }
     {
         self.lines.as_slice()
     }
@@ -196,6 +199,13 @@ impl Game {
         ensures { result ≡ pack_of self.now.game player.now }
     {
         self.pack_named(player.name.text())
+    }
+
+    /// What a player carries, which is lent; None where its name never was in play.
+    pub fn pack(&self, player: &Player) -> Option<&Pack>
+        ensures { option_copied result ≡ get self.now.game.packs player.now.name }
+    {
+        self.packs.get(player.name.text())
     }
 
     /// What a name carries; the kit, where it never was in play.

@@ -10,13 +10,13 @@ mod game;
 mod ground;
 mod hands;
 mod limits;
+mod lines;
 mod packs;
 mod players;
 mod reach;
 mod ripe;
-mod said;
 
 pub use game::{ActFault, Game};
+pub use lines::Lines;
 pub use packs::Packs;
 pub use players::Players;
-pub use said::Said;

@@ -1,11 +1,14 @@
 ghost use Rattle.std.specs.Prelude.{◌≡◌, ◌↔◌, ◌<◌, ◌≤◌, [], Err, IfOk, OnErr, OnOk, length, map};
-ghost use Rattle.std.specs.Prelude.{take};
-ghost use Rattle.std.specs.FinMap.{keys};
+ghost use Rattle.std.specs.Prelude.{IfSome, Some, is_some, take};
+ghost use Rattle.std.specs.FinMap.{get, keys};
 ghost use Rattle.std.specs.Option.{option_copied};
 ghost use Rattle.mc_model.specs.Game.{AreSettings};
+ghost use Rattle.mc_model.specs.Good.{in_play};
+ghost use Rattle.mc_model.specs.declared.player.Player.{Player};
 ghost use Rattle.mc_model.specs.Run.{cause_in, owed_in};
 ghost use Rattle.mc_model.specs.Step.{forgot, step, took};
 ghost use Rattle.mc_model.specs.World.{World, new_world};
+ghost use Rattle.mc_showing.specs.Scenes.{IsPartOf};
 ghost use Rattle.mc_events.specs.Asking.{is_done_in};
 ghost use Rattle.mc_events.specs.Inputs.{age_after, event_of};
 ghost use Rattle.mc_events.specs.ReadyColumns.{ShedsAt};
@@ -16,6 +19,7 @@ ghost use Rattle.mc_server.specs.Minded.{StandsFor};
 use mc_bytes::NoMemory;
 use mc_entities::Mind;
 use mc_events::Input;
+use mc_flush::ClientView;
 use mc_model::{Cause, MOBS_MAX, Settings};
 use std::alloc::Global;
 
@@ -116,6 +120,18 @@ impl<M: Mind> Server<M> {
         ensures failed { HasFailed self.old.inner → HasFailed self.new.inner }
     {
         self.inner.forget(k);
+    }
+
+    /// What the client of a connection is shown a part of, as it is now; None where it is not in
+    /// play. It takes no memory.
+    pub fn client(&self, k: u32) -> Option<ClientView<'_>>
+        ensures some { (w : World) → StandsFor (⟦<Server<M> as Serving>⟧.value self.now) w →
+            is_some result ≡ in_play (get w.links k) }
+        ensures part { (w : World) (p : Player) →
+            StandsFor (⟦<Server<M> as Serving>⟧.value self.now) w →
+            get w.game.players k ≡ Some p → IfSome result (IsPartOf w.game p) }
+    {
+        self.inner.client(k)
     }
 
     /// The numbers of the connections, in the order in which they joined.

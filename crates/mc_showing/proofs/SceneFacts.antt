@@ -76,7 +76,7 @@ shown_is parts mark (Some s) shows = shows.0
 -- ---- lines
 
 -- those behind so many can be sent where all can
-later_lines : (since : ℕ) (lines : List (List ℕ)) → AllByRecursion IsLine lines →
+pub later_lines : (since : ℕ) (lines : List (List ℕ)) → AllByRecursion IsLine lines →
     AllByRecursion IsLine (drop since lines)
 later_lines zero lines all = all
 later_lines (suc since) [] all = tt
@@ -94,7 +94,7 @@ sent_all start middle end first rest before behind =
     ∙ ap (λ (bytes : List ℕ). start ++ bytes) (sym (play_bytes-append first rest))
 
 module _ (scene : Scene) (p : Player) (part : ClientView) (is : IsScene scene)
-    (has : IsPart scene p part) where
+    (has : IsPart scene.game.now scene.list.now p part) where
   abbrev game : Game
   game = scene.game.now.game
 
@@ -105,7 +105,7 @@ module _ (scene : Scene) (p : Player) (part : ClientView) (is : IsScene scene)
   listed players = ap (λ (list : ListValue). list.present) has.list ∙ players
 
   lines_are : part.lines.now ≡ drop p.since game.lines
-  lines_are = has.lines ∙ ap (drop p.since) is.said
+  lines_are = has.lines
 
   -- what is seen of it, where this was shown before
   abbrev pub seen_after : Sight → Sight
@@ -169,9 +169,6 @@ module _ (scene : Scene) (p : Player) (part : ClientView) (is : IsScene scene)
 
   pub frames_are : AreFrames part.land.now part.list.now scene.encoded.now
   frames_are = rw (has.land, has.list) is.frames
-
-  pub lines_clear : AllByRecursion IsLine part.lines.now
-  lines_clear = rw (has.lines) (later_lines p.since scene.lines.now is.clear)
 
   -- ---- what a flush looks at
 

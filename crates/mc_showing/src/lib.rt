@@ -5,14 +5,14 @@
 //! appends exactly the frames that are due to it, and the mark then stands for what it is shown.
 #![tactic(auto)]
 
-mod lines;
+mod client;
 mod opening;
 mod prepare;
 mod roster;
 mod scene;
 mod views;
 
-pub use lines::encode_lines;
+pub use client::client_of;
 pub use prepare::{prepare_one, start};
 pub use roster::{LISTED_MAX, Roster};
 pub use scene::Scene;

@@ -1,7 +1,6 @@
-ghost use Rattle.std.specs.Prelude.{◌≡◌, ◌≤◌, ◌+◌, ◌++◌, [], Option, Some, OnOk, drop};
+ghost use Rattle.std.specs.Prelude.{◌≡◌, ◌≤◌, ◌+◌, ◌++◌, [], Option, Some, OnOk};
 ghost use Rattle.std.specs.Prelude.{if◌then◌else◌};
 ghost use Rattle.std.specs.List.{AllByRecursion};
-ghost use Rattle.std.specs.Option.{option_copied};
 ghost use lib.IntN.{pos};
 ghost use Rattle.mc_frame.specs.Kept.{joined};
 ghost use Rattle.mc_model.specs.Sight.{Sight};
@@ -15,18 +14,16 @@ ghost use Rattle.mc_flush.specs.Seeing.{is_shown, present_parts, settled_parts};
 ghost use Rattle.mc_showing.specs.Around.{new_columns};
 ghost use Rattle.mc_showing.specs.Looking.{rest_looks};
 ghost use Rattle.mc_showing.specs.Shown.{IsListed, Shows};
-ghost use Rattle.mc_showing.specs.Scenes.{IsPart, IsScene};
+ghost use Rattle.mc_showing.specs.Scenes.{IsScene};
 
+use crate::client::view_for;
 use crate::opening::push_opening;
-use crate::views::view_of;
 use bytes::Bytes;
-use mc_bytes::{NoMemory, Text};
-use mc_flush::{ClientView, Encoded, Mark, PlayerList, flush_with};
+use mc_bytes::NoMemory;
+use mc_flush::{Encoded, Mark, PlayerList, flush_with};
 use mc_land::Steps;
 use mc_model::Player;
 use mc_play::Game;
-use mc_slots::Chest;
-use mc_windows::Pack;
 use std::alloc::Global;
 use std::sync::ledger::Ledger;
 
@@ -35,46 +32,13 @@ use std::sync::ledger::Ledger;
 pub struct Scene<'w> {
     /// The game.
     pub game: &'w Game,
-    /// What was said since the last tick.
-    pub lines: &'w [Text],
     /// The players in play, and those who were at the last tick.
     pub list: &'w PlayerList,
     /// The frames that more than one client may be sent.
     pub encoded: &'w Encoded,
 }
 
-/// The lines behind so many.
-fn new_lines(lines: &[Text], since: usize) -> &[Text]
-    ensures { result.now ≡ drop since lines.now }
-{
-    lines.split_at(since.min(lines.len())).1
-}
-
 impl Scene<'_> {
-    /// The parts of all that a player is shown.
-    fn part_of<'a>(
-        &'a self,
-        player: &Player,
-        pack: &'a Pack,
-        chest: Option<&'a Chest>,
-    ) -> ClientView<'a>
-        requires pack { pack.now ≡ pack_of self.now.game.now.game player.now }
-        requires chest { option_copied chest ≡ chest_of self.now.game.now.game player.now }
-        ensures { IsPart self.now player.now result }
-    {
-        ClientView {
-            land: self.game.land(),
-            folk: self.game.folk(),
-            pack,
-            chest,
-            list: self.list,
-            lines: new_lines(self.lines, player.since),
-            age: self.game.age(),
-            me: player.eid.number(),
-            view: view_of(self.game, player),
-        }
-    }
-
     /// Appends the opening, unless a client was shown something.
     fn push_opening(
         &self,
@@ -124,7 +88,7 @@ impl Scene<'_> {
         self.push_opening(alloc, player, mark, out)?;
         let pack = self.game.pack_of(player);
         let chest = self.game.chest_of(player);
-        let part = self.part_of(player, &pack, chest.as_ref());
+        let part = view_for(self.game, self.list, player, &pack, chest.as_ref());
         flush_with(alloc, &part, self.encoded, mark, &player.notes, out, steps)?;
         Ok(())
     }

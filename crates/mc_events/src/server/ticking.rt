@@ -29,7 +29,7 @@ use mc_flush::Encoded;
 use mc_land::Steps;
 use mc_links::beat;
 use mc_play::Game;
-use mc_showing::{Roster, Scene, encode_lines, start, views_of};
+use mc_showing::{Roster, Scene, start, views_of};
 use std::alloc::Global;
 use std::sync::ledger::{Blank, Ledger};
 
@@ -307,10 +307,9 @@ impl Server {
             encoded,
             steps,
         )?;
-        let lines = encode_lines(self.alloc, self.game.lines(), encoded)?;
+        encoded.add_lines(self.alloc, self.game.lines())?;
         let scene = Scene {
             game: &self.game,
-            lines: lines.as_slice(),
             list: self.list.list(),
             encoded,
         };

@@ -4,7 +4,6 @@ ghost use Rattle.std.specs.Prelude.{◌≡◌, ◌≤◌, OnErr, OnOk, length};
 ghost use Rattle.mc_model.specs.Chat.{say};
 ghost use Rattle.mc_play.specs.Kept.{by_player, played};
 
-use crate::Said;
 use crate::game::Game;
 use mc_bytes::{NoMemory, Text};
 
@@ -20,8 +19,7 @@ impl Game {
         let Some(player) = self.players.find(connection) else {
             return Ok(());
         };
-        let said = Said::by(self.alloc, &player.name, text)?;
-        self.lines.push(said)?;
+        self.lines.add(self.alloc, &player.name, text)?;
         Ok(())
     }
 }

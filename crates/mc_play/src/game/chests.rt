@@ -2,7 +2,7 @@
 
 ghost use Rattle.std.specs.Prelude.{◌≡◌, ◌≤◌, Some, is_some, length, IfOk, OnErr, OnOk};
 ghost use Rattle.std.specs.List.{filter};
-ghost use Rattle.std.specs.Option.{option_and_then};
+ghost use Rattle.std.specs.Option.{option_and_then, option_copied};
 ghost use Rattle.std.specs.FinMap.{get};
 ghost use Rattle.mc_model.specs.Deeds.{watching};
 ghost use Rattle.mc_model.specs.Game.{chest_at, chest_of};
@@ -66,6 +66,14 @@ impl Game {
     {
         let cell = player.chest?;
         self.ground.chest(&cell).copied()
+    }
+
+    /// The chest whose window a player is shown, which is lent; None where it is shown none.
+    pub fn chest(&self, player: &Player) -> Option<&Chest>
+        ensures { option_copied result ≡ chest_of self.now.game player.now }
+    {
+        let cell = player.chest.as_ref()?;
+        self.ground.chest(cell)
     }
 
     /// Lets other piles lie in the chest that is shown, if one is.

@@ -1,10 +1,11 @@
-//! What is kept of a game, field by field: a new one is named here before the crate is built again.
+//! What is kept of a game, field by field. This code refuses a copy of cells beside it, which no
+//! contract does: a new field is named here before the crate is built again.
 
 use super::Game;
 use crate::entities::Entities;
 use crate::ground::Ground;
 use crate::limits::Limits;
-use crate::{Packs, Players, Said};
+use crate::{Lines, Packs, Players};
 use mc_model::every_field;
 use std::alloc::Global;
 
@@ -17,7 +18,7 @@ fn name_fields(game: &Game) {
         ground: Ground,
         entities: Entities,
         packs: Packs,
-        lines: Vec<Said>,
+        lines: Lines,
         players: Players,
     });
 }

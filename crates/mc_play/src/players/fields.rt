@@ -1,5 +1,5 @@
-//! What is kept of players, field by field: a new one is named here before the crate is built
-//! again.
+//! What is kept of players, field by field. This code refuses a copy of cells beside them, which no
+//! contract does: a new field is named here before the crate is built again.
 
 use super::Players;
 use mc_fields::Cell;

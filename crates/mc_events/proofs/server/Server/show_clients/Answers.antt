@@ -2,7 +2,6 @@ use Rattle.std.proofs.Common.{◌≤◌, ◌+◌, sym, subst, ◌∙◌}
 use Rattle.std.specs.List.{AllByRecursion}
 use Rattle.std.specs.FinMap.{entries, len}
 use Rattle.mc_flush.specs.Encoding.{AreFrames}
-use Rattle.mc_flush.specs.LineFrames.{IsLine}
 use Rattle.mc_flush.specs.Lists.{ListValue}
 use Rattle.mc_flush.specs.Seeing.{IsNamed}
 use Rattle.mc_model.specs.Game.{Game}
@@ -21,17 +20,14 @@ show_all-requires-clause-scene g c =
     let frames = subst (λ (v : ServerValue). AreFrames (land_of v.game) v.list c.args.encoded.now)
     back c.requires.frames in
     let young = subst (λ (v : ServerValue). age_of v ≤ 1000000000) back c.requires.young in
-    let texts = sym c.as_slice-2.ensures.value in
     record {
-      said = c.as_slice-2.ensures.value ∙ c.in_ok-lines.ensures.same ∙ c.lines.ensures;
-      clear = subst (AllByRecursion IsLine) texts c.in_ok-lines.ensures.clear;
       few = subst (λ (l : ListValue). len l.present ≤ 50) is c.list.ensures.few;
       few_before = subst (λ (l : ListValue). len l.last ≤ 50) is c.list.ensures.few_before;
       named = subst (λ (l : ListValue). AllByRecursion IsNamed (entries l.present)) is
           c.list.ensures.named;
       frames = subst (λ (l : ListValue). AreFrames (land_of c.prepare_all.new.game) l
-          c.encode_lines.new.encoded) is
-          (c.encode_lines.ensures.frames (land_of c.prepare_all.new.game) c.self.inside.list
+          c.add_lines.new.self) is
+          (c.add_lines.ensures.frames (land_of c.prepare_all.new.game) c.self.inside.list
           (c.prepare_all.ensures.frames c.self.inside.list frames));
       young = subst (λ (g : Game). g.age ≤ 1000000000) (sym same.game) young;
     }
@@ -42,10 +38,10 @@ returns-clause-looks g c =
     subst (λ (v : ServerValue). c.show_all.new.steps ≤ c.args.steps.now
     + tick_looks v.game.settled v.game.game v.connections) c.self.view_is
     (round_done old.game c.prepare_all.new.game old.connections c.as_slice.result.now
-    c.args.encoded.now c.prepare_all.new.encoded c.encode_lines.new.encoded
+    c.args.encoded.now c.prepare_all.new.encoded c.add_lines.new.self
     c.lines.result.now c.args.steps.now c.prepare_all.new.steps c.show_all.new.steps
     c.prepare_all.ensures.same (c.as_slice.ensures.value ∙ c.self.invariant.are)
-    c.in_ok-prepare_all.ensures.prepared c.in_ok-lines.ensures.added
+    c.in_ok-prepare_all.ensures.prepared c.in_ok-add_lines.ensures.ok
     c.prepare_all.ensures.bounded c.show_all.ensures.bounded)
 
 pub returns-in_err-prepare_all-clause-looks : goal.returns-in_err-prepare_all-clause-looks
@@ -56,8 +52,8 @@ returns-in_err-prepare_all-clause-looks g c =
     (columns_within old.game.settled old.game.game old.connections c.args.steps.now
     c.prepare_all.new.steps c.prepare_all.ensures.bounded)
 
-pub returns-in_err-lines-clause-looks : goal.returns-in_err-lines-clause-looks
-returns-in_err-lines-clause-looks g c =
+pub returns-in_err-add_lines-clause-looks : goal.returns-in_err-add_lines-clause-looks
+returns-in_err-add_lines-clause-looks g c =
     let old = the_view c.self.inside in
     subst (λ (v : ServerValue). c.prepare_all.new.steps ≤ c.args.steps.now
     + tick_looks v.game.settled v.game.game v.connections) c.self.view_is
@@ -74,7 +70,7 @@ returns-in_err-prepare_all-clause-only g c =
     subst (λ (v : ServerValue). AreMarked v.connections c.self.inside.connections)
     c.self.view_is (marked_itself c.self.inside.connections)
 
-pub returns-in_err-lines-clause-only : goal.returns-in_err-lines-clause-only
-returns-in_err-lines-clause-only g c =
+pub returns-in_err-add_lines-clause-only : goal.returns-in_err-add_lines-clause-only
+returns-in_err-add_lines-clause-only g c =
     subst (λ (v : ServerValue). AreMarked v.connections c.self.inside.connections)
     c.self.view_is (marked_itself c.self.inside.connections)
