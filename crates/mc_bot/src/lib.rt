@@ -13,6 +13,7 @@ mod clicking;
 mod line;
 mod numbers;
 mod script;
+mod sending;
 mod texts;
 
 pub use act::{Act, Line};
