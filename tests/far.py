@@ -3,13 +3,13 @@
 Sources: docs/WORLD.md, 'The land', and docs/COMMANDS.md, `replay`.
 """
 
-import os
 import struct
 import subprocess
+import sys
 import tempfile
 
 import protocol
-from client import expect
+from client import PATIENCE, expect
 
 # How far a column is along an axis, in blocks, and where players enter.
 COLUMN = 16
@@ -22,6 +22,14 @@ SCRIPT_BYTES = 6 * 2**20
 
 # A beat comes every so many ticks.
 BEAT = 100
+
+# A program of its own, since what a process took before it became another one counts as that one's:
+# it plays the script, and prints the most memory that this took, in KiB.
+MEASURE = """
+import resource, subprocess, sys
+subprocess.run([sys.argv[1], "replay", "view=2"], stdout=subprocess.DEVNULL, check=True)
+print(resource.getrusage(resource.RUSAGE_CHILDREN).ru_maxrss)
+"""
 
 
 def far_walks_leave_no_columns(path):
@@ -36,11 +44,9 @@ def memory_of_walk(path, columns):
     with tempfile.TemporaryFile("w+") as script:
         script.writelines(script_of_walk(columns))
         script.seek(0)
-        walk = subprocess.Popen([path, "replay", "view=2"], stdin=script, stdout=subprocess.DEVNULL)
-        _pid, status, usage = os.wait4(walk.pid, 0)
-        walk.returncode = os.waitstatus_to_exitcode(status)
-    expect(walk.returncode == 0, f"the walk ended with {walk.returncode}")
-    return usage.ru_maxrss * 1024
+        done = subprocess.run([sys.executable, "-c", MEASURE, path], stdin=script,
+                              capture_output=True, text=True, timeout=PATIENCE, check=True)
+    return int(done.stdout) * 1024
 
 
 def script_of_walk(columns):
