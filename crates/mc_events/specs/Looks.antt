@@ -1,7 +1,7 @@
 -- How many cells a tick looks at, over all its clients: of each whose connection has a player, all
 -- cells of each column that comes into its view, each cell that changed of each column that stays, and
 -- each cell that was noted for it. Rules of this project.
-use Rattle.std.specs.Prelude.{◌≡◌, ℕ, List, [], Option, Some, None, IfSome, ⊥}
+use Rattle.std.specs.Prelude.{◌≡◌, ℕ, List, [], Option, Some, None, IfSome}
 use Rattle.std.specs.FinMap.{FinMap, get, keys}
 use Rattle.std.specs.List.{fold, sum_by}
 use Rattle.std.specs.Ordering.{nat_cmp}
@@ -46,8 +46,8 @@ pub record IsStill (g : Game) (mark : MarkValue) (p : Player) : Type 0 where
   pub unnoted : p.notes.cells ≡ []
 
 -- no cell is another than at the last settling, and each client's player stands still
-pub record IsIdle (settled : FinMap key_cmp ℕ) (g : Game) (connections : FinMap nat_cmp ConnectionValue) :
-    Type 0 where
+pub record IsIdle (settled : FinMap key_cmp ℕ) (g : Game)
+    (connections : FinMap nat_cmp ConnectionValue) : Type 0 where
   pub settles : g.edits ≡ settled
   pub each : (k : ℕ) → IfSome (get connections k)
       (λ c. IfSome (get g.players c.id) (IsStill g c.mark))
