@@ -81,8 +81,7 @@ IsOurs terrain land =
 pub new_states : (terrain : Terrain) (land : LandValue) → land ≡ new_land terrain →
     IsOurs terrain land
 new_states terrain land is =
-    subst (IsOurs terrain) (sym is)
-    (
+    subst (IsOurs terrain) (sym is) (
       refl,
       λ key state e. unedited state (sym (get-empty key_cmp key) ∙ e),
       λ key piles e. unfilled (sym (get-empty key_cmp key) ∙ e),

@@ -1,27 +1,26 @@
 -- Each chest stands in a column of the world, and has so many piles of items that the world holds:
 -- setting a cell and filling a chest keep that. So there are no more chests than cells of the
 -- world, and all that lies in them is a number of 128 bits.
-use Rattle.std.proofs.Common.{◌≡◌, ℕ, zero, suc, ◌+◌, ◌-◌, ◌*◌, ◌^◌, ◌<◌, ◌≤◌, Bool, true, false}
+use Rattle.std.proofs.Common.{◌≡◌, ℕ, suc, ◌+◌, ◌-◌, ◌*◌, ◌^◌, ◌<◌, ◌≤◌, Bool, true, false}
 use Rattle.std.proofs.Common.{cond, T, List, [], ◌∷◌, length, refl, sym, subst, ap, ◌∙◌, arith}
 use Rattle.std.proofs.Common.{ℤ, pos, negsuc, ◌≤ℤ◌, ◌<ℤ◌}
 use Rattle.std.proofs.lemmas.Bool.Decides.{nat_tests}
 use Rattle.std.proofs.lemmas.Int.{ints}
 use Rattle.std.proofs.lemmas.List.Sums.{sum_by-cons}
-use Rattle.std.specs.Prelude.{Option, Some, None, IsSome, unsigned_abs, if◌then◌else◌, is_some}
+use Rattle.std.specs.Prelude.{Option, Some, None, IsSome, if◌then◌else◌, is_some}
 use Rattle.std.specs.List.{AllByRecursion, filter, sum_by}
 use Rattle.std.specs.declared.cmp.Ordering.{Ordering}
 use Rattle.std.specs.declared.cmp.Ordering.TheVariants.{Less, Equal, Greater}
 use Rattle.std.specs.Cmp.{int_ranks, ranks}
 use Rattle.std.specs.Ordering.{MatchOrdering, eq_by_cmp, int_cmp, is_lt, nat_cmp, ordering_then}
-use Rattle.std.specs.FinMap.{FinMap, entries, entries_sorted, find, get, get-empty, get-entries}
+use Rattle.std.specs.FinMap.{FinMap, entries, entries_sorted, get, get-entries}
 use Rattle.std.specs.FinMap.{get-insert, get-remove, insert, is_sorted, remove}
 use Rattle.std.specs.FinMap.Entries.{below_all}
-use lib.IntN.{neg_ℤ}
 use Rattle.mc_column.specs.Sizes.{cells}
 use Rattle.mc_column.specs.SizesLaws.{cells-is}
 use Rattle.mc_slots.specs.declared.pile.Pile.{Pile}
 use Rattle.mc_slots.specs.declared.pile.Pile.TheVariants.{Empty, Full}
-use Rattle.mc_slots.specs.Chest.{IsChest, chest_size, empty_chest, empty_is_chest, pile_at}
+use Rattle.mc_slots.specs.Chest.{IsChest, empty_chest, empty_is_chest, pile_at}
 use Rattle.mc_slots.specs.Pile.{IsPile, count_of}
 use Rattle.mc_land.specs.Places.{IsPlace, Key, column_number, is_inside, is_within_border, key_cmp}
 use Rattle.mc_land.specs.Places.{key_of, place_of}
