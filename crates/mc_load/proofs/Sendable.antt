@@ -14,7 +14,6 @@ use Rattle.mc_fields.specs.RowLaws.{fits_spelled}
 use Rattle.mc_fields.specs.TextFormat.{SpellableText}
 use Rattle.mc_frame.specs.Frame.{IsPayload}
 use Rattle.mc_frame.specs.FrameLaws.{packet_payload}
-use Rattle.mc_hello.specs.declared.handshake.Hand.TheVariants.{Handshake}
 use Rattle.mc_hello.specs.declared.login_up.LoginUp.TheVariants.{Start}
 use Rattle.mc_hello.specs.Hand as hand
 use Rattle.mc_hello.specs.LoginUp as login
@@ -27,7 +26,7 @@ use Rattle.mc_model.proofs.FitsText.{short_string, short_where}
 use Rattle.mc_model.proofs.PatternFacts.{pattern_one}
 use Rattle.mc_model.specs.Numbers.{pattern_of}
 use Rattle.mc_load.specs.Framed.{CanSend}
-use Rattle.mc_load.specs.Load.{ground_cell, name_of, two_columns}
+use Rattle.mc_load.specs.Load.{ground_cell, hello, name_of, two_columns}
 
 -- ---- numbers
 
@@ -79,7 +78,7 @@ can_view =
 
 -- ---- packets before play
 
-pub hello_fits : hand.FitsHand (Handshake (pos 47) (codes "localhost") 25565 (pos 2))
+hello_fits : hand.FitsHand hello
 hello_fits =
     let address : SpellableText 255 (codes "localhost") = short_fits 255 (codes "localhost")
     (lit< tt) (short_less 9 255 (codes "localhost") (lit≤ tt)
@@ -88,15 +87,11 @@ hello_fits =
     let wanted : FitsSigned w32 (pos 2) = record { sfits = lit< tt } in
     search fields
 
-pub hello_spelled : (bytes : List ℕ)
-    × hand.SpellsHand (Handshake (pos 47) (codes "localhost") 25565 (pos 2)) bytes
-hello_spelled =
-    (_, fits_spelled (hand.entry_of (Handshake (pos 47) (codes "localhost") 25565 (pos 2))) hello_fits)
+pub hello_spelled : (bytes : List ℕ) × hand.SpellsHand hello bytes
+hello_spelled = (_, fits_spelled (hand.entry_of hello) hello_fits)
 
-pub hello_payload :
-    IsPayload (hand.spelling_of (Handshake (pos 47) (codes "localhost") 25565 (pos 2)))
-hello_payload = packet_payload
-    (hand.entry_of (Handshake (pos 47) (codes "localhost") 25565 (pos 2))) hello_fits (lit< tt)
+pub hello_payload : IsPayload (hand.spelling_of hello)
+hello_payload = packet_payload (hand.entry_of hello) hello_fits (lit< tt)
 
 number_short : (n : ℕ) → n < 50 → IsShort 2 (decimal n)
 number_short n small = record {
@@ -110,7 +105,7 @@ name_short i few = short_fits 16 (name_of i) (lit< tt) (short_less 3 16 (name_of
     (short_joined 1 2 (codes "L") (decimal i) (short_where 1 (codes "L") refl)
     (number_short i few)))
 
-pub start_fits : (i : ℕ) → i < 50 → login.FitsLoginUp (Start (name_of i))
+start_fits : (i : ℕ) → i < 50 → login.FitsLoginUp (Start (name_of i))
 start_fits i few = let name = name_short i few in search fields
 
 pub start_spelled : (i : ℕ) → i < 50 →

@@ -6,6 +6,7 @@ use Rattle.std.specs.List.{flat_map, range_with_len}
 use lib.IntN.{pos}
 use Rattle.mc_fields.specs.declared.position.Cell.{Cell}
 use Rattle.mc_frame.specs.Frame.{frame_spelling}
+use Rattle.mc_hello.specs.declared.handshake.Hand.{Hand}
 use Rattle.mc_hello.specs.declared.handshake.Hand.TheVariants.{Handshake}
 use Rattle.mc_hello.specs.declared.login_up.LoginUp.TheVariants.{Start}
 use Rattle.mc_hello.specs.Hand as hand
@@ -22,9 +23,11 @@ use Rattle.mc_load.specs.Framed.{packet_frame}
 abbrev pub name_of : ℕ → List ℕ
 name_of i = codes "L" ++ decimal i
 
+abbrev pub hello : Hand
+hello = Handshake (pos 47) (codes "localhost") 25565 (pos 2)
+
 abbrev pub hello_bytes : List ℕ
-hello_bytes =
-    frame_spelling (hand.spelling_of (Handshake (pos 47) (codes "localhost") 25565 (pos 2)))
+hello_bytes = frame_spelling (hand.spelling_of hello)
 
 abbrev pub start_bytes : ℕ → List ℕ
 start_bytes i = frame_spelling (login.spelling_of (Start (name_of i)))
