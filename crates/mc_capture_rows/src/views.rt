@@ -1,5 +1,6 @@
-//! Views: `view BYTES` shows a capture and answers its lines, each ended by a bar, and how it ended.
-//! With `read N` the source fails at read N, with `write N` the sink at write N, counted from 0.
+//! Views: `view BYTES` shows a capture and answers its lines, each ended by a bar, and how that
+//! ended. With `read N` the source fails at read N, with `write N` the sink at write N, counted
+//! from 0.
 
 use mc_capture::{CaptureEnd, view};
 use mc_rows::{Answer, Words};
