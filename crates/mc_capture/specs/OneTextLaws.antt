@@ -201,6 +201,7 @@ head_there bytes new after same end = step (nat_lt (length bytes) 8) refl
   where
     len : length bytes + length new ≡ 8 + length after
     len = sym (length-append bytes new) ∙ ap length same ∙ length-append capture_head after
+
     step : (less : Bool) → nat_lt (length bytes) 8 ≡ less → 8 ≤ length bytes
     step true is =
         let less : length bytes < 8 = grind (arith, nat_tests, is) in
@@ -283,8 +284,7 @@ pub one_text : (bytes held text text' : List ℕ) (new new' : Option (List ℕ))
     → (text ≡ text') × (end ≡ end')
 one_text bytes held text text' new new' end end' sized sized' viewed viewed' =
     let one = one_reading bytes new new' viewed.records viewed'.records end end' sized sized'
-    viewed.reads viewed'.reads in
-    (
+    viewed.reads viewed'.reads in (
       append_cancel_left held text (view_text viewed.records) viewed.wrote
           ∙ ap (λ (rs : List Record). view_text rs) one.0
           ∙ sym (append_cancel_left held text' (view_text viewed'.records) viewed'.wrote),
