@@ -20,11 +20,11 @@ still_holds : (P : Option (List ℕ) → Type 0) (held held' : Option (List ℕ)
     P held → P held'
 still_holds P held held' same holds = subst P (sym same) holds
 
-still_rose : (faults mid faults' : ℕ) → faults' ≡ mid → Rose faults mid → Rose faults faults'
+pub still_rose : (faults mid faults' : ℕ) → faults' ≡ mid → Rose faults mid → Rose faults faults'
 still_rose faults mid faults' same rose = grind (arith, nat_tests)
 
 -- nothing was written before the last line
-only_last : (A : Type 0) (view : A → Option (List ℕ)) (count : A → ℕ) (old mid new : A)
+pub only_last : (A : Type 0) (view : A → Option (List ℕ)) (count : A → ℕ) (old mid new : A)
     (line : List ℕ) → mid ≡ old → WroteLast (view mid) (view new) (count mid) (count new) line →
     WroteLast (view old) (view new) (count old) (count new) line
 only_last A view count old mid new line same wrote = grind (arith, nat_tests)
