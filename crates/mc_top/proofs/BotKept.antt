@@ -51,11 +51,11 @@ module _ (A : Type 0) (view : A → Option (List ℕ)) (count : A → ℕ) (opti
     (link link' : LinkDevice) (left left' : Option (List ℕ)) (reads reads' : ℕ) (old mid new : A)
     where
   -- how it ended, before the last line and with it
-  Ended_ : Ended → Type 0
+  abbrev pub Ended_ : Ended → Type 0
   Ended_ e = BotEnds (λ line. mid ≡ old) options e link link'
       (streams left reads (view old) (count old)) (streams left' reads' (view mid) (count mid))
 
-  Kept : Ended → Type 0
+  abbrev pub Kept : Ended → Type 0
   Kept e = BotEnds (λ line. WroteLast (view old) (view new) (count old) (count new) line) options e
       link link' (streams left reads (view old) (count old))
       (streams left' reads' (view new) (count new))
@@ -116,10 +116,10 @@ module _ (A : Type 0) (view : A → Option (List ℕ)) (count : A → ℕ) (opti
 
 fault_or_fine : (input : List ℕ) (bad : BadInput) (left left' : Option (List ℕ)) →
     IsNoScript bad left left' → left ≡ Some input → bot_fault input ≡ None → ⊥
-fault_or_fine input bad None left' no is fine = absurd cc
-fault_or_fine input bad (Some all) left' no is fine =
-    let same : no.input ≡ input = cc (no.left_is, is) in
-    let there : bot_fault input ≡ Some bad = rw (← same) no.is in
+fault_or_fine input bad None left' wrong_ is fine = absurd cc
+fault_or_fine input bad (Some all) left' wrong_ is fine =
+    let same : wrong_.input ≡ input = cc (wrong_.left_is, is) in
+    let there : bot_fault input ≡ Some bad = rw (← same) wrong_.is in
     cc
 
 module _ (options : BotOptions) (how : Ended) (before after : Devices) (input : List ℕ) where

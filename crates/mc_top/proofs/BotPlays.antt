@@ -23,18 +23,18 @@ pub unplayed : (A : Type 0) (view : A → Option (List ℕ)) (out : A) (options 
     (how : Ended) (link : LinkDevice) (left left' : Option (List ℕ)) (reads reads' faults : ℕ) →
     HasNoScript how left left' reads reads' → BotEnds (λ line. out ≡ out) options how link link
     (streams left reads (view out) faults) (streams left' reads' (view out) faults)
-unplayed A view out options ended.NoMemory link left left' reads reads' faults no =
+unplayed A view out options ended.NoMemory link left left' reads reads' faults none_ =
     inl (refl, refl)
-unplayed A view out options ended.ReadFault link left left' reads reads' faults no =
-    (no, refl, refl)
-unplayed A view out options (ended.BadInput bad) link left left' reads reads' faults no =
-    (no, refl, refl)
-unplayed A view out options ended.Done link left left' reads reads' faults no = absurd no
-unplayed A view out options ended.Usage link left left' reads reads' faults no = absurd no
-unplayed A view out options ended.WriteFault link left left' reads reads' faults no = absurd no
-unplayed A view out options ended.NetFault link left left' reads reads' faults no = absurd no
-unplayed A view out options (ended.Budget n) link left left' reads reads' faults no = absurd no
-unplayed A view out options (ended.Refused why) link left left' reads reads' faults no = absurd no
+unplayed A view out options ended.ReadFault link left left' reads reads' faults none_ =
+    (none_, refl, refl)
+unplayed A view out options (ended.BadInput bad) link left left' reads reads' faults none_ =
+    (none_, refl, refl)
+unplayed A view out options ended.Done link left left' reads reads' faults none_ = absurd no
+unplayed A view out options ended.Usage link left left' reads reads' faults none_ = absurd no
+unplayed A view out options ended.WriteFault link left left' reads reads' faults none_ = absurd no
+unplayed A view out options ended.NetFault link left left' reads reads' faults none_ = absurd no
+unplayed A view out options (ended.Budget n) link left left' reads reads' faults none_ = absurd no
+unplayed A view out options (ended.Refused why) link left left' reads reads' faults none_ = absurd no
 
 -- the script was played
 module _ (A : Type 0) (view : A → Option (List ℕ)) (old new : A) (options : BotOptions)

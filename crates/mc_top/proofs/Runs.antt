@@ -45,4 +45,4 @@ module _ (plans : Plans) (how : Ended) (before after : Devices) where
       (streams_of after) bad wrong_.0 p.1.0 wrong_.1 wrong_.2 reads writes
   refused bad (Serve options) p wrong_ reads writes = absurd wrong_
   refused bad (Bot options) p wrong_ reads writes =
-      bot_refused options how before after bad wrong_.0 p.1 wrong_.1 wrong_.2 reads
+      bot_refused options how before after wrong_.0 bad p.1 wrong_.1 wrong_.2 reads

@@ -36,7 +36,7 @@ returns g c = elim c.match-command.branch [
       rw (w.in-Serve.is, w.lobby-is, w.link-is, w.input-is) (
         ((refl, refl), refl),
         serve_kept _ g.O.Sink.held g.O.Sink.faults _ w.in-Serve.options w.serve-ended.result
-            c.finish.result _ _ _ _ _ _ c.args.out.now w.serve-ended.new.out c.finish.new.out
+            c.finish.result _ _ _ _ _ _ _ c.args.out.now w.serve-ended.new.out c.finish.new.out
             (record {
               done = said.done;
               no_memory = said.no_memory;
@@ -45,5 +45,13 @@ returns g c = elim c.match-command.branch [
               net_fault = said.net_fault;
               budget = said.budget;
             }) last,
+      )
+  | in-Bot w ↦
+      let last = rw (w.ended-is, w.out-is) at c.finish.ensures in
+      let said = w.bot-ended.ensures in
+      rw (w.in-Bot.is, w.lobby-is, w.link-is, w.input-is) (
+        (refl, refl),
+        bot_kept _ g.O.Sink.held g.O.Sink.faults w.in-Bot.options _ _ _ _ _ _ c.args.out.now
+            w.bot-ended.new.out c.finish.new.out w.bot-ended.result c.finish.result said last,
       )
 ]
