@@ -50,15 +50,7 @@ pub fn program<L: Lobby, K: Link, I: Source, O: Sink, M: Mind>(
         (I.left input.new) (I.faults input.new) (O.held out.new) (O.faults out.new)))) }
 {
     match arguments {
-        Ok(arguments) => run(
-            alloc,
-            arguments.as_slice(),
-            lobby,
-            link,
-            input,
-            out,
-            minds,
-        ),
+        Ok(arguments) => run(alloc, arguments.as_slice(), lobby, link, input, out, minds),
         Err(_) => NO_MEMORY,
     }
 }

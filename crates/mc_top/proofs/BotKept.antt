@@ -49,68 +49,68 @@ begins held held' end_ course sent same is =
 -- the promise holds once the last line is written
 module _ (A : Type 0) (view : A → Option (List ℕ)) (count : A → ℕ) (options : BotOptions)
     (link link' : LinkDevice) (left left' : Option (List ℕ)) (reads reads' : ℕ) (old mid new : A)
-    where
-  -- how it ended, before the last line and with it
-  abbrev pub Ended_ : Ended → Type 0
-  Ended_ e = BotEnds (λ line. mid ≡ old) options e link link'
-      (streams left reads (view old) (count old)) (streams left' reads' (view mid) (count mid))
+  where
+    -- how it ended, before the last line and with it
+    abbrev pub Ended_ : Ended → Type 0
+    Ended_ e = BotEnds (λ line. mid ≡ old) options e link link'
+        (streams left reads (view old) (count old)) (streams left' reads' (view mid) (count mid))
 
-  abbrev pub Kept : Ended → Type 0
-  Kept e = BotEnds (λ line. WroteLast (view old) (view new) (count old) (count new) line) options e
-      link link' (streams left reads (view old) (count old))
-      (streams left' reads' (view new) (count new))
+    abbrev pub Kept : Ended → Type 0
+    Kept e = BotEnds (λ line. WroteLast (view old) (view new) (count old) (count new) line) options e
+        link link' (streams left reads (view old) (count old))
+        (streams left' reads' (view new) (count new))
 
-  wrote : (line : List ℕ) → mid ≡ old →
-      WroteLast (view mid) (view new) (count mid) (count new) line →
-      WroteLast (view old) (view new) (count old) (count new) line
-  wrote line same last = only_last A view count old mid new line same last
+    wrote : (line : List ℕ) → mid ≡ old →
+        WroteLast (view mid) (view new) (count mid) (count new) line →
+        WroteLast (view old) (view new) (count old) (count new) line
+    wrote line same last = only_last A view count old mid new line same last
 
-  -- there was no memory for the last line behind a play
-  unwritten : (H : Course Replica → List ℕ → Type 0) (end_ : BotEnd Replica) →
-      ((course : Course Replica) (sent : List ℕ) → H course sent → course ≡ ends end_ sent) →
-      mid ≡ old → view new ≡ view mid → IsPlayed options link link' left left' H →
-      Kept ended.NoMemory
-  unwritten H end_ ended_is same still p = inr (weaken options link link' left left' H _
-      (λ course sent h. begins (view old) (view new) end_ course sent (still ∙ ap view same)
-      (ended_is course sent h)) p)
+    -- there was no memory for the last line behind a play
+    unwritten : (H : Course Replica → List ℕ → Type 0) (end_ : BotEnd Replica) →
+        ((course : Course Replica) (sent : List ℕ) → H course sent → course ≡ ends end_ sent) →
+        mid ≡ old → view new ≡ view mid → IsPlayed options link link' left left' H →
+        Kept ended.NoMemory
+    unwritten H end_ ended_is same still p = inr (weaken options link link' left left' H _
+        (λ course sent h. begins (view old) (view new) end_ course sent (still ∙ ap view same)
+        (ended_is course sent h)) p)
 
-  pub bot_kept : (how result : Ended) → Ended_ how →
-      Finishes how result (view mid) (view new) (count mid) (count new) → Kept result
-  bot_kept ended.Done result said last = subst Kept (sym last.0) (
-    said.0,
-    said.1,
-    subst (λ (h : Option (List ℕ)). Grows (view old) h (dump_text said.0)) (sym last.1.0) said.2,
-  )
-  bot_kept ended.NoMemory result said last = subst Kept (sym last.0)
-      (subst (λ (h : Option (List ℕ)). ((link' ≡ link) × (h ≡ view old))
-      ⊎ IsPlayed options link link' left left'
-      (λ course sent. Begins course sent × DumpsPart (view old) h course sent))
-      (sym last.1.0) said)
-  bot_kept ended.Usage result said last = absurd said
-  bot_kept ended.ReadFault result said last = subst Kept (sym last.0)
-      (said.0, said.1, wrote read_fault_line said.2 last.1)
-  bot_kept ended.WriteFault result said last = subst Kept (sym last.0) (
-    said.0,
-    still_rose (count old) (count mid) (count new) last.1.1 said.1,
-    said.2,
-    subst (λ (h : Option (List ℕ)). SendsPart (view old) h (dump_text said.0)) (sym last.1.0)
-        said.3,
-  )
-  bot_kept ended.NetFault result said last = subst Kept (sym last.0)
-      (said.0, said.1, wrote net_fault_line said.2 last.1)
-  bot_kept (ended.BadInput bad) result said (inl last) = subst Kept (sym last.0)
-      (said.0, said.1, wrote (bad_input_line bad) said.2 last.1)
-  bot_kept (ended.BadInput bad) result said (inr last) = subst Kept (sym last.0)
-      (inl (said.1, last.1.0 ∙ ap view said.2))
-  bot_kept (ended.Budget n) result said (inl last) = subst Kept (sym last.0)
-      (said.0, said.1, wrote (budget_line n) said.2 last.1)
-  bot_kept (ended.Budget n) result said (inr last) = subst Kept (sym last.0)
-      (unwritten (Waits options link') waiting (λ course sent h. h.0) said.2 last.1.0 said.1)
-  bot_kept (ended.Refused why) result said (inl last) = subst Kept (sym last.0)
-      (said.0, said.1, said.2, wrote (refused_line why) said.3 last.1)
-  bot_kept (ended.Refused why) result said (inr last) = subst Kept (sym last.0)
-      (unwritten (Ends options link' (refused_for said.0)) (refused_for said.0)
-      (λ course sent h. h.0) said.3 last.1.0 said.2)
+    pub bot_kept : (how result : Ended) → Ended_ how →
+        Finishes how result (view mid) (view new) (count mid) (count new) → Kept result
+    bot_kept ended.Done result said last = subst Kept (sym last.0) (
+      said.0,
+      said.1,
+      subst (λ (h : Option (List ℕ)). Grows (view old) h (dump_text said.0)) (sym last.1.0) said.2,
+    )
+    bot_kept ended.NoMemory result said last = subst Kept (sym last.0)
+        (subst (λ (h : Option (List ℕ)). ((link' ≡ link) × (h ≡ view old))
+        ⊎ IsPlayed options link link' left left'
+        (λ course sent. Begins course sent × DumpsPart (view old) h course sent))
+        (sym last.1.0) said)
+    bot_kept ended.Usage result said last = absurd said
+    bot_kept ended.ReadFault result said last = subst Kept (sym last.0)
+        (said.0, said.1, wrote read_fault_line said.2 last.1)
+    bot_kept ended.WriteFault result said last = subst Kept (sym last.0) (
+      said.0,
+      still_rose (count old) (count mid) (count new) last.1.1 said.1,
+      said.2,
+      subst (λ (h : Option (List ℕ)). SendsPart (view old) h (dump_text said.0)) (sym last.1.0)
+          said.3,
+    )
+    bot_kept ended.NetFault result said last = subst Kept (sym last.0)
+        (said.0, said.1, wrote net_fault_line said.2 last.1)
+    bot_kept (ended.BadInput bad) result said (inl last) = subst Kept (sym last.0)
+        (said.0, said.1, wrote (bad_input_line bad) said.2 last.1)
+    bot_kept (ended.BadInput bad) result said (inr last) = subst Kept (sym last.0)
+        (inl (said.1, last.1.0 ∙ ap view said.2))
+    bot_kept (ended.Budget n) result said (inl last) = subst Kept (sym last.0)
+        (said.0, said.1, wrote (budget_line n) said.2 last.1)
+    bot_kept (ended.Budget n) result said (inr last) = subst Kept (sym last.0)
+        (unwritten (Waits options link') waiting (λ course sent h. h.0) said.2 last.1.0 said.1)
+    bot_kept (ended.Refused why) result said (inl last) = subst Kept (sym last.0)
+        (said.0, said.1, said.2, wrote (refused_line why) said.3 last.1)
+    bot_kept (ended.Refused why) result said (inr last) = subst Kept (sym last.0)
+        (unwritten (Ends options link' (refused_for said.0)) (refused_for said.0)
+        (λ course sent h. h.0) said.3 last.1.0 said.2)
 
 -- ---- what follows from it
 

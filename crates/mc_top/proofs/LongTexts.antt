@@ -49,9 +49,11 @@ lines_stop = record {
   long = λ a count size x line rest past fine.
       some_fault (record { line = count + 1; kind = Long }) (rw past at fine);
   on = λ a count size x line rest fine.
-      let next = receives_next (length a) (size + (length line + 1)) x line in
-      (next, told_on (count + 1) next next.fault
-      (λ y. lines_told a (count + 1) (size + (length line + 1)) y rest) fine);
+      let next = receives_next (length a) (size + (length line + 1)) x line in (
+        next,
+        told_on (count + 1) next next.fault
+            (λ y. lines_told a (count + 1) (size + (length line + 1)) y rest) fine,
+      );
 }
 
 told_front : (most : ℕ) (front more : List ℕ) → length front ≡ text_max + 1 →
