@@ -9,6 +9,8 @@
 mod act;
 mod asking;
 mod begun;
+mod bot;
+mod bot_fault;
 mod clicking;
 mod line;
 mod numbers;
@@ -17,4 +19,6 @@ mod sending;
 mod texts;
 
 pub use act::{Act, Line};
+pub use bot::{play, play_with};
+pub use bot_fault::BotFault;
 pub use script::{Script, ScriptFault, ScriptKind, ScriptRead};
