@@ -78,10 +78,11 @@ pub record HasPlayedScript {S : Type 0} (start : PlayStart S) (left_ : PlayLeft 
   pub given : List ℕ
   pub sent : List ℕ
   pub exchanged : Exchanges start.told left_.told (start.port ∷ []) given sent
-  pub ended : (cut : Cut) → IsCut given cut →
-      EndsAs (played_out start.rules start.seen start.script start.port
+  pub cut : Cut
+  pub is_cut : IsCut given cut
+  pub ended : EndsAs (played_out start.rules start.seen start.script start.port
       (ahead_of cut left_.stage.ended)) sent left_.seen start.patience left_.stage.quiet_run result
-  pub dumped : (cut : Cut) → IsCut given cut → DumpsAs untouched
+  pub dumped : DumpsAs untouched
       (played_out start.rules start.seen start.script start.port (ahead_of cut left_.stage.ended)
       ≡ ends (ended_with left_.seen) sent) start.held left_.held
       (start.rules.dumps left_.seen) result
