@@ -29,12 +29,12 @@ unplayed A view out options ended.ReadFault link left left' reads reads' faults 
     (none_, refl, refl)
 unplayed A view out options (ended.BadInput bad) link left left' reads reads' faults none_ =
     (none_, refl, refl)
-unplayed A view out options ended.Done link left left' reads reads' faults none_ = absurd no
-unplayed A view out options ended.Usage link left left' reads reads' faults none_ = absurd no
-unplayed A view out options ended.WriteFault link left left' reads reads' faults none_ = absurd no
-unplayed A view out options ended.NetFault link left left' reads reads' faults none_ = absurd no
-unplayed A view out options (ended.Budget n) link left left' reads reads' faults none_ = absurd no
-unplayed A view out options (ended.Refused why) link left left' reads reads' faults none_ = absurd no
+unplayed A view out options ended.Done link left left' reads reads' faults none_ = absurd none_
+unplayed A view out options ended.Usage link left left' reads reads' faults none_ = absurd none_
+unplayed A view out options ended.WriteFault link left left' reads reads' faults none_ = absurd none_
+unplayed A view out options ended.NetFault link left left' reads reads' faults none_ = absurd none_
+unplayed A view out options (ended.Budget n) link left left' reads reads' faults none_ = absurd none_
+unplayed A view out options (ended.Refused why) link left left' reads reads' faults none_ = absurd none_
 
 -- the script was played
 module _ (A : Type 0) (view : A → Option (List ℕ)) (old new : A) (options : BotOptions)
