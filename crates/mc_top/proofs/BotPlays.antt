@@ -1,12 +1,10 @@
--- How `bot` ends before its last line is written: without a script, or behind the play of one.
+-- How `bot` ends behind the play of its script, before its last line is written.
 use Rattle.std.proofs.Common.{◌≡◌, ℕ, ◌⊎◌, inl, inr, List, Option, Result, Ok, Err, refl, ap}
 use Rattle.std.specs.Prelude.{IsErrOf}
 use Rattle.mc_model.specs.Replica.{Replica, new_replica}
 use Rattle.mc_replica.specs.Dump.{dump_text}
 use Rattle.mc_wire.specs.Count.{Rose}
 use Rattle.mc_words.specs.declared.arguments.BotOptions.{BotOptions}
-use Rattle.mc_words.specs.declared.ended.Ended.{Ended}
-use Rattle.mc_words.specs.declared.ended.Ended.TheVariants as ended
 use Rattle.mc_words.specs.Devices.{LinkDevice, streams}
 use Rattle.mc_words.specs.Passes.{SendsPart}
 use Rattle.mc_bot.specs.declared.bot_fault.BotFault.{BotFault}
@@ -16,25 +14,6 @@ use Rattle.mc_bot.specs.Playing.{Course, ahead_of, ended_with, ends, played_out,
 use Rattle.mc_bot.specs.Script.{ScriptValue}
 use Rattle.mc_top.specs.BotPromise.{Begins, BotEnds, DumpsPart, Ends, IsPlayed, IsScript, Waits}
 use Rattle.mc_top.specs.BotPromise.{ended_by_play}
-use Rattle.mc_top.specs.BotReading.{HasNoScript}
-
--- there is no script, and neither the link nor the output was touched
-pub unplayed : (A : Type 0) (view : A → Option (List ℕ)) (out : A) (options : BotOptions)
-    (how : Ended) (link : LinkDevice) (left left' : Option (List ℕ)) (reads reads' faults : ℕ) →
-    HasNoScript how left left' reads reads' → BotEnds (λ line. out ≡ out) options how link link
-    (streams left reads (view out) faults) (streams left' reads' (view out) faults)
-unplayed A view out options ended.NoMemory link left left' reads reads' faults none_ =
-    inl (refl, refl)
-unplayed A view out options ended.ReadFault link left left' reads reads' faults none_ =
-    (none_, refl, refl)
-unplayed A view out options (ended.BadInput bad) link left left' reads reads' faults none_ =
-    (none_, refl, refl)
-unplayed A view out options ended.Done link left left' reads reads' faults none_ = absurd none_
-unplayed A view out options ended.Usage link left left' reads reads' faults none_ = absurd none_
-unplayed A view out options ended.WriteFault link left left' reads reads' faults none_ = absurd none_
-unplayed A view out options ended.NetFault link left left' reads reads' faults none_ = absurd none_
-unplayed A view out options (ended.Budget n) link left left' reads reads' faults none_ = absurd none_
-unplayed A view out options (ended.Refused why) link left left' reads reads' faults none_ = absurd none_
 
 -- the script was played
 module _ (A : Type 0) (view : A → Option (List ℕ)) (old new : A) (options : BotOptions)

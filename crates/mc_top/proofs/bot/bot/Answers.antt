@@ -1,11 +1,7 @@
-use Rattle.mc_words.specs.Devices.{link_device}
-use Rattle.mc_top.proofs.BotPlays.{bot_played, unplayed}
+use Rattle.mc_top.proofs.BotPlays.{bot_played}
 use Rattle.mc_top.proofs.bot.bot.Goals as goal
 
 pub returns : goal.returns
 returns g c = rw c.ended_by_play.ensures (bot_played _ g.O.Sink.held _ _ c.args.options _ _ _ _ _ _
     _ _ _ c.play.ensures.plays.0 c.play.result c.in-Ok.ensures.script c.play.ensures.plays.1
     c.play.ensures.link_failed c.play.ensures.out_failed)
-
-pub returns-in-Err : goal.returns-in-Err
-returns-in-Err g c = unplayed _ g.O.Sink.held _ c.args.options _ _ _ _ _ _ _ c.in-Err.ensures.none
