@@ -2,7 +2,7 @@
 use Rattle.std.proofs.Common.{◌≡◌, ℕ, zero, suc, ◌+◌, ◌-◌, ◌<◌, ◌≤◌, Bool, true, false, List, [], ◌∷◌}
 use Rattle.std.proofs.Common.{◌++◌, length, drop, get_or, Option, Some, None, Result, Ok, Err, refl}
 use Rattle.std.proofs.Common.{sym, subst, ap, ◌∙◌, arith, append_assoc}
-use Rattle.std.specs.Prelude.{not, if◌then◌else◌}
+use Rattle.std.specs.Prelude.{if◌then◌else◌}
 use Rattle.std.proofs.lemmas.List.{append-nil, drop_all, drop_more}
 use lib.IntN.{ℤ}
 use Rattle.mc_fields.specs.declared.packet.PacketFault.{PacketFault}
@@ -572,12 +572,3 @@ lines_end rules lines i a b stage f f1 so_far past = (
       so_far.come (no_line rules (drop i lines) b (drop_all i lines past)),
   so_far.goes_on,
 )
-
--- a test that was turned around
-pub tested_out : (a b : Bool) → b ≡ a → not b ≡ true → a ≡ false
-tested_out a true is test = absurd cc
-tested_out a false is test = sym is
-
-pub tested_in : (a b : Bool) → b ≡ a → not b ≡ false → a ≡ true
-tested_in a true is test = sym is
-tested_in a false is test = absurd cc

@@ -29,4 +29,20 @@ returns-in-Expect-clause-step g c =
     }) _ _ (search rules) c.requires.ready c.expect.ensures
 
 pub returns-in_default : goal.returns-in_default
-returns-in_default g c = ?
+returns-in_default g c =
+    let rules = rules_of g.S.Seer.refused g.S.Seer.taken g.S.Seer.asked g.S.Seer.sent
+    g.S.Seer.block_at g.S.Seer.slot_at g.S.Seer.window_at g.S.Seer.text in
+    record {
+      step = other_line rules _ c.args.line.now.act (λ play. IsStep play goes (record {
+        seen = c.args.seer.now;
+        keeping = c.args.self.now;
+        told = g.K.Link.told c.args.link.now;
+      }) (record {
+        seen = c.act.new.seer;
+        keeping = c.act.new.self;
+        told = g.K.Link.told c.act.new.link;
+      }) (g.K.Link.stage c.act.new.link) c.act.result) c.requires.stays c.in_default.not-Wait
+          c.in_default.not-Until c.in_default.not-Expect c.act.ensures.step;
+      failed = c.act.ensures.failed;
+      counts = c.act.ensures.counts;
+    }

@@ -1,8 +1,7 @@
-use Rattle.std.proofs.Common.{refl, arith}
+use Rattle.std.proofs.Common.{sym, ◌∙◌}
 use Rattle.std.proofs.lemmas.Result.{err_from_is_err_and}
 use Rattle.mc_bot.specs.Playing.{rules_of, packets_taken, lines_played}
 use Rattle.mc_bot.proofs.Lines.{until, underway_none, until_more, until_stops, until_ends}
-use Rattle.mc_bot.proofs.Lines.{tested_out, tested_in}
 use Rattle.mc_bot.proofs.playing.Playing.take_until.Goals as goal
 
 pub loop-cell-init : goal.loop-cell-init
@@ -38,7 +37,7 @@ loop-cell-preserved g c =
       told = g.K.Link.told c.take.new.link;
     })
     _ _ _ _ _ c.loop-cell.invariant
-    (tested_out _ _ c.has_state.ensures c.loop-cell-test.true) c.in_ok-take.ensures.step.0
+    (sym c.has_state.ensures ∙ c.loop-cell-test.true) c.in_ok-take.ensures.step.0
     c.in_ok-take.ensures.step.1 c.in_ok-take.ensures.counts
 
 pub returns-in_err-take-clause-step : goal.returns-in_err-take-clause-step
@@ -58,7 +57,7 @@ returns-in_err-take-clause-step g c =
       told = g.K.Link.told c.loop-cell.link;
     })
     _ _ _ _ _ _ c.loop-cell.invariant
-    (tested_out _ _ c.has_state.ensures c.loop-cell-test.true) c.in_err-take.ensures.step)
+    (sym c.has_state.ensures ∙ c.loop-cell-test.true) c.in_err-take.ensures.step)
 
 pub returns-clause-step : goal.returns-clause-step
 returns-clause-step g c =
@@ -76,4 +75,4 @@ returns-clause-step g c =
       told = g.K.Link.told c.loop-cell.link;
     })
     _ _ _ c.loop-cell.invariant
-    (tested_in _ _ c.has_state.ensures c.loop-cell-test.false)
+    (sym c.has_state.ensures ∙ c.loop-cell-test.false)
