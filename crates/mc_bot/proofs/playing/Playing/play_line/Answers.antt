@@ -1,4 +1,4 @@
-use Rattle.std.proofs.Common.{refl, arith}
+use Rattle.std.proofs.Common.{refl, arith, rules}
 use Rattle.std.proofs.lemmas.Result.{err_from_is_err_and}
 use Rattle.mc_bot.specs.Playing.{rules_of, packets_taken, lines_played}
 use Rattle.mc_bot.specs.Steps.{IsStep}
