@@ -14,7 +14,8 @@ state_text None = codes "none"
 abbrev pub bot_fault_text : BotFault → List ℕ
 bot_fault_text faults.Link = codes "the link to the server failed"
 bot_fault_text faults.Write = codes "the output failed"
-bot_fault_text (faults.Closed reason) = codes "the server closed the link: " ++ reason
+bot_fault_text (faults.Closed reason) =
+    codes "the server closed the link, and said \"" ++ reason ++ codes "\""
 bot_fault_text (faults.Frame fault) = frame_fault_text fault
 bot_fault_text (faults.Packet fault count) =
     codes "behind " ++ decimal count ++ codes " packets: " ++ packet_fault_text fault

@@ -6,3 +6,6 @@ pub mod Playing
 pub mod Played
 pub mod FaultText
 pub mod BotFaults
+pub mod Arriving
+pub mod Steps
+pub mod ScriptFits

@@ -61,6 +61,16 @@ EndsAs course sent seen patience run (Err faults.NoMemory) = IsBegun sent (all_s
 EndsAs course sent seen patience run (Err refusal) =
     (course ≡ ends (refused_for refusal) sent) × (run < patience)
 
+-- a play ended so, with these bytes sent
+abbrev pub FailsAs : {S : Type 0} → Course S → List ℕ → ℕ → ℕ → BotFault → Type 0
+FailsAs course sent patience run (faults.Patience n) =
+    (course ≡ ends waiting sent) × (n ≡ patience) × (run ≡ patience)
+FailsAs course sent patience run faults.Link = IsBegun sent (all_sent course)
+FailsAs course sent patience run faults.NoMemory = IsBegun sent (all_sent course)
+FailsAs course sent patience run faults.Write = ⊥
+FailsAs course sent patience run refusal =
+    (course ≡ ends (refused_for refusal) sent) × (run < patience)
+
 -- The sink got the dump, or some first part of it where it failed, and else nothing. Where memory
 -- ran out, it may have got such a part once the script had come to its end.
 abbrev pub DumpsAs : Type 0 → Type 0 → Option (List ℕ) → Option (List ℕ) → List ℕ →
@@ -86,3 +96,34 @@ pub record HasPlayedScript {S : Type 0} (start : PlayStart S) (left_ : PlayLeft 
       (played_out start.rules start.seen start.script start.port (ahead_of cut left_.stage.ended)
       ≡ ends (ended_with left_.seen) sent) start.held left_.held
       (start.rules.dumps left_.seen) result
+
+-- ---- up to the end of the script
+
+-- before the dump: a play that came to its end goes on with it
+abbrev pub RunsAs : {S : Type 0} → Course S → List ℕ → S → ℕ → ℕ → Result (Unit {0}) BotFault →
+    Type 0
+RunsAs course sent seen patience run (Ok done) =
+    (course ≡ ends (ended_with seen) sent) × (run < patience)
+RunsAs course sent seen patience run (Err fault) = FailsAs course sent patience run fault
+
+pub record HasRun {S : Type 0} (start : PlayStart S) (left_ : PlayLeft S)
+    (result : Result (Unit {0}) BotFault) : Type 0 where
+  pub given : List ℕ
+  pub sent : List ℕ
+  pub exchanged : Exchanges start.told left_.told (start.port ∷ []) given sent
+  pub ended : (cut : Cut) → IsCut given cut →
+      RunsAs (played_out start.rules start.seen start.script start.port
+      (ahead_of cut left_.stage.ended)) sent left_.seen start.patience left_.stage.quiet_run result
+
+abbrev pub SentAs : List ℕ → List ℕ → Result (Unit {0}) BotFault → Type 0
+SentAs bytes sent (Ok done) = sent ≡ bytes
+SentAs bytes sent (Err faults.Link) = IsBegun sent bytes
+SentAs bytes sent (Err faults.NoMemory) = IsBegun sent bytes
+SentAs bytes sent (Err other) = ⊥
+
+-- some bytes were sent, or some first part of them where the link failed or memory ran out
+pub record HasSent (bytes : List ℕ) (told told' : Option LinkTold)
+    (result : Result (Unit {0}) BotFault) : Type 0 where
+  pub sent : List ℕ
+  pub exchanged : Exchanges told told' [] [] sent
+  pub came : SentAs bytes sent result

@@ -197,13 +197,18 @@ abbrev pub with_asked : {S : Type 0} → ℤ → Asked S → Bot S → Bot S
 with_asked number asked bot = record bot {
   seen = asked.seen;
   number = number;
-  sent = asked.bytes;
+  sent = bot.sent ++ asked.bytes;
 }
 
 abbrev pub acted : {S : Type 0} → SeerRules S → Act → Bot S → Bot S
 acted rules act bot = with_asked (number_past act bot.number)
-    (ask_all rules.asks rules.sends (record { seen = bot.seen; bytes = bot.sent })
+    (ask_all rules.asks rules.sends (record { seen = bot.seen; bytes = [] })
     (packets_of (rules.slot_at bot.seen) (rules.window_at bot.seen) bot.number act)) bot
+
+-- whether a line ends the script
+abbrev pub is_leaving : Act → Bool
+is_leaving acts.Leave = true
+is_leaving other = false
 
 -- a line of this number is done
 abbrev pub line_played : {S : Type 0} → SeerRules S → ℕ → Act → Bot S → Course S
@@ -224,10 +229,16 @@ lines_played rules (line ∷ lines) bot =
 -- ---- the whole script
 
 -- the handshake, which wants a login, and Login Start
-unfoldable pub hello : List ℕ → ℕ → List ℕ
-hello name port =
+unfoldable pub handshake_frame : ℕ → List ℕ
+handshake_frame port =
     frame_spelling (hand.spelling_of (Handshake (pos 47) (codes "localhost") port (pos 2)))
-    ++ frame_spelling (login_up.spelling_of (Start name))
+
+unfoldable pub start_frame : List ℕ → List ℕ
+start_frame name = frame_spelling (login_up.spelling_of (Start name))
+
+-- what is sent first
+abbrev pub hello : List ℕ → ℕ → List ℕ
+hello name port = handshake_frame port ++ start_frame name
 
 -- where a bot begins that sent these
 abbrev pub bot_begun : {S : Type 0} → S → List ℕ → Ahead → Bot S

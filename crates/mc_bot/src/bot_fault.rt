@@ -1,7 +1,7 @@
 ghost use Rattle.std.specs.Prelude.{◌≡◌};
 ghost use Rattle.mc_bot.specs.declared.bot_fault.BotFault.TheVariants as faults;
 
-use mc_bytes::{FieldFault, NoMemory, Text};
+use mc_bytes::{FieldFault, NoMemory, ReadFault, Text};
 use mc_fields::PacketFault;
 use mc_frame::FrameFault;
 use mc_replica::DumpFault;
@@ -49,7 +49,7 @@ impl fmt::Display for BotFault {
             BotFault::Write => f.write_str("the output failed"),
             BotFault::Closed(reason) => {
                 let reason = reason.as_str();
-                write!(f, "the server closed the link: {reason}")
+                write!(f, "the server closed the link, and said \"{reason}\"")
             }
             BotFault::Frame(fault) => write!(f, "{fault}"),
             BotFault::Packet(fault, count) => write!(f, "behind {count} packets: {fault}"),
@@ -111,6 +111,19 @@ impl From<DumpFault> for BotFault {
         match fault {
             DumpFault::Write => BotFault::Write,
             DumpFault::NoMemory => BotFault::NoMemory,
+        }
+    }
+}
+
+impl From<ReadFault> for BotFault {
+    ghost use Rattle.mc_bot.specs.BotFaults.{fault_of_read};
+
+    ghost from_gives = { λ read fault. fault ≡ fault_of_read read };
+
+    fn from(fault: ReadFault) -> BotFault {
+        match fault {
+            ReadFault::Field(fault) => BotFault::Body(fault),
+            ReadFault::NoMemory => BotFault::NoMemory,
         }
     }
 }
