@@ -1,2 +1,9 @@
 mod Lists
 mod Faults
+mod Gatherings
+mod Fronts
+mod Bytes
+mod Underway
+mod Hex
+mod FrameSteps
+mod ViewSteps

@@ -3,3 +3,12 @@ pub mod Reading
 pub mod ReadingLaws
 pub mod Headings
 pub mod FaultText
+pub mod Frames
+pub mod Names
+pub mod FrameLines
+pub mod Talks
+pub mod Hearings
+pub mod ViewText
+pub mod Tables
+pub mod Gathering
+pub mod Viewed

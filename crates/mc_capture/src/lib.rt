@@ -5,14 +5,25 @@
 //! until the capture ends or its bytes are no record, which is told with its place.
 #![tactic(auto)]
 
+mod conversation;
+mod conversations;
 mod fault;
 mod fill;
+mod frame_lines;
 mod heading;
+mod hearing;
+mod names;
+mod packets;
+mod pieces;
 mod reader;
 mod record;
+mod states;
+mod unwritten;
+mod viewing;
 mod writer;
 
 pub use fault::{CaptureEnd, CaptureFault, CaptureKind};
 pub use reader::Reader;
 pub use record::{BYTES_MAX, HEAD, KINDS, Record};
+pub use viewing::view;
 pub use writer::Writer;

@@ -84,7 +84,7 @@ impl<'a, I: Source> Reader<'a, I> {
 }
 
 /// The place behind what was found at a place.
-fn place_behind(found: &Option<Record>, at: u64) -> u64
+pub(crate) fn place_behind(found: &Option<Record>, at: u64) -> u64
     ensures { result ≡ kept_place (at + found_len found.now) }
 {
     match found {
@@ -94,7 +94,7 @@ fn place_behind(found: &Option<Record>, at: u64) -> u64
 }
 
 /// Reads what a capture begins with.
-fn read_head<I: Source>(input: &mut I) -> Result<(), CaptureEnd>
+pub(crate) fn read_head<I: Source>(input: &mut I) -> Result<(), CaptureEnd>
     ensures ok { OnOk result (Consumes (I.left input.old) (I.left input.new) capture_head) }
     ensures err { IfErr result (λ end. EndsHead end (I.left input.old) (I.left input.new)
         (I.faults input.old) (I.faults input.new)) }
@@ -112,7 +112,7 @@ fn read_head<I: Source>(input: &mut I) -> Result<(), CaptureEnd>
 }
 
 /// Reads a record that begins at a place. None at the end of the source.
-fn read_record<I: Source>(
+pub(crate) fn read_record<I: Source>(
     alloc: Global,
     input: &mut I,
     at: u64,

@@ -2,6 +2,7 @@ pub mod Absent
 pub mod Beaten
 pub mod Dismissing
 pub mod Flushed
+pub mod Idle
 pub mod Lending
 pub mod Listed
 pub mod Looks

@@ -11,4 +11,5 @@ mod input;
 mod server;
 
 pub use input::Input;
+pub use mc_play::Census;
 pub use server::Server;

@@ -1,13 +1,16 @@
-ghost use Rattle.std.specs.Prelude.{◌≡◌, ◌↔◌, ◌<◌, ◌≤◌, [], Err, IfOk, OnErr, OnOk, length, map};
-ghost use Rattle.std.specs.Prelude.{take};
-ghost use Rattle.std.specs.FinMap.{keys};
+ghost use Rattle.std.specs.Prelude.{◌≡◌, ◌≢◌, ◌↔◌, ◌<◌, ◌≤◌, ℕ, [], Err, IfOk, OnErr, OnOk, Some};
+ghost use Rattle.std.specs.Prelude.{length, map, take};
+ghost use Rattle.std.specs.FinMap.{get, keys};
 ghost use Rattle.std.specs.Option.{option_copied};
+ghost use Rattle.mc_land.specs.Land.{terrain_at};
+ghost use Rattle.mc_land.specs.Places.{Key};
 ghost use Rattle.mc_model.specs.Game.{AreSettings};
 ghost use Rattle.mc_model.specs.declared.mobs.TheConstants.{MOBS_MAX};
 ghost use Rattle.mc_model.specs.Minds.{Plans};
 ghost use Rattle.mc_model.specs.World.{World, new_world};
 ghost use Rattle.mc_model.specs.Run.{cause_in, owed_in};
 ghost use Rattle.mc_model.specs.Step.{step};
+ghost use Rattle.mc_play.specs.Census.{census_of};
 ghost use Rattle.mc_events.specs.Asking.{is_done_in, ours_there, pending_in};
 ghost use Rattle.mc_events.specs.Inputs.{age_after, event_of};
 ghost use Rattle.mc_events.specs.ReadyColumns.{ShedsAt};
@@ -25,7 +28,7 @@ use crate::connections::Connections;
 use mc_bytes::NoMemory;
 use mc_entities::Mind;
 use mc_model::{Cause, Settings};
-use mc_play::Game;
+use mc_play::{Census, Game};
 use mc_showing::Roster;
 use std::alloc::Global;
 use std::marker::{Brand, Model};
@@ -215,5 +218,16 @@ impl Server {
         ensures world { (w : World) → Stands self.now w → result ≡ w.game.age }
     {
         self.game.age()
+    }
+
+    /// Counts the cells whose state is not the terrain's, and all items. It takes no memory.
+    pub fn census(&self) -> Census
+        ensures is { (w : World) → Stands self.now w → result ≡ census_of w.game }
+        // Each edit is such a cell.
+        ensures differ { (w : World) (key : Key) (state : ℕ) → Stands self.now w →
+            get w.game.edits key ≡ Some state →
+            state ≢ terrain_at w.game.settings.terrain key }
+    {
+        self.game.census()
     }
 }

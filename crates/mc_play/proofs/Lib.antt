@@ -1,5 +1,6 @@
 pub mod Changing
 pub mod Clicking
+pub mod Counting
 pub mod Dropping
 pub mod Falling
 pub mod Mobs
@@ -10,4 +11,5 @@ pub mod Opening
 pub mod Reaching
 pub mod States
 pub mod Steps
+pub mod Stocked
 pub mod Stowing

@@ -44,7 +44,7 @@ looked_up name es = scanned name es ∙ sym (get-from_entries nat_list_cmp_total
 -- ---- how many there are
 
 -- a string that is apart from others has a name that is none of theirs
-none_there : (k : String Global) (es : Entries) →
+pub none_there : (k : String Global) (es : Entries) →
     AllByRecursion (λ y. string_eq k y ≡ false) (keys_of es) →
     get (packs_of es) (string_bytes k) ≡ None
 none_there k es apart = sym (looked_up (string_bytes k) es) ∙ absent es apart

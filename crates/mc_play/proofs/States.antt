@@ -1,22 +1,27 @@
 -- Each edit is air or the state of a block with an id: setting a cell to such a state keeps that.
 -- What is dug of a cell lies where a column can be shown.
 use Rattle.std.proofs.Common.{◌≡◌, ℕ, ◌<◌, ◌≤◌, Bool, true, false, cond, refl, sym, subst, ◌∙◌}
-use Rattle.std.proofs.Common.{arith, ℤ, pos, negsuc, ◌≤ℤ◌}
+use Rattle.std.proofs.Common.{arith, List, ℤ, pos, negsuc, ◌≤ℤ◌}
 use Rattle.std.proofs.lemmas.Bool.Decides.{nat_tests}
 use Rattle.std.proofs.lemmas.Int.{ints}
 use Rattle.std.specs.Prelude.{◌⊎◌, ◌==◌, unsigned_abs, Some, None, if◌then◌else◌, Option, Result}
-use Rattle.std.specs.Prelude.{Ok, Err, OnOk, OnErr}
+use Rattle.std.specs.Prelude.{Ok, Err, OnOk, OnErr, is_some}
 use Rattle.std.specs.Ordering.{eq_by_cmp}
 use Rattle.std.specs.FinMap.{FinMap, get, insert, remove, get-empty, get-insert, get-remove}
 use Rattle.mc_fields.specs.declared.position.Cell.{Cell}
+use Rattle.mc_slots.specs.declared.pile.Pile.{Pile}
+use Rattle.mc_slots.specs.Chest.{IsChest}
 use Rattle.mc_land.specs.declared.terrain.Terrain.{Terrain}
-use Rattle.mc_land.specs.Places.{Key, key_cmp, key_of, is_height, is_inside, is_within_border}
+use Rattle.mc_land.specs.Places.{Key, Place, key_cmp, key_of, is_height, is_inside, is_within_border}
 use Rattle.mc_land.specs.Land.{LandValue, edited, new_land, state_at, terrain_at, with_block}
+use Rattle.mc_land.specs.Land.{with_ready}
 use Rattle.mc_land.proofs.Orders.{keys_total}
 use Rattle.mc_model.specs.Digging.{floor_of}
 use Rattle.mc_model.specs.Game.{Game, state_in}
+use Rattle.mc_model.specs.Things.{chest_of_cell, chest_put}
 use Rattle.mc_model.proofs.FitsText.{both_true}
-use Rattle.mc_play.specs.Kept.{AreStates, IsNear}
+use Rattle.mc_play.specs.Kept.{AreStates, AreStocked, IsNear}
+use Rattle.mc_play.proofs.Stocked.{inside_place, put_stocked, set_stocked}
 
 -- a cell is set to a state
 pub edited_states : (terrain : Terrain) (edits : FinMap key_cmp ℕ) (key : Key) (state : ℕ) →
@@ -67,31 +72,56 @@ inside_state g cell inside = grind (arith, nat_tests)
 
 -- ---- a land
 
--- its terrain is the one that is told, and each cell that was changed has a state
+-- its terrain is the one that is told, each cell that was changed has a state, and each chest stands
+-- in a column of the world
 abbrev pub IsOurs : Terrain → LandValue → Type 0
-IsOurs terrain land = (land.terrain ≡ terrain) × AreStates land.edits
+IsOurs terrain land =
+    (land.terrain ≡ terrain) × AreStates land.edits × AreStocked land.chests
 
 pub new_states : (terrain : Terrain) (land : LandValue) → land ≡ new_land terrain →
     IsOurs terrain land
 new_states terrain land is =
-    subst (IsOurs terrain) (sym is)
-    (refl, λ key state e. unedited state (sym (get-empty key_cmp key) ∙ e))
+    subst (IsOurs terrain) (sym is) (
+      refl,
+      λ key state e. unedited state (sym (get-empty key_cmp key) ∙ e),
+      λ key piles e. unfilled (sym (get-empty key_cmp key) ∙ e),
+    )
   where
+    unfilled : {A : Type 0} {piles : List Pile} →
+        ◌≡◌ {A = Option (List Pile)} None (Some piles) → A
+    unfilled e = absurd cc
+
     unedited : (state : ℕ) → ◌≡◌ {A = Option ℕ} None (Some state) →
         ((state ≡ 0) ⊎ (16 ≤ state)) × (state < 4096)
     unedited state e = absurd cc
 
 -- where a cell is set to a state, or nothing
 pub set_states : {A E : Type 0} (terrain : Terrain) (land : LandValue) → IsOurs terrain land →
-    (cell : Cell) (state : ℕ) → state < 4096 → (state ≡ 0) ⊎ (16 ≤ state) →
-    (next : LandValue) (r : Result A E) →
+    (cell : Cell) (state : ℕ) → is_inside cell.x cell.y cell.z ≡ true → state < 4096 →
+    (state ≡ 0) ⊎ (16 ≤ state) → (next : LandValue) (r : Result A E) →
     OnOk r (next ≡ with_block land (key_of cell.x (unsigned_abs cell.y) cell.z) state) →
     OnErr r (next ≡ land) → IsOurs terrain next
-set_states terrain land ours cell state small whole next (Ok old) ok err =
+set_states terrain land ours cell state inside small whole next (Ok old) ok err =
+    let key = key_of cell.x (unsigned_abs cell.y) cell.z in
     subst (IsOurs terrain) (sym ok) (
       ours.0,
-      edited_states land.terrain land.edits
-          (key_of cell.x (unsigned_abs cell.y) cell.z) state small whole ours.1,
+      edited_states land.terrain land.edits key state small whole ours.1,
+      set_stocked land.chests ours.2 key (inside_place cell.x cell.y cell.z inside)
+          (state_at land.terrain land.edits key) state,
     )
-set_states terrain land ours cell state small whole next (Err fault) ok err =
+set_states terrain land ours cell state inside small whole next (Err fault) ok err =
     subst (IsOurs terrain) (sym err) ours
+
+-- where a column is ready, or nothing
+pub ready_ours : {A E : Type 0} (terrain : Terrain) (land : LandValue) → IsOurs terrain land →
+    (place : Place) (next : LandValue) (r : Result A E) → OnOk r (next ≡ with_ready land place) →
+    OnErr r (next ≡ land) → IsOurs terrain next
+ready_ours terrain land ours place next (Ok done) ok err = subst (IsOurs terrain) (sym ok) ours
+ready_ours terrain land ours place next (Err fault) ok err = subst (IsOurs terrain) (sym err) ours
+
+-- where other piles lie in a chest
+pub put_ours : (terrain : Terrain) (land next : LandValue) → IsOurs terrain land → (x y z : ℤ) →
+    is_some (chest_of_cell land.chests x y z) ≡ true → (piles : List Pile) → IsChest piles →
+    next ≡ record land { chests = chest_put land.chests x y z piles } → IsOurs terrain next
+put_ours terrain land next ours x y z there piles chest is = subst (IsOurs terrain) (sym is)
+    (ours.0, ours.1, put_stocked land.chests ours.2 x y z there piles chest)

@@ -7,7 +7,9 @@ use Rattle.std.specs.FinSet as set
 use lib.IntN.{ℤ, pos, negsuc}
 use lib.Signed.{◌≤ℤ◌}
 use Rattle.mc_fields.specs.declared.position.Spot.{Spot}
-use Rattle.mc_land.specs.Places.{Key, key_cmp, place_cmp}
+use Rattle.mc_slots.specs.declared.pile.Pile.{Pile}
+use Rattle.mc_slots.specs.Chest.{IsChest}
+use Rattle.mc_land.specs.Places.{IsPlace, Key, key_cmp, place_cmp}
 use Rattle.mc_land.specs.Land.{LandValue}
 use Rattle.mc_entities.specs.declared.entity.Entity.{Entity}
 use Rattle.mc_entities.specs.Folk.{FolkState, FolkValue}
@@ -48,6 +50,11 @@ mobs_begun terrain n = record { entities = mobs_at terrain n; told = []; given =
 abbrev pub AreStates : FinMap key_cmp ℕ → Type 0
 AreStates edits = (key : Key) (state : ℕ) → get edits key ≡ Some state →
     ((state ≡ 0) ⊎ (16 ≤ state)) × (state < 4096)
+
+-- each chest stands in a column of the world, and has so many piles of items that the world holds
+abbrev pub AreStocked : FinMap key_cmp (List Pile) → Type 0
+AreStocked chests = (key : Key) (piles : List Pile) → get chests key ≡ Some piles →
+    IsPlace key.0 × IsChest piles
 
 -- a packet of chat can carry a text
 abbrev pub IsClearLine : List ℕ → Type 0

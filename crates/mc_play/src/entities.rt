@@ -1,7 +1,7 @@
 ghost use Rattle.std.specs.Prelude.{◌≡◌, ◌≤◌, ◌<◌, ◌+◌, ℕ, suc, None, IfOk, IfSome, OnErr, OnOk};
-ghost use Rattle.std.specs.Prelude.{map, nat_lt, true};
+ghost use Rattle.std.specs.Prelude.{◌*◌, ◌^◌, map, nat_lt, true};
 ghost use lib.IntN.{pos};
-ghost use Rattle.mc_slots.specs.Pile.{IsItem, IsPile};
+ghost use Rattle.mc_slots.specs.Pile.{IsItem, IsPile, count_of};
 ghost use Rattle.mc_slots.specs.declared.pile.Item as items;
 ghost use Rattle.mc_slots.specs.declared.pile.Pile as piles;
 ghost use Rattle.mc_entities.specs.declared.entity.Entity as entities;
@@ -16,12 +16,14 @@ ghost use Rattle.mc_model.specs.declared.mobs.TheConstants.{MOBS_MAX};
 ghost use Rattle.mc_model.specs.Mobs.{mob_spot};
 ghost use Rattle.mc_model.specs.Things.{hand_of, holding, kind_of_item, lying_as};
 ghost use Rattle.mc_model.specs.Spots.{spot_in};
+ghost use Rattle.mc_play.specs.Census.{entities_items};
 ghost use Rattle.mc_play.specs.Kept.{AreNear, IsNear, mobs_begun};
 
 mod fields;
 
+use crate::census::kind_items;
 use mc_bytes::NoMemory;
-use mc_entities::{EntityKind, Folk, Mind};
+use mc_entities::{Entity, EntityKind, Folk, Mind};
 use mc_fields::Spot;
 use mc_land::Terrain;
 use mc_model::{Eid, mob_spot, spawn_spot};
@@ -87,6 +89,14 @@ impl Entities {
         ensures near { AreNear result.now.state.entities }
     {
         &self.folk
+    }
+
+    /// How many items lie.
+    pub fn items(&self) -> u128
+        ensures is { result ≡ entities_items count_of self.now.state.entities }
+        ensures few { result ≤ 255 * 2 ^ 64 }
+    {
+        items_among(self.folk.all())
     }
 
     /// How many more dropped items may lie.
@@ -215,6 +225,18 @@ impl Entities {
     {
         self.folk.settle();
     }
+}
+
+/// How many items lie among entities.
+fn items_among(entities: &[Entity]) -> u128
+    ensures is { result ≡ entities_items count_of entities.now }
+    ensures few { result ≤ 255 * 2 ^ 64 }
+{
+    let mut total: u128 = 0;
+    for entity in entities {
+        total += u128::from(kind_items(&entity.kind));
+    }
+    total
 }
 
 /// What something is that holds a pile: a player holds it, others stay what they are.

@@ -1,9 +1,14 @@
-ghost use Rattle.std.specs.Prelude.{◌≡◌, ◌≤◌, IfOk};
+ghost use Rattle.std.specs.Prelude.{◌≡◌, ◌≢◌, ◌≤◌, ℕ, IfOk, Some};
 ghost use Rattle.std.specs.FinMap.{get, len};
 ghost use Rattle.std.specs.List.{AllByRecursion};
 ghost use Rattle.std.specs.Option.{option_copied};
+ghost use Rattle.mc_slots.specs.Pile.{Sort, held};
+ghost use Rattle.mc_land.specs.Land.{terrain_at};
+ghost use Rattle.mc_land.specs.Places.{Key};
+ghost use Rattle.mc_model.specs.Balance.{stock};
 ghost use Rattle.mc_model.specs.Game.{AreSettings, pack_named, pack_of, spot_of};
 ghost use Rattle.mc_model.specs.declared.mobs.TheConstants.{MOBS_MAX};
+ghost use Rattle.mc_play.specs.Census.{census_of, game_items};
 ghost use Rattle.mc_play.specs.Kept.{AreNear, IsClearLine, IsNear, IsNew, land_of};
 
 mod acts;
@@ -23,7 +28,7 @@ mod windows;
 use crate::entities::Entities;
 use crate::ground::Ground;
 use crate::limits::Limits;
-use crate::{Lines, Packs, Players};
+use crate::{Census, Lines, Packs, Players};
 pub use acts::ActFault;
 use mc_bytes::{NoMemory, Text};
 use mc_entities::Folk;
@@ -191,6 +196,22 @@ impl Game {
         match u32::try_from(self.players.len()) {
             Ok(online) => Ok(online),
             Err(_) => Err(NoMemory),
+        }
+    }
+
+    /// Counts the cells whose state is not the terrain's, and all items. It takes no memory.
+    pub fn census(&self) -> Census
+        ensures is { result ≡ census_of self.now.game }
+        // Each edit is such a cell.
+        ensures differ { (key : Key) (state : ℕ) → get self.now.game.edits key ≡ Some state →
+            state ≢ terrain_at self.now.game.settings.terrain key }
+        // Of each sort as many items are counted as the balance of items has of it.
+        ensures sorts { (sort : Sort) →
+            game_items (held sort) self.now.game ≡ stock sort self.now.game }
+    {
+        Census {
+            edits: self.ground.edited(),
+            stock: self.packs.items() + self.ground.stored() + self.entities.items(),
         }
     }
 

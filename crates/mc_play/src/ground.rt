@@ -1,10 +1,15 @@
-ghost use Rattle.std.specs.Prelude.{◌≡◌, ◌⊎◌, ◌<◌, ◌≤◌, true, is_some, OnErr, OnOk, unsigned_abs};
+ghost use Rattle.std.specs.Prelude.{◌≡◌, ◌≢◌, ◌⊎◌, ◌<◌, ◌≤◌, ◌^◌, ℕ, true, Some, is_some, OnErr};
+ghost use Rattle.std.specs.Prelude.{OnOk, unsigned_abs};
 ghost use Rattle.std.specs.Option.{option_copied};
-ghost use Rattle.mc_land.specs.Land.{block, new_land, settled_land, with_block, with_ready};
-ghost use Rattle.mc_land.specs.Places.{IsPlace, is_inside, key_of};
+ghost use Rattle.std.specs.FinMap.{get, len};
+ghost use Rattle.mc_slots.specs.Chest.{IsChest};
+ghost use Rattle.mc_slots.specs.Pile.{count_of};
+ghost use Rattle.mc_land.specs.Land.{block, new_land, settled_land, terrain_at, with_block};
+ghost use Rattle.mc_land.specs.Land.{with_ready};
+ghost use Rattle.mc_land.specs.Places.{IsPlace, Key, is_inside, key_of};
 ghost use Rattle.mc_land.specs.Shed.{IsSettled, shed_land};
 ghost use Rattle.mc_model.specs.Things.{chest_of_cell, chest_put};
-ghost use Rattle.mc_play.specs.Kept.{AreStates};
+ghost use Rattle.mc_play.specs.Census.{chests_items};
 
 mod fields;
 
@@ -16,7 +21,8 @@ use std::alloc::Global;
 use std::marker::{Brand, Model};
 use std::sync::ledger::{Blank, Ledger};
 
-/// A land of which each cell that was changed is air or a block with an id. It knows its terrain.
+/// A land of which each cell that was changed is air or a block with an id, and each chest stands
+/// in a column of the world. It knows its terrain.
 #[derive(Drop)]
 pub struct Ground {
     terrain: Terrain,
@@ -27,7 +33,7 @@ impl Model for Ground {
     ghost use Rattle.std.specs.Prelude.{◌≡◌};
     ghost use Rattle.mc_land.specs.Land.{LandValue};
     ghost use Rattle.mc_land.specs.LandCode.{coded_land};
-    ghost use Rattle.mc_play.specs.Kept.{AreStates};
+    ghost use Rattle.mc_play.specs.Kept.{AreStates, AreStocked};
 
     ghost Value = { LandValue };
 
@@ -36,7 +42,8 @@ impl Model for Ground {
     ghost view = { λ ground. ground.land };
 
     ghost invariant = { λ ground.
-        (ground.land.terrain ≡ ground.terrain) × AreStates ground.land.edits };
+        (ground.land.terrain ≡ ground.terrain) × AreStates ground.land.edits
+        × AreStocked ground.land.chests };
 }
 
 /// The state of a cell of a land. The look is not counted.
@@ -49,6 +56,21 @@ fn state_of<L: Ledger>(land: &Land, cell: &Cell, blank: Blank) -> u16
 {
     let mut steps = Steps::<L>::new(blank);
     land.block(*cell, &mut steps)
+}
+
+/// Lets other piles lie in the chest at a cell of a land, where there is one.
+fn restock(land: &mut Land, cell: &Cell, chest: &Chest)
+    requires { is_some (chest_of_cell land.old.chests cell.now.x cell.now.y cell.now.z) ≡ true }
+    ensures is { land.new ≡ record land.old {
+      chests = chest_put land.old.chests cell.now.x cell.now.y cell.now.z chest.now;
+    } }
+    // Its piles are ones that the world holds.
+    ensures chest { IsChest chest.now }
+{
+    let _piles = chest.as_slice();
+    if let Some(kept) = land.chest_mut(*cell) {
+        *kept = *chest;
+    }
 }
 
 impl Ground {
@@ -102,9 +124,7 @@ impl Ground {
           chests = chest_put self.old.chests cell.now.x cell.now.y cell.now.z chest.now;
         } }
     {
-        if let Some(kept) = self.land.chest_mut(*cell) {
-            *kept = *chest;
-        }
+        restock(&mut self.land, cell, chest);
     }
 
     /// Sets a cell of the world to air or to a state of a block. Without memory all is as before.
@@ -120,6 +140,26 @@ impl Ground {
             Ok(_) => Ok(()),
             Err(_) => Err(NoMemory),
         }
+    }
+
+    // ---- sums
+
+    /// How many cells have a state that is not the terrain's.
+    pub fn edited(&self) -> u128
+        ensures count { result ≡ len self.now.edits }
+        // Each edit is one.
+        ensures differ { (key : Key) (state : ℕ) → get self.now.edits key ≡ Some state →
+            state ≢ terrain_at self.now.terrain key }
+    {
+        self.land.edited()
+    }
+
+    /// How many items lie in all chests.
+    pub fn stored(&self) -> u128
+        ensures items { result ≡ chests_items count_of self.now.chests }
+        ensures few { result ≤ 2 ^ 80 }
+    {
+        self.land.stored()
     }
 
     // ---- a tick

@@ -5,6 +5,7 @@
 //! exactly what the definition makes of the game that it stands for.
 #![tactic(auto)]
 
+mod census;
 mod entities;
 mod game;
 mod ground;
@@ -16,6 +17,7 @@ mod players;
 mod reach;
 mod ripe;
 
+pub use census::Census;
 pub use game::{ActFault, Game};
 pub use lines::Lines;
 pub use packs::Packs;

@@ -1,11 +1,17 @@
-ghost use Rattle.std.specs.Prelude.{◌≡◌, OnErr, OnOk, unwrap_or};
+ghost use Rattle.std.specs.Prelude.{◌≡◌, ◌≤◌, ◌*◌, ◌^◌, OnErr, OnOk, unwrap_or};
+ghost use Rattle.std.specs.List.{IsDistinct, sum_by};
+ghost use Rattle.std.specs.Map.{keys_of};
 ghost use Rattle.std.specs.Option.{option_copied};
 ghost use Rattle.std.specs.FinMap.{empty, get, insert, len};
+ghost use Rattle.std.specs.String.{string_eq};
+ghost use Rattle.mc_slots.specs.Pile.{count_of};
 ghost use Rattle.mc_windows.specs.Pack.{PackValue, kit_pack};
 ghost use Rattle.mc_model.specs.Maps.{modify};
+ghost use Rattle.mc_play.specs.Census.{pack_items, packs_items};
 
 mod fields;
 
+use crate::census::pack_items;
 use indexmap::IndexMap;
 use mc_bytes::{NoMemory, Text};
 use mc_windows::{Pack, kit};
@@ -50,6 +56,14 @@ impl Packs {
         self.by_name.len()
     }
 
+    /// How many items all of them hold, with what hangs on cursors.
+    pub fn items(&self) -> u128
+        ensures is { result ≡ packs_items count_of self.now }
+        ensures few { result ≤ 9435 * 2 ^ 63 }
+    {
+        items_in(&self.by_name)
+    }
+
     /// What a name carries, None where it never was in play.
     pub fn get(&self, name: &Text) -> Option<&Pack>
         ensures { option_copied result ≡ get self.now name.now }
@@ -80,4 +94,18 @@ impl Packs {
             *kept = pack;
         }
     }
+}
+
+/// How many items the packs of a map hold.
+fn items_in(packs: &IndexMap<String, Pack>) -> u128
+    ensures is { result ≡ sum_by (λ e. pack_items count_of e.1) packs.now.entries }
+    ensures few { result ≤ 9435 * 2 ^ 63 }
+    // No name stands twice.
+    ensures unique { IsDistinct string_eq (keys_of packs.now.entries) }
+{
+    let mut total: u128 = 0;
+    for (_name, pack) in packs.iter() {
+        total += u128::from(pack_items(pack));
+    }
+    total
 }

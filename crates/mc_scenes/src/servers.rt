@@ -9,7 +9,7 @@ use crate::terrains::terrain_in;
 use mc_bytes::NoMemory;
 use mc_land::Terrain;
 use mc_rows::{Answer, Words, look_up};
-use mc_server::{Input, Server, Settings};
+use mc_server::{Census, Input, Server, Settings};
 use std::alloc::Global;
 
 /// The most bytes that are put one by one.
@@ -32,10 +32,11 @@ enum Call {
     Forget,
     All,
     Age,
+    Census,
 }
 
 /// The calls by their words.
-const CALLS: [(&str, Call); 14] = [
+const CALLS: [(&str, Call); 15] = [
     ("join", Call::Join),
     ("crowd", Call::Crowd),
     ("bytes", Call::Bytes),
@@ -50,6 +51,7 @@ const CALLS: [(&str, Call); 14] = [
     ("forget", Call::Forget),
     ("all", Call::All),
     ("age", Call::Age),
+    ("census", Call::Census),
 ];
 
 /// The call that a word names.
@@ -122,7 +124,7 @@ fn answer_call(
     words: &mut Words<'_>,
     answer: &mut Answer,
 ) {
-    // Dear to prove, for fourteen arms over a server that is lent.
+    // Dear to prove, for fifteen arms over a server that is lent.
     match call {
         Call::Join => answer.needs(server.event(Input::Join(words.number()))),
         Call::Crowd => answer.needs(crowd(words, server)),
@@ -138,6 +140,7 @@ fn answer_call(
         Call::Forget => server.forget(words.number()),
         Call::All => put_all(server, answer),
         Call::Age => put_answer(server.age(), answer),
+        Call::Census => put_census(&server.census(), answer),
     }
 }
 
@@ -145,6 +148,12 @@ fn answer_call(
 fn put_answer<T: std::fmt::Display + Drop>(value: T, answer: &mut Answer) {
     answer.comma();
     answer.word(value);
+}
+
+/// Puts how much there is.
+fn put_census(census: &Census, answer: &mut Answer) {
+    put_answer(census.edits, answer);
+    answer.word(census.stock);
 }
 
 /// The handshake of a client that wants to play, and what stands before a name of ten letters in

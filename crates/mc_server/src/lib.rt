@@ -9,7 +9,7 @@
 mod server;
 mod service;
 
-pub use mc_events::Input;
+pub use mc_events::{Census, Input};
 pub use mc_model::Settings;
 pub use server::{Server, Serving};
 pub use service::{Budget, DriveFault, Ended, Tally, drive};

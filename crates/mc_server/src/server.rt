@@ -1,13 +1,16 @@
-ghost use Rattle.std.specs.Prelude.{◌≡◌, ◌↔◌, ◌<◌, ◌≤◌, [], Err, IfOk, OnErr, OnOk, length, map};
-ghost use Rattle.std.specs.Prelude.{IfSome, Some, is_some, take};
+ghost use Rattle.std.specs.Prelude.{◌≡◌, ◌≢◌, ◌↔◌, ◌<◌, ◌≤◌, ℕ, [], Err, IfOk, OnErr, OnOk, length};
+ghost use Rattle.std.specs.Prelude.{IfSome, Some, is_some, map, take};
 ghost use Rattle.std.specs.FinMap.{get, keys};
 ghost use Rattle.std.specs.Option.{option_copied};
+ghost use Rattle.mc_land.specs.Land.{terrain_at};
+ghost use Rattle.mc_land.specs.Places.{Key};
 ghost use Rattle.mc_model.specs.Game.{AreSettings};
 ghost use Rattle.mc_model.specs.Good.{in_play};
 ghost use Rattle.mc_model.specs.declared.player.Player.{Player};
 ghost use Rattle.mc_model.specs.Run.{cause_in, owed_in};
 ghost use Rattle.mc_model.specs.Step.{forgot, step, took};
 ghost use Rattle.mc_model.specs.World.{World, new_world};
+ghost use Rattle.mc_play.specs.Census.{census_of};
 ghost use Rattle.mc_showing.specs.Scenes.{IsPartOf};
 ghost use Rattle.mc_events.specs.Asking.{is_done_in};
 ghost use Rattle.mc_events.specs.Inputs.{age_after, event_of};
@@ -18,7 +21,7 @@ ghost use Rattle.mc_server.specs.Minded.{StandsFor};
 
 use mc_bytes::NoMemory;
 use mc_entities::Mind;
-use mc_events::Input;
+use mc_events::{Census, Input};
 use mc_flush::ClientView;
 use mc_model::{Cause, MOBS_MAX, Settings};
 use std::alloc::Global;
@@ -157,5 +160,18 @@ impl<M: Mind> Server<M> {
             result ≡ w.game.age }
     {
         self.inner.age()
+    }
+
+    /// Counts the cells whose state is not the terrain's, and all items. It takes no memory.
+    pub fn census(&self) -> Census
+        ensures is { (w : World) → StandsFor (⟦<Server<M> as Serving>⟧.value self.now) w →
+            result ≡ census_of w.game }
+        // Each edit is such a cell.
+        ensures differ { (w : World) (key : Key) (state : ℕ) →
+            StandsFor (⟦<Server<M> as Serving>⟧.value self.now) w →
+            get w.game.edits key ≡ Some state →
+            state ≢ terrain_at w.game.settings.terrain key }
+    {
+        self.inner.census()
     }
 }

@@ -14,7 +14,7 @@ ghost use Rattle.mc_showing.specs.Looking.{rest_looks, view_looks};
 ghost use Rattle.mc_showing.specs.Preparing.{Prepares};
 ghost use Rattle.mc_showing.specs.Scenes.{IsScene};
 ghost use Rattle.mc_events.specs.Looks.{AreMarked, AreShownSame, all_prepared, over_clients};
-ghost use Rattle.mc_events.specs.Looks.{tick_looks};
+ghost use Rattle.mc_events.specs.Looks.{IsIdle, tick_looks};
 ghost use Rattle.mc_events.specs.ReadyColumns.{Sheds};
 ghost use Rattle.mc_events.specs.Served.{Each, age_of};
 ghost use Rattle.mc_events.specs.Stands.{HasFailed, Stands};
@@ -155,7 +155,8 @@ impl Server {
     /// move, players pick up what they can, and each client in play is shown the game. All cells
     /// that are looked at for that are counted, also where memory runs out: of each client no more
     /// than those of the columns that come into its view, those that changed of the columns that
-    /// stay, and those that were noted. After an error each later call answers with it.
+    /// stay, and those that were noted; so none where nothing changed. After an error each later
+    /// call answers with it.
     pub fn tick<M: Mind, L: Ledger>(
         &mut self,
         minds: &mut [M],
@@ -173,6 +174,10 @@ impl Server {
         ensures looks { (w : World) → Stands self.old w →
             w.plans ≡ map (λ mind. M.plan mind) minds.old → steps.new ≤ steps.old
             + tick_looks self.old.game.settled (at_tick w).game self.old.connections }
+        ensures idle { (w : World) → Stands self.old w →
+            w.plans ≡ map (λ mind. M.plan mind) minds.old →
+            IsIdle self.old.game.settled (at_tick w).game self.old.connections →
+            steps.new ≤ steps.old }
         ensures fails { OnErr result (HasFailed self.new) }
         ensures failed { HasFailed self.old → result ≡ Err (record {}) }
     {
