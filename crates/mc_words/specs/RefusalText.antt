@@ -9,7 +9,7 @@ refusal_text refusals.Frame = codes "frame"
 refusal_text refusals.Packet = codes "packet"
 refusal_text refusals.Body = codes "body"
 refusal_text (refusals.Expect line want None) =
-    codes "expect " ++ decimal line ++ codes " want " ++ decimal want ++ codes " have none"
+    codes "expect line " ++ decimal line ++ codes " want " ++ decimal want ++ codes " have none"
 refusal_text (refusals.Expect line want (Some have)) =
-    codes "expect " ++ decimal line ++ codes " want " ++ decimal want ++ codes " have "
+    codes "expect line " ++ decimal line ++ codes " want " ++ decimal want ++ codes " have "
     ++ decimal have

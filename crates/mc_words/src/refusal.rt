@@ -43,12 +43,12 @@ impl fmt::Display for Refusal {
                 line,
                 want,
                 have: None,
-            } => write!(f, "expect {line} want {want} have none"),
+            } => write!(f, "expect line {line} want {want} have none"),
             Refusal::Expect {
                 line,
                 want,
                 have: Some(have),
-            } => write!(f, "expect {line} want {want} have {have}"),
+            } => write!(f, "expect line {line} want {want} have {have}"),
         }
     }
 }
