@@ -29,7 +29,7 @@ use Rattle.mc_capture.specs.ViewText.{after_record, lines_behind, record_lines}
 use Rattle.mc_capture.specs.ViewText.{talk_behind, talk_of}
 use Rattle.mc_capture.specs.ViewText.{view_text}
 use Rattle.mc_capture.specs.Viewed.{Begins, EndsShown, Faults, IsRead, IsShown}
-use Rattle.mc_capture.specs.Viewed.{IsViewed, IsViewedInPart, end_of, faults_of}
+use Rattle.mc_capture.specs.Viewed.{IsNumbered, IsViewed, IsViewedInPart, end_of, faults_of}
 use Rattle.mc_capture.specs.Viewed.IsRead.{headed, headless}
 use Rattle.mc_capture.proofs.Gatherings.{gathers_two, part_here, part_two}
 
@@ -75,10 +75,10 @@ bytes_one_more (q ∷ records) r =
     ap (λ (t : List ℕ). record_bytes q ++ t) (bytes_one_more records r)
     ∙ sym (append_assoc (record_bytes q) (records_bytes records) (record_bytes r))
 
-all_one_more : (records : List Record) (r : Record) → AllByRecursion IsRecord records → IsRecord r
-    → AllByRecursion IsRecord (records ++ r ∷ [])
-all_one_more [] r all one = (one, tt)
-all_one_more (q ∷ records) r all one = (all.0, all_one_more records r all.1 one)
+all_one_more : (P : Record → Type 0) (records : List Record) (r : Record)
+    → AllByRecursion P records → P r → AllByRecursion P (records ++ r ∷ [])
+all_one_more P [] r all one = (one, tt)
+all_one_more P (q ∷ records) r all one = (all.0, all_one_more P records r all.1 one)
 
 -- ---- on the way
 
@@ -104,19 +104,24 @@ viewing_first old left held waits talks head none new =
     let P : List ℕ → Type 0 = λ t. Consumes old left t in
     record {
       records = [];
-      begins = record { are_records = tt; consumed = subst P (sym (append-nil capture_head)) head };
+      begins = record {
+        are_records = tt;
+        are_numbered = tt;
+        consumed = subst P (sym (append-nil capture_head)) head;
+      };
       place = omega arith;
       stands = λ k. ap (λ (m : FinMap nat_cmp Talk). talk_in m k) new ∙ nothing_stands k;
       gathers = record { out = []; wrote = Grows-refl held; parts = view_none ∙ sym none };
     }
 
 begins_next : (old left new : Option (List ℕ)) (records : List Record) (r : Record)
-    → Begins old left records → IsRecord r → Consumes left new (record_bytes r)
+    → Begins old left records → IsRecord r → IsNumbered r → Consumes left new (record_bytes r)
     → Begins old new (records ++ r ∷ [])
-begins_next old left new records r b one consumed =
+begins_next old left new records r b one numbered consumed =
     let P : List ℕ → Type 0 = λ t. Consumes old new t in
     record {
-      are_records = all_one_more records r b.are_records one;
+      are_records = all_one_more IsRecord records r b.are_records one;
+      are_numbered = all_one_more IsNumbered records r b.are_numbered numbered;
       consumed = subst P (append_assoc capture_head (records_bytes records) (record_bytes r)
           ∙ ap (λ (t : List ℕ). capture_head ++ t) (sym (bytes_one_more records r)))
           (Consumes-trans old left new (capture_head ++ records_bytes records) (record_bytes r)
@@ -144,18 +149,19 @@ pub viewing_next : (old left new held middle held' : Option (List ℕ)) (half wa
     (at next : ℕ) (talks later : FinMap nat_cmp Talk) (r : Record)
     → IsViewing old left held middle half at talks
     → IsRecord r
+    → IsNumbered r
     → Consumes left new (record_bytes r)
     → next ≡ kept_place (at + length (record_bytes r))
     → Gathers middle held' (half ++ record_lines (talk_in talks r.connection) r) waits
     → ((k : ℕ) → talk_in later k
     ≡ (if r.connection == k then after_record (talk_in talks k) r else talk_in talks k))
     → IsViewing old new held held' waits next later
-viewing_next old left new held middle held' half waits at next talks later r v one consumed place g
-    is =
+viewing_next old left new held middle held' half waits at next talks later r v one numbered
+    consumed place g is =
     let P : List ℕ → Type 0 = λ t. Gathers held held' t waits in
     record {
       records = v.records ++ r ∷ [];
-      begins = begins_next old left new v.records r v.begins one consumed;
+      begins = begins_next old left new v.records r v.begins one numbered consumed;
       place = place_next at next v.records r v.place place;
       stands = λ k. is k
           ∙ ap (λ (t : Talk). if r.connection == k then after_record t r else t) (v.stands k)
@@ -232,14 +238,15 @@ pub viewing_breaks : (old left new held middle held' : Option (List ℕ)) (half 
     (talks : FinMap nat_cmp Talk) (r : Record)
     → IsViewing old left held middle half at talks
     → IsRecord r
+    → IsNumbered r
     → Consumes left new (record_bytes r)
     → WritesPart middle held' (half ++ record_lines (talk_in talks r.connection) r)
     → IsViewedInPart old held held'
-viewing_breaks old left new held middle held' half at talks r v one consumed part =
+viewing_breaks old left new held middle held' half at talks r v one numbered consumed part =
     let P : List ℕ → Type 0 = λ t. WritesPart held held' t in
     record {
       records = v.records ++ r ∷ [];
-      begins = inr (new, begins_next old left new v.records r v.begins one consumed);
+      begins = inr (new, begins_next old left new v.records r v.begins one numbered consumed);
       wrote = subst P (lines_here v.records r talks v.stands)
           (part_two held middle held' [] (view_text v.records) half
           (record_lines (talk_in talks r.connection) r) v.gathers part);

@@ -12,3 +12,4 @@ pub mod ViewText
 pub mod Tables
 pub mod Gathering
 pub mod Viewed
+pub mod OneTextLaws

@@ -36,7 +36,7 @@ size_behind kind connection size rest =
     (spelling_len connection)
 
 -- two numbers that are spelled alike, and what follows them
-one_number : (n m : ℕ) (after later : List ℕ)
+pub one_number : (n m : ℕ) (after later : List ℕ)
     → n < 2 ^ 32
     → m < 2 ^ 32
     → number_spelling w32 n ++ after ≡ number_spelling w32 m ++ later
@@ -48,12 +48,12 @@ one_number n m after later fits fits' same =
     ∙ number_again w32 wide_32 m fits' later) in
     (ap (λ p. p.0) both, ap (λ p. p.1) both)
 
-most_in : (carries : Bool) → (if carries then BYTES_MAX else 0) < 2 ^ 32
+pub most_in : (carries : Bool) → (if carries then BYTES_MAX else 0) < 2 ^ 32
 most_in true = omega arith
 most_in false = omega arith
 
 -- the sizes of two headings of the same bytes, and what follows them
-one_size : (kind connection size kind' connection' size' : ℕ) (after later : List ℕ)
+pub one_size : (kind connection size kind' connection' size' : ℕ) (after later : List ℕ)
     → size ≤ most_bytes kind
     → size' < 2 ^ 32
     → heading kind connection size ++ after ≡ heading kind' connection' size' ++ later

@@ -1,6 +1,7 @@
 -- What a view of a capture comes to: what was read, how it ended, and what was written (rules of
 -- this project).
-use Rattle.std.specs.Prelude.{◌≡◌, ℕ, ◌+◌, ◌⊎◌, List, [], ◌++◌, length, Option, Some, None}
+use Rattle.std.specs.Prelude.{◌≡◌, ℕ, ◌+◌, ◌^◌, ◌<◌, ◌⊎◌, List, [], ◌++◌, length}
+use Rattle.std.specs.Prelude.{Option, Some, None}
 use Rattle.std.specs.List.{AllByRecursion}
 use Rattle.mc_wire.specs.Count.{Rose}
 use Rattle.mc_wire.specs.Stream.{Consumes, Grows, IsAtEnd}
@@ -13,9 +14,14 @@ use Rattle.mc_capture.specs.Reading.{FindsNoHead, FindsWrong}
 use Rattle.mc_capture.specs.Gathering.{Gathers, WritesPart}
 use Rattle.mc_capture.specs.ViewText.{view_text}
 
+-- the number of a connection has four bytes
+abbrev pub IsNumbered : Record → Type 0
+IsNumbered r = r.connection < 2 ^ 32
+
 -- the head of a capture and some whole records were what was left first, and then what is left now
 pub record Begins (old new : Option (List ℕ)) (records : List Record) : Type 0 where
   pub are_records : AllByRecursion IsRecord records
+  pub are_numbered : AllByRecursion IsNumbered records
   pub consumed : Consumes old new (capture_head ++ records_bytes records)
 
 -- the place behind them

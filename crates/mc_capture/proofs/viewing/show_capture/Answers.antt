@@ -55,7 +55,7 @@ returns-in_err-show_record-in-Some-clause-part g c =
     (g.I.Source.left c.read_record.new.input) in
     let finds = subst P c.in-Some.is c.in_ok-found.ensures.ok in
     rw p.1 (viewing_breaks _ _ _ _ _ _ _ _ _ c.in-Some.record c.loop.invariant.views finds.0
-    finds.1 c.in_err-show_record-in-Some.ensures.part)
+    (search rules) finds.1 c.in_err-show_record-in-Some.ensures.part)
 
 pub loop-preserved : goal.loop-preserved
 loop-preserved g c =
@@ -65,7 +65,7 @@ loop-preserved g c =
     let e = c.in_ok-show_record-in-Some.ensures in
     record {
       views = viewing_next _ _ _ _ _ _ _ _ _ _ _ _ c.in-Some.record c.loop.invariant.views
-          finds.0 finds.1 (c.place_behind-at.ensures
+          finds.0 (search rules) finds.1 (c.place_behind-at.ensures
           ∙ ap (λ (found : Option Record). kept_place (c.loop.at + found_len found)) c.in-Some.is)
           e.gathers e.next;
       in_counts = StandsOrRises-trans _ _ _ c.loop.invariant.in_counts
