@@ -1,15 +1,16 @@
-//! The program: it collects its arguments, takes sockets, standard input and standard output as
-//! devices, and ends with the status that `mc_top` answers. Two minds move its mobs. It stands on
-//! `mc_top`, on the traits of `mc_wire` and `mc_entities` and on the devices of `mc_devices`.
+//! The program: it collects its arguments, takes sockets, a stream, standard input and standard
+//! output as devices, and ends with the status that `mc_top` answers. Two minds move its mobs. It
+//! stands on `mc_top`, on the traits of `mc_wire` and `mc_entities` and on the devices of
+//! `mc_devices`.
 //!
-//! Its one contract is that of `program`, which is the whole program over any three devices. What
+//! Its one contract is that of `program`, which is the whole program over any four devices. What
 //! the mobs do is a list of moves (`specs/Pacing.antt`).
 #![tactic(auto)]
 
 mod pacer;
 mod program;
 
-use mc_devices::{ReaderSource, SocketLobby, WriterSink};
+use mc_devices::{ReaderSource, SocketLobby, TcpLink, WriterSink};
 use mc_entities::Mind;
 use pacer::Pacer;
 use program::{NO_MEMORY, program};
@@ -43,12 +44,14 @@ fn main(rt: HostRuntime) -> ExitCode {
     };
     let arguments = arguments(&rt);
     let mut lobby = SocketLobby::new(&rt);
+    let mut link = TcpLink::new(&rt);
     let mut input = ReaderSource::new(rt.reader());
     let mut output = WriterSink::new(io::writer(&rt));
     ExitCode::from(program(
         rt.alloc(),
         arguments,
         &mut lobby,
+        &mut link,
         &mut input,
         &mut output,
         minds,

@@ -1,3 +1,12 @@
 mod Scripts
 mod Askable
 mod Sends
+mod Growing
+mod Coming
+mod Taking
+mod Lines
+mod Hello
+mod Finishing
+mod Ranges
+mod Arrivals
+mod Starting

@@ -7,6 +7,7 @@ use Rattle.mc_wire.specs.Count.{Rose, NeverFalls, StandsOrRises}
 use Rattle.mc_wire.specs.LinkStage.{LinkStage}
 use Rattle.mc_wire.specs.LinkTold.{LinkTold, Exchanges}
 use Rattle.mc_wire.proofs.Counts.{StandsOrRises-refl, StandsOrRises-NeverFalls, StandsOrRises-Rose}
+use Rattle.mc_wire.proofs.Counts.{StandsOrRises-trans, NeverFalls-Rose}
 
 nothing_yet : (a : Option LinkTold) → Exchanges a a [] [] []
 nothing_yet None = tt
@@ -53,6 +54,12 @@ send_begun told stage faults answers piece =
 
 pub send_failed : (a b c : ℕ) → StandsOrRises a b → Rose b c → Rose a c
 send_failed a b c first rose = StandsOrRises-Rose a b c first rose
+
+pub counts_on : (a b c : ℕ) → StandsOrRises a b → StandsOrRises b c → StandsOrRises a c
+counts_on a b c first second = StandsOrRises-trans a b c first second
+
+pub never_then_rose : (a b c : ℕ) → NeverFalls a b → Rose b c → Rose a c
+never_then_rose a b c first rose = NeverFalls-Rose a b c first rose
 
 -- one more write
 pub sent_more : (told_first told told' : Option LinkTold) (stage_first stage stage' : LinkStage)

@@ -2,3 +2,10 @@ pub mod Words
 pub mod Script
 pub mod ScriptRead
 pub mod Asked
+pub mod Playing
+pub mod Played
+pub mod FaultText
+pub mod BotFaults
+pub mod Arriving
+pub mod Steps
+pub mod ScriptFits

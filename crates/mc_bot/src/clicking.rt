@@ -4,8 +4,10 @@ ghost use Rattle.mc_replica.specs.Asking.{CanAsk};
 ghost use Rattle.mc_up.specs.PlayUp.{SpellsPlayUp, spelling_of};
 ghost use Rattle.mc_slots.specs.Slot.{HasId};
 ghost use Rattle.mc_bot.specs.Asked.{click_after, click_on, click_packet, click_with, has_id};
+ghost use Rattle.mc_bot.specs.Playing.{number_past};
 ghost use Rattle.mc_slots.specs.declared.slot.Slot.TheVariants as slots;
 
+use crate::Act;
 use mc_bytes::NoMemory;
 use mc_replica::Seer;
 use mc_slots::Slot;
@@ -31,10 +33,20 @@ pub struct Click {
 }
 
 /// The number of the click after one.
-pub fn number_after(number: i16) -> i16
+fn number_after(number: i16) -> i16
     ensures { result ≡ click_after number }
 {
     if number < i16::MAX { number + 1 } else { 1 }
+}
+
+/// The number of the next click after a line, where that of the line is this.
+pub fn number_past(act: &Act, number: i16) -> i16
+    ensures { result ≡ number_past act.now number }
+{
+    match act {
+        Act::Click(..) => number_after(number),
+        _ => number,
+    }
 }
 
 /// Says whether an item has bytes of its own.

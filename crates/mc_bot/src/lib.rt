@@ -9,12 +9,18 @@
 mod act;
 mod asking;
 mod begun;
+mod bot;
+mod bot_fault;
 mod clicking;
+mod incoming;
 mod line;
 mod numbers;
+mod playing;
 mod script;
 mod sending;
 mod texts;
 
 pub use act::{Act, Line};
+pub use bot::{play, play_with};
+pub use bot_fault::BotFault;
 pub use script::{Script, ScriptFault, ScriptKind, ScriptRead};

@@ -1,5 +1,7 @@
 ghost use Rattle.std.specs.Prelude.{◌≡◌};
 ghost use Rattle.mc_bot.specs.Script.{named, script_of};
+ghost use Rattle.mc_fields.specs.Text.{FitsText};
+ghost use Rattle.mc_bot.specs.ScriptFits.{LinesFit, NameFits};
 ghost use Rattle.mc_bot.specs.ScriptRead.{IsScriptRead};
 
 use crate::act::Line;
@@ -41,7 +43,8 @@ pub enum ScriptRead {
     NoMemory,
 }
 
-/// A bot's script: the name that it joins by, and what it does. Contracts see it as these two.
+/// A bot's script: the name that it joins by, and what it does. Contracts see it as these two, of
+/// which each is in the range of its packets.
 #[derive(Drop)]
 pub struct Script {
     name: Text,
@@ -53,12 +56,17 @@ impl Model for Script {
 
     ghost Value = { ScriptValue };
 
+    ghost use Rattle.mc_fields.specs.Text.{FitsText};
+    ghost use Rattle.mc_bot.specs.ScriptFits.{LinesFit};
+
     ghost view = { λ script. record { name = script.name; lines = script.lines.items } };
+
+    ghost invariant = { λ script. FitsText 16 script.name × LinesFit script.lines.items };
 }
 
 impl Script {
     /// Reads a text as a script: what it says, or its first fault.
-    #[tactic(auto, unfolding(crate::specs::Script::script_of))]
+    #[tactic(auto, using(crate::proofs::Ranges::name_taken, crate::proofs::Ranges::lines_taken), unfolding(crate::specs::Script::script_of))]
     pub fn read(alloc: Global, text: &[u8]) -> Result<Script, ScriptRead>
         ensures { IsScriptRead (script_of text.now) result }
     {
@@ -74,14 +82,16 @@ impl Script {
 
     /// The name that it joins by, of 1 to 16 code points.
     pub fn name(&self) -> &Text
-        ensures { result.now ≡ self.now.name }
+        ensures is { result.now ≡ self.now.name }
+        ensures fits { FitsText 16 result.now }
     {
         &self.name
     }
 
     /// What it does, in order.
     pub fn lines(&self) -> &[Line]
-        ensures { result.now ≡ self.now.lines }
+        ensures is { result.now ≡ self.now.lines }
+        ensures fit { LinesFit result.now }
     {
         self.lines.as_slice()
     }
@@ -90,6 +100,8 @@ impl Script {
 /// Makes a script of what all its lines came to. One in which nobody joins has its fault in its
 /// first line.
 fn finish(begun: Begun) -> Result<Script, ScriptRead>
+    requires name { NameFits begun.name }
+    requires lines { LinesFit begun.lines }
     ensures { IsScriptRead (named begun.name begun.lines) result }
 {
     let Begun { name, lines } = begun;

@@ -4,6 +4,7 @@
 //! It has no contract of its own: the table that it is run on says what each row answers.
 #![tactic(auto)]
 
+mod plays;
 mod scripts;
 
 use mc_rows::{Answer, Words};
@@ -17,6 +18,8 @@ fn answered(alloc: Global, row: &str) -> Answer {
     let mut words = Words::new(alloc, row);
     match words.word() {
         "script" => scripts::script(&mut words, &mut answer),
+        "play" => plays::play_row(&mut words, &mut answer),
+        "cuts" => plays::cuts(&mut words, &mut answer),
         _ => words.fail(),
     }
     if words.are_bad() {

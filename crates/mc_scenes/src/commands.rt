@@ -1,15 +1,17 @@
 //! Commands: `run ARGUMENT .. < TEXT` runs the program with these arguments over a text and answers
 //! the status and what was written; in `failing READS WRITES ARGUMENT .. < TEXT` the calls of the
 //! input and of the output with these numbers fail. Their lobby has no events. `lobby EVENTS
-//! TROUBLES WRITES ARGUMENT ..` runs it over such a lobby and no text, and answers its log, too. A
-//! line of more than a thousand bytes is put frame by frame.
+//! TROUBLES WRITES ARGUMENT ..` runs it over such a lobby and no text, and answers its log, too;
+//! `bot BYTES TROUBLES WRITES ARGUMENT .. < TEXT` runs it over such a link and a text, and answers
+//! what the link took, too. A line of more than a thousand bytes is put frame by frame.
 
 use crate::frames::put_frames;
+use crate::links::{empty_link, link_in, put_taken};
 use crate::lobbies::{lobby_in, put_log};
 use crate::minds::Counted;
 use mc_rows::{Answer, Shown, Words, text_of};
 use mc_top::run;
-use mc_wire::{MemoryLobby, MemorySink, MemorySource};
+use mc_wire::{MemoryLink, MemoryLobby, MemorySink, MemorySource};
 use std::alloc::Global;
 
 /// The most bytes of a line that is put as it is.
@@ -92,7 +94,9 @@ fn run_over(
     let lobby = MemoryLobby::new(words.alloc, Vec::new(words.alloc), Vec::new(words.alloc));
     match job.zip(lobby) {
         Some((job, mut lobby)) => {
-            run_job(job, &mut lobby, minds, reads, writes, answer);
+            let mut link = empty_link(words.alloc);
+            run_job(job, &mut lobby, &mut link, minds, reads, writes, answer);
+            drop(link);
             drop(lobby);
         }
         None => {
@@ -113,18 +117,40 @@ pub fn run_lobby(words: &mut Words<'_>, answer: &mut Answer) {
             let reads = Vec::new(words.alloc);
             let minds = Vec::new(words.alloc);
             let job = Job { arguments, text };
-            run_job(job, &mut lobby, minds, reads, writes, answer);
+            let mut link = empty_link(words.alloc);
+            run_job(job, &mut lobby, &mut link, minds, reads, writes, answer);
             put_log(lobby.log(), answer);
+            drop(link);
             drop(lobby);
         }
         None => words.fail(),
     }
 }
 
-/// Runs the program with some arguments over a lobby and a text.
+/// Runs the program with the arguments of a row over its link and its text.
+pub fn run_bot(words: &mut Words<'_>, answer: &mut Answer) {
+    let mut link = link_in(words, answer);
+    let writes = numbers(words, answer);
+    let job = job_of(words.alloc, words.rest());
+    let lobby = MemoryLobby::new(words.alloc, Vec::new(words.alloc), Vec::new(words.alloc));
+    match job.zip(lobby) {
+        Some((job, mut lobby)) => {
+            let reads = Vec::new(words.alloc);
+            let minds = Vec::new(words.alloc);
+            run_job(job, &mut lobby, &mut link, minds, reads, writes, answer);
+            put_taken(link.took(), answer);
+            drop(lobby);
+        }
+        None => words.fail(),
+    }
+    drop(link);
+}
+
+/// Runs the program with some arguments over a lobby, a link and a text.
 fn run_job(
     job: Job,
     lobby: &mut MemoryLobby,
+    link: &mut MemoryLink,
     minds: Vec<Counted>,
     reads: Vec<u64>,
     writes: Vec<u64>,
@@ -134,7 +160,15 @@ fn run_job(
     let alloc = answer.alloc();
     let mut source = MemorySource::new(text, reads);
     let mut sink = MemorySink::new(alloc, writes);
-    answer.word(run(alloc, &arguments, lobby, &mut source, &mut sink, minds));
+    answer.word(run(
+        alloc,
+        &arguments,
+        lobby,
+        link,
+        &mut source,
+        &mut sink,
+        minds,
+    ));
     put_output(sink.held(), answer);
     drop(sink);
     drop(source);

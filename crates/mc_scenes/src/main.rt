@@ -11,6 +11,7 @@ mod drives;
 mod flushes;
 mod frames;
 mod guests;
+mod links;
 mod lists;
 mod loads;
 mod lobbies;
@@ -37,6 +38,7 @@ enum Call {
     Failing,
     Minds,
     Lobby,
+    Bot,
     Mixes,
     Script,
     Session,
@@ -57,11 +59,12 @@ enum Call {
 }
 
 /// The calls by their words.
-const CALLS: [(&str, Call); 21] = [
+const CALLS: [(&str, Call); 22] = [
     ("run", Call::Run),
     ("failing", Call::Failing),
     ("minds", Call::Minds),
     ("lobby", Call::Lobby),
+    ("bot", Call::Bot),
     ("mixes", Call::Mixes),
     ("script", Call::Script),
     ("session", Call::Session),
@@ -88,12 +91,13 @@ fn call_of(name: &str) -> Option<Call> {
 
 /// Answers a call.
 fn answer_call(call: Call, words: &mut Words<'_>, answer: &mut Answer) {
-    // Dear to prove, for an arm for each of 21 calls.
+    // Dear to prove, for an arm for each of 22 calls.
     match call {
         Call::Run => commands::run_steady(words, answer),
         Call::Failing => commands::run_failing(words, answer),
         Call::Minds => minds::minds(words, answer),
         Call::Lobby => commands::run_lobby(words, answer),
+        Call::Bot => commands::run_bot(words, answer),
         Call::Mixes => mixes::mixes(words, answer),
         Call::Script => scripts::script(words, answer),
         Call::Session => sessions::session(words, answer),

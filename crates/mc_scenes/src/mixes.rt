@@ -7,7 +7,7 @@
 use mc_entities::Planned;
 use mc_rows::{Answer, Words};
 use mc_top::run;
-use mc_wire::{MemorySink, MemorySource, SteadyLobby};
+use mc_wire::{MemorySink, MemorySource, SteadyLink, SteadyLobby};
 use std::alloc::Global;
 use std::fmt;
 use std::fmt::{Display, Write};
@@ -66,14 +66,23 @@ fn put_byte(k: u32, byte: &u8, script: &mut String) -> Option<()> {
 
 /// What `replay` writes of a script.
 fn replayed(alloc: Global, script: String) -> Option<Vec<u8>> {
-    // Dear to prove, for exits with a lobby, a source and a sink that are owned.
+    // Dear to prove, for exits with a lobby, a link, a source and a sink that are owned.
     let mut line = Vec::new(alloc);
     line.push(String::from_str(alloc, "replay").ok()?).ok()?;
     let minds: Vec<Planned> = Vec::new(alloc);
     let mut lobby = SteadyLobby::new(alloc, Vec::new(alloc))?;
+    let mut link = SteadyLink::new(alloc, Vec::new(alloc));
     let mut source = MemorySource::new(script.into_bytes(), Vec::new(alloc));
     let mut sink = MemorySink::new(alloc, Vec::new(alloc));
-    let _status = run(alloc, &line, &mut lobby, &mut source, &mut sink, minds);
+    let _status = run(
+        alloc,
+        &line,
+        &mut lobby,
+        &mut link,
+        &mut source,
+        &mut sink,
+        minds,
+    );
     Vec::from_slice(alloc, sink.held()?).ok()
 }
 

@@ -1,5 +1,7 @@
 pub mod Taken
+pub mod TextFronts
 pub mod LongTexts
+pub mod BotTexts
 pub mod LongLines
 pub mod Taking
 pub mod Playing
@@ -9,5 +11,7 @@ pub mod Settings
 pub mod Replays
 pub mod Serves
 pub mod ServeKept
+pub mod BotPlays
+pub mod BotKept
 pub mod Runs
 pub mod Sent

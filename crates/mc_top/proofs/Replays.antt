@@ -140,3 +140,5 @@ plays_on start (ended.BadInput bad) result left held held' faults faults' p (inl
 plays_on start (ended.BadInput bad) result left held held' faults faults' p (inr f) = rw f.0 tt
 plays_on start (ended.Budget n) result left held held' faults faults' p (inl f) = rw f.0 tt
 plays_on start (ended.Budget n) result left held held' faults faults' p (inr f) = rw f.0 tt
+plays_on start (ended.Refused why) result left held held' faults faults' p (inl f) = rw f.0 tt
+plays_on start (ended.Refused why) result left held held' faults faults' p (inr f) = rw f.0 tt

@@ -9,7 +9,7 @@ use Rattle.mc_model.specs.Minds.{Plans}
 use Rattle.mc_words.specs.declared.arguments.ServeOptions.{ServeOptions}
 use Rattle.mc_words.specs.declared.ended.Ended.{Ended}
 use Rattle.mc_words.specs.declared.ended.Ended.TheVariants as ended
-use Rattle.mc_words.specs.Devices.{Devices, WroteLast, devices}
+use Rattle.mc_words.specs.Devices.{Devices, LinkDevice, WroteLast, devices}
 use Rattle.mc_words.specs.Ended.{budget_line, net_fault_line}
 use Rattle.mc_words.specs.Finishing.{Finishes}
 use Rattle.mc_top.specs.ServePromise.{EndsServing, HasLost, HasServedPart, HasSpent, ServePromise}
@@ -20,11 +20,11 @@ still_holds : (P : Option (List ℕ) → Type 0) (held held' : Option (List ℕ)
     P held → P held'
 still_holds P held held' same holds = subst P (sym same) holds
 
-still_rose : (faults mid faults' : ℕ) → faults' ≡ mid → Rose faults mid → Rose faults faults'
+pub still_rose : (faults mid faults' : ℕ) → faults' ≡ mid → Rose faults mid → Rose faults faults'
 still_rose faults mid faults' same rose = grind (arith, nat_tests)
 
 -- nothing was written before the last line
-only_last : (A : Type 0) (view : A → Option (List ℕ)) (count : A → ℕ) (old mid new : A)
+pub only_last : (A : Type 0) (view : A → Option (List ℕ)) (count : A → ℕ) (old mid new : A)
     (line : List ℕ) → mid ≡ old → WroteLast (view mid) (view new) (count mid) (count new) line →
     WroteLast (view old) (view new) (count old) (count new) line
 only_last A view count old mid new line same wrote = grind (arith, nat_tests)
@@ -45,18 +45,18 @@ pub record ServeEnded (A : Type 0) (view : A → Option (List ℕ)) (count : A �
 -- the promise holds once the last line is written
 pub serve_kept : (A : Type 0) (view : A → Option (List ℕ)) (count : A → ℕ)
     (plans : Plans) (options : ServeOptions) (how result : Ended)
-    (told told' : Option LobbyTold) (counts counts' : LobbyCounts) (left : Option (List ℕ))
-    (reads : ℕ) (old mid new : A) →
+    (told told' : Option LobbyTold) (counts counts' : LobbyCounts) (link : LinkDevice)
+    (left : Option (List ℕ)) (reads : ℕ) (old mid new : A) →
     ServeEnded A view count plans options how told told' counts counts' old mid →
     Finishes how result (view mid) (view new) (count mid) (count new) →
-    ServePromise plans options result (devices told counts left reads (view old) (count old))
-    (devices told' counts' left reads (view new) (count new))
-serve_kept A view count plans options how result told told' counts counts' left reads old mid new s
-    f = kept how s f
+    ServePromise plans options result (devices told counts link left reads (view old) (count old))
+    (devices told' counts' link left reads (view new) (count new))
+serve_kept A view count plans options how result told told' counts counts' link left reads old mid
+    new s f = kept how s f
   where
     P : Ended → Type 0
-    P e = ServePromise plans options e (devices told counts left reads (view old) (count old))
-        (devices told' counts' left reads (view new) (count new))
+    P e = ServePromise plans options e (devices told counts link left reads (view old) (count old))
+        (devices told' counts' link left reads (view new) (count new))
 
     kept : (e : Ended) →
         ServeEnded A view count plans options e told told' counts counts' old mid →
@@ -81,6 +81,7 @@ serve_kept A view count plans options how result told told' counts counts' left 
           only_last A view count old mid new net_fault_line fault.2 last.1,
         )
     kept (ended.BadInput bad) said last = absurd said.ends
+    kept (ended.Refused why) said last = absurd said.ends
     kept (ended.Budget n) said (inl last) = let spent = said.budget n refl in
         subst P (sym last.0)
         (spent.0, only_last A view count old mid new (budget_line n) spent.1 last.1)
@@ -102,3 +103,4 @@ serve_served plans options ended.WriteFault before after p writes faults = absur
 serve_served plans options ended.NetFault before after p writes faults = absurd (faults p.0)
 serve_served plans options (ended.BadInput bad) before after p writes faults = absurd p
 serve_served plans options (ended.Budget n) before after p writes faults = inl (inr (n, refl))
+serve_served plans options (ended.Refused why) before after p writes faults = absurd p

@@ -13,7 +13,7 @@ use Rattle.mc_words.specs.Digits.{digits_number, within}
 use Rattle.mc_words.specs.Arguments.{IsSet, value_in, number_in, number_or, players_in}
 use Rattle.mc_words.specs.Arguments.{view_in, land_in, mobs_in, world_with, world_in, port_in}
 use Rattle.mc_words.specs.Arguments.{tick_limit_in, event_limit_in, status_with}
-use Rattle.mc_words.specs.Arguments.{serve_with, serve_of}
+use Rattle.mc_words.specs.Arguments.{serve_with, serve_of, bot_with, bot_of, patience_in}
 use Rattle.mc_words.specs.Arguments.{command_of}
 
 abbrev IsWithin : ℕ → ℕ → ℕ → Type 0
@@ -94,6 +94,12 @@ serve_set_of : (arguments : List (List ℕ)) → IfSome (serve_of arguments) IsS
 serve_set_of arguments =
     grind (arith, nat_tests, choice, serve_is_set, world_is, port_is, ticks_are, events_are)
 
+bot_is_set : (port patience : Option ℕ) → IfSome (bot_with port patience) IsSet
+bot_is_set port patience = grind (arith, nat_tests)
+
+bot_set_of : (arguments : List (List ℕ)) → IfSome (bot_of arguments) IsSet
+bot_set_of arguments = grind (arith, nat_tests, choice, bot_is_set)
+
 command_is_set : (arguments : List (List ℕ)) → IfSome (command_of arguments) IsSet
 unfolding command_of
 command_is_set arguments =
@@ -106,6 +112,7 @@ command_is_set arguments =
       replay_is_set,
       world_is,
       serve_set_of,
+      bot_set_of,
     )
 
 -- the options of the command that some arguments name

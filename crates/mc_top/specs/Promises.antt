@@ -1,57 +1,65 @@
 -- What a run of the program promises, by the command that its arguments name and by how it ends.
--- Rules of this project. A new command is a case of `told_of` and of `Does`. Both take the plans of
--- the minds that were handed in.
+-- Rules of this project. A new command is a case of `Leaves`, of `Does` and of `fault_of`. `Does`
+-- and `fault_of` take the plans of the minds that were handed in.
 use Rattle.std.specs.Prelude.{◌≡◌, ℕ, ◌⊎◌, List, Option, None, Some}
 use Rattle.std.specs.declared.string.String.{String}
 use Rattle.mc_model.specs.Minds.{Plans}
 use Rattle.mc_words.specs.declared.bad_input.BadInput.{BadInput}
 use Rattle.mc_words.specs.declared.ended.Ended.{Ended}
 use Rattle.mc_words.specs.declared.ended.Ended.TheVariants as ended
+use Rattle.mc_words.specs.declared.refusal.Refusal.{Refusal}
 use Rattle.mc_words.specs.declared.arguments.Command.{Command}
-use Rattle.mc_words.specs.declared.arguments.Command.TheVariants.{Status, Replay, Serve}
+use Rattle.mc_words.specs.declared.arguments.Command.TheVariants.{Status, Replay, Serve, Bot}
 use Rattle.mc_words.specs.Arguments.{command_of, bytes_of}
 use Rattle.mc_words.specs.Delivers.{Delivers}
-use Rattle.mc_words.specs.Devices.{Devices, InputStays, LobbyStays, streams_of}
+use Rattle.mc_words.specs.Devices.{Devices, InputStays, LinkStays, LobbyStays, streams_of}
 use Rattle.mc_words.specs.Ended.{status_of}
 use Rattle.mc_status.specs.StatusText.{status_told}
 use Rattle.mc_words.specs.Told.{Told}
+use Rattle.mc_top.specs.BotPromise.{BotPromise, bot_fault}
 use Rattle.mc_top.specs.ReplayPromise.{Plays, replay_told, start_of}
 use Rattle.mc_top.specs.ServePromise.{ServePromise}
 
--- what a command tells of its input; None where it reads none
-abbrev pub told_of : Plans → Command → Option (List ℕ → Told)
-told_of plans (Status most) = Some (status_told most)
-told_of plans (Replay options) = Some (replay_told (start_of plans options))
-told_of plans (Serve options) = None
+-- the devices that are not a command's own are not touched
+abbrev pub Leaves : Command → Devices → Devices → Type 0
+Leaves (Status most) before after = LobbyStays before after × LinkStays before after
+Leaves (Replay options) before after = LobbyStays before after × LinkStays before after
+Leaves (Serve options) before after = InputStays before after × LinkStays before after
+Leaves (Bot options) before after = LobbyStays before after
 
--- a command that reads a text delivers what it tells of that and touches no lobby; another reads no
--- input
-abbrev pub Reads : Option (List ℕ → Told) → Ended → Devices → Devices → Type 0
-Reads (Some told) how before after =
-    LobbyStays before after × Delivers told how (streams_of before) (streams_of after)
-Reads None how before after = InputStays before after
+-- a command that reads a text and writes another delivers what it tells of that
+abbrev pub Tells : (List ℕ → Told) → Ended → Devices → Devices → Type 0
+Tells told how before after = Delivers told how (streams_of before) (streams_of after)
 
--- what it promises beside that
+-- what it does with its own
 abbrev pub Does : Plans → Command → Ended → Devices → Devices → Type 0
-Does plans (Status most) how before after = Unit {0}
-Does plans (Replay options) how before after = Plays (start_of plans options) how before.left
+Does plans (Status most) how before after = Tells (status_told most) how before after
+Does plans (Replay options) how before after =
+    Tells (replay_told (start_of plans options)) how before after
+    × Plays (start_of plans options) how before.left
 Does plans (Serve options) how before after = ServePromise plans options how before after
+Does plans (Bot options) how before after = BotPromise options how before after
 
 -- what holds where a command ended so, from the devices before it to those after it
 abbrev pub Promises : Plans → Command → Ended → Devices → Devices → Type 0
 Promises plans command how before after =
-    Reads (told_of plans command) how before after × Does plans command how before after
+    Leaves command before after × Does plans command how before after
+
+-- the first fault of its input, or none; None where it reads no input
+abbrev pub fault_of : Plans → Command → Option (List ℕ → Option BadInput)
+fault_of plans (Status most) = Some (λ input. (status_told most input).fault)
+fault_of plans (Replay options) = Some (λ input. (replay_told (start_of plans options) input).fault)
+fault_of plans (Serve options) = None
+fault_of plans (Bot options) = Some bot_fault
 
 -- a command reads no input, or what is left of it is told and nothing is wrong with that
-abbrev pub IsFineInput : Option (List ℕ → Told) → Option (List ℕ) → Type 0
-IsFineInput (Some told) left =
-    (input : List ℕ) × (left ≡ Some input) × ((told input).fault ≡ None)
+abbrev pub IsFineInput : Option (List ℕ → Option BadInput) → Option (List ℕ) → Type 0
+IsFineInput (Some fault) left = (input : List ℕ) × (left ≡ Some input) × (fault input ≡ None)
 IsFineInput None left = Unit {0}
 
 -- a command reads an input, which is told, and this is its first fault
-abbrev pub HasFault : Option (List ℕ → Told) → BadInput → Option (List ℕ) → Type 0
-HasFault (Some told) bad left =
-    (input : List ℕ) × (left ≡ Some input) × ((told input).fault ≡ Some bad)
+abbrev pub HasFault : Option (List ℕ → Option BadInput) → BadInput → Option (List ℕ) → Type 0
+HasFault (Some fault) bad left = (input : List ℕ) × (left ≡ Some input) × (fault input ≡ Some bad)
 HasFault None bad left = ⊥
 
 -- how a command ends where nothing is wrong with its input, no device fails and memory suffices
@@ -59,6 +67,8 @@ abbrev pub EndsFine : Command → Ended → Type 0
 EndsFine (Status most) how = how ≡ ended.Done
 EndsFine (Replay options) how = how ≡ ended.Done
 EndsFine (Serve options) how = (how ≡ ended.Done) ⊎ ((n : ℕ) × (how ≡ ended.Budget n))
+EndsFine (Bot options) how = (how ≡ ended.Done)
+    ⊎ ((how ≡ ended.Budget options.patience) ⊎ ((why : Refusal) × (how ≡ ended.Refused why)))
 
 -- the arguments name no command with its options
 abbrev pub NamesNone : {Z : Type 0} → List (String Z) → Type 0

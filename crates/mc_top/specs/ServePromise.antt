@@ -40,6 +40,7 @@ abbrev pub EndsServing : Ended → Type 0
 EndsServing ended.Usage = ⊥
 EndsServing ended.ReadFault = ⊥
 EndsServing (ended.BadInput bad) = ⊥
+EndsServing (ended.Refused why) = ⊥
 EndsServing other = Unit {0}
 
 -- ---- where it ended well
@@ -124,3 +125,4 @@ ServePromise plans options (ended.BadInput bad) before after = ⊥
 ServePromise plans options (ended.Budget n) before after =
     HasSpent plans options n before.told after.told
     × WroteLast before.held after.held before.write_faults after.write_faults (budget_line n)
+ServePromise plans options (ended.Refused why) before after = ⊥

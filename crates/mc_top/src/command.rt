@@ -2,16 +2,17 @@ ghost use Rattle.std.specs.Prelude.{◌≡◌, ◌↔◌, IfSome, map};
 ghost use Rattle.mc_model.specs.Game.{AreSettings};
 ghost use Rattle.mc_words.specs.Arguments.{IsSet, bytes_of, command_of};
 ghost use Rattle.mc_words.specs.Delivers.{Delivered};
-ghost use Rattle.mc_words.specs.Devices.{WroteLast, devices, streams};
+ghost use Rattle.mc_words.specs.Devices.{WroteLast, devices, link_device, streams};
 ghost use Rattle.mc_words.specs.Ended.{usage_line};
 ghost use Rattle.mc_status.specs.StatusText.{status_told};
 ghost use Rattle.mc_top.specs.Promises.{IsStatus, KeepsPromise, NamesNone, Promises};
 
+use crate::bot::bot;
 use crate::replay::replay;
 use crate::serve::serve;
 use mc_entities::Mind;
 use mc_status::write_status;
-use mc_wire::{InputError, Lobby, Sink, Source};
+use mc_wire::{InputError, Link, Lobby, Sink, Source};
 use mc_words::{Command, Ended, finish, read_text};
 use std::alloc::Global;
 
@@ -32,20 +33,23 @@ fn status<I: Source, O: Sink>(alloc: Global, most: u32, input: &mut I, out: &mut
 }
 
 /// Does what a command asks, and writes its last line.
-fn perform<L: Lobby, I: Source, O: Sink, M: Mind>(
+fn perform<L: Lobby, K: Link, I: Source, O: Sink, M: Mind>(
     alloc: Global,
     command: Command,
     lobby: &mut L,
+    link: &mut K,
     input: &mut I,
     out: &mut O,
     minds: Vec<M>,
 ) -> Ended
     requires { IsSet command }
     ensures { Promises (map (λ mind. M.plan mind) minds.items) command result
-        (devices (L.told lobby.old) (L.counts lobby.old) (I.left input.old) (I.faults input.old)
-        (O.held out.old) (O.faults out.old))
-        (devices (L.told lobby.new) (L.counts lobby.new) (I.left input.new) (I.faults input.new)
-        (O.held out.new) (O.faults out.new)) }
+        (devices (L.told lobby.old) (L.counts lobby.old)
+        (link_device (K.told link.old) (K.stage link.old) (K.counts link.old))
+        (I.left input.old) (I.faults input.old) (O.held out.old) (O.faults out.old))
+        (devices (L.told lobby.new) (L.counts lobby.new)
+        (link_device (K.told link.new) (K.stage link.new) (K.counts link.new))
+        (I.left input.new) (I.faults input.new) (O.held out.new) (O.faults out.new)) }
 {
     let ended = match command {
         Command::Status(most) => {
@@ -54,6 +58,10 @@ fn perform<L: Lobby, I: Source, O: Sink, M: Mind>(
         }
         Command::Replay(options) => replay(alloc, options, input, out, minds),
         Command::Serve(options) => serve(alloc, options, lobby, out, minds),
+        Command::Bot(options) => {
+            drop(minds);
+            bot(alloc, options, link, input, out)
+        }
     };
     finish(alloc, ended, out)
 }
@@ -69,13 +77,15 @@ fn perform<L: Lobby, I: Source, O: Sink, M: Mind>(
 /// | 2 | the arguments name no command |
 /// | 3 | the input failed |
 /// | 4 | the output failed |
-/// | 5 | the lobby failed |
+/// | 5 | the lobby or the link failed |
 /// | 6 | the input is not what the command reads |
-/// | 7 | as many events came as may |
-pub fn run<L: Lobby, I: Source, O: Sink, M: Mind>(
+/// | 7 | as many events came as may, or as many reads in turn were quiet |
+/// | 8 | the bot was refused |
+pub fn run<L: Lobby, K: Link, I: Source, O: Sink, M: Mind>(
     alloc: Global,
     arguments: &[String],
     lobby: &mut L,
+    link: &mut K,
     input: &mut I,
     out: &mut O,
     minds: Vec<M>,
@@ -86,21 +96,24 @@ pub fn run<L: Lobby, I: Source, O: Sink, M: Mind>(
     // 2: exactly where the arguments name no command; nothing was touched, and the usage line was
     // written.
     ensures usage { (result ≡ 2) ↔ NamesNone arguments.now }
-    ensures usage_line { result ≡ 2 → (lobby.new ≡ lobby.old) × (input.new ≡ input.old) × WroteLast
+    ensures usage_line { result ≡ 2 → (lobby.new ≡ lobby.old) × (link.new ≡ link.old)
+        × (input.new ≡ input.old) × WroteLast
         (O.held out.old) (O.held out.new) (O.faults out.old) (O.faults out.new) usage_line }
 
     // The others: the command that the arguments name ended with this status, and what it promises
     // of that holds.
     ensures promise { IfSome (command_of (bytes_of arguments.now)) (λ command.
         KeepsPromise (map (λ mind. M.plan mind) minds.items) command result
-        (devices (L.told lobby.old) (L.counts lobby.old) (I.left input.old) (I.faults input.old)
-        (O.held out.old) (O.faults out.old))
-        (devices (L.told lobby.new) (L.counts lobby.new) (I.left input.new) (I.faults input.new)
-        (O.held out.new) (O.faults out.new))) }
+        (devices (L.told lobby.old) (L.counts lobby.old)
+        (link_device (K.told link.old) (K.stage link.old) (K.counts link.old))
+        (I.left input.old) (I.faults input.old) (O.held out.old) (O.faults out.old))
+        (devices (L.told lobby.new) (L.counts lobby.new)
+        (link_device (K.told link.new) (K.stage link.new) (K.counts link.new))
+        (I.left input.new) (I.faults input.new) (O.held out.new) (O.faults out.new))) }
 {
     let Some(command) = Command::read(arguments) else {
         drop(minds);
         return finish(alloc, Ended::Usage, out).status();
     };
-    perform(alloc, command, lobby, input, out, minds).status()
+    perform(alloc, command, lobby, link, input, out, minds).status()
 }

@@ -6,6 +6,7 @@
 //! the lobby, the input and the output (`specs/Promises.antt`).
 #![tactic(auto)]
 
+mod bot;
 mod command;
 mod laws;
 mod replay;

@@ -8,7 +8,7 @@ use Rattle.std.specs.Str.{bytes_eq}
 use Rattle.std.proofs.lemmas.List.{drop_all, take_all}
 use Rattle.std.proofs.lemmas.Bool.Decides.{nat_tests}
 use Rattle.mc_words.specs.Arguments.{is_equals, name_of, value_of, value_in, are_options, status_of}
-use Rattle.mc_words.specs.Arguments.{replay_of, serve_of, command_of}
+use Rattle.mc_words.specs.Arguments.{replay_of, serve_of, bot_of, command_of}
 
 -- ---- a name and a value
 
@@ -152,11 +152,19 @@ pub named_serve : (verb : List ℕ) (arguments : List (List ℕ)) →
 unfolding command_of
 named_serve verb arguments first second is = rw (first, second, is) refl
 
+pub named_bot : (verb : List ℕ) (arguments : List (List ℕ)) →
+    bytes_eq verb (codes "status") ≡ false → bytes_eq verb (codes "replay") ≡ false →
+    bytes_eq verb (codes "serve") ≡ false → bytes_eq verb (codes "bot") ≡ true →
+    command_of (verb ∷ arguments) ≡ bot_of arguments
+unfolding command_of
+named_bot verb arguments first second third is = rw (first, second, third, is) refl
+
 pub named_none : (verb : List ℕ) (arguments : List (List ℕ)) →
     bytes_eq verb (codes "status") ≡ false → bytes_eq verb (codes "replay") ≡ false →
-    bytes_eq verb (codes "serve") ≡ false → command_of (verb ∷ arguments) ≡ None
+    bytes_eq verb (codes "serve") ≡ false → bytes_eq verb (codes "bot") ≡ false →
+    command_of (verb ∷ arguments) ≡ None
 unfolding command_of
-named_none verb arguments first second third = rw (first, second, third) refl
+named_none verb arguments first second third fourth = rw (first, second, third, fourth) refl
 
 -- what a comparison with the verb's text answered is what one with its bytes gives
 pub compared : (text verb word : List ℕ) (answer b : Bool) → text ≡ verb →

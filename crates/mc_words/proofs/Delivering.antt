@@ -191,6 +191,7 @@ delivers told how result left left' held held' held'' reads reads' faults faults
     by ended.Usage d f = absurd d
     by ended.NetFault d f = absurd d
     by (ended.Budget n) d f = absurd d
+    by (ended.Refused why) d f = absurd d
     by ended.ReadFault d f = rw f.0 (
       d.0,
       wrote_both held held' held'' faults faults' faults'' [] _ d.1.0 d.1.1 f.1,

@@ -13,8 +13,9 @@ use Rattle.mc_land.specs.declared.terrain.Terrain.TheVariants.{Flat, Hills, Isle
 use Rattle.mc_model.specs.Game.{AreSettings}
 use Rattle.mc_words.specs.declared.arguments.WorldOptions.{WorldOptions}
 use Rattle.mc_words.specs.declared.arguments.ServeOptions.{ServeOptions}
+use Rattle.mc_words.specs.declared.arguments.BotOptions.{BotOptions}
 use Rattle.mc_words.specs.declared.arguments.Command.{Command}
-use Rattle.mc_words.specs.declared.arguments.Command.TheVariants.{Status, Replay, Serve}
+use Rattle.mc_words.specs.declared.arguments.Command.TheVariants.{Status, Replay, Serve, Bot}
 use Rattle.mc_words.specs.Digits.{digits_number, within}
 
 -- ---- options
@@ -93,7 +94,7 @@ abbrev pub world_in : List (List ℕ) → Option WorldOptions
 world_in arguments =
     world_with (players_in arguments) (view_in arguments) (land_in arguments) (mobs_in arguments)
 
--- the port to listen on
+-- the port to listen on, or to connect to
 unfoldable pub port_in : List (List ℕ) → Option ℕ
 port_in arguments = number_in 1 65535 (value_in (codes "port") arguments)
 
@@ -128,6 +129,10 @@ is_no (Some value) = bytes_eq value (codes "no")
 
 unfoldable pub takes_no_capture : List (List ℕ) → Bool
 takes_no_capture arguments = is_no (value_in (codes "capture") arguments)
+
+-- after how many quiet reads in turn a bot waits no longer
+unfoldable pub patience_in : List (List ℕ) → Option ℕ
+patience_in arguments = number_or 20000000 1 1000000000 (value_in (codes "patience") arguments)
 
 -- ---- commands
 
@@ -169,6 +174,16 @@ serve_of arguments =
     (event_limit_in arguments) (pace_in arguments)
     else None
 
+abbrev pub bot_with : Option ℕ → Option ℕ → Option Command
+bot_with (Some port) (Some patience) = Some (Bot (record { port = port; patience = patience }))
+bot_with port patience = None
+
+abbrev pub bot_of : List (List ℕ) → Option Command
+bot_of arguments =
+    if are_options (codes "port" ∷ codes "patience" ∷ []) arguments
+    then bot_with (port_in arguments) (patience_in arguments)
+    else None
+
 -- what the arguments say, or none where they are not in the grammar
 unfoldable pub command_of : List (List ℕ) → Option Command
 command_of [] = None
@@ -176,6 +191,7 @@ command_of (verb ∷ arguments) =
     if bytes_eq verb (codes "status") then status_of arguments
     else if bytes_eq verb (codes "replay") then replay_of arguments
     else if bytes_eq verb (codes "serve") then serve_of arguments
+    else if bytes_eq verb (codes "bot") then bot_of arguments
     else None
 
 -- the bytes of each argument
@@ -194,3 +210,4 @@ abbrev pub IsSet : Command → Type 0
 IsSet (Status most) = AreSettings most 2
 IsSet (Replay options) = AreSettings options.players options.view
 IsSet (Serve options) = CanServe options
+IsSet (Bot options) = Unit {0}

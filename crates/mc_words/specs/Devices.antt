@@ -1,16 +1,30 @@
 -- The devices of a run, as its promises see them: before it, and after it. Rules of this project.
 use Rattle.std.specs.Prelude.{◌≡◌, ℕ, ◌+◌, ◌≤◌, ◌⊎◌, List, ◌++◌, take, length, Option}
 use Rattle.mc_wire.specs.Count.{Rose}
+use Rattle.mc_wire.specs.LinkCounts.{LinkCounts}
+use Rattle.mc_wire.specs.LinkStage.{LinkStage}
+use Rattle.mc_wire.specs.LinkTold.{LinkTold}
 use Rattle.mc_wire.specs.LobbyCounts.{LobbyCounts}
 use Rattle.mc_wire.specs.LobbyTold.{LobbyTold}
 use Rattle.mc_wire.specs.Stream.{Consumes, Grows, IsAtEnd}
 use Rattle.mc_words.specs.Lines.{text_max}
+
+-- a link to a server: what it tells, where it does, where it stands, and how many of its calls
+-- failed and were quiet
+pub record LinkDevice : Type 0 where
+  pub told : Option LinkTold
+  pub stage : LinkStage
+  pub counts : LinkCounts
+
+abbrev pub link_device : Option LinkTold → LinkStage → LinkCounts → LinkDevice
+link_device told stage counts = record { told = told; stage = stage; counts = counts }
 
 pub record Devices : Type 0 where
   -- what the lobby tells, where it does
   pub told : Option LobbyTold
   -- how many of its calls failed, stalled and broke
   pub counts : LobbyCounts
+  pub link : LinkDevice
   -- what is left of the input, where the source tells it
   pub left : Option (List ℕ)
   -- how many reads failed
@@ -20,11 +34,12 @@ pub record Devices : Type 0 where
   -- how many writes failed
   pub write_faults : ℕ
 
-abbrev pub devices : Option LobbyTold → LobbyCounts → Option (List ℕ) → ℕ → Option (List ℕ) → ℕ →
-    Devices
-devices told counts left read_faults held write_faults = record {
+abbrev pub devices : Option LobbyTold → LobbyCounts → LinkDevice → Option (List ℕ) → ℕ →
+    Option (List ℕ) → ℕ → Devices
+devices told counts link left read_faults held write_faults = record {
   told = told;
   counts = counts;
+  link = link;
   left = left;
   read_faults = read_faults;
   held = held;
@@ -52,6 +67,10 @@ streams_of all = streams all.left all.read_faults all.held all.write_faults
 -- the lobby was not touched
 abbrev pub LobbyStays : Devices → Devices → Type 0
 LobbyStays before after = (after.told ≡ before.told) × (after.counts ≡ before.counts)
+
+-- the link was not touched
+abbrev pub LinkStays : Devices → Devices → Type 0
+LinkStays before after = after.link ≡ before.link
 
 -- the input was not read
 abbrev pub InputStays : Devices → Devices → Type 0

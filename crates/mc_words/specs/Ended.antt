@@ -8,6 +8,8 @@ use Rattle.mc_words.specs.declared.ended.TheConstants.{USAGE}
 use Rattle.mc_words.specs.declared.unfinished.Unfinished.{Unfinished}
 use Rattle.mc_words.specs.declared.unfinished.Unfinished.TheVariants.{Failed, NoMemory}
 use Rattle.mc_words.specs.FaultName.{fault_name}
+use Rattle.mc_words.specs.declared.refusal.Refusal.{Refusal}
+use Rattle.mc_words.specs.RefusalText.{refusal_text}
 
 -- how a command ends that wrote what is told of its input, and found this first fault there
 abbrev pub ended_told : Result (Option BadInput) Unfinished → Ended
@@ -25,6 +27,7 @@ status_of ended.WriteFault = 4
 status_of ended.NetFault = 5
 status_of (ended.BadInput bad) = 6
 status_of (ended.Budget n) = 7
+status_of (ended.Refused why) = 8
 
 -- a line and its end
 abbrev pub ended_line : List ℕ → List ℕ
@@ -40,7 +43,7 @@ read_fault_line = ended_line (codes "read fault")
 abbrev pub net_fault_line : List ℕ
 net_fault_line = ended_line (codes "net fault")
 
--- how many events there may be, all of which came
+-- how many events there may be, all of which came, or how many quiet reads in turn
 abbrev pub budget_line : ℕ → List ℕ
 budget_line n = ended_line (codes "budget " ++ decimal n)
 
@@ -49,7 +52,11 @@ abbrev pub bad_input_line : BadInput → List ℕ
 bad_input_line bad =
     ended_line (codes "bad input at " ++ decimal bad.line ++ codes ": " ++ fault_name bad.kind)
 
--- the last line where it has no number
+-- why a bot was refused
+abbrev pub refused_line : Refusal → List ℕ
+refused_line why = ended_line (codes "refused: " ++ refusal_text why)
+
+-- the last line where it says no more than that a command ended so
 abbrev pub fixed_line_of : Ended → List ℕ
 fixed_line_of ended.Usage = usage_line
 fixed_line_of ended.ReadFault = read_fault_line
@@ -59,3 +66,4 @@ fixed_line_of ended.WriteFault = []
 fixed_line_of ended.NetFault = net_fault_line
 fixed_line_of (ended.BadInput bad) = []
 fixed_line_of (ended.Budget n) = []
+fixed_line_of (ended.Refused why) = []

@@ -4,13 +4,13 @@ use Rattle.mc_words.specs.declared.ended.Ended.{Ended}
 use Rattle.mc_words.specs.declared.ended.Ended.TheVariants as ended
 use Rattle.mc_words.specs.Devices.{WroteLast}
 use Rattle.mc_words.specs.Ended.{bad_input_line, budget_line, net_fault_line, usage_line}
-use Rattle.mc_words.specs.Ended.{read_fault_line}
+use Rattle.mc_words.specs.Ended.{read_fault_line, refused_line}
 
 -- nothing was written
 abbrev pub IsUntouched : Option (List ℕ) → Option (List ℕ) → ℕ → ℕ → Type 0
 IsUntouched held held' faults faults' = (held' ≡ held) × (faults' ≡ faults)
 
--- a last line with a number was written, or there was no memory to make it
+-- a last line that is made was written, or there was no memory to make it
 abbrev pub FinishesWith : Ended → List ℕ → Ended → Option (List ℕ) → Option (List ℕ) → ℕ → ℕ →
     Type 0
 FinishesWith how line result held held' faults faults' =
@@ -35,3 +35,5 @@ Finishes (ended.BadInput bad) result held held' faults faults' =
     FinishesWith (ended.BadInput bad) (bad_input_line bad) result held held' faults faults'
 Finishes (ended.Budget n) result held held' faults faults' =
     FinishesWith (ended.Budget n) (budget_line n) result held held' faults faults'
+Finishes (ended.Refused why) result held held' faults faults' =
+    FinishesWith (ended.Refused why) (refused_line why) result held held' faults faults'

@@ -1,5 +1,6 @@
 pub mod Lines
 pub mod FaultName
+pub mod RefusalText
 pub mod Ended
 pub mod Told
 pub mod Arguments

@@ -5,8 +5,9 @@ ghost use Rattle.mc_words.specs.Arguments.{is_equals, name_of, value_of, value_i
 ghost use Rattle.mc_words.specs.Arguments.{number_in, number_or, terrain_of, players_in, view_in};
 ghost use Rattle.mc_words.specs.Arguments.{land_in, mobs_in, world_in, port_in, tick_limit_in};
 ghost use Rattle.mc_words.specs.Arguments.{event_limit_in};
-ghost use Rattle.mc_words.specs.Arguments.{pace_of, pace_in, takes_no_capture};
-ghost use Rattle.mc_words.specs.Arguments.{status_of, replay_of, serve_of, command_of, bytes_of};
+ghost use Rattle.mc_words.specs.Arguments.{pace_of, pace_in, takes_no_capture, patience_in};
+ghost use Rattle.mc_words.specs.Arguments.{status_of, replay_of, serve_of, bot_of, command_of};
+ghost use Rattle.mc_words.specs.Arguments.{bytes_of};
 
 use crate::digits::{ranged_u32, seed};
 use mc_land::Terrain;
@@ -40,6 +41,15 @@ pub struct ServeOptions {
     pub pace: Pace,
 }
 
+/// The options of `bot`.
+#[derive(Clone, Copy, Debug, PartialEq, Eq)]
+pub struct BotOptions {
+    /// The port to connect to.
+    pub port: u16,
+    /// After so many quiet reads in turn it waits no longer.
+    pub patience: u32,
+}
+
 /// What the arguments of the command line say.
 #[derive(Clone, Copy, Debug, PartialEq, Eq)]
 pub enum Command {
@@ -49,6 +59,8 @@ pub enum Command {
     Replay(WorldOptions),
     /// `serve`, with its options.
     Serve(ServeOptions),
+    /// `bot`, with its options.
+    Bot(BotOptions),
 }
 
 /// The place of the first `=`.
@@ -189,7 +201,7 @@ fn world(arguments: &[String]) -> Option<WorldOptions>
     })
 }
 
-/// The port to listen on.
+/// The port to listen on, or to connect to.
 #[tactic(auto, unfolding(crate::specs::Arguments::port_in))]
 fn port(arguments: &[String]) -> Option<u16>
     ensures { result ≡ port_in (bytes_of arguments.now) }
@@ -254,6 +266,19 @@ fn takes_no_capture(arguments: &[String]) -> bool
     }
 }
 
+/// After how many quiet reads in turn a bot waits no longer.
+#[tactic(auto, unfolding(crate::specs::Arguments::patience_in))]
+fn patience(arguments: &[String]) -> Option<u32>
+    ensures { result ≡ patience_in (bytes_of arguments.now) }
+{
+    number_or(
+        20_000_000,
+        1,
+        1_000_000_000,
+        value_in(b"patience".as_slice(), arguments),
+    )
+}
+
 /// `status`, with its options.
 fn status(arguments: &[String]) -> Option<Command>
     ensures { result ≡ status_of (bytes_of arguments.now) }
@@ -295,6 +320,19 @@ fn serve(arguments: &[String]) -> Option<Command>
     }))
 }
 
+/// `bot`, with its options.
+fn bot(arguments: &[String]) -> Option<Command>
+    ensures { result ≡ bot_of (bytes_of arguments.now) }
+{
+    if !are_options(&["port", "patience"], arguments) {
+        return None;
+    }
+    Some(Command::Bot(BotOptions {
+        port: port(arguments)?,
+        patience: patience(arguments)?,
+    }))
+}
+
 impl Command {
     /// What the arguments after the program's name say, or none where they name no command with
     /// its options.
@@ -310,6 +348,9 @@ impl Command {
         }
         if verb.as_str() == "serve" {
             return serve(options);
+        }
+        if verb.as_str() == "bot" {
+            return bot(options);
         }
         None
     }

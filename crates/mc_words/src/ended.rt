@@ -2,6 +2,7 @@ ghost use Rattle.std.specs.Prelude.{◌≡◌, IfOk, string_bytes};
 ghost use Rattle.mc_words.specs.Ended.{status_of, fixed_line_of, ended_told, budget_line};
 
 use crate::bad_input::BadInput;
+use crate::refusal::Refusal;
 use crate::unfinished::Unfinished;
 use mc_bytes::NoMemory;
 use std::alloc::Global;
@@ -22,19 +23,21 @@ pub enum Ended {
     ReadFault,
     /// The output failed.
     WriteFault,
-    /// The lobby could not listen, or not say what comes next.
+    /// The lobby could not listen, or not say what comes next; or the link failed.
     NetFault,
     /// The input is not what the command reads.
     BadInput(BadInput),
-    /// So many events came, all that may.
+    /// So many events came, or so many reads in turn were quiet, all that may.
     Budget(u64),
+    /// The bot was refused.
+    Refused(Refusal),
 }
 
-/// The last line of a command that used up its events, with its end.
-pub fn budget_line(alloc: Global, events: u64) -> Result<String, NoMemory>
-    ensures { IfOk result (λ text. string_bytes text ≡ budget_line events) }
+/// The last line of a command that used up its events or its patience, with its end.
+pub fn budget_line(alloc: Global, count: u64) -> Result<String, NoMemory>
+    ensures { IfOk result (λ text. string_bytes text ≡ budget_line count) }
 {
-    Ok(format!(in alloc; "budget {events}\n")?)
+    Ok(format!(in alloc; "budget {count}\n")?)
 }
 
 impl Ended {
@@ -63,17 +66,18 @@ impl Ended {
             Ended::NetFault => 5,
             Ended::BadInput(_) => 6,
             Ended::Budget(_) => 7,
+            Ended::Refused(_) => 8,
         }
     }
 
-    /// The last line of the output with its end, or nothing where there is none or where it has a
-    /// number.
+    /// The last line of the output with its end, or nothing where there is none or where it says
+    /// more than that it ended so.
     pub fn last_line(self) -> &'static [u8]
         ensures { result.now ≡ fixed_line_of self }
     {
         match self {
             Ended::Done | Ended::NoMemory | Ended::WriteFault => b"",
-            Ended::BadInput(_) | Ended::Budget(_) => b"",
+            Ended::BadInput(_) | Ended::Budget(_) | Ended::Refused(_) => b"",
             Ended::Usage => USAGE.as_bytes(),
             Ended::ReadFault => b"read fault\n",
             Ended::NetFault => b"net fault\n",

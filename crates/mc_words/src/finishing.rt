@@ -6,8 +6,8 @@ use mc_bytes::NoMemory;
 use mc_wire::{Sink, write_all};
 use std::alloc::Global;
 
-/// Writes a last line that has a number, and says how a command ends with that: without memory for
-/// the line it ends out of memory.
+/// Writes a last line that was made, and says how a command ends with that: without memory for the
+/// line it ends out of memory.
 fn finish_with<O: Sink>(line: Result<String, NoMemory>, ended: Ended, out: &mut O) -> Ended
     ensures { (bytes : List ℕ) → IfOk line (λ text. string_bytes text ≡ bytes) →
         FinishesWith ended bytes result (O.held out.old) (O.held out.new)
@@ -28,7 +28,8 @@ pub fn finish<O: Sink>(alloc: Global, ended: Ended, out: &mut O) -> Ended
 {
     match ended {
         Ended::BadInput(bad) => finish_with(bad.last_line(alloc), ended, out),
-        Ended::Budget(events) => finish_with(budget_line(alloc, events), ended, out),
+        Ended::Budget(count) => finish_with(budget_line(alloc, count), ended, out),
+        Ended::Refused(refusal) => finish_with(refusal.last_line(alloc), ended, out),
         _ => {
             let _ = write_all(out, ended.last_line());
             ended

@@ -3,42 +3,40 @@ use Rattle.mc_status.specs.StatusText.{status_told}
 use Rattle.mc_words.proofs.Delivering.{delivers}
 use Rattle.mc_top.specs.ReplayPromise.{replay_told}
 use Rattle.mc_top.proofs.Replays.{plays_on}
+use Rattle.mc_top.proofs.BotKept.{bot_kept}
 use Rattle.mc_top.proofs.ServeKept.{serve_kept}
 use Rattle.mc_top.proofs.command.perform.Goals as goal
-use Rattle.mc_top.proofs.command.perform.Goals.{in-Status, in-Replay, in-Serve}
+use Rattle.mc_top.proofs.command.perform.Goals.{in-Status, in-Replay, in-Serve, in-Bot}
 
 pub returns : goal.returns
 returns g c = elim c.match-command.branch [
   | in-Status w ↦
       let last = rw (w.ended-is, w.out-is) at c.finish.ensures in
       let said = w.status-ended.ensures in
-      rw (w.in-Status.is, w.lobby-is, w.input-is) (
-        (
-          (refl, refl),
-          delivers (status_told w.in-Status.most) w.status-ended.result c.finish.result
-              _ _ _ _ _ _ _ _ _ _ said last,
-        ),
-        tt,
+      rw (w.in-Status.is, w.lobby-is, w.link-is, w.input-is) (
+        ((refl, refl), refl),
+        delivers (status_told w.in-Status.most) w.status-ended.result c.finish.result
+            _ _ _ _ _ _ _ _ _ _ said last,
       )
   | in-Replay w ↦
       let last = rw (w.ended-is, w.out-is) at c.finish.ensures in
       let said = w.replay-ended.ensures in
-      rw (w.in-Replay.is, w.lobby-is, w.input-is) (
+      rw (w.in-Replay.is, w.lobby-is, w.link-is, w.input-is) (
+        ((refl, refl), refl),
         (
-          (refl, refl),
           delivers (replay_told _) w.replay-ended.result c.finish.result
               _ _ _ _ _ _ _ _ _ _ said.delivered last,
+          plays_on _ w.replay-ended.result c.finish.result _ _ _ _ _ said.plays
+              last,
         ),
-        plays_on _ w.replay-ended.result c.finish.result _ _ _ _ _ said.plays
-            last,
       )
   | in-Serve w ↦
       let last = rw (w.ended-is, w.out-is) at c.finish.ensures in
       let said = w.serve-ended.ensures in
-      rw (w.in-Serve.is, w.lobby-is, w.input-is) (
-        (refl, refl),
+      rw (w.in-Serve.is, w.lobby-is, w.link-is, w.input-is) (
+        ((refl, refl), refl),
         serve_kept _ g.O.Sink.held g.O.Sink.faults _ w.in-Serve.options w.serve-ended.result
-            c.finish.result _ _ _ _ _ _ c.args.out.now w.serve-ended.new.out c.finish.new.out
+            c.finish.result _ _ _ _ _ _ _ c.args.out.now w.serve-ended.new.out c.finish.new.out
             (record {
               done = said.done;
               no_memory = said.no_memory;
@@ -47,5 +45,13 @@ returns g c = elim c.match-command.branch [
               net_fault = said.net_fault;
               budget = said.budget;
             }) last,
+      )
+  | in-Bot w ↦
+      let last = rw (w.ended-is, w.out-is) at c.finish.ensures in
+      let said = w.bot-ended.ensures in
+      rw (w.in-Bot.is, w.lobby-is, w.link-is, w.input-is) (
+        (refl, refl),
+        bot_kept _ g.O.Sink.held g.O.Sink.faults w.in-Bot.options _ _ _ _ _ _ c.args.out.now
+            w.bot-ended.new.out c.finish.new.out w.bot-ended.result c.finish.result said last,
       )
 ]
