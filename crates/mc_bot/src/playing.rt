@@ -289,7 +289,7 @@ impl Playing {
     }
 
     /// Takes so many packets.
-    #[tactic(auto, using(crate::proofs::Lines::underway_none, crate::proofs::Lines::many_more, crate::proofs::Lines::many_fails, crate::proofs::Lines::many_done, crate::proofs::Sends::send_failed, crate::proofs::Sends::counts_on))]
+    #[tactic(auto, using(crate::proofs::Loops::underway_none, crate::proofs::Loops::many_more, crate::proofs::Loops::many_fails, crate::proofs::Loops::many_done, crate::proofs::Sends::send_failed, crate::proofs::Sends::counts_on))]
     fn take_many<S: Seer, K: Link>(
         &mut self,
         seer: &mut S,
@@ -315,7 +315,7 @@ impl Playing {
     }
 
     /// Takes packets until a cell has a state.
-    #[tactic(auto, using(crate::proofs::Lines::underway_none, crate::proofs::Lines::until_more, crate::proofs::Lines::until_stops, crate::proofs::Lines::until_ends, crate::proofs::Sends::send_failed, crate::proofs::Sends::counts_on))]
+    #[tactic(auto, using(crate::proofs::Loops::underway_none, crate::proofs::Loops::until_more, crate::proofs::Loops::until_stops, crate::proofs::Loops::until_ends, crate::proofs::Sends::send_failed, crate::proofs::Sends::counts_on))]
     fn take_until<S: Seer, K: Link>(
         &mut self,
         seer: &mut S,
@@ -394,7 +394,7 @@ impl Playing {
     }
 
     /// Does the lines of a script, in order.
-    #[tactic(auto, using(crate::proofs::Lines::underway_none, crate::proofs::Lines::lines_more, crate::proofs::Lines::lines_stop, crate::proofs::Lines::lines_leave, crate::proofs::Lines::lines_end, crate::proofs::Sends::send_failed, crate::proofs::Sends::counts_on))]
+    #[tactic(auto, using(crate::proofs::Loops::underway_none, crate::proofs::Loops::lines_more, crate::proofs::Loops::lines_stop, crate::proofs::Loops::lines_leave, crate::proofs::Loops::lines_end, crate::proofs::Sends::send_failed, crate::proofs::Sends::counts_on))]
     fn play_lines<S: Seer, K: Link>(
         &mut self,
         seer: &mut S,

@@ -1,7 +1,7 @@
 use Rattle.std.proofs.Common.{sym, ◌∙◌}
 use Rattle.std.proofs.lemmas.Result.{err_from_is_err_and}
 use Rattle.mc_bot.specs.Playing.{rules_of, lines_played}
-use Rattle.mc_bot.proofs.Lines.{underway_none, lines_more, lines_stop, lines_leave, lines_end}
+use Rattle.mc_bot.proofs.Loops.{underway_none, lines_more, lines_stop, lines_leave, lines_end}
 use Rattle.mc_bot.proofs.playing.Playing.play_lines.Goals as goal
 
 pub loop-line-init : goal.loop-line-init
