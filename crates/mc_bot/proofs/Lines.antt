@@ -14,7 +14,7 @@ use Rattle.mc_packets.specs.Down as play
 use Rattle.mc_wire.specs.Count.{StandsOrRises}
 use Rattle.mc_wire.proofs.Counts.{StandsOrRises-refl, StandsOrRises-trans}
 use Rattle.mc_wire.specs.LinkStage.{LinkStage}
-use Rattle.mc_wire.specs.LinkTold.{LinkTold, Exchanges}
+use Rattle.mc_wire.specs.LinkTold.{LinkTold}
 use Rattle.mc_bot.specs.declared.act.Act.{Act}
 use Rattle.mc_bot.specs.declared.act.Act.TheVariants as acts
 use Rattle.mc_bot.specs.declared.act.Line.{Line}
@@ -22,6 +22,7 @@ use Rattle.mc_bot.specs.declared.bot_fault.BotFault.{BotFault}
 use Rattle.mc_bot.specs.declared.bot_fault.BotFault.TheVariants as faults
 use Rattle.mc_bot.specs.Asked.{Asked, ask_all, packets_of}
 use Rattle.mc_bot.specs.Played.{IsBegun, FailsAs, HasSent, SentAs}
+use Rattle.mc_bot.specs.Arriving.{HasPassed}
 use Rattle.mc_bot.specs.Playing.{SeerRules, Bot, Course, goes, ends, then_play, with_frame}
 use Rattle.mc_bot.specs.Playing.{packet_taken, packets_taken, taken_by, taken_if, taken_until}
 use Rattle.mc_bot.specs.Playing.{farewell, is_state, compared, number_past, with_asked, acted}
@@ -237,7 +238,7 @@ pub acted_comes : {S : Type 0} (rules : SeerRules S) (act : Act) (a : Standing S
     ◌≡◌ {A = Asked S} (record { seen = seen; bytes = bytes })
     (ask_all rules.asks rules.sends (record { seen = a.seen; bytes = [] })
     (packets_of (rules.slot_at a.seen) (rules.window_at a.seen) a.keeping.number act)) →
-    Exchanges a.told told [] [] bytes →
+    HasPassed a.told told [] [] bytes →
     HasCome (acting rules act) goes a (record {
       seen = seen;
       keeping = record a.keeping { number = number_past act a.keeping.number };
@@ -312,7 +313,7 @@ pub act_comes : {S : Type 0} (rules : SeerRules S) (act : Act) (a : Standing S) 
       told = told;
     })
 act_comes {S} rules act a seen bytes told asked sent =
-    let P : List ℕ → Type 0 = λ l. Exchanges a.told told [] [] l in
+    let P : List ℕ → Type 0 = λ l. HasPassed a.told told [] [] l in
     acted_comes rules act a seen bytes told asked (subst P sent.came sent.exchanged)
 
 -- the number of a click is nothing to the link

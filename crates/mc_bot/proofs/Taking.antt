@@ -15,7 +15,7 @@ use Rattle.mc_packets.specs.declared.down.Down.{Down}
 use Rattle.mc_packets.specs.Down as play
 use Rattle.mc_wire.specs.Count.{raised}
 use Rattle.mc_wire.specs.LinkStage.{LinkStage}
-use Rattle.mc_wire.specs.LinkTold.{LinkTold, Exchanges}
+use Rattle.mc_wire.specs.LinkTold.{LinkTold}
 use Rattle.mc_bot.specs.declared.bot_fault.BotFault.{BotFault}
 use Rattle.mc_bot.specs.declared.bot_fault.BotFault.TheVariants as faults
 use Rattle.mc_bot.specs.Arriving.{Arriving, HasNext, NextAs}
