@@ -337,3 +337,21 @@ waited_read_fails old now now1 next last told told1 told2 stage stage' f f' a a'
     let P : Arriving → Type 0 = λ it. HasRead it next told1 told2 stage' (Err fault) in
     waited_fails old now next last told told1 told2 stage stage' f f' a a' fault waited took.0
     (subst P (kept ∙ still) read)
+
+-- and the read gave something, or was quiet
+pub waited_read_more : (old now now1 next : Arriving) (told told1 told2 : Option LinkTold)
+    (stage stage' : LinkStage) (f f1 f2 a a1 a2 : ℕ) →
+    HasWaited old now told told1 stage f f1 a a1 →
+    now1 ≡ record now { splitting = now1.splitting } →
+    Takes now.splitting takes.More now1.splitting →
+    HasRead now1 next told1 told2 stage' (Ok tt) → StandsOrRises f1 f2 →
+    to_come a2 next.splitting ≤ to_come a1 now1.splitting →
+    HasWaited old next told told2 stage' f f2 a a2
+waited_read_more old now now1 next told told1 told2 stage stage' f f1 f2 a a1 a2 waited kept took
+    read counts fewer =
+    let still : ◌≡◌ {A = Arriving} (record now { splitting = now1.splitting }) now =
+    (λ i. record now { splitting = took.2 i }) in
+    let P : Arriving → Type 0 = λ it. HasRead it next told1 told2 stage' (Ok tt) in
+    let Q : Splitting → Type 0 = λ s. to_come a2 next.splitting ≤ to_come a1 s in
+    waited_more old now next told told1 told2 stage stage' f f1 f2 a a1 a2 waited
+    (subst P (kept ∙ still) read) counts (subst Q took.2 fewer)

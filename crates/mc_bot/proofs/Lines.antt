@@ -1,9 +1,8 @@
 -- What a line comes to, and lines behind one another.
-use Rattle.std.proofs.Common.{◌≡◌, ℕ, zero, suc, ◌+◌, ◌-◌, ◌<◌, ◌≤◌, Bool, true, false, List, [], ◌∷◌}
-use Rattle.std.proofs.Common.{◌++◌, length, drop, get_or, Option, Some, None, Result, Ok, Err, refl}
+use Rattle.std.proofs.Common.{◌≡◌, ℕ, zero, suc, ◌+◌, ◌-◌, ◌<◌, Bool, true, false, List, [], ◌∷◌}
+use Rattle.std.proofs.Common.{◌++◌, Option, Some, None, Result, Ok, Err, refl}
 use Rattle.std.proofs.Common.{sym, subst, ap, ◌∙◌, arith, append_assoc}
-use Rattle.std.specs.Prelude.{if◌then◌else◌}
-use Rattle.std.proofs.lemmas.List.{append-nil, drop_all, drop_more}
+use Rattle.std.proofs.lemmas.List.{append-nil}
 use lib.IntN.{ℤ}
 use Rattle.mc_fields.specs.declared.packet.PacketFault.{PacketFault}
 use Rattle.mc_fields.specs.declared.position.Cell.{Cell}
@@ -11,8 +10,6 @@ use Rattle.mc_fields.specs.Row.{packet_read, packet_of}
 use Rattle.mc_frame.specs.declared.fault.FrameFault.{FrameFault}
 use Rattle.mc_packets.specs.declared.down.Down.{Down}
 use Rattle.mc_packets.specs.Down as play
-use Rattle.mc_wire.specs.Count.{StandsOrRises}
-use Rattle.mc_wire.proofs.Counts.{StandsOrRises-refl, StandsOrRises-trans}
 use Rattle.mc_wire.specs.LinkStage.{LinkStage}
 use Rattle.mc_wire.specs.LinkTold.{LinkTold}
 use Rattle.mc_bot.specs.declared.act.Act.{Act}
@@ -29,7 +26,7 @@ use Rattle.mc_bot.specs.Playing.{farewell, is_state, compared, number_past, with
 use Rattle.mc_bot.specs.Playing.{is_leaving, line_played, lines_played, all_sent}
 use Rattle.mc_bot.specs.Steps.{Keeping, Standing, HasCome, HasFailed, CanGoOn, ComparedAs, bot_at}
 use Rattle.mc_bot.specs.Steps.{IsStep, left_off}
-use Rattle.mc_bot.proofs.Coming.{no_exchange, no_frames, come_none, come_more, come_fail}
+use Rattle.mc_bot.proofs.Coming.{no_exchange, no_frames}
 use Rattle.mc_bot.proofs.Coming.{then_come, then_fail, fails_then}
 use Rattle.mc_bot.proofs.Growing.{packets_keep, until_keeps, lines_keep, begun_more}
 

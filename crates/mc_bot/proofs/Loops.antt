@@ -1,36 +1,22 @@
 -- Loops over packets and lines: what was done so far, and what a turn and an exit make of it.
-use Rattle.std.proofs.Common.{◌≡◌, ℕ, zero, suc, ◌+◌, ◌-◌, ◌<◌, ◌≤◌, Bool, true, false, List, [], ◌∷◌}
-use Rattle.std.proofs.Common.{◌++◌, length, drop, get_or, Option, Some, None, Result, Ok, Err, refl}
-use Rattle.std.proofs.Common.{sym, subst, ap, ◌∙◌, arith, append_assoc}
-use Rattle.std.specs.Prelude.{if◌then◌else◌}
-use Rattle.std.proofs.lemmas.List.{append-nil, drop_all, drop_more}
-use lib.IntN.{ℤ}
-use Rattle.mc_fields.specs.declared.packet.PacketFault.{PacketFault}
+use Rattle.std.proofs.Common.{◌≡◌, ℕ, ◌+◌, ◌-◌, ◌<◌, ◌≤◌, true, false, List, ◌∷◌}
+use Rattle.std.proofs.Common.{length, drop, get_or, Option}
+use Rattle.std.proofs.Common.{sym, ap, ◌∙◌, arith}
+use Rattle.std.proofs.lemmas.List.{drop_all, drop_more}
 use Rattle.mc_fields.specs.declared.position.Cell.{Cell}
-use Rattle.mc_fields.specs.Row.{packet_read, packet_of}
-use Rattle.mc_frame.specs.declared.fault.FrameFault.{FrameFault}
-use Rattle.mc_packets.specs.declared.down.Down.{Down}
-use Rattle.mc_packets.specs.Down as play
 use Rattle.mc_wire.specs.Count.{StandsOrRises}
 use Rattle.mc_wire.proofs.Counts.{StandsOrRises-refl, StandsOrRises-trans}
 use Rattle.mc_wire.specs.LinkStage.{LinkStage}
-use Rattle.mc_wire.specs.LinkTold.{LinkTold, Exchanges}
-use Rattle.mc_bot.specs.declared.act.Act.{Act}
-use Rattle.mc_bot.specs.declared.act.Act.TheVariants as acts
+use Rattle.mc_wire.specs.LinkTold.{LinkTold}
 use Rattle.mc_bot.specs.declared.act.Line.{Line}
 use Rattle.mc_bot.specs.declared.bot_fault.BotFault.{BotFault}
-use Rattle.mc_bot.specs.declared.bot_fault.BotFault.TheVariants as faults
-use Rattle.mc_bot.specs.Asked.{Asked, ask_all, packets_of}
-use Rattle.mc_bot.specs.Played.{IsBegun, FailsAs, HasSent, SentAs}
-use Rattle.mc_bot.specs.Playing.{SeerRules, Bot, Course, goes, ends, then_play, with_frame}
-use Rattle.mc_bot.specs.Playing.{packet_taken, packets_taken, taken_by, taken_if, taken_until}
-use Rattle.mc_bot.specs.Playing.{farewell, is_state, compared, number_past, with_asked, acted}
-use Rattle.mc_bot.specs.Playing.{is_leaving, line_played, lines_played, all_sent}
-use Rattle.mc_bot.specs.Steps.{Keeping, Standing, HasCome, HasFailed, CanGoOn, ComparedAs, bot_at}
-use Rattle.mc_bot.specs.Steps.{IsStep, left_off}
-use Rattle.mc_bot.proofs.Coming.{no_exchange, no_frames, come_none, come_more, come_fail}
-use Rattle.mc_bot.proofs.Coming.{then_come, then_fail, fails_then}
-use Rattle.mc_bot.proofs.Growing.{packets_keep, until_keeps, lines_keep, begun_more}
+use Rattle.mc_bot.specs.Playing.{SeerRules, Bot, Course, goes}
+use Rattle.mc_bot.specs.Playing.{packet_taken, packets_taken}
+use Rattle.mc_bot.specs.Playing.{is_state}
+use Rattle.mc_bot.specs.Playing.{is_leaving, line_played, lines_played}
+use Rattle.mc_bot.specs.Steps.{Standing, HasCome, HasFailed, CanGoOn}
+use Rattle.mc_bot.specs.Steps.{left_off}
+use Rattle.mc_bot.proofs.Coming.{come_none, come_more, come_fail}
 use Rattle.mc_bot.proofs.Lines.{one_fewer, one_fails, none_more, until, until_comes, until_fails}
 use Rattle.mc_bot.proofs.Lines.{until_done, line_comes, line_fails, line_leaves, no_line}
 
