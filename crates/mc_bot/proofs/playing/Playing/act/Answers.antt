@@ -54,15 +54,15 @@ returns-clause-step g c =
       ← c.self.view_is,
     ) (
       act_comes rules c.args.act.now
-    (record {
-      seen = c.args.seer.now;
-      keeping = record {
-        incoming = c.self.inside.incoming;
-        read = c.self.inside.read;
-        number = c.self.inside.number;
-      };
-      told = g.K.Link.told c.args.link.now;
-    }) c.put_act.new.seer c.put_act.new.out.items _ asked sent,
+          (record {
+            seen = c.args.seer.now;
+            keeping = record {
+              incoming = c.self.inside.incoming;
+              read = c.self.inside.read;
+              number = c.self.inside.number;
+            };
+            told = g.K.Link.told c.args.link.now;
+          }) c.put_act.new.seer c.put_act.new.out.items _ asked sent,
       act_goes_on (record {
         incoming = c.self.inside.incoming;
         read = c.self.inside.read;
