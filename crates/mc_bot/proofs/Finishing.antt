@@ -226,3 +226,17 @@ run_failed {S} start left_ untouched fault same run =
     dumps_as course faults.Write fails = absurd fails
     dumps_as course faults.NoMemory fails = inl same
     dumps_as course other fails = same
+
+-- before the dump nothing is written that could fail
+pub never_written : {S : Type 0} (start : PlayStart S) (left_ : PlayLeft S) (fault : BotFault) →
+    HasRun start left_ (Err fault) → fault ≡ faults.Write → ⊥
+never_written {S} start left_ fault run is =
+    let c = cut_of start left_ (Err fault) run in
+    step (played_out start.rules start.seen start.script start.port
+    (ahead_of c.0 left_.stage.ended)) fault (run.ended c.0 c.1) is
+  where
+    step : (course : Course S) (fault : BotFault) →
+        FailsAs course run.sent start.patience left_.stage.quiet_run fault →
+        fault ≡ faults.Write → ⊥
+    step course faults.Write fails is = fails
+    step course other fails is = absurd cc
