@@ -229,7 +229,8 @@ run_failed {S} start left_ untouched fault same run =
 
 -- before the dump nothing is written that could fail
 pub never_written : {S : Type 0} (start : PlayStart S) (left_ : PlayLeft S) (fault : BotFault) →
-    HasRun start left_ (Err fault) → fault ≡ faults.Write → ⊥
+    HasRun start left_ (Err fault) →
+    ◌≡◌ {A = Result (Unit {0}) BotFault} (Err fault) (Err faults.Write) → ⊥
 never_written {S} start left_ fault run is =
     let c = cut_of start left_ (Err fault) run in
     step (played_out start.rules start.seen start.script start.port
@@ -237,6 +238,6 @@ never_written {S} start left_ fault run is =
   where
     step : (course : Course S) (fault : BotFault) →
         FailsAs course run.sent start.patience left_.stage.quiet_run fault →
-        fault ≡ faults.Write → ⊥
+        ◌≡◌ {A = Result (Unit {0}) BotFault} (Err fault) (Err faults.Write) → ⊥
     step course faults.Write fails is = fails
     step course other fails is = absurd cc

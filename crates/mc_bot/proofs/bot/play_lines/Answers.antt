@@ -47,7 +47,7 @@ returns-clause-runs g c =
     let rules = rules_of g.S.Seer.refused g.S.Seer.taken g.S.Seer.asked g.S.Seer.sent
     g.S.Seer.block_at g.S.Seer.slot_at g.S.Seer.window_at g.S.Seer.text in
     let sent = rw c.name.ensures.is at c.in_ok-send_hello.ensures.sent in
-    let step = rw (c.in_ok-playing.ensures.is, c.lines.ensures.is) at c.play.ensures.step in
+    let step = rw (c.in_ok-playing.ensures.is, c.lines.ensures.is) at c.play-played.ensures.step in
     run_all (record {
       rules = rules;
       seen = c.args.seer.now;
@@ -56,4 +56,4 @@ returns-clause-runs g c =
       patience = c.args.patience;
       told = g.K.Link.told c.args.link.now;
       held = None;
-    }) _ _ _ c.play.new.self _ c.connect.ensures.tells sent step
+    }) _ _ _ c.play-played.new.self _ c.connect.ensures.tells sent step
